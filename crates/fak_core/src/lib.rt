@@ -1,0 +1,10 @@
+//! The algorithms of rooms and bounded queues over plain data, one atomic step at a time.
+#![tactic(auto)]
+
+pub mod call;
+pub mod fault;
+pub mod line;
+
+pub use call::{QueueCall, RoomCall};
+pub use fault::CoreFault;
+pub use line::{CoreMove, Line, LineMark};

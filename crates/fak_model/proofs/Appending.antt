@@ -1,0 +1,140 @@
+-- One mark more, and one mark less.
+use Rattle.std.proofs.Common.{◌≡◌, ◌≢◌, ◌⊎◌, ℕ, ◌==◌, Bool, true, false, List, [], ◌∷◌, ◌++◌, refl, ap, sym, ◌∙◌, subst, arith, inl, inr, append_assoc}
+use Rattle.std.specs.Prelude.{map}
+use Rattle.std.proofs.lemmas.Bool.Decides.{nat_tests}
+use Rattle.std.specs.List.{filter, flat_map}
+use Rattle.std.proofs.lemmas.List.{append-nil, map-append}
+use Rattle.std.proofs.lemmas.List.Elements.{filter-append}
+use Rattle.std.proofs.lemmas.Grind.{flat_map-append}
+use Rattle.fak_model.specs.Histories.{Rules, seat_words, Owes, AreCalls, IsHistory}
+
+-- ---- lists by their ends
+
+grow : {A : Type 0} (P : List A → Type 0) → ((xs : List A) (x : A) → P xs → P (xs ++ x ∷ [])) → (front rest : List A) → P front → P (front ++ rest)
+grow P more front [] h = subst P (sym (append-nil front)) h
+grow P more front (x ∷ rest) h = subst P (append_assoc front (x ∷ []) rest) (grow P more (front ++ x ∷ []) rest (more front x h))
+
+-- what holds of no item, and of one more behind, holds of every list
+pub snoc_ind : {A : Type 0} (P : List A → Type 0) → P [] → ((xs : List A) (x : A) → P xs → P (xs ++ x ∷ [])) → (xs : List A) → P xs
+snoc_ind P none more xs = grow P more [] xs none
+
+-- a mark of a longer history is the last one, or stands in the shorter
+pub split_last : {A : Type 0} (p : List A) (m : A) (q h : List A) (x : A) → p ++ m ∷ q ≡ h ++ x ∷ []
+    → ((p ≡ h) × (m ≡ x) × (q ≡ [])) ⊎ ((r : List A) × (p ++ m ∷ r ≡ h))
+split_last [] m q [] x e = inl (refl, cc, cc)
+split_last [] m q (y ∷ h) x e = let is : m ≡ y = cc in inr (h, ap (λ z. z ∷ h) is)
+split_last (y ∷ []) m q [] x e = absurd cc
+split_last (y ∷ z ∷ p) m q [] x e = absurd cc
+split_last (y ∷ p) m q (z ∷ h) x e =
+    let heads : y ≡ z = cc in
+    elim (split_last p m q h x cc) [
+      | inl w ↦ inl (cc (heads, w.0), w.1, w.2)
+      | inr w ↦ inr (w.0, cc (heads, w.1))
+    ]
+
+-- ---- what a seat's marks say
+
+pub seat_words-own : {M W C : Type 0} (rules : Rules M W C) (seat : ℕ) (h : List M) (m : M) → rules.seat_of m ≡ seat → seat_words rules seat (h ++ m ∷ []) ≡ seat_words rules seat h ++ rules.word_of m ∷ []
+seat_words-own {M} rules seat h m own =
+    let is : (rules.seat_of m == seat) ≡ true = grind (arith, nat_tests) in
+    let his : M → Bool = λ (w : M). rules.seat_of w == seat in
+    let last : map rules.word_of (filter his (m ∷ [])) ≡ rules.word_of m ∷ [] = rw is refl in
+    ap (map rules.word_of) (filter-append his h (m ∷ []))
+    ∙ map-append rules.word_of (filter his h) (filter his (m ∷ []))
+    ∙ ap (λ l. seat_words rules seat h ++ l) last
+
+pub seat_words-other : {M W C : Type 0} (rules : Rules M W C) (seat : ℕ) (h : List M) (m : M) → rules.seat_of m ≢ seat → seat_words rules seat (h ++ m ∷ []) ≡ seat_words rules seat h
+seat_words-other {M} rules seat h m other =
+    let is : (rules.seat_of m == seat) ≡ false = grind (arith, nat_tests) in
+    let his : M → Bool = λ (w : M). rules.seat_of w == seat in
+    let last : map rules.word_of (filter his (m ∷ [])) ≡ [] = rw is refl in
+    ap (map rules.word_of) (filter-append his h (m ∷ []))
+    ∙ map-append rules.word_of (filter his h) (filter his (m ∷ []))
+    ∙ ap (λ l. seat_words rules seat h ++ l) last
+    ∙ append-nil (seat_words rules seat h)
+
+-- ---- calls
+
+-- the owed word comes
+pub owed_comes : {W C : Type 0} (words_of : C → List W) (ws : List W) (w : W) (owed : List W) → Owes words_of ws (w ∷ owed) → Owes words_of (ws ++ w ∷ []) owed
+owed_comes words_of ws w owed o = (o.0, append_assoc ws (w ∷ []) owed ∙ o.1)
+
+-- where nothing is owed, any call may begin
+pub call_begins : {W C : Type 0} (words_of : C → List W) (ws : List W) (call : C) → Owes words_of ws [] → Owes words_of ws (words_of call)
+call_begins words_of ws call o = (
+  o.0 ++ call ∷ [],
+  ap (λ l. l ++ words_of call) (sym (append-nil ws) ∙ o.1)
+      ∙ ap (λ l. flat_map words_of o.0 ++ l) (sym (append-nil (words_of call)))
+      ∙ sym (flat_map-append words_of o.0 (call ∷ [])),
+)
+
+-- a beginning of calls is calls
+pub calls_front : {W C : Type 0} (words_of : C → List W) (ws : List W) (w : W) → AreCalls words_of (ws ++ w ∷ []) → AreCalls words_of ws
+calls_front words_of ws w c = (w ∷ c.0, (c.1.0, sym (append_assoc ws (w ∷ []) c.0) ∙ c.1.1))
+
+-- ---- histories
+
+nothing_within : {A : Type 0} (p : List A) (m : A) (q : List A) → p ++ m ∷ q ≡ [] → ⊥
+nothing_within [] m q e = cc
+nothing_within (x ∷ p) m q e = cc
+
+pub history_none : {M W C : Type 0} (rules : Rules M W C) → IsHistory rules []
+history_none rules = record {
+  calls = λ seat. ([], ([], refl));
+  fair = λ p m q e. absurd (nothing_within p m q e);
+}
+
+pub history_push : {M W C : Type 0} (rules : Rules M W C) (h : List M) (m : M) → IsHistory rules h
+    → AreCalls rules.words_of (seat_words rules (rules.seat_of m) h ++ rules.word_of m ∷ []) → rules.IsFair h m → IsHistory rules (h ++ m ∷ [])
+history_push {M} rules h m law may fair = record {
+  calls = λ seat. elim (same_or_not (rules.seat_of m) seat) [
+    | inl own ↦ subst (AreCalls rules.words_of) (sym (seat_words-own rules seat h m own)) (subst (λ s. AreCalls rules.words_of (seat_words rules s h ++ rules.word_of m ∷ [])) own may)
+    | inr other ↦ subst (AreCalls rules.words_of) (sym (seat_words-other rules seat h m other)) (law.calls seat)
+  ];
+  fair = λ p x q e. elim (split_last p x q h m e) [
+    | inl last ↦ subst (λ y. rules.IsFair p y) (sym last.1) (subst (λ l. rules.IsFair l m) (sym last.0) fair)
+    | inr within ↦ law.fair p x within.0 within.1
+  ];
+}
+  where
+    same_or_not : (a b : ℕ) → (a ≡ b) ⊎ (a ≢ b)
+    same_or_not a b = grind arith
+
+pub history_front : {M W C : Type 0} (rules : Rules M W C) (h : List M) (m : M) → IsHistory rules (h ++ m ∷ []) → IsHistory rules h
+history_front rules h m law = record {
+  calls = λ seat. elim (same_or_not (rules.seat_of m) seat) [
+    | inl own ↦ calls_front rules.words_of (seat_words rules seat h) (rules.word_of m) (subst (AreCalls rules.words_of) (seat_words-own rules seat h m own) (law.calls seat))
+    | inr other ↦ subst (AreCalls rules.words_of) (seat_words-other rules seat h m other) (law.calls seat)
+  ];
+  fair = λ p x q e. law.fair p x (q ++ m ∷ []) (sym (append_assoc p (x ∷ q) (m ∷ [])) ∙ ap (λ l. l ++ m ∷ []) e);
+}
+  where
+    same_or_not : (a b : ℕ) → (a ≡ b) ⊎ (a ≢ b)
+    same_or_not a b = grind arith
+
+pub last_calls : {M W C : Type 0} (rules : Rules M W C) (h : List M) (m : M) → IsHistory rules (h ++ m ∷ []) → AreCalls rules.words_of (seat_words rules (rules.seat_of m) h ++ rules.word_of m ∷ [])
+last_calls rules h m law = subst (AreCalls rules.words_of) (seat_words-own rules (rules.seat_of m) h m refl) (law.calls (rules.seat_of m))
+
+pub last_fair : {M W C : Type 0} (rules : Rules M W C) (h : List M) (m : M) → IsHistory rules (h ++ m ∷ []) → rules.IsFair h m
+last_fair rules h m law = law.fair h m [] refl
+
+-- every beginning of a history is one
+pub history_prefix : {M W C : Type 0} (rules : Rules M W C) (h rest : List M) → IsHistory rules (h ++ rest) → IsHistory rules h
+history_prefix {M} rules h = snoc_ind (λ (rest : List M). IsHistory rules (h ++ rest) → IsHistory rules h)
+    (λ law. subst (IsHistory rules) (append-nil h) law)
+    (λ rest m less law. less (history_front rules (h ++ rest) m (subst (IsHistory rules) (sym (append_assoc h rest (m ∷ []))) law)))
+
+-- a fair mark that a seat owes keeps a history, and the seat owes the rest
+pub history_owed : {M W C : Type 0} (rules : Rules M W C) (h : List M) (m : M) (owed : List W) → IsHistory rules h
+    → Owes rules.words_of (seat_words rules (rules.seat_of m) h) (rules.word_of m ∷ owed) → rules.IsFair h m
+    → IsHistory rules (h ++ m ∷ []) × Owes rules.words_of (seat_words rules (rules.seat_of m) (h ++ m ∷ [])) owed
+history_owed rules h m owed law o fair =
+    let now = owed_comes rules.words_of (seat_words rules (rules.seat_of m) h) (rules.word_of m) owed o in
+    (history_push rules h m law (owed, now) fair, subst (λ ws. Owes rules.words_of ws owed) (sym (seat_words-own rules (rules.seat_of m) h m refl)) now)
+
+-- the same where a seat at rest begins a call by its mark
+pub history_begun : {M W C : Type 0} (rules : Rules M W C) (h : List M) (m : M) (call : C) (owed : List W) → IsHistory rules h
+    → Owes rules.words_of (seat_words rules (rules.seat_of m) h) [] → rules.words_of call ≡ rules.word_of m ∷ owed → rules.IsFair h m
+    → IsHistory rules (h ++ m ∷ []) × Owes rules.words_of (seat_words rules (rules.seat_of m) (h ++ m ∷ [])) owed
+history_begun rules h m call owed law rest is fair =
+    history_owed rules h m owed law (subst (Owes rules.words_of (seat_words rules (rules.seat_of m) h)) is (call_begins rules.words_of (seat_words rules (rules.seat_of m) h) call rest)) fair

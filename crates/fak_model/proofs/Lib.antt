@@ -1,0 +1,15 @@
+pub mod Appending
+pub mod Seats
+pub mod Leading
+pub mod RoomLaw
+pub mod CreditLaw
+pub mod FileLaw
+pub mod Places
+pub mod FileRest
+pub mod QueueStages
+pub mod QueueTickets
+pub mod QueueCounts
+pub mod QueueWords
+pub mod QueueBackwards
+pub mod QueueLiteral
+pub mod QueueLaws

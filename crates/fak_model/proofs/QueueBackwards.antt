@@ -1,0 +1,143 @@
+-- A history and its past: counts, marks and items are the same from either end.
+use Rattle.std.proofs.Common.{◌≡◌, ◌≢◌, ◌⊎◌, ℕ, zero, suc, ◌+◌, ◌==◌, cond, List, [], ◌∷◌, ◌++◌, length, length-append, reverse, Option, Some, refl, ap, sym, ◌∙◌, subst, arith, rules, inl, inr, append_assoc}
+use Rattle.std.specs.List.{All}
+use Rattle.std.proofs.lemmas.List.{append-nil, reverse-append, reverse-reverse}
+use Rattle.std.proofs.lemmas.List.Elements.{All-append, All-cons, All-head, All-tail}
+use Rattle.std.proofs.lemmas.Grind.{flat_map-append}
+use Rattle.fak_model.specs.declared.queue.Kind.{Kind}
+use Rattle.fak_model.specs.declared.queue.Kind.TheVariants.{Put}
+use Rattle.fak_model.specs.declared.queue.Mark.{Mark}
+use Rattle.fak_model.specs.Queue.{count, puts, Has}
+use Rattle.fak_model.specs.QueuePast.{after, stage, item_put, item_of}
+use Rattle.fak_model.specs.declared.queue.Stage.TheVariants.{Idle}
+use Rattle.fak_model.specs.Queue.{items_put, item_in, item_at, Drew}
+use Rattle.fak_model.proofs.Appending.{snoc_ind}
+use Rattle.fak_model.proofs.QueueStages.{cond_here, cond_else, stage_here, stage_else, same_or_not}
+
+pub count_append : {A : Type 0} (w : Kind A → ℕ) (f g : List (Mark A)) → count w (f ++ g) ≡ count w f + count w g
+count_append w [] g = omega arith
+count_append w (m ∷ f) g = omega (arith, count_append w f g)
+
+pub reverse_cons : {A : Type 0} (x : A) (xs : List A) → reverse (x ∷ xs) ≡ reverse xs ++ x ∷ []
+reverse_cons x xs = reverse-append (x ∷ []) xs
+
+pub reverse_push : {A : Type 0} (xs : List A) (x : A) → reverse (xs ++ x ∷ []) ≡ x ∷ reverse xs
+reverse_push xs x = reverse-append xs (x ∷ [])
+
+pub count_reverse : {A : Type 0} (w : Kind A → ℕ) (h : List (Mark A)) → count w (reverse h) ≡ count w h
+count_reverse w [] = refl
+count_reverse w (m ∷ h) = ap (count w) (reverse_cons m h) ∙ omega (arith, count_append w (reverse h) (m ∷ []), count_reverse w h)
+
+has_right : {A : Type 0} (κ : Kind A) (f g : List (Mark A)) → Has κ g → Has κ (f ++ g)
+has_right κ [] g e = e
+has_right κ (m ∷ f) g e = inr (has_right κ f g e)
+
+has_left : {A : Type 0} (κ : Kind A) (f g : List (Mark A)) → Has κ f → Has κ (f ++ g)
+has_left κ [] g e = absurd e
+has_left κ (m ∷ f) g (inl e) = inl e
+has_left κ (m ∷ f) g (inr e) = inr (has_left κ f g e)
+
+pub has_reverse : {A : Type 0} (κ : Kind A) (h : List (Mark A)) → Has κ h → Has κ (reverse h)
+has_reverse κ [] e = e
+has_reverse κ (m ∷ h) (inl e) = subst (Has κ) (sym (reverse_cons m h)) (has_right κ (reverse h) (m ∷ []) (inl e))
+has_reverse κ (m ∷ h) (inr e) = subst (Has κ) (sym (reverse_cons m h)) (has_left κ (reverse h) (m ∷ []) (has_reverse κ h e))
+
+pub has_back : {A : Type 0} (κ : Kind A) (h : List (Mark A)) → Has κ (reverse h) → Has κ h
+has_back κ h e = subst (Has κ) (reverse-reverse h) (has_reverse κ (reverse h) e)
+
+pub All-reverse : {A : Type 0} (P : A → Type 0) (xs : List A) → All P xs → All P (reverse xs)
+All-reverse P [] a = a
+All-reverse P (x ∷ xs) a = subst (All P) (sym (reverse_cons x xs)) (All-append P (reverse xs) (x ∷ []) (All-reverse P xs (All-tail P x xs a)) (one (All-head P x xs a)))
+  where
+    one : P x → All P (x ∷ [])
+    one p = search (rules, p)
+
+pub reverse_split : {A : Type 0} (p : List A) (m : A) (q : List A) → reverse (p ++ (m ∷ q)) ≡ reverse q ++ (m ∷ reverse p)
+reverse_split p m q = reverse-append p (m ∷ q) ∙ (ap (λ t. t ++ reverse p) (reverse-append (m ∷ []) q) ∙ append_assoc (reverse q) (m ∷ []) (reverse p))
+
+-- ---- items
+
+pub item_at_new : {A : Type 0} (xs : List A) (x : A) → item_at (xs ++ x ∷ []) (length xs) ≡ Some x
+item_at_new [] x = refl
+item_at_new (y ∷ xs) x = item_at_new xs x
+
+pub item_at_old : {A : Type 0} (xs : List A) (x : A) (k : ℕ) → k ≢ length xs → item_at (xs ++ x ∷ []) k ≡ item_at xs k
+item_at_old [] x zero ne = absurd (ne refl)
+item_at_old [] x (suc k) ne = refl
+item_at_old (y ∷ xs) x zero ne = refl
+item_at_old (y ∷ xs) x (suc k) ne = item_at_old xs x k (λ e. ne (ap suc e))
+
+pub items_push : {A : Type 0} (h : List (Mark A)) (m : Mark A) → items_put (h ++ m ∷ []) ≡ items_put h ++ item_in m
+items_push h m = flat_map-append item_in h (m ∷ []) ∙ ap (λ l. items_put h ++ l) (append-nil (item_in m))
+
+item_in_count : {A : Type 0} (s : ℕ) (κ : Kind A) → length (item_in (record { seat = s; kind = κ })) ≡ puts κ
+item_in_count s (Put x) = refl
+item_in_count s _ = refl
+
+pub items_count : {A : Type 0} (h : List (Mark A)) → length (items_put h) ≡ count puts h
+items_count {A} = snoc_ind (λ (h : List (Mark A)). length (items_put h) ≡ count puts h) refl (λ h m before.
+    ap length (items_push h m) ∙ omega (arith, length-append (items_put h) (item_in m), item_in_count m.seat m.kind, before, count_append puts h (m ∷ [])))
+
+one_more : {A : Type 0} (xs : List A) (s : ℕ) (κ : Kind A) (n k : ℕ) (r : Option A) → length xs ≡ n → item_at xs k ≡ r
+    → item_at (xs ++ item_in (record { seat = s; kind = κ })) k ≡ item_put k n κ r
+one_more xs s (Put x) n k r l e = elim (same_or_not k n) [
+  | inl q ↦ (ap (item_at (xs ++ x ∷ [])) (q ∙ sym l) ∙ (item_at_new xs x ∙ sym (ap (λ j. cond (k == j) (Some x) r) (sym q) ∙ cond_here k (Some x) r)))
+  | inr d ↦ (item_at_old xs x k (λ e. d (e ∙ l)) ∙ (e ∙ sym (cond_else k n (Some x) r d)))
+]
+one_more xs s _ n k r l e = ap (λ t. item_at t k) (append-nil xs) ∙ e
+
+-- the item at place k is that of the Put with ticket k
+pub item_same : {A : Type 0} (k : ℕ) (h : List (Mark A)) → item_at (items_put h) k ≡ item_of (reverse h) k
+item_same {A} k = snoc_ind (λ (h : List (Mark A)). item_at (items_put h) k ≡ item_of (reverse h) k) refl (λ h m before.
+    ap (λ t. item_at t k) (items_push h m)
+    ∙ (one_more (items_put h) m.seat m.kind (count puts (reverse h)) k (item_of (reverse h) k) (items_count h ∙ sym (count_reverse puts h)) before
+    ∙ ap (λ p. item_of p k) (sym (reverse_push h m))))
+
+-- ---- the last mark of a seat
+
+pub record Last {A : Type 0} (past : List (Mark A)) (s : ℕ) : Type 0 where
+  pub newer : List (Mark A)
+  pub m : Mark A
+  pub older : List (Mark A)
+  pub is : past ≡ newer ++ m ∷ older
+  pub his : m.seat ≡ s
+  pub last : All (λ (n : Mark A). n.seat ≢ s) newer
+  pub stands : stage past s ≡ after older m.kind
+
+pub last_of : {A : Type 0} (past : List (Mark A)) (s : ℕ) → (stage past s ≡ Idle) ⊎ Last past s
+last_of [] s = inl refl
+last_of {A} (m ∷ h) s = elim (same_or_not s m.seat) [
+  | inl q ↦ inr (record { newer = []; m = m; older = h; is = refl; his = sym q; last = search rules; stands = ap (stage (m ∷ h)) q ∙ stage_here m h })
+  | inr d ↦ elim (last_of h s) [
+    | inl i ↦ inl (stage_else m h s d ∙ i)
+    | inr l ↦ inr (record { newer = m ∷ l.newer; m = l.m; older = l.older; is = ap (λ t. m ∷ t) l.is; his = l.his; last = All-cons (λ (n : Mark A). n.seat ≢ s) m l.newer (λ e. d (sym e)) l.last; stands = stage_else m h s d ∙ l.stands })
+  ]
+]
+
+pub stage_past : {A : Type 0} (newer older : List (Mark A)) (s : ℕ) → All (λ (n : Mark A). n.seat ≢ s) newer → stage (newer ++ older) s ≡ stage older s
+stage_past [] older s a = refl
+stage_past {A} (m ∷ newer) older s a =
+    let Other : Mark A → Type 0 = λ (n : Mark A). n.seat ≢ s in
+    stage_else m (newer ++ older) s (λ e. (All-head Other m newer a) (sym e)) ∙ stage_past newer older s (All-tail Other m newer a)
+
+pub drew : {A : Type 0} (h : List (Mark A)) (s : ℕ) (l : Last (reverse h) s) (κ : Kind A) (w : Kind A → ℕ) (k : ℕ) → l.m.kind ≡ κ → k ≡ count w l.older → Drew h s κ w k
+drew {A} h s l κ w k is number = record {
+  earlier = reverse l.older;
+  m = l.m;
+  later = reverse l.newer;
+  stands = sym (reverse_split l.newer l.m l.older) ∙ (ap reverse (sym l.is) ∙ reverse-reverse h);
+  his = l.his;
+  is = is;
+  last = All-reverse (λ (n : Mark A). n.seat ≢ s) l.newer l.last;
+  number = number ∙ sym (count_reverse w l.older);
+}
+
+-- the stage after a draw that is the seat's last mark
+pub stage_drew : {A : Type 0} (h : List (Mark A)) (s : ℕ) (κ : Kind A) (w : Kind A → ℕ) (k : ℕ) (d : Drew h s κ w k) → (stage (reverse h) s ≡ after (reverse d.earlier) κ) × (k ≡ count w (reverse d.earlier))
+stage_drew {A} h s κ w k d = (
+  ap (λ t. stage (reverse t) s) (sym d.stands)
+      ∙ (ap (λ t. stage t s) (reverse_split d.earlier d.m d.later)
+      ∙ (stage_past (reverse d.later) (d.m ∷ reverse d.earlier) s (All-reverse (λ (n : Mark A). n.seat ≢ s) d.later d.last)
+      ∙ (ap (stage (d.m ∷ reverse d.earlier)) (sym d.his) ∙ (stage_here d.m (reverse d.earlier) ∙ ap (after (reverse d.earlier)) d.is)))),
+  d.number ∙ sym (count_reverse w d.earlier),
+)

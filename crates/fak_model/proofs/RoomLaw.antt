@@ -1,0 +1,90 @@
+-- The law of a room.
+use Rattle.std.proofs.Common.{◌≡◌, ◌≢◌, ◌⊎◌, ℕ, ◌+◌, ◌-◌, ◌<◌, ◌≤◌, List, [], ◌∷◌, ◌++◌, Some, refl, ap, sym, ◌∙◌, subst, arith, inl, inr}
+use Rattle.std.specs.Prelude.{pos}
+use Rattle.std.proofs.lemmas.Int.{ints}
+use Rattle.std.specs.List.{sum_by}
+use Rattle.std.proofs.lemmas.List.Sums.{sum_by_push}
+use Rattle.std.proofs.lemmas.List.Elements.{All-pop}
+use Rattle.fak_model.specs.declared.room.RoomKind.{RoomKind}
+use Rattle.fak_model.specs.declared.room.RoomKind.TheVariants.{Up, Over, Back, No, Release}
+use Rattle.fak_model.specs.declared.room.RoomMark.{RoomMark}
+use Rattle.fak_model.specs.Histories.{seat_words, IsAtRest, AreNamed, sum_below}
+use Rattle.fak_model.specs.Room.{WholeCall, Granted, Refused, Withdrawn, Released, kinds_of_call, kind_of, total, up_amount, over_amount, back_amount, release_amount, amount_held, IsFair, value, room_rules, IsRoomHistory}
+use Rattle.fak_model.proofs.Appending.{snoc_ind, seat_words-own, seat_words-other, history_front, last_fair}
+use Rattle.fak_model.proofs.Leading.{CallsLead, history_leads, rest_even, total_push, sum_one, sum_none, same_or_not}
+
+pub backs_after : CallsLead kinds_of_call back_amount over_amount
+backs_after (Granted d) a b le = search arith
+backs_after (Refused d) a b le = search arith
+backs_after (Withdrawn d) a b le = search arith
+backs_after (Released d) a b le = search arith
+
+-- what one mark does to what its seat holds, and whether what it takes fits beside what is counted
+fits_of : (bound : ℕ) (h : List RoomMark) (seat : ℕ) (kind : RoomKind) → IsFair bound h seat kind
+    → (release_amount kind ≤ amount_held seat h) × ((up_amount kind ≡ 0) ⊎ (((total up_amount h + total over_amount h) + up_amount kind ≤ bound + (total back_amount h + total release_amount h)) × (release_amount kind ≡ 0)))
+fits_of bound h seat (Up d) fair = (omega arith, inr (omega (arith, ints, fair), refl))
+fits_of bound h seat (Over d) fair = (omega arith, inl refl)
+fits_of bound h seat (Back d) fair = (omega arith, inl refl)
+fits_of bound h seat (No d) fair = (omega arith, inl refl)
+fits_of bound h seat (Release d) fair = (fair, inl refl)
+
+release_fits : (bound : ℕ) (h : List RoomMark) (seat : ℕ) (kind : RoomKind) → IsFair bound h seat kind → release_amount kind ≤ amount_held seat h
+release_fits bound h seat kind fair = (fits_of bound h seat kind fair).0
+
+-- no seat gives back more than it was granted
+pub releases_le : (bound k : ℕ) (h : List RoomMark) → IsRoomHistory bound h → sum_by release_amount (seat_words (room_rules bound) k h) ≤ sum_by up_amount (seat_words (room_rules bound) k h)
+releases_le bound k =
+    let Fits : List RoomKind → Type 0 = λ (w : List RoomKind). sum_by release_amount w ≤ sum_by up_amount w in
+    snoc_ind (λ (h : List RoomMark). IsRoomHistory bound h → Fits (seat_words (room_rules bound) k h)) (λ law. omega arith) (λ h m before law.
+    let old = before (history_front (room_rules bound) h m law) in
+    elim (same_or_not m.seat k) [
+      | inl own ↦ (let fair : release_amount m.kind ≤ amount_held k h = subst (λ s. release_amount m.kind ≤ amount_held s h) own (release_fits bound h m.seat m.kind (last_fair (room_rules bound) h m law)) in
+          subst Fits (sym (seat_words-own (room_rules bound) k h m own)) (omega (arith, old, fair, sum_by_push release_amount (seat_words (room_rules bound) k h) m.kind, sum_by_push up_amount (seat_words (room_rules bound) k h) m.kind)))
+      | inr other ↦ subst Fits (sym (seat_words-other (room_rules bound) k h m other)) old
+    ])
+
+held_own : (bound : ℕ) (h : List RoomMark) (m : RoomMark) → IsRoomHistory bound h → release_amount m.kind ≤ amount_held m.seat h
+    → amount_held m.seat (h ++ m ∷ []) + release_amount m.kind ≡ amount_held m.seat h + up_amount m.kind
+held_own bound h m law le =
+    let is = seat_words-own (room_rules bound) m.seat h m refl in
+    let u = ap (sum_by up_amount) is ∙ sum_by_push up_amount (seat_words (room_rules bound) m.seat h) m.kind in
+    let r = ap (sum_by release_amount) is ∙ sum_by_push release_amount (seat_words (room_rules bound) m.seat h) m.kind in
+    let old = releases_le bound m.seat h law in
+    omega arith
+
+-- what all seats hold and the Releases are the Ups, and fit
+pub held_fits : (bound seats : ℕ) (h : List RoomMark) → IsRoomHistory bound h → AreNamed (room_rules bound) seats h
+    → (sum_below (λ k. amount_held k h) seats + total release_amount h ≡ total up_amount h) × (sum_below (λ k. amount_held k h) seats ≤ bound)
+held_fits bound seats =
+    let Named : RoomMark → Type 0 = λ (m : RoomMark). m.seat < seats in
+    snoc_ind (λ (h : List RoomMark). IsRoomHistory bound h → AreNamed (room_rules bound) seats h → (sum_below (λ k. amount_held k h) seats + total release_amount h ≡ total up_amount h) × (sum_below (λ k. amount_held k h) seats ≤ bound)) (λ law named.
+    let none = sum_none (λ k. amount_held k []) seats (λ k. refl) in (omega arith, omega arith)) (λ h m before law named.
+    let law' = history_front (room_rules bound) h m law in
+    let pop = All-pop Named (h ++ m ∷ []) h (Some m) refl named in
+    let old = before law' pop.0 in
+    let fits = fits_of bound h m.seat m.kind (last_fair (room_rules bound) h m law) in
+    let even : total back_amount h ≤ total over_amount h = history_leads (room_rules bound) back_amount over_amount backs_after seats h law' pop.0 in
+    let ups = total_push kind_of up_amount h m in
+    let downs = total_push kind_of release_amount h m in
+    let others : (k : ℕ) → k ≢ m.seat → amount_held k (h ++ m ∷ []) ≡ amount_held k h = λ k d. ap (λ l. sum_by up_amount l - sum_by release_amount l) (seat_words-other (room_rules bound) k h m (λ e. d (sym e))) in
+    let one = sum_one (λ k. amount_held k h) (λ k. amount_held k (h ++ m ∷ [])) m.seat seats pop.1 others in
+    elim fits.1 [
+      | inl z ↦ (let own = held_own bound h m law' fits.0 in (omega (arith, old.0, old.1, ups, downs, one, own, z), omega (arith, old.0, old.1, ups, downs, one, own, z)))
+      | inr w ↦ (let own = held_own bound h m law' fits.0 in (omega (arith, old.0, old.1, ups, downs, one, own, w.0, w.1), omega (arith, old.0, old.1, ups, downs, one, own, w.0, w.1, even)))
+    ])
+
+pub room_fits : (bound seats : ℕ) (h : List RoomMark) → IsRoomHistory bound h → AreNamed (room_rules bound) seats h → sum_below (λ k. amount_held k h) seats ≤ bound
+room_fits bound seats h law named = (held_fits bound seats h law named).1
+
+call_even : (c : WholeCall) → sum_by over_amount (kinds_of_call c) ≡ sum_by back_amount (kinds_of_call c)
+call_even (Granted d) = refl
+call_even (Refused d) = refl
+call_even (Withdrawn d) = omega arith
+call_even (Released d) = refl
+
+-- where no call is cut short the value is what all seats hold
+pub room_rests : (bound seats : ℕ) (h : List RoomMark) → IsRoomHistory bound h → AreNamed (room_rules bound) seats h → IsAtRest (room_rules bound) h → value h ≡ pos (sum_below (λ k. amount_held k h) seats)
+room_rests bound seats h law named rest =
+    let sum = (held_fits bound seats h law named).0 in
+    let even : total over_amount h ≡ total back_amount h = rest_even (room_rules bound) over_amount back_amount call_even seats h rest named in
+    omega (arith, ints, sum, even)

@@ -1,0 +1,24 @@
+//! The laws of a room's histories.
+
+ghost use Rattle.std.specs.Prelude.{◌≡◌, ℕ, ◌++◌, ◌≤◌, List, pos};
+ghost use Rattle.fak_model.specs.Histories.{AreNamed, IsAtRest, sum_below};
+ghost use Rattle.fak_model.specs.Room.{IsRoomHistory, room_rules, amount_held, value};
+
+use crate::room::RoomMark;
+
+/// The amounts held by all seats sum to at most the bound.
+pub fn amounts_held_in_a_room_fit()
+    ensures { (bound seats : ℕ) (h : List RoomMark) → IsRoomHistory bound h → AreNamed (room_rules bound) seats h
+        → sum_below (λ seat. amount_held seat h) seats ≤ bound }
+{}
+
+/// Where no call is cut short the value is what all seats hold.
+pub fn a_room_at_rest_counts_what_is_held()
+    ensures { (bound seats : ℕ) (h : List RoomMark) → IsRoomHistory bound h → AreNamed (room_rules bound) seats h
+        → IsAtRest (room_rules bound) h → value h ≡ pos (sum_below (λ seat. amount_held seat h) seats) }
+{}
+
+/// Every beginning of a room's history is one.
+pub fn a_beginning_of_a_room_history_is_one()
+    ensures { (bound : ℕ) (h rest : List RoomMark) → IsRoomHistory bound (h ++ rest) → IsRoomHistory bound h }
+{}

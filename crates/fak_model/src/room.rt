@@ -1,0 +1,23 @@
+//! What the calls on a room leave in its history.
+
+/// The kind of a mark of a room, with the amount of its call.
+#[derive(Clone, Copy, Debug, PartialEq, Eq)]
+pub enum RoomKind {
+    /// The claim fitted at its add: it is granted.
+    Up(u64),
+    /// The claim did not fit at its add, and will be withdrawn.
+    Over(u64),
+    /// The claim was withdrawn: it is refused.
+    Back(u64),
+    /// The claim did not fit at its test: it is refused.
+    No(u64),
+    /// An amount was given back.
+    Release(u64),
+}
+
+/// A mark of a seat in the history of a room.
+#[derive(Clone, Copy, Debug, PartialEq, Eq)]
+pub struct RoomMark {
+    pub seat: u64,
+    pub kind: RoomKind,
+}
