@@ -1,0 +1,14 @@
+//! Readers of schedules, histories and scripts, and the texts of lines and journals.
+#![tactic(auto)]
+
+mod fault;
+mod history;
+mod schedule;
+mod script;
+mod steps;
+
+pub use fault::{Field, TextFault};
+pub use history::History;
+pub use schedule::{Act, Event, Object, Schedule};
+pub use script::Script;
+pub use steps::{Note, Step};
