@@ -1,0 +1,4 @@
+pub mod ListWrites
+pub mod RoomMarks
+pub mod RoomKept
+pub mod RoomReached

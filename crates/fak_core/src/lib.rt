@@ -3,7 +3,9 @@
 
 pub mod call;
 pub mod fault;
+pub mod laws;
 pub mod line;
+pub mod room;
 
 pub use call::{QueueCall, RoomCall};
 pub use fault::CoreFault;
