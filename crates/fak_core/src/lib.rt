@@ -10,3 +10,4 @@ pub mod room;
 pub use call::{QueueCall, RoomCall};
 pub use fault::CoreFault;
 pub use line::{CoreMove, Line, LineMark};
+pub use room::RoomCore;
