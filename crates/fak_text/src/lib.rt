@@ -3,12 +3,14 @@
 
 mod fault;
 mod history;
+mod reading;
 mod schedule;
 mod script;
 mod steps;
 
 pub use fault::{Field, TextFault};
 pub use history::History;
+pub use reading::read_schedule;
 pub use schedule::{Act, Event, Object, Schedule};
 pub use script::Script;
 pub use steps::{Note, Step};
