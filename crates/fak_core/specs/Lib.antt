@@ -1,0 +1,2 @@
+pub mod QueueMoves
+pub mod QueueSchedule

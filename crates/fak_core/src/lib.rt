@@ -3,8 +3,12 @@
 
 pub mod call;
 pub mod fault;
+pub mod laws;
 pub mod line;
+pub mod queue;
 
 pub use call::{QueueCall, RoomCall};
 pub use fault::CoreFault;
 pub use line::{CoreMove, Line, LineMark};
+pub use queue::phase::Phase;
+pub use queue::step::{Found, QueueMove, Write};
