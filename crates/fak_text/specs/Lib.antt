@@ -4,4 +4,7 @@ pub mod Views
 pub mod Fields
 pub mod Gives
 pub mod Values
+pub mod Names
+pub mod LineText
 pub mod ScheduleText
+pub mod HistoryText
