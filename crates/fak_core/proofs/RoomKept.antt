@@ -12,8 +12,9 @@ use Rattle.fak_model.specs.declared.room.RoomMark.{RoomMark}
 use Rattle.fak_model.specs.Histories.{AreNamed}
 use Rattle.fak_model.specs.Room.{Granted, Refused, Withdrawn, Released, kinds_of_call, up_amount, release_amount, value, amount_held, room_rules, IsFair, IsRoomHistory}
 use Rattle.fak_model.proofs.Appending.{seat_words-other, call_begins, history_none, history_owed}
-use Rattle.fak_model.proofs.Leading.{same_or_not}
-use Rattle.fak_model.proofs.QueueBackwards.{reverse_cons}
+use Rattle.fak_model.proofs.Leading.{}
+use Rattle.fak_model.proofs.Deciding.{same_or_not}
+use Rattle.fak_model.proofs.Reversing.{reverse_cons}
 use Rattle.fak_core.specs.declared.call.RoomCall.{RoomCall}
 use Rattle.fak_core.specs.declared.call.RoomCall.TheVariants.{Tir, Release}
 use Rattle.fak_core.specs.declared.fault.CoreFault.TheVariants.{NotHeld}

@@ -11,7 +11,8 @@ use Rattle.fak_model.specs.declared.room.RoomMark.{RoomMark}
 use Rattle.fak_model.specs.Histories.{seat_words, IsAtRest, AreNamed, sum_below}
 use Rattle.fak_model.specs.Room.{WholeCall, Granted, Refused, Withdrawn, Released, kinds_of_call, kind_of, total, up_amount, over_amount, back_amount, release_amount, amount_held, IsFair, value, room_rules, IsRoomHistory}
 use Rattle.fak_model.proofs.Appending.{snoc_ind, seat_words-own, seat_words-other, history_front, last_fair}
-use Rattle.fak_model.proofs.Leading.{CallsLead, history_leads, rest_even, total_push, sum_one, sum_none, same_or_not}
+use Rattle.fak_model.proofs.Leading.{CallsLead, history_leads, rest_even, total_push, sum_one, sum_none}
+use Rattle.fak_model.proofs.Deciding.{same_or_not}
 
 pub backs_after : CallsLead kinds_of_call back_amount over_amount
 backs_after (Granted d) a b le = search arith

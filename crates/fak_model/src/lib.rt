@@ -10,6 +10,6 @@ pub mod room;
 
 pub use cell::{cell_of, round_of};
 pub use credit::{CreditKind, CreditMark};
-pub use file::{FileField, FileKind, FileMark};
+pub use file::{FileEntry, FileField, FileKind, FileMark};
 pub use queue::{Kind, Mark, Stage};
 pub use room::{RoomKind, RoomMark};

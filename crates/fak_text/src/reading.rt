@@ -1,0 +1,8 @@
+//! The readers of the input formats. Each answers the value that the input is, or its first fault.
+
+mod history;
+mod schedule;
+mod values;
+
+pub use history::read_history;
+pub use schedule::read_schedule;
