@@ -47,24 +47,14 @@ pub fn test_up(size: u64, shut: bool, found: i64, x: u64) -> QueueMove<u64>
     ensures { result ≡ table.test_up size shut found x }
 {
     let step = CoreMove::TestUp;
+    let count = Found::Count(found);
+    let has_room = found < size as i64;
     if shut {
-        marked(
-            step,
-            Found::Count(found),
-            Kind::Closed,
-            Write::Nothing,
-            Phase::Idle,
-        )
-    } else if found < size as i64 {
-        quiet(step, Found::Count(found), Phase::AddUp(x))
+        marked(step, count, Kind::Closed, Write::Nothing, Phase::Idle)
+    } else if has_room {
+        quiet(step, count, Phase::AddUp(x))
     } else {
-        marked(
-            step,
-            Found::Count(found),
-            Kind::NoRoom,
-            Write::Nothing,
-            Phase::Idle,
-        )
+        marked(step, count, Kind::NoRoom, Write::Nothing, Phase::Idle)
     }
 }
 
@@ -75,31 +65,17 @@ pub fn add_up(size: u64, shut: bool, found: i64, x: u64) -> QueueMove<u64>
     ensures { result ≡ table.add_up size shut found x }
 {
     let step = CoreMove::AddUp;
+    let count = Found::Count(found);
     let raised = Write::Upper(found + 1);
+    let granted = Phase::TicketIn(x);
+    let refused = Phase::BackUp(x);
+    let still_has_room = found < size as i64;
     if shut {
-        marked(
-            step,
-            Found::Count(found),
-            Kind::LateIn,
-            raised,
-            Phase::BackUp(x),
-        )
-    } else if found < size as i64 {
-        marked(
-            step,
-            Found::Count(found),
-            Kind::ClaimIn,
-            raised,
-            Phase::TicketIn(x),
-        )
+        marked(step, count, Kind::LateIn, raised, refused)
+    } else if still_has_room {
+        marked(step, count, Kind::ClaimIn, raised, granted)
     } else {
-        marked(
-            step,
-            Found::Count(found),
-            Kind::OverIn,
-            raised,
-            Phase::BackUp(x),
-        )
+        marked(step, count, Kind::OverIn, raised, refused)
     }
 }
 
@@ -108,12 +84,12 @@ pub fn back_up(found: i64) -> QueueMove<u64>
     requires { IsSmall found }
     ensures { result ≡ table.back_up found }
 {
-    let lowered = Write::Upper(found - 1);
+    let withdrawn = Write::Upper(found - 1);
     marked(
         CoreMove::BackUp,
         Found::Count(found),
         Kind::BackIn,
-        lowered,
+        withdrawn,
         Phase::Idle,
     )
 }
@@ -123,15 +99,10 @@ pub fn ticket_in(found: u64, x: u64) -> QueueMove<u64>
     requires { found < 2 ^ 63 }
     ensures { result ≡ table.ticket_in found x }
 {
+    let ticket = Found::Word(found);
     let drawn = Write::DrawsIn(found + 1);
     let next = Phase::TurnIn(found, x);
-    marked(
-        CoreMove::TicketIn,
-        Found::Word(found),
-        Kind::Put(x),
-        drawn,
-        next,
-    )
+    marked(CoreMove::TicketIn, ticket, Kind::Put(x), drawn, next)
 }
 
 /// The load of the turn word of a ticket's cell, for an insertion.
@@ -140,11 +111,13 @@ pub fn turn_in(size: u64, found: u64, k: u64, x: u64) -> QueueMove<u64>
     requires ticket { k + 1 < 2 ^ 63 }
     ensures { result ≡ table.turn_in size found k x }
 {
-    let its_turn = found == 2 * round_of(k, size);
-    if its_turn {
-        quiet(CoreMove::TurnIn, Found::Word(found), Phase::StoreItem(k, x))
+    let step = CoreMove::TurnIn;
+    let turn = Found::Word(found);
+    let may_fill = found == 2 * round_of(k, size);
+    if may_fill {
+        quiet(step, turn, Phase::StoreItem(k, x))
     } else {
-        quiet(CoreMove::TurnIn, Found::Word(found), Phase::TurnIn(k, x))
+        quiet(step, turn, Phase::TurnIn(k, x))
     }
 }
 
@@ -198,16 +171,13 @@ pub fn end_in(found: i64) -> QueueMove<u64>
 pub fn test_low(found: i64) -> QueueMove<u64>
     ensures { result ≡ table.test_low found }
 {
-    if found >= 1 {
-        quiet(CoreMove::TestLow, Found::Count(found), Phase::SubLow)
+    let step = CoreMove::TestLow;
+    let count = Found::Count(found);
+    let has_item = found >= 1;
+    if has_item {
+        quiet(step, count, Phase::SubLow)
     } else {
-        marked(
-            CoreMove::TestLow,
-            Found::Count(found),
-            Kind::NoItem,
-            Write::Nothing,
-            Phase::Idle,
-        )
+        marked(step, count, Kind::NoItem, Write::Nothing, Phase::Idle)
     }
 }
 
@@ -217,23 +187,13 @@ pub fn sub_low(found: i64) -> QueueMove<u64>
     ensures { result ≡ table.sub_low found }
 {
     let step = CoreMove::SubLow;
+    let count = Found::Count(found);
     let lowered = Write::Lower(found - 1);
-    if found >= 1 {
-        marked(
-            step,
-            Found::Count(found),
-            Kind::ClaimOut,
-            lowered,
-            Phase::TicketOut,
-        )
+    let still_has_item = found >= 1;
+    if still_has_item {
+        marked(step, count, Kind::ClaimOut, lowered, Phase::TicketOut)
     } else {
-        marked(
-            step,
-            Found::Count(found),
-            Kind::OverOut,
-            lowered,
-            Phase::BackLow,
-        )
+        marked(step, count, Kind::OverOut, lowered, Phase::BackLow)
     }
 }
 
@@ -279,11 +239,13 @@ pub fn turn_out(size: u64, found: u64, k: u64) -> QueueMove<u64>
     requires ticket { k + 1 < 2 ^ 63 }
     ensures { result ≡ table.turn_out size found k }
 {
-    let its_turn = found == 2 * round_of(k, size) + 1;
-    if its_turn {
-        quiet(CoreMove::TurnOut, Found::Word(found), Phase::LoadItem(k))
+    let step = CoreMove::TurnOut;
+    let turn = Found::Word(found);
+    let may_take = found == 2 * round_of(k, size) + 1;
+    if may_take {
+        quiet(step, turn, Phase::LoadItem(k))
     } else {
-        quiet(CoreMove::TurnOut, Found::Word(found), Phase::TurnOut(k))
+        quiet(step, turn, Phase::TurnOut(k))
     }
 }
 
