@@ -15,3 +15,6 @@ pub mod QueueWords
 pub mod QueueBackwards
 pub mod QueueLiteral
 pub mod QueueLaws
+pub mod CheckerPast
+pub mod CheckerCounts
+pub mod CheckerFaults

@@ -2,6 +2,7 @@
 #![tactic(auto)]
 
 pub mod cell;
+pub mod checker;
 pub mod credit;
 pub mod file;
 pub mod laws;
@@ -9,6 +10,7 @@ pub mod queue;
 pub mod room;
 
 pub use cell::{cell_of, round_of};
+pub use checker::first_fault;
 pub use credit::{CreditKind, CreditMark};
 pub use file::{FileEntry, FileField, FileKind, FileMark};
 pub use queue::{Kind, Mark, Stage};
