@@ -7,3 +7,8 @@ pub mod Checker
 pub mod Room
 pub mod Credit
 pub mod File
+pub mod Views
+pub mod Shown
+pub mod Calls
+pub mod Tokens
+pub mod Names

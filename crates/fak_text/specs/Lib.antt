@@ -8,3 +8,5 @@ pub mod Names
 pub mod LineText
 pub mod ScheduleText
 pub mod HistoryText
+pub mod StepText
+pub mod ScriptText

@@ -12,7 +12,7 @@ mod text;
 
 pub use fault::{Field, TextFault};
 pub use history::History;
-pub use reading::{read_history, read_schedule};
+pub use reading::{read_history, read_schedule, read_script};
 pub use schedule::{Act, Event, Object, Schedule};
 pub use script::Script;
 pub use steps::{Note, Step};
