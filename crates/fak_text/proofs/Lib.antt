@@ -2,3 +2,5 @@ pub mod Json
 pub mod Elements
 pub mod ReadRange
 pub mod StepRange
+pub mod NameText
+pub mod JournalText

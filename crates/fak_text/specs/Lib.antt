@@ -10,3 +10,4 @@ pub mod ScheduleText
 pub mod HistoryText
 pub mod StepText
 pub mod ScriptText
+pub mod JournalText
