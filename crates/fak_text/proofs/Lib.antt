@@ -4,3 +4,5 @@ pub mod ReadRange
 pub mod StepRange
 pub mod NameText
 pub mod JournalText
+pub mod Journals
+pub mod MarkNames

@@ -11,3 +11,4 @@ pub mod HistoryText
 pub mod StepText
 pub mod ScriptText
 pub mod JournalText
+pub mod Laws

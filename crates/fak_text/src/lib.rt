@@ -3,6 +3,7 @@
 
 mod fault;
 mod history;
+pub mod laws;
 mod names;
 mod reading;
 mod schedule;
@@ -17,3 +18,6 @@ pub use schedule::{Act, Event, Object, Schedule};
 pub use script::Script;
 pub use steps::{Note, Step};
 pub use text::{journal_text, line_text, name_text, refused_text};
+
+#[cfg(test)]
+mod tests;
