@@ -1,6 +1,5 @@
 -- Marks are told apart by their names.
-use Rattle.std.proofs.Common.{◌≡◌, ℕ, Some, refl}
-use Rattle.fak_model.specs.declared.queue.Kind.{Kind}
+use Rattle.std.proofs.Common.{refl}
 use Rattle.fak_model.specs.declared.queue.Kind.TheVariants as kinds
 use Rattle.fak_text.specs.HistoryText.{kind_named}
 use Rattle.fak_text.specs.Laws.{EachMarkIsReadByItsName}

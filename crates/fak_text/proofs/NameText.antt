@@ -1,6 +1,5 @@
 -- The texts of names.
-use Rattle.std.proofs.Common.{◌≡◌, ℕ, List, [], ◌∷◌, ◌++◌, map, codes, decimal, refl, ap, sym, ◌∙◌, append_assoc}
-use Rattle.std.specs.List.{flat_map, join_with_byte}
+use Rattle.std.proofs.Common.{◌≡◌, ℕ, List, [], ◌∷◌, ◌++◌, decimal, refl, append_assoc}
 use Rattle.fak_text.specs.JournalText.{text_of_name, child_prefix}
 
 -- a name ends with its last number, and each number before it ends with a dot

@@ -1,5 +1,4 @@
-use Rattle.std.proofs.Common.{◌≡◌, ◌++◌, ◌∷◌, [], ℕ, decimal, string_bytes, ap, sym, ◌∙◌}
-use Rattle.fak_text.specs.JournalText.{text_of_name}
+use Rattle.std.proofs.Common.{◌++◌, ℕ, decimal, ap, sym, ◌∙◌}
 use Rattle.fak_text.proofs.JournalText.{text_of_journal-take}
 use Rattle.fak_text.proofs.NameText.{text_of_name_push}
 use Rattle.fak_text.proofs.text.journal.journal_text.Goals as goal

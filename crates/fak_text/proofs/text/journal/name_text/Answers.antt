@@ -1,5 +1,4 @@
-use Rattle.std.proofs.Common.{rules, ap, sym, ◌∙◌, ◌++◌, decimal}
-use Rattle.fak_text.specs.JournalText.{text_of_name}
+use Rattle.std.proofs.Common.{ap, ◌∙◌, ◌++◌, decimal}
 use Rattle.fak_text.proofs.NameText.{text_of_name_push}
 use Rattle.fak_text.proofs.text.journal.name_text.Goals as goal
 
