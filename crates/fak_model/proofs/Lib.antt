@@ -1,3 +1,5 @@
+pub mod Deciding
+pub mod Reversing
 pub mod Appending
 pub mod Seats
 pub mod Leading
@@ -13,3 +15,9 @@ pub mod QueueWords
 pub mod QueueBackwards
 pub mod QueueLiteral
 pub mod QueueLaws
+pub mod RunningViews
+pub mod RunningSteps
+pub mod RunningSeats
+pub mod RunningCalls
+pub mod RunningJoins
+pub mod NameFlags

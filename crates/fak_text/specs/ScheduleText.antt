@@ -1,5 +1,5 @@
 -- Which schedule an input is, and which fault is its first.
-use Rattle.std.specs.Prelude.{ℕ, ◌==◌, List, codes, Option, Some, None, Result, Ok, Err, if◌then◌else◌}
+use Rattle.std.specs.Prelude.{ℕ, ◌==◌, ◌≤◌, All, length, List, codes, Option, Some, None, Result, Ok, Err, if◌then◌else◌}
 use Rattle.std.specs.Str.{bytes_eq}
 use Rattle.serde_json.specs.Data.{Data}
 use Rattle.serde_json.specs.Find.{as_str, as_array}
@@ -112,3 +112,21 @@ schedule_from d = do
 -- the schedule of an input
 abbrev pub schedule_in : List ℕ → Result ScheduleOf TextFault
 schedule_in bytes = input_in bytes >>= schedule_from
+
+-- ---- what every schedule that is read keeps to
+
+abbrev pub IsObjectInRange : o.Object → Type 0
+IsObjectInRange (objects.Room bound) = bound ≤ 4294967296
+IsObjectInRange (objects.Queue size) = (1 ≤ size) × (size ≤ 4096)
+
+-- the number of an act is in range
+abbrev pub IsActInRange : Act → Type 0
+IsActInRange (acts.Steps n) = (1 ≤ n) × (n ≤ 64)
+IsActInRange (acts.Room (room_calls.Tir d)) = (1 ≤ d) × (d ≤ most_amount)
+IsActInRange (acts.Room (room_calls.Release d)) = (1 ≤ d) × (d ≤ most_amount)
+IsActInRange (acts.Queue call) = Unit {0}
+
+pub record IsScheduleInRange (s : ScheduleOf) : Type 0 where
+  pub object : IsObjectInRange s.object
+  pub seats : (1 ≤ s.seats) × (s.seats ≤ 64)
+  pub acts : All (λ event. IsActInRange event.act) s.events
