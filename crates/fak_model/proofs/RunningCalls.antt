@@ -121,6 +121,21 @@ module _ {M W C : Type 0} (rules : Rules M W C) where
   pub before_mark-begins : (name number : ℕ) (p : List M) (m : M) (q h : List M) → rules.seat_of m ≡ name → length (marks_of rules.seat_of name p) ≡ number → Begins (p ++ m ∷ q) h → before_mark rules.seat_of name number h ≡ p
   before_mark-begins name number p m q h own e b = ap (before_mark rules.seat_of name number) (sym b.1 ∙ append_assoc p (m ∷ q) b.0) ∙ before_mark-append rules.seat_of name p (q ++ b.0) m number e own
 
+-- ---- tokens
+
+module _ {M P H : Type 0} {seat_of : M → ℕ} {seats name left : ℕ} {phase : P} {m : Me H (View M P)} (t : IsSeatToken seat_of seats name phase left m) where
+  pub token_names : m.0.names ≡ name ∷ []
+  token_names = ap (λ (x : Me H (View M P)). x.0.names) t.me_is
+
+  pub token_phase : m.0.phase ≡ Some phase
+  token_phase = ap (λ (x : Me H (View M P)). x.0.phase) t.me_is
+
+  pub token_left : m.0.left ≡ left
+  token_left = ap (λ (x : Me H (View M P)). x.0.left) t.me_is
+
+  pub token_slots : m.1 ≡ []
+  token_slots = ap (λ (x : Me H (View M P)). x.1) t.me_is
+
 -- ---- a step
 
 module _ {M W C P S H : Type 0} {o : Object M W C P S H} {m : Me H (View M P)} {new : List M} {phase : P} {left : ℕ} {carried : List (ℕ × H)} {tells : List M → Type 0} {after : Me H (View M P)}
@@ -179,6 +194,7 @@ module _ {M W C P S H : Type 0} {o : Object M W C P S H} {m : Me H (View M P)} {
   token_after t none = record {
     me_is = l.after_is ∙ (λ i. (sight (one i) (sym seen_after i) phase left, none i));
     below = t.below;
+    few = t.few;
     named = named_after;
   }
 
