@@ -1,0 +1,11 @@
+pub mod ListWrites
+pub mod RoomMarks
+pub mod RoomKept
+pub mod RoomReached
+pub mod RoomCalls
+pub mod QueueKept
+pub mod QueueTurns
+pub mod QueueOwners
+pub mod QueueSteps
+pub mod QueueReached
+pub mod QueueLoads

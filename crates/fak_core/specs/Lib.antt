@@ -1,0 +1,4 @@
+pub mod Room
+pub mod RoomSchedule
+pub mod QueueMoves
+pub mod QueueSchedule

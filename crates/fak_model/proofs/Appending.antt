@@ -6,6 +6,7 @@ use Rattle.std.specs.List.{filter, flat_map}
 use Rattle.std.proofs.lemmas.List.{append-nil, map-append}
 use Rattle.std.proofs.lemmas.List.Elements.{filter-append}
 use Rattle.std.proofs.lemmas.Grind.{flat_map-append}
+use Rattle.fak_model.proofs.Deciding.{same_or_not}
 use Rattle.fak_model.specs.Histories.{Rules, seat_words, Owes, AreCalls, IsHistory}
 
 -- ---- lists by their ends
@@ -96,9 +97,6 @@ history_push {M} rules h m law may fair = record {
     | inr within ↦ law.fair p x within.0 within.1
   ];
 }
-  where
-    same_or_not : (a b : ℕ) → (a ≡ b) ⊎ (a ≢ b)
-    same_or_not a b = grind arith
 
 pub history_front : {M W C : Type 0} (rules : Rules M W C) (h : List M) (m : M) → IsHistory rules (h ++ m ∷ []) → IsHistory rules h
 history_front rules h m law = record {
@@ -108,9 +106,6 @@ history_front rules h m law = record {
   ];
   fair = λ p x q e. law.fair p x (q ++ m ∷ []) (sym (append_assoc p (x ∷ q) (m ∷ [])) ∙ ap (λ l. l ++ m ∷ []) e);
 }
-  where
-    same_or_not : (a b : ℕ) → (a ≡ b) ⊎ (a ≢ b)
-    same_or_not a b = grind arith
 
 pub last_calls : {M W C : Type 0} (rules : Rules M W C) (h : List M) (m : M) → IsHistory rules (h ++ m ∷ []) → AreCalls rules.words_of (seat_words rules (rules.seat_of m) h ++ rules.word_of m ∷ [])
 last_calls rules h m law = subst (AreCalls rules.words_of) (seat_words-own rules (rules.seat_of m) h m refl) (law.calls (rules.seat_of m))

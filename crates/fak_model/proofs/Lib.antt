@@ -1,3 +1,5 @@
+pub mod Deciding
+pub mod Reversing
 pub mod Appending
 pub mod Seats
 pub mod Leading

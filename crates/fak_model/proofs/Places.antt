@@ -18,6 +18,10 @@ pub ends_append : {W : Type 0} (leads : W → ℕ) (p : ℕ) (a b : List W) → 
 ends_append leads p [] b = refl
 ends_append leads p (w ∷ a) b = ends_append leads (leads w) a b
 
+pub ends_push : {W : Type 0} (leads : W → ℕ) (p : ℕ) (ws : List W) (w : W) → ends leads p (ws ++ w ∷ []) ≡ leads w
+ends_push leads p [] w = refl
+ends_push leads p (v ∷ ws) w = ends_push leads (leads v) ws w
+
 pub runs_append : {W : Type 0} (needs leads : W → ℕ) (p : ℕ) (a b : List W) → Runs needs leads p a → Runs needs leads (ends leads p a) b → Runs needs leads p (a ++ b)
 runs_append needs leads p [] b r s = s
 runs_append needs leads p (w ∷ a) b r s = (r.0, runs_append needs leads (leads w) a b r.1 s)

@@ -1,8 +1,8 @@
 -- A history and its past: counts, marks and items are the same from either end.
-use Rattle.std.proofs.Common.{◌≡◌, ◌≢◌, ◌⊎◌, ℕ, zero, suc, ◌+◌, ◌==◌, cond, List, [], ◌∷◌, ◌++◌, length, length-append, reverse, Option, Some, refl, ap, sym, ◌∙◌, subst, arith, rules, inl, inr, append_assoc}
+use Rattle.std.proofs.Common.{◌≡◌, ◌≢◌, ◌⊎◌, ℕ, zero, suc, ◌+◌, ◌==◌, cond, List, [], ◌∷◌, ◌++◌, length, length-append, reverse, Option, Some, refl, ap, sym, ◌∙◌, subst, arith, rules, inl, inr}
 use Rattle.std.specs.List.{All}
-use Rattle.std.proofs.lemmas.List.{append-nil, reverse-append, reverse-reverse}
-use Rattle.std.proofs.lemmas.List.Elements.{All-append, All-cons, All-head, All-tail}
+use Rattle.std.proofs.lemmas.List.{append-nil, reverse-reverse}
+use Rattle.std.proofs.lemmas.List.Elements.{All-cons, All-head, All-tail}
 use Rattle.std.proofs.lemmas.Grind.{flat_map-append}
 use Rattle.fak_model.specs.declared.queue.Kind.{Kind}
 use Rattle.fak_model.specs.declared.queue.Kind.TheVariants.{Put}
@@ -12,17 +12,13 @@ use Rattle.fak_model.specs.QueuePast.{after, stage, item_put, item_of}
 use Rattle.fak_model.specs.declared.queue.Stage.TheVariants.{Idle}
 use Rattle.fak_model.specs.Queue.{items_put, item_in, item_at, Drew}
 use Rattle.fak_model.proofs.Appending.{snoc_ind}
-use Rattle.fak_model.proofs.QueueStages.{cond_here, cond_else, stage_here, stage_else, same_or_not}
+use Rattle.fak_model.proofs.Reversing.{reverse_cons, reverse_push, reverse_split, All-reverse}
+use Rattle.fak_model.proofs.Deciding.{cond_here, cond_else, same_or_not}
+use Rattle.fak_model.proofs.QueueStages.{stage_here, stage_else}
 
 pub count_append : {A : Type 0} (w : Kind A → ℕ) (f g : List (Mark A)) → count w (f ++ g) ≡ count w f + count w g
 count_append w [] g = omega arith
 count_append w (m ∷ f) g = omega (arith, count_append w f g)
-
-pub reverse_cons : {A : Type 0} (x : A) (xs : List A) → reverse (x ∷ xs) ≡ reverse xs ++ x ∷ []
-reverse_cons x xs = reverse-append (x ∷ []) xs
-
-pub reverse_push : {A : Type 0} (xs : List A) (x : A) → reverse (xs ++ x ∷ []) ≡ x ∷ reverse xs
-reverse_push xs x = reverse-append xs (x ∷ [])
 
 pub count_reverse : {A : Type 0} (w : Kind A → ℕ) (h : List (Mark A)) → count w (reverse h) ≡ count w h
 count_reverse w [] = refl
@@ -44,16 +40,6 @@ has_reverse κ (m ∷ h) (inr e) = subst (Has κ) (sym (reverse_cons m h)) (has_
 
 pub has_back : {A : Type 0} (κ : Kind A) (h : List (Mark A)) → Has κ (reverse h) → Has κ h
 has_back κ h e = subst (Has κ) (reverse-reverse h) (has_reverse κ (reverse h) e)
-
-pub All-reverse : {A : Type 0} (P : A → Type 0) (xs : List A) → All P xs → All P (reverse xs)
-All-reverse P [] a = a
-All-reverse P (x ∷ xs) a = subst (All P) (sym (reverse_cons x xs)) (All-append P (reverse xs) (x ∷ []) (All-reverse P xs (All-tail P x xs a)) (one (All-head P x xs a)))
-  where
-    one : P x → All P (x ∷ [])
-    one p = search (rules, p)
-
-pub reverse_split : {A : Type 0} (p : List A) (m : A) (q : List A) → reverse (p ++ (m ∷ q)) ≡ reverse q ++ (m ∷ reverse p)
-reverse_split p m q = reverse-append p (m ∷ q) ∙ (ap (λ t. t ++ reverse p) (reverse-append (m ∷ []) q) ∙ append_assoc (reverse q) (m ∷ []) (reverse p))
 
 -- ---- items
 

@@ -7,7 +7,8 @@ use Rattle.fak_model.specs.Queue.{count, puts, gots, upper_raise, upper_drop, lo
 use Rattle.fak_model.specs.QueuePast.{UpperBelow, LowerPositive, after, stage, IsNext, IsFair, IsLegalPast, IsWhole, SeatsBelow}
 use Rattle.fak_model.specs.declared.queue.Stage.{Stage}
 use Rattle.fak_model.specs.declared.queue.Stage.TheVariants.{Idle, Withdrawing, Claimed, Putting, Filled, WithdrawingOut, ClaimedOut, Getting, Taken}
-use Rattle.fak_model.proofs.QueueStages.{stage_here, stage_else, same_or_not}
+use Rattle.fak_model.proofs.Deciding.{same_or_not}
+use Rattle.fak_model.proofs.QueueStages.{stage_here, stage_else}
 
 -- the sum over the first n seats
 abbrev pub tally : {A : Type 0} → (Stage A → ℕ) → (ℕ → Stage A) → ℕ → ℕ

@@ -2,7 +2,7 @@
 use Rattle.std.proofs.Common.{◌≡◌, ◌≢◌, ◌⊎◌, ℕ, ◌<◌, ◌≤◌, List, [], ◌∷◌, ◌++◌, length, length-drop, reverse, refl, ap, sym, ◌∙◌, subst, arith, inl, inr, append_assoc, pos}
 use Rattle.std.specs.List.{All}
 use Rattle.std.proofs.lemmas.Int.{ints}
-use Rattle.std.proofs.lemmas.List.{append-nil, reverse-reverse}
+use Rattle.std.proofs.lemmas.List.{reverse-reverse}
 use Rattle.fak_model.specs.declared.queue.Kind.{Kind}
 use Rattle.fak_model.specs.declared.queue.Kind.TheVariants.{Fill, ClaimOut, Got, Take}
 use Rattle.fak_model.specs.declared.queue.Mark.{Mark}
@@ -10,11 +10,13 @@ use Rattle.fak_model.specs.Histories.{seat_words, IsAtRest}
 use Rattle.fak_model.specs.Queue.{count, puts, gots, upper_raise, upper_drop, lower_raise, lower_drop, Has}
 use Rattle.fak_model.specs.QueuePast.{after, stage, MayFollow, IsLegalPast, IsWhole}
 use Rattle.fak_model.specs.declared.queue.Stage.TheVariants.{ClaimedOut}
-use Rattle.fak_model.specs.Queue.{upper_count, lower_count, items_put, contents, queue_rules, IsQueueHistory}
+use Rattle.fak_model.specs.Queue.{upper_count, lower_count, items_put, contents, words_of_call, queue_rules, IsQueueHistory}
 use Rattle.fak_model.specs.QueueOrder.{Deletion, KeepsCallOrder}
 use Rattle.fak_model.proofs.Appending.{history_prefix}
-use Rattle.fak_model.proofs.QueueWords.{ends, rest_runs, at_idle}
-use Rattle.fak_model.proofs.QueueBackwards.{count_append, count_reverse, has_reverse, items_count, All-reverse, reverse_split, last_of}
+use Rattle.fak_model.proofs.Places.{rests}
+use Rattle.fak_model.proofs.QueueWords.{needs, leads, call_runs, at_idle}
+use Rattle.fak_model.proofs.QueueBackwards.{count_append, count_reverse, has_reverse, items_count, last_of}
+use Rattle.fak_model.proofs.Reversing.{All-reverse, reverse_split}
 use Rattle.fak_model.proofs.QueueLiteral.{place_of, to_past}
 use Rattle.fak_model.proofs.QueueCounts.{contents_bounded, whole_counts}
 use Rattle.fak_model.proofs.QueueTickets.{fill_below, take_below}
@@ -28,7 +30,7 @@ contents_fit size h law =
 
 rest_idle : {T : Type 0} (size : ℕ) (h : List (Mark T)) → IsAtRest (queue_rules size) h → IsWhole (reverse h)
 rest_idle size h rest s = at_idle (stage (reverse h) s)
-    (sym (rest_runs (seat_words (queue_rules size) s h) (rest s)) ∙ (ap (ends 0) (append-nil (seat_words (queue_rules size) s h)) ∙ sym (place_of size s h)))
+    (sym (rests needs leads words_of_call call_runs (seat_words (queue_rules size) s h) (rest s)).1 ∙ sym (place_of size s h))
 
 pub at_rest : {T : Type 0} (size : ℕ) (h : List (Mark T)) → IsQueueHistory size h → IsAtRest (queue_rules size) h → (upper_count h ≡ pos (length (contents h))) × (lower_count h ≡ pos (length (contents h)))
 at_rest size h law rest =

@@ -10,19 +10,22 @@ use Rattle.fak_model.specs.QueuePast.{after, stage, item_of, IsNext, IsFair, IsO
 use Rattle.fak_model.specs.declared.queue.Stage.TheVariants.{Putting, Getting}
 use Rattle.fak_model.specs.Queue.{word, words_of_call, IsFairAnswer, IsFirstOut, items_put, item_at, Drew, BearsTicket, HasItsCell, IsFairMark, queue_rules, IsQueueHistory}
 use Rattle.fak_model.proofs.Appending.{snoc_ind, seat_words-own, seat_words-other, history_none, history_push, history_front, last_calls, last_fair}
-use Rattle.fak_model.proofs.QueueStages.{stage_here, stage_else, same_or_not, after_putting, after_getting}
-use Rattle.fak_model.proofs.QueueWords.{needs, ends, ends_push, may_come, place, place_after, at_idle, at_over_in, at_claimed_in, at_filled, at_over_out, at_claimed_out, at_taken, owed_in, owed_after}
-use Rattle.fak_model.proofs.QueueBackwards.{count_reverse, reverse_push, has_reverse, has_back, item_same, last_of, drew, stage_drew}
+use Rattle.fak_model.proofs.Deciding.{same_or_not}
+use Rattle.fak_model.proofs.QueueStages.{stage_here, stage_else, after_putting, after_getting}
+use Rattle.fak_model.proofs.Places.{ends, ends_push, may_come}
+use Rattle.fak_model.proofs.QueueWords.{needs, leads, call_runs, place, place_after, at_idle, at_over_in, at_claimed_in, at_filled, at_over_out, at_claimed_out, at_taken, owed_in, owed_after}
+use Rattle.fak_model.proofs.Reversing.{reverse_push}
+use Rattle.fak_model.proofs.QueueBackwards.{count_reverse, has_reverse, has_back, item_same, last_of, drew, stage_drew}
 
 -- ---- what one more mark must meet, either way
 
 -- a seat stands where its words end
-pub place_of : {T : Type 0} (size s : ℕ) (h : List (Mark T)) → place (stage (reverse h) s) ≡ ends 0 (seat_words (queue_rules size) s h)
-place_of {T} size s = snoc_ind (λ (h : List (Mark T)). place (stage (reverse h) s) ≡ ends 0 (seat_words (queue_rules size) s h)) refl (λ h m before.
+pub place_of : {T : Type 0} (size s : ℕ) (h : List (Mark T)) → place (stage (reverse h) s) ≡ ends leads 0 (seat_words (queue_rules size) s h)
+place_of {T} size s = snoc_ind (λ (h : List (Mark T)). place (stage (reverse h) s) ≡ ends leads 0 (seat_words (queue_rules size) s h)) refl (λ h m before.
     ap (λ p. place (stage p s)) (reverse_push h m) ∙ elim (same_or_not s m.seat) [
       | inl own ↦ (ap (λ t. place (stage (m ∷ reverse h) t)) own ∙ (ap place (stage_here m (reverse h)) ∙ (place_after (reverse h) m.kind
-          ∙ (sym (ends_push 0 (seat_words (queue_rules size) s h) (word m.kind)) ∙ ap (ends 0) (sym (seat_words-own (queue_rules size) s h m (sym own)))))))
-      | inr other ↦ (ap place (stage_else m (reverse h) s other) ∙ (before ∙ ap (ends 0) (sym (seat_words-other (queue_rules size) s h m (λ e. other (sym e))))))
+          ∙ (sym (ends_push leads 0 (seat_words (queue_rules size) s h) (word m.kind)) ∙ ap (ends leads 0) (sym (seat_words-own (queue_rules size) s h m (sym own)))))))
+      | inr other ↦ (ap place (stage_else m (reverse h) s other) ∙ (before ∙ ap (ends leads 0) (sym (seat_words-other (queue_rules size) s h m (λ e. other (sym e))))))
     ])
 
 next_of : {T : Type 0} (h : List (Mark T)) (s : ℕ) (κ : Kind T) → needs (word κ) ≡ place (stage (reverse h) s) → BearsTicket h s κ → IsNext (stage (reverse h) s) κ
@@ -102,7 +105,7 @@ pub follows : {T : Type 0} (size : ℕ) (h : List (Mark T)) (m : Mark T) → IsQ
 follows size h m law =
     let fair : IsFairMark size h m = last_fair (queue_rules size) h m law in
     let at : needs (word m.kind) ≡ place (stage (reverse h) m.seat) =
-    may_come (seat_words (queue_rules size) m.seat h) (word m.kind) (last_calls (queue_rules size) h m law) ∙ sym (place_of size m.seat h) in
+    (may_come needs leads words_of_call call_runs (seat_words (queue_rules size) m.seat h) (word m.kind) (last_calls (queue_rules size) h m law)).1 ∙ sym (place_of size m.seat h) in
     record {
       next = next_of h m.seat m.kind at fair.ticket;
       fair = fair_of size h m.kind fair.answer;

@@ -1,27 +1,18 @@
 -- The stage of each seat after one more mark.
-use Rattle.std.proofs.Common.{◌≡◌, ◌≢◌, ◌⊎◌, ℕ, ◌==◌, cond, List, ◌∷◌, refl, sym, ap, ◌∙◌, inl, inr, arith}
-use Rattle.std.proofs.lemmas.Bool.Decides.{nat_tests}
+use Rattle.std.proofs.Common.{◌≡◌, ◌≢◌, ◌⊎◌, ℕ, List, ◌∷◌, refl, sym, ap, ◌∙◌, inl, inr}
 use Rattle.fak_model.specs.declared.queue.Kind.{Kind}
 use Rattle.fak_model.specs.declared.queue.Kind.TheVariants.{Put, Got}
 use Rattle.fak_model.specs.declared.queue.Mark.{Mark}
 use Rattle.fak_model.specs.Queue.{count, puts, gots}
 use Rattle.fak_model.specs.QueuePast.{after, stage}
+use Rattle.fak_model.proofs.Deciding.{same_or_not, cond_here, cond_else}
 use Rattle.fak_model.specs.declared.queue.Stage.TheVariants.{Putting, Getting}
-
-pub cond_here : {B : Type 0} (s : ℕ) (x y : B) → cond (s == s) x y ≡ x
-cond_here s x y = grind (arith, nat_tests)
-
-pub cond_else : {B : Type 0} (s t : ℕ) (x y : B) → s ≢ t → cond (s == t) x y ≡ y
-cond_else s t x y ne = grind (arith, nat_tests)
 
 pub stage_here : {A : Type 0} (m : Mark A) (h : List (Mark A)) → stage (m ∷ h) m.seat ≡ after h m.kind
 stage_here m h = cond_here m.seat (after h m.kind) (stage h m.seat)
 
 pub stage_else : {A : Type 0} (m : Mark A) (h : List (Mark A)) (s : ℕ) → s ≢ m.seat → stage (m ∷ h) s ≡ stage h s
 stage_else m h s ne = cond_else s m.seat (after h m.kind) (stage h s) ne
-
-pub same_or_not : (a b : ℕ) → (a ≡ b) ⊎ (a ≢ b)
-same_or_not a b = grind arith
 
 pub after_putting : {A : Type 0} (h : List (Mark A)) (κ : Kind A) (k : ℕ) (x : A) → after h κ ≡ Putting k x → (κ ≡ Put x) × (k ≡ count puts h)
 after_putting h (Put y) k x e = (cc, cc)

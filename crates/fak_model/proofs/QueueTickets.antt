@@ -6,7 +6,8 @@ use Rattle.fak_model.specs.declared.queue.Mark.{Mark}
 use Rattle.fak_model.specs.Queue.{count, puts, gots, Has}
 use Rattle.fak_model.specs.QueuePast.{stage, item_put, item_of, MayFollow, IsLegalPast}
 use Rattle.fak_model.specs.declared.queue.Stage.TheVariants.{Putting, Getting}
-use Rattle.fak_model.proofs.QueueStages.{cond_here, cond_else, same_or_not, putting_back, getting_back}
+use Rattle.fak_model.proofs.Deciding.{cond_here, cond_else, same_or_not}
+use Rattle.fak_model.proofs.QueueStages.{putting_back, getting_back}
 
 -- ---- items
 

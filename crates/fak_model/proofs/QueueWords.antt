@@ -1,15 +1,15 @@
 -- The order of words within the calls of a seat: each word has one place in a call.
-use Rattle.std.proofs.Common.{◌≡◌, ℕ, List, [], ◌∷◌, ◌++◌, refl, ap, sym, ◌∙◌, subst, append_assoc}
-use Rattle.std.specs.List.{flat_map}
+use Rattle.std.proofs.Common.{◌≡◌, ℕ, List, [], ◌∷◌, ◌++◌, refl, subst}
 use Rattle.fak_model.specs.declared.queue.Kind.{Kind}
 use Rattle.fak_model.specs.declared.queue.Kind.TheVariants.{ClaimIn, OverIn, BackIn, NoRoom, Put, Fill, EndIn, ClaimOut, OverOut, BackOut, NoItem, Got, Take, EndOut, Close, Closed, LateIn}
-use Rattle.fak_model.specs.Histories.{Owes, AreCalls}
+use Rattle.fak_model.specs.Histories.{Owes}
 use Rattle.fak_model.specs.Queue.{Word, word, WholeCall, NotIn, WithdrawnIn, Inserted, NotOut, WithdrawnOut, Deleted, Shut, ClosedIn, WithdrawnLate, words_of_call}
 use Rattle.fak_model.specs.QueuePast.{after, IsNext}
 use Rattle.fak_model.specs.declared.queue.Stage.{Stage}
 use Rattle.fak_model.specs.declared.queue.Stage.TheVariants.{Idle, Withdrawing, Claimed, Putting, Filled, WithdrawingOut, ClaimedOut, Getting, Taken}
 use Rattle.fak_model.specs.declared.queue.Mark.{Mark}
 use Rattle.fak_model.proofs.Appending.{owed_comes, call_begins}
+use Rattle.fak_model.proofs.Places.{CallsRun}
 
 -- the place in a call that a word needs, and the one that it leads to
 abbrev pub needs : Word → ℕ
@@ -35,27 +35,8 @@ leads (Got x) = 7
 leads (Take k) = 8
 leads _ = 0
 
-abbrev pub ends : ℕ → List Word → ℕ
-ends p [] = p
-ends p (w ∷ ws) = ends (leads w) ws
-
-abbrev pub Runs : ℕ → List Word → Type 0
-Runs p [] = Unit {0}
-Runs p (w ∷ ws) = (needs w ≡ p) × Runs (leads w) ws
-
-pub ends_push : (p : ℕ) (ws : List Word) (w : Word) → ends p (ws ++ w ∷ []) ≡ leads w
-ends_push p [] w = refl
-ends_push p (v ∷ ws) w = ends_push (leads v) ws w
-
-runs_append : (p : ℕ) (a b : List Word) → Runs p a → Runs (ends p a) b → Runs p (a ++ b)
-runs_append p [] b r s = s
-runs_append p (w ∷ a) b r s = (r.0, runs_append (leads w) a b r.1 s)
-
-runs_within : (p : ℕ) (a b : List Word) (w : Word) → Runs p (a ++ w ∷ b) → needs w ≡ ends p a
-runs_within p [] b w r = r.0
-runs_within p (v ∷ a) b w r = runs_within (leads v) a b w r.1
-
-call_runs : (c : WholeCall) → Runs 0 (words_of_call c) × (ends 0 (words_of_call c) ≡ 0)
+-- each call runs from rest to rest
+pub call_runs : CallsRun needs leads words_of_call
 call_runs NotIn = ((refl, tt), refl)
 call_runs WithdrawnIn = ((refl, (refl, tt)), refl)
 call_runs Inserted = ((refl, (refl, (refl, (refl, tt)))), refl)
@@ -65,26 +46,6 @@ call_runs Deleted = ((refl, (refl, (refl, (refl, tt)))), refl)
 call_runs Shut = ((refl, tt), refl)
 call_runs ClosedIn = ((refl, tt), refl)
 call_runs WithdrawnLate = ((refl, (refl, tt)), refl)
-
-calls_run : (calls : List WholeCall) → Runs 0 (flat_map words_of_call calls)
-calls_run [] = tt
-calls_run (c ∷ cs) = runs_append 0 (words_of_call c) (flat_map words_of_call cs) (call_runs c).0 (subst (λ p. Runs p (flat_map words_of_call cs)) (sym (call_runs c).1) (calls_run cs))
-
--- a word that may come stands at its place
-pub may_come : (ws : List Word) (w : Word) → AreCalls words_of_call (ws ++ w ∷ []) → needs w ≡ ends 0 ws
-may_come ws w c = runs_within 0 ws c.0 w (subst (Runs 0) (sym c.1.1 ∙ append_assoc ws (w ∷ []) c.0) (calls_run c.1.0))
-
--- what is at its place when nothing is owed
-pub rest_runs : (ws : List Word) → Owes words_of_call ws [] → ends 0 (ws ++ []) ≡ 0
-rest_runs ws o = subst (λ l. ends 0 l ≡ 0) (sym o.1) (calls_end o.0)
-  where
-    ends_append : (p : ℕ) (a b : List Word) → ends p (a ++ b) ≡ ends (ends p a) b
-    ends_append p [] b = refl
-    ends_append p (w ∷ a) b = ends_append (leads w) a b
-
-    calls_end : (calls : List WholeCall) → ends 0 (flat_map words_of_call calls) ≡ 0
-    calls_end [] = refl
-    calls_end (c ∷ cs) = ends_append 0 (words_of_call c) (flat_map words_of_call cs) ∙ (ap (λ p. ends p (flat_map words_of_call cs)) (call_runs c).1 ∙ calls_end cs)
 
 -- ---- the same of stages
 

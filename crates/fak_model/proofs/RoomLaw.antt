@@ -11,7 +11,8 @@ use Rattle.fak_model.specs.declared.room.RoomMark.{RoomMark}
 use Rattle.fak_model.specs.Histories.{seat_words, IsAtRest, AreNamed, sum_below}
 use Rattle.fak_model.specs.Room.{WholeCall, Granted, Refused, Withdrawn, Released, kinds_of_call, kind_of, total, up_amount, over_amount, back_amount, release_amount, amount_held, IsFair, value, room_rules, IsRoomHistory}
 use Rattle.fak_model.proofs.Appending.{snoc_ind, seat_words-own, seat_words-other, history_front, last_fair}
-use Rattle.fak_model.proofs.Leading.{CallsLead, history_leads, rest_even, total_push, sum_one, sum_none, same_or_not}
+use Rattle.fak_model.proofs.Leading.{CallsLead, history_leads, rest_even, total_push, sum_one, sum_none}
+use Rattle.fak_model.proofs.Deciding.{same_or_not}
 
 pub backs_after : CallsLead kinds_of_call back_amount over_amount
 backs_after (Granted d) a b le = search arith
@@ -76,7 +77,8 @@ held_fits bound seats =
 pub room_fits : (bound seats : ℕ) (h : List RoomMark) → IsRoomHistory bound h → AreNamed (room_rules bound) seats h → sum_below (λ k. amount_held k h) seats ≤ bound
 room_fits bound seats h law named = (held_fits bound seats h law named).1
 
-call_even : (c : WholeCall) → sum_by over_amount (kinds_of_call c) ≡ sum_by back_amount (kinds_of_call c)
+-- an Over that is withdrawn is even with its Back
+pub call_even : (c : WholeCall) → sum_by over_amount (kinds_of_call c) ≡ sum_by back_amount (kinds_of_call c)
 call_even (Granted d) = refl
 call_even (Refused d) = refl
 call_even (Withdrawn d) = omega arith

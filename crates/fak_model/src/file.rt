@@ -32,3 +32,10 @@ pub struct FileMark {
     pub seat: u64,
     pub kind: FileKind,
 }
+
+/// An entry of a file table: a file, and how often it is open. Both are 0 where the entry is free.
+#[derive(Clone, Copy, Debug, PartialEq, Eq)]
+pub struct FileEntry {
+    pub inode: u64,
+    pub uses: u64,
+}

@@ -13,7 +13,7 @@ pub mod view;
 
 pub use cell::{cell_of, round_of};
 pub use credit::{CreditKind, CreditMark};
-pub use file::{FileField, FileKind, FileMark};
+pub use file::{FileEntry, FileField, FileKind, FileMark};
 pub use name_set::NameSet;
 pub use queue::{Kind, Mark, Stage};
 pub use room::{RoomKind, RoomMark};

@@ -1,0 +1,4 @@
+pub mod Json
+pub mod Elements
+pub mod ReadRange
+pub mod StepRange

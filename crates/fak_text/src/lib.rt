@@ -1,0 +1,19 @@
+//! Readers of schedules, histories and scripts, and the texts of lines and journals.
+#![tactic(auto)]
+
+mod fault;
+mod history;
+mod names;
+mod reading;
+mod schedule;
+mod script;
+mod steps;
+mod text;
+
+pub use fault::{Field, TextFault};
+pub use history::History;
+pub use reading::{read_history, read_schedule, read_script};
+pub use schedule::{Act, Event, Object, Schedule};
+pub use script::Script;
+pub use steps::{Note, Step};
+pub use text::{line_text, refused_text};

@@ -1,0 +1,5 @@
+//! The texts of lines and journals.
+
+mod line;
+
+pub use line::{line_text, refused_text};
