@@ -5,6 +5,7 @@ use Rattle.std.proofs.lemmas.List.{take-append-le, take_min, length-take, length
 use Rattle.std.proofs.lemmas.Bool.{ltb-true, ltb-false, lt-ltb, le-ltb}
 use Rattle.std.proofs.Math.Dec.{ltb}
 use Rattle.std.specs.Io.KnownBytes.{Consumes, Appends, IsAtEnd}
+use Rattle.fak_text.specs.HistoryText.{history_from}
 use Rattle.fak_text.specs.ScheduleText.{schedule_from}
 use Rattle.fak_text.specs.Values.{input_in}
 use Rattle.fak.specs.declared.command.Command.{Command}
@@ -12,7 +13,7 @@ use Rattle.fak.specs.declared.command.Command.TheVariants.{Replay, Check, Run}
 use Rattle.fak.specs.declared.fault.MainFault.{MainFault}
 use Rattle.fak.specs.declared.fault.MainFault.TheVariants as faults
 use Rattle.fak_text.specs.Gives.{◌>>=◌}
-use Rattle.fak.specs.Answers.{Reply, FailsBy, IsReply, replay_reply, most_kept}
+use Rattle.fak.specs.Answers.{Reply, FailsBy, IsCheckReply, IsReply, replay_reply, most_kept}
 
 cut : (m : ℕ) (input chunk kept : List ℕ) → kept ≡ take m input → (b : Bool) → ltb m (length input) ≡ b
     → kept ++ take (min (m - min (length kept) m) (length chunk)) chunk ≡ take m (input ++ chunk)
@@ -78,7 +79,7 @@ front_read input false h =
 
 -- the front that is kept has the replies of the whole
 of_front : (command : Command) (input : List ℕ) (reply : Result Reply MainFault) → IsReply command (take most_kept input) reply → IsReply command input reply
-of_front Check input reply is = is
+of_front Check input reply is = subst (λ value. IsCheckReply (value >>= history_from) reply) (front_read input (ltb 1048576 (length input)) refl) is
 of_front (Run n) input reply is = is
 of_front Replay input reply is = subst (λ value. reply ≡ replay_reply (value >>= schedule_from)) (front_read input (ltb 1048576 (length input)) refl) is
 

@@ -1,5 +1,8 @@
 -- What the program answers to an input.
-use Rattle.std.specs.Prelude.{◌≡◌, ℕ, List, Result, Ok, Err}
+use Rattle.std.specs.Prelude.{◌≡◌, ◌⊎◌, ℕ, ◌++◌, ◌∷◌, [], codes, decimal, List, Result, Ok, Err}
+use Rattle.fak_model.specs.Checker.{FirstFault}
+use Rattle.fak_model.specs.Queue.{IsQueueHistory}
+use Rattle.fak_text.specs.HistoryText.{HistoryOf, history_in}
 use Rattle.fak_text.specs.declared.fault.TextFault.{TextFault}
 use Rattle.fak.specs.declared.answer.Answer.{Answer}
 use Rattle.fak.specs.declared.command.Command.{Command}
@@ -22,10 +25,21 @@ abbrev pub replay_reply : Result ScheduleOf TextFault → Result Reply MainFault
 replay_reply (Ok schedule) = Ok (0, replay_of schedule)
 replay_reply (Err fault) = Err (fault_of fault)
 
+-- the verdict on a history: it is legal, or this is its first fault
+abbrev pub IsVerdict : HistoryOf → Result Reply MainFault → Type 0
+IsVerdict history reply =
+    (IsQueueHistory history.size history.marks × (reply ≡ Ok (0, codes "legal" ++ 10 ∷ [])))
+    ⊎ ((i : ℕ) × FirstFault history.size history.marks i × (reply ≡ Ok (3, codes "fault at " ++ decimal i ++ 10 ∷ [])))
+
+-- the reply of `check` to what was read
+abbrev pub IsCheckReply : Result HistoryOf TextFault → Result Reply MainFault → Type 0
+IsCheckReply (Ok history) reply = IsVerdict history reply
+IsCheckReply (Err fault) reply = reply ≡ Err (fault_of fault)
+
 -- the reply to a command on an input
 abbrev pub IsReply : Command → List ℕ → Result Reply MainFault → Type 0
 IsReply Replay input reply = reply ≡ replay_reply (schedule_in input)
-IsReply Check input reply = reply ≡ Err Usage
+IsReply Check input reply = IsCheckReply (history_in input) reply
 IsReply (Run n) input reply = reply ≡ Err Usage
 
 -- the fault is the one that the replies have, unless memory or a device failed

@@ -2,6 +2,7 @@
 #![tactic(auto)]
 
 mod answer;
+mod checking;
 mod command;
 mod fault;
 mod machine;
@@ -12,6 +13,7 @@ mod serving;
 mod stepping;
 
 pub use answer::Answer;
+pub use checking::check;
 pub use command::{Command, command_of};
 pub use fault::MainFault;
 pub use replaying::replay;

@@ -6,6 +6,7 @@ ghost use Rattle.fak.specs.Answers.{FailsBy, GivesAnswer, IsReply, most_kept};
 ghost use Rattle.fak.specs.declared.fault.MainFault.TheVariants as faults;
 
 use crate::answer::Answer;
+use crate::checking::check;
 use crate::command::Command;
 use crate::fault::MainFault;
 use crate::replaying::replay;
@@ -54,7 +55,8 @@ fn answer_of(alloc: Global, command: Command, input: &[u8]) -> Result<Answer, Ma
 {
     match command {
         Command::Replay => replay(alloc, input),
-        Command::Check | Command::Run(_) => Err(MainFault::Usage),
+        Command::Check => check(alloc, input),
+        Command::Run(_) => Err(MainFault::Usage),
     }
 }
 
