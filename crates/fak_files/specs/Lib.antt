@@ -1,0 +1,6 @@
+pub mod Phases
+pub mod Running
+pub mod Versions
+pub mod Calls
+pub mod Opening
+pub mod Closing
