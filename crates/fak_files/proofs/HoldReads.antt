@@ -42,10 +42,10 @@ alone k seats h law named s t low below ne all = omega (arith, files_fit k seats
 
 -- ---- what a mark does to a seat's hold
 
-held_own : (k : ℕ) (h : List FileMark) (m : FileMark) (s : ℕ) → m.seat ≡ s → amount_held s (h ++ m ∷ []) ≡ hold_after (amount_held s h) m.kind
+pub held_own : (k : ℕ) (h : List FileMark) (m : FileMark) (s : ℕ) → m.seat ≡ s → amount_held s (h ++ m ∷ []) ≡ hold_after (amount_held s h) m.kind
 held_own k h m s own = ap (hold_from 0) (seat_words-own (file_rules k) s h m own) ∙ hold_push 0 (seat_words (file_rules k) s h) m.kind
 
-held_other : (k : ℕ) (h : List FileMark) (m : FileMark) (s : ℕ) → m.seat ≢ s → amount_held s (h ++ m ∷ []) ≡ amount_held s h
+pub held_other : (k : ℕ) (h : List FileMark) (m : FileMark) (s : ℕ) → m.seat ≢ s → amount_held s (h ++ m ∷ []) ≡ amount_held s h
 held_other k h m s other = ap (hold_from 0) (seat_words-other (file_rules k) s h m other)
 
 -- a mark that is no Take leaves a hold as it is, or ends it

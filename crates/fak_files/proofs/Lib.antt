@@ -8,3 +8,4 @@ pub mod HoldReads
 pub mod Opening
 pub mod Ending
 pub mod Waiting
+pub mod HoldLaws

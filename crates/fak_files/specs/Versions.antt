@@ -1,9 +1,9 @@
 -- What a seat reads in a hold: the history up to its Take, and what it set since. Histories have the oldest mark first.
-use Rattle.std.specs.Prelude.{ℕ, ◌==◌, ◌&&◌, Bool, true, false, cond, List, [], ◌∷◌, reverse}
+use Rattle.std.specs.Prelude.{ℕ, ◌≡◌, ◌≢◌, All, ◌==◌, ◌&&◌, Bool, true, false, cond, List, [], ◌∷◌, reverse}
 use Rattle.fak_model.specs.declared.file.FileEntry.{FileEntry}
 use Rattle.fak_model.specs.declared.file.FileField.TheVariants.{Inode, Uses}
 use Rattle.fak_model.specs.declared.file.FileKind.{FileKind}
-use Rattle.fak_model.specs.declared.file.FileKind.TheVariants.{Take}
+use Rattle.fak_model.specs.declared.file.FileKind.TheVariants.{Take, Set, Give}
 use Rattle.fak_model.specs.declared.file.FileMark.{FileMark}
 use Rattle.fak_model.specs.File.{field}
 
@@ -14,6 +14,14 @@ entry_of h entry = record { inode = field h entry Inode; uses = field h entry Us
 abbrev pub is_take : FileKind → Bool
 is_take (Take n) = true
 is_take _ = false
+
+abbrev pub is_set : FileKind → Bool
+is_set (Set i f v) = true
+is_set _ = false
+
+-- none of the marks is a Give of this name
+abbrev pub KeepsHold : ℕ → List FileMark → Type 0
+KeepsHold name h = All (λ (m : FileMark). m.seat ≡ name → m.kind ≢ Give) h
 
 abbrev pub is_take_of : ℕ → FileMark → Bool
 is_take_of name m = (m.seat == name) && is_take m.kind

@@ -28,9 +28,9 @@ pub(crate) fn claim<J: FileCall>(
         (λ _. Makes J.table.seats J.name (Take (amount_of J.table.seats J.access) ∷ []) (Holding J.access) token.old.me token.new.me)
         (λ count. Misses J.table.seats J.name (amount_of J.table.seats J.access) token.old.me token.new.me count) }
 {
-    let found = test::<J>(words, token, amount, access);
-    if found < BIAS + amount {
-        return Err(count_of(found));
+    let tested = test::<J>(words, token, amount, access);
+    if tested < BIAS + amount {
+        return Err(count_of(tested));
     }
     let found = take::<J>(words, token, amount, access);
     if found < BIAS + amount {

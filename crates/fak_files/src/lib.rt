@@ -13,6 +13,8 @@ pub mod seat;
 mod step;
 pub mod table;
 pub mod tally;
+#[cfg(test)]
+mod tests;
 mod wait;
 
 pub use fak_model::{FileEntry, FileField};

@@ -38,8 +38,8 @@ impl FileRest {
         requires { i < length self.now }
         ensures { slice_get self.now i ≡ Some result }
     {
-        let entries = &self.entries;
-        entries[i as usize]
+        let row = &self.entries;
+        row[i as usize]
     }
 }
 

@@ -1,9 +1,10 @@
 //! A file table that threads share.
 
-ghost use Rattle.std.specs.Prelude.{◌≡◌, ◌≢◌, ◌<◌, MatchResult};
+ghost use Rattle.std.specs.Prelude.{◌≡◌, ◌≢◌, ◌<◌, MatchResult, is_ok, if◌then◌else◌};
 ghost use Rattle.fak_files.specs.Calls.{IsGranted, IsRefused, IsGot, IsSet, IsEnded};
+ghost use Rattle.fak_files.specs.Phases.{hold_for};
 ghost use Rattle.fak_files.specs.declared.phase.Access.TheVariants.{Read, Write};
-ghost use Rattle.fak_files.specs.declared.phase.Hold.TheVariants.{Nothing, Writing};
+ghost use Rattle.fak_files.specs.declared.phase.Hold.TheVariants.{Nothing, Reading, Writing};
 
 use crate::claim::claim;
 use crate::fault::FileFault;
@@ -41,6 +42,7 @@ impl FileTable {
         requires table { seat.old.seat.object ≡ self.now.object }
         requires free { seat.old.hold ≡ Nothing }
         ensures call { MatchResult result (λ _. IsGranted access seat.old seat.new) (λ fault. IsRefused access seat.old seat.new fault) }
+        ensures hold { seat.new.hold ≡ (if is_ok result then hold_for access else Nothing) }
         ensures table { seat.new.seat.object ≡ self.now.object }
     {
         if seat.left == 0 {
@@ -65,6 +67,7 @@ impl FileTable {
         requires table { seat.old.seat.object ≡ self.now.object }
         requires free { seat.old.hold ≡ Nothing }
         ensures call { MatchResult result (λ _. IsGranted Read seat.old seat.new) (λ fault. IsRefused Read seat.old seat.new fault) }
+        ensures hold { seat.new.hold ≡ (if is_ok result then Reading else Nothing) }
         ensures table { seat.new.seat.object ≡ self.now.object }
     {
         self.try_hold(seat, Access::Read)
@@ -78,6 +81,7 @@ impl FileTable {
         requires table { seat.old.seat.object ≡ self.now.object }
         requires free { seat.old.hold ≡ Nothing }
         ensures call { MatchResult result (λ _. IsGranted Write seat.old seat.new) (λ fault. IsRefused Write seat.old seat.new fault) }
+        ensures hold { seat.new.hold ≡ (if is_ok result then Writing else Nothing) }
         ensures table { seat.new.seat.object ≡ self.now.object }
     {
         self.try_hold(seat, Access::Write)
@@ -89,6 +93,7 @@ impl FileTable {
         requires held { seat.old.hold ≢ Nothing }
         requires entry { i < self.now.entries }
         ensures call { IsGot i seat.old seat.new result }
+        ensures hold { seat.new.hold ≡ seat.old.hold }
         ensures table { seat.new.seat.object ≡ self.now.object }
     {
         let access = seat.hold.access();
@@ -104,6 +109,7 @@ impl FileTable {
         requires held { seat.old.hold ≡ Writing }
         requires entry { i < self.now.entries }
         ensures call { IsSet i field to seat.old seat.new }
+        ensures hold { seat.new.hold ≡ Writing }
         ensures table { seat.new.seat.object ≡ self.now.object }
     {
         set_field::<Brand>(&self.table.shared, &mut seat.token, i, field, to);
@@ -114,6 +120,7 @@ impl FileTable {
         requires table { seat.old.seat.object ≡ self.now.object }
         requires held { seat.old.hold ≢ Nothing }
         ensures call { IsEnded seat.old seat.new }
+        ensures hold { seat.new.hold ≡ Nothing }
         ensures table { seat.new.seat.object ≡ self.now.object }
     {
         let access = seat.hold.access();

@@ -1,9 +1,10 @@
 //! Holds that are tried again while others hold.
 
-ghost use Rattle.std.specs.Prelude.{◌≡◌, MatchResult};
+ghost use Rattle.std.specs.Prelude.{◌≡◌, MatchResult, is_ok, if◌then◌else◌};
 ghost use Rattle.fak_files.specs.Calls.{IsWaitedFor, IsWorn};
+ghost use Rattle.fak_files.specs.Phases.{hold_for};
 ghost use Rattle.fak_files.specs.declared.phase.Access.TheVariants.{Read, Write};
-ghost use Rattle.fak_files.specs.declared.phase.Hold.TheVariants.{Nothing};
+ghost use Rattle.fak_files.specs.declared.phase.Hold.TheVariants.{Nothing, Reading, Writing};
 
 use crate::fault::{FileFault, Worn};
 use crate::phase::Access;
@@ -18,6 +19,7 @@ impl FileTable {
         requires table { seat.old.seat.object ≡ self.now.object }
         requires free { seat.old.hold ≡ Nothing }
         ensures call { MatchResult result (λ _. IsWaitedFor access seat.old seat.new) (λ _. IsWorn seat.old seat.new) }
+        ensures hold { seat.new.hold ≡ (if is_ok result then hold_for access else Nothing) }
         ensures table { seat.new.seat.object ≡ self.now.object }
     {
         let backoff = Backoff::new();
@@ -36,6 +38,7 @@ impl FileTable {
         requires table { seat.old.seat.object ≡ self.now.object }
         requires free { seat.old.hold ≡ Nothing }
         ensures call { MatchResult result (λ _. IsWaitedFor Read seat.old seat.new) (λ _. IsWorn seat.old seat.new) }
+        ensures hold { seat.new.hold ≡ (if is_ok result then Reading else Nothing) }
         ensures table { seat.new.seat.object ≡ self.now.object }
     {
         self.wait_hold(rt, seat, Access::Read)
@@ -46,6 +49,7 @@ impl FileTable {
         requires table { seat.old.seat.object ≡ self.now.object }
         requires free { seat.old.hold ≡ Nothing }
         ensures call { MatchResult result (λ _. IsWaitedFor Write seat.old seat.new) (λ _. IsWorn seat.old seat.new) }
+        ensures hold { seat.new.hold ≡ (if is_ok result then Writing else Nothing) }
         ensures table { seat.new.seat.object ≡ self.now.object }
     {
         self.wait_hold(rt, seat, Access::Write)
