@@ -16,7 +16,7 @@ use Rattle.fak_model.proofs.Deciding.{same_or_not}
 use Rattle.fak_model.proofs.Appending.{history_prefix, last_fair}
 use Rattle.fak_model.proofs.Reversing.{reverse_push}
 use Rattle.fak_model.proofs.RunningCalls.{marks_of-reverse}
-use Rattle.fak_files.specs.Versions.{is_take, is_set, KeepsHold, back_from_take, own_since_take, through_take, set_since}
+use Rattle.fak_files.specs.Versions.{is_take, is_set, KeepsHold, back_from_take, own_since_take, prefix_through_take, marks_since_take}
 use Rattle.fak_files.proofs.HoldReads.{alone, held_own, held_other, reads, back_from_take-foreign, own_since_take-foreign}
 
 -- ---- between a Take and its Give
@@ -98,7 +98,7 @@ module _ (k : ℕ) (some : 1 ≤ k) where
 
 -- ---- what is read in a hold
 
-pub hold_reads : (k seats : ℕ) (h : List FileMark) → IsFileHistory k h → AreNamed (file_rules k) seats h → (name : ℕ) → name < seats → 0 < amount_held name h → (i : ℕ) (f : FileField) → field h i f ≡ field (through_take name h ++ set_since name h) i f
+pub hold_reads : (k seats : ℕ) (h : List FileMark) → IsFileHistory k h → AreNamed (file_rules k) seats h → (name : ℕ) → name < seats → 0 < amount_held name h → (i : ℕ) (f : FileField) → field h i f ≡ field (prefix_through_take name h ++ marks_since_take name h) i f
 hold_reads k seats h law named name low held i f =
     let back : reverse (reverse h) ≡ h = reverse-reverse h in
     let r = reads k seats name low i f (reverse h) (subst (IsFileHistory k) (sym back) law) (subst (AreNamed (file_rules k) seats) (sym back) named) (subst (λ (x : List FileMark). 0 < amount_held name x) (sym back) held) in
@@ -114,7 +114,7 @@ foreign_none name (m ∷ h) is = by (m.seat == name) refl (foreign_none name h)
     by false a rest = ((λ i. elim i [ inl e ↦ grind (arith, nat_tests, a, e) | inr z ↦ absurd z ]), rest (rw a at is))
 
 -- what a seat reads stays while it leaves no mark
-pub reads_stay : (name : ℕ) (h rest : List FileMark) → marks_of seat_of name rest ≡ [] → (through_take name (h ++ rest) ≡ through_take name h) × (set_since name (h ++ rest) ≡ set_since name h)
+pub reads_stay : (name : ℕ) (h rest : List FileMark) → marks_of seat_of name rest ≡ [] → (prefix_through_take name (h ++ rest) ≡ prefix_through_take name h) × (marks_since_take name (h ++ rest) ≡ marks_since_take name h)
 reads_stay name h rest none =
     let far : Foreign seat_of (name ∷ []) (reverse rest) = foreign_none name (reverse rest) (marks_of-reverse seat_of name rest ∙ ap reverse none) in
     let is : reverse (h ++ rest) ≡ reverse rest ++ reverse h = reverse-append h rest in (
@@ -123,7 +123,7 @@ reads_stay name h rest none =
     )
 
 -- at its Take a seat reads all that it has seen
-pub take_reads : (h : List FileMark) (m : FileMark) → is_take m.kind ≡ true → (through_take m.seat (h ++ m ∷ []) ≡ h ++ m ∷ []) × (set_since m.seat (h ++ m ∷ []) ≡ [])
+pub take_reads : (h : List FileMark) (m : FileMark) → is_take m.kind ≡ true → (prefix_through_take m.seat (h ++ m ∷ []) ≡ h ++ m ∷ []) × (marks_since_take m.seat (h ++ m ∷ []) ≡ [])
 take_reads h m take =
     let is : reverse (h ++ m ∷ []) ≡ m ∷ reverse h = reverse_push h m in
     let own : (m.seat == m.seat) ≡ true = grind (arith, nat_tests) in (

@@ -16,7 +16,7 @@ use Rattle.fak_files.specs.declared.phase.FilePhase.{FilePhase}
 use Rattle.fak_files.specs.declared.phase.FilePhase.TheVariants.{Idle}
 use Rattle.fak_files.specs.declared.rule.FileLimits.{FileLimits}
 use Rattle.fak_files.specs.Running.{bias, Mine, mark, Steps, CountIs}
-use Rattle.fak_files.specs.Calls.{Makes, Misses, before_steps}
+use Rattle.fak_files.specs.SeatTokens.{Makes, Misses, before_steps}
 
 names_are : {name seats : ℕ} {phase : FilePhase} {m : Mine} → IsSeatToken seat_of seats name phase 0 m → m.0.names ≡ name ∷ []
 names_are t = ap (λ (x : Mine). x.0.names) t.me_is

@@ -15,7 +15,8 @@ use Rattle.fak_model.proofs.RunningJoins.{fresh_token, fresh_next}
 use Rattle.fak_files.specs.declared.phase.FilePhase.TheVariants.{Idle}
 use Rattle.fak_files.specs.declared.phase.Hold.TheVariants.{Nothing}
 use Rattle.fak_files.specs.Running.{bias, word_of, limits, ShowsHistory, file_object, IsRunning, first_view, Mine}
-use Rattle.fak_files.specs.Calls.{FileSeatInfo, file_seat, idle_seats, seat_now, IsFileSeat}
+use Rattle.fak_files.specs.Calls.{FileSeatInfo, file_seat, idle_seats}
+use Rattle.fak_files.specs.SeatTokens.{seat_now, IsFileSeat}
 
 -- ---- words
 

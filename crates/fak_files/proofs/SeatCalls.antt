@@ -23,8 +23,9 @@ use Rattle.fak_files.specs.declared.phase.Hold.TheVariants.{Nothing, Reading, Wr
 use Rattle.fak_files.specs.Phases.{amount_of, phase_of, hold_for}
 use Rattle.fak_files.specs.declared.rule.FileLimits.{FileLimits}
 use Rattle.fak_files.specs.Running.{limits, Mine, mark, Steps, Got}
-use Rattle.fak_files.specs.Versions.{entry_of, back_from_take, own_since_take, through_take, set_since}
-use Rattle.fak_files.specs.Calls.{FileSeatInfo, one_hold, holds_of, seat_now, IsFileSeat, Makes, Misses, Leaves, IsGranted, IsBusy, IsGot, IsSet, IsEnded}
+use Rattle.fak_files.specs.Versions.{entry_of, back_from_take, own_since_take, prefix_through_take, marks_since_take}
+use Rattle.fak_files.specs.Calls.{FileSeatInfo, one_hold, holds_of, LeavesMarks, IsGranted, IsBusy, IsGot, IsSet, IsEnded}
+use Rattle.fak_files.specs.SeatTokens.{seat_now, IsFileSeat, Makes, Misses}
 use Rattle.fak_files.proofs.Making.{some_object, makes_none, makes_one, none_then}
 use Rattle.fak_files.proofs.Grammar.{holds_amount}
 use Rattle.fak_files.proofs.HoldReads.{version, reads, version-sees, own_since-take}
@@ -50,7 +51,7 @@ file_seat_after {name} {seats} {after = after} next f x is = record {
 module _ (object object' : ObjectId) (same : object' ≡ object) (name left : ℕ) (hold : Hold) (m after : Mine) where
   -- the marks that a call leaves, where so many holds are left then
   pub leaves_of : (kinds : List FileKind) (phase : FilePhase) → Makes object.seats name kinds phase m after → (left' : ℕ) → left' + sum_by one_hold (map (mark name) kinds) ≡ left → (next : Hold)
-      → Leaves kinds (seat_now object name left hold m).seat (seat_now object' name left' next after).seat
+      → LeavesMarks kinds (seat_now object name left hold m).seat (seat_now object' name left' next after).seat
   leaves_of kinds phase x left' fits next =
       let stint : left' + holds_of name (reverse after.0.seen) ≡ left + holds_of name (reverse m.0.seen) = omega (arith, fits, holds_after x) in
       subst (λ (y : ObjectId × ℕ). Appends (file_rules object.seats) (map (mark name) kinds) (seat_info object name (left + holds_of name (reverse m.0.seen)) (reverse m.0.seen)) (seat_info y.0 name y.1 (reverse after.0.seen)))
@@ -112,11 +113,11 @@ amount_some : (k : ℕ) (access : Access) → 1 ≤ k → 1 ≤ amount_of k acce
 amount_some k Read some = omega arith
 amount_some k Write some = some
 
-through_take-reverse : (name : ℕ) (past : List FileMark) → through_take name (reverse past) ≡ reverse (back_from_take name past)
-through_take-reverse name past = ap (λ p. reverse (back_from_take name p)) (reverse-reverse past)
+prefix_through_take-reverse : (name : ℕ) (past : List FileMark) → prefix_through_take name (reverse past) ≡ reverse (back_from_take name past)
+prefix_through_take-reverse name past = ap (λ p. reverse (back_from_take name p)) (reverse-reverse past)
 
-set_since-reverse : (name : ℕ) (past : List FileMark) → set_since name (reverse past) ≡ reverse (own_since_take name past)
-set_since-reverse name past = ap (λ p. reverse (own_since_take name p)) (reverse-reverse past)
+marks_since_take-reverse : (name : ℕ) (past : List FileMark) → marks_since_take name (reverse past) ≡ reverse (own_since_take name past)
+marks_since_take-reverse name past = ap (λ p. reverse (own_since_take name p)) (reverse-reverse past)
 
 module _ (table : FileLimits) (name : ℕ) (access : Access) where
   -- a load of a field reads what the seat may read
@@ -141,14 +142,14 @@ nothing_set table name i f found m after step =
     ap (λ (x : Mine). own_since_take name x.0.seen) l.after_is ∙ own_since-take table.seats name 1 l.past (flat_map kinds_of_call stands.0) stands.1
 
 -- what a version says, in the words of contracts
-version_is : (name : ℕ) (past : List FileMark) → version name past ≡ through_take name (reverse past) ++ set_since name (reverse past)
-version_is name past = λ i. sym (through_take-reverse name past) i ++ sym (set_since-reverse name past) i
+version_is : (name : ℕ) (past : List FileMark) → version name past ≡ prefix_through_take name (reverse past) ++ marks_since_take name (reverse past)
+version_is name past = λ i. sym (prefix_through_take-reverse name past) i ++ sym (marks_since_take-reverse name past) i
 
 -- in a reader's hold
 version_reads : (table : FileLimits) (name : ℕ) (access : Access) (hold : Hold) → hold_for access ≡ hold → (i : ℕ) (f : FileField) (found : ℕ) (m after : Mine) → Got table name access i f m found after → hold ≡ Reading
-    → version name after.0.seen ≡ through_take name (reverse after.0.seen)
+    → version name after.0.seen ≡ prefix_through_take name (reverse after.0.seen)
 version_reads table name Read hold is i f found m after step reading =
-    ap (λ l. reverse (back_from_take name after.0.seen) ++ reverse l) (nothing_set table name i f found m after step) ∙ (append-nil (reverse (back_from_take name after.0.seen)) ∙ sym (through_take-reverse name after.0.seen))
+    ap (λ l. reverse (back_from_take name after.0.seen) ++ reverse l) (nothing_set table name i f found m after step) ∙ (append-nil (reverse (back_from_take name after.0.seen)) ∙ sym (prefix_through_take-reverse name after.0.seen))
 version_reads table name Write hold is i f found m after step reading = absurd (parted (is ∙ reading))
   where
     parted : Writing ≡ Reading → ⊥

@@ -15,12 +15,12 @@ use Rattle.fak_model.proofs.RunningCalls.{appends_then}
 use Rattle.fak_files.specs.declared.phase.Access.{Access}
 use Rattle.fak_files.specs.Phases.{amount_of}
 use Rattle.fak_files.specs.Running.{mark}
-use Rattle.fak_files.specs.Calls.{FileSeatInfo, one_hold, holds_had, Leaves, amount_for, IsGranted, IsWorn, IsBusy, AreRefused, IsWaitedFor}
+use Rattle.fak_files.specs.Calls.{FileSeatInfo, one_hold, holds_had, LeavesMarks, amount_for, IsGranted, IsWorn, IsBusy, AreRefused, IsWaitedFor}
 
 -- ---- marks of two calls
 
 -- a call and another that leaves a mark
-leaves_then : (ks : List FileKind) (k : FileKind) (js : List FileKind) (a b c : SeatInfo FileMark) → Leaves ks a b → Leaves (k ∷ js) b c → Leaves (ks ++ k ∷ js) a c
+leaves_then : (ks : List FileKind) (k : FileKind) (js : List FileKind) (a b c : SeatInfo FileMark) → LeavesMarks ks a b → LeavesMarks (k ∷ js) b c → LeavesMarks (ks ++ k ∷ js) a c
 leaves_then ks k js a b c x y =
     let name : b.name ≡ a.name = ap (λ (s : SeatInfo FileMark). s.name) x.same_seat in
     let seats : b.object.seats ≡ a.object.seats = ap (λ (s : SeatInfo FileMark). s.object.seats) x.same_seat in
@@ -29,7 +29,7 @@ leaves_then ks k js a b c x y =
     (appends_then (file_rules a.object.seats) (map (mark a.name) ks) (mark a.name k) (map (mark a.name) js) a b c x y')
 
 -- the holds that a seat had after a call
-holds_leave : (ks : List FileKind) (a b : SeatInfo FileMark) → Leaves ks a b → holds_had b ≡ holds_had a + sum_by one_hold (map (mark a.name) ks)
+holds_leave : (ks : List FileKind) (a b : SeatInfo FileMark) → LeavesMarks ks a b → holds_had b ≡ holds_had a + sum_by one_hold (map (mark a.name) ks)
 holds_leave ks a b x = ap (sum_by one_hold) x.mine ∙ sum_by-append one_hold (mine_of seat_of a) (map (mark a.name) ks)
 
 -- ---- a try that is refused
@@ -38,7 +38,7 @@ holds_leave ks a b x = ap (sum_by one_hold) x.mine ∙ sum_by-append one_hold (m
 pub record IsTry (n : ℕ) (a b : SeatInfo FileMark) : Type 0 where
   pub call : WholeCall
   pub refused : (call ≡ Refused n) ⊎ (call ≡ Withdrawn n)
-  pub leaves : Leaves (kinds_of_call call) a b
+  pub leaves : LeavesMarks (kinds_of_call call) a b
   pub holds : holds_had b ≡ holds_had a
 
 busy_try : (access : Access) (a b : FileSeatInfo) (answer : ℤ) → IsBusy access a b answer → IsTry (amount_for access a.seat) a.seat b.seat
@@ -66,7 +66,7 @@ pub record WasRefused (access : Access) (old now : FileSeatInfo) : Type 0 where
   pub within : holds_had old.seat < old.seat.stint
   pub tries : List WholeCall
   pub refused : AreRefused (amount_for access old.seat) tries
-  pub leaves : Leaves (flat_map kinds_of_call tries) old.seat now.seat
+  pub leaves : LeavesMarks (flat_map kinds_of_call tries) old.seat now.seat
   pub holds : holds_had now.seat ≡ holds_had old.seat
 
 -- nothing was done, or some tries were refused
@@ -93,7 +93,7 @@ module _ (access : Access) (old now next : FileSeatInfo) where
         within = busy.within;
         tries = t.call ∷ [];
         refused = All-push (λ (c : WholeCall). (c ≡ Refused (amount_for access now.seat)) ⊎ (c ≡ Withdrawn (amount_for access now.seat))) [] t.call (All-nil (λ (c : WholeCall). (c ≡ Refused (amount_for access now.seat)) ⊎ (c ≡ Withdrawn (amount_for access now.seat)))) t.refused;
-        leaves = subst (λ (ks : List FileKind). Leaves ks now.seat next.seat) (sym (append-nil (kinds_of_call t.call))) t.leaves;
+        leaves = subst (λ (ks : List FileKind). LeavesMarks ks now.seat next.seat) (sym (append-nil (kinds_of_call t.call))) t.leaves;
         holds = t.holds;
       }
   tries_more answer (inr w) busy = inr (record {
@@ -101,18 +101,18 @@ module _ (access : Access) (old now next : FileSeatInfo) where
     tries = w.tries ++ t.call ∷ [];
     refused = All-push (λ (c : WholeCall). (c ≡ Refused (amount_for access old.seat)) ⊎ (c ≡ Withdrawn (amount_for access old.seat))) w.tries t.call w.refused
         (subst (λ (n : ℕ). (t.call ≡ Refused n) ⊎ (t.call ≡ Withdrawn n)) (amount_is w) t.refused);
-    leaves = subst (λ (ks : List FileKind). Leaves ks old.seat next.seat) (kinds_two w.tries t.call) (joined t.call t.leaves t.refused);
+    leaves = subst (λ (ks : List FileKind). LeavesMarks ks old.seat next.seat) (kinds_two w.tries t.call) (joined t.call t.leaves t.refused);
     holds = t.holds ∙ w.holds;
   })
     where
       t : IsTry (amount_for access now.seat) now.seat next.seat
       t = busy_try access now next answer busy
 
-      joined : (call : WholeCall) → Leaves (kinds_of_call call) now.seat next.seat → (call ≡ Refused (amount_for access now.seat)) ⊎ (call ≡ Withdrawn (amount_for access now.seat)) → Leaves (flat_map kinds_of_call w.tries ++ kinds_of_call call) old.seat next.seat
-      joined call x (inl e) = subst (λ (c : WholeCall). Leaves (flat_map kinds_of_call w.tries ++ kinds_of_call c) old.seat next.seat) (sym e)
-          (leaves_then (flat_map kinds_of_call w.tries) (No (amount_for access now.seat)) [] old.seat now.seat next.seat w.leaves (subst (λ (c : WholeCall). Leaves (kinds_of_call c) now.seat next.seat) e x))
-      joined call x (inr e) = subst (λ (c : WholeCall). Leaves (flat_map kinds_of_call w.tries ++ kinds_of_call c) old.seat next.seat) (sym e)
-          (leaves_then (flat_map kinds_of_call w.tries) (Over (amount_for access now.seat)) (Back (amount_for access now.seat) ∷ []) old.seat now.seat next.seat w.leaves (subst (λ (c : WholeCall). Leaves (kinds_of_call c) now.seat next.seat) e x))
+      joined : (call : WholeCall) → LeavesMarks (kinds_of_call call) now.seat next.seat → (call ≡ Refused (amount_for access now.seat)) ⊎ (call ≡ Withdrawn (amount_for access now.seat)) → LeavesMarks (flat_map kinds_of_call w.tries ++ kinds_of_call call) old.seat next.seat
+      joined call x (inl e) = subst (λ (c : WholeCall). LeavesMarks (flat_map kinds_of_call w.tries ++ kinds_of_call c) old.seat next.seat) (sym e)
+          (leaves_then (flat_map kinds_of_call w.tries) (No (amount_for access now.seat)) [] old.seat now.seat next.seat w.leaves (subst (λ (c : WholeCall). LeavesMarks (kinds_of_call c) now.seat next.seat) e x))
+      joined call x (inr e) = subst (λ (c : WholeCall). LeavesMarks (flat_map kinds_of_call w.tries ++ kinds_of_call c) old.seat next.seat) (sym e)
+          (leaves_then (flat_map kinds_of_call w.tries) (Over (amount_for access now.seat)) (Back (amount_for access now.seat) ∷ []) old.seat now.seat next.seat w.leaves (subst (λ (c : WholeCall). LeavesMarks (kinds_of_call c) now.seat next.seat) e x))
 
   -- the try that is granted
   pub tries_granted : IsTrying access old now → IsGranted access now next → IsWaitedFor access old next
@@ -127,7 +127,7 @@ module _ (access : Access) (old now next : FileSeatInfo) where
     within = w.within;
     tries = w.tries;
     refused = w.refused;
-    leaves = subst (λ (n : ℕ). Leaves (flat_map kinds_of_call w.tries ++ Take n ∷ []) old.seat next.seat) (amount_is w)
+    leaves = subst (λ (n : ℕ). LeavesMarks (flat_map kinds_of_call w.tries ++ Take n ∷ []) old.seat next.seat) (amount_is w)
         (leaves_then (flat_map kinds_of_call w.tries) (Take (amount_for access now.seat)) [] old.seat now.seat next.seat w.leaves granted.leaves);
     hold = granted.hold;
   }

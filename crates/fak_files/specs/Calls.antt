@@ -1,26 +1,23 @@
 -- What callers see of a file table, of its seats and of what is left of it, and what calls do to them. Histories have
 -- the oldest mark first.
-use Rattle.std.specs.Prelude.{ℕ, zero, suc, ◌+◌, ◌≡◌, ◌<◌, ◌⊎◌, ℤ, List, [], ◌∷◌, ◌++◌, length, map, reverse}
+use Rattle.std.specs.Prelude.{ℕ, zero, suc, ◌≡◌, ◌<◌, ◌⊎◌, ℤ, List, [], ◌∷◌, ◌++◌, map}
 use Rattle.std.specs.List.{All, sum_by, flat_map}
 use Rattle.fak_model.specs.declared.file.FileEntry.{FileEntry}
 use Rattle.fak_model.specs.declared.file.FileField.{FileField}
 use Rattle.fak_model.specs.declared.file.FileKind.{FileKind}
 use Rattle.fak_model.specs.declared.file.FileKind.TheVariants.{Take, Over, Back, No, Set, Give}
 use Rattle.fak_model.specs.declared.file.FileMark.{FileMark}
-use Rattle.fak_model.specs.File.{WholeCall, Refused, Withdrawn, kinds_of_call, seat_of, count, file_rules, IsFileHistory}
-use Rattle.fak_model.specs.Calls.{ObjectId, SeatInfo, seat_info, Appends, before_mark, before_appended}
+use Rattle.fak_model.specs.File.{WholeCall, Refused, Withdrawn, kinds_of_call, seat_of, count, file_rules}
+use Rattle.fak_model.specs.Calls.{ObjectId, SeatInfo, Appends, before_appended}
 use Rattle.fak_model.specs.Seats.{marks_of}
-use Rattle.fak_model.specs.Tokens.{IsSeatToken}
 use Rattle.fak_files.specs.declared.phase.Access.{Access}
-use Rattle.fak_files.specs.declared.phase.FilePhase.{FilePhase}
-use Rattle.fak_files.specs.declared.phase.FilePhase.TheVariants.{Idle}
 use Rattle.fak_files.specs.declared.phase.Hold.{Hold}
 use Rattle.fak_files.specs.declared.phase.Hold.TheVariants.{Nothing, Reading}
 use Rattle.fak_files.specs.declared.fault.FileFault.{FileFault}
 use Rattle.fak_files.specs.declared.fault.FileFault.TheVariants.{Worn, Busy}
-use Rattle.fak_files.specs.Phases.{amount_of, phase_of, hold_for}
-use Rattle.fak_files.specs.Running.{Mine, mark}
-use Rattle.fak_files.specs.Versions.{entry_of, through_take, set_since}
+use Rattle.fak_files.specs.Phases.{amount_of, hold_for}
+use Rattle.fak_files.specs.Running.{mark}
+use Rattle.fak_files.specs.Versions.{entry_of, prefix_through_take, marks_since_take}
 
 -- ---- what callers see
 
@@ -59,34 +56,11 @@ holds_of name h = sum_by one_hold (marks_of seat_of name h)
 abbrev pub holds_had : SeatInfo FileMark → ℕ
 holds_had s = holds_of s.name s.seen
 
--- a seat of this object, with so many holds left of its stint
-abbrev pub seat_now : ObjectId → ℕ → ℕ → Hold → Mine → FileSeatInfo
-seat_now object name left hold me = file_seat (seat_info object name (left + holds_of name (reverse me.0.seen)) (reverse me.0.seen)) hold
-
--- what a seat's fields keep
-pub record IsFileSeat (name seats : ℕ) (hold : Hold) (me : Mine) : Type 0 where
-  pub token : IsSeatToken seat_of seats name (phase_of hold) 0 me
-  pub lawful : IsFileHistory seats (reverse me.0.seen)
-
 -- ---- what calls do
 
--- a seat's token made steps that left these kinds of mark, and stands at this phase now
-pub record Makes (seats name : ℕ) (kinds : List FileKind) (phase : FilePhase) (m after : Mine) : Type 0 where
-  pub appends : (object : ObjectId) (stint : ℕ) → object.seats ≡ seats → Appends (file_rules seats) (map (mark name) kinds) (seat_info object name stint (reverse m.0.seen)) (seat_info object name stint (reverse after.0.seen))
-  pub token : IsSeatToken seat_of seats name phase 0 after
-
--- what stood before the first mark of these steps
-abbrev pub before_steps : ℕ → Mine → Mine → List FileMark
-before_steps name m after = before_mark seat_of name (length (marks_of seat_of name (reverse m.0.seen)) + 0) (reverse after.0.seen)
-
--- a claim of so much was refused, or withdrawn
-pub record Misses (seats name n : ℕ) (m after : Mine) (answer : ℤ) : Type 0 where
-  pub makes : Makes seats name (No n ∷ []) Idle m after ⊎ Makes seats name (Over n ∷ Back n ∷ []) Idle m after
-  pub answers : answer ≡ count seats (before_steps name m after)
-
 -- the call of a seat leaves these kinds of mark
-abbrev pub Leaves : List FileKind → SeatInfo FileMark → SeatInfo FileMark → Type 0
-Leaves kinds old new = Appends (file_rules old.object.seats) (map (mark old.name) kinds) old new
+abbrev pub LeavesMarks : List FileKind → SeatInfo FileMark → SeatInfo FileMark → Type 0
+LeavesMarks kinds old new = Appends (file_rules old.object.seats) (map (mark old.name) kinds) old new
 
 -- what a hold takes of the table's count
 abbrev pub amount_for : Access → SeatInfo FileMark → ℕ
@@ -95,7 +69,7 @@ amount_for access s = amount_of s.object.seats access
 -- a hold is granted within the stint
 pub record IsGranted (access : Access) (old new : FileSeatInfo) : Type 0 where
   pub within : holds_had old.seat < old.seat.stint
-  pub leaves : Leaves (Take (amount_for access old.seat) ∷ []) old.seat new.seat
+  pub leaves : LeavesMarks (Take (amount_for access old.seat) ∷ []) old.seat new.seat
   pub hold : new.hold ≡ hold_for access
 
 -- beyond the stint nothing happens
@@ -106,7 +80,7 @@ pub record IsWorn (old new : FileSeatInfo) : Type 0 where
 -- a hold is refused at its test, or withdrawn after its subtraction; the count before is answered
 pub record IsBusy (access : Access) (old new : FileSeatInfo) (answer : ℤ) : Type 0 where
   pub within : holds_had old.seat < old.seat.stint
-  pub leaves : Leaves (No (amount_for access old.seat) ∷ []) old.seat new.seat ⊎ Leaves (Over (amount_for access old.seat) ∷ Back (amount_for access old.seat) ∷ []) old.seat new.seat
+  pub leaves : LeavesMarks (No (amount_for access old.seat) ∷ []) old.seat new.seat ⊎ LeavesMarks (Over (amount_for access old.seat) ∷ Back (amount_for access old.seat) ∷ []) old.seat new.seat
   pub answers : answer ≡ count old.seat.object.seats (before_appended seat_of 0 old.seat new.seat)
   pub hold : new.hold ≡ old.hold
 
@@ -123,25 +97,25 @@ pub record IsWaitedFor (access : Access) (old new : FileSeatInfo) : Type 0 where
   pub within : holds_had old.seat < old.seat.stint
   pub tries : List WholeCall
   pub refused : AreRefused (amount_for access old.seat) tries
-  pub leaves : Leaves (flat_map kinds_of_call tries ++ Take (amount_for access old.seat) ∷ []) old.seat new.seat
+  pub leaves : LeavesMarks (flat_map kinds_of_call tries ++ Take (amount_for access old.seat) ∷ []) old.seat new.seat
   pub hold : new.hold ≡ hold_for access
 
 -- an entry is read in a hold: as after the prefix that ends with the hold's Take, and the seat's own Sets since; a
 -- reader has set nothing since
 pub record IsGot (entry : ℕ) (old new : FileSeatInfo) (answer : FileEntry) : Type 0 where
-  pub leaves : Leaves [] old.seat new.seat
+  pub leaves : LeavesMarks [] old.seat new.seat
   pub hold : new.hold ≡ old.hold
-  pub reading : old.hold ≡ Reading → answer ≡ entry_of (through_take old.seat.name new.seat.seen) entry
-  pub holding : answer ≡ entry_of (through_take old.seat.name new.seat.seen ++ set_since old.seat.name new.seat.seen) entry
+  pub reading : old.hold ≡ Reading → answer ≡ entry_of (prefix_through_take old.seat.name new.seat.seen) entry
+  pub holding : answer ≡ entry_of (prefix_through_take old.seat.name new.seat.seen ++ marks_since_take old.seat.name new.seat.seen) entry
 
 -- a field is set in a writer's hold
 pub record IsSet (entry : ℕ) (f : FileField) (to : ℕ) (old new : FileSeatInfo) : Type 0 where
-  pub leaves : Leaves (Set entry f to ∷ []) old.seat new.seat
+  pub leaves : LeavesMarks (Set entry f to ∷ []) old.seat new.seat
   pub hold : new.hold ≡ old.hold
 
 -- a hold is given back
 pub record IsEnded (old new : FileSeatInfo) : Type 0 where
-  pub leaves : Leaves (Give ∷ []) old.seat new.seat
+  pub leaves : LeavesMarks (Give ∷ []) old.seat new.seat
   pub hold : new.hold ≡ Nothing
 
 -- ---- the end

@@ -37,9 +37,9 @@ own_since_take name [] = []
 own_since_take name (m ∷ past) = cond (is_take_of name m) [] (cond (m.seat == name) (m ∷ own_since_take name past) (own_since_take name past))
 
 -- the longest prefix that ends with a Take of this name
-abbrev pub through_take : ℕ → List FileMark → List FileMark
-through_take name h = reverse (back_from_take name (reverse h))
+abbrev pub prefix_through_take : ℕ → List FileMark → List FileMark
+prefix_through_take name h = reverse (back_from_take name (reverse h))
 
 -- the name's own marks after that prefix
-abbrev pub set_since : ℕ → List FileMark → List FileMark
-set_since name h = reverse (own_since_take name (reverse h))
+abbrev pub marks_since_take : ℕ → List FileMark → List FileMark
+marks_since_take name h = reverse (own_since_take name (reverse h))

@@ -5,7 +5,7 @@ ghost use Rattle.fak_model.specs.File.{seat_of};
 ghost use Rattle.fak_model.specs.Tokens.{IsSeatToken};
 ghost use Rattle.fak_model.specs.declared.file.FileKind.TheVariants.{Take};
 ghost use Rattle.fak_files.specs.Phases.{amount_of};
-ghost use Rattle.fak_files.specs.Calls.{Makes, Misses};
+ghost use Rattle.fak_files.specs.SeatTokens.{Makes, Misses};
 ghost use Rattle.fak_files.specs.declared.phase.FilePhase.TheVariants.{Idle, Holding};
 
 use crate::phase::Access;

@@ -5,7 +5,7 @@ ghost use Rattle.fak_model.specs.declared.file.FileField.{FileField};
 ghost use Rattle.fak_model.specs.Histories.{AreNamed};
 ghost use Rattle.fak_model.specs.File.{IsFileHistory, file_rules, amount_held, field, seat_of};
 ghost use Rattle.fak_model.specs.Seats.{marks_of};
-ghost use Rattle.fak_files.specs.Versions.{is_take, is_set, KeepsHold, through_take, set_since};
+ghost use Rattle.fak_files.specs.Versions.{is_take, is_set, KeepsHold, prefix_through_take, marks_since_take};
 
 use fak_model::FileMark;
 
@@ -26,17 +26,17 @@ pub fn no_set_of_another_seat_lies_in_a_hold()
 pub fn the_fields_of_a_hold_are_those_of_its_take()
     ensures { (k seats : ℕ) (h : List FileMark) → IsFileHistory k h → AreNamed (file_rules k) seats h
         → (name : ℕ) → name < seats → 0 < amount_held name h
-        → (i : ℕ) (f : FileField) → field h i f ≡ field (through_take name h ++ set_since name h) i f }
+        → (i : ℕ) (f : FileField) → field h i f ≡ field (prefix_through_take name h ++ marks_since_take name h) i f }
 {}
 
 /// What a seat reads in a hold stays while it leaves no mark.
 pub fn what_a_hold_reads_stays()
     ensures { (name : ℕ) (h rest : List FileMark) → marks_of seat_of name rest ≡ []
-        → (through_take name (h ++ rest) ≡ through_take name h) × (set_since name (h ++ rest) ≡ set_since name h) }
+        → (prefix_through_take name (h ++ rest) ≡ prefix_through_take name h) × (marks_since_take name (h ++ rest) ≡ marks_since_take name h) }
 {}
 
 /// At its Take a seat reads all that it has seen.
 pub fn a_take_reads_all_before_it()
     ensures { (h : List FileMark) (take : FileMark) → is_take take.kind ≡ true
-        → (through_take take.seat (h ++ take ∷ []) ≡ h ++ take ∷ []) × (set_since take.seat (h ++ take ∷ []) ≡ []) }
+        → (prefix_through_take take.seat (h ++ take ∷ []) ≡ h ++ take ∷ []) × (marks_since_take take.seat (h ++ take ∷ []) ≡ []) }
 {}

@@ -3,16 +3,16 @@
 #![tactic(auto)]
 
 mod claim;
-pub mod fault;
+mod fault;
 pub mod laws;
 mod open;
-pub mod phase;
-pub mod rest;
-pub mod rule;
-pub mod seat;
+mod phase;
+mod rest;
+mod rule;
+mod seat;
 mod step;
-pub mod table;
-pub mod tally;
+mod table;
+mod tally;
 #[cfg(test)]
 mod tests;
 mod wait;

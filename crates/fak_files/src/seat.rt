@@ -19,7 +19,8 @@ pub struct FileSeat {
 
 impl Model for FileSeat {
     ghost use Rattle.fak_model.specs.Calls.{object_id};
-    ghost use Rattle.fak_files.specs.Calls.{FileSeatInfo, seat_now, IsFileSeat};
+    ghost use Rattle.fak_files.specs.Calls.{FileSeatInfo};
+    ghost use Rattle.fak_files.specs.SeatTokens.{seat_now, IsFileSeat};
 
     ghost Value = { FileSeatInfo };
 

@@ -4,7 +4,7 @@ use Rattle.fak_model.specs.declared.file.FileKind.TheVariants.{Take}
 use Rattle.fak_model.specs.Calls.{object_id}
 use Rattle.fak_files.specs.declared.phase.FilePhase.TheVariants.{Holding}
 use Rattle.fak_files.specs.Phases.{amount_of, phase_of}
-use Rattle.fak_files.specs.Calls.{Makes, Misses}
+use Rattle.fak_files.specs.SeatTokens.{Makes, Misses}
 use Rattle.fak_files.proofs.SeatCalls.{phase_of-hold_for, file_seat_after, file_seat_missed, granted_of, busy_of}
 use Rattle.fak_files.proofs.table.FileTable.try_hold.Goals as goal
 
