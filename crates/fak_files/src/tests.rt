@@ -223,3 +223,10 @@ fn two_threads(rt: HostRuntime) -> Result<(), Fail> {
     assert!(rt; run_two(&rt, table, a, b));
     Ok(())
 }
+
+// Whichever allocation fails, no other fault than Memory is answered in range.
+#[test]
+fn memory(rt: HostRuntime) {
+    let fault = fault_of(rt.alloc(), 16, 64, 1);
+    assert!(rt; fault.is_none() || fault == Some(OpenFault::Memory));
+}
