@@ -3,7 +3,7 @@ use Rattle.std.specs.Prelude.{◌≡◌, ℕ, List, Result, Ok, Err}
 use Rattle.fak_text.specs.declared.fault.TextFault.{TextFault}
 use Rattle.fak.specs.declared.answer.Answer.{Answer}
 use Rattle.fak.specs.declared.command.Command.{Command}
-use Rattle.fak.specs.declared.command.Command.TheVariants.{Replay}
+use Rattle.fak.specs.declared.command.Command.TheVariants.{Replay, Check, Run}
 use Rattle.fak.specs.declared.fault.MainFault.{MainFault}
 use Rattle.fak.specs.declared.fault.MainFault.TheVariants.{Usage, Text, Memory, Read, Write}
 use Rattle.fak_text.specs.ScheduleText.{ScheduleOf, schedule_in}
@@ -25,6 +25,8 @@ replay_reply (Err fault) = Err (fault_of fault)
 -- the reply to a command on an input
 abbrev pub IsReply : Command → List ℕ → Result Reply MainFault → Type 0
 IsReply Replay input reply = reply ≡ replay_reply (schedule_in input)
+IsReply Check input reply = reply ≡ Err Usage
+IsReply (Run n) input reply = reply ≡ Err Usage
 
 -- the fault is the one that the replies have, unless memory or a device failed
 abbrev pub FailsBy : (Result Reply MainFault → Type 0) → MainFault → Type 0

@@ -54,6 +54,7 @@ fn answer_of(alloc: Global, command: Command, input: &[u8]) -> Result<Answer, Ma
 {
     match command {
         Command::Replay => replay(alloc, input),
+        Command::Check | Command::Run(_) => Err(MainFault::Usage),
     }
 }
 

@@ -1,9 +1,9 @@
 -- A journal that fits still does with one note more, and with one less.
-use Rattle.std.proofs.Common.{◌≡◌, ℕ, ◌+◌, ◌≤◌, List, [], ◌∷◌, ◌++◌, length, slice_get, Some, arith, subst}
+use Rattle.std.proofs.Common.{◌≡◌, ℕ, ◌+◌, ◌≤◌, List, [], ◌∷◌, ◌++◌, length, slice_get, Some, arith, subst, ap, ◌∙◌}
 use Rattle.std.proofs.lemmas.Grind.{common_steps}
 use Rattle.fak_text.specs.Script.{ScriptOf, StepOf, steps_of}
-use Rattle.fak_text.specs.Journal.{NoteOf, spawned, Process, FitsScript, FitsFrom, Allows, births_of, child_count}
-use Rattle.fak_kernel.specs.Contexts.{IsContext}
+use Rattle.fak_text.specs.Journal.{NoteOf, downed, spawned, Process, FitsScript, FitsFrom, Allows, births_of, child_count}
+use Rattle.fak_kernel.specs.Contexts.{IsContext, IsAsleep, unnoted}
 use Rattle.fak_kernel.specs.ListScheduler.{noted, next_step}
 
 -- children before a journal and in it
@@ -62,3 +62,34 @@ child_count-least (_ ∷ notes) = omega (arith, child_count-least notes)
 
 pub children-position : (script : ScriptOf) (children : ℕ) (p : Process) → IsContext script children p → children ≤ p.position
 children-position script children p known = omega (arith, known.children_are, known.fits.position, child_count-least p.journal)
+
+-- one note less
+FitsFrom-front : (files n : ℕ) (steps : List StepOf) (notes rest : List NoteOf) → FitsFrom files n steps (notes ++ rest) → FitsFrom files n steps notes
+FitsFrom-front files n steps [] rest f = tt
+FitsFrom-front files n [] (m ∷ ms) rest f = f
+FitsFrom-front files n (s ∷ ss) (m ∷ ms) rest f = (f.0, FitsFrom-front files (n + births_of m) ss ms rest f.1)
+
+-- what is known of a sleeper, without the note of its down
+pub IsContext-unnoted : (script : ScriptOf) (children semaphore : ℕ) (p : Process) → IsContext script children p → IsAsleep script semaphore p → IsContext script children (unnoted p)
+IsContext-unnoted script children semaphore p known asleep =
+    let journal : p.journal ≡ (unnoted p).journal ++ downed semaphore ∷ [] = ap (λ (q : Process). q.journal) asleep.has_note in
+    let position : p.position ≡ (unnoted p).position + 1 = ap (λ (q : Process). q.position) asleep.has_note in
+    let made : length p.journal ≡ length (unnoted p).journal + 1 = ap length journal ∙ length-snoc (unnoted p).journal (downed semaphore) in
+    let counted : child_count p.journal ≡ child_count (unnoted p).journal + child_count (downed semaphore ∷ []) = ap child_count journal ∙ child_count-append (unnoted p).journal (downed semaphore ∷ []) in
+    record {
+      fits = record {
+        program = known.fits.program;
+        slot = known.fits.slot;
+        position = omega (arith, known.fits.position, position, made);
+        fits = FitsFrom-front script.files 0 (steps_of script p.program) (unnoted p).journal (downed semaphore ∷ []) (subst (FitsFrom script.files 0 (steps_of script p.program)) journal known.fits.fits);
+      };
+      children_are = omega (arith, known.children_are, counted);
+    }
+
+-- a sleeper has made a step, as its note says
+pub asleep_made : (script : ScriptOf) (semaphore : ℕ) (p : Process) → IsAsleep script semaphore p → (1 ≤ p.position) × (1 ≤ length p.journal)
+asleep_made script semaphore p asleep =
+    let journal : p.journal ≡ (unnoted p).journal ++ downed semaphore ∷ [] = ap (λ (q : Process). q.journal) asleep.has_note in
+    let position : p.position ≡ (unnoted p).position + 1 = ap (λ (q : Process). q.position) asleep.has_note in
+    let made : length p.journal ≡ length (unnoted p).journal + 1 = ap length journal ∙ length-snoc (unnoted p).journal (downed semaphore) in
+    (omega (arith, position), omega (arith, made))

@@ -125,6 +125,22 @@ impl<K: Run> Context<K> {
     }
 }
 
+impl<K: Run> Context<K> {
+    ghost use Rattle.fak_kernel.specs.Contexts.{IsAsleep, unnoted};
+
+    /// The process before its last step, a down that is not done yet.
+    pub(crate) fn without_down(mut self) -> Context<K>
+        requires { (semaphore : ℕ) × IsAsleep K.script semaphore self }
+        ensures { result ≡ unnoted self }
+    {
+        let journal = self.journal.as_slice();
+        let before = journal.len() - 1;
+        self.journal.truncate(before);
+        self.position -= 1;
+        self
+    }
+}
+
 /// How many children a step began.
 fn birth_count(note: &Note) -> u64
     ensures value { result ≡ births_of (note_of note.now) }

@@ -4,7 +4,7 @@ use Rattle.std.specs.List.{All, list_all}
 use Rattle.std.proofs.lemmas.Bool.{leb-true, eqb-true}
 use Rattle.std.proofs.lemmas.List.Elements.{All-weaker}
 use Rattle.std.proofs.lemmas.List.Sums.{AllPass-from_list_all}
-use Rattle.serde_json.specs.Data.{Data, Items}
+use Rattle.serde_json.specs.Data.{Data}
 use Rattle.serde_json.specs.Events.{items_len}
 use Rattle.serde_json.specs.Find.{as_array}
 use Rattle.fak_text.specs.Gives.{◌>>=◌}
@@ -13,7 +13,7 @@ use Rattle.fak_text.specs.StepText.{any_op_named, has_op, op_of_version, step_op
 use Rattle.fak_text.specs.Values.{value_or, number_within, number_below, number_at, text_at, elements_within, elements_of_key, running_from, next_index}
 use Rattle.fak_text.specs.declared.fault.Field.TheVariants.{Programs}
 use Rattle.fak_text.specs.declared.fault.TextFault.{TextFault}
-use Rattle.fak_text.specs.declared.fault.TextFault.TheVariants.{Range, UnknownOp}
+use Rattle.fak_text.specs.declared.fault.TextFault.TheVariants.{Range}
 use Rattle.fak_text.specs.declared.reading.step.StepOp.{StepOp}
 use Rattle.fak_text.specs.declared.reading.step.StepOp.TheVariants as ops
 use Rattle.fak_text.specs.declared.steps.StepLimits.{StepLimits}
