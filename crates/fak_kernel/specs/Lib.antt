@@ -2,4 +2,5 @@ pub mod Files
 pub mod ListScheduler
 pub mod Contexts
 pub mod Report
+pub mod Views
 pub mod Examples

@@ -7,6 +7,7 @@ ghost use Rattle.fak_text.specs.Views.{step_of, note_of};
 ghost use Rattle.fak_kernel.specs.ListScheduler.{noted, next_step};
 
 use crate::fault::Fault;
+use crate::report::{Outcome, ProcessRow};
 use fak_text::{Note, Script, Step};
 use std::alloc::Global;
 use std::marker::{Brand, Model, PhantomData};
@@ -138,6 +139,34 @@ impl<K: Run> Context<K> {
         self.journal.truncate(before);
         self.position -= 1;
         self
+    }
+}
+
+impl<K: Run> Context<K> {
+    ghost use Rattle.fak_kernel.specs.Views.{row_of};
+
+    /// The row of a process that was left so.
+    pub fn into_row(self, outcome: Outcome) -> ProcessRow
+        ensures row { row_of result ≡ record { process = self; outcome = outcome } }
+        ensures fits { FitsScript K.script self }
+    {
+        let Context {
+            name,
+            program,
+            slot,
+            position,
+            children: _,
+            journal,
+            of: _,
+        } = self;
+        ProcessRow {
+            name,
+            program,
+            slot,
+            position,
+            outcome,
+            journal,
+        }
     }
 }
 

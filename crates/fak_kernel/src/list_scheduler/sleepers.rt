@@ -3,10 +3,14 @@
 ghost use Rattle.std.specs.Prelude.{◌≡◌, ℕ, ◌<◌, List, [], ◌∷◌, ◌++◌, length, map, slice_index_or, slice_set, Some, IfOk, IfErr, IfSome, MatchOption};
 ghost use Rattle.fak_text.specs.Script.{down};
 ghost use Rattle.fak_text.specs.Journal.{Process};
+ghost use Rattle.std.specs.List.{flat_map};
 ghost use Rattle.fak_kernel.specs.ListScheduler.{next_step};
+ghost use Rattle.fak_kernel.specs.Report.{rows_with};
+ghost use Rattle.fak_kernel.specs.Views.{row_of};
 
 use crate::context::Run;
 use crate::fault::Fault;
+use crate::report::{Outcome, ProcessRow};
 use crate::sleeper::Sleeper;
 use std::alloc::Global;
 use std::collections::VecDeque;
@@ -65,4 +69,31 @@ impl<K: Run> Sleepers<K> {
         let queue = &mut self.queues[at];
         queue.pop_front()
     }
+
+    /// One row more for each who sleeps, all left alike.
+    pub fn add_rows(self, rows: &mut Vec<ProcessRow>, outcome: Outcome) -> Result<(), Fault>
+        ensures added { IfOk result (λ _. map row_of rows.new.items ≡ map row_of rows.old.items ++ rows_with outcome (flat_map (λ waiting. waiting) self)) }
+        ensures memory { IfErr result (λ fault. fault ≡ Fault.Memory) }
+    {
+        let Sleepers { queues } = self;
+        for queue in queues {
+            add_queue(rows, queue, outcome)?;
+        }
+        Ok(())
+    }
+}
+
+/// One row more for each who sleeps in this queue.
+fn add_queue<K: Run>(
+    rows: &mut Vec<ProcessRow>,
+    queue: VecDeque<Sleeper<K>>,
+    outcome: Outcome,
+) -> Result<(), Fault>
+    ensures added { IfOk result (λ _. map row_of rows.new.items ≡ map row_of rows.old.items ++ rows_with outcome queue.items) }
+    ensures memory { IfErr result (λ fault. fault ≡ Fault.Memory) }
+{
+    for sleeper in queue {
+        rows.push(sleeper.rest().into_row(outcome))?;
+    }
+    Ok(())
 }

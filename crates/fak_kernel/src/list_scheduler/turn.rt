@@ -1,6 +1,6 @@
 //! The turn of the process that has the processor.
 
-ghost use Rattle.std.specs.Prelude.{◌≡◌, ◌+◌, Some, false, IfOk, IfErr};
+ghost use Rattle.std.specs.Prelude.{◌≡◌, ◌+◌, ◌==◌, ◌||◌, Some, false, IfOk, IfErr};
 ghost use Rattle.fak_text.specs.Script.{StepOf};
 ghost use Rattle.fak_text.specs.Journal.{Allows, child_count};
 ghost use Rattle.fak_text.specs.Views.{note_of};
@@ -9,7 +9,7 @@ ghost use Rattle.fak_kernel.specs.Contexts.{HasStepsLeft};
 
 use crate::context::{Context, Run};
 use crate::fault::Fault;
-use fak_text::Note;
+use fak_text::{Note, Script};
 use std::marker::Model;
 
 #[derive(Drop)]
@@ -60,5 +60,26 @@ impl<K: Run> Turn<K> {
             made: made + 1,
             has_yielded: yields,
         })
+    }
+
+    /// The process leaves the processor.
+    pub fn into_context(self) -> Context<K>
+        ensures { result ≡ self.process }
+    {
+        let Turn {
+            context,
+            made: _,
+            has_yielded: _,
+        } = self;
+        context
+    }
+
+    /// The turn is over: as many steps were made as a turn has, or the last one was a yield.
+    pub fn is_over(&self, script: &Script) -> bool
+        requires { script.now ≡ K.script }
+        ensures over { result ≡ (self.now.has_yielded || (self.now.made == K.script.quantum)) }
+        ensures left { result ≡ false → HasStepsLeft K.script self.now }
+    {
+        self.has_yielded || self.made == script.quantum()
     }
 }
