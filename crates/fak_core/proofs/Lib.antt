@@ -1,0 +1,13 @@
+pub mod ListWrites
+pub mod RoomMarks
+pub mod RoomKept
+pub mod RoomReached
+pub mod RoomCalls
+pub mod QueueKept
+pub mod QueueTurns
+pub mod QueueOwners
+pub mod QueueSteps
+pub mod QueueReached
+pub mod QueueLoads
+pub mod QueueSound
+pub mod QueueCalls

@@ -1,5 +1,5 @@
 -- What each call does first stays ahead in the marks of a seat, and of all seats.
-use Rattle.std.proofs.Common.{sym, ◌≡◌, ◌≢◌, ℕ, zero, suc, ◌+◌, ◌<◌, ◌≤◌, ◌==◌, Bool, true, false, cond, List, [], ◌∷◌, ◌++◌, refl, ap, ◌∙◌, subst, arith, inl, inr}
+use Rattle.std.proofs.Common.{sym, ◌≡◌, ◌≢◌, ℕ, zero, suc, ◌+◌, ◌*◌, ◌<◌, ◌≤◌, ◌==◌, Bool, true, false, cond, List, [], ◌∷◌, ◌++◌, refl, ap, ◌∙◌, subst, arith, inl, inr}
 use Rattle.std.specs.Prelude.{map}
 use Rattle.std.proofs.lemmas.Bool.Decides.{nat_tests}
 use Rattle.std.specs.List.{sum_by, flat_map}
@@ -67,6 +67,26 @@ sum_one f g t zero l e = absurd (omega arith)
 sum_one f g t (suc n) l e = elim (same_or_not n t) [
   | inl q ↦ (let rest = sum_same g f n (λ k b. e k (omega arith)) in let x = ap f q in let y = ap g q in omega arith)
   | inr d ↦ (let rest = sum_one f g t n (omega arith) e in let here = e n d in omega arith)
+]
+
+pub sum_plus : (f g : ℕ → ℕ) (n : ℕ) → sum_below (λ k. f k + g k) n ≡ sum_below f n + sum_below g n
+sum_plus f g zero = refl
+sum_plus f g (suc n) = omega (arith, sum_plus f g n)
+
+-- what is at most so much at each seat is at most so much for each
+pub sum_most : (f : ℕ → ℕ) (most n : ℕ) → ((k : ℕ) → k < n → f k ≤ most) → sum_below f n ≤ n * most
+sum_most f most zero h = omega arith
+sum_most f most (suc n) h =
+    let rest : sum_below f n ≤ n * most = sum_most f most n (λ k below. h k (omega arith)) in
+    let here : f n ≤ most = h n (omega arith) in
+    grind (arith, rest, here)
+
+-- one seat's part of a sum
+pub sum_term : (f : ℕ → ℕ) (t n : ℕ) → t < n → f t ≤ sum_below f n
+sum_term f t zero l = absurd (omega arith)
+sum_term f t (suc n) l = elim (same_or_not n t) [
+  | inl q ↦ omega (arith, ap f q)
+  | inr d ↦ omega (arith, sum_term f t n (omega arith))
 ]
 
 said_first : {M W C : Type 0} (rules : Rules M W C) (f : W → ℕ) (m : M) (h : List M) (k : ℕ) (b : Bool) → (rules.seat_of m == k) ≡ b

@@ -77,7 +77,8 @@ held_fits bound seats =
 pub room_fits : (bound seats : ℕ) (h : List RoomMark) → IsRoomHistory bound h → AreNamed (room_rules bound) seats h → sum_below (λ k. amount_held k h) seats ≤ bound
 room_fits bound seats h law named = (held_fits bound seats h law named).1
 
-call_even : (c : WholeCall) → sum_by over_amount (kinds_of_call c) ≡ sum_by back_amount (kinds_of_call c)
+-- an Over that is withdrawn is even with its Back
+pub call_even : (c : WholeCall) → sum_by over_amount (kinds_of_call c) ≡ sum_by back_amount (kinds_of_call c)
 call_even (Granted d) = refl
 call_even (Refused d) = refl
 call_even (Withdrawn d) = omega arith

@@ -3,6 +3,12 @@ pub mod Seats
 pub mod Queue
 pub mod QueueOrder
 pub mod QueuePast
+pub mod Checker
 pub mod Room
 pub mod Credit
 pub mod File
+pub mod Views
+pub mod Shown
+pub mod Calls
+pub mod Tokens
+pub mod Names

@@ -1,3 +1,14 @@
 pub mod Script
 pub mod Journal
 pub mod Views
+pub mod Fields
+pub mod Gives
+pub mod Values
+pub mod Names
+pub mod LineText
+pub mod ScheduleText
+pub mod HistoryText
+pub mod StepText
+pub mod ScriptText
+pub mod JournalText
+pub mod Laws

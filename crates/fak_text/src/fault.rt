@@ -29,9 +29,14 @@ pub enum Field {
     Start,
 }
 
-impl fmt::Display for Field {
-    fn fmt<W: fmt::Write>(&self, f: &mut fmt::Formatter<W>) -> fmt::Result {
-        let name = match self {
+impl Field {
+    ghost use Rattle.fak_text.specs.Fields.{name_of};
+
+    /// The name of the key, or `input`.
+    pub fn name(self) -> &'static str
+        ensures { result.now ≡ name_of self }
+    {
+        match self {
             Field::Input => "input",
             Field::Object => "object",
             Field::Bound => "bound",
@@ -48,8 +53,18 @@ impl fmt::Display for Field {
             Field::Files => "files",
             Field::Programs => "programs",
             Field::Start => "start",
-        };
-        f.write_str(name)
+        }
+    }
+}
+
+impl fmt::Display for Field {
+    ghost use Rattle.std.specs.Prelude.{Some};
+    ghost use Rattle.fak_text.specs.Fields.{name_of};
+
+    ghost output = { λ field. Some (name_of field) };
+
+    fn fmt<W: fmt::Write>(&self, f: &mut fmt::Formatter<W>) -> fmt::Result {
+        f.write_str(self.name())
     }
 }
 

@@ -3,12 +3,21 @@
 
 mod fault;
 mod history;
+pub mod laws;
+mod names;
+mod reading;
 mod schedule;
 mod script;
 mod steps;
+mod text;
 
 pub use fault::{Field, TextFault};
 pub use history::History;
+pub use reading::{read_history, read_schedule, read_script};
 pub use schedule::{Act, Event, Object, Schedule};
 pub use script::Script;
 pub use steps::{Note, Step};
+pub use text::{journal_text, line_text, name_text, refused_text};
+
+#[cfg(test)]
+mod tests;

@@ -1,0 +1,127 @@
+-- Seats: each cell has one owner at most, and each seat goes on in its own place.
+use Rattle.std.proofs.Common.{◌≡◌, ◌≢◌, ◌⊎◌, ℕ, ◌+◌, ◌-◌, ◌*◌, ◌/◌, ◌%◌, ◌<◌, Bool, List, ◌∷◌, Option, refl, sym, ap, ◌∙◌, subst, inl, inr, arith, ℤ}
+use Rattle.fak_model.specs.declared.queue.Kind.{Kind}
+use Rattle.fak_model.specs.declared.queue.Kind.TheVariants.{Fill, Take, Close}
+use Rattle.fak_model.specs.declared.queue.Mark.{Mark}
+use Rattle.fak_model.specs.declared.queue.Stage.TheVariants.{Putting, Getting}
+use Rattle.fak_model.specs.Queue.{count, puts, gots, upper_count, lower_count, Has}
+use Rattle.fak_model.specs.QueuePast.{after, stage, MayFollow}
+use Rattle.fak_model.proofs.QueueStages.{stage_here, stage_else}
+use Rattle.fak_model.proofs.QueueTickets.{putting_one, putting_unfilled, getting_one, getting_untaken}
+use Rattle.fak_core.specs.declared.queue.phase.Phase.{Phase}
+use Rattle.fak_core.specs.declared.queue.phase.Phase.TheVariants.{StoreItem, SetFull, LoadItem, SetFree}
+use Rattle.fak_core.specs.QueueMoves.{QueueState, with_at, with_phase}
+use Rattle.fak_core.proofs.QueueKept.{shown, TakenBefore, IsReady, Turns, Cells, TellsShut, IsKept}
+use Rattle.fak_core.specs.QueueSchedule.{InCell}
+use Rattle.fak_core.proofs.QueueTurns.{at_else, by_place, one_ticket, fill_turn, take_turn, le_or_lt}
+
+-- ---- at most one seat in each cell
+
+-- who stands in a cell fills it or empties it
+pub in_cell : {A : Type 0} (size : ℕ) (h : List (Mark A)) (cell : ℕ → Option A) (p : Phase A) (c : ℕ) → IsReady size h cell p → InCell size p c
+    → ((k : ℕ) × (x : A) × (shown p ≡ Putting k x) × TakenBefore size h k × (k % size ≡ c)) ⊎ ((k : ℕ) × (shown p ≡ Getting k) × Has (Fill k) h × (k % size ≡ c))
+in_cell size h cell (StoreItem k x) c r i = inl (k, x, refl, r, i)
+in_cell size h cell (SetFull k x) c r i = inl (k, x, refl, r.0, i)
+in_cell size h cell (LoadItem k) c r i = inr (k, refl, r, i)
+in_cell size h cell (SetFree k) c r i = inr (k, refl, r, i)
+in_cell size h cell _ c r i = absurd i
+
+-- the turn word while a seat fills or empties a cell
+pub filling : {A : Type 0} (size : ℕ) (st : QueueState A) (s k : ℕ) (x : A) → 0 < size → IsKept size st → stage st.past s ≡ Putting k x → TakenBefore size st.past k → st.turn (k % size) ≡ 2 * (k / size)
+filling size st s k x z K e b = fill_turn size st.past st.turn k z K.turns b (putting_unfilled size st.past K.legal s k x e)
+
+pub emptying : {A : Type 0} (size : ℕ) (st : QueueState A) (s k : ℕ) → IsKept size st → stage st.past s ≡ Getting k → Has (Fill k) st.past → st.turn (k % size) ≡ 2 * (k / size) + 1
+emptying size st s k K e b = take_turn size st.past st.turn k K.turns b (getting_untaken size st.past K.legal s k e)
+
+pub alone : {A : Type 0} (size : ℕ) (st : QueueState A) (s t c : ℕ) → 0 < size → IsKept size st → InCell size (st.phase s) c → InCell size (st.phase t) c → s ≡ t
+alone size st s t c z K i j = elim (in_cell size st.past st.cell (st.phase s) c (K.ready s) i) [
+  | inl u ↦ (let eu = sym (K.phases s) ∙ u.2 in let wu = filling size st s u.0 u.1 z K eu u.3 in
+      elim (in_cell size st.past st.cell (st.phase t) c (K.ready t) j) [
+        | inl v ↦ (let ev = sym (K.phases t) ∙ v.2 in let wv = filling size st t v.0 v.1 z K ev v.3 in
+            let cells = u.4 ∙ sym v.4 in let words = ap st.turn cells in
+            let same = one_ticket u.0 v.0 size cells (omega arith) in
+            putting_one st.past s t v.0 u.1 v.1 (eu ∙ ap (λ k. Putting k u.1) same) ev)
+        | inr v ↦ (let ev = sym (K.phases t) ∙ v.1 in let wv = emptying size st t v.0 K ev v.2 in
+            let words = ap st.turn (u.4 ∙ sym v.3) in absurd (omega arith))
+      ])
+  | inr u ↦ (let eu = sym (K.phases s) ∙ u.1 in let wu = emptying size st s u.0 K eu u.2 in
+      elim (in_cell size st.past st.cell (st.phase t) c (K.ready t) j) [
+        | inl v ↦ (let ev = sym (K.phases t) ∙ v.2 in let wv = filling size st t v.0 v.1 z K ev v.3 in
+            let words = ap st.turn (u.3 ∙ sym v.4) in absurd (omega arith))
+        | inr v ↦ (let ev = sym (K.phases t) ∙ v.1 in let wv = emptying size st t v.0 K ev v.2 in
+            let cells = u.3 ∙ sym v.3 in let words = ap st.turn cells in
+            let same = one_ticket u.0 v.0 size cells (omega arith) in
+            getting_one st.past s t v.0 (eu ∙ ap (λ k. Getting k) same) ev)
+      ])
+]
+
+-- ---- what a seat knows stays so
+
+pub ready_more : {A : Type 0} (size : ℕ) (m : Mark A) (h : List (Mark A)) (cell : ℕ → Option A) (p : Phase A) → IsReady size h cell p → IsReady size (m ∷ h) cell p
+ready_more size m h cell (StoreItem k x) r = λ j e. inr (r j e)
+ready_more size m h cell (SetFull k x) r = (λ j e. inr (r.0 j e), r.1)
+ready_more size m h cell (LoadItem k) r = inr r
+ready_more size m h cell (SetFree k) r = inr r
+ready_more size m h cell _ r = tt
+
+pub ready_store : {A : Type 0} (size : ℕ) (h : List (Mark A)) (cell : ℕ → Option A) (c : ℕ) (v : Option A) (p : Phase A) → IsReady size h cell p → (InCell size p c → ⊥) → IsReady size h (with_at cell c v) p
+ready_store size h cell c v (SetFull k x) r un = (r.0, at_else cell c (k % size) v un ∙ r.1)
+ready_store size h cell c v _ r un = r
+
+-- ---- one seat goes on
+
+pub kept_goes : {A : Type 0} (size : ℕ) (st : QueueState A) (s : ℕ) (p : Phase A) → IsKept size st → shown p ≡ stage st.past s → IsReady size st.past st.cell p → IsKept size (with_phase st s p)
+kept_goes size st s p K e r = record {
+  legal = K.legal;
+  upper = K.upper;
+  lower = K.lower;
+  draws_in = K.draws_in;
+  draws_out = K.draws_out;
+  phases = λ t. by_place (λ q. shown q ≡ stage st.past t) st.phase s t p (λ q. e ∙ ap (stage st.past) (sym q)) (λ n. K.phases t);
+  ready = λ t. by_place (IsReady size st.past st.cell) st.phase s t p (λ q. r) (λ n. K.ready t);
+  turns = K.turns;
+  cells = K.cells;
+  closed = K.closed;
+}
+
+-- a mark that shuts nothing
+pub shuts_plain : {A : Type 0} (m : Mark A) (h : List (Mark A)) (b : Bool) → (m.kind ≡ Close → ⊥) → TellsShut h b → TellsShut (m ∷ h) b
+shuts_plain m h b nc sh = (λ e. inr (sh.0 e), λ e has. elim has [ inl q ↦ nc q | inr g ↦ sh.1 e g ])
+
+pub kept_marks : {A : Type 0} (size : ℕ) (st : QueueState A) (s : ℕ) (p : Phase A) (κ : Kind A) (U L : ℤ) (I D : ℕ) (turn : ℕ → ℕ) (b : Bool) → IsKept size st
+    → MayFollow size st.past s κ → shown p ≡ after st.past κ
+    → IsReady size ((record { seat = s; kind = κ }) ∷ st.past) st.cell p
+    → U ≡ upper_count ((record { seat = s; kind = κ }) ∷ st.past) → L ≡ lower_count ((record { seat = s; kind = κ }) ∷ st.past)
+    → I ≡ count puts ((record { seat = s; kind = κ }) ∷ st.past) → D ≡ count gots ((record { seat = s; kind = κ }) ∷ st.past)
+    → Turns size ((record { seat = s; kind = κ }) ∷ st.past) turn → Cells size ((record { seat = s; kind = κ }) ∷ st.past) st.cell
+    → TellsShut ((record { seat = s; kind = κ }) ∷ st.past) b
+    → IsKept size (record { upper = U; lower = L; draws_in = I; draws_out = D; turn = turn; cell = st.cell; phase = with_at st.phase s p; past = (record { seat = s; kind = κ }) ∷ st.past; shut = b })
+kept_marks {A} size st s p κ U L I D turn b K may e r u l i d ts cs sh =
+    let m : Mark A = record { seat = s; kind = κ } in
+    record {
+      legal = (may, K.legal);
+      upper = u;
+      lower = l;
+      draws_in = i;
+      draws_out = d;
+      phases = λ t. by_place (λ q. shown q ≡ stage (m ∷ st.past) t) st.phase s t p
+          (λ q. e ∙ (sym (stage_here m st.past) ∙ ap (stage (m ∷ st.past)) (sym q)))
+          (λ n. K.phases t ∙ sym (stage_else m st.past t n));
+      ready = λ t. by_place (IsReady size (m ∷ st.past) st.cell) st.phase s t p (λ q. r) (λ n. ready_more size m st.past st.cell (st.phase t) (K.ready t));
+      turns = ts;
+      cells = cs;
+      closed = sh;
+    }
+
+-- ---- a seat that doesn't find its turn
+
+pub waits_fill : {A : Type 0} (size : ℕ) (st : QueueState A) (s k : ℕ) (x : A) → 0 < size → IsKept size st → stage st.past s ≡ Putting k x → st.turn (k % size) ≢ 2 * (k / size)
+    → (j : ℕ) × (k ≡ j + size) × (Has (Take j) st.past → ⊥)
+waits_fill size st s k x z K e ne = elim (le_or_lt size k) [
+  | inl le ↦ (let is : k ≡ (k - size) + size = omega arith in
+      (k - size, is, λ t. ne (filling size st s k x z K e (λ j q. let same : k - size ≡ j = omega arith in subst (λ i. Has (Take i) st.past) same t))))
+  | inr lt ↦ absurd (ne (filling size st s k x z K e (λ j q. absurd (omega arith))))
+]
+
+pub waits_take : {A : Type 0} (size : ℕ) (st : QueueState A) (s k : ℕ) → IsKept size st → stage st.past s ≡ Getting k → st.turn (k % size) ≢ 2 * (k / size) + 1 → Has (Fill k) st.past → ⊥
+waits_take size st s k K e ne b = ne (emptying size st s k K e b)

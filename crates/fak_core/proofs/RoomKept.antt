@@ -1,0 +1,201 @@
+-- What every step of a room core keeps.
+use Rattle.std.proofs.Common.{◌≡◌, ◌≢◌, ℕ, ◌+◌, ◌-◌, ◌<◌, ◌≤◌, Bool, true, false, cond, List, [], ◌∷◌, ◌++◌, length, reverse, Option, Some, None, Ok, Err, refl, ap, sym, ◌∙◌, subst, arith, inl, inr, slice_get, slice_set}
+use Rattle.std.specs.Prelude.{ℤ, pos, ◌+ℤ◌, ◌-ℤ◌, ◌≤ℤ◌, ◌<ℤ◌, nat_lt, All}
+use Rattle.std.proofs.lemmas.Bool.Decides.{nat_tests}
+use Rattle.std.proofs.lemmas.Int.{ints}
+use Rattle.std.specs.List.{sum_by}
+use Rattle.std.proofs.lemmas.List.Elements.{All-push, All-nil, All-head, All-tail}
+use Rattle.std.proofs.lemmas.Option.{slice_get_within}
+use Rattle.fak_model.specs.declared.room.RoomKind.{RoomKind}
+use Rattle.fak_model.specs.declared.room.RoomKind.TheVariants.{Up, Over, Back, No, Release as GivenBack}
+use Rattle.fak_model.specs.declared.room.RoomMark.{RoomMark}
+use Rattle.fak_model.specs.Histories.{AreNamed}
+use Rattle.fak_model.specs.Room.{Granted, Refused, Withdrawn, Released, kinds_of_call, up_amount, release_amount, value, amount_held, room_rules, IsFair, IsRoomHistory}
+use Rattle.fak_model.proofs.Appending.{seat_words-other, call_begins, history_none, history_owed}
+use Rattle.fak_model.proofs.Leading.{}
+use Rattle.fak_model.proofs.Deciding.{same_or_not}
+use Rattle.fak_model.proofs.Reversing.{reverse_cons}
+use Rattle.fak_core.specs.declared.call.RoomCall.{RoomCall}
+use Rattle.fak_core.specs.declared.call.RoomCall.TheVariants.{Tir, Release}
+use Rattle.fak_core.specs.declared.fault.CoreFault.TheVariants.{NotHeld}
+use Rattle.fak_core.specs.declared.room.phase.RoomPhase.{RoomPhase}
+use Rattle.fak_core.specs.declared.room.phase.RoomPhase.TheVariants.{Idle, Testing, Adding, Backing, Releasing}
+use Rattle.fak_core.specs.declared.room.phase.CoreSeat.{CoreSeat}
+use Rattle.fak_core.specs.declared.room.step.RoomMove.{RoomMove}
+use Rattle.fak_core.specs.Room.{RoomState, history_of, opening, fits, test_move, add_move, back_move, release_move, next_move, moved, or_idle, seat_step, first_phase, held_with, seat_begin, begun, amount_of, HasRange}
+use Rattle.fak_core.specs.RoomSchedule.{RoomEvent, Begins, Advances, IsEvent, after_step, after_begin, happens, run}
+use Rattle.fak_core.proofs.ListWrites.{length-slice_set, written_here, written_elsewhere, slice_get-replicate}
+use Rattle.fak_core.proofs.RoomMarks.{kinds_by, OwesKinds, held_after, count_after, amount_held-own, value-push}
+
+-- the kinds that a seat owes in each phase
+abbrev pub owed_in : RoomPhase → List RoomKind
+owed_in Idle = []
+owed_in (Testing d) = []
+owed_in (Adding d) = []
+owed_in (Backing d) = Back d ∷ []
+owed_in (Releasing d) = []
+
+-- a seat is what its marks say
+pub record IsSeat (h : List RoomMark) (i : ℕ) (x : CoreSeat) : Type 0 where
+  pub holds : x.held ≡ amount_held i h
+  pub owes : OwesKinds (kinds_by i h) (owed_in x.phase)
+  pub range : HasRange x.held x.phase
+
+-- the count and the seats are what a lawful history says
+pub record IsTold (bound : ℕ) (h : List RoomMark) (count : ℤ) (all : List CoreSeat) : Type 0 where
+  pub history : IsRoomHistory bound h
+  pub named : AreNamed (room_rules bound) (length all) h
+  pub counted : count ≡ value h
+  pub seats : (i : ℕ) (x : CoreSeat) → slice_get all i ≡ Some x → IsSeat h i x
+
+-- a state is what its marks say
+abbrev pub IsKept : RoomState → Type 0
+IsKept s = IsTold s.bound (history_of s) s.count s.seats
+
+-- ---- one seat is written
+
+-- each seat is what the marks say, where the one that was written is, and the others were
+seats_written : (h : List RoomMark) (xs : List CoreSeat) (i : ℕ) (x : CoreSeat) → IsSeat h i x → ((j : ℕ) (y : CoreSeat) → j ≢ i → slice_get xs j ≡ Some y → IsSeat h j y)
+    → (j : ℕ) (y : CoreSeat) → slice_get (slice_set xs i x) j ≡ Some y → IsSeat h j y
+seats_written h xs i x here others j y is = elim (same_or_not j i) [
+  | inl same ↦ (let within : i < length xs = omega (arith, slice_get_within (slice_set xs i x) j y is, length-slice_set xs i x) in
+      let at : slice_get (slice_set xs i x) i ≡ Some y = subst (λ (w : ℕ). slice_get (slice_set xs i x) w ≡ Some y) same is in
+      let it : x ≡ y = cc (written_here xs i x within, at) in
+      subst (λ (w : ℕ). IsSeat h w y) (sym same) (subst (λ (w : CoreSeat). IsSeat h i w) it here))
+  | inr other ↦ others j y other (written_elsewhere xs i j x y other is)
+]
+
+-- a seat goes on, with no mark
+phase_kept : (s : RoomState) (i : ℕ) (x : CoreSeat) → IsKept s → IsSeat (history_of s) i x → IsKept (begun s i x)
+phase_kept s i x k here = record {
+  history = k.history;
+  named = subst (λ (n : ℕ). AreNamed (room_rules s.bound) n (history_of s)) (sym (length-slice_set s.seats i x)) k.named;
+  counted = k.counted;
+  seats = seats_written (history_of s) s.seats i x here (λ j y other is. k.seats j y is);
+}
+
+-- a seat keeps what its marks say while others make marks
+other_seat : (h : List RoomMark) (m : RoomMark) (j : ℕ) (y : CoreSeat) → m.seat ≢ j → IsSeat h j y → IsSeat (h ++ m ∷ []) j y
+other_seat h m j y other k =
+    let same : kinds_by j (h ++ m ∷ []) ≡ kinds_by j h = seat_words-other (room_rules 0) j h m other in
+    record {
+      holds = k.holds ∙ ap (λ (w : List RoomKind). sum_by up_amount w - sum_by release_amount w) (sym same);
+      owes = subst (λ (w : List RoomKind). OwesKinds w (owed_in y.phase)) (sym same) k.owes;
+      range = k.range;
+    }
+
+-- a seat goes on, with a mark that it owes and that is fair
+told_push : (s : RoomState) (i : ℕ) (kind : RoomKind) (x : CoreSeat) (n : ℤ) (h : List RoomMark) → IsTold s.bound h s.count s.seats → i < length s.seats
+    → OwesKinds (kinds_by i h) (kind ∷ owed_in x.phase) → IsFair s.bound h i kind → x.held ≡ held_after (amount_held i h) kind → HasRange x.held x.phase → n ≡ count_after s.count kind
+    → IsTold s.bound (h ++ record { seat = i; kind = kind } ∷ []) n (slice_set s.seats i x)
+told_push s i kind x n h k within owes fair holds range counted =
+    let m : RoomMark = record { seat = i; kind = kind } in
+    let size : length (slice_set s.seats i x) ≡ length s.seats = length-slice_set s.seats i x in
+    let more = history_owed (room_rules s.bound) h m (owed_in x.phase) k.history owes fair in
+    let here : IsSeat (h ++ m ∷ []) i x = record { holds = holds ∙ sym (amount_held-own s.bound h m k.history); owes = more.1; range = range } in
+    record {
+      history = more.0;
+      named = All-push (λ (w : RoomMark). w.seat < length (slice_set s.seats i x)) h m (subst (λ (w : ℕ). AreNamed (room_rules s.bound) w h) (sym size) k.named) (omega arith);
+      counted = counted ∙ ap (λ (w : ℤ). count_after w kind) k.counted ∙ sym (value-push h m);
+      seats = seats_written (h ++ m ∷ []) s.seats i x here (λ j y other is. other_seat h m j y (λ e. other (sym e)) (k.seats j y is));
+    }
+
+mark_kept : (s : RoomState) (i : ℕ) (kind : RoomKind) (x : CoreSeat) (n : ℤ) → IsKept s → i < length s.seats
+    → OwesKinds (kinds_by i (history_of s)) (kind ∷ owed_in x.phase) → IsFair s.bound (history_of s) i kind → x.held ≡ held_after (amount_held i (history_of s)) kind → HasRange x.held x.phase
+    → n ≡ count_after s.count kind → IsTold s.bound (reverse (record { seat = i; kind = kind } ∷ s.past)) n (slice_set s.seats i x)
+mark_kept s i kind x n k within owes fair holds range counted =
+    subst (λ (h : List RoomMark). IsTold s.bound h n (slice_set s.seats i x)) (sym (reverse_cons (record { seat = i; kind = kind }) s.past)) (told_push s i kind x n (history_of s) k within owes fair holds range counted)
+
+-- ---- steps
+
+test_kept : (s : RoomState) (i n d : ℕ) (b : Bool) → IsKept s → i < length s.seats → IsSeat (history_of s) i (record { held = n; phase = Testing d }) → fits s.bound s.count d ≡ b
+    → IsKept (moved s i (test_move b s.count n d))
+test_kept s i n d true k within at is = phase_kept s i (record { held = n; phase = Adding d }) k (record { holds = at.holds; owes = at.owes; range = at.range })
+test_kept s i n d false k within at is =
+    let found : s.count ≡ value (history_of s) = k.counted in
+    let fair : pos s.bound <ℤ (value (history_of s) +ℤ pos d) = rw (← found) (grind (arith, ints)) in
+    mark_kept s i (No d) (record { held = n; phase = Idle }) s.count k within (call_begins kinds_of_call (kinds_by i (history_of s)) (Refused d) at.owes) fair (omega (arith, at.holds)) tt (omega (arith, ints))
+
+add_kept : (s : RoomState) (i n d : ℕ) (b : Bool) → IsKept s → i < length s.seats → IsSeat (history_of s) i (record { held = n; phase = Adding d }) → fits s.bound s.count d ≡ b
+    → IsKept (moved s i (add_move b s.count n d))
+add_kept s i n d true k within at is =
+    let found : s.count ≡ value (history_of s) = k.counted in
+    let fair : (value (history_of s) +ℤ pos d) ≤ℤ pos s.bound = rw (← found) (grind (arith, ints)) in
+    mark_kept s i (Up d) (record { held = n + d; phase = Idle }) (s.count +ℤ pos d) k within (call_begins kinds_of_call (kinds_by i (history_of s)) (Granted d) at.owes) fair (omega (arith, at.holds)) tt (omega (arith, ints))
+add_kept s i n d false k within at is =
+    let found : s.count ≡ value (history_of s) = k.counted in
+    let fair : pos s.bound <ℤ (value (history_of s) +ℤ pos d) = rw (← found) (grind (arith, ints)) in
+    mark_kept s i (Over d) (record { held = n; phase = Backing d }) (s.count +ℤ pos d) k within (call_begins kinds_of_call (kinds_by i (history_of s)) (Withdrawn d) at.owes) fair (omega (arith, at.holds)) at.range (omega (arith, ints))
+
+-- a step of a seat keeps the state what its marks say
+move_kept : (s : RoomState) (i n : ℕ) (phase : RoomPhase) (m : RoomMove) → IsKept s → i < length s.seats → IsSeat (history_of s) i (record { held = n; phase = phase })
+    → next_move s.bound s.count n phase ≡ Some m → IsKept (moved s i m)
+move_kept s i n Idle m k within at is = absurd cc
+move_kept s i n (Testing d) m k within at is =
+    let it : test_move (fits s.bound s.count d) s.count n d ≡ m = cc in
+    subst (λ (w : RoomMove). IsKept (moved s i w)) it (test_kept s i n d (fits s.bound s.count d) k within at refl)
+move_kept s i n (Adding d) m k within at is =
+    let it : add_move (fits s.bound s.count d) s.count n d ≡ m = cc in
+    subst (λ (w : RoomMove). IsKept (moved s i w)) it (add_kept s i n d (fits s.bound s.count d) k within at refl)
+move_kept s i n (Backing d) m k within at is =
+    let it : back_move s.count n d ≡ m = cc in
+    subst (λ (w : RoomMove). IsKept (moved s i w)) it (mark_kept s i (Back d) (record { held = n; phase = Idle }) (s.count -ℤ pos d) k within at.owes tt (omega (arith, at.holds)) tt (omega (arith, ints)))
+move_kept s i n (Releasing d) m k within at is =
+    let it : release_move s.count n d ≡ m = cc in
+    let enough : d ≤ amount_held i (history_of s) = omega (arith, at.range.1, at.holds) in
+    subst (λ (w : RoomMove). IsKept (moved s i w)) it (mark_kept s i (GivenBack d) (record { held = n - d; phase = Idle }) (s.count -ℤ pos d) k within (call_begins kinds_of_call (kinds_by i (history_of s)) (Released d) at.owes) enough (omega (arith, at.holds)) tt (omega (arith, ints)))
+
+found_kept : (s : RoomState) (i : ℕ) (x : CoreSeat) (o : Option RoomMove) → IsKept s → slice_get s.seats i ≡ Some x → next_move s.bound s.count x.held x.phase ≡ o → IsKept (after_step s i (or_idle o))
+found_kept s i x None k at is = k
+found_kept s i x (Some m) k at is = move_kept s i x.held x.phase m k (slice_get_within s.seats i x at) (k.seats i x at) is
+
+step_kept : (s : RoomState) (i : ℕ) (o : Option CoreSeat) → IsKept s → slice_get s.seats i ≡ o → IsKept (after_step s i (seat_step s o))
+step_kept s i None k at = k
+step_kept s i (Some x) k at = found_kept s i x (next_move s.bound s.count x.held x.phase) k at refl
+
+-- ---- beginning a call
+
+release_kept : (s : RoomState) (i n d : ℕ) (b : Bool) → IsKept s → IsSeat (history_of s) i (record { held = n; phase = Idle }) → d ≤ 1024 → nat_lt n d ≡ b
+    → IsKept (after_begin s i (held_with n (cond b (Err NotHeld) (Ok (Releasing d)))))
+release_kept s i n d true k at range is = k
+release_kept s i n d false k at range is =
+    let enough : d ≤ n = grind (arith, nat_tests) in
+    phase_kept s i (record { held = n; phase = Releasing d }) k (record { holds = at.holds; owes = at.owes; range = (range, enough) })
+
+call_kept : (s : RoomState) (i n : ℕ) (phase : RoomPhase) (call : RoomCall) → IsKept s → IsSeat (history_of s) i (record { held = n; phase = phase }) → amount_of call ≤ 1024
+    → IsKept (after_begin s i (held_with n (first_phase n phase call)))
+call_kept s i n Idle (Tir d) k at range = phase_kept s i (record { held = n; phase = Testing d }) k (record { holds = at.holds; owes = at.owes; range = range })
+call_kept s i n Idle (Release d) k at range = release_kept s i n d (nat_lt n d) k at range refl
+call_kept s i n (Testing e) call k at range = k
+call_kept s i n (Adding e) call k at range = k
+call_kept s i n (Backing e) call k at range = k
+call_kept s i n (Releasing e) call k at range = k
+
+begin_kept : (s : RoomState) (i : ℕ) (call : RoomCall) (o : Option CoreSeat) → IsKept s → slice_get s.seats i ≡ o → amount_of call ≤ 1024 → IsKept (after_begin s i (seat_begin o call))
+begin_kept s i call None k at range = k
+begin_kept s i call (Some x) k at range = call_kept s i x.held x.phase call k (k.seats i x at) range
+
+-- ---- schedules
+
+-- each event keeps the state what its marks say
+pub event_kept : (s : RoomState) (e : RoomEvent) → IsEvent e → IsKept s → IsKept (happens s e)
+event_kept s (Begins seat call) range k = begin_kept s seat call (slice_get s.seats seat) k refl range.1
+event_kept s (Advances seat) range k = step_kept s seat (slice_get s.seats seat) k refl
+
+pub opening_kept : (bound seats : ℕ) → IsKept (opening bound seats)
+opening_kept bound seats = record {
+  history = history_none (room_rules bound);
+  named = All-nil (λ (m : RoomMark). m.seat < length (opening bound seats).seats);
+  counted = refl;
+  seats = λ i x is.
+      let it : x ≡ record { held = 0; phase = Idle } = slice_get-replicate seats i (record { held = 0; phase = Idle }) x is in
+      subst (λ (w : CoreSeat). IsSeat [] i w) (sym it) (record { holds = refl; owes = ([], refl); range = tt });
+}
+
+run_kept : (es : List RoomEvent) (s : RoomState) → All IsEvent es → IsKept s → IsKept (run es s)
+run_kept [] s range k = k
+run_kept (e ∷ es) s range k = run_kept es (happens s e) (All-tail IsEvent e es range) (event_kept s e (All-head IsEvent e es range) k)
+
+-- every schedule leads to a state that is what its marks say
+pub schedule_kept : (bound seats : ℕ) (es : List RoomEvent) → All IsEvent es → IsKept (run es (opening bound seats))
+schedule_kept bound seats es range = run_kept es (opening bound seats) range (opening_kept bound seats)

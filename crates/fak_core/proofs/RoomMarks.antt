@@ -1,0 +1,36 @@
+-- What one more mark does to the value of a room's history, and to what its seat holds.
+use Rattle.std.proofs.Common.{◌≡◌, ℕ, ◌+◌, ◌-◌, List, [], ◌∷◌, ◌++◌, refl, ap, arith}
+use Rattle.std.specs.Prelude.{ℤ, pos, ◌+ℤ◌, ◌-ℤ◌}
+use Rattle.std.specs.List.{sum_by}
+use Rattle.std.proofs.lemmas.Int.{ints}
+use Rattle.std.proofs.lemmas.List.Sums.{sum_by_push}
+use Rattle.fak_model.specs.declared.room.RoomKind.{RoomKind}
+use Rattle.fak_model.specs.declared.room.RoomMark.{RoomMark}
+use Rattle.fak_model.specs.Histories.{words_by, Owes}
+use Rattle.fak_model.specs.Room.{seat_of, kind_of, kinds_of_call, up_amount, over_amount, back_amount, release_amount, value, amount_held, room_rules, IsRoomHistory}
+use Rattle.fak_model.proofs.Appending.{seat_words-own}
+use Rattle.fak_model.proofs.Leading.{total_push}
+use Rattle.fak_model.proofs.RoomLaw.{releases_le}
+
+-- the kinds of a seat's marks, in order
+abbrev pub kinds_by : ℕ → List RoomMark → List RoomKind
+kinds_by seat h = words_by seat_of kind_of seat h
+
+-- a seat's marks are whole calls once the owed kinds have come
+abbrev pub OwesKinds : List RoomKind → List RoomKind → Type 0
+OwesKinds kinds owed = Owes kinds_of_call kinds owed
+
+-- what is held after a mark of this kind, and what the count is
+abbrev pub held_after : ℕ → RoomKind → ℕ
+held_after n kind = n + up_amount kind - release_amount kind
+
+abbrev pub count_after : ℤ → RoomKind → ℤ
+count_after n kind = n +ℤ pos (up_amount kind + over_amount kind) -ℤ pos (back_amount kind + release_amount kind)
+
+pub amount_held-own : (bound : ℕ) (h : List RoomMark) (m : RoomMark) → IsRoomHistory bound h → amount_held m.seat (h ++ m ∷ []) ≡ held_after (amount_held m.seat h) m.kind
+amount_held-own bound h m law =
+    let own : kinds_by m.seat (h ++ m ∷ []) ≡ kinds_by m.seat h ++ m.kind ∷ [] = seat_words-own (room_rules bound) m.seat h m refl in
+    omega (arith, ap (sum_by up_amount) own, ap (sum_by release_amount) own, sum_by_push up_amount (kinds_by m.seat h) m.kind, sum_by_push release_amount (kinds_by m.seat h) m.kind, releases_le bound m.seat h law)
+
+pub value-push : (h : List RoomMark) (m : RoomMark) → value (h ++ m ∷ []) ≡ count_after (value h) m.kind
+value-push h m = omega (arith, ints, total_push kind_of up_amount h m, total_push kind_of over_amount h m, total_push kind_of back_amount h m, total_push kind_of release_amount h m)

@@ -1,0 +1,26 @@
+use Rattle.std.proofs.Common.{◌≡◌, ◌<◌, ◌∙◌, length, reverse, refl, arith, Ok, sym, subst}
+use Rattle.std.proofs.lemmas.Option.{slice_get_read}
+use Rattle.fak_core.specs.Room.{RoomState, begin_of, IsBegun, begun}
+use Rattle.fak_core.specs.declared.room.phase.CoreSeat.{CoreSeat}
+use Rattle.fak_core.proofs.RoomReached.{begin_is}
+use Rattle.fak_core.proofs.RoomCalls.{sound_begun}
+use Rattle.fak_core.proofs.room.RoomCore.begin.Goals as goal
+
+abbrev state : goal.After-self-1 → RoomState
+state c = record { bound = c.self.inside.bound; count = c.self.inside.count; seats = c.self.inside.seats.items; past = reverse c.self.inside.marks.items }
+
+abbrev seat_now : goal.After-self-1 → CoreSeat
+seat_now c = record { held = c.index-at.result.now.held; phase = c.in_ok-phase.phase }
+
+begins : (c : goal.After-self-1) → begin_of (state c) c.args.seat c.args.call ≡ Ok (seat_now c)
+begins c =
+    let within : c.args.seat < length c.self.inside.seats.items = omega (arith, c.len.ensures) in
+    begin_is (state c) c.args.seat c.args.call c.index-at.result.now (Ok c.in_ok-phase.phase) (slice_get_read c.self.inside.seats.items _ c.args.seat c.index-at.result.now refl within c.index-at.ensures) (sym c.first_phase_of.ensures ∙ c.in_ok-phase.was)
+
+pub invariant_of-self : goal.invariant_of-self
+invariant_of-self c = sound_begun (state c) c.args.seat c.args.call (seat_now c) c.requires c.self.invariant (begins c)
+
+pub returns-clause-ok : goal.returns-clause-ok
+returns-clause-ok c =
+    let P : RoomState → Type 0 = λ (s : RoomState). IsBegun s c.args.seat c.args.call (begun (state c) c.args.seat (seat_now c)) in
+    subst P c.self.view_is (record { at = seat_now c; is = begins c; leaves = refl })

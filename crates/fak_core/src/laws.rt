@@ -1,0 +1,5 @@
+//! The laws of the cores, over every schedule: each is the contract of a function with an empty body, and speaks of
+//! the definitions alone.
+
+pub mod queue;
+pub mod room;

@@ -1,0 +1,42 @@
+//! Where a seat of a queue stands.
+
+/// The next move of a seat, with the item and the ticket of its call.
+#[derive(Clone, Copy, Debug, PartialEq, Eq, Drop)]
+pub enum Phase<T> {
+    /// No call is open.
+    Idle,
+    /// An insertion's load of the upper count.
+    TestUp(T),
+    /// An insertion's add to the upper count.
+    AddUp(T),
+    /// The withdrawal of an insertion that was refused at its add.
+    BackUp(T),
+    /// The draw of an insertion's ticket.
+    TicketIn(T),
+    /// An insertion's load of its cell's turn word.
+    TurnIn(u64, T),
+    /// The store of the item in the cell, whose turn was found.
+    StoreItem(u64, T),
+    /// The store of the turn word that makes the cell full.
+    SetFull(u64, T),
+    /// The add to the lower count that ends an insertion.
+    EndInsert(u64),
+    /// A deletion's load of the lower count.
+    TestLow,
+    /// A deletion's subtraction from the lower count.
+    SubLow,
+    /// The withdrawal of a deletion that was refused at its subtraction.
+    BackLow,
+    /// The draw of a deletion's ticket.
+    TicketOut,
+    /// A deletion's load of its cell's turn word.
+    TurnOut(u64),
+    /// The load of the item from the cell, whose turn was found.
+    LoadItem(u64),
+    /// The store of the turn word that makes the cell free for the next round.
+    SetFree(u64),
+    /// The subtraction from the upper count that ends a deletion.
+    EndDelete(u64),
+    /// The setting of the upper count's shut bit.
+    SetShut,
+}

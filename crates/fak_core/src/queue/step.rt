@@ -1,0 +1,52 @@
+//! What one atomic step of a seat of a queue does.
+
+use crate::line::CoreMove;
+use crate::queue::phase::Phase;
+use fak_model::Kind;
+
+/// What a step found in its word; of a store of a turn or an item, the value stored.
+#[derive(Clone, Copy, Debug, PartialEq, Eq, Drop)]
+pub enum Found<T> {
+    /// A count, or a ticket counter.
+    Count(i64),
+    /// A ticket or a turn word.
+    Word(u64),
+    /// The content of a cell.
+    Item(Option<T>),
+}
+
+/// What a step writes: the word, and its new value.
+#[derive(Clone, Copy, Debug, PartialEq, Eq, Drop)]
+pub enum Write<T> {
+    /// The step only loads.
+    Nothing,
+    /// The upper count.
+    Upper(i64),
+    /// The lower count.
+    Lower(i64),
+    /// The counter of insertions' tickets.
+    DrawsIn(u64),
+    /// The counter of deletions' tickets.
+    DrawsOut(u64),
+    /// The turn word of a cell.
+    Turn(u64, u64),
+    /// The content of a cell.
+    Cell(u64, T),
+    /// The shut bit is set.
+    Shut,
+}
+
+/// One atomic step of a seat.
+#[derive(Clone, Copy, Debug, PartialEq, Eq, Drop)]
+pub struct QueueMove<T> {
+    /// Which step it is.
+    pub step: CoreMove,
+    /// What it finds.
+    pub found: Found<T>,
+    /// The mark that it leaves in the history, if any.
+    pub mark: Option<Kind<T>>,
+    /// What it writes.
+    pub write: Write<T>,
+    /// Where the seat stands after it.
+    pub phase: Phase<T>,
+}

@@ -1,0 +1,14 @@
+//! What one atomic step of a seat does.
+
+use super::phase::CoreSeat;
+use crate::line::CoreMove;
+use fak_model::RoomKind;
+
+/// One atomic step of a seat: which it is, the mark that it leaves, and the count and the seat after it.
+#[derive(Clone, Copy, Debug, PartialEq, Eq)]
+pub struct RoomMove {
+    pub step: CoreMove,
+    pub mark: Option<RoomKind>,
+    pub count: i64,
+    pub seat: CoreSeat,
+}

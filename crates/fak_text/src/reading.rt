@@ -1,0 +1,11 @@
+//! The readers of the input formats. Each answers the value that the input is, or its first fault.
+
+mod history;
+mod schedule;
+mod script;
+mod step;
+mod values;
+
+pub use history::read_history;
+pub use schedule::read_schedule;
+pub use script::read_script;

@@ -1,0 +1,111 @@
+//! The reader of histories.
+
+ghost use Rattle.std.specs.Prelude.{◌≡◌};
+ghost use Rattle.serde_json.specs.View.{view, items_view};
+ghost use Rattle.fak_text.specs.Gives.{Gives};
+ghost use Rattle.fak_text.specs.Values.{each_from};
+ghost use Rattle.fak_text.specs.HistoryText.{history_of, kind_named, is_complete, mark_from, history_from, history_in};
+
+use crate::fault::{Field, TextFault};
+use crate::history::History;
+use crate::names::{kind_name, number};
+use crate::reading::values::{
+    count, elements_at_key, input_of, nth_number, nth_text, number_at_key,
+};
+use fak_model::{Kind, Mark};
+use serde_json::Value;
+use std::alloc::Global;
+
+const FAULT: TextFault = TextFault::Range(Field::Marks);
+
+const MOST_MARKS: usize = 4_096;
+
+const LAST_SEAT: u64 = 63;
+
+/// The kind of this name, with this number where it bears one.
+#[tactic(auto, unfolding(crate::specs::HistoryText::kind_named))]
+fn kind_of_name(name: &str, n: u64) -> Option<Kind<u64>>
+    ensures { result ≡ kind_named name.now n }
+{
+    let kinds = [
+        Kind::ClaimIn,
+        Kind::OverIn,
+        Kind::BackIn,
+        Kind::NoRoom,
+        Kind::Put(n),
+        Kind::Fill(n),
+        Kind::EndIn,
+        Kind::ClaimOut,
+        Kind::OverOut,
+        Kind::BackOut,
+        Kind::NoItem,
+        Kind::Got(n),
+        Kind::Take(n),
+        Kind::EndOut,
+        Kind::Close,
+        Kind::Closed,
+        Kind::LateIn,
+    ];
+    kinds.iter().find(|kind| kind_name(**kind) == name).copied()
+}
+
+/// Whether a mark has three elements where it bears a number, and else two.
+fn has_its_elements(borne: Option<u64>, size: usize, number: Option<u64>) -> bool
+    ensures { result ≡ is_complete borne size number }
+{
+    match borne {
+        None => size == 2,
+        Some(_) => size == 3 && number.is_some(),
+    }
+}
+
+/// The mark of this index.
+#[tactic(auto, unfolding(crate::specs::HistoryText::mark_from))]
+fn mark_of(index: u64, value: &Value) -> Result<Mark<u64>, TextFault>
+    ensures { Gives (λ m. m) result (mark_from index (view value.now)) }
+{
+    let items = value.as_array().ok_or(FAULT)?;
+    let seat = nth_number(value, 0).ok_or(FAULT)?;
+    let name = nth_text(value, 1).ok_or(FAULT)?;
+    let third = nth_number(value, 2);
+    let kind = kind_of_name(name, third.unwrap_or(0)).ok_or(TextFault::UnknownOp(index))?;
+    let complete = has_its_elements(number(kind), count(items), third);
+    if seat <= LAST_SEAT && complete {
+        Ok(Mark { seat, kind })
+    } else {
+        Err(FAULT)
+    }
+}
+
+/// The marks of an array, in order.
+fn marks_of(alloc: Global, values: &[Value]) -> Result<Vec<Mark<u64>>, TextFault>
+    ensures { Gives (λ v. v.items) result (each_from mark_from 0 (items_view values.now)) }
+{
+    let mut marks = Vec::new(alloc);
+    for (i, value) in values.iter().enumerate() {
+        marks.push(mark_of(i as u64, value)?)?;
+    }
+    Ok(marks)
+}
+
+#[tactic(auto, unfolding(crate::specs::HistoryText::history_from))]
+fn history_of_object(alloc: Global, value: &Value) -> Result<History, TextFault>
+    ensures { Gives history_of result (history_from (view value.now)) }
+{
+    let size = number_at_key(value, Field::Size, 1, 4_096)?;
+    let values = elements_at_key(value, Field::Marks, MOST_MARKS)?;
+    let marks = marks_of(alloc, values)?;
+    Ok(History { size, marks })
+}
+
+/// The history that an input is.
+///
+/// # Errors
+///
+/// The input's first fault, or `Memory`.
+pub fn read_history(alloc: Global, bytes: &[u8]) -> Result<History, TextFault>
+    ensures { Gives history_of result (history_in bytes.now) }
+{
+    let value = input_of(alloc, bytes)?;
+    history_of_object(alloc, &value)
+}

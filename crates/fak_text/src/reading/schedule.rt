@@ -1,0 +1,216 @@
+//! The reader of schedules.
+
+ghost use Rattle.std.specs.Prelude.{◌≡◌, ◌≤◌, All, IfOk, length};
+ghost use Rattle.serde_json.specs.View.{view, items_view};
+ghost use Rattle.fak_text.specs.Gives.{Gives};
+ghost use Rattle.fak_text.specs.Values.{each_from};
+ghost use Rattle.fak_text.specs.ScheduleText.{schedule_of, room_op, queue_op, op_named, without_number, third, third_within, steps_act, act_from, event_from, object_named, object_from, schedule_from, schedule_in, IsActInRange, IsObjectInRange, IsScheduleInRange};
+
+use crate::fault::{Field, TextFault};
+use crate::reading::values::{
+    count, elements_at_key, input_of, nth_number, nth_text, number_at_key, value_at_key, within,
+};
+use crate::schedule::{Act, Event, Object, Schedule};
+use fak_core::{QueueCall, RoomCall};
+use serde_json::Value;
+use std::alloc::Global;
+
+const FAULT: TextFault = TextFault::Range(Field::Events);
+
+const MOST_EVENTS: usize = 16_384;
+
+const MOST_AMOUNT: u64 = 1_024;
+
+const MOST_STEPS: u64 = 64;
+
+/// The operations of events.
+#[derive(Clone, Copy, Debug, PartialEq, Eq)]
+pub(crate) enum Op {
+    Step,
+    Tir,
+    Release,
+    Insert,
+    Delete,
+    Shut,
+}
+
+#[tactic(auto, unfolding(crate::specs::ScheduleText::room_op))]
+fn room_op_named(name: &str) -> Option<Op>
+    ensures { result ≡ room_op name.now }
+{
+    match name {
+        "step" => Some(Op::Step),
+        "tir" => Some(Op::Tir),
+        "release" => Some(Op::Release),
+        _ => None,
+    }
+}
+
+#[tactic(auto, unfolding(crate::specs::ScheduleText::queue_op))]
+fn queue_op_named(name: &str) -> Option<Op>
+    ensures { result ≡ queue_op name.now }
+{
+    match name {
+        "step" => Some(Op::Step),
+        "insert" => Some(Op::Insert),
+        "delete" => Some(Op::Delete),
+        "shut" => Some(Op::Shut),
+        _ => None,
+    }
+}
+
+/// The operation of this name that the object has.
+fn op_of(object: Object, name: &str) -> Option<Op>
+    ensures { result ≡ op_named object name.now }
+{
+    match object {
+        Object::Room(_) => room_op_named(name),
+        Object::Queue(_) => queue_op_named(name),
+    }
+}
+
+/// An event of two elements.
+fn plain(act: Act, size: usize) -> Result<Act, TextFault>
+    ensures { Gives (λ a. a) result (without_number act size) }
+{
+    if size == 2 { Ok(act) } else { Err(FAULT) }
+}
+
+/// The third of three elements.
+fn third_number(size: usize, number: Option<u64>) -> Result<u64, TextFault>
+    ensures { Gives (λ n. n) result (third size number) }
+{
+    if size == 3 {
+        number.ok_or(FAULT)
+    } else {
+        Err(FAULT)
+    }
+}
+
+/// The third of three elements, from `low` to `high`.
+fn third_number_within(
+    low: u64,
+    high: u64,
+    size: usize,
+    number: Option<u64>,
+) -> Result<u64, TextFault>
+    ensures gives { Gives (λ n. n) result (third_within low high size number) }
+    ensures range { IfOk result (λ n. (low ≤ n) × (n ≤ high)) }
+{
+    if size == 3 {
+        within(Field::Events, low, high, number)
+    } else {
+        Err(FAULT)
+    }
+}
+
+/// So many steps, 1 where no number stands.
+#[tactic(auto, unfolding(crate::specs::ScheduleText::steps_act))]
+fn steps(size: usize, number: Option<u64>) -> Result<Act, TextFault>
+    ensures gives { Gives (λ a. a) result (steps_act size number) }
+    ensures range { IfOk result IsActInRange }
+{
+    if size == 2 {
+        Ok(Act::Steps(1))
+    } else {
+        Ok(Act::Steps(third_number_within(1, MOST_STEPS, size, number)?))
+    }
+}
+
+/// What the seat does, where the event has so many elements and this third one.
+fn act_of(op: Op, size: usize, number: Option<u64>) -> Result<Act, TextFault>
+    ensures gives { Gives (λ a. a) result (act_from op size number) }
+    ensures range { IfOk result IsActInRange }
+{
+    match op {
+        Op::Step => steps(size, number),
+        Op::Tir => Ok(Act::Room(RoomCall::Tir(third_number_within(1, MOST_AMOUNT, size, number)?))),
+        Op::Release => Ok(Act::Room(RoomCall::Release(third_number_within(
+            1,
+            MOST_AMOUNT,
+            size,
+            number,
+        )?))),
+        Op::Insert => Ok(Act::Queue(QueueCall::Insert(third_number(size, number)?))),
+        Op::Delete => plain(Act::Queue(QueueCall::Delete), size),
+        Op::Shut => plain(Act::Queue(QueueCall::Shut), size),
+    }
+}
+
+/// The event of this index.
+#[tactic(auto, unfolding(crate::specs::ScheduleText::event_from))]
+fn event_of(object: Object, index: u64, value: &Value) -> Result<Event, TextFault>
+    ensures gives { Gives (λ e. e) result (event_from object index (view value.now)) }
+    ensures range { IfOk result (λ event. IsActInRange event.act) }
+{
+    let items = value.as_array().ok_or(FAULT)?;
+    let seat = nth_number(value, 0).ok_or(FAULT)?;
+    let name = nth_text(value, 1).ok_or(FAULT)?;
+    let op = op_of(object, name).ok_or(TextFault::UnknownOp(index))?;
+    let act = act_of(op, count(items), nth_number(value, 2))?;
+    Ok(Event { seat, act })
+}
+
+/// The events of an array, in order.
+fn events_of(alloc: Global, object: Object, values: &[Value]) -> Result<Vec<Event>, TextFault>
+    ensures gives { Gives (λ v. v.items) result (each_from (event_from object) 0 (items_view values.now)) }
+    ensures range { IfOk result (λ v. All (λ event. IsActInRange event.act) v.items) }
+{
+    let mut events = Vec::new(alloc);
+    for (i, value) in values.iter().enumerate() {
+        events.push(event_of(object, i as u64, value)?)?;
+    }
+    Ok(events)
+}
+
+/// The object of this name, with its bound or size.
+#[tactic(auto, unfolding(crate::specs::ScheduleText::object_named))]
+fn named_object(name: &str, value: &Value) -> Result<Object, TextFault>
+    ensures gives { Gives (λ o. o) result (object_named name.now (view value.now)) }
+    ensures range { IfOk result IsObjectInRange }
+{
+    match name {
+        "room" => Ok(Object::Room(number_at_key(value, Field::Bound, 0, 4_294_967_296)?)),
+        "queue" => Ok(Object::Queue(number_at_key(value, Field::Size, 1, 4_096)?)),
+        _ => Err(TextFault::Range(Field::Object)),
+    }
+}
+
+#[tactic(auto, unfolding(crate::specs::ScheduleText::object_from))]
+fn object_of(value: &Value) -> Result<Object, TextFault>
+    ensures gives { Gives (λ o. o) result (object_from (view value.now)) }
+    ensures range { IfOk result IsObjectInRange }
+{
+    let found = value_at_key(value, Field::Object)?;
+    let name = found.as_str().ok_or(TextFault::Range(Field::Object))?;
+    named_object(name, value)
+}
+
+#[tactic(auto, unfolding(crate::specs::ScheduleText::schedule_from))]
+fn schedule_of_object(alloc: Global, value: &Value) -> Result<Schedule, TextFault>
+    ensures gives { Gives schedule_of result (schedule_from (view value.now)) }
+    ensures range { IfOk result (λ schedule. IsScheduleInRange (schedule_of schedule)) }
+{
+    let object = object_of(value)?;
+    let seats = number_at_key(value, Field::Seats, 1, 64)?;
+    let values = elements_at_key(value, Field::Events, MOST_EVENTS)?;
+    let events = events_of(alloc, object, values)?;
+    Ok(Schedule {
+        object,
+        seats,
+        events,
+    })
+}
+
+/// The schedule that an input is.
+///
+/// # Errors
+///
+/// The input's first fault, or `Memory`.
+pub fn read_schedule(alloc: Global, bytes: &[u8]) -> Result<Schedule, TextFault>
+    ensures gives { Gives schedule_of result (schedule_in bytes.now) }
+    ensures range { IfOk result (λ schedule. IsScheduleInRange (schedule_of schedule)) }
+{
+    let value = input_of(alloc, bytes)?;
+    schedule_of_object(alloc, &value)
+}
