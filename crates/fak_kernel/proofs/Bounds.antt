@@ -10,8 +10,8 @@ use Rattle.std.proofs.lemmas.Grind.{get_or_default_zero}
 use borrow.Author.Tests.{ltb-true}
 use Rattle.fak_model.proofs.Deciding.{same_or_not}
 use Rattle.fak_text.specs.Script.{ScriptOf, StepOf, say, yield, down, up, open_file, close_file, stat, spawn, shutdown, steps_of, steps_or_none, IsInRange, IsProgramInRange, limits_of}
-use Rattle.fak_text.specs.Journal.{NoteOf, said, yielded, downed, upped, opened, closed, statted, spawned, no_birth, no_slot, shut_down, Process, child_count}
-use Rattle.fak_kernel.specs.ListScheduler.{Turn, Lists, State, noted, next_step, enter_ready, enter_by, go_on, down_by, up_by, spawn_by, child_of, make, go_or_make, turn_by, take_front, step_by, step, steps, opening, begun_from}
+use Rattle.fak_text.specs.Journal.{NoteOf, said, yielded, downed, upped, opened, closed, statted, spawned, no_birth, no_slot, shut_down, Process, new_process, after_note, child_count}
+use Rattle.fak_kernel.specs.ListScheduler.{Turn, Lists, State, next_step, enter_ready, enter_by, go_on, down_by, up_by, spawn_by, child_of, make, go_or_make, turn_by, take_front, step_by, step, steps, opening, begun_from}
 use Rattle.fak_kernel.specs.Files.{open_change, close_change, uses_of}
 use Rattle.fak_kernel.specs.Contexts.{CountsFit}
 use Rattle.fak_kernel.proofs.Ranges.{All-slice_get}
@@ -97,8 +97,8 @@ module _ (script : ScriptOf) (s : Lists) (t : Turn) (has : t.process.position < 
       (λ m. omega (arith, below m, has, count-set s.counts n (slice_index s.counts n + 1) m 1 (omega arith)))
   up-bounded n (first ∷ others) is =
       let left = record s { sleepers = slice_set s.sleepers n others } in
-      goes_on (enter_ready left (noted first (downed n))) (upped n) false
-      (entered script left (noted first (downed n)) s.is_shut (left_of script t.process - 1)
+      goes_on (enter_ready left (after_note first (downed n))) (upped n) false
+      (entered script left (after_note first (downed n)) s.is_shut (left_of script t.process - 1)
       (λ m. omega (arith, below m, has, asleep-set script s.sleepers n others, ap (all_left script) is, sum_by-cons (left_of script) first others)))
 
   spawn-bounded : IsInRange script → (program : ℕ) (may : Bool) (free : List ℕ) → nat_lt s.births script.births ≡ may → IsBounded script (spawn_by s t program may free)
@@ -143,7 +143,7 @@ step-bounded script s (Some t) range below = turn-bounded script s t (next_step 
 begun-most : (script : ScriptOf) (i : ℕ) (programs : List ℕ) → IsInRange script → all_left script (begun_from i programs) ≤ 1000 * length programs
 begun-most script i [] range = omega arith
 begun-most script i (program ∷ programs) range =
-    omega (arith, begun-most script (i + 1) programs range, child-most script program range, sum_by-cons (left_of script) (record { name = i ∷ []; program = program; slot = i; position = 0; journal = [] }) (begun_from (i + 1) programs))
+    omega (arith, begun-most script (i + 1) programs range, child-most script program range, sum_by-cons (left_of script) (new_process (i ∷ []) program i) (begun_from (i + 1) programs))
 
 nobody-left : (script : ScriptOf) (starts : List ℕ) → asleep_left script (map (λ _. []) starts) ≡ 0
 nobody-left script [] = refl

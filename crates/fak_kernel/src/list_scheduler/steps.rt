@@ -2,7 +2,7 @@
 
 ghost use Rattle.std.specs.Prelude.{◌≡◌, ℕ, ◌+◌, ◌<◌, List, [], ◌∷◌, length, Some, true, false, nat_lt, slice_index, IfOk, IfErr, string_bytes};
 ghost use Rattle.fak_text.specs.Script.{StepOf, ScriptOf, say, yield, down, up, open_file, close_file, stat, spawn, shutdown, IsStepInRange, limits_of};
-ghost use Rattle.fak_text.specs.Journal.{Allows, child_count, Process, said, yielded, downed, upped, opened, closed, statted, spawned, no_birth, no_slot, shut_down};
+ghost use Rattle.fak_text.specs.Journal.{Allows, StandsAt, child_count, Process, said, yielded, downed, upped, opened, closed, statted, spawned, no_birth, no_slot, shut_down};
 ghost use Rattle.fak_text.specs.Views.{note_of, step_of};
 ghost use Rattle.fak_kernel.specs.ListScheduler as lists;
 ghost use Rattle.fak_kernel.specs.Contexts.{CountsFit, HasStepsLeft};
@@ -17,7 +17,7 @@ use std::alloc::Global;
 
 impl<K: Run> Lists<K> {
     fn say(&mut self, turn: Turn<K>, text: &String) -> Result<Option<Turn<K>>, Fault>
-        requires next { lists.next_step K.script turn.process ≡ Some (say (string_bytes text.now)) }
+        requires next { StandsAt K.script turn.process (say (string_bytes text.now)) }
         requires left { HasStepsLeft K.script turn }
         ensures said { IfOk result (λ running. record { running = running; lists = self.new } ≡ lists.go_on self.old turn (said (string_bytes text.now)) false) }
         ensures memory { IfErr result (λ fault. fault ≡ Fault.Memory) }
@@ -27,7 +27,7 @@ impl<K: Run> Lists<K> {
     }
 
     fn down(&mut self, turn: Turn<K>, n: u64) -> Result<Option<Turn<K>>, Fault>
-        requires next { lists.next_step K.script turn.process ≡ Some (down n) }
+        requires next { StandsAt K.script turn.process (down n) }
         requires range { n < length K.script.semaphores }
         requires left { HasStepsLeft K.script turn }
         ensures made { IfOk result (λ running. record { running = running; lists = self.new } ≡ lists.make_down self.old turn n) }
@@ -50,7 +50,7 @@ impl<K: Run> Lists<K> {
     }
 
     fn up(&mut self, turn: Turn<K>, n: u64) -> Result<Option<Turn<K>>, Fault>
-        requires next { lists.next_step K.script turn.process ≡ Some (up n) }
+        requires next { StandsAt K.script turn.process (up n) }
         requires range { n < length K.script.semaphores }
         requires left { HasStepsLeft K.script turn }
         requires fit { CountsFit self.old }
@@ -69,7 +69,7 @@ impl<K: Run> Lists<K> {
     }
 
     fn open_file(&mut self, turn: Turn<K>, inode: u64) -> Result<Option<Turn<K>>, Fault>
-        requires next { lists.next_step K.script turn.process ≡ Some (open_file inode) }
+        requires next { StandsAt K.script turn.process (open_file inode) }
         requires left { HasStepsLeft K.script turn }
         ensures made { IfOk result (λ running. record { running = running; lists = self.new } ≡ lists.make_open self.old turn inode) }
         ensures memory { IfErr result (λ fault. fault ≡ Fault.Memory) }
@@ -79,7 +79,7 @@ impl<K: Run> Lists<K> {
     }
 
     fn close_file(&mut self, turn: Turn<K>, inode: u64) -> Result<Option<Turn<K>>, Fault>
-        requires next { lists.next_step K.script turn.process ≡ Some (close_file inode) }
+        requires next { StandsAt K.script turn.process (close_file inode) }
         requires left { HasStepsLeft K.script turn }
         ensures made { IfOk result (λ running. record { running = running; lists = self.new } ≡ lists.make_close self.old turn inode) }
         ensures memory { IfErr result (λ fault. fault ≡ Fault.Memory) }
@@ -89,7 +89,7 @@ impl<K: Run> Lists<K> {
     }
 
     fn stat(&mut self, turn: Turn<K>, inode: u64) -> Result<Option<Turn<K>>, Fault>
-        requires next { lists.next_step K.script turn.process ≡ Some (stat inode) }
+        requires next { StandsAt K.script turn.process (stat inode) }
         requires left { HasStepsLeft K.script turn }
         ensures made { IfOk result (λ running. record { running = running; lists = self.new } ≡ lists.make K.script self.old turn (stat inode)) }
         ensures memory { IfErr result (λ fault. fault ≡ Fault.Memory) }
@@ -106,7 +106,7 @@ impl<K: Run> Lists<K> {
         program: u64,
     ) -> Result<Option<Turn<K>>, Fault>
         requires script { script.now ≡ K.script }
-        requires next { lists.next_step K.script turn.process ≡ Some (spawn program) }
+        requires next { StandsAt K.script turn.process (spawn program) }
         requires range { program < length K.script.programs }
         requires left { HasStepsLeft K.script turn }
         ensures made { IfOk result (λ running. record { running = running; lists = self.new } ≡ lists.make_spawn K.script self.old turn program) }
@@ -134,7 +134,7 @@ impl<K: Run> Lists<K> {
         step: &Step,
     ) -> Result<Option<Turn<K>>, Fault>
         requires script { script.now ≡ K.script }
-        requires next { lists.next_step K.script turn.process ≡ Some (step_of step.now) }
+        requires next { StandsAt K.script turn.process (step_of step.now) }
         requires range { IsStepInRange (limits_of K.script) (step_of step.now) }
         requires left { HasStepsLeft K.script turn }
         requires fit { CountsFit self.old }

@@ -2,7 +2,7 @@
 
 ghost use Rattle.std.specs.Prelude.{◌≡◌, ◌+◌, ◌==◌, ◌||◌, Some, false, IfOk, IfErr};
 ghost use Rattle.fak_text.specs.Script.{StepOf};
-ghost use Rattle.fak_text.specs.Journal.{Allows, child_count};
+ghost use Rattle.fak_text.specs.Journal.{Allows, StandsAt, after_note, child_count};
 ghost use Rattle.fak_text.specs.Views.{note_of};
 ghost use Rattle.fak_kernel.specs.ListScheduler as lists;
 ghost use Rattle.fak_kernel.specs.Contexts.{HasStepsLeft};
@@ -44,9 +44,9 @@ impl<K: Run> Turn<K> {
 
     /// Goes on after a step that was made with this note.
     pub fn noted(self, note: Note, yields: bool) -> Result<Turn<K>, Fault>
-        requires allowed { (step : StepOf) × (lists.next_step K.script self.process ≡ Some step) × Allows K.script.files (child_count self.process.journal) step (note_of note) }
+        requires allowed { (step : StepOf) × StandsAt K.script self.process step × Allows K.script.files (child_count self.process.journal) step (note_of note) }
         requires left { HasStepsLeft K.script self }
-        ensures noted { IfOk result (λ t. t ≡ record { process = lists.noted self.process (note_of note); made = self.made + 1; has_yielded = yields }) }
+        ensures noted { IfOk result (λ t. t ≡ record { process = after_note self.process (note_of note); made = self.made + 1; has_yielded = yields }) }
         ensures memory { IfErr result (λ fault. fault ≡ Fault.Memory) }
     {
         let Turn {
