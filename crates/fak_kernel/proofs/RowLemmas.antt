@@ -1,6 +1,6 @@
 -- The rows of a report, as they are added and sorted.
-use Rattle.std.proofs.Common.{◌≡◌, ℕ, ◌+◌, ◌<◌, ◌≤◌, List, [], ◌∷◌, ◌++◌, false, length, map, get_or, ap, sym, ◌∙◌, subst, arith, append_assoc, is_lt, nat_cmp}
-use Rattle.std.specs.List.{flat_map}
+use Rattle.std.proofs.Common.{◌≡◌, ◌||◌, Bool, refl, ℕ, ◌+◌, ◌<◌, ◌≤◌, List, [], ◌∷◌, ◌++◌, false, length, map, get_or, ap, sym, ◌∙◌, subst, arith, append_assoc, is_lt, nat_cmp}
+use Rattle.std.specs.List.{list_any}
 use Rattle.std.specs.List.Sorted.{IsSortedByKey}
 use Rattle.std.specs.Cmp.Lexicographic.{slice_cmp}
 use Rattle.std.proofs.lemmas.List.{map-append, get_or-map, length-map}
@@ -21,3 +21,7 @@ IsSortedByName-map (r ∷ rs) sorted k d low high =
     let before : get_or (map row_of (r ∷ rs)) k d ≡ row_of (get_or (r ∷ rs) k r) = get_or-map row_of (r ∷ rs) k r d (omega arith) in
     let after : get_or (map row_of (r ∷ rs)) (k + 1) d ≡ row_of (get_or (r ∷ rs) (k + 1) r) = get_or-map row_of (r ∷ rs) (k + 1) r d inside in
     rw (before, after) (sorted k r low inside)
+
+pub list_any-map : {A B : Type 0} (test : B → Bool) (f : A → B) (xs : List A) → list_any test (map f xs) ≡ list_any (λ x. test (f x)) xs
+list_any-map test f [] = refl
+list_any-map test f (x ∷ xs) = ap (λ b. test (f x) || b) (list_any-map test f xs)
