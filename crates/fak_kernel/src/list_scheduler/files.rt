@@ -72,7 +72,10 @@ impl Files {
     pub fn uses(&self, inode: u64) -> Option<u64>
         ensures { result ≡ uses_of self.now inode }
     {
-        self.entries.iter().find(|e| e.inode == inode).map(|e| e.uses)
+        self.entries
+            .iter()
+            .find(|e| e.inode == inode)
+            .map(|e| e.uses)
     }
 
     /// The entries, in order.
