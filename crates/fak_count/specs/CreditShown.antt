@@ -38,10 +38,6 @@ IsShownCredit key s = IsShown (credit_object key) s
 abbrev pub opened_credit : CreditKey → CreditSight
 opened_credit key = opened tt key.seats (key.seats * key.stint)
 
--- the view is a seat's
-abbrev pub HasOneName : CreditMine → Type 0
-HasOneName m = (name : ℕ) × (m.0.names ≡ name ∷ [])
-
 -- the word that was found keeps the value after this past
 abbrev pub FoundValue : CreditKey → ℕ → List CreditMark → Type 0
 FoundValue key found past = (pos found ≡ pos bias +ℤ value key.start (reverse past)) × (found < 2 ^ 63)

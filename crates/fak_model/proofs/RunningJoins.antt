@@ -17,19 +17,9 @@ use Rattle.fak_model.specs.Tokens.{IsSeatToken, IsTallyToken}
 use Rattle.fak_model.proofs.Seats.{in_left, in_right, in_either, marks_of_append}
 use Rattle.fak_model.proofs.RunningViews.{sees_all, sees_begins, length-names_from, names_apart}
 use Rattle.fak_model.proofs.RunningSeats.{splits, joins}
-use Rattle.fak_model.proofs.RunningCalls.{token_phase, marks_of-foreign, marks_of-reverse}
+use Rattle.fak_model.proofs.RunningCalls.{sees_knows, token_phase}
 
 -- ---- a join
-
--- whose names see a past know the history, oldest mark first
-pub sees_knows : {M : Type 0} (seat_of : M → ℕ) (names : List ℕ) (seen past : List M) → Sees seat_of names seen past → Knows seat_of names (reverse seen) (reverse past)
-sees_knows seat_of names seen past s = record {
-  begins = sees_begins seat_of names seen past s;
-  own = λ n i.
-      let none = marks_of-foreign seat_of n names s.between i s.foreign in
-      let same = ap (marks_of seat_of n) s.is ∙ (marks_of_append seat_of n s.between seen ∙ ap (λ h. h ++ marks_of seat_of n seen) none) in
-      marks_of-reverse seat_of n past ∙ (ap reverse same ∙ sym (marks_of-reverse seat_of n seen));
-}
 
 longer_of-reverse : {M : Type 0} (s t : List M) → longer_of (reverse s) (reverse t) ≡ reverse (longer_of s t)
 longer_of-reverse s t = rw (length-reverse s, length-reverse t) (by (nat_lt (length s) (length t)))

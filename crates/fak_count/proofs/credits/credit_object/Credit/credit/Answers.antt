@@ -1,14 +1,14 @@
 use Rattle.std.proofs.Common.{rules, ◌≡◌, refl, ap, sym, ◌∙◌, w64, arith}
 use Rattle.std.proofs.Math.Facts.{to_z-of_z}
-use Rattle.fak_model.proofs.RunningCalls.{token_left, token_phase}
-use Rattle.fak_count.proofs.CreditCalls.{one_name, same_table, found_fits, token_made, call_made, observed_fits, token_observed, call_observed}
+use Rattle.fak_model.proofs.RunningCalls.{token_name, token_left, token_phase}
+use Rattle.fak_count.proofs.CreditCalls.{same_table, found_fits, token_made, call_made, observed_fits, token_observed, call_observed}
 use Rattle.fak_count.proofs.credits.credit_object.Credit.credit.Goals as goal
 
 pub credit_step-found-requires-clause-table : goal.credit_step-found-requires-clause-table
 credit_step-found-requires-clause-table c = (same_table c.self.inside.table.shared.key c.seat.invariant c.seat.view_is c.self.view_is c.requires, c.self.invariant, refl)
 
 pub credit_step-found-requires-clause-seat : goal.credit_step-found-requires-clause-seat
-credit_step-found-requires-clause-seat c = one_name c.seat.invariant
+credit_step-found-requires-clause-seat c = token_name c.seat.invariant
 
 pub credit_step-found-requires-clause-left : goal.credit_step-found-requires-clause-left
 credit_step-found-requires-clause-left c = let left = token_left c.seat.invariant in let some_left = c.if-seat-eq0.false in omega (arith, left, some_left)
