@@ -5,6 +5,7 @@ mod devices;
 mod histories;
 mod queues;
 mod rooms;
+mod scripts;
 
 use crate::{Answer, MainFault};
 
