@@ -1,5 +1,5 @@
 -- From the steps of a seat of a credit to what its calls promise.
-use Rattle.std.proofs.Common.{◌≡◌, ℕ, ◌+◌, ◌-◌, ◌<◌, ◌^◌, ℤ, pos, ◌-ℤ◌, List, [], ◌∷◌, ◌++◌, length, length-append, refl, ap, sym, ◌∙◌, subst, arith, Some}
+use Rattle.std.proofs.Common.{◌≡◌, ℕ, ◌+◌, ◌-◌, ◌<◌, ◌^◌, ℤ, pos, ◌-ℤ◌, List, [], ◌∷◌, length, length-append, refl, ap, sym, ◌∙◌, subst, arith}
 use Rattle.std.specs.Prelude.{reverse}
 use Rattle.std.proofs.lemmas.Int.{ints}
 use Rattle.atomic_table.specs.Seated.{TableId}
@@ -12,7 +12,7 @@ use Rattle.fak_model.specs.Shown.{Leaves}
 use Rattle.fak_model.specs.Calls.{ObjectId, object_id, SeatInfo, seat_info, Appends, before_appended}
 use Rattle.fak_model.specs.Tokens.{IsSeatToken}
 use Rattle.fak_model.proofs.Seats.{begins_self}
-use Rattle.fak_model.proofs.RunningCalls.{token_names, token_phase, token_left, token_slots, step_appends, token_after, step_before}
+use Rattle.fak_model.proofs.RunningCalls.{token_names, token_left, token_slots, step_appends, token_after, step_before}
 use Rattle.fak_count.specs.declared.credits.key.CreditKey.{CreditKey}
 use Rattle.fak_count.specs.Words.{bias}
 use Rattle.fak_count.specs.CreditShown.{CreditMine, credit_mark, credit_object, FoundValue, MadeMark, Observed}

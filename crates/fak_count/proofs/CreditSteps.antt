@@ -1,8 +1,8 @@
 -- Each kind of step on a credit keeps the rule, and tells what it did.
-use Rattle.std.proofs.Common.{◌≡◌, ℕ, zero, suc, ◌+◌, ◌-◌, ◌*◌, ◌%◌, ◌^◌, ◌<◌, ◌≤◌, ℤ, pos, ◌+ℤ◌, ◌-ℤ◌, List, [], ◌∷◌, ◌++◌, length, set, slice_index, refl, ap, sym, ◌∙◌, subst, arith, Some}
+use Rattle.std.proofs.Common.{◌≡◌, ℕ, suc, ◌+◌, ◌-◌, ◌*◌, ◌%◌, ◌^◌, ◌<◌, ◌≤◌, ℤ, pos, ◌+ℤ◌, ◌-ℤ◌, List, [], ◌∷◌, ◌++◌, length, slice_index, refl, ap, sym, ◌∙◌, subst, arith, Some}
 use Rattle.std.proofs.lemmas.Int.{ints}
 use Rattle.std.proofs.Math.Nat.{mul-le-mul}
-use Rattle.std.specs.Prelude.{reverse, ◌≤ℤ◌}
+use Rattle.std.specs.Prelude.{reverse}
 use Rattle.std.proofs.lemmas.List.{reverse-append}
 use mathlib.Core.Option.{some}
 use lib.ListN.{get_elem?}
@@ -11,11 +11,11 @@ use Rattle.fak_model.specs.Views.{sight}
 use Rattle.fak_model.specs.declared.credit.CreditKind.{CreditKind}
 use Rattle.fak_model.specs.declared.credit.CreditKind.TheVariants.{Debit, Credit}
 use Rattle.fak_model.specs.declared.credit.CreditMark.{CreditMark}
-use Rattle.fak_model.specs.Credit.{debit_weight, credit_weight, kind_of, debits, credits, value, credit_rules}
-use Rattle.fak_model.specs.Shown.{total, IsShown, Leaves}
+use Rattle.fak_model.specs.Credit.{debit_weight, credit_weight, kind_of, debits, credits, value}
+use Rattle.fak_model.specs.Shown.{Leaves}
 use Rattle.fak_model.proofs.Leading.{total_push}
 use Rattle.fak_model.proofs.CreditLaw.{every_history}
-use Rattle.fak_model.proofs.RunningSteps.{total_at, AreLawful, Advances, steps, observes}
+use Rattle.fak_model.proofs.RunningSteps.{AreLawful, Advances, steps, observes}
 use Rattle.fak_model.proofs.RunningSeats.{starts, hears}
 use Rattle.fak_count.specs.declared.credits.key.CreditKey.{CreditKey}
 use Rattle.fak_count.specs.Words.{bias, KeepsCount}

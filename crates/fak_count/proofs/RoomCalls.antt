@@ -1,5 +1,5 @@
 -- From the steps of a seat of a room to what its calls promise.
-use Rattle.std.proofs.Common.{◌≡◌, ◌⊎◌, ℕ, ◌+◌, ◌-◌, ◌<◌, ◌≤◌, ◌^◌, List, [], ◌∷◌, ◌++◌, length, refl, ap, sym, ◌∙◌, subst, arith, inl, inr, Some}
+use Rattle.std.proofs.Common.{◌≡◌, ℕ, ◌+◌, ◌<◌, ◌≤◌, List, [], ◌∷◌, ◌++◌, length, refl, ap, sym, ◌∙◌, subst, arith}
 use Rattle.std.specs.Prelude.{ℤ, pos, ◌-ℤ◌, reverse, map}
 use Rattle.std.specs.List.{sum_by}
 use Rattle.std.proofs.lemmas.Int.{ints}
@@ -10,9 +10,8 @@ use Rattle.fak_model.specs.declared.room.RoomKind.{RoomKind}
 use Rattle.fak_model.specs.declared.room.RoomKind.TheVariants.{Up, Over, Back, No, Release}
 use Rattle.fak_model.specs.declared.room.RoomMark.{RoomMark}
 use Rattle.fak_model.specs.Room.{seat_of, kind_of, up_amount, release_amount, value, amount_held, room_rules}
-use Rattle.fak_model.specs.Seats.{Begins, marks_of}
+use Rattle.fak_model.specs.Seats.{marks_of}
 use Rattle.fak_model.specs.Views.{sight}
-use Rattle.fak_model.specs.Shown.{Leaves}
 use Rattle.fak_model.specs.Calls.{ObjectId, object_id, SeatInfo, seat_info, Appends, before_mark, before_appended}
 use Rattle.fak_model.specs.Tokens.{IsSeatToken}
 use Rattle.fak_model.proofs.RoomLaw.{releases_le}
@@ -22,7 +21,7 @@ use Rattle.fak_core.specs.declared.room.phase.RoomPhase.{RoomPhase}
 use Rattle.fak_core.specs.declared.room.phase.RoomPhase.TheVariants.{Idle, Adding, Backing}
 use Rattle.fak_count.specs.declared.rooms.key.RoomKey.{RoomKey}
 use Rattle.fak_count.specs.Words.{bias}
-use Rattle.fak_count.specs.RoomShown.{RoomMine, room_mark, room_object, FoundValue, LeavesRoom, Holds, Tested, Added, Lowered}
+use Rattle.fak_count.specs.RoomShown.{RoomMine, room_mark, LeavesRoom, Holds, Tested, Added, Lowered}
 use Rattle.fak_count.specs.Rooms.{RoomInfo, room_info, up_weight, claims_granted, granted_of, held_of, room_seat, MakesCall, Withdraws}
 
 -- ---- what a call makes of the claims granted and of what is held

@@ -1,6 +1,6 @@
 -- Each kind of step on a room keeps the rule, and tells what it did.
-use Rattle.std.proofs.Common.{◌≡◌, ◌≢◌, ℕ, ◌+◌, ◌-◌, ◌*◌, ◌%◌, ◌^◌, ◌<◌, ◌≤◌, Bool, true, false, not, List, [], ◌∷◌, ◌++◌, length, set, slice_index, slice_get, slice_set, refl, ap, sym, ◌∙◌, subst, arith, Option, Some, None}
-use Rattle.std.specs.Prelude.{ℤ, pos, ◌+ℤ◌, ◌-ℤ◌, ◌≤ℤ◌, ◌<ℤ◌, int_lt, nat_lt, map, reverse, replicate, Ok}
+use Rattle.std.proofs.Common.{◌≡◌, ◌≢◌, ℕ, ◌+◌, ◌-◌, ◌%◌, ◌^◌, ◌<◌, ◌≤◌, Bool, true, false, List, [], ◌∷◌, ◌++◌, length, slice_index, slice_get, refl, ap, ◌∙◌, subst, arith, Option, Some, None}
+use Rattle.std.specs.Prelude.{pos, ◌+ℤ◌, ◌-ℤ◌, ◌≤ℤ◌, ◌<ℤ◌, nat_lt, map, reverse, replicate, Ok}
 use Rattle.std.specs.List.{sum_by}
 use Rattle.std.proofs.lemmas.Bool.Decides.{nat_tests}
 use Rattle.std.proofs.lemmas.Int.{ints}
@@ -12,16 +12,14 @@ use lib.ListN.{get_elem?}
 use Rattle.atomic_table.specs.Table.{State, Act, keeps, stepped, carried_after, Valid, opening, Allows}
 use Rattle.fak_model.specs.declared.room.RoomKind.{RoomKind}
 use Rattle.fak_model.specs.declared.room.RoomKind.TheVariants.{Up, Over, Back, No, Release as GivenBack}
-use Rattle.fak_model.specs.declared.room.RoomMark.{RoomMark}
 use Rattle.fak_model.specs.Histories.{IsHistory}
-use Rattle.fak_model.specs.Room.{seat_of, kind_of, up_amount, release_amount, room_rules, value, amount_held}
+use Rattle.fak_model.specs.Room.{seat_of, kind_of, up_amount, release_amount, room_rules, amount_held}
 use Rattle.fak_model.specs.Views.{sight, AreOwn}
 use Rattle.fak_model.specs.Shown.{Leaves}
 use Rattle.fak_model.proofs.RunningSteps.{AreLawful, Advances, steps, bears, sees_now, stands_now}
 use Rattle.fak_model.proofs.RunningCalls.{sees_knows}
 use Rattle.fak_model.proofs.RunningSeats.{starts, hears}
 use Rattle.fak_core.specs.declared.call.RoomCall.TheVariants.{Tir, Release}
-use Rattle.fak_core.specs.declared.room.phase.RoomPhase.{RoomPhase}
 use Rattle.fak_core.specs.declared.room.phase.RoomPhase.TheVariants.{Idle, Testing, Adding, Backing, Releasing}
 use Rattle.fak_core.specs.declared.room.phase.CoreSeat.{CoreSeat}
 use Rattle.fak_core.specs.declared.room.step.RoomMove.{RoomMove}

@@ -1,8 +1,8 @@
 -- What callers see of a room and of its seats, and what calls do to them.
-use Rattle.std.specs.Prelude.{ℕ, ◌+◌, ◌≡◌, ◌<◌, ◌⊎◌, ℤ, List, [], ◌∷◌, reverse, map}
+use Rattle.std.specs.Prelude.{ℕ, ◌+◌, ◌≡◌, ◌<◌, ◌⊎◌, ℤ, List, [], ◌∷◌, reverse}
 use Rattle.std.specs.List.{sum_by}
 use Rattle.fak_model.specs.declared.room.RoomKind.{RoomKind}
-use Rattle.fak_model.specs.declared.room.RoomKind.TheVariants.{Up, Over, Back, No, Release}
+use Rattle.fak_model.specs.declared.room.RoomKind.TheVariants.{Up, Over, Back, No}
 use Rattle.fak_model.specs.declared.room.RoomMark.{RoomMark}
 use Rattle.fak_model.specs.Histories.{words_by}
 use Rattle.fak_model.specs.Room.{seat_of, kind_of, room_rules, value, amount_held}

@@ -6,6 +6,8 @@ pub mod credits;
 pub mod fault;
 pub mod limits;
 pub mod rooms;
+#[cfg(test)]
+mod tests;
 pub mod word;
 
 pub use credits::{Credit, CreditSeat, CreditTally};

@@ -6,7 +6,7 @@ use Rattle.std.proofs.Math.Nat.{mul-div_cancel_left}
 use Rattle.atomic_table.specs.Table.{Me, Splits, Joins}
 use Rattle.fak_model.specs.declared.view.View.{View}
 use Rattle.fak_model.specs.Histories.{IsHistory, AreNamed}
-use Rattle.fak_model.specs.Seats.{Begins, In, IsWhole, Knows, longer_of, marks_of}
+use Rattle.fak_model.specs.Seats.{Begins, In, IsWhole, Knows, longer_of}
 use Rattle.fak_model.specs.Views.{sight, Sees, names_from, first_name, later_names, dealt, kept, joined, spent, settled}
 use Rattle.fak_model.specs.Shown.{Object, IsShown, Hears}
 use Rattle.atomic_table.specs.Seated.{TableId}
@@ -14,7 +14,7 @@ use Rattle.fak_model.specs.declared.name_set.NameSet.{NameSet}
 use Rattle.fak_model.specs.Names.{Has, HasJust}
 use Rattle.fak_model.specs.Calls.{ObjectId, object_id, SeatInfo, seat_info, fresh_seats, TallyInfo, tally_info, IsJoined}
 use Rattle.fak_model.specs.Tokens.{IsSeatToken, IsTallyToken}
-use Rattle.fak_model.proofs.Seats.{in_left, in_right, in_either, marks_of_append}
+use Rattle.fak_model.proofs.Seats.{in_left, in_right, in_either}
 use Rattle.fak_model.proofs.RunningViews.{sees_all, sees_begins, length-names_from, names_apart}
 use Rattle.fak_model.proofs.RunningSeats.{splits, joins}
 use Rattle.fak_model.proofs.RunningCalls.{sees_knows, token_phase}

@@ -86,7 +86,8 @@ impl Room {
         ensures call { MatchResult result (IsGranted d self.now seat.old seat.new) (IsRefused d self.now seat.old seat.new) }
         ensures held { held_of seat.new ≡ held_of seat.old + (if is_ok result then d else 0) }
     {
-        if seat.left == 0 {
+        let worn = seat.left == 0;
+        if worn {
             return Err(TirFault::Worn);
         }
         let limit = BIAS + self.bound;
