@@ -1,16 +1,10 @@
 -- A subcommand that `clap` matched, as a command of the program.
-use Rattle.std.proofs.Common.{◌≡◌, ◌≤◌, ℕ, List, Option, Some, None, Result, Ok, Err, ap, sym, ◌∙◌, subst, refl, arith}
-use Rattle.std.specs.Prelude.{codes, option_map, true, Box, IfSome}
-use Rattle.std.specs.Box.{box_value}
-use Rattle.clap.specs.Words.{App, Row, Text, HasMatchesOf, found_of, one_of, one_text, rows_of, subcommand_name_of, subcommand_of, subcommand_rows_of, is_simple}
-use Rattle.clap.specs.Simple.{subcommand_rows}
+use Rattle.std.proofs.Common.{◌≡◌, List, Option, Some, None, ap, ◌∙◌, subst, refl}
+use Rattle.std.specs.Prelude.{true, IfSome}
+use Rattle.clap.specs.Words.{App, Text, HasMatchesOf, subcommand_of, subcommand_rows_of, is_simple}
 use Rattle.clap.specs.declared.parser.matches.ArgMatches.{ArgMatches}
-use Rattle.clap.specs.declared.parser.matches.ArgMatches.TheViews.{out-ArgMatches, out-SubCommand}
-use Rattle.clap.specs.declared.parser.matches.SubCommand.{SubCommand}
-use Rattle.clap.proofs.WalkLemmas.{one_text-rows}
 use Rattle.clap.proofs.OnLiterals.{clap_on_literals}
 use Rattle.fak.specs.declared.command.Command.{Command}
-use Rattle.fak.specs.declared.command.Command.TheVariants.{Run}
 use Rattle.fak.specs.Commands.{Asks, Means, command_line}
 
 -- the program's own command line is one whose matches `clap` tells

@@ -1,10 +1,10 @@
 -- The front of an input that comes in pieces.
-use Rattle.std.proofs.Common.{◌≡◌, ℕ, ◌+◌, ◌-◌, ◌<◌, ◌≤◌, Bool, true, false, min, List, [], ◌∷◌, ◌++◌, length, take, Option, Some, None, Result, Ok, Err, IfSome, refl, sym, ap, ◌∙◌, append_assoc, subst, arith}
-use Rattle.std.proofs.Math.Seq.{take-append-add, take-append_seam, take-length}
-use Rattle.std.proofs.lemmas.List.{take-append-le, take_min, length-take, length-take-le, take_all, append-nil}
-use Rattle.std.proofs.lemmas.Bool.{ltb-true, ltb-false, lt-ltb, le-ltb}
+use Rattle.std.proofs.Common.{◌≡◌, ℕ, ◌+◌, ◌-◌, ◌<◌, ◌≤◌, Bool, true, false, min, List, [], ◌++◌, length, take, Option, Some, None, Result, Ok, Err, IfSome, refl, sym, ap, ◌∙◌, append_assoc, subst, arith}
+use Rattle.std.proofs.Math.Seq.{take-append-add}
+use Rattle.std.proofs.lemmas.List.{take-append-le, take_min, length-take-le, take_all, append-nil}
+use Rattle.std.proofs.lemmas.Bool.{ltb-true, ltb-false, lt-ltb}
 use Rattle.std.proofs.Math.Dec.{ltb}
-use Rattle.std.specs.Io.KnownBytes.{Consumes, Appends, IsAtEnd}
+use Rattle.std.specs.Io.KnownBytes.{Consumes, IsAtEnd}
 use Rattle.fak_text.specs.HistoryText.{history_from}
 use Rattle.fak_text.specs.ScheduleText.{schedule_from}
 use Rattle.fak_text.specs.ScriptText.{script_from}

@@ -1,9 +1,8 @@
-use Rattle.std.proofs.Common.{rules, ap, ap₂, ◌≡◌, ◌∙◌, IfOk}
+use Rattle.std.proofs.Common.{rules, ap, ap₂, ◌≡◌, ◌∙◌}
 use Rattle.std.proofs.lemmas.Result.{IfOk-weaker}
-use Rattle.std.specs.Prelude.{codes, true}
+use Rattle.std.specs.Prelude.{codes}
 use Rattle.clap.specs.Words.{App, app_of, new_app, with_subcommand}
-use Rattle.clap.specs.Simple.{app_of_fields}
-use Rattle.fak.specs.Commands.{bare_line, command_line}
+use Rattle.fak.specs.Commands.{bare_line}
 use Rattle.fak.proofs.command.grammar.Goals as goal
 
 pub returns : goal.returns
