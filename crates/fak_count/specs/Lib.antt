@@ -1,0 +1,6 @@
+pub mod Opening
+pub mod Words
+pub mod CreditShown
+pub mod Credits
+pub mod RoomShown
+pub mod Rooms
