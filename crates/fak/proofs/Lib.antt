@@ -1,2 +1,3 @@
+mod CommandWords
 mod Input
 mod Replays

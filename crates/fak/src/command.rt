@@ -1,9 +1,11 @@
 //! The commands, and the words that ask for them.
 
-ghost use Rattle.std.specs.Prelude.{◌≡◌, IfOk, IfErr};
-ghost use Rattle.fak.specs.Commands.{IsOfWords};
+ghost use Rattle.std.specs.Prelude.{◌≡◌, map, string_bytes, IfErr, IfOk, IfSome};
+ghost use Rattle.clap.specs.Words.{app_of, subcommand_rows_of};
+ghost use Rattle.fak.specs.Commands.{Asks, IsOfWords, Means, command_line};
 
 use crate::fault::MainFault;
+use clap::ArgMatches;
 use clap::error::ErrorKind;
 use std::alloc::{AllocError, Global};
 
@@ -12,34 +14,49 @@ use std::alloc::{AllocError, Global};
 pub enum Command {
     /// Replay a schedule of atomic steps.
     Replay,
+    /// Judge a recorded history of a queue.
+    Check,
+    /// Run a script of processes on so many processors.
+    Run(u64),
 }
 
 /// The grammar of the command line, which asks for neither help nor version.
-fn grammar<'a>(alloc: Global) -> Result<clap::Command<'a>, AllocError> {
+fn grammar<'a>(alloc: Global) -> Result<clap::Command<'a>, AllocError>
+    ensures { IfOk result (λ command. app_of command ≡ command_line) }
+{
     clap::Command::new(alloc, "fak")
         .disable_help_flag(true)
         .disable_help_subcommand(true)
         .disable_version_flag(true)
         .subcommand_required(true)
-        .subcommand(clap::Command::new(alloc, "replay"))
+        .subcommand(clap::Command::new(alloc, "replay"))?
+        .subcommand(clap::Command::new(alloc, "check"))?
+        .subcommand(clap::Command::new(alloc, "run"))
+}
+
+/// The command that the subcommand of a match is.
+fn command_from(matches: &ArgMatches) -> Option<Command>
+    ensures { IfSome result (Means (subcommand_rows_of matches.now)) }
+{
+    match matches.subcommand() {
+        Some(("replay", _)) => Some(Command::Replay),
+        Some(("check", _)) => Some(Command::Check),
+        Some(("run", _)) => Some(Command::Run(1)),
+        _ => None,
+    }
 }
 
 /// The command that the words ask for; the first word is the program's name. Refuses `Usage`, or `Memory`.
 pub fn command_of(alloc: Global, words: Vec<String>) -> Result<Command, MainFault>
+    ensures ok { IfOk result (Asks (map string_bytes words.items)) }
     ensures err { IfErr result IsOfWords }
 {
     let grammar = grammar(alloc)?;
-    let matches = match grammar.try_get_matches_from(words.as_slice()) {
-        Ok(matches) => matches,
-        Err(error) => {
-            return Err(match error.kind() {
-                ErrorKind::OutOfMemory => MainFault::Memory,
-                _ => MainFault::Usage,
-            });
-        }
-    };
-    match matches.subcommand() {
-        Some(("replay", _)) => Ok(Command::Replay),
-        _ => Err(MainFault::Usage),
+    match grammar.try_get_matches_from(words.as_slice()) {
+        Ok(matches) => command_from(&matches).ok_or(MainFault::Usage),
+        Err(error) => match error.kind() {
+            ErrorKind::OutOfMemory => Err(MainFault::Memory),
+            _ => Err(MainFault::Usage),
+        },
     }
 }

@@ -1,2 +1,6 @@
 pub mod Fitting
 pub mod Ranges
+pub mod Waiting
+pub mod Opening
+pub mod RowLemmas
+pub mod Bounds

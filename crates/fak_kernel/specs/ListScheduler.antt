@@ -2,7 +2,7 @@
 use Rattle.std.specs.Prelude.{◌≡◌, ℕ, zero, suc, ◌+◌, ◌-◌, ◌==◌, ◌||◌, Bool, true, false, nat_lt, List, [], ◌∷◌, ◌++◌, length, map, replicate, slice_get, slice_set, slice_index, slice_index_or, Option, Some, None}
 use Rattle.fak_model.specs.declared.file.FileEntry.{FileEntry}
 use Rattle.fak_text.specs.Script.{ScriptOf, StepOf, say, yield, down, up, open_file, close_file, stat, spawn, shutdown, steps_of}
-use Rattle.fak_text.specs.Journal.{NoteOf, said, yielded, downed, upped, opened, closed, statted, spawned, no_birth, no_slot, shut_down, Process, child_count}
+use Rattle.fak_text.specs.Journal.{NoteOf, said, yielded, downed, upped, opened, closed, statted, spawned, no_birth, no_slot, shut_down, Process, new_process, after_note, child_count}
 use Rattle.fak_kernel.specs.Files.{FileChange, free_entry, open_change, close_change, uses_of}
 
 -- a turn: the process that has the processor, how many steps it made in the turn, and whether the last was a yield
@@ -28,10 +28,6 @@ pub record State : Type 0 where
   pub running : Option Turn
   pub lists : Lists
 
--- the step at the position is made, with this note
-abbrev pub noted : Process → NoteOf → Process
-noted p note = record { name = p.name; program = p.program; slot = p.slot; position = p.position + 1; journal = p.journal ++ note ∷ [] }
-
 -- the step at the position of a process, if the program goes on
 abbrev pub next_step : ScriptOf → Process → Option StepOf
 next_step script p = slice_get (steps_of script p.program) p.position
@@ -46,7 +42,7 @@ enter_ready s p = enter_by s p s.is_shut
 
 -- the turn goes on after a step with this note
 abbrev pub go_on : Lists → Turn → NoteOf → Bool → State
-go_on s t note yields = record { running = Some (record { process = noted t.process note; made = t.made + 1; has_yielded = yields }); lists = s }
+go_on s t note yields = record { running = Some (record { process = after_note t.process note; made = t.made + 1; has_yielded = yields }); lists = s }
 
 -- the turn is over
 abbrev pub turn_over : Lists → State
@@ -63,7 +59,7 @@ make_down s t n = down_by s t n (nat_lt 0 (slice_index s.counts n))
 -- up: wakes the first sleeper, whose down is then done, else adds 1
 abbrev pub up_by : Lists → Turn → ℕ → List Process → State
 up_by s t n [] = go_on (record s { counts = slice_set s.counts n (slice_index s.counts n + 1) }) t (upped n) false
-up_by s t n (first ∷ others) = go_on (enter_ready (record s { sleepers = slice_set s.sleepers n others }) (noted first (downed n))) t (upped n) false
+up_by s t n (first ∷ others) = go_on (enter_ready (record s { sleepers = slice_set s.sleepers n others }) (after_note first (downed n))) t (upped n) false
 
 abbrev pub make_up : Lists → Turn → ℕ → State
 make_up s t n = up_by s t n (slice_index_or s.sleepers n [])
@@ -82,7 +78,7 @@ make_close s t inode = close_by_change s t inode (close_change s.entries inode)
 
 -- the next child of a process
 abbrev pub child_of : Process → ℕ → ℕ → Process
-child_of p program slot = record { name = p.name ++ child_count p.journal ∷ []; program = program; slot = slot; position = 0; journal = [] }
+child_of p program slot = new_process (p.name ++ child_count p.journal ∷ []) program slot
 
 -- spawn: a birth, then a slot; where no slot is free the birth is given back
 abbrev pub spawn_by : Lists → Turn → ℕ → Bool → List ℕ → State
@@ -143,7 +139,7 @@ IsStill s = (s.running ≡ None) × (s.lists.ready ≡ [])
 -- started process i has the name i and slot i
 abbrev pub begun_from : ℕ → List ℕ → List Process
 begun_from i [] = []
-begun_from i (program ∷ programs) = record { name = i ∷ []; program = program; slot = i; position = 0; journal = [] } ∷ begun_from (i + 1) programs
+begun_from i (program ∷ programs) = new_process (i ∷ []) program i ∷ begun_from (i + 1) programs
 
 -- so many numbers, from i up
 abbrev pub numbers_from : ℕ → ℕ → List ℕ

@@ -52,9 +52,17 @@ pub record IsReportOf (script : ScriptOf) (s : Lists) (report : ReportOf) : Type
 abbrev pub ListSchedulerReports : ScriptOf → ReportOf → Type 0
 ListSchedulerReports script report = (s : Lists) × EndsIn script s × IsReportOf script s report
 
+abbrev pub is_ended : Outcome → Bool
+is_ended Ended = true
+is_ended _ = false
+
 abbrev pub is_stuck : Outcome → Bool
 is_stuck Stuck = true
 is_stuck _ = false
+
+abbrev pub is_halted : Outcome → Bool
+is_halted Halted = true
+is_halted _ = false
 
 -- the program's exit status: 3 where a process is stuck, else 0
 abbrev pub exit_status : ReportOf → ℕ

@@ -10,3 +10,5 @@ pub mod ScheduleText
 pub mod HistoryText
 pub mod StepText
 pub mod ScriptText
+pub mod JournalText
+pub mod Laws

@@ -8,7 +8,6 @@ use Rattle.fak_core.specs.declared.call.RoomCall.TheVariants as room_calls
 use Rattle.fak_core.specs.declared.call.QueueCall.TheVariants as queue_calls
 use Rattle.fak_text.specs.Gives.{◌>>=◌}
 use Rattle.fak_text.specs.Values.{value_or, input_in, number_within, number_at, text_at, value_of_key, number_of_key, elements_of_key, each_from}
-use Rattle.fak_text.specs.declared.fault.Field.{Field}
 use Rattle.fak_text.specs.declared.fault.Field.TheVariants as fields
 use Rattle.fak_text.specs.declared.fault.TextFault.{TextFault}
 use Rattle.fak_text.specs.declared.fault.TextFault.TheVariants.{Range, UnknownOp}
@@ -127,7 +126,17 @@ IsActInRange (acts.Room (room_calls.Tir d)) = (1 ≤ d) × (d ≤ most_amount)
 IsActInRange (acts.Room (room_calls.Release d)) = (1 ≤ d) × (d ≤ most_amount)
 IsActInRange (acts.Queue call) = Unit {0}
 
+-- steps, or a call on the object
+abbrev pub IsActOf : o.Object → Act → Type 0
+IsActOf object (acts.Steps n) = Unit {0}
+IsActOf (objects.Room bound) (acts.Room call) = Unit {0}
+IsActOf (objects.Room bound) (acts.Queue call) = ⊥
+IsActOf (objects.Queue size) (acts.Room call) = ⊥
+IsActOf (objects.Queue size) (acts.Queue call) = Unit {0}
+
 pub record IsScheduleInRange (s : ScheduleOf) : Type 0 where
   pub object : IsObjectInRange s.object
   pub seats : (1 ≤ s.seats) × (s.seats ≤ 64)
+  pub count : length s.events ≤ most_events
   pub acts : All (λ event. IsActInRange event.act) s.events
+  pub calls : All (λ event. IsActOf s.object event.act) s.events

@@ -1,5 +1,5 @@
 -- Which script an input is, and which fault is its first.
-use Rattle.std.specs.Prelude.{ℕ, List, length, Option, Some, None, Result, Ok, Err}
+use Rattle.std.specs.Prelude.{ℕ, List, length, Option, Some, None, Result, Ok}
 use Rattle.serde_json.specs.Data.{Data}
 use Rattle.serde_json.specs.Find.{get}
 use Rattle.fak_text.specs.Fields.{name_of}
