@@ -22,15 +22,15 @@ use Rattle.fak_core.specs.declared.room.phase.RoomPhase.TheVariants.{Idle, Addin
 use Rattle.fak_count.specs.declared.rooms.key.RoomKey.{RoomKey}
 use Rattle.fak_count.specs.Words.{bias}
 use Rattle.fak_count.specs.RoomShown.{RoomMine, room_mark, LeavesRoom, Holds, Tested, Added, Lowered}
-use Rattle.fak_count.specs.Rooms.{RoomInfo, room_info, up_weight, claims_granted, granted_of, held_of, room_seat, MakesCall, Withdraws}
+use Rattle.fak_count.specs.Rooms.{RoomInfo, room_info, up_weight, grants_of, granted_claims, held_amount, room_seat, MakesCall, Withdraws}
 
 -- ---- what a call makes of the claims granted and of what is held
 
-granted_more : (f g h : List RoomMark) (name : ℕ) → marks_of seat_of name g ≡ marks_of seat_of name f ++ h → claims_granted name g ≡ claims_granted name f + sum_by up_weight (map kind_of h)
+granted_more : (f g h : List RoomMark) (name : ℕ) → marks_of seat_of name g ≡ marks_of seat_of name f ++ h → grants_of name g ≡ grants_of name f + sum_by up_weight (map kind_of h)
 granted_more f g h name e = ap (λ l. sum_by up_weight (map kind_of l)) e ∙ (ap (sum_by up_weight) (map-append kind_of (marks_of seat_of name f) h) ∙ sum_by-append up_weight (map kind_of (marks_of seat_of name f)) (map kind_of h))
 
 module _ (bound : ℕ) (marks : List RoomMark) (object : ObjectId) (name stint : ℕ) (f g : List RoomMark) (call : Appends (room_rules bound) marks (seat_info object name stint f) (seat_info object name stint g)) where
-  pub granted_appended : claims_granted name g ≡ claims_granted name f + sum_by up_weight (map kind_of marks)
+  pub granted_appended : grants_of name g ≡ grants_of name f + sum_by up_weight (map kind_of marks)
   granted_appended = granted_more f g marks name call.mine
 
   pub held_appended : amount_held name g + sum_by release_amount (map kind_of marks) ≡ amount_held name f + sum_by up_amount (map kind_of marks)
@@ -160,43 +160,43 @@ module _ {key : RoomKey} {left seats name held : ℕ} {table mine : TableId} {m 
   own_token = subst (λ (k : ℕ). IsSeatToken seat_of k name Idle 0 m) same_seats at.token
 
   -- what is held is known to the seat
-  pub holds_seen : (d : ℕ) → d ≤ held_of old → Holds m.0 d
+  pub holds_seen : (d : ℕ) → d ≤ held_amount old → Holds m.0 d
   holds_seen d enough other e =
       let same : name ≡ other = cc (token_names at.token, e) in
-      subst (λ (n : ℕ). d ≤ amount_held n (reverse m.0.seen)) same (subst (λ (x : SeatInfo RoomMark). d ≤ held_of x) (sym at.seat_is) enough)
+      subst (λ (n : ℕ). d ≤ amount_held n (reverse m.0.seen)) same (subst (λ (x : SeatInfo RoomMark). d ≤ held_amount x) (sym at.seat_is) enough)
 
-  pub held_old : held ≡ held_of old
-  held_old = at.holds ∙ ap held_of at.seat_is
+  pub held_old : held ≡ held_amount old
+  held_old = at.holds ∙ ap held_amount at.seat_is
 
-  pub granted_old : left + granted_of old ≡ old.stint
-  granted_old = subst (λ (x : SeatInfo RoomMark). left + granted_of x ≡ x.stint) at.seat_is refl
+  pub granted_old : left + granted_claims old ≡ old.stint
+  granted_old = subst (λ (x : SeatInfo RoomMark). left + granted_claims x ≡ x.stint) at.seat_is refl
 
-  pub within_stint : ¬ (left ≡ 0) → granted_of old < old.stint
+  pub within_stint : ¬ (left ≡ 0) → granted_claims old < old.stint
   within_stint some_left = let all = granted_old in omega (arith, all, some_left)
 
   module _ {marks : List RoomMark} {found : ℕ} {after : RoomMine} (d : Did key name marks Idle m found after) where
-    appended : Appends (room_rules key.bound) marks (seat_info (object_id mine seats) name (left + claims_granted name (reverse m.0.seen)) (reverse m.0.seen)) (seat_info (object_id mine seats) name (left + claims_granted name (reverse m.0.seen)) (reverse after.0.seen))
-    appended = d.appends (object_id mine seats) (left + claims_granted name (reverse m.0.seen)) same_seats
+    appended : Appends (room_rules key.bound) marks (seat_info (object_id mine seats) name (left + grants_of name (reverse m.0.seen)) (reverse m.0.seen)) (seat_info (object_id mine seats) name (left + grants_of name (reverse m.0.seen)) (reverse after.0.seen))
+    appended = d.appends (object_id mine seats) (left + grants_of name (reverse m.0.seen)) same_seats
 
     -- the seat as it is after the call, where so much is held and so many claims are left
     pub seat_after : (held' : ℕ) → held' + sum_by release_amount (map kind_of marks) ≡ held + sum_by up_amount (map kind_of marks)
         → IsSeatToken seat_of seats name Idle 0 after × (held' ≡ amount_held name (reverse after.0.seen))
     seat_after held' is =
-        let e = held_appended key.bound marks (object_id mine seats) name (left + claims_granted name (reverse m.0.seen)) (reverse m.0.seen) (reverse after.0.seen) appended in
+        let e = held_appended key.bound marks (object_id mine seats) name (left + grants_of name (reverse m.0.seen)) (reverse m.0.seen) (reverse after.0.seen) appended in
         let was = at.holds in
         (subst (λ (k : ℕ). IsSeatToken seat_of k name Idle 0 after) (sym same_seats) d.token, omega (arith, e, was, is))
 
-    pub held_after : (now : TableId) (left' : ℕ) → held_of (room_seat (object_id now seats) name left' after) + sum_by release_amount (map kind_of marks) ≡ held_of old + sum_by up_amount (map kind_of marks)
+    pub held_after : (now : TableId) (left' : ℕ) → held_amount (room_seat (object_id now seats) name left' after) + sum_by release_amount (map kind_of marks) ≡ held_amount old + sum_by up_amount (map kind_of marks)
     held_after now left' =
-        let e = held_appended key.bound marks (object_id mine seats) name (left + claims_granted name (reverse m.0.seen)) (reverse m.0.seen) (reverse after.0.seen) appended in
-        let was = ap held_of at.seat_is in
+        let e = held_appended key.bound marks (object_id mine seats) name (left + grants_of name (reverse m.0.seen)) (reverse m.0.seen) (reverse after.0.seen) appended in
+        let was = ap held_amount at.seat_is in
         omega (arith, e, was)
 
     -- the marks are appended, and the first of them found this value
     appends_at : (left' : ℕ) → left' + sum_by up_weight (map kind_of marks) ≡ left → Appends (room_rules key.bound) marks (room_seat (object_id mine seats) name left m) (room_seat (object_id mine seats) name left' after)
     appends_at left' is =
-        let g = granted_appended key.bound marks (object_id mine seats) name (left + claims_granted name (reverse m.0.seen)) (reverse m.0.seen) (reverse after.0.seen) appended in
-        let stint : left + claims_granted name (reverse m.0.seen) ≡ left' + claims_granted name (reverse after.0.seen) = omega (arith, g, is) in
+        let g = granted_appended key.bound marks (object_id mine seats) name (left + grants_of name (reverse m.0.seen)) (reverse m.0.seen) (reverse after.0.seen) appended in
+        let stint : left + grants_of name (reverse m.0.seen) ≡ left' + grants_of name (reverse after.0.seen) = omega (arith, g, is) in
         subst (λ (k : ℕ). Appends (room_rules key.bound) marks (room_seat (object_id mine seats) name left m) (seat_info (object_id mine seats) name k (reverse after.0.seen))) stint appended
 
     answers_at : (left' : ℕ) (answer : ℤ) → answer ≡ pos found -ℤ pos bias → answer ≡ value (before_appended seat_of 0 (room_seat (object_id mine seats) name left m) (room_seat (object_id mine seats) name left' after))

@@ -24,19 +24,19 @@ up_weight (Up d) = 1
 up_weight _ = 0
 
 -- how many claims of this name were granted
-abbrev pub claims_granted : ℕ → List RoomMark → ℕ
-claims_granted name h = sum_by up_weight (words_by seat_of kind_of name h)
+abbrev pub grants_of : ℕ → List RoomMark → ℕ
+grants_of name h = sum_by up_weight (words_by seat_of kind_of name h)
 
 -- how many claims the seat was granted, and how much it holds
-abbrev pub granted_of : SeatInfo RoomMark → ℕ
-granted_of s = claims_granted s.name s.seen
+abbrev pub granted_claims : SeatInfo RoomMark → ℕ
+granted_claims s = grants_of s.name s.seen
 
-abbrev pub held_of : SeatInfo RoomMark → ℕ
-held_of s = amount_held s.name s.seen
+abbrev pub held_amount : SeatInfo RoomMark → ℕ
+held_amount s = amount_held s.name s.seen
 
 -- a seat of this object, name and view, with so many claims left of its stint
 abbrev pub room_seat : ObjectId → ℕ → ℕ → RoomMine → SeatInfo RoomMark
-room_seat object name left me = seat_info object name (left + claims_granted name (reverse me.0.seen)) (reverse me.0.seen)
+room_seat object name left me = seat_info object name (left + grants_of name (reverse me.0.seen)) (reverse me.0.seen)
 
 -- a call that leaves one mark, and answers the value before it
 pub record MakesCall (kind : RoomKind) (room : RoomInfo) (old new : SeatInfo RoomMark) (answer : ℤ) : Type 0 where
@@ -50,9 +50,9 @@ pub record Withdraws (d : ℕ) (room : RoomInfo) (old new : SeatInfo RoomMark) (
 
 -- a claim is granted within the stint
 abbrev pub IsGranted : ℕ → RoomInfo → SeatInfo RoomMark → SeatInfo RoomMark → ℤ → Type 0
-IsGranted d room old new answer = (granted_of old < old.stint) × MakesCall (Up d) room old new answer
+IsGranted d room old new answer = (granted_claims old < old.stint) × MakesCall (Up d) room old new answer
 
 -- a claim beyond the stint changes nothing; within it, it is refused at its test or at its add
 abbrev pub IsRefused : ℕ → RoomInfo → SeatInfo RoomMark → SeatInfo RoomMark → TirFault → Type 0
-IsRefused d room old new Worn = (granted_of old ≡ old.stint) × (new ≡ old)
-IsRefused d room old new (AtBound v) = (granted_of old < old.stint) × (MakesCall (No d) room old new v ⊎ Withdraws d room old new v)
+IsRefused d room old new Worn = (granted_claims old ≡ old.stint) × (new ≡ old)
+IsRefused d room old new (AtBound v) = (granted_claims old < old.stint) × (MakesCall (No d) room old new v ⊎ Withdraws d room old new v)

@@ -4,11 +4,11 @@
 
 pub mod credits;
 pub mod fault;
-pub mod limits;
+mod limits;
 pub mod rooms;
 #[cfg(test)]
 mod tests;
-pub mod word;
+mod word;
 
 pub use credits::{Credit, CreditSeat, CreditTally};
 pub use fault::{OpenFault, TirFault, Worn};

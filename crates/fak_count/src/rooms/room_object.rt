@@ -5,7 +5,7 @@ ghost use Rattle.fak_model.specs.declared.room.RoomKind.TheVariants.{Release};
 ghost use Rattle.fak_model.specs.Room.{room_rules};
 ghost use Rattle.fak_model.specs.Calls.{fresh_seats, IsJoined};
 ghost use Rattle.fak_count.specs.Opening.{IsInRange, IsOpenFault};
-ghost use Rattle.fak_count.specs.Rooms.{held_of, IsGranted, IsRefused, MakesCall};
+ghost use Rattle.fak_count.specs.Rooms.{held_amount, IsGranted, IsRefused, MakesCall};
 
 use crate::fault::{OpenFault, TirFault};
 use crate::limits::tested_limits;
@@ -84,7 +84,7 @@ impl Room {
         requires fits { seat.old.object ≡ self.now.object }
         ensures object { seat.new.object ≡ seat.old.object }
         ensures call { MatchResult result (IsGranted d self.now seat.old seat.new) (IsRefused d self.now seat.old seat.new) }
-        ensures held { held_of seat.new ≡ held_of seat.old + (if is_ok result then d else 0) }
+        ensures held { held_amount seat.new ≡ held_amount seat.old + (if is_ok result then d else 0) }
     {
         let worn = seat.left == 0;
         if worn {
@@ -111,10 +111,10 @@ impl Room {
     pub fn release(&self, seat: &mut RoomSeat, d: u64) -> i64
         requires amount { (1 ≤ d) × (d ≤ 1024) }
         requires fits { seat.old.object ≡ self.now.object }
-        requires holds { d ≤ held_of seat.old }
+        requires holds { d ≤ held_amount seat.old }
         ensures object { seat.new.object ≡ seat.old.object }
         ensures call { MakesCall (Release d) self.now seat.old seat.new result }
-        ensures held { held_of seat.new + d ≡ held_of seat.old }
+        ensures held { held_amount seat.new + d ≡ held_amount seat.old }
     {
         let found = release_step::<Brand>(&self.table.shared, &mut seat.token, d);
         seat.held -= d;

@@ -1,7 +1,7 @@
 //! A seat of a room.
 
 ghost use Rattle.std.specs.Prelude.{◌≡◌, ◌+◌};
-ghost use Rattle.fak_count.specs.Rooms.{granted_of, held_of};
+ghost use Rattle.fak_count.specs.Rooms.{granted_claims, held_amount};
 
 use crate::rooms::key::RoomView;
 use atomic_table::Seat;
@@ -37,14 +37,14 @@ impl Model for RoomSeat {
 impl RoomSeat {
     /// How much the seat holds.
     pub fn held(&self) -> u64
-        ensures { result ≡ held_of self.now }
+        ensures { result ≡ held_amount self.now }
     {
         self.held
     }
 
     /// How many claims are left of the stint.
     pub fn left(&self) -> u64
-        ensures { result + granted_of self.now ≡ self.now.stint }
+        ensures { result + granted_claims self.now ≡ self.now.stint }
     {
         self.left
     }
