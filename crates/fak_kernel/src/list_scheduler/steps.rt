@@ -115,7 +115,7 @@ impl<K: Run> Lists<K> {
         if self.births >= script.births() {
             return Ok(Some(turn.noted(Note::NoBirth, false)?));
         }
-        let Some(slot) = self.free_slots.pop_front() else {
+        let Some(slot) = self.take_slot() else {
             return Ok(Some(turn.noted(Note::NoSlot, false)?));
         };
         let name = turn.context.child_name(alloc)?;
