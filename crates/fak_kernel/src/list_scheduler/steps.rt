@@ -39,12 +39,8 @@ impl<K: Run> Lists<K> {
             self.counts[at] = count - 1;
             Ok(Some(turn.noted(Note::Down(n), false)?))
         } else {
-            let Turn {
-                context,
-                made: _,
-                has_yielded: _,
-            } = turn;
-            self.sleepers.push(at, Sleeper::new(context, n)?)?;
+            let sleeper = Sleeper::new(turn.into_context(), n)?;
+            self.sleepers.push(at, sleeper)?;
             Ok(None)
         }
     }
