@@ -7,13 +7,14 @@ pub mod laws;
 mod list_scheduler;
 mod report;
 mod rows;
+mod running;
 mod sleeper;
 mod text;
 
 pub use fak_model::FileEntry;
 pub use fault::Fault;
-pub use list_scheduler::run_one;
 pub use report::{Outcome, ProcessRow, Report};
+pub use running::run_one;
 pub use text::report_text;
 
 #[cfg(test)]
