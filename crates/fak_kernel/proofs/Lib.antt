@@ -4,3 +4,4 @@ pub mod Waiting
 pub mod Opening
 pub mod RowLemmas
 pub mod Bounds
+pub mod Ends

@@ -21,8 +21,8 @@ use std::alloc::Global;
 use std::marker::Brand;
 use std::sync::Wait;
 
-/// Runs a script on one processor. The report is the list scheduler's.
-pub fn run_one<R: Wait>(rt: &R, alloc: Global, script: &Script) -> Result<Report, Fault>
+/// Runs a script on one processor, by lists. The report is the list scheduler's.
+pub(crate) fn run_by_lists<R: Wait>(rt: &R, alloc: Global, script: &Script) -> Result<Report, Fault>
     ensures report { IfOk result (λ report. ListSchedulerReports script.now (report_of report)) }
     ensures memory { IfErr result (λ fault. fault ≡ Fault.Memory) }
 {

@@ -39,12 +39,8 @@ impl<K: Run> Lists<K> {
             self.counts[at] = count - 1;
             Ok(Some(turn.noted(Note::Down(n), false)?))
         } else {
-            let Turn {
-                context,
-                made: _,
-                has_yielded: _,
-            } = turn;
-            self.sleepers.push(at, Sleeper::new(context, n)?)?;
+            let sleeper = Sleeper::new(turn.into_context(), n)?;
+            self.sleepers.push(at, sleeper)?;
             Ok(None)
         }
     }
@@ -115,7 +111,7 @@ impl<K: Run> Lists<K> {
         if self.births >= script.births() {
             return Ok(Some(turn.noted(Note::NoBirth, false)?));
         }
-        let Some(slot) = self.free_slots.pop_front() else {
+        let Some(slot) = self.take_slot() else {
             return Ok(Some(turn.noted(Note::NoSlot, false)?));
         };
         let name = turn.context.child_name(alloc)?;
