@@ -15,3 +15,9 @@ pub mod QueueWords
 pub mod QueueBackwards
 pub mod QueueLiteral
 pub mod QueueLaws
+pub mod RunningViews
+pub mod RunningSteps
+pub mod RunningSeats
+pub mod RunningCalls
+pub mod RunningJoins
+pub mod NameFlags

@@ -6,3 +6,8 @@ pub mod QueuePast
 pub mod Room
 pub mod Credit
 pub mod File
+pub mod Views
+pub mod Shown
+pub mod Calls
+pub mod Tokens
+pub mod Names

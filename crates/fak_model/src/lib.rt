@@ -5,11 +5,17 @@ pub mod cell;
 pub mod credit;
 pub mod file;
 pub mod laws;
+pub mod name_set;
 pub mod queue;
 pub mod room;
+pub mod seating;
+pub mod view;
 
 pub use cell::{cell_of, round_of};
 pub use credit::{CreditKind, CreditMark};
 pub use file::{FileEntry, FileField, FileKind, FileMark};
+pub use name_set::NameSet;
 pub use queue::{Kind, Mark, Stage};
 pub use room::{RoomKind, RoomMark};
+pub use seating::{Both, Deal};
+pub use view::View;

@@ -1,0 +1,150 @@
+-- What a tally knows once a seat was joined, and how the seats of a new object are dealt.
+use Rattle.std.proofs.Common.{◌≡◌, ◌⊎◌, ℕ, zero, suc, ◌+◌, ◌-◌, ◌*◌, ◌/◌, ◌<◌, Bool, true, false, cond, nat_lt, List, [], ◌∷◌, ◌++◌, length, refl, ap, sym, ◌∙◌, subst, arith, inl, inr, Some, suc-mul}
+use Rattle.std.specs.Prelude.{reverse}
+use Rattle.std.proofs.lemmas.List.{length-reverse}
+use Rattle.std.proofs.Math.Nat.{mul-div_cancel_left}
+use Rattle.atomic_table.specs.Table.{Me, Splits}
+use Rattle.fak_model.specs.declared.view.View.{View}
+use Rattle.fak_model.specs.Histories.{IsHistory, AreNamed}
+use Rattle.fak_model.specs.Seats.{Begins, In, Knows, longer_of, marks_of}
+use Rattle.fak_model.specs.Views.{sight, Sees, names_from, first_name, later_names, dealt, kept, joined, settled}
+use Rattle.fak_model.specs.Shown.{Object, IsShown, Hears}
+use Rattle.fak_model.specs.Calls.{seat_info, fresh_seats, tally_info, IsJoined}
+use Rattle.fak_model.specs.Tokens.{IsSeatToken, IsTallyToken}
+use Rattle.fak_model.proofs.Appending.{history_none}
+use Rattle.fak_model.proofs.Seats.{marks_of_append}
+use Rattle.fak_model.proofs.RunningViews.{sees_all, sees_begins, length-names_from, names_apart}
+use Rattle.fak_model.proofs.RunningSeats.{splits}
+use Rattle.fak_model.proofs.RunningCalls.{marks_of-foreign, marks_of-reverse}
+
+-- ---- a join
+
+-- whose names see a past know the history, oldest mark first
+pub sees_knows : {M : Type 0} (seat_of : M → ℕ) (names : List ℕ) (seen past : List M) → Sees seat_of names seen past → Knows seat_of names (reverse seen) (reverse past)
+sees_knows seat_of names seen past s = record {
+  begins = sees_begins seat_of names seen past s;
+  own = λ n i.
+      let none = marks_of-foreign seat_of n names s.between i s.foreign in
+      let same = ap (marks_of seat_of n) s.is ∙ (marks_of_append seat_of n s.between seen ∙ ap (λ h. h ++ marks_of seat_of n seen) none) in
+      marks_of-reverse seat_of n past ∙ (ap reverse same ∙ sym (marks_of-reverse seat_of n seen));
+}
+
+longer_of-reverse : {M : Type 0} (s t : List M) → longer_of (reverse s) (reverse t) ≡ reverse (longer_of s t)
+longer_of-reverse s t = rw (length-reverse s, length-reverse t) (by (nat_lt (length s) (length t)))
+  where
+    by : (c : Bool) → cond c (reverse t) (reverse s) ≡ reverse (cond c t s)
+    by true = refl
+    by false = refl
+
+-- what a join compared, for each part
+record Parts {M : Type 0} (seat_of : M → ℕ) (a b : List ℕ) (s t both : List M) : Type 0 where
+  pub left : Sees seat_of a s both
+  pub right : Sees seat_of b t both
+  pub one : Begins (reverse s) (reverse t) ⊎ Begins (reverse t) (reverse s)
+
+parts : {M : Type 0} (seat_of : M → ℕ) (a b : List ℕ) (s t : List M) (c : Bool) → Sees seat_of (cond c a b) (cond c s t) (cond c t s) → Parts seat_of a b s t (cond c t s)
+parts seat_of a b s t true z = record { left = z; right = sees_all seat_of b t; one = inl (sees_begins seat_of a s t z) }
+parts seat_of a b s t false z = record { left = sees_all seat_of a s; right = z; one = inr (sees_begins seat_of b t s z) }
+
+-- the tokens v and w of a tally and a seat were joined to u, and a load then told what they compared
+module _ {M W C P S H : Type 0} {o : Object M W C P S H} {v w u after : Me H (View M P)} {name left : ℕ} {phase : P}
+    (tally : IsTallyToken o phase v) (seat : IsSeatToken o name phase left w) (is : u ≡ (joined v.0 w.0, v.1)) (heard : Hears o u after) where
+  after_is : after ≡ (settled (joined v.0 w.0), v.1)
+  after_is = heard.after_is ∙ ap (λ (x : Me H (View M P)). let y : Me H (View M P) = (settled x.0, x.1) in y) is
+
+  pub names_after : after.0.names ≡ v.0.names ++ name ∷ []
+  names_after = ap (λ (x : Me H (View M P)). x.0.names) after_is ∙ ap (λ (x : Me H (View M P)). v.0.names ++ x.0.names) seat.me_is
+
+  seen_after : after.0.seen ≡ longer_of v.0.seen w.0.seen
+  seen_after = ap (λ (x : Me H (View M P)). x.0.seen) after_is
+
+  seen_before : u.0.seen ≡ after.0.seen
+  seen_before = ap (λ (x : Me H (View M P)). x.0.seen) (sym heard.after_is)
+
+  -- the joined token is a tally's
+  pub tally_after : IsTallyToken o phase after
+  tally_after =
+      let at : v.0.phase ≡ Some phase = ap (λ (x : Me H (View M P)). x.0.phase) tally.me_is in
+      let none : v.1 ≡ [] = ap (λ (x : Me H (View M P)). x.1) tally.me_is in
+      let names : v.0.names ++ w.0.names ≡ after.0.names = ap (λ (x : Me H (View M P)). x.0.names) (sym after_is) in
+      let kept : v.0.left ≡ after.0.left = ap (λ (x : Me H (View M P)). x.0.left) (sym after_is) in
+      record {
+        me_is = after_is ∙ (λ i. (record { names = names i; seen = sym seen_after i; phase = at i; left = kept i; told = []; told_names = [] }, none i));
+        lawful = subst (λ (h : List M). IsHistory o.rules (reverse h)) seen_before heard.lawful;
+        named = subst (λ (h : List M). AreNamed o.rules o.seats (reverse h)) seen_before heard.named;
+      }
+
+  told : Parts o.rules.seat_of v.0.names w.0.names v.0.seen w.0.seen (longer_of v.0.seen w.0.seen)
+  told = parts o.rules.seat_of v.0.names w.0.names v.0.seen w.0.seen (nat_lt (length v.0.seen) (length w.0.seen)) (subst (λ (x : Me H (View M P)). Sees o.rules.seat_of x.0.told_names x.0.told x.0.seen) is heard.told)
+
+  -- and it knows what a join promises
+  pub joins_infos : {O : Type 0} (object : O) (stint : ℕ)
+      → IsJoined o.rules o.seats (tally_info object v.0.names (reverse v.0.seen)) (seat_info object name stint (reverse w.0.seen)) (tally_info object after.0.names (reverse after.0.seen))
+  joins_infos object stint =
+      let one : w.0.names ≡ name ∷ [] = ap (λ (x : Me H (View M P)). x.0.names) seat.me_is in
+      let longer : reverse after.0.seen ≡ reverse (longer_of v.0.seen w.0.seen) = ap reverse seen_after in
+      record {
+        object = refl;
+        names = names_after;
+        one_history = told.one;
+        seen = longer ∙ sym (longer_of-reverse v.0.seen w.0.seen);
+        of_tally = subst (Knows o.rules.seat_of v.0.names (reverse v.0.seen)) (sym longer) (sees_knows o.rules.seat_of v.0.names v.0.seen (longer_of v.0.seen w.0.seen) told.left);
+        of_seat = subst (λ (x : List ℕ × List M). Knows o.rules.seat_of x.0 (reverse w.0.seen) x.1) (λ i. (one i, sym longer i)) (sees_knows o.rules.seat_of w.0.names w.0.seen (longer_of v.0.seen w.0.seen) told.right);
+        lawful = tally_after.lawful;
+        named = tally_after.named;
+      }
+
+-- the tally of one seat
+pub tally_token : {M W C P S H : Type 0} {o : Object M W C P S H} {name left : ℕ} {phase : P} {m : Me H (View M P)} → IsSeatToken o name phase left m → IsTallyToken o phase m
+tally_token {M} {W} {C} {P} {S} {H} {phase = phase} {m = m} t = record {
+  me_is = t.me_is ∙ (λ i. (sight (ap (λ (x : Me H (View M P)). x.0.names) (sym t.me_is) i) m.0.seen phase (ap (λ (x : Me H (View M P)). x.0.left) (sym t.me_is) i), []));
+  lawful = t.lawful;
+  named = t.named;
+}
+
+-- ---- seats of a new object
+
+-- the first seat has handed out the names below i, of n, with as many tickets each
+abbrev pub rest_from : {M P : Type 0} → P → ℕ → ℕ → ℕ → View M P
+rest_from resting stint i n = sight (names_from i (n - i)) [] resting ((n - i) * stint)
+
+module _ {M W C P S H : Type 0} (o : Object M W C P S H) (resting : P) (stint i n id : ℕ) (m : Me H (View M P)) (low : i < n) (is : m ≡ (rest_from resting stint i n, [])) where
+  view_is : m.0 ≡ sight (names_from i (suc (n - (i + 1)))) [] resting (suc (n - (i + 1)) * stint)
+  view_is =
+      let step : n - i ≡ suc (n - (i + 1)) = omega (arith, low) in
+      ap (λ (x : Me H (View M P)). x.0) is ∙ ap (λ (k : ℕ). sight (names_from i k) [] resting (k * stint)) step
+
+  share_is : (j : ℕ) → (suc j * stint) / length (names_from i (suc j)) ≡ stint
+  share_is j = ap (λ (k : ℕ). (suc j * stint) / k) (length-names_from i (suc j)) ∙ mul-div_cancel_left stint (omega arith)
+
+  pub deals : Splits (IsShown o) id m.0 (kept m.0) (dealt m.0)
+  deals = splits o id m.0 (λ k. subst (λ (names : List ℕ). In k (first_name names) → In k (later_names names) → ⊥) (ap (λ (v : View M P). v.names) (sym view_is)) (names_apart i (suc (n - (i + 1))) k))
+
+  pub dealt_is : ◌≡◌ {A = Me H (View M P)} (dealt m.0, []) (sight (i ∷ []) [] resting stint, [])
+  dealt_is = ap (λ (v : View M P). let x : Me H (View M P) = (dealt v, []) in x) view_is ∙ ap (λ (k : ℕ). let x : Me H (View M P) = (sight (i ∷ []) [] resting k, []) in x) (share_is (n - (i + 1)))
+
+  pub kept_is : ◌≡◌ {A = Me H (View M P)} (kept m.0, m.1) (rest_from resting stint (i + 1) n, [])
+  kept_is =
+      let next : suc i ≡ i + 1 = omega arith in
+      let others : (suc (n - (i + 1)) * stint) - (suc (n - (i + 1)) * stint) / length (names_from i (suc (n - (i + 1)))) ≡ (n - (i + 1)) * stint =
+      ap (λ (k : ℕ). (suc (n - (i + 1)) * stint) - k) (share_is (n - (i + 1))) ∙ less (n - (i + 1)) in
+      (λ j. (kept (view_is j), ap (λ (x : Me H (View M P)). x.1) is j)) ∙ (λ j. (sight (names_from (next j) (n - (i + 1))) [] resting (others j), []))
+    where
+      less : (k : ℕ) → suc k * stint - stint ≡ k * stint
+      less k = omega (arith, suc-mul k stint)
+
+-- a seat's token as it is dealt
+pub fresh_token : {M W C P S H : Type 0} (o : Object M W C P S H) (resting : P) (stint name : ℕ) (m : Me H (View M P)) → m ≡ (sight (name ∷ []) [] resting stint, []) → name < o.seats → IsSeatToken o name resting stint m
+fresh_token {M} {W} {C} {P} {S} {H} o resting stint name m is low = subst (λ (x : Me H (View M P)). IsSeatToken o name resting stint x) (sym is) record {
+  me_is = refl;
+  below = low;
+  lawful = history_none o.rules;
+  named = λ k d lt. absurd (omega arith);
+}
+
+pub fresh_next : {O M : Type 0} (object : O) (stint a n : ℕ) → fresh_seats {M = M} object stint a (n + 1) ≡ fresh_seats object stint a n ++ seat_info object (a + n) stint [] ∷ []
+fresh_next object stint a zero = let same : a ≡ a + 0 = omega arith in ap (λ x. seat_info object x stint [] ∷ []) same
+fresh_next {O} {M} object stint a (suc n) =
+    let up : suc n + 1 ≡ suc (n + 1) = omega arith in
+    let same : suc a + n ≡ a + suc n = omega arith in
+    ap (λ k. fresh_seats {M = M} object stint a k) up ∙ ap (λ l. seat_info object a stint [] ∷ l) (fresh_next {M = M} object stint (suc a) n ∙ ap (λ x. fresh_seats {M = M} object stint (suc a) n ++ seat_info object x stint [] ∷ []) same)

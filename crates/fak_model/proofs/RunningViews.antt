@@ -1,0 +1,164 @@
+-- What views know after a step of their own or of another, and when two are joined.
+use Rattle.std.proofs.Common.{◌≡◌, ℕ, zero, suc, ◌+◌, ◌<◌, ◌≤◌, true, false, Bool, cond, nat_lt, List, [], ◌∷◌, ◌++◌, length, length-append, refl, ap, sym, ◌∙◌, subst, arith, inl, inr, append_assoc}
+use Rattle.std.proofs.lemmas.Bool.Decides.{nat_tests}
+use Rattle.std.specs.Prelude.{reverse}
+use Rattle.std.specs.List.{All}
+use Rattle.std.proofs.lemmas.List.{append-nil, reverse-append}
+use Rattle.std.proofs.lemmas.List.Elements.{All-head, All-tail}
+use Rattle.fak_model.specs.Histories.{Rules, IsHistory, AreNamed}
+use Rattle.fak_model.specs.Seats.{Begins, In, IsWhole, longer_of}
+use Rattle.fak_model.specs.Views.{Foreign, AreOwn, Sees, names_from, first_name, later_names, shorter_of}
+use Rattle.fak_model.proofs.Seats.{in_either, seen_lawful}
+use Rattle.fak_model.proofs.QueueBackwards.{All-reverse}
+
+-- ---- marks of others
+
+module _ {M : Type 0} (seat_of : M → ℕ) where
+  pub foreign_append : (names : List ℕ) (f g : List M) → Foreign seat_of names f → Foreign seat_of names g → Foreign seat_of names (f ++ g)
+  foreign_append names [] g a b = b
+  foreign_append names (m ∷ f) g a b = (a.0, foreign_append names f g a.1 b)
+
+  pub foreign_left : (names : List ℕ) (f g : List M) → Foreign seat_of names (f ++ g) → Foreign seat_of names f
+  foreign_left names [] g a = tt
+  foreign_left names (m ∷ f) g a = (a.0, foreign_left names f g a.1)
+
+  pub foreign_right : (names : List ℕ) (f g : List M) → Foreign seat_of names (f ++ g) → Foreign seat_of names g
+  foreign_right names [] g a = a
+  foreign_right names (m ∷ f) g a = foreign_right names f g a.1
+
+  -- fewer names
+  pub foreign_fewer : (few names : List ℕ) (h : List M) → ((n : ℕ) → In n few → In n names) → Foreign seat_of names h → Foreign seat_of few h
+  foreign_fewer few names [] among a = tt
+  foreign_fewer few names (m ∷ h) among a = ((λ i. a.0 (among (seat_of m) i)), foreign_fewer few names h among a.1)
+
+  pub foreign_both : (a b : List ℕ) (h : List M) → Foreign seat_of a h → Foreign seat_of b h → Foreign seat_of (a ++ b) h
+  foreign_both a b [] f g = tt
+  foreign_both a b (m ∷ h) f g = ((λ i. elim (in_either (seat_of m) a b i) [ inl x ↦ f.0 x | inr x ↦ g.0 x ]), foreign_both a b h f.1 g.1)
+
+  -- the marks of a name that is not among these
+  pub foreign_own : (names : List ℕ) (n : ℕ) (new : List M) → (In n names → ⊥) → AreOwn seat_of n new → Foreign seat_of names new
+  foreign_own names n [] apart own = tt
+  foreign_own names n (m ∷ new) apart own = ((λ i. apart (subst (λ (k : ℕ). In k names) own.0 i)), foreign_own names n new apart own.1)
+
+  -- ---- a step
+
+  pub sees_all : (names : List ℕ) (past : List M) → Sees seat_of names past past
+  sees_all names past = record { between = []; is = refl; foreign = tt }
+
+  foreign_none : (h : List M) → Foreign seat_of [] h
+  foreign_none [] = tt
+  foreign_none (m ∷ h) = ((λ i. i), foreign_none h)
+
+  pub sees_nothing : (past : List M) → Sees seat_of [] [] past
+  sees_nothing past = record { between = past; is = sym (append-nil past); foreign = foreign_none past }
+
+  -- what another's step adds has no mark of these names
+  pub sees_other : (names : List ℕ) (seen past : List M) (n : ℕ) (new : List M) → (In n names → ⊥) → AreOwn seat_of n new → Sees seat_of names seen past → Sees seat_of names seen (new ++ past)
+  sees_other names seen past n new apart own s = record {
+    between = new ++ s.between;
+    is = ap (λ h. new ++ h) s.is ∙ sym (append_assoc new s.between seen);
+    foreign = foreign_append names new s.between (foreign_own names n new apart own) s.foreign;
+  }
+
+  pub sees_fewer : (few names : List ℕ) (seen past : List M) → ((n : ℕ) → In n few → In n names) → Sees seat_of names seen past → Sees seat_of few seen past
+  sees_fewer few names seen past among s = record { between = s.between; is = s.is; foreign = foreign_fewer few names s.between among s.foreign }
+
+  pub sees_then : (names : List ℕ) (a b c : List M) → Sees seat_of names a b → Sees seat_of names b c → Sees seat_of names a c
+  sees_then names a b c s t = record {
+    between = t.between ++ s.between;
+    is = t.is ∙ (ap (λ h. t.between ++ h) s.is ∙ sym (append_assoc t.between s.between a));
+    foreign = foreign_append names t.between s.between t.foreign s.foreign;
+  }
+
+-- ---- histories, oldest mark first
+
+-- what was seen begins the history
+pub sees_begins : {M : Type 0} (seat_of : M → ℕ) (names : List ℕ) (seen past : List M) → Sees seat_of names seen past → Begins (reverse seen) (reverse past)
+sees_begins seat_of names seen past s = (reverse s.between, sym (ap reverse s.is ∙ reverse-append s.between seen))
+
+pub sees_lawful : {M W C : Type 0} (rules : Rules M W C) (names : List ℕ) (seen past : List M) → Sees rules.seat_of names seen past → IsHistory rules (reverse past) → IsHistory rules (reverse seen)
+sees_lawful rules names seen past s law = seen_lawful rules (reverse seen) (reverse past) (sees_begins rules.seat_of names seen past s) law
+
+-- a fact of all marks is one of those that were seen
+pub all_end : {A : Type 0} (F : A → Type 0) (l k : List A) → All F (l ++ k) → All F k
+all_end F [] k all = all
+all_end F (x ∷ l) k all = all_end F l k (All-tail F x (l ++ k) all)
+
+pub sees_named : {M W C : Type 0} (rules : Rules M W C) (seats : ℕ) (names : List ℕ) (seen past : List M) → Sees rules.seat_of names seen past → AreNamed rules seats past → AreNamed rules seats (reverse seen)
+sees_named {M} rules seats names seen past s named =
+    let Named : M → Type 0 = λ (m : M). rules.seat_of m < seats in
+    All-reverse Named seen (all_end Named s.between seen (subst (All Named) s.is named))
+
+-- ---- a whole tally
+
+-- with the names of all seats in, nothing was left between
+pub sees_whole : {M W C : Type 0} (rules : Rules M W C) (seats : ℕ) (names : List ℕ) (seen past : List M) → IsWhole seats names → AreNamed rules seats past → Sees rules.seat_of names seen past → past ≡ seen
+sees_whole {M} rules seats names seen past whole named s = s.is ∙ nobody s.between (subst (AreNamed rules seats) s.is named) s.foreign
+  where
+    nobody : (h : List M) → AreNamed rules seats (h ++ seen) → Foreign rules.seat_of names h → h ++ seen ≡ seen
+    nobody [] all f = refl
+    nobody (m ∷ h) all f = absurd (f.0 (whole (rules.seat_of m) (All-head (λ (w : M). rules.seat_of w < seats) m (h ++ seen) all)))
+
+-- ---- a join
+
+-- of two ends of one list the shorter is the end of the longer
+pub shorter_end : {A : Type 0} (p q a b : List A) → p ++ a ≡ q ++ b → length a ≤ length b → (r : List A) × (b ≡ r ++ a) × (p ≡ q ++ r)
+shorter_end [] [] a b e le = ([], sym e, refl)
+shorter_end [] (y ∷ q) a b e le = absurd (omega (arith, ap length e, length-append (y ∷ q) b))
+shorter_end (x ∷ p) [] a b e le = (x ∷ p, sym e, refl)
+shorter_end (x ∷ p) (y ∷ q) a b e le =
+    let rest = shorter_end p q a b (cc e) le in
+    let heads : x ≡ y = cc e in
+    (rest.0, rest.1, cc (heads, rest.2))
+
+-- both see the past by the longer of what they saw, and it goes on from the shorter
+pub record Compared {M : Type 0} (seat_of : M → ℕ) (a b : List ℕ) (s t past : List M) : Type 0 where
+  pub both : Sees seat_of (a ++ b) (longer_of s t) past
+  pub less : Sees seat_of (cond (nat_lt (length s) (length t)) a b) (shorter_of s t) (longer_of s t)
+
+pub compared : {M : Type 0} (seat_of : M → ℕ) (a b : List ℕ) (s t past : List M) → Sees seat_of a s past → Sees seat_of b t past → Compared seat_of a b s t past
+compared {M} seat_of a b s t past p q =
+    let r = by (nat_lt (length s) (length t)) refl in
+    record { both = r.0; less = r.1 }
+  where
+    by : (c : Bool) → nat_lt (length s) (length t) ≡ c → Sees seat_of (a ++ b) (cond c t s) past × Sees seat_of (cond c a b) (cond c s t) (cond c t s)
+    by true e =
+        let le : length s ≤ length t = grind (arith, nat_tests) in
+        let r = shorter_end p.between q.between s t (sym p.is ∙ q.is) le in
+        let f : Foreign seat_of a (q.between ++ r.0) = subst (Foreign seat_of a) r.2 p.foreign in (
+          record { between = q.between; is = q.is; foreign = foreign_both seat_of a b q.between (foreign_left seat_of a q.between r.0 f) q.foreign },
+          record { between = r.0; is = r.1; foreign = foreign_right seat_of a q.between r.0 f },
+        )
+    by false e =
+        let le : length t ≤ length s = grind (arith, nat_tests) in
+        let r = shorter_end q.between p.between t s (sym q.is ∙ p.is) le in
+        let f : Foreign seat_of b (p.between ++ r.0) = subst (Foreign seat_of b) r.2 q.foreign in (
+          record { between = p.between; is = p.is; foreign = foreign_both seat_of a b p.between p.foreign (foreign_left seat_of b p.between r.0 f) },
+          record { between = r.0; is = r.1; foreign = foreign_right seat_of b p.between r.0 f },
+        )
+
+-- ---- names
+
+pub first_in : (n : ℕ) (names : List ℕ) → In n (first_name names) → In n names
+first_in n [] i = i
+first_in n (x ∷ names) (inl e) = inl e
+first_in n (x ∷ names) (inr i) = absurd i
+
+pub later_in : (n : ℕ) (names : List ℕ) → In n (later_names names) → In n names
+later_in n [] i = i
+later_in n (x ∷ names) i = inr i
+
+pub in_names_from : (n a k : ℕ) → In n (names_from a k) → (a ≤ n) × (n < a + k)
+in_names_from n a zero i = absurd i
+in_names_from n a (suc k) (inl e) = (omega arith, omega arith)
+in_names_from n a (suc k) (inr i) = let r = in_names_from n (suc a) k i in (omega (arith, r.0), omega (arith, r.1))
+
+pub length-names_from : (a k : ℕ) → length (names_from a k) ≡ k
+length-names_from a zero = refl
+length-names_from a (suc k) = ap suc (length-names_from (suc a) k)
+
+-- the first of these names is not among the others
+pub names_apart : (a k n : ℕ) → In n (first_name (names_from a k)) → In n (later_names (names_from a k)) → ⊥
+names_apart a zero n i j = i
+names_apart a (suc k) n (inl e) j = let r = in_names_from n (suc a) k j in omega (arith, r.0)
+names_apart a (suc k) n (inr i) j = i
