@@ -9,3 +9,5 @@ pub mod QueueOwners
 pub mod QueueSteps
 pub mod QueueReached
 pub mod QueueLoads
+pub mod QueueSound
+pub mod QueueCalls

@@ -11,7 +11,7 @@ use Rattle.fak_model.specs.declared.room.RoomKind.{RoomKind}
 use Rattle.fak_model.specs.declared.room.RoomKind.TheVariants.{Back}
 use Rattle.fak_model.specs.declared.room.RoomMark.{RoomMark}
 use Rattle.fak_model.specs.Histories.{sum_below}
-use Rattle.fak_model.specs.Room.{kinds_of_call, kind_of, total, up_amount, over_amount, back_amount, release_amount, value, amount_held, room_rules, IsRoomHistory}
+use Rattle.fak_model.specs.Room.{kinds_of_call, total, over_amount, back_amount, value, amount_held, room_rules}
 use Rattle.fak_model.proofs.Leading.{calls_lead, owes_even, sum_same, sum_parts, sum_plus, sum_most, sum_term}
 use Rattle.fak_model.proofs.RoomLaw.{backs_after, call_even, held_fits}
 use Rattle.fak_core.specs.declared.call.RoomCall.{RoomCall}

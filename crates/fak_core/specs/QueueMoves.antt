@@ -120,26 +120,30 @@ end_out found = marked step.EndOut (Count found) mark.EndOut (write.Upper (found
 abbrev pub set_shut : {A : Type 0} → ℤ → QueueMove A
 set_shut found = marked step.Shut (Count found) mark.Close write.Shut Idle
 
--- the step of a seat that stands in this phase
+-- the step of a seat that stands in this phase, where the next deletion's ticket draws `drawn`
+abbrev pub move_by : {A : Type 0} → ℕ → QueueState A → Option A → Phase A → Option (QueueMove A)
+move_by size st drawn Idle = None
+move_by size st drawn (TestUp x) = Some (test_up size st.shut st.upper x)
+move_by size st drawn (AddUp x) = Some (add_up size st.shut st.upper x)
+move_by size st drawn (BackUp x) = Some (back_up st.upper)
+move_by size st drawn (TicketIn x) = Some (ticket_in st.draws_in x)
+move_by size st drawn (TurnIn k x) = Some (turn_in size (st.turn (k % size)) k x)
+move_by size st drawn (StoreItem k x) = Some (store_item size k x)
+move_by size st drawn (SetFull k x) = Some (set_full size k)
+move_by size st drawn (EndInsert k) = Some (end_in st.lower)
+move_by size st drawn TestLow = Some (test_low st.lower)
+move_by size st drawn SubLow = Some (sub_low st.lower)
+move_by size st drawn BackLow = Some (back_low st.lower)
+move_by size st drawn TicketOut = Some (ticket_out st.draws_out drawn)
+move_by size st drawn (TurnOut k) = Some (turn_out size (st.turn (k % size)) k)
+move_by size st drawn (LoadItem k) = Some (load_item (st.cell (k % size)) k)
+move_by size st drawn (SetFree k) = Some (set_free size k)
+move_by size st drawn (EndDelete k) = Some (end_out st.upper)
+move_by size st drawn SetShut = Some (set_shut st.upper)
+
+-- the step of a seat that stands in this phase: a deletion's ticket draws the item that was put under it
 abbrev pub next_move : {A : Type 0} → ℕ → QueueState A → Phase A → Option (QueueMove A)
-next_move size st Idle = None
-next_move size st (TestUp x) = Some (test_up size st.shut st.upper x)
-next_move size st (AddUp x) = Some (add_up size st.shut st.upper x)
-next_move size st (BackUp x) = Some (back_up st.upper)
-next_move size st (TicketIn x) = Some (ticket_in st.draws_in x)
-next_move size st (TurnIn k x) = Some (turn_in size (st.turn (k % size)) k x)
-next_move size st (StoreItem k x) = Some (store_item size k x)
-next_move size st (SetFull k x) = Some (set_full size k)
-next_move size st (EndInsert k) = Some (end_in st.lower)
-next_move size st TestLow = Some (test_low st.lower)
-next_move size st SubLow = Some (sub_low st.lower)
-next_move size st BackLow = Some (back_low st.lower)
-next_move size st TicketOut = Some (ticket_out st.draws_out (item_of st.past st.draws_out))
-next_move size st (TurnOut k) = Some (turn_out size (st.turn (k % size)) k)
-next_move size st (LoadItem k) = Some (load_item (st.cell (k % size)) k)
-next_move size st (SetFree k) = Some (set_free size k)
-next_move size st (EndDelete k) = Some (end_out st.upper)
-next_move size st SetShut = Some (set_shut st.upper)
+next_move size st p = move_by size st (item_of st.past st.draws_out) p
 
 -- ---- the state after a step
 

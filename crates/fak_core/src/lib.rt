@@ -11,6 +11,7 @@ pub mod room;
 pub use call::{QueueCall, RoomCall};
 pub use fault::CoreFault;
 pub use line::{CoreMove, Line, LineMark};
+pub use queue::QueueCore;
 pub use queue::phase::Phase;
 pub use queue::step::{Found, QueueMove, Write};
 pub use room::RoomCore;

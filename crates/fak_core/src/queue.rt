@@ -1,5 +1,167 @@
-//! The bounded queue over plain data: one atomic step of one seat at a time, after Gottlieb, Lubachevsky and
-//! Rudolph (TOPLAS 5(2), 1983).
+//! The queue core: a bounded queue of cells with turns, after Gottlieb, Lubachevsky and Rudolph (TOPLAS 5(2), 1983),
+//! one atomic step at a time.
 
+ghost use Rattle.std.specs.Prelude.{◌≡◌, ◌⊎◌, ◌↔◌, ◌≤◌, ◌<◌, Err, IfErr, IfOk, IsErrOf, OnErr, OnOk, Some};
+ghost use Rattle.fak_model.specs.Queue.{IsQueueHistory};
+ghost use Rattle.fak_core.specs.declared.fault.CoreFault.TheVariants.{BadSize, BadSeats, Memory};
+ghost use Rattle.fak_core.specs.declared.line.CoreMove.TheVariants.{LoadItem};
+ghost use Rattle.fak_core.specs.QueueFields.{IsBegun, IsStep, LeavesMark, LoadsPut, begin_of, history_of, opening_fields, phase_begin, queue_state, step_of};
+ghost use Rattle.fak_core.specs.QueueSchedule.{opening};
+
+mod lines;
+mod marks;
+mod moves;
 pub mod phase;
 pub mod step;
+#[cfg(test)]
+mod tests;
+mod words;
+
+use crate::call::QueueCall;
+use crate::fault::CoreFault;
+use crate::line::Line;
+use fak_model::Mark;
+use lines::line_of;
+use marks::{item_put, keep_mark};
+use phase::Phase;
+use std::alloc::Global;
+use std::marker::Model;
+use step::QueueMove;
+use words::QueueWords;
+
+/// The largest number of cells.
+const LARGEST_SIZE: u64 = 4096;
+
+/// The largest number of seats.
+const MOST_SEATS: u64 = 64;
+
+/// A bounded queue of numbers over plain data.
+///
+/// Its value in contracts is the record of its fields, with the marks so far newest first; `queue_state` is the state
+/// that they show. The items put are kept by their tickets, beside the marks that say them.
+#[derive(Drop)]
+pub struct QueueCore {
+    words: QueueWords,
+    items: Vec<u64>,
+    phases: Vec<Phase<u64>>,
+    marks: Vec<Mark<u64>>,
+}
+
+impl Model for QueueCore {
+    ghost use Rattle.std.specs.Prelude.{reverse};
+    ghost use Rattle.fak_core.specs.QueueFields.{IsSoundWith, QueueFields};
+
+    ghost Value = { QueueFields };
+
+    ghost use Rattle.fak_core.specs.QueueWords.{fields_of};
+
+    ghost view = { λ c. record (fields_of c.words) { phases = c.phases.items; past = reverse c.marks.items } };
+
+    ghost invariant = { λ c. IsSoundWith (record (fields_of c.words) { phases = c.phases.items; past = reverse c.marks.items }) c.items.items };
+}
+
+/// The phase in which a call of a seat that stands in this phase begins.
+fn first_phase(at: Phase<u64>, call: QueueCall) -> Result<Phase<u64>, CoreFault>
+    ensures { result ≡ phase_begin (Some at) call }
+{
+    match at {
+        Phase::Idle => {
+            match call {
+                QueueCall::Insert(item) => Ok(Phase::TestUp(item)),
+                QueueCall::Delete => Ok(Phase::TestLow),
+                QueueCall::Shut => Ok(Phase::SetShut),
+            }
+        }
+        _ => Err(CoreFault::MidCall),
+    }
+}
+
+impl QueueCore {
+    /// An open and empty queue of this size, 1 to 4,096, with this number of seats, 1 to 64, all idle.
+    pub fn new(alloc: Global, size: u64, seats: u64) -> Result<QueueCore, CoreFault>
+        ensures ok { IfOk result (λ core. core ≡ opening_fields size seats) }
+        ensures opens { IfOk result (λ core. queue_state core ≡ opening) }
+
+        // Refusals, in their order.
+        ensures size { IsErrOf result CoreFault.BadSize ↔ ((size ≡ 0) ⊎ (4096 < size)) }
+        ensures seats { IsErrOf result CoreFault.BadSeats ↔ ((1 ≤ size) × (size ≤ 4096) × ((seats ≡ 0) ⊎ (64 < seats))) }
+        ensures fault { IfErr result (λ fault. (fault ≡ BadSize) ⊎ (fault ≡ BadSeats) ⊎ (fault ≡ Memory)) }
+    {
+        if size == 0 || size > LARGEST_SIZE {
+            return Err(CoreFault::BadSize);
+        }
+        if seats == 0 || seats > MOST_SEATS {
+            return Err(CoreFault::BadSeats);
+        }
+        let words = QueueWords::new(alloc, size)?;
+        let Ok(phases) = vec![in alloc; Phase::Idle; seats as usize] else {
+            return Err(CoreFault::Memory);
+        };
+        Ok(QueueCore {
+            words,
+            items: Vec::new(alloc),
+            phases,
+            marks: Vec::new(alloc),
+        })
+    }
+
+    /// The marks so far, oldest first.
+    pub fn marks(&self) -> &[Mark<u64>]
+        ensures marks { result.now ≡ history_of self.now }
+        ensures legal { IsQueueHistory self.now.size result.now }
+    {
+        &self.marks
+    }
+
+    /// Begins a call of a seat. Refused as `NoSuchSeat` or `MidCall`, in this order.
+    pub fn begin(&mut self, seat: u64, call: QueueCall) -> Result<(), CoreFault>
+        ensures ok { OnOk result (IsBegun self.old seat call self.new) }
+        ensures err { OnErr result (self.new ≡ self.old) }
+        ensures fault { IfErr result (λ fault. begin_of self.old seat call ≡ Err fault) }
+    {
+        if seat >= self.phases.len() as u64 {
+            return Err(CoreFault::NoSuchSeat);
+        }
+        let phase = first_phase(self.phases[seat as usize], call)?;
+        self.phases[seat as usize] = phase;
+        Ok(())
+    }
+
+    /// Makes one atomic step of the call that a seat is in. Refused as `NoSuchSeat` or `IdleSeat`, in this order, or
+    /// as `Memory`, only at a step that leaves a mark. After `Memory` the seat's next step is still the same.
+    pub fn advance(&mut self, _alloc: Global, seat: u64) -> Result<Line, CoreFault>
+        ensures ok { IfOk result (λ line. IsStep self.old seat line self.new) }
+
+        // A deletion hands out the item of the Put with its own ticket.
+        ensures loads { IfOk result (λ line. line.step ≡ LoadItem → LoadsPut self.old seat line.found) }
+
+        ensures err { OnErr result (self.new ≡ self.old) }
+        ensures fault { IfErr result (λ fault. (step_of self.old seat ≡ Err fault)
+            ⊎ ((fault ≡ Memory) × LeavesMark (step_of self.old seat))) }
+    {
+        let step = self.next_step(seat)?;
+        if let Err(fault) = keep_mark(&mut self.marks, &mut self.items, seat, step.mark) {
+            return Err(fault);
+        }
+        self.words.write(step.write);
+        self.phases[seat as usize] = step.phase;
+        Ok(line_of(seat, step))
+    }
+
+    /// The next step of a seat.
+    fn next_step(&self, seat: u64) -> Result<QueueMove<u64>, CoreFault>
+        ensures { result ≡ step_of self.now seat }
+    {
+        if seat >= self.phases.len() as u64 {
+            return Err(CoreFault::NoSuchSeat);
+        }
+        // A slice tells that the marks, and so the tickets, are few enough for the steps to reckon with.
+        let _marks = self.marks.as_slice();
+        let phase = self.phases[seat as usize];
+        let drawn = item_put(&self.items, self.words.draws_out);
+        let Some(step) = self.words.next_move(drawn, phase) else {
+            return Err(CoreFault::IdleSeat);
+        };
+        Ok(step)
+    }
+}

@@ -54,6 +54,7 @@ impl RoomCore {
     /// A room of this bound, 0 to 4,294,967,296, with this number of seats, 1 to 64, none of which holds anything.
     pub fn new(alloc: Global, bound: u64, seats: u64) -> Result<RoomCore, CoreFault>
         ensures ok { IfOk result (λ core. core ≡ opening bound seats) }
+        ensures many { IfOk result (λ core. length core.seats ≡ seats) }
         ensures size { IsErrOf result CoreFault.BadSize ↔ 4294967296 < bound }
         ensures seats { IsErrOf result CoreFault.BadSeats ↔ (bound ≤ 4294967296) × ((seats ≡ 0) ⊎ (64 < seats)) }
         ensures fault { IfErr result (λ fault. (fault ≡ BadSize) ⊎ (fault ≡ BadSeats) ⊎ (fault ≡ Memory)) }
@@ -108,6 +109,7 @@ impl RoomCore {
         requires { (1 ≤ amount_of call) × (amount_of call ≤ 1024) }
         ensures ok { OnOk result (IsBegun self.old seat call self.new) }
         ensures err { OnErr result (self.new ≡ self.old) }
+        ensures many { length self.new.seats ≡ length self.old.seats }
         ensures fault { IfErr result (λ fault. begin_of self.old seat call ≡ Err fault) }
     {
         if seat >= self.seats.len() as u64 {
@@ -127,6 +129,7 @@ impl RoomCore {
     pub fn advance(&mut self, _alloc: Global, seat: u64) -> Result<Line, CoreFault>
         ensures ok { IfOk result (λ line. IsStep self.old seat line self.new) }
         ensures err { OnErr result (self.new ≡ self.old) }
+        ensures many { length self.new.seats ≡ length self.old.seats }
         ensures fault { IfErr result (λ fault. (step_of self.old seat ≡ Err fault) ⊎ ((fault ≡ Memory) × LeavesMark (step_of self.old seat))) }
     {
         if seat >= self.seats.len() as u64 {

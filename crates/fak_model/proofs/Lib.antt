@@ -15,6 +15,9 @@ pub mod QueueWords
 pub mod QueueBackwards
 pub mod QueueLiteral
 pub mod QueueLaws
+pub mod CheckerPast
+pub mod CheckerCounts
+pub mod CheckerFaults
 pub mod RunningViews
 pub mod RunningSteps
 pub mod RunningSeats

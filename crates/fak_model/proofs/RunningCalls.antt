@@ -9,7 +9,7 @@ use Rattle.fak_model.specs.Histories.{Rules, IsHistory, AreNamed}
 use Rattle.fak_model.specs.Seats.{Begins, In, marks_of}
 use Rattle.fak_model.specs.Views.{sight, Foreign, AreOwn}
 use Rattle.fak_model.specs.Shown.{Object, Leaves}
-use Rattle.fak_model.specs.Calls.{SeatInfo, seat_info, mine_of, last_of, Appends, before_mark}
+use Rattle.fak_model.specs.Calls.{ObjectId, SeatInfo, seat_info, mine_of, last_of, Appends, before_mark}
 use Rattle.fak_model.specs.Tokens.{IsSeatToken}
 use Rattle.fak_model.proofs.Seats.{begins_self, marks_of_append}
 use Rattle.fak_model.proofs.RunningViews.{sees_begins}
@@ -75,13 +75,13 @@ begins_trans f g h a b = (a.0 ++ b.0, sym (append_assoc f a.0 b.0) ∙ (ap (λ l
 
 -- ---- calls
 
-module _ {M W C : Type 0} (rules : Rules M W C) (seats : ℕ) where
+module _ {M W C : Type 0} (rules : Rules M W C) where
   -- a call of one part, and then of another that leaves a mark
-  pub appends_then : {O : Type 0} (f : List M) (m : M) (g : List M) (a b c : SeatInfo O M) → Appends rules seats f a b → Appends rules seats (m ∷ g) b c → Appends rules seats (f ++ m ∷ g) a c
-  appends_then {O} f m g a b c p q =
-      let name : b.name ≡ a.name = ap (λ (s : SeatInfo O M). s.name) p.same_seat in
-      let stint : b.stint ≡ a.stint = ap (λ (s : SeatInfo O M). s.stint) p.same_seat in
-      let object : b.object ≡ a.object = ap (λ (s : SeatInfo O M). s.object) p.same_seat in
+  pub appends_then : (f : List M) (m : M) (g : List M) (a b c : SeatInfo M) → Appends rules f a b → Appends rules (m ∷ g) b c → Appends rules (f ++ m ∷ g) a c
+  appends_then f m g a b c p q =
+      let name : b.name ≡ a.name = ap (λ (s : SeatInfo M). s.name) p.same_seat in
+      let stint : b.stint ≡ a.stint = ap (λ (s : SeatInfo M). s.stint) p.same_seat in
+      let object : b.object ≡ a.object = ap (λ (s : SeatInfo M). s.object) p.same_seat in
       record {
         same_seat = q.same_seat ∙ (λ i. seat_info (object i) (name i) (stint i) c.seen);
         begins = begins_trans a.seen b.seen c.seen p.begins q.begins;
@@ -92,7 +92,7 @@ module _ {M W C : Type 0} (rules : Rules M W C) (seats : ℕ) where
       }
 
   -- nothing happened
-  pub appends_refl : {O : Type 0} (a : SeatInfo O M) → IsHistory rules a.seen → AreNamed rules seats a.seen → Appends rules seats [] a a
+  pub appends_refl : (a : SeatInfo M) → IsHistory rules a.seen → AreNamed rules a.object.seats a.seen → Appends rules [] a a
   appends_refl a lawful named = record {
     same_seat = refl;
     begins = begins_self a.seen;
@@ -103,11 +103,11 @@ module _ {M W C : Type 0} (rules : Rules M W C) (seats : ℕ) where
   }
 
   -- a part of a call that leaves no mark, and then another
-  pub appends_none : {O : Type 0} (g : List M) (a b c : SeatInfo O M) → Appends rules seats [] a b → Appends rules seats g b c → Appends rules seats g a c
-  appends_none {O} g a b c p q =
-      let name : b.name ≡ a.name = ap (λ (s : SeatInfo O M). s.name) p.same_seat in
-      let stint : b.stint ≡ a.stint = ap (λ (s : SeatInfo O M). s.stint) p.same_seat in
-      let object : b.object ≡ a.object = ap (λ (s : SeatInfo O M). s.object) p.same_seat in
+  pub appends_none : (g : List M) (a b c : SeatInfo M) → Appends rules [] a b → Appends rules g b c → Appends rules g a c
+  appends_none g a b c p q =
+      let name : b.name ≡ a.name = ap (λ (s : SeatInfo M). s.name) p.same_seat in
+      let stint : b.stint ≡ a.stint = ap (λ (s : SeatInfo M). s.stint) p.same_seat in
+      let object : b.object ≡ a.object = ap (λ (s : SeatInfo M). s.object) p.same_seat in
       record {
         same_seat = q.same_seat ∙ (λ i. seat_info (object i) (name i) (stint i) c.seen);
         begins = begins_trans a.seen b.seen c.seen p.begins q.begins;
@@ -120,6 +120,21 @@ module _ {M W C : Type 0} (rules : Rules M W C) (seats : ℕ) where
   -- what stands before an appended mark stays so as more is seen
   pub before_mark-begins : (name number : ℕ) (p : List M) (m : M) (q h : List M) → rules.seat_of m ≡ name → length (marks_of rules.seat_of name p) ≡ number → Begins (p ++ m ∷ q) h → before_mark rules.seat_of name number h ≡ p
   before_mark-begins name number p m q h own e b = ap (before_mark rules.seat_of name number) (sym b.1 ∙ append_assoc p (m ∷ q) b.0) ∙ before_mark-append rules.seat_of name p (q ++ b.0) m number e own
+
+-- ---- tokens
+
+module _ {M P H : Type 0} {seat_of : M → ℕ} {seats name left : ℕ} {phase : P} {m : Me H (View M P)} (t : IsSeatToken seat_of seats name phase left m) where
+  pub token_names : m.0.names ≡ name ∷ []
+  token_names = ap (λ (x : Me H (View M P)). x.0.names) t.me_is
+
+  pub token_phase : m.0.phase ≡ Some phase
+  token_phase = ap (λ (x : Me H (View M P)). x.0.phase) t.me_is
+
+  pub token_left : m.0.left ≡ left
+  token_left = ap (λ (x : Me H (View M P)). x.0.left) t.me_is
+
+  pub token_slots : m.1 ≡ []
+  token_slots = ap (λ (x : Me H (View M P)). x.1) t.me_is
 
 -- ---- a step
 
@@ -164,22 +179,22 @@ module _ {M W C P S H : Type 0} {o : Object M W C P S H} {m : Me H (View M P)} {
       ap last_of all ∙ (last_of-push (reverse l.past ++ reverse h) y ∙ (sym front ∙ is))
 
   -- a step appends its marks
-  pub step_appends : {O : Type 0} (object : O) (stint : ℕ) → Appends o.rules o.seats (reverse new) (seat_info object n stint (reverse m.0.seen)) (seat_info object n stint (reverse after.0.seen))
-  step_appends object stint = record {
+  pub step_appends : (object : ObjectId) (stint : ℕ) → object.seats ≡ o.seats → Appends o.rules (reverse new) (seat_info object n stint (reverse m.0.seen)) (seat_info object n stint (reverse after.0.seen))
+  step_appends object stint seats = record {
     same_seat = refl;
     begins = begins_after;
     mine = mine_after;
     last = λ x is. last_after new refl x is;
     lawful = lawful_after;
-    named = named_after;
+    named = subst (λ (k : ℕ). AreNamed o.rules k (reverse after.0.seen)) (sym seats) named_after;
   }
 
   -- the seat's token after the step
-  pub token_after : {was : P} {had : ℕ} → IsSeatToken o n was had m → carried ≡ [] → IsSeatToken o n phase left after
+  pub token_after : {was : P} {had : ℕ} → IsSeatToken o.rules.seat_of o.seats n was had m → carried ≡ [] → IsSeatToken o.rules.seat_of o.seats n phase left after
   token_after t none = record {
     me_is = l.after_is ∙ (λ i. (sight (one i) (sym seen_after i) phase left, none i));
     below = t.below;
-    lawful = lawful_after;
+    few = t.few;
     named = named_after;
   }
 
@@ -190,4 +205,4 @@ pub step_before : {M W C P S H : Type 0} {o : Object M W C P S H} {m : Me H (Vie
 step_before {o = o} {m = m} {x = x} {after = after} l n one own number count h b =
     let own' : AreOwn o.rules.seat_of n (x ∷ []) = (own, tt) in
     let count' = ap length (mine_before l n one own') ∙ count in
-    before_mark-begins o.rules o.seats n number (reverse l.past) x [] h own count' (subst (λ (k : List _). Begins k h) (history_after l n one own') b)
+    before_mark-begins o.rules n number (reverse l.past) x [] h own count' (subst (λ (k : List _). Begins k h) (history_after l n one own') b)

@@ -1,21 +1,23 @@
 -- What a tally knows once a seat was joined, and how the seats of a new object are dealt.
-use Rattle.std.proofs.Common.{◌≡◌, ◌⊎◌, ℕ, zero, suc, ◌+◌, ◌-◌, ◌*◌, ◌/◌, ◌<◌, Bool, true, false, cond, nat_lt, List, [], ◌∷◌, ◌++◌, length, refl, ap, sym, ◌∙◌, subst, arith, inl, inr, Some, suc-mul}
-use Rattle.std.specs.Prelude.{reverse}
+use Rattle.std.proofs.Common.{◌≡◌, ◌⊎◌, ℕ, zero, suc, ◌+◌, ◌-◌, ◌*◌, ◌/◌, ◌<◌, ◌≤◌, Bool, true, false, cond, nat_lt, List, [], ◌∷◌, ◌++◌, length, refl, ap, sym, ◌∙◌, subst, arith, inl, inr, Some, suc-mul}
+use Rattle.std.specs.Prelude.{reverse, IsTrue, ◌↔◌}
 use Rattle.std.proofs.lemmas.List.{length-reverse}
 use Rattle.std.proofs.Math.Nat.{mul-div_cancel_left}
-use Rattle.atomic_table.specs.Table.{Me, Splits}
+use Rattle.atomic_table.specs.Table.{Me, Splits, Joins}
 use Rattle.fak_model.specs.declared.view.View.{View}
 use Rattle.fak_model.specs.Histories.{IsHistory, AreNamed}
-use Rattle.fak_model.specs.Seats.{Begins, In, Knows, longer_of, marks_of}
-use Rattle.fak_model.specs.Views.{sight, Sees, names_from, first_name, later_names, dealt, kept, joined, settled}
+use Rattle.fak_model.specs.Seats.{Begins, In, IsWhole, Knows, longer_of, marks_of}
+use Rattle.fak_model.specs.Views.{sight, Sees, names_from, first_name, later_names, dealt, kept, joined, spent, settled}
 use Rattle.fak_model.specs.Shown.{Object, IsShown, Hears}
-use Rattle.fak_model.specs.Calls.{seat_info, fresh_seats, tally_info, IsJoined}
+use Rattle.atomic_table.specs.Seated.{TableId}
+use Rattle.fak_model.specs.declared.name_set.NameSet.{NameSet}
+use Rattle.fak_model.specs.Names.{Has, HasJust}
+use Rattle.fak_model.specs.Calls.{ObjectId, object_id, SeatInfo, seat_info, fresh_seats, TallyInfo, tally_info, IsJoined}
 use Rattle.fak_model.specs.Tokens.{IsSeatToken, IsTallyToken}
-use Rattle.fak_model.proofs.Appending.{history_none}
-use Rattle.fak_model.proofs.Seats.{marks_of_append}
+use Rattle.fak_model.proofs.Seats.{in_left, in_right, in_either, marks_of_append}
 use Rattle.fak_model.proofs.RunningViews.{sees_all, sees_begins, length-names_from, names_apart}
-use Rattle.fak_model.proofs.RunningSeats.{splits}
-use Rattle.fak_model.proofs.RunningCalls.{marks_of-foreign, marks_of-reverse}
+use Rattle.fak_model.proofs.RunningSeats.{splits, joins}
+use Rattle.fak_model.proofs.RunningCalls.{token_phase, marks_of-foreign, marks_of-reverse}
 
 -- ---- a join
 
@@ -48,7 +50,7 @@ parts seat_of a b s t false z = record { left = sees_all seat_of a s; right = z;
 
 -- the tokens v and w of a tally and a seat were joined to u, and a load then told what they compared
 module _ {M W C P S H : Type 0} {o : Object M W C P S H} {v w u after : Me H (View M P)} {name left : ℕ} {phase : P}
-    (tally : IsTallyToken o phase v) (seat : IsSeatToken o name phase left w) (is : u ≡ (joined v.0 w.0, v.1)) (heard : Hears o u after) where
+    (tally : IsTallyToken o.rules.seat_of o.seats phase v) (seat : IsSeatToken o.rules.seat_of o.seats name phase left w) (is : u ≡ (joined v.0 w.0, v.1)) (heard : Hears o u after) where
   after_is : after ≡ (settled (joined v.0 w.0), v.1)
   after_is = heard.after_is ∙ ap (λ (x : Me H (View M P)). let y : Me H (View M P) = (settled x.0, x.1) in y) is
 
@@ -62,7 +64,7 @@ module _ {M W C P S H : Type 0} {o : Object M W C P S H} {v w u after : Me H (Vi
   seen_before = ap (λ (x : Me H (View M P)). x.0.seen) (sym heard.after_is)
 
   -- the joined token is a tally's
-  pub tally_after : IsTallyToken o phase after
+  pub tally_after : IsTallyToken o.rules.seat_of o.seats phase after
   tally_after =
       let at : v.0.phase ≡ Some phase = ap (λ (x : Me H (View M P)). x.0.phase) tally.me_is in
       let none : v.1 ≡ [] = ap (λ (x : Me H (View M P)). x.1) tally.me_is in
@@ -70,7 +72,7 @@ module _ {M W C P S H : Type 0} {o : Object M W C P S H} {v w u after : Me H (Vi
       let kept : v.0.left ≡ after.0.left = ap (λ (x : Me H (View M P)). x.0.left) (sym after_is) in
       record {
         me_is = after_is ∙ (λ i. (record { names = names i; seen = sym seen_after i; phase = at i; left = kept i; told = []; told_names = [] }, none i));
-        lawful = subst (λ (h : List M). IsHistory o.rules (reverse h)) seen_before heard.lawful;
+        few = tally.few;
         named = subst (λ (h : List M). AreNamed o.rules o.seats (reverse h)) seen_before heard.named;
       }
 
@@ -78,9 +80,9 @@ module _ {M W C P S H : Type 0} {o : Object M W C P S H} {v w u after : Me H (Vi
   told = parts o.rules.seat_of v.0.names w.0.names v.0.seen w.0.seen (nat_lt (length v.0.seen) (length w.0.seen)) (subst (λ (x : Me H (View M P)). Sees o.rules.seat_of x.0.told_names x.0.told x.0.seen) is heard.told)
 
   -- and it knows what a join promises
-  pub joins_infos : {O : Type 0} (object : O) (stint : ℕ)
-      → IsJoined o.rules o.seats (tally_info object v.0.names (reverse v.0.seen)) (seat_info object name stint (reverse w.0.seen)) (tally_info object after.0.names (reverse after.0.seen))
-  joins_infos object stint =
+  pub joins_infos : (object : ObjectId) (stint : ℕ) → object.seats ≡ o.seats
+      → IsJoined o.rules (tally_info object v.0.names (reverse v.0.seen)) (seat_info object name stint (reverse w.0.seen)) (tally_info object after.0.names (reverse after.0.seen))
+  joins_infos object stint seats =
       let one : w.0.names ≡ name ∷ [] = ap (λ (x : Me H (View M P)). x.0.names) seat.me_is in
       let longer : reverse after.0.seen ≡ reverse (longer_of v.0.seen w.0.seen) = ap reverse seen_after in
       record {
@@ -90,15 +92,15 @@ module _ {M W C P S H : Type 0} {o : Object M W C P S H} {v w u after : Me H (Vi
         seen = longer ∙ sym (longer_of-reverse v.0.seen w.0.seen);
         of_tally = subst (Knows o.rules.seat_of v.0.names (reverse v.0.seen)) (sym longer) (sees_knows o.rules.seat_of v.0.names v.0.seen (longer_of v.0.seen w.0.seen) told.left);
         of_seat = subst (λ (x : List ℕ × List M). Knows o.rules.seat_of x.0 (reverse w.0.seen) x.1) (λ i. (one i, sym longer i)) (sees_knows o.rules.seat_of w.0.names w.0.seen (longer_of v.0.seen w.0.seen) told.right);
-        lawful = tally_after.lawful;
-        named = tally_after.named;
+        lawful = subst (λ (h : List M). IsHistory o.rules (reverse h)) seen_before heard.lawful;
+        named = subst (λ (k : ℕ). AreNamed o.rules k (reverse after.0.seen)) (sym seats) tally_after.named;
       }
 
 -- the tally of one seat
-pub tally_token : {M W C P S H : Type 0} {o : Object M W C P S H} {name left : ℕ} {phase : P} {m : Me H (View M P)} → IsSeatToken o name phase left m → IsTallyToken o phase m
-tally_token {M} {W} {C} {P} {S} {H} {phase = phase} {m = m} t = record {
+pub tally_token : {M P H : Type 0} (seat_of : M → ℕ) (seats name left : ℕ) (phase : P) (m : Me H (View M P)) → IsSeatToken seat_of seats name phase left m → IsTallyToken seat_of seats phase m
+tally_token {M} {P} {H} seat_of seats name left phase m t = record {
   me_is = t.me_is ∙ (λ i. (sight (ap (λ (x : Me H (View M P)). x.0.names) (sym t.me_is) i) m.0.seen phase (ap (λ (x : Me H (View M P)). x.0.left) (sym t.me_is) i), []));
-  lawful = t.lawful;
+  few = t.few;
   named = t.named;
 }
 
@@ -134,17 +136,74 @@ module _ {M W C P S H : Type 0} (o : Object M W C P S H) (resting : P) (stint i 
       less k = omega (arith, suc-mul k stint)
 
 -- a seat's token as it is dealt
-pub fresh_token : {M W C P S H : Type 0} (o : Object M W C P S H) (resting : P) (stint name : ℕ) (m : Me H (View M P)) → m ≡ (sight (name ∷ []) [] resting stint, []) → name < o.seats → IsSeatToken o name resting stint m
-fresh_token {M} {W} {C} {P} {S} {H} o resting stint name m is low = subst (λ (x : Me H (View M P)). IsSeatToken o name resting stint x) (sym is) record {
+pub fresh_token : {M P H : Type 0} (seat_of : M → ℕ) (seats : ℕ) (resting : P) (stint name : ℕ) (m : Me H (View M P)) → m ≡ (sight (name ∷ []) [] resting stint, []) → name < seats → seats ≤ 64 → IsSeatToken seat_of seats name resting stint m
+fresh_token {M} {P} {H} seat_of seats resting stint name m is low few = subst (λ (x : Me H (View M P)). IsSeatToken seat_of seats name resting stint x) (sym is) record {
   me_is = refl;
   below = low;
-  lawful = history_none o.rules;
+  few = few;
   named = λ k d lt. absurd (omega arith);
 }
 
-pub fresh_next : {O M : Type 0} (object : O) (stint a n : ℕ) → fresh_seats {M = M} object stint a (n + 1) ≡ fresh_seats object stint a n ++ seat_info object (a + n) stint [] ∷ []
+pub fresh_next : {M : Type 0} (object : ObjectId) (stint a n : ℕ) → fresh_seats {M = M} object stint a (n + 1) ≡ fresh_seats object stint a n ++ seat_info object (a + n) stint [] ∷ []
 fresh_next object stint a zero = let same : a ≡ a + 0 = omega arith in ap (λ x. seat_info object x stint [] ∷ []) same
-fresh_next {O} {M} object stint a (suc n) =
+fresh_next {M} object stint a (suc n) =
     let up : suc n + 1 ≡ suc (n + 1) = omega arith in
     let same : suc a + n ≡ a + suc n = omega arith in
     ap (λ k. fresh_seats {M = M} object stint a k) up ∙ ap (λ l. seat_info object a stint [] ∷ l) (fresh_next {M = M} object stint (suc a) n ∙ ap (λ x. fresh_seats {M = M} object stint (suc a) n ++ seat_info object x stint [] ∷ []) same)
+
+-- ---- a join as its contract sees it
+
+-- the tokens v and w of a tally and a seat of this object were joined to u, and a load then told what they compared
+module _ {M W C P S H : Type 0} (o : Object M W C P S H) {phase : P} {tally_seats seat_seats name left stint : ℕ} {v w : Me H (View M P)} {tally_table seat_table table : TableId} {object : ObjectId} {tally : TallyInfo M} {seat : SeatInfo M}
+    (t : IsTallyToken o.rules.seat_of tally_seats phase v) (s : IsSeatToken o.rules.seat_of seat_seats name phase left w)
+    (tally_is : tally_info (object_id tally_table tally_seats) v.0.names (reverse v.0.seen) ≡ tally) (seat_is : seat_info (object_id seat_table seat_seats) name stint (reverse w.0.seen) ≡ seat)
+    (object_is : object_id table o.seats ≡ object) (tally_fits : tally.object ≡ object) (seat_fits : seat.object ≡ object) where
+  tally_object : object_id tally_table tally_seats ≡ object_id table o.seats
+  tally_object = ap (λ (x : TallyInfo M). x.object) tally_is ∙ (tally_fits ∙ sym object_is)
+
+  seat_object : object_id seat_table seat_seats ≡ object_id table o.seats
+  seat_object = ap (λ (x : SeatInfo M). x.object) seat_is ∙ (seat_fits ∙ sym object_is)
+
+  pub tally_at : tally_table ≡ table
+  tally_at = ap (λ (x : ObjectId). x.table) tally_object
+
+  pub seat_at : seat_table ≡ table
+  seat_at = ap (λ (x : ObjectId). x.table) seat_object
+
+  tally_has : tally_seats ≡ o.seats
+  tally_has = ap (λ (x : ObjectId). x.seats) tally_object
+
+  own_tally : IsTallyToken o.rules.seat_of o.seats phase v
+  own_tally = subst (λ (k : ℕ). IsTallyToken o.rules.seat_of k phase v) tally_has t
+
+  own_seat : IsSeatToken o.rules.seat_of o.seats name phase left w
+  own_seat = subst (λ (k : ℕ). IsSeatToken o.rules.seat_of k name phase left w) (ap (λ (x : ObjectId). x.seats) seat_object) s
+
+  -- the seats may be joined
+  pub may_join : (id other : ℕ) → Joins (IsShown o) id v.0 other w.0 (joined v.0 w.0) spent
+  may_join id other = joins o id v.0 other w.0 (token_phase s ∙ sym (ap (λ (x : Me H (View M P)). x.0.phase) t.me_is))
+
+  module _ {u after : Me H (View M P)} (is : u ≡ (joined v.0 w.0, v.1)) (heard : Hears o u after) where
+    pub token_joined : IsTallyToken o.rules.seat_of tally_seats phase after
+    token_joined = subst (λ (k : ℕ). IsTallyToken o.rules.seat_of k phase after) (sym tally_has) (tally_after own_tally own_seat is heard)
+
+    pub set_joined : (old new : NameSet) → HasJust old v.0.names → ((n : ℕ) → Has new n ↔ (Has old n ⊎ (n ≡ name))) → HasJust new after.0.names
+    set_joined old new just grown n =
+        let names = names_after own_tally own_seat is heard in (
+          (λ h. subst (In n) (sym names) (elim ((grown n).0 h) [ inl x ↦ in_left n v.0.names (name ∷ []) ((just n).0 x) | inr e ↦ in_right n v.0.names (name ∷ []) (inl e) ])),
+          (λ i. (grown n).1 (elim (in_either n v.0.names (name ∷ []) (subst (In n) names i)) [ inl x ↦ inl ((just n).1 x) | inr (inl e) ↦ inr e | inr (inr z) ↦ absurd z ])),
+        )
+
+    pub call_joined : {now : TableId} → now ≡ tally_table → IsJoined o.rules tally seat (tally_info (object_id now tally_seats) after.0.names (reverse after.0.seen))
+    call_joined {now} stays =
+        let one = joins_infos own_tally own_seat is heard (object_id table o.seats) stint refl in
+        subst (λ (x : TallyInfo M × SeatInfo M × ObjectId). IsJoined o.rules x.0 x.1 (tally_info x.2 after.0.names (reverse after.0.seen)))
+        (λ i. (((λ j. tally_info (sym tally_object j) v.0.names (reverse v.0.seen)) ∙ tally_is) i, ((λ j. seat_info (sym seat_object j) name stint (reverse w.0.seen)) ∙ seat_is) i, (sym tally_object ∙ (λ j. object_id (sym stays j) tally_seats)) i))
+        one
+
+-- the set of a tally's names has all seats exactly where its names do
+pub whole_set : (set : NameSet) (names : List ℕ) (seats : ℕ) (b : Bool) → HasJust set names → (IsTrue b ↔ ((n : ℕ) → n < seats → Has set n)) → (IsTrue b ↔ IsWhole seats names)
+whole_set set names seats b just test = (
+  (λ h n low. (just n).0 (test.0 h n low)),
+  (λ whole. test.1 (λ n low. (just n).1 (whole n low))),
+)

@@ -12,7 +12,7 @@ use Rattle.fak_model.specs.Histories.{IsHistory, AreNamed}
 use Rattle.fak_model.specs.Seats.{In}
 use Rattle.fak_model.specs.Views.{sight, AreOwn, Sees}
 use Rattle.fak_model.specs.Shown.{Object, total, IsShown, Leaves}
-use Rattle.fak_model.proofs.QueueBackwards.{All-reverse}
+use Rattle.fak_model.proofs.Reversing.{All-reverse}
 use Rattle.fak_model.proofs.RunningViews.{sees_all, sees_other, sees_nothing}
 
 -- ---- lists

@@ -9,7 +9,7 @@ use Rattle.fak_model.specs.Histories.{Rules, IsHistory, AreNamed}
 use Rattle.fak_model.specs.Seats.{Begins, In, IsWhole, longer_of}
 use Rattle.fak_model.specs.Views.{Foreign, AreOwn, Sees, names_from, first_name, later_names, shorter_of}
 use Rattle.fak_model.proofs.Seats.{in_either, seen_lawful}
-use Rattle.fak_model.proofs.QueueBackwards.{All-reverse}
+use Rattle.fak_model.proofs.Reversing.{All-reverse}
 
 -- ---- marks of others
 

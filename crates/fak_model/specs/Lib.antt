@@ -3,6 +3,7 @@ pub mod Seats
 pub mod Queue
 pub mod QueueOrder
 pub mod QueuePast
+pub mod Checker
 pub mod Room
 pub mod Credit
 pub mod File

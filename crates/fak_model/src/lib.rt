@@ -2,6 +2,7 @@
 #![tactic(auto)]
 
 pub mod cell;
+pub mod checker;
 pub mod credit;
 pub mod file;
 pub mod laws;
@@ -12,6 +13,7 @@ pub mod seating;
 pub mod view;
 
 pub use cell::{cell_of, round_of};
+pub use checker::first_fault;
 pub use credit::{CreditKind, CreditMark};
 pub use file::{FileEntry, FileField, FileKind, FileMark};
 pub use name_set::NameSet;

@@ -1,5 +1,5 @@
 -- Which history an input is, and which fault is its first.
-use Rattle.std.specs.Prelude.{ℕ, ◌&&◌, ◌==◌, Bool, true, false, List, [], ◌∷◌, Option, Some, None, Result, Ok, Err, find, is_some, nat_le, unwrap_or, if◌then◌else◌}
+use Rattle.std.specs.Prelude.{ℕ, ◌&&◌, ◌==◌, Bool, List, [], ◌∷◌, Option, Some, None, Result, Ok, Err, find, is_some, nat_le, unwrap_or, if◌then◌else◌}
 use Rattle.std.specs.Str.{bytes_eq}
 use Rattle.serde_json.specs.Data.{Data}
 use Rattle.serde_json.specs.Find.{as_array}
@@ -10,7 +10,6 @@ use Rattle.fak_model.specs.declared.queue.Mark.{Mark}
 use Rattle.fak_text.specs.Gives.{◌>>=◌}
 use Rattle.fak_text.specs.Names.{kind_name, number_of}
 use Rattle.fak_text.specs.Values.{value_or, input_in, number_at, text_at, number_of_key, elements_of_key, each_from}
-use Rattle.fak_text.specs.declared.fault.Field.{Field}
 use Rattle.fak_text.specs.declared.fault.Field.TheVariants as fields
 use Rattle.fak_text.specs.declared.fault.TextFault.{TextFault}
 use Rattle.fak_text.specs.declared.fault.TextFault.TheVariants.{Range, UnknownOp}

@@ -1,5 +1,5 @@
 -- Journals and processes as plain data, and which journals fit a script.
-use Rattle.std.specs.Prelude.{◌≡◌, ℕ, ◌+◌, ◌<◌, List, [], ◌∷◌, length, Option, IfSome}
+use Rattle.std.specs.Prelude.{◌≡◌, ℕ, ◌+◌, ◌<◌, List, [], ◌∷◌, ◌++◌, length, slice_get, Option, Some, IfSome}
 use Rattle.fak_text.specs.Script.{StepOf, say, yield, down, up, open_file, close_file, stat, spawn, shutdown, ScriptOf, steps_of}
 
 -- a step that was made, with its result
@@ -23,6 +23,18 @@ pub record Process : Type 0 where
   pub slot : ℕ
   pub position : ℕ
   pub journal : List NoteOf
+
+-- a process at the beginning of its program
+abbrev pub new_process : List ℕ → ℕ → ℕ → Process
+new_process name program slot = record { name = name; program = program; slot = slot; position = 0; journal = [] }
+
+-- the process once it has made a step, with this note of it
+abbrev pub after_note : Process → NoteOf → Process
+after_note process note = record process { position = process.position + 1; journal = process.journal ++ note ∷ [] }
+
+-- the process stands before this step
+abbrev pub StandsAt : ScriptOf → Process → StepOf → Type 0
+StandsAt script process step = slice_get (steps_of script process.program) process.position ≡ Some step
 
 -- how many children a step began
 abbrev pub births_of : NoteOf → ℕ

@@ -8,3 +8,7 @@ pub mod Names
 pub mod LineText
 pub mod ScheduleText
 pub mod HistoryText
+pub mod StepText
+pub mod ScriptText
+pub mod JournalText
+pub mod Laws

@@ -8,7 +8,6 @@ use Rattle.fak_core.specs.declared.call.RoomCall.TheVariants as room_calls
 use Rattle.fak_core.specs.declared.call.QueueCall.TheVariants as queue_calls
 use Rattle.fak_text.specs.Gives.{◌>>=◌}
 use Rattle.fak_text.specs.Values.{value_or, input_in, number_within, number_at, text_at, value_of_key, number_of_key, elements_of_key, each_from}
-use Rattle.fak_text.specs.declared.fault.Field.{Field}
 use Rattle.fak_text.specs.declared.fault.Field.TheVariants as fields
 use Rattle.fak_text.specs.declared.fault.TextFault.{TextFault}
 use Rattle.fak_text.specs.declared.fault.TextFault.TheVariants.{Range, UnknownOp}

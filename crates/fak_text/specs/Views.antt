@@ -32,6 +32,8 @@ note_of notes.NoBirth = no_birth
 note_of notes.NoSlot = no_slot
 note_of notes.Shutdown = shut_down
 
--- the programs of a script
+abbrev pub steps_view : List Step → List StepOf
+steps_view steps = map step_of steps
+
 abbrev pub programs_of : List (Vec Step Global) → List (List StepOf)
-programs_of programs = map (λ p. map step_of p.items) programs
+programs_of programs = map (λ p. steps_view p.items) programs

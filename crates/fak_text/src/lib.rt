@@ -3,6 +3,7 @@
 
 mod fault;
 mod history;
+pub mod laws;
 mod names;
 mod reading;
 mod schedule;
@@ -12,8 +13,11 @@ mod text;
 
 pub use fault::{Field, TextFault};
 pub use history::History;
-pub use reading::{read_history, read_schedule};
+pub use reading::{read_history, read_schedule, read_script};
 pub use schedule::{Act, Event, Object, Schedule};
 pub use script::Script;
 pub use steps::{Note, Step};
-pub use text::{line_text, refused_text};
+pub use text::{journal_text, line_text, name_text, refused_text};
+
+#[cfg(test)]
+mod tests;

@@ -2,7 +2,10 @@
 
 mod history;
 mod schedule;
+mod script;
+mod step;
 mod values;
 
 pub use history::read_history;
 pub use schedule::read_schedule;
+pub use script::read_script;

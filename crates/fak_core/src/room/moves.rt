@@ -1,8 +1,8 @@
 //! The table of steps of a room core, seat by seat.
 
-ghost use Rattle.std.specs.Prelude.{ℕ, ◌≡◌, ◌++◌, ◌≤◌, ◌≤ℤ◌, pos, reverse, Err, IfErr, IsSome, OnErr, OnOk};
+ghost use Rattle.std.specs.Prelude.{◌≡◌, ◌++◌, ◌≤◌, ◌≤ℤ◌, pos, reverse, Err, IfErr, IsSome, OnErr, OnOk};
 ghost use Rattle.fak_core.specs.declared.fault.CoreFault.TheVariants.{Memory};
-ghost use Rattle.fak_core.specs.Room.{HasRange, first_phase, line_mark, marks_left, next_move};
+ghost use Rattle.fak_core.specs.Room.{HasRange, add_move, back_move, first_phase, fits, line_mark, marks_left, next_move, release_move, test_move};
 
 use super::phase::{CoreSeat, RoomPhase};
 use super::step::RoomMove;
@@ -11,21 +11,85 @@ use crate::fault::CoreFault;
 use crate::line::{CoreMove, LineMark};
 use fak_model::{RoomKind, RoomMark};
 
-/// The parts of a step, put together.
-fn move_with(
-    step: CoreMove,
-    mark: Option<RoomKind>,
-    count: i64,
-    held: u64,
-    phase: RoomPhase,
-) -> RoomMove
-    ensures { result ≡ record { step = step; mark = mark; count = count; seat = record { held = held; phase = phase } } }
+/// Whether `d` more than was found fits the bound.
+fn fits_in(bound: u64, found: i64, d: u64) -> bool
+    requires bound { bound ≤ 4294967296 }
+    requires low { pos 0 ≤ℤ found }
+    requires high { found ≤ℤ pos 8589934592 }
+    requires amount { d ≤ 1024 }
+    ensures { result ≡ fits bound found d }
+{
+    found + d as i64 <= bound as i64
+}
+
+/// The load of a claim, where its test passes or fails.
+fn test_of(passes: bool, found: i64, held: u64, d: u64) -> RoomMove
+    ensures { result ≡ test_move passes found held d }
+{
+    let (mark, phase) = if passes {
+        (None, RoomPhase::Adding(d))
+    } else {
+        (Some(RoomKind::No(d)), RoomPhase::Idle)
+    };
+    RoomMove {
+        step: CoreMove::Test,
+        mark,
+        count: found,
+        seat: CoreSeat { held, phase },
+    }
+}
+
+/// The add of a claim, where the test of what it found passes or fails.
+fn add_of(passes: bool, found: i64, held: u64, d: u64) -> RoomMove
+    requires found { found ≤ℤ pos 8589934592 }
+    requires held { held ≤ 4294967296 }
+    requires amount { d ≤ 1024 }
+    ensures { result ≡ add_move passes found held d }
+{
+    let (mark, held, phase) = if passes {
+        (RoomKind::Up(d), held + d, RoomPhase::Idle)
+    } else {
+        (RoomKind::Over(d), held, RoomPhase::Backing(d))
+    };
+    RoomMove {
+        step: CoreMove::Add,
+        mark: Some(mark),
+        count: found + d as i64,
+        seat: CoreSeat { held, phase },
+    }
+}
+
+/// The subtraction that withdraws a claim.
+fn back_of(found: i64, held: u64, d: u64) -> RoomMove
+    requires found { pos 0 ≤ℤ found }
+    requires amount { d ≤ 1024 }
+    ensures { result ≡ back_move found held d }
 {
     RoomMove {
-        step,
-        mark,
-        count,
-        seat: CoreSeat { held, phase },
+        step: CoreMove::Back,
+        mark: Some(RoomKind::Back(d)),
+        count: found - d as i64,
+        seat: CoreSeat {
+            held,
+            phase: RoomPhase::Idle,
+        },
+    }
+}
+
+/// The subtraction that gives an amount back.
+fn release_of(found: i64, held: u64, d: u64) -> RoomMove
+    requires found { pos 0 ≤ℤ found }
+    requires amount { (d ≤ 1024) × (d ≤ held) }
+    ensures { result ≡ release_move found held d }
+{
+    RoomMove {
+        step: CoreMove::Release,
+        mark: Some(RoomKind::Release(d)),
+        count: found - d as i64,
+        seat: CoreSeat {
+            held: held - d,
+            phase: RoomPhase::Idle,
+        },
     }
 }
 
@@ -42,58 +106,15 @@ pub(crate) fn move_of(bound: u64, found: i64, seat: CoreSeat) -> Option<RoomMove
     match seat.phase {
         RoomPhase::Idle => None,
         RoomPhase::Testing(d) => {
-            let fits = found + d as i64 <= bound as i64;
-            if fits {
-                Some(move_with(CoreMove::Test, None, found, held, RoomPhase::Adding(d)))
-            } else {
-                Some(move_with(
-                    CoreMove::Test,
-                    Some(RoomKind::No(d)),
-                    found,
-                    held,
-                    RoomPhase::Idle,
-                ))
-            }
+            let fits = fits_in(bound, found, d);
+            Some(test_of(fits, found, held, d))
         }
         RoomPhase::Adding(d) => {
-            let count = found + d as i64;
-            let still_fits = count <= bound as i64;
-            if still_fits {
-                Some(move_with(
-                    CoreMove::Add,
-                    Some(RoomKind::Up(d)),
-                    count,
-                    held + d,
-                    RoomPhase::Idle,
-                ))
-            } else {
-                Some(move_with(
-                    CoreMove::Add,
-                    Some(RoomKind::Over(d)),
-                    count,
-                    held,
-                    RoomPhase::Backing(d),
-                ))
-            }
+            let still_fits = fits_in(bound, found, d);
+            Some(add_of(still_fits, found, held, d))
         }
-        RoomPhase::Backing(d) => {
-            Some(move_with(
-                CoreMove::Back,
-                Some(RoomKind::Back(d)),
-                found - d as i64,
-                held,
-                RoomPhase::Idle,
-            ))
-        }
-        RoomPhase::Releasing(d) => {
-            Some(move_with(
-                CoreMove::Release,
-                Some(RoomKind::Release(d)),
-                found - d as i64,
-                held - d,
-                RoomPhase::Idle,
-            ))
-        }
+        RoomPhase::Backing(d) => Some(back_of(found, held, d)),
+        RoomPhase::Releasing(d) => Some(release_of(found, held, d)),
     }
 }
 

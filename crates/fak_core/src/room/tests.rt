@@ -5,34 +5,34 @@ use crate::call::RoomCall;
 use crate::fault::CoreFault;
 use crate::line::{CoreMove, Line, LineMark};
 use fak_model::{RoomKind, RoomMark};
-use std::process::Abort;
 
-/// Makes the next step of a seat, which is to be this one.
-fn steps(
-    rt: &HostRuntime,
-    core: &mut RoomCore,
-    seat: u64,
-    step: CoreMove,
-    found: i128,
-    kind: Option<RoomKind>,
-) {
-    let line = Line {
+/// One atomic step.
+fn line(seat: u64, step: CoreMove, found: i128, kind: Option<RoomKind>) -> Result<Line, CoreFault> {
+    Ok(Line {
         seat,
         step,
         found,
         mark: kind.map(LineMark::Room),
-    };
-    assert_eq!(rt; core.advance(rt.alloc(), seat), Ok(line));
+    })
 }
 
 #[test]
 fn a_second_claim_is_refused_at_the_test(rt: HostRuntime) -> Result<(), CoreFault> {
     let mut core = RoomCore::new(rt.alloc(), 1, 2)?;
     core.begin(0, RoomCall::Tir(1))?;
-    steps(&rt, &mut core, 0, CoreMove::Test, 0, None);
-    steps(&rt, &mut core, 0, CoreMove::Add, 0, Some(RoomKind::Up(1)));
+    assert_eq!(rt;
+        core.advance(rt.alloc(), 0),
+        line(0, CoreMove::Test, 0, None)
+    );
+    assert_eq!(rt;
+        core.advance(rt.alloc(), 0),
+        line(0, CoreMove::Add, 0, Some(RoomKind::Up(1)))
+    );
     core.begin(1, RoomCall::Tir(1))?;
-    steps(&rt, &mut core, 1, CoreMove::Test, 1, Some(RoomKind::No(1)));
+    assert_eq!(rt;
+        core.advance(rt.alloc(), 1),
+        line(1, CoreMove::Test, 1, Some(RoomKind::No(1)))
+    );
     assert_eq!(rt; core.value(), 1);
     assert_eq!(rt; core.held(0), 1);
     assert_eq!(rt; core.held(1), 0);
@@ -55,17 +55,25 @@ fn a_claim_over_the_bound_is_withdrawn(rt: HostRuntime) -> Result<(), CoreFault>
     let mut core = RoomCore::new(rt.alloc(), 1, 2)?;
     core.begin(0, RoomCall::Tir(1))?;
     core.begin(1, RoomCall::Tir(1))?;
-    steps(&rt, &mut core, 0, CoreMove::Test, 0, None);
-    steps(&rt, &mut core, 1, CoreMove::Test, 0, None);
-    steps(&rt, &mut core, 0, CoreMove::Add, 0, Some(RoomKind::Up(1)));
-    steps(&rt, &mut core, 1, CoreMove::Add, 1, Some(RoomKind::Over(1)));
-    steps(
-        &rt,
-        &mut core,
-        1,
-        CoreMove::Back,
-        2,
-        Some(RoomKind::Back(1)),
+    assert_eq!(rt;
+        core.advance(rt.alloc(), 0),
+        line(0, CoreMove::Test, 0, None)
+    );
+    assert_eq!(rt;
+        core.advance(rt.alloc(), 1),
+        line(1, CoreMove::Test, 0, None)
+    );
+    assert_eq!(rt;
+        core.advance(rt.alloc(), 0),
+        line(0, CoreMove::Add, 0, Some(RoomKind::Up(1)))
+    );
+    assert_eq!(rt;
+        core.advance(rt.alloc(), 1),
+        line(1, CoreMove::Add, 1, Some(RoomKind::Over(1)))
+    );
+    assert_eq!(rt;
+        core.advance(rt.alloc(), 1),
+        line(1, CoreMove::Back, 2, Some(RoomKind::Back(1)))
     );
     assert_eq!(rt; core.value(), 1);
     Ok(())
@@ -75,27 +83,38 @@ fn a_claim_over_the_bound_is_withdrawn(rt: HostRuntime) -> Result<(), CoreFault>
 fn refused_calls_leave_the_others_as_they_were(rt: HostRuntime) -> Result<(), CoreFault> {
     let mut core = RoomCore::new(rt.alloc(), 5, 2)?;
     core.begin(0, RoomCall::Tir(3))?;
-    steps(&rt, &mut core, 0, CoreMove::Test, 0, None);
-    steps(&rt, &mut core, 0, CoreMove::Add, 0, Some(RoomKind::Up(3)));
+    assert_eq!(rt;
+        core.advance(rt.alloc(), 0),
+        line(0, CoreMove::Test, 0, None)
+    );
+    assert_eq!(rt;
+        core.advance(rt.alloc(), 0),
+        line(0, CoreMove::Add, 0, Some(RoomKind::Up(3)))
+    );
     core.begin(1, RoomCall::Tir(3))?;
-    steps(&rt, &mut core, 1, CoreMove::Test, 3, Some(RoomKind::No(3)));
+    assert_eq!(rt;
+        core.advance(rt.alloc(), 1),
+        line(1, CoreMove::Test, 3, Some(RoomKind::No(3)))
+    );
     core.begin(1, RoomCall::Tir(2))?;
     assert_eq!(rt; core.begin(1, RoomCall::Tir(2)), Err(CoreFault::MidCall));
-    steps(&rt, &mut core, 1, CoreMove::Test, 3, None);
-    steps(&rt, &mut core, 1, CoreMove::Add, 3, Some(RoomKind::Up(2)));
+    assert_eq!(rt;
+        core.advance(rt.alloc(), 1),
+        line(1, CoreMove::Test, 3, None)
+    );
+    assert_eq!(rt;
+        core.advance(rt.alloc(), 1),
+        line(1, CoreMove::Add, 3, Some(RoomKind::Up(2)))
+    );
     assert_eq!(rt; core.advance(rt.alloc(), 1), Err(CoreFault::IdleSeat));
     assert_eq!(rt;
         core.begin(0, RoomCall::Release(4)),
         Err(CoreFault::NotHeld)
     );
     core.begin(0, RoomCall::Release(3))?;
-    steps(
-        &rt,
-        &mut core,
-        0,
-        CoreMove::Release,
-        5,
-        Some(RoomKind::Release(3)),
+    assert_eq!(rt;
+        core.advance(rt.alloc(), 0),
+        line(0, CoreMove::Release, 5, Some(RoomKind::Release(3)))
     );
     assert_eq!(rt; core.advance(rt.alloc(), 2), Err(CoreFault::NoSuchSeat));
     assert_eq!(rt;

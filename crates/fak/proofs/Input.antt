@@ -1,0 +1,101 @@
+-- The front of an input that comes in pieces.
+use Rattle.std.proofs.Common.{◌≡◌, ℕ, ◌+◌, ◌-◌, ◌<◌, ◌≤◌, Bool, true, false, min, List, [], ◌∷◌, ◌++◌, length, take, Option, Some, None, Result, Ok, Err, IfSome, refl, sym, ap, ◌∙◌, append_assoc, subst, arith}
+use Rattle.std.proofs.Math.Seq.{take-append-add, take-append_seam, take-length}
+use Rattle.std.proofs.lemmas.List.{take-append-le, take_min, length-take, length-take-le, take_all, append-nil}
+use Rattle.std.proofs.lemmas.Bool.{ltb-true, ltb-false, lt-ltb, le-ltb}
+use Rattle.std.proofs.Math.Dec.{ltb}
+use Rattle.std.specs.Io.KnownBytes.{Consumes, Appends, IsAtEnd}
+use Rattle.fak_text.specs.ScheduleText.{schedule_from}
+use Rattle.fak_text.specs.Values.{input_in}
+use Rattle.fak.specs.declared.command.Command.{Command}
+use Rattle.fak.specs.declared.command.Command.TheVariants.{Replay, Check, Run}
+use Rattle.fak.specs.declared.fault.MainFault.{MainFault}
+use Rattle.fak.specs.declared.fault.MainFault.TheVariants as faults
+use Rattle.fak_text.specs.Gives.{◌>>=◌}
+use Rattle.fak.specs.Answers.{Reply, FailsBy, IsReply, replay_reply, most_kept}
+
+cut : (m : ℕ) (input chunk kept : List ℕ) → kept ≡ take m input → (b : Bool) → ltb m (length input) ≡ b
+    → kept ++ take (min (m - min (length kept) m) (length chunk)) chunk ≡ take m (input ++ chunk)
+cut m input chunk kept e false h =
+    let le : length input ≤ m = ltb-false m (length input) h in
+    let whole : kept ≡ input = e ∙ take_all m input le in
+    let room : m - min (length kept) m ≡ m - length input = rw whole (omega arith) in
+    let sum : m ≡ length input + (m - length input) = omega arith in
+    let more : take m (input ++ chunk) ≡ input ++ take (m - length input) chunk = ap (λ (n : ℕ). take n (input ++ chunk)) sum ∙ take-append-add input chunk (m - length input) in
+    rw (room, take_min (m - length input) chunk, whole) (sym more)
+cut m input chunk kept e true h =
+    let lt : m < length input = ltb-true m (length input) h in
+    let len : length kept ≡ m = ap length e ∙ length-take-le m input (omega arith) in
+    let room : min (m - min (length kept) m) (length chunk) ≡ 0 = rw len (omega arith) in
+    let le : m ≤ length input = omega arith in
+    rw (room, take-append-le m input chunk le) (append-nil kept ∙ e)
+
+pub front_grows : (m : ℕ) (input chunk kept : List ℕ) → kept ≡ take m input
+    → kept ++ take (min (m - min (length kept) m) (length chunk)) chunk ≡ take m (input ++ chunk)
+front_grows m input chunk kept e = cut m input chunk kept e (ltb m (length input)) refl
+
+pub consumes_more : (old mid new : Option (List ℕ)) (front more : List ℕ) → Consumes old mid front → Consumes mid new more → Consumes old new (front ++ more)
+consumes_more None mid new front more a b = tt
+consumes_more (Some xs) None new front more a b = absurd a
+consumes_more (Some xs) (Some ys) None front more a b = absurd b
+consumes_more (Some xs) (Some ys) (Some zs) front more a b = a ∙ ap (λ (t : List ℕ). front ++ t) b ∙ sym (append_assoc front more zs)
+
+pub at_end : (old new : Option (List ℕ)) (front kept : List ℕ) (m : ℕ) → Consumes old new front → IsAtEnd new → kept ≡ take m front → IfSome old (λ input. kept ≡ take m input)
+at_end None new front kept m a e k = tt
+at_end (Some xs) None front kept m a e k = absurd a
+at_end (Some xs) (Some ys) front kept m a e k =
+    let all : xs ≡ front = a ∙ ap (λ (t : List ℕ). front ++ t) e ∙ append-nil front in
+    k ∙ ap (λ (t : List ℕ). take m t) (sym all)
+
+pub front_grows_by : (m : ℕ) (input chunk kept : List ℕ) (len room count : ℕ) → len ≡ length kept → room ≡ m - min len m → count ≡ min room (length chunk) → kept ≡ take m input
+    → kept ++ take count chunk ≡ take m (input ++ chunk)
+front_grows_by m input chunk kept len room count l r c e =
+    let is : count ≡ min (m - min (length kept) m) (length chunk) = rw (← l, ← r) c in
+    rw is (front_grows m input chunk kept e)
+
+-- the last read, which gave nothing
+pub at_last : (old mid new : Option (List ℕ)) (front buffer kept : List ℕ) (n m : ℕ) → n ≡ 0 → Consumes old mid front → Consumes mid new (take n buffer) → IsAtEnd new → kept ≡ take m front → IfSome old (λ input. kept ≡ take m input)
+at_last old mid new front buffer kept n m zero before read e k =
+    let nothing : take n buffer ≡ [] = ap (λ (i : ℕ). take i buffer) zero in
+    let all : front ++ take n buffer ≡ front = ap (λ (t : List ℕ). front ++ t) nothing ∙ append-nil front in
+    at_end old new (front ++ take n buffer) kept m (consumes_more old mid new front (take n buffer) before read) e (k ∙ ap (λ (t : List ℕ). take m t) (sym all))
+
+-- an input that is too long is so by its front already
+too_long : (input : List ℕ) → 1048576 < length input → input_in (take most_kept input) ≡ input_in input
+unfolding input_in
+too_long input lt =
+    let all : ltb 1048576 (length input) ≡ true = lt-ltb 1048576 (length input) lt in
+    let enough : most_kept ≤ length input = omega arith in
+    let front : ltb 1048576 (length (take most_kept input)) ≡ true = rw (length-take-le most_kept input enough) refl in
+    rw (all, front) refl
+
+-- the front that is kept is read as the whole input
+front_read : (input : List ℕ) (b : Bool) → ltb 1048576 (length input) ≡ b → input_in (take most_kept input) ≡ input_in input
+front_read input true h = too_long input (ltb-true 1048576 (length input) h)
+front_read input false h =
+    let le : length input ≤ 1048576 = ltb-false 1048576 (length input) h in
+    ap input_in (take_all most_kept input (omega arith))
+
+-- the front that is kept has the replies of the whole
+of_front : (command : Command) (input : List ℕ) (reply : Result Reply MainFault) → IsReply command (take most_kept input) reply → IsReply command input reply
+of_front Check input reply is = is
+of_front (Run n) input reply is = is
+of_front Replay input reply is = subst (λ value. reply ≡ replay_reply (value >>= schedule_from)) (front_read input (ltb 1048576 (length input)) refl) is
+
+pub serves : (read : Option (List ℕ)) (command : Command) (kept : List ℕ) (r : Reply) (P : List ℕ → Type 0)
+    → IfSome read (λ input. kept ≡ take most_kept input) → IsReply command kept (Ok r) → P r.1
+    → IfSome read (λ input. (text : List ℕ) × IsReply command input (Ok (r.0, text)) × P text)
+serves None command kept r P k e p = tt
+serves (Some input) command kept r P k e p = (r.1, of_front command input (Ok r) (subst (λ bytes. IsReply command bytes (Ok r)) k e), p)
+
+fault_of_front : (command : Command) (kept input : List ℕ) (fault : MainFault) → kept ≡ take most_kept input → FailsBy (IsReply command kept) fault → FailsBy (IsReply command input) fault
+fault_of_front command kept input faults.Memory k f = tt
+fault_of_front command kept input faults.Read k f = tt
+fault_of_front command kept input faults.Write k f = tt
+fault_of_front command kept input faults.Usage k f = of_front command input (Err faults.Usage) (subst (λ bytes. IsReply command bytes (Err faults.Usage)) k f)
+fault_of_front command kept input (faults.Text e) k f = of_front command input (Err (faults.Text e)) (subst (λ bytes. IsReply command bytes (Err (faults.Text e))) k f)
+
+pub fails : (read : Option (List ℕ)) (command : Command) (kept : List ℕ) (fault : MainFault)
+    → IfSome read (λ input. kept ≡ take most_kept input) → FailsBy (IsReply command kept) fault → IfSome read (λ input. FailsBy (IsReply command input) fault)
+fails None command kept fault k f = tt
+fails (Some input) command kept fault k f = fault_of_front command kept input fault k f

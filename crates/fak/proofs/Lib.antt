@@ -1,0 +1,3 @@
+mod CommandWords
+mod Input
+mod Replays

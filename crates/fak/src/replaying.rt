@@ -1,0 +1,46 @@
+//! The command `replay`: from a schedule to the trace of its atomic steps.
+
+ghost use Rattle.std.specs.Prelude.{◌≡◌, ◌≤◌, IfErr, IfOk};
+ghost use Rattle.fak_text.specs.ScheduleText.{IsObjectInRange};
+ghost use Rattle.fak.specs.Answers.{GivesAnswer, IsReply};
+ghost use Rattle.fak.specs.Replay.{machine_of};
+ghost use Rattle.fak.specs.declared.command.Command.TheVariants.{Replay};
+ghost use Rattle.fak.specs.declared.fault.MainFault.TheVariants.{Memory};
+
+use crate::answer::Answer;
+use crate::fault::MainFault;
+use crate::machine::Machine;
+use crate::stepping::trace_of;
+use fak_core::RoomCore;
+use fak_text::{Object, read_schedule};
+use std::alloc::Global;
+
+/// The core of a schedule, before its first event.
+fn new_machine(alloc: Global, object: Object, seats: u64) -> Result<Machine, MainFault>
+    requires object { IsObjectInRange object }
+    requires seats { (1 ≤ seats) × (seats ≤ 64) }
+    ensures ok { IfOk result (λ machine. machine ≡ machine_of object seats) }
+    ensures err { IfErr result (λ fault. fault ≡ Memory) }
+{
+    match object {
+        Object::Room(bound) => match RoomCore::new(alloc, bound, seats) {
+            Ok(core) => Ok(Machine::Room(core)),
+            Err(_) => Err(MainFault::Memory),
+        },
+        Object::Queue(size) => match RoomCore::new(alloc, size, seats) {
+            Ok(core) => Ok(Machine::Room(core)),
+            Err(_) => Err(MainFault::Memory),
+        },
+    }
+}
+
+/// Replays the schedule that the input is: the line of each atomic step, and of each event that the object refuses,
+/// with status 0. Refuses the input's first fault, or `Memory`.
+pub fn replay(alloc: Global, input: &[u8]) -> Result<Answer, MainFault>
+    ensures { GivesAnswer (IsReply Replay input.now) result }
+{
+    let schedule = read_schedule(alloc, input)?;
+    let machine = new_machine(alloc, schedule.object, schedule.seats)?;
+    let text = trace_of(machine, alloc, &schedule.events)?;
+    Ok(Answer { status: 0, text })
+}

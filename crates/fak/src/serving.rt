@@ -1,0 +1,93 @@
+//! One command over one input and one output.
+
+ghost use Rattle.std.specs.Prelude.{◌≡◌, ◌≢◌, ◌⊎◌, ◌++◌, ℕ, List, take, IfOk, IfErr, IfSome, OnOk, Ok};
+ghost use Rattle.std.specs.Io.KnownBytes.{Appends, Keeps};
+ghost use Rattle.fak.specs.Answers.{FailsBy, GivesAnswer, IsReply, most_kept};
+ghost use Rattle.fak.specs.declared.fault.MainFault.TheVariants as faults;
+
+use crate::answer::Answer;
+use crate::command::Command;
+use crate::fault::MainFault;
+use crate::replaying::replay;
+use std::alloc::Global;
+use std::io::{Read, Write};
+use std::sync::Wait;
+
+/// How often the input is read at most; one that hasn't ended by then is a read fault.
+const MOST_READS: u32 = 2_097_152;
+
+/// How many bytes of the input are kept at most: one more than an input may have.
+const MOST_KEPT: usize = 1_048_577;
+
+/// Appends to what is kept as much of the chunk as there is room for.
+fn keep(kept: &mut Vec<u8>, chunk: &[u8]) -> Result<(), MainFault>
+    ensures ok { OnOk result ((input : List ℕ) → kept.old.items ≡ take most_kept input
+        → kept.new.items ≡ take most_kept (input ++ chunk.now)) }
+    ensures err { IfErr result (λ e. e ≡ faults.Memory) }
+{
+    let room = MOST_KEPT - kept.len().min(MOST_KEPT);
+    let count = room.min(chunk.len());
+    kept.extend_from_slice(&chunk[..count])?;
+    Ok(())
+}
+
+/// Reads the input to its end, and keeps its front.
+fn read_input<R: Read>(alloc: Global, reader: &mut R) -> Result<Vec<u8>, MainFault>
+    ensures ok { IfOk result (λ v. IfSome (R.remaining reader.old) (λ input. v.items ≡ take most_kept input)) }
+    ensures err { IfErr result (λ e. (e ≡ faults.Memory) ⊎ (e ≡ faults.Read)) }
+{
+    let mut kept = Vec::new(alloc);
+    let mut buffer = [0u8; 4096];
+    for _ in 0..MOST_READS {
+        match reader.read(&mut buffer) {
+            Ok(0) => return Ok(kept),
+            Ok(n) => keep(&mut kept, &buffer[..n])?,
+            Err(_) => return Err(MainFault::Read),
+        }
+    }
+    Err(MainFault::Read)
+}
+
+/// The answer of a command to an input.
+fn answer_of(alloc: Global, command: Command, input: &[u8]) -> Result<Answer, MainFault>
+    ensures { GivesAnswer (IsReply command input.now) result }
+{
+    match command {
+        Command::Replay => replay(alloc, input),
+        Command::Check | Command::Run(_) => Err(MainFault::Usage),
+    }
+}
+
+/// Writes a text whole.
+fn write_text<W: Write>(writer: &mut W, text: &[u8]) -> Result<(), MainFault>
+    ensures ok { OnOk result (Appends (W.contents writer.old) (W.contents writer.new) text.now) }
+    ensures err { IfErr result (λ e. e ≡ faults.Write) }
+{
+    if writer.write_all(text).is_err() {
+        return Err(MainFault::Write);
+    }
+    if writer.flush().is_err() {
+        return Err(MainFault::Write);
+    }
+    Ok(())
+}
+
+/// Reads all input, writes the text of the command's answer, and answers its status. On any fault but `Write`
+/// nothing was written.
+pub fn serve<R: Read, W: Write>(
+    rt: &impl Wait,
+    alloc: Global,
+    command: Command,
+    reader: &mut R,
+    writer: &mut W,
+) -> Result<u8, MainFault>
+    ensures ok { IfOk result (λ status. IfSome (R.remaining reader.old) (λ input. (text : List ℕ)
+        × IsReply command input (Ok (status, text)) × Appends (W.contents writer.old) (W.contents writer.new) text)) }
+    ensures fault { IfErr result (λ e. IfSome (R.remaining reader.old) (λ input. FailsBy (IsReply command input) e)) }
+    ensures untouched { IfErr result (λ e. e ≢ faults.Write → Keeps (W.contents writer.old) (W.contents writer.new)) }
+{
+    let input = read_input(alloc, reader)?;
+    let answer = answer_of(alloc, command, &input)?;
+    write_text(writer, &answer.text)?;
+    Ok(answer.status)
+}

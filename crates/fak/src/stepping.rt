@@ -1,0 +1,116 @@
+//! The events of a schedule, made one after the other on its core.
+
+ghost use Rattle.std.specs.Prelude.{◌≡◌, ◌++◌, [], ◌∷◌, All, IfErr, IfOk, IfSome, List, OnOk, replicate};
+ghost use Rattle.std.specs.List.{flat_map};
+ghost use Rattle.fak_text.specs.ScheduleText.{IsActInRange};
+ghost use Rattle.fak.specs.Replay.{Action, IsShownRow, actions_of, begins, list_of, outcome_of, rows_from, steps, text_of_row, text_of_rows};
+ghost use Rattle.fak.specs.declared.fault.MainFault.TheVariants.{Memory};
+
+use crate::fault::MainFault;
+use crate::machine::Machine;
+use crate::row::Row;
+use fak_core::CoreFault;
+use fak_text::{Act, Event, line_text, refused_text};
+use std::alloc::Global;
+
+/// Makes the next step of a seat.
+fn advance(machine: &mut Machine, alloc: Global, seat: u64) -> Result<Row, MainFault>
+    ensures ok { IfOk result (λ row. outcome_of machine.old (steps seat) ≡ record { machine = machine.new; rows = row ∷ [] }) }
+    ensures shown { IfOk result IsShownRow }
+    ensures err { IfErr result (λ fault. fault ≡ Memory) }
+{
+    match machine {
+        Machine::Room(core) => match core.advance(alloc, seat) {
+            Ok(line) => Ok(Row::Moved(line)),
+            Err(CoreFault::Memory) => Err(MainFault::Memory),
+            Err(fault) => Ok(Row::Refused(seat, fault)),
+        },
+    }
+}
+
+/// Begins a call of a seat; a row where it is refused.
+fn begin(machine: &mut Machine, seat: u64, act: Act) -> Option<Row>
+    requires { IsActInRange act }
+    ensures outcome { outcome_of machine.old (begins seat act) ≡ record { machine = machine.new; rows = list_of result } }
+    ensures shown { IfSome result IsShownRow }
+{
+    match (machine, act) {
+        (Machine::Room(core), Act::Room(call)) => match core.begin(seat, call) {
+            Ok(()) => None,
+            Err(fault) => Some(Row::Refused(seat, fault)),
+        },
+        _ => None,
+    }
+}
+
+/// Appends a row and a newline.
+fn push_row(text: &mut Vec<u8>, alloc: Global, row: Row) -> Result<(), MainFault>
+    requires { IsShownRow row }
+    ensures ok { OnOk result (text.new.items ≡ text.old.items ++ (text_of_row row ++ 10 ∷ [])) }
+    ensures err { IfErr result (λ fault. fault ≡ Memory) }
+{
+    let line = match row {
+        Row::Moved(line) => line_text(alloc, &line)?,
+        Row::Refused(seat, fault) => refused_text(alloc, seat, &fault)?,
+    };
+    text.extend_from_slice(&line)?;
+    text.push(b'\n')?;
+    Ok(())
+}
+
+/// Makes so many steps of a seat, and appends their rows.
+fn make_steps(
+    machine: &mut Machine,
+    alloc: Global,
+    seat: u64,
+    count: u64,
+    text: &mut Vec<u8>,
+) -> Result<(), MainFault>
+    ensures ok { OnOk result ((rest : List Action) → text.new.items ++ text_of_rows (rows_from machine.new rest)
+        ≡ text.old.items ++ text_of_rows (rows_from machine.old (replicate count (steps seat) ++ rest))) }
+    ensures err { IfErr result (λ fault. fault ≡ Memory) }
+{
+    for made in 0..count {
+        let row = advance(machine, alloc, seat)?;
+        push_row(text, alloc, row)?;
+    }
+    Ok(())
+}
+
+/// Makes an event, and appends its rows.
+fn make_event(
+    machine: &mut Machine,
+    alloc: Global,
+    event: Event,
+    text: &mut Vec<u8>,
+) -> Result<(), MainFault>
+    requires { IsActInRange event.act }
+    ensures ok { OnOk result ((rest : List Action) → text.new.items ++ text_of_rows (rows_from machine.new rest)
+        ≡ text.old.items ++ text_of_rows (rows_from machine.old (actions_of event ++ rest))) }
+    ensures err { IfErr result (λ fault. fault ≡ Memory) }
+{
+    match event.act {
+        Act::Steps(count) => make_steps(machine, alloc, event.seat, count, text),
+        act => match begin(machine, event.seat, act) {
+            Some(row) => push_row(text, alloc, row),
+            None => Ok(()),
+        },
+    }
+}
+
+/// The rows of all events, from the core's state on.
+pub(crate) fn trace_of(
+    mut machine: Machine,
+    alloc: Global,
+    events: &[Event],
+) -> Result<Vec<u8>, MainFault>
+    requires { All (λ event. IsActInRange event.act) events.now }
+    ensures ok { IfOk result (λ text. text.items ≡ text_of_rows (rows_from machine (flat_map actions_of events.now))) }
+    ensures err { IfErr result (λ fault. fault ≡ Memory) }
+{
+    let mut text = Vec::new(alloc);
+    for event in events {
+        make_event(&mut machine, alloc, *event, &mut text)?;
+    }
+    Ok(text)
+}

@@ -1,0 +1,35 @@
+//! Command lines.
+
+use crate::{Command, MainFault, command_of};
+use std::alloc::{AllocError, Global};
+use std::test::Fail;
+
+fn answer(alloc: Global, line: &str) -> Result<Result<Command, MainFault>, AllocError> {
+    let mut words = Vec::new(alloc);
+    for word in line.split(' ') {
+        words.push(String::from_str(alloc, word)?)?;
+    }
+    Ok(command_of(alloc, words))
+}
+
+#[test]
+fn command_lines(rt: HostRuntime) -> Result<(), Fail> {
+    let table = [
+        ("fak replay", Ok(Command::Replay)),
+        ("other replay", Ok(Command::Replay)),
+        ("fak", Err(MainFault::Usage)),
+        ("fak copy", Err(MainFault::Usage)),
+        ("fak replay extra", Err(MainFault::Usage)),
+        ("fak -- replay", Err(MainFault::Usage)),
+        ("fak help", Err(MainFault::Usage)),
+        ("fak --help", Err(MainFault::Usage)),
+        ("fak -h", Err(MainFault::Usage)),
+        ("fak replay --help", Err(MainFault::Usage)),
+        ("fak --version", Err(MainFault::Usage)),
+        ("fak -V", Err(MainFault::Usage)),
+    ];
+    for (line, want) in table {
+        assert_eq!(rt; answer(rt.alloc(), line)?, want, "at {line}");
+    }
+    Ok(())
+}

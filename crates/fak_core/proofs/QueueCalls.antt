@@ -1,0 +1,148 @@
+-- What the calls of a queue core learn from its fields, and from the values that they read.
+use Rattle.std.proofs.Common.{subst, ◌≡◌, ◌+◌, ◌*◌, ◌/◌, ◌%◌, ◌==◌, int_lt, pos, ◌<◌, ◌++◌, ◌∙◌, ℕ, zero, suc, List, [], ◌∷◌, length, get_or, reverse, Option, Some, None, Ok, refl, ap, sym, slice_get, slice_set}
+use Rattle.std.proofs.lemmas.List.{append-nil, reverse-reverse}
+use Rattle.std.proofs.lemmas.Option.{get_or_from_slice_get, slice_get_read}
+use Rattle.fak_model.specs.declared.queue.Kind.{Kind}
+use Rattle.fak_model.specs.declared.queue.Kind.TheVariants.{Put}
+use Rattle.fak_model.specs.declared.queue.Mark.{Mark}
+use Rattle.fak_model.specs.Queue.{item_at, item_in, items_put}
+use Rattle.fak_model.specs.QueuePast.{item_of}
+use Rattle.fak_model.proofs.Reversing.{reverse_cons}
+use Rattle.fak_model.proofs.QueueBackwards.{item_same, items_push}
+use Rattle.fak_core.specs.declared.line.CoreMove.{CoreMove}
+use Rattle.fak_core.specs.declared.line.CoreMove.TheVariants as step
+use Rattle.fak_core.specs.declared.line.Line.{Line}
+use Rattle.fak_core.specs.declared.queue.phase.Phase.{Phase}
+use Rattle.fak_core.specs.declared.queue.phase.Phase.TheVariants.{Idle, TestUp, AddUp, BackUp, TicketIn, TurnIn, StoreItem, SetFull, EndInsert, TestLow, SubLow, BackLow, TicketOut, TurnOut, LoadItem, SetFree, EndDelete, SetShut}
+use Rattle.fak_core.specs.declared.queue.step.Found.TheVariants.{Item}
+use Rattle.fak_core.specs.declared.queue.step.Write.{Write}
+use Rattle.fak_core.specs.declared.queue.step.Write.TheVariants as write
+use Rattle.fak_core.specs.declared.queue.step.QueueMove.{QueueMove}
+use Rattle.fak_core.specs.QueueMoves.{QueueState, load_item, move_by, next_move, past_after}
+use Rattle.fak_core.specs.QueueFields.{QueueFields, queue_state, history_of, written_fields, moved_fields, item_left, or_idle, phase_step, step_of, line_of, number_found, IsSound, IsSoundWith, IsStep, LoadsPut}
+use Rattle.fak_core.proofs.QueueSteps.{by_test}
+use Rattle.fak_core.proofs.QueueLoads.{loads_own}
+use Rattle.fak_core.proofs.QueueSound.{moves_on, sound_kept, sound_moved, step_made}
+
+-- ---- what the code reads
+
+item_at_is : (xs : List ℕ) (k : ℕ) → slice_get xs k ≡ item_at xs k
+item_at_is [] k = refl
+item_at_is (x ∷ xs) zero = refl
+item_at_is (x ∷ xs) (suc k) = item_at_is xs k
+
+-- the items put tell the item of the next deletion's ticket
+pub drawn_is : (f : QueueFields) (items : List ℕ) → IsSoundWith f items → slice_get items f.draws_out ≡ item_of f.past f.draws_out
+drawn_is f items h =
+    ap (λ xs. slice_get xs f.draws_out) h.put
+    ∙ (item_at_is (items_put (history_of f)) f.draws_out
+    ∙ (item_same f.draws_out (history_of f) ∙ ap (λ p. item_of p f.draws_out) (reverse-reverse f.past)))
+
+-- a step depends on the words, and on no other seat
+words_tell : (f : QueueFields) (d : Option ℕ) (p : Phase ℕ) → move_by f.size (queue_state (record f { phases = []; past = [] })) d p ≡ move_by f.size (queue_state f) d p
+words_tell f d (TestUp x) = refl
+words_tell f d _ = refl
+
+-- the step that the code finds
+pub step_found : (f : QueueFields) (items : List ℕ) (i : ℕ) (p : Phase ℕ) (d : Option ℕ) (o : Option (QueueMove ℕ)) → IsSoundWith f items → i < length f.phases → p ≡ get_or f.phases i p
+    → d ≡ slice_get items f.draws_out → o ≡ move_by f.size (queue_state (record f { phases = []; past = [] })) d p → step_of f i ≡ or_idle o
+step_found f items i p d o h within at drawn is =
+    ap (phase_step f) (slice_get_read f.phases _ i p refl within at)
+    ∙ ap or_idle (ap (λ e. move_by f.size (queue_state f) e p) (sym (drawn ∙ drawn_is f items h)) ∙ (sym (words_tell f d p) ∙ sym is))
+
+-- ---- what the code writes
+
+put_left : (s : ℕ) (o : Option (Kind ℕ)) (past : List (Mark ℕ)) → items_put (reverse (past_after s o past)) ≡ items_put (reverse past) ++ item_left o
+put_left s None past = sym (append-nil (items_put (reverse past)))
+put_left s (Some κ) past =
+    let m : Mark ℕ = record { seat = s; kind = κ } in
+    ap items_put (reverse_cons m past) ∙ (items_push (reverse past) m ∙ ap (λ l. items_put (reverse past) ++ l) (kind_left s κ))
+  where
+    kind_left : (s : ℕ) (κ : Kind ℕ) → item_in (record { seat = s; kind = κ }) ≡ item_left (Some κ)
+    kind_left s (Put x) = refl
+    kind_left s _ = refl
+
+-- a write changes no seat and no mark
+written_same : (f : QueueFields) (w : Write ℕ) (phases : List (Phase ℕ)) (past : List (Mark ℕ))
+    → record (written_fields (record f { phases = []; past = [] }) w) { phases = phases; past = past } ≡ record (written_fields f w) { phases = phases; past = past }
+written_same f write.Nothing phases past = refl
+written_same f _ phases past = refl
+
+-- the fields that the code leaves
+pub step_left : (f w : QueueFields) (i : ℕ) (m : QueueMove ℕ) (past : List (Mark ℕ)) → w ≡ written_fields (record f { phases = []; past = [] }) m.write → past ≡ past_after i m.mark f.past
+    → record w { phases = slice_set f.phases i m.phase; past = past } ≡ moved_fields f i m
+step_left f w i m past is more =
+    let seats = slice_set f.phases i m.phase in
+    ap (λ (g : QueueFields). record g { phases = seats; past = past }) is
+    ∙ (written_same f m.write seats past ∙ ap (λ (h : List (Mark ℕ)). record (written_fields f m.write) { phases = seats; past = h }) more)
+
+pub step_sound : (f : QueueFields) (items items' : List ℕ) (i : ℕ) (m : QueueMove ℕ) → IsSoundWith f items → step_of f i ≡ Ok m → items' ≡ items ++ item_left m.mark → IsSoundWith (moved_fields f i m) items'
+step_sound f items items' i m h e is = record {
+  sound = sound_moved f i m h.sound e;
+  put = is ∙ (ap (λ l. l ++ item_left m.mark) h.put ∙ sym (put_left i m.mark f.past));
+}
+
+pub step_is : (f : QueueFields) (i : ℕ) (m : QueueMove ℕ) (line : Line) → IsSound f → step_of f i ≡ Ok m → line ≡ line_of i m → IsStep f i line (moved_fields f i m)
+step_is f i m line h e says = record { step = m; is = e; says = says; leaves = refl; state = moves_on f i m h e }
+
+-- ---- what a deletion loads
+
+-- the name of the step that a seat in this phase makes
+abbrev name_of : Phase ℕ → CoreMove
+name_of Idle = step.TestUp
+name_of (TestUp x) = step.TestUp
+name_of (AddUp x) = step.AddUp
+name_of (BackUp x) = step.BackUp
+name_of (TicketIn x) = step.TicketIn
+name_of (TurnIn k x) = step.TurnIn
+name_of (StoreItem k x) = step.StoreItem
+name_of (SetFull k x) = step.SetFull
+name_of (EndInsert k) = step.EndIn
+name_of TestLow = step.TestLow
+name_of SubLow = step.SubLow
+name_of BackLow = step.BackLow
+name_of TicketOut = step.TicketOut
+name_of (TurnOut k) = step.TurnOut
+name_of (LoadItem k) = step.LoadItem
+name_of (SetFree k) = step.SetFree
+name_of (EndDelete k) = step.EndOut
+name_of SetShut = step.Shut
+
+abbrev HasName : Option (QueueMove ℕ) → CoreMove → Type 0
+HasName None n = Unit {0}
+HasName (Some m) n = m.step ≡ n
+
+named : (size : ℕ) (st : QueueState ℕ) (d : Option ℕ) (p : Phase ℕ) → HasName (move_by size st d p) (name_of p)
+named size st d Idle = tt
+named size st d (TestUp x) = by_test (λ (m : QueueMove ℕ). m.step ≡ step.TestUp) st.shut _ _ (λ _. refl) (λ _. by_test (λ (m : QueueMove ℕ). m.step ≡ step.TestUp) (int_lt st.upper (pos size)) _ _ (λ _. refl) (λ _. refl))
+named size st d (AddUp x) = by_test (λ (m : QueueMove ℕ). m.step ≡ step.AddUp) st.shut _ _ (λ _. refl) (λ _. by_test (λ (m : QueueMove ℕ). m.step ≡ step.AddUp) (int_lt st.upper (pos size)) _ _ (λ _. refl) (λ _. refl))
+named size st d (TurnIn k x) = by_test (λ (m : QueueMove ℕ). m.step ≡ step.TurnIn) (st.turn (k % size) == 2 * (k / size)) _ _ (λ _. refl) (λ _. refl)
+named size st d TestLow = by_test (λ (m : QueueMove ℕ). m.step ≡ step.TestLow) (int_lt (pos 0) st.lower) _ _ (λ _. refl) (λ _. refl)
+named size st d SubLow = by_test (λ (m : QueueMove ℕ). m.step ≡ step.SubLow) (int_lt (pos 0) st.lower) _ _ (λ _. refl) (λ _. refl)
+named size st None TicketOut = refl
+named size st (Some x) TicketOut = refl
+named size st d (TurnOut k) = by_test (λ (m : QueueMove ℕ). m.step ≡ step.TurnOut) (st.turn (k % size) == 2 * (k / size) + 1) _ _ (λ _. refl) (λ _. refl)
+named size st d _ = refl
+
+at_load : (p : Phase ℕ) → name_of p ≡ step.LoadItem → (k : ℕ) × (p ≡ LoadItem k)
+at_load (LoadItem k) e = (k, refl)
+at_load _ e = absurd cc
+
+-- a line of a load gives the item that was put under the seat's ticket
+pub load_is : (f : QueueFields) (i : ℕ) (m : QueueMove ℕ) (line : Line) → IsSound f → step_of f i ≡ Ok m → line ≡ line_of i m → line.step ≡ step.LoadItem → LoadsPut f i line.found
+load_is f i m line h e says loads =
+    let s = step_made f i m e in
+    let st : QueueState ℕ = queue_state f in
+    let name : m.step ≡ name_of s.phase = subst (λ o. HasName o (name_of s.phase)) s.is (named f.size st (item_of f.past f.draws_out) s.phase) in
+    let at = at_load s.phase (sym name ∙ (ap (λ (l : Line). l.step) (sym says) ∙ loads)) in
+    let phase : st.phase i ≡ LoadItem at.0 = get_or_from_slice_get f.phases i s.phase Idle s.at ∙ at.1 in
+    let own = loads_own f.size st i at.0 (sound_kept f h) phase in
+    let move : Some (load_item (st.cell (at.0 % f.size)) at.0) ≡ Some m = ap (next_move f.size st) (sym at.1) ∙ s.is in
+    let found : m.found ≡ Item (Some own.item) = cc (move, own.loaded) in
+    record {
+      item = own.item;
+      ticket = at.0;
+      drew = own.ticket;
+      put = own.put;
+      loaded = ap (λ (l : Line). l.found) says ∙ ap number_found found;
+    }

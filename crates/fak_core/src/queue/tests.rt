@@ -1,0 +1,343 @@
+//! Schedules on a queue, step by step, and each refusal.
+
+use super::QueueCore;
+use crate::call::QueueCall;
+use crate::fault::CoreFault;
+use crate::line::{CoreMove, Line, LineMark};
+use fak_model::{Kind, Mark};
+use std::alloc::Global;
+use std::process::Abort;
+
+/// A step of a seat: which it is, what it finds, and the mark that it leaves.
+type Step = (u64, CoreMove, i128, Option<Kind<u64>>);
+
+/// Makes the next steps, which are to be these.
+fn steps(rt: &impl Abort, alloc: Global, core: &mut QueueCore, trace: &[Step]) {
+    for &(seat, step, found, kind) in trace {
+        let line = Line {
+            seat,
+            step,
+            found,
+            mark: kind.map(LineMark::Queue),
+        };
+        assert_eq!(rt; core.advance(alloc, seat), Ok(line));
+    }
+}
+
+/// The steps of the first insertion, of 7, into a queue of one cell by seat 0.
+const INSERTED: [Step; 7] = [
+    (0, CoreMove::TestUp, 0, None),
+    (0, CoreMove::AddUp, 0, Some(Kind::ClaimIn)),
+    (0, CoreMove::TicketIn, 0, Some(Kind::Put(7))),
+    (0, CoreMove::TurnIn, 0, None),
+    (0, CoreMove::StoreItem, 7, None),
+    (0, CoreMove::SetFull, 1, Some(Kind::Fill(0))),
+    (0, CoreMove::EndIn, 0, Some(Kind::EndIn)),
+];
+
+/// The steps of the first deletion after it, by seat 0.
+const DELETED: [Step; 7] = [
+    (0, CoreMove::TestLow, 1, None),
+    (0, CoreMove::SubLow, 1, Some(Kind::ClaimOut)),
+    (0, CoreMove::TicketOut, 0, Some(Kind::Got(7))),
+    (0, CoreMove::TurnOut, 1, None),
+    (0, CoreMove::LoadItem, 7, None),
+    (0, CoreMove::SetFree, 2, Some(Kind::Take(0))),
+    (0, CoreMove::EndOut, 1, Some(Kind::EndOut)),
+];
+
+#[test]
+fn an_item_is_inserted_and_deleted(rt: HostRuntime) -> Result<(), CoreFault> {
+    let mut core = QueueCore::new(rt.alloc(), 1, 1)?;
+    core.begin(0, QueueCall::Insert(7))?;
+    steps(&rt, rt.alloc(), &mut core, &INSERTED);
+    core.begin(0, QueueCall::Delete)?;
+    steps(&rt, rt.alloc(), &mut core, &DELETED);
+    let kinds = [
+        Kind::ClaimIn,
+        Kind::Put(7),
+        Kind::Fill(0),
+        Kind::EndIn,
+        Kind::ClaimOut,
+        Kind::Got(7),
+        Kind::Take(0),
+        Kind::EndOut,
+    ];
+    let marks = kinds.map(|kind| Mark { seat: 0, kind });
+    assert_eq!(rt; core.marks(), &marks[..]);
+    Ok(())
+}
+
+#[test]
+fn a_deletion_too_many_is_withdrawn(rt: HostRuntime) -> Result<(), CoreFault> {
+    let mut core = QueueCore::new(rt.alloc(), 1, 3)?;
+    core.begin(0, QueueCall::Delete)?;
+    steps(
+        &rt,
+        rt.alloc(),
+        &mut core,
+        &[(0, CoreMove::TestLow, 0, Some(Kind::NoItem))],
+    );
+    core.begin(0, QueueCall::Insert(7))?;
+    steps(&rt, rt.alloc(), &mut core, &INSERTED);
+    core.begin(1, QueueCall::Delete)?;
+    steps(
+        &rt,
+        rt.alloc(),
+        &mut core,
+        &[(1, CoreMove::TestLow, 1, None)],
+    );
+    core.begin(2, QueueCall::Delete)?;
+    steps(
+        &rt,
+        rt.alloc(),
+        &mut core,
+        &[
+            (2, CoreMove::TestLow, 1, None),
+            (2, CoreMove::SubLow, 1, Some(Kind::ClaimOut)),
+            (1, CoreMove::SubLow, 0, Some(Kind::OverOut)),
+        ],
+    );
+    core.begin(0, QueueCall::Delete)?;
+    steps(
+        &rt,
+        rt.alloc(),
+        &mut core,
+        &[
+            (0, CoreMove::TestLow, -1, Some(Kind::NoItem)),
+            (1, CoreMove::BackLow, -1, Some(Kind::BackOut)),
+        ],
+    );
+    Ok(())
+}
+
+#[test]
+fn an_insertion_into_a_full_queue_is_refused(rt: HostRuntime) -> Result<(), CoreFault> {
+    let mut core = QueueCore::new(rt.alloc(), 1, 1)?;
+    core.begin(0, QueueCall::Insert(7))?;
+    steps(&rt, rt.alloc(), &mut core, &INSERTED);
+    core.begin(0, QueueCall::Insert(8))?;
+    steps(
+        &rt,
+        rt.alloc(),
+        &mut core,
+        &[(0, CoreMove::TestUp, 1, Some(Kind::NoRoom))],
+    );
+    Ok(())
+}
+
+#[test]
+fn an_insertion_that_has_not_ended_gives_no_item(rt: HostRuntime) -> Result<(), CoreFault> {
+    let mut core = QueueCore::new(rt.alloc(), 1, 2)?;
+    core.begin(0, QueueCall::Insert(7))?;
+    steps(&rt, rt.alloc(), &mut core, &INSERTED[..6]);
+    core.begin(1, QueueCall::Delete)?;
+    steps(
+        &rt,
+        rt.alloc(),
+        &mut core,
+        &[(1, CoreMove::TestLow, 0, Some(Kind::NoItem))],
+    );
+    Ok(())
+}
+
+#[test]
+fn a_claim_not_yet_withdrawn_refuses_others(rt: HostRuntime) -> Result<(), CoreFault> {
+    let mut core = QueueCore::new(rt.alloc(), 1, 3)?;
+    core.begin(0, QueueCall::Insert(7))?;
+    core.begin(1, QueueCall::Insert(8))?;
+    steps(
+        &rt,
+        rt.alloc(),
+        &mut core,
+        &[
+            (0, CoreMove::TestUp, 0, None),
+            (1, CoreMove::TestUp, 0, None),
+            (0, CoreMove::AddUp, 0, Some(Kind::ClaimIn)),
+            (1, CoreMove::AddUp, 1, Some(Kind::OverIn)),
+        ],
+    );
+    steps(&rt, rt.alloc(), &mut core, &INSERTED[2..]);
+    core.begin(0, QueueCall::Delete)?;
+    steps(&rt, rt.alloc(), &mut core, &DELETED[..6]);
+    steps(
+        &rt,
+        rt.alloc(),
+        &mut core,
+        &[(0, CoreMove::EndOut, 2, Some(Kind::EndOut))],
+    );
+    core.begin(2, QueueCall::Insert(9))?;
+    steps(
+        &rt,
+        rt.alloc(),
+        &mut core,
+        &[
+            (2, CoreMove::TestUp, 1, Some(Kind::NoRoom)),
+            (1, CoreMove::BackUp, 1, Some(Kind::BackIn)),
+        ],
+    );
+    Ok(())
+}
+
+#[test]
+fn calls_overlap_in_a_queue_of_three_cells(rt: HostRuntime) -> Result<(), CoreFault> {
+    let mut core = QueueCore::new(rt.alloc(), 3, 4)?;
+    core.begin(0, QueueCall::Insert(10))?;
+    steps(
+        &rt,
+        rt.alloc(),
+        &mut core,
+        &[
+            (0, CoreMove::TestUp, 0, None),
+            (0, CoreMove::AddUp, 0, Some(Kind::ClaimIn)),
+            (0, CoreMove::TicketIn, 0, Some(Kind::Put(10))),
+        ],
+    );
+    core.begin(1, QueueCall::Insert(11))?;
+    steps(
+        &rt,
+        rt.alloc(),
+        &mut core,
+        &[
+            (1, CoreMove::TestUp, 1, None),
+            (1, CoreMove::AddUp, 1, Some(Kind::ClaimIn)),
+            (1, CoreMove::TicketIn, 1, Some(Kind::Put(11))),
+            (1, CoreMove::TurnIn, 0, None),
+            (1, CoreMove::StoreItem, 11, None),
+            (1, CoreMove::SetFull, 1, Some(Kind::Fill(1))),
+            (1, CoreMove::EndIn, 0, Some(Kind::EndIn)),
+        ],
+    );
+    core.begin(2, QueueCall::Delete)?;
+    steps(
+        &rt,
+        rt.alloc(),
+        &mut core,
+        &[
+            (2, CoreMove::TestLow, 1, None),
+            (2, CoreMove::SubLow, 1, Some(Kind::ClaimOut)),
+            (2, CoreMove::TicketOut, 0, Some(Kind::Got(10))),
+            (2, CoreMove::TurnOut, 0, None),
+        ],
+    );
+    core.begin(1, QueueCall::Insert(12))?;
+    steps(
+        &rt,
+        rt.alloc(),
+        &mut core,
+        &[
+            (1, CoreMove::TestUp, 2, None),
+            (1, CoreMove::AddUp, 2, Some(Kind::ClaimIn)),
+            (1, CoreMove::TicketIn, 2, Some(Kind::Put(12))),
+            (1, CoreMove::TurnIn, 0, None),
+            (1, CoreMove::StoreItem, 12, None),
+            (1, CoreMove::SetFull, 1, Some(Kind::Fill(2))),
+            (1, CoreMove::EndIn, 0, Some(Kind::EndIn)),
+        ],
+    );
+    core.begin(3, QueueCall::Delete)?;
+    steps(
+        &rt,
+        rt.alloc(),
+        &mut core,
+        &[
+            (3, CoreMove::TestLow, 1, None),
+            (3, CoreMove::SubLow, 1, Some(Kind::ClaimOut)),
+            (3, CoreMove::TicketOut, 1, Some(Kind::Got(11))),
+            (3, CoreMove::TurnOut, 1, None),
+            (3, CoreMove::LoadItem, 11, None),
+            (3, CoreMove::SetFree, 2, Some(Kind::Take(1))),
+            (3, CoreMove::EndOut, 3, Some(Kind::EndOut)),
+        ],
+    );
+    core.begin(1, QueueCall::Insert(13))?;
+    steps(
+        &rt,
+        rt.alloc(),
+        &mut core,
+        &[
+            (1, CoreMove::TestUp, 2, None),
+            (1, CoreMove::AddUp, 2, Some(Kind::ClaimIn)),
+            (1, CoreMove::TicketIn, 3, Some(Kind::Put(13))),
+            (1, CoreMove::TurnIn, 0, None),
+            (0, CoreMove::TurnIn, 0, None),
+            (0, CoreMove::StoreItem, 10, None),
+            (0, CoreMove::SetFull, 1, Some(Kind::Fill(0))),
+            (0, CoreMove::EndIn, 0, Some(Kind::EndIn)),
+            (2, CoreMove::TurnOut, 1, None),
+            (2, CoreMove::LoadItem, 10, None),
+            (2, CoreMove::SetFree, 2, Some(Kind::Take(0))),
+            (2, CoreMove::EndOut, 3, Some(Kind::EndOut)),
+            (1, CoreMove::TurnIn, 2, None),
+            (1, CoreMove::StoreItem, 13, None),
+            (1, CoreMove::SetFull, 3, Some(Kind::Fill(3))),
+            (1, CoreMove::EndIn, 1, Some(Kind::EndIn)),
+        ],
+    );
+    Ok(())
+}
+
+#[test]
+fn a_shut_queue_refuses_insertions(rt: HostRuntime) -> Result<(), CoreFault> {
+    let mut core = QueueCore::new(rt.alloc(), 2, 2)?;
+    core.begin(0, QueueCall::Insert(5))?;
+    steps(
+        &rt,
+        rt.alloc(),
+        &mut core,
+        &[(0, CoreMove::TestUp, 0, None)],
+    );
+    core.begin(1, QueueCall::Shut)?;
+    steps(
+        &rt,
+        rt.alloc(),
+        &mut core,
+        &[
+            (1, CoreMove::Shut, 0, Some(Kind::Close)),
+            (0, CoreMove::AddUp, 0, Some(Kind::LateIn)),
+            (0, CoreMove::BackUp, 1, Some(Kind::BackIn)),
+        ],
+    );
+    core.begin(1, QueueCall::Insert(6))?;
+    steps(
+        &rt,
+        rt.alloc(),
+        &mut core,
+        &[(1, CoreMove::TestUp, 0, Some(Kind::Closed))],
+    );
+    core.begin(1, QueueCall::Delete)?;
+    steps(
+        &rt,
+        rt.alloc(),
+        &mut core,
+        &[(1, CoreMove::TestLow, 0, Some(Kind::NoItem))],
+    );
+    Ok(())
+}
+
+#[test]
+fn seats_without_a_step_to_make_are_refused(rt: HostRuntime) -> Result<(), CoreFault> {
+    let mut core = QueueCore::new(rt.alloc(), 2, 2)?;
+    assert_eq!(rt; core.begin(2, QueueCall::Shut), Err(CoreFault::NoSuchSeat));
+    assert_eq!(rt; core.advance(rt.alloc(), 2), Err(CoreFault::NoSuchSeat));
+    assert_eq!(rt; core.advance(rt.alloc(), 1), Err(CoreFault::IdleSeat));
+    core.begin(1, QueueCall::Insert(5))?;
+    assert_eq!(rt; core.begin(1, QueueCall::Delete), Err(CoreFault::MidCall));
+    steps(
+        &rt,
+        rt.alloc(),
+        &mut core,
+        &[(1, CoreMove::TestUp, 0, None)],
+    );
+    assert!(rt; core.marks().is_empty());
+    Ok(())
+}
+
+#[test]
+fn sizes_and_seats_out_of_range_are_refused(rt: HostRuntime) {
+    assert!(rt; matches!(QueueCore::new(rt.alloc(), 0, 0), Err(CoreFault::BadSize)));
+    assert!(rt; matches!(QueueCore::new(rt.alloc(), 4097, 1), Err(CoreFault::BadSize)));
+    assert!(rt; matches!(QueueCore::new(rt.alloc(), 1, 0), Err(CoreFault::BadSeats)));
+    assert!(rt; matches!(QueueCore::new(rt.alloc(), 1, 65), Err(CoreFault::BadSeats)));
+    assert!(rt; QueueCore::new(rt.alloc(), 4096, 64).is_ok());
+}

@@ -1,0 +1,3 @@
+pub mod Words
+pub mod CreditSteps
+pub mod CreditCalls

@@ -1,0 +1,27 @@
+-- The word that keeps a count, after a step on it.
+use Rattle.std.proofs.Common.{◌≡◌, ℕ, ◌+◌, ◌-◌, ◌%◌, ◌^◌, ◌<◌, ◌≤◌, ℤ, pos, ◌+ℤ◌, ◌-ℤ◌, List, length, length-set, set, slice_index, refl, ap, sym, ◌∙◌, arith, mod-eq_of_lt}
+use Rattle.std.proofs.lemmas.Int.{ints}
+use Rattle.std.specs.Prelude.{◌≤ℤ◌}
+use Rattle.std.proofs.Math.Nat.{add-mod_left}
+use Rattle.std.proofs.lemmas.List.{get_or-set_same}
+use Rattle.fak_count.specs.Words.{bias, KeepsCount}
+
+pub writes : (ws : List ℕ) (count new : ℤ) (w : ℕ) → KeepsCount count ws → pos w ≡ pos bias +ℤ new → KeepsCount new (set ws 15 w)
+writes ws count new w k is = record {
+  wide = length-set ws 15 w ∙ k.wide;
+  count_is = ap pos (get_or-set_same ws 15 w 0 (let l = k.wide in omega (arith, l))) ∙ is;
+}
+
+-- the word after an add, and after a subtraction
+pub added : (w d : ℕ) (count : ℤ) → pos w ≡ pos bias +ℤ count → w < 2 ^ 63 → d ≤ 1024 → pos ((w + d) % 2 ^ 64) ≡ pos bias +ℤ (count +ℤ pos d)
+added w d count is small few =
+    let less : w + d < 2 ^ 64 = omega (arith, small, few) in
+    let plain : (w + d) % 2 ^ 64 ≡ w + d = mod-eq_of_lt less in
+    omega (arith, ints, is, plain)
+
+pub subtracted : (w d : ℕ) (count : ℤ) → pos w ≡ pos bias +ℤ count → w < 2 ^ 63 → d ≤ w → pos ((w + (2 ^ 64 - d)) % 2 ^ 64) ≡ pos bias +ℤ (count -ℤ pos d)
+subtracted w d count is small enough =
+    let sum : w + (2 ^ 64 - d) ≡ 2 ^ 64 + (w - d) = omega (arith, small, enough) in
+    let less : w - d < 2 ^ 64 = omega (arith, small) in
+    let plain : (w + (2 ^ 64 - d)) % 2 ^ 64 ≡ w - d = ap (λ x. x % 2 ^ 64) sum ∙ (add-mod_left (2 ^ 64) (w - d) ∙ mod-eq_of_lt less) in
+    omega (arith, ints, is, plain, enough)

@@ -1,0 +1,4 @@
+pub mod Opening
+pub mod Words
+pub mod CreditShown
+pub mod Credits

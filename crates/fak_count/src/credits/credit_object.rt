@@ -1,0 +1,147 @@
+//! A credit that threads share.
+
+ghost use Rattle.std.specs.Prelude.{◌≡◌, MatchResult};
+ghost use Rattle.fak_model.specs.declared.credit.CreditKind.TheVariants.{Debit, Credit as Credited};
+ghost use Rattle.fak_model.specs.Credit.{credit_rules};
+ghost use Rattle.fak_model.specs.Calls.{fresh_seats, IsJoined};
+ghost use Rattle.fak_count.specs.Opening.{IsInRange, IsOpenFault};
+ghost use Rattle.fak_count.specs.Credits.{MakesCall, IsWorn, Observes};
+
+use crate::credits::key::{CreditKey, CreditView};
+use crate::credits::law::CreditLaw;
+use crate::credits::seat::CreditSeat;
+use crate::credits::steps::{credit_step, debit_step, hear_step, observe_step};
+use crate::credits::tally::CreditTally;
+use crate::fault::{OpenFault, Worn};
+use crate::limits::tested_limits;
+use crate::word::{BIAS, COUNT, WORDS, count_of};
+use atomic_table::Table;
+use fak_model::{Both, Deal};
+use std::alloc::Global;
+use std::marker::{Brand, Model};
+
+/// A count that debits lower and credits raise, each by 1 in one atomic step, with no test.
+#[derive(Drop)]
+pub struct Credit {
+    pub(crate) table: Table<(), CreditView, CreditKey, CreditLaw, Global>,
+}
+
+impl Model for Credit {
+    ghost use Rattle.std.specs.Prelude.{◌≡◌};
+    ghost use Rattle.fak_model.specs.Calls.{object_id};
+    ghost use Rattle.fak_count.specs.Credits.{CreditInfo, credit_info};
+
+    ghost Value = { CreditInfo };
+
+    ghost view = { λ c. credit_info (object_id c.table.shared.table_id c.table.shared.key.seats) c.table.shared.key.start };
+
+    ghost invariant = { λ c. c.table.shared.table_id.words ≡ 31 };
+}
+
+impl Credit {
+    /// A credit that begins at `start`, with its seats, each of which may make `stint` debits and credits together.
+    ///
+    /// `start` is 0 to 4,294,967,296, `seats` 1 to 64, `stint` 1 to 2^40.
+    pub fn open(
+        alloc: Global,
+        start: u64,
+        seats: u64,
+        stint: u64,
+    ) -> Result<(Credit, Vec<CreditSeat>), OpenFault>
+        ensures { MatchResult result (λ r. IsInRange start seats stint × (r.0.start ≡ start) × (r.0.object.seats ≡ seats) × (r.1.items ≡ fresh_seats r.0.object stint 0 seats)) (IsOpenFault start seats stint) }
+    {
+        if let Err(fault) = tested_limits(start, seats, stint) {
+            return Err(fault);
+        }
+        let mut words = [0; WORDS];
+        words[COUNT] = BIAS + start;
+        let key = CreditKey {
+            start,
+            seats,
+            stint,
+        };
+        let Ok((table, mut rest)) = Table::of_words(alloc, &words, &key) else {
+            return Err(OpenFault::Memory);
+        };
+        let Ok(mut dealt) = Vec::with_capacity(alloc, seats as usize) else {
+            return Err(OpenFault::Memory);
+        };
+        for name in 0..seats {
+            let seat = CreditSeat {
+                token: table.shared.split_seat::<Deal>(&mut rest),
+                name,
+                seats,
+                left: stint,
+            };
+            if dealt.push(seat).is_err() {
+                return Err(OpenFault::Memory);
+            }
+        }
+        Ok((Credit { table }, dealt))
+    }
+
+    /// Subtracts 1, and answers the value before.
+    pub fn debit(&self, seat: &mut CreditSeat) -> Result<i64, Worn>
+        requires { seat.old.object ≡ self.now.object }
+        ensures object { seat.new.object ≡ seat.old.object }
+        ensures call { MatchResult result (MakesCall Debit self.now seat.old seat.new) (λ _. IsWorn seat.old seat.new) }
+    {
+        if seat.left == 0 {
+            return Err(Worn);
+        }
+        let found = debit_step::<Brand>(&self.table.shared, &mut seat.token);
+        seat.left -= 1;
+        Ok(count_of(found))
+    }
+
+    /// Adds 1, and answers the value before.
+    pub fn credit(&self, seat: &mut CreditSeat) -> Result<i64, Worn>
+        requires { seat.old.object ≡ self.now.object }
+        ensures object { seat.new.object ≡ seat.old.object }
+        ensures call { MatchResult result (MakesCall Credited self.now seat.old seat.new) (λ _. IsWorn seat.old seat.new) }
+    {
+        if seat.left == 0 {
+            return Err(Worn);
+        }
+        let found = credit_step::<Brand>(&self.table.shared, &mut seat.token);
+        seat.left -= 1;
+        Ok(count_of(found))
+    }
+
+    /// Loads the value.
+    pub fn value(&self, seat: &mut CreditSeat) -> i64
+        requires { seat.old.object ≡ self.now.object }
+        ensures object { seat.new.object ≡ seat.old.object }
+        ensures call { Observes self.now seat.old seat.new result }
+    {
+        let found = observe_step::<Brand>(&self.table.shared, &mut seat.token);
+        count_of(found)
+    }
+
+    /// The tally with one more seat.
+    pub fn join(&self, tally: CreditTally, seat: CreditSeat) -> CreditTally
+        requires fits { (tally.object ≡ self.now.object) × (seat.object ≡ self.now.object) }
+        ensures joined { IsJoined credit_rules tally seat result }
+        ensures object { result.object ≡ self.now.object }
+    {
+        let CreditTally {
+            mut token,
+            mut names,
+            seats,
+        } = tally;
+        let CreditSeat {
+            token: other,
+            name,
+            seats: _,
+            left: _,
+        } = seat;
+        self.table.shared.join_seat::<Both>(&mut token, other);
+        hear_step::<Brand>(&self.table.shared, &mut token);
+        names.insert(name);
+        CreditTally {
+            token,
+            names,
+            seats,
+        }
+    }
+}

@@ -1,0 +1,40 @@
+//! A seat of a credit.
+
+ghost use Rattle.std.specs.Prelude.{◌≡◌, ◌+◌};
+ghost use Rattle.fak_count.specs.Credits.{calls_made};
+
+use crate::credits::key::CreditView;
+use atomic_table::Seat;
+use std::marker::Model;
+
+/// The right to debit and credit a `Credit`, as often as its stint says. Contracts see its object, its name, its
+/// stint and the history that it has seen.
+#[derive(Drop)]
+pub struct CreditSeat {
+    pub(crate) token: Seat<(), CreditView>,
+    pub(crate) name: u64,
+    pub(crate) seats: u64,
+    pub(crate) left: u64,
+}
+
+impl Model for CreditSeat {
+    ghost use Rattle.fak_model.specs.declared.credit.CreditMark.{CreditMark};
+    ghost use Rattle.fak_model.specs.Calls.{SeatInfo, object_id};
+    ghost use Rattle.fak_model.specs.Tokens.{IsSeatToken};
+    ghost use Rattle.fak_count.specs.Credits.{seat_of, credit_seat};
+
+    ghost Value = { SeatInfo CreditMark };
+
+    ghost view = { λ s. credit_seat (object_id s.token.table_id s.seats) s.name s.left s.token.me };
+
+    ghost invariant = { λ s. IsSeatToken seat_of s.seats s.name tt s.left s.token.me };
+}
+
+impl CreditSeat {
+    /// How many debits and credits together are left of the stint.
+    pub fn left(&self) -> u64
+        ensures { result + calls_made self.now ≡ self.now.stint }
+    {
+        self.left
+    }
+}

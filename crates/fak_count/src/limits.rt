@@ -1,0 +1,22 @@
+//! The ranges of what an object is opened with.
+
+ghost use Rattle.std.specs.Prelude.{MatchResult};
+ghost use Rattle.fak_count.specs.Opening.{IsInRange, IsRangeFault};
+
+use crate::fault::OpenFault;
+
+/// Tests the bound or start, the number of seats and the stint of an object, in this order.
+pub(crate) fn tested_limits(count: u64, seats: u64, stint: u64) -> Result<(), OpenFault>
+    ensures { MatchResult result (λ _. IsInRange count seats stint) (IsRangeFault count seats stint) }
+{
+    if count > 1 << 32 {
+        return Err(OpenFault::BadSize);
+    }
+    if seats == 0 || seats > 64 {
+        return Err(OpenFault::BadSeats);
+    }
+    if stint == 0 || stint > 1 << 40 {
+        return Err(OpenFault::BadStint);
+    }
+    Ok(())
+}

@@ -1,0 +1,81 @@
+-- Several queues, seen as the lists of their items, where one of them changes.
+use Rattle.std.proofs.Common.{◌≡◌, ℕ, zero, suc, ◌+◌, ◌<◌, List, [], ◌∷◌, ◌++◌, All, length, map, slice_set, slice_index_or, take, get_or, ap, sym, ◌∙◌, subst, arith, refl, inl, inr, drop, Option, Some, None, IfSome}
+use Rattle.std.specs.Option.{option_to_list, MatchOption}
+use Rattle.std.proofs.lemmas.List.{map-set, get_or-map, length-map, get_or-set_same, get_or-set_other, take_more, map-append}
+use Rattle.std.proofs.lemmas.List.Elements.{All-nil, All-push, All-drop, All-pop}
+use Rattle.std.proofs.Math.Seq.{map-set_same}
+use Rattle.fak_model.proofs.Deciding.{same_or_not}
+
+-- P n holds of each item of the list at place n
+abbrev pub AllAtTheirs : {X : Type 0} → (ℕ → X → Type 0) → List (List X) → Type 0
+AllAtTheirs P xss = (n : ℕ) → All (P n) (slice_index_or xss n [])
+
+AllAtTheirs-set : {X : Type 0} (P : ℕ → X → Type 0) (xss : List (List X)) (i : ℕ) (ys : List X) → i < length xss → AllAtTheirs P xss → All (P i) ys → AllAtTheirs P (slice_set xss i ys)
+AllAtTheirs-set P xss i ys lt each here n = elim (same_or_not n i) [
+  | inl same ↦ subst (λ (k : ℕ). All (P k) (slice_index_or (slice_set xss i ys) k [])) (sym same) (subst (All (P i)) (sym (get_or-set_same xss i ys [] lt)) here)
+  | inr other ↦ subst (All (P n)) (sym (get_or-set_other xss i n ys [] other)) (each n)
+]
+
+-- the list at place i, where queue q stands there
+at_place : {Q X : Type 0} (f : Q → List X) (qs : List Q) (i : ℕ) (q : Q) → i < length (map f qs) → q ≡ slice_index_or qs i q → f q ≡ slice_index_or (map f qs) i []
+at_place f qs i q lt is =
+    let below : i < length qs = subst (λ (n : ℕ). i < n) (length-map qs f) lt in
+    ap f is ∙ sym (get_or-map f qs i q [] below)
+
+module _ {Q X : Type 0} (P : ℕ → X → Type 0) (f : Q → List X) (qs : List Q) (i : ℕ) (q r : Q) (lt : i < length (map f qs)) (is : q ≡ slice_index_or qs i q) (each : AllAtTheirs P (map f qs)) where
+  here : All (P i) (f q)
+  here = subst (All (P i)) (sym (at_place f qs i q lt is)) (each i)
+
+  changed : All (P i) (f r) → AllAtTheirs P (map f (slice_set qs i r))
+  changed all = subst (AllAtTheirs P) (sym (map-set f qs i r)) (AllAtTheirs-set P (map f qs) i (f r) lt each all)
+
+  -- nothing was pushed
+  pub AllAtTheirs-same : f r ≡ f q → AllAtTheirs P (map f (slice_set qs i r))
+  AllAtTheirs-same same = changed (subst (All (P i)) (sym same) here)
+
+  -- an item is pushed
+  pub AllAtTheirs-push : (x : X) → f r ≡ f q ++ x ∷ [] → P i x → AllAtTheirs P (map f (slice_set qs i r))
+  AllAtTheirs-push x pushed p = changed (subst (All (P i)) (sym pushed) (All-push (P i) (f q) x here p))
+
+  -- the first item is popped
+  pub AllAtTheirs-pop : f r ≡ drop 1 (f q) → AllAtTheirs P (map f (slice_set qs i r))
+  AllAtTheirs-pop rest = changed (subst (All (P i)) (sym rest) (All-drop (P i) 1 (f q) here))
+
+  pub first_of : (o : Option X) → f q ≡ option_to_list o ++ f r → IfSome o (λ x. P i x)
+  first_of None items = tt
+  first_of (Some x) items = subst (All (P i)) items here 0 x (omega (arith, ap length items))
+
+none_at : {X : Type 0} (xs : List ℕ) (n : ℕ) → slice_index_or (map {B = List X} (λ _. []) xs) n [] ≡ []
+none_at [] n = refl
+none_at (x ∷ xs) zero = refl
+none_at (x ∷ xs) (suc n) = none_at xs n
+
+-- nobody waits
+pub AllAtTheirs-none : {X : Type 0} (P : ℕ → X → Type 0) (xs : List ℕ) → AllAtTheirs P (map (λ _. []) xs)
+AllAtTheirs-none P xs n = subst (All (P n)) (sym (none_at xs n)) (All-nil (P n))
+
+pub push_at : {Q X : Type 0} (f : Q → List X) (qs : List Q) (i : ℕ) (q r : Q) (x : X) → i < length (map f qs) → q ≡ slice_index_or qs i q → f r ≡ f q ++ x ∷ []
+    → map f (slice_set qs i r) ≡ slice_set (map f qs) i (slice_index_or (map f qs) i [] ++ x ∷ [])
+push_at f qs i q r x lt is pushed =
+    map-set f qs i r ∙ ap (slice_set (map f qs) i) (pushed ∙ ap (λ ys. ys ++ x ∷ []) (at_place f qs i q lt is))
+
+no_drop : {X : Type 0} (xs : List X) → xs ≡ drop 1 xs → xs ≡ []
+no_drop [] e = refl
+no_drop (x ∷ xs) e = absurd (omega (arith, ap length e))
+
+-- what a pop leaves, and what it gives
+pub pop_at : {Q X : Type 0} (f : Q → List X) (qs : List Q) (i : ℕ) (q r : Q) (o : Option X) → i < length (map f qs) → q ≡ slice_index_or qs i q → f q ≡ option_to_list o ++ f r → f r ≡ drop 1 (f q)
+    → MatchOption o ((slice_index_or (map f qs) i [] ≡ []) × (map f (slice_set qs i r) ≡ map f qs)) (λ x. (rest : List X) × (slice_index_or (map f qs) i [] ≡ x ∷ rest) × (map f (slice_set qs i r) ≡ slice_set (map f qs) i rest))
+pop_at f qs i q r None lt is items last =
+    let empty : f q ≡ [] = no_drop (f q) (items ∙ last) in
+    (sym (at_place f qs i q lt is) ∙ empty, map-set_same f qs i r q (sym items ∙ ap f is))
+pop_at f qs i q r (Some x) lt is items last =
+    (f r, sym (at_place f qs i q lt is) ∙ items, map-set f qs i r)
+
+-- one more queue, which is empty
+pub none_more : {Q X : Type 0} (f : Q → List X) (qs : List Q) (q : Q) (xs : List ℕ) (i : ℕ) → i < length xs → map f qs ≡ map (λ _. []) (take i xs) → f q ≡ []
+    → map f (qs ++ q ∷ []) ≡ map (λ _. []) (take (i + 1) xs)
+none_more {X = X} f qs q xs i lt was empty =
+    let none : ℕ → List X = λ _. [] in
+    let more = ap (map none) (take_more xs i 0 lt) ∙ map-append none (take i xs) (get_or xs i 0 ∷ []) in
+    map-append f qs (q ∷ []) ∙ ap (λ ys. ys ++ f q ∷ []) was ∙ ap (λ y. map none (take i xs) ++ y ∷ []) empty ∙ sym more

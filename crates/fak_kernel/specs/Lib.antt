@@ -1,0 +1,5 @@
+pub mod Files
+pub mod ListScheduler
+pub mod Contexts
+pub mod Report
+pub mod Examples

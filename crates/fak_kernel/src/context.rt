@@ -1,0 +1,153 @@
+//! A process of a run, with its journal.
+
+ghost use Rattle.std.specs.Prelude.{◌≡◌, ℕ, ◌+◌, ◌<◌, ◌≤◌, List, [], ◌∷◌, ◌++◌, length, map, slice_get, Option, Some, None, IfOk, IfErr, IfSome, IfNone};
+ghost use Rattle.fak_text.specs.Script.{ScriptOf, StepOf, IsInRange, IsStepInRange, limits_of, steps_of};
+ghost use Rattle.fak_text.specs.Journal.{NoteOf, Process, FitsScript, Allows, births_of, child_count, downed};
+ghost use Rattle.fak_text.specs.Views.{step_of, note_of};
+ghost use Rattle.fak_kernel.specs.ListScheduler.{noted, next_step};
+
+use crate::fault::Fault;
+use fak_text::{Note, Script, Step};
+use std::alloc::Global;
+use std::marker::{Brand, Model, PhantomData};
+
+/// Which script a run is of. The call that begins the run picks it.
+pub trait Run {
+    ghost script: { ScriptOf };
+}
+
+impl Run for Brand {
+    ghost script = { record { version = 1; slots = 0; births = 0; quantum = 0; stint = 0; semaphores = []; files = 0; programs = []; start = [] } };
+}
+
+/// A process of the run. Its journal fits the script of the run.
+#[derive(Drop)]
+pub struct Context<K: Run> {
+    name: Vec<u64>,
+    program: u64,
+    slot: u64,
+    position: u64,
+    children: u64,
+    journal: Vec<Note>,
+    of: PhantomData<K>,
+}
+
+impl<K: Run> Model for Context<K> {
+    ghost use Rattle.std.specs.Prelude.{map};
+    ghost use Rattle.fak_text.specs.Journal.{Process};
+    ghost use Rattle.fak_text.specs.Views.{note_of};
+    ghost use Rattle.fak_kernel.specs.Contexts.{IsContext};
+
+    ghost Value = { Process };
+
+    ghost view = { λ c. record { name = c.name.items; program = c.program; slot = c.slot; position = c.position; journal = map note_of c.journal.items } };
+
+    ghost invariant = { λ c. IsContext K.script c.children (record { name = c.name.items; program = c.program; slot = c.slot; position = c.position; journal = map note_of c.journal.items }) };
+}
+
+impl<K: Run> Context<K> {
+    /// A process that has made no step.
+    pub fn new(alloc: Global, name: Vec<u64>, program: u64, slot: u64) -> Context<K>
+        requires slot { slot < K.script.slots }
+        requires program { program < length K.script.programs }
+        ensures { result ≡ record { name = name.items; program = program; slot = slot; position = 0; journal = [] } }
+    {
+        Context {
+            name,
+            program,
+            slot,
+            position: 0,
+            children: 0,
+            journal: Vec::new(alloc),
+            of: PhantomData,
+        }
+    }
+
+    /// The slot of the process.
+    pub fn slot(&self) -> u64
+        ensures slot { result ≡ self.now.slot }
+        ensures fits { FitsScript K.script self.now }
+    {
+        self.slot
+    }
+
+    /// The step at the position, if the program goes on.
+    pub fn next<'s>(&self, script: &'s Script) -> Option<&'s Step>
+        requires { script.now ≡ K.script }
+        ensures end { IfNone result (next_step K.script self.now ≡ None) }
+        ensures next { IfSome result (λ step. next_step K.script self.now ≡ Some (step_of step.now)) }
+        ensures range { IfSome result (λ step. IsStepInRange (limits_of K.script) (step_of step.now)) }
+    {
+        let _slots = script.slots();
+        self.step_at_position(script)
+    }
+
+    fn step_at_position<'s>(&self, script: &'s Script) -> Option<&'s Step>
+        requires { script.now ≡ K.script }
+        ensures end { IfNone result (next_step K.script self.now ≡ None) }
+        ensures next { IfSome result (λ step. next_step K.script self.now ≡ Some (step_of step.now)) }
+    {
+        let programs = script.programs();
+        let steps = programs[self.program as usize].as_slice();
+        steps.get(self.position as usize)
+    }
+
+    /// The number of the next child.
+    pub fn children(&self) -> u64
+        ensures { result ≡ child_count self.now.journal }
+    {
+        self.children
+    }
+
+    /// The name of the next child.
+    pub fn child_name(&self, alloc: Global) -> Result<Vec<u64>, Fault>
+        ensures name { IfOk result (λ name. name.items ≡ self.now.name ++ child_count self.now.journal ∷ []) }
+        ensures memory { IfErr result (λ fault. fault ≡ Fault.Memory) }
+    {
+        let mut name = Vec::new(alloc);
+        name.extend_from_slice(self.name.as_slice())?;
+        name.push(self.children)?;
+        Ok(name)
+    }
+
+    /// Goes on behind the step at the position, which was made with this note.
+    pub fn note(&mut self, note: Note) -> Result<(), Fault>
+        requires { (step : StepOf) × (next_step K.script self.old ≡ Some step) × Allows K.script.files (child_count self.old.journal) step (note_of note) }
+        ensures noted { IfOk result (λ _. self.new ≡ noted self.old (note_of note)) }
+        ensures memory { IfErr result (λ fault. fault ≡ Fault.Memory) }
+    {
+        let births = birth_count(&note);
+        let _made = self.journal.as_slice();
+        self.journal.push(note)?;
+        self.children += births;
+        self.position += 1;
+        Ok(())
+    }
+}
+
+impl<K: Run> Context<K> {
+    ghost use Rattle.fak_kernel.specs.Contexts.{IsAsleep, unnoted};
+
+    /// The process before its last step, a down that is not done yet.
+    pub(crate) fn without_down(mut self) -> Context<K>
+        requires { (semaphore : ℕ) × IsAsleep K.script semaphore self }
+        ensures { result ≡ unnoted self }
+    {
+        let journal = self.journal.as_slice();
+        let before = journal.len() - 1;
+        self.journal.truncate(before);
+        self.position -= 1;
+        self
+    }
+}
+
+/// How many children a step began.
+fn birth_count(note: &Note) -> u64
+    ensures value { result ≡ births_of (note_of note.now) }
+    ensures most { result ≤ 1 }
+{
+    match note {
+        Note::Spawned(_) => 1,
+        _ => 0,
+    }
+}

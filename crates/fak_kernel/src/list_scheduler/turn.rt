@@ -1,0 +1,64 @@
+//! The turn of the process that has the processor.
+
+ghost use Rattle.std.specs.Prelude.{◌≡◌, ◌+◌, Some, false, IfOk, IfErr};
+ghost use Rattle.fak_text.specs.Script.{StepOf};
+ghost use Rattle.fak_text.specs.Journal.{Allows, child_count};
+ghost use Rattle.fak_text.specs.Views.{note_of};
+ghost use Rattle.fak_kernel.specs.ListScheduler as lists;
+ghost use Rattle.fak_kernel.specs.Contexts.{HasStepsLeft};
+
+use crate::context::{Context, Run};
+use crate::fault::Fault;
+use fak_text::Note;
+use std::marker::Model;
+
+#[derive(Drop)]
+pub(crate) struct Turn<K: Run> {
+    pub(crate) context: Context<K>,
+    pub(crate) made: u64,
+    pub(crate) has_yielded: bool,
+}
+
+impl<K: Run> Model for Turn<K> {
+    ghost use Rattle.std.specs.Prelude.{◌≤◌};
+    ghost use Rattle.fak_kernel.specs.ListScheduler as lists;
+
+    ghost Value = { lists.Turn };
+
+    ghost view = { λ t. record { process = t.context; made = t.made; has_yielded = t.has_yielded } };
+
+    ghost invariant = { λ t. t.made ≤ K.script.quantum };
+}
+
+impl<K: Run> Turn<K> {
+    /// The turn of a process that made no step in it.
+    pub fn new(context: Context<K>) -> Turn<K>
+        ensures { result ≡ record { process = context; made = 0; has_yielded = false } }
+    {
+        Turn {
+            context,
+            made: 0,
+            has_yielded: false,
+        }
+    }
+
+    /// Goes on after a step that was made with this note.
+    pub fn noted(self, note: Note, yields: bool) -> Result<Turn<K>, Fault>
+        requires allowed { (step : StepOf) × (lists.next_step K.script self.process ≡ Some step) × Allows K.script.files (child_count self.process.journal) step (note_of note) }
+        requires left { HasStepsLeft K.script self }
+        ensures noted { IfOk result (λ t. t ≡ record { process = lists.noted self.process (note_of note); made = self.made + 1; has_yielded = yields }) }
+        ensures memory { IfErr result (λ fault. fault ≡ Fault.Memory) }
+    {
+        let Turn {
+            mut context,
+            made,
+            has_yielded: _,
+        } = self;
+        context.note(note)?;
+        Ok(Turn {
+            context,
+            made: made + 1,
+            has_yielded: yields,
+        })
+    }
+}

@@ -1,0 +1,66 @@
+//! A process that sleeps at a semaphore.
+
+ghost use Rattle.std.specs.Prelude.{◌≡◌, Some, IfOk, IfErr};
+ghost use Rattle.fak_text.specs.Script.{down};
+ghost use Rattle.fak_text.specs.Journal.{FitsScript, downed};
+ghost use Rattle.fak_kernel.specs.ListScheduler.{noted, next_step};
+
+use crate::context::{Context, Run};
+use crate::fault::Fault;
+use fak_text::Note;
+use std::marker::Model;
+
+/// A process that stands before a down. The note of the down is written when the process falls asleep, so waking
+/// it takes no memory; the process is seen without it.
+#[derive(Drop)]
+pub struct Sleeper<K: Run> {
+    context: Context<K>,
+    semaphore: u64,
+}
+
+impl<K: Run> Model for Sleeper<K> {
+    ghost use Rattle.fak_text.specs.Journal.{Process};
+    ghost use Rattle.fak_kernel.specs.Contexts.{IsAsleep, unnoted};
+
+    ghost Value = { Process };
+
+    ghost view = { λ s. unnoted s.context };
+
+    ghost invariant = { λ s. IsAsleep K.script s.semaphore s.context };
+}
+
+impl<K: Run> Sleeper<K> {
+    /// A process falls asleep before a down of this semaphore.
+    pub fn new(context: Context<K>, semaphore: u64) -> Result<Sleeper<K>, Fault>
+        requires { next_step K.script context ≡ Some (down semaphore) }
+        ensures same { IfOk result (λ sleeper. sleeper ≡ context) }
+        ensures memory { IfErr result (λ fault. fault ≡ Fault.Memory) }
+    {
+        let mut context = context;
+        context.note(Note::Down(semaphore))?;
+        Ok(Sleeper { context, semaphore })
+    }
+
+    /// The process wakes, and its down of this semaphore is done.
+    pub fn wake(self, semaphore: u64) -> Context<K>
+        requires { next_step K.script self ≡ Some (down semaphore) }
+        ensures { result ≡ noted self (downed semaphore) }
+    {
+        let Sleeper {
+            context,
+            semaphore: _,
+        } = self;
+        context
+    }
+
+    /// The process as it stands before its down.
+    pub fn rest(self) -> Context<K>
+        ensures { result ≡ self }
+    {
+        let Sleeper {
+            context,
+            semaphore: _,
+        } = self;
+        context.without_down()
+    }
+}

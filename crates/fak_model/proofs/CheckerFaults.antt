@@ -1,0 +1,22 @@
+-- The checker's answers, in the words of the definition.
+use Rattle.std.proofs.Common.{ℕ, ◌+◌, ◌<◌, ◌≤◌, List, length, take, get_or, reverse, subst}
+use Rattle.std.proofs.lemmas.List.{take_all}
+use Rattle.fak_model.specs.Checker.{FirstFault}
+use Rattle.fak_model.specs.Queue.{IsQueueHistory}
+use Rattle.fak_model.specs.QueuePast.{IsLegalByStage, IsLegalPast, MayFollow}
+use Rattle.fak_model.specs.declared.queue.Mark.{Mark}
+use Rattle.fak_model.proofs.CheckerPast.{past_more}
+use Rattle.fak_model.proofs.QueueLiteral.{to_past, to_literal}
+
+-- the first marks are legal, and the next one may not follow them
+pub fault_at : (size : ℕ) (h : List (Mark ℕ)) (i : ℕ) (d : Mark ℕ) → i < length h → IsLegalByStage size (take i h)
+    → (MayFollow size (reverse (take i h)) (get_or h i d).seat (get_or h i d).kind → ⊥) → FirstFault size h i
+fault_at size h i d l legal not = record {
+  inside = l;
+  before = to_literal size (take i h) legal;
+  fault = λ law. not (subst (IsLegalPast size) (past_more h i d l) (to_past size (take (i + 1) h) law)).0;
+}
+
+-- all marks are legal
+pub all_legal : (size : ℕ) (h : List (Mark ℕ)) (i : ℕ) → length h ≤ i → IsLegalByStage size (take i h) → IsQueueHistory size h
+all_legal size h i le legal = to_literal size h (subst (IsLegalByStage size) (take_all i h le) legal)

@@ -1,0 +1,9 @@
+use Rattle.std.proofs.Common.{◌<◌, ◌-◌, ◌∙◌, ap, length, arith, refl}
+use Rattle.fak_model.specs.declared.queue.Kind.TheVariants.{Fill}
+use Rattle.fak_model.proofs.CheckerPast.{has_at}
+use Rattle.fak_model.proofs.checker.look_back.was_filled.Goals as goal
+
+pub returns-then-k-ticket : goal.returns-then-k-ticket
+returns-then-k-ticket c =
+    let within : c.loop-i.i - 1 < length c.args.past.now = omega arith in
+    (λ t. has_at (Fill c.args.ticket) c.args.past.now (c.loop-i.i - 1) _ within (c.in-Fill.is ∙ ap Fill c.if-k-ticket.true), λ h. refl)

@@ -1,0 +1,93 @@
+-- What a reading gives is in range: numbers, and the elements of arrays.
+use Rattle.std.proofs.Common.{◌≡◌, ℕ, ◌<◌, ◌≤◌, suc, Bool, true, false, List, [], ◌∷◌, length, Option, Some, None, Result, Ok, Err, refl, sym, ap, subst, ◌∙◌, nat_lt, nat_le, ◌&&◌, if◌then◌else◌, arith}
+use Rattle.std.specs.List.{All}
+use Rattle.std.proofs.lemmas.Bool.{ltb-true, leb-true}
+use Rattle.std.proofs.lemmas.List.Elements.{All-nil, All-cons}
+use Rattle.serde_json.specs.Data.{Data, Items, no_items, item}
+use Rattle.serde_json.specs.Events.{items_len}
+use Rattle.serde_json.specs.Find.{as_array}
+use Rattle.fak_text.specs.Gives.{◌>>=◌}
+use Rattle.fak_text.specs.ScriptText.{number_from, numbers_of_key}
+use Rattle.fak_text.specs.Values.{value_or, value_of_key, whole_number, number_below, number_within, elements_within, elements_of_key, running_from, next_index}
+use Rattle.fak_text.specs.declared.fault.Field.{Field}
+use Rattle.fak_text.specs.declared.fault.TextFault.{TextFault}
+
+-- a reading that goes on with a value has one
+pub parts_of : {A B : Type 0} (r : Result A TextFault) (f : A → Result B TextFault) (y : B) → (r >>= f) ≡ Ok y → (x : A) × (r ≡ Ok x) × (f x ≡ Ok y)
+parts_of (Ok x) f y e = (x, refl, e)
+parts_of (Err fault) f y e = absurd (cc)
+
+-- a value that stands under a test has passed it
+pub passed : {A : Type 0} (b : Bool) (x y : A) (fault : TextFault) → (if b then Ok x else Err fault) ≡ Ok y → (b ≡ true) × (x ≡ y)
+passed true x y fault e = (refl, cc)
+passed false x y fault e = absurd (cc)
+
+pub and-true : (a b : Bool) → (a && b) ≡ true → (a ≡ true) × (b ≡ true)
+and-true true true e = (refl, refl)
+and-true true false e = absurd (cc)
+and-true false b e = absurd (cc)
+
+pub below_is_below : (f : Field) (bound : ℕ) (number : Option ℕ) (n : ℕ) → number_below f bound number ≡ Ok n → n < bound
+below_is_below f bound None n e = absurd (cc)
+below_is_below f bound (Some m) n e =
+    let p = passed (nat_lt m bound) m n _ e in
+    subst (λ (k : ℕ). k < bound) p.1 (ltb-true m bound p.0)
+
+pub within_is_within : (f : Field) (low high : ℕ) (number : Option ℕ) (n : ℕ) → number_within f low high number ≡ Ok n → (low ≤ n) × (n ≤ high)
+within_is_within f low high None n e = absurd (cc)
+within_is_within f low high (Some m) n e =
+    let p = passed (nat_le low m && nat_le m high) m n _ e in
+    let q = and-true (nat_le low m) (nat_le m high) p.0 in
+    subst (λ (k : ℕ). (low ≤ k) × (k ≤ high)) p.1 (leb-true low m q.0, leb-true m high q.1)
+
+-- what holds of each element that is read holds of all
+pub All-running_from : {A : Type 0} (P : A → Type 0) (f : ℕ → Data → Result A TextFault) (next : ℕ → A → ℕ) → ((i : ℕ) (d : Data) (x : A) → f i d ≡ Ok x → P x)
+    → (i : ℕ) (ds : Items) (xs : List A) → running_from f next i ds ≡ Ok xs → All P xs
+unfolding running_from
+All-running_from P f next each i no_items xs e =
+    let nothing : [] ≡ xs = cc in
+    subst (λ ys. All P ys) nothing (All-nil P)
+All-running_from P f next each i (item d ds) xs e =
+    let first = parts_of (f i d) (λ x. running_from f next (next i x) ds >>= λ ys. Ok (x ∷ ys)) xs e in
+    let rest = parts_of (running_from f next (next i first.0) ds) (λ ys. Ok (first.0 ∷ ys)) xs first.2 in
+    let whole : first.0 ∷ rest.0 ≡ xs = cc rest.2 in
+    subst (λ ys. All P ys) whole (All-cons P first.0 rest.0 (each i d first.0 first.1) (All-running_from P f next each (next i first.0) ds rest.0 rest.1))
+
+-- as many are read as there are elements
+pub length-running_from : {A : Type 0} (f : ℕ → Data → Result A TextFault) (next : ℕ → A → ℕ) (i : ℕ) (ds : Items) (xs : List A) → running_from f next i ds ≡ Ok xs → length xs ≡ items_len ds
+unfolding running_from
+length-running_from f next i no_items xs e =
+    let nothing : [] ≡ xs = cc in
+    ap length (sym nothing)
+length-running_from f next i (item d ds) xs e =
+    let first = parts_of (f i d) (λ x. running_from f next (next i x) ds >>= λ ys. Ok (x ∷ ys)) xs e in
+    let rest = parts_of (running_from f next (next i first.0) ds) (λ ys. Ok (first.0 ∷ ys)) xs first.2 in
+    let whole : first.0 ∷ rest.0 ≡ xs = cc rest.2 in
+    ap length (sym whole) ∙ ap suc (length-running_from f next (next i first.0) ds rest.0 rest.1)
+
+pub elements_are_few : (f : Field) (most : ℕ) (d : Data) (ds : Items) → elements_within f most d ≡ Ok ds → items_len ds ≤ most
+unfolding elements_within
+elements_are_few f most d ds e =
+    let found = parts_of (value_or _ (as_array d)) (λ es. if nat_le (items_len es) most then Ok es else Err _) ds e in
+    let p = passed (nat_le (items_len found.0) most) found.0 ds _ found.2 in
+    subst (λ (es : Items). items_len es ≤ most) p.1 (leb-true (items_len found.0) most p.0)
+
+pub elements_of_key_are_few : (f : Field) (most : ℕ) (d : Data) (ds : Items) → elements_of_key f most d ≡ Ok ds → items_len ds ≤ most
+unfolding elements_of_key
+elements_of_key_are_few f most d ds e =
+    let found = parts_of (value_of_key f d) (λ value. elements_within f most value) ds e in
+    elements_are_few f most found.0 ds found.2
+
+pub numbers_are_few : (f : Field) (most bound : ℕ) (d : Data) (ns : List ℕ) → numbers_of_key f most bound d ≡ Ok ns → length ns ≤ most
+unfolding numbers_of_key
+numbers_are_few f most bound d ns e =
+    let found = parts_of (elements_of_key f most d) (λ ds. running_from (number_from f bound) next_index 0 ds) ns e in
+    let count = length-running_from (number_from f bound) next_index 0 found.0 ns found.2 in
+    let few = elements_of_key_are_few f most d found.0 found.1 in
+    omega (arith, count, few)
+
+pub numbers_are_below : (f : Field) (most bound : ℕ) (d : Data) (ns : List ℕ) → numbers_of_key f most bound d ≡ Ok ns → All (λ n. n < bound) ns
+unfolding numbers_of_key
+numbers_are_below f most bound d ns e =
+    let found = parts_of (elements_of_key f most d) (λ ds. running_from (number_from f bound) next_index 0 ds) ns e in
+    All-running_from (λ (n : ℕ). n < bound) (number_from f bound) next_index (λ i v n read. below_is_below f bound (whole_number v) n read) 0 found.0 ns found.2

@@ -1,0 +1,14 @@
+use Rattle.std.proofs.Common.{◌≡◌, ◌+◌, drop, vec_len}
+use Rattle.serde_json.specs.View.{items_view}
+use Rattle.fak_text.specs.StepText.{step_from}
+use Rattle.fak_text.specs.Values.{each_from}
+use Rattle.fak_text.specs.Views.{steps_view}
+use Rattle.fak_text.proofs.Elements.{with_front}
+use Rattle.fak_text.proofs.reading.step.steps.Given as goal
+
+abbrev pub invariant-loop-value : goal.invariant-loop-value
+invariant-loop-value l = record {
+  so_far : with_front (steps_view l.steps.items) (each_from (step_from l.limits) l.index (items_view (drop l.value-index l.values))) ≡ each_from (step_from l.limits) l.first (items_view l.values);
+  at : l.index ≡ l.first + l.value-index;
+  size : vec_len l.steps ≡ l.value-index;
+}

@@ -1,0 +1,108 @@
+//! The reader of scripts.
+
+ghost use Rattle.std.specs.Prelude.{◌≡◌, ◌≤◌, IfOk};
+ghost use Rattle.serde_json.specs.View.{view, items_view};
+ghost use Rattle.fak_text.specs.Gives.{Gives};
+ghost use Rattle.fak_text.specs.ScriptText.{number_from, numbers_of_key, stint_of_key, script_from, script_in};
+ghost use Rattle.fak_text.specs.Values.{each_from};
+
+use crate::fault::{Field, TextFault};
+use crate::reading::step::programs_at_key;
+use crate::reading::values::{below, elements_at_key, input_of, number_at_key, within};
+use crate::script::Script;
+use serde_json::Value;
+use std::alloc::Global;
+
+const MOST_STINT: u64 = 1_099_511_627_776;
+
+const MOST_SEMAPHORES: usize = 16;
+
+const SEMAPHORE_BOUND: u64 = 1_000_001;
+
+/// The whole numbers of an array, each below the bound.
+fn numbers(alloc: Global, values: &[Value], field: Field, bound: u64) -> Result<Vec<u64>, TextFault>
+    ensures { Gives (λ v. v.items) result (each_from (number_from field bound) 0 (items_view values.now)) }
+{
+    let mut numbers = Vec::new(alloc);
+    for (i, value) in values.iter().enumerate() {
+        numbers.push(below(field, bound, value.as_u64())?)?;
+    }
+    Ok(numbers)
+}
+
+/// The array of a key, at most so many whole numbers below the bound.
+#[tactic(auto, unfolding(crate::specs::ScriptText::numbers_of_key))]
+fn numbers_at_key(
+    alloc: Global,
+    value: &Value,
+    field: Field,
+    most: usize,
+    bound: u64,
+) -> Result<Vec<u64>, TextFault>
+    ensures { Gives (λ v. v.items) result (numbers_of_key field most bound (view value.now)) }
+{
+    let values = elements_at_key(value, field, most)?;
+    numbers(alloc, values, field, bound)
+}
+
+/// The stint, the greatest where the key is absent.
+#[tactic(auto, unfolding(crate::specs::ScriptText::stint_of_key))]
+fn stint_at_key(value: &Value) -> Result<u64, TextFault>
+    ensures read { Gives (λ n. n) result (stint_of_key (view value.now)) }
+    ensures range { IfOk result (λ n. (1 ≤ n) × (n ≤ 1099511627776)) }
+{
+    match value.get(Field::Stint.name()) {
+        None => Ok(MOST_STINT),
+        Some(found) => within(Field::Stint, 1, MOST_STINT, found.as_u64()),
+    }
+}
+
+#[tactic(auto, unfolding(crate::specs::ScriptText::script_from))]
+fn script_of_object(alloc: Global, value: &Value) -> Result<Script, TextFault>
+    ensures { Gives (λ s. s) result (script_from (view value.now)) }
+{
+    let version = number_at_key(value, Field::Version, 1, 2)?;
+    let slots = number_at_key(value, Field::Slots, 1, 64)?;
+    let births = number_at_key(value, Field::Births, 0, 1_000)?;
+    let quantum = number_at_key(value, Field::Quantum, 1, 1_000)?;
+    let stint = stint_at_key(value)?;
+    let semaphores = numbers_at_key(
+        alloc,
+        value,
+        Field::Semaphores,
+        MOST_SEMAPHORES,
+        SEMAPHORE_BOUND,
+    )?;
+    let files = number_at_key(value, Field::Files, 1, 16)?;
+    let programs = programs_at_key(alloc, value, version, semaphores.len() as u64)?;
+    let start = numbers_at_key(
+        alloc,
+        value,
+        Field::Start,
+        slots as usize,
+        programs.len() as u64,
+    )?;
+    Ok(Script {
+        version,
+        slots,
+        births,
+        quantum,
+        stint,
+        semaphores,
+        files,
+        programs,
+        start,
+    })
+}
+
+/// The script that an input is.
+///
+/// # Errors
+///
+/// The input's first fault, or `Memory`.
+pub fn read_script(alloc: Global, bytes: &[u8]) -> Result<Script, TextFault>
+    ensures { Gives (λ s. s) result (script_in bytes.now) }
+{
+    let value = input_of(alloc, bytes)?;
+    script_of_object(alloc, &value)
+}

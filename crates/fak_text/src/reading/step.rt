@@ -1,0 +1,254 @@
+//! The reader of steps and programs.
+
+ghost use Rattle.std.specs.Prelude.{◌≡◌, ◌≤◌, length, vec_len, IfOk, Option, option_map};
+ghost use Rattle.std.specs.List.{list_all};
+ghost use Rattle.serde_json.specs.View.{view, items_view};
+ghost use Rattle.fak_text.specs.Gives.{Gives};
+ghost use Rattle.fak_text.specs.StepText.{any_op_named, has_op, step_op_named, is_printable, is_sayable, said_text, lone_step, inode_argument, argument_below, step_with, step_from, program_from, programs_from, programs_of_key};
+ghost use Rattle.fak_text.specs.Values.{each_from};
+ghost use Rattle.fak_text.specs.Views.{step_of, steps_view, programs_of};
+
+use crate::fault::{Field, TextFault};
+use crate::reading::values::{
+    below, count, elements, elements_at_key, nth_number, nth_text, within,
+};
+use crate::steps::{Step, StepLimits};
+use serde_json::Value;
+use std::alloc::Global;
+
+const FAULT: TextFault = TextFault::Range(Field::Programs);
+
+const MOST_PROGRAMS: usize = 64;
+
+const MOST_STEPS: usize = 1_000;
+
+const MOST_CHARACTERS: usize = 80;
+
+const MOST_INODE: u64 = 4_294_967_296;
+
+/// The operations of steps.
+#[derive(Clone, Copy, Debug, PartialEq, Eq)]
+pub(crate) enum StepOp {
+    Say,
+    Yield,
+    Down,
+    Up,
+    OpenFile,
+    CloseFile,
+    Stat,
+    Spawn,
+    Shutdown,
+}
+
+/// The operation of this name, in any version.
+#[tactic(auto, unfolding(crate::specs::StepText::any_op_named))]
+fn any_op(name: &str) -> Option<StepOp>
+    ensures { result ≡ any_op_named name.now }
+{
+    match name {
+        "say" => Some(StepOp::Say),
+        "yield" => Some(StepOp::Yield),
+        "down" => Some(StepOp::Down),
+        "up" => Some(StepOp::Up),
+        "open" => Some(StepOp::OpenFile),
+        "close" => Some(StepOp::CloseFile),
+        "stat" => Some(StepOp::Stat),
+        "spawn" => Some(StepOp::Spawn),
+        "shutdown" => Some(StepOp::Shutdown),
+        _ => None,
+    }
+}
+
+/// Whether scripts of this version have the operation.
+fn is_in_version(version: u64, op: StepOp) -> bool
+    ensures { result ≡ has_op version op }
+{
+    match op {
+        StepOp::Shutdown => version == 2,
+        _ => true,
+    }
+}
+
+/// The operation of this name, in scripts of this version.
+fn op_of(version: u64, name: &str) -> Option<StepOp>
+    ensures { result ≡ step_op_named version name.now }
+{
+    match any_op(name) {
+        Some(op) if is_in_version(version, op) => Some(op),
+        _ => None,
+    }
+}
+
+/// Whether each byte is from space to tilde.
+fn are_printable(bytes: &[u8]) -> bool
+    ensures { result ≡ list_all is_printable bytes.now }
+{
+    bytes.iter().all(|b| 32 <= *b && *b <= 126)
+}
+
+/// Whether a text may be said.
+fn may_be_said(text: &str) -> bool
+    ensures { result ≡ is_sayable text.now }
+{
+    text.len() <= MOST_CHARACTERS && are_printable(text.as_bytes())
+}
+
+/// The text that is said, the second of two elements.
+fn say_argument(size: usize, text: Option<&str>) -> Result<&str, TextFault>
+    ensures { Gives (λ t. t.now) result (said_text size (option_map (λ t. t.now) text.entry)) }
+{
+    match text {
+        Some(text) if size == 2 && may_be_said(text) => Ok(text),
+        _ => Err(FAULT),
+    }
+}
+
+/// A step of one element.
+fn lone(step: Step, size: usize) -> Result<Step, TextFault>
+    ensures { Gives step_of result (lone_step (step_of step) size) }
+{
+    if size == 1 { Ok(step) } else { Err(FAULT) }
+}
+
+/// The second of two elements, an inode.
+fn inode(size: usize, number: Option<u64>) -> Result<u64, TextFault>
+    ensures { Gives (λ n. n) result (inode_argument size number) }
+{
+    if size == 2 {
+        within(Field::Programs, 1, MOST_INODE, number)
+    } else {
+        Err(FAULT)
+    }
+}
+
+/// The second of two elements, a number below the bound.
+fn number_below(size: usize, bound: u64, number: Option<u64>) -> Result<u64, TextFault>
+    ensures { Gives (λ n. n) result (argument_below size bound number) }
+{
+    if size == 2 {
+        below(Field::Programs, bound, number)
+    } else {
+        Err(FAULT)
+    }
+}
+
+/// A step that says a text.
+fn say(alloc: Global, size: usize, text: Option<&str>) -> Result<Step, TextFault>
+    ensures { Gives step_of result (step_with (record { version = 0; semaphores = 0; programs = 0 }) StepOp.Say size (option_map (λ t. t.now) text.entry) Option.None) }
+{
+    let text = say_argument(size, text)?;
+    Ok(Step::Say(String::from_str(alloc, text)?))
+}
+
+/// The step of an operation, where it has so many elements, and this text or this number for its second.
+fn step_of_op(
+    alloc: Global,
+    limits: StepLimits,
+    op: StepOp,
+    size: usize,
+    text: Option<&str>,
+    number: Option<u64>,
+) -> Result<Step, TextFault>
+    ensures { Gives step_of result (step_with limits op size (option_map (λ t. t.now) text.entry) number) }
+{
+    match op {
+        StepOp::Say => say(alloc, size, text),
+        StepOp::Yield => lone(Step::Yield, size),
+        StepOp::Down => Ok(Step::Down(number_below(size, limits.semaphores, number)?)),
+        StepOp::Up => Ok(Step::Up(number_below(size, limits.semaphores, number)?)),
+        StepOp::OpenFile => Ok(Step::OpenFile(inode(size, number)?)),
+        StepOp::CloseFile => Ok(Step::CloseFile(inode(size, number)?)),
+        StepOp::Stat => Ok(Step::Stat(inode(size, number)?)),
+        StepOp::Spawn => Ok(Step::Spawn(number_below(size, limits.programs, number)?)),
+        StepOp::Shutdown => lone(Step::Shutdown, size),
+    }
+}
+
+/// The step of this index among the steps of all programs.
+#[tactic(auto, unfolding(crate::specs::StepText::step_from))]
+fn step(alloc: Global, limits: StepLimits, index: u64, value: &Value) -> Result<Step, TextFault>
+    ensures { Gives step_of result (step_from limits index (view value.now)) }
+{
+    let items = value.as_array().ok_or(FAULT)?;
+    let name = nth_text(value, 0).ok_or(FAULT)?;
+    let op = op_of(limits.version, name).ok_or(TextFault::UnknownOp(index))?;
+    let text = nth_text(value, 1);
+    let number = nth_number(value, 1);
+    step_of_op(alloc, limits, op, count(items), text, number)
+}
+
+/// The steps of one program, whose first has this index.
+fn steps(
+    alloc: Global,
+    limits: StepLimits,
+    first: u64,
+    values: &[Value],
+) -> Result<Vec<Step>, TextFault>
+    requires first { first ≤ 64000 }
+    requires few { length values.now ≤ 1000 }
+    ensures read { Gives (λ v. steps_view v.items) result (each_from (step_from limits) first (items_view values.now)) }
+    ensures few { IfOk result (λ v. vec_len v ≤ 1000) }
+{
+    let mut steps = Vec::new(alloc);
+    let mut index = first;
+    for value in values {
+        let step = step(alloc, limits, index, value)?;
+        steps.push(step)?;
+        index += 1;
+    }
+    Ok(steps)
+}
+
+/// The program whose first step has this index.
+#[tactic(auto, unfolding(crate::specs::StepText::program_from))]
+fn program(
+    alloc: Global,
+    limits: StepLimits,
+    first: u64,
+    value: &Value,
+) -> Result<Vec<Step>, TextFault>
+    requires { first ≤ 64000 }
+    ensures read { Gives (λ v. steps_view v.items) result (program_from limits first (view value.now)) }
+    ensures few { IfOk result (λ v. vec_len v ≤ 1000) }
+{
+    let values = elements(value, Field::Programs, MOST_STEPS)?;
+    steps(alloc, limits, first, values)
+}
+
+/// The programs of an array.
+fn programs(
+    alloc: Global,
+    limits: StepLimits,
+    values: &[Value],
+) -> Result<Vec<Vec<Step>>, TextFault>
+    requires { length values.now ≤ 64 }
+    ensures { Gives (λ v. programs_of v.items) result (programs_from limits 0 (items_view values.now)) }
+{
+    let mut programs = Vec::new(alloc);
+    let mut index = 0u64;
+    for value in values {
+        let program = program(alloc, limits, index, value)?;
+        index += program.len() as u64;
+        programs.push(program)?;
+    }
+    Ok(programs)
+}
+
+/// The programs of a script of this version with so many semaphores.
+#[tactic(auto, unfolding(crate::specs::StepText::programs_of_key))]
+pub(crate) fn programs_at_key(
+    alloc: Global,
+    value: &Value,
+    version: u64,
+    semaphores: u64,
+) -> Result<Vec<Vec<Step>>, TextFault>
+    ensures { Gives (λ v. programs_of v.items) result (programs_of_key version semaphores (view value.now)) }
+{
+    let values = elements_at_key(value, Field::Programs, MOST_PROGRAMS)?;
+    let limits = StepLimits {
+        version,
+        semaphores,
+        programs: count(values) as u64,
+    };
+    programs(alloc, limits, values)
+}

@@ -1,0 +1,247 @@
+use crate::{Act, Event, Field, Object, TextFault, read_schedule};
+use fak_core::{QueueCall, RoomCall};
+use std::test::Fail;
+
+const EVENTS: TextFault = TextFault::Range(Field::Events);
+
+#[test]
+fn a_schedule_of_a_room(rt: HostRuntime) -> Result<(), Fail> {
+    let text =
+        r#"{"object":"room","bound":4294967296,"seats":64,"events":[[0,"tir",1024],[1,"release",1],[2,"step"],[18446744073709551615,"step",64]]}"#;
+    let schedule = read_schedule(rt.alloc(), text.as_bytes())
+        .ok()
+        .ok_or("a schedule")?;
+    let events = [
+        Event {
+            seat: 0,
+            act: Act::Room(RoomCall::Tir(1024)),
+        },
+        Event {
+            seat: 1,
+            act: Act::Room(RoomCall::Release(1)),
+        },
+        Event {
+            seat: 2,
+            act: Act::Steps(1),
+        },
+        Event {
+            seat: 18446744073709551615,
+            act: Act::Steps(64),
+        },
+    ];
+    assert!(rt; schedule.object == Object::Room(4294967296));
+    assert!(rt; schedule.seats == 64);
+    assert!(rt; schedule.events.as_slice() == events.as_slice());
+    Ok(())
+}
+
+#[test]
+fn a_schedule_of_a_queue(rt: HostRuntime) -> Result<(), Fail> {
+    let text =
+        r#"{"events":[[0,"insert",18446744073709551615],[1,"delete"],[1,"shut"],[1,"step",2]],"seats":1,"more":{},"size":4096,"object":"queue"}"#;
+    let schedule = read_schedule(rt.alloc(), text.as_bytes())
+        .ok()
+        .ok_or("a schedule")?;
+    let events = [
+        Event {
+            seat: 0,
+            act: Act::Queue(QueueCall::Insert(18446744073709551615)),
+        },
+        Event {
+            seat: 1,
+            act: Act::Queue(QueueCall::Delete),
+        },
+        Event {
+            seat: 1,
+            act: Act::Queue(QueueCall::Shut),
+        },
+        Event {
+            seat: 1,
+            act: Act::Steps(2),
+        },
+    ];
+    assert!(rt; schedule.object == Object::Queue(4096));
+    assert!(rt; schedule.seats == 1);
+    assert!(rt; schedule.events.as_slice() == events.as_slice());
+    Ok(())
+}
+
+#[test]
+fn the_first_fault_of_the_keys(rt: HostRuntime) {
+    let table = [
+        (
+            r#"{"seats":0,"events":7}"#,
+            TextFault::Missing(Field::Object),
+        ),
+        (r#"{"object":7,"seats":0}"#, TextFault::Range(Field::Object)),
+        (
+            r#"{"object":"rooms","seats":0}"#,
+            TextFault::Range(Field::Object),
+        ),
+        (
+            r#"{"object":"room","size":1,"seats":0}"#,
+            TextFault::Missing(Field::Bound),
+        ),
+        (
+            r#"{"object":"room","bound":4294967297}"#,
+            TextFault::Range(Field::Bound),
+        ),
+        (
+            r#"{"object":"room","bound":-1}"#,
+            TextFault::Range(Field::Bound),
+        ),
+        (
+            r#"{"object":"room","bound":-0}"#,
+            TextFault::Range(Field::Bound),
+        ),
+        (
+            r#"{"object":"room","bound":1.0}"#,
+            TextFault::Range(Field::Bound),
+        ),
+        (
+            r#"{"object":"room","bound":1e3}"#,
+            TextFault::Range(Field::Bound),
+        ),
+        (
+            r#"{"object":"room","bound":"1"}"#,
+            TextFault::Range(Field::Bound),
+        ),
+        (
+            r#"{"object":"room","bound":null}"#,
+            TextFault::Range(Field::Bound),
+        ),
+        (
+            r#"{"object":"queue","bound":1,"seats":0}"#,
+            TextFault::Missing(Field::Size),
+        ),
+        (
+            r#"{"object":"queue","size":0,"seats":0}"#,
+            TextFault::Range(Field::Size),
+        ),
+        (
+            r#"{"object":"queue","size":4097}"#,
+            TextFault::Range(Field::Size),
+        ),
+        (
+            r#"{"object":"room","bound":0,"events":7}"#,
+            TextFault::Missing(Field::Seats),
+        ),
+        (
+            r#"{"object":"room","bound":0,"seats":0,"events":7}"#,
+            TextFault::Range(Field::Seats),
+        ),
+        (
+            r#"{"object":"room","bound":0,"seats":65}"#,
+            TextFault::Range(Field::Seats),
+        ),
+        (
+            r#"{"object":"room","bound":0,"seats":18446744073709551616}"#,
+            TextFault::Range(Field::Seats),
+        ),
+        (
+            r#"{"object":"room","bound":0,"seats":1}"#,
+            TextFault::Missing(Field::Events),
+        ),
+        (
+            r#"{"object":"room","bound":0,"seats":1,"events":{}}"#,
+            EVENTS,
+        ),
+        // the last of two equal keys counts
+        (
+            r#"{"object":"room","bound":0,"seats":0,"seats":1}"#,
+            TextFault::Missing(Field::Events),
+        ),
+        (
+            r#"{"object":"room","bound":0,"seats":1,"seats":0}"#,
+            TextFault::Range(Field::Seats),
+        ),
+    ];
+    for (text, want) in table {
+        assert!(rt;
+            read_schedule(rt.alloc(), text.as_bytes()).err() == Some(want),
+            "at {text}"
+        );
+    }
+}
+
+#[test]
+fn the_first_fault_of_the_events(rt: HostRuntime) -> Result<(), Fail> {
+    let table = [
+        (r#"7"#, EVENTS),
+        (r#"{}"#, EVENTS),
+        (r#"[]"#, EVENTS),
+        (r#"[0]"#, EVENTS),
+        (r#"["0","step"]"#, EVENTS),
+        (r#"[-1,"step"]"#, EVENTS),
+        (r#"[18446744073709551616,"step"]"#, EVENTS),
+        (r#"[0,1]"#, EVENTS),
+        (r#"[0,"jump"]"#, TextFault::UnknownOp(0)),
+        (r#"[0,"Tir",1]"#, TextFault::UnknownOp(0)),
+        (r#"[0,"insert",1]"#, TextFault::UnknownOp(0)),
+        (r#"[0,"delete"]"#, TextFault::UnknownOp(0)),
+        (r#"[0,"shut"]"#, TextFault::UnknownOp(0)),
+        (r#"[0,"step"],[0,"jump",1,2]"#, TextFault::UnknownOp(1)),
+        (r#"[0,"tir",0],[0,"jump"]"#, EVENTS),
+        (r#"[0,"step",1,1]"#, EVENTS),
+        (r#"[0,"step",0]"#, EVENTS),
+        (r#"[0,"step",65]"#, EVENTS),
+        (r#"[0,"step","1"]"#, EVENTS),
+        (r#"[0,"tir"]"#, EVENTS),
+        (r#"[0,"tir",1,1]"#, EVENTS),
+        (r#"[0,"tir",1025]"#, EVENTS),
+        (r#"[0,"release"]"#, EVENTS),
+        (r#"[0,"release",0]"#, EVENTS),
+        (r#"[0,"release",1025]"#, EVENTS),
+    ];
+    for (events, want) in table {
+        let text = format!(in rt.alloc();
+            "{{\"object\":\"room\",\"bound\":1,\"seats\":1,\"events\":[{events}]}}"
+        )?;
+        assert!(rt;
+            read_schedule(rt.alloc(), text.as_bytes()).err() == Some(want),
+            "at {events}"
+        );
+    }
+    let table = [
+        (r#"[0,"tir",1]"#, TextFault::UnknownOp(0)),
+        (r#"[0,"release",1]"#, TextFault::UnknownOp(0)),
+        (r#"[0,"insert"]"#, EVENTS),
+        (r#"[0,"insert",-1]"#, EVENTS),
+        (r#"[0,"insert",1,1]"#, EVENTS),
+        (r#"[0,"insert",18446744073709551616]"#, EVENTS),
+        (r#"[0,"delete",1]"#, EVENTS),
+        (r#"[0,"shut",1]"#, EVENTS),
+        (r#"[0,"step",65]"#, EVENTS),
+    ];
+    for (events, want) in table {
+        let text = format!(in rt.alloc();
+            "{{\"object\":\"queue\",\"size\":1,\"seats\":1,\"events\":[{events}]}}"
+        )?;
+        assert!(rt;
+            read_schedule(rt.alloc(), text.as_bytes()).err() == Some(want),
+            "at {events}"
+        );
+    }
+    Ok(())
+}
+
+#[test]
+fn a_schedule_has_at_most_16384_events(rt: HostRuntime) -> Result<(), Fail> {
+    let mut events = String::from_str(rt.alloc(), r#"[0,"step"]"#)?;
+    for _ in 1..16_384 {
+        events.push_str(r#",[0,"step"]"#)?;
+    }
+    let text = format!(in rt.alloc();
+        "{{\"object\":\"room\",\"bound\":1,\"seats\":1,\"events\":[{events}]}}"
+    )?;
+    let schedule = read_schedule(rt.alloc(), text.as_bytes())
+        .ok()
+        .ok_or("a schedule")?;
+    assert!(rt; schedule.events.len() == 16_384);
+    // their number is tested before the first event is
+    let text = format!(in rt.alloc();
+        "{{\"object\":\"room\",\"bound\":1,\"seats\":1,\"events\":[[0,\"jump\"],{events}]}}"
+    )?;
+    assert!(rt; read_schedule(rt.alloc(), text.as_bytes()).err() == Some(EVENTS));
+    Ok(())
+}
