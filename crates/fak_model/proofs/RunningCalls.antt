@@ -157,12 +157,12 @@ module _ {M W C P S H : Type 0} {o : Object M W C P S H} {m : Me H (View M P)} {
       ap (marks_of o.rules.seat_of n) l.sees.is ∙ (marks_of_append o.rules.seat_of n l.sees.between m.0.seen ∙ ap (λ h. h ++ marks_of o.rules.seat_of n m.0.seen) none) in
       marks_of-reverse o.rules.seat_of n l.past ∙ (ap reverse past ∙ sym (marks_of-reverse o.rules.seat_of n m.0.seen))
 
-  mine_after : marks_of o.rules.seat_of n (reverse after.0.seen) ≡ marks_of o.rules.seat_of n (reverse m.0.seen) ++ reverse new
+  pub mine_after : marks_of o.rules.seat_of n (reverse after.0.seen) ≡ marks_of o.rules.seat_of n (reverse m.0.seen) ++ reverse new
   mine_after =
       ap (marks_of o.rules.seat_of n) history_after ∙ (marks_of_append o.rules.seat_of n (reverse l.past) (reverse new)
       ∙ (λ i. mine_before i ++ (marks_of-reverse o.rules.seat_of n new ∙ ap reverse (marks_of-owned o.rules.seat_of n new own)) i))
 
-  begins_after : Begins (reverse m.0.seen) (reverse after.0.seen)
+  pub begins_after : Begins (reverse m.0.seen) (reverse after.0.seen)
   begins_after = begins_trans (reverse m.0.seen) (reverse l.past) (reverse after.0.seen) (sees_begins o.rules.seat_of m.0.names m.0.seen l.past l.sees) (reverse new, sym history_after)
 
   lawful_after : IsHistory o.rules (reverse after.0.seen)

@@ -35,7 +35,7 @@ use Rattle.fak_queue.proofs.Slots.{takes_slot, gives_slot, slot_there}
 use Rattle.fak_queue.proofs.Stepping.{QueueTable, queue_law, Permits, K, stands, outside, lower_past, loaded, upper_shrunk, lower_grown, lower_shrunk, few_draws, near, turn_is, turn_set, apart1, apart2, here1, here2, advances, quiet_step}
 
 -- the item of a ticket in a past, oldest mark first
-item_past : {T : Type 0} (past : List (Mark T)) (k : ℕ) → item_at (items_put (reverse past)) k ≡ item_of past k
+pub item_past : {T : Type 0} (past : List (Mark T)) (k : ℕ) → item_at (items_put (reverse past)) k ≡ item_of past k
 item_past past k = item_same k (reverse past) ∙ ap (λ h. item_of h k) (reverse-reverse past)
 
 module _ {T : Type 0} (key : Limits) (s : QueueTable T) (r : IsShownQueue key s) (id n : ℕ) (m : Holder T) (at : get_elem? s.views id ≡ some m.0) (one : m.0.names ≡ n ∷ []) where

@@ -4,3 +4,9 @@ pub mod Stepping
 pub mod InsertionSteps
 pub mod DeletionSteps
 pub mod Allowed
+pub mod States
+pub mod PartSteps
+pub mod Admissions
+pub mod Turning
+pub mod SeatCalls
+pub mod Openings

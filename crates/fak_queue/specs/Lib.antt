@@ -1,3 +1,6 @@
 pub mod Words
 pub mod Shown
 pub mod Steps
+pub mod Queues
+pub mod Refusals
+pub mod Parts

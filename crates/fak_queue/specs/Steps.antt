@@ -26,6 +26,14 @@ pub record FitsTable (of_seat table : TableId) (key : Limits) (seats : ℕ) : Ty
   pub few : key.seats ≡ seats
   pub words : table.words ≡ 64 + table.slots
 
+-- the seat's own name
+abbrev pub HasOneName : {T : Type 0} → Holder T → Type 0
+HasOneName m = (n : ℕ) × (m.0.names ≡ n ∷ [])
+
+-- a fact of the seat's name
+abbrev pub Named : {T : Type 0} → Holder T → (ℕ → Type 0) → Type 0
+Named m then = (n : ℕ) → m.0.names ≡ n ∷ [] → then n
+
 module _ {T : Type 0} where
   abbrev pub mark : ℕ → Kind T → Mark T
   mark n κ = record { seat = n; kind = κ }

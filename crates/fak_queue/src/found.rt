@@ -19,3 +19,12 @@ pub enum LowerCount {
     /// The count, which was at most 0.
     Empty(i64),
 }
+
+/// Why an insertion was not claimed.
+#[derive(Clone, Copy, Debug, PartialEq, Eq, Drop)]
+pub enum NoRoom {
+    /// The upper count, which was at least the queue's size.
+    Full(i64),
+    /// The queue was shut.
+    Shut,
+}

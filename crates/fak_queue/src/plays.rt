@@ -10,6 +10,7 @@ ghost use Rattle.fak_queue.specs.Steps.{
   EndsIn,
   EndsOut,
   HearsJoin,
+  Named,
   SetsFree,
   SetsFull,
   Shuts,
@@ -25,18 +26,14 @@ use fak_core::Phase;
 use fak_model::{Mark, View};
 use std::marker::{Brand, PhantomData};
 
-/// The call that a step belongs to: the seat's name, the number of seats, and an insertion's item.
+/// The call that a step belongs to: the number of seats, and an insertion's item.
 pub trait Call<T> {
-    ghost name: { ℕ };
-
     ghost seats: { ℕ };
 
     ghost item: { Option T };
 }
 
 impl<T> Call<T> for Brand {
-    ghost name = { 0 };
-
     ghost seats = { 0 };
 
     ghost item = { None };
@@ -48,7 +45,7 @@ pub struct TestUp<J> {
 }
 
 impl<T, J: Call<T>> Play<Option<T>, View<Mark<T>, Phase<T>>> for TestUp<J> {
-    ghost then = { λ s m found after. TestsUp s.slots J.seats J.name J.item m found after };
+    ghost then = { λ s m found after. Named m (λ n. TestsUp s.slots J.seats n J.item m found after) };
 }
 
 /// The add to the upper count.
@@ -57,7 +54,7 @@ pub struct AddUp<J> {
 }
 
 impl<T, J: Call<T>> Play<Option<T>, View<Mark<T>, Phase<T>>> for AddUp<J> {
-    ghost then = { λ s m found after. AddsUp s.slots J.seats J.name m found after };
+    ghost then = { λ s m found after. Named m (λ n. AddsUp s.slots J.seats n m found after) };
 }
 
 /// The withdrawal of an insertion.
@@ -66,7 +63,7 @@ pub struct BackUp<J> {
 }
 
 impl<T, J: Call<T>> Play<Option<T>, View<Mark<T>, Phase<T>>> for BackUp<J> {
-    ghost then = { λ s m _ after. BacksUp s.slots J.seats J.name m after };
+    ghost then = { λ s m _ after. Named m (λ n. BacksUp s.slots J.seats n m after) };
 }
 
 /// The draw of an insertion's ticket.
@@ -75,7 +72,7 @@ pub struct TicketIn<J> {
 }
 
 impl<T, J: Call<T>> Play<Option<T>, View<Mark<T>, Phase<T>>> for TicketIn<J> {
-    ghost then = { λ s m found after. DrawsIn s.slots J.seats J.name m found after };
+    ghost then = { λ s m found after. Named m (λ n. DrawsIn s.slots J.seats n m found after) };
 }
 
 /// An insertion's load of its cell's turn.
@@ -84,7 +81,7 @@ pub struct TurnIn<J> {
 }
 
 impl<T, J: Call<T>> Play<Option<T>, View<Mark<T>, Phase<T>>> for TurnIn<J> {
-    ghost then = { λ s m found after. TurnsIn s.slots J.seats J.name m found after };
+    ghost then = { λ s m found after. Named m (λ n. TurnsIn s.slots J.seats n m found after) };
 }
 
 /// The store that makes a cell full.
@@ -93,7 +90,7 @@ pub struct SetFull<J> {
 }
 
 impl<T, J: Call<T>> Play<Option<T>, View<Mark<T>, Phase<T>>> for SetFull<J> {
-    ghost then = { λ s m _ after. SetsFull s.slots J.seats J.name m after };
+    ghost then = { λ s m _ after. Named m (λ n. SetsFull s.slots J.seats n m after) };
 }
 
 /// The add to the lower count that ends an insertion.
@@ -102,7 +99,7 @@ pub struct EndIn<J> {
 }
 
 impl<T, J: Call<T>> Play<Option<T>, View<Mark<T>, Phase<T>>> for EndIn<J> {
-    ghost then = { λ s m _ after. EndsIn s.slots J.seats J.name m after };
+    ghost then = { λ s m _ after. Named m (λ n. EndsIn s.slots J.seats n m after) };
 }
 
 /// The load of the lower count that begins a deletion.
@@ -111,7 +108,7 @@ pub struct TestLow<J> {
 }
 
 impl<T, J: Call<T>> Play<Option<T>, View<Mark<T>, Phase<T>>> for TestLow<J> {
-    ghost then = { λ s m found after. TestsLow s.slots J.seats J.name m found after };
+    ghost then = { λ s m found after. Named m (λ n. TestsLow s.slots J.seats n m found after) };
 }
 
 /// The subtraction from the lower count.
@@ -120,7 +117,7 @@ pub struct SubLow<J> {
 }
 
 impl<T, J: Call<T>> Play<Option<T>, View<Mark<T>, Phase<T>>> for SubLow<J> {
-    ghost then = { λ s m found after. SubtractsLow s.slots J.seats J.name m found after };
+    ghost then = { λ s m found after. Named m (λ n. SubtractsLow s.slots J.seats n m found after) };
 }
 
 /// The withdrawal of a deletion.
@@ -129,7 +126,7 @@ pub struct BackLow<J> {
 }
 
 impl<T, J: Call<T>> Play<Option<T>, View<Mark<T>, Phase<T>>> for BackLow<J> {
-    ghost then = { λ s m _ after. BacksLow s.slots J.seats J.name m after };
+    ghost then = { λ s m _ after. Named m (λ n. BacksLow s.slots J.seats n m after) };
 }
 
 /// The draw of a deletion's ticket.
@@ -138,7 +135,7 @@ pub struct TicketOut<J> {
 }
 
 impl<T, J: Call<T>> Play<Option<T>, View<Mark<T>, Phase<T>>> for TicketOut<J> {
-    ghost then = { λ s m found after. DrawsOut s.slots J.seats J.name m found after };
+    ghost then = { λ s m found after. Named m (λ n. DrawsOut s.slots J.seats n m found after) };
 }
 
 /// A deletion's load of its cell's turn.
@@ -147,7 +144,7 @@ pub struct TurnOut<J> {
 }
 
 impl<T, J: Call<T>> Play<Option<T>, View<Mark<T>, Phase<T>>> for TurnOut<J> {
-    ghost then = { λ s m found after. TurnsOut s.slots J.seats J.name m found after };
+    ghost then = { λ s m found after. Named m (λ n. TurnsOut s.slots J.seats n m found after) };
 }
 
 /// The store that makes a cell free.
@@ -156,7 +153,7 @@ pub struct SetFree<J> {
 }
 
 impl<T, J: Call<T>> Play<Option<T>, View<Mark<T>, Phase<T>>> for SetFree<J> {
-    ghost then = { λ s m _ after. SetsFree s.slots J.seats J.name m after };
+    ghost then = { λ s m _ after. Named m (λ n. SetsFree s.slots J.seats n m after) };
 }
 
 /// The subtraction from the upper count that ends a deletion.
@@ -165,7 +162,7 @@ pub struct EndOut<J> {
 }
 
 impl<T, J: Call<T>> Play<Option<T>, View<Mark<T>, Phase<T>>> for EndOut<J> {
-    ghost then = { λ s m _ after. EndsOut s.slots J.seats J.name m after };
+    ghost then = { λ s m _ after. Named m (λ n. EndsOut s.slots J.seats n m after) };
 }
 
 /// The setting of the shut bit.
@@ -174,7 +171,7 @@ pub struct Shut<J> {
 }
 
 impl<T, J: Call<T>> Play<Option<T>, View<Mark<T>, Phase<T>>> for Shut<J> {
-    ghost then = { λ s m found after. Shuts s.slots J.seats J.name m found after };
+    ghost then = { λ s m found after. Named m (λ n. Shuts s.slots J.seats n m found after) };
 }
 
 /// The load after a join.

@@ -5,7 +5,7 @@ pub(crate) mod insertion;
 
 ghost use Rattle.std.specs.Prelude.{◌≡◌, ◌∷◌, [], Some};
 ghost use Rattle.fak_core.specs.declared.queue.phase.Phase.TheVariants.{Idle};
-ghost use Rattle.fak_queue.specs.Steps.{FitsTable, HearsJoin, ShutAs};
+ghost use Rattle.fak_queue.specs.Steps.{FitsTable, HasOneName, HearsJoin, Named, ShutAs};
 
 use crate::key::Limits;
 use crate::plays;
@@ -25,10 +25,10 @@ pub(crate) type QueueWords<T> = Shared<Option<T>, View<Mark<T>, Phase<T>>, Limit
 // Sets the shut bit, and tells whether it was not set before.
 pub(crate) fn shut<T, J: Call<T>>(words: &QueueWords<T>, token: &mut Token<T>) -> bool
     requires table { FitsTable token.old.table_id words.now.table_id words.now.key J.seats }
-    requires seat { token.old.me.0.names ≡ J.name ∷ [] }
+    requires seat { HasOneName token.old.me }
     requires phase { token.old.me.0.phase ≡ Some Idle }
     ensures same { token.new.table_id ≡ token.old.table_id }
-    ensures told { ShutAs words.now.table_id.slots J.seats J.name result token.old.me token.new.me }
+    ensures told { Named token.old.me (λ n. ShutAs words.now.table_id.slots J.seats n result token.old.me token.new.me) }
 {
     let found = words.fetch_or::<plays::Shut<J>>(token, UPPER, SHUT);
     found < SHUT

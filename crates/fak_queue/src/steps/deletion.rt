@@ -12,6 +12,8 @@ ghost use Rattle.fak_core.specs.declared.queue.phase.Phase.TheVariants.{
 };
 ghost use Rattle.fak_queue.specs.Steps.{
   FitsTable,
+  HasOneName,
+  Named,
   TestedLow,
   SubtractedLow,
   BacksLow,
@@ -30,10 +32,10 @@ use crate::words::{DRAWS_OUT, LOWER, TURNS, UPPER, lower_count};
 // Loads the lower count.
 pub(crate) fn test_low<T, J: Call<T>>(words: &QueueWords<T>, token: &mut Token<T>) -> LowerCount
     requires table { FitsTable token.old.table_id words.now.table_id words.now.key J.seats }
-    requires seat { token.old.me.0.names ≡ J.name ∷ [] }
+    requires seat { HasOneName token.old.me }
     requires phase { token.old.me.0.phase ≡ Some Idle }
     ensures same { token.new.table_id ≡ token.old.table_id }
-    ensures told { TestedLow words.now.table_id.slots J.seats J.name result token.old.me token.new.me }
+    ensures told { Named token.old.me (λ n. TestedLow words.now.table_id.slots J.seats n result token.old.me token.new.me) }
 {
     let found = words.load::<plays::TestLow<J>>(token, LOWER);
     lower_count(found)
@@ -42,10 +44,10 @@ pub(crate) fn test_low<T, J: Call<T>>(words: &QueueWords<T>, token: &mut Token<T
 // Subtracts 1 from the lower count.
 pub(crate) fn sub_low<T, J: Call<T>>(words: &QueueWords<T>, token: &mut Token<T>) -> LowerCount
     requires table { FitsTable token.old.table_id words.now.table_id words.now.key J.seats }
-    requires seat { token.old.me.0.names ≡ J.name ∷ [] }
+    requires seat { HasOneName token.old.me }
     requires phase { token.old.me.0.phase ≡ Some SubLow }
     ensures same { token.new.table_id ≡ token.old.table_id }
-    ensures told { SubtractedLow words.now.table_id.slots J.seats J.name result token.old.me token.new.me }
+    ensures told { Named token.old.me (λ n. SubtractedLow words.now.table_id.slots J.seats n result token.old.me token.new.me) }
 {
     let found = words.fetch_sub::<plays::SubLow<J>>(token, LOWER, 1);
     lower_count(found)
@@ -54,10 +56,10 @@ pub(crate) fn sub_low<T, J: Call<T>>(words: &QueueWords<T>, token: &mut Token<T>
 // Gives back the 1 that was subtracted from the lower count.
 pub(crate) fn back_low<T, J: Call<T>>(words: &QueueWords<T>, token: &mut Token<T>)
     requires table { FitsTable token.old.table_id words.now.table_id words.now.key J.seats }
-    requires seat { token.old.me.0.names ≡ J.name ∷ [] }
+    requires seat { HasOneName token.old.me }
     requires phase { token.old.me.0.phase ≡ Some BackLow }
     ensures same { token.new.table_id ≡ token.old.table_id }
-    ensures told { BacksLow words.now.table_id.slots J.seats J.name token.old.me token.new.me }
+    ensures told { Named token.old.me (λ n. BacksLow words.now.table_id.slots J.seats n token.old.me token.new.me) }
 {
     words.fetch_add::<plays::BackLow<J>>(token, LOWER, 1);
 }
@@ -65,11 +67,11 @@ pub(crate) fn back_low<T, J: Call<T>>(words: &QueueWords<T>, token: &mut Token<T
 // Draws a deletion's ticket.
 pub(crate) fn ticket_out<T, J: Call<T>>(words: &QueueWords<T>, token: &mut Token<T>) -> u64
     requires table { FitsTable token.old.table_id words.now.table_id words.now.key J.seats }
-    requires seat { token.old.me.0.names ≡ J.name ∷ [] }
+    requires seat { HasOneName token.old.me }
     requires phase { token.old.me.0.phase ≡ Some TicketOut }
     requires left { 0 < token.old.me.0.left }
     ensures same { token.new.table_id ≡ token.old.table_id }
-    ensures told { DrawsOut words.now.table_id.slots J.seats J.name token.old.me result token.new.me }
+    ensures told { Named token.old.me (λ n. DrawsOut words.now.table_id.slots J.seats n token.old.me result token.new.me) }
 {
     words.fetch_add::<plays::TicketOut<J>>(token, DRAWS_OUT, 1)
 }
@@ -83,10 +85,10 @@ pub(crate) fn turn_out<T, J: Call<T>>(
 ) -> u64
     requires table { FitsTable token.old.table_id words.now.table_id words.now.key J.seats }
     requires size { (size ≡ words.now.table_id.slots) × (0 < size) × (size ≤ 4096) }
-    requires seat { token.old.me.0.names ≡ J.name ∷ [] }
+    requires seat { HasOneName token.old.me }
     requires phase { token.old.me.0.phase ≡ Some (TurnOut ticket) }
     ensures same { token.new.table_id ≡ token.old.table_id }
-    ensures told { TurnedOut words.now.table_id.slots J.seats J.name ticket token.old.me result token.new.me }
+    ensures told { Named token.old.me (λ n. TurnedOut words.now.table_id.slots J.seats n ticket token.old.me result token.new.me) }
 {
     words.load::<plays::TurnOut<J>>(token, (ticket % size) as usize + TURNS)
 }
@@ -101,11 +103,11 @@ pub(crate) fn set_free<T, J: Call<T>>(
     requires table { FitsTable token.old.table_id words.now.table_id words.now.key J.seats }
     requires size { (size ≡ words.now.table_id.slots) × (0 < size) × (size ≤ 4096) }
     requires few { ticket < 2 ^ 62 }
-    requires seat { token.old.me.0.names ≡ J.name ∷ [] }
+    requires seat { HasOneName token.old.me }
     requires phase { token.old.me.0.phase ≡ Some (LoadItem ticket) }
     requires slot { (others : List (ℕ × Option T)) × (token.old.me.1 ≡ (ticket % size, None) ∷ others) }
     ensures same { token.new.table_id ≡ token.old.table_id }
-    ensures told { FreedCell words.now.table_id.slots J.seats J.name ticket token.old.me token.new.me }
+    ensures told { Named token.old.me (λ n. FreedCell words.now.table_id.slots J.seats n ticket token.old.me token.new.me) }
 {
     words.store::<plays::SetFree<J>>(
         token,
@@ -117,10 +119,10 @@ pub(crate) fn set_free<T, J: Call<T>>(
 // Subtracts 1 from the upper count, which ends a deletion.
 pub(crate) fn end_out<T, J: Call<T>>(words: &QueueWords<T>, token: &mut Token<T>)
     requires table { FitsTable token.old.table_id words.now.table_id words.now.key J.seats }
-    requires seat { token.old.me.0.names ≡ J.name ∷ [] }
+    requires seat { HasOneName token.old.me }
     requires phase { (k : ℕ) × (token.old.me.0.phase ≡ Some (EndDelete k)) }
     ensures same { token.new.table_id ≡ token.old.table_id }
-    ensures told { EndsOut words.now.table_id.slots J.seats J.name token.old.me token.new.me }
+    ensures told { Named token.old.me (λ n. EndsOut words.now.table_id.slots J.seats n token.old.me token.new.me) }
 {
     words.fetch_sub::<plays::EndOut<J>>(token, UPPER, 1);
 }

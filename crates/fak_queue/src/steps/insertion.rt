@@ -12,6 +12,8 @@ ghost use Rattle.fak_core.specs.declared.queue.phase.Phase.TheVariants.{
 };
 ghost use Rattle.fak_queue.specs.Steps.{
   FitsTable,
+  HasOneName,
+  Named,
   TestedUp,
   AddedUp,
   BacksUp,
@@ -36,11 +38,11 @@ pub(crate) fn test_up<T, J: Call<T>>(
 ) -> UpperCount
     requires table { FitsTable token.old.table_id words.now.table_id words.now.key J.seats }
     requires size { (size ≡ words.now.table_id.slots) × (size ≤ 4096) }
-    requires seat { token.old.me.0.names ≡ J.name ∷ [] }
+    requires seat { HasOneName token.old.me }
     requires item { J.item ≡ Some _item.now }
     requires phase { token.old.me.0.phase ≡ Some Idle }
     ensures same { token.new.table_id ≡ token.old.table_id }
-    ensures told { TestedUp words.now.table_id.slots J.seats J.name _item.now result token.old.me token.new.me }
+    ensures told { Named token.old.me (λ n. TestedUp words.now.table_id.slots J.seats n _item.now result token.old.me token.new.me) }
 {
     let found = words.load::<plays::TestUp<J>>(token, UPPER);
     upper_count(found, size)
@@ -54,11 +56,11 @@ pub(crate) fn add_up<T, J: Call<T>>(
 ) -> UpperCount
     requires table { FitsTable token.old.table_id words.now.table_id words.now.key J.seats }
     requires size { (size ≡ words.now.table_id.slots) × (size ≤ 4096) }
-    requires seat { token.old.me.0.names ≡ J.name ∷ [] }
+    requires seat { HasOneName token.old.me }
     requires phase { (x : T) × (token.old.me.0.phase ≡ Some (AddUp x)) }
     ensures same { token.new.table_id ≡ token.old.table_id }
-    ensures told { (x : T) → token.old.me.0.phase ≡ Some (AddUp x)
-        → AddedUp words.now.table_id.slots J.seats J.name x result token.old.me token.new.me }
+    ensures told { Named token.old.me (λ n. (x : T) → token.old.me.0.phase ≡ Some (AddUp x)
+        → AddedUp words.now.table_id.slots J.seats n x result token.old.me token.new.me) }
 {
     let found = words.fetch_add::<plays::AddUp<J>>(token, UPPER, 1);
     upper_count(found, size)
@@ -67,10 +69,10 @@ pub(crate) fn add_up<T, J: Call<T>>(
 // Takes back the 1 that was added to the upper count.
 pub(crate) fn back_up<T, J: Call<T>>(words: &QueueWords<T>, token: &mut Token<T>)
     requires table { FitsTable token.old.table_id words.now.table_id words.now.key J.seats }
-    requires seat { token.old.me.0.names ≡ J.name ∷ [] }
+    requires seat { HasOneName token.old.me }
     requires phase { (x : T) × (token.old.me.0.phase ≡ Some (BackUp x)) }
     ensures same { token.new.table_id ≡ token.old.table_id }
-    ensures told { BacksUp words.now.table_id.slots J.seats J.name token.old.me token.new.me }
+    ensures told { Named token.old.me (λ n. BacksUp words.now.table_id.slots J.seats n token.old.me token.new.me) }
 {
     words.fetch_sub::<plays::BackUp<J>>(token, UPPER, 1);
 }
@@ -78,12 +80,12 @@ pub(crate) fn back_up<T, J: Call<T>>(words: &QueueWords<T>, token: &mut Token<T>
 // Draws an insertion's ticket.
 pub(crate) fn ticket_in<T, J: Call<T>>(words: &QueueWords<T>, token: &mut Token<T>) -> u64
     requires table { FitsTable token.old.table_id words.now.table_id words.now.key J.seats }
-    requires seat { token.old.me.0.names ≡ J.name ∷ [] }
+    requires seat { HasOneName token.old.me }
     requires phase { (x : T) × (token.old.me.0.phase ≡ Some (TicketIn x)) }
     requires left { 0 < token.old.me.0.left }
     ensures same { token.new.table_id ≡ token.old.table_id }
-    ensures told { (x : T) → token.old.me.0.phase ≡ Some (TicketIn x)
-        → DrewIn words.now.table_id.slots J.seats J.name x token.old.me result token.new.me }
+    ensures told { Named token.old.me (λ n. (x : T) → token.old.me.0.phase ≡ Some (TicketIn x)
+        → DrewIn words.now.table_id.slots J.seats n x token.old.me result token.new.me) }
 {
     words.fetch_add::<plays::TicketIn<J>>(token, DRAWS_IN, 1)
 }
@@ -97,11 +99,11 @@ pub(crate) fn turn_in<T, J: Call<T>>(
 ) -> u64
     requires table { FitsTable token.old.table_id words.now.table_id words.now.key J.seats }
     requires size { (size ≡ words.now.table_id.slots) × (0 < size) × (size ≤ 4096) }
-    requires seat { token.old.me.0.names ≡ J.name ∷ [] }
+    requires seat { HasOneName token.old.me }
     requires phase { (x : T) × (token.old.me.0.phase ≡ Some (TurnIn ticket x)) }
     ensures same { token.new.table_id ≡ token.old.table_id }
-    ensures told { (x : T) → token.old.me.0.phase ≡ Some (TurnIn ticket x)
-        → TurnedIn words.now.table_id.slots J.seats J.name ticket x token.old.me result token.new.me }
+    ensures told { Named token.old.me (λ n. (x : T) → token.old.me.0.phase ≡ Some (TurnIn ticket x)
+        → TurnedIn words.now.table_id.slots J.seats n ticket x token.old.me result token.new.me) }
 {
     words.load::<plays::TurnIn<J>>(token, (ticket % size) as usize + TURNS)
 }
@@ -116,11 +118,11 @@ pub(crate) fn set_full<T, J: Call<T>>(
     requires table { FitsTable token.old.table_id words.now.table_id words.now.key J.seats }
     requires size { (size ≡ words.now.table_id.slots) × (0 < size) × (size ≤ 4096) }
     requires few { ticket < 2 ^ 62 }
-    requires seat { token.old.me.0.names ≡ J.name ∷ [] }
+    requires seat { HasOneName token.old.me }
     requires phase { (x : T) × (token.old.me.0.phase ≡ Some (StoreItem ticket x))
         × ((others : List (ℕ × Option T)) × (token.old.me.1 ≡ (ticket % size, Some x) ∷ others)) }
     ensures same { token.new.table_id ≡ token.old.table_id }
-    ensures told { FilledCell words.now.table_id.slots J.seats J.name ticket token.old.me token.new.me }
+    ensures told { Named token.old.me (λ n. FilledCell words.now.table_id.slots J.seats n ticket token.old.me token.new.me) }
 {
     words.store::<plays::SetFull<J>>(
         token,
@@ -132,10 +134,10 @@ pub(crate) fn set_full<T, J: Call<T>>(
 // Adds 1 to the lower count, which ends an insertion.
 pub(crate) fn end_in<T, J: Call<T>>(words: &QueueWords<T>, token: &mut Token<T>)
     requires table { FitsTable token.old.table_id words.now.table_id words.now.key J.seats }
-    requires seat { token.old.me.0.names ≡ J.name ∷ [] }
+    requires seat { HasOneName token.old.me }
     requires phase { (k : ℕ) × (token.old.me.0.phase ≡ Some (EndInsert k)) }
     ensures same { token.new.table_id ≡ token.old.table_id }
-    ensures told { EndsIn words.now.table_id.slots J.seats J.name token.old.me token.new.me }
+    ensures told { Named token.old.me (λ n. EndsIn words.now.table_id.slots J.seats n token.old.me token.new.me) }
 {
     words.fetch_add::<plays::EndIn<J>>(token, LOWER, 1);
 }

@@ -5,4 +5,4 @@ use Rattle.fak_queue.proofs.steps.deletion.ticket_out.Goals as goal
 pub fetch_add-requires : goal.fetch_add-requires
 fetch_add-requires g c =
     let t = c.requires.table in
-    (t.same, omega (arith, t.words), draws_out_allowed c.args.words.now.key _ _ _ _ _ t.few c.requires.seat c.requires.phase c.requires.left)
+    (t.same, omega (arith, t.words), draws_out_allowed c.args.words.now.key _ _ _ c.requires.seat.0 _ t.few c.requires.seat.1 c.requires.phase c.requires.left)

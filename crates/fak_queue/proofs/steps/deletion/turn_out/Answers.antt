@@ -9,4 +9,4 @@ load-requires g c =
     let k = c.args.ticket in
     let near = mod-lt k c.requires.size.1 in
     let place = ap (λ (z : ℕ). k % z + 64) is in
-    (t.same, omega (arith, t.words, near, is), turns_out_allowed c.args.words.now.key _ _ _ _ _ t.few c.requires.seat _ k place c.requires.phase)
+    (t.same, omega (arith, t.words, near, is), turns_out_allowed c.args.words.now.key _ _ _ c.requires.seat.0 _ t.few c.requires.seat.1 _ k place c.requires.phase)

@@ -6,7 +6,7 @@ use Rattle.fak_queue.proofs.steps.insertion.add_up.Goals as goal
 pub fetch_add-found-requires : goal.fetch_add-found-requires
 fetch_add-found-requires g c =
     let t = c.requires.table in
-    (t.same, omega (arith, t.words), adds_up_allowed c.args.words.now.key _ _ _ _ _ t.few c.requires.seat _ c.requires.phase.1)
+    (t.same, omega (arith, t.words), adds_up_allowed c.args.words.now.key _ _ _ c.requires.seat.0 _ t.few c.requires.seat.1 _ c.requires.phase.1)
 
 pub returns-clause-told : goal.returns-clause-told
-returns-clause-told g c = λ x e. c.fetch_add-found.ensures.2 x e c.upper_count.result (subst (λ z. IsUpperCount z c.fetch_add-found.result c.upper_count.result) c.requires.size.0 c.upper_count.ensures)
+returns-clause-told g c = λ n one x e. c.fetch_add-found.ensures.2 n one x e c.upper_count.result (subst (λ z. IsUpperCount z c.fetch_add-found.result c.upper_count.result) c.requires.size.0 c.upper_count.ensures)
