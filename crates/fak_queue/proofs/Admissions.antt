@@ -17,7 +17,7 @@ use Rattle.fak_queue.specs.Shown.{Holder}
 use Rattle.fak_queue.specs.Steps.{mark, Marks, Named, ShutAs, TestedUp, AddedUp, BacksUp, DrewIn, TestedLow, SubtractedLow, BacksLow, DrawsOut}
 use Rattle.fak_queue.specs.Queues.{RestsAt, idle, inserting, deleting}
 use Rattle.fak_queue.specs.Parts.{IsPart, ClaimedIn, RefusedIn, ClaimedOut, RefusedOut, Nothing}
-use Rattle.fak_queue.proofs.PartSteps.{names_kept, phase_is, left_is, slots_are, part_one, part_two}
+use Rattle.fak_queue.proofs.PartSteps.{put_there, names_kept, phase_is, left_is, slots_are, part_one, part_two}
 
 -- an item's Put, or its Got, leaves the seat waiting with the ticket that was drawn
 inserting_after : {T : Type 0} (h : List (Mark T)) (k : ℕ) (x : T) → count puts (reverse h) ≡ k → k < 2 ^ 62 → RestsAt (TurnIn k x) (after_kind h (made.Put x))
@@ -111,7 +111,8 @@ module _ {T : Type 0} (size seats n : ℕ) (r : LowerCount) (m0 m1 : Holder T) (
         record {
           item = d.item;
           part = part_two n made.ClaimOut (made.Got d.item) tested_first refl l d.leaves one (slots_are l ∙ slots1) (m0.0.left - 1) (ap (λ k. k - 1) (left_is l ∙ left_is tested_first))
-              (deleting_after d.leaves.past k d.item d.leaves.told d.few) (λ first second. count gots second ≡ k) d.leaves.told;
+              (deleting_after d.leaves.past k d.item d.leaves.told.0 d.few) (λ first second. count gots second ≡ k) d.leaves.told.0;
+          put = put_there d.leaves k d.item d.leaves.told.1;
         }
 
     pub empty_at_subtraction : (v : ℤ) → q ≡ Empty v → {m3 : Holder T} → Named m2 (λ n. BacksLow size seats n m2 m3) → RefusedOut size seats n v m0 m3

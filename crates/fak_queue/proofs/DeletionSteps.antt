@@ -118,7 +118,7 @@ module _ {T : Type 0} (key : Limits) (s : QueueTable T) (r : IsShownQueue key s)
       let p : Phase T = TurnOut r.core.draws_out in
       let new : List (Mark T) = mark n (made.Got it.0) ∷ [] in
       let q = quiet_step key s r id n m at one _ R3 new refl (refl, tt) (apart1 key s r id n m at one p) refl refl (outside key s r id n m at one TicketOut e (λ i j. j)) 48 _ words
-      (TurnOut w) (here1 key s r id n m at one p ∙ ap (λ k. TurnOut k) (sym is)) (m.0.left - 1) (omega (arith, left)) (λ past. count gots (reverse past) ≡ w) (count_reverse gots r.core.past ∙ (sym (K key s r id n m at one).draws_out ∙ sym is)) in
+      (TurnOut w) (here1 key s r id n m at one p ∙ ap (λ k. TurnOut k) (sym is)) (m.0.left - 1) (omega (arith, left)) (λ past. (count gots (reverse past) ≡ w) × (item_at (items_put (reverse past)) w ≡ Some it.0)) (count_reverse gots r.core.past ∙ (sym (K key s r id n m at one).draws_out ∙ sym is), item_past r.core.past w ∙ (ap (item_of r.core.past) is ∙ it.1)) in
       (sight m.0.names (new ++ r.core.past) (TurnOut w) (m.0.left - 1), keeps, tt, q.0, record { item = it.0; leaves = q.1; few = omega (arith, is, few) })
 
   pub turns_out : (k : ℕ) → m.0.phase ≡ Some (TurnOut k) → Step (64 + k % key.size) (λ w. w) (TurnedOut key.size key.seats n k m)

@@ -10,3 +10,7 @@ pub mod Admissions
 pub mod Turning
 pub mod SeatCalls
 pub mod Openings
+pub mod WholeCalls
+pub mod Leaving
+pub mod WholePasts
+pub mod Closing

@@ -129,3 +129,8 @@ sees_item {m = m} {w = w} {new = new} l k x e =
     let was : item_of m.0.seen k ≡ Some x = sym (item_past m.0.seen k) ∙ e in
     let seen : w.0.seen ≡ new ++ (l.sees.between ++ m.0.seen) = seen_is l ∙ ap (λ h. new ++ h) l.sees.is in
     item_past w.0.seen k ∙ (ap (λ h. item_of h k) seen ∙ item_more new (l.sees.between ++ m.0.seen) k x (item_more l.sees.between m.0.seen k x was))
+
+-- the item that stood in the past stands in what is seen after the step
+pub put_there : {T : Type 0} {size seats : ℕ} {m w : Holder T} {new : List (Mark T)} {p : Phase T} {left : ℕ} {carried : List (ℕ × Option T)} {tells : List (Mark T) → Type 0} (l : Leaves (queue_object size seats) m new p left carried tells w) (k : ℕ) (x : T)
+    → item_at (items_put (reverse l.past)) k ≡ Some x → item_at (items_put (reverse w.0.seen)) k ≡ Some x
+put_there {w = w} {new = new} l k x e = item_past w.0.seen k ∙ (ap (λ h. item_of h k) (seen_is l) ∙ item_more new l.past k x (sym (item_past l.past k) ∙ e))

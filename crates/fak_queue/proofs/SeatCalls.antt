@@ -1,5 +1,5 @@
 -- From the parts of a seat's calls to what the calls promise.
-use Rattle.std.proofs.Common.{◌≡◌, ℕ, ◌+◌, ◌-◌, ◌<◌, ℤ, List, [], ◌∷◌, ◌++◌, refl, ap, sym, ◌∙◌, subst, arith, inl, inr, ⊎_elim, Some, Bool, true, false, ◌⊎◌}
+use Rattle.std.proofs.Common.{◌≡◌, ℕ, ◌+◌, ◌-◌, ◌<◌, ℤ, List, [], ◌∷◌, ◌++◌, refl, ap, sym, ◌∙◌, subst, arith, inl, inr, ⊎_elim, Some, Bool, true, false, ◌⊎◌, ◌↔◌}
 use Rattle.std.specs.Prelude.{reverse}
 use Rattle.std.proofs.lemmas.List.{reverse-reverse}
 use Rattle.atomic_table.specs.Seated.{TableId}
@@ -10,9 +10,12 @@ use Rattle.fak_model.specs.declared.queue.Stage.{Stage}
 use Rattle.std.specs.List.{All}
 use Rattle.fak_model.specs.Queue.{queue_rules, IsQueueHistory, puts, gots, Has}
 use Rattle.fak_model.specs.QueuePast.{stage}
-use Rattle.fak_model.specs.Seats.{marks_of}
+use Rattle.fak_model.specs.declared.name_set.NameSet.{NameSet}
+use Rattle.fak_model.specs.Names.{Has as HasName, HasJust}
+use Rattle.fak_model.specs.Seats.{In, marks_of}
 use Rattle.fak_model.specs.Calls.{ObjectId, object_id, SeatInfo, seat_info, Appends}
 use Rattle.fak_model.proofs.QueueBackwards.{count_append}
+use Rattle.fak_model.specs.Tokens.{IsSeatToken}
 use Rattle.fak_model.proofs.RunningCalls.{token_names, token_phase, token_left, token_slots}
 use Rattle.fak_core.specs.declared.queue.phase.Phase.{Phase}
 use Rattle.fak_core.specs.declared.queue.phase.Phase.TheVariants as phase
@@ -152,7 +155,7 @@ module _ {T : Type 0} (key : Limits) {size seats name left : ℕ} {p : Phase T} 
     claims_in some_left part = record { makes = makes part left_less stays (omega (arith, some_left)); ticket = told part left_less stays }
 
     pub claims_out : {k : ℕ} → 0 < left → ClaimedOut table.slots key.seats name k m after → ClaimsOut queue.size k old (New (left - 1))
-    claims_out some_left c = record { item = c.item; makes = makes c.part left_less stays (omega (arith, some_left)); ticket = told c.part left_less stays }
+    claims_out some_left c = record { item = c.item; makes = makes c.part left_less stays (omega (arith, some_left)); ticket = told c.part left_less stays; put = c.put }
 
     -- one of two refusals, neither of which draws a ticket
     module _ {one two : List (Kind T)} {tells : List (Mark T) → List (Mark T) → Type 0} (none : tickets_in (made_by {T = T} name one) ≡ 0) (none' : tickets_in (made_by {T = T} name two) ≡ 0)
@@ -216,3 +219,16 @@ module _ {T : Type 0} (key : Limits) {size seats name left : ℕ} {p : Phase T} 
 
     pub waits_to_take : {k : ℕ} → IsTurnedAwayOut table.slots key.seats name k m after → WaitsToTake queue.size k old (New left)
     waits_to_take w = record { makes = makes w.part left_same stays (omega arith); unfilled = w.unfilled }
+
+-- an idle seat's token
+pub idle_token : {T : Type 0} {size seats name left : ℕ} {p : Phase T} {m : Holder T} {table : TableId} {seat : SeatInfo (Mark T)} → IsQueueSeat size seats name p left m → queue_seat (object_id table seats) name left m ≡ seat → state_of seat ≡ Idle → IsSeatToken seat_of seats name phase.Idle left m
+idle_token {T} {seats = seats} {name = name} {left = left} {p = p} {m = m} {table = table} f seat_is e =
+    let shown : state_of (queue_seat (object_id table seats) name left m) ≡ state_in p = state_shown (object_id table seats) name left m p f.rests in
+    subst (λ (z : Phase T). IsSeatToken seat_of seats name z left m) (idle_phase f.rests (sym shown ∙ (ap state_of seat_is ∙ e))) f.token
+
+-- the set of one seat's name
+pub just_one : (set : NameSet) (names : List ℕ) (name : ℕ) → names ≡ name ∷ [] → ((n : ℕ) → HasName set n ↔ (n ≡ name)) → HasJust set names
+just_one set names name one is n = (
+  (λ h. subst (In n) (sym one) (inl ((is n).0 h))),
+  (λ i. (is n).1 (elim (subst (In n) one i) [ inl e ↦ e | inr z ↦ absurd z ])),
+)

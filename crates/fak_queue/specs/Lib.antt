@@ -4,3 +4,5 @@ pub mod Steps
 pub mod Queues
 pub mod Refusals
 pub mod Parts
+pub mod Left
+pub mod Rests

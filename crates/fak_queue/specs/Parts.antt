@@ -58,6 +58,7 @@ module _ {T : Type 0} (size seats n : ℕ) where
   pub record ClaimedOut (k : ℕ) (m after : Holder T) : Type 0 where
     pub item : T
     pub part : IsPart size seats n (made.ClaimOut ∷ made.Got item ∷ []) (TurnOut k) (m.0.left - 1) (λ first second. count gots second ≡ k) m after
+    pub put : item_at (items_put (reverse after.0.seen)) k ≡ Some item
 
   abbrev pub RefusedOut : ℤ → Holder T → Holder T → Type 0
   RefusedOut l m after =

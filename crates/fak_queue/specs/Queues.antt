@@ -107,11 +107,12 @@ pub record RefusesFull {T : Type 0} (size : ℕ) (upper : ℤ) (old new : SeatIn
 abbrev pub RefusesClosed : {T : Type 0} → ℕ → SeatInfo (Mark T) → SeatInfo (Mark T) → Type 0
 RefusesClosed size old new = Makes size (made.Closed ∷ []) old new ⊎ Makes size (made.LateIn ∷ made.BackIn ∷ []) old new
 
--- a granted deletion: so many Gots stand before its own
+-- a granted deletion: so many Gots stand before its own, and its item is the one that was put under this ticket
 pub record ClaimsOut {T : Type 0} (size k : ℕ) (old new : SeatInfo (Mark T)) : Type 0 where
   pub item : T
   pub makes : Makes size (made.ClaimOut ∷ made.Got item ∷ []) old new
   pub ticket : count gots (before_own 1 old new) ≡ k
+  pub put : item_at (items_put new.seen) k ≡ Some item
 
 -- a deletion that the lower count, as it stood before the first mark, refused
 pub record RefusesEmpty {T : Type 0} (size : ℕ) (lower : ℤ) (old new : SeatInfo (Mark T)) : Type 0 where
@@ -152,3 +153,16 @@ ShutsAs size false old new = ShutsAfter size (λ before. Has made.Close before) 
 pub record IsWorn {T : Type 0} (old new : SeatInfo (Mark T)) : Type 0 where
   pub spent : drawn_by old ≡ old.stint
   pub unchanged : new ≡ old
+
+-- ---- whole calls
+
+-- an insertion: the claim, and the rest of the call
+pub record Inserts {T : Type 0} (size k : ℕ) (x : T) (old new : SeatInfo (Mark T)) : Type 0 where
+  pub makes : Makes size (made.ClaimIn ∷ made.Put x ∷ made.Fill k ∷ made.EndIn ∷ []) old new
+  pub ticket : count puts (before_own 1 old new) ≡ k
+
+-- a deletion, which hands out the value that was put under its ticket
+pub record Deletes {T : Type 0} (size k : ℕ) (x : T) (old new : SeatInfo (Mark T)) : Type 0 where
+  pub makes : Makes size (made.ClaimOut ∷ made.Got x ∷ made.Take k ∷ made.EndOut ∷ []) old new
+  pub ticket : count gots (before_own 1 old new) ≡ k
+  pub put : item_at (items_put new.seen) k ≡ Some x

@@ -122,7 +122,7 @@ module _ {T : Type 0} (size seats n : ℕ) where
   -- the ticket that was drawn is the number of earlier Gots, and the item is that of the Put with this ticket
   pub record DrawsOut (m : Holder T) (found : ℕ) (after : Holder T) : Type 0 where
     pub item : T
-    pub leaves : Leaves (queue_object size seats) m (mark n (made.Got item) ∷ []) (TurnOut found) (m.0.left - 1) m.1 (λ past. count gots (reverse past) ≡ found) after
+    pub leaves : Leaves (queue_object size seats) m (mark n (made.Got item) ∷ []) (TurnOut found) (m.0.left - 1) m.1 (λ past. (count gots (reverse past) ≡ found) × (item_at (items_put (reverse past)) found ≡ Some item)) after
     pub few : found < 2 ^ 62
 
   -- a seat waits with ticket k while its cell was not filled
