@@ -1,5 +1,5 @@
 -- The schedules that are read are in range.
-use Rattle.std.proofs.Common.{◌≡◌, ℕ, ◌≤◌, ◌==◌, Bool, true, false, List, length, codes, Option, Some, None, Result, Ok, Err, sym, subst, if◌then◌else◌, arith}
+use Rattle.std.proofs.Common.{◌≡◌, ℕ, ◌≤◌, ◌==◌, Bool, true, false, List, codes, Option, Some, None, Ok, Err, subst, if◌then◌else◌, arith}
 use Rattle.std.specs.List.{All}
 use Rattle.std.specs.Str.{bytes_eq}
 use Rattle.std.proofs.lemmas.List.Elements.{All-weaker}
@@ -13,7 +13,7 @@ use Rattle.fak_text.specs.ScheduleText.{ScheduleOf, room_op, queue_op, op_named,
 use Rattle.fak_text.specs.Values.{value_or, input_in, number_within, number_at, text_at, value_of_key, number_of_key, elements_of_key, each_from, next_index}
 use Rattle.fak_text.specs.declared.fault.Field.TheVariants as fields
 use Rattle.fak_text.specs.declared.fault.TextFault.{TextFault}
-use Rattle.fak_text.specs.declared.fault.TextFault.TheVariants.{Range, UnknownOp}
+use Rattle.fak_text.specs.declared.fault.TextFault.TheVariants.{Range}
 use Rattle.fak_text.specs.declared.reading.schedule.Op.{Op}
 use Rattle.fak_text.specs.declared.reading.schedule.Op.TheVariants as ops
 use Rattle.fak_text.specs.declared.schedule.Act.{Act}
