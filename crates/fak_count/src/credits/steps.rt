@@ -56,10 +56,10 @@ pub fn observe_step<J: OfCredit>(
 pub fn hear_step<J: OfCredit>(
     shared: &Shared<(), CreditView, CreditKey, CreditLaw>,
     token: &mut Seat<(), CreditView>,
-) -> u64
+)
     requires table { (token.old.table_id ≡ shared.now.table_id) × (shared.now.table_id.words ≡ 31) × (shared.now.key ≡ J.key) }
     ensures same { token.new.table_id ≡ token.old.table_id }
     ensures told { HeardJoin shared.now.key token.old.me token.new.me }
 {
-    shared.load::<Hears<J>>(token, COUNT)
+    shared.load::<Hears<J>>(token, COUNT);
 }

@@ -81,10 +81,10 @@ pub fn release_step<J: OfRoom>(
 pub fn hear_step<J: OfRoom>(
     shared: &Shared<(), RoomView, RoomKey, RoomLaw>,
     token: &mut Seat<(), RoomView>,
-) -> u64
+)
     requires { (token.old.table_id ≡ shared.now.table_id) × (shared.now.table_id.words ≡ 31) × (shared.now.key ≡ J.key) }
     ensures same { token.new.table_id ≡ token.old.table_id }
     ensures told { HeardJoin shared.now.key token.old.me token.new.me }
 {
-    shared.load::<Hears<J>>(token, COUNT)
+    shared.load::<Hears<J>>(token, COUNT);
 }
