@@ -1,17 +1,16 @@
 -- A semaphore's count stays small: each rise is a step that a process had left.
-use Rattle.std.proofs.Common.{◌≡◌, ℕ, zero, suc, ◌+◌, ◌-◌, ◌*◌, ◌<◌, ◌≤◌, ◌==◌, ◌||◌, nat_lt, Bool, true, false, List, [], ◌∷◌, ◌++◌, All, length, map, slice_get, slice_set, slice_index, slice_index_or, Option, Some, None, arith, refl, ap, sym, ◌∙◌, inl, inr, ◌⊎◌, subst}
+use Rattle.std.proofs.Common.{◌≡◌, ℕ, zero, suc, ◌+◌, ◌-◌, ◌*◌, ◌<◌, ◌≤◌, ◌==◌, ◌||◌, nat_lt, Bool, true, false, List, [], ◌∷◌, ◌++◌, All, length, map, slice_get, slice_set, slice_index, slice_index_or, Option, Some, None, arith, refl, ap, inl, inr, ◌⊎◌}
 use Rattle.std.specs.Prelude.{sum_by}
 use Rattle.std.proofs.lemmas.Option.{slice_get_within}
 use Rattle.std.proofs.lemmas.List.{get_or-set_same, get_or-set_other, set_past, get_or_past}
 use Rattle.std.proofs.lemmas.List.Elements.{All-get_or}
 use Rattle.std.proofs.lemmas.List.Sums.{sum_by-cons, sum_by_push, sum_by-set}
-use Rattle.std.proofs.lemmas.Bool.Decides.{nat_tests}
 use Rattle.std.proofs.lemmas.Grind.{get_or_default_zero}
 use borrow.Author.Tests.{ltb-true}
 use Rattle.fak_model.proofs.Deciding.{same_or_not}
 use Rattle.fak_text.specs.Script.{ScriptOf, StepOf, say, yield, down, up, open_file, close_file, stat, spawn, shutdown, steps_of, steps_or_none, IsInRange, IsProgramInRange, limits_of}
 use Rattle.fak_text.specs.Journal.{NoteOf, said, yielded, downed, upped, opened, closed, statted, spawned, no_birth, no_slot, shut_down, Process, new_process, after_note, child_count}
-use Rattle.fak_kernel.specs.ListScheduler.{Turn, Lists, State, next_step, enter_ready, enter_by, go_on, down_by, up_by, spawn_by, child_of, make, go_or_make, turn_by, take_front, step_by, step, steps, opening, begun_from}
+use Rattle.fak_kernel.specs.ListScheduler.{Turn, Lists, State, next_step, enter_ready, enter_by, go_on, down_by, up_by, spawn_by, child_of, make, go_or_make, turn_by, take_front, step_by, steps, opening, begun_from}
 use Rattle.fak_kernel.specs.Files.{open_change, close_change, uses_of}
 use Rattle.fak_kernel.specs.Contexts.{CountsFit}
 use Rattle.fak_kernel.proofs.Ranges.{All-slice_get}
@@ -20,12 +19,15 @@ use Rattle.fak_kernel.proofs.Ranges.{All-slice_get}
 abbrev left_of : ScriptOf → Process → ℕ
 left_of script p = length (steps_of script p.program) - p.position
 
+-- the steps that some processes have left together
 abbrev all_left : ScriptOf → List Process → ℕ
 all_left script ps = sum_by (left_of script) ps
 
+-- those of all sleepers
 abbrev asleep_left : ScriptOf → List (List Process) → ℕ
 asleep_left script sleepers = sum_by (λ ps. all_left script ps) sleepers
 
+-- those of who has the processor
 abbrev turn_left : ScriptOf → Option Turn → ℕ
 turn_left script None = 0
 turn_left script (Some t) = left_of script t.process
@@ -38,9 +40,11 @@ lists_left script s = all_left script s.ready + asleep_left script s.sleepers + 
 abbrev most_count : ℕ
 most_count = 2064000
 
+-- each count and the steps that are left stay below the bound together
 abbrev CountsBelow : ScriptOf → ℕ → Lists → Type 0
 CountsBelow script running s = (n : ℕ) → slice_index s.counts n + (running + lists_left script s) ≤ most_count
 
+-- the same of a state
 abbrev IsBounded : ScriptOf → State → Type 0
 IsBounded script s = CountsBelow script (turn_left script s.running) s.lists
 
@@ -76,6 +80,7 @@ steps-most : (script : ScriptOf) (program : ℕ) (found : Option (List StepOf)) 
 steps-most script program None range is = omega arith
 steps-most script program (Some all) range is = (All-slice_get (λ p. IsProgramInRange (limits_of script) p) script.programs program all range.programs is).0
 
+-- no program of the script has more than 1,000 steps
 child-most : (script : ScriptOf) (program : ℕ) → IsInRange script → length (steps_of script program) ≤ 1000
 child-most script program range = steps-most script program (slice_get script.programs program) range refl
 
@@ -122,6 +127,7 @@ module _ (script : ScriptOf) (s : Lists) (t : Turn) (has : t.process.position < 
   make-bounded range (spawn program) = spawn-bounded range program (nat_lt s.births script.births) s.free_slots refl
   make-bounded range shutdown = goes_on (record s { is_shut = true }) shut_down false same
 
+-- what the process that has the processor does next keeps the bound
 turn-bounded : (script : ScriptOf) (s : Lists) (t : Turn) (next : Option StepOf) → IsInRange script → next_step script t.process ≡ next → CountsBelow script (left_of script t.process) s → IsBounded script (turn_by script s t next)
 turn-bounded script s t None range is below = λ n. omega (arith, below n)
 turn-bounded script s t (Some st) range is below = over (t.has_yielded || (t.made == script.quantum)) where
@@ -132,33 +138,40 @@ turn-bounded script s t (Some st) range is below = over (t.has_yielded || (t.mad
   over true = entered script s t.process s.is_shut 0 (λ n. omega (arith, below n))
   over false = make-bounded script s t has below range st
 
+-- so does who gets the processor
 front-bounded : (script : ScriptOf) (s : Lists) (ready : List Process) → s.ready ≡ ready → CountsBelow script 0 s → IsBounded script (take_front s ready)
 front-bounded script s [] is below = below
 front-bounded script s (first ∷ others) is below = λ n. omega (arith, below n, ap (all_left script) is, sum_by-cons (left_of script) first others)
 
+-- so does each small step
 step-bounded : (script : ScriptOf) (s : Lists) (running : Option Turn) → IsInRange script → IsBounded script (record { running = running; lists = s }) → IsBounded script (step_by script s running)
 step-bounded script s None range below = front-bounded script s s.ready refl below
 step-bounded script s (Some t) range below = turn-bounded script s t (next_step script t.process) range refl below
 
+-- each started process has 1,000 steps at most
 begun-most : (script : ScriptOf) (i : ℕ) (programs : List ℕ) → IsInRange script → all_left script (begun_from i programs) ≤ 1000 * length programs
 begun-most script i [] range = omega arith
 begun-most script i (program ∷ programs) range =
     omega (arith, begun-most script (i + 1) programs range, child-most script program range, sum_by-cons (left_of script) (new_process (i ∷ []) program i) (begun_from (i + 1) programs))
 
+-- nobody sleeps before the first step
 nobody-left : (script : ScriptOf) (starts : List ℕ) → asleep_left script (map (λ _. []) starts) ≡ 0
 nobody-left script [] = refl
 nobody-left script (start ∷ starts) = omega (arith, sum_by-cons (λ ps. all_left script ps) [] (map (λ _. []) starts), nobody-left script starts)
 
+-- a semaphore starts at 1,000,000 at most
 count-start : (starts : List ℕ) (n : ℕ) → All (λ start. start ≤ 1000000) starts → slice_index starts n ≤ 1000000
 count-start starts n all = elim (inside_or_past n (length starts)) [
   | inl inside ↦ All-get_or (λ start. start ≤ 1000000) starts n 0 inside all
   | inr past ↦ omega (arith, get_or_past starts n 0 past)
 ]
 
+-- the bound holds before the first step
 opening-bounded : (script : ScriptOf) → IsInRange script → IsBounded script (opening script)
 opening-bounded script range n =
     omega (arith, count-start script.semaphores n range.semaphores, begun-most script 0 script.start range, nobody-left script script.semaphores, range.start_count, range.slots.1, range.births)
 
+-- it holds in every state that is reached
 bounded : (script : ScriptOf) (n : ℕ) → IsInRange script → IsBounded script (steps n script (opening script))
 bounded script zero range = opening-bounded script range
 bounded script (suc n) range = step-bounded script (steps n script (opening script)).lists (steps n script (opening script)).running range (bounded script n range)

@@ -22,6 +22,7 @@ child_count-least [] = omega arith
 child_count-least (spawned _ ∷ notes) = omega (arith, child_count-least notes)
 child_count-least (_ ∷ notes) = omega (arith, child_count-least notes)
 
+-- a process has no more children than steps made
 pub children-position : (script : ScriptOf) (children : ℕ) (p : Process) → IsContext script children p → children ≤ p.position
 children-position script children p known = omega (arith, known.children_are, known.fits.position, child_count-least p.journal)
 

@@ -1,11 +1,11 @@
 -- The rows of a report, as they are added and sorted.
-use Rattle.std.proofs.Common.{◌≡◌, ◌||◌, Bool, refl, ℕ, ◌+◌, ◌<◌, ◌≤◌, List, [], ◌∷◌, ◌++◌, false, length, map, get_or, ap, sym, ◌∙◌, subst, arith, append_assoc, is_lt, nat_cmp}
+use Rattle.std.proofs.Common.{◌≡◌, ◌||◌, Bool, refl, ◌+◌, ◌<◌, List, [], ◌∷◌, ◌++◌, length, map, get_or, ap, ◌∙◌, arith, append_assoc, nat_cmp}
 use Rattle.std.specs.List.{list_any}
 use Rattle.std.specs.List.Sorted.{IsSortedByKey}
 use Rattle.std.specs.Cmp.Lexicographic.{slice_cmp}
 use Rattle.std.proofs.lemmas.List.{map-append, get_or-map, length-map}
 use Rattle.fak_kernel.specs.declared.report.ProcessRow.{ProcessRow}
-use Rattle.fak_kernel.specs.Report.{RowOf, IsSortedByName}
+use Rattle.fak_kernel.specs.Report.{IsSortedByName}
 use Rattle.fak_kernel.specs.Views.{row_of}
 
 -- one row is added, and the others are still to come
@@ -22,6 +22,7 @@ IsSortedByName-map (r ∷ rs) sorted k d low high =
     let after : get_or (map row_of (r ∷ rs)) (k + 1) d ≡ row_of (get_or (r ∷ rs) (k + 1) r) = get_or-map row_of (r ∷ rs) (k + 1) r d inside in
     rw (before, after) (sorted k r low inside)
 
+-- a test of what the elements are mapped to
 pub list_any-map : {A B : Type 0} (test : B → Bool) (f : A → B) (xs : List A) → list_any test (map f xs) ≡ list_any (λ x. test (f x)) xs
 list_any-map test f [] = refl
 list_any-map test f (x ∷ xs) = ap (λ b. test (f x) || b) (list_any-map test f xs)

@@ -1,5 +1,5 @@
 -- What is known of a process of a run, and of one that sleeps.
-use Rattle.std.specs.Prelude.{◌≡◌, ℕ, ◌-◌, ◌^◌, ◌<◌, ◌≤◌, List, [], Some, All, length, take, slice_index_or}
+use Rattle.std.specs.Prelude.{◌≡◌, ℕ, ◌-◌, ◌^◌, ◌<◌, ◌≤◌, List, [], All, length, take, slice_index_or}
 use Rattle.fak_text.specs.Script.{ScriptOf, down}
 use Rattle.fak_text.specs.Journal.{Process, FitsScript, StandsAt, after_note, child_count, downed}
 use Rattle.fak_kernel.specs.ListScheduler.{Lists, Turn}

@@ -37,6 +37,7 @@ abbrev pub enter_by : Lists → Process → Bool → Lists
 enter_by s p false = record s { ready = s.ready ++ p ∷ [] }
 enter_by s p true = record s { halted = s.halted ++ p ∷ [] }
 
+-- a process becomes ready, or halts
 abbrev pub enter_ready : Lists → Process → Lists
 enter_ready s p = enter_by s p s.is_shut
 
@@ -53,6 +54,7 @@ abbrev pub down_by : Lists → Turn → ℕ → Bool → State
 down_by s t n true = go_on (record s { counts = slice_set s.counts n (slice_index s.counts n - 1) }) t (downed n) false
 down_by s t n false = turn_over (record s { sleepers = slice_set s.sleepers n (slice_index_or s.sleepers n [] ++ t.process ∷ []) })
 
+-- a down of semaphore n
 abbrev pub make_down : Lists → Turn → ℕ → State
 make_down s t n = down_by s t n (nat_lt 0 (slice_index s.counts n))
 
@@ -61,18 +63,23 @@ abbrev pub up_by : Lists → Turn → ℕ → List Process → State
 up_by s t n [] = go_on (record s { counts = slice_set s.counts n (slice_index s.counts n + 1) }) t (upped n) false
 up_by s t n (first ∷ others) = go_on (enter_ready (record s { sleepers = slice_set s.sleepers n others }) (after_note first (downed n))) t (upped n) false
 
+-- an up of semaphore n
 abbrev pub make_up : Lists → Turn → ℕ → State
 make_up s t n = up_by s t n (slice_index_or s.sleepers n [])
 
+-- an open with this change of the file table
 abbrev pub open_by_change : Lists → Turn → ℕ → FileChange → State
 open_by_change s t inode change = go_on (record s { entries = change.entries }) t (opened inode change.entry) false
 
+-- an open of this inode
 abbrev pub make_open : Lists → Turn → ℕ → State
 make_open s t inode = open_by_change s t inode (open_change s.entries inode)
 
+-- a close with this change of the file table
 abbrev pub close_by_change : Lists → Turn → ℕ → FileChange → State
 close_by_change s t inode change = go_on (record s { entries = change.entries }) t (closed inode change.entry) false
 
+-- a close of this inode
 abbrev pub make_close : Lists → Turn → ℕ → State
 make_close s t inode = close_by_change s t inode (close_change s.entries inode)
 
@@ -86,6 +93,7 @@ spawn_by s t program false free = go_on s t no_birth false
 spawn_by s t program true [] = go_on s t no_slot false
 spawn_by s t program true (slot ∷ free) = go_on (enter_ready (record s { births = s.births + 1; free_slots = free }) (child_of t.process program slot)) t (spawned (child_count t.process.journal)) false
 
+-- a spawn of a child that runs this program
 abbrev pub make_spawn : ScriptOf → Lists → Turn → ℕ → State
 make_spawn script s t program = spawn_by s t program (nat_lt s.births script.births) s.free_slots
 
@@ -120,6 +128,7 @@ abbrev pub take_front : Lists → List Process → State
 take_front s [] = turn_over s
 take_front s (first ∷ others) = record { running = Some (record { process = first; made = 0; has_yielded = false }); lists = record s { ready = others } }
 
+-- one small step, by who has the processor
 abbrev pub step_by : ScriptOf → Lists → Option Turn → State
 step_by script s None = take_front s s.ready
 step_by script s (Some t) = turn_by script s t (next_step script t.process)
@@ -133,6 +142,7 @@ abbrev pub steps : ℕ → ScriptOf → State → State
 steps zero script s = s
 steps (suc n) script s = step script (steps n script s)
 
+-- nothing runs and nothing is ready
 abbrev pub IsStill : State → Type 0
 IsStill s = (s.running ≡ None) × (s.lists.ready ≡ [])
 
@@ -160,6 +170,7 @@ first_lists script = record {
   halted = [];
 }
 
+-- the state before the first step
 abbrev pub opening : ScriptOf → State
 opening script = turn_over (first_lists script)
 

@@ -1,5 +1,5 @@
 -- The text of a report.
-use Rattle.std.specs.Prelude.{◌≡◌, ℕ, ◌+◌, ◌==◌, if◌then◌else◌, Bool, true, false, List, [], ◌∷◌, ◌++◌, codes, decimal, count_by}
+use Rattle.std.specs.Prelude.{◌≡◌, ℕ, ◌+◌, ◌==◌, if◌then◌else◌, Bool, List, [], ◌∷◌, ◌++◌, codes, decimal, count_by}
 use Rattle.std.specs.List.{flat_map}
 use Rattle.fak_model.specs.declared.file.FileEntry.{FileEntry}
 use Rattle.fak_text.specs.JournalText.{text_of_name, text_of_journal}
@@ -8,11 +8,13 @@ use Rattle.fak_kernel.specs.declared.report.Outcome.{Outcome}
 use Rattle.fak_kernel.specs.declared.report.Outcome.TheVariants.{Ended, Stuck, Halted}
 use Rattle.fak_kernel.specs.Report.{RowOf, ReportOf, ListSchedulerReports, is_ended, is_stuck, is_halted, exit_status}
 
+-- how an outcome is written
 abbrev pub outcome_name : Outcome → List ℕ
 outcome_name Ended = codes "ended"
 outcome_name Stuck = codes "stuck"
 outcome_name Halted = codes "halted"
 
+-- the line of a row: its name, program, slot and outcome
 abbrev pub line_of_row : RowOf → List ℕ
 line_of_row row = codes "process " ++ text_of_name row.process.name ++ codes " program " ++ decimal row.process.program ++ codes " slot " ++ decimal row.process.slot ++ codes " " ++ outcome_name row.outcome ++ codes "\n"
 
@@ -29,6 +31,7 @@ abbrev pub text_of_entries : ℕ → List FileEntry → List ℕ
 text_of_entries i [] = []
 text_of_entries i (e ∷ es) = text_of_entry i e ++ text_of_entries (i + 1) es
 
+-- how many children were started, of how many that may be
 abbrev pub text_of_births : ReportOf → List ℕ
 text_of_births report = codes "births " ++ decimal report.births ++ codes " of " ++ decimal report.bound ++ codes "\n"
 
@@ -40,6 +43,7 @@ count_of is rows = count_by (λ row. is row.outcome) rows
 abbrev pub text_of_halted : ReportOf → List ℕ
 text_of_halted report = (if report.version == 2 then codes " halted " ++ decimal (count_of is_halted report.rows) else [])
 
+-- how many processes were left how
 abbrev pub text_of_outcomes : ReportOf → List ℕ
 text_of_outcomes report = codes "ended " ++ decimal (count_of is_ended report.rows) ++ codes " stuck " ++ decimal (count_of is_stuck report.rows) ++ text_of_halted report ++ codes "\n"
 

@@ -1,8 +1,8 @@
 //! A process of a run, with its journal.
 
-ghost use Rattle.std.specs.Prelude.{◌≡◌, ℕ, ◌+◌, ◌<◌, ◌≤◌, List, [], ◌∷◌, ◌++◌, length, map, slice_get, Option, Some, None, IfOk, IfErr, IfSome, IfNone};
-ghost use Rattle.fak_text.specs.Script.{ScriptOf, StepOf, IsInRange, IsStepInRange, limits_of, steps_of};
-ghost use Rattle.fak_text.specs.Journal.{NoteOf, Process, FitsScript, StandsAt, new_process, after_note, Allows, births_of, child_count, downed};
+ghost use Rattle.std.specs.Prelude.{◌≡◌, ℕ, ◌+◌, ◌<◌, ◌≤◌, [], ◌∷◌, ◌++◌, length, map, Option, None, IfOk, IfErr, IfSome, IfNone};
+ghost use Rattle.fak_text.specs.Script.{ScriptOf, StepOf, IsStepInRange, limits_of};
+ghost use Rattle.fak_text.specs.Journal.{Process, FitsScript, StandsAt, new_process, after_note, Allows, births_of, child_count};
 ghost use Rattle.fak_text.specs.Views.{step_of, note_of};
 ghost use Rattle.fak_kernel.specs.ListScheduler.{next_step};
 

@@ -1,8 +1,8 @@
 //! A process that sleeps at a semaphore.
 
-ghost use Rattle.std.specs.Prelude.{◌≡◌, Some, IfOk, IfErr};
+ghost use Rattle.std.specs.Prelude.{◌≡◌, IfOk, IfErr};
 ghost use Rattle.fak_text.specs.Script.{down};
-ghost use Rattle.fak_text.specs.Journal.{FitsScript, StandsAt, after_note, downed};
+ghost use Rattle.fak_text.specs.Journal.{StandsAt, after_note, downed};
 
 use crate::context::{Context, Run};
 use crate::fault::Fault;

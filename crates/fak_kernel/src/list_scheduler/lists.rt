@@ -1,9 +1,6 @@
 //! What one processor works on, and who enters and leaves its lists.
 
 ghost use Rattle.std.specs.Prelude.{◌≡◌, ◌↔◌, ◌<◌, ℕ, IsTrue, List, [], ◌∷◌, ◌++◌, IfOk, IfErr, IfSome, MatchOption};
-ghost use Rattle.fak_text.specs.Script.{StepOf, ScriptOf};
-ghost use Rattle.fak_text.specs.Journal.{Allows, child_count, Process};
-ghost use Rattle.fak_text.specs.Views.{note_of};
 ghost use Rattle.fak_kernel.specs.ListScheduler as lists;
 
 use super::files::Files;

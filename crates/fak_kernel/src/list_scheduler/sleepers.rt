@@ -1,6 +1,6 @@
 //! Those who sleep, by semaphore.
 
-ghost use Rattle.std.specs.Prelude.{◌≡◌, ℕ, ◌<◌, List, [], ◌∷◌, ◌++◌, length, map, slice_index_or, slice_set, Some, IfOk, IfErr, IfSome, MatchOption};
+ghost use Rattle.std.specs.Prelude.{◌≡◌, ◌<◌, List, [], ◌∷◌, ◌++◌, length, map, slice_index_or, slice_set, IfOk, IfErr, IfSome, MatchOption};
 ghost use Rattle.fak_text.specs.Script.{down};
 ghost use Rattle.fak_text.specs.Journal.{Process, StandsAt};
 ghost use Rattle.std.specs.List.{flat_map};

@@ -1,9 +1,9 @@
 //! What each step does.
 
-ghost use Rattle.std.specs.Prelude.{◌≡◌, ℕ, ◌+◌, ◌<◌, List, [], ◌∷◌, length, Some, true, false, nat_lt, slice_index, IfOk, IfErr, string_bytes};
-ghost use Rattle.fak_text.specs.Script.{StepOf, ScriptOf, say, yield, down, up, open_file, close_file, stat, spawn, shutdown, IsStepInRange, limits_of};
-ghost use Rattle.fak_text.specs.Journal.{Allows, StandsAt, child_count, Process, said, yielded, downed, upped, opened, closed, statted, spawned, no_birth, no_slot, shut_down};
-ghost use Rattle.fak_text.specs.Views.{note_of, step_of};
+ghost use Rattle.std.specs.Prelude.{◌≡◌, ◌+◌, ◌<◌, length, Some, true, false, IfOk, IfErr, string_bytes};
+ghost use Rattle.fak_text.specs.Script.{say, down, up, open_file, close_file, stat, spawn, IsStepInRange, limits_of};
+ghost use Rattle.fak_text.specs.Journal.{StandsAt, said};
+ghost use Rattle.fak_text.specs.Views.{step_of};
 ghost use Rattle.fak_kernel.specs.ListScheduler as lists;
 ghost use Rattle.fak_kernel.specs.Contexts.{CountsFit, HasStepsLeft};
 

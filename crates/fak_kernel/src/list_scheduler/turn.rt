@@ -1,6 +1,6 @@
 //! The turn of the process that has the processor.
 
-ghost use Rattle.std.specs.Prelude.{◌≡◌, ◌+◌, ◌==◌, ◌||◌, Some, false, IfOk, IfErr};
+ghost use Rattle.std.specs.Prelude.{◌≡◌, ◌+◌, ◌==◌, ◌||◌, false, IfOk, IfErr};
 ghost use Rattle.fak_text.specs.Script.{StepOf};
 ghost use Rattle.fak_text.specs.Journal.{Allows, StandsAt, after_note, child_count};
 ghost use Rattle.fak_text.specs.Views.{note_of};

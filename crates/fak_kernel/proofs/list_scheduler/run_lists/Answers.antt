@@ -1,7 +1,6 @@
-use Rattle.std.proofs.Common.{◌≡◌, suc, ap, ◌∙◌, subst, sym}
-use Rattle.std.specs.Prelude.{None}
+use Rattle.std.proofs.Common.{suc, ap, ◌∙◌, subst, sym}
 use Rattle.fak_text.specs.Script.{IsInRange}
-use Rattle.fak_kernel.specs.ListScheduler.{Lists, State, step, turn_over}
+use Rattle.fak_kernel.specs.ListScheduler.{State, step, turn_over}
 use Rattle.fak_kernel.specs.Contexts.{CountsFit}
 use Rattle.fak_kernel.proofs.Bounds.{CountsFit-steps}
 use Rattle.fak_kernel.proofs.list_scheduler.run_lists.Goals as goal

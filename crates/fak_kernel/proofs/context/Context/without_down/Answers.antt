@@ -1,7 +1,6 @@
-use Rattle.std.proofs.Common.{◌≡◌, ◌∙◌, ◌-◌, ap, sym, subst, map, take, length, refl}
+use Rattle.std.proofs.Common.{◌≡◌, ◌∙◌, ◌-◌, ap, sym, map, take, length, refl}
 use Rattle.std.proofs.lemmas.List.{take-map, length-map}
 use Rattle.fak_text.specs.Views.{note_of}
-use Rattle.fak_kernel.specs.Contexts.{IsAsleep}
 use Rattle.fak_kernel.proofs.Fitting.{IsContext-unnoted}
 use Rattle.fak_kernel.proofs.context.Context.without_down.Goals as goal
 

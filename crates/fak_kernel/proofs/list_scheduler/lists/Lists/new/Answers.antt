@@ -1,4 +1,4 @@
-use Rattle.std.proofs.Common.{◌≡◌, ◌+◌, ◌-◌, ◌≤◌, ◌<◌, ◌∙◌, [], All, ap, sym, subst, arith, rules, length}
+use Rattle.std.proofs.Common.{◌≡◌, ◌-◌, ◌≤◌, ◌<◌, ◌∙◌, [], All, ap, sym, subst, arith, rules, length}
 use Rattle.std.proofs.lemmas.List.{length-map, length-replicate}
 use Rattle.fak_text.specs.Script.{ScriptOf}
 use Rattle.fak_kernel.specs.Files.{free_entry}

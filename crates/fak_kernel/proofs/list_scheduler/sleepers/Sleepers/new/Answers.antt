@@ -1,4 +1,4 @@
-use Rattle.std.proofs.Common.{◌≡◌, ◌∙◌, ◌++◌, ◌∷◌, [], Some, ap, arith, map, sym, subst, take}
+use Rattle.std.proofs.Common.{◌≡◌, ◌∙◌, ◌++◌, ◌∷◌, [], ap, arith, map, sym, subst, take}
 use Rattle.fak_text.specs.Script.{down}
 use Rattle.fak_kernel.specs.Contexts.{WaitAtTheirs}
 use Rattle.fak_text.specs.Journal.{StandsAt}

@@ -1,4 +1,3 @@
-use Rattle.std.proofs.Common.{◌≡◌, Some}
 use Rattle.fak_text.specs.Script.{down}
 use Rattle.fak_text.specs.Journal.{StandsAt}
 use Rattle.fak_kernel.proofs.Waiting.{AllAtTheirs-pop, first_of, pop_at}
