@@ -11,15 +11,12 @@ use Rattle.fak_model.specs.Seats.{marks_of}
 use Rattle.fak_model.specs.Calls.{ObjectId, object_id, seat_info}
 use Rattle.fak_model.specs.Tokens.{IsSeatToken}
 use Rattle.fak_model.proofs.Seats.{begins_self}
-use Rattle.fak_model.proofs.RunningCalls.{appends_then, appends_none, step_appends, step_before}
+use Rattle.fak_model.proofs.RunningCalls.{token_names, appends_then, appends_none, step_appends, step_before}
 use Rattle.fak_files.specs.declared.phase.FilePhase.{FilePhase}
 use Rattle.fak_files.specs.declared.phase.FilePhase.TheVariants.{Idle}
 use Rattle.fak_files.specs.declared.rule.FileLimits.{FileLimits}
 use Rattle.fak_files.specs.Running.{bias, Mine, mark, Steps, CountIs}
 use Rattle.fak_files.specs.SeatTokens.{Makes, Misses, before_steps}
-
-names_are : {name seats : ℕ} {phase : FilePhase} {m : Mine} → IsSeatToken seat_of seats name phase 0 m → m.0.names ≡ name ∷ []
-names_are t = ap (λ (x : Mine). x.0.names) t.me_is
 
 -- some object of so many seats
 abbrev pub some_object : ℕ → ObjectId
@@ -28,11 +25,11 @@ some_object seats = object_id (record { words = 0; slots = 0; views_name = 0; at
 module _ (table : FileLimits) (name : ℕ) where
   -- a load
   pub makes_none : {was phase : FilePhase} {tells : List FileMark → Type 0} {m after : Mine} → IsSeatToken seat_of table.seats name was 0 m → Steps table name m [] phase tells after → Makes table.seats name [] phase m after
-  makes_none token step = record { appends = λ object stint seats. step_appends step.leaves name (names_are token) tt object stint seats; token = step.token }
+  makes_none token step = record { appends = λ object stint seats. step_appends step.leaves name (token_names token) tt object stint seats; token = step.token }
 
   -- a step with one mark
   pub makes_one : {was phase : FilePhase} {tells : List FileMark → Type 0} {m after : Mine} (kind : FileKind) → IsSeatToken seat_of table.seats name was 0 m → Steps table name m (mark name kind ∷ []) phase tells after → Makes table.seats name (kind ∷ []) phase m after
-  makes_one kind token step = record { appends = λ object stint seats. step_appends step.leaves name (names_are token) (refl, tt) object stint seats; token = step.token }
+  makes_one kind token step = record { appends = λ object stint seats. step_appends step.leaves name (token_names token) (refl, tt) object stint seats; token = step.token }
 
   module _ {p q : FilePhase} {a b c : Mine} where
     pub none_then : (kinds : List FileKind) → Makes table.seats name [] p a b → Makes table.seats name kinds q b c → Makes table.seats name kinds q a c
@@ -53,13 +50,13 @@ module _ (table : FileLimits) (name : ℕ) where
       let one = x.appends (some_object table.seats) 0 refl in
       let more = y.appends (some_object table.seats) 0 refl in
       let same : length (marks_of seat_of name (reverse b.0.seen)) ≡ length (marks_of seat_of name (reverse a.0.seen)) + 0 = ap length (one.mine ∙ append-nil (marks_of seat_of name (reverse a.0.seen))) ∙ omega arith in
-      step_before step.leaves name (names_are x.token) refl (length (marks_of seat_of name (reverse a.0.seen)) + 0) same (reverse d.0.seen) more.begins
+      step_before step.leaves name (token_names x.token) refl (length (marks_of seat_of name (reverse a.0.seen)) + 0) same (reverse d.0.seen) more.begins
 
   -- the same where it is the first step and the last
   pub before_first : {was p : FilePhase} {tells : List FileMark → Type 0} {a b : Mine} (kind : FileKind) → IsSeatToken seat_of table.seats name was 0 a → (step : Steps table name a (mark name kind ∷ []) p tells b) → before_steps name a b ≡ reverse step.leaves.past
   before_first {a = a} {b} kind token step =
       let same : length (marks_of seat_of name (reverse a.0.seen)) ≡ length (marks_of seat_of name (reverse a.0.seen)) + 0 = omega arith in
-      step_before step.leaves name (names_are token) refl (length (marks_of seat_of name (reverse a.0.seen)) + 0) same (reverse b.0.seen) (begins_self (reverse b.0.seen))
+      step_before step.leaves name (token_names token) refl (length (marks_of seat_of name (reverse a.0.seen)) + 0) same (reverse b.0.seen) (begins_self (reverse b.0.seen))
 
   -- a claim that its test refuses
   pub misses_test : {was : FilePhase} {a b : Mine} (n found : ℕ) (answer : ℤ) → IsSeatToken seat_of table.seats name was 0 a → Steps table name a (mark name (No n) ∷ []) Idle (CountIs table.seats found) b → pos found ≡ pos bias +ℤ answer → Misses table.seats name n a b answer

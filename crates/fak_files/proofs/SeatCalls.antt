@@ -14,6 +14,7 @@ use Rattle.fak_model.specs.File.{seat_of, kinds_of_call, field, file_rules}
 use Rattle.fak_model.specs.Seats.{In, marks_of}
 use Rattle.fak_model.specs.Calls.{ObjectId, seat_info, Appends}
 use Rattle.fak_model.specs.Tokens.{IsSeatToken}
+use Rattle.fak_model.proofs.RunningCalls.{token_names}
 use Rattle.fak_files.specs.declared.phase.Access.{Access}
 use Rattle.fak_files.specs.declared.phase.Access.TheVariants.{Read, Write}
 use Rattle.fak_files.specs.declared.phase.FilePhase.{FilePhase}
@@ -176,7 +177,7 @@ module _ (object object' : ObjectId) (same : object' ≡ object) (name left : �
       let second = field_loaded x.token table is access i Uses uses two in
       let y = none_made x.token table is two in
       let low : name < table.seats = omega (arith, f.token.below, is) in
-      let among : In name mid.0.names = subst (In name) (sym (ap (λ (z : Mine). z.0.names) x.token.me_is)) (inl refl) in
+      let among : In name mid.0.names = subst (In name) (sym (token_names x.token)) (inl refl) in
       let inode_is : inode ≡ field (version name after.0.seen) i Inode = loaded table name access i Inode inode m mid low first ∙ ap (λ (p : List FileMark). field p i Inode) (sym (stays table name access mid after among second)) in
       let uses_is : uses ≡ field (version name after.0.seen) i Uses = loaded table name access i Uses uses mid after low second in
       let entry : FileEntry = record { inode = inode; uses = uses } in

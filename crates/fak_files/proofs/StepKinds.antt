@@ -20,7 +20,7 @@ use Rattle.fak_model.specs.Tokens.{IsSeatToken}
 use Rattle.fak_model.proofs.Reversing.{reverse_cons, All-reverse}
 use Rattle.fak_model.proofs.RunningSteps.{Advances, stands_now, steps}
 use Rattle.fak_model.proofs.RunningSeats.{hears}
-use Rattle.fak_model.proofs.RunningCalls.{token_after}
+use Rattle.fak_model.proofs.RunningCalls.{token_names, token_phase, token_slots, token_after}
 use Rattle.fak_files.specs.declared.phase.Access.{Access}
 use Rattle.fak_files.specs.declared.phase.Access.TheVariants.{Read, Write}
 use Rattle.fak_files.specs.declared.phase.FilePhase.{FilePhase}
@@ -177,38 +177,28 @@ module _ (key table : FileLimits) (is : key ≡ table) (slots id n : ℕ) (m : M
   named : (i : ℕ) (f : ℕ → ℕ) (then : ℕ → Mine → Type 0) → Allows (IsRunning table) slots id m i f then → Allows (IsRunning key) slots id m i f then
   named i f then allowed = subst (λ (k : FileLimits). Allows (IsRunning k) slots id m i f then) (sym is) allowed
 
-  module _ {phase : FilePhase} (token : IsSeatToken seat_of table.seats n phase 0 m) where
-    names_are : m.0.names ≡ n ∷ []
-    names_are = ap (λ (x : Mine). x.0.names) token.me_is
-
-    phase_is : m.0.phase ≡ Some phase
-    phase_is = ap (λ (x : Mine). x.0.phase) token.me_is
-
-    no_slot : m.1 ≡ []
-    no_slot = ap (λ (x : Mine). x.1) token.me_is
-
   pub tests_allowed : (access : Access) → IsSeatToken seat_of table.seats n Idle 0 m → Allows (IsRunning key) slots id m 0 (λ x. x) (Tested table n access m)
-  tests_allowed access token = named 0 (λ x. x) (Tested table n access m) (λ s r wide at fits. tests_by table s r id n m at (names_are token) (no_slot token) token access (phase_is token) (dec_le (bias + amount_of table.seats access) (slice_index s.words 0)))
+  tests_allowed access token = named 0 (λ x. x) (Tested table n access m) (λ s r wide at fits. tests_by table s r id n m at (token_names token) (token_slots token) token access (token_phase token) (dec_le (bias + amount_of table.seats access) (slice_index s.words 0)))
 
   pub takes_allowed : (access : Access) (amount : ℕ) → amount ≡ amount_of table.seats access → IsSeatToken seat_of table.seats n (Taking access) 0 m → Allows (IsRunning key) slots id m 0 (λ x. (x + (2 ^ 64 - amount)) % 2 ^ 64) (Took table n access m)
   takes_allowed access amount e token = subst (λ (z : ℕ). Allows (IsRunning key) slots id m 0 (λ x. (x + (2 ^ 64 - z)) % 2 ^ 64) (Took table n access m)) (sym e)
-      (named 0 (λ x. (x + (2 ^ 64 - amount_of table.seats access)) % 2 ^ 64) (Took table n access m) (λ s r wide at fits. takes_by table s r id n m at (names_are token) (no_slot token) token access (phase_is token) (dec_le (bias + amount_of table.seats access) (slice_index s.words 0))))
+      (named 0 (λ x. (x + (2 ^ 64 - amount_of table.seats access)) % 2 ^ 64) (Took table n access m) (λ s r wide at fits. takes_by table s r id n m at (token_names token) (token_slots token) token access (token_phase token) (dec_le (bias + amount_of table.seats access) (slice_index s.words 0))))
 
   pub withdraws_allowed : (access : Access) (amount : ℕ) → amount ≡ amount_of table.seats access → IsSeatToken seat_of table.seats n (Backing access) 0 m → Allows (IsRunning key) slots id m 0 (λ x. (x + amount) % 2 ^ 64) (λ _. Withdrew table n access m)
   withdraws_allowed access amount e token = subst (λ (z : ℕ). Allows (IsRunning key) slots id m 0 (λ x. (x + z) % 2 ^ 64) (λ _. Withdrew table n access m)) (sym e)
-      (named 0 (λ x. (x + amount_of table.seats access) % 2 ^ 64) (λ _. Withdrew table n access m) (λ s r wide at fits. withdraws_by table s r id n m at (names_are token) (no_slot token) token access (phase_is token)))
+      (named 0 (λ x. (x + amount_of table.seats access) % 2 ^ 64) (λ _. Withdrew table n access m) (λ s r wide at fits. withdraws_by table s r id n m at (token_names token) (token_slots token) token access (token_phase token)))
 
   pub gives_allowed : (access : Access) (amount : ℕ) → amount ≡ amount_of table.seats access → IsSeatToken seat_of table.seats n (Holding access) 0 m → Allows (IsRunning key) slots id m 0 (λ x. (x + amount) % 2 ^ 64) (λ _. Gave table n m)
   gives_allowed access amount e token = subst (λ (z : ℕ). Allows (IsRunning key) slots id m 0 (λ x. (x + z) % 2 ^ 64) (λ _. Gave table n m)) (sym e)
-      (named 0 (λ x. (x + amount_of table.seats access) % 2 ^ 64) (λ _. Gave table n m) (λ s r wide at fits. gives_by table s r id n m at (names_are token) (no_slot token) token access (phase_is token)))
+      (named 0 (λ x. (x + amount_of table.seats access) % 2 ^ 64) (λ _. Gave table n m) (λ s r wide at fits. gives_by table s r id n m at (token_names token) (token_slots token) token access (token_phase token)))
 
   pub gets_allowed : (access : Access) (i : ℕ) (f : FileField) (place : ℕ) → place ≡ word_of i f → i < table.entries → IsSeatToken seat_of table.seats n (Holding access) 0 m → Allows (IsRunning key) slots id m place (λ x. x) (Got table n access i f m)
   gets_allowed access i f place e low token = subst (λ (z : ℕ). Allows (IsRunning key) slots id m z (λ x. x) (Got table n access i f m)) (sym e)
-      (named (word_of i f) (λ x. x) (Got table n access i f m) (λ s r wide at fits. gets_by table s r id n m at (names_are token) (no_slot token) token access (phase_is token) i f low))
+      (named (word_of i f) (λ x. x) (Got table n access i f m) (λ s r wide at fits. gets_by table s r id n m at (token_names token) (token_slots token) token access (token_phase token) i f low))
 
   pub sets_allowed : (i : ℕ) (f : FileField) (v to place : ℕ) → place ≡ word_of i f → to ≡ v → i < table.entries → IsSeatToken seat_of table.seats n (Holding Write) 0 m → Allows (IsRunning key) slots id m place (λ _. to) (λ _. WasSet table n i f v m)
   sets_allowed i f v to place e same low token = subst (λ (z : ℕ × ℕ). Allows (IsRunning key) slots id m z.0 (λ _. z.1) (λ _. WasSet table n i f v m)) (λ t. (sym e t, sym same t))
-      (named (word_of i f) (λ _. v) (λ _. WasSet table n i f v m) (λ s r wide at fits. sets_by table s r id n m at (names_are token) (no_slot token) token (phase_is token) i f v low))
+      (named (word_of i f) (λ _. v) (λ _. WasSet table n i f v m) (λ s r wide at fits. sets_by table s r id n m at (token_names token) (token_slots token) token (token_phase token) i f v low))
 
   -- the load after a join
   pub compares_allowed : (i : ℕ) → Allows (IsRunning key) slots id m i (λ x. x) (λ _. Compared table m)

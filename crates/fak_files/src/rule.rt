@@ -6,7 +6,7 @@ use fak_model::{FileField, FileMark, View};
 use std::marker::{Brand, PhantomData};
 
 /// What the table is told when it is made.
-#[derive(Clone, Copy, Drop)]
+#[derive(Drop)]
 pub struct FileLimits {
     pub entries: u64,
     pub seats: u64,
