@@ -1,4 +1,4 @@
-//! The program `fak`: replays schedules of atomic steps on rooms and queues.
+//! The program `fak`: replays schedules of atomic steps, judges recorded histories, and runs process scripts.
 #![tactic(auto)]
 
 mod answer;
@@ -9,6 +9,7 @@ mod machine;
 mod process;
 mod replaying;
 mod row;
+mod running;
 mod serving;
 mod stepping;
 
@@ -17,6 +18,7 @@ pub use checking::check;
 pub use command::{Command, command_of};
 pub use fault::MainFault;
 pub use replaying::replay;
+pub use running::run_script;
 pub use serving::serve;
 use std::process::ExitCode;
 

@@ -2,7 +2,7 @@
 use Rattle.std.proofs.Common.{◌≡◌, ℕ, zero, suc, ◌+◌, ◌<◌, List, [], ◌∷◌, ◌++◌, All, length, map, slice_set, slice_index_or, take, get_or, ap, sym, ◌∙◌, subst, arith, refl, inl, inr, drop, Option, Some, None, IfSome}
 use Rattle.std.specs.Option.{option_to_list, MatchOption}
 use Rattle.std.proofs.lemmas.List.{map-set, get_or-map, length-map, get_or-set_same, get_or-set_other, take_more, map-append}
-use Rattle.std.proofs.lemmas.List.Elements.{All-nil, All-push, All-drop, All-pop}
+use Rattle.std.proofs.lemmas.List.Elements.{All-nil, All-push, All-drop}
 use Rattle.std.proofs.Math.Seq.{map-set_same}
 use Rattle.fak_model.proofs.Deciding.{same_or_not}
 
@@ -10,6 +10,7 @@ use Rattle.fak_model.proofs.Deciding.{same_or_not}
 abbrev pub AllAtTheirs : {X : Type 0} → (ℕ → X → Type 0) → List (List X) → Type 0
 AllAtTheirs P xss = (n : ℕ) → All (P n) (slice_index_or xss n [])
 
+-- the list at one place changes
 AllAtTheirs-set : {X : Type 0} (P : ℕ → X → Type 0) (xss : List (List X)) (i : ℕ) (ys : List X) → i < length xss → AllAtTheirs P xss → All (P i) ys → AllAtTheirs P (slice_set xss i ys)
 AllAtTheirs-set P xss i ys lt each here n = elim (same_or_not n i) [
   | inl same ↦ subst (λ (k : ℕ). All (P k) (slice_index_or (slice_set xss i ys) k [])) (sym same) (subst (All (P i)) (sym (get_or-set_same xss i ys [] lt)) here)
@@ -45,6 +46,7 @@ module _ {Q X : Type 0} (P : ℕ → X → Type 0) (f : Q → List X) (qs : List
   first_of None items = tt
   first_of (Some x) items = subst (All (P i)) items here 0 x (omega (arith, ap length items))
 
+-- each list is empty where nobody waits
 none_at : {X : Type 0} (xs : List ℕ) (n : ℕ) → slice_index_or (map {B = List X} (λ _. []) xs) n [] ≡ []
 none_at [] n = refl
 none_at (x ∷ xs) zero = refl
@@ -54,11 +56,13 @@ none_at (x ∷ xs) (suc n) = none_at xs n
 pub AllAtTheirs-none : {X : Type 0} (P : ℕ → X → Type 0) (xs : List ℕ) → AllAtTheirs P (map (λ _. []) xs)
 AllAtTheirs-none P xs n = subst (All (P n)) (sym (none_at xs n)) (All-nil (P n))
 
+-- what a push leaves
 pub push_at : {Q X : Type 0} (f : Q → List X) (qs : List Q) (i : ℕ) (q r : Q) (x : X) → i < length (map f qs) → q ≡ slice_index_or qs i q → f r ≡ f q ++ x ∷ []
     → map f (slice_set qs i r) ≡ slice_set (map f qs) i (slice_index_or (map f qs) i [] ++ x ∷ [])
 push_at f qs i q r x lt is pushed =
     map-set f qs i r ∙ ap (slice_set (map f qs) i) (pushed ∙ ap (λ ys. ys ++ x ∷ []) (at_place f qs i q lt is))
 
+-- a list from which nothing falls is empty
 no_drop : {X : Type 0} (xs : List X) → xs ≡ drop 1 xs → xs ≡ []
 no_drop [] e = refl
 no_drop (x ∷ xs) e = absurd (omega (arith, ap length e))

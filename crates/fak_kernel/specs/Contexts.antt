@@ -1,8 +1,8 @@
 -- What is known of a process of a run, and of one that sleeps.
-use Rattle.std.specs.Prelude.{◌≡◌, ℕ, ◌-◌, ◌^◌, ◌<◌, ◌≤◌, List, [], Some, All, length, take, slice_index_or}
+use Rattle.std.specs.Prelude.{◌≡◌, ℕ, ◌-◌, ◌^◌, ◌<◌, ◌≤◌, List, [], All, length, take, slice_index_or}
 use Rattle.fak_text.specs.Script.{ScriptOf, down}
-use Rattle.fak_text.specs.Journal.{Process, FitsScript, child_count, downed}
-use Rattle.fak_kernel.specs.ListScheduler.{noted, next_step, Lists, Turn}
+use Rattle.fak_text.specs.Journal.{Process, FitsScript, StandsAt, after_note, child_count, downed}
+use Rattle.fak_kernel.specs.ListScheduler.{Lists, Turn}
 
 -- the process fits the script, and has so many children
 pub record IsContext (script : ScriptOf) (children : ℕ) (process : Process) : Type 0 where
@@ -15,12 +15,12 @@ unnoted p = record { name = p.name; program = p.program; slot = p.slot; position
 
 -- a process whose down of this semaphore has its note already, and is not done yet
 pub record IsAsleep (script : ScriptOf) (semaphore : ℕ) (process : Process) : Type 0 where
-  pub has_note : process ≡ noted (unnoted process) (downed semaphore)
-  pub before : next_step script (unnoted process) ≡ Some (down semaphore)
+  pub has_note : process ≡ after_note (unnoted process) (downed semaphore)
+  pub before : StandsAt script (unnoted process) (down semaphore)
 
 -- who sleeps at a semaphore stands before a down of it
 abbrev pub WaitAtTheirs : ScriptOf → List (List Process) → Type 0
-WaitAtTheirs script sleepers = (n : ℕ) → All (λ p. next_step script p ≡ Some (down n)) (slice_index_or sleepers n [])
+WaitAtTheirs script sleepers = (n : ℕ) → All (λ p. StandsAt script p (down n)) (slice_index_or sleepers n [])
 
 -- the lists have the lengths and ranges that the script asks for
 pub record FitLists (script : ScriptOf) (s : Lists) : Type 0 where

@@ -6,6 +6,7 @@ use Rattle.fak_text.specs.Script.{ScriptOf, say, yield, down, up, open_file, clo
 use Rattle.fak_text.specs.Journal.{said, yielded, downed, upped, opened, closed, statted, spawned, no_birth, no_slot, shut_down, Process}
 use Rattle.fak_kernel.specs.ListScheduler.{Lists, EndsIn}
 
+-- the stint where a script names none
 abbrev pub most_stint : ℕ
 most_stint = 1099511627776
 
@@ -23,6 +24,7 @@ ping_pong = record {
   start = 0 ∷ 1 ∷ [];
 }
 
+-- its processes, in the order in which they ended
 abbrev pub ping_pong_ended : List Process
 ping_pong_ended =
     record { name = 1 ∷ []; program = 1; slot = 1; position = 3; journal = downed 1 ∷ said (codes "pong") ∷ upped 0 ∷ [] } ∷
@@ -45,6 +47,7 @@ family = record {
   start = 0 ∷ 1 ∷ [];
 }
 
+-- its processes, in the order in which they ended
 abbrev pub family_ended : List Process
 family_ended =
     record { name = 1 ∷ []; program = 1; slot = 1; position = 6; journal = downed 1 ∷ said (codes "pong") ∷ opened 7 (Some 0) ∷ upped 0 ∷ statted 7 (Some 1) ∷ closed 7 (Some 0) ∷ [] } ∷
@@ -66,6 +69,7 @@ alone = record {
   start = 0 ∷ [];
 }
 
+-- its process, which sleeps
 abbrev pub alone_asleep : List Process
 alone_asleep = record { name = 0 ∷ []; program = 0; slot = 0; position = 1; journal = said (codes "a") ∷ [] } ∷ []
 
@@ -83,12 +87,15 @@ curfew = record {
   start = 0 ∷ 1 ∷ 2 ∷ [];
 }
 
+-- who came to the end
 abbrev pub curfew_ended : List Process
 curfew_ended = record { name = 1 ∷ []; program = 1; slot = 1; position = 2; journal = said (codes "a") ∷ said (codes "b") ∷ [] } ∷ []
 
+-- who was put back after the shutdown
 abbrev pub curfew_halted : List Process
 curfew_halted = record { name = 0 ∷ []; program = 0; slot = 0; position = 2; journal = shut_down ∷ said (codes "last") ∷ [] } ∷ []
 
+-- who sleeps at the end
 abbrev pub curfew_asleep : List Process
 curfew_asleep = record { name = 2 ∷ []; program = 2; slot = 2; position = 0; journal = [] } ∷ []
 
@@ -106,9 +113,11 @@ late_child = record {
   start = 0 ∷ [];
 }
 
+-- the parent
 abbrev pub late_child_ended : List Process
 late_child_ended = record { name = 0 ∷ []; program = 0; slot = 0; position = 2; journal = shut_down ∷ spawned 0 ∷ [] } ∷ []
 
+-- the child
 abbrev pub late_child_halted : List Process
 late_child_halted = record { name = 0 ∷ 0 ∷ []; program = 1; slot = 1; position = 0; journal = [] } ∷ []
 
@@ -126,11 +135,13 @@ reader = record {
   start = 0 ∷ [];
 }
 
+-- its processes, in the order in which they ended
 abbrev pub reader_ended : List Process
 reader_ended =
     record { name = 0 ∷ []; program = 0; slot = 0; position = 5; journal = opened 7 (Some 0) ∷ opened 7 (Some 0) ∷ closed 7 (Some 0) ∷ statted 7 (Some 1) ∷ spawned 0 ∷ [] } ∷
     record { name = 0 ∷ 0 ∷ []; program = 1; slot = 1; position = 1; journal = said (codes "hi") ∷ [] } ∷ []
 
+-- the file is left open
 abbrev pub reader_entries : List FileEntry
 reader_entries = record { inode = 7; uses = 1 } ∷ []
 

@@ -33,6 +33,7 @@ abbrev pub raise_by : List FileEntry → ℕ → FileEntry → Bool → FileChan
 raise_by entries i e true = change_at entries i (record { inode = e.inode; uses = e.uses + 1 })
 raise_by entries i e false = no_change entries
 
+-- one more use of the entry that was found at i
 abbrev pub raise : List FileEntry → ℕ → Option FileEntry → FileChange
 raise entries i None = no_change entries
 raise entries i (Some e) = raise_by entries i e (nat_lt e.uses most_uses)
@@ -51,10 +52,12 @@ open_change entries inode = open_by entries inode (first_entry entries inode) (f
 abbrev pub lowered : FileEntry → FileEntry
 lowered e = record { inode = (if (e.uses - 1) == 0 then 0 else e.inode); uses = e.uses - 1 }
 
+-- one use less of the entry that was found at i
 abbrev pub lower : List FileEntry → ℕ → Option FileEntry → FileChange
 lower entries i None = no_change entries
 lower entries i (Some e) = change_at entries i (lowered e)
 
+-- a close, where the inode has this entry
 abbrev pub close_by : List FileEntry → Option ℕ → FileChange
 close_by entries None = no_change entries
 close_by entries (Some i) = lower entries i (slice_get entries i)

@@ -2,7 +2,7 @@
 use Rattle.std.specs.Prelude.{◌≡◌, ℕ, zero, suc, ◌+◌, ◌-◌, ◌==◌, ◌||◌, Bool, true, false, nat_lt, List, [], ◌∷◌, ◌++◌, length, map, replicate, slice_get, slice_set, slice_index, slice_index_or, Option, Some, None}
 use Rattle.fak_model.specs.declared.file.FileEntry.{FileEntry}
 use Rattle.fak_text.specs.Script.{ScriptOf, StepOf, say, yield, down, up, open_file, close_file, stat, spawn, shutdown, steps_of}
-use Rattle.fak_text.specs.Journal.{NoteOf, said, yielded, downed, upped, opened, closed, statted, spawned, no_birth, no_slot, shut_down, Process, child_count}
+use Rattle.fak_text.specs.Journal.{NoteOf, said, yielded, downed, upped, opened, closed, statted, spawned, no_birth, no_slot, shut_down, Process, new_process, after_note, child_count}
 use Rattle.fak_kernel.specs.Files.{FileChange, free_entry, open_change, close_change, uses_of}
 
 -- a turn: the process that has the processor, how many steps it made in the turn, and whether the last was a yield
@@ -28,10 +28,6 @@ pub record State : Type 0 where
   pub running : Option Turn
   pub lists : Lists
 
--- the step at the position is made, with this note
-abbrev pub noted : Process → NoteOf → Process
-noted p note = record { name = p.name; program = p.program; slot = p.slot; position = p.position + 1; journal = p.journal ++ note ∷ [] }
-
 -- the step at the position of a process, if the program goes on
 abbrev pub next_step : ScriptOf → Process → Option StepOf
 next_step script p = slice_get (steps_of script p.program) p.position
@@ -41,12 +37,13 @@ abbrev pub enter_by : Lists → Process → Bool → Lists
 enter_by s p false = record s { ready = s.ready ++ p ∷ [] }
 enter_by s p true = record s { halted = s.halted ++ p ∷ [] }
 
+-- a process becomes ready, or halts
 abbrev pub enter_ready : Lists → Process → Lists
 enter_ready s p = enter_by s p s.is_shut
 
 -- the turn goes on after a step with this note
 abbrev pub go_on : Lists → Turn → NoteOf → Bool → State
-go_on s t note yields = record { running = Some (record { process = noted t.process note; made = t.made + 1; has_yielded = yields }); lists = s }
+go_on s t note yields = record { running = Some (record { process = after_note t.process note; made = t.made + 1; has_yielded = yields }); lists = s }
 
 -- the turn is over
 abbrev pub turn_over : Lists → State
@@ -57,32 +54,38 @@ abbrev pub down_by : Lists → Turn → ℕ → Bool → State
 down_by s t n true = go_on (record s { counts = slice_set s.counts n (slice_index s.counts n - 1) }) t (downed n) false
 down_by s t n false = turn_over (record s { sleepers = slice_set s.sleepers n (slice_index_or s.sleepers n [] ++ t.process ∷ []) })
 
+-- a down of semaphore n
 abbrev pub make_down : Lists → Turn → ℕ → State
 make_down s t n = down_by s t n (nat_lt 0 (slice_index s.counts n))
 
 -- up: wakes the first sleeper, whose down is then done, else adds 1
 abbrev pub up_by : Lists → Turn → ℕ → List Process → State
 up_by s t n [] = go_on (record s { counts = slice_set s.counts n (slice_index s.counts n + 1) }) t (upped n) false
-up_by s t n (first ∷ others) = go_on (enter_ready (record s { sleepers = slice_set s.sleepers n others }) (noted first (downed n))) t (upped n) false
+up_by s t n (first ∷ others) = go_on (enter_ready (record s { sleepers = slice_set s.sleepers n others }) (after_note first (downed n))) t (upped n) false
 
+-- an up of semaphore n
 abbrev pub make_up : Lists → Turn → ℕ → State
 make_up s t n = up_by s t n (slice_index_or s.sleepers n [])
 
+-- an open with this change of the file table
 abbrev pub open_by_change : Lists → Turn → ℕ → FileChange → State
 open_by_change s t inode change = go_on (record s { entries = change.entries }) t (opened inode change.entry) false
 
+-- an open of this inode
 abbrev pub make_open : Lists → Turn → ℕ → State
 make_open s t inode = open_by_change s t inode (open_change s.entries inode)
 
+-- a close with this change of the file table
 abbrev pub close_by_change : Lists → Turn → ℕ → FileChange → State
 close_by_change s t inode change = go_on (record s { entries = change.entries }) t (closed inode change.entry) false
 
+-- a close of this inode
 abbrev pub make_close : Lists → Turn → ℕ → State
 make_close s t inode = close_by_change s t inode (close_change s.entries inode)
 
 -- the next child of a process
 abbrev pub child_of : Process → ℕ → ℕ → Process
-child_of p program slot = record { name = p.name ++ child_count p.journal ∷ []; program = program; slot = slot; position = 0; journal = [] }
+child_of p program slot = new_process (p.name ++ child_count p.journal ∷ []) program slot
 
 -- spawn: a birth, then a slot; where no slot is free the birth is given back
 abbrev pub spawn_by : Lists → Turn → ℕ → Bool → List ℕ → State
@@ -90,6 +93,7 @@ spawn_by s t program false free = go_on s t no_birth false
 spawn_by s t program true [] = go_on s t no_slot false
 spawn_by s t program true (slot ∷ free) = go_on (enter_ready (record s { births = s.births + 1; free_slots = free }) (child_of t.process program slot)) t (spawned (child_count t.process.journal)) false
 
+-- a spawn of a child that runs this program
 abbrev pub make_spawn : ScriptOf → Lists → Turn → ℕ → State
 make_spawn script s t program = spawn_by s t program (nat_lt s.births script.births) s.free_slots
 
@@ -124,6 +128,7 @@ abbrev pub take_front : Lists → List Process → State
 take_front s [] = turn_over s
 take_front s (first ∷ others) = record { running = Some (record { process = first; made = 0; has_yielded = false }); lists = record s { ready = others } }
 
+-- one small step, by who has the processor
 abbrev pub step_by : ScriptOf → Lists → Option Turn → State
 step_by script s None = take_front s s.ready
 step_by script s (Some t) = turn_by script s t (next_step script t.process)
@@ -137,13 +142,14 @@ abbrev pub steps : ℕ → ScriptOf → State → State
 steps zero script s = s
 steps (suc n) script s = step script (steps n script s)
 
+-- nothing runs and nothing is ready
 abbrev pub IsStill : State → Type 0
 IsStill s = (s.running ≡ None) × (s.lists.ready ≡ [])
 
 -- started process i has the name i and slot i
 abbrev pub begun_from : ℕ → List ℕ → List Process
 begun_from i [] = []
-begun_from i (program ∷ programs) = record { name = i ∷ []; program = program; slot = i; position = 0; journal = [] } ∷ begun_from (i + 1) programs
+begun_from i (program ∷ programs) = new_process (i ∷ []) program i ∷ begun_from (i + 1) programs
 
 -- so many numbers, from i up
 abbrev pub numbers_from : ℕ → ℕ → List ℕ
@@ -164,6 +170,7 @@ first_lists script = record {
   halted = [];
 }
 
+-- the state before the first step
 abbrev pub opening : ScriptOf → State
 opening script = turn_over (first_lists script)
 

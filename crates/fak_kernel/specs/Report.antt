@@ -16,6 +16,7 @@ pub record RowOf : Type 0 where
   pub process : Process
   pub outcome : Outcome
 
+-- a report, with its texts as bytes
 pub record ReportOf : Type 0 where
   pub version : ℕ
   pub rows : List RowOf
@@ -52,9 +53,20 @@ pub record IsReportOf (script : ScriptOf) (s : Lists) (report : ReportOf) : Type
 abbrev pub ListSchedulerReports : ScriptOf → ReportOf → Type 0
 ListSchedulerReports script report = (s : Lists) × EndsIn script s × IsReportOf script s report
 
+-- whether an outcome is that of a process that came to the end of its program
+abbrev pub is_ended : Outcome → Bool
+is_ended Ended = true
+is_ended _ = false
+
+-- whether it is that of one that nobody is left to wake
 abbrev pub is_stuck : Outcome → Bool
 is_stuck Stuck = true
 is_stuck _ = false
+
+-- whether it is that of one that found the ready list shut
+abbrev pub is_halted : Outcome → Bool
+is_halted Halted = true
+is_halted _ = false
 
 -- the program's exit status: 3 where a process is stuck, else 0
 abbrev pub exit_status : ReportOf → ℕ

@@ -1,12 +1,13 @@
 //! A process of a run, with its journal.
 
-ghost use Rattle.std.specs.Prelude.{◌≡◌, ℕ, ◌+◌, ◌<◌, ◌≤◌, List, [], ◌∷◌, ◌++◌, length, map, slice_get, Option, Some, None, IfOk, IfErr, IfSome, IfNone};
-ghost use Rattle.fak_text.specs.Script.{ScriptOf, StepOf, IsInRange, IsStepInRange, limits_of, steps_of};
-ghost use Rattle.fak_text.specs.Journal.{NoteOf, Process, FitsScript, Allows, births_of, child_count, downed};
+ghost use Rattle.std.specs.Prelude.{◌≡◌, ℕ, ◌+◌, ◌<◌, ◌≤◌, [], ◌∷◌, ◌++◌, length, map, Option, None, IfOk, IfErr, IfSome, IfNone};
+ghost use Rattle.fak_text.specs.Script.{ScriptOf, StepOf, IsStepInRange, limits_of};
+ghost use Rattle.fak_text.specs.Journal.{Process, FitsScript, StandsAt, new_process, after_note, Allows, births_of, child_count};
 ghost use Rattle.fak_text.specs.Views.{step_of, note_of};
-ghost use Rattle.fak_kernel.specs.ListScheduler.{noted, next_step};
+ghost use Rattle.fak_kernel.specs.ListScheduler.{next_step};
 
 use crate::fault::Fault;
+use crate::report::{Outcome, ProcessRow};
 use fak_text::{Note, Script, Step};
 use std::alloc::Global;
 use std::marker::{Brand, Model, PhantomData};
@@ -50,7 +51,7 @@ impl<K: Run> Context<K> {
     pub fn new(alloc: Global, name: Vec<u64>, program: u64, slot: u64) -> Context<K>
         requires slot { slot < K.script.slots }
         requires program { program < length K.script.programs }
-        ensures { result ≡ record { name = name.items; program = program; slot = slot; position = 0; journal = [] } }
+        ensures { result ≡ new_process name.items program slot }
     {
         Context {
             name,
@@ -75,7 +76,7 @@ impl<K: Run> Context<K> {
     pub fn next<'s>(&self, script: &'s Script) -> Option<&'s Step>
         requires { script.now ≡ K.script }
         ensures end { IfNone result (next_step K.script self.now ≡ None) }
-        ensures next { IfSome result (λ step. next_step K.script self.now ≡ Some (step_of step.now)) }
+        ensures next { IfSome result (λ step. StandsAt K.script self.now (step_of step.now)) }
         ensures range { IfSome result (λ step. IsStepInRange (limits_of K.script) (step_of step.now)) }
     {
         let _slots = script.slots();
@@ -85,7 +86,7 @@ impl<K: Run> Context<K> {
     fn step_at_position<'s>(&self, script: &'s Script) -> Option<&'s Step>
         requires { script.now ≡ K.script }
         ensures end { IfNone result (next_step K.script self.now ≡ None) }
-        ensures next { IfSome result (λ step. next_step K.script self.now ≡ Some (step_of step.now)) }
+        ensures next { IfSome result (λ step. StandsAt K.script self.now (step_of step.now)) }
     {
         let programs = script.programs();
         let steps = programs[self.program as usize].as_slice();
@@ -112,8 +113,8 @@ impl<K: Run> Context<K> {
 
     /// Goes on behind the step at the position, which was made with this note.
     pub fn note(&mut self, note: Note) -> Result<(), Fault>
-        requires { (step : StepOf) × (next_step K.script self.old ≡ Some step) × Allows K.script.files (child_count self.old.journal) step (note_of note) }
-        ensures noted { IfOk result (λ _. self.new ≡ noted self.old (note_of note)) }
+        requires { (step : StepOf) × StandsAt K.script self.old step × Allows K.script.files (child_count self.old.journal) step (note_of note) }
+        ensures noted { IfOk result (λ _. self.new ≡ after_note self.old (note_of note)) }
         ensures memory { IfErr result (λ fault. fault ≡ Fault.Memory) }
     {
         let births = birth_count(&note);
@@ -138,6 +139,34 @@ impl<K: Run> Context<K> {
         self.journal.truncate(before);
         self.position -= 1;
         self
+    }
+}
+
+impl<K: Run> Context<K> {
+    ghost use Rattle.fak_kernel.specs.Views.{row_of};
+
+    /// The row of a process that was left so.
+    pub fn into_row(self, outcome: Outcome) -> ProcessRow
+        ensures row { row_of result ≡ record { process = self; outcome = outcome } }
+        ensures fits { FitsScript K.script self }
+    {
+        let Context {
+            name,
+            program,
+            slot,
+            position,
+            children: _,
+            journal,
+            of: _,
+        } = self;
+        ProcessRow {
+            name,
+            program,
+            slot,
+            position,
+            outcome,
+            journal,
+        }
     }
 }
 

@@ -3,14 +3,19 @@
 
 mod context;
 mod fault;
-mod laws;
+pub mod laws;
 mod list_scheduler;
 mod report;
+mod rows;
+mod running;
 mod sleeper;
+mod text;
 
-pub use context::{Context, Run};
 pub use fak_model::FileEntry;
 pub use fault::Fault;
-pub use laws::the_list_scheduler_ends_known_scripts;
 pub use report::{Outcome, ProcessRow, Report};
-pub use sleeper::Sleeper;
+pub use running::run_one;
+pub use text::report_text;
+
+#[cfg(test)]
+mod tests;

@@ -1,9 +1,8 @@
 //! A process that sleeps at a semaphore.
 
-ghost use Rattle.std.specs.Prelude.{◌≡◌, Some, IfOk, IfErr};
+ghost use Rattle.std.specs.Prelude.{◌≡◌, IfOk, IfErr};
 ghost use Rattle.fak_text.specs.Script.{down};
-ghost use Rattle.fak_text.specs.Journal.{FitsScript, downed};
-ghost use Rattle.fak_kernel.specs.ListScheduler.{noted, next_step};
+ghost use Rattle.fak_text.specs.Journal.{StandsAt, after_note, downed};
 
 use crate::context::{Context, Run};
 use crate::fault::Fault;
@@ -32,7 +31,7 @@ impl<K: Run> Model for Sleeper<K> {
 impl<K: Run> Sleeper<K> {
     /// A process falls asleep before a down of this semaphore.
     pub fn new(context: Context<K>, semaphore: u64) -> Result<Sleeper<K>, Fault>
-        requires { next_step K.script context ≡ Some (down semaphore) }
+        requires { StandsAt K.script context (down semaphore) }
         ensures same { IfOk result (λ sleeper. sleeper ≡ context) }
         ensures memory { IfErr result (λ fault. fault ≡ Fault.Memory) }
     {
@@ -43,8 +42,8 @@ impl<K: Run> Sleeper<K> {
 
     /// The process wakes, and its down of this semaphore is done.
     pub fn wake(self, semaphore: u64) -> Context<K>
-        requires { next_step K.script self ≡ Some (down semaphore) }
-        ensures { result ≡ noted self (downed semaphore) }
+        requires { StandsAt K.script self (down semaphore) }
+        ensures { result ≡ after_note self (downed semaphore) }
     {
         let Sleeper {
             context,

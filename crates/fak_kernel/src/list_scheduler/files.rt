@@ -2,7 +2,7 @@
 
 ghost use Rattle.std.specs.Prelude.{◌≡◌, ◌<◌, List, length, replicate, slice_get, IfOk, IfErr, IfSome};
 ghost use Rattle.fak_model.specs.declared.file.FileEntry.{FileEntry};
-ghost use Rattle.fak_kernel.specs.Files.{FileChange, open_change, close_change, uses_of, free_entry, first_entry, raise};
+ghost use Rattle.fak_kernel.specs.Files.{open_change, close_change, uses_of, free_entry, first_entry, raise};
 
 use crate::fault::Fault;
 use fak_model::FileEntry;
@@ -72,7 +72,10 @@ impl Files {
     pub fn uses(&self, inode: u64) -> Option<u64>
         ensures { result ≡ uses_of self.now inode }
     {
-        self.entries.iter().find(|e| e.inode == inode).map(|e| e.uses)
+        self.entries
+            .iter()
+            .find(|e| e.inode == inode)
+            .map(|e| e.uses)
     }
 
     /// The entries, in order.

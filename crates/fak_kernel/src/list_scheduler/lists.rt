@@ -1,9 +1,6 @@
 //! What one processor works on, and who enters and leaves its lists.
 
-ghost use Rattle.std.specs.Prelude.{◌≡◌, ◌↔◌, IsTrue, [], IfOk, IfErr};
-ghost use Rattle.fak_text.specs.Script.{StepOf, ScriptOf};
-ghost use Rattle.fak_text.specs.Journal.{Allows, child_count, Process};
-ghost use Rattle.fak_text.specs.Views.{note_of};
+ghost use Rattle.std.specs.Prelude.{◌≡◌, ◌↔◌, ◌<◌, ℕ, IsTrue, List, [], ◌∷◌, ◌++◌, IfOk, IfErr, IfSome, MatchOption};
 ghost use Rattle.fak_kernel.specs.ListScheduler as lists;
 
 use super::files::Files;
@@ -87,8 +84,26 @@ impl<K: Run> Lists<K> {
         ensures ended { IfOk result (λ _. lists.turn_over self.new ≡ lists.end_process self.old context) }
         ensures memory { IfErr result (λ fault. fault ≡ Fault.Memory) }
     {
-        self.free_slots.push_back(context.slot())?;
+        self.free_slot(context.slot())?;
         self.ended.push(context)?;
+        Ok(())
+    }
+
+    /// The front of the free slots is taken.
+    pub fn take_slot(&mut self) -> Option<u64>
+        ensures taken { MatchOption result ((self.old.free_slots ≡ []) × (self.new ≡ self.old)) (λ slot. (others : List ℕ) × (self.old.free_slots ≡ slot ∷ others) × (self.new ≡ record self.old { free_slots = others })) }
+        ensures range { IfSome result (λ slot. slot < K.script.slots) }
+    {
+        self.free_slots.pop_front()
+    }
+
+    /// A slot goes to the back of the free ones.
+    fn free_slot(&mut self, slot: u64) -> Result<(), Fault>
+        requires { slot < K.script.slots }
+        ensures freed { IfOk result (λ _. self.new ≡ record self.old { free_slots = self.old.free_slots ++ slot ∷ [] }) }
+        ensures memory { IfErr result (λ fault. fault ≡ Fault.Memory) }
+    {
+        self.free_slots.push_back(slot)?;
         Ok(())
     }
 

@@ -1,9 +1,9 @@
 //! What each step does.
 
-ghost use Rattle.std.specs.Prelude.{◌≡◌, ℕ, ◌+◌, ◌<◌, List, [], ◌∷◌, length, Some, true, false, nat_lt, slice_index, IfOk, IfErr, string_bytes};
-ghost use Rattle.fak_text.specs.Script.{StepOf, ScriptOf, say, yield, down, up, open_file, close_file, stat, spawn, shutdown, IsStepInRange, limits_of};
-ghost use Rattle.fak_text.specs.Journal.{Allows, child_count, Process, said, yielded, downed, upped, opened, closed, statted, spawned, no_birth, no_slot, shut_down};
-ghost use Rattle.fak_text.specs.Views.{note_of, step_of};
+ghost use Rattle.std.specs.Prelude.{◌≡◌, ◌+◌, ◌<◌, length, Some, true, false, IfOk, IfErr, string_bytes};
+ghost use Rattle.fak_text.specs.Script.{say, down, up, open_file, close_file, stat, spawn, IsStepInRange, limits_of};
+ghost use Rattle.fak_text.specs.Journal.{StandsAt, said};
+ghost use Rattle.fak_text.specs.Views.{step_of};
 ghost use Rattle.fak_kernel.specs.ListScheduler as lists;
 ghost use Rattle.fak_kernel.specs.Contexts.{CountsFit, HasStepsLeft};
 
@@ -17,7 +17,7 @@ use std::alloc::Global;
 
 impl<K: Run> Lists<K> {
     fn say(&mut self, turn: Turn<K>, text: &String) -> Result<Option<Turn<K>>, Fault>
-        requires next { lists.next_step K.script turn.process ≡ Some (say (string_bytes text.now)) }
+        requires next { StandsAt K.script turn.process (say (string_bytes text.now)) }
         requires left { HasStepsLeft K.script turn }
         ensures said { IfOk result (λ running. record { running = running; lists = self.new } ≡ lists.go_on self.old turn (said (string_bytes text.now)) false) }
         ensures memory { IfErr result (λ fault. fault ≡ Fault.Memory) }
@@ -27,7 +27,7 @@ impl<K: Run> Lists<K> {
     }
 
     fn down(&mut self, turn: Turn<K>, n: u64) -> Result<Option<Turn<K>>, Fault>
-        requires next { lists.next_step K.script turn.process ≡ Some (down n) }
+        requires next { StandsAt K.script turn.process (down n) }
         requires range { n < length K.script.semaphores }
         requires left { HasStepsLeft K.script turn }
         ensures made { IfOk result (λ running. record { running = running; lists = self.new } ≡ lists.make_down self.old turn n) }
@@ -39,18 +39,14 @@ impl<K: Run> Lists<K> {
             self.counts[at] = count - 1;
             Ok(Some(turn.noted(Note::Down(n), false)?))
         } else {
-            let Turn {
-                context,
-                made: _,
-                has_yielded: _,
-            } = turn;
-            self.sleepers.push(at, Sleeper::new(context, n)?)?;
+            let sleeper = Sleeper::new(turn.into_context(), n)?;
+            self.sleepers.push(at, sleeper)?;
             Ok(None)
         }
     }
 
     fn up(&mut self, turn: Turn<K>, n: u64) -> Result<Option<Turn<K>>, Fault>
-        requires next { lists.next_step K.script turn.process ≡ Some (up n) }
+        requires next { StandsAt K.script turn.process (up n) }
         requires range { n < length K.script.semaphores }
         requires left { HasStepsLeft K.script turn }
         requires fit { CountsFit self.old }
@@ -69,12 +65,133 @@ impl<K: Run> Lists<K> {
     }
 
     fn open_file(&mut self, turn: Turn<K>, inode: u64) -> Result<Option<Turn<K>>, Fault>
-        requires next { lists.next_step K.script turn.process ≡ Some (open_file inode) }
+        requires next { StandsAt K.script turn.process (open_file inode) }
         requires left { HasStepsLeft K.script turn }
         ensures made { IfOk result (λ running. record { running = running; lists = self.new } ≡ lists.make_open self.old turn inode) }
         ensures memory { IfErr result (λ fault. fault ≡ Fault.Memory) }
     {
         let entry = self.files.open(inode);
         Ok(Some(turn.noted(Note::OpenFile(inode, entry), false)?))
+    }
+
+    fn close_file(&mut self, turn: Turn<K>, inode: u64) -> Result<Option<Turn<K>>, Fault>
+        requires next { StandsAt K.script turn.process (close_file inode) }
+        requires left { HasStepsLeft K.script turn }
+        ensures made { IfOk result (λ running. record { running = running; lists = self.new } ≡ lists.make_close self.old turn inode) }
+        ensures memory { IfErr result (λ fault. fault ≡ Fault.Memory) }
+    {
+        let entry = self.files.close(inode);
+        Ok(Some(turn.noted(Note::CloseFile(inode, entry), false)?))
+    }
+
+    fn stat(&mut self, turn: Turn<K>, inode: u64) -> Result<Option<Turn<K>>, Fault>
+        requires next { StandsAt K.script turn.process (stat inode) }
+        requires left { HasStepsLeft K.script turn }
+        ensures made { IfOk result (λ running. record { running = running; lists = self.new } ≡ lists.make K.script self.old turn (stat inode)) }
+        ensures memory { IfErr result (λ fault. fault ≡ Fault.Memory) }
+    {
+        let uses = self.files.uses(inode);
+        Ok(Some(turn.noted(Note::Stat(inode, uses), false)?))
+    }
+
+    fn spawn(
+        &mut self,
+        alloc: Global,
+        script: &Script,
+        turn: Turn<K>,
+        program: u64,
+    ) -> Result<Option<Turn<K>>, Fault>
+        requires script { script.now ≡ K.script }
+        requires next { StandsAt K.script turn.process (spawn program) }
+        requires range { program < length K.script.programs }
+        requires left { HasStepsLeft K.script turn }
+        ensures made { IfOk result (λ running. record { running = running; lists = self.new } ≡ lists.make_spawn K.script self.old turn program) }
+        ensures memory { IfErr result (λ fault. fault ≡ Fault.Memory) }
+    {
+        if self.births >= script.births() {
+            return Ok(Some(turn.noted(Note::NoBirth, false)?));
+        }
+        let Some(slot) = self.take_slot() else {
+            return Ok(Some(turn.noted(Note::NoSlot, false)?));
+        };
+        let name = turn.context.child_name(alloc)?;
+        let number = turn.context.children();
+        self.births += 1;
+        self.enter_ready(Context::new(alloc, name, program, slot))?;
+        Ok(Some(turn.noted(Note::Spawned(number), false)?))
+    }
+
+    /// The process that has the processor makes this step, and keeps the processor or not.
+    fn make(
+        &mut self,
+        alloc: Global,
+        script: &Script,
+        turn: Turn<K>,
+        step: &Step,
+    ) -> Result<Option<Turn<K>>, Fault>
+        requires script { script.now ≡ K.script }
+        requires next { StandsAt K.script turn.process (step_of step.now) }
+        requires range { IsStepInRange (limits_of K.script) (step_of step.now) }
+        requires left { HasStepsLeft K.script turn }
+        requires fit { CountsFit self.old }
+        ensures made { IfOk result (λ running. record { running = running; lists = self.new } ≡ lists.make K.script self.old turn (step_of step.now)) }
+        ensures memory { IfErr result (λ fault. fault ≡ Fault.Memory) }
+    {
+        match step {
+            Step::Say(text) => self.say(turn, text),
+            Step::Yield => Ok(Some(turn.noted(Note::Yield, true)?)),
+            Step::Down(n) => self.down(turn, *n),
+            Step::Up(n) => self.up(turn, *n),
+            Step::OpenFile(inode) => self.open_file(turn, *inode),
+            Step::CloseFile(inode) => self.close_file(turn, *inode),
+            Step::Stat(inode) => self.stat(turn, *inode),
+            Step::Spawn(program) => self.spawn(alloc, script, turn, *program),
+            Step::Shutdown => {
+                self.is_shut = true;
+                Ok(Some(turn.noted(Note::Shutdown, false)?))
+            }
+        }
+    }
+
+    /// What the processor does next with the process that has it.
+    fn turn(
+        &mut self,
+        alloc: Global,
+        script: &Script,
+        turn: Turn<K>,
+    ) -> Result<Option<Turn<K>>, Fault>
+        requires script { script.now ≡ K.script }
+        requires fit { CountsFit self.old }
+        ensures made { IfOk result (λ running. record { running = running; lists = self.new } ≡ lists.turn_by K.script self.old turn (lists.next_step K.script turn.process)) }
+        ensures memory { IfErr result (λ fault. fault ≡ Fault.Memory) }
+    {
+        match turn.context.next(script) {
+            None => self.end(turn.into_context())?,
+            Some(step) => {
+                if !turn.is_over(script) {
+                    return self.make(alloc, script, turn, step);
+                }
+                self.enter_ready(turn.into_context())?;
+            }
+        }
+        Ok(None)
+    }
+
+    /// One small step of the processor.
+    pub fn step(
+        &mut self,
+        alloc: Global,
+        script: &Script,
+        running: Option<Turn<K>>,
+    ) -> Result<Option<Turn<K>>, Fault>
+        requires script { script.now ≡ K.script }
+        requires fit { CountsFit self.old }
+        ensures made { IfOk result (λ next. record { running = next; lists = self.new } ≡ lists.step K.script (record { running = running; lists = self.old })) }
+        ensures memory { IfErr result (λ fault. fault ≡ Fault.Memory) }
+    {
+        match running {
+            None => Ok(self.take_front()),
+            Some(turn) => self.turn(alloc, script, turn),
+        }
     }
 }

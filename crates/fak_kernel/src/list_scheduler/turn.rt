@@ -1,15 +1,15 @@
 //! The turn of the process that has the processor.
 
-ghost use Rattle.std.specs.Prelude.{◌≡◌, ◌+◌, Some, false, IfOk, IfErr};
+ghost use Rattle.std.specs.Prelude.{◌≡◌, ◌+◌, ◌==◌, ◌||◌, false, IfOk, IfErr};
 ghost use Rattle.fak_text.specs.Script.{StepOf};
-ghost use Rattle.fak_text.specs.Journal.{Allows, child_count};
+ghost use Rattle.fak_text.specs.Journal.{Allows, StandsAt, after_note, child_count};
 ghost use Rattle.fak_text.specs.Views.{note_of};
 ghost use Rattle.fak_kernel.specs.ListScheduler as lists;
 ghost use Rattle.fak_kernel.specs.Contexts.{HasStepsLeft};
 
 use crate::context::{Context, Run};
 use crate::fault::Fault;
-use fak_text::Note;
+use fak_text::{Note, Script};
 use std::marker::Model;
 
 #[derive(Drop)]
@@ -44,9 +44,9 @@ impl<K: Run> Turn<K> {
 
     /// Goes on after a step that was made with this note.
     pub fn noted(self, note: Note, yields: bool) -> Result<Turn<K>, Fault>
-        requires allowed { (step : StepOf) × (lists.next_step K.script self.process ≡ Some step) × Allows K.script.files (child_count self.process.journal) step (note_of note) }
+        requires allowed { (step : StepOf) × StandsAt K.script self.process step × Allows K.script.files (child_count self.process.journal) step (note_of note) }
         requires left { HasStepsLeft K.script self }
-        ensures noted { IfOk result (λ t. t ≡ record { process = lists.noted self.process (note_of note); made = self.made + 1; has_yielded = yields }) }
+        ensures noted { IfOk result (λ t. t ≡ record { process = after_note self.process (note_of note); made = self.made + 1; has_yielded = yields }) }
         ensures memory { IfErr result (λ fault. fault ≡ Fault.Memory) }
     {
         let Turn {
@@ -60,5 +60,26 @@ impl<K: Run> Turn<K> {
             made: made + 1,
             has_yielded: yields,
         })
+    }
+
+    /// The process leaves the processor.
+    pub fn into_context(self) -> Context<K>
+        ensures { result ≡ self.process }
+    {
+        let Turn {
+            context,
+            made: _,
+            has_yielded: _,
+        } = self;
+        context
+    }
+
+    /// The turn is over: as many steps were made as a turn has, or the last one was a yield.
+    pub fn is_over(&self, script: &Script) -> bool
+        requires { script.now ≡ K.script }
+        ensures over { result ≡ (self.now.has_yielded || (self.now.made == K.script.quantum)) }
+        ensures left { result ≡ false → HasStepsLeft K.script self.now }
+    {
+        self.has_yielded || self.made == script.quantum()
     }
 }

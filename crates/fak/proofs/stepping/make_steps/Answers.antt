@@ -1,6 +1,6 @@
-use Rattle.std.proofs.Common.{◌≡◌, ◌++◌, ◌+◌, ◌-◌, ◌∙◌, List, ap, sym}
+use Rattle.std.proofs.Common.{◌++◌, ◌+◌, ◌-◌, ◌∙◌, ap, sym}
 use Rattle.std.specs.Prelude.{replicate}
-use Rattle.fak.specs.Replay.{Action, rows_from, steps, text_of_rows}
+use Rattle.fak.specs.Replay.{rows_from, steps, text_of_rows}
 use Rattle.fak.proofs.Replays.{row_appended, steps_left}
 use Rattle.fak.proofs.stepping.make_steps.Goals as goal
 

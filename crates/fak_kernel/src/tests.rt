@@ -1,0 +1,5 @@
+//! What no contract says: that the definitions are those of the formats, by scripts whose reports are known, and that
+//! a run with ample memory answers.
+
+mod scripts;
+mod texts;
