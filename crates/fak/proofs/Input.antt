@@ -1,18 +1,20 @@
 -- The front of an input that comes in pieces.
-use Rattle.std.proofs.Common.{◌≡◌, ℕ, ◌+◌, ◌-◌, ◌<◌, ◌≤◌, Bool, true, false, min, List, [], ◌∷◌, ◌++◌, length, take, Option, Some, None, Result, Ok, Err, IfSome, refl, sym, ap, ◌∙◌, append_assoc, subst, arith}
-use Rattle.std.proofs.Math.Seq.{take-append-add, take-append_seam, take-length}
-use Rattle.std.proofs.lemmas.List.{take-append-le, take_min, length-take, length-take-le, take_all, append-nil}
-use Rattle.std.proofs.lemmas.Bool.{ltb-true, ltb-false, lt-ltb, le-ltb}
+use Rattle.std.proofs.Common.{◌≡◌, ℕ, ◌+◌, ◌-◌, ◌<◌, ◌≤◌, Bool, true, false, min, List, [], ◌++◌, length, take, Option, Some, None, Result, Ok, Err, IfSome, refl, sym, ap, ◌∙◌, append_assoc, subst, arith}
+use Rattle.std.proofs.Math.Seq.{take-append-add}
+use Rattle.std.proofs.lemmas.List.{take-append-le, take_min, length-take-le, take_all, append-nil}
+use Rattle.std.proofs.lemmas.Bool.{ltb-true, ltb-false, lt-ltb}
 use Rattle.std.proofs.Math.Dec.{ltb}
-use Rattle.std.specs.Io.KnownBytes.{Consumes, Appends, IsAtEnd}
+use Rattle.std.specs.Io.KnownBytes.{Consumes, IsAtEnd}
+use Rattle.fak_text.specs.HistoryText.{history_from}
 use Rattle.fak_text.specs.ScheduleText.{schedule_from}
+use Rattle.fak_text.specs.ScriptText.{script_from}
 use Rattle.fak_text.specs.Values.{input_in}
 use Rattle.fak.specs.declared.command.Command.{Command}
 use Rattle.fak.specs.declared.command.Command.TheVariants.{Replay, Check, Run}
 use Rattle.fak.specs.declared.fault.MainFault.{MainFault}
 use Rattle.fak.specs.declared.fault.MainFault.TheVariants as faults
 use Rattle.fak_text.specs.Gives.{◌>>=◌}
-use Rattle.fak.specs.Answers.{Reply, FailsBy, IsReply, replay_reply, most_kept}
+use Rattle.fak.specs.Answers.{Reply, FailsBy, IsCheckReply, IsReply, IsRunReply, replay_reply, most_kept}
 
 cut : (m : ℕ) (input chunk kept : List ℕ) → kept ≡ take m input → (b : Bool) → ltb m (length input) ≡ b
     → kept ++ take (min (m - min (length kept) m) (length chunk)) chunk ≡ take m (input ++ chunk)
@@ -78,8 +80,8 @@ front_read input false h =
 
 -- the front that is kept has the replies of the whole
 of_front : (command : Command) (input : List ℕ) (reply : Result Reply MainFault) → IsReply command (take most_kept input) reply → IsReply command input reply
-of_front Check input reply is = is
-of_front (Run n) input reply is = is
+of_front Check input reply is = subst (λ value. IsCheckReply (value >>= history_from) reply) (front_read input (ltb 1048576 (length input)) refl) is
+of_front (Run n) input reply is = subst (λ value. IsRunReply n (value >>= script_from) reply) (front_read input (ltb 1048576 (length input)) refl) is
 of_front Replay input reply is = subst (λ value. reply ≡ replay_reply (value >>= schedule_from)) (front_read input (ltb 1048576 (length input)) refl) is
 
 pub serves : (read : Option (List ℕ)) (command : Command) (kept : List ℕ) (r : Reply) (P : List ℕ → Type 0)
@@ -93,6 +95,7 @@ fault_of_front command kept input faults.Memory k f = tt
 fault_of_front command kept input faults.Read k f = tt
 fault_of_front command kept input faults.Write k f = tt
 fault_of_front command kept input faults.Usage k f = of_front command input (Err faults.Usage) (subst (λ bytes. IsReply command bytes (Err faults.Usage)) k f)
+fault_of_front command kept input (faults.Kernel e) k f = of_front command input (Err (faults.Kernel e)) (subst (λ bytes. IsReply command bytes (Err (faults.Kernel e))) k f)
 fault_of_front command kept input (faults.Text e) k f = of_front command input (Err (faults.Text e)) (subst (λ bytes. IsReply command bytes (Err (faults.Text e))) k f)
 
 pub fails : (read : Option (List ℕ)) (command : Command) (kept : List ℕ) (fault : MainFault)

@@ -1,11 +1,18 @@
 -- What the program answers to an input.
-use Rattle.std.specs.Prelude.{◌≡◌, ℕ, List, Result, Ok, Err}
+use Rattle.std.specs.Prelude.{◌≡◌, ◌≢◌, ◌⊎◌, ℕ, ◌++◌, ◌∷◌, [], codes, decimal, List, Result, Ok, Err}
+use Rattle.fak_model.specs.Checker.{FirstFault}
+use Rattle.fak_model.specs.Queue.{IsQueueHistory}
+use Rattle.fak_kernel.specs.ReportText.{ListSchedulerPrints}
+use Rattle.fak_kernel.specs.declared.fault.Fault.TheVariants.{BadProcessors}
+use Rattle.fak_text.specs.Script.{ScriptOf}
+use Rattle.fak_text.specs.ScriptText.{script_in}
+use Rattle.fak_text.specs.HistoryText.{HistoryOf, history_in}
 use Rattle.fak_text.specs.declared.fault.TextFault.{TextFault}
 use Rattle.fak.specs.declared.answer.Answer.{Answer}
 use Rattle.fak.specs.declared.command.Command.{Command}
 use Rattle.fak.specs.declared.command.Command.TheVariants.{Replay, Check, Run}
 use Rattle.fak.specs.declared.fault.MainFault.{MainFault}
-use Rattle.fak.specs.declared.fault.MainFault.TheVariants.{Usage, Text, Memory, Read, Write}
+use Rattle.fak.specs.declared.fault.MainFault.TheVariants.{Usage, Text, Kernel, Memory, Read, Write}
 use Rattle.fak_text.specs.ScheduleText.{ScheduleOf, schedule_in}
 use Rattle.fak.specs.Faults.{fault_of}
 use Rattle.fak.specs.Replay.{replay_of}
@@ -22,11 +29,33 @@ abbrev pub replay_reply : Result ScheduleOf TextFault → Result Reply MainFault
 replay_reply (Ok schedule) = Ok (0, replay_of schedule)
 replay_reply (Err fault) = Err (fault_of fault)
 
+-- the verdict on a history: it is legal, or this is its first fault
+abbrev pub IsVerdict : HistoryOf → Result Reply MainFault → Type 0
+IsVerdict history reply =
+    (IsQueueHistory history.size history.marks × (reply ≡ Ok (0, codes "legal" ++ 10 ∷ [])))
+    ⊎ ((i : ℕ) × FirstFault history.size history.marks i × (reply ≡ Ok (3, codes "fault at " ++ decimal i ++ 10 ∷ [])))
+
+-- the reply of `check` to what was read
+abbrev pub IsCheckReply : Result HistoryOf TextFault → Result Reply MainFault → Type 0
+IsCheckReply (Ok history) reply = IsVerdict history reply
+IsCheckReply (Err fault) reply = reply ≡ Err (fault_of fault)
+
+-- the reply of `run` to the script that was read: on one processor, the list scheduler's report
+abbrev pub IsRunOf : ℕ → ScriptOf → Result Reply MainFault → Type 0
+IsRunOf processors script reply =
+    ((processors ≡ 1) × (text : List ℕ) × (status : ℕ) × ListSchedulerPrints script text status × (reply ≡ Ok (status, text)))
+    ⊎ ((processors ≢ 1) × (reply ≡ Err (Kernel BadProcessors)))
+
+-- the reply of `run` to what was read
+abbrev pub IsRunReply : ℕ → Result ScriptOf TextFault → Result Reply MainFault → Type 0
+IsRunReply processors (Ok script) reply = IsRunOf processors script reply
+IsRunReply processors (Err fault) reply = reply ≡ Err (fault_of fault)
+
 -- the reply to a command on an input
 abbrev pub IsReply : Command → List ℕ → Result Reply MainFault → Type 0
 IsReply Replay input reply = reply ≡ replay_reply (schedule_in input)
-IsReply Check input reply = reply ≡ Err Usage
-IsReply (Run n) input reply = reply ≡ Err Usage
+IsReply Check input reply = IsCheckReply (history_in input) reply
+IsReply (Run processors) input reply = IsRunReply processors (script_in input) reply
 
 -- the fault is the one that the replies have, unless memory or a device failed
 abbrev pub FailsBy : (Result Reply MainFault → Type 0) → MainFault → Type 0
@@ -35,6 +64,7 @@ FailsBy Replies Read = Unit {0}
 FailsBy Replies Write = Unit {0}
 FailsBy Replies Usage = Replies (Err Usage)
 FailsBy Replies (Text fault) = Replies (Err (Text fault))
+FailsBy Replies (Kernel fault) = Replies (Err (Kernel fault))
 
 -- the answer is a reply, or the fault is one, or there was no memory
 abbrev pub GivesAnswer : (Result Reply MainFault → Type 0) → Result Answer MainFault → Type 0

@@ -1,22 +1,11 @@
 -- What a command line asks for, as `clap` matches its words.
-use Rattle.std.specs.Prelude.{◌≡◌, ◌≤◌, ◌⊎◌, ℕ, codes, List, Option, Some, None, true}
-use Rattle.std.specs.Str.Parse.{IsNumeral, digits_value, without_leading_plus}
-use Rattle.clap.specs.Words.{App, Row, Rule, Text, new_app, new_rule, one_of, subcommand_of, with_rule, with_subcommand}
+use Rattle.std.specs.Prelude.{◌≡◌, ◌⊎◌, codes, List, Option, Some, true}
+use Rattle.clap.specs.Words.{App, Row, Text, new_app, subcommand_of, with_subcommand}
 use Rattle.clap.specs.Simple.{on_top}
-use Rattle.clap.specs.declared.builder.action.ArgAction.TheVariants.{Set}
-use Rattle.clap.specs.declared.builder.value_parser.ValueParser.TheVariants as parsers
 use Rattle.fak.specs.declared.command.Command.{Command}
 use Rattle.fak.specs.declared.command.Command.TheVariants.{Replay, Check, Run}
 use Rattle.fak.specs.declared.fault.MainFault.{MainFault}
 use Rattle.fak.specs.declared.fault.MainFault.TheVariants.{Usage, Memory}
-
--- the option of `fak run`
-abbrev pub processors_rule : Rule
-processors_rule = record (new_rule (codes "processors")) {
-  long = Some (codes "processors");
-  action = Some Set;
-  parser = Some (parsers.Unsigned 1 8);
-}
 
 -- the program's command line: three subcommands, and no word for help or the version
 abbrev pub bare_line : App
@@ -34,18 +23,13 @@ command_line =
     with_subcommand bare_line
     (new_app (codes "replay")).top)
     (new_app (codes "check")).top)
-    (with_rule (new_app (codes "run")) processors_rule).top
-
--- the number that stands after `--processors`, 1 where it doesn't stand
-abbrev pub IsNumberOf : Option Text → ℕ → Type 0
-IsNumberOf None n = n ≡ 1
-IsNumberOf (Some text) n = IsNumeral 10 (without_leading_plus text) × (n ≡ digits_value 10 (without_leading_plus text))
+    (new_app (codes "run")).top
 
 -- a subcommand, by its name and what `clap` matched below it, is this command
 abbrev pub Means : Option (Text × List Row) → Command → Type 0
 Means found Replay = (rows : List Row) × (found ≡ Some (codes "replay", rows))
 Means found Check = (rows : List Row) × (found ≡ Some (codes "check", rows))
-Means found (Run n) = (rows : List Row) × (found ≡ Some (codes "run", rows)) × IsNumberOf (one_of (codes "processors") rows) n × (1 ≤ n) × (n ≤ 8)
+Means found (Run n) = (rows : List Row) × (found ≡ Some (codes "run", rows)) × (n ≡ 1)
 
 -- the words ask for this command
 abbrev pub Asks : List Text → Command → Type 0

@@ -1,13 +1,12 @@
 //! The commands, and the words that ask for them.
 
-ghost use Rattle.std.specs.Prelude.{◌≡◌, false, map, string_bytes, IfErr, IfOk, IfSome};
-ghost use Rattle.clap.specs.Words.{app_of, rule_of, subcommand_rows_of};
-ghost use Rattle.fak.specs.Commands.{Asks, IsOfWords, Means, command_line, processors_rule};
+ghost use Rattle.std.specs.Prelude.{◌≡◌, map, string_bytes, IfErr, IfOk, IfSome};
+ghost use Rattle.clap.specs.Words.{app_of, subcommand_rows_of};
+ghost use Rattle.fak.specs.Commands.{Asks, IsOfWords, Means, command_line};
 
 use crate::fault::MainFault;
-use clap::builder::ValueParser;
+use clap::ArgMatches;
 use clap::error::ErrorKind;
-use clap::{Arg, ArgAction, ArgMatches};
 use std::alloc::{AllocError, Global};
 
 /// What the program is asked to do.
@@ -17,26 +16,14 @@ pub enum Command {
     Replay,
     /// Judge a recorded history of a queue.
     Check,
-    /// Run a script of processes on so many processors, 1 to 8.
+    /// Run a script of processes on so many processors.
     Run(u64),
-}
-
-/// The option `--processors N`.
-fn processors_argument<'a>(alloc: Global) -> Arg<'a>
-    ensures rule { rule_of result ≡ processors_rule }
-    ensures local { result.global ≡ false }
-{
-    Arg::new(alloc, "processors")
-        .long("processors")
-        .action(ArgAction::Set)
-        .value_parser(ValueParser::unsigned(1, 8))
 }
 
 /// The grammar of the command line, which asks for neither help nor version.
 fn grammar<'a>(alloc: Global) -> Result<clap::Command<'a>, AllocError>
     ensures { IfOk result (λ command. app_of command ≡ command_line) }
 {
-    let run = clap::Command::new(alloc, "run").arg(processors_argument(alloc))?;
     clap::Command::new(alloc, "fak")
         .disable_help_flag(true)
         .disable_help_subcommand(true)
@@ -44,7 +31,7 @@ fn grammar<'a>(alloc: Global) -> Result<clap::Command<'a>, AllocError>
         .subcommand_required(true)
         .subcommand(clap::Command::new(alloc, "replay"))?
         .subcommand(clap::Command::new(alloc, "check"))?
-        .subcommand(run)
+        .subcommand(clap::Command::new(alloc, "run"))
 }
 
 /// The command that the subcommand of a match is.
@@ -54,11 +41,7 @@ fn command_from(matches: &ArgMatches) -> Option<Command>
     match matches.subcommand() {
         Some(("replay", _)) => Some(Command::Replay),
         Some(("check", _)) => Some(Command::Check),
-        Some(("run", options)) => match options.try_get_one::<u64>("processors") {
-            Ok(None) => Some(Command::Run(1)),
-            Ok(Some(n)) if 1 <= n && n <= 8 => Some(Command::Run(n)),
-            _ => None,
-        },
+        Some(("run", _)) => Some(Command::Run(1)),
         _ => None,
     }
 }

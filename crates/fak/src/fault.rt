@@ -1,9 +1,10 @@
 //! Why the program gave no answer.
 
 ghost use Rattle.std.specs.Prelude.{◌≡◌};
-ghost use Rattle.fak.specs.Faults.{fault_of, status_of};
+ghost use Rattle.fak.specs.Faults.{fault_of, fault_of_run, status_of};
 ghost use Rattle.fak.specs.declared.fault.MainFault.TheVariants.{Memory};
 
+use fak_kernel::Fault;
 use fak_text::TextFault;
 use std::alloc::{AllocError, AllocFailed};
 use thiserror::Error;
@@ -17,6 +18,9 @@ pub enum MainFault {
     /// The input is at fault.
     #[error(transparent)]
     Text(TextFault),
+    /// The run of a script failed.
+    #[error(transparent)]
+    Kernel(Fault),
     /// There was no memory.
     #[error("fak: out of memory")]
     Memory,
@@ -55,14 +59,25 @@ impl From<TextFault> for MainFault {
     }
 }
 
+impl From<Fault> for MainFault {
+    ghost from_gives = { λ fault e. e ≡ fault_of_run fault };
+
+    fn from(fault: Fault) -> MainFault {
+        match fault {
+            Fault::Memory => MainFault::Memory,
+            fault => MainFault::Kernel(fault),
+        }
+    }
+}
+
 impl MainFault {
     /// The program's exit status: 2 for bad input or usage, 1 for what the program lacked.
     pub fn status(&self) -> u8
         ensures { result ≡ status_of self.now }
     {
         match self {
-            MainFault::Usage | MainFault::Text(_) => 2,
-            MainFault::Memory | MainFault::Read | MainFault::Write => 1,
+            MainFault::Usage | MainFault::Text(_) | MainFault::Kernel(Fault::BadProcessors) => 2,
+            _ => 1,
         }
     }
 }

@@ -1,9 +1,10 @@
 //! The core that a schedule runs.
 
-use fak_core::RoomCore;
+use fak_core::{QueueCore, RoomCore};
 
 /// The core that a schedule runs.
 #[derive(Drop)]
 pub enum Machine {
     Room(RoomCore),
+    Queue(QueueCore),
 }

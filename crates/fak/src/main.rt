@@ -1,20 +1,24 @@
-//! The program `fak`: replays schedules of atomic steps on rooms and queues.
+//! The program `fak`: replays schedules of atomic steps, judges recorded histories, and runs process scripts.
 #![tactic(auto)]
 
 mod answer;
+mod checking;
 mod command;
 mod fault;
 mod machine;
 mod process;
 mod replaying;
 mod row;
+mod running;
 mod serving;
 mod stepping;
 
 pub use answer::Answer;
+pub use checking::check;
 pub use command::{Command, command_of};
 pub use fault::MainFault;
 pub use replaying::replay;
+pub use running::run_script;
 pub use serving::serve;
 use std::process::ExitCode;
 

@@ -11,7 +11,7 @@ use crate::answer::Answer;
 use crate::fault::MainFault;
 use crate::machine::Machine;
 use crate::stepping::trace_of;
-use fak_core::RoomCore;
+use fak_core::{QueueCore, RoomCore};
 use fak_text::{Object, read_schedule};
 use std::alloc::Global;
 
@@ -22,16 +22,11 @@ fn new_machine(alloc: Global, object: Object, seats: u64) -> Result<Machine, Mai
     ensures ok { IfOk result (λ machine. machine ≡ machine_of object seats) }
     ensures err { IfErr result (λ fault. fault ≡ Memory) }
 {
-    match object {
-        Object::Room(bound) => match RoomCore::new(alloc, bound, seats) {
-            Ok(core) => Ok(Machine::Room(core)),
-            Err(_) => Err(MainFault::Memory),
-        },
-        Object::Queue(size) => match RoomCore::new(alloc, size, seats) {
-            Ok(core) => Ok(Machine::Room(core)),
-            Err(_) => Err(MainFault::Memory),
-        },
-    }
+    let machine = match object {
+        Object::Room(bound) => RoomCore::new(alloc, bound, seats).map(Machine::Room),
+        Object::Queue(size) => QueueCore::new(alloc, size, seats).map(Machine::Queue),
+    };
+    machine.map_err(|_| MainFault::Memory)
 }
 
 /// Replays the schedule that the input is: the line of each atomic step, and of each event that the object refuses,

@@ -6,9 +6,11 @@ ghost use Rattle.fak.specs.Answers.{FailsBy, GivesAnswer, IsReply, most_kept};
 ghost use Rattle.fak.specs.declared.fault.MainFault.TheVariants as faults;
 
 use crate::answer::Answer;
+use crate::checking::check;
 use crate::command::Command;
 use crate::fault::MainFault;
 use crate::replaying::replay;
+use crate::running::run_script;
 use std::alloc::Global;
 use std::io::{Read, Write};
 use std::sync::Wait;
@@ -49,12 +51,18 @@ fn read_input<R: Read>(alloc: Global, reader: &mut R) -> Result<Vec<u8>, MainFau
 }
 
 /// The answer of a command to an input.
-fn answer_of(alloc: Global, command: Command, input: &[u8]) -> Result<Answer, MainFault>
+fn answer_of<R: Wait>(
+    rt: &R,
+    alloc: Global,
+    command: Command,
+    input: &[u8],
+) -> Result<Answer, MainFault>
     ensures { GivesAnswer (IsReply command input.now) result }
 {
     match command {
         Command::Replay => replay(alloc, input),
-        Command::Check | Command::Run(_) => Err(MainFault::Usage),
+        Command::Check => check(alloc, input),
+        Command::Run(processors) => run_script(rt, alloc, input, processors),
     }
 }
 
@@ -87,7 +95,7 @@ pub fn serve<R: Read, W: Write>(
     ensures untouched { IfErr result (λ e. e ≢ faults.Write → Keeps (W.contents writer.old) (W.contents writer.new)) }
 {
     let input = read_input(alloc, reader)?;
-    let answer = answer_of(alloc, command, &input)?;
+    let answer = answer_of(rt, alloc, command, &input)?;
     write_text(writer, &answer.text)?;
     Ok(answer.status)
 }

@@ -1,17 +1,29 @@
 //! The events of a schedule, made one after the other on its core.
 
-ghost use Rattle.std.specs.Prelude.{◌≡◌, ◌++◌, [], ◌∷◌, All, IfErr, IfOk, IfSome, List, OnOk, replicate};
+ghost use Rattle.std.specs.Prelude.{◌≡◌, ◌++◌, [], ◌∷◌, All, IfErr, IfOk, IfSome, List, MatchResult, None, Ok, OnOk, Some, replicate};
 ghost use Rattle.std.specs.List.{flat_map};
 ghost use Rattle.fak_text.specs.ScheduleText.{IsActInRange};
-ghost use Rattle.fak.specs.Replay.{Action, IsShownRow, actions_of, begins, list_of, outcome_of, rows_from, steps, text_of_row, text_of_rows};
+ghost use Rattle.fak.specs.Replay.{Action, IsRefusedStep, IsShownRow, actions_of, begins, list_of, outcome_of, rows_from, steps, text_of_row, text_of_rows};
 ghost use Rattle.fak.specs.declared.fault.MainFault.TheVariants.{Memory};
+ghost use Rattle.fak.specs.declared.row.Row.TheVariants.{Moved, Refused};
 
 use crate::fault::MainFault;
 use crate::machine::Machine;
 use crate::row::Row;
-use fak_core::CoreFault;
+use fak_core::{CoreFault, Line};
 use fak_text::{Act, Event, line_text, refused_text};
 use std::alloc::Global;
+
+/// The row of a step, or of its refusal.
+fn row_of_step(seat: u64, step: Result<Line, CoreFault>) -> Result<Row, MainFault>
+    ensures { MatchResult step (λ line. result ≡ Ok (Moved line)) (λ fault. IsRefusedStep seat fault result) }
+{
+    match step {
+        Ok(line) => Ok(Row::Moved(line)),
+        Err(CoreFault::Memory) => Err(MainFault::Memory),
+        Err(fault) => Ok(Row::Refused(seat, fault)),
+    }
+}
 
 /// Makes the next step of a seat.
 fn advance(machine: &mut Machine, alloc: Global, seat: u64) -> Result<Row, MainFault>
@@ -20,11 +32,18 @@ fn advance(machine: &mut Machine, alloc: Global, seat: u64) -> Result<Row, MainF
     ensures err { IfErr result (λ fault. fault ≡ Memory) }
 {
     match machine {
-        Machine::Room(core) => match core.advance(alloc, seat) {
-            Ok(line) => Ok(Row::Moved(line)),
-            Err(CoreFault::Memory) => Err(MainFault::Memory),
-            Err(fault) => Ok(Row::Refused(seat, fault)),
-        },
+        Machine::Room(core) => row_of_step(seat, core.advance(alloc, seat)),
+        Machine::Queue(core) => row_of_step(seat, core.advance(alloc, seat)),
+    }
+}
+
+/// The row of a call that did not begin.
+fn row_of_refusal(seat: u64, begun: Result<(), CoreFault>) -> Option<Row>
+    ensures { MatchResult begun (λ _. result ≡ None) (λ fault. result ≡ Some (Refused seat fault)) }
+{
+    match begun {
+        Ok(()) => None,
+        Err(fault) => Some(Row::Refused(seat, fault)),
     }
 }
 
@@ -35,10 +54,8 @@ fn begin(machine: &mut Machine, seat: u64, act: Act) -> Option<Row>
     ensures shown { IfSome result IsShownRow }
 {
     match (machine, act) {
-        (Machine::Room(core), Act::Room(call)) => match core.begin(seat, call) {
-            Ok(()) => None,
-            Err(fault) => Some(Row::Refused(seat, fault)),
-        },
+        (Machine::Room(core), Act::Room(call)) => row_of_refusal(seat, core.begin(seat, call)),
+        (Machine::Queue(core), Act::Queue(call)) => row_of_refusal(seat, core.begin(seat, call)),
         _ => None,
     }
 }

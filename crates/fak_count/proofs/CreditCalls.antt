@@ -1,5 +1,5 @@
 -- From the steps of a seat of a credit to what its calls promise.
-use Rattle.std.proofs.Common.{◌≡◌, ℕ, ◌+◌, ◌-◌, ◌<◌, ◌^◌, ℤ, pos, ◌-ℤ◌, List, [], ◌∷◌, ◌++◌, length, length-append, refl, ap, sym, ◌∙◌, subst, arith, Some}
+use Rattle.std.proofs.Common.{◌≡◌, ℕ, ◌+◌, ◌-◌, ◌<◌, ◌^◌, ℤ, pos, ◌-ℤ◌, List, [], ◌∷◌, length, length-append, refl, ap, sym, ◌∙◌, subst, arith}
 use Rattle.std.specs.Prelude.{reverse}
 use Rattle.std.proofs.lemmas.Int.{ints}
 use Rattle.atomic_table.specs.Seated.{TableId}
@@ -12,14 +12,11 @@ use Rattle.fak_model.specs.Shown.{Leaves}
 use Rattle.fak_model.specs.Calls.{ObjectId, object_id, SeatInfo, seat_info, Appends, before_appended}
 use Rattle.fak_model.specs.Tokens.{IsSeatToken}
 use Rattle.fak_model.proofs.Seats.{begins_self}
-use Rattle.fak_model.proofs.RunningCalls.{token_names, token_phase, token_left, token_slots, step_appends, token_after, step_before}
+use Rattle.fak_model.proofs.RunningCalls.{token_names, token_left, token_slots, step_appends, token_after, step_before}
 use Rattle.fak_count.specs.declared.credits.key.CreditKey.{CreditKey}
 use Rattle.fak_count.specs.Words.{bias}
-use Rattle.fak_count.specs.CreditShown.{CreditMine, credit_mark, credit_object, HasOneName, FoundValue, MadeMark, Observed}
+use Rattle.fak_count.specs.CreditShown.{CreditMine, credit_mark, credit_object, FoundValue, MadeMark, Observed}
 use Rattle.fak_count.specs.Credits.{CreditInfo, credit_info, seat_of, credit_seat, MakesCall, Observes}
-
-pub one_name : {seats name left : ℕ} {m : CreditMine} → IsSeatToken seat_of seats name tt left m → HasOneName m
-one_name {name = name} f = (name, token_names f)
 
 -- a seat of a credit, with its token m, and what contracts see of both
 module _ (key : CreditKey) {seats name left : ℕ} {table mine : TableId} {m : CreditMine} {old : SeatInfo CreditMark} {credit : CreditInfo}
@@ -53,12 +50,12 @@ module _ (key : CreditKey) {seats name left : ℕ} {table mine : TableId} {m : C
         let before : List CreditMark = marks_of seat_of name (reverse m.0.seen) in
         let stint : ℕ = left + length before in
         let appends : Appends credit_rules (credit_mark name kind ∷ []) (seat_info object name stint (reverse m.0.seen)) (seat_info object name stint (reverse after.0.seen)) =
-          step_appends made name (token_names f) (refl, tt) object stint same_seats in
+        step_appends made name (token_names f) (refl, tt) object stint same_seats in
         let same : stint ≡ (left - 1) + length (marks_of seat_of name (reverse after.0.seen)) =
-          (let grown = ap length appends.mine in omega (arith, grown, some_left, length-append before (credit_mark name kind ∷ []))) in
+        (let grown = ap length appends.mine in omega (arith, grown, some_left, length-append before (credit_mark name kind ∷ []))) in
         let none : length before ≡ length before + 0 = omega arith in
         let stood : before_appended seat_of 0 (credit_seat object name left m) (credit_seat object name (left - 1) after) ≡ reverse made.past =
-          step_before made name (token_names f) refl (length before + 0) none (reverse after.0.seen) (begins_self (reverse after.0.seen)) in
+        step_before made name (token_names f) refl (length before + 0) none (reverse after.0.seen) (begins_self (reverse after.0.seen)) in
         let is = made.told.0 in
         let value_is : pos found -ℤ pos bias ≡ value key.start (reverse made.past) = omega (arith, ints, is) in
         subst (λ (x : CreditInfo × SeatInfo CreditMark × TableId). MakesCall kind x.0 x.1 (credit_seat (object_id x.2 seats) name (left - 1) after) answer) (λ i. (credit_is i, seat_is i, sym stays i)) record {
@@ -84,9 +81,9 @@ module _ (key : CreditKey) {seats name left : ℕ} {table mine : TableId} {m : C
         let before : List CreditMark = marks_of seat_of name (reverse m.0.seen) in
         let stint : ℕ = left + length before in
         let appends : Appends credit_rules [] (seat_info object name stint (reverse m.0.seen)) (seat_info object name stint (reverse after.0.seen)) =
-          step_appends seen name (token_names f) tt object stint same_seats in
+        step_appends seen name (token_names f) tt object stint same_seats in
         let same : stint ≡ left + length (marks_of seat_of name (reverse after.0.seen)) =
-          (let grown = ap length appends.mine in omega (arith, grown, length-append before [])) in
+        (let grown = ap length appends.mine in omega (arith, grown, length-append before [])) in
         let is = seen.told.0 in
         let value_is : pos found -ℤ pos bias ≡ value key.start (reverse seen.past) = omega (arith, ints, is) in
         subst (λ (x : CreditInfo × SeatInfo CreditMark × TableId). Observes x.0 x.1 (credit_seat (object_id x.2 seats) name left after) answer) (λ i. (credit_is i, seat_is i, sym stays i)) record {

@@ -1,8 +1,8 @@
 -- Each kind of step on a credit keeps the rule, and tells what it did.
-use Rattle.std.proofs.Common.{◌≡◌, ℕ, zero, suc, ◌+◌, ◌-◌, ◌*◌, ◌%◌, ◌^◌, ◌<◌, ◌≤◌, ℤ, pos, ◌+ℤ◌, ◌-ℤ◌, List, [], ◌∷◌, ◌++◌, length, set, slice_index, refl, ap, sym, ◌∙◌, subst, arith, Some}
+use Rattle.std.proofs.Common.{◌≡◌, ℕ, suc, ◌+◌, ◌-◌, ◌*◌, ◌%◌, ◌^◌, ◌<◌, ◌≤◌, ℤ, pos, ◌+ℤ◌, ◌-ℤ◌, List, [], ◌∷◌, ◌++◌, length, slice_index, refl, ap, sym, ◌∙◌, subst, arith, Some}
 use Rattle.std.proofs.lemmas.Int.{ints}
 use Rattle.std.proofs.Math.Nat.{mul-le-mul}
-use Rattle.std.specs.Prelude.{reverse, ◌≤ℤ◌}
+use Rattle.std.specs.Prelude.{reverse}
 use Rattle.std.proofs.lemmas.List.{reverse-append}
 use mathlib.Core.Option.{some}
 use lib.ListN.{get_elem?}
@@ -11,11 +11,11 @@ use Rattle.fak_model.specs.Views.{sight}
 use Rattle.fak_model.specs.declared.credit.CreditKind.{CreditKind}
 use Rattle.fak_model.specs.declared.credit.CreditKind.TheVariants.{Debit, Credit}
 use Rattle.fak_model.specs.declared.credit.CreditMark.{CreditMark}
-use Rattle.fak_model.specs.Credit.{debit_weight, credit_weight, kind_of, debits, credits, value, credit_rules}
-use Rattle.fak_model.specs.Shown.{total, IsShown, Leaves}
+use Rattle.fak_model.specs.Credit.{debit_weight, credit_weight, kind_of, debits, credits, value}
+use Rattle.fak_model.specs.Shown.{Leaves}
 use Rattle.fak_model.proofs.Leading.{total_push}
 use Rattle.fak_model.proofs.CreditLaw.{every_history}
-use Rattle.fak_model.proofs.RunningSteps.{total_at, AreLawful, Advances, steps, observes}
+use Rattle.fak_model.proofs.RunningSteps.{AreLawful, Advances, steps, observes}
 use Rattle.fak_model.proofs.RunningSeats.{starts, hears}
 use Rattle.fak_count.specs.declared.credits.key.CreditKey.{CreditKey}
 use Rattle.fak_count.specs.Words.{bias, KeepsCount}
@@ -83,10 +83,13 @@ module _ (key : CreditKey) (s : State (Unit {0}) CreditSight) (r : IsShownCredit
   calls kind f some_left is =
       let few : suc (length r.core) + (m.0.left - 1) ≤ length r.core + m.0.left = omega (arith, some_left) in
       let t = steps (credit_object key) s r id name m at one (lawful key) (credit_mark name kind ∷ r.core) (credit_mark name kind ∷ []) tt (advances kind) 15 (f (slice_index s.words 15)) keeps
-        (writes s.words (value key.start (reverse r.core)) (value key.start (reverse (credit_mark name kind ∷ r.core))) (f (slice_index s.words 15)) r.encoded is) (m.0.left - 1) few (FoundValue key (slice_index s.words 15)) found_now in
-      (sight m.0.names (credit_mark name kind ∷ r.core) tt (m.0.left - 1), keeps, tt, t.0,
-       λ other e. subst (λ (n : ℕ). Leaves (credit_object key) m (credit_mark n kind ∷ []) tt (m.0.left - 1) m.1 (FoundValue key (slice_index s.words 15)) (sight m.0.names (credit_mark name kind ∷ r.core) tt (m.0.left - 1), m.1)) (same_name other e) t.1)
-
+      (writes s.words (value key.start (reverse r.core)) (value key.start (reverse (credit_mark name kind ∷ r.core))) (f (slice_index s.words 15)) r.encoded is) (m.0.left - 1) few (FoundValue key (slice_index s.words 15)) found_now in (
+        sight m.0.names (credit_mark name kind ∷ r.core) tt (m.0.left - 1),
+        keeps,
+        tt,
+        t.0,
+        λ other e. subst (λ (n : ℕ). Leaves (credit_object key) m (credit_mark n kind ∷ []) tt (m.0.left - 1) m.1 (FoundValue key (slice_index s.words 15)) (sight m.0.names (credit_mark name kind ∷ r.core) tt (m.0.left - 1), m.1)) (same_name other e) t.1,
+      )
 
   debits_by : 0 < m.0.left → Outcome (λ x. (x + (2 ^ 64 - 1)) % 2 ^ 64) (MadeMark key Debit m)
   debits_by some_left = calls Debit (λ x. (x + (2 ^ 64 - 1)) % 2 ^ 64) some_left
@@ -123,4 +126,4 @@ tickets_fit seats stint few short = mul-le-mul few short
 pub opens_credit : (key : CreditKey) → IsInRange key.start key.seats key.stint → (ws : List ℕ) → KeepsCount (pos key.start) ws → IsShownCredit key (opening ws [] (opened_credit key))
 opens_credit key range ws keeps_start =
     starts (credit_object key) tt (key.seats * key.stint) [] (range.0, tickets_fit key.seats key.stint range.1.1 range.2.1) refl (λ n low. tt) ws []
-      (subst (λ (v : ℤ). KeepsCount v ws) (omega (arith, ints)) keeps_start) (omega arith)
+    (subst (λ (v : ℤ). KeepsCount v ws) (omega (arith, ints)) keeps_start) (omega arith)

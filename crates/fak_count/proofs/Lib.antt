@@ -1,3 +1,5 @@
 pub mod Words
 pub mod CreditSteps
 pub mod CreditCalls
+pub mod RoomSteps
+pub mod RoomCalls

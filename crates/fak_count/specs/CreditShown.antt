@@ -1,5 +1,5 @@
 -- What a running credit shows between two steps, and what each step tells.
-use Rattle.std.specs.Prelude.{ℕ, ◌*◌, ◌-◌, ◌^◌, ◌<◌, ◌≤◌, ◌≡◌, ℤ, pos, ◌+ℤ◌, List, [], ◌∷◌, length, reverse}
+use Rattle.std.specs.Prelude.{ℕ, ◌*◌, ◌-◌, ◌^◌, ◌<◌, ◌≤◌, ◌≡◌, pos, ◌+ℤ◌, List, [], ◌∷◌, length, reverse}
 use Rattle.atomic_table.specs.Table.{State, Me}
 use Rattle.fak_model.specs.declared.view.View.{View}
 use Rattle.fak_model.specs.declared.credit.CreditKind.{CreditKind}
@@ -37,10 +37,6 @@ IsShownCredit key s = IsShown (credit_object key) s
 
 abbrev pub opened_credit : CreditKey → CreditSight
 opened_credit key = opened tt key.seats (key.seats * key.stint)
-
--- the view is a seat's
-abbrev pub HasOneName : CreditMine → Type 0
-HasOneName m = (name : ℕ) × (m.0.names ≡ name ∷ [])
 
 -- the word that was found keeps the value after this past
 abbrev pub FoundValue : CreditKey → ℕ → List CreditMark → Type 0

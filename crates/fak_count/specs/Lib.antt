@@ -2,3 +2,5 @@ pub mod Opening
 pub mod Words
 pub mod CreditShown
 pub mod Credits
+pub mod RoomShown
+pub mod Rooms

@@ -1,5 +1,5 @@
 -- The ranges of what rooms and credits are opened with, and which fault is answered outside them.
-use Rattle.std.specs.Prelude.{ℕ, ◌≡◌, ◌<◌, ◌≤◌, ◌⊎◌}
+use Rattle.std.specs.Prelude.{ℕ, ◌≤◌}
 use Rattle.fak_count.specs.declared.fault.OpenFault.{OpenFault}
 use Rattle.fak_count.specs.declared.fault.OpenFault.TheVariants.{BadSize, BadSeats, BadStint, Memory}
 

@@ -1,10 +1,15 @@
-//! Counts that threads share: a credit, which debits and credits move by 1 with no test.
+//! Counts that threads share: rooms, which claims raise up to a bound, and credits, which debits and credits move
+//! by 1 with no test.
 #![tactic(auto)]
 
 pub mod credits;
 pub mod fault;
-pub mod limits;
-pub mod word;
+mod limits;
+pub mod rooms;
+#[cfg(test)]
+mod tests;
+mod word;
 
 pub use credits::{Credit, CreditSeat, CreditTally};
 pub use fault::{OpenFault, TirFault, Worn};
+pub use rooms::{Room, RoomSeat, RoomTally};

@@ -2,7 +2,7 @@
 use Rattle.std.proofs.Common.{◌≡◌, ℕ, ◌+◌, ◌<◌, ◌≤◌, List, [], ◌∷◌, ◌++◌, length, length-append, take, reverse, refl, ap, sym, ◌∙◌, subst, arith, inl, inr}
 use Rattle.std.specs.Prelude.{◌↔◌, IsTrue}
 use Rattle.std.proofs.lemmas.List.{length-reverse, take-append-le}
-use Rattle.fak_model.specs.Checker.{AreBelow, AreCounts, counted}
+use Rattle.fak_model.specs.Checker.{AreBelow, AreCounts, counts_with}
 use Rattle.fak_model.specs.declared.checker.counts.Counts.{Counts}
 use Rattle.fak_model.specs.declared.queue.Kind.{Kind}
 use Rattle.fak_model.specs.declared.queue.Kind.TheVariants.{ClaimIn, BackIn, Put, EndIn, ClaimOut, Got, Close}
@@ -49,53 +49,53 @@ counts_below h c n k l =
 
 -- ---- each count after a mark
 
-counted-upper_raises : (c : Counts) (κ : Kind ℕ) → (counted c κ).upper_raises ≡ upper_raise κ + c.upper_raises
-counted-upper_raises c ClaimIn = omega arith
-counted-upper_raises c _ = omega arith
+counts_with-upper_raises : (c : Counts) (κ : Kind ℕ) → (counts_with c κ).upper_raises ≡ upper_raise κ + c.upper_raises
+counts_with-upper_raises c ClaimIn = omega arith
+counts_with-upper_raises c _ = omega arith
 
-counted-upper_drops : (c : Counts) (κ : Kind ℕ) → (counted c κ).upper_drops ≡ upper_drop κ + c.upper_drops
-counted-upper_drops c BackIn = omega arith
-counted-upper_drops c _ = omega arith
+counts_with-upper_drops : (c : Counts) (κ : Kind ℕ) → (counts_with c κ).upper_drops ≡ upper_drop κ + c.upper_drops
+counts_with-upper_drops c BackIn = omega arith
+counts_with-upper_drops c _ = omega arith
 
-counted-lower_raises : (c : Counts) (κ : Kind ℕ) → (counted c κ).lower_raises ≡ lower_raise κ + c.lower_raises
-counted-lower_raises c EndIn = omega arith
-counted-lower_raises c _ = omega arith
+counts_with-lower_raises : (c : Counts) (κ : Kind ℕ) → (counts_with c κ).lower_raises ≡ lower_raise κ + c.lower_raises
+counts_with-lower_raises c EndIn = omega arith
+counts_with-lower_raises c _ = omega arith
 
-counted-lower_drops : (c : Counts) (κ : Kind ℕ) → (counted c κ).lower_drops ≡ lower_drop κ + c.lower_drops
-counted-lower_drops c ClaimOut = omega arith
-counted-lower_drops c _ = omega arith
+counts_with-lower_drops : (c : Counts) (κ : Kind ℕ) → (counts_with c κ).lower_drops ≡ lower_drop κ + c.lower_drops
+counts_with-lower_drops c ClaimOut = omega arith
+counts_with-lower_drops c _ = omega arith
 
-counted-puts : (c : Counts) (κ : Kind ℕ) → (counted c κ).puts ≡ puts κ + c.puts
-counted-puts c (Put x) = omega arith
-counted-puts c _ = omega arith
+counts_with-puts : (c : Counts) (κ : Kind ℕ) → (counts_with c κ).puts ≡ puts κ + c.puts
+counts_with-puts c (Put x) = omega arith
+counts_with-puts c _ = omega arith
 
-counted-gots : (c : Counts) (κ : Kind ℕ) → (counted c κ).gots ≡ gots κ + c.gots
-counted-gots c (Got x) = omega arith
-counted-gots c _ = omega arith
+counts_with-gots : (c : Counts) (κ : Kind ℕ) → (counts_with c κ).gots ≡ gots κ + c.gots
+counts_with-gots c (Got x) = omega arith
+counts_with-gots c _ = omega arith
 
-counted-oldest : (c : Counts) (κ : Kind ℕ) → (counted c κ).oldest ≡ c.oldest
-counted-oldest c Close = refl
-counted-oldest c _ = refl
+counts_with-oldest : (c : Counts) (κ : Kind ℕ) → (counts_with c κ).oldest ≡ c.oldest
+counts_with-oldest c Close = refl
+counts_with-oldest c _ = refl
 
-counted-is_shut : (c : Counts) (m : Mark ℕ) (κ : Kind ℕ) (p : List (Mark ℕ)) → m.kind ≡ κ → (IsTrue c.is_shut ↔ Has Close p) → (IsTrue (counted c κ).is_shut ↔ Has Close (m ∷ p))
-counted-is_shut c m Close p e d = (λ t. inl e, λ h. refl)
-counted-is_shut c m _ p e d = (λ t. inr (d.0 t), λ h. elim h [ inl is ↦ absurd cc | inr r ↦ d.1 r ])
+counts_with-is_shut : (c : Counts) (m : Mark ℕ) (κ : Kind ℕ) (p : List (Mark ℕ)) → m.kind ≡ κ → (IsTrue c.is_shut ↔ Has Close p) → (IsTrue (counts_with c κ).is_shut ↔ Has Close (m ∷ p))
+counts_with-is_shut c m Close p e d = (λ t. inl e, λ h. refl)
+counts_with-is_shut c m _ p e d = (λ t. inr (d.0 t), λ h. elim h [ inl is ↦ absurd cc | inr r ↦ d.1 r ])
 
 -- the counts after a mark, with the index o of the oldest item left
 counts_push : (h : List (Mark ℕ)) (m : Mark ℕ) (c : Counts) (o : ℕ) → AreCounts h c → o ≤ length h + 1 → count puts (reverse (take o (h ++ m ∷ []))) ≡ gots m.kind + c.gots
-    → AreCounts (h ++ m ∷ []) (record (counted c m.kind) { oldest = o })
+    → AreCounts (h ++ m ∷ []) (record (counts_with c m.kind) { oldest = o })
 counts_push h m c o k within is =
     let e = reverse_push h m in
     record {
-      upper_raises_are = omega (arith, counted-upper_raises c m.kind, ap (count upper_raise) e, k.upper_raises_are);
-      upper_drops_are = omega (arith, counted-upper_drops c m.kind, ap (count upper_drop) e, k.upper_drops_are);
-      lower_raises_are = omega (arith, counted-lower_raises c m.kind, ap (count lower_raise) e, k.lower_raises_are);
-      lower_drops_are = omega (arith, counted-lower_drops c m.kind, ap (count lower_drop) e, k.lower_drops_are);
-      puts_are = omega (arith, counted-puts c m.kind, ap (count puts) e, k.puts_are);
-      gots_are = omega (arith, counted-gots c m.kind, ap (count gots) e, k.gots_are);
-      shut_is = subst (λ p. IsTrue (counted c m.kind).is_shut ↔ Has Close p) (sym e) (counted-is_shut c m m.kind (reverse h) refl k.shut_is);
+      upper_raises_are = omega (arith, counts_with-upper_raises c m.kind, ap (count upper_raise) e, k.upper_raises_are);
+      upper_drops_are = omega (arith, counts_with-upper_drops c m.kind, ap (count upper_drop) e, k.upper_drops_are);
+      lower_raises_are = omega (arith, counts_with-lower_raises c m.kind, ap (count lower_raise) e, k.lower_raises_are);
+      lower_drops_are = omega (arith, counts_with-lower_drops c m.kind, ap (count lower_drop) e, k.lower_drops_are);
+      puts_are = omega (arith, counts_with-puts c m.kind, ap (count puts) e, k.puts_are);
+      gots_are = omega (arith, counts_with-gots c m.kind, ap (count gots) e, k.gots_are);
+      shut_is = subst (λ p. IsTrue (counts_with c m.kind).is_shut ↔ Has Close p) (sym e) (counts_with-is_shut c m m.kind (reverse h) refl k.shut_is);
       oldest_within = omega (arith, within, length-append h (m ∷ []));
-      oldest_is = is ∙ sym (counted-gots c m.kind);
+      oldest_is = is ∙ sym (counts_with-gots c m.kind);
     }
 
 not_got : (κ : Kind ℕ) → ((x : ℕ) → κ ≡ Got x → ⊥) → gots κ ≡ 0
@@ -103,9 +103,9 @@ not_got (Got x) other = absurd (other x refl)
 not_got _ other = refl
 
 -- after a mark that is no Got the oldest item left stands where it stood
-pub counts_other : (h : List (Mark ℕ)) (m : Mark ℕ) (c : Counts) → AreCounts h c → ((x : ℕ) → m.kind ≡ Got x → ⊥) → AreCounts (h ++ m ∷ []) (counted c m.kind)
+pub counts_other : (h : List (Mark ℕ)) (m : Mark ℕ) (c : Counts) → AreCounts h c → ((x : ℕ) → m.kind ≡ Got x → ⊥) → AreCounts (h ++ m ∷ []) (counts_with c m.kind)
 counts_other h m c k other =
     let stays : take c.oldest (h ++ m ∷ []) ≡ take c.oldest h = take-append-le c.oldest h (m ∷ []) k.oldest_within in
-    let at = counted-oldest c m.kind in
-    counts_push h m c (counted c m.kind).oldest k (omega (arith, at, k.oldest_within))
+    let at = counts_with-oldest c m.kind in
+    counts_push h m c (counts_with c m.kind).oldest k (omega (arith, at, k.oldest_within))
     (ap (λ n. count puts (reverse (take n (h ++ m ∷ [])))) at ∙ (ap (λ p. count puts (reverse p)) stays ∙ (k.oldest_is ∙ omega (arith, not_got m.kind other))))

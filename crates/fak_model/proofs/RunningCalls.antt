@@ -6,8 +6,8 @@ use Rattle.std.proofs.lemmas.List.{append-nil, reverse-append}
 use Rattle.atomic_table.specs.Table.{Me}
 use Rattle.fak_model.specs.declared.view.View.{View}
 use Rattle.fak_model.specs.Histories.{Rules, IsHistory, AreNamed}
-use Rattle.fak_model.specs.Seats.{Begins, In, marks_of}
-use Rattle.fak_model.specs.Views.{sight, Foreign, AreOwn}
+use Rattle.fak_model.specs.Seats.{Begins, In, marks_of, Knows}
+use Rattle.fak_model.specs.Views.{sight, HasOneName, Foreign, AreOwn, Sees}
 use Rattle.fak_model.specs.Shown.{Object, Leaves}
 use Rattle.fak_model.specs.Calls.{ObjectId, SeatInfo, seat_info, mine_of, last_of, Appends, before_mark}
 use Rattle.fak_model.specs.Tokens.{IsSeatToken}
@@ -57,6 +57,18 @@ module _ {M : Type 0} (seat_of : M → ℕ) (name : ℕ) where
           → cond (seat_of x == name) (before_mark seat_of name k (p ++ m ∷ q)) (before_mark seat_of name (suc k) (p ++ m ∷ q)) ≡ p
       by true t e rest = rw t (rest k (let l : suc (length (marks_of seat_of name p)) ≡ suc k = rw t at e in omega (arith, l)))
       by false t e rest = rw t (rest (suc k) (rw t at e))
+
+-- ---- what was seen
+
+-- whose names see a past know the history, oldest mark first
+pub sees_knows : {M : Type 0} (seat_of : M → ℕ) (names : List ℕ) (seen past : List M) → Sees seat_of names seen past → Knows seat_of names (reverse seen) (reverse past)
+sees_knows seat_of names seen past s = record {
+  begins = sees_begins seat_of names seen past s;
+  own = λ n i.
+      let none = marks_of-foreign seat_of n names s.between i s.foreign in
+      let same = ap (marks_of seat_of n) s.is ∙ (marks_of_append seat_of n s.between seen ∙ ap (λ h. h ++ marks_of seat_of n seen) none) in
+      marks_of-reverse seat_of n past ∙ (ap reverse same ∙ sym (marks_of-reverse seat_of n seen));
+}
 
 -- ---- the last mark
 
@@ -127,6 +139,9 @@ module _ {M P H : Type 0} {seat_of : M → ℕ} {seats name left : ℕ} {phase :
   pub token_names : m.0.names ≡ name ∷ []
   token_names = ap (λ (x : Me H (View M P)). x.0.names) t.me_is
 
+  pub token_name : HasOneName m.0
+  token_name = (name, token_names)
+
   pub token_phase : m.0.phase ≡ Some phase
   token_phase = ap (λ (x : Me H (View M P)). x.0.phase) t.me_is
 
@@ -150,19 +165,15 @@ module _ {M W C P S H : Type 0} {o : Object M W C P S H} {m : Me H (View M P)} {
   among = subst (In n) (sym one) (inl refl)
 
   -- none of the marks between is the seat's
-  mine_before : marks_of o.rules.seat_of n (reverse l.past) ≡ marks_of o.rules.seat_of n (reverse m.0.seen)
-  mine_before =
-      let none : marks_of o.rules.seat_of n l.sees.between ≡ [] = marks_of-foreign o.rules.seat_of n m.0.names l.sees.between among l.sees.foreign in
-      let past : marks_of o.rules.seat_of n l.past ≡ marks_of o.rules.seat_of n m.0.seen =
-      ap (marks_of o.rules.seat_of n) l.sees.is ∙ (marks_of_append o.rules.seat_of n l.sees.between m.0.seen ∙ ap (λ h. h ++ marks_of o.rules.seat_of n m.0.seen) none) in
-      marks_of-reverse o.rules.seat_of n l.past ∙ (ap reverse past ∙ sym (marks_of-reverse o.rules.seat_of n m.0.seen))
+  pub mine_before : marks_of o.rules.seat_of n (reverse l.past) ≡ marks_of o.rules.seat_of n (reverse m.0.seen)
+  mine_before = (sees_knows o.rules.seat_of m.0.names m.0.seen l.past l.sees).own n among
 
-  mine_after : marks_of o.rules.seat_of n (reverse after.0.seen) ≡ marks_of o.rules.seat_of n (reverse m.0.seen) ++ reverse new
+  pub mine_after : marks_of o.rules.seat_of n (reverse after.0.seen) ≡ marks_of o.rules.seat_of n (reverse m.0.seen) ++ reverse new
   mine_after =
       ap (marks_of o.rules.seat_of n) history_after ∙ (marks_of_append o.rules.seat_of n (reverse l.past) (reverse new)
       ∙ (λ i. mine_before i ++ (marks_of-reverse o.rules.seat_of n new ∙ ap reverse (marks_of-owned o.rules.seat_of n new own)) i))
 
-  begins_after : Begins (reverse m.0.seen) (reverse after.0.seen)
+  pub begins_after : Begins (reverse m.0.seen) (reverse after.0.seen)
   begins_after = begins_trans (reverse m.0.seen) (reverse l.past) (reverse after.0.seen) (sees_begins o.rules.seat_of m.0.names m.0.seen l.past l.sees) (reverse new, sym history_after)
 
   lawful_after : IsHistory o.rules (reverse after.0.seen)

@@ -6,7 +6,7 @@ use Rattle.std.proofs.Math.Nat.{mul-div_cancel_left}
 use Rattle.atomic_table.specs.Table.{Me, Splits, Joins}
 use Rattle.fak_model.specs.declared.view.View.{View}
 use Rattle.fak_model.specs.Histories.{IsHistory, AreNamed}
-use Rattle.fak_model.specs.Seats.{Begins, In, IsWhole, Knows, longer_of, marks_of}
+use Rattle.fak_model.specs.Seats.{Begins, In, IsWhole, Knows, longer_of}
 use Rattle.fak_model.specs.Views.{sight, Sees, names_from, first_name, later_names, dealt, kept, joined, spent, settled}
 use Rattle.fak_model.specs.Shown.{Object, IsShown, Hears}
 use Rattle.atomic_table.specs.Seated.{TableId}
@@ -14,22 +14,12 @@ use Rattle.fak_model.specs.declared.name_set.NameSet.{NameSet}
 use Rattle.fak_model.specs.Names.{Has, HasJust}
 use Rattle.fak_model.specs.Calls.{ObjectId, object_id, SeatInfo, seat_info, fresh_seats, TallyInfo, tally_info, IsJoined}
 use Rattle.fak_model.specs.Tokens.{IsSeatToken, IsTallyToken}
-use Rattle.fak_model.proofs.Seats.{in_left, in_right, in_either, marks_of_append}
+use Rattle.fak_model.proofs.Seats.{in_left, in_right, in_either}
 use Rattle.fak_model.proofs.RunningViews.{sees_all, sees_begins, length-names_from, names_apart}
 use Rattle.fak_model.proofs.RunningSeats.{splits, joins}
-use Rattle.fak_model.proofs.RunningCalls.{token_phase, marks_of-foreign, marks_of-reverse}
+use Rattle.fak_model.proofs.RunningCalls.{sees_knows, token_phase}
 
 -- ---- a join
-
--- whose names see a past know the history, oldest mark first
-pub sees_knows : {M : Type 0} (seat_of : M → ℕ) (names : List ℕ) (seen past : List M) → Sees seat_of names seen past → Knows seat_of names (reverse seen) (reverse past)
-sees_knows seat_of names seen past s = record {
-  begins = sees_begins seat_of names seen past s;
-  own = λ n i.
-      let none = marks_of-foreign seat_of n names s.between i s.foreign in
-      let same = ap (marks_of seat_of n) s.is ∙ (marks_of_append seat_of n s.between seen ∙ ap (λ h. h ++ marks_of seat_of n seen) none) in
-      marks_of-reverse seat_of n past ∙ (ap reverse same ∙ sym (marks_of-reverse seat_of n seen));
-}
 
 longer_of-reverse : {M : Type 0} (s t : List M) → longer_of (reverse s) (reverse t) ≡ reverse (longer_of s t)
 longer_of-reverse s t = rw (length-reverse s, length-reverse t) (by (nat_lt (length s) (length t)))

@@ -51,20 +51,20 @@ IsNextPut h from None = item_of (reverse h) (count puts (reverse (take from h)))
 IsNextPut h from (Some p) = IsPutAt h (count puts (reverse (take from h))) p.0 p.1
 
 -- the counts after a mark of this kind, but for the index of the oldest item left
-abbrev pub counted : Counts → Kind ℕ → Counts
-counted c ClaimIn = record c { upper_raises = c.upper_raises + 1 }
-counted c OverIn = record c { upper_raises = c.upper_raises + 1 }
-counted c LateIn = record c { upper_raises = c.upper_raises + 1 }
-counted c BackIn = record c { upper_drops = c.upper_drops + 1 }
-counted c EndOut = record c { upper_drops = c.upper_drops + 1 }
-counted c EndIn = record c { lower_raises = c.lower_raises + 1 }
-counted c BackOut = record c { lower_raises = c.lower_raises + 1 }
-counted c ClaimOut = record c { lower_drops = c.lower_drops + 1 }
-counted c OverOut = record c { lower_drops = c.lower_drops + 1 }
-counted c (Put x) = record c { puts = c.puts + 1 }
-counted c (Got x) = record c { gots = c.gots + 1 }
-counted c Close = record c { is_shut = true }
-counted c _ = c
+abbrev pub counts_with : Counts → Kind ℕ → Counts
+counts_with c ClaimIn = record c { upper_raises = c.upper_raises + 1 }
+counts_with c OverIn = record c { upper_raises = c.upper_raises + 1 }
+counts_with c LateIn = record c { upper_raises = c.upper_raises + 1 }
+counts_with c BackIn = record c { upper_drops = c.upper_drops + 1 }
+counts_with c EndOut = record c { upper_drops = c.upper_drops + 1 }
+counts_with c EndIn = record c { lower_raises = c.lower_raises + 1 }
+counts_with c BackOut = record c { lower_raises = c.lower_raises + 1 }
+counts_with c ClaimOut = record c { lower_drops = c.lower_drops + 1 }
+counts_with c OverOut = record c { lower_drops = c.lower_drops + 1 }
+counts_with c (Put x) = record c { puts = c.puts + 1 }
+counts_with c (Got x) = record c { gots = c.gots + 1 }
+counts_with c Close = record c { is_shut = true }
+counts_with c _ = c
 
 -- each count is below n
 pub record AreBelow (c : Counts) (n : ℕ) : Type 0 where

@@ -7,6 +7,10 @@ use Rattle.fak_model.specs.Seats.{In, longer_of}
 abbrev pub sight : {M P : Type 0} → List ℕ → List M → P → ℕ → View M P
 sight names seen phase left = record { names = names; seen = seen; phase = Some phase; left = left; told = []; told_names = [] }
 
+-- the view is a seat's
+abbrev pub HasOneName : {M P : Type 0} → View M P → Type 0
+HasOneName v = (name : ℕ) × (v.names ≡ name ∷ [])
+
 -- none of the marks is of one of these names
 abbrev pub Foreign : {M : Type 0} → (M → ℕ) → List ℕ → List M → Type 0
 Foreign seat_of names [] = Unit {0}

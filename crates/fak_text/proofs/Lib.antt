@@ -6,3 +6,5 @@ pub mod NameText
 pub mod JournalText
 pub mod Journals
 pub mod MarkNames
+pub mod ScheduleRange
+pub mod HistoryRange

@@ -1,14 +1,14 @@
 -- What a reading gives is in range: numbers, and the elements of arrays.
-use Rattle.std.proofs.Common.{◌≡◌, ℕ, ◌<◌, ◌≤◌, suc, Bool, true, false, List, [], ◌∷◌, length, Option, Some, None, Result, Ok, Err, refl, sym, ap, subst, ◌∙◌, nat_lt, nat_le, ◌&&◌, if◌then◌else◌, arith}
+use Rattle.std.proofs.Common.{◌≡◌, ℕ, ◌<◌, ◌≤◌, suc, Bool, true, false, List, [], ◌∷◌, length, Option, Some, None, Result, Ok, Err, refl, sym, ap, subst, ◌∙◌, nat_lt, nat_le, ◌&&◌, if◌then◌else◌, arith, IfOk}
 use Rattle.std.specs.List.{All}
 use Rattle.std.proofs.lemmas.Bool.{ltb-true, leb-true}
 use Rattle.std.proofs.lemmas.List.Elements.{All-nil, All-cons}
 use Rattle.serde_json.specs.Data.{Data, Items, no_items, item}
 use Rattle.serde_json.specs.Events.{items_len}
 use Rattle.serde_json.specs.Find.{as_array}
-use Rattle.fak_text.specs.Gives.{◌>>=◌}
+use Rattle.fak_text.specs.Gives.{◌>>=◌, Gives}
 use Rattle.fak_text.specs.ScriptText.{number_from, numbers_of_key}
-use Rattle.fak_text.specs.Values.{value_or, value_of_key, whole_number, number_below, number_within, elements_within, elements_of_key, running_from, next_index}
+use Rattle.fak_text.specs.Values.{value_or, value_of_key, number_of_key, whole_number, number_below, number_within, elements_within, elements_of_key, running_from, next_index}
 use Rattle.fak_text.specs.declared.fault.Field.{Field}
 use Rattle.fak_text.specs.declared.fault.TextFault.{TextFault}
 
@@ -91,3 +91,26 @@ unfolding numbers_of_key
 numbers_are_below f most bound d ns e =
     let found = parts_of (elements_of_key f most d) (λ ds. running_from (number_from f bound) next_index 0 ds) ns e in
     All-running_from (λ (n : ℕ). n < bound) (number_from f bound) next_index (λ i v n read. below_is_below f bound (whole_number v) n read) 0 found.0 ns found.2
+
+-- what holds of every reading holds of what a reader gives
+pub IfOk-from_Gives : {X Y : Type 0} (plain : X → Y) (P : Y → Type 0) (result : Result X TextFault) (reading : Result Y TextFault) → Gives plain result reading → ((y : Y) → reading ≡ Ok y → P y) → IfOk result (λ x. P (plain x))
+IfOk-from_Gives plain P (Ok x) reading gives holds = holds (plain x) gives
+IfOk-from_Gives plain P (Err fault) reading gives holds = tt
+
+pub number_of_key_is_within : (f : Field) (low high : ℕ) (d : Data) (n : ℕ) → number_of_key f low high d ≡ Ok n → (low ≤ n) × (n ≤ high)
+unfolding number_of_key
+number_of_key_is_within f low high d n e =
+    let found = parts_of (value_of_key f d) (λ value. number_within f low high (whole_number value)) n e in
+    within_is_within f low high (whole_number found.0) n found.2
+
+-- a value that stands under a test holds where both ways do
+pub either_way : {A : Type 0} (P : A → Type 0) (b : Bool) (left right : Result A TextFault) (x : A) → ((left ≡ Ok x) → P x) → ((right ≡ Ok x) → P x) → (if b then left else right) ≡ Ok x → P x
+either_way P true left right x from_left from_right e = from_left e
+either_way P false left right x from_left from_right e = from_right e
+
+-- a value that is made of another holds where it does of what it is made
+pub made_of : {A B : Type 0} (P : B → Type 0) (r : Result A TextFault) (make : A → B) (y : B) → ((x : A) → r ≡ Ok x → P (make x)) → (r >>= λ x. Ok (make x)) ≡ Ok y → P y
+made_of P r make y holds e =
+    let p = parts_of r (λ x. Ok (make x)) y e in
+    let same : make p.0 ≡ y = cc p.2 in
+    subst P same (holds p.0 p.1)

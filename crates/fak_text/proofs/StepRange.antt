@@ -17,7 +17,7 @@ use Rattle.fak_text.specs.declared.fault.TextFault.TheVariants.{Range}
 use Rattle.fak_text.specs.declared.reading.step.StepOp.{StepOp}
 use Rattle.fak_text.specs.declared.reading.step.StepOp.TheVariants as ops
 use Rattle.fak_text.specs.declared.steps.StepLimits.{StepLimits}
-use Rattle.fak_text.proofs.ReadRange.{parts_of, passed, and-true, below_is_below, within_is_within, All-running_from, length-running_from, elements_are_few, elements_of_key_are_few}
+use Rattle.fak_text.proofs.ReadRange.{parts_of, passed, and-true, below_is_below, within_is_within, All-running_from, length-running_from, elements_are_few, elements_of_key_are_few, made_of, either_way}
 
 printable_is_within : (b : ℕ) → is_printable b ≡ true → IsWithin 32 126 b
 printable_is_within b e =
@@ -37,16 +37,12 @@ said_may_be_said size (Some u) t e =
     subst (λ (v : List ℕ). IsSayable v) p.1 (sayable_may_be_said u q.1)
 
 inode_is_within : (size : ℕ) (number : Option ℕ) (n : ℕ) → inode_argument size number ≡ Ok n → IsWithin 1 most_inode n
-inode_is_within size number n e = by_test (size == 2) e where
-  by_test : (b : Bool) → (if b then number_within Programs 1 most_inode number else Err (Range Programs)) ≡ Ok n → IsWithin 1 most_inode n
-  by_test true h = within_is_within Programs 1 most_inode number n h
-  by_test false h = absurd (cc)
+inode_is_within size number n e =
+    either_way (λ k. IsWithin 1 most_inode k) (size == 2) (number_within Programs 1 most_inode number) (Err (Range Programs)) n (within_is_within Programs 1 most_inode number n) (λ h. absurd (cc)) e
 
 argument_is_below : (size bound : ℕ) (number : Option ℕ) (n : ℕ) → argument_below size bound number ≡ Ok n → n < bound
-argument_is_below size bound number n e = by_test (size == 2) e where
-  by_test : (b : Bool) → (if b then number_below Programs bound number else Err (Range Programs)) ≡ Ok n → n < bound
-  by_test true h = below_is_below Programs bound number n h
-  by_test false h = absurd (cc)
+argument_is_below size bound number n e =
+    either_way (λ k. k < bound) (size == 2) (number_below Programs bound number) (Err (Range Programs)) n (below_is_below Programs bound number n) (λ h. absurd (cc)) e
 
 -- an operation that a version has
 op_is_in_version : (version : ℕ) (o : Option StepOp) (op : StepOp) (fault : TextFault) → value_or fault (op_of_version version o) ≡ Ok op → has_op version op ≡ true
@@ -61,10 +57,7 @@ op_is_in_version version (Some o) op fault e = by_test (has_op version o) refl e
 -- a step that is made of an argument in range
 step_of_argument : {A : Type 0} (limits : StepLimits) (r : Result A TextFault) (make : A → StepOf) (step : StepOf)
     → ((x : A) → r ≡ Ok x → IsStepInRange limits (make x)) → (r >>= λ x. Ok (make x)) ≡ Ok step → IsStepInRange limits step
-step_of_argument limits r make step ranges e =
-    let p = parts_of r (λ x. Ok (make x)) step e in
-    let same : make p.0 ≡ step = cc p.2 in
-    subst (λ (s : StepOf). IsStepInRange limits s) same (ranges p.0 p.1)
+step_of_argument limits r make step ranges e = made_of (λ s. IsStepInRange limits s) r make step ranges e
 
 lone_is_in_range : (limits : StepLimits) (lone step : StepOf) (size : ℕ) → IsStepInRange limits lone → lone_step lone size ≡ Ok step → IsStepInRange limits step
 lone_is_in_range limits lone step size ranges e =

@@ -1,5 +1,5 @@
 -- Which history an input is, and which fault is its first.
-use Rattle.std.specs.Prelude.{ℕ, ◌&&◌, ◌==◌, Bool, List, [], ◌∷◌, Option, Some, None, Result, Ok, Err, find, is_some, nat_le, unwrap_or, if◌then◌else◌}
+use Rattle.std.specs.Prelude.{ℕ, ◌&&◌, ◌==◌, ◌≤◌, All, length, Bool, List, [], ◌∷◌, Option, Some, None, Result, Ok, Err, find, is_some, nat_le, unwrap_or, if◌then◌else◌}
 use Rattle.std.specs.Str.{bytes_eq}
 use Rattle.serde_json.specs.Data.{Data}
 use Rattle.serde_json.specs.Find.{as_array}
@@ -62,3 +62,9 @@ history_from d = do
 -- the history of an input
 abbrev pub history_in : List ℕ → Result HistoryOf TextFault
 history_in bytes = input_in bytes >>= history_from
+
+-- what every history that is read keeps to
+pub record IsHistoryInRange (h : HistoryOf) : Type 0 where
+  pub size : (1 ≤ h.size) × (h.size ≤ 4096)
+  pub count : length h.marks ≤ most_marks
+  pub seats : All (λ mark. mark.seat ≤ 63) h.marks

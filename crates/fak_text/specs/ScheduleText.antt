@@ -126,7 +126,17 @@ IsActInRange (acts.Room (room_calls.Tir d)) = (1 ≤ d) × (d ≤ most_amount)
 IsActInRange (acts.Room (room_calls.Release d)) = (1 ≤ d) × (d ≤ most_amount)
 IsActInRange (acts.Queue call) = Unit {0}
 
+-- steps, or a call on the object
+abbrev pub IsActOf : o.Object → Act → Type 0
+IsActOf object (acts.Steps n) = Unit {0}
+IsActOf (objects.Room bound) (acts.Room call) = Unit {0}
+IsActOf (objects.Room bound) (acts.Queue call) = ⊥
+IsActOf (objects.Queue size) (acts.Room call) = ⊥
+IsActOf (objects.Queue size) (acts.Queue call) = Unit {0}
+
 pub record IsScheduleInRange (s : ScheduleOf) : Type 0 where
   pub object : IsObjectInRange s.object
   pub seats : (1 ≤ s.seats) × (s.seats ≤ 64)
+  pub count : length s.events ≤ most_events
   pub acts : All (λ event. IsActInRange event.act) s.events
+  pub calls : All (λ event. IsActOf s.object event.act) s.events

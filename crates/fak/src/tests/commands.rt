@@ -17,6 +17,10 @@ fn command_lines(rt: HostRuntime) -> Result<(), Fail> {
     let table = [
         ("fak replay", Ok(Command::Replay)),
         ("other replay", Ok(Command::Replay)),
+        ("fak check", Ok(Command::Check)),
+        ("fak run", Ok(Command::Run(1))),
+        ("fak run --processors 9", Err(MainFault::Usage)),
+        ("fak run 2", Err(MainFault::Usage)),
         ("fak", Err(MainFault::Usage)),
         ("fak copy", Err(MainFault::Usage)),
         ("fak replay extra", Err(MainFault::Usage)),

@@ -86,12 +86,13 @@ impl Credit {
         ensures object { seat.new.object ≡ seat.old.object }
         ensures call { MatchResult result (MakesCall Debit self.now seat.old seat.new) (λ _. IsWorn seat.old seat.new) }
     {
-        if seat.left == 0 {
+        let worn = seat.left == 0;
+        if worn {
             return Err(Worn);
         }
-        let found = debit_step::<Brand>(&self.table.shared, &mut seat.token);
+        let before = debit_step::<Brand>(&self.table.shared, &mut seat.token);
         seat.left -= 1;
-        Ok(count_of(found))
+        Ok(count_of(before))
     }
 
     /// Adds 1, and answers the value before.
@@ -100,7 +101,8 @@ impl Credit {
         ensures object { seat.new.object ≡ seat.old.object }
         ensures call { MatchResult result (MakesCall Credited self.now seat.old seat.new) (λ _. IsWorn seat.old seat.new) }
     {
-        if seat.left == 0 {
+        let spent = seat.left == 0;
+        if spent {
             return Err(Worn);
         }
         let found = credit_step::<Brand>(&self.table.shared, &mut seat.token);

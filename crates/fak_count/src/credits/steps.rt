@@ -2,7 +2,8 @@
 
 ghost use Rattle.std.specs.Prelude.{◌≡◌, ◌<◌, Some};
 ghost use Rattle.fak_model.specs.declared.credit.CreditKind.TheVariants.{Debit, Credit};
-ghost use Rattle.fak_count.specs.CreditShown.{HasOneName, MadeMark, Observed, HeardJoin};
+ghost use Rattle.fak_model.specs.Views.{HasOneName};
+ghost use Rattle.fak_count.specs.CreditShown.{MadeMark, Observed, HeardJoin};
 
 use crate::credits::key::{CreditKey, CreditView};
 use crate::credits::law::{CreditLaw, Credits, Debits, Hears, Observes, OfCredit};
@@ -15,7 +16,7 @@ pub fn debit_step<J: OfCredit>(
     token: &mut Seat<(), CreditView>,
 ) -> u64
     requires table { (token.old.table_id ≡ shared.now.table_id) × (shared.now.table_id.words ≡ 31) × (shared.now.key ≡ J.key) }
-    requires seat { HasOneName token.old.me }
+    requires seat { HasOneName token.old.me.0 }
     requires left { 0 < token.old.me.0.left }
     ensures same { token.new.table_id ≡ token.old.table_id }
     ensures told { MadeMark shared.now.key Debit token.old.me result token.new.me }
@@ -29,7 +30,7 @@ pub fn credit_step<J: OfCredit>(
     token: &mut Seat<(), CreditView>,
 ) -> u64
     requires table { (token.old.table_id ≡ shared.now.table_id) × (shared.now.table_id.words ≡ 31) × (shared.now.key ≡ J.key) }
-    requires seat { HasOneName token.old.me }
+    requires seat { HasOneName token.old.me.0 }
     requires left { 0 < token.old.me.0.left }
     ensures same { token.new.table_id ≡ token.old.table_id }
     ensures told { MadeMark shared.now.key Credit token.old.me result token.new.me }
@@ -43,7 +44,7 @@ pub fn observe_step<J: OfCredit>(
     token: &mut Seat<(), CreditView>,
 ) -> u64
     requires table { (token.old.table_id ≡ shared.now.table_id) × (shared.now.table_id.words ≡ 31) × (shared.now.key ≡ J.key) }
-    requires seat { HasOneName token.old.me }
+    requires seat { HasOneName token.old.me.0 }
     requires phase { token.old.me.0.phase ≡ Some tt }
     ensures same { token.new.table_id ≡ token.old.table_id }
     ensures told { Observed shared.now.key token.old.me result token.new.me }
@@ -55,10 +56,10 @@ pub fn observe_step<J: OfCredit>(
 pub fn hear_step<J: OfCredit>(
     shared: &Shared<(), CreditView, CreditKey, CreditLaw>,
     token: &mut Seat<(), CreditView>,
-) -> u64
+)
     requires table { (token.old.table_id ≡ shared.now.table_id) × (shared.now.table_id.words ≡ 31) × (shared.now.key ≡ J.key) }
     ensures same { token.new.table_id ≡ token.old.table_id }
     ensures told { HeardJoin shared.now.key token.old.me token.new.me }
 {
-    shared.load::<Hears<J>>(token, COUNT)
+    shared.load::<Hears<J>>(token, COUNT);
 }

@@ -1,7 +1,7 @@
 //! Whether a mark may follow the marks before it.
 
 ghost use Rattle.std.specs.Prelude.{ℕ, ◌≡◌, ◌+◌, ◌<◌, ◌^◌, ◌↔◌, ◌++◌, ◌∷◌, [], IsTrue, List, length, reverse};
-ghost use Rattle.fak_model.specs.Checker.{AreBelow, AreCounts, counted};
+ghost use Rattle.fak_model.specs.Checker.{AreBelow, AreCounts, counts_with};
 ghost use Rattle.fak_model.specs.QueuePast.{HasCell, IsFair, IsNext, IsOldest, MayFollow};
 
 use super::counts::Counts;
@@ -95,7 +95,7 @@ pub(crate) fn may_follow(size: u64, past: &[Mark<u64>], counts: &Counts, m: &Mar
 /// The counts after one more mark, but for the index of the oldest item left.
 fn counted_with(counts: Counts, kind: &Kind<u64>) -> Counts
     requires { AreBelow counts (2 ^ 63) }
-    ensures { result ≡ counted counts kind.now }
+    ensures { result ≡ counts_with counts kind.now }
 {
     let mut after = counts;
     match kind {

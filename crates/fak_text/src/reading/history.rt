@@ -1,10 +1,10 @@
 //! The reader of histories.
 
-ghost use Rattle.std.specs.Prelude.{◌≡◌};
+ghost use Rattle.std.specs.Prelude.{◌≡◌, IfOk};
 ghost use Rattle.serde_json.specs.View.{view, items_view};
 ghost use Rattle.fak_text.specs.Gives.{Gives};
 ghost use Rattle.fak_text.specs.Values.{each_from};
-ghost use Rattle.fak_text.specs.HistoryText.{history_of, kind_named, is_complete, mark_from, history_from, history_in};
+ghost use Rattle.fak_text.specs.HistoryText.{history_of, kind_named, is_complete, mark_from, history_from, history_in, IsHistoryInRange};
 
 use crate::fault::{Field, TextFault};
 use crate::history::History;
@@ -104,7 +104,8 @@ fn history_of_object(alloc: Global, value: &Value) -> Result<History, TextFault>
 ///
 /// The input's first fault, or `Memory`.
 pub fn read_history(alloc: Global, bytes: &[u8]) -> Result<History, TextFault>
-    ensures { Gives history_of result (history_in bytes.now) }
+    ensures gives { Gives history_of result (history_in bytes.now) }
+    ensures range { IfOk result (λ history. IsHistoryInRange (history_of history)) }
 {
     let value = input_of(alloc, bytes)?;
     history_of_object(alloc, &value)

@@ -1,10 +1,10 @@
 //! The reader of schedules.
 
-ghost use Rattle.std.specs.Prelude.{◌≡◌, ◌≤◌, All, IfOk, length};
+ghost use Rattle.std.specs.Prelude.{◌≡◌, length, IfOk};
 ghost use Rattle.serde_json.specs.View.{view, items_view};
 ghost use Rattle.fak_text.specs.Gives.{Gives};
 ghost use Rattle.fak_text.specs.Values.{each_from};
-ghost use Rattle.fak_text.specs.ScheduleText.{schedule_of, room_op, queue_op, op_named, without_number, third, third_within, steps_act, act_from, event_from, object_named, object_from, schedule_from, schedule_in, IsActInRange, IsObjectInRange, IsScheduleInRange};
+ghost use Rattle.fak_text.specs.ScheduleText.{schedule_of, room_op, queue_op, op_named, without_number, third, third_within, steps_act, act_from, event_from, object_named, object_from, schedule_from, schedule_in, IsScheduleInRange};
 
 use crate::fault::{Field, TextFault};
 use crate::reading::values::{
@@ -94,8 +94,7 @@ fn third_number_within(
     size: usize,
     number: Option<u64>,
 ) -> Result<u64, TextFault>
-    ensures gives { Gives (λ n. n) result (third_within low high size number) }
-    ensures range { IfOk result (λ n. (low ≤ n) × (n ≤ high)) }
+    ensures { Gives (λ n. n) result (third_within low high size number) }
 {
     if size == 3 {
         within(Field::Events, low, high, number)
@@ -107,8 +106,7 @@ fn third_number_within(
 /// So many steps, 1 where no number stands.
 #[tactic(auto, unfolding(crate::specs::ScheduleText::steps_act))]
 fn steps(size: usize, number: Option<u64>) -> Result<Act, TextFault>
-    ensures gives { Gives (λ a. a) result (steps_act size number) }
-    ensures range { IfOk result IsActInRange }
+    ensures { Gives (λ a. a) result (steps_act size number) }
 {
     if size == 2 {
         Ok(Act::Steps(1))
@@ -119,8 +117,7 @@ fn steps(size: usize, number: Option<u64>) -> Result<Act, TextFault>
 
 /// What the seat does, where the event has so many elements and this third one.
 fn act_of(op: Op, size: usize, number: Option<u64>) -> Result<Act, TextFault>
-    ensures gives { Gives (λ a. a) result (act_from op size number) }
-    ensures range { IfOk result IsActInRange }
+    ensures { Gives (λ a. a) result (act_from op size number) }
 {
     match op {
         Op::Step => steps(size, number),
@@ -140,8 +137,7 @@ fn act_of(op: Op, size: usize, number: Option<u64>) -> Result<Act, TextFault>
 /// The event of this index.
 #[tactic(auto, unfolding(crate::specs::ScheduleText::event_from))]
 fn event_of(object: Object, index: u64, value: &Value) -> Result<Event, TextFault>
-    ensures gives { Gives (λ e. e) result (event_from object index (view value.now)) }
-    ensures range { IfOk result (λ event. IsActInRange event.act) }
+    ensures { Gives (λ e. e) result (event_from object index (view value.now)) }
 {
     let items = value.as_array().ok_or(FAULT)?;
     let seat = nth_number(value, 0).ok_or(FAULT)?;
@@ -153,8 +149,7 @@ fn event_of(object: Object, index: u64, value: &Value) -> Result<Event, TextFaul
 
 /// The events of an array, in order.
 fn events_of(alloc: Global, object: Object, values: &[Value]) -> Result<Vec<Event>, TextFault>
-    ensures gives { Gives (λ v. v.items) result (each_from (event_from object) 0 (items_view values.now)) }
-    ensures range { IfOk result (λ v. All (λ event. IsActInRange event.act) v.items) }
+    ensures { Gives (λ v. v.items) result (each_from (event_from object) 0 (items_view values.now)) }
 {
     let mut events = Vec::new(alloc);
     for (i, value) in values.iter().enumerate() {
@@ -166,8 +161,7 @@ fn events_of(alloc: Global, object: Object, values: &[Value]) -> Result<Vec<Even
 /// The object of this name, with its bound or size.
 #[tactic(auto, unfolding(crate::specs::ScheduleText::object_named))]
 fn named_object(name: &str, value: &Value) -> Result<Object, TextFault>
-    ensures gives { Gives (λ o. o) result (object_named name.now (view value.now)) }
-    ensures range { IfOk result IsObjectInRange }
+    ensures { Gives (λ o. o) result (object_named name.now (view value.now)) }
 {
     match name {
         "room" => Ok(Object::Room(number_at_key(value, Field::Bound, 0, 4_294_967_296)?)),
@@ -178,8 +172,7 @@ fn named_object(name: &str, value: &Value) -> Result<Object, TextFault>
 
 #[tactic(auto, unfolding(crate::specs::ScheduleText::object_from))]
 fn object_of(value: &Value) -> Result<Object, TextFault>
-    ensures gives { Gives (λ o. o) result (object_from (view value.now)) }
-    ensures range { IfOk result IsObjectInRange }
+    ensures { Gives (λ o. o) result (object_from (view value.now)) }
 {
     let found = value_at_key(value, Field::Object)?;
     let name = found.as_str().ok_or(TextFault::Range(Field::Object))?;
@@ -188,8 +181,7 @@ fn object_of(value: &Value) -> Result<Object, TextFault>
 
 #[tactic(auto, unfolding(crate::specs::ScheduleText::schedule_from))]
 fn schedule_of_object(alloc: Global, value: &Value) -> Result<Schedule, TextFault>
-    ensures gives { Gives schedule_of result (schedule_from (view value.now)) }
-    ensures range { IfOk result (λ schedule. IsScheduleInRange (schedule_of schedule)) }
+    ensures { Gives schedule_of result (schedule_from (view value.now)) }
 {
     let object = object_of(value)?;
     let seats = number_at_key(value, Field::Seats, 1, 64)?;

@@ -48,7 +48,7 @@ fn numbers_at_key(
 /// The stint, the greatest where the key is absent.
 #[tactic(auto, unfolding(crate::specs::ScriptText::stint_of_key))]
 fn stint_at_key(value: &Value) -> Result<u64, TextFault>
-    ensures read { Gives (λ n. n) result (stint_of_key (view value.now)) }
+    ensures gives { Gives (λ n. n) result (stint_of_key (view value.now)) }
     ensures range { IfOk result (λ n. (1 ≤ n) × (n ≤ 1099511627776)) }
 {
     match value.get(Field::Stint.name()) {

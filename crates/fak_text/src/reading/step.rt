@@ -186,7 +186,7 @@ fn steps(
 ) -> Result<Vec<Step>, TextFault>
     requires first { first ≤ 64000 }
     requires few { length values.now ≤ 1000 }
-    ensures read { Gives (λ v. steps_view v.items) result (each_from (step_from limits) first (items_view values.now)) }
+    ensures gives { Gives (λ v. steps_view v.items) result (each_from (step_from limits) first (items_view values.now)) }
     ensures few { IfOk result (λ v. vec_len v ≤ 1000) }
 {
     let mut steps = Vec::new(alloc);
@@ -208,7 +208,7 @@ fn program(
     value: &Value,
 ) -> Result<Vec<Step>, TextFault>
     requires { first ≤ 64000 }
-    ensures read { Gives (λ v. steps_view v.items) result (program_from limits first (view value.now)) }
+    ensures gives { Gives (λ v. steps_view v.items) result (program_from limits first (view value.now)) }
     ensures few { IfOk result (λ v. vec_len v ≤ 1000) }
 {
     let values = elements(value, Field::Programs, MOST_STEPS)?;

@@ -52,7 +52,7 @@ pub(crate) fn within(
     high: u64,
     number: Option<u64>,
 ) -> Result<u64, TextFault>
-    ensures read { Gives (λ n. n) result (number_within field low high number) }
+    ensures gives { Gives (λ n. n) result (number_within field low high number) }
     ensures range { IfOk result (λ n. (low ≤ n) × (n ≤ high)) }
 {
     match number {
@@ -63,7 +63,7 @@ pub(crate) fn within(
 
 /// The number, where it is below the bound.
 pub(crate) fn below(field: Field, bound: u64, number: Option<u64>) -> Result<u64, TextFault>
-    ensures read { Gives (λ n. n) result (number_below field bound number) }
+    ensures gives { Gives (λ n. n) result (number_below field bound number) }
     ensures range { IfOk result (λ n. n < bound) }
 {
     match number {
@@ -110,7 +110,7 @@ pub(crate) fn number_at_key(
     low: u64,
     high: u64,
 ) -> Result<u64, TextFault>
-    ensures read { Gives (λ n. n) result (number_of_key field low high (view value.now)) }
+    ensures gives { Gives (λ n. n) result (number_of_key field low high (view value.now)) }
     ensures range { IfOk result (λ n. (low ≤ n) × (n ≤ high)) }
 {
     let found = value_at_key(value, field)?;
@@ -129,7 +129,7 @@ pub(crate) fn count(values: &[Value]) -> usize
 /// The elements of an array that has at most so many.
 #[tactic(auto, unfolding(crate::specs::Values::elements_within))]
 pub(crate) fn elements(value: &Value, field: Field, most: usize) -> Result<&[Value], TextFault>
-    ensures read { Gives (λ vs. items_view vs.now) result (elements_within field most (view value.now)) }
+    ensures gives { Gives (λ vs. items_view vs.now) result (elements_within field most (view value.now)) }
     ensures few { IfOk result (λ vs. length vs.now ≤ most) }
 {
     let found = value.as_array().ok_or(TextFault::Range(field))?;
@@ -148,7 +148,7 @@ pub(crate) fn elements_at_key(
     field: Field,
     most: usize,
 ) -> Result<&[Value], TextFault>
-    ensures read { Gives (λ vs. items_view vs.now) result (elements_of_key field most (view value.now)) }
+    ensures gives { Gives (λ vs. items_view vs.now) result (elements_of_key field most (view value.now)) }
     ensures few { IfOk result (λ vs. length vs.now ≤ most) }
 {
     let found = value_at_key(value, field)?;

@@ -128,7 +128,7 @@ pub fn journal_text(alloc: Global, name: &[u64], notes: &[Note]) -> Result<Vec<u
             prefix: prefix.as_str(),
             note,
         };
-        writeln!(text, "  {line}")?;
+        write!(text, "  {line}\n")?;
     }
     Ok(text.into_bytes())
 }

@@ -1,4 +1,4 @@
-use Rattle.std.proofs.Common.{◌≡◌, ◌∙◌, ap, ◌-◌, length, min, rules, refl}
+use Rattle.std.proofs.Common.{◌∙◌, ◌-◌, rules}
 use Rattle.fak.specs.Answers.{most_kept}
 use Rattle.fak.proofs.Input.{front_grows_by}
 use Rattle.fak.proofs.serving.keep.Goals as goal

@@ -1,4 +1,4 @@
-use Rattle.std.proofs.Common.{◌≡◌, ◌++◌, take, rules, arith, refl}
+use Rattle.std.proofs.Common.{◌++◌, take, rules}
 use Rattle.fak.specs.Answers.{most_kept}
 use Rattle.fak.proofs.Input.{consumes_more, at_last}
 use Rattle.fak.proofs.serving.read_input.Goals as goal
@@ -6,10 +6,11 @@ use Rattle.fak.proofs.serving.read_input.Goals as goal
 pub returns-in-Ok-eq0-clause-ok : goal.returns-in-Ok-eq0-clause-ok
 returns-in-Ok-eq0-clause-ok g c =
     at_last (g.R.Read.remaining c.args.reader.now) (g.R.Read.remaining c.loop.reader) (g.R.Read.remaining c.read.new.self) c.loop.invariant.0 c.read.new.buf c.loop.kept.items c.in-Ok-eq0.field-0 most_kept
-      c.in-Ok-eq0.field-0-test c.loop.invariant.1 c.in-Ok-eq0.ensures.bytes.0 (c.in-Ok-eq0.ensures.bytes.1 c.in-Ok-eq0.field-0-test (search rules)) c.loop.invariant.2
+    c.in-Ok-eq0.field-0-test c.loop.invariant.1 c.in-Ok-eq0.ensures.bytes.0 (c.in-Ok-eq0.ensures.bytes.1 c.in-Ok-eq0.field-0-test (search rules)) c.loop.invariant.2
 
 pub loop-preserved : goal.loop-preserved
-loop-preserved g c =
-    (c.loop.invariant.0 ++ take c.in-Ok.n c.read.new.buf,
-     consumes_more (g.R.Read.remaining c.args.reader.now) (g.R.Read.remaining c.loop.reader) (g.R.Read.remaining c.read.new.self) c.loop.invariant.0 (take c.in-Ok.n c.read.new.buf) c.loop.invariant.1 c.in-Ok.ensures.bytes.0,
-     c.in_ok-keep-in-Ok.ensures.ok c.loop.invariant.0 c.loop.invariant.2)
+loop-preserved g c = (
+  c.loop.invariant.0 ++ take c.in-Ok.n c.read.new.buf,
+  consumes_more (g.R.Read.remaining c.args.reader.now) (g.R.Read.remaining c.loop.reader) (g.R.Read.remaining c.read.new.self) c.loop.invariant.0 (take c.in-Ok.n c.read.new.buf) c.loop.invariant.1 c.in-Ok.ensures.bytes.0,
+  c.in_ok-keep-in-Ok.ensures.ok c.loop.invariant.0 c.loop.invariant.2,
+)

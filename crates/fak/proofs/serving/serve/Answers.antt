@@ -1,4 +1,4 @@
-use Rattle.std.proofs.Common.{◌≡◌, List, ℕ, rules}
+use Rattle.std.proofs.Common.{List, ℕ, rules}
 use Rattle.std.specs.Io.KnownBytes.{Appends}
 use Rattle.std.proofs.lemmas.Result.{err_from_is_err_and}
 use Rattle.fak.specs.Answers.{reply_of}
@@ -8,8 +8,8 @@ use Rattle.fak.proofs.serving.serve.Goals as goal
 pub returns-clause-ok : goal.returns-clause-ok
 returns-clause-ok g c =
     serves (g.R.Read.remaining c.args.reader.now) c.args.command c.in_ok-input.input.items (reply_of c.in_ok-answer.answer)
-      (λ (text : List ℕ). Appends (g.W.Write.contents c.args.writer.now) (g.W.Write.contents c.write_text.new.writer) text)
-      c.in_ok-input.ensures.ok (search rules) (search rules)
+    (λ (text : List ℕ). Appends (g.W.Write.contents c.args.writer.now) (g.W.Write.contents c.write_text.new.writer) text)
+    c.in_ok-input.ensures.ok (search rules) (search rules)
 
 pub returns-in_err-answer-clause-fault : goal.returns-in_err-answer-clause-fault
 returns-in_err-answer-clause-fault g c =

@@ -1,4 +1,4 @@
-use Rattle.std.proofs.Common.{◌≡◌, ◌++◌, ◌-◌, ℕ, List}
+use Rattle.std.proofs.Common.{◌≡◌, ◌++◌, ◌-◌, List}
 use Rattle.std.specs.Prelude.{replicate}
 use Rattle.fak.specs.Replay.{Action, rows_from, steps, text_of_rows}
 use Rattle.fak.proofs.stepping.make_steps.Given as goal

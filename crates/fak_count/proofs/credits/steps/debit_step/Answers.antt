@@ -1,6 +1,4 @@
-use Rattle.std.proofs.Common.{rules, subst}
-use Rattle.atomic_table.specs.Table.{Allows}
-use Rattle.fak_count.specs.CreditShown.{IsShownCredit, MadeMark}
+use Rattle.std.proofs.Common.{rules}
 use Rattle.fak_count.proofs.CreditSteps.{debits_allowed}
 use Rattle.fak_count.proofs.credits.steps.debit_step.Goals as goal
 

@@ -1,26 +1,17 @@
-use Rattle.std.proofs.Common.{List}
-use Rattle.std.specs.Prelude.{All}
-use Rattle.std.proofs.lemmas.List.Elements.{All-push}
 use Rattle.std.proofs.lemmas.Result.{err_from_is_err_and}
 use Rattle.fak_text.specs.Values.{next_index}
-use Rattle.fak_text.specs.ScheduleText.{IsActInRange, event_from}
-use Rattle.fak_text.specs.declared.schedule.Event.{Event}
+use Rattle.fak_text.specs.ScheduleText.{event_from}
 use Rattle.fak_text.proofs.Elements.{goes_on, ends, is_done}
 use Rattle.fak_text.proofs.reading.schedule.events_of.Goals as goal
 
-pub returns-in_err-event_of-clause-gives : goal.returns-in_err-event_of-clause-gives
-returns-in_err-event_of-clause-gives c =
+pub returns-in_err-event_of : goal.returns-in_err-event_of
+returns-in_err-event_of c =
     let p = err_from_is_err_and c.from_residual.result c.from_residual.ensures.1 in
-    rw (p.1, p.2) (ends (event_from c.args.object) next_index c.in_err-event_of.field-0.0 c.loop-i.events.items c.args.values.now c.loop-i.i c.loop-i.i c.index-values-i.result _ c.loop-i-test.true c.index-values-i.is c.in_err-event_of.ensures.gives c.loop-i.invariant.0)
+    rw (p.1, p.2) (ends (event_from c.args.object) next_index c.in_err-event_of.field-0.0 c.loop-i.events.items c.args.values.now c.loop-i.i c.loop-i.i c.index-values-i.result _ c.loop-i-test.true c.index-values-i.is c.in_err-event_of.ensures c.loop-i.invariant)
 
 pub loop-i-preserved : goal.loop-i-preserved
-loop-i-preserved c = rw c.in_ok-push.ensures.items (
-  goes_on (event_from c.args.object) next_index c.loop-i.events.items c.args.values.now c.loop-i.i c.loop-i.i c.index-values-i.result c.in_ok-event_of.field-0 _ c.loop-i-test.true c.index-values-i.is c.in_ok-event_of.ensures.gives c.loop-i.invariant.0,
-  All-push (λ (event : Event). IsActInRange event.act) c.loop-i.events.items c.in_ok-event_of.field-0 c.loop-i.invariant.1 c.in_ok-event_of.ensures.range,
-)
+loop-i-preserved c =
+    rw c.in_ok-push.ensures.items (goes_on (event_from c.args.object) next_index c.loop-i.events.items c.args.values.now c.loop-i.i c.loop-i.i c.index-values-i.result c.in_ok-event_of.field-0 _ c.loop-i-test.true c.index-values-i.is c.in_ok-event_of.ensures c.loop-i.invariant)
 
-pub returns-clause-gives : goal.returns-clause-gives
-returns-clause-gives c = is_done (event_from c.args.object) next_index c.loop-i.events.items c.args.values.now c.loop-i.i c.loop-i.i _ c.loop-i-test.false c.loop-i.invariant.0
-
-pub returns-clause-range : goal.returns-clause-range
-returns-clause-range c = c.loop-i.invariant.1
+pub returns : goal.returns
+returns c = is_done (event_from c.args.object) next_index c.loop-i.events.items c.args.values.now c.loop-i.i c.loop-i.i _ c.loop-i-test.false c.loop-i.invariant

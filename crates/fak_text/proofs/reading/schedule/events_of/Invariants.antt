@@ -1,12 +1,9 @@
 use Rattle.std.proofs.Common.{◌≡◌, drop}
-use Rattle.std.specs.Prelude.{All}
 use Rattle.serde_json.specs.View.{items_view}
 use Rattle.fak_text.specs.Values.{each_from}
-use Rattle.fak_text.specs.ScheduleText.{IsActInRange, event_from}
+use Rattle.fak_text.specs.ScheduleText.{event_from}
 use Rattle.fak_text.proofs.Elements.{with_front}
 use Rattle.fak_text.proofs.reading.schedule.events_of.Given as goal
 
 abbrev pub invariant-loop-i : goal.invariant-loop-i
-invariant-loop-i l =
-    (with_front l.events.items (each_from (event_from l.object) l.i (items_view (drop l.i l.values))) ≡ each_from (event_from l.object) 0 (items_view l.values))
-    × All (λ event. IsActInRange event.act) l.events.items
+invariant-loop-i l = with_front l.events.items (each_from (event_from l.object) l.i (items_view (drop l.i l.values))) ≡ each_from (event_from l.object) 0 (items_view l.values)

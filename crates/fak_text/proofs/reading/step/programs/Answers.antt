@@ -9,7 +9,7 @@ use Rattle.fak_text.proofs.reading.step.programs.Goals as goal
 pub returns-in_err-program : goal.returns-in_err-program
 returns-in_err-program c =
     let p = err_from_is_err_and c.from_residual.result c.from_residual.ensures.1 in
-    rw (p.1, p.2) (ends (program_from c.args.limits) index_after c.in_err-program.field-0.0 (programs_of c.loop-value.programs.items) c.args.values.now c.loop-value.index c.loop-value.value-index c.value-item.result _ c.loop-value-test.true c.value-item.is c.in_err-program.ensures.read c.loop-value.invariant.so_far)
+    rw (p.1, p.2) (ends (program_from c.args.limits) index_after c.in_err-program.field-0.0 (programs_of c.loop-value.programs.items) c.args.values.now c.loop-value.index c.loop-value.value-index c.value-item.result _ c.loop-value-test.true c.value-item.is c.in_err-program.ensures.gives c.loop-value.invariant.so_far)
 
 pub loop-value-preserved : goal.loop-value-preserved
 loop-value-preserved c =
@@ -21,7 +21,7 @@ loop-value-preserved c =
     let moved : c.loop-value.index + length (steps_view program.items) ≡ c.loop-value.index + c.len.result = ap (λ (n : ℕ). c.loop-value.index + n) many in
     let few : vec_len program ≤ 1000 = c.in_ok-program.ensures.few in
     record {
-      so_far = rw (pushed, ← moved) (goes_on (program_from c.args.limits) index_after (programs_of c.loop-value.programs.items) c.args.values.now c.loop-value.index c.loop-value.value-index c.value-item.result (steps_view program.items) _ c.loop-value-test.true c.value-item.is c.in_ok-program.ensures.read c.loop-value.invariant.so_far);
+      so_far = rw (pushed, ← moved) (goes_on (program_from c.args.limits) index_after (programs_of c.loop-value.programs.items) c.args.values.now c.loop-value.index c.loop-value.value-index c.value-item.result (steps_view program.items) _ c.loop-value-test.true c.value-item.is c.in_ok-program.ensures.gives c.loop-value.invariant.so_far);
       at = omega arith;
     }
 

@@ -7,8 +7,8 @@ use Rattle.fak_text.specs.Views.{step_of, steps_view}
 use Rattle.fak_text.proofs.Elements.{goes_on, ends, is_done}
 use Rattle.fak_text.proofs.reading.step.steps.Goals as goal
 
-pub returns-in_err-step-clause-read : goal.returns-in_err-step-clause-read
-returns-in_err-step-clause-read c =
+pub returns-in_err-step-clause-gives : goal.returns-in_err-step-clause-gives
+returns-in_err-step-clause-gives c =
     let p = err_from_is_err_and c.from_residual.result c.from_residual.ensures.1 in
     rw (p.1, p.2) (ends (step_from c.args.limits) next_index c.in_err-step.field-0.0 (steps_view c.loop-value.steps.items) c.args.values.now c.loop-value.index c.loop-value.value-index c.value-item.result _ c.loop-value-test.true c.value-item.is c.in_err-step.ensures c.loop-value.invariant.so_far)
 
@@ -22,5 +22,5 @@ loop-value-preserved c =
       size = search rules;
     }
 
-pub returns-clause-read : goal.returns-clause-read
-returns-clause-read c = is_done (step_from c.args.limits) next_index (steps_view c.loop-value.steps.items) c.args.values.now c.loop-value.index c.loop-value.value-index _ c.loop-value-test.false c.loop-value.invariant.so_far
+pub returns-clause-gives : goal.returns-clause-gives
+returns-clause-gives c = is_done (step_from c.args.limits) next_index (steps_view c.loop-value.steps.items) c.args.values.now c.loop-value.index c.loop-value.value-index _ c.loop-value-test.false c.loop-value.invariant.so_far

@@ -10,4 +10,4 @@ loop-note-preserved c =
     let is_prefix = c.as_str.ensures.value ∙ c.in_ok-prefix.ensures in
     let same = λ (j : ℕ). ap (λ p. p ++ decimal j) is_prefix ∙ sym (text_of_name_push name j) in
     let more = text_of_journal-take name c.args.notes.now c.loop-note.note-index c.note-item.result (λ j. prefix ++ decimal j) c.loop-note-test.true c.note-item.is same in
-    c.in_ok-writeln.ensures.bytes ∙ rw c.loop-note.invariant (sym more)
+    c.in_ok-write.ensures.bytes ∙ rw c.loop-note.invariant (sym more)

@@ -1,13 +1,13 @@
-use Rattle.std.proofs.Common.{rules, ◌≡◌, refl, ◌∙◌, w64}
+use Rattle.std.proofs.Common.{rules, refl, ◌∙◌, w64}
 use Rattle.std.proofs.Math.Facts.{to_z-of_z}
-use Rattle.fak_model.proofs.RunningCalls.{token_phase}
-use Rattle.fak_count.proofs.CreditCalls.{one_name, same_table, observed_fits, token_observed, call_observed}
+use Rattle.fak_model.proofs.RunningCalls.{token_name, token_phase}
+use Rattle.fak_count.proofs.CreditCalls.{same_table, observed_fits, token_observed, call_observed}
 use Rattle.fak_count.proofs.credits.credit_object.Credit.value.Goals as goal
 
 pub observe_step-found-requires : goal.observe_step-found-requires
 observe_step-found-requires c = record {
   table = (same_table c.self.inside.table.shared.key c.seat.invariant c.seat.view_is c.self.view_is c.requires, c.self.invariant, refl);
-  seat = one_name c.seat.invariant;
+  seat = token_name c.seat.invariant;
   phase = token_phase c.seat.invariant;
 }
 

@@ -1,4 +1,3 @@
-use Rattle.std.proofs.Common.{rules}
 use Rattle.fak_model.proofs.Seats.{whole_mine}
 use Rattle.fak_model.proofs.RunningJoins.{whole_set}
 use Rattle.fak_count.specs.Credits.{seat_of}

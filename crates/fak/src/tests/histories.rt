@@ -1,0 +1,78 @@
+//! Verdicts on histories.
+
+use super::is_answer;
+use crate::{MainFault, check};
+use fak_text::{Field, TextFault};
+
+#[test]
+fn verdicts(rt: HostRuntime) {
+    let table = [
+        (
+            "{\"size\":2,\"marks\":[[0,\"claim-in\"],[0,\"put\",10],[0,\"fill\",0],[0,\"end-in\"],[0,\"claim-in\"],[0,\"put\",11],[0,\"fill\",1],[0,\"end-in\"],[1,\"claim-out\"],[1,\"got\",10],[2,\"claim-out\"],[2,\"got\",11],[2,\"take\",1],[2,\"end-out\"],[0,\"claim-in\"],[0,\"put\",12],[0,\"fill\",2]]}",
+            3,
+            "fault at 16\n",
+        ),
+        (
+            "{\"size\":2,\"marks\":[[0,\"claim-in\"],[0,\"put\",10],[0,\"fill\",0],[0,\"end-in\"],[0,\"claim-in\"],[0,\"put\",11],[0,\"fill\",1],[0,\"end-in\"],[1,\"claim-out\"],[1,\"got\",10],[2,\"claim-out\"],[2,\"got\",11],[2,\"take\",1],[2,\"end-out\"],[0,\"claim-in\"],[0,\"put\",12],[1,\"take\",0],[0,\"fill\",2]]}",
+            0,
+            "legal\n",
+        ),
+        ("{\"size\":1,\"marks\":[]}", 0, "legal\n"),
+        (
+            "{\"size\":1,\"marks\":[[0,\"claim-in\"],[0,\"put\",7]]}",
+            0,
+            "legal\n",
+        ),
+        (
+            "{\"size\":1,\"marks\":[[0,\"no-room\"]]}",
+            3,
+            "fault at 0\n",
+        ),
+        (
+            "{\"size\":1,\"marks\":[[0,\"close\"],[1,\"no-room\"]]}",
+            3,
+            "fault at 1\n",
+        ),
+        (
+            "{\"size\":1,\"marks\":[[0,\"close\"],[1,\"closed\"],[1,\"claim-in\"]]}",
+            3,
+            "fault at 2\n",
+        ),
+        ("{\"size\":1,\"marks\":[[0,\"closed\"]]}", 3, "fault at 0\n"),
+        (
+            "{\"size\":1,\"marks\":[[0,\"close\"],[1,\"late-in\"],[0,\"close\"],[1,\"back-in\"]]}",
+            0,
+            "legal\n",
+        ),
+    ];
+    for (input, status, text) in table {
+        assert!(rt;
+            is_answer(check(rt.alloc(), input.as_bytes()), status, text),
+            "at {input}"
+        );
+    }
+}
+
+#[test]
+fn faults_of_an_input(rt: HostRuntime) {
+    let table = [
+        ("{\"size\":0}", TextFault::Range(Field::Size)),
+        ("{\"size\":1}", TextFault::Missing(Field::Marks)),
+        (
+            "{\"size\":1,\"marks\":[[64,\"put\",1]]}",
+            TextFault::Range(Field::Marks),
+        ),
+        (
+            "{\"size\":1,\"marks\":[[0,\"put\"]]}",
+            TextFault::Range(Field::Marks),
+        ),
+        (
+            "{\"size\":1,\"marks\":[[0,\"shut\"]]}",
+            TextFault::UnknownOp(0),
+        ),
+    ];
+    for (input, fault) in table {
+        let answer = check(rt.alloc(), input.as_bytes()).map(|answer| answer.status);
+        assert_eq!(rt; answer, Err(MainFault::Text(fault)), "at {input}");
+    }
+}

@@ -1,0 +1,34 @@
+use Rattle.std.proofs.Common.{rules, ℕ, ap, subst, reverse}
+use Rattle.fak_model.specs.Room.{room_rules}
+use Rattle.fak_model.specs.Calls.{object_id, tally_info, IsJoined}
+use Rattle.fak_model.proofs.RunningCalls.{token_slots}
+use Rattle.fak_model.proofs.RunningJoins.{tally_at, seat_at, may_join, token_joined, set_joined, call_joined}
+use Rattle.fak_count.specs.RoomShown.{room_object}
+use Rattle.fak_count.specs.Rooms.{RoomInfo}
+use Rattle.fak_count.proofs.rooms.room_object.Room.join.Goals as goal
+
+pub join_seat-requires : goal.join_seat-requires
+join_seat-requires c =
+    let o = room_object c.self.inside.table.shared.key in
+    let object = ap (λ (x : RoomInfo). x.object) c.self.view_is in (
+      tally_at o c.tally.invariant.0 c.seat.invariant.0 c.tally.view_is c.seat.view_is object c.requires.fits.0 c.requires.fits.1,
+      seat_at o c.tally.invariant.0 c.seat.invariant.0 c.tally.view_is c.seat.view_is object c.requires.fits.0 c.requires.fits.1,
+      token_slots c.seat.invariant.0,
+      search (rules, c.self.invariant.0),
+      may_join o c.tally.invariant.0 c.seat.invariant.0 c.tally.view_is c.seat.view_is object c.requires.fits.0 c.requires.fits.1 _ _,
+    )
+
+pub invariant_of-result : goal.invariant_of-result
+invariant_of-result c =
+    let o = room_object c.self.inside.table.shared.key in
+    let object = ap (λ (x : RoomInfo). x.object) c.self.view_is in (
+      token_joined o c.tally.invariant.0 c.seat.invariant.0 c.tally.view_is c.seat.view_is object c.requires.fits.0 c.requires.fits.1 c.join_seat.ensures.2 c.hear_step.ensures.told,
+      set_joined o c.tally.invariant.0 c.seat.invariant.0 c.tally.view_is c.seat.view_is object c.requires.fits.0 c.requires.fits.1 c.join_seat.ensures.2 c.hear_step.ensures.told _ _ c.tally.invariant.1 c.insert.ensures,
+    )
+
+pub returns-clause-joined : goal.returns-clause-joined
+returns-clause-joined c =
+    let o = room_object c.self.inside.table.shared.key in
+    let object = ap (λ (x : RoomInfo). x.object) c.self.view_is in
+    subst (λ (b : ℕ). IsJoined (room_rules b) c.args.tally c.args.seat (tally_info (object_id c.hear_step.new.token.table_id c.tally.inside.seats) c.hear_step.new.token.me.0.names (reverse c.hear_step.new.token.me.0.seen))) (ap (λ (x : RoomInfo). x.bound) c.self.view_is)
+    (call_joined o c.tally.invariant.0 c.seat.invariant.0 c.tally.view_is c.seat.view_is object c.requires.fits.0 c.requires.fits.1 c.join_seat.ensures.2 c.hear_step.ensures.told {now = c.hear_step.new.token.table_id} (search rules))

@@ -1,0 +1,123 @@
+use Rattle.std.proofs.Common.{rules, ◌+◌, ◌-◌, ◌^◌, ◌<◌, ◌∙◌, w64, arith, inl, inr}
+use Rattle.std.proofs.Math.Facts.{to_z-of_z}
+use Rattle.fak_model.specs.declared.room.RoomKind.TheVariants.{Up, No}
+use Rattle.fak_model.proofs.RunningCalls.{token_name}
+use Rattle.fak_count.proofs.RoomCalls.{did_refuse, did_claim, did_withdraw, token_adding, token_backing, held_fits, at_room, own_token, within_stint, seat_after, held_after, makes_call, withdraws_claim}
+use Rattle.fak_count.proofs.rooms.room_object.Room.tir.Goals as goal
+
+-- ---- refused at the test
+
+pub invariant_of-seat : goal.invariant_of-seat
+invariant_of-seat c =
+    let at = at_room c.self.inside.table.shared.key c.seat.inside.left c.seat.invariant c.seat.view_is c.self.view_is c.requires.fits in
+    let bound = c.self.invariant.1 in
+    let fails = c.if-not-fits.true in
+    let did = did_refuse (own_token at) c.test_step-tested.ensures.told (omega (arith, bound, fails)) in
+    seat_after at did c.seat.inside.held (omega arith)
+
+pub returns-then-not-fits-clause-call : goal.returns-then-not-fits-clause-call
+returns-then-not-fits-clause-call c =
+    let at = at_room c.self.inside.table.shared.key c.seat.inside.left c.seat.invariant c.seat.view_is c.self.view_is c.requires.fits in
+    let bound = c.self.invariant.1 in
+    let fails = c.if-not-fits.true in
+    let did = did_refuse (own_token at) c.test_step-tested.ensures.told (omega (arith, bound, fails)) in
+    (within_stint at c.if-worn.false, inl (makes_call at (No c.args.d) did c.test_step-tested.ensures.same c.seat.inside.left (omega arith) (to_z-of_z {w = w64} (search rules) ∙ c.count_of.ensures)))
+
+pub returns-then-not-fits-clause-held : goal.returns-then-not-fits-clause-held
+returns-then-not-fits-clause-held c =
+    let at = at_room c.self.inside.table.shared.key c.seat.inside.left c.seat.invariant c.seat.view_is c.self.view_is c.requires.fits in
+    let bound = c.self.invariant.1 in
+    let fails = c.if-not-fits.true in
+    let did = did_refuse (own_token at) c.test_step-tested.ensures.told (omega (arith, bound, fails)) in
+    let e = held_after at did c.test_step-tested.new.token.table_id c.seat.inside.left in
+    omega (arith, e)
+
+-- ---- refused at the add
+
+pub add_step-found-requires-clause-seat : goal.add_step-found-requires-clause-seat
+add_step-found-requires-clause-seat c =
+    let at = at_room c.self.inside.table.shared.key c.seat.inside.left c.seat.invariant c.seat.view_is c.self.view_is c.requires.fits in
+    let bound = c.self.invariant.1 in
+    let passes = c.if-not-fits.false in
+    token_name (token_adding (own_token at) c.test_step-tested.ensures.told (omega (arith, bound, passes)))
+
+pub back_step-requires-clause-seat : goal.back_step-requires-clause-seat
+back_step-requires-clause-seat c =
+    let at = at_room c.self.inside.table.shared.key c.seat.inside.left c.seat.invariant c.seat.view_is c.self.view_is c.requires.fits in
+    let bound = c.self.invariant.1 in
+    let passes = c.if-not-fits.false in
+    let fails = c.if-not-still_fits.true in
+    token_name (token_backing (own_token at) c.test_step-tested.ensures.told (omega (arith, bound, passes)) c.add_step-found.ensures.told (omega (arith, bound, fails)))
+
+pub invariant_of-seat-then-not-still_fits : goal.invariant_of-seat-then-not-still_fits
+invariant_of-seat-then-not-still_fits c =
+    let at = at_room c.self.inside.table.shared.key c.seat.inside.left c.seat.invariant c.seat.view_is c.self.view_is c.requires.fits in
+    let bound = c.self.invariant.1 in
+    let passes = c.if-not-fits.false in
+    let fails = c.if-not-still_fits.true in
+    let did = did_withdraw (own_token at) c.test_step-tested.ensures.told (omega (arith, bound, passes)) c.add_step-found.ensures.told (omega (arith, bound, fails)) c.back_step.ensures.told in
+    seat_after at did c.seat.inside.held (omega arith)
+
+pub returns-then-not-still_fits-clause-call : goal.returns-then-not-still_fits-clause-call
+returns-then-not-still_fits-clause-call c =
+    let at = at_room c.self.inside.table.shared.key c.seat.inside.left c.seat.invariant c.seat.view_is c.self.view_is c.requires.fits in
+    let bound = c.self.invariant.1 in
+    let passes = c.if-not-fits.false in
+    let fails = c.if-not-still_fits.true in
+    let did = did_withdraw (own_token at) c.test_step-tested.ensures.told (omega (arith, bound, passes)) c.add_step-found.ensures.told (omega (arith, bound, fails)) c.back_step.ensures.told in
+    let same = c.back_step.ensures.same ∙ (c.add_step-found.ensures.same ∙ c.test_step-tested.ensures.same) in
+    (within_stint at c.if-worn.false, inr (withdraws_claim at did same (to_z-of_z {w = w64} (search rules) ∙ c.count_of-then-not-still_fits.ensures)))
+
+pub returns-then-not-still_fits-clause-held : goal.returns-then-not-still_fits-clause-held
+returns-then-not-still_fits-clause-held c =
+    let at = at_room c.self.inside.table.shared.key c.seat.inside.left c.seat.invariant c.seat.view_is c.self.view_is c.requires.fits in
+    let bound = c.self.invariant.1 in
+    let passes = c.if-not-fits.false in
+    let fails = c.if-not-still_fits.true in
+    let did = did_withdraw (own_token at) c.test_step-tested.ensures.told (omega (arith, bound, passes)) c.add_step-found.ensures.told (omega (arith, bound, fails)) c.back_step.ensures.told in
+    let e = held_after at did c.back_step.new.token.table_id c.seat.inside.left in
+    omega (arith, e)
+
+-- ---- granted
+
+pub overflow_add-seat : goal.overflow_add-seat
+overflow_add-seat c =
+    let at = at_room c.self.inside.table.shared.key c.seat.inside.left c.seat.invariant c.seat.view_is c.self.view_is c.requires.fits in
+    let bound = c.self.invariant.1 in
+    let passes = c.if-not-fits.false in
+    let still_passes = c.if-not-still_fits.false in
+    let did = did_claim (own_token at) c.test_step-tested.ensures.told (omega (arith, bound, passes)) c.add_step-found.ensures.told (omega (arith, bound, still_passes)) in
+    let held = (seat_after at did (c.seat.inside.held + c.args.d) (omega arith)).1 in
+    let fits = held_fits (own_token at) c.test_step-tested.ensures.told (omega (arith, bound, passes)) c.add_step-found.ensures.told (omega (arith, bound, still_passes)) in
+    let all : c.seat.inside.held + c.args.d < 2 ^ 64 = omega (arith, held, fits) in
+    search (rules, all)
+
+pub invariant_of-seat-2 : goal.invariant_of-seat-2
+invariant_of-seat-2 c =
+    let at = at_room c.self.inside.table.shared.key c.seat.inside.left c.seat.invariant c.seat.view_is c.self.view_is c.requires.fits in
+    let bound = c.self.invariant.1 in
+    let passes = c.if-not-fits.false in
+    let still_passes = c.if-not-still_fits.false in
+    let did = did_claim (own_token at) c.test_step-tested.ensures.told (omega (arith, bound, passes)) c.add_step-found.ensures.told (omega (arith, bound, still_passes)) in
+    seat_after at did (c.seat.inside.held + c.args.d) (omega arith)
+
+pub returns-clause-call : goal.returns-clause-call
+returns-clause-call c =
+    let at = at_room c.self.inside.table.shared.key c.seat.inside.left c.seat.invariant c.seat.view_is c.self.view_is c.requires.fits in
+    let bound = c.self.invariant.1 in
+    let passes = c.if-not-fits.false in
+    let still_passes = c.if-not-still_fits.false in
+    let did = did_claim (own_token at) c.test_step-tested.ensures.told (omega (arith, bound, passes)) c.add_step-found.ensures.told (omega (arith, bound, still_passes)) in
+    let some_left = c.if-worn.false in
+    let same = c.add_step-found.ensures.same ∙ c.test_step-tested.ensures.same in
+    (within_stint at some_left, makes_call at (Up c.args.d) did same (c.seat.inside.left - 1) (omega (arith, some_left)) (to_z-of_z {w = w64} (search rules) ∙ c.count_of-2.ensures))
+
+pub returns-clause-held : goal.returns-clause-held
+returns-clause-held c =
+    let at = at_room c.self.inside.table.shared.key c.seat.inside.left c.seat.invariant c.seat.view_is c.self.view_is c.requires.fits in
+    let bound = c.self.invariant.1 in
+    let passes = c.if-not-fits.false in
+    let still_passes = c.if-not-still_fits.false in
+    let did = did_claim (own_token at) c.test_step-tested.ensures.told (omega (arith, bound, passes)) c.add_step-found.ensures.told (omega (arith, bound, still_passes)) in
+    let e = held_after at did c.add_step-found.new.token.table_id (c.seat.inside.left - 1) in
+    omega (arith, e)

@@ -1,0 +1,10 @@
+use Rattle.fak_model.proofs.Seats.{whole_mine}
+use Rattle.fak_model.proofs.RunningJoins.{whole_set}
+use Rattle.fak_model.specs.Room.{seat_of}
+use Rattle.fak_count.proofs.rooms.tally.RoomTally.is_whole.Goals as goal
+
+pub returns-clause-whole : goal.returns-clause-whole
+returns-clause-whole c = rw (← c.self.view_is) (whole_set c.self.inside.names _ c.self.inside.seats c.has_all.result c.self.invariant.1 c.has_all.ensures)
+
+pub returns-clause-mine : goal.returns-clause-mine
+returns-clause-mine c = rw (← c.self.view_is) (λ h. whole_mine seat_of c.self.inside.seats _ _ ((whole_set c.self.inside.names _ c.self.inside.seats c.has_all.result c.self.invariant.1 c.has_all.ensures).0 h) c.self.invariant.0.named)

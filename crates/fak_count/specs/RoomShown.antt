@@ -1,0 +1,88 @@
+-- What a running room shows between two steps, and what each step tells.
+use Rattle.std.specs.Prelude.{ℕ, ◌+◌, ◌^◌, ◌<◌, ◌≤◌, ◌≡◌, pos, ◌+ℤ◌, List, [], ◌∷◌, reverse, slice_get, Some}
+use Rattle.atomic_table.specs.Table.{State, Me}
+use Rattle.fak_model.specs.declared.view.View.{View}
+use Rattle.fak_model.specs.declared.room.RoomKind.{RoomKind}
+use Rattle.fak_model.specs.declared.room.RoomKind.TheVariants.{Up, Over, No}
+use Rattle.fak_model.specs.declared.room.RoomMark.{RoomMark}
+use Rattle.fak_model.specs.Room.{WholeCall, room_rules, value, amount_held}
+use Rattle.fak_model.specs.Views.{opened}
+use Rattle.fak_model.specs.Shown.{Object, IsShown, Leaves, Hears}
+use Rattle.fak_core.specs.declared.room.phase.RoomPhase.{RoomPhase}
+use Rattle.fak_core.specs.declared.room.phase.RoomPhase.TheVariants.{Idle, Adding, Backing}
+use Rattle.fak_core.specs.Room.{RoomState}
+use Rattle.fak_core.specs.RoomSchedule as core
+use Rattle.fak_count.specs.declared.rooms.key.RoomKey.{RoomKey}
+use Rattle.fak_count.specs.Words.{bias, KeepsCount}
+
+abbrev pub RoomSight : Type 0
+RoomSight = View RoomMark RoomPhase
+
+abbrev pub RoomMine : Type 0
+RoomMine = Me (Unit {0}) RoomSight
+
+abbrev pub room_mark : ℕ → RoomKind → RoomMark
+room_mark name kind = record { seat = name; kind = kind }
+
+-- the core state is reached within the limits of a room
+pub record IsReachedRoom (key : RoomKey) (s : RoomState) : Type 0 where
+  pub reached : core.IsReached key.bound key.seats s
+  pub low : key.bound ≤ 4294967296
+  pub few : key.seats ≤ 64
+
+-- whatever it holds, the seat stands at this phase
+pub record StandsInRoom (s : RoomState) (name : ℕ) (phase : RoomPhase) : Type 0 where
+  pub holding : ℕ
+  pub seat : slice_get s.seats name ≡ Some (record { held = holding; phase = phase })
+
+-- a room's state is that of the room core; its seats draw no tickets
+abbrev pub room_object : RoomKey → Object RoomMark RoomKind WholeCall RoomPhase RoomState (Unit {0})
+room_object key = record {
+  rules = room_rules key.bound;
+  seats = key.seats;
+  tickets = 0;
+  drawn_of = λ s. 0;
+  past_of = λ s. s.past;
+  IsReached = IsReachedRoom key;
+  StandsAt = StandsInRoom;
+  Encodes = λ s words homes. KeepsCount s.count words;
+}
+
+abbrev pub IsShownRoom : RoomKey → State (Unit {0}) RoomSight → Type 0
+IsShownRoom key s = IsShown (room_object key) s
+
+abbrev pub opened_room : RoomKey → RoomSight
+opened_room key = opened Idle key.seats 0
+
+-- what the names of the view hold is at least d
+abbrev pub Holds : RoomSight → ℕ → Type 0
+Holds v d = (name : ℕ) → v.names ≡ name ∷ [] → d ≤ amount_held name (reverse v.seen)
+
+-- the word that was found keeps the value after this past
+abbrev pub FoundValue : ℕ → List RoomMark → Type 0
+FoundValue found past = pos found ≡ pos bias +ℤ value (reverse past)
+
+-- the seat left these marks, and stands at this phase
+abbrev pub LeavesRoom : RoomKey → RoomMine → ℕ → List RoomMark → RoomPhase → RoomMine → Type 0
+LeavesRoom key m found new phase after = Leaves (room_object key) m new phase 0 m.1 (FoundValue found) after
+
+-- a test: the claim goes on where it fits, and is refused where it doesn't
+pub record Tested (key : RoomKey) (d : ℕ) (m : RoomMine) (found : ℕ) (after : RoomMine) : Type 0 where
+  pub small : found < 2 ^ 63
+  pub fits : (name : ℕ) → m.0.names ≡ name ∷ [] → found + d ≤ bias + key.bound → LeavesRoom key m found [] (Adding d) after
+  pub full : (name : ℕ) → m.0.names ≡ name ∷ [] → bias + key.bound < found + d → LeavesRoom key m found (room_mark name (No d) ∷ []) Idle after
+
+-- an add: the claim is granted where it fits, and what the seat holds then is within the bound; it goes on to be
+-- withdrawn where it doesn't fit
+pub record Added (key : RoomKey) (d : ℕ) (m : RoomMine) (found : ℕ) (after : RoomMine) : Type 0 where
+  pub small : found < 2 ^ 63
+  pub fits : (name : ℕ) → m.0.names ≡ name ∷ [] → found + d ≤ bias + key.bound → LeavesRoom key m found (room_mark name (Up d) ∷ []) Idle after × (amount_held name (reverse after.0.seen) ≤ 4294967296)
+  pub full : (name : ℕ) → m.0.names ≡ name ∷ [] → bias + key.bound < found + d → LeavesRoom key m found (room_mark name (Over d) ∷ []) (Backing d) after
+
+-- a subtraction: the claim is withdrawn, or the amount given back
+pub record Lowered (key : RoomKey) (kind : RoomKind) (m : RoomMine) (found : ℕ) (after : RoomMine) : Type 0 where
+  pub small : found < 2 ^ 63
+  pub leaves : (name : ℕ) → m.0.names ≡ name ∷ [] → LeavesRoom key m found (room_mark name kind ∷ []) Idle after
+
+abbrev pub HeardJoin : RoomKey → RoomMine → RoomMine → Type 0
+HeardJoin key m after = Hears (room_object key) m after

@@ -1,0 +1,151 @@
+//! A room that threads share.
+
+ghost use Rattle.std.specs.Prelude.{◌≡◌, ◌+◌, ◌≤◌, MatchResult, if◌then◌else◌, is_ok};
+ghost use Rattle.fak_model.specs.declared.room.RoomKind.TheVariants.{Release};
+ghost use Rattle.fak_model.specs.Room.{room_rules};
+ghost use Rattle.fak_model.specs.Calls.{fresh_seats, IsJoined};
+ghost use Rattle.fak_count.specs.Opening.{IsInRange, IsOpenFault};
+ghost use Rattle.fak_count.specs.Rooms.{held_amount, IsGranted, IsRefused, MakesCall};
+
+use crate::fault::{OpenFault, TirFault};
+use crate::limits::tested_limits;
+use crate::rooms::key::{RoomKey, RoomView};
+use crate::rooms::law::RoomLaw;
+use crate::rooms::seat::RoomSeat;
+use crate::rooms::steps::{add_step, back_step, hear_step, release_step, test_step};
+use crate::rooms::tally::RoomTally;
+use crate::word::{BIAS, COUNT, WORDS, count_of};
+use atomic_table::Table;
+use fak_model::{Both, Deal};
+use std::alloc::Global;
+use std::marker::{Brand, Model};
+
+/// A count that claims raise while it stays within a bound, by test, increment and retest, and that releases lower
+/// (Gottlieb, Lubachevsky and Rudolph, TOPLAS 5(2), 1983).
+#[derive(Drop)]
+pub struct Room {
+    table: Table<(), RoomView, RoomKey, RoomLaw, Global>,
+    bound: u64,
+}
+
+impl Model for Room {
+    ghost use Rattle.std.specs.Prelude.{◌≡◌, ◌≤◌};
+    ghost use Rattle.fak_model.specs.Calls.{object_id};
+    ghost use Rattle.fak_count.specs.Rooms.{RoomInfo, room_info};
+
+    ghost Value = { RoomInfo };
+
+    ghost view = { λ r. room_info (object_id r.table.shared.table_id r.table.shared.key.seats) r.table.shared.key.bound };
+
+    ghost invariant = { λ r. (r.table.shared.table_id.words ≡ 31) × (r.bound ≡ r.table.shared.key.bound) × (r.bound ≤ 4294967296) };
+}
+
+impl Room {
+    /// A room whose count is 0, with its seats, each of which may be granted `stint` claims.
+    ///
+    /// `bound` is 0 to 4,294,967,296, `seats` 1 to 64, `stint` 1 to 2^40.
+    pub fn open(
+        alloc: Global,
+        bound: u64,
+        seats: u64,
+        stint: u64,
+    ) -> Result<(Room, Vec<RoomSeat>), OpenFault>
+        ensures { MatchResult result (λ r. IsInRange bound seats stint × (r.0.bound ≡ bound) × (r.0.object.seats ≡ seats) × (r.1.items ≡ fresh_seats r.0.object stint 0 seats)) (IsOpenFault bound seats stint) }
+    {
+        if let Err(fault) = tested_limits(bound, seats, stint) {
+            return Err(fault);
+        }
+        let mut words = [0; WORDS];
+        words[COUNT] = BIAS;
+        let Ok((table, mut rest)) = Table::of_words(alloc, &words, &RoomKey { bound, seats }) else {
+            return Err(OpenFault::Memory);
+        };
+        let Ok(mut dealt) = Vec::with_capacity(alloc, seats as usize) else {
+            return Err(OpenFault::Memory);
+        };
+        for name in 0..seats {
+            let seat = RoomSeat {
+                token: table.shared.split_seat::<Deal>(&mut rest),
+                name,
+                seats,
+                left: stint,
+                held: 0,
+            };
+            if dealt.push(seat).is_err() {
+                return Err(OpenFault::Memory);
+            }
+        }
+        Ok((Room { table, bound }, dealt))
+    }
+
+    /// Claims `d`, 1 to 1,024, where it fits beside the value, and answers the value that the add found.
+    pub fn tir(&self, seat: &mut RoomSeat, d: u64) -> Result<i64, TirFault>
+        requires amount { (1 ≤ d) × (d ≤ 1024) }
+        requires fits { seat.old.object ≡ self.now.object }
+        ensures object { seat.new.object ≡ seat.old.object }
+        ensures call { MatchResult result (IsGranted d self.now seat.old seat.new) (IsRefused d self.now seat.old seat.new) }
+        ensures held { held_amount seat.new ≡ held_amount seat.old + (if is_ok result then d else 0) }
+    {
+        let worn = seat.left == 0;
+        if worn {
+            return Err(TirFault::Worn);
+        }
+        let limit = BIAS + self.bound;
+        let tested = test_step::<Brand>(&self.table.shared, &mut seat.token, d);
+        let fits = tested + d <= limit;
+        if !fits {
+            return Err(TirFault::AtBound(count_of(tested)));
+        }
+        let found = add_step::<Brand>(&self.table.shared, &mut seat.token, d);
+        let still_fits = found + d <= limit;
+        if !still_fits {
+            back_step::<Brand>(&self.table.shared, &mut seat.token, d);
+            return Err(TirFault::AtBound(count_of(found)));
+        }
+        seat.left -= 1;
+        seat.held += d;
+        Ok(count_of(found))
+    }
+
+    /// Gives back `d`, 1 to 1,024, of what the seat holds, and answers the value before.
+    pub fn release(&self, seat: &mut RoomSeat, d: u64) -> i64
+        requires amount { (1 ≤ d) × (d ≤ 1024) }
+        requires fits { seat.old.object ≡ self.now.object }
+        requires holds { d ≤ held_amount seat.old }
+        ensures object { seat.new.object ≡ seat.old.object }
+        ensures call { MakesCall (Release d) self.now seat.old seat.new result }
+        ensures held { held_amount seat.new + d ≡ held_amount seat.old }
+    {
+        let found = release_step::<Brand>(&self.table.shared, &mut seat.token, d);
+        seat.held -= d;
+        count_of(found)
+    }
+
+    /// The tally with one more seat.
+    pub fn join(&self, tally: RoomTally, seat: RoomSeat) -> RoomTally
+        requires fits { (tally.object ≡ self.now.object) × (seat.object ≡ self.now.object) }
+        ensures joined { IsJoined (room_rules self.now.bound) tally seat result }
+        ensures object { result.object ≡ self.now.object }
+    {
+        let RoomTally {
+            mut token,
+            mut names,
+            seats,
+        } = tally;
+        let RoomSeat {
+            token: other,
+            name,
+            seats: _,
+            left: _,
+            held: _,
+        } = seat;
+        self.table.shared.join_seat::<Both>(&mut token, other);
+        hear_step::<Brand>(&self.table.shared, &mut token);
+        names.insert(name);
+        RoomTally {
+            token,
+            names,
+            seats,
+        }
+    }
+}

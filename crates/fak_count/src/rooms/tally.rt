@@ -1,0 +1,65 @@
+//! Seats of a room that were joined.
+
+ghost use Rattle.std.specs.Prelude.{◌≡◌, ◌↔◌, IsTrue};
+ghost use Rattle.fak_model.specs.Seats.{IsWhole, mine};
+ghost use Rattle.fak_model.specs.Calls.{tally_of};
+ghost use Rattle.fak_model.specs.Room.{seat_of};
+
+use crate::rooms::key::RoomView;
+use crate::rooms::seat::RoomSeat;
+use atomic_table::Seat;
+use fak_model::NameSet;
+use std::marker::Model;
+
+/// Seats of a room that were joined and make no calls any more. Contracts see its object, the names of the seats
+/// and the longest history that one of them has seen.
+#[derive(Drop)]
+pub struct RoomTally {
+    pub(crate) token: Seat<(), RoomView>,
+    pub(crate) names: NameSet,
+    pub(crate) seats: u64,
+}
+
+impl Model for RoomTally {
+    ghost use Rattle.std.specs.Prelude.{reverse};
+    ghost use Rattle.fak_model.specs.declared.room.RoomMark.{RoomMark};
+    ghost use Rattle.fak_model.specs.Names.{HasJust};
+    ghost use Rattle.fak_model.specs.Calls.{TallyInfo, tally_info, object_id};
+    ghost use Rattle.fak_model.specs.Tokens.{IsTallyToken};
+    ghost use Rattle.fak_core.specs.declared.room.phase.RoomPhase.TheVariants.{Idle};
+    ghost use Rattle.fak_model.specs.Room.{seat_of};
+
+    ghost Value = { TallyInfo RoomMark };
+
+    ghost view = { λ t. tally_info (object_id t.token.table_id t.seats) t.token.me.0.names (reverse t.token.me.0.seen) };
+
+    ghost invariant = { λ t. IsTallyToken seat_of t.seats Idle t.token.me × HasJust t.names t.token.me.0.names };
+}
+
+impl RoomTally {
+    /// The tally of one seat.
+    pub fn of(seat: RoomSeat) -> RoomTally
+        ensures { result ≡ tally_of seat }
+    {
+        let RoomSeat {
+            token,
+            name,
+            seats,
+            left: _,
+            held: _,
+        } = seat;
+        RoomTally {
+            token,
+            names: NameSet::of(name),
+            seats,
+        }
+    }
+
+    /// Whether all seats of the room are in it. Then each mark of its history is of one of them.
+    pub fn is_whole(&self) -> bool
+        ensures whole { IsTrue result ↔ IsWhole self.now.object.seats self.now.names }
+        ensures mine { IsTrue result → mine seat_of self.now.names self.now.seen ≡ self.now.seen }
+    {
+        self.names.has_all(self.seats)
+    }
+}

@@ -1,0 +1,120 @@
+//! Credits.
+
+ghost use Rattle.std.specs.Prelude.{◌≡◌};
+
+use crate::credits::{Credit, CreditSeat, CreditTally};
+use crate::fault::{OpenFault, Worn};
+use std::process::Abort;
+use std::test::*;
+use std::thread::{Threads, join};
+
+#[test]
+fn one_seat_debits_and_credits(rt: HostRuntime) -> Result<(), Fail> {
+    let Ok((credit, mut seats)) = Credit::open(rt.alloc(), 1, 1, 4) else {
+        return Err(Fail::from("open"));
+    };
+    let Some(mut a) = seats.pop() else {
+        return Err(Fail::from("one seat"));
+    };
+    assert_eq!(rt; credit.debit(&mut a), Ok(1));
+    assert_eq!(rt; credit.debit(&mut a), Ok(0));
+    assert_eq!(rt; credit.credit(&mut a), Ok(-1));
+    assert_eq!(rt; credit.value(&mut a), 0);
+    assert_eq!(rt; a.left(), 1);
+    assert_eq!(rt; credit.credit(&mut a), Ok(0));
+    assert_eq!(rt; credit.credit(&mut a), Err(Worn));
+    assert_eq!(rt; credit.debit(&mut a), Err(Worn));
+    assert_eq!(rt; credit.value(&mut a), 1);
+    assert!(rt; CreditTally::of(a).is_whole());
+    Ok(())
+}
+
+#[test]
+fn a_value_is_what_all_seats_made(rt: HostRuntime) -> Result<(), Fail> {
+    let Ok((credit, mut seats)) = Credit::open(rt.alloc(), 1, 2, 4) else {
+        return Err(Fail::from("open"));
+    };
+    let (Some(mut b), Some(mut a)) = (seats.pop(), seats.pop()) else {
+        return Err(Fail::from("two seats"));
+    };
+    assert_eq!(rt; credit.debit(&mut a), Ok(1));
+    assert_eq!(rt; credit.value(&mut b), 0);
+    assert_eq!(rt; credit.credit(&mut b), Ok(0));
+    assert_eq!(rt; credit.value(&mut a), 1);
+    let one = CreditTally::of(b);
+    assert!(rt; !one.is_whole());
+    let all = credit.join(one, a);
+    assert!(rt; all.is_whole());
+    Ok(())
+}
+
+#[test]
+fn credits_out_of_range_are_not_opened(rt: HostRuntime) -> Result<(), Fail> {
+    for (start, seats, stint, fault) in [
+        (4_294_967_297, 1, 1, OpenFault::BadSize),
+        (4_294_967_297, 0, 0, OpenFault::BadSize),
+        (0, 0, 0, OpenFault::BadSeats),
+        (1, 65, 1, OpenFault::BadSeats),
+        (1, 1, 0, OpenFault::BadStint),
+        (1, 1, 1_099_511_627_777, OpenFault::BadStint),
+    ] {
+        match Credit::open(rt.alloc(), start, seats, stint) {
+            Ok((_opened, _dealt)) => return Err(Fail::from("opened")),
+            Err(found) => assert_eq!(rt; found, fault),
+        }
+    }
+    let Ok((_widest, seats)) = Credit::open(rt.alloc(), 4_294_967_296, 64, 1_099_511_627_776) else {
+        return Err(Fail::from("widest"));
+    };
+    assert_eq!(rt; seats.len(), 64);
+    Ok(())
+}
+
+// So many debits.
+fn debits(credit: &Credit, mut seat: CreditSeat, count: usize) -> CreditSeat
+    requires { seat.object ≡ credit.now.object }
+    ensures { result.object ≡ credit.now.object }
+{
+    for _ in 0..count {
+        let _ = credit.debit(&mut seat);
+    }
+    seat
+}
+
+// So many credits.
+fn credits(credit: &Credit, mut seat: CreditSeat, count: usize) -> CreditSeat
+    requires { seat.object ≡ credit.now.object }
+    ensures { result.object ≡ credit.now.object }
+{
+    for _ in 0..count {
+        let _ = credit.credit(&mut seat);
+    }
+    seat
+}
+
+#[test]
+fn debits_and_credits_of_two_threads_cancel(rt: HostRuntime) -> Result<(), Fail> {
+    let Ok((credit, mut seats)) = Credit::open(rt.alloc(), 7, 3, 1000) else {
+        return Err(Fail::from("open"));
+    };
+    let (Some(mut c), Some(b), Some(a)) = (seats.pop(), seats.pop(), seats.pop()) else {
+        return Err(Fail::from("three seats"));
+    };
+    let credit = &credit;
+    let (a, b) = join(
+        &rt,
+        move || -> CreditSeat
+            requires { a.object ≡ credit.now.object }
+            ensures { result.object ≡ credit.entry.now.object }
+        { debits(credit, a, 1000) },
+        move || -> CreditSeat
+            requires { b.object ≡ credit.now.object }
+            ensures { result.object ≡ credit.entry.now.object }
+        { credits(credit, b, 1000) },
+    );
+    assert_eq!(rt; (a.left(), b.left()), (0, 0));
+    assert_eq!(rt; credit.value(&mut c), 7);
+    let all = credit.join(credit.join(CreditTally::of(c), a), b);
+    assert!(rt; all.is_whole());
+    Ok(())
+}

@@ -1,0 +1,111 @@
+//! Rooms.
+
+ghost use Rattle.std.specs.Prelude.{◌≡◌};
+
+use crate::fault::{OpenFault, TirFault};
+use crate::rooms::{Room, RoomSeat, RoomTally};
+use std::process::Abort;
+use std::test::*;
+use std::thread::{Threads, join};
+
+#[test]
+fn claims_and_releases_in_turn(rt: HostRuntime) -> Result<(), Fail> {
+    let Ok((room, mut seats)) = Room::open(rt.alloc(), 5, 2, 2) else {
+        return Err(Fail::from("open"));
+    };
+    let (Some(mut b), Some(mut a)) = (seats.pop(), seats.pop()) else {
+        return Err(Fail::from("two seats"));
+    };
+    assert_eq!(rt; room.tir(&mut a, 3), Ok(0));
+    assert_eq!(rt; room.tir(&mut b, 3), Err(TirFault::AtBound(3)));
+    assert_eq!(rt; room.tir(&mut b, 2), Ok(3));
+    assert_eq!(rt; a.held(), 3);
+    if a.held() < 3 {
+        return Err(Fail::from("held"));
+    }
+    assert_eq!(rt; room.release(&mut a, 3), 5);
+    assert_eq!(rt; a.left(), 1);
+    assert_eq!(rt; room.tir(&mut a, 1), Ok(2));
+    assert_eq!(rt; room.tir(&mut a, 1), Err(TirFault::Worn));
+    assert_eq!(rt; (a.left(), a.held()), (0, 1));
+    let one = RoomTally::of(a);
+    assert!(rt; !one.is_whole());
+    let all = room.join(one, b);
+    assert!(rt; all.is_whole());
+    Ok(())
+}
+
+#[test]
+fn a_room_of_bound_0_is_full(rt: HostRuntime) -> Result<(), Fail> {
+    let Ok((room, mut seats)) = Room::open(rt.alloc(), 0, 1, 1) else {
+        return Err(Fail::from("open"));
+    };
+    let Some(mut a) = seats.pop() else {
+        return Err(Fail::from("one seat"));
+    };
+    assert_eq!(rt; room.tir(&mut a, 1), Err(TirFault::AtBound(0)));
+    assert_eq!(rt; a.left(), 1);
+    assert!(rt; RoomTally::of(a).is_whole());
+    Ok(())
+}
+
+#[test]
+fn rooms_out_of_range_are_not_opened(rt: HostRuntime) -> Result<(), Fail> {
+    for (bound, seats, stint, fault) in [
+        (4_294_967_297, 1, 1, OpenFault::BadSize),
+        (4_294_967_297, 0, 0, OpenFault::BadSize),
+        (0, 0, 0, OpenFault::BadSeats),
+        (1, 65, 1, OpenFault::BadSeats),
+        (1, 1, 0, OpenFault::BadStint),
+        (1, 1, 1_099_511_627_777, OpenFault::BadStint),
+    ] {
+        match Room::open(rt.alloc(), bound, seats, stint) {
+            Ok((_opened, _dealt)) => return Err(Fail::from("opened")),
+            Err(found) => assert_eq!(rt; found, fault),
+        }
+    }
+    let Ok((_widest, seats)) = Room::open(rt.alloc(), 4_294_967_296, 64, 1_099_511_627_776) else {
+        return Err(Fail::from("widest"));
+    };
+    assert_eq!(rt; seats.len(), 64);
+    Ok(())
+}
+
+// So many claims of 1, each with its release where it is granted.
+fn rounds(room: &Room, mut seat: RoomSeat, count: usize) -> RoomSeat
+    requires { seat.object ≡ room.now.object }
+    ensures { result.object ≡ room.now.object }
+{
+    for _ in 0..count {
+        if room.tir(&mut seat, 1).is_ok() {
+            room.release(&mut seat, 1);
+        }
+    }
+    seat
+}
+
+#[test]
+fn two_threads_leave_a_room_empty(rt: HostRuntime) -> Result<(), Fail> {
+    let Ok((room, mut seats)) = Room::open(rt.alloc(), 1, 3, 1000) else {
+        return Err(Fail::from("open"));
+    };
+    let (Some(mut c), Some(b), Some(a)) = (seats.pop(), seats.pop(), seats.pop()) else {
+        return Err(Fail::from("three seats"));
+    };
+    let room = &room;
+    let (a, b) = join(
+        &rt,
+        move || -> RoomSeat
+            requires { a.object ≡ room.now.object }
+            ensures { result.object ≡ room.entry.now.object }
+        { rounds(room, a, 1000) },
+        move || -> RoomSeat
+            requires { b.object ≡ room.now.object }
+            ensures { result.object ≡ room.entry.now.object }
+        { rounds(room, b, 1000) },
+    );
+    assert_eq!(rt; room.tir(&mut c, 1), Ok(0));
+    let all = room.join(room.join(RoomTally::of(c), a), b);
+    assert!(rt; all.is_whole());
+    Ok(())
+}

@@ -1,0 +1,124 @@
+-- The kinds of a seat's marks as its calls go on.
+use Rattle.std.proofs.Common.{◌≡◌, ◌≢◌, ℕ, List, [], ◌∷◌, ◌++◌, refl, ap, sym, ◌∙◌, subst, inl, inr, append_assoc}
+use Rattle.std.specs.Prelude.{map}
+use Rattle.std.specs.List.{flat_map}
+use Rattle.std.proofs.lemmas.List.{append-nil, map-append}
+use Rattle.std.proofs.lemmas.Grind.{flat_map-append}
+use Rattle.fak_model.specs.declared.file.FileKind.{FileKind}
+use Rattle.fak_model.specs.declared.file.FileKind.TheVariants.{Take, Over, Back, No, Set, Give}
+use Rattle.fak_model.specs.declared.file.FileMark.{FileMark}
+use Rattle.fak_model.specs.Histories.{Owes, words_by}
+use Rattle.fak_model.specs.File.{Setting, set_mark, Refused, Withdrawn, Held, kinds_of_call, seat_of, kind_of, hold_after, hold_from, amount_held, IsAmount, IsFair, file_rules, IsFileHistory}
+use Rattle.fak_model.proofs.Appending.{seat_words-own, seat_words-other, history_push, history_begun, history_owed}
+use Rattle.fak_files.specs.declared.phase.Access.{Access}
+use Rattle.fak_files.specs.declared.phase.Access.TheVariants.{Read, Write}
+use Rattle.fak_files.specs.declared.phase.FilePhase.{FilePhase}
+use Rattle.fak_files.specs.declared.phase.FilePhase.TheVariants.{Idle, Backing, Holding}
+use Rattle.fak_files.specs.Phases.{amount_of, AreInHold, StandsIn}
+use Rattle.fak_files.specs.Running.{mark}
+
+-- ---- holds
+
+-- a hold owes its Give
+pub held_owes : (n : ℕ) (kinds : List FileKind) (sets : List Setting) → AreInHold n kinds sets → Owes kinds_of_call kinds (Give ∷ [])
+held_owes n kinds sets hold =
+    let last : flat_map kinds_of_call (Held n sets ∷ []) ≡ Take n ∷ (map set_mark sets ++ Give ∷ []) = append-nil (Take n ∷ (map set_mark sets ++ Give ∷ [])) in (
+      hold.0 ++ Held n sets ∷ [],
+      ap (λ l. l ++ Give ∷ []) hold.1 ∙ (append_assoc (flat_map kinds_of_call hold.0) (Take n ∷ map set_mark sets) (Give ∷ [])
+          ∙ (ap (λ l. flat_map kinds_of_call hold.0 ++ l) (sym last) ∙ sym (flat_map-append kinds_of_call hold.0 (Held n sets ∷ [])))),
+    )
+
+-- a hold in which one more field was set
+pub hold_more : (n : ℕ) (kinds : List FileKind) (sets : List Setting) (s : Setting) → AreInHold n kinds sets → AreInHold n (kinds ++ set_mark s ∷ []) (sets ++ s ∷ [])
+hold_more n kinds sets s hold = (
+  hold.0,
+  ap (λ l. l ++ set_mark s ∷ []) hold.1 ∙ (append_assoc (flat_map kinds_of_call hold.0) (Take n ∷ map set_mark sets) (set_mark s ∷ [])
+      ∙ ap (λ l. flat_map kinds_of_call hold.0 ++ Take n ∷ l) (sym (map-append set_mark sets (s ∷ [])))),
+)
+
+hold_begun : (n : ℕ) (kinds : List FileKind) → Owes kinds_of_call kinds [] → AreInHold n (kinds ++ Take n ∷ []) []
+hold_begun n kinds o = (o.0, ap (λ l. l ++ Take n ∷ []) (sym (append-nil kinds) ∙ o.1))
+
+hold_from-append : (n : ℕ) (a b : List FileKind) → hold_from n (a ++ b) ≡ hold_from (hold_from n a) b
+hold_from-append n [] b = refl
+hold_from-append n (x ∷ a) b = hold_from-append (hold_after n x) a b
+
+hold_from-sets : (n : ℕ) (sets : List Setting) → hold_from n (map set_mark sets) ≡ n
+hold_from-sets n [] = refl
+hold_from-sets n (s ∷ sets) = hold_from-sets n sets
+
+-- in a hold the seat holds what it took
+pub hold_amount : (n : ℕ) (kinds : List FileKind) (sets : List Setting) → AreInHold n kinds sets → hold_from 0 kinds ≡ n
+hold_amount n kinds sets hold = ap (hold_from 0) hold.1 ∙ (hold_from-append 0 (flat_map kinds_of_call hold.0) (Take n ∷ map set_mark sets) ∙ hold_from-sets n sets)
+
+-- ---- a mark of each kind
+
+-- a history that went on by a mark of this seat, which now stands at this phase
+pub record GoesOn (k : ℕ) (h : List FileMark) (name : ℕ) (kind : FileKind) (phase : FilePhase) : Type 0 where
+  pub lawful : IsFileHistory k (h ++ mark name kind ∷ [])
+  pub stands : StandsIn k (words_by seat_of kind_of name (h ++ mark name kind ∷ [])) phase
+
+module _ (k : ℕ) (h : List FileMark) (law : IsFileHistory k h) (name : ℕ) where
+  kinds : List FileKind
+  kinds = words_by seat_of kind_of name h
+
+  more : (kind : FileKind) → words_by seat_of kind_of name (h ++ mark name kind ∷ []) ≡ words_by seat_of kind_of name h ++ kind ∷ []
+  more kind = seat_words-own (file_rules k) name h (mark name kind) refl
+
+  pub amounts : (access : Access) → IsAmount k (amount_of k access)
+  amounts Read = inl refl
+  amounts Write = inr refl
+
+  pub refuses : (n : ℕ) → Owes kinds_of_call (words_by seat_of kind_of name h) [] → IsFair k h name (No n) → GoesOn k h name (No n) Idle
+  refuses n rest fair = let r = history_begun (file_rules k) h (mark name (No n)) (Refused n) [] law rest refl fair in record { lawful = r.0; stands = r.1 }
+
+  pub overdraws : (access : Access) → Owes kinds_of_call (words_by seat_of kind_of name h) [] → IsFair k h name (Over (amount_of k access)) → GoesOn k h name (Over (amount_of k access)) (Backing access)
+  overdraws access rest fair =
+      let r = history_begun (file_rules k) h (mark name (Over (amount_of k access))) (Withdrawn (amount_of k access)) (Back (amount_of k access) ∷ []) law rest refl fair in
+      record { lawful = r.0; stands = r.1 }
+
+  pub withdraws : (access : Access) → Owes kinds_of_call (words_by seat_of kind_of name h) (Back (amount_of k access) ∷ []) → GoesOn k h name (Back (amount_of k access)) Idle
+  withdraws access owes =
+      let r = history_owed (file_rules k) h (mark name (Back (amount_of k access))) [] law owes tt in
+      record { lawful = r.0; stands = r.1 }
+
+  -- the seat that begins a hold
+  begun : (access : Access) → AreInHold (amount_of k access) (words_by seat_of kind_of name (h ++ mark name (Take (amount_of k access)) ∷ [])) [] → StandsIn k (words_by seat_of kind_of name (h ++ mark name (Take (amount_of k access)) ∷ [])) (Holding access)
+  begun Read hold = hold
+  begun Write hold = ([], hold)
+
+  pub takes : (access : Access) → Owes kinds_of_call (words_by seat_of kind_of name h) [] → IsFair k h name (Take (amount_of k access)) → GoesOn k h name (Take (amount_of k access)) (Holding access)
+  takes access rest fair =
+      let n = amount_of k access in
+      let hold : AreInHold n (words_by seat_of kind_of name (h ++ mark name (Take n) ∷ [])) [] = subst (λ (ws : List FileKind). AreInHold n ws []) (sym (more (Take n))) (hold_begun n (words_by seat_of kind_of name h) rest) in
+      record {
+        lawful = history_push (file_rules k) h (mark name (Take n)) law (Give ∷ [], held_owes n (words_by seat_of kind_of name h ++ Take n ∷ []) [] (hold_begun n (words_by seat_of kind_of name h) rest)) fair;
+        stands = begun access hold;
+      }
+
+  pub sets_field : (i : ℕ) (f : _) (v : ℕ) → StandsIn k (words_by seat_of kind_of name h) (Holding Write) → GoesOn k h name (Set i f v) (Holding Write)
+  sets_field i f v stands =
+      let s : Setting = record { entry = i; field = f; to = v } in
+      let next = hold_more k (words_by seat_of kind_of name h) stands.0 s stands.1 in
+      record {
+        lawful = history_push (file_rules k) h (mark name (Set i f v)) law (Give ∷ [], held_owes k (words_by seat_of kind_of name h ++ Set i f v ∷ []) (stands.0 ++ s ∷ []) next) (hold_amount k (words_by seat_of kind_of name h) stands.0 stands.1);
+        stands = (stands.0 ++ s ∷ [], subst (λ (ws : List FileKind). AreInHold k ws (stands.0 ++ s ∷ [])) (sym (more (Set i f v))) next);
+      }
+
+  -- the Sets of a hold
+  pub hold_of : (access : Access) → StandsIn k (words_by seat_of kind_of name h) (Holding access) → (sets : List Setting) × AreInHold (amount_of k access) (words_by seat_of kind_of name h) sets
+  hold_of Read stands = ([], stands)
+  hold_of Write stands = stands
+
+  pub holds_amount : (access : Access) → StandsIn k (words_by seat_of kind_of name h) (Holding access) → amount_held name h ≡ amount_of k access
+  holds_amount access stands = let hold = hold_of access stands in hold_amount (amount_of k access) (words_by seat_of kind_of name h) hold.0 hold.1
+
+  pub gives_back : (access : Access) → StandsIn k (words_by seat_of kind_of name h) (Holding access) → GoesOn k h name Give Idle
+  gives_back access stands =
+      let hold = hold_of access stands in
+      let r = history_owed (file_rules k) h (mark name Give) [] law (held_owes (amount_of k access) (words_by seat_of kind_of name h) hold.0 hold.1) tt in
+      record { lawful = r.0; stands = r.1 }
+
+-- a mark of another seat changes nothing of a seat's
+pub stands_other : (k : ℕ) (h : List FileMark) (m : FileMark) (name : ℕ) (phase : FilePhase) → m.seat ≢ name → StandsIn k (words_by seat_of kind_of name h) phase → StandsIn k (words_by seat_of kind_of name (h ++ m ∷ [])) phase
+stands_other k h m name phase other stands = subst (λ (ws : List FileKind). StandsIn k ws phase) (sym (seat_words-other (file_rules k) name h m other)) stands

@@ -1,0 +1,187 @@
+-- A writer is alone, and what a seat reads in a hold.
+use Rattle.std.proofs.Common.{◌≡◌, ◌≢◌, ◌⊎◌, ℕ, zero, suc, ◌+◌, ◌<◌, ◌≤◌, ◌==◌, Bool, true, false, List, [], ◌∷◌, ◌++◌, Some, refl, ap, sym, ◌∙◌, subst, arith, inl, inr, append_assoc, true≢false}
+use Rattle.std.specs.Prelude.{reverse, All}
+use Rattle.std.proofs.lemmas.Bool.Decides.{nat_tests}
+use Rattle.std.proofs.lemmas.List.{append-nil}
+use Rattle.std.proofs.lemmas.List.Elements.{All-pop}
+use Rattle.fak_model.specs.declared.file.FileField.{FileField}
+use Rattle.fak_model.specs.declared.file.FileKind.{FileKind}
+use Rattle.fak_model.specs.declared.file.FileKind.TheVariants.{Take, Over, Back, No, Set, Give}
+use Rattle.fak_model.specs.declared.file.FileMark.{FileMark}
+use Rattle.fak_model.specs.Histories.{AreNamed, seat_words, sum_below, words_by}
+use Rattle.fak_model.specs.File.{seat_of, kind_of, hold_after, hold_from, amount_held, field_after, field, IsFair, file_rules, IsFileHistory}
+use Rattle.fak_model.specs.Seats.{In}
+use Rattle.fak_model.specs.Views.{Foreign, Sees}
+use Rattle.fak_model.proofs.Deciding.{same_or_not}
+use Rattle.fak_model.proofs.Appending.{seat_words-own, seat_words-other, history_front, last_fair}
+use Rattle.fak_model.proofs.Leading.{sum_term}
+use Rattle.fak_model.proofs.FileLaw.{files_fit, hold_push}
+use Rattle.fak_model.proofs.Reversing.{reverse_cons}
+use Rattle.fak_files.specs.Versions.{is_take, back_from_take, own_since_take}
+use Rattle.fak_files.proofs.Words.{field-push}
+
+-- ---- a writer is alone
+
+-- two seats' parts of a sum
+sum_two : (f : ℕ → ℕ) (s t n : ℕ) → s < n → t < n → s ≢ t → f s + f t ≤ sum_below f n
+sum_two f s t zero l k ne = absurd (omega (arith, l))
+sum_two f s t (suc n) l k ne = elim (same_or_not s n) [
+  | inl e ↦ omega (arith, ap f e, sum_term f t n (omega (arith, k, less s t n e ne)))
+  | inr d ↦ elim (same_or_not t n) [
+    | inl e ↦ omega (arith, ap f e, sum_term f s n (omega (arith, l, d)))
+    | inr c ↦ omega (arith, sum_two f s t n (omega (arith, l, d)) (omega (arith, k, c)) ne)
+  ]
+]
+  where
+    less : (s t n : ℕ) → s ≡ n → s ≢ t → t ≢ n
+    less s t n e ne q = ne (e ∙ sym q)
+
+-- who holds as much as there is holds alone
+pub alone : (k seats : ℕ) (h : List FileMark) → IsFileHistory k h → AreNamed (file_rules k) seats h → (s t : ℕ) → s < seats → t < seats → s ≢ t → amount_held s h ≡ k → amount_held t h ≡ 0
+alone k seats h law named s t low below ne all = omega (arith, files_fit k seats h law named, sum_two (λ i. amount_held i h) s t seats low below ne, all)
+
+-- ---- what a mark does to a seat's hold
+
+pub held_own : (k : ℕ) (h : List FileMark) (m : FileMark) (s : ℕ) → m.seat ≡ s → amount_held s (h ++ m ∷ []) ≡ hold_after (amount_held s h) m.kind
+held_own k h m s own = ap (hold_from 0) (seat_words-own (file_rules k) s h m own) ∙ hold_push 0 (seat_words (file_rules k) s h) m.kind
+
+pub held_other : (k : ℕ) (h : List FileMark) (m : FileMark) (s : ℕ) → m.seat ≢ s → amount_held s (h ++ m ∷ []) ≡ amount_held s h
+held_other k h m s other = ap (hold_from 0) (seat_words-other (file_rules k) s h m other)
+
+-- a mark that is no Take leaves a hold as it is, or ends it
+held_before : (n : ℕ) (kind : FileKind) → is_take kind ≡ false → 0 < hold_after n kind → 0 < n
+held_before n (Take a) none held = absurd (true≢false none)
+held_before n Give none held = absurd (omega (arith, held))
+held_before n (Over a) none held = held
+held_before n (Back a) none held = held
+held_before n (No a) none held = held
+held_before n (Set i f v) none held = held
+
+-- ---- what a seat reads
+
+-- a kind of mark that sets no field, or is a writer's
+sets_none : (k : ℕ) (h : List FileMark) (seat : ℕ) (kind : FileKind) → IsFair k h seat kind → (amount_held seat h ≡ k) ⊎ ((i : ℕ) (f : FileField) (v : ℕ) → field_after i f v kind ≡ v)
+sets_none k h seat (Set i f v) fair = inl fair
+sets_none k h seat (Take n) fair = inr (λ i f v. refl)
+sets_none k h seat (Over n) fair = inr (λ i f v. refl)
+sets_none k h seat (Back n) fair = inr (λ i f v. refl)
+sets_none k h seat (No n) fair = inr (λ i f v. refl)
+sets_none k h seat Give fair = inr (λ i f v. refl)
+
+-- what a seat reads in a hold, of marks with the newest first
+abbrev pub version : ℕ → List FileMark → List FileMark
+version name past = reverse (back_from_take name past) ++ reverse (own_since_take name past)
+
+module _ (k seats name : ℕ) (low : name < seats) (i : ℕ) (f : FileField) where
+  Reads : List FileMark → Type 0
+  Reads past = field (reverse past) i f ≡ field (version name past) i f
+
+  abbrev Facts : List FileMark → Type 0
+  Facts past = IsFileHistory k (reverse past) × AreNamed (file_rules k) seats (reverse past) × (0 < amount_held name (reverse past))
+
+  pub reads : (past : List FileMark) → IsFileHistory k (reverse past) → AreNamed (file_rules k) seats (reverse past) → 0 < amount_held name (reverse past) → field (reverse past) i f ≡ field (version name past) i f
+  reads [] law named held = absurd (omega (arith, held))
+  reads (m ∷ past) law named held = by (m.seat == name) refl (is_take m.kind) refl (reads past)
+    where
+      Named : FileMark → Type 0
+      Named w = w.seat < seats
+
+      law' : IsFileHistory k (reverse past ++ m ∷ [])
+      law' = subst (IsFileHistory k) (reverse_cons m past) law
+
+      pop : All (λ (w : FileMark). w.seat < seats) (reverse past) × (m.seat < seats)
+      pop = All-pop (λ (w : FileMark). w.seat < seats) (reverse past ++ m ∷ []) (reverse past) (Some m) refl (subst (AreNamed (file_rules k) seats) (reverse_cons m past) named)
+
+      held' : 0 < amount_held name (reverse past ++ m ∷ [])
+      held' = subst (λ (x : List FileMark). 0 < amount_held name x) (reverse_cons m past) held
+
+      front : IsFileHistory k (reverse past)
+      front = history_front (file_rules k) (reverse past) m law'
+
+      pushed : field (reverse (m ∷ past)) i f ≡ field_after i f (field (reverse past) i f) m.kind
+      pushed = ap (λ (x : List FileMark). field x i f) (reverse_cons m past) ∙ field-push (reverse past) m i f
+
+      other : m.seat ≢ name → field (reverse past) i f ≡ field (version name past) i f → field (reverse (m ∷ past)) i f ≡ field (version name past) i f
+      other ne ih = elim (sets_none k (reverse past) m.seat m.kind (last_fair (file_rules k) (reverse past) m law')) [
+        | inl all ↦ absurd (omega (arith, held', held_other k (reverse past) m name ne, alone k seats (reverse past) front pop.0 m.seat name pop.1 low ne all))
+        | inr none ↦ pushed ∙ (none i f (field (reverse past) i f) ∙ ih)
+      ]
+
+      own : field (reverse past) i f ≡ field (version name past) i f → field (reverse (m ∷ past)) i f ≡ field (reverse (back_from_take name past) ++ reverse (m ∷ own_since_take name past)) i f
+      own ih =
+          let long : reverse (back_from_take name past) ++ reverse (m ∷ own_since_take name past) ≡ version name past ++ m ∷ [] =
+          ap (λ l. reverse (back_from_take name past) ++ l) (reverse_cons m (own_since_take name past)) ∙ sym (append_assoc (reverse (back_from_take name past)) (reverse (own_since_take name past)) (m ∷ [])) in
+          pushed ∙ (ap (λ v. field_after i f v m.kind) ih ∙ (sym (field-push (version name past) m i f) ∙ ap (λ (x : List FileMark). field x i f) (sym long)))
+
+      apart : (m.seat == name) ≡ false → m.seat ≢ name
+      apart a e = grind (arith, nat_tests, a, e)
+
+      same : (m.seat == name) ≡ true → m.seat ≡ name
+      same a = grind (arith, nat_tests, a)
+
+      by : (a : Bool) → (m.seat == name) ≡ a → (b : Bool) → is_take m.kind ≡ b
+          → (IsFileHistory k (reverse past) → AreNamed (file_rules k) seats (reverse past) → 0 < amount_held name (reverse past) → field (reverse past) i f ≡ field (version name past) i f)
+          → field (reverse (m ∷ past)) i f ≡ field (version name (m ∷ past)) i f
+      by true a true b ih = rw (a, b) (ap (λ (x : List FileMark). field x i f) (sym (append-nil (reverse (m ∷ past)))))
+      by true a false b ih =
+          let before : 0 < amount_held name (reverse past) = held_before (amount_held name (reverse past)) m.kind b (subst (λ (x : ℕ). 0 < x) (held_own k (reverse past) m name (same a)) held') in
+          rw (a, b) (own (ih front pop.0 before))
+      by false a b e ih =
+          let before : 0 < amount_held name (reverse past) = omega (arith, held', held_other k (reverse past) m name (apart a)) in
+          rw a (other (apart a) (ih front pop.0 before))
+
+-- ---- the same as more is seen
+
+-- what a seat reads stays while it leaves no mark
+pub back_from_take-foreign : (name : ℕ) (names : List ℕ) (between past : List FileMark) → In name names → Foreign seat_of names between → back_from_take name (between ++ past) ≡ back_from_take name past
+back_from_take-foreign name names [] past i f = refl
+back_from_take-foreign name names (m ∷ between) past i f =
+    let t : (m.seat == name) ≡ false = grind (arith, nat_tests, other) in
+    rw t (back_from_take-foreign name names between past i f.1)
+  where
+    other : m.seat ≢ name
+    other e = f.0 (subst (λ (n : ℕ). In n names) (sym e) i)
+
+pub own_since_take-foreign : (name : ℕ) (names : List ℕ) (between past : List FileMark) → In name names → Foreign seat_of names between → own_since_take name (between ++ past) ≡ own_since_take name past
+own_since_take-foreign name names [] past i f = refl
+own_since_take-foreign name names (m ∷ between) past i f =
+    let t : (m.seat == name) ≡ false = grind (arith, nat_tests, other) in
+    rw t (own_since_take-foreign name names between past i f.1)
+  where
+    other : m.seat ≢ name
+    other e = f.0 (subst (λ (n : ℕ). In n names) (sym e) i)
+
+pub version-sees : (name : ℕ) (names : List ℕ) (seen past : List FileMark) → In name names → Sees seat_of names seen past → version name past ≡ version name seen
+version-sees name names seen past i s =
+    ap (version name) s.is ∙ (λ j. reverse (back_from_take-foreign name names s.between seen i s.foreign j) ++ reverse (own_since_take-foreign name names s.between seen i s.foreign j))
+
+pub back-sees : (name : ℕ) (names : List ℕ) (seen past : List FileMark) → In name names → Sees seat_of names seen past → back_from_take name past ≡ back_from_take name seen
+back-sees name names seen past i s = ap (back_from_take name) s.is ∙ back_from_take-foreign name names s.between seen i s.foreign
+
+-- ---- a reader
+
+-- whose last mark is its Take has set nothing since
+pub own_since-take : (k name n : ℕ) (past : List FileMark) (kinds : List FileKind) → words_by seat_of kind_of name (reverse past) ≡ kinds ++ Take n ∷ [] → own_since_take name past ≡ []
+own_since-take k name n [] kinds is = refl
+own_since-take k name n (m ∷ past) kinds is = by (m.seat == name) refl (own_since-take k name n past kinds)
+  where
+    words : words_by seat_of kind_of name (reverse past ++ m ∷ []) ≡ kinds ++ Take n ∷ []
+    words = ap (words_by seat_of kind_of name) (sym (reverse_cons m past)) ∙ is
+
+    last : {A : Type 0} (xs ys : List A) (x y : A) → xs ++ x ∷ [] ≡ ys ++ y ∷ [] → x ≡ y
+    last [] [] x y e = cc
+    last [] (z ∷ []) x y e = absurd cc
+    last [] (z ∷ w ∷ ys) x y e = absurd cc
+    last (z ∷ []) [] x y e = absurd cc
+    last (z ∷ w ∷ xs) [] x y e = absurd cc
+    last (z ∷ xs) (w ∷ ys) x y e = last xs ys x y cc
+
+    by : (a : Bool) → (m.seat == name) ≡ a → (words_by seat_of kind_of name (reverse past) ≡ kinds ++ Take n ∷ [] → own_since_take name past ≡ []) → own_since_take name (m ∷ past) ≡ []
+    by true a ih =
+        let same : m.seat ≡ name = grind (arith, nat_tests, a) in
+        let kind : m.kind ≡ Take n = last (words_by seat_of kind_of name (reverse past)) kinds m.kind (Take n) (sym (seat_words-own (file_rules k) name (reverse past) m same) ∙ words) in
+        let take : is_take m.kind ≡ true = ap is_take kind in
+        rw (a, take) refl
+    by false a ih =
+        let other : m.seat ≢ name = λ e. grind (arith, nat_tests, a, e) in
+        rw a (ih (sym (seat_words-other (file_rules k) name (reverse past) m other) ∙ words))

@@ -1,0 +1,11 @@
+pub mod Counts
+pub mod Grammar
+pub mod Words
+pub mod StepKinds
+pub mod Making
+pub mod SeatCalls
+pub mod HoldReads
+pub mod Opening
+pub mod Ending
+pub mod Waiting
+pub mod HoldLaws

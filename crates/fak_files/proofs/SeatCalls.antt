@@ -1,0 +1,190 @@
+-- From the steps of a seat's token to what the seat's call promises.
+use Rattle.std.proofs.Common.{◌≡◌, ◌≢◌, ℕ, ◌+◌, ◌-◌, ◌<◌, ◌≤◌, List, [], ◌∷◌, ◌++◌, refl, ap, sym, ◌∙◌, subst, arith, inl, inr}
+use Rattle.std.specs.Prelude.{reverse, map, ℤ, slice_index}
+use Rattle.std.specs.List.{sum_by, flat_map}
+use Rattle.std.proofs.lemmas.List.{append-nil, reverse-reverse}
+use Rattle.std.proofs.lemmas.List.Sums.{sum_by-cons, sum_by-append}
+use Rattle.fak_model.specs.declared.file.FileKind.{FileKind}
+use Rattle.fak_model.specs.declared.file.FileKind.TheVariants.{Take, Over, Back, No, Set, Give}
+use Rattle.fak_model.specs.declared.file.FileField.{FileField}
+use Rattle.fak_model.specs.declared.file.FileField.TheVariants.{Inode, Uses}
+use Rattle.fak_model.specs.declared.file.FileEntry.{FileEntry}
+use Rattle.fak_model.specs.declared.file.FileMark.{FileMark}
+use Rattle.fak_model.specs.File.{seat_of, kinds_of_call, field, file_rules}
+use Rattle.fak_model.specs.Seats.{In, marks_of}
+use Rattle.fak_model.specs.Calls.{ObjectId, seat_info, Appends}
+use Rattle.fak_model.specs.Tokens.{IsSeatToken}
+use Rattle.fak_model.proofs.RunningCalls.{token_names}
+use Rattle.fak_files.specs.declared.phase.Access.{Access}
+use Rattle.fak_files.specs.declared.phase.Access.TheVariants.{Read, Write}
+use Rattle.fak_files.specs.declared.phase.FilePhase.{FilePhase}
+use Rattle.fak_files.specs.declared.phase.FilePhase.TheVariants.{Idle, Holding}
+use Rattle.fak_files.specs.declared.phase.Hold.{Hold}
+use Rattle.fak_files.specs.declared.phase.Hold.TheVariants.{Nothing, Reading, Writing}
+use Rattle.fak_files.specs.Phases.{amount_of, phase_of, hold_for}
+use Rattle.fak_files.specs.declared.rule.FileLimits.{FileLimits}
+use Rattle.fak_files.specs.Running.{limits, Mine, mark, Steps, Got}
+use Rattle.fak_files.specs.Versions.{entry_of, back_from_take, own_since_take, prefix_through_take, marks_since_take}
+use Rattle.fak_files.specs.Calls.{FileSeatInfo, one_hold, holds_of, LeavesMarks, IsGranted, IsBusy, IsGot, IsSet, IsEnded}
+use Rattle.fak_files.specs.SeatTokens.{seat_now, IsFileSeat, Makes, Misses}
+use Rattle.fak_files.proofs.Making.{some_object, makes_none, makes_one, none_then}
+use Rattle.fak_files.proofs.Grammar.{holds_amount}
+use Rattle.fak_files.proofs.HoldReads.{version, reads, version-sees, own_since-take}
+
+-- the phase of a hold
+pub phase_of-hold_for : (access : Access) → phase_of (hold_for access) ≡ Holding access
+phase_of-hold_for Read = refl
+phase_of-hold_for Write = refl
+
+-- the holds that a seat had after a step
+holds_after : {seats name : ℕ} {kinds : List FileKind} {phase : FilePhase} {m after : Mine} → Makes seats name kinds phase m after
+    → holds_of name (reverse after.0.seen) ≡ holds_of name (reverse m.0.seen) + sum_by one_hold (map (mark name) kinds)
+holds_after {seats} {name} {kinds} {m = m} x =
+    ap (sum_by one_hold) ((x.appends (some_object seats) 0 refl).mine) ∙ sum_by-append one_hold (marks_of seat_of name (reverse m.0.seen)) (map (mark name) kinds)
+
+-- a seat's fields after steps
+pub file_seat_after : {name seats : ℕ} {hold : Hold} {kinds : List FileKind} {phase : FilePhase} {m after : Mine} (next : Hold) → IsFileSeat name seats hold m → Makes seats name kinds phase m after → phase ≡ phase_of next → IsFileSeat name seats next after
+file_seat_after {name} {seats} {after = after} next f x is = record {
+  token = subst (λ (p : FilePhase). IsSeatToken seat_of seats name p 0 after) is x.token;
+  lawful = (x.appends (some_object seats) 0 refl).lawful;
+}
+
+module _ (object object' : ObjectId) (same : object' ≡ object) (name left : ℕ) (hold : Hold) (m after : Mine) where
+  -- the marks that a call leaves, where so many holds are left then
+  pub leaves_of : (kinds : List FileKind) (phase : FilePhase) → Makes object.seats name kinds phase m after → (left' : ℕ) → left' + sum_by one_hold (map (mark name) kinds) ≡ left → (next : Hold)
+      → LeavesMarks kinds (seat_now object name left hold m).seat (seat_now object' name left' next after).seat
+  leaves_of kinds phase x left' fits next =
+      let stint : left' + holds_of name (reverse after.0.seen) ≡ left + holds_of name (reverse m.0.seen) = omega (arith, fits, holds_after x) in
+      subst (λ (y : ObjectId × ℕ). Appends (file_rules object.seats) (map (mark name) kinds) (seat_info object name (left + holds_of name (reverse m.0.seen)) (reverse m.0.seen)) (seat_info y.0 name y.1 (reverse after.0.seen)))
+      (λ i. (sym same i, sym stint i)) (x.appends object (left + holds_of name (reverse m.0.seen)) refl)
+
+  pub granted_of : (access : Access) (old : FileSeatInfo) → seat_now object name left hold m ≡ old → left ≢ 0 → Makes object.seats name (Take (amount_of object.seats access) ∷ []) (Holding access) m after → (next : Hold) → next ≡ hold_for access
+      → IsGranted access old (seat_now object' name (left - 1) next after)
+  granted_of access old is some x next for = subst (λ (y : FileSeatInfo). IsGranted access y (seat_now object' name (left - 1) next after)) is record {
+    within = omega (arith, some);
+    leaves = leaves_of (Take (amount_of object.seats access) ∷ []) (Holding access) x (left - 1) (omega (arith, some, sum_by-cons one_hold (mark name (Take (amount_of object.seats access))) [])) next;
+    hold = for;
+  }
+
+  pub busy_of : (access : Access) (old : FileSeatInfo) (answer : ℤ) → seat_now object name left hold m ≡ old → left ≢ 0 → Misses object.seats name (amount_of object.seats access) m after answer
+      → IsBusy access old (seat_now object' name left hold after) answer
+  busy_of access old answer is some x = subst (λ (y : FileSeatInfo). IsBusy access y (seat_now object' name left hold after) answer) is record {
+    within = omega (arith, some);
+    leaves = elim x.makes [
+      | inl y ↦ inl (leaves_of (No (amount_of object.seats access) ∷ []) Idle y left (omega (arith, sum_by-cons one_hold (mark name (No (amount_of object.seats access))) [])) hold)
+      | inr y ↦ inr (leaves_of (Over (amount_of object.seats access) ∷ Back (amount_of object.seats access) ∷ []) Idle y left
+          (omega (arith, sum_by-cons one_hold (mark name (Over (amount_of object.seats access))) (mark name (Back (amount_of object.seats access)) ∷ []), sum_by-cons one_hold (mark name (Back (amount_of object.seats access))) [])) hold)
+    ];
+    answers = x.answers;
+    hold = refl;
+  }
+
+-- a seat's fields after a claim that was refused
+pub file_seat_missed : {name seats n : ℕ} {hold : Hold} {m after : Mine} {answer : ℤ} → IsFileSeat name seats hold m → Misses seats name n m after answer → Idle ≡ phase_of hold → IsFileSeat name seats hold after
+file_seat_missed {hold = hold} f x is = elim x.makes [ inl y ↦ file_seat_after hold f y is | inr y ↦ file_seat_after hold f y is ]
+
+-- ---- steps whose name and number of seats are read off the table and the token
+
+module _ {name seats : ℕ} {was : FilePhase} {m : Mine} (t : IsSeatToken seat_of seats name was 0 m) (table : FileLimits) (is : table.seats ≡ seats) where
+  named : slice_index m.0.names 0 ≡ name
+  named = ap (λ (x : Mine). slice_index x.0.names 0) t.me_is
+
+  own : IsSeatToken seat_of table.seats name was 0 m
+  own = subst (λ (k : ℕ). IsSeatToken seat_of k name was 0 m) (sym is) t
+
+  -- a step with one mark
+  pub one_made : (kind : FileKind) (phase : FilePhase) {tells : List FileMark → Type 0} {after : Mine} → Steps table (slice_index m.0.names 0) m (mark (slice_index m.0.names 0) kind ∷ []) phase tells after → Makes seats name (kind ∷ []) phase m after
+  one_made kind phase {tells} {after} step =
+      let step' : Steps table name m (mark name kind ∷ []) phase tells after = subst (λ (n : ℕ). Steps table n m (mark n kind ∷ []) phase tells after) named step in
+      subst (λ (k : ℕ). Makes k name (kind ∷ []) phase m after) is (makes_one table name kind own step')
+
+  -- a load
+  pub none_made : {phase : FilePhase} {tells : List FileMark → Type 0} {after : Mine} → Steps table (slice_index m.0.names 0) m [] phase tells after → Makes seats name [] phase m after
+  none_made {phase} {tells} {after} step =
+      let step' : Steps table name m [] phase tells after = subst (λ (n : ℕ). Steps table n m [] phase tells after) named step in
+      subst (λ (k : ℕ). Makes k name [] phase m after) is (makes_none table name own step')
+
+  -- a load of a field
+  pub field_loaded : (access : Access) (i : ℕ) (f : FileField) (found : ℕ) {after : Mine} → Got table (slice_index m.0.names 0) access i f m found after → Got table name access i f m found after
+  field_loaded access i f found {after} step = subst (λ (n : ℕ). Got table n access i f m found after) named step
+
+-- ---- what is read
+
+amount_some : (k : ℕ) (access : Access) → 1 ≤ k → 1 ≤ amount_of k access
+amount_some k Read some = omega arith
+amount_some k Write some = some
+
+prefix_through_take-reverse : (name : ℕ) (past : List FileMark) → prefix_through_take name (reverse past) ≡ reverse (back_from_take name past)
+prefix_through_take-reverse name past = ap (λ p. reverse (back_from_take name p)) (reverse-reverse past)
+
+marks_since_take-reverse : (name : ℕ) (past : List FileMark) → marks_since_take name (reverse past) ≡ reverse (own_since_take name past)
+marks_since_take-reverse name past = ap (λ p. reverse (own_since_take name p)) (reverse-reverse past)
+
+module _ (table : FileLimits) (name : ℕ) (access : Access) where
+  -- a load of a field reads what the seat may read
+  loaded : (i : ℕ) (f : FileField) (found : ℕ) (m after : Mine) → name < table.seats → Got table name access i f m found after → found ≡ field (version name after.0.seen) i f
+  loaded i f found m after low step =
+      let l = step.leaves in
+      let seen : after.0.seen ≡ l.past = ap (λ (x : Mine). x.0.seen) l.after_is in
+      let held = holds_amount table.seats (reverse l.past) l.lawful name access l.told.stands in
+      l.told.found_is ∙ (reads table.seats table.seats name low i f l.past l.lawful l.named (omega (arith, held, amount_some table.seats access (omega (arith, low)))) ∙ ap (λ (p : List FileMark). field (version name p) i f) (sym seen))
+
+  -- it stays what it was as more is seen
+  stays : {tells : List FileMark → Type 0} (m after : Mine) → In name m.0.names → Steps table name m [] (Holding access) tells after → version name after.0.seen ≡ version name m.0.seen
+  stays m after i step =
+      let l = step.leaves in
+      ap (λ (x : Mine). version name x.0.seen) l.after_is ∙ version-sees name m.0.names m.0.seen l.past i l.sees
+
+-- a reader has set nothing since
+nothing_set : (table : FileLimits) (name i : ℕ) (f : FileField) (found : ℕ) (m after : Mine) → Got table name Read i f m found after → own_since_take name after.0.seen ≡ []
+nothing_set table name i f found m after step =
+    let l = step.leaves in
+    let stands = l.told.stands in
+    ap (λ (x : Mine). own_since_take name x.0.seen) l.after_is ∙ own_since-take table.seats name 1 l.past (flat_map kinds_of_call stands.0) stands.1
+
+-- what a version says, in the words of contracts
+version_is : (name : ℕ) (past : List FileMark) → version name past ≡ prefix_through_take name (reverse past) ++ marks_since_take name (reverse past)
+version_is name past = λ i. sym (prefix_through_take-reverse name past) i ++ sym (marks_since_take-reverse name past) i
+
+-- in a reader's hold
+version_reads : (table : FileLimits) (name : ℕ) (access : Access) (hold : Hold) → hold_for access ≡ hold → (i : ℕ) (f : FileField) (found : ℕ) (m after : Mine) → Got table name access i f m found after → hold ≡ Reading
+    → version name after.0.seen ≡ prefix_through_take name (reverse after.0.seen)
+version_reads table name Read hold is i f found m after step reading =
+    ap (λ l. reverse (back_from_take name after.0.seen) ++ reverse l) (nothing_set table name i f found m after step) ∙ (append-nil (reverse (back_from_take name after.0.seen)) ∙ sym (prefix_through_take-reverse name after.0.seen))
+version_reads table name Write hold is i f found m after step reading = absurd (parted (is ∙ reading))
+  where
+    parted : Writing ≡ Reading → ⊥
+    parted e = cc
+
+module _ (object object' : ObjectId) (same : object' ≡ object) (name left : ℕ) (hold : Hold) (m : Mine) (f : IsFileSeat name object.seats hold m) (table : FileLimits) (is : table.seats ≡ object.seats) (old : FileSeatInfo) (old_is : seat_now object name left hold m ≡ old) where
+  pub set_of : (i : ℕ) (g : FileField) (v : ℕ) {tells : List FileMark → Type 0} (after : Mine) → Steps table (slice_index m.0.names 0) m (mark (slice_index m.0.names 0) (Set i g v) ∷ []) (Holding Write) tells after → IsSet i g v old (seat_now object' name left hold after)
+  set_of i g v after step = subst (λ (y : FileSeatInfo). IsSet i g v y (seat_now object' name left hold after)) old_is record {
+    leaves = leaves_of object object' same name left hold m after (Set i g v ∷ []) (Holding Write) (one_made f.token table is (Set i g v) (Holding Write) step) left (omega (arith, sum_by-cons one_hold (mark name (Set i g v)) [])) hold;
+    hold = refl;
+  }
+
+  pub ended_of : {tells : List FileMark → Type 0} (after : Mine) → Steps table (slice_index m.0.names 0) m (mark (slice_index m.0.names 0) Give ∷ []) Idle tells after → IsEnded old (seat_now object' name left Nothing after)
+  ended_of after step = subst (λ (y : FileSeatInfo). IsEnded y (seat_now object' name left Nothing after)) old_is record {
+    leaves = leaves_of object object' same name left hold m after (Give ∷ []) Idle (one_made f.token table is Give Idle step) left (omega (arith, sum_by-cons one_hold (mark name Give) [])) Nothing;
+    hold = refl;
+  }
+
+  pub got_of : (access : Access) → hold_for access ≡ hold → (i inode uses : ℕ) (mid after : Mine) → Got table (slice_index m.0.names 0) access i Inode m inode mid → Got table (slice_index mid.0.names 0) access i Uses mid uses after
+      → IsGot i old (seat_now object' name left hold after) (record { inode = inode; uses = uses })
+  got_of access for i inode uses mid after one two =
+      let first = field_loaded f.token table is access i Inode inode one in
+      let x = none_made f.token table is one in
+      let second = field_loaded x.token table is access i Uses uses two in
+      let y = none_made x.token table is two in
+      let low : name < table.seats = omega (arith, f.token.below, is) in
+      let among : In name mid.0.names = subst (In name) (sym (token_names x.token)) (inl refl) in
+      let inode_is : inode ≡ field (version name after.0.seen) i Inode = loaded table name access i Inode inode m mid low first ∙ ap (λ (p : List FileMark). field p i Inode) (sym (stays table name access mid after among second)) in
+      let uses_is : uses ≡ field (version name after.0.seen) i Uses = loaded table name access i Uses uses mid after low second in
+      let entry : FileEntry = record { inode = inode; uses = uses } in
+      let is : entry ≡ entry_of (version name after.0.seen) i = λ t. record { inode = inode_is t; uses = uses_is t } in
+      subst (λ (z : FileSeatInfo). IsGot i z (seat_now object' name left hold after) entry) old_is record {
+        leaves = leaves_of object object' same name left hold m after [] (Holding access) (none_then (limits 0 object.seats) name [] x y) left (omega arith) hold;
+        hold = refl;
+        reading = λ reading. is ∙ ap (λ (p : List FileMark). entry_of p i) (version_reads table name access hold for i Uses uses mid after second reading);
+        holding = is ∙ ap (λ (p : List FileMark). entry_of p i) (version_is name after.0.seen);
+      }

@@ -1,0 +1,7 @@
+use Rattle.std.proofs.Common.{slice_index}
+use Rattle.fak_model.specs.declared.file.FileField.TheVariants.{Inode}
+use Rattle.fak_files.proofs.table.FileTable.end.Given as goal
+
+-- the step is this seat's, on this table
+abbrev pub ghosts-give : goal.ghosts-give
+ghosts-give a = record { table = a.words.now.key; name = slice_index a.token.now.me.0.names 0; access = a._access; entry = 0; field = Inode; to = 0 }

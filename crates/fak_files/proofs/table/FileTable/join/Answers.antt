@@ -1,0 +1,46 @@
+use Rattle.std.proofs.Common.{rules, ℕ, ap, subst, ◌∙◌}
+use Rattle.std.specs.Prelude.{reverse}
+use Rattle.fak_model.specs.Calls.{object_id, tally_info, IsJoined}
+use Rattle.fak_model.specs.File.{seat_of, file_rules}
+use Rattle.fak_model.specs.Tokens.{IsSeatToken}
+use Rattle.fak_model.proofs.RunningCalls.{token_slots}
+use Rattle.fak_model.proofs.RunningJoins.{tally_at, seat_at, may_join, token_joined, set_joined, call_joined}
+use Rattle.fak_files.specs.Phases.{phase_of}
+use Rattle.fak_files.specs.Running.{file_object}
+use Rattle.fak_files.proofs.table.FileTable.join.Goals as goal
+
+pub join_seat-requires : goal.join_seat-requires
+join_seat-requires c =
+    let o = file_object c.self.inside.table.shared.key in
+    let object = ap (λ x. x.object) c.self.view_is in
+    let seat = ap (λ s. s.seat) c.seat.view_is in
+    let idle = ap phase_of (ap (λ s. s.hold) c.seat.view_is ∙ c.requires.free) in
+    let token = subst (λ p. IsSeatToken seat_of c.seat.inside.seats c.seat.inside.name p 0 c.seat.inside.token.me) idle c.seat.invariant.token in (
+      tally_at o c.tally.invariant.0 token c.tally.view_is seat object c.requires.table.0 c.requires.table.1,
+      seat_at o c.tally.invariant.0 token c.tally.view_is seat object c.requires.table.0 c.requires.table.1,
+      token_slots token,
+      search (rules, c.self.invariant),
+      may_join o c.tally.invariant.0 token c.tally.view_is seat object c.requires.table.0 c.requires.table.1 _ _,
+    )
+
+pub invariant_of-result : goal.invariant_of-result
+invariant_of-result c =
+    let o = file_object c.self.inside.table.shared.key in
+    let object = ap (λ x. x.object) c.self.view_is in
+    let seat = ap (λ s. s.seat) c.seat.view_is in
+    let idle = ap phase_of (ap (λ s. s.hold) c.seat.view_is ∙ c.requires.free) in
+    let token = subst (λ p. IsSeatToken seat_of c.seat.inside.seats c.seat.inside.name p 0 c.seat.inside.token.me) idle c.seat.invariant.token in (
+      token_joined o c.tally.invariant.0 token c.tally.view_is seat object c.requires.table.0 c.requires.table.1 c.join_seat.ensures.2 c.compare.ensures.told,
+      set_joined o c.tally.invariant.0 token c.tally.view_is seat object c.requires.table.0 c.requires.table.1 c.join_seat.ensures.2 c.compare.ensures.told _ _ c.tally.invariant.1 c.insert.ensures,
+    )
+
+pub returns-clause-joined : goal.returns-clause-joined
+returns-clause-joined c =
+    let o = file_object c.self.inside.table.shared.key in
+    let object = ap (λ x. x.object) c.self.view_is in
+    let seat = ap (λ s. s.seat) c.seat.view_is in
+    let idle = ap phase_of (ap (λ s. s.hold) c.seat.view_is ∙ c.requires.free) in
+    let token = subst (λ p. IsSeatToken seat_of c.seat.inside.seats c.seat.inside.name p 0 c.seat.inside.token.me) idle c.seat.invariant.token in
+    subst (λ (k : ℕ). IsJoined (file_rules k) c.args.tally c.args.seat.seat (tally_info (object_id c.compare.new.token.table_id c.tally.inside.seats) c.compare.new.token.me.0.names (reverse c.compare.new.token.me.0.seen)))
+    (ap (λ x. x.object.seats) c.self.view_is)
+    (call_joined o c.tally.invariant.0 token c.tally.view_is seat object c.requires.table.0 c.requires.table.1 c.join_seat.ensures.2 c.compare.ensures.told (c.compare.ensures.same ∙ c.join_seat.ensures.0))

@@ -1,0 +1,7 @@
+use Rattle.std.proofs.Common.{slice_index}
+use Rattle.fak_files.specs.declared.phase.Access.TheVariants.{Write}
+use Rattle.fak_files.proofs.table.FileTable.set.Given as goal
+
+-- the step is this seat's, on this table
+abbrev pub ghosts-set_field : goal.ghosts-set_field
+ghosts-set_field a = record { table = a.words.now.key; name = slice_index a.token.now.me.0.names 0; access = Write; entry = a.entry; field = a.field; to = a.to }

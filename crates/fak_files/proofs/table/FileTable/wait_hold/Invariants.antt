@@ -1,0 +1,8 @@
+use Rattle.std.proofs.Common.{◌≡◌}
+use Rattle.fak_files.specs.declared.phase.Hold.TheVariants.{Nothing}
+use Rattle.fak_files.proofs.Waiting.{IsTrying}
+use Rattle.fak_files.proofs.table.FileTable.wait_hold.Given as goal
+
+-- the tries so far were refused
+abbrev pub invariant-loop : goal.invariant-loop
+invariant-loop g l = IsTrying l.access l.fn.seat l.seat × (l.seat.seat.object ≡ l.self.object) × (l.seat.hold ≡ Nothing)

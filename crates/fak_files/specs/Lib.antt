@@ -1,0 +1,7 @@
+pub mod Phases
+pub mod Running
+pub mod Versions
+pub mod Calls
+pub mod SeatTokens
+pub mod Opening
+pub mod Closing

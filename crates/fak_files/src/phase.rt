@@ -1,0 +1,71 @@
+//! Where a seat stands, and what it holds.
+
+ghost use Rattle.std.specs.Prelude.{◌≡◌, ◌≢◌};
+
+/// What a hold is for. A reader takes 1 from the count, a writer the number of seats.
+#[derive(Clone, Copy, Debug, PartialEq, Eq)]
+pub enum Access {
+    Read,
+    Write,
+}
+
+impl Access {
+    ghost use Rattle.fak_files.specs.Phases.{amount_of, hold_for};
+
+    /// What a hold takes of a count of so many seats.
+    pub(crate) fn amount(self, seats: u64) -> u64
+        ensures { result ≡ amount_of seats self }
+    {
+        match self {
+            Access::Read => 1,
+            Access::Write => seats,
+        }
+    }
+
+    /// The hold that is granted.
+    pub(crate) fn hold(self) -> Hold
+        ensures { result ≡ hold_for self }
+    {
+        match self {
+            Access::Read => Hold::Reading,
+            Access::Write => Hold::Writing,
+        }
+    }
+}
+
+/// Where a seat stands in a call.
+pub enum FilePhase {
+    /// It holds nothing, and is in no call.
+    Idle,
+    /// Its test has passed; it subtracts next.
+    Taking(Access),
+    /// Its subtraction took too much; it adds the amount again next.
+    Backing(Access),
+    /// It holds the table.
+    Holding(Access),
+}
+
+/// What a seat holds of the file table.
+#[derive(Clone, Copy, Debug, PartialEq, Eq)]
+pub enum Hold {
+    Nothing,
+    Reading,
+    Writing,
+}
+
+impl Hold {
+    ghost use Rattle.fak_files.specs.Phases.{hold_for};
+    ghost use Rattle.fak_files.specs.declared.phase.Hold.TheVariants.{Nothing};
+
+    /// What the hold is for.
+    pub(crate) fn access(self) -> Access
+        requires { self ≢ Nothing }
+        ensures { hold_for result ≡ self }
+    {
+        match self {
+            Hold::Reading => Access::Read,
+            Hold::Writing => Access::Write,
+            Hold::Nothing => unreachable!(),
+        }
+    }
+}

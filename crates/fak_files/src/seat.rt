@@ -1,0 +1,39 @@
+//! A seat of a file table.
+
+ghost use Rattle.std.specs.Prelude.{◌≡◌};
+
+use crate::phase::Hold;
+use crate::step::FileToken;
+use std::marker::Model;
+
+/// The right to hold a `FileTable`, as often as its stint says. Contracts see its object, its name, its stint, the
+/// history that it has seen, and what it holds.
+#[derive(Drop)]
+pub struct FileSeat {
+    pub(crate) token: FileToken,
+    pub(crate) name: u64,
+    pub(crate) seats: u64,
+    pub(crate) left: u64,
+    pub(crate) hold: Hold,
+}
+
+impl Model for FileSeat {
+    ghost use Rattle.fak_model.specs.Calls.{object_id};
+    ghost use Rattle.fak_files.specs.Calls.{FileSeatInfo};
+    ghost use Rattle.fak_files.specs.SeatTokens.{seat_now, IsFileSeat};
+
+    ghost Value = { FileSeatInfo };
+
+    ghost view = { λ s. seat_now (object_id s.token.table_id s.seats) s.name s.left s.hold s.token.me };
+
+    ghost invariant = { λ s. IsFileSeat s.name s.seats s.hold s.token.me };
+}
+
+impl FileSeat {
+    /// What the seat holds.
+    pub fn hold(&self) -> Hold
+        ensures { result ≡ self.now.hold }
+    {
+        self.hold
+    }
+}

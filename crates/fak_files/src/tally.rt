@@ -1,0 +1,99 @@
+//! Seats of a file table that are brought together.
+
+ghost use Rattle.std.specs.Prelude.{◌≡◌, ◌↔◌, IsTrue};
+ghost use Rattle.fak_model.specs.File.{seat_of, file_rules};
+ghost use Rattle.fak_model.specs.Seats.{IsWhole, mine};
+ghost use Rattle.fak_model.specs.Calls.{tally_of, IsJoined};
+ghost use Rattle.fak_files.specs.declared.phase.Hold.TheVariants.{Nothing};
+
+use crate::seat::FileSeat;
+use crate::step::{FileToken, compare};
+use crate::table::FileTable;
+use fak_model::{Both, NameSet};
+use std::marker::{Brand, Model};
+
+/// Seats of a file table that make no calls any more. Contracts see their object, their names, and the longest
+/// history that one of them has seen.
+#[derive(Drop)]
+pub struct FileTally {
+    pub(crate) token: FileToken,
+    pub(crate) names: NameSet,
+    pub(crate) seats: u64,
+}
+
+impl Model for FileTally {
+    ghost use Rattle.std.specs.Prelude.{reverse};
+    ghost use Rattle.fak_model.specs.declared.file.FileMark.{FileMark};
+    ghost use Rattle.fak_model.specs.File.{seat_of};
+    ghost use Rattle.fak_model.specs.Names.{HasJust};
+    ghost use Rattle.fak_model.specs.Calls.{TallyInfo, tally_info, object_id};
+    ghost use Rattle.fak_model.specs.Tokens.{IsTallyToken};
+    ghost use Rattle.fak_files.specs.declared.phase.FilePhase.TheVariants.{Idle};
+
+    ghost Value = { TallyInfo FileMark };
+
+    ghost view = { λ t. tally_info (object_id t.token.table_id t.seats) t.token.me.0.names (reverse t.token.me.0.seen) };
+
+    ghost invariant = { λ t. IsTallyToken seat_of t.seats Idle t.token.me × HasJust t.names t.token.me.0.names };
+}
+
+impl FileTally {
+    /// The tally of one seat, which holds nothing.
+    pub fn of(seat: FileSeat) -> FileTally
+        requires { seat.hold ≡ Nothing }
+        ensures { result ≡ tally_of seat.seat }
+    {
+        let FileSeat {
+            token,
+            name,
+            seats,
+            left: _,
+            hold: _,
+        } = seat;
+        FileTally {
+            token,
+            names: NameSet::of(name),
+            seats,
+        }
+    }
+
+    /// Whether all seats of the table are in it. Then each mark of its history is of one of them.
+    pub fn is_whole(&self) -> bool
+        ensures whole { IsTrue result ↔ IsWhole self.now.object.seats self.now.names }
+        ensures mine { IsTrue result → mine seat_of self.now.names self.now.seen ≡ self.now.seen }
+    {
+        self.names.has_all(self.seats)
+    }
+}
+
+impl FileTable {
+    /// The tally with one more seat, which holds nothing.
+    pub fn join(&self, tally: FileTally, seat: FileSeat) -> FileTally
+        requires table { (tally.object ≡ self.now.object) × (seat.seat.object ≡ self.now.object) }
+        requires free { seat.hold ≡ Nothing }
+        ensures joined { IsJoined (file_rules self.now.object.seats) tally seat.seat result }
+        ensures table { result.object ≡ self.now.object }
+    {
+        let FileTally {
+            mut token,
+            mut names,
+            seats,
+        } = tally;
+        let FileSeat {
+            token: other,
+            name,
+            seats: _,
+            left: _,
+            hold: _,
+        } = seat;
+        let words = &self.table.shared;
+        words.join_seat::<Both>(&mut token, other);
+        compare::<Brand>(words, &mut token);
+        names.insert(name);
+        FileTally {
+            token,
+            names,
+            seats,
+        }
+    }
+}

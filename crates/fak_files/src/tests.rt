@@ -1,0 +1,225 @@
+ghost use Rattle.std.specs.Prelude.{◌≡◌, ◌<◌};
+ghost use Rattle.fak_files.specs.declared.phase.Hold.TheVariants.{Nothing};
+
+use crate::{FileFault, FileField, FileSeat, FileTable, FileTally, Hold, OpenFault, Worn};
+use std::alloc::Global;
+use std::sync::Wait;
+use std::test::*;
+use std::thread::{Threads, join};
+
+// A writer is refused beside a reader, and a reader beside a writer, whose Sets are read after its end.
+#[test]
+fn one_thread(rt: HostRuntime) -> Result<(), Fail> {
+    let Ok((table, mut seats)) = FileTable::open(rt.alloc(), 1, 2, 10) else {
+        return Err(Fail::from("open"));
+    };
+    let (Some(mut b), Some(mut a)) = (seats.pop(), seats.pop()) else {
+        return Err(Fail::from("two seats"));
+    };
+    let Ok(()) = table.try_read(&mut a) else {
+        return Err(Fail::from("the first read"));
+    };
+    assert!(rt; a.hold() == Hold::Reading);
+    let Err(FileFault::Busy(1)) = table.try_write(&mut b) else {
+        return Err(Fail::from("a write beside a reader"));
+    };
+    table.end(&mut a);
+    assert!(rt; a.hold() == Hold::Nothing);
+    let Ok(()) = table.try_write(&mut b) else {
+        return Err(Fail::from("the write"));
+    };
+    assert!(rt; b.hold() == Hold::Writing);
+    let Err(FileFault::Busy(0)) = table.try_read(&mut a) else {
+        return Err(Fail::from("a read beside a writer"));
+    };
+    table.set(&mut b, 0, FileField::Inode, 7);
+    table.set(&mut b, 0, FileField::Uses, 1);
+    assert_eq!(rt; table.get(&mut b, 0).inode, 7);
+    table.end(&mut b);
+    let Ok(()) = table.try_read(&mut a) else {
+        return Err(Fail::from("the second read"));
+    };
+    let entry = table.get(&mut a, 0);
+    assert_eq!(rt; entry.inode, 7);
+    assert_eq!(rt; entry.uses, 1);
+    table.end(&mut a);
+    let tally = FileTally::of(b);
+    assert!(rt; !tally.is_whole());
+    let tally = table.join(tally, a);
+    if !tally.is_whole() {
+        return Err(Fail::from("a whole tally"));
+    }
+    let rest = table.close(tally);
+    let entry = rest.get(0);
+    assert_eq!(rt; entry.inode, 7);
+    assert_eq!(rt; entry.uses, 1);
+    Ok(())
+}
+
+// A seat that is dropped while it reads keeps what it took: writers are refused, readers are not, and no tally is whole.
+#[test]
+fn a_reader_is_dropped(rt: HostRuntime) -> Result<(), Fail> {
+    let Ok((table, mut seats)) = FileTable::open(rt.alloc(), 1, 3, 10) else {
+        return Err(Fail::from("open"));
+    };
+    let (Some(mut c), Some(mut b), Some(mut a)) = (seats.pop(), seats.pop(), seats.pop()) else {
+        return Err(Fail::from("three seats"));
+    };
+    let Ok(()) = table.try_read(&mut a) else {
+        return Err(Fail::from("the dropped read"));
+    };
+    drop(a);
+    let Err(FileFault::Busy(2)) = table.try_write(&mut b) else {
+        return Err(Fail::from("a write beside a dropped reader"));
+    };
+    let Ok(()) = table.try_read(&mut b) else {
+        return Err(Fail::from("the read"));
+    };
+    table.end(&mut b);
+    assert!(rt; c.hold() == Hold::Nothing);
+    let tally = table.join(FileTally::of(b), c);
+    assert!(rt; !tally.is_whole());
+    Ok(())
+}
+
+// A seat has as many holds as its stint, by tries and by waiting; refused tries don't count.
+#[test]
+fn a_seat_is_worn(rt: HostRuntime) -> Result<(), Fail> {
+    let Ok((table, mut seats)) = FileTable::open(rt.alloc(), 2, 2, 2) else {
+        return Err(Fail::from("open"));
+    };
+    let (Some(mut b), Some(mut a)) = (seats.pop(), seats.pop()) else {
+        return Err(Fail::from("two seats"));
+    };
+    let Ok(()) = table.read(&rt, &mut a) else {
+        return Err(Fail::from("the first hold"));
+    };
+    let Err(FileFault::Busy(1)) = table.try_write(&mut b) else {
+        return Err(Fail::from("a refused try"));
+    };
+    table.end(&mut a);
+    let Ok(()) = table.write(&rt, &mut a) else {
+        return Err(Fail::from("the second hold"));
+    };
+    table.end(&mut a);
+    let Err(FileFault::Worn) = table.try_read(&mut a) else {
+        return Err(Fail::from("a third hold"));
+    };
+    let Err(FileFault::Worn) = table.try_write(&mut a) else {
+        return Err(Fail::from("a third hold to write"));
+    };
+    let Err(Worn) = table.read(&rt, &mut a) else {
+        return Err(Fail::from("a third hold by waiting"));
+    };
+    let Err(Worn) = table.write(&rt, &mut a) else {
+        return Err(Fail::from("a third hold to write by waiting"));
+    };
+    let Ok(()) = table.try_write(&mut b) else {
+        return Err(Fail::from("the other seat"));
+    };
+    table.set(&mut b, 1, FileField::Uses, 5);
+    assert_eq!(rt; table.get(&mut b, 1).uses, 5);
+    assert_eq!(rt; table.get(&mut b, 0).uses, 0);
+    table.end(&mut b);
+    Ok(())
+}
+
+fn fault_of(alloc: Global, entries: u64, seats: u64, stint: u64) -> Option<OpenFault> {
+    FileTable::open(alloc, entries, seats, stint).err()
+}
+
+// The first value that is out of range is answered.
+#[test]
+fn ranges(rt: HostRuntime) {
+    assert!(rt; fault_of(rt.alloc(), 17, 0, 0) == Some(OpenFault::BadSize));
+    assert!(rt; fault_of(rt.alloc(), 0, 1, 1) == Some(OpenFault::BadSize));
+    assert!(rt; fault_of(rt.alloc(), 1, 0, 0) == Some(OpenFault::BadSeats));
+    assert!(rt; fault_of(rt.alloc(), 1, 65, 1) == Some(OpenFault::BadSeats));
+    assert!(rt; fault_of(rt.alloc(), 1, 1, 0) == Some(OpenFault::BadStint));
+    assert!(rt; fault_of(rt.alloc(), 1, 1, 1_099_511_627_777) == Some(OpenFault::BadStint));
+    assert!(rt; fault_of(rt.alloc(), 16, 64, 1_099_511_627_776).is_none());
+}
+
+// So many writer's holds, the j-th of which sets both fields of entry 0 to j.
+fn write_in_turn<R: Wait>(rt: &R, table: &FileTable, mut seat: FileSeat, count: u64) -> FileSeat
+    requires table { (seat.seat.object ≡ table.now.object) × (0 < table.now.entries) }
+    requires free { seat.hold ≡ Nothing }
+    ensures table { result.seat.object ≡ table.now.object }
+    ensures free { result.hold ≡ Nothing }
+{
+    for j in 0..count {
+        let Ok(()) = table.write(rt, &mut seat) else {
+            return seat;
+        };
+        table.set(&mut seat, 0, FileField::Inode, j + 1);
+        table.set(&mut seat, 0, FileField::Uses, j + 1);
+        table.end(&mut seat);
+    }
+    seat
+}
+
+// So many reader's holds, with two looks at entry 0 in each: whether both looks were equal, their fields too, and no
+// look found less than an earlier one.
+fn read_in_turn<R: Wait>(
+    rt: &R,
+    table: &FileTable,
+    mut seat: FileSeat,
+    count: u64,
+) -> (FileSeat, bool)
+    requires table { (seat.seat.object ≡ table.now.object) × (0 < table.now.entries) }
+    requires free { seat.hold ≡ Nothing }
+    ensures table { result.0.seat.object ≡ table.now.object }
+    ensures free { result.0.hold ≡ Nothing }
+{
+    let mut last = 0;
+    for _ in 0..count {
+        let Ok(()) = table.read(rt, &mut seat) else {
+            return (seat, false);
+        };
+        let first = table.get(&mut seat, 0);
+        let second = table.get(&mut seat, 0);
+        table.end(&mut seat);
+        if first != second || first.inode != first.uses || first.inode < last {
+            return (seat, false);
+        }
+        last = first.inode;
+    }
+    (seat, true)
+}
+
+// Both in threads, and what the joined seats and the closed table show then.
+fn run_two<R: Threads + Wait + Sync>(rt: &R, table: FileTable, a: FileSeat, b: FileSeat) -> bool
+    requires table { (a.seat.object ≡ table.object) × (b.seat.object ≡ table.object) × (table.entries ≡ 1) }
+    requires free { (a.hold ≡ Nothing) × (b.hold ≡ Nothing) }
+{
+    let shared = &table;
+    let (a, (b, seen_well)) = join(
+        rt,
+        move || -> FileSeat
+            requires { (a.seat.object ≡ shared.now.object) × (0 < shared.now.entries) × (a.hold ≡ Nothing) }
+            ensures { (result.seat.object ≡ shared.entry.now.object) × (result.hold ≡ Nothing) }
+        { write_in_turn(rt, shared, a, 100) },
+        move || -> (FileSeat, bool)
+            requires { (b.seat.object ≡ shared.now.object) × (0 < shared.now.entries) × (b.hold ≡ Nothing) }
+            ensures { (result.0.seat.object ≡ shared.entry.now.object) × (result.0.hold ≡ Nothing) }
+        { read_in_turn(rt, shared, b, 100) },
+    );
+    let tally = table.join(FileTally::of(a), b);
+    if !tally.is_whole() {
+        return false;
+    }
+    let entry = table.close(tally).get(0);
+    seen_well && entry.inode == 100 && entry.uses == 100
+}
+
+#[test]
+fn two_threads(rt: HostRuntime) -> Result<(), Fail> {
+    let Ok((table, mut seats)) = FileTable::open(rt.alloc(), 1, 2, 1000) else {
+        return Err(Fail::from("open"));
+    };
+    let (Some(b), Some(a)) = (seats.pop(), seats.pop()) else {
+        return Err(Fail::from("two seats"));
+    };
+    assert!(rt; run_two(&rt, table, a, b));
+    Ok(())
+}

@@ -1,0 +1,69 @@
+-- Taking the oldest item out of a closed queue.
+use Rattle.std.proofs.Common.{◌≡◌, ◌≢◌, ℕ, zero, suc, ◌+◌, ◌-◌, ◌%◌, ◌<◌, ◌≤◌, Bool, true, false, List, ◌∷◌, ◌++◌, length, get_or, set, refl, sym, ap, ◌∙◌, subst, arith, length-append, length-set, get_or-set_same, get_or-set_other}
+use mathlib.Core.Logic.{dite}
+use native.Mathlib.Decide.{ℕ_discrete}
+use mathlib.Core.Option.{some, none, some-injective}
+use mathlib.Core.Option as maybe
+use lib.ListN.{get_elem?}
+use Rattle.std.specs.Prelude.{Option, Some, None}
+use Rattle.atomic_table.proofs.Lists.{set_else, one_turn}
+use Rattle.fak_queue.specs.Left.{item_in, items_left}
+
+module _ {T : Type 0} where
+  item_short : (o : maybe.Option (Option T)) → length (item_in o) ≤ 1
+  item_short none = omega arith
+  item_short (some None) = omega arith
+  item_short (some (Some x)) = omega arith
+
+  left_short : (n : ℕ) (xs : List (Option T)) (k m : ℕ) → length (items_left n xs k m) ≤ m
+  left_short n xs k zero = omega arith
+  left_short n xs k (suc m) = let a = item_short (get_elem? xs (k % n)) in let b = left_short n xs (suc k) m in
+      let e : length (items_left n xs k (suc m)) ≡ length (item_in (get_elem? xs (k % n))) + length (items_left n xs (suc k) m) = length-append (item_in (get_elem? xs (k % n))) (items_left n xs (suc k) m) in omega arith
+
+  one_item : (o : maybe.Option (Option T)) → length (item_in o) ≡ 1 → (x : T) × (o ≡ some (Some x))
+  one_item none e = absurd (omega arith)
+  one_item (some None) e = absurd (omega arith)
+  one_item (some (Some x)) e = (x, refl)
+
+  -- where as many items are left as cells, the first cell has one
+  pub first_left : (n : ℕ) (xs : List (Option T)) (k m : ℕ) → length (items_left n xs k (suc m)) ≡ suc m
+      → ((x : T) × (get_elem? xs (k % n) ≡ some (Some x)) × (items_left n xs k (suc m) ≡ x ∷ items_left n xs (suc k) m)) × (length (items_left n xs (suc k) m) ≡ m)
+  first_left n xs k m full =
+      let o = get_elem? xs (k % n) in let a = item_short o in let b = left_short n xs (suc k) m in
+      let e : length (items_left n xs k (suc m)) ≡ length (item_in o) + length (items_left n xs (suc k) m) = length-append (item_in o) (items_left n xs (suc k) m) in
+      let i = one_item o (omega arith) in ((i.0, i.1, ap (λ z. item_in z ++ items_left n xs (suc k) m) i.1), omega arith)
+
+  -- a cell that is not among the next m
+  left_set : (n : ℕ) (xs : List (Option T)) (c : ℕ) (y : Option T) (k m : ℕ) → ((j : ℕ) → k ≤ j → j < k + m → j % n ≢ c) → items_left n (set xs c y) k m ≡ items_left n xs k m
+  left_set n xs c y k zero far = refl
+  left_set n xs c y k (suc m) far = (λ i. item_in (set_else xs c (k % n) y (far k (omega arith) (omega arith)) i) ++ left_set n xs c y (suc k) m (λ j p q. far j (omega arith) (omega arith)) i)
+
+  pub left_after : (n : ℕ) (xs : List (Option T)) (y : Option T) (k m : ℕ) → suc m ≤ n → items_left n (set xs (k % n) y) (suc k) m ≡ items_left n xs (suc k) m
+  left_after n xs y k m room = left_set n xs (k % n) y (suc k) m (λ j p q e. let same : k ≡ j = one_turn k j n (omega arith) (omega arith) (sym e) in omega arith)
+
+  pub next_item : (n : ℕ) (xs : List (Option T)) (y : Option T) (k m : ℕ) → ¬ (m ≡ 0) → m ≤ n → length (items_left n xs k m) ≡ m
+      → (x : T) × (get_elem? xs (k % n) ≡ some (Some x)) × (items_left n xs k m ≡ x ∷ items_left n (set xs (k % n) y) (k + 1) (m - 1)) × (length (items_left n (set xs (k % n) y) (k + 1) (m - 1)) ≡ m - 1)
+  next_item n xs y k zero some' room full = absurd (some' refl)
+  next_item n xs y k (suc m) some' room full =
+      let f = first_left n xs k m full in let a = left_after n xs y k m room in
+      let next : suc k ≡ k + 1 = omega arith in let less : m ≡ suc m - 1 = omega arith in
+      let same : items_left n (set xs (k % n) y) (suc k) m ≡ items_left n (set xs (k % n) y) (k + 1) (suc m - 1) = λ i. items_left n (set xs (k % n) y) (next i) (less i) in
+      (f.0.0, f.0.1, f.0.2 ∙ ap (λ l. f.0.0 ∷ l) (sym a ∙ same), ap length (sym same ∙ a) ∙ f.1 ∙ less)
+
+  pub not_none : (xs : List (Option T)) (i : ℕ) (x : T) (y : Option T) → get_elem? xs i ≡ some (Some x) → get_elem? xs i ≡ some y → y ≡ Some x
+  not_none xs i x y e f = some-injective y (Some x) (sym f ∙ e)
+
+  abbrev IsAbsent : Option T → Type 0
+  IsAbsent None = Unit {0}
+  IsAbsent (Some x) = ⊥
+
+  pub none_or_some : (x : T) (y : Option T) → y ≡ Some x → y ≡ None → ⊥
+  none_or_some x y e f = subst IsAbsent (sym f ∙ e) tt
+
+pub refilled : (f : List Bool) (i n : ℕ) → i < length f → ((k : ℕ) → 0 ≤ k → k < n → get_or f k false ≡ true) → (k : ℕ) → 0 ≤ k → k < n → get_or (set (set f i false) i true) k false ≡ true
+refilled f i n near full k z less = dite (ℕ_discrete k i)
+    (λ e. subst (λ j. get_or (set (set f i false) i true) j false ≡ true) (sym e) (get_or-set_same (set f i false) i true false (subst (λ j. i < j) (sym (length-set f i false)) near)))
+    (λ ne. get_or-set_other (set f i false) i k true false ne ∙ get_or-set_other f i k false false ne ∙ full k z less)
+
+pub same_some : {A : Type 0} (x y : A) → Some x ≡ Some y → x ≡ y
+same_some x y e = cc

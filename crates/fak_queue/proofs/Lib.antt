@@ -1,0 +1,16 @@
+pub mod WordWrites
+pub mod Slots
+pub mod Stepping
+pub mod InsertionSteps
+pub mod DeletionSteps
+pub mod Allowed
+pub mod States
+pub mod PartSteps
+pub mod Admissions
+pub mod Turning
+pub mod SeatCalls
+pub mod Openings
+pub mod WholeCalls
+pub mod Leaving
+pub mod WholePasts
+pub mod Closing

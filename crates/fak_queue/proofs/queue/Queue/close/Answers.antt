@@ -1,0 +1,28 @@
+use Rattle.std.proofs.Common.{ℕ, List, ap, sym, ◌∙◌, subst}
+use Rattle.std.specs.Slots.{slots_items, slots_counts}
+use Rattle.fak_model.specs.Queue.{contents}
+use Rattle.fak_model.specs.Seats.{IsWhole}
+use Rattle.fak_model.specs.Calls.{TallyInfo}
+use Rattle.fak_queue.specs.Shown.{Holder}
+use Rattle.fak_queue.specs.Queues.{QueueInfo}
+use Rattle.fak_queue.proofs.Closing.{closes}
+use Rattle.fak_queue.proofs.queue.Queue.close.Goals as goal
+
+pub overflow_sub-result : goal.overflow_sub-result
+overflow_sub-result g c = (closes c.self.inside.table.shared.key c.self.inside.size c.tally.inside.token.id c.tally.inside.token.me.0 (slots_items c.close_with-closed.result.words) (slots_items c.close_with-closed.result.slots) c.word-put.result c.word-got.result c.close_with-closed.ensures.values.2
+    (sym (slots_counts c.close_with-closed.result.slots).0 ∙ (c.close_with-closed.ensures.counts.1 ∙ c.self.invariant.slots)) (ap (λ (x : Holder _). x.0.phase) c.tally.invariant.0.me_is)
+    (subst (λ (x : ℕ × List ℕ). IsWhole x.0 x.1) (λ i. (ap (λ (q : QueueInfo). q.object.seats) (sym c.self.view_is) i, ap (λ (t : TallyInfo _). t.names) (sym c.tally.view_is) i)) c.requires.whole) c.word-put.ensures c.word-got.ensures).more
+
+pub invariant_of-result : goal.invariant_of-result
+invariant_of-result g c = record {
+  full = c.close_with-closed.ensures.values.1;
+  wide = c.close_with-closed.ensures.counts.1 ∙ c.self.invariant.slots;
+  left = (closes c.self.inside.table.shared.key c.self.inside.size c.tally.inside.token.id c.tally.inside.token.me.0 (slots_items c.close_with-closed.result.words) (slots_items c.close_with-closed.result.slots) c.word-put.result c.word-got.result c.close_with-closed.ensures.values.2
+      (sym (slots_counts c.close_with-closed.result.slots).0 ∙ (c.close_with-closed.ensures.counts.1 ∙ c.self.invariant.slots)) (ap (λ (x : Holder _). x.0.phase) c.tally.invariant.0.me_is)
+      (subst (λ (x : ℕ × List ℕ). IsWhole x.0 x.1) (λ i. (ap (λ (q : QueueInfo). q.object.seats) (sym c.self.view_is) i, ap (λ (t : TallyInfo _). t.names) (sym c.tally.view_is) i)) c.requires.whole) c.word-put.ensures c.word-got.ensures).left;
+}
+
+pub returns : goal.returns
+returns g c = (closes c.self.inside.table.shared.key c.self.inside.size c.tally.inside.token.id c.tally.inside.token.me.0 (slots_items c.close_with-closed.result.words) (slots_items c.close_with-closed.result.slots) c.word-put.result c.word-got.result c.close_with-closed.ensures.values.2
+    (sym (slots_counts c.close_with-closed.result.slots).0 ∙ (c.close_with-closed.ensures.counts.1 ∙ c.self.invariant.slots)) (ap (λ (x : Holder _). x.0.phase) c.tally.invariant.0.me_is)
+    (subst (λ (x : ℕ × List ℕ). IsWhole x.0 x.1) (λ i. (ap (λ (q : QueueInfo). q.object.seats) (sym c.self.view_is) i, ap (λ (t : TallyInfo _). t.names) (sym c.tally.view_is) i)) c.requires.whole) c.word-put.ensures c.word-got.ensures).are ∙ ap (λ (t : TallyInfo _). contents t.seen) c.tally.view_is

@@ -1,0 +1,8 @@
+use Rattle.std.proofs.Common.{arith}
+use Rattle.fak_queue.proofs.Allowed.{backs_low_allowed}
+use Rattle.fak_queue.proofs.steps.deletion.back_low.Goals as goal
+
+pub fetch_add-requires : goal.fetch_add-requires
+fetch_add-requires g c =
+    let t = c.requires.table in
+    (t.same, omega (arith, t.words), backs_low_allowed c.args.words.now.key _ _ _ c.requires.seat.0 _ t.few c.requires.seat.1 c.requires.phase)

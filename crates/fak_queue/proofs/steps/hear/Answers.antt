@@ -1,0 +1,8 @@
+use Rattle.std.proofs.Common.{arith}
+use Rattle.fak_queue.proofs.Allowed.{hears_allowed}
+use Rattle.fak_queue.proofs.steps.hear.Goals as goal
+
+pub load-requires : goal.load-requires
+load-requires g c =
+    let t = c.requires.table in
+    (t.same, omega (arith, t.words), hears_allowed c.args.words.now.key _ _ _ _ _ t.few)

@@ -1,0 +1,12 @@
+use Rattle.std.proofs.Common.{arith, subst}
+use Rattle.fak_queue.specs.Words.{IsUpperCount}
+use Rattle.fak_queue.proofs.Allowed.{adds_up_allowed}
+use Rattle.fak_queue.proofs.steps.insertion.add_up.Goals as goal
+
+pub fetch_add-found-requires : goal.fetch_add-found-requires
+fetch_add-found-requires g c =
+    let t = c.requires.table in
+    (t.same, omega (arith, t.words), adds_up_allowed c.args.words.now.key _ _ _ c.requires.seat.0 _ t.few c.requires.seat.1 _ c.requires.phase.1)
+
+pub returns-clause-told : goal.returns-clause-told
+returns-clause-told g c = λ n one x e. c.fetch_add-found.ensures.2 n one x e c.upper_count.result (subst (λ z. IsUpperCount z c.fetch_add-found.result c.upper_count.result) c.requires.size.0 c.upper_count.ensures)

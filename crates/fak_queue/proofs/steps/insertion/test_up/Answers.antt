@@ -1,0 +1,12 @@
+use Rattle.std.proofs.Common.{arith, subst}
+use Rattle.fak_queue.specs.Words.{IsUpperCount}
+use Rattle.fak_queue.proofs.Allowed.{tests_up_allowed}
+use Rattle.fak_queue.proofs.steps.insertion.test_up.Goals as goal
+
+pub load-found-requires : goal.load-found-requires
+load-found-requires g c =
+    let t = c.requires.table in
+    (t.same, omega (arith, t.words), tests_up_allowed c.args.words.now.key _ _ _ c.requires.seat.0 _ t.few c.requires.seat.1 _ _ c.requires.item c.requires.phase)
+
+pub returns-clause-told : goal.returns-clause-told
+returns-clause-told g c = λ n one. c.load-found.ensures.2 n one _ c.requires.item c.upper_count.result (subst (λ z. IsUpperCount z c.load-found.result c.upper_count.result) c.requires.size.0 c.upper_count.ensures)

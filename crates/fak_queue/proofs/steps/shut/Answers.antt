@@ -1,0 +1,13 @@
+use Rattle.std.proofs.Common.{arith}
+use Rattle.fak_queue.proofs.Allowed.{shuts_allowed}
+use Rattle.std.proofs.Common.{refl}
+use Rattle.fak_queue.proofs.States.{shut_as}
+use Rattle.fak_queue.proofs.steps.shut.Goals as goal
+
+pub fetch_or-found-requires : goal.fetch_or-found-requires
+fetch_or-found-requires g c =
+    let t = c.requires.table in
+    (t.same, omega (arith, t.words), shuts_allowed c.args.words.now.key _ _ _ c.requires.seat.0 _ t.few c.requires.seat.1 c.requires.phase)
+
+pub returns-clause-told : goal.returns-clause-told
+returns-clause-told g c = λ n one. shut_as _ _ n _ _ _ (c.fetch_or-found.ensures.2 n one) _ refl

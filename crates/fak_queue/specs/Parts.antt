@@ -1,0 +1,74 @@
+-- What a part of a call leaves at a seat's token: the claim, the rest of a call, or a look at a cell.
+use Rattle.std.specs.Prelude.{◌≡◌, ◌⊎◌, ℕ, ◌+◌, ◌-◌, ℤ, List, [], ◌∷◌, length, reverse, Some}
+use Rattle.fak_model.specs.declared.queue.Kind.{Kind}
+use Rattle.fak_model.specs.declared.queue.Kind.TheVariants as made
+use Rattle.fak_model.specs.declared.queue.Mark.{Mark}
+use Rattle.fak_model.specs.Queue.{queue_rules, count, puts, gots, upper_count, lower_count, items_put, item_at, Has}
+use Rattle.fak_model.specs.QueuePast.{stage}
+use Rattle.fak_model.specs.Seats.{marks_of}
+use Rattle.fak_model.specs.Views.{sight}
+use Rattle.fak_model.specs.Calls.{ObjectId, seat_info, Appends, before_mark}
+use Rattle.fak_core.specs.declared.queue.phase.Phase.{Phase}
+use Rattle.fak_core.specs.declared.queue.phase.Phase.TheVariants.{Idle, TurnIn, TurnOut}
+use Rattle.fak_queue.specs.declared.found.NoRoom.{NoRoom}
+use Rattle.fak_queue.specs.declared.found.NoRoom.TheVariants.{Full, Shut}
+use Rattle.fak_queue.specs.Shown.{Holder}
+use Rattle.fak_queue.specs.Queues.{seat_of, made_by, RestsAt}
+
+-- what stood before the seat's mark of this number, among those that it made between m and after
+abbrev pub before_part : {T : Type 0} → ℕ → ℕ → Holder T → Holder T → List (Mark T)
+before_part n number m after = before_mark seat_of n (length (marks_of seat_of n (reverse m.0.seen)) + number) (reverse after.0.seen)
+
+-- the seat n made marks of these kinds and then stands at p; `tells` speaks of what stood before the first and before
+-- the second of them
+pub record IsPart {T : Type 0} (size seats n : ℕ) (kinds : List (Kind T)) (p : Phase T) (left : ℕ) (tells : List (Mark T) → List (Mark T) → Type 0) (m after : Holder T) : Type 0 where
+  pub after_is : after ≡ (sight (n ∷ []) after.0.seen p left, [])
+  pub rests : RestsAt p (stage after.0.seen n)
+  pub appends : (object : ObjectId) (stint : ℕ) → object.seats ≡ seats
+      → Appends (queue_rules size) (made_by n kinds) (seat_info object n stint (reverse m.0.seen)) (seat_info object n stint (reverse after.0.seen))
+  pub told : tells (before_part n 0 m after) (before_part n 1 m after)
+
+abbrev pub Nothing : {T : Type 0} → List (Mark T) → List (Mark T) → Type 0
+Nothing first second = Unit {0}
+
+module _ {T : Type 0} (size seats n : ℕ) where
+  -- ---- insertions
+
+  abbrev pub ClaimedIn : T → ℕ → Holder T → Holder T → Type 0
+  ClaimedIn x k m after = IsPart size seats n (made.ClaimIn ∷ made.Put x ∷ []) (TurnIn k x) (m.0.left - 1) (λ first second. count puts second ≡ k) m after
+
+  abbrev pub RefusedIn : NoRoom → Holder T → Holder T → Type 0
+  RefusedIn (Full u) m after =
+      IsPart size seats n (made.NoRoom ∷ []) Idle m.0.left (λ first second. u ≡ upper_count first) m after
+      ⊎ IsPart size seats n (made.OverIn ∷ made.BackIn ∷ []) Idle m.0.left (λ first second. u ≡ upper_count first) m after
+  RefusedIn Shut m after =
+      IsPart size seats n (made.Closed ∷ []) Idle m.0.left Nothing m after ⊎ IsPart size seats n (made.LateIn ∷ made.BackIn ∷ []) Idle m.0.left Nothing m after
+
+  abbrev pub Filled : ℕ → Holder T → Holder T → Type 0
+  Filled k m after = IsPart size seats n (made.Fill k ∷ made.EndIn ∷ []) Idle m.0.left Nothing m after
+
+  pub record IsTurnedAwayIn (k : ℕ) (x : T) (m after : Holder T) : Type 0 where
+    pub part : IsPart size seats n [] (TurnIn k x) m.0.left Nothing m after
+    pub earlier : ℕ
+    pub round : k ≡ earlier + size
+    pub untaken : Has (made.Take earlier) (reverse after.0.seen) → ⊥
+
+  -- ---- deletions
+
+  pub record ClaimedOut (k : ℕ) (m after : Holder T) : Type 0 where
+    pub item : T
+    pub part : IsPart size seats n (made.ClaimOut ∷ made.Got item ∷ []) (TurnOut k) (m.0.left - 1) (λ first second. count gots second ≡ k) m after
+    pub put : item_at (items_put (reverse after.0.seen)) k ≡ Some item
+
+  abbrev pub RefusedOut : ℤ → Holder T → Holder T → Type 0
+  RefusedOut l m after =
+      IsPart size seats n (made.NoItem ∷ []) Idle m.0.left (λ first second. l ≡ lower_count first) m after
+      ⊎ IsPart size seats n (made.OverOut ∷ made.BackOut ∷ []) Idle m.0.left (λ first second. l ≡ lower_count first) m after
+
+  pub record Taken (k : ℕ) (x : T) (m after : Holder T) : Type 0 where
+    pub part : IsPart size seats n (made.Take k ∷ made.EndOut ∷ []) Idle m.0.left Nothing m after
+    pub put : item_at (items_put (reverse after.0.seen)) k ≡ Some x
+
+  pub record IsTurnedAwayOut (k : ℕ) (m after : Holder T) : Type 0 where
+    pub part : IsPart size seats n [] (TurnOut k) m.0.left Nothing m after
+    pub unfilled : Has (made.Fill k) (reverse after.0.seen) → ⊥

@@ -1,0 +1,47 @@
+-- Which refusal is answered, and what it leaves.
+use Rattle.std.specs.Prelude.{◌≡◌, ℕ, ◌<◌, ◌≤◌}
+use Rattle.fak_model.specs.declared.queue.Mark.{Mark}
+use Rattle.fak_model.specs.Calls.{SeatInfo}
+use Rattle.fak_queue.specs.declared.fault.InsertFault.{InsertFault}
+use Rattle.fak_queue.specs.declared.fault.InsertFault.TheVariants.{Worn, Closed, Full}
+use Rattle.fak_queue.specs.declared.fault.DeleteFault.{DeleteFault}
+use Rattle.fak_queue.specs.declared.fault.DeleteFault.TheVariants as deletion
+use Rattle.fak_queue.specs.declared.fault.OpenFault.{OpenFault}
+use Rattle.fak_queue.specs.declared.fault.OpenFault.TheVariants.{BadSize, BadSeats, BadStint, Memory}
+use Rattle.fak_queue.specs.Queues.{drawn_by, IsWorn, RefusesClosed, RefusesFull, RefusesEmpty}
+
+-- the item comes back; only a seat that drew all its tickets is worn
+abbrev pub RefusesInsertion : {T : Type 0} → ℕ → T → SeatInfo (Mark T) → SeatInfo (Mark T) → InsertFault T → Type 0
+RefusesInsertion size x old new (Worn y) = (y ≡ x) × IsWorn old new
+RefusesInsertion size x old new (Closed y) = (y ≡ x) × (drawn_by old < old.stint) × RefusesClosed size old new
+RefusesInsertion size x old new (Full upper y) = (y ≡ x) × (drawn_by old < old.stint) × RefusesFull size upper old new
+
+abbrev pub RefusesDeletion : {T : Type 0} → ℕ → SeatInfo (Mark T) → SeatInfo (Mark T) → DeleteFault → Type 0
+RefusesDeletion size old new deletion.Worn = IsWorn old new
+RefusesDeletion size old new (deletion.Empty lower) = (drawn_by old < old.stint) × RefusesEmpty size lower old new
+
+-- ---- opening
+
+abbrev pub IsSize : ℕ → Type 0
+IsSize size = (1 ≤ size) × (size ≤ 4096)
+
+abbrev pub IsNumberOfSeats : ℕ → Type 0
+IsNumberOfSeats seats = (1 ≤ seats) × (seats ≤ 64)
+
+abbrev pub IsStint : ℕ → Type 0
+IsStint stint = (1 ≤ stint) × (stint ≤ 1099511627776)
+
+abbrev pub IsInRange : ℕ → ℕ → ℕ → Type 0
+IsInRange size seats stint = IsSize size × IsNumberOfSeats seats × IsStint stint
+
+-- the first of the three that is out of range
+abbrev pub IsRangeFault : ℕ → ℕ → ℕ → OpenFault → Type 0
+IsRangeFault size seats stint BadSize = ¬ IsSize size
+IsRangeFault size seats stint BadSeats = IsSize size × ¬ IsNumberOfSeats seats
+IsRangeFault size seats stint BadStint = IsSize size × IsNumberOfSeats seats × ¬ IsStint stint
+IsRangeFault size seats stint Memory = ⊥
+
+-- memory is asked for last
+abbrev pub IsOpenFault : ℕ → ℕ → ℕ → OpenFault → Type 0
+IsOpenFault size seats stint Memory = IsInRange size seats stint
+IsOpenFault size seats stint fault = IsRangeFault size seats stint fault

@@ -1,0 +1,63 @@
+-- How a table of words and slots shows a queue.
+use Rattle.std.specs.Prelude.{◌≡◌, ◌⊎◌, ℕ, ◌+◌, ◌*◌, ◌<◌, ◌≤◌, List, length, Option, None}
+use mathlib.Core.Option.{some, none}
+use mathlib.Core.Option as maybe
+use lib.ListN.{get_elem?}
+use Rattle.atomic_table.specs.Table.{State, Me}
+use Rattle.fak_model.specs.declared.queue.Mark.{Mark}
+use Rattle.fak_model.specs.declared.view.View.{View}
+use Rattle.fak_model.specs.Queue.{Word, WholeCall, count, puts, gots, queue_rules}
+use Rattle.fak_model.specs.Views.{opened}
+use Rattle.fak_model.specs.Shown.{Object, IsShown}
+use Rattle.fak_core.specs.declared.queue.phase.Phase.{Phase}
+use Rattle.fak_core.specs.declared.queue.phase.Phase.TheVariants.{Idle}
+use Rattle.fak_core.specs.QueueMoves.{QueueState}
+use Rattle.fak_core.specs.QueueSchedule.{InCell, IsReached}
+use Rattle.fak_queue.specs.declared.key.Limits.{Limits}
+use Rattle.fak_queue.specs.Words.{AreWords}
+
+-- what a seat of a queue knows, with the slots that it holds
+abbrev pub QueueView : Type 0 → Type 0
+QueueView T = View (Mark T) (Phase T)
+
+abbrev pub Holder : Type 0 → Type 0
+Holder T = Me (Option T) (QueueView T)
+
+-- a slot at home has its cell's content where the turn is odd, and nothing where it is even
+pub record IsAtHome {T : Type 0} (turn : ℕ) (content : Option T) (home : maybe.Option (maybe.Option (Option T))) : Type 0 where
+  pub odd : (q : ℕ) → turn ≡ 2 * q + 1 → home ≡ some (some content)
+  pub even : (q : ℕ) → turn ≡ 2 * q → home ≡ some (some None)
+
+-- the slot of a cell is at home, or out with the seat that stands in the cell
+abbrev pub HasSlot : {T : Type 0} → ℕ → QueueState T → List (maybe.Option (Option T)) → ℕ → Type 0
+HasSlot size core homes cell =
+    IsAtHome (core.turn cell) (core.cell cell) (get_elem? homes cell)
+    ⊎ ((seat : ℕ) × InCell size (core.phase seat) cell × (get_elem? homes cell ≡ some none))
+
+-- the words and the slots show this state of a queue of this size
+pub record IsEncoded {T : Type 0} (size seats : ℕ) (core : QueueState T) (words : List ℕ) (homes : List (maybe.Option (Option T))) : Type 0 where
+  pub some_cell : 0 < size
+  pub few_cells : size ≤ 4096
+  pub few_seats : seats ≤ 64
+  pub words_are : AreWords size core.upper core.lower core.draws_in core.draws_out core.turn core.shut words
+  pub wide : length homes ≡ size
+  pub slots_are : (cell : ℕ) → cell < size → HasSlot size core homes cell
+
+-- a queue of this size with these seats; fewer than 2^62 tickets are ever drawn
+abbrev pub queue_object : {T : Type 0} → ℕ → ℕ → Object (Mark T) Word WholeCall (Phase T) (QueueState T) (Option T)
+queue_object {T} size seats = record {
+  rules = queue_rules size;
+  seats = seats;
+  tickets = 4611686018427387904;
+  drawn_of = λ (core : QueueState T). count puts core.past + count gots core.past;
+  past_of = λ (core : QueueState T). core.past;
+  IsReached = IsReached size;
+  StandsAt = λ (core : QueueState T) (seat : ℕ) (p : Phase T). core.phase seat ≡ p;
+  Encodes = IsEncoded size seats;
+}
+
+abbrev pub IsShownQueue : {T : Type 0} → Limits → State (Option T) (QueueView T) → Type 0
+IsShownQueue key s = IsShown (queue_object key.size key.seats) s
+
+abbrev pub opened_queue : {T : Type 0} → Limits → QueueView T
+opened_queue key = opened Idle key.seats (key.seats * key.stint)

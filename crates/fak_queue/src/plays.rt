@@ -1,0 +1,184 @@
+//! What each atomic step of a seat tells it. These types are for the proofs alone.
+
+ghost use Rattle.std.specs.Prelude.{ℕ, Option, None};
+ghost use Rattle.fak_queue.specs.Steps.{
+  AddsUp,
+  BacksLow,
+  BacksUp,
+  DrawsIn,
+  DrawsOut,
+  EndsIn,
+  EndsOut,
+  HearsJoin,
+  Named,
+  SetsFree,
+  SetsFull,
+  Shuts,
+  SubtractsLow,
+  TestsLow,
+  TestsUp,
+  TurnsIn,
+  TurnsOut,
+};
+
+use atomic_table::Play;
+use fak_core::Phase;
+use fak_model::{Mark, View};
+use std::marker::{Brand, PhantomData};
+
+/// The call that a step belongs to: the number of seats, and an insertion's item.
+pub trait Call<T> {
+    ghost seats: { ℕ };
+
+    ghost item: { Option T };
+}
+
+impl<T> Call<T> for Brand {
+    ghost seats = { 0 };
+
+    ghost item = { None };
+}
+
+/// The load of the upper count that begins an insertion.
+pub struct TestUp<J> {
+    call: PhantomData<J>,
+}
+
+impl<T, J: Call<T>> Play<Option<T>, View<Mark<T>, Phase<T>>> for TestUp<J> {
+    ghost then = { λ s m found after. Named m (λ n. TestsUp s.slots J.seats n J.item m found after) };
+}
+
+/// The add to the upper count.
+pub struct AddUp<J> {
+    call: PhantomData<J>,
+}
+
+impl<T, J: Call<T>> Play<Option<T>, View<Mark<T>, Phase<T>>> for AddUp<J> {
+    ghost then = { λ s m found after. Named m (λ n. AddsUp s.slots J.seats n m found after) };
+}
+
+/// The withdrawal of an insertion.
+pub struct BackUp<J> {
+    call: PhantomData<J>,
+}
+
+impl<T, J: Call<T>> Play<Option<T>, View<Mark<T>, Phase<T>>> for BackUp<J> {
+    ghost then = { λ s m _ after. Named m (λ n. BacksUp s.slots J.seats n m after) };
+}
+
+/// The draw of an insertion's ticket.
+pub struct TicketIn<J> {
+    call: PhantomData<J>,
+}
+
+impl<T, J: Call<T>> Play<Option<T>, View<Mark<T>, Phase<T>>> for TicketIn<J> {
+    ghost then = { λ s m found after. Named m (λ n. DrawsIn s.slots J.seats n m found after) };
+}
+
+/// An insertion's load of its cell's turn.
+pub struct TurnIn<J> {
+    call: PhantomData<J>,
+}
+
+impl<T, J: Call<T>> Play<Option<T>, View<Mark<T>, Phase<T>>> for TurnIn<J> {
+    ghost then = { λ s m found after. Named m (λ n. TurnsIn s.slots J.seats n m found after) };
+}
+
+/// The store that makes a cell full.
+pub struct SetFull<J> {
+    call: PhantomData<J>,
+}
+
+impl<T, J: Call<T>> Play<Option<T>, View<Mark<T>, Phase<T>>> for SetFull<J> {
+    ghost then = { λ s m _ after. Named m (λ n. SetsFull s.slots J.seats n m after) };
+}
+
+/// The add to the lower count that ends an insertion.
+pub struct EndIn<J> {
+    call: PhantomData<J>,
+}
+
+impl<T, J: Call<T>> Play<Option<T>, View<Mark<T>, Phase<T>>> for EndIn<J> {
+    ghost then = { λ s m _ after. Named m (λ n. EndsIn s.slots J.seats n m after) };
+}
+
+/// The load of the lower count that begins a deletion.
+pub struct TestLow<J> {
+    call: PhantomData<J>,
+}
+
+impl<T, J: Call<T>> Play<Option<T>, View<Mark<T>, Phase<T>>> for TestLow<J> {
+    ghost then = { λ s m found after. Named m (λ n. TestsLow s.slots J.seats n m found after) };
+}
+
+/// The subtraction from the lower count.
+pub struct SubLow<J> {
+    call: PhantomData<J>,
+}
+
+impl<T, J: Call<T>> Play<Option<T>, View<Mark<T>, Phase<T>>> for SubLow<J> {
+    ghost then = { λ s m found after. Named m (λ n. SubtractsLow s.slots J.seats n m found after) };
+}
+
+/// The withdrawal of a deletion.
+pub struct BackLow<J> {
+    call: PhantomData<J>,
+}
+
+impl<T, J: Call<T>> Play<Option<T>, View<Mark<T>, Phase<T>>> for BackLow<J> {
+    ghost then = { λ s m _ after. Named m (λ n. BacksLow s.slots J.seats n m after) };
+}
+
+/// The draw of a deletion's ticket.
+pub struct TicketOut<J> {
+    call: PhantomData<J>,
+}
+
+impl<T, J: Call<T>> Play<Option<T>, View<Mark<T>, Phase<T>>> for TicketOut<J> {
+    ghost then = { λ s m found after. Named m (λ n. DrawsOut s.slots J.seats n m found after) };
+}
+
+/// A deletion's load of its cell's turn.
+pub struct TurnOut<J> {
+    call: PhantomData<J>,
+}
+
+impl<T, J: Call<T>> Play<Option<T>, View<Mark<T>, Phase<T>>> for TurnOut<J> {
+    ghost then = { λ s m found after. Named m (λ n. TurnsOut s.slots J.seats n m found after) };
+}
+
+/// The store that makes a cell free.
+pub struct SetFree<J> {
+    call: PhantomData<J>,
+}
+
+impl<T, J: Call<T>> Play<Option<T>, View<Mark<T>, Phase<T>>> for SetFree<J> {
+    ghost then = { λ s m _ after. Named m (λ n. SetsFree s.slots J.seats n m after) };
+}
+
+/// The subtraction from the upper count that ends a deletion.
+pub struct EndOut<J> {
+    call: PhantomData<J>,
+}
+
+impl<T, J: Call<T>> Play<Option<T>, View<Mark<T>, Phase<T>>> for EndOut<J> {
+    ghost then = { λ s m _ after. Named m (λ n. EndsOut s.slots J.seats n m after) };
+}
+
+/// The setting of the shut bit.
+pub struct Shut<J> {
+    call: PhantomData<J>,
+}
+
+impl<T, J: Call<T>> Play<Option<T>, View<Mark<T>, Phase<T>>> for Shut<J> {
+    ghost then = { λ s m found after. Named m (λ n. Shuts s.slots J.seats n m found after) };
+}
+
+/// The load after a join.
+pub struct Hear<J> {
+    call: PhantomData<J>,
+}
+
+impl<T, J: Call<T>> Play<Option<T>, View<Mark<T>, Phase<T>>> for Hear<J> {
+    ghost then = { λ s m _ after. HearsJoin s.slots J.seats m after };
+}

@@ -1,0 +1,28 @@
+//! The queue that its seats share.
+
+use crate::key::Limits;
+use crate::rule::Law;
+use atomic_table::Table;
+use fak_core::Phase;
+use fak_model::{Mark, View};
+use std::alloc::Global;
+use std::marker::Model;
+
+/// A bounded first-in-first-out queue, whose cells own the values in it. Its seats insert and delete at once, with
+/// no lock. Contracts see which object it is and its size.
+#[derive(Drop)]
+pub struct Queue<T> {
+    pub(crate) table: Table<Option<T>, View<Mark<T>, Phase<T>>, Limits, Law, Global>,
+    pub(crate) size: u64,
+}
+
+impl<T> Model for Queue<T> {
+    ghost use Rattle.fak_model.specs.Calls.{object_id};
+    ghost use Rattle.fak_queue.specs.Queues.{QueueInfo, IsQueue, queue_info};
+
+    ghost Value = { QueueInfo };
+
+    ghost view = { λ q. queue_info (object_id q.table.shared.table_id q.table.shared.key.seats) q.size };
+
+    ghost invariant = { λ q. IsQueue q.size q.table.shared.table_id };
+}

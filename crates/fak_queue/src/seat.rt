@@ -1,0 +1,54 @@
+//! A seat of a queue.
+
+ghost use Rattle.std.specs.Prelude.{◌≡◌, ◌+◌};
+ghost use Rattle.fak_queue.specs.Queues.{IsState, drawn_by, state_of};
+
+use crate::state::SeatState;
+use crate::steps::Token;
+use fak_core::Phase;
+use std::marker::Model;
+
+/// The right to insert into a queue and delete from it, as often as its stint says. Between a claim and the try that
+/// fills the cell it keeps the item. Contracts see its object, its name, its stint and the history that it has seen.
+#[derive(Drop)]
+pub struct Seat<T> {
+    pub(crate) token: Token<T>,
+    pub(crate) name: u64,
+    pub(crate) seats: u64,
+    pub(crate) left: u64,
+    pub(crate) phase: Phase<T>,
+}
+
+impl<T> Model for Seat<T> {
+    ghost use Rattle.fak_model.specs.declared.queue.Mark.{Mark};
+    ghost use Rattle.fak_model.specs.Calls.{SeatInfo, object_id};
+    ghost use Rattle.fak_queue.specs.Queues.{IsQueueSeat, queue_seat};
+
+    ghost Value = { SeatInfo (Mark T) };
+
+    ghost view = { λ s. queue_seat (object_id s.token.table_id s.seats) s.name s.left s.token.me };
+
+    ghost invariant = { λ s. IsQueueSeat s.token.table_id.slots s.seats s.name s.phase s.left s.token.me };
+}
+
+impl<T> Seat<T> {
+    /// Where the seat stands between two calls.
+    pub fn state(&self) -> SeatState
+        ensures value { result ≡ state_of self.now }
+        ensures read_off_seen { IsState self.now result }
+    {
+        match self.phase {
+            Phase::Idle => SeatState::Idle,
+            Phase::TurnIn(ticket, _) => SeatState::Inserting(ticket),
+            Phase::TurnOut(ticket) => SeatState::Deleting(ticket),
+            _ => unreachable!(),
+        }
+    }
+
+    /// How many tickets are left of the stint.
+    pub fn left(&self) -> u64
+        ensures { result + drawn_by self.now ≡ self.now.stint }
+    {
+        self.left
+    }
+}

@@ -1,0 +1,128 @@
+//! The atomic steps of a deletion.
+
+ghost use Rattle.std.specs.Prelude.{◌≡◌, ℕ, ◌+◌, ◌*◌, ◌/◌, ◌%◌, ◌<◌, ◌≤◌, ◌^◌, [], ◌∷◌, List, Option, Some, None};
+ghost use Rattle.fak_core.specs.declared.queue.phase.Phase.TheVariants.{
+  Idle,
+  SubLow,
+  BackLow,
+  TicketOut,
+  TurnOut,
+  LoadItem,
+  EndDelete,
+};
+ghost use Rattle.fak_queue.specs.Steps.{
+  FitsTable,
+  HasOneName,
+  Named,
+  TestedLow,
+  SubtractedLow,
+  BacksLow,
+  DrawsOut,
+  TurnedOut,
+  FreedCell,
+  EndsOut,
+};
+
+use crate::found::LowerCount;
+use crate::plays;
+use crate::plays::Call;
+use crate::steps::{QueueWords, Token};
+use crate::words::{DRAWS_OUT, LOWER, TURNS, UPPER, lower_count};
+
+// Loads the lower count.
+pub(crate) fn test_low<T, J: Call<T>>(words: &QueueWords<T>, token: &mut Token<T>) -> LowerCount
+    requires table { FitsTable token.old.table_id words.now.table_id words.now.key J.seats }
+    requires seat { HasOneName token.old.me }
+    requires phase { token.old.me.0.phase ≡ Some Idle }
+    ensures same { token.new.table_id ≡ token.old.table_id }
+    ensures told { Named token.old.me (λ n. TestedLow words.now.table_id.slots J.seats n result token.old.me token.new.me) }
+{
+    let found = words.load::<plays::TestLow<J>>(token, LOWER);
+    lower_count(found)
+}
+
+// Subtracts 1 from the lower count.
+pub(crate) fn sub_low<T, J: Call<T>>(words: &QueueWords<T>, token: &mut Token<T>) -> LowerCount
+    requires table { FitsTable token.old.table_id words.now.table_id words.now.key J.seats }
+    requires seat { HasOneName token.old.me }
+    requires phase { token.old.me.0.phase ≡ Some SubLow }
+    ensures same { token.new.table_id ≡ token.old.table_id }
+    ensures told { Named token.old.me (λ n. SubtractedLow words.now.table_id.slots J.seats n result token.old.me token.new.me) }
+{
+    let found = words.fetch_sub::<plays::SubLow<J>>(token, LOWER, 1);
+    lower_count(found)
+}
+
+// Gives back the 1 that was subtracted from the lower count.
+pub(crate) fn back_low<T, J: Call<T>>(words: &QueueWords<T>, token: &mut Token<T>)
+    requires table { FitsTable token.old.table_id words.now.table_id words.now.key J.seats }
+    requires seat { HasOneName token.old.me }
+    requires phase { token.old.me.0.phase ≡ Some BackLow }
+    ensures same { token.new.table_id ≡ token.old.table_id }
+    ensures told { Named token.old.me (λ n. BacksLow words.now.table_id.slots J.seats n token.old.me token.new.me) }
+{
+    words.fetch_add::<plays::BackLow<J>>(token, LOWER, 1);
+}
+
+// Draws a deletion's ticket.
+pub(crate) fn ticket_out<T, J: Call<T>>(words: &QueueWords<T>, token: &mut Token<T>) -> u64
+    requires table { FitsTable token.old.table_id words.now.table_id words.now.key J.seats }
+    requires seat { HasOneName token.old.me }
+    requires phase { token.old.me.0.phase ≡ Some TicketOut }
+    requires left { 0 < token.old.me.0.left }
+    ensures same { token.new.table_id ≡ token.old.table_id }
+    ensures told { Named token.old.me (λ n. DrawsOut words.now.table_id.slots J.seats n token.old.me result token.new.me) }
+{
+    words.fetch_add::<plays::TicketOut<J>>(token, DRAWS_OUT, 1)
+}
+
+// Loads the turn of a ticket's cell.
+pub(crate) fn turn_out<T, J: Call<T>>(
+    words: &QueueWords<T>,
+    token: &mut Token<T>,
+    size: u64,
+    ticket: u64,
+) -> u64
+    requires table { FitsTable token.old.table_id words.now.table_id words.now.key J.seats }
+    requires size { (size ≡ words.now.table_id.slots) × (0 < size) × (size ≤ 4096) }
+    requires seat { HasOneName token.old.me }
+    requires phase { token.old.me.0.phase ≡ Some (TurnOut ticket) }
+    ensures same { token.new.table_id ≡ token.old.table_id }
+    ensures told { Named token.old.me (λ n. TurnedOut words.now.table_id.slots J.seats n ticket token.old.me result token.new.me) }
+{
+    words.load::<plays::TurnOut<J>>(token, (ticket % size) as usize + TURNS)
+}
+
+// Gives the slot back empty, and makes its cell free for the next round.
+pub(crate) fn set_free<T, J: Call<T>>(
+    words: &QueueWords<T>,
+    token: &mut Token<T>,
+    size: u64,
+    ticket: u64,
+)
+    requires table { FitsTable token.old.table_id words.now.table_id words.now.key J.seats }
+    requires size { (size ≡ words.now.table_id.slots) × (0 < size) × (size ≤ 4096) }
+    requires few { ticket < 2 ^ 62 }
+    requires seat { HasOneName token.old.me }
+    requires phase { token.old.me.0.phase ≡ Some (LoadItem ticket) }
+    requires slot { (others : List (ℕ × Option T)) × (token.old.me.1 ≡ (ticket % size, None) ∷ others) }
+    ensures same { token.new.table_id ≡ token.old.table_id }
+    ensures told { Named token.old.me (λ n. FreedCell words.now.table_id.slots J.seats n ticket token.old.me token.new.me) }
+{
+    words.store::<plays::SetFree<J>>(
+        token,
+        (ticket % size) as usize + TURNS,
+        2 * (ticket / size) + 2,
+    );
+}
+
+// Subtracts 1 from the upper count, which ends a deletion.
+pub(crate) fn end_out<T, J: Call<T>>(words: &QueueWords<T>, token: &mut Token<T>)
+    requires table { FitsTable token.old.table_id words.now.table_id words.now.key J.seats }
+    requires seat { HasOneName token.old.me }
+    requires phase { (k : ℕ) × (token.old.me.0.phase ≡ Some (EndDelete k)) }
+    ensures same { token.new.table_id ≡ token.old.table_id }
+    ensures told { Named token.old.me (λ n. EndsOut words.now.table_id.slots J.seats n token.old.me token.new.me) }
+{
+    words.fetch_sub::<plays::EndOut<J>>(token, UPPER, 1);
+}

@@ -1,0 +1,143 @@
+//! The atomic steps of an insertion.
+
+ghost use Rattle.std.specs.Prelude.{◌≡◌, ℕ, ◌+◌, ◌*◌, ◌/◌, ◌%◌, ◌<◌, ◌≤◌, ◌^◌, [], ◌∷◌, List, Option, Some};
+ghost use Rattle.fak_core.specs.declared.queue.phase.Phase.TheVariants.{
+  Idle,
+  AddUp,
+  BackUp,
+  TicketIn,
+  TurnIn,
+  StoreItem,
+  EndInsert,
+};
+ghost use Rattle.fak_queue.specs.Steps.{
+  FitsTable,
+  HasOneName,
+  Named,
+  TestedUp,
+  AddedUp,
+  BacksUp,
+  DrewIn,
+  TurnedIn,
+  FilledCell,
+  EndsIn,
+};
+
+use crate::found::UpperCount;
+use crate::plays;
+use crate::plays::Call;
+use crate::steps::{QueueWords, Token};
+use crate::words::{DRAWS_IN, LOWER, TURNS, UPPER, upper_count};
+
+// Loads the upper count.
+pub(crate) fn test_up<T, J: Call<T>>(
+    words: &QueueWords<T>,
+    token: &mut Token<T>,
+    size: u64,
+    _item: &T,
+) -> UpperCount
+    requires table { FitsTable token.old.table_id words.now.table_id words.now.key J.seats }
+    requires size { (size ≡ words.now.table_id.slots) × (size ≤ 4096) }
+    requires seat { HasOneName token.old.me }
+    requires item { J.item ≡ Some _item.now }
+    requires phase { token.old.me.0.phase ≡ Some Idle }
+    ensures same { token.new.table_id ≡ token.old.table_id }
+    ensures told { Named token.old.me (λ n. TestedUp words.now.table_id.slots J.seats n _item.now result token.old.me token.new.me) }
+{
+    let found = words.load::<plays::TestUp<J>>(token, UPPER);
+    upper_count(found, size)
+}
+
+// Adds 1 to the upper count.
+pub(crate) fn add_up<T, J: Call<T>>(
+    words: &QueueWords<T>,
+    token: &mut Token<T>,
+    size: u64,
+) -> UpperCount
+    requires table { FitsTable token.old.table_id words.now.table_id words.now.key J.seats }
+    requires size { (size ≡ words.now.table_id.slots) × (size ≤ 4096) }
+    requires seat { HasOneName token.old.me }
+    requires phase { (x : T) × (token.old.me.0.phase ≡ Some (AddUp x)) }
+    ensures same { token.new.table_id ≡ token.old.table_id }
+    ensures told { Named token.old.me (λ n. (x : T) → token.old.me.0.phase ≡ Some (AddUp x)
+        → AddedUp words.now.table_id.slots J.seats n x result token.old.me token.new.me) }
+{
+    let found = words.fetch_add::<plays::AddUp<J>>(token, UPPER, 1);
+    upper_count(found, size)
+}
+
+// Takes back the 1 that was added to the upper count.
+pub(crate) fn back_up<T, J: Call<T>>(words: &QueueWords<T>, token: &mut Token<T>)
+    requires table { FitsTable token.old.table_id words.now.table_id words.now.key J.seats }
+    requires seat { HasOneName token.old.me }
+    requires phase { (x : T) × (token.old.me.0.phase ≡ Some (BackUp x)) }
+    ensures same { token.new.table_id ≡ token.old.table_id }
+    ensures told { Named token.old.me (λ n. BacksUp words.now.table_id.slots J.seats n token.old.me token.new.me) }
+{
+    words.fetch_sub::<plays::BackUp<J>>(token, UPPER, 1);
+}
+
+// Draws an insertion's ticket.
+pub(crate) fn ticket_in<T, J: Call<T>>(words: &QueueWords<T>, token: &mut Token<T>) -> u64
+    requires table { FitsTable token.old.table_id words.now.table_id words.now.key J.seats }
+    requires seat { HasOneName token.old.me }
+    requires phase { (x : T) × (token.old.me.0.phase ≡ Some (TicketIn x)) }
+    requires left { 0 < token.old.me.0.left }
+    ensures same { token.new.table_id ≡ token.old.table_id }
+    ensures told { Named token.old.me (λ n. (x : T) → token.old.me.0.phase ≡ Some (TicketIn x)
+        → DrewIn words.now.table_id.slots J.seats n x token.old.me result token.new.me) }
+{
+    words.fetch_add::<plays::TicketIn<J>>(token, DRAWS_IN, 1)
+}
+
+// Loads the turn of a ticket's cell.
+pub(crate) fn turn_in<T, J: Call<T>>(
+    words: &QueueWords<T>,
+    token: &mut Token<T>,
+    size: u64,
+    ticket: u64,
+) -> u64
+    requires table { FitsTable token.old.table_id words.now.table_id words.now.key J.seats }
+    requires size { (size ≡ words.now.table_id.slots) × (0 < size) × (size ≤ 4096) }
+    requires seat { HasOneName token.old.me }
+    requires phase { (x : T) × (token.old.me.0.phase ≡ Some (TurnIn ticket x)) }
+    ensures same { token.new.table_id ≡ token.old.table_id }
+    ensures told { Named token.old.me (λ n. (x : T) → token.old.me.0.phase ≡ Some (TurnIn ticket x)
+        → TurnedIn words.now.table_id.slots J.seats n ticket x token.old.me result token.new.me) }
+{
+    words.load::<plays::TurnIn<J>>(token, (ticket % size) as usize + TURNS)
+}
+
+// Gives the slot back with the item, and makes its cell full.
+pub(crate) fn set_full<T, J: Call<T>>(
+    words: &QueueWords<T>,
+    token: &mut Token<T>,
+    size: u64,
+    ticket: u64,
+)
+    requires table { FitsTable token.old.table_id words.now.table_id words.now.key J.seats }
+    requires size { (size ≡ words.now.table_id.slots) × (0 < size) × (size ≤ 4096) }
+    requires few { ticket < 2 ^ 62 }
+    requires seat { HasOneName token.old.me }
+    requires phase { (x : T) × (token.old.me.0.phase ≡ Some (StoreItem ticket x))
+        × ((others : List (ℕ × Option T)) × (token.old.me.1 ≡ (ticket % size, Some x) ∷ others)) }
+    ensures same { token.new.table_id ≡ token.old.table_id }
+    ensures told { Named token.old.me (λ n. FilledCell words.now.table_id.slots J.seats n ticket token.old.me token.new.me) }
+{
+    words.store::<plays::SetFull<J>>(
+        token,
+        (ticket % size) as usize + TURNS,
+        2 * (ticket / size) + 1,
+    );
+}
+
+// Adds 1 to the lower count, which ends an insertion.
+pub(crate) fn end_in<T, J: Call<T>>(words: &QueueWords<T>, token: &mut Token<T>)
+    requires table { FitsTable token.old.table_id words.now.table_id words.now.key J.seats }
+    requires seat { HasOneName token.old.me }
+    requires phase { (k : ℕ) × (token.old.me.0.phase ≡ Some (EndInsert k)) }
+    ensures same { token.new.table_id ≡ token.old.table_id }
+    ensures told { Named token.old.me (λ n. EndsIn words.now.table_id.slots J.seats n token.old.me token.new.me) }
+{
+    words.fetch_add::<plays::EndIn<J>>(token, LOWER, 1);
+}

@@ -1,0 +1,66 @@
+//! Seats of a queue that were joined.
+
+ghost use Rattle.std.specs.Prelude.{◌≡◌, ◌↔◌, IsTrue};
+ghost use Rattle.fak_model.specs.Seats.{IsWhole, mine};
+ghost use Rattle.fak_model.specs.Calls.{tally_of};
+ghost use Rattle.fak_queue.specs.declared.state.SeatState.TheVariants.{Idle};
+ghost use Rattle.fak_queue.specs.Queues.{seat_of, state_of};
+
+use crate::seat::Seat;
+use crate::steps::Token;
+use fak_model::NameSet;
+use std::marker::Model;
+
+/// Seats of a queue that were joined and make no calls any more. Contracts see its object, the names of the seats and
+/// the longest history that one of them has seen.
+#[derive(Drop)]
+pub struct Tally<T> {
+    pub(crate) token: Token<T>,
+    pub(crate) names: NameSet,
+    pub(crate) seats: u64,
+}
+
+impl<T> Model for Tally<T> {
+    ghost use Rattle.std.specs.Prelude.{reverse};
+    ghost use Rattle.fak_model.specs.declared.queue.Mark.{Mark};
+    ghost use Rattle.fak_model.specs.Names.{HasJust};
+    ghost use Rattle.fak_model.specs.Calls.{TallyInfo, tally_info, object_id};
+    ghost use Rattle.fak_model.specs.Tokens.{IsTallyToken};
+    ghost use Rattle.fak_core.specs.declared.queue.phase.Phase.TheVariants as phase;
+    ghost use Rattle.fak_queue.specs.Queues.{seat_of};
+
+    ghost Value = { TallyInfo (Mark T) };
+
+    ghost view = { λ t. tally_info (object_id t.token.table_id t.seats) t.token.me.0.names (reverse t.token.me.0.seen) };
+
+    ghost invariant = { λ t. IsTallyToken seat_of t.seats phase.Idle t.token.me × HasJust t.names t.token.me.0.names };
+}
+
+impl<T: Drop> Tally<T> {
+    /// The tally of one seat.
+    pub fn of(seat: Seat<T>) -> Tally<T>
+        requires { state_of seat ≡ Idle }
+        ensures { result ≡ tally_of seat }
+    {
+        let Seat {
+            token,
+            name,
+            seats,
+            left: _,
+            phase: _,
+        } = seat;
+        Tally {
+            token,
+            names: NameSet::of(name),
+            seats,
+        }
+    }
+
+    /// Whether all seats of the queue are in it. Then each mark of its history is of one of them.
+    pub fn is_whole(&self) -> bool
+        ensures whole { IsTrue result ↔ IsWhole self.now.object.seats self.now.names }
+        ensures mine { IsTrue result → mine seat_of self.now.names self.now.seen ≡ self.now.seen }
+    {
+        self.names.has_all(self.seats)
+    }
+}

@@ -1,0 +1,59 @@
+//! One try of a claimed insertion or deletion at its cell, which waits for nobody.
+
+ghost use Rattle.std.specs.Prelude.{◌≡◌, ℕ, MatchOption};
+ghost use Rattle.fak_queue.specs.declared.state.SeatState.TheVariants.{Deleting, Idle, Inserting};
+ghost use Rattle.fak_queue.specs.Queues.{Fills, Takes, WaitsToFill, WaitsToTake, drawn_by, state_of};
+
+use crate::queue::Queue;
+use crate::seat::Seat;
+use crate::turns::{empty_cell, fill_cell};
+use fak_core::Phase;
+use std::mem;
+
+impl<T: Drop> Queue<T> {
+    /// Where it is the cell's turn, moves the item into it, ends the insertion and answers its ticket. Else the seat is
+    /// as before.
+    pub fn try_fill(&self, seat: &mut Seat<T>) -> Option<u64>
+        requires object { seat.old.object ≡ self.now.object }
+        requires inserting { (k : ℕ) × (state_of seat.old ≡ Inserting k) }
+        ensures object { seat.new.object ≡ seat.old.object }
+        ensures state { MatchOption result (state_of seat.new ≡ state_of seat.old) (λ _. state_of seat.new ≡ Idle) }
+        ensures left { drawn_by seat.new ≡ drawn_by seat.old }
+        ensures call { (k : ℕ) → state_of seat.old ≡ Inserting k → MatchOption result
+            (WaitsToFill self.now.size k seat.old seat.new) (λ j. (j ≡ k) × Fills self.now.size k seat.old seat.new) }
+    {
+        let Phase::TurnIn(ticket, item) = mem::replace(&mut seat.phase, Phase::Idle) else {
+            unreachable!()
+        };
+        match fill_cell(&self.table.shared, &mut seat.token, self.size, ticket, item) {
+            None => Some(ticket),
+            Some(item) => {
+                seat.phase = Phase::TurnIn(ticket, item);
+                None
+            }
+        }
+    }
+
+    /// Where it is the cell's turn, moves the item out of it, ends the deletion and answers its ticket and the item. Else
+    /// the seat is as before.
+    pub fn try_take(&self, seat: &mut Seat<T>) -> Option<(u64, T)>
+        requires object { seat.old.object ≡ self.now.object }
+        requires deleting { (k : ℕ) × (state_of seat.old ≡ Deleting k) }
+        ensures object { seat.new.object ≡ seat.old.object }
+        ensures state { MatchOption result (state_of seat.new ≡ state_of seat.old) (λ _. state_of seat.new ≡ Idle) }
+        ensures left { drawn_by seat.new ≡ drawn_by seat.old }
+        ensures call { (k : ℕ) → state_of seat.old ≡ Deleting k → MatchOption result
+            (WaitsToTake self.now.size k seat.old seat.new) (λ r. (r.0 ≡ k) × Takes self.now.size k r.1 seat.old seat.new) }
+    {
+        let Phase::TurnOut(ticket) = mem::replace(&mut seat.phase, Phase::Idle) else {
+            unreachable!()
+        };
+        match empty_cell(&self.table.shared, &mut seat.token, self.size, ticket) {
+            None => {
+                seat.phase = Phase::TurnOut(ticket);
+                None
+            }
+            Some(item) => Some((ticket, item)),
+        }
+    }
+}

@@ -1,0 +1,70 @@
+//! Insertions and deletions that wait for their cell.
+
+ghost use Rattle.std.specs.Prelude.{◌≡◌, ◌+◌, MatchResult};
+ghost use Rattle.fak_queue.specs.declared.state.SeatState.TheVariants.{Idle};
+ghost use Rattle.fak_queue.specs.Queues.{Deletes, Inserts, drawn_by, state_of};
+ghost use Rattle.fak_queue.specs.Refusals.{RefusesDeletion, RefusesInsertion};
+
+use crate::fault::{DeleteFault, InsertFault};
+use crate::queue::Queue;
+use crate::seat::Seat;
+use crossbeam_utils::Backoff;
+use std::sync::Wait;
+
+impl<T: Drop> Queue<T> {
+    /// Inserts the item: one claim, and where it is granted tries until it is the cell's turn. Answers the ticket.
+    ///
+    /// Refused with `Worn`, `Closed` or `Full`, in this order; the item comes back.
+    pub fn insert<R: Wait>(
+        &self,
+        rt: &R,
+        seat: &mut Seat<T>,
+        item: T,
+    ) -> Result<u64, InsertFault<T>>
+        requires object { seat.old.object ≡ self.now.object }
+        requires idle { state_of seat.old ≡ Idle }
+        ensures object { seat.new.object ≡ seat.old.object }
+        ensures state { state_of seat.new ≡ Idle }
+        ensures left { MatchResult result (λ _. drawn_by seat.new ≡ drawn_by seat.old + 1) (λ _. drawn_by seat.new ≡ drawn_by seat.old) }
+        ensures call { MatchResult result (λ k. Inserts self.now.size k item seat.old seat.new) (RefusesInsertion self.now.size item seat.old seat.new) }
+    {
+        let ticket = match self.claim_insert(seat, item) {
+            Ok(ticket) => ticket,
+            Err(fault) => return Err(fault),
+        };
+        let backoff = Backoff::new();
+        for _ in rt.forever() {
+            if let Some(_) = self.try_fill(seat) {
+                return Ok(ticket);
+            }
+            backoff.snooze();
+        }
+        unreachable!()
+    }
+
+    /// Deletes the oldest item: one claim, and where it is granted tries until it is the cell's turn. Answers the ticket
+    /// and the item.
+    ///
+    /// Refused with `Worn` or `Empty`, in this order.
+    pub fn delete<R: Wait>(&self, rt: &R, seat: &mut Seat<T>) -> Result<(u64, T), DeleteFault>
+        requires object { seat.old.object ≡ self.now.object }
+        requires idle { state_of seat.old ≡ Idle }
+        ensures object { seat.new.object ≡ seat.old.object }
+        ensures state { state_of seat.new ≡ Idle }
+        ensures left { MatchResult result (λ _. drawn_by seat.new ≡ drawn_by seat.old + 1) (λ _. drawn_by seat.new ≡ drawn_by seat.old) }
+        ensures call { MatchResult result (λ r. Deletes self.now.size r.0 r.1 seat.old seat.new) (RefusesDeletion self.now.size seat.old seat.new) }
+    {
+        let ticket = match self.claim_delete(seat) {
+            Ok(ticket) => ticket,
+            Err(fault) => return Err(fault),
+        };
+        let backoff = Backoff::new();
+        for _ in rt.forever() {
+            if let Some((_, item)) = self.try_take(seat) {
+                return Ok((ticket, item));
+            }
+            backoff.snooze();
+        }
+        unreachable!()
+    }
+}

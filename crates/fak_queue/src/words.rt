@@ -1,0 +1,66 @@
+//! The words of a queue's table.
+//!
+//! A queue has four words of its own and one for each cell.
+//!
+//! - The upper count U: insertions that were claimed, or claimed beyond the bound and not withdrawn yet, less the
+//!   deletions that have ended. An insertion tests U and adds 1 to it before it draws a ticket. A deletion ends by
+//!   subtracting 1. Where the queue is shut the word's top bit is set.
+//! - The lower count L: insertions that have ended, less the deletions that were claimed, or claimed below 1 and not
+//!   withdrawn yet. A deletion tests L and subtracts 1 from it. An insertion ends by adding 1.
+//! - The ticket counters I and D: the next ticket of an insertion, and of a deletion. Ticket k has cell k mod size in
+//!   round k div size.
+//! - The turn of a cell: 2 r while round r may fill it, 2 r + 1 while round r may take from it.
+//!
+//! Both counts can pass their bounds for a moment, L below 0 too, so a count is kept as count + 2^62, the bias. The
+//! four words are 128 bytes apart from one another and from the turns, so that no two of them share a cache line.
+
+ghost use Rattle.std.specs.Prelude.{◌+◌, ◌<◌, ◌^◌};
+ghost use Rattle.fak_queue.specs.Words.{IsLowerCount, IsUpperCount};
+
+use crate::found::{LowerCount, UpperCount};
+
+/// The upper count, U.
+pub(crate) const UPPER: usize = 0;
+
+/// The lower count, L.
+pub(crate) const LOWER: usize = 16;
+
+/// The counter of insertions' tickets, I.
+pub(crate) const DRAWS_IN: usize = 32;
+
+/// The counter of deletions' tickets, D.
+pub(crate) const DRAWS_OUT: usize = 48;
+
+/// The first cell's turn.
+pub(crate) const TURNS: usize = 64;
+
+/// A word that keeps a count has this much more than the count.
+pub(crate) const BIAS: u64 = 1 << 62;
+
+/// The bit of the upper count's word that is set where the queue is shut.
+pub(crate) const SHUT: u64 = 1 << 63;
+
+// What this word of the upper count says, in a queue of this size.
+pub(crate) fn upper_count(found: u64, size: u64) -> UpperCount
+    requires { size < 2 ^ 62 }
+    ensures { IsUpperCount size found result }
+{
+    if found >= SHUT {
+        UpperCount::Shut
+    } else if found >= BIAS + size {
+        UpperCount::Full((found - BIAS) as i64)
+    } else {
+        UpperCount::Below
+    }
+}
+
+// What this word of the lower count says.
+pub(crate) fn lower_count(found: u64) -> LowerCount
+    ensures { IsLowerCount found result }
+{
+    if found > BIAS {
+        LowerCount::Positive
+    } else {
+        LowerCount::Empty(found as i64 - BIAS as i64)
+    }
+}

@@ -1,0 +1,57 @@
+-- The seats of a semaphore as they are opened.
+use Rattle.std.proofs.Common.{◌≡◌, ℕ, zero, suc, ◌+◌, ◌-◌, ◌<◌, List, [], ◌∷◌, ◌++◌, length, refl, ap, sym, ◌∙◌, subst, arith}
+use Rattle.fak_model.specs.declared.credit.CreditMark.{CreditMark}
+use Rattle.fak_model.specs.declared.queue.Mark.{Mark}
+use Rattle.fak_model.specs.Calls.{ObjectId, SeatInfo, seat_info, fresh_seats}
+use Rattle.fak_sem.specs.Semaphores.{SemId, SemSeatInfo, IsSemSeat, sem_seat, fresh_sem_seats}
+
+pub length-fresh_seats : (M : Type 0) (object : ObjectId) (stint name n : ℕ) → length (fresh_seats {M = M} object stint name n) ≡ n
+length-fresh_seats M object stint name zero = refl
+length-fresh_seats M object stint name (suc n) = omega (arith, length-fresh_seats M object stint (suc name) n)
+
+-- the first of the seats from this name on, and the others
+pub record IsNextSeat {M : Type 0} (object : ObjectId) (stint name seats : ℕ) (x : SeatInfo M) (rest : List (SeatInfo M)) : Type 0 where
+  pub first : x ≡ seat_info object name stint []
+  pub others : rest ≡ fresh_seats object stint (name + 1) (seats - (name + 1))
+
+pub next_seat : {M : Type 0} {object : ObjectId} {stint name seats : ℕ} {items rest : List (SeatInfo M)} {x : SeatInfo M} → name < seats → items ≡ fresh_seats object stint name (seats - name) → items ≡ x ∷ rest → IsNextSeat object stint name seats x rest
+next_seat {M} {object} {stint} {name} {seats} {items} {rest} {x} below are is =
+    let count : seats - name ≡ suc (seats - (name + 1)) = omega (arith, below) in
+    let up : suc name ≡ name + 1 = omega arith in
+    let all : x ∷ rest ≡ seat_info object name stint [] ∷ fresh_seats object stint (suc name) (seats - (name + 1)) = sym is ∙ (are ∙ ap (fresh_seats {M = M} object stint name) count) in
+    record {
+      first = cc;
+      others = (let r : rest ≡ fresh_seats object stint (suc name) (seats - (name + 1)) = cc in r ∙ ap (λ k. fresh_seats {M = M} object stint k (seats - (name + 1))) up);
+    }
+
+pub fresh_sem_seat : {T : Type 0} (start : ℕ) {credit_id queue_id : ObjectId} {name stint : ℕ} {credit : SeatInfo CreditMark} {queue : SeatInfo (Mark T)} → queue_id.seats ≡ credit_id.seats
+    → credit ≡ seat_info credit_id name stint [] → queue ≡ seat_info queue_id name stint [] → IsSemSeat start credit queue
+fresh_sem_seat {T} start {credit_id} {queue_id} {name} {stint} seats credit_is queue_is =
+    subst (λ (x : SeatInfo CreditMark × SeatInfo (Mark T)). IsSemSeat start x.0 x.1) (λ i. (sym credit_is i, sym queue_is i)) record {
+      seats = seats;
+      name = refl;
+      stint = refl;
+      idle = refl;
+      credit_named = λ k d below. absurd (omega arith);
+      queue_named = λ k d below. absurd (omega arith);
+      matched = record { parked = refl; woken = refl };
+    }
+
+pub fresh_paired : {T : Type 0} {start : ℕ} {object : SemId} {name stint : ℕ} {credit : SeatInfo CreditMark} {queue : SeatInfo (Mark T)} → object.start ≡ start
+    → credit ≡ seat_info object.credit name stint [] → queue ≡ seat_info object.queue name stint [] → sem_seat start credit queue ≡ record { object = object; name = 0 + name; stint = stint; credit_seen = []; queue_seen = [] }
+fresh_paired {T} {start} {object} {name} {stint} same credit_is queue_is =
+    let plus : name ≡ 0 + name = omega arith in
+    (λ i. sem_seat start (credit_is i) (queue_is i))
+    ∙ (λ i. record { object = record { credit = object.credit; queue = object.queue; start = sym same i }; name = plus i; stint = stint; credit_seen = []; queue_seen = [] })
+
+-- one more seat behind those from the name a on
+pub fresh_sem_next : {T : Type 0} (object : SemId) (stint a n : ℕ) (x : SemSeatInfo T) → x ≡ record { object = object; name = a + n; stint = stint; credit_seen = []; queue_seen = [] }
+    → fresh_sem_seats {T = T} object stint a n ++ x ∷ [] ≡ fresh_sem_seats object stint a (n + 1)
+fresh_sem_next {T} object stint a zero x is =
+    let same : a + 0 ≡ a = omega arith in
+    ap (λ y. y ∷ []) is ∙ (λ i. record { object = object; name = same i; stint = stint; credit_seen = []; queue_seen = [] } ∷ [])
+fresh_sem_next {T} object stint a (suc n) x is =
+    let up : suc (n + 1) ≡ suc n + 1 = omega arith in
+    let same : a + suc n ≡ suc a + n = omega arith in
+    let rest = fresh_sem_next {T = T} object stint (suc a) n x (is ∙ (λ i. record { object = object; name = same i; stint = stint; credit_seen = []; queue_seen = [] })) in
+    ap (λ l. record { object = object; name = a; stint = stint; credit_seen = []; queue_seen = [] } ∷ l) rest ∙ ap (λ k. fresh_sem_seats {T = T} object stint a k) up

@@ -1,0 +1,165 @@
+-- What downs and ups leave of the invariant of a seat.
+use Rattle.std.proofs.Common.{◌≡◌, ℕ, ◌+◌, ◌<◌, Bool, true, false, not, List, [], ◌∷◌, ◌++◌, refl, ap, sym, ◌∙◌, subst, arith}
+use Rattle.std.specs.Prelude.{ℤ, pos, int_lt, int_le}
+use Rattle.std.proofs.lemmas.Int.{ints}
+use Rattle.std.specs.List.{flat_map}
+use Rattle.fak_model.specs.declared.credit.CreditKind.{CreditKind}
+use Rattle.fak_model.specs.declared.credit.CreditKind.TheVariants.{Debit, Credit}
+use Rattle.fak_model.specs.declared.credit.CreditMark.{CreditMark}
+use Rattle.fak_model.specs.declared.queue.Kind.{Kind}
+use Rattle.fak_model.specs.declared.queue.Mark.{Mark}
+use Rattle.fak_model.specs.Queue.{count, puts, gots}
+use Rattle.fak_model.specs.Seats.{marks_of}
+use Rattle.fak_model.specs.Calls.{SeatInfo}
+use Rattle.fak_model.proofs.QueueBackwards.{count_append}
+use Rattle.fak_count.specs.Credits.{CreditInfo, MakesCall}
+use Rattle.fak_queue.specs.declared.state.SeatState.TheVariants.{Idle}
+use Rattle.fak_queue.specs.Queues.{QueueInfo, Makes, made_by, seat_of, drawn_by, state_of}
+use Rattle.fak_sem.specs.Refused.{RefusedInsertion, NotIn, WithdrawnIn, ClosedIn, WithdrawnLate, kinds_not_in, RefusedDeletion, NotOut, WithdrawnOut, kinds_not_out, kinds_in, kinds_out, InsertsAtLast, DeletesAtLast}
+use Rattle.fak_sem.specs.Grants.{weight_from, of_name, parks, wakes}
+use Rattle.fak_sem.specs.Semaphores.{SemId, SemInfo, SemSeatInfo, IsSemSeat, sem_seat, sem_info}
+use Rattle.fak_sem.proofs.AfterRefusals.{made_by_append}
+use Rattle.fak_sem.proofs.Weights.{weight-call, weights-calls}
+
+-- ---- how often kinds stand among the marks of refused calls and of a granted one
+
+count_refused : {T R : Type 0} (w : Kind T → ℕ) (kinds_of : R → List (Kind T)) (name : ℕ) → ((r : R) → count w (made_by name (kinds_of r)) ≡ 0) → (refused : List R) → count w (made_by name (flat_map kinds_of refused)) ≡ 0
+count_refused w kinds_of name none [] = refl
+count_refused w kinds_of name none (r ∷ rs) =
+    ap (count w) (made_by_append name (kinds_of r) (flat_map kinds_of rs)) ∙ (count_append w (made_by name (kinds_of r)) (made_by name (flat_map kinds_of rs)) ∙ omega (arith, none r, count_refused w kinds_of name none rs))
+
+count_at_last : {T R : Type 0} (w : Kind T → ℕ) (kinds_of : R → List (Kind T)) (name : ℕ) → ((r : R) → count w (made_by name (kinds_of r)) ≡ 0) → (refused : List R) (kinds : List (Kind T))
+    → count w (made_by name (flat_map kinds_of refused ++ kinds)) ≡ count w (made_by name kinds)
+count_at_last w kinds_of name none refused kinds =
+    ap (count w) (made_by_append name (flat_map kinds_of refused) kinds) ∙ (count_append w (made_by name (flat_map kinds_of refused)) (made_by name kinds) ∙ omega (arith, count_refused w kinds_of name none refused))
+
+puts_not_in : (T : Type 0) (name : ℕ) (r : RefusedInsertion) → count puts (made_by name (kinds_not_in {T = T} r)) ≡ 0
+puts_not_in T name NotIn = refl
+puts_not_in T name WithdrawnIn = refl
+puts_not_in T name ClosedIn = refl
+puts_not_in T name WithdrawnLate = refl
+
+gots_not_in : (T : Type 0) (name : ℕ) (r : RefusedInsertion) → count gots (made_by name (kinds_not_in {T = T} r)) ≡ 0
+gots_not_in T name NotIn = refl
+gots_not_in T name WithdrawnIn = refl
+gots_not_in T name ClosedIn = refl
+gots_not_in T name WithdrawnLate = refl
+
+puts_not_out : (T : Type 0) (name : ℕ) (r : RefusedDeletion) → count puts (made_by name (kinds_not_out {T = T} r)) ≡ 0
+puts_not_out T name NotOut = refl
+puts_not_out T name WithdrawnOut = refl
+
+gots_not_out : (T : Type 0) (name : ℕ) (r : RefusedDeletion) → count gots (made_by name (kinds_not_out {T = T} r)) ≡ 0
+gots_not_out T name NotOut = refl
+gots_not_out T name WithdrawnOut = refl
+
+-- ---- a seat and its semaphore
+
+pub same_start : {T : Type 0} {start : ℕ} {credit : SeatInfo CreditMark} (queue : SeatInfo (Mark T)) {seat : SemSeatInfo T} {count_info : CreditInfo} (queue_info : QueueInfo) {sem : SemInfo}
+    → sem_seat start credit queue ≡ seat → sem_info count_info queue_info ≡ sem → seat.object ≡ sem.object → count_info.start ≡ start
+same_start {T} queue queue_info seat_is sem_is fits = ap (λ (x : SemInfo). x.object.start) sem_is ∙ (ap (λ (o : SemId). o.start) (sym fits) ∙ ap (λ (x : SemSeatInfo T). x.object.start) (sym seat_is))
+
+-- ---- a seat whose credit part makes a call
+
+module _ {T : Type 0} {start : ℕ} {credit credit' : SeatInfo CreditMark} {queue : SeatInfo (Mark T)} {info : CreditInfo} {kind : CreditKind} {found : ℤ}
+    (s : IsSemSeat start credit queue) (at : info.start ≡ start) (c : MakesCall kind info credit credit' found) where
+  same_name : credit'.name ≡ credit.name
+  same_name = ap (λ (x : SeatInfo CreditMark). x.name) c.appends.same_seat
+
+  same_stint : credit'.stint ≡ credit.stint
+  same_stint = ap (λ (x : SeatInfo CreditMark). x.stint) c.appends.same_seat
+
+  same_seats : credit'.object.seats ≡ credit.object.seats
+  same_seats = ap (λ (x : SeatInfo CreditMark). x.object.seats) c.appends.same_seat
+
+  weighs : (weight : CreditKind → ℤ → ℕ) → weight_from (of_name credit'.name weight) start [] credit'.seen ≡ weight_from (of_name credit.name weight) start [] credit.seen + weight kind found
+  weighs weight = subst (λ (x : ℕ × ℕ). weight_from (of_name x.0 weight) x.1 [] credit'.seen ≡ weight_from (of_name credit.name weight) x.1 [] credit.seen + weight kind found) (λ i. (sym same_name i, at i)) (weight-call weight c)
+
+  -- the seat's queue part has tickets left
+  pub tickets_left : drawn_by queue < queue.stint
+  tickets_left =
+      let p = ap (λ (n : ℕ). count puts (marks_of seat_of n queue.seen)) s.name in
+      let g = ap (λ (n : ℕ). count gots (marks_of seat_of n queue.seen)) s.name in
+      let parked = s.matched.parked in
+      let woken = s.matched.woken in
+      let within = c.within in
+      let stint = s.stint in
+      let few = weights-calls credit.name start [] credit.seen in
+      omega (arith, p, g, parked, woken, within, stint, few)
+
+  -- the wait queue is left alone
+  pub seat_unqueued : parks kind found ≡ 0 → wakes kind found ≡ 0 → IsSemSeat start credit' queue
+  seat_unqueued none_parked none_woken = record {
+    seats = s.seats ∙ sym same_seats;
+    name = s.name ∙ sym same_name;
+    stint = s.stint ∙ sym same_stint;
+    idle = s.idle;
+    credit_named = c.appends.named;
+    queue_named = s.queue_named;
+    matched = record {
+      parked = (let e = ap (λ (n : ℕ). count puts (marks_of seat_of n queue.seen)) same_name in let was = s.matched.parked in let w = weighs parks in omega (arith, e, was, w, none_parked));
+      woken = (let e = ap (λ (n : ℕ). count gots (marks_of seat_of n queue.seen)) same_name in let was = s.matched.woken in let w = weighs wakes in omega (arith, e, was, w, none_woken));
+    };
+  }
+
+  -- the wait queue has seen these calls
+  seat_queued : {size : ℕ} (kinds : List (Kind T)) {queue' : SeatInfo (Mark T)} → Makes size kinds queue queue' → state_of queue' ≡ Idle
+      → count puts (made_by queue.name kinds) ≡ parks kind found → count gots (made_by queue.name kinds) ≡ wakes kind found → IsSemSeat start credit' queue'
+  seat_queued kinds {queue'} makes idle put got =
+      let name' : queue'.name ≡ queue.name = ap (λ (x : SeatInfo (Mark T)). x.name) makes.same_seat in
+      let to_name : credit'.name ≡ queue'.name = same_name ∙ (sym s.name ∙ sym name') in
+      let grown : (w : Kind T → ℕ) → count w (marks_of seat_of credit'.name queue'.seen) ≡ count w (marks_of seat_of credit.name queue.seen) + count w (made_by queue.name kinds) =
+      (λ w. ap (λ (n : ℕ). count w (marks_of seat_of n queue'.seen)) to_name ∙ (ap (count w) makes.mine ∙ (count_append w (marks_of seat_of queue.name queue.seen) (made_by queue.name kinds)
+      ∙ ap (λ (n : ℕ). count w (marks_of seat_of n queue.seen) + count w (made_by queue.name kinds)) s.name))) in
+      record {
+        seats = ap (λ (x : SeatInfo (Mark T)). x.object.seats) makes.same_seat ∙ (s.seats ∙ sym same_seats);
+        name = name' ∙ (s.name ∙ sym same_name);
+        stint = ap (λ (x : SeatInfo (Mark T)). x.stint) makes.same_seat ∙ (s.stint ∙ sym same_stint);
+        idle = idle;
+        credit_named = c.appends.named;
+        queue_named = makes.named;
+        matched = record {
+          parked = (let g = grown puts in let was = s.matched.parked in let w = weighs parks in omega (arith, g, was, w, put));
+          woken = (let g = grown gots in let was = s.matched.woken in let w = weighs wakes in omega (arith, g, was, w, got));
+        };
+      }
+
+  -- the wait queue has got an item
+  pub seat_parked : {size : ℕ} {who : T} {queue' : SeatInfo (Mark T)} → InsertsAtLast size who queue queue' → state_of queue' ≡ Idle → parks kind found ≡ 1 → wakes kind found ≡ 0 → IsSemSeat start credit' queue'
+  seat_parked {size} {who} made idle one none =
+      seat_queued _ made.1.makes idle
+      (count_at_last puts kinds_not_in queue.name (puts_not_in T queue.name) made.1.refused (kinds_in made.0 who) ∙ omega (arith, one))
+      (count_at_last gots kinds_not_in queue.name (gots_not_in T queue.name) made.1.refused (kinds_in made.0 who) ∙ omega (arith, none))
+
+  -- an item was taken off the wait queue
+  pub seat_woken : {size : ℕ} {who : T} {queue' : SeatInfo (Mark T)} → DeletesAtLast size who queue queue' → state_of queue' ≡ Idle → parks kind found ≡ 0 → wakes kind found ≡ 1 → IsSemSeat start credit' queue'
+  seat_woken {size} {who} made idle none one =
+      seat_queued _ made.1.makes idle
+      (count_at_last puts kinds_not_out queue.name (puts_not_out T queue.name) made.1.refused (kinds_out made.0 who) ∙ omega (arith, none))
+      (count_at_last gots kinds_not_out queue.name (gots_not_out T queue.name) made.1.refused (kinds_out made.0 who) ∙ omega (arith, one))
+
+-- ---- the tests of downs and ups
+
+pub parks_not : {found word : ℤ} → word ≡ found → int_lt (pos 0) word ≡ true → parks Debit found ≡ 0
+parks_not {found} is t = let u : int_lt (pos 0) found ≡ true = ap (int_lt (pos 0)) (sym is) ∙ t in rw u refl
+
+pub parks_one : {found word : ℤ} → word ≡ found → int_lt (pos 0) word ≡ false → parks Debit found ≡ 1
+parks_one {found} is t = let u : int_lt (pos 0) found ≡ false = ap (int_lt (pos 0)) (sym is) ∙ t in rw u refl
+
+below_nothing : (found : ℤ) (b : Bool) → int_lt found (pos 0) ≡ b → int_le (pos 0) found ≡ not b
+below_nothing found true t = grind (arith, ints)
+below_nothing found false t = grind (arith, ints)
+
+pub wakes_not : {found word : ℤ} → word ≡ found → int_le (pos 0) word ≡ true → wakes Credit found ≡ 0
+wakes_not {found} is t = by (int_lt found (pos 0)) refl
+  where
+    by : (b : Bool) → int_lt found (pos 0) ≡ b → wakes Credit found ≡ 0
+    by true u = absurd (let v = below_nothing found true u in cc (ap (int_le (pos 0)) is, t, v))
+    by false u = rw u refl
+
+pub wakes_one : {found word : ℤ} → word ≡ found → int_le (pos 0) word ≡ false → wakes Credit found ≡ 1
+wakes_one {found} is t = by (int_lt found (pos 0)) refl
+  where
+    by : (b : Bool) → int_lt found (pos 0) ≡ b → wakes Credit found ≡ 1
+    by true u = rw u refl
+    by false u = absurd (let v = below_nothing found false u in cc (ap (int_le (pos 0)) is, t, v))

@@ -1,0 +1,4 @@
+pub mod Refused
+pub mod Grants
+pub mod Semaphores
+pub mod Opening
