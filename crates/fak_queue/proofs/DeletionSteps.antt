@@ -53,8 +53,8 @@ module _ {T : Type 0} (key : Limits) (s : QueueTable T) (r : IsShownQueue key s)
   pub tests_low : m.0.phase ≡ Some Idle → Step 16 (λ w. w) (λ found after. (l : LowerCount) → IsLowerCount found l → TestedLow key.size key.seats n l m after)
   tests_low e =
       let c = with_phase r.core n TestLow in
-      let R1 = deletes key.size r.core r.reached n (stands key s r id n m at one Idle e) in
-      let R2 = moves key.size c R1 n TestLow (here1 key s r id n m at one TestLow) in
+      let reached_begun = deletes key.size r.core r.reached n (stands key s r id n m at one Idle e) in
+      let reached_next = moves key.size c reached_begun n TestLow (here1 key s r id n m at one TestLow) in
       let w = slice_index s.words 16 in
       let word = r.encoded.words_are.lower_is in
       let out = outside key s r id n m at one Idle e (λ i j. j) in
@@ -63,20 +63,20 @@ module _ {T : Type 0} (key : Limits) (s : QueueTable T) (r : IsShownQueue key s)
       let Then : Holder T → LowerCount → Type 0 = λ after l. TestedLow key.size key.seats n l m after in
       elim (true_or_false (int_lt (pos 0) r.core.lower)) [
         | inl lt ↦ (
-            let R3 = if_true (Leads c) (int_lt (pos 0) r.core.lower) _ _ lt R2 in
-            let q = quiet_step key s r id n m at one _ R3 [] refl tt (phases SubLow) refl refl out 16 w (loaded key s r id n m at one 16) SubLow (here SubLow) m.0.left (omega arith) Anything tt in
+            let reached_here = if_true (Leads c) (int_lt (pos 0) r.core.lower) _ _ lt reached_next in
+            let q = quiet_step key s r id n m at one _ reached_here [] refl tt (phases SubLow) refl refl out 16 w (loaded key s r id n m at one 16) SubLow (here SubLow) m.0.left (omega arith) Anything tt in
             (sight m.0.names r.core.past SubLow m.0.left, keeps, tt, q.0, only_positive (Then (After [] SubLow)) w (positive_word w r.core.lower word lt) q.1))
         | inr ge ↦ (
-            let R3 = if_false (Leads c) (int_lt (pos 0) r.core.lower) _ _ ge R2 in
+            let reached_here = if_false (Leads c) (int_lt (pos 0) r.core.lower) _ _ ge reached_next in
             let new : List (Mark T) = mark n made.NoItem ∷ [] in
-            let q : (v : ℤ) → v ≡ r.core.lower → _ = λ v f. quiet_step key s r id n m at one _ R3 new refl (refl, tt) (phases Idle) refl refl out 16 w (loaded key s r id n m at one 16) Idle (here Idle) m.0.left (omega arith)
+            let q : (v : ℤ) → v ≡ r.core.lower → _ = λ v f. quiet_step key s r id n m at one _ reached_here new refl (refl, tt) (phases Idle) refl refl out 16 w (loaded key s r id n m at one 16) Idle (here Idle) m.0.left (omega arith)
             (λ past. v ≡ lower_count (reverse past)) (f ∙ lower_past key s r id n m at one) in
             (sight m.0.names (new ++ r.core.past) Idle m.0.left, keeps, tt, (q r.core.lower refl).0, only_empty (Then (After new Idle)) w r.core.lower (empty_word w r.core.lower word ge) word (λ v f. (q v f).1)))
       ]
 
   pub subtracts_low : m.0.phase ≡ Some SubLow → Step 16 (λ w. (w + (2 ^ 64 - 1)) % 2 ^ 64) (λ found after. (l : LowerCount) → IsLowerCount found l → SubtractedLow key.size key.seats n l m after)
   subtracts_low e =
-      let R2 = moves key.size r.core r.reached n SubLow (stands key s r id n m at one SubLow e) in
+      let reached_next = moves key.size r.core r.reached n SubLow (stands key s r id n m at one SubLow e) in
       let w = slice_index s.words 16 in
       let w' = (w + (2 ^ 64 - 1)) % 2 ^ 64 in
       let word = r.encoded.words_are.lower_is in
@@ -85,14 +85,14 @@ module _ {T : Type 0} (key : Limits) (s : QueueTable T) (r : IsShownQueue key s)
       let Then : Holder T → LowerCount → Type 0 = λ after l. SubtractedLow key.size key.seats n l m after in
       elim (true_or_false (int_lt (pos 0) r.core.lower)) [
         | inl lt ↦ (
-            let R3 = if_true (Leads r.core) (int_lt (pos 0) r.core.lower) _ _ lt R2 in
+            let reached_here = if_true (Leads r.core) (int_lt (pos 0) r.core.lower) _ _ lt reached_next in
             let new : List (Mark T) = mark n made.ClaimOut ∷ [] in
-            let q = quiet_step key s r id n m at one _ R3 new refl (refl, tt) (apart1 key s r id n m at one TicketOut) refl refl out 16 w' words TicketOut (here1 key s r id n m at one TicketOut) m.0.left (omega arith) Anything tt in
+            let q = quiet_step key s r id n m at one _ reached_here new refl (refl, tt) (apart1 key s r id n m at one TicketOut) refl refl out 16 w' words TicketOut (here1 key s r id n m at one TicketOut) m.0.left (omega arith) Anything tt in
             (sight m.0.names (new ++ r.core.past) TicketOut m.0.left, keeps, tt, q.0, only_positive (Then (After new TicketOut)) w (positive_word w r.core.lower word lt) q.1))
         | inr ge ↦ (
-            let R3 = if_false (Leads r.core) (int_lt (pos 0) r.core.lower) _ _ ge R2 in
+            let reached_here = if_false (Leads r.core) (int_lt (pos 0) r.core.lower) _ _ ge reached_next in
             let new : List (Mark T) = mark n made.OverOut ∷ [] in
-            let q : (v : ℤ) → v ≡ r.core.lower → _ = λ v f. quiet_step key s r id n m at one _ R3 new refl (refl, tt) (apart1 key s r id n m at one BackLow) refl refl out 16 w' words BackLow (here1 key s r id n m at one BackLow) m.0.left (omega arith)
+            let q : (v : ℤ) → v ≡ r.core.lower → _ = λ v f. quiet_step key s r id n m at one _ reached_here new refl (refl, tt) (apart1 key s r id n m at one BackLow) refl refl out 16 w' words BackLow (here1 key s r id n m at one BackLow) m.0.left (omega arith)
             (λ past. v ≡ lower_count (reverse past)) (f ∙ lower_past key s r id n m at one) in
             (sight m.0.names (new ++ r.core.past) BackLow m.0.left, keeps, tt, (q r.core.lower refl).0, only_empty (Then (After new BackLow)) w r.core.lower (empty_word w r.core.lower word ge) word (λ v f. (q v f).1)))
       ]
@@ -112,12 +112,12 @@ module _ {T : Type 0} (key : Limits) (s : QueueTable T) (r : IsShownQueue key s)
       let next : (w + 1) % 2 ^ 64 ≡ r.core.draws_out + 1 = mod-eq_of_lt (omega (arith, is, few)) ∙ omega (arith, is) in
       let R = moves key.size r.core r.reached n TicketOut (stands key s r id n m at one TicketOut e) in
       let it = draws_put key.size r.core n (K key s r id n m at one) (stands key s r id n m at one TicketOut e) in
-      let R3 = subst (λ o. Leads r.core (ticket_out r.core.draws_out o)) it.1 R in
+      let reached_here = subst (λ o. Leads r.core (ticket_out r.core.draws_out o)) it.1 R in
       let words = subst (λ i. AreWords key.size r.core.upper r.core.lower r.core.draws_in i r.core.turn r.core.shut (set s.words 48 ((w + 1) % 2 ^ 64))) next
       (words_draws_out key.size r.core.upper r.core.lower r.core.draws_in r.core.draws_out r.core.turn r.core.shut s.words r.encoded.words_are ((w + 1) % 2 ^ 64)) in
       let p : Phase T = TurnOut r.core.draws_out in
       let new : List (Mark T) = mark n (made.Got it.0) ∷ [] in
-      let q = quiet_step key s r id n m at one _ R3 new refl (refl, tt) (apart1 key s r id n m at one p) refl refl (outside key s r id n m at one TicketOut e (λ i j. j)) 48 _ words
+      let q = quiet_step key s r id n m at one _ reached_here new refl (refl, tt) (apart1 key s r id n m at one p) refl refl (outside key s r id n m at one TicketOut e (λ i j. j)) 48 _ words
       (TurnOut w) (here1 key s r id n m at one p ∙ ap (λ k. TurnOut k) (sym is)) (m.0.left - 1) (omega (arith, left)) (λ past. (count gots (reverse past) ≡ w) × (item_at (items_put (reverse past)) w ≡ Some it.0)) (count_reverse gots r.core.past ∙ (sym (K key s r id n m at one).draws_out ∙ sym is), item_past r.core.past w ∙ (ap (item_of r.core.past) is ∙ it.1)) in
       (sight m.0.names (new ++ r.core.past) (TurnOut w) (m.0.left - 1), keeps, tt, q.0, record { item = it.0; leaves = q.1; few = omega (arith, is, few) })
 
@@ -126,22 +126,22 @@ module _ {T : Type 0} (key : Limits) (s : QueueTable T) (r : IsShownQueue key s)
       let i = k % key.size in
       let w = slice_index s.words (64 + i) in
       let is = turn_is key s r id n m at one k in
-      let R2 = moves key.size r.core r.reached n (TurnOut k) (stands key s r id n m at one (TurnOut k) e) in
+      let reached_next = moves key.size r.core r.reached n (TurnOut k) (stands key s r id n m at one (TurnOut k) e) in
       let out = outside key s r id n m at one (TurnOut k) e (λ i j. j) in
       let gets : stage r.core.past n ≡ Getting k = sym ((K key s r id n m at one).phases n) ∙ ap shown (stands key s r id n m at one (TurnOut k) e) in
       elim (true_or_false (r.core.turn i == 2 * (k / key.size) + 1)) [
         | inl hit ↦ (
             let turn : r.core.turn i ≡ 2 * (k / key.size) + 1 = grind (arith, nat_tests) in
             let c = with_phase r.core n (LoadItem k) in
-            let R3 = if_true (Leads r.core) (r.core.turn i == 2 * (k / key.size) + 1) _ _ hit R2 in
+            let reached_here = if_true (Leads r.core) (r.core.turn i == 2 * (k / key.size) + 1) _ _ hit reached_next in
             let others = apart1 key s r id n m at one (LoadItem k) in
             let inside : InCell key.size (c.phase n) i = subst (λ p. InCell key.size p i) (sym (here1 key s r id n m at one (LoadItem k))) refl in
-            let home = slot_there key.size n r.core s.homes r.encoded.wide r.encoded.slots_are c others r.encoded.some_cell R3 out i (near key s r id n m at one k) inside in
-            let loads : r.core.cell i ≡ item_of r.core.past k = loads_put key.size c n k (kept key.size c R3 r.encoded.some_cell) (here1 key s r id n m at one (LoadItem k)) in
+            let home = slot_there key.size n r.core s.homes r.encoded.wide r.encoded.slots_are c others r.encoded.some_cell reached_here out i (near key s r id n m at one k) inside in
+            let loads : r.core.cell i ≡ item_of r.core.past k = loads_put key.size c n k (kept key.size c reached_here r.encoded.some_cell) (here1 key s r id n m at one (LoadItem k)) in
             let below = getting_below r.core.past n k gets in
             let counts = (contents_bounded key.size r.core.past (K key s r id n m at one).legal).0 in
             let it = item_there r.core.past k (omega (arith, below, counts)) in
-            let step = advances key s r id n m at one c R3 [] refl tt (LoadItem k) (here1 key s r id n m at one (LoadItem k)) others in
+            let step = advances key s r id n m at one c reached_here [] refl tt (LoadItem k) (here1 key s r id n m at one (LoadItem k)) others in
             let shows : IsEncoded key.size key.seats c (set s.words (64 + i) w) (set s.homes i none) = record {
               some_cell = r.encoded.some_cell;
               few_cells = r.encoded.few_cells;
@@ -160,10 +160,10 @@ module _ {T : Type 0} (key : Limits) (s : QueueTable T) (r : IsShownQueue key s)
             ))
         | inr far ↦ (
             let turn : r.core.turn i ≢ 2 * (k / key.size) + 1 = λ q. absurd (grind (arith, nat_tests)) in
-            let R3 = if_false (Leads r.core) (r.core.turn i == 2 * (k / key.size) + 1) _ _ far R2 in
+            let reached_here = if_false (Leads r.core) (r.core.turn i == 2 * (k / key.size) + 1) _ _ far reached_next in
             let wait = waits_take key.size r.core n k (K key s r id n m at one) gets turn in
             let waits : WaitsOut key.size key.seats n k r.core.past = record { getting = gets; unfilled = λ h. wait (has_back (made.Fill k) r.core.past h) } in
-            let q = quiet_step key s r id n m at one _ R3 [] refl tt (apart1 key s r id n m at one (TurnOut k)) refl refl out (64 + i) w (loaded key s r id n m at one (64 + i)) (TurnOut k) (here1 key s r id n m at one (TurnOut k)) m.0.left (omega arith) (WaitsOut key.size key.seats n k) waits in
+            let q = quiet_step key s r id n m at one _ reached_here [] refl tt (apart1 key s r id n m at one (TurnOut k)) refl refl out (64 + i) w (loaded key s r id n m at one (64 + i)) (TurnOut k) (here1 key s r id n m at one (TurnOut k)) m.0.left (omega arith) (WaitsOut key.size key.seats n k) waits in
             (sight m.0.names r.core.past (TurnOut k) m.0.left, keeps, tt, q.0, record { hit = λ h. absurd (turn (sym is ∙ h)); miss = λ _. q.1 }))
       ]
 
@@ -173,9 +173,9 @@ module _ {T : Type 0} (key : Limits) (s : QueueTable T) (r : IsShownQueue key s)
   stores_free k v tl e held v_is =
       let i = k % key.size in
       let at_load = stands key s r id n m at one (LoadItem k) e in
-      let R1 = moves key.size r.core r.reached n (LoadItem k) at_load in
+      let reached_begun = moves key.size r.core r.reached n (LoadItem k) at_load in
       let c = with_phase r.core n (SetFree k) in
-      let R2 = moves key.size c R1 n (SetFree k) (here1 key s r id n m at one (SetFree k)) in
+      let reached_next = moves key.size c reached_begun n (SetFree k) (here1 key s r id n m at one (SetFree k)) in
       let d : QueueState T = move_from key.size c n (SetFree k) in
       let turn' = with_at r.core.turn i (2 * (k / key.size) + 2) in
       let new : List (Mark T) = mark n (made.Take k) ∷ [] in
@@ -187,7 +187,7 @@ module _ {T : Type 0} (key : Limits) (s : QueueTable T) (r : IsShownQueue key s)
       } in
       let words = subst (λ z. AreWords key.size r.core.upper r.core.lower r.core.draws_in r.core.draws_out turn' r.core.shut (set s.words (64 + i) z)) (sym v_is) (turn_set key s r id n m at one k (2 * (k / key.size) + 2)) in
       let others = apart2 key s r id n m at one (SetFree k) p in
-      let step = advances key s r id n m at one d R2 new refl (refl, tt) p (here2 key s r id n m at one (SetFree k) p) others in
+      let step = advances key s r id n m at one d reached_next new refl (refl, tt) p (here2 key s r id n m at one (SetFree k) p) others in
       let shows : IsEncoded key.size key.seats d (set s.words (64 + i) v) (set s.homes i (some None)) = record {
         some_cell = r.encoded.some_cell;
         few_cells = r.encoded.few_cells;

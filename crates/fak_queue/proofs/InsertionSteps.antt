@@ -46,8 +46,8 @@ module _ {T : Type 0} (key : Limits) (s : QueueTable T) (r : IsShownQueue key s)
   pub tests_up : (x : T) → m.0.phase ≡ Some Idle → Step 0 (λ w. w) (λ found after. (u : UpperCount) → IsUpperCount key.size found u → TestedUp key.size key.seats n x u m after)
   tests_up x e =
       let c = with_phase r.core n (TestUp x) in
-      let R1 = inserts key.size r.core r.reached n x (stands key s r id n m at one Idle e) in
-      let R2 = moves key.size c R1 n (TestUp x) (here1 key s r id n m at one (TestUp x)) in
+      let reached_begun = inserts key.size r.core r.reached n x (stands key s r id n m at one Idle e) in
+      let reached_next = moves key.size c reached_begun n (TestUp x) (here1 key s r id n m at one (TestUp x)) in
       let w = slice_index s.words 0 in
       let b = upper_bounds key s r id n m at one in
       let most = upper_most key s r id n m at one in
@@ -58,24 +58,24 @@ module _ {T : Type 0} (key : Limits) (s : QueueTable T) (r : IsShownQueue key s)
       let Then : Holder T → UpperCount → Type 0 = λ after u. TestedUp key.size key.seats n x u m after in
       elim (true_or_false r.core.shut) [
         | inl shut ↦ (
-            let R3 = if_true (Leads c) r.core.shut _ _ shut R2 in
+            let reached_here = if_true (Leads c) r.core.shut _ _ shut reached_next in
             let new : List (Mark T) = mark n made.Closed ∷ [] in
-            let q = quiet_step key s r id n m at one _ R3 new refl (refl, tt) (phases Idle) refl refl out 0 w same Idle (here Idle) m.0.left (omega arith) Anything tt in
+            let q = quiet_step key s r id n m at one _ reached_here new refl (refl, tt) (phases Idle) refl refl out 0 w same Idle (here Idle) m.0.left (omega arith) Anything tt in
             let high = shut_above w 0 most r.core.upper (upper_shut key s r id n m at one shut) b.0 (omega arith) in
             (sight m.0.names (new ++ r.core.past) Idle m.0.left, keeps, tt, q.0, only_shut (Then (After new Idle)) key.size w r.encoded.few_cells high q.1))
         | inr opn ↦ (
-            let R3 = if_false (Leads c) r.core.shut _ _ opn R2 in
+            let reached_here = if_false (Leads c) r.core.shut _ _ opn reached_next in
             let word = upper_open key s r id n m at one opn in
             elim (true_or_false (int_lt r.core.upper (pos key.size))) [
               | inl lt ↦ (
-                  let R4 = if_true (Leads c) (int_lt r.core.upper (pos key.size)) _ _ lt R3 in
-                  let q = quiet_step key s r id n m at one _ R4 [] refl tt (phases (AddUp x)) refl refl out 0 w same (AddUp x) (here (AddUp x)) m.0.left (omega arith) Anything tt in
+                  let reached_last = if_true (Leads c) (int_lt r.core.upper (pos key.size)) _ _ lt reached_here in
+                  let q = quiet_step key s r id n m at one _ reached_last [] refl tt (phases (AddUp x)) refl refl out 0 w same (AddUp x) (here (AddUp x)) m.0.left (omega arith) Anything tt in
                   let low = below_word w key.size r.core.upper word lt in
                   (sight m.0.names r.core.past (AddUp x) m.0.left, keeps, tt, q.0, only_below (Then (After [] (AddUp x))) key.size w r.encoded.few_cells low q.1))
               | inr ge ↦ (
-                  let R4 = if_false (Leads c) (int_lt r.core.upper (pos key.size)) _ _ ge R3 in
+                  let reached_last = if_false (Leads c) (int_lt r.core.upper (pos key.size)) _ _ ge reached_here in
                   let new : List (Mark T) = mark n made.NoRoom ∷ [] in
-                  let q : (v : ℤ) → v ≡ r.core.upper → _ = λ v f. quiet_step key s r id n m at one _ R4 new refl (refl, tt) (phases Idle) refl refl out 0 w same Idle (here Idle) m.0.left (omega arith)
+                  let q : (v : ℤ) → v ≡ r.core.upper → _ = λ v f. quiet_step key s r id n m at one _ reached_last new refl (refl, tt) (phases Idle) refl refl out 0 w same Idle (here Idle) m.0.left (omega arith)
                   (λ past. v ≡ upper_count (reverse past)) (f ∙ upper_past key s r id n m at one) in
                   let high = full_word w key.size r.core.upper word ge in
                   let low = open_below w 0 most r.core.upper word b.0 b.1 in
@@ -85,7 +85,7 @@ module _ {T : Type 0} (key : Limits) (s : QueueTable T) (r : IsShownQueue key s)
 
   pub adds_up : (x : T) → m.0.phase ≡ Some (AddUp x) → Step 0 (λ w. (w + 1) % 2 ^ 64) (λ found after. (u : UpperCount) → IsUpperCount key.size found u → AddedUp key.size key.seats n x u m after)
   adds_up x e =
-      let R2 = moves key.size r.core r.reached n (AddUp x) (stands key s r id n m at one (AddUp x) e) in
+      let reached_next = moves key.size r.core r.reached n (AddUp x) (stands key s r id n m at one (AddUp x) e) in
       let w = slice_index s.words 0 in
       let w' = (w + 1) % 2 ^ 64 in
       let b = upper_bounds key s r id n m at one in
@@ -95,25 +95,25 @@ module _ {T : Type 0} (key : Limits) (s : QueueTable T) (r : IsShownQueue key s)
       let Then : Holder T → UpperCount → Type 0 = λ after u. AddedUp key.size key.seats n x u m after in
       elim (true_or_false r.core.shut) [
         | inl shut ↦ (
-            let R3 = if_true (Leads r.core) r.core.shut _ _ shut R2 in
+            let reached_here = if_true (Leads r.core) r.core.shut _ _ shut reached_next in
             let new : List (Mark T) = mark n made.LateIn ∷ [] in
-            let q = quiet_step key s r id n m at one _ R3 new refl (refl, tt) (apart1 key s r id n m at one (BackUp x)) refl refl out 0 w' words (BackUp x) (here1 key s r id n m at one (BackUp x)) m.0.left (omega arith) Anything tt in
+            let q = quiet_step key s r id n m at one _ reached_here new refl (refl, tt) (apart1 key s r id n m at one (BackUp x)) refl refl out 0 w' words (BackUp x) (here1 key s r id n m at one (BackUp x)) m.0.left (omega arith) Anything tt in
             let high = shut_above w 0 most r.core.upper (upper_shut key s r id n m at one shut) b.0 (omega arith) in
             (sight m.0.names (new ++ r.core.past) (BackUp x) m.0.left, keeps, tt, q.0, only_shut (Then (After new (BackUp x))) key.size w r.encoded.few_cells high q.1))
         | inr opn ↦ (
-            let R3 = if_false (Leads r.core) r.core.shut _ _ opn R2 in
+            let reached_here = if_false (Leads r.core) r.core.shut _ _ opn reached_next in
             let word = upper_open key s r id n m at one opn in
             elim (true_or_false (int_lt r.core.upper (pos key.size))) [
               | inl lt ↦ (
-                  let R4 = if_true (Leads r.core) (int_lt r.core.upper (pos key.size)) _ _ lt R3 in
+                  let reached_last = if_true (Leads r.core) (int_lt r.core.upper (pos key.size)) _ _ lt reached_here in
                   let new : List (Mark T) = mark n made.ClaimIn ∷ [] in
-                  let q = quiet_step key s r id n m at one _ R4 new refl (refl, tt) (apart1 key s r id n m at one (TicketIn x)) refl refl out 0 w' words (TicketIn x) (here1 key s r id n m at one (TicketIn x)) m.0.left (omega arith) Anything tt in
+                  let q = quiet_step key s r id n m at one _ reached_last new refl (refl, tt) (apart1 key s r id n m at one (TicketIn x)) refl refl out 0 w' words (TicketIn x) (here1 key s r id n m at one (TicketIn x)) m.0.left (omega arith) Anything tt in
                   let low = below_word w key.size r.core.upper word lt in
                   (sight m.0.names (new ++ r.core.past) (TicketIn x) m.0.left, keeps, tt, q.0, only_below (Then (After new (TicketIn x))) key.size w r.encoded.few_cells low q.1))
               | inr ge ↦ (
-                  let R4 = if_false (Leads r.core) (int_lt r.core.upper (pos key.size)) _ _ ge R3 in
+                  let reached_last = if_false (Leads r.core) (int_lt r.core.upper (pos key.size)) _ _ ge reached_here in
                   let new : List (Mark T) = mark n made.OverIn ∷ [] in
-                  let q : (v : ℤ) → v ≡ r.core.upper → _ = λ v f. quiet_step key s r id n m at one _ R4 new refl (refl, tt) (apart1 key s r id n m at one (BackUp x)) refl refl out 0 w' words (BackUp x) (here1 key s r id n m at one (BackUp x)) m.0.left (omega arith)
+                  let q : (v : ℤ) → v ≡ r.core.upper → _ = λ v f. quiet_step key s r id n m at one _ reached_last new refl (refl, tt) (apart1 key s r id n m at one (BackUp x)) refl refl out 0 w' words (BackUp x) (here1 key s r id n m at one (BackUp x)) m.0.left (omega arith)
                   (λ past. v ≡ upper_count (reverse past)) (f ∙ upper_past key s r id n m at one) in
                   let high = full_word w key.size r.core.upper word ge in
                   let low = open_below w 0 most r.core.upper word b.0 b.1 in
@@ -148,17 +148,17 @@ module _ {T : Type 0} (key : Limits) (s : QueueTable T) (r : IsShownQueue key s)
       let i = k % key.size in
       let w = slice_index s.words (64 + i) in
       let is = turn_is key s r id n m at one k in
-      let R2 = moves key.size r.core r.reached n (TurnIn k x) (stands key s r id n m at one (TurnIn k x) e) in
+      let reached_next = moves key.size r.core r.reached n (TurnIn k x) (stands key s r id n m at one (TurnIn k x) e) in
       let out = outside key s r id n m at one (TurnIn k x) e (λ i j. j) in
       elim (true_or_false (r.core.turn i == 2 * (k / key.size))) [
         | inl hit ↦ (
             let turn : r.core.turn i ≡ 2 * (k / key.size) = grind (arith, nat_tests) in
             let c = with_phase r.core n (StoreItem k x) in
-            let R3 = if_true (Leads r.core) (r.core.turn i == 2 * (k / key.size)) _ _ hit R2 in
+            let reached_here = if_true (Leads r.core) (r.core.turn i == 2 * (k / key.size)) _ _ hit reached_next in
             let others = apart1 key s r id n m at one (StoreItem k x) in
             let inside : InCell key.size (c.phase n) i = subst (λ p. InCell key.size p i) (sym (here1 key s r id n m at one (StoreItem k x))) refl in
-            let home = slot_there key.size n r.core s.homes r.encoded.wide r.encoded.slots_are c others r.encoded.some_cell R3 out i (near key s r id n m at one k) inside in
-            let step = advances key s r id n m at one c R3 [] refl tt (StoreItem k x) (here1 key s r id n m at one (StoreItem k x)) others in
+            let home = slot_there key.size n r.core s.homes r.encoded.wide r.encoded.slots_are c others r.encoded.some_cell reached_here out i (near key s r id n m at one k) inside in
+            let step = advances key s r id n m at one c reached_here [] refl tt (StoreItem k x) (here1 key s r id n m at one (StoreItem k x)) others in
             let shows : IsEncoded key.size key.seats c (set s.words (64 + i) w) (set s.homes i none) = record {
               some_cell = r.encoded.some_cell;
               few_cells = r.encoded.few_cells;
@@ -171,11 +171,11 @@ module _ {T : Type 0} (key : Limits) (s : QueueTable T) (r : IsShownQueue key s)
             (sight m.0.names r.core.past (StoreItem k x) m.0.left, takes i None, home.even (k / key.size) turn, q.0, record { hit = λ _. q.1; miss = λ ne. absurd (ne (is ∙ turn)) }))
         | inr far ↦ (
             let turn : r.core.turn i ≢ 2 * (k / key.size) = λ q. absurd (grind (arith, nat_tests)) in
-            let R3 = if_false (Leads r.core) (r.core.turn i == 2 * (k / key.size)) _ _ far R2 in
+            let reached_here = if_false (Leads r.core) (r.core.turn i == 2 * (k / key.size)) _ _ far reached_next in
             let puts : stage r.core.past n ≡ Putting k x = sym ((K key s r id n m at one).phases n) ∙ ap shown (stands key s r id n m at one (TurnIn k x) e) in
             let wait = waits_fill key.size r.core n k x r.encoded.some_cell (K key s r id n m at one) puts turn in
             let waits : WaitsIn key.size key.seats n k x r.core.past = record { putting = puts; earlier = wait.0; round = wait.1; untaken = λ h. wait.2 (has_back (made.Take wait.0) r.core.past h) } in
-            let q = quiet_step key s r id n m at one _ R3 [] refl tt (apart1 key s r id n m at one (TurnIn k x)) refl refl out (64 + i) w (loaded key s r id n m at one (64 + i)) (TurnIn k x) (here1 key s r id n m at one (TurnIn k x)) m.0.left (omega arith) (WaitsIn key.size key.seats n k x) waits in
+            let q = quiet_step key s r id n m at one _ reached_here [] refl tt (apart1 key s r id n m at one (TurnIn k x)) refl refl out (64 + i) w (loaded key s r id n m at one (64 + i)) (TurnIn k x) (here1 key s r id n m at one (TurnIn k x)) m.0.left (omega arith) (WaitsIn key.size key.seats n k x) waits in
             (sight m.0.names r.core.past (TurnIn k x) m.0.left, keeps, tt, q.0, record { hit = λ h. absurd (turn (sym is ∙ h)); miss = λ _. q.1 }))
       ]
 
@@ -185,9 +185,9 @@ module _ {T : Type 0} (key : Limits) (s : QueueTable T) (r : IsShownQueue key s)
   stores_full k v x tl e held v_is =
       let i = k % key.size in
       let at_store = stands key s r id n m at one (StoreItem k x) e in
-      let R1 = moves key.size r.core r.reached n (StoreItem k x) at_store in
+      let reached_begun = moves key.size r.core r.reached n (StoreItem k x) at_store in
       let c = record (with_phase r.core n (SetFull k x)) { cell = with_at r.core.cell i (Some x) } in
-      let R2 = moves key.size c R1 n (SetFull k x) (here1 key s r id n m at one (SetFull k x)) in
+      let reached_next = moves key.size c reached_begun n (SetFull k x) (here1 key s r id n m at one (SetFull k x)) in
       let d : QueueState T = move_from key.size c n (SetFull k x) in
       let turn' = with_at r.core.turn i (2 * (k / key.size) + 1) in
       let cell' = with_at r.core.cell i (Some x) in
@@ -200,7 +200,7 @@ module _ {T : Type 0} (key : Limits) (s : QueueTable T) (r : IsShownQueue key s)
       } in
       let words = subst (λ z. AreWords key.size r.core.upper r.core.lower r.core.draws_in r.core.draws_out turn' r.core.shut (set s.words (64 + i) z)) (sym v_is) (turn_set key s r id n m at one k (2 * (k / key.size) + 1)) in
       let others = apart2 key s r id n m at one (SetFull k x) p in
-      let step = advances key s r id n m at one d R2 new refl (refl, tt) p (here2 key s r id n m at one (SetFull k x) p) others in
+      let step = advances key s r id n m at one d reached_next new refl (refl, tt) p (here2 key s r id n m at one (SetFull k x) p) others in
       let shows : IsEncoded key.size key.seats d (set s.words (64 + i) v) (set s.homes i (some (Some x))) = record {
         some_cell = r.encoded.some_cell;
         few_cells = r.encoded.few_cells;
@@ -229,13 +229,13 @@ module _ {T : Type 0} (key : Limits) (s : QueueTable T) (r : IsShownQueue key s)
       let b = upper_bounds key s r id n m at one in
       let most = upper_most key s r id n m at one in
       let c = with_phase r.core n SetShut in
-      let R1 = closes key.size r.core r.reached n (stands key s r id n m at one Idle e) in
-      let R2 = moves key.size c R1 n SetShut (here1 key s r id n m at one SetShut) in
+      let reached_begun = closes key.size r.core r.reached n (stands key s r id n m at one Idle e) in
+      let reached_next = moves key.size c reached_begun n SetShut (here1 key s r id n m at one SetShut) in
       let new : List (Mark T) = mark n made.Close ∷ [] in
       let words = words_upper key.size r.core.upper r.core.lower r.core.draws_in r.core.draws_out r.core.turn r.core.shut s.words r.encoded.words_are _ r.core.upper true
       (shut_word r.core.shut w r.core.upper 0 most r.encoded.words_are.upper_is b.0 (omega arith) b.1) in
       let q : (tells : List (Mark T) → Type 0) → tells r.core.past → _ = λ tells told.
-      quiet_step key s r id n m at one _ R2 new refl (refl, tt) (apart2 key s r id n m at one SetShut Idle) refl refl (outside key s r id n m at one Idle e (λ i j. j)) 0 (bit_or w 9223372036854775808) words Idle (here2 key s r id n m at one SetShut Idle) m.0.left (omega arith) tells told in (
+      quiet_step key s r id n m at one _ reached_next new refl (refl, tt) (apart2 key s r id n m at one SetShut Idle) refl refl (outside key s r id n m at one Idle e (λ i j. j)) 0 (bit_or w 9223372036854775808) words Idle (here2 key s r id n m at one SetShut Idle) m.0.left (omega arith) tells told in (
         sight m.0.names (new ++ r.core.past) Idle m.0.left,
         keeps,
         tt,
