@@ -1,0 +1,3 @@
+mod drops;
+mod rows;
+mod threads;

@@ -1,0 +1,125 @@
+//! Worked rows, on one thread.
+
+use crate::{DeleteFault, InsertFault, OpenFault, Queue, SeatState};
+use std::test::Fail;
+
+#[test]
+fn a_cell_that_is_full_and_one_that_is_not(rt: HostRuntime) -> Result<(), Fail> {
+    let Ok((queue, mut seats)) = Queue::<u64>::open(rt.alloc(), 1, 2, 10) else {
+        return Err(Fail::from("open"));
+    };
+    let (Some(mut b), Some(mut a)) = (seats.pop(), seats.pop()) else {
+        return Err(Fail::from("two seats"));
+    };
+    let Ok(0) = queue.claim_insert(&mut a, 7) else {
+        return Err(Fail::from("claim"));
+    };
+    let Err(DeleteFault::Empty(0)) = queue.claim_delete(&mut b) else {
+        return Err(Fail::from("empty"));
+    };
+    let Some(0) = queue.try_fill(&mut a) else {
+        return Err(Fail::from("fill"));
+    };
+    let Err(InsertFault::Full { upper: 1, item: 8 }) = queue.claim_insert(&mut a, 8) else {
+        return Err(Fail::from("full"));
+    };
+    assert_eq!(rt; a.state(), SeatState::Idle);
+    assert_eq!(rt; a.left(), 9);
+    Ok(())
+}
+
+#[test]
+fn a_seat_that_drew_its_stint(rt: HostRuntime) -> Result<(), Fail> {
+    let Ok((queue, mut seats)) = Queue::<u64>::open(rt.alloc(), 4, 2, 2) else {
+        return Err(Fail::from("open"));
+    };
+    let (Some(mut b), Some(mut a)) = (seats.pop(), seats.pop()) else {
+        return Err(Fail::from("two seats"));
+    };
+    assert!(rt; matches!(queue.insert(&rt, &mut a, 5), Ok(0)));
+    assert!(rt; matches!(queue.insert(&rt, &mut a, 6), Ok(1)));
+    assert!(rt;
+        matches!(
+            queue.insert(&rt, &mut a, 7),
+            Err(InsertFault::Worn { item: 7 })
+        )
+    );
+    assert!(rt; matches!(queue.delete(&rt, &mut a), Err(DeleteFault::Worn)));
+    assert_eq!(rt; a.left(), 0);
+    assert_eq!(rt; a.state(), SeatState::Idle);
+    assert!(rt; matches!(queue.delete(&rt, &mut b), Ok((0, 5))));
+    Ok(())
+}
+
+#[test]
+fn a_seat_with_one_ticket(rt: HostRuntime) -> Result<(), Fail> {
+    let Ok((queue, mut seats)) = Queue::<u64>::open(rt.alloc(), 1, 2, 1) else {
+        return Err(Fail::from("open"));
+    };
+    let (Some(mut b), Some(mut a)) = (seats.pop(), seats.pop()) else {
+        return Err(Fail::from("two seats"));
+    };
+    assert!(rt; matches!(queue.insert(&rt, &mut a, 7), Ok(0)));
+    assert_eq!(rt; a.left(), 0);
+    assert!(rt;
+        matches!(
+            queue.insert(&rt, &mut a, 8),
+            Err(InsertFault::Worn { item: 8 })
+        )
+    );
+    assert!(rt; matches!(queue.delete(&rt, &mut b), Ok((0, 7))));
+    assert!(rt; matches!(queue.delete(&rt, &mut b), Err(DeleteFault::Worn)));
+    Ok(())
+}
+
+#[test]
+fn a_queue_that_was_shut(rt: HostRuntime) -> Result<(), Fail> {
+    let Ok((queue, mut seats)) = Queue::<u64>::open(rt.alloc(), 2, 2, 10) else {
+        return Err(Fail::from("open"));
+    };
+    let (Some(mut b), Some(mut a)) = (seats.pop(), seats.pop()) else {
+        return Err(Fail::from("two seats"));
+    };
+    assert!(rt; matches!(queue.insert(&rt, &mut a, 5), Ok(0)));
+    assert!(rt; queue.shut(&mut b));
+    assert!(rt; !queue.shut(&mut b));
+    assert!(rt;
+        matches!(
+            queue.insert(&rt, &mut a, 6),
+            Err(InsertFault::Closed { item: 6 })
+        )
+    );
+    assert!(rt; matches!(queue.delete(&rt, &mut b), Ok((0, 5))));
+    assert!(rt; matches!(queue.delete(&rt, &mut b), Err(DeleteFault::Empty(0))));
+    Ok(())
+}
+
+#[test]
+fn the_ranges_of_an_opening(rt: HostRuntime) -> Result<(), Fail> {
+    let Ok((_, seats)) = Queue::<u64>::open(rt.alloc(), 4096, 64, 1 << 40) else {
+        return Err(Fail::from("open"));
+    };
+    assert_eq!(rt; seats.len(), 64);
+    let alloc = rt.alloc();
+    assert!(rt;
+        matches!(
+            Queue::<u64>::open(alloc, 4097, 1, 1),
+            Err(OpenFault::BadSize)
+        )
+    );
+    assert!(rt; matches!(Queue::<u64>::open(alloc, 0, 0, 0), Err(OpenFault::BadSize)));
+    assert!(rt;
+        matches!(
+            Queue::<u64>::open(alloc, 1, 65, 1),
+            Err(OpenFault::BadSeats)
+        )
+    );
+    assert!(rt; matches!(Queue::<u64>::open(alloc, 1, 1, 0), Err(OpenFault::BadStint)));
+    assert!(rt;
+        matches!(
+            Queue::<u64>::open(alloc, 1, 1, (1 << 40) + 1),
+            Err(OpenFault::BadStint)
+        )
+    );
+    Ok(())
+}
