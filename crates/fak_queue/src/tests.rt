@@ -1,3 +1,4 @@
 mod drops;
+mod joined;
 mod rows;
 mod threads;
