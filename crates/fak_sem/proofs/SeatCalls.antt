@@ -1,7 +1,6 @@
 -- What downs and ups leave of the invariant of a seat.
-use Rattle.std.proofs.Common.{◌≡◌, ℕ, ◌+◌, ◌<◌, Bool, true, false, not, List, [], ◌∷◌, ◌++◌, refl, ap, sym, ◌∙◌, subst, arith}
-use Rattle.std.specs.Prelude.{ℤ, pos, int_lt, int_le}
-use Rattle.std.proofs.lemmas.Int.{ints}
+use Rattle.std.proofs.Common.{◌≡◌, ℕ, ◌+◌, ◌<◌, true, false, List, [], ◌∷◌, ◌++◌, refl, ap, sym, ◌∙◌, subst, arith}
+use Rattle.std.specs.Prelude.{ℤ, pos, int_lt}
 use Rattle.std.specs.List.{flat_map}
 use Rattle.fak_model.specs.declared.credit.CreditKind.{CreditKind}
 use Rattle.fak_model.specs.declared.credit.CreditKind.TheVariants.{Debit, Credit}
@@ -146,20 +145,8 @@ parks_not {found} is t = let u : int_lt (pos 0) found ≡ true = ap (int_lt (pos
 pub parks_one : {found word : ℤ} → word ≡ found → int_lt (pos 0) word ≡ false → parks Debit found ≡ 1
 parks_one {found} is t = let u : int_lt (pos 0) found ≡ false = ap (int_lt (pos 0)) (sym is) ∙ t in rw u refl
 
-below_nothing : (found : ℤ) (b : Bool) → int_lt found (pos 0) ≡ b → int_le (pos 0) found ≡ not b
-below_nothing found true t = grind (arith, ints)
-below_nothing found false t = grind (arith, ints)
+pub wakes_not : {found word : ℤ} → word ≡ found → int_lt word (pos 0) ≡ false → wakes Credit found ≡ 0
+wakes_not {found} is t = let u : int_lt found (pos 0) ≡ false = ap (λ z. int_lt z (pos 0)) (sym is) ∙ t in rw u refl
 
-pub wakes_not : {found word : ℤ} → word ≡ found → int_le (pos 0) word ≡ true → wakes Credit found ≡ 0
-wakes_not {found} is t = by (int_lt found (pos 0)) refl
-  where
-    by : (b : Bool) → int_lt found (pos 0) ≡ b → wakes Credit found ≡ 0
-    by true u = absurd (let v = below_nothing found true u in cc (ap (int_le (pos 0)) is, t, v))
-    by false u = rw u refl
-
-pub wakes_one : {found word : ℤ} → word ≡ found → int_le (pos 0) word ≡ false → wakes Credit found ≡ 1
-wakes_one {found} is t = by (int_lt found (pos 0)) refl
-  where
-    by : (b : Bool) → int_lt found (pos 0) ≡ b → wakes Credit found ≡ 1
-    by true u = rw u refl
-    by false u = absurd (let v = below_nothing found false u in cc (ap (int_le (pos 0)) is, t, v))
+pub wakes_one : {found word : ℤ} → word ≡ found → int_lt word (pos 0) ≡ true → wakes Credit found ≡ 1
+wakes_one {found} is t = let u : int_lt found (pos 0) ≡ true = ap (λ z. int_lt z (pos 0)) (sym is) ∙ t in rw u refl

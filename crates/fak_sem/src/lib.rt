@@ -9,6 +9,8 @@ mod retries;
 pub mod seat;
 pub mod semaphore;
 pub mod tally;
+#[cfg(test)]
+mod tests;
 
 pub use fak_count::Worn;
 pub use fak_queue::Rest;

@@ -49,7 +49,8 @@ impl<T: Drop> Semaphore<T> {
         let Ok(found) = self.credit.debit(&mut seat.credit) else {
             return Err(SemWorn(who));
         };
-        if found > 0 {
+        let passes = found > 0;
+        if passes {
             return Ok(Some(who));
         }
         insert_at_last(&self.queue, rt, &mut seat.queue, who);
@@ -67,7 +68,8 @@ impl<T: Drop> Semaphore<T> {
         let Ok(found) = self.credit.credit(&mut seat.credit) else {
             return Err(Worn);
         };
-        if found >= 0 {
+        let owes = found < 0;
+        if !owes {
             return Ok(None);
         }
         Ok(Some(delete_at_last(&self.queue, rt, &mut seat.queue)))

@@ -3,10 +3,10 @@ use Rattle.std.proofs.Math.Facts.{to_z-of_z}
 use Rattle.fak_sem.proofs.SeatCalls.{same_start, tickets_left, seat_unqueued, seat_parked, parks_not, parks_one}
 use Rattle.fak_sem.proofs.semaphore.Semaphore.down.Goals as goal
 
-pub invariant_of-seat-then-found-gt0 : goal.invariant_of-seat-then-found-gt0
-invariant_of-seat-then-found-gt0 g c =
+pub invariant_of-seat-then-passes : goal.invariant_of-seat-then-passes
+invariant_of-seat-then-passes g c =
     let start = same_start c.seat.inside.queue c.self.inside.queue c.seat.view_is c.self.view_is c.requires in
-    seat_unqueued c.seat.invariant start c.in-Ok.ensures.call (parks_not {found = c.in-Ok.found} (to_z-of_z {w = w64} (search rules)) c.if-found-gt0.true) refl
+    seat_unqueued c.seat.invariant start c.in-Ok.ensures.call (parks_not {found = c.in-Ok.found} (to_z-of_z {w = w64} (search rules)) c.if-passes.true) refl
 
 pub insert_at_last-requires-clause-left : goal.insert_at_last-requires-clause-left
 insert_at_last-requires-clause-left g c = tickets_left c.seat.invariant (same_start c.seat.inside.queue c.self.inside.queue c.seat.view_is c.self.view_is c.requires) c.in-Ok.ensures.call
@@ -14,4 +14,4 @@ insert_at_last-requires-clause-left g c = tickets_left c.seat.invariant (same_st
 pub invariant_of-seat-2 : goal.invariant_of-seat-2
 invariant_of-seat-2 g c =
     let start = same_start c.seat.inside.queue c.self.inside.queue c.seat.view_is c.self.view_is c.requires in
-    seat_parked c.seat.invariant start c.in-Ok.ensures.call c.insert_at_last.ensures.call c.insert_at_last.ensures.idle (parks_one {found = c.in-Ok.found} (to_z-of_z {w = w64} (search rules)) c.if-found-gt0.false) refl
+    seat_parked c.seat.invariant start c.in-Ok.ensures.call c.insert_at_last.ensures.call c.insert_at_last.ensures.idle (parks_one {found = c.in-Ok.found} (to_z-of_z {w = w64} (search rules)) c.if-passes.false) refl

@@ -3,10 +3,10 @@ use Rattle.std.proofs.Math.Facts.{to_z-of_z}
 use Rattle.fak_sem.proofs.SeatCalls.{same_start, tickets_left, seat_unqueued, seat_woken, wakes_not, wakes_one}
 use Rattle.fak_sem.proofs.semaphore.Semaphore.up.Goals as goal
 
-pub invariant_of-seat-then-found-ge0 : goal.invariant_of-seat-then-found-ge0
-invariant_of-seat-then-found-ge0 g c =
+pub invariant_of-seat-then-not-owes : goal.invariant_of-seat-then-not-owes
+invariant_of-seat-then-not-owes g c =
     let start = same_start c.seat.inside.queue c.self.inside.queue c.seat.view_is c.self.view_is c.requires in
-    seat_unqueued c.seat.invariant start c.in-Ok.ensures.call refl (wakes_not {found = c.in-Ok.found} (to_z-of_z {w = w64} (search rules)) c.if-found-ge0.true)
+    seat_unqueued c.seat.invariant start c.in-Ok.ensures.call refl (wakes_not {found = c.in-Ok.found} (to_z-of_z {w = w64} (search rules)) c.if-not-owes.true)
 
 pub delete_at_last-requires-clause-left : goal.delete_at_last-requires-clause-left
 delete_at_last-requires-clause-left g c = tickets_left c.seat.invariant (same_start c.seat.inside.queue c.self.inside.queue c.seat.view_is c.self.view_is c.requires) c.in-Ok.ensures.call
@@ -14,4 +14,4 @@ delete_at_last-requires-clause-left g c = tickets_left c.seat.invariant (same_st
 pub invariant_of-seat-2 : goal.invariant_of-seat-2
 invariant_of-seat-2 g c =
     let start = same_start c.seat.inside.queue c.self.inside.queue c.seat.view_is c.self.view_is c.requires in
-    seat_woken c.seat.invariant start c.in-Ok.ensures.call c.delete_at_last.ensures.call c.delete_at_last.ensures.idle refl (wakes_one {found = c.in-Ok.found} (to_z-of_z {w = w64} (search rules)) c.if-found-ge0.false)
+    seat_woken c.seat.invariant start c.in-Ok.ensures.call c.delete_at_last.ensures.call c.delete_at_last.ensures.idle refl (wakes_one {found = c.in-Ok.found} (to_z-of_z {w = w64} (search rules)) c.if-not-owes.false)

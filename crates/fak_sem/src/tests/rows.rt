@@ -1,0 +1,133 @@
+//! Worked rows, on one thread.
+
+use crate::{OpenFault, SemTally, SemWorn, Semaphore, Worn};
+use std::test::Fail;
+
+#[test]
+fn a_down_that_passes_and_one_that_is_woken(rt: HostRuntime) -> Result<(), Fail> {
+    let Ok((semaphore, mut seats)) = Semaphore::<u64>::open(rt.alloc(), 1, 4, 2, 10) else {
+        return Err(Fail::from("open"));
+    };
+    let (Some(mut b), Some(mut a)) = (seats.pop(), seats.pop()) else {
+        return Err(Fail::from("two seats"));
+    };
+    assert!(rt; matches!(semaphore.down(&rt, &mut a, 100), Ok(Some(100))));
+    assert!(rt; matches!(semaphore.down(&rt, &mut b, 101), Ok(None)));
+    assert!(rt; matches!(semaphore.up(&rt, &mut a), Ok(Some(101))));
+    let first = SemTally::of(a);
+    assert!(rt; !first.is_whole());
+    let tally = semaphore.join(first, b);
+    if !tally.is_whole() {
+        return Err(Fail::from("whole"));
+    }
+    assert_eq!(rt; semaphore.close(tally).next(), None);
+    Ok(())
+}
+
+#[test]
+fn seats_with_one_call(rt: HostRuntime) -> Result<(), Fail> {
+    let Ok((semaphore, mut seats)) = Semaphore::<u64>::open(rt.alloc(), 0, 1, 2, 1) else {
+        return Err(Fail::from("open"));
+    };
+    let (Some(mut b), Some(mut a)) = (seats.pop(), seats.pop()) else {
+        return Err(Fail::from("two seats"));
+    };
+    assert!(rt; matches!(semaphore.down(&rt, &mut a, 5), Ok(None)));
+    assert!(rt; matches!(semaphore.up(&rt, &mut a), Err(Worn)));
+    assert!(rt; matches!(semaphore.up(&rt, &mut b), Ok(Some(5))));
+    assert!(rt; matches!(semaphore.down(&rt, &mut b, 6), Err(SemWorn(6))));
+    let tally = semaphore.join(SemTally::of(a), b);
+    if !tally.is_whole() {
+        return Err(Fail::from("whole"));
+    }
+    assert_eq!(rt; semaphore.close(tally).next(), None);
+    Ok(())
+}
+
+// A value that is moved and never copied.
+#[derive(Debug, PartialEq, Drop)]
+struct Load {
+    id: u64,
+}
+
+#[test]
+fn items_that_nobody_woke(rt: HostRuntime) -> Result<(), Fail> {
+    let Ok((semaphore, mut seats)) = Semaphore::<Load>::open(rt.alloc(), 0, 4, 1, 10) else {
+        return Err(Fail::from("open"));
+    };
+    let Some(mut a) = seats.pop() else {
+        return Err(Fail::from("one seat"));
+    };
+    assert!(rt; matches!(semaphore.up(&rt, &mut a), Ok(None)));
+    assert!(rt;
+        matches!(
+            semaphore.down(&rt, &mut a, Load { id: 1 }),
+            Ok(Some(Load { id: 1 }))
+        )
+    );
+    assert!(rt; matches!(semaphore.down(&rt, &mut a, Load { id: 2 }), Ok(None)));
+    assert!(rt; matches!(semaphore.down(&rt, &mut a, Load { id: 3 }), Ok(None)));
+    assert!(rt; matches!(semaphore.down(&rt, &mut a, Load { id: 4 }), Ok(None)));
+    assert!(rt; matches!(semaphore.up(&rt, &mut a), Ok(Some(Load { id: 2 }))));
+    let tally = SemTally::of(a);
+    if !tally.is_whole() {
+        return Err(Fail::from("whole"));
+    }
+    let mut rest = semaphore.close(tally);
+    assert_eq!(rt; rest.next(), Some(Load { id: 3 }));
+    assert_eq!(rt; rest.next(), Some(Load { id: 4 }));
+    assert_eq!(rt; rest.next(), None);
+    Ok(())
+}
+
+#[test]
+fn the_ranges_of_an_opening(rt: HostRuntime) -> Result<(), Fail> {
+    let alloc = rt.alloc();
+    let Ok((_, seats)) = Semaphore::<u64>::open(alloc, 1 << 32, 4096, 64, 1 << 40) else {
+        return Err(Fail::from("open"));
+    };
+    assert_eq!(rt; seats.len(), 64);
+    assert!(rt;
+        matches!(
+            Semaphore::<u64>::open(alloc, (1 << 32) + 1, 1, 1, 1),
+            Err(OpenFault::BadSize)
+        )
+    );
+    assert!(rt;
+        matches!(
+            Semaphore::<u64>::open(alloc, 0, 4097, 1, 1),
+            Err(OpenFault::BadSize)
+        )
+    );
+    assert!(rt;
+        matches!(
+            Semaphore::<u64>::open(alloc, 0, 0, 0, 0),
+            Err(OpenFault::BadSize)
+        )
+    );
+    assert!(rt;
+        matches!(
+            Semaphore::<u64>::open(alloc, 0, 1, 65, 0),
+            Err(OpenFault::BadSeats)
+        )
+    );
+    assert!(rt;
+        matches!(
+            Semaphore::<u64>::open(alloc, 0, 1, 0, 1),
+            Err(OpenFault::BadSeats)
+        )
+    );
+    assert!(rt;
+        matches!(
+            Semaphore::<u64>::open(alloc, 0, 1, 1, 0),
+            Err(OpenFault::BadStint)
+        )
+    );
+    assert!(rt;
+        matches!(
+            Semaphore::<u64>::open(alloc, 0, 1, 1, (1 << 40) + 1),
+            Err(OpenFault::BadStint)
+        )
+    );
+    Ok(())
+}
