@@ -1,10 +1,10 @@
 -- The words and seats of a new file table.
-use Rattle.std.proofs.Common.{◌≡◌, ℕ, zero, suc, ◌+◌, ◌*◌, ◌<◌, ◌≤◌, List, [], ◌∷◌, ◌++◌, length, take, replicate, get_or, refl, ap, sym, ◌∙◌, subst, arith}
+use Rattle.std.proofs.Common.{◌≡◌, ℕ, ◌+◌, ◌*◌, ◌<◌, ◌≤◌, List, [], ◌∷◌, ◌++◌, length, take, replicate, set, get_or, refl, ap, sym, ◌∙◌, subst, arith}
 use Rattle.std.specs.Prelude.{reverse}
 use Rattle.std.proofs.lemmas.Int.{ints}
+use Rattle.std.proofs.lemmas.List.{get_or-take, get_or-set_other, get_or-replicate, length-take-le}
 use Rattle.atomic_table.specs.Table.{opening}
 use Rattle.fak_model.specs.declared.file.FileField.{FileField}
-use Rattle.fak_model.specs.declared.file.FileField.TheVariants.{Inode, Uses}
 use Rattle.fak_model.specs.declared.file.FileMark.{FileMark}
 use Rattle.fak_model.specs.File.{seat_of, file_rules, IsFileHistory}
 use Rattle.fak_model.specs.Views.{sight}
@@ -17,44 +17,31 @@ use Rattle.fak_files.specs.declared.phase.Hold.TheVariants.{Nothing}
 use Rattle.fak_files.specs.Running.{bias, word_of, limits, ShowsHistory, file_object, IsRunning, first_view, Mine}
 use Rattle.fak_files.specs.Calls.{FileSeatInfo, file_seat, idle_seats}
 use Rattle.fak_files.specs.SeatTokens.{seat_now, IsFileSeat}
+use Rattle.fak_files.proofs.Words.{word_of-low}
 
 -- ---- words
 
-abbrev zeros : ℕ → List ℕ
-zeros k = replicate k 0
+-- the words before they are cut to the table's entries
+abbrev row : ℕ → List ℕ
+row w = set (replicate 64 0) 16 w
 
-zero_there : (n k i : ℕ) → get_or (take n (zeros k)) i 0 ≡ 0
-zero_there zero k i = refl
-zero_there (suc n) zero i = refl
-zero_there (suc n) (suc k) zero = refl
-zero_there (suc n) (suc k) (suc i) = zero_there n k i
-
-length-zeros : (n k : ℕ) → n ≤ k → length (take n (zeros k)) ≡ n
-length-zeros zero k le = refl
-length-zeros (suc n) zero le = absurd (omega (arith, le))
-length-zeros (suc n) (suc k) le = ap suc (length-zeros n k (omega (arith, le)))
-
-later_zero : (w n k i : ℕ) → get_or (w ∷ take n (zeros k)) (suc i) 0 ≡ 0
-later_zero w n k i = zero_there n k i
-
-field_zero : (w n k entry : ℕ) (f : FileField) → get_or (w ∷ take n (zeros k)) (word_of entry f) 0 ≡ 0
-field_zero w n k entry Inode = let at : 16 + 2 * entry + 0 ≡ suc (15 + 2 * entry) = omega arith in ap (λ i. get_or (w ∷ take n (zeros k)) i 0) at ∙ zero_there n k (15 + 2 * entry)
-field_zero w n k entry Uses = let at : 16 + 2 * entry + 1 ≡ suc (16 + 2 * entry) = omega arith in ap (λ i. get_or (w ∷ take n (zeros k)) i 0) at ∙ zero_there n k (16 + 2 * entry)
+field_zero : (w n entry : ℕ) (f : FileField) → word_of entry f < n → n ≤ 64 → get_or (take n (row w)) (word_of entry f) 0 ≡ 0
+field_zero w n entry f low few =
+    get_or-take n (row w) (word_of entry f) 0 low
+    ∙ (get_or-set_other (replicate 64 0) 16 (word_of entry f) w 0 (λ e. omega (arith, e)) ∙ get_or-replicate 64 (word_of entry f) 0 0 (omega (arith, low, few)))
 
 -- a table with a count of its seats, and with all entries free
-pub opens : (entries seats : ℕ) → entries ≤ 16 → 1 ≤ seats → seats ≤ 64 → IsRunning (limits entries seats) (opening (take (16 + 2 * entries) ((bias + seats) ∷ zeros 47)) [] (first_view (limits entries seats)))
+pub opens : (entries seats : ℕ) → entries ≤ 16 → 1 ≤ seats → seats ≤ 64 → IsRunning (limits entries seats) (opening (take (32 + 2 * entries) (row (bias + seats))) [] (first_view (limits entries seats)))
 opens entries seats few some most =
-    let n = 15 + 2 * entries in
-    let cut : take (16 + 2 * entries) ((bias + seats) ∷ zeros 47) ≡ (bias + seats) ∷ take (15 + 2 * entries) (zeros 47) = (let is : 16 + 2 * entries ≡ suc (15 + 2 * entries) = omega arith in ap (λ k. take k ((bias + seats) ∷ zeros 47)) is) in
-    let shows : ShowsHistory (limits entries seats) [] ((bias + seats) ∷ take (15 + 2 * entries) (zeros 47)) = record {
+    let shows : ShowsHistory (limits entries seats) [] (take (32 + 2 * entries) (row (bias + seats))) = record {
       few_entries = few;
       few_seats = most;
       some_seat = some;
-      wide = omega (arith, length-zeros (15 + 2 * entries) 47 (omega (arith, few)));
-      counted = omega (arith, ints);
-      fields = λ entry f low. field_zero (bias + seats) (15 + 2 * entries) 47 entry f;
+      wide = let long : length (row (bias + seats)) ≡ 64 = refl in length-take-le (32 + 2 * entries) (row (bias + seats)) (omega (arith, few, long));
+      counted = let found : get_or (take (32 + 2 * entries) (row (bias + seats))) 16 0 ≡ bias + seats = get_or-take (32 + 2 * entries) (row (bias + seats)) 16 0 (omega arith) in omega (arith, ints, found);
+      fields = λ entry f low. field_zero (bias + seats) (32 + 2 * entries) entry f (word_of-low entry entries f low) (omega (arith, few));
     } in
-    starts (file_object (limits entries seats)) Idle 0 [] (history_none (file_rules seats)) refl (λ name low. ([], refl)) (take (16 + 2 * entries) ((bias + seats) ∷ zeros 47)) [] (subst (ShowsHistory (limits entries seats) []) (sym cut) shows) (omega arith)
+    starts (file_object (limits entries seats)) Idle 0 [] (history_none (file_rules seats)) refl (λ name low. ([], refl)) (take (32 + 2 * entries) (row (bias + seats))) [] shows (omega arith)
 
 -- ---- seats
 

@@ -53,7 +53,7 @@ no_field false old new = refl
 
 -- ---- the words
 
-pub word_of-low : (i entries : ℕ) (f : FileField) → i < entries → word_of i f < 16 + 2 * entries
+pub word_of-low : (i entries : ℕ) (f : FileField) → i < entries → word_of i f < 32 + 2 * entries
 word_of-low i entries Inode low = omega (arith, low)
 word_of-low i entries Uses low = omega (arith, low)
 
@@ -63,14 +63,14 @@ module _ (table : FileLimits) (h : List FileMark) (words : List ℕ) (shows : Sh
   words_same place = subst (ShowsHistory table h) (sym (set-get_or words place 0)) shows
 
   -- a step on the count that sets no field
-  pub counts_next : (m : FileMark) (w : ℕ) → ((i : ℕ) (f : FileField) (v : ℕ) → field_after i f v m.kind ≡ v) → pos w ≡ pos bias +ℤ count table.seats (h ++ m ∷ []) → ShowsHistory table (h ++ m ∷ []) (set words 0 w)
+  pub counts_next : (m : FileMark) (w : ℕ) → ((i : ℕ) (f : FileField) (v : ℕ) → field_after i f v m.kind ≡ v) → pos w ≡ pos bias +ℤ count table.seats (h ++ m ∷ []) → ShowsHistory table (h ++ m ∷ []) (set words 16 w)
   counts_next m w none is = record {
     few_entries = shows.few_entries;
     few_seats = shows.few_seats;
     some_seat = shows.some_seat;
-    wide = length-set words 0 w ∙ shows.wide;
-    counted = ap pos (get_or-set_same words 0 w 0 (omega (arith, shows.wide))) ∙ is;
-    fields = λ i f low. get_or-set_other words 0 (word_of i f) w 0 (λ e. omega (arith, e)) ∙ (shows.fields i f low ∙ sym (field-push h m i f ∙ none i f (field h i f)));
+    wide = length-set words 16 w ∙ shows.wide;
+    counted = ap pos (get_or-set_same words 16 w 0 (omega (arith, shows.wide))) ∙ is;
+    fields = λ i f low. get_or-set_other words 16 (word_of i f) w 0 (λ e. omega (arith, e)) ∙ (shows.fields i f low ∙ sym (field-push h m i f ∙ none i f (field h i f)));
   }
 
   within : (i : ℕ) (f : FileField) → i < table.entries → word_of i f < length words
@@ -103,6 +103,6 @@ module _ (table : FileLimits) (h : List FileMark) (words : List ℕ) (shows : Sh
     few_seats = shows.few_seats;
     some_seat = shows.some_seat;
     wide = length-set words (word_of i f) v ∙ shows.wide;
-    counted = ap pos (get_or-set_other words (word_of i f) 0 v 0 (λ e. omega (arith, e))) ∙ (shows.counted ∙ ap (λ n. pos bias +ℤ n) (sym same));
+    counted = ap pos (get_or-set_other words (word_of i f) 16 v 0 (λ e. omega (arith, e))) ∙ (shows.counted ∙ ap (λ n. pos bias +ℤ n) (sym same));
     fields = λ j g near. each_entry i v f low j g near ∙ sym (field-push h (mark name (Set i f v)) j g);
   }

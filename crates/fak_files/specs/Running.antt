@@ -32,15 +32,15 @@ offset_of Inode = 0
 offset_of Uses = 1
 
 abbrev pub word_of : ℕ → FileField → ℕ
-word_of entry f = 16 + 2 * entry + offset_of f
+word_of entry f = 32 + 2 * entry + offset_of f
 
--- the words after a history: its count and its fields
+-- the words after a history: its count in word 16, and its fields from word 32 on
 pub record ShowsHistory (table : FileLimits) (h : List FileMark) (words : List ℕ) : Type 0 where
   pub few_entries : table.entries ≤ 16
   pub few_seats : table.seats ≤ 64
   pub some_seat : 1 ≤ table.seats
-  pub wide : length words ≡ 16 + 2 * table.entries
-  pub counted : pos (slice_index_or words 0 0) ≡ pos bias +ℤ count table.seats h
+  pub wide : length words ≡ 32 + 2 * table.entries
+  pub counted : pos (slice_index_or words 16 0) ≡ pos bias +ℤ count table.seats h
   pub fields : (entry : ℕ) (f : FileField) → entry < table.entries → slice_index_or words (word_of entry f) 0 ≡ field h entry f
 
 -- a file table: its state is its history, newest mark first, and each seat stands where its marks say

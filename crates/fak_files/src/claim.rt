@@ -19,7 +19,7 @@ pub(crate) fn claim<J: FileCall>(
     amount: u64,
     access: Access,
 ) -> Result<(), i64>
-    requires table { (token.old.table_id ≡ words.now.table_id) × (words.now.table_id.words ≡ 16 + 2 * words.now.key.entries) × (words.now.key ≡ J.table) }
+    requires table { (token.old.table_id ≡ words.now.table_id) × (words.now.table_id.words ≡ 32 + 2 * words.now.key.entries) × (words.now.key ≡ J.table) }
     requires amount { (amount ≡ amount_of J.table.seats J.access) × (access ≡ J.access) }
     requires few { J.table.seats ≤ 64 }
     requires seat { IsSeatToken seat_of J.table.seats J.name Idle 0 token.old.me }

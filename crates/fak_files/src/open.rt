@@ -9,14 +9,14 @@ use crate::fault::OpenFault;
 use crate::phase::Hold;
 use crate::rule::FileLimits;
 use crate::seat::FileSeat;
-use crate::step::BIAS;
+use crate::step::{BIAS, COUNT};
 use crate::table::FileTable;
 use atomic_table::Table;
 use fak_model::Deal;
 use std::alloc::Global;
 
 /// How many words there are for 16 entries.
-const WORDS: usize = 48;
+const WORDS: usize = 64;
 
 impl FileTable {
     /// A table of free entries, with its seats, each of which may have `stint` holds.
@@ -42,11 +42,11 @@ impl FileTable {
             return Err(OpenFault::BadStint);
         }
         let mut words = [0; WORDS];
-        words[0] = BIAS + seats;
+        words[COUNT] = BIAS + seats;
         let limits = FileLimits { entries, seats };
         let Ok((table, mut rest)) = Table::of_words(
             alloc,
-            &words[..16 + 2 * entries as usize],
+            &words[..32 + 2 * entries as usize],
             &limits,
         ) else {
             return Err(OpenFault::Memory);

@@ -45,7 +45,7 @@ impl FileRest {
 
 // The entries that the words of a closed table show.
 fn entries_of(closed: &Closed<(), Global>, count: u64) -> [FileEntry; 16]
-    requires words { IsFull closed.now.words × (slots_len closed.now.words ≡ 16 + 2 * count) × (count ≤ 16) }
+    requires words { IsFull closed.now.words × (slots_len closed.now.words ≡ 32 + 2 * count) × (count ≤ 16) }
     ensures { (i : ℕ) → i < count → slice_get result i ≡ Some (entry_in (slots_items closed.now.words) i) }
 {
     let mut entries = [FileEntry { inode: 0, uses: 0 }; 16];

@@ -23,8 +23,10 @@ pub(crate) type FileToken = Seat<(), FileView>;
 /// The word of the count has this much more than the count.
 pub(crate) const BIAS: u64 = 1 << 62;
 
-/// The place of the count among the words. The fields stand from word 16 on, in other cache lines.
-const COUNT: usize = 0;
+/// The place of the count among the words. The 16 words before it stay unused, and the fields stand from word 32 on, so
+/// that neither a field nor what lies before the table shares a line of 128 bytes or less with the count, wherever the
+/// table lies.
+pub(crate) const COUNT: usize = 16;
 
 /// The count that a word shows.
 pub(crate) fn count_of(found: u64) -> i64
@@ -41,7 +43,7 @@ pub(crate) fn test<J: FileCall>(
     amount: u64,
     _access: Access,
 ) -> u64
-    requires table { (token.old.table_id ≡ words.now.table_id) × (words.now.table_id.words ≡ 16 + 2 * words.now.key.entries) × (words.now.key ≡ J.table) }
+    requires table { (token.old.table_id ≡ words.now.table_id) × (words.now.table_id.words ≡ 32 + 2 * words.now.key.entries) × (words.now.key ≡ J.table) }
     requires amount { (amount ≡ amount_of J.table.seats J.access) × (_access ≡ J.access) }
     requires seat { IsSeatToken seat_of J.table.seats J.name Idle 0 token.old.me }
     ensures same { token.new.table_id ≡ token.old.table_id }
@@ -57,7 +59,7 @@ pub(crate) fn take<J: FileCall>(
     amount: u64,
     _access: Access,
 ) -> u64
-    requires table { (token.old.table_id ≡ words.now.table_id) × (words.now.table_id.words ≡ 16 + 2 * words.now.key.entries) × (words.now.key ≡ J.table) }
+    requires table { (token.old.table_id ≡ words.now.table_id) × (words.now.table_id.words ≡ 32 + 2 * words.now.key.entries) × (words.now.key ≡ J.table) }
     requires amount { (amount ≡ amount_of J.table.seats J.access) × (_access ≡ J.access) }
     requires seat { IsSeatToken seat_of J.table.seats J.name (Taking J.access) 0 token.old.me }
     ensures same { token.new.table_id ≡ token.old.table_id }
@@ -73,7 +75,7 @@ pub(crate) fn withdraw<J: FileCall>(
     amount: u64,
     _access: Access,
 )
-    requires table { (token.old.table_id ≡ words.now.table_id) × (words.now.table_id.words ≡ 16 + 2 * words.now.key.entries) × (words.now.key ≡ J.table) }
+    requires table { (token.old.table_id ≡ words.now.table_id) × (words.now.table_id.words ≡ 32 + 2 * words.now.key.entries) × (words.now.key ≡ J.table) }
     requires amount { (amount ≡ amount_of J.table.seats J.access) × (_access ≡ J.access) }
     requires seat { IsSeatToken seat_of J.table.seats J.name (Backing J.access) 0 token.old.me }
     ensures same { token.new.table_id ≡ token.old.table_id }
@@ -89,7 +91,7 @@ pub(crate) fn give<J: FileCall>(
     amount: u64,
     _access: Access,
 )
-    requires table { (token.old.table_id ≡ words.now.table_id) × (words.now.table_id.words ≡ 16 + 2 * words.now.key.entries) × (words.now.key ≡ J.table) }
+    requires table { (token.old.table_id ≡ words.now.table_id) × (words.now.table_id.words ≡ 32 + 2 * words.now.key.entries) × (words.now.key ≡ J.table) }
     requires amount { (amount ≡ amount_of J.table.seats J.access) × (_access ≡ J.access) }
     requires seat { IsSeatToken seat_of J.table.seats J.name (Holding J.access) 0 token.old.me }
     ensures same { token.new.table_id ≡ token.old.table_id }
@@ -107,7 +109,7 @@ pub(crate) fn place_of(entry: u64, field: FileField) -> usize
         FileField::Inode => 0,
         FileField::Uses => 1,
     };
-    16 + 2 * entry as usize + offset
+    32 + 2 * entry as usize + offset
 }
 
 /// Loads a field, in a hold.
@@ -118,7 +120,7 @@ pub(crate) fn get_field<J: FileCall>(
     entry: u64,
     field: FileField,
 ) -> u64
-    requires table { (token.old.table_id ≡ words.now.table_id) × (words.now.table_id.words ≡ 16 + 2 * words.now.key.entries) × (words.now.key ≡ J.table) }
+    requires table { (token.old.table_id ≡ words.now.table_id) × (words.now.table_id.words ≡ 32 + 2 * words.now.key.entries) × (words.now.key ≡ J.table) }
     requires field { (entry ≡ J.entry) × (field ≡ J.field) × (entry < J.table.entries) × (J.table.entries ≤ 16) }
     requires access { _access ≡ J.access }
     requires seat { IsSeatToken seat_of J.table.seats J.name (Holding J.access) 0 token.old.me }
@@ -136,7 +138,7 @@ pub(crate) fn set_field<J: FileCall>(
     field: FileField,
     to: u64,
 )
-    requires table { (token.old.table_id ≡ words.now.table_id) × (words.now.table_id.words ≡ 16 + 2 * words.now.key.entries) × (words.now.key ≡ J.table) }
+    requires table { (token.old.table_id ≡ words.now.table_id) × (words.now.table_id.words ≡ 32 + 2 * words.now.key.entries) × (words.now.key ≡ J.table) }
     requires field { (entry ≡ J.entry) × (field ≡ J.field) × (to ≡ J.to) × (entry < J.table.entries) × (J.table.entries ≤ 16) }
     requires seat { IsSeatToken seat_of J.table.seats J.name (Holding Write) 0 token.old.me }
     ensures same { token.new.table_id ≡ token.old.table_id }
@@ -147,7 +149,7 @@ pub(crate) fn set_field<J: FileCall>(
 
 /// The load after a join, which tells what the join compared.
 pub(crate) fn compare<J: FileCall>(words: &FileWords, token: &mut FileToken)
-    requires table { (token.old.table_id ≡ words.now.table_id) × (words.now.table_id.words ≡ 16 + 2 * words.now.key.entries) × (words.now.key ≡ J.table) }
+    requires table { (token.old.table_id ≡ words.now.table_id) × (words.now.table_id.words ≡ 32 + 2 * words.now.key.entries) × (words.now.key ≡ J.table) }
     ensures same { token.new.table_id ≡ token.old.table_id }
     ensures told { Compared J.table token.old.me token.new.me }
 {

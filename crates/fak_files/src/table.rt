@@ -33,7 +33,7 @@ impl Model for FileTable {
 
     ghost view = { λ t. table_info (object_id t.table.shared.table_id t.table.shared.key.seats) t.entries };
 
-    ghost invariant = { λ t. (t.table.shared.key.entries ≡ t.entries) × (t.table.shared.table_id.words ≡ 16 + 2 * t.entries) × (t.table.shared.table_id.slots ≡ 0) × (t.entries ≤ 16) };
+    ghost invariant = { λ t. (t.table.shared.key.entries ≡ t.entries) × (t.table.shared.table_id.words ≡ 32 + 2 * t.entries) × (t.table.shared.table_id.slots ≡ 0) × (t.entries ≤ 16) };
 }
 
 impl FileTable {
