@@ -3,7 +3,9 @@ ghost use Rattle.fak_files.specs.declared.phase.Hold.TheVariants.{Nothing};
 
 use crate::{FileFault, FileField, FileSeat, FileTable, FileTally, Hold, OpenFault, Worn};
 use std::alloc::Global;
+use std::hint;
 use std::sync::Wait;
+use std::sync::atomic::{AtomicU64, Ordering};
 use std::test::*;
 use std::thread::{Threads, join};
 
@@ -140,6 +142,17 @@ fn ranges(rt: HostRuntime) {
     assert!(rt; fault_of(rt.alloc(), 16, 64, 1_099_511_627_776).is_none());
 }
 
+// Waits until both threads are here, so that their holds meet; not for ever, since the other may have no thread.
+fn meet(here: &AtomicU64) {
+    here.fetch_add(1, Ordering::SeqCst);
+    for _ in 0..100_000_000 {
+        if here.load(Ordering::SeqCst) >= 2 {
+            return;
+        }
+        hint::spin_loop();
+    }
+}
+
 // So many writer's holds, the j-th of which sets both fields of entry 0 to j.
 fn write_in_turn<R: Wait>(rt: &R, table: &FileTable, mut seat: FileSeat, count: u64) -> FileSeat
     requires table { (seat.seat.object ≡ table.now.object) × (0 < table.now.entries) }
@@ -193,16 +206,24 @@ fn run_two<R: Threads + Wait + Sync>(rt: &R, table: FileTable, a: FileSeat, b: F
     requires free { (a.hold ≡ Nothing) × (b.hold ≡ Nothing) }
 {
     let shared = &table;
+    let arrived = AtomicU64::new(0);
+    let here = &arrived;
     let (a, (b, seen_well)) = join(
         rt,
         move || -> FileSeat
             requires { (a.seat.object ≡ shared.now.object) × (0 < shared.now.entries) × (a.hold ≡ Nothing) }
             ensures { (result.seat.object ≡ shared.entry.now.object) × (result.hold ≡ Nothing) }
-        { write_in_turn(rt, shared, a, 100) },
+        {
+            meet(here);
+            write_in_turn(rt, shared, a, 100)
+        },
         move || -> (FileSeat, bool)
             requires { (b.seat.object ≡ shared.now.object) × (0 < shared.now.entries) × (b.hold ≡ Nothing) }
             ensures { (result.0.seat.object ≡ shared.entry.now.object) × (result.0.hold ≡ Nothing) }
-        { read_in_turn(rt, shared, b, 100) },
+        {
+            meet(here);
+            read_in_turn(rt, shared, b, 100)
+        },
     );
     let tally = table.join(FileTally::of(a), b);
     if !tally.is_whole() {
