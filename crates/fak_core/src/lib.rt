@@ -4,6 +4,7 @@
 pub mod call;
 pub mod fault;
 pub mod laws;
+mod limits;
 pub mod line;
 pub mod queue;
 pub mod room;

@@ -19,6 +19,7 @@ mod words;
 
 use crate::call::QueueCall;
 use crate::fault::CoreFault;
+use crate::limits::MOST_SEATS;
 use crate::line::Line;
 use fak_model::Mark;
 use lines::line_of;
@@ -31,9 +32,6 @@ use words::QueueWords;
 
 /// The largest number of cells.
 const LARGEST_SIZE: u64 = 4096;
-
-/// The largest number of seats.
-const MOST_SEATS: u64 = 64;
 
 /// A bounded queue of numbers over plain data.
 ///

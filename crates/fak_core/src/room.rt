@@ -13,6 +13,7 @@ mod tests;
 
 use crate::call::RoomCall;
 use crate::fault::CoreFault;
+use crate::limits::MOST_SEATS;
 use crate::line::Line;
 use fak_model::RoomMark;
 use moves::{add_mark, first_phase_of, line_mark_of, move_of};
@@ -22,9 +23,6 @@ use std::marker::Model;
 
 /// The largest bound of a room.
 const LARGEST_BOUND: u64 = 4_294_967_296;
-
-/// The largest number of seats.
-const MOST_SEATS: u64 = 64;
 
 /// A room over plain data: a count from 0 up that claims raise while it stays within the bound.
 ///

@@ -1,17 +1,12 @@
 -- The ranges of what rooms and credits are opened with, and which fault is answered outside them.
 use Rattle.std.specs.Prelude.{ℕ, ◌≤◌}
+use Rattle.fak_model.specs.Limits.{IsNumberOfSeats, IsStint}
 use Rattle.fak_count.specs.declared.fault.OpenFault.{OpenFault}
 use Rattle.fak_count.specs.declared.fault.OpenFault.TheVariants.{BadSize, BadSeats, BadStint, Memory}
 
 -- the ranges of a bound or start, a number of seats and a stint
 abbrev pub IsCount : ℕ → Type 0
 IsCount count = count ≤ 4294967296
-
-abbrev pub IsNumberOfSeats : ℕ → Type 0
-IsNumberOfSeats seats = (1 ≤ seats) × (seats ≤ 64)
-
-abbrev pub IsStint : ℕ → Type 0
-IsStint stint = (1 ≤ stint) × (stint ≤ 1099511627776)
 
 abbrev pub IsInRange : ℕ → ℕ → ℕ → Type 0
 IsInRange count seats stint = IsCount count × IsNumberOfSeats seats × IsStint stint

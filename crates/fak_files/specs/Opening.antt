@@ -1,16 +1,11 @@
 -- The ranges of what a file table is opened with, and which fault is answered outside them.
 use Rattle.std.specs.Prelude.{ℕ, ◌≤◌}
+use Rattle.fak_model.specs.Limits.{IsNumberOfSeats, IsStint}
 use Rattle.fak_files.specs.declared.fault.OpenFault.{OpenFault}
 use Rattle.fak_files.specs.declared.fault.OpenFault.TheVariants.{BadSize, BadSeats, BadStint, Memory}
 
 abbrev pub IsNumberOfEntries : ℕ → Type 0
 IsNumberOfEntries entries = (1 ≤ entries) × (entries ≤ 16)
-
-abbrev pub IsNumberOfSeats : ℕ → Type 0
-IsNumberOfSeats seats = (1 ≤ seats) × (seats ≤ 64)
-
-abbrev pub IsStint : ℕ → Type 0
-IsStint stint = (1 ≤ stint) × (stint ≤ 1099511627776)
 
 abbrev pub IsInRange : ℕ → ℕ → ℕ → Type 0
 IsInRange entries seats stint = IsNumberOfEntries entries × IsNumberOfSeats seats × IsStint stint

@@ -12,3 +12,4 @@ pub mod Shown
 pub mod Calls
 pub mod Tokens
 pub mod Names
+pub mod Limits

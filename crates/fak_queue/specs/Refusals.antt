@@ -1,5 +1,6 @@
 -- Which refusal is answered, and what it leaves.
 use Rattle.std.specs.Prelude.{◌≡◌, ℕ, ◌<◌, ◌≤◌}
+use Rattle.fak_model.specs.Limits.{IsNumberOfSeats, IsStint}
 use Rattle.fak_model.specs.declared.queue.Mark.{Mark}
 use Rattle.fak_model.specs.Calls.{SeatInfo}
 use Rattle.fak_queue.specs.declared.fault.InsertFault.{InsertFault}
@@ -24,12 +25,6 @@ RefusesDeletion size old new (deletion.Empty lower) = (drawn_by old < old.stint)
 
 abbrev pub IsSize : ℕ → Type 0
 IsSize size = (1 ≤ size) × (size ≤ 4096)
-
-abbrev pub IsNumberOfSeats : ℕ → Type 0
-IsNumberOfSeats seats = (1 ≤ seats) × (seats ≤ 64)
-
-abbrev pub IsStint : ℕ → Type 0
-IsStint stint = (1 ≤ stint) × (stint ≤ 1099511627776)
 
 abbrev pub IsInRange : ℕ → ℕ → ℕ → Type 0
 IsInRange size seats stint = IsSize size × IsNumberOfSeats seats × IsStint stint

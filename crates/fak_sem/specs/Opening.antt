@@ -1,6 +1,7 @@
 -- The ranges of what semaphores are opened with, and which fault is answered outside them.
 use Rattle.std.specs.Prelude.{ℕ}
-use Rattle.fak_count.specs.Opening.{IsCount, IsNumberOfSeats, IsStint}
+use Rattle.fak_model.specs.Limits.{IsNumberOfSeats, IsStint}
+use Rattle.fak_count.specs.Opening.{IsCount}
 use Rattle.fak_queue.specs.Refusals.{IsSize}
 use Rattle.fak_sem.specs.declared.fault.OpenFault.{OpenFault}
 use Rattle.fak_sem.specs.declared.fault.OpenFault.TheVariants.{BadSize, BadSeats, BadStint, Memory}
