@@ -84,7 +84,7 @@ module _ {T : Type 0} (key : Limits) (s : State (Option T) (QueueView T)) (r : I
       let untaken : Has (Take k) r.core.past → ⊥ = λ h. let b = take_below key.size r.core.past K.legal k h in omega (arith, b, late) in
       let turn = take_turn key.size r.core.past r.core.turn k K.turns (filled k lt) untaken in
       elim (r.encoded.slots_are (k % key.size) (mod-lt k r.encoded.some_cell)) [
-        | inl home ↦ home.odd (k / key.size) turn ∙ ap (λ (o : Option T). some (some o)) (K.cells k (filled k lt) untaken ∙ is)
+        | inl home ↦ home.0.odd (k / key.size) turn ∙ ap (λ (o : Option T). some (some o)) (K.cells k (filled k lt) untaken ∙ is)
         | inr out ↦ absurd (nobody out.0 (k % key.size) out.1)
       ]
 

@@ -64,12 +64,12 @@ module _ {T : Type 0} (key : Limits) (s : QueueTable T) (r : IsShownQueue key s)
       elim (true_or_false (int_lt (pos 0) r.core.lower)) [
         | inl lt ↦ (
             let reached_here = if_true (Leads c) (int_lt (pos 0) r.core.lower) _ _ lt reached_next in
-            let q = quiet_step key s r id n m at one _ reached_here [] refl tt (phases SubLow) refl refl out 16 w (loaded key s r id n m at one 16) SubLow (here SubLow) m.0.left (omega arith) Anything tt in
+            let q = quiet_step key s r id n m at one _ reached_here [] refl tt (phases SubLow) refl refl out 16 w (loaded key s r id n m at one 16) SubLow (here SubLow) (λ i j. j) m.0.left (omega arith) Anything tt in
             (sight m.0.names r.core.past SubLow m.0.left, keeps, tt, q.0, only_positive (Then (After [] SubLow)) w (positive_word w r.core.lower word lt) q.1))
         | inr ge ↦ (
             let reached_here = if_false (Leads c) (int_lt (pos 0) r.core.lower) _ _ ge reached_next in
             let new : List (Mark T) = mark n made.NoItem ∷ [] in
-            let q : (v : ℤ) → v ≡ r.core.lower → _ = λ v f. quiet_step key s r id n m at one _ reached_here new refl (refl, tt) (phases Idle) refl refl out 16 w (loaded key s r id n m at one 16) Idle (here Idle) m.0.left (omega arith)
+            let q : (v : ℤ) → v ≡ r.core.lower → _ = λ v f. quiet_step key s r id n m at one _ reached_here new refl (refl, tt) (phases Idle) refl refl out 16 w (loaded key s r id n m at one 16) Idle (here Idle) (λ i j. j) m.0.left (omega arith)
             (λ past. v ≡ lower_count (reverse past)) (f ∙ lower_past key s r id n m at one) in
             (sight m.0.names (new ++ r.core.past) Idle m.0.left, keeps, tt, (q r.core.lower refl).0, only_empty (Then (After new Idle)) w r.core.lower (empty_word w r.core.lower word ge) word (λ v f. (q v f).1)))
       ]
@@ -87,12 +87,12 @@ module _ {T : Type 0} (key : Limits) (s : QueueTable T) (r : IsShownQueue key s)
         | inl lt ↦ (
             let reached_here = if_true (Leads r.core) (int_lt (pos 0) r.core.lower) _ _ lt reached_next in
             let new : List (Mark T) = mark n made.ClaimOut ∷ [] in
-            let q = quiet_step key s r id n m at one _ reached_here new refl (refl, tt) (apart1 key s r id n m at one TicketOut) refl refl out 16 w' words TicketOut (here1 key s r id n m at one TicketOut) m.0.left (omega arith) Anything tt in
+            let q = quiet_step key s r id n m at one _ reached_here new refl (refl, tt) (apart1 key s r id n m at one TicketOut) refl refl out 16 w' words TicketOut (here1 key s r id n m at one TicketOut) (λ i j. j) m.0.left (omega arith) Anything tt in
             (sight m.0.names (new ++ r.core.past) TicketOut m.0.left, keeps, tt, q.0, only_positive (Then (After new TicketOut)) w (positive_word w r.core.lower word lt) q.1))
         | inr ge ↦ (
             let reached_here = if_false (Leads r.core) (int_lt (pos 0) r.core.lower) _ _ ge reached_next in
             let new : List (Mark T) = mark n made.OverOut ∷ [] in
-            let q : (v : ℤ) → v ≡ r.core.lower → _ = λ v f. quiet_step key s r id n m at one _ reached_here new refl (refl, tt) (apart1 key s r id n m at one BackLow) refl refl out 16 w' words BackLow (here1 key s r id n m at one BackLow) m.0.left (omega arith)
+            let q : (v : ℤ) → v ≡ r.core.lower → _ = λ v f. quiet_step key s r id n m at one _ reached_here new refl (refl, tt) (apart1 key s r id n m at one BackLow) refl refl out 16 w' words BackLow (here1 key s r id n m at one BackLow) (λ i j. j) m.0.left (omega arith)
             (λ past. v ≡ lower_count (reverse past)) (f ∙ lower_past key s r id n m at one) in
             (sight m.0.names (new ++ r.core.past) BackLow m.0.left, keeps, tt, (q r.core.lower refl).0, only_empty (Then (After new BackLow)) w r.core.lower (empty_word w r.core.lower word ge) word (λ v f. (q v f).1)))
       ]
@@ -101,7 +101,7 @@ module _ {T : Type 0} (key : Limits) (s : QueueTable T) (r : IsShownQueue key s)
   backs_low e =
       let R = moves key.size r.core r.reached n BackLow (stands key s r id n m at one BackLow e) in
       let new : List (Mark T) = mark n made.BackOut ∷ [] in
-      let q = quiet_step key s r id n m at one _ R new refl (refl, tt) (apart1 key s r id n m at one Idle) refl refl (outside key s r id n m at one BackLow e (λ i j. j)) 16 _ (lower_grown key s r id n m at one) Idle (here1 key s r id n m at one Idle) m.0.left (omega arith) Anything tt in
+      let q = quiet_step key s r id n m at one _ R new refl (refl, tt) (apart1 key s r id n m at one Idle) refl refl (outside key s r id n m at one BackLow e (λ i j. j)) 16 _ (lower_grown key s r id n m at one) Idle (here1 key s r id n m at one Idle) (λ i j. j) m.0.left (omega arith) Anything tt in
       (sight m.0.names (new ++ r.core.past) Idle m.0.left, keeps, tt, q.0, q.1)
 
   pub draws_out : m.0.phase ≡ Some TicketOut → 0 < m.0.left → Step 48 (λ w. (w + 1) % 2 ^ 64) (DrawsOut key.size key.seats n m)
@@ -118,7 +118,7 @@ module _ {T : Type 0} (key : Limits) (s : QueueTable T) (r : IsShownQueue key s)
       let p : Phase T = TurnOut r.core.draws_out in
       let new : List (Mark T) = mark n (made.Got it.0) ∷ [] in
       let q = quiet_step key s r id n m at one _ reached_here new refl (refl, tt) (apart1 key s r id n m at one p) refl refl (outside key s r id n m at one TicketOut e (λ i j. j)) 48 _ words
-      (TurnOut w) (here1 key s r id n m at one p ∙ ap (λ k. TurnOut k) (sym is)) (m.0.left - 1) (omega (arith, left)) (λ past. (count gots (reverse past) ≡ w) × (item_at (items_put (reverse past)) w ≡ Some it.0)) (count_reverse gots r.core.past ∙ (sym (K key s r id n m at one).draws_out ∙ sym is), item_past r.core.past w ∙ (ap (item_of r.core.past) is ∙ it.1)) in
+      (TurnOut w) (here1 key s r id n m at one p ∙ ap (λ k. TurnOut k) (sym is)) (λ i j. j) (m.0.left - 1) (omega (arith, left)) (λ past. (count gots (reverse past) ≡ w) × (item_at (items_put (reverse past)) w ≡ Some it.0)) (count_reverse gots r.core.past ∙ (sym (K key s r id n m at one).draws_out ∙ sym is), item_past r.core.past w ∙ (ap (item_of r.core.past) is ∙ it.1)) in
       (sight m.0.names (new ++ r.core.past) (TurnOut w) (m.0.left - 1), keeps, tt, q.0, record { item = it.0; leaves = q.1; few = omega (arith, is, few) })
 
   pub turns_out : (k : ℕ) → m.0.phase ≡ Some (TurnOut k) → Step (64 + k % key.size) (λ w. w) (TurnedOut key.size key.seats n k m)
@@ -136,6 +136,7 @@ module _ {T : Type 0} (key : Limits) (s : QueueTable T) (r : IsShownQueue key s)
             let reached_here = if_true (Leads r.core) (r.core.turn i == 2 * (k / key.size) + 1) _ _ hit reached_next in
             let others = apart1 key s r id n m at one (LoadItem k) in
             let inside : InCell key.size (c.phase n) i = subst (λ p. InCell key.size p i) (sym (here1 key s r id n m at one (LoadItem k))) refl in
+            let stands_here : (j : ℕ) → InCell key.size (c.phase n) j → j ≡ i = λ j a. sym (subst (λ p. InCell key.size p j) (here1 key s r id n m at one (LoadItem k)) a) in
             let home = slot_there key.size n r.core s.homes r.encoded.wide r.encoded.slots_are c others r.encoded.some_cell reached_here out i (near key s r id n m at one k) inside in
             let loads : r.core.cell i ≡ item_of r.core.past k = loads_put key.size c n k (kept key.size c reached_here r.encoded.some_cell) (here1 key s r id n m at one (LoadItem k)) in
             let below = getting_below r.core.past n k gets in
@@ -148,7 +149,7 @@ module _ {T : Type 0} (key : Limits) (s : QueueTable T) (r : IsShownQueue key s)
               few_seats = r.encoded.few_seats;
               words_are = loaded key s r id n m at one (64 + i);
               wide = length-set s.homes i none ∙ r.encoded.wide;
-              slots_are = takes_slot key.size n r.core s.homes r.encoded.wide r.encoded.slots_are c others refl refl out i (near key s r id n m at one k) inside;
+              slots_are = takes_slot key.size n r.core s.homes r.encoded.wide r.encoded.slots_are c others refl refl out i (near key s r id n m at one k) inside stands_here;
             } in
             let q = steps (queue_object key.size key.seats) s r id n m at one (queue_law key.size key.seats r.encoded.some_cell) c [] (LoadItem k) step (64 + i) w (takes i (Some it.0)) shows m.0.left (omega arith)
             (λ past. item_at (items_put (reverse past)) k ≡ Some it.0) (item_past r.core.past k ∙ it.1) in (
@@ -163,7 +164,7 @@ module _ {T : Type 0} (key : Limits) (s : QueueTable T) (r : IsShownQueue key s)
             let reached_here = if_false (Leads r.core) (r.core.turn i == 2 * (k / key.size) + 1) _ _ far reached_next in
             let wait = waits_take key.size r.core n k (K key s r id n m at one) gets turn in
             let waits : WaitsOut key.size key.seats n k r.core.past = record { getting = gets; unfilled = λ h. wait (has_back (made.Fill k) r.core.past h) } in
-            let q = quiet_step key s r id n m at one _ reached_here [] refl tt (apart1 key s r id n m at one (TurnOut k)) refl refl out (64 + i) w (loaded key s r id n m at one (64 + i)) (TurnOut k) (here1 key s r id n m at one (TurnOut k)) m.0.left (omega arith) (WaitsOut key.size key.seats n k) waits in
+            let q = quiet_step key s r id n m at one _ reached_here [] refl tt (apart1 key s r id n m at one (TurnOut k)) refl refl out (64 + i) w (loaded key s r id n m at one (64 + i)) (TurnOut k) (here1 key s r id n m at one (TurnOut k)) (λ i j. j) m.0.left (omega arith) (WaitsOut key.size key.seats n k) waits in
             (sight m.0.names r.core.past (TurnOut k) m.0.left, keeps, tt, q.0, record { hit = λ h. absurd (turn (sym is ∙ h)); miss = λ _. q.1 }))
       ]
 
@@ -181,6 +182,8 @@ module _ {T : Type 0} (key : Limits) (s : QueueTable T) (r : IsShownQueue key s)
       let new : List (Mark T) = mark n (made.Take k) ∷ [] in
       let p : Phase T = EndDelete k in
       let mine : (j : ℕ) → InCell key.size (r.core.phase n) j → j ≡ i = λ j a. sym (subst (λ p. InCell key.size p j) at_load a) in
+      let inside : InCell key.size (r.core.phase n) i = subst (λ p. InCell key.size p i) (sym at_load) refl in
+      let nowhere : (j : ℕ) → InCell key.size (d.phase n) j → ⊥ = λ j a. subst (λ p. InCell key.size p j) (here2 key s r id n m at one (SetFree k) p) a in
       let home : IsAtHome (turn' i) (r.core.cell i) (some (some None)) = record {
         odd = λ q f. absurd (let t = at_here r.core.turn i (2 * (k / key.size) + 2) in omega (arith, t, f));
         even = λ q f. refl;
@@ -194,7 +197,7 @@ module _ {T : Type 0} (key : Limits) (s : QueueTable T) (r : IsShownQueue key s)
         few_seats = r.encoded.few_seats;
         words_are = words;
         wide = length-set s.homes i (some None) ∙ r.encoded.wide;
-        slots_are = gives_slot key.size n r.core s.homes r.encoded.wide r.encoded.slots_are d others i (near key s r id n m at one k) (λ j ne. (at_else r.core.turn i j (2 * (k / key.size) + 2) ne, refl)) mine None home;
+        slots_are = gives_slot key.size n r.core s.homes r.encoded.wide r.encoded.slots_are d others r.encoded.some_cell r.reached i (near key s r id n m at one k) (λ j ne. (at_else r.core.turn i j (2 * (k / key.size) + 2) ne, refl)) inside mine nowhere None home;
       } in
       let gives_back : IsEncoded key.size key.seats d (set s.words (64 + i) v) (homes_after s.homes m.1 gives) = subst (λ l. IsEncoded key.size key.seats d (set s.words (64 + i) v) (homes_after s.homes l gives)) (sym held) shows in
       let q = steps (queue_object key.size key.seats) s r id n m at one (queue_law key.size key.seats r.encoded.some_cell) d new p step (64 + i) v gives gives_back m.0.left (omega arith) Anything tt in
@@ -204,5 +207,5 @@ module _ {T : Type 0} (key : Limits) (s : QueueTable T) (r : IsShownQueue key s)
   ends_out k e =
       let R = moves key.size r.core r.reached n (EndDelete k) (stands key s r id n m at one (EndDelete k) e) in
       let new : List (Mark T) = mark n made.EndOut ∷ [] in
-      let q = quiet_step key s r id n m at one _ R new refl (refl, tt) (apart1 key s r id n m at one Idle) refl refl (outside key s r id n m at one (EndDelete k) e (λ i j. j)) 0 _ (upper_shrunk key s r id n m at one) Idle (here1 key s r id n m at one Idle) m.0.left (omega arith) Anything tt in
+      let q = quiet_step key s r id n m at one _ R new refl (refl, tt) (apart1 key s r id n m at one Idle) refl refl (outside key s r id n m at one (EndDelete k) e (λ i j. j)) 0 _ (upper_shrunk key s r id n m at one) Idle (here1 key s r id n m at one Idle) (λ i j. j) m.0.left (omega arith) Anything tt in
       (sight m.0.names (new ++ r.core.past) Idle m.0.left, keeps, tt, q.0, q.1)

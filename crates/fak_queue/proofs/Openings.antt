@@ -54,7 +54,7 @@ opens_queue {T} key words is range =
       few_seats = range.1.1;
       words_are = subst (AreWords key.size (pos 0) (pos 0) 0 0 (λ c. 0) false) (sym is) (first_are_words key.size);
       wide = length-map (replicate key.size None) some ∙ length-replicate key.size None;
-      slots_are = λ i lt. inl (record { odd = λ q f. absurd (omega (arith, f)); even = λ q f. read_map key.size i None lt });
+      slots_are = λ i lt. inl (record { odd = λ q f. absurd (omega (arith, f)); even = λ q f. read_map key.size i None lt }, λ t inside. inside);
     } in
     let tickets : ℕ = key.seats * key.stint in
     let few : tickets ≤ 64 * 1099511627776 = mul-le-mul range.1.1 range.2.1 in

@@ -152,10 +152,10 @@ module _ {T : Type 0} (key : Limits) {size seats name left : ℕ} {p : Phase T} 
     New k = queue_seat (object_id now seats) name k after
 
     pub claims_in : {x : T} {k : ℕ} → 0 < left → ClaimedIn table.slots key.seats name x k m after → ClaimsIn queue.size k x old (New (left - 1))
-    claims_in some_left part = record { makes = makes part left_less stays (omega (arith, some_left)); ticket = told part left_less stays }
+    claims_in some_left part = record { within = within some_left; makes = makes part left_less stays (omega (arith, some_left)); ticket = told part left_less stays }
 
     pub claims_out : {k : ℕ} → 0 < left → ClaimedOut table.slots key.seats name k m after → ClaimsOut queue.size k old (New (left - 1))
-    claims_out some_left c = record { item = c.item; makes = makes c.part left_less stays (omega (arith, some_left)); ticket = told c.part left_less stays; put = c.put }
+    claims_out some_left c = record { within = within some_left; item = c.item; makes = makes c.part left_less stays (omega (arith, some_left)); ticket = told c.part left_less stays; put = c.put }
 
     -- one of two refusals, neither of which draws a ticket
     module _ {one two : List (Kind T)} {tells : List (Mark T) → List (Mark T) → Type 0} (none : tickets_in (made_by {T = T} name one) ≡ 0) (none' : tickets_in (made_by {T = T} name two) ≡ 0)

@@ -1,5 +1,5 @@
 -- The slots of a queue's cells as a seat takes one and gives it back.
-use Rattle.std.proofs.Common.{◌≡◌, ◌≢◌, ◌⊎◌, ℕ, ◌<◌, List, length, set, sym, ap, ◌∙◌, subst, inl, inr, arith, Option}
+use Rattle.std.proofs.Common.{◌≡◌, ◌≢◌, ◌⊎◌, ◌↔◌, ℕ, ◌+◌, ◌*◌, ◌/◌, ◌%◌, ◌<◌, List, length, set, sym, ap, ◌∙◌, subst, inl, inr, arith, Option, None}
 use mathlib.Core.Option.{some, none}
 use mathlib.Core.Option as maybe
 use lib.ListN.{get_elem?}
@@ -9,6 +9,7 @@ use Rattle.fak_core.specs.QueueMoves.{QueueState}
 use Rattle.fak_core.specs.QueueSchedule.{InCell, IsReached}
 use Rattle.fak_core.proofs.QueueOwners.{alone}
 use Rattle.fak_core.proofs.QueueReached.{kept}
+use Rattle.fak_core.proofs.QueueTurns.{le_or_lt}
 use Rattle.fak_queue.specs.Shown.{IsAtHome, HasSlot}
 
 abbrev Homes : Type 0 → Type 0
@@ -17,39 +18,79 @@ Homes T = List (maybe.Option (Option T))
 -- the state c comes after b by a step of the seat n; `homes` are the slots before it
 module _ {T : Type 0} (size n : ℕ) (b : QueueState T) (homes : Homes T) (wide : length homes ≡ size) (slots : (i : ℕ) → i < size → HasSlot size b homes i)
     (c : QueueState T) (phases : (t : ℕ) → t ≢ n → c.phase t ≡ b.phase t) where
-  -- a step that takes and gives no slot
-  pub stays_home : c.turn ≡ b.turn → c.cell ≡ b.cell → ((i : ℕ) → InCell size (b.phase n) i → ⊥) → (i : ℕ) → i < size → HasSlot size c homes i
-  stays_home turn cell out i lt = elim (slots i lt) [
-    | inl h ↦ inl (subst (λ (x : (ℕ → ℕ) × (ℕ → Option T)). IsAtHome (x.0 i) (x.1 i) (get_elem? homes i)) (λ j. (sym turn j, sym cell j)) h)
-    | inr o ↦ inr (o.0, subst (λ p. InCell size p i) (sym (phases o.0 (λ q. out i (subst (λ x. InCell size (b.phase x) i) q o.1)))) o.1, o.2)
+  -- a cell that the seat stands in neither before nor after
+  passes_by : (i : ℕ) → c.turn i ≡ b.turn i → c.cell i ≡ b.cell i → (InCell size (b.phase n) i → ⊥) → (InCell size (c.phase n) i → ⊥) → HasSlot size b homes i → HasSlot size c homes i
+  passes_by i turn cell before after has = elim has [
+    | inl h ↦ inl (
+      subst (λ (x : ℕ × Option T). IsAtHome x.0 x.1 (get_elem? homes i)) (λ j. (sym turn j, sym cell j)) h.0,
+      λ t inside. elim (same_or_not t n) [
+        | inl q ↦ after (subst (λ x. InCell size (c.phase x) i) q inside)
+        | inr ne ↦ h.1 t (subst (λ p. InCell size p i) (phases t ne) inside)
+      ],
+    )
+    | inr o ↦ inr (o.0, subst (λ p. InCell size p i) (sym (phases o.0 (λ q. before (subst (λ x. InCell size (b.phase x) i) q o.1)))) o.1, o.2)
   ]
+
+  -- the slot of another cell than that of the slot which was taken or given
+  other_slot : (k : ℕ) (given : maybe.Option (Option T)) (i : ℕ) → i ≢ k → HasSlot size c homes i → HasSlot size c (set homes k given) i
+  other_slot k given i ne = subst (λ h. (IsAtHome (c.turn i) (c.cell i) h × ((t : ℕ) → InCell size (c.phase t) i → ⊥)) ⊎ ((t : ℕ) × InCell size (c.phase t) i × (h ≡ some none))) (sym (set_else homes k i given ne))
+
+  -- a step that takes and gives no slot
+  pub stays_home : c.turn ≡ b.turn → c.cell ≡ b.cell → ((i : ℕ) → InCell size (b.phase n) i → ⊥) → ((i : ℕ) → InCell size (c.phase n) i → ⊥) → (i : ℕ) → i < size → HasSlot size c homes i
+  stays_home turn cell before after i lt = passes_by i (ap (λ f. f i) turn) (ap (λ f. f i) cell) (before i) (after i) (slots i lt)
 
   -- the seat takes the slot of its cell
-  pub takes_slot : c.turn ≡ b.turn → c.cell ≡ b.cell → ((i : ℕ) → InCell size (b.phase n) i → ⊥) → (k : ℕ) → k < size → InCell size (c.phase n) k
+  pub takes_slot : c.turn ≡ b.turn → c.cell ≡ b.cell → ((i : ℕ) → InCell size (b.phase n) i → ⊥) → (k : ℕ) → k < size → InCell size (c.phase n) k → ((i : ℕ) → InCell size (c.phase n) i → i ≡ k)
       → (i : ℕ) → i < size → HasSlot size c (set homes k none) i
-  takes_slot turn cell out k near inside i lt = elim (same_or_not i k) [
+  takes_slot turn cell before k near inside mine i lt = elim (same_or_not i k) [
     | inl q ↦ inr (n, subst (InCell size (c.phase n)) (sym q) inside, ap (get_elem? (set homes k none)) q ∙ set_here homes k none (omega (arith, wide, near)))
-    | inr ne ↦ subst (λ h. IsAtHome (c.turn i) (c.cell i) h ⊎ ((t : ℕ) × InCell size (c.phase t) i × (h ≡ some none))) (sym (set_else homes k i none ne)) (stays_home turn cell out i lt)
+    | inr ne ↦ other_slot k none i ne (passes_by i (ap (λ f. f i) turn) (ap (λ f. f i) cell) (before i) (λ a. ne (mine i a)) (slots i lt))
   ]
 
-  -- the seat gives it back
-  pub gives_slot : (k : ℕ) → k < size → ((i : ℕ) → i ≢ k → (c.turn i ≡ b.turn i) × (c.cell i ≡ b.cell i)) → ((i : ℕ) → InCell size (b.phase n) i → i ≡ k)
-      → (x : Option T) → IsAtHome (c.turn k) (c.cell k) (some (some x)) → (i : ℕ) → i < size → HasSlot size c (set homes k (some x)) i
-  gives_slot k near same mine x home i lt = elim (same_or_not i k) [
-    | inl q ↦ inl (subst (λ j. IsAtHome (c.turn j) (c.cell j) (get_elem? (set homes k (some x)) j)) (sym q)
-        (subst (IsAtHome (c.turn k) (c.cell k)) (sym (set_here homes k (some x) (omega (arith, wide, near)))) home))
-    | inr ne ↦ subst (λ h. IsAtHome (c.turn i) (c.cell i) h ⊎ ((t : ℕ) × InCell size (c.phase t) i × (h ≡ some none))) (sym (set_else homes k i (some x) ne))
-        (elim (slots i lt) [
-          | inl h ↦ inl (subst (λ (y : ℕ × Option T). IsAtHome y.0 y.1 (get_elem? homes i)) (λ j. (sym (same i ne).0 j, sym (same i ne).1 j)) h)
-          | inr o ↦ inr (o.0, subst (λ p. InCell size p i) (sym (phases o.0 (λ q. ne (mine i (subst (λ z. InCell size (b.phase z) i) q o.1))))) o.1, o.2)
-        ])
-  ]
+  -- the seat gives it back: nobody else stood in its cell
+  pub gives_slot : 0 < size → IsReached size b → (k : ℕ) → k < size → ((i : ℕ) → i ≢ k → (c.turn i ≡ b.turn i) × (c.cell i ≡ b.cell i)) → InCell size (b.phase n) k → ((i : ℕ) → InCell size (b.phase n) i → i ≡ k)
+      → ((i : ℕ) → InCell size (c.phase n) i → ⊥) → (x : Option T) → IsAtHome (c.turn k) (c.cell k) (some (some x)) → (i : ℕ) → i < size → HasSlot size c (set homes k (some x)) i
+  gives_slot some_cell reached k near same inside mine after x home i lt =
+      let nobody : (t : ℕ) → InCell size (c.phase t) k → ⊥ = λ t a. elim (same_or_not t n) [
+        | inl q ↦ after k (subst (λ y. InCell size (c.phase y) k) q a)
+        | inr ne ↦ ne (alone size b t n k some_cell (kept size b reached some_cell) (subst (λ p. InCell size p k) (phases t ne) a) inside)
+      ] in
+      elim (same_or_not i k) [
+        | inl q ↦ inl (
+          subst (λ j. IsAtHome (c.turn j) (c.cell j) (get_elem? (set homes k (some x)) j)) (sym q)
+              (subst (IsAtHome (c.turn k) (c.cell k)) (sym (set_here homes k (some x) (omega (arith, wide, near)))) home),
+          λ t a. nobody t (subst (InCell size (c.phase t)) q a),
+        )
+        | inr ne ↦ other_slot k (some x) i ne (passes_by i (same i ne).0 (same i ne).1 (λ a. ne (mine i a)) (after i) (slots i lt))
+      ]
 
   -- nobody stands in the cell into which the seat steps: its slot is at home
   pub slot_there : 0 < size → IsReached size c → ((i : ℕ) → InCell size (b.phase n) i → ⊥) → (k : ℕ) → k < size → InCell size (c.phase n) k → IsAtHome (b.turn k) (b.cell k) (get_elem? homes k)
   slot_there some_cell reached out k near inside = elim (slots k near) [
-    | inl h ↦ h
+    | inl h ↦ h.0
     | inr o ↦ absurd (
         let ne : o.0 ≢ n = λ q. out k (subst (λ z. InCell size (b.phase z) k) q o.1) in
         ne (alone size c o.0 n k some_cell (kept size c reached some_cell) (subst (λ p. InCell size p k) (sym (phases o.0 ne)) o.1) inside))
   ]
+
+even_or_odd : (n : ℕ) → ((q : ℕ) × (n ≡ 2 * q)) ⊎ ((q : ℕ) × (n ≡ 2 * q + 1))
+even_or_odd n = elim (le_or_lt 1 (n % 2)) [
+  | inl odd ↦ inr (n / 2, omega (arith, odd))
+  | inr even ↦ inl (n / 2, omega (arith, even))
+]
+
+-- a slot is out exactly while a seat stands in its cell
+pub out_exactly : {T : Type 0} (size : ℕ) (b : QueueState T) (homes : Homes T) (i : ℕ) → HasSlot size b homes i → (get_elem? homes i ≡ some none) ↔ ((t : ℕ) × InCell size (b.phase t) i)
+out_exactly {T} size b homes i has = (
+  (λ gone. elim has [
+    | inl h ↦ absurd (elim (even_or_odd (b.turn i)) [
+      | inl e ↦ (let two : ◌≡◌ {A = maybe.Option (maybe.Option (Option T))} (some none) (some (some None)) = sym gone ∙ h.0.even e.0 e.1 in cc)
+      | inr o ↦ (let two : some none ≡ some (some (b.cell i)) = sym gone ∙ h.0.odd o.0 o.1 in cc)
+    ])
+    | inr o ↦ (o.0, o.1)
+  ]),
+  λ inside. elim has [
+    | inl h ↦ absurd (h.1 inside.0 inside.1)
+    | inr o ↦ o.2
+  ],
+)

@@ -161,11 +161,11 @@ module _ {T : Type 0} (key : Limits) (s : QueueTable T) (r : IsShownQueue key s)
   -- a step on a word that takes and gives no slot
   pub quiet_step : (c : QueueState T) → IsReached key.size c → (new : List (Mark T)) → c.past ≡ new ++ r.core.past → AreOwn (λ (w : Mark T). w.seat) n new
       → ((t : ℕ) → t ≢ n → c.phase t ≡ r.core.phase t) → c.turn ≡ r.core.turn → c.cell ≡ r.core.cell → ((i : ℕ) → InCell key.size (r.core.phase n) i → ⊥)
-      → (i w : ℕ) → AreWords key.size c.upper c.lower c.draws_in c.draws_out c.turn c.shut (set s.words i w) → (p : Phase T) → c.phase n ≡ p → (left : ℕ)
+      → (i w : ℕ) → AreWords key.size c.upper c.lower c.draws_in c.draws_out c.turn c.shut (set s.words i w) → (p : Phase T) → c.phase n ≡ p → ((j : ℕ) → InCell key.size p j → ⊥) → (left : ℕ)
       → (count puts c.past + count gots c.past) + left ≤ (count puts r.core.past + count gots r.core.past) + m.0.left → (tells : List (Mark T) → Type 0) → tells r.core.past
       → let v = sight m.0.names (new ++ r.core.past) p left in
       IsShownQueue key (stepped s i w id m.1 v keeps) × Leaves (queue_object key.size key.seats) m new p left m.1 tells (v, m.1)
-  quiet_step c reached new past own phases turn cell out i w words p here left few tells told =
+  quiet_step c reached new past own phases turn cell out i w words p here nowhere left few tells told =
       steps (queue_object key.size key.seats) s r id n m at one (queue_law key.size key.seats r.encoded.some_cell) c new p (advances c reached new past own p here phases) i w keeps
       record {
         some_cell = r.encoded.some_cell;
@@ -173,6 +173,6 @@ module _ {T : Type 0} (key : Limits) (s : QueueTable T) (r : IsShownQueue key s)
         few_seats = r.encoded.few_seats;
         words_are = words;
         wide = r.encoded.wide;
-        slots_are = stays_home key.size n r.core s.homes r.encoded.wide r.encoded.slots_are c phases turn cell out;
+        slots_are = stays_home key.size n r.core s.homes r.encoded.wide r.encoded.slots_are c phases turn cell out (λ j inside. nowhere j (subst (λ q. InCell key.size q j) here inside));
       }
       left few tells told

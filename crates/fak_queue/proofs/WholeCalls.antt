@@ -72,6 +72,7 @@ module _ {T : Type 0} (size : ℕ) (a b c d : SeatInfo (Mark T)) where
 
   pub inserted : (k : ℕ) (x : T) → ClaimsIn size k x a b → Makes size [] b c → Fills size k c d → Inserts size k x a d
   inserted k x claim look end = record {
+    within = claim.within;
     makes = whole made.ClaimIn (made.Put x) claim.makes look (made.Fill k) made.EndIn end;
     ticket = ap (count puts) (stood made.ClaimIn (made.Put x) claim.makes look (made.Fill k) made.EndIn end) ∙ claim.ticket;
   }
@@ -82,6 +83,7 @@ module _ {T : Type 0} (size : ℕ) (a b c d : SeatInfo (Mark T)) where
       let kept : item_at (items_put d.seen) k ≡ Some claim.item = subst (λ h. item_at (items_put h) k ≡ Some claim.item) more.begins.1 (item_stays b.seen more.begins.0 k claim.item claim.put) in
       let same : claim.item ≡ x = some_same (sym kept ∙ end.put) in
       record {
+        within = claim.within;
         makes = subst (λ y. Makes size (made.ClaimOut ∷ made.Got y ∷ made.Take k ∷ made.EndOut ∷ []) a d) same (whole made.ClaimOut (made.Got claim.item) claim.makes look (made.Take k) made.EndOut end.makes);
         ticket = ap (count gots) (stood made.ClaimOut (made.Got claim.item) claim.makes look (made.Take k) made.EndOut end.makes) ∙ claim.ticket;
         put = end.put;

@@ -93,8 +93,9 @@ Makes size kinds old new = Appends (queue_rules size) (made_by old.name kinds) o
 abbrev pub before_own : {T : Type 0} → ℕ → SeatInfo (Mark T) → SeatInfo (Mark T) → List (Mark T)
 before_own number old new = before_appended seat_of number old new
 
--- a granted insertion: so many Puts stand before its own
+-- a granted insertion within the stint: so many Puts stand before its own
 pub record ClaimsIn {T : Type 0} (size k : ℕ) (x : T) (old new : SeatInfo (Mark T)) : Type 0 where
+  pub within : drawn_by old < old.stint
   pub makes : Makes size (made.ClaimIn ∷ made.Put x ∷ []) old new
   pub ticket : count puts (before_own 1 old new) ≡ k
 
@@ -107,8 +108,9 @@ pub record RefusesFull {T : Type 0} (size : ℕ) (upper : ℤ) (old new : SeatIn
 abbrev pub RefusesClosed : {T : Type 0} → ℕ → SeatInfo (Mark T) → SeatInfo (Mark T) → Type 0
 RefusesClosed size old new = Makes size (made.Closed ∷ []) old new ⊎ Makes size (made.LateIn ∷ made.BackIn ∷ []) old new
 
--- a granted deletion: so many Gots stand before its own, and its item is the one that was put under this ticket
+-- a granted deletion within the stint: so many Gots stand before its own, and its item is the one that was put under this ticket
 pub record ClaimsOut {T : Type 0} (size k : ℕ) (old new : SeatInfo (Mark T)) : Type 0 where
+  pub within : drawn_by old < old.stint
   pub item : T
   pub makes : Makes size (made.ClaimOut ∷ made.Got item ∷ []) old new
   pub ticket : count gots (before_own 1 old new) ≡ k
@@ -158,11 +160,13 @@ pub record IsWorn {T : Type 0} (old new : SeatInfo (Mark T)) : Type 0 where
 
 -- an insertion: the claim, and the rest of the call
 pub record Inserts {T : Type 0} (size k : ℕ) (x : T) (old new : SeatInfo (Mark T)) : Type 0 where
+  pub within : drawn_by old < old.stint
   pub makes : Makes size (made.ClaimIn ∷ made.Put x ∷ made.Fill k ∷ made.EndIn ∷ []) old new
   pub ticket : count puts (before_own 1 old new) ≡ k
 
 -- a deletion, which hands out the value that was put under its ticket
 pub record Deletes {T : Type 0} (size k : ℕ) (x : T) (old new : SeatInfo (Mark T)) : Type 0 where
+  pub within : drawn_by old < old.stint
   pub makes : Makes size (made.ClaimOut ∷ made.Got x ∷ made.Take k ∷ made.EndOut ∷ []) old new
   pub ticket : count gots (before_own 1 old new) ≡ k
   pub put : item_at (items_put new.seen) k ≡ Some x

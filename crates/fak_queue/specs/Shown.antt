@@ -28,10 +28,10 @@ pub record IsAtHome {T : Type 0} (turn : ℕ) (content : Option T) (home : maybe
   pub odd : (q : ℕ) → turn ≡ 2 * q + 1 → home ≡ some (some content)
   pub even : (q : ℕ) → turn ≡ 2 * q → home ≡ some (some None)
 
--- the slot of a cell is at home, or out with the seat that stands in the cell
+-- the slot of a cell is out exactly while a seat stands in the cell
 abbrev pub HasSlot : {T : Type 0} → ℕ → QueueState T → List (maybe.Option (Option T)) → ℕ → Type 0
 HasSlot size core homes cell =
-    IsAtHome (core.turn cell) (core.cell cell) (get_elem? homes cell)
+    (IsAtHome (core.turn cell) (core.cell cell) (get_elem? homes cell) × ((seat : ℕ) → InCell size (core.phase seat) cell → ⊥))
     ⊎ ((seat : ℕ) × InCell size (core.phase seat) cell × (get_elem? homes cell ≡ some none))
 
 -- the words and the slots show this state of a queue of this size

@@ -4,18 +4,9 @@ ghost use Rattle.std.specs.Prelude.{◌≡◌, ℕ};
 ghost use Rattle.fak_queue.specs.declared.state.SeatState.TheVariants.{Deleting};
 ghost use Rattle.fak_queue.specs.Queues.{state_of};
 
-use crate::{InsertFault, Queue, Rest, Seat, SeatState, Tally};
+use super::threads::close_whole;
+use crate::{InsertFault, Queue, Seat, SeatState, Tally};
 use std::test::Fail;
-
-// Closes the queue where all seats are in the tally.
-fn close_whole(queue: Queue<u64>, tally: Tally<u64>) -> Option<Rest<u64>>
-    requires { tally.object ≡ queue.object }
-{
-    if !tally.is_whole() {
-        return None;
-    }
-    Some(queue.close(tally))
-}
 
 // Whether a hundred tries of a claimed deletion find that it is not their turn.
 fn never_takes(queue: &Queue<u64>, seat: &mut Seat<u64>) -> bool

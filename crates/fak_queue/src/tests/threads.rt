@@ -1,13 +1,12 @@
-//! Insertions and deletions at once.
+//! What the threads of a test do with the seats of a queue.
 
 ghost use Rattle.std.specs.Prelude.{◌≡◌, ◌+◌, ◌<◌, IfOk};
 ghost use Rattle.fak_queue.specs.declared.state.SeatState.TheVariants.{Idle};
 ghost use Rattle.fak_queue.specs.Queues.{state_of};
 
-use crate::{DeleteFault, InsertFault, Queue, Seat, Tally};
+use crate::{DeleteFault, InsertFault, Queue, Rest, Seat, Tally};
 use std::alloc::Global;
 use std::sync::Wait;
-use std::test::Fail;
 use std::thread::{Threads, join};
 
 // Tries again while the queue is full.
@@ -43,7 +42,7 @@ fn delete_one<T: Drop, R: Wait>(rt: &R, queue: &Queue<T>, seat: &mut Seat<T>) ->
 }
 
 // Inserts the items, the last of the list first.
-fn insert_all<T: Drop, R: Wait>(
+pub fn insert_all<T: Drop, R: Wait>(
     rt: &R,
     queue: &Queue<T>,
     mut seat: Seat<T>,
@@ -59,7 +58,7 @@ fn insert_all<T: Drop, R: Wait>(
 }
 
 // Deletes so many items, into this list.
-fn delete_all<T: Drop, R: Wait>(
+pub fn delete_all<T: Drop, R: Wait>(
     rt: &R,
     queue: &Queue<T>,
     mut seat: Seat<T>,
@@ -77,95 +76,114 @@ fn delete_all<T: Drop, R: Wait>(
     (seat, into)
 }
 
-// Two seats insert at once.
-fn insert_both<T: Drop + Send, R: Threads + Wait + Sync>(
-    rt: &R,
-    queue: &Queue<T>,
-    seats: (Seat<T>, Seat<T>),
-    items: (Vec<T>, Vec<T>),
-) -> (Seat<T>, Seat<T>)
-    requires { (seats.0.object ≡ queue.now.object) × (state_of seats.0 ≡ Idle) × (seats.1.object ≡ queue.now.object) × (state_of seats.1 ≡ Idle) }
-    ensures { (result.0.object ≡ queue.now.object) × (state_of result.0 ≡ Idle) × (result.1.object ≡ queue.now.object) × (state_of result.1 ≡ Idle) }
-{
-    let (a, b) = seats;
-    let (first, second) = items;
-    join(
-        rt,
-        move || -> Seat<T>
-            requires { (a.object ≡ queue.now.object) × (state_of a ≡ Idle) }
-            ensures { (result.object ≡ queue.entry.now.object) × (state_of result ≡ Idle) }
-        { insert_all(rt, queue, a, first) },
-        move || -> Seat<T>
-            requires { (b.object ≡ queue.now.object) × (state_of b ≡ Idle) }
-            ensures { (result.object ≡ queue.entry.now.object) × (state_of result ≡ Idle) }
-        { insert_all(rt, queue, b, second) },
-    )
+// Two seats of one queue, each between two calls, and items to insert; after a run those that were deleted.
+#[derive(Drop)]
+pub struct Pair<T> {
+    pub inserter: Seat<T>,
+    pub deleter: Seat<T>,
+    pub items: Vec<T>,
+    ghost same: { deleter.object ≡ inserter.object },
+    ghost idle: { (state_of inserter ≡ Idle) × (state_of deleter ≡ Idle) },
 }
 
-// One seat inserts while another deletes as many items.
-fn relay<T: Drop + Send, R: Threads + Wait + Sync>(
+// One seat inserts the items, the last first, while the other deletes as many.
+pub fn one_pair<T: Drop + Send, R: Threads + Wait + Sync>(
     rt: &R,
+    alloc: Global,
     queue: &Queue<T>,
-    seats: (Seat<T>, Seat<T>),
-    items: Vec<T>,
-    into: Vec<T>,
-) -> (Seat<T>, (Seat<T>, Vec<T>))
-    requires { (seats.0.object ≡ queue.now.object) × (state_of seats.0 ≡ Idle) × (seats.1.object ≡ queue.now.object) × (state_of seats.1 ≡ Idle) }
-    ensures { (result.0.object ≡ queue.now.object) × (state_of result.0 ≡ Idle) × (result.1.0.object ≡ queue.now.object) × (state_of result.1.0 ≡ Idle) }
+    pair: Pair<T>,
+) -> Pair<T>
+    requires { pair.inserter.object ≡ queue.now.object }
+    ensures { result.inserter.object ≡ queue.now.object }
 {
-    let (a, b) = seats;
+    let Pair {
+        inserter,
+        deleter,
+        items,
+    } = pair;
     let count = items.len();
-    join(
+    let into = Vec::new(alloc);
+    let (inserter, (deleter, items)) = join(
         rt,
         move || -> Seat<T>
-            requires { (a.object ≡ queue.now.object) × (state_of a ≡ Idle) }
+            requires { (inserter.object ≡ queue.now.object) × (state_of inserter ≡ Idle) }
             ensures { (result.object ≡ queue.entry.now.object) × (state_of result ≡ Idle) }
-        { insert_all(rt, queue, a, items) },
+        { insert_all(rt, queue, inserter, items) },
         move || -> (Seat<T>, Vec<T>)
-            requires { (b.object ≡ queue.now.object) × (state_of b ≡ Idle) }
+            requires { (deleter.object ≡ queue.now.object) × (state_of deleter ≡ Idle) }
             ensures { (result.0.object ≡ queue.entry.now.object) × (state_of result.0 ≡ Idle) }
-        { delete_all(rt, queue, b, count, into) },
+        { delete_all(rt, queue, deleter, count, into) },
+    );
+    Pair {
+        inserter,
+        deleter,
+        items,
+    }
+}
+
+// Two pairs at once.
+pub fn two_pairs<T: Drop + Send, R: Threads + Wait + Sync>(
+    rt: &R,
+    alloc: Global,
+    queue: &Queue<T>,
+    pairs: (Pair<T>, Pair<T>),
+) -> (Pair<T>, Pair<T>)
+    requires { (pairs.0.inserter.object ≡ queue.now.object) × (pairs.1.inserter.object ≡ queue.now.object) }
+    ensures { (result.0.inserter.object ≡ queue.now.object) × (result.1.inserter.object ≡ queue.now.object) }
+{
+    let (a, b) = pairs;
+    join(
+        rt,
+        move || -> Pair<T>
+            requires { a.inserter.object ≡ queue.now.object }
+            ensures { result.inserter.object ≡ queue.entry.now.object }
+        { one_pair(rt, alloc, queue, a) },
+        move || -> Pair<T>
+            requires { b.inserter.object ≡ queue.now.object }
+            ensures { result.inserter.object ≡ queue.entry.now.object }
+        { one_pair(rt, alloc, queue, b) },
     )
 }
 
-// The numbers from `first` on, fifty of them, the last first.
-fn fifty(alloc: Global, first: u64) -> Result<Vec<u64>, Fail> {
-    let mut items = Vec::new(alloc);
-    for i in 0..50u64 {
-        items.push(first.wrapping_add(49 - i))?;
-    }
-    Ok(items)
+// A tally of both seats of the pair, and what the pair has deleted.
+pub fn tally_of<T: Drop>(queue: &Queue<T>, pair: Pair<T>) -> (Tally<T>, Vec<T>)
+    requires { pair.inserter.object ≡ queue.now.object }
+    ensures { result.0.object ≡ queue.now.object }
+{
+    let Pair {
+        inserter,
+        deleter,
+        items,
+    } = pair;
+    (queue.join(Tally::of(inserter), deleter), items)
 }
 
-// Whether the numbers from `first` on, fifty of them, stand in the list, each once and in rising order.
-fn are_fifty(items: &[u64], first: u64) -> bool {
-    let mut next = first;
-    for &item in items {
-        if item >= first && item - first < 50 {
-            if item != next {
-                return false;
-            }
-            next = next.wrapping_add(1);
-        }
-    }
-    next == first.wrapping_add(50)
+// The tally with both seats of one more pair, and what the pair has deleted.
+pub fn join_pair<T: Drop>(queue: &Queue<T>, tally: Tally<T>, pair: Pair<T>) -> (Tally<T>, Vec<T>)
+    requires { (tally.object ≡ queue.now.object) × (pair.inserter.object ≡ queue.now.object) }
+    ensures { result.0.object ≡ queue.now.object }
+{
+    let Pair {
+        inserter,
+        deleter,
+        items,
+    } = pair;
+    (queue.join(queue.join(tally, inserter), deleter), items)
 }
 
-#[test]
-fn one_pair(rt: HostRuntime) -> Result<(), Fail> {
-    let Ok((queue, mut seats)) = Queue::<u64>::open(rt.alloc(), 8, 2, 100) else {
-        return Err(Fail::from("open"));
-    };
-    let (Some(b), Some(a)) = (seats.pop(), seats.pop()) else {
-        return Err(Fail::from("two seats"));
-    };
-    let items = fifty(rt.alloc(), 1001)?;
-    let (a, (b, got)) = relay(&rt, &queue, (a, b), items, Vec::new(rt.alloc()));
-    assert!(rt; are_fifty(got.as_slice(), 1001));
-    let tally = queue.join(Tally::of(a), b);
+// Closes the queue where all seats are in the tally.
+pub fn close_whole<T: Drop>(queue: Queue<T>, tally: Tally<T>) -> Option<Rest<T>>
+    requires { tally.object ≡ queue.object }
+{
     if !tally.is_whole() {
-        return Err(Fail::from("whole"));
+        return None;
     }
-    assert_eq!(rt; queue.close(tally).next(), None);
-    Ok(())
+    Some(queue.close(tally))
+}
+
+// Whether all seats are in the tally, and the closed queue leaves nothing.
+pub fn leaves_nothing<T: Drop>(queue: Queue<T>, tally: Tally<T>) -> bool
+    requires { tally.object ≡ queue.object }
+{
+    close_whole(queue, tally).is_some_and(|mut rest| rest.next().is_none())
 }
