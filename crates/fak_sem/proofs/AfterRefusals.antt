@@ -1,8 +1,6 @@
 -- Calls that follow refused ones.
-use Rattle.std.proofs.Common.{◌≡◌, ◌⊎◌, ℕ, ◌<◌, arith, List, [], ◌∷◌, ◌++◌, refl, ap, sym, ◌∙◌, subst, inl, inr}
+use Rattle.std.proofs.Common.{◌≡◌, ◌⊎◌, ℕ, ◌<◌, arith, List, [], ◌∷◌, ◌++◌, refl, ap, sym, ◌∙◌, subst, inl, inr, append_assoc}
 use Rattle.std.specs.List.{flat_map}
-use Rattle.std.proofs.lemmas.List.{append-nil}
-use Rattle.std.proofs.lemmas.List.Concat.{flat_map-append}
 use Rattle.fak_model.specs.declared.queue.Kind.{Kind}
 use Rattle.fak_model.specs.declared.queue.Mark.{Mark}
 use Rattle.fak_model.specs.Queue.{queue_rules}
@@ -17,7 +15,12 @@ made_by_append name [] ls = refl
 made_by_append {T} name (κ ∷ ks) ls = ap (λ (h : List (Mark T)). record { seat = name; kind = κ } ∷ h) (made_by_append name ks ls)
 
 flat_map_push : {A B : Type 0} (f : A → List B) (xs : List A) (x : A) → flat_map f (xs ++ x ∷ []) ≡ flat_map f xs ++ f x
-flat_map_push f xs x = flat_map-append f xs (x ∷ []) ∙ ap (λ l. flat_map f xs ++ l) (append-nil (f x))
+flat_map_push f [] x = append_nil (f x)
+  where
+    append_nil : {B : Type 0} (ys : List B) → ys ++ [] ≡ ys
+    append_nil [] = refl
+    append_nil (y ∷ ys) = ap (λ l. y ∷ l) (append_nil ys)
+flat_map_push f (y ∷ xs) x = ap (λ l. f y ++ l) (flat_map_push f xs x) ∙ sym (append_assoc (f y) (flat_map f xs) (f x))
 
 -- marks of two parts of a call
 pub makes_then : {T : Type 0} {size : ℕ} (ks : List (Kind T)) (κ : Kind T) (ls : List (Kind T)) {old mid new : SeatInfo (Mark T)} → Makes size ks old mid → Makes size (κ ∷ ls) mid new → Makes size (ks ++ κ ∷ ls) old new
