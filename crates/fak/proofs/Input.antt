@@ -14,7 +14,7 @@ use Rattle.fak.specs.declared.command.Command.TheVariants.{Replay, Check, Run}
 use Rattle.fak.specs.declared.fault.MainFault.{MainFault}
 use Rattle.fak.specs.declared.fault.MainFault.TheVariants as faults
 use Rattle.fak_text.specs.Gives.{◌>>=◌}
-use Rattle.fak.specs.Answers.{Reply, FailsBy, IsCheckReply, IsReply, IsRunReply, replay_reply, most_kept}
+use Rattle.fak.specs.Answers.{Reply, FailsBy, FailsToServe, IsCheckReply, IsRead, IsReply, IsRunReply, replay_reply, most_kept}
 
 cut : (m : ℕ) (input chunk kept : List ℕ) → kept ≡ take m input → (b : Bool) → ltb m (length input) ≡ b
     → kept ++ take (min (m - min (length kept) m) (length chunk)) chunk ≡ take m (input ++ chunk)
@@ -42,13 +42,6 @@ consumes_more (Some xs) None new front more a b = absurd a
 consumes_more (Some xs) (Some ys) None front more a b = absurd b
 consumes_more (Some xs) (Some ys) (Some zs) front more a b = a ∙ ap (λ (t : List ℕ). front ++ t) b ∙ sym (append_assoc front more zs)
 
-pub at_end : (old new : Option (List ℕ)) (front kept : List ℕ) (m : ℕ) → Consumes old new front → IsAtEnd new → kept ≡ take m front → IfSome old (λ input. kept ≡ take m input)
-at_end None new front kept m a e k = tt
-at_end (Some xs) None front kept m a e k = absurd a
-at_end (Some xs) (Some ys) front kept m a e k =
-    let all : xs ≡ front = a ∙ ap (λ (t : List ℕ). front ++ t) e ∙ append-nil front in
-    k ∙ ap (λ (t : List ℕ). take m t) (sym all)
-
 pub front_grows_by : (m : ℕ) (input chunk kept : List ℕ) (len room count : ℕ) → len ≡ length kept → room ≡ m - min len m → count ≡ min room (length chunk) → kept ≡ take m input
     → kept ++ take count chunk ≡ take m (input ++ chunk)
 front_grows_by m input chunk kept len room count l r c e =
@@ -56,11 +49,12 @@ front_grows_by m input chunk kept len room count l r c e =
     rw is (front_grows m input chunk kept e)
 
 -- the last read, which gave nothing
-pub at_last : (old mid new : Option (List ℕ)) (front buffer kept : List ℕ) (n m : ℕ) → n ≡ 0 → Consumes old mid front → Consumes mid new (take n buffer) → IsAtEnd new → kept ≡ take m front → IfSome old (λ input. kept ≡ take m input)
-at_last old mid new front buffer kept n m zero before read e k =
-    let nothing : take n buffer ≡ [] = ap (λ (i : ℕ). take i buffer) zero in
+pub at_last : (old mid new : Option (List ℕ)) (front buffer kept : List ℕ) (n m : ℕ) → n ≡ 0 → Consumes old mid front → Consumes mid new (take n buffer) → IsAtEnd new → kept ≡ take m front
+    → (input : List ℕ) × IsRead old new input × (kept ≡ take m input)
+at_last old mid new front buffer kept n m none before read e k =
+    let nothing : take n buffer ≡ [] = ap (λ (i : ℕ). take i buffer) none in
     let all : front ++ take n buffer ≡ front = ap (λ (t : List ℕ). front ++ t) nothing ∙ append-nil front in
-    at_end old new (front ++ take n buffer) kept m (consumes_more old mid new front (take n buffer) before read) e (k ∙ ap (λ (t : List ℕ). take m t) (sym all))
+    (front ++ take n buffer, (consumes_more old mid new front (take n buffer) before read, e), k ∙ ap (λ (t : List ℕ). take m t) (sym all))
 
 -- an input that is too long is so by its front already
 too_long : (input : List ℕ) → 1048576 < length input → input_in (take most_kept input) ≡ input_in input
@@ -84,21 +78,26 @@ of_front Check input reply is = subst (λ value. IsCheckReply (value >>= history
 of_front (Run n) input reply is = subst (λ value. IsRunReply n (value >>= script_from) reply) (front_read input (ltb 1048576 (length input)) refl) is
 of_front Replay input reply is = subst (λ value. reply ≡ replay_reply (value >>= schedule_from)) (front_read input (ltb 1048576 (length input)) refl) is
 
-pub serves : (read : Option (List ℕ)) (command : Command) (kept : List ℕ) (r : Reply) (P : List ℕ → Type 0)
-    → IfSome read (λ input. kept ≡ take most_kept input) → IsReply command kept (Ok r) → P r.1
-    → IfSome read (λ input. (text : List ℕ) × IsReply command input (Ok (r.0, text)) × P text)
-serves None command kept r P k e p = tt
-serves (Some input) command kept r P k e p = (r.1, of_front command input (Ok r) (subst (λ bytes. IsReply command bytes (Ok r)) k e), p)
+-- what was answered to the front of an input is the reply to the whole
+pub serves : (old new : Option (List ℕ)) (command : Command) (kept : List ℕ) (r : Reply) (P : List ℕ → Type 0)
+    → ((input : List ℕ) × IsRead old new input × (kept ≡ take most_kept input)) → IsReply command kept (Ok r) → P r.1
+    → (input text : List ℕ) × IsRead old new input × IsReply command input (Ok (r.0, text)) × P text
+serves old new command kept r P read e p =
+    (read.0, r.1, read.1, of_front command read.0 (Ok r) (subst (λ bytes. IsReply command bytes (Ok r)) read.2 e), p)
 
-fault_of_front : (command : Command) (kept input : List ℕ) (fault : MainFault) → kept ≡ take most_kept input → FailsBy (IsReply command kept) fault → FailsBy (IsReply command input) fault
-fault_of_front command kept input faults.Memory k f = tt
-fault_of_front command kept input faults.Read k f = tt
-fault_of_front command kept input faults.Write k f = tt
-fault_of_front command kept input faults.Usage k f = of_front command input (Err faults.Usage) (subst (λ bytes. IsReply command bytes (Err faults.Usage)) k f)
-fault_of_front command kept input (faults.Kernel e) k f = of_front command input (Err (faults.Kernel e)) (subst (λ bytes. IsReply command bytes (Err (faults.Kernel e))) k f)
-fault_of_front command kept input (faults.Text e) k f = of_front command input (Err (faults.Text e)) (subst (λ bytes. IsReply command bytes (Err (faults.Text e))) k f)
+-- and so is a fault
+fault_of_front : (old new : Option (List ℕ)) (command : Command) (kept : List ℕ) (fault : MainFault)
+    → ((input : List ℕ) × IsRead old new input × (kept ≡ take most_kept input)) → IsReply command kept (Err fault)
+    → (input : List ℕ) × IsRead old new input × IsReply command input (Err fault)
+fault_of_front old new command kept fault read e =
+    (read.0, read.1, of_front command read.0 (Err fault) (subst (λ bytes. IsReply command bytes (Err fault)) read.2 e))
 
-pub fails : (read : Option (List ℕ)) (command : Command) (kept : List ℕ) (fault : MainFault)
-    → IfSome read (λ input. kept ≡ take most_kept input) → FailsBy (IsReply command kept) fault → IfSome read (λ input. FailsBy (IsReply command input) fault)
-fails None command kept fault k f = tt
-fails (Some input) command kept fault k f = fault_of_front command kept input fault k f
+pub fails : (old new : Option (List ℕ)) (command : Command) (kept : List ℕ) (fault : MainFault)
+    → ((input : List ℕ) × IsRead old new input × (kept ≡ take most_kept input)) → FailsBy (IsReply command kept) fault
+    → FailsToServe command (IsRead old new) fault
+fails old new command kept faults.Memory read f = tt
+fails old new command kept faults.Read read f = tt
+fails old new command kept faults.Write read f = tt
+fails old new command kept faults.Usage read f = fault_of_front old new command kept faults.Usage read f
+fails old new command kept (faults.Kernel e) read f = fault_of_front old new command kept (faults.Kernel e) read f
+fails old new command kept (faults.Text e) read f = fault_of_front old new command kept (faults.Text e) read f

@@ -1,9 +1,10 @@
 -- What the program answers to an input.
-use Rattle.std.specs.Prelude.{◌≡◌, ◌≢◌, ◌⊎◌, ℕ, ◌++◌, ◌∷◌, [], codes, decimal, List, Result, Ok, Err}
+use Rattle.std.specs.Prelude.{◌≡◌, ◌<◌, ◌≤◌, ◌⊎◌, ℕ, ◌++◌, ◌∷◌, [], codes, decimal, List, Option, Result, Ok, Err}
+use Rattle.std.specs.Io.KnownBytes.{Consumes, IsAtEnd}
 use Rattle.fak_model.specs.Checker.{FirstFault}
 use Rattle.fak_model.specs.Queue.{IsQueueHistory}
-use Rattle.fak_kernel.specs.ReportText.{ListSchedulerPrints}
-use Rattle.fak_kernel.specs.declared.fault.Fault.TheVariants.{BadProcessors}
+use Rattle.fak_kernel.specs.ReportText.{ListSchedulerPrints, RunPrints}
+use Rattle.fak_kernel.specs.declared.fault.Fault.TheVariants.{BadProcessors, NoThread, Worn}
 use Rattle.fak_text.specs.Script.{ScriptOf}
 use Rattle.fak_text.specs.ScriptText.{script_in}
 use Rattle.fak_text.specs.HistoryText.{HistoryOf, history_in}
@@ -40,11 +41,31 @@ abbrev pub IsCheckReply : Result HistoryOf TextFault → Result Reply MainFault 
 IsCheckReply (Ok history) reply = IsVerdict history reply
 IsCheckReply (Err fault) reply = reply ≡ Err (fault_of fault)
 
--- the reply of `run` to the script that was read: on one processor, the list scheduler's report
+-- the reply of `run` on one processor: the list scheduler's report
+abbrev pub IsListSchedulerReply : ScriptOf → Result Reply MainFault → Type 0
+IsListSchedulerReply script reply = (text : List ℕ) × (status : ℕ) × ListSchedulerPrints script text status × (reply ≡ Ok (status, text))
+
+-- the reply of `run` on 2 to 8 processors: a report that keeps its promises
+abbrev pub IsReplyOfSeveral : ScriptOf → Result Reply MainFault → Type 0
+IsReplyOfSeveral script reply = (text : List ℕ) × (status : ℕ) × RunPrints script text status × (reply ≡ Ok (status, text))
+
+abbrev pub AreSeveral : ℕ → Type 0
+AreSeveral processors = (2 ≤ processors) × (processors ≤ 8)
+
+-- a fault that a run on so many processors may meet, whatever the script: a stint is used up, or the system gave no thread; or
+-- there is no such number
+abbrev pub IsFaultOfRun : ℕ → MainFault → Type 0
+IsFaultOfRun processors fault =
+    ((processors ≡ 1) × (fault ≡ Kernel Worn))
+    ⊎ ((AreSeveral processors × ((fault ≡ Kernel Worn) ⊎ (fault ≡ Kernel NoThread)))
+    ⊎ (((processors ≡ 0) ⊎ (8 < processors)) × (fault ≡ Kernel BadProcessors)))
+
+-- the reply of `run` to the script that was read
 abbrev pub IsRunOf : ℕ → ScriptOf → Result Reply MainFault → Type 0
 IsRunOf processors script reply =
-    ((processors ≡ 1) × (text : List ℕ) × (status : ℕ) × ListSchedulerPrints script text status × (reply ≡ Ok (status, text)))
-    ⊎ ((processors ≢ 1) × (reply ≡ Err (Kernel BadProcessors)))
+    ((processors ≡ 1) × IsListSchedulerReply script reply)
+    ⊎ ((AreSeveral processors × IsReplyOfSeveral script reply)
+    ⊎ ((fault : MainFault) × IsFaultOfRun processors fault × (reply ≡ Err fault)))
 
 -- the reply of `run` to what was read
 abbrev pub IsRunReply : ℕ → Result ScriptOf TextFault → Result Reply MainFault → Type 0
@@ -57,11 +78,11 @@ IsReply Replay input reply = reply ≡ replay_reply (schedule_in input)
 IsReply Check input reply = IsCheckReply (history_in input) reply
 IsReply (Run processors) input reply = IsRunReply processors (script_in input) reply
 
--- the fault is the one that the replies have, unless memory or a device failed
+-- the fault is one of the replies, unless there was no memory
 abbrev pub FailsBy : (Result Reply MainFault → Type 0) → MainFault → Type 0
 FailsBy Replies Memory = Unit {0}
-FailsBy Replies Read = Unit {0}
-FailsBy Replies Write = Unit {0}
+FailsBy Replies Read = Replies (Err Read)
+FailsBy Replies Write = Replies (Err Write)
 FailsBy Replies Usage = Replies (Err Usage)
 FailsBy Replies (Text fault) = Replies (Err (Text fault))
 FailsBy Replies (Kernel fault) = Replies (Err (Kernel fault))
@@ -70,6 +91,19 @@ FailsBy Replies (Kernel fault) = Replies (Err (Kernel fault))
 abbrev pub GivesAnswer : (Result Reply MainFault → Type 0) → Result Answer MainFault → Type 0
 GivesAnswer Replies (Ok answer) = Replies (Ok (reply_of answer))
 GivesAnswer Replies (Err fault) = FailsBy Replies fault
+
+-- a reader gave this input, to its end
+abbrev pub IsRead : Option (List ℕ) → Option (List ℕ) → List ℕ → Type 0
+IsRead old new input = Consumes old new input × IsAtEnd new
+
+-- the fault of serving a command: a device's, or want of memory, or else the command's on the input that was read
+abbrev pub FailsToServe : Command → (List ℕ → Type 0) → MainFault → Type 0
+FailsToServe command Reads Memory = Unit {0}
+FailsToServe command Reads Read = Unit {0}
+FailsToServe command Reads Write = Unit {0}
+FailsToServe command Reads Usage = (input : List ℕ) × Reads input × IsReply command input (Err Usage)
+FailsToServe command Reads (Text fault) = (input : List ℕ) × Reads input × IsReply command input (Err (Text fault))
+FailsToServe command Reads (Kernel fault) = (input : List ℕ) × Reads input × IsReply command input (Err (Kernel fault))
 
 -- how many bytes of an input are kept: one more than an input may have
 abbrev pub most_kept : ℕ

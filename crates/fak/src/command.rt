@@ -1,12 +1,12 @@
 //! The commands, and the words that ask for them.
 
-ghost use Rattle.std.specs.Prelude.{◌≡◌, map, string_bytes, IfErr, IfOk, IfSome};
-ghost use Rattle.clap.specs.Words.{app_of, subcommand_rows_of};
-ghost use Rattle.fak.specs.Commands.{Asks, IsOfWords, Means, command_line};
+ghost use Rattle.std.specs.Prelude.{◌≡◌, map, string_bytes, IfErr, IfOk, IfSome, false};
+ghost use Rattle.clap.specs.Words.{app_of, found_of, rows_of, rule_of, subcommand_rows_of};
+ghost use Rattle.fak.specs.Commands.{AreProcessors, Asks, IsOfWords, Means, command_line, processors_rule};
 
 use crate::fault::MainFault;
-use clap::ArgMatches;
 use clap::error::ErrorKind;
+use clap::{Arg, ArgMatches, value_parser};
 use std::alloc::{AllocError, Global};
 
 /// What the program is asked to do.
@@ -20,6 +20,20 @@ pub enum Command {
     Run(u64),
 }
 
+/// How many processors a script may run on.
+const MOST_PROCESSORS: u64 = 8;
+
+/// The option that says on how many processors a script runs.
+fn processors_option<'a>(alloc: Global) -> Arg<'a>
+    ensures rule { rule_of result ≡ processors_rule }
+    ensures local { result.global ≡ false }
+{
+    Arg::new(alloc, "processors")
+        .long("processors")
+        .value_parser(value_parser!(u64))
+        .default_value("1")
+}
+
 /// The grammar of the command line, which asks for neither help nor version.
 fn grammar<'a>(alloc: Global) -> Result<clap::Command<'a>, AllocError>
     ensures { IfOk result (λ command. app_of command ≡ command_line) }
@@ -31,7 +45,18 @@ fn grammar<'a>(alloc: Global) -> Result<clap::Command<'a>, AllocError>
         .subcommand_required(true)
         .subcommand(clap::Command::new(alloc, "replay"))?
         .subcommand(clap::Command::new(alloc, "check"))?
-        .subcommand(clap::Command::new(alloc, "run"))
+        .subcommand(clap::Command::new(alloc, "run").arg(processors_option(alloc))?)
+}
+
+/// The number of processors that the words of `run` ask for, where it is 1 to 8.
+fn processors_of(matches: &ArgMatches) -> Option<u64>
+    ensures { IfSome result (AreProcessors (rows_of (found_of matches.now))) }
+{
+    let processors = matches.get_one::<u64>("processors")?;
+    if processors < 1 || processors > MOST_PROCESSORS {
+        return None;
+    }
+    Some(processors)
 }
 
 /// The command that the subcommand of a match is.
@@ -41,7 +66,7 @@ fn command_from(matches: &ArgMatches) -> Option<Command>
     match matches.subcommand() {
         Some(("replay", _)) => Some(Command::Replay),
         Some(("check", _)) => Some(Command::Check),
-        Some(("run", _)) => Some(Command::Run(1)),
+        Some(("run", options)) => processors_of(options).map(Command::Run),
         _ => None,
     }
 }

@@ -7,6 +7,7 @@ mod command;
 mod fault;
 mod machine;
 mod process;
+mod program;
 mod replaying;
 mod row;
 mod running;
@@ -17,6 +18,7 @@ pub use answer::Answer;
 pub use checking::check;
 pub use command::{Command, command_of};
 pub use fault::MainFault;
+pub use program::run_words;
 pub use replaying::replay;
 pub use running::run_script;
 pub use serving::serve;
@@ -26,5 +28,5 @@ use std::process::ExitCode;
 mod tests;
 
 fn main(rt: HostRuntime) -> ExitCode {
-    process::run_process(&rt)
+    process::run_process(&rt, &mut rt.stderr())
 }

@@ -1,11 +1,13 @@
-//! The program over the process's own arguments, input and output.
+//! The program over the process's own arguments, input and outputs.
 
-use crate::command::command_of;
 use crate::fault::MainFault;
-use crate::serving::serve;
+use crate::program::{conclude, run_words};
+use std::io::Write;
+use std::marker::Sync;
 use std::process::ExitCode;
 use std::rt::Env;
 use std::sync::Wait;
+use std::thread::Threads;
 use std::{env, io};
 
 /// The words of the command line.
@@ -17,27 +19,21 @@ fn words_of(rt: &(impl AllocGlobal + Env)) -> Result<Vec<String>, MainFault> {
     }
 }
 
-/// Serves the command of the command line on standard input and output.
-fn served<R: Input + Print + AllocGlobal + Env + Wait>(rt: &R) -> Result<u8, MainFault> {
-    let words = words_of(rt)?;
-    let command = command_of(rt.alloc(), words)?;
-    serve(
-        rt,
-        rt.alloc(),
-        command,
-        &mut rt.reader(),
-        &mut io::writer(rt),
-    )
-}
-
-/// Runs the program: the answer on standard output, or the fault's text on standard error.
-pub fn run_process<R: Input + Print + Eprint + AllocGlobal + Env + Wait>(rt: &R) -> ExitCode {
-    match served(rt) {
-        Ok(status) => ExitCode::from(status),
-        Err(fault) => {
-            // There is nowhere left to tell of a failure to print.
-            let _ = rt.eprintln(fault);
-            ExitCode::from(fault.status())
-        }
-    }
+/// Runs the program on standard input and output, with its faults on `errors`.
+pub fn run_process<R: Input + Print + AllocGlobal + Env + Threads + Wait + Sync>(
+    rt: &R,
+    errors: &mut impl Write,
+) -> ExitCode {
+    let status = match words_of(rt) {
+        Ok(words) => run_words(
+            rt,
+            rt.alloc(),
+            words,
+            &mut rt.reader(),
+            &mut io::writer(rt),
+            errors,
+        ),
+        Err(fault) => conclude(Err(fault), errors),
+    };
+    ExitCode::from(status)
 }

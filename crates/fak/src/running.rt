@@ -1,18 +1,46 @@
 //! The command `run`: a script of processes, and the report of its run.
 
-ghost use Rattle.fak.specs.Answers.{GivesAnswer, IsReply};
+ghost use Rattle.std.specs.Prelude.{◌≡◌, ◌⊎◌, IfErr, IfOk};
+ghost use Rattle.fak_kernel.specs.Report.{ListSchedulerReports};
+ghost use Rattle.fak_kernel.specs.RunReports.{RunReports};
+ghost use Rattle.fak_kernel.specs.Views.{report_of};
+ghost use Rattle.fak.specs.Answers.{AreSeveral, GivesAnswer, IsFaultOfRun, IsReply};
 ghost use Rattle.fak.specs.declared.command.Command.TheVariants.{Run};
+ghost use Rattle.fak.specs.declared.fault.MainFault.TheVariants.{Memory};
 
 use crate::answer::Answer;
 use crate::fault::MainFault;
-use fak_kernel::{Fault, report_text, run_one};
-use fak_text::read_script;
+use fak_kernel::{FreeGate, Report, report_text, run, run_one};
+use fak_text::{Script, read_script};
 use std::alloc::Global;
+use std::marker::Sync;
 use std::sync::Wait;
+use std::thread::Threads;
 
-/// Runs the script that the input is: the report of the list scheduler, with status 3 where a process is stuck, else 0.
-/// Refuses the input's first fault, then `BadProcessors` for any number but 1, or `Memory`.
-pub fn run_script<R: Wait>(
+/// The report of a script on so many processors.
+fn report_on<R: Threads + Wait + Sync>(
+    rt: &R,
+    alloc: Global,
+    script: &Script,
+    processors: u64,
+) -> Result<Report, MainFault>
+    ensures one { processors ≡ 1 → IfOk result (λ report. ListSchedulerReports script.now (report_of report)) }
+    ensures any { IfOk result (λ report. RunReports script.now (report_of report)) }
+    ensures in_range { IfOk result (λ _. (processors ≡ 1) ⊎ AreSeveral processors) }
+    ensures fault { IfErr result (λ fault. (fault ≡ Memory) ⊎ IsFaultOfRun processors fault) }
+{
+    match processors {
+        1 => Ok(run_one(rt, alloc, script)?),
+        _ => Ok(run(rt, alloc, script, processors, &FreeGate)?),
+    }
+}
+
+/// Runs the script that the input is: on one processor the report of the list scheduler, on 2 to 8 one that keeps its
+/// promises, with status 3 where a process is stuck, else 0.
+///
+/// Refuses the input's first fault, then `BadProcessors` for any other number of processors; else `Worn` where the script's
+/// stint is used up, `NoThread` where the system gave no thread, or `Memory`.
+pub fn run_script<R: Threads + Wait + Sync>(
     rt: &R,
     alloc: Global,
     input: &[u8],
@@ -21,10 +49,7 @@ pub fn run_script<R: Wait>(
     ensures { GivesAnswer (IsReply (Run processors) input.now) result }
 {
     let script = read_script(alloc, input)?;
-    if processors != 1 {
-        return Err(MainFault::Kernel(Fault::BadProcessors));
-    }
-    let report = run_one(rt, alloc, &script)?;
+    let report = report_on(rt, alloc, &script, processors)?;
     let text = report_text(alloc, &report)?;
     Ok(Answer {
         status: report.exit_status(),

@@ -1,8 +1,8 @@
 //! One command over one input and one output.
 
-ghost use Rattle.std.specs.Prelude.{◌≡◌, ◌≢◌, ◌⊎◌, ◌++◌, ℕ, List, take, IfOk, IfErr, IfSome, OnOk, Ok};
+ghost use Rattle.std.specs.Prelude.{◌≡◌, ◌≢◌, ◌⊎◌, ◌++◌, ℕ, List, take, IfOk, IfErr, OnOk, Ok};
 ghost use Rattle.std.specs.Io.KnownBytes.{Appends, Keeps};
-ghost use Rattle.fak.specs.Answers.{FailsBy, GivesAnswer, IsReply, most_kept};
+ghost use Rattle.fak.specs.Answers.{FailsToServe, GivesAnswer, IsRead, IsReply, most_kept};
 ghost use Rattle.fak.specs.declared.fault.MainFault.TheVariants as faults;
 
 use crate::answer::Answer;
@@ -13,7 +13,9 @@ use crate::replaying::replay;
 use crate::running::run_script;
 use std::alloc::Global;
 use std::io::{Read, Write};
+use std::marker::Sync;
 use std::sync::Wait;
+use std::thread::Threads;
 
 /// How often the input is read at most; one that hasn't ended by then is a read fault.
 const MOST_READS: u32 = 2_097_152;
@@ -35,7 +37,8 @@ fn keep(kept: &mut Vec<u8>, chunk: &[u8]) -> Result<(), MainFault>
 
 /// Reads the input to its end, and keeps its front.
 fn read_input<R: Read>(alloc: Global, reader: &mut R) -> Result<Vec<u8>, MainFault>
-    ensures ok { IfOk result (λ v. IfSome (R.remaining reader.old) (λ input. v.items ≡ take most_kept input)) }
+    ensures ok { IfOk result (λ v. (input : List ℕ) × IsRead (R.remaining reader.old) (R.remaining reader.new) input
+        × (v.items ≡ take most_kept input)) }
     ensures err { IfErr result (λ e. (e ≡ faults.Memory) ⊎ (e ≡ faults.Read)) }
 {
     let mut kept = Vec::new(alloc);
@@ -51,7 +54,7 @@ fn read_input<R: Read>(alloc: Global, reader: &mut R) -> Result<Vec<u8>, MainFau
 }
 
 /// The answer of a command to an input.
-fn answer_of<R: Wait>(
+fn answer_of<R: Threads + Wait + Sync>(
     rt: &R,
     alloc: Global,
     command: Command,
@@ -83,15 +86,15 @@ fn write_text<W: Write>(writer: &mut W, text: &[u8]) -> Result<(), MainFault>
 /// Reads all input, writes the text of the command's answer, and answers its status. On any fault but `Write`
 /// nothing was written.
 pub fn serve<R: Read, W: Write>(
-    rt: &impl Wait,
+    rt: &(impl Threads + Wait + Sync),
     alloc: Global,
     command: Command,
     reader: &mut R,
     writer: &mut W,
 ) -> Result<u8, MainFault>
-    ensures ok { IfOk result (λ status. IfSome (R.remaining reader.old) (λ input. (text : List ℕ)
-        × IsReply command input (Ok (status, text)) × Appends (W.contents writer.old) (W.contents writer.new) text)) }
-    ensures fault { IfErr result (λ e. IfSome (R.remaining reader.old) (λ input. FailsBy (IsReply command input) e)) }
+    ensures ok { IfOk result (λ status. (input text : List ℕ) × IsRead (R.remaining reader.old) (R.remaining reader.new) input
+        × IsReply command input (Ok (status, text)) × Appends (W.contents writer.old) (W.contents writer.new) text) }
+    ensures fault { IfErr result (FailsToServe command (IsRead (R.remaining reader.old) (R.remaining reader.new))) }
     ensures untouched { IfErr result (λ e. e ≢ faults.Write → Keeps (W.contents writer.old) (W.contents writer.new)) }
 {
     let input = read_input(alloc, reader)?;

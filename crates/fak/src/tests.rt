@@ -3,6 +3,8 @@
 mod commands;
 mod devices;
 mod histories;
+mod inputs;
+mod program;
 mod queues;
 mod rooms;
 mod scripts;

@@ -1,16 +1,19 @@
 -- From the steps of a seat of a credit to what its calls promise.
-use Rattle.std.proofs.Common.{◌≡◌, ℕ, ◌+◌, ◌-◌, ◌<◌, ◌^◌, ℤ, pos, ◌-ℤ◌, List, [], ◌∷◌, length, length-append, refl, ap, sym, ◌∙◌, subst, arith}
-use Rattle.std.specs.Prelude.{reverse}
+use Rattle.std.proofs.Common.{◌≡◌, ℕ, ◌+◌, ◌-◌, ◌<◌, ◌^◌, ℤ, pos, ◌-ℤ◌, List, [], ◌∷◌, length, length-append, refl, ap, sym, ◌∙◌, subst, arith, inl}
+use Rattle.std.specs.Prelude.{reverse, map}
+use Rattle.std.specs.List.{flat_map}
 use Rattle.std.proofs.lemmas.Int.{ints}
 use Rattle.atomic_table.specs.Seated.{TableId}
 use Rattle.fak_model.specs.declared.credit.CreditKind.{CreditKind}
 use Rattle.fak_model.specs.declared.credit.CreditMark.{CreditMark}
-use Rattle.fak_model.specs.Credit.{value, credit_rules}
+use Rattle.fak_model.specs.Credit.{kind_of, value, credit_rules}
+use Rattle.fak_model.specs.Histories.{IsAtRest}
 use Rattle.fak_model.specs.Seats.{marks_of}
 use Rattle.fak_model.specs.Views.{sight}
 use Rattle.fak_model.specs.Shown.{Leaves}
 use Rattle.fak_model.specs.Calls.{ObjectId, object_id, SeatInfo, seat_info, Appends, before_appended}
 use Rattle.fak_model.specs.Tokens.{IsSeatToken}
+use Rattle.fak_model.proofs.Resting.{rest_after, rest_none}
 use Rattle.fak_model.proofs.Seats.{begins_self}
 use Rattle.fak_model.proofs.RunningCalls.{token_names, token_left, token_slots, step_appends, token_after, step_before}
 use Rattle.fak_count.specs.declared.credits.key.CreditKey.{CreditKey}
@@ -96,3 +99,11 @@ pub fresh_credit_seat : (object : ObjectId) (name stint : ℕ) (m : CreditMine) 
 fresh_credit_seat object name stint m is =
     let full : stint + 0 ≡ stint = omega arith in
     ap (λ (x : CreditMine). credit_seat object name stint x) is ∙ ap (λ (k : ℕ). seat_info object name k []) full
+
+-- each mark is a whole call
+pub always_at_rest : (h : List CreditMark) → IsAtRest credit_rules h
+always_at_rest h seat = rest_after credit_rules seat (marks_of seat_of seat h) [] h (map kind_of (marks_of seat_of seat h)) refl (sym (each_a_call (map kind_of (marks_of seat_of seat h)))) (rest_none credit_rules seat) seat (inl refl)
+  where
+    each_a_call : (kinds : List CreditKind) → flat_map (λ (k : CreditKind). k ∷ []) kinds ≡ kinds
+    each_a_call [] = refl
+    each_a_call (k ∷ kinds) = ap (λ l. k ∷ l) (each_a_call kinds)

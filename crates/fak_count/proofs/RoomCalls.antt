@@ -1,7 +1,7 @@
 -- From the steps of a seat of a room to what its calls promise.
 use Rattle.std.proofs.Common.{◌≡◌, ℕ, ◌+◌, ◌<◌, ◌≤◌, List, [], ◌∷◌, ◌++◌, length, refl, ap, sym, ◌∙◌, subst, arith}
 use Rattle.std.specs.Prelude.{ℤ, pos, ◌-ℤ◌, reverse, map}
-use Rattle.std.specs.List.{sum_by}
+use Rattle.std.specs.List.{sum_by, flat_map}
 use Rattle.std.proofs.lemmas.Int.{ints}
 use Rattle.std.proofs.lemmas.List.{append-nil, map-append}
 use Rattle.std.proofs.lemmas.List.Sums.{sum_by-append, sum_by-cons}
@@ -9,11 +9,13 @@ use Rattle.atomic_table.specs.Seated.{TableId}
 use Rattle.fak_model.specs.declared.room.RoomKind.{RoomKind}
 use Rattle.fak_model.specs.declared.room.RoomKind.TheVariants.{Up, Over, Back, No, Release}
 use Rattle.fak_model.specs.declared.room.RoomMark.{RoomMark}
-use Rattle.fak_model.specs.Room.{seat_of, kind_of, up_amount, release_amount, value, amount_held, room_rules}
+use Rattle.fak_model.specs.Room.{WholeCall, kinds_of_call, seat_of, kind_of, up_amount, release_amount, value, amount_held, room_rules}
 use Rattle.fak_model.specs.Seats.{marks_of}
 use Rattle.fak_model.specs.Views.{sight}
-use Rattle.fak_model.specs.Calls.{ObjectId, object_id, SeatInfo, seat_info, Appends, before_mark, before_appended}
+use Rattle.fak_model.specs.Calls.{ObjectId, object_id, SeatInfo, seat_info, TallyInfo, IsJoined, Appends, before_mark, before_appended}
 use Rattle.fak_model.specs.Tokens.{IsSeatToken}
+use Rattle.fak_model.proofs.Appending.{history_none}
+use Rattle.fak_model.proofs.Resting.{rest_after, rest_joined, rest_none}
 use Rattle.fak_model.proofs.RoomLaw.{releases_le}
 use Rattle.fak_model.proofs.Seats.{begins_self, seen_lawful}
 use Rattle.fak_model.proofs.RunningCalls.{token_names, mine_after, begins_after, step_appends, token_after, step_before, appends_then, appends_none}
@@ -22,7 +24,7 @@ use Rattle.fak_core.specs.declared.room.phase.RoomPhase.TheVariants.{Idle, Addin
 use Rattle.fak_count.specs.declared.rooms.key.RoomKey.{RoomKey}
 use Rattle.fak_count.specs.Words.{bias}
 use Rattle.fak_count.specs.RoomShown.{RoomMine, room_mark, LeavesRoom, Holds, Tested, Added, Lowered}
-use Rattle.fak_count.specs.Rooms.{RoomInfo, room_info, up_weight, grants_of, granted_claims, held_amount, room_seat, MakesCall, Withdraws}
+use Rattle.fak_count.specs.Rooms.{RoomInfo, room_info, up_weight, grants_of, granted_claims, held_amount, room_seat, MakesCall, Withdraws, IsSettled}
 
 -- ---- what a call makes of the claims granted and of what is held
 
@@ -42,6 +44,33 @@ module _ (bound : ℕ) (marks : List RoomMark) (object : ObjectId) (name stint :
       let after = releases_le bound name g call.lawful in
       let before = releases_le bound name f (seen_lawful (room_rules bound) f g call.begins call.lawful) in
       omega (arith, ups, downs, after, before)
+
+-- ---- what seats and tallies know of the history
+
+-- nothing was seen
+pub settled_none : (bound name : ℕ) (seen : List RoomMark) → seen ≡ [] → IsSettled (name ∷ []) seen
+settled_none bound name seen is = subst (λ (h : List RoomMark). IsSettled (name ∷ []) h) (sym is) record {
+  bound = bound;
+  lawful = history_none (room_rules bound);
+  rest = rest_none (room_rules bound) name;
+}
+
+-- a call was made
+settled_more : (bound : ℕ) (marks : List RoomMark) (object : ObjectId) (name stint : ℕ) (f g : List RoomMark) (calls : List WholeCall) → Appends (room_rules bound) marks (seat_info object name stint f) (seat_info object name stint g)
+    → map kind_of marks ≡ flat_map kinds_of_call calls → IsSettled (name ∷ []) f → IsSettled (name ∷ []) g
+settled_more bound marks object name stint f g calls call are old = record {
+  bound = bound;
+  lawful = call.lawful;
+  rest = rest_after (room_rules bound) name marks f g calls call.mine are old.rest;
+}
+
+-- a seat was joined
+pub settled_joined : (bound : ℕ) {t both : TallyInfo RoomMark} {s : SeatInfo RoomMark} → IsJoined (room_rules bound) t s both → IsSettled t.names t.seen → IsSettled (s.name ∷ []) s.seen → IsSettled both.names both.seen
+settled_joined bound j old new = record {
+  bound = bound;
+  lawful = j.lawful;
+  rest = rest_joined (room_rules bound) j old.rest new.rest;
+}
 
 -- ---- steps of one call
 
@@ -138,13 +167,14 @@ module _ {key : RoomKey} {name d : ℕ} {m : RoomMine} (f : IsSeatToken seat_of 
 pub record AtRoom (key : RoomKey) (left seats name held : ℕ) (table mine : TableId) (m : RoomMine) (old : SeatInfo RoomMark) (room : RoomInfo) : Type 0 where
   pub token : IsSeatToken seat_of seats name Idle 0 m
   pub holds : held ≡ amount_held name (reverse m.0.seen)
+  pub settled : IsSettled (name ∷ []) (reverse m.0.seen)
   pub seat_is : room_seat (object_id mine seats) name left m ≡ old
   pub room_is : room_info (object_id table key.seats) key.bound ≡ room
   pub fits : old.object ≡ room.object
 
-pub at_room : (key : RoomKey) (left : ℕ) {seats name held : ℕ} {table mine : TableId} {m : RoomMine} {old : SeatInfo RoomMark} {room : RoomInfo} → IsSeatToken seat_of seats name Idle 0 m × (held ≡ amount_held name (reverse m.0.seen))
+pub at_room : (key : RoomKey) (left : ℕ) {seats name held : ℕ} {table mine : TableId} {m : RoomMine} {old : SeatInfo RoomMark} {room : RoomInfo} → IsSeatToken seat_of seats name Idle 0 m × (held ≡ amount_held name (reverse m.0.seen)) × IsSettled (name ∷ []) (reverse m.0.seen)
     → room_seat (object_id mine seats) name left m ≡ old → room_info (object_id table key.seats) key.bound ≡ room → old.object ≡ room.object → AtRoom key left seats name held table mine m old room
-at_room key left f seat_is room_is fits = record { token = f.0; holds = f.1; seat_is = seat_is; room_is = room_is; fits = fits }
+at_room key left f seat_is room_is fits = record { token = f.0; holds = f.1; settled = f.2; seat_is = seat_is; room_is = room_is; fits = fits }
 
 module _ {key : RoomKey} {left seats name held : ℕ} {table mine : TableId} {m : RoomMine} {old : SeatInfo RoomMark} {room : RoomInfo} (at : AtRoom key left seats name held table mine m old room) where
   same_object : object_id mine seats ≡ object_id table key.seats
@@ -178,13 +208,16 @@ module _ {key : RoomKey} {left seats name held : ℕ} {table mine : TableId} {m 
     appended : Appends (room_rules key.bound) marks (seat_info (object_id mine seats) name (left + grants_of name (reverse m.0.seen)) (reverse m.0.seen)) (seat_info (object_id mine seats) name (left + grants_of name (reverse m.0.seen)) (reverse after.0.seen))
     appended = d.appends (object_id mine seats) (left + grants_of name (reverse m.0.seen)) same_seats
 
-    -- the seat as it is after the call, where so much is held and so many claims are left
-    pub seat_after : (held' : ℕ) → held' + sum_by release_amount (map kind_of marks) ≡ held + sum_by up_amount (map kind_of marks)
-        → IsSeatToken seat_of seats name Idle 0 after × (held' ≡ amount_held name (reverse after.0.seen))
-    seat_after held' is =
+    -- the seat as it is after these whole calls, where so much is held
+    pub seat_after : (calls : List WholeCall) → map kind_of marks ≡ flat_map kinds_of_call calls → (held' : ℕ) → held' + sum_by release_amount (map kind_of marks) ≡ held + sum_by up_amount (map kind_of marks)
+        → IsSeatToken seat_of seats name Idle 0 after × (held' ≡ amount_held name (reverse after.0.seen)) × IsSettled (name ∷ []) (reverse after.0.seen)
+    seat_after calls are held' is =
         let e = held_appended key.bound marks (object_id mine seats) name (left + grants_of name (reverse m.0.seen)) (reverse m.0.seen) (reverse after.0.seen) appended in
-        let was = at.holds in
-        (subst (λ (k : ℕ). IsSeatToken seat_of k name Idle 0 after) (sym same_seats) d.token, omega (arith, e, was, is))
+        let was = at.holds in (
+          subst (λ (k : ℕ). IsSeatToken seat_of k name Idle 0 after) (sym same_seats) d.token,
+          omega (arith, e, was, is),
+          settled_more key.bound marks (object_id mine seats) name (left + grants_of name (reverse m.0.seen)) (reverse m.0.seen) (reverse after.0.seen) calls appended are at.settled,
+        )
 
     pub held_after : (now : TableId) (left' : ℕ) → held_amount (room_seat (object_id now seats) name left' after) + sum_by release_amount (map kind_of marks) ≡ held_amount old + sum_by up_amount (map kind_of marks)
     held_after now left' =

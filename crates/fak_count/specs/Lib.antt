@@ -1,4 +1,5 @@
 pub mod Opening
+pub mod Seats
 pub mod Words
 pub mod CreditShown
 pub mod Credits

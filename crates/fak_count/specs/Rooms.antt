@@ -5,7 +5,8 @@ use Rattle.fak_model.specs.declared.room.RoomKind.{RoomKind}
 use Rattle.fak_model.specs.declared.room.RoomKind.TheVariants.{Up, Over, Back, No}
 use Rattle.fak_model.specs.declared.room.RoomMark.{RoomMark}
 use Rattle.fak_model.specs.Histories.{words_by}
-use Rattle.fak_model.specs.Room.{seat_of, kind_of, room_rules, value, amount_held}
+use Rattle.fak_model.specs.Room.{seat_of, kind_of, room_rules, IsRoomHistory, value, amount_held}
+use Rattle.fak_model.specs.Resting.{AreBetweenCalls}
 use Rattle.fak_model.specs.Calls.{ObjectId, SeatInfo, seat_info, Appends, before_appended}
 use Rattle.fak_count.specs.declared.fault.TirFault.{TirFault}
 use Rattle.fak_count.specs.declared.fault.TirFault.TheVariants.{Worn, AtBound}
@@ -56,3 +57,9 @@ IsGranted d room old new answer = (granted_claims old < old.stint) × MakesCall 
 abbrev pub IsRefused : ℕ → RoomInfo → SeatInfo RoomMark → SeatInfo RoomMark → TirFault → Type 0
 IsRefused d room old new Worn = (granted_claims old ≡ old.stint) × (new ≡ old)
 IsRefused d room old new (AtBound v) = (granted_claims old < old.stint) × (MakesCall (No d) room old new v ⊎ Withdraws d room old new v)
+
+-- what was seen of a room is lawful by its bound, and these names stand between two calls
+pub record IsSettled (names : List ℕ) (seen : List RoomMark) : Type 0 where
+  pub bound : ℕ
+  pub lawful : IsRoomHistory bound seen
+  pub rest : AreBetweenCalls (room_rules bound) names seen

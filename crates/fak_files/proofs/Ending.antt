@@ -90,3 +90,16 @@ closed_entries table s id m r at whole words is count same row each =
     entries_taken (reverse m.0.seen) row 0 count (λ i low.
     let plus : i ≡ 0 + i = omega arith in
     each i low ∙ ap Some (ends table s id m r at whole words is i (omega (arith, low, same)) ∙ ap (entry_of (reverse m.0.seen)) plus))
+
+-- the entries of a closed table, by number
+entry_after : (h : List FileMark) (first n i j : ℕ) → i < n → j ≡ first + i → slice_get (entries_after h first n) i ≡ Some (entry_of h j)
+entry_after h first zero i j low at = absurd (omega (arith, low))
+entry_after h first (suc n) zero j low at = let same : first ≡ j = omega arith in ap (λ (k : ℕ). Some (entry_of h k)) same
+entry_after h first (suc n) (suc i) j low at = entry_after h (suc first) n i j (omega (arith, low)) (omega arith)
+
+pub entries_after-get : (h : List FileMark) (n i : ℕ) → i < n → slice_get (entries_after h 0 n) i ≡ Some (entry_of h i)
+entries_after-get h n i low = entry_after h 0 n i i low (omega arith)
+
+pub entries_after-length : (h : List FileMark) (first n : ℕ) → length (entries_after h first n) ≡ n
+entries_after-length h first zero = refl
+entries_after-length h first (suc n) = omega (arith, entries_after-length h (suc first) n)

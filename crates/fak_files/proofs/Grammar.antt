@@ -8,8 +8,9 @@ use Rattle.fak_model.specs.declared.file.FileKind.{FileKind}
 use Rattle.fak_model.specs.declared.file.FileKind.TheVariants.{Take, Over, Back, No, Set, Give}
 use Rattle.fak_model.specs.declared.file.FileMark.{FileMark}
 use Rattle.fak_model.specs.Histories.{Owes, words_by}
-use Rattle.fak_model.specs.File.{Setting, set_mark, Refused, Withdrawn, Held, kinds_of_call, seat_of, kind_of, hold_after, hold_from, amount_held, IsAmount, IsFair, file_rules, IsFileHistory}
-use Rattle.fak_model.proofs.Appending.{seat_words-own, seat_words-other, history_push, history_begun, history_owed}
+use Rattle.fak_model.specs.File.{WholeCall, Setting, set_mark, Refused, Withdrawn, Held, kinds_of_call, seat_of, kind_of, hold_after, hold_from, amount_held, IsAmount, IsFair, file_rules, IsFileHistory}
+use Rattle.fak_model.proofs.Resting.{owes_more}
+use Rattle.fak_model.proofs.Appending.{owed_comes, seat_words-own, seat_words-other, history_push, history_begun, history_owed}
 use Rattle.fak_files.specs.declared.phase.Access.{Access}
 use Rattle.fak_files.specs.declared.phase.Access.TheVariants.{Read, Write}
 use Rattle.fak_files.specs.declared.phase.FilePhase.{FilePhase}
@@ -50,6 +51,38 @@ hold_from-sets n (s ∷ sets) = hold_from-sets n sets
 -- in a hold the seat holds what it took
 pub hold_amount : (n : ℕ) (kinds : List FileKind) (sets : List Setting) → AreInHold n kinds sets → hold_from 0 kinds ≡ n
 hold_amount n kinds sets hold = ap (hold_from 0) hold.1 ∙ (hold_from-append 0 (flat_map kinds_of_call hold.0) (Take n ∷ map set_mark sets) ∙ hold_from-sets n sets)
+
+-- whole calls hold nothing
+hold_from-calls : (calls : List WholeCall) → hold_from 0 (flat_map kinds_of_call calls) ≡ 0
+hold_from-calls [] = refl
+hold_from-calls (Refused n ∷ calls) = hold_from-calls calls
+hold_from-calls (Withdrawn n ∷ calls) = hold_from-calls calls
+hold_from-calls (Held n sets ∷ calls) =
+    hold_from-append 0 (kinds_of_call (Held n sets)) (flat_map kinds_of_call calls)
+    ∙ (ap (λ (a : ℕ). hold_from a (flat_map kinds_of_call calls)) (hold_from-append n (map set_mark sets) (Give ∷ [])) ∙ hold_from-calls calls)
+
+pub rest_amount : (kinds : List FileKind) → Owes kinds_of_call kinds [] → hold_from 0 kinds ≡ 0
+rest_amount kinds o = ap (hold_from 0) (sym (append-nil kinds) ∙ o.1) ∙ hold_from-calls o.0
+
+-- ---- where a seat stands after the kinds of a call
+
+module _ (k : ℕ) (kinds : List FileKind) where
+  pub stands_refused : (n : ℕ) → Owes kinds_of_call kinds [] → Owes kinds_of_call (kinds ++ No n ∷ []) []
+  stands_refused n o = owes_more kinds_of_call kinds (Refused n ∷ []) o
+
+  pub stands_withdrawn : (n : ℕ) → Owes kinds_of_call kinds [] → Owes kinds_of_call (kinds ++ Over n ∷ Back n ∷ []) []
+  stands_withdrawn n o = owes_more kinds_of_call kinds (Withdrawn n ∷ []) o
+
+  pub stands_taken : (access : Access) → StandsIn k kinds Idle → StandsIn k (kinds ++ Take (amount_of k access) ∷ []) (Holding access)
+  stands_taken Read o = hold_begun 1 kinds o
+  stands_taken Write o = ([], hold_begun k kinds o)
+
+  pub stands_set : (i : ℕ) (f : _) (v : ℕ) → StandsIn k kinds (Holding Write) → StandsIn k (kinds ++ Set i f v ∷ []) (Holding Write)
+  stands_set i f v stands = let s : Setting = record { entry = i; field = f; to = v } in (stands.0 ++ s ∷ [], hold_more k kinds stands.0 s stands.1)
+
+  pub stands_given : (access : Access) → StandsIn k kinds (Holding access) → StandsIn k (kinds ++ Give ∷ []) Idle
+  stands_given Read hold = owed_comes kinds_of_call kinds Give [] (held_owes 1 kinds [] hold)
+  stands_given Write hold = owed_comes kinds_of_call kinds Give [] (held_owes k kinds hold.0 hold.1)
 
 -- ---- a mark of each kind
 

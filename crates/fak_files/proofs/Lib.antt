@@ -9,3 +9,4 @@ pub mod Opening
 pub mod Ending
 pub mod Waiting
 pub mod HoldLaws
+pub mod Settling

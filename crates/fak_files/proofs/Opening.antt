@@ -6,7 +6,8 @@ use Rattle.std.proofs.lemmas.List.{get_or-take, get_or-set_other, get_or-replica
 use Rattle.atomic_table.specs.Table.{opening}
 use Rattle.fak_model.specs.declared.file.FileField.{FileField}
 use Rattle.fak_model.specs.declared.file.FileMark.{FileMark}
-use Rattle.fak_model.specs.File.{seat_of, file_rules, IsFileHistory}
+use Rattle.fak_model.specs.Histories.{words_by}
+use Rattle.fak_model.specs.File.{seat_of, kind_of, file_rules, IsFileHistory}
 use Rattle.fak_model.specs.Views.{sight}
 use Rattle.fak_model.specs.Calls.{ObjectId, SeatInfo, seat_info, fresh_seats}
 use Rattle.fak_model.proofs.Appending.{history_none}
@@ -14,6 +15,7 @@ use Rattle.fak_model.proofs.RunningSeats.{starts}
 use Rattle.fak_model.proofs.RunningJoins.{fresh_token, fresh_next}
 use Rattle.fak_files.specs.declared.phase.FilePhase.TheVariants.{Idle}
 use Rattle.fak_files.specs.declared.phase.Hold.TheVariants.{Nothing}
+use Rattle.fak_files.specs.Phases.{StandsIn}
 use Rattle.fak_files.specs.Running.{bias, word_of, limits, ShowsHistory, file_object, IsRunning, first_view, Mine}
 use Rattle.fak_files.specs.Calls.{FileSeatInfo, file_seat, idle_seats}
 use Rattle.fak_files.specs.SeatTokens.{seat_now, IsFileSeat}
@@ -49,6 +51,7 @@ pub fresh_file_seat : (seats name stint : ℕ) (m : Mine) → m ≡ (sight (name
 fresh_file_seat seats name stint m is low few = record {
   token = fresh_token seat_of seats Idle 0 name m is low few;
   lawful = subst (λ (x : Mine). IsFileHistory seats (reverse x.0.seen)) (sym is) (history_none (file_rules seats));
+  stands = subst (λ (x : Mine). StandsIn seats (words_by seat_of kind_of name (reverse x.0.seen)) Idle) (sym is) ([], refl);
 }
 
 pub fresh_seat_is : (object : ObjectId) (name stint : ℕ) (m : Mine) → m ≡ (sight (name ∷ []) [] Idle 0, []) → seat_now object name stint Nothing m ≡ file_seat (seat_info object name stint []) Nothing

@@ -2,7 +2,7 @@
 use Rattle.std.proofs.Common.{◌≡◌, ◌≢◌, ℕ, ◌+◌, ◌-◌, ◌<◌, ◌≤◌, List, [], ◌∷◌, ◌++◌, refl, ap, sym, ◌∙◌, subst, arith, inl, inr}
 use Rattle.std.specs.Prelude.{reverse, map, ℤ, slice_index}
 use Rattle.std.specs.List.{sum_by, flat_map}
-use Rattle.std.proofs.lemmas.List.{append-nil, reverse-reverse}
+use Rattle.std.proofs.lemmas.List.{append-nil, map-append, reverse-reverse}
 use Rattle.std.proofs.lemmas.List.Sums.{sum_by-cons, sum_by-append}
 use Rattle.fak_model.specs.declared.file.FileKind.{FileKind}
 use Rattle.fak_model.specs.declared.file.FileKind.TheVariants.{Take, Over, Back, No, Set, Give}
@@ -10,7 +10,8 @@ use Rattle.fak_model.specs.declared.file.FileField.{FileField}
 use Rattle.fak_model.specs.declared.file.FileField.TheVariants.{Inode, Uses}
 use Rattle.fak_model.specs.declared.file.FileEntry.{FileEntry}
 use Rattle.fak_model.specs.declared.file.FileMark.{FileMark}
-use Rattle.fak_model.specs.File.{seat_of, kinds_of_call, field, file_rules}
+use Rattle.fak_model.specs.Histories.{words_by, Owes}
+use Rattle.fak_model.specs.File.{seat_of, kind_of, kinds_of_call, field, file_rules}
 use Rattle.fak_model.specs.Seats.{In, marks_of}
 use Rattle.fak_model.specs.Calls.{ObjectId, seat_info, Appends}
 use Rattle.fak_model.specs.Tokens.{IsSeatToken}
@@ -21,14 +22,14 @@ use Rattle.fak_files.specs.declared.phase.FilePhase.{FilePhase}
 use Rattle.fak_files.specs.declared.phase.FilePhase.TheVariants.{Idle, Holding}
 use Rattle.fak_files.specs.declared.phase.Hold.{Hold}
 use Rattle.fak_files.specs.declared.phase.Hold.TheVariants.{Nothing, Reading, Writing}
-use Rattle.fak_files.specs.Phases.{amount_of, phase_of, hold_for}
+use Rattle.fak_files.specs.Phases.{amount_of, phase_of, hold_for, StandsIn}
 use Rattle.fak_files.specs.declared.rule.FileLimits.{FileLimits}
 use Rattle.fak_files.specs.Running.{limits, Mine, mark, Steps, Got}
 use Rattle.fak_files.specs.Versions.{entry_of, back_from_take, own_since_take, prefix_through_take, marks_since_take}
-use Rattle.fak_files.specs.Calls.{FileSeatInfo, one_hold, holds_of, LeavesMarks, IsGranted, IsBusy, IsGot, IsSet, IsEnded}
+use Rattle.fak_files.specs.Calls.{FileSeatInfo, one_hold, holds_of, LeavesMarks, IsGranted, IsBusy, IsGot, IsSet, IsEnded, IsHoldOf}
 use Rattle.fak_files.specs.SeatTokens.{seat_now, IsFileSeat, Makes, Misses}
 use Rattle.fak_files.proofs.Making.{some_object, makes_none, makes_one, none_then}
-use Rattle.fak_files.proofs.Grammar.{holds_amount}
+use Rattle.fak_files.proofs.Grammar.{holds_amount, hold_amount, rest_amount, stands_refused, stands_withdrawn, stands_taken, stands_set, stands_given}
 use Rattle.fak_files.proofs.HoldReads.{version, reads, version-sees, own_since-take}
 
 -- the phase of a hold
@@ -42,11 +43,24 @@ holds_after : {seats name : ℕ} {kinds : List FileKind} {phase : FilePhase} {m 
 holds_after {seats} {name} {kinds} {m = m} x =
     ap (sum_by one_hold) ((x.appends (some_object seats) 0 refl).mine) ∙ sum_by-append one_hold (marks_of seat_of name (reverse m.0.seen)) (map (mark name) kinds)
 
+-- the kinds of its marks
+kind_of-mark : (name : ℕ) (kinds : List FileKind) → map kind_of (map (mark name) kinds) ≡ kinds
+kind_of-mark name [] = refl
+kind_of-mark name (k ∷ kinds) = ap (λ l. k ∷ l) (kind_of-mark name kinds)
+
+kinds_after : {seats name : ℕ} {kinds : List FileKind} {phase : FilePhase} {m after : Mine} → Makes seats name kinds phase m after
+    → words_by seat_of kind_of name (reverse after.0.seen) ≡ words_by seat_of kind_of name (reverse m.0.seen) ++ kinds
+kinds_after {seats} {name} {kinds} {m = m} x =
+    ap (map kind_of) ((x.appends (some_object seats) 0 refl).mine)
+    ∙ (map-append kind_of (marks_of seat_of name (reverse m.0.seen)) (map (mark name) kinds) ∙ ap (λ l. words_by seat_of kind_of name (reverse m.0.seen) ++ l) (kind_of-mark name kinds))
+
 -- a seat's fields after steps
-pub file_seat_after : {name seats : ℕ} {hold : Hold} {kinds : List FileKind} {phase : FilePhase} {m after : Mine} (next : Hold) → IsFileSeat name seats hold m → Makes seats name kinds phase m after → phase ≡ phase_of next → IsFileSeat name seats next after
-file_seat_after {name} {seats} {after = after} next f x is = record {
+pub file_seat_after : {name seats : ℕ} {hold : Hold} {kinds : List FileKind} {phase : FilePhase} {m after : Mine} (next : Hold) → IsFileSeat name seats hold m → Makes seats name kinds phase m after → phase ≡ phase_of next
+    → StandsIn seats (words_by seat_of kind_of name (reverse m.0.seen) ++ kinds) phase → IsFileSeat name seats next after
+file_seat_after {name} {seats} {after = after} next f x is stands = record {
   token = subst (λ (p : FilePhase). IsSeatToken seat_of seats name p 0 after) is x.token;
   lawful = (x.appends (some_object seats) 0 refl).lawful;
+  stands = subst (λ (y : List FileKind × FilePhase). StandsIn seats y.0 y.1) (λ i. (sym (kinds_after x) i, is i)) stands;
 }
 
 module _ (object object' : ObjectId) (same : object' ≡ object) (name left : ℕ) (hold : Hold) (m after : Mine) where
@@ -81,7 +95,20 @@ module _ (object object' : ObjectId) (same : object' ≡ object) (name left : �
 
 -- a seat's fields after a claim that was refused
 pub file_seat_missed : {name seats n : ℕ} {hold : Hold} {m after : Mine} {answer : ℤ} → IsFileSeat name seats hold m → Misses seats name n m after answer → Idle ≡ phase_of hold → IsFileSeat name seats hold after
-file_seat_missed {hold = hold} f x is = elim x.makes [ inl y ↦ file_seat_after hold f y is | inr y ↦ file_seat_after hold f y is ]
+file_seat_missed {name} {seats} {n} {hold} {m} f x is =
+    let kinds : List FileKind = words_by seat_of kind_of name (reverse m.0.seen) in
+    let rest : Owes kinds_of_call kinds [] = subst (StandsIn seats kinds) (sym is) f.stands in
+    elim x.makes [
+      | inl y ↦ file_seat_after hold f y is (stands_refused seats kinds n rest)
+      | inr y ↦ file_seat_after hold f y is (stands_withdrawn seats kinds n rest)
+    ]
+
+-- and after a hold was granted
+pub file_seat_granted : {name seats : ℕ} {hold : Hold} {m after : Mine} (access : Access) (next : Hold) → IsFileSeat name seats hold m → Makes seats name (Take (amount_of seats access) ∷ []) (Holding access) m after → hold ≡ Nothing
+    → Holding access ≡ phase_of next → IsFileSeat name seats next after
+file_seat_granted {name} {seats} {m = m} access next f x free is =
+    let kinds : List FileKind = words_by seat_of kind_of name (reverse m.0.seen) in
+    file_seat_after next f x is (stands_taken seats kinds access (subst (λ (h : Hold). StandsIn seats kinds (phase_of h)) free f.stands))
 
 -- ---- steps whose name and number of seats are read off the table and the token
 
@@ -157,6 +184,29 @@ version_reads table name Write hold is i f found m after step reading = absurd (
     parted e = cc
 
 module _ (object object' : ObjectId) (same : object' ≡ object) (name left : ℕ) (hold : Hold) (m : Mine) (f : IsFileSeat name object.seats hold m) (table : FileLimits) (is : table.seats ≡ object.seats) (old : FileSeatInfo) (old_is : seat_now object name left hold m ≡ old) where
+  -- the seat's fields after each call
+  pub seat_set : hold ≡ Writing → (i : ℕ) (g : FileField) (v : ℕ) {tells : List FileMark → Type 0} (after : Mine) → Steps table (slice_index m.0.names 0) m (mark (slice_index m.0.names 0) (Set i g v) ∷ []) (Holding Write) tells after
+      → IsFileSeat name object.seats hold after
+  seat_set writing i g v after step =
+      let x = one_made f.token table is (Set i g v) (Holding Write) step in
+      let stood : StandsIn object.seats (words_by seat_of kind_of name (reverse m.0.seen)) (Holding Write) = subst (λ (h : Hold). StandsIn object.seats (words_by seat_of kind_of name (reverse m.0.seen)) (phase_of h)) writing f.stands in
+      file_seat_after hold f x (ap phase_of (sym writing)) (stands_set object.seats (words_by seat_of kind_of name (reverse m.0.seen)) i g v stood)
+
+  stood_in : (access : Access) → hold_for access ≡ hold → StandsIn object.seats (words_by seat_of kind_of name (reverse m.0.seen)) (Holding access)
+  stood_in access for = subst (StandsIn object.seats (words_by seat_of kind_of name (reverse m.0.seen))) (ap phase_of (sym for) ∙ phase_of-hold_for access) f.stands
+
+  pub seat_ended : (access : Access) → hold_for access ≡ hold → {tells : List FileMark → Type 0} (after : Mine) → Steps table (slice_index m.0.names 0) m (mark (slice_index m.0.names 0) Give ∷ []) Idle tells after → IsFileSeat name object.seats Nothing after
+  seat_ended access for after step =
+      file_seat_after Nothing f (one_made f.token table is Give Idle step) refl (stands_given object.seats (words_by seat_of kind_of name (reverse m.0.seen)) access (stood_in access for))
+
+  pub seat_got : (access : Access) → hold_for access ≡ hold → (i inode uses : ℕ) (mid after : Mine) → Got table (slice_index m.0.names 0) access i Inode m inode mid → Got table (slice_index mid.0.names 0) access i Uses mid uses after
+      → IsFileSeat name object.seats hold after
+  seat_got access for i inode uses mid after one two =
+      let x = none_made f.token table is one in
+      let y = none_made x.token table is two in
+      let same : words_by seat_of kind_of name (reverse m.0.seen) ≡ words_by seat_of kind_of name (reverse m.0.seen) ++ [] = sym (append-nil (words_by seat_of kind_of name (reverse m.0.seen))) in
+      file_seat_after hold f (none_then (limits 0 object.seats) name [] x y) (sym (phase_of-hold_for access) ∙ ap phase_of for) (subst (λ (ws : List FileKind). StandsIn object.seats ws (Holding access)) same (stood_in access for))
+
   pub set_of : (i : ℕ) (g : FileField) (v : ℕ) {tells : List FileMark → Type 0} (after : Mine) → Steps table (slice_index m.0.names 0) m (mark (slice_index m.0.names 0) (Set i g v) ∷ []) (Holding Write) tells after → IsSet i g v old (seat_now object' name left hold after)
   set_of i g v after step = subst (λ (y : FileSeatInfo). IsSet i g v y (seat_now object' name left hold after)) old_is record {
     leaves = leaves_of object object' same name left hold m after (Set i g v ∷ []) (Holding Write) (one_made f.token table is (Set i g v) (Holding Write) step) left (omega (arith, sum_by-cons one_hold (mark name (Set i g v)) [])) hold;
@@ -188,3 +238,10 @@ module _ (object object' : ObjectId) (same : object' ≡ object) (name left : �
         reading = λ reading. is ∙ ap (λ (p : List FileMark). entry_of p i) (version_reads table name access hold for i Uses uses mid after second reading);
         holding = is ∙ ap (λ (p : List FileMark). entry_of p i) (version_is name after.0.seen);
       }
+
+-- ---- what a seat holds, by its marks
+
+pub hold_marked : (name seats : ℕ) (hold : Hold) (m : Mine) (object : ObjectId) (stint : ℕ) → object.seats ≡ seats → IsFileSeat name seats hold m → IsHoldOf (seat_info object name stint (reverse m.0.seen)) hold
+hold_marked name seats Nothing m object stint same f = (rest_amount (words_by seat_of kind_of name (reverse m.0.seen)) f.stands, f.stands)
+hold_marked name seats Reading m object stint same f = hold_amount 1 (words_by seat_of kind_of name (reverse m.0.seen)) [] f.stands
+hold_marked name seats Writing m object stint same f = hold_amount seats (words_by seat_of kind_of name (reverse m.0.seen)) f.stands.0 f.stands.1 ∙ sym same

@@ -7,12 +7,13 @@ use Rattle.fak_model.specs.declared.file.FileField.{FileField}
 use Rattle.fak_model.specs.declared.file.FileKind.{FileKind}
 use Rattle.fak_model.specs.declared.file.FileKind.TheVariants.{Take, Over, Back, No, Set, Give}
 use Rattle.fak_model.specs.declared.file.FileMark.{FileMark}
-use Rattle.fak_model.specs.File.{WholeCall, Refused, Withdrawn, kinds_of_call, seat_of, count, file_rules}
+use Rattle.fak_model.specs.Histories.{words_by, Owes}
+use Rattle.fak_model.specs.File.{WholeCall, Refused, Withdrawn, kinds_of_call, seat_of, kind_of, amount_held, count, file_rules}
 use Rattle.fak_model.specs.Calls.{ObjectId, SeatInfo, Appends, before_appended}
 use Rattle.fak_model.specs.Seats.{marks_of}
 use Rattle.fak_files.specs.declared.phase.Access.{Access}
 use Rattle.fak_files.specs.declared.phase.Hold.{Hold}
-use Rattle.fak_files.specs.declared.phase.Hold.TheVariants.{Nothing, Reading}
+use Rattle.fak_files.specs.declared.phase.Hold.TheVariants.{Nothing, Reading, Writing}
 use Rattle.fak_files.specs.declared.fault.FileFault.{FileFault}
 use Rattle.fak_files.specs.declared.fault.FileFault.TheVariants.{Worn, Busy}
 use Rattle.fak_files.specs.Phases.{amount_of, hold_for}
@@ -36,6 +37,19 @@ pub record FileSeatInfo : Type 0 where
 
 abbrev pub file_seat : SeatInfo FileMark → Hold → FileSeatInfo
 file_seat seat hold = record { seat = seat; hold = hold }
+
+-- the seat is of this object; and holds nothing
+abbrev pub IsFileSeatOf : ObjectId → FileSeatInfo → Type 0
+IsFileSeatOf object seat = seat.seat.object ≡ object
+
+abbrev pub IsFreeSeatOf : ObjectId → FileSeatInfo → Type 0
+IsFreeSeatOf object seat = IsFileSeatOf object seat × (seat.hold ≡ Nothing)
+
+-- what a seat holds by its marks: a reader 1, a writer as much as there are seats; or nothing, where none of its calls is open
+abbrev pub IsHoldOf : SeatInfo FileMark → Hold → Type 0
+IsHoldOf s Nothing = (amount_held s.name s.seen ≡ 0) × Owes kinds_of_call (words_by seat_of kind_of s.name s.seen) []
+IsHoldOf s Reading = amount_held s.name s.seen ≡ 1
+IsHoldOf s Writing = amount_held s.name s.seen ≡ s.object.seats
 
 -- the seats of a new table hold nothing
 abbrev pub idle_seats : List (SeatInfo FileMark) → List FileSeatInfo

@@ -3,14 +3,16 @@ use Rattle.std.specs.Prelude.{ℕ, ◌+◌, ◌≡◌, ◌⊎◌, ℤ, List, [],
 use Rattle.fak_model.specs.declared.file.FileKind.{FileKind}
 use Rattle.fak_model.specs.declared.file.FileKind.TheVariants.{Over, Back, No}
 use Rattle.fak_model.specs.declared.file.FileMark.{FileMark}
-use Rattle.fak_model.specs.File.{seat_of, count, file_rules, IsFileHistory}
+use Rattle.fak_model.specs.Histories.{words_by}
+use Rattle.fak_model.specs.File.{seat_of, kind_of, count, file_rules, IsFileHistory}
+use Rattle.fak_model.specs.Resting.{AreBetweenCalls}
 use Rattle.fak_model.specs.Calls.{ObjectId, seat_info, Appends, before_mark}
 use Rattle.fak_model.specs.Seats.{marks_of}
 use Rattle.fak_model.specs.Tokens.{IsSeatToken}
 use Rattle.fak_files.specs.declared.phase.FilePhase.{FilePhase}
 use Rattle.fak_files.specs.declared.phase.FilePhase.TheVariants.{Idle}
 use Rattle.fak_files.specs.declared.phase.Hold.{Hold}
-use Rattle.fak_files.specs.Phases.{phase_of}
+use Rattle.fak_files.specs.Phases.{phase_of, StandsIn}
 use Rattle.fak_files.specs.Running.{Mine, mark}
 use Rattle.fak_files.specs.Calls.{FileSeatInfo, file_seat, holds_of}
 
@@ -22,6 +24,12 @@ seat_now object name left hold me = file_seat (seat_info object name (left + hol
 pub record IsFileSeat (name seats : ℕ) (hold : Hold) (me : Mine) : Type 0 where
   pub token : IsSeatToken seat_of seats name (phase_of hold) 0 me
   pub lawful : IsFileHistory seats (reverse me.0.seen)
+  pub stands : StandsIn seats (words_by seat_of kind_of name (reverse me.0.seen)) (phase_of hold)
+
+-- what these names have seen together is lawful, and they stand between two calls
+pub record IsSettled (seats : ℕ) (names : List ℕ) (seen : List FileMark) : Type 0 where
+  pub lawful : IsFileHistory seats seen
+  pub rest : AreBetweenCalls (file_rules seats) names seen
 
 -- a seat's token made steps that left these kinds of mark, and stands at this phase now
 pub record Makes (seats name : ℕ) (kinds : List FileKind) (phase : FilePhase) (m after : Mine) : Type 0 where

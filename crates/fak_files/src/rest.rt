@@ -2,9 +2,12 @@
 
 ghost use Rattle.std.specs.Prelude.{◌≡◌, ◌<◌, ◌≤◌, ◌+◌, ◌*◌, ℕ, length, slice_get, Some, replicate};
 ghost use Rattle.std.specs.Slots.{slots_items, slots_len, IsFull};
+ghost use Rattle.fak_model.specs.Histories.{AreNamed, IsAtRest};
+ghost use Rattle.fak_model.specs.File.{IsFileHistory, file_rules};
 ghost use Rattle.fak_model.specs.Seats.{IsWhole};
 ghost use Rattle.fak_files.specs.Calls.{entries_after};
 ghost use Rattle.fak_files.specs.Closing.{entry_in};
+ghost use Rattle.fak_files.specs.Versions.{entry_of};
 
 use crate::step::place_of;
 use crate::table::FileTable;
@@ -59,11 +62,17 @@ fn entries_of(closed: &Closed<(), Global>, count: u64) -> [FileEntry; 16]
 }
 
 impl FileTable {
-    /// The entries that are left, once all seats are in the tally.
+    /// The entries that are left, once all seats are in the tally: as after the whole history, which is lawful, and in
+    /// which no call is cut short.
     pub fn close(self, tally: FileTally) -> FileRest
         requires table { tally.object ≡ self.object }
         requires whole { IsWhole tally.object.seats tally.names }
-        ensures { result ≡ entries_after tally.seen 0 self.entries }
+        ensures entries { result ≡ entries_after tally.seen 0 self.entries }
+        ensures each { (i : ℕ) → i < self.entries → slice_get result i ≡ Some (entry_of tally.seen i) }
+        ensures number { length result ≡ self.entries }
+        ensures lawful { IsFileHistory self.object.seats tally.seen }
+        ensures named { AreNamed (file_rules self.object.seats) self.object.seats tally.seen }
+        ensures rest { IsAtRest (file_rules self.object.seats) tally.seen }
     {
         let FileTable {
             table,

@@ -1,6 +1,7 @@
 //! A seat of a file table.
 
 ghost use Rattle.std.specs.Prelude.{◌≡◌};
+ghost use Rattle.fak_files.specs.Calls.{IsHoldOf};
 
 use crate::phase::Hold;
 use crate::step::FileToken;
@@ -30,9 +31,10 @@ impl Model for FileSeat {
 }
 
 impl FileSeat {
-    /// What the seat holds.
+    /// What the seat holds, which its marks show too.
     pub fn hold(&self) -> Hold
-        ensures { result ≡ self.now.hold }
+        ensures hold { result ≡ self.now.hold }
+        ensures marks { IsHoldOf self.now.seat self.now.hold }
     {
         self.hold
     }

@@ -1,7 +1,7 @@
 //! A file table that threads share.
 
 ghost use Rattle.std.specs.Prelude.{◌≡◌, ◌≢◌, ◌<◌, MatchResult, is_ok, if◌then◌else◌};
-ghost use Rattle.fak_files.specs.Calls.{IsGranted, IsRefused, IsGot, IsSet, IsEnded};
+ghost use Rattle.fak_files.specs.Calls.{IsFileSeatOf, IsGranted, IsRefused, IsGot, IsSet, IsEnded};
 ghost use Rattle.fak_files.specs.Phases.{hold_for};
 ghost use Rattle.fak_files.specs.declared.phase.Access.TheVariants.{Read, Write};
 ghost use Rattle.fak_files.specs.declared.phase.Hold.TheVariants.{Nothing, Reading, Writing};
@@ -39,7 +39,7 @@ impl Model for FileTable {
 impl FileTable {
     // A hold for this access, or why it is refused.
     pub(crate) fn try_hold(&self, seat: &mut FileSeat, access: Access) -> Result<(), FileFault>
-        requires table { seat.old.seat.object ≡ self.now.object }
+        requires table { IsFileSeatOf self.now.object seat.old }
         requires free { seat.old.hold ≡ Nothing }
         ensures call { MatchResult result (λ _. IsGranted access seat.old seat.new) (λ fault. IsRefused access seat.old seat.new fault) }
         ensures hold { seat.new.hold ≡ (if is_ok result then hold_for access else Nothing) }
@@ -64,7 +64,7 @@ impl FileTable {
     /// `Worn` where the seat has had as many holds as its stint; `Busy` with the count that was found, where a writer
     /// holds or has just tried to.
     pub fn try_read(&self, seat: &mut FileSeat) -> Result<(), FileFault>
-        requires table { seat.old.seat.object ≡ self.now.object }
+        requires table { IsFileSeatOf self.now.object seat.old }
         requires free { seat.old.hold ≡ Nothing }
         ensures call { MatchResult result (λ _. IsGranted Read seat.old seat.new) (λ fault. IsRefused Read seat.old seat.new fault) }
         ensures hold { seat.new.hold ≡ (if is_ok result then Reading else Nothing) }
@@ -78,7 +78,7 @@ impl FileTable {
     /// `Worn` where the seat has had as many holds as its stint; `Busy` with the count that was found, where others
     /// hold or have just tried to.
     pub fn try_write(&self, seat: &mut FileSeat) -> Result<(), FileFault>
-        requires table { seat.old.seat.object ≡ self.now.object }
+        requires table { IsFileSeatOf self.now.object seat.old }
         requires free { seat.old.hold ≡ Nothing }
         ensures call { MatchResult result (λ _. IsGranted Write seat.old seat.new) (λ fault. IsRefused Write seat.old seat.new fault) }
         ensures hold { seat.new.hold ≡ (if is_ok result then Writing else Nothing) }
@@ -89,7 +89,7 @@ impl FileTable {
 
     /// The entry `i`, in a hold: what it was when the hold was granted, and what the seat has set since.
     pub fn get(&self, seat: &mut FileSeat, i: u64) -> FileEntry
-        requires table { seat.old.seat.object ≡ self.now.object }
+        requires table { IsFileSeatOf self.now.object seat.old }
         requires held { seat.old.hold ≢ Nothing }
         requires entry { i < self.now.entries }
         ensures call { IsGot i seat.old seat.new result }
@@ -105,7 +105,7 @@ impl FileTable {
 
     /// Sets a field of the entry `i`, in a writer's hold.
     pub fn set(&self, seat: &mut FileSeat, i: u64, field: FileField, to: u64)
-        requires table { seat.old.seat.object ≡ self.now.object }
+        requires table { IsFileSeatOf self.now.object seat.old }
         requires held { seat.old.hold ≡ Writing }
         requires entry { i < self.now.entries }
         ensures call { IsSet i field to seat.old seat.new }
@@ -117,7 +117,7 @@ impl FileTable {
 
     /// Gives the hold back.
     pub fn end(&self, seat: &mut FileSeat)
-        requires table { seat.old.seat.object ≡ self.now.object }
+        requires table { IsFileSeatOf self.now.object seat.old }
         requires held { seat.old.hold ≢ Nothing }
         ensures call { IsEnded seat.old seat.new }
         ensures hold { seat.new.hold ≡ Nothing }

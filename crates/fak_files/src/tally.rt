@@ -1,9 +1,11 @@
 //! Seats of a file table that are brought together.
 
 ghost use Rattle.std.specs.Prelude.{◌≡◌, ◌↔◌, IsTrue};
-ghost use Rattle.fak_model.specs.File.{seat_of, file_rules};
+ghost use Rattle.fak_model.specs.Histories.{AreNamed, IsAtRest};
+ghost use Rattle.fak_model.specs.File.{IsFileHistory, seat_of, file_rules};
 ghost use Rattle.fak_model.specs.Seats.{IsWhole, mine};
 ghost use Rattle.fak_model.specs.Calls.{tally_of, IsJoined};
+ghost use Rattle.fak_files.specs.Calls.{IsFileSeatOf};
 ghost use Rattle.fak_files.specs.declared.phase.Hold.TheVariants.{Nothing};
 
 use crate::seat::FileSeat;
@@ -28,20 +30,23 @@ impl Model for FileTally {
     ghost use Rattle.fak_model.specs.Names.{HasJust};
     ghost use Rattle.fak_model.specs.Calls.{TallyInfo, tally_info, object_id};
     ghost use Rattle.fak_model.specs.Tokens.{IsTallyToken};
+    ghost use Rattle.fak_files.specs.SeatTokens.{IsSettled};
     ghost use Rattle.fak_files.specs.declared.phase.FilePhase.TheVariants.{Idle};
 
     ghost Value = { TallyInfo FileMark };
 
     ghost view = { λ t. tally_info (object_id t.token.table_id t.seats) t.token.me.0.names (reverse t.token.me.0.seen) };
 
-    ghost invariant = { λ t. IsTallyToken seat_of t.seats Idle t.token.me × HasJust t.names t.token.me.0.names };
+    ghost invariant = { λ t. IsTallyToken seat_of t.seats Idle t.token.me × HasJust t.names t.token.me.0.names × IsSettled t.seats t.token.me.0.names (reverse t.token.me.0.seen) };
 }
 
 impl FileTally {
     /// The tally of one seat, which holds nothing.
     pub fn of(seat: FileSeat) -> FileTally
         requires { seat.hold ≡ Nothing }
-        ensures { result ≡ tally_of seat.seat }
+        ensures tally { result ≡ tally_of seat.seat }
+        ensures lawful { IsFileHistory result.object.seats result.seen }
+        ensures named { AreNamed (file_rules result.object.seats) result.object.seats result.seen }
     {
         let FileSeat {
             token,
@@ -57,10 +62,14 @@ impl FileTally {
         }
     }
 
-    /// Whether all seats of the table are in it. Then each mark of its history is of one of them.
+    /// Whether all seats of the table are in it. Then each mark of its history is of one of them, and no call is cut
+    /// short. What it has seen is lawful in any case.
     pub fn is_whole(&self) -> bool
         ensures whole { IsTrue result ↔ IsWhole self.now.object.seats self.now.names }
         ensures mine { IsTrue result → mine seat_of self.now.names self.now.seen ≡ self.now.seen }
+        ensures lawful { IsFileHistory self.now.object.seats self.now.seen }
+        ensures named { AreNamed (file_rules self.now.object.seats) self.now.object.seats self.now.seen }
+        ensures rest { IsTrue result → IsAtRest (file_rules self.now.object.seats) self.now.seen }
     {
         self.names.has_all(self.seats)
     }
@@ -69,7 +78,7 @@ impl FileTally {
 impl FileTable {
     /// The tally with one more seat, which holds nothing.
     pub fn join(&self, tally: FileTally, seat: FileSeat) -> FileTally
-        requires table { (tally.object ≡ self.now.object) × (seat.seat.object ≡ self.now.object) }
+        requires table { (tally.object ≡ self.now.object) × IsFileSeatOf self.now.object seat }
         requires free { seat.hold ≡ Nothing }
         ensures joined { IsJoined (file_rules self.now.object.seats) tally seat.seat result }
         ensures table { result.object ≡ self.now.object }

@@ -1,7 +1,12 @@
-ghost use Rattle.std.specs.Prelude.{◌≡◌, ◌<◌};
+ghost use Rattle.std.specs.Prelude.{◌≡◌, ◌<◌, IsTrue, pos};
+ghost use Rattle.fak_model.specs.File.{amount_held, count, field};
+ghost use Rattle.fak_model.specs.Seats.{IsWhole};
+ghost use Rattle.fak_model.specs.declared.file.FileField.TheVariants.{Inode};
+ghost use Rattle.fak_files.specs.Calls.{IsFreeSeatOf};
 ghost use Rattle.fak_files.specs.declared.phase.Hold.TheVariants.{Nothing};
 
 use crate::{FileFault, FileField, FileSeat, FileTable, FileTally, Hold, OpenFault, Worn};
+use fak_model::laws::file::a_file_table_at_rest_is_free;
 use std::alloc::Global;
 use std::hint;
 use std::sync::Wait;
@@ -123,6 +128,105 @@ fn a_seat_is_worn(rt: HostRuntime) -> Result<(), Fail> {
     assert_eq!(rt; table.get(&mut b, 1).uses, 5);
     assert_eq!(rt; table.get(&mut b, 0).uses, 0);
     table.end(&mut b);
+    Ok(())
+}
+
+// A worn seat is told so at once while another holds, which a wait would not end.
+#[test]
+fn a_worn_seat_does_not_wait(rt: HostRuntime) -> Result<(), Fail> {
+    let Ok((table, mut seats)) = FileTable::open(rt.alloc(), 1, 2, 1) else {
+        return Err(Fail::from("open"));
+    };
+    let (Some(mut b), Some(mut a)) = (seats.pop(), seats.pop()) else {
+        return Err(Fail::from("two seats"));
+    };
+    let Ok(()) = table.read(&rt, &mut a) else {
+        return Err(Fail::from("the only hold"));
+    };
+    table.end(&mut a);
+    let Ok(()) = table.write(&rt, &mut b) else {
+        return Err(Fail::from("the writer's hold"));
+    };
+    assert!(rt; table.try_read(&mut a) == Err(FileFault::Worn));
+    assert!(rt; table.try_write(&mut a) == Err(FileFault::Worn));
+    assert!(rt; table.read(&rt, &mut a) == Err(Worn));
+    assert!(rt; table.write(&rt, &mut a) == Err(Worn));
+    assert!(rt; is_alone(&b, 2));
+    table.end(&mut b);
+    let tally = table.join(FileTally::of(b), a);
+    assert!(rt; is_free(&tally));
+    if tally.is_whole() {
+        close_free(table, tally);
+    }
+    Ok(())
+}
+
+// Whether the seat writes; it then holds as much as there are seats.
+fn is_alone(seat: &FileSeat, seats: u64) -> bool
+    requires { seat.now.seat.object.seats ≡ seats }
+    ensures { IsTrue result → amount_held seat.now.seat.name seat.now.seat.seen ≡ seats }
+{
+    seat.hold() == Hold::Writing
+}
+
+// Whether all seats are joined; the table is then free.
+fn is_free(tally: &FileTally) -> bool
+    ensures { IsTrue result → count tally.now.object.seats tally.now.seen ≡ pos tally.now.object.seats }
+{
+    a_file_table_at_rest_is_free();
+    tally.is_whole()
+}
+
+// A closed table was free.
+fn close_free(table: FileTable, tally: FileTally)
+    requires { (tally.object ≡ table.object) × IsWhole tally.object.seats tally.names }
+    ensures { count table.object.seats tally.seen ≡ pos table.object.seats }
+{
+    a_file_table_at_rest_is_free();
+    let _rest = table.close(tally);
+}
+
+// The file of an entry of a closed table is the last that was set.
+fn last_file(table: FileTable, tally: FileTally, i: u64) -> u64
+    requires tally { (tally.object ≡ table.object) × IsWhole tally.object.seats tally.names }
+    requires entry { i < table.entries }
+    ensures { result ≡ field tally.seen i Inode }
+{
+    table.close(tally).get(i).inode
+}
+
+// So many writer's holds of an entry that stays as it is.
+fn hold_often(table: &FileTable, mut seat: FileSeat, holds: u64) -> FileSeat
+    requires { IsFreeSeatOf table.now.object seat }
+    ensures { IsFreeSeatOf table.now.object result }
+{
+    for _ in 0..holds {
+        if table.try_write(&mut seat).is_ok() {
+            table.end(&mut seat);
+        }
+    }
+    seat
+}
+
+#[test]
+fn what_callers_conclude(rt: HostRuntime) -> Result<(), Fail> {
+    let Ok((table, mut seats)) = FileTable::open(rt.alloc(), 2, 1, 10) else {
+        return Err(Fail::from("open"));
+    };
+    let Some(a) = seats.pop() else {
+        return Err(Fail::from("one seat"));
+    };
+    let mut a = hold_often(&table, a, 3);
+    let Ok(()) = table.try_write(&mut a) else {
+        return Err(Fail::from("the write"));
+    };
+    table.set(&mut a, 1, FileField::Inode, 7);
+    table.end(&mut a);
+    let tally = FileTally::of(a);
+    if !tally.is_whole() {
+        return Err(Fail::from("a whole tally"));
+    }
+    assert_eq!(rt; last_file(table, tally, 1), 7);
     Ok(())
 }
 

@@ -1,7 +1,7 @@
 //! Holds that are tried again while others hold.
 
 ghost use Rattle.std.specs.Prelude.{◌≡◌, MatchResult, is_ok, if◌then◌else◌};
-ghost use Rattle.fak_files.specs.Calls.{IsWaitedFor, IsWorn};
+ghost use Rattle.fak_files.specs.Calls.{IsFileSeatOf, IsWaitedFor, IsWorn};
 ghost use Rattle.fak_files.specs.Phases.{hold_for};
 ghost use Rattle.fak_files.specs.declared.phase.Access.TheVariants.{Read, Write};
 ghost use Rattle.fak_files.specs.declared.phase.Hold.TheVariants.{Nothing, Reading, Writing};
@@ -16,7 +16,7 @@ use std::sync::Wait;
 impl FileTable {
     // A hold for this access, tried until it is granted.
     fn wait_hold<R: Wait>(&self, rt: &R, seat: &mut FileSeat, access: Access) -> Result<(), Worn>
-        requires table { seat.old.seat.object ≡ self.now.object }
+        requires table { IsFileSeatOf self.now.object seat.old }
         requires free { seat.old.hold ≡ Nothing }
         ensures call { MatchResult result (λ _. IsWaitedFor access seat.old seat.new) (λ _. IsWorn seat.old seat.new) }
         ensures hold { seat.new.hold ≡ (if is_ok result then hold_for access else Nothing) }
@@ -35,7 +35,7 @@ impl FileTable {
 
     /// A reader's hold, tried again while a writer holds. `Worn` where the seat has had as many holds as its stint.
     pub fn read<R: Wait>(&self, rt: &R, seat: &mut FileSeat) -> Result<(), Worn>
-        requires table { seat.old.seat.object ≡ self.now.object }
+        requires table { IsFileSeatOf self.now.object seat.old }
         requires free { seat.old.hold ≡ Nothing }
         ensures call { MatchResult result (λ _. IsWaitedFor Read seat.old seat.new) (λ _. IsWorn seat.old seat.new) }
         ensures hold { seat.new.hold ≡ (if is_ok result then Reading else Nothing) }
@@ -46,7 +46,7 @@ impl FileTable {
 
     /// A writer's hold, tried again while others hold. `Worn` where the seat has had as many holds as its stint.
     pub fn write<R: Wait>(&self, rt: &R, seat: &mut FileSeat) -> Result<(), Worn>
-        requires table { seat.old.seat.object ≡ self.now.object }
+        requires table { IsFileSeatOf self.now.object seat.old }
         requires free { seat.old.hold ≡ Nothing }
         ensures call { MatchResult result (λ _. IsWaitedFor Write seat.old seat.new) (λ _. IsWorn seat.old seat.new) }
         ensures hold { seat.new.hold ≡ (if is_ok result then Writing else Nothing) }

@@ -4,7 +4,7 @@ use Rattle.std.proofs.lemmas.List.Elements.{All-nil, All-cons}
 use Rattle.fak_kernel.specs.ListScheduler.{numbers_from}
 
 -- the first number, and the others
-numbers_from-next : (a k m b : ℕ) → k ≡ suc m → b ≡ a + 1 → numbers_from a k ≡ a ∷ numbers_from b m
+pub numbers_from-next : (a k m b : ℕ) → k ≡ suc m → b ≡ a + 1 → numbers_from a k ≡ a ∷ numbers_from b m
 numbers_from-next a k m b one next =
     ap (numbers_from a) one ∙ ap (λ (n : ℕ). a ∷ numbers_from n m) (sym next)
 

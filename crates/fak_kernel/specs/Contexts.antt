@@ -1,8 +1,8 @@
 -- What is known of a process of a run, and of one that sleeps.
-use Rattle.std.specs.Prelude.{◌≡◌, ℕ, ◌-◌, ◌^◌, ◌<◌, ◌≤◌, List, [], All, length, take, slice_index_or}
+use Rattle.std.specs.Prelude.{◌≡◌, ℕ, ◌-◌, ◌<◌, ◌≤◌, List, All, length, take, [], slice_index_or}
 use Rattle.fak_text.specs.Script.{ScriptOf, down}
 use Rattle.fak_text.specs.Journal.{Process, FitsScript, StandsAt, after_note, child_count, downed}
-use Rattle.fak_kernel.specs.ListScheduler.{Lists, Turn}
+use Rattle.fak_kernel.specs.ListScheduler.{Turn}
 
 -- the process fits the script, and has so many children
 pub record IsContext (script : ScriptOf) (children : ℕ) (process : Process) : Type 0 where
@@ -21,18 +21,6 @@ pub record IsAsleep (script : ScriptOf) (semaphore : ℕ) (process : Process) : 
 -- who sleeps at a semaphore stands before a down of it
 abbrev pub WaitAtTheirs : ScriptOf → List (List Process) → Type 0
 WaitAtTheirs script sleepers = (n : ℕ) → All (λ p. StandsAt script p (down n)) (slice_index_or sleepers n [])
-
--- the lists have the lengths and ranges that the script asks for
-pub record FitLists (script : ScriptOf) (s : Lists) : Type 0 where
-  pub counts : length s.counts ≡ length script.semaphores
-  pub sleepers : length s.sleepers ≡ length script.semaphores
-  pub entries : length s.entries ≡ script.files
-  pub births : s.births ≤ script.births
-  pub slots : All (λ slot. slot < script.slots) s.free_slots
-
--- a count may rise
-abbrev pub CountsFit : Lists → Type 0
-CountsFit s = All (λ count. count < 2 ^ 63) s.counts
 
 -- the process that has the processor may make a step more; a turn has 1,000 at most
 pub record HasStepsLeft (script : ScriptOf) (t : Turn) : Type 0 where

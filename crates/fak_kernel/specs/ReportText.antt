@@ -6,6 +6,7 @@ use Rattle.fak_text.specs.JournalText.{text_of_name, text_of_journal}
 use Rattle.fak_text.specs.Script.{ScriptOf}
 use Rattle.fak_kernel.specs.declared.report.Outcome.{Outcome}
 use Rattle.fak_kernel.specs.declared.report.Outcome.TheVariants.{Ended, Stuck, Halted}
+use Rattle.fak_kernel.specs.RunReports.{RunReports}
 use Rattle.fak_kernel.specs.Report.{RowOf, ReportOf, ListSchedulerReports, is_ended, is_stuck, is_halted, exit_status}
 
 -- how an outcome is written
@@ -55,5 +56,12 @@ text_of_report report = flat_map text_of_row report.rows ++ text_of_entries 0 re
 pub record ListSchedulerPrints (script : ScriptOf) (text : List ℕ) (status : ℕ) : Type 0 where
   pub report : ReportOf
   pub reports : ListSchedulerReports script report
+  pub text_is : text ≡ text_of_report report
+  pub status_is : status ≡ exit_status report
+
+-- processors run the script with this text as a report that keeps its promises, and this exit status
+pub record RunPrints (script : ScriptOf) (text : List ℕ) (status : ℕ) : Type 0 where
+  pub report : ReportOf
+  pub reports : RunReports script report
   pub text_is : text ≡ text_of_report report
   pub status_is : status ≡ exit_status report

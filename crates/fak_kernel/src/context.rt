@@ -1,9 +1,11 @@
 //! A process of a run, with its journal.
 
-ghost use Rattle.std.specs.Prelude.{◌≡◌, ℕ, ◌+◌, ◌<◌, ◌≤◌, [], ◌∷◌, ◌++◌, length, map, Option, None, IfOk, IfErr, IfSome, IfNone};
+ghost use Rattle.std.specs.Prelude.{◌≡◌, ℕ, ◌+◌, ◌<◌, ◌≤◌, nat_lt, [], ◌∷◌, ◌++◌, length, map, Option, None, IfOk, IfErr, IfSome, IfNone};
 ghost use Rattle.fak_text.specs.Script.{ScriptOf, StepOf, IsStepInRange, limits_of};
 ghost use Rattle.fak_text.specs.Journal.{Process, FitsScript, StandsAt, new_process, after_note, Allows, births_of, child_count};
 ghost use Rattle.fak_text.specs.Views.{step_of, note_of};
+ghost use Rattle.std.specs.List.{list_any};
+ghost use Rattle.fak_kernel.specs.Ledger.{shuts_of};
 ghost use Rattle.fak_kernel.specs.ListScheduler.{next_step};
 
 use crate::fault::Fault;
@@ -111,6 +113,15 @@ impl<K: Run> Context<K> {
         Ok(name)
     }
 
+    /// Asks for the memory of one note more.
+    pub fn reserve_note(&mut self) -> Result<(), Fault>
+        ensures same { self.new ≡ self.old }
+        ensures memory { IfErr result (λ fault. fault ≡ Fault.Memory) }
+    {
+        self.journal.reserve(1)?;
+        Ok(())
+    }
+
     /// Goes on behind the step at the position, which was made with this note.
     pub fn note(&mut self, note: Note) -> Result<(), Fault>
         requires { (step : StepOf) × StandsAt K.script self.old step × Allows K.script.files (child_count self.old.journal) step (note_of note) }
@@ -168,6 +179,29 @@ impl<K: Run> Context<K> {
             journal,
         }
     }
+}
+
+impl<K: Run> Context<K> {
+    ghost use Rattle.std.specs.List.{sum_by};
+
+    /// One of its steps was a shutdown.
+    pub(crate) fn has_shutdown(&self) -> bool
+        ensures { result ≡ nat_lt 0 (sum_by shuts_of self.now.journal) }
+    {
+        has_shutdown_note(self.journal.as_slice())
+    }
+}
+
+fn has_shutdown_note(notes: &[Note]) -> bool
+    ensures { result ≡ list_any (λ note. nat_lt 0 (shuts_of (note_of note))) notes.now }
+{
+    notes.iter().any(|note| is_shutdown(note))
+}
+
+fn is_shutdown(note: &Note) -> bool
+    ensures { result ≡ nat_lt 0 (shuts_of (note_of note.now)) }
+{
+    matches!(note, Note::Shutdown)
 }
 
 /// How many children a step began.

@@ -1,19 +1,27 @@
 //! Processes and processors: scripts are run, and what became of each process is reported.
 #![tactic(auto)]
 
+mod alarm;
 mod context;
+mod ending;
 mod fault;
+mod gate;
 pub mod laws;
-mod list_scheduler;
+mod objects;
+mod processor;
 mod report;
 mod rows;
+mod run_threads;
 mod running;
 mod sleeper;
+mod slot;
 mod text;
 
 pub use fak_model::FileEntry;
 pub use fault::Fault;
+pub use gate::{FreeGate, Gate};
 pub use report::{Outcome, ProcessRow, Report};
+pub use run_threads::run;
 pub use running::run_one;
 pub use text::report_text;
 

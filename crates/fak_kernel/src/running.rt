@@ -1,24 +1,92 @@
-//! Runs of scripts.
+//! Runs of scripts on one processor.
 
-ghost use Rattle.std.specs.Prelude.{◌≡◌, IfOk, IfErr};
+ghost use Rattle.std.specs.Prelude.{◌≡◌, ℕ, ◌<◌, vec_len, slice_index_or, IfOk, IfErr};
+ghost use Rattle.fak_kernel.specs.Begun.{Between};
+ghost use Rattle.fak_kernel.specs.Faults.{IsOfStep};
+ghost use Rattle.fak_kernel.specs.ListScheduler.{turn_over};
+ghost use Rattle.fak_kernel.specs.Opened.{AreSeated};
+ghost use Rattle.fak_kernel.specs.Processors.{AreFor, IsReached, ProcessorOf, lists_of};
 ghost use Rattle.fak_kernel.specs.Report.{ListSchedulerReports};
+ghost use Rattle.fak_kernel.specs.RunReports.{RunReports};
+ghost use Rattle.fak_kernel.specs.Threads.{HasBegun, HasLeft};
 ghost use Rattle.fak_kernel.specs.Views.{report_of};
 
+use crate::context::Run;
+use crate::ending::report_of_run;
 use crate::fault::Fault;
-use crate::list_scheduler::run_by_lists;
+use crate::gate::FreeGate;
+use crate::objects::Objects;
+use crate::objects::opening::{Opened, open_run};
+use crate::processor::Processor;
 use crate::report::Report;
 use fak_text::Script;
 use std::alloc::Global;
+use std::marker::Brand;
 use std::sync::Wait;
 
 /// Runs a script on one processor. The report is the list scheduler's.
 ///
 /// # Errors
 ///
-/// `Memory` alone.
+/// `Worn`, where the script's stint is used up, and `Memory`.
 pub fn run_one<R: Wait>(rt: &R, alloc: Global, script: &Script) -> Result<Report, Fault>
     ensures report { IfOk result (λ report. ListSchedulerReports script.now (report_of report)) }
-    ensures memory { IfErr result (λ fault. fault ≡ Fault.Memory) }
+    ensures conserved { IfOk result (λ report. RunReports script.now (report_of report)) }
+    ensures fault { IfErr result (λ fault. IsOfStep fault) }
 {
-    run_by_lists(rt, alloc, script)
+    run_alone::<Brand, R>(rt, alloc, script)
+}
+
+fn run_alone<K: Run, R: Wait>(rt: &R, alloc: Global, script: &Script) -> Result<Report, Fault>
+    requires { script.now ≡ K.script }
+    ensures report { IfOk result (λ report. ListSchedulerReports K.script (report_of report)) }
+    ensures conserved { IfOk result (λ report. RunReports K.script (report_of report)) }
+    ensures fault { IfErr result (λ fault. IsOfStep fault) }
+{
+    let Opened {
+        objects,
+        processors,
+    } = match open_run::<K, R>(rt, alloc, script, 1) {
+        Ok(opened) => opened,
+        Err(fault) => return Err(fault),
+    };
+    let left = match leave_alone(rt, alloc, script, &objects, processors) {
+        Ok(left) => left,
+        Err(fault) => return Err(fault),
+    };
+    match report_of_run(alloc, script, objects, left) {
+        Ok(report) => Ok(report),
+        Err(fault) => Err(fault),
+    }
+}
+
+/// The only processor works until it leaves.
+fn leave_alone<K: Run, R: Wait>(
+    rt: &R,
+    alloc: Global,
+    script: &Script,
+    objects: &Objects<K>,
+    only: Vec<Processor<K>>,
+) -> Result<Vec<Processor<K>>, Fault>
+    requires script { script.now ≡ K.script }
+    requires made { AreFor K.script objects.now }
+    requires seated { AreSeated 1 objects.now }
+    requires one { vec_len only ≡ 1 }
+    requires begun { (d : ProcessorOf) → HasBegun K.script objects.now 1 0 (slice_index_or only.items 0 d) }
+    ensures one { IfOk result (λ left. vec_len left ≡ 1) }
+    ensures left { IfOk result (λ left. (d : ProcessorOf) → HasLeft K.script objects.now 1 0 (slice_index_or left.items 0 d)) }
+    ensures fault { IfErr result (λ fault. IsOfStep fault) }
+{
+    let mut only = only;
+    let Some(processor) = only.pop() else {
+        unreachable!()
+    };
+    match processor.work(rt, alloc, script, objects, &FreeGate, 0) {
+        Err(fault) => return Err(fault),
+        Ok(None) => unreachable!(),
+        Ok(Some(left)) => {
+            only.push(left)?;
+            return Ok(only);
+        }
+    }
 }

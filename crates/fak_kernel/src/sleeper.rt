@@ -1,8 +1,8 @@
 //! A process that sleeps at a semaphore.
 
-ghost use Rattle.std.specs.Prelude.{◌≡◌, IfOk, IfErr};
+ghost use Rattle.std.specs.Prelude.{◌≡◌, ℕ, IfOk, IfErr};
 ghost use Rattle.fak_text.specs.Script.{down};
-ghost use Rattle.fak_text.specs.Journal.{StandsAt, after_note, downed};
+ghost use Rattle.fak_text.specs.Journal.{FitsScript, StandsAt, after_note, downed};
 
 use crate::context::{Context, Run};
 use crate::fault::Fault;
@@ -40,26 +40,32 @@ impl<K: Run> Sleeper<K> {
         Ok(Sleeper { context, semaphore })
     }
 
-    /// The process wakes, and its down of this semaphore is done.
-    pub fn wake(self, semaphore: u64) -> Context<K>
-        requires { StandsAt K.script self (down semaphore) }
-        ensures { result ≡ after_note self (downed semaphore) }
+    /// The process wakes, and the down that it stands before is done.
+    pub fn rouse(self) -> Context<K>
+        ensures woken { (semaphore : ℕ) × StandsAt K.script self (down semaphore) × (result ≡ after_note self (downed semaphore)) }
+        ensures done { (semaphore : ℕ) → StandsAt K.script self (down semaphore) → result ≡ after_note self (downed semaphore) }
+        ensures fits { FitsScript K.script self }
     {
         let Sleeper {
             context,
             semaphore: _,
         } = self;
+        let _slot = context.slot();
         context
     }
 
     /// The process as it stands before its down.
     pub fn rest(self) -> Context<K>
-        ensures { result ≡ self }
+        ensures same { result ≡ self }
+        ensures fits { FitsScript K.script self }
+        ensures stands { (semaphore : ℕ) × StandsAt K.script self (down semaphore) }
     {
         let Sleeper {
             context,
             semaphore: _,
         } = self;
-        context.without_down()
+        let rested = context.without_down();
+        let _slot = rested.slot();
+        rested
     }
 }

@@ -15,6 +15,15 @@ pub mod QueueWords
 pub mod QueueBackwards
 pub mod QueueLiteral
 pub mod QueueLaws
+pub mod QueueWeights
+pub mod RoomRefusals
+pub mod SeatWeights
+pub mod Resting
+pub mod Judging
+pub mod RoomJudging
+pub mod FileJudging
+pub mod QueueJudging
+pub mod Examples
 pub mod CheckerPast
 pub mod CheckerCounts
 pub mod CheckerFaults

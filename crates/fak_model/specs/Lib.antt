@@ -1,5 +1,6 @@
 pub mod Histories
 pub mod Seats
+pub mod Resting
 pub mod Queue
 pub mod QueueOrder
 pub mod QueuePast
@@ -7,9 +8,11 @@ pub mod Checker
 pub mod Room
 pub mod Credit
 pub mod File
+pub mod Weights
 pub mod Views
 pub mod Shown
 pub mod Calls
 pub mod Tokens
 pub mod Names
 pub mod Limits
+pub mod Examples

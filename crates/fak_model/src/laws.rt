@@ -2,6 +2,7 @@
 //! definitions alone.
 
 pub mod credit;
+pub mod examples;
 pub mod file;
 pub mod queue;
 pub mod room;

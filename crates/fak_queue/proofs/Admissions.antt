@@ -17,7 +17,7 @@ use Rattle.fak_queue.specs.Shown.{Holder}
 use Rattle.fak_queue.specs.Steps.{mark, Marks, Named, ShutAs, TestedUp, AddedUp, BacksUp, DrewIn, TestedLow, SubtractedLow, BacksLow, DrawsOut}
 use Rattle.fak_queue.specs.Queues.{RestsAt, idle, inserting, deleting}
 use Rattle.fak_queue.specs.Parts.{IsPart, ClaimedIn, RefusedIn, ClaimedOut, RefusedOut, Nothing}
-use Rattle.fak_queue.proofs.PartSteps.{put_there, names_kept, phase_is, left_is, slots_are, part_one, part_two}
+use Rattle.fak_queue.proofs.PartSteps.{put_there, put_new, names_kept, phase_is, left_is, slots_are, part_one, part_two}
 
 -- an item's Put, or its Got, leaves the seat waiting with the ticket that was drawn
 inserting_after : {T : Type 0} (h : List (Mark T)) (k : ℕ) (x : T) → count puts (reverse h) ≡ k → k < 2 ^ 62 → RestsAt (TurnIn k x) (after_kind h (made.Put x))
@@ -65,8 +65,11 @@ module _ {T : Type 0} (size seats n : ℕ) (x : T) (r : UpperCount) (m0 m1 : Hol
     claimed_in e {k} {m3} draws =
         let l = subst (λ z. AddedUp size seats n x z m1 m2) e added in
         let d = draws n (names_kept l ∙ one1) x (phase_is l) in
-        part_two n made.ClaimIn (made.Put x) first refl l d.leaves one (slots_are l ∙ free1) (m0.0.left - 1) (ap (λ k. k - 1) (left_is l ∙ left1))
-        (inserting_after d.leaves.past k x d.leaves.told d.few) (λ first second. count puts second ≡ k) d.leaves.told
+        record {
+          part = part_two n made.ClaimIn (made.Put x) first refl l d.leaves one (slots_are l ∙ free1) (m0.0.left - 1) (ap (λ k. k - 1) (left_is l ∙ left1))
+              (inserting_after d.leaves.past k x d.leaves.told d.few) (λ first second. count puts second ≡ k) d.leaves.told;
+          put = put_new k x d.leaves d.leaves.told;
+        }
 
     pub back_phase_full : (u : ℤ) → q ≡ Full u → m2.0.phase ≡ Some (BackUp x)
     back_phase_full u e = phase_is (subst (λ z. AddedUp size seats n x z m1 m2) e added)

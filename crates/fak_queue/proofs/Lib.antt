@@ -11,6 +11,9 @@ pub mod Turning
 pub mod SeatCalls
 pub mod Openings
 pub mod WholeCalls
+pub mod AfterRefusals
+pub mod Tallies
+pub mod Shutting
 pub mod Leaving
 pub mod WholePasts
 pub mod Closing

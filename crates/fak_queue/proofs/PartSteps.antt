@@ -1,16 +1,19 @@
 -- From the atomic steps of a seat to the parts of its calls.
-use Rattle.std.proofs.Common.{◌≡◌, ℕ, ◌+◌, List, [], ◌∷◌, ◌++◌, length, length-append, refl, sym, ap, ◌∙◌, subst, arith, Option, Some}
+use Rattle.std.proofs.Common.{◌≡◌, ℕ, ◌+◌, ◌==◌, true, List, [], ◌∷◌, ◌++◌, length, length-append, refl, sym, ap, ◌∙◌, subst, arith, Option, Some}
 use Rattle.std.specs.Prelude.{reverse}
 use Rattle.std.proofs.lemmas.List.{append-nil}
+use Rattle.std.proofs.lemmas.Bool.Decides.{nat_tests}
 use Rattle.fak_model.specs.declared.queue.Kind.{Kind}
 use Rattle.fak_model.specs.declared.queue.Mark.{Mark}
-use Rattle.fak_model.specs.Queue.{queue_rules, items_put, item_at}
+use Rattle.fak_model.specs.declared.queue.Kind.TheVariants.{Put}
+use Rattle.fak_model.specs.Queue.{queue_rules, count, puts, items_put, item_at}
 use Rattle.fak_model.specs.QueuePast.{after as after_kind, stage, item_of}
 use Rattle.fak_model.specs.Seats.{marks_of}
 use Rattle.fak_model.specs.Views.{sight}
 use Rattle.fak_model.specs.Shown.{Leaves}
 use Rattle.fak_model.specs.Calls.{ObjectId, seat_info, Appends}
 use Rattle.fak_model.proofs.Seats.{begins_self}
+use Rattle.fak_model.proofs.QueueBackwards.{count_reverse}
 use Rattle.fak_model.proofs.QueueStages.{stage_here}
 use Rattle.fak_model.proofs.QueueTickets.{item_stays}
 use Rattle.fak_model.proofs.RunningCalls.{step_appends, step_before, appends_then, appends_none, begins_after, mine_after}
@@ -134,3 +137,11 @@ sees_item {m = m} {w = w} {new = new} l k x e =
 pub put_there : {T : Type 0} {size seats : ℕ} {m w : Holder T} {new : List (Mark T)} {p : Phase T} {left : ℕ} {carried : List (ℕ × Option T)} {tells : List (Mark T) → Type 0} (l : Leaves (queue_object size seats) m new p left carried tells w) (k : ℕ) (x : T)
     → item_at (items_put (reverse l.past)) k ≡ Some x → item_at (items_put (reverse w.0.seen)) k ≡ Some x
 put_there {w = w} {new = new} l k x e = item_past w.0.seen k ∙ (ap (λ h. item_of h k) (seen_is l) ∙ item_more new l.past k x (sym (item_past l.past k) ∙ e))
+
+-- the item of a Put stands under the number of earlier Puts
+pub put_new : {T : Type 0} {size seats n : ℕ} {m w : Holder T} {p : Phase T} {left : ℕ} {carried : List (ℕ × Option T)} {tells : List (Mark T) → Type 0} (k : ℕ) (x : T) (l : Leaves (queue_object size seats) m (mark n (Put x) ∷ []) p left carried tells w)
+    → count puts (reverse l.past) ≡ k → item_at (items_put (reverse w.0.seen)) k ≡ Some x
+put_new {w = w} k x l e =
+    let number : count puts l.past ≡ k = sym (count_reverse puts l.past) ∙ e in
+    let here : (k == count puts l.past) ≡ true = grind (arith, nat_tests) in
+    item_past w.0.seen k ∙ (ap (λ h. item_of h k) (seen_is l) ∙ rw here refl)

@@ -65,7 +65,7 @@ tickets-append f g = omega (arith, count_append puts f g, count_append gots f g)
 
 -- a seat of a queue, with its token m, and what contracts see of both
 module _ {T : Type 0} (key : Limits) {size seats name left : ℕ} {p : Phase T} {table mine : TableId} {m : Holder T} {old : SeatInfo (Mark T)} {queue : QueueInfo}
-    (f : IsQueueSeat mine.slots seats name p left m) (q : IsQueue size table) (seat_is : queue_seat (object_id mine seats) name left m ≡ old) (queue_is : queue_info (object_id table key.seats) size ≡ queue) (fits : old.object ≡ queue.object) where
+    (f : IsQueueSeat mine.slots seats name p left m) (q : IsQueue size table) (seat_is : queue_seat (object_id mine seats) name left m ≡ old) (queue_is : queue_info (object_id table key.seats) ≡ queue) (fits : old.object ≡ queue.object) where
   same_object : object_id mine seats ≡ object_id table key.seats
   same_object = ap (λ (s : SeatInfo (Mark T)). s.object) seat_is ∙ (fits ∙ sym (ap (λ (c : QueueInfo). c.object) queue_is))
 
@@ -127,7 +127,7 @@ module _ {T : Type 0} (key : Limits) {size seats name left : ℕ} {p : Phase T} 
         let before : ℕ = tickets_in (marks_of seat_of name (reverse m.0.seen)) in
         let stint : ℕ = left + before in
         let same : stint ≡ now_left + tickets_in (marks_of seat_of name (reverse after.0.seen)) = (let t = tickets_now in omega (arith, t, spent)) in
-        let size_is : table.slots ≡ queue.size = q.slots ∙ ap (λ (i : QueueInfo). i.size) queue_is in
+        let size_is : table.slots ≡ queue.size = ap (λ (i : QueueInfo). i.size) queue_is in
         let a : Appends (queue_rules table.slots) (made_by name kinds) (seat_info (object_id mine seats) name stint (reverse m.0.seen)) (seat_info (object_id mine seats) name stint (reverse after.0.seen)) = part.appends (object_id mine seats) stint same_seats in
         let b : Appends (queue_rules queue.size) (made_by name kinds) (seat_info (object_id mine seats) name stint (reverse m.0.seen)) (queue_seat (object_id now seats) name now_left after) =
         subst (λ (x : ℕ × ObjectId × ℕ). Appends (queue_rules x.0) (made_by name kinds) (seat_info (object_id mine seats) name stint (reverse m.0.seen)) (seat_info x.1 name x.2 (reverse after.0.seen))) (λ i. (size_is i, object_id (sym stays i) seats, same i)) a in
@@ -152,7 +152,7 @@ module _ {T : Type 0} (key : Limits) {size seats name left : ℕ} {p : Phase T} 
     New k = queue_seat (object_id now seats) name k after
 
     pub claims_in : {x : T} {k : ℕ} → 0 < left → ClaimedIn table.slots key.seats name x k m after → ClaimsIn queue.size k x old (New (left - 1))
-    claims_in some_left part = record { within = within some_left; makes = makes part left_less stays (omega (arith, some_left)); ticket = told part left_less stays }
+    claims_in some_left c = record { within = within some_left; makes = makes c.part left_less stays (omega (arith, some_left)); ticket = told c.part left_less stays; put = c.put }
 
     pub claims_out : {k : ℕ} → 0 < left → ClaimedOut table.slots key.seats name k m after → ClaimsOut queue.size k old (New (left - 1))
     claims_out some_left c = record { within = within some_left; item = c.item; makes = makes c.part left_less stays (omega (arith, some_left)); ticket = told c.part left_less stays; put = c.put }
@@ -210,7 +210,7 @@ module _ {T : Type 0} (key : Limits) {size seats name left : ℕ} {p : Phase T} 
     waits_to_fill {k} w = record {
       makes = makes w.part left_same stays (omega arith);
       earlier = w.earlier;
-      round = w.round ∙ ap (λ s. w.earlier + s) (q.slots ∙ ap (λ (i : QueueInfo). i.size) queue_is);
+      round = w.round ∙ ap (λ s. w.earlier + s) (ap (λ (i : QueueInfo). i.size) queue_is);
       untaken = w.untaken;
     }
 

@@ -35,7 +35,7 @@ QueueTable T = State (Option T) (QueueView T)
 pub queue_law : {T : Type 0} (size seats : ℕ) → 0 < size → AreLawful (queue_object {T = T} size seats)
 queue_law size seats some_cell c reached = legal_history size c (kept size c reached some_cell)
 
-below_of : {T : Type 0} (seats : ℕ) (h : List (Mark T)) → All (λ (m : Mark T). m.seat < seats) h → SeatsBelow seats h
+pub below_of : {T : Type 0} (seats : ℕ) (h : List (Mark T)) → All (λ (m : Mark T). m.seat < seats) h → SeatsBelow seats h
 below_of seats [] all = tt
 below_of {T} seats (m ∷ h) all = let P : Mark T → Type 0 = λ (m : Mark T). m.seat < seats in (All-head P m h all, below_of seats h (All-tail P m h all))
 

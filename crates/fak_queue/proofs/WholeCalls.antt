@@ -75,6 +75,7 @@ module _ {T : Type 0} (size : ℕ) (a b c d : SeatInfo (Mark T)) where
     within = claim.within;
     makes = whole made.ClaimIn (made.Put x) claim.makes look (made.Fill k) made.EndIn end;
     ticket = ap (count puts) (stood made.ClaimIn (made.Put x) claim.makes look (made.Fill k) made.EndIn end) ∙ claim.ticket;
+    put = (let more = (rest_b made.ClaimIn (made.Put x) claim.makes look (made.Fill k) made.EndIn end).begins in subst (λ h. item_at (items_put h) k ≡ Some x) more.1 (item_stays b.seen more.0 k x claim.put));
   }
 
   pub deleted : (k : ℕ) (x : T) → ClaimsOut size k a b → Makes size [] b c → Takes size k x c d → Deletes size k x a d

@@ -3,6 +3,7 @@ pub mod Shown
 pub mod Steps
 pub mod Queues
 pub mod Refusals
+pub mod Retries
 pub mod Parts
 pub mod Left
 pub mod Rests

@@ -34,8 +34,9 @@ Nothing first second = Unit {0}
 module _ {T : Type 0} (size seats n : ℕ) where
   -- ---- insertions
 
-  abbrev pub ClaimedIn : T → ℕ → Holder T → Holder T → Type 0
-  ClaimedIn x k m after = IsPart size seats n (made.ClaimIn ∷ made.Put x ∷ []) (TurnIn k x) (m.0.left - 1) (λ first second. count puts second ≡ k) m after
+  pub record ClaimedIn (x : T) (k : ℕ) (m after : Holder T) : Type 0 where
+    pub part : IsPart size seats n (made.ClaimIn ∷ made.Put x ∷ []) (TurnIn k x) (m.0.left - 1) (λ first second. count puts second ≡ k) m after
+    pub put : item_at (items_put (reverse after.0.seen)) k ≡ Some x
 
   abbrev pub RefusedIn : NoRoom → Holder T → Holder T → Type 0
   RefusedIn (Full u) m after =

@@ -1,5 +1,5 @@
 -- What callers see of a queue and of its seats, and what calls do to them. Histories have the oldest mark first.
-use Rattle.std.specs.Prelude.{◌≡◌, ◌⊎◌, ℕ, ◌+◌, ◌<◌, ◌≤◌, ◌^◌, Bool, true, false, ℤ, List, [], ◌∷◌, map, reverse, Some}
+use Rattle.std.specs.Prelude.{◌≡◌, ◌⊎◌, ℕ, ◌+◌, ◌<◌, ◌≤◌, ◌^◌, Bool, true, false, ℤ, List, [], ◌∷◌, map, reverse, Some, refl}
 use Rattle.atomic_table.specs.Seated.{TableId}
 use Rattle.fak_model.specs.declared.queue.Kind.{Kind}
 use Rattle.fak_model.specs.declared.queue.Kind.TheVariants as made
@@ -9,9 +9,11 @@ use Rattle.fak_model.specs.declared.queue.Stage.TheVariants as at
 use Rattle.fak_model.specs.Histories.{Owes, seat_words}
 use Rattle.fak_model.specs.Queue.{queue_rules, IsQueueHistory, words_of_call, count, puts, gots, upper_count, lower_count, items_put, item_at, Has, Drew}
 use Rattle.fak_model.specs.QueuePast.{stage}
-use Rattle.fak_model.specs.Seats.{marks_of}
+use Rattle.fak_model.specs.Seats.{In, marks_of}
 use Rattle.fak_model.specs.Calls.{ObjectId, SeatInfo, seat_info, mine_of, Appends, before_appended}
-use Rattle.fak_model.specs.Tokens.{IsSeatToken}
+use Rattle.fak_model.specs.declared.name_set.NameSet.{NameSet}
+use Rattle.fak_model.specs.Names.{HasJust}
+use Rattle.fak_model.specs.Tokens.{IsSeatToken, IsTallyToken}
 use Rattle.fak_core.specs.declared.queue.phase.Phase.{Phase}
 use Rattle.fak_core.specs.declared.queue.phase.Phase.TheVariants as phase
 use Rattle.fak_queue.specs.declared.state.SeatState.{SeatState}
@@ -20,13 +22,18 @@ use Rattle.fak_queue.specs.Shown.{Holder}
 
 -- ---- queues and seats
 
+-- the number of cells of the queue that this object is
+abbrev pub size_of : ObjectId → ℕ
+size_of object = object.table.slots
+
 -- a queue: which object it is, and its number of cells
 pub record QueueInfo : Type 0 where
   pub object : ObjectId
   pub size : ℕ
+  pub cells : size ≡ size_of object
 
-abbrev pub queue_info : ObjectId → ℕ → QueueInfo
-queue_info object size = record { object = object; size = size }
+abbrev pub queue_info : ObjectId → QueueInfo
+queue_info object = record { object = object; size = size_of object; cells = refl }
 
 abbrev pub seat_of : {T : Type 0} → Mark T → ℕ
 seat_of m = m.seat
@@ -55,6 +62,14 @@ IsState s Idle = Owes words_of_call (seat_words (queue_rules 0) s.name s.seen) [
 IsState {T} s (Inserting k) = (x : T) × Drew s.seen s.name (made.Put x) puts k
 IsState {T} s (Deleting k) = (x : T) × Drew s.seen s.name (made.Got x) gots k
 
+-- the seat is of this object, and between two calls
+abbrev pub IsIdleSeat : {T : Type 0} → ObjectId → SeatInfo (Mark T) → Type 0
+IsIdleSeat object s = (s.object ≡ object) × (state_of s ≡ Idle)
+
+-- no call of these names is cut short
+abbrev pub AreIdle : {T : Type 0} → List ℕ → List (Mark T) → Type 0
+AreIdle names h = (n : ℕ) → In n names → Owes words_of_call (seat_words (queue_rules 0) n h) []
+
 -- ---- what the types keep
 
 -- the table of a queue of this size
@@ -79,6 +94,13 @@ pub record IsQueueSeat {T : Type 0} (size seats name : ℕ) (p : Phase T) (left 
   pub rests : RestsAt p (stage me.0.seen name)
   pub lawful : IsQueueHistory size (reverse me.0.seen)
 
+-- what a tally of a queue of this size keeps: its seats are between two calls
+pub record IsQueueTally {T : Type 0} (size seats : ℕ) (names : NameSet) (me : Holder T) : Type 0 where
+  pub token : IsTallyToken seat_of seats phase.Idle me
+  pub just : HasJust names me.0.names
+  pub lawful : IsQueueHistory size (reverse me.0.seen)
+  pub idle : AreIdle me.0.names (reverse me.0.seen)
+
 -- ---- what calls leave
 
 -- the marks of a seat of these kinds
@@ -93,11 +115,12 @@ Makes size kinds old new = Appends (queue_rules size) (made_by old.name kinds) o
 abbrev pub before_own : {T : Type 0} → ℕ → SeatInfo (Mark T) → SeatInfo (Mark T) → List (Mark T)
 before_own number old new = before_appended seat_of number old new
 
--- a granted insertion within the stint: so many Puts stand before its own
+-- a granted insertion within the stint: so many Puts stand before its own, and its item stands under this ticket
 pub record ClaimsIn {T : Type 0} (size k : ℕ) (x : T) (old new : SeatInfo (Mark T)) : Type 0 where
   pub within : drawn_by old < old.stint
   pub makes : Makes size (made.ClaimIn ∷ made.Put x ∷ []) old new
   pub ticket : count puts (before_own 1 old new) ≡ k
+  pub put : item_at (items_put new.seen) k ≡ Some x
 
 -- an insertion that the upper count, as it stood before the first mark, refused
 pub record RefusesFull {T : Type 0} (size : ℕ) (upper : ℤ) (old new : SeatInfo (Mark T)) : Type 0 where
@@ -158,11 +181,12 @@ pub record IsWorn {T : Type 0} (old new : SeatInfo (Mark T)) : Type 0 where
 
 -- ---- whole calls
 
--- an insertion: the claim, and the rest of the call
+-- an insertion: the claim, and the rest of the call; its item stands under its ticket
 pub record Inserts {T : Type 0} (size k : ℕ) (x : T) (old new : SeatInfo (Mark T)) : Type 0 where
   pub within : drawn_by old < old.stint
   pub makes : Makes size (made.ClaimIn ∷ made.Put x ∷ made.Fill k ∷ made.EndIn ∷ []) old new
   pub ticket : count puts (before_own 1 old new) ≡ k
+  pub put : item_at (items_put new.seen) k ≡ Some x
 
 -- a deletion, which hands out the value that was put under its ticket
 pub record Deletes {T : Type 0} (size k : ℕ) (x : T) (old new : SeatInfo (Mark T)) : Type 0 where

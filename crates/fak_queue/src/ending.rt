@@ -2,7 +2,8 @@
 
 ghost use Rattle.std.specs.Prelude.{◌≡◌};
 ghost use Rattle.fak_model.specs.Calls.{IsJoined};
-ghost use Rattle.fak_model.specs.Queue.{contents, queue_rules};
+ghost use Rattle.fak_model.specs.Histories.{AreNamed, IsAtRest};
+ghost use Rattle.fak_model.specs.Queue.{IsQueueHistory, contents, queue_rules};
 ghost use Rattle.fak_model.specs.Seats.{IsWhole};
 ghost use Rattle.fak_queue.specs.declared.state.SeatState.TheVariants.{Idle};
 ghost use Rattle.fak_queue.specs.Queues.{state_of};
@@ -46,11 +47,15 @@ impl<T: Drop> Queue<T> {
         }
     }
 
-    /// Closes the queue, once all seats are in the tally. What is left is what the whole history leaves.
+    /// Closes the queue, once all seats are in the tally. What is left is what the whole history leaves, in which no call
+    /// is cut short.
     pub fn close(self, tally: Tally<T>) -> Rest<T>
         requires fits { tally.object ≡ self.object }
         requires whole { IsWhole self.object.seats tally.names }
-        ensures { result ≡ contents tally.seen }
+        ensures rest { result ≡ contents tally.seen }
+        ensures lawful { IsQueueHistory self.size tally.seen }
+        ensures named { AreNamed (queue_rules self.size) self.object.seats tally.seen }
+        ensures at_rest { IsAtRest (queue_rules self.size) tally.seen }
     {
         let Queue { table, size } = self;
         let Tally {

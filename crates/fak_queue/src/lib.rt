@@ -13,6 +13,7 @@ pub mod opening;
 mod plays;
 pub mod queue;
 pub mod rest;
+pub mod retrying;
 mod rule;
 pub mod seat;
 pub mod state;

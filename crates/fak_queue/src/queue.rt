@@ -22,7 +22,7 @@ impl<T> Model for Queue<T> {
 
     ghost Value = { QueueInfo };
 
-    ghost view = { λ q. queue_info (object_id q.table.shared.table_id q.table.shared.key.seats) q.size };
+    ghost view = { λ q. queue_info (object_id q.table.shared.table_id q.table.shared.key.seats) };
 
     ghost invariant = { λ q. IsQueue q.size q.table.shared.table_id };
 }

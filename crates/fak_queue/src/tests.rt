@@ -6,3 +6,4 @@ mod rows;
 mod storms;
 mod threads;
 mod two_to_one;
+mod waits;

@@ -1,12 +1,14 @@
 -- What joins and closes leave of the invariant of a tally.
 use Rattle.std.proofs.Common.{◌≡◌, ◌≢◌, ℕ, ◌+◌, ◌<◌, ◌==◌, true, false, List, [], ◌∷◌, ◌++◌, length-drop, refl, ap, sym, ◌∙◌, subst, arith, inl, inr}
-use Rattle.std.specs.List.{All}
+use Rattle.std.specs.List.{All, flat_map}
+use Rattle.std.proofs.lemmas.List.{append-nil}
 use Rattle.std.proofs.lemmas.Bool.Decides.{nat_tests}
 use Rattle.std.proofs.lemmas.List.Elements.{All-head, All-tail}
+use Rattle.fak_model.specs.declared.credit.CreditKind.{CreditKind}
 use Rattle.fak_model.specs.declared.credit.CreditMark.{CreditMark}
 use Rattle.fak_model.specs.declared.queue.Kind.{Kind}
 use Rattle.fak_model.specs.declared.queue.Mark.{Mark}
-use Rattle.fak_model.specs.Histories.{sum_below}
+use Rattle.fak_model.specs.Histories.{IsAtRest, seat_words, sum_below}
 use Rattle.fak_model.specs.Credit.{credit_rules}
 use Rattle.fak_model.specs.Queue.{count, puts, gots, items_put, queue_rules}
 use Rattle.fak_model.specs.Seats.{In, IsWhole, Knows, marks_of}
@@ -76,7 +78,10 @@ count-names {T} w seats (m ∷ h) named =
     omega (arith, one, here, rest)
 
 module _ {T : Type 0} {start : ℕ} {credit : TallyInfo CreditMark} {queue : TallyInfo (Mark T)} (t : IsSemTally start credit queue) where
-  -- the names that are whole for the credit are whole for the wait queue
+  -- the names that are whole for the wait queue are whole for the credit, and the other way round
+  pub whole_credit : IsWhole queue.object.seats queue.names → IsWhole credit.object.seats credit.names
+  whole_credit whole = subst (λ (x : ℕ × List ℕ). IsWhole x.0 x.1) (λ i. (t.seats i, t.names i)) whole
+
   pub whole_queue : IsWhole credit.object.seats credit.names → IsWhole queue.object.seats queue.names
   whole_queue whole = subst (λ (x : ℕ × List ℕ). IsWhole x.0 x.1) (λ i. (sym t.seats i, sym t.names i)) whole
 
@@ -110,3 +115,13 @@ module _ {T : Type 0} {start : ℕ} {credit : TallyInfo CreditMark} {queue : Tal
           put = omega (arith, put, passed_or_parked);
           left = omega (arith, put, got, granted, passed_or_woken, passed_or_parked, rest, items);
         }
+
+-- ---- credits at rest
+
+-- each mark of a credit is a whole call
+pub credit_rests : (h : List CreditMark) → IsAtRest credit_rules h
+credit_rests h seat = (seat_words credit_rules seat h, append-nil (seat_words credit_rules seat h) ∙ each (seat_words credit_rules seat h))
+  where
+    each : (ks : List CreditKind) → ks ≡ flat_map (λ (k : CreditKind). k ∷ []) ks
+    each [] = refl
+    each (k ∷ ks) = ap (λ l. k ∷ l) (each ks)

@@ -1,4 +1,4 @@
-pub mod AfterRefusals
+pub mod WholeInsertions
 pub mod Weights
 pub mod SeatCalls
 pub mod Pairing

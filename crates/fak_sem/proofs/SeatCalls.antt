@@ -1,6 +1,6 @@
 -- What downs and ups leave of the invariant of a seat.
 use Rattle.std.proofs.Common.{◌≡◌, ℕ, ◌+◌, ◌<◌, true, false, List, [], ◌∷◌, ◌++◌, refl, ap, sym, ◌∙◌, subst, arith}
-use Rattle.std.specs.Prelude.{ℤ, pos, int_lt}
+use Rattle.std.specs.Prelude.{ℤ, pos, int_lt, Option}
 use Rattle.std.specs.List.{flat_map}
 use Rattle.fak_model.specs.declared.credit.CreditKind.{CreditKind}
 use Rattle.fak_model.specs.declared.credit.CreditKind.TheVariants.{Debit, Credit}
@@ -14,10 +14,10 @@ use Rattle.fak_model.proofs.QueueBackwards.{count_append}
 use Rattle.fak_count.specs.Credits.{CreditInfo, MakesCall}
 use Rattle.fak_queue.specs.declared.state.SeatState.TheVariants.{Idle}
 use Rattle.fak_queue.specs.Queues.{QueueInfo, Makes, made_by, seat_of, drawn_by, state_of}
-use Rattle.fak_sem.specs.Refused.{RefusedInsertion, NotIn, WithdrawnIn, ClosedIn, WithdrawnLate, kinds_not_in, RefusedDeletion, NotOut, WithdrawnOut, kinds_not_out, kinds_in, kinds_out, InsertsAtLast, DeletesAtLast}
-use Rattle.fak_sem.specs.Grants.{weight_from, of_name, parks, wakes}
-use Rattle.fak_sem.specs.Semaphores.{SemId, SemInfo, SemSeatInfo, IsSemSeat, sem_seat, sem_info}
-use Rattle.fak_sem.proofs.AfterRefusals.{made_by_append}
+use Rattle.fak_queue.specs.Retries.{RefusedInsertion, NotIn, WithdrawnIn, ClosedIn, WithdrawnLate, kinds_not_in, RefusedDeletion, NotOut, WithdrawnOut, kinds_not_out, kinds_in, kinds_out, InsertsAtLast, DeletesAtLast}
+use Rattle.fak_sem.specs.Grants.{weight_from, of_name, passes, parks, wakes}
+use Rattle.fak_sem.specs.Semaphores.{SemId, SemInfo, SemSeatInfo, IsSemSeat, sem_seat, sem_info, one_if_some, one_if_none, CountsDown, CountsUp}
+use Rattle.fak_queue.proofs.AfterRefusals.{made_by_append}
 use Rattle.fak_sem.proofs.Weights.{weight-call, weights-calls}
 
 -- ---- how often kinds stand among the marks of refused calls and of a granted one
@@ -150,3 +150,31 @@ wakes_not {found} is t = let u : int_lt found (pos 0) ≡ false = ap (λ z. int_
 
 pub wakes_one : {found word : ℤ} → word ≡ found → int_lt word (pos 0) ≡ true → wakes Credit found ≡ 1
 wakes_one {found} is t = let u : int_lt found (pos 0) ≡ true = ap (λ z. int_lt z (pos 0)) (sym is) ∙ t in rw u refl
+
+pub passes_one : {found word : ℤ} → word ≡ found → int_lt (pos 0) word ≡ true → passes Debit found ≡ 1
+passes_one {found} is t = let u : int_lt (pos 0) found ≡ true = ap (int_lt (pos 0)) (sym is) ∙ t in rw u refl
+
+pub passes_not : {found word : ℤ} → word ≡ found → int_lt (pos 0) word ≡ false → passes Debit found ≡ 0
+passes_not {found} is t = let u : int_lt (pos 0) found ≡ false = ap (int_lt (pos 0)) (sym is) ∙ t in rw u refl
+
+-- ---- how often a seat's downs passed and parked, and its ups woke
+
+module _ {start : ℕ} {credit credit' : SeatInfo CreditMark} {info : CreditInfo} {kind : CreditKind} {found : ℤ} (at : info.start ≡ start) (c : MakesCall kind info credit credit' found) where
+  grown : (weight : CreditKind → ℤ → ℕ) → weight_from (of_name credit'.name weight) start [] credit'.seen ≡ weight_from (of_name credit.name weight) start [] credit.seen + weight kind found
+  grown weight =
+      let name : credit'.name ≡ credit.name = ap (λ (x : SeatInfo CreditMark). x.name) c.appends.same_seat in
+      subst (λ (x : ℕ × ℕ). weight_from (of_name x.0 weight) x.1 [] credit'.seen ≡ weight_from (of_name credit.name weight) x.1 [] credit.seen + weight kind found) (λ i. (sym name i, at i)) (weight-call weight c)
+
+  pub counts_down : {T : Type 0} (queue queue' : SeatInfo (Mark T)) {old : SemSeatInfo T} {answer : Option T} → sem_seat start credit queue ≡ old → passes kind found ≡ one_if_some answer → parks kind found ≡ one_if_none answer → wakes kind found ≡ 0 → CountsDown old (sem_seat start credit' queue') answer
+  counts_down {T} queue queue' {old} {answer} is passed parked woken = subst (λ (s : SemSeatInfo T). CountsDown s (sem_seat start credit' queue') answer) is record {
+    passed = (let g = grown passes in omega (arith, g, passed));
+    parked = (let g = grown parks in omega (arith, g, parked));
+    woken = (let g = grown wakes in omega (arith, g, woken));
+  }
+
+  pub counts_up : {T : Type 0} (queue queue' : SeatInfo (Mark T)) {old : SemSeatInfo T} {answer : Option T} → sem_seat start credit queue ≡ old → passes kind found ≡ 0 → parks kind found ≡ 0 → wakes kind found ≡ one_if_some answer → CountsUp old (sem_seat start credit' queue') answer
+  counts_up {T} queue queue' {old} {answer} is passed parked woken = subst (λ (s : SemSeatInfo T). CountsUp s (sem_seat start credit' queue') answer) is record {
+    passed = (let g = grown passes in omega (arith, g, passed));
+    parked = (let g = grown parks in omega (arith, g, parked));
+    woken = (let g = grown wakes in omega (arith, g, woken));
+  }

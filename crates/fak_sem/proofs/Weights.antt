@@ -158,3 +158,18 @@ debits-parts start before (m ∷ h) = omega (arith, debits-parts start (before +
     each : (kind : CreditKind) (found : ℤ) → debit_weight kind ≡ passes kind found + parks kind found
     each Debit found = elim (int_lt (pos 0) found) as (λ b. 1 ≡ cond b 1 0 + cond b 0 1) [ true ↦ refl | false ↦ refl ]
     each Credit found = refl
+
+-- a name's debit passes or parks
+pub debits-by : (name start : ℕ) (before h : List CreditMark) → weight_from (of_name name passes) start before h + weight_from (of_name name parks) start before h ≡ debits (marks_of (λ (m : CreditMark). m.seat) name h)
+debits-by name start before [] = refl
+debits-by name start before (m ∷ h) = by (m.seat == name) refl (debits-by name start (before ++ m ∷ []) h)
+  where
+    each : (kind : CreditKind) (found : ℤ) → debit_weight kind ≡ passes kind found + parks kind found
+    each Debit found = elim (int_lt (pos 0) found) as (λ b. 1 ≡ cond b 1 0 + cond b 0 1) [ true ↦ refl | false ↦ refl ]
+    each Credit found = refl
+
+    by : (b : Bool) → (m.seat == name) ≡ b
+        → weight_from (of_name name passes) start (before ++ m ∷ []) h + weight_from (of_name name parks) start (before ++ m ∷ []) h ≡ debits (marks_of (λ (x : CreditMark). x.seat) name h)
+        → weight_from (of_name name passes) start before (m ∷ h) + weight_from (of_name name parks) start before (m ∷ h) ≡ debits (marks_of (λ (x : CreditMark). x.seat) name (m ∷ h))
+    by true t rest = rw t (omega (arith, rest, each m.kind (value start before), sum_by-cons debit_weight m.kind (map kind_of (marks_of (λ (x : CreditMark). x.seat) name h))))
+    by false t rest = rw t (omega (arith, rest))

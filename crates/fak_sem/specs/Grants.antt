@@ -46,6 +46,9 @@ downs_parked start h = weight_from (of_all parks) start [] h
 abbrev pub ups_waking : ℕ → List CreditMark → ℕ
 ups_waking start h = weight_from (of_all wakes) start [] h
 
+abbrev pub downs_passed_by : ℕ → ℕ → List CreditMark → ℕ
+downs_passed_by name start h = weight_from (of_name name passes) start [] h
+
 abbrev pub downs_parked_by : ℕ → ℕ → List CreditMark → ℕ
 downs_parked_by name start h = weight_from (of_name name parks) start [] h
 

@@ -1,4 +1,3 @@
-pub mod Refused
 pub mod Grants
 pub mod Semaphores
 pub mod Opening

@@ -1,5 +1,5 @@
 -- What callers see of a semaphore and of its seats, and what calls do to them. Histories have the oldest mark first.
-use Rattle.std.specs.Prelude.{ℕ, zero, suc, ◌<◌, ◌≡◌, ℤ, pos, ◌≤ℤ◌, ◌<ℤ◌, List, [], ◌∷◌, Option, MatchOption}
+use Rattle.std.specs.Prelude.{ℕ, zero, suc, ◌+◌, ◌<◌, ◌≡◌, ℤ, pos, ◌≤ℤ◌, ◌<ℤ◌, List, [], ◌∷◌, Option, Some, None, MatchOption}
 use Rattle.std.specs.List.{All}
 use Rattle.fak_model.specs.declared.credit.CreditKind.TheVariants.{Debit, Credit}
 use Rattle.fak_model.specs.declared.credit.CreditMark.{CreditMark}
@@ -10,9 +10,9 @@ use Rattle.fak_model.specs.Seats.{In}
 use Rattle.fak_model.specs.Calls.{ObjectId, SeatInfo, seat_info, TallyInfo, tally_info, IsJoined}
 use Rattle.fak_count.specs.Credits.{CreditInfo, credit_info, calls_made, MakesCall}
 use Rattle.fak_queue.specs.declared.state.SeatState.TheVariants.{Idle}
-use Rattle.fak_queue.specs.Queues.{QueueInfo, state_of}
-use Rattle.fak_sem.specs.Refused.{InsertsAtLast, DeletesAtLast}
-use Rattle.fak_sem.specs.Grants.{IsMatched}
+use Rattle.fak_queue.specs.Queues.{QueueInfo, size_of, state_of}
+use Rattle.fak_queue.specs.Retries.{InsertsAtLast, DeletesAtLast}
+use Rattle.fak_sem.specs.Grants.{IsMatched, downs_passed_by, downs_parked_by, ups_waking_by}
 
 -- ---- semaphores, seats and tallies
 
@@ -30,6 +30,7 @@ seats_of o = o.credit.seats
 pub record SemInfo : Type 0 where
   pub object : SemId
   pub size : ℕ
+  pub cells : size ≡ size_of object.queue
 
 -- a seat: its semaphore, its name there, its stint, and the histories of the credit and of the wait queue that it has seen
 pub record SemSeatInfo (T : Type 0) : Type 0 where
@@ -62,13 +63,27 @@ credit_tally t = tally_info t.object.credit t.names t.credit_seen
 abbrev pub queue_tally : {T : Type 0} → SemTallyInfo T → TallyInfo (Mark T)
 queue_tally t = tally_info t.object.queue t.names t.queue_seen
 
+-- the seat is of this semaphore; it is between two calls, as it always is
+abbrev pub IsIdleSemSeat : {T : Type 0} → SemId → SemSeatInfo T → Type 0
+IsIdleSemSeat object s = s.object ≡ object
+
+-- how often the seat's downs passed, how often they parked, and how often its ups woke
+abbrev pub passed_by : {T : Type 0} → SemSeatInfo T → ℕ
+passed_by s = downs_passed_by s.name s.object.start s.credit_seen
+
+abbrev pub parked_by : {T : Type 0} → SemSeatInfo T → ℕ
+parked_by s = downs_parked_by s.name s.object.start s.credit_seen
+
+abbrev pub woken_by : {T : Type 0} → SemSeatInfo T → ℕ
+woken_by s = ups_waking_by s.name s.object.start s.credit_seen
+
 -- ---- what the types keep
 
 abbrev pub sem_id : CreditInfo → QueueInfo → SemId
 sem_id credit queue = record { credit = credit.object; queue = queue.object; start = credit.start }
 
 abbrev pub sem_info : CreditInfo → QueueInfo → SemInfo
-sem_info credit queue = record { object = sem_id credit queue; size = queue.size }
+sem_info credit queue = record { object = sem_id credit queue; size = queue.size; cells = queue.cells }
 
 -- a seat of a semaphore with this start, made of these seats
 abbrev pub sem_seat : {T : Type 0} → ℕ → SeatInfo CreditMark → SeatInfo (Mark T) → SemSeatInfo T
@@ -143,6 +158,27 @@ pub record Ups {T : Type 0} (sem : SemInfo) (old new : SemSeatInfo T) (answer : 
   pub found : ℤ
   pub credits : MakesCall Credit (credit_of sem) (credit_part old) (credit_part new) found
   pub wakes : MatchOption answer (WakesNobody found old new) (Wakes sem.size found old new)
+
+-- 1 for an item that is answered, and 1 for none
+abbrev pub one_if_some : {T : Type 0} → Option T → ℕ
+one_if_some (Some x) = 1
+one_if_some None = 0
+
+abbrev pub one_if_none : {T : Type 0} → Option T → ℕ
+one_if_none (Some x) = 0
+one_if_none None = 1
+
+-- one more down of the seat passed, or else parked
+pub record CountsDown {T : Type 0} (old new : SemSeatInfo T) (answer : Option T) : Type 0 where
+  pub passed : passed_by new ≡ passed_by old + one_if_some answer
+  pub parked : parked_by new ≡ parked_by old + one_if_none answer
+  pub woken : woken_by new ≡ woken_by old
+
+-- one more up of the seat woke, where it answers an item
+pub record CountsUp {T : Type 0} (old new : SemSeatInfo T) (answer : Option T) : Type 0 where
+  pub passed : passed_by new ≡ passed_by old
+  pub parked : parked_by new ≡ parked_by old
+  pub woken : woken_by new ≡ woken_by old + one_if_some answer
 
 -- a call beyond the stint, of downs and ups together, changes nothing
 pub record IsWornSeat {T : Type 0} (old new : SemSeatInfo T) : Type 0 where

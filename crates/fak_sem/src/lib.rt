@@ -4,6 +4,7 @@
 
 mod ending;
 pub mod fault;
+pub mod laws;
 mod opening;
 mod retries;
 pub mod seat;

@@ -1,8 +1,8 @@
 //! A semaphore that threads share.
 
-ghost use Rattle.std.specs.Prelude.{◌≡◌, MatchResult};
+ghost use Rattle.std.specs.Prelude.{◌≡◌, IfOk, MatchResult};
 ghost use Rattle.fak_sem.specs.Opening.{IsInRange, IsOpenFault};
-ghost use Rattle.fak_sem.specs.Semaphores.{Downs, IsWornSeat, Ups};
+ghost use Rattle.fak_sem.specs.Semaphores.{CountsDown, CountsUp, Downs, IsWornSeat, Ups};
 
 use crate::fault::{OpenFault, SemWorn};
 use crate::retries::{delete_at_last, insert_at_last};
@@ -45,6 +45,7 @@ impl<T: Drop> Semaphore<T> {
         requires { seat.old.object ≡ self.now.object }
         ensures object { seat.new.object ≡ seat.old.object }
         ensures call { MatchResult result (Downs self.now who seat.old seat.new) (λ worn. (worn.0 ≡ who) × IsWornSeat seat.old seat.new) }
+        ensures counts { IfOk result (CountsDown seat.old seat.new) }
     {
         let Ok(found) = self.credit.debit(&mut seat.credit) else {
             return Err(SemWorn(who));
@@ -64,6 +65,7 @@ impl<T: Drop> Semaphore<T> {
         requires { seat.old.object ≡ self.now.object }
         ensures object { seat.new.object ≡ seat.old.object }
         ensures call { MatchResult result (Ups self.now seat.old seat.new) (λ _. IsWornSeat seat.old seat.new) }
+        ensures counts { IfOk result (CountsUp seat.old seat.new) }
     {
         let Ok(found) = self.credit.credit(&mut seat.credit) else {
             return Err(Worn);

@@ -1,9 +1,13 @@
 //! Seats of a semaphore that were joined.
 
-ghost use Rattle.std.specs.Prelude.{◌≡◌, ◌↔◌, IsTrue};
-ghost use Rattle.fak_model.specs.Seats.{IsWhole, mine};
+ghost use Rattle.std.specs.Prelude.{◌≡◌, ◌↔◌, ℕ, IsTrue};
+ghost use Rattle.fak_model.specs.Credit.{IsCreditHistory, credit_rules};
+ghost use Rattle.fak_model.specs.Histories.{AreNamed, IsAtRest};
+ghost use Rattle.fak_model.specs.Queue.{IsQueueHistory, queue_rules};
+ghost use Rattle.fak_model.specs.Seats.{In, IsWhole, mine};
 ghost use Rattle.fak_count.specs.Credits.{seat_of as credit_name};
-ghost use Rattle.fak_queue.specs.Queues.{seat_of as queue_name};
+ghost use Rattle.fak_queue.specs.Queues.{seat_of as queue_name, size_of};
+ghost use Rattle.fak_sem.specs.Grants.{IsMatched};
 ghost use Rattle.fak_sem.specs.Semaphores.{sem_tally_of, seats_of};
 
 use crate::seat::SemSeat;
@@ -33,7 +37,10 @@ impl<T> Model for SemTally<T> {
 impl<T: Drop> SemTally<T> {
     /// The tally of one seat.
     pub fn of(seat: SemSeat<T>) -> SemTally<T>
-        ensures { result ≡ sem_tally_of seat }
+        ensures value { result ≡ sem_tally_of seat }
+        ensures lawful { IsQueueHistory (size_of result.object.queue) result.queue_seen }
+        ensures credit_named { AreNamed credit_rules (seats_of result.object) result.credit_seen }
+        ensures queue_named { AreNamed (queue_rules (size_of result.object.queue)) (seats_of result.object) result.queue_seen }
     {
         let SemSeat {
             start,
@@ -47,12 +54,19 @@ impl<T: Drop> SemTally<T> {
         }
     }
 
-    /// Whether all seats of the semaphore are in it. Then each mark of both histories is of one of them.
+    /// Whether all seats of the semaphore are in it. Then each mark of both histories is of one of them, and no call is
+    /// cut short.
     pub fn is_whole(&self) -> bool
         ensures whole { IsTrue result ↔ IsWhole (seats_of self.now.object) self.now.names }
         ensures credit { IsTrue result → mine credit_name self.now.names self.now.credit_seen ≡ self.now.credit_seen }
         ensures queue { IsTrue result → mine queue_name self.now.names self.now.queue_seen ≡ self.now.queue_seen }
+        ensures lawful { IsCreditHistory self.now.credit_seen × IsQueueHistory (size_of self.now.object.queue) self.now.queue_seen }
+        ensures credit_named { AreNamed credit_rules (seats_of self.now.object) self.now.credit_seen }
+        ensures queue_named { AreNamed (queue_rules (size_of self.now.object.queue)) (seats_of self.now.object) self.now.queue_seen }
+        ensures credit_rest { IsTrue result → IsAtRest credit_rules self.now.credit_seen }
+        ensures queue_rest { IsTrue result → IsAtRest (queue_rules (size_of self.now.object.queue)) self.now.queue_seen }
+        ensures matched { (name : ℕ) → In name self.now.names → IsMatched self.now.object.start name self.now.credit_seen self.now.queue_seen }
     {
-        self.credit.is_whole()
+        self.queue.is_whole()
     }
 }

@@ -1,4 +1,4 @@
-//! Runs of scripts on one processor.
+//! Runs of scripts.
 
 use super::is_answer;
 use crate::{MainFault, run_script};
@@ -168,6 +168,26 @@ ended 2 stuck 0\n";
 }
 
 #[test]
+fn a_file_that_is_closed_once_keeps_a_use(rt: HostRuntime) {
+    let script = "\
+{\"version\":1,\"slots\":2,\"births\":1,\"quantum\":4,\"semaphores\":[0],\"files\":1,\"programs\":[[[\"open\",7],[\"open\",7],[\"close\",7],[\"stat\",7],[\"spawn\",1]],[[\"say\",\"hi\"]]],\"start\":[0]}";
+    let report = "\
+process 0 program 0 slot 0 ended\n\
+\x20 open 7 entry 0\n\
+\x20 open 7 entry 0\n\
+\x20 close 7 entry 0\n\
+\x20 stat 7 uses 1\n\
+\x20 spawn 0.0\n\
+process 0.0 program 1 slot 1 ended\n\
+\x20 say hi\n\
+file 0 inode 7 uses 1\n\
+births 1 of 1\n\
+ended 2 stuck 0\n";
+    let answer = run_script(&rt, rt.alloc(), script.as_bytes(), 1);
+    assert!(rt; is_answer(answer, 0, report));
+}
+
+#[test]
 fn faults_of_a_script(rt: HostRuntime) {
     let table = [
         ("{\"version\":1,", TextFault::NotJson),
@@ -203,16 +223,51 @@ fn faults_of_a_script(rt: HostRuntime) {
 }
 
 #[test]
-fn only_one_processor_is_there_yet(rt: HostRuntime) {
+fn the_same_report_on_1_to_8_processors(rt: HostRuntime) {
+    let script = "\
+{\"version\":1,\"slots\":2,\"births\":1,\"quantum\":4,\"semaphores\":[0],\"files\":1,\"programs\":[\
+[[\"open\",7],[\"open\",7],[\"close\",7],[\"stat\",7],[\"spawn\",1]],[[\"say\",\"hi\"]]],\"start\":[0]}";
+    let report = "\
+process 0 program 0 slot 0 ended\n\
+\x20 open 7 entry 0\n\
+\x20 open 7 entry 0\n\
+\x20 close 7 entry 0\n\
+\x20 stat 7 uses 1\n\
+\x20 spawn 0.0\n\
+process 0.0 program 1 slot 1 ended\n\
+\x20 say hi\n\
+file 0 inode 7 uses 1\n\
+births 1 of 1\n\
+ended 2 stuck 0\n";
+    for processors in 1..9u64 {
+        let answer = run_script(&rt, rt.alloc(), script.as_bytes(), processors);
+        assert!(rt; is_answer(answer, 0, report), "{processors}");
+    }
+}
+
+#[test]
+fn no_other_number_of_processors(rt: HostRuntime) {
     let script =
         "{\"version\":1,\"slots\":1,\"births\":0,\"quantum\":4,\"semaphores\":[0],\"files\":1,\"programs\":[[]],\"start\":[0]}";
-    for processors in [0, 2, 8, 9] {
+    for processors in [0, 9, u64::MAX] {
         let answer = run_script(&rt, rt.alloc(), script.as_bytes(), processors).map(
             |answer| answer.status,
         );
         assert_eq!(rt; answer, Err(MainFault::Kernel(Fault::BadProcessors)));
     }
     // The script is read first.
-    let answer = run_script(&rt, rt.alloc(), b"[", 2).map(|answer| answer.status);
+    let answer = run_script(&rt, rt.alloc(), b"[", 9).map(|answer| answer.status);
     assert_eq!(rt; answer, Err(MainFault::Text(TextFault::NotJson)));
+}
+
+#[test]
+fn a_seat_is_worn(rt: HostRuntime) {
+    let script =
+        "{\"version\":1,\"slots\":1,\"births\":0,\"quantum\":4,\"stint\":1,\"semaphores\":[0],\"files\":1,\"programs\":[[]],\"start\":[0]}";
+    for processors in 1..3u64 {
+        let answer = run_script(&rt, rt.alloc(), script.as_bytes(), processors).map(
+            |answer| answer.status,
+        );
+        assert_eq!(rt; answer, Err(MainFault::Kernel(Fault::Worn)));
+    }
 }

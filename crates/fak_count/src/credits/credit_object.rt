@@ -6,6 +6,7 @@ ghost use Rattle.fak_model.specs.Credit.{credit_rules};
 ghost use Rattle.fak_model.specs.Calls.{fresh_seats, IsJoined};
 ghost use Rattle.fak_count.specs.Opening.{IsInRange, IsOpenFault};
 ghost use Rattle.fak_count.specs.Credits.{MakesCall, IsWorn, Observes};
+ghost use Rattle.fak_count.specs.Seats.{IsSeatOf};
 
 use crate::credits::key::{CreditKey, CreditView};
 use crate::credits::law::CreditLaw;
@@ -82,7 +83,7 @@ impl Credit {
 
     /// Subtracts 1, and answers the value before.
     pub fn debit(&self, seat: &mut CreditSeat) -> Result<i64, Worn>
-        requires { seat.old.object ≡ self.now.object }
+        requires { IsSeatOf self.now.object seat.old }
         ensures object { seat.new.object ≡ seat.old.object }
         ensures call { MatchResult result (MakesCall Debit self.now seat.old seat.new) (λ _. IsWorn seat.old seat.new) }
     {
@@ -97,7 +98,7 @@ impl Credit {
 
     /// Adds 1, and answers the value before.
     pub fn credit(&self, seat: &mut CreditSeat) -> Result<i64, Worn>
-        requires { seat.old.object ≡ self.now.object }
+        requires { IsSeatOf self.now.object seat.old }
         ensures object { seat.new.object ≡ seat.old.object }
         ensures call { MatchResult result (MakesCall Credited self.now seat.old seat.new) (λ _. IsWorn seat.old seat.new) }
     {
@@ -112,7 +113,7 @@ impl Credit {
 
     /// Loads the value.
     pub fn value(&self, seat: &mut CreditSeat) -> i64
-        requires { seat.old.object ≡ self.now.object }
+        requires { IsSeatOf self.now.object seat.old }
         ensures object { seat.new.object ≡ seat.old.object }
         ensures call { Observes self.now seat.old seat.new result }
     {
@@ -122,7 +123,7 @@ impl Credit {
 
     /// The tally with one more seat.
     pub fn join(&self, tally: CreditTally, seat: CreditSeat) -> CreditTally
-        requires fits { (tally.object ≡ self.now.object) × (seat.object ≡ self.now.object) }
+        requires fits { (tally.object ≡ self.now.object) × IsSeatOf self.now.object seat }
         ensures joined { IsJoined credit_rules tally seat result }
         ensures object { result.object ≡ self.now.object }
     {

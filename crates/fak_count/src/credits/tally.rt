@@ -1,6 +1,8 @@
 //! Seats of a credit that were joined.
 
 ghost use Rattle.std.specs.Prelude.{◌≡◌, ◌↔◌, IsTrue};
+ghost use Rattle.fak_model.specs.Credit.{IsCreditHistory, credit_rules};
+ghost use Rattle.fak_model.specs.Histories.{AreNamed, IsAtRest};
 ghost use Rattle.fak_model.specs.Seats.{IsWhole, mine};
 ghost use Rattle.fak_model.specs.Calls.{tally_of};
 ghost use Rattle.fak_count.specs.Credits.{seat_of};
@@ -38,7 +40,9 @@ impl Model for CreditTally {
 impl CreditTally {
     /// The tally of one seat.
     pub fn of(seat: CreditSeat) -> CreditTally
-        ensures { result ≡ tally_of seat }
+        ensures tally { result ≡ tally_of seat }
+        ensures lawful { IsCreditHistory result.seen }
+        ensures named { AreNamed credit_rules result.object.seats result.seen }
     {
         let CreditSeat {
             token,
@@ -53,10 +57,14 @@ impl CreditTally {
         }
     }
 
-    /// Whether all seats of the credit are in it. Then each mark of its history is of one of them.
+    /// Whether all seats of the credit are in it. Then each mark of its history is of one of them. Each mark is a whole
+    /// call.
     pub fn is_whole(&self) -> bool
         ensures whole { IsTrue result ↔ IsWhole self.now.object.seats self.now.names }
         ensures mine { IsTrue result → mine seat_of self.now.names self.now.seen ≡ self.now.seen }
+        ensures lawful { IsCreditHistory self.now.seen }
+        ensures named { AreNamed credit_rules self.now.object.seats self.now.seen }
+        ensures rest { IsAtRest credit_rules self.now.seen }
     {
         self.names.has_all(self.seats)
     }

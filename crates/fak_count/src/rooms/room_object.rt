@@ -6,6 +6,7 @@ ghost use Rattle.fak_model.specs.Room.{room_rules};
 ghost use Rattle.fak_model.specs.Calls.{fresh_seats, IsJoined};
 ghost use Rattle.fak_count.specs.Opening.{IsInRange, IsOpenFault};
 ghost use Rattle.fak_count.specs.Rooms.{held_amount, IsGranted, IsRefused, MakesCall};
+ghost use Rattle.fak_count.specs.Seats.{IsSeatOf};
 
 use crate::fault::{OpenFault, TirFault};
 use crate::limits::tested_limits;
@@ -81,7 +82,7 @@ impl Room {
     /// Claims `d`, 1 to 1,024, where it fits beside the value, and answers the value that the add found.
     pub fn tir(&self, seat: &mut RoomSeat, d: u64) -> Result<i64, TirFault>
         requires amount { (1 ≤ d) × (d ≤ 1024) }
-        requires fits { seat.old.object ≡ self.now.object }
+        requires fits { IsSeatOf self.now.object seat.old }
         ensures object { seat.new.object ≡ seat.old.object }
         ensures call { MatchResult result (IsGranted d self.now seat.old seat.new) (IsRefused d self.now seat.old seat.new) }
         ensures held { held_amount seat.new ≡ held_amount seat.old + (if is_ok result then d else 0) }
@@ -110,7 +111,7 @@ impl Room {
     /// Gives back `d`, 1 to 1,024, of what the seat holds, and answers the value before.
     pub fn release(&self, seat: &mut RoomSeat, d: u64) -> i64
         requires amount { (1 ≤ d) × (d ≤ 1024) }
-        requires fits { seat.old.object ≡ self.now.object }
+        requires fits { IsSeatOf self.now.object seat.old }
         requires holds { d ≤ held_amount seat.old }
         ensures object { seat.new.object ≡ seat.old.object }
         ensures call { MakesCall (Release d) self.now seat.old seat.new result }
@@ -123,7 +124,7 @@ impl Room {
 
     /// The tally with one more seat.
     pub fn join(&self, tally: RoomTally, seat: RoomSeat) -> RoomTally
-        requires fits { (tally.object ≡ self.now.object) × (seat.object ≡ self.now.object) }
+        requires fits { (tally.object ≡ self.now.object) × IsSeatOf self.now.object seat }
         ensures joined { IsJoined (room_rules self.now.bound) tally seat result }
         ensures object { result.object ≡ self.now.object }
     {

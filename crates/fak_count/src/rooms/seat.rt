@@ -19,19 +19,19 @@ pub struct RoomSeat {
 }
 
 impl Model for RoomSeat {
-    ghost use Rattle.std.specs.Prelude.{◌≡◌, reverse};
+    ghost use Rattle.std.specs.Prelude.{◌≡◌, [], ◌∷◌, reverse};
     ghost use Rattle.fak_model.specs.declared.room.RoomMark.{RoomMark};
     ghost use Rattle.fak_model.specs.Room.{seat_of, amount_held};
     ghost use Rattle.fak_model.specs.Calls.{SeatInfo, object_id};
     ghost use Rattle.fak_model.specs.Tokens.{IsSeatToken};
     ghost use Rattle.fak_core.specs.declared.room.phase.RoomPhase.TheVariants.{Idle};
-    ghost use Rattle.fak_count.specs.Rooms.{room_seat};
+    ghost use Rattle.fak_count.specs.Rooms.{IsSettled, room_seat};
 
     ghost Value = { SeatInfo RoomMark };
 
     ghost view = { λ s. room_seat (object_id s.token.table_id s.seats) s.name s.left s.token.me };
 
-    ghost invariant = { λ s. IsSeatToken seat_of s.seats s.name Idle 0 s.token.me × (s.held ≡ amount_held s.name (reverse s.token.me.0.seen)) };
+    ghost invariant = { λ s. IsSeatToken seat_of s.seats s.name Idle 0 s.token.me × (s.held ≡ amount_held s.name (reverse s.token.me.0.seen)) × IsSettled (s.name ∷ []) (reverse s.token.me.0.seen) };
 }
 
 impl RoomSeat {

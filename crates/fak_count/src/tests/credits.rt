@@ -1,9 +1,12 @@
 //! Credits.
 
-ghost use Rattle.std.specs.Prelude.{◌≡◌};
+ghost use Rattle.std.specs.Prelude.{◌≡◌, ◌+◌, ◌<◌, min};
+ghost use Rattle.std.specs.List.{All};
+ghost use Rattle.fak_model.specs.Credit.{credits as credits_in, debits as debits_in, grants_made};
 
 use crate::credits::{Credit, CreditSeat, CreditTally};
 use crate::fault::{OpenFault, Worn};
+use fak_model::laws::credit::a_credit_grants_what_it_can;
 use std::process::Abort;
 use std::test::*;
 use std::thread::{Threads, join};
@@ -70,6 +73,15 @@ fn credits_out_of_range_are_not_opened(rt: HostRuntime) -> Result<(), Fail> {
     Ok(())
 }
 
+// Whether all seats are joined. What they have seen grants the lesser of debits, and start and credits.
+fn is_granted(tally: &CreditTally) -> bool
+    ensures grants { grants_made 7 tally.now.seen ≡ min (debits_in tally.now.seen) (7 + credits_in tally.now.seen) }
+    ensures named { All (λ m. m.seat < tally.now.object.seats) tally.now.seen }
+{
+    a_credit_grants_what_it_can();
+    tally.is_whole()
+}
+
 // So many debits.
 fn debits(credit: &Credit, mut seat: CreditSeat, count: usize) -> CreditSeat
     requires { seat.object ≡ credit.now.object }
@@ -115,6 +127,6 @@ fn debits_and_credits_of_two_threads_cancel(rt: HostRuntime) -> Result<(), Fail>
     assert_eq!(rt; (a.left(), b.left()), (0, 0));
     assert_eq!(rt; credit.value(&mut c), 7);
     let all = credit.join(credit.join(CreditTally::of(c), a), b);
-    assert!(rt; all.is_whole());
+    assert!(rt; is_granted(&all));
     Ok(())
 }

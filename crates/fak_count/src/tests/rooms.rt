@@ -1,9 +1,13 @@
 //! Rooms.
 
-ghost use Rattle.std.specs.Prelude.{◌≡◌};
+ghost use Rattle.std.specs.Prelude.{◌≡◌, ◌≤◌, IsTrue, pos};
+ghost use Rattle.fak_model.specs.Histories.{sum_below};
+ghost use Rattle.fak_model.specs.Room.{amount_held, value};
+ghost use Rattle.fak_count.specs.Seats.{IsSeatOf};
 
 use crate::fault::{OpenFault, TirFault};
 use crate::rooms::{Room, RoomSeat, RoomTally};
+use fak_model::laws::room::amounts_held_in_a_room_fit;
 use std::process::Abort;
 use std::test::*;
 use std::thread::{Threads, join};
@@ -107,5 +111,41 @@ fn two_threads_leave_a_room_empty(rt: HostRuntime) -> Result<(), Fail> {
     assert_eq!(rt; room.tir(&mut c, 1), Ok(0));
     let all = room.join(room.join(RoomTally::of(c), a), b);
     assert!(rt; all.is_whole());
+    Ok(())
+}
+
+// Whether the tally is whole; the value of a whole room is then what all seats hold.
+fn is_counted(tally: &RoomTally) -> bool
+    ensures { IsTrue result
+        → value tally.now.seen ≡ pos (sum_below (λ seat. amount_held seat tally.now.seen) tally.now.object.seats) }
+{
+    tally.is_whole()
+}
+
+// Whether these two seats are all of the room; what they hold together is within its bound, and the value then.
+fn fit_together(room: &Room, a: RoomSeat, b: RoomSeat) -> (RoomTally, bool)
+    requires { IsSeatOf room.now.object a × IsSeatOf room.now.object b }
+    ensures fits { sum_below (λ seat. amount_held seat result.0.seen) result.0.object.seats ≤ room.now.bound }
+    ensures counts { IsTrue result.1
+        → value result.0.seen ≡ pos (sum_below (λ seat. amount_held seat result.0.seen) result.0.object.seats) }
+{
+    amounts_held_in_a_room_fit();
+    let tally = room.join(RoomTally::of(a), b);
+    let whole = tally.is_whole();
+    (tally, whole)
+}
+
+#[test]
+fn a_whole_room_is_counted(rt: HostRuntime) -> Result<(), Fail> {
+    let Ok((room, mut seats)) = Room::open(rt.alloc(), 5, 2, 2) else {
+        return Err(Fail::from("open"));
+    };
+    let (Some(mut b), Some(a)) = (seats.pop(), seats.pop()) else {
+        return Err(Fail::from("two seats"));
+    };
+    assert_eq!(rt; room.tir(&mut b, 3), Ok(0));
+    let (tally, whole) = fit_together(&room, a, b);
+    assert!(rt; whole);
+    assert!(rt; is_counted(&tally));
     Ok(())
 }

@@ -1,6 +1,6 @@
 //! Scripts whose reports are known.
 
-use crate::{Outcome, Report, report_text, run_one};
+use crate::{Fault, Outcome, Report, report_text, run_one};
 use fak_text::read_script;
 use std::alloc::Global;
 use std::sync::Wait;
@@ -272,5 +272,69 @@ fn names_are_sorted_by_numbers(rt: HostRuntime) -> Result<(), Fail> {
     assert_eq!(rt; report.rows[4].name.as_slice(), [2].as_slice());
     assert_eq!(rt; report.rows[12].name.as_slice(), [10].as_slice());
     assert_eq!(rt; report.births, 2);
+    Ok(())
+}
+
+/// The fault of a script on one processor.
+fn fault_of<R: Wait>(rt: &R, alloc: Global, script: &str) -> Result<Option<Fault>, Fail> {
+    let script = read_script(alloc, script.as_bytes())
+        .ok()
+        .ok_or("a script")?;
+    Ok(run_one(rt, alloc, &script).err())
+}
+
+#[test]
+fn a_stint_that_is_used_up(rt: HostRuntime) -> Result<(), Fail> {
+    let empty =
+        r#"{"version":1,"slots":1,"births":0,"quantum":4,"stint":1,"semaphores":[0],"files":1,"programs":[[]],"start":[0]}"#;
+    assert_eq!(rt; fault_of(&rt, rt.alloc(), empty)?, Some(Fault::Worn));
+    let ups =
+        r#"{"version":1,"slots":1,"births":0,"quantum":9,"stint":4,"semaphores":[0],"files":1,"programs":[[["up",0],["up",0],["up",0],["up",0],["up",0]]],"start":[0]}"#;
+    assert_eq!(rt; fault_of(&rt, rt.alloc(), ups)?, Some(Fault::Worn));
+    let few =
+        r#"{"version":1,"slots":1,"births":0,"quantum":9,"stint":4,"semaphores":[0],"files":1,"programs":[[["up",0],["up",0],["up",0],["up",0]]],"start":[0]}"#;
+    assert_eq!(rt; fault_of(&rt, rt.alloc(), few)?, None);
+    Ok(())
+}
+
+#[test]
+fn the_most_entries_are_closed_and_opened_again(rt: HostRuntime) -> Result<(), Fail> {
+    let script =
+        r#"{"version":1,"slots":1,"births":0,"quantum":50,"semaphores":[],"files":16,"programs":[[
+["open",1],["open",2],["open",3],["open",4],["open",5],["open",6],["open",7],["open",8],
+["open",9],["open",10],["open",11],["open",12],["open",13],["open",14],["open",15],["open",16],
+["open",17],["close",5],["open",17],["close",16],["stat",16],["open",16],["open",16],["stat",16],["stat",17]]],"start":[0]}"#;
+    let (text, status) = answer(&rt, rt.alloc(), script)?;
+    let ends = "  open 16 entry 15
+  open 17 no-entry
+  close 5 entry 4
+  open 17 entry 4
+  close 16 entry 15
+  stat 16 none
+  open 16 entry 15
+  open 16 entry 15
+  stat 16 uses 2
+  stat 17 uses 1
+file 0 inode 1 uses 1
+file 1 inode 2 uses 1
+file 2 inode 3 uses 1
+file 3 inode 4 uses 1
+file 4 inode 17 uses 1
+file 5 inode 6 uses 1
+file 6 inode 7 uses 1
+file 7 inode 8 uses 1
+file 8 inode 9 uses 1
+file 9 inode 10 uses 1
+file 10 inode 11 uses 1
+file 11 inode 12 uses 1
+file 12 inode 13 uses 1
+file 13 inode 14 uses 1
+file 14 inode 15 uses 1
+file 15 inode 16 uses 2
+births 0 of 0
+ended 1 stuck 0
+";
+    assert!(rt; text.as_slice().ends_with(ends.as_bytes()));
+    assert_eq!(rt; status, 0);
     Ok(())
 }

@@ -1,10 +1,13 @@
 //! The laws of a bounded queue's histories, for items of any type.
 
-ghost use Rattle.std.specs.Prelude.{◌≡◌, ◌↔◌, ℕ, ◌++◌, ◌≤◌, List, length, pos, reverse};
-ghost use Rattle.fak_model.specs.Histories.{IsAtRest};
-ghost use Rattle.fak_model.specs.Queue.{IsQueueHistory, contents, count, gots, lower_count, puts, queue_rules, upper_count};
+ghost use Rattle.std.specs.Prelude.{◌≡◌, ◌↔◌, ℕ, ◌+◌, ◌++◌, ◌∷◌, [], ◌<◌, ◌≤◌, List, length, pos, reverse};
+ghost use Rattle.std.specs.List.{sum_by};
+ghost use Rattle.fak_model.specs.declared.queue.Kind.TheVariants.{Fill, Put, Take};
+ghost use Rattle.fak_model.specs.Histories.{AreNamed, IsAtRest, Owes, seat_words};
+ghost use Rattle.fak_model.specs.Queue.{Drew, Has, IsQueueHistory, contents, count, gots, lower_count, puts, queue_rules, upper_count, words_of_call};
 ghost use Rattle.fak_model.specs.QueueOrder.{KeepsCallOrder};
 ghost use Rattle.fak_model.specs.QueuePast.{IsLegalPast};
+ghost use Rattle.fak_model.specs.Weights.{close_of, closed_of, got_of, put_of};
 
 use crate::queue::Mark;
 
@@ -24,6 +27,41 @@ pub fn a_queue_at_rest_counts_its_items<T>()
 /// deletion yielding p has started (Gottlieb, Lubachevsky and Rudolph, TOPLAS 5(2), 1983).
 pub fn a_queue_keeps_the_order_of_its_calls<T>()
     ensures { (size : ℕ) (h : List (Mark T)) → IsQueueHistory size h → KeepsCallOrder h }
+{}
+
+/// What was put was got or is left, under every weight of items; so no more is left than was put, and nothing where as
+/// many were got.
+pub fn a_queue_weighs_what_was_put<T>()
+    ensures weighs { (size : ℕ) (weight : T → ℕ) (h : List (Mark T)) → IsQueueHistory size h
+        → count (put_of weight) h ≡ count (got_of weight) h + sum_by weight (contents h) }
+    ensures puts { (h : List (Mark T)) → count (put_of (λ (x : T). 1)) h ≡ count puts h }
+    ensures gots { (h : List (Mark T)) → count (got_of (λ (x : T). 1)) h ≡ count gots h }
+    ensures few { (h : List (Mark T)) → length (contents h) ≤ count puts h }
+    ensures none { (h : List (Mark T)) → count puts h ≤ count gots h → contents h ≡ [] }
+{}
+
+/// An insertion finds the queue shut only after a `Close`.
+pub fn a_queue_is_found_shut_after_a_close<T>()
+    ensures { (size : ℕ) (h : List (Mark T)) → IsQueueHistory size h → 0 < count closed_of h → 0 < count close_of h }
+{}
+
+/// A `Fill` stands after its seat's `Put`, which drew its ticket, and a `Take` after the `Fill` of its ticket.
+pub fn a_cell_is_put_then_filled_then_taken<T>()
+    ensures filled { (size k : ℕ) (h before after : List (Mark T)) (m : Mark T) → IsQueueHistory size h → before ++ m ∷ after ≡ h
+        → m.kind ≡ Fill k → ((x : T) × Drew before m.seat (Put x) puts k) × (k < count puts before) }
+    ensures taken { (size k : ℕ) (h before after : List (Mark T)) (m : Mark T) → IsQueueHistory size h → before ++ m ∷ after ≡ h
+        → m.kind ≡ Take k → Has (Fill k) before }
+{}
+
+/// A seat that never began a call may be added: a history names no number of seats, it stays named by more, and it is
+/// at rest where those that it names are.
+pub fn a_seat_without_a_call_keeps_a_queue_history<T>()
+    ensures named { (size seats more : ℕ) (h : List (Mark T)) → AreNamed (queue_rules size) seats h → seats ≤ more
+        → AreNamed (queue_rules size) more h }
+    ensures free { (size seats seat : ℕ) (h : List (Mark T)) → AreNamed (queue_rules size) seats h → seats ≤ seat
+        → seat_words (queue_rules size) seat h ≡ [] }
+    ensures rest { (size seats : ℕ) (h : List (Mark T)) → AreNamed (queue_rules size) seats h
+        → ((seat : ℕ) → seat < seats → Owes words_of_call (seat_words (queue_rules size) seat h) []) → IsAtRest (queue_rules size) h }
 {}
 
 /// Every beginning of a queue's history is one.

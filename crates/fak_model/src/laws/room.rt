@@ -1,8 +1,9 @@
 //! The laws of a room's histories.
 
-ghost use Rattle.std.specs.Prelude.{◌≡◌, ℕ, ◌++◌, ◌≤◌, List, pos};
+ghost use Rattle.std.specs.Prelude.{◌≡◌, ℕ, ◌++◌, ◌+◌, ◌<◌, ◌≤◌, List, pos};
 ghost use Rattle.fak_model.specs.Histories.{AreNamed, IsAtRest, sum_below};
-ghost use Rattle.fak_model.specs.Room.{IsRoomHistory, room_rules, amount_held, value};
+ghost use Rattle.fak_model.specs.Room.{IsRoomHistory, room_rules, amount_held, release_amount, total, up_amount, value};
+ghost use Rattle.fak_model.specs.Weights.{other_amount, refusal_of};
 
 use crate::room::RoomMark;
 
@@ -16,6 +17,15 @@ pub fn amounts_held_in_a_room_fit()
 pub fn a_room_at_rest_counts_what_is_held()
     ensures { (bound seats : ℕ) (h : List RoomMark) → IsRoomHistory bound h → AreNamed (room_rules bound) seats h
         → IsAtRest (room_rules bound) h → value h ≡ pos (sum_below (λ seat. amount_held seat h) seats) }
+{}
+
+/// Where each refused claim asked for 1, none is refused before so much is granted as the bound says; and no more is
+/// granted than the bound and what is given back.
+pub fn a_room_refuses_at_its_bound()
+    ensures refused { (bound : ℕ) (h : List RoomMark) → IsRoomHistory bound h → total other_amount h ≡ 0 → 0 < total refusal_of h
+        → bound ≤ total up_amount h }
+    ensures granted { (bound seats : ℕ) (h : List RoomMark) → IsRoomHistory bound h → AreNamed (room_rules bound) seats h
+        → total up_amount h ≤ bound + total release_amount h }
 {}
 
 /// Every beginning of a room's history is one.

@@ -4,42 +4,10 @@ ghost use Rattle.std.specs.Prelude.{◌≡◌, ◌+◌, ◌<◌, IfOk};
 ghost use Rattle.fak_queue.specs.declared.state.SeatState.TheVariants.{Idle};
 ghost use Rattle.fak_queue.specs.Queues.{state_of};
 
-use crate::{DeleteFault, InsertFault, Queue, Rest, Seat, Tally};
+use crate::{Queue, Rest, Seat, Tally};
 use std::alloc::Global;
 use std::sync::Wait;
 use std::thread::{Threads, join};
-
-// Tries again while the queue is full.
-fn insert_one<T: Drop, R: Wait>(rt: &R, queue: &Queue<T>, seat: &mut Seat<T>, item: T)
-    requires { (seat.old.object ≡ queue.now.object) × (state_of seat.old ≡ Idle) }
-    ensures { (seat.new.object ≡ queue.now.object) × (state_of seat.new ≡ Idle) }
-{
-    let mut waiting = item;
-    for _ in rt.forever() {
-        match queue.insert(rt, seat, waiting) {
-            Ok(_) => return,
-            Err(InsertFault::Full { upper: _, item }) => waiting = item,
-            Err(InsertFault::Closed { item }) => waiting = item,
-            Err(InsertFault::Worn { item: _ }) => return,
-        }
-    }
-    unreachable!()
-}
-
-// Tries again while the queue is empty.
-fn delete_one<T: Drop, R: Wait>(rt: &R, queue: &Queue<T>, seat: &mut Seat<T>) -> Option<T>
-    requires { (seat.old.object ≡ queue.now.object) × (state_of seat.old ≡ Idle) }
-    ensures { (seat.new.object ≡ queue.now.object) × (state_of seat.new ≡ Idle) }
-{
-    for _ in rt.forever() {
-        match queue.delete(rt, seat) {
-            Ok((_, item)) => return Some(item),
-            Err(DeleteFault::Empty(_)) => {}
-            Err(DeleteFault::Worn) => return None,
-        }
-    }
-    unreachable!()
-}
 
 // Inserts the items, the last of the list first.
 pub fn insert_all<T: Drop, R: Wait>(
@@ -52,7 +20,7 @@ pub fn insert_all<T: Drop, R: Wait>(
     ensures { (result.object ≡ queue.now.object) × (state_of result ≡ Idle) }
 {
     while let Some(item) = items.pop() {
-        insert_one(rt, queue, &mut seat, item);
+        let _ = queue.wait_insert(rt, &mut seat, item);
     }
     seat
 }
@@ -69,7 +37,7 @@ pub fn delete_all<T: Drop, R: Wait>(
     ensures { (result.0.object ≡ queue.now.object) × (state_of result.0 ≡ Idle) }
 {
     for _ in 0..count {
-        if let Some(item) = delete_one(rt, queue, &mut seat) {
+        if let Ok((_, item)) = queue.wait_delete(rt, &mut seat) {
             let _ = into.push(item);
         }
     }

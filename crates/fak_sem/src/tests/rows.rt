@@ -1,6 +1,12 @@
 //! Worked rows, on one thread.
 
-use crate::{OpenFault, SemTally, SemWorn, Semaphore, Worn};
+ghost use Rattle.std.specs.Prelude.{◌≡◌, ◌+◌, IsTrue, length, pos};
+ghost use Rattle.fak_model.specs.Queue.{contents, lower_count};
+ghost use Rattle.fak_sem.specs.Semaphores.{IsIdleSemSeat, passed_by};
+
+use crate::{OpenFault, SemSeat, SemTally, SemWorn, Semaphore, Worn};
+use fak_model::laws::queue::a_queue_at_rest_counts_its_items;
+use std::sync::Wait;
 use std::test::Fail;
 
 #[test]
@@ -129,5 +135,66 @@ fn the_ranges_of_an_opening(rt: HostRuntime) -> Result<(), Fail> {
             Err(OpenFault::BadStint)
         )
     );
+    Ok(())
+}
+
+// Downs with the numbers below `count`; how many of them passed. A worn seat ends it.
+fn down_below<R: Wait>(
+    rt: &R,
+    semaphore: &Semaphore<u64>,
+    seat: &mut SemSeat<u64>,
+    count: u64,
+) -> u64
+    requires { IsIdleSemSeat semaphore.now.object seat.old }
+    ensures idle { IsIdleSemSeat semaphore.now.object seat.new }
+    ensures passed { passed_by seat.new ≡ passed_by seat.old + result }
+{
+    let mut passed = 0u64;
+    for who in 0..count {
+        match semaphore.down(rt, seat, who) {
+            Ok(Some(_)) => passed += 1,
+            Ok(None) => {}
+            Err(_) => return passed,
+        }
+    }
+    passed
+}
+
+// Whether all seats are in the tally. Then the wait queue's counts are the number of parked items.
+fn counts_the_parked(tally: &SemTally<u64>) -> bool
+    ensures { IsTrue result → lower_count tally.now.queue_seen ≡ pos (length (contents tally.now.queue_seen)) }
+{
+    a_queue_at_rest_counts_its_items::<u64>();
+    tally.is_whole()
+}
+
+#[test]
+fn downs_that_passed_are_counted(rt: HostRuntime) -> Result<(), Fail> {
+    let Ok((semaphore, mut seats)) = Semaphore::<u64>::open(rt.alloc(), 2, 4, 1, 4) else {
+        return Err(Fail::from("open"));
+    };
+    let Some(mut a) = seats.pop() else {
+        return Err(Fail::from("one seat"));
+    };
+    assert_eq!(rt; down_below(&rt, &semaphore, &mut a, 3), 2);
+    assert!(rt; matches!(semaphore.up(&rt, &mut a), Ok(Some(2))));
+    assert!(rt; counts_the_parked(&SemTally::of(a)));
+    Ok(())
+}
+
+#[test]
+fn worn_seats_do_not_wait(rt: HostRuntime) -> Result<(), Fail> {
+    let Ok((semaphore, mut seats)) = Semaphore::<u64>::open(rt.alloc(), 0, 1, 2, 1) else {
+        return Err(Fail::from("open"));
+    };
+    let (Some(mut b), Some(mut a)) = (seats.pop(), seats.pop()) else {
+        return Err(Fail::from("two seats"));
+    };
+    // the wait queue is full, and then empty
+    assert!(rt; matches!(semaphore.down(&rt, &mut a, 5), Ok(None)));
+    assert!(rt; matches!(semaphore.down(&rt, &mut a, 6), Err(SemWorn(6))));
+    assert!(rt; matches!(semaphore.up(&rt, &mut b), Ok(Some(5))));
+    assert!(rt; matches!(semaphore.up(&rt, &mut b), Err(Worn)));
+    assert!(rt; matches!(semaphore.up(&rt, &mut a), Err(Worn)));
     Ok(())
 }

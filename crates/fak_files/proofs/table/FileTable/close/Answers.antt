@@ -1,11 +1,16 @@
-use Rattle.std.proofs.Common.{ℕ, ap, ◌∙◌, sym, subst}
+use Rattle.std.proofs.Common.{◌≡◌, ℕ, length, slice_get, Some, ap, ◌∙◌, sym, subst}
+use Rattle.fak_model.specs.Histories.{AreNamed, IsAtRest}
+use Rattle.fak_model.specs.File.{IsFileHistory, file_rules}
+use Rattle.fak_model.specs.Resting.{AreBetweenCalls}
 use Rattle.fak_model.specs.Seats.{IsWhole}
+use Rattle.fak_model.proofs.Resting.{rest_whole}
 use Rattle.fak_files.specs.Calls.{entries_after}
-use Rattle.fak_files.proofs.Ending.{closed_entries}
+use Rattle.fak_files.specs.Versions.{entry_of}
+use Rattle.fak_files.proofs.Ending.{closed_entries, entries_after-get, entries_after-length}
 use Rattle.fak_files.proofs.table.FileTable.close.Goals as goal
 
-pub returns : goal.returns
-returns c =
+pub returns-clause-entries : goal.returns-clause-entries
+returns-clause-entries c =
     let table = c.self.inside.table.shared.key in
     let me = c.tally.inside.token.me in
     let object = ap (λ t. t.object) c.tally.view_is ∙ (c.requires.table ∙ sym (ap (λ t. t.object) c.self.view_is)) in
@@ -14,3 +19,25 @@ returns c =
     let final = c.close_with-closed.ensures.values.2 in
     let taken = closed_entries table final.0 c.tally.inside.token.id me final.1.0 final.1.1 whole _ final.2 c.self.inside.entries c.self.invariant.0 c.entries_of-entries.result c.entries_of-entries.ensures in
     taken ∙ (λ i. entries_after ((ap (λ t. t.seen) c.tally.view_is) i) 0 ((ap (λ t. t.entries) c.self.view_is) i))
+
+pub returns-clause-each : goal.returns-clause-each
+returns-clause-each c = λ i low. subst (λ l. slice_get l i ≡ Some (entry_of c.args.tally.seen i)) (sym (returns-clause-entries c)) (entries_after-get c.args.tally.seen c.args.self.entries i low)
+
+pub returns-clause-number : goal.returns-clause-number
+returns-clause-number c = ap length (returns-clause-entries c) ∙ entries_after-length c.args.tally.seen 0 c.args.self.entries
+
+pub returns-clause-lawful : goal.returns-clause-lawful
+returns-clause-lawful c =
+    let lawful = subst (λ t. IsFileHistory t.object.seats t.seen) c.tally.view_is c.tally.invariant.2.lawful in
+    subst (λ o. IsFileHistory o.seats c.args.tally.seen) c.requires.table lawful
+
+pub returns-clause-named : goal.returns-clause-named
+returns-clause-named c =
+    let named = subst (λ t. AreNamed (file_rules t.object.seats) t.object.seats t.seen) c.tally.view_is c.tally.invariant.0.named in
+    subst (λ o. AreNamed (file_rules o.seats) o.seats c.args.tally.seen) c.requires.table named
+
+pub returns-clause-rest : goal.returns-clause-rest
+returns-clause-rest c =
+    let named = subst (λ t. AreNamed (file_rules t.object.seats) t.object.seats t.seen) c.tally.view_is c.tally.invariant.0.named in
+    let rest = subst (λ t. AreBetweenCalls (file_rules t.object.seats) t.names t.seen) c.tally.view_is c.tally.invariant.2.rest in
+    subst (λ o. IsAtRest (file_rules o.seats) c.args.tally.seen) c.requires.table (rest_whole (file_rules c.args.tally.object.seats) c.args.tally.object.seats c.args.tally.names c.args.tally.seen named rest c.requires.whole)

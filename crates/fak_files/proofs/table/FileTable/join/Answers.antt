@@ -1,11 +1,15 @@
-use Rattle.std.proofs.Common.{rules, ℕ, ap, subst, ◌∙◌}
+use Rattle.std.proofs.Common.{rules, ℕ, [], ap, sym, subst, ◌∙◌}
 use Rattle.std.specs.Prelude.{reverse}
-use Rattle.fak_model.specs.Calls.{object_id, tally_info, IsJoined}
-use Rattle.fak_model.specs.File.{seat_of, file_rules}
+use Rattle.fak_model.specs.declared.file.FileMark.{FileMark}
+use Rattle.fak_model.specs.Histories.{words_by, Owes}
+use Rattle.fak_model.specs.Calls.{object_id, SeatInfo, TallyInfo, tally_info, IsJoined}
+use Rattle.fak_model.specs.File.{seat_of, kind_of, kinds_of_call, file_rules}
 use Rattle.fak_model.specs.Tokens.{IsSeatToken}
 use Rattle.fak_model.proofs.RunningCalls.{token_slots}
 use Rattle.fak_model.proofs.RunningJoins.{tally_at, seat_at, may_join, token_joined, set_joined, call_joined}
-use Rattle.fak_files.specs.Phases.{phase_of}
+use Rattle.fak_files.specs.Phases.{phase_of, StandsIn}
+use Rattle.fak_files.specs.SeatTokens.{IsSettled}
+use Rattle.fak_files.proofs.Settling.{settled_joined}
 use Rattle.fak_files.specs.Running.{file_object}
 use Rattle.fak_files.proofs.table.FileTable.join.Goals as goal
 
@@ -29,9 +33,15 @@ invariant_of-result c =
     let object = ap (λ x. x.object) c.self.view_is in
     let seat = ap (λ s. s.seat) c.seat.view_is in
     let idle = ap phase_of (ap (λ s. s.hold) c.seat.view_is ∙ c.requires.free) in
-    let token = subst (λ p. IsSeatToken seat_of c.seat.inside.seats c.seat.inside.name p 0 c.seat.inside.token.me) idle c.seat.invariant.token in (
+    let token = subst (λ p. IsSeatToken seat_of c.seat.inside.seats c.seat.inside.name p 0 c.seat.inside.token.me) idle c.seat.invariant.token in
+    let stands = subst (λ p. StandsIn c.seat.inside.seats (words_by seat_of kind_of c.seat.inside.name (reverse c.seat.inside.token.me.0.seen)) p) idle c.seat.invariant.stands in
+    let joined = call_joined o c.tally.invariant.0 token c.tally.view_is seat object c.requires.table.0 c.requires.table.1 c.join_seat.ensures.2 c.compare.ensures.told (c.compare.ensures.same ∙ c.join_seat.ensures.0) in
+    let tally_object = ap (λ t. t.object) c.tally.view_is ∙ (c.requires.table.0 ∙ sym object) in (
       token_joined o c.tally.invariant.0 token c.tally.view_is seat object c.requires.table.0 c.requires.table.1 c.join_seat.ensures.2 c.compare.ensures.told,
       set_joined o c.tally.invariant.0 token c.tally.view_is seat object c.requires.table.0 c.requires.table.1 c.join_seat.ensures.2 c.compare.ensures.told _ _ c.tally.invariant.1 c.insert.ensures,
+      settled_joined c.self.inside.table.shared.key.seats c.tally.inside.seats (ap (λ o. o.seats) tally_object) joined
+          (subst (λ (t : TallyInfo FileMark). IsSettled c.tally.inside.seats t.names t.seen) c.tally.view_is c.tally.invariant.2)
+          (subst (λ (s : SeatInfo FileMark). Owes kinds_of_call (words_by seat_of kind_of s.name s.seen) []) seat stands),
     )
 
 pub returns-clause-joined : goal.returns-clause-joined

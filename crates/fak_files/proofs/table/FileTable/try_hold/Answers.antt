@@ -5,7 +5,7 @@ use Rattle.fak_model.specs.Calls.{object_id}
 use Rattle.fak_files.specs.declared.phase.FilePhase.TheVariants.{Holding}
 use Rattle.fak_files.specs.Phases.{amount_of, phase_of}
 use Rattle.fak_files.specs.SeatTokens.{Makes, Misses}
-use Rattle.fak_files.proofs.SeatCalls.{phase_of-hold_for, file_seat_after, file_seat_missed, granted_of, busy_of}
+use Rattle.fak_files.proofs.SeatCalls.{phase_of-hold_for, file_seat_granted, file_seat_missed, granted_of, busy_of}
 use Rattle.fak_files.proofs.table.FileTable.try_hold.Goals as goal
 
 pub invariant_of-seat : goal.invariant_of-seat
@@ -22,7 +22,7 @@ invariant_of-seat-in-Ok c =
     let seats = sym (ap (λ o. o.seats) object) in
     let name = ap (λ x. slice_index x.0.names 0) c.seat.invariant.token.me_is in
     let made = subst (λ (x : ℕ × ℕ). Makes x.0 x.1 (Take (amount_of x.0 c.args.access) ∷ []) (Holding c.args.access) c.seat.inside.token.me c.claim.new.token.me) (λ i. (seats i, name i)) c.in-Ok.ensures.made in
-    file_seat_after c.hold-seat-inside.result c.seat.invariant made (sym (ap phase_of c.hold-seat-inside.ensures ∙ phase_of-hold_for c.args.access))
+    file_seat_granted c.args.access c.hold-seat-inside.result c.seat.invariant made (ap (λ s. s.hold) c.seat.view_is ∙ c.requires.free) (sym (ap phase_of c.hold-seat-inside.ensures ∙ phase_of-hold_for c.args.access))
 
 pub returns-in-Err-clause-call : goal.returns-in-Err-clause-call
 returns-in-Err-clause-call c =

@@ -8,7 +8,7 @@ use Rattle.fak_queue.proofs.SeatCalls.{left_less, seat_after, state_after, drawn
 use Rattle.fak_queue.proofs.queue.Queue.claim_insert.Goals as goal
 
 pub invariant_of-seat : goal.invariant_of-seat
-invariant_of-seat g c = seat_after c.self.inside.table.shared.key c.seat.invariant c.self.invariant c.seat.view_is c.self.view_is c.requires.object (c.in-Ok.ensures.told c.seat.inside.name (token_names c.seat.invariant.token)) (left_less c.self.inside.table.shared.key c.seat.invariant c.self.invariant c.seat.view_is c.self.view_is c.requires.object) c.admit_insertion.ensures.same
+invariant_of-seat g c = seat_after c.self.inside.table.shared.key c.seat.invariant c.self.invariant c.seat.view_is c.self.view_is c.requires.object (c.in-Ok.ensures.told c.seat.inside.name (token_names c.seat.invariant.token)).part (left_less c.self.inside.table.shared.key c.seat.invariant c.self.invariant c.seat.view_is c.self.view_is c.requires.object) c.admit_insertion.ensures.same
 
 pub invariant_of-seat-in-Err-Full : goal.invariant_of-seat-in-Err-Full
 invariant_of-seat-in-Err-Full g c = seat_refused c.self.inside.table.shared.key c.seat.invariant c.self.invariant c.seat.view_is c.self.view_is c.requires.object c.admit_insertion.ensures.same c.admit_insertion.new.token.me refl refl (subst (λ z. RefusedIn c.self.inside.table.shared.table_id.slots c.self.inside.table.shared.key.seats c.seat.inside.name z c.seat.inside.token.me c.admit_insertion.new.token.me) c.in-Err-Full.field-0-is (c.in-Err-Full.ensures.told c.seat.inside.name (token_names c.seat.invariant.token))) c.requires.idle
@@ -17,10 +17,10 @@ pub invariant_of-seat-in-Err-Shut : goal.invariant_of-seat-in-Err-Shut
 invariant_of-seat-in-Err-Shut g c = seat_refused c.self.inside.table.shared.key c.seat.invariant c.self.invariant c.seat.view_is c.self.view_is c.requires.object c.admit_insertion.ensures.same c.admit_insertion.new.token.me refl refl (subst (λ z. RefusedIn c.self.inside.table.shared.table_id.slots c.self.inside.table.shared.key.seats c.seat.inside.name z c.seat.inside.token.me c.admit_insertion.new.token.me) c.in-Err-Shut.field-0-is (c.in-Err-Shut.ensures.told c.seat.inside.name (token_names c.seat.invariant.token))) c.requires.idle
 
 pub returns-in-Ok-clause-state : goal.returns-in-Ok-clause-state
-returns-in-Ok-clause-state g c = state_after c.self.inside.table.shared.key c.seat.invariant c.self.invariant c.seat.view_is c.self.view_is c.requires.object (c.in-Ok.ensures.told c.seat.inside.name (token_names c.seat.invariant.token)) (left_less c.self.inside.table.shared.key c.seat.invariant c.self.invariant c.seat.view_is c.self.view_is c.requires.object) c.admit_insertion.ensures.same
+returns-in-Ok-clause-state g c = state_after c.self.inside.table.shared.key c.seat.invariant c.self.invariant c.seat.view_is c.self.view_is c.requires.object (c.in-Ok.ensures.told c.seat.inside.name (token_names c.seat.invariant.token)).part (left_less c.self.inside.table.shared.key c.seat.invariant c.self.invariant c.seat.view_is c.self.view_is c.requires.object) c.admit_insertion.ensures.same
 
 pub returns-in-Ok-clause-left : goal.returns-in-Ok-clause-left
-returns-in-Ok-clause-left g c = drawn_after c.self.inside.table.shared.key c.seat.invariant c.self.invariant c.seat.view_is c.self.view_is c.requires.object (c.in-Ok.ensures.told c.seat.inside.name (token_names c.seat.invariant.token)) (left_less c.self.inside.table.shared.key c.seat.invariant c.self.invariant c.seat.view_is c.self.view_is c.requires.object) c.admit_insertion.ensures.same
+returns-in-Ok-clause-left g c = drawn_after c.self.inside.table.shared.key c.seat.invariant c.self.invariant c.seat.view_is c.self.view_is c.requires.object (c.in-Ok.ensures.told c.seat.inside.name (token_names c.seat.invariant.token)).part (left_less c.self.inside.table.shared.key c.seat.invariant c.self.invariant c.seat.view_is c.self.view_is c.requires.object) c.admit_insertion.ensures.same
 
 pub returns-in-Ok-clause-call : goal.returns-in-Ok-clause-call
 returns-in-Ok-clause-call g c = claims_in c.self.inside.table.shared.key c.seat.invariant c.self.invariant c.seat.view_is c.self.view_is c.requires.object c.admit_insertion.ensures.same c.admit_insertion.new.token.me (let some_left = c.if-seat-eq0.false in omega (arith, some_left)) (c.in-Ok.ensures.told c.seat.inside.name (token_names c.seat.invariant.token))

@@ -1,12 +1,15 @@
-use Rattle.std.proofs.Common.{rules, ap, refl, ◌∙◌, subst}
+use Rattle.std.proofs.Common.{rules, ap, refl, sym, ◌∙◌, subst}
 use Rattle.std.specs.Prelude.{reverse}
 use Rattle.fak_model.proofs.RunningCalls.{token_slots}
 use Rattle.fak_model.proofs.RunningJoins.{tally_at, seat_at, may_join, token_joined, set_joined, call_joined}
-use Rattle.fak_model.specs.Calls.{IsJoined, object_id, tally_info}
-use Rattle.fak_model.specs.Queue.{queue_rules}
+use Rattle.atomic_table.specs.Seated.{TableId}
+use Rattle.fak_model.specs.declared.queue.Mark.{Mark}
+use Rattle.fak_model.specs.Calls.{IsJoined, SeatInfo, TallyInfo, object_id, tally_info}
+use Rattle.fak_model.specs.Queue.{IsQueueHistory, queue_rules}
 use Rattle.fak_queue.specs.Shown.{queue_object}
-use Rattle.fak_queue.specs.Queues.{QueueInfo}
+use Rattle.fak_queue.specs.Queues.{QueueInfo, AreIdle}
 use Rattle.fak_queue.proofs.SeatCalls.{idle_token}
+use Rattle.fak_queue.proofs.Tallies.{HasEnded, seat_ended, idle_joined}
 use Rattle.fak_queue.proofs.queue.Queue.join.Goals as goal
 
 pub join_seat-requires : goal.join_seat-requires
@@ -14,11 +17,11 @@ join_seat-requires g c =
     let o = queue_object c.self.inside.table.shared.key.size c.self.inside.table.shared.key.seats in
     let object = ap (λ (x : QueueInfo). x.object) c.self.view_is in
     let seat = idle_token c.seat.invariant c.seat.view_is c.requires.idle in (
-      tally_at o c.tally.invariant.0 seat c.tally.view_is c.seat.view_is object c.requires.fits.0 c.requires.fits.1,
-      seat_at o c.tally.invariant.0 seat c.tally.view_is c.seat.view_is object c.requires.fits.0 c.requires.fits.1,
+      tally_at o c.tally.invariant.token seat c.tally.view_is c.seat.view_is object c.requires.fits.0 c.requires.fits.1,
+      seat_at o c.tally.invariant.token seat c.tally.view_is c.seat.view_is object c.requires.fits.0 c.requires.fits.1,
       token_slots seat,
       search (rules, c.self.invariant.words),
-      may_join o c.tally.invariant.0 seat c.tally.view_is c.seat.view_is object c.requires.fits.0 c.requires.fits.1 _ _,
+      may_join o c.tally.invariant.token seat c.tally.view_is c.seat.view_is object c.requires.fits.0 c.requires.fits.1 _ _,
     )
 
 pub hear-requires : goal.hear-requires
@@ -28,7 +31,7 @@ hear-requires g c =
     let seat = idle_token c.seat.invariant c.seat.view_is c.requires.idle in
     record {
       table = record {
-        same = c.join_seat.ensures.0 ∙ tally_at o c.tally.invariant.0 seat c.tally.view_is c.seat.view_is object c.requires.fits.0 c.requires.fits.1;
+        same = c.join_seat.ensures.0 ∙ tally_at o c.tally.invariant.token seat c.tally.view_is c.seat.view_is object c.requires.fits.0 c.requires.fits.1;
         few = refl;
         words = c.self.invariant.words;
       };
@@ -38,16 +41,23 @@ pub invariant_of-result : goal.invariant_of-result
 invariant_of-result g c =
     let o = queue_object c.self.inside.table.shared.table_id.slots c.self.inside.table.shared.key.seats in
     let object = ap (λ (x : QueueInfo). x.object) c.self.view_is in
-    let seat = idle_token c.seat.invariant c.seat.view_is c.requires.idle in (
-      token_joined o c.tally.invariant.0 seat c.tally.view_is c.seat.view_is object c.requires.fits.0 c.requires.fits.1 c.join_seat.ensures.2 c.hear.ensures.told,
-      set_joined o c.tally.invariant.0 seat c.tally.view_is c.seat.view_is object c.requires.fits.0 c.requires.fits.1 c.join_seat.ensures.2 c.hear.ensures.told _ _ c.tally.invariant.1 c.insert.ensures,
-    )
+    let seat = idle_token c.seat.invariant c.seat.view_is c.requires.idle in
+    let stays = c.hear.ensures.same ∙ c.join_seat.ensures.0 in
+    let here = stays ∙ tally_at o c.tally.invariant.token seat c.tally.view_is c.seat.view_is object c.requires.fits.0 c.requires.fits.1 in
+    let joined = call_joined o c.tally.invariant.token seat c.tally.view_is c.seat.view_is object c.requires.fits.0 c.requires.fits.1 c.join_seat.ensures.2 c.hear.ensures.told {now = c.hear.new.token.table_id} stays in
+    record {
+      token = token_joined o c.tally.invariant.token seat c.tally.view_is c.seat.view_is object c.requires.fits.0 c.requires.fits.1 c.join_seat.ensures.2 c.hear.ensures.told;
+      just = set_joined o c.tally.invariant.token seat c.tally.view_is c.seat.view_is object c.requires.fits.0 c.requires.fits.1 c.join_seat.ensures.2 c.hear.ensures.told _ _ c.tally.invariant.just c.insert.ensures;
+      lawful = subst (λ (t : TableId). IsQueueHistory t.slots (reverse c.hear.new.token.me.0.seen)) (sym here) joined.lawful;
+      idle = idle_joined joined (subst (λ (t : TallyInfo (Mark _)). AreIdle t.names t.seen) c.tally.view_is c.tally.invariant.idle)
+          (subst (λ (s : SeatInfo (Mark _)). HasEnded s.name s.seen) c.seat.view_is (seat_ended c.seat.invariant c.seat.view_is c.requires.idle));
+    }
 
 pub returns-clause-joined : goal.returns-clause-joined
 returns-clause-joined g c =
     let o = queue_object c.self.inside.table.shared.table_id.slots c.self.inside.table.shared.key.seats in
     let object = ap (λ (x : QueueInfo). x.object) c.self.view_is in
     let seat = idle_token c.seat.invariant c.seat.view_is c.requires.idle in
-    let size = c.self.invariant.slots ∙ ap (λ (x : QueueInfo). x.size) c.self.view_is in
+    let size = ap (λ (x : QueueInfo). x.size) c.self.view_is in
     subst (λ k. IsJoined (queue_rules k) c.args.tally c.args.seat (tally_info (object_id c.hear.new.token.table_id c.tally.inside.seats) c.hear.new.token.me.0.names (reverse c.hear.new.token.me.0.seen))) size
-    (call_joined o c.tally.invariant.0 seat c.tally.view_is c.seat.view_is object c.requires.fits.0 c.requires.fits.1 c.join_seat.ensures.2 c.hear.ensures.told {now = c.hear.new.token.table_id} (c.hear.ensures.same ∙ c.join_seat.ensures.0))
+    (call_joined o c.tally.invariant.token seat c.tally.view_is c.seat.view_is object c.requires.fits.0 c.requires.fits.1 c.join_seat.ensures.2 c.hear.ensures.told {now = c.hear.new.token.table_id} (c.hear.ensures.same ∙ c.join_seat.ensures.0))

@@ -1,10 +1,26 @@
+use Rattle.std.proofs.Common.{subst}
+use Rattle.fak_model.specs.Calls.{SeatInfo}
+use Rattle.fak_model.specs.Queue.{IsQueueHistory, queue_rules}
+use Rattle.fak_model.specs.Histories.{AreNamed}
 use Rattle.fak_model.proofs.RunningCalls.{token_names}
 use Rattle.fak_model.proofs.RunningJoins.{tally_token}
 use Rattle.fak_queue.specs.Queues.{seat_of}
 use Rattle.fak_queue.proofs.SeatCalls.{idle_token, just_one}
+use Rattle.fak_queue.proofs.Tallies.{seat_ended, one_idle}
 use Rattle.fak_queue.proofs.tally.Tally.of.Goals as goal
 
 pub invariant_of-result : goal.invariant_of-result
 invariant_of-result g c =
     let token = idle_token c.seat.invariant c.seat.view_is c.requires in
-    (tally_token seat_of _ _ _ _ _ token, just_one c.of.result _ _ (token_names token) c.of.ensures)
+    record {
+      token = tally_token seat_of _ _ _ _ _ token;
+      just = just_one c.of.result _ _ (token_names token) c.of.ensures;
+      lawful = c.seat.invariant.lawful;
+      idle = one_idle _ (token_names token) (seat_ended c.seat.invariant c.seat.view_is c.requires);
+    }
+
+pub returns-clause-lawful : goal.returns-clause-lawful
+returns-clause-lawful g c = c.seat.invariant.lawful
+
+pub returns-clause-named : goal.returns-clause-named
+returns-clause-named g c = c.seat.invariant.token.named

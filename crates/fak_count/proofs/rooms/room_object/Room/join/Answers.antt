@@ -1,10 +1,12 @@
-use Rattle.std.proofs.Common.{rules, ℕ, ap, subst, reverse}
+use Rattle.std.proofs.Common.{rules, ℕ, [], ◌∷◌, refl, ap, subst, reverse}
 use Rattle.fak_model.specs.Room.{room_rules}
-use Rattle.fak_model.specs.Calls.{object_id, tally_info, IsJoined}
+use Rattle.fak_model.specs.declared.room.RoomMark.{RoomMark}
+use Rattle.fak_model.specs.Calls.{object_id, SeatInfo, TallyInfo, tally_info, IsJoined}
 use Rattle.fak_model.proofs.RunningCalls.{token_slots}
 use Rattle.fak_model.proofs.RunningJoins.{tally_at, seat_at, may_join, token_joined, set_joined, call_joined}
 use Rattle.fak_count.specs.RoomShown.{room_object}
-use Rattle.fak_count.specs.Rooms.{RoomInfo}
+use Rattle.fak_count.specs.Rooms.{RoomInfo, IsSettled}
+use Rattle.fak_count.proofs.RoomCalls.{settled_joined}
 use Rattle.fak_count.proofs.rooms.room_object.Room.join.Goals as goal
 
 pub join_seat-requires : goal.join_seat-requires
@@ -21,9 +23,12 @@ join_seat-requires c =
 pub invariant_of-result : goal.invariant_of-result
 invariant_of-result c =
     let o = room_object c.self.inside.table.shared.key in
-    let object = ap (λ (x : RoomInfo). x.object) c.self.view_is in (
+    let object = ap (λ (x : RoomInfo). x.object) c.self.view_is in
+    let joined = call_joined o c.tally.invariant.0 c.seat.invariant.0 c.tally.view_is c.seat.view_is object c.requires.fits.0 c.requires.fits.1 c.join_seat.ensures.2 c.hear_step.ensures.told refl in (
       token_joined o c.tally.invariant.0 c.seat.invariant.0 c.tally.view_is c.seat.view_is object c.requires.fits.0 c.requires.fits.1 c.join_seat.ensures.2 c.hear_step.ensures.told,
       set_joined o c.tally.invariant.0 c.seat.invariant.0 c.tally.view_is c.seat.view_is object c.requires.fits.0 c.requires.fits.1 c.join_seat.ensures.2 c.hear_step.ensures.told _ _ c.tally.invariant.1 c.insert.ensures,
+      settled_joined c.self.inside.table.shared.key.bound joined (subst (λ (t : TallyInfo RoomMark). IsSettled t.names t.seen) c.tally.view_is c.tally.invariant.2)
+          (subst (λ (s : SeatInfo RoomMark). IsSettled (s.name ∷ []) s.seen) c.seat.view_is c.seat.invariant.2),
     )
 
 pub returns-clause-joined : goal.returns-clause-joined

@@ -6,7 +6,7 @@ use Rattle.fak_count.specs.Rooms.{room_seat}
 use Rattle.fak_model.specs.Room.{seat_of, amount_held}
 use Rattle.fak_core.specs.declared.room.phase.RoomPhase.TheVariants.{Idle}
 use Rattle.fak_count.proofs.RoomSteps.{opens_room}
-use Rattle.fak_count.proofs.RoomCalls.{fresh_room_seat}
+use Rattle.fak_count.proofs.RoomCalls.{fresh_room_seat, settled_none}
 use Rattle.fak_count.proofs.rooms.room_object.Room.open.Goals as goal
 
 pub of_words-requires : goal.of_words-requires
@@ -17,8 +17,11 @@ split_seat-requires c = (search rules, search rules, deals (room_object c.in-Ok.
 
 pub invariant_of-seat : goal.invariant_of-seat
 invariant_of-seat c =
-    let dealt = c.split_seat.ensures.4 ∙ dealt_is (room_object c.in-Ok.table.shared.key) Idle 0 c.loop-name.name c.args.seats c.loop-name.rest.id c.loop-name.rest.me (search rules) c.loop-name.invariant.1 in
-    (fresh_token seat_of c.args.seats Idle 0 c.loop-name.name c.split_seat.result.me dealt (search rules) (search rules), sym (ap (λ (x : RoomMine). amount_held c.loop-name.name (reverse x.0.seen)) dealt))
+    let dealt = c.split_seat.ensures.4 ∙ dealt_is (room_object c.in-Ok.table.shared.key) Idle 0 c.loop-name.name c.args.seats c.loop-name.rest.id c.loop-name.rest.me (search rules) c.loop-name.invariant.1 in (
+      fresh_token seat_of c.args.seats Idle 0 c.loop-name.name c.split_seat.result.me dealt (search rules) (search rules),
+      sym (ap (λ (x : RoomMine). amount_held c.loop-name.name (reverse x.0.seen)) dealt),
+      settled_none c.args.bound c.loop-name.name (reverse c.split_seat.result.me.0.seen) (ap (λ (x : RoomMine). reverse x.0.seen) dealt),
+    )
 
 pub loop-name-preserved : goal.loop-name-preserved
 loop-name-preserved c =

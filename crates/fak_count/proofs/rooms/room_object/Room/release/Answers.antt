@@ -1,6 +1,7 @@
-use Rattle.std.proofs.Common.{rules, ◌-◌, refl, ◌∙◌, w64, arith}
+use Rattle.std.proofs.Common.{rules, [], ◌∷◌, ◌-◌, refl, ◌∙◌, w64, arith}
 use Rattle.std.proofs.Math.Facts.{to_z-of_z}
 use Rattle.fak_model.specs.declared.room.RoomKind.TheVariants.{Release}
+use Rattle.fak_model.specs.Room.{Released}
 use Rattle.fak_count.proofs.RoomCalls.{did_release, at_room, same_table, own_token, holds_seen, held_old, seat_after, held_after, makes_call}
 use Rattle.fak_count.proofs.rooms.room_object.Room.release.Goals as goal
 
@@ -19,7 +20,7 @@ invariant_of-seat c =
     let at = at_room c.self.inside.table.shared.key c.seat.inside.left c.seat.invariant c.seat.view_is c.self.view_is c.requires.fits in
     let held = held_old at in
     let enough = c.requires.holds in
-    seat_after at (did_release (own_token at) c.release_step-found.ensures.told) (c.seat.inside.held - c.args.d) (omega (arith, held, enough))
+    seat_after at (did_release (own_token at) c.release_step-found.ensures.told) (Released c.args.d ∷ []) refl (c.seat.inside.held - c.args.d) (omega (arith, held, enough))
 
 pub returns-clause-call : goal.returns-clause-call
 returns-clause-call c =

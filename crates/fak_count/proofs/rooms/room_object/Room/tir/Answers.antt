@@ -1,7 +1,8 @@
-use Rattle.std.proofs.Common.{rules, ◌+◌, ◌-◌, ◌^◌, ◌<◌, ◌∙◌, w64, arith, inl, inr}
+use Rattle.std.proofs.Common.{rules, [], ◌∷◌, refl, ◌+◌, ◌-◌, ◌^◌, ◌<◌, ◌∙◌, w64, arith, inl, inr}
 use Rattle.std.proofs.Math.Facts.{to_z-of_z}
 use Rattle.fak_model.specs.declared.room.RoomKind.TheVariants.{Up, No}
-use Rattle.fak_model.proofs.RunningCalls.{token_name}
+use Rattle.fak_model.specs.Room.{Granted, Refused, Withdrawn}
+use Rattle.fak_model.proofs.RunningCalls.{token_name, token_phase}
 use Rattle.fak_count.proofs.RoomCalls.{did_refuse, did_claim, did_withdraw, token_adding, token_backing, held_fits, at_room, own_token, within_stint, seat_after, held_after, makes_call, withdraws_claim}
 use Rattle.fak_count.proofs.rooms.room_object.Room.tir.Goals as goal
 
@@ -13,7 +14,7 @@ invariant_of-seat c =
     let bound = c.self.invariant.1 in
     let fails = c.if-not-fits.true in
     let did = did_refuse (own_token at) c.test_step-tested.ensures.told (omega (arith, bound, fails)) in
-    seat_after at did c.seat.inside.held (omega arith)
+    seat_after at did (Refused c.args.d ∷ []) refl c.seat.inside.held (omega arith)
 
 pub returns-then-not-fits-clause-call : goal.returns-then-not-fits-clause-call
 returns-then-not-fits-clause-call c =
@@ -49,6 +50,14 @@ back_step-requires-clause-seat c =
     let fails = c.if-not-still_fits.true in
     token_name (token_backing (own_token at) c.test_step-tested.ensures.told (omega (arith, bound, passes)) c.add_step-found.ensures.told (omega (arith, bound, fails)))
 
+pub back_step-requires-clause-phase : goal.back_step-requires-clause-phase
+back_step-requires-clause-phase c =
+    let at = at_room c.self.inside.table.shared.key c.seat.inside.left c.seat.invariant c.seat.view_is c.self.view_is c.requires.fits in
+    let bound = c.self.invariant.1 in
+    let passes = c.if-not-fits.false in
+    let fails = c.if-not-still_fits.true in
+    token_phase (token_backing (own_token at) c.test_step-tested.ensures.told (omega (arith, bound, passes)) c.add_step-found.ensures.told (omega (arith, bound, fails)))
+
 pub invariant_of-seat-then-not-still_fits : goal.invariant_of-seat-then-not-still_fits
 invariant_of-seat-then-not-still_fits c =
     let at = at_room c.self.inside.table.shared.key c.seat.inside.left c.seat.invariant c.seat.view_is c.self.view_is c.requires.fits in
@@ -56,7 +65,7 @@ invariant_of-seat-then-not-still_fits c =
     let passes = c.if-not-fits.false in
     let fails = c.if-not-still_fits.true in
     let did = did_withdraw (own_token at) c.test_step-tested.ensures.told (omega (arith, bound, passes)) c.add_step-found.ensures.told (omega (arith, bound, fails)) c.back_step.ensures.told in
-    seat_after at did c.seat.inside.held (omega arith)
+    seat_after at did (Withdrawn c.args.d ∷ []) refl c.seat.inside.held (omega arith)
 
 pub returns-then-not-still_fits-clause-call : goal.returns-then-not-still_fits-clause-call
 returns-then-not-still_fits-clause-call c =
@@ -87,7 +96,7 @@ overflow_add-seat c =
     let passes = c.if-not-fits.false in
     let still_passes = c.if-not-still_fits.false in
     let did = did_claim (own_token at) c.test_step-tested.ensures.told (omega (arith, bound, passes)) c.add_step-found.ensures.told (omega (arith, bound, still_passes)) in
-    let held = (seat_after at did (c.seat.inside.held + c.args.d) (omega arith)).1 in
+    let held = (seat_after at did (Granted c.args.d ∷ []) refl (c.seat.inside.held + c.args.d) (omega arith)).1 in
     let fits = held_fits (own_token at) c.test_step-tested.ensures.told (omega (arith, bound, passes)) c.add_step-found.ensures.told (omega (arith, bound, still_passes)) in
     let all : c.seat.inside.held + c.args.d < 2 ^ 64 = omega (arith, held, fits) in
     search (rules, all)
@@ -99,7 +108,7 @@ invariant_of-seat-2 c =
     let passes = c.if-not-fits.false in
     let still_passes = c.if-not-still_fits.false in
     let did = did_claim (own_token at) c.test_step-tested.ensures.told (omega (arith, bound, passes)) c.add_step-found.ensures.told (omega (arith, bound, still_passes)) in
-    seat_after at did (c.seat.inside.held + c.args.d) (omega arith)
+    seat_after at did (Granted c.args.d ∷ []) refl (c.seat.inside.held + c.args.d) (omega arith)
 
 pub returns-clause-call : goal.returns-clause-call
 returns-clause-call c =

@@ -1,0 +1,6 @@
+use Rattle.fak_files.specs.Calls.{IsFreeSeatOf}
+use Rattle.fak_files.proofs.tests.hold_often.Given as goal
+
+-- the seat is of this table, and holds nothing
+abbrev pub invariant-loop : goal.invariant-loop
+invariant-loop l = IsFreeSeatOf l.table.object l.seat

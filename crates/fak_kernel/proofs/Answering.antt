@@ -1,0 +1,54 @@
+-- What the answers of threads tell of those that have left, and of a fault.
+use Rattle.std.proofs.Common.{◌≡◌, ◌⊎◌, ℕ, zero, suc, ◌<◌, Bool, List, [], ◌∷◌, length, map, get_or, ap, sym, ◌∙◌, subst, arith, inl, inr}
+use Rattle.std.specs.Prelude.{Option, Some, None, Result, Ok, Err, IfErr}
+use Rattle.std.proofs.lemmas.List.{get_or-map, length-map}
+use Rattle.fak_text.specs.Script.{ScriptOf}
+use Rattle.fak_kernel.specs.declared.fault.Fault.{Fault}
+use Rattle.fak_kernel.specs.declared.fault.Fault.TheVariants.{Memory}
+use Rattle.fak_kernel.specs.Faults.{IsOfLoop}
+use Rattle.fak_kernel.specs.ListScheduler.{turn_over}
+use Rattle.fak_kernel.specs.Processors.{ObjectsOf, ProcessorOf, IsReached, lists_of}
+use Rattle.fak_kernel.specs.Begun.{Between, IsLeftBy}
+use Rattle.fak_kernel.specs.Threads.{HasAnswered, HasBegun, HasLeft, IsOfRun, as_left, first_fault}
+
+-- what each answer tells, the one that has left tells
+pub left_at : {A : Type 0} (P : ℕ → Result (Option A) Fault → Type 0) (answers : List (Result (Option A) Fault)) (left : List A) → map as_left left ≡ answers
+    → ((i : ℕ) (d : Result (Option A) Fault) → i < length answers → P i (get_or answers i d)) → (i : ℕ) (d : A) → i < length left → P i (as_left (get_or left i d))
+left_at P answers left is each i d low =
+    let long : i < length answers = omega (arith, low, length-map left as_left, ap length is) in
+    subst (P i) (ap (λ l. get_or l i (as_left d)) (sym is) ∙ get_or-map as_left left i d (as_left d) low) (each i (as_left d) long)
+
+-- what each fault is, the first is
+pub met_first : {A : Type 0} (Q : Fault → Type 0) (answers : List (Result A Fault)) (fault : Fault) → ((i : ℕ) (d : Result A Fault) → i < length answers → IfErr (get_or answers i d) Q) → first_fault answers ≡ Some fault → Q fault
+met_first Q [] fault each is = search Rattle.std.proofs.Common.rules
+met_first Q (Ok x ∷ others) fault each is = met_first Q others fault (λ i d low. each (suc i) d (omega (arith, low))) is
+met_first Q (Err f ∷ others) fault each is =
+    let same : f ≡ fault = search Rattle.std.proofs.Common.rules in
+    subst Q same (each zero (Err f) (omega arith))
+
+-- all have left
+pub have_left : {script : ScriptOf} {o : ObjectsOf} {processors : ℕ} {refuses : Bool} (answers : List (Result (Option ProcessorOf) Fault)) (left : List ProcessorOf) → map as_left left ≡ answers
+    → ((i : ℕ) (d : Result (Option ProcessorOf) Fault) → i < length answers → HasAnswered script o processors refuses i (get_or answers i d)) → (i : ℕ) (d : ProcessorOf) → i < length left → HasLeft script o processors i (get_or left i d)
+have_left {script} {o} {processors} {refuses} answers left is each i d low = let a = left_at (HasAnswered script o processors refuses) answers left is each i d low in a.left
+
+-- the fault that is answered is one of a run
+pub run_fault : {script : ScriptOf} {o : ObjectsOf} {processors : ℕ} {refuses : Bool} (answers : List (Result (Option ProcessorOf) Fault)) (fault : Fault)
+    → ((i : ℕ) (d : Result (Option ProcessorOf) Fault) → i < length answers → HasAnswered script o processors refuses i (get_or answers i d)) → (first_fault answers ≡ Some fault) ⊎ ((first_fault answers ≡ None) × (fault ≡ Memory)) → IsOfRun refuses fault
+run_fault {refuses = refuses} answers fault each (inl is) = inl (met_first (IsOfLoop refuses) answers fault (λ i d low. let a = each i d low in a.fault) is)
+run_fault answers fault each (inr is) = inl (inl (inl is.1))
+
+-- each processor has begun
+pub begun_each : {script : ScriptOf} {o : ObjectsOf} (processors : ℕ) (all : List ProcessorOf) → length all ≡ processors → ((i : ℕ) (d : ProcessorOf) → i < length all → Between script o i (get_or all i d))
+    → (processors ≡ 1 → (d : ProcessorOf) → IsReached script (get_or all 0 d) (turn_over (lists_of script (get_or all 0 d)))) → (i : ℕ) (d : ProcessorOf) → i < length all → HasBegun script o processors i (get_or all i d)
+begun_each {script} processors all long each alone i d low = record {
+  between = each i d low;
+  alone = λ one. let first : i ≡ 0 = omega (arith, one, long, low) in subst (λ k. IsReached script (get_or all k d) (turn_over (lists_of script (get_or all k d)))) (sym first) (alone one d);
+}
+
+-- each one is left, and the only one as the list scheduler ends
+pub left_each : {script : ScriptOf} {o : ObjectsOf} {processors : ℕ} (left : List ProcessorOf) → ((i : ℕ) (d : ProcessorOf) → i < length left → HasLeft script o processors i (get_or left i d)) → (i : ℕ) (d : ProcessorOf) → i < length left → IsLeftBy script o i (get_or left i d)
+left_each left each i d low = let h = each i d low in h.left
+
+pub left_alone : {script : ScriptOf} {o : ObjectsOf} {processors : ℕ} (left : List ProcessorOf) → ((i : ℕ) (d : ProcessorOf) → i < length left → HasLeft script o processors i (get_or left i d)) → length left ≡ processors → processors ≡ 1 → (d : ProcessorOf)
+    → IsReached script (get_or left 0 d) (turn_over (lists_of script (get_or left 0 d))) × ((lists_of script (get_or left 0 d)).ready ≡ [])
+left_alone left each long one d = let h = each 0 d (omega (arith, long, one)) in (h.alone one, h.still one)

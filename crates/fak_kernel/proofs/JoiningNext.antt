@@ -1,0 +1,23 @@
+-- What the next item of an iterator is, and what the others are.
+use Rattle.std.proofs.Common.{◌≡◌, ℕ, suc, ◌+◌, ◌<◌, List, ◌∷◌, get_or, ap, sym, ◌∙◌, subst, arith}
+
+pub took : {A : Type 0} (Q : ℕ → A → Type 0) (n m lo ln : ℕ) {old new : List A} {x : A} → m ≡ n + 1 → old ≡ x ∷ new → lo ≡ ln + 1 → ((k : ℕ) (d : A) → k < lo → Q (n + k) (get_or old k d))
+    → Q n x × ((k : ℕ) (d : A) → k < ln → Q (m + k) (get_or new k d))
+took {A} Q n m lo ln {old} {new} {x} next is long each =
+    let plus : n + 0 ≡ n = omega arith in
+    let here : Q (n + 0) x = subst (Q (n + 0)) (ap (λ l. get_or l 0 x) is) (each 0 x (omega (arith, long))) in (
+      subst (λ (j : ℕ). Q j x) plus here,
+      λ k d low.
+          let e : n + (k + 1) ≡ m + k = omega (arith, next) in
+          let one : k + 1 ≡ suc k = omega arith in
+          let there : Q (n + (k + 1)) (get_or new k d) = subst (Q (n + (k + 1))) (ap (λ l. get_or l (k + 1) d) is ∙ ap (λ j. get_or (x ∷ new) j d) one) (each (k + 1) d (omega (arith, low, long))) in
+          subst (λ (j : ℕ). Q j (get_or new k d)) e there,
+    )
+
+pub took_first : {A : Type 0} (Q : ℕ → A → Type 0) (la lo ln : ℕ) {all old new : List A} {x : A} → old ≡ all → lo ≡ la → old ≡ x ∷ new → lo ≡ ln + 1 → ((k : ℕ) (d : A) → k < la → Q k (get_or all k d))
+    → Q 0 x × ((k : ℕ) (d : A) → k < ln → Q (1 + k) (get_or new k d))
+took_first {A} Q la lo ln {all} {old} {new} {x} same len is long each =
+    took Q 0 1 lo ln (omega arith) is long (λ k d low.
+    let plus : k ≡ 0 + k = omega arith in
+    let h : Q k (get_or all k d) = each k d (omega (arith, low, len)) in
+    subst (λ (j : ℕ). Q j (get_or old k d)) plus (subst (λ (l : List A). Q k (get_or l k d)) (sym same) h))

@@ -1,0 +1,36 @@
+-- The loop of the only processor.
+use Rattle.std.proofs.Common.{◌≡◌, suc, List, [], ◌∷◌, refl, ap, sym, ◌∙◌}
+use Rattle.std.specs.Prelude.{Option, None}
+use Rattle.fak_text.specs.Script.{ScriptOf}
+use Rattle.fak_text.specs.Journal.{Process}
+use Rattle.fak_kernel.specs.ListScheduler.{Lists, State, Turn, step, take_front}
+use Rattle.fak_kernel.specs.Processors.{ProcessorOf, IsAlone, GoesOn, GoesTo, IsReached, lists_of}
+
+-- the processor with who has it
+abbrev pub state_of : ScriptOf → ProcessorOf → Option Turn → State
+state_of script p running = record { running = running; lists = lists_of script p }
+
+-- one step more, and a look at `busy`
+pub reached_on : {script : ScriptOf} {p q r : ProcessorOf} (a b : Option Turn) → IsReached script p (state_of script p a) → (IsAlone script p → GoesOn script q b (step script (state_of script p a)))
+    → (IsAlone script q → GoesTo script r (lists_of script q)) → IsReached script r (state_of script r b)
+reached_on {script} {p} {q} {r} a b was made looked =
+    let m = made was.alone in
+    let l = looked m.alone in
+    record {
+      alone = l.alone;
+      count = suc was.count;
+      reached = (λ i. record { running = b; lists = l.lists_are i }) ∙ (m.state_is ∙ ap (step script) was.reached);
+    }
+
+none_ready : (l s : Lists) (ready : List Process) → s.ready ≡ ready → record { running = None; lists = l } ≡ take_front s ready → l.ready ≡ []
+none_ready l s [] is e = ap (λ (x : State). x.lists.ready) e ∙ is
+none_ready l s (x ∷ xs) is e = absurd (let t = ap (λ (y : State). y.running) e in cc)
+
+-- where nothing ran before a step and nothing runs after it, nobody is ready
+pub nobody_ready : {script : ScriptOf} {p q r : ProcessorOf} (a b : Option Turn) → a ≡ None → b ≡ None → IsAlone script p → (IsAlone script p → GoesOn script q b (step script (state_of script p a)))
+    → (IsAlone script q → GoesTo script r (lists_of script q)) → (lists_of script r).ready ≡ []
+nobody_ready {script} {p} {q} {r} a b idle over alone made looked =
+    let m = made alone in
+    let l = looked m.alone in
+    ap (λ (x : Lists). x.ready) l.lists_are
+    ∙ none_ready (lists_of script q) (lists_of script p) (lists_of script p).ready refl ((λ i. record { running = sym over i; lists = lists_of script q }) ∙ (m.state_is ∙ (λ i. step script (record { running = idle i; lists = lists_of script p }))))

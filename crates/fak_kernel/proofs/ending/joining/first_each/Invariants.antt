@@ -1,0 +1,7 @@
+use Rattle.std.proofs.Common.{◌≡◌, ◌++◌, map}
+use Rattle.std.specs.Vec.Iter.{into_iter_items}
+use Rattle.fak_sem.specs.Semaphores.{sem_tally_of}
+use Rattle.fak_kernel.proofs.ending.joining.first_each.Given as goal
+
+abbrev pub invariant-loop-seat : goal.invariant-loop-seat
+invariant-loop-seat g l = l.tallies.items ++ map sem_tally_of (into_iter_items l.seat-iterator) ≡ map sem_tally_of l.fn.seats

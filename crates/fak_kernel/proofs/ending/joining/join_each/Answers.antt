@@ -1,0 +1,13 @@
+use Rattle.std.proofs.Common.{◌≡◌, [], List, drop, arith, subst}
+use Rattle.fak_sem.specs.Semaphores.{SemTallyInfo}
+use Rattle.fak_text.specs.Journal.{Process}
+use Rattle.std.proofs.lemmas.List.{append-nil}
+use Rattle.fak_kernel.specs.Joined.{JoinEach}
+use Rattle.fak_kernel.proofs.JoiningEach.{drop_past, join_none}
+use Rattle.fak_kernel.proofs.ending.joining.join_each.Goals as goal
+
+pub returns-clause-joined : goal.returns-clause-joined
+returns-clause-joined g c =
+    let inv = c.loop-semaphore.invariant in
+    let none : drop c.loop-semaphore.semaphore-index c.args.semaphores.now ≡ [] = drop_past c.loop-semaphore.semaphore-index c.args.semaphores.now (omega (arith, c.loop-semaphore-test.false)) in
+    subst (λ (l : List (SemTallyInfo Process)). JoinEach c.args.semaphores.now c.args.tallies.items c.args.seats l) (append-nil c.loop-semaphore.joined.items) (inv.whole [] (join_none _ c.loop-semaphore.tallies.rest.items c.loop-semaphore.seats.rest.items none inv.tallies inv.seats))

@@ -1,0 +1,15 @@
+use Rattle.std.proofs.Common.{[], subst}
+use Rattle.std.proofs.lemmas.List.{append-nil}
+use Rattle.fak_kernel.specs.ListScheduler.{numbers_from}
+use Rattle.fak_kernel.specs.Whole.{begun_names}
+use Rattle.fak_kernel.specs.Begun.{Begins}
+use Rattle.fak_kernel.proofs.Starting.{begins_then, reached_first}
+use Rattle.fak_kernel.proofs.processor.Processor.begin.Goals as goal
+
+pub returns-clause-general : goal.returns-clause-general
+returns-clause-general g c =
+    let script = g.K.Run.script in
+    subst (λ slots. Begins script [] [] slots (begun_names 0 script.start) c.args.self.now c.start_processes.new.self) (append-nil (numbers_from 0 script.slots)) (begins_then c.in_ok-free_slots.ensures.general c.in_ok-start_processes.ensures.general)
+
+pub returns-clause-alone : goal.returns-clause-alone
+returns-clause-alone g c = λ a. reached_first (c.in_ok-start_processes.ensures.alone (c.in_ok-free_slots.ensures.alone a))

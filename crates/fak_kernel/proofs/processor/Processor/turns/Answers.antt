@@ -1,0 +1,17 @@
+use Rattle.std.proofs.Common.{◌≡◌, true, rules}
+use Rattle.fak_kernel.proofs.Acting.{moves_none}
+use Rattle.fak_kernel.proofs.Looping.{moves_on, leaves_none}
+use Rattle.fak_kernel.proofs.Working.{reached_on}
+use Rattle.fak_kernel.proofs.processor.Processor.turns.Goals as goal
+
+pub loop-init : goal.loop-init
+loop-init g c = ((tt, tt), c.requires.fits, moves_none c.args.self, λ r. r)
+
+pub loop-preserved : goal.loop-preserved
+loop-preserved g c =
+    ((tt, tt), c.is_done.ensures.fits, moves_on c.loop.running c.in_ok-running.running c.loop.invariant.2 c.in_ok-running.ensures.general c.is_done.ensures.gains, λ r. reached_on c.loop.running c.in_ok-running.running (c.loop.invariant.3 r) c.in_ok-running.ensures.alone c.is_done.ensures.alone)
+
+pub returns-then-is_done-clause-general : goal.returns-then-is_done-clause-general
+returns-then-is_done-clause-general g c =
+    let done : c.is_done.result ≡ true = search rules in
+    leaves_none c.loop.running c.in_ok-running.running c.loop.invariant.2 c.in_ok-running.ensures.general c.is_done.ensures.gains (c.is_done.ensures.done done).1 (c.is_done.ensures.idle done)

@@ -1,0 +1,6 @@
+use Rattle.std.proofs.Common.{◌≡◌, drop}
+use Rattle.fak_kernel.specs.Threads.{first_fault}
+use Rattle.fak_kernel.proofs.run_threads.answering.first_fault.Given as goal
+
+abbrev pub invariant-loop-answer : goal.invariant-loop-answer
+invariant-loop-answer g l = first_fault (drop l.answer-index l.answers) ≡ first_fault l.answers

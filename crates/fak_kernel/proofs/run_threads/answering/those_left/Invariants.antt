@@ -1,0 +1,7 @@
+use Rattle.std.proofs.Common.{◌≡◌, ◌++◌, map}
+use Rattle.std.specs.Vec.Iter.{into_iter_items}
+use Rattle.fak_kernel.specs.Threads.{as_left}
+use Rattle.fak_kernel.proofs.run_threads.answering.those_left.Given as goal
+
+abbrev pub invariant-loop-answer : goal.invariant-loop-answer
+invariant-loop-answer g l = map as_left l.left.items ++ into_iter_items l.answer-iterator ≡ l.fn.answers.items

@@ -1,0 +1,36 @@
+use Rattle.std.proofs.Common.{◌≡◌, ℕ, ◌+◌, vec_len, get_or, arith, subst}
+use Rattle.std.specs.Vec.Iter.{into_iter_len, into_iter_items}
+use Rattle.std.proofs.iter.Serving.{serving}
+use Rattle.std.proofs.lemmas.Grind.{common_steps}
+use Rattle.fak_kernel.specs.Processors.{ProcessorOf}
+use Rattle.fak_kernel.specs.Threads.{HasBegun}
+use Rattle.fak_kernel.proofs.Indexing.{first_of, rest_of}
+use Rattle.fak_kernel.proofs.run_threads.leaving.fn.leave_all.scope.Goals as goal
+
+pub spawn_with-begun-requires-clause-runs : goal.spawn_with-begun-requires-clause-runs
+spawn_with-begun-requires-clause-runs g c κs within =
+    let was = c.loop-processor.invariant in
+    let step = c.in-Some.ensures.steps in
+    let Begun : ℕ → ProcessorOf → Type 0 = λ (k : ℕ) (p : ProcessorOf). HasBegun g.K.Run.script c.captures.objects.now c.captures.processors (vec_len c.loop-processor.handles + k) p in
+    let first = first_of Begun (into_iter_items c.loop-processor.processor-iterator) (into_iter_items c.next.new.self) c.in-Some.processor (into_iter_len c.loop-processor.processor-iterator) (into_iter_len c.next.new.self) step.0 step.1 was.5 in
+    let at : vec_len c.loop-processor.handles + 0 ≡ c.len-number.result = omega (arith, c.len-number.ensures) in
+    let begun : HasBegun g.K.Run.script c.captures.objects.now c.captures.processors c.len-number.result c.in-Some.processor = subst (λ (n : ℕ). HasBegun g.K.Run.script c.captures.objects.now c.captures.processors n c.in-Some.processor) at first in
+    grind serving
+
+pub loop-processor-preserved : goal.loop-processor-preserved
+loop-processor-preserved g c =
+    let was = c.loop-processor.invariant in
+    let step = c.in-Some.ensures.steps in
+    let Begun : ℕ → ProcessorOf → Type 0 = λ (k : ℕ) (p : ProcessorOf). HasBegun g.K.Run.script c.captures.objects.now c.captures.processors (vec_len c.loop-processor.handles + k) p in
+    let more = c.in-Ok-push.ensures.len in
+    let values = c.len-number.ensures in (
+      omega (arith, was.0, step.1, more),
+      (λ k d below. let h = was.1 k d in grind (arith, common_steps)),
+      (λ k d below. let h = was.2 k d in grind (arith, common_steps)),
+      (λ k d below. let h = was.3 k d in grind (arith, common_steps)),
+      (λ k d below. let h = was.4 k d in grind (arith, common_steps)),
+      λ k d low.
+          let next : vec_len c.loop-processor.handles + (k + 1) ≡ vec_len c.push.new.self + k = omega (arith, more) in
+          let rest = rest_of Begun (into_iter_items c.loop-processor.processor-iterator) (into_iter_items c.next.new.self) c.in-Some.processor (into_iter_len c.loop-processor.processor-iterator) (into_iter_len c.next.new.self) step.0 step.1 was.5 k d low in
+          subst (λ (n : ℕ). HasBegun g.K.Run.script c.captures.objects.now c.captures.processors n (get_or (into_iter_items c.next.new.self) k d)) next rest,
+    )

@@ -1,0 +1,16 @@
+use Rattle.std.proofs.Common.{◌≡◌, refl, arith, get_or, sym, subst}
+use Rattle.fak_kernel.specs.Opened.{fresh_processor}
+use Rattle.fak_kernel.specs.Begun.{IsLeftBy}
+use Rattle.fak_kernel.proofs.running.run_alone.Goals as goal
+
+pub report_of_run-requires-clause-left : goal.report_of_run-requires-clause-left
+report_of_run-requires-clause-left g c i d low =
+    let left = c.in-Ok-leave_alone.left in
+    let first : i ≡ 0 = omega (arith, low, c.in-Ok-leave_alone.ensures.one) in
+    let has = c.in-Ok-leave_alone.ensures.left d in
+    subst (λ k. IsLeftBy g.K.Run.script c.in-Ok.opened.objects k (get_or left.items k d)) (sym first) has.left
+
+pub returns-in-Ok-report_of_run-clause-report : goal.returns-in-Ok-report_of_run-clause-report
+returns-in-Ok-report_of_run-clause-report g c =
+    let has = c.in-Ok-leave_alone.ensures.left in
+    c.in-Ok-report_of_run.ensures.alone c.in-Ok-leave_alone.ensures.one (λ d. let h = has d in (h.alone refl, h.still refl)) (fresh_processor c.in-Ok.opened.objects 0 0)

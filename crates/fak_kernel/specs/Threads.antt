@@ -1,0 +1,39 @@
+-- What is known of the processors of a run when their threads begin, and of what each answers.
+use Rattle.std.specs.Prelude.{◌≡◌, ◌⊎◌, ℕ, Bool, List, [], ◌∷◌, Option, Some, None, Result, Ok, Err, IfOk, IfErr, IfSome}
+use Rattle.fak_text.specs.Script.{ScriptOf}
+use Rattle.fak_kernel.specs.declared.fault.Fault.{Fault}
+use Rattle.fak_kernel.specs.declared.fault.Fault.TheVariants.{NoThread}
+use Rattle.fak_kernel.specs.Faults.{IsOfLoop}
+use Rattle.fak_kernel.specs.ListScheduler.{turn_over}
+use Rattle.fak_kernel.specs.Processors.{ObjectsOf, ProcessorOf, IsReached, lists_of}
+use Rattle.fak_kernel.specs.Begun.{Between, IsLeftBy}
+
+-- a run on 1 to 8 processors answers this fault
+abbrev pub IsOfRun : Bool → Fault → Type 0
+IsOfRun refuses fault = IsOfLoop refuses fault ⊎ (fault ≡ NoThread)
+
+-- the first fault that a processor answers, in the order of their numbers
+abbrev pub first_fault : {A : Type 0} → List (Result A Fault) → Option Fault
+first_fault [] = None
+first_fault (Ok _ ∷ others) = first_fault others
+first_fault (Err fault ∷ others) = Some fault
+
+-- the answer of a thread whose processor has left
+abbrev pub as_left : {A : Type 0} → A → Result (Option A) Fault
+as_left x = Ok (Some x)
+
+-- one of so many processors, before its thread begins
+pub record HasBegun (script : ScriptOf) (o : ObjectsOf) (processors name : ℕ) (p : ProcessorOf) : Type 0 where
+  pub between : Between script o name p
+  pub alone : processors ≡ 1 → IsReached script p (turn_over (lists_of script p))
+
+-- it has left: where it was the only one, as the list scheduler ends
+pub record HasLeft (script : ScriptOf) (o : ObjectsOf) (processors name : ℕ) (p : ProcessorOf) : Type 0 where
+  pub left : IsLeftBy script o name p
+  pub alone : processors ≡ 1 → IsReached script p (turn_over (lists_of script p))
+  pub still : processors ≡ 1 → (lists_of script p).ready ≡ []
+
+-- what its thread answers
+pub record HasAnswered (script : ScriptOf) (o : ObjectsOf) (processors : ℕ) (refuses : Bool) (name : ℕ) (r : Result (Option ProcessorOf) Fault) : Type 0 where
+  pub left : IfOk r (λ left. IfSome left (HasLeft script o processors name))
+  pub fault : IfErr r (IsOfLoop refuses)

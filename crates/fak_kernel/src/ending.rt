@@ -1,0 +1,52 @@
+//! How a run ends: the seats of all processors are joined, the objects are closed, and what is left is reported.
+
+ghost use Rattle.std.specs.Prelude.{◌≡◌, ◌<◌, ◌≤◌, [], ℕ, vec_len, slice_index_or, IfOk, IfErr};
+ghost use Rattle.fak_kernel.specs.ListScheduler.{turn_over};
+ghost use Rattle.fak_kernel.specs.Report.{ListSchedulerReports};
+ghost use Rattle.fak_kernel.specs.RunReports.{RunReports};
+ghost use Rattle.fak_kernel.specs.Processors.{AreFor, IsReached, ProcessorOf, lists_of};
+ghost use Rattle.fak_kernel.specs.Opened.{AreSeated};
+ghost use Rattle.fak_kernel.specs.Begun.{IsLeftBy};
+ghost use Rattle.fak_kernel.specs.Views.{report_of};
+
+pub mod closing;
+pub mod gathering;
+pub mod joining;
+pub mod reporting;
+
+use crate::context::Run;
+use crate::fault::Fault;
+use crate::objects::Objects;
+use crate::processor::Processor;
+use crate::report::Report;
+use fak_text::Script;
+use gathering::gather;
+use reporting::{report_with, rows_of};
+use std::alloc::Global;
+
+/// The report of a run that all processors have left, in the order of their numbers. One processor leaves the list
+/// scheduler's report.
+///
+/// # Errors
+///
+/// `Memory` alone.
+pub(crate) fn report_of_run<K: Run>(
+    alloc: Global,
+    script: &Script,
+    objects: Objects<K>,
+    left: Vec<Processor<K>>,
+) -> Result<Report, Fault>
+    requires script { script.now ≡ K.script }
+    requires made { AreFor K.script objects }
+    requires seated { AreSeated (vec_len left) objects }
+    requires some { 1 ≤ vec_len left }
+    requires left { (i : ℕ) (d : ProcessorOf) → i < vec_len left → IsLeftBy K.script objects i (slice_index_or left.items i d) }
+    ensures general { IfOk result (λ report. RunReports K.script (report_of report)) }
+    ensures alone { vec_len left ≡ 1 → ((d : ProcessorOf) → IsReached K.script (slice_index_or left.items 0 d) (turn_over (lists_of K.script (slice_index_or left.items 0 d))) × ((lists_of K.script (slice_index_or left.items 0 d)).ready ≡ [])) → (d : ProcessorOf) → IfOk result (λ report. ListSchedulerReports K.script (report_of report)) }
+    ensures memory { IfErr result (λ fault. fault ≡ Fault.Memory) }
+{
+    let all = gather(alloc, &objects, left)?;
+    let remains = objects.close(alloc, all.tallies, script.files())?;
+    let rows = rows_of(alloc, all.ended, all.halted, remains.asleep)?;
+    Ok(report_with(script, rows, remains.entries))
+}

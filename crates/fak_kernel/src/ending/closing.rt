@@ -1,0 +1,118 @@
+//! How the objects of a run are closed, and what they have left.
+
+ghost use Rattle.std.specs.Prelude.{◌≡◌, ◌++◌, length, IfOk, IfErr};
+ghost use Rattle.std.specs.List.{All};
+ghost use Rattle.fak_model.specs.Seats.{IsWhole};
+ghost use Rattle.fak_files.specs.Calls.{entries_after};
+ghost use Rattle.fak_kernel.specs.Processors.{ids_of};
+ghost use Rattle.fak_kernel.specs.Joined.{AreTalliesOf, ids_of_tallies};
+ghost use Rattle.fak_kernel.specs.Closing.{AreClosed, IsSleeper, IsWholeAt};
+
+use crate::context::{Context, Run};
+use crate::ending::joining::Tallies;
+use crate::fault::Fault;
+use crate::objects::Objects;
+use crate::objects::semaphores::Semaphores;
+use crate::sleeper::Sleeper;
+use fak_files::FileRest;
+use fak_model::FileEntry;
+use fak_queue::Rest;
+use fak_sem::{SemTally, Semaphore};
+use std::alloc::Global;
+
+/// What the objects of a run have left: who sleeps, semaphore by semaphore, oldest first, and the file entries.
+#[derive(Drop)]
+pub(crate) struct Remains<K: Run> {
+    pub(crate) asleep: Vec<Context<K>>,
+    pub(crate) entries: Vec<FileEntry>,
+}
+
+/// Takes the processes out of a wait queue.
+fn drain<K: Run>(asleep: &mut Vec<Context<K>>, waiting: Rest<Sleeper<K>>) -> Result<(), Fault>
+    ensures added { IfOk result (λ _. asleep.new.items ≡ asleep.old.items ++ waiting) }
+    ensures sleepers { IfOk result (λ _. All (IsSleeper K.script) waiting) }
+    ensures memory { IfErr result (λ fault. fault ≡ Fault.Memory) }
+{
+    let mut rest = waiting;
+    while let Some(sleeper) = rest.next() {
+        asleep.push(sleeper.rest())?;
+    }
+    Ok(())
+}
+
+/// Closes the semaphores, one after the other.
+fn close_each<K: Run>(
+    alloc: Global,
+    semaphores: Vec<Semaphore<Sleeper<K>>>,
+    tallies: Vec<SemTally<Sleeper<K>>>,
+) -> Result<Vec<Context<K>>, Fault>
+    requires tallies { ids_of_tallies tallies.items ≡ ids_of semaphores.items }
+    requires whole { All IsWholeAt tallies.items }
+    ensures closed { IfOk result (λ asleep. AreClosed K.script tallies.items asleep.items) }
+    ensures memory { IfErr result (λ fault. fault ≡ Fault.Memory) }
+{
+    let mut asleep = Vec::new(alloc);
+    let mut rest = tallies.into_iter();
+    for semaphore in semaphores {
+        let Some(tally) = rest.next() else {
+            unreachable!()
+        };
+        drain(&mut asleep, semaphore.close(tally))?;
+    }
+    Ok(asleep)
+}
+
+/// The entries of a closed file table of so many.
+fn read_entries(alloc: Global, rest: &FileRest, count: u64) -> Result<Vec<FileEntry>, Fault>
+    requires count { length rest.now ≡ count }
+    ensures entries { IfOk result (λ entries. entries.items ≡ rest.now) }
+    ensures memory { IfErr result (λ fault. fault ≡ Fault.Memory) }
+{
+    let mut entries = Vec::new(alloc);
+    for i in 0..count {
+        entries.push(rest.get(i))?;
+    }
+    Ok(entries)
+}
+
+impl<K: Run> Objects<K> {
+    /// Closes the objects, whose file table has so many entries, once all seats are joined.
+    #[tactic(auto, using(crate::proofs::Closing::length_entries))]
+    pub(crate) fn close(
+        self,
+        alloc: Global,
+        tallies: Tallies<K>,
+        count: u64,
+    ) -> Result<Remains<K>, Fault>
+        requires tallies { AreTalliesOf self tallies }
+        requires semaphores { All IsWholeAt tallies.semaphores }
+        requires files { IsWhole tallies.files.object.seats tallies.files.names }
+        requires count { count ≡ self.files.entries }
+        ensures closed { IfOk result (λ left. AreClosed K.script tallies.semaphores left.asleep.items) }
+        ensures entries { IfOk result (λ left. left.entries.items ≡ entries_after tallies.files.seen 0 self.files.entries) }
+        ensures memory { IfErr result (λ fault. fault ≡ Fault.Memory) }
+    {
+        let Objects {
+            ready: _,
+            free: _,
+            semaphores,
+            births: _,
+            busy: _,
+            files,
+            alarm: _,
+        } = self;
+        let Semaphores { all: semaphores } = semaphores;
+        let Tallies {
+            ready: _,
+            free: _,
+            births: _,
+            busy: _,
+            semaphores: tallies,
+            files: file_tally,
+        } = tallies;
+        let asleep = close_each(alloc, semaphores, tallies)?;
+        let rest = files.close(file_tally);
+        let entries = read_entries(alloc, &rest, count)?;
+        Ok(Remains { asleep, entries })
+    }
+}

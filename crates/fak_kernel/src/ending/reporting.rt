@@ -1,0 +1,82 @@
+//! The report of what all processors have left.
+
+ghost use Rattle.std.specs.Prelude.{◌≡◌, ◌≤◌, ◌-◌, nat_lt, length, map, IfOk, IfErr};
+ghost use Rattle.std.specs.List.{list_any, sum_by};
+ghost use Rattle.std.specs.List.Sorted.{IsPermutation};
+ghost use Rattle.fak_kernel.specs.Report.{IsSortedByName, sleepers_outcome};
+ghost use Rattle.fak_kernel.specs.Ledger.{shuts_of};
+ghost use Rattle.fak_kernel.specs.Whole.{lines_of};
+ghost use Rattle.fak_kernel.specs.Closing.{rows_left, shut_lines};
+ghost use Rattle.fak_kernel.specs.Views.{report_of, row_of};
+
+use crate::context::{Context, Run};
+use crate::fault::Fault;
+use crate::report::{Outcome, ProcessRow, Report};
+use crate::rows::{add_rows, sort_rows};
+use fak_model::FileEntry;
+use fak_text::Script;
+use std::alloc::Global;
+
+/// One of the processes made a shutdown.
+fn has_shutdown<K: Run>(contexts: &[Context<K>]) -> bool
+    ensures { result ≡ nat_lt 0 (lines_of shuts_of contexts.now) }
+{
+    is_one_shut(contexts)
+}
+
+fn is_one_shut<K: Run>(contexts: &[Context<K>]) -> bool
+    ensures { result ≡ list_any (λ p. nat_lt 0 (sum_by shuts_of p.journal)) contexts.now }
+{
+    contexts.iter().any(|context| context.has_shutdown())
+}
+
+/// How those who sleep are left.
+fn outcome_of_sleepers<K: Run>(
+    ended: &[Context<K>],
+    halted: &[Context<K>],
+    asleep: &[Context<K>],
+) -> Outcome
+    ensures { result ≡ sleepers_outcome (nat_lt 0 (shut_lines ended.now halted.now asleep.now)) }
+{
+    if has_shutdown(ended) || has_shutdown(halted) || has_shutdown(asleep) {
+        Outcome::Halted
+    } else {
+        Outcome::Stuck
+    }
+}
+
+/// A row for each process, sorted by name.
+pub(crate) fn rows_of<K: Run>(
+    alloc: Global,
+    ended: Vec<Context<K>>,
+    halted: Vec<Context<K>>,
+    asleep: Vec<Context<K>>,
+) -> Result<Vec<ProcessRow>, Fault>
+    ensures rows { IfOk result (λ rows. IsPermutation (rows_left ended.items halted.items asleep.items) (map row_of rows.items)) }
+    ensures sorted { IfOk result (λ rows. IsSortedByName (map row_of rows.items)) }
+    ensures memory { IfErr result (λ fault. fault ≡ Fault.Memory) }
+{
+    let outcome = outcome_of_sleepers(ended.as_slice(), halted.as_slice(), asleep.as_slice());
+    let mut rows = Vec::new(alloc);
+    add_rows(&mut rows, ended, Outcome::Ended)?;
+    add_rows(&mut rows, halted, Outcome::Halted)?;
+    add_rows(&mut rows, asleep, outcome)?;
+    sort_rows(&mut rows)?;
+    Ok(rows)
+}
+
+/// The report with these rows and entries. The rows are those of the started processes and of their children.
+pub(crate) fn report_with(script: &Script, rows: Vec<ProcessRow>, entries: Vec<FileEntry>) -> Report
+    requires { length script.now.start ≤ length rows.items }
+    ensures { report_of result ≡ record { version = script.now.version; rows = map row_of rows.items; births = length rows.items - length script.now.start; bound = script.now.births; entries = entries.items } }
+{
+    let started = script.start().len();
+    let births = (rows.len() - started) as u64;
+    Report {
+        version: script.version(),
+        rows,
+        births,
+        bound: script.births(),
+        entries,
+    }
+}

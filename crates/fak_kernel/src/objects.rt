@@ -1,0 +1,38 @@
+//! What the processors of a run share.
+
+pub(crate) mod opening;
+pub(crate) mod semaphores;
+pub(crate) mod starting;
+
+use crate::alarm::Alarm;
+use crate::context::{Context, Run};
+use crate::slot::Slot;
+use fak_count::{Credit, Room};
+use fak_files::FileTable;
+use fak_queue::Queue;
+use semaphores::Semaphores;
+use std::marker::Model;
+
+/// What all processors of a run share.
+#[derive(Drop)]
+pub struct Objects<K: Run> {
+    pub(crate) ready: Queue<Context<K>>,
+    pub(crate) free: Queue<Slot<K>>,
+    pub(crate) semaphores: Semaphores<K>,
+    pub(crate) births: Room,
+    pub(crate) busy: Credit,
+    pub(crate) files: FileTable,
+    /// Contracts don't see it; it is for as many processors as the ready queue has seats.
+    pub(crate) alarm: Alarm,
+}
+
+impl<K: Run> Model for Objects<K> {
+    ghost use Rattle.std.specs.Prelude.{◌≡◌};
+    ghost use Rattle.fak_kernel.specs.Processors.{ObjectsOf};
+
+    ghost Value = { ObjectsOf };
+
+    ghost view = { λ o. record { ready = o.ready; free = o.free; semaphores = o.semaphores; births = o.births; busy = o.busy; files = o.files } };
+
+    ghost invariant = { λ o. o.alarm ≡ o.ready.object.seats };
+}

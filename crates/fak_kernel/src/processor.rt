@@ -1,0 +1,83 @@
+//! A processor of a run: its seats, and what it saw leave.
+
+ghost use Rattle.std.specs.Prelude.{◌≡◌, [], ◌∷◌, IfOk, IfErr};
+ghost use Rattle.fak_model.specs.declared.credit.CreditKind.TheVariants as made;
+ghost use Rattle.fak_kernel.specs.Ledger.{nothing};
+ghost use Rattle.fak_kernel.specs.Moving.{Gains};
+ghost use Rattle.fak_kernel.specs.Processors.{AreOf, GoesTo, IsAlone, ProcessorOf, lists_of};
+
+mod births;
+pub(crate) mod entering;
+pub(crate) mod files;
+mod filing;
+mod ready;
+mod sleeping;
+mod steps;
+mod turn;
+mod turns;
+
+use crate::context::{Context, Run};
+use crate::fault::Fault;
+use crate::objects::Objects;
+use crate::objects::semaphores::SemSeats;
+use crate::slot::Slot;
+use fak_count::{CreditSeat, RoomSeat};
+use fak_files::FileSeat;
+use fak_queue::Seat;
+use files::Files;
+use std::marker::Model;
+
+/// A seat of each object, and the processes that the processor has seen end or halt.
+#[derive(Drop)]
+pub struct Processor<K: Run> {
+    pub(crate) ready: Seat<Context<K>>,
+    pub(crate) free: Seat<Slot<K>>,
+    pub(crate) semaphores: SemSeats<K>,
+    pub(crate) births: RoomSeat,
+    pub(crate) busy: CreditSeat,
+    pub(crate) files: FileSeat,
+    pub(crate) ended: Vec<Context<K>>,
+    pub(crate) halted: Vec<Context<K>>,
+    /// Where the entries of the file table are read to.
+    pub(crate) copy: Files,
+}
+
+impl<K: Run> Model for Processor<K> {
+    ghost use Rattle.fak_kernel.specs.Processors.{ProcessorOf};
+
+    ghost Value = { ProcessorOf };
+
+    ghost view = { λ p. record { ready = p.ready; free = p.free; semaphores = p.semaphores; births = p.births; busy = p.busy; files = p.files; ended = p.ended.items; halted = p.halted.items; copy = p.copy } };
+}
+
+impl<K: Run> Processor<K> {
+    /// One process more is ready or runs.
+    pub fn credit(&mut self, objects: &Objects<K>) -> Result<(), Fault>
+        requires fits { AreOf objects.now self.old }
+        ensures fits { AreOf objects.now self.new }
+        ensures same { self.new ≡ record self.old { busy = self.new.busy } }
+        ensures gains { IfOk result (λ _. Gains K.script self.old self.new (record nothing { busy = made.Credit ∷ [] })) }
+        ensures alone { IsAlone K.script self.old → GoesTo K.script self.new (lists_of K.script self.old) }
+        ensures worn { IfErr result (λ fault. fault ≡ Fault.Worn) }
+    {
+        let Ok(_) = objects.busy.credit(&mut self.busy) else {
+            return Err(Fault::Worn);
+        };
+        Ok(())
+    }
+
+    /// One process fewer is ready or runs.
+    pub fn debit(&mut self, objects: &Objects<K>) -> Result<(), Fault>
+        requires fits { AreOf objects.now self.old }
+        ensures fits { AreOf objects.now self.new }
+        ensures same { self.new ≡ record self.old { busy = self.new.busy } }
+        ensures gains { IfOk result (λ _. Gains K.script self.old self.new (record nothing { busy = made.Debit ∷ [] })) }
+        ensures alone { IsAlone K.script self.old → GoesTo K.script self.new (lists_of K.script self.old) }
+        ensures worn { IfErr result (λ fault. fault ≡ Fault.Worn) }
+    {
+        let Ok(_) = objects.busy.debit(&mut self.busy) else {
+            return Err(Fault::Worn);
+        };
+        Ok(())
+    }
+}

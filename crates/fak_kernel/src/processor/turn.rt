@@ -1,0 +1,143 @@
+//! The turn of the process that has the processor.
+
+ghost use Rattle.std.specs.Prelude.{◌≡◌, [], ◌∷◌, ◌++◌, ◌+◌, ◌<◌, ◌≤◌, ◌==◌, ◌||◌, false, IfOk, IfErr};
+ghost use Rattle.fak_text.specs.Script.{StepOf};
+ghost use Rattle.fak_text.specs.Journal.{Allows, FitsScript, StandsAt, after_note, child_count};
+ghost use Rattle.fak_text.specs.Views.{note_of};
+ghost use Rattle.fak_kernel.specs.ListScheduler as lists;
+ghost use Rattle.fak_kernel.specs.Contexts.{HasStepsLeft};
+
+use crate::context::{Context, Run};
+use crate::fault::Fault;
+use fak_text::{Note, Script};
+use std::alloc::Global;
+use std::marker::Model;
+
+/// A process that has the processor: how many steps it made in this turn, and whether the last one was a yield.
+#[derive(Drop)]
+pub struct Turn<K: Run> {
+    pub context: Context<K>,
+    pub made: u64,
+    pub has_yielded: bool,
+}
+
+impl<K: Run> Model for Turn<K> {
+    ghost use Rattle.std.specs.Prelude.{◌≤◌};
+    ghost use Rattle.fak_kernel.specs.ListScheduler as lists;
+
+    ghost Value = { lists.Turn };
+
+    ghost view = { λ t. record { process = t.context; made = t.made; has_yielded = t.has_yielded } };
+
+    ghost invariant = { λ t. t.made ≤ K.script.quantum };
+}
+
+impl<K: Run> Turn<K> {
+    /// The turn of a process that made no step in it.
+    pub fn new(context: Context<K>) -> Turn<K>
+        ensures { result ≡ record { process = context; made = 0; has_yielded = false } }
+    {
+        Turn {
+            context,
+            made: 0,
+            has_yielded: false,
+        }
+    }
+
+    /// Asks for the memory of one note more.
+    pub fn with_room(self) -> Result<Turn<K>, Fault>
+        ensures same { IfOk result (λ t. t ≡ self) }
+        ensures memory { IfErr result (λ fault. fault ≡ Fault.Memory) }
+    {
+        let Turn {
+            mut context,
+            made,
+            has_yielded,
+        } = self;
+        context.reserve_note()?;
+        Ok(Turn {
+            context,
+            made,
+            has_yielded,
+        })
+    }
+
+    /// The name of the process's next child.
+    pub fn child_name(&self, alloc: Global) -> Result<Vec<u64>, Fault>
+        ensures name { IfOk result (λ name. name.items ≡ self.now.process.name ++ child_count self.now.process.journal ∷ []) }
+        ensures memory { IfErr result (λ fault. fault ≡ Fault.Memory) }
+    {
+        self.context.child_name(alloc)
+    }
+
+    /// The number of the process's next child.
+    pub fn children(&self) -> u64
+        ensures { result ≡ child_count self.now.process.journal }
+    {
+        self.context.children()
+    }
+
+    /// How many steps were made in the turn.
+    pub fn made(&self) -> u64
+        ensures made { result ≡ self.now.made }
+        ensures fits { FitsScript K.script self.now.process }
+    {
+        let _slot = self.context.slot();
+        self.made
+    }
+
+    /// The turn after a step that the process made elsewhere.
+    pub fn after(context: Context<K>, made: u64) -> Turn<K>
+        requires { (made < K.script.quantum) × (K.script.quantum ≤ 1000) }
+        ensures { result ≡ record { process = context; made = made + 1; has_yielded = false } }
+    {
+        Turn {
+            context,
+            made: made + 1,
+            has_yielded: false,
+        }
+    }
+
+    /// Goes on after a step that was made with this note.
+    pub fn noted(self, note: Note, yields: bool) -> Result<Turn<K>, Fault>
+        requires allowed { (step : StepOf) × StandsAt K.script self.process step × Allows K.script.files (child_count self.process.journal) step (note_of note) }
+        requires left { HasStepsLeft K.script self }
+        ensures noted { IfOk result (λ t. t ≡ record { process = after_note self.process (note_of note); made = self.made + 1; has_yielded = yields }) }
+        ensures memory { IfErr result (λ fault. fault ≡ Fault.Memory) }
+        ensures fits { FitsScript K.script self.process }
+    {
+        let Turn {
+            mut context,
+            made,
+            has_yielded: _,
+        } = self;
+        let _slot = context.slot();
+        context.note(note)?;
+        Ok(Turn {
+            context,
+            made: made + 1,
+            has_yielded: yields,
+        })
+    }
+
+    /// The process leaves the processor.
+    pub fn into_context(self) -> Context<K>
+        ensures { result ≡ self.process }
+    {
+        let Turn {
+            context,
+            made: _,
+            has_yielded: _,
+        } = self;
+        context
+    }
+
+    /// The turn is over: as many steps were made as a turn has, or the last one was a yield.
+    pub fn is_over(&self, script: &Script) -> bool
+        requires { script.now ≡ K.script }
+        ensures over { result ≡ (self.now.has_yielded || (self.now.made == K.script.quantum)) }
+        ensures left { result ≡ false → HasStepsLeft K.script self.now }
+    {
+        self.has_yielded || self.made == script.quantum()
+    }
+}

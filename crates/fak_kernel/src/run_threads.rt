@@ -1,0 +1,89 @@
+//! Runs on several processors, a thread for each.
+
+ghost use Rattle.std.specs.Prelude.{◌≡◌, Err, IfOk, IfErr};
+ghost use Rattle.fak_kernel.specs.Opened.{AreProcessors};
+ghost use Rattle.fak_kernel.specs.Report.{ListSchedulerReports};
+ghost use Rattle.fak_kernel.specs.RunReports.{RunReports};
+ghost use Rattle.fak_kernel.specs.Threads.{IsOfRun};
+ghost use Rattle.fak_kernel.specs.Views.{report_of};
+
+mod answering;
+mod leaving;
+
+use crate::context::Run;
+use crate::ending::report_of_run;
+use crate::fault::Fault;
+use crate::gate::Gate;
+use crate::objects::opening::{Opened, open_run};
+use crate::report::Report;
+use answering::all_left;
+use fak_text::Script;
+use leaving::leave_all;
+use std::alloc::Global;
+use std::marker::{Brand, Send, Sync};
+use std::sync::Wait;
+use std::thread::Threads;
+
+/// A run is on so many processors at most.
+const MOST_PROCESSORS: u64 = 8;
+
+/// Runs a script on 1 to 8 processors, each in a thread of its own. A processor passes the gate before each look at
+/// the ready queue. On one processor the report is the list scheduler's.
+///
+/// # Errors
+///
+/// `BadProcessors` before anything else, for any other number. `NoThread` where the system gave no thread, whatever
+/// processors met; else the fault of the first processor that met one, in the order of their numbers. `Gate` stands
+/// only where the gate may refuse.
+pub fn run<G: Gate + Sync, R: Threads + Wait + Sync>(
+    rt: &R,
+    alloc: Global,
+    script: &Script,
+    processors: u64,
+    gate: &G,
+) -> Result<Report, Fault>
+    ensures report { IfOk result (λ report. RunReports script.now (report_of report)) }
+    ensures one { processors ≡ 1 → IfOk result (λ report. ListSchedulerReports script.now (report_of report)) }
+    ensures outside { (AreProcessors processors → ⊥) → result ≡ Err Fault.BadProcessors }
+    ensures fault { AreProcessors processors → IfErr result (λ fault. IsOfRun (G.refuses gate.now) fault) }
+{
+    if processors < 1 || processors > MOST_PROCESSORS {
+        return Err(Fault::BadProcessors);
+    }
+    run_as::<Brand, G, R>(rt, alloc, script, processors, gate)
+}
+
+/// The same, where the number of processors is in range.
+fn run_as<K: Run + Send + Sync, G: Gate + Sync, R: Threads + Wait + Sync>(
+    rt: &R,
+    alloc: Global,
+    script: &Script,
+    processors: u64,
+    gate: &G,
+) -> Result<Report, Fault>
+    requires script { script.now ≡ K.script }
+    requires processors { AreProcessors processors }
+    ensures report { IfOk result (λ report. RunReports K.script (report_of report)) }
+    ensures alone { processors ≡ 1 → IfOk result (λ report. ListSchedulerReports K.script (report_of report)) }
+    ensures fault { IfErr result (λ fault. IsOfRun (G.refuses gate.now) fault) }
+{
+    let Opened {
+        objects,
+        processors: all,
+    } = match open_run::<K, R>(rt, alloc, script, processors) {
+        Ok(opened) => opened,
+        Err(fault) => return Err(fault),
+    };
+    let answers = match leave_all(rt, alloc, script, &objects, gate, processors, all) {
+        Ok(answers) => answers,
+        Err(fault) => return Err(fault),
+    };
+    let left = match all_left(alloc, answers) {
+        Ok(left) => left,
+        Err(fault) => return Err(fault),
+    };
+    match report_of_run(alloc, script, objects, left) {
+        Ok(report) => Ok(report),
+        Err(fault) => Err(fault),
+    }
+}

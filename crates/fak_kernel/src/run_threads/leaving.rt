@@ -1,0 +1,135 @@
+//! A thread for each processor.
+
+ghost use Rattle.std.specs.Prelude.{◌≡◌, ◌<◌, ℕ, true, vec_len, slice_index_or, IfOk, IfErr};
+ghost use Rattle.fak_kernel.specs.Processors.{AreFor};
+ghost use Rattle.fak_kernel.specs.Threads.{HasAnswered, HasBegun, IsOfRun};
+
+use crate::context::Run;
+use crate::fault::Fault;
+use crate::gate::Gate;
+use crate::objects::Objects;
+use crate::processor::Processor;
+use fak_text::Script;
+use std::alloc::Global;
+use std::marker::{Send, Sync};
+use std::sync::Wait;
+use std::thread;
+use std::thread::{Promise, Threads};
+
+/// What the thread of a processor answers: the processor where it has left, nothing where another one met a fault.
+pub(crate) type Answer<K> = Result<Option<Processor<K>>, Fault>;
+
+/// What is promised of a processor's answer.
+struct Leaves<'o, K: Run, G> {
+    objects: &'o Objects<K>,
+    gate: &'o G,
+    processors: u64,
+    number: u64,
+}
+
+impl<'o, K: Run, G> Drop for Leaves<'o, K, G> {
+    fn drop(self) {
+        let Leaves {
+            objects: _,
+            gate: _,
+            processors: _,
+            number: _,
+        } = self;
+    }
+}
+
+impl<'o, K: Run, G: Gate> Promise<Answer<K>> for Leaves<'o, K, G> {
+    ghost kept_by = { λ p r. HasAnswered K.script p.objects.now p.processors (G.refuses p.gate.now) p.number r };
+}
+
+/// The processor of this number works until it leaves.
+fn leave<K: Run, R: Wait, G: Gate>(
+    rt: &R,
+    alloc: Global,
+    script: &Script,
+    objects: &Objects<K>,
+    gate: &G,
+    processors: u64,
+    number: u64,
+    processor: Processor<K>,
+) -> Answer<K>
+    requires script { script.now ≡ K.script }
+    requires made { AreFor K.script objects.now }
+    requires begun { HasBegun K.script objects.now processors number processor }
+    ensures { HasAnswered K.script objects.now processors (G.refuses gate.now) number result }
+{
+    processor.work(rt, alloc, script, objects, gate, number)
+}
+
+/// Each processor works in a thread of its own; their answers, in the order of their numbers.
+///
+/// # Errors
+///
+/// `NoThread` where the system gave no thread, and `Memory`.
+pub(crate) fn leave_all<K: Run + Send + Sync, R: Threads + Wait + Sync, G: Gate + Sync>(
+    rt: &R,
+    alloc: Global,
+    script: &Script,
+    objects: &Objects<K>,
+    gate: &G,
+    processors: u64,
+    all: Vec<Processor<K>>,
+) -> Result<Vec<Answer<K>>, Fault>
+    requires script { script.now ≡ K.script }
+    requires made { AreFor K.script objects.now }
+    requires begun { (i : ℕ) (d : _) → i < vec_len all → HasBegun K.script objects.now processors i (slice_index_or all.items i d) }
+    ensures len { IfOk result (λ v. vec_len v ≡ vec_len all) }
+    ensures answered { IfOk result (λ v. (i : ℕ) (d : _) → i < vec_len v → HasAnswered K.script objects.now processors (G.refuses gate.now) i (slice_index_or v.items i d)) }
+    ensures fault { IfErr result (IsOfRun (G.refuses gate.now)) }
+{
+    thread::scope(
+        thread::scope_env(),
+        rt,
+        move |scope| -> Result<Vec<Answer<K>>, Fault>
+            requires script { script.now ≡ K.script }
+            requires made { AreFor K.script objects.now }
+            requires begun { (i : ℕ) (d : _) → i < vec_len all → HasBegun K.script objects.now processors i (slice_index_or all.items i d) }
+            ensures len { IfOk result (λ v. vec_len v ≡ vec_len all) }
+            ensures answered { IfOk result (λ v. (i : ℕ) (d : _) → i < vec_len v → HasAnswered K.script objects.entry.now processors (G.refuses gate.entry.now) i (slice_index_or v.items i d)) }
+            ensures fault { IfErr result (IsOfRun (G.refuses gate.entry.now)) }
+        {
+            let Ok(mut handles) = Vec::with_capacity(alloc, all.len()) else {
+                return Err(Fault::Memory);
+            };
+            for processor in all {
+                let number = handles.len() as u64;
+                let promise = Leaves {
+                    objects,
+                    gate,
+                    processors,
+                    number,
+                };
+                let begun = scope.spawn_with(
+                    promise,
+                    move || leave(
+                        rt, alloc, script, objects, gate, processors, number, processor,
+                    ),
+                );
+                match begun {
+                    Ok(handle) => {
+                        let Ok(()) = handles.push(handle) else {
+                            objects.alarm.ring();
+                            return Err(Fault::Memory);
+                        };
+                    }
+                    Err(_) => {
+                        objects.alarm.ring();
+                        return Err(Fault::NoThread);
+                    }
+                }
+            }
+            match thread::join_promised(rt, handles) {
+                Ok(answers) => Ok(answers),
+                Err(_) => {
+                    objects.alarm.ring();
+                    Err(Fault::Memory)
+                }
+            }
+        },
+    )
+}

@@ -1,0 +1,180 @@
+//! The file lines of all rows: some order of them, which keeps each row's own, is one that a single table could have made.
+
+use crate::{FileEntry, ProcessRow, Report};
+use fak_text::{Note, Script};
+use std::alloc::{AllocError, Global};
+
+/// So many places of the search are looked at.
+const MOST_PLACES: u64 = 2_000_000;
+
+const FREE: FileEntry = FileEntry { inode: 0, uses: 0 };
+
+#[derive(Clone, Copy, PartialEq, Eq, Drop)]
+enum Call {
+    Open,
+    Close,
+    Stat,
+}
+
+/// A line: what was called, of which file, and what it gave.
+#[derive(Clone, Copy, Drop)]
+struct Line {
+    call: Call,
+    inode: u64,
+    gave: Option<u64>,
+}
+
+/// The lines that are left of each row, and the table at that point.
+#[derive(Drop)]
+struct Place {
+    made: Vec<usize>,
+    entries: Vec<FileEntry>,
+}
+
+/// The file lines of the rows replay from free entries to the report's.
+pub fn replay(alloc: Global, script: &Script, report: &Report) -> Result<bool, AllocError> {
+    let lines = all_lines(alloc, report.rows.as_slice())?;
+    let first = first_place(alloc, script, lines.len())?;
+    let mut places = Vec::new(alloc);
+    places.push(first)?;
+    for _ in 0..MOST_PLACES {
+        let Some(place) = places.pop() else {
+            return Ok(false);
+        };
+        if is_over(lines.as_slice(), &place)
+            && place.entries.as_slice() == report.entries.as_slice()
+        {
+            return Ok(true);
+        }
+        add_next(alloc, lines.as_slice(), &place, &mut places)?;
+    }
+    Ok(false)
+}
+
+fn all_lines(alloc: Global, rows: &[ProcessRow]) -> Result<Vec<Vec<Line>>, AllocError> {
+    let mut all = Vec::new(alloc);
+    for row in rows {
+        all.push(lines_of(alloc, row)?)?;
+    }
+    Ok(all)
+}
+
+fn lines_of(alloc: Global, row: &ProcessRow) -> Result<Vec<Line>, AllocError> {
+    let mut lines = Vec::new(alloc);
+    for note in &row.journal {
+        if let Some(line) = line_of(note) {
+            lines.push(line)?;
+        }
+    }
+    Ok(lines)
+}
+
+fn line_of(note: &Note) -> Option<Line> {
+    let (call, inode, gave) = match note {
+        Note::OpenFile(inode, entry) => (Call::Open, *inode, *entry),
+        Note::CloseFile(inode, entry) => (Call::Close, *inode, *entry),
+        Note::Stat(inode, uses) => (Call::Stat, *inode, *uses),
+        _ => return None,
+    };
+    Some(Line { call, inode, gave })
+}
+
+fn first_place(alloc: Global, script: &Script, rows: usize) -> Result<Place, AllocError> {
+    let mut made = Vec::new(alloc);
+    for _ in 0..rows {
+        made.push(0)?;
+    }
+    let mut entries = Vec::new(alloc);
+    for _ in 0..script.files() {
+        entries.push(FREE)?;
+    }
+    Ok(Place { made, entries })
+}
+
+fn is_over(lines: &[Vec<Line>], place: &Place) -> bool {
+    lines
+        .iter()
+        .zip(place.made.iter())
+        .all(|(row, made)| row.len() == *made)
+}
+
+/// The places that one line more leads to. A line that changes nothing can come at once, whatever comes later.
+fn add_next(
+    alloc: Global,
+    lines: &[Vec<Line>],
+    place: &Place,
+    places: &mut Vec<Place>,
+) -> Result<(), AllocError> {
+    for row in 0..lines.len() {
+        if let Some(next) = place_after(alloc, lines, place, row)? {
+            let is_same = next.entries.as_slice() == place.entries.as_slice();
+            places.push(next)?;
+            if is_same {
+                return Ok(());
+            }
+        }
+    }
+    Ok(())
+}
+
+/// The place after the next line of this row, where that could give what it gave.
+fn place_after(
+    alloc: Global,
+    lines: &[Vec<Line>],
+    place: &Place,
+    row: usize,
+) -> Result<Option<Place>, AllocError> {
+    let Some(line) = next_line(lines, place, row) else {
+        return Ok(None);
+    };
+    let mut entries = place.entries.as_slice().to_vec(alloc)?;
+    if made(entries.as_mut_slice(), line) != line.gave {
+        return Ok(None);
+    }
+    let mut made = place.made.as_slice().to_vec(alloc)?;
+    if let Some(count) = made.get_mut(row) {
+        *count = count.saturating_add(1);
+    }
+    Ok(Some(Place { made, entries }))
+}
+
+fn next_line(lines: &[Vec<Line>], place: &Place, row: usize) -> Option<Line> {
+    let made = place.made.get(row)?;
+    lines.get(row)?.get(*made).copied()
+}
+
+/// What the call gives, after which the entries are changed.
+fn made(entries: &mut [FileEntry], line: Line) -> Option<u64> {
+    match line.call {
+        Call::Open => open(entries, line.inode),
+        Call::Close => close(entries, line.inode),
+        Call::Stat => {
+            let i = first(entries, line.inode)?;
+            Some(entries.get(i)?.uses)
+        }
+    }
+}
+
+fn first(entries: &[FileEntry], inode: u64) -> Option<usize> {
+    entries.iter().position(|entry| entry.inode == inode)
+}
+
+fn open(entries: &mut [FileEntry], inode: u64) -> Option<u64> {
+    let i = match first(entries, inode) {
+        Some(i) => i,
+        None => first(entries, 0)?,
+    };
+    let entry = entries.get_mut(i)?;
+    let uses = entry.uses.saturating_add(1);
+    *entry = FileEntry { inode, uses };
+    Some(i as u64)
+}
+
+fn close(entries: &mut [FileEntry], inode: u64) -> Option<u64> {
+    let i = first(entries, inode)?;
+    let entry = entries.get_mut(i)?;
+    let uses = entry.uses.saturating_sub(1);
+    let inode = if uses == 0 { 0 } else { inode };
+    *entry = FileEntry { inode, uses };
+    Some(i as u64)
+}

@@ -1,0 +1,72 @@
+//! Rows beside their programs.
+
+use super::lines::count;
+use crate::{Outcome, ProcessRow};
+use fak_text::{Note, Script, Step};
+
+/// Each journal stands beside the first steps of its program, and each process is left where its outcome may stand.
+pub fn all_fit(script: &Script, rows: &[ProcessRow]) -> bool {
+    let is_shut = count(rows, &Note::Shutdown) > 0;
+    rows.iter().all(|row| fits(script, row, is_shut))
+}
+
+fn fits(script: &Script, row: &ProcessRow, is_shut: bool) -> bool {
+    match script.programs().get(row.program as usize) {
+        Some(steps) => stands_beside(steps.as_slice(), row)
+            && is_left(steps.as_slice(), row, is_shut),
+        None => false,
+    }
+}
+
+fn stands_beside(steps: &[Step], row: &ProcessRow) -> bool {
+    let made = row.journal.len();
+    let mut children = 0u64;
+    for (step, note) in steps.iter().zip(row.journal.iter()) {
+        if !allows(step, note, children) {
+            return false;
+        }
+        if let Note::Spawned(_) = note {
+            children = children.saturating_add(1);
+        }
+    }
+    made <= steps.len() && row.position == made as u64
+}
+
+/// The step may have this result, where so many children were begun.
+fn allows(step: &Step, note: &Note, children: u64) -> bool {
+    match (step, note) {
+        (Step::Say(text), Note::Say(said)) => text.as_str() == said.as_str(),
+        (Step::Yield, Note::Yield) => true,
+        (Step::Shutdown, Note::Shutdown) => true,
+        (Step::Down(semaphore), Note::Down(other)) => semaphore == other,
+        (Step::Up(semaphore), Note::Up(other)) => semaphore == other,
+        (Step::OpenFile(inode), Note::OpenFile(other, _)) => inode == other,
+        (Step::CloseFile(inode), Note::CloseFile(other, _)) => inode == other,
+        (Step::Stat(inode), Note::Stat(other, _)) => inode == other,
+        (Step::Spawn(_), Note::Spawned(child)) => *child == children,
+        (Step::Spawn(_), Note::NoBirth) => true,
+        (Step::Spawn(_), Note::NoSlot) => true,
+        _ => false,
+    }
+}
+
+fn is_left(steps: &[Step], row: &ProcessRow, is_shut: bool) -> bool {
+    match (row.outcome, steps.get(row.position as usize)) {
+        (Outcome::Ended, None) => true,
+        (Outcome::Stuck, Some(Step::Down(_))) => !is_shut,
+        (Outcome::Halted, _) => is_shut,
+        _ => false,
+    }
+}
+
+/// Slots are in range, and rows that haven't ended have different ones.
+pub fn have_own_slots(script: &Script, rows: &[ProcessRow]) -> bool {
+    let slots = script.slots();
+    rows.iter().all(|row| row.slot < slots) && (0..slots).all(|slot| holders(rows, slot) <= 1)
+}
+
+fn holders(rows: &[ProcessRow], slot: u64) -> usize {
+    rows.iter()
+        .filter(|row| row.slot == slot && row.outcome != Outcome::Ended)
+        .count()
+}

@@ -1,0 +1,54 @@
+//! The names of a report's rows.
+
+use super::lines::{births, count};
+use crate::{ProcessRow, Report};
+use fak_text::{Note, Script, Step};
+
+/// Each name is above the one before.
+pub fn rise(rows: &[ProcessRow]) -> bool {
+    rows.iter()
+        .zip(rows.iter().skip(1))
+        .all(|(row, next)| row.name.as_slice() < next.name.as_slice())
+}
+
+/// Each row is of a process that was started, or of a child that a row names, with its program.
+pub fn have_origins(script: &Script, rows: &[ProcessRow]) -> bool {
+    rows.iter()
+        .all(|row| program_of(script, rows, row) == Some(row.program))
+}
+
+/// The program that the process of this name was to run.
+fn program_of(script: &Script, rows: &[ProcessRow], row: &ProcessRow) -> Option<u64> {
+    let (last, parent) = row.name.as_slice().split_last()?;
+    if parent.is_empty() {
+        return script.start().get(*last as usize).copied();
+    }
+    let parent = rows.iter().find(|other| other.name.as_slice() == parent)?;
+    child_program(script, parent, *last)
+}
+
+/// The program of the child of this number.
+fn child_program(script: &Script, parent: &ProcessRow, number: u64) -> Option<u64> {
+    let steps = script.programs().get(parent.program as usize)?;
+    for (step, note) in steps.iter().zip(parent.journal.iter()) {
+        if let (Step::Spawn(program), Note::Spawned(child)) = (step, note) {
+            if *child == number {
+                return Some(*program);
+            }
+        }
+    }
+    None
+}
+
+/// There is a row for each process that was started or spawned, births are counted, and were refused at the bound alone.
+pub fn are_counted(script: &Script, report: &Report) -> bool {
+    let rows = report.rows.as_slice();
+    let spawned = births(rows);
+    let refused = count(rows, &Note::NoBirth);
+    let claimed = spawned.saturating_add(count(rows, &Note::NoSlot));
+    let started = script.start().len() as u64;
+    rows.len() as u64 == started.saturating_add(spawned)
+        && report.births == spawned
+        && spawned <= script.births()
+        && (refused == 0 || claimed >= script.births())
+}

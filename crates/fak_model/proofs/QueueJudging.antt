@@ -1,0 +1,189 @@
+-- Whether a list of marks of a queue of numbers is legal, by the machine of pasts.
+use Rattle.std.proofs.Common.{◌≡◌, ◌⊎◌, ℕ, ◌+◌, ◌-◌, ◌<◌, ◌≤◌, ltb, ◌==◌, Bool, true, false, not, List, [], ◌∷◌, reverse, Option, Some, None, Decides, refl, ap, sym, ◌∙◌, subst, arith, inl, inr}
+use Rattle.std.specs.Prelude.{◌&&◌, ◌||◌}
+use Rattle.std.proofs.lemmas.Bool.{cases_lt}
+use Rattle.std.proofs.lemmas.Bool.Decides.{Decides-eqb, Decides-ltb, Decides-like, Decides-not, Decides-and, Decides-or}
+use Rattle.fak_model.specs.declared.queue.Kind.{Kind}
+use Rattle.fak_model.specs.declared.queue.Kind.TheVariants.{ClaimIn, OverIn, BackIn, NoRoom, Put, Fill, EndIn, ClaimOut, OverOut, BackOut, NoItem, Got, Take, EndOut, Close, Closed, LateIn}
+use Rattle.fak_model.specs.declared.queue.Mark.{Mark}
+use Rattle.fak_model.specs.declared.queue.Stage.{Stage}
+use Rattle.fak_model.specs.declared.queue.Stage.TheVariants.{Idle, Withdrawing, Claimed, Putting, Filled, WithdrawingOut, ClaimedOut, Getting, Taken}
+use Rattle.fak_model.specs.Queue.{count, gots, upper_raise, upper_drop, lower_raise, lower_drop, Has, IsQueueHistory}
+use Rattle.fak_model.specs.QueuePast.{UpperBelow, UpperAtLeast, LowerPositive, LowerNotPositive, stage, item_of, IsNext, IsFair, IsOldest, HasCell, MayFollow, IsLegalPast}
+use Rattle.fak_model.proofs.QueueWords.{place, at_idle, at_over_in, at_claimed_in, at_filled, at_over_out, at_claimed_out, at_taken}
+use Rattle.fak_model.proofs.QueueLiteral.{to_past, to_literal}
+use Rattle.fak_model.proofs.Judging.{le_decided}
+
+-- ---- marks that stand in a past
+
+abbrev pub has : (Kind ℕ → Bool) → List (Mark ℕ) → Bool
+has test [] = false
+has test (m ∷ h) = test m.kind || has test h
+
+has_decided : (test : Kind ℕ → Bool) (κ : Kind ℕ) → ((x : Kind ℕ) → Decides (test x) (x ≡ κ)) → (h : List (Mark ℕ)) → Decides (has test h) (Has κ h)
+has_decided test κ each [] = (λ e. absurd (cc), λ z. absurd z)
+has_decided test κ each (m ∷ h) = Decides-or (test m.kind) (has test h) (each m.kind) (has_decided test κ each h)
+
+abbrev pub is_close : Kind ℕ → Bool
+is_close Close = true
+is_close _ = false
+
+close_decided : (x : Kind ℕ) → Decides (is_close x) (x ≡ Close)
+close_decided Close = (λ e. refl, λ e. refl)
+close_decided _ = (λ e. absurd (cc), λ e. absurd (cc))
+
+abbrev pub is_fill : ℕ → Kind ℕ → Bool
+is_fill k (Fill j) = j == k
+is_fill k _ = false
+
+fill_decided : (k : ℕ) (x : Kind ℕ) → Decides (is_fill k x) (x ≡ Fill k)
+fill_decided k (Fill j) = Decides-like (j == k) (λ e. ap Fill e) (λ e. cc) (Decides-eqb j k)
+fill_decided k _ = (λ e. absurd (cc), λ e. absurd (cc))
+
+abbrev pub is_take : ℕ → Kind ℕ → Bool
+is_take k (Take j) = j == k
+is_take k _ = false
+
+take_decided : (k : ℕ) (x : Kind ℕ) → Decides (is_take k x) (x ≡ Take k)
+take_decided k (Take j) = Decides-like (j == k) (λ e. ap Take e) (λ e. cc) (Decides-eqb j k)
+take_decided k _ = (λ e. absurd (cc), λ e. absurd (cc))
+
+-- ---- the stage before
+
+abbrev is_putting : ℕ → Stage ℕ → Bool
+is_putting k (Putting j x) = j == k
+is_putting k _ = false
+
+putting_decided : (k : ℕ) (t : Stage ℕ) → Decides (is_putting k t) ((x : ℕ) × (t ≡ Putting k x))
+putting_decided k (Putting j x) = Decides-like (j == k) (λ e. (x, ap (λ n. Putting n x) e)) (λ e. cc (e.1)) (Decides-eqb j k)
+putting_decided k _ = (λ e. absurd (cc), λ e. absurd (cc (e.1)))
+
+abbrev is_getting : ℕ → Stage ℕ → Bool
+is_getting k (Getting j) = j == k
+is_getting k _ = false
+
+getting_decided : (k : ℕ) (t : Stage ℕ) → Decides (is_getting k t) (t ≡ Getting k)
+getting_decided k (Getting j) = Decides-like (j == k) (λ e. ap Getting e) (λ e. cc) (Decides-eqb j k)
+getting_decided k _ = (λ e. absurd (cc), λ e. absurd (cc))
+
+abbrev pub is_next : Stage ℕ → Kind ℕ → Bool
+is_next t BackIn = 1 == place t
+is_next t (Put x) = 2 == place t
+is_next t (Fill k) = is_putting k t
+is_next t EndIn = 4 == place t
+is_next t BackOut = 5 == place t
+is_next t (Got x) = 6 == place t
+is_next t (Take k) = is_getting k t
+is_next t EndOut = 8 == place t
+is_next t _ = 0 == place t
+
+next_decided : (t : Stage ℕ) (κ : Kind ℕ) → Decides (is_next t κ) (IsNext t κ)
+next_decided t BackIn = Decides-like (1 == place t) (at_over_in t) (λ e. ap place (sym e)) (Decides-eqb 1 (place t))
+next_decided t (Put x) = Decides-like (2 == place t) (at_claimed_in t) (λ e. ap place (sym e)) (Decides-eqb 2 (place t))
+next_decided t (Fill k) = putting_decided k t
+next_decided t EndIn = Decides-like (4 == place t) (at_filled t) (λ e. ap place (sym e.1)) (Decides-eqb 4 (place t))
+next_decided t BackOut = Decides-like (5 == place t) (at_over_out t) (λ e. ap place (sym e)) (Decides-eqb 5 (place t))
+next_decided t (Got x) = Decides-like (6 == place t) (at_claimed_out t) (λ e. ap place (sym e)) (Decides-eqb 6 (place t))
+next_decided t (Take k) = getting_decided k t
+next_decided t EndOut = Decides-like (8 == place t) (at_taken t) (λ e. ap place (sym e.1)) (Decides-eqb 8 (place t))
+next_decided t _ = Decides-like (0 == place t) (at_idle t) (λ e. ap place (sym e)) (Decides-eqb 0 (place t))
+
+-- ---- answers
+
+abbrev is_full : ℕ → List (Mark ℕ) → Bool
+is_full size h = ltb (size + count upper_drop h) (count upper_raise h + 1)
+
+abbrev has_room : ℕ → List (Mark ℕ) → Bool
+has_room size h = ltb (count upper_raise h) (size + count upper_drop h)
+
+abbrev is_empty : List (Mark ℕ) → Bool
+is_empty h = ltb (count lower_raise h) (count lower_drop h + 1)
+
+abbrev has_item : List (Mark ℕ) → Bool
+has_item h = ltb (count lower_drop h) (count lower_raise h)
+
+abbrev pub is_fair : ℕ → List (Mark ℕ) → Kind ℕ → Bool
+is_fair size h NoRoom = is_full size h && not (has is_close h)
+is_fair size h OverIn = is_full size h && not (has is_close h)
+is_fair size h ClaimIn = has_room size h && not (has is_close h)
+is_fair size h Closed = has is_close h
+is_fair size h LateIn = has is_close h
+is_fair size h NoItem = is_empty h
+is_fair size h OverOut = is_empty h
+is_fair size h ClaimOut = has_item h
+is_fair size h _ = true
+
+shut_decided : (h : List (Mark ℕ)) → Decides (has is_close h) (Has Close h)
+shut_decided h = has_decided is_close Close close_decided h
+
+full_decided : (size : ℕ) (h : List (Mark ℕ)) → Decides (is_full size h && not (has is_close h)) (UpperAtLeast size h × (Has Close h → ⊥))
+full_decided size h = Decides-and _ _ (le_decided (size + count upper_drop h) (count upper_raise h)) (Decides-not _ (shut_decided h))
+
+empty_decided : (h : List (Mark ℕ)) → Decides (is_empty h) (LowerNotPositive h)
+empty_decided h = le_decided (count lower_raise h) (count lower_drop h)
+
+fair_decided : (size : ℕ) (h : List (Mark ℕ)) (κ : Kind ℕ) → Decides (is_fair size h κ) (IsFair size h κ)
+fair_decided size h NoRoom = full_decided size h
+fair_decided size h OverIn = full_decided size h
+fair_decided size h ClaimIn = Decides-and _ _ (Decides-ltb (count upper_raise h) (size + count upper_drop h)) (Decides-not _ (shut_decided h))
+fair_decided size h Closed = shut_decided h
+fair_decided size h LateIn = shut_decided h
+fair_decided size h NoItem = empty_decided h
+fair_decided size h OverOut = empty_decided h
+fair_decided size h ClaimOut = Decides-ltb (count lower_drop h) (count lower_raise h)
+fair_decided size h _ = (λ e. tt, λ u. refl)
+
+-- ---- items and cells
+
+abbrev is_item : ℕ → Option ℕ → Bool
+is_item x (Some y) = y == x
+is_item x None = false
+
+item_decided : (x : ℕ) (o : Option ℕ) → Decides (is_item x o) (o ≡ Some x)
+item_decided x (Some y) = Decides-like (y == x) (λ e. ap Some e) (λ e. cc) (Decides-eqb y x)
+item_decided x None = (λ e. absurd (cc), λ e. absurd (cc))
+
+abbrev pub is_oldest : List (Mark ℕ) → Kind ℕ → Bool
+is_oldest h (Got x) = is_item x (item_of h (count gots h))
+is_oldest h _ = true
+
+oldest_decided : (h : List (Mark ℕ)) (κ : Kind ℕ) → Decides (is_oldest h κ) (IsOldest h κ)
+oldest_decided h (Got x) = item_decided x (item_of h (count gots h))
+oldest_decided h _ = (λ e. tt, λ u. refl)
+
+abbrev pub has_cell : ℕ → List (Mark ℕ) → Kind ℕ → Bool
+has_cell size h (Fill k) = ltb k size || has (is_take (k - size)) h
+has_cell size h (Take k) = has (is_fill k) h
+has_cell size h _ = true
+
+cell_decided : (size : ℕ) (h : List (Mark ℕ)) (κ : Kind ℕ) → Decides (has_cell size h κ) (HasCell size h κ)
+cell_decided size h (Fill k) = Decides-like _ forth back (Decides-or (ltb k size) (has (is_take (k - size)) h) (Decides-ltb k size) (has_decided (is_take (k - size)) (Take (k - size)) (take_decided (k - size)) h))
+  where
+    forth : (k < size) ⊎ Has (Take (k - size)) h → (j : ℕ) → k ≡ j + size → Has (Take j) h
+    forth (inl low) j is = absurd (omega arith)
+    forth (inr there) j is = let same : k - size ≡ j = omega arith in subst (λ (n : ℕ). Has (Take n) h) same there
+
+    back : ((j : ℕ) → k ≡ j + size → Has (Take j) h) → (k < size) ⊎ Has (Take (k - size)) h
+    back each = elim (cases_lt k size) [ inl low ↦ inl low | inr high ↦ inr (each (k - size) (omega arith)) ]
+cell_decided size h (Take k) = has_decided (is_fill k) (Fill k) (fill_decided k) h
+cell_decided size h _ = (λ e. tt, λ u. refl)
+
+-- ---- pasts and histories
+
+abbrev pub may_follow : ℕ → List (Mark ℕ) → ℕ → Kind ℕ → Bool
+may_follow size h s κ = is_next (stage h s) κ && (is_fair size h κ && (is_oldest h κ && has_cell size h κ))
+
+may_decided : (size : ℕ) (h : List (Mark ℕ)) (s : ℕ) (κ : Kind ℕ) → Decides (may_follow size h s κ) (MayFollow size h s κ)
+may_decided size h s κ = Decides-like _ (λ p. record { next = p.0; fair = p.1.0; oldest = p.1.1.0; cell = p.1.1.1 }) (λ m. (m.next, (m.fair, (m.oldest, m.cell))))
+    (Decides-and _ _ (next_decided (stage h s) κ) (Decides-and _ _ (fair_decided size h κ) (Decides-and _ _ (oldest_decided h κ) (cell_decided size h κ))))
+
+abbrev pub is_legal_past : ℕ → List (Mark ℕ) → Bool
+is_legal_past size [] = true
+is_legal_past size (m ∷ h) = may_follow size h m.seat m.kind && is_legal_past size h
+
+past_decided : (size : ℕ) (h : List (Mark ℕ)) → Decides (is_legal_past size h) (IsLegalPast size h)
+past_decided size [] = (λ e. tt, λ u. refl)
+past_decided size (m ∷ h) = Decides-and _ _ (may_decided size h m.seat m.kind) (past_decided size h)
+
+pub queue_decided : (size : ℕ) (h : List (Mark ℕ)) → Decides (is_legal_past size (reverse h)) (IsQueueHistory size h)
+queue_decided size h = Decides-like _ (to_literal size h) (to_past size h) (past_decided size (reverse h))

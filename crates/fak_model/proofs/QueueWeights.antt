@@ -1,0 +1,133 @@
+-- What the marks of a legal history of a queue weigh.
+use Rattle.std.proofs.Common.{◌≡◌, ℕ, zero, suc, ◌+◌, ◌<◌, ◌≤◌, List, [], ◌∷◌, ◌++◌, length, get_or, take, length-drop, reverse, Some, refl, ap, sym, ◌∙◌, subst, arith, inl, inr}
+use Rattle.std.specs.List.{sum_by}
+use Rattle.std.proofs.lemmas.List.{append-nil, take-append-le, take_more, nil_from_length}
+use Rattle.std.proofs.lemmas.Bool.{cases_lt}
+use Rattle.std.proofs.lemmas.List.Sums.{sum_by-append, sum_by_push, sum_by-take-drop}
+use Rattle.fak_model.specs.declared.queue.Kind.{Kind}
+use Rattle.fak_model.specs.declared.queue.Kind.TheVariants.{Put, Fill, Got, Take, Close, Closed, LateIn}
+use Rattle.fak_model.specs.declared.queue.Mark.{Mark}
+use Rattle.fak_model.specs.Queue.{queue_rules, IsQueueHistory, IsFairMark, IsFirstOut, count, puts, gots, items_put, item_in, item_at, contents, Has, Drew, BearsTicket, HasItsCell}
+use Rattle.fak_model.specs.QueuePast.{IsFair, IsLegalPast}
+use Rattle.fak_model.proofs.Appending.{snoc_ind, history_front, last_fair}
+use Rattle.fak_model.proofs.QueueBackwards.{count_append, count_reverse, items_push, items_count}
+use Rattle.fak_model.proofs.QueueLiteral.{to_past}
+use Rattle.fak_model.proofs.QueueLaws.{contents_fit}
+use Rattle.fak_model.specs.Weights.{put_of, got_of, close_of, closed_of}
+
+count_push : {A : Type 0} (w : Kind A → ℕ) (h : List (Mark A)) (m : Mark A) → count w (h ++ m ∷ []) ≡ count w h + w m.kind
+count_push w h m = omega (arith, count_append w h (m ∷ []))
+
+-- the items put weigh what the Puts weigh
+item_weighs : {A : Type 0} (f : A → ℕ) (s : ℕ) (κ : Kind A) → sum_by f (item_in (record { seat = s; kind = κ })) ≡ put_of f κ
+item_weighs f s (Put x) = omega arith
+item_weighs f s _ = refl
+
+pub items_weigh : {A : Type 0} (f : A → ℕ) (h : List (Mark A)) → sum_by f (items_put h) ≡ count (put_of f) h
+items_weigh {A} f = snoc_ind (λ (h : List (Mark A)). sum_by f (items_put h) ≡ count (put_of f) h) refl (λ h m before.
+    ap (sum_by f) (items_push h m) ∙ omega (arith, sum_by-append f (items_put h) (item_in m), item_weighs f m.seat m.kind, before, count_push (put_of f) h m))
+
+-- the item at a place
+at_place : {A : Type 0} (xs : List A) (n : ℕ) (x : A) → item_at xs n ≡ Some x → (n < length xs) × (get_or xs n x ≡ x)
+at_place [] n x at = absurd (cc)
+at_place (y ∷ ys) zero x at = (omega arith, cc)
+at_place (y ∷ ys) (suc n) x at = let rest = at_place ys n x at in (omega (arith, rest.0), rest.1)
+
+-- the first items put, as many as there are Gots, weigh what the Gots weigh
+got_next : {A : Type 0} (f : A → ℕ) (h : List (Mark A)) (s : ℕ) (κ : Kind A) → IsFirstOut h κ → count gots h ≤ count puts h → sum_by f (take (count gots h) (items_put h)) ≡ count (got_of f) h
+    → sum_by f (take (count gots h + gots κ) (items_put h ++ item_in (record { seat = s; kind = κ }))) ≡ count (got_of f) h + got_of f κ
+got_next f h s (Got x) first le before =
+    let w = at_place (items_put h) (count gots h) x first in
+    let e : take (count gots h + 1) (items_put h) ≡ take (count gots h) (items_put h) ++ x ∷ [] = take_more (items_put h) (count gots h) x w.0 ∙ ap (λ y. take (count gots h) (items_put h) ++ y ∷ []) w.1 in
+    ap (λ l. sum_by f (take (count gots h + 1) l)) (append-nil (items_put h)) ∙ (ap (sum_by f) e ∙ (sum_by_push f (take (count gots h) (items_put h)) x ∙ ap (λ n. n + f x) before))
+got_next f h s (Put x) first le before =
+    let within : count gots h + 0 ≤ length (items_put h) = omega (arith, le, items_count h) in
+    let zero_more : count gots h + 0 ≡ count gots h = omega arith in
+    ap (sum_by f) (take-append-le (count gots h + 0) (items_put h) (x ∷ []) within) ∙ (ap (λ n. sum_by f (take n (items_put h))) zero_more ∙ (before ∙ omega arith))
+got_next f h s _ first le before =
+    let zero_more : count gots h + 0 ≡ count gots h = omega arith in
+    ap (λ l. sum_by f (take (count gots h + 0) l)) (append-nil (items_put h)) ∙ (ap (λ n. sum_by f (take n (items_put h))) zero_more ∙ (before ∙ omega arith))
+
+pub gots_weigh : {A : Type 0} (size : ℕ) (f : A → ℕ) (h : List (Mark A)) → IsQueueHistory size h → sum_by f (take (count gots h) (items_put h)) ≡ count (got_of f) h
+gots_weigh {A} size f = snoc_ind (λ (h : List (Mark A)). IsQueueHistory size h → sum_by f (take (count gots h) (items_put h)) ≡ count (got_of f) h) (λ law. refl) (λ h m before law.
+    let front = history_front (queue_rules size) h m law in
+    let fair : IsFairMark size h m = last_fair (queue_rules size) h m law in
+    let next = got_next f h m.seat m.kind fair.first_out (contents_fit size h front).0 (before front) in
+    let n : count gots (h ++ m ∷ []) ≡ count gots h + gots m.kind = count_push gots h m in
+    ap (λ k. sum_by f (take k (items_put (h ++ m ∷ [])))) n ∙ (ap (λ l. sum_by f (take (count gots h + gots m.kind) l)) (items_push h m) ∙ (next ∙ sym (count_push (got_of f) h m))))
+
+-- what was put was got, or is left
+pub queue_weighs : {A : Type 0} (size : ℕ) (f : A → ℕ) (h : List (Mark A)) → IsQueueHistory size h → count (put_of f) h ≡ count (got_of f) h + sum_by f (contents h)
+queue_weighs size f h law = omega (arith, items_weigh f h, gots_weigh size f h law, sum_by-take-drop f (items_put h) (count gots h))
+
+-- a queue that got as many as were put has nothing left
+pub nothing_left : {A : Type 0} (h : List (Mark A)) → count puts h ≤ count gots h → contents h ≡ []
+nothing_left h le = nil_from_length (contents h) (omega (arith, length-drop (count gots h) (items_put h), items_count h))
+
+-- an insertion that finds the queue shut stands after a shut
+has_counts : {A : Type 0} (h : List (Mark A)) → Has Close h → 0 < count close_of h
+has_counts [] e = absurd e
+has_counts (m ∷ h) (inl e) = let one : close_of m.kind ≡ 1 = ap close_of e in omega arith
+has_counts (m ∷ h) (inr e) = omega (arith, has_counts h e)
+
+closed_after : {A : Type 0} (size : ℕ) (h : List (Mark A)) (κ : Kind A) → IsFair size h κ → 0 < closed_of κ → 0 < count close_of h
+closed_after size h Closed fair more = has_counts h fair
+closed_after size h LateIn fair more = has_counts h fair
+closed_after size h _ fair more = absurd (omega arith)
+
+past_closed : {A : Type 0} (size : ℕ) (h : List (Mark A)) → IsLegalPast size h → 0 < count closed_of h → 0 < count close_of h
+past_closed size [] legal more = absurd (omega arith)
+past_closed size (m ∷ h) legal more = elim (cases_lt 0 (closed_of m.kind)) [
+  | inl now ↦ (let here = closed_after size h m.kind legal.0.fair now in omega (arith, here))
+  | inr none ↦ (let before = past_closed size h legal.1 (omega (arith, more, none)) in omega (arith, before))
+]
+
+pub closed_after_close : {A : Type 0} (size : ℕ) (h : List (Mark A)) → IsQueueHistory size h → 0 < count closed_of h → 0 < count close_of h
+closed_after_close size h law more =
+    let e = count_reverse closed_of h in
+    let c = count_reverse close_of h in
+    let past = past_closed size (reverse h) (to_past size h law) (omega arith) in
+    omega arith
+
+count_same : {A : Type 0} (w v : Kind A → ℕ) → ((κ : Kind A) → w κ ≡ v κ) → (h : List (Mark A)) → count w h ≡ count v h
+count_same w v each [] = refl
+count_same w v each (m ∷ h) = omega (arith, each m.kind, count_same w v each h)
+
+put_one : {A : Type 0} (κ : Kind A) → puts κ ≡ put_of (λ (x : A). 1) κ
+put_one (Put x) = refl
+put_one _ = refl
+
+got_one : {A : Type 0} (κ : Kind A) → gots κ ≡ got_of (λ (x : A). 1) κ
+got_one (Got x) = refl
+got_one _ = refl
+
+pub puts_weigh : {A : Type 0} (h : List (Mark A)) → count (put_of (λ (x : A). 1)) h ≡ count puts h
+puts_weigh {A} h = sym (count_same puts (put_of (λ (x : A). 1)) put_one h)
+
+pub gots_weigh_one : {A : Type 0} (h : List (Mark A)) → count (got_of (λ (x : A). 1)) h ≡ count gots h
+gots_weigh_one {A} h = sym (count_same gots (got_of (λ (x : A). 1)) got_one h)
+
+-- no more is left than was put
+pub contents_put : {A : Type 0} (h : List (Mark A)) → length (contents h) ≤ count puts h
+contents_put h = omega (arith, length-drop (count gots h) (items_put h), items_count h)
+
+-- ---- the marks of one ticket
+
+pub drew_below : {A : Type 0} (before : List (Mark A)) (seat k : ℕ) (x : A) → Drew before seat (Put x) puts k → k < count puts before
+drew_below before seat k x d =
+    let split = ap (count puts) d.stands in
+    let parts = count_append puts d.earlier (d.m ∷ d.later) in
+    let one : puts d.m.kind ≡ 1 = ap puts d.is in
+    omega (arith, split, parts, one, d.number)
+
+pub fill_after_put : {A : Type 0} (size : ℕ) (h before after : List (Mark A)) (m : Mark A) (k : ℕ) → IsQueueHistory size h → before ++ m ∷ after ≡ h → m.kind ≡ Fill k
+    → ((x : A) × Drew before m.seat (Put x) puts k) × (k < count puts before)
+fill_after_put size h before after m k law is kind =
+    let fair : IsFairMark size before m = law.fair before m after is in
+    let own = subst (BearsTicket before m.seat) kind fair.ticket in
+    (own, drew_below before m.seat k own.0 own.1)
+
+pub take_after_fill : {A : Type 0} (size : ℕ) (h before after : List (Mark A)) (m : Mark A) (k : ℕ) → IsQueueHistory size h → before ++ m ∷ after ≡ h → m.kind ≡ Take k → Has (Fill k) before
+take_after_fill size h before after m k law is kind =
+    let fair : IsFairMark size before m = law.fair before m after is in
+    subst (HasItsCell size before) kind fair.cell

@@ -1,0 +1,116 @@
+//! Calls that wait and try again, and what their callers may promise on.
+
+ghost use Rattle.std.specs.Prelude.{◌≡◌, ◌+◌, IfOk, IsTrue, MatchOption, ⊤, length, pos};
+ghost use Rattle.fak_model.specs.Queue.{contents, lower_count, upper_count};
+ghost use Rattle.fak_queue.specs.Queues.{IsIdleSeat, drawn_by};
+
+use crate::{DeleteFault, InsertFault, Queue, Rest, Seat, Tally};
+use fak_model::laws::queue::a_queue_at_rest_counts_its_items;
+use std::sync::Wait;
+use std::test::Fail;
+
+// Inserts the numbers below `count`, and waits where the queue is full.
+fn insert_below<R: Wait>(
+    rt: &R,
+    queue: &Queue<u64>,
+    seat: &mut Seat<u64>,
+    count: u64,
+) -> Result<(), InsertFault<u64>>
+    requires { IsIdleSeat queue.now.object seat.old }
+    ensures idle { IsIdleSeat queue.now.object seat.new }
+    ensures drawn { IfOk result (λ _. drawn_by seat.new ≡ drawn_by seat.old + count) }
+{
+    for item in 0..count {
+        if let Err(fault) = queue.wait_insert(rt, seat, item) {
+            return Err(fault);
+        }
+    }
+    Ok(())
+}
+
+// Whether all seats are in the tally. Then both counts are the number of items left.
+fn counts_its_items(tally: &Tally<u64>) -> bool
+    ensures lower { IsTrue result → lower_count tally.now.seen ≡ pos (length (contents tally.now.seen)) }
+    ensures upper { IsTrue result → upper_count tally.now.seen ≡ pos (length (contents tally.now.seen)) }
+{
+    a_queue_at_rest_counts_its_items::<u64>();
+    tally.is_whole()
+}
+
+// What a queue with a whole tally leaves: as many items as both counts say.
+fn close_counted(queue: Queue<u64>, tally: Tally<u64>) -> Option<Rest<u64>>
+    requires { tally.object ≡ queue.object }
+    ensures { MatchOption result ⊤ (λ rest. upper_count tally.seen ≡ pos (length rest)) }
+{
+    a_queue_at_rest_counts_its_items::<u64>();
+    let whole = tally.is_whole();
+    if whole {
+        return Some(queue.close(tally));
+    }
+    None
+}
+
+#[test]
+fn worn_seats_do_not_wait(rt: HostRuntime) -> Result<(), Fail> {
+    let Ok((queue, mut seats)) = Queue::<u64>::open(rt.alloc(), 1, 2, 1) else {
+        return Err(Fail::from("open"));
+    };
+    let (Some(mut b), Some(mut a)) = (seats.pop(), seats.pop()) else {
+        return Err(Fail::from("two seats"));
+    };
+    assert!(rt; matches!(queue.wait_insert(&rt, &mut a, 7), Ok(0)));
+    assert!(rt;
+        matches!(
+            queue.wait_insert(&rt, &mut a, 8),
+            Err(InsertFault::Worn { item: 8 })
+        )
+    );
+    assert!(rt; matches!(queue.wait_delete(&rt, &mut b), Ok((0, 7))));
+    assert!(rt; matches!(queue.wait_delete(&rt, &mut b), Err(DeleteFault::Worn)));
+    assert!(rt; matches!(queue.delete(&rt, &mut b), Err(DeleteFault::Worn)));
+    Ok(())
+}
+
+#[test]
+fn a_shut_queue_does_not_keep_a_seat_waiting(rt: HostRuntime) -> Result<(), Fail> {
+    let Ok((queue, mut seats)) = Queue::<u64>::open(rt.alloc(), 1, 1, 9) else {
+        return Err(Fail::from("open"));
+    };
+    let Some(mut a) = seats.pop() else {
+        return Err(Fail::from("one seat"));
+    };
+    assert!(rt; matches!(queue.wait_insert(&rt, &mut a, 7), Ok(0)));
+    assert!(rt; queue.shut(&mut a));
+    assert!(rt;
+        matches!(
+            queue.wait_insert(&rt, &mut a, 8),
+            Err(InsertFault::Closed { item: 8 })
+        )
+    );
+    assert!(rt; matches!(queue.wait_delete(&rt, &mut a), Ok((0, 7))));
+    Ok(())
+}
+
+#[test]
+fn items_that_were_inserted_and_left(rt: HostRuntime) -> Result<(), Fail> {
+    let Ok((queue, mut seats)) = Queue::<u64>::open(rt.alloc(), 3, 1, 9) else {
+        return Err(Fail::from("open"));
+    };
+    let Some(mut a) = seats.pop() else {
+        return Err(Fail::from("one seat"));
+    };
+    let Ok(()) = insert_below(&rt, &queue, &mut a, 3) else {
+        return Err(Fail::from("insert"));
+    };
+    assert_eq!(rt; a.left(), 6);
+    assert!(rt; matches!(queue.wait_delete(&rt, &mut a), Ok((0, 0))));
+    let tally = Tally::of(a);
+    assert!(rt; counts_its_items(&tally));
+    let Some(mut rest) = close_counted(queue, tally) else {
+        return Err(Fail::from("whole"));
+    };
+    assert_eq!(rt; rest.next(), Some(1));
+    assert_eq!(rt; rest.next(), Some(2));
+    assert_eq!(rt; rest.next(), None);
+    Ok(())
+}
