@@ -18,11 +18,6 @@ row_appended text old machine next row action rest is more =
     ∙ append_assoc old (text_of_row row ++ 10 ∷ []) (text_of_rows (rows_from next rest))
     ∙ ap (λ t. old ++ t) (sym (row_first machine next row action rest is))
 
--- an action that prints nothing
-pub nothing_appended : (old : List ℕ) (machine next : Machine) (action : Action) (rest : List Action) → outcome_of machine action ≡ record { machine = next; rows = [] }
-    → old ++ text_of_rows (rows_from next rest) ≡ old ++ text_of_rows (rows_from machine (action ∷ rest))
-nothing_appended old machine next action rest is = ap (λ t. old ++ t) (sym (ap (λ (o : Outcome). text_of_rows (o.rows ++ rows_from o.machine rest)) is))
-
 -- of the steps that are left one is made
 pub steps_left : (n i seat : ℕ) (rest : List Action) → i < n → replicate (n - i) (steps seat) ++ rest ≡ steps seat ∷ (replicate (n - (i + 1)) (steps seat) ++ rest)
 steps_left n i seat rest below =

@@ -155,9 +155,6 @@ pub version-sees : (name : ℕ) (names : List ℕ) (seen past : List FileMark) �
 version-sees name names seen past i s =
     ap (version name) s.is ∙ (λ j. reverse (back_from_take-foreign name names s.between seen i s.foreign j) ++ reverse (own_since_take-foreign name names s.between seen i s.foreign j))
 
-pub back-sees : (name : ℕ) (names : List ℕ) (seen past : List FileMark) → In name names → Sees seat_of names seen past → back_from_take name past ≡ back_from_take name seen
-back-sees name names seen past i s = ap (back_from_take name) s.is ∙ back_from_take-foreign name names s.between seen i s.foreign
-
 -- ---- a reader
 
 -- whose last mark is its Take has set nothing since

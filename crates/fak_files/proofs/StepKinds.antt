@@ -37,9 +37,6 @@ module _ (table : FileLimits) (s : State (Unit {0}) (View FileMark FilePhase)) (
   abbrev h : List FileMark
   h = reverse r.core
 
-  k_few : table.seats ≤ 64
-  k_few = r.encoded.few_seats
-
   within : (taken : ℕ) × (count table.seats h +ℤ pos taken ≡ pos table.seats) × (taken ≤ 5000)
   within = count_within table.seats h r.encoded.few_seats r.reached (All-reverse (λ (x : FileMark). x.seat < table.seats) r.core r.named)
 

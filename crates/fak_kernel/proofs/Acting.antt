@@ -14,12 +14,12 @@ use Rattle.fak_text.specs.Journal.{Process, FitsScript}
 use Rattle.fak_kernel.specs.declared.report.Outcome.TheVariants.{Ended, Halted}
 use Rattle.fak_kernel.specs.ListScheduler.{next_step}
 use Rattle.fak_kernel.specs.Ledger.{Ledger, Balanced, nothing, joined}
-use Rattle.fak_kernel.specs.Events.{takes, puts, finds_ready_empty, halts, ends, closed}
+use Rattle.fak_kernel.specs.Events.{takes, puts, halts, ends, closed, empty}
 use Rattle.fak_kernel.specs.Processors.{ObjectsOf, ProcessorOf, AreFor}
 use Rattle.fak_kernel.specs.Moving.{IsIdle, IsQuiet, GrowsIn, GrowsShut, GrowsAtLast, GrowsOut, GrowsEmpty, BeginsNone, Gains, Moves, row_as}
 use Rattle.fak_kernel.proofs.Joining.{balanced-joined}
-use Rattle.fak_kernel.proofs.Events.{none_waits, quiet, balanced-beside, keeps_takes, keeps_puts, keeps_ready_empty, keeps_halts, keeps_ends}
-use Rattle.fak_kernel.proofs.Moving.{gains_none, gains_then, gains_ready, gains_free}
+use Rattle.fak_kernel.proofs.Events.{none_waits, quiet, balanced-beside, keeps_takes, keeps_puts, keeps_halts, keeps_ends}
+use Rattle.fak_kernel.proofs.Moving.{quiet_empty, gains_none, gains_then, gains_ready, gains_free}
 use Rattle.fak_kernel.proofs.Gaining.{Alike, gains_as}
 
 -- nothing is begun in two ledgers
@@ -35,18 +35,10 @@ module _ {script : ScriptOf} where
     slots = z.slots;
     children = z.children;
     new = z.new;
-    ups = z.ups;
-    releases = z.releases;
-    refusals = z.refusals;
-    ones = z.ones;
-    credits = z.credits;
-    debits = z.debits;
-    downs = z.downs;
-    upped = z.upped;
-    parked = z.parked;
-    shuts = q.closes;
-    halts = sym q.closeds;
-    no_stuck = z.no_stuck;
+    births = z.births;
+    busy = z.busy;
+    semaphores = z.semaphores;
+    shutdown = record { shuts = q.closes; halts = sym q.closeds; no_stuck = z.shutdown.no_stuck };
     made = z.made;
     rows = z.rows;
   }
@@ -57,18 +49,10 @@ module _ {script : ScriptOf} where
     slots = λ g. omega (arith, q.puts g, q.gots g);
     children = z.children;
     new = z.new;
-    ups = z.ups;
-    releases = z.releases;
-    refusals = z.refusals;
-    ones = z.ones;
-    credits = z.credits;
-    debits = z.debits;
-    downs = z.downs;
-    upped = z.upped;
-    parked = z.parked;
-    shuts = z.shuts;
-    halts = z.halts;
-    no_stuck = z.no_stuck;
+    births = z.births;
+    busy = z.busy;
+    semaphores = z.semaphores;
+    shutdown = z.shutdown;
     made = z.made;
     rows = z.rows;
   }
@@ -93,18 +77,10 @@ module _ {script : ScriptOf} where
     slots = b.slots;
     children = b.children;
     new = b.new;
-    ups = b.ups;
-    releases = b.releases;
-    refusals = b.refusals;
-    ones = b.ones;
-    credits = b.credits;
-    debits = b.debits;
-    downs = b.downs;
-    upped = b.upped;
-    parked = b.parked;
-    shuts = b.shuts;
-    halts = b.halts;
-    no_stuck = b.no_stuck;
+    births = b.births;
+    busy = b.busy;
+    semaphores = b.semaphores;
+    shutdown = b.shutdown;
     made = b.made;
     rows = b.rows;
   }
@@ -112,16 +88,13 @@ module _ {script : ScriptOf} where
   pub moves_behind : {before after : List Process} {p q : ProcessorOf} (others : List Process) → Moves script before after p q → Moves script (others ++ before) (others ++ after) p q
   moves_behind others m = record { ledger = m.ledger; begins = m.begins; balanced = balanced_behind others m.balanced; gains = m.gains }
 
-  pub moves_by : {before after : List Process} {p q : ProcessorOf} (a b : Ledger) → BeginsNone b → Balanced script (length script.semaphores) before after b → Gains script p q a → Alike a b → Moves script before after p q
-  moves_by a b begins balanced g same = record { ledger = b; begins = begins; balanced = balanced; gains = gains_as a b g same }
-
   -- ---- the ready queue
 
   pub moves_taken : {o : ObjectsOf} (p : ProcessorOf) (made : AreFor script o) {x y : Process} {s : SeatInfo (Mark Process)} → y ≡ x → GrowsOut o.ready.size x p.ready s → Moves script [] (y ∷ []) p (record p { ready = s })
   moves_taken p made {x} {y} {s} y_is g = subst (λ z. Moves script [] (z ∷ []) p (record p { ready = s })) (sym y_is) (record { ledger = takes g.ticket x; begins = (refl, refl); balanced = keeps_takes script (length script.semaphores) g.ticket x; gains = gains_ready p (kinds_out g.ticket x) made.ready g.grows })
 
   pub moves_empty : {o : ObjectsOf} (p : ProcessorOf) (made : AreFor script o) {s : SeatInfo (Mark Process)} → GrowsEmpty o.ready.size p.ready s → Moves script [] [] p (record p { ready = s })
-  moves_empty p made g = record { ledger = finds_ready_empty g.late; begins = (refl, refl); balanced = keeps_ready_empty script (length script.semaphores) g.late; gains = gains_ready p _ made.ready g.grows }
+  moves_empty p made g = record { ledger = record nothing { ready = empty g.late }; begins = (refl, refl); balanced = keeps_quiet (length script.semaphores) (empty g.late) (quiet_empty g.late); gains = gains_ready p _ made.ready g.grows }
 
   pub moves_entered : {o : ObjectsOf} (p : ProcessorOf) (made : AreFor script o) {x : Process} {s : SeatInfo (Mark Process)} {h : List Process} → h ≡ p.halted → GrowsIn o.ready.size x p.ready s → Moves script (x ∷ []) [] p (record p { ready = s; halted = h })
   moves_entered p made {x} {s} {h} h_is g = record {

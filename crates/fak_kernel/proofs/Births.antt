@@ -59,7 +59,7 @@ module _ {script : ScriptOf} {seats : ℕ} {h : Histories} {l : Ledger} (g : Gat
       let fit = granted_fit script.births seats h.births g.births_lawful g.births_named in
       let ups = g.births up_amount in
       let releases = g.births release_amount in
-      omega (arith, fit, ups, releases, g.balanced.ups, g.balanced.releases)
+      omega (arith, fit, ups, releases, g.balanced.births.ups, g.balanced.births.releases)
 
   -- a birth is refused only where so many were claimed
   pub no_birth_at_bound : 0 < notes no_births_of l → script.births ≤ notes births_of l + notes no_slots_of l
@@ -67,8 +67,8 @@ module _ {script : ScriptOf} {seats : ℕ} {h : Histories} {l : Ledger} (g : Gat
       let refusals = g.births refusal_of in
       let others = g.births other_amount in
       let ups = g.births up_amount in
-      let at = refused_at_bound script.births h.births g.births_lawful (omega (arith, others, g.balanced.ones)) (omega (arith, refusals, g.balanced.refusals, some)) in
-      omega (arith, at, ups, g.balanced.ups)
+      let at = refused_at_bound script.births h.births g.births_lawful (omega (arith, others, g.balanced.births.ones)) (omega (arith, refusals, g.balanced.births.refusals, some)) in
+      omega (arith, at, ups, g.balanced.births.ups)
 
   -- the spawned processes are as many as the notes that say so
   pub spawned_are : sum_by (λ (p : Process). 1) l.born ≡ notes births_of l

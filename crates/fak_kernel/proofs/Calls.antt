@@ -75,9 +75,6 @@ grows_withdraws {d} c = record { name = ap (λ s. s.name) c.appends.same_seat; o
 pub grows_credit : {kind : CreditKind} {credit_is : credits.CreditInfo} {old new : SeatInfo CreditMark} {answer : ℤ} → credits.MakesCall kind credit_is old new answer → Grows credit_rules credit.kind_of old new (kind ∷ [])
 grows_credit {kind} c = record { name = ap (λ s. s.name) c.appends.same_seat; owns = λ before o. owns_more (kind ∷ []) c.appends refl o }
 
-pub grows_observes : {credit_is : credits.CreditInfo} {old new : SeatInfo CreditMark} {answer : ℤ} → credits.Observes credit_is old new answer → Grows credit_rules credit.kind_of old new []
-grows_observes c = record { name = ap (λ s. s.name) c.appends.same_seat; owns = λ before o. owns_more [] c.appends refl o }
-
 -- ---- a semaphore
 
 pub refused_in_weighs : {T : Type 0} (f : T → ℕ) (rs : List RefusedInsertion) → (sum_by (put_of f) (flat_map kinds_not_in rs) ≡ 0) × (sum_by (got_of f) (flat_map kinds_not_in rs) ≡ 0)

@@ -35,7 +35,7 @@ module _ {script : ScriptOf} {seats : ℕ} {h : Histories} {l : Ledger} (g : Gat
       let credited = g.busy credit_weight in
       let debited = g.busy debit_weight in
       let begun = sum_by-ones l.begun in
-      nothing_left h.ready (omega (arith, ints, all, put, got, puts_are, gots_are, credited, debited, begun, started, g.idle, g.balanced.credits, g.balanced.debits))
+      nothing_left h.ready (omega (arith, ints, all, put, got, puts_are, gots_are, credited, debited, begun, started, g.idle, g.balanced.busy.credits, g.balanced.busy.debits))
 
   -- what is put in the wait queues is got, or sleeps
   pub asleep_weighs : (f : Process → ℕ) (k : ℕ) → k ≤ length script.semaphores → waiting (put_of f) k l ≡ waiting (got_of f) k l + sum_by f (asleep h.waits k)

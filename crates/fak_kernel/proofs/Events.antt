@@ -9,16 +9,19 @@ use Rattle.fak_model.specs.declared.queue.Kind.{Kind}
 use Rattle.fak_model.specs.declared.credit.CreditKind.TheVariants.{Debit, Credit}
 use Rattle.fak_model.specs.Histories.{sum_below}
 use Rattle.fak_model.specs.Credit.{debit_weight, credit_weight}
+use Rattle.fak_model.specs.Room.{up_amount, release_amount}
+use Rattle.fak_model.specs.Weights.{put_of, got_of, close_of, closed_of, refusal_of, other_amount}
 use Rattle.fak_model.proofs.Leading.{sum_none}
 use Rattle.fak_model.proofs.Deciding.{cond_here, cond_else}
 use Rattle.fak_queue.specs.Retries.{kinds_in, kinds_out}
 use Rattle.fak_text.specs.Script.{ScriptOf, StepOf, down, up, spawn, shutdown}
-use Rattle.fak_text.specs.Journal.{NoteOf, downed, upped, spawned, no_birth, no_slot, shut_down, Process, child_count, new_process, after_note, FitsScript}
+use Rattle.fak_text.specs.Journal.{NoteOf, downed, upped, spawned, no_birth, no_slot, shut_down, Process, child_count, after_note, FitsScript}
 use Rattle.fak_kernel.specs.ListScheduler.{child_of, next_step}
 use Rattle.fak_kernel.specs.Report.{RowOf}
 use Rattle.fak_kernel.specs.Ledger.{Ledger, Made, Balanced, IsMade, FitsRow, nothing, not_before, its_down, before_down}
-use Rattle.fak_model.specs.Weights.{put_of, got_of}
-use Rattle.fak_kernel.specs.Events.{made_of, IsPlain, fills, starts, takes, puts, finds_ready_full, finds_ready_empty, halts, steps, passes, parks, adds, wakes, spawns, lacks_birth, lacks_slot, ends, finds_free_full, finds_free_empty, finds_free_closed, waits_refused, shuts}
+use Rattle.fak_kernel.specs.Events.{made_of, IsPlain, fills, takes, puts, halts, steps, passes, parks, adds, wakes, spawns, lacks_birth, lacks_slot, ends, waits_refused, shuts, closed, refused_claim}
+use Rattle.fak_kernel.specs.Moving.{IsIdle}
+use Rattle.fak_kernel.proofs.Moving.{quiet_empty, idle_closed}
 use Rattle.fak_kernel.proofs.Sums.{sum_at}
 
 -- no wait queue
@@ -37,21 +40,34 @@ balanced-beside {before = before} {after = after} others b = record {
   slots = b.slots;
   children = b.children;
   new = b.new;
-  ups = b.ups;
-  releases = b.releases;
-  refusals = b.refusals;
-  ones = b.ones;
-  credits = b.credits;
-  debits = b.debits;
-  downs = b.downs;
-  upped = b.upped;
-  parked = b.parked;
-  shuts = b.shuts;
-  halts = b.halts;
-  no_stuck = b.no_stuck;
+  births = b.births;
+  busy = b.busy;
+  semaphores = b.semaphores;
+  shutdown = b.shutdown;
   made = b.made;
   rows = b.rows;
 }
+
+-- ---- what refused calls weigh, refused at the test or at the add
+
+record ClosedWeighs (T : Type 0) (late : Bool) : Type 0 where
+  pub idle : IsIdle {T = T} (closed late)
+  pub closes : sum_by close_of (closed {A = T} late) ≡ 0
+  pub closeds : sum_by closed_of (closed {A = T} late) ≡ 1
+
+closed_weighs : {T : Type 0} (late : Bool) → ClosedWeighs T late
+closed_weighs true = record { idle = idle_closed true; closes = refl; closeds = refl }
+closed_weighs false = record { idle = idle_closed false; closes = refl; closeds = refl }
+
+record RefusedClaimWeighs (late : Bool) : Type 0 where
+  pub ups : sum_by up_amount (refused_claim late) ≡ 0
+  pub releases : sum_by release_amount (refused_claim late) ≡ 0
+  pub refusals : sum_by refusal_of (refused_claim late) ≡ 1
+  pub others : sum_by other_amount (refused_claim late) ≡ 0
+
+refused_claim_weighs : (late : Bool) → RefusedClaimWeighs late
+refused_claim_weighs true = record { ups = refl; releases = refl; refusals = refl; others = refl }
+refused_claim_weighs false = record { ups = refl; releases = refl; refusals = refl; others = refl }
 
 module _ (script : ScriptOf) (n : ℕ) where
   -- nothing was done
@@ -61,18 +77,10 @@ module _ (script : ScriptOf) (n : ℕ) where
     slots = λ g. omega arith;
     children = λ g. refl;
     new = omega arith;
-    ups = omega arith;
-    releases = refl;
-    refusals = refl;
-    ones = refl;
-    credits = omega (arith, none_waits n);
-    debits = omega (arith, none_waits n);
-    downs = λ s below. omega (arith, none_waits n);
-    upped = λ s below. refl;
-    parked = λ s below. refl;
-    shuts = refl;
-    halts = refl;
-    no_stuck = refl;
+    births = record { ups = omega arith; releases = refl; refusals = refl; ones = refl };
+    busy = record { credits = omega (arith, none_waits n); debits = omega (arith, none_waits n) };
+    semaphores = record { downs = λ s below. omega (arith, none_waits n); upped = λ s below. refl; parked = λ s below. refl };
+    shutdown = record { shuts = refl; halts = refl; no_stuck = refl };
     made = All-nil (IsMade script);
     rows = All-nil (FitsRow script);
   }
@@ -90,41 +98,10 @@ module _ (script : ScriptOf) (n : ℕ) where
     slots = λ g. omega arith;
     children = quiet.children;
     new = quiet.new;
-    ups = quiet.ups;
-    releases = quiet.releases;
-    refusals = quiet.refusals;
-    ones = quiet.ones;
-    credits = quiet.credits;
-    debits = quiet.debits;
-    downs = quiet.downs;
-    upped = quiet.upped;
-    parked = quiet.parked;
-    shuts = quiet.shuts;
-    halts = quiet.halts;
-    no_stuck = quiet.no_stuck;
-    made = quiet.made;
-    rows = quiet.rows;
-  }
-
-  -- a started process
-  pub keeps_starts : (j k i program slot : ℕ) → Balanced script n [] [] (starts j k (new_process (i ∷ []) program slot))
-  keeps_starts j k i program slot = record {
-    processes = λ f. omega (arith, none_waits n);
-    slots = λ g. omega arith;
-    children = quiet.children;
-    new = omega arith;
-    ups = quiet.ups;
-    releases = quiet.releases;
-    refusals = quiet.refusals;
-    ones = quiet.ones;
-    credits = quiet.credits;
-    debits = quiet.debits;
-    downs = quiet.downs;
-    upped = quiet.upped;
-    parked = quiet.parked;
-    shuts = quiet.shuts;
-    halts = quiet.halts;
-    no_stuck = quiet.no_stuck;
+    births = quiet.births;
+    busy = quiet.busy;
+    semaphores = quiet.semaphores;
+    shutdown = quiet.shutdown;
     made = quiet.made;
     rows = quiet.rows;
   }
@@ -136,18 +113,10 @@ module _ (script : ScriptOf) (n : ℕ) where
     slots = quiet.slots;
     children = quiet.children;
     new = quiet.new;
-    ups = quiet.ups;
-    releases = quiet.releases;
-    refusals = quiet.refusals;
-    ones = quiet.ones;
-    credits = quiet.credits;
-    debits = quiet.debits;
-    downs = quiet.downs;
-    upped = quiet.upped;
-    parked = quiet.parked;
-    shuts = quiet.shuts;
-    halts = quiet.halts;
-    no_stuck = quiet.no_stuck;
+    births = quiet.births;
+    busy = quiet.busy;
+    semaphores = quiet.semaphores;
+    shutdown = record { shuts = refl; halts = refl; no_stuck = refl };
     made = quiet.made;
     rows = quiet.rows;
   }
@@ -159,271 +128,25 @@ module _ (script : ScriptOf) (n : ℕ) where
     slots = quiet.slots;
     children = quiet.children;
     new = quiet.new;
-    ups = quiet.ups;
-    releases = quiet.releases;
-    refusals = quiet.refusals;
-    ones = quiet.ones;
-    credits = quiet.credits;
-    debits = quiet.debits;
-    downs = quiet.downs;
-    upped = quiet.upped;
-    parked = quiet.parked;
-    shuts = quiet.shuts;
-    halts = quiet.halts;
-    no_stuck = quiet.no_stuck;
-    made = quiet.made;
-    rows = quiet.rows;
-  }
-
-  pub keeps_ready_full : (late : Bool) → Balanced script n [] [] (finds_ready_full late)
-  keeps_ready_full true = record {
-    processes = λ f. omega (arith, none_waits n);
-    slots = quiet.slots;
-    children = quiet.children;
-    new = quiet.new;
-    ups = quiet.ups;
-    releases = quiet.releases;
-    refusals = quiet.refusals;
-    ones = quiet.ones;
-    credits = quiet.credits;
-    debits = quiet.debits;
-    downs = quiet.downs;
-    upped = quiet.upped;
-    parked = quiet.parked;
-    shuts = refl;
-    halts = refl;
-    no_stuck = quiet.no_stuck;
-    made = quiet.made;
-    rows = quiet.rows;
-  }
-  keeps_ready_full false = record {
-    processes = λ f. omega (arith, none_waits n);
-    slots = quiet.slots;
-    children = quiet.children;
-    new = quiet.new;
-    ups = quiet.ups;
-    releases = quiet.releases;
-    refusals = quiet.refusals;
-    ones = quiet.ones;
-    credits = quiet.credits;
-    debits = quiet.debits;
-    downs = quiet.downs;
-    upped = quiet.upped;
-    parked = quiet.parked;
-    shuts = refl;
-    halts = refl;
-    no_stuck = quiet.no_stuck;
-    made = quiet.made;
-    rows = quiet.rows;
-  }
-
-  pub keeps_ready_empty : (late : Bool) → Balanced script n [] [] (finds_ready_empty late)
-  keeps_ready_empty true = record {
-    processes = λ f. omega (arith, none_waits n);
-    slots = quiet.slots;
-    children = quiet.children;
-    new = quiet.new;
-    ups = quiet.ups;
-    releases = quiet.releases;
-    refusals = quiet.refusals;
-    ones = quiet.ones;
-    credits = quiet.credits;
-    debits = quiet.debits;
-    downs = quiet.downs;
-    upped = quiet.upped;
-    parked = quiet.parked;
-    shuts = refl;
-    halts = refl;
-    no_stuck = quiet.no_stuck;
-    made = quiet.made;
-    rows = quiet.rows;
-  }
-  keeps_ready_empty false = record {
-    processes = λ f. omega (arith, none_waits n);
-    slots = quiet.slots;
-    children = quiet.children;
-    new = quiet.new;
-    ups = quiet.ups;
-    releases = quiet.releases;
-    refusals = quiet.refusals;
-    ones = quiet.ones;
-    credits = quiet.credits;
-    debits = quiet.debits;
-    downs = quiet.downs;
-    upped = quiet.upped;
-    parked = quiet.parked;
-    shuts = refl;
-    halts = refl;
-    no_stuck = quiet.no_stuck;
-    made = quiet.made;
-    rows = quiet.rows;
-  }
-
-  pub keeps_free_full : (late : Bool) → Balanced script n [] [] (finds_free_full late)
-  keeps_free_full true = record {
-    processes = quiet.processes;
-    slots = λ g. omega arith;
-    children = quiet.children;
-    new = quiet.new;
-    ups = quiet.ups;
-    releases = quiet.releases;
-    refusals = quiet.refusals;
-    ones = quiet.ones;
-    credits = quiet.credits;
-    debits = quiet.debits;
-    downs = quiet.downs;
-    upped = quiet.upped;
-    parked = quiet.parked;
-    shuts = quiet.shuts;
-    halts = quiet.halts;
-    no_stuck = quiet.no_stuck;
-    made = quiet.made;
-    rows = quiet.rows;
-  }
-  keeps_free_full false = record {
-    processes = quiet.processes;
-    slots = λ g. omega arith;
-    children = quiet.children;
-    new = quiet.new;
-    ups = quiet.ups;
-    releases = quiet.releases;
-    refusals = quiet.refusals;
-    ones = quiet.ones;
-    credits = quiet.credits;
-    debits = quiet.debits;
-    downs = quiet.downs;
-    upped = quiet.upped;
-    parked = quiet.parked;
-    shuts = quiet.shuts;
-    halts = quiet.halts;
-    no_stuck = quiet.no_stuck;
-    made = quiet.made;
-    rows = quiet.rows;
-  }
-
-  pub keeps_free_empty : (late : Bool) → Balanced script n [] [] (finds_free_empty late)
-  keeps_free_empty true = record {
-    processes = quiet.processes;
-    slots = λ g. omega arith;
-    children = quiet.children;
-    new = quiet.new;
-    ups = quiet.ups;
-    releases = quiet.releases;
-    refusals = quiet.refusals;
-    ones = quiet.ones;
-    credits = quiet.credits;
-    debits = quiet.debits;
-    downs = quiet.downs;
-    upped = quiet.upped;
-    parked = quiet.parked;
-    shuts = quiet.shuts;
-    halts = quiet.halts;
-    no_stuck = quiet.no_stuck;
-    made = quiet.made;
-    rows = quiet.rows;
-  }
-  keeps_free_empty false = record {
-    processes = quiet.processes;
-    slots = λ g. omega arith;
-    children = quiet.children;
-    new = quiet.new;
-    ups = quiet.ups;
-    releases = quiet.releases;
-    refusals = quiet.refusals;
-    ones = quiet.ones;
-    credits = quiet.credits;
-    debits = quiet.debits;
-    downs = quiet.downs;
-    upped = quiet.upped;
-    parked = quiet.parked;
-    shuts = quiet.shuts;
-    halts = quiet.halts;
-    no_stuck = quiet.no_stuck;
-    made = quiet.made;
-    rows = quiet.rows;
-  }
-
-  pub keeps_free_closed : (late : Bool) → Balanced script n [] [] (finds_free_closed late)
-  keeps_free_closed true = record {
-    processes = quiet.processes;
-    slots = λ g. omega arith;
-    children = quiet.children;
-    new = quiet.new;
-    ups = quiet.ups;
-    releases = quiet.releases;
-    refusals = quiet.refusals;
-    ones = quiet.ones;
-    credits = quiet.credits;
-    debits = quiet.debits;
-    downs = quiet.downs;
-    upped = quiet.upped;
-    parked = quiet.parked;
-    shuts = quiet.shuts;
-    halts = quiet.halts;
-    no_stuck = quiet.no_stuck;
-    made = quiet.made;
-    rows = quiet.rows;
-  }
-  keeps_free_closed false = record {
-    processes = quiet.processes;
-    slots = λ g. omega arith;
-    children = quiet.children;
-    new = quiet.new;
-    ups = quiet.ups;
-    releases = quiet.releases;
-    refusals = quiet.refusals;
-    ones = quiet.ones;
-    credits = quiet.credits;
-    debits = quiet.debits;
-    downs = quiet.downs;
-    upped = quiet.upped;
-    parked = quiet.parked;
-    shuts = quiet.shuts;
-    halts = quiet.halts;
-    no_stuck = quiet.no_stuck;
+    births = quiet.births;
+    busy = quiet.busy;
+    semaphores = quiet.semaphores;
+    shutdown = record { shuts = refl; halts = refl; no_stuck = refl };
     made = quiet.made;
     rows = quiet.rows;
   }
 
   -- the ready queue is shut
   pub keeps_halts : (late : Bool) (p : Process) → FitsScript script p → Balanced script n (p ∷ []) [] (halts late p)
-  keeps_halts true p fits = record {
-    processes = λ f. omega (arith, none_waits n);
+  keeps_halts late p fits = let c = closed_weighs {T = Process} late in record {
+    processes = λ f. omega (arith, none_waits n, c.idle.puts f, c.idle.gots f);
     slots = λ g. omega arith;
     children = quiet.children;
     new = quiet.new;
-    ups = quiet.ups;
-    releases = quiet.releases;
-    refusals = quiet.refusals;
-    ones = quiet.ones;
-    credits = quiet.credits;
-    debits = omega (arith, none_waits n);
-    downs = quiet.downs;
-    upped = quiet.upped;
-    parked = quiet.parked;
-    shuts = omega arith;
-    halts = omega arith;
-    no_stuck = omega arith;
-    made = quiet.made;
-    rows = one_row _ (record { process = fits; stands = tt });
-  }
-  keeps_halts false p fits = record {
-    processes = λ f. omega (arith, none_waits n);
-    slots = λ g. omega arith;
-    children = quiet.children;
-    new = quiet.new;
-    ups = quiet.ups;
-    releases = quiet.releases;
-    refusals = quiet.refusals;
-    ones = quiet.ones;
-    credits = quiet.credits;
-    debits = omega (arith, none_waits n);
-    downs = quiet.downs;
-    upped = quiet.upped;
-    parked = quiet.parked;
-    shuts = omega arith;
-    halts = omega arith;
-    no_stuck = omega arith;
+    births = quiet.births;
+    busy = record { credits = quiet.busy.credits; debits = omega (arith, none_waits n) };
+    semaphores = quiet.semaphores;
+    shutdown = record { shuts = c.closes; halts = omega (arith, c.closeds); no_stuck = omega arith };
     made = quiet.made;
     rows = one_row _ (record { process = fits; stands = tt });
   }
@@ -435,18 +158,19 @@ module _ (script : ScriptOf) (n : ℕ) where
     slots = quiet.slots;
     children = λ g. sym (ap (λ c. 0 + sum_by g c) (plain.childless p.name));
     new = quiet.new;
-    ups = omega (arith, plain.births, plain.no_slots);
-    releases = omega (arith, plain.no_slots);
-    refusals = omega (arith, plain.no_births);
-    ones = quiet.ones;
-    credits = quiet.credits;
-    debits = quiet.debits;
-    downs = λ s below. omega (arith, plain.downs s, none_waits n);
-    upped = λ s below. omega (arith, plain.ups s);
-    parked = quiet.parked;
-    shuts = omega (arith, plain.shuts);
-    halts = quiet.halts;
-    no_stuck = quiet.no_stuck;
+    births = record {
+      ups = omega (arith, plain.births, plain.no_slots);
+      releases = omega (arith, plain.no_slots);
+      refusals = omega (arith, plain.no_births);
+      ones = quiet.births.ones;
+    };
+    busy = quiet.busy;
+    semaphores = record {
+      downs = λ s below. omega (arith, plain.downs s, none_waits n);
+      upped = λ s below. omega (arith, plain.ups s);
+      parked = quiet.semaphores.parked;
+    };
+    shutdown = record { shuts = omega (arith, plain.shuts); halts = quiet.shutdown.halts; no_stuck = quiet.shutdown.no_stuck };
     made = one_made _ is;
     rows = quiet.rows;
   }
@@ -458,18 +182,10 @@ module _ (script : ScriptOf) (n : ℕ) where
     slots = quiet.slots;
     children = λ g. refl;
     new = quiet.new;
-    ups = omega arith;
-    releases = omega arith;
-    refusals = omega arith;
-    ones = quiet.ones;
-    credits = quiet.credits;
-    debits = quiet.debits;
-    downs = λ t below. by_test (s == t);
-    upped = λ t below. by_ups (s == t);
-    parked = quiet.parked;
-    shuts = omega arith;
-    halts = quiet.halts;
-    no_stuck = quiet.no_stuck;
+    births = record { ups = omega arith; releases = omega arith; refusals = omega arith; ones = quiet.births.ones };
+    busy = quiet.busy;
+    semaphores = record { downs = λ t below. by_test (s == t); upped = λ t below. by_ups (s == t); parked = quiet.semaphores.parked };
+    shutdown = record { shuts = omega arith; halts = quiet.shutdown.halts; no_stuck = quiet.shutdown.no_stuck };
     made = one_made _ is;
     rows = quiet.rows;
   }
@@ -489,18 +205,17 @@ module _ (script : ScriptOf) (n : ℕ) where
     slots = quiet.slots;
     children = quiet.children;
     new = quiet.new;
-    ups = quiet.ups;
-    releases = quiet.releases;
-    refusals = quiet.refusals;
-    ones = quiet.ones;
-    credits = omega (arith, waiting_at (got_of (λ (q : Process). 1)) (kinds_in k p) s n below);
-    debits = omega (arith, waiting_at (put_of (λ (q : Process). 1)) (kinds_in k p) s n below);
-    downs = λ t lt. omega (arith, by_test (s == t), waiting_at (got_of (before_down script t)) (kinds_in k p) s n below);
-    upped = λ t lt. by_ups (s == t);
-    parked = λ t lt. by_parked t (s == t) refl;
-    shuts = quiet.shuts;
-    halts = quiet.halts;
-    no_stuck = quiet.no_stuck;
+    births = quiet.births;
+    busy = record {
+      credits = omega (arith, waiting_at (got_of (λ (q : Process). 1)) (kinds_in k p) s n below);
+      debits = omega (arith, waiting_at (put_of (λ (q : Process). 1)) (kinds_in k p) s n below);
+    };
+    semaphores = record {
+      downs = λ t lt. omega (arith, by_test (s == t), waiting_at (got_of (before_down script t)) (kinds_in k p) s n below);
+      upped = λ t lt. by_ups (s == t);
+      parked = λ t lt. by_parked t (s == t) refl;
+    };
+    shutdown = quiet.shutdown;
     made = quiet.made;
     rows = quiet.rows;
   }
@@ -524,18 +239,10 @@ module _ (script : ScriptOf) (n : ℕ) where
     slots = quiet.slots;
     children = λ g. refl;
     new = quiet.new;
-    ups = omega arith;
-    releases = omega arith;
-    refusals = omega arith;
-    ones = quiet.ones;
-    credits = quiet.credits;
-    debits = quiet.debits;
-    downs = λ t below. by_test (s == t);
-    upped = λ t below. by_ups (s == t);
-    parked = quiet.parked;
-    shuts = omega arith;
-    halts = quiet.halts;
-    no_stuck = quiet.no_stuck;
+    births = record { ups = omega arith; releases = omega arith; refusals = omega arith; ones = quiet.births.ones };
+    busy = quiet.busy;
+    semaphores = record { downs = λ t below. by_test (s == t); upped = λ t below. by_ups (s == t); parked = quiet.semaphores.parked };
+    shutdown = record { shuts = omega arith; halts = quiet.shutdown.halts; no_stuck = quiet.shutdown.no_stuck };
     made = one_made _ is;
     rows = quiet.rows;
   }
@@ -555,18 +262,17 @@ module _ (script : ScriptOf) (n : ℕ) where
     slots = quiet.slots;
     children = λ g. refl;
     new = quiet.new;
-    ups = omega arith;
-    releases = omega arith;
-    refusals = omega arith;
-    ones = quiet.ones;
-    credits = omega (arith, waiting_at (got_of (λ (r : Process). 1)) (kinds_out k q) s n below);
-    debits = omega (arith, waiting_at (put_of (λ (r : Process). 1)) (kinds_out k q) s n below);
-    downs = λ u lt. omega (arith, by_test (s == u), waiting_at (got_of (before_down script u)) (kinds_out k q) s n below, ap (its_down u) q_is.stands);
-    upped = λ u lt. by_ups (s == u);
-    parked = λ u lt. by_parked u (s == u);
-    shuts = omega arith;
-    halts = quiet.halts;
-    no_stuck = quiet.no_stuck;
+    births = record { ups = omega arith; releases = omega arith; refusals = omega arith; ones = quiet.births.ones };
+    busy = record {
+      credits = omega (arith, waiting_at (got_of (λ (r : Process). 1)) (kinds_out k q) s n below);
+      debits = omega (arith, waiting_at (put_of (λ (r : Process). 1)) (kinds_out k q) s n below);
+    };
+    semaphores = record {
+      downs = λ u lt. omega (arith, by_test (s == u), waiting_at (got_of (before_down script u)) (kinds_out k q) s n below, ap (its_down u) q_is.stands);
+      upped = λ u lt. by_ups (s == u);
+      parked = λ u lt. by_parked u (s == u);
+    };
+    shutdown = record { shuts = omega arith; halts = quiet.shutdown.halts; no_stuck = quiet.shutdown.no_stuck };
     made = All-cons (IsMade script) (made_of q (down t) (downed t)) (made_of p (up s) (upped s) ∷ []) q_is (one_made _ p_is);
     rows = quiet.rows;
   }
@@ -590,104 +296,57 @@ module _ (script : ScriptOf) (n : ℕ) where
     slots = λ g. omega arith;
     children = λ g. omega arith;
     new = omega arith;
-    ups = omega arith;
-    releases = omega arith;
-    refusals = omega arith;
-    ones = omega arith;
-    credits = omega (arith, none_waits n);
-    debits = quiet.debits;
-    downs = λ t below. omega (arith, none_waits n);
-    upped = λ t below. omega arith;
-    parked = quiet.parked;
-    shuts = omega arith;
-    halts = quiet.halts;
-    no_stuck = quiet.no_stuck;
+    births = record { ups = omega arith; releases = omega arith; refusals = omega arith; ones = omega arith };
+    busy = record { credits = omega (arith, none_waits n); debits = quiet.busy.debits };
+    semaphores = record {
+      downs = λ t below. omega (arith, none_waits n);
+      upped = λ t below. omega arith;
+      parked = quiet.semaphores.parked;
+    };
+    shutdown = record { shuts = omega arith; halts = quiet.shutdown.halts; no_stuck = quiet.shutdown.no_stuck };
     made = one_made _ is;
     rows = quiet.rows;
   }
 
   -- a spawn that gets no birth
   pub keeps_lacks_birth : (late : Bool) (p : Process) (program : ℕ) → IsMade script (made_of p (spawn program) no_birth) → Balanced script n (p ∷ []) (after_note p no_birth ∷ []) (lacks_birth late p program)
-  keeps_lacks_birth true p program is = record {
+  keeps_lacks_birth late p program is = let r = refused_claim_weighs late in record {
     processes = λ f. omega (arith, none_waits n);
     slots = quiet.slots;
     children = λ g. refl;
     new = quiet.new;
-    ups = omega arith;
-    releases = omega arith;
-    refusals = omega arith;
-    ones = omega arith;
-    credits = quiet.credits;
-    debits = quiet.debits;
-    downs = λ t below. omega (arith, none_waits n);
-    upped = λ t below. omega arith;
-    parked = quiet.parked;
-    shuts = omega arith;
-    halts = quiet.halts;
-    no_stuck = quiet.no_stuck;
-    made = one_made _ is;
-    rows = quiet.rows;
-  }
-  keeps_lacks_birth false p program is = record {
-    processes = λ f. omega (arith, none_waits n);
-    slots = quiet.slots;
-    children = λ g. refl;
-    new = quiet.new;
-    ups = omega arith;
-    releases = omega arith;
-    refusals = omega arith;
-    ones = omega arith;
-    credits = quiet.credits;
-    debits = quiet.debits;
-    downs = λ t below. omega (arith, none_waits n);
-    upped = λ t below. omega arith;
-    parked = quiet.parked;
-    shuts = omega arith;
-    halts = quiet.halts;
-    no_stuck = quiet.no_stuck;
+    births = record {
+      ups = omega (arith, r.ups);
+      releases = omega (arith, r.releases);
+      refusals = omega (arith, r.refusals);
+      ones = r.others;
+    };
+    busy = quiet.busy;
+    semaphores = record {
+      downs = λ t below. omega (arith, none_waits n);
+      upped = λ t below. omega arith;
+      parked = quiet.semaphores.parked;
+    };
+    shutdown = record { shuts = omega arith; halts = quiet.shutdown.halts; no_stuck = quiet.shutdown.no_stuck };
     made = one_made _ is;
     rows = quiet.rows;
   }
 
   -- a spawn that gets no slot
   pub keeps_lacks_slot : (late : Bool) (p : Process) (program : ℕ) → IsMade script (made_of p (spawn program) no_slot) → Balanced script n (p ∷ []) (after_note p no_slot ∷ []) (lacks_slot late p program)
-  keeps_lacks_slot true p program is = record {
+  keeps_lacks_slot late p program is = let e = (quiet_empty {T = ℕ} late).idle in record {
     processes = λ f. omega (arith, none_waits n);
-    slots = λ g. omega arith;
+    slots = λ g. omega (arith, e.puts g, e.gots g);
     children = λ g. refl;
     new = quiet.new;
-    ups = omega arith;
-    releases = omega arith;
-    refusals = omega arith;
-    ones = omega arith;
-    credits = quiet.credits;
-    debits = quiet.debits;
-    downs = λ t below. omega (arith, none_waits n);
-    upped = λ t below. omega arith;
-    parked = quiet.parked;
-    shuts = omega arith;
-    halts = quiet.halts;
-    no_stuck = quiet.no_stuck;
-    made = one_made _ is;
-    rows = quiet.rows;
-  }
-  keeps_lacks_slot false p program is = record {
-    processes = λ f. omega (arith, none_waits n);
-    slots = λ g. omega arith;
-    children = λ g. refl;
-    new = quiet.new;
-    ups = omega arith;
-    releases = omega arith;
-    refusals = omega arith;
-    ones = omega arith;
-    credits = quiet.credits;
-    debits = quiet.debits;
-    downs = λ t below. omega (arith, none_waits n);
-    upped = λ t below. omega arith;
-    parked = quiet.parked;
-    shuts = omega arith;
-    halts = quiet.halts;
-    no_stuck = quiet.no_stuck;
+    births = record { ups = omega arith; releases = omega arith; refusals = omega arith; ones = omega arith };
+    busy = quiet.busy;
+    semaphores = record {
+      downs = λ t below. omega (arith, none_waits n);
+      upped = λ t below. omega arith;
+      parked = quiet.semaphores.parked;
+    };
+    shutdown = record { shuts = omega arith; halts = quiet.shutdown.halts; no_stuck = quiet.shutdown.no_stuck };
     made = one_made _ is;
     rows = quiet.rows;
   }
@@ -699,18 +358,10 @@ module _ (script : ScriptOf) (n : ℕ) where
     slots = λ g. omega arith;
     children = quiet.children;
     new = quiet.new;
-    ups = quiet.ups;
-    releases = quiet.releases;
-    refusals = quiet.refusals;
-    ones = quiet.ones;
-    credits = quiet.credits;
-    debits = omega (arith, none_waits n);
-    downs = quiet.downs;
-    upped = quiet.upped;
-    parked = quiet.parked;
-    shuts = quiet.shuts;
-    halts = omega arith;
-    no_stuck = omega arith;
+    births = quiet.births;
+    busy = record { credits = quiet.busy.credits; debits = omega (arith, none_waits n) };
+    semaphores = quiet.semaphores;
+    shutdown = record { shuts = quiet.shutdown.shuts; halts = omega arith; no_stuck = omega arith };
     made = quiet.made;
     rows = one_row _ (record { process = fits; stands = over });
   }
@@ -722,18 +373,14 @@ module _ (script : ScriptOf) (n : ℕ) where
     slots = quiet.slots;
     children = λ g. refl;
     new = quiet.new;
-    ups = omega arith;
-    releases = omega arith;
-    refusals = omega arith;
-    ones = quiet.ones;
-    credits = quiet.credits;
-    debits = quiet.debits;
-    downs = λ t below. omega (arith, none_waits n);
-    upped = λ t below. omega arith;
-    parked = quiet.parked;
-    shuts = omega arith;
-    halts = omega arith;
-    no_stuck = quiet.no_stuck;
+    births = record { ups = omega arith; releases = omega arith; refusals = omega arith; ones = quiet.births.ones };
+    busy = quiet.busy;
+    semaphores = record {
+      downs = λ t below. omega (arith, none_waits n);
+      upped = λ t below. omega arith;
+      parked = quiet.semaphores.parked;
+    };
+    shutdown = record { shuts = omega arith; halts = omega arith; no_stuck = quiet.shutdown.no_stuck };
     made = one_made _ is;
     rows = quiet.rows;
   }
@@ -745,18 +392,17 @@ module _ (script : ScriptOf) (n : ℕ) where
     slots = quiet.slots;
     children = quiet.children;
     new = quiet.new;
-    ups = quiet.ups;
-    releases = quiet.releases;
-    refusals = quiet.refusals;
-    ones = quiet.ones;
-    credits = omega (arith, waiting_at (got_of (λ (q : Process). 1)) kinds s n below, (none (λ (q : Process). 1)).1);
-    debits = omega (arith, waiting_at (put_of (λ (q : Process). 1)) kinds s n below, (none (λ (q : Process). 1)).0);
-    downs = λ t lt. omega (arith, by_test (s == t), waiting_at (got_of (before_down script t)) kinds s n below, (none (before_down script t)).1);
-    upped = quiet.upped;
-    parked = λ t lt. by_parked t (s == t);
-    shuts = quiet.shuts;
-    halts = quiet.halts;
-    no_stuck = quiet.no_stuck;
+    births = quiet.births;
+    busy = record {
+      credits = omega (arith, waiting_at (got_of (λ (q : Process). 1)) kinds s n below, (none (λ (q : Process). 1)).1);
+      debits = omega (arith, waiting_at (put_of (λ (q : Process). 1)) kinds s n below, (none (λ (q : Process). 1)).0);
+    };
+    semaphores = record {
+      downs = λ t lt. omega (arith, by_test (s == t), waiting_at (got_of (before_down script t)) kinds s n below, (none (before_down script t)).1);
+      upped = quiet.semaphores.upped;
+      parked = λ t lt. by_parked t (s == t);
+    };
+    shutdown = quiet.shutdown;
     made = quiet.made;
     rows = quiet.rows;
   }

@@ -49,10 +49,3 @@ IsContext-unnoted script children semaphore p known asleep =
       children_are = omega (arith, known.children_are, counted);
     }
 
--- a sleeper has made a step, as its note says
-pub asleep_made : (script : ScriptOf) (semaphore : ℕ) (p : Process) → IsAsleep script semaphore p → (1 ≤ p.position) × (1 ≤ length p.journal)
-asleep_made script semaphore p asleep =
-    let journal : p.journal ≡ (unnoted p).journal ++ downed semaphore ∷ [] = ap (λ (q : Process). q.journal) asleep.has_note in
-    let position : p.position ≡ (unnoted p).position + 1 = ap (λ (q : Process). q.position) asleep.has_note in
-    let made : length p.journal ≡ length (unnoted p).journal + 1 = ap length journal ∙ length-push (unnoted p).journal (downed semaphore) in
-    (omega (arith, position), omega (arith, made))

@@ -57,18 +57,26 @@ module _ (script : ScriptOf) (n : ℕ) (before between after : List Process) (a 
     );
     children = λ g. omega (arith, x.children g, y.children g, sum_by-append (λ (p : Process). g (named p)) a.born b.born, sum_by-append (λ (m : Made). sum_by g (child m.before.name m.step m.note)) a.made b.made);
     new = omega (arith, x.new, y.new, sum_by-append (λ (p : Process). length p.journal) a.begun b.begun, sum_by-append (λ (p : Process). length p.journal) a.born b.born);
-    ups = omega (arith, x.ups, y.ups, sum_by-append up_amount a.births b.births, notes-joined births_of a b, notes-joined no_slots_of a b);
-    releases = omega (arith, x.releases, y.releases, sum_by-append release_amount a.births b.births, notes-joined no_slots_of a b);
-    refusals = omega (arith, x.refusals, y.refusals, sum_by-append refusal_of a.births b.births, notes-joined no_births_of a b);
-    ones = omega (arith, x.ones, y.ones, sum_by-append other_amount a.births b.births);
-    credits = omega (arith, x.credits, y.credits, sum_by-append credit_weight a.busy b.busy, waiting-joined (got_of (λ (p : Process). 1)) n a b, sum_by-append (λ (p : Process). 1) a.born b.born);
-    debits = omega (arith, x.debits, y.debits, sum_by-append debit_weight a.busy b.busy, waiting-joined (put_of (λ (p : Process). 1)) n a b, sum_by-append (λ (r : RowOf). 1) a.rows b.rows);
-    downs = λ s l. omega (arith, x.downs s l, y.downs s l, notes-joined (downs_of s) a b, sum_by-append (put_of (λ (p : Process). 1)) (a.waits s) (b.waits s), waiting-joined (got_of (before_down script s)) n a b, sum_by-append debit_weight (a.credits s) (b.credits s));
-    upped = λ s l. omega (arith, x.upped s l, y.upped s l, notes-joined (ups_of s) a b, sum_by-append credit_weight (a.credits s) (b.credits s));
-    parked = λ s l. omega (arith, x.parked s l, y.parked s l, sum_by-append (put_of (not_before script s)) (a.waits s) (b.waits s));
-    shuts = omega (arith, x.shuts, y.shuts, sum_by-append close_of a.ready b.ready, notes-joined shuts_of a b);
-    halts = omega (arith, x.halts, y.halts, sum_by-append (λ (r : RowOf). halted_of r.outcome) a.rows b.rows, sum_by-append closed_of a.ready b.ready);
-    no_stuck = omega (arith, x.no_stuck, y.no_stuck, sum_by-append (λ (r : RowOf). stuck_of r.outcome) a.rows b.rows);
+    births = record {
+      ups = omega (arith, x.births.ups, y.births.ups, sum_by-append up_amount a.births b.births, notes-joined births_of a b, notes-joined no_slots_of a b);
+      releases = omega (arith, x.births.releases, y.births.releases, sum_by-append release_amount a.births b.births, notes-joined no_slots_of a b);
+      refusals = omega (arith, x.births.refusals, y.births.refusals, sum_by-append refusal_of a.births b.births, notes-joined no_births_of a b);
+      ones = omega (arith, x.births.ones, y.births.ones, sum_by-append other_amount a.births b.births);
+    };
+    busy = record {
+      credits = omega (arith, x.busy.credits, y.busy.credits, sum_by-append credit_weight a.busy b.busy, waiting-joined (got_of (λ (p : Process). 1)) n a b, sum_by-append (λ (p : Process). 1) a.born b.born);
+      debits = omega (arith, x.busy.debits, y.busy.debits, sum_by-append debit_weight a.busy b.busy, waiting-joined (put_of (λ (p : Process). 1)) n a b, sum_by-append (λ (r : RowOf). 1) a.rows b.rows);
+    };
+    semaphores = record {
+      downs = λ s l. omega (arith, x.semaphores.downs s l, y.semaphores.downs s l, notes-joined (downs_of s) a b, sum_by-append (put_of (λ (p : Process). 1)) (a.waits s) (b.waits s), waiting-joined (got_of (before_down script s)) n a b, sum_by-append debit_weight (a.credits s) (b.credits s));
+      upped = λ s l. omega (arith, x.semaphores.upped s l, y.semaphores.upped s l, notes-joined (ups_of s) a b, sum_by-append credit_weight (a.credits s) (b.credits s));
+      parked = λ s l. omega (arith, x.semaphores.parked s l, y.semaphores.parked s l, sum_by-append (put_of (not_before script s)) (a.waits s) (b.waits s));
+    };
+    shutdown = record {
+      shuts = omega (arith, x.shutdown.shuts, y.shutdown.shuts, sum_by-append close_of a.ready b.ready, notes-joined shuts_of a b);
+      halts = omega (arith, x.shutdown.halts, y.shutdown.halts, sum_by-append (λ (r : RowOf). halted_of r.outcome) a.rows b.rows, sum_by-append closed_of a.ready b.ready);
+      no_stuck = omega (arith, x.shutdown.no_stuck, y.shutdown.no_stuck, sum_by-append (λ (r : RowOf). stuck_of r.outcome) a.rows b.rows);
+    };
     made = All-append (IsMade script) a.made b.made x.made y.made;
     rows = All-append (FitsRow script) a.rows b.rows x.rows y.rows;
   }

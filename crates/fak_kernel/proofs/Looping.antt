@@ -51,6 +51,3 @@ module _ {script : ScriptOf} where
   pub leaves_none : {o p q r : ProcessorOf} (a b : Option Turn) → Moves script [] (hand_of a) o p → Moves script (hand_of a) (hand_of b) p q → Gains script q r nothing → b ≡ None → value (length script.start) r.busy.seen ≡ pos 0 → LeavesNone script o r
   leaves_none {o} {r = r} a b was made looked over shows = record { moves = subst (λ (x : Option Turn). Moves script [] (hand_of x) o r) over (moves_on a b was made looked); idle = shows }
 
-  -- a processor that was in its turns with this ledger leaves with one
-  pub turning_then_leaves : {o r : ProcessorOf} (l : Ledger) (x : LeavesNone script o r) (d : SemSeatInfo Process) → Turning script (bundle_of d o) l [] → Leaves script (bundle_of d r) (joined l x.moves.ledger)
-  turning_then_leaves l x d t = turning_leaves (turning_more x.moves.ledger t (x.moves.gains.adds d) x.moves.balanced) x.idle

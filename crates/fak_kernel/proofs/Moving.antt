@@ -29,7 +29,7 @@ use Rattle.fak_text.specs.Script.{ScriptOf}
 use Rattle.fak_text.specs.Journal.{NoteOf, Process}
 use Rattle.fak_kernel.specs.Ledger.{Ledger, Made, nothing, joined}
 use Rattle.fak_model.specs.Weights.{put_of, got_of, close_of, closed_of}
-use Rattle.fak_kernel.specs.Events.{full, closed, refused_claim}
+use Rattle.fak_kernel.specs.Events.{full, empty, closed, refused_claim}
 use Rattle.fak_kernel.specs.Holding.{queue_kind, Bundle}
 use Rattle.fak_kernel.specs.Turning.{Grows, Adds}
 use Rattle.fak_kernel.specs.Processors.{ProcessorOf}
@@ -64,6 +64,10 @@ quiet_then {ks = ks} {ms = ms} a b = record {
 pub quiet_full : {T : Type 0} (late : Bool) → IsQuiet {T = T} (full late)
 quiet_full true = record { idle = record { puts = λ f. refl; gots = λ f. refl }; closes = refl; closeds = refl }
 quiet_full false = record { idle = record { puts = λ f. refl; gots = λ f. refl }; closes = refl; closeds = refl }
+
+pub quiet_empty : {T : Type 0} (late : Bool) → IsQuiet {T = T} (empty late)
+quiet_empty true = record { idle = record { puts = λ f. refl; gots = λ f. refl }; closes = refl; closeds = refl }
+quiet_empty false = record { idle = record { puts = λ f. refl; gots = λ f. refl }; closes = refl; closeds = refl }
 
 pub idle_closed : {T : Type 0} (late : Bool) → IsIdle {T = T} (closed late)
 idle_closed true = record { puts = λ f. refl; gots = λ f. refl }
@@ -109,9 +113,6 @@ refused_grows (inl m) = (false, grows_room m)
 refused_grows (inr w) = (true, grows_withdraws w)
 
 -- ---- a processor
-
-pub grows_nothing_then : {M W C K : Type 0} {rules : Rules M W C} {kind_of : M → K} {a b c : SeatInfo M} {ms : List K} → Grows rules kind_of a b [] → Grows rules kind_of b c ms → Grows rules kind_of a c ms
-grows_nothing_then {ms = ms} x y = grows_then [] ms x y
 
 -- no line is made
 no_lines : (n : ℕ) (seat : SeatInfo FileMark) (before : List NoteOf) → AreLines n before seat → AreLines n (before ++ []) seat

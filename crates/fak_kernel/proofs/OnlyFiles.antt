@@ -133,9 +133,6 @@ set_here : (i v : ℕ) (f : FileField) (old : ℕ) → cond ((i == i) && same_fi
 set_here i v Inode old = let t : (i == i) ≡ true = grind (arith, nat_tests) in rw t refl
 set_here i v Uses old = let t : (i == i) ≡ true = grind (arith, nat_tests) in rw t refl
 
-two_set : (name i inode uses : ℕ) → List FileMark
-two_set name i inode uses = mark name (Set i Inode inode) ∷ mark name (Set i Uses uses) ∷ []
-
 entry_here : (h : List FileMark) (name i : ℕ) (e : FileEntry) → entry_of (h ++ mark name (Set i Inode e.inode) ∷ mark name (Set i Uses e.uses) ∷ []) i ≡ e
 entry_here h name i e =
     let t : (i == i) ≡ true = grind (arith, nat_tests) in

@@ -8,10 +8,6 @@ pub numbers_from-next : (a k m b : ℕ) → k ≡ suc m → b ≡ a + 1 → numb
 numbers_from-next a k m b one next =
     ap (numbers_from a) one ∙ ap (λ (n : ℕ). a ∷ numbers_from n m) (sym next)
 
--- one number more stands in front
-pub numbers_from-on : (xs all : List ℕ) (a k m b : ℕ) → k ≡ suc m → b ≡ a + 1 → xs ++ numbers_from a k ≡ all → (xs ++ a ∷ []) ++ numbers_from b m ≡ all
-numbers_from-on xs all a k m b one next was = append_assoc xs (a ∷ []) (numbers_from b m) ∙ ap (λ ys. xs ++ ys) (sym (numbers_from-next a k m b one next)) ∙ was
-
 -- numbers from i up are below the last one's next
 pub numbers_from-below : (count first top : ℕ) → first + count ≤ top → All (λ n. n < top) (numbers_from first count)
 numbers_from-below zero first top fit = All-nil (λ n. n < top)

@@ -6,10 +6,6 @@ use Rattle.fak_text.specs.Script.{ScriptOf, StepOf, IsInRange, IsStepInRange, li
 use Rattle.fak_text.specs.Journal.{Process, StandsAt}
 use Rattle.fak_text.proofs.Journals.{step_of_script_is_in_range}
 
--- what holds of each element holds of the one that is there
-pub All-slice_get : {X : Type 0} (P : X → Type 0) (xs : List X) (i : ℕ) (x : X) → All P xs → slice_get xs i ≡ Some x → P x
-All-slice_get P xs i x all at = subst P (get_or_from_slice_get xs i x x at) (All-get_or P xs i x (slice_get_within xs i x at) all)
-
 -- the step that a process stands at, where there is one, is in range
 pub found_in_range : {A : Type 0} (f : A → StepOf) (script : ScriptOf) (p : Process) (found : Option A) → IsInRange script
     → IfSome found (λ a. StandsAt script p (f a)) → IfSome found (λ a. IsStepInRange (limits_of script) (f a))

@@ -77,7 +77,7 @@ module _ {script : ScriptOf} {o : ObjectsOf} {k : ℕ} {t : TalliesOf} {ended ha
   shut_is : nat_lt 0 (shut_lines ended halted slept) ≡ has_close p.ready.seen
   shut_is =
       let g = all_gathered for_it seated a c in
-      let closes : queue.count close_of t.ready.seen ≡ shut_lines ended halted slept = omega (arith, g.ready close_of, a.have.balanced.shuts, shut_notes for_it seated a c) in
+      let closes : queue.count close_of t.ready.seen ≡ shut_lines ended halted slept = omega (arith, g.ready close_of, a.have.balanced.shutdown.shuts, shut_notes for_it seated a c) in
       ap (nat_lt 0) (sym closes) ∙ (sym (close_counts t.ready.seen) ∙ ap (λ (x : TalliesOf). has_close x.ready.seen) one.tallies)
 
   slept_are : slept ≡ flat_map (λ waiting. waiting) (map sleepers_of p.semaphores)
@@ -93,7 +93,7 @@ module _ {script : ScriptOf} {o : ObjectsOf} {k : ℕ} {t : TalliesOf} {ended ha
       ∙ (ap (λ (x : TalliesOf). sum_by (λ (m : RoomMark). w (room.kind_of m)) (mine room.seat_of x.births.names x.births.seen)) (sym one.tallies) ∙ a.have.births.weigh w) in
       let up = sum_by-map up_amount room.kind_of (marks_of room.seat_of p.births.name p.births.seen) ∙ own up_amount in
       let release = sum_by-map release_amount room.kind_of (marks_of room.seat_of p.births.name p.births.seen) ∙ own release_amount in
-      omega (arith, up, release, a.have.balanced.ups, a.have.balanced.releases)
+      omega (arith, up, release, a.have.balanced.births.ups, a.have.balanced.births.releases)
 
   module _ {rows : List RowOf} (sorted : IsPermutation (rows_left ended halted slept) rows) where
     births_are : length rows - length script.start ≡ held_amount p.births

@@ -72,14 +72,6 @@ numbers_le k i (suc n) =
 
 -- ---- outcomes of sleepers
 
-stuck_when : (b : Bool) → stuck_of (sleepers_outcome b) ≡ cond b 0 1
-stuck_when true = refl
-stuck_when false = refl
-
-halted_when : (b : Bool) → halted_of (sleepers_outcome b) ≡ cond b 1 0
-halted_when true = refl
-halted_when false = refl
-
 module _ {script : ScriptOf} {seats : ℕ} {h : Histories} {l : Ledger} (g : Gathered script seats h l) where
   rows_weigh : (f : RowOf → ℕ) → sum_by f (rows_of script h l)
       ≡ sum_by f l.rows + sum_by (λ (p : Process). f (record { process = p; outcome = sleepers_outcome (is_shut l.rows (asleep h.waits (length script.semaphores))) })) (asleep h.waits (length script.semaphores))
@@ -120,8 +112,8 @@ module _ {script : ScriptOf} {seats : ℕ} {h : Histories} {l : Ledger} (g : Gat
   halts_after_shut some =
       let closed = g.ready closed_of in
       let close = g.ready close_of in
-      let after = closed_after_close script.slots h.ready g.ready_legal (omega (arith, closed, g.balanced.halts, some)) in
-      omega (arith, after, close, g.balanced.shuts)
+      let after = closed_after_close script.slots h.ready g.ready_legal (omega (arith, closed, g.balanced.shutdown.halts, some)) in
+      omega (arith, after, close, g.balanced.shutdown.shuts)
 
   shut_lines : lines shuts_of l.rows + lines_of shuts_of (asleep h.waits (length script.semaphores)) ≡ notes shuts_of l
   shut_lines = lines_are g shuts_of
@@ -147,7 +139,7 @@ module _ {script : ScriptOf} {seats : ℕ} {h : Histories} {l : Ledger} (g : Gat
       let each : stuck_of (sleepers_outcome (is_shut l.rows sleepers)) ≡ 0 = ap (λ b. stuck_of (sleepers_outcome b)) shut in
       let slept = sum_by_same (λ (p : Process). stuck_of (sleepers_outcome (is_shut l.rows sleepers))) (λ (p : Process). 0) (λ p. each) sleepers in
       let zeros = sum_by-zeros sleepers in
-      omega (arith, all, slept, zeros, g.balanced.no_stuck)
+      omega (arith, all, slept, zeros, g.balanced.shutdown.no_stuck)
 
   -- ---- semaphores
 
@@ -160,7 +152,7 @@ module _ {script : ScriptOf} {seats : ℕ} {h : Histories} {l : Ledger} (g : Gat
       let there = stuck_below g s n (omega arith) below in
       let test : nat_lt s n ≡ true = grind (arith, nat_tests) in
       let there' : sum_by (stuck_at script s Stuck) sleepers ≡ length (contents (h.waits s)) = rw test at there in
-      let none = others l.rows g.balanced.no_stuck in
+      let none = others l.rows g.balanced.shutdown.no_stuck in
       omega (arith, all, slept, there', none)
     where
       others : (rows : List RowOf) → sum_by (λ (r : RowOf). stuck_of r.outcome) rows ≡ 0 → sum_by (λ (r : RowOf). stuck_at script s r.outcome r.process) rows ≡ 0

@@ -8,11 +8,6 @@ use Rattle.fak_kernel.specs.declared.report.ProcessRow.{ProcessRow}
 use Rattle.fak_kernel.specs.Report.{IsSortedByName}
 use Rattle.fak_kernel.specs.Views.{row_of}
 
--- one row is added, and the others are still to come
-pub map-on : {A B C : Type 0} (f : A → C) (g : B → C) (done : List A) (a : A) (b : B) (rest : List B) (total : List C) → f a ≡ g b → map f done ++ map g (b ∷ rest) ≡ total → map f (done ++ a ∷ []) ++ map g rest ≡ total
-map-on f g done a b rest total same was =
-    ap (λ xs. xs ++ map g rest) (map-append f done (a ∷ []) ∙ ap (λ c. map f done ++ c ∷ []) same) ∙ append_assoc (map f done) (g b ∷ []) (map g rest) ∙ was
-
 -- the rows in the program are sorted as those in the report are
 pub IsSortedByName-map : (rows : List ProcessRow) → IsSortedByKey (λ row. row.name.items) (slice_cmp nat_cmp) rows → IsSortedByName (map row_of rows)
 IsSortedByName-map [] sorted k d low high = absurd (omega arith)

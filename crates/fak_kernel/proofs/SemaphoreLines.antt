@@ -84,7 +84,7 @@ module _ {script : ScriptOf} {seats : ℕ} {h : Histories} {l : Ledger} (g : Gat
   parked_there t below =
       let put = g.waits t below (put_of (not_before script t)) in
       let weighs = queue_weighs script.slots (not_before script t) (h.waits t) (g.waits_legal t below) in
-      omega (arith, put, weighs, g.balanced.parked t below)
+      omega (arith, put, weighs, g.balanced.semaphores.parked t below)
 
   pub stuck_below : (s k : ℕ) → k ≤ length script.semaphores → s < length script.semaphores → sum_by (stuck_at script s Stuck) (asleep h.waits k) ≡ cond (nat_lt s k) (length (contents (h.waits s))) 0
   stuck_below s zero le below = grind (arith, nat_tests)
@@ -103,7 +103,7 @@ module _ {script : ScriptOf} {seats : ℕ} {h : Histories} {l : Ledger} (g : Gat
       let put = g.waits t below (put_of (not_before script t)) in
       let got = g.waits t below (got_of (not_before script t)) in
       let weighs = queue_weighs script.slots (not_before script t) (h.waits t) (g.waits_legal t below) in
-      omega (arith, put, got, weighs, g.balanced.parked t below)
+      omega (arith, put, got, weighs, g.balanced.semaphores.parked t below)
 
   -- so those who made a down of s, woken, were woken off wait queue s
   woken_at : (s k : ℕ) → k ≤ length script.semaphores → s < length script.semaphores → waiting (got_of (before_down script s)) k l ≡ cond (nat_lt s k) (sum_by (got_of (λ (p : Process). 1)) (l.waits s)) 0
@@ -128,4 +128,4 @@ module _ {script : ScriptOf} {seats : ℕ} {h : Histories} {l : Ledger} (g : Gat
       let test : nat_lt s (length script.semaphores) ≡ true = grind (arith, nat_tests) in
       let all = woken_at s (length script.semaphores) (omega arith) below in
       let woken : waiting (got_of (before_down script s)) (length script.semaphores) l ≡ sum_by (got_of (λ (p : Process). 1)) (l.waits s) = rw test at all in
-      omega (arith, woken, put, got, weighs, ones, debited, credited, (g.settled s below).left, g.balanced.downs s below, g.balanced.upped s below)
+      omega (arith, woken, put, got, weighs, ones, debited, credited, (g.settled s below).left, g.balanced.semaphores.downs s below, g.balanced.semaphores.upped s below)

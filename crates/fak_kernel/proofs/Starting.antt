@@ -46,18 +46,10 @@ module _ {script : ScriptOf} where
     slots = λ g. omega arith;
     children = z.children;
     new = omega arith;
-    ups = z.ups;
-    releases = z.releases;
-    refusals = z.refusals;
-    ones = z.ones;
-    credits = z.credits;
-    debits = z.debits;
-    downs = z.downs;
-    upped = z.upped;
-    parked = z.parked;
-    shuts = z.shuts;
-    halts = z.halts;
-    no_stuck = z.no_stuck;
+    births = z.births;
+    busy = z.busy;
+    semaphores = z.semaphores;
+    shutdown = z.shutdown;
     made = z.made;
     rows = z.rows;
   }

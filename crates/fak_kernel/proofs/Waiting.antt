@@ -52,34 +52,3 @@ none_at [] n = refl
 none_at (x ∷ xs) zero = refl
 none_at (x ∷ xs) (suc n) = none_at xs n
 
--- nobody waits
-pub AllAtTheirs-none : {X : Type 0} (P : ℕ → X → Type 0) (xs : List ℕ) → AllAtTheirs P (map (λ _. []) xs)
-AllAtTheirs-none P xs n = subst (All (P n)) (sym (none_at xs n)) (All-nil (P n))
-
--- what a push leaves
-pub push_at : {Q X : Type 0} (f : Q → List X) (qs : List Q) (i : ℕ) (q r : Q) (x : X) → i < length (map f qs) → q ≡ slice_index_or qs i q → f r ≡ f q ++ x ∷ []
-    → map f (slice_set qs i r) ≡ slice_set (map f qs) i (slice_index_or (map f qs) i [] ++ x ∷ [])
-push_at f qs i q r x lt is pushed =
-    map-set f qs i r ∙ ap (slice_set (map f qs) i) (pushed ∙ ap (λ ys. ys ++ x ∷ []) (at_place f qs i q lt is))
-
--- a list from which nothing falls is empty
-no_drop : {X : Type 0} (xs : List X) → xs ≡ drop 1 xs → xs ≡ []
-no_drop [] e = refl
-no_drop (x ∷ xs) e = absurd (omega (arith, ap length e))
-
--- what a pop leaves, and what it gives
-pub pop_at : {Q X : Type 0} (f : Q → List X) (qs : List Q) (i : ℕ) (q r : Q) (o : Option X) → i < length (map f qs) → q ≡ slice_index_or qs i q → f q ≡ option_to_list o ++ f r → f r ≡ drop 1 (f q)
-    → MatchOption o ((slice_index_or (map f qs) i [] ≡ []) × (map f (slice_set qs i r) ≡ map f qs)) (λ x. (rest : List X) × (slice_index_or (map f qs) i [] ≡ x ∷ rest) × (map f (slice_set qs i r) ≡ slice_set (map f qs) i rest))
-pop_at f qs i q r None lt is items last =
-    let empty : f q ≡ [] = no_drop (f q) (items ∙ last) in
-    (sym (at_place f qs i q lt is) ∙ empty, map-set_same f qs i r q (sym items ∙ ap f is))
-pop_at f qs i q r (Some x) lt is items last =
-    (f r, sym (at_place f qs i q lt is) ∙ items, map-set f qs i r)
-
--- one more queue, which is empty
-pub none_more : {Q X : Type 0} (f : Q → List X) (qs : List Q) (q : Q) (xs : List ℕ) (i : ℕ) → i < length xs → map f qs ≡ map (λ _. []) (take i xs) → f q ≡ []
-    → map f (qs ++ q ∷ []) ≡ map (λ _. []) (take (i + 1) xs)
-none_more {X = X} f qs q xs i lt was empty =
-    let none : ℕ → List X = λ _. [] in
-    let more = ap (map none) (take_more xs i 0 lt) ∙ map-append none (take i xs) (get_or xs i 0 ∷ []) in
-    map-append f qs (q ∷ []) ∙ ap (λ ys. ys ++ f q ∷ []) was ∙ ap (λ y. map none (take i xs) ++ y ∷ []) empty ∙ sym more

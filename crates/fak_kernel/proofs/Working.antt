@@ -22,15 +22,3 @@ reached_on {script} {p} {q} {r} a b was made looked =
       reached = (λ i. record { running = b; lists = l.lists_are i }) ∙ (m.state_is ∙ ap (step script) was.reached);
     }
 
-none_ready : (l s : Lists) (ready : List Process) → s.ready ≡ ready → record { running = None; lists = l } ≡ take_front s ready → l.ready ≡ []
-none_ready l s [] is e = ap (λ (x : State). x.lists.ready) e ∙ is
-none_ready l s (x ∷ xs) is e = absurd (let t = ap (λ (y : State). y.running) e in cc)
-
--- where nothing ran before a step and nothing runs after it, nobody is ready
-pub nobody_ready : {script : ScriptOf} {p q r : ProcessorOf} (a b : Option Turn) → a ≡ None → b ≡ None → IsAlone script p → (IsAlone script p → GoesOn script q b (step script (state_of script p a)))
-    → (IsAlone script q → GoesTo script r (lists_of script q)) → (lists_of script r).ready ≡ []
-nobody_ready {script} {p} {q} {r} a b idle over alone made looked =
-    let m = made alone in
-    let l = looked m.alone in
-    ap (λ (x : Lists). x.ready) l.lists_are
-    ∙ none_ready (lists_of script q) (lists_of script p) (lists_of script p).ready refl ((λ i. record { running = sym over i; lists = lists_of script q }) ∙ (m.state_is ∙ (λ i. step script (record { running = idle i; lists = lists_of script p }))))

@@ -37,23 +37,12 @@ refused_claim false = No 1 ∷ []
 abbrev pub fills : ℕ → ℕ → Ledger
 fills k slot = record nothing { free = kinds_in k slot; first = slot ∷ [] }
 
--- and starts a process in a slot that it got
-abbrev pub starts : ℕ → ℕ → Process → Ledger
-starts j k p = record nothing { free = kinds_out j p.slot; ready = kinds_in k p; begun = p ∷ [] }
-
 -- a process is taken off the ready queue, or put there
 abbrev pub takes : ℕ → Process → Ledger
 takes k p = record nothing { ready = kinds_out k p }
 
 abbrev pub puts : ℕ → Process → Ledger
 puts k p = record nothing { ready = kinds_in k p }
-
--- the ready queue is full, or empty
-abbrev pub finds_ready_full : Bool → Ledger
-finds_ready_full late = record nothing { ready = full late }
-
-abbrev pub finds_ready_empty : Bool → Ledger
-finds_ready_empty late = record nothing { ready = empty late }
 
 -- the ready queue is shut: the process is halted
 abbrev pub halts : Bool → Process → Ledger
@@ -111,16 +100,6 @@ lacks_slot late p program = record nothing { births = Up 1 ∷ Release 1 ∷ [];
 -- the process ends, and its slot is put back
 abbrev pub ends : ℕ → Process → Ledger
 ends k p = record nothing { free = kinds_in k p.slot; busy = Debit ∷ []; rows = (let r : RowOf = record { process = p; outcome = Ended } in r) ∷ [] }
-
--- the free queue is full, empty or shut
-abbrev pub finds_free_full : Bool → Ledger
-finds_free_full late = record nothing { free = full late }
-
-abbrev pub finds_free_empty : Bool → Ledger
-finds_free_empty late = record nothing { free = empty late }
-
-abbrev pub finds_free_closed : Bool → Ledger
-finds_free_closed late = record nothing { free = closed late }
 
 -- calls on a wait queue that were refused
 abbrev pub waits_refused : ℕ → List (Kind Process) → Ledger

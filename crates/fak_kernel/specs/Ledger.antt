@@ -152,12 +152,44 @@ joined a b = record {
   rows = a.rows ++ b.rows;
 }
 
--- the sum over so many semaphores of what the marks in their wait queues weigh
+-- what the marks in the wait queues of so many semaphores weigh, together, and what the notes of these steps weigh
+abbrev pub waited : (Kind Process → ℕ) → ℕ → (ℕ → List (Kind Process)) → ℕ
+waited w n waits = sum_below (λ s. sum_by w (waits s)) n
+
+abbrev pub noted : (NoteOf → ℕ) → List Made → ℕ
+noted w made = sum_by (λ m. w m.note) made
+
+-- those of a processor
 abbrev pub waiting : (Kind Process → ℕ) → ℕ → Ledger → ℕ
-waiting w n l = sum_below (λ s. sum_by w (l.waits s)) n
+waiting w n l = waited w n l.waits
 
 abbrev pub notes : (NoteOf → ℕ) → Ledger → ℕ
-notes w l = sum_by (λ m. w m.note) l.made
+notes w l = noted w l.made
+
+-- births: an Up for each child and each want of a slot, and a Release for each of these
+pub record BalancedBirths (births : List RoomKind) (made : List Made) : Type 0 where
+  pub ups : sum_by up_amount births ≡ noted births_of made + noted no_slots_of made
+  pub releases : sum_by release_amount births ≡ noted no_slots_of made
+  pub refusals : sum_by refusal_of births ≡ noted no_births_of made
+  pub ones : sum_by other_amount births ≡ 0
+
+-- busy: a Credit for each process that was woken or spawned, a Debit for each one that was parked or left
+pub record BalancedBusy (n : ℕ) (busy : List CreditKind) (waits : ℕ → List (Kind Process)) (born : List Process) (rows : List RowOf) : Type 0 where
+  pub credits : sum_by credit_weight busy ≡ waited (got_of (λ p. 1)) n waits + sum_by (λ p. 1) born
+  pub debits : sum_by debit_weight busy ≡ waited (put_of (λ p. 1)) n waits + sum_by (λ r. 1) rows
+
+-- each of n semaphores: a Debit for each down, done or parked, a Credit for each up; whoever is woken, at whatever wait
+-- queue, makes the down that it stands before
+pub record BalancedSemaphores (script : ScriptOf) (n : ℕ) (credits : ℕ → List CreditKind) (waits : ℕ → List (Kind Process)) (made : List Made) : Type 0 where
+  pub downs : (s : ℕ) → s < n → noted (downs_of s) made + sum_by (put_of (λ p. 1)) (waits s) ≡ sum_by debit_weight (credits s) + waited (got_of (before_down script s)) n waits
+  pub upped : (s : ℕ) → s < n → noted (ups_of s) made ≡ sum_by credit_weight (credits s)
+  pub parked : (s : ℕ) → s < n → sum_by (put_of (not_before script s)) (waits s) ≡ 0
+
+-- a Close for each shutdown, and a Closed for each process that was halted; none is left stuck
+pub record BalancedShutdown (ready : List (Kind Process)) (made : List Made) (rows : List RowOf) : Type 0 where
+  pub shuts : sum_by close_of ready ≡ noted shuts_of made
+  pub halts : sum_by (λ r. halted_of r.outcome) rows ≡ sum_by closed_of ready
+  pub no_stuck : sum_by (λ r. stuck_of r.outcome) rows ≡ 0
 
 -- what balances, where the processor had the processes `before` in its hands at the beginning and has `after` at the end;
 -- n is the number of semaphores
@@ -174,23 +206,10 @@ pub record Balanced (script : ScriptOf) (n : ℕ) (before after : List Process) 
   pub children : (g : Named → ℕ) → sum_by (λ p. g (named p)) l.born ≡ sum_by (λ m. sum_by g (child m.before.name m.step m.note)) l.made
   -- those that were started or spawned have made no step
   pub new : sum_by (λ p. length p.journal) l.begun + sum_by (λ p. length p.journal) l.born ≡ 0
-  -- births: an Up for each child and each want of a slot, and a Release for each of these
-  pub ups : sum_by up_amount l.births ≡ notes births_of l + notes no_slots_of l
-  pub releases : sum_by release_amount l.births ≡ notes no_slots_of l
-  pub refusals : sum_by refusal_of l.births ≡ notes no_births_of l
-  pub ones : sum_by other_amount l.births ≡ 0
-  -- busy: a Credit for each process that was woken or spawned, a Debit for each one that was parked or left
-  pub credits : sum_by credit_weight l.busy ≡ waiting (got_of (λ p. 1)) n l + sum_by (λ p. 1) l.born
-  pub debits : sum_by debit_weight l.busy ≡ waiting (put_of (λ p. 1)) n l + sum_by (λ r. 1) l.rows
-  -- each semaphore: a Debit for each down, done or parked, a Credit for each up; whoever is woken, at whatever wait
-  -- queue, makes the down that it stands before
-  pub downs : (s : ℕ) → s < n → notes (downs_of s) l + sum_by (put_of (λ p. 1)) (l.waits s) ≡ sum_by debit_weight (l.credits s) + waiting (got_of (before_down script s)) n l
-  pub upped : (s : ℕ) → s < n → notes (ups_of s) l ≡ sum_by credit_weight (l.credits s)
-  pub parked : (s : ℕ) → s < n → sum_by (put_of (not_before script s)) (l.waits s) ≡ 0
-  -- shutdowns and halts
-  pub shuts : sum_by close_of l.ready ≡ notes shuts_of l
-  pub halts : sum_by (λ r. halted_of r.outcome) l.rows ≡ sum_by closed_of l.ready
-  pub no_stuck : sum_by (λ r. stuck_of r.outcome) l.rows ≡ 0
+  pub births : BalancedBirths l.births l.made
+  pub busy : BalancedBusy n l.busy l.waits l.born l.rows
+  pub semaphores : BalancedSemaphores script n l.credits l.waits l.made
+  pub shutdown : BalancedShutdown l.ready l.made l.rows
   -- what the types tell
   pub made : All (IsMade script) l.made
   pub rows : All (FitsRow script) l.rows

@@ -142,10 +142,6 @@ abbrev pub steps : ℕ → ScriptOf → State → State
 steps zero script s = s
 steps (suc n) script s = step script (steps n script s)
 
--- nothing runs and nothing is ready
-abbrev pub IsStill : State → Type 0
-IsStill s = (s.running ≡ None) × (s.lists.ready ≡ [])
-
 -- started process i has the name i and slot i
 abbrev pub begun_from : ℕ → List ℕ → List Process
 begun_from i [] = []

@@ -24,6 +24,3 @@ pub use report::{Outcome, ProcessRow, Report};
 pub use run_threads::run;
 pub use running::run_one;
 pub use text::report_text;
-
-#[cfg(test)]
-mod tests;

@@ -63,13 +63,6 @@ module _ {M : Type 0} (seat_of : M → ℕ) where
   pub sees_fewer : (few names : List ℕ) (seen past : List M) → ((n : ℕ) → In n few → In n names) → Sees seat_of names seen past → Sees seat_of few seen past
   sees_fewer few names seen past among s = record { between = s.between; is = s.is; foreign = foreign_fewer few names s.between among s.foreign }
 
-  pub sees_then : (names : List ℕ) (a b c : List M) → Sees seat_of names a b → Sees seat_of names b c → Sees seat_of names a c
-  sees_then names a b c s t = record {
-    between = t.between ++ s.between;
-    is = t.is ∙ (ap (λ h. t.between ++ h) s.is ∙ sym (append_assoc t.between s.between a));
-    foreign = foreign_append names t.between s.between t.foreign s.foreign;
-  }
-
 -- ---- histories, oldest mark first
 
 -- what was seen begins the history

@@ -12,9 +12,6 @@ use Rattle.fak_model.proofs.Appending.{history_prefix}
 pub begins_self : {M : Type 0} (h : List M) → Begins h h
 begins_self h = ([], append-nil h)
 
-pub begins_more : {M : Type 0} (s h new : List M) → Begins s h → Begins s (h ++ new)
-begins_more s h new b = (b.0 ++ new, sym (append_assoc s b.0 new) ∙ ap (λ l. l ++ new) b.1)
-
 -- of two beginnings of one list one begins the other
 pub one_begins : {M : Type 0} (s t h : List M) → Begins s h → Begins t h → Begins s t ⊎ Begins t s
 one_begins [] t h a b = inl (t, refl)
@@ -50,17 +47,6 @@ in_either n (x ∷ a) b (inr i) = elim (in_either n a b i) [ inl l ↦ inl (inr 
 
 -- ---- a step
 
--- what another seat's step adds has no mark of these names
-pub knows_other : {M : Type 0} (seat_of : M → ℕ) (names : List ℕ) (seen h new : List M) → ((n : ℕ) → In n names → marks_of seat_of n new ≡ []) → Knows seat_of names seen h → Knows seat_of names seen (h ++ new)
-knows_other seat_of names seen h new foreign k = record {
-  begins = begins_more seen h new k.begins;
-  own = λ n i. marks_of_append seat_of n h new ∙ (ap (λ l. marks_of seat_of n h ++ l) (foreign n i) ∙ (append-nil (marks_of seat_of n h) ∙ k.own n i));
-}
-
--- whoever steps has seen all
-pub knows_all : {M : Type 0} (seat_of : M → ℕ) (names : List ℕ) (h : List M) → Knows seat_of names h h
-knows_all seat_of names h = record { begins = begins_self h; own = λ n i. refl }
-
 -- what came between has no mark of these names
 pub between_foreign : {M : Type 0} (seat_of : M → ℕ) (names : List ℕ) (seen h : List M) (k : Knows seat_of names seen h) (n : ℕ) → In n names → marks_of seat_of n k.begins.0 ≡ []
 between_foreign seat_of names seen h k n i =
@@ -70,17 +56,7 @@ between_foreign seat_of names seen h k n i =
     nothing_more [] ys e = e
     nothing_more (x ∷ xs) ys e = nothing_more xs ys cc
 
--- mine grows by the call's marks alone
-pub mine_grows : {M : Type 0} (seat_of : M → ℕ) (n : ℕ) (seen h new : List M) → Knows seat_of (n ∷ []) seen h → marks_of seat_of n new ≡ new → marks_of seat_of n (h ++ new) ≡ marks_of seat_of n seen ++ new
-mine_grows seat_of n seen h new k own = marks_of_append seat_of n h new ∙ (ap (λ l. l ++ marks_of seat_of n new) (k.own n (inl refl)) ∙ ap (λ l. marks_of seat_of n seen ++ l) own)
-
 -- ---- a split and a join
-
-pub knows_some : {M : Type 0} (seat_of : M → ℕ) (a b : List ℕ) (seen h : List M) → Knows seat_of (a ++ b) seen h → Knows seat_of a seen h × Knows seat_of b seen h
-knows_some seat_of a b seen h k = (
-  record { begins = k.begins; own = λ n i. k.own n (in_left n a b i) },
-  record { begins = k.begins; own = λ n i. k.own n (in_right n a b i) },
-)
 
 -- who knows of a name by a shorter seen knows as much by a longer
 more_seen : {M : Type 0} (seat_of : M → ℕ) (n : ℕ) (s t h : List M) → Begins s t → Begins t h → marks_of seat_of n h ≡ marks_of seat_of n s → marks_of seat_of n h ≡ marks_of seat_of n t

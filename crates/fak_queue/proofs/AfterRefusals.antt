@@ -111,9 +111,6 @@ module _ {T R : Type 0} (kinds_of : R → List (Kind T)) (Was : R → Type 0) (s
     pub stood : (number : ℕ) → before_last kinds_of tries.refused number old new ≡ before_last kinds_of t.refused number mid new
 
   module _ {old mid : SeatInfo (Mark T)} (so_far : RefusedSoFar old mid) where
-    pub drawn_so_far : drawn_by mid ≡ drawn_by old
-    drawn_so_far = elim so_far [ inl same ↦ ap drawn_by same | inr b ↦ b.drawn ]
-
     pub within_so_far : drawn_by mid < mid.stint → drawn_by old < old.stint
     within_so_far left = elim so_far [ inl same ↦ subst (λ (s : SeatInfo (Mark T)). drawn_by s < s.stint) same left | inr b ↦ b.within ]
 
@@ -121,13 +118,6 @@ module _ {T R : Type 0} (kinds_of : R → List (Kind T)) (Was : R → Type 0) (s
     left_so_far left = elim so_far [
       | inl same ↦ subst (λ (s : SeatInfo (Mark T)). drawn_by s < s.stint) (sym same) left
       | inr b ↦ (let stint = ap (λ (s : SeatInfo (Mark T)). s.stint) b.makes.same_seat in let d = b.drawn in omega (arith, left, stint, d))
-    ]
-
-    -- who was refused in another way has tickets left
-    pub worn_at_once : {new : SeatInfo (Mark T)} → IsWorn mid new → IsWorn old new
-    worn_at_once {new} w = elim so_far [
-      | inl same ↦ subst (λ (s : SeatInfo (Mark T)). IsWorn s new) same w
-      | inr b ↦ absurd (let stint = ap (λ (s : SeatInfo (Mark T)). s.stint) b.makes.same_seat in let d = b.drawn in let left = b.within in let spent = w.spent in omega (arith, left, stint, d, spent))
     ]
 
     -- one more was refused

@@ -81,9 +81,6 @@ module _ {T : Type 0} (key : Limits) {size seats name left : ℕ} {p : Phase T} 
   pub has_name : HasOneName m
   has_name = (name, token_names f.token)
 
-  pub phase_now : m.0.phase ≡ Some p
-  phase_now = token_phase f.token
-
   pub state_now : state_of old ≡ state_in p
   state_now = ap state_of (sym seat_is) ∙ state_shown (object_id mine seats) name left m p f.rests
 

@@ -36,16 +36,11 @@ of_all weight m found = weight m.kind found
 abbrev pub of_name : ℕ → (CreditKind → ℤ → ℕ) → CreditMark → ℤ → ℕ
 of_name name weight m found = cond (m.seat == name) (weight m.kind found) 0
 
--- the downs that passed, the downs that parked, and the ups that woke
+-- the downs that passed
 abbrev pub downs_passed : ℕ → List CreditMark → ℕ
 downs_passed start h = weight_from (of_all passes) start [] h
 
-abbrev pub downs_parked : ℕ → List CreditMark → ℕ
-downs_parked start h = weight_from (of_all parks) start [] h
-
-abbrev pub ups_waking : ℕ → List CreditMark → ℕ
-ups_waking start h = weight_from (of_all wakes) start [] h
-
+-- the downs of a name that passed, its downs that parked, and its ups that woke
 abbrev pub downs_passed_by : ℕ → ℕ → List CreditMark → ℕ
 downs_passed_by name start h = weight_from (of_name name passes) start [] h
 

@@ -2,7 +2,7 @@
 
 ghost use Rattle.std.specs.Prelude.{true};
 
-use crate::Gate;
+use fak_kernel::Gate;
 use std::hint::spin_loop;
 use std::sync::atomic::{AtomicBool, Ordering};
 

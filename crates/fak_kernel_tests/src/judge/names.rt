@@ -1,7 +1,7 @@
 //! The names of a report's rows.
 
 use super::lines::{births, count};
-use crate::{ProcessRow, Report};
+use fak_kernel::{ProcessRow, Report};
 use fak_text::{Note, Script, Step};
 
 /// Each name is above the one before.

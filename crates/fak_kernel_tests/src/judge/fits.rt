@@ -1,7 +1,7 @@
 //! Rows beside their programs.
 
 use super::lines::count;
-use crate::{Outcome, ProcessRow};
+use fak_kernel::{Outcome, ProcessRow};
 use fak_text::{Note, Script, Step};
 
 /// Each journal stands beside the first steps of its program, and each process is left where its outcome may stand.

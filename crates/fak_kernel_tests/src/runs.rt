@@ -3,7 +3,7 @@
 use super::gates::{Holding, Meeting, Refusing};
 use super::judge::broken_promise;
 use super::scripting::{Draws, drawn_script};
-use crate::{Fault, FreeGate, Gate, report_text, run};
+use fak_kernel::{Fault, FreeGate, Gate, report_text, run};
 use fak_text::{Script, read_script};
 use std::alloc::Global;
 use std::marker::Sync;
@@ -50,6 +50,12 @@ file 0 inode 7 uses 1
 births 1 of 1
 ended 2 stuck 0
 ";
+
+/// One empty program, and seats that have one call each.
+const WORN: &str =
+    r#"{"version":1,"slots":1,"births":0,"quantum":1,"stint":1,"semaphores":[],"files":1,
+"programs":[[]],
+"start":[0]}"#;
 
 /// A run in which the ready queue is shut.
 const CURFEW: &str = r#"{"version":2,"slots":3,"births":0,"quantum":2,"semaphores":[0],"files":1,
@@ -140,6 +146,16 @@ fn other_numbers_of_processors(rt: HostRuntime) -> Result<(), Fail> {
     for processors in [0u64, 9, 18_446_744_073_709_551_615] {
         let refused = run(&rt, rt.alloc(), &script, processors, &FreeGate);
         assert_eq!(rt; refused.err(), Some(Fault::BadProcessors));
+    }
+    Ok(())
+}
+
+#[test]
+fn a_stint_of_one_call_is_worn(rt: HostRuntime) -> Result<(), Fail> {
+    let script = script_of(rt.alloc(), WORN)?;
+    for processors in [1u64, 3] {
+        let worn = run(&rt, rt.alloc(), &script, processors, &FreeGate);
+        assert_eq!(rt; worn.err(), Some(Fault::Worn), "{processors}");
     }
     Ok(())
 }

@@ -1,6 +1,6 @@
 //! The texts of faults.
 
-use crate::Fault;
+use fak_kernel::Fault;
 use std::test::Fail;
 
 #[test]

@@ -1,6 +1,6 @@
 //! The file lines of all rows: some order of them, which keeps each row's own, is one that a single table could have made.
 
-use crate::{FileEntry, ProcessRow, Report};
+use fak_kernel::{FileEntry, ProcessRow, Report};
 use fak_text::{Note, Script};
 use std::alloc::{AllocError, Global};
 

@@ -1,6 +1,6 @@
 //! The lines of all rows.
 
-use crate::{Outcome, ProcessRow};
+use fak_kernel::{Outcome, ProcessRow};
 use fak_text::{Note, Script, Step};
 
 /// How often a line stands in all journals.

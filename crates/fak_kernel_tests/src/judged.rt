@@ -1,7 +1,7 @@
 //! The judge finds what is broken in reports that were changed.
 
 use super::judge::broken_promise;
-use crate::{Outcome, Report, run_one};
+use fak_kernel::{Outcome, Report, run_one};
 use fak_text::{Note, read_script};
 use std::alloc::Global;
 use std::sync::Wait;

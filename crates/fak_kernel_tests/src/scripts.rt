@@ -1,6 +1,6 @@
 //! Scripts whose reports are known.
 
-use crate::{Fault, Outcome, Report, report_text, run_one};
+use fak_kernel::{Fault, Outcome, Report, report_text, run_one};
 use fak_text::read_script;
 use std::alloc::Global;
 use std::sync::Wait;

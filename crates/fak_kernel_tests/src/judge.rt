@@ -5,7 +5,7 @@ mod fits;
 mod lines;
 mod names;
 
-use crate::Report;
+use fak_kernel::Report;
 use fak_text::Script;
 use std::alloc::Global;
 use std::test::Fail;
