@@ -1,0 +1,176 @@
+/* Each code of each call, on one thread. */
+#include "tests.h"
+
+#define MOST_SEATS 64
+
+static bool is_empty(const fak_c_seat *seat) {
+    return seat->at == NULL;
+}
+
+static void insert(fak_c_seat *seat, uint64_t item, uint64_t wanted) {
+    uint64_t ticket = 99;
+    CHECK(fak_c_claim_insert(seat, item, &ticket) == FAK_C_OK);
+    CHECK(ticket == wanted);
+    CHECK(fak_c_try_fill(seat) == FAK_C_OK);
+}
+
+static void claim_delete(fak_c_seat *seat, uint64_t wanted) {
+    uint64_t ticket = 99;
+    CHECK(fak_c_claim_delete(seat, &ticket) == FAK_C_OK);
+    CHECK(ticket == wanted);
+}
+
+static void take(fak_c_seat *seat, uint64_t wanted) {
+    uint64_t item = 99;
+    CHECK(fak_c_try_take(seat, &item) == FAK_C_OK);
+    CHECK(item == wanted);
+}
+
+static void stands(fak_c_seat *seat, uint32_t wanted, uint64_t wanted_ticket, uint64_t wanted_left) {
+    uint32_t state = 99;
+    uint64_t ticket = 99, left = 99;
+    CHECK(fak_c_state(seat, &state, &ticket, &left) == FAK_C_OK);
+    CHECK(state == wanted && ticket == wanted_ticket && left == wanted_left);
+}
+
+/* A handle without a seat is refused everything but an opening, and nothing is written. */
+static void an_empty_handle_is_refused(fak_c_seat *seat) {
+    uint32_t state = 99;
+    uint64_t number = 99, left = 99;
+    bool was_open = true;
+    CHECK(fak_c_claim_insert(seat, 1, &number) == FAK_C_NO_SEAT);
+    CHECK(fak_c_try_fill(seat) == FAK_C_NO_SEAT);
+    CHECK(fak_c_claim_delete(seat, &number) == FAK_C_NO_SEAT);
+    CHECK(fak_c_try_take(seat, &number) == FAK_C_NO_SEAT);
+    CHECK(fak_c_shut(seat, &was_open) == FAK_C_NO_SEAT);
+    CHECK(fak_c_state(seat, &state, &number, &left) == FAK_C_NO_SEAT);
+    CHECK(fak_c_leave(seat) == FAK_C_NO_SEAT);
+    CHECK(state == 99 && number == 99 && left == 99 && was_open && is_empty(seat));
+}
+
+static void limits_are_tested(void) {
+    fak_c_seat seats[MOST_SEATS + 1] = {0};
+    CHECK(sizeof seats[0] == 128 && offsetof(fak_c_seat, at) == 64);
+    CHECK(fak_c_open(seats, 0, 4, 4) == FAK_C_BAD_LIMIT);
+    CHECK(fak_c_open(seats, MOST_SEATS + 1, 4, 4) == FAK_C_BAD_LIMIT);
+    CHECK(fak_c_open(seats, 2, 0, 4) == FAK_C_BAD_LIMIT);
+    CHECK(fak_c_open(seats, 2, 4097, 4) == FAK_C_BAD_LIMIT);
+    CHECK(fak_c_open(seats, 2, 4, 0) == FAK_C_BAD_LIMIT);
+    CHECK(fak_c_open(seats, 2, 4, LONG_STINT + 1) == FAK_C_BAD_LIMIT);
+    CHECK(fak_c_open(seats, MOST_SEATS, 4096, LONG_STINT) == FAK_C_OK);
+    for (int i = 0; i < MOST_SEATS; i++)
+        stands(&seats[i], FAK_C_IDLE, 99, LONG_STINT);
+    /* What the handles held is given up, also by an opening that fails. */
+    CHECK(fak_c_open(seats, MOST_SEATS, 1, 1) == FAK_C_OK);
+    CHECK(fak_c_open(seats, MOST_SEATS, 0, 1) == FAK_C_BAD_LIMIT);
+    for (int i = 0; i <= MOST_SEATS; i++)
+        CHECK(is_empty(&seats[i]));
+}
+
+/* Calls that a seat does not stand for are refused, write nothing and leave it where it is. */
+static void states_are_tested(void) {
+    fak_c_seat seats[2] = {0};
+    uint64_t ticket = 99, item = 99;
+    bool was_open = true;
+    CHECK(fak_c_open(seats, 2, 2, 4) == FAK_C_OK);
+    CHECK(fak_c_try_fill(&seats[0]) == FAK_C_WRONG_STATE);
+    CHECK(fak_c_try_take(&seats[0], &item) == FAK_C_WRONG_STATE);
+    CHECK(fak_c_claim_insert(&seats[0], 7, &ticket) == FAK_C_OK && ticket == 0);
+    for (int round = 0; round < 2; round++) {
+        stands(&seats[0], round == 0 ? FAK_C_INSERTING : FAK_C_DELETING, 0, round == 0 ? 3 : 2);
+        ticket = 99;
+        CHECK(fak_c_claim_insert(&seats[0], 8, &ticket) == FAK_C_WRONG_STATE);
+        CHECK(fak_c_claim_delete(&seats[0], &ticket) == FAK_C_WRONG_STATE);
+        CHECK(fak_c_shut(&seats[0], &was_open) == FAK_C_WRONG_STATE);
+        CHECK(fak_c_leave(&seats[0]) == FAK_C_WRONG_STATE);
+        CHECK(ticket == 99 && was_open && !is_empty(&seats[0]));
+        if (round == 0) {
+            CHECK(fak_c_try_take(&seats[0], &item) == FAK_C_WRONG_STATE && item == 99);
+            CHECK(fak_c_claim_delete(&seats[1], &ticket) == FAK_C_EMPTY && ticket == 99);
+            CHECK(fak_c_try_fill(&seats[0]) == FAK_C_OK);
+            claim_delete(&seats[0], 0);
+        } else {
+            CHECK(fak_c_try_fill(&seats[0]) == FAK_C_WRONG_STATE);
+            take(&seats[0], 7);
+        }
+    }
+    stands(&seats[0], FAK_C_IDLE, 99, 2);
+    CHECK(fak_c_leave(&seats[0]) == FAK_C_OK);
+    an_empty_handle_is_refused(&seats[0]);
+    stands(&seats[1], FAK_C_IDLE, 99, 4);
+    CHECK(fak_c_leave(&seats[1]) == FAK_C_OK);
+}
+
+/* A deletion whose cell is not yet filled, and an insertion whose cell has the item of the round before. */
+static void turns_are_waited_for(void) {
+    fak_c_seat seats[3] = {0};
+    uint64_t ticket = 99, item = 99;
+    CHECK(fak_c_open(seats, 3, 2, LONG_STINT) == FAK_C_OK);
+    CHECK(fak_c_claim_insert(&seats[0], 5, &ticket) == FAK_C_OK && ticket == 0);
+    insert(&seats[1], 6, 1);
+    claim_delete(&seats[2], 0);
+    CHECK(fak_c_try_take(&seats[2], &item) == FAK_C_NOT_YET && item == 99);
+    stands(&seats[2], FAK_C_DELETING, 0, LONG_STINT - 1);
+    CHECK(fak_c_try_fill(&seats[0]) == FAK_C_OK);
+    take(&seats[2], 5);
+    insert(&seats[0], 7, 2);
+    ticket = 99;
+    CHECK(fak_c_claim_insert(&seats[0], 8, &ticket) == FAK_C_FULL && ticket == 99);
+    claim_delete(&seats[1], 1);
+    claim_delete(&seats[2], 2);
+    take(&seats[2], 7);
+    CHECK(fak_c_claim_insert(&seats[0], 8, &ticket) == FAK_C_OK && ticket == 3);
+    CHECK(fak_c_try_fill(&seats[0]) == FAK_C_NOT_YET);
+    stands(&seats[0], FAK_C_INSERTING, 3, LONG_STINT - 3);
+    take(&seats[1], 6);
+    CHECK(fak_c_try_fill(&seats[0]) == FAK_C_OK);
+    claim_delete(&seats[2], 3);
+    take(&seats[2], 8);
+    for (int i = 0; i < 3; i++)
+        CHECK(fak_c_leave(&seats[i]) == FAK_C_OK);
+}
+
+static void a_stint_ends(void) {
+    fak_c_seat seats[2] = {0};
+    uint64_t ticket = 99;
+    bool was_open = false;
+    CHECK(fak_c_open(seats, 2, 2, 1) == FAK_C_OK);
+    insert(&seats[0], 5, 0);
+    stands(&seats[0], FAK_C_IDLE, 99, 0);
+    CHECK(fak_c_claim_insert(&seats[0], 6, &ticket) == FAK_C_WORN);
+    CHECK(fak_c_claim_delete(&seats[0], &ticket) == FAK_C_WORN);
+    CHECK(fak_c_shut(&seats[0], &was_open) == FAK_C_OK && was_open);
+    CHECK(fak_c_claim_insert(&seats[0], 6, &ticket) == FAK_C_WORN && ticket == 99);
+    CHECK(fak_c_leave(&seats[0]) == FAK_C_OK);
+    claim_delete(&seats[1], 0);
+    take(&seats[1], 5);
+    CHECK(fak_c_leave(&seats[1]) == FAK_C_OK);
+}
+
+/* An insertion that was claimed before the queue was shut ends as ever. */
+static void a_shut_queue_refuses_insertions(void) {
+    fak_c_seat seats[2] = {0};
+    uint64_t ticket = 99;
+    bool was_open = false;
+    CHECK(fak_c_open(seats, 2, 2, 4) == FAK_C_OK);
+    CHECK(fak_c_claim_insert(&seats[0], 5, &ticket) == FAK_C_OK && ticket == 0);
+    CHECK(fak_c_shut(&seats[1], &was_open) == FAK_C_OK && was_open);
+    CHECK(fak_c_shut(&seats[1], &was_open) == FAK_C_OK && !was_open);
+    ticket = 99;
+    CHECK(fak_c_claim_insert(&seats[1], 6, &ticket) == FAK_C_CLOSED && ticket == 99);
+    CHECK(fak_c_try_fill(&seats[0]) == FAK_C_OK);
+    claim_delete(&seats[1], 0);
+    take(&seats[1], 5);
+    CHECK(fak_c_claim_delete(&seats[1], &ticket) == FAK_C_EMPTY);
+    CHECK(fak_c_leave(&seats[0]) == FAK_C_OK && fak_c_leave(&seats[1]) == FAK_C_OK);
+}
+
+void each_code_is_answered(void) {
+    fak_c_seat seat = {0};
+    an_empty_handle_is_refused(&seat);
+    limits_are_tested();
+    states_are_tested();
+    turns_are_waited_for();
+    a_stint_ends();
+    a_shut_queue_refuses_insertions();
+}

@@ -1,0 +1,34 @@
+/* What the tests in C share. */
+#ifndef FAK_C_TESTS_H
+#define FAK_C_TESTS_H
+
+#include "fak_c.h"
+
+#include <stdio.h>
+#include <stdlib.h>
+
+/* Ends the program where the condition does not hold. */
+#define CHECK(condition) \
+    do { \
+        if (!(condition)) { \
+            fprintf(stderr, "%s:%d: not so: %s\n", __FILE__, __LINE__, #condition); \
+            exit(1); \
+        } \
+    } while (0)
+
+/* The longest stint. */
+#define LONG_STINT (UINT64_C(1) << 40)
+
+/* Each code of each call, on one thread. */
+void each_code_is_answered(void);
+
+/* Each allocation of an opening fails in turn. */
+void want_of_memory_is_answered(void);
+
+/* So many producers and as many consumers share a queue. */
+void threads_share_a_queue(int pairs, uint64_t items);
+
+/* A queue is shut while threads insert into it, and drained. */
+void a_shut_queue_is_drained(uint64_t items);
+
+#endif

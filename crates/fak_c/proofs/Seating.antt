@@ -1,0 +1,40 @@
+-- The seats of a queue as they are opened, each in a handle.
+use Rattle.std.proofs.Common.{◌≡◌, ℕ, suc, ◌+◌, ◌-◌, ◌<◌, List, [], ◌∷◌, length, slice_index_or, slice_set, ap, sym, subst, ◌∙◌, inl, inr, arith, get_or-set_same, get_or-set_other}
+use Rattle.std.proofs.lemmas.Bool.{cases_eq}
+use Rattle.fak_model.specs.Calls.{ObjectId, SeatInfo, seat_info, fresh_seats}
+use Rattle.fak_queue.specs.Queues.{QueueInfo}
+use Rattle.fak_queue.specs.Refusals.{IsInRange}
+use Rattle.fak_c.specs.declared.place.Place.{Place}
+use Rattle.fak_c.specs.Openings.{HasSeat, AreSeatedBelow, IsOpened}
+
+-- the first of the seats from this name on, and the others
+pub record IsNextSeat {M : Type 0} (object : ObjectId) (stint name seats : ℕ) (x : SeatInfo M) (rest : List (SeatInfo M)) : Type 0 where
+  pub first : x ≡ seat_info object name stint []
+  pub others : rest ≡ fresh_seats object stint (name + 1) (seats - (name + 1))
+
+pub next_seat : {M : Type 0} {object : ObjectId} {stint name seats : ℕ} {items rest : List (SeatInfo M)} {x : SeatInfo M} → name < seats → items ≡ fresh_seats object stint name (seats - name) → items ≡ x ∷ rest → IsNextSeat object stint name seats x rest
+next_seat {M} {object} {stint} {name} {seats} {items} {rest} {x} below are is =
+    let count : seats - name ≡ suc (seats - (name + 1)) = omega (arith, below) in
+    let up : suc name ≡ name + 1 = omega arith in
+    let all : x ∷ rest ≡ seat_info object name stint [] ∷ fresh_seats object stint (suc name) (seats - (name + 1)) = sym is ∙ (are ∙ ap (fresh_seats {M = M} object stint name) count) in
+    record {
+      first = cc;
+      others = (let r : rest ≡ fresh_seats object stint (suc name) (seats - (name + 1)) = cc in r ∙ ap (λ k. fresh_seats {M = M} object stint k (seats - (name + 1))) up);
+    }
+
+-- one handle more has its seat
+pub seated_next : (queue : QueueInfo) (stint n : ℕ) (places : List Place) (p : Place) → n < length places → AreSeatedBelow queue stint n places → HasSeat queue stint n p → AreSeatedBelow queue stint (n + 1) (slice_set places n p)
+seated_next queue stint n places p inside below has name d low = elim (cases_eq name n) [
+  | inl e ↦ subst (λ k. HasSeat queue stint k (slice_index_or (slice_set places n p) k d)) (sym e) (subst (HasSeat queue stint n) (sym (get_or-set_same places n p d inside)) has)
+  | inr other ↦ subst (HasSeat queue stint name) (sym (get_or-set_other places n name p d other)) (below name d (let lt : name < n = search (arith, low, other) in lt))
+]
+
+-- a queue all of whose seats have handles
+pub opened_all : (size stint n : ℕ) (places : List Place) (queue shared : QueueInfo) → IsInRange size n stint → shared ≡ queue → queue.size ≡ size → queue.object.seats ≡ n → length places ≡ n → AreSeatedBelow shared stint n places → IsOpened size stint places
+opened_all size stint n places queue shared range is sized seats len seated = record {
+  range = subst (λ k. IsInRange size k stint) (sym len) range;
+  queue = shared;
+  size_is = ap (λ q. q.size) is ∙ sized;
+  seats_are = ap (λ q. q.object.seats) is ∙ (seats ∙ sym len);
+  seated = subst (λ k. AreSeatedBelow shared stint k places) (sym len) seated;
+}

@@ -1,0 +1,11 @@
+use Rattle.std.proofs.Common.{◌≡◌, ◌-◌, length}
+use Rattle.std.specs.Arc.{arc_value}
+use Rattle.fak_model.specs.Calls.{fresh_seats}
+use Rattle.fak_c.specs.Openings.{AreSeatedBelow}
+use Rattle.fak_c.proofs.opening.seat_all.Given as goal
+
+-- the handles below this one have seats, and the others' seats are to come
+abbrev pub invariant-loop-i : goal.invariant-loop-i
+invariant-loop-i l =
+    (length l.places ≡ l.i-end) × AreSeatedBelow (arc_value l.queue) l.stint l.i l.places
+    × (l.rest.rest.items ≡ fresh_seats (arc_value l.queue).object l.stint l.i (l.i-end - l.i))

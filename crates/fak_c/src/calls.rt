@@ -1,0 +1,65 @@
+//! The calls of a seat. Each tests where the seat stands, so none has a condition.
+
+ghost use Rattle.std.specs.Prelude.{◌≡◌, MatchOption};
+ghost use Rattle.std.specs.Arc.{arc_value};
+ghost use Rattle.fak_c.specs.Answers.{AsksToDelete, AsksToFill, AsksToInsert, AsksToShut, AsksToTake, IsBusy, IsNotDeleting, IsNotInserting};
+
+use crate::desk::Desk;
+use fak_queue::{DeleteFault, InsertFault, SeatState};
+
+impl Desk {
+    /// `Queue::claim_insert`; `None` where the seat is not idle.
+    pub fn claim_insert(&mut self, item: u64) -> Option<Result<u64, InsertFault<u64>>>
+        ensures queue { arc_value self.new.queue ≡ arc_value self.old.queue }
+        ensures call { MatchOption result (IsBusy self.old self.new) (λ r. AsksToInsert item r self.old self.new) }
+    {
+        match self.seat.state() {
+            SeatState::Idle => Some(self.queue.claim_insert(&mut self.seat, item)),
+            SeatState::Inserting(_) | SeatState::Deleting(_) => None,
+        }
+    }
+
+    /// `Queue::try_fill`; `None` where the seat is not inserting.
+    pub fn try_fill(&mut self) -> Option<Option<u64>>
+        ensures queue { arc_value self.new.queue ≡ arc_value self.old.queue }
+        ensures call { MatchOption result (IsNotInserting self.old self.new) (λ r. AsksToFill r self.old self.new) }
+    {
+        match self.seat.state() {
+            SeatState::Inserting(_) => Some(self.queue.try_fill(&mut self.seat)),
+            SeatState::Idle | SeatState::Deleting(_) => None,
+        }
+    }
+
+    /// `Queue::claim_delete`; `None` where the seat is not idle.
+    pub fn claim_delete(&mut self) -> Option<Result<u64, DeleteFault>>
+        ensures queue { arc_value self.new.queue ≡ arc_value self.old.queue }
+        ensures call { MatchOption result (IsBusy self.old self.new) (λ r. AsksToDelete r self.old self.new) }
+    {
+        match self.seat.state() {
+            SeatState::Idle => Some(self.queue.claim_delete(&mut self.seat)),
+            SeatState::Inserting(_) | SeatState::Deleting(_) => None,
+        }
+    }
+
+    /// `Queue::try_take`; `None` where the seat is not deleting.
+    pub fn try_take(&mut self) -> Option<Option<(u64, u64)>>
+        ensures queue { arc_value self.new.queue ≡ arc_value self.old.queue }
+        ensures call { MatchOption result (IsNotDeleting self.old self.new) (λ r. AsksToTake r self.old self.new) }
+    {
+        match self.seat.state() {
+            SeatState::Deleting(_) => Some(self.queue.try_take(&mut self.seat)),
+            SeatState::Idle | SeatState::Inserting(_) => None,
+        }
+    }
+
+    /// `Queue::shut`; `None` where the seat is not idle.
+    pub fn shut(&mut self) -> Option<bool>
+        ensures queue { arc_value self.new.queue ≡ arc_value self.old.queue }
+        ensures call { MatchOption result (IsBusy self.old self.new) (λ was_open. AsksToShut was_open self.old self.new) }
+    {
+        match self.seat.state() {
+            SeatState::Idle => Some(self.queue.shut(&mut self.seat)),
+            SeatState::Inserting(_) | SeatState::Deleting(_) => None,
+        }
+    }
+}
