@@ -1,5 +1,15 @@
-//! Counts that threads share: rooms, which claims raise up to a bound, and credits, which debits and credits move
-//! by 1 with no test.
+//! Counts that threads share, by fetch-and-add: rooms, which claims raise up to a bound by test, increment and retest (A.
+//! Gottlieb, B. D. Lubachevsky and L. Rudolph, ACM TOPLAS 5(2), 1983), and credits, which debits and credits move by 1 with no test.
+//!
+//! - `Room::open(alloc, bound, seats, stint)` and `Credit::open(alloc, start, seats, stint)` answer the count and its seats.
+//! - `Room::tir(&mut seat, d)` claims `d`, 1 to 1,024, or is refused with the value that it found; `release` gives back.
+//! - `Credit::debit` and `credit` answer the value before; `Credit::value` loads it.
+//! - No call waits. `RoomTally` and `CreditTally` bring seats back together; a room at rest counts what its seats hold.
+//! - Callers owe that a seat is of this count (`IsSeatOf`), and that no more is released than is held.
+//! - To cite: `IsGranted`, `IsRefused`, `MakesCall` (`specs/Rooms.antt`, `specs/Credits.antt`), and the laws of
+//!   `fak_model::laws::room` and `credit`.
+//!
+//! `docs/CALLING.md` is the guide for callers.
 #![tactic(auto)]
 
 pub mod credits;

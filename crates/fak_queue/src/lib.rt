@@ -1,5 +1,15 @@
-//! A bounded first-in-first-out queue that processors share without a lock, after Gottlieb, Lubachevsky and Rudolph
-//! (TOPLAS 5(2), 1983). Its cells own moved values.
+//! A bounded first-in-first-out queue that processors share without a lock, by fetch-and-add, after A. Gottlieb, B. D.
+//! Lubachevsky and L. Rudolph (ACM TOPLAS 5(2), 1983). Its cells own moved values.
+//!
+//! - `Queue::<T>::open(alloc, size, seats, stint)` answers the queue and all its seats. A thread calls with a seat of its own.
+//! - `insert` and `delete` make one attempt; `wait_insert` and `wait_delete` wait while the queue is full or empty;
+//!   `claim_insert` with `try_fill`, and `claim_delete` with `try_take`, wait for nobody.
+//! - `shut` refuses later insertions; deletions go on.
+//! - `Tally::of(seat)` and `Queue::join` bring the seats back together; with all of them `Queue::close` answers a `Rest`, what is left.
+//! - Callers owe that a seat is of this queue and idle: `IsIdleSeat queue.now.object seat`.
+//! - To cite: `Inserts`, `Deletes` and their like (`specs/Queues.antt`, `specs/Retries.antt`), and the laws of `fak_model::laws`.
+//!
+//! `docs/CALLING.md` is the guide for callers; `crates/pool_of_workers` and `crates/page_frames` are programs to begin from.
 #![tactic(auto)]
 
 mod admission;

@@ -1,5 +1,16 @@
-//! Counting semaphores whose waiting items stand in a wait queue: a down subtracts 1 and passes where it found at least 1,
-//! else its item is parked; an up adds 1 and wakes one parked item where it found less than 0.
+//! Counting semaphores whose waiting items stand in a wait queue, by fetch-and-add over the queue of A. Gottlieb, B. D.
+//! Lubachevsky and L. Rudolph (ACM TOPLAS 5(2), 1983): a down subtracts 1 and passes where it found at least 1, else its item
+//! is parked; an up adds 1 and wakes one parked item where it found less than 0.
+//!
+//! - `Semaphore::<T>::open(alloc, start, size, seats, stint)` answers the semaphore and its seats; `size` is the wait queue's.
+//! - `down(rt, &mut seat, item)` answers the item where it passes, and none where it was parked. No thread sleeps: the item is
+//!   what waits, as the context of a process.
+//! - `up(rt, &mut seat)` answers the item that it woke, which is then the caller's to go on with.
+//! - `SemTally::of`, `join`, `close`: as a queue's; what is left is the items that nobody woke, oldest first.
+//! - Callers owe that a seat is of this semaphore: `seat.old.object ≡ semaphore.now.object`.
+//! - To cite: `Downs`, `Ups`, `CountsDown`, `CountsUp` (`specs/Semaphores.antt`), and `IsSettled` at the close.
+//!
+//! `docs/CALLING.md` is the guide for callers.
 #![tactic(auto)]
 
 mod ending;
