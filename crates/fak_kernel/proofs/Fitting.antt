@@ -48,4 +48,3 @@ IsContext-unnoted script children semaphore p known asleep =
       };
       children_are = omega (arith, known.children_are, counted);
     }
-

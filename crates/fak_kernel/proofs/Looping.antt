@@ -50,4 +50,3 @@ module _ {script : ScriptOf} where
   -- the last one
   pub leaves_none : {o p q r : ProcessorOf} (a b : Option Turn) → Moves script [] (hand_of a) o p → Moves script (hand_of a) (hand_of b) p q → Gains script q r nothing → b ≡ None → value (length script.start) r.busy.seen ≡ pos 0 → LeavesNone script o r
   leaves_none {o} {r = r} a b was made looked over shows = record { moves = subst (λ (x : Option Turn). Moves script [] (hand_of x) o r) over (moves_on a b was made looked); idle = shows }
-

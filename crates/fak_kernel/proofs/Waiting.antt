@@ -51,4 +51,3 @@ none_at : {X : Type 0} (xs : List ℕ) (n : ℕ) → slice_index_or (map {B = Li
 none_at [] n = refl
 none_at (x ∷ xs) zero = refl
 none_at (x ∷ xs) (suc n) = none_at xs n
-

@@ -21,4 +21,3 @@ reached_on {script} {p} {q} {r} a b was made looked =
       count = suc was.count;
       reached = (λ i. record { running = b; lists = l.lists_are i }) ∙ (m.state_is ∙ ap (step script) was.reached);
     }
-
