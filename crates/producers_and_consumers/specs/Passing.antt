@@ -1,0 +1,63 @@
+-- What ports have put into a channel and got out of it, under every weight of buffers.
+use Rattle.std.specs.Prelude.{ℕ, ◌+◌, ◌≡◌, List}
+use Rattle.std.specs.List.{sum_by}
+use Rattle.fak_model.specs.declared.queue.Mark.{Mark}
+use Rattle.fak_model.specs.Queue.{count}
+use Rattle.fak_model.specs.Calls.{ObjectId, SeatInfo, mine_of}
+use Rattle.fak_model.specs.Weights.{put_of, got_of}
+use Rattle.fak_queue.specs.Queues.{IsIdleSeat, seat_of}
+use Rattle.fak_sem.specs.Semaphores.{SemId, queue_part}
+use Rattle.producers_and_consumers.specs.declared.channel.Buffer.{Buffer}
+use Rattle.producers_and_consumers.specs.declared.channel.Port.{Port}
+
+-- a sum over buffers, for each weight of a buffer
+abbrev pub Sum : Type 0
+Sum = (Buffer → ℕ) → ℕ
+
+-- what a seat of a queue put into it and got out of it
+abbrev pub put_by : (Buffer → ℕ) → SeatInfo (Mark Buffer) → ℕ
+put_by w s = count (put_of w) (mine_of seat_of s)
+
+abbrev pub got_by : (Buffer → ℕ) → SeatInfo (Mark Buffer) → ℕ
+got_by w s = count (got_of w) (mine_of seat_of s)
+
+-- what a port put into the queue and held back at the gate; what it let through the gate; what it took out of the queue
+abbrev pub put_in : (Buffer → ℕ) → Port → ℕ
+put_in w p = put_by w p.queue + put_by w (queue_part p.gate)
+
+abbrev pub let_through : (Buffer → ℕ) → Port → ℕ
+let_through w p = got_by w (queue_part p.gate)
+
+abbrev pub taken : (Buffer → ℕ) → Port → ℕ
+taken w p = got_by w p.queue
+
+-- a port of this channel between two calls
+pub record IsPort (queue : ObjectId) (gate : SemId) (p : Port) : Type 0 where
+  pub idle : IsIdleSeat queue p.queue
+  pub gate_is : p.gate.object ≡ gate
+
+-- a call of the port, which sent and received so much
+pub record Moves (sent received : Sum) (old new : Port) : Type 0 where
+  pub name : new.queue.name ≡ old.queue.name
+  pub gate_name : new.gate.name ≡ old.gate.name
+  pub sent_is : (w : Buffer → ℕ) → put_in w new + let_through w old ≡ put_in w old + let_through w new + sent w
+  pub received_is : (w : Buffer → ℕ) → taken w new ≡ taken w old + received w
+
+abbrev pub nothing : Sum
+nothing w = 0
+
+-- a port that was just opened
+pub record IsFresh (name : ℕ) (p : Port) : Type 0 where
+  pub queue_name : p.queue.name ≡ name
+  pub gate_name : p.gate.name ≡ name
+  pub none_put : (w : Buffer → ℕ) → put_in w p ≡ 0
+  pub none_let : (w : Buffer → ℕ) → let_through w p ≡ 0
+  pub none_taken : (w : Buffer → ℕ) → taken w p ≡ 0
+
+-- what two seats of a queue put in, they got out
+abbrev pub AllOut : SeatInfo (Mark Buffer) → SeatInfo (Mark Buffer) → Type 0
+AllOut a b = (w : Buffer → ℕ) → put_by w a + put_by w b ≡ got_by w a + got_by w b
+
+-- the same buffers, in whatever order
+abbrev pub AreSame : List Buffer → List Buffer → Type 0
+AreSame xs ys = (w : Buffer → ℕ) → sum_by w xs ≡ sum_by w ys

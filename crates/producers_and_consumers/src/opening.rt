@@ -1,0 +1,104 @@
+//! How a channel is opened and closed.
+
+ghost use Rattle.std.specs.Prelude.{◌≡◌, ◌≢◌, IfSome, IsTrue};
+ghost use Rattle.fak_queue.specs.Queues.{IsIdleSeat};
+ghost use Rattle.fak_sem.specs.Semaphores.{queue_part};
+ghost use Rattle.producers_and_consumers.specs.Passing.{AllOut, IsFresh, IsPort};
+
+use crate::channel::{Buffer, Channel, Port};
+use fak_model::laws::queue::a_queue_weighs_what_was_put;
+use fak_queue::{Queue, Seat, Tally};
+use fak_sem::{SemSeat, SemTally, Semaphore};
+use std::alloc::Global;
+
+/// The cells of the queue, and those of the gate's wait queue.
+const CELLS: u64 = 64;
+
+/// The calls of each seat, more than a run makes.
+const STINT: u64 = 1 << 40;
+
+/// An empty channel and its two ports.
+pub fn open_channel(alloc: Global, room: u64) -> Option<(Channel, Port, Port)>
+    ensures ports { IfSome result (λ r. IsPort r.0.queue.object r.0.gate.object r.1 × IsPort r.0.queue.object r.0.gate.object r.2) }
+    ensures fresh { IfSome result (λ r. IsFresh 1 r.1 × IsFresh 0 r.2) }
+{
+    let Ok((queue, mut seats)) = Queue::<Buffer>::open(alloc, CELLS, 2, STINT) else {
+        return None;
+    };
+    let Ok((gate, mut gates)) = Semaphore::<Buffer>::open(alloc, room, CELLS, 2, STINT) else {
+        return None;
+    };
+    let (Some(a), Some(b)) = (seats.pop(), seats.pop()) else {
+        return None;
+    };
+    let (Some(first), Some(second)) = (gates.pop(), gates.pop()) else {
+        return None;
+    };
+    let channel = Channel { queue, gate };
+    let a = Port {
+        queue: a,
+        gate: first,
+    };
+    let b = Port {
+        queue: b,
+        gate: second,
+    };
+    Some((channel, a, b))
+}
+
+/// Closes the queue, and tells whether both seats are back and nothing is left in it.
+fn queue_is_empty(queue: Queue<Buffer>, a: Seat<Buffer>, b: Seat<Buffer>) -> bool
+    requires seats { IsIdleSeat queue.object a × IsIdleSeat queue.object b }
+    requires apart { b.name ≢ a.name }
+    ensures { IsTrue result → AllOut a b }
+{
+    a_queue_weighs_what_was_put::<Buffer>();
+    let tally = queue.join(Tally::of(a), b);
+    let whole = tally.is_whole();
+    if !whole {
+        return false;
+    }
+    match queue.close(tally).next() {
+        None => true,
+        Some(_) => false,
+    }
+}
+
+/// Closes the gate, and tells whether both seats are back and nothing is held back.
+fn gate_is_empty(gate: Semaphore<Buffer>, a: SemSeat<Buffer>, b: SemSeat<Buffer>) -> bool
+    requires seats { (a.object ≡ gate.object) × (b.object ≡ gate.object) }
+    requires apart { b.name ≢ a.name }
+    ensures { IsTrue result → AllOut (queue_part a) (queue_part b) }
+{
+    a_queue_weighs_what_was_put::<Buffer>();
+    let tally = gate.join(SemTally::of(a), b);
+    let whole = tally.is_whole();
+    if !whole {
+        return false;
+    }
+    match gate.close(tally).next() {
+        None => true,
+        Some(_) => false,
+    }
+}
+
+/// Closes the channel, and tells whether nothing is left in it.
+pub fn is_empty(channel: Channel, a: Port, b: Port) -> bool
+    requires ports { IsPort channel.queue.object channel.gate.object a × IsPort channel.queue.object channel.gate.object b }
+    requires apart { (b.queue.name ≢ a.queue.name) × (b.gate.name ≢ a.gate.name) }
+    ensures { IsTrue result → AllOut a.queue b.queue × AllOut (queue_part a.gate) (queue_part b.gate) }
+{
+    let Channel { queue, gate } = channel;
+    let Port {
+        queue: first,
+        gate: first_gate,
+    } = a;
+    let Port {
+        queue: second,
+        gate: second_gate,
+    } = b;
+    if !queue_is_empty(queue, first, second) {
+        return false;
+    }
+    gate_is_empty(gate, first_gate, second_gate)
+}

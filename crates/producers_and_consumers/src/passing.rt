@@ -1,0 +1,105 @@
+//! A producer and a consumer, each in a thread of its own.
+
+ghost use Rattle.std.specs.Prelude.{◌≡◌, [], IfSome, IsTrue};
+ghost use Rattle.std.specs.List.{sum_by};
+ghost use Rattle.producers_and_consumers.specs.Passing.{AreSame, IsPort, Moves, nothing};
+
+use crate::channel::{Buffer, Channel, Port};
+use crate::opening::{is_empty, open_channel};
+use std::alloc::Global;
+use std::sync::Wait;
+use std::thread::{Threads, join};
+
+/// Sends all buffers. Tells whether none was lost.
+fn produce<R: Wait>(rt: &R, channel: &Channel, mut port: Port, buffers: Vec<Buffer>) -> (Port, bool)
+    requires { IsPort channel.now.queue.object channel.now.gate.object port }
+    ensures port { IsPort channel.now.queue.object channel.now.gate.object result.0 }
+    ensures sent { IsTrue result.1 → Moves (λ w. sum_by w buffers.items) nothing port result.0 }
+{
+    for buffer in buffers {
+        if !port.send(rt, channel, buffer) {
+            return (port, false);
+        }
+    }
+    (port, true)
+}
+
+/// Receives so many buffers, into this list. Tells whether none was lost.
+fn consume<R: Wait>(
+    rt: &R,
+    channel: &Channel,
+    mut port: Port,
+    count: usize,
+    mut into: Vec<Buffer>,
+) -> (Port, Vec<Buffer>, bool)
+    requires port { IsPort channel.now.queue.object channel.now.gate.object port }
+    requires empty { into.items ≡ [] }
+    ensures port { IsPort channel.now.queue.object channel.now.gate.object result.0 }
+    ensures received { IsTrue result.2 → Moves nothing (λ w. sum_by w result.1.items) port result.0 }
+{
+    for _ in 0..count {
+        let Some(buffer) = port.receive(rt, channel) else {
+            return (port, into, false);
+        };
+        let Ok(()) = into.push(buffer) else {
+            return (port, into, false);
+        };
+        if !port.make_room(rt, channel) {
+            return (port, into, false);
+        }
+    }
+    (port, into, true)
+}
+
+/// Both at once.
+fn run_both<R: Threads + Wait + Sync>(
+    rt: &R,
+    channel: &Channel,
+    ports: (Port, Port),
+    buffers: Vec<Buffer>,
+    into: Vec<Buffer>,
+) -> ((Port, bool), (Port, Vec<Buffer>, bool))
+    requires first { IsPort channel.now.queue.object channel.now.gate.object ports.0 }
+    requires second { IsPort channel.now.queue.object channel.now.gate.object ports.1 }
+    requires empty { into.items ≡ [] }
+    ensures first { IsPort channel.now.queue.object channel.now.gate.object result.0.0 }
+    ensures second { IsPort channel.now.queue.object channel.now.gate.object result.1.0 }
+    ensures sent { IsTrue result.0.1 → Moves (λ w. sum_by w buffers.items) nothing ports.0 result.0.0 }
+    ensures received { IsTrue result.1.2 → Moves nothing (λ w. sum_by w result.1.1.items) ports.1 result.1.0 }
+{
+    let (a, b) = ports;
+    let count = buffers.len();
+    join(
+        rt,
+        move || -> (Port, bool)
+            requires { IsPort channel.now.queue.object channel.now.gate.object a }
+            ensures port { IsPort channel.entry.now.queue.object channel.entry.now.gate.object result.0 }
+            ensures sent { IsTrue result.1 → Moves (λ w. sum_by w buffers.items) nothing a result.0 }
+        { produce(rt, channel, a, buffers) },
+        move || -> (Port, Vec<Buffer>, bool)
+            requires { IsPort channel.now.queue.object channel.now.gate.object b × (into.items ≡ []) }
+            ensures port { IsPort channel.entry.now.queue.object channel.entry.now.gate.object result.0 }
+            ensures received { IsTrue result.2 → Moves nothing (λ w. sum_by w result.1.items) b result.0 }
+        { consume(rt, channel, b, count, into) },
+    )
+}
+
+/// Sends all buffers from one thread and receives them in another, with so many on their way at once. What is received is
+/// what was sent.
+///
+/// None where there was no memory, or `room` is above 4,294,967,296.
+pub fn pass<R: Threads + Wait + Sync>(
+    rt: &R,
+    alloc: Global,
+    buffers: Vec<Buffer>,
+    room: u64,
+) -> Option<Vec<Buffer>>
+    ensures { IfSome result (λ received. AreSame received.items buffers.items) }
+{
+    let (channel, a, b) = open_channel(alloc, room)?;
+    let ((a, sent), (b, received, all)) = run_both(rt, &channel, (a, b), buffers, Vec::new(alloc));
+    if !sent || !all || !is_empty(channel, a, b) {
+        return None;
+    }
+    Some(received)
+}
