@@ -54,4 +54,5 @@ pub mod Answering
 pub mod Alone
 pub mod SortedAlike
 pub mod SchedulerWeights
+pub mod SchedulerEnds
 pub mod SchedulerNames

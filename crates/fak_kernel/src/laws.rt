@@ -1,6 +1,6 @@
 //! Laws of the list scheduler, and of what the processors of a run leave together.
 
-ghost use Rattle.std.specs.Prelude.{◌≡◌, [], ◌∷◌, ℕ, List};
+ghost use Rattle.std.specs.Prelude.{◌≡◌, ◌≤◌, [], ◌∷◌, ℕ, List};
 ghost use Rattle.fak_text.specs.Script.{ScriptOf};
 ghost use Rattle.fak_kernel.specs.Files.{free_entry};
 ghost use Rattle.fak_kernel.specs.ListScheduler.{EndsIn, Lists};
@@ -26,6 +26,11 @@ pub fn the_list_scheduler_ends_known_scripts()
 /// The list scheduler ends a script in one way at most.
 pub fn the_list_scheduler_ends_in_one_way()
     ensures { (script : ScriptOf) (a b : Lists) → EndsIn script a → EndsIn script b → a ≡ b }
+{}
+
+/// The list scheduler ends every script whose turns have at least one step.
+pub fn the_list_scheduler_ends_every_script()
+    ensures { (script : ScriptOf) → 1 ≤ script.quantum → (lists : Lists) × EndsIn script lists }
 {}
 
 /// The names in the list scheduler's report are distinct, so a script has one report.
