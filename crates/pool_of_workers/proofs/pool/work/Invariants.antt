@@ -6,8 +6,7 @@ use Rattle.pool_of_workers.proofs.pool.work.Given as goal
 -- the seat has got the leap years counted so far, no more than it has drawn tickets
 abbrev pub invariant-loop : goal.invariant-loop
 invariant-loop g l =
-    (goal.iterator-loop g).can_next l.iterator' × (goal.iterator-loop g).is_finite l.iterator'
-    × Stands l.queue.object l.fn.seat.name 0 l.leap_years l.seat
+    Stands l.queue.object l.fn.seat.name 0 l.leap_years l.seat
     × (l.seat.stint ≡ 2 ^ 40)
     × (l.leap_years ≤ drawn_by l.seat)
     × (l.leap_years ≤ 2 ^ 40)
