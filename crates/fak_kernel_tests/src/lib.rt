@@ -3,6 +3,10 @@
 //! processors, whose reports a plain checker of what a run conserves judges.
 #![tactic(auto)]
 
+mod draws;
+
+pub use draws::Draws;
+
 #[cfg(test)]
 mod gates;
 #[cfg(test)]

@@ -2,7 +2,8 @@
 
 use super::gates::{Holding, Meeting, Refusing};
 use super::judge::broken_promise;
-use super::scripting::{Draws, drawn_script};
+use super::scripting::drawn_script;
+use crate::Draws;
 use fak_kernel::{Fault, FreeGate, Gate, report_text, run};
 use fak_text::{Script, read_script};
 use std::alloc::Global;

@@ -1,28 +1,8 @@
 //! Small scripts that are drawn at random, by a fixed beginning.
 
+use crate::Draws;
 use std::alloc::Global;
 use std::test::Fail;
-
-/// A row of numbers that a beginning fixes.
-#[derive(Drop)]
-pub(super) struct Draws {
-    state: u64,
-}
-
-impl Draws {
-    /// The row that begins here; not at 0.
-    pub(super) fn new(seed: u64) -> Draws {
-        Draws { state: seed }
-    }
-
-    /// The next number, below the bound where that is not 0.
-    pub(super) fn below(&mut self, bound: u64) -> u64 {
-        let a = self.state ^ (self.state << 13);
-        let b = a ^ (a >> 7);
-        self.state = b ^ (b << 17);
-        (self.state >> 11).checked_rem(bound).unwrap_or(0)
-    }
-}
 
 /// How much of each there is.
 #[derive(Clone, Copy, Drop)]

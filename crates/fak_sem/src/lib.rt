@@ -1,3 +1,5 @@
+#![tactic(auto)]
+
 //! Counting semaphores whose waiting items stand in a wait queue, by fetch-and-add over the queue of A. Gottlieb, B. D.
 //! Lubachevsky and L. Rudolph (ACM TOPLAS 5(2), 1983): a down subtracts 1 and passes where it found at least 1, else its item
 //! is parked; an up adds 1 and wakes one parked item where it found less than 0.
@@ -11,7 +13,6 @@
 //! - To cite: `Downs`, `Ups`, `CountsDown`, `CountsUp` (`specs/Semaphores.antt`), and `IsSettled` at the close.
 //!
 //! `docs/CALLING.md` is the guide for callers.
-#![tactic(auto)]
 
 mod ending;
 pub mod fault;
