@@ -4,7 +4,6 @@
 pub mod call;
 pub mod fault;
 pub mod laws;
-mod limits;
 pub mod line;
 pub mod queue;
 pub mod room;

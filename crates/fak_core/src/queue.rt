@@ -19,9 +19,8 @@ mod words;
 
 use crate::call::QueueCall;
 use crate::fault::CoreFault;
-use crate::limits::MOST_SEATS;
 use crate::line::Line;
-use fak_model::Mark;
+use fak_model::{LARGEST_SIZE, MOST_SEATS, Mark};
 use lines::line_of;
 use marks::{item_put, keep_mark};
 use phase::Phase;
@@ -29,9 +28,6 @@ use std::alloc::Global;
 use std::marker::Model;
 use step::QueueMove;
 use words::QueueWords;
-
-/// The largest number of cells.
-const LARGEST_SIZE: u64 = 4096;
 
 /// A bounded queue of numbers over plain data.
 ///

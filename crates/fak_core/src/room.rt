@@ -13,16 +13,12 @@ mod tests;
 
 use crate::call::RoomCall;
 use crate::fault::CoreFault;
-use crate::limits::MOST_SEATS;
 use crate::line::Line;
-use fak_model::RoomMark;
+use fak_model::{LARGEST_BOUND, MOST_SEATS, RoomMark};
 use moves::{add_mark, first_phase_of, line_mark_of, move_of};
 use phase::{CoreSeat, RoomPhase};
 use std::alloc::Global;
 use std::marker::Model;
-
-/// The largest bound of a room.
-const LARGEST_BOUND: u64 = 4_294_967_296;
 
 /// A room over plain data: a count from 0 up that claims raise while it stays within the bound.
 ///

@@ -17,7 +17,7 @@ use Rattle.fak_model.proofs.Resting.{rest_after, rest_none}
 use Rattle.fak_model.proofs.Seats.{begins_self}
 use Rattle.fak_model.proofs.RunningCalls.{token_names, token_left, token_slots, step_appends, token_after, step_before}
 use Rattle.fak_count.specs.declared.credits.key.CreditKey.{CreditKey}
-use Rattle.fak_count.specs.Words.{bias}
+use Rattle.fak_model.specs.Words.{bias}
 use Rattle.fak_count.specs.CreditShown.{CreditMine, credit_mark, credit_object, FoundValue, MadeMark, Observed}
 use Rattle.fak_count.specs.Credits.{CreditInfo, credit_info, seat_of, credit_seat, MakesCall, Observes}
 

@@ -18,7 +18,8 @@ use Rattle.fak_model.proofs.CreditLaw.{every_history}
 use Rattle.fak_model.proofs.RunningSteps.{AreLawful, Advances, steps, observes}
 use Rattle.fak_model.proofs.RunningSeats.{starts, hears}
 use Rattle.fak_count.specs.declared.credits.key.CreditKey.{CreditKey}
-use Rattle.fak_count.specs.Words.{bias, KeepsCount}
+use Rattle.fak_model.specs.Words.{bias}
+use Rattle.fak_count.specs.Words.{count_place, KeepsCount}
 use Rattle.fak_count.specs.CreditShown.{CreditSight, CreditMine, credit_mark, credit_object, opened_credit, IsShownCredit, FoundValue, MadeMark, Observed, HeardJoin}
 use Rattle.fak_count.specs.Opening.{IsInRange}
 use Rattle.fak_count.proofs.Words.{writes, added, subtracted}
@@ -59,7 +60,7 @@ module _ (key : CreditKey) (s : State (Unit {0}) CreditSight) (r : IsShownCredit
   same_name other e = cc (one, e)
 
   -- the word is far from its ends
-  word_fits : (1 ≤ slice_index s.words 15) × (slice_index s.words 15 < 2 ^ 63)
+  word_fits : (1 ≤ slice_index s.words count_place) × (slice_index s.words count_place < 2 ^ 63)
   word_fits =
       let is = r.encoded.count_is in
       let low = r.reached.0 in
@@ -68,54 +69,54 @@ module _ (key : CreditKey) (s : State (Unit {0}) CreditSight) (r : IsShownCredit
       let made = all_made r.core in
       (omega (arith, ints, is, low, few, drawn, made), omega (arith, ints, is, low, few, drawn, made))
 
-  found_now : FoundValue key (slice_index s.words 15) r.core
+  found_now : FoundValue key (slice_index s.words count_place) r.core
   found_now = (r.encoded.count_is, word_fits.1)
 
   abbrev Outcome : (ℕ → ℕ) → (ℕ → CreditMine → Type 0) → Type 0
-  Outcome f tells = (w : CreditSight) × (a : Act (Unit {0})) × Valid s.homes m.1 a × IsShownCredit key (stepped s 15 (f (slice_index s.words 15)) id m.1 w a) × tells (slice_index s.words 15) (w, carried_after m.1 a)
+  Outcome f tells = (w : CreditSight) × (a : Act (Unit {0})) × Valid s.homes m.1 a × IsShownCredit key (stepped s count_place (f (slice_index s.words count_place)) id m.1 w a) × tells (slice_index s.words count_place) (w, carried_after m.1 a)
 
   advances : (kind : CreditKind) → Advances (credit_object key) r.core name (credit_mark name kind ∷ r.core) (credit_mark name kind ∷ []) tt
   advances kind = record { reached = r.reached; past = refl; own = (refl, tt); stands = tt; others = λ k p ne h. tt }
 
   -- a call that leaves this mark, and the next word
-  calls : (kind : CreditKind) (f : ℕ → ℕ) → 0 < m.0.left → pos (f (slice_index s.words 15)) ≡ pos bias +ℤ value key.start (reverse (credit_mark name kind ∷ r.core))
+  calls : (kind : CreditKind) (f : ℕ → ℕ) → 0 < m.0.left → pos (f (slice_index s.words count_place)) ≡ pos bias +ℤ value key.start (reverse (credit_mark name kind ∷ r.core))
       → Outcome f (MadeMark key kind m)
   calls kind f some_left is =
       let few : suc (length r.core) + (m.0.left - 1) ≤ length r.core + m.0.left = omega (arith, some_left) in
-      let t = steps (credit_object key) s r id name m at one (lawful key) (credit_mark name kind ∷ r.core) (credit_mark name kind ∷ []) tt (advances kind) 15 (f (slice_index s.words 15)) keeps
-      (writes s.words (value key.start (reverse r.core)) (value key.start (reverse (credit_mark name kind ∷ r.core))) (f (slice_index s.words 15)) r.encoded is) (m.0.left - 1) few (FoundValue key (slice_index s.words 15)) found_now in (
+      let t = steps (credit_object key) s r id name m at one (lawful key) (credit_mark name kind ∷ r.core) (credit_mark name kind ∷ []) tt (advances kind) count_place (f (slice_index s.words count_place)) keeps
+      (writes s.words (value key.start (reverse r.core)) (value key.start (reverse (credit_mark name kind ∷ r.core))) (f (slice_index s.words count_place)) r.encoded is) (m.0.left - 1) few (FoundValue key (slice_index s.words count_place)) found_now in (
         sight m.0.names (credit_mark name kind ∷ r.core) tt (m.0.left - 1),
         keeps,
         tt,
         t.0,
-        λ other e. subst (λ (n : ℕ). Leaves (credit_object key) m (credit_mark n kind ∷ []) tt (m.0.left - 1) m.1 (FoundValue key (slice_index s.words 15)) (sight m.0.names (credit_mark name kind ∷ r.core) tt (m.0.left - 1), m.1)) (same_name other e) t.1,
+        λ other e. subst (λ (n : ℕ). Leaves (credit_object key) m (credit_mark n kind ∷ []) tt (m.0.left - 1) m.1 (FoundValue key (slice_index s.words count_place)) (sight m.0.names (credit_mark name kind ∷ r.core) tt (m.0.left - 1), m.1)) (same_name other e) t.1,
       )
 
   debits_by : 0 < m.0.left → Outcome (λ x. (x + (2 ^ 64 - 1)) % 2 ^ 64) (MadeMark key Debit m)
   debits_by some_left = calls Debit (λ x. (x + (2 ^ 64 - 1)) % 2 ^ 64) some_left
-      (subtracted (slice_index s.words 15) 1 (value key.start (reverse r.core)) r.encoded.count_is word_fits.1 word_fits.0 ∙ ap (λ v. pos bias +ℤ v) (sym (value_debit key.start name r.core)))
+      (subtracted (slice_index s.words count_place) 1 (value key.start (reverse r.core)) r.encoded.count_is word_fits.1 word_fits.0 ∙ ap (λ v. pos bias +ℤ v) (sym (value_debit key.start name r.core)))
 
   credits_by : 0 < m.0.left → Outcome (λ x. (x + 1) % 2 ^ 64) (MadeMark key Credit m)
   credits_by some_left = calls Credit (λ x. (x + 1) % 2 ^ 64) some_left
-      (added (slice_index s.words 15) 1 (value key.start (reverse r.core)) r.encoded.count_is word_fits.1 (omega arith) ∙ ap (λ v. pos bias +ℤ v) (sym (value_credit key.start name r.core)))
+      (added (slice_index s.words count_place) 1 (value key.start (reverse r.core)) r.encoded.count_is word_fits.1 (omega arith) ∙ ap (λ v. pos bias +ℤ v) (sym (value_credit key.start name r.core)))
 
   observes_by : m.0.phase ≡ Some tt → Outcome (λ x. x) (Observed key m)
   observes_by phase =
-      let t = observes (credit_object key) s r id name m at one (lawful key) tt phase 15 (FoundValue key (slice_index s.words 15)) found_now in
+      let t = observes (credit_object key) s r id name m at one (lawful key) tt phase count_place (FoundValue key (slice_index s.words count_place)) found_now in
       (sight m.0.names r.core tt m.0.left, keeps, tt, t.0, λ other e. t.1)
 
 module _ (key : CreditKey) (slots id name : ℕ) (m : CreditMine) (one : m.0.names ≡ name ∷ []) where
-  pub debits_allowed : 0 < m.0.left → Allows (IsShownCredit key) slots id m 15 (λ x. (x + (2 ^ 64 - 1)) % 2 ^ 64) (MadeMark key Debit m)
+  pub debits_allowed : 0 < m.0.left → Allows (IsShownCredit key) slots id m count_place (λ x. (x + (2 ^ 64 - 1)) % 2 ^ 64) (MadeMark key Debit m)
   debits_allowed some_left s r wide at small = debits_by key s r id name m at one some_left
 
-  pub credits_allowed : 0 < m.0.left → Allows (IsShownCredit key) slots id m 15 (λ x. (x + 1) % 2 ^ 64) (MadeMark key Credit m)
+  pub credits_allowed : 0 < m.0.left → Allows (IsShownCredit key) slots id m count_place (λ x. (x + 1) % 2 ^ 64) (MadeMark key Credit m)
   credits_allowed some_left s r wide at small = credits_by key s r id name m at one some_left
 
-  pub observes_allowed : m.0.phase ≡ Some tt → Allows (IsShownCredit key) slots id m 15 (λ x. x) (Observed key m)
+  pub observes_allowed : m.0.phase ≡ Some tt → Allows (IsShownCredit key) slots id m count_place (λ x. x) (Observed key m)
   observes_allowed phase s r wide at small = observes_by key s r id name m at one phase
 
-pub hears_allowed : (key : CreditKey) (slots id : ℕ) (m : CreditMine) → Allows (IsShownCredit key) slots id m 15 (λ x. x) (λ _. HeardJoin key m)
-hears_allowed key slots id m = hears (credit_object key) (lawful key) slots id m 15
+pub hears_allowed : (key : CreditKey) (slots id : ℕ) (m : CreditMine) → Allows (IsShownCredit key) slots id m count_place (λ x. x) (λ _. HeardJoin key m)
+hears_allowed key slots id m = hears (credit_object key) (lawful key) slots id m count_place
 
 -- ---- opening
 

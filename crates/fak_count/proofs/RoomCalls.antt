@@ -22,7 +22,7 @@ use Rattle.fak_model.proofs.RunningCalls.{token_names, mine_after, begins_after,
 use Rattle.fak_core.specs.declared.room.phase.RoomPhase.{RoomPhase}
 use Rattle.fak_core.specs.declared.room.phase.RoomPhase.TheVariants.{Idle, Adding, Backing}
 use Rattle.fak_count.specs.declared.rooms.key.RoomKey.{RoomKey}
-use Rattle.fak_count.specs.Words.{bias}
+use Rattle.fak_model.specs.Words.{bias}
 use Rattle.fak_count.specs.RoomShown.{RoomMine, room_mark, LeavesRoom, Holds, Tested, Added, Lowered}
 use Rattle.fak_count.specs.Rooms.{RoomInfo, room_info, up_weight, grants_of, granted_claims, held_amount, room_seat, MakesCall, Withdraws, IsSettled}
 

@@ -30,7 +30,8 @@ use Rattle.fak_core.proofs.RoomKept.{IsKept}
 use Rattle.fak_core.proofs.RoomReached.{opening_reached, reached_move, reached_begin, reached_kept, reached_shape, reached_count, held_within}
 use Rattle.fak_count.specs.declared.rooms.key.RoomKey.{RoomKey}
 use Rattle.fak_count.specs.Opening.{IsInRange}
-use Rattle.fak_count.specs.Words.{bias, KeepsCount}
+use Rattle.fak_model.specs.Words.{bias}
+use Rattle.fak_count.specs.Words.{count_place, KeepsCount}
 use Rattle.fak_count.specs.RoomShown.{RoomSight, RoomMine, room_mark, IsReachedRoom, StandsInRoom, room_object, IsShownRoom, opened_room, Holds, FoundValue, LeavesRoom, Tested, Added, Lowered, HeardJoin}
 use Rattle.fak_count.proofs.Words.{writes, added, subtracted}
 
@@ -52,7 +53,7 @@ module _ (key : RoomKey) (s : State (Unit {0}) RoomSight) (r : IsShownRoom key s
   kept = reached_kept key.bound key.seats r.core r.reached.reached
 
   -- the word is far from its ends
-  word_fits : (1024 ≤ slice_index s.words 15) × (slice_index s.words 15 < 2 ^ 63)
+  word_fits : (1024 ≤ slice_index s.words count_place) × (slice_index s.words count_place < 2 ^ 63)
   word_fits =
       let is = r.encoded.count_is in
       let low = r.reached.low in
@@ -62,11 +63,11 @@ module _ (key : RoomKey) (s : State (Unit {0}) RoomSight) (r : IsShownRoom key s
       let v_le = v.2 in
       (omega (arith, ints, is, v_is), omega (arith, ints, is, low, few, v_is, v_le))
 
-  found_now : FoundValue (slice_index s.words 15) r.core.past
+  found_now : FoundValue (slice_index s.words count_place) r.core.past
   found_now = r.encoded.count_is ∙ ap (λ v. pos bias +ℤ v) kept.counted
 
   abbrev Outcome : (ℕ → ℕ) → (ℕ → RoomMine → Type 0) → Type 0
-  Outcome f tells = (w : RoomSight) × (a : Act (Unit {0})) × Valid s.homes m.1 a × IsShownRoom key (stepped s 15 (f (slice_index s.words 15)) id m.1 w a) × tells (slice_index s.words 15) (w, carried_after m.1 a)
+  Outcome f tells = (w : RoomSight) × (a : Act (Unit {0})) × Valid s.homes m.1 a × IsShownRoom key (stepped s count_place (f (slice_index s.words count_place)) id m.1 w a) × tells (slice_index s.words count_place) (w, carried_after m.1 a)
 
   -- what the seat has seen has all its marks
   held_seen : amount_held name (reverse r.core.past) ≡ amount_held name (reverse m.0.seen)
@@ -107,21 +108,21 @@ module _ (key : RoomKey) (s : State (Unit {0}) RoomSight) (r : IsShownRoom key s
         let holds : mv.seat.held ≡ amount_held name (reverse (marks_left name mv.mark ++ r.core.past)) = (k.seats name mv.seat seat_after).holds ∙ ap (λ h. amount_held name (reverse (marks_left name mv.mark ++ h))) same in
         omega (arith, shape, low, within, holds)
 
-    goes_on : (f : ℕ → ℕ) → pos (f (slice_index s.words 15)) ≡ pos bias +ℤ mv.count
-        → IsShownRoom key (stepped s 15 (f (slice_index s.words 15)) id m.1 view_after keeps)
-        × Leaves (room_object key) m (marks_left name mv.mark) mv.seat.phase 0 m.1 (FoundValue (slice_index s.words 15)) (view_after, m.1)
-    goes_on f is = steps (room_object key) s r id name m at one (lawful key) after (marks_left name mv.mark) mv.seat.phase advances 15 (f (slice_index s.words 15)) keeps
-        (writes s.words r.core.count mv.count (f (slice_index s.words 15)) r.encoded is) 0 (omega arith) (FoundValue (slice_index s.words 15)) found_now
+    goes_on : (f : ℕ → ℕ) → pos (f (slice_index s.words count_place)) ≡ pos bias +ℤ mv.count
+        → IsShownRoom key (stepped s count_place (f (slice_index s.words count_place)) id m.1 view_after keeps)
+        × Leaves (room_object key) m (marks_left name mv.mark) mv.seat.phase 0 m.1 (FoundValue (slice_index s.words count_place)) (view_after, m.1)
+    goes_on f is = steps (room_object key) s r id name m at one (lawful key) after (marks_left name mv.mark) mv.seat.phase advances count_place (f (slice_index s.words count_place)) keeps
+        (writes s.words r.core.count mv.count (f (slice_index s.words count_place)) r.encoded is) 0 (omega arith) (FoundValue (slice_index s.words count_place)) found_now
 
   -- the count is what was found, less the bias
-  fits_found : (d : ℕ) → fits r.core.bound r.core.count d ≡ true → slice_index s.words 15 + d ≤ bias + key.bound
+  fits_found : (d : ℕ) → fits r.core.bound r.core.count d ≡ true → slice_index s.words count_place + d ≤ bias + key.bound
   fits_found d e =
       let shape = (reached_shape key.bound key.seats r.core r.reached.reached).0 in
       let is = r.encoded.count_is in
       let le : (r.core.count +ℤ pos d) ≤ℤ pos r.core.bound = grind (arith, ints) in
       omega (arith, ints, shape, is, le)
 
-  full_found : (d : ℕ) → fits r.core.bound r.core.count d ≡ false → bias + key.bound < slice_index s.words 15 + d
+  full_found : (d : ℕ) → fits r.core.bound r.core.count d ≡ false → bias + key.bound < slice_index s.words count_place + d
   full_found d e =
       let shape = (reached_shape key.bound key.seats r.core r.reached.reached).0 in
       let is = r.encoded.count_is in
@@ -129,11 +130,11 @@ module _ (key : RoomKey) (s : State (Unit {0}) RoomSight) (r : IsShownRoom key s
       omega (arith, ints, shape, is, lt)
 
   module _ (d : ℕ) (range : (1 ≤ d) × (d ≤ 1024)) where
-    raised : pos ((slice_index s.words 15 + d) % 2 ^ 64) ≡ pos bias +ℤ (r.core.count +ℤ pos d)
-    raised = added (slice_index s.words 15) d r.core.count r.encoded.count_is word_fits.1 range.1
+    raised : pos ((slice_index s.words count_place + d) % 2 ^ 64) ≡ pos bias +ℤ (r.core.count +ℤ pos d)
+    raised = added (slice_index s.words count_place) d r.core.count r.encoded.count_is word_fits.1 range.1
 
-    lowered : pos ((slice_index s.words 15 + (2 ^ 64 - d)) % 2 ^ 64) ≡ pos bias +ℤ (r.core.count -ℤ pos d)
-    lowered = subtracted (slice_index s.words 15) d r.core.count r.encoded.count_is word_fits.1 (let w = word_fits.0 in let few = range.1 in omega (arith, w, few))
+    lowered : pos ((slice_index s.words count_place + (2 ^ 64 - d)) % 2 ^ 64) ≡ pos bias +ℤ (r.core.count -ℤ pos d)
+    lowered = subtracted (slice_index s.words count_place) d r.core.count r.encoded.count_is word_fits.1 (let w = word_fits.0 in let few = range.1 in omega (arith, w, few))
 
     -- ---- a test, with which a claim begins
 
@@ -173,7 +174,7 @@ module _ (key : RoomKey) (s : State (Unit {0}) RoomSight) (r : IsShownRoom key s
             record {
               small = word_fits.1;
               fits = λ other e near. absurd (omega (arith, near, far));
-              full = λ other e far. subst (λ (n : ℕ). LeavesRoom key m (slice_index s.words 15) (room_mark n (No d) ∷ []) Idle (w, m.1)) (same_name other e) t.1;
+              full = λ other e far. subst (λ (n : ℕ). LeavesRoom key m (slice_index s.words count_place) (room_mark n (No d) ∷ []) Idle (w, m.1)) (same_name other e) t.1;
             },
           )
 
@@ -198,7 +199,7 @@ module _ (key : RoomKey) (s : State (Unit {0}) RoomSight) (r : IsShownRoom key s
           let t = goes_on (begun r.core name releasing) releasing (release_move r.core.count at_rest.holding d) reached refl (λ k y ne old. written_stays r.core.seats name k releasing y ne old)
           (written_here r.core.seats name releasing within) refl (λ x. (x + (2 ^ 64 - d)) % 2 ^ 64) lowered in
           let w : RoomSight = sight m.0.names (room_mark name (GivenBack d) ∷ r.core.past) Idle 0 in
-          (w, keeps, tt, t.0, record { small = word_fits.1; leaves = λ other e. subst (λ (n : ℕ). LeavesRoom key m (slice_index s.words 15) (room_mark n (GivenBack d) ∷ []) Idle (w, m.1)) (same_name other e) t.1 })
+          (w, keeps, tt, t.0, record { small = word_fits.1; leaves = λ other e. subst (λ (n : ℕ). LeavesRoom key m (slice_index s.words count_place) (room_mark n (GivenBack d) ∷ []) Idle (w, m.1)) (same_name other e) t.1 })
 
     -- ---- an add
 
@@ -226,7 +227,7 @@ module _ (key : RoomKey) (s : State (Unit {0}) RoomSight) (r : IsShownRoom key s
             t.0,
             record {
               small = word_fits.1;
-              fits = λ other e near. subst (λ (n : ℕ). LeavesRoom key m (slice_index s.words 15) (room_mark n (Up d) ∷ []) Idle (w, m.1) × (amount_held n (reverse (room_mark name (Up d) ∷ r.core.past)) ≤ 4294967296)) (same_name other e) (t.1, held);
+              fits = λ other e near. subst (λ (n : ℕ). LeavesRoom key m (slice_index s.words count_place) (room_mark n (Up d) ∷ []) Idle (w, m.1) × (amount_held n (reverse (room_mark name (Up d) ∷ r.core.past)) ≤ 4294967296)) (same_name other e) (t.1, held);
               full = λ other e far. absurd (omega (arith, near, far));
             },
           )
@@ -244,7 +245,7 @@ module _ (key : RoomKey) (s : State (Unit {0}) RoomSight) (r : IsShownRoom key s
             record {
               small = word_fits.1;
               fits = λ other e near. absurd (omega (arith, near, far));
-              full = λ other e far. subst (λ (n : ℕ). LeavesRoom key m (slice_index s.words 15) (room_mark n (Over d) ∷ []) (Backing d) (w, m.1)) (same_name other e) t.1;
+              full = λ other e far. subst (λ (n : ℕ). LeavesRoom key m (slice_index s.words count_place) (room_mark n (Over d) ∷ []) (Backing d) (w, m.1)) (same_name other e) t.1;
             },
           )
 
@@ -263,23 +264,23 @@ module _ (key : RoomKey) (s : State (Unit {0}) RoomSight) (r : IsShownRoom key s
           let x : CoreSeat = record { held = at_back.holding; phase = Backing d } in
           let t = goes_on r.core x (back_move r.core.count at_back.holding d) r.reached.reached refl (λ k y ne old. old) at_back.seat refl (λ x. (x + (2 ^ 64 - d)) % 2 ^ 64) lowered in
           let w : RoomSight = sight m.0.names (room_mark name (Back d) ∷ r.core.past) Idle 0 in
-          (w, keeps, tt, t.0, record { small = word_fits.1; leaves = λ other e. subst (λ (n : ℕ). LeavesRoom key m (slice_index s.words 15) (room_mark n (Back d) ∷ []) Idle (w, m.1)) (same_name other e) t.1 })
+          (w, keeps, tt, t.0, record { small = word_fits.1; leaves = λ other e. subst (λ (n : ℕ). LeavesRoom key m (slice_index s.words count_place) (room_mark n (Back d) ∷ []) Idle (w, m.1)) (same_name other e) t.1 })
 
 module _ (key : RoomKey) (slots id name d : ℕ) (m : RoomMine) (one : m.0.names ≡ name ∷ []) (range : (1 ≤ d) × (d ≤ 1024)) where
-  pub tests_allowed : m.0.phase ≡ Some Idle → Allows (IsShownRoom key) slots id m 15 (λ x. x) (Tested key d m)
+  pub tests_allowed : m.0.phase ≡ Some Idle → Allows (IsShownRoom key) slots id m count_place (λ x. x) (Tested key d m)
   tests_allowed idle s r wide at small = tests_by key s r id name m at one d range idle (fits r.core.bound r.core.count d) refl
 
-  pub adds_allowed : m.0.phase ≡ Some (Adding d) → Allows (IsShownRoom key) slots id m 15 (λ x. (x + d) % 2 ^ 64) (Added key d m)
+  pub adds_allowed : m.0.phase ≡ Some (Adding d) → Allows (IsShownRoom key) slots id m count_place (λ x. (x + d) % 2 ^ 64) (Added key d m)
   adds_allowed adding s r wide at small = adds_by key s r id name m at one d range adding (fits r.core.bound r.core.count d) refl
 
-  pub backs_allowed : m.0.phase ≡ Some (Backing d) → Allows (IsShownRoom key) slots id m 15 (λ x. (x + (2 ^ 64 - d)) % 2 ^ 64) (Lowered key (Back d) m)
+  pub backs_allowed : m.0.phase ≡ Some (Backing d) → Allows (IsShownRoom key) slots id m count_place (λ x. (x + (2 ^ 64 - d)) % 2 ^ 64) (Lowered key (Back d) m)
   backs_allowed backing s r wide at small = backs_by key s r id name m at one d range backing
 
-  pub releases_allowed : m.0.phase ≡ Some Idle → Holds m.0 d → Allows (IsShownRoom key) slots id m 15 (λ x. (x + (2 ^ 64 - d)) % 2 ^ 64) (Lowered key (GivenBack d) m)
+  pub releases_allowed : m.0.phase ≡ Some Idle → Holds m.0 d → Allows (IsShownRoom key) slots id m count_place (λ x. (x + (2 ^ 64 - d)) % 2 ^ 64) (Lowered key (GivenBack d) m)
   releases_allowed idle enough s r wide at small = releases_by key s r id name m at one d range idle (enough name one)
 
-pub hears_allowed : (key : RoomKey) (slots id : ℕ) (m : RoomMine) → Allows (IsShownRoom key) slots id m 15 (λ x. x) (λ _. HeardJoin key m)
-hears_allowed key slots id m = hears (room_object key) (lawful key) slots id m 15
+pub hears_allowed : (key : RoomKey) (slots id : ℕ) (m : RoomMine) → Allows (IsShownRoom key) slots id m count_place (λ x. x) (λ _. HeardJoin key m)
+hears_allowed key slots id m = hears (room_object key) (lawful key) slots id m count_place
 
 -- ---- opening
 

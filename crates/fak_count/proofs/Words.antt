@@ -3,12 +3,13 @@ use Rattle.std.proofs.Common.{◌≡◌, ℕ, ◌+◌, ◌-◌, ◌%◌, ◌^◌
 use Rattle.std.proofs.lemmas.Int.{ints}
 use Rattle.std.proofs.Math.Nat.{add-mod_left}
 use Rattle.std.proofs.lemmas.List.{get_or-set_same}
-use Rattle.fak_count.specs.Words.{bias, KeepsCount}
+use Rattle.fak_model.specs.Words.{bias}
+use Rattle.fak_count.specs.Words.{count_place, KeepsCount}
 
-pub writes : (ws : List ℕ) (count new : ℤ) (w : ℕ) → KeepsCount count ws → pos w ≡ pos bias +ℤ new → KeepsCount new (set ws 15 w)
+pub writes : (ws : List ℕ) (count new : ℤ) (w : ℕ) → KeepsCount count ws → pos w ≡ pos bias +ℤ new → KeepsCount new (set ws count_place w)
 writes ws count new w k is = record {
-  wide = length-set ws 15 w ∙ k.wide;
-  count_is = ap pos (get_or-set_same ws 15 w 0 (let l = k.wide in omega (arith, l))) ∙ is;
+  wide = length-set ws count_place w ∙ k.wide;
+  count_is = ap pos (get_or-set_same ws count_place w 0 (let l = k.wide in omega (arith, l))) ∙ is;
 }
 
 -- the word after an add, and after a subtraction

@@ -8,7 +8,9 @@ use Rattle.fak_model.specs.Credit.{credit_rules, value}
 use Rattle.fak_model.specs.Views.{opened}
 use Rattle.fak_model.specs.Shown.{Object, IsShown, Leaves, Hears}
 use Rattle.fak_count.specs.declared.credits.key.CreditKey.{CreditKey}
-use Rattle.fak_count.specs.Words.{bias, KeepsCount}
+use Rattle.fak_count.specs.Opening.{IsCount}
+use Rattle.fak_model.specs.Words.{bias}
+use Rattle.fak_count.specs.Words.{KeepsCount}
 
 abbrev pub CreditSight : Type 0
 CreditSight = View CreditMark (Unit {0})
@@ -27,7 +29,7 @@ credit_object key = record {
   tickets = key.seats * key.stint;
   drawn_of = λ past. length past;
   past_of = λ past. past;
-  IsReached = λ past. (key.start ≤ 4294967296) × (key.seats * key.stint ≤ 70368744177664);
+  IsReached = λ past. IsCount key.start × (key.seats * key.stint ≤ 70368744177664);
   StandsAt = λ past name phase. Unit {0};
   Encodes = λ past words homes. KeepsCount (value key.start (reverse past)) words;
 }

@@ -13,7 +13,9 @@ use Rattle.fak_core.specs.declared.room.phase.RoomPhase.TheVariants.{Idle, Addin
 use Rattle.fak_core.specs.Room.{RoomState}
 use Rattle.fak_core.specs.RoomSchedule as core
 use Rattle.fak_count.specs.declared.rooms.key.RoomKey.{RoomKey}
-use Rattle.fak_count.specs.Words.{bias, KeepsCount}
+use Rattle.fak_count.specs.Opening.{IsCount}
+use Rattle.fak_model.specs.Words.{bias}
+use Rattle.fak_count.specs.Words.{KeepsCount}
 
 abbrev pub RoomSight : Type 0
 RoomSight = View RoomMark RoomPhase
@@ -27,7 +29,7 @@ room_mark name kind = record { seat = name; kind = kind }
 -- the core state is reached within the limits of a room
 pub record IsReachedRoom (key : RoomKey) (s : RoomState) : Type 0 where
   pub reached : core.IsReached key.bound key.seats s
-  pub low : key.bound ≤ 4294967296
+  pub low : IsCount key.bound
   pub few : key.seats ≤ 64
 
 -- whatever it holds, the seat stands at this phase

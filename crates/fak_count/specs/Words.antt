@@ -1,11 +1,19 @@
 -- How the words of a table keep a count.
 use Rattle.std.specs.Prelude.{ℕ, ◌≡◌, ℤ, pos, ◌+ℤ◌, List, length, slice_index}
+use Rattle.atomic_table.specs.Seated.{TableId}
+use Rattle.fak_model.specs.Words.{bias}
 
--- a count is kept as so much more: 2^62
-abbrev pub bias : ℕ
-bias = 4611686018427387904
+-- the place of the count among the words, and how many words there are
+abbrev pub count_place : ℕ
+count_place = 16
 
--- the word 15 of 31 keeps the count
+abbrev pub width : ℕ
+width = 33
+
 pub record KeepsCount (count : ℤ) (words : List ℕ) : Type 0 where
-  pub wide : length words ≡ 31
-  pub count_is : pos (slice_index words 15) ≡ pos bias +ℤ count
+  pub wide : length words ≡ width
+  pub count_is : pos (slice_index words count_place) ≡ pos bias +ℤ count
+
+-- a seat's table is this one, of so many words, and it was made with this key
+abbrev pub FitsTable : {K : Type 0} → TableId → TableId → K → K → Type 0
+FitsTable of_seat table key made_with = (of_seat ≡ table) × (table.words ≡ width) × (key ≡ made_with)

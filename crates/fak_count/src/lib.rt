@@ -13,10 +13,10 @@
 //!
 //! `docs/CALLING.md` is the guide for callers.
 
-pub mod credits;
-pub mod fault;
+mod credits;
+mod fault;
 mod limits;
-pub mod rooms;
+mod rooms;
 #[cfg(test)]
 mod tests;
 mod word;

@@ -4,18 +4,19 @@ ghost use Rattle.std.specs.Prelude.{MatchResult};
 ghost use Rattle.fak_count.specs.Opening.{IsInRange, IsRangeFault};
 
 use crate::fault::OpenFault;
+use fak_model::{LARGEST_BOUND, LONGEST_STINT, MOST_SEATS};
 
 /// Tests the bound or start, the number of seats and the stint of an object, in this order.
 pub(crate) fn tested_limits(count: u64, seats: u64, stint: u64) -> Result<(), OpenFault>
     ensures { MatchResult result (λ _. IsInRange count seats stint) (IsRangeFault count seats stint) }
 {
-    if count > 1 << 32 {
+    if count > LARGEST_BOUND {
         return Err(OpenFault::BadSize);
     }
-    if seats == 0 || seats > 64 {
+    if seats == 0 || seats > MOST_SEATS {
         return Err(OpenFault::BadSeats);
     }
-    if stint == 0 || stint > 1 << 40 {
+    if stint == 0 || stint > LONGEST_STINT {
         return Err(OpenFault::BadStint);
     }
     Ok(())

@@ -14,7 +14,8 @@ use Rattle.fak_model.proofs.Deciding.{same_or_not}
 use Rattle.fak_model.proofs.RunningViews.{sees_whole}
 use Rattle.fak_files.specs.declared.phase.FilePhase.{FilePhase}
 use Rattle.fak_files.specs.declared.rule.FileLimits.{FileLimits}
-use Rattle.fak_files.specs.Running.{word_of, IsRunning, Mine}
+use Rattle.fak_files.specs.Words.{word_of}
+use Rattle.fak_files.specs.Running.{IsRunning, Mine}
 use Rattle.fak_files.specs.Versions.{entry_of}
 use Rattle.fak_files.specs.Calls.{entries_after}
 use Rattle.fak_files.specs.Closing.{entry_in}

@@ -15,7 +15,8 @@ use Rattle.fak_model.proofs.RunningCalls.{token_names, appends_then, appends_non
 use Rattle.fak_files.specs.declared.phase.FilePhase.{FilePhase}
 use Rattle.fak_files.specs.declared.phase.FilePhase.TheVariants.{Idle}
 use Rattle.fak_files.specs.declared.rule.FileLimits.{FileLimits}
-use Rattle.fak_files.specs.Running.{bias, Mine, mark, Steps, CountIs}
+use Rattle.fak_model.specs.Words.{bias}
+use Rattle.fak_files.specs.Running.{Mine, mark, Steps, CountIs}
 use Rattle.fak_files.specs.SeatTokens.{Makes, Misses, before_steps}
 
 -- some object of so many seats

@@ -1,5 +1,5 @@
 -- The words and seats of a new file table.
-use Rattle.std.proofs.Common.{◌≡◌, ℕ, ◌+◌, ◌*◌, ◌<◌, ◌≤◌, List, [], ◌∷◌, ◌++◌, length, take, replicate, set, get_or, refl, ap, sym, ◌∙◌, subst, arith}
+use Rattle.std.proofs.Common.{◌≡◌, ℕ, ◌+◌, ◌<◌, ◌≤◌, List, [], ◌∷◌, ◌++◌, length, take, replicate, set, get_or, refl, ap, sym, ◌∙◌, subst, arith}
 use Rattle.std.specs.Prelude.{reverse}
 use Rattle.std.proofs.lemmas.Int.{ints}
 use Rattle.std.proofs.lemmas.List.{get_or-take, get_or-set_other, get_or-replicate, length-take-le}
@@ -16,7 +16,9 @@ use Rattle.fak_model.proofs.RunningJoins.{fresh_token, fresh_next}
 use Rattle.fak_files.specs.declared.phase.FilePhase.TheVariants.{Idle}
 use Rattle.fak_files.specs.declared.phase.Hold.TheVariants.{Nothing}
 use Rattle.fak_files.specs.Phases.{StandsIn}
-use Rattle.fak_files.specs.Running.{bias, word_of, limits, ShowsHistory, file_object, IsRunning, first_view, Mine}
+use Rattle.fak_model.specs.Words.{bias}
+use Rattle.fak_files.specs.Words.{count_place, width, word_of}
+use Rattle.fak_files.specs.Running.{limits, ShowsHistory, file_object, IsRunning, first_view, Mine}
 use Rattle.fak_files.specs.Calls.{FileSeatInfo, file_seat, idle_seats}
 use Rattle.fak_files.specs.SeatTokens.{seat_now, IsFileSeat}
 use Rattle.fak_files.proofs.Words.{word_of-low}
@@ -25,25 +27,25 @@ use Rattle.fak_files.proofs.Words.{word_of-low}
 
 -- the words before they are cut to the table's entries
 abbrev row : ℕ → List ℕ
-row w = set (replicate 64 0) 16 w
+row w = set (replicate (width 16) 0) count_place w
 
-field_zero : (w n entry : ℕ) (f : FileField) → word_of entry f < n → n ≤ 64 → get_or (take n (row w)) (word_of entry f) 0 ≡ 0
+field_zero : (w n entry : ℕ) (f : FileField) → word_of entry f < n → n ≤ width 16 → get_or (take n (row w)) (word_of entry f) 0 ≡ 0
 field_zero w n entry f low few =
     get_or-take n (row w) (word_of entry f) 0 low
-    ∙ (get_or-set_other (replicate 64 0) 16 (word_of entry f) w 0 (λ e. omega (arith, e)) ∙ get_or-replicate 64 (word_of entry f) 0 0 (omega (arith, low, few)))
+    ∙ (get_or-set_other (replicate (width 16) 0) count_place (word_of entry f) w 0 (λ e. omega (arith, e)) ∙ get_or-replicate (width 16) (word_of entry f) 0 0 (omega (arith, low, few)))
 
 -- a table with a count of its seats, and with all entries free
-pub opens : (entries seats : ℕ) → entries ≤ 16 → 1 ≤ seats → seats ≤ 64 → IsRunning (limits entries seats) (opening (take (32 + 2 * entries) (row (bias + seats))) [] (first_view (limits entries seats)))
+pub opens : (entries seats : ℕ) → entries ≤ 16 → 1 ≤ seats → seats ≤ 64 → IsRunning (limits entries seats) (opening (take (width entries) (row (bias + seats))) [] (first_view (limits entries seats)))
 opens entries seats few some most =
-    let shows : ShowsHistory (limits entries seats) [] (take (32 + 2 * entries) (row (bias + seats))) = record {
+    let shows : ShowsHistory (limits entries seats) [] (take (width entries) (row (bias + seats))) = record {
       few_entries = few;
       few_seats = most;
       some_seat = some;
-      wide = let long : length (row (bias + seats)) ≡ 64 = refl in length-take-le (32 + 2 * entries) (row (bias + seats)) (omega (arith, few, long));
-      counted = let found : get_or (take (32 + 2 * entries) (row (bias + seats))) 16 0 ≡ bias + seats = get_or-take (32 + 2 * entries) (row (bias + seats)) 16 0 (omega arith) in omega (arith, ints, found);
-      fields = λ entry f low. field_zero (bias + seats) (32 + 2 * entries) entry f (word_of-low entry entries f low) (omega (arith, few));
+      wide = let long : length (row (bias + seats)) ≡ width 16 = refl in length-take-le (width entries) (row (bias + seats)) (omega (arith, few, long));
+      counted = let found : get_or (take (width entries) (row (bias + seats))) count_place 0 ≡ bias + seats = get_or-take (width entries) (row (bias + seats)) count_place 0 (omega arith) in omega (arith, ints, found);
+      fields = λ entry f low. field_zero (bias + seats) (width entries) entry f (word_of-low entry entries f low) (omega (arith, few));
     } in
-    starts (file_object (limits entries seats)) Idle 0 [] (history_none (file_rules seats)) refl (λ name low. ([], refl)) (take (32 + 2 * entries) (row (bias + seats))) [] shows (omega arith)
+    starts (file_object (limits entries seats)) Idle 0 [] (history_none (file_rules seats)) refl (λ name low. ([], refl)) (take (width entries) (row (bias + seats))) [] shows (omega arith)
 
 -- ---- seats
 

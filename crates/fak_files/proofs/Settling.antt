@@ -1,5 +1,5 @@
 -- What seats of a file table that were joined know.
-use Rattle.std.proofs.Common.{◌≡◌, ℕ, List, [], ◌∷◌, refl, sym, subst, inl, inr}
+use Rattle.std.proofs.Common.{◌≡◌, ℕ, List, [], ◌∷◌, sym, subst, inl, inr}
 use Rattle.fak_model.specs.declared.file.FileMark.{FileMark}
 use Rattle.fak_model.specs.Histories.{words_by, Owes}
 use Rattle.fak_model.specs.File.{seat_of, kind_of, kinds_of_call, file_rules, IsFileHistory}

@@ -27,7 +27,9 @@ use Rattle.fak_files.specs.declared.phase.FilePhase.{FilePhase}
 use Rattle.fak_files.specs.declared.phase.FilePhase.TheVariants.{Idle, Taking, Backing, Holding}
 use Rattle.fak_files.specs.declared.rule.FileLimits.{FileLimits}
 use Rattle.fak_files.specs.Phases.{amount_of, StandsIn}
-use Rattle.fak_files.specs.Running.{bias, word_of, ShowsHistory, file_object, IsRunning, Mine, mark, Steps, CountIs, Tested, Took, Anything, Withdrew, Gave, FieldIs, Got, WasSet, Compared}
+use Rattle.fak_model.specs.Words.{bias}
+use Rattle.fak_files.specs.Words.{count_place, word_of}
+use Rattle.fak_files.specs.Running.{ShowsHistory, file_object, IsRunning, Mine, mark, Steps, CountIs, Tested, Took, Anything, Withdrew, Gave, FieldIs, Got, WasSet, Compared}
 use Rattle.fak_files.proofs.Counts.{count_after, count-push, count_within}
 use Rattle.fak_files.proofs.Grammar.{GoesOn, amounts, refuses, overdraws, withdraws, takes, sets_field, holds_amount, gives_back, stands_other}
 use Rattle.fak_files.proofs.Words.{sub_word, add_word, near_word, words_same, counts_next, fields_next}
@@ -40,14 +42,8 @@ module _ (table : FileLimits) (s : State (Unit {0}) (View FileMark FilePhase)) (
   within : (taken : ℕ) × (count table.seats h +ℤ pos taken ≡ pos table.seats) × (taken ≤ 5000)
   within = count_within table.seats h r.encoded.few_seats r.reached (All-reverse (λ (x : FileMark). x.seat < table.seats) r.core r.named)
 
-  found : ℕ
-  found = slice_index s.words 16
-
-  found_is : pos (slice_index s.words 16) ≡ pos bias +ℤ count table.seats h
-  found_is = r.encoded.counted
-
-  counts : CountIs table.seats (slice_index s.words 16) r.core
-  counts = (r.encoded.counted, near_word (slice_index s.words 16) table.seats within.0 (count table.seats h) r.encoded.counted within.1 r.encoded.few_seats)
+  counts : CountIs table.seats (slice_index s.words count_place) r.core
+  counts = (r.encoded.counted, near_word (slice_index s.words count_place) table.seats within.0 (count table.seats h) r.encoded.counted within.1 r.encoded.few_seats)
 
   small : (access : Access) → amount_of table.seats access ≤ 64
   small Read = omega arith
@@ -99,59 +95,59 @@ module _ (table : FileLimits) (s : State (Unit {0}) (View FileMark FilePhase)) (
   stood p e = stands_now (file_object table) s r id n m at one p e
 
   -- the number at which the words change on the count
-  count_next : (kind : FileKind) (w : ℕ) → ((i : ℕ) (f : FileField) (v : ℕ) → field_after i f v kind ≡ v) → pos w ≡ pos bias +ℤ count_after (count table.seats h) (amount_held n h) kind → ShowsHistory table (h ++ mark n kind ∷ []) (set s.words 16 w)
+  count_next : (kind : FileKind) (w : ℕ) → ((i : ℕ) (f : FileField) (v : ℕ) → field_after i f v kind ≡ v) → pos w ≡ pos bias +ℤ count_after (count table.seats h) (amount_held n h) kind → ShowsHistory table (h ++ mark n kind ∷ []) (set s.words count_place w)
   count_next kind w unset is = counts_next table h s.words r.encoded (mark n kind) w unset (is ∙ ap (λ x. pos bias +ℤ x) (sym (count-push table.seats h (mark n kind))))
 
   module _ (access : Access) where
     abbrev a : ℕ
     a = amount_of table.seats access
 
-    tests_by : m.0.phase ≡ Some Idle → Dec (bias + amount_of table.seats access ≤ slice_index s.words 16) → Step 16 (λ x. x) (Tested table n access m)
+    tests_by : m.0.phase ≡ Some Idle → Dec (bias + amount_of table.seats access ≤ slice_index s.words count_place) → Step count_place (λ x. x) (Tested table n access m)
     tests_by idle (yes fits) =
-        let t = loads (Taking access) 16 (stood Idle idle) (CountIs table.seats (slice_index s.words 16)) counts in
+        let t = loads (Taking access) count_place (stood Idle idle) (CountIs table.seats (slice_index s.words count_place)) counts in
         (after [] (Taking access), keeps, tt, t.0, record { enough = λ _. t.1; less = λ lt. absurd (omega (arith, lt, fits)) })
     tests_by idle (no not) =
         let lt = lt_of_not-le not in
         let kind = No (amount_of table.seats access) in
         let short : count table.seats h <ℤ pos (amount_of table.seats access) = omega (arith, ints, lt, r.encoded.counted) in
         let g = refuses table.seats h r.reached n (amount_of table.seats access) (stood Idle idle) (amounts table.seats h r.reached n access, short) in
-        let t = leaves kind Idle 16 (slice_index s.words 16) g (count_next kind (slice_index s.words 16) (λ i f v. refl) (omega (arith, ints, r.encoded.counted))) (CountIs table.seats (slice_index s.words 16)) counts in
+        let t = leaves kind Idle count_place (slice_index s.words count_place) g (count_next kind (slice_index s.words count_place) (λ i f v. refl) (omega (arith, ints, r.encoded.counted))) (CountIs table.seats (slice_index s.words count_place)) counts in
         (after (mark n kind ∷ []) Idle, keeps, tt, t.0, record { enough = λ fits. absurd (omega (arith, lt, fits)); less = λ _. t.1 })
 
-    less : pos ((slice_index s.words 16 + (2 ^ 64 - amount_of table.seats access)) % 2 ^ 64) ≡ pos bias +ℤ (count table.seats h -ℤ pos (amount_of table.seats access))
-    less = sub_word (slice_index s.words 16) (amount_of table.seats access) table.seats within.0 (count table.seats h) r.encoded.counted within.1 within.2 r.encoded.few_seats (small access)
+    less : pos ((slice_index s.words count_place + (2 ^ 64 - amount_of table.seats access)) % 2 ^ 64) ≡ pos bias +ℤ (count table.seats h -ℤ pos (amount_of table.seats access))
+    less = sub_word (slice_index s.words count_place) (amount_of table.seats access) table.seats within.0 (count table.seats h) r.encoded.counted within.1 within.2 r.encoded.few_seats (small access)
 
-    more : pos ((slice_index s.words 16 + amount_of table.seats access) % 2 ^ 64) ≡ pos bias +ℤ (count table.seats h +ℤ pos (amount_of table.seats access))
-    more = add_word (slice_index s.words 16) (amount_of table.seats access) table.seats within.0 (count table.seats h) r.encoded.counted within.1 within.2 r.encoded.few_seats (small access)
+    more : pos ((slice_index s.words count_place + amount_of table.seats access) % 2 ^ 64) ≡ pos bias +ℤ (count table.seats h +ℤ pos (amount_of table.seats access))
+    more = add_word (slice_index s.words count_place) (amount_of table.seats access) table.seats within.0 (count table.seats h) r.encoded.counted within.1 within.2 r.encoded.few_seats (small access)
 
-    takes_by : m.0.phase ≡ Some (Taking access) → Dec (bias + amount_of table.seats access ≤ slice_index s.words 16) → Step 16 (λ x. (x + (2 ^ 64 - amount_of table.seats access)) % 2 ^ 64) (Took table n access m)
+    takes_by : m.0.phase ≡ Some (Taking access) → Dec (bias + amount_of table.seats access ≤ slice_index s.words count_place) → Step count_place (λ x. (x + (2 ^ 64 - amount_of table.seats access)) % 2 ^ 64) (Took table n access m)
     takes_by taking (yes fits) =
         let kind = Take (amount_of table.seats access) in
         let enough : pos (amount_of table.seats access) ≤ℤ count table.seats h = omega (arith, ints, fits, r.encoded.counted) in
         let g = takes table.seats h r.reached n access (stood (Taking access) taking) (amounts table.seats h r.reached n access, enough) in
-        let t = leaves kind (Holding access) 16 _ g (count_next kind ((slice_index s.words 16 + (2 ^ 64 - amount_of table.seats access)) % 2 ^ 64) (λ i f v. refl) (omega (arith, ints, less))) (CountIs table.seats (slice_index s.words 16)) counts in
+        let t = leaves kind (Holding access) count_place _ g (count_next kind ((slice_index s.words count_place + (2 ^ 64 - amount_of table.seats access)) % 2 ^ 64) (λ i f v. refl) (omega (arith, ints, less))) (CountIs table.seats (slice_index s.words count_place)) counts in
         (after (mark n kind ∷ []) (Holding access), keeps, tt, t.0, record { enough = λ _. t.1; less = λ lt. absurd (omega (arith, lt, fits)) })
     takes_by taking (no not) =
         let lt = lt_of_not-le not in
         let kind = Over (amount_of table.seats access) in
         let short : count table.seats h <ℤ pos (amount_of table.seats access) = omega (arith, ints, lt, r.encoded.counted) in
         let g = overdraws table.seats h r.reached n access (stood (Taking access) taking) (amounts table.seats h r.reached n access, short) in
-        let t = leaves kind (Backing access) 16 _ g (count_next kind ((slice_index s.words 16 + (2 ^ 64 - amount_of table.seats access)) % 2 ^ 64) (λ i f v. refl) (omega (arith, ints, less))) (CountIs table.seats (slice_index s.words 16)) counts in
+        let t = leaves kind (Backing access) count_place _ g (count_next kind ((slice_index s.words count_place + (2 ^ 64 - amount_of table.seats access)) % 2 ^ 64) (λ i f v. refl) (omega (arith, ints, less))) (CountIs table.seats (slice_index s.words count_place)) counts in
         (after (mark n kind ∷ []) (Backing access), keeps, tt, t.0, record { enough = λ fits. absurd (omega (arith, lt, fits)); less = λ _. t.1 })
 
-    withdraws_by : m.0.phase ≡ Some (Backing access) → Step 16 (λ x. (x + amount_of table.seats access) % 2 ^ 64) (λ _. Withdrew table n access m)
+    withdraws_by : m.0.phase ≡ Some (Backing access) → Step count_place (λ x. (x + amount_of table.seats access) % 2 ^ 64) (λ _. Withdrew table n access m)
     withdraws_by backing =
         let kind = Back (amount_of table.seats access) in
         let g = withdraws table.seats h r.reached n access (stood (Backing access) backing) in
-        let t = leaves kind Idle 16 _ g (count_next kind ((slice_index s.words 16 + amount_of table.seats access) % 2 ^ 64) (λ i f v. refl) (omega (arith, ints, more))) Anything tt in
+        let t = leaves kind Idle count_place _ g (count_next kind ((slice_index s.words count_place + amount_of table.seats access) % 2 ^ 64) (λ i f v. refl) (omega (arith, ints, more))) Anything tt in
         (after (mark n kind ∷ []) Idle, keeps, tt, t.0, t.1)
 
-    gives_by : m.0.phase ≡ Some (Holding access) → Step 16 (λ x. (x + amount_of table.seats access) % 2 ^ 64) (λ _. Gave table n m)
+    gives_by : m.0.phase ≡ Some (Holding access) → Step count_place (λ x. (x + amount_of table.seats access) % 2 ^ 64) (λ _. Gave table n m)
     gives_by holding =
         let stands = stood (Holding access) holding in
         let g = gives_back table.seats h r.reached n access stands in
         let held = holds_amount table.seats h r.reached n access stands in
-        let t = leaves Give Idle 16 _ g (count_next Give ((slice_index s.words 16 + amount_of table.seats access) % 2 ^ 64) (λ i f v. refl) (omega (arith, ints, more, held))) Anything tt in
+        let t = leaves Give Idle count_place _ g (count_next Give ((slice_index s.words count_place + amount_of table.seats access) % 2 ^ 64) (λ i f v. refl) (omega (arith, ints, more, held))) Anything tt in
         (after (mark n Give ∷ []) Idle, keeps, tt, t.0, t.1)
 
     gets_by : m.0.phase ≡ Some (Holding access) → (i : ℕ) (f : FileField) → i < table.entries → Step (word_of i f) (λ x. x) (Got table n access i f m)
@@ -174,20 +170,20 @@ module _ (key table : FileLimits) (is : key ≡ table) (slots id n : ℕ) (m : M
   named : (i : ℕ) (f : ℕ → ℕ) (then : ℕ → Mine → Type 0) → Allows (IsRunning table) slots id m i f then → Allows (IsRunning key) slots id m i f then
   named i f then allowed = subst (λ (k : FileLimits). Allows (IsRunning k) slots id m i f then) (sym is) allowed
 
-  pub tests_allowed : (access : Access) → IsSeatToken seat_of table.seats n Idle 0 m → Allows (IsRunning key) slots id m 16 (λ x. x) (Tested table n access m)
-  tests_allowed access token = named 16 (λ x. x) (Tested table n access m) (λ s r wide at fits. tests_by table s r id n m at (token_names token) (token_slots token) token access (token_phase token) (dec_le (bias + amount_of table.seats access) (slice_index s.words 16)))
+  pub tests_allowed : (access : Access) → IsSeatToken seat_of table.seats n Idle 0 m → Allows (IsRunning key) slots id m count_place (λ x. x) (Tested table n access m)
+  tests_allowed access token = named count_place (λ x. x) (Tested table n access m) (λ s r wide at fits. tests_by table s r id n m at (token_names token) (token_slots token) token access (token_phase token) (dec_le (bias + amount_of table.seats access) (slice_index s.words count_place)))
 
-  pub takes_allowed : (access : Access) (amount : ℕ) → amount ≡ amount_of table.seats access → IsSeatToken seat_of table.seats n (Taking access) 0 m → Allows (IsRunning key) slots id m 16 (λ x. (x + (2 ^ 64 - amount)) % 2 ^ 64) (Took table n access m)
-  takes_allowed access amount e token = subst (λ (z : ℕ). Allows (IsRunning key) slots id m 16 (λ x. (x + (2 ^ 64 - z)) % 2 ^ 64) (Took table n access m)) (sym e)
-      (named 16 (λ x. (x + (2 ^ 64 - amount_of table.seats access)) % 2 ^ 64) (Took table n access m) (λ s r wide at fits. takes_by table s r id n m at (token_names token) (token_slots token) token access (token_phase token) (dec_le (bias + amount_of table.seats access) (slice_index s.words 16))))
+  pub takes_allowed : (access : Access) (amount : ℕ) → amount ≡ amount_of table.seats access → IsSeatToken seat_of table.seats n (Taking access) 0 m → Allows (IsRunning key) slots id m count_place (λ x. (x + (2 ^ 64 - amount)) % 2 ^ 64) (Took table n access m)
+  takes_allowed access amount e token = subst (λ (z : ℕ). Allows (IsRunning key) slots id m count_place (λ x. (x + (2 ^ 64 - z)) % 2 ^ 64) (Took table n access m)) (sym e)
+      (named count_place (λ x. (x + (2 ^ 64 - amount_of table.seats access)) % 2 ^ 64) (Took table n access m) (λ s r wide at fits. takes_by table s r id n m at (token_names token) (token_slots token) token access (token_phase token) (dec_le (bias + amount_of table.seats access) (slice_index s.words count_place))))
 
-  pub withdraws_allowed : (access : Access) (amount : ℕ) → amount ≡ amount_of table.seats access → IsSeatToken seat_of table.seats n (Backing access) 0 m → Allows (IsRunning key) slots id m 16 (λ x. (x + amount) % 2 ^ 64) (λ _. Withdrew table n access m)
-  withdraws_allowed access amount e token = subst (λ (z : ℕ). Allows (IsRunning key) slots id m 16 (λ x. (x + z) % 2 ^ 64) (λ _. Withdrew table n access m)) (sym e)
-      (named 16 (λ x. (x + amount_of table.seats access) % 2 ^ 64) (λ _. Withdrew table n access m) (λ s r wide at fits. withdraws_by table s r id n m at (token_names token) (token_slots token) token access (token_phase token)))
+  pub withdraws_allowed : (access : Access) (amount : ℕ) → amount ≡ amount_of table.seats access → IsSeatToken seat_of table.seats n (Backing access) 0 m → Allows (IsRunning key) slots id m count_place (λ x. (x + amount) % 2 ^ 64) (λ _. Withdrew table n access m)
+  withdraws_allowed access amount e token = subst (λ (z : ℕ). Allows (IsRunning key) slots id m count_place (λ x. (x + z) % 2 ^ 64) (λ _. Withdrew table n access m)) (sym e)
+      (named count_place (λ x. (x + amount_of table.seats access) % 2 ^ 64) (λ _. Withdrew table n access m) (λ s r wide at fits. withdraws_by table s r id n m at (token_names token) (token_slots token) token access (token_phase token)))
 
-  pub gives_allowed : (access : Access) (amount : ℕ) → amount ≡ amount_of table.seats access → IsSeatToken seat_of table.seats n (Holding access) 0 m → Allows (IsRunning key) slots id m 16 (λ x. (x + amount) % 2 ^ 64) (λ _. Gave table n m)
-  gives_allowed access amount e token = subst (λ (z : ℕ). Allows (IsRunning key) slots id m 16 (λ x. (x + z) % 2 ^ 64) (λ _. Gave table n m)) (sym e)
-      (named 16 (λ x. (x + amount_of table.seats access) % 2 ^ 64) (λ _. Gave table n m) (λ s r wide at fits. gives_by table s r id n m at (token_names token) (token_slots token) token access (token_phase token)))
+  pub gives_allowed : (access : Access) (amount : ℕ) → amount ≡ amount_of table.seats access → IsSeatToken seat_of table.seats n (Holding access) 0 m → Allows (IsRunning key) slots id m count_place (λ x. (x + amount) % 2 ^ 64) (λ _. Gave table n m)
+  gives_allowed access amount e token = subst (λ (z : ℕ). Allows (IsRunning key) slots id m count_place (λ x. (x + z) % 2 ^ 64) (λ _. Gave table n m)) (sym e)
+      (named count_place (λ x. (x + amount_of table.seats access) % 2 ^ 64) (λ _. Gave table n m) (λ s r wide at fits. gives_by table s r id n m at (token_names token) (token_slots token) token access (token_phase token)))
 
   pub gets_allowed : (access : Access) (i : ℕ) (f : FileField) (place : ℕ) → place ≡ word_of i f → i < table.entries → IsSeatToken seat_of table.seats n (Holding access) 0 m → Allows (IsRunning key) slots id m place (λ x. x) (Got table n access i f m)
   gets_allowed access i f place e low token = subst (λ (z : ℕ). Allows (IsRunning key) slots id m z (λ x. x) (Got table n access i f m)) (sym e)

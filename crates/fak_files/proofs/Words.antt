@@ -1,5 +1,5 @@
 -- The words of a file table after a step.
-use Rattle.std.proofs.Common.{◌≡◌, ◌≢◌, ℕ, ◌+◌, ◌-◌, ◌*◌, ◌%◌, ◌^◌, ◌<◌, ◌≤◌, ◌==◌, Bool, true, false, cond, List, [], ◌∷◌, ◌++◌, refl, ap, sym, ◌∙◌, subst, arith, inl, inr, set, get_or, length, mod-eq_of_lt}
+use Rattle.std.proofs.Common.{◌≡◌, ◌≢◌, ℕ, ◌+◌, ◌-◌, ◌%◌, ◌^◌, ◌<◌, ◌≤◌, ◌==◌, Bool, true, false, cond, List, [], ◌∷◌, ◌++◌, refl, ap, sym, ◌∙◌, subst, arith, inl, inr, set, get_or, length, mod-eq_of_lt}
 use Rattle.std.specs.Prelude.{ℤ, pos, ◌+ℤ◌, ◌-ℤ◌, ◌&&◌}
 use Rattle.std.proofs.Math.Nat.{add-mod_left}
 use Rattle.std.proofs.lemmas.Bool.Decides.{nat_tests}
@@ -12,7 +12,9 @@ use Rattle.fak_model.specs.declared.file.FileMark.{FileMark}
 use Rattle.fak_model.specs.File.{count, same_field, field_after, field_from, field}
 use Rattle.fak_model.proofs.Deciding.{same_or_not}
 use Rattle.fak_files.specs.declared.rule.FileLimits.{FileLimits}
-use Rattle.fak_files.specs.Running.{bias, word_of, ShowsHistory, mark}
+use Rattle.fak_model.specs.Words.{bias}
+use Rattle.fak_files.specs.Words.{count_place, width, word_of}
+use Rattle.fak_files.specs.Running.{ShowsHistory, mark}
 
 -- ---- numbers
 
@@ -27,7 +29,7 @@ add_word w a k taken u e range low few small =
     let fits : w + a < 2 ^ 64 = omega (arith, ints, e, range) in
     ap pos (mod-eq_of_lt fits) ∙ omega (arith, ints, e)
 
-pub near_word : (w k taken : ℕ) (u : ℤ) → pos w ≡ pos bias +ℤ u → u +ℤ pos taken ≡ pos k → k ≤ 64 → w < 9223372036854775808
+pub near_word : (w k taken : ℕ) (u : ℤ) → pos w ≡ pos bias +ℤ u → u +ℤ pos taken ≡ pos k → k ≤ 64 → w < 2 ^ 63
 near_word w k taken u e range few = omega (arith, ints, e, range)
 
 -- ---- fields
@@ -53,7 +55,7 @@ no_field false old new = refl
 
 -- ---- the words
 
-pub word_of-low : (i entries : ℕ) (f : FileField) → i < entries → word_of i f < 32 + 2 * entries
+pub word_of-low : (i entries : ℕ) (f : FileField) → i < entries → word_of i f < width entries
 word_of-low i entries Inode low = omega (arith, low)
 word_of-low i entries Uses low = omega (arith, low)
 
@@ -63,14 +65,14 @@ module _ (table : FileLimits) (h : List FileMark) (words : List ℕ) (shows : Sh
   words_same place = subst (ShowsHistory table h) (sym (set-get_or words place 0)) shows
 
   -- a step on the count that sets no field
-  pub counts_next : (m : FileMark) (w : ℕ) → ((i : ℕ) (f : FileField) (v : ℕ) → field_after i f v m.kind ≡ v) → pos w ≡ pos bias +ℤ count table.seats (h ++ m ∷ []) → ShowsHistory table (h ++ m ∷ []) (set words 16 w)
+  pub counts_next : (m : FileMark) (w : ℕ) → ((i : ℕ) (f : FileField) (v : ℕ) → field_after i f v m.kind ≡ v) → pos w ≡ pos bias +ℤ count table.seats (h ++ m ∷ []) → ShowsHistory table (h ++ m ∷ []) (set words count_place w)
   counts_next m w none is = record {
     few_entries = shows.few_entries;
     few_seats = shows.few_seats;
     some_seat = shows.some_seat;
-    wide = length-set words 16 w ∙ shows.wide;
-    counted = ap pos (get_or-set_same words 16 w 0 (omega (arith, shows.wide))) ∙ is;
-    fields = λ i f low. get_or-set_other words 16 (word_of i f) w 0 (λ e. omega (arith, e)) ∙ (shows.fields i f low ∙ sym (field-push h m i f ∙ none i f (field h i f)));
+    wide = length-set words count_place w ∙ shows.wide;
+    counted = ap pos (get_or-set_same words count_place w 0 (omega (arith, shows.wide))) ∙ is;
+    fields = λ i f low. get_or-set_other words count_place (word_of i f) w 0 (λ e. omega (arith, e)) ∙ (shows.fields i f low ∙ sym (field-push h m i f ∙ none i f (field h i f)));
   }
 
   within : (i : ℕ) (f : FileField) → i < table.entries → word_of i f < length words
@@ -103,6 +105,6 @@ module _ (table : FileLimits) (h : List FileMark) (words : List ℕ) (shows : Sh
     few_seats = shows.few_seats;
     some_seat = shows.some_seat;
     wide = length-set words (word_of i f) v ∙ shows.wide;
-    counted = ap pos (get_or-set_other words (word_of i f) 16 v 0 (λ e. omega (arith, e))) ∙ (shows.counted ∙ ap (λ n. pos bias +ℤ n) (sym same));
+    counted = ap pos (get_or-set_other words (word_of i f) count_place v 0 (λ e. omega (arith, e))) ∙ (shows.counted ∙ ap (λ n. pos bias +ℤ n) (sym same));
     fields = λ j g near. each_entry i v f low j g near ∙ sym (field-push h (mark name (Set i f v)) j g);
   }

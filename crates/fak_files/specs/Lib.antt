@@ -1,4 +1,5 @@
 pub mod Phases
+pub mod Words
 pub mod Running
 pub mod Versions
 pub mod Calls

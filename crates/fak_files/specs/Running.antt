@@ -1,9 +1,8 @@
 -- What a running file table shows between any two atomic steps, and what each kind of step tells.
-use Rattle.std.specs.Prelude.{ℕ, ◌≡◌, ◌+◌, ◌*◌, ◌<◌, ◌≤◌, List, [], ◌∷◌, length, reverse, slice_index_or, pos, ◌+ℤ◌}
+use Rattle.std.specs.Prelude.{ℕ, ◌≡◌, ◌+◌, ◌^◌, ◌<◌, ◌≤◌, List, [], ◌∷◌, length, reverse, slice_index_or, pos, ◌+ℤ◌}
 use Rattle.atomic_table.specs.Table.{State, Me}
 use Rattle.fak_model.specs.declared.view.View.{View}
 use Rattle.fak_model.specs.declared.file.FileField.{FileField}
-use Rattle.fak_model.specs.declared.file.FileField.TheVariants.{Inode, Uses}
 use Rattle.fak_model.specs.declared.file.FileKind.{FileKind}
 use Rattle.fak_model.specs.declared.file.FileKind.TheVariants.{Take, Over, Back, No, Set, Give}
 use Rattle.fak_model.specs.declared.file.FileMark.{FileMark}
@@ -18,29 +17,19 @@ use Rattle.fak_files.specs.declared.phase.FilePhase.{FilePhase}
 use Rattle.fak_files.specs.declared.phase.FilePhase.TheVariants.{Idle, Taking, Backing, Holding}
 use Rattle.fak_files.specs.declared.rule.FileLimits.{FileLimits}
 use Rattle.fak_files.specs.Phases.{amount_of, StandsIn}
+use Rattle.fak_model.specs.Words.{bias}
+use Rattle.fak_files.specs.Words.{count_place, width, word_of}
 
 abbrev pub limits : ℕ → ℕ → FileLimits
 limits entries seats = record { entries = entries; seats = seats }
 
--- the word of the count has this much more
-abbrev pub bias : ℕ
-bias = 4611686018427387904
-
--- the word of a field
-abbrev pub offset_of : FileField → ℕ
-offset_of Inode = 0
-offset_of Uses = 1
-
-abbrev pub word_of : ℕ → FileField → ℕ
-word_of entry f = 32 + 2 * entry + offset_of f
-
--- the words after a history: its count in word 16, and its fields from word 32 on
+-- the words after a history show its count and its fields
 pub record ShowsHistory (table : FileLimits) (h : List FileMark) (words : List ℕ) : Type 0 where
   pub few_entries : table.entries ≤ 16
   pub few_seats : table.seats ≤ 64
   pub some_seat : 1 ≤ table.seats
-  pub wide : length words ≡ 32 + 2 * table.entries
-  pub counted : pos (slice_index_or words 16 0) ≡ pos bias +ℤ count table.seats h
+  pub wide : length words ≡ width table.entries
+  pub counted : pos (slice_index_or words count_place 0) ≡ pos bias +ℤ count table.seats h
   pub fields : (entry : ℕ) (f : FileField) → entry < table.entries → slice_index_or words (word_of entry f) 0 ≡ field h entry f
 
 -- a file table: its state is its history, newest mark first, and each seat stands where its marks say
@@ -77,7 +66,7 @@ pub record Steps (table : FileLimits) (name : ℕ) (m : Mine) (new : List FileMa
 
 -- the word that was found is that of the count
 abbrev pub CountIs : ℕ → ℕ → List FileMark → Type 0
-CountIs k found past = (pos found ≡ pos bias +ℤ count k (reverse past)) × (found < 9223372036854775808)
+CountIs k found past = (pos found ≡ pos bias +ℤ count k (reverse past)) × (found < 2 ^ 63)
 
 -- a step whose subtraction may take the amount, or not
 pub record Decided (table : FileLimits) (name : ℕ) (access : Access) (granted : List FileMark) (refused : List FileMark) (next other : FilePhase) (m : Mine) (found : ℕ) (after : Mine) : Type 0 where

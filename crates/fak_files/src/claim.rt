@@ -1,16 +1,18 @@
 //! Test-decrement-retest on the count: a claim of a hold.
 
-ghost use Rattle.std.specs.Prelude.{◌≡◌, ◌+◌, ◌*◌, [], ◌∷◌, ◌≤◌, MatchResult};
+ghost use Rattle.std.specs.Prelude.{◌≡◌, [], ◌∷◌, ◌≤◌, MatchResult};
 ghost use Rattle.fak_model.specs.File.{seat_of};
 ghost use Rattle.fak_model.specs.Tokens.{IsSeatToken};
 ghost use Rattle.fak_model.specs.declared.file.FileKind.TheVariants.{Take};
 ghost use Rattle.fak_files.specs.Phases.{amount_of};
 ghost use Rattle.fak_files.specs.SeatTokens.{Makes, Misses};
+ghost use Rattle.fak_files.specs.Words.{FitsTable};
 ghost use Rattle.fak_files.specs.declared.phase.FilePhase.TheVariants.{Idle, Holding};
 
 use crate::phase::Access;
 use crate::rule::FileCall;
-use crate::step::{BIAS, FileToken, FileWords, count_of, take, test, withdraw};
+use crate::step::{FileToken, FileWords, take, test, withdraw};
+use fak_model::{BIAS, count_of};
 
 /// Takes the amount of a hold where the count has it, and answers the count where it does not.
 pub(crate) fn claim<J: FileCall>(
@@ -19,7 +21,7 @@ pub(crate) fn claim<J: FileCall>(
     amount: u64,
     access: Access,
 ) -> Result<(), i64>
-    requires table { (token.old.table_id ≡ words.now.table_id) × (words.now.table_id.words ≡ 32 + 2 * words.now.key.entries) × (words.now.key ≡ J.table) }
+    requires table { FitsTable token.old.table_id words.now.table_id words.now.key J.table }
     requires amount { (amount ≡ amount_of J.table.seats J.access) × (access ≡ J.access) }
     requires few { J.table.seats ≤ 64 }
     requires seat { IsSeatToken seat_of J.table.seats J.name Idle 0 token.old.me }

@@ -27,6 +27,7 @@ mod tally;
 #[cfg(test)]
 mod tests;
 mod wait;
+mod word;
 
 pub use fak_model::{FileEntry, FileField};
 pub use fault::{FileFault, OpenFault, Worn};

@@ -3,20 +3,36 @@
 ghost use Rattle.std.specs.Prelude.{◌≡◌, MatchResult};
 ghost use Rattle.fak_model.specs.Calls.{fresh_seats};
 ghost use Rattle.fak_files.specs.Calls.{idle_seats};
-ghost use Rattle.fak_files.specs.Opening.{IsInRange, IsOpenFault};
+ghost use Rattle.fak_files.specs.Opening.{IsInRange, IsOpenFault, IsRangeFault};
 
 use crate::fault::OpenFault;
 use crate::phase::Hold;
 use crate::rule::FileLimits;
 use crate::seat::FileSeat;
-use crate::step::{BIAS, COUNT};
 use crate::table::FileTable;
+use crate::word::{COUNT, FIELDS, MOST_ENTRIES};
 use atomic_table::Table;
-use fak_model::Deal;
+use fak_model::{BIAS, Deal, LONGEST_STINT, MOST_SEATS};
 use std::alloc::Global;
 
-/// How many words there are for 16 entries.
-const WORDS: usize = 64;
+/// How many words there are for the most entries.
+const WORDS: usize = FIELDS + 2 * MOST_ENTRIES;
+
+// Tests the number of entries, the number of seats and the stint, in this order.
+fn tested_limits(entries: u64, seats: u64, stint: u64) -> Result<(), OpenFault>
+    ensures { MatchResult result (λ _. IsInRange entries seats stint) (IsRangeFault entries seats stint) }
+{
+    if entries == 0 || entries > MOST_ENTRIES as u64 {
+        return Err(OpenFault::BadSize);
+    }
+    if seats == 0 || seats > MOST_SEATS {
+        return Err(OpenFault::BadSeats);
+    }
+    if stint == 0 || stint > LONGEST_STINT {
+        return Err(OpenFault::BadStint);
+    }
+    Ok(())
+}
 
 impl FileTable {
     /// A table of free entries, with its seats, each of which may have `stint` holds.
@@ -32,23 +48,14 @@ impl FileTable {
             (λ r. IsInRange entries seats stint × (r.0.entries ≡ entries) × (r.0.object.seats ≡ seats) × (r.1.items ≡ idle_seats (fresh_seats r.0.object stint 0 seats)))
             (IsOpenFault entries seats stint) }
     {
-        if entries == 0 || entries > 16 {
-            return Err(OpenFault::BadSize);
-        }
-        if seats == 0 || seats > 64 {
-            return Err(OpenFault::BadSeats);
-        }
-        if stint == 0 || stint > 1 << 40 {
-            return Err(OpenFault::BadStint);
+        if let Err(fault) = tested_limits(entries, seats, stint) {
+            return Err(fault);
         }
         let mut words = [0; WORDS];
         words[COUNT] = BIAS + seats;
         let limits = FileLimits { entries, seats };
-        let Ok((table, mut rest)) = Table::of_words(
-            alloc,
-            &words[..32 + 2 * entries as usize],
-            &limits,
-        ) else {
+        let words = &words[..FIELDS + 2 * entries as usize];
+        let Ok((table, mut rest)) = Table::of_words(alloc, words, &limits) else {
             return Err(OpenFault::Memory);
         };
         let Ok(mut dealt) = Vec::with_capacity(alloc, seats as usize) else {

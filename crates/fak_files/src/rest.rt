@@ -1,6 +1,6 @@
 //! What is left of a file table that was closed.
 
-ghost use Rattle.std.specs.Prelude.{◌≡◌, ◌<◌, ◌≤◌, ◌+◌, ◌*◌, ℕ, length, slice_get, Some, replicate};
+ghost use Rattle.std.specs.Prelude.{◌≡◌, ◌<◌, ◌≤◌, ℕ, length, slice_get, Some, replicate};
 ghost use Rattle.std.specs.Slots.{slots_items, slots_len, IsFull};
 ghost use Rattle.fak_model.specs.Histories.{AreNamed, IsAtRest};
 ghost use Rattle.fak_model.specs.File.{IsFileHistory, file_rules};
@@ -8,10 +8,11 @@ ghost use Rattle.fak_model.specs.Seats.{IsWhole};
 ghost use Rattle.fak_files.specs.Calls.{entries_after};
 ghost use Rattle.fak_files.specs.Closing.{entry_in};
 ghost use Rattle.fak_files.specs.Versions.{entry_of};
+ghost use Rattle.fak_files.specs.Words.{width};
 
-use crate::step::place_of;
 use crate::table::FileTable;
 use crate::tally::FileTally;
+use crate::word::{MOST_ENTRIES, place_of};
 use atomic_table::Closed;
 use fak_model::{FileEntry, FileField};
 use std::alloc::Global;
@@ -20,7 +21,7 @@ use std::marker::Model;
 /// The entries of a file table that was closed.
 #[derive(Drop)]
 pub struct FileRest {
-    entries: [FileEntry; 16],
+    entries: [FileEntry; MOST_ENTRIES],
     count: u64,
 }
 
@@ -47,11 +48,11 @@ impl FileRest {
 }
 
 // The entries that the words of a closed table show.
-fn entries_of(closed: &Closed<(), Global>, count: u64) -> [FileEntry; 16]
-    requires words { IsFull closed.now.words × (slots_len closed.now.words ≡ 32 + 2 * count) × (count ≤ 16) }
+fn entries_of(closed: &Closed<(), Global>, count: u64) -> [FileEntry; MOST_ENTRIES]
+    requires words { IsFull closed.now.words × (slots_len closed.now.words ≡ width count) × (count ≤ 16) }
     ensures { (i : ℕ) → i < count → slice_get result i ≡ Some (entry_in (slots_items closed.now.words) i) }
 {
-    let mut entries = [FileEntry { inode: 0, uses: 0 }; 16];
+    let mut entries = [FileEntry { inode: 0, uses: 0 }; MOST_ENTRIES];
     for i in 0..count {
         entries[i as usize] = FileEntry {
             inode: closed.word(place_of(i, FileField::Inode)),

@@ -1,9 +1,11 @@
 //! Each atomic step of a seat on the words of a file table.
-ghost use Rattle.std.specs.Prelude.{◌≡◌, ◌+◌, ◌*◌, ◌<◌, ◌≤◌, pos, ◌+ℤ◌};
+
+ghost use Rattle.std.specs.Prelude.{◌≡◌, ◌<◌, ◌≤◌};
 ghost use Rattle.fak_model.specs.Tokens.{IsSeatToken};
 ghost use Rattle.fak_model.specs.File.{seat_of};
 ghost use Rattle.fak_files.specs.Phases.{amount_of};
-ghost use Rattle.fak_files.specs.Running.{bias, word_of, Tested, Took, Withdrew, Gave, Got, WasSet, Compared};
+ghost use Rattle.fak_files.specs.Running.{Tested, Took, Withdrew, Gave, Got, WasSet, Compared};
+ghost use Rattle.fak_files.specs.Words.{FitsTable};
 ghost use Rattle.fak_files.specs.declared.phase.Access.TheVariants.{Write};
 ghost use Rattle.fak_files.specs.declared.phase.FilePhase.TheVariants.{Idle, Taking, Backing, Holding};
 
@@ -11,6 +13,7 @@ use crate::phase::Access;
 use crate::rule::{
     Compares, FileCall, FileLaw, FileLimits, FileView, Gets, Gives, Sets, Takes, Tests, Withdraws,
 };
+use crate::word::{COUNT, place_of};
 use atomic_table::{Seat, Shared};
 use fak_model::FileField;
 
@@ -20,22 +23,6 @@ pub(crate) type FileWords = Shared<(), FileView, FileLimits, FileLaw>;
 /// A seat's right to make steps on them.
 pub(crate) type FileToken = Seat<(), FileView>;
 
-/// The word of the count has this much more than the count.
-pub(crate) const BIAS: u64 = 1 << 62;
-
-/// The place of the count among the words. The 16 words before it stay unused, and the fields stand from word 32 on, so
-/// that neither a field nor what lies before the table shares a line of 128 bytes or less with the count, wherever the
-/// table lies.
-pub(crate) const COUNT: usize = 16;
-
-/// The count that a word shows.
-pub(crate) fn count_of(found: u64) -> i64
-    requires { found < 9223372036854775808 }
-    ensures { pos found ≡ pos bias +ℤ result }
-{
-    found as i64 - BIAS as i64
-}
-
 /// Loads the count, before a hold.
 pub(crate) fn test<J: FileCall>(
     words: &FileWords,
@@ -43,7 +30,7 @@ pub(crate) fn test<J: FileCall>(
     amount: u64,
     _access: Access,
 ) -> u64
-    requires table { (token.old.table_id ≡ words.now.table_id) × (words.now.table_id.words ≡ 32 + 2 * words.now.key.entries) × (words.now.key ≡ J.table) }
+    requires table { FitsTable token.old.table_id words.now.table_id words.now.key J.table }
     requires amount { (amount ≡ amount_of J.table.seats J.access) × (_access ≡ J.access) }
     requires seat { IsSeatToken seat_of J.table.seats J.name Idle 0 token.old.me }
     ensures same { token.new.table_id ≡ token.old.table_id }
@@ -59,7 +46,7 @@ pub(crate) fn take<J: FileCall>(
     amount: u64,
     _access: Access,
 ) -> u64
-    requires table { (token.old.table_id ≡ words.now.table_id) × (words.now.table_id.words ≡ 32 + 2 * words.now.key.entries) × (words.now.key ≡ J.table) }
+    requires table { FitsTable token.old.table_id words.now.table_id words.now.key J.table }
     requires amount { (amount ≡ amount_of J.table.seats J.access) × (_access ≡ J.access) }
     requires seat { IsSeatToken seat_of J.table.seats J.name (Taking J.access) 0 token.old.me }
     ensures same { token.new.table_id ≡ token.old.table_id }
@@ -75,7 +62,7 @@ pub(crate) fn withdraw<J: FileCall>(
     amount: u64,
     _access: Access,
 )
-    requires table { (token.old.table_id ≡ words.now.table_id) × (words.now.table_id.words ≡ 32 + 2 * words.now.key.entries) × (words.now.key ≡ J.table) }
+    requires table { FitsTable token.old.table_id words.now.table_id words.now.key J.table }
     requires amount { (amount ≡ amount_of J.table.seats J.access) × (_access ≡ J.access) }
     requires seat { IsSeatToken seat_of J.table.seats J.name (Backing J.access) 0 token.old.me }
     ensures same { token.new.table_id ≡ token.old.table_id }
@@ -91,25 +78,13 @@ pub(crate) fn give<J: FileCall>(
     amount: u64,
     _access: Access,
 )
-    requires table { (token.old.table_id ≡ words.now.table_id) × (words.now.table_id.words ≡ 32 + 2 * words.now.key.entries) × (words.now.key ≡ J.table) }
+    requires table { FitsTable token.old.table_id words.now.table_id words.now.key J.table }
     requires amount { (amount ≡ amount_of J.table.seats J.access) × (_access ≡ J.access) }
     requires seat { IsSeatToken seat_of J.table.seats J.name (Holding J.access) 0 token.old.me }
     ensures same { token.new.table_id ≡ token.old.table_id }
     ensures told { Gave J.table J.name token.old.me token.new.me }
 {
     words.fetch_add::<Gives<J>>(token, COUNT, amount);
-}
-
-/// The place of a field among the words.
-pub(crate) fn place_of(entry: u64, field: FileField) -> usize
-    requires { entry < 16 }
-    ensures { result ≡ word_of entry field }
-{
-    let offset = match field {
-        FileField::Inode => 0,
-        FileField::Uses => 1,
-    };
-    32 + 2 * entry as usize + offset
 }
 
 /// Loads a field, in a hold.
@@ -120,7 +95,7 @@ pub(crate) fn get_field<J: FileCall>(
     entry: u64,
     field: FileField,
 ) -> u64
-    requires table { (token.old.table_id ≡ words.now.table_id) × (words.now.table_id.words ≡ 32 + 2 * words.now.key.entries) × (words.now.key ≡ J.table) }
+    requires table { FitsTable token.old.table_id words.now.table_id words.now.key J.table }
     requires field { (entry ≡ J.entry) × (field ≡ J.field) × (entry < J.table.entries) × (J.table.entries ≤ 16) }
     requires access { _access ≡ J.access }
     requires seat { IsSeatToken seat_of J.table.seats J.name (Holding J.access) 0 token.old.me }
@@ -138,7 +113,7 @@ pub(crate) fn set_field<J: FileCall>(
     field: FileField,
     to: u64,
 )
-    requires table { (token.old.table_id ≡ words.now.table_id) × (words.now.table_id.words ≡ 32 + 2 * words.now.key.entries) × (words.now.key ≡ J.table) }
+    requires table { FitsTable token.old.table_id words.now.table_id words.now.key J.table }
     requires field { (entry ≡ J.entry) × (field ≡ J.field) × (to ≡ J.to) × (entry < J.table.entries) × (J.table.entries ≤ 16) }
     requires seat { IsSeatToken seat_of J.table.seats J.name (Holding Write) 0 token.old.me }
     ensures same { token.new.table_id ≡ token.old.table_id }
@@ -149,7 +124,7 @@ pub(crate) fn set_field<J: FileCall>(
 
 /// The load after a join, which tells what the join compared.
 pub(crate) fn compare<J: FileCall>(words: &FileWords, token: &mut FileToken)
-    requires table { (token.old.table_id ≡ words.now.table_id) × (words.now.table_id.words ≡ 32 + 2 * words.now.key.entries) × (words.now.key ≡ J.table) }
+    requires table { FitsTable token.old.table_id words.now.table_id words.now.key J.table }
     ensures same { token.new.table_id ≡ token.old.table_id }
     ensures told { Compared J.table token.old.me token.new.me }
 {

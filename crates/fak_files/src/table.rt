@@ -25,15 +25,16 @@ pub struct FileTable {
 }
 
 impl Model for FileTable {
-    ghost use Rattle.std.specs.Prelude.{◌≡◌, ◌+◌, ◌*◌, ◌≤◌};
+    ghost use Rattle.std.specs.Prelude.{◌≡◌, ◌≤◌};
     ghost use Rattle.fak_model.specs.Calls.{object_id};
     ghost use Rattle.fak_files.specs.Calls.{FileTableInfo, table_info};
+    ghost use Rattle.fak_files.specs.Words.{width};
 
     ghost Value = { FileTableInfo };
 
     ghost view = { λ t. table_info (object_id t.table.shared.table_id t.table.shared.key.seats) t.entries };
 
-    ghost invariant = { λ t. (t.table.shared.key.entries ≡ t.entries) × (t.table.shared.table_id.words ≡ 32 + 2 * t.entries) × (t.table.shared.table_id.slots ≡ 0) × (t.entries ≤ 16) };
+    ghost invariant = { λ t. (t.table.shared.key.entries ≡ t.entries) × (t.table.shared.table_id.words ≡ width t.entries) × (t.table.shared.table_id.slots ≡ 0) × (t.entries ≤ 16) };
 }
 
 impl FileTable {

@@ -10,6 +10,7 @@ pub mod Credit
 pub mod File
 pub mod Weights
 pub mod Views
+pub mod Words
 pub mod Shown
 pub mod Calls
 pub mod Tokens

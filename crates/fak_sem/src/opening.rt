@@ -11,6 +11,7 @@ use crate::fault::OpenFault;
 use crate::seat::SemSeat;
 use crate::semaphore::Semaphore;
 use fak_count::{Credit, CreditSeat};
+use fak_model::LARGEST_SIZE;
 use fak_queue::{Queue, Seat};
 use std::alloc::{AllocError, Global};
 
@@ -24,7 +25,7 @@ fn opened_credit(
 ) -> Result<(Credit, Vec<CreditSeat>), OpenFault>
     ensures { MatchResult result (λ r. IsInRange start size seats stint × (r.0.start ≡ start) × (r.0.object.seats ≡ seats) × (r.1.items ≡ fresh_seats r.0.object stint 0 seats)) (IsOpenFault start size seats stint) }
 {
-    if size == 0 || size > 4096 {
+    if size == 0 || size > LARGEST_SIZE {
         return Err(OpenFault::BadSize);
     }
     match Credit::open(alloc, start, seats, stint) {

@@ -15,9 +15,9 @@ use crate::credits::steps::{credit_step, debit_step, hear_step, observe_step};
 use crate::credits::tally::CreditTally;
 use crate::fault::{OpenFault, Worn};
 use crate::limits::tested_limits;
-use crate::word::{BIAS, COUNT, WORDS, count_of};
+use crate::word::{COUNT, WORDS};
 use atomic_table::Table;
-use fak_model::{Both, Deal};
+use fak_model::{BIAS, Both, Deal, count_of};
 use std::alloc::Global;
 use std::marker::{Brand, Model};
 
@@ -31,12 +31,13 @@ impl Model for Credit {
     ghost use Rattle.std.specs.Prelude.{◌≡◌};
     ghost use Rattle.fak_model.specs.Calls.{object_id};
     ghost use Rattle.fak_count.specs.Credits.{CreditInfo, credit_info};
+    ghost use Rattle.fak_count.specs.Words.{width};
 
     ghost Value = { CreditInfo };
 
     ghost view = { λ c. credit_info (object_id c.table.shared.table_id c.table.shared.key.seats) c.table.shared.key.start };
 
-    ghost invariant = { λ c. c.table.shared.table_id.words ≡ 31 };
+    ghost invariant = { λ c. c.table.shared.table_id.words ≡ width };
 }
 
 impl Credit {
@@ -87,13 +88,12 @@ impl Credit {
         ensures object { seat.new.object ≡ seat.old.object }
         ensures call { MatchResult result (MakesCall Debit self.now seat.old seat.new) (λ _. IsWorn seat.old seat.new) }
     {
-        let worn = seat.left == 0;
-        if worn {
+        if seat.left == 0 {
             return Err(Worn);
         }
-        let before = debit_step::<Brand>(&self.table.shared, &mut seat.token);
+        let found = debit_step::<Brand>(&self.table.shared, &mut seat.token);
         seat.left -= 1;
-        Ok(count_of(before))
+        Ok(count_of(found))
     }
 
     /// Adds 1, and answers the value before.
@@ -102,8 +102,7 @@ impl Credit {
         ensures object { seat.new.object ≡ seat.old.object }
         ensures call { MatchResult result (MakesCall Credited self.now seat.old seat.new) (λ _. IsWorn seat.old seat.new) }
     {
-        let spent = seat.left == 0;
-        if spent {
+        if seat.left == 0 {
             return Err(Worn);
         }
         let found = credit_step::<Brand>(&self.table.shared, &mut seat.token);

@@ -3,15 +3,14 @@
 ghost use Rattle.std.specs.Prelude.{◌≡◌, ◌+◌};
 ghost use Rattle.fak_count.specs.Credits.{calls_made};
 
-use crate::credits::key::CreditView;
-use atomic_table::Seat;
+use crate::credits::steps::CreditToken;
 use std::marker::Model;
 
 /// The right to debit and credit a `Credit`, as often as its stint says. Contracts see its object, its name, its
 /// stint and the history that it has seen.
 #[derive(Drop)]
 pub struct CreditSeat {
-    pub(crate) token: Seat<(), CreditView>,
+    pub(crate) token: CreditToken,
     pub(crate) name: u64,
     pub(crate) seats: u64,
     pub(crate) left: u64,

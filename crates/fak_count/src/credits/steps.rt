@@ -4,62 +4,57 @@ ghost use Rattle.std.specs.Prelude.{◌≡◌, ◌<◌, Some};
 ghost use Rattle.fak_model.specs.declared.credit.CreditKind.TheVariants.{Debit, Credit};
 ghost use Rattle.fak_model.specs.Views.{HasOneName};
 ghost use Rattle.fak_count.specs.CreditShown.{MadeMark, Observed, HeardJoin};
+ghost use Rattle.fak_count.specs.Words.{FitsTable};
 
 use crate::credits::key::{CreditKey, CreditView};
 use crate::credits::law::{CreditLaw, Credits, Debits, Hears, Observes, OfCredit};
 use crate::word::COUNT;
 use atomic_table::{Seat, Shared};
 
+/// The words of a credit.
+pub(crate) type CreditWords = Shared<(), CreditView, CreditKey, CreditLaw>;
+
+/// A seat's right to make steps on them.
+pub(crate) type CreditToken = Seat<(), CreditView>;
+
 /// Subtracts 1.
-pub fn debit_step<J: OfCredit>(
-    shared: &Shared<(), CreditView, CreditKey, CreditLaw>,
-    token: &mut Seat<(), CreditView>,
-) -> u64
-    requires table { (token.old.table_id ≡ shared.now.table_id) × (shared.now.table_id.words ≡ 31) × (shared.now.key ≡ J.key) }
+pub(crate) fn debit_step<J: OfCredit>(words: &CreditWords, token: &mut CreditToken) -> u64
+    requires table { FitsTable token.old.table_id words.now.table_id words.now.key J.key }
     requires seat { HasOneName token.old.me.0 }
     requires left { 0 < token.old.me.0.left }
     ensures same { token.new.table_id ≡ token.old.table_id }
-    ensures told { MadeMark shared.now.key Debit token.old.me result token.new.me }
+    ensures told { MadeMark words.now.key Debit token.old.me result token.new.me }
 {
-    shared.fetch_sub::<Debits<J>>(token, COUNT, 1)
+    words.fetch_sub::<Debits<J>>(token, COUNT, 1)
 }
 
 /// Adds 1.
-pub fn credit_step<J: OfCredit>(
-    shared: &Shared<(), CreditView, CreditKey, CreditLaw>,
-    token: &mut Seat<(), CreditView>,
-) -> u64
-    requires table { (token.old.table_id ≡ shared.now.table_id) × (shared.now.table_id.words ≡ 31) × (shared.now.key ≡ J.key) }
+pub(crate) fn credit_step<J: OfCredit>(words: &CreditWords, token: &mut CreditToken) -> u64
+    requires table { FitsTable token.old.table_id words.now.table_id words.now.key J.key }
     requires seat { HasOneName token.old.me.0 }
     requires left { 0 < token.old.me.0.left }
     ensures same { token.new.table_id ≡ token.old.table_id }
-    ensures told { MadeMark shared.now.key Credit token.old.me result token.new.me }
+    ensures told { MadeMark words.now.key Credit token.old.me result token.new.me }
 {
-    shared.fetch_add::<Credits<J>>(token, COUNT, 1)
+    words.fetch_add::<Credits<J>>(token, COUNT, 1)
 }
 
 /// Loads the count.
-pub fn observe_step<J: OfCredit>(
-    shared: &Shared<(), CreditView, CreditKey, CreditLaw>,
-    token: &mut Seat<(), CreditView>,
-) -> u64
-    requires table { (token.old.table_id ≡ shared.now.table_id) × (shared.now.table_id.words ≡ 31) × (shared.now.key ≡ J.key) }
+pub(crate) fn observe_step<J: OfCredit>(words: &CreditWords, token: &mut CreditToken) -> u64
+    requires table { FitsTable token.old.table_id words.now.table_id words.now.key J.key }
     requires seat { HasOneName token.old.me.0 }
     requires phase { token.old.me.0.phase ≡ Some tt }
     ensures same { token.new.table_id ≡ token.old.table_id }
-    ensures told { Observed shared.now.key token.old.me result token.new.me }
+    ensures told { Observed words.now.key token.old.me result token.new.me }
 {
-    shared.load::<Observes<J>>(token, COUNT)
+    words.load::<Observes<J>>(token, COUNT)
 }
 
 /// Loads the count after a join, which tells what the join compared.
-pub fn hear_step<J: OfCredit>(
-    shared: &Shared<(), CreditView, CreditKey, CreditLaw>,
-    token: &mut Seat<(), CreditView>,
-)
-    requires table { (token.old.table_id ≡ shared.now.table_id) × (shared.now.table_id.words ≡ 31) × (shared.now.key ≡ J.key) }
+pub(crate) fn hear_step<J: OfCredit>(words: &CreditWords, token: &mut CreditToken)
+    requires table { FitsTable token.old.table_id words.now.table_id words.now.key J.key }
     ensures same { token.new.table_id ≡ token.old.table_id }
-    ensures told { HeardJoin shared.now.key token.old.me token.new.me }
+    ensures told { HeardJoin words.now.key token.old.me token.new.me }
 {
-    shared.load::<Hears<J>>(token, COUNT);
+    words.load::<Hears<J>>(token, COUNT);
 }

@@ -7,9 +7,8 @@ ghost use Rattle.fak_model.specs.Seats.{IsWhole, mine};
 ghost use Rattle.fak_model.specs.Calls.{tally_of};
 ghost use Rattle.fak_count.specs.Credits.{seat_of};
 
-use crate::credits::key::CreditView;
 use crate::credits::seat::CreditSeat;
-use atomic_table::Seat;
+use crate::credits::steps::CreditToken;
 use fak_model::NameSet;
 use std::marker::Model;
 
@@ -17,7 +16,7 @@ use std::marker::Model;
 /// and the longest history that one of them has seen.
 #[derive(Drop)]
 pub struct CreditTally {
-    pub(crate) token: Seat<(), CreditView>,
+    pub(crate) token: CreditToken,
     pub(crate) names: NameSet,
     pub(crate) seats: u64,
 }

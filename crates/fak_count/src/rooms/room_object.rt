@@ -15,9 +15,9 @@ use crate::rooms::law::RoomLaw;
 use crate::rooms::seat::RoomSeat;
 use crate::rooms::steps::{add_step, back_step, hear_step, release_step, test_step};
 use crate::rooms::tally::RoomTally;
-use crate::word::{BIAS, COUNT, WORDS, count_of};
+use crate::word::{COUNT, WORDS};
 use atomic_table::Table;
-use fak_model::{Both, Deal};
+use fak_model::{BIAS, Both, Deal, count_of};
 use std::alloc::Global;
 use std::marker::{Brand, Model};
 
@@ -30,15 +30,17 @@ pub struct Room {
 }
 
 impl Model for Room {
-    ghost use Rattle.std.specs.Prelude.{◌≡◌, ◌≤◌};
+    ghost use Rattle.std.specs.Prelude.{◌≡◌};
     ghost use Rattle.fak_model.specs.Calls.{object_id};
+    ghost use Rattle.fak_count.specs.Opening.{IsCount};
     ghost use Rattle.fak_count.specs.Rooms.{RoomInfo, room_info};
+    ghost use Rattle.fak_count.specs.Words.{width};
 
     ghost Value = { RoomInfo };
 
     ghost view = { λ r. room_info (object_id r.table.shared.table_id r.table.shared.key.seats) r.table.shared.key.bound };
 
-    ghost invariant = { λ r. (r.table.shared.table_id.words ≡ 31) × (r.bound ≡ r.table.shared.key.bound) × (r.bound ≤ 4294967296) };
+    ghost invariant = { λ r. (r.table.shared.table_id.words ≡ width) × (r.bound ≡ r.table.shared.key.bound) × IsCount r.bound };
 }
 
 impl Room {
@@ -87,8 +89,7 @@ impl Room {
         ensures call { MatchResult result (IsGranted d self.now seat.old seat.new) (IsRefused d self.now seat.old seat.new) }
         ensures held { held_amount seat.new ≡ held_amount seat.old + (if is_ok result then d else 0) }
     {
-        let worn = seat.left == 0;
-        if worn {
+        if seat.left == 0 {
             return Err(TirFault::Worn);
         }
         let limit = BIAS + self.bound;

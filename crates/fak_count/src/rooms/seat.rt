@@ -3,15 +3,14 @@
 ghost use Rattle.std.specs.Prelude.{◌≡◌, ◌+◌};
 ghost use Rattle.fak_count.specs.Rooms.{granted_claims, held_amount};
 
-use crate::rooms::key::RoomView;
-use atomic_table::Seat;
+use crate::rooms::steps::RoomToken;
 use std::marker::Model;
 
 /// The right to claim of a `Room`, and to give back what it holds. As many claims are granted as its stint says.
 /// Contracts see its object, its name, its stint and the history that it has seen.
 #[derive(Drop)]
 pub struct RoomSeat {
-    pub(crate) token: Seat<(), RoomView>,
+    pub(crate) token: RoomToken,
     pub(crate) name: u64,
     pub(crate) seats: u64,
     pub(crate) left: u64,

@@ -6,9 +6,8 @@ ghost use Rattle.fak_model.specs.Seats.{IsWhole, mine};
 ghost use Rattle.fak_model.specs.Calls.{tally_of};
 ghost use Rattle.fak_model.specs.Room.{IsRoomHistory, amount_held, room_rules, seat_of, value};
 
-use crate::rooms::key::RoomView;
 use crate::rooms::seat::RoomSeat;
-use atomic_table::Seat;
+use crate::rooms::steps::RoomToken;
 use fak_model::NameSet;
 use std::marker::Model;
 
@@ -16,7 +15,7 @@ use std::marker::Model;
 /// and the longest history that one of them has seen.
 #[derive(Drop)]
 pub struct RoomTally {
-    pub(crate) token: Seat<(), RoomView>,
+    pub(crate) token: RoomToken,
     pub(crate) names: NameSet,
     pub(crate) seats: u64,
 }

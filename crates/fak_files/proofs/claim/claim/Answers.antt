@@ -9,7 +9,7 @@ pub returns-then-tested-amount-clause-made : goal.returns-then-tested-amount-cla
 returns-then-tested-amount-clause-made g c =
     let amount = c.requires.amount.0 in
     let less = c.if-tested-amount.true in
-    let is = c.count_of.ensures in
+    let is = c.count_of.ensures.sum in
     misses_test g.J.FileCall.table g.J.FileCall.name _ c.test-tested.result _ c.requires.seat (c.test-tested.ensures.told.less (omega (arith, amount, less))) (omega (arith, ints, is))
 
 pub returns-then-found-amount-clause-made : goal.returns-then-found-amount-clause-made
@@ -17,7 +17,7 @@ returns-then-found-amount-clause-made g c =
     let amount = c.requires.amount.0 in
     let enough = c.if-tested-amount.false in
     let less = c.if-found-amount.true in
-    let is = c.count_of-then-found-amount.ensures in
+    let is = c.count_of-then-found-amount.ensures.sum in
     misses_take g.J.FileCall.table g.J.FileCall.name _ c.take-found.result _ c.requires.seat (c.test-tested.ensures.told.enough (omega (arith, amount, enough))) (c.take-found.ensures.told.less (omega (arith, amount, less))) c.withdraw.ensures.told (omega (arith, ints, is))
 
 pub returns-clause-made : goal.returns-clause-made

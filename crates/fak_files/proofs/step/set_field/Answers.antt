@@ -1,5 +1,5 @@
 use Rattle.std.proofs.Common.{◌∙◌, ap, arith, subst, ◌<◌}
-use Rattle.fak_files.specs.Running.{word_of}
+use Rattle.fak_files.specs.Words.{word_of}
 use Rattle.fak_files.proofs.StepKinds.{sets_allowed}
 use Rattle.fak_files.proofs.Words.{word_of-low}
 use Rattle.fak_files.proofs.step.set_field.Goals as goal

@@ -3,4 +3,4 @@ use Rattle.fak_count.proofs.RoomSteps.{hears_allowed}
 use Rattle.fak_count.proofs.rooms.steps.hear_step.Goals as goal
 
 pub load-requires : goal.load-requires
-load-requires g c = (c.requires.0, search (rules, c.requires.1), rw (← c.requires.2) (hears_allowed _ _ _ _))
+load-requires g c = (c.requires.table.0, search (rules, c.requires.table.1), rw (← c.requires.table.2) (hears_allowed _ _ _ _))

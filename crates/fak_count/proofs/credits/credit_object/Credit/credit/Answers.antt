@@ -11,7 +11,7 @@ pub credit_step-found-requires-clause-seat : goal.credit_step-found-requires-cla
 credit_step-found-requires-clause-seat c = token_name c.seat.invariant
 
 pub credit_step-found-requires-clause-left : goal.credit_step-found-requires-clause-left
-credit_step-found-requires-clause-left c = let left = token_left c.seat.invariant in let some_left = c.if-spent.false in omega (arith, left, some_left)
+credit_step-found-requires-clause-left c = let left = token_left c.seat.invariant in let some_left = c.if-seat-eq0.false in omega (arith, left, some_left)
 
 pub count_of-requires : goal.count_of-requires
 count_of-requires c = found_fits c.self.inside.table.shared.key c.seat.invariant c.seat.view_is c.self.view_is c.requires c.credit_step-found.ensures.told
@@ -21,5 +21,5 @@ invariant_of-seat c = token_made c.self.inside.table.shared.key c.seat.invariant
 
 pub returns-clause-call : goal.returns-clause-call
 returns-clause-call c =
-    let some_left = c.if-spent.false in
-    call_made c.self.inside.table.shared.key c.seat.invariant c.seat.view_is c.self.view_is c.requires c.credit_step-found.ensures.told c.credit_step-found.ensures.same (omega (arith, some_left)) (to_z-of_z {w = w64} (search rules) ∙ c.count_of.ensures)
+    let some_left = c.if-seat-eq0.false in
+    call_made c.self.inside.table.shared.key c.seat.invariant c.seat.view_is c.self.view_is c.requires c.credit_step-found.ensures.told c.credit_step-found.ensures.same (omega (arith, some_left)) (to_z-of_z {w = w64} (search rules) ∙ c.count_of.ensures.difference)

@@ -4,22 +4,22 @@ use Rattle.fak_model.proofs.RunningCalls.{token_name, token_left}
 use Rattle.fak_count.proofs.CreditCalls.{same_table, found_fits, token_made, call_made}
 use Rattle.fak_count.proofs.credits.credit_object.Credit.debit.Goals as goal
 
-pub debit_step-before-requires-clause-table : goal.debit_step-before-requires-clause-table
-debit_step-before-requires-clause-table c = (same_table c.self.inside.table.shared.key c.seat.invariant c.seat.view_is c.self.view_is c.requires, c.self.invariant, refl)
+pub debit_step-found-requires-clause-table : goal.debit_step-found-requires-clause-table
+debit_step-found-requires-clause-table c = (same_table c.self.inside.table.shared.key c.seat.invariant c.seat.view_is c.self.view_is c.requires, c.self.invariant, refl)
 
-pub debit_step-before-requires-clause-seat : goal.debit_step-before-requires-clause-seat
-debit_step-before-requires-clause-seat c = token_name c.seat.invariant
+pub debit_step-found-requires-clause-seat : goal.debit_step-found-requires-clause-seat
+debit_step-found-requires-clause-seat c = token_name c.seat.invariant
 
-pub debit_step-before-requires-clause-left : goal.debit_step-before-requires-clause-left
-debit_step-before-requires-clause-left c = let left = token_left c.seat.invariant in let some_left = c.if-worn.false in omega (arith, left, some_left)
+pub debit_step-found-requires-clause-left : goal.debit_step-found-requires-clause-left
+debit_step-found-requires-clause-left c = let left = token_left c.seat.invariant in let some_left = c.if-seat-eq0.false in omega (arith, left, some_left)
 
 pub count_of-requires : goal.count_of-requires
-count_of-requires c = found_fits c.self.inside.table.shared.key c.seat.invariant c.seat.view_is c.self.view_is c.requires c.debit_step-before.ensures.told
+count_of-requires c = found_fits c.self.inside.table.shared.key c.seat.invariant c.seat.view_is c.self.view_is c.requires c.debit_step-found.ensures.told
 
 pub invariant_of-seat : goal.invariant_of-seat
-invariant_of-seat c = token_made c.self.inside.table.shared.key c.seat.invariant c.seat.view_is c.self.view_is c.requires c.debit_step-before.ensures.told
+invariant_of-seat c = token_made c.self.inside.table.shared.key c.seat.invariant c.seat.view_is c.self.view_is c.requires c.debit_step-found.ensures.told
 
 pub returns-clause-call : goal.returns-clause-call
 returns-clause-call c =
-    let some_left = c.if-worn.false in
-    call_made c.self.inside.table.shared.key c.seat.invariant c.seat.view_is c.self.view_is c.requires c.debit_step-before.ensures.told c.debit_step-before.ensures.same (omega (arith, some_left)) (to_z-of_z {w = w64} (search rules) ∙ c.count_of.ensures)
+    let some_left = c.if-seat-eq0.false in
+    call_made c.self.inside.table.shared.key c.seat.invariant c.seat.view_is c.self.view_is c.requires c.debit_step-found.ensures.told c.debit_step-found.ensures.same (omega (arith, some_left)) (to_z-of_z {w = w64} (search rules) ∙ c.count_of.ensures.difference)

@@ -18,4 +18,4 @@ pub invariant_of-seat : goal.invariant_of-seat
 invariant_of-seat c = token_observed c.self.inside.table.shared.key c.seat.invariant c.seat.view_is c.self.view_is c.requires c.observe_step-found.ensures.told
 
 pub returns-clause-call : goal.returns-clause-call
-returns-clause-call c = call_observed c.self.inside.table.shared.key c.seat.invariant c.seat.view_is c.self.view_is c.requires c.observe_step-found.ensures.told c.observe_step-found.ensures.same (to_z-of_z {w = w64} (search rules) ∙ c.count_of.ensures)
+returns-clause-call c = call_observed c.self.inside.table.shared.key c.seat.invariant c.seat.view_is c.self.view_is c.requires c.observe_step-found.ensures.told c.observe_step-found.ensures.same (to_z-of_z {w = w64} (search rules) ∙ c.count_of.ensures.difference)

@@ -25,7 +25,7 @@ invariant_of-seat c =
 pub returns-clause-call : goal.returns-clause-call
 returns-clause-call c =
     let at = at_room c.self.inside.table.shared.key c.seat.inside.left c.seat.invariant c.seat.view_is c.self.view_is c.requires.fits in
-    makes_call at (Release c.args.d) (did_release (own_token at) c.release_step-found.ensures.told) c.release_step-found.ensures.same c.seat.inside.left (omega arith) (to_z-of_z {w = w64} (search rules) ∙ c.count_of.ensures)
+    makes_call at (Release c.args.d) (did_release (own_token at) c.release_step-found.ensures.told) c.release_step-found.ensures.same c.seat.inside.left (omega arith) (to_z-of_z {w = w64} (search rules) ∙ c.count_of.ensures.difference)
 
 pub returns-clause-held : goal.returns-clause-held
 returns-clause-held c =

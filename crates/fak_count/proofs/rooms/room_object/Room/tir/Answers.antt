@@ -22,7 +22,7 @@ returns-then-not-fits-clause-call c =
     let bound = c.self.invariant.1 in
     let fails = c.if-not-fits.true in
     let did = did_refuse (own_token at) c.test_step-tested.ensures.told (omega (arith, bound, fails)) in
-    (within_stint at c.if-worn.false, inl (makes_call at (No c.args.d) did c.test_step-tested.ensures.same c.seat.inside.left (omega arith) (to_z-of_z {w = w64} (search rules) ∙ c.count_of.ensures)))
+    (within_stint at c.if-seat-eq0.false, inl (makes_call at (No c.args.d) did c.test_step-tested.ensures.same c.seat.inside.left (omega arith) (to_z-of_z {w = w64} (search rules) ∙ c.count_of.ensures.difference)))
 
 pub returns-then-not-fits-clause-held : goal.returns-then-not-fits-clause-held
 returns-then-not-fits-clause-held c =
@@ -75,7 +75,7 @@ returns-then-not-still_fits-clause-call c =
     let fails = c.if-not-still_fits.true in
     let did = did_withdraw (own_token at) c.test_step-tested.ensures.told (omega (arith, bound, passes)) c.add_step-found.ensures.told (omega (arith, bound, fails)) c.back_step.ensures.told in
     let same = c.back_step.ensures.same ∙ (c.add_step-found.ensures.same ∙ c.test_step-tested.ensures.same) in
-    (within_stint at c.if-worn.false, inr (withdraws_claim at did same (to_z-of_z {w = w64} (search rules) ∙ c.count_of-then-not-still_fits.ensures)))
+    (within_stint at c.if-seat-eq0.false, inr (withdraws_claim at did same (to_z-of_z {w = w64} (search rules) ∙ c.count_of-then-not-still_fits.ensures.difference)))
 
 pub returns-then-not-still_fits-clause-held : goal.returns-then-not-still_fits-clause-held
 returns-then-not-still_fits-clause-held c =
@@ -117,9 +117,9 @@ returns-clause-call c =
     let passes = c.if-not-fits.false in
     let still_passes = c.if-not-still_fits.false in
     let did = did_claim (own_token at) c.test_step-tested.ensures.told (omega (arith, bound, passes)) c.add_step-found.ensures.told (omega (arith, bound, still_passes)) in
-    let some_left = c.if-worn.false in
+    let some_left = c.if-seat-eq0.false in
     let same = c.add_step-found.ensures.same ∙ c.test_step-tested.ensures.same in
-    (within_stint at some_left, makes_call at (Up c.args.d) did same (c.seat.inside.left - 1) (omega (arith, some_left)) (to_z-of_z {w = w64} (search rules) ∙ c.count_of-2.ensures))
+    (within_stint at some_left, makes_call at (Up c.args.d) did same (c.seat.inside.left - 1) (omega (arith, some_left)) (to_z-of_z {w = w64} (search rules) ∙ c.count_of-2.ensures.difference))
 
 pub returns-clause-held : goal.returns-clause-held
 returns-clause-held c =

@@ -1,0 +1,27 @@
+//! A word that keeps a count.
+
+ghost use Rattle.std.specs.Prelude.{◌≡◌, ◌^◌, ◌<◌, pos, ◌+ℤ◌, ◌-ℤ◌};
+ghost use Rattle.fak_model.specs.Words.{bias};
+
+/// A count is kept in its word as so much more, so that it may be below 0.
+pub const BIAS: u64 = 1 << 62;
+
+/// The count that a word keeps.
+pub fn count_of(word: u64) -> i64
+    requires { word < 2 ^ 63 }
+    ensures sum { pos word ≡ pos bias +ℤ result }
+    ensures difference { result ≡ pos word -ℤ pos bias }
+{
+    word as i64 - BIAS as i64
+}
+
+#[cfg(test)]
+mod tests {
+    use crate::word::{BIAS, count_of};
+
+    #[test]
+    fn counts_below_0_are_kept_too(rt: HostRuntime) {
+        assert_eq!(rt; count_of(BIAS + 5), 5);
+        assert_eq!(rt; count_of(BIAS - 1), -1);
+    }
+}
