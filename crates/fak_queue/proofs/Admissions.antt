@@ -20,10 +20,10 @@ use Rattle.fak_queue.specs.Parts.{IsPart, ClaimedIn, RefusedIn, ClaimedOut, Refu
 use Rattle.fak_queue.proofs.PartSteps.{put_there, put_new, names_kept, phase_is, left_is, slots_are, part_one, part_two}
 
 -- an item's Put, or its Got, leaves the seat waiting with the ticket that was drawn
-inserting_after : {T : Type 0} (h : List (Mark T)) (k : ℕ) (x : T) → count puts (reverse h) ≡ k → k < 2 ^ 62 → RestsAt (TurnIn k x) (after_kind h (made.Put x))
+inserting_after : {T : Type 0} (h : List (Mark T)) (k : ℕ) (x : T) → count puts (reverse h) ≡ k → k < 2 ^ 46 → RestsAt (TurnIn k x) (after_kind h (made.Put x))
 inserting_after h k x e few = subst (λ j. RestsAt (TurnIn k x) (at.Putting j x)) (sym e ∙ count_reverse puts h) (inserting k x few)
 
-deleting_after : {T : Type 0} (h : List (Mark T)) (k : ℕ) (x : T) → count gots (reverse h) ≡ k → k < 2 ^ 62 → RestsAt (TurnOut k) (after_kind h (made.Got x))
+deleting_after : {T : Type 0} (h : List (Mark T)) (k : ℕ) (x : T) → count gots (reverse h) ≡ k → k < 2 ^ 46 → RestsAt (TurnOut k) (after_kind h (made.Got x))
 deleting_after {T} h k x e few = subst (λ j. RestsAt {T = T} (TurnOut k) (at.Getting j)) (sym e ∙ count_reverse gots h) (deleting k few)
 
 -- ---- insertions

@@ -10,7 +10,7 @@ use Rattle.fak_model.specs.Queue.{queue_rules, count, puts, gots}
 use Rattle.fak_model.specs.Calls.{ObjectId, SeatInfo, Appends, mine_of, before_mark}
 use Rattle.fak_model.proofs.RunningCalls.{appends_then}
 use Rattle.fak_queue.specs.declared.state.SeatState.TheVariants.{Idle}
-use Rattle.fak_queue.specs.Queues.{Makes, made_by, seat_of, drawn_by, state_of, IsWorn, Inserts, Deletes, RefusesFull, RefusesClosed, RefusesEmpty}
+use Rattle.fak_queue.specs.Queues.{Makes, made_by, seat_of, drawn_by, state_of, Inserts, Deletes, RefusesFull, RefusesClosed, RefusesEmpty}
 use Rattle.fak_queue.specs.Retries.{RefusedInsertion, NotIn, WithdrawnIn, ClosedIn, WithdrawnLate, kinds_not_in, IsFull, IsClosed, RefusedDeletion, NotOut, WithdrawnOut, kinds_not_out, MakesAtLast, before_last, InsertsAfterFull, ClosesAfterFull, DeletesAfterEmpty}
 
 pub made_by_append : {T : Type 0} (name : ℕ) (ks ls : List (Kind T)) → made_by name (ks ++ ls) ≡ made_by name ks ++ made_by name ls

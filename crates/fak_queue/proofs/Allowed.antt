@@ -53,10 +53,10 @@ module _ {T : Type 0} (key : Limits) (slots seats id n : ℕ) (m : Holder T) (fe
       (q.0, q.1, q.2, q.3, subst (λ (z : ℕ × ℕ). then z.0 z.1 (slice_index s.words i) (q.0, carried_after m.1 q.1)) (λ j. (size j, few j)) q.4)
 
   -- at the turn of a cell, whose place depends on the number of slots
-  of_turn : (i k : ℕ) → i ≡ k % slots + 64 → (f : ℕ → ℕ) (then : ℕ → ℕ → ℕ → Holder T → Type 0)
-      → ((s : QueueTable T) (r : IsShownQueue key s) (at : get_elem? s.views id ≡ some m.0) → key.size ≡ slots → Permits key s r id n m at one (64 + k % key.size) f (then key.size key.seats)) → Permitted i f then
+  of_turn : (i k : ℕ) → i ≡ k % slots + 80 → (f : ℕ → ℕ) (then : ℕ → ℕ → ℕ → Holder T → Type 0)
+      → ((s : QueueTable T) (r : IsShownQueue key s) (at : get_elem? s.views id ≡ some m.0) → key.size ≡ slots → Permits key s r id n m at one (80 + k % key.size) f (then key.size key.seats)) → Permitted i f then
   of_turn i k is f then all = of_step i f then (λ s r at size.
-      let place : 64 + k % key.size ≡ i = ap (λ z. 64 + k % z) size ∙ omega (arith, is) in
+      let place : 80 + k % key.size ≡ i = ap (λ z. 80 + k % z) size ∙ omega (arith, is) in
       subst (λ j. Permits key s r id n m at one j f (then key.size key.seats)) place (all s r at size))
 
   -- then weaker
@@ -70,68 +70,68 @@ module _ {T : Type 0} (key : Limits) (slots seats id n : ℕ) (m : Holder T) (fe
   named : (i : ℕ) (f : ℕ → ℕ) (then : ℕ → ℕ → Holder T → Type 0) → Allows (IsShownQueue key) slots id m i f (then n) → Allows (IsShownQueue key) slots id m i f (λ found after. Named m (λ k. then k found after))
   named i f then = weaker i f (then n) (λ found after. Named m (λ k. then k found after)) (λ found after told k other. subst (λ z. then z found after) (first_same (sym one ∙ other)) told)
 
-  pub tests_up_allowed : (item : Option T) (x : T) → item ≡ Some x → m.0.phase ≡ Some Idle → Allows (IsShownQueue key) slots id m 0 (λ w. w) (λ found after. Named m (λ k. TestsUp slots seats k item m found after))
-  tests_up_allowed item x is e = named 0 (λ w. w) (λ k. TestsUp slots seats k item m) (weaker 0 (λ w. w) (λ found after. (u : UpperCount) → IsUpperCount slots found u → TestedUp slots seats n x u m after) (TestsUp slots seats n item m)
+  pub tests_up_allowed : (item : Option T) (x : T) → item ≡ Some x → m.0.phase ≡ Some Idle → Allows (IsShownQueue key) slots id m 16 (λ w. w) (λ found after. Named m (λ k. TestsUp slots seats k item m found after))
+  tests_up_allowed item x is e = named 16 (λ w. w) (λ k. TestsUp slots seats k item m) (weaker 16 (λ w. w) (λ found after. (u : UpperCount) → IsUpperCount slots found u → TestedUp slots seats n x u m after) (TestsUp slots seats n item m)
       (λ found after told y it. subst (λ z. (u : UpperCount) → IsUpperCount slots found u → TestedUp slots seats n z u m after) (Some_same (sym is ∙ it)) told)
-      (of_step 0 (λ w. w) (λ z k found after. (u : UpperCount) → IsUpperCount z found u → TestedUp z k n x u m after) (λ s r at size. tests_up key s r id n m at one x e)))
+      (of_step 16 (λ w. w) (λ z k found after. (u : UpperCount) → IsUpperCount z found u → TestedUp z k n x u m after) (λ s r at size. tests_up key s r id n m at one x e)))
 
-  pub adds_up_allowed : (x : T) → m.0.phase ≡ Some (AddUp x) → Allows (IsShownQueue key) slots id m 0 (λ w. (w + 1) % 2 ^ 64) (λ found after. Named m (λ k. AddsUp slots seats k m found after))
-  adds_up_allowed x e = named 0 (λ w. (w + 1) % 2 ^ 64) (λ k. AddsUp slots seats k m) (weaker 0 (λ w. (w + 1) % 2 ^ 64) (λ found after. (u : UpperCount) → IsUpperCount slots found u → AddedUp slots seats n x u m after) (AddsUp slots seats n m)
+  pub adds_up_allowed : (x : T) → m.0.phase ≡ Some (AddUp x) → Allows (IsShownQueue key) slots id m 16 (λ w. (w + 1) % 2 ^ 64) (λ found after. Named m (λ k. AddsUp slots seats k m found after))
+  adds_up_allowed x e = named 16 (λ w. (w + 1) % 2 ^ 64) (λ k. AddsUp slots seats k m) (weaker 16 (λ w. (w + 1) % 2 ^ 64) (λ found after. (u : UpperCount) → IsUpperCount slots found u → AddedUp slots seats n x u m after) (AddsUp slots seats n m)
       (λ found after told y it. subst (λ z. (u : UpperCount) → IsUpperCount slots found u → AddedUp slots seats n z u m after) (item_of_add (sym e ∙ it)) told)
-      (of_step 0 (λ w. (w + 1) % 2 ^ 64) (λ z k found after. (u : UpperCount) → IsUpperCount z found u → AddedUp z k n x u m after) (λ s r at size. adds_up key s r id n m at one x e)))
+      (of_step 16 (λ w. (w + 1) % 2 ^ 64) (λ z k found after. (u : UpperCount) → IsUpperCount z found u → AddedUp z k n x u m after) (λ s r at size. adds_up key s r id n m at one x e)))
 
-  pub backs_up_allowed : (x : T) → m.0.phase ≡ Some (BackUp x) → Allows (IsShownQueue key) slots id m 0 (λ w. (w + (2 ^ 64 - 1)) % 2 ^ 64) (λ found after. Named m (λ k. BacksUp slots seats k m after))
-  backs_up_allowed x e = named 0 (λ w. (w + (2 ^ 64 - 1)) % 2 ^ 64) (λ k found after. BacksUp slots seats k m after) (of_step 0 (λ w. (w + (2 ^ 64 - 1)) % 2 ^ 64) (λ z k found after. BacksUp z k n m after) (λ s r at size. backs_up key s r id n m at one x e))
+  pub backs_up_allowed : (x : T) → m.0.phase ≡ Some (BackUp x) → Allows (IsShownQueue key) slots id m 16 (λ w. (w + (2 ^ 64 - 1)) % 2 ^ 64) (λ found after. Named m (λ k. BacksUp slots seats k m after))
+  backs_up_allowed x e = named 16 (λ w. (w + (2 ^ 64 - 1)) % 2 ^ 64) (λ k found after. BacksUp slots seats k m after) (of_step 16 (λ w. (w + (2 ^ 64 - 1)) % 2 ^ 64) (λ z k found after. BacksUp z k n m after) (λ s r at size. backs_up key s r id n m at one x e))
 
-  pub draws_in_allowed : (x : T) → m.0.phase ≡ Some (TicketIn x) → 0 < m.0.left → Allows (IsShownQueue key) slots id m 32 (λ w. (w + 1) % 2 ^ 64) (λ found after. Named m (λ k. DrawsIn slots seats k m found after))
-  draws_in_allowed x e left = named 32 (λ w. (w + 1) % 2 ^ 64) (λ k. DrawsIn slots seats k m) (weaker 32 (λ w. (w + 1) % 2 ^ 64) (DrewIn slots seats n x m) (DrawsIn slots seats n m)
+  pub draws_in_allowed : (x : T) → m.0.phase ≡ Some (TicketIn x) → 0 < m.0.left → Allows (IsShownQueue key) slots id m 48 (λ w. (w + 1) % 2 ^ 64) (λ found after. Named m (λ k. DrawsIn slots seats k m found after))
+  draws_in_allowed x e left = named 48 (λ w. (w + 1) % 2 ^ 64) (λ k. DrawsIn slots seats k m) (weaker 48 (λ w. (w + 1) % 2 ^ 64) (DrewIn slots seats n x m) (DrawsIn slots seats n m)
       (λ found after told y it. subst (λ z. DrewIn slots seats n z m found after) (item_of_draw (sym e ∙ it)) told)
-      (of_step 32 (λ w. (w + 1) % 2 ^ 64) (λ z k. DrewIn z k n x m) (λ s r at size. draws_in key s r id n m at one x e left)))
+      (of_step 48 (λ w. (w + 1) % 2 ^ 64) (λ z k. DrewIn z k n x m) (λ s r at size. draws_in key s r id n m at one x e left)))
 
-  pub turns_in_allowed : (i k : ℕ) → i ≡ k % slots + 64 → (x : T) → m.0.phase ≡ Some (TurnIn k x) → Allows (IsShownQueue key) slots id m i (λ w. w) (λ found after. Named m (λ k. TurnsIn slots seats k m found after))
+  pub turns_in_allowed : (i k : ℕ) → i ≡ k % slots + 80 → (x : T) → m.0.phase ≡ Some (TurnIn k x) → Allows (IsShownQueue key) slots id m i (λ w. w) (λ found after. Named m (λ k. TurnsIn slots seats k m found after))
   turns_in_allowed i k is x e = named i (λ w. w) (λ k. TurnsIn slots seats k m) (weaker i (λ w. w) (TurnedIn slots seats n k x m) (TurnsIn slots seats n m)
       (λ found after told j y it. let same = item_of_turn (sym e ∙ it) in subst (λ (z : ℕ × T). TurnedIn slots seats n z.0 z.1 m found after) (λ c. (same.0 c, same.1 c)) told)
       (of_turn i k is (λ w. w) (λ z q. TurnedIn z q n k x m) (λ s r at size. turns_in key s r id n m at one k x e)))
 
-  pub sets_full_allowed : (i k v : ℕ) → i ≡ k % slots + 64 → (x : T) (tl : List (ℕ × Option T)) → m.0.phase ≡ Some (StoreItem k x) → m.1 ≡ (k % slots, Some x) ∷ tl → v ≡ 2 * (k / slots) + 1
+  pub sets_full_allowed : (i k v : ℕ) → i ≡ k % slots + 80 → (x : T) (tl : List (ℕ × Option T)) → m.0.phase ≡ Some (StoreItem k x) → m.1 ≡ (k % slots, Some x) ∷ tl → v ≡ 2 * (k / slots) + 1
       → Allows (IsShownQueue key) slots id m i (λ _. v) (λ found after. Named m (λ k. SetsFull slots seats k m after))
   sets_full_allowed i k v is x tl e held v_is = named i (λ _. v) (λ k found after. SetsFull slots seats k m after) (weaker i (λ _. v) (λ _ after. FilledCell slots seats n k m after) (λ _ after. SetsFull slots seats n m after)
       (λ found after told j y it. subst (λ z. FilledCell slots seats n z m after) (item_of_store (sym e ∙ it)) told)
       (of_turn i k is (λ _. v) (λ z q found after. FilledCell z q n k m after)
       (λ s r at size. stores_full key s r id n m at one k v x tl e (held ∙ ap (λ z. (k % z, Some x) ∷ tl) (sym size)) (v_is ∙ ap (λ z. 2 * (k / z) + 1) (sym size)))))
 
-  pub ends_in_allowed : (k : ℕ) → m.0.phase ≡ Some (EndInsert k) → Allows (IsShownQueue key) slots id m 16 (λ w. (w + 1) % 2 ^ 64) (λ found after. Named m (λ k. EndsIn slots seats k m after))
-  ends_in_allowed k e = named 16 (λ w. (w + 1) % 2 ^ 64) (λ k found after. EndsIn slots seats k m after) (of_step 16 (λ w. (w + 1) % 2 ^ 64) (λ z q found after. EndsIn z q n m after) (λ s r at size. ends_in key s r id n m at one k e))
+  pub ends_in_allowed : (k : ℕ) → m.0.phase ≡ Some (EndInsert k) → Allows (IsShownQueue key) slots id m 32 (λ w. (w + 1) % 2 ^ 64) (λ found after. Named m (λ k. EndsIn slots seats k m after))
+  ends_in_allowed k e = named 32 (λ w. (w + 1) % 2 ^ 64) (λ k found after. EndsIn slots seats k m after) (of_step 32 (λ w. (w + 1) % 2 ^ 64) (λ z q found after. EndsIn z q n m after) (λ s r at size. ends_in key s r id n m at one k e))
 
-  pub tests_low_allowed : m.0.phase ≡ Some Idle → Allows (IsShownQueue key) slots id m 16 (λ w. w) (λ found after. Named m (λ k. TestsLow slots seats k m found after))
-  tests_low_allowed e = named 16 (λ w. w) (λ k. TestsLow slots seats k m) (of_step 16 (λ w. w) (λ z q. TestsLow z q n m) (λ s r at size. tests_low key s r id n m at one e))
+  pub tests_low_allowed : m.0.phase ≡ Some Idle → Allows (IsShownQueue key) slots id m 32 (λ w. w) (λ found after. Named m (λ k. TestsLow slots seats k m found after))
+  tests_low_allowed e = named 32 (λ w. w) (λ k. TestsLow slots seats k m) (of_step 32 (λ w. w) (λ z q. TestsLow z q n m) (λ s r at size. tests_low key s r id n m at one e))
 
-  pub subtracts_low_allowed : m.0.phase ≡ Some SubLow → Allows (IsShownQueue key) slots id m 16 (λ w. (w + (2 ^ 64 - 1)) % 2 ^ 64) (λ found after. Named m (λ k. SubtractsLow slots seats k m found after))
-  subtracts_low_allowed e = named 16 (λ w. (w + (2 ^ 64 - 1)) % 2 ^ 64) (λ k. SubtractsLow slots seats k m) (of_step 16 (λ w. (w + (2 ^ 64 - 1)) % 2 ^ 64) (λ z q. SubtractsLow z q n m) (λ s r at size. subtracts_low key s r id n m at one e))
+  pub subtracts_low_allowed : m.0.phase ≡ Some SubLow → Allows (IsShownQueue key) slots id m 32 (λ w. (w + (2 ^ 64 - 1)) % 2 ^ 64) (λ found after. Named m (λ k. SubtractsLow slots seats k m found after))
+  subtracts_low_allowed e = named 32 (λ w. (w + (2 ^ 64 - 1)) % 2 ^ 64) (λ k. SubtractsLow slots seats k m) (of_step 32 (λ w. (w + (2 ^ 64 - 1)) % 2 ^ 64) (λ z q. SubtractsLow z q n m) (λ s r at size. subtracts_low key s r id n m at one e))
 
-  pub backs_low_allowed : m.0.phase ≡ Some BackLow → Allows (IsShownQueue key) slots id m 16 (λ w. (w + 1) % 2 ^ 64) (λ found after. Named m (λ k. BacksLow slots seats k m after))
-  backs_low_allowed e = named 16 (λ w. (w + 1) % 2 ^ 64) (λ k found after. BacksLow slots seats k m after) (of_step 16 (λ w. (w + 1) % 2 ^ 64) (λ z q found after. BacksLow z q n m after) (λ s r at size. backs_low key s r id n m at one e))
+  pub backs_low_allowed : m.0.phase ≡ Some BackLow → Allows (IsShownQueue key) slots id m 32 (λ w. (w + 1) % 2 ^ 64) (λ found after. Named m (λ k. BacksLow slots seats k m after))
+  backs_low_allowed e = named 32 (λ w. (w + 1) % 2 ^ 64) (λ k found after. BacksLow slots seats k m after) (of_step 32 (λ w. (w + 1) % 2 ^ 64) (λ z q found after. BacksLow z q n m after) (λ s r at size. backs_low key s r id n m at one e))
 
-  pub draws_out_allowed : m.0.phase ≡ Some TicketOut → 0 < m.0.left → Allows (IsShownQueue key) slots id m 48 (λ w. (w + 1) % 2 ^ 64) (λ found after. Named m (λ k. DrawsOut slots seats k m found after))
-  draws_out_allowed e left = named 48 (λ w. (w + 1) % 2 ^ 64) (λ k. DrawsOut slots seats k m) (of_step 48 (λ w. (w + 1) % 2 ^ 64) (λ z q. DrawsOut z q n m) (λ s r at size. draws_out key s r id n m at one e left))
+  pub draws_out_allowed : m.0.phase ≡ Some TicketOut → 0 < m.0.left → Allows (IsShownQueue key) slots id m 64 (λ w. (w + 1) % 2 ^ 64) (λ found after. Named m (λ k. DrawsOut slots seats k m found after))
+  draws_out_allowed e left = named 64 (λ w. (w + 1) % 2 ^ 64) (λ k. DrawsOut slots seats k m) (of_step 64 (λ w. (w + 1) % 2 ^ 64) (λ z q. DrawsOut z q n m) (λ s r at size. draws_out key s r id n m at one e left))
 
-  pub turns_out_allowed : (i k : ℕ) → i ≡ k % slots + 64 → m.0.phase ≡ Some (TurnOut k) → Allows (IsShownQueue key) slots id m i (λ w. w) (λ found after. Named m (λ k. TurnsOut slots seats k m found after))
+  pub turns_out_allowed : (i k : ℕ) → i ≡ k % slots + 80 → m.0.phase ≡ Some (TurnOut k) → Allows (IsShownQueue key) slots id m i (λ w. w) (λ found after. Named m (λ k. TurnsOut slots seats k m found after))
   turns_out_allowed i k is e = named i (λ w. w) (λ k. TurnsOut slots seats k m) (weaker i (λ w. w) (TurnedOut slots seats n k m) (TurnsOut slots seats n m)
       (λ found after told j it. subst (λ z. TurnedOut slots seats n z m found after) (ticket_of_turn (sym e ∙ it)) told)
       (of_turn i k is (λ w. w) (λ z q. TurnedOut z q n k m) (λ s r at size. turns_out key s r id n m at one k e)))
 
-  pub sets_free_allowed : (i k v : ℕ) → i ≡ k % slots + 64 → (tl : List (ℕ × Option T)) → m.0.phase ≡ Some (LoadItem k) → m.1 ≡ (k % slots, None) ∷ tl → v ≡ 2 * (k / slots) + 2
+  pub sets_free_allowed : (i k v : ℕ) → i ≡ k % slots + 80 → (tl : List (ℕ × Option T)) → m.0.phase ≡ Some (LoadItem k) → m.1 ≡ (k % slots, None) ∷ tl → v ≡ 2 * (k / slots) + 2
       → Allows (IsShownQueue key) slots id m i (λ _. v) (λ found after. Named m (λ k. SetsFree slots seats k m after))
   sets_free_allowed i k v is tl e held v_is = named i (λ _. v) (λ k found after. SetsFree slots seats k m after) (weaker i (λ _. v) (λ _ after. FreedCell slots seats n k m after) (λ _ after. SetsFree slots seats n m after)
       (λ found after told j it. subst (λ z. FreedCell slots seats n z m after) (ticket_of_load (sym e ∙ it)) told)
       (of_turn i k is (λ _. v) (λ z q found after. FreedCell z q n k m after)
       (λ s r at size. stores_free key s r id n m at one k v tl e (held ∙ ap (λ z. (k % z, None) ∷ tl) (sym size)) (v_is ∙ ap (λ z. 2 * (k / z) + 2) (sym size)))))
 
-  pub ends_out_allowed : (k : ℕ) → m.0.phase ≡ Some (EndDelete k) → Allows (IsShownQueue key) slots id m 0 (λ w. (w + (2 ^ 64 - 1)) % 2 ^ 64) (λ found after. Named m (λ k. EndsOut slots seats k m after))
-  ends_out_allowed k e = named 0 (λ w. (w + (2 ^ 64 - 1)) % 2 ^ 64) (λ k found after. EndsOut slots seats k m after) (of_step 0 (λ w. (w + (2 ^ 64 - 1)) % 2 ^ 64) (λ z q found after. EndsOut z q n m after) (λ s r at size. ends_out key s r id n m at one k e))
+  pub ends_out_allowed : (k : ℕ) → m.0.phase ≡ Some (EndDelete k) → Allows (IsShownQueue key) slots id m 16 (λ w. (w + (2 ^ 64 - 1)) % 2 ^ 64) (λ found after. Named m (λ k. EndsOut slots seats k m after))
+  ends_out_allowed k e = named 16 (λ w. (w + (2 ^ 64 - 1)) % 2 ^ 64) (λ k found after. EndsOut slots seats k m after) (of_step 16 (λ w. (w + (2 ^ 64 - 1)) % 2 ^ 64) (λ z q found after. EndsOut z q n m after) (λ s r at size. ends_out key s r id n m at one k e))
 
-  pub shuts_allowed : m.0.phase ≡ Some Idle → Allows (IsShownQueue key) slots id m 0 (λ w. bit_or w 9223372036854775808) (λ found after. Named m (λ k. Shuts slots seats k m found after))
-  shuts_allowed e = named 0 (λ w. bit_or w 9223372036854775808) (λ k. Shuts slots seats k m) (of_step 0 (λ w. bit_or w 9223372036854775808) (λ z q. Shuts z q n m) (λ s r at size. shuts key s r id n m at one e))
+  pub shuts_allowed : m.0.phase ≡ Some Idle → Allows (IsShownQueue key) slots id m 16 (λ w. bit_or w 9223372036854775808) (λ found after. Named m (λ k. Shuts slots seats k m found after))
+  shuts_allowed e = named 16 (λ w. bit_or w 9223372036854775808) (λ k. Shuts slots seats k m) (of_step 16 (λ w. bit_or w 9223372036854775808) (λ z q. Shuts z q n m) (λ s r at size. shuts key s r id n m at one e))
 
 -- the load after a join
 pub hears_allowed : {T : Type 0} (key : Limits) (slots seats id : ℕ) (m : Holder T) (i : ℕ) → key.seats ≡ seats → Allows (IsShownQueue key) slots id m i (λ w. w) (λ _ after. HearsJoin slots seats m after)

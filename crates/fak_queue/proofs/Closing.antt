@@ -110,14 +110,14 @@ module _ {T : Type 0} (key : Limits) (s : State (Option T) (QueueView T)) (r : I
       pub left : AreLeft key.size cells got (put - got)
       pub are : items_left key.size cells got (put - got) ≡ contents (reverse v.seen)
 
-    pub leaves : (put got : ℕ) → slice_index s.words 32 ≡ put → slice_index s.words 48 ≡ got → Leaves put got
+    pub leaves : (put got : ℕ) → slice_index s.words 48 ≡ put → slice_index s.words 64 ≡ got → Leaves put got
     leaves put got put_is got_is =
         let p : put ≡ count puts r.core.past = sym put_is ∙ (r.encoded.words_are.draws_in_is ∙ K.draws_in) in
         let q : got ≡ count gots r.core.past = sym got_is ∙ (r.encoded.words_are.draws_out_is ∙ K.draws_out) in
         let bounds = contents_bounded key.size r.core.past K.legal in
         let b0 = bounds.0 in
         let b1 = bounds.1 in
-        let few : count puts r.core.past + count gots r.core.past + total (λ (w : QueueView T). w.left) s.views ≤ 4611686018427387904 = r.few in
+        let few : count puts r.core.past + count gots r.core.past + total (λ (w : QueueView T). w.left) s.views ≤ 70368744177664 = r.few in
         let all = left_from (put - got) got (omega (arith, p, q, b0)) (omega (arith, q)) in
         record {
           more = omega (arith, p, q, b0);
@@ -132,10 +132,10 @@ pub record Closes {T : Type 0} (size : ℕ) (seen : List (Mark T)) (cells : List
   pub are : items_left size cells got (put - got) ≡ contents seen
 
 pub closes : {T : Type 0} (key : Limits) (size id : ℕ) (v : QueueView T) (ws : List ℕ) (cells : List (Option T)) (put got : ℕ) → Final (Seen (IsShownQueue key) id v) ws cells → length cells ≡ size → v.phase ≡ Some phase.Idle → IsWhole key.seats v.names
-    → get_elem? ws 32 ≡ some put → get_elem? ws 48 ≡ some got → Closes size (reverse v.seen) cells put got
+    → get_elem? ws 48 ≡ some put → get_elem? ws 64 ≡ some got → Closes size (reverse v.seen) cells put got
 closes {T} key size id v ws cells put got f long idle whole at_put at_got =
     let s = f.0 in
     let r = f.1.0 in
     let same : key.size ≡ size = sym r.encoded.wide ∙ (f.3 ∙ long) in
-    let l = leaves key s r id v f.1.1 idle whole cells f.4 put got (ap (λ ws. slice_index ws 32) f.2 ∙ read_at ws 32 put at_put) (ap (λ ws. slice_index ws 48) f.2 ∙ read_at ws 48 got at_got) in
+    let l = leaves key s r id v f.1.1 idle whole cells f.4 put got (ap (λ ws. slice_index ws 48) f.2 ∙ read_at ws 48 put at_put) (ap (λ ws. slice_index ws 64) f.2 ∙ read_at ws 64 got at_got) in
     subst (λ k. Closes k (reverse v.seen) cells put got) same record { more = l.more; left = l.left; are = l.are }

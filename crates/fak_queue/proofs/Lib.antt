@@ -8,9 +8,13 @@ pub mod States
 pub mod PartSteps
 pub mod Admissions
 pub mod Turning
+pub mod Inverse
+pub mod Looking
 pub mod SeatCalls
 pub mod Openings
 pub mod WholeCalls
+pub mod AtOnce
+pub mod Trying
 pub mod AfterRefusals
 pub mod Tallies
 pub mod Shutting

@@ -15,7 +15,8 @@ use Rattle.fak_model.specs.Tokens.{IsSeatToken}
 use Rattle.fak_model.proofs.Appending.{history_none}
 use Rattle.fak_model.specs.Queue.{queue_rules}
 use Rattle.fak_queue.specs.declared.key.Limits.{Limits}
-use Rattle.fak_queue.specs.Words.{bias, AreWords}
+use Rattle.fak_model.specs.Words.{bias}
+use Rattle.fak_queue.specs.Words.{AreWords}
 use Rattle.fak_queue.specs.Shown.{Holder, IsEncoded, queue_object, IsShownQueue, opened_queue}
 use Rattle.fak_queue.specs.Queues.{seat_of, idle, IsQueueSeat, queue_seat}
 use Rattle.fak_queue.specs.Refusals.{IsInRange}
@@ -27,23 +28,23 @@ read_map (suc n) (suc c) a near = read_map n c a (omega (arith, near))
 
 -- zeros, and the bias at the two counts
 abbrev pub first_words : ℕ → List ℕ
-first_words size = set (set (replicate (size + 64) 0) 0 bias) 16 bias
+first_words size = set (set (replicate (size + 96) 0) 16 bias) 32 bias
 
 first_are_words : (size : ℕ) → AreWords size (pos 0) (pos 0) 0 0 (λ c. 0) false (first_words size)
 first_are_words size =
-    let zeros : List ℕ = replicate (size + 64) 0 in
-    let one : List ℕ = set zeros 0 bias in
-    let long : length zeros ≡ size + 64 = length-replicate (size + 64) 0 in
-    let long1 : length one ≡ size + 64 = length-set zeros 0 bias ∙ long in
-    let other : (i : ℕ) → i ≢ 0 → i ≢ 16 → i < size + 64 → slice_index (first_words size) i ≡ 0 =
-    λ i a b lt. get_or-set_other one 16 i bias 0 b ∙ (get_or-set_other zeros 0 i bias 0 a ∙ get_or-replicate (size + 64) i 0 0 lt) in
+    let zeros : List ℕ = replicate (size + 96) 0 in
+    let one : List ℕ = set zeros 16 bias in
+    let long : length zeros ≡ size + 96 = length-replicate (size + 96) 0 in
+    let long1 : length one ≡ size + 96 = length-set zeros 16 bias ∙ long in
+    let other : (i : ℕ) → i ≢ 16 → i ≢ 32 → i < size + 96 → slice_index (first_words size) i ≡ 0 =
+    λ i a b lt. get_or-set_other one 32 i bias 0 b ∙ (get_or-set_other zeros 16 i bias 0 a ∙ get_or-replicate (size + 96) i 0 0 lt) in
     record {
-      wide = length-set one 16 bias ∙ (long1 ∙ omega arith);
-      upper_is = ap pos (get_or-set_other one 16 0 bias 0 (λ q. omega (arith, q)) ∙ get_or-set_same zeros 0 bias 0 (omega (arith, long)));
-      lower_is = ap pos (get_or-set_same one 16 bias 0 (omega (arith, long1)));
-      draws_in_is = other 32 (λ q. omega (arith, q)) (λ q. omega (arith, q)) (omega arith);
-      draws_out_is = other 48 (λ q. omega (arith, q)) (λ q. omega (arith, q)) (omega arith);
-      turns_are = λ c lt. other (64 + c) (λ q. omega (arith, q)) (λ q. omega (arith, q)) (omega (arith, lt));
+      wide = length-set one 32 bias ∙ (long1 ∙ omega arith);
+      upper_is = ap pos (get_or-set_other one 32 16 bias 0 (λ q. omega (arith, q)) ∙ get_or-set_same zeros 16 bias 0 (omega (arith, long)));
+      lower_is = ap pos (get_or-set_same one 32 bias 0 (omega (arith, long1)));
+      draws_in_is = other 48 (λ q. omega (arith, q)) (λ q. omega (arith, q)) (omega arith);
+      draws_out_is = other 64 (λ q. omega (arith, q)) (λ q. omega (arith, q)) (omega arith);
+      turns_are = λ c lt. other (80 + c) (λ q. omega (arith, q)) (λ q. omega (arith, q)) (omega (arith, lt));
     }
 
 pub opens_queue : {T : Type 0} (key : Limits) (words : List ℕ) → words ≡ first_words key.size → IsInRange key.size key.seats key.stint → IsShownQueue {T = T} key (opening words (replicate key.size None) (opened_queue key))

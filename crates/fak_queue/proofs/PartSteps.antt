@@ -47,6 +47,16 @@ module _ {T : Type 0} {size seats : ℕ} {m w : Holder T} {new : List (Mark T)} 
 
 -- ---- parts of a call
 
+module _ {T : Type 0} {size seats n left : ℕ} {kinds : List (Kind T)} {p : Phase T} {tells : List (Mark T) → List (Mark T) → Type 0} {m w : Holder T} (part : IsPart size seats n kinds p left tells m w) where
+  pub names_then : w.0.names ≡ n ∷ []
+  names_then = ap (λ (z : Holder T). z.0.names) part.after_is
+
+  pub phase_then : w.0.phase ≡ Some p
+  phase_then = ap (λ (z : Holder T). z.0.phase) part.after_is
+
+  pub slots_then : w.1 ≡ []
+  slots_then = ap (λ (z : Holder T). z.1) part.after_is
+
 -- a look that leaves no mark
 pub part_none : {T : Type 0} {size seats : ℕ} (n : ℕ) {m w : Holder T} {p : Phase T} {left : ℕ} {carried : List (ℕ × Option T)} {tells : List (Mark T) → Type 0} → Leaves (queue_object size seats) m [] p left carried tells w
     → m.0.names ≡ n ∷ [] → carried ≡ [] → (keep : ℕ) → left ≡ keep → RestsAt p (stage w.0.seen n) → IsPart size seats n [] p keep Nothing m w

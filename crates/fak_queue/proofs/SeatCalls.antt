@@ -1,5 +1,5 @@
 -- From the parts of a seat's calls to what the calls promise.
-use Rattle.std.proofs.Common.{◌≡◌, ℕ, ◌+◌, ◌-◌, ◌<◌, ℤ, List, [], ◌∷◌, ◌++◌, refl, ap, sym, ◌∙◌, subst, arith, inl, inr, ⊎_elim, Some, Bool, true, false, ◌⊎◌, ◌↔◌}
+use Rattle.std.proofs.Common.{◌≡◌, ℕ, ◌+◌, ◌-◌, ◌<◌, ℤ, List, [], ◌∷◌, ◌++◌, refl, ap, sym, ◌∙◌, subst, arith, inl, inr, ⊎_elim, Bool, true, false, ◌⊎◌, ◌↔◌}
 use Rattle.std.specs.Prelude.{reverse}
 use Rattle.std.proofs.lemmas.List.{reverse-reverse}
 use Rattle.atomic_table.specs.Seated.{TableId}
@@ -16,17 +16,19 @@ use Rattle.fak_model.specs.Seats.{In, marks_of}
 use Rattle.fak_model.specs.Calls.{ObjectId, object_id, SeatInfo, seat_info, Appends}
 use Rattle.fak_model.proofs.QueueBackwards.{count_append}
 use Rattle.fak_model.specs.Tokens.{IsSeatToken}
-use Rattle.fak_model.proofs.RunningCalls.{token_names, token_phase, token_left, token_slots}
+use Rattle.fak_model.proofs.RunningCalls.{token_names, token_left, token_slots}
 use Rattle.fak_core.specs.declared.queue.phase.Phase.{Phase}
 use Rattle.fak_core.specs.declared.queue.phase.Phase.TheVariants as phase
 use Rattle.fak_queue.specs.declared.state.SeatState.{SeatState}
 use Rattle.fak_queue.specs.declared.state.SeatState.TheVariants.{Idle, Inserting, Deleting}
 use Rattle.fak_queue.specs.declared.key.Limits.{Limits}
 use Rattle.fak_queue.specs.Shown.{Holder}
+use Rattle.fak_queue.specs.declared.found.NoRoom.{NoRoom}
 use Rattle.fak_queue.specs.declared.found.NoRoom.TheVariants as refused
+use Rattle.fak_queue.specs.Refusals.{RefusesInsertion}
 use Rattle.fak_queue.specs.Steps.{mark, Marks, FitsTable, HasOneName, ShutAs}
 use Rattle.fak_queue.specs.Queues.{QueueInfo, queue_info, seat_of, tickets_in, drawn_by, state_at, state_of, IsQueue, queue_seat, RestsAt, idle, inserting, deleting, IsQueueSeat, made_by, Makes, before_own, ClaimsIn, RefusesFull, RefusesClosed, ClaimsOut, RefusesEmpty, WaitsToFill, Fills, WaitsToTake, Takes, ShutsAs, ShutsAfter}
-use Rattle.fak_queue.specs.Parts.{IsPart, Nothing, ClaimedIn, RefusedIn, Filled, IsTurnedAwayIn, ClaimedOut, RefusedOut, Taken, IsTurnedAwayOut}
+use Rattle.fak_queue.specs.Parts.{fault_of, IsPart, Nothing, ClaimedIn, RefusedIn, Filled, IsTurnedAwayIn, ClaimedOut, RefusedOut, Taken, IsTurnedAwayOut}
 use Rattle.fak_queue.proofs.Admissions.{closing, closed}
 
 -- ---- where a seat stands
@@ -172,11 +174,28 @@ module _ {T : Type 0} (key : Limits) {size seats name left : ℕ} {p : Phase T} 
       pub told_refused : tells (before_own 0 old (New left)) (before_own 1 old (New left))
       told_refused = ⊎_elim (λ a. told a left_same stays) (λ b. told b left_same stays) either
 
-    pub refuses_full : {u : ℤ} → 0 < left → RefusedIn table.slots key.seats name (refused.Full u) m after → (drawn_by old < old.stint) × RefusesFull queue.size u old (New left)
+    refuses_full : {u : ℤ} → 0 < left → RefusedIn table.slots key.seats name (refused.Full u) m after → (drawn_by old < old.stint) × RefusesFull queue.size u old (New left)
     refuses_full some_left r = (within some_left, record { makes = makes_refused refl refl r; upper_is = told_refused refl refl r })
 
-    pub refuses_closed : 0 < left → RefusedIn table.slots key.seats name refused.Shut m after → (drawn_by old < old.stint) × RefusesClosed queue.size old (New left)
+    refuses_closed : 0 < left → RefusedIn table.slots key.seats name refused.Shut m after → (drawn_by old < old.stint) × RefusesClosed queue.size old (New left)
     refuses_closed some_left r = (within some_left, makes_refused refl refl r)
+
+    -- an insertion that was refused for this reason
+    pub seat_refused_in : (r : NoRoom) → RefusedIn table.slots key.seats name r m after → state_of old ≡ Idle → IsQueueSeat now.slots seats name p left after
+    seat_refused_in (refused.Full u) r = seat_refused refl refl r
+    seat_refused_in refused.Shut r = seat_refused refl refl r
+
+    pub state_refused_in : (r : NoRoom) → RefusedIn table.slots key.seats name r m after → state_of (New left) ≡ Idle
+    state_refused_in (refused.Full u) r = state_refused refl refl r
+    state_refused_in refused.Shut r = state_refused refl refl r
+
+    pub drawn_refused_in : (r : NoRoom) → RefusedIn table.slots key.seats name r m after → drawn_by (New left) ≡ drawn_by old
+    drawn_refused_in (refused.Full u) r = drawn_refused refl refl r
+    drawn_refused_in refused.Shut r = drawn_refused refl refl r
+
+    pub refuses_insertion : (x : T) (r : NoRoom) → 0 < left → RefusedIn table.slots key.seats name r m after → RefusesInsertion queue.size x old (New left) (fault_of r x)
+    refuses_insertion x (refused.Full u) some_left r = let f = refuses_full some_left r in (refl, f.0, f.1)
+    refuses_insertion x refused.Shut some_left r = let f = refuses_closed some_left r in (refl, f.0, f.1)
 
     pub refuses_empty : {l : ℤ} → 0 < left → RefusedOut table.slots key.seats name l m after → (drawn_by old < old.stint) × RefusesEmpty queue.size l old (New left)
     refuses_empty some_left r = (within some_left, record { makes = makes_refused refl refl r; lower_is = told_refused refl refl r })

@@ -1,5 +1,5 @@
 -- The shut bit of a queue, between any two atomic steps.
-use Rattle.std.proofs.Common.{◌≡◌, ℕ, ◌+◌, ◌-◌, ◌≤◌, ◌↔◌, true, false, arith, ap, ◌∙◌, inl, inr}
+use Rattle.std.proofs.Common.{◌≡◌, ◌+◌, ◌-◌, ◌≤◌, ◌↔◌, arith, ap, ◌∙◌, inl, inr}
 use Rattle.std.specs.Prelude.{slice_index, pos, ◌+ℤ◌, Option}
 use Rattle.std.proofs.lemmas.Int.{ints}
 use Rattle.atomic_table.specs.Table.{State}
@@ -9,11 +9,12 @@ use Rattle.fak_model.proofs.QueueCounts.{upper_range}
 use Rattle.fak_core.proofs.QueueReached.{true_or_false, kept}
 use Rattle.fak_queue.specs.declared.key.Limits.{Limits}
 use Rattle.fak_queue.specs.Shown.{IsShownQueue, QueueView}
-use Rattle.fak_queue.specs.Words.{shut_bit, shut_part, bias}
+use Rattle.fak_model.specs.Words.{bias}
+use Rattle.fak_queue.specs.Words.{shut_bit, shut_part}
 use Rattle.fak_queue.proofs.Stepping.{below_of}
 use Rattle.fak_queue.proofs.WordWrites.{shut_above, open_below}
 
-pub shut_exactly : {T : Type 0} (key : Limits) (s : State (Option T) (QueueView T)) (shown : IsShownQueue key s) → (shut_bit ≤ slice_index s.words 0) ↔ Has Close shown.core.past
+pub shut_exactly : {T : Type 0} (key : Limits) (s : State (Option T) (QueueView T)) (shown : IsShownQueue key s) → (shut_bit ≤ slice_index s.words 16) ↔ Has Close shown.core.past
 shut_exactly key s shown =
     let core = shown.core in
     let K = kept key.size core shown.reached shown.encoded.some_cell in
@@ -22,7 +23,7 @@ shut_exactly key s shown =
     let is : pos 0 +ℤ core.upper ≡ pos most = omega (arith, ints, K.upper, g.0) in
     let word = shown.encoded.words_are.upper_is in
     elim (true_or_false core.shut) [
-      | inl shut ↦ ((λ high. K.closed.0 shut), (λ has. shut_above (slice_index s.words 0) 0 most core.upper (word ∙ ap (λ b. pos (shut_part b + bias) +ℤ core.upper) shut) is (omega arith)))
-      | inr unshut ↦ (let low = open_below (slice_index s.words 0) 0 most core.upper (word ∙ ap (λ b. pos (shut_part b + bias) +ℤ core.upper) unshut) is (omega (arith, g.0, g.1, shown.encoded.few_seats, shown.encoded.few_cells)) in
+      | inl shut ↦ ((λ high. K.closed.0 shut), (λ has. shut_above (slice_index s.words 16) 0 most core.upper (word ∙ ap (λ b. pos (shut_part b + bias) +ℤ core.upper) shut) is (omega arith)))
+      | inr unshut ↦ (let low = open_below (slice_index s.words 16) 0 most core.upper (word ∙ ap (λ b. pos (shut_part b + bias) +ℤ core.upper) unshut) is (omega (arith, g.0, g.1, shown.encoded.few_seats, shown.encoded.few_cells)) in
           ((λ high. absurd (omega (arith, high, low))), (λ has. absurd (K.closed.1 unshut has))))
     ]

@@ -59,10 +59,10 @@ shut_as size seats n found m after told false e = told.again (grind (arith, nat_
 pub rests_idle : {T : Type 0} {t : Stage T} → RestsAt phase.Idle t → t ≡ at.Idle
 rests_idle idle = refl
 
-pub rests_inserting : {T : Type 0} {k : ℕ} {x : T} {t : Stage T} → RestsAt (phase.TurnIn k x) t → (t ≡ at.Putting k x) × (k < 2 ^ 62)
+pub rests_inserting : {T : Type 0} {k : ℕ} {x : T} {t : Stage T} → RestsAt (phase.TurnIn k x) t → (t ≡ at.Putting k x) × (k < 2 ^ 46)
 rests_inserting (inserting k x few) = (refl, few)
 
-pub rests_deleting : {T : Type 0} {k : ℕ} {t : Stage T} → RestsAt (phase.TurnOut k) t → (t ≡ at.Getting k) × (k < 2 ^ 62)
+pub rests_deleting : {T : Type 0} {k : ℕ} {t : Stage T} → RestsAt (phase.TurnOut k) t → (t ≡ at.Getting k) × (k < 2 ^ 46)
 rests_deleting (deleting k few) = (refl, few)
 
 -- ---- what the seat's state says

@@ -23,7 +23,8 @@ use Rattle.fak_core.proofs.QueueKept.{IsKept}
 use Rattle.fak_core.proofs.QueueTurns.{at_here, at_else}
 use Rattle.fak_core.proofs.QueueReached.{kept, legal_history}
 use Rattle.fak_queue.specs.declared.key.Limits.{Limits}
-use Rattle.fak_queue.specs.Words.{bias, shut_part, AreWords}
+use Rattle.fak_model.specs.Words.{bias}
+use Rattle.fak_queue.specs.Words.{shut_part, AreWords}
 use Rattle.fak_queue.specs.Shown.{QueueView, Holder, queue_object, IsShownQueue}
 use Rattle.fak_queue.proofs.WordWrites.{grown, shrunk, shut_part-small, words_same, words_upper, words_lower, words_turn}
 use Rattle.fak_queue.proofs.Slots.{stays_home}
@@ -81,10 +82,10 @@ module _ {T : Type 0} (key : Limits) (s : QueueTable T) (r : IsShownQueue key s)
       (omega (arith, ints, K.lower, g.0, r.encoded.few_seats), omega (arith, g.0, g.1, r.encoded.few_seats, r.encoded.few_cells))
 
   -- the upper count's word in a shut queue, and in an open one
-  pub upper_shut : r.core.shut ≡ true → pos (slice_index s.words 0) ≡ pos (shut_part true + bias) +ℤ r.core.upper
+  pub upper_shut : r.core.shut ≡ true → pos (slice_index s.words 16) ≡ pos (shut_part true + bias) +ℤ r.core.upper
   upper_shut e = r.encoded.words_are.upper_is ∙ ap (λ b. pos (shut_part b + bias) +ℤ r.core.upper) e
 
-  pub upper_open : r.core.shut ≡ false → pos (slice_index s.words 0) ≡ pos bias +ℤ r.core.upper
+  pub upper_open : r.core.shut ≡ false → pos (slice_index s.words 16) ≡ pos bias +ℤ r.core.upper
   upper_open e = r.encoded.words_are.upper_is ∙ ap (λ b. pos (shut_part b + bias) +ℤ r.core.upper) e
 
   pub upper_past : r.core.upper ≡ upper_count (reverse r.core.past)
@@ -100,29 +101,29 @@ module _ {T : Type 0} (key : Limits) (s : QueueTable T) (r : IsShownQueue key s)
   pub loaded : (j : ℕ) → WordsOf r.core.upper r.core.lower (set s.words j (slice_index s.words j))
   loaded j = words_same key.size r.core.upper r.core.lower r.core.draws_in r.core.draws_out r.core.turn r.core.shut s.words r.encoded.words_are j
 
-  pub upper_grown : WordsOf (r.core.upper +ℤ pos 1) r.core.lower (set s.words 0 ((slice_index s.words 0 + 1) % 2 ^ 64))
+  pub upper_grown : WordsOf (r.core.upper +ℤ pos 1) r.core.lower (set s.words 16 ((slice_index s.words 16 + 1) % 2 ^ 64))
   upper_grown = let b = upper_bounds in
       words_upper key.size r.core.upper r.core.lower r.core.draws_in r.core.draws_out r.core.turn r.core.shut s.words r.encoded.words_are _ (r.core.upper +ℤ pos 1) r.core.shut
-      (grown (shut_part r.core.shut) (slice_index s.words 0) r.core.upper 0 upper_most (shut_part-small r.core.shut) r.encoded.words_are.upper_is b.0 (omega arith) b.1)
+      (grown (shut_part r.core.shut) (slice_index s.words 16) r.core.upper 0 upper_most (shut_part-small r.core.shut) r.encoded.words_are.upper_is b.0 (omega arith) b.1)
 
-  pub upper_shrunk : WordsOf (r.core.upper -ℤ pos 1) r.core.lower (set s.words 0 ((slice_index s.words 0 + (2 ^ 64 - 1)) % 2 ^ 64))
+  pub upper_shrunk : WordsOf (r.core.upper -ℤ pos 1) r.core.lower (set s.words 16 ((slice_index s.words 16 + (2 ^ 64 - 1)) % 2 ^ 64))
   upper_shrunk = let b = upper_bounds in
       words_upper key.size r.core.upper r.core.lower r.core.draws_in r.core.draws_out r.core.turn r.core.shut s.words r.encoded.words_are _ (r.core.upper -ℤ pos 1) r.core.shut
-      (shrunk (shut_part r.core.shut) (slice_index s.words 0) r.core.upper 0 upper_most (shut_part-small r.core.shut) r.encoded.words_are.upper_is b.0 (omega arith) b.1)
+      (shrunk (shut_part r.core.shut) (slice_index s.words 16) r.core.upper 0 upper_most (shut_part-small r.core.shut) r.encoded.words_are.upper_is b.0 (omega arith) b.1)
 
-  pub lower_grown : WordsOf r.core.upper (r.core.lower +ℤ pos 1) (set s.words 16 ((slice_index s.words 16 + 1) % 2 ^ 64))
+  pub lower_grown : WordsOf r.core.upper (r.core.lower +ℤ pos 1) (set s.words 32 ((slice_index s.words 32 + 1) % 2 ^ 64))
   lower_grown = let b = lower_bounds in
       words_lower key.size r.core.upper r.core.lower r.core.draws_in r.core.draws_out r.core.turn r.core.shut s.words r.encoded.words_are _ (r.core.lower +ℤ pos 1)
-      (grown 0 (slice_index s.words 16) r.core.lower 64 lower_most (omega arith) r.encoded.words_are.lower_is b.0 (omega arith) b.1)
+      (grown 0 (slice_index s.words 32) r.core.lower 64 lower_most (omega arith) r.encoded.words_are.lower_is b.0 (omega arith) b.1)
 
-  pub lower_shrunk : WordsOf r.core.upper (r.core.lower -ℤ pos 1) (set s.words 16 ((slice_index s.words 16 + (2 ^ 64 - 1)) % 2 ^ 64))
+  pub lower_shrunk : WordsOf r.core.upper (r.core.lower -ℤ pos 1) (set s.words 32 ((slice_index s.words 32 + (2 ^ 64 - 1)) % 2 ^ 64))
   lower_shrunk = let b = lower_bounds in
       words_lower key.size r.core.upper r.core.lower r.core.draws_in r.core.draws_out r.core.turn r.core.shut s.words r.encoded.words_are _ (r.core.lower -ℤ pos 1)
-      (shrunk 0 (slice_index s.words 16) r.core.lower 64 lower_most (omega arith) r.encoded.words_are.lower_is b.0 (omega arith) b.1)
+      (shrunk 0 (slice_index s.words 32) r.core.lower 64 lower_most (omega arith) r.encoded.words_are.lower_is b.0 (omega arith) b.1)
 
   -- ---- tickets and turns
 
-  pub few_draws : 0 < m.0.left → (r.core.draws_in < 2 ^ 62) × (r.core.draws_out < 2 ^ 62)
+  pub few_draws : 0 < m.0.left → (r.core.draws_in < 2 ^ 46) × (r.core.draws_out < 2 ^ 46)
   few_draws left =
       let l = total_at (λ (v : QueueView T). v.left) s.views id m.0 at in
       (omega (arith, r.few, l, K.draws_in, left), omega (arith, r.few, l, K.draws_out, left))
@@ -130,10 +131,10 @@ module _ {T : Type 0} (key : Limits) (s : QueueTable T) (r : IsShownQueue key s)
   pub near : (k : ℕ) → k % key.size < key.size
   near k = mod-lt k r.encoded.some_cell
 
-  pub turn_is : (k : ℕ) → slice_index s.words (64 + k % key.size) ≡ r.core.turn (k % key.size)
+  pub turn_is : (k : ℕ) → slice_index s.words (80 + k % key.size) ≡ r.core.turn (k % key.size)
   turn_is k = r.encoded.words_are.turns_are (k % key.size) (near k)
 
-  pub turn_set : (k v : ℕ) → AreWords key.size r.core.upper r.core.lower r.core.draws_in r.core.draws_out (with_at r.core.turn (k % key.size) v) r.core.shut (set s.words (64 + k % key.size) v)
+  pub turn_set : (k v : ℕ) → AreWords key.size r.core.upper r.core.lower r.core.draws_in r.core.draws_out (with_at r.core.turn (k % key.size) v) r.core.shut (set s.words (80 + k % key.size) v)
   turn_set k v = words_turn key.size r.core.upper r.core.lower r.core.draws_in r.core.draws_out r.core.turn r.core.shut s.words r.encoded.words_are (k % key.size) v (near k)
 
   -- ---- phases

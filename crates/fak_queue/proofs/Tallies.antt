@@ -1,5 +1,5 @@
 -- What tallies keep of their seats, and what a whole tally tells.
-use Rattle.std.proofs.Common.{◌≡◌, ◌≢◌, ◌⊎◌, ℕ, ◌<◌, ◌≤◌, ◌==◌, Bool, true, false, List, [], ◌∷◌, ◌++◌, refl, sym, ap, ◌∙◌, subst, inl, inr, arith}
+use Rattle.std.proofs.Common.{◌≡◌, ℕ, ◌<◌, ◌≤◌, ◌==◌, false, List, [], ◌∷◌, refl, sym, ap, ◌∙◌, subst, inl, inr, arith}
 use Rattle.std.specs.Prelude.{map, reverse}
 use Rattle.std.specs.List.{All}
 use Rattle.std.proofs.lemmas.Bool.Decides.{nat_tests}
@@ -7,7 +7,7 @@ use Rattle.std.proofs.lemmas.List.Elements.{All-head, All-tail}
 use Rattle.atomic_table.specs.Seated.{TableId}
 use Rattle.fak_model.specs.declared.queue.Mark.{Mark}
 use Rattle.fak_model.specs.Histories.{AreNamed, IsAtRest, Owes, seat_words}
-use Rattle.fak_model.specs.Queue.{Word, word, queue_rules, words_of_call, IsQueueHistory}
+use Rattle.fak_model.specs.Queue.{word, queue_rules, words_of_call, IsQueueHistory}
 use Rattle.fak_model.specs.QueuePast.{stage}
 use Rattle.fak_model.specs.Seats.{In, IsWhole, Knows, marks_of}
 use Rattle.fak_model.specs.Calls.{SeatInfo, TallyInfo, object_id, IsJoined}

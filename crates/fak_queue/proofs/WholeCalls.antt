@@ -1,4 +1,4 @@
--- From a claim, looks at its cell and the rest of the call to the whole call.
+-- From a claim and the rest of the call to the whole call.
 use Rattle.std.proofs.Common.{◌≡◌, ℕ, zero, suc, ◌+◌, ◌<◌, ◌==◌, Bool, true, false, cond, List, [], ◌∷◌, ◌++◌, length, length-append, refl, ap, sym, ◌∙◌, subst, arith, Some}
 use Rattle.std.proofs.lemmas.List.Concat.{flat_map-append}
 use Rattle.fak_model.specs.declared.queue.Kind.{Kind}
@@ -7,7 +7,7 @@ use Rattle.fak_model.specs.declared.queue.Mark.{Mark}
 use Rattle.fak_model.specs.Queue.{queue_rules, count, puts, gots, items_put, item_in, item_at}
 use Rattle.fak_model.specs.Seats.{marks_of}
 use Rattle.fak_model.specs.Calls.{SeatInfo, Appends, mine_of, before_mark}
-use Rattle.fak_model.proofs.RunningCalls.{appends_refl, appends_none, appends_then}
+use Rattle.fak_model.proofs.RunningCalls.{appends_then}
 use Rattle.fak_queue.specs.Queues.{seat_of, made_by, Makes, before_own, ClaimsIn, ClaimsOut, Fills, Takes, Inserts, Deletes}
 
 -- ---- what stands before a mark stays so as more is seen
@@ -38,27 +38,13 @@ item_stays h rest k x e = ap (λ l. item_at l k) (flat_map-append item_in h rest
 
 -- ---- parts of a call, one after another
 
--- looks that have seen nothing yet, after a claim
-pub looks_in : {T : Type 0} {size k : ℕ} {x : T} {a b : SeatInfo (Mark T)} → ClaimsIn size k x a b → Makes size [] b b
-looks_in {size = size} {b = b} claim = appends_refl (queue_rules size) b claim.makes.lawful claim.makes.named
-
-pub looks_out : {T : Type 0} {size k : ℕ} {a b : SeatInfo (Mark T)} → ClaimsOut size k a b → Makes size [] b b
-looks_out {size = size} {b = b} claim = appends_refl (queue_rules size) b claim.makes.lawful claim.makes.named
-
-module _ {T : Type 0} (size : ℕ) (a b c d : SeatInfo (Mark T)) where
-  -- looks one after another
-  pub looks_more : Makes size [] b c → Makes size [] c d → Makes size [] b d
-  looks_more m n = appends_none (queue_rules size) [] b c d m n
-
-  module _ (one two : Kind T) (claim : Makes size (one ∷ two ∷ []) a b) (look : Makes size [] b c) (three four : Kind T) (end : Makes size (three ∷ four ∷ []) c d) where
+module _ {T : Type 0} (size : ℕ) (a b d : SeatInfo (Mark T)) where
+  module _ (one two : Kind T) (claim : Makes size (one ∷ two ∷ []) a b) (three four : Kind T) (end : Makes size (three ∷ four ∷ []) b d) where
     name_b : b.name ≡ a.name
     name_b = ap (λ (s : SeatInfo (Mark T)). s.name) claim.same_seat
 
-    name_c : c.name ≡ b.name
-    name_c = ap (λ (s : SeatInfo (Mark T)). s.name) look.same_seat
-
     rest_b : Appends (queue_rules size) (made_by a.name (three ∷ four ∷ [])) b d
-    rest_b = subst (λ (k : ℕ). Appends (queue_rules size) (made_by k (three ∷ four ∷ [])) b d) (name_c ∙ name_b) (appends_none (queue_rules size) (made_by c.name (three ∷ four ∷ [])) b c d look end)
+    rest_b = subst (λ (k : ℕ). Appends (queue_rules size) (made_by k (three ∷ four ∷ [])) b d) name_b end
 
     pub whole : Makes size (one ∷ two ∷ three ∷ four ∷ []) a d
     whole = appends_then (queue_rules size) (made_by a.name (one ∷ two ∷ [])) (record { seat = a.name; kind = three }) (made_by a.name (four ∷ [])) a b d claim rest_b
@@ -70,23 +56,23 @@ module _ {T : Type 0} (size : ℕ) (a b c d : SeatInfo (Mark T)) where
         ap (λ (k : ℕ). length (marks_of seat_of k b.seen)) (sym name_b) ∙ (ap length claim.mine ∙ length-append (mine_of seat_of a) (made_by a.name (one ∷ two ∷ []))) in
         ap (before_mark seat_of a.name (length (mine_of seat_of a) + 1)) (sym more.1) ∙ before_mark-stays seat_of a.name b.seen more.0 (length (mine_of seat_of a) + 1) (omega (arith, mine))
 
-  pub inserted : (k : ℕ) (x : T) → ClaimsIn size k x a b → Makes size [] b c → Fills size k c d → Inserts size k x a d
-  inserted k x claim look end = record {
+  pub inserted : (k : ℕ) (x : T) → ClaimsIn size k x a b → Fills size k b d → Inserts size k x a d
+  inserted k x claim end = record {
     within = claim.within;
-    makes = whole made.ClaimIn (made.Put x) claim.makes look (made.Fill k) made.EndIn end;
-    ticket = ap (count puts) (stood made.ClaimIn (made.Put x) claim.makes look (made.Fill k) made.EndIn end) ∙ claim.ticket;
-    put = (let more = (rest_b made.ClaimIn (made.Put x) claim.makes look (made.Fill k) made.EndIn end).begins in subst (λ h. item_at (items_put h) k ≡ Some x) more.1 (item_stays b.seen more.0 k x claim.put));
+    makes = whole made.ClaimIn (made.Put x) claim.makes (made.Fill k) made.EndIn end;
+    ticket = ap (count puts) (stood made.ClaimIn (made.Put x) claim.makes (made.Fill k) made.EndIn end) ∙ claim.ticket;
+    put = (let more = (rest_b made.ClaimIn (made.Put x) claim.makes (made.Fill k) made.EndIn end).begins in subst (λ h. item_at (items_put h) k ≡ Some x) more.1 (item_stays b.seen more.0 k x claim.put));
   }
 
-  pub deleted : (k : ℕ) (x : T) → ClaimsOut size k a b → Makes size [] b c → Takes size k x c d → Deletes size k x a d
-  deleted k x claim look end =
-      let more = rest_b made.ClaimOut (made.Got claim.item) claim.makes look (made.Take k) made.EndOut end.makes in
+  pub deleted : (k : ℕ) (x : T) → ClaimsOut size k a b → Takes size k x b d → Deletes size k x a d
+  deleted k x claim end =
+      let more = rest_b made.ClaimOut (made.Got claim.item) claim.makes (made.Take k) made.EndOut end.makes in
       let kept : item_at (items_put d.seen) k ≡ Some claim.item = subst (λ h. item_at (items_put h) k ≡ Some claim.item) more.begins.1 (item_stays b.seen more.begins.0 k claim.item claim.put) in
       let same : claim.item ≡ x = some_same (sym kept ∙ end.put) in
       record {
         within = claim.within;
-        makes = subst (λ y. Makes size (made.ClaimOut ∷ made.Got y ∷ made.Take k ∷ made.EndOut ∷ []) a d) same (whole made.ClaimOut (made.Got claim.item) claim.makes look (made.Take k) made.EndOut end.makes);
-        ticket = ap (count gots) (stood made.ClaimOut (made.Got claim.item) claim.makes look (made.Take k) made.EndOut end.makes) ∙ claim.ticket;
+        makes = subst (λ y. Makes size (made.ClaimOut ∷ made.Got y ∷ made.Take k ∷ made.EndOut ∷ []) a d) same (whole made.ClaimOut (made.Got claim.item) claim.makes (made.Take k) made.EndOut end.makes);
+        ticket = ap (count gots) (stood made.ClaimOut (made.Got claim.item) claim.makes (made.Take k) made.EndOut end.makes) ∙ claim.ticket;
         put = end.put;
       }
     where

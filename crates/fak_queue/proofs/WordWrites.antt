@@ -12,7 +12,8 @@ use Rattle.fak_queue.specs.declared.found.UpperCount.{UpperCount}
 use Rattle.fak_queue.specs.declared.found.UpperCount.TheVariants.{Below, Full, Shut}
 use Rattle.fak_queue.specs.declared.found.LowerCount.{LowerCount}
 use Rattle.fak_queue.specs.declared.found.LowerCount.TheVariants.{Positive, Empty}
-use Rattle.fak_queue.specs.Words.{bias, shut_bit, shut_part, AreWords, IsUpperCount, IsLowerCount}
+use Rattle.fak_model.specs.Words.{bias}
+use Rattle.fak_queue.specs.Words.{shut_bit, shut_part, AreWords, IsUpperCount, IsLowerCount}
 
 pub shut_part-small : (b : Bool) → shut_part b ≤ 9223372036854775808
 shut_part-small true = omega arith
@@ -105,57 +106,57 @@ module _ (size : ℕ) (u l : ℤ) (i d : ℕ) (turn : ℕ → ℕ) (b : Bool) (w
   else : (j k n : ℕ) → k ≢ j → slice_index (set ws j n) k ≡ slice_index ws k
   else j k n ne = get_or-set_other ws j k n 0 ne
 
-  here : (j n : ℕ) → j < 64 + size → slice_index (set ws j n) j ≡ n
+  here : (j n : ℕ) → j < 96 + size → slice_index (set ws j n) j ≡ n
   here j n lt = get_or-set_same ws j n 0 (let w = W.wide in omega (arith, w, lt))
 
-  pub words_upper : (n : ℕ) (v : ℤ) (c : Bool) → pos n ≡ pos (shut_part c + bias) +ℤ v → AreWords size v l i d turn c (set ws 0 n)
+  pub words_upper : (n : ℕ) (v : ℤ) (c : Bool) → pos n ≡ pos (shut_part c + bias) +ℤ v → AreWords size v l i d turn c (set ws 16 n)
   words_upper n v c e = record {
-    wide = length-set ws 0 n ∙ W.wide;
-    upper_is = ap pos (here 0 n (omega arith)) ∙ e;
-    lower_is = ap pos (else 0 16 n (λ q. omega (arith, q))) ∙ W.lower_is;
-    draws_in_is = else 0 32 n (λ q. omega (arith, q)) ∙ W.draws_in_is;
-    draws_out_is = else 0 48 n (λ q. omega (arith, q)) ∙ W.draws_out_is;
-    turns_are = λ c lt. else 0 (64 + c) n (λ q. omega (arith, q)) ∙ W.turns_are c lt;
-  }
-
-  pub words_lower : (n : ℕ) (v : ℤ) → pos n ≡ pos bias +ℤ v → AreWords size u v i d turn b (set ws 16 n)
-  words_lower n v e = record {
     wide = length-set ws 16 n ∙ W.wide;
-    upper_is = ap pos (else 16 0 n (λ q. omega (arith, q))) ∙ W.upper_is;
-    lower_is = ap pos (here 16 n (omega arith)) ∙ e;
-    draws_in_is = else 16 32 n (λ q. omega (arith, q)) ∙ W.draws_in_is;
-    draws_out_is = else 16 48 n (λ q. omega (arith, q)) ∙ W.draws_out_is;
-    turns_are = λ c lt. else 16 (64 + c) n (λ q. omega (arith, q)) ∙ W.turns_are c lt;
+    upper_is = ap pos (here 16 n (omega arith)) ∙ e;
+    lower_is = ap pos (else 16 32 n (λ q. omega (arith, q))) ∙ W.lower_is;
+    draws_in_is = else 16 48 n (λ q. omega (arith, q)) ∙ W.draws_in_is;
+    draws_out_is = else 16 64 n (λ q. omega (arith, q)) ∙ W.draws_out_is;
+    turns_are = λ c lt. else 16 (80 + c) n (λ q. omega (arith, q)) ∙ W.turns_are c lt;
   }
 
-  pub words_draws_in : (n : ℕ) → AreWords size u l n d turn b (set ws 32 n)
-  words_draws_in n = record {
+  pub words_lower : (n : ℕ) (v : ℤ) → pos n ≡ pos bias +ℤ v → AreWords size u v i d turn b (set ws 32 n)
+  words_lower n v e = record {
     wide = length-set ws 32 n ∙ W.wide;
-    upper_is = ap pos (else 32 0 n (λ q. omega (arith, q))) ∙ W.upper_is;
-    lower_is = ap pos (else 32 16 n (λ q. omega (arith, q))) ∙ W.lower_is;
-    draws_in_is = here 32 n (omega arith);
-    draws_out_is = else 32 48 n (λ q. omega (arith, q)) ∙ W.draws_out_is;
-    turns_are = λ c lt. else 32 (64 + c) n (λ q. omega (arith, q)) ∙ W.turns_are c lt;
+    upper_is = ap pos (else 32 16 n (λ q. omega (arith, q))) ∙ W.upper_is;
+    lower_is = ap pos (here 32 n (omega arith)) ∙ e;
+    draws_in_is = else 32 48 n (λ q. omega (arith, q)) ∙ W.draws_in_is;
+    draws_out_is = else 32 64 n (λ q. omega (arith, q)) ∙ W.draws_out_is;
+    turns_are = λ c lt. else 32 (80 + c) n (λ q. omega (arith, q)) ∙ W.turns_are c lt;
   }
 
-  pub words_draws_out : (n : ℕ) → AreWords size u l i n turn b (set ws 48 n)
-  words_draws_out n = record {
+  pub words_draws_in : (n : ℕ) → AreWords size u l n d turn b (set ws 48 n)
+  words_draws_in n = record {
     wide = length-set ws 48 n ∙ W.wide;
-    upper_is = ap pos (else 48 0 n (λ q. omega (arith, q))) ∙ W.upper_is;
-    lower_is = ap pos (else 48 16 n (λ q. omega (arith, q))) ∙ W.lower_is;
-    draws_in_is = else 48 32 n (λ q. omega (arith, q)) ∙ W.draws_in_is;
-    draws_out_is = here 48 n (omega arith);
-    turns_are = λ c lt. else 48 (64 + c) n (λ q. omega (arith, q)) ∙ W.turns_are c lt;
+    upper_is = ap pos (else 48 16 n (λ q. omega (arith, q))) ∙ W.upper_is;
+    lower_is = ap pos (else 48 32 n (λ q. omega (arith, q))) ∙ W.lower_is;
+    draws_in_is = here 48 n (omega arith);
+    draws_out_is = else 48 64 n (λ q. omega (arith, q)) ∙ W.draws_out_is;
+    turns_are = λ c lt. else 48 (80 + c) n (λ q. omega (arith, q)) ∙ W.turns_are c lt;
   }
 
-  pub words_turn : (c n : ℕ) → c < size → AreWords size u l i d (with_at turn c n) b (set ws (64 + c) n)
+  pub words_draws_out : (n : ℕ) → AreWords size u l i n turn b (set ws 64 n)
+  words_draws_out n = record {
+    wide = length-set ws 64 n ∙ W.wide;
+    upper_is = ap pos (else 64 16 n (λ q. omega (arith, q))) ∙ W.upper_is;
+    lower_is = ap pos (else 64 32 n (λ q. omega (arith, q))) ∙ W.lower_is;
+    draws_in_is = else 64 48 n (λ q. omega (arith, q)) ∙ W.draws_in_is;
+    draws_out_is = here 64 n (omega arith);
+    turns_are = λ c lt. else 64 (80 + c) n (λ q. omega (arith, q)) ∙ W.turns_are c lt;
+  }
+
+  pub words_turn : (c n : ℕ) → c < size → AreWords size u l i d (with_at turn c n) b (set ws (80 + c) n)
   words_turn c n near = record {
-    wide = length-set ws (64 + c) n ∙ W.wide;
-    upper_is = ap pos (else (64 + c) 0 n (λ q. omega (arith, q))) ∙ W.upper_is;
-    lower_is = ap pos (else (64 + c) 16 n (λ q. omega (arith, q))) ∙ W.lower_is;
-    draws_in_is = else (64 + c) 32 n (λ q. omega (arith, q)) ∙ W.draws_in_is;
-    draws_out_is = else (64 + c) 48 n (λ q. omega (arith, q)) ∙ W.draws_out_is;
-    turns_are = λ j lt. by_place (λ x. slice_index (set ws (64 + c) n) (64 + j) ≡ x) turn c j n
-        (λ q. ap (λ k. slice_index (set ws (64 + c) n) (64 + k)) q ∙ here (64 + c) n (omega (arith, near)))
-        (λ ne. else (64 + c) (64 + j) n (λ q. ne (omega (arith, q))) ∙ W.turns_are j lt);
+    wide = length-set ws (80 + c) n ∙ W.wide;
+    upper_is = ap pos (else (80 + c) 16 n (λ q. omega (arith, q))) ∙ W.upper_is;
+    lower_is = ap pos (else (80 + c) 32 n (λ q. omega (arith, q))) ∙ W.lower_is;
+    draws_in_is = else (80 + c) 48 n (λ q. omega (arith, q)) ∙ W.draws_in_is;
+    draws_out_is = else (80 + c) 64 n (λ q. omega (arith, q)) ∙ W.draws_out_is;
+    turns_are = λ j lt. by_place (λ x. slice_index (set ws (80 + c) n) (80 + j) ≡ x) turn c j n
+        (λ q. ap (λ k. slice_index (set ws (80 + c) n) (80 + k)) q ∙ here (80 + c) n (omega (arith, near)))
+        (λ ne. else (80 + c) (80 + j) n (λ q. ne (omega (arith, q))) ∙ W.turns_are j lt);
   }

@@ -1,5 +1,5 @@
 -- What a part of a call leaves at a seat's token: the claim, the rest of a call, or a look at a cell.
-use Rattle.std.specs.Prelude.{◌≡◌, ◌⊎◌, ℕ, ◌+◌, ◌-◌, ℤ, List, [], ◌∷◌, length, reverse, Some}
+use Rattle.std.specs.Prelude.{◌≡◌, ◌⊎◌, ℕ, ◌+◌, ◌-◌, ◌%◌, ℤ, Bool, true, false, List, [], ◌∷◌, length, reverse, Some, None}
 use Rattle.fak_model.specs.declared.queue.Kind.{Kind}
 use Rattle.fak_model.specs.declared.queue.Kind.TheVariants as made
 use Rattle.fak_model.specs.declared.queue.Mark.{Mark}
@@ -7,12 +7,16 @@ use Rattle.fak_model.specs.Queue.{queue_rules, count, puts, gots, upper_count, l
 use Rattle.fak_model.specs.QueuePast.{stage}
 use Rattle.fak_model.specs.Seats.{marks_of}
 use Rattle.fak_model.specs.Views.{sight}
+use Rattle.fak_model.specs.Shown.{Leaves}
 use Rattle.fak_model.specs.Calls.{ObjectId, seat_info, Appends, before_mark}
 use Rattle.fak_core.specs.declared.queue.phase.Phase.{Phase}
-use Rattle.fak_core.specs.declared.queue.phase.Phase.TheVariants.{Idle, TurnIn, TurnOut}
+use Rattle.fak_core.specs.declared.queue.phase.Phase.TheVariants.{Idle, TurnIn, StoreItem, TurnOut}
+use Rattle.fak_queue.specs.declared.fault.InsertFault.{InsertFault}
+use Rattle.fak_queue.specs.declared.fault.InsertFault.TheVariants as refused
 use Rattle.fak_queue.specs.declared.found.NoRoom.{NoRoom}
 use Rattle.fak_queue.specs.declared.found.NoRoom.TheVariants.{Full, Shut}
-use Rattle.fak_queue.specs.Shown.{Holder}
+use Rattle.fak_queue.specs.Shown.{Holder, queue_object}
+use Rattle.fak_queue.specs.Steps.{Anything, TookSlot}
 use Rattle.fak_queue.specs.Queues.{seat_of, made_by, RestsAt}
 
 -- what stood before the seat's mark of this number, among those that it made between m and after
@@ -30,6 +34,11 @@ pub record IsPart {T : Type 0} (size seats n : ℕ) (kinds : List (Kind T)) (p :
 
 abbrev pub Nothing : {T : Type 0} → List (Mark T) → List (Mark T) → Type 0
 Nothing first second = Unit {0}
+
+-- what an insertion is refused with
+abbrev pub fault_of : {T : Type 0} → NoRoom → T → InsertFault T
+fault_of (Full upper) x = refused.Full upper x
+fault_of Shut x = refused.Closed x
 
 module _ {T : Type 0} (size seats n : ℕ) where
   -- ---- insertions
@@ -54,6 +63,15 @@ module _ {T : Type 0} (size seats n : ℕ) where
     pub round : k ≡ earlier + size
     pub untaken : Has (made.Take earlier) (reverse after.0.seen) → ⊥
 
+  -- a look at the cell: the seat has its slot, or was turned away
+  abbrev pub LooksIn : ℕ → T → Bool → Holder T → Holder T → Type 0
+  LooksIn k x true m after = Leaves (queue_object size seats) m [] (StoreItem k x) m.0.left ((k % size, None) ∷ m.1) Anything after
+  LooksIn k x false m after = IsTurnedAwayIn k x m after
+
+  -- the rest of the insertion, after a look that found the slot
+  abbrev pub FillsSlot : ℕ → T → Holder T → Holder T → Type 0
+  FillsSlot k x m after = (was : Holder T) → was.0.names ≡ n ∷ [] → was.1 ≡ [] → LooksIn k x true was m → Filled k was after
+
   -- ---- deletions
 
   pub record ClaimedOut (k : ℕ) (m after : Holder T) : Type 0 where
@@ -73,3 +91,12 @@ module _ {T : Type 0} (size seats n : ℕ) where
   pub record IsTurnedAwayOut (k : ℕ) (m after : Holder T) : Type 0 where
     pub part : IsPart size seats n [] (TurnOut k) m.0.left Nothing m after
     pub unfilled : Has (made.Fill k) (reverse after.0.seen) → ⊥
+
+  -- a look at the cell: the seat has its slot with an item, or was turned away
+  abbrev pub LooksOut : ℕ → Bool → Holder T → Holder T → Type 0
+  LooksOut k true m after = TookSlot size seats n k m after
+  LooksOut k false m after = IsTurnedAwayOut k m after
+
+  -- the rest of the deletion, after a look that found the slot
+  abbrev pub TakesSlot : ℕ → T → Holder T → Holder T → Type 0
+  TakesSlot k x m after = (was : Holder T) → was.0.names ≡ n ∷ [] → was.1 ≡ [] → LooksOut k true was m → Taken k x was after

@@ -75,7 +75,7 @@ AreIdle names h = (n : ℕ) → In n names → Owes words_of_call (seat_words (q
 -- the table of a queue of this size
 pub record IsQueue (size : ℕ) (table : TableId) : Type 0 where
   pub slots : table.slots ≡ size
-  pub words : table.words ≡ 64 + table.slots
+  pub words : table.words ≡ 96 + table.slots
   pub some_cell : 0 < size
   pub few_cells : size ≤ 4096
 
@@ -86,8 +86,8 @@ queue_seat object name left me = seat_info object name (left + tickets_in (marks
 -- what a seat of a queue of this size keeps; between two calls it is idle, or waits for its turn at a cell
 pub data RestsAt {T : Type 0} : Phase T → Stage T → Type 0 where
   idle : RestsAt phase.Idle at.Idle
-  inserting : (k : ℕ) → (x : T) → k < 2 ^ 62 → RestsAt (phase.TurnIn k x) (at.Putting k x)
-  deleting : (k : ℕ) → k < 2 ^ 62 → RestsAt (phase.TurnOut k) (at.Getting k)
+  inserting : (k : ℕ) → (x : T) → k < 2 ^ 46 → RestsAt (phase.TurnIn k x) (at.Putting k x)
+  deleting : (k : ℕ) → k < 2 ^ 46 → RestsAt (phase.TurnOut k) (at.Getting k)
 
 pub record IsQueueSeat {T : Type 0} (size seats name : ℕ) (p : Phase T) (left : ℕ) (me : Holder T) : Type 0 where
   pub token : IsSeatToken seat_of seats name p left me

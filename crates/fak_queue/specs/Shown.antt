@@ -43,12 +43,12 @@ pub record IsEncoded {T : Type 0} (size seats : ℕ) (core : QueueState T) (word
   pub wide : length homes ≡ size
   pub slots_are : (cell : ℕ) → cell < size → HasSlot size core homes cell
 
--- a queue of this size with these seats; fewer than 2^62 tickets are ever drawn
+-- a queue of this size with these seats; at most 2^46 tickets are ever drawn
 abbrev pub queue_object : {T : Type 0} → ℕ → ℕ → Object (Mark T) Word WholeCall (Phase T) (QueueState T) (Option T)
 queue_object {T} size seats = record {
   rules = queue_rules size;
   seats = seats;
-  tickets = 4611686018427387904;
+  tickets = 70368744177664;
   drawn_of = λ (core : QueueState T). count puts core.past + count gots core.past;
   past_of = λ (core : QueueState T). core.past;
   IsReached = IsReached size;

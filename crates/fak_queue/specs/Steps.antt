@@ -16,6 +16,7 @@ use Rattle.fak_queue.specs.declared.found.UpperCount.{UpperCount}
 use Rattle.fak_queue.specs.declared.found.UpperCount.TheVariants.{Below, Full, Shut}
 use Rattle.fak_queue.specs.declared.found.LowerCount.{LowerCount}
 use Rattle.fak_queue.specs.declared.found.LowerCount.TheVariants.{Positive, Empty}
+use Rattle.fak_queue.specs.declared.place.Place.{Place}
 use Rattle.fak_queue.specs.declared.key.Limits.{Limits}
 use Rattle.fak_queue.specs.Words.{shut_bit, IsUpperCount, IsLowerCount}
 use Rattle.fak_queue.specs.Shown.{Holder, queue_object}
@@ -24,7 +25,13 @@ use Rattle.fak_queue.specs.Shown.{Holder, queue_object}
 pub record FitsTable (of_seat table : TableId) (key : Limits) (seats : ℕ) : Type 0 where
   pub same : of_seat ≡ table
   pub few : key.seats ≡ seats
-  pub words : table.words ≡ 64 + table.slots
+  pub words : table.words ≡ 96 + table.slots
+
+-- the cell and the round of a ticket, in a queue of this size
+pub record IsPlace (size : ℕ) (p : Place) : Type 0 where
+  pub near : p.cell < size
+  pub cell_is : p.cell ≡ p.ticket % size
+  pub round_is : p.round ≡ p.ticket / size
 
 -- the seat's own name
 abbrev pub HasOneName : {T : Type 0} → Holder T → Type 0
@@ -71,7 +78,7 @@ module _ {T : Type 0} (size seats n : ℕ) where
   -- the ticket that was drawn is the number of earlier Puts
   pub record DrewIn (x : T) (m : Holder T) (found : ℕ) (after : Holder T) : Type 0 where
     pub leaves : Leaves (queue_object size seats) m (mark n (made.Put x) ∷ []) (TurnIn found x) (m.0.left - 1) m.1 (λ past. count puts (reverse past) ≡ found) after
-    pub few : found < 2 ^ 62
+    pub few : found < 2 ^ 46
 
   abbrev pub DrawsIn : Holder T → ℕ → Holder T → Type 0
   DrawsIn m found after = (x : T) → m.0.phase ≡ Some (TicketIn x) → DrewIn x m found after
@@ -123,7 +130,7 @@ module _ {T : Type 0} (size seats n : ℕ) where
   pub record DrawsOut (m : Holder T) (found : ℕ) (after : Holder T) : Type 0 where
     pub item : T
     pub leaves : Leaves (queue_object size seats) m (mark n (made.Got item) ∷ []) (TurnOut found) (m.0.left - 1) m.1 (λ past. (count gots (reverse past) ≡ found) × (item_at (items_put (reverse past)) found ≡ Some item)) after
-    pub few : found < 2 ^ 62
+    pub few : found < 2 ^ 46
 
   -- a seat waits with ticket k while its cell was not filled
   pub record WaitsOut (k : ℕ) (past : List (Mark T)) : Type 0 where

@@ -1,13 +1,10 @@
 -- The words of a queue's table.
 use Rattle.std.specs.Prelude.{◌≡◌, ℕ, ◌+◌, ◌<◌, ◌≤◌, Bool, true, false, List, length, slice_index, ℤ, pos, ◌+ℤ◌}
+use Rattle.fak_model.specs.Words.{bias}
 use Rattle.fak_queue.specs.declared.found.UpperCount.{UpperCount}
 use Rattle.fak_queue.specs.declared.found.UpperCount.TheVariants.{Below, Full, Shut}
 use Rattle.fak_queue.specs.declared.found.LowerCount.{LowerCount}
 use Rattle.fak_queue.specs.declared.found.LowerCount.TheVariants.{Positive, Empty}
-
--- a word that keeps a count has this much more than the count: 2^62
-abbrev pub bias : ℕ
-bias = 4611686018427387904
 
 -- the bit that a shut queue has in the word of its upper count: 2^63
 abbrev pub shut_bit : ℕ
@@ -17,14 +14,14 @@ abbrev pub shut_part : Bool → ℕ
 shut_part true = 9223372036854775808
 shut_part false = 0
 
--- the counts and the ticket counters stand sixteen words apart, the turns of the cells behind them
+-- sixteen words, then the counts and the ticket counters, sixteen words apart, the turns of the cells, and sixteen words
 pub record AreWords (size : ℕ) (upper lower : ℤ) (draws_in draws_out : ℕ) (turn : ℕ → ℕ) (shut : Bool) (words : List ℕ) : Type 0 where
-  pub wide : length words ≡ 64 + size
-  pub upper_is : pos (slice_index words 0) ≡ pos (shut_part shut + bias) +ℤ upper
-  pub lower_is : pos (slice_index words 16) ≡ pos bias +ℤ lower
-  pub draws_in_is : slice_index words 32 ≡ draws_in
-  pub draws_out_is : slice_index words 48 ≡ draws_out
-  pub turns_are : (c : ℕ) → c < size → slice_index words (64 + c) ≡ turn c
+  pub wide : length words ≡ 96 + size
+  pub upper_is : pos (slice_index words 16) ≡ pos (shut_part shut + bias) +ℤ upper
+  pub lower_is : pos (slice_index words 32) ≡ pos bias +ℤ lower
+  pub draws_in_is : slice_index words 48 ≡ draws_in
+  pub draws_out_is : slice_index words 64 ≡ draws_out
+  pub turns_are : (c : ℕ) → c < size → slice_index words (80 + c) ≡ turn c
 
 -- what a word of the upper count says, in a queue of this size
 abbrev pub IsUpperCount : ℕ → ℕ → UpperCount → Type 0

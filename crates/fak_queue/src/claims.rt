@@ -7,7 +7,7 @@ ghost use Rattle.fak_queue.specs.Refusals.{RefusesDeletion, RefusesInsertion};
 
 use crate::admission::{admit_deletion, admit_insertion};
 use crate::fault::{DeleteFault, InsertFault};
-use crate::found::NoRoom;
+use crate::found::refuse_worn;
 use crate::queue::Queue;
 use crate::seat::Seat;
 use crate::steps::shut;
@@ -27,16 +27,15 @@ impl<T: Drop> Queue<T> {
         ensures call { MatchResult result (λ k. ClaimsIn self.now.size k item seat.old seat.new) (RefusesInsertion self.now.size item seat.old seat.new) }
     {
         if seat.left == 0 {
-            return Err(InsertFault::Worn { item });
+            return refuse_worn(item);
         }
-        match admit_insertion(&self.table.shared, &mut seat.token, self.size, &item) {
+        match admit_insertion(&self.table.shared, &mut seat.token, self.cells.size, &item) {
             Ok(ticket) => {
                 seat.left -= 1;
                 seat.phase = Phase::TurnIn(ticket, item);
                 Ok(ticket)
             }
-            Err(NoRoom::Full(upper)) => Err(InsertFault::Full { upper, item }),
-            Err(NoRoom::Shut) => Err(InsertFault::Closed { item }),
+            Err(reason) => reason.refuse(item),
         }
     }
 

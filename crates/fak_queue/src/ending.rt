@@ -57,7 +57,7 @@ impl<T: Drop> Queue<T> {
         ensures named { AreNamed (queue_rules self.size) self.object.seats tally.seen }
         ensures at_rest { IsAtRest (queue_rules self.size) tally.seen }
     {
-        let Queue { table, size } = self;
+        let Queue { table, cells } = self;
         let Tally {
             token,
             names: _,
@@ -68,7 +68,7 @@ impl<T: Drop> Queue<T> {
         let got = closed.word(DRAWS_OUT);
         Rest {
             closed,
-            size,
+            size: cells.size,
             next: got,
             count: put - got,
         }

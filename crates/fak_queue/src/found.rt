@@ -1,5 +1,11 @@
 //! What a step finds in the word of a count.
 
+ghost use Rattle.std.specs.Prelude.{◌≡◌, Err};
+ghost use Rattle.fak_queue.specs.declared.fault.InsertFault.TheVariants.{Worn};
+ghost use Rattle.fak_queue.specs.Parts.{fault_of};
+
+use crate::fault::InsertFault;
+
 /// What a load of the upper count's word, or an add to it, found.
 #[derive(Clone, Copy, Debug, PartialEq, Eq, Drop)]
 pub enum UpperCount {
@@ -27,4 +33,23 @@ pub enum NoRoom {
     Full(i64),
     /// The queue was shut.
     Shut,
+}
+
+impl NoRoom {
+    // Refuses an insertion of this item.
+    pub(crate) fn refuse<T>(self, item: T) -> Result<u64, InsertFault<T>>
+        ensures { result ≡ Err (fault_of self item) }
+    {
+        match self {
+            NoRoom::Full(upper) => Err(InsertFault::Full { upper, item }),
+            NoRoom::Shut => Err(InsertFault::Closed { item }),
+        }
+    }
+}
+
+// Refuses an insertion of this item on a seat that has drawn its stint.
+pub(crate) fn refuse_worn<T>(item: T) -> Result<u64, InsertFault<T>>
+    ensures { result ≡ Err (Worn item) }
+{
+    Err(InsertFault::Worn { item })
 }

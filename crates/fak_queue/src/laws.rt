@@ -27,5 +27,5 @@ pub fn a_slot_is_out_while_its_cell_has_an_owner<T>()
 /// The shut bit is set in the word of the upper count exactly where a `Close` stands in the history that is shown.
 pub fn the_shut_bit_tells_of_a_close<T>()
     ensures { (key : Limits) (s : State (Option T) (QueueView T)) (shown : IsShownQueue key s)
-        → (shut_bit ≤ slice_index s.words 0) ↔ Has Close shown.core.past }
+        → (shut_bit ≤ slice_index s.words 16) ↔ Has Close shown.core.past }
 {}

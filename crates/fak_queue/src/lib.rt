@@ -14,13 +14,16 @@
 //! `docs/CALLING.md` is the guide for callers; `crates/pool_of_workers` and `crates/page_frames` are programs to begin from.
 
 mod admission;
+mod cells;
 pub mod claims;
 pub mod ending;
 pub mod fault;
 mod found;
 mod key;
 pub mod laws;
+mod looks;
 pub mod opening;
+mod place;
 mod plays;
 pub mod queue;
 pub mod rest;

@@ -1,33 +1,34 @@
 //! How a queue is opened.
 
-ghost use Rattle.std.specs.Prelude.{◌≡◌, ◌+◌, ◌*◌, [], IfOk, MatchResult};
+ghost use Rattle.std.specs.Prelude.{◌≡◌, ◌+◌, [], IfOk, MatchResult};
 ghost use Rattle.fak_model.specs.Calls.{fresh_seats};
 ghost use Rattle.fak_queue.specs.Refusals.{IsInRange, IsOpenFault, IsRangeFault};
 ghost use Rattle.fak_queue.specs.Shown.{opened_queue};
 
+use crate::cells::Cells;
 use crate::fault::OpenFault;
 use crate::key::Limits;
 use crate::queue::Queue;
 use crate::rule::Law;
 use crate::seat::Seat;
 use crate::steps::Token;
-use crate::words::{BIAS, LOWER, TURNS, UPPER};
+use crate::words::{LOWER, MARGIN, TURNS, UPPER};
 use atomic_table::Table;
 use fak_core::Phase;
-use fak_model::{Deal, Mark, View};
+use fak_model::{BIAS, Deal, LARGEST_SIZE, LONGEST_STINT, MOST_SEATS, Mark, View};
 use std::alloc::{AllocError, Global};
 
 // Tests the size, the number of seats and the stint, in this order.
 fn tested_limits(size: u64, seats: u64, stint: u64) -> Result<(), OpenFault>
     ensures { MatchResult result (λ _. IsInRange size seats stint) (IsRangeFault size seats stint) }
 {
-    if size == 0 || size > 4096 {
+    if size == 0 || size > LARGEST_SIZE {
         return Err(OpenFault::BadSize);
     }
-    if seats == 0 || seats > 64 {
+    if seats == 0 || seats > MOST_SEATS {
         return Err(OpenFault::BadSeats);
     }
-    if stint == 0 || stint > 1 << 40 {
+    if stint == 0 || stint > LONGEST_STINT {
         return Err(OpenFault::BadStint);
     }
     Ok(())
@@ -38,11 +39,11 @@ type QueueTable<T> = Table<Option<T>, View<Mark<T>, Phase<T>>, Limits, Law, Glob
 // The table of an empty queue, with a seat for all names.
 fn empty_table<T>(alloc: Global, key: &Limits) -> Result<(QueueTable<T>, Token<T>), AllocError>
     requires { IsInRange key.now.size key.now.seats key.now.stint }
-    ensures { IfOk result (λ r. (r.0.shared.table_id.words ≡ 64 + key.now.size) × (r.0.shared.table_id.slots ≡ key.now.size) × (r.0.shared.key ≡ key.now)
+    ensures { IfOk result (λ r. (r.0.shared.table_id.words ≡ 96 + key.now.size) × (r.0.shared.table_id.slots ≡ key.now.size) × (r.0.shared.key ≡ key.now)
         × (r.1.table_id ≡ r.0.shared.table_id) × (r.1.me ≡ (opened_queue key.now, []))) }
 {
     let cells = key.size as usize;
-    let Ok(mut words) = Vec::from_elem(alloc, 0u64, cells + TURNS) else {
+    let Ok(mut words) = Vec::from_elem(alloc, 0u64, cells + TURNS + MARGIN) else {
         return Err(AllocError);
     };
     words[UPPER] = BIAS;
@@ -85,6 +86,7 @@ impl<T: Drop> Queue<T> {
                 return Err(OpenFault::Memory);
             }
         }
-        Ok((Queue { table, size }, dealt))
+        let cells = Cells::new(size);
+        Ok((Queue { table, cells }, dealt))
     }
 }

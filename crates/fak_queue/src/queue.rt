@@ -1,5 +1,6 @@
 //! The queue that its seats share.
 
+use crate::cells::Cells;
 use crate::key::Limits;
 use crate::rule::Law;
 use atomic_table::Table;
@@ -13,7 +14,7 @@ use std::marker::Model;
 #[derive(Drop)]
 pub struct Queue<T> {
     pub(crate) table: Table<Option<T>, View<Mark<T>, Phase<T>>, Limits, Law, Global>,
-    pub(crate) size: u64,
+    pub(crate) cells: Cells,
 }
 
 impl<T> Model for Queue<T> {
@@ -24,5 +25,5 @@ impl<T> Model for Queue<T> {
 
     ghost view = { λ q. queue_info (object_id q.table.shared.table_id q.table.shared.key.seats) };
 
-    ghost invariant = { λ q. IsQueue q.size q.table.shared.table_id };
+    ghost invariant = { λ q. IsQueue q.cells.size q.table.shared.table_id };
 }

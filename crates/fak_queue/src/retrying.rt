@@ -6,9 +6,9 @@ ghost use Rattle.fak_queue.specs.Queues.{drawn_by, state_of};
 ghost use Rattle.fak_queue.specs.Retries.{DeletesAfterEmpty, InsertsAfterFull, RefusesWaitingDeletion, RefusesWaitingInsertion};
 
 use crate::fault::{DeleteFault, InsertFault};
+use crate::looks::Looks;
 use crate::queue::Queue;
 use crate::seat::Seat;
-use crossbeam_utils::Backoff;
 use std::sync::Wait;
 
 impl<T: Drop> Queue<T> {
@@ -28,7 +28,7 @@ impl<T: Drop> Queue<T> {
         ensures left { MatchResult result (λ _. drawn_by seat.new ≡ drawn_by seat.old + 1) (λ _. drawn_by seat.new ≡ drawn_by seat.old) }
         ensures call { MatchResult result (λ k. InsertsAfterFull self.now.size k item seat.old seat.new) (RefusesWaitingInsertion self.now.size item seat.old seat.new) }
     {
-        let backoff = Backoff::new();
+        let mut looks = Looks::new();
         let mut waiting = item;
         for _ in rt.forever() {
             match self.insert(rt, seat, waiting) {
@@ -37,7 +37,7 @@ impl<T: Drop> Queue<T> {
                 Err(InsertFault::Closed { item }) => return Err(InsertFault::Closed { item }),
                 Err(InsertFault::Full { upper: _, item }) => waiting = item,
             }
-            backoff.snooze();
+            looks.pause();
         }
         unreachable!()
     }
@@ -53,14 +53,14 @@ impl<T: Drop> Queue<T> {
         ensures left { MatchResult result (λ _. drawn_by seat.new ≡ drawn_by seat.old + 1) (λ _. drawn_by seat.new ≡ drawn_by seat.old) }
         ensures call { MatchResult result (λ r. DeletesAfterEmpty self.now.size r.0 r.1 seat.old seat.new) (RefusesWaitingDeletion seat.old seat.new) }
     {
-        let backoff = Backoff::new();
+        let mut looks = Looks::new();
         for _ in rt.forever() {
             match self.delete(rt, seat) {
                 Ok((ticket, item)) => return Ok((ticket, item)),
                 Err(DeleteFault::Worn) => return Err(DeleteFault::Worn),
                 Err(DeleteFault::Empty(_)) => {}
             }
-            backoff.snooze();
+            looks.pause();
         }
         unreachable!()
     }

@@ -3,7 +3,7 @@
 pub(crate) mod deletion;
 pub(crate) mod insertion;
 
-ghost use Rattle.std.specs.Prelude.{◌≡◌, ◌∷◌, [], Some};
+ghost use Rattle.std.specs.Prelude.{◌≡◌, Some};
 ghost use Rattle.fak_core.specs.declared.queue.phase.Phase.TheVariants.{Idle};
 ghost use Rattle.fak_queue.specs.Steps.{FitsTable, HasOneName, HearsJoin, Named, ShutAs};
 

@@ -2,6 +2,7 @@ mod drops;
 mod in_turns;
 mod items;
 mod joined;
+mod pages;
 mod rows;
 mod storms;
 mod threads;

@@ -6,9 +6,8 @@ ghost use Rattle.fak_queue.specs.Queues.{Fills, Takes, WaitsToFill, WaitsToTake,
 
 use crate::queue::Queue;
 use crate::seat::Seat;
-use crate::turns::{empty_cell, fill_cell};
+use crate::turns::{empty_cell, fill_cell_from, finds_item, finds_room};
 use fak_core::Phase;
-use std::mem;
 
 impl<T: Drop> Queue<T> {
     /// Where it is the cell's turn, moves the item into it, ends the insertion and answers its ticket. Else the seat is
@@ -22,16 +21,16 @@ impl<T: Drop> Queue<T> {
         ensures call { (k : ℕ) → state_of seat.old ≡ Inserting k → MatchOption result
             (WaitsToFill self.now.size k seat.old seat.new) (λ j. (j ≡ k) × Fills self.now.size k seat.old seat.new) }
     {
-        let Phase::TurnIn(ticket, item) = mem::replace(&mut seat.phase, Phase::Idle) else {
+        let Phase::TurnIn(ticket, _) = seat.phase else {
             unreachable!()
         };
-        match fill_cell(&self.table.shared, &mut seat.token, self.size, ticket, item) {
-            None => Some(ticket),
-            Some(item) => {
-                seat.phase = Phase::TurnIn(ticket, item);
-                None
-            }
+        let place = self.cells.place(ticket);
+        if !finds_room(&self.table.shared, &mut seat.token, place) {
+            return None;
         }
+        let words = &self.table.shared;
+        fill_cell_from(words, &mut seat.token, place, &mut seat.phase);
+        Some(ticket)
     }
 
     /// Where it is the cell's turn, moves the item out of it, ends the deletion and answers its ticket and the item. Else
@@ -45,15 +44,17 @@ impl<T: Drop> Queue<T> {
         ensures call { (k : ℕ) → state_of seat.old ≡ Deleting k → MatchOption result
             (WaitsToTake self.now.size k seat.old seat.new) (λ r. (r.0 ≡ k) × Takes self.now.size k r.1 seat.old seat.new) }
     {
-        let Phase::TurnOut(ticket) = mem::replace(&mut seat.phase, Phase::Idle) else {
+        let Phase::TurnOut(ticket) = seat.phase else {
             unreachable!()
         };
-        match empty_cell(&self.table.shared, &mut seat.token, self.size, ticket) {
-            None => {
-                seat.phase = Phase::TurnOut(ticket);
-                None
-            }
-            Some(item) => Some((ticket, item)),
+        let place = self.cells.place(ticket);
+        if !finds_item(&self.table.shared, &mut seat.token, place) {
+            return None;
         }
+        seat.phase = Phase::Idle;
+        Some((
+            ticket,
+            empty_cell(&self.table.shared, &mut seat.token, place),
+        ))
     }
 }

@@ -5,10 +5,12 @@ ghost use Rattle.fak_queue.specs.declared.state.SeatState.TheVariants.{Idle};
 ghost use Rattle.fak_queue.specs.Queues.{Deletes, Inserts, drawn_by, state_of};
 ghost use Rattle.fak_queue.specs.Refusals.{RefusesDeletion, RefusesInsertion};
 
+use crate::admission::{admit_deletion, admit_insertion};
 use crate::fault::{DeleteFault, InsertFault};
+use crate::found::refuse_worn;
 use crate::queue::Queue;
 use crate::seat::Seat;
-use crossbeam_utils::Backoff;
+use crate::turns::{wait_to_empty, wait_to_fill};
 use std::sync::Wait;
 
 impl<T: Drop> Queue<T> {
@@ -28,18 +30,19 @@ impl<T: Drop> Queue<T> {
         ensures left { MatchResult result (λ _. drawn_by seat.new ≡ drawn_by seat.old + 1) (λ _. drawn_by seat.new ≡ drawn_by seat.old) }
         ensures call { MatchResult result (λ k. Inserts self.now.size k item seat.old seat.new) (RefusesInsertion self.now.size item seat.old seat.new) }
     {
-        let ticket = match self.claim_insert(seat, item) {
-            Ok(ticket) => ticket,
-            Err(fault) => return Err(fault),
-        };
-        let backoff = Backoff::new();
-        for _ in rt.forever() {
-            if let Some(_) = self.try_fill(seat) {
-                return Ok(ticket);
-            }
-            backoff.snooze();
+        if seat.left == 0 {
+            return refuse_worn(item);
         }
-        unreachable!()
+        let words = &self.table.shared;
+        match admit_insertion(words, &mut seat.token, self.cells.size, &item) {
+            Ok(ticket) => {
+                seat.left -= 1;
+                let place = self.cells.place(ticket);
+                wait_to_fill(rt, words, &mut seat.token, place, item);
+                Ok(ticket)
+            }
+            Err(reason) => reason.refuse(item),
+        }
     }
 
     /// Deletes the oldest item: one claim, and where it is granted tries until it is the cell's turn. Answers the ticket
@@ -54,17 +57,17 @@ impl<T: Drop> Queue<T> {
         ensures left { MatchResult result (λ _. drawn_by seat.new ≡ drawn_by seat.old + 1) (λ _. drawn_by seat.new ≡ drawn_by seat.old) }
         ensures call { MatchResult result (λ r. Deletes self.now.size r.0 r.1 seat.old seat.new) (RefusesDeletion self.now.size seat.old seat.new) }
     {
-        let ticket = match self.claim_delete(seat) {
-            Ok(ticket) => ticket,
-            Err(fault) => return Err(fault),
-        };
-        let backoff = Backoff::new();
-        for _ in rt.forever() {
-            if let Some((_, item)) = self.try_take(seat) {
-                return Ok((ticket, item));
-            }
-            backoff.snooze();
+        if seat.left == 0 {
+            return Err(DeleteFault::Worn);
         }
-        unreachable!()
+        let words = &self.table.shared;
+        match admit_deletion(words, &mut seat.token) {
+            Ok(ticket) => {
+                seat.left -= 1;
+                let place = self.cells.place(ticket);
+                Ok((ticket, wait_to_empty(rt, words, &mut seat.token, place)))
+            }
+            Err(lower) => Err(DeleteFault::Empty(lower)),
+        }
     }
 }

@@ -12,30 +12,32 @@
 //! - The turn of a cell: 2 r while round r may fill it, 2 r + 1 while round r may take from it.
 //!
 //! Both counts can pass their bounds for a moment, L below 0 too, so a count is kept as count + 2^62, the bias. The
-//! four words are 128 bytes apart from one another and from the turns, so that no two of them share a cache line.
+//! four words are 128 bytes apart from one another, from the turns and from both ends of the table, so that none of
+//! them shares a cache line with another, or with anything else in memory.
 
 ghost use Rattle.std.specs.Prelude.{◌+◌, ◌<◌, ◌^◌};
 ghost use Rattle.fak_queue.specs.Words.{IsLowerCount, IsUpperCount};
 
 use crate::found::{LowerCount, UpperCount};
+use fak_model::{BIAS, count_of};
+
+/// So many words before the first counter and behind the last turn are not used.
+pub(crate) const MARGIN: usize = 16;
 
 /// The upper count, U.
-pub(crate) const UPPER: usize = 0;
+pub(crate) const UPPER: usize = 16;
 
 /// The lower count, L.
-pub(crate) const LOWER: usize = 16;
+pub(crate) const LOWER: usize = 32;
 
 /// The counter of insertions' tickets, I.
-pub(crate) const DRAWS_IN: usize = 32;
+pub(crate) const DRAWS_IN: usize = 48;
 
 /// The counter of deletions' tickets, D.
-pub(crate) const DRAWS_OUT: usize = 48;
+pub(crate) const DRAWS_OUT: usize = 64;
 
 /// The first cell's turn.
-pub(crate) const TURNS: usize = 64;
-
-/// A word that keeps a count has this much more than the count.
-pub(crate) const BIAS: u64 = 1 << 62;
+pub(crate) const TURNS: usize = 80;
 
 /// The bit of the upper count's word that is set where the queue is shut.
 pub(crate) const SHUT: u64 = 1 << 63;
@@ -48,7 +50,7 @@ pub(crate) fn upper_count(found: u64, size: u64) -> UpperCount
     if found >= SHUT {
         UpperCount::Shut
     } else if found >= BIAS + size {
-        UpperCount::Full((found - BIAS) as i64)
+        UpperCount::Full(count_of(found))
     } else {
         UpperCount::Below
     }
@@ -61,6 +63,6 @@ pub(crate) fn lower_count(found: u64) -> LowerCount
     if found > BIAS {
         LowerCount::Positive
     } else {
-        LowerCount::Empty(found as i64 - BIAS as i64)
+        LowerCount::Empty(count_of(found))
     }
 }

@@ -1,6 +1,6 @@
 //! The atomic steps of a deletion.
 
-ghost use Rattle.std.specs.Prelude.{◌≡◌, ℕ, ◌+◌, ◌*◌, ◌/◌, ◌%◌, ◌<◌, ◌≤◌, ◌^◌, [], ◌∷◌, List, Option, Some, None};
+ghost use Rattle.std.specs.Prelude.{◌≡◌, ℕ, ◌<◌, ◌∷◌, List, Option, Some, None};
 ghost use Rattle.fak_core.specs.declared.queue.phase.Phase.TheVariants.{
   Idle,
   SubLow,
@@ -13,6 +13,7 @@ ghost use Rattle.fak_core.specs.declared.queue.phase.Phase.TheVariants.{
 ghost use Rattle.fak_queue.specs.Steps.{
   FitsTable,
   HasOneName,
+  IsPlace,
   Named,
   TestedLow,
   SubtractedLow,
@@ -24,6 +25,7 @@ ghost use Rattle.fak_queue.specs.Steps.{
 };
 
 use crate::found::LowerCount;
+use crate::place::Place;
 use crate::plays;
 use crate::plays::Call;
 use crate::steps::{QueueWords, Token};
@@ -80,40 +82,29 @@ pub(crate) fn ticket_out<T, J: Call<T>>(words: &QueueWords<T>, token: &mut Token
 pub(crate) fn turn_out<T, J: Call<T>>(
     words: &QueueWords<T>,
     token: &mut Token<T>,
-    size: u64,
-    ticket: u64,
+    place: Place,
 ) -> u64
     requires table { FitsTable token.old.table_id words.now.table_id words.now.key J.seats }
-    requires size { (size ≡ words.now.table_id.slots) × (0 < size) × (size ≤ 4096) }
+    requires place { IsPlace words.now.table_id.slots place }
     requires seat { HasOneName token.old.me }
-    requires phase { token.old.me.0.phase ≡ Some (TurnOut ticket) }
+    requires phase { token.old.me.0.phase ≡ Some (TurnOut place.ticket) }
     ensures same { token.new.table_id ≡ token.old.table_id }
-    ensures told { Named token.old.me (λ n. TurnedOut words.now.table_id.slots J.seats n ticket token.old.me result token.new.me) }
+    ensures told { Named token.old.me (λ n. TurnedOut words.now.table_id.slots J.seats n place.ticket token.old.me result token.new.me) }
 {
-    words.load::<plays::TurnOut<J>>(token, (ticket % size) as usize + TURNS)
+    words.load::<plays::TurnOut<J>>(token, place.cell + TURNS)
 }
 
 // Gives the slot back empty, and makes its cell free for the next round.
-pub(crate) fn set_free<T, J: Call<T>>(
-    words: &QueueWords<T>,
-    token: &mut Token<T>,
-    size: u64,
-    ticket: u64,
-)
+pub(crate) fn set_free<T, J: Call<T>>(words: &QueueWords<T>, token: &mut Token<T>, place: Place)
     requires table { FitsTable token.old.table_id words.now.table_id words.now.key J.seats }
-    requires size { (size ≡ words.now.table_id.slots) × (0 < size) × (size ≤ 4096) }
-    requires few { ticket < 2 ^ 62 }
+    requires place { IsPlace words.now.table_id.slots place }
     requires seat { HasOneName token.old.me }
-    requires phase { token.old.me.0.phase ≡ Some (LoadItem ticket) }
-    requires slot { (others : List (ℕ × Option T)) × (token.old.me.1 ≡ (ticket % size, None) ∷ others) }
+    requires phase { token.old.me.0.phase ≡ Some (LoadItem place.ticket) }
+    requires slot { (others : List (ℕ × Option T)) × (token.old.me.1 ≡ (place.cell, None) ∷ others) }
     ensures same { token.new.table_id ≡ token.old.table_id }
-    ensures told { Named token.old.me (λ n. FreedCell words.now.table_id.slots J.seats n ticket token.old.me token.new.me) }
+    ensures told { Named token.old.me (λ n. FreedCell words.now.table_id.slots J.seats n place.ticket token.old.me token.new.me) }
 {
-    words.store::<plays::SetFree<J>>(
-        token,
-        (ticket % size) as usize + TURNS,
-        2 * (ticket / size) + 2,
-    );
+    words.store::<plays::SetFree<J>>(token, place.cell + TURNS, 2 * place.round + 2);
 }
 
 // Subtracts 1 from the upper count, which ends a deletion.

@@ -1,6 +1,6 @@
 //! The atomic steps of an insertion.
 
-ghost use Rattle.std.specs.Prelude.{◌≡◌, ℕ, ◌+◌, ◌*◌, ◌/◌, ◌%◌, ◌<◌, ◌≤◌, ◌^◌, [], ◌∷◌, List, Option, Some};
+ghost use Rattle.std.specs.Prelude.{◌≡◌, ℕ, ◌<◌, ◌≤◌, ◌∷◌, List, Option, Some};
 ghost use Rattle.fak_core.specs.declared.queue.phase.Phase.TheVariants.{
   Idle,
   AddUp,
@@ -13,6 +13,7 @@ ghost use Rattle.fak_core.specs.declared.queue.phase.Phase.TheVariants.{
 ghost use Rattle.fak_queue.specs.Steps.{
   FitsTable,
   HasOneName,
+  IsPlace,
   Named,
   TestedUp,
   AddedUp,
@@ -24,6 +25,7 @@ ghost use Rattle.fak_queue.specs.Steps.{
 };
 
 use crate::found::UpperCount;
+use crate::place::Place;
 use crate::plays;
 use crate::plays::Call;
 use crate::steps::{QueueWords, Token};
@@ -94,41 +96,30 @@ pub(crate) fn ticket_in<T, J: Call<T>>(words: &QueueWords<T>, token: &mut Token<
 pub(crate) fn turn_in<T, J: Call<T>>(
     words: &QueueWords<T>,
     token: &mut Token<T>,
-    size: u64,
-    ticket: u64,
+    place: Place,
 ) -> u64
     requires table { FitsTable token.old.table_id words.now.table_id words.now.key J.seats }
-    requires size { (size ≡ words.now.table_id.slots) × (0 < size) × (size ≤ 4096) }
+    requires place { IsPlace words.now.table_id.slots place }
     requires seat { HasOneName token.old.me }
-    requires phase { (x : T) × (token.old.me.0.phase ≡ Some (TurnIn ticket x)) }
+    requires phase { (x : T) × (token.old.me.0.phase ≡ Some (TurnIn place.ticket x)) }
     ensures same { token.new.table_id ≡ token.old.table_id }
-    ensures told { Named token.old.me (λ n. (x : T) → token.old.me.0.phase ≡ Some (TurnIn ticket x)
-        → TurnedIn words.now.table_id.slots J.seats n ticket x token.old.me result token.new.me) }
+    ensures told { Named token.old.me (λ n. (x : T) → token.old.me.0.phase ≡ Some (TurnIn place.ticket x)
+        → TurnedIn words.now.table_id.slots J.seats n place.ticket x token.old.me result token.new.me) }
 {
-    words.load::<plays::TurnIn<J>>(token, (ticket % size) as usize + TURNS)
+    words.load::<plays::TurnIn<J>>(token, place.cell + TURNS)
 }
 
 // Gives the slot back with the item, and makes its cell full.
-pub(crate) fn set_full<T, J: Call<T>>(
-    words: &QueueWords<T>,
-    token: &mut Token<T>,
-    size: u64,
-    ticket: u64,
-)
+pub(crate) fn set_full<T, J: Call<T>>(words: &QueueWords<T>, token: &mut Token<T>, place: Place)
     requires table { FitsTable token.old.table_id words.now.table_id words.now.key J.seats }
-    requires size { (size ≡ words.now.table_id.slots) × (0 < size) × (size ≤ 4096) }
-    requires few { ticket < 2 ^ 62 }
+    requires place { IsPlace words.now.table_id.slots place }
     requires seat { HasOneName token.old.me }
-    requires phase { (x : T) × (token.old.me.0.phase ≡ Some (StoreItem ticket x))
-        × ((others : List (ℕ × Option T)) × (token.old.me.1 ≡ (ticket % size, Some x) ∷ others)) }
+    requires phase { (x : T) × (token.old.me.0.phase ≡ Some (StoreItem place.ticket x))
+        × ((others : List (ℕ × Option T)) × (token.old.me.1 ≡ (place.cell, Some x) ∷ others)) }
     ensures same { token.new.table_id ≡ token.old.table_id }
-    ensures told { Named token.old.me (λ n. FilledCell words.now.table_id.slots J.seats n ticket token.old.me token.new.me) }
+    ensures told { Named token.old.me (λ n. FilledCell words.now.table_id.slots J.seats n place.ticket token.old.me token.new.me) }
 {
-    words.store::<plays::SetFull<J>>(
-        token,
-        (ticket % size) as usize + TURNS,
-        2 * (ticket / size) + 1,
-    );
+    words.store::<plays::SetFull<J>>(token, place.cell + TURNS, 2 * place.round + 1);
 }
 
 // Adds 1 to the lower count, which ends an insertion.

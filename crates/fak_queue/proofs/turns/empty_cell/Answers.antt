@@ -1,40 +1,33 @@
-use Rattle.std.proofs.Common.{rules, ap, sym, ◌∙◌, ◌%◌, ◌∷◌, Some}
+use Rattle.std.proofs.Common.{rules, ◌≡◌, ap, sym, ◌∙◌, [], ◌∷◌, Some, None}
 use Rattle.atomic_table.specs.Table.{rest}
-use Rattle.fak_queue.proofs.Turning.{turned_away_out, item_out, slot_out, names_out, phase_out, held_out, names_freed, phase_freed, taken_at, took}
+use Rattle.fak_queue.specs.Shown.{Holder}
+use Rattle.fak_queue.proofs.Turning.{names_freed, phase_freed, takes_slot, took}
 use Rattle.fak_queue.proofs.turns.empty_cell.Goals as goal
 
-pub returns-then-found-ticket-clause-told : goal.returns-then-found-ticket-clause-told
-returns-then-found-ticket-clause-told g c = λ n one. turned_away_out c.args.words.now.table_id.slots c.args.words.now.key.seats n c.args.size c.requires.size.0 c.args.ticket c.turn_out-found.result c.args.token.now.me c.turn_out-found.new.token.me one c.requires.seat.1 (c.turn_out-found.ensures.told n one) c.requires.few c.if-found-ticket.true
-
-pub exchange-requires : goal.exchange-requires
-exchange-requires g c =
-    let s = c.requires.seat in
-    let held = slot_out c.args.words.now.table_id.slots c.args.words.now.key.seats s.0.0 c.args.size c.requires.size.0 c.args.ticket c.turn_out-found.result c.args.token.now.me c.turn_out-found.new.token.me s.0.1 s.1 (c.turn_out-found.ensures.told s.0.0 s.0.1) c.if-found-ticket.false in
-    (search rules, (_, held ∙ ap (λ l. (c.args.ticket % c.args.size, Some (item_out c.args.words.now.table_id.slots c.args.words.now.key.seats s.0.0 c.args.size c.requires.size.0 c.args.ticket c.turn_out-found.result c.args.token.now.me c.turn_out-found.new.token.me s.0.1 s.1 (c.turn_out-found.ensures.told s.0.0 s.0.1) c.if-found-ticket.false)) ∷ l) (sym (ap rest held))))
+pub exchange-taken-requires : goal.exchange-taken-requires
+exchange-taken-requires g c = let s = c.requires.slot in (search rules, (Some s.0, s.1 ∙ ap (λ l. (c.args.place.cell, Some s.0) ∷ l) (sym (ap rest s.1))))
 
 pub unreachable-requires : goal.unreachable-requires
-unreachable-requires g c =
-    let s = c.requires.seat in
-    let held = slot_out c.args.words.now.table_id.slots c.args.words.now.key.seats s.0.0 c.args.size c.requires.size.0 c.args.ticket c.turn_out-found.result c.args.token.now.me c.turn_out-found.new.token.me s.0.1 s.1 (c.turn_out-found.ensures.told s.0.0 s.0.1) c.if-found-ticket.false in
-    c.in_default.not-Some (item_out c.args.words.now.table_id.slots c.args.words.now.key.seats s.0.0 c.args.size c.requires.size.0 c.args.ticket c.turn_out-found.result c.args.token.now.me c.turn_out-found.new.token.me s.0.1 s.1 (c.turn_out-found.ensures.told s.0.0 s.0.1) c.if-found-ticket.false) (sym (took c.turn_out-found.new.token.me.1 _ _ _ _ _ _ held c.exchange.ensures.2))
+unreachable-requires g c = let s = c.requires.slot in let e : Some s.0 ≡ None = took c.args.token.now.me.1 _ _ _ _ _ _ s.1 c.exchange-taken.ensures.2 ∙ c.in-None.is in absurd cc
 
 pub set_free-requires-clause-seat : goal.set_free-requires-clause-seat
-set_free-requires-clause-seat g c = let s = c.requires.seat in (s.0.0, names_out c.args.words.now.table_id.slots c.args.words.now.key.seats s.0.0 c.args.size c.requires.size.0 c.args.ticket c.turn_out-found.result c.args.token.now.me c.turn_out-found.new.token.me s.0.1 s.1 (c.turn_out-found.ensures.told s.0.0 s.0.1) c.if-found-ticket.false c.exchange.new.seat.me c.exchange.ensures.3)
+set_free-requires-clause-seat g c = (c.requires.seat.0, ap (λ (y : Holder _). y.0.names) c.exchange-taken.ensures.3 ∙ c.requires.seat.1)
 
 pub set_free-requires-clause-phase : goal.set_free-requires-clause-phase
-set_free-requires-clause-phase g c = let s = c.requires.seat in phase_out c.args.words.now.table_id.slots c.args.words.now.key.seats s.0.0 c.args.size c.requires.size.0 c.args.ticket c.turn_out-found.result c.args.token.now.me c.turn_out-found.new.token.me s.0.1 s.1 (c.turn_out-found.ensures.told s.0.0 s.0.1) c.if-found-ticket.false c.exchange.new.seat.me c.exchange.ensures.3
+set_free-requires-clause-phase g c = ap (λ (y : Holder _). y.0.phase) c.exchange-taken.ensures.3 ∙ c.requires.phase
 
 pub set_free-requires-clause-slot : goal.set_free-requires-clause-slot
-set_free-requires-clause-slot g c = let s = c.requires.seat in (rest c.turn_out-found.new.token.me.1, held_out c.args.words.now.table_id.slots c.args.words.now.key.seats s.0.0 c.args.size c.requires.size.0 c.args.ticket c.turn_out-found.result c.args.token.now.me c.turn_out-found.new.token.me s.0.1 s.1 (c.turn_out-found.ensures.told s.0.0 s.0.1) c.if-found-ticket.false c.exchange.new.seat.me c.exchange.ensures.3)
+set_free-requires-clause-slot g c = (rest c.args.token.now.me.1, ap (λ (y : Holder _). y.1) c.exchange-taken.ensures.3)
 
 pub end_out-requires-clause-seat : goal.end_out-requires-clause-seat
-end_out-requires-clause-seat g c = let s = c.requires.seat in (s.0.0, names_freed c.args.words.now.table_id.slots c.args.words.now.key.seats s.0.0 c.args.size c.requires.size.0 c.args.ticket c.turn_out-found.result c.args.token.now.me c.turn_out-found.new.token.me s.0.1 s.1 (c.turn_out-found.ensures.told s.0.0 s.0.1) c.if-found-ticket.false c.exchange.new.seat.me c.exchange.ensures.3 c.set_free.new.token.me c.set_free.ensures.told)
+end_out-requires-clause-seat g c = (c.requires.seat.0, names_freed c.args.words.now.table_id.slots c.args.words.now.key.seats c.requires.seat.0 c.args.place.ticket c.args.place.cell c.requires.slot.0 c.args.token.now.me c.exchange-taken.new.seat.me c.set_free.new.token.me c.set_free.new.token.me c.requires.seat.1 c.requires.slot.1 c.exchange-taken.ensures.3 c.set_free.ensures.told)
 
 pub end_out-requires-clause-phase : goal.end_out-requires-clause-phase
-end_out-requires-clause-phase g c = let s = c.requires.seat in (c.args.ticket, phase_freed c.args.words.now.table_id.slots c.args.words.now.key.seats s.0.0 c.args.size c.requires.size.0 c.args.ticket c.turn_out-found.result c.args.token.now.me c.turn_out-found.new.token.me s.0.1 s.1 (c.turn_out-found.ensures.told s.0.0 s.0.1) c.if-found-ticket.false c.exchange.new.seat.me c.exchange.ensures.3 c.set_free.new.token.me c.set_free.ensures.told)
+end_out-requires-clause-phase g c = (c.args.place.ticket, phase_freed c.args.words.now.table_id.slots c.args.words.now.key.seats c.requires.seat.0 c.args.place.ticket c.args.place.cell c.requires.slot.0 c.args.token.now.me c.exchange-taken.new.seat.me c.set_free.new.token.me c.set_free.new.token.me c.requires.seat.1 c.requires.slot.1 c.exchange-taken.ensures.3 c.set_free.ensures.told)
 
 pub returns-clause-told : goal.returns-clause-told
 returns-clause-told g c = λ n one.
-    let held = slot_out c.args.words.now.table_id.slots c.args.words.now.key.seats n c.args.size c.requires.size.0 c.args.ticket c.turn_out-found.result c.args.token.now.me c.turn_out-found.new.token.me one c.requires.seat.1 (c.turn_out-found.ensures.told n one) c.if-found-ticket.false in
-    taken_at c.args.words.now.table_id.slots c.args.words.now.key.seats n c.args.size c.requires.size.0 c.args.ticket c.turn_out-found.result c.args.token.now.me c.turn_out-found.new.token.me one c.requires.seat.1 (c.turn_out-found.ensures.told n one) c.if-found-ticket.false c.exchange.new.seat.me c.exchange.ensures.3 c.set_free.new.token.me c.set_free.ensures.told c.end_out.new.token.me c.end_out.ensures.told c.in-Some.item
-    (took c.turn_out-found.new.token.me.1 _ _ _ _ _ _ held c.exchange.ensures.2 ∙ c.in-Some.is)
+    let s = c.requires.slot in
+    let same : Some s.0 ≡ Some c.in-Some.item = took c.args.token.now.me.1 _ _ _ _ _ _ s.1 c.exchange-taken.ensures.2 ∙ c.in-Some.is in
+    let slot = s.1 ∙ ap (λ o. (c.args.place.cell, o) ∷ []) same in
+    takes_slot c.args.words.now.table_id.slots c.args.words.now.key.seats n c.args.place.ticket c.args.place.cell c.in-Some.item c.args.token.now.me c.exchange-taken.new.seat.me c.set_free.new.token.me c.end_out.new.token.me one slot c.exchange-taken.ensures.3 c.set_free.ensures.told c.end_out.ensures.told

@@ -2,9 +2,6 @@ use Rattle.std.specs.Prelude.{None}
 use Rattle.fak_queue.proofs.turns.empty_cell.Given as goal
 
 -- the steps of this call on this queue
-abbrev pub ghosts-turn_out : goal.ghosts-turn_out
-ghosts-turn_out g a = record { seats = a.words.now.key.seats; item = None }
-
 abbrev pub ghosts-set_free : goal.ghosts-set_free
 ghosts-set_free g a = record { seats = a.words.now.key.seats; item = None }
 

@@ -1,18 +1,47 @@
-use Rattle.std.proofs.Common.{refl, ◌∙◌}
-use Rattle.fak_queue.proofs.WholeCalls.{looks_out, looks_more, deleted}
+use Rattle.std.proofs.Common.{rules, refl, sym, ap, ◌∙◌, subst, arith, Some, w64}
+use Rattle.std.proofs.Math.Facts.{to_z-of_z}
+use Rattle.fak_model.proofs.RunningCalls.{token_names}
+use Rattle.fak_model.specs.Calls.{object_id}
+use Rattle.fak_core.specs.declared.queue.phase.Phase.TheVariants.{TurnOut}
+use Rattle.fak_queue.specs.Parts.{Taken}
+use Rattle.fak_queue.specs.Queues.{RefusesEmpty, queue_seat}
+use Rattle.fak_queue.proofs.States.{rests_deleting}
+use Rattle.fak_queue.proofs.PartSteps.{names_then, phase_then, slots_then}
+use Rattle.fak_queue.proofs.SeatCalls.{seat_refused, state_refused, drawn_refused, refuses_empty}
+use Rattle.fak_queue.proofs.AtOnce.{seat_deleted, state_deleted, drawn_deleted, deletes}
 use Rattle.fak_queue.proofs.queue.Queue.delete.Goals as goal
 
-pub loop-init : goal.loop-init
-loop-init g c = (looks_out c.in-Ok.ensures.call, c.in-Ok.ensures.state, refl, refl)
+pub place-place-requires : goal.place-place-requires
+place-place-requires g c = (rests_deleting (c.in-Ok.ensures.told c.seat.inside.name (token_names c.seat.invariant.token)).part.rests).1
 
-pub loop-preserved : goal.loop-preserved
-loop-preserved g c =
-    let was = c.loop.invariant in
-    let look = c.in_default.ensures.call c.in-Ok.ticket was.1 in
-    (looks_more _ c.loop.seat _ c.loop.seat _ was.0 look.makes, c.in_default.ensures.state ∙ was.1, c.try_take.ensures.object ∙ was.2, c.try_take.ensures.left ∙ was.3)
+pub wait_to_empty-requires-clause-phase : goal.wait_to_empty-requires-clause-phase
+wait_to_empty-requires-clause-phase g c = phase_then (c.in-Ok.ensures.told c.seat.inside.name (token_names c.seat.invariant.token)).part ∙ ap (λ k. Some (TurnOut k)) (sym c.place-place.ensures.ticket)
 
-pub returns-in-Some-try_take-clause-call : goal.returns-in-Some-try_take-clause-call
-returns-in-Some-try_take-clause-call g c =
-    let was = c.loop.invariant in
-    let done = c.in-Some-try_take.ensures.call c.in-Ok.ticket was.1 in
-    deleted _ _ _ _ _ c.in-Ok.ticket _ c.in-Ok.ensures.call was.0 done.1
+pub wait_to_empty-requires-clause-seat : goal.wait_to_empty-requires-clause-seat
+wait_to_empty-requires-clause-seat g c = let part = (c.in-Ok.ensures.told c.seat.inside.name (token_names c.seat.invariant.token)).part in ((c.seat.inside.name, names_then part), slots_then part)
+
+pub invariant_of-seat : goal.invariant_of-seat
+invariant_of-seat g c = seat_deleted c.self.inside.table.shared.key c.seat.invariant c.self.invariant c.seat.view_is c.self.view_is c.requires.object c.admit_deletion.ensures.same c.wait_to_empty.ensures.same c.admit_deletion.new.token.me c.wait_to_empty.new.token.me (c.in-Ok.ensures.told c.seat.inside.name (token_names c.seat.invariant.token)) (subst (λ k. Taken c.self.inside.table.shared.table_id.slots c.self.inside.table.shared.key.seats c.seat.inside.name k c.wait_to_empty.result c.admit_deletion.new.token.me c.wait_to_empty.new.token.me) c.place-place.ensures.ticket (c.wait_to_empty.ensures.told c.seat.inside.name (names_then (c.in-Ok.ensures.told c.seat.inside.name (token_names c.seat.invariant.token)).part))) c.requires.idle
+
+pub returns-in-Ok-clause-state : goal.returns-in-Ok-clause-state
+returns-in-Ok-clause-state g c = state_deleted c.self.inside.table.shared.key c.seat.invariant c.self.invariant c.seat.view_is c.self.view_is c.requires.object c.admit_deletion.ensures.same c.wait_to_empty.ensures.same c.admit_deletion.new.token.me c.wait_to_empty.new.token.me (c.in-Ok.ensures.told c.seat.inside.name (token_names c.seat.invariant.token)) (subst (λ k. Taken c.self.inside.table.shared.table_id.slots c.self.inside.table.shared.key.seats c.seat.inside.name k c.wait_to_empty.result c.admit_deletion.new.token.me c.wait_to_empty.new.token.me) c.place-place.ensures.ticket (c.wait_to_empty.ensures.told c.seat.inside.name (names_then (c.in-Ok.ensures.told c.seat.inside.name (token_names c.seat.invariant.token)).part)))
+
+pub returns-in-Ok-clause-left : goal.returns-in-Ok-clause-left
+returns-in-Ok-clause-left g c = drawn_deleted c.self.inside.table.shared.key c.seat.invariant c.self.invariant c.seat.view_is c.self.view_is c.requires.object c.admit_deletion.ensures.same c.wait_to_empty.ensures.same c.admit_deletion.new.token.me c.wait_to_empty.new.token.me (c.in-Ok.ensures.told c.seat.inside.name (token_names c.seat.invariant.token)) (subst (λ k. Taken c.self.inside.table.shared.table_id.slots c.self.inside.table.shared.key.seats c.seat.inside.name k c.wait_to_empty.result c.admit_deletion.new.token.me c.wait_to_empty.new.token.me) c.place-place.ensures.ticket (c.wait_to_empty.ensures.told c.seat.inside.name (names_then (c.in-Ok.ensures.told c.seat.inside.name (token_names c.seat.invariant.token)).part)))
+
+pub returns-in-Ok-clause-call : goal.returns-in-Ok-clause-call
+returns-in-Ok-clause-call g c = deletes c.self.inside.table.shared.key c.seat.invariant c.self.invariant c.seat.view_is c.self.view_is c.requires.object c.admit_deletion.ensures.same c.wait_to_empty.ensures.same c.admit_deletion.new.token.me c.wait_to_empty.new.token.me (c.in-Ok.ensures.told c.seat.inside.name (token_names c.seat.invariant.token)) (subst (λ k. Taken c.self.inside.table.shared.table_id.slots c.self.inside.table.shared.key.seats c.seat.inside.name k c.wait_to_empty.result c.admit_deletion.new.token.me c.wait_to_empty.new.token.me) c.place-place.ensures.ticket (c.wait_to_empty.ensures.told c.seat.inside.name (names_then (c.in-Ok.ensures.told c.seat.inside.name (token_names c.seat.invariant.token)).part))) (let some_left = c.if-seat-eq0.false in omega (arith, some_left))
+
+pub invariant_of-seat-in-Err : goal.invariant_of-seat-in-Err
+invariant_of-seat-in-Err g c = seat_refused c.self.inside.table.shared.key c.seat.invariant c.self.invariant c.seat.view_is c.self.view_is c.requires.object c.admit_deletion.ensures.same c.admit_deletion.new.token.me refl refl (c.in-Err.ensures.told c.seat.inside.name (token_names c.seat.invariant.token)) c.requires.idle
+
+pub returns-in-Err-clause-state : goal.returns-in-Err-clause-state
+returns-in-Err-clause-state g c = state_refused c.self.inside.table.shared.key c.seat.invariant c.self.invariant c.seat.view_is c.self.view_is c.requires.object c.admit_deletion.ensures.same c.admit_deletion.new.token.me refl refl (c.in-Err.ensures.told c.seat.inside.name (token_names c.seat.invariant.token))
+
+pub returns-in-Err-clause-left : goal.returns-in-Err-clause-left
+returns-in-Err-clause-left g c = drawn_refused c.self.inside.table.shared.key c.seat.invariant c.self.invariant c.seat.view_is c.self.view_is c.requires.object c.admit_deletion.ensures.same c.admit_deletion.new.token.me refl refl (c.in-Err.ensures.told c.seat.inside.name (token_names c.seat.invariant.token))
+
+pub returns-in-Err-clause-call : goal.returns-in-Err-clause-call
+returns-in-Err-clause-call g c =
+    let r = refuses_empty c.self.inside.table.shared.key c.seat.invariant c.self.invariant c.seat.view_is c.self.view_is c.requires.object c.admit_deletion.ensures.same c.admit_deletion.new.token.me (let some_left = c.if-seat-eq0.false in omega (arith, some_left)) (c.in-Err.ensures.told c.seat.inside.name (token_names c.seat.invariant.token)) in
+    (r.0, subst (λ u. RefusesEmpty c.args.self.now.size u c.args.seat.now (queue_seat (object_id c.admit_deletion.new.token.table_id c.seat.inside.seats) c.seat.inside.name c.seat.inside.left c.admit_deletion.new.token.me)) (sym (to_z-of_z {w = w64} (search rules))) r.1)

@@ -1,18 +1,41 @@
-use Rattle.std.proofs.Common.{refl, ◌∙◌}
-use Rattle.fak_queue.proofs.WholeCalls.{looks_in, looks_more, inserted}
+use Rattle.std.proofs.Common.{◌≡◌, ◌+◌, MatchResult, sym, subst, arith}
+use Rattle.fak_model.proofs.RunningCalls.{token_names}
+use Rattle.fak_model.specs.Calls.{object_id}
+use Rattle.fak_queue.specs.Parts.{Filled}
+use Rattle.fak_queue.specs.Queues.{Inserts, drawn_by, queue_seat}
+use Rattle.fak_queue.specs.Refusals.{RefusesInsertion}
+use Rattle.fak_queue.proofs.PartSteps.{names_then, slots_then}
+use Rattle.fak_queue.proofs.SeatCalls.{seat_refused_in, state_refused_in, drawn_refused_in, refuses_insertion}
+use Rattle.fak_queue.proofs.AtOnce.{seat_inserted, state_inserted, drawn_inserted, inserts}
 use Rattle.fak_queue.proofs.queue.Queue.insert.Goals as goal
 
-pub loop-init : goal.loop-init
-loop-init g c = (looks_in c.in-Ok.ensures.call, c.in-Ok.ensures.state, refl, refl)
+pub wait_to_fill-requires-clause-seat : goal.wait_to_fill-requires-clause-seat
+wait_to_fill-requires-clause-seat g c = let part = (c.in-Ok.ensures.told c.seat.inside.name (token_names c.seat.invariant.token)).part in ((c.seat.inside.name, names_then part), slots_then part)
 
-pub loop-preserved : goal.loop-preserved
-loop-preserved g c =
-    let was = c.loop.invariant in
-    let look = c.in_default.ensures.call c.in-Ok.ticket was.1 in
-    (looks_more _ c.loop.seat _ c.loop.seat _ was.0 look.makes, c.in_default.ensures.state ∙ was.1, c.try_fill.ensures.object ∙ was.2, c.try_fill.ensures.left ∙ was.3)
+pub invariant_of-seat : goal.invariant_of-seat
+invariant_of-seat g c = seat_inserted c.self.inside.table.shared.key c.seat.invariant c.self.invariant c.seat.view_is c.self.view_is c.requires.object c.admit_insertion.ensures.same c.wait_to_fill.ensures.same c.admit_insertion.new.token.me c.wait_to_fill.new.token.me (c.in-Ok.ensures.told c.seat.inside.name (token_names c.seat.invariant.token)) (subst (λ k. Filled c.self.inside.table.shared.table_id.slots c.self.inside.table.shared.key.seats c.seat.inside.name k c.admit_insertion.new.token.me c.wait_to_fill.new.token.me) c.place-place.ensures.ticket (c.wait_to_fill.ensures.told c.seat.inside.name (names_then (c.in-Ok.ensures.told c.seat.inside.name (token_names c.seat.invariant.token)).part))) c.requires.idle
 
-pub returns-in-Some-try_fill-clause-call : goal.returns-in-Some-try_fill-clause-call
-returns-in-Some-try_fill-clause-call g c =
-    let was = c.loop.invariant in
-    let done = c.in-Some-try_fill.ensures.call c.in-Ok.ticket was.1 in
-    inserted _ _ _ _ _ c.in-Ok.ticket c.args.item c.in-Ok.ensures.call was.0 done.1
+pub returns-in-Ok-clause-state : goal.returns-in-Ok-clause-state
+returns-in-Ok-clause-state g c = state_inserted c.self.inside.table.shared.key c.seat.invariant c.self.invariant c.seat.view_is c.self.view_is c.requires.object c.admit_insertion.ensures.same c.wait_to_fill.ensures.same c.admit_insertion.new.token.me c.wait_to_fill.new.token.me (c.in-Ok.ensures.told c.seat.inside.name (token_names c.seat.invariant.token)) (subst (λ k. Filled c.self.inside.table.shared.table_id.slots c.self.inside.table.shared.key.seats c.seat.inside.name k c.admit_insertion.new.token.me c.wait_to_fill.new.token.me) c.place-place.ensures.ticket (c.wait_to_fill.ensures.told c.seat.inside.name (names_then (c.in-Ok.ensures.told c.seat.inside.name (token_names c.seat.invariant.token)).part)))
+
+pub returns-in-Ok-clause-left : goal.returns-in-Ok-clause-left
+returns-in-Ok-clause-left g c = drawn_inserted c.self.inside.table.shared.key c.seat.invariant c.self.invariant c.seat.view_is c.self.view_is c.requires.object c.admit_insertion.ensures.same c.wait_to_fill.ensures.same c.admit_insertion.new.token.me c.wait_to_fill.new.token.me (c.in-Ok.ensures.told c.seat.inside.name (token_names c.seat.invariant.token)) (subst (λ k. Filled c.self.inside.table.shared.table_id.slots c.self.inside.table.shared.key.seats c.seat.inside.name k c.admit_insertion.new.token.me c.wait_to_fill.new.token.me) c.place-place.ensures.ticket (c.wait_to_fill.ensures.told c.seat.inside.name (names_then (c.in-Ok.ensures.told c.seat.inside.name (token_names c.seat.invariant.token)).part)))
+
+pub returns-in-Ok-clause-call : goal.returns-in-Ok-clause-call
+returns-in-Ok-clause-call g c = inserts c.self.inside.table.shared.key c.seat.invariant c.self.invariant c.seat.view_is c.self.view_is c.requires.object c.admit_insertion.ensures.same c.wait_to_fill.ensures.same c.admit_insertion.new.token.me c.wait_to_fill.new.token.me (c.in-Ok.ensures.told c.seat.inside.name (token_names c.seat.invariant.token)) (subst (λ k. Filled c.self.inside.table.shared.table_id.slots c.self.inside.table.shared.key.seats c.seat.inside.name k c.admit_insertion.new.token.me c.wait_to_fill.new.token.me) c.place-place.ensures.ticket (c.wait_to_fill.ensures.told c.seat.inside.name (names_then (c.in-Ok.ensures.told c.seat.inside.name (token_names c.seat.invariant.token)).part))) (let some_left = c.if-seat-eq0.false in omega (arith, some_left))
+
+pub invariant_of-seat-in-Err : goal.invariant_of-seat-in-Err
+invariant_of-seat-in-Err g c = seat_refused_in c.self.inside.table.shared.key c.seat.invariant c.self.invariant c.seat.view_is c.self.view_is c.requires.object c.admit_insertion.ensures.same c.admit_insertion.new.token.me c.in-Err.reason (c.in-Err.ensures.told c.seat.inside.name (token_names c.seat.invariant.token)) c.requires.idle
+
+pub returns-in-Err-clause-state : goal.returns-in-Err-clause-state
+returns-in-Err-clause-state g c = state_refused_in c.self.inside.table.shared.key c.seat.invariant c.self.invariant c.seat.view_is c.self.view_is c.requires.object c.admit_insertion.ensures.same c.admit_insertion.new.token.me c.in-Err.reason (c.in-Err.ensures.told c.seat.inside.name (token_names c.seat.invariant.token))
+
+pub returns-in-Err-clause-left : goal.returns-in-Err-clause-left
+returns-in-Err-clause-left g c =
+    let new = queue_seat (object_id c.admit_insertion.new.token.table_id c.seat.inside.seats) c.seat.inside.name c.seat.inside.left c.admit_insertion.new.token.me in
+    subst (λ z. MatchResult z (λ _. drawn_by new ≡ drawn_by c.args.seat.now + 1) (λ _. drawn_by new ≡ drawn_by c.args.seat.now)) (sym c.refuse.ensures) (drawn_refused_in c.self.inside.table.shared.key c.seat.invariant c.self.invariant c.seat.view_is c.self.view_is c.requires.object c.admit_insertion.ensures.same c.admit_insertion.new.token.me c.in-Err.reason (c.in-Err.ensures.told c.seat.inside.name (token_names c.seat.invariant.token)))
+
+pub returns-in-Err-clause-call : goal.returns-in-Err-clause-call
+returns-in-Err-clause-call g c =
+    let new = queue_seat (object_id c.admit_insertion.new.token.table_id c.seat.inside.seats) c.seat.inside.name c.seat.inside.left c.admit_insertion.new.token.me in
+    subst (λ z. MatchResult z (λ k. Inserts c.args.self.now.size k c.args.item c.args.seat.now new) (RefusesInsertion c.args.self.now.size c.args.item c.args.seat.now new)) (sym c.refuse.ensures) (refuses_insertion c.self.inside.table.shared.key c.seat.invariant c.self.invariant c.seat.view_is c.self.view_is c.requires.object c.admit_insertion.ensures.same c.admit_insertion.new.token.me c.args.item c.in-Err.reason (let some_left = c.if-seat-eq0.false in omega (arith, some_left)) (c.in-Err.ensures.told c.seat.inside.name (token_names c.seat.invariant.token)))

@@ -1,34 +1,37 @@
-use Rattle.std.proofs.Common.{sym, ◌∙◌, subst, arith}
-use Rattle.fak_model.specs.Calls.{object_id}
-use Rattle.fak_model.proofs.RunningCalls.{token_names}
+use Rattle.std.proofs.Common.{sym, ap, ◌∙◌}
 use Rattle.fak_core.specs.declared.queue.phase.Phase.TheVariants.{TurnIn}
-use Rattle.fak_queue.specs.Queues.{IsQueueSeat, Fills, WaitsToFill, queue_seat}
-use Rattle.fak_queue.proofs.SeatCalls.{left_same, seat_after, state_after, drawn_after, inserting_now, one_insertion, fills, waits_to_fill}
+use Rattle.fak_queue.proofs.Trying.{seat_waits_in, state_waits_in, drawn_waits_in, waits_in, names_looked_in, phase_looked_in, slot_looked_in, seat_filled, state_filled, drawn_filled, fills_cell}
 use Rattle.fak_queue.proofs.queue.Queue.try_fill.Goals as goal
 
 pub invariant_of-seat : goal.invariant_of-seat
-invariant_of-seat g c = subst (λ z. IsQueueSeat c.fill_cell.new.token.table_id.slots c.seat.inside.seats c.seat.inside.name z c.seat.inside.left c.fill_cell.new.token.me) (sym c.replace.ensures.after) (seat_after c.self.inside.table.shared.key c.seat.invariant c.self.invariant c.seat.view_is c.self.view_is c.requires.object (c.in-None.ensures.told c.seat.inside.name (token_names c.seat.invariant.token)) (left_same c.self.inside.table.shared.key c.seat.invariant c.self.invariant c.seat.view_is c.self.view_is c.requires.object) c.fill_cell.ensures.same)
+invariant_of-seat g c = seat_waits_in c.self.inside.table.shared.key c.seat.invariant c.self.invariant c.seat.view_is c.self.view_is c.requires.object c.finds_room.ensures.same c.finds_room.new.token.me (c.in-TurnIn.is ∙ ap (λ k. TurnIn k c.in-TurnIn.field-1) (sym c.place-place.ensures.ticket)) c.if-not-finds_room.ensures.told
 
-pub invariant_of-seat-in-Some : goal.invariant_of-seat-in-Some
-invariant_of-seat-in-Some g c =
-    let w = (c.in-Some.ensures.told c.seat.inside.name (token_names c.seat.invariant.token)) in
-    subst (λ x. IsQueueSeat c.fill_cell.new.token.table_id.slots c.seat.inside.seats c.seat.inside.name (TurnIn c.in-TurnIn.ticket x) c.seat.inside.left c.fill_cell.new.token.me) (sym w.0) (seat_after c.self.inside.table.shared.key c.seat.invariant c.self.invariant c.seat.view_is c.self.view_is c.requires.object w.1.part (left_same c.self.inside.table.shared.key c.seat.invariant c.self.invariant c.seat.view_is c.self.view_is c.requires.object) c.fill_cell.ensures.same)
+pub returns-then-not-finds_room-clause-state : goal.returns-then-not-finds_room-clause-state
+returns-then-not-finds_room-clause-state g c = state_waits_in c.self.inside.table.shared.key c.seat.invariant c.self.invariant c.seat.view_is c.self.view_is c.requires.object c.finds_room.ensures.same c.finds_room.new.token.me (c.in-TurnIn.is ∙ ap (λ k. TurnIn k c.in-TurnIn.field-1) (sym c.place-place.ensures.ticket)) c.if-not-finds_room.ensures.told
 
-pub returns-in-None-clause-left : goal.returns-in-None-clause-left
-returns-in-None-clause-left g c = drawn_after c.self.inside.table.shared.key c.seat.invariant c.self.invariant c.seat.view_is c.self.view_is c.requires.object (c.in-None.ensures.told c.seat.inside.name (token_names c.seat.invariant.token)) (left_same c.self.inside.table.shared.key c.seat.invariant c.self.invariant c.seat.view_is c.self.view_is c.requires.object) c.fill_cell.ensures.same ∙ omega arith
+pub returns-then-not-finds_room-clause-left : goal.returns-then-not-finds_room-clause-left
+returns-then-not-finds_room-clause-left g c = drawn_waits_in c.self.inside.table.shared.key c.seat.invariant c.self.invariant c.seat.view_is c.self.view_is c.requires.object c.finds_room.ensures.same c.finds_room.new.token.me (c.in-TurnIn.is ∙ ap (λ k. TurnIn k c.in-TurnIn.field-1) (sym c.place-place.ensures.ticket)) c.if-not-finds_room.ensures.told
 
-pub returns-in-None-clause-call : goal.returns-in-None-clause-call
-returns-in-None-clause-call g c = λ k e.
-    let same = one_insertion (inserting_now c.self.inside.table.shared.key c.seat.invariant c.self.invariant c.seat.view_is c.self.view_is c.requires.object (sym c.replace.ensures.value ∙ c.in-TurnIn.is)) e in
-    (same, subst (λ z. Fills c.args.self.now.size z c.args.seat.now (queue_seat (object_id c.fill_cell.new.token.table_id c.seat.inside.seats) c.seat.inside.name c.seat.inside.left c.fill_cell.new.token.me)) same (fills c.self.inside.table.shared.key c.seat.invariant c.self.invariant c.seat.view_is c.self.view_is c.requires.object c.fill_cell.ensures.same c.fill_cell.new.token.me (c.in-None.ensures.told c.seat.inside.name (token_names c.seat.invariant.token))))
+pub returns-then-not-finds_room-clause-call : goal.returns-then-not-finds_room-clause-call
+returns-then-not-finds_room-clause-call g c = waits_in c.self.inside.table.shared.key c.seat.invariant c.self.invariant c.seat.view_is c.self.view_is c.requires.object c.finds_room.ensures.same c.finds_room.new.token.me (c.in-TurnIn.is ∙ ap (λ k. TurnIn k c.in-TurnIn.field-1) (sym c.place-place.ensures.ticket)) c.if-not-finds_room.ensures.told
 
-pub returns-in-Some-clause-state : goal.returns-in-Some-clause-state
-returns-in-Some-clause-state g c = state_after c.self.inside.table.shared.key c.seat.invariant c.self.invariant c.seat.view_is c.self.view_is c.requires.object ((c.in-Some.ensures.told c.seat.inside.name (token_names c.seat.invariant.token)).1).part (left_same c.self.inside.table.shared.key c.seat.invariant c.self.invariant c.seat.view_is c.self.view_is c.requires.object) c.fill_cell.ensures.same ∙ sym (inserting_now c.self.inside.table.shared.key c.seat.invariant c.self.invariant c.seat.view_is c.self.view_is c.requires.object (sym c.replace.ensures.value ∙ c.in-TurnIn.is))
+pub fill_cell_from-requires-clause-seat : goal.fill_cell_from-requires-clause-seat
+fill_cell_from-requires-clause-seat g c = (c.seat.inside.name, names_looked_in c.self.inside.table.shared.key c.seat.invariant c.self.invariant c.seat.view_is c.self.view_is c.requires.object c.finds_room.ensures.same c.finds_room.new.token.me (c.in-TurnIn.is ∙ ap (λ k. TurnIn k c.in-TurnIn.field-1) (sym c.place-place.ensures.ticket)) c.if-not-finds_room.ensures.told)
 
-pub returns-in-Some-clause-left : goal.returns-in-Some-clause-left
-returns-in-Some-clause-left g c = drawn_after c.self.inside.table.shared.key c.seat.invariant c.self.invariant c.seat.view_is c.self.view_is c.requires.object ((c.in-Some.ensures.told c.seat.inside.name (token_names c.seat.invariant.token)).1).part (left_same c.self.inside.table.shared.key c.seat.invariant c.self.invariant c.seat.view_is c.self.view_is c.requires.object) c.fill_cell.ensures.same ∙ omega arith
+pub fill_cell_from-requires-clause-item : goal.fill_cell_from-requires-clause-item
+fill_cell_from-requires-clause-item g c = let stands = (c.in-TurnIn.is ∙ ap (λ k. TurnIn k c.in-TurnIn.field-1) (sym c.place-place.ensures.ticket)) in (c.in-TurnIn.field-1, stands, phase_looked_in c.self.inside.table.shared.key c.seat.invariant c.self.invariant c.seat.view_is c.self.view_is c.requires.object c.finds_room.ensures.same c.finds_room.new.token.me stands c.if-not-finds_room.ensures.told)
 
-pub returns-in-Some-clause-call : goal.returns-in-Some-clause-call
-returns-in-Some-clause-call g c = λ k e.
-    let same = one_insertion (inserting_now c.self.inside.table.shared.key c.seat.invariant c.self.invariant c.seat.view_is c.self.view_is c.requires.object (sym c.replace.ensures.value ∙ c.in-TurnIn.is)) e in
-    subst (λ z. WaitsToFill c.args.self.now.size z c.args.seat.now (queue_seat (object_id c.fill_cell.new.token.table_id c.seat.inside.seats) c.seat.inside.name c.seat.inside.left c.fill_cell.new.token.me)) same (waits_to_fill c.self.inside.table.shared.key c.seat.invariant c.self.invariant c.seat.view_is c.self.view_is c.requires.object c.fill_cell.ensures.same c.fill_cell.new.token.me ((c.in-Some.ensures.told c.seat.inside.name (token_names c.seat.invariant.token)).1))
+pub fill_cell_from-requires-clause-slot : goal.fill_cell_from-requires-clause-slot
+fill_cell_from-requires-clause-slot g c = slot_looked_in c.self.inside.table.shared.key c.seat.invariant c.self.invariant c.seat.view_is c.self.view_is c.requires.object c.finds_room.ensures.same c.finds_room.new.token.me (c.in-TurnIn.is ∙ ap (λ k. TurnIn k c.in-TurnIn.field-1) (sym c.place-place.ensures.ticket)) c.if-not-finds_room.ensures.told c.place-place.result.cell c.place-place.ensures.place.cell_is
+
+pub invariant_of-seat-2 : goal.invariant_of-seat-2
+invariant_of-seat-2 g c = seat_filled c.self.inside.table.shared.key c.seat.invariant c.self.invariant c.seat.view_is c.self.view_is c.requires.object (c.fill_cell_from.ensures.same ∙ c.finds_room.ensures.same) c.fill_cell_from.new.token.me (c.in-TurnIn.is ∙ ap (λ k. TurnIn k c.in-TurnIn.field-1) (sym c.place-place.ensures.ticket)) c.if-not-finds_room.ensures.told c.fill_cell_from.ensures.told c.fill_cell_from.ensures.kept
+
+pub returns-clause-state : goal.returns-clause-state
+returns-clause-state g c = state_filled c.self.inside.table.shared.key c.seat.invariant c.self.invariant c.seat.view_is c.self.view_is c.requires.object (c.fill_cell_from.ensures.same ∙ c.finds_room.ensures.same) c.fill_cell_from.new.token.me (c.in-TurnIn.is ∙ ap (λ k. TurnIn k c.in-TurnIn.field-1) (sym c.place-place.ensures.ticket)) c.if-not-finds_room.ensures.told c.fill_cell_from.ensures.told
+
+pub returns-clause-left : goal.returns-clause-left
+returns-clause-left g c = drawn_filled c.self.inside.table.shared.key c.seat.invariant c.self.invariant c.seat.view_is c.self.view_is c.requires.object (c.fill_cell_from.ensures.same ∙ c.finds_room.ensures.same) c.fill_cell_from.new.token.me (c.in-TurnIn.is ∙ ap (λ k. TurnIn k c.in-TurnIn.field-1) (sym c.place-place.ensures.ticket)) c.if-not-finds_room.ensures.told c.fill_cell_from.ensures.told
+
+pub returns-clause-call : goal.returns-clause-call
+returns-clause-call g c = λ k e. fills_cell c.self.inside.table.shared.key c.seat.invariant c.self.invariant c.seat.view_is c.self.view_is c.requires.object (c.fill_cell_from.ensures.same ∙ c.finds_room.ensures.same) c.fill_cell_from.new.token.me (c.in-TurnIn.is ∙ ap (λ k. TurnIn k c.in-TurnIn.field-1) (sym c.place-place.ensures.ticket)) c.if-not-finds_room.ensures.told c.fill_cell_from.ensures.told c.in-TurnIn.ticket k (sym c.place-place.ensures.ticket) e

@@ -1,31 +1,37 @@
-use Rattle.std.proofs.Common.{sym, ◌∙◌, subst, arith}
-use Rattle.fak_model.specs.Calls.{object_id}
-use Rattle.fak_model.proofs.RunningCalls.{token_names}
-use Rattle.fak_queue.specs.Queues.{IsQueueSeat, Takes, WaitsToTake, queue_seat}
-use Rattle.fak_queue.proofs.SeatCalls.{left_same, seat_after, state_after, drawn_after, deleting_now, one_deletion, takes, waits_to_take}
+use Rattle.std.proofs.Common.{sym, ap, ◌∙◌}
+use Rattle.fak_core.specs.declared.queue.phase.Phase.TheVariants.{TurnOut}
+use Rattle.fak_queue.proofs.Trying.{seat_waits_out, state_waits_out, drawn_waits_out, waits_out, names_looked_out, phase_looked_out, slot_looked_out, seat_taken, state_taken, drawn_taken, takes_item}
 use Rattle.fak_queue.proofs.queue.Queue.try_take.Goals as goal
 
 pub invariant_of-seat : goal.invariant_of-seat
-invariant_of-seat g c = seat_after c.self.inside.table.shared.key c.seat.invariant c.self.invariant c.seat.view_is c.self.view_is c.requires.object (c.in-None.ensures.told c.seat.inside.name (token_names c.seat.invariant.token)).part (left_same c.self.inside.table.shared.key c.seat.invariant c.self.invariant c.seat.view_is c.self.view_is c.requires.object) c.empty_cell.ensures.same
+invariant_of-seat g c = seat_waits_out c.self.inside.table.shared.key c.seat.invariant c.self.invariant c.seat.view_is c.self.view_is c.requires.object c.finds_item.ensures.same c.finds_item.new.token.me (c.in-TurnOut.is ∙ ap (λ k. TurnOut k) (sym c.place-place.ensures.ticket)) c.if-not-finds_item.ensures.told
 
-pub invariant_of-seat-in-Some : goal.invariant_of-seat-in-Some
-invariant_of-seat-in-Some g c = subst (λ z. IsQueueSeat c.empty_cell.new.token.table_id.slots c.seat.inside.seats c.seat.inside.name z c.seat.inside.left c.empty_cell.new.token.me) (sym c.replace.ensures.after) (seat_after c.self.inside.table.shared.key c.seat.invariant c.self.invariant c.seat.view_is c.self.view_is c.requires.object (c.in-Some.ensures.told c.seat.inside.name (token_names c.seat.invariant.token)).part (left_same c.self.inside.table.shared.key c.seat.invariant c.self.invariant c.seat.view_is c.self.view_is c.requires.object) c.empty_cell.ensures.same)
+pub returns-then-not-finds_item-clause-state : goal.returns-then-not-finds_item-clause-state
+returns-then-not-finds_item-clause-state g c = state_waits_out c.self.inside.table.shared.key c.seat.invariant c.self.invariant c.seat.view_is c.self.view_is c.requires.object c.finds_item.ensures.same c.finds_item.new.token.me (c.in-TurnOut.is ∙ ap (λ k. TurnOut k) (sym c.place-place.ensures.ticket)) c.if-not-finds_item.ensures.told
 
-pub returns-in-None-clause-state : goal.returns-in-None-clause-state
-returns-in-None-clause-state g c = state_after c.self.inside.table.shared.key c.seat.invariant c.self.invariant c.seat.view_is c.self.view_is c.requires.object (c.in-None.ensures.told c.seat.inside.name (token_names c.seat.invariant.token)).part (left_same c.self.inside.table.shared.key c.seat.invariant c.self.invariant c.seat.view_is c.self.view_is c.requires.object) c.empty_cell.ensures.same ∙ sym (deleting_now c.self.inside.table.shared.key c.seat.invariant c.self.invariant c.seat.view_is c.self.view_is c.requires.object (sym c.replace.ensures.value ∙ c.in-TurnOut.is))
+pub returns-then-not-finds_item-clause-left : goal.returns-then-not-finds_item-clause-left
+returns-then-not-finds_item-clause-left g c = drawn_waits_out c.self.inside.table.shared.key c.seat.invariant c.self.invariant c.seat.view_is c.self.view_is c.requires.object c.finds_item.ensures.same c.finds_item.new.token.me (c.in-TurnOut.is ∙ ap (λ k. TurnOut k) (sym c.place-place.ensures.ticket)) c.if-not-finds_item.ensures.told
 
-pub returns-in-None-clause-left : goal.returns-in-None-clause-left
-returns-in-None-clause-left g c = drawn_after c.self.inside.table.shared.key c.seat.invariant c.self.invariant c.seat.view_is c.self.view_is c.requires.object (c.in-None.ensures.told c.seat.inside.name (token_names c.seat.invariant.token)).part (left_same c.self.inside.table.shared.key c.seat.invariant c.self.invariant c.seat.view_is c.self.view_is c.requires.object) c.empty_cell.ensures.same ∙ omega arith
+pub returns-then-not-finds_item-clause-call : goal.returns-then-not-finds_item-clause-call
+returns-then-not-finds_item-clause-call g c = waits_out c.self.inside.table.shared.key c.seat.invariant c.self.invariant c.seat.view_is c.self.view_is c.requires.object c.finds_item.ensures.same c.finds_item.new.token.me (c.in-TurnOut.is ∙ ap (λ k. TurnOut k) (sym c.place-place.ensures.ticket)) c.if-not-finds_item.ensures.told
 
-pub returns-in-None-clause-call : goal.returns-in-None-clause-call
-returns-in-None-clause-call g c = λ k e.
-    let same = one_deletion (deleting_now c.self.inside.table.shared.key c.seat.invariant c.self.invariant c.seat.view_is c.self.view_is c.requires.object (sym c.replace.ensures.value ∙ c.in-TurnOut.is)) e in
-    subst (λ z. WaitsToTake c.args.self.now.size z c.args.seat.now (queue_seat (object_id c.empty_cell.new.token.table_id c.seat.inside.seats) c.seat.inside.name c.seat.inside.left c.empty_cell.new.token.me)) same (waits_to_take c.self.inside.table.shared.key c.seat.invariant c.self.invariant c.seat.view_is c.self.view_is c.requires.object c.empty_cell.ensures.same c.empty_cell.new.token.me (c.in-None.ensures.told c.seat.inside.name (token_names c.seat.invariant.token)))
+pub empty_cell-requires-clause-seat : goal.empty_cell-requires-clause-seat
+empty_cell-requires-clause-seat g c = (c.seat.inside.name, names_looked_out c.self.inside.table.shared.key c.seat.invariant c.self.invariant c.seat.view_is c.self.view_is c.requires.object c.finds_item.ensures.same c.finds_item.new.token.me (c.in-TurnOut.is ∙ ap (λ k. TurnOut k) (sym c.place-place.ensures.ticket)) c.if-not-finds_item.ensures.told)
 
-pub returns-in-Some-clause-left : goal.returns-in-Some-clause-left
-returns-in-Some-clause-left g c = drawn_after c.self.inside.table.shared.key c.seat.invariant c.self.invariant c.seat.view_is c.self.view_is c.requires.object (c.in-Some.ensures.told c.seat.inside.name (token_names c.seat.invariant.token)).part (left_same c.self.inside.table.shared.key c.seat.invariant c.self.invariant c.seat.view_is c.self.view_is c.requires.object) c.empty_cell.ensures.same ∙ omega arith
+pub empty_cell-requires-clause-phase : goal.empty_cell-requires-clause-phase
+empty_cell-requires-clause-phase g c = phase_looked_out c.self.inside.table.shared.key c.seat.invariant c.self.invariant c.seat.view_is c.self.view_is c.requires.object c.finds_item.ensures.same c.finds_item.new.token.me (c.in-TurnOut.is ∙ ap (λ k. TurnOut k) (sym c.place-place.ensures.ticket)) c.if-not-finds_item.ensures.told
 
-pub returns-in-Some-clause-call : goal.returns-in-Some-clause-call
-returns-in-Some-clause-call g c = λ k e.
-    let same = one_deletion (deleting_now c.self.inside.table.shared.key c.seat.invariant c.self.invariant c.seat.view_is c.self.view_is c.requires.object (sym c.replace.ensures.value ∙ c.in-TurnOut.is)) e in
-    (same, subst (λ z. Takes c.args.self.now.size z c.in-Some.item c.args.seat.now (queue_seat (object_id c.empty_cell.new.token.table_id c.seat.inside.seats) c.seat.inside.name c.seat.inside.left c.empty_cell.new.token.me)) same (takes c.self.inside.table.shared.key c.seat.invariant c.self.invariant c.seat.view_is c.self.view_is c.requires.object c.empty_cell.ensures.same c.empty_cell.new.token.me (c.in-Some.ensures.told c.seat.inside.name (token_names c.seat.invariant.token))))
+pub empty_cell-requires-clause-slot : goal.empty_cell-requires-clause-slot
+empty_cell-requires-clause-slot g c = slot_looked_out c.self.inside.table.shared.key c.seat.invariant c.self.invariant c.seat.view_is c.self.view_is c.requires.object c.finds_item.ensures.same c.finds_item.new.token.me (c.in-TurnOut.is ∙ ap (λ k. TurnOut k) (sym c.place-place.ensures.ticket)) c.if-not-finds_item.ensures.told c.place-place.result.cell c.place-place.ensures.place.cell_is
+
+pub invariant_of-seat-2 : goal.invariant_of-seat-2
+invariant_of-seat-2 g c = seat_taken c.self.inside.table.shared.key c.seat.invariant c.self.invariant c.seat.view_is c.self.view_is c.requires.object (c.empty_cell.ensures.same ∙ c.finds_item.ensures.same) c.empty_cell.new.token.me (c.in-TurnOut.is ∙ ap (λ k. TurnOut k) (sym c.place-place.ensures.ticket)) c.if-not-finds_item.ensures.told c.empty_cell.ensures.told
+
+pub returns-clause-state : goal.returns-clause-state
+returns-clause-state g c = state_taken c.self.inside.table.shared.key c.seat.invariant c.self.invariant c.seat.view_is c.self.view_is c.requires.object (c.empty_cell.ensures.same ∙ c.finds_item.ensures.same) c.empty_cell.new.token.me (c.in-TurnOut.is ∙ ap (λ k. TurnOut k) (sym c.place-place.ensures.ticket)) c.if-not-finds_item.ensures.told c.empty_cell.ensures.told
+
+pub returns-clause-left : goal.returns-clause-left
+returns-clause-left g c = drawn_taken c.self.inside.table.shared.key c.seat.invariant c.self.invariant c.seat.view_is c.self.view_is c.requires.object (c.empty_cell.ensures.same ∙ c.finds_item.ensures.same) c.empty_cell.new.token.me (c.in-TurnOut.is ∙ ap (λ k. TurnOut k) (sym c.place-place.ensures.ticket)) c.if-not-finds_item.ensures.told c.empty_cell.ensures.told
+
+pub returns-clause-call : goal.returns-clause-call
+returns-clause-call g c = λ k e. takes_item c.self.inside.table.shared.key c.seat.invariant c.self.invariant c.seat.view_is c.self.view_is c.requires.object (c.empty_cell.ensures.same ∙ c.finds_item.ensures.same) c.empty_cell.new.token.me (c.in-TurnOut.is ∙ ap (λ k. TurnOut k) (sym c.place-place.ensures.ticket)) c.if-not-finds_item.ensures.told c.empty_cell.ensures.told c.in-TurnOut.ticket k (sym c.place-place.ensures.ticket) e

@@ -1,12 +1,11 @@
-use Rattle.std.proofs.Common.{arith, ap, ◌∙◌, ℕ, ◌+◌, ◌*◌, ◌/◌, ◌%◌, ◌∷◌, None, mod-lt}
+use Rattle.std.proofs.Common.{arith, ap, ◌∙◌, ℕ, ◌+◌, ◌*◌, ◌∷◌, None}
 use Rattle.fak_queue.proofs.Allowed.{sets_free_allowed}
 use Rattle.fak_queue.proofs.steps.deletion.set_free.Goals as goal
 
 pub store-requires : goal.store-requires
 store-requires g c =
     let t = c.requires.table in
-    let is = c.requires.size.0 in
-    let k = c.args.ticket in
-    let near = mod-lt k c.requires.size.1 in
-    let place = ap (λ (z : ℕ). k % z + 64) is in
-    (t.same, omega (arith, t.words, near, is), sets_free_allowed c.args.words.now.key _ _ _ c.requires.seat.0 _ t.few c.requires.seat.1 _ k _ place c.requires.slot.0 c.requires.phase (c.requires.slot.1 ∙ ap (λ (z : ℕ). (k % z, None) ∷ c.requires.slot.0) is) (ap (λ (z : ℕ). 2 * (k / z) + 2) is))
+    let p = c.requires.place in
+    let near = p.near in
+    let others = c.requires.slot.0 in
+    (t.same, omega (arith, t.words, near), sets_free_allowed c.args.words.now.key _ _ _ c.requires.seat.0 _ t.few c.requires.seat.1 _ c.args.place.ticket _ (ap (λ (z : ℕ). z + 80) p.cell_is) others c.requires.phase (c.requires.slot.1 ∙ ap (λ (z : ℕ). (z, None) ∷ others) p.cell_is) (ap (λ (z : ℕ). 2 * z + 2) p.round_is))

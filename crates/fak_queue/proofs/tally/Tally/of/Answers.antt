@@ -1,7 +1,3 @@
-use Rattle.std.proofs.Common.{subst}
-use Rattle.fak_model.specs.Calls.{SeatInfo}
-use Rattle.fak_model.specs.Queue.{IsQueueHistory, queue_rules}
-use Rattle.fak_model.specs.Histories.{AreNamed}
 use Rattle.fak_model.proofs.RunningCalls.{token_names}
 use Rattle.fak_model.proofs.RunningJoins.{tally_token}
 use Rattle.fak_queue.specs.Queues.{seat_of}

@@ -1,0 +1,9 @@
+use Rattle.std.proofs.Common.{◌≡◌}
+use Rattle.fak_core.specs.declared.queue.phase.Phase.TheVariants.{TurnIn}
+use Rattle.fak_queue.specs.Steps.{Named}
+use Rattle.fak_queue.proofs.Looking.{HasWaited}
+use Rattle.fak_queue.proofs.turns.wait_to_fill.Given as goal
+
+-- the seat was turned away each time
+abbrev pub invariant-loop : goal.invariant-loop
+invariant-loop g l = (l.token.table_id ≡ l.initial.token.table_id) × Named l.initial.token.me (λ n. HasWaited l.words.table_id.slots l.words.key.seats n (TurnIn l.place.ticket l.fn.item) l.initial.token.me l.token.me)
