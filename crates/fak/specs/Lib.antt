@@ -3,3 +3,4 @@ pub mod Commands
 pub mod Faults
 pub mod Program
 pub mod Replay
+pub mod Trace

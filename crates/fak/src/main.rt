@@ -13,6 +13,7 @@ mod row;
 mod running;
 mod serving;
 mod stepping;
+mod trace;
 
 pub use answer::Answer;
 pub use checking::check;

@@ -1,17 +1,19 @@
 //! The events of a schedule, made one after the other on its core.
 
-ghost use Rattle.std.specs.Prelude.{◌≡◌, ◌++◌, [], ◌∷◌, All, IfErr, IfOk, IfSome, List, MatchResult, None, Ok, OnOk, Some, replicate};
+ghost use Rattle.std.specs.Prelude.{◌≡◌, ◌++◌, [], ◌∷◌, All, IfErr, IfOk, IfSome, List, MatchResult, None, Ok, OnOk, Some, replicate, string_bytes};
 ghost use Rattle.std.specs.List.{flat_map};
 ghost use Rattle.fak_text.specs.ScheduleText.{IsActInRange};
-ghost use Rattle.fak.specs.Replay.{Action, IsRefusedStep, IsShownRow, actions_of, begins, list_of, outcome_of, rows_from, steps, text_of_row, text_of_rows};
+ghost use Rattle.fak.specs.Replay.{Action, IsRefusedStep, IsShownRow, actions_of, begins, list_of, outcome_of, rows_from, steps, text_of_rows};
+ghost use Rattle.fak.specs.Trace.{KeepsItsLine};
 ghost use Rattle.fak.specs.declared.fault.MainFault.TheVariants.{Memory};
 ghost use Rattle.fak.specs.declared.row.Row.TheVariants.{Moved, Refused};
 
 use crate::fault::MainFault;
 use crate::machine::Machine;
 use crate::row::Row;
+use crate::trace::Trace;
 use fak_core::{CoreFault, Line};
-use fak_text::{Act, Event, line_text, refused_text};
+use fak_text::{Act, Event};
 use std::alloc::Global;
 
 /// The row of a step, or of its refusal.
@@ -60,36 +62,23 @@ fn begin(machine: &mut Machine, seat: u64, act: Act) -> Option<Row>
     }
 }
 
-/// Appends a row and a newline.
-fn push_row(text: &mut Vec<u8>, alloc: Global, row: Row) -> Result<(), MainFault>
-    requires { IsShownRow row }
-    ensures ok { OnOk result (text.new.items ≡ text.old.items ++ (text_of_row row ++ 10 ∷ [])) }
-    ensures err { IfErr result (λ fault. fault ≡ Memory) }
-{
-    let line = match row {
-        Row::Moved(line) => line_text(alloc, &line)?,
-        Row::Refused(seat, fault) => refused_text(alloc, seat, &fault)?,
-    };
-    text.extend_from_slice(&line)?;
-    text.push(b'\n')?;
-    Ok(())
-}
-
 /// Makes so many steps of a seat, and appends their rows.
 fn make_steps(
     machine: &mut Machine,
     alloc: Global,
     seat: u64,
     count: u64,
-    text: &mut Vec<u8>,
+    trace: &mut Trace,
 ) -> Result<(), MainFault>
-    ensures ok { OnOk result ((rest : List Action) → text.new.items ++ text_of_rows (rows_from machine.new rest)
-        ≡ text.old.items ++ text_of_rows (rows_from machine.old (replicate count (steps seat) ++ rest))) }
+    requires { KeepsItsLine trace.old }
+    ensures ok { OnOk result ((rest : List Action) → string_bytes trace.new.text ++ text_of_rows (rows_from machine.new rest)
+        ≡ string_bytes trace.old.text ++ text_of_rows (rows_from machine.old (replicate count (steps seat) ++ rest))) }
+    ensures kept { OnOk result (KeepsItsLine trace.new) }
     ensures err { IfErr result (λ fault. fault ≡ Memory) }
 {
     for made in 0..count {
         let row = advance(machine, alloc, seat)?;
-        push_row(text, alloc, row)?;
+        trace.push(row)?;
     }
     Ok(())
 }
@@ -99,17 +88,19 @@ fn make_event(
     machine: &mut Machine,
     alloc: Global,
     event: Event,
-    text: &mut Vec<u8>,
+    trace: &mut Trace,
 ) -> Result<(), MainFault>
-    requires { IsActInRange event.act }
-    ensures ok { OnOk result ((rest : List Action) → text.new.items ++ text_of_rows (rows_from machine.new rest)
-        ≡ text.old.items ++ text_of_rows (rows_from machine.old (actions_of event ++ rest))) }
+    requires act { IsActInRange event.act }
+    requires kept { KeepsItsLine trace.old }
+    ensures ok { OnOk result ((rest : List Action) → string_bytes trace.new.text ++ text_of_rows (rows_from machine.new rest)
+        ≡ string_bytes trace.old.text ++ text_of_rows (rows_from machine.old (actions_of event ++ rest))) }
+    ensures kept { OnOk result (KeepsItsLine trace.new) }
     ensures err { IfErr result (λ fault. fault ≡ Memory) }
 {
     match event.act {
-        Act::Steps(count) => make_steps(machine, alloc, event.seat, count, text),
+        Act::Steps(count) => make_steps(machine, alloc, event.seat, count, trace),
         act => match begin(machine, event.seat, act) {
-            Some(row) => push_row(text, alloc, row),
+            Some(row) => trace.push(row),
             None => Ok(()),
         },
     }
@@ -125,9 +116,9 @@ pub(crate) fn trace_of(
     ensures ok { IfOk result (λ text. text.items ≡ text_of_rows (rows_from machine (flat_map actions_of events.now))) }
     ensures err { IfErr result (λ fault. fault ≡ Memory) }
 {
-    let mut text = Vec::new(alloc);
+    let mut trace = Trace::new(alloc);
     for event in events {
-        make_event(&mut machine, alloc, *event, &mut text)?;
+        make_event(&mut machine, alloc, *event, &mut trace)?;
     }
-    Ok(text)
+    Ok(trace.into_text())
 }

@@ -1,12 +1,13 @@
 -- The text of a journal, line by line.
-use Rattle.std.proofs.Common.{◌≡◌, ℕ, ◌+◌, ◌<◌, List, [], ◌∷◌, ◌++◌, map, codes, take, get_or, length, refl, ap, sym, ◌∙◌}
+use Rattle.std.proofs.Common.{◌≡◌, ℕ, ◌+◌, ◌<◌, List, [], ◌∷◌, ◌++◌, map, codes, take, get_or, length, decimal, refl, ap, sym, ◌∙◌, append_assoc}
 use Rattle.std.proofs.lemmas.List.{append-nil}
 use Rattle.std.specs.List.{flat_map}
 use Rattle.std.proofs.lemmas.List.{map-append, take_more}
 use Rattle.std.proofs.lemmas.Grind.{flat_map-append}
 use Rattle.fak_text.specs.declared.steps.Note.{Note}
 use Rattle.fak_text.specs.Journal.{NoteOf, said, yielded, downed, upped, opened, closed, statted, spawned, no_birth, no_slot, shut_down}
-use Rattle.fak_text.specs.JournalText.{text_of_name, text_of_note, journal_line, text_of_journal}
+use Rattle.fak_text.proofs.NameText.{text_of_name_push}
+use Rattle.fak_text.specs.JournalText.{text_of_name, child_prefix, text_of_note, journal_line, text_of_journal}
 use Rattle.fak_text.specs.Views.{note_of}
 
 -- two ways to write a child's name that are the same give the same line
@@ -34,3 +35,20 @@ text_of_journal-take name notes i note child_name lt is same =
     let split : flat_map line (map note_of (take (i + 1) notes)) ≡ flat_map line (map note_of (take i notes)) ++ (line (note_of note) ++ []) = ap (flat_map line) mapped ∙ flat_map-append line (map note_of (take i notes)) (note_of note ∷ []) in
     let text = text_of_note-same child_name (λ j. text_of_name (name ++ j ∷ [])) same (note_of note) in
     rw text (split ∙ simp append-nil)
+
+five_parts : (a b c d e : List ℕ) → (((a ++ b) ++ c) ++ d) ++ e ≡ a ++ (b ++ (c ++ (d ++ e)))
+five_parts a b c d e = simp append_assoc
+
+-- a line is appended to a journal: two spaces, the note's text, and a newline
+pub line_appended : (name old : List ℕ) (notes : List Note) (i : ℕ) (note : Note) (before indented noted new : List ℕ) → i < length notes → note ≡ get_or notes i note
+    → before ≡ old ++ text_of_journal name (map note_of (take i notes)) → indented ≡ before ++ codes "  "
+    → noted ≡ indented ++ text_of_note (λ j. child_prefix name ++ decimal j) (note_of note) → new ≡ noted ++ codes "\n"
+    → new ≡ old ++ text_of_journal name (map note_of (take (i + 1) notes))
+line_appended name old notes i note before indented noted new lt is so_far spaces text newline =
+    let child_name : ℕ → List ℕ = λ j. child_prefix name ++ decimal j in
+    let line : List ℕ = text_of_note child_name (note_of note) in
+    let journal : List ℕ = text_of_journal name (map note_of (take i notes)) in
+    let more = text_of_journal-take name notes i note child_name lt is (λ (j : ℕ). sym (text_of_name_push name j)) in
+    let whole : new ≡ (((old ++ journal) ++ codes "  ") ++ line) ++ codes "\n" =
+    newline ∙ ap (λ t. t ++ codes "\n") (text ∙ ap (λ t. t ++ line) (spaces ∙ ap (λ t. t ++ codes "  ") so_far)) in
+    whole ∙ five_parts old journal (codes "  ") line (codes "\n") ∙ sym (ap (λ t. old ++ t) more)

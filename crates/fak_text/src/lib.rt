@@ -17,7 +17,10 @@ pub use reading::{read_history, read_schedule, read_script};
 pub use schedule::{Act, Event, Object, Schedule};
 pub use script::Script;
 pub use steps::{Note, Step};
-pub use text::{journal_text, line_text, name_text, refused_text};
+pub use text::{
+    append_journal, append_line, append_name, append_refusal, journal_text, line_text, name_text,
+    refused_text,
+};
 
 #[cfg(test)]
 mod tests;

@@ -36,16 +36,18 @@ impl Left {
     }
 }
 
-/// The program with one word after its name.
+/// The program with these words after its name.
 fn left_by<R: Read>(
     rt: &(impl Threads + Wait + Sync),
     alloc: Global,
-    word: &str,
+    asked: &str,
     reader: &mut R,
 ) -> Result<Left, Fail> {
     let mut words = Vec::new(alloc);
     words.push(String::from_str(alloc, "fak")?)?;
-    words.push(String::from_str(alloc, word)?)?;
+    for word in asked.split(' ') {
+        words.push(String::from_str(alloc, word)?)?;
+    }
     let mut output = Vec::new(alloc);
     let mut faults = Vec::new(alloc);
     let status = run_words(rt, alloc, words, reader, &mut output, &mut faults);
@@ -74,6 +76,12 @@ fn an_answer_goes_to_the_output(rt: HostRuntime) -> Result<(), Fail> {
         ),
         (
             "run",
+            "{\"version\":1,\"slots\":1,\"births\":0,\"quantum\":4,\"semaphores\":[0],\"files\":1,\"programs\":[[[\"down\",0]]],\"start\":[0]}",
+            3,
+            "process 0 program 0 slot 0 stuck\nbirths 0 of 0\nended 0 stuck 1\n",
+        ),
+        (
+            "run --processors 2",
             "{\"version\":1,\"slots\":1,\"births\":0,\"quantum\":4,\"semaphores\":[0],\"files\":1,\"programs\":[[[\"down\",0]]],\"start\":[0]}",
             3,
             "process 0 program 0 slot 0 stuck\nbirths 0 of 0\nended 0 stuck 1\n",

@@ -1,4 +1,7 @@
-use crate::{Note, journal_text, line_text, name_text, refused_text};
+use crate::{
+    Note, append_journal, append_line, append_name, append_refusal, journal_text, line_text,
+    name_text, refused_text,
+};
 use fak_core::{CoreFault, CoreMove, Line, LineMark};
 use fak_model::{Kind, RoomKind};
 use std::test::Fail;
@@ -221,5 +224,28 @@ fn names(rt: HostRuntime) -> Result<(), Fail> {
     assert!(rt; name_text(rt.alloc(), &[])?.as_str() == "");
     assert!(rt; name_text(rt.alloc(), &[0])?.as_str() == "0");
     assert!(rt; name_text(rt.alloc(), &[12, 0, 1000])?.as_str() == "12.0.1000");
+    Ok(())
+}
+
+#[test]
+fn texts_are_appended(rt: HostRuntime) -> Result<(), Fail> {
+    let line = Line {
+        seat: 63,
+        step: CoreMove::SubLow,
+        found: -4096,
+        mark: Some(LineMark::Queue(Kind::OverOut)),
+    };
+    let mut text = String::from_str(rt.alloc(), "begun\n")?;
+    append_line(&mut text, &line)?;
+    text.push_str("\n")?;
+    append_refusal(&mut text, 100, &CoreFault::NotHeld)?;
+    text.push_str("\n")?;
+    append_name(&mut text, &[3, 0, 1000])?;
+    text.push_str("\n")?;
+    append_journal(&mut text, &[3, 0], &[Note::Spawned(7), Note::Yield])?;
+    assert!(rt;
+        text.as_str()
+            == "begun\n63 sub-low -4096 over-out\n100 refused not-held\n3.0.1000\n  spawn 3.0.7\n  yield\n"
+    );
     Ok(())
 }

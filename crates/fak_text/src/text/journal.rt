@@ -1,114 +1,118 @@
 //! The text of a journal, and of a process's name.
 
-ghost use Rattle.std.specs.Prelude.{◌≡◌, ◌++◌, map, codes, decimal, string_bytes, IfOk, IfErr, Some};
-ghost use Rattle.fak_text.specs.JournalText.{text_of_name, child_prefix, opened_text, closed_text, uses_text, text_of_note, text_of_journal};
+ghost use Rattle.std.specs.Prelude.{◌≡◌, ◌++◌, map, decimal, string_bytes, IfOk, IfErr, MatchOption, OnOk};
+ghost use Rattle.fak_text.specs.JournalText.{text_of_name, child_prefix, text_of_note, text_of_journal};
 ghost use Rattle.fak_text.specs.Views.{note_of};
 ghost use Rattle.fak_text.specs.declared.fault.TextFault.TheVariants.{Memory};
 
 use crate::fault::TextFault;
 use crate::steps::Note;
+use crate::text::number::append_number;
 use std::alloc::{AllocError, Global};
-use std::fmt;
-use std::fmt::Write;
 
-/// At which entry a file was opened, if at one.
-#[derive(Clone, Copy)]
-struct Opened(Option<u64>);
-
-impl fmt::Display for Opened {
-    ghost output = { λ entry. Some (opened_text entry.0) };
-
-    fn fmt<W: fmt::Write>(&self, f: &mut fmt::Formatter<W>) -> fmt::Result {
-        match self.0 {
-            Some(entry) => write!(f, " entry {entry}"),
-            None => f.write_str(" no-entry"),
-        }
-    }
-}
-
-/// At which entry a file was closed, if at one.
-#[derive(Clone, Copy)]
-struct Closed(Option<u64>);
-
-impl fmt::Display for Closed {
-    ghost output = { λ entry. Some (closed_text entry.0) };
-
-    fn fmt<W: fmt::Write>(&self, f: &mut fmt::Formatter<W>) -> fmt::Result {
-        match self.0 {
-            Some(entry) => write!(f, " entry {entry}"),
-            None => f.write_str(" none"),
-        }
-    }
-}
-
-/// How many uses a file had, if it was open.
-#[derive(Clone, Copy)]
-struct Uses(Option<u64>);
-
-impl fmt::Display for Uses {
-    ghost output = { λ uses. Some (uses_text uses.0) };
-
-    fn fmt<W: fmt::Write>(&self, f: &mut fmt::Formatter<W>) -> fmt::Result {
-        match self.0 {
-            Some(uses) => write!(f, " uses {uses}"),
-            None => f.write_str(" none"),
-        }
-    }
-}
-
-/// A note of a process whose children's names begin with this text.
-#[derive(Clone, Copy)]
-struct NoteLine<'j> {
-    prefix: &'j str,
-    note: &'j Note,
-}
-
-impl fmt::Display for NoteLine<'_> {
-    ghost output = { λ line. Some (text_of_note (λ j. line.prefix.now ++ decimal j) (note_of line.note.now)) };
-
-    fn fmt<W: fmt::Write>(&self, f: &mut fmt::Formatter<W>) -> fmt::Result {
-        let prefix = self.prefix;
-        match self.note {
-            Note::Say(text) => write!(f, "say {text}"),
-            Note::Yield => write!(f, "yield"),
-            Note::Down(s) => write!(f, "down {s}"),
-            Note::Up(s) => write!(f, "up {s}"),
-            Note::OpenFile(n, entry) => write!(f, "open {n}{}", Opened(*entry)),
-            Note::CloseFile(n, entry) => write!(f, "close {n}{}", Closed(*entry)),
-            Note::Stat(n, uses) => write!(f, "stat {n}{}", Uses(*uses)),
-            Note::Spawned(j) => write!(f, "spawn {prefix}{j}"),
-            Note::NoBirth => write!(f, "spawn no-birth"),
-            Note::NoSlot => write!(f, "spawn no-slot"),
-            Note::Shutdown => write!(f, "shutdown"),
-        }
-    }
-}
-
-/// What the names of a process's children begin with: each of its numbers, and a dot.
-#[tactic(auto, using(std::proofs::lemmas::Grind::common_steps))]
-fn prefix_of(alloc: Global, name: &[u64]) -> Result<String, AllocError>
-    ensures { IfOk result (λ s. string_bytes s ≡ child_prefix name.now) }
+/// Appends a word and a number.
+fn append_numbered(text: &mut String, word: &str, number: u64) -> Result<(), AllocError>
+    ensures { OnOk result (string_bytes text.new ≡ string_bytes text.old ++ (word.now ++ decimal number)) }
 {
-    let mut prefix = String::new(alloc);
-    for number in name {
-        write!(prefix, "{number}.")?;
+    text.push_str(word)?;
+    append_number(text, number)
+}
+
+/// Appends a word and a number, or the other word where there is no number.
+fn append_optional(
+    text: &mut String,
+    word: &str,
+    number: Option<u64>,
+    none: &str,
+) -> Result<(), AllocError>
+    ensures { OnOk result (MatchOption number (string_bytes text.new ≡ string_bytes text.old ++ none.now)
+        (λ n. string_bytes text.new ≡ string_bytes text.old ++ (word.now ++ decimal n))) }
+{
+    match number {
+        Some(number) => append_numbered(text, word, number),
+        None => text.push_str(none),
     }
-    Ok(prefix)
+}
+
+/// Appends what the names of a process's children begin with: each of its numbers, and a dot.
+fn append_prefix(text: &mut String, name: &[u64]) -> Result<(), AllocError>
+    ensures { OnOk result (string_bytes text.new ≡ string_bytes text.old ++ child_prefix name.now) }
+{
+    for number in name {
+        append_number(text, *number)?;
+        text.push_str(".")?;
+    }
+    Ok(())
+}
+
+/// Appends the text of a process's name: its numbers, joined by dots.
+pub fn append_name(text: &mut String, name: &[u64]) -> Result<(), AllocError>
+    ensures { OnOk result (string_bytes text.new ≡ string_bytes text.old ++ text_of_name name.now) }
+{
+    match name.split_last() {
+        None => Ok(()),
+        Some((last, parents)) => {
+            append_prefix(text, parents)?;
+            append_number(text, *last)
+        }
+    }
+}
+
+/// Appends the text of a note of the process of this name.
+fn append_note(text: &mut String, name: &[u64], note: &Note) -> Result<(), AllocError>
+    ensures { OnOk result (string_bytes text.new ≡ string_bytes text.old ++ text_of_note (λ j. child_prefix name.now ++ decimal j) (note_of note.now)) }
+{
+    match note {
+        Note::Say(said) => {
+            text.push_str("say ")?;
+            text.push_str(said)
+        }
+        Note::Yield => text.push_str("yield"),
+        Note::Down(s) => append_numbered(text, "down ", *s),
+        Note::Up(s) => append_numbered(text, "up ", *s),
+        Note::OpenFile(n, entry) => {
+            append_numbered(text, "open ", *n)?;
+            append_optional(text, " entry ", *entry, " no-entry")
+        }
+        Note::CloseFile(n, entry) => {
+            append_numbered(text, "close ", *n)?;
+            append_optional(text, " entry ", *entry, " none")
+        }
+        Note::Stat(n, uses) => {
+            append_numbered(text, "stat ", *n)?;
+            append_optional(text, " uses ", *uses, " none")
+        }
+        Note::Spawned(j) => {
+            text.push_str("spawn ")?;
+            append_prefix(text, name)?;
+            append_number(text, *j)
+        }
+        Note::NoBirth => text.push_str("spawn no-birth"),
+        Note::NoSlot => text.push_str("spawn no-slot"),
+        Note::Shutdown => text.push_str("shutdown"),
+    }
+}
+
+/// Appends the text of the journal of the process of this name: a line for each note, which begins with two spaces and
+/// ends with a newline. A child's name is the process's name and the child's number.
+pub fn append_journal(text: &mut String, name: &[u64], notes: &[Note]) -> Result<(), AllocError>
+    ensures { OnOk result (string_bytes text.new ≡ string_bytes text.old ++ text_of_journal name.now (map note_of notes.now)) }
+{
+    for note in notes {
+        text.push_str("  ")?;
+        append_note(text, name, note)?;
+        text.push_str("\n")?;
+    }
+    Ok(())
 }
 
 /// The text of a process's name: its numbers, joined by dots.
-#[tactic(auto, using(crate::proofs::NameText::text_of_name_push))]
 pub fn name_text(alloc: Global, name: &[u64]) -> Result<String, AllocError>
     ensures { IfOk result (λ s. string_bytes s ≡ text_of_name name.now) }
 {
-    match name.split_last() {
-        None => Ok(String::new(alloc)),
-        Some((last, parents)) => {
-            let prefix = prefix_of(alloc, parents)?;
-            let text = format!(in alloc; "{prefix}{last}")?;
-            Ok(text)
-        }
-    }
+    let mut text = String::new(alloc);
+    append_name(&mut text, name)?;
+    Ok(text)
 }
 
 /// The text of the journal of the process of this name: a line for each note, which begins with two spaces and ends
@@ -121,14 +125,7 @@ pub fn journal_text(alloc: Global, name: &[u64], notes: &[Note]) -> Result<Vec<u
     ensures text { IfOk result (λ v. v.items ≡ text_of_journal name.now (map note_of notes.now)) }
     ensures memory { IfErr result (λ e. e ≡ Memory) }
 {
-    let prefix = prefix_of(alloc, name)?;
     let mut text = String::new(alloc);
-    for note in notes {
-        let line = NoteLine {
-            prefix: prefix.as_str(),
-            note,
-        };
-        write!(text, "  {line}\n")?;
-    }
+    append_journal(&mut text, name, notes)?;
     Ok(text.into_bytes())
 }

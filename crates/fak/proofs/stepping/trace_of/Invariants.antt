@@ -1,9 +1,12 @@
-use Rattle.std.proofs.Common.{◌≡◌, ◌++◌, drop}
+use Rattle.std.proofs.Common.{string_bytes, ◌≡◌, ◌++◌, drop}
 use Rattle.std.specs.List.{flat_map}
 use Rattle.fak.specs.Replay.{actions_of, rows_from, text_of_rows}
+use Rattle.fak.specs.Trace.{KeepsItsLine}
 use Rattle.fak.proofs.stepping.trace_of.Given as goal
 
--- what is printed so far, and the events that are still to come, print what all events print
+-- what is printed so far, and the events that are still to come, print what all events print; and the last line is kept
 abbrev pub invariant-loop-event : goal.invariant-loop-event
-invariant-loop-event l = l.text.items ++ text_of_rows (rows_from l.machine (flat_map actions_of (drop l.event-index l.events)))
-    ≡ text_of_rows (rows_from l.initial.machine (flat_map actions_of l.events))
+invariant-loop-event l =
+    (string_bytes l.trace.text ++ text_of_rows (rows_from l.machine (flat_map actions_of (drop l.event-index l.events)))
+    ≡ text_of_rows (rows_from l.initial.machine (flat_map actions_of l.events)))
+    × KeepsItsLine l.trace

@@ -1,8 +1,8 @@
-use Rattle.std.proofs.Common.{◌≡◌, ◌++◌, map, take}
+use Rattle.std.proofs.Common.{string_bytes, ◌≡◌, ◌++◌, map, take}
 use Rattle.std.specs.List.{flat_map}
 use Rattle.fak_kernel.specs.ReportText.{text_of_row}
 use Rattle.fak_kernel.specs.Views.{row_of}
 use Rattle.fak_kernel.proofs.text.add_rows.Given as goal
 
 abbrev pub invariant-loop-row : goal.invariant-loop-row
-invariant-loop-row l = l.text.items ≡ l.fn.text.items ++ flat_map text_of_row (map row_of (take l.row-index l.rows))
+invariant-loop-row l = string_bytes l.text ≡ string_bytes l.fn.text ++ flat_map text_of_row (map row_of (take l.row-index l.rows))

@@ -1,0 +1,7 @@
+use Rattle.std.proofs.Common.{◌≡◌, ◌++◌, map, take, string_bytes}
+use Rattle.fak_text.specs.JournalText.{text_of_journal}
+use Rattle.fak_text.specs.Views.{note_of}
+use Rattle.fak_text.proofs.text.journal.append_journal.Given as goal
+
+abbrev pub invariant-loop-note : goal.invariant-loop-note
+invariant-loop-note l = string_bytes l.text ≡ string_bytes l.initial.text ++ text_of_journal l.name (map note_of (take l.note-index l.notes))

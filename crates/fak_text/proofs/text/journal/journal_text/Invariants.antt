@@ -1,7 +1,0 @@
-use Rattle.std.proofs.Common.{◌≡◌, map, take, string_bytes}
-use Rattle.fak_text.specs.JournalText.{text_of_journal}
-use Rattle.fak_text.specs.Views.{note_of}
-use Rattle.fak_text.proofs.text.journal.journal_text.Given as goal
-
-abbrev pub invariant-loop-note : goal.invariant-loop-note
-invariant-loop-note l = string_bytes l.text ≡ text_of_journal l.name (map note_of (take l.note-index l.notes))

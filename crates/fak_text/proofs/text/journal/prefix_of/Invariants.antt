@@ -1,6 +1,0 @@
-use Rattle.std.proofs.Common.{◌≡◌, take, string_bytes}
-use Rattle.fak_text.specs.JournalText.{child_prefix}
-use Rattle.fak_text.proofs.text.journal.prefix_of.Given as goal
-
-abbrev pub invariant-loop-number : goal.invariant-loop-number
-invariant-loop-number l = string_bytes l.prefix ≡ child_prefix (take l.number-index l.name)
