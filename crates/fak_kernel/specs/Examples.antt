@@ -1,10 +1,10 @@
--- Scripts that are known, and how the list scheduler leaves their processes.
-use Rattle.std.specs.Prelude.{◌≡◌, ℕ, List, [], ◌∷◌, Some, codes}
-use Rattle.std.specs.List.{flat_map}
+-- Scripts that are known, and how the list scheduler leaves its lists. Each of its rules changes what is left of one of them.
+use Rattle.std.specs.Prelude.{ℕ, [], ◌∷◌, Some, true, false, codes}
 use Rattle.fak_model.specs.declared.file.FileEntry.{FileEntry}
 use Rattle.fak_text.specs.Script.{ScriptOf, say, yield, down, up, open_file, close_file, stat, spawn, shutdown}
-use Rattle.fak_text.specs.Journal.{said, yielded, downed, upped, opened, closed, statted, spawned, no_birth, no_slot, shut_down, Process}
-use Rattle.fak_kernel.specs.ListScheduler.{Lists, EndsIn}
+use Rattle.fak_text.specs.Journal.{said, yielded, downed, upped, opened, closed, statted, spawned, no_birth, no_slot, shut_down}
+use Rattle.fak_kernel.specs.Files.{free_entry}
+use Rattle.fak_kernel.specs.ListScheduler.{Lists}
 
 -- the stint where a script names none
 abbrev pub most_stint : ℕ
@@ -24,11 +24,21 @@ ping_pong = record {
   start = 0 ∷ 1 ∷ [];
 }
 
--- its processes, in the order in which they ended
-abbrev pub ping_pong_ended : List Process
-ping_pong_ended =
-    record { name = 1 ∷ []; program = 1; slot = 1; position = 3; journal = downed 1 ∷ said (codes "pong") ∷ upped 0 ∷ [] } ∷
-    record { name = 0 ∷ []; program = 0; slot = 0; position = 3; journal = said (codes "ping") ∷ upped 1 ∷ downed 0 ∷ [] } ∷ []
+-- how it is left
+abbrev pub ping_pong_left : Lists
+ping_pong_left = record {
+  ready = [];
+  free_slots = 1 ∷ 0 ∷ [];
+  counts = 0 ∷ 0 ∷ [];
+  sleepers = [] ∷ [] ∷ [];
+  entries = free_entry ∷ [];
+  births = 0;
+  is_shut = false;
+  ended =
+      record { name = 1 ∷ []; program = 1; slot = 1; position = 3; journal = downed 1 ∷ said (codes "pong") ∷ upped 0 ∷ [] } ∷
+      record { name = 0 ∷ []; program = 0; slot = 0; position = 3; journal = said (codes "ping") ∷ upped 1 ∷ downed 0 ∷ [] } ∷ [];
+  halted = [];
+}
 
 -- every kind of step of version 1
 abbrev pub family : ScriptOf
@@ -47,13 +57,87 @@ family = record {
   start = 0 ∷ 1 ∷ [];
 }
 
--- its processes, in the order in which they ended
-abbrev pub family_ended : List Process
-family_ended =
-    record { name = 1 ∷ []; program = 1; slot = 1; position = 6; journal = downed 1 ∷ said (codes "pong") ∷ opened 7 (Some 0) ∷ upped 0 ∷ statted 7 (Some 1) ∷ closed 7 (Some 0) ∷ [] } ∷
-    record { name = 0 ∷ 0 ∷ []; program = 2; slot = 2; position = 2; journal = said (codes "child") ∷ yielded ∷ [] } ∷
-    record { name = 0 ∷ []; program = 0; slot = 0; position = 8; journal = said (codes "ping") ∷ upped 1 ∷ downed 0 ∷ spawned 0 ∷ no_slot ∷ yielded ∷ spawned 1 ∷ no_birth ∷ [] } ∷
-    record { name = 0 ∷ 1 ∷ []; program = 2; slot = 1; position = 2; journal = said (codes "child") ∷ yielded ∷ [] } ∷ []
+-- how it is left
+abbrev pub family_left : Lists
+family_left = record {
+  ready = [];
+  free_slots = 2 ∷ 0 ∷ 1 ∷ [];
+  counts = 0 ∷ 0 ∷ [];
+  sleepers = [] ∷ [] ∷ [];
+  entries = free_entry ∷ free_entry ∷ [];
+  births = 2;
+  is_shut = false;
+  ended =
+      record { name = 1 ∷ []; program = 1; slot = 1; position = 6; journal = downed 1 ∷ said (codes "pong") ∷ opened 7 (Some 0) ∷ upped 0 ∷ statted 7 (Some 1) ∷ closed 7 (Some 0) ∷ [] } ∷
+      record { name = 0 ∷ 0 ∷ []; program = 2; slot = 2; position = 2; journal = said (codes "child") ∷ yielded ∷ [] } ∷
+      record { name = 0 ∷ []; program = 0; slot = 0; position = 8; journal = said (codes "ping") ∷ upped 1 ∷ downed 0 ∷ spawned 0 ∷ no_slot ∷ yielded ∷ spawned 1 ∷ no_birth ∷ [] } ∷
+      record { name = 0 ∷ 1 ∷ []; program = 2; slot = 1; position = 2; journal = said (codes "child") ∷ yielded ∷ [] } ∷ [];
+  halted = [];
+}
+
+-- three processes share a semaphore that lets one pass: two sleep, and are woken while another is ready; and a turn that a yield ends
+abbrev pub crowd : ScriptOf
+crowd = record {
+  version = 1;
+  slots = 5;
+  births = 0;
+  quantum = 4;
+  stint = most_stint;
+  semaphores = 1 ∷ [];
+  files = 1;
+  programs = (down 0 ∷ open_file 7 ∷ stat 7 ∷ []) ∷ (up 0 ∷ up 0 ∷ up 0 ∷ []) ∷ (open_file 7 ∷ stat 7 ∷ yield ∷ stat 7 ∷ []) ∷ [];
+  start = 0 ∷ 0 ∷ 0 ∷ 1 ∷ 2 ∷ [];
+}
+
+-- how it is left
+abbrev pub crowd_left : Lists
+crowd_left = record {
+  ready = [];
+  free_slots = 0 ∷ 3 ∷ 1 ∷ 2 ∷ 4 ∷ [];
+  counts = 1 ∷ [];
+  sleepers = [] ∷ [];
+  entries = record { inode = 7; uses = 4 } ∷ [];
+  births = 0;
+  is_shut = false;
+  ended =
+      record { name = 0 ∷ []; program = 0; slot = 0; position = 3; journal = downed 0 ∷ opened 7 (Some 0) ∷ statted 7 (Some 1) ∷ [] } ∷
+      record { name = 3 ∷ []; program = 1; slot = 3; position = 3; journal = upped 0 ∷ upped 0 ∷ upped 0 ∷ [] } ∷
+      record { name = 1 ∷ []; program = 0; slot = 1; position = 3; journal = downed 0 ∷ opened 7 (Some 0) ∷ statted 7 (Some 3) ∷ [] } ∷
+      record { name = 2 ∷ []; program = 0; slot = 2; position = 3; journal = downed 0 ∷ opened 7 (Some 0) ∷ statted 7 (Some 4) ∷ [] } ∷
+      record { name = 4 ∷ []; program = 2; slot = 4; position = 4; journal = opened 7 (Some 0) ∷ statted 7 (Some 2) ∷ yielded ∷ statted 7 (Some 4) ∷ [] } ∷ [];
+  halted = [];
+}
+
+-- two children, the second in the slot that was free longest
+abbrev pub heirs : ScriptOf
+heirs = record {
+  version = 1;
+  slots = 3;
+  births = 2;
+  quantum = 4;
+  stint = most_stint;
+  semaphores = [];
+  files = 1;
+  programs = (spawn 1 ∷ yield ∷ spawn 1 ∷ []) ∷ ([]) ∷ [];
+  start = 0 ∷ [];
+}
+
+-- how it is left
+abbrev pub heirs_left : Lists
+heirs_left = record {
+  ready = [];
+  free_slots = 1 ∷ 0 ∷ 2 ∷ [];
+  counts = [];
+  sleepers = [];
+  entries = free_entry ∷ [];
+  births = 2;
+  is_shut = false;
+  ended =
+      record { name = 0 ∷ 0 ∷ []; program = 1; slot = 1; position = 0; journal = [] } ∷
+      record { name = 0 ∷ []; program = 0; slot = 0; position = 3; journal = spawned 0 ∷ yielded ∷ spawned 1 ∷ [] } ∷
+      record { name = 0 ∷ 1 ∷ []; program = 1; slot = 2; position = 0; journal = [] } ∷ [];
+  halted = [];
+}
 
 -- a process that nobody wakes
 abbrev pub alone : ScriptOf
@@ -69,9 +153,19 @@ alone = record {
   start = 0 ∷ [];
 }
 
--- its process, which sleeps
-abbrev pub alone_asleep : List Process
-alone_asleep = record { name = 0 ∷ []; program = 0; slot = 0; position = 1; journal = said (codes "a") ∷ [] } ∷ []
+-- how it is left
+abbrev pub alone_left : Lists
+alone_left = record {
+  ready = [];
+  free_slots = [];
+  counts = 0 ∷ [];
+  sleepers = (record { name = 0 ∷ []; program = 0; slot = 0; position = 1; journal = said (codes "a") ∷ [] } ∷ []) ∷ [];
+  entries = free_entry ∷ [];
+  births = 0;
+  is_shut = false;
+  ended = [];
+  halted = [];
+}
 
 -- the ready list is shut in the first turn
 abbrev pub curfew : ScriptOf
@@ -83,43 +177,58 @@ curfew = record {
   stint = most_stint;
   semaphores = 0 ∷ [];
   files = 1;
-  programs = (shutdown ∷ say (codes "last") ∷ say (codes "never") ∷ []) ∷ (say (codes "a") ∷ say (codes "b") ∷ []) ∷ (down 0 ∷ []) ∷ [];
+  programs =
+      (shutdown ∷ say (codes "last") ∷ say (codes "never") ∷ []) ∷
+      (say (codes "a") ∷ say (codes "b") ∷ []) ∷
+      (down 0 ∷ []) ∷ [];
   start = 0 ∷ 1 ∷ 2 ∷ [];
 }
 
--- who came to the end
-abbrev pub curfew_ended : List Process
-curfew_ended = record { name = 1 ∷ []; program = 1; slot = 1; position = 2; journal = said (codes "a") ∷ said (codes "b") ∷ [] } ∷ []
+-- how it is left
+abbrev pub curfew_left : Lists
+curfew_left = record {
+  ready = [];
+  free_slots = 1 ∷ [];
+  counts = 0 ∷ [];
+  sleepers = (record { name = 2 ∷ []; program = 2; slot = 2; position = 0; journal = [] } ∷ []) ∷ [];
+  entries = free_entry ∷ [];
+  births = 0;
+  is_shut = true;
+  ended =
+      record { name = 1 ∷ []; program = 1; slot = 1; position = 2; journal = said (codes "a") ∷ said (codes "b") ∷ [] } ∷ [];
+  halted =
+      record { name = 0 ∷ []; program = 0; slot = 0; position = 2; journal = shut_down ∷ said (codes "last") ∷ [] } ∷ [];
+}
 
--- who was put back after the shutdown
-abbrev pub curfew_halted : List Process
-curfew_halted = record { name = 0 ∷ []; program = 0; slot = 0; position = 2; journal = shut_down ∷ said (codes "last") ∷ [] } ∷ []
-
--- who sleeps at the end
-abbrev pub curfew_asleep : List Process
-curfew_asleep = record { name = 2 ∷ []; program = 2; slot = 2; position = 0; journal = [] } ∷ []
-
--- a child that is started after the ready list was shut
+-- a child that is started after the ready list was shut keeps its slot, so that there is none for a second
 abbrev pub late_child : ScriptOf
 late_child = record {
   version = 2;
   slots = 2;
-  births = 1;
+  births = 2;
   quantum = 4;
   stint = most_stint;
   semaphores = [];
   files = 1;
-  programs = (shutdown ∷ spawn 1 ∷ []) ∷ (say (codes "never") ∷ []) ∷ [];
+  programs = (shutdown ∷ spawn 1 ∷ spawn 1 ∷ []) ∷ (say (codes "never") ∷ []) ∷ [];
   start = 0 ∷ [];
 }
 
--- the parent
-abbrev pub late_child_ended : List Process
-late_child_ended = record { name = 0 ∷ []; program = 0; slot = 0; position = 2; journal = shut_down ∷ spawned 0 ∷ [] } ∷ []
-
--- the child
-abbrev pub late_child_halted : List Process
-late_child_halted = record { name = 0 ∷ 0 ∷ []; program = 1; slot = 1; position = 0; journal = [] } ∷ []
+-- how it is left
+abbrev pub late_child_left : Lists
+late_child_left = record {
+  ready = [];
+  free_slots = 0 ∷ [];
+  counts = [];
+  sleepers = [];
+  entries = free_entry ∷ [];
+  births = 1;
+  is_shut = true;
+  ended =
+      record { name = 0 ∷ []; program = 0; slot = 0; position = 3; journal = shut_down ∷ spawned 0 ∷ no_slot ∷ [] } ∷ [];
+  halted =
+      record { name = 0 ∷ 0 ∷ []; program = 1; slot = 1; position = 0; journal = [] } ∷ [];
+}
 
 -- a file that is opened twice and closed once, and a child
 abbrev pub reader : ScriptOf
@@ -135,21 +244,18 @@ reader = record {
   start = 0 ∷ [];
 }
 
--- its processes, in the order in which they ended
-abbrev pub reader_ended : List Process
-reader_ended =
-    record { name = 0 ∷ []; program = 0; slot = 0; position = 5; journal = opened 7 (Some 0) ∷ opened 7 (Some 0) ∷ closed 7 (Some 0) ∷ statted 7 (Some 1) ∷ spawned 0 ∷ [] } ∷
-    record { name = 0 ∷ 0 ∷ []; program = 1; slot = 1; position = 1; journal = said (codes "hi") ∷ [] } ∷ []
-
--- the file is left open
-abbrev pub reader_entries : List FileEntry
-reader_entries = record { inode = 7; uses = 1 } ∷ []
-
--- the list scheduler leaves these processes ended, halted and asleep, and these entries
-pub record Leaves (script : ScriptOf) (ended halted asleep : List Process) (entries : List FileEntry) : Type 0 where
-  pub lists : Lists
-  pub ends : EndsIn script lists
-  pub those_ended : lists.ended ≡ ended
-  pub those_halted : lists.halted ≡ halted
-  pub those_asleep : flat_map (λ waiting. waiting) lists.sleepers ≡ asleep
-  pub entries_are : lists.entries ≡ entries
+-- how it is left
+abbrev pub reader_left : Lists
+reader_left = record {
+  ready = [];
+  free_slots = 0 ∷ 1 ∷ [];
+  counts = 0 ∷ [];
+  sleepers = [] ∷ [];
+  entries = record { inode = 7; uses = 1 } ∷ [];
+  births = 1;
+  is_shut = false;
+  ended =
+      record { name = 0 ∷ []; program = 0; slot = 0; position = 5; journal = opened 7 (Some 0) ∷ opened 7 (Some 0) ∷ closed 7 (Some 0) ∷ statted 7 (Some 1) ∷ spawned 0 ∷ [] } ∷
+      record { name = 0 ∷ 0 ∷ []; program = 1; slot = 1; position = 1; journal = said (codes "hi") ∷ [] } ∷ [];
+  halted = [];
+}

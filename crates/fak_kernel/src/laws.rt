@@ -2,9 +2,8 @@
 
 ghost use Rattle.std.specs.Prelude.{◌≡◌, ◌≤◌, [], ◌∷◌, ℕ, List};
 ghost use Rattle.fak_text.specs.Script.{ScriptOf};
-ghost use Rattle.fak_kernel.specs.Files.{free_entry};
 ghost use Rattle.fak_kernel.specs.ListScheduler.{EndsIn, Lists};
-ghost use Rattle.fak_kernel.specs.Examples.{Leaves, ping_pong, ping_pong_ended, family, family_ended, alone, alone_asleep, curfew, curfew_ended, curfew_halted, curfew_asleep, late_child, late_child_ended, late_child_halted, reader, reader_ended, reader_entries};
+ghost use Rattle.fak_kernel.specs.Examples.{ping_pong, ping_pong_left, family, family_left, crowd, crowd_left, heirs, heirs_left, alone, alone_left, curfew, curfew_left, late_child, late_child_left, reader, reader_left};
 ghost use Rattle.std.specs.List.{All, AllPairs};
 ghost use Rattle.std.specs.List.Sorted.{IsPermutation};
 ghost use Rattle.fak_text.specs.Journal.{Process};
@@ -13,14 +12,16 @@ ghost use Rattle.fak_kernel.specs.Ledger.{Balanced, FitsRow, Ledger, joined};
 ghost use Rattle.fak_kernel.specs.Whole.{Gathered, Histories, rows_of};
 ghost use Rattle.fak_kernel.specs.Promises.{Promised};
 
-/// How the list scheduler leaves the processes of scripts that are known, in the order in which they were left.
+/// How the list scheduler leaves scripts that are known: all its lists, its counts and its births.
 pub fn the_list_scheduler_ends_known_scripts()
-    ensures wakes { Leaves ping_pong ping_pong_ended [] [] (free_entry ∷ []) }
-    ensures children { Leaves family family_ended [] [] (free_entry ∷ free_entry ∷ []) }
-    ensures stuck { Leaves alone [] [] alone_asleep (free_entry ∷ []) }
-    ensures shut { Leaves curfew curfew_ended curfew_halted curfew_asleep (free_entry ∷ []) }
-    ensures halted_child { Leaves late_child late_child_ended late_child_halted [] (free_entry ∷ []) }
-    ensures files { Leaves reader reader_ended [] [] reader_entries }
+    ensures wakes { EndsIn ping_pong ping_pong_left }
+    ensures children { EndsIn family family_left }
+    ensures sleepers { EndsIn crowd crowd_left }
+    ensures slots { EndsIn heirs heirs_left }
+    ensures stuck { EndsIn alone alone_left }
+    ensures shut { EndsIn curfew curfew_left }
+    ensures halted_child { EndsIn late_child late_child_left }
+    ensures files { EndsIn reader reader_left }
 {}
 
 /// The list scheduler ends a script in one way at most.

@@ -3,6 +3,12 @@ use Rattle.fak_kernel.specs.Opened.{fresh_processor}
 use Rattle.fak_kernel.specs.Begun.{IsLeftBy}
 use Rattle.fak_kernel.proofs.running.run_alone.Goals as goal
 
+pub leave_alone-requires-clause-begun : goal.leave_alone-requires-clause-begun
+leave_alone-requires-clause-begun g c d = record {
+  between = c.in-Ok.ensures.begun 0 d (omega (arith, c.in-Ok.ensures.len));
+  alone = λ _. c.in-Ok.ensures.alone refl d;
+}
+
 pub report_of_run-requires-clause-left : goal.report_of_run-requires-clause-left
 report_of_run-requires-clause-left g c i d low =
     let left = c.in-Ok-leave_alone.left in
