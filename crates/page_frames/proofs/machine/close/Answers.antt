@@ -1,8 +1,12 @@
-use Rattle.std.proofs.Common.{ℕ, rules, ap, ◌∙◌}
+use Rattle.std.proofs.Common.{ℕ, ◌<◌, rules, ap, ◌∙◌, subst, sym}
 use Rattle.std.specs.List.{sum_by}
 use Rattle.page_frames.specs.Frames.{is_number}
 use Rattle.page_frames.proofs.Counting.{all_left}
 use Rattle.page_frames.proofs.machine.close.Goals as goal
+
+pub close-requires-clause-whole : goal.close-requires-clause-whole
+close-requires-clause-whole c n low =
+    c.is_whole-whole.ensures.whole.0 (search (rules, c.if-not-whole.false)) n (subst (λ o. n < o.seats) (sym c.join-tally.ensures.object) low)
 
 pub returns : goal.returns
 returns c n =

@@ -1,0 +1,13 @@
+//! Callers of what the crates below promise: each is a small function that makes calls, names one public law, and
+//! concludes in public words. Half have no proof of their own, the others a line to a dozen; none imports another crate's proofs.
+#![tactic(auto)]
+
+pub mod cells;
+pub mod credits;
+pub mod files;
+pub mod joins;
+pub mod queues;
+pub mod rooms;
+pub mod semaphores;
+#[cfg(test)]
+mod tests;

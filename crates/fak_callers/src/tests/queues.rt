@@ -1,0 +1,76 @@
+//! Queues, and what is said of their cells.
+
+use crate::cells::{a_set_bit_has_its_close, a_slot_that_is_out_has_an_owner, owners_are_apart};
+use crate::queues::{
+    join_among_more, join_in_order, join_in_turn, join_mark_by_mark, join_open, join_within_size,
+    shut_lawfully, tally_at_rest,
+};
+use fak_queue::{InsertFault, Queue};
+use std::sync::Wait;
+use std::test::Fail;
+
+#[test]
+fn a_queue_is_shut_and_its_seats_are_joined(rt: HostRuntime) -> Result<(), Fail> {
+    let Ok((queue, mut seats)) = Queue::<u64>::open(rt.alloc(), 2, 2, 9) else {
+        return Err(Fail::from("open"));
+    };
+    let (Some(mut b), Some(mut a)) = (seats.pop(), seats.pop()) else {
+        return Err(Fail::from("two seats"));
+    };
+    assert!(rt; matches!(queue.insert(&rt, &mut a, 7), Ok(0)));
+    assert!(rt; shut_lawfully(&queue, &mut b));
+    assert!(rt; !shut_lawfully(&queue, &mut a));
+    assert!(rt;
+        matches!(
+            queue.insert(&rt, &mut a, 8),
+            Err(InsertFault::Closed { item: 8 })
+        )
+    );
+    assert!(rt; matches!(queue.delete(&rt, &mut b), Ok((0, 7))));
+    assert!(rt; join_in_turn(&queue, a, b).is_whole());
+    Ok(())
+}
+
+#[test]
+fn an_only_seat_is_at_rest(rt: HostRuntime) -> Result<(), Fail> {
+    let Ok((queue, mut seats)) = Queue::<u64>::open(rt.alloc(), 1, 1, 9) else {
+        return Err(Fail::from("open"));
+    };
+    let Some(mut a) = seats.pop() else {
+        return Err(Fail::from("one seat"));
+    };
+    assert!(rt; matches!(queue.insert(&rt, &mut a, 7), Ok(0)));
+    assert!(rt; tally_at_rest(a).is_whole());
+    Ok(())
+}
+
+#[test]
+fn two_of_ten_seats_are_joined(rt: HostRuntime) -> Result<(), Fail> {
+    let Ok((queue, mut seats)) = Queue::<u64>::open(rt.alloc(), 1, 10, 9) else {
+        return Err(Fail::from("open"));
+    };
+    let (Some(d), Some(c), Some(b), Some(a)) = (seats.pop(), seats.pop(), seats.pop(), seats.pop())
+    else {
+        return Err(Fail::from("four seats"));
+    };
+    assert!(rt; !join_in_order(&queue, a, b).is_whole());
+    assert!(rt; !join_mark_by_mark(&queue, c, d).is_whole());
+    let (Some(d), Some(c), Some(b), Some(a)) = (seats.pop(), seats.pop(), seats.pop(), seats.pop())
+    else {
+        return Err(Fail::from("eight seats"));
+    };
+    assert!(rt; !join_within_size(&queue, a, b).is_whole());
+    assert!(rt; !join_open(&queue, c, d).is_whole());
+    let (Some(b), Some(a)) = (seats.pop(), seats.pop()) else {
+        return Err(Fail::from("ten seats"));
+    };
+    assert!(rt; !join_among_more(&queue, a, b).is_whole());
+    Ok(())
+}
+
+#[test]
+fn cells_of_any_items() {
+    owners_are_apart::<u64>();
+    a_slot_that_is_out_has_an_owner::<u64>();
+    a_set_bit_has_its_close::<u64>();
+}
