@@ -1,0 +1,3 @@
+pub mod Plans
+pub mod Seats
+pub mod Spreads

@@ -1,0 +1,215 @@
+//! The cases of semaphores: one thread that goes down and up, or two that let each other through in turn.
+
+ghost use Rattle.std.specs.Prelude.{◌≡◌, IfOk};
+
+use crate::fault::Fault;
+use crate::gate::{Gate, LockGate, SeatGate};
+use crate::queues::STINT;
+use crate::run::{Job, Passed, numbers_below, run_all};
+use fak_sem::{SemSeat, Semaphore};
+use std::alloc::Global;
+use std::marker::Sync;
+use std::sync::{Condvar, Mutex, Wait};
+use std::thread::{Parker, Threads};
+use std::time::Clock;
+
+/// What a thread does with its gates, so many times.
+#[derive(Drop)]
+enum Turns<G> {
+    /// Down and up.
+    Alone { gate: G, count: u64 },
+    /// The other's gate up, then its own down.
+    Serve { ours: G, theirs: G, count: u64 },
+    /// Its own gate down, then the other's up.
+    Answer { ours: G, theirs: G, count: u64 },
+}
+
+/// Down and up.
+fn pass<R: Wait, G: Gate>(rt: &R, mut gate: G, count: u64) -> Passed {
+    let mut passed = Passed::NONE;
+    for number in 0..count {
+        if gate.down(rt) && gate.up(rt) {
+            passed = passed.with(number);
+        }
+    }
+    passed
+}
+
+/// The other's gate up, then its own down.
+fn serve<R: Wait, G: Gate>(rt: &R, mut ours: G, mut theirs: G, count: u64) -> Passed {
+    let mut passed = Passed::NONE;
+    for number in 0..count {
+        if theirs.up(rt) && ours.down(rt) {
+            passed = passed.with(number);
+        }
+    }
+    passed
+}
+
+/// Its own gate down, then the other's up.
+fn answer<R: Wait, G: Gate>(rt: &R, mut ours: G, mut theirs: G, count: u64) {
+    for _ in 0..count {
+        if !ours.down(rt) || !theirs.up(rt) {
+            return;
+        }
+    }
+}
+
+impl<G: Gate + Send> Job for Turns<G> {
+    fn work<R: Wait>(self, rt: &R) -> Passed {
+        match self {
+            Turns::Alone { gate, count } => pass(rt, gate, count),
+            Turns::Serve {
+                ours,
+                theirs,
+                count,
+            } => serve(rt, ours, theirs, count),
+            Turns::Answer {
+                ours,
+                theirs,
+                count,
+            } => {
+                answer(rt, ours, theirs, count);
+                Passed::NONE
+            }
+        }
+    }
+}
+
+/// Which semaphore.
+#[derive(Clone, Copy, Debug, PartialEq, Eq)]
+pub enum Guard {
+    /// This repository's, with a parker for the thread that waits.
+    Seats,
+    /// A count under a lock, with a condition variable.
+    Lock,
+}
+
+/// A semaphore by one thread, or two by two threads.
+#[derive(Clone, Copy, Debug, PartialEq, Eq)]
+pub struct GateCase {
+    pub guard: Guard,
+    pub is_shared: bool,
+}
+
+/// A semaphore with two seats.
+fn open_gate(alloc: Global, start: u64) -> Result<(Semaphore<()>, SemSeat<()>, SemSeat<()>), Fault>
+    ensures { IfOk result (λ r. (r.1.object ≡ r.0.object) × (r.2.object ≡ r.0.object)) }
+{
+    let Ok((semaphore, mut seats)) = Semaphore::<()>::open(alloc, start, 2, 2, STINT) else {
+        return Err(Fault::Memory);
+    };
+    let (Some(second), Some(first)) = (seats.pop(), seats.pop()) else {
+        return Err(Fault::Memory);
+    };
+    Ok((semaphore, first, second))
+}
+
+/// A seat's gate.
+fn seat_gate<'s>(semaphore: &'s Semaphore<()>, bell: &'s Parker, seat: SemSeat<()>) -> SeatGate<'s>
+    requires { seat.object ≡ semaphore.now.object }
+{
+    SeatGate {
+        semaphore,
+        bell,
+        seat,
+    }
+}
+
+/// One thread at one gate.
+fn run_alone<R: Threads + Wait + Clock + Sync, G: Gate + Send>(
+    rt: &R,
+    alloc: Global,
+    gate: G,
+    items: u64,
+) -> Result<u64, Fault> {
+    let mut jobs = Vec::new(alloc);
+    jobs.push(Turns::Alone { gate, count: items })?;
+    run_all(rt, jobs, numbers_below(items))
+}
+
+/// Two threads at two gates; a time for each time that one lets the other through.
+fn run_both<R: Threads + Wait + Clock + Sync, G: Gate + Send>(
+    rt: &R,
+    alloc: Global,
+    first: (G, G),
+    second: (G, G),
+    items: u64,
+) -> Result<u64, Fault> {
+    let mut jobs = Vec::new(alloc);
+    jobs.push(Turns::Serve {
+        ours: first.0,
+        theirs: first.1,
+        count: items,
+    })?;
+    jobs.push(Turns::Answer {
+        ours: second.0,
+        theirs: second.1,
+        count: items,
+    })?;
+    Ok(run_all(rt, jobs, numbers_below(items))? / 2)
+}
+
+impl GateCase {
+    fn by_seats<R: Threads + Wait + Clock + Sync>(
+        &self,
+        rt: &R,
+        alloc: Global,
+        items: u64,
+    ) -> Result<u64, Fault> {
+        let bells = (Parker::new(), Parker::new());
+        if !self.is_shared {
+            let (semaphore, seat, _other) = open_gate(alloc, 1)?;
+            let gate = seat_gate(&semaphore, &bells.0, seat);
+            return run_alone(rt, alloc, gate, items);
+        }
+        let (left, a, b) = open_gate(alloc, 0)?;
+        let (right, c, d) = open_gate(alloc, 0)?;
+        let first = (
+            seat_gate(&left, &bells.0, a),
+            seat_gate(&right, &bells.1, c),
+        );
+        let second = (
+            seat_gate(&right, &bells.1, d),
+            seat_gate(&left, &bells.0, b),
+        );
+        run_both(rt, alloc, first, second, items)
+    }
+
+    fn by_lock<R: Threads + Wait + Clock + Sync>(
+        &self,
+        rt: &R,
+        alloc: Global,
+        items: u64,
+    ) -> Result<u64, Fault> {
+        let start = if self.is_shared { 0u64 } else { 1 };
+        let counts = (Mutex::new(start), Mutex::new(start));
+        let signals = (Condvar::new(), Condvar::new());
+        let left = || LockGate {
+            count: &counts.0,
+            risen: &signals.0,
+        };
+        let right = || LockGate {
+            count: &counts.1,
+            risen: &signals.1,
+        };
+        if !self.is_shared {
+            return run_alone(rt, alloc, left(), items);
+        }
+        run_both(rt, alloc, (left(), right()), (right(), left()), items)
+    }
+
+    /// Runs it once, and answers the nanoseconds for a down and an up, or for each time that one lets the other through.
+    pub fn once<R: Threads + Wait + Clock + Sync>(
+        &self,
+        rt: &R,
+        alloc: Global,
+        items: u64,
+    ) -> Result<u64, Fault> {
+        let nanos = match self.guard {
+            Guard::Seats => self.by_seats(rt, alloc, items)?,
+            Guard::Lock => self.by_lock(rt, alloc, items)?,
+        };
+        Ok(nanos / items.max(1))
+    }
+}

@@ -1,0 +1,36 @@
+//! Measures the queue, the semaphore and the file table from Rust, beside what the kit has.
+//!
+//! Without words it makes one short run of each case, and tells that what went in came out once. With `--figures` it prints,
+//! for each case, the best, the median and the worst of several rounds, in nanoseconds for an item or a call. A run's time
+//! counts only where the run's numbers come out right (`nanos_of`).
+#![tactic(auto)]
+
+mod case;
+mod command;
+mod fault;
+mod gate;
+mod handover;
+mod item;
+mod passing;
+mod port;
+mod queues;
+mod report;
+mod run;
+mod shelf;
+mod spread;
+mod steps;
+mod table;
+mod visits;
+
+pub use case::Plan;
+pub use command::plan_of;
+pub use fault::Fault;
+pub use report::{measure, try_each};
+use std::process::ExitCode;
+
+#[cfg(test)]
+mod tests;
+
+fn main(rt: HostRuntime) -> ExitCode {
+    command::run_process(&rt, &mut rt.stderr())
+}

@@ -1,0 +1,197 @@
+//! The cases of queues: one thread that puts an item in and takes it out, or pairs of a producer and a consumer.
+
+ghost use Rattle.std.specs.Prelude.{◌≡◌, ◌<◌, IfOk};
+ghost use Rattle.throughput.specs.Seats.{AreIdle};
+
+use crate::fault::Fault;
+use crate::item::{Item, Parcel};
+use crate::passing::Passing;
+use crate::port::{LockPort, Port, RingPort, Row, SeatPort};
+use crate::run::{numbers_below, run_all};
+use crate::steps::time_steps;
+use crossbeam_queue::ArrayQueue;
+use fak_queue::{Queue, Seat};
+use std::alloc::{AllocError, Global};
+use std::collections::VecDeque;
+use std::marker::Sync;
+use std::sync::{Mutex, Wait};
+use std::thread::Threads;
+use std::time::Clock;
+
+/// Which queue.
+#[derive(Clone, Copy, Debug, PartialEq, Eq)]
+pub enum Way {
+    /// This repository's.
+    Seats,
+    /// The kit's by compare-and-swap.
+    Ring,
+    /// A row under a lock.
+    Lock,
+    /// None: only the atomic steps of this repository's queue, by one thread.
+    Steps,
+}
+
+/// Which items.
+#[derive(Clone, Copy, Debug, PartialEq, Eq)]
+pub enum Goods {
+    /// A `u64`.
+    Number,
+    /// A struct that holds a `Vec`.
+    Parcel,
+}
+
+/// A queue of so many cells, with so many pairs of threads; with none, one thread does both.
+#[derive(Clone, Copy, Debug, PartialEq, Eq)]
+pub struct QueueCase {
+    pub way: Way,
+    pub goods: Goods,
+    pub size: u64,
+    pub pairs: u64,
+    ghost some: { 0 < size },
+}
+
+/// The tickets of each seat, more than a run draws.
+pub const STINT: u64 = 1 << 40;
+
+/// A port for each seat.
+fn seat_ports<'q, T: Item>(
+    alloc: Global,
+    queue: &'q Queue<T>,
+    mut seats: Vec<Seat<T>>,
+) -> Result<Vec<SeatPort<'q, T>>, AllocError>
+    requires { AreIdle queue.now.object seats.items }
+{
+    let mut ports = Vec::new(alloc);
+    while let Some(seat) = seats.pop() {
+        ports.push(SeatPort { alloc, queue, seat })?;
+    }
+    Ok(ports)
+}
+
+/// What each thread does: with no pairs, one does both.
+fn jobs_of<P: Port>(
+    alloc: Global,
+    mut ports: Vec<P>,
+    pairs: u64,
+    items: u64,
+) -> Result<Vec<Passing<P>>, AllocError> {
+    let mut jobs = Vec::new(alloc);
+    if pairs == 0 {
+        if let Some(port) = ports.pop() {
+            jobs.push(Passing::Both { port, count: items })?;
+        }
+        return Ok(jobs);
+    }
+    let mut first = 0u64;
+    while let (Some(port), Some(other)) = (ports.pop(), ports.pop()) {
+        let end = first.wrapping_add(items);
+        jobs.push(Passing::Put { port, first, end })?;
+        jobs.push(Passing::Get {
+            port: other,
+            count: items,
+        })?;
+        first = end;
+    }
+    Ok(jobs)
+}
+
+impl QueueCase {
+    /// How many threads there are.
+    fn threads(&self) -> u64 {
+        self.pairs.saturating_mul(2).max(1)
+    }
+
+    /// How many items go through.
+    fn total(&self, items: u64) -> u64 {
+        self.pairs.max(1).saturating_mul(items)
+    }
+
+    /// One run over these ports, in nanoseconds for each item.
+    fn over<R: Threads + Wait + Clock + Sync, P: Port + Send>(
+        &self,
+        rt: &R,
+        alloc: Global,
+        ports: Vec<P>,
+        items: u64,
+    ) -> Result<u64, Fault> {
+        let total = self.total(items);
+        let jobs = jobs_of(alloc, ports, self.pairs, items)?;
+        let nanos = run_all(rt, jobs, numbers_below(total))?;
+        Ok(nanos / total.max(1))
+    }
+
+    fn by_seats<T: Item + Send, R: Threads + Wait + Clock + Sync>(
+        &self,
+        rt: &R,
+        alloc: Global,
+        items: u64,
+    ) -> Result<u64, Fault> {
+        let Ok((queue, seats)) = Queue::<T>::open(alloc, self.size, self.threads(), STINT) else {
+            return Err(Fault::Memory);
+        };
+        let ports = seat_ports(alloc, &queue, seats)?;
+        self.over(rt, alloc, ports, items)
+    }
+
+    fn by_ring<T: Item + Send, R: Threads + Wait + Clock + Sync>(
+        &self,
+        rt: &R,
+        alloc: Global,
+        items: u64,
+    ) -> Result<u64, Fault> {
+        let ring = ArrayQueue::<T>::new(alloc, self.size as usize)?;
+        let mut ports = Vec::new(alloc);
+        for _ in 0..self.threads() {
+            ports.push(RingPort { alloc, ring: &ring })?;
+        }
+        self.over(rt, alloc, ports, items)
+    }
+
+    fn by_lock<T: Item + Send, R: Threads + Wait + Clock + Sync>(
+        &self,
+        rt: &R,
+        alloc: Global,
+        items: u64,
+    ) -> Result<u64, Fault> {
+        let size = self.size as usize;
+        let row = Mutex::new(Row::<T> {
+            items: VecDeque::with_capacity(alloc, size)?,
+            size,
+        });
+        let mut ports = Vec::new(alloc);
+        for _ in 0..self.threads() {
+            ports.push(LockPort { alloc, row: &row })?;
+        }
+        self.over(rt, alloc, ports, items)
+    }
+
+    fn with_items<T: Item + Send, R: Threads + Wait + Clock + Sync>(
+        &self,
+        rt: &R,
+        alloc: Global,
+        items: u64,
+    ) -> Result<Option<u64>, Fault> {
+        match self.way {
+            Way::Seats => self.by_seats::<T, R>(rt, alloc, items).map(Some),
+            Way::Ring => self.by_ring::<T, R>(rt, alloc, items).map(Some),
+            Way::Lock => self.by_lock::<T, R>(rt, alloc, items).map(Some),
+            Way::Steps if self.pairs == 0 => {
+                Ok(Some(time_steps(rt, alloc, self.size as usize, items)? / items.max(1)))
+            }
+            Way::Steps => Ok(None),
+        }
+    }
+
+    /// Runs it once, and answers the nanoseconds for each item; none for the steps of several threads.
+    pub fn once<R: Threads + Wait + Clock + Sync>(
+        &self,
+        rt: &R,
+        alloc: Global,
+        items: u64,
+    ) -> Result<Option<u64>, Fault> {
+        match self.goods {
+            Goods::Number => self.with_items::<u64, R>(rt, alloc, items),
+            Goods::Parcel => self.with_items::<Parcel, R>(rt, alloc, items),
+        }
+    }
+}
