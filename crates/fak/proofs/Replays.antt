@@ -3,12 +3,12 @@ use Rattle.std.proofs.Common.{◌≡◌, ℕ, suc, ◌+◌, ◌-◌, ◌<◌, Li
 use Rattle.std.specs.Prelude.{replicate}
 use Rattle.fak.specs.declared.machine.Machine.{Machine}
 use Rattle.fak.specs.declared.row.Row.{Row}
-use Rattle.fak.specs.Replay.{Action, Outcome, steps, outcome_of, rows_from, text_of_row, text_of_rows}
+use Rattle.fak.specs.Replay.{Action, ReplayOutcome, steps, outcome_of, rows_from, text_of_row, text_of_rows}
 
 -- an action that prints one row
 row_first : (machine next : Machine) (row : Row) (action : Action) (rest : List Action) → outcome_of machine action ≡ record { machine = next; rows = row ∷ [] }
     → text_of_rows (rows_from machine (action ∷ rest)) ≡ (text_of_row row ++ 10 ∷ []) ++ text_of_rows (rows_from next rest)
-row_first machine next row action rest is = ap (λ (o : Outcome). text_of_rows (o.rows ++ rows_from o.machine rest)) is
+row_first machine next row action rest is = ap (λ (o : ReplayOutcome). text_of_rows (o.rows ++ rows_from o.machine rest)) is
 
 -- a row is appended, and the rest is still to come
 pub row_appended : (text old : List ℕ) (machine next : Machine) (row : Row) (action : Action) (rest : List Action) → outcome_of machine action ≡ record { machine = next; rows = row ∷ [] }

@@ -49,33 +49,33 @@ list_of None = []
 list_of (Some row) = row ∷ []
 
 -- the core after an action, and the rows that the action prints
-pub record Outcome : Type 0 where
+pub record ReplayOutcome : Type 0 where
   pub machine : Machine
   pub rows : List Row
 
-abbrev pub room_stepped : RoomState → ℕ → Result RoomMove CoreFault → Outcome
+abbrev pub room_stepped : RoomState → ℕ → Result RoomMove CoreFault → ReplayOutcome
 room_stepped s seat (Ok step) = record { machine = machines.Room (room.moved s seat step); rows = Moved (room.line_of s seat step) ∷ [] }
 room_stepped s seat (Err fault) = record { machine = machines.Room s; rows = Refused seat fault ∷ [] }
 
-abbrev pub room_begun : RoomState → ℕ → Result CoreSeat CoreFault → Outcome
+abbrev pub room_begun : RoomState → ℕ → Result CoreSeat CoreFault → ReplayOutcome
 room_begun s seat (Ok x) = record { machine = machines.Room (room.begun s seat x); rows = [] }
 room_begun s seat (Err fault) = record { machine = machines.Room s; rows = Refused seat fault ∷ [] }
 
-abbrev pub queue_stepped : QueueFields → ℕ → Result (QueueMove ℕ) CoreFault → Outcome
+abbrev pub queue_stepped : QueueFields → ℕ → Result (QueueMove ℕ) CoreFault → ReplayOutcome
 queue_stepped f seat (Ok step) = record { machine = machines.Queue (queue.moved_fields f seat step); rows = Moved (queue.line_of seat step) ∷ [] }
 queue_stepped f seat (Err fault) = record { machine = machines.Queue f; rows = Refused seat fault ∷ [] }
 
-abbrev pub queue_begun : QueueFields → ℕ → Result (Phase ℕ) CoreFault → Outcome
+abbrev pub queue_begun : QueueFields → ℕ → Result (Phase ℕ) CoreFault → ReplayOutcome
 queue_begun f seat (Ok phase) = record { machine = machines.Queue (record f { phases = slice_set f.phases seat phase }); rows = [] }
 queue_begun f seat (Err fault) = record { machine = machines.Queue f; rows = Refused seat fault ∷ [] }
 
 -- a call begins; a schedule has calls on its own object alone, and any other is passed over
-abbrev pub begin_outcome : Machine → ℕ → Act → Outcome
+abbrev pub begin_outcome : Machine → ℕ → Act → ReplayOutcome
 begin_outcome (machines.Room s) seat (acts.Room call) = room_begun s seat (room.begin_of s seat call)
 begin_outcome (machines.Queue f) seat (acts.Queue call) = queue_begun f seat (queue.begin_of f seat call)
 begin_outcome machine seat _ = record { machine = machine; rows = [] }
 
-abbrev pub outcome_of : Machine → Action → Outcome
+abbrev pub outcome_of : Machine → Action → ReplayOutcome
 outcome_of (machines.Room s) (steps seat) = room_stepped s seat (room.step_of s seat)
 outcome_of (machines.Queue f) (steps seat) = queue_stepped f seat (queue.step_of f seat)
 outcome_of machine (begins seat act) = begin_outcome machine seat act

@@ -7,7 +7,7 @@ ghost use Rattle.atomic_table.specs.Table.{State};
 ghost use Rattle.fak_core.specs.QueueSchedule.{InCell};
 ghost use Rattle.fak_model.specs.declared.queue.Kind.TheVariants.{Close};
 ghost use Rattle.fak_model.specs.Queue.{Has};
-ghost use Rattle.fak_queue.specs.declared.key.Limits.{Limits};
+ghost use Rattle.fak_queue.specs.declared.limits.QueueLimits.{QueueLimits};
 ghost use Rattle.fak_queue.specs.Shown.{IsShownQueue, QueueView};
 ghost use Rattle.fak_queue.specs.Words.{shut_bit};
 
@@ -18,7 +18,7 @@ use fak_queue::laws::{
 
 /// Two seats are never in one cell.
 pub fn owners_are_apart<T>()
-    ensures { (key : Limits) (s : State (Option T) (QueueView T)) (shown : IsShownQueue key s) (a b cell : ℕ)
+    ensures { (key : QueueLimits) (s : State (Option T) (QueueView T)) (shown : IsShownQueue key s) (a b cell : ℕ)
         → a ≢ b → InCell key.size (shown.core.phase a) cell → InCell key.size (shown.core.phase b) cell → ⊥ }
 {
     a_running_cell_has_one_owner::<T>();
@@ -26,7 +26,7 @@ pub fn owners_are_apart<T>()
 
 /// A cell whose slot is out of the table has an owner.
 pub fn a_slot_that_is_out_has_an_owner<T>()
-    ensures { (key : Limits) (s : State (Option T) (QueueView T)) (shown : IsShownQueue key s) (cell : ℕ)
+    ensures { (key : QueueLimits) (s : State (Option T) (QueueView T)) (shown : IsShownQueue key s) (cell : ℕ)
         → cell < key.size → get_elem? s.homes cell ≡ some none → (a : ℕ) × InCell key.size (shown.core.phase a) cell }
 {
     a_slot_is_out_while_its_cell_has_an_owner::<T>();
@@ -34,7 +34,7 @@ pub fn a_slot_that_is_out_has_an_owner<T>()
 
 /// Where the shut bit is set, somebody has shut the queue.
 pub fn a_set_bit_has_its_close<T>()
-    ensures { (key : Limits) (s : State (Option T) (QueueView T)) (shown : IsShownQueue key s)
+    ensures { (key : QueueLimits) (s : State (Option T) (QueueView T)) (shown : IsShownQueue key s)
         → shut_bit ≤ slice_index s.words 16 → Has Close shown.core.past }
 {
     the_shut_bit_tells_of_a_close::<T>();

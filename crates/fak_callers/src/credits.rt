@@ -37,7 +37,7 @@ pub fn value_lawfully(credit: &Credit, seat: &mut CreditSeat) -> i64
 
 /// Debits by the only seat: what it has seen grows by this debit alone, and the answer is the value of what it had seen.
 pub fn debit_alone(credit: &Credit, seat: &mut CreditSeat) -> Result<i64, Worn>
-    requires fits { IsSeatOf credit.now.object seat.old }
+    requires object { IsSeatOf credit.now.object seat.old }
     requires only { (credit.now.object.seats ≡ 1) × (seat.old.name ≡ 0) }
     requires seen { All (λ (m : CreditMark). m.seat < 1) seat.old.seen }
     ensures object { IsSeatOf credit.now.object seat.new }

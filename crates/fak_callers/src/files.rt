@@ -21,7 +21,7 @@ use fak_model::laws::file::{
 /// Ends a hold: what the seat had seen before is lawful.
 pub fn end_lawfully(table: &FileTable, seat: &mut FileSeat)
     requires { IsFileSeatOf table.now.object seat.old × (seat.old.hold ≢ Nothing) }
-    ensures free { IsFreeSeatOf table.now.object seat.new }
+    ensures idle { IsFreeSeatOf table.now.object seat.new }
     ensures before { IsFileHistory table.now.object.seats seat.old.seat.seen }
 {
     a_beginning_of_a_file_history_is_one();
@@ -40,7 +40,7 @@ pub fn join_within_seats(table: &FileTable, a: FileSeat, b: FileSeat) -> FileTal
 
 /// Takes a writer's hold. Where it is granted no other seat holds.
 pub fn write_alone(table: &FileTable, seat: &mut FileSeat) -> bool
-    requires free { IsFreeSeatOf table.now.object seat.old }
+    requires idle { IsFreeSeatOf table.now.object seat.old }
     requires name { seat.old.seat.name < seat.old.seat.object.seats }
     ensures hold { IsFileSeatOf table.now.object seat.new × (seat.new.hold ≡ (if result then Writing else Nothing)) }
     ensures alone { IsTrue result → (other : ℕ) → other < seat.new.seat.object.seats → seat.new.seat.name ≢ other

@@ -18,7 +18,7 @@ use fak_model::laws::seats::{
 
 /// Gives 1 back by one seat, and then joins the two: of what the two had seen at first one begins the other.
 pub fn give_back_and_join(room: &Room, mut a: RoomSeat, b: RoomSeat) -> RoomTally
-    requires fits { IsSeatOf room.now.object a × IsSeatOf room.now.object b }
+    requires object { IsSeatOf room.now.object a × IsSeatOf room.now.object b }
     requires holds { 1 ≤ held_amount a }
     ensures object { result.object ≡ room.now.object }
     ensures one { Begins a.seen b.seen ⊎ Begins b.seen a.seen }
@@ -48,7 +48,7 @@ pub fn tally_of_marks(seat: RoomSeat) -> RoomTally
 
 /// Joins a seat with a new name to a tally: under every weight of marks, they know together what each knew.
 pub fn join_weights(room: &Room, tally: RoomTally, seat: RoomSeat) -> RoomTally
-    requires fits { (tally.object ≡ room.now.object) × IsSeatOf room.now.object seat }
+    requires object { (tally.object ≡ room.now.object) × IsSeatOf room.now.object seat }
     requires new { ¬ In seat.name tally.names }
     ensures object { result.object ≡ room.now.object }
     ensures joined { (weight : RoomMark → ℕ) → sum_by weight (mine seat_of (tally.names ++ seat.name ∷ []) result.seen)
@@ -64,7 +64,7 @@ pub fn join_weights(room: &Room, tally: RoomTally, seat: RoomSeat) -> RoomTally
 /// Joins a seat that has made no call: it adds no marks to those of the tally's names. A name that the room does not have
 /// has no marks either.
 pub fn join_unused(room: &Room, tally: RoomTally, seat: RoomSeat) -> RoomTally
-    requires fits { (tally.object ≡ room.now.object) × IsSeatOf room.now.object seat }
+    requires object { (tally.object ≡ room.now.object) × IsSeatOf room.now.object seat }
     requires unused { seat.seen ≡ [] }
     ensures object { result.object ≡ room.now.object }
     ensures mine { mine seat_of (tally.names ++ seat.name ∷ []) result.seen ≡ mine seat_of tally.names result.seen }

@@ -39,7 +39,7 @@ pub fn join_within_bound(room: &Room, a: RoomSeat, b: RoomSeat) -> RoomTally
 
 /// Gives 1 back: what the seat had seen before is lawful by the room's bound.
 pub fn give_back(room: &Room, seat: &mut RoomSeat) -> i64
-    requires fits { IsSeatOf room.now.object seat.old }
+    requires object { IsSeatOf room.now.object seat.old }
     requires holds { 1 ≤ held_amount seat.old }
     ensures object { IsSeatOf room.now.object seat.new }
     ensures before { IsRoomHistory room.now.bound seat.old.seen }
@@ -51,7 +51,7 @@ pub fn give_back(room: &Room, seat: &mut RoomSeat) -> i64
 /// Claims 1 by the only seat of a room in which nothing was claimed. Where it is refused, as much was granted as the bound
 /// says, which is nothing.
 pub fn claim_first(room: &Room, seat: &mut RoomSeat) -> Result<i64, TirFault>
-    requires fits { IsSeatOf room.now.object seat.old }
+    requires object { IsSeatOf room.now.object seat.old }
     requires only { (room.now.object.seats ≡ 1) × (seat.old.name ≡ 0) × (seat.old.seen ≡ []) }
     requires stint { 1 ≤ seat.old.stint }
     ensures object { IsSeatOf room.now.object seat.new }

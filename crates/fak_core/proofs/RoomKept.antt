@@ -22,7 +22,7 @@ use Rattle.fak_core.specs.declared.room.phase.RoomPhase.{RoomPhase}
 use Rattle.fak_core.specs.declared.room.phase.RoomPhase.TheVariants.{Idle, Testing, Adding, Backing, Releasing}
 use Rattle.fak_core.specs.declared.room.phase.CoreSeat.{CoreSeat}
 use Rattle.fak_core.specs.declared.room.step.RoomMove.{RoomMove}
-use Rattle.fak_core.specs.Room.{RoomState, history_of, opening, fits, test_move, add_move, back_move, release_move, next_move, moved, or_idle, seat_step, first_phase, held_with, seat_begin, begun, amount_of, HasRange}
+use Rattle.fak_core.specs.Room.{RoomState, history_of, opening, fits, test_move, add_move, back_move, release_move, next_move, moved, or_idle, seat_step, begun_phase, held_with, seat_begin, begun, amount_of, HasRange}
 use Rattle.fak_core.specs.RoomSchedule.{RoomEvent, Begins, Advances, IsEvent, after_step, after_begin, happens, run}
 use Rattle.fak_core.proofs.ListWrites.{length-slice_set, written_here, written_elsewhere, slice_get-replicate}
 use Rattle.fak_core.proofs.RoomMarks.{kinds_by, OwesKinds, held_after, count_after, amount_held-own, value-push}
@@ -163,7 +163,7 @@ release_kept s i n d false k at range is =
     phase_kept s i (record { held = n; phase = Releasing d }) k (record { holds = at.holds; owes = at.owes; range = (range, enough) })
 
 call_kept : (s : RoomState) (i n : ℕ) (phase : RoomPhase) (call : RoomCall) → IsKept s → IsSeat (history_of s) i (record { held = n; phase = phase }) → amount_of call ≤ 1024
-    → IsKept (after_begin s i (held_with n (first_phase n phase call)))
+    → IsKept (after_begin s i (held_with n (begun_phase n phase call)))
 call_kept s i n Idle (Tir d) k at range = phase_kept s i (record { held = n; phase = Testing d }) k (record { holds = at.holds; owes = at.owes; range = range })
 call_kept s i n Idle (Release d) k at range = release_kept s i n d (nat_lt n d) k at range refl
 call_kept s i n (Testing e) call k at range = k

@@ -20,7 +20,7 @@ use Rattle.fak_core.specs.declared.room.phase.RoomPhase.{RoomPhase}
 use Rattle.fak_core.specs.declared.room.phase.RoomPhase.TheVariants.{Idle, Testing, Adding, Backing, Releasing}
 use Rattle.fak_core.specs.declared.room.phase.CoreSeat.{CoreSeat}
 use Rattle.fak_core.specs.declared.room.step.RoomMove.{RoomMove}
-use Rattle.fak_core.specs.Room.{RoomState, history_of, opening, next_move, moved, or_idle, seat_step, step_of, first_phase, held_with, seat_begin, begin_of, begun, amount_of}
+use Rattle.fak_core.specs.Room.{RoomState, history_of, opening, next_move, moved, or_idle, seat_step, step_of, begun_phase, held_with, seat_begin, begin_of, begun, amount_of}
 use Rattle.fak_core.specs.RoomSchedule.{RoomEvent, Begins, Advances, IsEvent, after_step, after_begin, happens, run, IsReached}
 use Rattle.fak_core.proofs.ListWrites.{length-slice_set}
 use Rattle.fak_core.proofs.RoomMarks.{kinds_by, OwesKinds}
@@ -74,7 +74,7 @@ reached_next bound seats s e range r = record {
 pub step_is : (s : RoomState) (i : ℕ) (x : CoreSeat) (o : Option RoomMove) → slice_get s.seats i ≡ Some x → next_move s.bound s.count x.held x.phase ≡ o → step_of s i ≡ or_idle o
 step_is s i x o at is = ap (seat_step s) at ∙ ap or_idle is
 
-pub begin_is : (s : RoomState) (i : ℕ) (call : RoomCall) (x : CoreSeat) (r : Result RoomPhase CoreFault) → slice_get s.seats i ≡ Some x → first_phase x.held x.phase call ≡ r → begin_of s i call ≡ held_with x.held r
+pub begin_is : (s : RoomState) (i : ℕ) (call : RoomCall) (x : CoreSeat) (r : Result RoomPhase CoreFault) → slice_get s.seats i ≡ Some x → begun_phase x.held x.phase call ≡ r → begin_of s i call ≡ held_with x.held r
 begin_is s i call x r at is = ap (λ (o : Option CoreSeat). seat_begin o call) at ∙ ap (held_with x.held) is
 
 -- for an object whose words are a reached state: a seat's next move goes on to a reached state
@@ -83,7 +83,7 @@ reached_move bound seats s i x m r at is = subst (λ (o : Result RoomMove CoreFa
 
 -- and so does its next call
 pub reached_begin : (bound seats : ℕ) (s : RoomState) (i : ℕ) (x : CoreSeat) (call : RoomCall) (phase : RoomPhase) → IsReached bound seats s → slice_get s.seats i ≡ Some x → (1 ≤ amount_of call) × (amount_of call ≤ 1024)
-    → first_phase x.held x.phase call ≡ Ok phase → IsReached bound seats (begun s i (record { held = x.held; phase = phase }))
+    → begun_phase x.held x.phase call ≡ Ok phase → IsReached bound seats (begun s i (record { held = x.held; phase = phase }))
 reached_begin bound seats s i x call phase r at range is = subst (λ (o : Result CoreSeat CoreFault). IsReached bound seats (after_begin s i o)) (begin_is s i call x (Ok phase) at is) (reached_next bound seats s (Begins i call) range r)
 
 -- ---- what holds

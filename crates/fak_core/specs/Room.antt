@@ -112,13 +112,13 @@ amount_of (Tir d) = d
 amount_of (Release d) = d
 
 -- the phase in which a call of a seat that holds so much begins, or why it doesn't
-abbrev pub first_phase : ℕ → RoomPhase → RoomCall → Result RoomPhase CoreFault
-first_phase held Idle (Tir d) = Ok (Testing d)
-first_phase held Idle (Release d) = if nat_lt held d then Err NotHeld else Ok (Releasing d)
-first_phase held (Testing e) call = Err MidCall
-first_phase held (Adding e) call = Err MidCall
-first_phase held (Backing e) call = Err MidCall
-first_phase held (Releasing e) call = Err MidCall
+abbrev pub begun_phase : ℕ → RoomPhase → RoomCall → Result RoomPhase CoreFault
+begun_phase held Idle (Tir d) = Ok (Testing d)
+begun_phase held Idle (Release d) = if nat_lt held d then Err NotHeld else Ok (Releasing d)
+begun_phase held (Testing e) call = Err MidCall
+begun_phase held (Adding e) call = Err MidCall
+begun_phase held (Backing e) call = Err MidCall
+begun_phase held (Releasing e) call = Err MidCall
 
 abbrev pub held_with : ℕ → Result RoomPhase CoreFault → Result CoreSeat CoreFault
 held_with held (Ok phase) = Ok (record { held = held; phase = phase })
@@ -126,7 +126,7 @@ held_with held (Err fault) = Err fault
 
 abbrev pub seat_begin : Option CoreSeat → RoomCall → Result CoreSeat CoreFault
 seat_begin None call = Err NoSuchSeat
-seat_begin (Some x) call = held_with x.held (first_phase x.held x.phase call)
+seat_begin (Some x) call = held_with x.held (begun_phase x.held x.phase call)
 
 -- the seat as its call begins, or why it doesn't
 abbrev pub begin_of : RoomState → ℕ → RoomCall → Result CoreSeat CoreFault

@@ -16,13 +16,13 @@ use Rattle.fak_model.specs.Tokens.{IsSeatToken}
 use Rattle.fak_model.proofs.Resting.{rest_after, rest_none}
 use Rattle.fak_model.proofs.Seats.{begins_self}
 use Rattle.fak_model.proofs.RunningCalls.{token_names, token_left, token_slots, step_appends, token_after, step_before}
-use Rattle.fak_count.specs.declared.credits.key.CreditKey.{CreditKey}
+use Rattle.fak_count.specs.declared.credits.limits.CreditLimits.{CreditLimits}
 use Rattle.fak_model.specs.Words.{bias}
-use Rattle.fak_count.specs.CreditShown.{CreditMine, credit_mark, credit_object, FoundValue, MadeMark, Observed}
+use Rattle.fak_count.specs.CreditShown.{CreditHolder, credit_mark, credit_object, FoundValue, MadeMark, Observed}
 use Rattle.fak_count.specs.Credits.{CreditInfo, credit_info, seat_of, credit_seat, MakesCall, Observes}
 
 -- a seat of a credit, with its token m, and what contracts see of both
-module _ (key : CreditKey) {seats name left : ℕ} {table mine : TableId} {m : CreditMine} {old : SeatInfo CreditMark} {credit : CreditInfo}
+module _ (key : CreditLimits) {seats name left : ℕ} {table mine : TableId} {m : CreditHolder} {old : SeatInfo CreditMark} {credit : CreditInfo}
     (f : IsSeatToken seat_of seats name tt left m) (seat_is : credit_seat (object_id mine seats) name left m ≡ old) (credit_is : credit_info (object_id table key.seats) key.start ≡ credit) (fits : old.object ≡ credit.object) where
   same_object : object_id mine seats ≡ object_id table key.seats
   same_object = ap (λ (s : SeatInfo CreditMark). s.object) seat_is ∙ (fits ∙ sym (ap (λ (c : CreditInfo). c.object) credit_is))
@@ -36,7 +36,7 @@ module _ (key : CreditKey) {seats name left : ℕ} {table mine : TableId} {m : C
   own_token : IsSeatToken seat_of key.seats name tt left m
   own_token = subst (λ (k : ℕ). IsSeatToken seat_of k name tt left m) same_seats f
 
-  module _ {kind : CreditKind} {found : ℕ} {after : CreditMine} (told : MadeMark key kind m found after) where
+  module _ {kind : CreditKind} {found : ℕ} {after : CreditHolder} (told : MadeMark key kind m found after) where
     made : Leaves (credit_object key) m (credit_mark name kind ∷ []) tt (m.0.left - 1) m.1 (FoundValue key found) after
     made = told name (token_names f)
 
@@ -67,7 +67,7 @@ module _ (key : CreditKey) {seats name left : ℕ} {table mine : TableId} {m : C
           answers = answer_is ∙ (value_is ∙ ap (value key.start) (sym stood));
         }
 
-  module _ {found : ℕ} {after : CreditMine} (told : Observed key m found after) where
+  module _ {found : ℕ} {after : CreditHolder} (told : Observed key m found after) where
     seen : Leaves (credit_object key) m [] tt m.0.left m.1 (FoundValue key found) after
     seen = told name (token_names f)
 
@@ -91,14 +91,14 @@ module _ (key : CreditKey) {seats name left : ℕ} {table mine : TableId} {m : C
         let value_is : pos found -ℤ pos bias ≡ value key.start (reverse seen.past) = omega (arith, ints, is) in
         subst (λ (x : CreditInfo × SeatInfo CreditMark × TableId). Observes x.0 x.1 (credit_seat (object_id x.2 seats) name left after) answer) (λ i. (credit_is i, seat_is i, sym stays i)) record {
           appends = subst (λ (k : ℕ). Appends credit_rules [] (seat_info object name stint (reverse m.0.seen)) (seat_info object name k (reverse after.0.seen))) same appends;
-          answers = answer_is ∙ (value_is ∙ ap (λ (x : CreditMine). value key.start (reverse x.0.seen)) (sym seen.after_is));
+          answers = answer_is ∙ (value_is ∙ ap (λ (x : CreditHolder). value key.start (reverse x.0.seen)) (sym seen.after_is));
         }
 
 -- a seat as it is dealt
-pub fresh_credit_seat : (object : ObjectId) (name stint : ℕ) (m : CreditMine) → m ≡ (sight (name ∷ []) [] tt stint, []) → credit_seat object name stint m ≡ seat_info object name stint []
+pub fresh_credit_seat : (object : ObjectId) (name stint : ℕ) (m : CreditHolder) → m ≡ (sight (name ∷ []) [] tt stint, []) → credit_seat object name stint m ≡ seat_info object name stint []
 fresh_credit_seat object name stint m is =
     let full : stint + 0 ≡ stint = omega arith in
-    ap (λ (x : CreditMine). credit_seat object name stint x) is ∙ ap (λ (k : ℕ). seat_info object name k []) full
+    ap (λ (x : CreditHolder). credit_seat object name stint x) is ∙ ap (λ (k : ℕ). seat_info object name k []) full
 
 -- each mark is a whole call
 pub always_at_rest : (h : List CreditMark) → IsAtRest credit_rules h

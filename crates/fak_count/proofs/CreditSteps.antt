@@ -17,12 +17,12 @@ use Rattle.fak_model.proofs.Leading.{total_push}
 use Rattle.fak_model.proofs.CreditLaw.{every_history}
 use Rattle.fak_model.proofs.RunningSteps.{AreLawful, Advances, steps, observes}
 use Rattle.fak_model.proofs.RunningSeats.{starts, hears}
-use Rattle.fak_count.specs.declared.credits.key.CreditKey.{CreditKey}
+use Rattle.fak_count.specs.declared.credits.limits.CreditLimits.{CreditLimits}
 use Rattle.fak_model.specs.Words.{bias}
 use Rattle.fak_count.specs.Words.{count_place, KeepsCount}
-use Rattle.fak_count.specs.CreditShown.{CreditSight, CreditMine, credit_mark, credit_object, opened_credit, IsShownCredit, FoundValue, MadeMark, Observed, HeardJoin}
+use Rattle.fak_count.specs.CreditShown.{CreditView, CreditHolder, credit_mark, credit_object, opened_credit, IsShownCredit, FoundValue, MadeMark, Observed, HeardJoin}
 use Rattle.fak_count.specs.Opening.{IsInRange}
-use Rattle.fak_count.proofs.Words.{writes, added, subtracted}
+use Rattle.fak_count.proofs.CountWords.{writes, added, subtracted}
 
 -- ---- the value after one more mark
 
@@ -52,10 +52,10 @@ value_credit start name past = omega (arith, ints, debits_more past (credit_mark
 
 -- ---- steps
 
-lawful : (key : CreditKey) → AreLawful (credit_object key)
+lawful : (key : CreditLimits) → AreLawful (credit_object key)
 lawful key past reached = every_history (reverse past)
 
-module _ (key : CreditKey) (s : State (Unit {0}) CreditSight) (r : IsShownCredit key s) (id name : ℕ) (m : CreditMine) (at : get_elem? s.views id ≡ some m.0) (one : m.0.names ≡ name ∷ []) where
+module _ (key : CreditLimits) (s : State (Unit {0}) CreditView) (r : IsShownCredit key s) (id name : ℕ) (m : CreditHolder) (at : get_elem? s.views id ≡ some m.0) (one : m.0.names ≡ name ∷ []) where
   same_name : (other : ℕ) → m.0.names ≡ other ∷ [] → name ≡ other
   same_name other e = cc (one, e)
 
@@ -72,8 +72,8 @@ module _ (key : CreditKey) (s : State (Unit {0}) CreditSight) (r : IsShownCredit
   found_now : FoundValue key (slice_index s.words count_place) r.core
   found_now = (r.encoded.count_is, word_fits.1)
 
-  abbrev Outcome : (ℕ → ℕ) → (ℕ → CreditMine → Type 0) → Type 0
-  Outcome f tells = (w : CreditSight) × (a : Act (Unit {0})) × Valid s.homes m.1 a × IsShownCredit key (stepped s count_place (f (slice_index s.words count_place)) id m.1 w a) × tells (slice_index s.words count_place) (w, carried_after m.1 a)
+  abbrev Outcome : (ℕ → ℕ) → (ℕ → CreditHolder → Type 0) → Type 0
+  Outcome f tells = (w : CreditView) × (a : Act (Unit {0})) × Valid s.homes m.1 a × IsShownCredit key (stepped s count_place (f (slice_index s.words count_place)) id m.1 w a) × tells (slice_index s.words count_place) (w, carried_after m.1 a)
 
   advances : (kind : CreditKind) → Advances (credit_object key) r.core name (credit_mark name kind ∷ r.core) (credit_mark name kind ∷ []) tt
   advances kind = record { reached = r.reached; past = refl; own = (refl, tt); stands = tt; others = λ k p ne h. tt }
@@ -105,7 +105,7 @@ module _ (key : CreditKey) (s : State (Unit {0}) CreditSight) (r : IsShownCredit
       let t = observes (credit_object key) s r id name m at one (lawful key) tt phase count_place (FoundValue key (slice_index s.words count_place)) found_now in
       (sight m.0.names r.core tt m.0.left, keeps, tt, t.0, λ other e. t.1)
 
-module _ (key : CreditKey) (slots id name : ℕ) (m : CreditMine) (one : m.0.names ≡ name ∷ []) where
+module _ (key : CreditLimits) (slots id name : ℕ) (m : CreditHolder) (one : m.0.names ≡ name ∷ []) where
   pub debits_allowed : 0 < m.0.left → Allows (IsShownCredit key) slots id m count_place (λ x. (x + (2 ^ 64 - 1)) % 2 ^ 64) (MadeMark key Debit m)
   debits_allowed some_left s r wide at small = debits_by key s r id name m at one some_left
 
@@ -115,7 +115,7 @@ module _ (key : CreditKey) (slots id name : ℕ) (m : CreditMine) (one : m.0.nam
   pub observes_allowed : m.0.phase ≡ Some tt → Allows (IsShownCredit key) slots id m count_place (λ x. x) (Observed key m)
   observes_allowed phase s r wide at small = observes_by key s r id name m at one phase
 
-pub hears_allowed : (key : CreditKey) (slots id : ℕ) (m : CreditMine) → Allows (IsShownCredit key) slots id m count_place (λ x. x) (λ _. HeardJoin key m)
+pub hears_allowed : (key : CreditLimits) (slots id : ℕ) (m : CreditHolder) → Allows (IsShownCredit key) slots id m count_place (λ x. x) (λ _. HeardJoin key m)
 hears_allowed key slots id m = hears (credit_object key) (lawful key) slots id m count_place
 
 -- ---- opening
@@ -124,7 +124,7 @@ pub tickets_fit : (seats stint : ℕ) → seats ≤ 64 → stint ≤ 10995116277
 tickets_fit seats stint few short = mul-le-mul few short
 
 -- the table at the opening shows a credit at its start
-pub opens_credit : (key : CreditKey) → IsInRange key.start key.seats key.stint → (ws : List ℕ) → KeepsCount (pos key.start) ws → IsShownCredit key (opening ws [] (opened_credit key))
+pub opens_credit : (key : CreditLimits) → IsInRange key.start key.seats key.stint → (ws : List ℕ) → KeepsCount (pos key.start) ws → IsShownCredit key (opening ws [] (opened_credit key))
 opens_credit key range ws keeps_start =
     starts (credit_object key) tt (key.seats * key.stint) [] (range.0, tickets_fit key.seats key.stint range.1.1 range.2.1) refl (λ n low. tt) ws []
     (subst (λ (v : ℤ). KeepsCount v ws) (omega (arith, ints)) keeps_start) (omega arith)

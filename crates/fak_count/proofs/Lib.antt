@@ -1,4 +1,4 @@
-pub mod Words
+pub mod CountWords
 pub mod CreditSteps
 pub mod CreditCalls
 pub mod RoomSteps

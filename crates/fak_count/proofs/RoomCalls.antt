@@ -21,9 +21,9 @@ use Rattle.fak_model.proofs.Seats.{begins_self, seen_lawful}
 use Rattle.fak_model.proofs.RunningCalls.{token_names, mine_after, begins_after, step_appends, token_after, step_before, appends_then, appends_none}
 use Rattle.fak_core.specs.declared.room.phase.RoomPhase.{RoomPhase}
 use Rattle.fak_core.specs.declared.room.phase.RoomPhase.TheVariants.{Idle, Adding, Backing}
-use Rattle.fak_count.specs.declared.rooms.key.RoomKey.{RoomKey}
+use Rattle.fak_count.specs.declared.rooms.limits.RoomLimits.{RoomLimits}
 use Rattle.fak_model.specs.Words.{bias}
-use Rattle.fak_count.specs.RoomShown.{RoomMine, room_mark, LeavesRoom, Holds, Tested, Added, Lowered}
+use Rattle.fak_count.specs.RoomShown.{RoomHolder, room_mark, LeavesRoom, Holds, Tested, Added, Lowered}
 use Rattle.fak_count.specs.Rooms.{RoomInfo, room_info, up_weight, grants_of, granted_claims, held_amount, room_seat, MakesCall, Withdraws, IsSettled}
 
 -- ---- what a call makes of the claims granted and of what is held
@@ -75,16 +75,16 @@ settled_joined bound j old new = record {
 -- ---- steps of one call
 
 -- the seat's steps have left these marks, and it stands at this phase; the first mark's step found this word
-pub record Did (key : RoomKey) (name : ℕ) (marks : List RoomMark) (phase : RoomPhase) (m : RoomMine) (found : ℕ) (after : RoomMine) : Type 0 where
+pub record Did (key : RoomLimits) (name : ℕ) (marks : List RoomMark) (phase : RoomPhase) (m : RoomHolder) (found : ℕ) (after : RoomHolder) : Type 0 where
   pub token : IsSeatToken seat_of key.seats name phase 0 after
   pub appends : (object : ObjectId) (stint : ℕ) → object.seats ≡ key.seats → Appends (room_rules key.bound) marks (seat_info object name stint (reverse m.0.seen)) (seat_info object name stint (reverse after.0.seen))
   pub found_is : (number : ℕ) → length (marks_of seat_of name (reverse m.0.seen)) ≡ number → pos found -ℤ pos bias ≡ value (before_mark seat_of name number (reverse after.0.seen))
 
-module _ {key : RoomKey} {name : ℕ} {m : RoomMine} {was : RoomPhase} (f : IsSeatToken seat_of key.seats name was 0 m) where
+module _ {key : RoomLimits} {name : ℕ} {m : RoomHolder} {was : RoomPhase} (f : IsSeatToken seat_of key.seats name was 0 m) where
   -- one step with its mark
-  pub did_step : (kind : RoomKind) {found : ℕ} {phase : RoomPhase} {after : RoomMine} → LeavesRoom key m found (room_mark name kind ∷ []) phase after → Did key name (room_mark name kind ∷ []) phase m found after
+  pub did_step : (kind : RoomKind) {found : ℕ} {phase : RoomPhase} {after : RoomHolder} → LeavesRoom key m found (room_mark name kind ∷ []) phase after → Did key name (room_mark name kind ∷ []) phase m found after
   did_step kind {after = after} l = record {
-    token = token_after l name (token_names f) (refl, tt) f (ap (λ (x : RoomMine). x.1) f.me_is);
+    token = token_after l name (token_names f) (refl, tt) f (ap (λ (x : RoomHolder). x.1) f.me_is);
     appends = λ object stint seats. step_appends l name (token_names f) (refl, tt) object stint seats;
     found_is = λ number count.
         let is = l.told in
@@ -93,11 +93,11 @@ module _ {key : RoomKey} {name : ℕ} {m : RoomMine} {was : RoomPhase} (f : IsSe
   }
 
   -- a step with no mark
-  pub token_looked : {found : ℕ} {phase : RoomPhase} {after : RoomMine} → LeavesRoom key m found [] phase after → IsSeatToken seat_of key.seats name phase 0 after
-  token_looked l = token_after l name (token_names f) tt f (ap (λ (x : RoomMine). x.1) f.me_is)
+  pub token_looked : {found : ℕ} {phase : RoomPhase} {after : RoomHolder} → LeavesRoom key m found [] phase after → IsSeatToken seat_of key.seats name phase 0 after
+  token_looked l = token_after l name (token_names f) tt f (ap (λ (x : RoomHolder). x.1) f.me_is)
 
   -- and what the seat did after it
-  pub did_after : {first found : ℕ} {mid after : RoomMine} {at phase : RoomPhase} {marks : List RoomMark} → LeavesRoom key m first [] at mid → Did key name marks phase mid found after → Did key name marks phase m found after
+  pub did_after : {first found : ℕ} {mid after : RoomHolder} {at phase : RoomPhase} {marks : List RoomMark} → LeavesRoom key m first [] at mid → Did key name marks phase mid found after → Did key name marks phase m found after
   did_after {mid = mid} {after = after} {marks = marks} l d =
       let looked : (object : ObjectId) (stint : ℕ) → object.seats ≡ key.seats → Appends (room_rules key.bound) [] (seat_info object name stint (reverse m.0.seen)) (seat_info object name stint (reverse mid.0.seen)) =
       λ object stint seats. step_appends l name (token_names f) tt object stint seats in
@@ -110,14 +110,14 @@ module _ {key : RoomKey} {name : ℕ} {m : RoomMine} {was : RoomPhase} (f : IsSe
       }
 
   -- two steps with a mark each
-  pub did_both : (first second : RoomKind) {found later : ℕ} {mid after : RoomMine} {at phase : RoomPhase} → LeavesRoom key m found (room_mark name first ∷ []) at mid → LeavesRoom key mid later (room_mark name second ∷ []) phase after
+  pub did_both : (first second : RoomKind) {found later : ℕ} {mid after : RoomHolder} {at phase : RoomPhase} → LeavesRoom key m found (room_mark name first ∷ []) at mid → LeavesRoom key mid later (room_mark name second ∷ []) phase after
       → Did key name (room_mark name first ∷ room_mark name second ∷ []) phase m found after
   did_both first second {mid = mid} {after = after} k l =
-      let token = token_after k name (token_names f) (refl, tt) f (ap (λ (x : RoomMine). x.1) f.me_is) in
+      let token = token_after k name (token_names f) (refl, tt) f (ap (λ (x : RoomHolder). x.1) f.me_is) in
       let next : (object : ObjectId) (stint : ℕ) → object.seats ≡ key.seats → Appends (room_rules key.bound) (room_mark name second ∷ []) (seat_info object name stint (reverse mid.0.seen)) (seat_info object name stint (reverse after.0.seen)) =
       λ object stint seats. step_appends l name (token_names token) (refl, tt) object stint seats in
       record {
-        token = token_after l name (token_names token) (refl, tt) token (ap (λ (x : RoomMine). x.1) token.me_is);
+        token = token_after l name (token_names token) (refl, tt) token (ap (λ (x : RoomHolder). x.1) token.me_is);
         appends = λ object stint seats.
             appends_then (room_rules key.bound) (room_mark name first ∷ []) (room_mark name second) [] (seat_info object name stint (reverse m.0.seen)) (seat_info object name stint (reverse mid.0.seen)) (seat_info object name stint (reverse after.0.seen))
             (step_appends k name (token_names f) (refl, tt) object stint seats) (next object stint seats);
@@ -129,11 +129,11 @@ module _ {key : RoomKey} {name : ℕ} {m : RoomMine} {was : RoomPhase} (f : IsSe
 
 -- ---- a claim and a release, step by step
 
-module _ {key : RoomKey} {name d : ℕ} {m : RoomMine} (f : IsSeatToken seat_of key.seats name Idle 0 m) where
-  pub did_release : {found : ℕ} {after : RoomMine} → Lowered key (Release d) m found after → Did key name (room_mark name (Release d) ∷ []) Idle m found after
+module _ {key : RoomLimits} {name d : ℕ} {m : RoomHolder} (f : IsSeatToken seat_of key.seats name Idle 0 m) where
+  pub did_release : {found : ℕ} {after : RoomHolder} → Lowered key (Release d) m found after → Did key name (room_mark name (Release d) ∷ []) Idle m found after
   did_release told = did_step f (Release d) (told.leaves name (token_names f))
 
-  module _ {tested : ℕ} {mid : RoomMine} (test : Tested key d m tested mid) where
+  module _ {tested : ℕ} {mid : RoomHolder} (test : Tested key d m tested mid) where
     pub did_refuse : bias + key.bound < tested + d → Did key name (room_mark name (No d) ∷ []) Idle m tested mid
     did_refuse far = did_step f (No d) (test.full name (token_names f) far)
 
@@ -144,7 +144,7 @@ module _ {key : RoomKey} {name d : ℕ} {m : RoomMine} (f : IsSeatToken seat_of 
       pub token_adding : IsSeatToken seat_of key.seats name (Adding d) 0 mid
       token_adding = token_looked f passed
 
-      module _ {found : ℕ} {after : RoomMine} (add : Added key d mid found after) where
+      module _ {found : ℕ} {after : RoomHolder} (add : Added key d mid found after) where
         pub did_claim : found + d ≤ bias + key.bound → Did key name (room_mark name (Up d) ∷ []) Idle m found after
         did_claim near = did_after f passed (did_step token_adding (Up d) (add.fits name (token_names token_adding) near).0)
 
@@ -156,15 +156,15 @@ module _ {key : RoomKey} {name d : ℕ} {m : RoomMine} (f : IsSeatToken seat_of 
           overdone = add.full name (token_names token_adding) far
 
           pub token_backing : IsSeatToken seat_of key.seats name (Backing d) 0 after
-          token_backing = token_after overdone name (token_names token_adding) (refl, tt) token_adding (ap (λ (x : RoomMine). x.1) token_adding.me_is)
+          token_backing = token_after overdone name (token_names token_adding) (refl, tt) token_adding (ap (λ (x : RoomHolder). x.1) token_adding.me_is)
 
-          pub did_withdraw : {later : ℕ} {end : RoomMine} → Lowered key (Back d) after later end → Did key name (room_mark name (Over d) ∷ room_mark name (Back d) ∷ []) Idle m found end
+          pub did_withdraw : {later : ℕ} {end : RoomHolder} → Lowered key (Back d) after later end → Did key name (room_mark name (Over d) ∷ room_mark name (Back d) ∷ []) Idle m found end
           did_withdraw back = did_after f passed (did_both token_adding (Over d) (Back d) overdone (back.leaves name (token_names token_backing)))
 
 -- ---- calls
 
 -- a seat of a room, with its token m, what it holds and has left of its stint, and what contracts see of both
-pub record AtRoom (key : RoomKey) (left seats name held : ℕ) (table mine : TableId) (m : RoomMine) (old : SeatInfo RoomMark) (room : RoomInfo) : Type 0 where
+pub record AtRoom (key : RoomLimits) (left seats name held : ℕ) (table mine : TableId) (m : RoomHolder) (old : SeatInfo RoomMark) (room : RoomInfo) : Type 0 where
   pub token : IsSeatToken seat_of seats name Idle 0 m
   pub holds : held ≡ amount_held name (reverse m.0.seen)
   pub settled : IsSettled (name ∷ []) (reverse m.0.seen)
@@ -172,11 +172,11 @@ pub record AtRoom (key : RoomKey) (left seats name held : ℕ) (table mine : Tab
   pub room_is : room_info (object_id table key.seats) key.bound ≡ room
   pub fits : old.object ≡ room.object
 
-pub at_room : (key : RoomKey) (left : ℕ) {seats name held : ℕ} {table mine : TableId} {m : RoomMine} {old : SeatInfo RoomMark} {room : RoomInfo} → IsSeatToken seat_of seats name Idle 0 m × (held ≡ amount_held name (reverse m.0.seen)) × IsSettled (name ∷ []) (reverse m.0.seen)
+pub at_room : (key : RoomLimits) (left : ℕ) {seats name held : ℕ} {table mine : TableId} {m : RoomHolder} {old : SeatInfo RoomMark} {room : RoomInfo} → IsSeatToken seat_of seats name Idle 0 m × (held ≡ amount_held name (reverse m.0.seen)) × IsSettled (name ∷ []) (reverse m.0.seen)
     → room_seat (object_id mine seats) name left m ≡ old → room_info (object_id table key.seats) key.bound ≡ room → old.object ≡ room.object → AtRoom key left seats name held table mine m old room
 at_room key left f seat_is room_is fits = record { token = f.0; holds = f.1; settled = f.2; seat_is = seat_is; room_is = room_is; fits = fits }
 
-module _ {key : RoomKey} {left seats name held : ℕ} {table mine : TableId} {m : RoomMine} {old : SeatInfo RoomMark} {room : RoomInfo} (at : AtRoom key left seats name held table mine m old room) where
+module _ {key : RoomLimits} {left seats name held : ℕ} {table mine : TableId} {m : RoomHolder} {old : SeatInfo RoomMark} {room : RoomInfo} (at : AtRoom key left seats name held table mine m old room) where
   same_object : object_id mine seats ≡ object_id table key.seats
   same_object = ap (λ (s : SeatInfo RoomMark). s.object) at.seat_is ∙ (at.fits ∙ sym (ap (λ (x : RoomInfo). x.object) at.room_is))
 
@@ -204,7 +204,7 @@ module _ {key : RoomKey} {left seats name held : ℕ} {table mine : TableId} {m 
   pub within_stint : ¬ (left ≡ 0) → granted_claims old < old.stint
   within_stint some_left = let all = granted_old in omega (arith, all, some_left)
 
-  module _ {marks : List RoomMark} {found : ℕ} {after : RoomMine} (d : Did key name marks Idle m found after) where
+  module _ {marks : List RoomMark} {found : ℕ} {after : RoomHolder} (d : Did key name marks Idle m found after) where
     appended : Appends (room_rules key.bound) marks (seat_info (object_id mine seats) name (left + grants_of name (reverse m.0.seen)) (reverse m.0.seen)) (seat_info (object_id mine seats) name (left + grants_of name (reverse m.0.seen)) (reverse after.0.seen))
     appended = d.appends (object_id mine seats) (left + grants_of name (reverse m.0.seen)) same_seats
 
@@ -238,7 +238,7 @@ module _ {key : RoomKey} {left seats name held : ℕ} {table mine : TableId} {m 
         is ∙ d.found_is (length (marks_of seat_of name (reverse m.0.seen)) + 0) none
 
   -- a call of one mark
-  pub makes_call : (kind : RoomKind) {found : ℕ} {after : RoomMine} → Did key name (room_mark name kind ∷ []) Idle m found after → {now : TableId} → now ≡ mine → (left' : ℕ) → left' + up_weight kind ≡ left
+  pub makes_call : (kind : RoomKind) {found : ℕ} {after : RoomHolder} → Did key name (room_mark name kind ∷ []) Idle m found after → {now : TableId} → now ≡ mine → (left' : ℕ) → left' + up_weight kind ≡ left
       → {answer : ℤ} → answer ≡ pos found -ℤ pos bias → MakesCall kind room old (room_seat (object_id now seats) name left' after) answer
   makes_call kind {after = after} d {now} stays left' is {answer} answer_is =
       let one : left' + sum_by up_weight (kind ∷ []) ≡ left = omega (arith, is, sum_by-cons up_weight kind []) in
@@ -246,14 +246,14 @@ module _ {key : RoomKey} {left seats name held : ℕ} {table mine : TableId} {m 
       record { appends = appends_at d left' one; answers = answers_at d left' answer answer_is }
 
   -- a claim that was withdrawn
-  pub withdraws_claim : {d found : ℕ} {after : RoomMine} → Did key name (room_mark name (Over d) ∷ room_mark name (Back d) ∷ []) Idle m found after → {now : TableId} → now ≡ mine
+  pub withdraws_claim : {d found : ℕ} {after : RoomHolder} → Did key name (room_mark name (Over d) ∷ room_mark name (Back d) ∷ []) Idle m found after → {now : TableId} → now ≡ mine
       → {answer : ℤ} → answer ≡ pos found -ℤ pos bias → Withdraws d room old (room_seat (object_id now seats) name left after) answer
   withdraws_claim {d} {after = after} did {now} stays {answer} answer_is =
       subst (λ (x : RoomInfo × SeatInfo RoomMark × TableId). Withdraws d x.0 x.1 (room_seat (object_id x.2 seats) name left after) answer) (λ i. (at.room_is i, at.seat_is i, sym stays i))
       record { appends = appends_at did left (omega arith); answers = answers_at did left answer answer_is }
 
 -- a seat as it is dealt
-pub fresh_room_seat : (object : ObjectId) (name stint : ℕ) (m : RoomMine) → m ≡ (sight (name ∷ []) [] Idle 0, []) → room_seat object name stint m ≡ seat_info object name stint []
+pub fresh_room_seat : (object : ObjectId) (name stint : ℕ) (m : RoomHolder) → m ≡ (sight (name ∷ []) [] Idle 0, []) → room_seat object name stint m ≡ seat_info object name stint []
 fresh_room_seat object name stint m is =
     let full : stint + 0 ≡ stint = omega arith in
-    ap (λ (x : RoomMine). room_seat object name stint x) is ∙ ap (λ (k : ℕ). seat_info object name k []) full
+    ap (λ (x : RoomHolder). room_seat object name stint x) is ∙ ap (λ (k : ℕ). seat_info object name k []) full

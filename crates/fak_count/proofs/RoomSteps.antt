@@ -28,14 +28,14 @@ use Rattle.fak_core.specs.RoomSchedule.{IsReached}
 use Rattle.fak_core.proofs.ListWrites.{written_here, written_stays}
 use Rattle.fak_core.proofs.RoomKept.{IsKept}
 use Rattle.fak_core.proofs.RoomReached.{opening_reached, reached_move, reached_begin, reached_kept, reached_shape, reached_count, held_within}
-use Rattle.fak_count.specs.declared.rooms.key.RoomKey.{RoomKey}
+use Rattle.fak_count.specs.declared.rooms.limits.RoomLimits.{RoomLimits}
 use Rattle.fak_count.specs.Opening.{IsInRange}
 use Rattle.fak_model.specs.Words.{bias}
 use Rattle.fak_count.specs.Words.{count_place, KeepsCount}
-use Rattle.fak_count.specs.RoomShown.{RoomSight, RoomMine, room_mark, IsReachedRoom, StandsInRoom, room_object, IsShownRoom, opened_room, Holds, FoundValue, LeavesRoom, Tested, Added, Lowered, HeardJoin}
-use Rattle.fak_count.proofs.Words.{writes, added, subtracted}
+use Rattle.fak_count.specs.RoomShown.{RoomView, RoomHolder, room_mark, IsReachedRoom, StandsInRoom, room_object, IsShownRoom, opened_room, Holds, FoundValue, LeavesRoom, Tested, Added, Lowered, HeardJoin}
+use Rattle.fak_count.proofs.CountWords.{writes, added, subtracted}
 
-lawful : (key : RoomKey) → AreLawful (room_object key)
+lawful : (key : RoomLimits) → AreLawful (room_object key)
 lawful key s reached = subst (λ (b : ℕ). IsHistory (room_rules b) (reverse s.past)) (reached_shape key.bound key.seats s reached.reached).0 (reached_kept key.bound key.seats s reached.reached).history
 
 own_left : (name : ℕ) (mark : Option RoomKind) → AreOwn seat_of name (marks_left name mark)
@@ -45,7 +45,7 @@ own_left name (Some kind) = (refl, tt)
 may_release : (held d : ℕ) → d ≤ held → first_phase held Idle (Release d) ≡ Ok (Releasing d)
 may_release held d enough = let t : nat_lt held d ≡ false = grind (arith, nat_tests) in rw t refl
 
-module _ (key : RoomKey) (s : State (Unit {0}) RoomSight) (r : IsShownRoom key s) (id name : ℕ) (m : RoomMine) (at : get_elem? s.views id ≡ some m.0) (one : m.0.names ≡ name ∷ []) where
+module _ (key : RoomLimits) (s : State (Unit {0}) RoomView) (r : IsShownRoom key s) (id name : ℕ) (m : RoomHolder) (at : get_elem? s.views id ≡ some m.0) (one : m.0.names ≡ name ∷ []) where
   same_name : (other : ℕ) → m.0.names ≡ other ∷ [] → name ≡ other
   same_name other e = cc (one, e)
 
@@ -66,8 +66,8 @@ module _ (key : RoomKey) (s : State (Unit {0}) RoomSight) (r : IsShownRoom key s
   found_now : FoundValue (slice_index s.words count_place) r.core.past
   found_now = r.encoded.count_is ∙ ap (λ v. pos bias +ℤ v) kept.counted
 
-  abbrev Outcome : (ℕ → ℕ) → (ℕ → RoomMine → Type 0) → Type 0
-  Outcome f tells = (w : RoomSight) × (a : Act (Unit {0})) × Valid s.homes m.1 a × IsShownRoom key (stepped s count_place (f (slice_index s.words count_place)) id m.1 w a) × tells (slice_index s.words count_place) (w, carried_after m.1 a)
+  abbrev Outcome : (ℕ → ℕ) → (ℕ → RoomHolder → Type 0) → Type 0
+  Outcome f tells = (w : RoomView) × (a : Act (Unit {0})) × Valid s.homes m.1 a × IsShownRoom key (stepped s count_place (f (slice_index s.words count_place)) id m.1 w a) × tells (slice_index s.words count_place) (w, carried_after m.1 a)
 
   -- what the seat has seen has all its marks
   held_seen : amount_held name (reverse r.core.past) ≡ amount_held name (reverse m.0.seen)
@@ -80,7 +80,7 @@ module _ (key : RoomKey) (s : State (Unit {0}) RoomSight) (r : IsShownRoom key s
     abbrev after : RoomState
     after = moved s0 name mv
 
-    abbrev view_after : RoomSight
+    abbrev view_after : RoomView
     view_after = sight m.0.names (marks_left name mv.mark ++ r.core.past) mv.seat.phase 0
 
     after_reached : IsReachedRoom key after
@@ -166,7 +166,7 @@ module _ (key : RoomKey) (s : State (Unit {0}) RoomSight) (r : IsShownRoom key s
           let mv : RoomMove = test_move false r.core.count at_rest.holding d in
           let far = full_found d e in
           let t = goes_on (begun r.core name claiming) claiming mv claim_reached refl claim_others claim_here (ap (λ b. Some (test_move b r.core.count at_rest.holding d)) e) (λ x. x) r.encoded.count_is in
-          let w : RoomSight = sight m.0.names (room_mark name (No d) ∷ r.core.past) Idle 0 in (
+          let w : RoomView = sight m.0.names (room_mark name (No d) ∷ r.core.past) Idle 0 in (
             w,
             keeps,
             tt,
@@ -198,7 +198,7 @@ module _ (key : RoomKey) (s : State (Unit {0}) RoomSight) (r : IsShownRoom key s
           let reached : IsReached key.bound key.seats (begun r.core name releasing) = reached_begin key.bound key.seats r.core name x (Release d) (Releasing d) r.reached.reached at_rest.seat range may in
           let t = goes_on (begun r.core name releasing) releasing (release_move r.core.count at_rest.holding d) reached refl (λ k y ne old. written_stays r.core.seats name k releasing y ne old)
           (written_here r.core.seats name releasing within) refl (λ x. (x + (2 ^ 64 - d)) % 2 ^ 64) lowered in
-          let w : RoomSight = sight m.0.names (room_mark name (GivenBack d) ∷ r.core.past) Idle 0 in
+          let w : RoomView = sight m.0.names (room_mark name (GivenBack d) ∷ r.core.past) Idle 0 in
           (w, keeps, tt, t.0, record { small = word_fits.1; leaves = λ other e. subst (λ (n : ℕ). LeavesRoom key m (slice_index s.words count_place) (room_mark n (GivenBack d) ∷ []) Idle (w, m.1)) (same_name other e) t.1 })
 
     -- ---- an add
@@ -220,7 +220,7 @@ module _ (key : RoomKey) (s : State (Unit {0}) RoomSight) (r : IsShownRoom key s
           let next : next_move r.core.bound r.core.count at_add.holding (Adding d) ≡ Some mv = ap (λ b. Some (add_move b r.core.count at_add.holding d)) e in
           let t = goes_on r.core adder mv r.reached.reached refl stays_else at_add.seat next (λ x. (x + d) % 2 ^ 64) raised in
           let held = holds_after r.core adder mv r.reached.reached refl stays_else at_add.seat next in
-          let w : RoomSight = sight m.0.names (room_mark name (Up d) ∷ r.core.past) Idle 0 in (
+          let w : RoomView = sight m.0.names (room_mark name (Up d) ∷ r.core.past) Idle 0 in (
             w,
             keeps,
             tt,
@@ -237,7 +237,7 @@ module _ (key : RoomKey) (s : State (Unit {0}) RoomSight) (r : IsShownRoom key s
           let mv : RoomMove = add_move false r.core.count at_add.holding d in
           let far = full_found d e in
           let t = goes_on r.core adder mv r.reached.reached refl stays_else at_add.seat (ap (λ b. Some (add_move b r.core.count at_add.holding d)) e) (λ x. (x + d) % 2 ^ 64) raised in
-          let w : RoomSight = sight m.0.names (room_mark name (Over d) ∷ r.core.past) (Backing d) 0 in (
+          let w : RoomView = sight m.0.names (room_mark name (Over d) ∷ r.core.past) (Backing d) 0 in (
             w,
             keeps,
             tt,
@@ -263,10 +263,10 @@ module _ (key : RoomKey) (s : State (Unit {0}) RoomSight) (r : IsShownRoom key s
       backs_by =
           let x : CoreSeat = record { held = at_back.holding; phase = Backing d } in
           let t = goes_on r.core x (back_move r.core.count at_back.holding d) r.reached.reached refl (λ k y ne old. old) at_back.seat refl (λ x. (x + (2 ^ 64 - d)) % 2 ^ 64) lowered in
-          let w : RoomSight = sight m.0.names (room_mark name (Back d) ∷ r.core.past) Idle 0 in
+          let w : RoomView = sight m.0.names (room_mark name (Back d) ∷ r.core.past) Idle 0 in
           (w, keeps, tt, t.0, record { small = word_fits.1; leaves = λ other e. subst (λ (n : ℕ). LeavesRoom key m (slice_index s.words count_place) (room_mark n (Back d) ∷ []) Idle (w, m.1)) (same_name other e) t.1 })
 
-module _ (key : RoomKey) (slots id name d : ℕ) (m : RoomMine) (one : m.0.names ≡ name ∷ []) (range : (1 ≤ d) × (d ≤ 1024)) where
+module _ (key : RoomLimits) (slots id name d : ℕ) (m : RoomHolder) (one : m.0.names ≡ name ∷ []) (range : (1 ≤ d) × (d ≤ 1024)) where
   pub tests_allowed : m.0.phase ≡ Some Idle → Allows (IsShownRoom key) slots id m count_place (λ x. x) (Tested key d m)
   tests_allowed idle s r wide at small = tests_by key s r id name m at one d range idle (fits r.core.bound r.core.count d) refl
 
@@ -279,13 +279,13 @@ module _ (key : RoomKey) (slots id name d : ℕ) (m : RoomMine) (one : m.0.names
   pub releases_allowed : m.0.phase ≡ Some Idle → Holds m.0 d → Allows (IsShownRoom key) slots id m count_place (λ x. (x + (2 ^ 64 - d)) % 2 ^ 64) (Lowered key (GivenBack d) m)
   releases_allowed idle enough s r wide at small = releases_by key s r id name m at one d range idle (enough name one)
 
-pub hears_allowed : (key : RoomKey) (slots id : ℕ) (m : RoomMine) → Allows (IsShownRoom key) slots id m count_place (λ x. x) (λ _. HeardJoin key m)
+pub hears_allowed : (key : RoomLimits) (slots id : ℕ) (m : RoomHolder) → Allows (IsShownRoom key) slots id m count_place (λ x. x) (λ _. HeardJoin key m)
 hears_allowed key slots id m = hears (room_object key) (lawful key) slots id m count_place
 
 -- ---- opening
 
 -- the table at the opening shows an empty room
-pub opens_room : (key : RoomKey) (stint : ℕ) → IsInRange key.bound key.seats stint → (ws : List ℕ) → KeepsCount (pos 0) ws → IsShownRoom key (opening ws [] (opened_room key))
+pub opens_room : (key : RoomLimits) (stint : ℕ) → IsInRange key.bound key.seats stint → (ws : List ℕ) → KeepsCount (pos 0) ws → IsShownRoom key (opening ws [] (opened_room key))
 opens_room key stint range ws keeps_none =
     starts (room_object key) Idle 0 (core_opening key.bound key.seats) (record { reached = opening_reached key.bound key.seats; low = range.0; few = range.1.1 }) refl
     (λ n low. record { holding = 0; seat = slice_get-get_or (replicate key.seats resting) n resting (let long = length-replicate key.seats resting in omega (arith, long, low)) ∙ ap Some (get_or-replicate key.seats n resting resting low) })

@@ -7,22 +7,22 @@ use Rattle.fak_model.specs.declared.credit.CreditMark.{CreditMark}
 use Rattle.fak_model.specs.Credit.{credit_rules, value}
 use Rattle.fak_model.specs.Views.{opened}
 use Rattle.fak_model.specs.Shown.{Object, IsShown, Leaves, Hears}
-use Rattle.fak_count.specs.declared.credits.key.CreditKey.{CreditKey}
+use Rattle.fak_count.specs.declared.credits.limits.CreditLimits.{CreditLimits}
 use Rattle.fak_count.specs.Opening.{IsCount}
 use Rattle.fak_model.specs.Words.{bias}
 use Rattle.fak_count.specs.Words.{KeepsCount}
 
-abbrev pub CreditSight : Type 0
-CreditSight = View CreditMark (Unit {0})
+abbrev pub CreditView : Type 0
+CreditView = View CreditMark (Unit {0})
 
-abbrev pub CreditMine : Type 0
-CreditMine = Me (Unit {0}) CreditSight
+abbrev pub CreditHolder : Type 0
+CreditHolder = Me (Unit {0}) CreditView
 
 abbrev pub credit_mark : ℕ → CreditKind → CreditMark
 credit_mark name kind = record { seat = name; kind = kind }
 
 -- a credit's state is its past, of which every one is a credit's; each debit and credit draws a ticket, and the limits hold
-abbrev pub credit_object : CreditKey → Object CreditMark CreditKind CreditKind (Unit {0}) (List CreditMark) (Unit {0})
+abbrev pub credit_object : CreditLimits → Object CreditMark CreditKind CreditKind (Unit {0}) (List CreditMark) (Unit {0})
 credit_object key = record {
   rules = credit_rules;
   seats = key.seats;
@@ -34,23 +34,23 @@ credit_object key = record {
   Encodes = λ past words homes. KeepsCount (value key.start (reverse past)) words;
 }
 
-abbrev pub IsShownCredit : CreditKey → State (Unit {0}) CreditSight → Type 0
+abbrev pub IsShownCredit : CreditLimits → State (Unit {0}) CreditView → Type 0
 IsShownCredit key s = IsShown (credit_object key) s
 
-abbrev pub opened_credit : CreditKey → CreditSight
+abbrev pub opened_credit : CreditLimits → CreditView
 opened_credit key = opened tt key.seats (key.seats * key.stint)
 
 -- the word that was found keeps the value after this past
-abbrev pub FoundValue : CreditKey → ℕ → List CreditMark → Type 0
+abbrev pub FoundValue : CreditLimits → ℕ → List CreditMark → Type 0
 FoundValue key found past = (pos found ≡ pos bias +ℤ value key.start (reverse past)) × (found < 2 ^ 63)
 
 -- the seat left one mark, and drew a ticket
-abbrev pub MadeMark : CreditKey → CreditKind → CreditMine → ℕ → CreditMine → Type 0
+abbrev pub MadeMark : CreditLimits → CreditKind → CreditHolder → ℕ → CreditHolder → Type 0
 MadeMark key kind m found after = (name : ℕ) → m.0.names ≡ name ∷ [] → Leaves (credit_object key) m (credit_mark name kind ∷ []) tt (m.0.left - 1) m.1 (FoundValue key found) after
 
 -- the seat saw more, and left no mark
-abbrev pub Observed : CreditKey → CreditMine → ℕ → CreditMine → Type 0
+abbrev pub Observed : CreditLimits → CreditHolder → ℕ → CreditHolder → Type 0
 Observed key m found after = (name : ℕ) → m.0.names ≡ name ∷ [] → Leaves (credit_object key) m [] tt m.0.left m.1 (FoundValue key found) after
 
-abbrev pub HeardJoin : CreditKey → CreditMine → CreditMine → Type 0
+abbrev pub HeardJoin : CreditLimits → CreditHolder → CreditHolder → Type 0
 HeardJoin key m after = Hears (credit_object key) m after

@@ -4,7 +4,7 @@ use Rattle.fak_model.specs.declared.credit.CreditKind.{CreditKind}
 use Rattle.fak_model.specs.declared.credit.CreditMark.{CreditMark}
 use Rattle.fak_model.specs.Credit.{credit_rules, value}
 use Rattle.fak_model.specs.Seats.{marks_of}
-use Rattle.fak_count.specs.CreditShown.{CreditMine}
+use Rattle.fak_count.specs.CreditShown.{CreditHolder}
 use Rattle.fak_model.specs.Calls.{ObjectId, SeatInfo, seat_info, mine_of, Appends, before_appended}
 
 -- a credit: which object it is, and its start
@@ -23,7 +23,7 @@ abbrev pub calls_made : SeatInfo CreditMark → ℕ
 calls_made s = length (mine_of seat_of s)
 
 -- a seat of this object, name and view, with so many calls left of its stint
-abbrev pub credit_seat : ObjectId → ℕ → ℕ → CreditMine → SeatInfo CreditMark
+abbrev pub credit_seat : ObjectId → ℕ → ℕ → CreditHolder → SeatInfo CreditMark
 credit_seat object name left me = seat_info object name (left + length (marks_of seat_of name (reverse me.0.seen))) (reverse me.0.seen)
 
 -- a debit or credit within the stint, which answers the value before its mark

@@ -12,22 +12,22 @@ use Rattle.fak_core.specs.declared.room.phase.RoomPhase.{RoomPhase}
 use Rattle.fak_core.specs.declared.room.phase.RoomPhase.TheVariants.{Idle, Adding, Backing}
 use Rattle.fak_core.specs.Room.{RoomState}
 use Rattle.fak_core.specs.RoomSchedule as core
-use Rattle.fak_count.specs.declared.rooms.key.RoomKey.{RoomKey}
+use Rattle.fak_count.specs.declared.rooms.limits.RoomLimits.{RoomLimits}
 use Rattle.fak_count.specs.Opening.{IsCount}
 use Rattle.fak_model.specs.Words.{bias}
 use Rattle.fak_count.specs.Words.{KeepsCount}
 
-abbrev pub RoomSight : Type 0
-RoomSight = View RoomMark RoomPhase
+abbrev pub RoomView : Type 0
+RoomView = View RoomMark RoomPhase
 
-abbrev pub RoomMine : Type 0
-RoomMine = Me (Unit {0}) RoomSight
+abbrev pub RoomHolder : Type 0
+RoomHolder = Me (Unit {0}) RoomView
 
 abbrev pub room_mark : ℕ → RoomKind → RoomMark
 room_mark name kind = record { seat = name; kind = kind }
 
 -- the core state is reached within the limits of a room
-pub record IsReachedRoom (key : RoomKey) (s : RoomState) : Type 0 where
+pub record IsReachedRoom (key : RoomLimits) (s : RoomState) : Type 0 where
   pub reached : core.IsReached key.bound key.seats s
   pub low : IsCount key.bound
   pub few : key.seats ≤ 64
@@ -38,7 +38,7 @@ pub record StandsInRoom (s : RoomState) (name : ℕ) (phase : RoomPhase) : Type 
   pub seat : slice_get s.seats name ≡ Some (record { held = holding; phase = phase })
 
 -- a room's state is that of the room core; its seats draw no tickets
-abbrev pub room_object : RoomKey → Object RoomMark RoomKind WholeCall RoomPhase RoomState (Unit {0})
+abbrev pub room_object : RoomLimits → Object RoomMark RoomKind WholeCall RoomPhase RoomState (Unit {0})
 room_object key = record {
   rules = room_rules key.bound;
   seats = key.seats;
@@ -50,14 +50,14 @@ room_object key = record {
   Encodes = λ s words homes. KeepsCount s.count words;
 }
 
-abbrev pub IsShownRoom : RoomKey → State (Unit {0}) RoomSight → Type 0
+abbrev pub IsShownRoom : RoomLimits → State (Unit {0}) RoomView → Type 0
 IsShownRoom key s = IsShown (room_object key) s
 
-abbrev pub opened_room : RoomKey → RoomSight
+abbrev pub opened_room : RoomLimits → RoomView
 opened_room key = opened Idle key.seats 0
 
 -- what the names of the view hold is at least d
-abbrev pub Holds : RoomSight → ℕ → Type 0
+abbrev pub Holds : RoomView → ℕ → Type 0
 Holds v d = (name : ℕ) → v.names ≡ name ∷ [] → d ≤ amount_held name (reverse v.seen)
 
 -- the word that was found keeps the value after this past
@@ -65,26 +65,26 @@ abbrev pub FoundValue : ℕ → List RoomMark → Type 0
 FoundValue found past = pos found ≡ pos bias +ℤ value (reverse past)
 
 -- the seat left these marks, and stands at this phase
-abbrev pub LeavesRoom : RoomKey → RoomMine → ℕ → List RoomMark → RoomPhase → RoomMine → Type 0
+abbrev pub LeavesRoom : RoomLimits → RoomHolder → ℕ → List RoomMark → RoomPhase → RoomHolder → Type 0
 LeavesRoom key m found new phase after = Leaves (room_object key) m new phase 0 m.1 (FoundValue found) after
 
 -- a test: the claim goes on where it fits, and is refused where it doesn't
-pub record Tested (key : RoomKey) (d : ℕ) (m : RoomMine) (found : ℕ) (after : RoomMine) : Type 0 where
+pub record Tested (key : RoomLimits) (d : ℕ) (m : RoomHolder) (found : ℕ) (after : RoomHolder) : Type 0 where
   pub small : found < 2 ^ 63
   pub fits : (name : ℕ) → m.0.names ≡ name ∷ [] → found + d ≤ bias + key.bound → LeavesRoom key m found [] (Adding d) after
   pub full : (name : ℕ) → m.0.names ≡ name ∷ [] → bias + key.bound < found + d → LeavesRoom key m found (room_mark name (No d) ∷ []) Idle after
 
 -- an add: the claim is granted where it fits, and what the seat holds then is within the bound; it goes on to be
 -- withdrawn where it doesn't fit
-pub record Added (key : RoomKey) (d : ℕ) (m : RoomMine) (found : ℕ) (after : RoomMine) : Type 0 where
+pub record Added (key : RoomLimits) (d : ℕ) (m : RoomHolder) (found : ℕ) (after : RoomHolder) : Type 0 where
   pub small : found < 2 ^ 63
   pub fits : (name : ℕ) → m.0.names ≡ name ∷ [] → found + d ≤ bias + key.bound → LeavesRoom key m found (room_mark name (Up d) ∷ []) Idle after × (amount_held name (reverse after.0.seen) ≤ 4294967296)
   pub full : (name : ℕ) → m.0.names ≡ name ∷ [] → bias + key.bound < found + d → LeavesRoom key m found (room_mark name (Over d) ∷ []) (Backing d) after
 
 -- a subtraction: the claim is withdrawn, or the amount given back
-pub record Lowered (key : RoomKey) (kind : RoomKind) (m : RoomMine) (found : ℕ) (after : RoomMine) : Type 0 where
+pub record Lowered (key : RoomLimits) (kind : RoomKind) (m : RoomHolder) (found : ℕ) (after : RoomHolder) : Type 0 where
   pub small : found < 2 ^ 63
   pub leaves : (name : ℕ) → m.0.names ≡ name ∷ [] → LeavesRoom key m found (room_mark name kind ∷ []) Idle after
 
-abbrev pub HeardJoin : RoomKey → RoomMine → RoomMine → Type 0
+abbrev pub HeardJoin : RoomLimits → RoomHolder → RoomHolder → Type 0
 HeardJoin key m after = Hears (room_object key) m after

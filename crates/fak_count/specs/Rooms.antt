@@ -10,7 +10,7 @@ use Rattle.fak_model.specs.Resting.{AreBetweenCalls}
 use Rattle.fak_model.specs.Calls.{ObjectId, SeatInfo, seat_info, Appends, before_appended}
 use Rattle.fak_count.specs.declared.fault.TirFault.{TirFault}
 use Rattle.fak_count.specs.declared.fault.TirFault.TheVariants.{Worn, AtBound}
-use Rattle.fak_count.specs.RoomShown.{RoomMine, room_mark}
+use Rattle.fak_count.specs.RoomShown.{RoomHolder, room_mark}
 
 -- a room: which object it is, and its bound
 pub record RoomInfo : Type 0 where
@@ -36,7 +36,7 @@ abbrev pub held_amount : SeatInfo RoomMark → ℕ
 held_amount s = amount_held s.name s.seen
 
 -- a seat of this object, name and view, with so many claims left of its stint
-abbrev pub room_seat : ObjectId → ℕ → ℕ → RoomMine → SeatInfo RoomMark
+abbrev pub room_seat : ObjectId → ℕ → ℕ → RoomHolder → SeatInfo RoomMark
 room_seat object name left me = seat_info object name (left + grants_of name (reverse me.0.seen)) (reverse me.0.seen)
 
 -- a call that leaves one mark, and answers the value before it

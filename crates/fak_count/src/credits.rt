@@ -1,12 +1,15 @@
 //! Credits: counts that debits lower and credits raise.
 
-mod credit_object;
-mod key;
-mod law;
+mod credit;
+mod ending;
+mod limits;
+mod opening;
+mod plays;
+mod rule;
 mod seat;
 mod steps;
 mod tally;
 
-pub use credit_object::Credit;
+pub use credit::Credit;
 pub use seat::CreditSeat;
 pub use tally::CreditTally;

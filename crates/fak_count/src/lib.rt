@@ -15,11 +15,11 @@
 
 mod credits;
 mod fault;
-mod limits;
+mod opening;
 mod rooms;
 #[cfg(test)]
 mod tests;
-mod word;
+mod words;
 
 pub use credits::{Credit, CreditSeat, CreditTally};
 pub use fault::{OpenFault, TirFault, Worn};

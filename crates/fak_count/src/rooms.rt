@@ -1,12 +1,15 @@
 //! Rooms: counts that claims raise up to a bound, and releases lower.
 
-mod key;
-mod law;
-mod room_object;
+mod ending;
+mod limits;
+mod opening;
+mod plays;
+mod room;
+mod rule;
 mod seat;
 mod steps;
 mod tally;
 
-pub use room_object::Room;
+pub use room::Room;
 pub use seat::RoomSeat;
 pub use tally::RoomTally;

@@ -16,7 +16,7 @@ use Rattle.fak_files.specs.declared.phase.Access.TheVariants.{Read, Write}
 use Rattle.fak_files.specs.declared.phase.FilePhase.{FilePhase}
 use Rattle.fak_files.specs.declared.phase.FilePhase.TheVariants.{Idle, Backing, Holding}
 use Rattle.fak_files.specs.Phases.{amount_of, AreInHold, StandsIn}
-use Rattle.fak_files.specs.Running.{mark}
+use Rattle.fak_files.specs.Shown.{mark}
 
 -- ---- holds
 

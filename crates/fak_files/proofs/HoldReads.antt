@@ -18,7 +18,7 @@ use Rattle.fak_model.proofs.Leading.{sum_term}
 use Rattle.fak_model.proofs.FileLaw.{files_fit, hold_push}
 use Rattle.fak_model.proofs.Reversing.{reverse_cons}
 use Rattle.fak_files.specs.Versions.{is_take, back_from_take, own_since_take}
-use Rattle.fak_files.proofs.Words.{field-push}
+use Rattle.fak_files.proofs.WordPlaces.{field-push}
 
 -- ---- a writer is alone
 

@@ -1,12 +1,12 @@
 pub mod Counts
 pub mod Grammar
-pub mod Words
+pub mod WordPlaces
 pub mod StepKinds
 pub mod Making
 pub mod SeatCalls
 pub mod HoldReads
-pub mod Opening
-pub mod Ending
-pub mod Waiting
+pub mod Openings
+pub mod Closing
+pub mod Waits
 pub mod HoldLaws
 pub mod Settling

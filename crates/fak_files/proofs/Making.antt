@@ -14,9 +14,9 @@ use Rattle.fak_model.proofs.Seats.{begins_self}
 use Rattle.fak_model.proofs.RunningCalls.{token_names, appends_then, appends_none, step_appends, step_before}
 use Rattle.fak_files.specs.declared.phase.FilePhase.{FilePhase}
 use Rattle.fak_files.specs.declared.phase.FilePhase.TheVariants.{Idle}
-use Rattle.fak_files.specs.declared.rule.FileLimits.{FileLimits}
+use Rattle.fak_files.specs.declared.limits.FileLimits.{FileLimits}
 use Rattle.fak_model.specs.Words.{bias}
-use Rattle.fak_files.specs.Running.{Mine, mark, Steps, CountIs}
+use Rattle.fak_files.specs.Shown.{FileHolder, mark, Steps, CountIs}
 use Rattle.fak_files.specs.SeatTokens.{Makes, Misses, before_steps}
 
 -- some object of so many seats
@@ -25,14 +25,14 @@ some_object seats = object_id (record { words = 0; slots = 0; views_name = 0; at
 
 module _ (table : FileLimits) (name : ℕ) where
   -- a load
-  pub makes_none : {was phase : FilePhase} {tells : List FileMark → Type 0} {m after : Mine} → IsSeatToken seat_of table.seats name was 0 m → Steps table name m [] phase tells after → Makes table.seats name [] phase m after
+  pub makes_none : {was phase : FilePhase} {tells : List FileMark → Type 0} {m after : FileHolder} → IsSeatToken seat_of table.seats name was 0 m → Steps table name m [] phase tells after → Makes table.seats name [] phase m after
   makes_none token step = record { appends = λ object stint seats. step_appends step.leaves name (token_names token) tt object stint seats; token = step.token }
 
   -- a step with one mark
-  pub makes_one : {was phase : FilePhase} {tells : List FileMark → Type 0} {m after : Mine} (kind : FileKind) → IsSeatToken seat_of table.seats name was 0 m → Steps table name m (mark name kind ∷ []) phase tells after → Makes table.seats name (kind ∷ []) phase m after
+  pub makes_one : {was phase : FilePhase} {tells : List FileMark → Type 0} {m after : FileHolder} (kind : FileKind) → IsSeatToken seat_of table.seats name was 0 m → Steps table name m (mark name kind ∷ []) phase tells after → Makes table.seats name (kind ∷ []) phase m after
   makes_one kind token step = record { appends = λ object stint seats. step_appends step.leaves name (token_names token) (refl, tt) object stint seats; token = step.token }
 
-  module _ {p q : FilePhase} {a b c : Mine} where
+  module _ {p q : FilePhase} {a b c : FileHolder} where
     pub none_then : (kinds : List FileKind) → Makes table.seats name [] p a b → Makes table.seats name kinds q b c → Makes table.seats name kinds q a c
     none_then kinds x y = record {
       appends = λ object stint seats. appends_none (file_rules table.seats) (map (mark name) kinds) (seat_info object name stint (reverse a.0.seen)) (seat_info object name stint (reverse b.0.seen)) (seat_info object name stint (reverse c.0.seen)) (x.appends object stint seats) (y.appends object stint seats);
@@ -46,7 +46,7 @@ module _ (table : FileLimits) (name : ℕ) where
     }
 
   -- what stands before the first mark, where a load went before, and more follows
-  pub before_one : {was p q : FilePhase} {tells : List FileMark → Type 0} {a b c d : Mine} (kind : FileKind) (kinds : List FileKind) → Makes table.seats name [] was a b → (step : Steps table name b (mark name kind ∷ []) p tells c) → Makes table.seats name kinds q c d → before_steps name a d ≡ reverse step.leaves.past
+  pub before_one : {was p q : FilePhase} {tells : List FileMark → Type 0} {a b c d : FileHolder} (kind : FileKind) (kinds : List FileKind) → Makes table.seats name [] was a b → (step : Steps table name b (mark name kind ∷ []) p tells c) → Makes table.seats name kinds q c d → before_steps name a d ≡ reverse step.leaves.past
   before_one {a = a} {b} {c} {d} kind kinds x step y =
       let one = x.appends (some_object table.seats) 0 refl in
       let more = y.appends (some_object table.seats) 0 refl in
@@ -54,20 +54,20 @@ module _ (table : FileLimits) (name : ℕ) where
       step_before step.leaves name (token_names x.token) refl (length (marks_of seat_of name (reverse a.0.seen)) + 0) same (reverse d.0.seen) more.begins
 
   -- the same where it is the first step and the last
-  pub before_first : {was p : FilePhase} {tells : List FileMark → Type 0} {a b : Mine} (kind : FileKind) → IsSeatToken seat_of table.seats name was 0 a → (step : Steps table name a (mark name kind ∷ []) p tells b) → before_steps name a b ≡ reverse step.leaves.past
+  pub before_first : {was p : FilePhase} {tells : List FileMark → Type 0} {a b : FileHolder} (kind : FileKind) → IsSeatToken seat_of table.seats name was 0 a → (step : Steps table name a (mark name kind ∷ []) p tells b) → before_steps name a b ≡ reverse step.leaves.past
   before_first {a = a} {b} kind token step =
       let same : length (marks_of seat_of name (reverse a.0.seen)) ≡ length (marks_of seat_of name (reverse a.0.seen)) + 0 = omega arith in
       step_before step.leaves name (token_names token) refl (length (marks_of seat_of name (reverse a.0.seen)) + 0) same (reverse b.0.seen) (begins_self (reverse b.0.seen))
 
   -- a claim that its test refuses
-  pub misses_test : {was : FilePhase} {a b : Mine} (n found : ℕ) (answer : ℤ) → IsSeatToken seat_of table.seats name was 0 a → Steps table name a (mark name (No n) ∷ []) Idle (CountIs table.seats found) b → pos found ≡ pos bias +ℤ answer → Misses table.seats name n a b answer
+  pub misses_test : {was : FilePhase} {a b : FileHolder} (n found : ℕ) (answer : ℤ) → IsSeatToken seat_of table.seats name was 0 a → Steps table name a (mark name (No n) ∷ []) Idle (CountIs table.seats found) b → pos found ≡ pos bias +ℤ answer → Misses table.seats name n a b answer
   misses_test n found answer token step is = record {
     makes = inl (makes_one (No n) token step);
     answers = omega (arith, ints, is, step.leaves.told.0) ∙ ap (count table.seats) (sym (before_first (No n) token step));
   }
 
   -- and one that is withdrawn
-  pub misses_take : {was p q : FilePhase} {tests tells : List FileMark → Type 0} {a b c d : Mine} (n found : ℕ) (answer : ℤ) → IsSeatToken seat_of table.seats name was 0 a → Steps table name a [] p tests b
+  pub misses_take : {was p q : FilePhase} {tests tells : List FileMark → Type 0} {a b c d : FileHolder} (n found : ℕ) (answer : ℤ) → IsSeatToken seat_of table.seats name was 0 a → Steps table name a [] p tests b
       → (step : Steps table name b (mark name (Over n) ∷ []) q (CountIs table.seats found) c) → Steps table name c (mark name (Back n) ∷ []) Idle tells d → pos found ≡ pos bias +ℤ answer → Misses table.seats name n a d answer
   misses_take n found answer token test step back is =
       let x = makes_none token test in

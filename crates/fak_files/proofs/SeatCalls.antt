@@ -23,8 +23,8 @@ use Rattle.fak_files.specs.declared.phase.FilePhase.TheVariants.{Idle, Holding}
 use Rattle.fak_files.specs.declared.phase.Hold.{Hold}
 use Rattle.fak_files.specs.declared.phase.Hold.TheVariants.{Nothing, Reading, Writing}
 use Rattle.fak_files.specs.Phases.{amount_of, phase_of, hold_for, StandsIn}
-use Rattle.fak_files.specs.declared.rule.FileLimits.{FileLimits}
-use Rattle.fak_files.specs.Running.{limits, Mine, mark, Steps, Got}
+use Rattle.fak_files.specs.declared.limits.FileLimits.{FileLimits}
+use Rattle.fak_files.specs.Shown.{limits, FileHolder, mark, Steps, Got}
 use Rattle.fak_files.specs.Versions.{entry_of, back_from_take, own_since_take, prefix_through_take, marks_since_take}
 use Rattle.fak_files.specs.Calls.{FileSeatInfo, one_hold, holds_of, LeavesMarks, IsGranted, IsBusy, IsGot, IsSet, IsEnded, IsHoldOf}
 use Rattle.fak_files.specs.SeatTokens.{seat_now, IsFileSeat, Makes, Misses}
@@ -38,7 +38,7 @@ phase_of-hold_for Read = refl
 phase_of-hold_for Write = refl
 
 -- the holds that a seat had after a step
-holds_after : {seats name : ℕ} {kinds : List FileKind} {phase : FilePhase} {m after : Mine} → Makes seats name kinds phase m after
+holds_after : {seats name : ℕ} {kinds : List FileKind} {phase : FilePhase} {m after : FileHolder} → Makes seats name kinds phase m after
     → holds_of name (reverse after.0.seen) ≡ holds_of name (reverse m.0.seen) + sum_by one_hold (map (mark name) kinds)
 holds_after {seats} {name} {kinds} {m = m} x =
     ap (sum_by one_hold) ((x.appends (some_object seats) 0 refl).mine) ∙ sum_by-append one_hold (marks_of seat_of name (reverse m.0.seen)) (map (mark name) kinds)
@@ -48,14 +48,14 @@ kind_of-mark : (name : ℕ) (kinds : List FileKind) → map kind_of (map (mark n
 kind_of-mark name [] = refl
 kind_of-mark name (k ∷ kinds) = ap (λ l. k ∷ l) (kind_of-mark name kinds)
 
-kinds_after : {seats name : ℕ} {kinds : List FileKind} {phase : FilePhase} {m after : Mine} → Makes seats name kinds phase m after
+kinds_after : {seats name : ℕ} {kinds : List FileKind} {phase : FilePhase} {m after : FileHolder} → Makes seats name kinds phase m after
     → words_by seat_of kind_of name (reverse after.0.seen) ≡ words_by seat_of kind_of name (reverse m.0.seen) ++ kinds
 kinds_after {seats} {name} {kinds} {m = m} x =
     ap (map kind_of) ((x.appends (some_object seats) 0 refl).mine)
     ∙ (map-append kind_of (marks_of seat_of name (reverse m.0.seen)) (map (mark name) kinds) ∙ ap (λ l. words_by seat_of kind_of name (reverse m.0.seen) ++ l) (kind_of-mark name kinds))
 
 -- a seat's fields after steps
-pub file_seat_after : {name seats : ℕ} {hold : Hold} {kinds : List FileKind} {phase : FilePhase} {m after : Mine} (next : Hold) → IsFileSeat name seats hold m → Makes seats name kinds phase m after → phase ≡ phase_of next
+pub file_seat_after : {name seats : ℕ} {hold : Hold} {kinds : List FileKind} {phase : FilePhase} {m after : FileHolder} (next : Hold) → IsFileSeat name seats hold m → Makes seats name kinds phase m after → phase ≡ phase_of next
     → StandsIn seats (words_by seat_of kind_of name (reverse m.0.seen) ++ kinds) phase → IsFileSeat name seats next after
 file_seat_after {name} {seats} {after = after} next f x is stands = record {
   token = subst (λ (p : FilePhase). IsSeatToken seat_of seats name p 0 after) is x.token;
@@ -63,7 +63,7 @@ file_seat_after {name} {seats} {after = after} next f x is stands = record {
   stands = subst (λ (y : List FileKind × FilePhase). StandsIn seats y.0 y.1) (λ i. (sym (kinds_after x) i, is i)) stands;
 }
 
-module _ (object object' : ObjectId) (same : object' ≡ object) (name left : ℕ) (hold : Hold) (m after : Mine) where
+module _ (object object' : ObjectId) (same : object' ≡ object) (name left : ℕ) (hold : Hold) (m after : FileHolder) where
   -- the marks that a call leaves, where so many holds are left then
   pub leaves_of : (kinds : List FileKind) (phase : FilePhase) → Makes object.seats name kinds phase m after → (left' : ℕ) → left' + sum_by one_hold (map (mark name) kinds) ≡ left → (next : Hold)
       → LeavesMarks kinds (seat_now object name left hold m).seat (seat_now object' name left' next after).seat
@@ -94,7 +94,7 @@ module _ (object object' : ObjectId) (same : object' ≡ object) (name left : �
   }
 
 -- a seat's fields after a claim that was refused
-pub file_seat_missed : {name seats n : ℕ} {hold : Hold} {m after : Mine} {answer : ℤ} → IsFileSeat name seats hold m → Misses seats name n m after answer → Idle ≡ phase_of hold → IsFileSeat name seats hold after
+pub file_seat_missed : {name seats n : ℕ} {hold : Hold} {m after : FileHolder} {answer : ℤ} → IsFileSeat name seats hold m → Misses seats name n m after answer → Idle ≡ phase_of hold → IsFileSeat name seats hold after
 file_seat_missed {name} {seats} {n} {hold} {m} f x is =
     let kinds : List FileKind = words_by seat_of kind_of name (reverse m.0.seen) in
     let rest : Owes kinds_of_call kinds [] = subst (StandsIn seats kinds) (sym is) f.stands in
@@ -104,7 +104,7 @@ file_seat_missed {name} {seats} {n} {hold} {m} f x is =
     ]
 
 -- and after a hold was granted
-pub file_seat_granted : {name seats : ℕ} {hold : Hold} {m after : Mine} (access : Access) (next : Hold) → IsFileSeat name seats hold m → Makes seats name (Take (amount_of seats access) ∷ []) (Holding access) m after → hold ≡ Nothing
+pub file_seat_granted : {name seats : ℕ} {hold : Hold} {m after : FileHolder} (access : Access) (next : Hold) → IsFileSeat name seats hold m → Makes seats name (Take (amount_of seats access) ∷ []) (Holding access) m after → hold ≡ Nothing
     → Holding access ≡ phase_of next → IsFileSeat name seats next after
 file_seat_granted {name} {seats} {m = m} access next f x free is =
     let kinds : List FileKind = words_by seat_of kind_of name (reverse m.0.seen) in
@@ -112,27 +112,27 @@ file_seat_granted {name} {seats} {m = m} access next f x free is =
 
 -- ---- steps whose name and number of seats are read off the table and the token
 
-module _ {name seats : ℕ} {was : FilePhase} {m : Mine} (t : IsSeatToken seat_of seats name was 0 m) (table : FileLimits) (is : table.seats ≡ seats) where
+module _ {name seats : ℕ} {was : FilePhase} {m : FileHolder} (t : IsSeatToken seat_of seats name was 0 m) (table : FileLimits) (is : table.seats ≡ seats) where
   named : slice_index m.0.names 0 ≡ name
-  named = ap (λ (x : Mine). slice_index x.0.names 0) t.me_is
+  named = ap (λ (x : FileHolder). slice_index x.0.names 0) t.me_is
 
   own : IsSeatToken seat_of table.seats name was 0 m
   own = subst (λ (k : ℕ). IsSeatToken seat_of k name was 0 m) (sym is) t
 
   -- a step with one mark
-  pub one_made : (kind : FileKind) (phase : FilePhase) {tells : List FileMark → Type 0} {after : Mine} → Steps table (slice_index m.0.names 0) m (mark (slice_index m.0.names 0) kind ∷ []) phase tells after → Makes seats name (kind ∷ []) phase m after
+  pub one_made : (kind : FileKind) (phase : FilePhase) {tells : List FileMark → Type 0} {after : FileHolder} → Steps table (slice_index m.0.names 0) m (mark (slice_index m.0.names 0) kind ∷ []) phase tells after → Makes seats name (kind ∷ []) phase m after
   one_made kind phase {tells} {after} step =
       let step' : Steps table name m (mark name kind ∷ []) phase tells after = subst (λ (n : ℕ). Steps table n m (mark n kind ∷ []) phase tells after) named step in
       subst (λ (k : ℕ). Makes k name (kind ∷ []) phase m after) is (makes_one table name kind own step')
 
   -- a load
-  pub none_made : {phase : FilePhase} {tells : List FileMark → Type 0} {after : Mine} → Steps table (slice_index m.0.names 0) m [] phase tells after → Makes seats name [] phase m after
+  pub none_made : {phase : FilePhase} {tells : List FileMark → Type 0} {after : FileHolder} → Steps table (slice_index m.0.names 0) m [] phase tells after → Makes seats name [] phase m after
   none_made {phase} {tells} {after} step =
       let step' : Steps table name m [] phase tells after = subst (λ (n : ℕ). Steps table n m [] phase tells after) named step in
       subst (λ (k : ℕ). Makes k name [] phase m after) is (makes_none table name own step')
 
   -- a load of a field
-  pub field_loaded : (access : Access) (i : ℕ) (f : FileField) (found : ℕ) {after : Mine} → Got table (slice_index m.0.names 0) access i f m found after → Got table name access i f m found after
+  pub field_loaded : (access : Access) (i : ℕ) (f : FileField) (found : ℕ) {after : FileHolder} → Got table (slice_index m.0.names 0) access i f m found after → Got table name access i f m found after
   field_loaded access i f found {after} step = subst (λ (n : ℕ). Got table n access i f m found after) named step
 
 -- ---- what is read
@@ -149,32 +149,32 @@ marks_since_take-reverse name past = ap (λ p. reverse (own_since_take name p)) 
 
 module _ (table : FileLimits) (name : ℕ) (access : Access) where
   -- a load of a field reads what the seat may read
-  loaded : (i : ℕ) (f : FileField) (found : ℕ) (m after : Mine) → name < table.seats → Got table name access i f m found after → found ≡ field (version name after.0.seen) i f
+  loaded : (i : ℕ) (f : FileField) (found : ℕ) (m after : FileHolder) → name < table.seats → Got table name access i f m found after → found ≡ field (version name after.0.seen) i f
   loaded i f found m after low step =
       let l = step.leaves in
-      let seen : after.0.seen ≡ l.past = ap (λ (x : Mine). x.0.seen) l.after_is in
+      let seen : after.0.seen ≡ l.past = ap (λ (x : FileHolder). x.0.seen) l.after_is in
       let held = holds_amount table.seats (reverse l.past) l.lawful name access l.told.stands in
       l.told.found_is ∙ (reads table.seats table.seats name low i f l.past l.lawful l.named (omega (arith, held, amount_some table.seats access (omega (arith, low)))) ∙ ap (λ (p : List FileMark). field (version name p) i f) (sym seen))
 
   -- it stays what it was as more is seen
-  stays : {tells : List FileMark → Type 0} (m after : Mine) → In name m.0.names → Steps table name m [] (Holding access) tells after → version name after.0.seen ≡ version name m.0.seen
+  stays : {tells : List FileMark → Type 0} (m after : FileHolder) → In name m.0.names → Steps table name m [] (Holding access) tells after → version name after.0.seen ≡ version name m.0.seen
   stays m after i step =
       let l = step.leaves in
-      ap (λ (x : Mine). version name x.0.seen) l.after_is ∙ version-sees name m.0.names m.0.seen l.past i l.sees
+      ap (λ (x : FileHolder). version name x.0.seen) l.after_is ∙ version-sees name m.0.names m.0.seen l.past i l.sees
 
 -- a reader has set nothing since
-nothing_set : (table : FileLimits) (name i : ℕ) (f : FileField) (found : ℕ) (m after : Mine) → Got table name Read i f m found after → own_since_take name after.0.seen ≡ []
+nothing_set : (table : FileLimits) (name i : ℕ) (f : FileField) (found : ℕ) (m after : FileHolder) → Got table name Read i f m found after → own_since_take name after.0.seen ≡ []
 nothing_set table name i f found m after step =
     let l = step.leaves in
     let stands = l.told.stands in
-    ap (λ (x : Mine). own_since_take name x.0.seen) l.after_is ∙ own_since-take table.seats name 1 l.past (flat_map kinds_of_call stands.0) stands.1
+    ap (λ (x : FileHolder). own_since_take name x.0.seen) l.after_is ∙ own_since-take table.seats name 1 l.past (flat_map kinds_of_call stands.0) stands.1
 
 -- what a version says, in the words of contracts
 version_is : (name : ℕ) (past : List FileMark) → version name past ≡ prefix_through_take name (reverse past) ++ marks_since_take name (reverse past)
 version_is name past = λ i. sym (prefix_through_take-reverse name past) i ++ sym (marks_since_take-reverse name past) i
 
 -- in a reader's hold
-version_reads : (table : FileLimits) (name : ℕ) (access : Access) (hold : Hold) → hold_for access ≡ hold → (i : ℕ) (f : FileField) (found : ℕ) (m after : Mine) → Got table name access i f m found after → hold ≡ Reading
+version_reads : (table : FileLimits) (name : ℕ) (access : Access) (hold : Hold) → hold_for access ≡ hold → (i : ℕ) (f : FileField) (found : ℕ) (m after : FileHolder) → Got table name access i f m found after → hold ≡ Reading
     → version name after.0.seen ≡ prefix_through_take name (reverse after.0.seen)
 version_reads table name Read hold is i f found m after step reading =
     ap (λ l. reverse (back_from_take name after.0.seen) ++ reverse l) (nothing_set table name i f found m after step) ∙ (append-nil (reverse (back_from_take name after.0.seen)) ∙ sym (prefix_through_take-reverse name after.0.seen))
@@ -183,9 +183,9 @@ version_reads table name Write hold is i f found m after step reading = absurd (
     parted : Writing ≡ Reading → ⊥
     parted e = cc
 
-module _ (object object' : ObjectId) (same : object' ≡ object) (name left : ℕ) (hold : Hold) (m : Mine) (f : IsFileSeat name object.seats hold m) (table : FileLimits) (is : table.seats ≡ object.seats) (old : FileSeatInfo) (old_is : seat_now object name left hold m ≡ old) where
+module _ (object object' : ObjectId) (same : object' ≡ object) (name left : ℕ) (hold : Hold) (m : FileHolder) (f : IsFileSeat name object.seats hold m) (table : FileLimits) (is : table.seats ≡ object.seats) (old : FileSeatInfo) (old_is : seat_now object name left hold m ≡ old) where
   -- the seat's fields after each call
-  pub seat_set : hold ≡ Writing → (i : ℕ) (g : FileField) (v : ℕ) {tells : List FileMark → Type 0} (after : Mine) → Steps table (slice_index m.0.names 0) m (mark (slice_index m.0.names 0) (Set i g v) ∷ []) (Holding Write) tells after
+  pub seat_set : hold ≡ Writing → (i : ℕ) (g : FileField) (v : ℕ) {tells : List FileMark → Type 0} (after : FileHolder) → Steps table (slice_index m.0.names 0) m (mark (slice_index m.0.names 0) (Set i g v) ∷ []) (Holding Write) tells after
       → IsFileSeat name object.seats hold after
   seat_set writing i g v after step =
       let x = one_made f.token table is (Set i g v) (Holding Write) step in
@@ -195,11 +195,11 @@ module _ (object object' : ObjectId) (same : object' ≡ object) (name left : �
   stood_in : (access : Access) → hold_for access ≡ hold → StandsIn object.seats (words_by seat_of kind_of name (reverse m.0.seen)) (Holding access)
   stood_in access for = subst (StandsIn object.seats (words_by seat_of kind_of name (reverse m.0.seen))) (ap phase_of (sym for) ∙ phase_of-hold_for access) f.stands
 
-  pub seat_ended : (access : Access) → hold_for access ≡ hold → {tells : List FileMark → Type 0} (after : Mine) → Steps table (slice_index m.0.names 0) m (mark (slice_index m.0.names 0) Give ∷ []) Idle tells after → IsFileSeat name object.seats Nothing after
+  pub seat_ended : (access : Access) → hold_for access ≡ hold → {tells : List FileMark → Type 0} (after : FileHolder) → Steps table (slice_index m.0.names 0) m (mark (slice_index m.0.names 0) Give ∷ []) Idle tells after → IsFileSeat name object.seats Nothing after
   seat_ended access for after step =
       file_seat_after Nothing f (one_made f.token table is Give Idle step) refl (stands_given object.seats (words_by seat_of kind_of name (reverse m.0.seen)) access (stood_in access for))
 
-  pub seat_got : (access : Access) → hold_for access ≡ hold → (i inode uses : ℕ) (mid after : Mine) → Got table (slice_index m.0.names 0) access i Inode m inode mid → Got table (slice_index mid.0.names 0) access i Uses mid uses after
+  pub seat_got : (access : Access) → hold_for access ≡ hold → (i inode uses : ℕ) (mid after : FileHolder) → Got table (slice_index m.0.names 0) access i Inode m inode mid → Got table (slice_index mid.0.names 0) access i Uses mid uses after
       → IsFileSeat name object.seats hold after
   seat_got access for i inode uses mid after one two =
       let x = none_made f.token table is one in
@@ -207,19 +207,19 @@ module _ (object object' : ObjectId) (same : object' ≡ object) (name left : �
       let same : words_by seat_of kind_of name (reverse m.0.seen) ≡ words_by seat_of kind_of name (reverse m.0.seen) ++ [] = sym (append-nil (words_by seat_of kind_of name (reverse m.0.seen))) in
       file_seat_after hold f (none_then (limits 0 object.seats) name [] x y) (sym (phase_of-hold_for access) ∙ ap phase_of for) (subst (λ (ws : List FileKind). StandsIn object.seats ws (Holding access)) same (stood_in access for))
 
-  pub set_of : (i : ℕ) (g : FileField) (v : ℕ) {tells : List FileMark → Type 0} (after : Mine) → Steps table (slice_index m.0.names 0) m (mark (slice_index m.0.names 0) (Set i g v) ∷ []) (Holding Write) tells after → IsSet i g v old (seat_now object' name left hold after)
+  pub set_of : (i : ℕ) (g : FileField) (v : ℕ) {tells : List FileMark → Type 0} (after : FileHolder) → Steps table (slice_index m.0.names 0) m (mark (slice_index m.0.names 0) (Set i g v) ∷ []) (Holding Write) tells after → IsSet i g v old (seat_now object' name left hold after)
   set_of i g v after step = subst (λ (y : FileSeatInfo). IsSet i g v y (seat_now object' name left hold after)) old_is record {
     leaves = leaves_of object object' same name left hold m after (Set i g v ∷ []) (Holding Write) (one_made f.token table is (Set i g v) (Holding Write) step) left (omega (arith, sum_by-cons one_hold (mark name (Set i g v)) [])) hold;
     hold = refl;
   }
 
-  pub ended_of : {tells : List FileMark → Type 0} (after : Mine) → Steps table (slice_index m.0.names 0) m (mark (slice_index m.0.names 0) Give ∷ []) Idle tells after → IsEnded old (seat_now object' name left Nothing after)
+  pub ended_of : {tells : List FileMark → Type 0} (after : FileHolder) → Steps table (slice_index m.0.names 0) m (mark (slice_index m.0.names 0) Give ∷ []) Idle tells after → IsEnded old (seat_now object' name left Nothing after)
   ended_of after step = subst (λ (y : FileSeatInfo). IsEnded y (seat_now object' name left Nothing after)) old_is record {
     leaves = leaves_of object object' same name left hold m after (Give ∷ []) Idle (one_made f.token table is Give Idle step) left (omega (arith, sum_by-cons one_hold (mark name Give) [])) Nothing;
     hold = refl;
   }
 
-  pub got_of : (access : Access) → hold_for access ≡ hold → (i inode uses : ℕ) (mid after : Mine) → Got table (slice_index m.0.names 0) access i Inode m inode mid → Got table (slice_index mid.0.names 0) access i Uses mid uses after
+  pub got_of : (access : Access) → hold_for access ≡ hold → (i inode uses : ℕ) (mid after : FileHolder) → Got table (slice_index m.0.names 0) access i Inode m inode mid → Got table (slice_index mid.0.names 0) access i Uses mid uses after
       → IsGot i old (seat_now object' name left hold after) (record { inode = inode; uses = uses })
   got_of access for i inode uses mid after one two =
       let first = field_loaded f.token table is access i Inode inode one in
@@ -241,7 +241,7 @@ module _ (object object' : ObjectId) (same : object' ≡ object) (name left : �
 
 -- ---- what a seat holds, by its marks
 
-pub hold_marked : (name seats : ℕ) (hold : Hold) (m : Mine) (object : ObjectId) (stint : ℕ) → object.seats ≡ seats → IsFileSeat name seats hold m → IsHoldOf (seat_info object name stint (reverse m.0.seen)) hold
+pub hold_marked : (name seats : ℕ) (hold : Hold) (m : FileHolder) (object : ObjectId) (stint : ℕ) → object.seats ≡ seats → IsFileSeat name seats hold m → IsHoldOf (seat_info object name stint (reverse m.0.seen)) hold
 hold_marked name seats Nothing m object stint same f = (rest_amount (words_by seat_of kind_of name (reverse m.0.seen)) f.stands, f.stands)
 hold_marked name seats Reading m object stint same f = hold_amount 1 (words_by seat_of kind_of name (reverse m.0.seen)) [] f.stands
 hold_marked name seats Writing m object stint same f = hold_amount seats (words_by seat_of kind_of name (reverse m.0.seen)) f.stands.0 f.stands.1 ∙ sym same

@@ -7,7 +7,6 @@ use native.Mathlib.Decide.{dec_le}
 use mathlib.Core.Option.{some}
 use lib.ListN.{get_elem?}
 use Rattle.atomic_table.specs.Table.{State, Act, keeps, stepped, carried_after, Valid, Allows}
-use Rattle.fak_model.specs.declared.view.View.{View}
 use Rattle.fak_model.specs.declared.file.FileField.{FileField}
 use Rattle.fak_model.specs.declared.file.FileKind.{FileKind}
 use Rattle.fak_model.specs.declared.file.FileKind.TheVariants.{Take, Over, Back, No, Set, Give}
@@ -25,16 +24,16 @@ use Rattle.fak_files.specs.declared.phase.Access.{Access}
 use Rattle.fak_files.specs.declared.phase.Access.TheVariants.{Read, Write}
 use Rattle.fak_files.specs.declared.phase.FilePhase.{FilePhase}
 use Rattle.fak_files.specs.declared.phase.FilePhase.TheVariants.{Idle, Taking, Backing, Holding}
-use Rattle.fak_files.specs.declared.rule.FileLimits.{FileLimits}
+use Rattle.fak_files.specs.declared.limits.FileLimits.{FileLimits}
 use Rattle.fak_files.specs.Phases.{amount_of, StandsIn}
 use Rattle.fak_model.specs.Words.{bias}
 use Rattle.fak_files.specs.Words.{count_place, word_of}
-use Rattle.fak_files.specs.Running.{ShowsHistory, file_object, IsRunning, Mine, mark, Steps, CountIs, Tested, Took, Anything, Withdrew, Gave, FieldIs, Got, WasSet, Compared}
+use Rattle.fak_files.specs.Shown.{FileView, ShowsHistory, file_object, IsShownFile, FileHolder, mark, Steps, CountIs, Tested, Took, Anything, Withdrew, Gave, FieldIs, Got, WasSet, HeardJoin}
 use Rattle.fak_files.proofs.Counts.{count_after, count-push, count_within}
 use Rattle.fak_files.proofs.Grammar.{GoesOn, amounts, refuses, overdraws, withdraws, takes, sets_field, holds_amount, gives_back, stands_other}
-use Rattle.fak_files.proofs.Words.{sub_word, add_word, near_word, words_same, counts_next, fields_next}
+use Rattle.fak_files.proofs.WordPlaces.{sub_word, add_word, near_word, words_same, counts_next, fields_next}
 
-module _ (table : FileLimits) (s : State (Unit {0}) (View FileMark FilePhase)) (r : IsRunning table s) (id n : ℕ) (m : Mine) (at : get_elem? s.views id ≡ some m.0) (one : m.0.names ≡ n ∷ []) (none : m.1 ≡ []) {was : FilePhase} (token : IsSeatToken seat_of table.seats n was 0 m) where
+module _ (table : FileLimits) (s : State (Unit {0}) FileView) (r : IsShownFile table s) (id n : ℕ) (m : FileHolder) (at : get_elem? s.views id ≡ some m.0) (one : m.0.names ≡ n ∷ []) (none : m.1 ≡ []) {was : FilePhase} (token : IsSeatToken seat_of table.seats n was 0 m) where
   -- the history, oldest mark first
   abbrev h : List FileMark
   h = reverse r.core
@@ -62,22 +61,22 @@ module _ (table : FileLimits) (s : State (Unit {0}) (View FileMark FilePhase)) (
       }
 
   -- what a step tells, where the seat has no slot
-  says : {new : List FileMark} {phase : FilePhase} {tells : List FileMark → Type 0} (v : View FileMark FilePhase) → AreOwn seat_of n new → Leaves (file_object table) m new phase 0 m.1 tells (v, m.1) → Steps table n m new phase tells (v, m.1)
+  says : {new : List FileMark} {phase : FilePhase} {tells : List FileMark → Type 0} (v : FileView) → AreOwn seat_of n new → Leaves (file_object table) m new phase 0 m.1 tells (v, m.1) → Steps table n m new phase tells (v, m.1)
   says {new} {phase} {tells} v own l = record {
     leaves = subst (λ (c : List (ℕ × Unit {0})). Leaves (file_object table) m new phase 0 c tells (v, m.1)) none l;
     token = token_after l n one own token none;
   }
 
   -- the table and the seat after a step on word i
-  abbrev Step : ℕ → (ℕ → ℕ) → (ℕ → Mine → Type 0) → Type 0
-  Step i f then = (w : View FileMark FilePhase) × (a : Act (Unit {0})) × Valid s.homes m.1 a × IsRunning table (stepped s i (f (slice_index s.words i)) id m.1 w a) × then (slice_index s.words i) (w, carried_after m.1 a)
+  abbrev Step : ℕ → (ℕ → ℕ) → (ℕ → FileHolder → Type 0) → Type 0
+  Step i f then = (w : FileView) × (a : Act (Unit {0})) × Valid s.homes m.1 a × IsShownFile table (stepped s i (f (slice_index s.words i)) id m.1 w a) × then (slice_index s.words i) (w, carried_after m.1 a)
 
-  abbrev after : List FileMark → FilePhase → View FileMark FilePhase
+  abbrev after : List FileMark → FilePhase → FileView
   after new phase = sight m.0.names (new ++ r.core) phase 0
 
   -- a step with one mark on word i
   leaves : (kind : FileKind) (phase : FilePhase) (i w : ℕ) → GoesOn table.seats h n kind phase → ShowsHistory table (h ++ mark n kind ∷ []) (set s.words i w) → (tells : List FileMark → Type 0) → tells r.core
-      → IsRunning table (stepped s i w id m.1 (after (mark n kind ∷ []) phase) keeps) × Steps table n m (mark n kind ∷ []) phase tells (after (mark n kind ∷ []) phase, m.1)
+      → IsShownFile table (stepped s i w id m.1 (after (mark n kind ∷ []) phase) keeps) × Steps table n m (mark n kind ∷ []) phase tells (after (mark n kind ∷ []) phase, m.1)
   leaves kind phase i w g shows tells told =
       let t = steps (file_object table) s r id n m at one (λ c reached. reached) (mark n kind ∷ r.core) (mark n kind ∷ []) phase (advances kind phase g) i w keeps
       (subst (λ (x : List FileMark). ShowsHistory table x (set s.words i w)) (sym (reverse_cons (mark n kind) r.core)) shows) 0 (omega arith) tells told in
@@ -85,7 +84,7 @@ module _ (table : FileLimits) (s : State (Unit {0}) (View FileMark FilePhase)) (
 
   -- a load, after which the seat stands at this phase
   loads : (phase : FilePhase) (i : ℕ) → StandsIn table.seats (words_by seat_of kind_of n h) phase → (tells : List FileMark → Type 0) → tells r.core
-      → IsRunning table (stepped s i (slice_index s.words i) id m.1 (after [] phase) keeps) × Steps table n m [] phase tells (after [] phase, m.1)
+      → IsShownFile table (stepped s i (slice_index s.words i) id m.1 (after [] phase) keeps) × Steps table n m [] phase tells (after [] phase, m.1)
   loads phase i stands tells told =
       let adv : Advances (file_object table) r.core n r.core [] phase = record { reached = r.reached; past = refl; own = tt; stands = stands; others = λ j p ne x. x } in
       let t = steps (file_object table) s r id n m at one (λ c reached. reached) r.core [] phase adv i (slice_index s.words i) keeps (words_same table h s.words r.encoded i) 0 (omega arith) tells told in
@@ -165,34 +164,34 @@ module _ (table : FileLimits) (s : State (Unit {0}) (View FileMark FilePhase)) (
       (after (mark n kind ∷ []) (Holding Write), keeps, tt, t.0, t.1)
 
 -- each kind, for a table that is named by its step
-module _ (key table : FileLimits) (is : key ≡ table) (slots id n : ℕ) (m : Mine) where
+module _ (key table : FileLimits) (is : key ≡ table) (slots id n : ℕ) (m : FileHolder) where
   -- what is allowed of the table that is named is allowed
-  named : (i : ℕ) (f : ℕ → ℕ) (then : ℕ → Mine → Type 0) → Allows (IsRunning table) slots id m i f then → Allows (IsRunning key) slots id m i f then
-  named i f then allowed = subst (λ (k : FileLimits). Allows (IsRunning k) slots id m i f then) (sym is) allowed
+  named : (i : ℕ) (f : ℕ → ℕ) (then : ℕ → FileHolder → Type 0) → Allows (IsShownFile table) slots id m i f then → Allows (IsShownFile key) slots id m i f then
+  named i f then allowed = subst (λ (k : FileLimits). Allows (IsShownFile k) slots id m i f then) (sym is) allowed
 
-  pub tests_allowed : (access : Access) → IsSeatToken seat_of table.seats n Idle 0 m → Allows (IsRunning key) slots id m count_place (λ x. x) (Tested table n access m)
+  pub tests_allowed : (access : Access) → IsSeatToken seat_of table.seats n Idle 0 m → Allows (IsShownFile key) slots id m count_place (λ x. x) (Tested table n access m)
   tests_allowed access token = named count_place (λ x. x) (Tested table n access m) (λ s r wide at fits. tests_by table s r id n m at (token_names token) (token_slots token) token access (token_phase token) (dec_le (bias + amount_of table.seats access) (slice_index s.words count_place)))
 
-  pub takes_allowed : (access : Access) (amount : ℕ) → amount ≡ amount_of table.seats access → IsSeatToken seat_of table.seats n (Taking access) 0 m → Allows (IsRunning key) slots id m count_place (λ x. (x + (2 ^ 64 - amount)) % 2 ^ 64) (Took table n access m)
-  takes_allowed access amount e token = subst (λ (z : ℕ). Allows (IsRunning key) slots id m count_place (λ x. (x + (2 ^ 64 - z)) % 2 ^ 64) (Took table n access m)) (sym e)
+  pub takes_allowed : (access : Access) (amount : ℕ) → amount ≡ amount_of table.seats access → IsSeatToken seat_of table.seats n (Taking access) 0 m → Allows (IsShownFile key) slots id m count_place (λ x. (x + (2 ^ 64 - amount)) % 2 ^ 64) (Took table n access m)
+  takes_allowed access amount e token = subst (λ (z : ℕ). Allows (IsShownFile key) slots id m count_place (λ x. (x + (2 ^ 64 - z)) % 2 ^ 64) (Took table n access m)) (sym e)
       (named count_place (λ x. (x + (2 ^ 64 - amount_of table.seats access)) % 2 ^ 64) (Took table n access m) (λ s r wide at fits. takes_by table s r id n m at (token_names token) (token_slots token) token access (token_phase token) (dec_le (bias + amount_of table.seats access) (slice_index s.words count_place))))
 
-  pub withdraws_allowed : (access : Access) (amount : ℕ) → amount ≡ amount_of table.seats access → IsSeatToken seat_of table.seats n (Backing access) 0 m → Allows (IsRunning key) slots id m count_place (λ x. (x + amount) % 2 ^ 64) (λ _. Withdrew table n access m)
-  withdraws_allowed access amount e token = subst (λ (z : ℕ). Allows (IsRunning key) slots id m count_place (λ x. (x + z) % 2 ^ 64) (λ _. Withdrew table n access m)) (sym e)
+  pub withdraws_allowed : (access : Access) (amount : ℕ) → amount ≡ amount_of table.seats access → IsSeatToken seat_of table.seats n (Backing access) 0 m → Allows (IsShownFile key) slots id m count_place (λ x. (x + amount) % 2 ^ 64) (λ _. Withdrew table n access m)
+  withdraws_allowed access amount e token = subst (λ (z : ℕ). Allows (IsShownFile key) slots id m count_place (λ x. (x + z) % 2 ^ 64) (λ _. Withdrew table n access m)) (sym e)
       (named count_place (λ x. (x + amount_of table.seats access) % 2 ^ 64) (λ _. Withdrew table n access m) (λ s r wide at fits. withdraws_by table s r id n m at (token_names token) (token_slots token) token access (token_phase token)))
 
-  pub gives_allowed : (access : Access) (amount : ℕ) → amount ≡ amount_of table.seats access → IsSeatToken seat_of table.seats n (Holding access) 0 m → Allows (IsRunning key) slots id m count_place (λ x. (x + amount) % 2 ^ 64) (λ _. Gave table n m)
-  gives_allowed access amount e token = subst (λ (z : ℕ). Allows (IsRunning key) slots id m count_place (λ x. (x + z) % 2 ^ 64) (λ _. Gave table n m)) (sym e)
+  pub gives_allowed : (access : Access) (amount : ℕ) → amount ≡ amount_of table.seats access → IsSeatToken seat_of table.seats n (Holding access) 0 m → Allows (IsShownFile key) slots id m count_place (λ x. (x + amount) % 2 ^ 64) (λ _. Gave table n m)
+  gives_allowed access amount e token = subst (λ (z : ℕ). Allows (IsShownFile key) slots id m count_place (λ x. (x + z) % 2 ^ 64) (λ _. Gave table n m)) (sym e)
       (named count_place (λ x. (x + amount_of table.seats access) % 2 ^ 64) (λ _. Gave table n m) (λ s r wide at fits. gives_by table s r id n m at (token_names token) (token_slots token) token access (token_phase token)))
 
-  pub gets_allowed : (access : Access) (i : ℕ) (f : FileField) (place : ℕ) → place ≡ word_of i f → i < table.entries → IsSeatToken seat_of table.seats n (Holding access) 0 m → Allows (IsRunning key) slots id m place (λ x. x) (Got table n access i f m)
-  gets_allowed access i f place e low token = subst (λ (z : ℕ). Allows (IsRunning key) slots id m z (λ x. x) (Got table n access i f m)) (sym e)
+  pub gets_allowed : (access : Access) (i : ℕ) (f : FileField) (place : ℕ) → place ≡ word_of i f → i < table.entries → IsSeatToken seat_of table.seats n (Holding access) 0 m → Allows (IsShownFile key) slots id m place (λ x. x) (Got table n access i f m)
+  gets_allowed access i f place e low token = subst (λ (z : ℕ). Allows (IsShownFile key) slots id m z (λ x. x) (Got table n access i f m)) (sym e)
       (named (word_of i f) (λ x. x) (Got table n access i f m) (λ s r wide at fits. gets_by table s r id n m at (token_names token) (token_slots token) token access (token_phase token) i f low))
 
-  pub sets_allowed : (i : ℕ) (f : FileField) (v to place : ℕ) → place ≡ word_of i f → to ≡ v → i < table.entries → IsSeatToken seat_of table.seats n (Holding Write) 0 m → Allows (IsRunning key) slots id m place (λ _. to) (λ _. WasSet table n i f v m)
-  sets_allowed i f v to place e same low token = subst (λ (z : ℕ × ℕ). Allows (IsRunning key) slots id m z.0 (λ _. z.1) (λ _. WasSet table n i f v m)) (λ t. (sym e t, sym same t))
+  pub sets_allowed : (i : ℕ) (f : FileField) (v to place : ℕ) → place ≡ word_of i f → to ≡ v → i < table.entries → IsSeatToken seat_of table.seats n (Holding Write) 0 m → Allows (IsShownFile key) slots id m place (λ _. to) (λ _. WasSet table n i f v m)
+  sets_allowed i f v to place e same low token = subst (λ (z : ℕ × ℕ). Allows (IsShownFile key) slots id m z.0 (λ _. z.1) (λ _. WasSet table n i f v m)) (λ t. (sym e t, sym same t))
       (named (word_of i f) (λ _. v) (λ _. WasSet table n i f v m) (λ s r wide at fits. sets_by table s r id n m at (token_names token) (token_slots token) token (token_phase token) i f v low))
 
   -- the load after a join
-  pub compares_allowed : (i : ℕ) → Allows (IsRunning key) slots id m i (λ x. x) (λ _. Compared table m)
-  compares_allowed i = named i (λ x. x) (λ _. Compared table m) (hears (file_object table) (λ c reached. reached) slots id m i)
+  pub hears_allowed : (i : ℕ) → Allows (IsShownFile key) slots id m i (λ x. x) (λ _. HeardJoin table m)
+  hears_allowed i = named i (λ x. x) (λ _. HeardJoin table m) (hears (file_object table) (λ c reached. reached) slots id m i)

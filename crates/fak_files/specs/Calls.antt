@@ -17,7 +17,7 @@ use Rattle.fak_files.specs.declared.phase.Hold.TheVariants.{Nothing, Reading, Wr
 use Rattle.fak_files.specs.declared.fault.FileFault.{FileFault}
 use Rattle.fak_files.specs.declared.fault.FileFault.TheVariants.{Worn, Busy}
 use Rattle.fak_files.specs.Phases.{amount_of, hold_for}
-use Rattle.fak_files.specs.Running.{mark}
+use Rattle.fak_files.specs.Shown.{mark}
 use Rattle.fak_files.specs.Versions.{entry_of, prefix_through_take, marks_since_take}
 
 -- ---- what callers see

@@ -1,6 +1,6 @@
 pub mod Phases
 pub mod Words
-pub mod Running
+pub mod Shown
 pub mod Versions
 pub mod Calls
 pub mod SeatTokens

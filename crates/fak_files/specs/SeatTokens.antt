@@ -13,15 +13,15 @@ use Rattle.fak_files.specs.declared.phase.FilePhase.{FilePhase}
 use Rattle.fak_files.specs.declared.phase.FilePhase.TheVariants.{Idle}
 use Rattle.fak_files.specs.declared.phase.Hold.{Hold}
 use Rattle.fak_files.specs.Phases.{phase_of, StandsIn}
-use Rattle.fak_files.specs.Running.{Mine, mark}
+use Rattle.fak_files.specs.Shown.{FileHolder, mark}
 use Rattle.fak_files.specs.Calls.{FileSeatInfo, file_seat, holds_of}
 
 -- a seat of this object, with so many holds left of its stint
-abbrev pub seat_now : ObjectId → ℕ → ℕ → Hold → Mine → FileSeatInfo
+abbrev pub seat_now : ObjectId → ℕ → ℕ → Hold → FileHolder → FileSeatInfo
 seat_now object name left hold me = file_seat (seat_info object name (left + holds_of name (reverse me.0.seen)) (reverse me.0.seen)) hold
 
 -- what a seat's fields keep
-pub record IsFileSeat (name seats : ℕ) (hold : Hold) (me : Mine) : Type 0 where
+pub record IsFileSeat (name seats : ℕ) (hold : Hold) (me : FileHolder) : Type 0 where
   pub token : IsSeatToken seat_of seats name (phase_of hold) 0 me
   pub lawful : IsFileHistory seats (reverse me.0.seen)
   pub stands : StandsIn seats (words_by seat_of kind_of name (reverse me.0.seen)) (phase_of hold)
@@ -32,15 +32,15 @@ pub record IsSettled (seats : ℕ) (names : List ℕ) (seen : List FileMark) : T
   pub rest : AreBetweenCalls (file_rules seats) names seen
 
 -- a seat's token made steps that left these kinds of mark, and stands at this phase now
-pub record Makes (seats name : ℕ) (kinds : List FileKind) (phase : FilePhase) (m after : Mine) : Type 0 where
+pub record Makes (seats name : ℕ) (kinds : List FileKind) (phase : FilePhase) (m after : FileHolder) : Type 0 where
   pub appends : (object : ObjectId) (stint : ℕ) → object.seats ≡ seats → Appends (file_rules seats) (map (mark name) kinds) (seat_info object name stint (reverse m.0.seen)) (seat_info object name stint (reverse after.0.seen))
   pub token : IsSeatToken seat_of seats name phase 0 after
 
 -- what stood before the first mark of these steps
-abbrev pub before_steps : ℕ → Mine → Mine → List FileMark
+abbrev pub before_steps : ℕ → FileHolder → FileHolder → List FileMark
 before_steps name m after = before_mark seat_of name (length (marks_of seat_of name (reverse m.0.seen)) + 0) (reverse after.0.seen)
 
 -- a claim of so much was refused, or withdrawn
-pub record Misses (seats name n : ℕ) (m after : Mine) (answer : ℤ) : Type 0 where
+pub record Misses (seats name n : ℕ) (m after : FileHolder) (answer : ℤ) : Type 0 where
   pub makes : Makes seats name (No n ∷ []) Idle m after ⊎ Makes seats name (Over n ∷ Back n ∷ []) Idle m after
   pub answers : answer ≡ count seats (before_steps name m after)

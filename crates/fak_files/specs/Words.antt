@@ -3,7 +3,7 @@ use Rattle.std.specs.Prelude.{ℕ, ◌≡◌, ◌+◌, ◌*◌}
 use Rattle.atomic_table.specs.Seated.{TableId}
 use Rattle.fak_model.specs.declared.file.FileField.{FileField}
 use Rattle.fak_model.specs.declared.file.FileField.TheVariants.{Inode, Uses}
-use Rattle.fak_files.specs.declared.rule.FileLimits.{FileLimits}
+use Rattle.fak_files.specs.declared.limits.FileLimits.{FileLimits}
 
 -- the place of the count among the words, and that of the first field
 abbrev pub count_place : ℕ

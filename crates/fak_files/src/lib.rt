@@ -13,21 +13,24 @@
 //!
 //! `docs/CALLING.md` is the guide for callers.
 
-mod claim;
+mod admission;
+mod ending;
 mod fault;
 pub mod laws;
-mod open;
+mod limits;
+mod opening;
 mod phase;
+mod plays;
 mod rest;
 mod rule;
 mod seat;
-mod step;
+mod steps;
 mod table;
 mod tally;
 #[cfg(test)]
 mod tests;
-mod wait;
-mod word;
+mod waiting;
+mod words;
 
 pub use fak_model::{FileEntry, FileField};
 pub use fault::{FileFault, OpenFault, Worn};

@@ -4,7 +4,7 @@ ghost use Rattle.std.specs.Prelude.{◌≡◌};
 ghost use Rattle.fak_files.specs.Calls.{IsHoldOf};
 
 use crate::phase::Hold;
-use crate::step::FileToken;
+use crate::steps::FileToken;
 use std::marker::Model;
 
 /// The right to hold a `FileTable`, as often as its stint says. Contracts see its object, its name, its stint, the

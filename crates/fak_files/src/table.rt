@@ -6,12 +6,13 @@ ghost use Rattle.fak_files.specs.Phases.{hold_for};
 ghost use Rattle.fak_files.specs.declared.phase.Access.TheVariants.{Read, Write};
 ghost use Rattle.fak_files.specs.declared.phase.Hold.TheVariants.{Nothing, Reading, Writing};
 
-use crate::claim::claim;
+use crate::admission::admit;
 use crate::fault::FileFault;
+use crate::limits::FileLimits;
 use crate::phase::{Access, Hold};
-use crate::rule::{FileLaw, FileLimits, FileView};
+use crate::rule::{FileRule, FileView};
 use crate::seat::FileSeat;
-use crate::step::{get_field, give, set_field};
+use crate::steps::{get_field, give, set_field};
 use atomic_table::Table;
 use fak_model::{FileEntry, FileField};
 use std::alloc::Global;
@@ -20,7 +21,7 @@ use std::marker::{Brand, Model};
 /// Entries that many seats may read at once, or one seat may write.
 #[derive(Drop)]
 pub struct FileTable {
-    pub(crate) table: Table<(), FileView, FileLimits, FileLaw, Global>,
+    pub(crate) table: Table<(), FileView, FileLimits, FileRule, Global>,
     pub(crate) entries: u64,
 }
 
@@ -40,17 +41,17 @@ impl Model for FileTable {
 impl FileTable {
     // A hold for this access, or why it is refused.
     pub(crate) fn try_hold(&self, seat: &mut FileSeat, access: Access) -> Result<(), FileFault>
-        requires table { IsFileSeatOf self.now.object seat.old }
-        requires free { seat.old.hold ≡ Nothing }
+        requires object { IsFileSeatOf self.now.object seat.old }
+        requires idle { seat.old.hold ≡ Nothing }
         ensures call { MatchResult result (λ _. IsGranted access seat.old seat.new) (λ fault. IsRefused access seat.old seat.new fault) }
         ensures hold { seat.new.hold ≡ (if is_ok result then hold_for access else Nothing) }
-        ensures table { seat.new.seat.object ≡ self.now.object }
+        ensures object { seat.new.seat.object ≡ self.now.object }
     {
         if seat.left == 0 {
             return Err(FileFault::Worn);
         }
         let amount = access.amount(seat.seats);
-        match claim::<Brand>(&self.table.shared, &mut seat.token, amount, access) {
+        match admit::<Brand>(&self.table.shared, &mut seat.token, amount, access) {
             Err(count) => Err(FileFault::Busy(count)),
             Ok(()) => {
                 seat.left -= 1;
@@ -65,11 +66,11 @@ impl FileTable {
     /// `Worn` where the seat has had as many holds as its stint; `Busy` with the count that was found, where a writer
     /// holds or has just tried to.
     pub fn try_read(&self, seat: &mut FileSeat) -> Result<(), FileFault>
-        requires table { IsFileSeatOf self.now.object seat.old }
-        requires free { seat.old.hold ≡ Nothing }
+        requires object { IsFileSeatOf self.now.object seat.old }
+        requires idle { seat.old.hold ≡ Nothing }
         ensures call { MatchResult result (λ _. IsGranted Read seat.old seat.new) (λ fault. IsRefused Read seat.old seat.new fault) }
         ensures hold { seat.new.hold ≡ (if is_ok result then Reading else Nothing) }
-        ensures table { seat.new.seat.object ≡ self.now.object }
+        ensures object { seat.new.seat.object ≡ self.now.object }
     {
         self.try_hold(seat, Access::Read)
     }
@@ -79,23 +80,23 @@ impl FileTable {
     /// `Worn` where the seat has had as many holds as its stint; `Busy` with the count that was found, where others
     /// hold or have just tried to.
     pub fn try_write(&self, seat: &mut FileSeat) -> Result<(), FileFault>
-        requires table { IsFileSeatOf self.now.object seat.old }
-        requires free { seat.old.hold ≡ Nothing }
+        requires object { IsFileSeatOf self.now.object seat.old }
+        requires idle { seat.old.hold ≡ Nothing }
         ensures call { MatchResult result (λ _. IsGranted Write seat.old seat.new) (λ fault. IsRefused Write seat.old seat.new fault) }
         ensures hold { seat.new.hold ≡ (if is_ok result then Writing else Nothing) }
-        ensures table { seat.new.seat.object ≡ self.now.object }
+        ensures object { seat.new.seat.object ≡ self.now.object }
     {
         self.try_hold(seat, Access::Write)
     }
 
     /// The entry `i`, in a hold: what it was when the hold was granted, and what the seat has set since.
     pub fn get(&self, seat: &mut FileSeat, i: u64) -> FileEntry
-        requires table { IsFileSeatOf self.now.object seat.old }
+        requires object { IsFileSeatOf self.now.object seat.old }
         requires held { seat.old.hold ≢ Nothing }
         requires entry { i < self.now.entries }
         ensures call { IsGot i seat.old seat.new result }
         ensures hold { seat.new.hold ≡ seat.old.hold }
-        ensures table { seat.new.seat.object ≡ self.now.object }
+        ensures object { seat.new.seat.object ≡ self.now.object }
     {
         let access = seat.hold.access();
         let words = &self.table.shared;
@@ -106,23 +107,23 @@ impl FileTable {
 
     /// Sets a field of the entry `i`, in a writer's hold.
     pub fn set(&self, seat: &mut FileSeat, i: u64, field: FileField, to: u64)
-        requires table { IsFileSeatOf self.now.object seat.old }
+        requires object { IsFileSeatOf self.now.object seat.old }
         requires held { seat.old.hold ≡ Writing }
         requires entry { i < self.now.entries }
         ensures call { IsSet i field to seat.old seat.new }
         ensures hold { seat.new.hold ≡ Writing }
-        ensures table { seat.new.seat.object ≡ self.now.object }
+        ensures object { seat.new.seat.object ≡ self.now.object }
     {
         set_field::<Brand>(&self.table.shared, &mut seat.token, i, field, to);
     }
 
     /// Gives the hold back.
     pub fn end(&self, seat: &mut FileSeat)
-        requires table { IsFileSeatOf self.now.object seat.old }
+        requires object { IsFileSeatOf self.now.object seat.old }
         requires held { seat.old.hold ≢ Nothing }
         ensures call { IsEnded seat.old seat.new }
         ensures hold { seat.new.hold ≡ Nothing }
-        ensures table { seat.new.seat.object ≡ self.now.object }
+        ensures object { seat.new.seat.object ≡ self.now.object }
     {
         let access = seat.hold.access();
         let amount = access.amount(seat.seats);

@@ -4,15 +4,13 @@ ghost use Rattle.std.specs.Prelude.{◌≡◌, ◌↔◌, IsTrue};
 ghost use Rattle.fak_model.specs.Histories.{AreNamed, IsAtRest};
 ghost use Rattle.fak_model.specs.File.{IsFileHistory, seat_of, file_rules};
 ghost use Rattle.fak_model.specs.Seats.{IsWhole, mine};
-ghost use Rattle.fak_model.specs.Calls.{tally_of, IsJoined};
-ghost use Rattle.fak_files.specs.Calls.{IsFileSeatOf};
+ghost use Rattle.fak_model.specs.Calls.{tally_of};
 ghost use Rattle.fak_files.specs.declared.phase.Hold.TheVariants.{Nothing};
 
 use crate::seat::FileSeat;
-use crate::step::{FileToken, compare};
-use crate::table::FileTable;
-use fak_model::{Both, NameSet};
-use std::marker::{Brand, Model};
+use crate::steps::FileToken;
+use fak_model::NameSet;
+use std::marker::Model;
 
 /// Seats of a file table that make no calls any more. Contracts see their object, their names, and the longest
 /// history that one of them has seen.
@@ -72,37 +70,5 @@ impl FileTally {
         ensures rest { IsTrue result → IsAtRest (file_rules self.now.object.seats) self.now.seen }
     {
         self.names.has_all(self.seats)
-    }
-}
-
-impl FileTable {
-    /// The tally with one more seat, which holds nothing.
-    pub fn join(&self, tally: FileTally, seat: FileSeat) -> FileTally
-        requires table { (tally.object ≡ self.now.object) × IsFileSeatOf self.now.object seat }
-        requires free { seat.hold ≡ Nothing }
-        ensures joined { IsJoined (file_rules self.now.object.seats) tally seat.seat result }
-        ensures table { result.object ≡ self.now.object }
-    {
-        let FileTally {
-            mut token,
-            mut names,
-            seats,
-        } = tally;
-        let FileSeat {
-            token: other,
-            name,
-            seats: _,
-            left: _,
-            hold: _,
-        } = seat;
-        let words = &self.table.shared;
-        words.join_seat::<Both>(&mut token, other);
-        compare::<Brand>(words, &mut token);
-        names.insert(name);
-        FileTally {
-            token,
-            names,
-            seats,
-        }
     }
 }

@@ -259,10 +259,10 @@ fn meet(here: &AtomicU64) {
 
 // So many writer's holds, the j-th of which sets both fields of entry 0 to j.
 fn write_in_turn<R: Wait>(rt: &R, table: &FileTable, mut seat: FileSeat, count: u64) -> FileSeat
-    requires table { (seat.seat.object ≡ table.now.object) × (0 < table.now.entries) }
-    requires free { seat.hold ≡ Nothing }
+    requires object { (seat.seat.object ≡ table.now.object) × (0 < table.now.entries) }
+    requires idle { seat.hold ≡ Nothing }
     ensures table { result.seat.object ≡ table.now.object }
-    ensures free { result.hold ≡ Nothing }
+    ensures idle { result.hold ≡ Nothing }
 {
     for j in 0..count {
         let Ok(()) = table.write(rt, &mut seat) else {
@@ -283,10 +283,10 @@ fn read_in_turn<R: Wait>(
     mut seat: FileSeat,
     count: u64,
 ) -> (FileSeat, bool)
-    requires table { (seat.seat.object ≡ table.now.object) × (0 < table.now.entries) }
-    requires free { seat.hold ≡ Nothing }
+    requires object { (seat.seat.object ≡ table.now.object) × (0 < table.now.entries) }
+    requires idle { seat.hold ≡ Nothing }
     ensures table { result.0.seat.object ≡ table.now.object }
-    ensures free { result.0.hold ≡ Nothing }
+    ensures idle { result.0.hold ≡ Nothing }
 {
     let mut last = 0;
     for _ in 0..count {
@@ -306,8 +306,8 @@ fn read_in_turn<R: Wait>(
 
 // Both in threads, and what the joined seats and the closed table show then.
 fn run_two<R: Threads + Wait + Sync>(rt: &R, table: FileTable, a: FileSeat, b: FileSeat) -> bool
-    requires table { (a.seat.object ≡ table.object) × (b.seat.object ≡ table.object) × (table.entries ≡ 1) }
-    requires free { (a.hold ≡ Nothing) × (b.hold ≡ Nothing) }
+    requires object { (a.seat.object ≡ table.object) × (b.seat.object ≡ table.object) × (table.entries ≡ 1) }
+    requires idle { (a.hold ≡ Nothing) × (b.hold ≡ Nothing) }
 {
     let shared = &table;
     let arrived = AtomicU64::new(0);

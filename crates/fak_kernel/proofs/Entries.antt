@@ -9,7 +9,7 @@ use Rattle.fak_model.specs.declared.file.FileMark.{FileMark}
 use Rattle.fak_model.specs.File.{field, field_after}
 use Rattle.fak_files.specs.Versions.{entry_of}
 use Rattle.fak_files.specs.Calls.{entries_after}
-use Rattle.fak_files.proofs.Words.{field-push}
+use Rattle.fak_files.proofs.WordPlaces.{field-push}
 use Rattle.fak_kernel.specs.Holds.{with_field, set_in}
 
 -- the fields of an entry make it

@@ -23,7 +23,7 @@ use Rattle.fak_kernel.specs.Ledger.{nothing}
 use Rattle.fak_kernel.specs.Holding.{Owns, queue_kind}
 use Rattle.fak_kernel.specs.Turning.{Turning}
 use Rattle.fak_kernel.specs.Only.{IsOnly}
-use Rattle.fak_kernel.specs.OnlyCounts.{IsOnlySem, count_of, sleepers_of}
+use Rattle.fak_kernel.specs.OnlyCounts.{IsOnlySem, semaphore_count, sleepers_of}
 use Rattle.fak_kernel.specs.Processors.{ObjectsOf, AreFor, AreOf, GoesTo, IsAlone, ids_of, ids_of_seats}
 use Rattle.fak_kernel.specs.Moving.{bundle_of}
 use Rattle.fak_kernel.specs.Joined.{no_seat, no_table}
@@ -120,9 +120,9 @@ nobody_at stint [] n = refl
 nobody_at stint (o ∷ ids) zero = refl
 nobody_at stint (o ∷ ids) (suc n) = nobody_at stint ids n
 
-counts_fresh : (stint : ℕ) (sems : List SemInfo) → map count_of (map (fresh_sem_at stint 0) (ids_of sems)) ≡ map (λ (s : SemInfo). s.object.start) sems
+counts_fresh : (stint : ℕ) (sems : List SemInfo) → map semaphore_count (map (fresh_sem_at stint 0) (ids_of sems)) ≡ map (λ (s : SemInfo). s.object.start) sems
 counts_fresh stint [] = refl
-counts_fresh stint (s ∷ sems) = let here : (s.object.start + 0) - 0 ≡ s.object.start = omega arith in ap (λ n. n ∷ map count_of (map (fresh_sem_at stint 0) (ids_of sems))) here ∙ ap (λ l. s.object.start ∷ l) (counts_fresh stint sems)
+counts_fresh stint (s ∷ sems) = let here : (s.object.start + 0) - 0 ≡ s.object.start = omega arith in ap (λ n. n ∷ map semaphore_count (map (fresh_sem_at stint 0) (ids_of sems))) here ∙ ap (λ l. s.object.start ∷ l) (counts_fresh stint sems)
 
 sleepers_fresh : (stint : ℕ) (sems : List SemInfo) → map sleepers_of (map (fresh_sem_at stint 0) (ids_of sems)) ≡ map (λ _. []) (map (λ (s : SemInfo). s.object.start) sems)
 sleepers_fresh stint [] = refl

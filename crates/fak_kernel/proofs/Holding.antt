@@ -18,13 +18,13 @@ use Rattle.fak_model.proofs.Appending.{history_none}
 use Rattle.fak_model.proofs.Seats.{marks_of_append}
 use Rattle.fak_files.specs.declared.phase.Access.{Access}
 use Rattle.fak_files.specs.declared.phase.Access.TheVariants.{Write}
-use Rattle.fak_files.specs.Running.{mark}
+use Rattle.fak_files.specs.Shown.{mark}
 use Rattle.fak_files.specs.Versions.{entry_of, is_take, is_take_of, prefix_through_take, marks_since_take}
 use Rattle.fak_files.specs.Calls.{FileSeatInfo, LeavesMarks, amount_for, AreRefused, IsWaitedFor, IsGot, entries_after}
 use Rattle.fak_files.proofs.HoldLaws.{reads_stay, take_reads}
 use Rattle.fak_text.specs.Journal.{NoteOf}
 use Rattle.fak_kernel.specs.Replays.{Steps}
-use Rattle.fak_kernel.specs.Holds.{set_all, IsFitHold, is_of_hold, held_kinds, kinds_of_hold, reads_from, reads_of, line_of, read_of, AreHolds}
+use Rattle.fak_kernel.specs.Holds.{set_all, IsFitHold, is_of_hold, held_kinds, kinds_of_hold, reads_from, reads_of, hold_line, read_of, AreHolds}
 use Rattle.fak_kernel.specs.Making.{Left, HasJustTaken, HasMade, AreLines}
 use Rattle.fak_kernel.proofs.Entries.{entries-same}
 
@@ -282,7 +282,7 @@ lines_more n lines line a b x y =
     } in
     record {
       holds = x.holds ++ y.hold ∷ [];
-      lines_are = map-append line_of x.holds (y.hold ∷ []) ∙ (λ i. x.lines_are i ++ y.line_is i ∷ []);
+      lines_are = map-append hold_line x.holds (y.hold ∷ []) ∙ (λ i. x.lines_are i ++ y.line_is i ∷ []);
       are = subst (λ (s : SeatInfo FileMark). AreHolds n s.object.seats s.name (x.holds ++ y.hold ∷ []) b.seen) (sym seat) are;
       lawful = subst (λ (s : SeatInfo FileMark). IsFileHistory s.object.seats b.seen) (sym seat) y.lawful;
       named = subst (λ (s : SeatInfo FileMark). AreNamed (file_rules s.object.seats) s.object.seats b.seen) (sym seat) y.named;

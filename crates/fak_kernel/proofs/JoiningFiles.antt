@@ -14,7 +14,7 @@ use Rattle.fak_model.specs.Seats.{In, Knows, marks_of}
 use Rattle.fak_text.specs.Journal.{NoteOf}
 use Rattle.fak_kernel.specs.Ledger.{Ledger, joined}
 use Rattle.fak_kernel.specs.Holding.{JoinedTo}
-use Rattle.fak_kernel.specs.Holds.{FileHold, AreHolds, held_kinds, line_of, gather_from}
+use Rattle.fak_kernel.specs.Holds.{FileHold, AreHolds, held_kinds, hold_line, gather_from}
 use Rattle.fak_kernel.specs.Making.{AreLines, Left}
 use Rattle.fak_kernel.specs.Reported.{is_file_line, file_lines}
 use Rattle.fak_kernel.specs.Moving.{files_of}
@@ -68,7 +68,7 @@ files_first n seats s lines name seats_are x = record {
       subst (λ (y : ℕ). AreHolds n seats y x.holds s.seen) zeroth (subst (λ (y : ℕ). AreHolds n y s.name x.holds s.seen) seats_are x.are);
   lawful = subst (λ (y : ℕ). IsFileHistory y s.seen) seats_are x.lawful;
   named = subst (λ (y : ℕ). AreNamed (file_rules y) y s.seen) seats_are x.named;
-  often = λ weight. ap (sum_by weight) (append-nil (map line_of x.holds) ∙ x.lines_are);
+  often = λ weight. ap (sum_by weight) (append-nil (map hold_line x.holds) ∙ x.lines_are);
 }
 
 module _ {n seats k : ℕ} {t both : TallyInfo FileMark} {s : SeatInfo FileMark} {lines more : List NoteOf} where
@@ -96,16 +96,16 @@ module _ {n seats k : ℕ} {t both : TallyInfo FileMark} {s : SeatInfo FileMark}
           let new : AreHolds n seats i x.holds both.seen = subst (λ (y : ℕ). AreHolds n seats y x.holds both.seen) last there in
           rw is new
 
-      before : (i : ℕ) → 0 ≤ i → i < 0 + k → map line_of (holds i) ≡ map line_of (f.holds i)
+      before : (i : ℕ) → 0 ≤ i → i < 0 + k → map hold_line (holds i) ≡ map hold_line (f.holds i)
       before i low high = let is : nat_lt i k ≡ true = grind (arith, nat_tests) in rw is refl
 
-      often : (weight : NoteOf → ℕ) → sum_by weight (gather_from (λ i. map line_of (holds i)) 0 (suc k)) ≡ sum_by weight (lines ++ more)
+      often : (weight : NoteOf → ℕ) → sum_by weight (gather_from (λ i. map hold_line (holds i)) 0 (suc k)) ≡ sum_by weight (lines ++ more)
       often weight =
           let own : nat_lt k k ≡ false = grind (arith, nat_tests) in
           let plus : 0 + k ≡ k = omega arith in
-          let here : map line_of (holds k) ≡ more = rw own x.lines_are in
-          let last : map line_of (holds (0 + k)) ≡ more = ap (λ j. map line_of (holds j)) plus ∙ here in
-          let same : gather_from (λ i. map line_of (holds i)) 0 k ≡ gather_from (λ i. map line_of (f.holds i)) 0 k = gather_same (λ i. map line_of (holds i)) (λ i. map line_of (f.holds i)) 0 k before in
-          let split = gather_push (λ i. map line_of (holds i)) 0 k in
-          let whole : gather_from (λ i. map line_of (holds i)) 0 (suc k) ≡ gather_from (λ i. map line_of (f.holds i)) 0 k ++ more = split ∙ (λ i. same i ++ last i) in
-          ap (sum_by weight) whole ∙ (sum_by-append weight (gather_from (λ i. map line_of (f.holds i)) 0 k) more ∙ (ap (λ y. y + sum_by weight more) (f.often weight) ∙ sym (sum_by-append weight lines more)))
+          let here : map hold_line (holds k) ≡ more = rw own x.lines_are in
+          let last : map hold_line (holds (0 + k)) ≡ more = ap (λ j. map hold_line (holds j)) plus ∙ here in
+          let same : gather_from (λ i. map hold_line (holds i)) 0 k ≡ gather_from (λ i. map hold_line (f.holds i)) 0 k = gather_same (λ i. map hold_line (holds i)) (λ i. map hold_line (f.holds i)) 0 k before in
+          let split = gather_push (λ i. map hold_line (holds i)) 0 k in
+          let whole : gather_from (λ i. map hold_line (holds i)) 0 (suc k) ≡ gather_from (λ i. map hold_line (f.holds i)) 0 k ++ more = split ∙ (λ i. same i ++ last i) in
+          ap (sum_by weight) whole ∙ (sum_by-append weight (gather_from (λ i. map hold_line (f.holds i)) 0 k) more ∙ (ap (λ y. y + sum_by weight more) (f.often weight) ∙ sym (sum_by-append weight lines more)))

@@ -12,7 +12,7 @@ use Rattle.fak_text.specs.Script.{ScriptOf, down}
 use Rattle.fak_text.specs.Journal.{Process, StandsAt, after_note, downed}
 use Rattle.fak_kernel.specs.Contexts.{WaitAtTheirs}
 use Rattle.fak_kernel.proofs.Waiting.{AllAtTheirs-same, AllAtTheirs-push, AllAtTheirs-pop}
-use Rattle.fak_kernel.specs.OnlyCounts.{IsOnlySem, IsOnlyRoom, Passes, Parks, Raises, Rouses, Claims, FindsFull, GivesBack, count_of, sleepers_of}
+use Rattle.fak_kernel.specs.OnlyCounts.{IsOnlySem, IsOnlyRoom, Passes, Parks, Raises, Rouses, Claims, FindsFull, GivesBack, semaphore_count, sleepers_of}
 use Rattle.fak_kernel.specs.Processors.{ObjectsOf, ProcessorOf, AreFor, IsAlone, lists_of, GoesTo, AtPlace, IsBorn, HasNoBirth, WakesNobody, WakesFirst, SleepsLast, CountFalls}
 use Rattle.fak_kernel.proofs.Places.{alike_after}
 
@@ -55,8 +55,8 @@ module _ {script : ScriptOf} (p : ProcessorOf) (alone : IsAlone script p) (at : 
   sleepers_at : (was : SemSeatInfo Process) → was ≡ slice_index_or p.semaphores at was → slice_index_or (map sleepers_of p.semaphores) at [] ≡ sleepers_of was
   sleepers_at was is = get_or-map sleepers_of p.semaphores at was [] below ∙ ap sleepers_of (sym is)
 
-  count_at : (was : SemSeatInfo Process) → was ≡ slice_index_or p.semaphores at was → slice_index (map count_of p.semaphores) at ≡ count_of was
-  count_at was is = get_or-map count_of p.semaphores at was 0 below ∙ ap count_of (sym is)
+  count_at : (was : SemSeatInfo Process) → was ≡ slice_index_or p.semaphores at was → slice_index (map semaphore_count p.semaphores) at ≡ semaphore_count was
+  count_at was is = get_or-map semaphore_count p.semaphores at was 0 below ∙ ap semaphore_count (sym is)
 
   inside : at < length (map sleepers_of p.semaphores)
   inside = let n = length-map p.semaphores sleepers_of in omega (arith, n, below)
@@ -72,11 +72,11 @@ module _ {script : ScriptOf} (p : ProcessorOf) (alone : IsAlone script p) (at : 
     files = alone.files;
   }
 
-  counts_after : {call : SemSeatInfo Process → SemSeatInfo Process → Type 0} (a : AtPlace at p.semaphores sems call) (n : ℕ) → count_of a.is ≡ n → map count_of sems ≡ slice_set (map count_of p.semaphores) at n
-  counts_after a n is = ap (map count_of) a.stands ∙ (map-set count_of p.semaphores at a.is ∙ ap (slice_set (map count_of p.semaphores) at) is)
+  counts_after : {call : SemSeatInfo Process → SemSeatInfo Process → Type 0} (a : AtPlace at p.semaphores sems call) (n : ℕ) → semaphore_count a.is ≡ n → map semaphore_count sems ≡ slice_set (map semaphore_count p.semaphores) at n
+  counts_after a n is = ap (map semaphore_count) a.stands ∙ (map-set semaphore_count p.semaphores at a.is ∙ ap (slice_set (map semaphore_count p.semaphores) at) is)
 
-  counts_same : {call : SemSeatInfo Process → SemSeatInfo Process → Type 0} (a : AtPlace at p.semaphores sems call) → count_of a.is ≡ count_of a.was → map count_of sems ≡ map count_of p.semaphores
-  counts_same a same = ap (map count_of) a.stands ∙ alike_after count_of p.semaphores at a.was a.is a.stood same
+  counts_same : {call : SemSeatInfo Process → SemSeatInfo Process → Type 0} (a : AtPlace at p.semaphores sems call) → semaphore_count a.is ≡ semaphore_count a.was → map semaphore_count sems ≡ map semaphore_count p.semaphores
+  counts_same a same = ap (map semaphore_count) a.stands ∙ alike_after semaphore_count p.semaphores at a.was a.is a.stood same
 
   sleepers_after : {call : SemSeatInfo Process → SemSeatInfo Process → Type 0} (a : AtPlace at p.semaphores sems call) (l : List Process) → sleepers_of a.is ≡ l → map sleepers_of sems ≡ slice_set (map sleepers_of p.semaphores) at l
   sleepers_after a l is = ap (map sleepers_of) a.stands ∙ (map-set sleepers_of p.semaphores at a.is ∙ ap (slice_set (map sleepers_of p.semaphores) at) is)
@@ -86,7 +86,7 @@ module _ {script : ScriptOf} (p : ProcessorOf) (alone : IsAlone script p) (at : 
 
   pub wakes_nobody : AtPlace at p.semaphores sems Raises → WakesNobody script (lists_of script p) at (record p { semaphores = sems })
   wakes_nobody a =
-      let counts = counts_after a (slice_index (map count_of p.semaphores) at + 1) (a.made.count ∙ ap (λ n. n + 1) (sym (count_at p alone at below a.was a.stood))) in
+      let counts = counts_after a (slice_index (map semaphore_count p.semaphores) at + 1) (a.made.count ∙ ap (λ n. n + 1) (sym (count_at p alone at below a.was a.stood))) in
       let sleepers = sleepers_same a a.made.sleepers in
       record {
         nobody = sleepers_at p alone at below a.was a.stood ∙ a.made.none;
@@ -118,7 +118,7 @@ module _ {script : ScriptOf} (p : ProcessorOf) (alone : IsAlone script p) (at : 
   sleeps_last {who} stands a =
       let counts = counts_same a (a.made.count ∙ sym a.made.none) in
       let sleepers = sleepers_after a (slice_index_or (map sleepers_of p.semaphores) at [] ++ who ∷ []) (a.made.sleepers ∙ ap (λ l. l ++ who ∷ []) (sym (sleepers_at p alone at below a.was a.stood))) in
-      let none : slice_index (map count_of p.semaphores) at ≡ 0 = count_at p alone at below a.was a.stood ∙ a.made.none in
+      let none : slice_index (map semaphore_count p.semaphores) at ≡ 0 = count_at p alone at below a.was a.stood ∙ a.made.none in
       record {
         none = ap (nat_lt 0) none;
         goes = record {
@@ -129,11 +129,11 @@ module _ {script : ScriptOf} (p : ProcessorOf) (alone : IsAlone script p) (at : 
 
   pub count_falls : AtPlace at p.semaphores sems Passes → CountFalls script (lists_of script p) at (record p { semaphores = sems })
   count_falls a =
-      let found : slice_index (map count_of p.semaphores) at ≡ count_of a.is + 1 = count_at p alone at below a.was a.stood ∙ a.made.count in
-      let counts = counts_after a (slice_index (map count_of p.semaphores) at - 1) (omega (arith, found)) in
+      let found : slice_index (map semaphore_count p.semaphores) at ≡ semaphore_count a.is + 1 = count_at p alone at below a.was a.stood ∙ a.made.count in
+      let counts = counts_after a (slice_index (map semaphore_count p.semaphores) at - 1) (omega (arith, found)) in
       let sleepers = sleepers_same a a.made.sleepers in
       record {
-        some = (let some : 0 < slice_index (map count_of p.semaphores) at = omega (arith, found) in grind (arith, nat_tests));
+        some = (let some : 0 < slice_index (map semaphore_count p.semaphores) at = omega (arith, found) in grind (arith, nat_tests));
         goes = record {
           alone = alone_sems a a.made.only (AllAtTheirs-same (λ n q. StandsAt script q (down n)) sleepers_of p.semaphores at a.was a.is (inside p alone at below) a.stood alone.asleep a.made.sleepers);
           lists_are = λ i. record (lists_of script p) { counts = counts i; sleepers = sleepers i };

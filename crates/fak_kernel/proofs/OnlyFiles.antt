@@ -15,7 +15,7 @@ use Rattle.fak_model.specs.File.{WholeCall, Refused, Withdrawn, kinds_of_call, s
 use Rattle.fak_model.specs.Calls.{SeatInfo}
 use Rattle.fak_model.proofs.Reversing.{All-reverse}
 use Rattle.fak_files.specs.declared.phase.Access.{Access}
-use Rattle.fak_files.specs.Running.{mark}
+use Rattle.fak_files.specs.Shown.{mark}
 use Rattle.fak_files.specs.Versions.{entry_of, is_take_of, back_from_take, own_since_take, prefix_through_take, marks_since_take}
 use Rattle.fak_files.specs.Calls.{FileSeatInfo, entries_after, LeavesMarks, AreRefused, IsWaitedFor, IsGot, IsSet, IsEnded}
 use Rattle.fak_kernel.specs.Files.{FileChange, most_uses, open_change, open_by, raise, raise_by, close_change, close_by, lower, lowered, first_entry}

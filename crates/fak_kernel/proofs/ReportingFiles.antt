@@ -13,7 +13,7 @@ use Rattle.fak_text.specs.Journal.{NoteOf}
 use Rattle.fak_kernel.specs.Files.{free_entry}
 use Rattle.fak_kernel.specs.Report.{ReportOf}
 use Rattle.fak_kernel.specs.Replays.{Replays}
-use Rattle.fak_kernel.specs.Holds.{FileHold, line_of, gather_from}
+use Rattle.fak_kernel.specs.Holds.{FileHold, hold_line, gather_from}
 use Rattle.fak_kernel.specs.Merging.{AreMerged}
 use Rattle.fak_kernel.specs.Reported.{is_file_line, file_lines, lines_of, FilesReplay}
 use Rattle.fak_kernel.specs.Gathered.{FilesJoined}
@@ -38,9 +38,9 @@ file_lines_weigh weight (l ∷ lines) = by (is_file_line l) refl (file_lines_wei
         let plus : sum_by (file_weight weight) lines ≡ 0 + sum_by (file_weight weight) lines = omega arith in
         ap (sum_by weight) first ∙ (rest ∙ (plus ∙ ((λ i. sym none i + sum_by (file_weight weight) lines) ∙ sym (sum_by-cons (file_weight weight) l lines))))
 
-lines-gathered : (holds : ℕ → List FileHold) (first n : ℕ) → map line_of (gather_from holds first n) ≡ gather_from (λ s. map line_of (holds s)) first n
+lines-gathered : (holds : ℕ → List FileHold) (first n : ℕ) → map hold_line (gather_from holds first n) ≡ gather_from (λ s. map hold_line (holds s)) first n
 lines-gathered holds first zero = refl
-lines-gathered holds first (suc n) = map-append line_of (holds first) (gather_from holds (suc first) n) ∙ ap (λ l. map line_of (holds first) ++ l) (lines-gathered holds (suc first) n)
+lines-gathered holds first (suc n) = map-append hold_line (holds first) (gather_from holds (suc first) n) ∙ ap (λ l. map hold_line (holds first) ++ l) (lines-gathered holds (suc first) n)
 
 free-entries : (first n : ℕ) → entries_after [] first n ≡ replicate n free_entry
 free-entries first zero = refl
@@ -51,11 +51,11 @@ pub files_replay : {n k : ℕ} {t : TallyInfo FileMark} {lines : List NoteOf} (r
     → ((weight : NoteOf → ℕ) → sum_by weight lines ≡ sum_by (file_weight weight) (lines_of report)) → FilesReplay n report
 files_replay {n} {k} {t} {lines} report some f entries weigh =
     let merged : AreMerged k f.holds (entries_after [] 0 n) (entries_after t.seen 0 n) = holds_replay n k k some t.seen f.lawful f.named f.holds f.are in
-    let permutation = IsPermutation-map line_of (gather_from f.holds 0 k) merged.list merged.permutation in
+    let permutation = IsPermutation-map hold_line (gather_from f.holds 0 k) merged.list merged.permutation in
     record {
-      list = map line_of merged.list;
+      list = map hold_line merged.list;
       as_often = λ weight.
-          sum_by-IsPermutation weight (map line_of (gather_from f.holds 0 k)) (map line_of merged.list) permutation
+          sum_by-IsPermutation weight (map hold_line (gather_from f.holds 0 k)) (map hold_line merged.list) permutation
           ∙ (ap (sum_by weight) (lines-gathered f.holds 0 k) ∙ (f.often weight ∙ (weigh weight ∙ sym (file_lines_weigh weight (lines_of report)))));
-      replays = subst (Replays (replicate n free_entry) (map line_of merged.list)) (sym entries) (subst (λ (l : List FileEntry). Replays l (map line_of merged.list) (entries_after t.seen 0 n)) (free-entries 0 n) merged.replays);
+      replays = subst (Replays (replicate n free_entry) (map hold_line merged.list)) (sym entries) (subst (λ (l : List FileEntry). Replays l (map hold_line merged.list) (entries_after t.seen 0 n)) (free-entries 0 n) merged.replays);
     }

@@ -1,14 +1,11 @@
 -- Scripts that are known, and how the list scheduler leaves its lists. Each of its rules changes what is left of one of them.
 use Rattle.std.specs.Prelude.{ℕ, [], ◌∷◌, Some, true, false, codes}
+use Rattle.fak_model.specs.Limits.{longest_stint}
 use Rattle.fak_model.specs.declared.file.FileEntry.{FileEntry}
 use Rattle.fak_text.specs.Script.{ScriptOf, say, yield, down, up, open_file, close_file, stat, spawn, shutdown}
 use Rattle.fak_text.specs.Journal.{said, yielded, downed, upped, opened, closed, statted, spawned, no_birth, no_slot, shut_down}
 use Rattle.fak_kernel.specs.Files.{free_entry}
 use Rattle.fak_kernel.specs.ListScheduler.{Lists}
-
--- the stint where a script names none
-abbrev pub most_stint : ℕ
-most_stint = 1099511627776
 
 -- one process wakes the other, which wakes the first
 abbrev pub ping_pong : ScriptOf
@@ -17,7 +14,7 @@ ping_pong = record {
   slots = 2;
   births = 0;
   quantum = 1;
-  stint = most_stint;
+  stint = longest_stint;
   semaphores = 0 ∷ 0 ∷ [];
   files = 1;
   programs = (say (codes "ping") ∷ up 1 ∷ down 0 ∷ []) ∷ (down 1 ∷ say (codes "pong") ∷ up 0 ∷ []) ∷ [];
@@ -47,7 +44,7 @@ family = record {
   slots = 3;
   births = 2;
   quantum = 1;
-  stint = most_stint;
+  stint = longest_stint;
   semaphores = 0 ∷ 0 ∷ [];
   files = 2;
   programs =
@@ -82,7 +79,7 @@ crowd = record {
   slots = 5;
   births = 0;
   quantum = 4;
-  stint = most_stint;
+  stint = longest_stint;
   semaphores = 1 ∷ [];
   files = 1;
   programs = (down 0 ∷ open_file 7 ∷ stat 7 ∷ []) ∷ (up 0 ∷ up 0 ∷ up 0 ∷ []) ∷ (open_file 7 ∷ stat 7 ∷ yield ∷ stat 7 ∷ []) ∷ [];
@@ -115,7 +112,7 @@ heirs = record {
   slots = 3;
   births = 2;
   quantum = 4;
-  stint = most_stint;
+  stint = longest_stint;
   semaphores = [];
   files = 1;
   programs = (spawn 1 ∷ yield ∷ spawn 1 ∷ []) ∷ ([]) ∷ [];
@@ -146,7 +143,7 @@ alone = record {
   slots = 1;
   births = 0;
   quantum = 4;
-  stint = most_stint;
+  stint = longest_stint;
   semaphores = 0 ∷ [];
   files = 1;
   programs = (say (codes "a") ∷ down 0 ∷ []) ∷ [];
@@ -174,7 +171,7 @@ curfew = record {
   slots = 3;
   births = 0;
   quantum = 2;
-  stint = most_stint;
+  stint = longest_stint;
   semaphores = 0 ∷ [];
   files = 1;
   programs =
@@ -207,7 +204,7 @@ late_child = record {
   slots = 2;
   births = 2;
   quantum = 4;
-  stint = most_stint;
+  stint = longest_stint;
   semaphores = [];
   files = 1;
   programs = (shutdown ∷ spawn 1 ∷ spawn 1 ∷ []) ∷ (say (codes "never") ∷ []) ∷ [];
@@ -237,7 +234,7 @@ reader = record {
   slots = 2;
   births = 1;
   quantum = 4;
-  stint = most_stint;
+  stint = longest_stint;
   semaphores = 0 ∷ [];
   files = 1;
   programs = (open_file 7 ∷ open_file 7 ∷ close_file 7 ∷ stat 7 ∷ spawn 1 ∷ []) ∷ (say (codes "hi") ∷ []) ∷ [];

@@ -9,7 +9,7 @@ use Rattle.fak_text.specs.Script.{ScriptOf}
 use Rattle.fak_text.specs.Journal.{NoteOf, Process}
 use Rattle.fak_kernel.specs.declared.report.Outcome.TheVariants.{Ended, Halted}
 use Rattle.fak_kernel.specs.Report.{RowOf}
-use Rattle.fak_kernel.specs.Holds.{FileHold, AreHolds, line_of, gather_from}
+use Rattle.fak_kernel.specs.Holds.{FileHold, AreHolds, hold_line, gather_from}
 use Rattle.fak_kernel.specs.Reported.{AreAsOften}
 use Rattle.fak_kernel.specs.Ledger.{Ledger}
 use Rattle.fak_kernel.specs.Holding.{Have}
@@ -23,7 +23,7 @@ pub record FilesJoined (n seats k : ℕ) (t : TallyInfo FileMark) (lines : List 
   pub are : (s : ℕ) → s < k → AreHolds n seats s (holds s) t.seen
   pub lawful : IsFileHistory seats t.seen
   pub named : AreNamed (file_rules seats) seats t.seen
-  pub often : AreAsOften (gather_from (λ s. map line_of (holds s)) 0 k) lines
+  pub often : AreAsOften (gather_from (λ s. map hold_line (holds s)) 0 k) lines
 
 -- what the rows of processes that ended, and of those that halted, weigh
 abbrev pub left_weigh : (RowOf → ℕ) → List Process → List Process → ℕ

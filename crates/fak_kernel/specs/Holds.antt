@@ -64,8 +64,8 @@ reads_from n name before (m ∷ h) = cond (is_take_of name m) (entries_after bef
 abbrev pub reads_of : ℕ → ℕ → List FileMark → List (List FileEntry)
 reads_of n name h = reads_from n name [] h
 
-abbrev pub line_of : FileHold → NoteOf
-line_of hold = hold.line
+abbrev pub hold_line : FileHold → NoteOf
+hold_line hold = hold.line
 
 abbrev pub read_of : FileHold → List FileEntry
 read_of hold = hold.read

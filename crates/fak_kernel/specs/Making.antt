@@ -8,10 +8,10 @@ use Rattle.fak_model.specs.Histories.{AreNamed}
 use Rattle.fak_model.specs.File.{Setting, seat_of, IsFileHistory, file_rules}
 use Rattle.fak_model.specs.Calls.{SeatInfo}
 use Rattle.fak_model.specs.Seats.{Begins, marks_of}
-use Rattle.fak_files.specs.Running.{mark}
+use Rattle.fak_files.specs.Shown.{mark}
 use Rattle.fak_files.specs.Versions.{prefix_through_take, marks_since_take}
 use Rattle.fak_text.specs.Journal.{NoteOf}
-use Rattle.fak_kernel.specs.Holds.{FileHold, IsFitHold, AreHolds, held_kinds, kinds_of_hold, reads_of, line_of}
+use Rattle.fak_kernel.specs.Holds.{FileHold, IsFitHold, AreHolds, held_kinds, kinds_of_hold, reads_of, hold_line}
 
 -- the seat has left these kinds of mark since
 pub record Left (kinds : List FileKind) (old new : SeatInfo FileMark) : Type 0 where
@@ -48,7 +48,7 @@ pub record HasMade (n : ℕ) (line : NoteOf) (old new : SeatInfo FileMark) : Typ
 -- these are the lines of a seat, of a table of n entries, in order
 pub record AreLines (n : ℕ) (lines : List NoteOf) (s : SeatInfo FileMark) : Type 0 where
   pub holds : List FileHold
-  pub lines_are : map line_of holds ≡ lines
+  pub lines_are : map hold_line holds ≡ lines
   pub are : AreHolds n s.object.seats s.name holds s.seen
   pub lawful : IsFileHistory s.object.seats s.seen
   pub named : AreNamed (file_rules s.object.seats) s.object.seats s.seen

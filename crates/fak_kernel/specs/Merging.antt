@@ -3,10 +3,10 @@ use Rattle.std.specs.Prelude.{ℕ, List, map}
 use Rattle.std.specs.List.Sorted.{IsPermutation}
 use Rattle.fak_model.specs.declared.file.FileEntry.{FileEntry}
 use Rattle.fak_kernel.specs.Replays.{Replays}
-use Rattle.fak_kernel.specs.Holds.{FileHold, line_of, gather_from}
+use Rattle.fak_kernel.specs.Holds.{FileHold, hold_line, gather_from}
 
 -- the holds in one list, whose lines replay
 pub record AreMerged (seats : ℕ) (holds : ℕ → List FileHold) (entries end : List FileEntry) : Type 0 where
   pub list : List FileHold
   pub permutation : IsPermutation (gather_from holds 0 seats) list
-  pub replays : Replays entries (map line_of list) end
+  pub replays : Replays entries (map hold_line list) end

@@ -14,8 +14,8 @@ use Rattle.fak_kernel.specs.Only.{IsOnly}
 -- ---- semaphores
 
 -- the count that is left, and who sleeps
-abbrev pub count_of : {T : Type 0} → SemSeatInfo T → ℕ
-count_of s = (s.object.start + credits s.credit_seen) - debits s.credit_seen
+abbrev pub semaphore_count : {T : Type 0} → SemSeatInfo T → ℕ
+semaphore_count s = (s.object.start + credits s.credit_seen) - debits s.credit_seen
 
 abbrev pub sleepers_of : {T : Type 0} → SemSeatInfo T → List T
 sleepers_of s = contents s.queue_seen
@@ -28,24 +28,24 @@ pub record IsOnlySem {T : Type 0} (seat : SemSeatInfo T) : Type 0 where
 
 pub record Passes {T : Type 0} (old new : SemSeatInfo T) : Type 0 where
   pub only : IsOnlySem new
-  pub count : count_of old ≡ count_of new + 1
+  pub count : semaphore_count old ≡ semaphore_count new + 1
   pub sleepers : sleepers_of new ≡ sleepers_of old
 
 pub record Parks {T : Type 0} (who : T) (old new : SemSeatInfo T) : Type 0 where
   pub only : IsOnlySem new
-  pub none : count_of old ≡ 0
-  pub count : count_of new ≡ 0
+  pub none : semaphore_count old ≡ 0
+  pub count : semaphore_count new ≡ 0
   pub sleepers : sleepers_of new ≡ sleepers_of old ++ who ∷ []
 
 pub record Raises {T : Type 0} (old new : SemSeatInfo T) : Type 0 where
   pub only : IsOnlySem new
-  pub count : count_of new ≡ count_of old + 1
+  pub count : semaphore_count new ≡ semaphore_count old + 1
   pub none : sleepers_of old ≡ []
   pub sleepers : sleepers_of new ≡ sleepers_of old
 
 pub record Rouses {T : Type 0} (x : T) (old new : SemSeatInfo T) : Type 0 where
   pub only : IsOnlySem new
-  pub count : count_of new ≡ count_of old
+  pub count : semaphore_count new ≡ semaphore_count old
   pub sleepers : sleepers_of old ≡ x ∷ sleepers_of new
 
 -- ---- rooms

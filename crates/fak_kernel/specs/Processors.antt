@@ -18,7 +18,7 @@ use Rattle.fak_text.specs.Journal.{Process, downed, after_note}
 use Rattle.fak_kernel.specs.ListScheduler.{Lists, State, Turn, steps, opening}
 use Rattle.fak_kernel.specs.Contexts.{WaitAtTheirs}
 use Rattle.fak_kernel.specs.OnlyQueues.{IsOnlySeat, has_close}
-use Rattle.fak_kernel.specs.OnlyCounts.{IsOnlySem, IsOnlyRoom, count_of, sleepers_of}
+use Rattle.fak_kernel.specs.OnlyCounts.{IsOnlySem, IsOnlyRoom, semaphore_count, sleepers_of}
 use Rattle.fak_kernel.specs.OnlyFiles.{IsOnlyFiles, entries_now}
 
 -- what all processors share
@@ -87,7 +87,7 @@ abbrev pub lists_of : ScriptOf → ProcessorOf → Lists
 lists_of script p = record {
   ready = contents p.ready.seen;
   free_slots = contents p.free.seen;
-  counts = map count_of p.semaphores;
+  counts = map semaphore_count p.semaphores;
   sleepers = map sleepers_of p.semaphores;
   entries = entries_now script.files p.files;
   births = held_amount p.births;

@@ -37,16 +37,16 @@ abbrev pub text_of_births : ReportOf → List ℕ
 text_of_births report = codes "births " ++ decimal report.births ++ codes " of " ++ decimal report.bound ++ codes "\n"
 
 -- how many processes were left so
-abbrev pub count_of : (Outcome → Bool) → List RowOf → ℕ
-count_of is rows = count_by (λ row. is row.outcome) rows
+abbrev pub count_rows : (Outcome → Bool) → List RowOf → ℕ
+count_rows is rows = count_by (λ row. is row.outcome) rows
 
 -- the halted ones are counted in reports of version 2
 abbrev pub text_of_halted : ReportOf → List ℕ
-text_of_halted report = (if report.version == 2 then codes " halted " ++ decimal (count_of is_halted report.rows) else [])
+text_of_halted report = (if report.version == 2 then codes " halted " ++ decimal (count_rows is_halted report.rows) else [])
 
 -- how many processes were left how
 abbrev pub text_of_outcomes : ReportOf → List ℕ
-text_of_outcomes report = codes "ended " ++ decimal (count_of is_ended report.rows) ++ codes " stuck " ++ decimal (count_of is_stuck report.rows) ++ text_of_halted report ++ codes "\n"
+text_of_outcomes report = codes "ended " ++ decimal (count_rows is_ended report.rows) ++ codes " stuck " ++ decimal (count_rows is_stuck report.rows) ++ text_of_halted report ++ codes "\n"
 
 -- the rows with their journals, the files that are open, the births, and how many processes were left how
 abbrev pub text_of_report : ReportOf → List ℕ

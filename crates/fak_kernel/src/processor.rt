@@ -53,8 +53,8 @@ impl<K: Run> Model for Processor<K> {
 impl<K: Run> Processor<K> {
     /// One process more is ready or runs.
     pub fn credit(&mut self, objects: &Objects<K>) -> Result<(), Fault>
-        requires fits { AreOf objects.now self.old }
-        ensures fits { AreOf objects.now self.new }
+        requires objects { AreOf objects.now self.old }
+        ensures objects { AreOf objects.now self.new }
         ensures same { self.new ≡ record self.old { busy = self.new.busy } }
         ensures gains { IfOk result (λ _. Gains K.script self.old self.new (record nothing { busy = made.Credit ∷ [] })) }
         ensures alone { IsAlone K.script self.old → GoesTo K.script self.new (lists_of K.script self.old) }
@@ -68,8 +68,8 @@ impl<K: Run> Processor<K> {
 
     /// One process fewer is ready or runs.
     pub fn debit(&mut self, objects: &Objects<K>) -> Result<(), Fault>
-        requires fits { AreOf objects.now self.old }
-        ensures fits { AreOf objects.now self.new }
+        requires objects { AreOf objects.now self.old }
+        ensures objects { AreOf objects.now self.new }
         ensures same { self.new ≡ record self.old { busy = self.new.busy } }
         ensures gains { IfOk result (λ _. Gains K.script self.old self.new (record nothing { busy = made.Debit ∷ [] })) }
         ensures alone { IsAlone K.script self.old → GoesTo K.script self.new (lists_of K.script self.old) }

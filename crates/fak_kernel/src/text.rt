@@ -3,7 +3,7 @@
 ghost use Rattle.std.specs.Prelude.{◌≡◌, ◌++◌, map, string_bytes, IfOk, IfErr};
 ghost use Rattle.fak_kernel.specs.Report.{is_ended, is_stuck, is_halted};
 ghost use Rattle.std.specs.List.{flat_map};
-ghost use Rattle.fak_kernel.specs.ReportText.{line_of_row, text_of_row, text_of_entry, text_of_entries, text_of_births, count_of, text_of_outcomes, text_of_report};
+ghost use Rattle.fak_kernel.specs.ReportText.{line_of_row, text_of_row, text_of_entry, text_of_entries, text_of_births, count_rows, text_of_outcomes, text_of_report};
 ghost use Rattle.fak_kernel.specs.Views.{row_of, report_of};
 
 use crate::fault::Fault;
@@ -111,19 +111,19 @@ fn add_outcomes(text: &mut String, report: &Report) -> Result<(), Fault>
 }
 
 fn count_ended(rows: &[ProcessRow]) -> usize
-    ensures { result ≡ count_of is_ended (map row_of rows.now) }
+    ensures { result ≡ count_rows is_ended (map row_of rows.now) }
 {
     rows.iter().filter(|row| row.outcome.is_ended()).count()
 }
 
 fn count_stuck(rows: &[ProcessRow]) -> usize
-    ensures { result ≡ count_of is_stuck (map row_of rows.now) }
+    ensures { result ≡ count_rows is_stuck (map row_of rows.now) }
 {
     rows.iter().filter(|row| row.outcome.is_stuck()).count()
 }
 
 fn count_halted(rows: &[ProcessRow]) -> usize
-    ensures { result ≡ count_of is_halted (map row_of rows.now) }
+    ensures { result ≡ count_rows is_halted (map row_of rows.now) }
 {
     rows.iter().filter(|row| row.outcome.is_halted()).count()
 }

@@ -4,7 +4,7 @@ use Rattle.fak_model.specs.declared.queue.Kind.{Kind}
 use Rattle.fak_model.specs.declared.queue.Kind.TheVariants.{ClaimIn, OverIn, BackIn, Fill, EndIn, ClaimOut, OverOut, BackOut, EndOut, LateIn}
 use Rattle.fak_model.specs.declared.queue.Mark.{Mark}
 use Rattle.fak_model.specs.Queue.{count, puts, gots, upper_raise, upper_drop, lower_raise, lower_drop}
-use Rattle.fak_model.specs.QueuePast.{UpperBelow, LowerPositive, after, stage, IsNext, IsFair, IsLegalPast, IsWhole, SeatsBelow}
+use Rattle.fak_model.specs.QueuePast.{UpperBelow, LowerPositive, after, stage, IsNext, IsFair, IsLegalPast, HasNoOpenCall, SeatsBelow}
 use Rattle.fak_model.specs.declared.queue.Stage.{Stage}
 use Rattle.fak_model.specs.declared.queue.Stage.TheVariants.{Idle, Withdrawing, Claimed, Putting, Filled, WithdrawingOut, ClaimedOut, Getting, Taken}
 use Rattle.fak_model.proofs.Deciding.{same_or_not}
@@ -256,11 +256,11 @@ contents_bounded size h l =
     let e = claims_in_bounded size h l in
     let f = claims_out_bounded size h l in (omega arith, omega arith)
 
-tally_whole : {A : Type 0} (w : Stage A → ℕ) (h : List (Mark A)) (n : ℕ) → w Idle ≡ 0 → IsWhole h → tally w (stage h) n ≡ 0
+tally_whole : {A : Type 0} (w : Stage A → ℕ) (h : List (Mark A)) (n : ℕ) → w Idle ≡ 0 → HasNoOpenCall h → tally w (stage h) n ≡ 0
 tally_whole w h n z e = tally_none w (stage h) n (λ s. ap w (e s) ∙ z)
 
 -- where no call is cut short both counts are the number of items held
-pub whole_counts : {A : Type 0} (size : ℕ) (h : List (Mark A)) → IsLegalPast size h → IsWhole h
+pub whole_counts : {A : Type 0} (size : ℕ) (h : List (Mark A)) → IsLegalPast size h → HasNoOpenCall h
     → (count upper_raise h + count gots h ≡ count upper_drop h + count puts h) × (count lower_raise h + count gots h ≡ count lower_drop h + count puts h)
 whole_counts size h l e =
     let below = seats_bounded h in

@@ -8,7 +8,7 @@ use Rattle.fak_model.specs.declared.queue.Kind.TheVariants.{Fill, ClaimOut, Got,
 use Rattle.fak_model.specs.declared.queue.Mark.{Mark}
 use Rattle.fak_model.specs.Histories.{seat_words, IsAtRest}
 use Rattle.fak_model.specs.Queue.{count, puts, gots, upper_raise, upper_drop, lower_raise, lower_drop, Has}
-use Rattle.fak_model.specs.QueuePast.{after, stage, MayFollow, IsLegalPast, IsWhole}
+use Rattle.fak_model.specs.QueuePast.{after, stage, MayFollow, IsLegalPast, HasNoOpenCall}
 use Rattle.fak_model.specs.declared.queue.Stage.TheVariants.{ClaimedOut}
 use Rattle.fak_model.specs.Queue.{upper_count, lower_count, items_put, contents, words_of_call, queue_rules, IsQueueHistory}
 use Rattle.fak_model.specs.QueueOrder.{Deletion, KeepsCallOrder}
@@ -28,7 +28,7 @@ contents_fit size h law =
     let p = count_reverse puts h in
     (omega arith, omega (arith, length-drop (count gots h) (items_put h), items_count h))
 
-rest_idle : {T : Type 0} (size : ℕ) (h : List (Mark T)) → IsAtRest (queue_rules size) h → IsWhole (reverse h)
+rest_idle : {T : Type 0} (size : ℕ) (h : List (Mark T)) → IsAtRest (queue_rules size) h → HasNoOpenCall (reverse h)
 rest_idle size h rest s = at_idle (stage (reverse h) s)
     (sym (rests needs leads words_of_call call_runs (seat_words (queue_rules size) s h) (rest s)).1 ∙ sym (place_of size s h))
 

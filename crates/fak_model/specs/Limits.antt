@@ -4,5 +4,9 @@ use Rattle.std.specs.Prelude.{ℕ, ◌≤◌}
 abbrev pub IsNumberOfSeats : ℕ → Type 0
 IsNumberOfSeats seats = (1 ≤ seats) × (seats ≤ 64)
 
+-- 2^40: so many tickets, changes of a count, or holds
+abbrev pub longest_stint : ℕ
+longest_stint = 1099511627776
+
 abbrev pub IsStint : ℕ → Type 0
-IsStint stint = (1 ≤ stint) × (stint ≤ 1099511627776)
+IsStint stint = (1 ≤ stint) × (stint ≤ longest_stint)

@@ -106,8 +106,8 @@ abbrev pub IsLegalByStage : {A : Type 0} → ℕ → List (Mark A) → Type 0
 IsLegalByStage size h = IsLegalPast size (reverse h)
 
 -- no call is cut short
-abbrev pub IsWhole : {A : Type 0} → List (Mark A) → Type 0
-IsWhole h = (s : ℕ) → stage h s ≡ Idle
+abbrev pub HasNoOpenCall : {A : Type 0} → List (Mark A) → Type 0
+HasNoOpenCall h = (s : ℕ) → stage h s ≡ Idle
 
 -- all seats of the past are below n
 abbrev pub SeatsBelow : {A : Type 0} → ℕ → List (Mark A) → Type 0

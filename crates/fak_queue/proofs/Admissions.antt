@@ -13,7 +13,7 @@ use Rattle.fak_queue.specs.declared.found.UpperCount.TheVariants.{Below, Full, S
 use Rattle.fak_queue.specs.declared.found.LowerCount.{LowerCount}
 use Rattle.fak_queue.specs.declared.found.LowerCount.TheVariants.{Positive, Empty}
 use Rattle.fak_queue.specs.declared.found.NoRoom.TheVariants as refused
-use Rattle.fak_queue.specs.Shown.{Holder}
+use Rattle.fak_queue.specs.Shown.{QueueHolder}
 use Rattle.fak_queue.specs.Steps.{mark, Marks, Named, ShutAs, TestedUp, AddedUp, BacksUp, DrewIn, TestedLow, SubtractedLow, BacksLow, DrawsOut}
 use Rattle.fak_queue.specs.Queues.{RestsAt, idle, inserting, deleting}
 use Rattle.fak_queue.specs.Parts.{IsPart, ClaimedIn, RefusedIn, ClaimedOut, RefusedOut, Nothing}
@@ -28,7 +28,7 @@ deleting_after {T} h k x e few = subst (λ j. RestsAt {T = T} (TurnOut k) (at.Ge
 
 -- ---- insertions
 
-module _ {T : Type 0} (size seats n : ℕ) (x : T) (r : UpperCount) (m0 m1 : Holder T) (one : m0.0.names ≡ n ∷ []) (free : m0.1 ≡ []) (tested : TestedUp size seats n x r m0 m1) where
+module _ {T : Type 0} (size seats n : ℕ) (x : T) (r : UpperCount) (m0 m1 : QueueHolder T) (one : m0.0.names ≡ n ∷ []) (free : m0.1 ≡ []) (tested : TestedUp size seats n x r m0 m1) where
   pub full_at_test : (u : ℤ) → r ≡ Full u → RefusedIn size seats n (refused.Full u) m0 m1
   full_at_test u e =
       let l = subst (λ q. TestedUp size seats n x q m0 m1) e tested in
@@ -42,7 +42,7 @@ module _ {T : Type 0} (size seats n : ℕ) (x : T) (r : UpperCount) (m0 m1 : Hol
   pub add_phase : r ≡ Below → m1.0.phase ≡ Some (AddUp x)
   add_phase e = phase_is (subst (λ q. TestedUp size seats n x q m0 m1) e tested)
 
-  module _ (room : r ≡ Below) (q : UpperCount) (m2 : Holder T) (adds : Named m1 (λ n. (x : T) → m1.0.phase ≡ Some (AddUp x) → AddedUp size seats n x q m1 m2)) where
+  module _ (room : r ≡ Below) (q : UpperCount) (m2 : QueueHolder T) (adds : Named m1 (λ n. (x : T) → m1.0.phase ≡ Some (AddUp x) → AddedUp size seats n x q m1 m2)) where
     first : TestedUp size seats n x Below m0 m1
     first = subst (λ q. TestedUp size seats n x q m0 m1) room tested
 
@@ -61,7 +61,7 @@ module _ {T : Type 0} (size seats n : ℕ) (x : T) (r : UpperCount) (m0 m1 : Hol
     pub ticket_phase : q ≡ Below → m2.0.phase ≡ Some (TicketIn x)
     ticket_phase e = phase_is (subst (λ z. AddedUp size seats n x z m1 m2) e added)
 
-    pub claimed_in : q ≡ Below → {k : ℕ} {m3 : Holder T} → Named m2 (λ n. (x : T) → m2.0.phase ≡ Some (TicketIn x) → DrewIn size seats n x m2 k m3) → ClaimedIn size seats n x k m0 m3
+    pub claimed_in : q ≡ Below → {k : ℕ} {m3 : QueueHolder T} → Named m2 (λ n. (x : T) → m2.0.phase ≡ Some (TicketIn x) → DrewIn size seats n x m2 k m3) → ClaimedIn size seats n x k m0 m3
     claimed_in e {k} {m3} draws =
         let l = subst (λ z. AddedUp size seats n x z m1 m2) e added in
         let d = draws n (names_kept l ∙ one1) x (phase_is l) in
@@ -74,7 +74,7 @@ module _ {T : Type 0} (size seats n : ℕ) (x : T) (r : UpperCount) (m0 m1 : Hol
     pub back_phase_full : (u : ℤ) → q ≡ Full u → m2.0.phase ≡ Some (BackUp x)
     back_phase_full u e = phase_is (subst (λ z. AddedUp size seats n x z m1 m2) e added)
 
-    pub full_at_add : (u : ℤ) → q ≡ Full u → {m3 : Holder T} → Named m2 (λ n. BacksUp size seats n m2 m3) → RefusedIn size seats n (refused.Full u) m0 m3
+    pub full_at_add : (u : ℤ) → q ≡ Full u → {m3 : QueueHolder T} → Named m2 (λ n. BacksUp size seats n m2 m3) → RefusedIn size seats n (refused.Full u) m0 m3
     full_at_add u e backs =
         let l = subst (λ z. AddedUp size seats n x z m1 m2) e added in
         let b = backs n (names_kept l ∙ one1) in
@@ -83,7 +83,7 @@ module _ {T : Type 0} (size seats n : ℕ) (x : T) (r : UpperCount) (m0 m1 : Hol
     pub back_phase_shut : q ≡ Shut → m2.0.phase ≡ Some (BackUp x)
     back_phase_shut e = phase_is (subst (λ z. AddedUp size seats n x z m1 m2) e added)
 
-    pub shut_at_add : q ≡ Shut → {m3 : Holder T} → Named m2 (λ n. BacksUp size seats n m2 m3) → RefusedIn size seats n refused.Shut m0 m3
+    pub shut_at_add : q ≡ Shut → {m3 : QueueHolder T} → Named m2 (λ n. BacksUp size seats n m2 m3) → RefusedIn size seats n refused.Shut m0 m3
     shut_at_add e backs =
         let l = subst (λ z. AddedUp size seats n x z m1 m2) e added in
         let b = backs n (names_kept l ∙ one1) in
@@ -91,13 +91,13 @@ module _ {T : Type 0} (size seats n : ℕ) (x : T) (r : UpperCount) (m0 m1 : Hol
 
 -- ---- deletions
 
-module _ {T : Type 0} (size seats n : ℕ) (r : LowerCount) (m0 m1 : Holder T) (one : m0.0.names ≡ n ∷ []) (free : m0.1 ≡ []) (tested : TestedLow size seats n r m0 m1) where
+module _ {T : Type 0} (size seats n : ℕ) (r : LowerCount) (m0 m1 : QueueHolder T) (one : m0.0.names ≡ n ∷ []) (free : m0.1 ≡ []) (tested : TestedLow size seats n r m0 m1) where
   pub empty_at_test : (v : ℤ) → r ≡ Empty v → RefusedOut size seats n v m0 m1
   empty_at_test v e =
       let l = subst (λ q. TestedLow size seats n q m0 m1) e tested in
       inl (part_one n made.NoItem l one free m0.0.left refl idle (λ h. v ≡ lower_count h) l.told)
 
-  module _ (stock : r ≡ Positive) (q : LowerCount) (m2 : Holder T) (subtracts : Named m1 (λ n. SubtractedLow size seats n q m1 m2)) where
+  module _ (stock : r ≡ Positive) (q : LowerCount) (m2 : QueueHolder T) (subtracts : Named m1 (λ n. SubtractedLow size seats n q m1 m2)) where
     tested_first : TestedLow size seats n Positive m0 m1
     tested_first = subst (λ q. TestedLow size seats n q m0 m1) stock tested
 
@@ -107,7 +107,7 @@ module _ {T : Type 0} (size seats n : ℕ) (r : LowerCount) (m0 m1 : Holder T) (
     slots1 : m1.1 ≡ []
     slots1 = slots_are tested_first ∙ free
 
-    pub claimed_out : q ≡ Positive → {k : ℕ} {m3 : Holder T} → Named m2 (λ n. DrawsOut size seats n m2 k m3) → ClaimedOut size seats n k m0 m3
+    pub claimed_out : q ≡ Positive → {k : ℕ} {m3 : QueueHolder T} → Named m2 (λ n. DrawsOut size seats n m2 k m3) → ClaimedOut size seats n k m0 m3
     claimed_out e {k} {m3} draws =
         let l = subst (λ z. SubtractedLow size seats n z m1 m2) e (subtracts n names1) in
         let d = draws n (names_kept l ∙ names1) in
@@ -118,7 +118,7 @@ module _ {T : Type 0} (size seats n : ℕ) (r : LowerCount) (m0 m1 : Holder T) (
           put = put_there d.leaves k d.item d.leaves.told.1;
         }
 
-    pub empty_at_subtraction : (v : ℤ) → q ≡ Empty v → {m3 : Holder T} → Named m2 (λ n. BacksLow size seats n m2 m3) → RefusedOut size seats n v m0 m3
+    pub empty_at_subtraction : (v : ℤ) → q ≡ Empty v → {m3 : QueueHolder T} → Named m2 (λ n. BacksLow size seats n m2 m3) → RefusedOut size seats n v m0 m3
     empty_at_subtraction v e backs =
         let l = subst (λ z. SubtractedLow size seats n z m1 m2) e (subtracts n names1) in
         let b = backs n (names_kept l ∙ names1) in
@@ -126,10 +126,10 @@ module _ {T : Type 0} (size seats n : ℕ) (r : LowerCount) (m0 m1 : Holder T) (
 
 -- ---- shutting
 
-pub closing : {T : Type 0} (size seats n : ℕ) (m w : Holder T) (then : List (Mark T) → Type 0) → m.0.names ≡ n ∷ [] → m.1 ≡ [] → Marks size seats m (mark n made.Close ∷ []) Idle (λ past. then (reverse past)) w
+pub closing : {T : Type 0} (size seats n : ℕ) (m w : QueueHolder T) (then : List (Mark T) → Type 0) → m.0.names ≡ n ∷ [] → m.1 ≡ [] → Marks size seats m (mark n made.Close ∷ []) Idle (λ past. then (reverse past)) w
     → IsPart size seats n (made.Close ∷ []) Idle m.0.left (λ first second. then first) m w
 closing size seats n m w then one free l = part_one n made.Close l one free m.0.left refl idle then l.told
 
-pub closed : {T : Type 0} (size seats n : ℕ) (m w : Holder T) → m.0.names ≡ n ∷ [] → m.1 ≡ [] → (b : Bool) → ShutAs size seats n b m w → IsPart size seats n (made.Close ∷ []) Idle m.0.left Nothing m w
+pub closed : {T : Type 0} (size seats n : ℕ) (m w : QueueHolder T) → m.0.names ≡ n ∷ [] → m.1 ≡ [] → (b : Bool) → ShutAs size seats n b m w → IsPart size seats n (made.Close ∷ []) Idle m.0.left Nothing m w
 closed size seats n m w one free true l = part_one n made.Close l one free m.0.left refl idle (λ h. Unit {0}) tt
 closed size seats n m w one free false l = part_one n made.Close l one free m.0.left refl idle (λ h. Unit {0}) tt

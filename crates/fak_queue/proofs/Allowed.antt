@@ -7,10 +7,10 @@ use Rattle.fak_core.specs.declared.queue.phase.Phase.{Phase}
 use Rattle.fak_core.specs.declared.queue.phase.Phase.TheVariants.{Idle, AddUp, BackUp, TicketIn, TurnIn, StoreItem, EndInsert, SubLow, BackLow, TicketOut, TurnOut, LoadItem, EndDelete}
 use Rattle.fak_model.proofs.RunningSeats.{hears}
 use Rattle.fak_queue.specs.declared.found.UpperCount.{UpperCount}
-use Rattle.fak_queue.specs.declared.key.Limits.{Limits}
+use Rattle.fak_queue.specs.declared.limits.QueueLimits.{QueueLimits}
 use Rattle.fak_queue.specs.Words.{IsUpperCount}
-use Rattle.fak_queue.specs.Shown.{Holder, queue_object, IsShownQueue}
-use Rattle.fak_queue.specs.Steps.{TestedUp, TestsUp, AddedUp, AddsUp, BacksUp, DrewIn, DrawsIn, TurnedIn, TurnsIn, FilledCell, SetsFull, EndsIn, TestsLow, SubtractsLow, BacksLow, DrawsOut, TurnedOut, TurnsOut, FreedCell, SetsFree, EndsOut, Shuts, HearsJoin, Named}
+use Rattle.fak_queue.specs.Shown.{QueueHolder, queue_object, IsShownQueue}
+use Rattle.fak_queue.specs.Steps.{TestedUp, TestsUp, AddedUp, AddsUp, BacksUp, DrewIn, DrawsIn, TurnedIn, TurnsIn, FilledCell, SetsFull, EndsIn, TestsLow, SubtractsLow, BacksLow, DrawsOut, TurnedOut, TurnsOut, FreedCell, SetsFree, EndsOut, Shuts, HeardJoin, Named}
 use Rattle.fak_queue.proofs.Stepping.{QueueTable, queue_law, Permits}
 use Rattle.fak_queue.proofs.InsertionSteps.{tests_up, adds_up, backs_up, draws_in, turns_in, stores_full, ends_in, shuts}
 use Rattle.fak_queue.proofs.DeletionSteps.{tests_low, subtracts_low, backs_low, draws_out, turns_out, stores_free, ends_out}
@@ -40,12 +40,12 @@ first_same e = cc
 Some_same : {A : Type 0} {a b : A} → Some a ≡ Some b → a ≡ b
 Some_same e = cc
 
-module _ {T : Type 0} (key : Limits) (slots seats id n : ℕ) (m : Holder T) (few : key.seats ≡ seats) (one : m.0.names ≡ n ∷ []) where
+module _ {T : Type 0} (key : QueueLimits) (slots seats id n : ℕ) (m : QueueHolder T) (few : key.seats ≡ seats) (one : m.0.names ≡ n ∷ []) where
   -- what a step at this word tells, of the size and the seats of the queue
-  abbrev Permitted : ℕ → (ℕ → ℕ) → (ℕ → ℕ → ℕ → Holder T → Type 0) → Type 0
+  abbrev Permitted : ℕ → (ℕ → ℕ) → (ℕ → ℕ → ℕ → QueueHolder T → Type 0) → Type 0
   Permitted i f then = Allows (IsShownQueue key) slots id m i f (λ found after. then slots seats found after)
 
-  of_step : (i : ℕ) (f : ℕ → ℕ) (then : ℕ → ℕ → ℕ → Holder T → Type 0)
+  of_step : (i : ℕ) (f : ℕ → ℕ) (then : ℕ → ℕ → ℕ → QueueHolder T → Type 0)
       → ((s : QueueTable T) (r : IsShownQueue key s) (at : get_elem? s.views id ≡ some m.0) → key.size ≡ slots → Permits key s r id n m at one i f (then key.size key.seats)) → Permitted i f then
   of_step i f then all s r wide at small =
       let size : key.size ≡ slots = sym r.encoded.wide ∙ wide in
@@ -53,21 +53,21 @@ module _ {T : Type 0} (key : Limits) (slots seats id n : ℕ) (m : Holder T) (fe
       (q.0, q.1, q.2, q.3, subst (λ (z : ℕ × ℕ). then z.0 z.1 (slice_index s.words i) (q.0, carried_after m.1 q.1)) (λ j. (size j, few j)) q.4)
 
   -- at the turn of a cell, whose place depends on the number of slots
-  of_turn : (i k : ℕ) → i ≡ k % slots + 80 → (f : ℕ → ℕ) (then : ℕ → ℕ → ℕ → Holder T → Type 0)
+  of_turn : (i k : ℕ) → i ≡ k % slots + 80 → (f : ℕ → ℕ) (then : ℕ → ℕ → ℕ → QueueHolder T → Type 0)
       → ((s : QueueTable T) (r : IsShownQueue key s) (at : get_elem? s.views id ≡ some m.0) → key.size ≡ slots → Permits key s r id n m at one (80 + k % key.size) f (then key.size key.seats)) → Permitted i f then
   of_turn i k is f then all = of_step i f then (λ s r at size.
       let place : 80 + k % key.size ≡ i = ap (λ z. 80 + k % z) size ∙ omega (arith, is) in
       subst (λ j. Permits key s r id n m at one j f (then key.size key.seats)) place (all s r at size))
 
   -- then weaker
-  abbrev Weakens : (ℕ → Holder T → Type 0) → (ℕ → Holder T → Type 0) → Type 0
-  Weakens then less = (found : ℕ) (after : Holder T) → then found after → less found after
+  abbrev Weakens : (ℕ → QueueHolder T → Type 0) → (ℕ → QueueHolder T → Type 0) → Type 0
+  Weakens then less = (found : ℕ) (after : QueueHolder T) → then found after → less found after
 
-  weaker : (i : ℕ) (f : ℕ → ℕ) (then less : ℕ → Holder T → Type 0) → Weakens then less → Allows (IsShownQueue key) slots id m i f then → Allows (IsShownQueue key) slots id m i f less
+  weaker : (i : ℕ) (f : ℕ → ℕ) (then less : ℕ → QueueHolder T → Type 0) → Weakens then less → Allows (IsShownQueue key) slots id m i f then → Allows (IsShownQueue key) slots id m i f less
   weaker i f then less gives all s r wide at small = let q = all s r wide at small in (q.0, q.1, q.2, q.3, gives (slice_index s.words i) (q.0, carried_after m.1 q.1) q.4)
 
   -- of whatever name the seat has
-  named : (i : ℕ) (f : ℕ → ℕ) (then : ℕ → ℕ → Holder T → Type 0) → Allows (IsShownQueue key) slots id m i f (then n) → Allows (IsShownQueue key) slots id m i f (λ found after. Named m (λ k. then k found after))
+  named : (i : ℕ) (f : ℕ → ℕ) (then : ℕ → ℕ → QueueHolder T → Type 0) → Allows (IsShownQueue key) slots id m i f (then n) → Allows (IsShownQueue key) slots id m i f (λ found after. Named m (λ k. then k found after))
   named i f then = weaker i f (then n) (λ found after. Named m (λ k. then k found after)) (λ found after told k other. subst (λ z. then z found after) (first_same (sym one ∙ other)) told)
 
   pub tests_up_allowed : (item : Option T) (x : T) → item ≡ Some x → m.0.phase ≡ Some Idle → Allows (IsShownQueue key) slots id m 16 (λ w. w) (λ found after. Named m (λ k. TestsUp slots seats k item m found after))
@@ -134,8 +134,8 @@ module _ {T : Type 0} (key : Limits) (slots seats id n : ℕ) (m : Holder T) (fe
   shuts_allowed e = named 16 (λ w. bit_or w 9223372036854775808) (λ k. Shuts slots seats k m) (of_step 16 (λ w. bit_or w 9223372036854775808) (λ z q. Shuts z q n m) (λ s r at size. shuts key s r id n m at one e))
 
 -- the load after a join
-pub hears_allowed : {T : Type 0} (key : Limits) (slots seats id : ℕ) (m : Holder T) (i : ℕ) → key.seats ≡ seats → Allows (IsShownQueue key) slots id m i (λ w. w) (λ _ after. HearsJoin slots seats m after)
+pub hears_allowed : {T : Type 0} (key : QueueLimits) (slots seats id : ℕ) (m : QueueHolder T) (i : ℕ) → key.seats ≡ seats → Allows (IsShownQueue key) slots id m i (λ w. w) (λ _ after. HeardJoin slots seats m after)
 hears_allowed {T} key slots seats id m i few s r wide at small =
     let size : key.size ≡ slots = sym r.encoded.wide ∙ wide in
     let q = hears (queue_object key.size key.seats) (queue_law key.size key.seats r.encoded.some_cell) slots id m i s r wide at small in
-    (q.0, q.1, q.2, q.3, subst (λ (z : ℕ × ℕ). HearsJoin z.0 z.1 m (q.0, carried_after m.1 q.1)) (λ j. (size j, few j)) q.4)
+    (q.0, q.1, q.2, q.3, subst (λ (z : ℕ × ℕ). HeardJoin z.0 z.1 m (q.0, carried_after m.1 q.1)) (λ j. (size j, few j)) q.4)

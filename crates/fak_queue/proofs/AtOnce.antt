@@ -5,17 +5,17 @@ use Rattle.fak_model.specs.declared.queue.Mark.{Mark}
 use Rattle.fak_model.specs.Calls.{object_id, SeatInfo}
 use Rattle.fak_core.specs.declared.queue.phase.Phase.{Phase}
 use Rattle.fak_core.specs.declared.queue.phase.Phase.TheVariants.{TurnIn, TurnOut}
-use Rattle.fak_queue.specs.declared.key.Limits.{Limits}
+use Rattle.fak_queue.specs.declared.limits.QueueLimits.{QueueLimits}
 use Rattle.fak_queue.specs.declared.state.SeatState.TheVariants.{Idle}
-use Rattle.fak_queue.specs.Shown.{Holder}
+use Rattle.fak_queue.specs.Shown.{QueueHolder}
 use Rattle.fak_queue.specs.Queues.{QueueInfo, queue_info, drawn_by, state_of, IsQueue, queue_seat, IsQueueSeat, Inserts, Deletes}
 use Rattle.fak_queue.specs.Parts.{ClaimedIn, Filled, ClaimedOut, Taken}
 use Rattle.fak_queue.proofs.SeatCalls.{idle_now, seat_after, state_after, drawn_after, left_less, left_same, claims_in, claims_out, fills, takes}
 use Rattle.fak_queue.proofs.WholeCalls.{inserted, deleted}
 
-module _ {T : Type 0} (key : Limits) {size seats name left : ℕ} {p : Phase T} {table mine : TableId} {m : Holder T} {old : SeatInfo (Mark T)} {queue : QueueInfo}
+module _ {T : Type 0} (key : QueueLimits) {size seats name left : ℕ} {p : Phase T} {table mine : TableId} {m : QueueHolder T} {old : SeatInfo (Mark T)} {queue : QueueInfo}
     (f : IsQueueSeat mine.slots seats name p left m) (q : IsQueue size table) (seat_is : queue_seat (object_id mine seats) name left m ≡ old) (queue_is : queue_info (object_id table key.seats) ≡ queue) (fits : old.object ≡ queue.object)
-    {between now : TableId} (stays : between ≡ mine) (stays_then : now ≡ between) (mid after : Holder T) where
+    {between now : TableId} (stays : between ≡ mine) (stays_then : now ≡ between) (mid after : QueueHolder T) where
   abbrev Mid : SeatInfo (Mark T)
   Mid = queue_seat (object_id between seats) name (left - 1) mid
 

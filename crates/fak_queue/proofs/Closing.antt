@@ -25,7 +25,7 @@ use Rattle.fak_core.proofs.QueueKept.{IsKept, shown}
 use Rattle.fak_core.proofs.QueueTurns.{take_turn, le_or_lt}
 use Rattle.fak_core.proofs.QueueOwners.{in_cell}
 use Rattle.fak_core.proofs.QueueReached.{kept}
-use Rattle.fak_queue.specs.declared.key.Limits.{Limits}
+use Rattle.fak_queue.specs.declared.limits.QueueLimits.{QueueLimits}
 use Rattle.fak_queue.specs.Shown.{QueueView, queue_object, IsShownQueue}
 use Rattle.fak_queue.specs.Left.{item_in, items_left, AreLeft}
 use Rattle.fak_queue.proofs.DeletionSteps.{item_past}
@@ -55,7 +55,7 @@ read_at [] i n e = absurd (some-ne-none n (sym e))
 read_at (x ∷ l) zero n e = some-injective x n e
 read_at (x ∷ l) (suc i) n e = read_at l i n e
 
-module _ {T : Type 0} (key : Limits) (s : State (Option T) (QueueView T)) (r : IsShownQueue key s) (id : ℕ) (v : QueueView T) (there : get_elem? s.views id ≡ some v) (idle : v.phase ≡ Some phase.Idle) (whole : IsWhole key.seats v.names) where
+module _ {T : Type 0} (key : QueueLimits) (s : State (Option T) (QueueView T)) (r : IsShownQueue key s) (id : ℕ) (v : QueueView T) (there : get_elem? s.views id ≡ some v) (idle : v.phase ≡ Some phase.Idle) (whole : IsWhole key.seats v.names) where
   K : IsKept key.size r.core
   K = kept key.size r.core r.reached r.encoded.some_cell
 
@@ -131,7 +131,7 @@ pub record Closes {T : Type 0} (size : ℕ) (seen : List (Mark T)) (cells : List
   pub left : AreLeft size cells got (put - got)
   pub are : items_left size cells got (put - got) ≡ contents seen
 
-pub closes : {T : Type 0} (key : Limits) (size id : ℕ) (v : QueueView T) (ws : List ℕ) (cells : List (Option T)) (put got : ℕ) → Final (Seen (IsShownQueue key) id v) ws cells → length cells ≡ size → v.phase ≡ Some phase.Idle → IsWhole key.seats v.names
+pub closes : {T : Type 0} (key : QueueLimits) (size id : ℕ) (v : QueueView T) (ws : List ℕ) (cells : List (Option T)) (put got : ℕ) → Final (Seen (IsShownQueue key) id v) ws cells → length cells ≡ size → v.phase ≡ Some phase.Idle → IsWhole key.seats v.names
     → get_elem? ws 48 ≡ some put → get_elem? ws 64 ≡ some got → Closes size (reverse v.seen) cells put got
 closes {T} key size id v ws cells put got f long idle whole at_put at_got =
     let s = f.0 in

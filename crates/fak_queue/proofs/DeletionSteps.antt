@@ -26,9 +26,9 @@ use Rattle.fak_core.proofs.QueueTurns.{at_here, at_else}
 use Rattle.fak_core.proofs.QueueOwners.{waits_take}
 use Rattle.fak_core.proofs.QueueReached.{true_or_false, if_true, if_false, kept, moves, deletes, loads_put, draws_put}
 use Rattle.fak_queue.specs.declared.found.LowerCount.{LowerCount}
-use Rattle.fak_queue.specs.declared.key.Limits.{Limits}
+use Rattle.fak_queue.specs.declared.limits.QueueLimits.{QueueLimits}
 use Rattle.fak_queue.specs.Words.{AreWords, IsLowerCount}
-use Rattle.fak_queue.specs.Shown.{Holder, IsAtHome, IsEncoded, queue_object, IsShownQueue}
+use Rattle.fak_queue.specs.Shown.{QueueHolder, IsAtHome, IsEncoded, queue_object, IsShownQueue}
 use Rattle.fak_queue.specs.Steps.{mark, Anything, TestedLow, SubtractedLow, BacksLow, DrawsOut, WaitsOut, TurnedOut, FreedCell, EndsOut}
 use Rattle.fak_queue.proofs.WordWrites.{positive_word, empty_word, only_positive, only_empty, words_draws_out}
 use Rattle.fak_queue.proofs.Slots.{takes_slot, gives_slot, slot_there}
@@ -38,8 +38,8 @@ use Rattle.fak_queue.proofs.Stepping.{QueueTable, queue_law, Permits, K, stands,
 pub item_past : {T : Type 0} (past : List (Mark T)) (k : ℕ) → item_at (items_put (reverse past)) k ≡ item_of past k
 item_past past k = item_same k (reverse past) ∙ ap (λ h. item_of h k) (reverse-reverse past)
 
-module _ {T : Type 0} (key : Limits) (s : QueueTable T) (r : IsShownQueue key s) (id n : ℕ) (m : Holder T) (at : get_elem? s.views id ≡ some m.0) (one : m.0.names ≡ n ∷ []) where
-  abbrev Step : ℕ → (ℕ → ℕ) → (ℕ → Holder T → Type 0) → Type 0
+module _ {T : Type 0} (key : QueueLimits) (s : QueueTable T) (r : IsShownQueue key s) (id n : ℕ) (m : QueueHolder T) (at : get_elem? s.views id ≡ some m.0) (one : m.0.names ≡ n ∷ []) where
+  abbrev Step : ℕ → (ℕ → ℕ) → (ℕ → QueueHolder T → Type 0) → Type 0
   Step i f then = Permits key s r id n m at one i f then
 
   -- a move of the seat from the state c leads to a reached state
@@ -47,7 +47,7 @@ module _ {T : Type 0} (key : Limits) (s : QueueTable T) (r : IsShownQueue key s)
   Leads c o = IsReached key.size (moved c n o)
 
   -- the seat after a step with these marks
-  abbrev After : List (Mark T) → Phase T → Holder T
+  abbrev After : List (Mark T) → Phase T → QueueHolder T
   After new p = (sight m.0.names (new ++ r.core.past) p m.0.left, m.1)
 
   pub tests_low : m.0.phase ≡ Some Idle → Step 32 (λ w. w) (λ found after. (l : LowerCount) → IsLowerCount found l → TestedLow key.size key.seats n l m after)
@@ -60,7 +60,7 @@ module _ {T : Type 0} (key : Limits) (s : QueueTable T) (r : IsShownQueue key s)
       let out = outside key s r id n m at one Idle e (λ i j. j) in
       let phases = apart2 key s r id n m at one TestLow in
       let here = here2 key s r id n m at one TestLow in
-      let Then : Holder T → LowerCount → Type 0 = λ after l. TestedLow key.size key.seats n l m after in
+      let Then : QueueHolder T → LowerCount → Type 0 = λ after l. TestedLow key.size key.seats n l m after in
       elim (true_or_false (int_lt (pos 0) r.core.lower)) [
         | inl lt ↦ (
             let reached_here = if_true (Leads c) (int_lt (pos 0) r.core.lower) _ _ lt reached_next in
@@ -82,7 +82,7 @@ module _ {T : Type 0} (key : Limits) (s : QueueTable T) (r : IsShownQueue key s)
       let word = r.encoded.words_are.lower_is in
       let words = lower_shrunk key s r id n m at one in
       let out = outside key s r id n m at one SubLow e (λ i j. j) in
-      let Then : Holder T → LowerCount → Type 0 = λ after l. SubtractedLow key.size key.seats n l m after in
+      let Then : QueueHolder T → LowerCount → Type 0 = λ after l. SubtractedLow key.size key.seats n l m after in
       elim (true_or_false (int_lt (pos 0) r.core.lower)) [
         | inl lt ↦ (
             let reached_here = if_true (Leads r.core) (int_lt (pos 0) r.core.lower) _ _ lt reached_next in

@@ -23,16 +23,16 @@ use Rattle.fak_core.proofs.QueueTurns.{at_here, at_else}
 use Rattle.fak_core.proofs.QueueOwners.{waits_fill}
 use Rattle.fak_core.proofs.QueueReached.{true_or_false, if_true, if_false, moves, inserts, closes}
 use Rattle.fak_queue.specs.declared.found.UpperCount.{UpperCount}
-use Rattle.fak_queue.specs.declared.key.Limits.{Limits}
+use Rattle.fak_queue.specs.declared.limits.QueueLimits.{QueueLimits}
 use Rattle.fak_queue.specs.Words.{AreWords, IsUpperCount}
-use Rattle.fak_queue.specs.Shown.{Holder, IsAtHome, IsEncoded, queue_object, IsShownQueue}
+use Rattle.fak_queue.specs.Shown.{QueueHolder, IsAtHome, IsEncoded, queue_object, IsShownQueue}
 use Rattle.fak_queue.specs.Steps.{mark, Anything, TestedUp, AddedUp, BacksUp, DrewIn, WaitsIn, TurnedIn, FilledCell, EndsIn, Shuts}
 use Rattle.fak_queue.proofs.WordWrites.{below_word, full_word, shut_above, open_below, only_shut, only_below, only_full, shut_word, words_upper, words_draws_in}
 use Rattle.fak_queue.proofs.Slots.{takes_slot, gives_slot, slot_there}
 use Rattle.fak_queue.proofs.Stepping.{QueueTable, queue_law, Permits, K, stands, outside, upper_most, upper_bounds, upper_shut, upper_open, upper_past, loaded, upper_grown, upper_shrunk, lower_grown, few_draws, near, turn_is, turn_set, apart1, apart2, here1, here2, advances, quiet_step}
 
-module _ {T : Type 0} (key : Limits) (s : QueueTable T) (r : IsShownQueue key s) (id n : ℕ) (m : Holder T) (at : get_elem? s.views id ≡ some m.0) (one : m.0.names ≡ n ∷ []) where
-  abbrev Step : ℕ → (ℕ → ℕ) → (ℕ → Holder T → Type 0) → Type 0
+module _ {T : Type 0} (key : QueueLimits) (s : QueueTable T) (r : IsShownQueue key s) (id n : ℕ) (m : QueueHolder T) (at : get_elem? s.views id ≡ some m.0) (one : m.0.names ≡ n ∷ []) where
+  abbrev Step : ℕ → (ℕ → ℕ) → (ℕ → QueueHolder T → Type 0) → Type 0
   Step i f then = Permits key s r id n m at one i f then
 
   -- a move of the seat from the state c leads to a reached state
@@ -40,7 +40,7 @@ module _ {T : Type 0} (key : Limits) (s : QueueTable T) (r : IsShownQueue key s)
   Leads c o = IsReached key.size (moved c n o)
 
   -- the seat after a step with these marks
-  abbrev After : List (Mark T) → Phase T → Holder T
+  abbrev After : List (Mark T) → Phase T → QueueHolder T
   After new p = (sight m.0.names (new ++ r.core.past) p m.0.left, m.1)
 
   pub tests_up : (x : T) → m.0.phase ≡ Some Idle → Step 16 (λ w. w) (λ found after. (u : UpperCount) → IsUpperCount key.size found u → TestedUp key.size key.seats n x u m after)
@@ -55,7 +55,7 @@ module _ {T : Type 0} (key : Limits) (s : QueueTable T) (r : IsShownQueue key s)
       let phases = apart2 key s r id n m at one (TestUp x) in
       let here = here2 key s r id n m at one (TestUp x) in
       let same = loaded key s r id n m at one 16 in
-      let Then : Holder T → UpperCount → Type 0 = λ after u. TestedUp key.size key.seats n x u m after in
+      let Then : QueueHolder T → UpperCount → Type 0 = λ after u. TestedUp key.size key.seats n x u m after in
       elim (true_or_false r.core.shut) [
         | inl shut ↦ (
             let reached_here = if_true (Leads c) r.core.shut _ _ shut reached_next in
@@ -92,7 +92,7 @@ module _ {T : Type 0} (key : Limits) (s : QueueTable T) (r : IsShownQueue key s)
       let most = upper_most key s r id n m at one in
       let out = outside key s r id n m at one (AddUp x) e (λ i j. j) in
       let words = upper_grown key s r id n m at one in
-      let Then : Holder T → UpperCount → Type 0 = λ after u. AddedUp key.size key.seats n x u m after in
+      let Then : QueueHolder T → UpperCount → Type 0 = λ after u. AddedUp key.size key.seats n x u m after in
       elim (true_or_false r.core.shut) [
         | inl shut ↦ (
             let reached_here = if_true (Leads r.core) r.core.shut _ _ shut reached_next in

@@ -14,10 +14,10 @@ use Rattle.fak_core.proofs.QueueReached.{is_reached}
 use Rattle.fak_model.specs.Tokens.{IsSeatToken}
 use Rattle.fak_model.proofs.Appending.{history_none}
 use Rattle.fak_model.specs.Queue.{queue_rules}
-use Rattle.fak_queue.specs.declared.key.Limits.{Limits}
+use Rattle.fak_queue.specs.declared.limits.QueueLimits.{QueueLimits}
 use Rattle.fak_model.specs.Words.{bias}
 use Rattle.fak_queue.specs.Words.{AreWords}
-use Rattle.fak_queue.specs.Shown.{Holder, IsEncoded, queue_object, IsShownQueue, opened_queue}
+use Rattle.fak_queue.specs.Shown.{QueueHolder, IsEncoded, queue_object, IsShownQueue, opened_queue}
 use Rattle.fak_queue.specs.Queues.{seat_of, idle, IsQueueSeat, queue_seat}
 use Rattle.fak_queue.specs.Refusals.{IsInRange}
 
@@ -47,7 +47,7 @@ first_are_words size =
       turns_are = λ c lt. other (80 + c) (λ q. omega (arith, q)) (λ q. omega (arith, q)) (omega (arith, lt));
     }
 
-pub opens_queue : {T : Type 0} (key : Limits) (words : List ℕ) → words ≡ first_words key.size → IsInRange key.size key.seats key.stint → IsShownQueue {T = T} key (opening words (replicate key.size None) (opened_queue key))
+pub opens_queue : {T : Type 0} (key : QueueLimits) (words : List ℕ) → words ≡ first_words key.size → IsInRange key.size key.seats key.stint → IsShownQueue {T = T} key (opening words (replicate key.size None) (opened_queue key))
 opens_queue {T} key words is range =
     let shows : IsEncoded key.size key.seats (core.opening {A = T}) words (map some (replicate key.size None)) = record {
       some_cell = (let low = range.0.0 in omega (arith, low));
@@ -62,10 +62,10 @@ opens_queue {T} key words is range =
     starts (queue_object key.size key.seats) phase.Idle (key.seats * key.stint) core.opening (is_reached key.size []) refl (λ n low. refl) words (replicate key.size None) shows (omega (arith, few))
 
 -- a seat as it is dealt
-pub fresh_queue_seat : {T : Type 0} (object : ObjectId) (name stint : ℕ) (m : Holder T) → m ≡ (sight (name ∷ []) [] phase.Idle stint, []) → queue_seat object name stint m ≡ seat_info object name stint []
+pub fresh_queue_seat : {T : Type 0} (object : ObjectId) (name stint : ℕ) (m : QueueHolder T) → m ≡ (sight (name ∷ []) [] phase.Idle stint, []) → queue_seat object name stint m ≡ seat_info object name stint []
 fresh_queue_seat {T} object name stint m is =
     let full : stint + 0 ≡ stint = omega arith in
-    ap (λ (x : Holder T). queue_seat object name stint x) is ∙ ap (λ (k : ℕ). seat_info object name k []) full
+    ap (λ (x : QueueHolder T). queue_seat object name stint x) is ∙ ap (λ (k : ℕ). seat_info object name k []) full
 
-pub fresh_keeps : {T : Type 0} (size seats name stint : ℕ) (m : Holder T) → m ≡ (sight (name ∷ []) [] phase.Idle stint, []) → IsSeatToken seat_of seats name phase.Idle stint m → IsQueueSeat size seats name phase.Idle stint m
-fresh_keeps {T} size seats name stint m is token = subst (λ (x : Holder T). IsSeatToken seat_of seats name phase.Idle stint x → IsQueueSeat size seats name phase.Idle stint x) (sym is) (λ t. record { token = t; rests = idle; lawful = history_none (queue_rules size) }) token
+pub fresh_keeps : {T : Type 0} (size seats name stint : ℕ) (m : QueueHolder T) → m ≡ (sight (name ∷ []) [] phase.Idle stint, []) → IsSeatToken seat_of seats name phase.Idle stint m → IsQueueSeat size seats name phase.Idle stint m
+fresh_keeps {T} size seats name stint m is token = subst (λ (x : QueueHolder T). IsSeatToken seat_of seats name phase.Idle stint x → IsQueueSeat size seats name phase.Idle stint x) (sym is) (λ t. record { token = t; rests = idle; lawful = history_none (queue_rules size) }) token

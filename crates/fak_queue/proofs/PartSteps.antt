@@ -18,7 +18,7 @@ use Rattle.fak_model.proofs.QueueStages.{stage_here}
 use Rattle.fak_model.proofs.QueueTickets.{item_stays}
 use Rattle.fak_model.proofs.RunningCalls.{step_appends, step_before, appends_then, appends_none, begins_after, mine_after}
 use Rattle.fak_core.specs.declared.queue.phase.Phase.{Phase}
-use Rattle.fak_queue.specs.Shown.{QueueView, Holder, queue_object}
+use Rattle.fak_queue.specs.Shown.{QueueView, QueueHolder, queue_object}
 use Rattle.fak_queue.specs.Steps.{mark}
 use Rattle.fak_queue.specs.Queues.{seat_of, made_by, RestsAt}
 use Rattle.fak_queue.proofs.DeletionSteps.{item_past}
@@ -26,39 +26,39 @@ use Rattle.fak_queue.specs.Parts.{before_part, IsPart, Nothing}
 
 -- ---- the seat after a step
 
-module _ {T : Type 0} {size seats : ℕ} {m w : Holder T} {new : List (Mark T)} {p : Phase T} {left : ℕ} {carried : List (ℕ × Option T)} {tells : List (Mark T) → Type 0} (l : Leaves (queue_object size seats) m new p left carried tells w) where
+module _ {T : Type 0} {size seats : ℕ} {m w : QueueHolder T} {new : List (Mark T)} {p : Phase T} {left : ℕ} {carried : List (ℕ × Option T)} {tells : List (Mark T) → Type 0} (l : Leaves (queue_object size seats) m new p left carried tells w) where
   pub names_kept : w.0.names ≡ m.0.names
-  names_kept = ap (λ (z : Holder T). z.0.names) l.after_is
+  names_kept = ap (λ (z : QueueHolder T). z.0.names) l.after_is
 
   pub phase_is : w.0.phase ≡ Some p
-  phase_is = ap (λ (z : Holder T). z.0.phase) l.after_is
+  phase_is = ap (λ (z : QueueHolder T). z.0.phase) l.after_is
 
   pub left_is : w.0.left ≡ left
-  left_is = ap (λ (z : Holder T). z.0.left) l.after_is
+  left_is = ap (λ (z : QueueHolder T). z.0.left) l.after_is
 
   pub slots_are : w.1 ≡ carried
-  slots_are = ap (λ (z : Holder T). z.1) l.after_is
+  slots_are = ap (λ (z : QueueHolder T). z.1) l.after_is
 
   pub seen_is : w.0.seen ≡ new ++ l.past
-  seen_is = ap (λ (z : Holder T). z.0.seen) l.after_is
+  seen_is = ap (λ (z : QueueHolder T). z.0.seen) l.after_is
 
   rests_after : (n : ℕ) → m.0.names ≡ n ∷ [] → carried ≡ [] → w ≡ (sight (n ∷ []) w.0.seen p left, [])
   rests_after n one none = l.after_is ∙ (λ i. (sight (one i) (sym seen_is i) p left, none i))
 
 -- ---- parts of a call
 
-module _ {T : Type 0} {size seats n left : ℕ} {kinds : List (Kind T)} {p : Phase T} {tells : List (Mark T) → List (Mark T) → Type 0} {m w : Holder T} (part : IsPart size seats n kinds p left tells m w) where
+module _ {T : Type 0} {size seats n left : ℕ} {kinds : List (Kind T)} {p : Phase T} {tells : List (Mark T) → List (Mark T) → Type 0} {m w : QueueHolder T} (part : IsPart size seats n kinds p left tells m w) where
   pub names_then : w.0.names ≡ n ∷ []
-  names_then = ap (λ (z : Holder T). z.0.names) part.after_is
+  names_then = ap (λ (z : QueueHolder T). z.0.names) part.after_is
 
   pub phase_then : w.0.phase ≡ Some p
-  phase_then = ap (λ (z : Holder T). z.0.phase) part.after_is
+  phase_then = ap (λ (z : QueueHolder T). z.0.phase) part.after_is
 
   pub slots_then : w.1 ≡ []
-  slots_then = ap (λ (z : Holder T). z.1) part.after_is
+  slots_then = ap (λ (z : QueueHolder T). z.1) part.after_is
 
 -- a look that leaves no mark
-pub part_none : {T : Type 0} {size seats : ℕ} (n : ℕ) {m w : Holder T} {p : Phase T} {left : ℕ} {carried : List (ℕ × Option T)} {tells : List (Mark T) → Type 0} → Leaves (queue_object size seats) m [] p left carried tells w
+pub part_none : {T : Type 0} {size seats : ℕ} (n : ℕ) {m w : QueueHolder T} {p : Phase T} {left : ℕ} {carried : List (ℕ × Option T)} {tells : List (Mark T) → Type 0} → Leaves (queue_object size seats) m [] p left carried tells w
     → m.0.names ≡ n ∷ [] → carried ≡ [] → (keep : ℕ) → left ≡ keep → RestsAt p (stage w.0.seen n) → IsPart size seats n [] p keep Nothing m w
 part_none {size = size} {seats = seats} n {m = m} {w = w} {p = p} {left = left} l one none keep kept rests = subst (λ k. IsPart size seats n [] p k Nothing m w) kept record {
   after_is = rests_after l n one none;
@@ -68,7 +68,7 @@ part_none {size = size} {seats = seats} n {m = m} {w = w} {p = p} {left = left} 
 }
 
 -- one step that leaves a mark
-pub part_one : {T : Type 0} {size seats : ℕ} (n : ℕ) (κ : Kind T) {m w : Holder T} {p : Phase T} {left : ℕ} {carried : List (ℕ × Option T)} {tells : List (Mark T) → Type 0} (l : Leaves (queue_object size seats) m (mark n κ ∷ []) p left carried tells w)
+pub part_one : {T : Type 0} {size seats : ℕ} (n : ℕ) (κ : Kind T) {m w : QueueHolder T} {p : Phase T} {left : ℕ} {carried : List (ℕ × Option T)} {tells : List (Mark T) → Type 0} (l : Leaves (queue_object size seats) m (mark n κ ∷ []) p left carried tells w)
     → m.0.names ≡ n ∷ [] → carried ≡ [] → (keep : ℕ) → left ≡ keep → RestsAt p (after_kind l.past κ) → (then : List (Mark T) → Type 0) → then (reverse l.past) → IsPart size seats n (κ ∷ []) p keep (λ first second. then first) m w
 part_one {T} {size = size} {seats = seats} n κ {m = m} {w = w} {p = p} {left = left} l one none keep kept rests then told =
     let before : List (Mark T) = marks_of seat_of n (reverse m.0.seen) in
@@ -81,7 +81,7 @@ part_one {T} {size = size} {seats = seats} n κ {m = m} {w = w} {p = p} {left = 
     }
 
 -- a step with no mark, then two with one mark each; between the first two the seat's slot may change its value
-module _ {T : Type 0} {size seats : ℕ} (n : ℕ) (κ μ : Kind T) {m0 m1 mid m2 m3 : Holder T} {p0 p1 p2 : Phase T} {l0 l1 l2 : ℕ} {c0 c1 c2 : List (ℕ × Option T)} {t0 t1 t2 : List (Mark T) → Type 0}
+module _ {T : Type 0} {size seats : ℕ} (n : ℕ) (κ μ : Kind T) {m0 m1 mid m2 m3 : QueueHolder T} {p0 p1 p2 : Phase T} {l0 l1 l2 : ℕ} {c0 c1 c2 : List (ℕ × Option T)} {t0 t1 t2 : List (Mark T) → Type 0}
     (a : Leaves (queue_object size seats) m0 [] p0 l0 c0 t0 m1) (same : mid.0 ≡ m1.0) (b : Leaves (queue_object size seats) mid (mark n κ ∷ []) p1 l1 c1 t1 m2) (c : Leaves (queue_object size seats) m2 (mark n μ ∷ []) p2 l2 c2 t2 m3)
     (one : m0.0.names ≡ n ∷ []) where
   one1 : m1.0.names ≡ n ∷ []
@@ -136,7 +136,7 @@ item_more [] h k x e = e
 item_more (m ∷ between) h k x e = item_stays m (between ++ h) k x (item_more between h k x e)
 
 -- the item of a ticket stays what it is as more is seen
-pub sees_item : {T : Type 0} {size seats : ℕ} {m w : Holder T} {new : List (Mark T)} {p : Phase T} {left : ℕ} {carried : List (ℕ × Option T)} {tells : List (Mark T) → Type 0} (l : Leaves (queue_object size seats) m new p left carried tells w) (k : ℕ) (x : T)
+pub sees_item : {T : Type 0} {size seats : ℕ} {m w : QueueHolder T} {new : List (Mark T)} {p : Phase T} {left : ℕ} {carried : List (ℕ × Option T)} {tells : List (Mark T) → Type 0} (l : Leaves (queue_object size seats) m new p left carried tells w) (k : ℕ) (x : T)
     → item_at (items_put (reverse m.0.seen)) k ≡ Some x → item_at (items_put (reverse w.0.seen)) k ≡ Some x
 sees_item {m = m} {w = w} {new = new} l k x e =
     let was : item_of m.0.seen k ≡ Some x = sym (item_past m.0.seen k) ∙ e in
@@ -144,12 +144,12 @@ sees_item {m = m} {w = w} {new = new} l k x e =
     item_past w.0.seen k ∙ (ap (λ h. item_of h k) seen ∙ item_more new (l.sees.between ++ m.0.seen) k x (item_more l.sees.between m.0.seen k x was))
 
 -- the item that stood in the past stands in what is seen after the step
-pub put_there : {T : Type 0} {size seats : ℕ} {m w : Holder T} {new : List (Mark T)} {p : Phase T} {left : ℕ} {carried : List (ℕ × Option T)} {tells : List (Mark T) → Type 0} (l : Leaves (queue_object size seats) m new p left carried tells w) (k : ℕ) (x : T)
+pub put_there : {T : Type 0} {size seats : ℕ} {m w : QueueHolder T} {new : List (Mark T)} {p : Phase T} {left : ℕ} {carried : List (ℕ × Option T)} {tells : List (Mark T) → Type 0} (l : Leaves (queue_object size seats) m new p left carried tells w) (k : ℕ) (x : T)
     → item_at (items_put (reverse l.past)) k ≡ Some x → item_at (items_put (reverse w.0.seen)) k ≡ Some x
 put_there {w = w} {new = new} l k x e = item_past w.0.seen k ∙ (ap (λ h. item_of h k) (seen_is l) ∙ item_more new l.past k x (sym (item_past l.past k) ∙ e))
 
 -- the item of a Put stands under the number of earlier Puts
-pub put_new : {T : Type 0} {size seats n : ℕ} {m w : Holder T} {p : Phase T} {left : ℕ} {carried : List (ℕ × Option T)} {tells : List (Mark T) → Type 0} (k : ℕ) (x : T) (l : Leaves (queue_object size seats) m (mark n (Put x) ∷ []) p left carried tells w)
+pub put_new : {T : Type 0} {size seats n : ℕ} {m w : QueueHolder T} {p : Phase T} {left : ℕ} {carried : List (ℕ × Option T)} {tells : List (Mark T) → Type 0} (k : ℕ) (x : T) (l : Leaves (queue_object size seats) m (mark n (Put x) ∷ []) p left carried tells w)
     → count puts (reverse l.past) ≡ k → item_at (items_put (reverse w.0.seen)) k ≡ Some x
 put_new {w = w} k x l e =
     let number : count puts l.past ≡ k = sym (count_reverse puts l.past) ∙ e in

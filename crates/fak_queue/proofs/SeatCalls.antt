@@ -21,8 +21,8 @@ use Rattle.fak_core.specs.declared.queue.phase.Phase.{Phase}
 use Rattle.fak_core.specs.declared.queue.phase.Phase.TheVariants as phase
 use Rattle.fak_queue.specs.declared.state.SeatState.{SeatState}
 use Rattle.fak_queue.specs.declared.state.SeatState.TheVariants.{Idle, Inserting, Deleting}
-use Rattle.fak_queue.specs.declared.key.Limits.{Limits}
-use Rattle.fak_queue.specs.Shown.{Holder}
+use Rattle.fak_queue.specs.declared.limits.QueueLimits.{QueueLimits}
+use Rattle.fak_queue.specs.Shown.{QueueHolder}
 use Rattle.fak_queue.specs.declared.found.NoRoom.{NoRoom}
 use Rattle.fak_queue.specs.declared.found.NoRoom.TheVariants as refused
 use Rattle.fak_queue.specs.Refusals.{RefusesInsertion}
@@ -44,7 +44,7 @@ shows idle = refl
 shows (inserting k x few) = refl
 shows (deleting k few) = refl
 
-pub state_shown : {T : Type 0} (object : ObjectId) (name left : ℕ) (m : Holder T) (p : Phase T) → RestsAt p (stage m.0.seen name) → state_of (queue_seat object name left m) ≡ state_in p
+pub state_shown : {T : Type 0} (object : ObjectId) (name left : ℕ) (m : QueueHolder T) (p : Phase T) → RestsAt p (stage m.0.seen name) → state_of (queue_seat object name left m) ≡ state_in p
 state_shown object name left m p rests = ap (λ h. state_at (stage h name)) (reverse-reverse m.0.seen) ∙ shows rests
 
 -- a resting seat with an open insertion keeps its item
@@ -66,7 +66,7 @@ pub tickets-append : {T : Type 0} (f g : List (Mark T)) → tickets_in (f ++ g) 
 tickets-append f g = omega (arith, count_append puts f g, count_append gots f g)
 
 -- a seat of a queue, with its token m, and what contracts see of both
-module _ {T : Type 0} (key : Limits) {size seats name left : ℕ} {p : Phase T} {table mine : TableId} {m : Holder T} {old : SeatInfo (Mark T)} {queue : QueueInfo}
+module _ {T : Type 0} (key : QueueLimits) {size seats name left : ℕ} {p : Phase T} {table mine : TableId} {m : QueueHolder T} {old : SeatInfo (Mark T)} {queue : QueueInfo}
     (f : IsQueueSeat mine.slots seats name p left m) (q : IsQueue size table) (seat_is : queue_seat (object_id mine seats) name left m ≡ old) (queue_is : queue_info (object_id table key.seats) ≡ queue) (fits : old.object ≡ queue.object) where
   same_object : object_id mine seats ≡ object_id table key.seats
   same_object = ap (λ (s : SeatInfo (Mark T)). s.object) seat_is ∙ (fits ∙ sym (ap (λ (c : QueueInfo). c.object) queue_is))
@@ -95,7 +95,7 @@ module _ {T : Type 0} (key : Limits) {size seats name left : ℕ} {p : Phase T} 
   pub deleting_now : {j : ℕ} → p ≡ phase.TurnOut j → state_of old ≡ Deleting j
   deleting_now e = state_now ∙ ap (λ z. state_in z) e
 
-  module _ {kinds : List (Kind T)} {next : Phase T} {after : Holder T} {tells : List (Mark T) → List (Mark T) → Type 0} {was_left now_left : ℕ} (was : IsPart table.slots key.seats name kinds next was_left tells m after) (left_is : was_left ≡ now_left) {now : TableId} (stays : now ≡ mine) where
+  module _ {kinds : List (Kind T)} {next : Phase T} {after : QueueHolder T} {tells : List (Mark T) → List (Mark T) → Type 0} {was_left now_left : ℕ} (was : IsPart table.slots key.seats name kinds next was_left tells m after) (left_is : was_left ≡ now_left) {now : TableId} (stays : now ≡ mine) where
     part : IsPart table.slots key.seats name kinds next now_left tells m after
     part = subst (λ k. IsPart table.slots key.seats name kinds next k tells m after) left_is was
 
@@ -146,7 +146,7 @@ module _ {T : Type 0} (key : Limits) {size seats name left : ℕ} {p : Phase T} 
   pub left_same : m.0.left ≡ left
   left_same = token_left f.token
 
-  module _ {now : TableId} (stays : now ≡ mine) (after : Holder T) where
+  module _ {now : TableId} (stays : now ≡ mine) (after : QueueHolder T) where
     abbrev New : ℕ → SeatInfo (Mark T)
     New k = queue_seat (object_id now seats) name k after
 
@@ -237,7 +237,7 @@ module _ {T : Type 0} (key : Limits) {size seats name left : ℕ} {p : Phase T} 
     waits_to_take w = record { makes = makes w.part left_same stays (omega arith); unfilled = w.unfilled }
 
 -- an idle seat's token
-pub idle_token : {T : Type 0} {size seats name left : ℕ} {p : Phase T} {m : Holder T} {table : TableId} {seat : SeatInfo (Mark T)} → IsQueueSeat size seats name p left m → queue_seat (object_id table seats) name left m ≡ seat → state_of seat ≡ Idle → IsSeatToken seat_of seats name phase.Idle left m
+pub idle_token : {T : Type 0} {size seats name left : ℕ} {p : Phase T} {m : QueueHolder T} {table : TableId} {seat : SeatInfo (Mark T)} → IsQueueSeat size seats name p left m → queue_seat (object_id table seats) name left m ≡ seat → state_of seat ≡ Idle → IsSeatToken seat_of seats name phase.Idle left m
 idle_token {T} {seats = seats} {name = name} {left = left} {p = p} {m = m} {table = table} f seat_is e =
     let shown : state_of (queue_seat (object_id table seats) name left m) ≡ state_in p = state_shown (object_id table seats) name left m p f.rests in
     subst (λ (z : Phase T). IsSeatToken seat_of seats name z left m) (idle_phase f.rests (sym shown ∙ (ap state_of seat_is ∙ e))) f.token

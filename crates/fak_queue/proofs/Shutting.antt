@@ -7,14 +7,14 @@ use Rattle.fak_model.specs.declared.queue.Kind.TheVariants.{Close}
 use Rattle.fak_model.specs.Queue.{count, upper_raise, upper_drop, Has}
 use Rattle.fak_model.proofs.QueueCounts.{upper_range}
 use Rattle.fak_core.proofs.QueueReached.{true_or_false, kept}
-use Rattle.fak_queue.specs.declared.key.Limits.{Limits}
+use Rattle.fak_queue.specs.declared.limits.QueueLimits.{QueueLimits}
 use Rattle.fak_queue.specs.Shown.{IsShownQueue, QueueView}
 use Rattle.fak_model.specs.Words.{bias}
 use Rattle.fak_queue.specs.Words.{shut_bit, shut_part}
 use Rattle.fak_queue.proofs.Stepping.{below_of}
 use Rattle.fak_queue.proofs.WordWrites.{shut_above, open_below}
 
-pub shut_exactly : {T : Type 0} (key : Limits) (s : State (Option T) (QueueView T)) (shown : IsShownQueue key s) → (shut_bit ≤ slice_index s.words 16) ↔ Has Close shown.core.past
+pub shut_exactly : {T : Type 0} (key : QueueLimits) (s : State (Option T) (QueueView T)) (shown : IsShownQueue key s) → (shut_bit ≤ slice_index s.words 16) ↔ Has Close shown.core.past
 shut_exactly key s shown =
     let core = shown.core in
     let K = kept key.size core shown.reached shown.encoded.some_cell in

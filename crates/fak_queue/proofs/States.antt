@@ -18,14 +18,14 @@ use Rattle.fak_model.proofs.QueueBackwards.{Last, last_of, drew}
 use Rattle.fak_model.proofs.QueueWords.{owed_in}
 use Rattle.fak_model.proofs.QueueLiteral.{owes, to_past}
 use Rattle.fak_queue.specs.declared.state.SeatState.TheVariants.{Idle, Inserting, Deleting}
-use Rattle.fak_queue.specs.Shown.{Holder}
+use Rattle.fak_queue.specs.Shown.{QueueHolder}
 use Rattle.fak_queue.specs.Steps.{Shuts, ShutAs}
 use Rattle.fak_queue.specs.Words.{shut_bit}
 use Rattle.fak_core.specs.declared.queue.phase.Phase.TheVariants as phase
 use Rattle.fak_queue.specs.Queues.{IsState, queue_seat, IsQueueSeat, RestsAt, idle, inserting, deleting}
 
 -- a seat with no open call
-pub idle_state : {T : Type 0} (size : ℕ) (object : ObjectId) (name left : ℕ) (m : Holder T) → IsQueueHistory size (reverse m.0.seen) → stage m.0.seen name ≡ at.Idle → IsState (queue_seat object name left m) Idle
+pub idle_state : {T : Type 0} (size : ℕ) (object : ObjectId) (name left : ℕ) (m : QueueHolder T) → IsQueueHistory size (reverse m.0.seen) → stage m.0.seen name ≡ at.Idle → IsState (queue_seat object name left m) Idle
 idle_state size object name left m lawful e =
     let back : stage (reverse (reverse m.0.seen)) name ≡ at.Idle = ap (λ h. stage h name) (reverse-reverse m.0.seen) ∙ e in
     subst (λ t. Owes words_of_call (seat_words (queue_rules size) name (reverse m.0.seen)) (owed_in t)) back (owes size name (reverse m.0.seen) (to_past size (reverse m.0.seen) lawful))
@@ -33,7 +33,7 @@ idle_state size object name left m lawful e =
 last_there : {T : Type 0} (h : List (Mark T)) (name : ℕ) → (stage (reverse h) name ≡ at.Idle → ⊥) → Last (reverse h) name
 last_there h name busy = elim (last_of (reverse h) name) [ inl e ↦ absurd (busy e) | inr l ↦ l ]
 
-pub inserting_state : {T : Type 0} (object : ObjectId) (name left k : ℕ) (x : T) (m : Holder T) → stage m.0.seen name ≡ at.Putting k x → IsState (queue_seat object name left m) (Inserting k)
+pub inserting_state : {T : Type 0} (object : ObjectId) (name left k : ℕ) (x : T) (m : QueueHolder T) → stage m.0.seen name ≡ at.Putting k x → IsState (queue_seat object name left m) (Inserting k)
 inserting_state object name left k x m e =
     let h = reverse m.0.seen in
     let back : stage (reverse h) name ≡ at.Putting k x = ap (λ p. stage p name) (reverse-reverse m.0.seen) ∙ e in
@@ -41,7 +41,7 @@ inserting_state object name left k x m e =
     let is = after_putting l.older l.m.kind k x (sym l.stands ∙ back) in
     (x, drew h name l (made.Put x) puts k is.0 is.1)
 
-pub deleting_state : {T : Type 0} (object : ObjectId) (name left k : ℕ) (m : Holder T) → stage m.0.seen name ≡ at.Getting k → IsState (queue_seat object name left m) (Deleting k)
+pub deleting_state : {T : Type 0} (object : ObjectId) (name left k : ℕ) (m : QueueHolder T) → stage m.0.seen name ≡ at.Getting k → IsState (queue_seat object name left m) (Deleting k)
 deleting_state {T} object name left k m e =
     let h = reverse m.0.seen in
     let back : stage (reverse h) name ≡ at.Getting k = ap (λ p. stage p name) (reverse-reverse m.0.seen) ∙ e in
@@ -50,7 +50,7 @@ deleting_state {T} object name left k m e =
     (is.0.0, drew h name l (made.Got is.0.0) gots k is.0.1 is.1)
 
 -- what the word of the upper count told at the shutting
-pub shut_as : {T : Type 0} (size seats n found : ℕ) (m after : Holder T) → Shuts size seats n m found after → (b : Bool) → nat_lt found shut_bit ≡ b → ShutAs size seats n b m after
+pub shut_as : {T : Type 0} (size seats n found : ℕ) (m after : QueueHolder T) → Shuts size seats n m found after → (b : Bool) → nat_lt found shut_bit ≡ b → ShutAs size seats n b m after
 shut_as size seats n found m after told true e = told.first (grind (arith, nat_tests))
 shut_as size seats n found m after told false e = told.again (grind (arith, nat_tests))
 
@@ -67,7 +67,7 @@ rests_deleting (deleting k few) = (refl, few)
 
 -- ---- what the seat's state says
 
-module _ {T : Type 0} {size seats name left : ℕ} {p : Phase T} {m : Holder T} {table : TableId} {seat : SeatInfo (Mark T)} (f : IsQueueSeat size seats name p left m) (seat_is : queue_seat (object_id table seats) name left m ≡ seat) where
+module _ {T : Type 0} {size seats name left : ℕ} {p : Phase T} {m : QueueHolder T} {table : TableId} {seat : SeatInfo (Mark T)} (f : IsQueueSeat size seats name p left m) (seat_is : queue_seat (object_id table seats) name left m ≡ seat) where
   pub reads_idle : p ≡ phase.Idle → IsState seat Idle
   reads_idle e = subst (λ s. IsState s Idle) seat_is (idle_state size (object_id table seats) name left m f.lawful (rests_idle (subst (λ q. RestsAt q (stage m.0.seen name)) e f.rests)))
 

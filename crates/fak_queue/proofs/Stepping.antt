@@ -22,10 +22,10 @@ use Rattle.fak_core.specs.QueueSchedule.{InCell, IsReached}
 use Rattle.fak_core.proofs.QueueKept.{IsKept}
 use Rattle.fak_core.proofs.QueueTurns.{at_here, at_else}
 use Rattle.fak_core.proofs.QueueReached.{kept, legal_history}
-use Rattle.fak_queue.specs.declared.key.Limits.{Limits}
+use Rattle.fak_queue.specs.declared.limits.QueueLimits.{QueueLimits}
 use Rattle.fak_model.specs.Words.{bias}
 use Rattle.fak_queue.specs.Words.{shut_part, AreWords}
-use Rattle.fak_queue.specs.Shown.{QueueView, Holder, queue_object, IsShownQueue}
+use Rattle.fak_queue.specs.Shown.{QueueView, QueueHolder, queue_object, IsShownQueue}
 use Rattle.fak_queue.proofs.WordWrites.{grown, shrunk, shut_part-small, words_same, words_upper, words_lower, words_turn}
 use Rattle.fak_queue.proofs.Slots.{stays_home}
 
@@ -46,9 +46,9 @@ upper_count-reverse h = λ i. pos (count_reverse upper_raise h i) -ℤ pos (coun
 pub lower_count-reverse : {T : Type 0} (h : List (Mark T)) → lower_count (reverse h) ≡ lower_count h
 lower_count-reverse h = λ i. pos (count_reverse lower_raise h i) -ℤ pos (count_reverse lower_drop h i)
 
-module _ {T : Type 0} (key : Limits) (s : QueueTable T) (r : IsShownQueue key s) (id n : ℕ) (m : Holder T) (at : get_elem? s.views id ≡ some m.0) (one : m.0.names ≡ n ∷ []) where
+module _ {T : Type 0} (key : QueueLimits) (s : QueueTable T) (r : IsShownQueue key s) (id n : ℕ) (m : QueueHolder T) (at : get_elem? s.views id ≡ some m.0) (one : m.0.names ≡ n ∷ []) where
   -- what `Allows` asks of a step
-  abbrev pub Permits : ℕ → (ℕ → ℕ) → (ℕ → Holder T → Type 0) → Type 0
+  abbrev pub Permits : ℕ → (ℕ → ℕ) → (ℕ → QueueHolder T → Type 0) → Type 0
   Permits i f then = (w : QueueView T) × (a : Act (Option T)) × Valid s.homes m.1 a × IsShownQueue key (stepped s i (f (slice_index s.words i)) id m.1 w a) × then (slice_index s.words i) (w, carried_after m.1 a)
 
   pub K : IsKept key.size r.core

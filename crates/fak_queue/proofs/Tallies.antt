@@ -15,7 +15,7 @@ use Rattle.fak_model.proofs.Seats.{in_either}
 use Rattle.fak_core.specs.declared.queue.phase.Phase.{Phase}
 use Rattle.fak_core.proofs.QueueTurns.{le_or_lt}
 use Rattle.fak_queue.specs.declared.state.SeatState.TheVariants.{Idle}
-use Rattle.fak_queue.specs.Shown.{Holder}
+use Rattle.fak_queue.specs.Shown.{QueueHolder}
 use Rattle.fak_queue.specs.Queues.{QueueInfo, seat_of, size_of, state_of, queue_seat, RestsAt, IsQueueSeat, AreIdle}
 use Rattle.fak_queue.proofs.SeatCalls.{idle_phase, state_shown, state_in}
 use Rattle.fak_queue.proofs.States.{idle_state, rests_idle}
@@ -25,7 +25,7 @@ abbrev pub HasEnded : {T : Type 0} → ℕ → List (Mark T) → Type 0
 HasEnded n h = Owes words_of_call (seat_words (queue_rules 0) n h) []
 
 -- an idle seat
-pub seat_ended : {T : Type 0} {size seats name left : ℕ} {p : Phase T} {m : Holder T} {table : TableId} {seat : SeatInfo (Mark T)} → IsQueueSeat size seats name p left m → queue_seat (object_id table seats) name left m ≡ seat → state_of seat ≡ Idle → HasEnded name (reverse m.0.seen)
+pub seat_ended : {T : Type 0} {size seats name left : ℕ} {p : Phase T} {m : QueueHolder T} {table : TableId} {seat : SeatInfo (Mark T)} → IsQueueSeat size seats name p left m → queue_seat (object_id table seats) name left m ≡ seat → state_of seat ≡ Idle → HasEnded name (reverse m.0.seen)
 seat_ended {T} {size} {seats} {name} {left} {p} {m} {table} f seat_is e =
     let shown : state_of (queue_seat (object_id table seats) name left m) ≡ state_in p = state_shown (object_id table seats) name left m p f.rests in
     let is = idle_phase f.rests (sym shown ∙ (ap state_of seat_is ∙ e)) in

@@ -7,9 +7,9 @@ use Rattle.fak_model.proofs.RunningCalls.{token_names, token_phase, token_slots}
 use Rattle.fak_core.specs.declared.queue.phase.Phase.{Phase}
 use Rattle.fak_core.specs.declared.queue.phase.Phase.TheVariants as phase
 use Rattle.fak_core.specs.declared.queue.phase.Phase.TheVariants.{TurnIn, StoreItem, TurnOut, LoadItem}
-use Rattle.fak_queue.specs.declared.key.Limits.{Limits}
+use Rattle.fak_queue.specs.declared.limits.QueueLimits.{QueueLimits}
 use Rattle.fak_queue.specs.declared.state.SeatState.TheVariants.{Idle, Inserting, Deleting}
-use Rattle.fak_queue.specs.Shown.{Holder}
+use Rattle.fak_queue.specs.Shown.{QueueHolder}
 use Rattle.fak_queue.specs.Steps.{Named}
 use Rattle.fak_queue.specs.Queues.{QueueInfo, queue_info, drawn_by, state_of, IsQueue, queue_seat, IsQueueSeat, WaitsToFill, Fills, WaitsToTake, Takes}
 use Rattle.fak_queue.specs.Parts.{Filled, LooksIn, FillsSlot, Taken, LooksOut, TakesSlot}
@@ -17,9 +17,9 @@ use Rattle.fak_queue.proofs.PartSteps.{names_kept, phase_is}
 use Rattle.fak_queue.proofs.Turning.{slot_in, slot_out}
 use Rattle.fak_queue.proofs.SeatCalls.{left_same, seat_after, state_after, drawn_after, inserting_now, deleting_now, one_insertion, one_deletion, fills, waits_to_fill, takes, waits_to_take}
 
-module _ {T : Type 0} (key : Limits) {size seats name left : ℕ} {p : Phase T} {table mine : TableId} {m : Holder T} {old : SeatInfo (Mark T)} {queue : QueueInfo}
+module _ {T : Type 0} (key : QueueLimits) {size seats name left : ℕ} {p : Phase T} {table mine : TableId} {m : QueueHolder T} {old : SeatInfo (Mark T)} {queue : QueueInfo}
     (f : IsQueueSeat mine.slots seats name p left m) (q : IsQueue size table) (seat_is : queue_seat (object_id mine seats) name left m ≡ old) (queue_is : queue_info (object_id table key.seats) ≡ queue) (fits : old.object ≡ queue.object)
-    {now : TableId} (stays : now ≡ mine) (after : Holder T) where
+    {now : TableId} (stays : now ≡ mine) (after : QueueHolder T) where
   abbrev New : SeatInfo (Mark T)
   New = queue_seat (object_id now seats) name left after
 
@@ -48,7 +48,7 @@ module _ {T : Type 0} (key : Limits) {size seats name left : ℕ} {p : Phase T} 
       pub waits_in : (j : ℕ) → state_of old ≡ Inserting j → WaitsToFill queue.size j old New
       waits_in j e = subst (λ z. WaitsToFill queue.size z old New) (one_insertion (inserting_now key f q seat_is queue_is fits stands) e) (waits_to_fill key f q seat_is queue_is fits stays after away_in)
 
-    module _ {mid : Holder T} (told : Named m (λ n. (y : T) → m.0.phase ≡ Some (TurnIn k y) → LooksIn table.slots key.seats n k y true m mid)) where
+    module _ {mid : QueueHolder T} (told : Named m (λ n. (y : T) → m.0.phase ≡ Some (TurnIn k y) → LooksIn table.slots key.seats n k y true m mid)) where
       look_in : LooksIn table.slots key.seats name k x true m mid
       look_in = told name (token_names f.token) x at_turn_in
 
@@ -98,7 +98,7 @@ module _ {T : Type 0} (key : Limits) {size seats name left : ℕ} {p : Phase T} 
       pub waits_out : (j : ℕ) → state_of old ≡ Deleting j → WaitsToTake queue.size j old New
       waits_out j e = subst (λ z. WaitsToTake queue.size z old New) (one_deletion (deleting_now key f q seat_is queue_is fits stands) e) (waits_to_take key f q seat_is queue_is fits stays after away_out)
 
-    module _ {mid : Holder T} (told : Named m (λ n. LooksOut table.slots key.seats n k true m mid)) where
+    module _ {mid : QueueHolder T} (told : Named m (λ n. LooksOut table.slots key.seats n k true m mid)) where
       look_out : LooksOut table.slots key.seats name k true m mid
       look_out = told name (token_names f.token)
 

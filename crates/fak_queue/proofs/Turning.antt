@@ -8,7 +8,7 @@ use Rattle.fak_model.specs.Queue.{items_put, item_at, Has}
 use Rattle.fak_model.specs.QueuePast.{stage}
 use Rattle.fak_core.specs.declared.queue.phase.Phase.{Phase}
 use Rattle.fak_core.specs.declared.queue.phase.Phase.TheVariants.{TurnIn, EndInsert, TurnOut, EndDelete}
-use Rattle.fak_queue.specs.Shown.{QueueView, Holder}
+use Rattle.fak_queue.specs.Shown.{QueueView, QueueHolder}
 use Rattle.fak_queue.specs.Steps.{Named, TurnedIn, FilledCell, EndsIn, TurnedOut, FreedCell, EndsOut}
 use Rattle.fak_queue.specs.Queues.{RestsAt, idle, inserting, deleting}
 use Rattle.fak_queue.specs.Parts.{IsTurnedAwayIn, LooksIn, FillsSlot, IsTurnedAwayOut, LooksOut, TakesSlot, Nothing}
@@ -28,7 +28,7 @@ same_item {x = x} {y = y} e f = let both : TurnIn _ x ≡ TurnIn _ y = sym e ∙
 
 -- ---- insertions
 
-module _ {T : Type 0} (slots seats n k : ℕ) (x : T) (m0 m1 : Holder T) where
+module _ {T : Type 0} (slots seats n k : ℕ) (x : T) (m0 m1 : QueueHolder T) where
   module _ (one : m0.0.names ≡ n ∷ []) (free : m0.1 ≡ []) (few : k < 2 ^ 46) (found round : ℕ) (round_is : round ≡ k / slots) (turned : TurnedIn slots seats n k x m0 found m1) where
     turned_away_in : found ≢ 2 * round → IsTurnedAwayIn slots seats n k x m0 m1
     turned_away_in far =
@@ -49,9 +49,9 @@ module _ {T : Type 0} (slots seats n k : ℕ) (x : T) (m0 m1 : Holder T) where
   pub slot_in : LooksIn slots seats n k x true m0 m1 → m0.1 ≡ [] → (cell : ℕ) → cell ≡ k % slots → m1.1 ≡ (cell, None) ∷ []
   slot_in look free cell cell_is = slots_are look ∙ (λ i. (sym cell_is i, None) ∷ free i)
 
-module _ {T : Type 0} (slots seats n k cell : ℕ) (x : T) (m1 mid m2 m3 : Holder T) (one : m1.0.names ≡ n ∷ []) (slot : m1.1 ≡ (cell, None) ∷ []) (exchanged : mid ≡ (m1.0, (cell, Some x) ∷ rest m1.1)) (fills : Named mid (λ n. FilledCell slots seats n k mid m2)) where
+module _ {T : Type 0} (slots seats n k cell : ℕ) (x : T) (m1 mid m2 m3 : QueueHolder T) (one : m1.0.names ≡ n ∷ []) (slot : m1.1 ≡ (cell, None) ∷ []) (exchanged : mid ≡ (m1.0, (cell, Some x) ∷ rest m1.1)) (fills : Named mid (λ n. FilledCell slots seats n k mid m2)) where
   same_in : mid.0 ≡ m1.0
-  same_in = ap (λ (y : Holder T). y.0) exchanged
+  same_in = ap (λ (y : QueueHolder T). y.0) exchanged
 
   names_in : mid.0.names ≡ n ∷ []
   names_in = ap (λ (v : QueueView T). v.names) same_in ∙ one
@@ -67,13 +67,13 @@ module _ {T : Type 0} (slots seats n k cell : ℕ) (x : T) (m1 mid m2 m3 : Holde
 
   pub fills_slot : Named m2 (λ n. EndsIn slots seats n m2 m3) → FillsSlot slots seats n k x m1 m3
   fills_slot ends was was_one free look =
-      let none : m2.1 ≡ [] = slots_are filled_cell ∙ (ap (λ (y : Holder T). rest y.1) exchanged ∙ ap rest slot) in
+      let none : m2.1 ≡ [] = slots_are filled_cell ∙ (ap (λ (y : QueueHolder T). rest y.1) exchanged ∙ ap rest slot) in
       let kept : m2.0.left ≡ was.0.left = left_is filled_cell ∙ (ap (λ (v : QueueView T). v.left) same_in ∙ left_is look) in
       part_two n (made.Fill k) made.EndIn look same_in filled_cell (ends n names_filled) was_one none was.0.left kept idle Nothing tt
 
 -- ---- deletions
 
-module _ {T : Type 0} (slots seats n k : ℕ) (m0 m1 : Holder T) where
+module _ {T : Type 0} (slots seats n k : ℕ) (m0 m1 : QueueHolder T) where
   module _ (one : m0.0.names ≡ n ∷ []) (free : m0.1 ≡ []) (few : k < 2 ^ 46) (found round : ℕ) (round_is : round ≡ k / slots) (turned : TurnedOut slots seats n k m0 found m1) where
     turned_away_out : found ≢ 2 * round + 1 → IsTurnedAwayOut slots seats n k m0 m1
     turned_away_out far =
@@ -92,9 +92,9 @@ module _ {T : Type 0} (slots seats n k : ℕ) (m0 m1 : Holder T) where
   pub slot_out : LooksOut slots seats n k true m0 m1 → m0.1 ≡ [] → (cell : ℕ) → cell ≡ k % slots → (x : T) × (m1.1 ≡ (cell, Some x) ∷ [])
   slot_out look free cell cell_is = (look.item, slots_are look.leaves ∙ (λ i. (sym cell_is i, Some look.item) ∷ free i))
 
-module _ {T : Type 0} (slots seats n k cell : ℕ) (x : T) (m1 mid m2 m3 : Holder T) (one : m1.0.names ≡ n ∷ []) (slot : m1.1 ≡ (cell, Some x) ∷ []) (exchanged : mid ≡ (m1.0, (cell, None) ∷ rest m1.1)) (frees : Named mid (λ n. FreedCell slots seats n k mid m2)) where
+module _ {T : Type 0} (slots seats n k cell : ℕ) (x : T) (m1 mid m2 m3 : QueueHolder T) (one : m1.0.names ≡ n ∷ []) (slot : m1.1 ≡ (cell, Some x) ∷ []) (exchanged : mid ≡ (m1.0, (cell, None) ∷ rest m1.1)) (frees : Named mid (λ n. FreedCell slots seats n k mid m2)) where
   same_out : mid.0 ≡ m1.0
-  same_out = ap (λ (y : Holder T). y.0) exchanged
+  same_out = ap (λ (y : QueueHolder T). y.0) exchanged
 
   names_out : mid.0.names ≡ n ∷ []
   names_out = ap (λ (v : QueueView T). v.names) same_out ∙ one
@@ -111,7 +111,7 @@ module _ {T : Type 0} (slots seats n k cell : ℕ) (x : T) (m1 mid m2 m3 : Holde
   pub takes_slot : Named m2 (λ n. EndsOut slots seats n m2 m3) → TakesSlot slots seats n k x m1 m3
   takes_slot ends was was_one free look =
       let e = ends n names_freed in
-      let none : m2.1 ≡ [] = slots_are freed_cell ∙ (ap (λ (y : Holder T). rest y.1) exchanged ∙ ap rest slot) in
+      let none : m2.1 ≡ [] = slots_are freed_cell ∙ (ap (λ (y : QueueHolder T). rest y.1) exchanged ∙ ap rest slot) in
       let kept : m2.0.left ≡ was.0.left = left_is freed_cell ∙ (ap (λ (v : QueueView T). v.left) same_out ∙ left_is look.leaves) in
       let item_is : Some look.item ≡ Some x = took m1.1 _ _ _ _ _ _ (slots_are look.leaves) slot in
       record {

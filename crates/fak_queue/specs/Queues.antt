@@ -18,7 +18,7 @@ use Rattle.fak_core.specs.declared.queue.phase.Phase.{Phase}
 use Rattle.fak_core.specs.declared.queue.phase.Phase.TheVariants as phase
 use Rattle.fak_queue.specs.declared.state.SeatState.{SeatState}
 use Rattle.fak_queue.specs.declared.state.SeatState.TheVariants.{Idle, Inserting, Deleting}
-use Rattle.fak_queue.specs.Shown.{Holder}
+use Rattle.fak_queue.specs.Shown.{QueueHolder}
 
 -- ---- queues and seats
 
@@ -80,7 +80,7 @@ pub record IsQueue (size : ℕ) (table : TableId) : Type 0 where
   pub few_cells : size ≤ 4096
 
 -- a seat of this object, name and view, with so many tickets left of its stint
-abbrev pub queue_seat : {T : Type 0} → ObjectId → ℕ → ℕ → Holder T → SeatInfo (Mark T)
+abbrev pub queue_seat : {T : Type 0} → ObjectId → ℕ → ℕ → QueueHolder T → SeatInfo (Mark T)
 queue_seat object name left me = seat_info object name (left + tickets_in (marks_of seat_of name (reverse me.0.seen))) (reverse me.0.seen)
 
 -- what a seat of a queue of this size keeps; between two calls it is idle, or waits for its turn at a cell
@@ -89,13 +89,13 @@ pub data RestsAt {T : Type 0} : Phase T → Stage T → Type 0 where
   inserting : (k : ℕ) → (x : T) → k < 2 ^ 46 → RestsAt (phase.TurnIn k x) (at.Putting k x)
   deleting : (k : ℕ) → k < 2 ^ 46 → RestsAt (phase.TurnOut k) (at.Getting k)
 
-pub record IsQueueSeat {T : Type 0} (size seats name : ℕ) (p : Phase T) (left : ℕ) (me : Holder T) : Type 0 where
+pub record IsQueueSeat {T : Type 0} (size seats name : ℕ) (p : Phase T) (left : ℕ) (me : QueueHolder T) : Type 0 where
   pub token : IsSeatToken seat_of seats name p left me
   pub rests : RestsAt p (stage me.0.seen name)
   pub lawful : IsQueueHistory size (reverse me.0.seen)
 
 -- what a tally of a queue of this size keeps: its seats are between two calls
-pub record IsQueueTally {T : Type 0} (size seats : ℕ) (names : NameSet) (me : Holder T) : Type 0 where
+pub record IsQueueTally {T : Type 0} (size seats : ℕ) (names : NameSet) (me : QueueHolder T) : Type 0 where
   pub token : IsTallyToken seat_of seats phase.Idle me
   pub just : HasJust names me.0.names
   pub lawful : IsQueueHistory size (reverse me.0.seen)

@@ -13,15 +13,15 @@ use Rattle.fak_core.specs.declared.queue.phase.Phase.{Phase}
 use Rattle.fak_core.specs.declared.queue.phase.Phase.TheVariants.{Idle}
 use Rattle.fak_core.specs.QueueMoves.{QueueState}
 use Rattle.fak_core.specs.QueueSchedule.{InCell, IsReached}
-use Rattle.fak_queue.specs.declared.key.Limits.{Limits}
+use Rattle.fak_queue.specs.declared.limits.QueueLimits.{QueueLimits}
 use Rattle.fak_queue.specs.Words.{AreWords}
 
 -- what a seat of a queue knows, with the slots that it holds
 abbrev pub QueueView : Type 0 → Type 0
 QueueView T = View (Mark T) (Phase T)
 
-abbrev pub Holder : Type 0 → Type 0
-Holder T = Me (Option T) (QueueView T)
+abbrev pub QueueHolder : Type 0 → Type 0
+QueueHolder T = Me (Option T) (QueueView T)
 
 -- a slot at home has its cell's content where the turn is odd, and nothing where it is even
 pub record IsAtHome {T : Type 0} (turn : ℕ) (content : Option T) (home : maybe.Option (maybe.Option (Option T))) : Type 0 where
@@ -56,8 +56,8 @@ queue_object {T} size seats = record {
   Encodes = IsEncoded size seats;
 }
 
-abbrev pub IsShownQueue : {T : Type 0} → Limits → State (Option T) (QueueView T) → Type 0
+abbrev pub IsShownQueue : {T : Type 0} → QueueLimits → State (Option T) (QueueView T) → Type 0
 IsShownQueue key s = IsShown (queue_object key.size key.seats) s
 
-abbrev pub opened_queue : {T : Type 0} → Limits → QueueView T
+abbrev pub opened_queue : {T : Type 0} → QueueLimits → QueueView T
 opened_queue key = opened Idle key.seats (key.seats * key.stint)

@@ -8,13 +8,13 @@ ghost use Rattle.fak_queue.specs.Parts.{ClaimedIn, ClaimedOut, RefusedIn, Refuse
 use crate::found::{LowerCount, NoRoom, UpperCount};
 use crate::steps::deletion::{back_low, sub_low, test_low, ticket_out};
 use crate::steps::insertion::{add_up, back_up, test_up, ticket_in};
-use crate::steps::{QueueWords, Token};
+use crate::steps::{QueueToken, QueueWords};
 use std::marker::Brand;
 
 // Claims room for an item, and draws its ticket.
 pub(crate) fn admit_insertion<T>(
     words: &QueueWords<T>,
-    token: &mut Token<T>,
+    token: &mut QueueToken<T>,
     size: u64,
     item: &T,
 ) -> Result<u64, NoRoom>
@@ -47,7 +47,10 @@ pub(crate) fn admit_insertion<T>(
 }
 
 // Claims an item, and draws its ticket; where there is none, the lower count that was found.
-pub(crate) fn admit_deletion<T>(words: &QueueWords<T>, token: &mut Token<T>) -> Result<u64, i64>
+pub(crate) fn admit_deletion<T>(
+    words: &QueueWords<T>,
+    token: &mut QueueToken<T>,
+) -> Result<u64, i64>
     requires table { FitsTable token.old.table_id words.now.table_id words.now.key words.now.key.seats }
     requires seat { HasOneName token.old.me × (token.old.me.1 ≡ []) }
     requires phase { token.old.me.0.phase ≡ Some Idle }

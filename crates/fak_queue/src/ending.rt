@@ -20,7 +20,7 @@ use std::marker::Brand;
 impl<T: Drop> Queue<T> {
     /// The tally with one more seat.
     pub fn join(&self, tally: Tally<T>, seat: Seat<T>) -> Tally<T>
-        requires fits { (tally.object ≡ self.now.object) × (seat.object ≡ self.now.object) }
+        requires object { (tally.object ≡ self.now.object) × (seat.object ≡ self.now.object) }
         requires idle { state_of seat ≡ Idle }
         ensures joined { IsJoined (queue_rules self.now.size) tally seat result }
         ensures object { result.object ≡ self.now.object }
@@ -50,7 +50,7 @@ impl<T: Drop> Queue<T> {
     /// Closes the queue, once all seats are in the tally. What is left is what the whole history leaves, in which no call
     /// is cut short.
     pub fn close(self, tally: Tally<T>) -> Rest<T>
-        requires fits { tally.object ≡ self.object }
+        requires object { tally.object ≡ self.object }
         requires whole { IsWhole self.object.seats tally.names }
         ensures rest { result ≡ contents tally.seen }
         ensures lawful { IsQueueHistory self.size tally.seen }

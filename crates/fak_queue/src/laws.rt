@@ -5,7 +5,7 @@ ghost use mathlib.Core.Option.{some, none};
 ghost use lib.ListN.{get_elem?};
 ghost use Rattle.atomic_table.specs.Table.{State};
 ghost use Rattle.fak_core.specs.QueueSchedule.{InCell};
-ghost use Rattle.fak_queue.specs.declared.key.Limits.{Limits};
+ghost use Rattle.fak_queue.specs.declared.limits.QueueLimits.{QueueLimits};
 ghost use Rattle.fak_model.specs.declared.queue.Kind.TheVariants.{Close};
 ghost use Rattle.fak_model.specs.Queue.{Has};
 ghost use Rattle.fak_queue.specs.Shown.{IsShownQueue, QueueView};
@@ -14,18 +14,18 @@ ghost use Rattle.fak_queue.specs.Words.{shut_bit};
 /// At most one seat at a time stands between the load that found its turn at a cell and the store that gives the
 /// cell on.
 pub fn a_running_cell_has_one_owner<T>()
-    ensures { (key : Limits) (s : State (Option T) (QueueView T)) (shown : IsShownQueue key s) → (a b cell : ℕ)
+    ensures { (key : QueueLimits) (s : State (Option T) (QueueView T)) (shown : IsShownQueue key s) → (a b cell : ℕ)
         → InCell key.size (shown.core.phase a) cell → InCell key.size (shown.core.phase b) cell → a ≡ b }
 {}
 
 /// A cell's slot is out of the table exactly while a seat stands so in the cell.
 pub fn a_slot_is_out_while_its_cell_has_an_owner<T>()
-    ensures { (key : Limits) (s : State (Option T) (QueueView T)) (shown : IsShownQueue key s) → (cell : ℕ) → cell < key.size
+    ensures { (key : QueueLimits) (s : State (Option T) (QueueView T)) (shown : IsShownQueue key s) → (cell : ℕ) → cell < key.size
         → (get_elem? s.homes cell ≡ some none) ↔ ((a : ℕ) × InCell key.size (shown.core.phase a) cell) }
 {}
 
 /// The shut bit is set in the word of the upper count exactly where a `Close` stands in the history that is shown.
 pub fn the_shut_bit_tells_of_a_close<T>()
-    ensures { (key : Limits) (s : State (Option T) (QueueView T)) (shown : IsShownQueue key s)
+    ensures { (key : QueueLimits) (s : State (Option T) (QueueView T)) (shown : IsShownQueue key s)
         → (shut_bit ≤ slice_index s.words 16) ↔ Has Close shown.core.past }
 {}

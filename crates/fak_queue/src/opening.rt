@@ -7,11 +7,11 @@ ghost use Rattle.fak_queue.specs.Shown.{opened_queue};
 
 use crate::cells::Cells;
 use crate::fault::OpenFault;
-use crate::key::Limits;
+use crate::limits::QueueLimits;
 use crate::queue::Queue;
-use crate::rule::Law;
+use crate::rule::QueueRule;
 use crate::seat::Seat;
-use crate::steps::Token;
+use crate::steps::QueueToken;
 use crate::words::{LOWER, MARGIN, TURNS, UPPER};
 use atomic_table::Table;
 use fak_core::Phase;
@@ -34,10 +34,13 @@ fn tested_limits(size: u64, seats: u64, stint: u64) -> Result<(), OpenFault>
     Ok(())
 }
 
-type QueueTable<T> = Table<Option<T>, View<Mark<T>, Phase<T>>, Limits, Law, Global>;
+type QueueTable<T> = Table<Option<T>, View<Mark<T>, Phase<T>>, QueueLimits, QueueRule, Global>;
 
 // The table of an empty queue, with a seat for all names.
-fn empty_table<T>(alloc: Global, key: &Limits) -> Result<(QueueTable<T>, Token<T>), AllocError>
+fn empty_table<T>(
+    alloc: Global,
+    key: &QueueLimits,
+) -> Result<(QueueTable<T>, QueueToken<T>), AllocError>
     requires { IsInRange key.now.size key.now.seats key.now.stint }
     ensures { IfOk result (λ r. (r.0.shared.table_id.words ≡ 96 + key.now.size) × (r.0.shared.table_id.slots ≡ key.now.size) × (r.0.shared.key ≡ key.now)
         × (r.1.table_id ≡ r.0.shared.table_id) × (r.1.me ≡ (opened_queue key.now, []))) }
@@ -67,7 +70,7 @@ impl<T: Drop> Queue<T> {
         if let Err(fault) = tested_limits(size, seats, stint) {
             return Err(fault);
         }
-        let key = Limits { size, seats, stint };
+        let key = QueueLimits { size, seats, stint };
         let Ok((table, mut rest)) = empty_table(alloc, &key) else {
             return Err(OpenFault::Memory);
         };

@@ -9,7 +9,7 @@ ghost use Rattle.fak_queue.specs.Steps.{
   DrawsOut,
   EndsIn,
   EndsOut,
-  HearsJoin,
+  HeardJoin,
   Named,
   SetsFree,
   SetsFull,
@@ -40,145 +40,145 @@ impl<T> Call<T> for Brand {
 }
 
 /// The load of the upper count that begins an insertion.
-pub struct TestUp<J> {
+pub struct TestUpPlay<J> {
     call: PhantomData<J>,
 }
 
-impl<T, J: Call<T>> Play<Option<T>, View<Mark<T>, Phase<T>>> for TestUp<J> {
+impl<T, J: Call<T>> Play<Option<T>, View<Mark<T>, Phase<T>>> for TestUpPlay<J> {
     ghost then = { λ s m found after. Named m (λ n. TestsUp s.slots J.seats n J.item m found after) };
 }
 
 /// The add to the upper count.
-pub struct AddUp<J> {
+pub struct AddUpPlay<J> {
     call: PhantomData<J>,
 }
 
-impl<T, J: Call<T>> Play<Option<T>, View<Mark<T>, Phase<T>>> for AddUp<J> {
+impl<T, J: Call<T>> Play<Option<T>, View<Mark<T>, Phase<T>>> for AddUpPlay<J> {
     ghost then = { λ s m found after. Named m (λ n. AddsUp s.slots J.seats n m found after) };
 }
 
 /// The withdrawal of an insertion.
-pub struct BackUp<J> {
+pub struct BackUpPlay<J> {
     call: PhantomData<J>,
 }
 
-impl<T, J: Call<T>> Play<Option<T>, View<Mark<T>, Phase<T>>> for BackUp<J> {
+impl<T, J: Call<T>> Play<Option<T>, View<Mark<T>, Phase<T>>> for BackUpPlay<J> {
     ghost then = { λ s m _ after. Named m (λ n. BacksUp s.slots J.seats n m after) };
 }
 
 /// The draw of an insertion's ticket.
-pub struct TicketIn<J> {
+pub struct TicketInPlay<J> {
     call: PhantomData<J>,
 }
 
-impl<T, J: Call<T>> Play<Option<T>, View<Mark<T>, Phase<T>>> for TicketIn<J> {
+impl<T, J: Call<T>> Play<Option<T>, View<Mark<T>, Phase<T>>> for TicketInPlay<J> {
     ghost then = { λ s m found after. Named m (λ n. DrawsIn s.slots J.seats n m found after) };
 }
 
 /// An insertion's load of its cell's turn.
-pub struct TurnIn<J> {
+pub struct TurnInPlay<J> {
     call: PhantomData<J>,
 }
 
-impl<T, J: Call<T>> Play<Option<T>, View<Mark<T>, Phase<T>>> for TurnIn<J> {
+impl<T, J: Call<T>> Play<Option<T>, View<Mark<T>, Phase<T>>> for TurnInPlay<J> {
     ghost then = { λ s m found after. Named m (λ n. TurnsIn s.slots J.seats n m found after) };
 }
 
 /// The store that makes a cell full.
-pub struct SetFull<J> {
+pub struct SetFullPlay<J> {
     call: PhantomData<J>,
 }
 
-impl<T, J: Call<T>> Play<Option<T>, View<Mark<T>, Phase<T>>> for SetFull<J> {
+impl<T, J: Call<T>> Play<Option<T>, View<Mark<T>, Phase<T>>> for SetFullPlay<J> {
     ghost then = { λ s m _ after. Named m (λ n. SetsFull s.slots J.seats n m after) };
 }
 
 /// The add to the lower count that ends an insertion.
-pub struct EndIn<J> {
+pub struct EndInPlay<J> {
     call: PhantomData<J>,
 }
 
-impl<T, J: Call<T>> Play<Option<T>, View<Mark<T>, Phase<T>>> for EndIn<J> {
+impl<T, J: Call<T>> Play<Option<T>, View<Mark<T>, Phase<T>>> for EndInPlay<J> {
     ghost then = { λ s m _ after. Named m (λ n. EndsIn s.slots J.seats n m after) };
 }
 
 /// The load of the lower count that begins a deletion.
-pub struct TestLow<J> {
+pub struct TestLowPlay<J> {
     call: PhantomData<J>,
 }
 
-impl<T, J: Call<T>> Play<Option<T>, View<Mark<T>, Phase<T>>> for TestLow<J> {
+impl<T, J: Call<T>> Play<Option<T>, View<Mark<T>, Phase<T>>> for TestLowPlay<J> {
     ghost then = { λ s m found after. Named m (λ n. TestsLow s.slots J.seats n m found after) };
 }
 
 /// The subtraction from the lower count.
-pub struct SubLow<J> {
+pub struct SubLowPlay<J> {
     call: PhantomData<J>,
 }
 
-impl<T, J: Call<T>> Play<Option<T>, View<Mark<T>, Phase<T>>> for SubLow<J> {
+impl<T, J: Call<T>> Play<Option<T>, View<Mark<T>, Phase<T>>> for SubLowPlay<J> {
     ghost then = { λ s m found after. Named m (λ n. SubtractsLow s.slots J.seats n m found after) };
 }
 
 /// The withdrawal of a deletion.
-pub struct BackLow<J> {
+pub struct BackLowPlay<J> {
     call: PhantomData<J>,
 }
 
-impl<T, J: Call<T>> Play<Option<T>, View<Mark<T>, Phase<T>>> for BackLow<J> {
+impl<T, J: Call<T>> Play<Option<T>, View<Mark<T>, Phase<T>>> for BackLowPlay<J> {
     ghost then = { λ s m _ after. Named m (λ n. BacksLow s.slots J.seats n m after) };
 }
 
 /// The draw of a deletion's ticket.
-pub struct TicketOut<J> {
+pub struct TicketOutPlay<J> {
     call: PhantomData<J>,
 }
 
-impl<T, J: Call<T>> Play<Option<T>, View<Mark<T>, Phase<T>>> for TicketOut<J> {
+impl<T, J: Call<T>> Play<Option<T>, View<Mark<T>, Phase<T>>> for TicketOutPlay<J> {
     ghost then = { λ s m found after. Named m (λ n. DrawsOut s.slots J.seats n m found after) };
 }
 
 /// A deletion's load of its cell's turn.
-pub struct TurnOut<J> {
+pub struct TurnOutPlay<J> {
     call: PhantomData<J>,
 }
 
-impl<T, J: Call<T>> Play<Option<T>, View<Mark<T>, Phase<T>>> for TurnOut<J> {
+impl<T, J: Call<T>> Play<Option<T>, View<Mark<T>, Phase<T>>> for TurnOutPlay<J> {
     ghost then = { λ s m found after. Named m (λ n. TurnsOut s.slots J.seats n m found after) };
 }
 
 /// The store that makes a cell free.
-pub struct SetFree<J> {
+pub struct SetFreePlay<J> {
     call: PhantomData<J>,
 }
 
-impl<T, J: Call<T>> Play<Option<T>, View<Mark<T>, Phase<T>>> for SetFree<J> {
+impl<T, J: Call<T>> Play<Option<T>, View<Mark<T>, Phase<T>>> for SetFreePlay<J> {
     ghost then = { λ s m _ after. Named m (λ n. SetsFree s.slots J.seats n m after) };
 }
 
 /// The subtraction from the upper count that ends a deletion.
-pub struct EndOut<J> {
+pub struct EndOutPlay<J> {
     call: PhantomData<J>,
 }
 
-impl<T, J: Call<T>> Play<Option<T>, View<Mark<T>, Phase<T>>> for EndOut<J> {
+impl<T, J: Call<T>> Play<Option<T>, View<Mark<T>, Phase<T>>> for EndOutPlay<J> {
     ghost then = { λ s m _ after. Named m (λ n. EndsOut s.slots J.seats n m after) };
 }
 
 /// The setting of the shut bit.
-pub struct Shut<J> {
+pub struct ShutPlay<J> {
     call: PhantomData<J>,
 }
 
-impl<T, J: Call<T>> Play<Option<T>, View<Mark<T>, Phase<T>>> for Shut<J> {
+impl<T, J: Call<T>> Play<Option<T>, View<Mark<T>, Phase<T>>> for ShutPlay<J> {
     ghost then = { λ s m found after. Named m (λ n. Shuts s.slots J.seats n m found after) };
 }
 
 /// The load after a join.
-pub struct Hear<J> {
+pub struct HearPlay<J> {
     call: PhantomData<J>,
 }
 
-impl<T, J: Call<T>> Play<Option<T>, View<Mark<T>, Phase<T>>> for Hear<J> {
-    ghost then = { λ s m _ after. HearsJoin s.slots J.seats m after };
+impl<T, J: Call<T>> Play<Option<T>, View<Mark<T>, Phase<T>>> for HearPlay<J> {
+    ghost then = { λ s m _ after. HeardJoin s.slots J.seats m after };
 }

@@ -1,8 +1,8 @@
 //! The queue that its seats share.
 
 use crate::cells::Cells;
-use crate::key::Limits;
-use crate::rule::Law;
+use crate::limits::QueueLimits;
+use crate::rule::QueueRule;
 use atomic_table::Table;
 use fak_core::Phase;
 use fak_model::{Mark, View};
@@ -13,7 +13,7 @@ use std::marker::Model;
 /// no lock. Contracts see which object it is and its size.
 #[derive(Drop)]
 pub struct Queue<T> {
-    pub(crate) table: Table<Option<T>, View<Mark<T>, Phase<T>>, Limits, Law, Global>,
+    pub(crate) table: Table<Option<T>, View<Mark<T>, Phase<T>>, QueueLimits, QueueRule, Global>,
     pub(crate) cells: Cells,
 }
 

@@ -4,7 +4,7 @@ ghost use Rattle.std.specs.Prelude.{◌≡◌, ◌+◌};
 ghost use Rattle.fak_queue.specs.Queues.{IsState, drawn_by, state_of};
 
 use crate::state::SeatState;
-use crate::steps::Token;
+use crate::steps::QueueToken;
 use fak_core::Phase;
 use std::marker::Model;
 
@@ -12,7 +12,7 @@ use std::marker::Model;
 /// fills the cell it keeps the item. Contracts see its object, its name, its stint and the history that it has seen.
 #[derive(Drop)]
 pub struct Seat<T> {
-    pub(crate) token: Token<T>,
+    pub(crate) token: QueueToken<T>,
     pub(crate) name: u64,
     pub(crate) seats: u64,
     pub(crate) left: u64,

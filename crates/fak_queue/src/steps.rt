@@ -5,40 +5,39 @@ pub(crate) mod insertion;
 
 ghost use Rattle.std.specs.Prelude.{◌≡◌, Some};
 ghost use Rattle.fak_core.specs.declared.queue.phase.Phase.TheVariants.{Idle};
-ghost use Rattle.fak_queue.specs.Steps.{FitsTable, HasOneName, HearsJoin, Named, ShutAs};
+ghost use Rattle.fak_queue.specs.Steps.{FitsTable, HasOneName, HeardJoin, Named, ShutAs};
 
-use crate::key::Limits;
-use crate::plays;
-use crate::plays::Call;
-use crate::rule::Law;
+use crate::limits::QueueLimits;
+use crate::plays::{Call, HearPlay, ShutPlay};
+use crate::rule::QueueRule;
 use crate::words::{SHUT, UPPER};
 use atomic_table::Shared;
 use fak_core::Phase;
 use fak_model::{Mark, View};
 
 /// A seat at a queue's table.
-pub(crate) type Token<T> = atomic_table::Seat<Option<T>, View<Mark<T>, Phase<T>>>;
+pub(crate) type QueueToken<T> = atomic_table::Seat<Option<T>, View<Mark<T>, Phase<T>>>;
 
 /// The words and the slots of a queue.
-pub(crate) type QueueWords<T> = Shared<Option<T>, View<Mark<T>, Phase<T>>, Limits, Law>;
+pub(crate) type QueueWords<T> = Shared<Option<T>, View<Mark<T>, Phase<T>>, QueueLimits, QueueRule>;
 
 // Sets the shut bit, and tells whether it was not set before.
-pub(crate) fn shut<T, J: Call<T>>(words: &QueueWords<T>, token: &mut Token<T>) -> bool
+pub(crate) fn shut<T, J: Call<T>>(words: &QueueWords<T>, token: &mut QueueToken<T>) -> bool
     requires table { FitsTable token.old.table_id words.now.table_id words.now.key J.seats }
     requires seat { HasOneName token.old.me }
     requires phase { token.old.me.0.phase ≡ Some Idle }
     ensures same { token.new.table_id ≡ token.old.table_id }
     ensures told { Named token.old.me (λ n. ShutAs words.now.table_id.slots J.seats n result token.old.me token.new.me) }
 {
-    let found = words.fetch_or::<plays::Shut<J>>(token, UPPER, SHUT);
+    let found = words.fetch_or::<ShutPlay<J>>(token, UPPER, SHUT);
     found < SHUT
 }
 
 // After a join, a load that tells what it compared.
-pub(crate) fn hear<T, J: Call<T>>(words: &QueueWords<T>, token: &mut Token<T>)
+pub(crate) fn hear<T, J: Call<T>>(words: &QueueWords<T>, token: &mut QueueToken<T>)
     requires table { FitsTable token.old.table_id words.now.table_id words.now.key J.seats }
     ensures same { token.new.table_id ≡ token.old.table_id }
-    ensures told { HearsJoin words.now.table_id.slots J.seats token.old.me token.new.me }
+    ensures told { HeardJoin words.now.table_id.slots J.seats token.old.me token.new.me }
 {
-    words.load::<plays::Hear<J>>(token, UPPER);
+    words.load::<HearPlay<J>>(token, UPPER);
 }

@@ -9,7 +9,7 @@ ghost use Rattle.fak_queue.specs.declared.state.SeatState.TheVariants.{Idle};
 ghost use Rattle.fak_queue.specs.Queues.{seat_of, size_of, state_of};
 
 use crate::seat::Seat;
-use crate::steps::Token;
+use crate::steps::QueueToken;
 use fak_model::NameSet;
 use std::marker::Model;
 
@@ -17,7 +17,7 @@ use std::marker::Model;
 /// the longest history that one of them has seen.
 #[derive(Drop)]
 pub struct Tally<T> {
-    pub(crate) token: Token<T>,
+    pub(crate) token: QueueToken<T>,
     pub(crate) names: NameSet,
     pub(crate) seats: u64,
 }
@@ -39,7 +39,7 @@ impl<T: Drop> Tally<T> {
     /// The tally of one seat.
     pub fn of(seat: Seat<T>) -> Tally<T>
         requires { state_of seat ≡ Idle }
-        ensures value { result ≡ tally_of seat }
+        ensures tally { result ≡ tally_of seat }
         ensures lawful { IsQueueHistory (size_of result.object) result.seen }
         ensures named { AreNamed (queue_rules (size_of result.object)) result.object.seats result.seen }
     {

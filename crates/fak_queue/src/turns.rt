@@ -10,14 +10,14 @@ use crate::looks::Looks;
 use crate::place::Place;
 use crate::steps::deletion::{end_out, set_free, turn_out};
 use crate::steps::insertion::{end_in, set_full, turn_in};
-use crate::steps::{QueueWords, Token};
+use crate::steps::{QueueToken, QueueWords};
 use fak_core::Phase;
 use std::marker::Brand;
 use std::mem;
 use std::sync::Wait;
 
 // Whether it is the ticket's turn to fill its cell. Then the seat has the cell's slot.
-pub(crate) fn finds_room<T>(words: &QueueWords<T>, token: &mut Token<T>, place: Place) -> bool
+pub(crate) fn finds_room<T>(words: &QueueWords<T>, token: &mut QueueToken<T>, place: Place) -> bool
     requires table { FitsTable token.old.table_id words.now.table_id words.now.key words.now.key.seats }
     requires place { IsPlace words.now.table_id.slots place }
     requires seat { HasOneName token.old.me × (token.old.me.1 ≡ []) }
@@ -30,7 +30,7 @@ pub(crate) fn finds_room<T>(words: &QueueWords<T>, token: &mut Token<T>, place: 
 }
 
 // Moves the item into the cell whose slot the seat has, and ends the insertion.
-pub(crate) fn fill_cell<T>(words: &QueueWords<T>, token: &mut Token<T>, place: Place, item: T)
+pub(crate) fn fill_cell<T>(words: &QueueWords<T>, token: &mut QueueToken<T>, place: Place, item: T)
     requires table { FitsTable token.old.table_id words.now.table_id words.now.key words.now.key.seats }
     requires place { IsPlace words.now.table_id.slots place }
     requires seat { HasOneName token.old.me }
@@ -50,7 +50,7 @@ pub(crate) fn fill_cell<T>(words: &QueueWords<T>, token: &mut Token<T>, place: P
 // The same with the item that a waiting seat keeps.
 pub(crate) fn fill_cell_from<T: Drop>(
     words: &QueueWords<T>,
-    token: &mut Token<T>,
+    token: &mut QueueToken<T>,
     place: Place,
     kept: &mut Phase<T>,
 )
@@ -71,7 +71,7 @@ pub(crate) fn fill_cell_from<T: Drop>(
 }
 
 // Whether it is the ticket's turn to empty its cell. Then the seat has the cell's slot.
-pub(crate) fn finds_item<T>(words: &QueueWords<T>, token: &mut Token<T>, place: Place) -> bool
+pub(crate) fn finds_item<T>(words: &QueueWords<T>, token: &mut QueueToken<T>, place: Place) -> bool
     requires table { FitsTable token.old.table_id words.now.table_id words.now.key words.now.key.seats }
     requires place { IsPlace words.now.table_id.slots place }
     requires seat { HasOneName token.old.me × (token.old.me.1 ≡ []) }
@@ -83,7 +83,7 @@ pub(crate) fn finds_item<T>(words: &QueueWords<T>, token: &mut Token<T>, place: 
 }
 
 // Moves the item out of the cell whose slot the seat has, and ends the deletion.
-pub(crate) fn empty_cell<T>(words: &QueueWords<T>, token: &mut Token<T>, place: Place) -> T
+pub(crate) fn empty_cell<T>(words: &QueueWords<T>, token: &mut QueueToken<T>, place: Place) -> T
     requires table { FitsTable token.old.table_id words.now.table_id words.now.key words.now.key.seats }
     requires place { IsPlace words.now.table_id.slots place }
     requires seat { HasOneName token.old.me }
@@ -105,7 +105,7 @@ pub(crate) fn empty_cell<T>(words: &QueueWords<T>, token: &mut Token<T>, place: 
 pub(crate) fn wait_to_fill<T, R: Wait>(
     rt: &R,
     words: &QueueWords<T>,
-    token: &mut Token<T>,
+    token: &mut QueueToken<T>,
     place: Place,
     item: T,
 )
@@ -131,7 +131,7 @@ pub(crate) fn wait_to_fill<T, R: Wait>(
 pub(crate) fn wait_to_empty<T, R: Wait>(
     rt: &R,
     words: &QueueWords<T>,
-    token: &mut Token<T>,
+    token: &mut QueueToken<T>,
     place: Place,
 ) -> T
     requires table { FitsTable token.old.table_id words.now.table_id words.now.key words.now.key.seats }

@@ -43,7 +43,7 @@ pub(crate) const TURNS: usize = 80;
 pub(crate) const SHUT: u64 = 1 << 63;
 
 // What this word of the upper count says, in a queue of this size.
-pub(crate) fn upper_count(found: u64, size: u64) -> UpperCount
+pub(crate) fn read_upper(found: u64, size: u64) -> UpperCount
     requires { size < 2 ^ 62 }
     ensures { IsUpperCount size found result }
 {
@@ -57,7 +57,7 @@ pub(crate) fn upper_count(found: u64, size: u64) -> UpperCount
 }
 
 // What this word of the lower count says.
-pub(crate) fn lower_count(found: u64) -> LowerCount
+pub(crate) fn read_lower(found: u64) -> LowerCount
     ensures { IsLowerCount found result }
 {
     if found > BIAS {

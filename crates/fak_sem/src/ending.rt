@@ -14,7 +14,7 @@ use fak_queue::Rest;
 impl<T: Drop> Semaphore<T> {
     /// The tally with one more seat.
     pub fn join(&self, tally: SemTally<T>, seat: SemSeat<T>) -> SemTally<T>
-        requires fits { (tally.object ≡ self.now.object) × (seat.object ≡ self.now.object) }
+        requires object { (tally.object ≡ self.now.object) × (seat.object ≡ self.now.object) }
         ensures joined { JoinsSeat self.now.size tally seat result }
         ensures object { result.object ≡ self.now.object }
     {
@@ -38,7 +38,7 @@ impl<T: Drop> Semaphore<T> {
     /// Closes the semaphore, once all seats are in the tally. What is left is the items of the downs that neither passed
     /// nor were woken, oldest first.
     pub fn close(self, tally: SemTally<T>) -> Rest<T>
-        requires fits { tally.object ≡ self.object }
+        requires object { tally.object ≡ self.object }
         requires whole { IsWhole (seats_of self.object) tally.names }
         ensures rest { result ≡ contents tally.queue_seen }
         ensures settled { IsSettled self.object.start tally.credit_seen tally.queue_seen }

@@ -15,13 +15,13 @@
 //! `docs/CALLING.md` is the guide for callers.
 
 mod ending;
-pub mod fault;
+mod fault;
 pub mod laws;
 mod opening;
 mod retries;
-pub mod seat;
-pub mod semaphore;
-pub mod tally;
+mod seat;
+mod semaphore;
+mod tally;
 #[cfg(test)]
 mod tests;
 

@@ -37,7 +37,7 @@ impl<T> Model for SemTally<T> {
 impl<T: Drop> SemTally<T> {
     /// The tally of one seat.
     pub fn of(seat: SemSeat<T>) -> SemTally<T>
-        ensures value { result ≡ sem_tally_of seat }
+        ensures tally { result ≡ sem_tally_of seat }
         ensures lawful { IsQueueHistory (size_of result.object.queue) result.queue_seen }
         ensures credit_named { AreNamed credit_rules (seats_of result.object) result.credit_seen }
         ensures queue_named { AreNamed (queue_rules (size_of result.object.queue)) (seats_of result.object) result.queue_seen }

@@ -1,5 +1,6 @@
 -- Scripts as plain data: where nothing is said of where they lie in memory. A text is its bytes.
 use Rattle.std.specs.Prelude.{◌≡◌, ℕ, ◌<◌, ◌≤◌, List, [], All, length, slice_get, Option, Some, None}
+use Rattle.fak_model.specs.Limits.{longest_stint}
 use Rattle.fak_text.specs.declared.steps.StepLimits.{StepLimits}
 
 -- a step of a program
@@ -71,7 +72,7 @@ pub record IsInRange (script : ScriptOf) : Type 0 where
   pub slots : IsWithin 1 64 script.slots
   pub births : script.births ≤ 1000
   pub quantum : IsWithin 1 1000 script.quantum
-  pub stint : IsWithin 1 1099511627776 script.stint
+  pub stint : IsWithin 1 longest_stint script.stint
   pub semaphore_count : length script.semaphores ≤ 16
   pub semaphores : All (λ value. value ≤ 1000000) script.semaphores
   pub files : IsWithin 1 16 script.files

@@ -2,6 +2,7 @@
 use Rattle.std.specs.Prelude.{ℕ, List, length, Option, Some, None, Result, Ok}
 use Rattle.serde_json.specs.Data.{Data}
 use Rattle.serde_json.specs.Find.{get}
+use Rattle.fak_model.specs.Limits.{longest_stint}
 use Rattle.fak_text.specs.Fields.{name_of}
 use Rattle.fak_text.specs.Gives.{◌>>=◌}
 use Rattle.fak_text.specs.Script.{ScriptOf}
@@ -21,12 +22,9 @@ numbers_of_key f most bound d = do
   ds ← elements_of_key f most d
   each_from (number_from f bound) 0 ds
 
-abbrev pub most_stint : ℕ
-most_stint = 1099511627776
-
 abbrev pub stint_or_most : Option Data → Result ℕ TextFault
-stint_or_most None = Ok most_stint
-stint_or_most (Some value) = number_within fields.Stint 1 most_stint (whole_number value)
+stint_or_most None = Ok longest_stint
+stint_or_most (Some value) = number_within fields.Stint 1 longest_stint (whole_number value)
 
 -- the stint, the greatest where the key is absent
 unfoldable pub stint_of_key : Data → Result ℕ TextFault

@@ -77,7 +77,7 @@ fn seat_shelves<'t>(
     table: &'t FileTable,
     mut seats: Vec<FileSeat>,
 ) -> Result<Vec<SeatShelf<'t>>, AllocError>
-    requires free { AreFree table.now.object seats.items }
+    requires idle { AreFree table.now.object seats.items }
     requires some { 0 < table.now.entries }
 {
     let mut shelves = Vec::new(alloc);

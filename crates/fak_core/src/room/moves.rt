@@ -2,7 +2,7 @@
 
 ghost use Rattle.std.specs.Prelude.{◌≡◌, ◌++◌, ◌≤◌, ◌≤ℤ◌, pos, reverse, Err, IfErr, IsSome, OnErr, OnOk};
 ghost use Rattle.fak_core.specs.declared.fault.CoreFault.TheVariants.{Memory};
-ghost use Rattle.fak_core.specs.Room.{HasRange, add_move, back_move, first_phase, fits, line_mark, marks_left, next_move, release_move, test_move};
+ghost use Rattle.fak_core.specs.Room.{HasRange, add_move, back_move, begun_phase, fits, line_mark, marks_left, next_move, release_move, test_move};
 
 use super::phase::{CoreSeat, RoomPhase};
 use super::step::RoomMove;
@@ -120,7 +120,7 @@ pub(crate) fn move_of(bound: u64, found: i64, seat: CoreSeat) -> Option<RoomMove
 
 /// The phase in which a call of this seat begins.
 pub(crate) fn first_phase_of(seat: CoreSeat, call: RoomCall) -> Result<RoomPhase, CoreFault>
-    ensures { result ≡ first_phase seat.held seat.phase call }
+    ensures { result ≡ begun_phase seat.held seat.phase call }
 {
     match (seat.phase, call) {
         (RoomPhase::Idle, RoomCall::Tir(d)) => Ok(RoomPhase::Testing(d)),

@@ -6,55 +6,56 @@ ghost use Rattle.fak_model.specs.Views.{HasOneName};
 ghost use Rattle.fak_count.specs.CreditShown.{MadeMark, Observed, HeardJoin};
 ghost use Rattle.fak_count.specs.Words.{FitsTable};
 
-use crate::credits::key::{CreditKey, CreditView};
-use crate::credits::law::{CreditLaw, Credits, Debits, Hears, Observes, OfCredit};
-use crate::word::COUNT;
+use crate::credits::limits::CreditLimits;
+use crate::credits::plays::{Call, CreditPlay, DebitPlay, HearPlay, ObservePlay};
+use crate::credits::rule::{CreditRule, CreditView};
+use crate::words::COUNT;
 use atomic_table::{Seat, Shared};
 
 /// The words of a credit.
-pub(crate) type CreditWords = Shared<(), CreditView, CreditKey, CreditLaw>;
+pub(crate) type CreditWords = Shared<(), CreditView, CreditLimits, CreditRule>;
 
 /// A seat's right to make steps on them.
 pub(crate) type CreditToken = Seat<(), CreditView>;
 
 /// Subtracts 1.
-pub(crate) fn debit_step<J: OfCredit>(words: &CreditWords, token: &mut CreditToken) -> u64
+pub(crate) fn debit<J: Call>(words: &CreditWords, token: &mut CreditToken) -> u64
     requires table { FitsTable token.old.table_id words.now.table_id words.now.key J.key }
     requires seat { HasOneName token.old.me.0 }
     requires left { 0 < token.old.me.0.left }
     ensures same { token.new.table_id ≡ token.old.table_id }
     ensures told { MadeMark words.now.key Debit token.old.me result token.new.me }
 {
-    words.fetch_sub::<Debits<J>>(token, COUNT, 1)
+    words.fetch_sub::<DebitPlay<J>>(token, COUNT, 1)
 }
 
 /// Adds 1.
-pub(crate) fn credit_step<J: OfCredit>(words: &CreditWords, token: &mut CreditToken) -> u64
+pub(crate) fn credit<J: Call>(words: &CreditWords, token: &mut CreditToken) -> u64
     requires table { FitsTable token.old.table_id words.now.table_id words.now.key J.key }
     requires seat { HasOneName token.old.me.0 }
     requires left { 0 < token.old.me.0.left }
     ensures same { token.new.table_id ≡ token.old.table_id }
     ensures told { MadeMark words.now.key Credit token.old.me result token.new.me }
 {
-    words.fetch_add::<Credits<J>>(token, COUNT, 1)
+    words.fetch_add::<CreditPlay<J>>(token, COUNT, 1)
 }
 
 /// Loads the count.
-pub(crate) fn observe_step<J: OfCredit>(words: &CreditWords, token: &mut CreditToken) -> u64
+pub(crate) fn observe<J: Call>(words: &CreditWords, token: &mut CreditToken) -> u64
     requires table { FitsTable token.old.table_id words.now.table_id words.now.key J.key }
     requires seat { HasOneName token.old.me.0 }
     requires phase { token.old.me.0.phase ≡ Some tt }
     ensures same { token.new.table_id ≡ token.old.table_id }
     ensures told { Observed words.now.key token.old.me result token.new.me }
 {
-    words.load::<Observes<J>>(token, COUNT)
+    words.load::<ObservePlay<J>>(token, COUNT)
 }
 
 /// Loads the count after a join, which tells what the join compared.
-pub(crate) fn hear_step<J: OfCredit>(words: &CreditWords, token: &mut CreditToken)
+pub(crate) fn hear<J: Call>(words: &CreditWords, token: &mut CreditToken)
     requires table { FitsTable token.old.table_id words.now.table_id words.now.key J.key }
     ensures same { token.new.table_id ≡ token.old.table_id }
     ensures told { HeardJoin words.now.key token.old.me token.new.me }
 {
-    words.load::<Hears<J>>(token, COUNT);
+    words.load::<HearPlay<J>>(token, COUNT);
 }

@@ -8,19 +8,20 @@ ghost use Rattle.fak_core.specs.declared.room.phase.RoomPhase.TheVariants.{Idle,
 ghost use Rattle.fak_count.specs.RoomShown.{Tested, Added, Lowered, HeardJoin, Holds};
 ghost use Rattle.fak_count.specs.Words.{FitsTable};
 
-use crate::rooms::key::{RoomKey, RoomView};
-use crate::rooms::law::{Adds, Hears, OfRoom, Releases, RoomLaw, Tests, Withdraws};
-use crate::word::COUNT;
+use crate::rooms::limits::RoomLimits;
+use crate::rooms::plays::{AddPlay, Call, HearPlay, ReleasePlay, TestPlay, WithdrawPlay};
+use crate::rooms::rule::{RoomRule, RoomView};
+use crate::words::COUNT;
 use atomic_table::{Seat, Shared};
 
 /// The words of a room.
-pub(crate) type RoomWords = Shared<(), RoomView, RoomKey, RoomLaw>;
+pub(crate) type RoomWords = Shared<(), RoomView, RoomLimits, RoomRule>;
 
 /// A seat's right to make steps on them.
 pub(crate) type RoomToken = Seat<(), RoomView>;
 
 /// Loads the count, and tests it for a claim of `d`.
-pub(crate) fn test_step<J: OfRoom>(words: &RoomWords, token: &mut RoomToken, d: u64) -> u64
+pub(crate) fn test<J: Call>(words: &RoomWords, token: &mut RoomToken, d: u64) -> u64
     requires table { FitsTable token.old.table_id words.now.table_id words.now.key J.key }
     requires amount { (1 ≤ d) × (d ≤ 1024) × (d ≡ J.amount) }
     requires seat { HasOneName token.old.me.0 }
@@ -28,11 +29,11 @@ pub(crate) fn test_step<J: OfRoom>(words: &RoomWords, token: &mut RoomToken, d: 
     ensures same { token.new.table_id ≡ token.old.table_id }
     ensures told { Tested words.now.key d token.old.me result token.new.me }
 {
-    words.load::<Tests<J>>(token, COUNT)
+    words.load::<TestPlay<J>>(token, COUNT)
 }
 
 /// Adds a claim of `d`, and tests what it found.
-pub(crate) fn add_step<J: OfRoom>(words: &RoomWords, token: &mut RoomToken, d: u64) -> u64
+pub(crate) fn add<J: Call>(words: &RoomWords, token: &mut RoomToken, d: u64) -> u64
     requires table { FitsTable token.old.table_id words.now.table_id words.now.key J.key }
     requires amount { (1 ≤ d) × (d ≤ 1024) × (d ≡ J.amount) }
     requires seat { HasOneName token.old.me.0 }
@@ -40,11 +41,11 @@ pub(crate) fn add_step<J: OfRoom>(words: &RoomWords, token: &mut RoomToken, d: u
     ensures same { token.new.table_id ≡ token.old.table_id }
     ensures told { Added words.now.key d token.old.me result token.new.me }
 {
-    words.fetch_add::<Adds<J>>(token, COUNT, d)
+    words.fetch_add::<AddPlay<J>>(token, COUNT, d)
 }
 
 /// Withdraws a claim of `d` that did not fit.
-pub(crate) fn back_step<J: OfRoom>(words: &RoomWords, token: &mut RoomToken, d: u64) -> u64
+pub(crate) fn withdraw<J: Call>(words: &RoomWords, token: &mut RoomToken, d: u64) -> u64
     requires table { FitsTable token.old.table_id words.now.table_id words.now.key J.key }
     requires amount { (1 ≤ d) × (d ≤ 1024) × (d ≡ J.amount) }
     requires seat { HasOneName token.old.me.0 }
@@ -52,11 +53,11 @@ pub(crate) fn back_step<J: OfRoom>(words: &RoomWords, token: &mut RoomToken, d: 
     ensures same { token.new.table_id ≡ token.old.table_id }
     ensures told { Lowered words.now.key (Back d) token.old.me result token.new.me }
 {
-    words.fetch_sub::<Withdraws<J>>(token, COUNT, d)
+    words.fetch_sub::<WithdrawPlay<J>>(token, COUNT, d)
 }
 
 /// Gives back `d` of what the seat holds.
-pub(crate) fn release_step<J: OfRoom>(words: &RoomWords, token: &mut RoomToken, d: u64) -> u64
+pub(crate) fn release<J: Call>(words: &RoomWords, token: &mut RoomToken, d: u64) -> u64
     requires table { FitsTable token.old.table_id words.now.table_id words.now.key J.key }
     requires amount { (1 ≤ d) × (d ≤ 1024) × (d ≡ J.amount) }
     requires seat { HasOneName token.old.me.0 }
@@ -65,14 +66,14 @@ pub(crate) fn release_step<J: OfRoom>(words: &RoomWords, token: &mut RoomToken, 
     ensures same { token.new.table_id ≡ token.old.table_id }
     ensures told { Lowered words.now.key (Release d) token.old.me result token.new.me }
 {
-    words.fetch_sub::<Releases<J>>(token, COUNT, d)
+    words.fetch_sub::<ReleasePlay<J>>(token, COUNT, d)
 }
 
 /// Loads the count after a join, which tells what the join compared.
-pub(crate) fn hear_step<J: OfRoom>(words: &RoomWords, token: &mut RoomToken)
+pub(crate) fn hear<J: Call>(words: &RoomWords, token: &mut RoomToken)
     requires table { FitsTable token.old.table_id words.now.table_id words.now.key J.key }
     ensures same { token.new.table_id ≡ token.old.table_id }
     ensures told { HeardJoin words.now.key token.old.me token.new.me }
 {
-    words.load::<Hears<J>>(token, COUNT);
+    words.load::<HearPlay<J>>(token, COUNT);
 }

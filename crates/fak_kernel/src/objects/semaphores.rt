@@ -52,9 +52,9 @@ impl<K: Run> SemSeats<K> {
         at: usize,
         sleeper: Sleeper<K>,
     ) -> Result<Option<Sleeper<K>>, Fault>
-        requires fits { ids_of_seats self.old ≡ ids_of semaphores.now }
+        requires objects { ids_of_seats self.old ≡ ids_of semaphores.now }
         requires at { at < length self.old }
-        ensures fits { ids_of_seats self.new ≡ ids_of semaphores.now }
+        ensures objects { ids_of_seats self.new ≡ ids_of semaphores.now }
         ensures same { IfOk result (λ passed. IfSome passed (λ who. who ≡ sleeper)) }
         ensures call { IfOk result (λ passed. DownsAt semaphores.now at sleeper passed self.old self.new) }
         ensures only { All IsOnlySem self.old → IfOk result (λ passed. MatchOption passed (AtPlace at self.old self.new (Parks sleeper)) (λ who. (who ≡ sleeper) × AtPlace at self.old self.new Passes)) }
@@ -75,9 +75,9 @@ impl<K: Run> SemSeats<K> {
         semaphores: &Semaphores<K>,
         at: usize,
     ) -> Result<Option<Sleeper<K>>, Fault>
-        requires fits { ids_of_seats self.old ≡ ids_of semaphores.now }
+        requires objects { ids_of_seats self.old ≡ ids_of semaphores.now }
         requires at { at < length self.old }
-        ensures fits { ids_of_seats self.new ≡ ids_of semaphores.now }
+        ensures objects { ids_of_seats self.new ≡ ids_of semaphores.now }
         ensures call { IfOk result (λ woken. UpsAt semaphores.now at woken self.old self.new) }
         ensures only { All IsOnlySem self.old → IfOk result (λ woken. MatchOption woken (AtPlace at self.old self.new Raises) (λ x. AtPlace at self.old self.new (Rouses x))) }
         ensures worn { IfErr result (λ fault. fault ≡ Fault.Worn) }

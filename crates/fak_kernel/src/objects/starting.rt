@@ -29,9 +29,9 @@ impl<K: Run> Processor<K> {
         objects: &Objects<K>,
     ) -> Result<(), Fault>
         requires script { script.now ≡ K.script }
-        requires fits { AreOf objects.now self.old }
+        requires objects { AreOf objects.now self.old }
         requires made { AreFor K.script objects.now }
-        ensures fits { AreOf objects.now self.new }
+        ensures objects { AreOf objects.now self.new }
         ensures general { IfOk result (λ _. Begins K.script [] [] (lists.numbers_from 0 K.script.slots) (begun_names 0 K.script.start) self.old self.new) }
         ensures alone { GoesTo K.script self.old (empty_lists K.script) → IfOk result (λ _. IsReached K.script self.new (lists.turn_over (lists_of K.script self.new))) }
         ensures fault { IfErr result (λ fault. IsOfStep fault) }
@@ -49,9 +49,9 @@ impl<K: Run> Processor<K> {
         objects: &Objects<K>,
     ) -> Result<(), Fault>
         requires script { script.now ≡ K.script }
-        requires fits { AreOf objects.now self.old }
+        requires objects { AreOf objects.now self.old }
         requires made { AreFor K.script objects.now }
-        ensures fits { AreOf objects.now self.new }
+        ensures objects { AreOf objects.now self.new }
         ensures general { IfOk result (λ _. Begins K.script [] [] (lists.numbers_from 0 K.script.slots) [] self.old self.new) }
         ensures alone { GoesTo K.script self.old (empty_lists K.script) → IfOk result (λ _. GoesTo K.script self.new (record (empty_lists K.script) { free_slots = lists.numbers_from 0 K.script.slots })) }
         ensures fault { IfErr result (λ fault. IsOfStep fault) }
@@ -69,9 +69,9 @@ impl<K: Run> Processor<K> {
         objects: &Objects<K>,
         slot: Slot<K>,
     ) -> Result<(), Fault>
-        requires fits { AreOf objects.now self.old }
+        requires objects { AreOf objects.now self.old }
         requires made { AreFor K.script objects.now }
-        ensures fits { AreOf objects.now self.new }
+        ensures objects { AreOf objects.now self.new }
         ensures general { IfOk result (λ _. Begins K.script [] [] (slot ∷ []) [] self.old self.new) }
         ensures alone { IsAlone K.script self.old → IfOk result (λ _. GoesTo K.script self.new (record (lists_of K.script self.old) { free_slots = (lists_of K.script self.old).free_slots ++ slot ∷ [] })) }
         ensures worn { IfErr result (λ fault. fault ≡ Fault.Worn) }
@@ -89,9 +89,9 @@ impl<K: Run> Processor<K> {
         objects: &Objects<K>,
     ) -> Result<(), Fault>
         requires script { script.now ≡ K.script }
-        requires fits { AreOf objects.now self.old }
+        requires objects { AreOf objects.now self.old }
         requires made { AreFor K.script objects.now }
-        ensures fits { AreOf objects.now self.new }
+        ensures objects { AreOf objects.now self.new }
         ensures general { IfOk result (λ _. Begins K.script [] [] [] (begun_names 0 K.script.start) self.old self.new) }
         ensures alone { GoesTo K.script self.old (record (empty_lists K.script) { free_slots = lists.numbers_from 0 K.script.slots }) → IfOk result (λ _. GoesTo K.script self.new (lists.first_lists K.script)) }
         ensures fault { IfErr result (λ fault. IsOfStep fault) }
@@ -114,9 +114,9 @@ impl<K: Run> Processor<K> {
         program: u64,
     ) -> Result<(), Fault>
         requires program { program < length K.script.programs }
-        requires fits { AreOf objects.now self.old }
+        requires objects { AreOf objects.now self.old }
         requires made { AreFor K.script objects.now }
-        ensures fits { AreOf objects.now self.new }
+        ensures objects { AreOf objects.now self.new }
         ensures general { IfOk result (λ _. Begins K.script [] [] [] ((number ∷ [], program) ∷ []) self.old self.new) }
         ensures alone { IsAlone K.script self.old → IfOk result (λ _. StartsOne K.script (lists_of K.script self.old) number program self.new) }
         ensures fault { IfErr result (λ fault. IsOfStep fault) }
@@ -131,9 +131,9 @@ impl<K: Run> Processor<K> {
 
     /// The front of the free slots is taken, tried again where there is none.
     fn take_first_slot<R: Wait>(&mut self, rt: &R, objects: &Objects<K>) -> Result<Slot<K>, Fault>
-        requires fits { AreOf objects.now self.old }
+        requires objects { AreOf objects.now self.old }
         requires made { AreFor K.script objects.now }
-        ensures fits { AreOf objects.now self.new }
+        ensures objects { AreOf objects.now self.new }
         ensures general { IfOk result (λ slot. FindsSlot K.script slot self.old self.new) }
         ensures alone { IsAlone K.script self.old → IfOk result (λ slot. TakesSlot K.script (lists_of K.script self.old) slot self.new) }
         ensures fault { IfErr result (λ fault. IsOfStep fault) }
@@ -157,9 +157,9 @@ impl<K: Run> Processor<K> {
         objects: &Objects<K>,
         context: Context<K>,
     ) -> Result<(), Fault>
-        requires fits { AreOf objects.now self.old }
+        requires objects { AreOf objects.now self.old }
         requires made { AreFor K.script objects.now }
-        ensures fits { AreOf objects.now self.new }
+        ensures objects { AreOf objects.now self.new }
         ensures general { IfOk result (λ _. Begins K.script (context ∷ []) [] [] [] self.old self.new) }
         ensures alone { IsAlone K.script self.old → IfOk result (λ _. GoesTo K.script self.new (lists.enter_ready (lists_of K.script self.old) context)) }
         ensures fault { IfErr result (λ fault. IsOfStep fault) }

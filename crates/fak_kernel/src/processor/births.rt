@@ -18,9 +18,9 @@ use fak_count::TirFault;
 impl<K: Run> Processor<K> {
     /// Claims a birth, if there is one left.
     pub fn claim_birth(&mut self, objects: &Objects<K>) -> Result<bool, Fault>
-        requires fits { AreOf objects.now self.old }
+        requires objects { AreOf objects.now self.old }
         requires made { AreFor K.script objects.now }
-        ensures fits { AreOf objects.now self.new }
+        ensures objects { AreOf objects.now self.new }
         ensures held { IfOk result (λ born. MatchBool born (1 ≤ held_amount self.new.births) (held_amount self.new.births ≡ held_amount self.old.births)) }
         ensures gains { IfOk result (λ born. MatchBool born (Gains K.script self.old self.new (record nothing { births = Up 1 ∷ [] })) ((late : Bool) × Gains K.script self.old self.new (record nothing { births = refused_claim late }))) }
         ensures alone { IsAlone K.script self.old → IfOk result (λ born. MatchBool born (IsBorn K.script (lists_of K.script self.old) self.new) (HasNoBirth K.script (lists_of K.script self.old) self.new)) }
@@ -35,10 +35,10 @@ impl<K: Run> Processor<K> {
 
     /// Gives a birth back.
     pub fn give_birth_back(&mut self, objects: &Objects<K>)
-        requires fits { AreOf objects.now self.old }
+        requires objects { AreOf objects.now self.old }
         requires made { AreFor K.script objects.now }
         requires held { 1 ≤ held_amount self.old.births }
-        ensures fits { AreOf objects.now self.new }
+        ensures objects { AreOf objects.now self.new }
         ensures gains { Gains K.script self.old self.new (record nothing { births = Release 1 ∷ [] }) }
         ensures alone { IsAlone K.script self.old → GoesTo K.script self.new (record (lists_of K.script self.old) { births = held_amount self.old.births - 1 }) }
     {

@@ -16,10 +16,10 @@ use std::sync::Wait;
 impl Files {
     /// Reads all entries, in a hold.
     fn refresh(&mut self, table: &FileTable, seat: &mut FileSeat)
-        requires table { seat.old.seat.object ≡ table.now.object }
+        requires object { seat.old.seat.object ≡ table.now.object }
         requires held { seat.old.hold ≢ Nothing }
         requires len { length self.old ≡ table.now.entries }
-        ensures table { seat.new.seat.object ≡ table.now.object }
+        ensures object { seat.new.seat.object ≡ table.now.object }
         ensures hold { seat.new.hold ≡ seat.old.hold }
         ensures len { length self.new ≡ table.now.entries }
         ensures left { Left [] seat.old.seat seat.new.seat }
@@ -33,11 +33,11 @@ impl Files {
 
     /// Writes an entry, in a writer's hold.
     fn store(&self, table: &FileTable, seat: &mut FileSeat, entry: Option<u64>)
-        requires table { seat.old.seat.object ≡ table.now.object }
+        requires object { seat.old.seat.object ≡ table.now.object }
         requires held { seat.old.hold ≡ Writing }
         requires len { length self.now ≡ table.now.entries }
         requires within { IfSome entry (λ i. i < length self.now) }
-        ensures table { seat.new.seat.object ≡ table.now.object }
+        ensures object { seat.new.seat.object ≡ table.now.object }
         ensures hold { seat.new.hold ≡ Writing }
         ensures left { Left (map set_mark (sets_of self.now entry)) seat.old.seat seat.new.seat }
         ensures only { IsOnlyFiles seat.old → MatchOption entry (KeepsFiles seat.old seat.new) (λ i. StoresEntry self.now i seat.old seat.new) }
@@ -58,11 +58,11 @@ impl Files {
         seat: &mut FileSeat,
         inode: u64,
     ) -> Result<Option<u64>, Fault>
-        requires table { seat.old.seat.object ≡ table.now.object }
-        requires free { seat.old.hold ≡ Nothing }
+        requires object { seat.old.seat.object ≡ table.now.object }
+        requires idle { seat.old.hold ≡ Nothing }
         requires len { length self.old ≡ table.now.entries }
-        ensures table { seat.new.seat.object ≡ table.now.object }
-        ensures free { seat.new.hold ≡ Nothing }
+        ensures object { seat.new.seat.object ≡ table.now.object }
+        ensures idle { seat.new.hold ≡ Nothing }
         ensures len { length self.new ≡ table.now.entries }
         ensures within { IfOk result (λ entry. IfSome entry (λ i. i < table.now.entries)) }
         ensures made { IfOk result (λ entry. HasMade table.now.entries (opened inode entry) seat.old.seat seat.new.seat) }
@@ -87,11 +87,11 @@ impl Files {
         seat: &mut FileSeat,
         inode: u64,
     ) -> Result<Option<u64>, Fault>
-        requires table { seat.old.seat.object ≡ table.now.object }
-        requires free { seat.old.hold ≡ Nothing }
+        requires object { seat.old.seat.object ≡ table.now.object }
+        requires idle { seat.old.hold ≡ Nothing }
         requires len { length self.old ≡ table.now.entries }
-        ensures table { seat.new.seat.object ≡ table.now.object }
-        ensures free { seat.new.hold ≡ Nothing }
+        ensures object { seat.new.seat.object ≡ table.now.object }
+        ensures idle { seat.new.hold ≡ Nothing }
         ensures len { length self.new ≡ table.now.entries }
         ensures within { IfOk result (λ entry. IfSome entry (λ i. i < table.now.entries)) }
         ensures made { IfOk result (λ entry. HasMade table.now.entries (closed inode entry) seat.old.seat seat.new.seat) }
@@ -116,11 +116,11 @@ impl Files {
         seat: &mut FileSeat,
         inode: u64,
     ) -> Result<Option<u64>, Fault>
-        requires table { seat.old.seat.object ≡ table.now.object }
-        requires free { seat.old.hold ≡ Nothing }
+        requires object { seat.old.seat.object ≡ table.now.object }
+        requires idle { seat.old.hold ≡ Nothing }
         requires len { length self.old ≡ table.now.entries }
-        ensures table { seat.new.seat.object ≡ table.now.object }
-        ensures free { seat.new.hold ≡ Nothing }
+        ensures object { seat.new.seat.object ≡ table.now.object }
+        ensures idle { seat.new.hold ≡ Nothing }
         ensures len { length self.new ≡ table.now.entries }
         ensures made { IfOk result (λ uses. HasMade table.now.entries (statted inode uses) seat.old.seat seat.new.seat) }
         ensures only { IsOnlyFiles seat.old → IfOk result (λ uses. KeepsFiles seat.old seat.new × (uses ≡ uses_of (entries_now table.now.entries seat.old) inode)) }

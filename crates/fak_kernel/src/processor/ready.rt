@@ -27,9 +27,9 @@ impl<K: Run> Processor<K> {
         rt: &R,
         objects: &Objects<K>,
     ) -> Result<Option<Turn<K>>, Fault>
-        requires fits { AreOf objects.now self.old }
+        requires objects { AreOf objects.now self.old }
         requires made { AreFor K.script objects.now }
-        ensures fits { AreOf objects.now self.new }
+        ensures objects { AreOf objects.now self.new }
         ensures general { IfOk result (λ running. Moves K.script [] (hand_of running) self.old self.new) }
         ensures alone { IsAlone K.script self.old → IfOk result (λ running. GoesOn K.script self.new running (lists.take_front (lists_of K.script self.old) (contents self.old.ready.seen))) }
         ensures fault { IfErr result (λ fault. IsOfStep fault) }
@@ -57,9 +57,9 @@ impl<K: Run> Processor<K> {
         objects: &Objects<K>,
         context: Context<K>,
     ) -> Result<(), Fault>
-        requires fits { AreOf objects.now self.old }
+        requires objects { AreOf objects.now self.old }
         requires made { AreFor K.script objects.now }
-        ensures fits { AreOf objects.now self.new }
+        ensures objects { AreOf objects.now self.new }
         ensures general { IfOk result (λ _. Moves K.script (context ∷ []) [] self.old self.new) }
         ensures alone { IsAlone K.script self.old → IfOk result (λ _. GoesTo K.script self.new (lists.enter_ready (lists_of K.script self.old) context)) }
         ensures fault { IfErr result (λ fault. IsOfStep fault) }
@@ -84,10 +84,10 @@ impl<K: Run> Processor<K> {
         objects: &Objects<K>,
         context: Context<K>,
     ) -> Result<(), Fault>
-        requires fits { AreOf objects.now self.old }
+        requires objects { AreOf objects.now self.old }
         requires made { AreFor K.script objects.now }
         requires over { lists.next_step K.script context ≡ None }
-        ensures fits { AreOf objects.now self.new }
+        ensures objects { AreOf objects.now self.new }
         ensures general { IfOk result (λ _. Moves K.script (context ∷ []) [] self.old self.new) }
         ensures alone { IsAlone K.script self.old → IfOk result (λ _. GoesTo K.script self.new (lists.end_process (lists_of K.script self.old) context).lists) }
         ensures fault { IfErr result (λ fault. IsOfStep fault) }
@@ -105,9 +105,9 @@ impl<K: Run> Processor<K> {
         rt: &R,
         objects: &Objects<K>,
     ) -> Result<Option<Slot<K>>, Fault>
-        requires fits { AreOf objects.now self.old }
+        requires objects { AreOf objects.now self.old }
         requires made { AreFor K.script objects.now }
-        ensures fits { AreOf objects.now self.new }
+        ensures objects { AreOf objects.now self.new }
         ensures births { self.new.births ≡ self.old.births }
         ensures gains { IfOk result (λ slot. MatchOption slot ((late : Bool) × Gains K.script self.old self.new (record nothing { free = empty late })) (λ n. (ticket : ℕ) × Gains K.script self.old self.new (record nothing { free = kinds_out ticket n }))) }
         ensures alone { IsAlone K.script self.old → IfOk result (λ slot. MatchOption slot (HasNoSlot K.script (lists_of K.script self.old) self.new) (λ n. TakesSlot K.script (lists_of K.script self.old) n self.new)) }
@@ -122,9 +122,9 @@ impl<K: Run> Processor<K> {
 
     /// The ready queue is shut.
     pub fn shut_ready(&mut self, objects: &Objects<K>)
-        requires fits { AreOf objects.now self.old }
+        requires objects { AreOf objects.now self.old }
         requires made { AreFor K.script objects.now }
-        ensures fits { AreOf objects.now self.new }
+        ensures objects { AreOf objects.now self.new }
         ensures gains { Gains K.script self.old self.new (record nothing { ready = Close ∷ [] }) }
         ensures alone { IsAlone K.script self.old → GoesTo K.script self.new (record (lists_of K.script self.old) { is_shut = true }) }
     {

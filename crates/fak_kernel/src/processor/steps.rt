@@ -29,12 +29,12 @@ impl<K: Run> Processor<K> {
         turn: Turn<K>,
         n: u64,
     ) -> Result<Option<Turn<K>>, Fault>
-        requires fits { AreOf objects.now self.old }
+        requires objects { AreOf objects.now self.old }
         requires made { AreFor K.script objects.now }
         requires next { StandsAt K.script turn.process (down n) }
         requires range { n < length K.script.semaphores }
         requires left { HasStepsLeft K.script turn }
-        ensures fits { AreOf objects.now self.new }
+        ensures objects { AreOf objects.now self.new }
         ensures general { IfOk result (λ running. Moves K.script (turn.process ∷ []) (hand_of running) self.old self.new) }
         ensures alone { IsAlone K.script self.old → IfOk result (λ running. GoesOn K.script self.new running (lists.make_down (lists_of K.script self.old) turn n)) }
         ensures fault { IfErr result (λ fault. IsOfStep fault) }
@@ -59,12 +59,12 @@ impl<K: Run> Processor<K> {
         turn: Turn<K>,
         n: u64,
     ) -> Result<Option<Turn<K>>, Fault>
-        requires fits { AreOf objects.now self.old }
+        requires objects { AreOf objects.now self.old }
         requires made { AreFor K.script objects.now }
         requires next { StandsAt K.script turn.process (up n) }
         requires range { n < length K.script.semaphores }
         requires left { HasStepsLeft K.script turn }
-        ensures fits { AreOf objects.now self.new }
+        ensures objects { AreOf objects.now self.new }
         ensures general { IfOk result (λ running. Moves K.script (turn.process ∷ []) (hand_of running) self.old self.new) }
         ensures alone { IsAlone K.script self.old → IfOk result (λ running. GoesOn K.script self.new running (lists.make_up (lists_of K.script self.old) turn n)) }
         ensures fault { IfErr result (λ fault. IsOfStep fault) }
@@ -91,12 +91,12 @@ impl<K: Run> Processor<K> {
         turn: Turn<K>,
         program: u64,
     ) -> Result<Option<Turn<K>>, Fault>
-        requires fits { AreOf objects.now self.old }
+        requires objects { AreOf objects.now self.old }
         requires made { AreFor K.script objects.now }
         requires next { StandsAt K.script turn.process (spawn program) }
         requires range { program < length K.script.programs }
         requires left { HasStepsLeft K.script turn }
-        ensures fits { AreOf objects.now self.new }
+        ensures objects { AreOf objects.now self.new }
         ensures general { IfOk result (λ running. Moves K.script (turn.process ∷ []) (hand_of running) self.old self.new) }
         ensures alone { IsAlone K.script self.old → IfOk result (λ running. GoesOn K.script self.new running (lists.make_spawn K.script (lists_of K.script self.old) turn program)) }
         ensures fault { IfErr result (λ fault. IsOfStep fault) }
@@ -126,11 +126,11 @@ impl<K: Run> Processor<K> {
         turn: Turn<K>,
         inode: u64,
     ) -> Result<Option<Turn<K>>, Fault>
-        requires fits { AreOf objects.now self.old }
+        requires objects { AreOf objects.now self.old }
         requires made { AreFor K.script objects.now }
         requires next { StandsAt K.script turn.process (open_file inode) }
         requires left { HasStepsLeft K.script turn }
-        ensures fits { AreOf objects.now self.new }
+        ensures objects { AreOf objects.now self.new }
         ensures general { IfOk result (λ running. Moves K.script (turn.process ∷ []) (hand_of running) self.old self.new) }
         ensures alone { IsAlone K.script self.old → IfOk result (λ running. GoesOn K.script self.new running (lists.make_open (lists_of K.script self.old) turn inode)) }
         ensures fault { IfErr result (λ fault. IsOfStep fault) }
@@ -150,11 +150,11 @@ impl<K: Run> Processor<K> {
         turn: Turn<K>,
         inode: u64,
     ) -> Result<Option<Turn<K>>, Fault>
-        requires fits { AreOf objects.now self.old }
+        requires objects { AreOf objects.now self.old }
         requires made { AreFor K.script objects.now }
         requires next { StandsAt K.script turn.process (close_file inode) }
         requires left { HasStepsLeft K.script turn }
-        ensures fits { AreOf objects.now self.new }
+        ensures objects { AreOf objects.now self.new }
         ensures general { IfOk result (λ running. Moves K.script (turn.process ∷ []) (hand_of running) self.old self.new) }
         ensures alone { IsAlone K.script self.old → IfOk result (λ running. GoesOn K.script self.new running (lists.make_close (lists_of K.script self.old) turn inode)) }
         ensures fault { IfErr result (λ fault. IsOfStep fault) }
@@ -174,11 +174,11 @@ impl<K: Run> Processor<K> {
         turn: Turn<K>,
         inode: u64,
     ) -> Result<Option<Turn<K>>, Fault>
-        requires fits { AreOf objects.now self.old }
+        requires objects { AreOf objects.now self.old }
         requires made { AreFor K.script objects.now }
         requires next { StandsAt K.script turn.process (stat inode) }
         requires left { HasStepsLeft K.script turn }
-        ensures fits { AreOf objects.now self.new }
+        ensures objects { AreOf objects.now self.new }
         ensures general { IfOk result (λ running. Moves K.script (turn.process ∷ []) (hand_of running) self.old self.new) }
         ensures alone { IsAlone K.script self.old → IfOk result (λ running. GoesOn K.script self.new running (lists.make K.script (lists_of K.script self.old) turn (stat inode))) }
         ensures fault { IfErr result (λ fault. IsOfStep fault) }
@@ -196,11 +196,11 @@ impl<K: Run> Processor<K> {
         objects: &Objects<K>,
         turn: Turn<K>,
     ) -> Result<Option<Turn<K>>, Fault>
-        requires fits { AreOf objects.now self.old }
+        requires objects { AreOf objects.now self.old }
         requires made { AreFor K.script objects.now }
         requires next { StandsAt K.script turn.process shutdown }
         requires left { HasStepsLeft K.script turn }
-        ensures fits { AreOf objects.now self.new }
+        ensures objects { AreOf objects.now self.new }
         ensures general { IfOk result (λ running. Moves K.script (turn.process ∷ []) (hand_of running) self.old self.new) }
         ensures alone { IsAlone K.script self.old → IfOk result (λ running. GoesOn K.script self.new running (lists.make K.script (lists_of K.script self.old) turn shutdown)) }
         ensures fault { IfErr result (λ fault. IsOfStep fault) }

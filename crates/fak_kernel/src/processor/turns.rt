@@ -33,12 +33,12 @@ impl<K: Run> Processor<K> {
         turn: Turn<K>,
         step: &Step,
     ) -> Result<Option<Turn<K>>, Fault>
-        requires fits { AreOf objects.now self.old }
+        requires objects { AreOf objects.now self.old }
         requires made { AreFor K.script objects.now }
         requires next { StandsAt K.script turn.process (step_of step.now) }
         requires range { IsStepInRange (limits_of K.script) (step_of step.now) }
         requires left { HasStepsLeft K.script turn }
-        ensures fits { AreOf objects.now self.new }
+        ensures objects { AreOf objects.now self.new }
         ensures general { IfOk result (λ running. Moves K.script (turn.process ∷ []) (hand_of running) self.old self.new) }
         ensures alone { IsAlone K.script self.old → IfOk result (λ running. GoesOn K.script self.new running (lists.make K.script (lists_of K.script self.old) turn (step_of step.now))) }
         ensures fault { IfErr result (λ fault. IsOfStep fault) }
@@ -60,7 +60,7 @@ impl<K: Run> Processor<K> {
     }
 
     /// What the processor does next with the process that has it.
-    fn turn<R: Wait>(
+    fn continue_turn<R: Wait>(
         &mut self,
         rt: &R,
         alloc: Global,
@@ -69,9 +69,9 @@ impl<K: Run> Processor<K> {
         turn: Turn<K>,
     ) -> Result<Option<Turn<K>>, Fault>
         requires script { script.now ≡ K.script }
-        requires fits { AreOf objects.now self.old }
+        requires objects { AreOf objects.now self.old }
         requires made { AreFor K.script objects.now }
-        ensures fits { AreOf objects.now self.new }
+        ensures objects { AreOf objects.now self.new }
         ensures general { IfOk result (λ running. Moves K.script (turn.process ∷ []) (hand_of running) self.old self.new) }
         ensures alone { IsAlone K.script self.old → IfOk result (λ running. GoesOn K.script self.new running (lists.turn_by K.script (lists_of K.script self.old) turn (lists.next_step K.script turn.process))) }
         ensures fault { IfErr result (λ fault. IsOfStep fault) }
@@ -101,25 +101,25 @@ impl<K: Run> Processor<K> {
         running: Option<Turn<K>>,
     ) -> Result<Option<Turn<K>>, Fault>
         requires script { script.now ≡ K.script }
-        requires fits { AreOf objects.now self.old }
+        requires objects { AreOf objects.now self.old }
         requires made { AreFor K.script objects.now }
-        ensures fits { AreOf objects.now self.new }
+        ensures objects { AreOf objects.now self.new }
         ensures general { IfOk result (λ next. Moves K.script (hand_of running) (hand_of next) self.old self.new) }
         ensures alone { IsAlone K.script self.old → IfOk result (λ next. GoesOn K.script self.new next (lists.step K.script (record { running = running; lists = lists_of K.script self.old }))) }
         ensures fault { IfErr result (λ fault. IsOfStep fault) }
     {
         match running {
             None => return self.take_front(rt, objects),
-            Some(turn) => return self.turn(rt, alloc, script, objects, turn),
+            Some(turn) => return self.continue_turn(rt, alloc, script, objects, turn),
         }
     }
 
     /// Nothing ran before the step nor after it, and nobody is ready or runs.
     #[tactic(auto, using(crate::proofs::Moving::gains_none))]
     fn is_done(&mut self, objects: &Objects<K>, was_idle: bool, running: &Option<Turn<K>>) -> bool
-        requires fits { AreOf objects.now self.old }
+        requires objects { AreOf objects.now self.old }
         requires made { AreFor K.script objects.now }
-        ensures fits { AreOf objects.now self.new }
+        ensures objects { AreOf objects.now self.new }
         ensures gains { Gains K.script self.old self.new nothing }
         ensures alone { IsAlone K.script self.old → GoesTo K.script self.new (lists_of K.script self.old) }
         ensures done { result ≡ true → (was_idle ≡ true) × (running.now ≡ None) }
@@ -150,9 +150,9 @@ impl<K: Run> Processor<K> {
         number: u64,
     ) -> Result<Option<Processor<K>>, Fault>
         requires script { script.now ≡ K.script }
-        requires fits { AreOf objects.now self }
+        requires objects { AreOf objects.now self }
         requires made { AreFor K.script objects.now }
-        ensures fits { IfOk result (λ left. IfSome left (λ p. AreOf objects.now p)) }
+        ensures objects { IfOk result (λ left. IfSome left (λ p. AreOf objects.now p)) }
         ensures general { IfOk result (λ left. IfSome left (λ p. LeavesNone K.script self p)) }
         ensures stopped { IfOk result (λ left. IfNone left (1 < objects.now.ready.object.seats)) }
         ensures alone { IsReached K.script self (lists.turn_over (lists_of K.script self)) → IfOk result (λ left. IfSome left (λ p. IsReached K.script p (lists.turn_over (lists_of K.script p)) × ((lists_of K.script p).ready ≡ []))) }
@@ -195,9 +195,9 @@ impl<K: Run> Processor<K> {
         number: u64,
     ) -> Result<Option<Processor<K>>, Fault>
         requires script { script.now ≡ K.script }
-        requires fits { AreOf objects.now self }
+        requires objects { AreOf objects.now self }
         requires made { AreFor K.script objects.now }
-        ensures fits { IfOk result (λ left. IfSome left (λ p. AreOf objects.now p)) }
+        ensures objects { IfOk result (λ left. IfSome left (λ p. AreOf objects.now p)) }
         ensures general { IfOk result (λ left. IfSome left (λ p. LeavesNone K.script self p)) }
         ensures stopped { IfOk result (λ left. IfNone left (1 < objects.now.ready.object.seats)) }
         ensures alone { IsReached K.script self (lists.turn_over (lists_of K.script self)) → IfOk result (λ left. IfSome left (λ p. IsReached K.script p (lists.turn_over (lists_of K.script p)) × ((lists_of K.script p).ready ≡ []))) }

@@ -26,15 +26,16 @@ ghost use Rattle.fak_queue.specs.Steps.{
 
 use crate::found::UpperCount;
 use crate::place::Place;
-use crate::plays;
-use crate::plays::Call;
-use crate::steps::{QueueWords, Token};
-use crate::words::{DRAWS_IN, LOWER, TURNS, UPPER, upper_count};
+use crate::plays::{
+    AddUpPlay, BackUpPlay, Call, EndInPlay, SetFullPlay, TestUpPlay, TicketInPlay, TurnInPlay,
+};
+use crate::steps::{QueueToken, QueueWords};
+use crate::words::{DRAWS_IN, LOWER, TURNS, UPPER, read_upper};
 
 // Loads the upper count.
 pub(crate) fn test_up<T, J: Call<T>>(
     words: &QueueWords<T>,
-    token: &mut Token<T>,
+    token: &mut QueueToken<T>,
     size: u64,
     _item: &T,
 ) -> UpperCount
@@ -46,14 +47,14 @@ pub(crate) fn test_up<T, J: Call<T>>(
     ensures same { token.new.table_id ≡ token.old.table_id }
     ensures told { Named token.old.me (λ n. TestedUp words.now.table_id.slots J.seats n _item.now result token.old.me token.new.me) }
 {
-    let found = words.load::<plays::TestUp<J>>(token, UPPER);
-    upper_count(found, size)
+    let found = words.load::<TestUpPlay<J>>(token, UPPER);
+    read_upper(found, size)
 }
 
 // Adds 1 to the upper count.
 pub(crate) fn add_up<T, J: Call<T>>(
     words: &QueueWords<T>,
-    token: &mut Token<T>,
+    token: &mut QueueToken<T>,
     size: u64,
 ) -> UpperCount
     requires table { FitsTable token.old.table_id words.now.table_id words.now.key J.seats }
@@ -64,23 +65,23 @@ pub(crate) fn add_up<T, J: Call<T>>(
     ensures told { Named token.old.me (λ n. (x : T) → token.old.me.0.phase ≡ Some (AddUp x)
         → AddedUp words.now.table_id.slots J.seats n x result token.old.me token.new.me) }
 {
-    let found = words.fetch_add::<plays::AddUp<J>>(token, UPPER, 1);
-    upper_count(found, size)
+    let found = words.fetch_add::<AddUpPlay<J>>(token, UPPER, 1);
+    read_upper(found, size)
 }
 
 // Takes back the 1 that was added to the upper count.
-pub(crate) fn back_up<T, J: Call<T>>(words: &QueueWords<T>, token: &mut Token<T>)
+pub(crate) fn back_up<T, J: Call<T>>(words: &QueueWords<T>, token: &mut QueueToken<T>)
     requires table { FitsTable token.old.table_id words.now.table_id words.now.key J.seats }
     requires seat { HasOneName token.old.me }
     requires phase { (x : T) × (token.old.me.0.phase ≡ Some (BackUp x)) }
     ensures same { token.new.table_id ≡ token.old.table_id }
     ensures told { Named token.old.me (λ n. BacksUp words.now.table_id.slots J.seats n token.old.me token.new.me) }
 {
-    words.fetch_sub::<plays::BackUp<J>>(token, UPPER, 1);
+    words.fetch_sub::<BackUpPlay<J>>(token, UPPER, 1);
 }
 
 // Draws an insertion's ticket.
-pub(crate) fn ticket_in<T, J: Call<T>>(words: &QueueWords<T>, token: &mut Token<T>) -> u64
+pub(crate) fn ticket_in<T, J: Call<T>>(words: &QueueWords<T>, token: &mut QueueToken<T>) -> u64
     requires table { FitsTable token.old.table_id words.now.table_id words.now.key J.seats }
     requires seat { HasOneName token.old.me }
     requires phase { (x : T) × (token.old.me.0.phase ≡ Some (TicketIn x)) }
@@ -89,13 +90,13 @@ pub(crate) fn ticket_in<T, J: Call<T>>(words: &QueueWords<T>, token: &mut Token<
     ensures told { Named token.old.me (λ n. (x : T) → token.old.me.0.phase ≡ Some (TicketIn x)
         → DrewIn words.now.table_id.slots J.seats n x token.old.me result token.new.me) }
 {
-    words.fetch_add::<plays::TicketIn<J>>(token, DRAWS_IN, 1)
+    words.fetch_add::<TicketInPlay<J>>(token, DRAWS_IN, 1)
 }
 
 // Loads the turn of a ticket's cell.
 pub(crate) fn turn_in<T, J: Call<T>>(
     words: &QueueWords<T>,
-    token: &mut Token<T>,
+    token: &mut QueueToken<T>,
     place: Place,
 ) -> u64
     requires table { FitsTable token.old.table_id words.now.table_id words.now.key J.seats }
@@ -106,11 +107,15 @@ pub(crate) fn turn_in<T, J: Call<T>>(
     ensures told { Named token.old.me (λ n. (x : T) → token.old.me.0.phase ≡ Some (TurnIn place.ticket x)
         → TurnedIn words.now.table_id.slots J.seats n place.ticket x token.old.me result token.new.me) }
 {
-    words.load::<plays::TurnIn<J>>(token, place.cell + TURNS)
+    words.load::<TurnInPlay<J>>(token, place.cell + TURNS)
 }
 
 // Gives the slot back with the item, and makes its cell full.
-pub(crate) fn set_full<T, J: Call<T>>(words: &QueueWords<T>, token: &mut Token<T>, place: Place)
+pub(crate) fn set_full<T, J: Call<T>>(
+    words: &QueueWords<T>,
+    token: &mut QueueToken<T>,
+    place: Place,
+)
     requires table { FitsTable token.old.table_id words.now.table_id words.now.key J.seats }
     requires place { IsPlace words.now.table_id.slots place }
     requires seat { HasOneName token.old.me }
@@ -119,16 +124,16 @@ pub(crate) fn set_full<T, J: Call<T>>(words: &QueueWords<T>, token: &mut Token<T
     ensures same { token.new.table_id ≡ token.old.table_id }
     ensures told { Named token.old.me (λ n. FilledCell words.now.table_id.slots J.seats n place.ticket token.old.me token.new.me) }
 {
-    words.store::<plays::SetFull<J>>(token, place.cell + TURNS, 2 * place.round + 1);
+    words.store::<SetFullPlay<J>>(token, place.cell + TURNS, 2 * place.round + 1);
 }
 
 // Adds 1 to the lower count, which ends an insertion.
-pub(crate) fn end_in<T, J: Call<T>>(words: &QueueWords<T>, token: &mut Token<T>)
+pub(crate) fn end_in<T, J: Call<T>>(words: &QueueWords<T>, token: &mut QueueToken<T>)
     requires table { FitsTable token.old.table_id words.now.table_id words.now.key J.seats }
     requires seat { HasOneName token.old.me }
     requires phase { (k : ℕ) × (token.old.me.0.phase ≡ Some (EndInsert k)) }
     ensures same { token.new.table_id ≡ token.old.table_id }
     ensures told { Named token.old.me (λ n. EndsIn words.now.table_id.slots J.seats n token.old.me token.new.me) }
 {
-    words.fetch_add::<plays::EndIn<J>>(token, LOWER, 1);
+    words.fetch_add::<EndInPlay<J>>(token, LOWER, 1);
 }

@@ -2,6 +2,7 @@
 
 ghost use Rattle.std.specs.Prelude.{◌≡◌, ◌≤◌, IfOk};
 ghost use Rattle.serde_json.specs.View.{view, items_view};
+ghost use Rattle.fak_model.specs.Limits.{longest_stint};
 ghost use Rattle.fak_text.specs.Gives.{Gives};
 ghost use Rattle.fak_text.specs.ScriptText.{number_from, numbers_of_key, stint_of_key, script_from, script_in};
 ghost use Rattle.fak_text.specs.Values.{each_from};
@@ -10,10 +11,9 @@ use crate::fault::{Field, TextFault};
 use crate::reading::step::programs_at_key;
 use crate::reading::values::{below, elements_at_key, input_of, number_at_key, within};
 use crate::script::Script;
+use fak_model::LONGEST_STINT;
 use serde_json::Value;
 use std::alloc::Global;
-
-const MOST_STINT: u64 = 1_099_511_627_776;
 
 const MOST_SEMAPHORES: usize = 16;
 
@@ -49,11 +49,11 @@ fn numbers_at_key(
 #[tactic(auto, unfolding(crate::specs::ScriptText::stint_of_key))]
 fn stint_at_key(value: &Value) -> Result<u64, TextFault>
     ensures gives { Gives (λ n. n) result (stint_of_key (view value.now)) }
-    ensures range { IfOk result (λ n. (1 ≤ n) × (n ≤ 1099511627776)) }
+    ensures range { IfOk result (λ n. (1 ≤ n) × (n ≤ longest_stint)) }
 {
     match value.get(Field::Stint.name()) {
-        None => Ok(MOST_STINT),
-        Some(found) => within(Field::Stint, 1, MOST_STINT, found.as_u64()),
+        None => Ok(LONGEST_STINT),
+        Some(found) => within(Field::Stint, 1, LONGEST_STINT, found.as_u64()),
     }
 }
 

@@ -15,4 +15,4 @@ only name seats h one first owes n low =
 pub returns : goal.returns
 returns c =
     let owes = rw (c.state-idle.ensures.value, c.requires.idle) at c.state-idle.ensures.read_off_seen in
-    rw c.of.ensures.value (c.a_seat_without_a_call_keeps_a_queue_history.ensures.rest (size_of c.args.seat.object) _ _ (rw c.of.ensures.value at c.of.ensures.named) (only _ _ _ c.requires.only.0 c.requires.only.1 owes))
+    rw c.of.ensures.tally (c.a_seat_without_a_call_keeps_a_queue_history.ensures.rest (size_of c.args.seat.object) _ _ (rw c.of.ensures.tally at c.of.ensures.named) (only _ _ _ c.requires.only.0 c.requires.only.1 owes))

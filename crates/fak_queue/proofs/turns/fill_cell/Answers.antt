@@ -1,6 +1,6 @@
 use Rattle.std.proofs.Common.{rules, ◌≡◌, ap, sym, ◌∙◌, ◌∷◌, Some, None}
 use Rattle.atomic_table.specs.Table.{rest}
-use Rattle.fak_queue.specs.Shown.{Holder}
+use Rattle.fak_queue.specs.Shown.{QueueHolder}
 use Rattle.fak_queue.proofs.Turning.{names_filled, phase_filled, fills_slot, took}
 use Rattle.fak_queue.proofs.turns.fill_cell.Goals as goal
 
@@ -11,10 +11,10 @@ pub unreachable-requires : goal.unreachable-requires
 unreachable-requires g c = let e : None ≡ Some c.in-Some.field-0 = took c.args.token.now.me.1 _ _ _ _ _ _ c.requires.slot c.exchange.ensures.2 ∙ c.in-Some.is in absurd cc
 
 pub set_full-requires-clause-seat : goal.set_full-requires-clause-seat
-set_full-requires-clause-seat g c = (c.requires.seat.0, ap (λ (y : Holder _). y.0.names) c.exchange.ensures.3 ∙ c.requires.seat.1)
+set_full-requires-clause-seat g c = (c.requires.seat.0, ap (λ (y : QueueHolder _). y.0.names) c.exchange.ensures.3 ∙ c.requires.seat.1)
 
 pub set_full-requires-clause-phase : goal.set_full-requires-clause-phase
-set_full-requires-clause-phase g c = (c.args.item, ap (λ (y : Holder _). y.0.phase) c.exchange.ensures.3 ∙ c.requires.phase, (rest c.args.token.now.me.1, ap (λ (y : Holder _). y.1) c.exchange.ensures.3))
+set_full-requires-clause-phase g c = (c.args.item, ap (λ (y : QueueHolder _). y.0.phase) c.exchange.ensures.3 ∙ c.requires.phase, (rest c.args.token.now.me.1, ap (λ (y : QueueHolder _). y.1) c.exchange.ensures.3))
 
 pub end_in-requires-clause-seat : goal.end_in-requires-clause-seat
 end_in-requires-clause-seat g c = (c.requires.seat.0, names_filled c.args.words.now.table_id.slots c.args.words.now.key.seats c.requires.seat.0 c.args.place.ticket c.args.place.cell c.args.item c.args.token.now.me c.exchange.new.seat.me c.set_full.new.token.me c.set_full.new.token.me c.requires.seat.1 c.requires.slot c.exchange.ensures.3 c.set_full.ensures.told)

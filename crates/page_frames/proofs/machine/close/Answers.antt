@@ -13,4 +13,4 @@ returns c n =
     let tally = c.join-tally.result in
     let whole = c.is_whole-whole.ensures.mine (search (rules, c.if-not-whole.false)) in
     let weighs = λ (n : ℕ). c.a_queue_weighs_what_was_put.ensures.weighs c.args.free.size (is_number n) tally.seen c.close.ensures.lawful in
-    ap (sum_by (is_number n)) c.close.ensures.rest ∙ all_left c.args.frames c.requires.seats.0 c.requires.seats.1 c.of.ensures.value c.join-tally.ensures.joined whole weighs n
+    ap (sum_by (is_number n)) c.close.ensures.rest ∙ all_left c.args.frames c.requires.seats.0 c.requires.seats.1 c.of.ensures.tally c.join-tally.ensures.joined whole weighs n

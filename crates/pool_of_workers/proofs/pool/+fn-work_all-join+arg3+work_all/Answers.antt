@@ -11,7 +11,7 @@ pub returns-then-is_empty : goal.returns-then-is_empty
 returns-then-is_empty g t c =
     let n = vec_len c.args.seats in
     let seat = last_fresh c.args.seats.items n c.in-Some.seat c.requires.fresh (omega (arith, c.args.seats.ok)) c.requires.some.0 (c.in-Some.ensures.value c.in-Some.seat) in
-    joined_one n c.work-seat.ensures.done c.of.ensures.value (omega (arith, ap (λ (s : SeatInfo (Mark Work)). s.name) seat, c.requires.some.0)) c.work-seat.ensures.few
+    joined_one n c.work-seat.ensures.done c.of.ensures.tally (omega (arith, ap (λ (s : SeatInfo (Mark Work)). s.name) seat, c.requires.some.0)) c.work-seat.ensures.few
 
 pub join-seat-requires-after_bounds : goal.join-seat-requires-after_bounds
 join-seat-requires-after_bounds g t c κs within =

@@ -15,6 +15,6 @@ close-requires-clause-whole c =
 pub returns-in-None : goal.returns-in-None
 returns-in-None c = λ yes.
     let tally = c.join-tally.result in
-    let joined = subst (λ (t : SemTallyInfo Buffer). IsJoined (queue_rules c.args.gate.size) (queue_tally t) (queue_part c.args.b) (queue_tally tally)) c.of.ensures.value c.join-tally.ensures.joined.queue in
+    let joined = subst (λ (t : SemTallyInfo Buffer). IsJoined (queue_rules c.args.gate.size) (queue_tally t) (queue_part c.args.b) (queue_tally tally)) c.of.ensures.tally c.join-tally.ensures.joined.queue in
     all_out (queue_part c.args.a) (queue_part c.args.b) (queue_tally tally) joined c.requires.apart (c.is_whole-whole.ensures.queue (search (rules, c.if-not-whole.false)))
     (λ (w : Buffer → ℕ). c.a_queue_weighs_what_was_put.ensures.weighs (size_of tally.object.queue) w tally.queue_seen c.is_whole-whole.ensures.lawful.1) (sym c.close.ensures.rest ∙ c.in-None.ensures.0)

@@ -14,6 +14,6 @@ close-requires-clause-whole c =
 pub returns-in-None : goal.returns-in-None
 returns-in-None c = λ yes.
     let tally = c.join-tally.result in
-    let joined = subst (λ (t : TallyInfo (Mark Buffer)). IsJoined (queue_rules c.args.queue.size) t c.args.b tally) c.of.ensures.value c.join-tally.ensures.joined in
+    let joined = subst (λ (t : TallyInfo (Mark Buffer)). IsJoined (queue_rules c.args.queue.size) t c.args.b tally) c.of.ensures.tally c.join-tally.ensures.joined in
     all_out c.args.a c.args.b tally joined c.requires.apart (c.is_whole-whole.ensures.mine (search (rules, c.if-not-whole.false)))
     (λ (w : Buffer → ℕ). c.a_queue_weighs_what_was_put.ensures.weighs c.args.queue.size w tally.seen c.close.ensures.lawful) (sym c.close.ensures.rest ∙ c.in-None.ensures.0)

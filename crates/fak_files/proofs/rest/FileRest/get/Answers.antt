@@ -1,4 +1,4 @@
-use Rattle.fak_files.proofs.Ending.{first_item}
+use Rattle.fak_files.proofs.Closing.{first_item}
 use Rattle.fak_files.proofs.rest.FileRest.get.Goals as goal
 
 pub returns : goal.returns

@@ -6,14 +6,14 @@ use Rattle.fak_model.specs.Seats.{IsWhole}
 use Rattle.fak_model.proofs.Resting.{rest_whole}
 use Rattle.fak_files.specs.Calls.{entries_after}
 use Rattle.fak_files.specs.Versions.{entry_of}
-use Rattle.fak_files.proofs.Ending.{closed_entries, entries_after-get, entries_after-length}
+use Rattle.fak_files.proofs.Closing.{closed_entries, entries_after-get, entries_after-length}
 use Rattle.fak_files.proofs.table.FileTable.close.Goals as goal
 
 pub returns-clause-entries : goal.returns-clause-entries
 returns-clause-entries c =
     let table = c.self.inside.table.shared.key in
     let me = c.tally.inside.token.me in
-    let object = ap (λ t. t.object) c.tally.view_is ∙ (c.requires.table ∙ sym (ap (λ t. t.object) c.self.view_is)) in
+    let object = ap (λ t. t.object) c.tally.view_is ∙ (c.requires.object ∙ sym (ap (λ t. t.object) c.self.view_is)) in
     let seats = ap (λ o. o.seats) object in
     let whole = subst (λ (k : ℕ). IsWhole k me.0.names) seats (subst (λ t. IsWhole t.object.seats t.names) (sym c.tally.view_is) c.requires.whole) in
     let final = c.close_with-closed.ensures.values.2 in
@@ -29,15 +29,15 @@ returns-clause-number c = ap length (returns-clause-entries c) ∙ entries_after
 pub returns-clause-lawful : goal.returns-clause-lawful
 returns-clause-lawful c =
     let lawful = subst (λ t. IsFileHistory t.object.seats t.seen) c.tally.view_is c.tally.invariant.2.lawful in
-    subst (λ o. IsFileHistory o.seats c.args.tally.seen) c.requires.table lawful
+    subst (λ o. IsFileHistory o.seats c.args.tally.seen) c.requires.object lawful
 
 pub returns-clause-named : goal.returns-clause-named
 returns-clause-named c =
     let named = subst (λ t. AreNamed (file_rules t.object.seats) t.object.seats t.seen) c.tally.view_is c.tally.invariant.0.named in
-    subst (λ o. AreNamed (file_rules o.seats) o.seats c.args.tally.seen) c.requires.table named
+    subst (λ o. AreNamed (file_rules o.seats) o.seats c.args.tally.seen) c.requires.object named
 
 pub returns-clause-rest : goal.returns-clause-rest
 returns-clause-rest c =
     let named = subst (λ t. AreNamed (file_rules t.object.seats) t.object.seats t.seen) c.tally.view_is c.tally.invariant.0.named in
     let rest = subst (λ t. AreBetweenCalls (file_rules t.object.seats) t.names t.seen) c.tally.view_is c.tally.invariant.2.rest in
-    subst (λ o. IsAtRest (file_rules o.seats) c.args.tally.seen) c.requires.table (rest_whole (file_rules c.args.tally.object.seats) c.args.tally.object.seats c.args.tally.names c.args.tally.seen named rest c.requires.whole)
+    subst (λ o. IsAtRest (file_rules o.seats) c.args.tally.seen) c.requires.object (rest_whole (file_rules c.args.tally.object.seats) c.args.tally.object.seats c.args.tally.names c.args.tally.seen named rest c.requires.whole)

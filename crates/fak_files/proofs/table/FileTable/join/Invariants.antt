@@ -3,5 +3,5 @@ use Rattle.fak_files.specs.declared.phase.Access.TheVariants.{Read}
 use Rattle.fak_files.proofs.table.FileTable.join.Given as goal
 
 -- the load is made on this table
-abbrev pub ghosts-compare : goal.ghosts-compare
-ghosts-compare a = record { table = a.words.now.key; name = 0; access = Read; entry = 0; field = Inode; to = 0 }
+abbrev pub ghosts-hear : goal.ghosts-hear
+ghosts-hear a = record { key = a.words.now.key; name = 0; access = Read; entry = 0; field = Inode; to = 0 }

@@ -3,9 +3,9 @@ use Rattle.fak_model.specs.Calls.{object_id}
 use Rattle.fak_model.proofs.RunningJoins.{deals, dealt_is, kept_is}
 use Rattle.fak_files.specs.declared.phase.FilePhase.TheVariants.{Idle}
 use Rattle.fak_files.specs.declared.phase.Hold.TheVariants.{Nothing}
-use Rattle.fak_files.specs.Running.{file_object}
+use Rattle.fak_files.specs.Shown.{file_object}
 use Rattle.fak_files.specs.SeatTokens.{seat_now}
-use Rattle.fak_files.proofs.Opening.{opens, fresh_file_seat, idle_next}
+use Rattle.fak_files.proofs.Openings.{opens, fresh_file_seat, idle_next}
 use Rattle.fak_files.proofs.table.FileTable.open.Goals as goal
 
 pub of_words-requires : goal.of_words-requires

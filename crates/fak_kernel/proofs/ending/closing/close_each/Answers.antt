@@ -9,8 +9,8 @@ loop-semaphore-init g c =
 pub close-requires-clause-whole : goal.close-requires-clause-whole
 close-requires-clause-whole g c = (closing_head c.in-Some.ensures.steps.0 c.in-Some-next.ensures.cases.0 c.loop-semaphore.invariant.closing).1
 
-pub close-requires-clause-fits : goal.close-requires-clause-fits
-close-requires-clause-fits g c = (closing_head c.in-Some.ensures.steps.0 c.in-Some-next.ensures.cases.0 c.loop-semaphore.invariant.closing).0
+pub close-requires-clause-object : goal.close-requires-clause-object
+close-requires-clause-object g c = (closing_head c.in-Some.ensures.steps.0 c.in-Some-next.ensures.cases.0 c.loop-semaphore.invariant.closing).0
 
 pub loop-semaphore-preserved : goal.loop-semaphore-preserved
 loop-semaphore-preserved g c =

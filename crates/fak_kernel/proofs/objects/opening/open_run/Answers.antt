@@ -5,8 +5,8 @@ use Rattle.fak_kernel.proofs.objects.opening.open_run.Goals as goal
 pub index_mut-first-requires : goal.index_mut-first-requires
 index_mut-first-requires g c = omega (arith, c.requires.processors.0, c.in_ok-opened.opened.processors.ok, fresh_length c.in_ok-opened.opened.objects g.K.Run.script.stint c.args.processors c.in_ok-opened.ensures.fresh)
 
-pub begin-requires-clause-fits : goal.begin-requires-clause-fits
-begin-requires-clause-fits g c = first_are c.in_ok-opened.opened.objects g.K.Run.script.stint c.args.processors c.requires.processors.0 c.in_ok-opened.ensures.fresh c.index_mut-first.ensures.value
+pub begin-requires-clause-objects : goal.begin-requires-clause-objects
+begin-requires-clause-objects g c = first_are c.in_ok-opened.opened.objects g.K.Run.script.stint c.args.processors c.requires.processors.0 c.in_ok-opened.ensures.fresh c.index_mut-first.ensures.value
 
 pub returns-clause-len : goal.returns-clause-len
 returns-clause-len g c = omega (arith, c.in_ok-opened.opened.processors.ok, fresh_length c.in_ok-opened.opened.objects g.K.Run.script.stint c.args.processors c.in_ok-opened.ensures.fresh)
@@ -15,7 +15,7 @@ pub returns-clause-begun : goal.returns-clause-begun
 returns-clause-begun g c = λ i d low.
     let many = fresh_length c.in_ok-opened.opened.objects g.K.Run.script.stint c.args.processors c.in_ok-opened.ensures.fresh in
     let below : i < c.args.processors = omega (arith, low, many, c.in_ok-opened.opened.processors.ok) in
-    done_between c.in_ok-opened.opened.objects g.K.Run.script.stint c.args.processors c.begin.new.self c.in_ok-opened.ensures.made c.requires.processors.0 c.in_ok-opened.ensures.fresh c.index_mut-first.ensures.value refl c.in_ok-begin.ensures.fits c.in_ok-begin.ensures.general i d below
+    done_between c.in_ok-opened.opened.objects g.K.Run.script.stint c.args.processors c.begin.new.self c.in_ok-opened.ensures.made c.requires.processors.0 c.in_ok-opened.ensures.fresh c.index_mut-first.ensures.value refl c.in_ok-begin.ensures.objects c.in_ok-begin.ensures.general i d below
 
 pub returns-clause-alone : goal.returns-clause-alone
 returns-clause-alone g c = λ one.

@@ -19,7 +19,7 @@ pub returns-in-Ok-None-clause-gains : goal.returns-in-Ok-None-clause-gains
 returns-in-Ok-None-clause-gains g c =
     let below : c.args.at < length c.self.inside.semaphores = rw (← c.self.view_is) at c.requires.at in
     let made = rw (← c.objects.view_is) at c.requires.made in
-    let fits = rw (← c.self.view_is, ← c.objects.view_is) at c.requires.fits in
+    let fits = rw (← c.self.view_is, ← c.objects.view_is) at c.requires.objects in
     let e = rw c.in-Ok-None.field-0-is at c.in-Ok-None.ensures.call in
     rw (← c.self.view_is) (gains_parked _ made fits below e)
 
@@ -27,6 +27,6 @@ pub returns-in-Ok-Some-clause-gains : goal.returns-in-Ok-Some-clause-gains
 returns-in-Ok-Some-clause-gains g c =
     let below : c.args.at < length c.self.inside.semaphores = rw (← c.self.view_is) at c.requires.at in
     let made = rw (← c.objects.view_is) at c.requires.made in
-    let fits = rw (← c.self.view_is, ← c.objects.view_is) at c.requires.fits in
+    let fits = rw (← c.self.view_is, ← c.objects.view_is) at c.requires.objects in
     let e = rw c.in-Ok-Some.field-0-is at c.in-Ok-Some.ensures.call in
     rw (← c.self.view_is) (gains_passed _ made fits below e)

@@ -8,7 +8,7 @@ use Rattle.fak_kernel.proofs.Starting.{all_started, begins_none, begins_then, na
 use Rattle.fak_kernel.proofs.processor.Processor.start_processes.Goals as goal
 
 pub loop-program-init : goal.loop-program-init
-loop-program-init g c = (refl, omega arith, c.requires.fits, begins_none c.args.self.now, λ a. started_none a)
+loop-program-init g c = (refl, omega arith, c.requires.objects, begins_none c.args.self.now, λ a. started_none a)
 
 pub loop-program-preserved : goal.loop-program-preserved
 loop-program-preserved g c =
@@ -22,7 +22,7 @@ loop-program-preserved g c =
     let names = names_next xs i c.loop-program.number 0 was.0 low in (
       omega (arith, was.0),
       omega (arith, low),
-      c.in_ok-start_process.ensures.fits,
+      c.in_ok-start_process.ensures.objects,
       subst (λ (l : List Named). Begins script [] [] [] l c.args.self.now c.start_process.new.self) names (begins_then was.3 c.in_ok-start_process.ensures.general),
       λ a. started_next xs i c.loop-program.number 0 was.0 low below (was.4 a) c.in_ok-start_process.ensures.alone,
     )

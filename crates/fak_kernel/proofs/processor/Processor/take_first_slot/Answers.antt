@@ -3,14 +3,14 @@ use Rattle.fak_kernel.proofs.Starting.{no_slot_yet, no_slot_again, no_slot_goes,
 use Rattle.fak_kernel.proofs.processor.Processor.take_first_slot.Goals as goal
 
 pub loop-init : goal.loop-init
-loop-init g c = ((tt, tt), c.requires.fits, no_slot_yet c.args.self.now, λ a. record { alone = a; lists_are = refl })
+loop-init g c = ((tt, tt), c.requires.objects, no_slot_yet c.args.self.now, λ a. record { alone = a; lists_are = refl })
 
 pub loop-preserved : goal.loop-preserved
 loop-preserved g c =
     let was = c.loop.invariant in
     let none = rw c.in-Ok-None.field-0-is at c.in-Ok-None.ensures.gains in
     let alone = rw c.in-Ok-None.field-0-is at c.in-Ok-None.ensures.alone in
-    ((tt, tt), c.in-Ok-None.ensures.fits, no_slot_again was.2 none, λ a. no_slot_goes (was.3 a) alone)
+    ((tt, tt), c.in-Ok-None.ensures.objects, no_slot_again was.2 none, λ a. no_slot_goes (was.3 a) alone)
 
 pub returns-in-Ok-Some-clause-general : goal.returns-in-Ok-Some-clause-general
 returns-in-Ok-Some-clause-general g c =

@@ -5,11 +5,11 @@ use Rattle.fak_kernel.proofs.Working.{reached_on}
 use Rattle.fak_kernel.proofs.processor.Processor.turns.Goals as goal
 
 pub loop-init : goal.loop-init
-loop-init g c = ((tt, tt), c.requires.fits, moves_none c.args.self, λ r. r)
+loop-init g c = ((tt, tt), c.requires.objects, moves_none c.args.self, λ r. r)
 
 pub loop-preserved : goal.loop-preserved
 loop-preserved g c =
-    ((tt, tt), c.is_done.ensures.fits, moves_on c.loop.running c.in_ok-running.running c.loop.invariant.2 c.in_ok-running.ensures.general c.is_done.ensures.gains, λ r. reached_on c.loop.running c.in_ok-running.running (c.loop.invariant.3 r) c.in_ok-running.ensures.alone c.is_done.ensures.alone)
+    ((tt, tt), c.is_done.ensures.objects, moves_on c.loop.running c.in_ok-running.running c.loop.invariant.2 c.in_ok-running.ensures.general c.is_done.ensures.gains, λ r. reached_on c.loop.running c.in_ok-running.running (c.loop.invariant.3 r) c.in_ok-running.ensures.alone c.is_done.ensures.alone)
 
 pub returns-then-is_done-clause-general : goal.returns-then-is_done-clause-general
 returns-then-is_done-clause-general g c =

@@ -17,11 +17,11 @@ join_seat-requires g c =
     let o = queue_object c.self.inside.table.shared.key.size c.self.inside.table.shared.key.seats in
     let object = ap (λ (x : QueueInfo). x.object) c.self.view_is in
     let seat = idle_token c.seat.invariant c.seat.view_is c.requires.idle in (
-      tally_at o c.tally.invariant.token seat c.tally.view_is c.seat.view_is object c.requires.fits.0 c.requires.fits.1,
-      seat_at o c.tally.invariant.token seat c.tally.view_is c.seat.view_is object c.requires.fits.0 c.requires.fits.1,
+      tally_at o c.tally.invariant.token seat c.tally.view_is c.seat.view_is object c.requires.object.0 c.requires.object.1,
+      seat_at o c.tally.invariant.token seat c.tally.view_is c.seat.view_is object c.requires.object.0 c.requires.object.1,
       token_slots seat,
       search (rules, c.self.invariant.words),
-      may_join o c.tally.invariant.token seat c.tally.view_is c.seat.view_is object c.requires.fits.0 c.requires.fits.1 _ _,
+      may_join o c.tally.invariant.token seat c.tally.view_is c.seat.view_is object c.requires.object.0 c.requires.object.1 _ _,
     )
 
 pub hear-requires : goal.hear-requires
@@ -31,7 +31,7 @@ hear-requires g c =
     let seat = idle_token c.seat.invariant c.seat.view_is c.requires.idle in
     record {
       table = record {
-        same = c.join_seat.ensures.0 ∙ tally_at o c.tally.invariant.token seat c.tally.view_is c.seat.view_is object c.requires.fits.0 c.requires.fits.1;
+        same = c.join_seat.ensures.0 ∙ tally_at o c.tally.invariant.token seat c.tally.view_is c.seat.view_is object c.requires.object.0 c.requires.object.1;
         few = refl;
         words = c.self.invariant.words;
       };
@@ -43,11 +43,11 @@ invariant_of-result g c =
     let object = ap (λ (x : QueueInfo). x.object) c.self.view_is in
     let seat = idle_token c.seat.invariant c.seat.view_is c.requires.idle in
     let stays = c.hear.ensures.same ∙ c.join_seat.ensures.0 in
-    let here = stays ∙ tally_at o c.tally.invariant.token seat c.tally.view_is c.seat.view_is object c.requires.fits.0 c.requires.fits.1 in
-    let joined = call_joined o c.tally.invariant.token seat c.tally.view_is c.seat.view_is object c.requires.fits.0 c.requires.fits.1 c.join_seat.ensures.2 c.hear.ensures.told {now = c.hear.new.token.table_id} stays in
+    let here = stays ∙ tally_at o c.tally.invariant.token seat c.tally.view_is c.seat.view_is object c.requires.object.0 c.requires.object.1 in
+    let joined = call_joined o c.tally.invariant.token seat c.tally.view_is c.seat.view_is object c.requires.object.0 c.requires.object.1 c.join_seat.ensures.2 c.hear.ensures.told {now = c.hear.new.token.table_id} stays in
     record {
-      token = token_joined o c.tally.invariant.token seat c.tally.view_is c.seat.view_is object c.requires.fits.0 c.requires.fits.1 c.join_seat.ensures.2 c.hear.ensures.told;
-      just = set_joined o c.tally.invariant.token seat c.tally.view_is c.seat.view_is object c.requires.fits.0 c.requires.fits.1 c.join_seat.ensures.2 c.hear.ensures.told _ _ c.tally.invariant.just c.insert.ensures;
+      token = token_joined o c.tally.invariant.token seat c.tally.view_is c.seat.view_is object c.requires.object.0 c.requires.object.1 c.join_seat.ensures.2 c.hear.ensures.told;
+      just = set_joined o c.tally.invariant.token seat c.tally.view_is c.seat.view_is object c.requires.object.0 c.requires.object.1 c.join_seat.ensures.2 c.hear.ensures.told _ _ c.tally.invariant.just c.insert.ensures;
       lawful = subst (λ (t : TableId). IsQueueHistory t.slots (reverse c.hear.new.token.me.0.seen)) (sym here) joined.lawful;
       idle = idle_joined joined (subst (λ (t : TallyInfo (Mark _)). AreIdle t.names t.seen) c.tally.view_is c.tally.invariant.idle)
           (subst (λ (s : SeatInfo (Mark _)). HasEnded s.name s.seen) c.seat.view_is (seat_ended c.seat.invariant c.seat.view_is c.requires.idle));
@@ -60,4 +60,4 @@ returns-clause-joined g c =
     let seat = idle_token c.seat.invariant c.seat.view_is c.requires.idle in
     let size = ap (λ (x : QueueInfo). x.size) c.self.view_is in
     subst (λ k. IsJoined (queue_rules k) c.args.tally c.args.seat (tally_info (object_id c.hear.new.token.table_id c.tally.inside.seats) c.hear.new.token.me.0.names (reverse c.hear.new.token.me.0.seen))) size
-    (call_joined o c.tally.invariant.token seat c.tally.view_is c.seat.view_is object c.requires.fits.0 c.requires.fits.1 c.join_seat.ensures.2 c.hear.ensures.told {now = c.hear.new.token.table_id} (c.hear.ensures.same ∙ c.join_seat.ensures.0))
+    (call_joined o c.tally.invariant.token seat c.tally.view_is c.seat.view_is object c.requires.object.0 c.requires.object.1 c.join_seat.ensures.2 c.hear.ensures.told {now = c.hear.new.token.table_id} (c.hear.ensures.same ∙ c.join_seat.ensures.0))

@@ -9,4 +9,4 @@ fetch_add-found-requires g c =
     (t.same, omega (arith, t.words), adds_up_allowed c.args.words.now.key _ _ _ c.requires.seat.0 _ t.few c.requires.seat.1 _ c.requires.phase.1)
 
 pub returns-clause-told : goal.returns-clause-told
-returns-clause-told g c = λ n one x e. c.fetch_add-found.ensures.2 n one x e c.upper_count.result (subst (λ z. IsUpperCount z c.fetch_add-found.result c.upper_count.result) c.requires.size.0 c.upper_count.ensures)
+returns-clause-told g c = λ n one x e. c.fetch_add-found.ensures.2 n one x e c.read_upper.result (subst (λ z. IsUpperCount z c.fetch_add-found.result c.read_upper.result) c.requires.size.0 c.read_upper.ensures)

@@ -9,4 +9,4 @@ load-found-requires g c =
     (t.same, omega (arith, t.words), tests_up_allowed c.args.words.now.key _ _ _ c.requires.seat.0 _ t.few c.requires.seat.1 _ _ c.requires.item c.requires.phase)
 
 pub returns-clause-told : goal.returns-clause-told
-returns-clause-told g c = λ n one. c.load-found.ensures.2 n one _ c.requires.item c.upper_count.result (subst (λ z. IsUpperCount z c.load-found.result c.upper_count.result) c.requires.size.0 c.upper_count.ensures)
+returns-clause-told g c = λ n one. c.load-found.ensures.2 n one _ c.requires.item c.read_upper.result (subst (λ z. IsUpperCount z c.load-found.result c.read_upper.result) c.requires.size.0 c.read_upper.ensures)

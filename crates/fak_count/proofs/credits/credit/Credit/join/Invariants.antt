@@ -1,0 +1,5 @@
+use Rattle.fak_count.proofs.credits.credit.Credit.join.Given as goal
+
+-- the load is made on this credit
+abbrev pub ghosts-hear : goal.ghosts-hear
+ghosts-hear a = record { key = a.words.now.key }

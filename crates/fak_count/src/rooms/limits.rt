@@ -1,0 +1,8 @@
+//! What the table of a room is told when it is made.
+
+/// The bound of a room, and its number of seats.
+#[derive(Drop)]
+pub struct RoomLimits {
+    pub bound: u64,
+    pub seats: u64,
+}

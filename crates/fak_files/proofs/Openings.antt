@@ -1,0 +1,74 @@
+-- The words and seats of a new file table.
+use Rattle.std.proofs.Common.{◌≡◌, ℕ, ◌+◌, ◌<◌, ◌≤◌, List, [], ◌∷◌, ◌++◌, length, take, replicate, set, get_or, refl, ap, sym, ◌∙◌, subst, arith}
+use Rattle.std.specs.Prelude.{reverse}
+use Rattle.std.proofs.lemmas.Int.{ints}
+use Rattle.std.proofs.lemmas.List.{get_or-take, get_or-set_other, get_or-replicate, length-take-le}
+use Rattle.atomic_table.specs.Table.{opening}
+use Rattle.fak_model.specs.declared.file.FileField.{FileField}
+use Rattle.fak_model.specs.declared.file.FileMark.{FileMark}
+use Rattle.fak_model.specs.Histories.{words_by}
+use Rattle.fak_model.specs.File.{seat_of, kind_of, file_rules, IsFileHistory}
+use Rattle.fak_model.specs.Views.{sight}
+use Rattle.fak_model.specs.Calls.{ObjectId, SeatInfo, seat_info, fresh_seats}
+use Rattle.fak_model.proofs.Appending.{history_none}
+use Rattle.fak_model.proofs.RunningSeats.{starts}
+use Rattle.fak_model.proofs.RunningJoins.{fresh_token, fresh_next}
+use Rattle.fak_files.specs.declared.phase.FilePhase.TheVariants.{Idle}
+use Rattle.fak_files.specs.declared.phase.Hold.TheVariants.{Nothing}
+use Rattle.fak_files.specs.Phases.{StandsIn}
+use Rattle.fak_model.specs.Words.{bias}
+use Rattle.fak_files.specs.Words.{count_place, width, word_of}
+use Rattle.fak_files.specs.Shown.{limits, ShowsHistory, file_object, IsShownFile, opened_file, FileHolder}
+use Rattle.fak_files.specs.Calls.{FileSeatInfo, file_seat, idle_seats}
+use Rattle.fak_files.specs.SeatTokens.{seat_now, IsFileSeat}
+use Rattle.fak_files.proofs.WordPlaces.{word_of-low}
+
+-- ---- words
+
+-- the words before they are cut to the table's entries
+abbrev row : ℕ → List ℕ
+row w = set (replicate (width 16) 0) count_place w
+
+field_zero : (w n entry : ℕ) (f : FileField) → word_of entry f < n → n ≤ width 16 → get_or (take n (row w)) (word_of entry f) 0 ≡ 0
+field_zero w n entry f low few =
+    get_or-take n (row w) (word_of entry f) 0 low
+    ∙ (get_or-set_other (replicate (width 16) 0) count_place (word_of entry f) w 0 (λ e. omega (arith, e)) ∙ get_or-replicate (width 16) (word_of entry f) 0 0 (omega (arith, low, few)))
+
+-- a table with a count of its seats, and with all entries free
+pub opens : (entries seats : ℕ) → entries ≤ 16 → 1 ≤ seats → seats ≤ 64 → IsShownFile (limits entries seats) (opening (take (width entries) (row (bias + seats))) [] (opened_file (limits entries seats)))
+opens entries seats few some most =
+    let shows : ShowsHistory (limits entries seats) [] (take (width entries) (row (bias + seats))) = record {
+      few_entries = few;
+      few_seats = most;
+      some_seat = some;
+      wide = let long : length (row (bias + seats)) ≡ width 16 = refl in length-take-le (width entries) (row (bias + seats)) (omega (arith, few, long));
+      counted = let found : get_or (take (width entries) (row (bias + seats))) count_place 0 ≡ bias + seats = get_or-take (width entries) (row (bias + seats)) count_place 0 (omega arith) in omega (arith, ints, found);
+      fields = λ entry f low. field_zero (bias + seats) (width entries) entry f (word_of-low entry entries f low) (omega (arith, few));
+    } in
+    starts (file_object (limits entries seats)) Idle 0 [] (history_none (file_rules seats)) refl (λ name low. ([], refl)) (take (width entries) (row (bias + seats))) [] shows (omega arith)
+
+-- ---- seats
+
+pub fresh_file_seat : (seats name stint : ℕ) (m : FileHolder) → m ≡ (sight (name ∷ []) [] Idle 0, []) → name < seats → seats ≤ 64 → IsFileSeat name seats Nothing m
+fresh_file_seat seats name stint m is low few = record {
+  token = fresh_token seat_of seats Idle 0 name m is low few;
+  lawful = subst (λ (x : FileHolder). IsFileHistory seats (reverse x.0.seen)) (sym is) (history_none (file_rules seats));
+  stands = subst (λ (x : FileHolder). StandsIn seats (words_by seat_of kind_of name (reverse x.0.seen)) Idle) (sym is) ([], refl);
+}
+
+pub fresh_seat_is : (object : ObjectId) (name stint : ℕ) (m : FileHolder) → m ≡ (sight (name ∷ []) [] Idle 0, []) → seat_now object name stint Nothing m ≡ file_seat (seat_info object name stint []) Nothing
+fresh_seat_is object name stint m is =
+    let none : stint + 0 ≡ stint = omega arith in
+    ap (λ (x : FileHolder). seat_now object name stint Nothing x) is ∙ ap (λ (k : ℕ). file_seat (seat_info object name k []) Nothing) none
+
+idle_seats-push : (seats : List (SeatInfo FileMark)) (s : SeatInfo FileMark) → idle_seats (seats ++ s ∷ []) ≡ idle_seats seats ++ file_seat s Nothing ∷ []
+idle_seats-push [] s = refl
+idle_seats-push (x ∷ seats) s = ap (λ l. file_seat x Nothing ∷ l) (idle_seats-push seats s)
+
+-- one seat more was dealt
+pub idle_next : (object object' : ObjectId) → object' ≡ object → (stint name : ℕ) (m : FileHolder) → m ≡ (sight (name ∷ []) [] Idle 0, []) → (dealt : List FileSeatInfo) → dealt ≡ idle_seats (fresh_seats object stint 0 name)
+    → dealt ++ seat_now object' name stint Nothing m ∷ [] ≡ idle_seats (fresh_seats object stint 0 (name + 1))
+idle_next object object' same stint name m is dealt before =
+    let plus : name ≡ 0 + name = omega arith in
+    (λ i. before i ++ (fresh_seat_is object' name stint m is ∙ (λ j. file_seat (seat_info (same j) (plus j) stint []) Nothing)) i ∷ [])
+    ∙ (sym (idle_seats-push (fresh_seats object stint 0 name) (seat_info object (0 + name) stint [])) ∙ ap idle_seats (sym (fresh_next object stint 0 name)))

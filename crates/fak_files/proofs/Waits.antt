@@ -1,0 +1,140 @@
+-- A hold that is tried until it is granted.
+use Rattle.std.proofs.Common.{◌≡◌, ◌⊎◌, ℕ, ◌+◌, ◌<◌, List, [], ◌∷◌, ◌++◌, refl, ap, sym, ◌∙◌, subst, arith, inl, inr}
+use Rattle.std.specs.Prelude.{map, ℤ}
+use Rattle.std.specs.List.{sum_by, flat_map}
+use Rattle.std.proofs.lemmas.List.{append-nil, map-append}
+use Rattle.std.proofs.lemmas.List.Elements.{All-push, All-nil}
+use Rattle.std.proofs.lemmas.List.Sums.{sum_by-cons, sum_by-append}
+use Rattle.std.proofs.lemmas.Grind.{flat_map-append}
+use Rattle.fak_model.specs.declared.file.FileKind.{FileKind}
+use Rattle.fak_model.specs.declared.file.FileKind.TheVariants.{Take, Over, Back, No}
+use Rattle.fak_model.specs.declared.file.FileMark.{FileMark}
+use Rattle.fak_model.specs.File.{WholeCall, Refused, Withdrawn, kinds_of_call, seat_of, file_rules}
+use Rattle.fak_model.specs.Calls.{SeatInfo, mine_of, Appends}
+use Rattle.fak_model.proofs.RunningCalls.{appends_then}
+use Rattle.fak_files.specs.declared.phase.Access.{Access}
+use Rattle.fak_files.specs.Phases.{amount_of}
+use Rattle.fak_files.specs.Shown.{mark}
+use Rattle.fak_files.specs.Calls.{FileSeatInfo, one_hold, holds_had, LeavesMarks, amount_for, IsGranted, IsWorn, IsBusy, AreRefused, IsWaitedFor}
+
+-- ---- marks of two calls
+
+-- a call and another that leaves a mark
+leaves_then : (ks : List FileKind) (k : FileKind) (js : List FileKind) (a b c : SeatInfo FileMark) → LeavesMarks ks a b → LeavesMarks (k ∷ js) b c → LeavesMarks (ks ++ k ∷ js) a c
+leaves_then ks k js a b c x y =
+    let name : b.name ≡ a.name = ap (λ (s : SeatInfo FileMark). s.name) x.same_seat in
+    let seats : b.object.seats ≡ a.object.seats = ap (λ (s : SeatInfo FileMark). s.object.seats) x.same_seat in
+    let y' : Appends (file_rules a.object.seats) (map (mark a.name) (k ∷ js)) b c = subst (λ (z : ℕ × ℕ). Appends (file_rules z.0) (map (mark z.1) (k ∷ js)) b c) (λ i. (seats i, name i)) y in
+    subst (λ (ms : List FileMark). Appends (file_rules a.object.seats) ms a c) (sym (map-append (mark a.name) ks (k ∷ js)))
+    (appends_then (file_rules a.object.seats) (map (mark a.name) ks) (mark a.name k) (map (mark a.name) js) a b c x y')
+
+-- the holds that a seat had after a call
+holds_leave : (ks : List FileKind) (a b : SeatInfo FileMark) → LeavesMarks ks a b → holds_had b ≡ holds_had a + sum_by one_hold (map (mark a.name) ks)
+holds_leave ks a b x = ap (sum_by one_hold) x.mine ∙ sum_by-append one_hold (mine_of seat_of a) (map (mark a.name) ks)
+
+-- ---- a try that is refused
+
+-- a refused call of a seat
+pub record IsTry (n : ℕ) (a b : SeatInfo FileMark) : Type 0 where
+  pub call : WholeCall
+  pub refused : (call ≡ Refused n) ⊎ (call ≡ Withdrawn n)
+  pub leaves : LeavesMarks (kinds_of_call call) a b
+  pub holds : holds_had b ≡ holds_had a
+
+busy_try : (access : Access) (a b : FileSeatInfo) (answer : ℤ) → IsBusy access a b answer → IsTry (amount_for access a.seat) a.seat b.seat
+busy_try access a b answer busy =
+    let n = amount_for access a.seat in
+    elim busy.leaves [
+      | inl x ↦ record {
+        call = Refused (amount_for access a.seat);
+        refused = inl refl;
+        leaves = x;
+        holds = omega (arith, holds_leave (No (amount_for access a.seat) ∷ []) a.seat b.seat x, sum_by-cons one_hold (mark a.seat.name (No (amount_for access a.seat))) []);
+      }
+      | inr x ↦ record {
+        call = Withdrawn (amount_for access a.seat);
+        refused = inr refl;
+        leaves = x;
+        holds = omega (arith, holds_leave (Over (amount_for access a.seat) ∷ Back (amount_for access a.seat) ∷ []) a.seat b.seat x, sum_by-cons one_hold (mark a.seat.name (Over (amount_for access a.seat))) (mark a.seat.name (Back (amount_for access a.seat)) ∷ []), sum_by-cons one_hold (mark a.seat.name (Back (amount_for access a.seat))) []);
+      }
+    ]
+
+-- ---- tries so far
+
+-- some tries were refused since, and nothing else was done
+pub record WasRefused (access : Access) (old now : FileSeatInfo) : Type 0 where
+  pub within : holds_had old.seat < old.seat.stint
+  pub tries : List WholeCall
+  pub refused : AreRefused (amount_for access old.seat) tries
+  pub leaves : LeavesMarks (flat_map kinds_of_call tries) old.seat now.seat
+  pub holds : holds_had now.seat ≡ holds_had old.seat
+
+-- nothing was done, or some tries were refused
+abbrev pub IsTrying : Access → FileSeatInfo → FileSeatInfo → Type 0
+IsTrying access old now = (now ≡ old) ⊎ WasRefused access old now
+
+module _ (access : Access) (old now next : FileSeatInfo) where
+  -- the seat that tries is the same
+  amount_is : WasRefused access old now → amount_for access now.seat ≡ amount_for access old.seat
+  amount_is w = ap (λ (s : SeatInfo FileMark). amount_of s.object.seats access) w.leaves.same_seat
+
+  kinds_two : (tries : List WholeCall) (call : WholeCall) → flat_map kinds_of_call tries ++ kinds_of_call call ≡ flat_map kinds_of_call (tries ++ call ∷ [])
+  kinds_two tries call = ap (λ l. flat_map kinds_of_call tries ++ l) (sym (append-nil (kinds_of_call call))) ∙ sym (flat_map-append kinds_of_call tries (call ∷ []))
+
+  -- one try more
+  pub tries_more : (answer : ℤ) → IsTrying access old now → IsBusy access now next answer → IsTrying access old next
+  tries_more answer (inl same) busy = inr (subst (λ (x : FileSeatInfo). WasRefused access x next) same first)
+    where
+      t : IsTry (amount_for access now.seat) now.seat next.seat
+      t = busy_try access now next answer busy
+
+      first : WasRefused access now next
+      first = record {
+        within = busy.within;
+        tries = t.call ∷ [];
+        refused = All-push (λ (c : WholeCall). (c ≡ Refused (amount_for access now.seat)) ⊎ (c ≡ Withdrawn (amount_for access now.seat))) [] t.call (All-nil (λ (c : WholeCall). (c ≡ Refused (amount_for access now.seat)) ⊎ (c ≡ Withdrawn (amount_for access now.seat)))) t.refused;
+        leaves = subst (λ (ks : List FileKind). LeavesMarks ks now.seat next.seat) (sym (append-nil (kinds_of_call t.call))) t.leaves;
+        holds = t.holds;
+      }
+  tries_more answer (inr w) busy = inr (record {
+    within = w.within;
+    tries = w.tries ++ t.call ∷ [];
+    refused = All-push (λ (c : WholeCall). (c ≡ Refused (amount_for access old.seat)) ⊎ (c ≡ Withdrawn (amount_for access old.seat))) w.tries t.call w.refused
+        (subst (λ (n : ℕ). (t.call ≡ Refused n) ⊎ (t.call ≡ Withdrawn n)) (amount_is w) t.refused);
+    leaves = subst (λ (ks : List FileKind). LeavesMarks ks old.seat next.seat) (kinds_two w.tries t.call) (joined t.call t.leaves t.refused);
+    holds = t.holds ∙ w.holds;
+  })
+    where
+      t : IsTry (amount_for access now.seat) now.seat next.seat
+      t = busy_try access now next answer busy
+
+      joined : (call : WholeCall) → LeavesMarks (kinds_of_call call) now.seat next.seat → (call ≡ Refused (amount_for access now.seat)) ⊎ (call ≡ Withdrawn (amount_for access now.seat)) → LeavesMarks (flat_map kinds_of_call w.tries ++ kinds_of_call call) old.seat next.seat
+      joined call x (inl e) = subst (λ (c : WholeCall). LeavesMarks (flat_map kinds_of_call w.tries ++ kinds_of_call c) old.seat next.seat) (sym e)
+          (leaves_then (flat_map kinds_of_call w.tries) (No (amount_for access now.seat)) [] old.seat now.seat next.seat w.leaves (subst (λ (c : WholeCall). LeavesMarks (kinds_of_call c) now.seat next.seat) e x))
+      joined call x (inr e) = subst (λ (c : WholeCall). LeavesMarks (flat_map kinds_of_call w.tries ++ kinds_of_call c) old.seat next.seat) (sym e)
+          (leaves_then (flat_map kinds_of_call w.tries) (Over (amount_for access now.seat)) (Back (amount_for access now.seat) ∷ []) old.seat now.seat next.seat w.leaves (subst (λ (c : WholeCall). LeavesMarks (kinds_of_call c) now.seat next.seat) e x))
+
+  -- the try that is granted
+  pub tries_granted : IsTrying access old now → IsGranted access now next → IsWaitedFor access old next
+  tries_granted (inl same) granted = subst (λ (x : FileSeatInfo). IsWaitedFor access x next) same record {
+    within = granted.within;
+    tries = [];
+    refused = All-nil (λ (c : WholeCall). (c ≡ Refused (amount_for access now.seat)) ⊎ (c ≡ Withdrawn (amount_for access now.seat)));
+    leaves = granted.leaves;
+    hold = granted.hold;
+  }
+  tries_granted (inr w) granted = record {
+    within = w.within;
+    tries = w.tries;
+    refused = w.refused;
+    leaves = subst (λ (n : ℕ). LeavesMarks (flat_map kinds_of_call w.tries ++ Take n ∷ []) old.seat next.seat) (amount_is w)
+        (leaves_then (flat_map kinds_of_call w.tries) (Take (amount_for access now.seat)) [] old.seat now.seat next.seat w.leaves granted.leaves);
+    hold = granted.hold;
+  }
+
+  -- a seat that was refused for others isn't worn
+  pub tries_worn : IsTrying access old now → IsWorn now next → IsWorn old next
+  tries_worn (inl same) worn = subst (λ (x : FileSeatInfo). IsWorn x next) same worn
+  tries_worn (inr w) worn =
+      let stint : now.seat.stint ≡ old.seat.stint = ap (λ (s : SeatInfo FileMark). s.stint) w.leaves.same_seat in
+      absurd (omega (arith, w.within, w.holds, worn.spent, stint))

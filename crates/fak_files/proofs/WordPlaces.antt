@@ -1,0 +1,110 @@
+-- The words of a file table after a step.
+use Rattle.std.proofs.Common.{◌≡◌, ◌≢◌, ℕ, ◌+◌, ◌-◌, ◌%◌, ◌^◌, ◌<◌, ◌≤◌, ◌==◌, Bool, true, false, cond, List, [], ◌∷◌, ◌++◌, refl, ap, sym, ◌∙◌, subst, arith, inl, inr, set, get_or, length, mod-eq_of_lt}
+use Rattle.std.specs.Prelude.{ℤ, pos, ◌+ℤ◌, ◌-ℤ◌, ◌&&◌}
+use Rattle.std.proofs.Math.Nat.{add-mod_left}
+use Rattle.std.proofs.lemmas.Bool.Decides.{nat_tests}
+use Rattle.std.proofs.lemmas.Int.{ints}
+use Rattle.std.proofs.lemmas.List.{get_or-set_same, get_or-set_other, length-set, set-get_or}
+use Rattle.fak_model.specs.declared.file.FileField.{FileField}
+use Rattle.fak_model.specs.declared.file.FileField.TheVariants.{Inode, Uses}
+use Rattle.fak_model.specs.declared.file.FileKind.TheVariants.{Set}
+use Rattle.fak_model.specs.declared.file.FileMark.{FileMark}
+use Rattle.fak_model.specs.File.{count, same_field, field_after, field_from, field}
+use Rattle.fak_model.proofs.Deciding.{same_or_not}
+use Rattle.fak_files.specs.declared.limits.FileLimits.{FileLimits}
+use Rattle.fak_model.specs.Words.{bias}
+use Rattle.fak_files.specs.Words.{count_place, width, word_of}
+use Rattle.fak_files.specs.Shown.{ShowsHistory, mark}
+
+-- ---- numbers
+
+pub sub_word : (w a k taken : ℕ) (u : ℤ) → pos w ≡ pos bias +ℤ u → u +ℤ pos taken ≡ pos k → taken ≤ 5000 → k ≤ 64 → a ≤ 64 → pos ((w + (2 ^ 64 - a)) % 2 ^ 64) ≡ pos bias +ℤ (u -ℤ pos a)
+sub_word w a k taken u e range low few small =
+    let fits : w - a < 2 ^ 64 = omega (arith, ints, e, range) in
+    let sum : w + (2 ^ 64 - a) ≡ 2 ^ 64 + (w - a) = omega (arith, ints, e, range) in
+    ap (λ x. pos (x % 2 ^ 64)) sum ∙ (ap pos (add-mod_left (2 ^ 64) (w - a) ∙ mod-eq_of_lt fits) ∙ omega (arith, ints, e, range))
+
+pub add_word : (w a k taken : ℕ) (u : ℤ) → pos w ≡ pos bias +ℤ u → u +ℤ pos taken ≡ pos k → taken ≤ 5000 → k ≤ 64 → a ≤ 64 → pos ((w + a) % 2 ^ 64) ≡ pos bias +ℤ (u +ℤ pos a)
+add_word w a k taken u e range low few small =
+    let fits : w + a < 2 ^ 64 = omega (arith, ints, e, range) in
+    ap pos (mod-eq_of_lt fits) ∙ omega (arith, ints, e)
+
+pub near_word : (w k taken : ℕ) (u : ℤ) → pos w ≡ pos bias +ℤ u → u +ℤ pos taken ≡ pos k → k ≤ 64 → w < 2 ^ 63
+near_word w k taken u e range few = omega (arith, ints, e, range)
+
+-- ---- fields
+
+pub field_from-push : (i : ℕ) (f : FileField) (v : ℕ) (h : List FileMark) (m : FileMark) → field_from i f v (h ++ m ∷ []) ≡ field_after i f (field_from i f v h) m.kind
+field_from-push i f v [] m = refl
+field_from-push i f v (x ∷ h) m = field_from-push i f (field_after i f v x.kind) h m
+
+pub field-push : (h : List FileMark) (m : FileMark) (i : ℕ) (f : FileField) → field (h ++ m ∷ []) i f ≡ field_after i f (field h i f) m.kind
+field-push h m i f = field_from-push i f 0 h m
+
+-- a field that is set, and another
+field_here : (i : ℕ) (f : FileField) (old new : ℕ) → cond ((i == i) && same_field f f) new old ≡ new
+field_here i Inode old new = let t : (i == i) ≡ true = grind (arith, nat_tests) in rw t refl
+field_here i Uses old new = let t : (i == i) ≡ true = grind (arith, nat_tests) in rw t refl
+
+field_elsewhere : (i j : ℕ) (f g : FileField) (old new : ℕ) → i ≢ j → cond ((i == j) && same_field f g) new old ≡ old
+field_elsewhere i j f g old new ne = let t : (i == j) ≡ false = grind (arith, nat_tests) in rw t refl
+
+no_field : (b : Bool) (old new : ℕ) → cond (b && false) new old ≡ old
+no_field true old new = refl
+no_field false old new = refl
+
+-- ---- the words
+
+pub word_of-low : (i entries : ℕ) (f : FileField) → i < entries → word_of i f < width entries
+word_of-low i entries Inode low = omega (arith, low)
+word_of-low i entries Uses low = omega (arith, low)
+
+module _ (table : FileLimits) (h : List FileMark) (words : List ℕ) (shows : ShowsHistory table h words) where
+  -- a load leaves them as they are
+  pub words_same : (place : ℕ) → ShowsHistory table h (set words place (get_or words place 0))
+  words_same place = subst (ShowsHistory table h) (sym (set-get_or words place 0)) shows
+
+  -- a step on the count that sets no field
+  pub counts_next : (m : FileMark) (w : ℕ) → ((i : ℕ) (f : FileField) (v : ℕ) → field_after i f v m.kind ≡ v) → pos w ≡ pos bias +ℤ count table.seats (h ++ m ∷ []) → ShowsHistory table (h ++ m ∷ []) (set words count_place w)
+  counts_next m w none is = record {
+    few_entries = shows.few_entries;
+    few_seats = shows.few_seats;
+    some_seat = shows.some_seat;
+    wide = length-set words count_place w ∙ shows.wide;
+    counted = ap pos (get_or-set_same words count_place w 0 (omega (arith, shows.wide))) ∙ is;
+    fields = λ i f low. get_or-set_other words count_place (word_of i f) w 0 (λ e. omega (arith, e)) ∙ (shows.fields i f low ∙ sym (field-push h m i f ∙ none i f (field h i f)));
+  }
+
+  within : (i : ℕ) (f : FileField) → i < table.entries → word_of i f < length words
+  within i f low = omega (arith, word_of-low i table.entries f low, shows.wide)
+
+  apart : (i j : ℕ) (f g : FileField) → j ≢ i → word_of j g ≢ word_of i f
+  apart i j Inode Inode ne e = ne (omega (arith, e))
+  apart i j Inode Uses ne e = omega (arith, e)
+  apart i j Uses Inode ne e = omega (arith, e)
+  apart i j Uses Uses ne e = ne (omega (arith, e))
+
+  -- the fields of the entry of which one is set
+  one_entry : (i v : ℕ) (f g : FileField) → i < table.entries → get_or (set words (word_of i f) v) (word_of i g) 0 ≡ cond ((i == i) && same_field g f) v (field h i g)
+  one_entry i v Inode Inode low = get_or-set_same words (word_of i Inode) v 0 (within i Inode low) ∙ sym (field_here i Inode (field h i Inode) v)
+  one_entry i v Uses Uses low = get_or-set_same words (word_of i Uses) v 0 (within i Uses low) ∙ sym (field_here i Uses (field h i Uses) v)
+  one_entry i v Inode Uses low = get_or-set_other words (word_of i Inode) (word_of i Uses) v 0 (λ e. omega (arith, e)) ∙ (shows.fields i Uses low ∙ sym (no_field (i == i) (field h i Uses) v))
+  one_entry i v Uses Inode low = get_or-set_other words (word_of i Uses) (word_of i Inode) v 0 (λ e. omega (arith, e)) ∙ (shows.fields i Inode low ∙ sym (no_field (i == i) (field h i Inode) v))
+
+  -- the fields of all entries
+  each_entry : (i v : ℕ) (f : FileField) → i < table.entries → (j : ℕ) (g : FileField) → j < table.entries → get_or (set words (word_of i f) v) (word_of j g) 0 ≡ cond ((j == i) && same_field g f) v (field h j g)
+  each_entry i v f low j g near = elim (same_or_not j i) [
+    | inl e ↦ subst (λ (x : ℕ). get_or (set words (word_of i f) v) (word_of x g) 0 ≡ cond ((x == i) && same_field g f) v (field h x g)) (sym e) (one_entry i v f g low)
+    | inr ne ↦ get_or-set_other words (word_of i f) (word_of j g) v 0 (apart i j f g ne) ∙ (shows.fields j g near ∙ sym (field_elsewhere j i g f (field h j g) v ne))
+  ]
+
+  -- a field that is set
+  pub fields_next : (name i : ℕ) (f : FileField) (v : ℕ) → i < table.entries → count table.seats (h ++ mark name (Set i f v) ∷ []) ≡ count table.seats h → ShowsHistory table (h ++ mark name (Set i f v) ∷ []) (set words (word_of i f) v)
+  fields_next name i f v low same = record {
+    few_entries = shows.few_entries;
+    few_seats = shows.few_seats;
+    some_seat = shows.some_seat;
+    wide = length-set words (word_of i f) v ∙ shows.wide;
+    counted = ap pos (get_or-set_other words (word_of i f) count_place v 0 (λ e. omega (arith, e))) ∙ (shows.counted ∙ ap (λ n. pos bias +ℤ n) (sym same));
+    fields = λ j g near. each_entry i v f low j g near ∙ sym (field-push h (mark name (Set i f v)) j g);
+  }

@@ -1,6 +1,0 @@
-use Rattle.std.proofs.Common.{arith}
-use Rattle.fak_files.proofs.StepKinds.{gives_allowed}
-use Rattle.fak_files.proofs.step.give.Goals as goal
-
-pub fetch_add-requires : goal.fetch_add-requires
-fetch_add-requires g c = (c.requires.table.0, omega (arith, c.requires.table.1), gives_allowed _ _ c.requires.table.2 _ _ _ _ _ _ c.requires.amount.0 c.requires.seat)

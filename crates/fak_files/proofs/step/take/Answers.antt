@@ -1,6 +1,0 @@
-use Rattle.std.proofs.Common.{arith}
-use Rattle.fak_files.proofs.StepKinds.{takes_allowed}
-use Rattle.fak_files.proofs.step.take.Goals as goal
-
-pub fetch_sub-requires : goal.fetch_sub-requires
-fetch_sub-requires g c = (c.requires.table.0, omega (arith, c.requires.table.1), takes_allowed _ _ c.requires.table.2 _ _ _ _ _ _ c.requires.amount.0 c.requires.seat)

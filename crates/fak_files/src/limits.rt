@@ -1,0 +1,8 @@
+//! What a file table is told when it is made.
+
+/// The number of entries of a file table, and of its seats.
+#[derive(Drop)]
+pub struct FileLimits {
+    pub entries: u64,
+    pub seats: u64,
+}
