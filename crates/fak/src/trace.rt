@@ -82,7 +82,8 @@ impl Trace {
     /// Keeps the line of a row as the last.
     fn keep(&mut self, row: Row) -> Result<(), MainFault>
         requires { IsShownRow row }
-        ensures ok { OnOk result ((self.new.text ≡ self.old.text) × (string_bytes self.new.line ≡ text_of_row row ++ 10 ∷ []) × (self.new.last ≡ Some row)) }
+        ensures ok { OnOk result ((self.new.text ≡ self.old.text) × (string_bytes self.new.line ≡ text_of_row row ++ 10 ∷ [])
+            × (self.new.last ≡ Some row)) }
         ensures err { IfErr result (λ fault. fault ≡ Memory) }
     {
         self.line.clear();

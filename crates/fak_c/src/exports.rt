@@ -54,7 +54,8 @@ pub extern "C" fn fak_c_claim_insert(
     item: u64,
     ticket: &mut u64,
 ) -> i32
-    ensures { Called result (ticket.new ≡ ticket.old) (Inserts result item ticket.old ticket.new) seat.old.handle.desk seat.new.handle.desk }
+    ensures { Called result (ticket.new ≡ ticket.old)
+        (Inserts result item ticket.old ticket.new) seat.old.handle.desk seat.new.handle.desk }
 {
     let Some(mut desk) = seat.take(alloc) else {
         return NO_SEAT;
@@ -114,7 +115,8 @@ pub extern "C" fn fak_c_try_take(alloc: Global, seat: &mut Place, item: &mut u64
 /// `OK`, `NO_SEAT` or `WRONG_STATE`.
 #[unsafe(no_mangle)]
 pub extern "C" fn fak_c_shut(alloc: Global, seat: &mut Place, was_open: &mut bool) -> i32
-    ensures { Called result (was_open.new ≡ was_open.old) (Shuts result was_open.old was_open.new) seat.old.handle.desk seat.new.handle.desk }
+    ensures { Called result (was_open.new ≡ was_open.old)
+        (Shuts result was_open.old was_open.new) seat.old.handle.desk seat.new.handle.desk }
 {
     let Some(mut desk) = seat.take(alloc) else {
         return NO_SEAT;
@@ -136,8 +138,8 @@ pub extern "C" fn fak_c_state(
     ticket: &mut u64,
     left: &mut u64,
 ) -> i32
-    ensures { Called result ((state.new ≡ state.old) × (ticket.new ≡ ticket.old) × (left.new ≡ left.old)) (Looks result state.new ticket.old ticket.new left.new)
-        seat.old.handle.desk seat.new.handle.desk }
+    ensures { Called result ((state.new ≡ state.old) × (ticket.new ≡ ticket.old) × (left.new ≡ left.old))
+        (Looks result state.new ticket.old ticket.new left.new) seat.old.handle.desk seat.new.handle.desk }
 {
     let Some(desk) = seat.take(alloc) else {
         return NO_SEAT;

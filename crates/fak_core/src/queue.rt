@@ -51,7 +51,8 @@ impl Model for QueueCore {
 
     ghost view = { λ c. record (fields_of c.words) { phases = c.phases.items; past = reverse c.marks.items } };
 
-    ghost invariant = { λ c. IsSoundWith (record (fields_of c.words) { phases = c.phases.items; past = reverse c.marks.items }) c.items.items };
+    ghost invariant = { λ c. IsSoundWith (record
+        (fields_of c.words) { phases = c.phases.items; past = reverse c.marks.items }) c.items.items };
 }
 
 /// The phase in which a call of a seat that stands in this phase begins.

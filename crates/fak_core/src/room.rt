@@ -124,7 +124,8 @@ impl RoomCore {
         ensures ok { IfOk result (λ line. IsStep self.old seat line self.new) }
         ensures err { OnErr result (self.new ≡ self.old) }
         ensures many { length self.new.seats ≡ length self.old.seats }
-        ensures fault { IfErr result (λ fault. (step_of self.old seat ≡ Err fault) ⊎ ((fault ≡ Memory) × LeavesMark (step_of self.old seat))) }
+        ensures fault { IfErr result (λ fault. (step_of self.old seat ≡ Err fault)
+            ⊎ ((fault ≡ Memory) × LeavesMark (step_of self.old seat))) }
     {
         if seat >= self.seats.len() as u64 {
             return Err(CoreFault::NoSuchSeat);

@@ -23,7 +23,7 @@ use Rattle.fak_core.specs.declared.call.RoomCall.TheVariants.{Tir, Release}
 use Rattle.fak_core.specs.declared.room.phase.RoomPhase.TheVariants.{Idle, Testing, Adding, Backing, Releasing}
 use Rattle.fak_core.specs.declared.room.phase.CoreSeat.{CoreSeat}
 use Rattle.fak_core.specs.declared.room.step.RoomMove.{RoomMove}
-use Rattle.fak_core.specs.Room.{RoomState, opening as core_opening, fits, test_move, add_move, back_move, release_move, next_move, first_phase, marks_left, moved, begun}
+use Rattle.fak_core.specs.Room.{RoomState, opening as core_opening, fits, test_move, add_move, back_move, release_move, next_move, begun_phase, marks_left, moved, begun}
 use Rattle.fak_core.specs.RoomSchedule.{IsReached}
 use Rattle.fak_core.proofs.ListWrites.{written_here, written_stays}
 use Rattle.fak_core.proofs.RoomKept.{IsKept}
@@ -42,7 +42,7 @@ own_left : (name : ℕ) (mark : Option RoomKind) → AreOwn seat_of name (marks_
 own_left name None = tt
 own_left name (Some kind) = (refl, tt)
 
-may_release : (held d : ℕ) → d ≤ held → first_phase held Idle (Release d) ≡ Ok (Releasing d)
+may_release : (held d : ℕ) → d ≤ held → begun_phase held Idle (Release d) ≡ Ok (Releasing d)
 may_release held d enough = let t : nat_lt held d ≡ false = grind (arith, nat_tests) in rw t refl
 
 module _ (key : RoomLimits) (s : State (Unit {0}) RoomView) (r : IsShownRoom key s) (id name : ℕ) (m : RoomHolder) (at : get_elem? s.views id ≡ some m.0) (one : m.0.names ≡ name ∷ []) where
@@ -194,7 +194,7 @@ module _ (key : RoomLimits) (s : State (Unit {0}) RoomView) (r : IsShownRoom key
           let holds = (kept.seats name x at_rest.seat).holds in
           let same = held_seen in
           let has : d ≤ at_rest.holding = omega (arith, holds, same, enough) in
-          let may : first_phase at_rest.holding Idle (Release d) ≡ Ok (Releasing d) = may_release at_rest.holding d has in
+          let may : begun_phase at_rest.holding Idle (Release d) ≡ Ok (Releasing d) = may_release at_rest.holding d has in
           let reached : IsReached key.bound key.seats (begun r.core name releasing) = reached_begin key.bound key.seats r.core name x (Release d) (Releasing d) r.reached.reached at_rest.seat range may in
           let t = goes_on (begun r.core name releasing) releasing (release_move r.core.count at_rest.holding d) reached refl (λ k y ne old. written_stays r.core.seats name k releasing y ne old)
           (written_here r.core.seats name releasing within) refl (λ x. (x + (2 ^ 64 - d)) % 2 ^ 64) lowered in

@@ -14,7 +14,7 @@ use Rattle.fak_model.proofs.Appending.{snoc_ind, seat_words-own, seat_words-othe
 use Rattle.fak_model.proofs.Leading.{total_push, sum_same, sum_most, sum_parts, sum_plus}
 use Rattle.fak_model.proofs.Places.{ends, ends_append, Runs, CallsRun, may_come, rests}
 use Rattle.fak_model.proofs.FileLaw.{given_push, files_fit}
-use Rattle.fak_model.proofs.FileRest.{holds_total}
+use Rattle.fak_model.proofs.FileRest.{needs, leads, calls_run, holds_total}
 
 -- ---- one mark more
 
@@ -26,28 +26,6 @@ pub count-push : (k : ℕ) (h : List FileMark) (m : FileMark) → count k (h ++ 
 count-push k h m = omega (arith, ints, total_push kind_of take_amount h m, total_push kind_of over_amount h m, total_push kind_of back_amount h m, given_push [] h m)
 
 -- ---- what is not withdrawn yet
-
--- the place of each kind in a call, which after an Over has its amount
-abbrev needs : FileKind → ℕ
-needs (Back n) = n + 3
-needs (Set i f v) = 2
-needs Give = 2
-needs _ = 0
-
-abbrev leads : FileKind → ℕ
-leads (Over n) = n + 3
-leads (Take n) = 2
-leads (Set i f v) = 2
-leads _ = 0
-
-sets_run : (sets : List Setting) → Runs needs leads 2 (map set_mark sets ++ Give ∷ []) × (ends leads 2 (map set_mark sets ++ Give ∷ []) ≡ 0)
-sets_run [] = ((refl, tt), refl)
-sets_run (s ∷ sets) = let r = sets_run sets in ((refl, r.0), r.1)
-
-calls_run : CallsRun needs leads kinds_of_call
-calls_run (Refused n) = ((refl, tt), refl)
-calls_run (Withdrawn n) = ((refl, (refl, tt)), refl)
-calls_run (Held n sets) = let r = sets_run sets in ((refl, r.0), r.1)
 
 -- a seat's kinds stand at their places
 runs_of : (kinds : List FileKind) → AreCalls kinds_of_call kinds → Runs needs leads 0 kinds

@@ -32,7 +32,8 @@ pub fn the_fields_of_a_hold_are_those_of_its_take()
 /// What a seat reads in a hold stays while it leaves no mark.
 pub fn what_a_hold_reads_stays()
     ensures { (name : ℕ) (h rest : List FileMark) → marks_of seat_of name rest ≡ []
-        → (prefix_through_take name (h ++ rest) ≡ prefix_through_take name h) × (marks_since_take name (h ++ rest) ≡ marks_since_take name h) }
+        → (prefix_through_take name (h ++ rest) ≡ prefix_through_take name h)
+        × (marks_since_take name (h ++ rest) ≡ marks_since_take name h) }
 {}
 
 /// At its Take a seat reads all that it has seen.

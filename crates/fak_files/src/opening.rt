@@ -44,9 +44,8 @@ impl FileTable {
         seats: u64,
         stint: u64,
     ) -> Result<(FileTable, Vec<FileSeat>), OpenFault>
-        ensures { MatchResult result
-            (λ r. IsInRange entries seats stint × (r.0.entries ≡ entries) × (r.0.object.seats ≡ seats) × (r.1.items ≡ idle_seats (fresh_seats r.0.object stint 0 seats)))
-            (IsOpenFault entries seats stint) }
+        ensures { MatchResult result (λ r. IsInRange entries seats stint × (r.0.entries ≡ entries) × (r.0.object.seats ≡ seats)
+            × (r.1.items ≡ idle_seats (fresh_seats r.0.object stint 0 seats))) (IsOpenFault entries seats stint) }
     {
         if let Err(fault) = tested_limits(entries, seats, stint) {
             return Err(fault);

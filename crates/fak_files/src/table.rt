@@ -35,7 +35,8 @@ impl Model for FileTable {
 
     ghost view = { λ t. table_info (object_id t.table.shared.table_id t.table.shared.key.seats) t.entries };
 
-    ghost invariant = { λ t. (t.table.shared.key.entries ≡ t.entries) × (t.table.shared.table_id.words ≡ width t.entries) × (t.table.shared.table_id.slots ≡ 0) × (t.entries ≤ 16) };
+    ghost invariant = { λ t. (t.table.shared.key.entries ≡ t.entries) × (t.table.shared.table_id.words ≡ width t.entries)
+        × (t.table.shared.table_id.slots ≡ 0) × (t.entries ≤ 16) };
 }
 
 impl FileTable {

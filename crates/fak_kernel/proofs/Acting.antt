@@ -1,5 +1,5 @@
 -- How what a processor does balances.
-use Rattle.std.proofs.Common.{◌≡◌, ℕ, List, [], ◌∷◌, ◌++◌, length, refl, ap, sym, ◌∙◌, subst, arith}
+use Rattle.std.proofs.Common.{◌≡◌, ℕ, Bool, List, [], ◌∷◌, ◌++◌, length, refl, ap, sym, ◌∙◌, subst, arith}
 use Rattle.std.specs.Prelude.{None}
 use Rattle.std.specs.List.{sum_by}
 use Rattle.std.proofs.lemmas.List.{append-nil}
@@ -18,7 +18,7 @@ use Rattle.fak_kernel.specs.Events.{takes, puts, halts, ends, closed, empty}
 use Rattle.fak_kernel.specs.Processors.{ObjectsOf, ProcessorOf, AreFor}
 use Rattle.fak_kernel.specs.Moving.{IsIdle, IsQuiet, GrowsIn, GrowsShut, GrowsAtLast, GrowsOut, GrowsEmpty, BeginsNone, Gains, Moves, row_as}
 use Rattle.fak_kernel.proofs.Joining.{balanced-joined}
-use Rattle.fak_kernel.proofs.Events.{none_waits, quiet, balanced-beside, keeps_takes, keeps_puts, keeps_halts, keeps_ends}
+use Rattle.fak_kernel.proofs.Events.{none_waits, quiet, in_other_hands, balanced-beside, keeps_takes, keeps_puts, keeps_halts, keeps_ends}
 use Rattle.fak_kernel.proofs.Moving.{quiet_empty, gains_none, gains_then, gains_ready, gains_free}
 use Rattle.fak_kernel.proofs.Gaining.{Alike, gains_as}
 
@@ -72,18 +72,7 @@ module _ {script : ScriptOf} where
 
   -- who stands in front of those in hand
   balanced_behind : {n : ℕ} {before after : List Process} {l : Ledger} (others : List Process) → Balanced script n before after l → Balanced script n (others ++ before) (others ++ after) l
-  balanced_behind {before = before} {after = after} others b = record {
-    processes = λ f. omega (arith, b.processes f, sum_by-append f others before, sum_by-append f others after);
-    slots = b.slots;
-    children = b.children;
-    new = b.new;
-    births = b.births;
-    busy = b.busy;
-    semaphores = b.semaphores;
-    shutdown = b.shutdown;
-    made = b.made;
-    rows = b.rows;
-  }
+  balanced_behind {before = before} {after = after} others b = in_other_hands b (λ f. omega (arith, sum_by-append f others before, sum_by-append f others after))
 
   pub moves_behind : {before after : List Process} {p q : ProcessorOf} (others : List Process) → Moves script before after p q → Moves script (others ++ before) (others ++ after) p q
   moves_behind others m = record { ledger = m.ledger; begins = m.begins; balanced = balanced_behind others m.balanced; gains = m.gains }
@@ -107,30 +96,34 @@ module _ {script : ScriptOf} where
       n : ℕ
       n = length script.semaphores
 
-  pub moves_halted : {o : ObjectsOf} (p : ProcessorOf) (made : AreFor script o) {x : Process} {s : SeatInfo (Mark Process)} {h : List Process} {q : ProcessorOf} → FitsScript script x → h ≡ p.halted ++ x ∷ [] → GrowsShut o.ready.size p.ready s
-      → Gains script (record p { ready = s; halted = h }) q (record nothing { busy = Debit ∷ [] }) → Moves script (x ∷ []) [] p q
-  moves_halted p made {x} {s} {h} {q} fits h_is g debited = record {
-    ledger = joined (record nothing { ready = g.refused }) (halts g.late x);
-    begins = (refl, refl);
-    balanced = balanced-joined script n (x ∷ []) (x ∷ []) [] (record nothing { ready = g.refused }) (halts g.late x) (balanced-beside (x ∷ []) (keeps_quiet n g.refused g.quiet)) (keeps_halts script n g.late x fits);
-    gains = gains_as (joined (record nothing { ready = g.refused ++ closed g.late; rows = row_as Halted x ∷ [] }) (record nothing { busy = Debit ∷ [] })) (joined (record nothing { ready = g.refused }) (halts g.late x))
-        (gains_then (record nothing { ready = g.refused ++ closed g.late; rows = row_as Halted x ∷ [] }) (record nothing { busy = Debit ∷ [] }) with_row debited)
-        (record { ready = append-nil (g.refused ++ closed g.late); free = refl; births = refl; busy = refl; credits = λ t. refl; waits = λ t. refl; rows = refl; lines = refl });
-  }
-    where
-      n : ℕ
-      n = length script.semaphores
-
-      entered : Gains script p (record p { ready = s }) (record nothing { ready = g.refused ++ closed g.late })
-      entered = gains_ready p (g.refused ++ closed g.late) made.ready g.grows
-
-      with_row : Gains script p (record p { ready = s; halted = h }) (record nothing { ready = g.refused ++ closed g.late; rows = row_as Halted x ∷ [] })
-      with_row = record {
+  -- who finds the ready queue shut is halted
+  pub gains_halted : {o : ObjectsOf} (p : ProcessorOf) (made : AreFor script o) {x : Process} {s : SeatInfo (Mark Process)} {h : List Process} {q : ProcessorOf} → h ≡ p.halted ++ x ∷ [] → (g : GrowsShut o.ready.size p.ready s)
+      → Gains script (record p { ready = s; halted = h }) q (record nothing { busy = Debit ∷ [] }) → Gains script p q (joined (record nothing { ready = g.refused }) (halts g.late x))
+  gains_halted p made {x} {s} {h} {q} h_is g debited =
+      let entered : Gains script p (record p { ready = s }) (record nothing { ready = g.refused ++ closed g.late }) = gains_ready p (g.refused ++ closed g.late) made.ready g.grows in
+      let with_row : Gains script p (record p { ready = s; halted = h }) (record nothing { ready = g.refused ++ closed g.late; rows = row_as Halted x ∷ [] }) = record {
         adds = λ d. let a = entered.adds d in record { ready = a.ready; free = a.free; births = a.births; busy = a.busy; credits = a.credits; waits = a.waits };
         names = entered.names;
         lines = entered.lines;
         rows = λ f. omega (arith, ap (sum_by (λ (q : Process). f (row_as Halted q))) h_is, sum_by-append (λ (q : Process). f (row_as Halted q)) p.halted (x ∷ []));
-      }
+      } in
+      gains_as (joined (record nothing { ready = g.refused ++ closed g.late; rows = row_as Halted x ∷ [] }) (record nothing { busy = Debit ∷ [] })) (joined (record nothing { ready = g.refused }) (halts g.late x))
+      (gains_then (record nothing { ready = g.refused ++ closed g.late; rows = row_as Halted x ∷ [] }) (record nothing { busy = Debit ∷ [] }) with_row debited)
+      (record { ready = append-nil (g.refused ++ closed g.late); free = refl; births = refl; busy = refl; credits = λ t. refl; waits = λ t. refl; rows = refl; lines = refl })
+
+  -- what that weighs
+  pub balanced_halted : (n : ℕ) (refused : List (Kind Process)) (late : Bool) (x : Process) → IsQuiet refused → FitsScript script x → Balanced script n (x ∷ []) [] (joined (record nothing { ready = refused }) (halts late x))
+  balanced_halted n refused late x quiet fits =
+      balanced-joined script n (x ∷ []) (x ∷ []) [] (record nothing { ready = refused }) (halts late x) (balanced-beside (x ∷ []) (keeps_quiet n refused quiet)) (keeps_halts script n late x fits)
+
+  pub moves_halted : {o : ObjectsOf} (p : ProcessorOf) (made : AreFor script o) {x : Process} {s : SeatInfo (Mark Process)} {h : List Process} {q : ProcessorOf} → FitsScript script x → h ≡ p.halted ++ x ∷ [] → GrowsShut o.ready.size p.ready s
+      → Gains script (record p { ready = s; halted = h }) q (record nothing { busy = Debit ∷ [] }) → Moves script (x ∷ []) [] p q
+  moves_halted p made {x} fits h_is g debited = record {
+    ledger = joined (record nothing { ready = g.refused }) (halts g.late x);
+    begins = (refl, refl);
+    balanced = balanced_halted (length script.semaphores) g.refused g.late x g.quiet fits;
+    gains = gains_halted p made h_is g debited;
+  }
 
   -- ---- the free queue
 

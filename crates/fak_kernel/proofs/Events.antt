@@ -33,10 +33,11 @@ pub waiting_at : (w : Kind Process → ℕ) (kinds : List (Kind Process)) (s n :
 waiting_at w kinds s n below =
     sum_at (λ t. sum_by w (cond (s == t) kinds [])) s n below (λ t d. ap (sum_by w) (cond_else s t kinds [] (λ e. d (sym e)))) ∙ ap (sum_by w) (cond_here s kinds [])
 
--- who holds more processes still holds them
-pub balanced-beside : {script : ScriptOf} {n : ℕ} {before after : List Process} {l : Ledger} (others : List Process) → Balanced script n before after l → Balanced script n (before ++ others) (after ++ others) l
-balanced-beside {before = before} {after = after} others b = record {
-  processes = λ f. omega (arith, b.processes f, sum_by-append f before others, sum_by-append f after others);
+-- what is in hand may be told otherwise, as long as it weighs as much
+pub in_other_hands : {script : ScriptOf} {n : ℕ} {before after before' after' : List Process} {l : Ledger} → Balanced script n before after l
+    → ((f : Process → ℕ) → sum_by f after' + sum_by f before ≡ sum_by f before' + sum_by f after) → Balanced script n before' after' l
+in_other_hands b weighs = record {
+  processes = λ f. omega (arith, b.processes f, weighs f);
   slots = b.slots;
   children = b.children;
   new = b.new;
@@ -47,6 +48,10 @@ balanced-beside {before = before} {after = after} others b = record {
   made = b.made;
   rows = b.rows;
 }
+
+-- who holds more processes still holds them
+pub balanced-beside : {script : ScriptOf} {n : ℕ} {before after : List Process} {l : Ledger} (others : List Process) → Balanced script n before after l → Balanced script n (before ++ others) (after ++ others) l
+balanced-beside {before = before} {after = after} others b = in_other_hands b (λ f. omega (arith, sum_by-append f before others, sum_by-append f after others))
 
 -- ---- what refused calls weigh, refused at the test or at the add
 

@@ -215,19 +215,6 @@ got_of i old now next answer just l got =
     let holding : answer ≡ entry_of (prefix_through_take old.seat.name next.seat.seen ++ marks_since_take old.seat.name next.seat.seen) i = subst (λ (w : ℕ). answer ≡ entry_of (prefix_through_take w next.seat.seen ++ marks_since_take w next.seat.seen) i) name got.holding in
     (holding ∙ ap (λ (h : List FileMark). entry_of h i) ((λ j. through j ++ since j) ∙ append-nil old.seat.seen), both)
 
--- the first entries of a row
-pub entries_taken : (h : List FileMark) (row : List FileEntry) (first n : ℕ) → ((i : ℕ) → i < n → slice_get row i ≡ Some (entry_of h (first + i))) → take n row ≡ entries_after h first n
-entries_taken h row first zero each = refl
-entries_taken h [] first (suc n) each = absurd (nothing (each 0 (omega arith)))
-  where
-    nothing : None ≡ Some (entry_of h (first + 0)) → ⊥
-    nothing e = cc
-entries_taken h (x ∷ row) first (suc n) each =
-    let plus : first + 0 ≡ first = omega arith in
-    let one : x ≡ entry_of h (first + 0) = cc (each 0 (omega arith)) in
-    let rest = entries_taken h row (suc first) n (λ i low. each (suc i) (omega (arith, low)) ∙ (let next : first + suc i ≡ suc first + i = omega arith in ap (λ k. Some (entry_of h k)) next)) in
-    λ i. (one ∙ ap (entry_of h) plus) i ∷ rest i
-
 -- ---- the whole hold
 
 sets-held : (sets : List Setting) → filter is_of_hold (map set_mark sets) ≡ map set_mark sets

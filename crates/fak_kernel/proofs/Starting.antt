@@ -25,7 +25,7 @@ use Rattle.fak_kernel.proofs.Events.{balanced-beside, keeps_fills, keeps_halts, 
 use Rattle.fak_kernel.proofs.Calls.{turning_more}
 use Rattle.fak_kernel.proofs.Moving.{gains_free, gains_none, gains_ready, gains_then, idle_none, idle_then}
 use Rattle.fak_kernel.proofs.Gaining.{gains_as}
-use Rattle.fak_kernel.proofs.Acting.{keeps_idle, keeps_quiet}
+use Rattle.fak_kernel.proofs.Acting.{keeps_idle, keeps_quiet, gains_halted, balanced_halted}
 use Rattle.fak_kernel.proofs.Opening.{numbers_from-next}
 use Rattle.fak_kernel.proofs.Holding.{lines_none}
 use Rattle.fak_kernel.proofs.Looping.{keeps_name}
@@ -110,29 +110,13 @@ module _ {script : ScriptOf} where
 
   pub begins_halted : {o : ObjectsOf} (p : ProcessorOf) (made : AreFor script o) {x : Process} {s : SeatInfo (Mark Process)} {h : List Process} {q : ProcessorOf} → FitsScript script x → h ≡ p.halted ++ x ∷ [] → GrowsShut o.ready.size p.ready s
       → Gains script (record p { ready = s; halted = h }) q (record nothing { busy = Debit ∷ [] }) → Begins script (x ∷ []) [] [] [] p q
-  begins_halted p made {x} {s} {h} {q} fits h_is g debited = record {
+  begins_halted p made {x} fits h_is g debited = record {
     ledger = joined (record nothing { ready = g.refused }) (halts g.late x);
-    balanced = balanced-joined script n (x ∷ []) (x ∷ []) [] (record nothing { ready = g.refused }) (halts g.late x) (balanced-beside (x ∷ []) (keeps_quiet n g.refused g.quiet)) (keeps_halts script n g.late x fits);
-    gains = gains_as (joined (record nothing { ready = g.refused ++ closed g.late; rows = row_as Halted x ∷ [] }) (record nothing { busy = Debit ∷ [] })) (joined (record nothing { ready = g.refused }) (halts g.late x))
-        (gains_then (record nothing { ready = g.refused ++ closed g.late; rows = row_as Halted x ∷ [] }) (record nothing { busy = Debit ∷ [] }) with_row debited)
-        (record { ready = append-nil (g.refused ++ closed g.late); free = refl; births = refl; busy = refl; credits = λ t. refl; waits = λ t. refl; rows = refl; lines = refl });
+    balanced = balanced_halted (length script.semaphores) g.refused g.late x g.quiet fits;
+    gains = gains_halted p made h_is g debited;
     first_are = refl;
     begun_are = refl;
   }
-    where
-      n : ℕ
-      n = length script.semaphores
-
-      entered : Gains script p (record p { ready = s }) (record nothing { ready = g.refused ++ closed g.late })
-      entered = gains_ready p (g.refused ++ closed g.late) made.ready g.grows
-
-      with_row : Gains script p (record p { ready = s; halted = h }) (record nothing { ready = g.refused ++ closed g.late; rows = row_as Halted x ∷ [] })
-      with_row = record {
-        adds = λ d. let a = entered.adds d in record { ready = a.ready; free = a.free; births = a.births; busy = a.busy; credits = a.credits; waits = a.waits };
-        names = entered.names;
-        lines = entered.lines;
-        rows = λ f. omega (arith, ap (sum_by (λ (q : Process). f (row_as Halted q))) h_is, sum_by-append (λ (q : Process). f (row_as Halted q)) p.halted (x ∷ []));
-      }
 
   -- a process with this name gets a slot and goes on
   pub begins_process : {p q r : ProcessorOf} {slot : ℕ} (i program : ℕ) (x : Process) → x ≡ new_process (i ∷ []) program slot → FindsSlot script slot p q → Begins script (x ∷ []) [] [] [] q r → Begins script [] [] [] ((i ∷ [], program) ∷ []) p r

@@ -20,7 +20,17 @@ pub trait Run {
 }
 
 impl Run for Brand {
-    ghost script = { record { version = 1; slots = 0; births = 0; quantum = 0; stint = 0; semaphores = []; files = 0; programs = []; start = [] } };
+    ghost script = { record {
+      version = 1;
+      slots = 0;
+      births = 0;
+      quantum = 0;
+      stint = 0;
+      semaphores = [];
+      files = 0;
+      programs = [];
+      start = [];
+    } };
 }
 
 /// A process of the run. Its journal fits the script of the run.
@@ -43,9 +53,22 @@ impl<K: Run> Model for Context<K> {
 
     ghost Value = { Process };
 
-    ghost view = { λ c. record { name = c.name.items; program = c.program; slot = c.slot; position = c.position; journal = map note_of c.journal.items } };
+    ghost view = { λ c. record {
+      name = c.name.items;
+      program = c.program;
+      slot = c.slot;
+      position = c.position;
+      journal = map note_of c.journal.items;
+    } };
 
-    ghost invariant = { λ c. IsContext K.script c.children (record { name = c.name.items; program = c.program; slot = c.slot; position = c.position; journal = map note_of c.journal.items }) };
+    ghost invariant = { λ c. IsContext K.script c.children
+        (record {
+          name = c.name.items;
+          program = c.program;
+          slot = c.slot;
+          position = c.position;
+          journal = map note_of c.journal.items;
+        }) };
 }
 
 impl<K: Run> Context<K> {
@@ -124,7 +147,8 @@ impl<K: Run> Context<K> {
 
     /// Goes on behind the step at the position, which was made with this note.
     pub fn note(&mut self, note: Note) -> Result<(), Fault>
-        requires { (step : StepOf) × StandsAt K.script self.old step × Allows K.script.files (child_count self.old.journal) step (note_of note) }
+        requires { (step : StepOf) × StandsAt K.script self.old step
+            × Allows K.script.files (child_count self.old.journal) step (note_of note) }
         ensures noted { IfOk result (λ _. self.new ≡ after_note self.old (note_of note)) }
         ensures memory { IfErr result (λ fault. fault ≡ Fault.Memory) }
     {

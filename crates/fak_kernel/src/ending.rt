@@ -42,7 +42,10 @@ pub(crate) fn report_of_run<K: Run>(
     requires some { 1 ≤ vec_len left }
     requires left { (i : ℕ) (d : ProcessorOf) → i < vec_len left → IsLeftBy K.script objects i (slice_index_or left.items i d) }
     ensures general { IfOk result (λ report. RunReports K.script (report_of report)) }
-    ensures alone { vec_len left ≡ 1 → ((d : ProcessorOf) → IsReached K.script (slice_index_or left.items 0 d) (turn_over (lists_of K.script (slice_index_or left.items 0 d))) × ((lists_of K.script (slice_index_or left.items 0 d)).ready ≡ [])) → (d : ProcessorOf) → IfOk result (λ report. ListSchedulerReports K.script (report_of report)) }
+    ensures alone { vec_len left ≡ 1 → ((d : ProcessorOf)
+        → IsReached K.script (slice_index_or left.items 0 d) (turn_over (lists_of K.script (slice_index_or left.items 0 d)))
+        × ((lists_of K.script (slice_index_or left.items 0 d)).ready ≡ [])) → (d : ProcessorOf)
+        → IfOk result (λ report. ListSchedulerReports K.script (report_of report)) }
     ensures memory { IfErr result (λ fault. fault ≡ Fault.Memory) }
 {
     let all = gather(alloc, &objects, left)?;

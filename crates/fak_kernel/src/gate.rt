@@ -57,7 +57,10 @@ impl Looks {
     ///
     /// `Gate`, where the gate may refuse and did.
     pub(crate) fn pass<G: Gate>(&mut self, gate: &G) -> Result<(), Fault>
-        ensures next { self.new ≡ record self.old { made = cond (self.old.made == 18446744073709551615) self.old.made (self.old.made + 1) } }
+        ensures next { self.new ≡ record self.old {
+          made = cond (self.old.made == 18446744073709551615) self.old.made
+              (self.old.made + 1);
+        } }
         ensures gate { IfErr result (λ fault. IsOfGate (G.refuses gate.now) fault) }
     {
         let step = self.made;

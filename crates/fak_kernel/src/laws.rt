@@ -36,18 +36,19 @@ pub fn the_list_scheduler_ends_every_script()
 
 /// The names in the list scheduler's report are distinct, so a script has one report.
 pub fn the_list_scheduler_reports_each_name_once()
-    ensures once { (script : ScriptOf) (report : ReportOf) → ListSchedulerReports script report → AllPairs (λ a b. a.process.name ≡ b.process.name → ⊥) report.rows }
+    ensures once { (script : ScriptOf) (report : ReportOf) → ListSchedulerReports script report
+        → AllPairs (λ a b. a.process.name ≡ b.process.name → ⊥) report.rows }
     ensures one { (script : ScriptOf) (a b : ReportOf) → ListSchedulerReports script a → ListSchedulerReports script b → a ≡ b }
 {}
 
 /// Ledgers one after the other balance.
 pub fn ledgers_balance_together()
-    ensures { (script : ScriptOf) (n : ℕ) (before between after : List Process) (a b : Ledger) → Balanced script n before between a → Balanced script n between after b
-        → Balanced script n before after (joined a b) }
+    ensures { (script : ScriptOf) (n : ℕ) (before between after : List Process) (a b : Ledger) → Balanced script n before between a
+        → Balanced script n between after b → Balanced script n before after (joined a b) }
 {}
 
 /// The rows of a run keep their promises.
 pub fn a_gathered_run_keeps_its_promises()
-    ensures { (script : ScriptOf) (seats : ℕ) (h : Histories) (l : Ledger) (rows : List RowOf) → Gathered script seats h l → All (FitsRow script) (rows_of script h l)
-        → IsPermutation (rows_of script h l) rows → Promised script rows }
+    ensures { (script : ScriptOf) (seats : ℕ) (h : Histories) (l : Ledger) (rows : List RowOf) → Gathered script seats h l
+        → All (FitsRow script) (rows_of script h l) → IsPermutation (rows_of script h l) rows → Promised script rows }
 {}

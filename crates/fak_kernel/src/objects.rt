@@ -32,7 +32,14 @@ impl<K: Run> Model for Objects<K> {
 
     ghost Value = { ObjectsOf };
 
-    ghost view = { λ o. record { ready = o.ready; free = o.free; semaphores = o.semaphores; births = o.births; busy = o.busy; files = o.files } };
+    ghost view = { λ o. record {
+      ready = o.ready;
+      free = o.free;
+      semaphores = o.semaphores;
+      births = o.births;
+      busy = o.busy;
+      files = o.files;
+    } };
 
     ghost invariant = { λ o. o.alarm ≡ o.ready.object.seats };
 }

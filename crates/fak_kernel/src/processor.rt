@@ -47,7 +47,17 @@ impl<K: Run> Model for Processor<K> {
 
     ghost Value = { ProcessorOf };
 
-    ghost view = { λ p. record { ready = p.ready; free = p.free; semaphores = p.semaphores; births = p.births; busy = p.busy; files = p.files; ended = p.ended.items; halted = p.halted.items; copy = p.copy } };
+    ghost view = { λ p. record {
+      ready = p.ready;
+      free = p.free;
+      semaphores = p.semaphores;
+      births = p.births;
+      busy = p.busy;
+      files = p.files;
+      ended = p.ended.items;
+      halted = p.halted.items;
+      copy = p.copy;
+    } };
 }
 
 impl<K: Run> Processor<K> {

@@ -14,14 +14,15 @@ use Rattle.fak_model.proofs.Leading.{total_push, sum_one, sum_none, rest_even}
 use Rattle.fak_model.proofs.Places.{Runs, ends, CallsRun, may_come, rests}
 use Rattle.fak_model.proofs.FileLaw.{given_push, hold_push}
 
+-- the place of each kind in a call, which after an Over has its amount
 abbrev pub needs : FileKind → ℕ
-needs (Back n) = 1
+needs (Back n) = n + 3
 needs (Set i f v) = 2
 needs Give = 2
 needs _ = 0
 
 abbrev pub leads : FileKind → ℕ
-leads (Over n) = 1
+leads (Over n) = n + 3
 leads (Take n) = 2
 leads (Set i f v) = 2
 leads _ = 0
@@ -30,7 +31,7 @@ sets_run : (sets : List Setting) → Runs needs leads 2 (map set_mark sets ++ Gi
 sets_run [] = ((refl, tt), refl)
 sets_run (s ∷ sets) = let r = sets_run sets in ((refl, r.0), r.1)
 
-calls_run : CallsRun needs leads kinds_of_call
+pub calls_run : CallsRun needs leads kinds_of_call
 calls_run (Refused n) = ((refl, tt), refl)
 calls_run (Withdrawn n) = ((refl, (refl, tt)), refl)
 calls_run (Held n sets) = let r = sets_run sets in ((refl, r.0), r.1)
@@ -41,7 +42,7 @@ holds_at n p [] r e = e
 holds_at n p (Take a ∷ ws) r e = holds_at a 2 ws r.1 (inl refl)
 holds_at n p (Give ∷ ws) r e = holds_at 0 0 ws r.1 (inr refl)
 holds_at n p (Set i f v ∷ ws) r e = holds_at n 2 ws r.1 (inl refl)
-holds_at n p (Over a ∷ ws) r e = holds_at n 1 ws r.1 (elim e [ inl t ↦ absurd (omega (arith, t, r.0)) | inr z ↦ inr z ])
+holds_at n p (Over a ∷ ws) r e = holds_at n (a + 3) ws r.1 (elim e [ inl t ↦ absurd (omega (arith, t, r.0)) | inr z ↦ inr z ])
 holds_at n p (Back a ∷ ws) r e = holds_at n 0 ws r.1 (elim e [ inl t ↦ absurd (omega (arith, t, r.0)) | inr z ↦ inr z ])
 holds_at n p (No a ∷ ws) r e = holds_at n 0 ws r.1 (elim e [ inl t ↦ absurd (omega (arith, t, r.0)) | inr z ↦ inr z ])
 

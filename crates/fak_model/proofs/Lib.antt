@@ -33,3 +33,4 @@ pub mod RunningSeats
 pub mod RunningCalls
 pub mod RunningJoins
 pub mod NameFlags
+pub mod FreshSeats

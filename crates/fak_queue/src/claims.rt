@@ -24,7 +24,8 @@ impl<T: Drop> Queue<T> {
         ensures object { seat.new.object ≡ seat.old.object }
         ensures state { MatchResult result (λ k. state_of seat.new ≡ Inserting k) (λ _. state_of seat.new ≡ Idle) }
         ensures left { MatchResult result (λ _. drawn_by seat.new ≡ drawn_by seat.old + 1) (λ _. drawn_by seat.new ≡ drawn_by seat.old) }
-        ensures call { MatchResult result (λ k. ClaimsIn self.now.size k item seat.old seat.new) (RefusesInsertion self.now.size item seat.old seat.new) }
+        ensures call { MatchResult result (λ k. ClaimsIn self.now.size k item seat.old seat.new)
+            (RefusesInsertion self.now.size item seat.old seat.new) }
     {
         if seat.left == 0 {
             return refuse_worn(item);
@@ -48,7 +49,8 @@ impl<T: Drop> Queue<T> {
         ensures object { seat.new.object ≡ seat.old.object }
         ensures state { MatchResult result (λ k. state_of seat.new ≡ Deleting k) (λ _. state_of seat.new ≡ Idle) }
         ensures left { MatchResult result (λ _. drawn_by seat.new ≡ drawn_by seat.old + 1) (λ _. drawn_by seat.new ≡ drawn_by seat.old) }
-        ensures call { MatchResult result (λ k. ClaimsOut self.now.size k seat.old seat.new) (RefusesDeletion self.now.size seat.old seat.new) }
+        ensures call { MatchResult result (λ k. ClaimsOut self.now.size k seat.old seat.new)
+            (RefusesDeletion self.now.size seat.old seat.new) }
     {
         if seat.left == 0 {
             return Err(DeleteFault::Worn);

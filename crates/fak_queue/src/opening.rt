@@ -42,8 +42,8 @@ fn empty_table<T>(
     key: &QueueLimits,
 ) -> Result<(QueueTable<T>, QueueToken<T>), AllocError>
     requires { IsInRange key.now.size key.now.seats key.now.stint }
-    ensures { IfOk result (λ r. (r.0.shared.table_id.words ≡ 96 + key.now.size) × (r.0.shared.table_id.slots ≡ key.now.size) × (r.0.shared.key ≡ key.now)
-        × (r.1.table_id ≡ r.0.shared.table_id) × (r.1.me ≡ (opened_queue key.now, []))) }
+    ensures { IfOk result (λ r. (r.0.shared.table_id.words ≡ 96 + key.now.size) × (r.0.shared.table_id.slots ≡ key.now.size)
+        × (r.0.shared.key ≡ key.now) × (r.1.table_id ≡ r.0.shared.table_id) × (r.1.me ≡ (opened_queue key.now, []))) }
 {
     let cells = key.size as usize;
     let Ok(mut words) = Vec::from_elem(alloc, 0u64, cells + TURNS + MARGIN) else {
@@ -65,7 +65,8 @@ impl<T: Drop> Queue<T> {
         seats: u64,
         stint: u64,
     ) -> Result<(Queue<T>, Vec<Seat<T>>), OpenFault>
-        ensures { MatchResult result (λ r. IsInRange size seats stint × (r.0.size ≡ size) × (r.0.object.seats ≡ seats) × (r.1.items ≡ fresh_seats r.0.object stint 0 seats)) (IsOpenFault size seats stint) }
+        ensures { MatchResult result (λ r. IsInRange size seats stint × (r.0.size ≡ size) × (r.0.object.seats ≡ seats)
+            × (r.1.items ≡ fresh_seats r.0.object stint 0 seats)) (IsOpenFault size seats stint) }
     {
         if let Err(fault) = tested_limits(size, seats, stint) {
             return Err(fault);

@@ -26,7 +26,8 @@ impl<T: Drop> Queue<T> {
         ensures object { seat.new.object ≡ seat.old.object }
         ensures state { state_of seat.new ≡ Idle }
         ensures left { MatchResult result (λ _. drawn_by seat.new ≡ drawn_by seat.old + 1) (λ _. drawn_by seat.new ≡ drawn_by seat.old) }
-        ensures call { MatchResult result (λ k. InsertsAfterFull self.now.size k item seat.old seat.new) (RefusesWaitingInsertion self.now.size item seat.old seat.new) }
+        ensures call { MatchResult result (λ k. InsertsAfterFull self.now.size k item seat.old seat.new)
+            (RefusesWaitingInsertion self.now.size item seat.old seat.new) }
     {
         let mut looks = Looks::new();
         let mut waiting = item;
@@ -51,7 +52,8 @@ impl<T: Drop> Queue<T> {
         ensures object { seat.new.object ≡ seat.old.object }
         ensures state { state_of seat.new ≡ Idle }
         ensures left { MatchResult result (λ _. drawn_by seat.new ≡ drawn_by seat.old + 1) (λ _. drawn_by seat.new ≡ drawn_by seat.old) }
-        ensures call { MatchResult result (λ r. DeletesAfterEmpty self.now.size r.0 r.1 seat.old seat.new) (RefusesWaitingDeletion seat.old seat.new) }
+        ensures call { MatchResult result (λ r. DeletesAfterEmpty self.now.size r.0 r.1 seat.old seat.new)
+            (RefusesWaitingDeletion seat.old seat.new) }
     {
         let mut looks = Looks::new();
         for _ in rt.forever() {

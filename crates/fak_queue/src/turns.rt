@@ -37,7 +37,8 @@ pub(crate) fn fill_cell<T>(words: &QueueWords<T>, token: &mut QueueToken<T>, pla
     requires phase { token.old.me.0.phase ≡ Some (StoreItem place.ticket item) }
     requires slot { token.old.me.1 ≡ (place.cell, None) ∷ [] }
     ensures same { token.new.table_id ≡ token.old.table_id }
-    ensures told { Named token.old.me (λ n. FillsSlot words.now.table_id.slots words.now.key.seats n place.ticket item token.old.me token.new.me) }
+    ensures told { Named token.old.me
+        (λ n. FillsSlot words.now.table_id.slots words.now.key.seats n place.ticket item token.old.me token.new.me) }
 {
     match words.exchange(token, place.cell, Some(item)) {
         None => {}
@@ -77,7 +78,8 @@ pub(crate) fn finds_item<T>(words: &QueueWords<T>, token: &mut QueueToken<T>, pl
     requires seat { HasOneName token.old.me × (token.old.me.1 ≡ []) }
     requires phase { token.old.me.0.phase ≡ Some (TurnOut place.ticket) }
     ensures same { token.new.table_id ≡ token.old.table_id }
-    ensures told { Named token.old.me (λ n. LooksOut words.now.table_id.slots words.now.key.seats n place.ticket result token.old.me token.new.me) }
+    ensures told { Named token.old.me
+        (λ n. LooksOut words.now.table_id.slots words.now.key.seats n place.ticket result token.old.me token.new.me) }
 {
     turn_out::<T, Brand>(words, token, place) == 2 * place.round + 1
 }
@@ -90,7 +92,8 @@ pub(crate) fn empty_cell<T>(words: &QueueWords<T>, token: &mut QueueToken<T>, pl
     requires phase { token.old.me.0.phase ≡ Some (LoadItem place.ticket) }
     requires slot { (x : T) × (token.old.me.1 ≡ (place.cell, Some x) ∷ []) }
     ensures same { token.new.table_id ≡ token.old.table_id }
-    ensures told { Named token.old.me (λ n. TakesSlot words.now.table_id.slots words.now.key.seats n place.ticket result token.old.me token.new.me) }
+    ensures told { Named token.old.me
+        (λ n. TakesSlot words.now.table_id.slots words.now.key.seats n place.ticket result token.old.me token.new.me) }
 {
     let taken = words.exchange(token, place.cell, None);
     set_free::<T, Brand>(words, token, place);
@@ -139,7 +142,8 @@ pub(crate) fn wait_to_empty<T, R: Wait>(
     requires seat { HasOneName token.old.me × (token.old.me.1 ≡ []) }
     requires phase { token.old.me.0.phase ≡ Some (TurnOut place.ticket) }
     ensures same { token.new.table_id ≡ token.old.table_id }
-    ensures told { Named token.old.me (λ n. Taken words.now.table_id.slots words.now.key.seats n place.ticket result token.old.me token.new.me) }
+    ensures told { Named token.old.me
+        (λ n. Taken words.now.table_id.slots words.now.key.seats n place.ticket result token.old.me token.new.me) }
 {
     let mut looks = Looks::new();
     for _ in rt.forever() {

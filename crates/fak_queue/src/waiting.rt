@@ -28,7 +28,8 @@ impl<T: Drop> Queue<T> {
         ensures object { seat.new.object ≡ seat.old.object }
         ensures state { state_of seat.new ≡ Idle }
         ensures left { MatchResult result (λ _. drawn_by seat.new ≡ drawn_by seat.old + 1) (λ _. drawn_by seat.new ≡ drawn_by seat.old) }
-        ensures call { MatchResult result (λ k. Inserts self.now.size k item seat.old seat.new) (RefusesInsertion self.now.size item seat.old seat.new) }
+        ensures call { MatchResult result (λ k. Inserts self.now.size k item seat.old seat.new)
+            (RefusesInsertion self.now.size item seat.old seat.new) }
     {
         if seat.left == 0 {
             return refuse_worn(item);
@@ -55,7 +56,8 @@ impl<T: Drop> Queue<T> {
         ensures object { seat.new.object ≡ seat.old.object }
         ensures state { state_of seat.new ≡ Idle }
         ensures left { MatchResult result (λ _. drawn_by seat.new ≡ drawn_by seat.old + 1) (λ _. drawn_by seat.new ≡ drawn_by seat.old) }
-        ensures call { MatchResult result (λ r. Deletes self.now.size r.0 r.1 seat.old seat.new) (RefusesDeletion self.now.size seat.old seat.new) }
+        ensures call { MatchResult result (λ r. Deletes self.now.size r.0 r.1 seat.old seat.new)
+            (RefusesDeletion self.now.size seat.old seat.new) }
     {
         if seat.left == 0 {
             return Err(DeleteFault::Worn);

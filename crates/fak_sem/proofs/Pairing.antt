@@ -5,25 +5,6 @@ use Rattle.fak_model.specs.declared.queue.Mark.{Mark}
 use Rattle.fak_model.specs.Calls.{ObjectId, SeatInfo, seat_info, fresh_seats}
 use Rattle.fak_sem.specs.Semaphores.{SemId, SemSeatInfo, IsSemSeat, sem_seat, fresh_sem_seats}
 
-pub length-fresh_seats : (M : Type 0) (object : ObjectId) (stint name n : ℕ) → length (fresh_seats {M = M} object stint name n) ≡ n
-length-fresh_seats M object stint name zero = refl
-length-fresh_seats M object stint name (suc n) = omega (arith, length-fresh_seats M object stint (suc name) n)
-
--- the first of the seats from this name on, and the others
-pub record IsNextSeat {M : Type 0} (object : ObjectId) (stint name seats : ℕ) (x : SeatInfo M) (rest : List (SeatInfo M)) : Type 0 where
-  pub first : x ≡ seat_info object name stint []
-  pub others : rest ≡ fresh_seats object stint (name + 1) (seats - (name + 1))
-
-pub next_seat : {M : Type 0} {object : ObjectId} {stint name seats : ℕ} {items rest : List (SeatInfo M)} {x : SeatInfo M} → name < seats → items ≡ fresh_seats object stint name (seats - name) → items ≡ x ∷ rest → IsNextSeat object stint name seats x rest
-next_seat {M} {object} {stint} {name} {seats} {items} {rest} {x} below are is =
-    let count : seats - name ≡ suc (seats - (name + 1)) = omega (arith, below) in
-    let up : suc name ≡ name + 1 = omega arith in
-    let all : x ∷ rest ≡ seat_info object name stint [] ∷ fresh_seats object stint (suc name) (seats - (name + 1)) = sym is ∙ (are ∙ ap (fresh_seats {M = M} object stint name) count) in
-    record {
-      first = cc;
-      others = (let r : rest ≡ fresh_seats object stint (suc name) (seats - (name + 1)) = cc in r ∙ ap (λ k. fresh_seats {M = M} object stint k (seats - (name + 1))) up);
-    }
-
 pub fresh_sem_seat : {T : Type 0} (start : ℕ) {credit_id queue_id : ObjectId} {name stint : ℕ} {credit : SeatInfo CreditMark} {queue : SeatInfo (Mark T)} → queue_id.seats ≡ credit_id.seats
     → credit ≡ seat_info credit_id name stint [] → queue ≡ seat_info queue_id name stint [] → IsSemSeat start credit queue
 fresh_sem_seat {T} start {credit_id} {queue_id} {name} {stint} seats credit_is queue_is =

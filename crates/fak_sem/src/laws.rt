@@ -9,5 +9,6 @@ ghost use Rattle.fak_sem.specs.Grants.{downs_parked_by, downs_passed_by};
 
 /// Of a name's downs those that found at least 1 passed, and the others parked their items.
 pub fn each_down_passes_or_parks()
-    ensures { (start name : ℕ) (h : List CreditMark) → downs_passed_by name start h + downs_parked_by name start h ≡ debits (marks_of seat_of name h) }
+    ensures { (start name : ℕ) (h : List CreditMark)
+        → downs_passed_by name start h + downs_parked_by name start h ≡ debits (marks_of seat_of name h) }
 {}

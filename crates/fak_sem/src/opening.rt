@@ -23,7 +23,8 @@ fn opened_credit(
     seats: u64,
     stint: u64,
 ) -> Result<(Credit, Vec<CreditSeat>), OpenFault>
-    ensures { MatchResult result (λ r. IsInRange start size seats stint × (r.0.start ≡ start) × (r.0.object.seats ≡ seats) × (r.1.items ≡ fresh_seats r.0.object stint 0 seats)) (IsOpenFault start size seats stint) }
+    ensures { MatchResult result (λ r. IsInRange start size seats stint × (r.0.start ≡ start) × (r.0.object.seats ≡ seats)
+        × (r.1.items ≡ fresh_seats r.0.object stint 0 seats)) (IsOpenFault start size seats stint) }
 {
     if size == 0 || size > LARGEST_SIZE {
         return Err(OpenFault::BadSize);
@@ -49,8 +50,9 @@ impl<T: Drop> Semaphore<T> {
         seats: u64,
         stint: u64,
     ) -> Result<(Semaphore<T>, Vec<SemSeat<T>>), OpenFault>
-        ensures { MatchResult result (λ r. IsInRange start size seats stint × (r.0.object.start ≡ start) × (r.0.size ≡ size) × (seats_of r.0.object ≡ seats) × (r.0.object.queue.seats ≡ seats)
-            × (r.1.items ≡ fresh_sem_seats r.0.object stint 0 seats)) (IsOpenFault start size seats stint) }
+        ensures { MatchResult result (λ r. IsInRange start size seats stint × (r.0.object.start ≡ start) × (r.0.size ≡ size)
+            × (seats_of r.0.object ≡ seats) × (r.0.object.queue.seats ≡ seats) × (r.1.items ≡ fresh_sem_seats r.0.object stint 0 seats))
+            (IsOpenFault start size seats stint) }
     {
         let (credit, credit_seats) = match opened_credit(alloc, start, size, seats, stint) {
             Ok(opened) => opened,

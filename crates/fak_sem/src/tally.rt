@@ -65,7 +65,8 @@ impl<T: Drop> SemTally<T> {
         ensures queue_named { AreNamed (queue_rules (size_of self.now.object.queue)) (seats_of self.now.object) self.now.queue_seen }
         ensures credit_rest { IsTrue result → IsAtRest credit_rules self.now.credit_seen }
         ensures queue_rest { IsTrue result → IsAtRest (queue_rules (size_of self.now.object.queue)) self.now.queue_seen }
-        ensures matched { (name : ℕ) → In name self.now.names → IsMatched self.now.object.start name self.now.credit_seen self.now.queue_seen }
+        ensures matched { (name : ℕ) → In name self.now.names
+            → IsMatched self.now.object.start name self.now.credit_seen self.now.queue_seen }
     {
         self.queue.is_whole()
     }

@@ -26,6 +26,6 @@ pub fn a_deletion_loads_the_item_of_its_ticket<T>()
 
 /// A deletion that is granted draws a ticket under which an item was put.
 pub fn a_granted_deletion_draws_an_item<T>()
-    ensures { (size : ℕ) (schedule : List (QueueEvent T)) (s : ℕ) → 0 < size
-        → (reached size schedule).phase s ≡ TicketOut → IsSome (item_at (items_put (history_of (reached size schedule))) (reached size schedule).draws_out) }
+    ensures { (size : ℕ) (schedule : List (QueueEvent T)) (s : ℕ) → 0 < size → (reached size schedule).phase s ≡ TicketOut
+        → IsSome (item_at (items_put (history_of (reached size schedule))) (reached size schedule).draws_out) }
 {}

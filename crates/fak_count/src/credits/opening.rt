@@ -24,7 +24,8 @@ impl Credit {
         seats: u64,
         stint: u64,
     ) -> Result<(Credit, Vec<CreditSeat>), OpenFault>
-        ensures { MatchResult result (λ r. IsInRange start seats stint × (r.0.start ≡ start) × (r.0.object.seats ≡ seats) × (r.1.items ≡ fresh_seats r.0.object stint 0 seats)) (IsOpenFault start seats stint) }
+        ensures { MatchResult result (λ r. IsInRange start seats stint × (r.0.start ≡ start) × (r.0.object.seats ≡ seats)
+            × (r.1.items ≡ fresh_seats r.0.object stint 0 seats)) (IsOpenFault start seats stint) }
     {
         if let Err(fault) = tested_limits(start, seats, stint) {
             return Err(fault);

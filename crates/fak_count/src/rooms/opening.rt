@@ -24,7 +24,8 @@ impl Room {
         seats: u64,
         stint: u64,
     ) -> Result<(Room, Vec<RoomSeat>), OpenFault>
-        ensures { MatchResult result (λ r. IsInRange bound seats stint × (r.0.bound ≡ bound) × (r.0.object.seats ≡ seats) × (r.1.items ≡ fresh_seats r.0.object stint 0 seats)) (IsOpenFault bound seats stint) }
+        ensures { MatchResult result (λ r. IsInRange bound seats stint × (r.0.bound ≡ bound) × (r.0.object.seats ≡ seats)
+            × (r.1.items ≡ fresh_seats r.0.object stint 0 seats)) (IsOpenFault bound seats stint) }
     {
         if let Err(fault) = tested_limits(bound, seats, stint) {
             return Err(fault);

@@ -38,7 +38,14 @@ impl<K: Run> Model for Tallies<K> {
 
     ghost Value = { TalliesOf };
 
-    ghost view = { λ t. record { ready = t.ready; free = t.free; births = t.births; busy = t.busy; semaphores = t.semaphores.items; files = t.files } };
+    ghost view = { λ t. record {
+      ready = t.ready;
+      free = t.free;
+      births = t.births;
+      busy = t.busy;
+      semaphores = t.semaphores.items;
+      files = t.files;
+    } };
 }
 
 /// Some processors that have left: their seats, and the processes that they saw end and halt.

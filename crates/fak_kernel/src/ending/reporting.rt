@@ -68,7 +68,13 @@ pub(crate) fn rows_of<K: Run>(
 /// The report with these rows and entries. The rows are those of the started processes and of their children.
 pub(crate) fn report_with(script: &Script, rows: Vec<ProcessRow>, entries: Vec<FileEntry>) -> Report
     requires { length script.now.start ≤ length rows.items }
-    ensures { report_of result ≡ record { version = script.now.version; rows = map row_of rows.items; births = length rows.items - length script.now.start; bound = script.now.births; entries = entries.items } }
+    ensures { report_of result ≡ record {
+      version = script.now.version;
+      rows = map row_of rows.items;
+      births = length rows.items - length script.now.start;
+      bound = script.now.births;
+      entries = entries.items;
+    } }
 {
     let started = script.start().len();
     let births = (rows.len() - started) as u64;

@@ -49,8 +49,11 @@ pub(crate) fn open_run<K: Run, R: Wait>(
     requires processors { AreProcessors processors }
     ensures made { IfOk result (λ o. AreFor K.script o.objects × AreSeated processors o.objects) }
     ensures len { IfOk result (λ o. vec_len o.processors ≡ processors) }
-    ensures begun { IfOk result (λ o. (i : ℕ) (d : _) → i < vec_len o.processors → Between K.script o.objects i (slice_index_or o.processors.items i d)) }
-    ensures alone { processors ≡ 1 → IfOk result (λ o. (d : _) → IsReached K.script (slice_index_or o.processors.items 0 d) (lists.turn_over (lists_of K.script (slice_index_or o.processors.items 0 d)))) }
+    ensures begun { IfOk result (λ o. (i : ℕ) (d : _) → i < vec_len o.processors
+        → Between K.script o.objects i (slice_index_or o.processors.items i d)) }
+    ensures alone { processors ≡ 1 → IfOk result
+        (λ o. (d : _) → IsReached K.script (slice_index_or o.processors.items 0 d)
+        (lists.turn_over (lists_of K.script (slice_index_or o.processors.items 0 d)))) }
     ensures fault { IfErr result (λ fault. IsOfStep fault) }
 {
     let mut opened = open_objects(alloc, script, processors)?;
@@ -107,7 +110,8 @@ fn open_queue<T: Drop>(
     processors: u64,
 ) -> Result<(Queue<T>, Vec<Seat<T>>), Fault>
     requires processors { AreProcessors processors }
-    ensures opened { IfOk result (λ r. (r.0.size ≡ script.now.slots) × (r.0.object.seats ≡ processors) × (r.1.items ≡ fresh_seats r.0.object script.now.stint 0 processors)) }
+    ensures opened { IfOk result (λ r. (r.0.size ≡ script.now.slots) × (r.0.object.seats ≡ processors)
+        × (r.1.items ≡ fresh_seats r.0.object script.now.stint 0 processors)) }
     ensures memory { IfErr result (λ fault. fault ≡ Fault.Memory) }
 {
     match Queue::open(alloc, script.slots(), processors, script.stint()) {
@@ -126,7 +130,8 @@ fn open_births(
     processors: u64,
 ) -> Result<(Room, Vec<RoomSeat>), Fault>
     requires processors { AreProcessors processors }
-    ensures opened { IfOk result (λ r. (r.0.bound ≡ script.now.births) × (r.0.object.seats ≡ processors) × (r.1.items ≡ fresh_seats r.0.object script.now.stint 0 processors)) }
+    ensures opened { IfOk result (λ r. (r.0.bound ≡ script.now.births) × (r.0.object.seats ≡ processors)
+        × (r.1.items ≡ fresh_seats r.0.object script.now.stint 0 processors)) }
     ensures memory { IfErr result (λ fault. fault ≡ Fault.Memory) }
 {
     match Room::open(alloc, script.births(), processors, script.stint()) {
@@ -145,7 +150,8 @@ fn open_busy(
     processors: u64,
 ) -> Result<(Credit, Vec<CreditSeat>), Fault>
     requires processors { AreProcessors processors }
-    ensures opened { IfOk result (λ r. (r.0.start ≡ length script.now.start) × (r.0.object.seats ≡ processors) × (r.1.items ≡ fresh_seats r.0.object script.now.stint 0 processors)) }
+    ensures opened { IfOk result (λ r. (r.0.start ≡ length script.now.start) × (r.0.object.seats ≡ processors)
+        × (r.1.items ≡ fresh_seats r.0.object script.now.stint 0 processors)) }
     ensures memory { IfErr result (λ fault. fault ≡ Fault.Memory) }
 {
     let started = script.start().len() as u64;
@@ -165,7 +171,8 @@ fn open_files(
     processors: u64,
 ) -> Result<(FileTable, Vec<FileSeat>), Fault>
     requires processors { AreProcessors processors }
-    ensures opened { IfOk result (λ r. (r.0.entries ≡ script.now.files) × (r.0.object.seats ≡ processors) × (r.1.items ≡ idle_seats (fresh_seats r.0.object script.now.stint 0 processors))) }
+    ensures opened { IfOk result (λ r. (r.0.entries ≡ script.now.files) × (r.0.object.seats ≡ processors)
+        × (r.1.items ≡ idle_seats (fresh_seats r.0.object script.now.stint 0 processors))) }
     ensures memory { IfErr result (λ fault. fault ≡ Fault.Memory) }
 {
     match FileTable::open(alloc, script.files(), processors, script.stint()) {
@@ -208,7 +215,8 @@ fn open_semaphore<K: Run>(
 ) -> Result<(Semaphore<Sleeper<K>>, Vec<SemSeat<Sleeper<K>>>), Fault>
     requires processors { AreProcessors processors }
     requires start { start ≤ 1000000 }
-    ensures opened { IfOk result (λ r. (r.0.object.start ≡ start) × (r.0.size ≡ script.now.slots) × (seats_of r.0.object ≡ processors) × (r.0.object.queue.seats ≡ processors)) }
+    ensures opened { IfOk result (λ r. (r.0.object.start ≡ start) × (r.0.size ≡ script.now.slots) × (seats_of r.0.object ≡ processors)
+        × (r.0.object.queue.seats ≡ processors)) }
     ensures seats { IfOk result (λ r. r.1.items ≡ fresh_sem_seats r.0.object script.now.stint 0 processors) }
     ensures memory { IfErr result (λ fault. fault ≡ Fault.Memory) }
 {
@@ -282,8 +290,11 @@ fn zip_seats<K: Run>(
     rows: Vec<Vec<SemSeat<Sleeper<K>>>>,
     files: Vec<FileSeat>,
 ) -> Result<Vec<Processor<K>>, Fault>
-    requires len { (length free.items ≡ length ready.items) × (length births.items ≡ length ready.items) × (length busy.items ≡ length ready.items) × (length rows.items ≡ length ready.items) × (length files.items ≡ length ready.items) }
-    ensures zipped { IfOk result (λ all. all.items ≡ zipped entries ready.items free.items births.items busy.items (map (λ row. row.items) rows.items) files.items) }
+    requires len { (length free.items ≡ length ready.items) × (length births.items ≡ length ready.items)
+        × (length busy.items ≡ length ready.items) × (length rows.items ≡ length ready.items)
+        × (length files.items ≡ length ready.items) }
+    ensures zipped { IfOk result (λ all. all.items ≡ zipped entries ready.items free.items births.items busy.items
+        (map (λ row. row.items) rows.items) files.items) }
     ensures memory { IfErr result (λ fault. fault ≡ Fault.Memory) }
 {
     let mut all = Vec::with_capacity(alloc, ready.len())?;

@@ -57,7 +57,9 @@ impl<K: Run> SemSeats<K> {
         ensures objects { ids_of_seats self.new ≡ ids_of semaphores.now }
         ensures same { IfOk result (λ passed. IfSome passed (λ who. who ≡ sleeper)) }
         ensures call { IfOk result (λ passed. DownsAt semaphores.now at sleeper passed self.old self.new) }
-        ensures only { All IsOnlySem self.old → IfOk result (λ passed. MatchOption passed (AtPlace at self.old self.new (Parks sleeper)) (λ who. (who ≡ sleeper) × AtPlace at self.old self.new Passes)) }
+        ensures only { All IsOnlySem self.old → IfOk result
+            (λ passed. MatchOption passed (AtPlace at self.old self.new (Parks sleeper))
+            (λ who. (who ≡ sleeper) × AtPlace at self.old self.new Passes)) }
         ensures worn { IfErr result (λ fault. fault ≡ Fault.Worn) }
     {
         let semaphore = &semaphores.all[at];
@@ -79,7 +81,8 @@ impl<K: Run> SemSeats<K> {
         requires at { at < length self.old }
         ensures objects { ids_of_seats self.new ≡ ids_of semaphores.now }
         ensures call { IfOk result (λ woken. UpsAt semaphores.now at woken self.old self.new) }
-        ensures only { All IsOnlySem self.old → IfOk result (λ woken. MatchOption woken (AtPlace at self.old self.new Raises) (λ x. AtPlace at self.old self.new (Rouses x))) }
+        ensures only { All IsOnlySem self.old → IfOk result
+            (λ woken. MatchOption woken (AtPlace at self.old self.new Raises) (λ x. AtPlace at self.old self.new (Rouses x))) }
         ensures worn { IfErr result (λ fault. fault ≡ Fault.Worn) }
     {
         let semaphore = &semaphores.all[at];

@@ -32,8 +32,10 @@ impl<K: Run> Processor<K> {
         requires objects { AreOf objects.now self.old }
         requires made { AreFor K.script objects.now }
         ensures objects { AreOf objects.now self.new }
-        ensures general { IfOk result (λ _. Begins K.script [] [] (lists.numbers_from 0 K.script.slots) (begun_names 0 K.script.start) self.old self.new) }
-        ensures alone { GoesTo K.script self.old (empty_lists K.script) → IfOk result (λ _. IsReached K.script self.new (lists.turn_over (lists_of K.script self.new))) }
+        ensures general { IfOk result (λ _. Begins K.script [] [] (lists.numbers_from 0 K.script.slots)
+            (begun_names 0 K.script.start) self.old self.new) }
+        ensures alone { GoesTo K.script self.old (empty_lists K.script)
+            → IfOk result (λ _. IsReached K.script self.new (lists.turn_over (lists_of K.script self.new))) }
         ensures fault { IfErr result (λ fault. IsOfStep fault) }
     {
         self.free_slots(rt, script, objects)?;
@@ -53,7 +55,9 @@ impl<K: Run> Processor<K> {
         requires made { AreFor K.script objects.now }
         ensures objects { AreOf objects.now self.new }
         ensures general { IfOk result (λ _. Begins K.script [] [] (lists.numbers_from 0 K.script.slots) [] self.old self.new) }
-        ensures alone { GoesTo K.script self.old (empty_lists K.script) → IfOk result (λ _. GoesTo K.script self.new (record (empty_lists K.script) { free_slots = lists.numbers_from 0 K.script.slots })) }
+        ensures alone { GoesTo K.script self.old (empty_lists K.script)
+            → IfOk result (λ _. GoesTo K.script self.new
+            (record (empty_lists K.script) { free_slots = lists.numbers_from 0 K.script.slots })) }
         ensures fault { IfErr result (λ fault. IsOfStep fault) }
     {
         for number in 0..script.slots() {
@@ -73,7 +77,9 @@ impl<K: Run> Processor<K> {
         requires made { AreFor K.script objects.now }
         ensures objects { AreOf objects.now self.new }
         ensures general { IfOk result (λ _. Begins K.script [] [] (slot ∷ []) [] self.old self.new) }
-        ensures alone { IsAlone K.script self.old → IfOk result (λ _. GoesTo K.script self.new (record (lists_of K.script self.old) { free_slots = (lists_of K.script self.old).free_slots ++ slot ∷ [] })) }
+        ensures alone { IsAlone K.script self.old
+            → IfOk result (λ _. GoesTo K.script self.new
+            (record (lists_of K.script self.old) { free_slots = (lists_of K.script self.old).free_slots ++ slot ∷ [] })) }
         ensures worn { IfErr result (λ fault. fault ≡ Fault.Worn) }
     {
         put(&objects.free, rt, &mut self.free, slot)?;
@@ -93,7 +99,8 @@ impl<K: Run> Processor<K> {
         requires made { AreFor K.script objects.now }
         ensures objects { AreOf objects.now self.new }
         ensures general { IfOk result (λ _. Begins K.script [] [] [] (begun_names 0 K.script.start) self.old self.new) }
-        ensures alone { GoesTo K.script self.old (record (empty_lists K.script) { free_slots = lists.numbers_from 0 K.script.slots }) → IfOk result (λ _. GoesTo K.script self.new (lists.first_lists K.script)) }
+        ensures alone { GoesTo K.script self.old (record (empty_lists K.script) { free_slots = lists.numbers_from 0 K.script.slots })
+            → IfOk result (λ _. GoesTo K.script self.new (lists.first_lists K.script)) }
         ensures fault { IfErr result (λ fault. IsOfStep fault) }
     {
         let mut number = 0;
@@ -118,7 +125,8 @@ impl<K: Run> Processor<K> {
         requires made { AreFor K.script objects.now }
         ensures objects { AreOf objects.now self.new }
         ensures general { IfOk result (λ _. Begins K.script [] [] [] ((number ∷ [], program) ∷ []) self.old self.new) }
-        ensures alone { IsAlone K.script self.old → IfOk result (λ _. StartsOne K.script (lists_of K.script self.old) number program self.new) }
+        ensures alone { IsAlone K.script self.old
+            → IfOk result (λ _. StartsOne K.script (lists_of K.script self.old) number program self.new) }
         ensures fault { IfErr result (λ fault. IsOfStep fault) }
     {
         let mut name = Vec::new(alloc);
@@ -161,7 +169,8 @@ impl<K: Run> Processor<K> {
         requires made { AreFor K.script objects.now }
         ensures objects { AreOf objects.now self.new }
         ensures general { IfOk result (λ _. Begins K.script (context ∷ []) [] [] [] self.old self.new) }
-        ensures alone { IsAlone K.script self.old → IfOk result (λ _. GoesTo K.script self.new (lists.enter_ready (lists_of K.script self.old) context)) }
+        ensures alone { IsAlone K.script self.old
+            → IfOk result (λ _. GoesTo K.script self.new (lists.enter_ready (lists_of K.script self.old) context)) }
         ensures fault { IfErr result (λ fault. IsOfStep fault) }
     {
         let _slot = context.slot();

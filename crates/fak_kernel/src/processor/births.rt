@@ -21,9 +21,13 @@ impl<K: Run> Processor<K> {
         requires objects { AreOf objects.now self.old }
         requires made { AreFor K.script objects.now }
         ensures objects { AreOf objects.now self.new }
-        ensures held { IfOk result (λ born. MatchBool born (1 ≤ held_amount self.new.births) (held_amount self.new.births ≡ held_amount self.old.births)) }
-        ensures gains { IfOk result (λ born. MatchBool born (Gains K.script self.old self.new (record nothing { births = Up 1 ∷ [] })) ((late : Bool) × Gains K.script self.old self.new (record nothing { births = refused_claim late }))) }
-        ensures alone { IsAlone K.script self.old → IfOk result (λ born. MatchBool born (IsBorn K.script (lists_of K.script self.old) self.new) (HasNoBirth K.script (lists_of K.script self.old) self.new)) }
+        ensures held { IfOk result (λ born. MatchBool born (1 ≤ held_amount self.new.births)
+            (held_amount self.new.births ≡ held_amount self.old.births)) }
+        ensures gains { IfOk result (λ born. MatchBool born (Gains K.script self.old self.new (record nothing { births = Up 1 ∷ [] }))
+            ((late : Bool) × Gains K.script self.old self.new (record nothing { births = refused_claim late }))) }
+        ensures alone { IsAlone K.script self.old
+            → IfOk result (λ born. MatchBool born (IsBorn K.script (lists_of K.script self.old) self.new)
+            (HasNoBirth K.script (lists_of K.script self.old) self.new)) }
         ensures fault { IfErr result (λ fault. IsOfStep fault) }
     {
         match objects.births.tir(&mut self.births, 1) {
@@ -40,7 +44,8 @@ impl<K: Run> Processor<K> {
         requires held { 1 ≤ held_amount self.old.births }
         ensures objects { AreOf objects.now self.new }
         ensures gains { Gains K.script self.old self.new (record nothing { births = Release 1 ∷ [] }) }
-        ensures alone { IsAlone K.script self.old → GoesTo K.script self.new (record (lists_of K.script self.old) { births = held_amount self.old.births - 1 }) }
+        ensures alone { IsAlone K.script self.old
+            → GoesTo K.script self.new (record (lists_of K.script self.old) { births = held_amount self.old.births - 1 }) }
     {
         objects.births.release(&mut self.births, 1);
     }

@@ -27,8 +27,10 @@ pub fn enter<T: Drop, R: Wait>(
     ensures object { seat.new.object ≡ seat.old.object }
     ensures idle { state_of seat.new ≡ Idle }
     ensures same { IfOk result (λ back. IfSome back (λ x. x ≡ item)) }
-    ensures grows { IfOk result (λ back. MatchOption back (GrowsIn queue.now.size item seat.old seat.new) (λ _. GrowsShut queue.now.size seat.old seat.new)) }
-    ensures only { IsOnlySeat seat.old → IfOk result (λ back. MatchOption back (Enters item seat.old seat.new) (λ x. (x ≡ item) × Bounces seat.old seat.new)) }
+    ensures grows { IfOk result (λ back. MatchOption back (GrowsIn queue.now.size item seat.old seat.new)
+        (λ _. GrowsShut queue.now.size seat.old seat.new)) }
+    ensures only { IsOnlySeat seat.old → IfOk result
+        (λ back. MatchOption back (Enters item seat.old seat.new) (λ x. (x ≡ item) × Bounces seat.old seat.new)) }
     ensures worn { IfErr result (λ fault. fault ≡ Fault.Worn) }
 {
     let backoff = Backoff::new();
@@ -87,8 +89,10 @@ pub fn take<T: Drop, R: Wait>(
     requires idle { state_of seat.old ≡ Idle }
     ensures object { seat.new.object ≡ seat.old.object }
     ensures idle { state_of seat.new ≡ Idle }
-    ensures grows { IfOk result (λ found. MatchOption found (GrowsEmpty queue.now.size seat.old seat.new) (λ x. GrowsOut queue.now.size x seat.old seat.new)) }
-    ensures only { IsOnlySeat seat.old → IfOk result (λ found. MatchOption found (FindsNone seat.old seat.new) (λ x. Leaves x seat.old seat.new)) }
+    ensures grows { IfOk result (λ found. MatchOption found
+        (GrowsEmpty queue.now.size seat.old seat.new) (λ x. GrowsOut queue.now.size x seat.old seat.new)) }
+    ensures only { IsOnlySeat seat.old → IfOk result
+        (λ found. MatchOption found (FindsNone seat.old seat.new) (λ x. Leaves x seat.old seat.new)) }
     ensures worn { IfErr result (λ fault. fault ≡ Fault.Worn) }
 {
     match queue.delete(rt, seat) {

@@ -40,7 +40,8 @@ impl Files {
         ensures object { seat.new.seat.object ≡ table.now.object }
         ensures hold { seat.new.hold ≡ Writing }
         ensures left { Left (map set_mark (sets_of self.now entry)) seat.old.seat seat.new.seat }
-        ensures only { IsOnlyFiles seat.old → MatchOption entry (KeepsFiles seat.old seat.new) (λ i. StoresEntry self.now i seat.old seat.new) }
+        ensures only { IsOnlyFiles seat.old → MatchOption entry (KeepsFiles seat.old seat.new)
+            (λ i. StoresEntry self.now i seat.old seat.new) }
     {
         let Some(i) = entry else {
             return;
@@ -66,7 +67,8 @@ impl Files {
         ensures len { length self.new ≡ table.now.entries }
         ensures within { IfOk result (λ entry. IfSome entry (λ i. i < table.now.entries)) }
         ensures made { IfOk result (λ entry. HasMade table.now.entries (opened inode entry) seat.old.seat seat.new.seat) }
-        ensures only { IsOnlyFiles seat.old → IfOk result (λ entry. ChangesFiles table.now.entries entry (open_change (entries_now table.now.entries seat.old) inode) seat.new) }
+        ensures only { IsOnlyFiles seat.old → IfOk result
+            (λ entry. ChangesFiles table.now.entries entry (open_change (entries_now table.now.entries seat.old) inode) seat.new) }
         ensures worn { IfErr result (λ fault. fault ≡ Fault.Worn) }
     {
         let Ok(()) = table.write(rt, seat) else {
@@ -95,7 +97,8 @@ impl Files {
         ensures len { length self.new ≡ table.now.entries }
         ensures within { IfOk result (λ entry. IfSome entry (λ i. i < table.now.entries)) }
         ensures made { IfOk result (λ entry. HasMade table.now.entries (closed inode entry) seat.old.seat seat.new.seat) }
-        ensures only { IsOnlyFiles seat.old → IfOk result (λ entry. ChangesFiles table.now.entries entry (close_change (entries_now table.now.entries seat.old) inode) seat.new) }
+        ensures only { IsOnlyFiles seat.old → IfOk result
+            (λ entry. ChangesFiles table.now.entries entry (close_change (entries_now table.now.entries seat.old) inode) seat.new) }
         ensures worn { IfErr result (λ fault. fault ≡ Fault.Worn) }
     {
         let Ok(()) = table.write(rt, seat) else {
@@ -123,7 +126,8 @@ impl Files {
         ensures idle { seat.new.hold ≡ Nothing }
         ensures len { length self.new ≡ table.now.entries }
         ensures made { IfOk result (λ uses. HasMade table.now.entries (statted inode uses) seat.old.seat seat.new.seat) }
-        ensures only { IsOnlyFiles seat.old → IfOk result (λ uses. KeepsFiles seat.old seat.new × (uses ≡ uses_of (entries_now table.now.entries seat.old) inode)) }
+        ensures only { IsOnlyFiles seat.old → IfOk result
+            (λ uses. KeepsFiles seat.old seat.new × (uses ≡ uses_of (entries_now table.now.entries seat.old) inode)) }
         ensures worn { IfErr result (λ fault. fault ≡ Fault.Worn) }
     {
         let Ok(()) = table.read(rt, seat) else {

@@ -31,7 +31,9 @@ impl<K: Run> Processor<K> {
         requires made { AreFor K.script objects.now }
         ensures objects { AreOf objects.now self.new }
         ensures general { IfOk result (λ running. Moves K.script [] (hand_of running) self.old self.new) }
-        ensures alone { IsAlone K.script self.old → IfOk result (λ running. GoesOn K.script self.new running (lists.take_front (lists_of K.script self.old) (contents self.old.ready.seen))) }
+        ensures alone { IsAlone K.script self.old
+            → IfOk result (λ running. GoesOn K.script self.new running
+            (lists.take_front (lists_of K.script self.old) (contents self.old.ready.seen))) }
         ensures fault { IfErr result (λ fault. IsOfStep fault) }
     {
         match take(&objects.ready, rt, &mut self.ready) {
@@ -61,7 +63,8 @@ impl<K: Run> Processor<K> {
         requires made { AreFor K.script objects.now }
         ensures objects { AreOf objects.now self.new }
         ensures general { IfOk result (λ _. Moves K.script (context ∷ []) [] self.old self.new) }
-        ensures alone { IsAlone K.script self.old → IfOk result (λ _. GoesTo K.script self.new (lists.enter_ready (lists_of K.script self.old) context)) }
+        ensures alone { IsAlone K.script self.old
+            → IfOk result (λ _. GoesTo K.script self.new (lists.enter_ready (lists_of K.script self.old) context)) }
         ensures fault { IfErr result (λ fault. IsOfStep fault) }
     {
         let _slot = context.slot();
@@ -89,7 +92,8 @@ impl<K: Run> Processor<K> {
         requires over { lists.next_step K.script context ≡ None }
         ensures objects { AreOf objects.now self.new }
         ensures general { IfOk result (λ _. Moves K.script (context ∷ []) [] self.old self.new) }
-        ensures alone { IsAlone K.script self.old → IfOk result (λ _. GoesTo K.script self.new (lists.end_process (lists_of K.script self.old) context).lists) }
+        ensures alone { IsAlone K.script self.old
+            → IfOk result (λ _. GoesTo K.script self.new (lists.end_process (lists_of K.script self.old) context).lists) }
         ensures fault { IfErr result (λ fault. IsOfStep fault) }
     {
         let slot = Slot::new(context.slot());
@@ -109,8 +113,12 @@ impl<K: Run> Processor<K> {
         requires made { AreFor K.script objects.now }
         ensures objects { AreOf objects.now self.new }
         ensures births { self.new.births ≡ self.old.births }
-        ensures gains { IfOk result (λ slot. MatchOption slot ((late : Bool) × Gains K.script self.old self.new (record nothing { free = empty late })) (λ n. (ticket : ℕ) × Gains K.script self.old self.new (record nothing { free = kinds_out ticket n }))) }
-        ensures alone { IsAlone K.script self.old → IfOk result (λ slot. MatchOption slot (HasNoSlot K.script (lists_of K.script self.old) self.new) (λ n. TakesSlot K.script (lists_of K.script self.old) n self.new)) }
+        ensures gains { IfOk result (λ slot. MatchOption slot
+            ((late : Bool) × Gains K.script self.old self.new (record nothing { free = empty late }))
+            (λ n. (ticket : ℕ) × Gains K.script self.old self.new (record nothing { free = kinds_out ticket n }))) }
+        ensures alone { IsAlone K.script self.old
+            → IfOk result (λ slot. MatchOption slot (HasNoSlot K.script (lists_of K.script self.old) self.new)
+            (λ n. TakesSlot K.script (lists_of K.script self.old) n self.new)) }
         ensures fault { IfErr result (λ fault. IsOfStep fault) }
     {
         match take(&objects.free, rt, &mut self.free) {

@@ -31,8 +31,11 @@ impl<K: Run> Processor<K> {
         requires before { StandsAt K.script sleeper (down at) }
         ensures objects { AreOf objects.now self.new }
         ensures same { IfOk result (λ passed. IfSome passed (λ who. who ≡ sleeper)) }
-        ensures gains { IfOk result (λ passed. MatchOption passed (GainsParked K.script at sleeper self.old self.new) (λ _. Gains K.script self.old self.new (record nothing { credits = at_one at (Debit ∷ []) }))) }
-        ensures alone { IsAlone K.script self.old → IfOk result (λ passed. MatchOption passed (SleepsLast K.script (lists_of K.script self.old) at sleeper self.new) (λ _. CountFalls K.script (lists_of K.script self.old) at self.new)) }
+        ensures gains { IfOk result (λ passed. MatchOption passed (GainsParked K.script at sleeper self.old self.new)
+            (λ _. Gains K.script self.old self.new (record nothing { credits = at_one at (Debit ∷ []) }))) }
+        ensures alone { IsAlone K.script self.old
+            → IfOk result (λ passed. MatchOption passed (SleepsLast K.script (lists_of K.script self.old) at sleeper self.new)
+            (λ _. CountFalls K.script (lists_of K.script self.old) at self.new)) }
         ensures fault { IfErr result (λ fault. IsOfStep fault) }
     {
         match self.semaphores.down(rt, &objects.semaphores, at, sleeper) {
@@ -53,8 +56,12 @@ impl<K: Run> Processor<K> {
         requires made { AreFor K.script objects.now }
         requires at { at < length self.old.semaphores }
         ensures objects { AreOf objects.now self.new }
-        ensures gains { IfOk result (λ woken. MatchOption woken (Gains K.script self.old self.new (record nothing { credits = at_one at (Credit ∷ []) })) (λ q. GainsWoken K.script at q self.old self.new)) }
-        ensures alone { IsAlone K.script self.old → IfOk result (λ woken. MatchOption woken (WakesNobody K.script (lists_of K.script self.old) at self.new) (λ q. WakesFirst K.script (lists_of K.script self.old) at q self.new)) }
+        ensures gains { IfOk result (λ woken. MatchOption woken
+            (Gains K.script self.old self.new (record nothing { credits = at_one at (Credit ∷ []) }))
+            (λ q. GainsWoken K.script at q self.old self.new)) }
+        ensures alone { IsAlone K.script self.old
+            → IfOk result (λ woken. MatchOption woken (WakesNobody K.script (lists_of K.script self.old) at self.new)
+            (λ q. WakesFirst K.script (lists_of K.script self.old) at q self.new)) }
         ensures fault { IfErr result (λ fault. IsOfStep fault) }
     {
         match self.semaphores.up(rt, &objects.semaphores, at) {

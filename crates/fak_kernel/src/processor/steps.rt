@@ -36,7 +36,8 @@ impl<K: Run> Processor<K> {
         requires left { HasStepsLeft K.script turn }
         ensures objects { AreOf objects.now self.new }
         ensures general { IfOk result (λ running. Moves K.script (turn.process ∷ []) (hand_of running) self.old self.new) }
-        ensures alone { IsAlone K.script self.old → IfOk result (λ running. GoesOn K.script self.new running (lists.make_down (lists_of K.script self.old) turn n)) }
+        ensures alone { IsAlone K.script self.old
+            → IfOk result (λ running. GoesOn K.script self.new running (lists.make_down (lists_of K.script self.old) turn n)) }
         ensures fault { IfErr result (λ fault. IsOfStep fault) }
     {
         let made = turn.made();
@@ -66,7 +67,8 @@ impl<K: Run> Processor<K> {
         requires left { HasStepsLeft K.script turn }
         ensures objects { AreOf objects.now self.new }
         ensures general { IfOk result (λ running. Moves K.script (turn.process ∷ []) (hand_of running) self.old self.new) }
-        ensures alone { IsAlone K.script self.old → IfOk result (λ running. GoesOn K.script self.new running (lists.make_up (lists_of K.script self.old) turn n)) }
+        ensures alone { IsAlone K.script self.old
+            → IfOk result (λ running. GoesOn K.script self.new running (lists.make_up (lists_of K.script self.old) turn n)) }
         ensures fault { IfErr result (λ fault. IsOfStep fault) }
     {
         let turn = turn.noted(Note::Up(n), false)?;
@@ -98,7 +100,9 @@ impl<K: Run> Processor<K> {
         requires left { HasStepsLeft K.script turn }
         ensures objects { AreOf objects.now self.new }
         ensures general { IfOk result (λ running. Moves K.script (turn.process ∷ []) (hand_of running) self.old self.new) }
-        ensures alone { IsAlone K.script self.old → IfOk result (λ running. GoesOn K.script self.new running (lists.make_spawn K.script (lists_of K.script self.old) turn program)) }
+        ensures alone { IsAlone K.script self.old
+            → IfOk result (λ running. GoesOn K.script self.new running
+            (lists.make_spawn K.script (lists_of K.script self.old) turn program)) }
         ensures fault { IfErr result (λ fault. IsOfStep fault) }
     {
         let name = turn.child_name(alloc)?;
@@ -132,7 +136,8 @@ impl<K: Run> Processor<K> {
         requires left { HasStepsLeft K.script turn }
         ensures objects { AreOf objects.now self.new }
         ensures general { IfOk result (λ running. Moves K.script (turn.process ∷ []) (hand_of running) self.old self.new) }
-        ensures alone { IsAlone K.script self.old → IfOk result (λ running. GoesOn K.script self.new running (lists.make_open (lists_of K.script self.old) turn inode)) }
+        ensures alone { IsAlone K.script self.old
+            → IfOk result (λ running. GoesOn K.script self.new running (lists.make_open (lists_of K.script self.old) turn inode)) }
         ensures fault { IfErr result (λ fault. IsOfStep fault) }
     {
         let turn = turn.with_room()?;
@@ -156,7 +161,8 @@ impl<K: Run> Processor<K> {
         requires left { HasStepsLeft K.script turn }
         ensures objects { AreOf objects.now self.new }
         ensures general { IfOk result (λ running. Moves K.script (turn.process ∷ []) (hand_of running) self.old self.new) }
-        ensures alone { IsAlone K.script self.old → IfOk result (λ running. GoesOn K.script self.new running (lists.make_close (lists_of K.script self.old) turn inode)) }
+        ensures alone { IsAlone K.script self.old
+            → IfOk result (λ running. GoesOn K.script self.new running (lists.make_close (lists_of K.script self.old) turn inode)) }
         ensures fault { IfErr result (λ fault. IsOfStep fault) }
     {
         let turn = turn.with_room()?;
@@ -180,7 +186,9 @@ impl<K: Run> Processor<K> {
         requires left { HasStepsLeft K.script turn }
         ensures objects { AreOf objects.now self.new }
         ensures general { IfOk result (λ running. Moves K.script (turn.process ∷ []) (hand_of running) self.old self.new) }
-        ensures alone { IsAlone K.script self.old → IfOk result (λ running. GoesOn K.script self.new running (lists.make K.script (lists_of K.script self.old) turn (stat inode))) }
+        ensures alone { IsAlone K.script self.old
+            → IfOk result (λ running. GoesOn K.script self.new running
+            (lists.make K.script (lists_of K.script self.old) turn (stat inode))) }
         ensures fault { IfErr result (λ fault. IsOfStep fault) }
     {
         let turn = turn.with_room()?;
@@ -202,7 +210,8 @@ impl<K: Run> Processor<K> {
         requires left { HasStepsLeft K.script turn }
         ensures objects { AreOf objects.now self.new }
         ensures general { IfOk result (λ running. Moves K.script (turn.process ∷ []) (hand_of running) self.old self.new) }
-        ensures alone { IsAlone K.script self.old → IfOk result (λ running. GoesOn K.script self.new running (lists.make K.script (lists_of K.script self.old) turn shutdown)) }
+        ensures alone { IsAlone K.script self.old
+            → IfOk result (λ running. GoesOn K.script self.new running (lists.make K.script (lists_of K.script self.old) turn shutdown)) }
         ensures fault { IfErr result (λ fault. IsOfStep fault) }
     {
         let turn = turn.noted(Note::Shutdown, false)?;

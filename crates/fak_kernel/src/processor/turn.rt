@@ -100,9 +100,15 @@ impl<K: Run> Turn<K> {
 
     /// Goes on after a step that was made with this note.
     pub fn noted(self, note: Note, yields: bool) -> Result<Turn<K>, Fault>
-        requires allowed { (step : StepOf) × StandsAt K.script self.process step × Allows K.script.files (child_count self.process.journal) step (note_of note) }
+        requires allowed { (step : StepOf) × StandsAt K.script self.process step
+            × Allows K.script.files (child_count self.process.journal) step (note_of note) }
         requires left { HasStepsLeft K.script self }
-        ensures noted { IfOk result (λ t. t ≡ record { process = after_note self.process (note_of note); made = self.made + 1; has_yielded = yields }) }
+        ensures noted { IfOk result (λ t. t ≡ record {
+          process = after_note self.process
+              (note_of note);
+          made = self.made + 1;
+          has_yielded = yields;
+        }) }
         ensures memory { IfErr result (λ fault. fault ≡ Fault.Memory) }
         ensures fits { FitsScript K.script self.process }
     {

@@ -40,7 +40,9 @@ impl<K: Run> Processor<K> {
         requires left { HasStepsLeft K.script turn }
         ensures objects { AreOf objects.now self.new }
         ensures general { IfOk result (λ running. Moves K.script (turn.process ∷ []) (hand_of running) self.old self.new) }
-        ensures alone { IsAlone K.script self.old → IfOk result (λ running. GoesOn K.script self.new running (lists.make K.script (lists_of K.script self.old) turn (step_of step.now))) }
+        ensures alone { IsAlone K.script self.old
+            → IfOk result (λ running. GoesOn K.script self.new running
+            (lists.make K.script (lists_of K.script self.old) turn (step_of step.now))) }
         ensures fault { IfErr result (λ fault. IsOfStep fault) }
     {
         match step {
@@ -73,7 +75,9 @@ impl<K: Run> Processor<K> {
         requires made { AreFor K.script objects.now }
         ensures objects { AreOf objects.now self.new }
         ensures general { IfOk result (λ running. Moves K.script (turn.process ∷ []) (hand_of running) self.old self.new) }
-        ensures alone { IsAlone K.script self.old → IfOk result (λ running. GoesOn K.script self.new running (lists.turn_by K.script (lists_of K.script self.old) turn (lists.next_step K.script turn.process))) }
+        ensures alone { IsAlone K.script self.old
+            → IfOk result (λ running. GoesOn K.script self.new running
+            (lists.turn_by K.script (lists_of K.script self.old) turn (lists.next_step K.script turn.process))) }
         ensures fault { IfErr result (λ fault. IsOfStep fault) }
     {
         match turn.context.next(script) {
@@ -105,7 +109,9 @@ impl<K: Run> Processor<K> {
         requires made { AreFor K.script objects.now }
         ensures objects { AreOf objects.now self.new }
         ensures general { IfOk result (λ next. Moves K.script (hand_of running) (hand_of next) self.old self.new) }
-        ensures alone { IsAlone K.script self.old → IfOk result (λ next. GoesOn K.script self.new next (lists.step K.script (record { running = running; lists = lists_of K.script self.old }))) }
+        ensures alone { IsAlone K.script self.old
+            → IfOk result (λ next. GoesOn K.script self.new next
+            (lists.step K.script (record { running = running; lists = lists_of K.script self.old }))) }
         ensures fault { IfErr result (λ fault. IsOfStep fault) }
     {
         match running {
@@ -155,7 +161,9 @@ impl<K: Run> Processor<K> {
         ensures objects { IfOk result (λ left. IfSome left (λ p. AreOf objects.now p)) }
         ensures general { IfOk result (λ left. IfSome left (λ p. LeavesNone K.script self p)) }
         ensures stopped { IfOk result (λ left. IfNone left (1 < objects.now.ready.object.seats)) }
-        ensures alone { IsReached K.script self (lists.turn_over (lists_of K.script self)) → IfOk result (λ left. IfSome left (λ p. IsReached K.script p (lists.turn_over (lists_of K.script p)) × ((lists_of K.script p).ready ≡ []))) }
+        ensures alone { IsReached K.script self (lists.turn_over (lists_of K.script self))
+            → IfOk result (λ left. IfSome left (λ p. IsReached K.script p (lists.turn_over (lists_of K.script p))
+            × ((lists_of K.script p).ready ≡ []))) }
         ensures fault { IfErr result (λ fault. IsOfLoop (G.refuses gate.now) fault) }
     {
         let mut processor = self;
@@ -200,7 +208,9 @@ impl<K: Run> Processor<K> {
         ensures objects { IfOk result (λ left. IfSome left (λ p. AreOf objects.now p)) }
         ensures general { IfOk result (λ left. IfSome left (λ p. LeavesNone K.script self p)) }
         ensures stopped { IfOk result (λ left. IfNone left (1 < objects.now.ready.object.seats)) }
-        ensures alone { IsReached K.script self (lists.turn_over (lists_of K.script self)) → IfOk result (λ left. IfSome left (λ p. IsReached K.script p (lists.turn_over (lists_of K.script p)) × ((lists_of K.script p).ready ≡ []))) }
+        ensures alone { IsReached K.script self (lists.turn_over (lists_of K.script self))
+            → IfOk result (λ left. IfSome left (λ p. IsReached K.script p (lists.turn_over (lists_of K.script p))
+            × ((lists_of K.script p).ready ≡ []))) }
         ensures fault { IfErr result (λ fault. IsOfLoop (G.refuses gate.now) fault) }
     {
         let left = self.turns(rt, alloc, script, objects, gate, number);

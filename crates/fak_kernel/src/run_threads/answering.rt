@@ -17,7 +17,8 @@ pub(crate) fn all_left<A: Drop>(
     answers: Vec<Result<Option<A>, Fault>>,
 ) -> Result<Vec<A>, Fault>
     ensures left { IfOk result (λ left. map as_left left.items ≡ answers.items) }
-    ensures fault { IfErr result (λ fault. (first_fault answers.items ≡ Some fault) ⊎ ((first_fault answers.items ≡ None) × (fault ≡ Fault.Memory))) }
+    ensures fault { IfErr result (λ fault. (first_fault answers.items ≡ Some fault)
+        ⊎ ((first_fault answers.items ≡ None) × (fault ≡ Fault.Memory))) }
 {
     if let Some(fault) = first_fault(answers.as_slice()) {
         return Err(fault);

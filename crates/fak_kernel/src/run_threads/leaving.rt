@@ -79,7 +79,8 @@ pub(crate) fn leave_all<K: Run + Send + Sync, R: Threads + Wait + Sync, G: Gate 
     requires made { AreFor K.script objects.now }
     requires begun { (i : ℕ) (d : _) → i < vec_len all → HasBegun K.script objects.now processors i (slice_index_or all.items i d) }
     ensures len { IfOk result (λ v. vec_len v ≡ vec_len all) }
-    ensures answered { IfOk result (λ v. (i : ℕ) (d : _) → i < vec_len v → HasAnswered K.script objects.now processors (G.refuses gate.now) i (slice_index_or v.items i d)) }
+    ensures answered { IfOk result (λ v. (i : ℕ) (d : _) → i < vec_len v
+        → HasAnswered K.script objects.now processors (G.refuses gate.now) i (slice_index_or v.items i d)) }
     ensures fault { IfErr result (IsOfRun (G.refuses gate.now)) }
 {
     thread::scope(
@@ -88,9 +89,11 @@ pub(crate) fn leave_all<K: Run + Send + Sync, R: Threads + Wait + Sync, G: Gate 
         move |scope| -> Result<Vec<Answer<K>>, Fault>
             requires script { script.now ≡ K.script }
             requires made { AreFor K.script objects.now }
-            requires begun { (i : ℕ) (d : _) → i < vec_len all → HasBegun K.script objects.now processors i (slice_index_or all.items i d) }
+            requires begun { (i : ℕ) (d : _) → i < vec_len all
+                → HasBegun K.script objects.now processors i (slice_index_or all.items i d) }
             ensures len { IfOk result (λ v. vec_len v ≡ vec_len all) }
-            ensures answered { IfOk result (λ v. (i : ℕ) (d : _) → i < vec_len v → HasAnswered K.script objects.entry.now processors (G.refuses gate.entry.now) i (slice_index_or v.items i d)) }
+            ensures answered { IfOk result (λ v. (i : ℕ) (d : _) → i < vec_len v
+                → HasAnswered K.script objects.entry.now processors (G.refuses gate.entry.now) i (slice_index_or v.items i d)) }
             ensures fault { IfErr result (IsOfRun (G.refuses gate.entry.now)) }
         {
             let Ok(mut handles) = Vec::with_capacity(alloc, all.len()) else {

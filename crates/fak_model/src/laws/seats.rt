@@ -20,8 +20,10 @@ pub fn seats_that_join_have_seen_one_history<M>()
 pub fn a_tally_knows_what_its_seats_know<M>()
     ensures one { (seat_of : M → ℕ) (name : ℕ) (h : List M) → mine seat_of (name ∷ []) h ≡ marks_of seat_of name h }
     ensures more { (seat_of weight : M → ℕ) (names : List ℕ) (name : ℕ) (h : List M) → ¬ In name names
-        → sum_by weight (mine seat_of (names ++ name ∷ []) h) ≡ sum_by weight (mine seat_of names h) + sum_by weight (marks_of seat_of name h) }
-    ensures known { (seat_of : M → ℕ) (names : List ℕ) (seen h : List M) → Knows seat_of names seen h → mine seat_of names h ≡ mine seat_of names seen }
+        → sum_by weight (mine seat_of (names ++ name ∷ []) h) ≡ sum_by weight (mine seat_of names h) + sum_by weight
+        (marks_of seat_of name h) }
+    ensures known { (seat_of : M → ℕ) (names : List ℕ) (seen h : List M) → Knows seat_of names seen h
+        → mine seat_of names h ≡ mine seat_of names seen }
     ensures joined { (seat_of weight : M → ℕ) (names : List ℕ) (name : ℕ) (of_tally of_seat both : List M) → ¬ In name names
         → Knows seat_of names of_tally both → Knows seat_of (name ∷ []) of_seat both
         → sum_by weight (mine seat_of (names ++ name ∷ []) both)
@@ -41,7 +43,8 @@ pub fn an_only_seat_has_seen_its_own_marks<M>()
 /// A seat that never began a call adds nothing: no name beyond those of a history has a mark in it, and mine is the same
 /// with such a name and without it.
 pub fn a_seat_without_a_call_adds_nothing<M>()
-    ensures beyond { (seat_of : M → ℕ) (seats name : ℕ) (h : List M) → All (λ m. seat_of m < seats) h → seats ≤ name → marks_of seat_of name h ≡ [] }
+    ensures beyond { (seat_of : M → ℕ) (seats name : ℕ) (h : List M) → All (λ m. seat_of m < seats) h → seats ≤ name
+        → marks_of seat_of name h ≡ [] }
     ensures mine { (seat_of : M → ℕ) (names : List ℕ) (name : ℕ) (h : List M) → marks_of seat_of name h ≡ []
         → mine seat_of (names ++ name ∷ []) h ≡ mine seat_of names h }
 {}

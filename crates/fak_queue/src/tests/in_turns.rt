@@ -221,7 +221,8 @@ fn run_all<R: Threads + Wait + Sync>(
         rt,
         move || -> (Option<Rested>, Option<Rested>)
             requires { (inserting.0.seat.object ≡ queue.now.object) × (inserting.1.seat.object ≡ queue.now.object) }
-            ensures { MatchOption result.0 ⊤ (λ r. r.seat.object ≡ queue.entry.now.object) × MatchOption result.1 ⊤ (λ r. r.seat.object ≡ queue.entry.now.object) }
+            ensures { MatchOption result.0 ⊤ (λ r. r.seat.object ≡ queue.entry.now.object)
+                × MatchOption result.1 ⊤ (λ r. r.seat.object ≡ queue.entry.now.object) }
         {
             run_two(
                 rt,
@@ -233,7 +234,8 @@ fn run_all<R: Threads + Wait + Sync>(
         },
         move || -> (Option<Rested>, Option<Rested>)
             requires { (deleting.0.seat.object ≡ queue.now.object) × (deleting.1.seat.object ≡ queue.now.object) }
-            ensures { MatchOption result.0 ⊤ (λ r. r.seat.object ≡ queue.entry.now.object) × MatchOption result.1 ⊤ (λ r. r.seat.object ≡ queue.entry.now.object) }
+            ensures { MatchOption result.0 ⊤ (λ r. r.seat.object ≡ queue.entry.now.object)
+                × MatchOption result.1 ⊤ (λ r. r.seat.object ≡ queue.entry.now.object) }
         {
             run_two(
                 rt,

@@ -34,7 +34,8 @@ fn two_to_one<T: Drop + Send, R: Threads + Wait + Sync>(
         rt,
         move || -> (Seat<T>, Seat<T>)
             requires { (a.object ≡ queue.now.object) × (state_of a ≡ Idle) × (b.object ≡ queue.now.object) × (state_of b ≡ Idle) }
-            ensures { (result.0.object ≡ queue.entry.now.object) × (state_of result.0 ≡ Idle) × (result.1.object ≡ queue.entry.now.object) × (state_of result.1 ≡ Idle) }
+            ensures { (result.0.object ≡ queue.entry.now.object) × (state_of result.0 ≡ Idle) × (result.1.object ≡ queue.entry.now.object)
+                × (state_of result.1 ≡ Idle) }
         { insert_both(rt, queue, (a, b), (first, second)) },
         move || -> (Seat<T>, Vec<T>)
             requires { (c.object ≡ queue.now.object) × (state_of c ≡ Idle) }
@@ -50,8 +51,10 @@ fn insert_both<T: Drop + Send, R: Threads + Wait + Sync>(
     seats: (Seat<T>, Seat<T>),
     items: (Vec<T>, Vec<T>),
 ) -> (Seat<T>, Seat<T>)
-    requires { (seats.0.object ≡ queue.now.object) × (state_of seats.0 ≡ Idle) × (seats.1.object ≡ queue.now.object) × (state_of seats.1 ≡ Idle) }
-    ensures { (result.0.object ≡ queue.now.object) × (state_of result.0 ≡ Idle) × (result.1.object ≡ queue.now.object) × (state_of result.1 ≡ Idle) }
+    requires { (seats.0.object ≡ queue.now.object) × (state_of seats.0 ≡ Idle) × (seats.1.object ≡ queue.now.object)
+        × (state_of seats.1 ≡ Idle) }
+    ensures { (result.0.object ≡ queue.now.object) × (state_of result.0 ≡ Idle) × (result.1.object ≡ queue.now.object)
+        × (state_of result.1 ≡ Idle) }
 {
     let (a, b) = seats;
     let (first, second) = items;

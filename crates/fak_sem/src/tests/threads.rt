@@ -91,8 +91,10 @@ fn two_pairs<R: Threads + Wait + Sync>(
     SemSeat<u64>,
     Vec<u64>,
 )
-    requires { (seats.0.object ≡ semaphore.now.object) × (seats.1.object ≡ semaphore.now.object) × (seats.2.object ≡ semaphore.now.object) × (seats.3.object ≡ semaphore.now.object) }
-    ensures { (result.0.object ≡ semaphore.now.object) × (result.1.object ≡ semaphore.now.object) × (result.2.object ≡ semaphore.now.object) × (result.3.object ≡ semaphore.now.object) }
+    requires { (seats.0.object ≡ semaphore.now.object) × (seats.1.object ≡ semaphore.now.object) × (seats.2.object ≡ semaphore.now.object)
+        × (seats.3.object ≡ semaphore.now.object) }
+    ensures { (result.0.object ≡ semaphore.now.object) × (result.1.object ≡ semaphore.now.object)
+        × (result.2.object ≡ semaphore.now.object) × (result.3.object ≡ semaphore.now.object) }
 {
     let (a, b, c, d) = seats;
     let ((a, b, mut all), (c, d, others)) = join(
@@ -193,8 +195,10 @@ fn four_pairs<R: Threads + Wait + Sync>(
     first: (SemSeat<u64>, SemSeat<u64>, SemSeat<u64>, SemSeat<u64>),
     second: (SemSeat<u64>, SemSeat<u64>, SemSeat<u64>, SemSeat<u64>),
 ) -> (SemTally<u64>, Vec<u64>)
-    requires first { (first.0.object ≡ semaphore.now.object) × (first.1.object ≡ semaphore.now.object) × (first.2.object ≡ semaphore.now.object) × (first.3.object ≡ semaphore.now.object) }
-    requires second { (second.0.object ≡ semaphore.now.object) × (second.1.object ≡ semaphore.now.object) × (second.2.object ≡ semaphore.now.object) × (second.3.object ≡ semaphore.now.object) }
+    requires first { (first.0.object ≡ semaphore.now.object) × (first.1.object ≡ semaphore.now.object)
+        × (first.2.object ≡ semaphore.now.object) × (first.3.object ≡ semaphore.now.object) }
+    requires second { (second.0.object ≡ semaphore.now.object) × (second.1.object ≡ semaphore.now.object)
+        × (second.2.object ≡ semaphore.now.object) × (second.3.object ≡ semaphore.now.object) }
     ensures { result.0.object ≡ semaphore.now.object }
 {
     let ((a, b, c, d, mut all), (e, f, g, h, others)) = join(
@@ -206,8 +210,10 @@ fn four_pairs<R: Threads + Wait + Sync>(
             SemSeat<u64>,
             Vec<u64>,
         )
-            requires { (first.0.object ≡ semaphore.now.object) × (first.1.object ≡ semaphore.now.object) × (first.2.object ≡ semaphore.now.object) × (first.3.object ≡ semaphore.now.object) }
-            ensures { (result.0.object ≡ semaphore.entry.now.object) × (result.1.object ≡ semaphore.entry.now.object) × (result.2.object ≡ semaphore.entry.now.object) × (result.3.object ≡ semaphore.entry.now.object) }
+            requires { (first.0.object ≡ semaphore.now.object) × (first.1.object ≡ semaphore.now.object)
+                × (first.2.object ≡ semaphore.now.object) × (first.3.object ≡ semaphore.now.object) }
+            ensures { (result.0.object ≡ semaphore.entry.now.object) × (result.1.object ≡ semaphore.entry.now.object)
+                × (result.2.object ≡ semaphore.entry.now.object) × (result.3.object ≡ semaphore.entry.now.object) }
         { two_pairs(rt, alloc, semaphore, first, 1000) },
         move || -> (
             SemSeat<u64>,
@@ -216,8 +222,10 @@ fn four_pairs<R: Threads + Wait + Sync>(
             SemSeat<u64>,
             Vec<u64>,
         )
-            requires { (second.0.object ≡ semaphore.now.object) × (second.1.object ≡ semaphore.now.object) × (second.2.object ≡ semaphore.now.object) × (second.3.object ≡ semaphore.now.object) }
-            ensures { (result.0.object ≡ semaphore.entry.now.object) × (result.1.object ≡ semaphore.entry.now.object) × (result.2.object ≡ semaphore.entry.now.object) × (result.3.object ≡ semaphore.entry.now.object) }
+            requires { (second.0.object ≡ semaphore.now.object) × (second.1.object ≡ semaphore.now.object)
+                × (second.2.object ≡ semaphore.now.object) × (second.3.object ≡ semaphore.now.object) }
+            ensures { (result.0.object ≡ semaphore.entry.now.object) × (result.1.object ≡ semaphore.entry.now.object)
+                × (result.2.object ≡ semaphore.entry.now.object) × (result.3.object ≡ semaphore.entry.now.object) }
         { two_pairs(rt, alloc, semaphore, second, 3000) },
     );
     for who in others {

@@ -134,7 +134,8 @@ fn number_below(size: usize, bound: u64, number: Option<u64>) -> Result<u64, Tex
 
 /// A step that says a text.
 fn say(alloc: Global, size: usize, text: Option<&str>) -> Result<Step, TextFault>
-    ensures { Gives step_of result (step_with (record { version = 0; semaphores = 0; programs = 0 }) StepOp.Say size (option_map (λ t. t.now) text.entry) Option.None) }
+    ensures { Gives step_of result (step_with (record { version = 0; semaphores = 0; programs = 0 }) StepOp.Say size
+        (option_map (λ t. t.now) text.entry) Option.None) }
 {
     let text = say_argument(size, text)?;
     Ok(Step::Say(String::from_str(alloc, text)?))

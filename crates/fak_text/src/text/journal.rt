@@ -60,7 +60,8 @@ pub fn append_name(text: &mut String, name: &[u64]) -> Result<(), AllocError>
 
 /// Appends the text of a note of the process of this name.
 fn append_note(text: &mut String, name: &[u64], note: &Note) -> Result<(), AllocError>
-    ensures { OnOk result (string_bytes text.new ≡ string_bytes text.old ++ text_of_note (λ j. child_prefix name.now ++ decimal j) (note_of note.now)) }
+    ensures { OnOk result (string_bytes text.new ≡ string_bytes text.old ++ text_of_note (λ j. child_prefix name.now ++ decimal j)
+        (note_of note.now)) }
 {
     match note {
         Note::Say(said) => {

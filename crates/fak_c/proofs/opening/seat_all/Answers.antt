@@ -1,6 +1,7 @@
 use Rattle.std.proofs.Common.{arith, ap, ◌∙◌, length-set}
 use Rattle.std.specs.Arc.{arc_value}
-use Rattle.fak_c.proofs.Seating.{next_seat, seated_next}
+use Rattle.fak_model.proofs.FreshSeats.{next_seat}
+use Rattle.fak_c.proofs.Seating.{seated_next}
 use Rattle.fak_c.proofs.opening.seat_all.Goals as goal
 
 pub loop-i-preserved : goal.loop-i-preserved

@@ -61,7 +61,8 @@ pub fn the_counts_of_a_queue_are_judged()
     ensures end_out { Parts (IsQueueHistory 1)
         (inserted 0 7 0 ++ by 1 ClaimOut ∷ by 1 (Got 7) ∷ by 1 (Take 0) ∷ [])
         (by 2 NoRoom ∷ []) (by 1 EndOut ∷ by 2 NoRoom ∷ []) }
-    ensures over_out { Parts (IsQueueHistory 1) (by 1 OverOut ∷ [] ++ inserted 0 7 0) (by 2 NoItem ∷ []) (by 1 BackOut ∷ by 2 NoItem ∷ []) }
+    ensures over_out { Parts (IsQueueHistory 1) (by 1 OverOut ∷ [] ++ inserted 0 7 0) (by 2 NoItem ∷ [])
+        (by 1 BackOut ∷ by 2 NoItem ∷ []) }
     ensures end_in { Parts (IsQueueHistory 1)
         (by 0 ClaimIn ∷ by 0 (Put 7) ∷ by 0 (Fill 0) ∷ [])
         (by 1 NoItem ∷ []) (by 0 EndIn ∷ by 1 NoItem ∷ []) }
