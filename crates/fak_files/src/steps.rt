@@ -1,4 +1,4 @@
-//! Each atomic step of a seat on the words of a file table.
+//! Each atomic step of a seat on the words of a file table. What the hold is for (`_access`) is a parameter for the proofs alone.
 
 ghost use Rattle.std.specs.Prelude.{◌≡◌, ◌<◌, ◌≤◌};
 ghost use Rattle.fak_model.specs.Tokens.{IsSeatToken};

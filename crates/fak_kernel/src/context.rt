@@ -104,6 +104,7 @@ impl<K: Run> Context<K> {
         ensures next { IfSome result (λ step. StandsAt K.script self.now (step_of step.now)) }
         ensures range { IfSome result (λ step. IsStepInRange (limits_of K.script) (step_of step.now)) }
     {
+        // For the proof alone: the call tells that the script is in range.
         let _slots = script.slots();
         self.step_at_position(script)
     }
@@ -153,6 +154,7 @@ impl<K: Run> Context<K> {
         ensures memory { IfErr result (λ fault. fault ≡ Fault.Memory) }
     {
         let births = birth_count(&note);
+        // For the proof alone: a slice tells that the journal is not longer than memory.
         let _made = self.journal.as_slice();
         self.journal.push(note)?;
         self.children += births;

@@ -50,6 +50,7 @@ impl<K: Run> Sleeper<K> {
             context,
             semaphore: _,
         } = self;
+        // The slot is read for the proof alone: reading it tells that the context fits the script.
         let _slot = context.slot();
         context
     }
@@ -65,6 +66,7 @@ impl<K: Run> Sleeper<K> {
             semaphore: _,
         } = self;
         let rested = context.without_down();
+        // The slot is read for the proof alone: reading it tells that the context fits the script.
         let _slot = rested.slot();
         rested
     }

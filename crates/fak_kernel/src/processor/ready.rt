@@ -67,6 +67,7 @@ impl<K: Run> Processor<K> {
             → IfOk result (λ _. GoesTo K.script self.new (lists.enter_ready (lists_of K.script self.old) context)) }
         ensures fault { IfErr result (λ fault. IsOfStep fault) }
     {
+        // The slot is read for the proof alone: reading it tells that the context fits the script.
         let _slot = context.slot();
         self.halted.reserve(1)?;
         match enter(&objects.ready, rt, &mut self.ready, context) {

@@ -82,6 +82,7 @@ impl<K: Run> Turn<K> {
         ensures made { result ≡ self.now.made }
         ensures fits { FitsScript K.script self.now.process }
     {
+        // The slot is read for the proof alone: reading it tells that the context fits the script.
         let _slot = self.context.slot();
         self.made
     }
@@ -117,6 +118,7 @@ impl<K: Run> Turn<K> {
             made,
             has_yielded: _,
         } = self;
+        // The slot is read for the proof alone: reading it tells that the context fits the script.
         let _slot = context.slot();
         context.note(note)?;
         Ok(Turn {
