@@ -11,7 +11,6 @@ use Rattle.fak_model.specs.File.{file_rules}
 use Rattle.fak_model.specs.Seats.{IsWhole}
 use Rattle.fak_model.proofs.Deciding.{same_or_not}
 use Rattle.fak_model.proofs.RunningViews.{sees_whole}
-use Rattle.fak_files.specs.declared.phase.FilePhase.{FilePhase}
 use Rattle.fak_files.specs.declared.limits.FileLimits.{FileLimits}
 use Rattle.fak_files.specs.Words.{word_of}
 use Rattle.fak_files.specs.Shown.{FileView, IsShownFile, FileHolder}

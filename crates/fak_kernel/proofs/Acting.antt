@@ -20,7 +20,7 @@ use Rattle.fak_kernel.specs.Moving.{IsIdle, IsQuiet, GrowsIn, GrowsShut, GrowsAt
 use Rattle.fak_kernel.proofs.Joining.{balanced-joined}
 use Rattle.fak_kernel.proofs.Events.{none_waits, quiet, in_other_hands, balanced-beside, keeps_takes, keeps_puts, keeps_halts, keeps_ends}
 use Rattle.fak_kernel.proofs.Moving.{quiet_empty, gains_none, gains_then, gains_ready, gains_free}
-use Rattle.fak_kernel.proofs.Gaining.{Alike, gains_as}
+use Rattle.fak_kernel.proofs.Gaining.{gains_as}
 
 -- nothing is begun in two ledgers
 begins_then : (a b : Ledger) → BeginsNone a → BeginsNone b → BeginsNone (joined a b)

@@ -11,9 +11,8 @@ use Rattle.fak_model.specs.Histories.{Rules}
 use Rattle.fak_model.specs.Seats.{mine}
 use Rattle.fak_model.specs.Calls.{TallyInfo, tally_of}
 use Rattle.fak_model.specs.Queue.{count}
-use Rattle.fak_model.specs.Room.{room_rules}
 use Rattle.fak_model.specs.Room as room
-use Rattle.fak_model.specs.Credit.{credit_rules, value}
+use Rattle.fak_model.specs.Credit.{value}
 use Rattle.fak_model.specs.Credit as credit
 use Rattle.fak_sem.specs.Grants.{IsSettled}
 use Rattle.fak_sem.specs.Semaphores.{sem_tally_of}

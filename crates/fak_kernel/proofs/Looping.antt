@@ -6,15 +6,12 @@ use Rattle.fak_model.specs.Credit.{value}
 use Rattle.fak_text.specs.Script.{ScriptOf}
 use Rattle.fak_text.specs.Journal.{Process}
 use Rattle.fak_kernel.specs.ListScheduler.{Turn}
-use Rattle.fak_kernel.specs.Ledger.{Ledger, nothing, joined}
-use Rattle.fak_kernel.specs.Holding.{Leaves}
-use Rattle.fak_kernel.specs.Turning.{Turning}
+use Rattle.fak_kernel.specs.Ledger.{nothing}
 use Rattle.fak_kernel.specs.Processors.{ProcessorOf}
 use Rattle.fak_kernel.specs.Opened.{HasName}
-use Rattle.fak_kernel.specs.Moving.{bundle_of, names_of, Gains, Moves, LeavesNone, hand_of}
+use Rattle.fak_kernel.specs.Moving.{names_of, Gains, Moves, LeavesNone, hand_of}
 use Rattle.fak_sem.specs.Semaphores.{SemSeatInfo}
 use Rattle.fak_kernel.proofs.Events.{quiet, balanced-beside}
-use Rattle.fak_kernel.proofs.Calls.{turning_more, turning_leaves}
 use Rattle.fak_kernel.proofs.Acting.{moves_then}
 
 -- ---- names

@@ -13,7 +13,6 @@ use Rattle.fak_model.specs.declared.room.RoomMark.{RoomMark}
 use Rattle.fak_model.specs.declared.credit.CreditKind.{CreditKind}
 use Rattle.fak_model.specs.declared.credit.CreditMark.{CreditMark}
 use Rattle.fak_model.specs.declared.file.FileMark.{FileMark}
-use Rattle.fak_model.specs.Histories.{Rules}
 use Rattle.fak_model.specs.Calls.{SeatInfo}
 use Rattle.fak_model.specs.Queue.{queue_rules}
 use Rattle.fak_model.specs.Room.{room_rules}

@@ -1,5 +1,5 @@
 -- What calls do to semaphores and rooms that have one seat.
-use Rattle.std.proofs.Common.{◌≡◌, ◌⊎◌, ℕ, ◌+◌, ◌-◌, ◌<◌, ◌≤◌, List, [], ◌∷◌, ◌++◌, Option, Some, None, length, length-append, refl, ap, sym, ◌∙◌, subst, arith, inl, inr}
+use Rattle.std.proofs.Common.{◌≡◌, ◌⊎◌, ℕ, ◌+◌, ◌-◌, ◌<◌, ◌≤◌, List, [], ◌∷◌, ◌++◌, Some, None, length, length-append, refl, ap, sym, ◌∙◌, subst, arith, inl, inr}
 use Rattle.std.specs.Prelude.{ℤ, pos, map, ◌+ℤ◌, ◌≤ℤ◌, ◌<ℤ◌}
 use Rattle.std.specs.List.{flat_map, sum_by}
 use Rattle.std.proofs.lemmas.Int.{ints}
@@ -29,7 +29,7 @@ use Rattle.fak_queue.proofs.AfterRefusals.{made_by_append}
 use Rattle.fak_kernel.specs.Only.{IsOnly}
 use Rattle.fak_kernel.specs.OnlyCounts.{IsOnlySem, Passes, Parks, Raises, Rouses, IsOnlyRoom, Claims, FindsFull, GivesBack}
 use Rattle.fak_kernel.proofs.Only.{only_seen, only_still, only_lawful, only_before}
-use Rattle.fak_kernel.proofs.OnlyQueues.{items_more, items_added, items_same, first_left}
+use Rattle.fak_kernel.proofs.OnlyQueues.{items_more, items_added, first_left}
 
 -- ---- the wait queue after refusals
 

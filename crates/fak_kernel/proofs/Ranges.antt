@@ -1,7 +1,5 @@
 -- The next step of a process is in range.
-use Rattle.std.proofs.Common.{◌≡◌, ℕ, List, slice_get, Option, Some, None, IfSome, All, subst}
-use Rattle.std.proofs.lemmas.Option.{slice_get_within, get_or_from_slice_get}
-use Rattle.std.proofs.lemmas.List.Elements.{All-get_or}
+use Rattle.std.proofs.Common.{Option, Some, None, IfSome}
 use Rattle.fak_text.specs.Script.{ScriptOf, StepOf, IsInRange, IsStepInRange, limits_of}
 use Rattle.fak_text.specs.Journal.{Process, StandsAt}
 use Rattle.fak_text.proofs.Journals.{step_of_script_is_in_range}

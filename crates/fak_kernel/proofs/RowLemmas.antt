@@ -1,9 +1,9 @@
 -- The rows of a report, as they are added and sorted.
-use Rattle.std.proofs.Common.{◌≡◌, ◌||◌, Bool, refl, ◌+◌, ◌<◌, List, [], ◌∷◌, ◌++◌, length, map, get_or, ap, ◌∙◌, arith, append_assoc, nat_cmp}
+use Rattle.std.proofs.Common.{◌≡◌, ◌||◌, Bool, refl, ◌+◌, ◌<◌, List, [], ◌∷◌, length, map, get_or, ap, arith, nat_cmp}
 use Rattle.std.specs.List.{list_any}
 use Rattle.std.specs.List.Sorted.{IsSortedByKey}
 use Rattle.std.specs.Cmp.Lexicographic.{slice_cmp}
-use Rattle.std.proofs.lemmas.List.{map-append, get_or-map, length-map}
+use Rattle.std.proofs.lemmas.List.{get_or-map, length-map}
 use Rattle.fak_kernel.specs.declared.report.ProcessRow.{ProcessRow}
 use Rattle.fak_kernel.specs.Report.{IsSortedByName}
 use Rattle.fak_kernel.specs.Views.{row_of}

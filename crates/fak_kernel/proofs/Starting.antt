@@ -1,27 +1,24 @@
 -- What processor 0 does before the threads start.
 use Rattle.std.proofs.Common.{◌≡◌, ℕ, zero, suc, ◌+◌, ◌-◌, ◌<◌, ◌≤◌, Bool, true, false, List, [], ◌∷◌, ◌++◌, length, take, drop, get_or, slice_index_or, slice_set, refl, ap, sym, ◌∙◌, subst, arith}
-use Rattle.std.specs.List.{sum_by}
-use Rattle.std.proofs.lemmas.List.{append-nil, length-take-le, map-append, get_or-set_same}
-use Rattle.std.proofs.lemmas.List.Sums.{sum_by-append}
+use Rattle.std.proofs.lemmas.List.{length-take-le, map-append, get_or-set_same}
 use Rattle.fak_model.specs.declared.queue.Mark.{Mark}
 use Rattle.fak_model.specs.declared.credit.CreditKind.TheVariants.{Debit}
 use Rattle.fak_model.specs.Calls.{SeatInfo}
 use Rattle.fak_queue.specs.Retries.{kinds_in, kinds_out}
 use Rattle.fak_text.specs.Script.{ScriptOf}
 use Rattle.fak_text.specs.Journal.{Process, FitsScript, new_process}
-use Rattle.fak_kernel.specs.declared.report.Outcome.TheVariants.{Halted}
 use Rattle.fak_kernel.specs.ListScheduler.{Lists, begun_from, enter_ready, first_lists, numbers_from, turn_over}
 use Rattle.fak_kernel.specs.Making.{AreLines}
 use Rattle.fak_kernel.specs.Ledger.{Balanced, Named, joined, named, nothing}
-use Rattle.fak_kernel.specs.Events.{closed, empty, fills, halts, puts}
+use Rattle.fak_kernel.specs.Events.{empty, fills, halts, puts}
 use Rattle.fak_kernel.specs.Whole.{begun_names}
 use Rattle.fak_kernel.specs.Processors.{ObjectsOf, ProcessorOf, AreFor, AreOf, GoesTo, HasNoSlot, IsAlone, IsReached, TakesSlot, lists_of}
-use Rattle.fak_kernel.specs.Moving.{Gains, GrowsAtLast, GrowsIn, GrowsShut, IsIdle, files_of, row_as}
+use Rattle.fak_kernel.specs.Moving.{Gains, GrowsAtLast, GrowsIn, GrowsShut, IsIdle, files_of}
 use Rattle.fak_kernel.specs.Opened.{AreSeated, fresh_all, fresh_processor}
 use Rattle.fak_kernel.specs.Joined.{no_seat}
 use Rattle.fak_kernel.specs.Begun.{Begins, Between, FindsNoSlot, FindsSlot, StartsOne, begins, empty_lists}
 use Rattle.fak_kernel.proofs.Joining.{balanced-joined}
-use Rattle.fak_kernel.proofs.Events.{balanced-beside, keeps_fills, keeps_halts, keeps_puts, none_waits, quiet}
+use Rattle.fak_kernel.proofs.Events.{balanced-beside, keeps_fills, keeps_puts, none_waits, quiet}
 use Rattle.fak_kernel.proofs.Calls.{turning_more}
 use Rattle.fak_kernel.proofs.Moving.{gains_free, gains_none, gains_ready, gains_then, idle_none, idle_then}
 use Rattle.fak_kernel.proofs.Gaining.{gains_as}

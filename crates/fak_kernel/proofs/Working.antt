@@ -1,9 +1,8 @@
 -- The loop of the only processor.
-use Rattle.std.proofs.Common.{◌≡◌, suc, List, [], ◌∷◌, refl, ap, sym, ◌∙◌}
-use Rattle.std.specs.Prelude.{Option, None}
+use Rattle.std.proofs.Common.{suc, ap, ◌∙◌}
+use Rattle.std.specs.Prelude.{Option}
 use Rattle.fak_text.specs.Script.{ScriptOf}
-use Rattle.fak_text.specs.Journal.{Process}
-use Rattle.fak_kernel.specs.ListScheduler.{Lists, State, Turn, step, take_front}
+use Rattle.fak_kernel.specs.ListScheduler.{State, Turn, step}
 use Rattle.fak_kernel.specs.Processors.{ProcessorOf, IsAlone, GoesOn, GoesTo, IsReached, lists_of}
 
 -- the processor with who has it

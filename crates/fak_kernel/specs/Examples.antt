@@ -1,7 +1,6 @@
 -- Scripts that are known, and how the list scheduler leaves its lists. Each of its rules changes what is left of one of them.
-use Rattle.std.specs.Prelude.{ℕ, [], ◌∷◌, Some, true, false, codes}
+use Rattle.std.specs.Prelude.{[], ◌∷◌, Some, true, false, codes}
 use Rattle.fak_model.specs.Limits.{longest_stint}
-use Rattle.fak_model.specs.declared.file.FileEntry.{FileEntry}
 use Rattle.fak_text.specs.Script.{ScriptOf, say, yield, down, up, open_file, close_file, stat, spawn, shutdown}
 use Rattle.fak_text.specs.Journal.{said, yielded, downed, upped, opened, closed, statted, spawned, no_birth, no_slot, shut_down}
 use Rattle.fak_kernel.specs.Files.{free_entry}
