@@ -96,8 +96,9 @@ pub(crate) fn number(kind: Kind<u64>) -> Option<u64>
     }
 }
 
-/// The name of the refusal of a begun call or of a step.
+/// The name of the refusal of a begun call or of a step, which is one of four.
 pub(crate) fn refusal_name(fault: CoreFault) -> &'static str
+    requires { names.IsRefusal fault }
     ensures { result.now ≡ names.refusal_name fault }
 {
     match fault {
@@ -105,6 +106,6 @@ pub(crate) fn refusal_name(fault: CoreFault) -> &'static str
         CoreFault::MidCall => "mid-call",
         CoreFault::IdleSeat => "idle-seat",
         CoreFault::NotHeld => "not-held",
-        CoreFault::BadSize | CoreFault::BadSeats | CoreFault::Memory => "",
+        CoreFault::BadSize | CoreFault::BadSeats | CoreFault::Memory => unreachable!(),
     }
 }
