@@ -16,6 +16,7 @@ pub mod WholeCalls
 pub mod AtOnce
 pub mod Trying
 pub mod AfterRefusals
+pub mod Weighing
 pub mod Tallies
 pub mod Shutting
 pub mod Leaving

@@ -1,0 +1,172 @@
+-- What calls and joins add to the weights of the items that were put into a queue and got out of it.
+use Rattle.std.proofs.Common.{◌≡◌, ◌≢◌, ℕ, ◌+◌, Bool, true, false, List, [], ◌∷◌, ◌++◌, refl, ap, sym, ◌∙◌, subst, inl, inr, arith}
+use Rattle.std.specs.List.{flat_map, sum_by}
+use Rattle.std.proofs.lemmas.List.Sums.{sum_by-cons}
+use Rattle.fak_model.specs.declared.queue.Kind.{Kind}
+use Rattle.fak_model.specs.declared.queue.Kind.TheVariants.{OverIn, BackIn, NoRoom, OverOut, BackOut, NoItem, Close, Closed, LateIn}
+use Rattle.fak_model.specs.declared.queue.Mark.{Mark}
+use Rattle.fak_model.specs.Queue.{queue_rules, count, contents}
+use Rattle.fak_model.specs.Seats.{In, mine}
+use Rattle.fak_model.specs.Calls.{SeatInfo, TallyInfo, tally_of, mine_of, IsJoined}
+use Rattle.fak_model.specs.Weights.{put_of, got_of}
+use Rattle.fak_model.proofs.QueueBackwards.{count_append}
+use Rattle.fak_model.proofs.SeatWeights.{mine_one, mine_joined}
+use Rattle.fak_queue.specs.declared.fault.InsertFault.{InsertFault}
+use Rattle.fak_queue.specs.declared.fault.InsertFault.TheVariants as insertion
+use Rattle.fak_queue.specs.declared.fault.DeleteFault.{DeleteFault}
+use Rattle.fak_queue.specs.declared.fault.DeleteFault.TheVariants as deletion
+use Rattle.fak_queue.specs.Queues.{IsWorn, ShutsAs, made_by, seat_of}
+use Rattle.fak_queue.specs.Refusals.{RefusesInsertion, RefusesDeletion}
+use Rattle.fak_queue.specs.Retries.{RefusedInsertion, NotIn, WithdrawnIn, ClosedIn, WithdrawnLate, kinds_not_in, RefusedDeletion, NotOut, WithdrawnOut, kinds_not_out, kinds_in, kinds_out, MakesAtLast, RefusesWaitingInsertion}
+use Rattle.fak_queue.proofs.AfterRefusals.{made_by_append, at_once, refused_full, refused_closed, refused_empty}
+
+-- ---- weights of kinds
+
+-- what a seat's own marks weigh
+abbrev pub weight_of : {A : Type 0} → (Kind A → ℕ) → SeatInfo (Mark A) → ℕ
+weight_of v s = count v (mine_of seat_of s)
+
+-- what the marks of a tally's seats weigh
+abbrev pub weight_in : {A : Type 0} → (Kind A → ℕ) → TallyInfo (Mark A) → ℕ
+weight_in v t = count v (mine seat_of t.names t.seen)
+
+-- a refused insertion weighs nothing where its kinds weigh nothing
+pub none_in : {A : Type 0} (v : Kind A → ℕ) → v NoRoom + v OverIn + v BackIn + v Closed + v LateIn ≡ 0 → (name : ℕ) (r : RefusedInsertion) → count v (made_by name (kinds_not_in r)) ≡ 0
+none_in v none name NotIn = omega arith
+none_in v none name WithdrawnIn = omega arith
+none_in v none name ClosedIn = omega arith
+none_in v none name WithdrawnLate = omega arith
+
+-- and a refused deletion likewise
+pub none_out : {A : Type 0} (v : Kind A → ℕ) → v NoItem + v OverOut + v BackOut ≡ 0 → (name : ℕ) (r : RefusedDeletion) → count v (made_by name (kinds_not_out r)) ≡ 0
+none_out v none name NotOut = omega arith
+none_out v none name WithdrawnOut = omega arith
+
+module _ {A R : Type 0} (v : Kind A → ℕ) (kinds_of : R → List (Kind A)) (none : (name : ℕ) (r : R) → count v (made_by name (kinds_of r)) ≡ 0) where
+  -- refused calls add nothing
+  count_refused : (name : ℕ) (refused : List R) → count v (made_by name (flat_map kinds_of refused)) ≡ 0
+  count_refused name [] = refl
+  count_refused name (r ∷ rs) =
+      ap (count v) (made_by_append name (kinds_of r) (flat_map kinds_of rs)) ∙ (count_append v (made_by name (kinds_of r)) (made_by name (flat_map kinds_of rs)) ∙ omega (arith, none name r, count_refused name rs))
+
+  -- so marks after theirs weigh what they weigh alone
+  pub count_at_last : (name : ℕ) (refused : List R) (kinds : List (Kind A)) → count v (made_by name (flat_map kinds_of refused ++ kinds)) ≡ count v (made_by name kinds)
+  count_at_last name refused kinds =
+      ap (count v) (made_by_append name (flat_map kinds_of refused) kinds) ∙ (count_append v (made_by name (flat_map kinds_of refused)) (made_by name kinds) ∙ omega (arith, count_refused name refused))
+
+  -- and a call after refused ones adds what its own marks weigh
+  pub count_more : {size : ℕ} {kinds : List (Kind A)} {old new : SeatInfo (Mark A)} → MakesAtLast kinds_of size kinds old new → weight_of v new ≡ weight_of v old + count v (made_by old.name kinds)
+  count_more {kinds = kinds} {old = old} t =
+      ap (count v) t.makes.mine ∙ (count_append v (mine_of seat_of old) (made_by old.name (flat_map kinds_of t.refused ++ kinds)) ∙ omega (arith, count_at_last old.name t.refused kinds))
+
+-- ---- calls
+
+-- a call whose own marks put in and got out so much, under every weight of items
+pub record Weighs {A : Type 0} (put got : (A → ℕ) → ℕ) (old new : SeatInfo (Mark A)) : Type 0 where
+  pub name : new.name ≡ old.name
+  pub stint : new.stint ≡ old.stint
+  pub put_is : (w : A → ℕ) → weight_of (put_of w) new ≡ weight_of (put_of w) old + put w
+  pub got_is : (w : A → ℕ) → weight_of (got_of w) new ≡ weight_of (got_of w) old + got w
+
+module _ {A : Type 0} {old new : SeatInfo (Mark A)} where
+  -- a call adds what its own marks weigh, where the refused ones before it weigh nothing
+  call_weighs : {R : Type 0} {kinds_of : R → List (Kind A)} {size : ℕ} {kinds : List (Kind A)} (put got : (A → ℕ) → ℕ) → MakesAtLast kinds_of size kinds old new
+      → ((w : A → ℕ) (name : ℕ) (r : R) → count (put_of w) (made_by name (kinds_of r)) ≡ 0) → ((w : A → ℕ) (name : ℕ) (r : R) → count (got_of w) (made_by name (kinds_of r)) ≡ 0)
+      → ((w : A → ℕ) → count (put_of w) (made_by old.name kinds) ≡ put w) → ((w : A → ℕ) → count (got_of w) (made_by old.name kinds) ≡ got w) → Weighs put got old new
+  call_weighs {kinds_of = kinds_of} put got t none_put none_got p g = record {
+    name = ap (λ (s : SeatInfo (Mark A)). s.name) t.makes.same_seat;
+    stint = ap (λ (s : SeatInfo (Mark A)). s.stint) t.makes.same_seat;
+    put_is = λ w. omega (arith, count_more (put_of w) kinds_of (none_put w) t, p w);
+    got_is = λ w. omega (arith, count_more (got_of w) kinds_of (none_got w) t, g w);
+  }
+
+  -- a call after refused insertions
+  after_full : {size : ℕ} {kinds : List (Kind A)} (put got : (A → ℕ) → ℕ) → MakesAtLast kinds_not_in size kinds old new
+      → ((w : A → ℕ) → count (put_of w) (made_by old.name kinds) ≡ put w) → ((w : A → ℕ) → count (got_of w) (made_by old.name kinds) ≡ got w) → Weighs put got old new
+  after_full put got t p g = call_weighs put got t (λ w. none_in (put_of w) refl) (λ w. none_in (got_of w) refl) p g
+
+  -- a call after refused deletions
+  after_empty : {size : ℕ} {kinds : List (Kind A)} (put got : (A → ℕ) → ℕ) → MakesAtLast kinds_not_out size kinds old new
+      → ((w : A → ℕ) → count (put_of w) (made_by old.name kinds) ≡ put w) → ((w : A → ℕ) → count (got_of w) (made_by old.name kinds) ≡ got w) → Weighs put got old new
+  after_empty put got t p g = call_weighs put got t (λ w. none_out (put_of w) refl) (λ w. none_out (got_of w) refl) p g
+
+  -- an insertion puts its item in, whatever was refused before
+  pub insertion_weighs : {size k : ℕ} {x : A} → MakesAtLast kinds_not_in size (kinds_in k x) old new → Weighs (λ w. w x) (λ w. 0) old new
+  insertion_weighs {x = x} t = after_full (λ w. w x) (λ w. 0) t (λ w. omega arith) (λ w. refl)
+
+  -- a deletion gets its item out, whatever was refused before
+  pub deletion_weighs : {size k : ℕ} {x : A} → MakesAtLast kinds_not_out size (kinds_out k x) old new → Weighs (λ w. 0) (λ w. w x) old new
+  deletion_weighs {x = x} t = after_empty (λ w. 0) (λ w. w x) t (λ w. refl) (λ w. omega arith)
+
+  -- a call of a worn seat adds nothing
+  pub worn_weighs : IsWorn old new → Weighs (λ w. 0) (λ w. 0) old new
+  worn_weighs worn = record {
+    name = ap (λ (s : SeatInfo (Mark A)). s.name) worn.unchanged;
+    stint = ap (λ (s : SeatInfo (Mark A)). s.stint) worn.unchanged;
+    put_is = λ w. ap (weight_of (put_of w)) worn.unchanged ∙ omega arith;
+    got_is = λ w. ap (weight_of (got_of w)) worn.unchanged ∙ omega arith;
+  }
+
+  -- nor does a shut
+  pub shut_weighs : (size : ℕ) (first : Bool) → ShutsAs size first old new → Weighs (λ w. 0) (λ w. 0) old new
+  shut_weighs size true s = after_full {size = size} {kinds = Close ∷ []} (λ w. 0) (λ w. 0) (at_once kinds_not_in s.0) (λ w. refl) (λ w. refl)
+  shut_weighs size false s = after_full {size = size} {kinds = Close ∷ []} (λ w. 0) (λ w. 0) (at_once kinds_not_in s.0) (λ w. refl) (λ w. refl)
+
+  -- nor an insertion that was refused at last
+  no_insertion_weighs : {size : ℕ} (r : RefusedInsertion) → MakesAtLast kinds_not_in size (kinds_not_in r) old new → Weighs (λ w. 0) (λ w. 0) old new
+  no_insertion_weighs r t = after_full (λ w. 0) (λ w. 0) t (λ w. none_in (put_of w) refl old.name r) (λ w. none_in (got_of w) refl old.name r)
+
+  -- nor a refused `insert`
+  pub refused_insert_weighs : (size : ℕ) (x : A) (fault : InsertFault A) → RefusesInsertion size x old new fault → Weighs (λ w. 0) (λ w. 0) old new
+  refused_insert_weighs size x (insertion.Worn y) r = worn_weighs r.1
+  refused_insert_weighs size x (insertion.Closed y) r = let is = refused_closed r.2 in no_insertion_weighs is.refusal (at_once kinds_not_in is.makes)
+  refused_insert_weighs size x (insertion.Full upper y) r = let is = refused_full r.2 in no_insertion_weighs is.refusal (at_once kinds_not_in is.makes)
+
+  -- nor a refused `wait_insert`
+  pub refused_wait_insert_weighs : (size : ℕ) (x : A) (fault : InsertFault A) → RefusesWaitingInsertion size x old new fault → Weighs (λ w. 0) (λ w. 0) old new
+  refused_wait_insert_weighs size x (insertion.Worn y) r = worn_weighs r.1
+  refused_wait_insert_weighs size x (insertion.Closed y) r = no_insertion_weighs r.1.closed r.1.tries
+  refused_wait_insert_weighs size x (insertion.Full upper y) r = absurd r
+
+  -- nor a refused `delete`
+  pub refused_delete_weighs : (size : ℕ) (fault : DeleteFault) → RefusesDeletion size old new fault → Weighs (λ w. 0) (λ w. 0) old new
+  refused_delete_weighs size deletion.Worn r = worn_weighs r
+  refused_delete_weighs size (deletion.Empty lower) r =
+      let is = refused_empty r.1 in
+      after_empty (λ w. 0) (λ w. 0) (at_once kinds_not_out is.makes) (λ w. none_out (put_of w) refl old.name is.refusal) (λ w. none_out (got_of w) refl old.name is.refusal)
+
+-- ---- tallies
+
+module _ {A : Type 0} (v : Kind A → ℕ) where
+  -- a weight of marks is a sum over them
+  count_sums : (h : List (Mark A)) → count v h ≡ sum_by (λ (m : Mark A). v m.kind) h
+  count_sums [] = refl
+  count_sums (m ∷ h) = omega (arith, count_sums h, sum_by-cons (λ (m : Mark A). v m.kind) m h)
+
+  -- the tally of one seat weighs what the seat's marks do
+  pub one_weighs : (s : SeatInfo (Mark A)) {t : TallyInfo (Mark A)} → t ≡ tally_of s → weight_in v t ≡ weight_of v s
+  one_weighs s one = ap (weight_in v) one ∙ ap (count v) (mine_one seat_of s.name s.seen)
+
+  -- a join of a seat with a new name adds what the seat's marks weigh
+  pub join_weighs : {size : ℕ} {t both : TallyInfo (Mark A)} {s : SeatInfo (Mark A)} → IsJoined (queue_rules size) t s both → (In s.name t.names → ⊥) → weight_in v both ≡ weight_in v t + weight_of v s
+  join_weighs {t = t} {both = both} {s = s} j new =
+      let sums = mine_joined seat_of (λ (m : Mark A). v m.kind) t.names s.name t.seen s.seen both.seen new j.of_tally j.of_seat in
+      let names = ap (λ (ns : List ℕ). count v (mine seat_of ns both.seen)) j.names in
+      omega (arith, names, sums, count_sums (mine seat_of (t.names ++ s.name ∷ []) both.seen), count_sums (mine seat_of t.names t.seen), count_sums (mine_of seat_of s))
+
+  -- the tally of two seats
+  pub pair_weighs : {size : ℕ} (a : SeatInfo (Mark A)) {b : SeatInfo (Mark A)} {t both : TallyInfo (Mark A)} → t ≡ tally_of a → IsJoined (queue_rules size) t b both → b.name ≢ a.name → weight_in v both ≡ weight_of v a + weight_of v b
+  pair_weighs a {b} one j apart =
+      let new : In b.name (a.name ∷ []) → ⊥ = λ i. elim i [ inl same ↦ apart same | inr none ↦ absurd none ] in
+      omega (arith, one_weighs a one, join_weighs j (subst (λ (x : TallyInfo (Mark A)). In b.name x.names → ⊥) (sym one) new))
+
+module _ {A : Type 0} (w : A → ℕ) (t : TallyInfo (Mark A)) (whole : mine seat_of t.names t.seen ≡ t.seen) (weighs : count (put_of w) t.seen ≡ count (got_of w) t.seen + sum_by w (contents t.seen)) where
+  -- what the seats of a whole tally put in they got out, or it is left
+  pub whole_weighs : weight_in (put_of w) t ≡ weight_in (got_of w) t + sum_by w (contents t.seen)
+  whole_weighs = omega (arith, ap (count (put_of w)) whole, ap (count (got_of w)) whole, weighs)
+
+  -- where nothing is left they got all of it out
+  pub all_out : contents t.seen ≡ [] → weight_in (put_of w) t ≡ weight_in (got_of w) t
+  all_out none =
+      let left : sum_by w (contents t.seen) ≡ 0 = ap (sum_by w) none in
+      omega (arith, whole_weighs, left)
