@@ -1,7 +1,6 @@
 -- What downs and ups leave of the invariant of a seat.
-use Rattle.std.proofs.Common.{◌≡◌, ℕ, ◌+◌, ◌<◌, true, false, List, [], ◌∷◌, ◌++◌, refl, ap, sym, ◌∙◌, subst, arith}
+use Rattle.std.proofs.Common.{◌≡◌, ℕ, ◌+◌, ◌<◌, true, false, List, [], refl, ap, sym, ◌∙◌, subst, arith}
 use Rattle.std.specs.Prelude.{ℤ, pos, int_lt, Option}
-use Rattle.std.specs.List.{flat_map}
 use Rattle.fak_model.specs.declared.credit.CreditKind.{CreditKind}
 use Rattle.fak_model.specs.declared.credit.CreditKind.TheVariants.{Debit, Credit}
 use Rattle.fak_model.specs.declared.credit.CreditMark.{CreditMark}
@@ -14,43 +13,11 @@ use Rattle.fak_model.proofs.QueueBackwards.{count_append}
 use Rattle.fak_count.specs.Credits.{CreditInfo, MakesCall}
 use Rattle.fak_queue.specs.declared.state.SeatState.TheVariants.{Idle}
 use Rattle.fak_queue.specs.Queues.{QueueInfo, Makes, made_by, seat_of, drawn_by, state_of}
-use Rattle.fak_queue.specs.Retries.{RefusedInsertion, NotIn, WithdrawnIn, ClosedIn, WithdrawnLate, kinds_not_in, RefusedDeletion, NotOut, WithdrawnOut, kinds_not_out, kinds_in, kinds_out, InsertsAtLast, DeletesAtLast}
+use Rattle.fak_queue.specs.Retries.{kinds_not_in, kinds_not_out, kinds_in, kinds_out, InsertsAtLast, DeletesAtLast}
 use Rattle.fak_sem.specs.Grants.{weight_from, of_name, passes, parks, wakes}
 use Rattle.fak_sem.specs.Semaphores.{SemId, SemInfo, SemSeatInfo, IsSemSeat, sem_seat, sem_info, one_if_some, one_if_none, CountsDown, CountsUp}
-use Rattle.fak_queue.proofs.AfterRefusals.{made_by_append}
+use Rattle.fak_queue.proofs.Weighing.{none_in, none_out, count_at_last}
 use Rattle.fak_sem.proofs.Weights.{weight-call, weights-calls}
-
--- ---- how often kinds stand among the marks of refused calls and of a granted one
-
-count_refused : {T R : Type 0} (w : Kind T → ℕ) (kinds_of : R → List (Kind T)) (name : ℕ) → ((r : R) → count w (made_by name (kinds_of r)) ≡ 0) → (refused : List R) → count w (made_by name (flat_map kinds_of refused)) ≡ 0
-count_refused w kinds_of name none [] = refl
-count_refused w kinds_of name none (r ∷ rs) =
-    ap (count w) (made_by_append name (kinds_of r) (flat_map kinds_of rs)) ∙ (count_append w (made_by name (kinds_of r)) (made_by name (flat_map kinds_of rs)) ∙ omega (arith, none r, count_refused w kinds_of name none rs))
-
-count_at_last : {T R : Type 0} (w : Kind T → ℕ) (kinds_of : R → List (Kind T)) (name : ℕ) → ((r : R) → count w (made_by name (kinds_of r)) ≡ 0) → (refused : List R) (kinds : List (Kind T))
-    → count w (made_by name (flat_map kinds_of refused ++ kinds)) ≡ count w (made_by name kinds)
-count_at_last w kinds_of name none refused kinds =
-    ap (count w) (made_by_append name (flat_map kinds_of refused) kinds) ∙ (count_append w (made_by name (flat_map kinds_of refused)) (made_by name kinds) ∙ omega (arith, count_refused w kinds_of name none refused))
-
-puts_not_in : (T : Type 0) (name : ℕ) (r : RefusedInsertion) → count puts (made_by name (kinds_not_in {T = T} r)) ≡ 0
-puts_not_in T name NotIn = refl
-puts_not_in T name WithdrawnIn = refl
-puts_not_in T name ClosedIn = refl
-puts_not_in T name WithdrawnLate = refl
-
-gots_not_in : (T : Type 0) (name : ℕ) (r : RefusedInsertion) → count gots (made_by name (kinds_not_in {T = T} r)) ≡ 0
-gots_not_in T name NotIn = refl
-gots_not_in T name WithdrawnIn = refl
-gots_not_in T name ClosedIn = refl
-gots_not_in T name WithdrawnLate = refl
-
-puts_not_out : (T : Type 0) (name : ℕ) (r : RefusedDeletion) → count puts (made_by name (kinds_not_out {T = T} r)) ≡ 0
-puts_not_out T name NotOut = refl
-puts_not_out T name WithdrawnOut = refl
-
-gots_not_out : (T : Type 0) (name : ℕ) (r : RefusedDeletion) → count gots (made_by name (kinds_not_out {T = T} r)) ≡ 0
-gots_not_out T name NotOut = refl
-gots_not_out T name WithdrawnOut = refl
 
 -- ---- a seat and its semaphore
 
@@ -127,15 +94,15 @@ module _ {T : Type 0} {start : ℕ} {credit credit' : SeatInfo CreditMark} {queu
   pub seat_parked : {size : ℕ} {who : T} {queue' : SeatInfo (Mark T)} → InsertsAtLast size who queue queue' → state_of queue' ≡ Idle → parks kind found ≡ 1 → wakes kind found ≡ 0 → IsSemSeat start credit' queue'
   seat_parked {size} {who} made idle one none =
       seat_queued _ made.1.makes idle
-      (count_at_last puts kinds_not_in queue.name (puts_not_in T queue.name) made.1.refused (kinds_in made.0 who) ∙ omega (arith, one))
-      (count_at_last gots kinds_not_in queue.name (gots_not_in T queue.name) made.1.refused (kinds_in made.0 who) ∙ omega (arith, none))
+      (count_at_last puts kinds_not_in (none_in puts refl) queue.name made.1.refused (kinds_in made.0 who) ∙ omega (arith, one))
+      (count_at_last gots kinds_not_in (none_in gots refl) queue.name made.1.refused (kinds_in made.0 who) ∙ omega (arith, none))
 
   -- an item was taken off the wait queue
   pub seat_woken : {size : ℕ} {who : T} {queue' : SeatInfo (Mark T)} → DeletesAtLast size who queue queue' → state_of queue' ≡ Idle → parks kind found ≡ 0 → wakes kind found ≡ 1 → IsSemSeat start credit' queue'
   seat_woken {size} {who} made idle none one =
       seat_queued _ made.1.makes idle
-      (count_at_last puts kinds_not_out queue.name (puts_not_out T queue.name) made.1.refused (kinds_out made.0 who) ∙ omega (arith, none))
-      (count_at_last gots kinds_not_out queue.name (gots_not_out T queue.name) made.1.refused (kinds_out made.0 who) ∙ omega (arith, one))
+      (count_at_last puts kinds_not_out (none_out puts refl) queue.name made.1.refused (kinds_out made.0 who) ∙ omega (arith, none))
+      (count_at_last gots kinds_not_out (none_out gots refl) queue.name made.1.refused (kinds_out made.0 who) ∙ omega (arith, one))
 
 -- ---- the tests of downs and ups
 
