@@ -2,8 +2,8 @@ use Rattle.std.proofs.Common.{◌≡◌, [], rules, subst, sym, ◌∙◌}
 use Rattle.fak_model.specs.Calls.{ObjectId}
 use Rattle.fak_model.specs.Queue.{contents}
 use Rattle.fak_model.specs.Seats.{IsWhole}
+use Rattle.fak_queue.proofs.Weighing.{all_out}
 use Rattle.pool_of_workers.specs.Counts.{leaps}
-use Rattle.pool_of_workers.proofs.Counting.{all_out}
 use Rattle.pool_of_workers.proofs.pool.is_done.Goals as goal
 
 pub close-requires-clause-whole : goal.close-requires-clause-whole
@@ -13,4 +13,4 @@ close-requires-clause-whole c =
 pub returns : goal.returns
 returns c = λ none.
     let left : contents c.args.tally.seen ≡ [] = sym c.close.ensures.rest ∙ search (rules, c.next.ensures, c.is_none.ensures, none) in
-    all_out c.args.tally (c.a_queue_weighs_what_was_put.ensures.weighs c.args.queue.size leaps c.args.tally.seen c.close.ensures.lawful) (c.is_whole-whole.ensures.mine (search (rules, c.if-not-whole.false))) left
+    all_out leaps c.args.tally (c.is_whole-whole.ensures.mine (search (rules, c.if-not-whole.false))) (c.a_queue_weighs_what_was_put.ensures.weighs c.args.queue.size leaps c.args.tally.seen c.close.ensures.lawful) left
