@@ -1,9 +1,7 @@
-use Rattle.std.proofs.Common.{ℕ, rules, subst, sym, ◌∙◌}
-use Rattle.fak_model.specs.Calls.{IsJoined}
-use Rattle.fak_model.specs.Queue.{queue_rules}
+use Rattle.std.proofs.Common.{ℕ, ap, rules, subst, sym, ◌∙◌}
 use Rattle.fak_model.specs.Seats.{IsWhole}
 use Rattle.fak_queue.specs.Queues.{size_of}
-use Rattle.fak_sem.specs.Semaphores.{SemId, SemTallyInfo, queue_part, queue_tally, seats_of}
+use Rattle.fak_sem.specs.Semaphores.{SemId, queue_part, queue_tally, seats_of}
 use Rattle.producers_and_consumers.specs.declared.channel.Buffer.{Buffer}
 use Rattle.producers_and_consumers.proofs.Counting.{all_out}
 use Rattle.producers_and_consumers.proofs.opening.gate_is_empty.Goals as goal
@@ -15,6 +13,5 @@ close-requires-clause-whole c =
 pub returns-in-None : goal.returns-in-None
 returns-in-None c = λ yes.
     let tally = c.join-tally.result in
-    let joined = subst (λ (t : SemTallyInfo Buffer). IsJoined (queue_rules c.args.gate.size) (queue_tally t) (queue_part c.args.b) (queue_tally tally)) c.of.ensures.tally c.join-tally.ensures.joined.queue in
-    all_out (queue_part c.args.a) (queue_part c.args.b) (queue_tally tally) joined c.requires.apart (c.is_whole-whole.ensures.queue (search (rules, c.if-not-whole.false)))
+    all_out (queue_part c.args.a) (ap queue_tally c.of.ensures.tally) c.join-tally.ensures.joined.queue c.requires.apart (c.is_whole-whole.ensures.queue (search (rules, c.if-not-whole.false)))
     (λ (w : Buffer → ℕ). c.a_queue_weighs_what_was_put.ensures.weighs (size_of tally.object.queue) w tally.queue_seen c.is_whole-whole.ensures.lawful.1) (sym c.close.ensures.rest ∙ c.in-None.ensures.0)

@@ -1,7 +1,5 @@
 use Rattle.std.proofs.Common.{ℕ, rules, subst, sym, ◌∙◌}
-use Rattle.fak_model.specs.declared.queue.Mark.{Mark}
-use Rattle.fak_model.specs.Calls.{IsJoined, ObjectId, TallyInfo}
-use Rattle.fak_model.specs.Queue.{queue_rules}
+use Rattle.fak_model.specs.Calls.{ObjectId}
 use Rattle.fak_model.specs.Seats.{IsWhole}
 use Rattle.producers_and_consumers.specs.declared.channel.Buffer.{Buffer}
 use Rattle.producers_and_consumers.proofs.Counting.{all_out}
@@ -14,6 +12,5 @@ close-requires-clause-whole c =
 pub returns-in-None : goal.returns-in-None
 returns-in-None c = λ yes.
     let tally = c.join-tally.result in
-    let joined = subst (λ (t : TallyInfo (Mark Buffer)). IsJoined (queue_rules c.args.queue.size) t c.args.b tally) c.of.ensures.tally c.join-tally.ensures.joined in
-    all_out c.args.a c.args.b tally joined c.requires.apart (c.is_whole-whole.ensures.mine (search (rules, c.if-not-whole.false)))
+    all_out c.args.a c.of.ensures.tally c.join-tally.ensures.joined c.requires.apart (c.is_whole-whole.ensures.mine (search (rules, c.if-not-whole.false)))
     (λ (w : Buffer → ℕ). c.a_queue_weighs_what_was_put.ensures.weighs c.args.queue.size w tally.seen c.close.ensures.lawful) (sym c.close.ensures.rest ∙ c.in-None.ensures.0)
