@@ -1,37 +1,35 @@
 //! The command `run`: a script of processes, and the report of its run.
 
 ghost use Rattle.std.specs.Prelude.{◌≡◌, ◌⊎◌, IfErr, IfOk};
-ghost use Rattle.fak_kernel.specs.Report.{ListSchedulerReports};
-ghost use Rattle.fak_kernel.specs.RunReports.{RunReports};
-ghost use Rattle.fak_kernel.specs.Views.{report_of};
+ghost use Rattle.fak_kernel.specs.ReportText.{ListSchedulerPrints, RunPrints};
 ghost use Rattle.fak.specs.Answers.{AreSeveral, GivesAnswer, IsFaultOfRun, IsReply};
 ghost use Rattle.fak.specs.declared.command.Command.TheVariants.{Run};
 ghost use Rattle.fak.specs.declared.fault.MainFault.TheVariants.{Memory};
 
 use crate::answer::Answer;
 use crate::fault::MainFault;
-use fak_kernel::{FreeGate, Report, report_text, run, run_one};
+use fak_kernel::{FreeGate, Printed, run_one_to_text, run_to_text};
 use fak_text::{Script, read_script};
 use std::alloc::Global;
 use std::marker::Sync;
 use std::sync::Wait;
 use std::thread::Threads;
 
-/// The report of a script on so many processors.
-fn report_on<R: Threads + Wait + Sync>(
+/// What a run of a script on so many processors prints.
+fn printed_on<R: Threads + Wait + Sync>(
     rt: &R,
     alloc: Global,
     script: &Script,
     processors: u64,
-) -> Result<Report, MainFault>
-    ensures one { processors ≡ 1 → IfOk result (λ report. ListSchedulerReports script.now (report_of report)) }
-    ensures any { IfOk result (λ report. RunReports script.now (report_of report)) }
+) -> Result<Printed, MainFault>
+    ensures one { processors ≡ 1 → IfOk result (λ printed. ListSchedulerPrints script.now printed.text.items printed.status) }
+    ensures any { IfOk result (λ printed. RunPrints script.now printed.text.items printed.status) }
     ensures in_range { IfOk result (λ _. (processors ≡ 1) ⊎ AreSeveral processors) }
     ensures fault { IfErr result (λ fault. (fault ≡ Memory) ⊎ IsFaultOfRun processors fault) }
 {
     match processors {
-        1 => Ok(run_one(rt, alloc, script)?),
-        _ => Ok(run(rt, alloc, script, processors, &FreeGate)?),
+        1 => Ok(run_one_to_text(rt, alloc, script)?),
+        _ => Ok(run_to_text(rt, alloc, script, processors, &FreeGate)?),
     }
 }
 
@@ -49,10 +47,6 @@ pub fn run_script<R: Threads + Wait + Sync>(
     ensures { GivesAnswer (IsReply (Run processors) input.now) result }
 {
     let script = read_script(alloc, input)?;
-    let report = report_on(rt, alloc, &script, processors)?;
-    let text = report_text(alloc, &report)?;
-    Ok(Answer {
-        status: report.exit_status(),
-        text,
-    })
+    let Printed { text, status } = printed_on(rt, alloc, &script, processors)?;
+    Ok(Answer { status, text })
 }

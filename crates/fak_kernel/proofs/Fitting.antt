@@ -1,7 +1,7 @@
 -- What is known of a process of a run, with one note more and with one less.
-use Rattle.std.proofs.Common.{◌≡◌, ℕ, ◌+◌, ◌≤◌, List, [], ◌∷◌, ◌++◌, length, arith, subst, ap, ◌∙◌}
-use Rattle.fak_text.specs.Script.{ScriptOf, StepOf, steps_of}
-use Rattle.fak_text.specs.Journal.{NoteOf, downed, spawned, Process, FitsFrom, StandsAt, Allows, after_note, births_of, child_count}
+use Rattle.std.proofs.Common.{◌≡◌, ℕ, ◌+◌, ◌≤◌, List, [], ◌∷◌, ◌++◌, length, arith, subst, ap, ◌∙◌, refl}
+use Rattle.fak_text.specs.Script.{ScriptOf, StepOf, say, steps_of}
+use Rattle.fak_text.specs.Journal.{NoteOf, downed, said, spawned, Process, FitsFrom, StandsAt, Allows, after_note, births_of, child_count}
 use Rattle.fak_text.proofs.Journals.{child_count-append, length-push, note_fits}
 use Rattle.fak_kernel.specs.Contexts.{IsContext, IsAsleep, unnoted}
 
@@ -14,6 +14,13 @@ pub IsContext-after_note : (script : ScriptOf) (children : ℕ) (p : Process) (s
 IsContext-after_note script children p step note known at ok = record {
   fits = note_fits script p step note known.fits at ok;
   children_are = omega (arith, known.children_are, child_count-append p.journal (note ∷ []));
+}
+
+-- the same where a text was said
+pub IsContext-said : (script : ScriptOf) (children : ℕ) (p : Process) (text : List ℕ) → IsContext script children p → StandsAt script p (say text) → IsContext script children (after_note p (said text))
+IsContext-said script children p text known at = record {
+  fits = note_fits script p (say text) (said text) known.fits at refl;
+  children_are = omega (arith, known.children_are, child_count-append p.journal (said text ∷ []));
 }
 
 -- a process has no more children than notes

@@ -3,6 +3,7 @@ pub mod Ranges
 pub mod Waiting
 pub mod Opening
 pub mod RowLemmas
+pub mod Told
 pub mod Ends
 pub mod Only
 pub mod OnlyQueues

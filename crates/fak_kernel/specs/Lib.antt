@@ -5,6 +5,7 @@ pub mod Contexts
 pub mod Report
 pub mod Views
 pub mod ReportText
+pub mod Told
 pub mod Examples
 pub mod Only
 pub mod OnlyQueues

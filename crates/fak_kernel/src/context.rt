@@ -1,8 +1,8 @@
 //! A process of a run, with its journal.
 
-ghost use Rattle.std.specs.Prelude.{◌≡◌, ℕ, ◌+◌, ◌<◌, ◌≤◌, nat_lt, [], ◌∷◌, ◌++◌, length, map, Option, None, IfOk, IfErr, IfSome, IfNone};
-ghost use Rattle.fak_text.specs.Script.{ScriptOf, StepOf, IsStepInRange, limits_of};
-ghost use Rattle.fak_text.specs.Journal.{Process, FitsScript, StandsAt, new_process, after_note, Allows, births_of, child_count};
+ghost use Rattle.std.specs.Prelude.{◌≡◌, ℕ, ◌+◌, ◌<◌, ◌≤◌, nat_lt, List, [], ◌∷◌, ◌++◌, length, map, Option, None, IfOk, IfErr, IfSome, IfNone};
+ghost use Rattle.fak_text.specs.Script.{ScriptOf, StepOf, IsStepInRange, limits_of, say};
+ghost use Rattle.fak_text.specs.Journal.{Process, FitsScript, StandsAt, new_process, after_note, Allows, births_of, child_count, said};
 ghost use Rattle.fak_text.specs.Views.{step_of, note_of};
 ghost use Rattle.std.specs.List.{list_any};
 ghost use Rattle.fak_kernel.specs.Ledger.{shuts_of};
@@ -33,7 +33,8 @@ impl Run for Brand {
     } };
 }
 
-/// A process of the run. Its journal fits the script of the run.
+/// A process of the run. Its journal fits the script of the run. Said texts are left out of the notes that it keeps: they
+/// are those of the script.
 #[derive(Drop)]
 pub struct Context<K: Run> {
     name: Vec<u64>,
@@ -47,9 +48,11 @@ pub struct Context<K: Run> {
 
 impl<K: Run> Model for Context<K> {
     ghost use Rattle.std.specs.Prelude.{map};
+    ghost use Rattle.fak_text.specs.Script.{steps_of};
     ghost use Rattle.fak_text.specs.Journal.{Process};
     ghost use Rattle.fak_text.specs.Views.{note_of};
     ghost use Rattle.fak_kernel.specs.Contexts.{IsContext};
+    ghost use Rattle.fak_kernel.specs.Told.{told_notes};
 
     ghost Value = { Process };
 
@@ -58,7 +61,7 @@ impl<K: Run> Model for Context<K> {
       program = c.program;
       slot = c.slot;
       position = c.position;
-      journal = map note_of c.journal.items;
+      journal = told_notes (steps_of K.script c.program) (map note_of c.journal.items);
     } };
 
     ghost invariant = { λ c. IsContext K.script c.children
@@ -67,7 +70,7 @@ impl<K: Run> Model for Context<K> {
           program = c.program;
           slot = c.slot;
           position = c.position;
-          journal = map note_of c.journal.items;
+          journal = told_notes (steps_of K.script c.program) (map note_of c.journal.items);
         }) };
 }
 
@@ -161,6 +164,19 @@ impl<K: Run> Context<K> {
         self.position += 1;
         Ok(())
     }
+
+    /// Goes on behind the step at the position, which said its text.
+    pub fn note_said(&mut self, alloc: Global) -> Result<(), Fault>
+        requires { (text : List ℕ) × StandsAt K.script self.old (say text) }
+        ensures noted { IfOk result (λ _. (text : List ℕ) → StandsAt K.script self.old (say text)
+            → self.new ≡ after_note self.old (said text)) }
+        ensures memory { IfErr result (λ fault. fault ≡ Fault.Memory) }
+    {
+        let _made = self.journal.as_slice();
+        self.journal.push(Note::Say(String::new(alloc)))?;
+        self.position += 1;
+        Ok(())
+    }
 }
 
 impl<K: Run> Context<K> {
@@ -180,11 +196,12 @@ impl<K: Run> Context<K> {
 }
 
 impl<K: Run> Context<K> {
+    ghost use Rattle.fak_kernel.specs.Told.{told_row};
     ghost use Rattle.fak_kernel.specs.Views.{row_of};
 
-    /// The row of a process that was left so.
+    /// The row of a process that was left so, with its said texts left out.
     pub fn into_row(self, outcome: Outcome) -> ProcessRow
-        ensures row { row_of result ≡ record { process = self; outcome = outcome } }
+        ensures row { told_row K.script (row_of result) ≡ record { process = self; outcome = outcome } }
         ensures fits { FitsScript K.script self }
     {
         let Context {

@@ -7,6 +7,7 @@ ghost use Rattle.fak_kernel.specs.RunReports.{RunReports};
 ghost use Rattle.fak_kernel.specs.Processors.{AreFor, IsReached, ProcessorOf, lists_of};
 ghost use Rattle.fak_kernel.specs.Opened.{AreSeated};
 ghost use Rattle.fak_kernel.specs.Begun.{IsLeftBy};
+ghost use Rattle.fak_kernel.specs.Told.{told_report};
 ghost use Rattle.fak_kernel.specs.Views.{report_of};
 
 pub mod closing;
@@ -24,8 +25,8 @@ use gathering::gather;
 use reporting::{report_with, rows_of};
 use std::alloc::Global;
 
-/// The report of a run that all processors have left, in the order of their numbers. One processor leaves the list
-/// scheduler's report.
+/// The report of a run that all processors have left, in the order of their numbers, with its said texts left out. One
+/// processor leaves the list scheduler's report.
 ///
 /// # Errors
 ///
@@ -41,11 +42,11 @@ pub(crate) fn report_of_run<K: Run>(
     requires seated { AreSeated (vec_len left) objects }
     requires some { 1 ≤ vec_len left }
     requires left { (i : ℕ) (d : ProcessorOf) → i < vec_len left → IsLeftBy K.script objects i (slice_index_or left.items i d) }
-    ensures general { IfOk result (λ report. RunReports K.script (report_of report)) }
+    ensures general { IfOk result (λ report. RunReports K.script (told_report K.script (report_of report))) }
     ensures alone { vec_len left ≡ 1 → ((d : ProcessorOf)
         → IsReached K.script (slice_index_or left.items 0 d) (turn_over (lists_of K.script (slice_index_or left.items 0 d)))
         × ((lists_of K.script (slice_index_or left.items 0 d)).ready ≡ [])) → (d : ProcessorOf)
-        → IfOk result (λ report. ListSchedulerReports K.script (report_of report)) }
+        → IfOk result (λ report. ListSchedulerReports K.script (told_report K.script (report_of report))) }
     ensures memory { IfErr result (λ fault. fault ≡ Fault.Memory) }
 {
     let all = gather(alloc, &objects, left)?;

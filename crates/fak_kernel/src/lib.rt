@@ -1,4 +1,4 @@
-//! Processes and processors: scripts are run, and what became of each process is reported.
+//! Processes and processors: scripts are run, and what became of each process is reported, as a `Report` or as its text.
 #![tactic(auto)]
 
 mod alarm;
@@ -15,12 +15,13 @@ mod run_threads;
 mod running;
 mod sleeper;
 mod slot;
+mod telling;
 mod text;
 
 pub use fak_model::FileEntry;
 pub use fault::Fault;
 pub use gate::{FreeGate, Gate};
 pub use report::{Outcome, ProcessRow, Report};
-pub use run_threads::run;
-pub use running::run_one;
-pub use text::report_text;
+pub use run_threads::{run, run_to_text};
+pub use running::{run_one, run_one_to_text};
+pub use text::{Printed, report_text};

@@ -1,8 +1,9 @@
-//! The rows of a report.
+//! The rows of a report, with their said texts left out.
 
 ghost use Rattle.std.specs.Prelude.{◌≡◌, ◌++◌, map, IfOk, IfErr};
 ghost use Rattle.std.specs.List.Sorted.{IsPermutation};
 ghost use Rattle.fak_kernel.specs.Report.{IsSortedByName, rows_with};
+ghost use Rattle.fak_kernel.specs.Told.{told_rows};
 ghost use Rattle.fak_kernel.specs.Views.{row_of};
 
 use crate::context::{Context, Run};
@@ -15,7 +16,8 @@ pub(crate) fn add_rows<K: Run>(
     contexts: Vec<Context<K>>,
     outcome: Outcome,
 ) -> Result<(), Fault>
-    ensures added { IfOk result (λ _. map row_of rows.new.items ≡ map row_of rows.old.items ++ rows_with outcome contexts.items) }
+    ensures added { IfOk result (λ _. told_rows K.script (map row_of rows.new.items) ≡ told_rows K.script
+        (map row_of rows.old.items) ++ rows_with outcome contexts.items) }
     ensures memory { IfErr result (λ fault. fault ≡ Fault.Memory) }
 {
     for context in contexts {

@@ -3,8 +3,10 @@
 ghost use Rattle.std.specs.Prelude.{◌≡◌, Err, IfOk, IfErr};
 ghost use Rattle.fak_kernel.specs.Opened.{AreProcessors};
 ghost use Rattle.fak_kernel.specs.Report.{ListSchedulerReports};
+ghost use Rattle.fak_kernel.specs.ReportText.{ListSchedulerPrints, RunPrints};
 ghost use Rattle.fak_kernel.specs.RunReports.{RunReports};
 ghost use Rattle.fak_kernel.specs.Threads.{IsOfRun};
+ghost use Rattle.fak_kernel.specs.Told.{told_report};
 ghost use Rattle.fak_kernel.specs.Views.{report_of};
 
 mod answering;
@@ -16,6 +18,8 @@ use crate::fault::Fault;
 use crate::gate::Gate;
 use crate::objects::opening::{Opened, open_run};
 use crate::report::Report;
+use crate::telling::told_in_full;
+use crate::text::{Printed, print_brief};
 use answering::all_left;
 use fak_text::Script;
 use leaving::leave_all;
@@ -47,6 +51,56 @@ pub fn run<G: Gate + Sync, R: Threads + Wait + Sync>(
     ensures outside { (AreProcessors processors → ⊥) → result ≡ Err Fault.BadProcessors }
     ensures fault { AreProcessors processors → IfErr result (λ fault. IsOfRun (G.refuses gate.now) fault) }
 {
+    let brief = match run_briefly(rt, alloc, script, processors, gate) {
+        Ok(brief) => brief,
+        Err(fault) => return Err(fault),
+    };
+    match told_in_full(alloc, script, brief) {
+        Ok(report) => Ok(report),
+        Err(fault) => Err(fault),
+    }
+}
+
+/// Runs a script as `run` does. The text is that of the report, which nowhere stands beside it.
+///
+/// # Errors
+///
+/// Those of `run`.
+pub fn run_to_text<G: Gate + Sync, R: Threads + Wait + Sync>(
+    rt: &R,
+    alloc: Global,
+    script: &Script,
+    processors: u64,
+    gate: &G,
+) -> Result<Printed, Fault>
+    ensures report { IfOk result (λ printed. RunPrints script.now printed.text.items printed.status) }
+    ensures one { processors ≡ 1 → IfOk result (λ printed. ListSchedulerPrints script.now printed.text.items printed.status) }
+    ensures outside { (AreProcessors processors → ⊥) → result ≡ Err Fault.BadProcessors }
+    ensures fault { AreProcessors processors → IfErr result (λ fault. IsOfRun (G.refuses gate.now) fault) }
+{
+    let brief = match run_briefly(rt, alloc, script, processors, gate) {
+        Ok(brief) => brief,
+        Err(fault) => return Err(fault),
+    };
+    match print_brief(alloc, script, &brief) {
+        Ok(printed) => Ok(printed),
+        Err(fault) => Err(fault),
+    }
+}
+
+/// The report, with its said texts left out.
+fn run_briefly<G: Gate + Sync, R: Threads + Wait + Sync>(
+    rt: &R,
+    alloc: Global,
+    script: &Script,
+    processors: u64,
+    gate: &G,
+) -> Result<Report, Fault>
+    ensures report { IfOk result (λ brief. RunReports script.now (told_report script.now (report_of brief))) }
+    ensures one { processors ≡ 1 → IfOk result (λ brief. ListSchedulerReports script.now (told_report script.now (report_of brief))) }
+    ensures outside { (AreProcessors processors → ⊥) → result ≡ Err Fault.BadProcessors }
+    ensures fault { AreProcessors processors → IfErr result (λ fault. IsOfRun (G.refuses gate.now) fault) }
+{
     if processors < 1 || processors > MOST_PROCESSORS {
         return Err(Fault::BadProcessors);
     }
@@ -63,8 +117,8 @@ fn run_as<K: Run + Send + Sync, G: Gate + Sync, R: Threads + Wait + Sync>(
 ) -> Result<Report, Fault>
     requires script { script.now ≡ K.script }
     requires processors { AreProcessors processors }
-    ensures report { IfOk result (λ report. RunReports K.script (report_of report)) }
-    ensures alone { processors ≡ 1 → IfOk result (λ report. ListSchedulerReports K.script (report_of report)) }
+    ensures report { IfOk result (λ report. RunReports K.script (told_report K.script (report_of report))) }
+    ensures alone { processors ≡ 1 → IfOk result (λ report. ListSchedulerReports K.script (told_report K.script (report_of report))) }
     ensures fault { IfErr result (λ fault. IsOfRun (G.refuses gate.now) fault) }
 {
     let Opened {

@@ -7,8 +7,10 @@ ghost use Rattle.fak_kernel.specs.ListScheduler.{turn_over};
 ghost use Rattle.fak_kernel.specs.Opened.{AreSeated};
 ghost use Rattle.fak_kernel.specs.Processors.{AreFor, IsReached, ProcessorOf, lists_of};
 ghost use Rattle.fak_kernel.specs.Report.{ListSchedulerReports};
+ghost use Rattle.fak_kernel.specs.ReportText.{ListSchedulerPrints, RunPrints};
 ghost use Rattle.fak_kernel.specs.RunReports.{RunReports};
 ghost use Rattle.fak_kernel.specs.Threads.{HasBegun, HasLeft};
+ghost use Rattle.fak_kernel.specs.Told.{told_report};
 ghost use Rattle.fak_kernel.specs.Views.{report_of};
 
 use crate::context::Run;
@@ -19,6 +21,8 @@ use crate::objects::Objects;
 use crate::objects::opening::{Opened, open_run};
 use crate::processor::Processor;
 use crate::report::Report;
+use crate::telling::told_in_full;
+use crate::text::{Printed, print_brief};
 use fak_text::Script;
 use std::alloc::Global;
 use std::marker::Brand;
@@ -34,13 +38,41 @@ pub fn run_one<R: Wait>(rt: &R, alloc: Global, script: &Script) -> Result<Report
     ensures conserved { IfOk result (λ report. RunReports script.now (report_of report)) }
     ensures fault { IfErr result (λ fault. IsOfStep fault) }
 {
-    run_alone::<Brand, R>(rt, alloc, script)
+    let brief = match run_alone::<Brand, R>(rt, alloc, script) {
+        Ok(brief) => brief,
+        Err(fault) => return Err(fault),
+    };
+    match told_in_full(alloc, script, brief) {
+        Ok(report) => Ok(report),
+        Err(fault) => Err(fault),
+    }
 }
 
+/// Runs a script on one processor. The text is that of the list scheduler's report, which nowhere stands beside it.
+///
+/// # Errors
+///
+/// `Worn`, where the script's stint is used up, and `Memory`.
+pub fn run_one_to_text<R: Wait>(rt: &R, alloc: Global, script: &Script) -> Result<Printed, Fault>
+    ensures report { IfOk result (λ printed. ListSchedulerPrints script.now printed.text.items printed.status) }
+    ensures conserved { IfOk result (λ printed. RunPrints script.now printed.text.items printed.status) }
+    ensures fault { IfErr result (λ fault. IsOfStep fault) }
+{
+    let brief = match run_alone::<Brand, R>(rt, alloc, script) {
+        Ok(brief) => brief,
+        Err(fault) => return Err(fault),
+    };
+    match print_brief(alloc, script, &brief) {
+        Ok(printed) => Ok(printed),
+        Err(fault) => Err(fault),
+    }
+}
+
+/// The report, with its said texts left out.
 fn run_alone<K: Run, R: Wait>(rt: &R, alloc: Global, script: &Script) -> Result<Report, Fault>
     requires { script.now ≡ K.script }
-    ensures report { IfOk result (λ report. ListSchedulerReports K.script (report_of report)) }
-    ensures conserved { IfOk result (λ report. RunReports K.script (report_of report)) }
+    ensures report { IfOk result (λ report. ListSchedulerReports K.script (told_report K.script (report_of report))) }
+    ensures conserved { IfOk result (λ report. RunReports K.script (told_report K.script (report_of report))) }
     ensures fault { IfErr result (λ fault. IsOfStep fault) }
 {
     let Opened {

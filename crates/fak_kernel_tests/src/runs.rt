@@ -4,7 +4,7 @@ use super::gates::{Holding, Meeting, Refusing};
 use super::judge::broken_promise;
 use super::scripting::drawn_script;
 use crate::Draws;
-use fak_kernel::{Fault, FreeGate, Gate, report_text, run};
+use fak_kernel::{Fault, FreeGate, Gate, report_text, run, run_to_text};
 use fak_text::{Script, read_script};
 use std::alloc::Global;
 use std::marker::Sync;
@@ -138,6 +138,21 @@ fn known_reports_on_1_to_8(rt: HostRuntime) -> Result<(), Fail> {
             "{processors}"
         );
     }
+    Ok(())
+}
+
+#[test]
+fn known_texts_on_1_to_8(rt: HostRuntime) -> Result<(), Fail> {
+    let ping_pong = script_of(rt.alloc(), PING_PONG)?;
+    for processors in 1..9u64 {
+        let printed = run_to_text(&rt, rt.alloc(), &ping_pong, processors, &FreeGate)
+            .ok()
+            .ok_or("a text")?;
+        assert_eq!(rt; printed.text.as_slice(), PING_PONG_REPORT.as_bytes());
+        assert_eq!(rt; printed.status, 0);
+    }
+    let refused = run_to_text(&rt, rt.alloc(), &ping_pong, 9, &FreeGate);
+    assert_eq!(rt; refused.err(), Some(Fault::BadProcessors));
     Ok(())
 }
 

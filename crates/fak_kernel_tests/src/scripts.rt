@@ -1,6 +1,6 @@
 //! Scripts whose reports are known.
 
-use fak_kernel::{Fault, Outcome, Report, report_text, run_one};
+use fak_kernel::{Fault, Outcome, Report, report_text, run_one, run_one_to_text};
 use fak_text::read_script;
 use std::alloc::Global;
 use std::sync::Wait;
@@ -15,10 +15,17 @@ fn report_of<R: Wait>(rt: &R, alloc: Global, script: &str) -> Result<Report, Fai
     Ok(report)
 }
 
-/// The text of that report, and its exit status.
+/// The text of that report, and its exit status, which are the same where the text alone is asked for.
 fn answer<R: Wait>(rt: &R, alloc: Global, script: &str) -> Result<(Vec<u8>, u8), Fail> {
     let report = report_of(rt, alloc, script)?;
     let text = report_text(alloc, &report).ok().ok_or("a text")?;
+    let script = read_script(alloc, script.as_bytes())
+        .ok()
+        .ok_or("a script")?;
+    let printed = run_one_to_text(rt, alloc, &script).ok().ok_or("a text")?;
+    if printed.text != text || printed.status != report.exit_status() {
+        return Err(Fail::from("the same text"));
+    }
     Ok((text, report.exit_status()))
 }
 

@@ -1,4 +1,4 @@
-//! The report of what all processors have left.
+//! The report of what all processors have left, with its said texts left out.
 
 ghost use Rattle.std.specs.Prelude.{◌≡◌, ◌≤◌, ◌-◌, nat_lt, length, map, IfOk, IfErr};
 ghost use Rattle.std.specs.List.{list_any, sum_by};
@@ -7,6 +7,7 @@ ghost use Rattle.fak_kernel.specs.Report.{IsSortedByName, sleepers_outcome};
 ghost use Rattle.fak_kernel.specs.Ledger.{shuts_of};
 ghost use Rattle.fak_kernel.specs.Whole.{lines_of};
 ghost use Rattle.fak_kernel.specs.Closing.{rows_left, shut_lines};
+ghost use Rattle.fak_kernel.specs.Told.{told_rows};
 ghost use Rattle.fak_kernel.specs.Views.{report_of, row_of};
 
 use crate::context::{Context, Run};
@@ -52,8 +53,9 @@ pub(crate) fn rows_of<K: Run>(
     halted: Vec<Context<K>>,
     asleep: Vec<Context<K>>,
 ) -> Result<Vec<ProcessRow>, Fault>
-    ensures rows { IfOk result (λ rows. IsPermutation (rows_left ended.items halted.items asleep.items) (map row_of rows.items)) }
-    ensures sorted { IfOk result (λ rows. IsSortedByName (map row_of rows.items)) }
+    ensures rows { IfOk result (λ rows. IsPermutation (rows_left ended.items halted.items asleep.items)
+        (told_rows K.script (map row_of rows.items))) }
+    ensures sorted { IfOk result (λ rows. IsSortedByName (told_rows K.script (map row_of rows.items))) }
     ensures memory { IfErr result (λ fault. fault ≡ Fault.Memory) }
 {
     let outcome = outcome_of_sleepers(ended.as_slice(), halted.as_slice(), asleep.as_slice());

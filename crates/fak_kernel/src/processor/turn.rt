@@ -1,8 +1,8 @@
 //! The turn of the process that has the processor.
 
-ghost use Rattle.std.specs.Prelude.{◌≡◌, [], ◌∷◌, ◌++◌, ◌+◌, ◌<◌, ◌≤◌, ◌==◌, ◌||◌, false, IfOk, IfErr};
-ghost use Rattle.fak_text.specs.Script.{StepOf};
-ghost use Rattle.fak_text.specs.Journal.{Allows, FitsScript, StandsAt, after_note, child_count};
+ghost use Rattle.std.specs.Prelude.{◌≡◌, ℕ, List, [], ◌∷◌, ◌++◌, ◌+◌, ◌<◌, ◌≤◌, ◌==◌, ◌||◌, false, IfOk, IfErr};
+ghost use Rattle.fak_text.specs.Script.{StepOf, say};
+ghost use Rattle.fak_text.specs.Journal.{Allows, FitsScript, StandsAt, after_note, child_count, said};
 ghost use Rattle.fak_text.specs.Views.{note_of};
 ghost use Rattle.fak_kernel.specs.ListScheduler as lists;
 ghost use Rattle.fak_kernel.specs.Contexts.{HasStepsLeft};
@@ -125,6 +125,29 @@ impl<K: Run> Turn<K> {
             context,
             made: made + 1,
             has_yielded: yields,
+        })
+    }
+
+    /// Goes on after a step that said its text.
+    pub fn said(self, alloc: Global) -> Result<Turn<K>, Fault>
+        requires said { (text : List ℕ) × StandsAt K.script self.process (say text) }
+        requires left { HasStepsLeft K.script self }
+        ensures noted { IfOk result (λ t. (text : List ℕ) → StandsAt K.script self.process (say text)
+            → t ≡ record { process = after_note self.process (said text); made = self.made + 1; has_yielded = false }) }
+        ensures memory { IfErr result (λ fault. fault ≡ Fault.Memory) }
+        ensures fits { FitsScript K.script self.process }
+    {
+        let Turn {
+            mut context,
+            made,
+            has_yielded: _,
+        } = self;
+        let _slot = context.slot();
+        context.note_said(alloc)?;
+        Ok(Turn {
+            context,
+            made: made + 1,
+            has_yielded: false,
         })
     }
 

@@ -46,10 +46,7 @@ impl<K: Run> Processor<K> {
         ensures fault { IfErr result (λ fault. IsOfStep fault) }
     {
         match step {
-            Step::Say(text) => {
-                let text = text.clone()?;
-                return Ok(Some(turn.noted(Note::Say(text), false)?));
-            }
+            Step::Say(_) => return Ok(Some(turn.said(alloc)?)),
             Step::Yield => return Ok(Some(turn.noted(Note::Yield, true)?)),
             Step::Down(n) => return self.down(rt, objects, turn, *n),
             Step::Up(n) => return self.up(rt, objects, turn, *n),

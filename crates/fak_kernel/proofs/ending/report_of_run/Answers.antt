@@ -1,9 +1,9 @@
 use Rattle.std.proofs.Common.{length, ap, sym, arith}
-use Rattle.std.proofs.lemmas.List.{length-map}
 use Rattle.fak_text.specs.Script.{ScriptOf}
-use Rattle.fak_kernel.specs.Views.{row_of}
+use Rattle.fak_kernel.specs.Told.{told_report}
 use Rattle.fak_kernel.proofs.Reporting.{whole_each, whole_files, started_have_rows, run_reports_with}
 use Rattle.fak_kernel.proofs.ReportingAlone.{alone_reports}
+use Rattle.fak_kernel.proofs.Told.{length-told_rows}
 use Rattle.fak_kernel.proofs.ending.report_of_run.Goals as goal
 
 pub close-requires-clause-semaphores : goal.close-requires-clause-semaphores
@@ -15,14 +15,14 @@ close-requires-clause-files g c = let all = c.in_ok-all.ensures.gathered in whol
 pub report_with-requires : goal.report_with-requires
 report_with-requires g c =
     let rows = started_have_rows c.requires.made c.requires.seated c.in_ok-all.ensures.gathered c.in_ok-remains.ensures.closed c.in_ok-rows.ensures.rows in
-    omega (arith, rows, length-map c.in_ok-rows.rows.items row_of, ap (λ (s : ScriptOf). length s.start) c.requires.script)
+    omega (arith, rows, length-told_rows g.K.Run.script c.in_ok-rows.rows.items, ap (λ (s : ScriptOf). length s.start) c.requires.script)
 
 pub returns-clause-general : goal.returns-clause-general
 returns-clause-general g c =
     run_reports_with c.requires.made c.requires.seated c.in_ok-all.ensures.gathered c.in_ok-remains.ensures.closed c.in_ok-rows.ensures.rows
-    c.requires.script (sym (length-map c.in_ok-rows.rows.items row_of)) c.requires.some c.in_ok-rows.ensures.sorted c.in_ok-remains.ensures.entries c.report_with.ensures
+    c.requires.script (sym (length-told_rows g.K.Run.script c.in_ok-rows.rows.items)) c.requires.some c.in_ok-rows.ensures.sorted c.in_ok-remains.ensures.entries (ap (told_report g.K.Run.script) c.report_with.ensures)
 
 pub returns-clause-alone : goal.returns-clause-alone
 returns-clause-alone g c one reached d =
     alone_reports c.requires.made c.requires.seated c.in_ok-all.ensures.gathered c.in_ok-remains.ensures.closed (c.in_ok-all.ensures.alone one d) c.in_ok-rows.ensures.rows
-    c.requires.script (sym (length-map c.in_ok-rows.rows.items row_of)) (reached d).0 (reached d).1 c.in_ok-rows.ensures.sorted c.in_ok-remains.ensures.entries c.report_with.ensures
+    c.requires.script (sym (length-told_rows g.K.Run.script c.in_ok-rows.rows.items)) (reached d).0 (reached d).1 c.in_ok-rows.ensures.sorted c.in_ok-remains.ensures.entries (ap (told_report g.K.Run.script) c.report_with.ensures)

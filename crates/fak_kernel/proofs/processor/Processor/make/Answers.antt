@@ -9,14 +9,11 @@ use Rattle.fak_kernel.proofs.processor.Processor.make.Goals as goal
 pub returns-in-Say-clause-general : goal.returns-in-Say-clause-general
 returns-in-Say-clause-general g c =
     let x = c.args.turn.process in
-    let text = string_bytes c.in-Say.text in
-    let told = string_bytes c.in_ok-text-in-Say.text in
-    let next : StandsAt g.K.Run.script c.args.turn.process (say (string_bytes c.in-Say.text)) = rw c.in-Say.is at c.requires.next in
-    let same : string_bytes c.in_ok-text-in-Say.text ≡ string_bytes c.in-Say.text = search rules in
-    moves_to (after_note x (said told)) (ap (λ (t : lists.Turn). t.process) c.in_ok-noted-in-Say.ensures.noted) (moves_plain x (say text) (said told) (made_is x (say text) (said told) c.noted.ensures.fits next same) (plain_said text told) (gains_told _ x (say text) (said told) refl))
+    let next = rw c.in-Say.is at c.requires.next in
+    moves_to (after_note x (said _)) (ap (λ (t : lists.Turn). t.process) (c.in_ok-said-in-Say.ensures.noted _ next)) (moves_plain x (say _) (said _) (made_is x (say _) (said _) c.said.ensures.fits next refl) (plain_said _ _) (gains_told _ x (say _) (said _) refl))
 
 pub returns-in-Yield-clause-general : goal.returns-in-Yield-clause-general
 returns-in-Yield-clause-general g c =
     let x = c.args.turn.process in
     let next : StandsAt g.K.Run.script c.args.turn.process yield = rw c.in-Yield.is at c.requires.next in
-    moves_to (after_note x yielded) (ap (λ (t : lists.Turn). t.process) c.in_ok-noted-in-Yield.ensures.noted) (moves_plain x yield yielded (made_is x yield yielded c.noted-in-Yield.ensures.fits next tt) plain_yielded (gains_told _ x yield yielded refl))
+    moves_to (after_note x yielded) (ap (λ (t : lists.Turn). t.process) c.in_ok-noted-in-Yield.ensures.noted) (moves_plain x yield yielded (made_is x yield yielded c.noted.ensures.fits next tt) plain_yielded (gains_told _ x yield yielded refl))
