@@ -1,14 +1,12 @@
 //! The judge finds what is broken in reports that were changed.
 
+use super::examples::READER;
 use super::judge::broken_promise;
 use fak_kernel::{Outcome, Report, run_one};
 use fak_text::{Note, read_script};
 use std::alloc::Global;
 use std::sync::Wait;
 use std::test::Fail;
-
-const READER: &str = r#"{"version":1,"slots":2,"births":1,"quantum":4,"semaphores":[0],"files":1,
-"programs":[[["open",7],["open",7],["close",7],["stat",7],["spawn",1]],[["say","hi"]]],"start":[0]}"#;
 
 /// Two sleepers.
 const SLEEPERS: &str = r#"{"version":1,"slots":2,"births":0,"quantum":4,"semaphores":[0],"files":1,

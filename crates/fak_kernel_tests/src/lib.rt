@@ -8,6 +8,8 @@ mod draws;
 pub use draws::Draws;
 
 #[cfg(test)]
+mod examples;
+#[cfg(test)]
 mod gates;
 #[cfg(test)]
 mod judge;

@@ -1,5 +1,6 @@
 //! Scripts whose reports are known.
 
+use crate::examples::{READER, READER_REPORT};
 use fak_kernel::{Fault, Outcome, Report, report_text, run_one, run_one_to_text};
 use fak_text::read_script;
 use std::alloc::Global;
@@ -136,22 +137,8 @@ ended 0 stuck 0
 
 #[test]
 fn files_and_a_child(rt: HostRuntime) -> Result<(), Fail> {
-    let script = r#"{"version":1,"slots":2,"births":1,"quantum":4,"semaphores":[0],"files":1,
-"programs":[[["open",7],["open",7],["close",7],["stat",7],["spawn",1]],[["say","hi"]]],"start":[0]}"#;
-    let report = "process 0 program 0 slot 0 ended
-  open 7 entry 0
-  open 7 entry 0
-  close 7 entry 0
-  stat 7 uses 1
-  spawn 0.0
-process 0.0 program 1 slot 1 ended
-  say hi
-file 0 inode 7 uses 1
-births 1 of 1
-ended 2 stuck 0
-";
-    let (text, status) = answer(&rt, rt.alloc(), script)?;
-    assert_eq!(rt; text.as_slice(), report.as_bytes());
+    let (text, status) = answer(&rt, rt.alloc(), READER)?;
+    assert_eq!(rt; text.as_slice(), READER_REPORT.as_bytes());
     assert_eq!(rt; status, 0);
     Ok(())
 }
