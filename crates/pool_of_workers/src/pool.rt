@@ -1,11 +1,13 @@
 //! The pool: who puts jobs in, who takes them out, and how the seats are joined.
 
-ghost use Rattle.std.specs.Prelude.{◌≡◌, ◌+◌, ◌*◌, ◌<◌, ◌≤◌, ◌^◌, IfOk, IsTrue, vec_len};
+ghost use Rattle.std.specs.Prelude.{◌≡◌, ◌≢◌, ◌+◌, ◌*◌, ◌<◌, ◌≤◌, ◌^◌, Err, IfErr, IfOk, IsTrue, vec_len};
 ghost use Rattle.std.specs.List.{count_by};
 ghost use Rattle.std.specs.Thread.{IsSync};
 ghost use Rattle.fak_queue.specs.Queues.{IsIdleSeat};
 ghost use Rattle.pool_of_workers.specs.Leap.{is_leap};
 ghost use Rattle.pool_of_workers.specs.Counts.{AreFresh, AreJoined, Stands, got_in, put_in};
+ghost use Rattle.pool_of_workers.specs.Workers.{AreWorkers};
+ghost use Rattle.pool_of_workers.specs.declared.fault.Fault.TheVariants.{BadWorkers, Memory};
 
 use crate::calls::{put, take};
 use crate::fault::Fault;
@@ -151,9 +153,10 @@ fn open_pool(
     alloc: Global,
     workers: u64,
 ) -> Result<(Queue<Work>, Seat<Work>, Vec<Seat<Work>>), Fault>
-    requires { (0 < workers) × (workers ≤ 63) }
+    requires { AreWorkers workers }
     ensures seat { IfOk result (λ r. Stands r.0.object workers 0 0 r.1) }
     ensures others { IfOk result (λ r. (vec_len r.2 ≡ workers) × AreFresh r.0.object r.2.items) }
+    ensures fault { IfErr result (λ fault. fault ≡ Memory) }
 {
     let Ok((queue, mut seats)) = Queue::<Work>::open(alloc, CELLS, workers + 1, STINT) else {
         return Err(Fault::Memory);
@@ -175,7 +178,9 @@ pub fn leap_years<R: Threads + Wait + Sync>(
     years: &[u64],
     workers: u64,
 ) -> Result<u64, Fault>
-    ensures { IfOk result (λ n. n ≡ count_by is_leap years.now) }
+    ensures ok { IfOk result (λ n. n ≡ count_by is_leap years.now) }
+    ensures outside { (AreWorkers workers → ⊥) → result ≡ Err BadWorkers }
+    ensures fault { AreWorkers workers → IfErr result (λ fault. fault ≢ BadWorkers) }
 {
     if workers < 1 || workers > 63 {
         return Err(Fault::BadWorkers);
