@@ -1,28 +1,27 @@
 -- What processor 0 does before the threads start.
-use Rattle.std.proofs.Common.{◌≡◌, ℕ, zero, suc, ◌+◌, ◌-◌, ◌<◌, ◌≤◌, Bool, true, false, List, [], ◌∷◌, ◌++◌, length, take, drop, get_or, slice_index_or, slice_set, refl, ap, sym, ◌∙◌, subst, arith}
+use Rattle.std.proofs.Common.{◌≡◌, ℕ, zero, suc, ◌+◌, ◌-◌, ◌<◌, ◌≤◌, Bool, true, false, List, [], ◌∷◌, ◌++◌, length, map, take, drop, get_or, slice_index_or, slice_set, refl, ap, sym, ◌∙◌, subst, arith}
 use Rattle.std.proofs.lemmas.List.{length-take-le, map-append, get_or-set_same}
 use Rattle.fak_model.specs.declared.queue.Mark.{Mark}
-use Rattle.fak_model.specs.declared.credit.CreditKind.TheVariants.{Debit}
 use Rattle.fak_model.specs.Calls.{SeatInfo}
 use Rattle.fak_queue.specs.Retries.{kinds_in, kinds_out}
 use Rattle.fak_text.specs.Script.{ScriptOf}
-use Rattle.fak_text.specs.Journal.{Process, FitsScript, new_process}
+use Rattle.fak_text.specs.Journal.{Process, new_process}
 use Rattle.fak_kernel.specs.ListScheduler.{Lists, begun_from, enter_ready, first_lists, numbers_from, turn_over}
 use Rattle.fak_kernel.specs.Making.{AreLines}
 use Rattle.fak_kernel.specs.Ledger.{Balanced, Named, joined, named, nothing}
-use Rattle.fak_kernel.specs.Events.{empty, fills, halts, puts}
+use Rattle.fak_kernel.specs.Events.{empty, fills, puts}
 use Rattle.fak_kernel.specs.Whole.{begun_names}
 use Rattle.fak_kernel.specs.Processors.{ObjectsOf, ProcessorOf, AreFor, AreOf, GoesTo, HasNoSlot, IsAlone, IsReached, TakesSlot, lists_of}
-use Rattle.fak_kernel.specs.Moving.{Gains, GrowsAtLast, GrowsIn, GrowsShut, IsIdle, files_of}
+use Rattle.fak_kernel.specs.Moving.{Gains, GrowsAtLast, IsIdle, Moves, files_of}
 use Rattle.fak_kernel.specs.Opened.{AreSeated, fresh_all, fresh_processor}
 use Rattle.fak_kernel.specs.Joined.{no_seat}
 use Rattle.fak_kernel.specs.Begun.{Begins, Between, FindsNoSlot, FindsSlot, StartsOne, begins, empty_lists}
 use Rattle.fak_kernel.proofs.Joining.{balanced-joined}
-use Rattle.fak_kernel.proofs.Events.{balanced-beside, keeps_fills, keeps_puts, none_waits, quiet}
+use Rattle.fak_kernel.proofs.Events.{keeps_fills, none_waits, quiet}
 use Rattle.fak_kernel.proofs.Calls.{turning_more}
-use Rattle.fak_kernel.proofs.Moving.{gains_free, gains_none, gains_ready, gains_then, idle_none, idle_then}
+use Rattle.fak_kernel.proofs.Moving.{gains_free, gains_none, gains_then, idle_none, idle_then}
 use Rattle.fak_kernel.proofs.Gaining.{gains_as}
-use Rattle.fak_kernel.proofs.Acting.{keeps_idle, keeps_quiet, gains_halted, balanced_halted}
+use Rattle.fak_kernel.proofs.Acting.{keeps_idle}
 use Rattle.fak_kernel.proofs.Opening.{numbers_from-next}
 use Rattle.fak_kernel.proofs.Holding.{lines_none}
 use Rattle.fak_kernel.proofs.Looping.{keeps_name}
@@ -95,28 +94,12 @@ module _ {script : ScriptOf} where
     gains = gains_then (record nothing { free = x.refused }) (record nothing { free = kinds_out y.0 slot }) x.gains y.1;
   }
 
-  -- a process enters the ready queue, or halts
-  pub begins_entered : {o : ObjectsOf} (p : ProcessorOf) (made : AreFor script o) {x : Process} {s : SeatInfo (Mark Process)} {h : List Process} → h ≡ p.halted → GrowsIn o.ready.size x p.ready s → Begins script (x ∷ []) [] [] [] p (record p { ready = s; halted = h })
-  begins_entered p made {x} {s} {h} h_is g = let n = length script.semaphores in record {
-    ledger = joined (record nothing { ready = g.refused }) (puts g.ticket x);
-    balanced = balanced-joined script n (x ∷ []) (x ∷ []) [] (record nothing { ready = g.refused }) (puts g.ticket x) (balanced-beside (x ∷ []) (keeps_quiet n g.refused g.quiet)) (keeps_puts script n g.ticket x);
-    gains = subst (λ l. Gains script p (record p { ready = s; halted = l }) (record nothing { ready = g.refused ++ kinds_in g.ticket x })) (sym h_is) (gains_ready p (g.refused ++ kinds_in g.ticket x) made.ready g.grows);
-    first_are = refl;
-    begun_are = refl;
-  }
-
-  pub begins_halted : {o : ObjectsOf} (p : ProcessorOf) (made : AreFor script o) {x : Process} {s : SeatInfo (Mark Process)} {h : List Process} {q : ProcessorOf} → FitsScript script x → h ≡ p.halted ++ x ∷ [] → GrowsShut o.ready.size p.ready s
-      → Gains script (record p { ready = s; halted = h }) q (record nothing { busy = Debit ∷ [] }) → Begins script (x ∷ []) [] [] [] p q
-  begins_halted p made {x} fits h_is g debited = record {
-    ledger = joined (record nothing { ready = g.refused }) (halts g.late x);
-    balanced = balanced_halted (length script.semaphores) g.refused g.late x g.quiet fits;
-    gains = gains_halted p made h_is g debited;
-    first_are = refl;
-    begun_are = refl;
-  }
+  -- what moved began nothing
+  begins_moved : {before after : List Process} {p q : ProcessorOf} → Moves script before after p q → Begins script before after [] [] p q
+  begins_moved m = record { ledger = m.ledger; balanced = m.balanced; gains = m.gains; first_are = m.begins.1; begun_are = ap (map named) m.begins.0 }
 
   -- a process with this name gets a slot and goes on
-  pub begins_process : {p q r : ProcessorOf} {slot : ℕ} (i program : ℕ) (x : Process) → x ≡ new_process (i ∷ []) program slot → FindsSlot script slot p q → Begins script (x ∷ []) [] [] [] q r → Begins script [] [] [] ((i ∷ [], program) ∷ []) p r
+  pub begins_process : {p q r : ProcessorOf} {slot : ℕ} (i program : ℕ) (x : Process) → x ≡ new_process (i ∷ []) program slot → FindsSlot script slot p q → Moves script (x ∷ []) [] q r → Begins script [] [] [] ((i ∷ [], program) ∷ []) p r
   begins_process {p} {q} {r} {slot} i program x is found entered =
       let n = length script.semaphores in
       let started = new_process (i ∷ []) program slot in
@@ -128,7 +111,7 @@ module _ {script : ScriptOf} where
         first_are = refl;
         begun_are = refl;
       } in
-      begins_then got (subst (λ (y : Process). Begins script (y ∷ []) [] [] [] q r) is entered)
+      begins_then got (subst (λ (y : Process). Begins script (y ∷ []) [] [] [] q r) is (begins_moved entered))
 
   -- processor 0 between two turns, where it was new
   pub begun_between : (o : ObjectsOf) (stint : ℕ) (made : AreFor script o) {p : ProcessorOf} → AreOf o p → Begins script [] [] (numbers_from 0 script.slots) (begun_names 0 script.start) (fresh_processor o stint 0) p → Between script o 0 p

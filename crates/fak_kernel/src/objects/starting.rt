@@ -12,7 +12,7 @@ use crate::context::{Context, Run};
 use crate::fault::Fault;
 use crate::objects::Objects;
 use crate::processor::Processor;
-use crate::processor::entering::{enter, put};
+use crate::processor::entering::put;
 use crate::slot::Slot;
 use crossbeam_utils::Backoff;
 use fak_text::Script;
@@ -133,7 +133,7 @@ impl<K: Run> Processor<K> {
         name.push(number)?;
         let slot = self.take_first_slot(rt, objects)?;
         let context = Context::new(alloc, name, program, slot.number());
-        self.make_ready(rt, objects, context)?;
+        self.enter_ready(rt, objects, context)?;
         Ok(())
     }
 
@@ -156,34 +156,5 @@ impl<K: Run> Processor<K> {
             backoff.snooze();
         }
         unreachable!()
-    }
-
-    /// A process becomes ready, or halts where the ready queue is shut.
-    fn make_ready<R: Wait>(
-        &mut self,
-        rt: &R,
-        objects: &Objects<K>,
-        context: Context<K>,
-    ) -> Result<(), Fault>
-        requires objects { AreOf objects.now self.old }
-        requires made { AreFor K.script objects.now }
-        ensures objects { AreOf objects.now self.new }
-        ensures general { IfOk result (λ _. Begins K.script (context ∷ []) [] [] [] self.old self.new) }
-        ensures alone { IsAlone K.script self.old
-            → IfOk result (λ _. GoesTo K.script self.new (lists.enter_ready (lists_of K.script self.old) context)) }
-        ensures fault { IfErr result (λ fault. IsOfStep fault) }
-    {
-        // The slot is read for the proof alone: reading it tells that the context fits the script.
-        let _slot = context.slot();
-        self.halted.reserve(1)?;
-        match enter(&objects.ready, rt, &mut self.ready, context) {
-            Err(fault) => return Err(fault),
-            Ok(None) => return Ok(()),
-            Ok(Some(back)) => {
-                self.halted.push(back)?;
-                self.debit(objects)?;
-                return Ok(());
-            }
-        }
     }
 }

@@ -2,7 +2,7 @@ use Rattle.std.proofs.Common.{ap, sym, ◌∙◌, ◌≡◌, ◌++◌, ◌∷◌
 use Rattle.std.proofs.lemmas.List.{map-append, length-map}
 use Rattle.fak_text.specs.Script.{steps_of}
 use Rattle.fak_text.specs.Views.{note_of}
-use Rattle.fak_kernel.specs.Told.{told, told_notes}
+use Rattle.fak_kernel.specs.Told.{told_notes}
 use Rattle.fak_kernel.proofs.Fitting.{IsContext-after_note, children-position}
 use Rattle.fak_kernel.proofs.Told.{length-told, told-allowed, told-push}
 use Rattle.fak_kernel.proofs.context.Context.note.Goals as goal

@@ -1,5 +1,4 @@
-use Rattle.std.proofs.Common.{◌≡◌, ap, rules, refl}
-use Rattle.std.specs.Prelude.{string_bytes}
+use Rattle.std.proofs.Common.{ap, refl}
 use Rattle.fak_text.specs.Script.{say, yield}
 use Rattle.fak_text.specs.Journal.{StandsAt, after_note, said, yielded}
 use Rattle.fak_kernel.specs.ListScheduler as lists
