@@ -163,18 +163,9 @@ module _ (script : ScriptOf) (n : ℕ) where
     slots = quiet.slots;
     children = λ g. sym (ap (λ c. 0 + sum_by g c) (plain.childless p.name));
     new = quiet.new;
-    births = record {
-      ups = omega (arith, plain.births, plain.no_slots);
-      releases = omega (arith, plain.no_slots);
-      refusals = omega (arith, plain.no_births);
-      ones = quiet.births.ones;
-    };
+    births = record { ups = omega (arith, plain.births, plain.no_slots); releases = omega (arith, plain.no_slots); refusals = omega (arith, plain.no_births); ones = quiet.births.ones };
     busy = quiet.busy;
-    semaphores = record {
-      downs = λ s below. omega (arith, plain.downs s, none_waits n);
-      upped = λ s below. omega (arith, plain.ups s);
-      parked = quiet.semaphores.parked;
-    };
+    semaphores = record { downs = λ s below. omega (arith, plain.downs s, none_waits n); upped = λ s below. omega (arith, plain.ups s); parked = quiet.semaphores.parked };
     shutdown = record { shuts = omega (arith, plain.shuts); halts = quiet.shutdown.halts; no_stuck = quiet.shutdown.no_stuck };
     made = one_made _ is;
     rows = quiet.rows;
@@ -211,15 +202,8 @@ module _ (script : ScriptOf) (n : ℕ) where
     children = quiet.children;
     new = quiet.new;
     births = quiet.births;
-    busy = record {
-      credits = omega (arith, waiting_at (got_of (λ (q : Process). 1)) (kinds_in k p) s n below);
-      debits = omega (arith, waiting_at (put_of (λ (q : Process). 1)) (kinds_in k p) s n below);
-    };
-    semaphores = record {
-      downs = λ t lt. omega (arith, by_test (s == t), waiting_at (got_of (before_down script t)) (kinds_in k p) s n below);
-      upped = λ t lt. by_ups (s == t);
-      parked = λ t lt. by_parked t (s == t) refl;
-    };
+    busy = record { credits = omega (arith, waiting_at (got_of (λ (q : Process). 1)) (kinds_in k p) s n below); debits = omega (arith, waiting_at (put_of (λ (q : Process). 1)) (kinds_in k p) s n below) };
+    semaphores = record { downs = λ t lt. omega (arith, by_test (s == t), waiting_at (got_of (before_down script t)) (kinds_in k p) s n below); upped = λ t lt. by_ups (s == t); parked = λ t lt. by_parked t (s == t) refl };
     shutdown = quiet.shutdown;
     made = quiet.made;
     rows = quiet.rows;
@@ -268,10 +252,7 @@ module _ (script : ScriptOf) (n : ℕ) where
     children = λ g. refl;
     new = quiet.new;
     births = record { ups = omega arith; releases = omega arith; refusals = omega arith; ones = quiet.births.ones };
-    busy = record {
-      credits = omega (arith, waiting_at (got_of (λ (r : Process). 1)) (kinds_out k q) s n below);
-      debits = omega (arith, waiting_at (put_of (λ (r : Process). 1)) (kinds_out k q) s n below);
-    };
+    busy = record { credits = omega (arith, waiting_at (got_of (λ (r : Process). 1)) (kinds_out k q) s n below); debits = omega (arith, waiting_at (put_of (λ (r : Process). 1)) (kinds_out k q) s n below) };
     semaphores = record {
       downs = λ u lt. omega (arith, by_test (s == u), waiting_at (got_of (before_down script u)) (kinds_out k q) s n below, ap (its_down u) q_is.stands);
       upped = λ u lt. by_ups (s == u);
@@ -303,11 +284,7 @@ module _ (script : ScriptOf) (n : ℕ) where
     new = omega arith;
     births = record { ups = omega arith; releases = omega arith; refusals = omega arith; ones = omega arith };
     busy = record { credits = omega (arith, none_waits n); debits = quiet.busy.debits };
-    semaphores = record {
-      downs = λ t below. omega (arith, none_waits n);
-      upped = λ t below. omega arith;
-      parked = quiet.semaphores.parked;
-    };
+    semaphores = record { downs = λ t below. omega (arith, none_waits n); upped = λ t below. omega arith; parked = quiet.semaphores.parked };
     shutdown = record { shuts = omega arith; halts = quiet.shutdown.halts; no_stuck = quiet.shutdown.no_stuck };
     made = one_made _ is;
     rows = quiet.rows;
@@ -320,18 +297,9 @@ module _ (script : ScriptOf) (n : ℕ) where
     slots = quiet.slots;
     children = λ g. refl;
     new = quiet.new;
-    births = record {
-      ups = omega (arith, r.ups);
-      releases = omega (arith, r.releases);
-      refusals = omega (arith, r.refusals);
-      ones = r.others;
-    };
+    births = record { ups = omega (arith, r.ups); releases = omega (arith, r.releases); refusals = omega (arith, r.refusals); ones = r.others };
     busy = quiet.busy;
-    semaphores = record {
-      downs = λ t below. omega (arith, none_waits n);
-      upped = λ t below. omega arith;
-      parked = quiet.semaphores.parked;
-    };
+    semaphores = record { downs = λ t below. omega (arith, none_waits n); upped = λ t below. omega arith; parked = quiet.semaphores.parked };
     shutdown = record { shuts = omega arith; halts = quiet.shutdown.halts; no_stuck = quiet.shutdown.no_stuck };
     made = one_made _ is;
     rows = quiet.rows;
@@ -346,11 +314,7 @@ module _ (script : ScriptOf) (n : ℕ) where
     new = quiet.new;
     births = record { ups = omega arith; releases = omega arith; refusals = omega arith; ones = omega arith };
     busy = quiet.busy;
-    semaphores = record {
-      downs = λ t below. omega (arith, none_waits n);
-      upped = λ t below. omega arith;
-      parked = quiet.semaphores.parked;
-    };
+    semaphores = record { downs = λ t below. omega (arith, none_waits n); upped = λ t below. omega arith; parked = quiet.semaphores.parked };
     shutdown = record { shuts = omega arith; halts = quiet.shutdown.halts; no_stuck = quiet.shutdown.no_stuck };
     made = one_made _ is;
     rows = quiet.rows;
@@ -380,11 +344,7 @@ module _ (script : ScriptOf) (n : ℕ) where
     new = quiet.new;
     births = record { ups = omega arith; releases = omega arith; refusals = omega arith; ones = quiet.births.ones };
     busy = quiet.busy;
-    semaphores = record {
-      downs = λ t below. omega (arith, none_waits n);
-      upped = λ t below. omega arith;
-      parked = quiet.semaphores.parked;
-    };
+    semaphores = record { downs = λ t below. omega (arith, none_waits n); upped = λ t below. omega arith; parked = quiet.semaphores.parked };
     shutdown = record { shuts = omega arith; halts = omega arith; no_stuck = quiet.shutdown.no_stuck };
     made = one_made _ is;
     rows = quiet.rows;
