@@ -18,7 +18,6 @@ use Rattle.fak_model.specs.Room as room
 use Rattle.fak_model.specs.Queue.{count, gots, items_put, contents}
 use Rattle.fak_model.specs.Calls.{SeatInfo, Appends}
 use Rattle.fak_model.proofs.Leading.{total_push}
-use Rattle.fak_model.proofs.QueueBackwards.{count_append}
 use Rattle.fak_count.specs.Credits as credits
 use Rattle.fak_count.specs.Rooms.{RoomInfo, held_amount, IsGranted, MakesCall, Withdraws}
 use Rattle.fak_count.specs.RoomShown.{room_mark}
@@ -26,6 +25,7 @@ use Rattle.fak_queue.specs.Queues.{made_by}
 use Rattle.fak_queue.specs.Retries.{RefusedInsertion, NotIn, WithdrawnIn, ClosedIn, WithdrawnLate, kinds_not_in, RefusedDeletion, NotOut, WithdrawnOut, kinds_not_out, kinds_in, kinds_out, InsertsAtLast, DeletesAtLast}
 use Rattle.fak_sem.specs.Semaphores.{SemInfo, SemId, SemSeatInfo, Downs, Ups}
 use Rattle.fak_queue.proofs.AfterRefusals.{made_by_append}
+use Rattle.fak_queue.proofs.Weighing.{count_at_last, none_in, none_out}
 use Rattle.fak_kernel.specs.Only.{IsOnly}
 use Rattle.fak_kernel.specs.OnlyCounts.{IsOnlySem, Passes, Parks, Raises, Rouses, IsOnlyRoom, Claims, FindsFull, GivesBack}
 use Rattle.fak_kernel.proofs.Only.{only_seen, only_still, only_lawful, only_before}
@@ -33,29 +33,18 @@ use Rattle.fak_kernel.proofs.OnlyQueues.{items_more, items_added, first_left}
 
 -- ---- the wait queue after refusals
 
--- marks that put nothing and get nothing, in front of others
-module _ {T R : Type 0} (kinds_of : R → List (Kind T)) (name : ℕ) (no_puts : (r : R) → items_put (made_by name (kinds_of r)) ≡ []) (no_gots : (r : R) → count gots (made_by name (kinds_of r)) ≡ 0) where
+-- marks that put nothing, in front of others
+module _ {T R : Type 0} (kinds_of : R → List (Kind T)) (name : ℕ) (no_puts : (r : R) → items_put (made_by name (kinds_of r)) ≡ []) where
   none_put : (refused : List R) → items_put (made_by name (flat_map kinds_of refused)) ≡ []
   none_put [] = refl
   none_put (r ∷ rs) =
       ap (λ (h : List (Mark T)). items_put h) (made_by_append name (kinds_of r) (flat_map kinds_of rs))
       ∙ (items_more (made_by name (kinds_of r)) (made_by name (flat_map kinds_of rs)) ∙ (ap (λ l. l ++ items_put (made_by name (flat_map kinds_of rs))) (no_puts r) ∙ none_put rs))
 
-  none_got : (refused : List R) → count gots (made_by name (flat_map kinds_of refused)) ≡ 0
-  none_got [] = refl
-  none_got (r ∷ rs) =
-      ap (count gots) (made_by_append name (kinds_of r) (flat_map kinds_of rs))
-      ∙ (count_append gots (made_by name (kinds_of r)) (made_by name (flat_map kinds_of rs)) ∙ omega (arith, no_gots r, none_got rs))
-
   put_at_last : (refused : List R) (kinds : List (Kind T)) → items_put (made_by name (flat_map kinds_of refused ++ kinds)) ≡ items_put (made_by name kinds)
   put_at_last refused kinds =
       ap (λ (h : List (Mark T)). items_put h) (made_by_append name (flat_map kinds_of refused) kinds)
       ∙ (items_more (made_by name (flat_map kinds_of refused)) (made_by name kinds) ∙ ap (λ l. l ++ items_put (made_by name kinds)) (none_put refused))
-
-  got_at_last : (refused : List R) (kinds : List (Kind T)) → count gots (made_by name (flat_map kinds_of refused ++ kinds)) ≡ count gots (made_by name kinds)
-  got_at_last refused kinds =
-      ap (count gots) (made_by_append name (flat_map kinds_of refused) kinds)
-      ∙ (count_append gots (made_by name (flat_map kinds_of refused)) (made_by name kinds) ∙ omega (arith, none_got refused))
 
 in_put : (T : Type 0) (name : ℕ) (r : RefusedInsertion) → items_put (made_by name (kinds_not_in {T = T} r)) ≡ []
 in_put T name NotIn = refl
@@ -63,26 +52,16 @@ in_put T name WithdrawnIn = refl
 in_put T name ClosedIn = refl
 in_put T name WithdrawnLate = refl
 
-in_got : (T : Type 0) (name : ℕ) (r : RefusedInsertion) → count gots (made_by name (kinds_not_in {T = T} r)) ≡ 0
-in_got T name NotIn = refl
-in_got T name WithdrawnIn = refl
-in_got T name ClosedIn = refl
-in_got T name WithdrawnLate = refl
-
 out_put : (T : Type 0) (name : ℕ) (r : RefusedDeletion) → items_put (made_by name (kinds_not_out {T = T} r)) ≡ []
 out_put T name NotOut = refl
 out_put T name WithdrawnOut = refl
-
-out_got : (T : Type 0) (name : ℕ) (r : RefusedDeletion) → count gots (made_by name (kinds_not_out {T = T} r)) ≡ 0
-out_got T name NotOut = refl
-out_got T name WithdrawnOut = refl
 
 module _ {T : Type 0} {size : ℕ} {x : T} {old new : SeatInfo (Mark T)} (o : IsOnly (λ (m : Mark T). m.seat) old) where
   pub inserted : InsertsAtLast size x old new → (contents new.seen ≡ contents old.seen ++ x ∷ []) × IsOnly (λ (m : Mark T). m.seat) new
   inserted (ticket, made_last) =
       let a = made_last.makes in
-      let none : count gots (made_by old.name (flat_map kinds_not_in made_last.refused ++ kinds_in ticket x)) ≡ 0 = got_at_last kinds_not_in old.name (in_put T old.name) (in_got T old.name) made_last.refused (kinds_in ticket x) in
-      let put = put_at_last kinds_not_in old.name (in_put T old.name) (in_got T old.name) made_last.refused (kinds_in ticket x) in
+      let none : count gots (made_by old.name (flat_map kinds_not_in made_last.refused ++ kinds_in ticket x)) ≡ 0 = count_at_last gots kinds_not_in (none_in gots refl) old.name made_last.refused (kinds_in ticket x) in
+      let put = put_at_last kinds_not_in old.name (in_put T old.name) made_last.refused (kinds_in ticket x) in
       (items_added (flat_map kinds_not_in made_last.refused ++ kinds_in ticket x) o a none ∙ ap (λ l. contents old.seen ++ l) put, only_still o a)
 
   pub deleted : DeletesAtLast size x old new → (contents old.seen ≡ x ∷ contents new.seen) × IsOnly (λ (m : Mark T). m.seat) new
@@ -90,14 +69,14 @@ module _ {T : Type 0} {size : ℕ} {x : T} {old new : SeatInfo (Mark T)} (o : Is
       let a = made_last.makes in
       let refused = flat_map kinds_not_out made_last.refused in
       let no_put = out_put T old.name in
-      let no_got = out_got T old.name in
+      let got = count_at_last gots kinds_not_out (none_out gots refl) old.name made_last.refused in
       let claim : List (Kind T) = made.ClaimOut ∷ [] in
       let rest : List (Kind T) = made.Got x ∷ made.Take ticket ∷ made.EndOut ∷ [] in
       let split : made_by old.name (refused ++ kinds_out ticket x) ≡ made_by old.name (refused ++ claim) ++ made_by old.name rest =
       ap (made_by old.name) (sym (Rattle.std.proofs.Common.append_assoc refused claim rest)) ∙ made_by_append old.name (refused ++ claim) rest in (
         first_left (refused ++ kinds_out ticket x) o a x (made_by old.name (refused ++ claim)) (made_by old.name (made.Take ticket ∷ made.EndOut ∷ [])) split
-            (got_at_last kinds_not_out old.name no_put no_got made_last.refused claim) (put_at_last kinds_not_out old.name no_put no_got made_last.refused claim)
-            (got_at_last kinds_not_out old.name no_put no_got made_last.refused (kinds_out ticket x)) (put_at_last kinds_not_out old.name no_put no_got made_last.refused (kinds_out ticket x)),
+            (got claim) (put_at_last kinds_not_out old.name no_put made_last.refused claim)
+            (got (kinds_out ticket x)) (put_at_last kinds_not_out old.name no_put made_last.refused (kinds_out ticket x)),
         only_still o a,
       )
 
