@@ -1,5 +1,5 @@
 -- How what a processor does balances.
-use Rattle.std.proofs.Common.{◌≡◌, ℕ, Bool, List, [], ◌∷◌, ◌++◌, length, refl, ap, sym, ◌∙◌, subst, arith}
+use Rattle.std.proofs.Common.{◌≡◌, ℕ, List, [], ◌∷◌, ◌++◌, length, refl, ap, sym, ◌∙◌, subst, arith}
 use Rattle.std.specs.Prelude.{None}
 use Rattle.std.specs.List.{sum_by}
 use Rattle.std.proofs.lemmas.List.{append-nil}
@@ -97,7 +97,7 @@ module _ {script : ScriptOf} where
       n = length script.semaphores
 
   -- who finds the ready queue shut is halted
-  pub gains_halted : {o : ObjectsOf} (p : ProcessorOf) (made : AreFor script o) {x : Process} {s : SeatInfo (Mark Process)} {h : List Process} {q : ProcessorOf} → h ≡ p.halted ++ x ∷ [] → (g : GrowsShut o.ready.size p.ready s)
+  gains_halted : {o : ObjectsOf} (p : ProcessorOf) (made : AreFor script o) {x : Process} {s : SeatInfo (Mark Process)} {h : List Process} {q : ProcessorOf} → h ≡ p.halted ++ x ∷ [] → (g : GrowsShut o.ready.size p.ready s)
       → Gains script (record p { ready = s; halted = h }) q (record nothing { busy = Debit ∷ [] }) → Gains script p q (joined (record nothing { ready = g.refused }) (halts g.late x))
   gains_halted p made {x} {s} {h} {q} h_is g debited =
       let entered : Gains script p (record p { ready = s }) (record nothing { ready = g.refused ++ closed g.late }) = gains_ready p (g.refused ++ closed g.late) made.ready g.grows in
@@ -111,17 +111,12 @@ module _ {script : ScriptOf} where
       (gains_then (record nothing { ready = g.refused ++ closed g.late; rows = row_as Halted x ∷ [] }) (record nothing { busy = Debit ∷ [] }) with_row debited)
       (record { ready = append-nil (g.refused ++ closed g.late); free = refl; births = refl; busy = refl; credits = λ t. refl; waits = λ t. refl; rows = refl; lines = refl })
 
-  -- what that weighs
-  pub balanced_halted : (n : ℕ) (refused : List (Kind Process)) (late : Bool) (x : Process) → IsQuiet refused → FitsScript script x → Balanced script n (x ∷ []) [] (joined (record nothing { ready = refused }) (halts late x))
-  balanced_halted n refused late x quiet fits =
-      balanced-joined script n (x ∷ []) (x ∷ []) [] (record nothing { ready = refused }) (halts late x) (balanced-beside (x ∷ []) (keeps_quiet n refused quiet)) (keeps_halts script n late x fits)
-
   pub moves_halted : {o : ObjectsOf} (p : ProcessorOf) (made : AreFor script o) {x : Process} {s : SeatInfo (Mark Process)} {h : List Process} {q : ProcessorOf} → FitsScript script x → h ≡ p.halted ++ x ∷ [] → GrowsShut o.ready.size p.ready s
       → Gains script (record p { ready = s; halted = h }) q (record nothing { busy = Debit ∷ [] }) → Moves script (x ∷ []) [] p q
   moves_halted p made {x} fits h_is g debited = record {
     ledger = joined (record nothing { ready = g.refused }) (halts g.late x);
     begins = (refl, refl);
-    balanced = balanced_halted (length script.semaphores) g.refused g.late x g.quiet fits;
+    balanced = let n = length script.semaphores in balanced-joined script n (x ∷ []) (x ∷ []) [] (record nothing { ready = g.refused }) (halts g.late x) (balanced-beside (x ∷ []) (keeps_quiet n g.refused g.quiet)) (keeps_halts script n g.late x fits);
     gains = gains_halted p made h_is g debited;
   }
 
