@@ -10,7 +10,7 @@ use Rattle.std.proofs.lemmas.Option.{slice_get_within}
 use Rattle.fak_text.specs.Script.{ScriptOf, StepOf, say, yield, down, up, open_file, close_file, stat, spawn, shutdown, steps_of, steps_or_none}
 use Rattle.fak_text.specs.Journal.{NoteOf, said, yielded, downed, upped, opened, closed, statted, spawned, no_birth, no_slot, shut_down, Process, after_note, child_count}
 use Rattle.fak_kernel.specs.Files.{open_change, close_change, uses_of}
-use Rattle.fak_kernel.specs.ListScheduler.{Turn, Lists, State, EndsIn, next_step, enter_by, go_on, turn_over, down_by, up_by, child_of, spawn_by, make, go_or_make, turn_by, take_front, step_by, step, steps, opening}
+use Rattle.fak_kernel.specs.ListScheduler.{Turn, Lists, State, EndsIn, next_step, enter_by, go_on, turn_over, down_by, up_by, child_of, spawn_by, make, go_or_make, turn_by, take_front, step_by, steps, opening}
 
 -- one of the programs is no longer than all together
 part_of : (programs : List (List StepOf)) (i : ℕ) → length (steps_or_none (slice_get programs i)) ≤ sum_by length programs

@@ -9,7 +9,7 @@ use Rattle.fak_text.specs.Journal.{Process, new_process}
 use Rattle.fak_kernel.specs.ListScheduler.{Lists, begun_from, enter_ready, first_lists, numbers_from, turn_over}
 use Rattle.fak_kernel.specs.Making.{AreLines}
 use Rattle.fak_kernel.specs.Ledger.{Balanced, Named, joined, named, nothing}
-use Rattle.fak_kernel.specs.Events.{empty, fills, puts}
+use Rattle.fak_kernel.specs.Events.{empty, fills}
 use Rattle.fak_kernel.specs.Whole.{begun_names}
 use Rattle.fak_kernel.specs.Processors.{ObjectsOf, ProcessorOf, AreFor, AreOf, GoesTo, HasNoSlot, IsAlone, IsReached, TakesSlot, lists_of}
 use Rattle.fak_kernel.specs.Moving.{Gains, GrowsAtLast, IsIdle, Moves, files_of}

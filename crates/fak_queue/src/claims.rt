@@ -30,7 +30,14 @@ impl<T: Drop> Queue<T> {
         if seat.left == 0 {
             return refuse_worn(item);
         }
-        match admit_insertion(&self.table.shared, &mut seat.token, self.cells.size, &item) {
+        let words = &self.table.shared;
+        match admit_insertion(
+            words,
+            &mut seat.token,
+            self.cells.size,
+            &mut seat.tests,
+            &item,
+        ) {
             Ok(ticket) => {
                 seat.left -= 1;
                 seat.phase = Phase::TurnIn(ticket, item);
@@ -55,7 +62,8 @@ impl<T: Drop> Queue<T> {
         if seat.left == 0 {
             return Err(DeleteFault::Worn);
         }
-        match admit_deletion(&self.table.shared, &mut seat.token) {
+        let words = &self.table.shared;
+        match admit_deletion(words, &mut seat.token, self.cells.size, &mut seat.tests) {
             Ok(ticket) => {
                 seat.left -= 1;
                 seat.phase = Phase::TurnOut(ticket);

@@ -16,6 +16,7 @@
 mod admission;
 mod cells;
 mod claims;
+mod contention;
 mod ending;
 mod fault;
 mod found;

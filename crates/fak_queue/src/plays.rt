@@ -39,7 +39,7 @@ impl<T> Call<T> for Brand {
     ghost item = { None };
 }
 
-/// The load of the upper count that begins an insertion.
+/// The test of the upper count that begins an insertion.
 pub struct TestUpPlay<J> {
     call: PhantomData<J>,
 }
@@ -102,7 +102,7 @@ impl<T, J: Call<T>> Play<Option<T>, View<Mark<T>, Phase<T>>> for EndInPlay<J> {
     ghost then = { λ s m _ after. Named m (λ n. EndsIn s.slots J.seats n m after) };
 }
 
-/// The load of the lower count that begins a deletion.
+/// The test of the lower count that begins a deletion.
 pub struct TestLowPlay<J> {
     call: PhantomData<J>,
 }

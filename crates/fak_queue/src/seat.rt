@@ -3,6 +3,7 @@
 ghost use Rattle.std.specs.Prelude.{◌≡◌, ◌+◌};
 ghost use Rattle.fak_queue.specs.Queues.{IsState, drawn_by, state_of};
 
+use crate::contention::CountTests;
 use crate::state::SeatState;
 use crate::steps::QueueToken;
 use fak_core::Phase;
@@ -17,6 +18,7 @@ pub struct Seat<T> {
     pub(crate) seats: u64,
     pub(crate) left: u64,
     pub(crate) phase: Phase<T>,
+    pub(crate) tests: CountTests,
 }
 
 impl<T> Model for Seat<T> {

@@ -49,6 +49,7 @@ impl<T: Drop> Tally<T> {
             seats,
             left: _,
             phase: _,
+            tests: _,
         } = seat;
         Tally {
             token,

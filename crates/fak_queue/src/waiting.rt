@@ -35,7 +35,13 @@ impl<T: Drop> Queue<T> {
             return refuse_worn(item);
         }
         let words = &self.table.shared;
-        match admit_insertion(words, &mut seat.token, self.cells.size, &item) {
+        match admit_insertion(
+            words,
+            &mut seat.token,
+            self.cells.size,
+            &mut seat.tests,
+            &item,
+        ) {
             Ok(ticket) => {
                 seat.left -= 1;
                 let place = self.cells.place(ticket);
@@ -63,7 +69,7 @@ impl<T: Drop> Queue<T> {
             return Err(DeleteFault::Worn);
         }
         let words = &self.table.shared;
-        match admit_deletion(words, &mut seat.token) {
+        match admit_deletion(words, &mut seat.token, self.cells.size, &mut seat.tests) {
             Ok(ticket) => {
                 seat.left -= 1;
                 let place = self.cells.place(ticket);

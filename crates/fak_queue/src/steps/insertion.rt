@@ -24,6 +24,7 @@ ghost use Rattle.fak_queue.specs.Steps.{
   EndsIn,
 };
 
+use crate::contention::CountTests;
 use crate::found::UpperCount;
 use crate::place::Place;
 use crate::plays::{
@@ -32,11 +33,12 @@ use crate::plays::{
 use crate::steps::{QueueToken, QueueWords};
 use crate::words::{DRAWS_IN, LOWER, TURNS, UPPER, read_upper};
 
-// Loads the upper count.
+// Tests the upper count.
 pub(crate) fn test_up<T, J: Call<T>>(
     words: &QueueWords<T>,
     token: &mut QueueToken<T>,
     size: u64,
+    tests: &mut CountTests,
     _item: &T,
 ) -> UpperCount
     requires table { FitsTable token.old.table_id words.now.table_id words.now.key J.seats }
@@ -47,7 +49,9 @@ pub(crate) fn test_up<T, J: Call<T>>(
     ensures same { token.new.table_id ≡ token.old.table_id }
     ensures told { Named token.old.me (λ n. TestedUp words.now.table_id.slots J.seats n _item.now result token.old.me token.new.me) }
 {
-    let found = words.load::<TestUpPlay<J>>(token, UPPER);
+    let found = tests
+        .upper
+        .test::<T, TestUpPlay<J>>(words, token, UPPER, size);
     read_upper(found, size)
 }
 
@@ -56,6 +60,7 @@ pub(crate) fn add_up<T, J: Call<T>>(
     words: &QueueWords<T>,
     token: &mut QueueToken<T>,
     size: u64,
+    tests: &mut CountTests,
 ) -> UpperCount
     requires table { FitsTable token.old.table_id words.now.table_id words.now.key J.seats }
     requires size { (size ≡ words.now.table_id.slots) × (size ≤ 4096) }
@@ -66,6 +71,7 @@ pub(crate) fn add_up<T, J: Call<T>>(
         → AddedUp words.now.table_id.slots J.seats n x result token.old.me token.new.me) }
 {
     let found = words.fetch_add::<AddUpPlay<J>>(token, UPPER, 1);
+    tests.upper.retest(found);
     read_upper(found, size)
 }
 

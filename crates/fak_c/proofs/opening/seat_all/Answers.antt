@@ -1,8 +1,13 @@
-use Rattle.std.proofs.Common.{arith, ap, ◌∙◌, length-set}
+use Rattle.std.proofs.Common.{arith, ap, sym, ◌∙◌, length-set}
 use Rattle.std.specs.Arc.{arc_value}
 use Rattle.fak_model.proofs.FreshSeats.{next_seat}
 use Rattle.fak_c.proofs.Seating.{seated_next}
 use Rattle.fak_c.proofs.opening.seat_all.Goals as goal
+
+pub invariant_of-desk : goal.invariant_of-desk
+invariant_of-desk c =
+    let next = next_seat c.loop-i-test.true c.loop-i.invariant.2 c.in-Some.ensures.cases.0 in
+    record { same = ap (λ s. s.object) next.first ∙ ap (λ q. q.object) (sym c.in-Ok.ensures) }
 
 pub loop-i-preserved : goal.loop-i-preserved
 loop-i-preserved c =

@@ -1,7 +1,8 @@
 use Rattle.std.proofs.Common.{◌≡◌, true, rules}
+use Rattle.std.specs.Prelude.{None}
 use Rattle.fak_kernel.proofs.Acting.{moves_none}
 use Rattle.fak_kernel.proofs.Looping.{moves_on, leaves_none}
-use Rattle.fak_kernel.proofs.Working.{reached_on}
+use Rattle.fak_kernel.proofs.Working.{reached_on, reached_the_end}
 use Rattle.fak_kernel.proofs.processor.Processor.turns.Goals as goal
 
 pub loop-init : goal.loop-init
@@ -15,3 +16,10 @@ pub returns-then-is_done-clause-general : goal.returns-then-is_done-clause-gener
 returns-then-is_done-clause-general g c =
     let done : c.is_done.result ≡ true = search rules in
     leaves_none c.loop.running c.in_ok-running.running c.loop.invariant.2 c.in_ok-running.ensures.general c.is_done.ensures.gains (c.is_done.ensures.done done).1 (c.is_done.ensures.idle done)
+
+pub returns-then-is_done-clause-alone : goal.returns-then-is_done-clause-alone
+returns-then-is_done-clause-alone g c =
+    let done : c.is_done.result ≡ true = search rules in
+    let over = c.is_done.ensures.done done in
+    let idle : c.loop.running ≡ None = search (rules, over) in
+    λ r. reached_the_end c.loop.running c.in_ok-running.running idle over.1 (c.loop.invariant.3 r) c.in_ok-running.ensures.alone c.is_done.ensures.alone

@@ -7,9 +7,12 @@ use Rattle.fak_queue.specs.Parts.{Taken}
 use Rattle.fak_queue.specs.Queues.{RefusesEmpty, queue_seat}
 use Rattle.fak_queue.proofs.States.{rests_deleting}
 use Rattle.fak_queue.proofs.PartSteps.{names_then, phase_then, slots_then}
-use Rattle.fak_queue.proofs.SeatCalls.{seat_refused, state_refused, drawn_refused, refuses_empty}
+use Rattle.fak_queue.proofs.SeatCalls.{idle_token, seat_refused, state_refused, drawn_refused, refuses_empty}
 use Rattle.fak_queue.proofs.AtOnce.{seat_deleted, state_deleted, drawn_deleted, deletes}
 use Rattle.fak_queue.proofs.queue.Queue.delete.Goals as goal
+
+pub admit_deletion-requires-clause-phase : goal.admit_deletion-requires-clause-phase
+admit_deletion-requires-clause-phase g c = ap (λ m. m.0.phase) (idle_token c.seat.invariant c.seat.view_is c.requires.idle).me_is
 
 pub place-place-requires : goal.place-place-requires
 place-place-requires g c = (rests_deleting (c.in-Ok.ensures.told c.seat.inside.name (token_names c.seat.invariant.token)).part.rests).1

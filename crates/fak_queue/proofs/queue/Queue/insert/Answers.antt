@@ -1,13 +1,16 @@
-use Rattle.std.proofs.Common.{◌≡◌, ◌+◌, MatchResult, sym, subst, arith}
+use Rattle.std.proofs.Common.{ap, ◌≡◌, ◌+◌, MatchResult, sym, subst, arith}
 use Rattle.fak_model.proofs.RunningCalls.{token_names}
 use Rattle.fak_model.specs.Calls.{object_id}
 use Rattle.fak_queue.specs.Parts.{Filled}
 use Rattle.fak_queue.specs.Queues.{Inserts, drawn_by, queue_seat}
 use Rattle.fak_queue.specs.Refusals.{RefusesInsertion}
 use Rattle.fak_queue.proofs.PartSteps.{names_then, slots_then}
-use Rattle.fak_queue.proofs.SeatCalls.{seat_refused_in, state_refused_in, drawn_refused_in, refuses_insertion}
+use Rattle.fak_queue.proofs.SeatCalls.{idle_token, seat_refused_in, state_refused_in, drawn_refused_in, refuses_insertion}
 use Rattle.fak_queue.proofs.AtOnce.{seat_inserted, state_inserted, drawn_inserted, inserts}
 use Rattle.fak_queue.proofs.queue.Queue.insert.Goals as goal
+
+pub admit_insertion-requires-clause-phase : goal.admit_insertion-requires-clause-phase
+admit_insertion-requires-clause-phase g c = ap (λ m. m.0.phase) (idle_token c.seat.invariant c.seat.view_is c.requires.idle).me_is
 
 pub wait_to_fill-requires-clause-seat : goal.wait_to_fill-requires-clause-seat
 wait_to_fill-requires-clause-seat g c = let part = (c.in-Ok.ensures.told c.seat.inside.name (token_names c.seat.invariant.token)).part in ((c.seat.inside.name, names_then part), slots_then part)
