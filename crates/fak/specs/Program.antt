@@ -1,6 +1,5 @@
 -- What the program leaves behind: its exit status, and what it wrote.
-use Rattle.std.specs.Prelude.{◌≡◌, ◌≢◌, ◌⊎◌, ℕ, List, Option, Ok}
-use Rattle.std.specs.Io.KnownBytes.{Appends, Keeps}
+use Rattle.std.specs.Prelude.{◌≡◌, ◌≢◌, ◌⊎◌, ℕ, List, Ok}
 use Rattle.clap.specs.Words.{Text}
 use Rattle.fak.specs.Answers.{FailsToServe, IsReply}
 use Rattle.fak.specs.Commands.{Asks, IsOfWords}

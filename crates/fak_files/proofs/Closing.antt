@@ -1,5 +1,5 @@
 -- What a closed file table shows.
-use Rattle.std.proofs.Common.{◌≡◌, ◌≢◌, inl, inr, slice_set, ℕ, zero, suc, ◌+◌, ◌<◌, ◌≤◌, List, [], ◌∷◌, length, take, slice_get, slice_index, get_or, Some, None, refl, ap, sym, ◌∙◌, subst, arith}
+use Rattle.std.proofs.Common.{◌≡◌, ◌≢◌, inl, inr, slice_set, ℕ, zero, suc, ◌+◌, ◌<◌, List, [], ◌∷◌, length, take, slice_get, slice_index, get_or, Some, None, refl, ap, sym, ◌∙◌, subst, arith}
 use Rattle.std.specs.Prelude.{reverse}
 use mathlib.Core.Option.{some, some-injective, some-ne-none}
 use lib.ListN.{get_elem?}
@@ -50,11 +50,6 @@ first_item zero row i d low = absurd (omega (arith, low))
 first_item (suc n) [] i d low = absurd (omega (arith, low))
 first_item (suc n) (x ∷ row) zero d low = refl
 first_item (suc n) (x ∷ row) (suc i) d low = first_item n row i d (omega (arith, low))
-
-pub length-take_most : {A : Type 0} (n : ℕ) (row : List A) → length (take n row) ≤ n
-length-take_most zero row = omega arith
-length-take_most (suc n) [] = omega arith
-length-take_most (suc n) (x ∷ row) = omega (arith, length-take_most n row)
 
 -- the entry that was read joins those before it
 pub read_more : (row : List FileEntry) (i : ℕ) (e : FileEntry) (F : ℕ → FileEntry) → i < length row → e ≡ F i → ((j : ℕ) → j < i → slice_get row j ≡ Some (F j)) → (j : ℕ) → j < i + 1 → slice_get (slice_set row i e) j ≡ Some (F j)

@@ -76,9 +76,6 @@ module _ (k seats name : ℕ) (low : name < seats) (i : ℕ) (f : FileField) whe
   Reads : List FileMark → Type 0
   Reads past = field (reverse past) i f ≡ field (version name past) i f
 
-  abbrev Facts : List FileMark → Type 0
-  Facts past = IsFileHistory k (reverse past) × AreNamed (file_rules k) seats (reverse past) × (0 < amount_held name (reverse past))
-
   pub reads : (past : List FileMark) → IsFileHistory k (reverse past) → AreNamed (file_rules k) seats (reverse past) → 0 < amount_held name (reverse past) → field (reverse past) i f ≡ field (version name past) i f
   reads [] law named held = absurd (omega (arith, held))
   reads (m ∷ past) law named held = by (m.seat == name) refl (is_take m.kind) refl (reads past)

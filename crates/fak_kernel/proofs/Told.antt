@@ -1,19 +1,15 @@
 -- Notes and rows whose said texts are left out.
-use Rattle.std.proofs.Common.{◌≡◌, ℕ, zero, suc, ◌+◌, ◌<◌, Bool, List, [], ◌∷◌, ◌++◌, length, map, take, get_or, slice_get, Some, refl, ap, sym, ◌∙◌, arith}
-use Rattle.std.specs.Prelude.{if◌then◌else◌}
+use Rattle.std.proofs.Common.{◌≡◌, ℕ, zero, suc, ◌+◌, ◌<◌, List, [], ◌∷◌, ◌++◌, length, map, take, get_or, slice_get, Some, refl, ap, sym, ◌∙◌, arith}
 use Rattle.std.specs.List.{list_any, sum_by}
 use Rattle.std.proofs.lemmas.List.{get_or-map, length-map}
 use Rattle.std.proofs.lemmas.List.Sums.{sum_by-cons}
 use Rattle.fak_text.specs.Script.{ScriptOf, StepOf, say, yield, down, up, open_file, close_file, stat, spawn, shutdown}
 use Rattle.fak_text.specs.Journal.{NoteOf, said, yielded, downed, upped, opened, closed, statted, spawned, no_birth, no_slot, shut_down, Allows}
-use Rattle.fak_kernel.specs.declared.report.Outcome.{Outcome}
 use Rattle.fak_kernel.specs.declared.report.ProcessRow.{ProcessRow}
 use Rattle.fak_kernel.specs.Ledger.{shuts_of}
 use Rattle.fak_kernel.specs.Report.{RowOf, IsSortedByName, is_stuck}
-use Rattle.fak_kernel.specs.ReportText.{count_rows}
 use Rattle.fak_kernel.specs.Told.{told, told_notes, told_row, told_rows}
 use Rattle.fak_kernel.specs.Views.{row_of}
-use Rattle.fak_kernel.proofs.Sums.{sum_by-map}
 
 -- ---- notes
 
@@ -93,10 +89,7 @@ IsSortedByName-told script (r ∷ rs) sorted k d low high =
     let after : get_or (map (told_row script) (r ∷ rs)) (k + 1) d ≡ told_row script (get_or (r ∷ rs) (k + 1) r) = get_or-map (told_row script) (r ∷ rs) (k + 1) r d inside in
     rw (before, after) (sorted k r low inside)
 
--- nor outcomes
-pub count_rows-told : (is : Outcome → Bool) (script : ScriptOf) (rows : List RowOf) → count_rows is (told_rows script rows) ≡ count_rows is rows
-count_rows-told is script rows = sum_by-map (λ (row : RowOf). if is row.outcome then 1 else 0) (told_row script) rows
-
+-- nor whether a process is stuck
 pub any_stuck-told : (script : ScriptOf) (rows : List RowOf) → list_any (λ row. is_stuck row.outcome) (told_rows script rows) ≡ list_any (λ row. is_stuck row.outcome) rows
 any_stuck-told script [] = refl
 any_stuck-told script (r ∷ rs) = rw (any_stuck-told script rs) refl

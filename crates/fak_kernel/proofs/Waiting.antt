@@ -1,5 +1,5 @@
 -- Several queues, seen as the lists of their items, where one of them changes.
-use Rattle.std.proofs.Common.{◌≡◌, ℕ, zero, suc, ◌<◌, List, [], ◌∷◌, ◌++◌, All, length, map, slice_set, slice_index_or, ap, sym, ◌∙◌, subst, arith, refl, inl, inr, drop, Option, Some, None, IfSome}
+use Rattle.std.proofs.Common.{◌≡◌, ℕ, ◌<◌, List, [], ◌∷◌, ◌++◌, All, length, map, slice_set, slice_index_or, ap, sym, ◌∙◌, subst, arith, inl, inr, drop, Option, Some, None, IfSome}
 use Rattle.std.specs.Option.{option_to_list}
 use Rattle.std.proofs.lemmas.List.{map-set, get_or-map, length-map, get_or-set_same, get_or-set_other}
 use Rattle.std.proofs.lemmas.List.Elements.{All-push, All-drop}
@@ -44,9 +44,3 @@ module _ {Q X : Type 0} (P : ℕ → X → Type 0) (f : Q → List X) (qs : List
   pub first_of : (o : Option X) → f q ≡ option_to_list o ++ f r → IfSome o (λ x. P i x)
   first_of None items = tt
   first_of (Some x) items = subst (All (P i)) items here 0 x (omega (arith, ap length items))
-
--- each list is empty where nobody waits
-none_at : {X : Type 0} (xs : List ℕ) (n : ℕ) → slice_index_or (map {B = List X} (λ _. []) xs) n [] ≡ []
-none_at [] n = refl
-none_at (x ∷ xs) zero = refl
-none_at (x ∷ xs) (suc n) = none_at xs n

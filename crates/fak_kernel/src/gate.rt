@@ -1,6 +1,6 @@
 //! What lets processors look at the ready queue.
 
-ghost use Rattle.std.specs.Prelude.{◌≡◌, ℕ, Bool, true, false, cond, ◌+◌, ◌==◌, IfErr};
+ghost use Rattle.std.specs.Prelude.{◌≡◌, Bool, true, false, cond, ◌+◌, ◌==◌, IfErr};
 ghost use Rattle.fak_kernel.specs.Faults.{IsOfGate};
 
 use crate::fault::Fault;

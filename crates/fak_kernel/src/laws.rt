@@ -1,6 +1,6 @@
 //! Laws of the list scheduler, and of what the processors of a run leave together.
 
-ghost use Rattle.std.specs.Prelude.{◌≡◌, ◌≤◌, [], ◌∷◌, ℕ, List};
+ghost use Rattle.std.specs.Prelude.{◌≡◌, ◌≤◌, ℕ, List};
 ghost use Rattle.fak_text.specs.Script.{ScriptOf};
 ghost use Rattle.fak_kernel.specs.ListScheduler.{EndsIn, Lists};
 ghost use Rattle.fak_kernel.specs.Examples.{ping_pong, ping_pong_left, family, family_left, crowd, crowd_left, heirs, heirs_left, alone, alone_left, curfew, curfew_left, late_child, late_child_left, reader, reader_left};

@@ -1,11 +1,9 @@
 //! Runs of scripts on one processor.
 
-ghost use Rattle.std.specs.Prelude.{◌≡◌, ℕ, ◌<◌, vec_len, slice_index_or, IfOk, IfErr};
-ghost use Rattle.fak_kernel.specs.Begun.{Between};
+ghost use Rattle.std.specs.Prelude.{◌≡◌, ◌<◌, vec_len, slice_index_or, IfOk, IfErr};
 ghost use Rattle.fak_kernel.specs.Faults.{IsOfStep};
-ghost use Rattle.fak_kernel.specs.ListScheduler.{turn_over};
 ghost use Rattle.fak_kernel.specs.Opened.{AreSeated};
-ghost use Rattle.fak_kernel.specs.Processors.{AreFor, IsReached, ProcessorOf, lists_of};
+ghost use Rattle.fak_kernel.specs.Processors.{AreFor, ProcessorOf};
 ghost use Rattle.fak_kernel.specs.Report.{ListSchedulerReports};
 ghost use Rattle.fak_kernel.specs.ReportText.{ListSchedulerPrints, RunPrints};
 ghost use Rattle.fak_kernel.specs.RunReports.{RunReports};

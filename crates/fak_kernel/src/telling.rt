@@ -1,7 +1,7 @@
 //! Reports whose said texts are left out, with the texts of their script.
 
-ghost use Rattle.std.specs.Prelude.{◌≡◌, map, option_map, string_bytes, IfOk, IfErr};
-ghost use Rattle.fak_text.specs.Script.{say, steps_of, steps_or_none};
+ghost use Rattle.std.specs.Prelude.{◌≡◌, map, string_bytes, IfOk, IfErr};
+ghost use Rattle.fak_text.specs.Script.{say, steps_of};
 ghost use Rattle.fak_text.specs.Views.{note_of, step_of, steps_view};
 ghost use Rattle.fak_kernel.specs.Told.{told, told_notes, told_report, told_row, told_rows};
 ghost use Rattle.fak_kernel.specs.Views.{report_of, row_of};

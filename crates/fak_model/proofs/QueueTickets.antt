@@ -137,9 +137,3 @@ getting_untaken size (m ∷ h) l s k e (inr g) = elim (getting_back m h s k e) [
   | inl w ↦ let b = take_below size h l.1 k g in omega arith
   | inr w ↦ getting_untaken size h l.1 s k w.1 g
 ]
-
--- what is taken was filled
-pub take_filled : {A : Type 0} (size : ℕ) (h : List (Mark A)) → IsLegalPast size h → (k : ℕ) → Has (Take k) h → Has (Fill k) h
-take_filled size [] l k e = absurd e
-take_filled {A} size (m ∷ h) l k (inl e) = let f : MayFollow size h m.seat (Take k) = subst (MayFollow size h m.seat) e l.0 in inr f.cell
-take_filled size (m ∷ h) l k (inr e) = inr (take_filled size h l.1 k e)

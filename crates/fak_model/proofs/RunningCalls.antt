@@ -11,7 +11,7 @@ use Rattle.fak_model.specs.Views.{sight, HasOneName, Foreign, AreOwn, Sees}
 use Rattle.fak_model.specs.Shown.{Object, Leaves}
 use Rattle.fak_model.specs.Calls.{ObjectId, SeatInfo, seat_info, mine_of, last_of, Appends, before_mark}
 use Rattle.fak_model.specs.Tokens.{IsSeatToken}
-use Rattle.fak_model.proofs.Seats.{begins_self, marks_of_append}
+use Rattle.fak_model.proofs.Seats.{marks_of_append}
 use Rattle.fak_model.proofs.RunningViews.{sees_begins}
 
 -- ---- marks of a name
@@ -102,17 +102,6 @@ module _ {M W C : Type 0} (rules : Rules M W C) where
         lawful = q.lawful;
         named = q.named;
       }
-
-  -- nothing happened
-  pub appends_refl : (a : SeatInfo M) → IsHistory rules a.seen → AreNamed rules a.object.seats a.seen → Appends rules [] a a
-  appends_refl a lawful named = record {
-    same_seat = refl;
-    begins = begins_self a.seen;
-    mine = sym (append-nil (mine_of rules.seat_of a));
-    last = λ m e. absurd cc;
-    lawful = lawful;
-    named = named;
-  }
 
   -- a part of a call that leaves no mark, and then another
   pub appends_none : (g : List M) (a b c : SeatInfo M) → Appends rules [] a b → Appends rules g b c → Appends rules g a c

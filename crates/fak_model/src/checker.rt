@@ -1,6 +1,6 @@
 //! The checker of a queue's recorded histories.
 
-ghost use Rattle.std.specs.Prelude.{◌≡◌, ◌≤◌, MatchOption};
+ghost use Rattle.std.specs.Prelude.{◌≤◌, MatchOption};
 ghost use Rattle.fak_model.specs.Checker.{FirstFault};
 ghost use Rattle.fak_model.specs.Queue.{IsQueueHistory};
 

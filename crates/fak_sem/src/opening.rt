@@ -3,7 +3,6 @@
 ghost use Rattle.std.specs.Prelude.{◌≡◌, IfOk, MatchResult};
 ghost use Rattle.fak_model.specs.Calls.{fresh_seats};
 ghost use Rattle.fak_count.specs.Opening as count_opening;
-ghost use Rattle.fak_queue.specs.Refusals.{IsSize};
 ghost use Rattle.fak_sem.specs.Opening.{IsInRange, IsOpenFault};
 ghost use Rattle.fak_sem.specs.Semaphores.{fresh_sem_seats, seats_of};
 

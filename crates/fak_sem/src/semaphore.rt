@@ -1,10 +1,9 @@
 //! A semaphore that threads share.
 
 ghost use Rattle.std.specs.Prelude.{◌≡◌, IfOk, MatchResult};
-ghost use Rattle.fak_sem.specs.Opening.{IsInRange, IsOpenFault};
 ghost use Rattle.fak_sem.specs.Semaphores.{CountsDown, CountsUp, Downs, IsWornSeat, Ups};
 
-use crate::fault::{OpenFault, SemWorn};
+use crate::fault::SemWorn;
 use crate::retries::{delete_at_last, insert_at_last};
 use crate::seat::SemSeat;
 use fak_count::{Credit, Worn};

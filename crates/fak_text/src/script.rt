@@ -2,7 +2,7 @@
 
 ghost use Rattle.std.specs.Prelude.{◌≡◌};
 ghost use Rattle.fak_text.specs.Script.{ScriptOf, IsInRange};
-ghost use Rattle.fak_text.specs.Views.{step_of, programs_of};
+ghost use Rattle.fak_text.specs.Views.{programs_of};
 
 use crate::steps::Step;
 use std::marker::Model;

@@ -1,6 +1,6 @@
 //! The calls on the queue, with what this program promises of them.
 
-ghost use Rattle.std.specs.Prelude.{◌≡◌, ◌+◌, ◌<◌, ◌≤◌, IsTrue, IfSome, MatchOption};
+ghost use Rattle.std.specs.Prelude.{◌≡◌, ◌+◌, ◌<◌, IsTrue, IfSome, MatchOption};
 ghost use Rattle.fak_queue.specs.Queues.{IsIdleSeat, drawn_by};
 ghost use Rattle.pool_of_workers.specs.Counts.{Adds, leaps};
 

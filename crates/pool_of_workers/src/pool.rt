@@ -1,6 +1,6 @@
 //! The pool: who puts jobs in, who takes them out, and how the seats are joined.
 
-ghost use Rattle.std.specs.Prelude.{◌≡◌, ◌≢◌, ◌+◌, ◌*◌, ◌<◌, ◌≤◌, ◌^◌, Err, IfErr, IfOk, IsTrue, vec_len};
+ghost use Rattle.std.specs.Prelude.{◌≡◌, ◌≢◌, ◌+◌, ◌<◌, ◌≤◌, ◌^◌, Err, IfErr, IfOk, IsTrue, vec_len};
 ghost use Rattle.std.specs.List.{count_by};
 ghost use Rattle.std.specs.Thread.{IsSync};
 ghost use Rattle.fak_queue.specs.Queues.{IsIdleSeat};

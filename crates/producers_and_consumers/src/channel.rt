@@ -1,6 +1,6 @@
 //! A channel: a queue of buffers behind a gate that holds back what the queue should not hold yet.
 
-ghost use Rattle.std.specs.Prelude.{◌≡◌, IfSome, IsTrue};
+ghost use Rattle.std.specs.Prelude.{IfSome, IsTrue};
 ghost use Rattle.producers_and_consumers.specs.Passing.{IsPort, Moves, nothing};
 
 use fak_queue::{Queue, Seat};

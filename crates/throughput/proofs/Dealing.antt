@@ -1,6 +1,5 @@
 -- Seats that were just dealt are idle, or free, and so is each that is taken from a list of such.
-use Rattle.std.proofs.Common.{◌≡◌, ℕ, zero, suc, ◌-◌, ◌<◌, List, [], length, slice_index_or, Some, refl, subst, sym, arith}
-use Rattle.std.specs.List.{All}
+use Rattle.std.proofs.Common.{◌≡◌, ℕ, zero, suc, ◌-◌, List, [], refl, subst, sym}
 use Rattle.std.proofs.lemmas.List.Elements.{All-nil, All-cons}
 use Rattle.fak_model.specs.declared.queue.Mark.{Mark}
 use Rattle.fak_model.specs.Calls.{ObjectId, SeatInfo, seat_info, fresh_seats}
@@ -22,9 +21,3 @@ fresh_are_free object stint name (suc n) = All-cons (IsFreeSeatOf object) (file_
 
 pub dealt_are_free : (object : ObjectId) (stint n : ℕ) (seats : List FileSeatInfo) → seats ≡ idle_seats (fresh_seats object stint 0 n) → AreFree object seats
 dealt_are_free object stint n seats is = subst (AreFree object) (sym is) (fresh_are_free object stint 0 n)
-
--- the last element, taken by a pop
-pub popped : {X : Type 0} (P : X → Type 0) (xs : List X) (n : ℕ) (x : X) → All P xs → length xs ≡ n → 0 < n → Some x ≡ Some (slice_index_or xs (n - 1) x) → P x
-popped P xs n x all long some is =
-    let here : x ≡ slice_index_or xs (n - 1) x = cc in
-    subst P (sym here) (all (n - 1) x (omega (arith, long, some)))

@@ -1,6 +1,6 @@
 //! The cases of queues: one thread that puts an item in and takes it out, or pairs of a producer and a consumer.
 
-ghost use Rattle.std.specs.Prelude.{◌≡◌, ◌<◌, IfOk};
+ghost use Rattle.std.specs.Prelude.{◌<◌};
 ghost use Rattle.throughput.specs.Seats.{AreIdle};
 
 use crate::fault::Fault;

@@ -1,6 +1,6 @@
 //! The tables that are measured, each as one thread has it: an entry that many read and one may write.
 
-ghost use Rattle.std.specs.Prelude.{◌≡◌, ◌<◌};
+ghost use Rattle.std.specs.Prelude.{◌<◌};
 ghost use Rattle.fak_files.specs.Calls.{IsFreeSeatOf};
 
 use fak_files::{FileEntry, FileField, FileSeat, FileTable};

@@ -1,6 +1,6 @@
 //! The cases of the file table: threads that read an entry, and that write it now and then.
 
-ghost use Rattle.std.specs.Prelude.{◌≡◌, ◌<◌};
+ghost use Rattle.std.specs.Prelude.{◌<◌};
 ghost use Rattle.throughput.specs.Seats.{AreFree};
 
 use crate::fault::Fault;

@@ -1,8 +1,7 @@
 //! The atomic steps of a seat on a room's word.
 
-ghost use Rattle.std.specs.Prelude.{◌≡◌, ◌≤◌, Some, reverse};
+ghost use Rattle.std.specs.Prelude.{◌≡◌, ◌≤◌, Some};
 ghost use Rattle.fak_model.specs.declared.room.RoomKind.TheVariants.{Back, Release};
-ghost use Rattle.fak_model.specs.Room.{amount_held};
 ghost use Rattle.fak_model.specs.Views.{HasOneName};
 ghost use Rattle.fak_core.specs.declared.room.phase.RoomPhase.TheVariants.{Idle, Adding, Backing};
 ghost use Rattle.fak_count.specs.RoomShown.{Tested, Added, Lowered, HeardJoin, Holds};

@@ -1,7 +1,6 @@
 //! What processor 0 does before the threads start: all slots become free, and the started processes become ready.
 
 ghost use Rattle.std.specs.Prelude.{◌≡◌, ◌<◌, [], ◌∷◌, ◌++◌, length, IfOk, IfErr};
-ghost use Rattle.fak_text.specs.Journal.{new_process};
 ghost use Rattle.fak_kernel.specs.Faults.{IsOfStep};
 ghost use Rattle.fak_kernel.specs.ListScheduler as lists;
 ghost use Rattle.fak_kernel.specs.Whole.{begun_names};

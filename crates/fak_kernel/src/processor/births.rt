@@ -1,6 +1,6 @@
 //! Births.
 
-ghost use Rattle.std.specs.Prelude.{◌≡◌, [], ◌∷◌, Bool, ◌+◌, ◌-◌, ◌≤◌, IfOk, IfErr, MatchBool};
+ghost use Rattle.std.specs.Prelude.{◌≡◌, [], ◌∷◌, Bool, ◌-◌, ◌≤◌, IfOk, IfErr, MatchBool};
 ghost use Rattle.fak_count.specs.Rooms.{held_amount};
 ghost use Rattle.fak_model.specs.declared.room.RoomKind.TheVariants.{Up, Release};
 ghost use Rattle.fak_kernel.specs.Ledger.{nothing};

@@ -1,6 +1,6 @@
 //! File steps on a shared table, by a copy of its entries.
 
-ghost use Rattle.std.specs.Prelude.{◌≡◌, ◌≢◌, ◌<◌, [], length, map, IfSome, IfOk, IfErr, MatchOption, if◌then◌else◌, is_ok};
+ghost use Rattle.std.specs.Prelude.{◌≡◌, ◌≢◌, ◌<◌, [], length, map, IfSome, IfOk, IfErr, MatchOption};
 ghost use Rattle.fak_files.specs.declared.phase.Hold.TheVariants.{Nothing, Writing};
 ghost use Rattle.fak_kernel.specs.Files.{open_change, close_change, uses_of};
 ghost use Rattle.fak_model.specs.File.{set_mark};

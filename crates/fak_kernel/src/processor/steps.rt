@@ -1,9 +1,8 @@
 //! What each step does.
 
-ghost use Rattle.std.specs.Prelude.{◌≡◌, [], ◌∷◌, ◌<◌, false, length, IfOk, IfErr, string_bytes};
-ghost use Rattle.fak_text.specs.Script.{say, down, up, open_file, close_file, stat, spawn, shutdown, IsStepInRange, limits_of};
-ghost use Rattle.fak_text.specs.Journal.{StandsAt, said};
-ghost use Rattle.fak_text.specs.Views.{step_of};
+ghost use Rattle.std.specs.Prelude.{[], ◌∷◌, ◌<◌, false, length, IfOk, IfErr};
+ghost use Rattle.fak_text.specs.Script.{down, up, open_file, close_file, stat, spawn, shutdown};
+ghost use Rattle.fak_text.specs.Journal.{StandsAt};
 ghost use Rattle.fak_kernel.specs.ListScheduler as lists;
 ghost use Rattle.fak_kernel.specs.Contexts.{HasStepsLeft};
 ghost use Rattle.fak_kernel.specs.Faults.{IsOfStep};
@@ -16,7 +15,7 @@ use crate::objects::Objects;
 use crate::processor::Processor;
 use crate::processor::turn::Turn;
 use crate::sleeper::Sleeper;
-use fak_text::{Note, Script, Step};
+use fak_text::Note;
 use std::alloc::Global;
 use std::sync::Wait;
 

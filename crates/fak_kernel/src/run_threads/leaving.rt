@@ -1,6 +1,6 @@
 //! A thread for each processor.
 
-ghost use Rattle.std.specs.Prelude.{◌≡◌, ◌<◌, ℕ, true, vec_len, slice_index_or, IfOk, IfErr};
+ghost use Rattle.std.specs.Prelude.{◌≡◌, ◌<◌, ℕ, vec_len, slice_index_or, IfOk, IfErr};
 ghost use Rattle.fak_kernel.specs.Processors.{AreFor};
 ghost use Rattle.fak_kernel.specs.Threads.{HasAnswered, HasBegun, IsOfRun};
 

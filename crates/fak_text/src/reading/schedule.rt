@@ -1,6 +1,6 @@
 //! The reader of schedules.
 
-ghost use Rattle.std.specs.Prelude.{◌≡◌, length, IfOk};
+ghost use Rattle.std.specs.Prelude.{◌≡◌, IfOk};
 ghost use Rattle.serde_json.specs.View.{view, items_view};
 ghost use Rattle.fak_text.specs.Gives.{Gives};
 ghost use Rattle.fak_text.specs.Values.{each_from};

@@ -1,6 +1,6 @@
 //! The reader of scripts.
 
-ghost use Rattle.std.specs.Prelude.{◌≡◌, ◌≤◌, IfOk};
+ghost use Rattle.std.specs.Prelude.{◌≤◌, IfOk};
 ghost use Rattle.serde_json.specs.View.{view, items_view};
 ghost use Rattle.fak_model.specs.Limits.{longest_stint};
 ghost use Rattle.fak_text.specs.Gives.{Gives};

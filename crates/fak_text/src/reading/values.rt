@@ -4,7 +4,7 @@ ghost use Rattle.std.specs.Prelude.{◌≡◌, ◌≤◌, ◌<◌, length, IfOk,
 ghost use Rattle.serde_json.specs.Events.{items_len};
 ghost use Rattle.serde_json.specs.View.{view, items_view};
 ghost use Rattle.fak_text.specs.Gives.{Gives};
-ghost use Rattle.fak_text.specs.Values.{json_in, input_in, whole_number, number_within, number_below, number_at, text_at, value_of_key, number_of_key, elements_within, elements_of_key};
+ghost use Rattle.fak_text.specs.Values.{json_in, input_in, number_within, number_below, number_at, text_at, value_of_key, number_of_key, elements_within, elements_of_key};
 
 use crate::fault::{Field, TextFault};
 use serde_json::Value;

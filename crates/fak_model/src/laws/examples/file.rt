@@ -1,6 +1,6 @@
 //! What a file table's history may and may not go on with, on either side of each part of the definition.
 
-ghost use Rattle.std.specs.Prelude.{[], ◌∷◌, ◌++◌};
+ghost use Rattle.std.specs.Prelude.{[], ◌∷◌};
 ghost use Rattle.fak_model.specs.declared.file.FileField.TheVariants.{Inode, Uses};
 ghost use Rattle.fak_model.specs.declared.file.FileKind.TheVariants.{Take, Over, Back, No, Set, Give};
 ghost use Rattle.fak_model.specs.File.{IsFileHistory};

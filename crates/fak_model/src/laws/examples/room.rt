@@ -1,6 +1,6 @@
 //! What a room's history may and may not go on with, on either side of each part of the definition.
 
-ghost use Rattle.std.specs.Prelude.{[], ◌∷◌, ◌++◌};
+ghost use Rattle.std.specs.Prelude.{[], ◌∷◌};
 ghost use Rattle.fak_model.specs.declared.room.RoomKind.TheVariants.{Up, Over, Back, No, Release};
 ghost use Rattle.fak_model.specs.Room.{IsRoomHistory};
 ghost use Rattle.fak_model.specs.Examples.{Parts, room_by};

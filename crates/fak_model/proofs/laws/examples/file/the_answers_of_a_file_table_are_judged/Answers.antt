@@ -1,5 +1,5 @@
 use Rattle.std.proofs.Common.{[], ◌∷◌, refl}
-use Rattle.fak_model.specs.declared.file.FileField.TheVariants.{Inode, Uses}
+use Rattle.fak_model.specs.declared.file.FileField.TheVariants.{Inode}
 use Rattle.fak_model.specs.declared.file.FileKind.TheVariants.{Take, Over, Back, No, Set, Give}
 use Rattle.fak_model.specs.Examples.{file_by}
 use Rattle.fak_model.proofs.Examples.{file_parts}
