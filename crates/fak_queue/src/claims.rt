@@ -40,6 +40,7 @@ impl<T: Drop> Queue<T> {
         ) {
             Ok(ticket) => {
                 seat.left -= 1;
+                seat.tests.expect_insertion();
                 seat.phase = Phase::TurnIn(ticket, item);
                 Ok(ticket)
             }
@@ -66,6 +67,7 @@ impl<T: Drop> Queue<T> {
         match admit_deletion(words, &mut seat.token, self.cells.size, &mut seat.tests) {
             Ok(ticket) => {
                 seat.left -= 1;
+                seat.tests.expect_deletion();
                 seat.phase = Phase::TurnOut(ticket);
                 Ok(ticket)
             }

@@ -86,7 +86,7 @@ impl<T: Drop> Queue<T> {
                 seats,
                 left: stint,
                 phase: Phase::Idle,
-                tests: CountTests::new(),
+                tests: CountTests::new(stint),
             };
             if dealt.push(seat).is_err() {
                 return Err(OpenFault::Memory);

@@ -14,7 +14,8 @@ use crate::turns::{wait_to_empty, wait_to_fill};
 use std::sync::Wait;
 
 impl<T: Drop> Queue<T> {
-    /// Inserts the item: one claim, and where it is granted tries until it is the cell's turn. Answers the ticket.
+    /// Inserts the item: one claim, and where it is granted tries until it is the cell's turn. Answers the ticket. Where other
+    /// seats change the queue at the same time it may rest first, for a moment for each cell and some microseconds at most.
     ///
     /// Refused with `Worn`, `Closed` or `Full`, in this order; the item comes back.
     pub fn insert<R: Wait>(
@@ -34,6 +35,7 @@ impl<T: Drop> Queue<T> {
         if seat.left == 0 {
             return refuse_worn(item);
         }
+        seat.tests.upper.give_way(self.cells.size, seat.left);
         let words = &self.table.shared;
         match admit_insertion(
             words,
@@ -44,6 +46,7 @@ impl<T: Drop> Queue<T> {
         ) {
             Ok(ticket) => {
                 seat.left -= 1;
+                seat.tests.expect_insertion();
                 let place = self.cells.place(ticket);
                 wait_to_fill(rt, words, &mut seat.token, place, item);
                 Ok(ticket)
@@ -53,7 +56,7 @@ impl<T: Drop> Queue<T> {
     }
 
     /// Deletes the oldest item: one claim, and where it is granted tries until it is the cell's turn. Answers the ticket
-    /// and the item.
+    /// and the item. It may rest first, as `insert` may.
     ///
     /// Refused with `Worn` or `Empty`, in this order.
     pub fn delete<R: Wait>(&self, rt: &R, seat: &mut Seat<T>) -> Result<(u64, T), DeleteFault>
@@ -68,10 +71,12 @@ impl<T: Drop> Queue<T> {
         if seat.left == 0 {
             return Err(DeleteFault::Worn);
         }
+        seat.tests.lower.give_way(self.cells.size, seat.left);
         let words = &self.table.shared;
         match admit_deletion(words, &mut seat.token, self.cells.size, &mut seat.tests) {
             Ok(ticket) => {
                 seat.left -= 1;
+                seat.tests.expect_deletion();
                 let place = self.cells.place(ticket);
                 Ok((ticket, wait_to_empty(rt, words, &mut seat.token, place)))
             }
