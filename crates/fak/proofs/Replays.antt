@@ -1,6 +1,5 @@
 -- The text of a replay, action by action.
-use Rattle.std.proofs.Common.{◌≡◌, ℕ, suc, ◌+◌, ◌-◌, ◌<◌, List, [], ◌∷◌, ◌++◌, ap, sym, ◌∙◌, arith, append_assoc}
-use Rattle.std.specs.Prelude.{replicate}
+use Rattle.std.proofs.Common.{◌≡◌, ℕ, suc, ◌+◌, ◌-◌, ◌<◌, List, [], ◌∷◌, ◌++◌, ap, sym, ◌∙◌, arith, append_assoc, replicate}
 use Rattle.fak.specs.declared.machine.Machine.{Machine}
 use Rattle.fak.specs.declared.row.Row.{Row}
 use Rattle.fak.specs.Replay.{Action, ReplayOutcome, steps, outcome_of, rows_from, text_of_row, text_of_rows}

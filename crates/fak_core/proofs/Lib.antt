@@ -1,3 +1,4 @@
+pub mod Common
 pub mod ListWrites
 pub mod RoomMarks
 pub mod RoomKept

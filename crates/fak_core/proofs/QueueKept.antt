@@ -4,11 +4,8 @@ use Rattle.fak_model.specs.declared.queue.Kind.TheVariants.{Fill, Take, Close}
 use Rattle.fak_model.specs.declared.queue.Mark.{Mark}
 use Rattle.fak_model.specs.declared.queue.Stage.{Stage}
 use Rattle.fak_model.specs.declared.queue.Stage.TheVariants as made
-use Rattle.fak_model.specs.Queue.{count, puts, gots, upper_count, lower_count, Has}
-use Rattle.fak_model.specs.QueuePast.{stage, item_of, IsLegalPast}
-use Rattle.fak_core.specs.declared.queue.phase.Phase.{Phase}
-use Rattle.fak_core.specs.declared.queue.phase.Phase.TheVariants.{Idle, TestUp, AddUp, BackUp, TicketIn, TurnIn, StoreItem, SetFull, EndInsert, TestLow, SubLow, BackLow, TicketOut, TurnOut, LoadItem, SetFree, EndDelete, SetShut}
-use Rattle.fak_core.specs.QueueMoves.{QueueState}
+use Rattle.fak_model.proofs.Common.{count, puts, gots, upper_count, lower_count, Has, stage, item_of, IsLegalPast}
+use Rattle.fak_core.proofs.Common.{Phase, Idle, TestUp, AddUp, BackUp, TicketIn, TurnIn, StoreItem, SetFull, EndInsert, TestLow, SubLow, BackLow, TicketOut, TurnOut, LoadItem, SetFree, EndDelete, SetShut, QueueState}
 
 -- what the marks show of a phase
 abbrev pub shown : {A : Type 0} → Phase A → Stage A

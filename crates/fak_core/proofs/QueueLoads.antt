@@ -1,12 +1,9 @@
 -- A deletion loads the item of the Put with its own ticket.
-use Rattle.std.proofs.Common.{◌≡◌, ℕ, List, [], ◌∷◌, ◌++◌, Some, reverse, refl, sym, ap, ◌∙◌, subst, inl, inr}
-use Rattle.std.specs.Prelude.{IsSome}
-use Rattle.std.proofs.lemmas.List.{reverse-reverse}
+use Rattle.std.proofs.Common.{◌≡◌, ℕ, List, [], ◌∷◌, ◌++◌, Some, reverse, refl, sym, ap, ◌∙◌, subst, inl, inr, IsSome}
+use Rattle.fak_model.proofs.Common.{reverse-reverse, gots, item_at, items_put, Drew, stage, item_of, MayFollow, IsLegalPast}
 use Rattle.fak_model.specs.declared.queue.Kind.TheVariants.{Got}
 use Rattle.fak_model.specs.declared.queue.Mark.{Mark}
 use Rattle.fak_model.specs.declared.queue.Stage.TheVariants.{Getting}
-use Rattle.fak_model.specs.Queue.{gots, item_at, items_put, Drew}
-use Rattle.fak_model.specs.QueuePast.{stage, item_of, MayFollow, IsLegalPast}
 use Rattle.fak_model.proofs.QueueStages.{after_getting}
 use Rattle.fak_model.proofs.QueueTickets.{item_stays}
 use Rattle.fak_model.proofs.QueueBackwards.{item_same, last_of, drew}

@@ -4,15 +4,11 @@ use Rattle.fak_model.specs.declared.queue.Kind.{Kind}
 use Rattle.fak_model.specs.declared.queue.Kind.TheVariants.{Fill, Take, Close}
 use Rattle.fak_model.specs.declared.queue.Mark.{Mark}
 use Rattle.fak_model.specs.declared.queue.Stage.TheVariants.{Putting, Getting}
-use Rattle.fak_model.specs.Queue.{count, puts, gots, upper_count, lower_count, Has}
-use Rattle.fak_model.specs.QueuePast.{after, stage, MayFollow}
+use Rattle.fak_model.proofs.Common.{count, puts, gots, upper_count, lower_count, Has, after, stage, MayFollow}
 use Rattle.fak_model.proofs.QueueStages.{stage_here, stage_else}
 use Rattle.fak_model.proofs.QueueTickets.{putting_one, putting_unfilled, getting_one, getting_untaken}
-use Rattle.fak_core.specs.declared.queue.phase.Phase.{Phase}
-use Rattle.fak_core.specs.declared.queue.phase.Phase.TheVariants.{StoreItem, SetFull, LoadItem, SetFree}
-use Rattle.fak_core.specs.QueueMoves.{QueueState, with_at, with_phase}
+use Rattle.fak_core.proofs.Common.{Phase, StoreItem, SetFull, LoadItem, SetFree, QueueState, with_at, with_phase, InCell}
 use Rattle.fak_core.proofs.QueueKept.{shown, TakenBefore, IsReady, Turns, Cells, TellsShut, IsKept}
-use Rattle.fak_core.specs.QueueSchedule.{InCell}
 use Rattle.fak_core.proofs.QueueTurns.{at_else, by_place, one_ticket, fill_turn, take_turn, le_or_lt}
 
 -- ---- at most one seat in each cell

@@ -2,8 +2,7 @@
 use Rattle.std.proofs.Common.{◌≡◌, ◌≢◌, ◌⊎◌, ℕ, ◌+◌, ◌-◌, ◌*◌, ◌/◌, ◌%◌, ◌<◌, ◌≤◌, List, ◌∷◌, Option, Some, sym, ap, ◌∙◌, subst, inl, inr, arith}
 use Rattle.fak_model.specs.declared.queue.Kind.TheVariants.{Fill, Take}
 use Rattle.fak_model.specs.declared.queue.Mark.{Mark}
-use Rattle.fak_model.specs.Queue.{Has}
-use Rattle.fak_model.specs.QueuePast.{item_of, IsLegalPast}
+use Rattle.fak_model.proofs.Common.{Has, item_of, IsLegalPast}
 use Rattle.fak_model.proofs.Deciding.{same_or_not, cond_here, cond_else}
 use Rattle.fak_model.proofs.QueueTickets.{item_stays, item_there, fill_below}
 use Rattle.fak_core.specs.QueueMoves.{with_at}

@@ -1,29 +1,20 @@
 -- What every step of a room core keeps.
-use Rattle.std.proofs.Common.{◌≡◌, ◌≢◌, ℕ, ◌+◌, ◌-◌, ◌<◌, ◌≤◌, Bool, true, false, cond, List, [], ◌∷◌, ◌++◌, length, reverse, Option, Some, None, Ok, Err, refl, ap, sym, ◌∙◌, subst, arith, inl, inr, slice_get, slice_set}
-use Rattle.std.specs.Prelude.{ℤ, pos, ◌+ℤ◌, ◌-ℤ◌, ◌≤ℤ◌, ◌<ℤ◌, nat_lt, All}
-use Rattle.std.proofs.lemmas.Bool.Decides.{nat_tests}
-use Rattle.std.proofs.lemmas.Int.{ints}
-use Rattle.std.specs.List.{sum_by}
-use Rattle.std.proofs.lemmas.List.Elements.{All-push, All-nil, All-head, All-tail}
-use Rattle.std.proofs.lemmas.Option.{slice_get_within}
+use Rattle.std.proofs.Common.{◌≡◌, ◌≢◌, ℕ, ◌+◌, ◌-◌, ◌<◌, ◌≤◌, Bool, true, false, cond, List, [], ◌∷◌, ◌++◌, length, reverse, Option, Some, None, Ok, Err, refl, ap, sym, ◌∙◌, subst, arith, inl, inr, slice_get, slice_set, ℤ, pos, ◌+ℤ◌, ◌-ℤ◌, ◌≤ℤ◌, ◌<ℤ◌, nat_lt, All, sum_by}
+use Rattle.fak_model.proofs.Common.{nat_tests, ints, All-push, All-nil, All-head, All-tail, slice_get_within, AreNamed}
 use Rattle.fak_model.specs.declared.room.RoomKind.{RoomKind}
 use Rattle.fak_model.specs.declared.room.RoomKind.TheVariants.{Up, Over, Back, No, Release as GivenBack}
 use Rattle.fak_model.specs.declared.room.RoomMark.{RoomMark}
-use Rattle.fak_model.specs.Histories.{AreNamed}
 use Rattle.fak_model.specs.Room.{Granted, Refused, Withdrawn, Released, kinds_of_call, up_amount, release_amount, value, amount_held, room_rules, IsFair, IsRoomHistory}
 use Rattle.fak_model.proofs.Appending.{seat_words-other, call_begins, history_none, history_owed}
 use Rattle.fak_model.proofs.Leading.{}
 use Rattle.fak_model.proofs.Deciding.{same_or_not}
 use Rattle.fak_model.proofs.Reversing.{reverse_cons}
-use Rattle.fak_core.specs.declared.call.RoomCall.{RoomCall}
+use Rattle.fak_core.proofs.Common.{RoomCall, CoreSeat, RoomMove, RoomEvent, Begins, Advances, IsEvent, after_step, after_begin, happens, run}
 use Rattle.fak_core.specs.declared.call.RoomCall.TheVariants.{Tir, Release}
 use Rattle.fak_core.specs.declared.fault.CoreFault.TheVariants.{NotHeld}
 use Rattle.fak_core.specs.declared.room.phase.RoomPhase.{RoomPhase}
 use Rattle.fak_core.specs.declared.room.phase.RoomPhase.TheVariants.{Idle, Testing, Adding, Backing, Releasing}
-use Rattle.fak_core.specs.declared.room.phase.CoreSeat.{CoreSeat}
-use Rattle.fak_core.specs.declared.room.step.RoomMove.{RoomMove}
 use Rattle.fak_core.specs.Room.{RoomState, history_of, opening, fits, test_move, add_move, back_move, release_move, next_move, moved, or_idle, seat_step, begun_phase, held_with, seat_begin, begun, amount_of, HasRange}
-use Rattle.fak_core.specs.RoomSchedule.{RoomEvent, Begins, Advances, IsEvent, after_step, after_begin, happens, run}
 use Rattle.fak_core.proofs.ListWrites.{length-slice_set, written_here, written_elsewhere, slice_get-replicate}
 use Rattle.fak_core.proofs.RoomMarks.{kinds_by, OwesKinds, held_after, count_after, amount_held-own, value-push}
 

@@ -1,12 +1,8 @@
 -- What one more mark does to the value of a room's history, and to what its seat holds.
-use Rattle.std.proofs.Common.{◌≡◌, ℕ, ◌+◌, ◌-◌, List, [], ◌∷◌, ◌++◌, refl, ap, arith}
-use Rattle.std.specs.Prelude.{ℤ, pos, ◌+ℤ◌, ◌-ℤ◌}
-use Rattle.std.specs.List.{sum_by}
-use Rattle.std.proofs.lemmas.Int.{ints}
-use Rattle.std.proofs.lemmas.List.Sums.{sum_by_push}
+use Rattle.std.proofs.Common.{◌≡◌, ℕ, ◌+◌, ◌-◌, List, [], ◌∷◌, ◌++◌, refl, ap, arith, ℤ, pos, ◌+ℤ◌, ◌-ℤ◌, sum_by}
+use Rattle.fak_model.proofs.Common.{ints, sum_by_push, words_by, Owes}
 use Rattle.fak_model.specs.declared.room.RoomKind.{RoomKind}
 use Rattle.fak_model.specs.declared.room.RoomMark.{RoomMark}
-use Rattle.fak_model.specs.Histories.{words_by, Owes}
 use Rattle.fak_model.specs.Room.{seat_of, kind_of, kinds_of_call, up_amount, over_amount, back_amount, release_amount, value, amount_held, room_rules, IsRoomHistory}
 use Rattle.fak_model.proofs.Appending.{seat_words-own}
 use Rattle.fak_model.proofs.Leading.{total_push}

@@ -1,25 +1,17 @@
 -- The reached states of a room core: how they go on, and what holds of them.
-use Rattle.std.proofs.Common.{◌≡◌, ℕ, ◌+◌, ◌-◌, ◌*◌, ◌<◌, ◌≤◌, List, [], ◌∷◌, ◌++◌, length, Option, Some, Ok, Err, refl, ap, sym, ◌∙◌, subst, arith, slice_get, get_or}
-use Rattle.std.specs.Prelude.{pos, Result}
-use Rattle.std.proofs.lemmas.Int.{ints}
-use Rattle.std.specs.List.{sum_by}
+use Rattle.std.proofs.Common.{◌≡◌, ℕ, ◌+◌, ◌-◌, ◌*◌, ◌<◌, ◌≤◌, List, [], ◌∷◌, ◌++◌, length, Option, Some, Ok, Err, refl, ap, sym, ◌∙◌, subst, arith, slice_get, get_or, pos, Result, sum_by}
+use Rattle.fak_model.proofs.Common.{ints, sum_by-cons, All-push, All-nil, slice_get_within, slice_get-get_or, sum_below}
 use Rattle.std.proofs.Math.ListN.{length-replicate}
-use Rattle.std.proofs.lemmas.List.Sums.{sum_by-cons}
-use Rattle.std.proofs.lemmas.List.Elements.{All-push, All-nil}
-use Rattle.std.proofs.lemmas.Option.{slice_get_within, slice_get-get_or}
 use Rattle.fak_model.specs.declared.room.RoomKind.{RoomKind}
 use Rattle.fak_model.specs.declared.room.RoomKind.TheVariants.{Back}
 use Rattle.fak_model.specs.declared.room.RoomMark.{RoomMark}
-use Rattle.fak_model.specs.Histories.{sum_below}
 use Rattle.fak_model.specs.Room.{kinds_of_call, total, over_amount, back_amount, value, amount_held, room_rules}
 use Rattle.fak_model.proofs.Leading.{calls_lead, owes_even, sum_same, sum_parts, sum_plus, sum_most, sum_term}
 use Rattle.fak_model.proofs.RoomLaw.{backs_after, call_even, held_fits}
-use Rattle.fak_core.specs.declared.call.RoomCall.{RoomCall}
+use Rattle.fak_core.proofs.Common.{RoomCall, CoreSeat, RoomMove}
 use Rattle.fak_core.specs.declared.fault.CoreFault.{CoreFault}
 use Rattle.fak_core.specs.declared.room.phase.RoomPhase.{RoomPhase}
 use Rattle.fak_core.specs.declared.room.phase.RoomPhase.TheVariants.{Idle, Testing, Adding, Backing, Releasing}
-use Rattle.fak_core.specs.declared.room.phase.CoreSeat.{CoreSeat}
-use Rattle.fak_core.specs.declared.room.step.RoomMove.{RoomMove}
 use Rattle.fak_core.specs.Room.{RoomState, history_of, opening, next_move, moved, or_idle, seat_step, step_of, begun_phase, held_with, seat_begin, begin_of, begun, amount_of}
 use Rattle.fak_core.specs.RoomSchedule.{RoomEvent, Begins, Advances, IsEvent, after_step, after_begin, happens, run, IsReached}
 use Rattle.fak_core.proofs.ListWrites.{length-slice_set}

@@ -1,19 +1,12 @@
 -- From the steps of a seat of a room to what its calls promise.
-use Rattle.std.proofs.Common.{◌≡◌, ℕ, ◌+◌, ◌<◌, ◌≤◌, List, [], ◌∷◌, ◌++◌, length, refl, ap, sym, ◌∙◌, subst, arith}
-use Rattle.std.specs.Prelude.{ℤ, pos, ◌-ℤ◌, reverse, map}
-use Rattle.std.specs.List.{sum_by, flat_map}
-use Rattle.std.proofs.lemmas.Int.{ints}
+use Rattle.std.proofs.Common.{◌≡◌, ℕ, ◌+◌, ◌<◌, ◌≤◌, List, [], ◌∷◌, ◌++◌, length, refl, ap, sym, ◌∙◌, subst, arith, ℤ, pos, ◌-ℤ◌, reverse, map, sum_by, flat_map}
+use Rattle.fak_model.proofs.Common.{ints, sum_by-append, sum_by-cons, marks_of, sight, ObjectId, object_id, SeatInfo, seat_info, TallyInfo, IsJoined, Appends, before_mark, before_appended, IsSeatToken, bias}
 use Rattle.std.proofs.lemmas.List.{append-nil, map-append}
-use Rattle.std.proofs.lemmas.List.Sums.{sum_by-append, sum_by-cons}
 use Rattle.atomic_table.specs.Seated.{TableId}
 use Rattle.fak_model.specs.declared.room.RoomKind.{RoomKind}
 use Rattle.fak_model.specs.declared.room.RoomKind.TheVariants.{Up, Over, Back, No, Release}
 use Rattle.fak_model.specs.declared.room.RoomMark.{RoomMark}
 use Rattle.fak_model.specs.Room.{WholeCall, kinds_of_call, seat_of, kind_of, up_amount, release_amount, value, amount_held, room_rules}
-use Rattle.fak_model.specs.Seats.{marks_of}
-use Rattle.fak_model.specs.Views.{sight}
-use Rattle.fak_model.specs.Calls.{ObjectId, object_id, SeatInfo, seat_info, TallyInfo, IsJoined, Appends, before_mark, before_appended}
-use Rattle.fak_model.specs.Tokens.{IsSeatToken}
 use Rattle.fak_model.proofs.Appending.{history_none}
 use Rattle.fak_model.proofs.Resting.{rest_after, rest_joined, rest_none}
 use Rattle.fak_model.proofs.RoomLaw.{releases_le}
@@ -22,7 +15,6 @@ use Rattle.fak_model.proofs.RunningCalls.{token_names, mine_after, begins_after,
 use Rattle.fak_core.specs.declared.room.phase.RoomPhase.{RoomPhase}
 use Rattle.fak_core.specs.declared.room.phase.RoomPhase.TheVariants.{Idle, Adding, Backing}
 use Rattle.fak_count.specs.declared.rooms.limits.RoomLimits.{RoomLimits}
-use Rattle.fak_model.specs.Words.{bias}
 use Rattle.fak_count.specs.RoomShown.{RoomHolder, room_mark, LeavesRoom, Holds, Tested, Added, Lowered}
 use Rattle.fak_count.specs.Rooms.{RoomInfo, room_info, up_weight, grants_of, granted_claims, held_amount, room_seat, MakesCall, Withdraws, IsSettled}
 

@@ -1,21 +1,11 @@
 -- Each kind of step on a room keeps the rule, and tells what it did.
-use Rattle.std.proofs.Common.{◌≡◌, ◌≢◌, ℕ, ◌+◌, ◌-◌, ◌%◌, ◌^◌, ◌<◌, ◌≤◌, Bool, true, false, List, [], ◌∷◌, ◌++◌, length, slice_index, slice_get, refl, ap, ◌∙◌, subst, arith, Option, Some, None}
-use Rattle.std.specs.Prelude.{pos, ◌+ℤ◌, ◌-ℤ◌, ◌≤ℤ◌, ◌<ℤ◌, nat_lt, map, reverse, replicate, Ok}
-use Rattle.std.specs.List.{sum_by}
-use Rattle.std.proofs.lemmas.Bool.Decides.{nat_tests}
-use Rattle.std.proofs.lemmas.Int.{ints}
-use Rattle.std.proofs.lemmas.Option.{slice_get_within, slice_get-get_or}
-use Rattle.std.proofs.lemmas.List.{get_or-replicate}
+use Rattle.std.proofs.Common.{◌≡◌, ◌≢◌, ℕ, ◌+◌, ◌-◌, ◌%◌, ◌^◌, ◌<◌, ◌≤◌, Bool, true, false, List, [], ◌∷◌, ◌++◌, length, slice_index, slice_get, refl, ap, ◌∙◌, subst, arith, Option, Some, None, pos, ◌+ℤ◌, ◌-ℤ◌, ◌≤ℤ◌, ◌<ℤ◌, nat_lt, map, reverse, replicate, Ok, sum_by}
+use Rattle.fak_model.proofs.Common.{nat_tests, ints, slice_get_within, slice_get-get_or, get_or-replicate, some, get_elem?, IsHistory, sight, AreOwn, Leaves, bias}
 use Rattle.std.proofs.Math.ListN.{length-replicate}
-use mathlib.Core.Option.{some}
-use lib.ListN.{get_elem?}
 use Rattle.atomic_table.specs.Table.{State, Act, keeps, stepped, carried_after, Valid, opening, Allows}
 use Rattle.fak_model.specs.declared.room.RoomKind.{RoomKind}
 use Rattle.fak_model.specs.declared.room.RoomKind.TheVariants.{Up, Over, Back, No, Release as GivenBack}
-use Rattle.fak_model.specs.Histories.{IsHistory}
 use Rattle.fak_model.specs.Room.{seat_of, kind_of, up_amount, release_amount, room_rules, amount_held}
-use Rattle.fak_model.specs.Views.{sight, AreOwn}
-use Rattle.fak_model.specs.Shown.{Leaves}
 use Rattle.fak_model.proofs.RunningSteps.{AreLawful, Advances, steps, bears, sees_now, stands_now}
 use Rattle.fak_model.proofs.RunningCalls.{sees_knows}
 use Rattle.fak_model.proofs.RunningSeats.{starts, hears}
@@ -30,7 +20,6 @@ use Rattle.fak_core.proofs.RoomKept.{IsKept}
 use Rattle.fak_core.proofs.RoomReached.{opening_reached, reached_move, reached_begin, reached_kept, reached_shape, reached_count, held_within}
 use Rattle.fak_count.specs.declared.rooms.limits.RoomLimits.{RoomLimits}
 use Rattle.fak_count.specs.Opening.{IsInRange}
-use Rattle.fak_model.specs.Words.{bias}
 use Rattle.fak_count.specs.Words.{count_place, KeepsCount}
 use Rattle.fak_count.specs.RoomShown.{RoomView, RoomHolder, room_mark, IsReachedRoom, StandsInRoom, room_object, IsShownRoom, opened_room, Holds, FoundValue, LeavesRoom, Tested, Added, Lowered, HeardJoin}
 use Rattle.fak_count.proofs.CountWords.{writes, added, subtracted}

@@ -1,22 +1,14 @@
 -- What a closed file table shows.
-use Rattle.std.proofs.Common.{◌≡◌, ◌≢◌, inl, inr, slice_set, ℕ, zero, suc, ◌+◌, ◌<◌, List, [], ◌∷◌, length, take, slice_get, slice_index, get_or, Some, None, refl, ap, sym, ◌∙◌, subst, arith}
-use Rattle.std.specs.Prelude.{reverse}
-use mathlib.Core.Option.{some, some-injective, some-ne-none}
-use lib.ListN.{get_elem?}
+use Rattle.std.proofs.Common.{◌≡◌, ◌≢◌, inl, inr, slice_set, ℕ, zero, suc, ◌+◌, ◌<◌, List, [], ◌∷◌, length, take, slice_get, slice_index, get_or, Some, None, refl, ap, sym, ◌∙◌, subst, arith, reverse}
+use Rattle.fak_model.proofs.Common.{some, some-injective, some-ne-none, get_elem?, file_rules, IsWhole}
 use Rattle.atomic_table.specs.Table.{State}
 use Rattle.fak_model.specs.declared.file.FileEntry.{FileEntry}
 use Rattle.fak_model.specs.declared.file.FileField.TheVariants.{Inode, Uses}
 use Rattle.fak_model.specs.declared.file.FileMark.{FileMark}
-use Rattle.fak_model.specs.File.{file_rules}
-use Rattle.fak_model.specs.Seats.{IsWhole}
 use Rattle.fak_model.proofs.Deciding.{same_or_not}
 use Rattle.fak_model.proofs.RunningViews.{sees_whole}
-use Rattle.fak_files.specs.declared.limits.FileLimits.{FileLimits}
-use Rattle.fak_files.specs.Words.{word_of}
+use Rattle.fak_files.proofs.Common.{FileLimits, word_of, entry_of, entries_after, entry_in}
 use Rattle.fak_files.specs.Shown.{FileView, IsShownFile, FileHolder}
-use Rattle.fak_files.specs.Versions.{entry_of}
-use Rattle.fak_files.specs.Calls.{entries_after}
-use Rattle.fak_files.specs.Closing.{entry_in}
 
 -- where all seats were joined, the words show what the tally has seen
 pub ends : (table : FileLimits) (s : State (Unit {0}) FileView) (id : ℕ) (m : FileHolder) → IsShownFile table s → get_elem? s.views id ≡ some m.0 → IsWhole table.seats m.0.names → (words : List ℕ) → s.words ≡ words

@@ -1,17 +1,11 @@
 -- The laws of holds: what lies between a Take and its Give, and what is read in a hold.
-use Rattle.std.proofs.Common.{◌≡◌, ◌≢◌, ℕ, ◌<◌, ◌≤◌, ◌==◌, Bool, true, false, List, [], ◌∷◌, ◌++◌, refl, ap, sym, ◌∙◌, subst, arith, inl, inr, append_assoc, true≢false}
-use Rattle.std.specs.Prelude.{reverse, All}
-use Rattle.std.proofs.lemmas.Bool.Decides.{nat_tests}
+use Rattle.std.proofs.Common.{◌≡◌, ◌≢◌, ℕ, ◌<◌, ◌≤◌, ◌==◌, Bool, true, false, List, [], ◌∷◌, ◌++◌, refl, ap, sym, ◌∙◌, subst, arith, inl, inr, append_assoc, true≢false, reverse, All}
+use Rattle.fak_model.proofs.Common.{nat_tests, All-head, All-tail, All-cons, All-nil, AreNamed, seat_of, amount_held, hold_after, field, IsFair, file_rules, IsFileHistory, marks_of, Foreign}
 use Rattle.std.proofs.lemmas.List.{append-nil, reverse-append, reverse-reverse}
-use Rattle.std.proofs.lemmas.List.Elements.{All-head, All-tail, All-cons, All-nil}
 use Rattle.fak_model.specs.declared.file.FileField.{FileField}
 use Rattle.fak_model.specs.declared.file.FileKind.{FileKind}
 use Rattle.fak_model.specs.declared.file.FileKind.TheVariants.{Take, Over, Back, No, Set, Give}
 use Rattle.fak_model.specs.declared.file.FileMark.{FileMark}
-use Rattle.fak_model.specs.Histories.{AreNamed}
-use Rattle.fak_model.specs.File.{seat_of, amount_held, hold_after, field, IsFair, file_rules, IsFileHistory}
-use Rattle.fak_model.specs.Seats.{marks_of}
-use Rattle.fak_model.specs.Views.{Foreign}
 use Rattle.fak_model.proofs.Deciding.{same_or_not}
 use Rattle.fak_model.proofs.Appending.{history_prefix, last_fair}
 use Rattle.fak_model.proofs.Reversing.{reverse_push}

@@ -1,22 +1,14 @@
 -- The words and seats of a new file table.
-use Rattle.std.proofs.Common.{◌≡◌, ℕ, ◌+◌, ◌<◌, ◌≤◌, List, [], ◌∷◌, ◌++◌, length, take, replicate, set, get_or, refl, ap, sym, ◌∙◌, subst, arith}
-use Rattle.std.specs.Prelude.{reverse}
-use Rattle.std.proofs.lemmas.Int.{ints}
+use Rattle.std.proofs.Common.{◌≡◌, ℕ, ◌+◌, ◌<◌, ◌≤◌, List, [], ◌∷◌, ◌++◌, length, take, replicate, set, get_or, refl, ap, sym, ◌∙◌, subst, arith, reverse}
+use Rattle.fak_model.proofs.Common.{ints, words_by, seat_of, kind_of, file_rules, IsFileHistory, sight, ObjectId, SeatInfo, seat_info, fresh_seats, bias}
 use Rattle.std.proofs.lemmas.List.{get_or-take, get_or-set_other, get_or-replicate, length-take-le}
 use Rattle.atomic_table.specs.Table.{opening}
 use Rattle.fak_model.specs.declared.file.FileField.{FileField}
 use Rattle.fak_model.specs.declared.file.FileMark.{FileMark}
-use Rattle.fak_model.specs.Histories.{words_by}
-use Rattle.fak_model.specs.File.{seat_of, kind_of, file_rules, IsFileHistory}
-use Rattle.fak_model.specs.Views.{sight}
-use Rattle.fak_model.specs.Calls.{ObjectId, SeatInfo, seat_info, fresh_seats}
 use Rattle.fak_model.proofs.Appending.{history_none}
 use Rattle.fak_model.proofs.RunningSeats.{starts}
 use Rattle.fak_model.proofs.RunningJoins.{fresh_token, fresh_next}
-use Rattle.fak_files.specs.declared.phase.FilePhase.TheVariants.{Idle}
-use Rattle.fak_files.specs.declared.phase.Hold.TheVariants.{Nothing}
-use Rattle.fak_files.specs.Phases.{StandsIn}
-use Rattle.fak_model.specs.Words.{bias}
+use Rattle.fak_files.proofs.Common.{Idle, Nothing, StandsIn}
 use Rattle.fak_files.specs.Words.{count_place, width, word_of}
 use Rattle.fak_files.specs.Shown.{limits, ShowsHistory, file_object, IsShownFile, opened_file, FileHolder}
 use Rattle.fak_files.specs.Calls.{FileSeatInfo, file_seat, idle_seats}

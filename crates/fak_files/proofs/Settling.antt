@@ -1,10 +1,7 @@
 -- What seats of a file table that were joined know.
 use Rattle.std.proofs.Common.{◌≡◌, ℕ, List, [], ◌∷◌, sym, subst, inl, inr}
 use Rattle.fak_model.specs.declared.file.FileMark.{FileMark}
-use Rattle.fak_model.specs.Histories.{words_by, Owes}
-use Rattle.fak_model.specs.File.{seat_of, kind_of, kinds_of_call, file_rules, IsFileHistory}
-use Rattle.fak_model.specs.Resting.{AreBetweenCalls}
-use Rattle.fak_model.specs.Calls.{SeatInfo, TallyInfo, IsJoined}
+use Rattle.fak_model.proofs.Common.{words_by, Owes, seat_of, kind_of, kinds_of_call, file_rules, IsFileHistory, AreBetweenCalls, SeatInfo, TallyInfo, IsJoined}
 use Rattle.fak_model.proofs.Resting.{rest_joined}
 use Rattle.fak_files.specs.SeatTokens.{IsSettled}
 

@@ -1,21 +1,13 @@
 -- How what a processor does balances.
-use Rattle.std.proofs.Common.{◌≡◌, ℕ, List, [], ◌∷◌, ◌++◌, length, refl, ap, sym, ◌∙◌, subst, arith}
-use Rattle.std.specs.Prelude.{None}
-use Rattle.std.specs.List.{sum_by}
-use Rattle.std.proofs.lemmas.List.{append-nil}
-use Rattle.std.proofs.lemmas.List.Sums.{sum_by-append}
+use Rattle.std.proofs.Common.{◌≡◌, ℕ, List, [], ◌∷◌, ◌++◌, length, refl, ap, sym, ◌∙◌, subst, arith, None, sum_by, append-nil}
+use Rattle.fak_model.proofs.Common.{sum_by-append, SeatInfo}
 use Rattle.fak_model.specs.declared.queue.Kind.{Kind}
 use Rattle.fak_model.specs.declared.queue.Mark.{Mark}
 use Rattle.fak_model.specs.declared.credit.CreditKind.TheVariants.{Debit}
-use Rattle.fak_model.specs.Calls.{SeatInfo}
 use Rattle.fak_queue.specs.Retries.{kinds_in, kinds_out}
-use Rattle.fak_text.specs.Script.{ScriptOf}
-use Rattle.fak_text.specs.Journal.{Process, FitsScript}
-use Rattle.fak_kernel.specs.declared.report.Outcome.TheVariants.{Ended, Halted}
-use Rattle.fak_kernel.specs.ListScheduler.{next_step}
-use Rattle.fak_kernel.specs.Ledger.{Ledger, Balanced, nothing, joined}
+use Rattle.fak_text.proofs.Common.{ScriptOf, Process, FitsScript}
+use Rattle.fak_kernel.proofs.Common.{Ended, Halted, next_step, Ledger, Balanced, nothing, joined, ObjectsOf, ProcessorOf, AreFor}
 use Rattle.fak_kernel.specs.Events.{takes, puts, halts, ends, closed, empty}
-use Rattle.fak_kernel.specs.Processors.{ObjectsOf, ProcessorOf, AreFor}
 use Rattle.fak_kernel.specs.Moving.{IsIdle, IsQuiet, GrowsIn, GrowsShut, GrowsAtLast, GrowsOut, GrowsEmpty, BeginsNone, Gains, Moves, row_as}
 use Rattle.fak_kernel.proofs.Joining.{balanced-joined}
 use Rattle.fak_kernel.proofs.Events.{none_waits, quiet, in_other_hands, balanced-beside, keeps_takes, keeps_puts, keeps_halts, keeps_ends}

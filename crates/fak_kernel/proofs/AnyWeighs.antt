@@ -1,9 +1,7 @@
 -- Some element weighs something exactly where all together do.
-use Rattle.std.proofs.Common.{◌≡◌, ℕ, ◌+◌, nat_lt, Bool, true, false, List, [], ◌∷◌, refl, ap, sym, ◌∙◌, arith}
-use Rattle.std.specs.Prelude.{map}
+use Rattle.std.proofs.Common.{◌≡◌, ℕ, ◌+◌, nat_lt, Bool, true, false, List, [], ◌∷◌, refl, ap, sym, ◌∙◌, arith, map}
 use Rattle.std.specs.List.{list_any, sum_by}
-use Rattle.std.proofs.lemmas.Bool.Decides.{nat_tests}
-use Rattle.std.proofs.lemmas.List.Sums.{sum_by-cons}
+use Rattle.fak_model.proofs.Common.{nat_tests, sum_by-cons}
 use Rattle.fak_text.specs.declared.steps.Note.{Note}
 use Rattle.fak_text.specs.Views.{note_of}
 use Rattle.fak_kernel.specs.Ledger.{shuts_of}

@@ -1,15 +1,8 @@
 -- The children of all processes.
-use Rattle.std.proofs.Common.{◌≡◌, ℕ, ◌+◌, ◌<◌, ◌≤◌, List, [], ◌∷◌, ◌++◌, length, slice_get, Some, refl, ap, sym, ◌∙◌, subst, arith}
-use Rattle.std.specs.List.{sum_by}
-use Rattle.std.proofs.lemmas.List.{append-nil}
-use Rattle.std.proofs.lemmas.List.Sums.{sum_by-append}
-use Rattle.fak_model.specs.Room.{up_amount, release_amount}
-use Rattle.fak_text.specs.Script.{ScriptOf, StepOf, steps_of, spawn}
-use Rattle.fak_text.specs.Journal.{NoteOf, spawned, Process, births_of, child_count, Allows, FitsFrom}
-use Rattle.fak_kernel.specs.Report.{RowOf}
-use Rattle.fak_kernel.specs.Ledger.{Ledger, Made, Named, named, child, after_made, IsMade, notes, no_births_of, no_slots_of}
-use Rattle.fak_model.specs.Weights.{refusal_of, other_amount}
-use Rattle.fak_kernel.specs.Whole.{Histories, Gathered, begun_names, asleep}
+use Rattle.std.proofs.Common.{◌≡◌, ℕ, ◌+◌, ◌<◌, ◌≤◌, List, [], ◌∷◌, ◌++◌, length, slice_get, Some, refl, ap, sym, ◌∙◌, subst, arith, sum_by, append-nil}
+use Rattle.fak_model.proofs.Common.{sum_by-append, up_amount, release_amount, refusal_of, other_amount}
+use Rattle.fak_text.proofs.Common.{ScriptOf, StepOf, steps_of, spawn, NoteOf, spawned, Process, births_of, child_count, Allows, FitsFrom}
+use Rattle.fak_kernel.proofs.Common.{RowOf, Ledger, Made, Named, named, child, after_made, IsMade, notes, no_births_of, no_slots_of, Histories, Gathered, begun_names, asleep}
 use Rattle.fak_kernel.specs.Promises.{children_from, children_of}
 use Rattle.fak_kernel.proofs.Sums.{sum_by-map, sum_by_plus, sum_by-zeros}
 use Rattle.fak_kernel.proofs.Conserved.{conserved, grown, fresh}

@@ -1,9 +1,6 @@
 -- How the calls on the shared objects make a seat's own marks grow.
-use Rattle.std.proofs.Common.{◌≡◌, ℕ, Bool, true, false, List, [], ◌∷◌, ◌++◌, length, refl, ap, sym, subst, arith, inl, inr}
-use Rattle.std.specs.Prelude.{map, ℤ, pos, Some, None}
-use Rattle.std.specs.List.{sum_by, flat_map}
-use Rattle.std.proofs.lemmas.List.{append-nil}
-use Rattle.std.proofs.lemmas.List.Sums.{sum_by-append}
+use Rattle.std.proofs.Common.{◌≡◌, ℕ, Bool, true, false, List, [], ◌∷◌, ◌++◌, length, refl, ap, sym, subst, arith, inl, inr, map, ℤ, pos, Some, None, sum_by, flat_map, append-nil}
+use Rattle.fak_model.proofs.Common.{sum_by-append, Rules, SeatInfo, queue_rules, room_rules, credit_rules, value, put_of, got_of}
 use Rattle.fak_model.specs.declared.queue.Kind.{Kind}
 use Rattle.fak_model.specs.declared.queue.Kind.TheVariants.{NoRoom, OverIn, BackIn, NoItem, OverOut, BackOut, Closed, LateIn, Close}
 use Rattle.fak_model.specs.declared.queue.Mark.{Mark}
@@ -13,22 +10,14 @@ use Rattle.fak_model.specs.declared.room.RoomMark.{RoomMark}
 use Rattle.fak_model.specs.declared.credit.CreditKind.{CreditKind}
 use Rattle.fak_model.specs.declared.credit.CreditKind.TheVariants.{Debit, Credit}
 use Rattle.fak_model.specs.declared.credit.CreditMark.{CreditMark}
-use Rattle.fak_model.specs.Histories.{Rules}
-use Rattle.fak_model.specs.Calls.{SeatInfo}
-use Rattle.fak_model.specs.Queue.{queue_rules}
-use Rattle.fak_model.specs.Room.{room_rules}
 use Rattle.fak_model.specs.Room as room
-use Rattle.fak_model.specs.Credit.{credit_rules, value}
 use Rattle.fak_model.specs.Credit as credit
 use Rattle.fak_count.specs.Rooms as rooms
 use Rattle.fak_count.specs.Credits as credits
-use Rattle.fak_queue.specs.Queues.{made_by, Makes, Inserts, Deletes, RefusesFull, RefusesEmpty, RefusesClosed, ShutsAs}
-use Rattle.fak_queue.specs.Retries.{RefusedInsertion, NotIn, WithdrawnIn, ClosedIn, WithdrawnLate, RefusedDeletion, NotOut, WithdrawnOut, kinds_not_in, kinds_not_out, kinds_in, kinds_out}
+use Rattle.fak_queue.proofs.Common.{made_by, Makes, Inserts, Deletes, RefusesFull, RefusesEmpty, RefusesClosed, ShutsAs, RefusedInsertion, NotIn, WithdrawnIn, ClosedIn, WithdrawnLate, RefusedDeletion, NotOut, WithdrawnOut, kinds_not_in, kinds_not_out, kinds_in, kinds_out}
 use Rattle.fak_sem.specs.Semaphores.{SemInfo, SemSeatInfo, credit_part, queue_part, Downs, Ups}
-use Rattle.fak_text.specs.Script.{ScriptOf}
-use Rattle.fak_text.specs.Journal.{Process}
+use Rattle.fak_text.proofs.Common.{ScriptOf, Process}
 use Rattle.fak_kernel.specs.Ledger.{Ledger, Balanced, joined}
-use Rattle.fak_model.specs.Weights.{put_of, got_of}
 use Rattle.fak_kernel.specs.Events.{full, empty, closed}
 use Rattle.fak_kernel.specs.Holding.{Owns, queue_kind, Bundle, Leaves}
 use Rattle.fak_kernel.specs.Turning.{Turning, Grows, Adds}

@@ -1,18 +1,12 @@
 -- Semaphores are closed, one after the other.
-use Rattle.std.proofs.Common.{◌≡◌, ℕ, zero, suc, ◌+◌, List, [], ◌∷◌, ◌++◌, length, take, refl, ap, sym, ◌∙◌, subst, arith, append_assoc}
-use Rattle.std.specs.Prelude.{slice_get, Some}
-use Rattle.std.specs.List.{All, flat_map}
-use Rattle.std.proofs.lemmas.List.{append-nil}
-use Rattle.std.proofs.lemmas.List.Elements.{All-nil, All-cons, All-head, All-tail, All-append}
+use Rattle.std.proofs.Common.{◌≡◌, ℕ, zero, suc, ◌+◌, List, [], ◌∷◌, ◌++◌, length, take, refl, ap, sym, ◌∙◌, subst, arith, append_assoc, slice_get, Some, All, flat_map, append-nil}
+use Rattle.fak_model.proofs.Common.{All-nil, All-cons, All-head, All-tail, All-append, IsWhole}
 use Rattle.fak_model.specs.declared.file.FileMark.{FileMark}
-use Rattle.fak_model.specs.Seats.{IsWhole}
 use Rattle.fak_files.specs.Calls.{entries_after}
 use Rattle.fak_sem.specs.Grants.{IsSettled}
 use Rattle.fak_sem.specs.Semaphores.{SemId, SemInfo, SemTallyInfo, seats_of}
-use Rattle.fak_text.specs.Script.{ScriptOf, down}
-use Rattle.fak_text.specs.Journal.{Process, FitsScript, StandsAt}
-use Rattle.fak_kernel.specs.Processors.{ids_of}
-use Rattle.fak_kernel.specs.Joined.{ids_of_tallies}
+use Rattle.fak_text.proofs.Common.{ScriptOf, down, Process, FitsScript, StandsAt}
+use Rattle.fak_kernel.proofs.Common.{ids_of, ids_of_tallies}
 use Rattle.fak_kernel.specs.Closing.{IsSleeper, IsWholeAt, IsSettledAt, AreClosed, AreClosing, left_at}
 
 module _ {script : ScriptOf} where

@@ -1,17 +1,8 @@
 -- What the ledgers of all processors and the whole histories conserve.
-use Rattle.std.proofs.Common.{◌≡◌, ℕ, zero, suc, ◌+◌, ◌≤◌, List, [], ◌∷◌, length, refl, ap, sym, ◌∙◌, arith}
-use Rattle.std.specs.List.{sum_by}
-use Rattle.std.proofs.lemmas.Int.{ints}
-use Rattle.std.proofs.lemmas.List.{length-map}
-use Rattle.std.proofs.lemmas.List.Sums.{sum_by-append, sum_by_push}
-use Rattle.fak_model.specs.Queue.{contents}
-use Rattle.fak_model.specs.Credit.{debit_weight, credit_weight}
-use Rattle.fak_text.specs.Script.{ScriptOf}
-use Rattle.fak_text.specs.Journal.{NoteOf, Process}
-use Rattle.fak_kernel.specs.Report.{RowOf}
-use Rattle.fak_kernel.specs.Ledger.{Ledger, Made, named, after_made, IsMade, waiting, notes}
-use Rattle.fak_model.specs.Weights.{put_of, got_of}
-use Rattle.fak_kernel.specs.Whole.{Histories, Gathered, begun_names, asleep, lines, lines_of}
+use Rattle.std.proofs.Common.{◌≡◌, ℕ, zero, suc, ◌+◌, ◌≤◌, List, [], ◌∷◌, length, refl, ap, sym, ◌∙◌, arith, sum_by}
+use Rattle.fak_model.proofs.Common.{ints, length-map, sum_by-append, sum_by_push, contents, debit_weight, credit_weight, put_of, got_of}
+use Rattle.fak_text.proofs.Common.{ScriptOf, NoteOf, Process}
+use Rattle.fak_kernel.proofs.Common.{RowOf, Ledger, Made, named, after_made, IsMade, waiting, notes, Histories, Gathered, begun_names, asleep, lines, lines_of}
 use Rattle.fak_kernel.proofs.Sums.{sum_by-ones, sum_by_nothing, sum_by_plus}
 use Rattle.fak_model.proofs.QueueWeights.{queue_weighs, nothing_left, puts_weigh, gots_weigh_one}
 

@@ -1,13 +1,9 @@
 -- How the seats of new objects are dealt to the processors.
-use Rattle.std.proofs.Common.{◌≡◌, ℕ, zero, suc, ◌+◌, ◌<◌, ◌≤◌, List, [], ◌∷◌, ◌++◌, length, drop, get_or, refl, ap, sym, ◌∙◌, arith}
-use Rattle.std.specs.Prelude.{map}
-use Rattle.std.specs.List.{All}
-use Rattle.std.proofs.lemmas.List.{map-append}
-use Rattle.fak_model.specs.Calls.{ObjectId, SeatInfo, fresh_seats}
+use Rattle.std.proofs.Common.{◌≡◌, ℕ, zero, suc, ◌+◌, ◌<◌, ◌≤◌, List, [], ◌∷◌, ◌++◌, length, drop, get_or, refl, ap, sym, ◌∙◌, arith, map, All}
+use Rattle.fak_model.proofs.Common.{map-append, ObjectId, SeatInfo, fresh_seats}
 use Rattle.fak_files.specs.Calls.{idle_seats}
 use Rattle.fak_sem.specs.Semaphores.{SemId, SemInfo, fresh_sem_seats}
-use Rattle.fak_text.specs.Script.{ScriptOf}
-use Rattle.fak_text.specs.Journal.{Process}
+use Rattle.fak_text.proofs.Common.{ScriptOf, Process}
 use Rattle.fak_kernel.specs.Processors.{ObjectsOf, ProcessorOf, ids_of}
 use Rattle.fak_kernel.specs.Opened.{dealt_to, fresh_rows, fresh_sem_at, fresh_all, fresh_processor, zipped, IsSemaphoreFor}
 

@@ -1,14 +1,12 @@
 -- The entries after one mark more.
 use Rattle.std.proofs.Common.{◌≡◌, ◌≢◌, ℕ, zero, suc, ◌+◌, ◌<◌, ◌==◌, true, false, List, [], ◌∷◌, ◌++◌, refl, ap, sym, ◌∙◌, subst, arith}
-use Rattle.std.proofs.lemmas.Bool.Decides.{nat_tests}
+use Rattle.fak_model.proofs.Common.{nat_tests, field, field_after}
 use Rattle.fak_model.specs.declared.file.FileEntry.{FileEntry}
 use Rattle.fak_model.specs.declared.file.FileField.{FileField}
 use Rattle.fak_model.specs.declared.file.FileField.TheVariants.{Inode, Uses}
 use Rattle.fak_model.specs.declared.file.FileKind.TheVariants.{Set}
 use Rattle.fak_model.specs.declared.file.FileMark.{FileMark}
-use Rattle.fak_model.specs.File.{field, field_after}
-use Rattle.fak_files.specs.Versions.{entry_of}
-use Rattle.fak_files.specs.Calls.{entries_after}
+use Rattle.fak_files.proofs.Common.{entry_of, entries_after}
 use Rattle.fak_files.proofs.WordPlaces.{field-push}
 use Rattle.fak_kernel.specs.Holds.{with_field, set_in}
 

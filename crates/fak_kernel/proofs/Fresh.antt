@@ -1,34 +1,21 @@
 -- Processors with seats as they are opened: what they know, and the lists that the list scheduler has where there is one.
-use Rattle.std.proofs.Common.{◌≡◌, ℕ, zero, suc, ◌+◌, ◌-◌, ◌<◌, List, [], ◌∷◌, All, length, map, replicate, get_or, slice_index_or, refl, ap, sym, ◌∙◌, subst, arith}
-use Rattle.std.specs.Prelude.{false}
-use Rattle.std.proofs.lemmas.List.{length-replicate}
-use Rattle.std.proofs.lemmas.List.Elements.{All-nil, All-cons, All-head, All-tail}
+use Rattle.std.proofs.Common.{◌≡◌, ℕ, zero, suc, ◌+◌, ◌-◌, ◌<◌, List, [], ◌∷◌, All, length, map, replicate, get_or, slice_index_or, refl, ap, sym, ◌∙◌, subst, arith, false}
+use Rattle.fak_model.proofs.Common.{length-replicate, All-nil, All-cons, All-head, All-tail, ObjectId, seat_info, credit_rules, queue_rules, room_rules}
 use Rattle.fak_model.specs.declared.file.FileEntry.{FileEntry}
 use Rattle.fak_model.specs.declared.file.FileMark.{FileMark}
 use Rattle.fak_model.specs.declared.credit.CreditMark.{CreditMark}
 use Rattle.fak_model.specs.declared.room.RoomMark.{RoomMark}
 use Rattle.fak_model.specs.declared.queue.Mark.{Mark}
-use Rattle.fak_model.specs.Calls.{ObjectId, seat_info}
-use Rattle.fak_model.specs.Credit.{credit_rules}
 use Rattle.fak_model.specs.Credit as credit
-use Rattle.fak_model.specs.Queue.{queue_rules}
-use Rattle.fak_model.specs.Room.{room_rules}
 use Rattle.fak_model.specs.Room as room
 use Rattle.fak_files.specs.Calls.{entries_after}
 use Rattle.fak_sem.specs.Semaphores.{SemId, SemInfo, SemSeatInfo, credit_part, queue_part}
-use Rattle.fak_text.specs.Script.{ScriptOf, down}
-use Rattle.fak_text.specs.Journal.{Process, StandsAt}
-use Rattle.fak_kernel.specs.Files.{free_entry}
-use Rattle.fak_kernel.specs.Ledger.{nothing}
-use Rattle.fak_kernel.specs.Holding.{Owns, queue_kind}
+use Rattle.fak_text.proofs.Common.{ScriptOf, down, Process, StandsAt}
+use Rattle.fak_kernel.proofs.Common.{free_entry, nothing, Owns, queue_kind, IsOnly, ObjectsOf, AreFor, AreOf, GoesTo, IsAlone, ids_of, ids_of_seats, bundle_of, Between, empty_lists}
 use Rattle.fak_kernel.specs.Turning.{Turning}
-use Rattle.fak_kernel.specs.Only.{IsOnly}
 use Rattle.fak_kernel.specs.OnlyCounts.{IsOnlySem, semaphore_count, sleepers_of}
-use Rattle.fak_kernel.specs.Processors.{ObjectsOf, AreFor, AreOf, GoesTo, IsAlone, ids_of, ids_of_seats}
-use Rattle.fak_kernel.specs.Moving.{bundle_of}
 use Rattle.fak_kernel.specs.Joined.{no_seat, no_table}
 use Rattle.fak_kernel.specs.Opened.{AreSeated, HasName, fresh_processor, fresh_sem_at}
-use Rattle.fak_kernel.specs.Begun.{Between, empty_lists}
 use Rattle.fak_kernel.proofs.Events.{quiet}
 use Rattle.fak_kernel.proofs.Tallies.{owns_fresh}
 use Rattle.fak_kernel.proofs.Holding.{lines_none}

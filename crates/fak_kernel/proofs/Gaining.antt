@@ -1,20 +1,14 @@
 -- What calls on one semaphore add to a processor's seats.
-use Rattle.std.proofs.Common.{◌≡◌, ℕ, ◌+◌, ◌<◌, ◌==◌, Bool, true, false, cond, List, [], ◌∷◌, ◌++◌, length, slice_index_or, refl, ap, sym, ◌∙◌, subst, arith}
-use Rattle.std.specs.Prelude.{Some, None}
-use Rattle.std.specs.List.{sum_by, flat_map}
+use Rattle.std.proofs.Common.{◌≡◌, ℕ, ◌+◌, ◌<◌, ◌==◌, Bool, true, false, cond, List, [], ◌∷◌, ◌++◌, length, slice_index_or, refl, ap, sym, ◌∙◌, subst, arith, Some, None, sum_by, flat_map}
 use Rattle.std.proofs.lemmas.List.{length-map}
 use Rattle.std.proofs.lemmas.List.Elements.{All-get_or}
 use Rattle.fak_model.specs.declared.credit.CreditKind.{CreditKind}
 use Rattle.fak_model.specs.declared.credit.CreditKind.TheVariants.{Debit, Credit}
 use Rattle.fak_queue.specs.Retries.{kinds_not_in, kinds_not_out, kinds_in, kinds_out}
 use Rattle.fak_sem.specs.Semaphores.{SemInfo, SemSeatInfo}
-use Rattle.fak_text.specs.Script.{ScriptOf, down}
-use Rattle.fak_text.specs.Journal.{Process, FitsScript, StandsAt, after_note, downed}
-use Rattle.fak_kernel.specs.Report.{RowOf}
-use Rattle.fak_kernel.specs.Ledger.{Ledger, nothing}
-use Rattle.fak_kernel.specs.Processors.{ObjectsOf, ProcessorOf, AreFor, AreOf}
+use Rattle.fak_text.proofs.Common.{ScriptOf, down, Process, FitsScript, StandsAt, after_note, downed}
+use Rattle.fak_kernel.proofs.Common.{RowOf, Ledger, nothing, ObjectsOf, ProcessorOf, AreFor, AreOf, AreLines}
 use Rattle.fak_kernel.specs.Moving.{files_of, Gains, GainsParked, GainsWoken, at_one, DownsAt, UpsAt}
-use Rattle.fak_kernel.specs.Making.{AreLines}
 use Rattle.fak_kernel.proofs.Calls.{grows_parks, grows_passes, grows_wakes, grows_adds}
 use Rattle.fak_kernel.proofs.Moving.{gains_semaphore}
 

@@ -1,26 +1,15 @@
 -- The seats of all processors are joined, one processor after the other.
-use Rattle.std.proofs.Common.{◌≡◌, ℕ, ◌<◌, List, [], ◌∷◌, ◌++◌, length, refl, ap, sym, ◌∙◌, arith}
-use Rattle.std.specs.Prelude.{map, pos, slice_index}
-use Rattle.std.specs.List.{sum_by}
-use Rattle.std.proofs.lemmas.List.{append-nil}
-use Rattle.std.proofs.lemmas.List.Sums.{sum_by-cons}
+use Rattle.std.proofs.Common.{◌≡◌, ℕ, ◌<◌, List, [], ◌∷◌, ◌++◌, length, refl, ap, sym, ◌∙◌, arith, map, pos, slice_index, sum_by, append-nil}
+use Rattle.fak_model.proofs.Common.{sum_by-cons, Rules, mine, TallyInfo, tally_of, count, value}
 use Rattle.fak_model.specs.declared.queue.Kind.{Kind}
 use Rattle.fak_model.specs.declared.queue.Mark.{Mark}
 use Rattle.fak_model.specs.declared.credit.CreditMark.{CreditMark}
-use Rattle.fak_model.specs.Histories.{Rules}
-use Rattle.fak_model.specs.Seats.{mine}
-use Rattle.fak_model.specs.Calls.{TallyInfo, tally_of}
-use Rattle.fak_model.specs.Queue.{count}
 use Rattle.fak_model.specs.Room as room
-use Rattle.fak_model.specs.Credit.{value}
 use Rattle.fak_model.specs.Credit as credit
 use Rattle.fak_sem.specs.Grants.{IsSettled}
 use Rattle.fak_sem.specs.Semaphores.{sem_tally_of}
-use Rattle.fak_text.specs.Script.{ScriptOf}
-use Rattle.fak_text.specs.Journal.{Process}
-use Rattle.fak_kernel.specs.ListScheduler.{numbers_from}
-use Rattle.fak_kernel.specs.Ledger.{Ledger, named, joined}
-use Rattle.fak_kernel.specs.Whole.{begun_names, Histories, Gathered}
+use Rattle.fak_text.proofs.Common.{ScriptOf, Process}
+use Rattle.fak_kernel.proofs.Common.{numbers_from, Ledger, named, joined, begun_names, Histories, Gathered}
 use Rattle.fak_kernel.specs.Holding.{Weighs, queue_kind, Bundle, Tallies, Leaves, Have, Joins}
 use Rattle.fak_kernel.proofs.Sums.{sum_by-map}
 use Rattle.fak_kernel.proofs.Joining.{balanced-joined}

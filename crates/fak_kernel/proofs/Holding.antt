@@ -1,19 +1,11 @@
 -- What a seat knows of its hold: from the calls of one hold to its line.
-use Rattle.std.proofs.Common.{◌≡◌, ◌⊎◌, ℕ, ◌<◌, ◌==◌, Bool, true, false, cond, List, [], ◌∷◌, ◌++◌, Some, refl, ap, sym, ◌∙◌, subst, arith, inl, inr, append_assoc}
-use Rattle.std.specs.Prelude.{map}
-use Rattle.std.specs.List.{filter, flat_map}
-use Rattle.std.proofs.lemmas.Bool.Decides.{nat_tests}
+use Rattle.std.proofs.Common.{◌≡◌, ◌⊎◌, ℕ, ◌<◌, ◌==◌, Bool, true, false, cond, List, [], ◌∷◌, ◌++◌, Some, refl, ap, sym, ◌∙◌, subst, arith, inl, inr, append_assoc, map, filter, flat_map}
+use Rattle.fak_model.proofs.Common.{nat_tests, All-nil, All-head, All-tail, All-push, filter-append, flat_map-append, AreNamed, words_by, Setting, set_mark, WholeCall, Refused, Withdrawn, kinds_of_call, seat_of, kind_of, file_rules, IsFileHistory, ObjectId, SeatInfo, seat_info, last_of, Begins, marks_of}
 use Rattle.std.proofs.lemmas.List.{append-nil, map-append}
-use Rattle.std.proofs.lemmas.List.Elements.{All-nil, All-head, All-tail, All-push, filter-append}
-use Rattle.std.proofs.lemmas.Grind.{flat_map-append}
 use Rattle.fak_model.specs.declared.file.FileEntry.{FileEntry}
 use Rattle.fak_model.specs.declared.file.FileKind.{FileKind}
 use Rattle.fak_model.specs.declared.file.FileKind.TheVariants.{Take, Over, Back, No, Give}
 use Rattle.fak_model.specs.declared.file.FileMark.{FileMark}
-use Rattle.fak_model.specs.Histories.{AreNamed, words_by}
-use Rattle.fak_model.specs.File.{Setting, set_mark, WholeCall, Refused, Withdrawn, kinds_of_call, seat_of, kind_of, file_rules, IsFileHistory}
-use Rattle.fak_model.specs.Calls.{ObjectId, SeatInfo, seat_info, last_of}
-use Rattle.fak_model.specs.Seats.{Begins, marks_of}
 use Rattle.fak_model.proofs.Appending.{history_none}
 use Rattle.fak_model.proofs.Seats.{marks_of_append}
 use Rattle.fak_files.specs.declared.phase.Access.{Access}

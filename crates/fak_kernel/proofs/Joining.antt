@@ -1,17 +1,11 @@
 -- Ledgers one after the other.
-use Rattle.std.proofs.Common.{◌≡◌, ℕ, ◌+◌, List, ◌++◌, length, ◌∙◌, arith}
-use Rattle.std.specs.List.{sum_by}
-use Rattle.std.proofs.lemmas.List.Sums.{sum_by-append}
-use Rattle.std.proofs.lemmas.List.Elements.{All-append}
+use Rattle.std.proofs.Common.{◌≡◌, ℕ, ◌+◌, List, ◌++◌, length, ◌∙◌, arith, sum_by}
+use Rattle.fak_model.proofs.Common.{sum_by-append, All-append, up_amount, release_amount, debit_weight, credit_weight, put_of, got_of, close_of, closed_of, refusal_of, other_amount}
 use Rattle.fak_model.specs.declared.queue.Kind.{Kind}
-use Rattle.fak_model.specs.Room.{up_amount, release_amount}
-use Rattle.fak_model.specs.Credit.{debit_weight, credit_weight}
 use Rattle.fak_model.proofs.Leading.{sum_same, sum_plus}
-use Rattle.fak_text.specs.Script.{ScriptOf}
-use Rattle.fak_text.specs.Journal.{NoteOf, Process, births_of}
+use Rattle.fak_text.proofs.Common.{ScriptOf, NoteOf, Process, births_of}
 use Rattle.fak_kernel.specs.Report.{RowOf}
 use Rattle.fak_kernel.specs.Ledger.{Ledger, Made, Balanced, named, child, after_made, IsMade, FitsRow, joined, waiting, notes, downs_of, ups_of, shuts_of, no_births_of, no_slots_of, ended_slot, stuck_of, halted_of, not_before, before_down}
-use Rattle.fak_model.specs.Weights.{put_of, got_of, close_of, closed_of, refusal_of, other_amount}
 
 pub waiting-joined : (w : Kind Process → ℕ) (n : ℕ) (a b : Ledger) → waiting w n (joined a b) ≡ waiting w n a + waiting w n b
 waiting-joined w n a b =

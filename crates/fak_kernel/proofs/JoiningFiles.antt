@@ -1,24 +1,10 @@
 -- The seats of a file table are joined, and their lines replay.
-use Rattle.std.proofs.Common.{◌≡◌, ℕ, zero, suc, ◌+◌, ◌<◌, ◌≤◌, Bool, true, false, cond, nat_lt, List, [], ◌∷◌, ◌++◌, refl, ap, sym, ◌∙◌, subst, arith, inl, inr, append_assoc}
-use Rattle.std.specs.Prelude.{map}
-use Rattle.std.specs.List.{sum_by}
-use Rattle.std.proofs.lemmas.Bool.Decides.{nat_tests}
+use Rattle.std.proofs.Common.{◌≡◌, ℕ, zero, suc, ◌+◌, ◌<◌, ◌≤◌, Bool, true, false, cond, nat_lt, List, [], ◌∷◌, ◌++◌, refl, ap, sym, ◌∙◌, subst, arith, inl, inr, append_assoc, map, sum_by}
+use Rattle.fak_model.proofs.Common.{nat_tests, filter-append, sum_by-append, AreNamed, seat_of, file_rules, IsFileHistory, SeatInfo, TallyInfo, IsJoined, tally_of, In, Knows, marks_of}
 use Rattle.std.proofs.lemmas.List.{append-nil, map-append}
-use Rattle.std.proofs.lemmas.List.Elements.{filter-append}
-use Rattle.std.proofs.lemmas.List.Sums.{sum_by-append}
 use Rattle.fak_model.specs.declared.file.FileMark.{FileMark}
-use Rattle.fak_model.specs.Histories.{AreNamed}
-use Rattle.fak_model.specs.File.{seat_of, file_rules, IsFileHistory}
-use Rattle.fak_model.specs.Calls.{SeatInfo, TallyInfo, IsJoined, tally_of}
-use Rattle.fak_model.specs.Seats.{In, Knows, marks_of}
 use Rattle.fak_text.specs.Journal.{NoteOf}
-use Rattle.fak_kernel.specs.Ledger.{Ledger, joined}
-use Rattle.fak_kernel.specs.Holding.{JoinedTo}
-use Rattle.fak_kernel.specs.Holds.{FileHold, AreHolds, held_kinds, hold_line, gather_from}
-use Rattle.fak_kernel.specs.Making.{AreLines, Left}
-use Rattle.fak_kernel.specs.Reported.{is_file_line, file_lines}
-use Rattle.fak_kernel.specs.Moving.{files_of}
-use Rattle.fak_kernel.specs.Gathered.{FilesJoined}
+use Rattle.fak_kernel.proofs.Common.{Ledger, joined, JoinedTo, FileHold, AreHolds, held_kinds, hold_line, gather_from, AreLines, Left, is_file_line, file_lines, files_of, FilesJoined}
 use Rattle.fak_kernel.proofs.Holding.{held-left, reads-left}
 use Rattle.fak_kernel.proofs.GatheredHolds.{gather_same}
 

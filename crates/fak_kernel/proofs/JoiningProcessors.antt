@@ -1,23 +1,11 @@
 -- The seats of the processors are joined, processor by processor.
-use Rattle.std.proofs.Common.{◌≡◌, ℕ, zero, suc, ◌+◌, ◌≤◌, List, ◌++◌, length, get_or, ap, sym, ◌∙◌, subst, arith}
-use Rattle.std.specs.List.{sum_by}
-use Rattle.std.proofs.lemmas.List.{length-map}
-use Rattle.std.proofs.lemmas.List.Sums.{sum_by-append}
-use Rattle.fak_model.specs.Calls.{ObjectId, IsJoined}
-use Rattle.fak_model.specs.Queue.{queue_rules}
-use Rattle.fak_model.specs.Room.{room_rules}
+use Rattle.std.proofs.Common.{◌≡◌, ℕ, zero, suc, ◌+◌, ◌≤◌, List, ◌++◌, length, get_or, ap, sym, ◌∙◌, subst, arith, sum_by}
+use Rattle.fak_model.proofs.Common.{length-map, sum_by-append, ObjectId, IsJoined, queue_rules, room_rules}
 use Rattle.fak_sem.specs.Semaphores.{SemInfo, SemSeatInfo, SemTallyInfo}
-use Rattle.fak_text.specs.Script.{ScriptOf}
-use Rattle.fak_text.specs.Journal.{Process}
-use Rattle.fak_kernel.specs.declared.report.Outcome.TheVariants.{Ended, Halted}
-use Rattle.fak_kernel.specs.Report.{RowOf}
-use Rattle.fak_kernel.specs.Ledger.{joined}
+use Rattle.fak_text.proofs.Common.{ScriptOf, Process}
+use Rattle.fak_kernel.proofs.Common.{Ended, Halted, RowOf, joined, ObjectsOf, ProcessorOf, AreOf, AreFor, HasName, bundle_of, files_of, row_as, IsLeftBy}
 use Rattle.fak_kernel.specs.Holding.{Tallies, Have, Joins, JoinedTo}
-use Rattle.fak_kernel.specs.Processors.{ObjectsOf, ProcessorOf, AreOf, AreFor}
-use Rattle.fak_kernel.specs.Opened.{HasName}
 use Rattle.fak_kernel.specs.Joined.{TalliesOf, AreTalliesOf, HaveNames, JoinAll, tallies_of, first_tallies, no_seat, no_tally}
-use Rattle.fak_kernel.specs.Moving.{bundle_of, files_of, row_as}
-use Rattle.fak_kernel.specs.Begun.{IsLeftBy}
 use Rattle.fak_kernel.specs.Gathered.{AreGathered, AreOfOne, FilesJoined, left_weigh}
 use Rattle.fak_kernel.proofs.Calls.{turning_leaves}
 use Rattle.fak_kernel.proofs.Gathering.{have_first, have_more}

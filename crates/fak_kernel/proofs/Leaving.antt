@@ -1,17 +1,11 @@
 -- A processor that was between its turns has left its loop.
-use Rattle.std.proofs.Common.{◌≡◌, ℕ, zero, suc, [], ◌++◌, ap, sym, ◌∙◌, subst, arith, map}
-use Rattle.std.specs.Prelude.{Bool, Option, Some, None, Result, Ok, Err, IfOk, IfErr, IfSome}
-use Rattle.std.proofs.lemmas.List.{append-nil}
+use Rattle.std.proofs.Common.{◌≡◌, ℕ, zero, suc, [], ◌++◌, ap, sym, ◌∙◌, subst, arith, map, Bool, Option, Some, None, Result, Ok, Err, IfOk, IfErr, IfSome, append-nil}
 use Rattle.std.proofs.lemmas.List.Sums.{sum_by-append}
 use Rattle.fak_text.specs.Script.{ScriptOf}
 use Rattle.fak_kernel.specs.declared.fault.Fault.{Fault}
-use Rattle.fak_kernel.specs.ListScheduler.{turn_over}
+use Rattle.fak_kernel.proofs.Common.{turn_over, Ledger, named, joined, AreLines, ObjectsOf, ProcessorOf, AreFor, AreOf, IsReached, lists_of, no_seat}
 use Rattle.fak_kernel.specs.Faults.{IsOfLoop}
-use Rattle.fak_kernel.specs.Ledger.{Ledger, named, joined}
-use Rattle.fak_kernel.specs.Making.{AreLines}
-use Rattle.fak_kernel.specs.Processors.{ObjectsOf, ProcessorOf, AreFor, AreOf, IsReached, lists_of}
 use Rattle.fak_kernel.specs.Moving.{BeginsNone, LeavesNone, files_of}
-use Rattle.fak_kernel.specs.Joined.{no_seat}
 use Rattle.fak_kernel.specs.Begun.{IsFirst, Between, IsLeftBy}
 use Rattle.fak_kernel.specs.Threads.{HasBegun, HasAnswered}
 use Rattle.fak_kernel.proofs.Calls.{turning_more}

@@ -1,14 +1,9 @@
 -- The loop of a processor, among any number of them.
-use Rattle.std.proofs.Common.{◌≡◌, ◌∙◌, ℕ, List, [], ◌∷◌, All, length, map, refl, ap, sym, subst}
+use Rattle.std.proofs.Common.{◌≡◌, ◌∙◌, ℕ, List, [], ◌∷◌, All, length, map, refl, ap, sym, subst, Option, None, pos}
 use Rattle.std.proofs.lemmas.List.Elements.{All-nil, All-cons, All-head, All-tail, All-map}
-use Rattle.std.specs.Prelude.{Option, None, pos}
 use Rattle.fak_model.specs.Credit.{value}
-use Rattle.fak_text.specs.Script.{ScriptOf}
-use Rattle.fak_text.specs.Journal.{Process}
-use Rattle.fak_kernel.specs.ListScheduler.{Turn}
-use Rattle.fak_kernel.specs.Ledger.{nothing}
-use Rattle.fak_kernel.specs.Processors.{ProcessorOf}
-use Rattle.fak_kernel.specs.Opened.{HasName}
+use Rattle.fak_text.proofs.Common.{ScriptOf, Process}
+use Rattle.fak_kernel.proofs.Common.{Turn, nothing, ProcessorOf, HasName}
 use Rattle.fak_kernel.specs.Moving.{names_of, Gains, Moves, LeavesNone, hand_of}
 use Rattle.fak_sem.specs.Semaphores.{SemSeatInfo}
 use Rattle.fak_kernel.proofs.Events.{quiet, balanced-beside}

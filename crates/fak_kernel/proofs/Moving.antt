@@ -1,10 +1,8 @@
 -- How calls of a processor add to its seats' own marks and to its rows.
-use Rattle.std.proofs.Common.{◌≡◌, ◌⊎◌, ℕ, ◌<◌, Bool, true, false, List, [], ◌++◌, length, map, slice_index_or, slice_set, refl, ap, sym, ◌∙◌, subst, arith, inl, inr, append_assoc}
-use Rattle.std.specs.Prelude.{ℤ}
+use Rattle.std.proofs.Common.{◌≡◌, ◌⊎◌, ℕ, ◌<◌, Bool, true, false, List, [], ◌++◌, length, map, slice_index_or, slice_set, refl, ap, sym, ◌∙◌, subst, arith, inl, inr, append_assoc, ℤ}
 use Rattle.std.proofs.lemmas.Bool.{cases_eq}
 use Rattle.std.proofs.lemmas.List.{append-nil, map-append, get_or_default, get_or-set_same, get_or-set_other}
-use Rattle.std.proofs.lemmas.List.Sums.{sum_by-append}
-use Rattle.std.proofs.lemmas.List.Elements.{filter-append}
+use Rattle.fak_model.proofs.Common.{sum_by-append, filter-append, SeatInfo, queue_rules, room_rules, credit_rules, put_of, got_of, close_of, closed_of}
 use Rattle.fak_model.specs.declared.queue.Kind.{Kind}
 use Rattle.fak_model.specs.declared.queue.Mark.{Mark}
 use Rattle.fak_model.specs.declared.room.RoomKind.{RoomKind}
@@ -13,28 +11,17 @@ use Rattle.fak_model.specs.declared.room.RoomMark.{RoomMark}
 use Rattle.fak_model.specs.declared.credit.CreditKind.{CreditKind}
 use Rattle.fak_model.specs.declared.credit.CreditMark.{CreditMark}
 use Rattle.fak_model.specs.declared.file.FileMark.{FileMark}
-use Rattle.fak_model.specs.Calls.{SeatInfo}
-use Rattle.fak_model.specs.Queue.{queue_rules}
-use Rattle.fak_model.specs.Room.{room_rules}
 use Rattle.fak_model.specs.Room as room
-use Rattle.fak_model.specs.Credit.{credit_rules}
 use Rattle.fak_model.specs.Credit as credit
 use Rattle.fak_model.proofs.Deciding.{cond_here, cond_else}
 use Rattle.fak_count.specs.Rooms as rooms
-use Rattle.fak_queue.specs.Queues.{RefusesFull, RefusesEmpty, RefusesClosed, Inserts, Deletes}
-use Rattle.fak_queue.specs.Retries.{kinds_in}
+use Rattle.fak_queue.proofs.Common.{RefusesFull, RefusesEmpty, RefusesClosed, Inserts, Deletes, kinds_in}
 use Rattle.fak_sem.specs.Semaphores.{SemSeatInfo, credit_part, queue_part}
-use Rattle.fak_text.specs.Script.{ScriptOf}
-use Rattle.fak_text.specs.Journal.{NoteOf, Process}
-use Rattle.fak_kernel.specs.Ledger.{Ledger, Made, nothing, joined}
-use Rattle.fak_model.specs.Weights.{put_of, got_of, close_of, closed_of}
+use Rattle.fak_text.proofs.Common.{ScriptOf, NoteOf, Process}
+use Rattle.fak_kernel.proofs.Common.{Ledger, Made, nothing, joined, queue_kind, Bundle, ProcessorOf, AreLines, is_file_line, file_lines}
 use Rattle.fak_kernel.specs.Events.{full, empty, closed, refused_claim}
-use Rattle.fak_kernel.specs.Holding.{queue_kind, Bundle}
 use Rattle.fak_kernel.specs.Turning.{Grows, Adds}
-use Rattle.fak_kernel.specs.Processors.{ProcessorOf}
 use Rattle.fak_kernel.specs.Moving.{IsIdle, IsQuiet, GrowsIn, GrowsShut, GrowsAtLast, GrowsIdle, GrowsEmpty, GrowsOut, GrowsNone, bundle_of, names_of, files_of, Gains, at_one}
-use Rattle.fak_kernel.specs.Making.{AreLines}
-use Rattle.fak_kernel.specs.Reported.{is_file_line, file_lines}
 use Rattle.fak_kernel.proofs.Places.{alike_after}
 use Rattle.fak_kernel.proofs.Calls.{grows_same, grows_inserts, grows_deletes, grows_full, grows_empty, grows_closed, grows_room, grows_withdraws}
 use Rattle.fak_kernel.proofs.Growing.{grows_then}

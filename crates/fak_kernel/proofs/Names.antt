@@ -1,15 +1,9 @@
 -- Each name once.
-use Rattle.std.proofs.Common.{◌≡◌, ◌⊎◌, ℕ, suc, ◌+◌, ◌≤◌, ◌==◌, nat_lt, Bool, true, false, cond, List, [], ◌∷◌, ◌++◌, get_or, refl, ap, ◌∙◌, arith, inl, inr}
-use Rattle.std.specs.Prelude.{◌&&◌}
-use Rattle.std.specs.List.{sum_by, All, AllPairs}
-use Rattle.std.proofs.lemmas.Bool.Decides.{nat_tests}
-use Rattle.std.proofs.lemmas.List.Sums.{sum_by-append, sum_by-cons}
+use Rattle.std.proofs.Common.{◌≡◌, ◌⊎◌, ℕ, suc, ◌+◌, ◌≤◌, ◌==◌, nat_lt, Bool, true, false, cond, List, [], ◌∷◌, ◌++◌, get_or, refl, ap, ◌∙◌, arith, inl, inr, ◌&&◌, sum_by, All, AllPairs}
+use Rattle.fak_model.proofs.Common.{nat_tests, sum_by-append, sum_by-cons}
 use Rattle.fak_model.proofs.Appending.{snoc_ind}
-use Rattle.fak_text.specs.Script.{ScriptOf, StepOf, steps_of, spawn}
-use Rattle.fak_text.specs.Journal.{NoteOf, spawned, births_of, Allows, FitsFrom}
-use Rattle.fak_kernel.specs.Report.{RowOf}
-use Rattle.fak_kernel.specs.Ledger.{Named, named, child, FitsRow}
-use Rattle.fak_kernel.specs.Whole.{begun_names}
+use Rattle.fak_text.proofs.Common.{ScriptOf, StepOf, steps_of, spawn, NoteOf, spawned, births_of, Allows, FitsFrom}
+use Rattle.fak_kernel.proofs.Common.{RowOf, Named, named, child, FitsRow, begun_names}
 use Rattle.fak_kernel.specs.Promises.{children_from, children_of}
 use Rattle.fak_kernel.proofs.Sums.{sum_by_le, sum_by-zeros}
 use Rattle.fak_kernel.proofs.Permuting.{two_weigh}

@@ -1,11 +1,6 @@
 -- What calls leave to the only seat of an object.
-use Rattle.std.proofs.Common.{◌≡◌, ℕ, ◌+◌, ◌<◌, ◌==◌, true, List, [], ◌∷◌, ◌++◌, refl, ap, sym, ◌∙◌, subst, arith}
-use Rattle.std.specs.Prelude.{All, length}
-use Rattle.std.proofs.lemmas.Bool.Decides.{nat_tests}
-use Rattle.std.proofs.lemmas.List.Elements.{All-head, All-tail}
-use Rattle.fak_model.specs.Histories.{Rules, IsHistory, AreNamed}
-use Rattle.fak_model.specs.Seats.{marks_of}
-use Rattle.fak_model.specs.Calls.{SeatInfo, mine_of, Appends, before_appended}
+use Rattle.std.proofs.Common.{◌≡◌, ℕ, ◌+◌, ◌<◌, ◌==◌, true, List, [], ◌∷◌, ◌++◌, refl, ap, sym, ◌∙◌, subst, arith, All, length}
+use Rattle.fak_model.proofs.Common.{nat_tests, All-head, All-tail, Rules, IsHistory, AreNamed, marks_of, SeatInfo, mine_of, Appends, before_appended}
 use Rattle.fak_model.proofs.RunningCalls.{before_mark-append}
 use Rattle.fak_kernel.specs.Only.{IsOnly}
 

@@ -1,10 +1,6 @@
 -- What calls do to semaphores and rooms that have one seat.
-use Rattle.std.proofs.Common.{◌≡◌, ◌⊎◌, ℕ, ◌+◌, ◌-◌, ◌<◌, ◌≤◌, List, [], ◌∷◌, ◌++◌, Some, None, length, length-append, refl, ap, sym, ◌∙◌, subst, arith, inl, inr}
-use Rattle.std.specs.Prelude.{ℤ, pos, map, ◌+ℤ◌, ◌≤ℤ◌, ◌<ℤ◌}
-use Rattle.std.specs.List.{flat_map, sum_by}
-use Rattle.std.proofs.lemmas.Int.{ints}
-use Rattle.std.proofs.lemmas.List.{map-append}
-use Rattle.std.proofs.lemmas.List.Sums.{sum_by-append}
+use Rattle.std.proofs.Common.{◌≡◌, ◌⊎◌, ℕ, ◌+◌, ◌-◌, ◌<◌, ◌≤◌, List, [], ◌∷◌, ◌++◌, Some, None, length, length-append, refl, ap, sym, ◌∙◌, subst, arith, inl, inr, ℤ, pos, map, ◌+ℤ◌, ◌≤ℤ◌, ◌<ℤ◌, flat_map, sum_by}
+use Rattle.fak_model.proofs.Common.{ints, map-append, sum_by-append, count, gots, items_put, contents, SeatInfo, Appends}
 use Rattle.fak_model.specs.declared.credit.CreditKind.{CreditKind}
 use Rattle.fak_model.specs.declared.credit.CreditMark.{CreditMark}
 use Rattle.fak_model.specs.declared.room.RoomKind.{RoomKind}
@@ -15,8 +11,6 @@ use Rattle.fak_model.specs.declared.queue.Kind.TheVariants as made
 use Rattle.fak_model.specs.declared.queue.Mark.{Mark}
 use Rattle.fak_model.specs.Credit as credit
 use Rattle.fak_model.specs.Room as room
-use Rattle.fak_model.specs.Queue.{count, gots, items_put, contents}
-use Rattle.fak_model.specs.Calls.{SeatInfo, Appends}
 use Rattle.fak_model.proofs.Leading.{total_push}
 use Rattle.fak_count.specs.Credits as credits
 use Rattle.fak_count.specs.Rooms.{RoomInfo, held_amount, IsGranted, MakesCall, Withdraws}

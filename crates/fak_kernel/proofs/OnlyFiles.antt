@@ -1,10 +1,7 @@
 -- What calls do to a file table that has one seat.
-use Rattle.std.proofs.Common.{◌≡◌, ◌≢◌, ◌⊎◌, ℕ, zero, suc, ◌+◌, ◌<◌, ◌==◌, ◌&&◌, Bool, true, false, cond, List, [], ◌∷◌, ◌++◌, Some, slice_set, length, refl, ap, sym, ◌∙◌, subst, arith, inl, inr}
-use Rattle.std.specs.Prelude.{All, map, reverse, slice_get, slice_index_or, nat_lt, Option, None, MatchOption}
-use Rattle.std.specs.List.{flat_map}
-use Rattle.std.proofs.lemmas.Bool.Decides.{nat_tests}
+use Rattle.std.proofs.Common.{◌≡◌, ◌≢◌, ◌⊎◌, ℕ, zero, suc, ◌+◌, ◌<◌, ◌==◌, ◌&&◌, Bool, true, false, cond, List, [], ◌∷◌, ◌++◌, Some, slice_set, length, refl, ap, sym, ◌∙◌, subst, arith, inl, inr, All, map, reverse, slice_get, slice_index_or, nat_lt, Option, None, MatchOption, flat_map}
+use Rattle.fak_model.proofs.Common.{nat_tests, All-head, All-tail, SeatInfo}
 use Rattle.std.proofs.lemmas.List.{append-nil, reverse-append, reverse-reverse}
-use Rattle.std.proofs.lemmas.List.Elements.{All-head, All-tail}
 use Rattle.fak_model.specs.declared.file.FileEntry.{FileEntry}
 use Rattle.fak_model.specs.declared.file.FileField.{FileField}
 use Rattle.fak_model.specs.declared.file.FileField.TheVariants.{Inode, Uses}
@@ -12,7 +9,6 @@ use Rattle.fak_model.specs.declared.file.FileKind.{FileKind}
 use Rattle.fak_model.specs.declared.file.FileKind.TheVariants.{Take, Set, Give}
 use Rattle.fak_model.specs.declared.file.FileMark.{FileMark}
 use Rattle.fak_model.specs.File.{WholeCall, Refused, Withdrawn, kinds_of_call, same_field, field_after, field_from, field}
-use Rattle.fak_model.specs.Calls.{SeatInfo}
 use Rattle.fak_model.proofs.Reversing.{All-reverse}
 use Rattle.fak_files.specs.declared.phase.Access.{Access}
 use Rattle.fak_files.specs.Shown.{mark}

@@ -1,39 +1,21 @@
 -- The report of all processors.
-use Rattle.std.proofs.Common.{◌≡◌, ℕ, zero, suc, ◌+◌, ◌-◌, ◌<◌, ◌≤◌, nat_lt, Bool, true, false, List, [], ◌∷◌, ◌++◌, length, get_or, refl, ap, sym, ◌∙◌, subst, arith, append_assoc}
-use Rattle.std.specs.Prelude.{map, slice_index}
-use Rattle.std.specs.List.{sum_by, flat_map, All}
-use Rattle.std.specs.List.Sorted.{IsPermutation}
+use Rattle.std.proofs.Common.{◌≡◌, ℕ, zero, suc, ◌+◌, ◌-◌, ◌<◌, ◌≤◌, nat_lt, Bool, true, false, List, [], ◌∷◌, ◌++◌, length, get_or, refl, ap, sym, ◌∙◌, subst, arith, append_assoc, map, slice_index, sum_by, flat_map, All, IsPermutation}
 use Rattle.std.proofs.lemmas.List.{append-nil, length-map}
 use Rattle.std.proofs.lemmas.List.Concat.{flat_map-cons}
-use Rattle.std.proofs.lemmas.List.Elements.{All-nil, All-cons, All-head, All-tail, All-append}
-use Rattle.std.proofs.lemmas.List.Sums.{sum_by-append}
-use Rattle.std.proofs.lemmas.List.Sorted.{IsPermutation-trans}
+use Rattle.fak_model.proofs.Common.{All-nil, All-cons, All-head, All-tail, All-append, sum_by-append, IsPermutation-trans, contents, ObjectId, IsWhole}
 use Rattle.fak_model.specs.declared.file.FileEntry.{FileEntry}
 use Rattle.fak_model.specs.declared.queue.Mark.{Mark}
 use Rattle.fak_model.specs.declared.credit.CreditMark.{CreditMark}
-use Rattle.fak_model.specs.Queue.{contents}
 use Rattle.fak_model.specs.Room as room
-use Rattle.fak_model.specs.Calls.{ObjectId}
-use Rattle.fak_model.specs.Seats.{IsWhole}
 use Rattle.fak_model.proofs.Seats.{whole_mine}
 use Rattle.fak_files.specs.Calls.{entries_after}
 use Rattle.fak_sem.specs.Grants.{IsSettled}
 use Rattle.fak_sem.specs.Semaphores.{SemId, SemInfo, SemTallyInfo}
-use Rattle.fak_text.specs.Script.{ScriptOf}
-use Rattle.fak_text.specs.Journal.{NoteOf, Process}
-use Rattle.fak_kernel.specs.declared.report.Outcome.{Outcome}
-use Rattle.fak_kernel.specs.declared.report.Outcome.TheVariants.{Ended, Halted}
-use Rattle.fak_kernel.specs.Report.{RowOf, ReportOf, IsSortedByName, rows_with, sleepers_outcome}
-use Rattle.fak_kernel.specs.Ledger.{FitsRow, notes, shuts_of}
+use Rattle.fak_text.proofs.Common.{ScriptOf, NoteOf, Process}
+use Rattle.fak_kernel.proofs.Common.{Outcome, Ended, Halted, RowOf, ReportOf, IsSortedByName, rows_with, sleepers_outcome, FitsRow, notes, shuts_of, JoinedTo, ObjectsOf, AreFor, ids_of, AreSeated, row_as, files_of, AreGathered, FilesJoined, AreClosed, IsSleeper, IsWholeAt, left_at, rows_left, shut_lines}
 use Rattle.fak_kernel.specs.Whole.{Gathered, asleep, lines, lines_of, rows_of}
-use Rattle.fak_kernel.specs.Holding.{JoinedTo}
 use Rattle.fak_kernel.specs.Promises.{Promised, spawned_names}
-use Rattle.fak_kernel.specs.Processors.{ObjectsOf, AreFor, ids_of}
-use Rattle.fak_kernel.specs.Opened.{AreSeated}
 use Rattle.fak_kernel.specs.Joined.{TalliesOf, AreTalliesOf, HaveNames, tallies_of, ids_of_tallies, no_tally}
-use Rattle.fak_kernel.specs.Moving.{row_as, files_of}
-use Rattle.fak_kernel.specs.Gathered.{AreGathered, FilesJoined}
-use Rattle.fak_kernel.specs.Closing.{AreClosed, IsSleeper, IsWholeAt, left_at, rows_left, shut_lines}
 use Rattle.fak_kernel.specs.Reported as reported
 use Rattle.fak_kernel.specs.RunReports.{RunReports}
 use Rattle.fak_kernel.proofs.Sums.{sum_by-map, sum_by-flat_map}

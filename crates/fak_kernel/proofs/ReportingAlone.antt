@@ -1,9 +1,6 @@
 -- The report of one processor is the list scheduler's.
-use Rattle.std.proofs.Common.{◌≡◌, ℕ, zero, suc, ◌+◌, ◌-◌, nat_lt, true, List, [], ◌∷◌, ◌++◌, length, refl, ap, sym, ◌∙◌, subst, arith}
-use Rattle.std.specs.Prelude.{map, ◌||◌}
-use Rattle.std.specs.List.{sum_by, flat_map}
-use Rattle.std.specs.List.Sorted.{IsPermutation}
-use Rattle.std.proofs.lemmas.Bool.Decides.{nat_tests}
+use Rattle.std.proofs.Common.{◌≡◌, ℕ, zero, suc, ◌+◌, ◌-◌, nat_lt, true, List, [], ◌∷◌, ◌++◌, length, refl, ap, sym, ◌∙◌, subst, arith, map, ◌||◌, sum_by, flat_map, IsPermutation}
+use Rattle.fak_model.proofs.Common.{nat_tests, contents, up_amount, release_amount, marks_of, mine, close_of}
 use Rattle.std.proofs.lemmas.List.Concat.{flat_map-cons}
 use Rattle.fak_model.specs.declared.file.FileEntry.{FileEntry}
 use Rattle.fak_model.specs.declared.queue.Kind.{Kind}
@@ -11,28 +8,15 @@ use Rattle.fak_model.specs.declared.queue.Kind.TheVariants.{ClaimIn, OverIn, Bac
 use Rattle.fak_model.specs.declared.queue.Mark.{Mark}
 use Rattle.fak_model.specs.declared.room.RoomKind.{RoomKind}
 use Rattle.fak_model.specs.declared.room.RoomMark.{RoomMark}
-use Rattle.fak_model.specs.Queue.{contents}
 use Rattle.fak_model.specs.Queue as queue
-use Rattle.fak_model.specs.Room.{up_amount, release_amount}
 use Rattle.fak_model.specs.Room as room
-use Rattle.fak_model.specs.Seats.{marks_of, mine}
 use Rattle.fak_count.specs.Rooms.{held_amount}
 use Rattle.fak_files.specs.Calls.{entries_after}
 use Rattle.fak_sem.specs.Semaphores.{SemSeatInfo, sem_tally_of}
-use Rattle.fak_text.specs.Script.{ScriptOf}
-use Rattle.fak_text.specs.Journal.{Process, births_of}
-use Rattle.fak_kernel.specs.ListScheduler.{turn_over}
-use Rattle.fak_kernel.specs.declared.report.Outcome.TheVariants.{Ended, Halted}
+use Rattle.fak_text.proofs.Common.{ScriptOf, Process, births_of}
+use Rattle.fak_kernel.proofs.Common.{turn_over, Ended, Halted, notes, sleepers_of, ObjectsOf, ProcessorOf, AreFor, IsReached, lists_of, AreSeated, TalliesOf, AreGathered, AreOfOne, AreClosed, left_at, rows_left, shut_lines}
 use Rattle.fak_kernel.specs.Report.{RowOf, ReportOf, IsSortedByName, IsReportOf, ListSchedulerReports, rows_at, rows_with, sleepers_outcome}
-use Rattle.fak_kernel.specs.Ledger.{notes}
-use Rattle.fak_model.specs.Weights.{close_of}
 use Rattle.fak_kernel.specs.OnlyQueues.{has_close, is_close}
-use Rattle.fak_kernel.specs.OnlyCounts.{sleepers_of}
-use Rattle.fak_kernel.specs.Processors.{ObjectsOf, ProcessorOf, AreFor, IsReached, lists_of}
-use Rattle.fak_kernel.specs.Opened.{AreSeated}
-use Rattle.fak_kernel.specs.Joined.{TalliesOf}
-use Rattle.fak_kernel.specs.Gathered.{AreGathered, AreOfOne}
-use Rattle.fak_kernel.specs.Closing.{AreClosed, left_at, rows_left, shut_lines}
 use Rattle.fak_kernel.proofs.Sums.{sum_by-map}
 use Rattle.fak_model.proofs.SeatWeights.{mine_one}
 use Rattle.fak_kernel.proofs.Reporting.{all_gathered, shut_notes, rows_promised, notes_in_rows}

@@ -1,22 +1,14 @@
 -- From the lines of the joined seats of the file table to the report.
-use Rattle.std.proofs.Common.{◌≡◌, ℕ, zero, suc, ◌+◌, ◌≤◌, Bool, true, false, cond, List, [], ◌∷◌, ◌++◌, refl, ap, sym, ◌∙◌, subst, arith}
-use Rattle.std.specs.Prelude.{map, replicate}
-use Rattle.std.specs.List.{sum_by}
-use Rattle.std.proofs.lemmas.List.{map-append}
-use Rattle.std.proofs.lemmas.List.Sums.{sum_by-cons}
-use Rattle.std.proofs.lemmas.List.Sorted.{IsPermutation-map, sum_by-IsPermutation}
+use Rattle.std.proofs.Common.{◌≡◌, ℕ, zero, suc, ◌+◌, ◌≤◌, Bool, true, false, cond, List, [], ◌∷◌, ◌++◌, refl, ap, sym, ◌∙◌, subst, arith, map, replicate, sum_by}
+use Rattle.fak_model.proofs.Common.{map-append, sum_by-cons, IsPermutation-map, sum_by-IsPermutation, TallyInfo}
 use Rattle.fak_model.specs.declared.file.FileEntry.{FileEntry}
 use Rattle.fak_model.specs.declared.file.FileMark.{FileMark}
-use Rattle.fak_model.specs.Calls.{TallyInfo}
 use Rattle.fak_files.specs.Calls.{entries_after}
 use Rattle.fak_text.specs.Journal.{NoteOf}
-use Rattle.fak_kernel.specs.Files.{free_entry}
-use Rattle.fak_kernel.specs.Report.{ReportOf}
+use Rattle.fak_kernel.proofs.Common.{free_entry, ReportOf, FileHold, hold_line, gather_from, FilesJoined}
 use Rattle.fak_kernel.specs.Replays.{Replays}
-use Rattle.fak_kernel.specs.Holds.{FileHold, hold_line, gather_from}
 use Rattle.fak_kernel.specs.Merging.{AreMerged}
 use Rattle.fak_kernel.specs.Reported.{is_file_line, file_lines, lines_of, FilesReplay}
-use Rattle.fak_kernel.specs.Gathered.{FilesJoined}
 use Rattle.fak_kernel.proofs.Scan.{holds_replay}
 
 -- what file lines weigh among all lines

@@ -1,21 +1,12 @@
 -- What the rows of all processes promise.
-use Rattle.std.proofs.Common.{◌≡◌, ℕ, zero, suc, ◌+◌, ◌<◌, ◌≤◌, ◌==◌, nat_lt, Bool, true, false, cond, List, [], ◌∷◌, ◌++◌, length, get_or, refl, ap, sym, ◌∙◌, arith, inl, inr}
-use Rattle.std.specs.Prelude.{map, ◌&&◌}
-use Rattle.std.specs.List.{sum_by, All, AllPairs}
-use Rattle.std.specs.List.Sorted.{IsPermutation}
+use Rattle.std.proofs.Common.{◌≡◌, ℕ, zero, suc, ◌+◌, ◌<◌, ◌≤◌, ◌==◌, nat_lt, Bool, true, false, cond, List, [], ◌∷◌, ◌++◌, length, get_or, refl, ap, sym, ◌∙◌, arith, inl, inr, map, ◌&&◌, sum_by, All, AllPairs, IsPermutation}
 use Rattle.std.proofs.lemmas.Bool.{cases_lt, and_parts, and_from}
-use Rattle.std.proofs.lemmas.Bool.Decides.{nat_tests}
-use Rattle.std.proofs.lemmas.List.Sums.{sum_by-append, sum_by-cons}
+use Rattle.fak_model.proofs.Common.{nat_tests, sum_by-append, sum_by-cons, contents, put_of, got_of, close_of, closed_of}
 use Rattle.std.proofs.lemmas.List.Sorted.{sum_by-IsPermutation, All-permutation}
-use Rattle.fak_model.specs.Queue.{contents}
-use Rattle.fak_text.specs.Script.{ScriptOf}
-use Rattle.fak_text.specs.Journal.{NoteOf, Process, births_of}
-use Rattle.fak_kernel.specs.ListScheduler.{numbers_from}
-use Rattle.fak_kernel.specs.declared.report.Outcome.{Outcome}
-use Rattle.fak_kernel.specs.declared.report.Outcome.TheVariants.{Ended, Stuck, Halted}
+use Rattle.fak_text.proofs.Common.{ScriptOf, NoteOf, Process, births_of}
+use Rattle.fak_kernel.proofs.Common.{numbers_from, Outcome, Ended, Stuck, Halted}
 use Rattle.fak_kernel.specs.Report.{RowOf, rows_with, sleepers_outcome, is_ended}
 use Rattle.fak_kernel.specs.Ledger.{Ledger, Named, named, notes, downs_of, ups_of, shuts_of, no_births_of, no_slots_of, ended_slot, stuck_of, halted_of, FitsRow}
-use Rattle.fak_model.specs.Weights.{put_of, got_of, close_of, closed_of}
 use Rattle.fak_kernel.specs.Whole.{Histories, Gathered, begun_names, asleep, lines, lines_of, is_shut, rows_of}
 use Rattle.fak_kernel.specs.Promises.{children_of, spawned_names, stuck_at, stuck_before, kept_slot, Promised}
 use Rattle.fak_kernel.proofs.Sums.{sum_by-map, sum_by-flat_map, sum_by-ones, sum_by-zeros, sum_by_same}

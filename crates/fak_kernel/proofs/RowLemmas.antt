@@ -1,12 +1,7 @@
 -- The rows of a report, as they are added and sorted.
-use Rattle.std.proofs.Common.{◌≡◌, ◌||◌, Bool, refl, ◌+◌, ◌<◌, List, [], ◌∷◌, length, map, get_or, ap, arith, nat_cmp}
-use Rattle.std.specs.List.{list_any}
-use Rattle.std.specs.List.Sorted.{IsSortedByKey}
-use Rattle.std.specs.Cmp.Lexicographic.{slice_cmp}
-use Rattle.std.proofs.lemmas.List.{get_or-map, length-map}
-use Rattle.fak_kernel.specs.declared.report.ProcessRow.{ProcessRow}
-use Rattle.fak_kernel.specs.Report.{IsSortedByName}
-use Rattle.fak_kernel.specs.Views.{row_of}
+use Rattle.std.proofs.Common.{◌≡◌, ◌||◌, Bool, refl, ◌+◌, ◌<◌, List, [], ◌∷◌, length, map, get_or, ap, arith, nat_cmp, IsSortedByKey}
+use Rattle.fak_model.proofs.Common.{list_any, slice_cmp, get_or-map, length-map}
+use Rattle.fak_kernel.proofs.Common.{ProcessRow, IsSortedByName, row_of}
 
 -- the rows in the program are sorted as those in the report are
 pub IsSortedByName-map : (rows : List ProcessRow) → IsSortedByKey (λ row. row.name.items) (slice_cmp nat_cmp) rows → IsSortedByName (map row_of rows)

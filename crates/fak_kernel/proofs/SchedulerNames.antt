@@ -1,20 +1,11 @@
 -- The names in the list scheduler's report: each once.
-use Rattle.std.proofs.Common.{◌≡◌, ℕ, suc, ◌+◌, ◌≤◌, ◌==◌, nat_lt, Bool, true, false, cond, List, [], ◌∷◌, ◌++◌, refl, ap, sym, ◌∙◌, subst, arith}
-use Rattle.std.specs.Prelude.{Option, Some, None, map, ◌&&◌}
-use Rattle.std.specs.List.{sum_by, flat_map, AllPairs}
-use Rattle.std.proofs.lemmas.Bool.Decides.{nat_tests}
-use Rattle.std.proofs.lemmas.List.Sums.{sum_by-append, sum_by-cons}
-use Rattle.std.proofs.lemmas.List.Sorted.{sum_by-IsPermutation}
+use Rattle.std.proofs.Common.{◌≡◌, ℕ, suc, ◌+◌, ◌≤◌, ◌==◌, nat_lt, Bool, true, false, cond, List, [], ◌∷◌, ◌++◌, refl, ap, sym, ◌∙◌, subst, arith, Option, Some, None, map, ◌&&◌, sum_by, flat_map, AllPairs}
+use Rattle.fak_model.proofs.Common.{nat_tests, sum_by-append, sum_by-cons, sum_by-IsPermutation}
 use Rattle.fak_model.proofs.Appending.{snoc_ind}
-use Rattle.fak_text.specs.Script.{ScriptOf}
-use Rattle.fak_text.specs.Journal.{spawned, Process, new_process, after_note, child_count}
+use Rattle.fak_text.proofs.Common.{ScriptOf, spawned, Process, new_process, after_note, child_count}
 use Rattle.fak_text.proofs.Journals.{child_count-append}
-use Rattle.fak_kernel.specs.ListScheduler.{Turn, Lists, State, turn_over, child_of, begun_from, opening}
-use Rattle.fak_kernel.specs.declared.report.Outcome.{Outcome}
-use Rattle.fak_kernel.specs.declared.report.Outcome.TheVariants.{Ended, Halted}
+use Rattle.fak_kernel.proofs.Common.{Turn, Lists, State, turn_over, child_of, begun_from, opening, Outcome, Ended, Halted, named, begun_names}
 use Rattle.fak_kernel.specs.Report.{RowOf, ReportOf, rows_with, sleepers_outcome, rows_at, IsReportOf, ListSchedulerReports}
-use Rattle.fak_kernel.specs.Ledger.{named}
-use Rattle.fak_kernel.specs.Whole.{begun_names}
 use Rattle.fak_kernel.proofs.Sums.{sum_by-map, sum_by-flat_map, sum_by_less, sum_by-zeros}
 use Rattle.fak_kernel.proofs.Ends.{ends_alike}
 use Rattle.fak_kernel.proofs.Names.{same_name, same_end, not_nameless, is_named, is_first, first_le, begun_le, first_is_short, differ}

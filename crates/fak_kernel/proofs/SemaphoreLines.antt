@@ -1,22 +1,12 @@
 -- The downs, ups and sleepers of each semaphore.
-use Rattle.std.proofs.Common.{◌≡◌, ℕ, zero, suc, ◌+◌, ◌<◌, ◌≤◌, ◌==◌, nat_lt, Bool, true, false, cond, min, List, [], ◌∷◌, length, refl, ap, arith, inl, inr}
-use Rattle.std.specs.Prelude.{Option, Some, None, slice_index}
-use Rattle.std.specs.List.{sum_by}
-use Rattle.std.proofs.lemmas.Bool.Decides.{nat_tests}
-use Rattle.std.proofs.lemmas.List.Sums.{sum_by-append, sum_by-cons}
+use Rattle.std.proofs.Common.{◌≡◌, ℕ, zero, suc, ◌+◌, ◌<◌, ◌≤◌, ◌==◌, nat_lt, Bool, true, false, cond, min, List, [], ◌∷◌, length, refl, ap, arith, inl, inr, Option, Some, None, slice_index, sum_by}
+use Rattle.fak_model.proofs.Common.{nat_tests, sum_by-append, sum_by-cons, contents, debit_weight, credit_weight, put_of, got_of}
 use Rattle.fak_model.specs.declared.queue.Kind.{Kind}
 use Rattle.fak_model.specs.declared.queue.Kind.TheVariants.{Got}
-use Rattle.fak_model.specs.Queue.{contents}
-use Rattle.fak_model.specs.Credit.{debit_weight, credit_weight}
 use Rattle.fak_model.proofs.Deciding.{same_or_not}
-use Rattle.fak_text.specs.Script.{ScriptOf, StepOf, down}
-use Rattle.fak_text.specs.Journal.{Process}
-use Rattle.fak_kernel.specs.ListScheduler.{next_step}
-use Rattle.fak_kernel.specs.declared.report.Outcome.{Outcome}
-use Rattle.fak_kernel.specs.declared.report.Outcome.TheVariants.{Ended, Stuck, Halted}
+use Rattle.fak_text.proofs.Common.{ScriptOf, StepOf, down, Process}
+use Rattle.fak_kernel.proofs.Common.{next_step, Outcome, Ended, Stuck, Halted, Histories, Gathered, asleep}
 use Rattle.fak_kernel.specs.Ledger.{Ledger, notes, downs_of, ups_of, other_down, not_before, its_down, before_down, waiting, stuck_of}
-use Rattle.fak_model.specs.Weights.{put_of, got_of}
-use Rattle.fak_kernel.specs.Whole.{Histories, Gathered, asleep}
 use Rattle.fak_kernel.specs.Promises.{stuck_at}
 use Rattle.fak_kernel.proofs.Sums.{sum_by-ones}
 use Rattle.fak_model.proofs.QueueWeights.{queue_weighs}

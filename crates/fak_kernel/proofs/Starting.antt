@@ -4,17 +4,11 @@ use Rattle.std.proofs.lemmas.List.{length-take-le, map-append, get_or-set_same}
 use Rattle.fak_model.specs.declared.queue.Mark.{Mark}
 use Rattle.fak_model.specs.Calls.{SeatInfo}
 use Rattle.fak_queue.specs.Retries.{kinds_in, kinds_out}
-use Rattle.fak_text.specs.Script.{ScriptOf}
-use Rattle.fak_text.specs.Journal.{Process, new_process}
+use Rattle.fak_text.proofs.Common.{ScriptOf, Process, new_process}
 use Rattle.fak_kernel.specs.ListScheduler.{Lists, begun_from, enter_ready, first_lists, numbers_from, turn_over}
-use Rattle.fak_kernel.specs.Making.{AreLines}
-use Rattle.fak_kernel.specs.Ledger.{Balanced, Named, joined, named, nothing}
+use Rattle.fak_kernel.proofs.Common.{AreLines, Balanced, Named, joined, named, nothing, begun_names, Gains, GrowsAtLast, IsIdle, Moves, files_of, AreSeated, fresh_all, fresh_processor, no_seat}
 use Rattle.fak_kernel.specs.Events.{empty, fills}
-use Rattle.fak_kernel.specs.Whole.{begun_names}
 use Rattle.fak_kernel.specs.Processors.{ObjectsOf, ProcessorOf, AreFor, AreOf, GoesTo, HasNoSlot, IsAlone, IsReached, TakesSlot, lists_of}
-use Rattle.fak_kernel.specs.Moving.{Gains, GrowsAtLast, IsIdle, Moves, files_of}
-use Rattle.fak_kernel.specs.Opened.{AreSeated, fresh_all, fresh_processor}
-use Rattle.fak_kernel.specs.Joined.{no_seat}
 use Rattle.fak_kernel.specs.Begun.{Begins, Between, FindsNoSlot, FindsSlot, StartsOne, begins, empty_lists}
 use Rattle.fak_kernel.proofs.Joining.{balanced-joined}
 use Rattle.fak_kernel.proofs.Events.{keeps_fills, none_waits, quiet}

@@ -1,10 +1,6 @@
 -- Sums over lists and over semaphores.
-use Rattle.std.proofs.Common.{◌≡◌, ◌≢◌, ℕ, ◌+◌, ◌<◌, ◌≤◌, List, [], ◌∷◌, length, refl, arith}
-use Rattle.std.specs.Prelude.{map}
-use Rattle.std.specs.List.{sum_by, All, flat_map}
-use Rattle.std.proofs.lemmas.List.Sums.{sum_by-cons, sum_by-append}
-use Rattle.std.proofs.lemmas.List.Elements.{All-head, All-tail}
-use Rattle.fak_model.specs.Histories.{sum_below}
+use Rattle.std.proofs.Common.{◌≡◌, ◌≢◌, ℕ, ◌+◌, ◌<◌, ◌≤◌, List, [], ◌∷◌, length, refl, arith, map, sum_by, All, flat_map}
+use Rattle.fak_model.proofs.Common.{sum_by-cons, sum_by-append, All-head, All-tail, sum_below}
 use Rattle.fak_model.proofs.Leading.{sum_one, sum_none}
 
 pub sum_by-map : {A B : Type 0} (f : B → ℕ) (g : A → B) (xs : List A) → sum_by f (map g xs) ≡ sum_by (λ x. f (g x)) xs

@@ -1,13 +1,6 @@
 -- What seats know of ledgers, call by call, and what tallies know of them, join by join.
-use Rattle.std.proofs.Common.{◌≡◌, ℕ, ◌<◌, true, false, cond, nat_lt, List, [], ◌++◌, length, refl, ap, sym, ◌∙◌, subst, arith, inl}
-use Rattle.std.specs.Prelude.{map}
-use Rattle.std.specs.List.{sum_by}
-use Rattle.std.proofs.lemmas.List.{map-append}
-use Rattle.std.proofs.lemmas.List.Sums.{sum_by-append}
-use Rattle.std.proofs.lemmas.List.Elements.{All-nil}
-use Rattle.fak_model.specs.Histories.{Rules}
-use Rattle.fak_model.specs.Seats.{is_in, marks_of, mine}
-use Rattle.fak_model.specs.Calls.{ObjectId, SeatInfo, seat_info, TallyInfo, tally_of, mine_of, Appends, IsJoined}
+use Rattle.std.proofs.Common.{◌≡◌, ℕ, ◌<◌, true, false, cond, nat_lt, List, [], ◌++◌, length, refl, ap, sym, ◌∙◌, subst, arith, inl, map, sum_by}
+use Rattle.fak_model.proofs.Common.{map-append, sum_by-append, All-nil, Rules, is_in, marks_of, mine, ObjectId, SeatInfo, seat_info, TallyInfo, tally_of, mine_of, Appends, IsJoined}
 use Rattle.fak_model.proofs.Appending.{history_none}
 use Rattle.fak_model.proofs.SeatWeights.{mine_one, mine_push, mine_known}
 use Rattle.fak_kernel.specs.Holding.{Owns, Weighs}

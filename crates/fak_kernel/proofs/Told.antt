@@ -1,15 +1,11 @@
 -- Notes and rows whose said texts are left out.
 use Rattle.std.proofs.Common.{◌≡◌, ℕ, zero, suc, ◌+◌, ◌<◌, List, [], ◌∷◌, ◌++◌, length, map, take, get_or, slice_get, Some, refl, ap, sym, ◌∙◌, arith}
 use Rattle.std.specs.List.{list_any, sum_by}
-use Rattle.std.proofs.lemmas.List.{get_or-map, length-map}
-use Rattle.std.proofs.lemmas.List.Sums.{sum_by-cons}
-use Rattle.fak_text.specs.Script.{ScriptOf, StepOf, say, yield, down, up, open_file, close_file, stat, spawn, shutdown}
-use Rattle.fak_text.specs.Journal.{NoteOf, said, yielded, downed, upped, opened, closed, statted, spawned, no_birth, no_slot, shut_down, Allows}
-use Rattle.fak_kernel.specs.declared.report.ProcessRow.{ProcessRow}
-use Rattle.fak_kernel.specs.Ledger.{shuts_of}
+use Rattle.fak_model.proofs.Common.{get_or-map, length-map, sum_by-cons}
+use Rattle.fak_text.proofs.Common.{ScriptOf, StepOf, say, yield, down, up, open_file, close_file, stat, spawn, shutdown, NoteOf, said, yielded, downed, upped, opened, closed, statted, spawned, no_birth, no_slot, shut_down, Allows}
+use Rattle.fak_kernel.proofs.Common.{ProcessRow, shuts_of, row_of}
 use Rattle.fak_kernel.specs.Report.{RowOf, IsSortedByName, is_stuck}
 use Rattle.fak_kernel.specs.Told.{told, told_notes, told_row, told_rows}
-use Rattle.fak_kernel.specs.Views.{row_of}
 
 -- ---- notes
 

@@ -1,8 +1,6 @@
 -- The loop of the only processor.
-use Rattle.std.proofs.Common.{◌≡◌, List, [], ◌∷◌, suc, refl, ap, sym, ◌∙◌, subst}
-use Rattle.std.specs.Prelude.{Option, None}
-use Rattle.fak_text.specs.Script.{ScriptOf}
-use Rattle.fak_text.specs.Journal.{Process}
+use Rattle.std.proofs.Common.{◌≡◌, List, [], ◌∷◌, suc, refl, ap, sym, ◌∙◌, subst, Option, None}
+use Rattle.fak_text.proofs.Common.{ScriptOf, Process}
 use Rattle.fak_kernel.specs.ListScheduler.{State, Lists, Turn, step, take_front, turn_over}
 use Rattle.fak_kernel.specs.Processors.{ProcessorOf, IsAlone, GoesOn, GoesTo, IsReached, lists_of}
 

@@ -1,13 +1,8 @@
 -- What the checker counts, after one more mark.
-use Rattle.std.proofs.Common.{◌≡◌, ℕ, ◌+◌, ◌<◌, ◌≤◌, List, [], ◌∷◌, ◌++◌, length, length-append, take, reverse, refl, ap, sym, ◌∙◌, subst, arith, inl, inr}
-use Rattle.std.specs.Prelude.{◌↔◌, IsTrue}
-use Rattle.std.proofs.lemmas.List.{length-reverse, take-append-le}
+use Rattle.std.proofs.Common.{◌≡◌, ℕ, ◌+◌, ◌<◌, ◌≤◌, List, [], ◌∷◌, ◌++◌, length, length-append, take, reverse, refl, ap, sym, ◌∙◌, subst, arith, inl, inr, ◌↔◌, IsTrue}
+use Rattle.fak_model.proofs.Common.{length-reverse, take-append-le, Kind, ClaimIn, BackIn, Put, EndIn, ClaimOut, Got, Close, Mark, count, Has, puts, gots, upper_raise, upper_drop, lower_raise, lower_drop}
 use Rattle.fak_model.specs.Checker.{AreBelow, AreCounts, counts_with}
 use Rattle.fak_model.specs.declared.checker.counts.Counts.{Counts}
-use Rattle.fak_model.specs.declared.queue.Kind.{Kind}
-use Rattle.fak_model.specs.declared.queue.Kind.TheVariants.{ClaimIn, BackIn, Put, EndIn, ClaimOut, Got, Close}
-use Rattle.fak_model.specs.declared.queue.Mark.{Mark}
-use Rattle.fak_model.specs.Queue.{count, Has, puts, gots, upper_raise, upper_drop, lower_raise, lower_drop}
 use Rattle.fak_model.proofs.QueueCounts.{count_few}
 use Rattle.fak_model.proofs.QueueTickets.{a_put_bit}
 use Rattle.fak_model.proofs.Reversing.{reverse_push}

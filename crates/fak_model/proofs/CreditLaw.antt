@@ -1,14 +1,10 @@
 -- The law of a credit.
-use Rattle.std.proofs.Common.{◌≡◌, ℕ, ◌+◌, min, true, false, cond, List, [], ◌∷◌, ◌++◌, refl, ap, sym, ◌∙◌, arith, append_assoc}
-use Rattle.std.specs.Prelude.{pos, ◌-ℤ◌, int_lt}
-use Rattle.std.proofs.lemmas.Int.{ints}
-use Rattle.std.proofs.lemmas.List.{append-nil}
+use Rattle.std.proofs.Common.{◌≡◌, ℕ, ◌+◌, min, true, false, cond, List, [], ◌∷◌, ◌++◌, refl, ap, sym, ◌∙◌, arith, append_assoc, pos, ◌-ℤ◌, int_lt, append-nil, flat_map}
+use Rattle.fak_model.proofs.Common.{ints, AreCalls, seat_words}
 use Rattle.fak_model.specs.declared.credit.CreditKind.{CreditKind}
 use Rattle.fak_model.specs.declared.credit.CreditKind.TheVariants.{Debit, Credit}
 use Rattle.fak_model.specs.declared.credit.CreditMark.{CreditMark}
 use Rattle.fak_model.specs.Credit.{debit_weight, credit_weight, kind_of, debits, credits, value, grants, grants_made_from, grants_made, credit_rules, IsCreditHistory}
-use Rattle.std.specs.List.{flat_map}
-use Rattle.fak_model.specs.Histories.{AreCalls, seat_words}
 use Rattle.fak_model.proofs.Appending.{snoc_ind}
 use Rattle.fak_model.proofs.Leading.{total_push}
 

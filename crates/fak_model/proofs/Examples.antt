@@ -1,12 +1,7 @@
 -- What the tests of lists of marks tell of examples.
 use Rattle.std.proofs.Common.{◌≡◌, ℕ, true, false, List, ◌++◌, reverse}
 use Rattle.std.proofs.lemmas.Bool.Decides.{not_from_Decides}
-use Rattle.fak_model.specs.declared.queue.Mark.{Mark}
-use Rattle.fak_model.specs.declared.room.RoomMark.{RoomMark}
-use Rattle.fak_model.specs.declared.file.FileMark.{FileMark}
-use Rattle.fak_model.specs.Queue.{IsQueueHistory}
-use Rattle.fak_model.specs.Room.{IsRoomHistory}
-use Rattle.fak_model.specs.File.{IsFileHistory}
+use Rattle.fak_model.proofs.Common.{Mark, RoomMark, FileMark, IsQueueHistory, IsRoomHistory, IsFileHistory}
 use Rattle.fak_model.specs.Examples.{Parts}
 use Rattle.fak_model.proofs.QueueJudging.{is_legal_past, queue_decided}
 use Rattle.fak_model.proofs.RoomJudging.{is_room_history, room_decided}

@@ -1,15 +1,9 @@
 -- Whether a list of marks is a file table's history.
-use Rattle.std.proofs.Common.{◌≡◌, ℕ, zero, suc, ◌+◌, ltb, ◌==◌, Bool, true, List, [], ◌∷◌, ◌++◌, Decides, refl, ap, sym, ◌∙◌, arith, append_assoc}
-use Rattle.std.specs.Prelude.{◌&&◌, ◌||◌, map}
-use Rattle.std.specs.List.{flat_map}
+use Rattle.std.proofs.Common.{◌≡◌, ℕ, zero, suc, ◌+◌, ltb, ◌==◌, Bool, true, List, [], ◌∷◌, ◌++◌, Decides, refl, ap, sym, ◌∙◌, arith, append_assoc, ◌&&◌, ◌||◌, map, flat_map}
 use Rattle.std.proofs.lemmas.Bool.Decides.{Decides-eqb, Decides-ltb, Decides-like, Decides-and, Decides-or}
-use Rattle.std.proofs.lemmas.Int.{ints}
+use Rattle.fak_model.proofs.Common.{ints, flat_map-append, FileKind, FileMark, Owes, AreCalls}
 use Rattle.std.proofs.lemmas.List.{append-nil, map-append}
-use Rattle.std.proofs.lemmas.Grind.{flat_map-append}
-use Rattle.fak_model.specs.declared.file.FileKind.{FileKind}
 use Rattle.fak_model.specs.declared.file.FileKind.TheVariants.{Take, Over, Back, No, Set, Give}
-use Rattle.fak_model.specs.declared.file.FileMark.{FileMark}
-use Rattle.fak_model.specs.Histories.{Owes, AreCalls}
 use Rattle.fak_model.specs.File.{Setting, set_mark, WholeCall, Refused, Withdrawn, Held, kinds_of_call, total, take_amount, over_amount, back_amount, amount_held, amount_given, IsAmount, IsFair, file_rules, IsFileHistory}
 use Rattle.fak_model.proofs.Appending.{owed_comes, call_begins}
 use Rattle.fak_model.proofs.Places.{Runs, ends, CallsRun}

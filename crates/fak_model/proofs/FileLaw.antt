@@ -1,13 +1,7 @@
 -- The law of a file table.
-use Rattle.std.proofs.Common.{◌≡◌, ◌≢◌, ◌⊎◌, ℕ, ◌+◌, ◌<◌, ◌≤◌, List, [], ◌∷◌, ◌++◌, Some, refl, ap, sym, ◌∙◌, arith, inl, inr, append_assoc}
-use Rattle.std.specs.Prelude.{map}
-use Rattle.std.proofs.lemmas.Int.{ints}
-use Rattle.std.proofs.lemmas.List.{append-nil}
-use Rattle.std.proofs.lemmas.List.Elements.{All-pop}
-use Rattle.fak_model.specs.declared.file.FileKind.{FileKind}
+use Rattle.std.proofs.Common.{◌≡◌, ◌≢◌, ◌⊎◌, ℕ, ◌+◌, ◌<◌, ◌≤◌, List, [], ◌∷◌, ◌++◌, Some, refl, ap, sym, ◌∙◌, arith, inl, inr, append_assoc, map, append-nil}
+use Rattle.fak_model.proofs.Common.{ints, All-pop, FileKind, FileMark, seat_words, AreNamed, sum_below}
 use Rattle.fak_model.specs.declared.file.FileKind.TheVariants.{Take, Give}
-use Rattle.fak_model.specs.declared.file.FileMark.{FileMark}
-use Rattle.fak_model.specs.Histories.{seat_words, AreNamed, sum_below}
 use Rattle.fak_model.specs.File.{Setting, set_mark, Refused, Withdrawn, Held, kinds_of_call, kind_of, take_amount, over_amount, back_amount, total, hold_after, hold_from, amount_held, gives, amount_given_from, amount_given, IsFair, file_rules, IsFileHistory}
 use Rattle.fak_model.proofs.Appending.{snoc_ind, seat_words-own, seat_words-other, history_front, last_fair}
 use Rattle.fak_model.proofs.Leading.{CallsLead, Leads, history_leads, total_push, sum_one, sum_none}

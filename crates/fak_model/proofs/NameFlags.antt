@@ -1,7 +1,5 @@
 -- Flags for the names of seats.
-use Rattle.std.proofs.Common.{◌≡◌, ◌⊎◌, ℕ, zero, suc, ◌<◌, List, length, Bool, true, false, true≢false, slice_index_or, slice_set, replicate, sym, ◌∙◌, subst, inl, inr, ⊎_elim}
-use Rattle.std.specs.Prelude.{◌↔◌}
-use Rattle.std.proofs.lemmas.List.{get_or-set_same, get_or-set_other}
+use Rattle.std.proofs.Common.{◌≡◌, ◌⊎◌, ℕ, zero, suc, ◌<◌, List, length, Bool, true, false, true≢false, slice_index_or, slice_set, replicate, sym, ◌∙◌, subst, inl, inr, ⊎_elim, ◌↔◌, get_or-set_same, get_or-set_other}
 use native.Mathlib.Decide.{ℕ_discrete}
 use mathlib.Core.Logic.{dite}
 

@@ -1,16 +1,7 @@
 -- The laws of legal histories, over the literal definition.
-use Rattle.std.proofs.Common.{◌≡◌, ◌≢◌, ◌⊎◌, ℕ, ◌<◌, ◌≤◌, List, [], ◌∷◌, ◌++◌, length, length-drop, reverse, refl, ap, sym, ◌∙◌, subst, arith, inl, inr, append_assoc, pos}
-use Rattle.std.specs.List.{All}
-use Rattle.std.proofs.lemmas.Int.{ints}
-use Rattle.std.proofs.lemmas.List.{reverse-reverse}
-use Rattle.fak_model.specs.declared.queue.Kind.{Kind}
-use Rattle.fak_model.specs.declared.queue.Kind.TheVariants.{Fill, ClaimOut, Got, Take}
-use Rattle.fak_model.specs.declared.queue.Mark.{Mark}
-use Rattle.fak_model.specs.Histories.{seat_words, IsAtRest}
-use Rattle.fak_model.specs.Queue.{count, puts, gots, upper_raise, upper_drop, lower_raise, lower_drop, Has}
+use Rattle.std.proofs.Common.{◌≡◌, ◌≢◌, ◌⊎◌, ℕ, ◌<◌, ◌≤◌, List, [], ◌∷◌, ◌++◌, length, length-drop, reverse, refl, ap, sym, ◌∙◌, subst, arith, inl, inr, append_assoc, pos, All}
+use Rattle.fak_model.proofs.Common.{ints, reverse-reverse, Kind, Fill, ClaimOut, Got, Take, Mark, seat_words, IsAtRest, count, puts, gots, upper_raise, upper_drop, lower_raise, lower_drop, Has, ClaimedOut, upper_count, lower_count, items_put, contents, words_of_call, queue_rules, IsQueueHistory}
 use Rattle.fak_model.specs.QueuePast.{after, stage, MayFollow, IsLegalPast, HasNoOpenCall}
-use Rattle.fak_model.specs.declared.queue.Stage.TheVariants.{ClaimedOut}
-use Rattle.fak_model.specs.Queue.{upper_count, lower_count, items_put, contents, words_of_call, queue_rules, IsQueueHistory}
 use Rattle.fak_model.specs.QueueOrder.{Deletion, KeepsCallOrder}
 use Rattle.fak_model.proofs.Appending.{history_prefix}
 use Rattle.fak_model.proofs.Places.{rests}

@@ -1,12 +1,7 @@
 -- The stage of each seat after one more mark.
 use Rattle.std.proofs.Common.{◌≡◌, ◌≢◌, ◌⊎◌, ℕ, List, ◌∷◌, refl, sym, ap, ◌∙◌, inl, inr}
-use Rattle.fak_model.specs.declared.queue.Kind.{Kind}
-use Rattle.fak_model.specs.declared.queue.Kind.TheVariants.{Put, Got}
-use Rattle.fak_model.specs.declared.queue.Mark.{Mark}
-use Rattle.fak_model.specs.Queue.{count, puts, gots}
-use Rattle.fak_model.specs.QueuePast.{after, stage}
+use Rattle.fak_model.proofs.Common.{Kind, Put, Got, Mark, count, puts, gots, after, stage, Putting, Getting}
 use Rattle.fak_model.proofs.Deciding.{same_or_not, cond_here, cond_else}
-use Rattle.fak_model.specs.declared.queue.Stage.TheVariants.{Putting, Getting}
 
 pub stage_here : {A : Type 0} (m : Mark A) (h : List (Mark A)) → stage (m ∷ h) m.seat ≡ after h m.kind
 stage_here m h = cond_here m.seat (after h m.kind) (stage h m.seat)

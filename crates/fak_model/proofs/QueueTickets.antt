@@ -1,11 +1,7 @@
 -- Each ticket has one inserter and one deleter, and its cell is filled and emptied by them alone.
 use Rattle.std.proofs.Common.{◌≡◌, ◌≢◌, ◌⊎◌, ℕ, ◌<◌, ◌≤◌, ◌==◌, cond, List, [], ◌∷◌, Option, Some, refl, sym, ap, ◌∙◌, subst, inl, inr, arith}
-use Rattle.fak_model.specs.declared.queue.Kind.{Kind}
-use Rattle.fak_model.specs.declared.queue.Kind.TheVariants.{Put, Fill, Take}
-use Rattle.fak_model.specs.declared.queue.Mark.{Mark}
-use Rattle.fak_model.specs.Queue.{count, puts, gots, Has}
+use Rattle.fak_model.proofs.Common.{Kind, Put, Fill, Take, Mark, count, puts, gots, Has, Putting, Getting}
 use Rattle.fak_model.specs.QueuePast.{stage, item_put, item_of, MayFollow, IsLegalPast}
-use Rattle.fak_model.specs.declared.queue.Stage.TheVariants.{Putting, Getting}
 use Rattle.fak_model.proofs.Deciding.{cond_here, cond_else, same_or_not}
 use Rattle.fak_model.proofs.QueueStages.{putting_back, getting_back}
 

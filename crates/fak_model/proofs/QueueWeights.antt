@@ -1,19 +1,14 @@
 -- What the marks of a legal history of a queue weigh.
-use Rattle.std.proofs.Common.{◌≡◌, ℕ, zero, suc, ◌+◌, ◌<◌, ◌≤◌, List, [], ◌∷◌, ◌++◌, length, get_or, take, length-drop, reverse, Some, refl, ap, sym, ◌∙◌, subst, arith, inl, inr}
-use Rattle.std.specs.List.{sum_by}
+use Rattle.std.proofs.Common.{◌≡◌, ℕ, zero, suc, ◌+◌, ◌<◌, ◌≤◌, List, [], ◌∷◌, ◌++◌, length, get_or, take, length-drop, reverse, Some, refl, ap, sym, ◌∙◌, subst, arith, inl, inr, sum_by}
 use Rattle.std.proofs.lemmas.List.{append-nil, take-append-le, take_more, nil_from_length}
-use Rattle.std.proofs.lemmas.Bool.{cases_lt}
+use Rattle.fak_model.proofs.Common.{cases_lt, Kind, Put, Fill, Got, Take, Close, Closed, LateIn, Mark, put_of, got_of, close_of, closed_of}
 use Rattle.std.proofs.lemmas.List.Sums.{sum_by-append, sum_by_push, sum_by-take-drop}
-use Rattle.fak_model.specs.declared.queue.Kind.{Kind}
-use Rattle.fak_model.specs.declared.queue.Kind.TheVariants.{Put, Fill, Got, Take, Close, Closed, LateIn}
-use Rattle.fak_model.specs.declared.queue.Mark.{Mark}
 use Rattle.fak_model.specs.Queue.{queue_rules, IsQueueHistory, IsFairMark, IsFirstOut, count, puts, gots, items_put, item_in, item_at, contents, Has, Drew, BearsTicket, HasItsCell}
 use Rattle.fak_model.specs.QueuePast.{IsFair, IsLegalPast}
 use Rattle.fak_model.proofs.Appending.{snoc_ind, history_front, last_fair}
 use Rattle.fak_model.proofs.QueueBackwards.{count_append, count_reverse, items_push, items_count}
 use Rattle.fak_model.proofs.QueueLiteral.{to_past}
 use Rattle.fak_model.proofs.QueueLaws.{contents_fit}
-use Rattle.fak_model.specs.Weights.{put_of, got_of, close_of, closed_of}
 
 count_push : {A : Type 0} (w : Kind A → ℕ) (h : List (Mark A)) (m : Mark A) → count w (h ++ m ∷ []) ≡ count w h + w m.kind
 count_push w h m = omega (arith, count_append w h (m ∷ []))

@@ -1,14 +1,7 @@
 -- Names that stand between two calls, as they make calls and are joined.
-use Rattle.std.proofs.Common.{◌≡◌, ℕ, ◌<◌, ◌≤◌, List, [], ◌∷◌, ◌++◌, refl, ap, sym, ◌∙◌, subst, inl, inr}
-use Rattle.std.specs.Prelude.{map}
-use Rattle.std.specs.List.{flat_map}
-use Rattle.std.proofs.lemmas.Bool.{cases_lt}
+use Rattle.std.proofs.Common.{◌≡◌, ℕ, ◌<◌, ◌≤◌, List, [], ◌∷◌, ◌++◌, refl, ap, sym, ◌∙◌, subst, inl, inr, map, flat_map}
+use Rattle.fak_model.proofs.Common.{cases_lt, flat_map-append, Rules, seat_words, Owes, AreNamed, IsAtRest, In, marks_of, IsWhole, TallyInfo, SeatInfo, IsJoined, AreBetweenCalls}
 use Rattle.std.proofs.lemmas.List.{append-nil, map-append}
-use Rattle.std.proofs.lemmas.Grind.{flat_map-append}
-use Rattle.fak_model.specs.Histories.{Rules, seat_words, Owes, AreNamed, IsAtRest}
-use Rattle.fak_model.specs.Seats.{In, marks_of, IsWhole}
-use Rattle.fak_model.specs.Calls.{TallyInfo, SeatInfo, IsJoined}
-use Rattle.fak_model.specs.Resting.{AreBetweenCalls}
 use Rattle.fak_model.proofs.Seats.{in_either}
 use Rattle.fak_model.proofs.SeatWeights.{none_beyond}
 

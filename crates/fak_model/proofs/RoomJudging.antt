@@ -1,11 +1,6 @@
 -- Whether a list of marks is a room's history.
 use Rattle.std.proofs.Common.{ℕ, zero, suc, ◌+◌, ltb, Bool, true, List, [], ◌∷◌, ◌++◌, Decides, refl, arith}
-use Rattle.std.proofs.lemmas.Bool.Decides.{Decides-like, Decides-ltb}
-use Rattle.std.proofs.lemmas.Int.{ints}
-use Rattle.fak_model.specs.declared.room.RoomKind.{RoomKind}
-use Rattle.fak_model.specs.declared.room.RoomKind.TheVariants.{Up, Over, Back, No, Release}
-use Rattle.fak_model.specs.declared.room.RoomMark.{RoomMark}
-use Rattle.fak_model.specs.Histories.{Owes}
+use Rattle.fak_model.proofs.Common.{Decides-like, Decides-ltb, ints, RoomKind, Up, Over, Back, No, Release, RoomMark, Owes}
 use Rattle.fak_model.specs.Room.{Granted, Refused, Withdrawn, Released, kinds_of_call, total, up_amount, over_amount, back_amount, release_amount, amount_held, IsFair, room_rules, IsRoomHistory}
 use Rattle.fak_model.proofs.Appending.{owed_comes, call_begins}
 use Rattle.fak_model.proofs.Places.{CallsRun}

@@ -1,17 +1,10 @@
 -- A claim of 1 is refused only where so many were granted as the bound says.
 use Rattle.std.proofs.Common.{◌≡◌, ℕ, ◌+◌, ◌<◌, ◌≤◌, List, refl, arith, inl, inr}
-use Rattle.std.proofs.lemmas.Int.{ints}
-use Rattle.std.proofs.lemmas.Bool.{cases_lt}
-use Rattle.std.proofs.lemmas.Bool.Decides.{nat_tests}
-use Rattle.fak_model.specs.declared.room.RoomKind.{RoomKind}
-use Rattle.fak_model.specs.declared.room.RoomKind.TheVariants.{Up, Over, Back, No, Release}
-use Rattle.fak_model.specs.declared.room.RoomMark.{RoomMark}
-use Rattle.fak_model.specs.Histories.{AreNamed}
+use Rattle.fak_model.proofs.Common.{ints, cases_lt, nat_tests, RoomKind, Up, Over, Back, No, Release, RoomMark, AreNamed, refusal_of, other_amount}
 use Rattle.fak_model.specs.Room.{kind_of, total, up_amount, over_amount, back_amount, release_amount, IsFair, room_rules, IsRoomHistory}
 use Rattle.fak_model.proofs.Appending.{snoc_ind, history_front, last_fair}
 use Rattle.fak_model.proofs.Leading.{total_push}
 use Rattle.fak_model.proofs.RoomLaw.{held_fits}
-use Rattle.fak_model.specs.Weights.{refusal_of, other_amount}
 
 -- so far no claim was refused, and so none was withdrawn; or so many were granted
 refused_here : (bound : ℕ) (h : List RoomMark) (seat : ℕ) (kind : RoomKind) → IsFair bound h seat kind → 0 < refusal_of kind → other_amount kind ≡ 0

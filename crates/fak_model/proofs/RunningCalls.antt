@@ -1,16 +1,9 @@
 -- From the steps of a seat to what its calls promise: histories with the oldest mark first.
-use Rattle.std.proofs.Common.{◌≡◌, ◌≢◌, ℕ, zero, suc, ◌==◌, Bool, true, false, cond, List, [], ◌∷◌, ◌++◌, length, refl, ap, sym, ◌∙◌, subst, arith, inl, append_assoc, Some}
-use Rattle.std.specs.Prelude.{reverse}
-use Rattle.std.proofs.lemmas.Bool.Decides.{nat_tests}
+use Rattle.std.proofs.Common.{◌≡◌, ◌≢◌, ℕ, zero, suc, ◌==◌, Bool, true, false, cond, List, [], ◌∷◌, ◌++◌, length, refl, ap, sym, ◌∙◌, subst, arith, inl, append_assoc, Some, reverse}
+use Rattle.fak_model.proofs.Common.{nat_tests, View, Rules, IsHistory, AreNamed, Begins, In, marks_of, Knows, Object, Leaves, ObjectId, SeatInfo, seat_info, mine_of, last_of, Appends, before_mark, IsSeatToken}
 use Rattle.std.proofs.lemmas.List.{append-nil, reverse-append}
 use Rattle.atomic_table.specs.Table.{Me}
-use Rattle.fak_model.specs.declared.view.View.{View}
-use Rattle.fak_model.specs.Histories.{Rules, IsHistory, AreNamed}
-use Rattle.fak_model.specs.Seats.{Begins, In, marks_of, Knows}
 use Rattle.fak_model.specs.Views.{sight, HasOneName, Foreign, AreOwn, Sees}
-use Rattle.fak_model.specs.Shown.{Object, Leaves}
-use Rattle.fak_model.specs.Calls.{ObjectId, SeatInfo, seat_info, mine_of, last_of, Appends, before_mark}
-use Rattle.fak_model.specs.Tokens.{IsSeatToken}
 use Rattle.fak_model.proofs.Seats.{marks_of_append}
 use Rattle.fak_model.proofs.RunningViews.{sees_begins}
 

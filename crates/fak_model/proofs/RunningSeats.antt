@@ -1,13 +1,9 @@
 -- How a running object begins, and how its seats are dealt, joined and told what they saw together.
 use Rattle.std.proofs.Common.{◌≡◌, ◌≢◌, ◌⊎◌, ℕ, zero, suc, ◌+◌, ◌<◌, ◌≤◌, List, [], ◌∷◌, ◌++◌, length, set, map, refl, ap, sym, ◌∙◌, subst, arith, inl, inr, ⊎_elim, Some}
 use Rattle.std.proofs.Math.Nat.{div-le_self}
-use mathlib.Core.Option.{some, some-injective, some-ne-none}
-use lib.ListN.{get_elem?}
+use Rattle.fak_model.proofs.Common.{some, some-injective, some-ne-none, get_elem?, View, AreNamed, In}
 use Rattle.atomic_table.specs.Table.{Me, keeps, opening, Allows, Splits, Joins}
 use Rattle.atomic_table.proofs.Lists.{set_else}
-use Rattle.fak_model.specs.declared.view.View.{View}
-use Rattle.fak_model.specs.Histories.{AreNamed}
-use Rattle.fak_model.specs.Seats.{In}
 use Rattle.fak_model.specs.Views.{Sees, opened, first_name, later_names, share_of, dealt, kept, joined, spent, settled}
 use Rattle.fak_model.specs.Shown.{Object, total, IsShown, Hears}
 use Rattle.fak_model.proofs.Seats.{in_either}

@@ -1,16 +1,8 @@
 -- A step of one seat keeps what a running object shows, whatever the step is.
-use Rattle.std.proofs.Common.{◌≡◌, ◌≢◌, ◌⊎◌, ℕ, zero, suc, ◌+◌, ◌<◌, ◌≤◌, List, [], ◌∷◌, ◌++◌, set, slice_index, refl, ap, sym, subst, arith, inl, ⊎_elim, Some}
-use Rattle.std.specs.Prelude.{reverse}
-use Rattle.std.specs.List.{All}
-use Rattle.std.proofs.lemmas.List.Elements.{All-cons}
-use mathlib.Core.Option.{some, some-injective, some-ne-none}
-use lib.ListN.{get_elem?}
+use Rattle.std.proofs.Common.{◌≡◌, ◌≢◌, ◌⊎◌, ℕ, zero, suc, ◌+◌, ◌<◌, ◌≤◌, List, [], ◌∷◌, ◌++◌, set, slice_index, refl, ap, sym, subst, arith, inl, ⊎_elim, Some, reverse, All}
+use Rattle.fak_model.proofs.Common.{All-cons, some, some-injective, some-ne-none, get_elem?, View, IsHistory, AreNamed, In, sight, AreOwn, Sees}
 use Rattle.atomic_table.specs.Table.{State, Me, Act, keeps, stepped, homes_after, carried_after}
 use Rattle.atomic_table.proofs.Lists.{at_set}
-use Rattle.fak_model.specs.declared.view.View.{View}
-use Rattle.fak_model.specs.Histories.{IsHistory, AreNamed}
-use Rattle.fak_model.specs.Seats.{In}
-use Rattle.fak_model.specs.Views.{sight, AreOwn, Sees}
 use Rattle.fak_model.specs.Shown.{Object, total, IsShown, Leaves}
 use Rattle.fak_model.proofs.Reversing.{All-reverse}
 use Rattle.fak_model.proofs.RunningViews.{sees_all, sees_other, sees_nothing}

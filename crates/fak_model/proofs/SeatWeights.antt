@@ -1,14 +1,7 @@
 -- What tallies know, name by name, and what an only seat knows.
-use Rattle.std.proofs.Common.{◌≡◌, ◌⊎◌, ℕ, suc, ◌+◌, ◌<◌, ◌≤◌, ◌==◌, Bool, true, false, cond, List, [], ◌∷◌, ◌++◌, length, refl, ap, sym, ◌∙◌, subst, arith, inl, inr}
-use Rattle.std.specs.Prelude.{◌||◌}
-use Rattle.std.specs.List.{All, sum_by}
+use Rattle.std.proofs.Common.{◌≡◌, ◌⊎◌, ℕ, suc, ◌+◌, ◌<◌, ◌≤◌, ◌==◌, Bool, true, false, cond, List, [], ◌∷◌, ◌++◌, length, refl, ap, sym, ◌∙◌, subst, arith, inl, inr, ◌||◌, All, sum_by, append-nil}
 use Rattle.std.proofs.lemmas.Bool.{false_from_ne_true}
-use Rattle.std.proofs.lemmas.Bool.Decides.{nat_tests}
-use Rattle.std.proofs.lemmas.List.{append-nil}
-use Rattle.std.proofs.lemmas.List.Sums.{sum_by-cons}
-use Rattle.std.proofs.lemmas.List.Elements.{filter-append, All-head, All-tail, All-cons, All-nil}
-use Rattle.fak_model.specs.Seats.{In, is_in, marks_of, mine, Knows}
-use Rattle.fak_model.specs.Calls.{before_mark}
+use Rattle.fak_model.proofs.Common.{nat_tests, sum_by-cons, filter-append, All-head, All-tail, All-cons, All-nil, In, is_in, marks_of, mine, Knows, before_mark}
 use Rattle.fak_model.proofs.Seats.{between_foreign}
 
 -- ---- names

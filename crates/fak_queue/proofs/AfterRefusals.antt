@@ -1,16 +1,11 @@
 -- Calls that follow refused ones.
-use Rattle.std.proofs.Common.{◌≡◌, ◌⊎◌, ℕ, ◌+◌, ◌<◌, arith, List, [], ◌∷◌, ◌++◌, length, length-append, refl, ap, sym, ◌∙◌, subst, inl, inr, append_assoc}
-use Rattle.std.specs.List.{All, flat_map}
-use Rattle.std.proofs.lemmas.List.{append-nil}
+use Rattle.std.proofs.Common.{◌≡◌, ◌⊎◌, ℕ, ◌+◌, ◌<◌, arith, List, [], ◌∷◌, ◌++◌, length, length-append, refl, ap, sym, ◌∙◌, subst, inl, inr, append_assoc, All, flat_map, append-nil}
 use Rattle.std.proofs.lemmas.List.Concat.{flat_map-append}
-use Rattle.std.proofs.lemmas.List.Elements.{All-append, All-push}
+use Rattle.fak_model.proofs.Common.{All-append, All-push, queue_rules, count, puts, gots, ObjectId, SeatInfo, Appends, mine_of, before_mark}
 use Rattle.fak_model.specs.declared.queue.Kind.{Kind}
 use Rattle.fak_model.specs.declared.queue.Mark.{Mark}
-use Rattle.fak_model.specs.Queue.{queue_rules, count, puts, gots}
-use Rattle.fak_model.specs.Calls.{ObjectId, SeatInfo, Appends, mine_of, before_mark}
 use Rattle.fak_model.proofs.RunningCalls.{appends_then}
-use Rattle.fak_queue.specs.declared.state.SeatState.TheVariants.{Idle}
-use Rattle.fak_queue.specs.Queues.{Makes, made_by, seat_of, drawn_by, state_of, Inserts, Deletes, RefusesFull, RefusesClosed, RefusesEmpty}
+use Rattle.fak_queue.proofs.Common.{Idle, Makes, made_by, seat_of, drawn_by, state_of, Inserts, Deletes, RefusesFull, RefusesClosed, RefusesEmpty}
 use Rattle.fak_queue.specs.Retries.{RefusedInsertion, NotIn, WithdrawnIn, ClosedIn, WithdrawnLate, kinds_not_in, IsFull, IsClosed, RefusedDeletion, NotOut, WithdrawnOut, kinds_not_out, MakesAtLast, before_last, InsertsAfterFull, ClosesAfterFull, DeletesAfterEmpty}
 
 pub made_by_append : {T : Type 0} (name : ℕ) (ks ls : List (Kind T)) → made_by name (ks ++ ls) ≡ made_by name ks ++ made_by name ls

@@ -5,11 +5,7 @@ use Rattle.fak_model.specs.declared.queue.Mark.{Mark}
 use Rattle.fak_model.specs.Calls.{object_id, SeatInfo}
 use Rattle.fak_core.specs.declared.queue.phase.Phase.{Phase}
 use Rattle.fak_core.specs.declared.queue.phase.Phase.TheVariants.{TurnIn, TurnOut}
-use Rattle.fak_queue.specs.declared.limits.QueueLimits.{QueueLimits}
-use Rattle.fak_queue.specs.declared.state.SeatState.TheVariants.{Idle}
-use Rattle.fak_queue.specs.Shown.{QueueHolder}
-use Rattle.fak_queue.specs.Queues.{QueueInfo, queue_info, drawn_by, state_of, IsQueue, queue_seat, IsQueueSeat, Inserts, Deletes}
-use Rattle.fak_queue.specs.Parts.{ClaimedIn, Filled, ClaimedOut, Taken}
+use Rattle.fak_queue.proofs.Common.{QueueLimits, Idle, QueueHolder, QueueInfo, queue_info, drawn_by, state_of, IsQueue, queue_seat, IsQueueSeat, Inserts, Deletes, ClaimedIn, Filled, ClaimedOut, Taken}
 use Rattle.fak_queue.proofs.SeatCalls.{idle_now, seat_after, state_after, drawn_after, left_less, left_same, claims_in, claims_out, fills, takes}
 use Rattle.fak_queue.proofs.WholeCalls.{inserted, deleted}
 

@@ -1,18 +1,11 @@
 -- The table of a queue whose seats are all joined: its slots hold what its history leaves.
-use Rattle.std.proofs.Common.{◌≡◌, ℕ, zero, suc, ◌+◌, ◌-◌, ◌/◌, ◌%◌, ◌<◌, ◌≤◌, List, [], ◌∷◌, ◌++◌, length, slice_index, drop, refl, sym, ap, ◌∙◌, subst, inl, inr, arith, mod-lt, Option, Some}
-use Rattle.std.specs.Prelude.{reverse}
-use Rattle.std.specs.List.{All}
-use Rattle.std.proofs.lemmas.List.Elements.{All-head, All-tail}
-use mathlib.Core.Option.{some, some-injective, some-ne-none}
-use lib.ListN.{get_elem?}
+use Rattle.std.proofs.Common.{◌≡◌, ℕ, zero, suc, ◌+◌, ◌-◌, ◌/◌, ◌%◌, ◌<◌, ◌≤◌, List, [], ◌∷◌, ◌++◌, length, slice_index, drop, refl, sym, ap, ◌∙◌, subst, inl, inr, arith, mod-lt, Option, Some, reverse, All}
+use Rattle.fak_model.proofs.Common.{All-head, All-tail, some, some-injective, some-ne-none, get_elem?, count, puts, gots, items_put, item_at, contents, Has, stage, item_of, IsWhole}
 use Rattle.atomic_table.specs.Table.{State, Final, Seen}
 use Rattle.fak_model.specs.declared.queue.Kind.TheVariants.{Fill, Take}
 use Rattle.fak_model.specs.declared.queue.Mark.{Mark}
 use Rattle.fak_model.specs.declared.queue.Stage.{Stage}
 use Rattle.fak_model.specs.declared.queue.Stage.TheVariants as at
-use Rattle.fak_model.specs.Queue.{count, puts, gots, items_put, item_at, contents, Has}
-use Rattle.fak_model.specs.QueuePast.{stage, item_of}
-use Rattle.fak_model.specs.Seats.{IsWhole}
 use Rattle.fak_model.specs.Shown.{total}
 use Rattle.fak_model.proofs.QueueBackwards.{count_reverse, items_count}
 use Rattle.fak_model.proofs.QueueCounts.{contents_bounded}
@@ -25,8 +18,7 @@ use Rattle.fak_core.proofs.QueueKept.{IsKept, shown}
 use Rattle.fak_core.proofs.QueueTurns.{take_turn, le_or_lt}
 use Rattle.fak_core.proofs.QueueOwners.{in_cell}
 use Rattle.fak_core.proofs.QueueReached.{kept}
-use Rattle.fak_queue.specs.declared.limits.QueueLimits.{QueueLimits}
-use Rattle.fak_queue.specs.Shown.{QueueView, queue_object, IsShownQueue}
+use Rattle.fak_queue.proofs.Common.{QueueLimits, QueueView, queue_object, IsShownQueue}
 use Rattle.fak_queue.specs.Left.{item_in, items_left, AreLeft}
 use Rattle.fak_queue.proofs.DeletionSteps.{item_past}
 use Rattle.fak_queue.proofs.WholePasts.{filled_or_putting}

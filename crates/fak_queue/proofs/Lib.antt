@@ -1,3 +1,4 @@
+pub mod Common
 pub mod WordWrites
 pub mod Slots
 pub mod Stepping

@@ -5,10 +5,7 @@ use Rattle.fak_model.specs.Queue.{queue_rules}
 use Rattle.fak_model.proofs.RunningCalls.{appends_none}
 use Rattle.fak_core.specs.declared.queue.phase.Phase.{Phase}
 use Rattle.fak_core.specs.declared.queue.phase.Phase.TheVariants.{TurnIn, StoreItem, TurnOut, LoadItem}
-use Rattle.fak_queue.specs.Shown.{QueueHolder}
-use Rattle.fak_queue.specs.Steps.{Named}
-use Rattle.fak_queue.specs.Queues.{made_by}
-use Rattle.fak_queue.specs.Parts.{IsPart, Nothing, Filled, LooksIn, FillsSlot, Taken, LooksOut, TakesSlot}
+use Rattle.fak_queue.proofs.Common.{QueueHolder, Named, made_by, IsPart, Nothing, Filled, LooksIn, FillsSlot, Taken, LooksOut, TakesSlot}
 use Rattle.fak_queue.proofs.PartSteps.{names_kept, phase_is}
 use Rattle.fak_queue.proofs.Turning.{slot_in, slot_out}
 

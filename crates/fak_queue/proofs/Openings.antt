@@ -1,24 +1,15 @@
 -- The table of an empty queue shows the opening state.
 use Rattle.std.proofs.Common.{◌≡◌, ◌≢◌, ℕ, zero, suc, ◌+◌, ◌*◌, ◌<◌, ◌≤◌, false, List, [], ◌∷◌, length, slice_index, map, set, replicate, refl, ap, sym, ◌∙◌, subst, inl, arith, length-set, get_or-set_other, get_or-set_same, None, pos}
-use Rattle.std.proofs.lemmas.List.{length-map, length-replicate, get_or-replicate}
+use Rattle.fak_model.proofs.Common.{length-map, length-replicate, get_or-replicate, some, get_elem?, ObjectId, seat_info, sight, IsSeatToken, queue_rules, bias}
 use Rattle.std.proofs.Math.Nat.{mul-le-mul}
-use mathlib.Core.Option.{some}
-use lib.ListN.{get_elem?}
 use Rattle.atomic_table.specs.Table.{opening}
-use Rattle.fak_model.specs.Calls.{ObjectId, seat_info}
-use Rattle.fak_model.specs.Views.{sight}
 use Rattle.fak_model.proofs.RunningSeats.{starts}
 use Rattle.fak_core.specs.declared.queue.phase.Phase.TheVariants as phase
 use Rattle.fak_core.specs.QueueSchedule as core
 use Rattle.fak_core.proofs.QueueReached.{is_reached}
-use Rattle.fak_model.specs.Tokens.{IsSeatToken}
 use Rattle.fak_model.proofs.Appending.{history_none}
-use Rattle.fak_model.specs.Queue.{queue_rules}
-use Rattle.fak_queue.specs.declared.limits.QueueLimits.{QueueLimits}
-use Rattle.fak_model.specs.Words.{bias}
-use Rattle.fak_queue.specs.Words.{AreWords}
+use Rattle.fak_queue.proofs.Common.{QueueLimits, AreWords, seat_of, idle, IsQueueSeat, queue_seat}
 use Rattle.fak_queue.specs.Shown.{QueueHolder, IsEncoded, queue_object, IsShownQueue, opened_queue}
-use Rattle.fak_queue.specs.Queues.{seat_of, idle, IsQueueSeat, queue_seat}
 use Rattle.fak_queue.specs.Refusals.{IsInRange}
 
 read_map : {A : Type 0} (n c : ℕ) (a : A) → c < n → get_elem? (map some (replicate n a)) c ≡ some (some a)

@@ -1,12 +1,10 @@
 -- The slots of a queue's cells as a seat takes one and gives it back.
 use Rattle.std.proofs.Common.{◌≡◌, ◌≢◌, ◌⊎◌, ◌↔◌, ℕ, ◌+◌, ◌*◌, ◌/◌, ◌%◌, ◌<◌, List, length, set, sym, ap, ◌∙◌, subst, inl, inr, arith, Option, None}
-use mathlib.Core.Option.{some, none}
+use Rattle.fak_model.proofs.Common.{some, none, get_elem?}
 use mathlib.Core.Option as maybe
-use lib.ListN.{get_elem?}
 use Rattle.atomic_table.proofs.Lists.{set_here, set_else}
 use Rattle.fak_model.proofs.Deciding.{same_or_not}
-use Rattle.fak_core.specs.QueueMoves.{QueueState}
-use Rattle.fak_core.specs.QueueSchedule.{InCell, IsReached}
+use Rattle.fak_core.proofs.Common.{QueueState, InCell, IsReached}
 use Rattle.fak_core.proofs.QueueOwners.{alone}
 use Rattle.fak_core.proofs.QueueReached.{kept}
 use Rattle.fak_core.proofs.QueueTurns.{le_or_lt}

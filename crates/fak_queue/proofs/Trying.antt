@@ -7,12 +7,8 @@ use Rattle.fak_model.proofs.RunningCalls.{token_names, token_phase, token_slots}
 use Rattle.fak_core.specs.declared.queue.phase.Phase.{Phase}
 use Rattle.fak_core.specs.declared.queue.phase.Phase.TheVariants as phase
 use Rattle.fak_core.specs.declared.queue.phase.Phase.TheVariants.{TurnIn, StoreItem, TurnOut, LoadItem}
-use Rattle.fak_queue.specs.declared.limits.QueueLimits.{QueueLimits}
-use Rattle.fak_queue.specs.declared.state.SeatState.TheVariants.{Idle, Inserting, Deleting}
-use Rattle.fak_queue.specs.Shown.{QueueHolder}
-use Rattle.fak_queue.specs.Steps.{Named}
+use Rattle.fak_queue.proofs.Common.{QueueLimits, Idle, Inserting, Deleting, QueueHolder, Named, Filled, LooksIn, FillsSlot, Taken, LooksOut, TakesSlot}
 use Rattle.fak_queue.specs.Queues.{QueueInfo, queue_info, drawn_by, state_of, IsQueue, queue_seat, IsQueueSeat, WaitsToFill, Fills, WaitsToTake, Takes}
-use Rattle.fak_queue.specs.Parts.{Filled, LooksIn, FillsSlot, Taken, LooksOut, TakesSlot}
 use Rattle.fak_queue.proofs.PartSteps.{names_kept, phase_is}
 use Rattle.fak_queue.proofs.Turning.{slot_in, slot_out}
 use Rattle.fak_queue.proofs.SeatCalls.{left_same, seat_after, state_after, drawn_after, inserting_now, deleting_now, one_insertion, one_deletion, fills, waits_to_fill, takes, waits_to_take}

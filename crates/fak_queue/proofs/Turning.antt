@@ -1,16 +1,11 @@
 -- From the atomic steps of a seat to what it does at its ticket's cell.
-use Rattle.std.proofs.Common.{◌≡◌, ◌≢◌, ℕ, ◌+◌, ◌*◌, ◌/◌, ◌%◌, ◌<◌, ◌^◌, ◌==◌, Bool, true, false, List, [], ◌∷◌, refl, sym, ap, ◌∙◌, subst, arith, Some, None}
-use Rattle.std.specs.Prelude.{reverse}
-use Rattle.std.proofs.lemmas.Bool.Decides.{nat_tests}
+use Rattle.std.proofs.Common.{◌≡◌, ◌≢◌, ℕ, ◌+◌, ◌*◌, ◌/◌, ◌%◌, ◌<◌, ◌^◌, ◌==◌, Bool, true, false, List, [], ◌∷◌, refl, sym, ap, ◌∙◌, subst, arith, Some, None, reverse}
+use Rattle.fak_model.proofs.Common.{nat_tests, items_put, item_at, Has, stage}
 use Rattle.atomic_table.specs.Table.{rest}
 use Rattle.fak_model.specs.declared.queue.Kind.TheVariants as made
-use Rattle.fak_model.specs.Queue.{items_put, item_at, Has}
-use Rattle.fak_model.specs.QueuePast.{stage}
 use Rattle.fak_core.specs.declared.queue.phase.Phase.{Phase}
 use Rattle.fak_core.specs.declared.queue.phase.Phase.TheVariants.{TurnIn, EndInsert, TurnOut, EndDelete}
-use Rattle.fak_queue.specs.Shown.{QueueView, QueueHolder}
-use Rattle.fak_queue.specs.Steps.{Named, TurnedIn, FilledCell, EndsIn, TurnedOut, FreedCell, EndsOut}
-use Rattle.fak_queue.specs.Queues.{RestsAt, idle, inserting, deleting}
+use Rattle.fak_queue.proofs.Common.{QueueView, QueueHolder, Named, TurnedIn, FilledCell, EndsIn, TurnedOut, FreedCell, EndsOut, RestsAt, idle, inserting, deleting}
 use Rattle.fak_queue.specs.Parts.{IsTurnedAwayIn, LooksIn, FillsSlot, IsTurnedAwayOut, LooksOut, TakesSlot, Nothing}
 use Rattle.fak_queue.proofs.PartSteps.{names_kept, phase_is, left_is, slots_are, seen_is, part_none, part_two, sees_item}
 

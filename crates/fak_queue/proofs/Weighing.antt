@@ -1,14 +1,9 @@
 -- What calls and joins add to the weights of the items that were put into a queue and got out of it.
-use Rattle.std.proofs.Common.{◌≡◌, ◌≢◌, ℕ, ◌+◌, Bool, true, false, List, [], ◌∷◌, ◌++◌, refl, ap, sym, ◌∙◌, subst, inl, inr, arith}
-use Rattle.std.specs.List.{flat_map, sum_by}
-use Rattle.std.proofs.lemmas.List.Sums.{sum_by-cons}
+use Rattle.std.proofs.Common.{◌≡◌, ◌≢◌, ℕ, ◌+◌, Bool, true, false, List, [], ◌∷◌, ◌++◌, refl, ap, sym, ◌∙◌, subst, inl, inr, arith, flat_map, sum_by}
+use Rattle.fak_model.proofs.Common.{sum_by-cons, queue_rules, count, contents, In, mine, SeatInfo, TallyInfo, tally_of, mine_of, IsJoined, put_of, got_of}
 use Rattle.fak_model.specs.declared.queue.Kind.{Kind}
 use Rattle.fak_model.specs.declared.queue.Kind.TheVariants.{OverIn, BackIn, NoRoom, OverOut, BackOut, NoItem, Close, Closed, LateIn}
 use Rattle.fak_model.specs.declared.queue.Mark.{Mark}
-use Rattle.fak_model.specs.Queue.{queue_rules, count, contents}
-use Rattle.fak_model.specs.Seats.{In, mine}
-use Rattle.fak_model.specs.Calls.{SeatInfo, TallyInfo, tally_of, mine_of, IsJoined}
-use Rattle.fak_model.specs.Weights.{put_of, got_of}
 use Rattle.fak_model.proofs.QueueBackwards.{count_append}
 use Rattle.fak_model.proofs.SeatWeights.{mine_one, mine_joined}
 use Rattle.fak_queue.specs.declared.fault.InsertFault.{InsertFault}

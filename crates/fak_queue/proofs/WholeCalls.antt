@@ -4,9 +4,7 @@ use Rattle.std.proofs.lemmas.List.Concat.{flat_map-append}
 use Rattle.fak_model.specs.declared.queue.Kind.{Kind}
 use Rattle.fak_model.specs.declared.queue.Kind.TheVariants as made
 use Rattle.fak_model.specs.declared.queue.Mark.{Mark}
-use Rattle.fak_model.specs.Queue.{queue_rules, count, puts, gots, items_put, item_in, item_at}
-use Rattle.fak_model.specs.Seats.{marks_of}
-use Rattle.fak_model.specs.Calls.{SeatInfo, Appends, mine_of, before_mark}
+use Rattle.fak_model.proofs.Common.{queue_rules, count, puts, gots, items_put, item_in, item_at, marks_of, SeatInfo, Appends, mine_of, before_mark}
 use Rattle.fak_model.proofs.RunningCalls.{appends_then}
 use Rattle.fak_queue.specs.Queues.{seat_of, made_by, Makes, before_own, ClaimsIn, ClaimsOut, Fills, Takes, Inserts, Deletes}
 

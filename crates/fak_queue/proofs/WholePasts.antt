@@ -6,8 +6,7 @@ use Rattle.fak_model.specs.declared.queue.Kind.TheVariants.{Fill, Take}
 use Rattle.fak_model.specs.declared.queue.Mark.{Mark}
 use Rattle.fak_model.specs.declared.queue.Stage.{Stage}
 use Rattle.fak_model.specs.declared.queue.Stage.TheVariants.{Putting}
-use Rattle.fak_model.specs.Queue.{count, puts, Has}
-use Rattle.fak_model.specs.QueuePast.{after, stage, IsNext, IsLegalPast}
+use Rattle.fak_model.proofs.Common.{count, puts, Has, after, stage, IsNext, IsLegalPast}
 use Rattle.fak_model.proofs.Deciding.{same_or_not}
 use Rattle.fak_model.proofs.QueueStages.{stage_here, stage_else}
 use Rattle.fak_core.proofs.QueueTurns.{le_or_lt}

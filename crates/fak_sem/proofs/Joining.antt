@@ -1,18 +1,10 @@
 -- What joins and closes leave of the invariant of a tally.
-use Rattle.std.proofs.Common.{◌≡◌, ◌≢◌, ℕ, ◌+◌, ◌<◌, ◌==◌, true, false, List, [], ◌∷◌, ◌++◌, length-drop, refl, ap, sym, ◌∙◌, subst, arith, inl, inr}
-use Rattle.std.specs.List.{All, flat_map}
-use Rattle.std.proofs.lemmas.List.{append-nil}
-use Rattle.std.proofs.lemmas.Bool.Decides.{nat_tests}
-use Rattle.std.proofs.lemmas.List.Elements.{All-head, All-tail}
+use Rattle.std.proofs.Common.{◌≡◌, ◌≢◌, ℕ, ◌+◌, ◌<◌, ◌==◌, true, false, List, [], ◌∷◌, ◌++◌, length-drop, refl, ap, sym, ◌∙◌, subst, arith, inl, inr, All, flat_map, append-nil}
+use Rattle.fak_model.proofs.Common.{nat_tests, All-head, All-tail, IsAtRest, seat_words, sum_below, credit_rules, count, puts, gots, items_put, queue_rules, In, IsWhole, Knows, marks_of, ObjectId, SeatInfo, TallyInfo, IsJoined}
 use Rattle.fak_model.specs.declared.credit.CreditKind.{CreditKind}
 use Rattle.fak_model.specs.declared.credit.CreditMark.{CreditMark}
 use Rattle.fak_model.specs.declared.queue.Kind.{Kind}
 use Rattle.fak_model.specs.declared.queue.Mark.{Mark}
-use Rattle.fak_model.specs.Histories.{IsAtRest, seat_words, sum_below}
-use Rattle.fak_model.specs.Credit.{credit_rules}
-use Rattle.fak_model.specs.Queue.{count, puts, gots, items_put, queue_rules}
-use Rattle.fak_model.specs.Seats.{In, IsWhole, Knows, marks_of}
-use Rattle.fak_model.specs.Calls.{ObjectId, SeatInfo, TallyInfo, IsJoined}
 use Rattle.fak_model.proofs.Seats.{in_either}
 use Rattle.fak_model.proofs.Leading.{sum_none, sum_one, sum_same}
 use Rattle.fak_model.proofs.CreditLaw.{granted_is}

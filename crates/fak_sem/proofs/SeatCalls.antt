@@ -1,14 +1,11 @@
 -- What downs and ups leave of the invariant of a seat.
-use Rattle.std.proofs.Common.{◌≡◌, ℕ, ◌+◌, ◌<◌, true, false, List, [], refl, ap, sym, ◌∙◌, subst, arith}
-use Rattle.std.specs.Prelude.{ℤ, pos, int_lt, Option}
+use Rattle.std.proofs.Common.{◌≡◌, ℕ, ◌+◌, ◌<◌, true, false, List, [], refl, ap, sym, ◌∙◌, subst, arith, ℤ, pos, int_lt, Option}
 use Rattle.fak_model.specs.declared.credit.CreditKind.{CreditKind}
 use Rattle.fak_model.specs.declared.credit.CreditKind.TheVariants.{Debit, Credit}
 use Rattle.fak_model.specs.declared.credit.CreditMark.{CreditMark}
 use Rattle.fak_model.specs.declared.queue.Kind.{Kind}
 use Rattle.fak_model.specs.declared.queue.Mark.{Mark}
-use Rattle.fak_model.specs.Queue.{count, puts, gots}
-use Rattle.fak_model.specs.Seats.{marks_of}
-use Rattle.fak_model.specs.Calls.{SeatInfo}
+use Rattle.fak_model.proofs.Common.{count, puts, gots, marks_of, SeatInfo}
 use Rattle.fak_model.proofs.QueueBackwards.{count_append}
 use Rattle.fak_count.specs.Credits.{CreditInfo, MakesCall}
 use Rattle.fak_queue.specs.declared.state.SeatState.TheVariants.{Idle}

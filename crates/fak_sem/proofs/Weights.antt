@@ -1,18 +1,10 @@
 -- What the marks of a credit's history weigh, as it grows, by names, and together.
-use Rattle.std.proofs.Common.{◌≡◌, ◌≢◌, ℕ, ◌+◌, ◌<◌, ◌≤◌, ◌==◌, Bool, true, false, cond, List, [], ◌∷◌, ◌++◌, length, refl, ap, sym, ◌∙◌, arith, append_assoc}
-use Rattle.std.specs.Prelude.{map, ℤ, pos, int_lt}
-use Rattle.std.specs.List.{All}
-use Rattle.std.proofs.lemmas.Bool.Decides.{nat_tests}
-use Rattle.std.proofs.lemmas.List.{append-nil}
-use Rattle.std.proofs.lemmas.List.Elements.{All-head, All-tail}
-use Rattle.std.proofs.lemmas.List.Sums.{sum_by-cons}
+use Rattle.std.proofs.Common.{◌≡◌, ◌≢◌, ℕ, ◌+◌, ◌<◌, ◌≤◌, ◌==◌, Bool, true, false, cond, List, [], ◌∷◌, ◌++◌, length, refl, ap, sym, ◌∙◌, arith, append_assoc, map, ℤ, pos, int_lt, All, append-nil}
+use Rattle.fak_model.proofs.Common.{nat_tests, All-head, All-tail, sum_by-cons, sum_below, marks_of, Knows, In, SeatInfo, before_mark}
 use Rattle.fak_model.specs.declared.credit.CreditKind.{CreditKind}
 use Rattle.fak_model.specs.declared.credit.CreditKind.TheVariants.{Debit, Credit}
 use Rattle.fak_model.specs.declared.credit.CreditMark.{CreditMark}
-use Rattle.fak_model.specs.Histories.{sum_below}
 use Rattle.fak_model.specs.Credit.{debit_weight, kind_of, debits, value, grants, grants_made_from}
-use Rattle.fak_model.specs.Seats.{marks_of, Knows, In}
-use Rattle.fak_model.specs.Calls.{SeatInfo, before_mark}
 use Rattle.fak_model.proofs.Seats.{marks_of_append, between_foreign}
 use Rattle.fak_model.proofs.Leading.{sum_none, sum_one}
 use Rattle.fak_model.proofs.RunningCalls.{before_mark-append}

@@ -1,6 +1,5 @@
 -- Insertions that are tried again where the queue is shut too.
-use Rattle.std.proofs.Common.{◌≡◌, ◌<◌, ℕ, List, ◌∙◌}
-use Rattle.std.specs.List.{All}
+use Rattle.std.proofs.Common.{◌≡◌, ◌<◌, ℕ, List, ◌∙◌, All}
 use Rattle.fak_model.specs.declared.queue.Mark.{Mark}
 use Rattle.fak_model.specs.Calls.{ObjectId, SeatInfo}
 use Rattle.fak_queue.specs.declared.state.SeatState.TheVariants.{Idle}

@@ -5,8 +5,7 @@ use Rattle.serde_json.specs.Data.{Data}
 use Rattle.serde_json.specs.View.{view, items_view}
 use Rattle.serde_json.specs.declared.value.Value.{Value}
 use Rattle.fak_text.specs.Gives.{◌>>=◌, Fails}
-use Rattle.fak_text.specs.Values.{running_from}
-use Rattle.fak_text.specs.declared.fault.TextFault.{TextFault}
+use Rattle.fak_text.proofs.Common.{running_from, TextFault}
 use Rattle.fak_text.specs.declared.fault.TextFault.TheVariants as faults
 
 -- what was read before, and what is still read

@@ -1,3 +1,4 @@
+pub mod Common
 pub mod Json
 pub mod Elements
 pub mod ReadRange

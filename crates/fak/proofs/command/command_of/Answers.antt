@@ -1,5 +1,4 @@
-use Rattle.std.proofs.Common.{rules, map, string_bytes, subst}
-use Rattle.std.specs.Prelude.{IfSome}
+use Rattle.std.proofs.Common.{rules, map, string_bytes, subst, IfSome}
 use Rattle.fak.specs.Commands.{Asks}
 use Rattle.fak.proofs.CommandWords.{asked_if}
 use Rattle.fak.proofs.command.command_of.Goals as goal

@@ -1,5 +1,4 @@
-use Rattle.std.proofs.Common.{string_bytes, ◌++◌, ◌+◌, ◌-◌, ◌∙◌, ap, sym}
-use Rattle.std.specs.Prelude.{replicate}
+use Rattle.std.proofs.Common.{string_bytes, ◌++◌, ◌+◌, ◌-◌, ◌∙◌, ap, sym, replicate}
 use Rattle.fak.specs.Replay.{rows_from, steps, text_of_rows}
 use Rattle.fak.proofs.Replays.{row_appended, steps_left}
 use Rattle.fak.proofs.stepping.make_steps.Goals as goal

@@ -1,5 +1,4 @@
-use Rattle.std.proofs.Common.{string_bytes, ◌≡◌, ◌++◌, ◌-◌, List}
-use Rattle.std.specs.Prelude.{replicate}
+use Rattle.std.proofs.Common.{string_bytes, ◌≡◌, ◌++◌, ◌-◌, List, replicate}
 use Rattle.fak.specs.Replay.{Action, rows_from, steps, text_of_rows}
 use Rattle.fak.specs.Trace.{KeepsItsLine}
 use Rattle.fak.proofs.stepping.make_steps.Given as goal

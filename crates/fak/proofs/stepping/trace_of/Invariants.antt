@@ -1,5 +1,4 @@
-use Rattle.std.proofs.Common.{string_bytes, ◌≡◌, ◌++◌, drop}
-use Rattle.std.specs.List.{flat_map}
+use Rattle.std.proofs.Common.{string_bytes, ◌≡◌, ◌++◌, drop, flat_map}
 use Rattle.fak.specs.Replay.{actions_of, rows_from, text_of_rows}
 use Rattle.fak.specs.Trace.{KeepsItsLine}
 use Rattle.fak.proofs.stepping.trace_of.Given as goal

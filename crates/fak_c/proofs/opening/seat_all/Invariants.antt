@@ -1,6 +1,5 @@
 use Rattle.std.proofs.Common.{◌≡◌, ◌-◌, length}
-use Rattle.std.specs.Arc.{arc_value}
-use Rattle.fak_model.specs.Calls.{fresh_seats}
+use Rattle.fak_model.proofs.Common.{arc_value, fresh_seats}
 use Rattle.fak_c.specs.Openings.{AreSeatedBelow}
 use Rattle.fak_c.proofs.opening.seat_all.Given as goal
 

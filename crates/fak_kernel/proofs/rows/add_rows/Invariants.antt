@@ -1,8 +1,6 @@
 use Rattle.std.proofs.Common.{◌≡◌, ◌++◌, map}
 use Rattle.std.specs.Vec.Iter.{into_iter_items}
-use Rattle.fak_kernel.specs.Report.{rows_with}
-use Rattle.fak_kernel.specs.Told.{told_rows}
-use Rattle.fak_kernel.specs.Views.{row_of}
+use Rattle.fak_kernel.proofs.Common.{rows_with, told_rows, row_of}
 use Rattle.fak_kernel.proofs.rows.add_rows.Given as goal
 
 abbrev pub invariant-loop-context : goal.invariant-loop-context

@@ -3,8 +3,7 @@ use Rattle.std.specs.Cmp.Lexicographic.{slice_cmp}
 use Rattle.std.proofs.lemmas.List.Sorted.{IsPermutation-map, answers_always}
 use Rattle.std.proofs.lemmas.List.MinMax.{ranks_by}
 use Rattle.std.proofs.lemmas.Cmp.{nat_list_cmp_total}
-use Rattle.fak_kernel.specs.Views.{row_of}
-use Rattle.fak_kernel.specs.declared.report.ProcessRow.{ProcessRow}
+use Rattle.fak_kernel.proofs.Common.{row_of, ProcessRow}
 use Rattle.fak_kernel.proofs.RowLemmas.{IsSortedByName-map}
 use Rattle.fak_kernel.proofs.rows.sort_rows.Goals as goal
 

@@ -1,7 +1,6 @@
 use Rattle.std.proofs.Common.{◌≡◌, ℕ, vec_len, length, arith, ap, ◌∙◌, sym, subst}
 use Rattle.std.proofs.lemmas.List.{length-map}
-use Rattle.fak_kernel.specs.Opened.{AreSeated, fresh_processor}
-use Rattle.fak_kernel.specs.Threads.{as_left}
+use Rattle.fak_kernel.proofs.Common.{AreSeated, fresh_processor, as_left}
 use Rattle.fak_kernel.proofs.Answering.{begun_each, have_left, left_alone, left_each, run_fault}
 use Rattle.fak_kernel.proofs.run_threads.run_as.Goals as goal
 

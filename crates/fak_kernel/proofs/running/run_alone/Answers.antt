@@ -1,6 +1,5 @@
 use Rattle.std.proofs.Common.{◌≡◌, refl, arith, get_or, sym, subst}
-use Rattle.fak_kernel.specs.Opened.{fresh_processor}
-use Rattle.fak_kernel.specs.Begun.{IsLeftBy}
+use Rattle.fak_kernel.proofs.Common.{fresh_processor, IsLeftBy}
 use Rattle.fak_kernel.proofs.running.run_alone.Goals as goal
 
 pub leave_alone-requires-clause-begun : goal.leave_alone-requires-clause-begun

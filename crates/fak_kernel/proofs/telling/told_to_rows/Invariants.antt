@@ -1,7 +1,6 @@
 use Rattle.std.proofs.Common.{◌≡◌, ◌++◌, map}
 use Rattle.std.specs.Vec.Iter.{into_iter_items}
-use Rattle.fak_kernel.specs.Told.{told_rows}
-use Rattle.fak_kernel.specs.Views.{row_of}
+use Rattle.fak_kernel.proofs.Common.{told_rows, row_of}
 use Rattle.fak_kernel.proofs.telling.told_to_rows.Given as goal
 
 -- the rows so far, and those that will be

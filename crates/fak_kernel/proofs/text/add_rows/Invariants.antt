@@ -1,5 +1,4 @@
-use Rattle.std.proofs.Common.{string_bytes, ◌≡◌, ◌++◌, map, take}
-use Rattle.std.specs.List.{flat_map}
+use Rattle.std.proofs.Common.{string_bytes, ◌≡◌, ◌++◌, map, take, flat_map}
 use Rattle.fak_kernel.specs.ReportText.{text_of_row}
 use Rattle.fak_kernel.specs.Views.{row_of}
 use Rattle.fak_kernel.proofs.text.add_rows.Given as goal

@@ -1,7 +1,6 @@
 use Rattle.std.proofs.Common.{string_bytes, ◌≡◌, ◌++◌, map, drop}
 use Rattle.std.specs.Slice.Iter.{iter_rest}
-use Rattle.fak_text.specs.JournalText.{text_of_journal}
-use Rattle.fak_text.specs.Views.{note_of, steps_view}
+use Rattle.fak_text.proofs.Common.{text_of_journal, note_of, steps_view}
 use Rattle.fak_kernel.specs.Told.{told_notes}
 use Rattle.fak_kernel.proofs.text.add_told_notes.Given as goal
 

@@ -1,8 +1,6 @@
-use Rattle.std.proofs.Common.{string_bytes, ◌≡◌, ◌++◌, map, take}
-use Rattle.std.specs.List.{flat_map}
+use Rattle.std.proofs.Common.{string_bytes, ◌≡◌, ◌++◌, map, take, flat_map}
 use Rattle.fak_kernel.specs.ReportText.{text_of_row}
-use Rattle.fak_kernel.specs.Told.{told_rows}
-use Rattle.fak_kernel.specs.Views.{row_of}
+use Rattle.fak_kernel.proofs.Common.{told_rows, row_of}
 use Rattle.fak_kernel.proofs.text.add_told_rows.Given as goal
 
 abbrev pub invariant-loop-row : goal.invariant-loop-row

@@ -1,6 +1,5 @@
 use Rattle.std.proofs.Common.{◌<◌, ◌^◌, ◌∙◌, ap, arith, length, refl, reverse, slice_get, sym}
-use Rattle.std.proofs.lemmas.List.{length-reverse}
-use Rattle.std.proofs.lemmas.Option.{slice_get_read}
+use Rattle.fak_model.proofs.Common.{length-reverse, slice_get_read}
 use Rattle.fak_core.specs.QueueFields.{QueueFields, or_idle}
 use Rattle.fak_core.specs.QueueWords.{fields_of}
 use Rattle.fak_core.proofs.QueueSound.{draws_few, lower_small, ticket_few, upper_small}

@@ -1,6 +1,5 @@
 use Rattle.std.proofs.Common.{subst}
-use Rattle.std.proofs.lemmas.List.{reverse-reverse}
-use Rattle.fak_model.specs.Room.{IsRoomHistory}
+use Rattle.fak_model.proofs.Common.{reverse-reverse, IsRoomHistory}
 use Rattle.fak_core.proofs.RoomCalls.{sound_kept}
 use Rattle.fak_core.proofs.room.RoomCore.marks.Goals as goal
 

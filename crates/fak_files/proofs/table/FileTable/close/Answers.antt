@@ -1,11 +1,7 @@
 use Rattle.std.proofs.Common.{◌≡◌, ℕ, length, slice_get, Some, ap, ◌∙◌, sym, subst}
-use Rattle.fak_model.specs.Histories.{AreNamed, IsAtRest}
-use Rattle.fak_model.specs.File.{IsFileHistory, file_rules}
-use Rattle.fak_model.specs.Resting.{AreBetweenCalls}
-use Rattle.fak_model.specs.Seats.{IsWhole}
+use Rattle.fak_model.proofs.Common.{AreNamed, IsAtRest, IsFileHistory, file_rules, AreBetweenCalls, IsWhole}
 use Rattle.fak_model.proofs.Resting.{rest_whole}
-use Rattle.fak_files.specs.Calls.{entries_after}
-use Rattle.fak_files.specs.Versions.{entry_of}
+use Rattle.fak_files.proofs.Common.{entries_after, entry_of}
 use Rattle.fak_files.proofs.Closing.{closed_entries, entries_after-get, entries_after-length}
 use Rattle.fak_files.proofs.table.FileTable.close.Goals as goal
 

@@ -2,9 +2,7 @@ use Rattle.std.proofs.Common.{rules, ℕ, ◌∷◌, [], ◌∙◌, sym, ap, sub
 use Rattle.std.proofs.Math.Facts.{to_z-of_z}
 use Rattle.fak_model.specs.declared.file.FileKind.TheVariants.{Take}
 use Rattle.fak_model.specs.Calls.{object_id}
-use Rattle.fak_files.specs.declared.phase.FilePhase.TheVariants.{Holding}
-use Rattle.fak_files.specs.Phases.{amount_of, phase_of}
-use Rattle.fak_files.specs.SeatTokens.{Makes, Misses}
+use Rattle.fak_files.proofs.Common.{Holding, amount_of, phase_of, Makes, Misses}
 use Rattle.fak_files.proofs.SeatCalls.{phase_of-hold_for, file_seat_granted, file_seat_missed, granted_of, busy_of}
 use Rattle.fak_files.proofs.table.FileTable.try_hold.Goals as goal
 

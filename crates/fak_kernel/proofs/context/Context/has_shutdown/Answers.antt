@@ -1,6 +1,5 @@
 use Rattle.std.proofs.Common.{ap, sym, ◌∙◌, map, nat_lt}
-use Rattle.fak_text.specs.Script.{steps_of}
-use Rattle.fak_text.specs.Views.{note_of}
+use Rattle.fak_text.proofs.Common.{steps_of, note_of}
 use Rattle.fak_kernel.proofs.AnyWeighs.{any_notes}
 use Rattle.fak_kernel.proofs.Told.{shuts-told_notes}
 use Rattle.fak_kernel.proofs.context.Context.has_shutdown.Goals as goal

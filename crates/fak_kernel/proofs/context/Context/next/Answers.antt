@@ -1,5 +1,4 @@
-use Rattle.fak_text.specs.Script.{IsInRange}
-use Rattle.fak_text.specs.Views.{step_of}
+use Rattle.fak_text.proofs.Common.{IsInRange, step_of}
 use Rattle.fak_kernel.proofs.Ranges.{found_in_range}
 use Rattle.fak_kernel.proofs.context.Context.next.Goals as goal
 

@@ -1,7 +1,6 @@
 use Rattle.std.proofs.Common.{ap, sym, ◌∙◌, ◌≡◌, ◌++◌, ◌∷◌, map, [], arith, ◌≤◌, length, slice_get, Some, refl}
 use Rattle.std.proofs.lemmas.List.{map-append, length-map}
-use Rattle.fak_text.specs.Script.{steps_of}
-use Rattle.fak_text.specs.Views.{note_of}
+use Rattle.fak_text.proofs.Common.{steps_of, note_of}
 use Rattle.fak_kernel.specs.Told.{told_notes}
 use Rattle.fak_kernel.proofs.Fitting.{IsContext-after_note, children-position}
 use Rattle.fak_kernel.proofs.Told.{length-told, told-allowed, told-push}

@@ -1,9 +1,6 @@
-use Rattle.std.proofs.Common.{ap, sym, ◌∙◌, ◌≡◌, ◌++◌, ◌∷◌, map, [], arith, length, slice_get, Some, refl}
-use Rattle.std.specs.Prelude.{string_bytes}
+use Rattle.std.proofs.Common.{ap, sym, ◌∙◌, ◌≡◌, ◌++◌, ◌∷◌, map, [], arith, length, slice_get, Some, refl, string_bytes}
 use Rattle.std.proofs.lemmas.List.{map-append, length-map}
-use Rattle.fak_text.specs.Script.{say, steps_of}
-use Rattle.fak_text.specs.Journal.{said}
-use Rattle.fak_text.specs.Views.{note_of}
+use Rattle.fak_text.proofs.Common.{say, steps_of, said, note_of}
 use Rattle.fak_kernel.specs.Told.{told_notes}
 use Rattle.fak_kernel.proofs.Fitting.{IsContext-said}
 use Rattle.fak_kernel.proofs.Told.{length-told, told-push}

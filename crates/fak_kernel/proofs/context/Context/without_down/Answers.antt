@@ -1,7 +1,6 @@
 use Rattle.std.proofs.Common.{◌≡◌, ◌∙◌, ◌-◌, ap, sym, map, take, length, refl}
 use Rattle.std.proofs.lemmas.List.{take-map, length-map}
-use Rattle.fak_text.specs.Script.{steps_of}
-use Rattle.fak_text.specs.Views.{note_of}
+use Rattle.fak_text.proofs.Common.{steps_of, note_of}
 use Rattle.fak_kernel.specs.Told.{told_notes}
 use Rattle.fak_kernel.proofs.Fitting.{IsContext-unnoted}
 use Rattle.fak_kernel.proofs.Told.{length-told, told-take}

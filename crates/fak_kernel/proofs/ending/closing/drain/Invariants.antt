@@ -1,5 +1,4 @@
-use Rattle.std.proofs.Common.{◌≡◌, ◌++◌, length}
-use Rattle.std.specs.List.{All}
+use Rattle.std.proofs.Common.{◌≡◌, ◌++◌, length, All}
 use Rattle.fak_kernel.specs.Closing.{IsSleeper}
 use Rattle.fak_kernel.proofs.ending.closing.drain.Given as goal
 

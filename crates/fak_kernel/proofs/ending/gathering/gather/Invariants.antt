@@ -1,7 +1,5 @@
 use Rattle.std.proofs.Common.{◌≡◌, ℕ, ◌+◌, ◌<◌, ◌≤◌, get_or}
-use Rattle.fak_kernel.specs.Processors.{ProcessorOf}
-use Rattle.fak_kernel.specs.Begun.{IsLeftBy}
-use Rattle.fak_kernel.specs.Gathered.{AreGathered, AreOfOne}
+use Rattle.fak_kernel.proofs.Common.{ProcessorOf, IsLeftBy, AreGathered, AreOfOne}
 use Rattle.fak_kernel.proofs.ending.gathering.gather.Given as goal
 
 -- so many processors are joined, and the others are to come

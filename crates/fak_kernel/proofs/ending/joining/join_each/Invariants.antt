@@ -1,8 +1,7 @@
 use Rattle.std.proofs.Common.{◌≡◌, List, ◌++◌, drop}
 use Rattle.fak_sem.specs.Semaphores.{SemTallyInfo}
 use Rattle.fak_text.specs.Journal.{Process}
-use Rattle.fak_kernel.specs.Processors.{ids_of, ids_of_seats}
-use Rattle.fak_kernel.specs.Joined.{JoinEach, ids_of_tallies}
+use Rattle.fak_kernel.proofs.Common.{ids_of, ids_of_seats, JoinEach, ids_of_tallies}
 use Rattle.fak_kernel.proofs.ending.joining.join_each.Given as goal
 
 -- whatever joins those that are left, joins all

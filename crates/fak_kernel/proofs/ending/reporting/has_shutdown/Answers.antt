@@ -1,5 +1,4 @@
-use Rattle.std.proofs.Common.{◌∙◌}
-use Rattle.std.specs.List.{sum_by}
+use Rattle.std.proofs.Common.{◌∙◌, sum_by}
 use Rattle.fak_kernel.specs.Ledger.{shuts_of}
 use Rattle.fak_text.specs.Journal.{Process}
 use Rattle.fak_kernel.proofs.AnyWeighs.{any_weighs}

@@ -1,8 +1,6 @@
-use Rattle.std.proofs.Common.{sym, subst}
-use Rattle.std.specs.List.{All}
+use Rattle.std.proofs.Common.{sym, subst, All}
 use Rattle.fak_model.specs.Seats.{IsWhole}
-use Rattle.fak_kernel.specs.Joined.{TalliesOf}
-use Rattle.fak_kernel.specs.Closing.{IsWholeAt}
+use Rattle.fak_kernel.proofs.Common.{TalliesOf, IsWholeAt}
 use Rattle.fak_kernel.proofs.objects.Objects.close.Goals as goal
 
 pub close_each-requires-clause-whole : goal.close_each-requires-clause-whole

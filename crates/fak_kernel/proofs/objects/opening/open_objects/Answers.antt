@@ -2,8 +2,7 @@ use Rattle.std.proofs.Common.{◌≡◌, ◌∙◌, length, ap, sym, subst, arit
 use Rattle.std.proofs.lemmas.List.{length-map}
 use Rattle.fak_sem.specs.Semaphores.{SemInfo}
 use Rattle.fak_text.specs.Script.{ScriptOf}
-use Rattle.fak_kernel.specs.Processors.{AreFor, ObjectsOf, ids_of}
-use Rattle.fak_kernel.specs.Opened.{fresh_all, zipped}
+use Rattle.fak_kernel.proofs.Common.{AreFor, ObjectsOf, ids_of, fresh_all, zipped}
 use Rattle.fak_kernel.proofs.Dealing.{length-new, length-rows, length-seats, zips}
 use Rattle.fak_kernel.proofs.objects.opening.open_objects.Goals as goal
 

@@ -1,9 +1,7 @@
-use Rattle.std.proofs.Common.{◌≡◌, ◌+◌, [], ◌∷◌, ◌++◌, List, length, drop, ap, sym, ◌∙◌, subst, arith, map}
-use Rattle.std.specs.List.{All}
+use Rattle.std.proofs.Common.{◌≡◌, ◌+◌, [], ◌∷◌, ◌++◌, List, length, drop, ap, sym, ◌∙◌, subst, arith, map, All}
 use Rattle.std.proofs.lemmas.List.{append-nil, map-append, length-map}
 use Rattle.fak_sem.specs.Semaphores.{SemId, SemInfo}
-use Rattle.fak_kernel.specs.Processors.{ids_of}
-use Rattle.fak_kernel.specs.Opened.{IsSemaphoreFor, dealt_to, fresh_rows}
+use Rattle.fak_kernel.proofs.Common.{ids_of, IsSemaphoreFor, dealt_to, fresh_rows}
 use Rattle.fak_kernel.proofs.Dealing.{deals_more, drop_at, drop_past, length-fresh, length-rows, sems_more, starts_next}
 use Rattle.fak_kernel.proofs.objects.opening.open_semaphores.Goals as goal
 

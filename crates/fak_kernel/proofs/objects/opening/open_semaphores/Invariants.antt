@@ -1,7 +1,5 @@
-use Rattle.std.proofs.Common.{◌≡◌, ◌++◌, map, drop}
-use Rattle.std.specs.List.{All}
-use Rattle.fak_kernel.specs.Processors.{ids_of}
-use Rattle.fak_kernel.specs.Opened.{IsSemaphoreFor, fresh_rows}
+use Rattle.std.proofs.Common.{◌≡◌, ◌++◌, map, drop, All}
+use Rattle.fak_kernel.proofs.Common.{ids_of, IsSemaphoreFor, fresh_rows}
 use Rattle.fak_kernel.proofs.objects.opening.open_semaphores.Given as goal
 
 -- the semaphores so far are open, and their seats are dealt

@@ -1,8 +1,5 @@
-use Rattle.std.proofs.Common.{[], subst}
-use Rattle.std.proofs.lemmas.List.{append-nil}
-use Rattle.fak_kernel.specs.ListScheduler.{numbers_from}
-use Rattle.fak_kernel.specs.Whole.{begun_names}
-use Rattle.fak_kernel.specs.Begun.{Begins}
+use Rattle.std.proofs.Common.{[], subst, append-nil}
+use Rattle.fak_kernel.proofs.Common.{numbers_from, begun_names, Begins}
 use Rattle.fak_kernel.proofs.Starting.{begins_then, reached_first}
 use Rattle.fak_kernel.proofs.processor.Processor.begin.Goals as goal
 

@@ -1,6 +1,5 @@
 use Rattle.std.proofs.Common.{[], subst}
-use Rattle.fak_kernel.specs.Processors.{GoesTo}
-use Rattle.fak_kernel.specs.Begun.{Begins, empty_lists}
+use Rattle.fak_kernel.proofs.Common.{GoesTo, Begins, empty_lists}
 use Rattle.fak_kernel.proofs.Starting.{begins_none, begins_then, filled_alone, numbers_next}
 use Rattle.fak_kernel.proofs.processor.Processor.free_slots.Goals as goal
 

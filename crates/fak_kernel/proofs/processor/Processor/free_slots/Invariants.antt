@@ -1,7 +1,5 @@
 use Rattle.std.proofs.Common.{[]}
-use Rattle.fak_kernel.specs.ListScheduler.{numbers_from}
-use Rattle.fak_kernel.specs.Processors.{AreOf, GoesTo}
-use Rattle.fak_kernel.specs.Begun.{Begins, empty_lists}
+use Rattle.fak_kernel.proofs.Common.{numbers_from, AreOf, GoesTo, Begins, empty_lists}
 use Rattle.fak_kernel.proofs.processor.Processor.free_slots.Given as goal
 
 -- the slots below this one are free

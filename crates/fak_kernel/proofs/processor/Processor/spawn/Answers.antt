@@ -1,7 +1,5 @@
-use Rattle.std.proofs.Common.{◌≡◌, ◌∙◌, ap, sym, subst, true, false, rules, [], ◌∷◌, ◌++◌, ℕ}
-use Rattle.std.specs.Prelude.{None}
-use Rattle.fak_text.specs.Script.{spawn}
-use Rattle.fak_text.specs.Journal.{Process, FitsScript, StandsAt, new_process, after_note, child_count, spawned, no_birth, no_slot}
+use Rattle.std.proofs.Common.{◌≡◌, ◌∙◌, ap, sym, subst, true, false, rules, [], ◌∷◌, ◌++◌, ℕ, None}
+use Rattle.fak_text.proofs.Common.{spawn, Process, FitsScript, StandsAt, new_process, after_note, child_count, spawned, no_birth, no_slot}
 use Rattle.fak_kernel.specs.ListScheduler as lists
 use Rattle.fak_kernel.specs.Moving.{Moves}
 use Rattle.fak_kernel.proofs.Stepping.{moves_from, moves_to, moves_unborn, moves_slotless, moves_spawned, moves_enters}

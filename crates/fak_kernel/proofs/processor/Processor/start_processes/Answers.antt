@@ -1,9 +1,6 @@
-use Rattle.std.proofs.Common.{◌≡◌, ◌<◌, ◌∙◌, [], List, ℕ, length, take, ap, subst, refl, arith}
-use Rattle.std.proofs.lemmas.List.{take_all}
+use Rattle.std.proofs.Common.{◌≡◌, ◌<◌, ◌∙◌, [], List, ℕ, length, take, ap, subst, refl, arith, take_all}
 use Rattle.fak_text.specs.Script.{ScriptOf}
-use Rattle.fak_kernel.specs.Ledger.{Named}
-use Rattle.fak_kernel.specs.Whole.{begun_names}
-use Rattle.fak_kernel.specs.Begun.{Begins}
+use Rattle.fak_kernel.proofs.Common.{Named, begun_names, Begins}
 use Rattle.fak_kernel.proofs.Starting.{all_started, begins_none, begins_then, names_next, started_next, started_none}
 use Rattle.fak_kernel.proofs.processor.Processor.start_processes.Goals as goal
 

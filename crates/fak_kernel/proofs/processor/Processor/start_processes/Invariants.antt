@@ -1,8 +1,5 @@
 use Rattle.std.proofs.Common.{◌≡◌, ◌≤◌, ◌-◌, [], length, take}
-use Rattle.fak_kernel.specs.ListScheduler.{begun_from, numbers_from}
-use Rattle.fak_kernel.specs.Whole.{begun_names}
-use Rattle.fak_kernel.specs.Processors.{AreOf, GoesTo}
-use Rattle.fak_kernel.specs.Begun.{Begins, empty_lists}
+use Rattle.fak_kernel.proofs.Common.{begun_from, numbers_from, begun_names, AreOf, GoesTo, Begins, empty_lists}
 use Rattle.fak_kernel.proofs.processor.Processor.start_processes.Given as goal
 
 -- the processes so far are started

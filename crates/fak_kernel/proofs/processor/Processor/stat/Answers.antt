@@ -1,6 +1,5 @@
 use Rattle.std.proofs.Common.{◌≡◌, ◌∙◌, ap, subst, refl}
-use Rattle.fak_text.specs.Script.{stat}
-use Rattle.fak_text.specs.Journal.{FitsScript, after_note, statted}
+use Rattle.fak_text.proofs.Common.{stat, FitsScript, after_note, statted}
 use Rattle.fak_kernel.specs.ListScheduler as lists
 use Rattle.fak_kernel.specs.Making.{HasMade}
 use Rattle.fak_kernel.proofs.Stepping.{moves_to, made_is, gains_files, moves_plain, plain_statted}

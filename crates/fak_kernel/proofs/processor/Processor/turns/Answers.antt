@@ -1,5 +1,4 @@
-use Rattle.std.proofs.Common.{◌≡◌, true, rules}
-use Rattle.std.specs.Prelude.{None}
+use Rattle.std.proofs.Common.{◌≡◌, true, rules, None}
 use Rattle.fak_kernel.proofs.Acting.{moves_none}
 use Rattle.fak_kernel.proofs.Looping.{moves_on, leaves_none}
 use Rattle.fak_kernel.proofs.Working.{reached_on, reached_the_end}

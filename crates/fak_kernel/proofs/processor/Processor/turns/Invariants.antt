@@ -1,7 +1,6 @@
-use Rattle.fak_kernel.specs.ListScheduler.{turn_over}
+use Rattle.fak_kernel.proofs.Common.{turn_over, AreOf, IsReached, lists_of}
 use Rattle.std.proofs.Common.{[]}
 use Rattle.fak_kernel.specs.Moving.{Moves, hand_of}
-use Rattle.fak_kernel.specs.Processors.{AreOf, IsReached, lists_of}
 use Rattle.fak_kernel.proofs.processor.Processor.turns.Given as goal
 
 abbrev pub invariant-loop : goal.invariant-loop

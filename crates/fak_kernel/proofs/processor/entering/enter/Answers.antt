@@ -1,6 +1,5 @@
 use Rattle.std.proofs.Common.{◌∙◌, subst, refl}
-use Rattle.fak_kernel.specs.OnlyQueues.{Enters}
-use Rattle.fak_kernel.specs.Moving.{GrowsIn}
+use Rattle.fak_kernel.proofs.Common.{Enters, GrowsIn}
 use Rattle.fak_kernel.proofs.Moving.{none_yet, full_again, in_at_last, shut_at_last}
 use Rattle.fak_kernel.proofs.OnlyQueues.{enters, bounces, keeps_full, keeps_then, keeps_enters, keeps_bounces}
 use Rattle.fak_kernel.proofs.processor.entering.enter.Goals as goal

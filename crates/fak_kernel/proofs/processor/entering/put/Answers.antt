@@ -1,6 +1,5 @@
 use Rattle.std.proofs.Common.{◌∙◌, subst, refl}
-use Rattle.fak_kernel.specs.OnlyQueues.{Enters}
-use Rattle.fak_kernel.specs.Moving.{GrowsAtLast}
+use Rattle.fak_kernel.proofs.Common.{Enters, GrowsAtLast}
 use Rattle.fak_kernel.proofs.Moving.{idle_yet, shut_again, put_at_last}
 use Rattle.fak_kernel.proofs.OnlyQueues.{keeps_then, keeps_enters}
 use Rattle.fak_kernel.proofs.processor.entering.put.Goals as goal

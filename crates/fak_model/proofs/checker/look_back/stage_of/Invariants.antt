@@ -1,6 +1,5 @@
 use Rattle.std.proofs.Common.{◌≡◌, reverse, take}
-use Rattle.fak_model.specs.Queue.{count, puts, gots}
-use Rattle.fak_model.specs.QueuePast.{stage}
+use Rattle.fak_model.proofs.Common.{count, puts, gots, stage}
 use Rattle.fak_model.proofs.checker.look_back.stage_of.Given as goal
 
 abbrev pub invariant-loop-i : goal.invariant-loop-i

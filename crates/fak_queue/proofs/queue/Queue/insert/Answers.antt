@@ -1,9 +1,7 @@
 use Rattle.std.proofs.Common.{ap, ◌≡◌, ◌+◌, MatchResult, sym, subst, arith}
 use Rattle.fak_model.proofs.RunningCalls.{token_names}
 use Rattle.fak_model.specs.Calls.{object_id}
-use Rattle.fak_queue.specs.Parts.{Filled}
-use Rattle.fak_queue.specs.Queues.{Inserts, drawn_by, queue_seat}
-use Rattle.fak_queue.specs.Refusals.{RefusesInsertion}
+use Rattle.fak_queue.proofs.Common.{Filled, Inserts, drawn_by, queue_seat, RefusesInsertion}
 use Rattle.fak_queue.proofs.PartSteps.{names_then, slots_then}
 use Rattle.fak_queue.proofs.SeatCalls.{idle_token, seat_refused_in, state_refused_in, drawn_refused_in, refuses_insertion}
 use Rattle.fak_queue.proofs.AtOnce.{seat_inserted, state_inserted, drawn_inserted, inserts}

@@ -1,6 +1,5 @@
 use Rattle.std.proofs.Common.{◌∙◌, subst}
-use Rattle.fak_queue.specs.Retries.{InsertsAfterFull}
-use Rattle.fak_queue.specs.Refusals.{RefusesInsertion}
+use Rattle.fak_queue.proofs.Common.{InsertsAfterFull, RefusesInsertion}
 use Rattle.fak_queue.proofs.AfterRefusals.{inserted_after, closed_after, full_again}
 use Rattle.fak_queue.proofs.queue.Queue.wait_insert.Goals as goal
 

@@ -1,5 +1,4 @@
-use Rattle.std.proofs.Common.{subst, ◌<◌}
-use Rattle.std.specs.List.{All}
+use Rattle.std.proofs.Common.{subst, ◌<◌, All}
 use Rattle.fak_model.specs.declared.queue.Mark.{Mark}
 use Rattle.fak_model.proofs.Seats.{whole_mine}
 use Rattle.fak_model.proofs.CreditLaw.{every_history}

@@ -1,5 +1,4 @@
-use Rattle.std.proofs.Common.{rules, tests, ◌∙◌, ℕ}
-use Rattle.std.specs.Str.{bytes_eq}
+use Rattle.std.proofs.Common.{rules, tests, ◌∙◌, ℕ, bytes_eq}
 use Rattle.std.proofs.lemmas.Iterator.{YieldsList-from_slice}
 use Rattle.std.proofs.lemmas.Iterator.Search.{find_from_yields_List}
 use Rattle.fak_model.specs.declared.queue.Kind.{Kind}

@@ -1,6 +1,5 @@
 use Rattle.std.proofs.lemmas.Result.{err_from_is_err_and}
-use Rattle.fak_text.specs.Values.{next_index}
-use Rattle.fak_text.specs.HistoryText.{mark_from}
+use Rattle.fak_text.proofs.Common.{next_index, mark_from}
 use Rattle.fak_text.proofs.Elements.{goes_on, ends, is_done}
 use Rattle.fak_text.proofs.reading.history.marks_of.Goals as goal
 

@@ -1,6 +1,5 @@
 use Rattle.std.proofs.lemmas.Result.{err_from_is_err_and}
-use Rattle.fak_text.specs.Values.{next_index}
-use Rattle.fak_text.specs.ScheduleText.{event_from}
+use Rattle.fak_text.proofs.Common.{next_index, event_from}
 use Rattle.fak_text.proofs.Elements.{goes_on, ends, is_done}
 use Rattle.fak_text.proofs.reading.schedule.events_of.Goals as goal
 

@@ -1,7 +1,6 @@
 use Rattle.std.proofs.Common.{rules}
 use Rattle.std.proofs.lemmas.Result.{err_from_is_err_and}
-use Rattle.fak_text.specs.Values.{next_index}
-use Rattle.fak_text.specs.ScriptText.{number_from}
+use Rattle.fak_text.proofs.Common.{next_index, number_from}
 use Rattle.fak_text.proofs.Elements.{goes_on, ends, is_done}
 use Rattle.fak_text.proofs.reading.script.numbers.Goals as goal
 

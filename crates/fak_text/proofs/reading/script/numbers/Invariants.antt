@@ -1,7 +1,6 @@
 use Rattle.std.proofs.Common.{◌≡◌, drop}
 use Rattle.serde_json.specs.View.{items_view}
-use Rattle.fak_text.specs.Values.{each_from}
-use Rattle.fak_text.specs.ScriptText.{number_from}
+use Rattle.fak_text.proofs.Common.{each_from, number_from}
 use Rattle.fak_text.proofs.Elements.{with_front}
 use Rattle.fak_text.proofs.reading.script.numbers.Given as goal
 

@@ -1,9 +1,6 @@
 use Rattle.std.proofs.Common.{◌≡◌, ◌++◌, ◌∷◌, [], rules, arith}
-use Rattle.std.proofs.lemmas.Result.{err_from_is_err_and}
-use Rattle.std.proofs.lemmas.List.{map_push}
-use Rattle.fak_text.specs.StepText.{step_from}
-use Rattle.fak_text.specs.Values.{next_index}
-use Rattle.fak_text.specs.Views.{step_of, steps_view}
+use Rattle.fak_model.proofs.Common.{err_from_is_err_and, map_push}
+use Rattle.fak_text.proofs.Common.{step_from, next_index, step_of, steps_view}
 use Rattle.fak_text.proofs.Elements.{goes_on, ends, is_done}
 use Rattle.fak_text.proofs.reading.step.steps.Goals as goal
 

@@ -1,6 +1,5 @@
 use Rattle.std.proofs.Common.{◌≡◌, ◌++◌, map, take, string_bytes}
-use Rattle.fak_text.specs.JournalText.{text_of_journal}
-use Rattle.fak_text.specs.Views.{note_of}
+use Rattle.fak_text.proofs.Common.{text_of_journal, note_of}
 use Rattle.fak_text.proofs.text.journal.append_journal.Given as goal
 
 abbrev pub invariant-loop-note : goal.invariant-loop-note

@@ -1,5 +1,4 @@
-use Rattle.std.proofs.Common.{◌≡◌, ◌∙◌, ◌+◌, ◌≤◌, ℕ, [], length, rules, arith, refl, ap}
-use Rattle.std.specs.Prelude.{Some}
+use Rattle.std.proofs.Common.{◌≡◌, ◌∙◌, ◌+◌, ◌≤◌, ℕ, [], length, rules, arith, refl, ap, Some}
 use Rattle.fak_files.specs.Versions.{entry_of}
 use Rattle.fak_files.proofs.Closing.{read_more}
 use Rattle.fak_kernel.proofs.Holding.{left_of, left_then, left_none, got_of}
