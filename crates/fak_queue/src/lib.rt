@@ -22,7 +22,6 @@ mod fault;
 mod found;
 pub mod laws;
 mod limits;
-mod looks;
 mod opening;
 mod place;
 mod plays;

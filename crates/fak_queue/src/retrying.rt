@@ -6,10 +6,10 @@ ghost use Rattle.fak_queue.specs.Queues.{drawn_by, state_of};
 ghost use Rattle.fak_queue.specs.Retries.{DeletesAfterEmpty, InsertsAfterFull, RefusesWaitingDeletion, RefusesWaitingInsertion};
 
 use crate::fault::{DeleteFault, InsertFault};
-use crate::looks::Looks;
 use crate::queue::Queue;
 use crate::seat::Seat;
 use std::sync::Wait;
+use std::thread;
 
 impl<T: Drop> Queue<T> {
     /// Inserts the item, and tries again while the queue is full. Answers the ticket.
@@ -29,7 +29,6 @@ impl<T: Drop> Queue<T> {
         ensures call { MatchResult result (λ k. InsertsAfterFull self.now.size k item seat.old seat.new)
             (RefusesWaitingInsertion self.now.size item seat.old seat.new) }
     {
-        let mut looks = Looks::new();
         let mut waiting = item;
         for _ in rt.forever() {
             match self.insert(rt, seat, waiting) {
@@ -38,7 +37,7 @@ impl<T: Drop> Queue<T> {
                 Err(InsertFault::Closed { item }) => return Err(InsertFault::Closed { item }),
                 Err(InsertFault::Full { upper: _, item }) => waiting = item,
             }
-            looks.pause();
+            thread::yield_now();
         }
         unreachable!()
     }
@@ -55,14 +54,13 @@ impl<T: Drop> Queue<T> {
         ensures call { MatchResult result (λ r. DeletesAfterEmpty self.now.size r.0 r.1 seat.old seat.new)
             (RefusesWaitingDeletion seat.old seat.new) }
     {
-        let mut looks = Looks::new();
         for _ in rt.forever() {
             match self.delete(rt, seat) {
                 Ok((ticket, item)) => return Ok((ticket, item)),
                 Err(DeleteFault::Worn) => return Err(DeleteFault::Worn),
                 Err(DeleteFault::Empty(_)) => {}
             }
-            looks.pause();
+            thread::yield_now();
         }
         unreachable!()
     }

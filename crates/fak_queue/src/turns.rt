@@ -6,15 +6,14 @@ ghost use Rattle.fak_core.specs.declared.queue.phase.Phase.TheVariants.{Idle, Lo
 ghost use Rattle.fak_queue.specs.Steps.{FitsTable, HasOneName, IsPlace, Named};
 ghost use Rattle.fak_queue.specs.Parts.{Filled, FillsSlot, LooksIn, LooksOut, Taken, TakesSlot};
 
-use crate::looks::Looks;
 use crate::place::Place;
 use crate::steps::deletion::{end_out, set_free, turn_out};
 use crate::steps::insertion::{end_in, set_full, turn_in};
 use crate::steps::{QueueToken, QueueWords};
 use fak_core::Phase;
 use std::marker::Brand;
-use std::mem;
 use std::sync::Wait;
+use std::{mem, thread};
 
 // Whether it is the ticket's turn to fill its cell. Then the seat has the cell's slot.
 pub(crate) fn finds_room<T>(words: &QueueWords<T>, token: &mut QueueToken<T>, place: Place) -> bool
@@ -119,13 +118,12 @@ pub(crate) fn wait_to_fill<T, R: Wait>(
     ensures same { token.new.table_id ≡ token.old.table_id }
     ensures told { Named token.old.me (λ n. Filled words.now.table_id.slots words.now.key.seats n place.ticket token.old.me token.new.me) }
 {
-    let mut looks = Looks::new();
     for _ in rt.forever() {
         if finds_room(words, token, place) {
             fill_cell(words, token, place, item);
             return;
         }
-        looks.pause();
+        thread::yield_now();
     }
     unreachable!()
 }
@@ -145,12 +143,11 @@ pub(crate) fn wait_to_empty<T, R: Wait>(
     ensures told { Named token.old.me
         (λ n. Taken words.now.table_id.slots words.now.key.seats n place.ticket result token.old.me token.new.me) }
 {
-    let mut looks = Looks::new();
     for _ in rt.forever() {
         if finds_item(words, token, place) {
             return empty_cell(words, token, place);
         }
-        looks.pause();
+        thread::yield_now();
     }
     unreachable!()
 }
