@@ -16,35 +16,32 @@ use std::thread::{Threads, join};
 
 // A writer is refused beside a reader, and a reader beside a writer, whose Sets are read after its end.
 #[test]
-fn one_thread(rt: HostRuntime) -> Result<(), Fail> {
-    let Ok((table, mut seats)) = FileTable::open(rt.alloc(), 1, 2, 10) else {
-        return Err(Fail::from("open"));
-    };
-    let (Some(mut b), Some(mut a)) = (seats.pop(), seats.pop()) else {
-        return Err(Fail::from("two seats"));
-    };
+fn one_thread(rt: HostRuntime) {
+    let (table, mut seats) = FileTable::open(rt.alloc(), 1, 2, 10).expect(&rt, "open");
+    let mut b = seats.pop().expect(&rt, "two seats");
+    let mut a = seats.pop().expect(&rt, "two seats");
     let Ok(()) = table.try_read(&mut a) else {
-        return Err(Fail::from("the first read"));
+        panic!(rt; "the first read")
     };
     assert!(rt; a.hold() == Hold::Reading);
     let Err(FileFault::Busy(1)) = table.try_write(&mut b) else {
-        return Err(Fail::from("a write beside a reader"));
+        panic!(rt; "a write beside a reader")
     };
     table.end(&mut a);
     assert!(rt; a.hold() == Hold::Nothing);
     let Ok(()) = table.try_write(&mut b) else {
-        return Err(Fail::from("the write"));
+        panic!(rt; "the write")
     };
     assert!(rt; b.hold() == Hold::Writing);
     let Err(FileFault::Busy(0)) = table.try_read(&mut a) else {
-        return Err(Fail::from("a read beside a writer"));
+        panic!(rt; "a read beside a writer")
     };
     table.set(&mut b, 0, FileField::Inode, 7);
     table.set(&mut b, 0, FileField::Uses, 1);
     assert_eq!(rt; table.get(&mut b, 0).inode, 7);
     table.end(&mut b);
     let Ok(()) = table.try_read(&mut a) else {
-        return Err(Fail::from("the second read"));
+        panic!(rt; "the second read")
     };
     let entry = table.get(&mut a, 0);
     assert_eq!(rt; entry.inode, 7);
@@ -53,99 +50,86 @@ fn one_thread(rt: HostRuntime) -> Result<(), Fail> {
     let tally = FileTally::of(b);
     assert!(rt; !tally.is_whole());
     let tally = table.join(tally, a);
-    if !tally.is_whole() {
-        return Err(Fail::from("a whole tally"));
-    }
+    assert!(rt; tally.is_whole());
     let rest = table.close(tally);
     let entry = rest.get(0);
     assert_eq!(rt; entry.inode, 7);
     assert_eq!(rt; entry.uses, 1);
-    Ok(())
 }
 
 // A seat that is dropped while it reads keeps what it took: writers are refused, readers are not, and no tally is whole.
 #[test]
-fn a_reader_is_dropped(rt: HostRuntime) -> Result<(), Fail> {
-    let Ok((table, mut seats)) = FileTable::open(rt.alloc(), 1, 3, 10) else {
-        return Err(Fail::from("open"));
-    };
-    let (Some(mut c), Some(mut b), Some(mut a)) = (seats.pop(), seats.pop(), seats.pop()) else {
-        return Err(Fail::from("three seats"));
-    };
+fn a_reader_is_dropped(rt: HostRuntime) {
+    let (table, mut seats) = FileTable::open(rt.alloc(), 1, 3, 10).expect(&rt, "open");
+    let mut c = seats.pop().expect(&rt, "three seats");
+    let mut b = seats.pop().expect(&rt, "three seats");
+    let mut a = seats.pop().expect(&rt, "three seats");
     let Ok(()) = table.try_read(&mut a) else {
-        return Err(Fail::from("the dropped read"));
+        panic!(rt; "the dropped read")
     };
     drop(a);
     let Err(FileFault::Busy(2)) = table.try_write(&mut b) else {
-        return Err(Fail::from("a write beside a dropped reader"));
+        panic!(rt; "a write beside a dropped reader")
     };
     let Ok(()) = table.try_read(&mut b) else {
-        return Err(Fail::from("the read"));
+        panic!(rt; "the read")
     };
     table.end(&mut b);
     assert!(rt; c.hold() == Hold::Nothing);
     let tally = table.join(FileTally::of(b), c);
     assert!(rt; !tally.is_whole());
-    Ok(())
 }
 
 // A seat has as many holds as its stint, by tries and by waiting; refused tries don't count.
 #[test]
-fn a_seat_is_worn(rt: HostRuntime) -> Result<(), Fail> {
-    let Ok((table, mut seats)) = FileTable::open(rt.alloc(), 2, 2, 2) else {
-        return Err(Fail::from("open"));
-    };
-    let (Some(mut b), Some(mut a)) = (seats.pop(), seats.pop()) else {
-        return Err(Fail::from("two seats"));
-    };
+fn a_seat_is_worn(rt: HostRuntime) {
+    let (table, mut seats) = FileTable::open(rt.alloc(), 2, 2, 2).expect(&rt, "open");
+    let mut b = seats.pop().expect(&rt, "two seats");
+    let mut a = seats.pop().expect(&rt, "two seats");
     let Ok(()) = table.read(&rt, &mut a) else {
-        return Err(Fail::from("the first hold"));
+        panic!(rt; "the first hold")
     };
     let Err(FileFault::Busy(1)) = table.try_write(&mut b) else {
-        return Err(Fail::from("a refused try"));
+        panic!(rt; "a refused try")
     };
     table.end(&mut a);
     let Ok(()) = table.write(&rt, &mut a) else {
-        return Err(Fail::from("the second hold"));
+        panic!(rt; "the second hold")
     };
     table.end(&mut a);
     let Err(FileFault::Worn) = table.try_read(&mut a) else {
-        return Err(Fail::from("a third hold"));
+        panic!(rt; "a third hold")
     };
     let Err(FileFault::Worn) = table.try_write(&mut a) else {
-        return Err(Fail::from("a third hold to write"));
+        panic!(rt; "a third hold to write")
     };
     let Err(Worn) = table.read(&rt, &mut a) else {
-        return Err(Fail::from("a third hold by waiting"));
+        panic!(rt; "a third hold by waiting")
     };
     let Err(Worn) = table.write(&rt, &mut a) else {
-        return Err(Fail::from("a third hold to write by waiting"));
+        panic!(rt; "a third hold to write by waiting")
     };
     let Ok(()) = table.try_write(&mut b) else {
-        return Err(Fail::from("the other seat"));
+        panic!(rt; "the other seat")
     };
     table.set(&mut b, 1, FileField::Uses, 5);
     assert_eq!(rt; table.get(&mut b, 1).uses, 5);
     assert_eq!(rt; table.get(&mut b, 0).uses, 0);
     table.end(&mut b);
-    Ok(())
 }
 
 // A worn seat is told so at once while another holds, which a wait would not end.
 #[test]
-fn a_worn_seat_does_not_wait(rt: HostRuntime) -> Result<(), Fail> {
-    let Ok((table, mut seats)) = FileTable::open(rt.alloc(), 1, 2, 1) else {
-        return Err(Fail::from("open"));
-    };
-    let (Some(mut b), Some(mut a)) = (seats.pop(), seats.pop()) else {
-        return Err(Fail::from("two seats"));
-    };
+fn a_worn_seat_does_not_wait(rt: HostRuntime) {
+    let (table, mut seats) = FileTable::open(rt.alloc(), 1, 2, 1).expect(&rt, "open");
+    let mut b = seats.pop().expect(&rt, "two seats");
+    let mut a = seats.pop().expect(&rt, "two seats");
     let Ok(()) = table.read(&rt, &mut a) else {
-        return Err(Fail::from("the only hold"));
+        panic!(rt; "the only hold")
     };
     table.end(&mut a);
     let Ok(()) = table.write(&rt, &mut b) else {
-        return Err(Fail::from("the writer's hold"));
+        panic!(rt; "the writer's hold")
     };
     assert!(rt; table.try_read(&mut a) == Err(FileFault::Worn));
     assert!(rt; table.try_write(&mut a) == Err(FileFault::Worn));
@@ -158,7 +142,6 @@ fn a_worn_seat_does_not_wait(rt: HostRuntime) -> Result<(), Fail> {
     if tally.is_whole() {
         close_free(table, tally);
     }
-    Ok(())
 }
 
 // Whether the seat writes; it then holds as much as there are seats.
@@ -209,25 +192,18 @@ fn hold_often(table: &FileTable, mut seat: FileSeat, holds: u64) -> FileSeat
 }
 
 #[test]
-fn what_callers_conclude(rt: HostRuntime) -> Result<(), Fail> {
-    let Ok((table, mut seats)) = FileTable::open(rt.alloc(), 2, 1, 10) else {
-        return Err(Fail::from("open"));
-    };
-    let Some(a) = seats.pop() else {
-        return Err(Fail::from("one seat"));
-    };
+fn what_callers_conclude(rt: HostRuntime) {
+    let (table, mut seats) = FileTable::open(rt.alloc(), 2, 1, 10).expect(&rt, "open");
+    let a = seats.pop().expect(&rt, "one seat");
     let mut a = hold_often(&table, a, 3);
     let Ok(()) = table.try_write(&mut a) else {
-        return Err(Fail::from("the write"));
+        panic!(rt; "the write")
     };
     table.set(&mut a, 1, FileField::Inode, 7);
     table.end(&mut a);
     let tally = FileTally::of(a);
-    if !tally.is_whole() {
-        return Err(Fail::from("a whole tally"));
-    }
+    assert!(rt; tally.is_whole());
     assert_eq!(rt; last_file(table, tally, 1), 7);
-    Ok(())
 }
 
 fn fault_of(alloc: Global, entries: u64, seats: u64, stint: u64) -> Option<OpenFault> {
@@ -338,15 +314,11 @@ fn run_two<R: Threads + Wait + Sync>(rt: &R, table: FileTable, a: FileSeat, b: F
 }
 
 #[test]
-fn two_threads(rt: HostRuntime) -> Result<(), Fail> {
-    let Ok((table, mut seats)) = FileTable::open(rt.alloc(), 1, 2, 1000) else {
-        return Err(Fail::from("open"));
-    };
-    let (Some(b), Some(a)) = (seats.pop(), seats.pop()) else {
-        return Err(Fail::from("two seats"));
-    };
+fn two_threads(rt: HostRuntime) {
+    let (table, mut seats) = FileTable::open(rt.alloc(), 1, 2, 1000).expect(&rt, "open");
+    let b = seats.pop().expect(&rt, "two seats");
+    let a = seats.pop().expect(&rt, "two seats");
     assert!(rt; run_two(&rt, table, a, b));
-    Ok(())
 }
 
 // Whichever allocation fails, no other fault than Memory is answered in range.

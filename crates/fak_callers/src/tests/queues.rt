@@ -7,16 +7,12 @@ use crate::queues::{
 };
 use fak_queue::{InsertFault, Queue};
 use std::sync::Wait;
-use std::test::Fail;
 
 #[test]
-fn a_queue_is_shut_and_its_seats_are_joined(rt: HostRuntime) -> Result<(), Fail> {
-    let Ok((queue, mut seats)) = Queue::<u64>::open(rt.alloc(), 2, 2, 9) else {
-        return Err(Fail::from("open"));
-    };
-    let (Some(mut b), Some(mut a)) = (seats.pop(), seats.pop()) else {
-        return Err(Fail::from("two seats"));
-    };
+fn a_queue_is_shut_and_its_seats_are_joined(rt: HostRuntime) {
+    let (queue, mut seats) = Queue::<u64>::open(rt.alloc(), 2, 2, 9).expect(&rt, "open");
+    let mut b = seats.pop().expect(&rt, "two seats");
+    let mut a = seats.pop().expect(&rt, "two seats");
     assert!(rt; matches!(queue.insert(&rt, &mut a, 7), Ok(0)));
     assert!(rt; shut_lawfully(&queue, &mut b));
     assert!(rt; !shut_lawfully(&queue, &mut a));
@@ -28,44 +24,34 @@ fn a_queue_is_shut_and_its_seats_are_joined(rt: HostRuntime) -> Result<(), Fail>
     );
     assert!(rt; matches!(queue.delete(&rt, &mut b), Ok((0, 7))));
     assert!(rt; join_in_turn(&queue, a, b).is_whole());
-    Ok(())
 }
 
 #[test]
-fn an_only_seat_is_at_rest(rt: HostRuntime) -> Result<(), Fail> {
-    let Ok((queue, mut seats)) = Queue::<u64>::open(rt.alloc(), 1, 1, 9) else {
-        return Err(Fail::from("open"));
-    };
-    let Some(mut a) = seats.pop() else {
-        return Err(Fail::from("one seat"));
-    };
+fn an_only_seat_is_at_rest(rt: HostRuntime) {
+    let (queue, mut seats) = Queue::<u64>::open(rt.alloc(), 1, 1, 9).expect(&rt, "open");
+    let mut a = seats.pop().expect(&rt, "one seat");
     assert!(rt; matches!(queue.insert(&rt, &mut a, 7), Ok(0)));
     assert!(rt; tally_at_rest(a).is_whole());
-    Ok(())
 }
 
 #[test]
-fn two_of_ten_seats_are_joined(rt: HostRuntime) -> Result<(), Fail> {
-    let Ok((queue, mut seats)) = Queue::<u64>::open(rt.alloc(), 1, 10, 9) else {
-        return Err(Fail::from("open"));
-    };
-    let (Some(d), Some(c), Some(b), Some(a)) = (seats.pop(), seats.pop(), seats.pop(), seats.pop())
-    else {
-        return Err(Fail::from("four seats"));
-    };
+fn two_of_ten_seats_are_joined(rt: HostRuntime) {
+    let (queue, mut seats) = Queue::<u64>::open(rt.alloc(), 1, 10, 9).expect(&rt, "open");
+    let d = seats.pop().expect(&rt, "four seats");
+    let c = seats.pop().expect(&rt, "four seats");
+    let b = seats.pop().expect(&rt, "four seats");
+    let a = seats.pop().expect(&rt, "four seats");
     assert!(rt; !join_in_order(&queue, a, b).is_whole());
     assert!(rt; !join_mark_by_mark(&queue, c, d).is_whole());
-    let (Some(d), Some(c), Some(b), Some(a)) = (seats.pop(), seats.pop(), seats.pop(), seats.pop())
-    else {
-        return Err(Fail::from("eight seats"));
-    };
+    let d = seats.pop().expect(&rt, "eight seats");
+    let c = seats.pop().expect(&rt, "eight seats");
+    let b = seats.pop().expect(&rt, "eight seats");
+    let a = seats.pop().expect(&rt, "eight seats");
     assert!(rt; !join_within_size(&queue, a, b).is_whole());
     assert!(rt; !join_open(&queue, c, d).is_whole());
-    let (Some(b), Some(a)) = (seats.pop(), seats.pop()) else {
-        return Err(Fail::from("ten seats"));
-    };
+    let b = seats.pop().expect(&rt, "ten seats");
+    let a = seats.pop().expect(&rt, "ten seats");
     assert!(rt; !join_among_more(&queue, a, b).is_whole());
-    Ok(())
 }
 
 #[test]

@@ -12,13 +12,9 @@ use std::test::*;
 use std::thread::{Threads, join};
 
 #[test]
-fn one_seat_debits_and_credits(rt: HostRuntime) -> Result<(), Fail> {
-    let Ok((credit, mut seats)) = Credit::open(rt.alloc(), 1, 1, 4) else {
-        return Err(Fail::from("open"));
-    };
-    let Some(mut a) = seats.pop() else {
-        return Err(Fail::from("one seat"));
-    };
+fn one_seat_debits_and_credits(rt: HostRuntime) {
+    let (credit, mut seats) = Credit::open(rt.alloc(), 1, 1, 4).expect(&rt, "open");
+    let mut a = seats.pop().expect(&rt, "one seat");
     assert_eq!(rt; credit.debit(&mut a), Ok(1));
     assert_eq!(rt; credit.debit(&mut a), Ok(0));
     assert_eq!(rt; credit.credit(&mut a), Ok(-1));
@@ -29,17 +25,13 @@ fn one_seat_debits_and_credits(rt: HostRuntime) -> Result<(), Fail> {
     assert_eq!(rt; credit.debit(&mut a), Err(Worn));
     assert_eq!(rt; credit.value(&mut a), 1);
     assert!(rt; CreditTally::of(a).is_whole());
-    Ok(())
 }
 
 #[test]
-fn a_value_is_what_all_seats_made(rt: HostRuntime) -> Result<(), Fail> {
-    let Ok((credit, mut seats)) = Credit::open(rt.alloc(), 1, 2, 4) else {
-        return Err(Fail::from("open"));
-    };
-    let (Some(mut b), Some(mut a)) = (seats.pop(), seats.pop()) else {
-        return Err(Fail::from("two seats"));
-    };
+fn a_value_is_what_all_seats_made(rt: HostRuntime) {
+    let (credit, mut seats) = Credit::open(rt.alloc(), 1, 2, 4).expect(&rt, "open");
+    let mut b = seats.pop().expect(&rt, "two seats");
+    let mut a = seats.pop().expect(&rt, "two seats");
     assert_eq!(rt; credit.debit(&mut a), Ok(1));
     assert_eq!(rt; credit.value(&mut b), 0);
     assert_eq!(rt; credit.credit(&mut b), Ok(0));
@@ -48,11 +40,10 @@ fn a_value_is_what_all_seats_made(rt: HostRuntime) -> Result<(), Fail> {
     assert!(rt; !one.is_whole());
     let all = credit.join(one, a);
     assert!(rt; all.is_whole());
-    Ok(())
 }
 
 #[test]
-fn credits_out_of_range_are_not_opened(rt: HostRuntime) -> Result<(), Fail> {
+fn credits_out_of_range_are_not_opened(rt: HostRuntime) {
     for (start, seats, stint, fault) in [
         (4_294_967_297, 1, 1, OpenFault::BadSize),
         (4_294_967_297, 0, 0, OpenFault::BadSize),
@@ -62,15 +53,14 @@ fn credits_out_of_range_are_not_opened(rt: HostRuntime) -> Result<(), Fail> {
         (1, 1, 1_099_511_627_777, OpenFault::BadStint),
     ] {
         match Credit::open(rt.alloc(), start, seats, stint) {
-            Ok((_opened, _dealt)) => return Err(Fail::from("opened")),
+            Ok((_opened, _dealt)) => panic!(rt; "opened"),
             Err(found) => assert_eq!(rt; found, fault),
         }
     }
-    let Ok((_widest, seats)) = Credit::open(rt.alloc(), 4_294_967_296, 64, 1_099_511_627_776) else {
-        return Err(Fail::from("widest"));
-    };
+    let (_widest, seats) = Credit::open(rt.alloc(), 4_294_967_296, 64, 1_099_511_627_776).expect(
+        &rt, "widest",
+    );
     assert_eq!(rt; seats.len(), 64);
-    Ok(())
 }
 
 // Whether all seats are joined. What they have seen grants the lesser of debits, and start and credits.
@@ -105,13 +95,11 @@ fn credits(credit: &Credit, mut seat: CreditSeat, count: usize) -> CreditSeat
 }
 
 #[test]
-fn debits_and_credits_of_two_threads_cancel(rt: HostRuntime) -> Result<(), Fail> {
-    let Ok((credit, mut seats)) = Credit::open(rt.alloc(), 7, 3, 1000) else {
-        return Err(Fail::from("open"));
-    };
-    let (Some(mut c), Some(b), Some(a)) = (seats.pop(), seats.pop(), seats.pop()) else {
-        return Err(Fail::from("three seats"));
-    };
+fn debits_and_credits_of_two_threads_cancel(rt: HostRuntime) {
+    let (credit, mut seats) = Credit::open(rt.alloc(), 7, 3, 1000).expect(&rt, "open");
+    let mut c = seats.pop().expect(&rt, "three seats");
+    let b = seats.pop().expect(&rt, "three seats");
+    let a = seats.pop().expect(&rt, "three seats");
     let credit = &credit;
     let (a, b) = join(
         &rt,
@@ -128,5 +116,4 @@ fn debits_and_credits_of_two_threads_cancel(rt: HostRuntime) -> Result<(), Fail>
     assert_eq!(rt; credit.value(&mut c), 7);
     let all = credit.join(credit.join(CreditTally::of(c), a), b);
     assert!(rt; is_granted(&all));
-    Ok(())
 }

@@ -13,19 +13,16 @@ use std::test::*;
 use std::thread::{Threads, join};
 
 #[test]
-fn claims_and_releases_in_turn(rt: HostRuntime) -> Result<(), Fail> {
-    let Ok((room, mut seats)) = Room::open(rt.alloc(), 5, 2, 2) else {
-        return Err(Fail::from("open"));
-    };
-    let (Some(mut b), Some(mut a)) = (seats.pop(), seats.pop()) else {
-        return Err(Fail::from("two seats"));
-    };
+fn claims_and_releases_in_turn(rt: HostRuntime) {
+    let (room, mut seats) = Room::open(rt.alloc(), 5, 2, 2).expect(&rt, "open");
+    let mut b = seats.pop().expect(&rt, "two seats");
+    let mut a = seats.pop().expect(&rt, "two seats");
     assert_eq!(rt; room.tir(&mut a, 3), Ok(0));
     assert_eq!(rt; room.tir(&mut b, 3), Err(TirFault::AtBound(3)));
     assert_eq!(rt; room.tir(&mut b, 2), Ok(3));
     assert_eq!(rt; a.held(), 3);
     if a.held() < 3 {
-        return Err(Fail::from("held"));
+        panic!(rt; "held")
     }
     assert_eq!(rt; room.release(&mut a, 3), 5);
     assert_eq!(rt; a.left(), 1);
@@ -36,25 +33,19 @@ fn claims_and_releases_in_turn(rt: HostRuntime) -> Result<(), Fail> {
     assert!(rt; !one.is_whole());
     let all = room.join(one, b);
     assert!(rt; all.is_whole());
-    Ok(())
 }
 
 #[test]
-fn a_room_of_bound_0_is_full(rt: HostRuntime) -> Result<(), Fail> {
-    let Ok((room, mut seats)) = Room::open(rt.alloc(), 0, 1, 1) else {
-        return Err(Fail::from("open"));
-    };
-    let Some(mut a) = seats.pop() else {
-        return Err(Fail::from("one seat"));
-    };
+fn a_room_of_bound_0_is_full(rt: HostRuntime) {
+    let (room, mut seats) = Room::open(rt.alloc(), 0, 1, 1).expect(&rt, "open");
+    let mut a = seats.pop().expect(&rt, "one seat");
     assert_eq!(rt; room.tir(&mut a, 1), Err(TirFault::AtBound(0)));
     assert_eq!(rt; a.left(), 1);
     assert!(rt; RoomTally::of(a).is_whole());
-    Ok(())
 }
 
 #[test]
-fn rooms_out_of_range_are_not_opened(rt: HostRuntime) -> Result<(), Fail> {
+fn rooms_out_of_range_are_not_opened(rt: HostRuntime) {
     for (bound, seats, stint, fault) in [
         (4_294_967_297, 1, 1, OpenFault::BadSize),
         (4_294_967_297, 0, 0, OpenFault::BadSize),
@@ -64,15 +55,14 @@ fn rooms_out_of_range_are_not_opened(rt: HostRuntime) -> Result<(), Fail> {
         (1, 1, 1_099_511_627_777, OpenFault::BadStint),
     ] {
         match Room::open(rt.alloc(), bound, seats, stint) {
-            Ok((_opened, _dealt)) => return Err(Fail::from("opened")),
+            Ok((_opened, _dealt)) => panic!(rt; "opened"),
             Err(found) => assert_eq!(rt; found, fault),
         }
     }
-    let Ok((_widest, seats)) = Room::open(rt.alloc(), 4_294_967_296, 64, 1_099_511_627_776) else {
-        return Err(Fail::from("widest"));
-    };
+    let (_widest, seats) = Room::open(rt.alloc(), 4_294_967_296, 64, 1_099_511_627_776).expect(
+        &rt, "widest",
+    );
     assert_eq!(rt; seats.len(), 64);
-    Ok(())
 }
 
 // So many claims of 1, each with its release where it is granted.
@@ -89,13 +79,11 @@ fn rounds(room: &Room, mut seat: RoomSeat, count: usize) -> RoomSeat
 }
 
 #[test]
-fn two_threads_leave_a_room_empty(rt: HostRuntime) -> Result<(), Fail> {
-    let Ok((room, mut seats)) = Room::open(rt.alloc(), 1, 3, 1000) else {
-        return Err(Fail::from("open"));
-    };
-    let (Some(mut c), Some(b), Some(a)) = (seats.pop(), seats.pop(), seats.pop()) else {
-        return Err(Fail::from("three seats"));
-    };
+fn two_threads_leave_a_room_empty(rt: HostRuntime) {
+    let (room, mut seats) = Room::open(rt.alloc(), 1, 3, 1000).expect(&rt, "open");
+    let mut c = seats.pop().expect(&rt, "three seats");
+    let b = seats.pop().expect(&rt, "three seats");
+    let a = seats.pop().expect(&rt, "three seats");
     let room = &room;
     let (a, b) = join(
         &rt,
@@ -111,7 +99,6 @@ fn two_threads_leave_a_room_empty(rt: HostRuntime) -> Result<(), Fail> {
     assert_eq!(rt; room.tir(&mut c, 1), Ok(0));
     let all = room.join(room.join(RoomTally::of(c), a), b);
     assert!(rt; all.is_whole());
-    Ok(())
 }
 
 // Whether the tally is whole; the value of a whole room is then what all seats hold.
@@ -136,16 +123,12 @@ fn fit_together(room: &Room, a: RoomSeat, b: RoomSeat) -> (RoomTally, bool)
 }
 
 #[test]
-fn a_whole_room_is_counted(rt: HostRuntime) -> Result<(), Fail> {
-    let Ok((room, mut seats)) = Room::open(rt.alloc(), 5, 2, 2) else {
-        return Err(Fail::from("open"));
-    };
-    let (Some(mut b), Some(a)) = (seats.pop(), seats.pop()) else {
-        return Err(Fail::from("two seats"));
-    };
+fn a_whole_room_is_counted(rt: HostRuntime) {
+    let (room, mut seats) = Room::open(rt.alloc(), 5, 2, 2).expect(&rt, "open");
+    let mut b = seats.pop().expect(&rt, "two seats");
+    let a = seats.pop().expect(&rt, "two seats");
     assert_eq!(rt; room.tir(&mut b, 3), Ok(0));
     let (tally, whole) = fit_together(&room, a, b);
     assert!(rt; whole);
     assert!(rt; is_counted(&tally));
-    Ok(())
 }

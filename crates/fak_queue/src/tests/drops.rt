@@ -2,25 +2,21 @@
 
 use crate::{Queue, Tally};
 use std::sync::Arc;
-use std::test::Fail;
 
 #[test]
-fn values_are_dropped_once(rt: HostRuntime) -> Result<(), Fail> {
-    let shared = Arc::new(rt.alloc(), 7u8)?;
-    let Ok((queue, mut seats)) = Queue::<Arc<u8>>::open(rt.alloc(), 4, 2, 100) else {
-        return Err(Fail::from("open"));
+fn values_are_dropped_once(rt: HostRuntime) {
+    let shared = Arc::new(rt.alloc(), 7u8).expect(&rt, "memory");
+    let (queue, mut seats) = Queue::<Arc<u8>>::open(rt.alloc(), 4, 2, 100).expect(&rt, "open");
+    let b = seats.pop().expect(&rt, "two seats");
+    let mut a = seats.pop().expect(&rt, "two seats");
+    let Ok(0) = queue.insert(&rt, &mut a, Arc::try_clone(&shared).expect(&rt, "memory")) else {
+        panic!(rt; "insert")
     };
-    let (Some(b), Some(mut a)) = (seats.pop(), seats.pop()) else {
-        return Err(Fail::from("two seats"));
+    let Ok(1) = queue.insert(&rt, &mut a, Arc::try_clone(&shared).expect(&rt, "memory")) else {
+        panic!(rt; "insert again")
     };
-    let Ok(0) = queue.insert(&rt, &mut a, Arc::try_clone(&shared)?) else {
-        return Err(Fail::from("insert"));
-    };
-    let Ok(1) = queue.insert(&rt, &mut a, Arc::try_clone(&shared)?) else {
-        return Err(Fail::from("insert again"));
-    };
-    let Ok(2) = queue.claim_insert(&mut a, Arc::try_clone(&shared)?) else {
-        return Err(Fail::from("claim"));
+    let Ok(2) = queue.claim_insert(&mut a, Arc::try_clone(&shared).expect(&rt, "memory")) else {
+        panic!(rt; "claim")
     };
     assert_eq!(rt; Arc::strong_count(&shared), 4);
     drop(a);
@@ -28,36 +24,26 @@ fn values_are_dropped_once(rt: HostRuntime) -> Result<(), Fail> {
     drop(queue);
     assert_eq!(rt; Arc::strong_count(&shared), 1);
     drop(b);
-    Ok(())
 }
 
 #[test]
-fn what_a_rest_hands_out_is_moved(rt: HostRuntime) -> Result<(), Fail> {
-    let shared = Arc::new(rt.alloc(), 7u8)?;
-    let Ok((queue, mut seats)) = Queue::<Arc<u8>>::open(rt.alloc(), 4, 1, 100) else {
-        return Err(Fail::from("open"));
+fn what_a_rest_hands_out_is_moved(rt: HostRuntime) {
+    let shared = Arc::new(rt.alloc(), 7u8).expect(&rt, "memory");
+    let (queue, mut seats) = Queue::<Arc<u8>>::open(rt.alloc(), 4, 1, 100).expect(&rt, "open");
+    let mut a = seats.pop().expect(&rt, "one seat");
+    let Ok(0) = queue.insert(&rt, &mut a, Arc::try_clone(&shared).expect(&rt, "memory")) else {
+        panic!(rt; "insert")
     };
-    let Some(mut a) = seats.pop() else {
-        return Err(Fail::from("one seat"));
-    };
-    let Ok(0) = queue.insert(&rt, &mut a, Arc::try_clone(&shared)?) else {
-        return Err(Fail::from("insert"));
-    };
-    let Ok(1) = queue.insert(&rt, &mut a, Arc::try_clone(&shared)?) else {
-        return Err(Fail::from("insert again"));
+    let Ok(1) = queue.insert(&rt, &mut a, Arc::try_clone(&shared).expect(&rt, "memory")) else {
+        panic!(rt; "insert again")
     };
     let tally = Tally::of(a);
-    if !tally.is_whole() {
-        return Err(Fail::from("whole"));
-    }
+    assert!(rt; tally.is_whole());
     let mut rest = queue.close(tally);
-    let Some(first) = rest.next() else {
-        return Err(Fail::from("first"));
-    };
+    let first = rest.next().expect(&rt, "first");
     assert_eq!(rt; Arc::strong_count(&shared), 3);
     drop(rest);
     assert_eq!(rt; Arc::strong_count(&shared), 2);
     drop(first);
     assert_eq!(rt; Arc::strong_count(&shared), 1);
-    Ok(())
 }

@@ -7,7 +7,6 @@ ghost use Rattle.fak_queue.specs.Queues.{state_of};
 use super::threads::close_whole;
 use crate::{Queue, Seat, Tally};
 use std::sync::{Condvar, Mutex, Wait};
-use std::test::Fail;
 use std::thread::{Threads, join};
 
 // Whose turn it is.
@@ -249,14 +248,12 @@ fn run_all<R: Threads + Wait + Sync>(
 }
 
 #[test]
-fn four_threads_that_take_turns(rt: HostRuntime) -> Result<(), Fail> {
-    let Ok((queue, mut seats)) = Queue::<u64>::open(rt.alloc(), 3, 4, 100) else {
-        return Err(Fail::from("open"));
-    };
-    let (Some(d), Some(c), Some(b), Some(a)) = (seats.pop(), seats.pop(), seats.pop(), seats.pop())
-    else {
-        return Err(Fail::from("four seats"));
-    };
+fn four_threads_that_take_turns(rt: HostRuntime) {
+    let (queue, mut seats) = Queue::<u64>::open(rt.alloc(), 3, 4, 100).expect(&rt, "open");
+    let d = seats.pop().expect(&rt, "four seats");
+    let c = seats.pop().expect(&rt, "four seats");
+    let b = seats.pop().expect(&rt, "four seats");
+    let a = seats.pop().expect(&rt, "four seats");
     let turns = Turns {
         now: Mutex::new(0),
         changed: Condvar::new(),
@@ -265,15 +262,12 @@ fn four_threads_that_take_turns(rt: HostRuntime) -> Result<(), Fail> {
     let deleting = (Rested { seat: c }, Rested { seat: d });
     let ((a, b), (c, d)) = run_all(&rt, &turns, &queue, inserting, deleting);
     let (Some(a), Some(b), Some(c), Some(d)) = (a, b, c, d) else {
-        return Err(Fail::from("a thread that gave up"));
+        panic!(rt; "a thread that gave up")
     };
     let tally = queue.join(queue.join(Tally::of(a.seat), b.seat), c.seat);
     let tally = queue.join(tally, d.seat);
-    let Some(mut rest) = close_whole(queue, tally) else {
-        return Err(Fail::from("whole"));
-    };
+    let mut rest = close_whole(queue, tally).expect(&rt, "whole");
     assert_eq!(rt; rest.next(), Some(12));
     assert_eq!(rt; rest.next(), Some(13));
     assert_eq!(rt; rest.next(), None);
-    Ok(())
 }

@@ -1,6 +1,7 @@
 //! Numbers and loads to insert, and what is asked of those that come out.
 
 use std::alloc::Global;
+use std::process::Abort;
 use std::test::Fail;
 
 // A value that is moved and never copied: its parts are three times its number.
@@ -11,12 +12,14 @@ pub struct Load {
 }
 
 // The numbers from `first` on, fifty of them, the last first.
-pub fn fifty(alloc: Global, first: u64) -> Result<Vec<u64>, Fail> {
+pub fn fifty<R: Abort>(rt: &R, alloc: Global, first: u64) -> Vec<u64> {
     let mut items = Vec::new(alloc);
     for i in 0..50u64 {
-        items.push(first.wrapping_add(49 - i))?;
+        items
+            .push(first.wrapping_add(49 - i))
+            .expect(rt, "memory for an item");
     }
-    Ok(items)
+    items
 }
 
 // Loads with these numbers.
@@ -56,16 +59,16 @@ pub fn rise(items: &[u64], first: u64) -> bool {
 }
 
 // Whether the list has the fifty numbers from each of these on, and nothing else.
-pub fn are_all(mut list: Vec<u64>, firsts: &[u64]) -> Result<bool, Fail> {
-    list.sort()?;
+pub fn are_all<R: Abort>(rt: &R, mut list: Vec<u64>, firsts: &[u64]) -> bool {
+    list.sort().expect(rt, "memory to sort");
     let mut place = 0usize;
     for &first in firsts {
         for i in 0..50u64 {
             if list.get(place).copied() != Some(first.wrapping_add(i)) {
-                return Ok(false);
+                return false;
             }
             place = place.wrapping_add(1);
         }
     }
-    Ok(place == list.len())
+    place == list.len()
 }

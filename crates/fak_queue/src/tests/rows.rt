@@ -1,41 +1,33 @@
 //! Worked rows, on one thread.
 
 use crate::{DeleteFault, InsertFault, OpenFault, Queue, SeatState};
-use std::test::Fail;
 
 #[test]
-fn a_cell_that_is_full_and_one_that_is_not(rt: HostRuntime) -> Result<(), Fail> {
-    let Ok((queue, mut seats)) = Queue::<u64>::open(rt.alloc(), 1, 2, 10) else {
-        return Err(Fail::from("open"));
-    };
-    let (Some(mut b), Some(mut a)) = (seats.pop(), seats.pop()) else {
-        return Err(Fail::from("two seats"));
-    };
+fn a_cell_that_is_full_and_one_that_is_not(rt: HostRuntime) {
+    let (queue, mut seats) = Queue::<u64>::open(rt.alloc(), 1, 2, 10).expect(&rt, "open");
+    let mut b = seats.pop().expect(&rt, "two seats");
+    let mut a = seats.pop().expect(&rt, "two seats");
     let Ok(0) = queue.claim_insert(&mut a, 7) else {
-        return Err(Fail::from("claim"));
+        panic!(rt; "claim")
     };
     let Err(DeleteFault::Empty(0)) = queue.claim_delete(&mut b) else {
-        return Err(Fail::from("empty"));
+        panic!(rt; "empty")
     };
     let Some(0) = queue.try_fill(&mut a) else {
-        return Err(Fail::from("fill"));
+        panic!(rt; "fill")
     };
     let Err(InsertFault::Full { upper: 1, item: 8 }) = queue.claim_insert(&mut a, 8) else {
-        return Err(Fail::from("full"));
+        panic!(rt; "full")
     };
     assert_eq!(rt; a.state(), SeatState::Idle);
     assert_eq!(rt; a.left(), 9);
-    Ok(())
 }
 
 #[test]
-fn a_seat_that_drew_its_stint(rt: HostRuntime) -> Result<(), Fail> {
-    let Ok((queue, mut seats)) = Queue::<u64>::open(rt.alloc(), 4, 2, 2) else {
-        return Err(Fail::from("open"));
-    };
-    let (Some(mut b), Some(mut a)) = (seats.pop(), seats.pop()) else {
-        return Err(Fail::from("two seats"));
-    };
+fn a_seat_that_drew_its_stint(rt: HostRuntime) {
+    let (queue, mut seats) = Queue::<u64>::open(rt.alloc(), 4, 2, 2).expect(&rt, "open");
+    let mut b = seats.pop().expect(&rt, "two seats");
+    let mut a = seats.pop().expect(&rt, "two seats");
     assert!(rt; matches!(queue.insert(&rt, &mut a, 5), Ok(0)));
     assert!(rt; matches!(queue.insert(&rt, &mut a, 6), Ok(1)));
     assert!(rt;
@@ -48,17 +40,13 @@ fn a_seat_that_drew_its_stint(rt: HostRuntime) -> Result<(), Fail> {
     assert_eq!(rt; a.left(), 0);
     assert_eq!(rt; a.state(), SeatState::Idle);
     assert!(rt; matches!(queue.delete(&rt, &mut b), Ok((0, 5))));
-    Ok(())
 }
 
 #[test]
-fn a_seat_with_one_ticket(rt: HostRuntime) -> Result<(), Fail> {
-    let Ok((queue, mut seats)) = Queue::<u64>::open(rt.alloc(), 1, 2, 1) else {
-        return Err(Fail::from("open"));
-    };
-    let (Some(mut b), Some(mut a)) = (seats.pop(), seats.pop()) else {
-        return Err(Fail::from("two seats"));
-    };
+fn a_seat_with_one_ticket(rt: HostRuntime) {
+    let (queue, mut seats) = Queue::<u64>::open(rt.alloc(), 1, 2, 1).expect(&rt, "open");
+    let mut b = seats.pop().expect(&rt, "two seats");
+    let mut a = seats.pop().expect(&rt, "two seats");
     assert!(rt; matches!(queue.insert(&rt, &mut a, 7), Ok(0)));
     assert_eq!(rt; a.left(), 0);
     assert!(rt;
@@ -69,17 +57,13 @@ fn a_seat_with_one_ticket(rt: HostRuntime) -> Result<(), Fail> {
     );
     assert!(rt; matches!(queue.delete(&rt, &mut b), Ok((0, 7))));
     assert!(rt; matches!(queue.delete(&rt, &mut b), Err(DeleteFault::Worn)));
-    Ok(())
 }
 
 #[test]
-fn a_queue_that_was_shut(rt: HostRuntime) -> Result<(), Fail> {
-    let Ok((queue, mut seats)) = Queue::<u64>::open(rt.alloc(), 2, 2, 10) else {
-        return Err(Fail::from("open"));
-    };
-    let (Some(mut b), Some(mut a)) = (seats.pop(), seats.pop()) else {
-        return Err(Fail::from("two seats"));
-    };
+fn a_queue_that_was_shut(rt: HostRuntime) {
+    let (queue, mut seats) = Queue::<u64>::open(rt.alloc(), 2, 2, 10).expect(&rt, "open");
+    let mut b = seats.pop().expect(&rt, "two seats");
+    let mut a = seats.pop().expect(&rt, "two seats");
     assert!(rt; matches!(queue.insert(&rt, &mut a, 5), Ok(0)));
     assert!(rt; queue.shut(&mut b));
     assert!(rt; !queue.shut(&mut b));
@@ -91,14 +75,11 @@ fn a_queue_that_was_shut(rt: HostRuntime) -> Result<(), Fail> {
     );
     assert!(rt; matches!(queue.delete(&rt, &mut b), Ok((0, 5))));
     assert!(rt; matches!(queue.delete(&rt, &mut b), Err(DeleteFault::Empty(0))));
-    Ok(())
 }
 
 #[test]
-fn the_ranges_of_an_opening(rt: HostRuntime) -> Result<(), Fail> {
-    let Ok((_, seats)) = Queue::<u64>::open(rt.alloc(), 4096, 64, 1 << 40) else {
-        return Err(Fail::from("open"));
-    };
+fn the_ranges_of_an_opening(rt: HostRuntime) {
+    let (_, seats) = Queue::<u64>::open(rt.alloc(), 4096, 64, 1 << 40).expect(&rt, "open");
     assert_eq!(rt; seats.len(), 64);
     let alloc = rt.alloc();
     assert!(rt;
@@ -121,5 +102,4 @@ fn the_ranges_of_an_opening(rt: HostRuntime) -> Result<(), Fail> {
             Err(OpenFault::BadStint)
         )
     );
-    Ok(())
 }

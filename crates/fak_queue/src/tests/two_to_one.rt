@@ -95,11 +95,11 @@ fn through_one_queue<T: Drop + Send, R: Threads + Wait + Sync>(
 #[test]
 fn two_inserters_and_a_deleter(rt: HostRuntime) -> Result<(), Fail> {
     let alloc = rt.alloc();
-    let items = (fifty(alloc, 1001)?, fifty(alloc, 2001)?);
+    let items = (fifty(&rt, alloc, 1001), fifty(&rt, alloc, 2001));
     let got = through_one_queue(&rt, alloc, items)?;
     assert!(rt; rise(got.as_slice(), 1001));
     assert!(rt; rise(got.as_slice(), 2001));
-    assert!(rt; are_all(got, [1001, 2001].as_slice())?);
+    assert!(rt; are_all(&rt, got, [1001, 2001].as_slice()));
     Ok(())
 }
 
@@ -107,12 +107,12 @@ fn two_inserters_and_a_deleter(rt: HostRuntime) -> Result<(), Fail> {
 fn two_inserters_of_loads_and_a_deleter(rt: HostRuntime) -> Result<(), Fail> {
     let alloc = rt.alloc();
     let items = (
-        loads_of(alloc, fifty(alloc, 1001)?)?,
-        loads_of(alloc, fifty(alloc, 2001)?)?,
+        loads_of(alloc, fifty(&rt, alloc, 1001))?,
+        loads_of(alloc, fifty(&rt, alloc, 2001))?,
     );
     let got = ids_of(alloc, through_one_queue(&rt, alloc, items)?)?;
     assert!(rt; rise(got.as_slice(), 1001));
     assert!(rt; rise(got.as_slice(), 2001));
-    assert!(rt; are_all(got, [1001, 2001].as_slice())?);
+    assert!(rt; are_all(&rt, got, [1001, 2001].as_slice()));
     Ok(())
 }

@@ -7,7 +7,6 @@ ghost use Rattle.fak_queue.specs.Queues.{IsIdleSeat, drawn_by};
 use crate::{DeleteFault, InsertFault, Queue, Rest, Seat, Tally};
 use fak_model::laws::queue::a_queue_at_rest_counts_its_items;
 use std::sync::Wait;
-use std::test::Fail;
 
 // Inserts the numbers below `count`, and waits where the queue is full.
 fn insert_below<R: Wait>(
@@ -51,13 +50,10 @@ fn close_counted(queue: Queue<u64>, tally: Tally<u64>) -> Option<Rest<u64>>
 }
 
 #[test]
-fn worn_seats_do_not_wait(rt: HostRuntime) -> Result<(), Fail> {
-    let Ok((queue, mut seats)) = Queue::<u64>::open(rt.alloc(), 1, 2, 1) else {
-        return Err(Fail::from("open"));
-    };
-    let (Some(mut b), Some(mut a)) = (seats.pop(), seats.pop()) else {
-        return Err(Fail::from("two seats"));
-    };
+fn worn_seats_do_not_wait(rt: HostRuntime) {
+    let (queue, mut seats) = Queue::<u64>::open(rt.alloc(), 1, 2, 1).expect(&rt, "open");
+    let mut b = seats.pop().expect(&rt, "two seats");
+    let mut a = seats.pop().expect(&rt, "two seats");
     assert!(rt; matches!(queue.wait_insert(&rt, &mut a, 7), Ok(0)));
     assert!(rt;
         matches!(
@@ -68,17 +64,12 @@ fn worn_seats_do_not_wait(rt: HostRuntime) -> Result<(), Fail> {
     assert!(rt; matches!(queue.wait_delete(&rt, &mut b), Ok((0, 7))));
     assert!(rt; matches!(queue.wait_delete(&rt, &mut b), Err(DeleteFault::Worn)));
     assert!(rt; matches!(queue.delete(&rt, &mut b), Err(DeleteFault::Worn)));
-    Ok(())
 }
 
 #[test]
-fn a_shut_queue_does_not_keep_a_seat_waiting(rt: HostRuntime) -> Result<(), Fail> {
-    let Ok((queue, mut seats)) = Queue::<u64>::open(rt.alloc(), 1, 1, 9) else {
-        return Err(Fail::from("open"));
-    };
-    let Some(mut a) = seats.pop() else {
-        return Err(Fail::from("one seat"));
-    };
+fn a_shut_queue_does_not_keep_a_seat_waiting(rt: HostRuntime) {
+    let (queue, mut seats) = Queue::<u64>::open(rt.alloc(), 1, 1, 9).expect(&rt, "open");
+    let mut a = seats.pop().expect(&rt, "one seat");
     assert!(rt; matches!(queue.wait_insert(&rt, &mut a, 7), Ok(0)));
     assert!(rt; queue.shut(&mut a));
     assert!(rt;
@@ -88,29 +79,21 @@ fn a_shut_queue_does_not_keep_a_seat_waiting(rt: HostRuntime) -> Result<(), Fail
         )
     );
     assert!(rt; matches!(queue.wait_delete(&rt, &mut a), Ok((0, 7))));
-    Ok(())
 }
 
 #[test]
-fn items_that_were_inserted_and_left(rt: HostRuntime) -> Result<(), Fail> {
-    let Ok((queue, mut seats)) = Queue::<u64>::open(rt.alloc(), 3, 1, 9) else {
-        return Err(Fail::from("open"));
-    };
-    let Some(mut a) = seats.pop() else {
-        return Err(Fail::from("one seat"));
-    };
+fn items_that_were_inserted_and_left(rt: HostRuntime) {
+    let (queue, mut seats) = Queue::<u64>::open(rt.alloc(), 3, 1, 9).expect(&rt, "open");
+    let mut a = seats.pop().expect(&rt, "one seat");
     let Ok(()) = insert_below(&rt, &queue, &mut a, 3) else {
-        return Err(Fail::from("insert"));
+        panic!(rt; "insert")
     };
     assert_eq!(rt; a.left(), 6);
     assert!(rt; matches!(queue.wait_delete(&rt, &mut a), Ok((0, 0))));
     let tally = Tally::of(a);
     assert!(rt; counts_its_items(&tally));
-    let Some(mut rest) = close_counted(queue, tally) else {
-        return Err(Fail::from("whole"));
-    };
+    let mut rest = close_counted(queue, tally).expect(&rt, "whole");
     assert_eq!(rt; rest.next(), Some(1));
     assert_eq!(rt; rest.next(), Some(2));
     assert_eq!(rt; rest.next(), None);
-    Ok(())
 }

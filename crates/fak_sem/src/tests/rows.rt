@@ -7,47 +7,36 @@ ghost use Rattle.fak_sem.specs.Semaphores.{IsIdleSemSeat, passed_by};
 use crate::{OpenFault, SemSeat, SemTally, SemWorn, Semaphore, Worn};
 use fak_model::laws::queue::a_queue_at_rest_counts_its_items;
 use std::sync::Wait;
-use std::test::Fail;
 
 #[test]
-fn a_down_that_passes_and_one_that_is_woken(rt: HostRuntime) -> Result<(), Fail> {
-    let Ok((semaphore, mut seats)) = Semaphore::<u64>::open(rt.alloc(), 1, 4, 2, 10) else {
-        return Err(Fail::from("open"));
-    };
-    let (Some(mut b), Some(mut a)) = (seats.pop(), seats.pop()) else {
-        return Err(Fail::from("two seats"));
-    };
+fn a_down_that_passes_and_one_that_is_woken(rt: HostRuntime) {
+    let (semaphore, mut seats) = Semaphore::<u64>::open(rt.alloc(), 1, 4, 2, 10).expect(
+        &rt, "open",
+    );
+    let mut b = seats.pop().expect(&rt, "two seats");
+    let mut a = seats.pop().expect(&rt, "two seats");
     assert!(rt; matches!(semaphore.down(&rt, &mut a, 100), Ok(Some(100))));
     assert!(rt; matches!(semaphore.down(&rt, &mut b, 101), Ok(None)));
     assert!(rt; matches!(semaphore.up(&rt, &mut a), Ok(Some(101))));
     let first = SemTally::of(a);
     assert!(rt; !first.is_whole());
     let tally = semaphore.join(first, b);
-    if !tally.is_whole() {
-        return Err(Fail::from("whole"));
-    }
+    assert!(rt; tally.is_whole());
     assert_eq!(rt; semaphore.close(tally).next(), None);
-    Ok(())
 }
 
 #[test]
-fn seats_with_one_call(rt: HostRuntime) -> Result<(), Fail> {
-    let Ok((semaphore, mut seats)) = Semaphore::<u64>::open(rt.alloc(), 0, 1, 2, 1) else {
-        return Err(Fail::from("open"));
-    };
-    let (Some(mut b), Some(mut a)) = (seats.pop(), seats.pop()) else {
-        return Err(Fail::from("two seats"));
-    };
+fn seats_with_one_call(rt: HostRuntime) {
+    let (semaphore, mut seats) = Semaphore::<u64>::open(rt.alloc(), 0, 1, 2, 1).expect(&rt, "open");
+    let mut b = seats.pop().expect(&rt, "two seats");
+    let mut a = seats.pop().expect(&rt, "two seats");
     assert!(rt; matches!(semaphore.down(&rt, &mut a, 5), Ok(None)));
     assert!(rt; matches!(semaphore.up(&rt, &mut a), Err(Worn)));
     assert!(rt; matches!(semaphore.up(&rt, &mut b), Ok(Some(5))));
     assert!(rt; matches!(semaphore.down(&rt, &mut b, 6), Err(SemWorn(6))));
     let tally = semaphore.join(SemTally::of(a), b);
-    if !tally.is_whole() {
-        return Err(Fail::from("whole"));
-    }
+    assert!(rt; tally.is_whole());
     assert_eq!(rt; semaphore.close(tally).next(), None);
-    Ok(())
 }
 
 // A value that is moved and never copied.
@@ -57,13 +46,11 @@ struct Load {
 }
 
 #[test]
-fn items_that_nobody_woke(rt: HostRuntime) -> Result<(), Fail> {
-    let Ok((semaphore, mut seats)) = Semaphore::<Load>::open(rt.alloc(), 0, 4, 1, 10) else {
-        return Err(Fail::from("open"));
-    };
-    let Some(mut a) = seats.pop() else {
-        return Err(Fail::from("one seat"));
-    };
+fn items_that_nobody_woke(rt: HostRuntime) {
+    let (semaphore, mut seats) = Semaphore::<Load>::open(rt.alloc(), 0, 4, 1, 10).expect(
+        &rt, "open",
+    );
+    let mut a = seats.pop().expect(&rt, "one seat");
     assert!(rt; matches!(semaphore.up(&rt, &mut a), Ok(None)));
     assert!(rt;
         matches!(
@@ -76,22 +63,17 @@ fn items_that_nobody_woke(rt: HostRuntime) -> Result<(), Fail> {
     assert!(rt; matches!(semaphore.down(&rt, &mut a, Load { id: 4 }), Ok(None)));
     assert!(rt; matches!(semaphore.up(&rt, &mut a), Ok(Some(Load { id: 2 }))));
     let tally = SemTally::of(a);
-    if !tally.is_whole() {
-        return Err(Fail::from("whole"));
-    }
+    assert!(rt; tally.is_whole());
     let mut rest = semaphore.close(tally);
     assert_eq!(rt; rest.next(), Some(Load { id: 3 }));
     assert_eq!(rt; rest.next(), Some(Load { id: 4 }));
     assert_eq!(rt; rest.next(), None);
-    Ok(())
 }
 
 #[test]
-fn the_ranges_of_an_opening(rt: HostRuntime) -> Result<(), Fail> {
+fn the_ranges_of_an_opening(rt: HostRuntime) {
     let alloc = rt.alloc();
-    let Ok((_, seats)) = Semaphore::<u64>::open(alloc, 1 << 32, 4096, 64, 1 << 40) else {
-        return Err(Fail::from("open"));
-    };
+    let (_, seats) = Semaphore::<u64>::open(alloc, 1 << 32, 4096, 64, 1 << 40).expect(&rt, "open");
     assert_eq!(rt; seats.len(), 64);
     assert!(rt;
         matches!(
@@ -135,7 +117,6 @@ fn the_ranges_of_an_opening(rt: HostRuntime) -> Result<(), Fail> {
             Err(OpenFault::BadStint)
         )
     );
-    Ok(())
 }
 
 // Downs with the numbers below `count`; how many of them passed. A worn seat ends it.
@@ -169,32 +150,23 @@ fn counts_the_parked(tally: &SemTally<u64>) -> bool
 }
 
 #[test]
-fn downs_that_passed_are_counted(rt: HostRuntime) -> Result<(), Fail> {
-    let Ok((semaphore, mut seats)) = Semaphore::<u64>::open(rt.alloc(), 2, 4, 1, 4) else {
-        return Err(Fail::from("open"));
-    };
-    let Some(mut a) = seats.pop() else {
-        return Err(Fail::from("one seat"));
-    };
+fn downs_that_passed_are_counted(rt: HostRuntime) {
+    let (semaphore, mut seats) = Semaphore::<u64>::open(rt.alloc(), 2, 4, 1, 4).expect(&rt, "open");
+    let mut a = seats.pop().expect(&rt, "one seat");
     assert_eq!(rt; down_below(&rt, &semaphore, &mut a, 3), 2);
     assert!(rt; matches!(semaphore.up(&rt, &mut a), Ok(Some(2))));
     assert!(rt; counts_the_parked(&SemTally::of(a)));
-    Ok(())
 }
 
 #[test]
-fn worn_seats_do_not_wait(rt: HostRuntime) -> Result<(), Fail> {
-    let Ok((semaphore, mut seats)) = Semaphore::<u64>::open(rt.alloc(), 0, 1, 2, 1) else {
-        return Err(Fail::from("open"));
-    };
-    let (Some(mut b), Some(mut a)) = (seats.pop(), seats.pop()) else {
-        return Err(Fail::from("two seats"));
-    };
+fn worn_seats_do_not_wait(rt: HostRuntime) {
+    let (semaphore, mut seats) = Semaphore::<u64>::open(rt.alloc(), 0, 1, 2, 1).expect(&rt, "open");
+    let mut b = seats.pop().expect(&rt, "two seats");
+    let mut a = seats.pop().expect(&rt, "two seats");
     // the wait queue is full, and then empty
     assert!(rt; matches!(semaphore.down(&rt, &mut a, 5), Ok(None)));
     assert!(rt; matches!(semaphore.down(&rt, &mut a, 6), Err(SemWorn(6))));
     assert!(rt; matches!(semaphore.up(&rt, &mut b), Ok(Some(5))));
     assert!(rt; matches!(semaphore.up(&rt, &mut b), Err(Worn)));
     assert!(rt; matches!(semaphore.up(&rt, &mut a), Err(Worn)));
-    Ok(())
 }

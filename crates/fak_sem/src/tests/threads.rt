@@ -143,12 +143,11 @@ fn leaves_nothing(semaphore: Semaphore<u64>, tally: SemTally<u64>) -> bool
 
 #[test]
 fn two_threads(rt: HostRuntime) -> Result<(), Fail> {
-    let Ok((semaphore, mut seats)) = Semaphore::<u64>::open(rt.alloc(), 0, 64, 2, 100) else {
-        return Err(Fail::from("open"));
-    };
-    let (Some(b), Some(a)) = (seats.pop(), seats.pop()) else {
-        return Err(Fail::from("two seats"));
-    };
+    let (semaphore, mut seats) = Semaphore::<u64>::open(rt.alloc(), 0, 64, 2, 100).expect(
+        &rt, "open",
+    );
+    let b = seats.pop().expect(&rt, "two seats");
+    let a = seats.pop().expect(&rt, "two seats");
     let (a, b, all) = pair(&rt, rt.alloc(), &semaphore, a, b, 0);
     assert!(rt; are_all(all, 0, 1)?);
     let tally = semaphore.join(SemTally::of(a), b);
@@ -158,12 +157,11 @@ fn two_threads(rt: HostRuntime) -> Result<(), Fail> {
 
 #[test]
 fn a_storm_of_one_pair(rt: HostRuntime) -> Result<(), Fail> {
-    let Ok((semaphore, mut seats)) = Semaphore::<u64>::open(rt.alloc(), 0, 4096, 2, 100) else {
-        return Err(Fail::from("open"));
-    };
-    let (Some(b), Some(a)) = (seats.pop(), seats.pop()) else {
-        return Err(Fail::from("two seats"));
-    };
+    let (semaphore, mut seats) = Semaphore::<u64>::open(rt.alloc(), 0, 4096, 2, 100).expect(
+        &rt, "open",
+    );
+    let b = seats.pop().expect(&rt, "two seats");
+    let a = seats.pop().expect(&rt, "two seats");
     let (a, b, all) = pair(&rt, rt.alloc(), &semaphore, a, b, 1000);
     assert!(rt; are_all(all, 1000, 1)?);
     let tally = semaphore.join(SemTally::of(a), b);
@@ -173,13 +171,13 @@ fn a_storm_of_one_pair(rt: HostRuntime) -> Result<(), Fail> {
 
 #[test]
 fn a_storm_of_two_pairs(rt: HostRuntime) -> Result<(), Fail> {
-    let Ok((semaphore, mut seats)) = Semaphore::<u64>::open(rt.alloc(), 0, 4096, 4, 100) else {
-        return Err(Fail::from("open"));
-    };
-    let (Some(d), Some(c), Some(b), Some(a)) = (seats.pop(), seats.pop(), seats.pop(), seats.pop())
-    else {
-        return Err(Fail::from("four seats"));
-    };
+    let (semaphore, mut seats) = Semaphore::<u64>::open(rt.alloc(), 0, 4096, 4, 100).expect(
+        &rt, "open",
+    );
+    let d = seats.pop().expect(&rt, "four seats");
+    let c = seats.pop().expect(&rt, "four seats");
+    let b = seats.pop().expect(&rt, "four seats");
+    let a = seats.pop().expect(&rt, "four seats");
     let (a, b, c, d, all) = two_pairs(&rt, rt.alloc(), &semaphore, (a, b, c, d), 1000);
     assert!(rt; are_all(all, 1000, 2)?);
     let tally = semaphore.join(semaphore.join(semaphore.join(SemTally::of(a), b), c), d);
@@ -243,17 +241,17 @@ fn four_pairs<R: Threads + Wait + Sync>(
 
 #[test]
 fn a_storm_of_four_pairs(rt: HostRuntime) -> Result<(), Fail> {
-    let Ok((semaphore, mut seats)) = Semaphore::<u64>::open(rt.alloc(), 0, 4096, 8, 100) else {
-        return Err(Fail::from("open"));
-    };
-    let (Some(h), Some(g), Some(f), Some(e)) = (seats.pop(), seats.pop(), seats.pop(), seats.pop())
-    else {
-        return Err(Fail::from("four seats"));
-    };
-    let (Some(d), Some(c), Some(b), Some(a)) = (seats.pop(), seats.pop(), seats.pop(), seats.pop())
-    else {
-        return Err(Fail::from("eight seats"));
-    };
+    let (semaphore, mut seats) = Semaphore::<u64>::open(rt.alloc(), 0, 4096, 8, 100).expect(
+        &rt, "open",
+    );
+    let h = seats.pop().expect(&rt, "four seats");
+    let g = seats.pop().expect(&rt, "four seats");
+    let f = seats.pop().expect(&rt, "four seats");
+    let e = seats.pop().expect(&rt, "four seats");
+    let d = seats.pop().expect(&rt, "eight seats");
+    let c = seats.pop().expect(&rt, "eight seats");
+    let b = seats.pop().expect(&rt, "eight seats");
+    let a = seats.pop().expect(&rt, "eight seats");
     let (tally, all) = four_pairs(&rt, rt.alloc(), &semaphore, (a, b, c, d), (e, f, g, h));
     assert!(rt; are_all(all, 1000, 4)?);
     assert!(rt; leaves_nothing(semaphore, tally));
