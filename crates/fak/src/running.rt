@@ -1,7 +1,7 @@
 //! The command `run`: a script of processes, and the report of its run.
 
 ghost use Rattle.std.specs.Prelude.{◌≡◌, ◌⊎◌, IfErr, IfOk};
-ghost use Rattle.fak_kernel.specs.ReportText.{ListSchedulerPrints, RunPrints};
+ghost use Rattle.fak_process.specs.ReportText.{ListSchedulerPrints, RunPrints};
 ghost use Rattle.fak.specs.Answers.{AreSeveral, GivesAnswer, IsFaultOfRun, IsReply};
 ghost use Rattle.fak.specs.declared.command.Command.TheVariants.{Run};
 ghost use Rattle.fak.specs.declared.fault.MainFault.TheVariants.{Memory};

@@ -9,7 +9,7 @@ use Rattle.fak_text.proofs.Common.{ScriptOf, Process, FitsScript}
 use Rattle.fak_kernel.proofs.Common.{Ended, Halted, next_step, Ledger, Balanced, nothing, joined, ObjectsOf, ProcessorOf, AreFor}
 use Rattle.fak_kernel.specs.Events.{takes, puts, halts, ends, closed, empty}
 use Rattle.fak_kernel.specs.Moving.{IsIdle, IsQuiet, GrowsIn, GrowsShut, GrowsAtLast, GrowsOut, GrowsEmpty, BeginsNone, Gains, Moves, row_as}
-use Rattle.fak_kernel.proofs.Joining.{balanced-joined}
+use Rattle.fak_process.proofs.Joining.{balanced-joined}
 use Rattle.fak_kernel.proofs.Events.{none_waits, quiet, in_other_hands, balanced-beside, keeps_takes, keeps_puts, keeps_halts, keeps_ends}
 use Rattle.fak_kernel.proofs.Moving.{quiet_empty, gains_none, gains_then, gains_ready, gains_free}
 use Rattle.fak_kernel.proofs.Gaining.{gains_as}

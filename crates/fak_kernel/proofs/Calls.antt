@@ -17,11 +17,11 @@ use Rattle.fak_count.specs.Credits as credits
 use Rattle.fak_queue.proofs.Common.{made_by, Makes, Inserts, Deletes, RefusesFull, RefusesEmpty, RefusesClosed, ShutsAs, RefusedInsertion, NotIn, WithdrawnIn, ClosedIn, WithdrawnLate, RefusedDeletion, NotOut, WithdrawnOut, kinds_not_in, kinds_not_out, kinds_in, kinds_out}
 use Rattle.fak_sem.specs.Semaphores.{SemInfo, SemSeatInfo, credit_part, queue_part, Downs, Ups}
 use Rattle.fak_text.proofs.Common.{ScriptOf, Process}
-use Rattle.fak_kernel.specs.Ledger.{Ledger, Balanced, joined}
+use Rattle.fak_process.specs.Ledger.{Ledger, Balanced, joined}
 use Rattle.fak_kernel.specs.Events.{full, empty, closed}
 use Rattle.fak_kernel.specs.Holding.{Owns, queue_kind, Bundle, Leaves}
 use Rattle.fak_kernel.specs.Turning.{Turning, Grows, Adds}
-use Rattle.fak_kernel.proofs.Joining.{balanced-joined}
+use Rattle.fak_process.proofs.Joining.{balanced-joined}
 use Rattle.fak_kernel.proofs.Tallies.{owns_more}
 
 -- ---- a seat

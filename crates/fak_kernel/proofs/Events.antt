@@ -8,10 +8,10 @@ use Rattle.fak_model.proofs.Deciding.{cond_here, cond_else}
 use Rattle.fak_queue.specs.Retries.{kinds_in, kinds_out}
 use Rattle.fak_text.proofs.Common.{ScriptOf, StepOf, down, up, spawn, shutdown, NoteOf, downed, upped, spawned, no_birth, no_slot, shut_down, Process, child_count, after_note, FitsScript}
 use Rattle.fak_kernel.proofs.Common.{child_of, next_step, RowOf, IsIdle}
-use Rattle.fak_kernel.specs.Ledger.{Ledger, Made, Balanced, IsMade, FitsRow, nothing, not_before, its_down, before_down}
+use Rattle.fak_process.specs.Ledger.{Ledger, Made, Balanced, IsMade, FitsRow, nothing, not_before, its_down, before_down}
 use Rattle.fak_kernel.specs.Events.{made_of, IsPlain, fills, takes, puts, halts, steps, passes, parks, adds, wakes, spawns, lacks_birth, lacks_slot, ends, waits_refused, shuts, closed, refused_claim}
 use Rattle.fak_kernel.proofs.Moving.{quiet_empty, idle_closed}
-use Rattle.fak_kernel.proofs.Sums.{sum_at}
+use Rattle.fak_process.proofs.Sums.{sum_at}
 
 -- no wait queue
 pub none_waits : (n : ℕ) → sum_below (λ (s : ℕ). 0) n ≡ 0

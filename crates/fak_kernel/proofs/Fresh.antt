@@ -18,7 +18,7 @@ use Rattle.fak_kernel.specs.Joined.{no_seat, no_table}
 use Rattle.fak_kernel.specs.Opened.{AreSeated, HasName, fresh_processor, fresh_sem_at}
 use Rattle.fak_kernel.proofs.Events.{quiet}
 use Rattle.fak_kernel.proofs.Tallies.{owns_fresh}
-use Rattle.fak_kernel.proofs.Holding.{lines_none}
+use Rattle.fak_process.proofs.Holding.{lines_none}
 
 -- ---- among any number of processors
 

@@ -5,8 +5,8 @@ use Rattle.std.proofs.lemmas.List.{append-nil, map-append}
 use Rattle.fak_model.specs.declared.file.FileMark.{FileMark}
 use Rattle.fak_text.specs.Journal.{NoteOf}
 use Rattle.fak_kernel.proofs.Common.{Ledger, joined, JoinedTo, FileHold, AreHolds, held_kinds, hold_line, gather_from, AreLines, Left, is_file_line, file_lines, files_of, FilesJoined}
-use Rattle.fak_kernel.proofs.Holding.{held-left, reads-left}
-use Rattle.fak_kernel.proofs.GatheredHolds.{gather_same}
+use Rattle.fak_process.proofs.Holding.{held-left, reads-left}
+use Rattle.fak_process.proofs.GatheredHolds.{gather_same}
 
 -- ---- what the whole history tells
 

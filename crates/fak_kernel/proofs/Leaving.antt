@@ -2,7 +2,7 @@
 use Rattle.std.proofs.Common.{◌≡◌, ℕ, zero, suc, [], ◌++◌, ap, sym, ◌∙◌, subst, arith, map, Bool, Option, Some, None, Result, Ok, Err, IfOk, IfErr, IfSome, append-nil}
 use Rattle.std.proofs.lemmas.List.Sums.{sum_by-append}
 use Rattle.fak_text.specs.Script.{ScriptOf}
-use Rattle.fak_kernel.specs.declared.fault.Fault.{Fault}
+use Rattle.fak_process.specs.declared.fault.Fault.{Fault}
 use Rattle.fak_kernel.proofs.Common.{turn_over, Ledger, named, joined, AreLines, ObjectsOf, ProcessorOf, AreFor, AreOf, IsReached, lists_of, no_seat}
 use Rattle.fak_kernel.specs.Faults.{IsOfLoop}
 use Rattle.fak_kernel.specs.Moving.{BeginsNone, LeavesNone, files_of}

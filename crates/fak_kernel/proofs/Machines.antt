@@ -7,7 +7,7 @@ use Rattle.fak_model.specs.declared.room.RoomMark.{RoomMark}
 use Rattle.fak_count.specs.Rooms.{held_amount}
 use Rattle.fak_sem.specs.Semaphores.{SemSeatInfo}
 use Rattle.fak_text.proofs.Common.{ScriptOf, down, Process, StandsAt, after_note, downed}
-use Rattle.fak_kernel.specs.Contexts.{WaitAtTheirs}
+use Rattle.fak_process.specs.Contexts.{WaitAtTheirs}
 use Rattle.fak_kernel.proofs.Waiting.{AllAtTheirs-same, AllAtTheirs-push, AllAtTheirs-pop}
 use Rattle.fak_kernel.specs.OnlyCounts.{IsOnlySem, IsOnlyRoom, Passes, Parks, Raises, Rouses, Claims, FindsFull, GivesBack, semaphore_count, sleepers_of}
 use Rattle.fak_kernel.specs.Processors.{ObjectsOf, ProcessorOf, AreFor, IsAlone, lists_of, GoesTo, AtPlace, IsBorn, HasNoBirth, WakesNobody, WakesFirst, SleepsLast, CountFalls}

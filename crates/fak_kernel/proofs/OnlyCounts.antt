@@ -20,9 +20,9 @@ use Rattle.fak_queue.specs.Retries.{RefusedInsertion, NotIn, WithdrawnIn, Closed
 use Rattle.fak_sem.specs.Semaphores.{SemInfo, SemId, SemSeatInfo, Downs, Ups}
 use Rattle.fak_queue.proofs.AfterRefusals.{made_by_append}
 use Rattle.fak_queue.proofs.Weighing.{count_at_last, none_in, none_out}
-use Rattle.fak_kernel.specs.Only.{IsOnly}
+use Rattle.fak_process.specs.Only.{IsOnly}
 use Rattle.fak_kernel.specs.OnlyCounts.{IsOnlySem, Passes, Parks, Raises, Rouses, IsOnlyRoom, Claims, FindsFull, GivesBack}
-use Rattle.fak_kernel.proofs.Only.{only_seen, only_still, only_lawful, only_before}
+use Rattle.fak_process.proofs.Only.{only_seen, only_still, only_lawful, only_before}
 use Rattle.fak_kernel.proofs.OnlyQueues.{items_more, items_added, first_left}
 
 -- ---- the wait queue after refusals

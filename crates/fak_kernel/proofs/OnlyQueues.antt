@@ -9,9 +9,9 @@ use Rattle.fak_model.proofs.Appending.{history_prefix}
 use Rattle.fak_model.proofs.QueueBackwards.{count_append, items_count}
 use Rattle.fak_model.proofs.QueueLaws.{contents_fit}
 use Rattle.fak_queue.specs.Queues.{Makes, made_by, RefusesFull, RefusesClosed, RefusesEmpty, ShutsAs}
-use Rattle.fak_kernel.specs.Only.{IsOnly}
+use Rattle.fak_process.specs.Only.{IsOnly}
 use Rattle.fak_kernel.specs.OnlyQueues.{is_close, has_close, IsOnlySeat, Keeps, Enters, Bounces, Leaves, FindsNone, Shuts}
-use Rattle.fak_kernel.proofs.Only.{only_seen, only_still, only_lawful}
+use Rattle.fak_process.proofs.Only.{only_seen, only_still, only_lawful}
 
 -- ---- lists
 

@@ -13,18 +13,18 @@ use Rattle.fak_sem.specs.Grants.{IsSettled}
 use Rattle.fak_sem.specs.Semaphores.{SemId, SemInfo, SemTallyInfo}
 use Rattle.fak_text.proofs.Common.{ScriptOf, NoteOf, Process}
 use Rattle.fak_kernel.proofs.Common.{Outcome, Ended, Halted, RowOf, ReportOf, IsSortedByName, rows_with, sleepers_outcome, FitsRow, notes, shuts_of, JoinedTo, ObjectsOf, AreFor, ids_of, AreSeated, row_as, files_of, AreGathered, FilesJoined, AreClosed, IsSleeper, IsWholeAt, left_at, rows_left, shut_lines}
-use Rattle.fak_kernel.specs.Whole.{Gathered, asleep, lines, lines_of, rows_of}
-use Rattle.fak_kernel.specs.Promises.{Promised, spawned_names}
+use Rattle.fak_process.specs.Whole.{Gathered, asleep, lines, lines_of, rows_of}
+use Rattle.fak_process.specs.Promises.{Promised, spawned_names}
 use Rattle.fak_kernel.specs.Joined.{TalliesOf, AreTalliesOf, HaveNames, tallies_of, ids_of_tallies, no_tally}
-use Rattle.fak_kernel.specs.Reported as reported
-use Rattle.fak_kernel.specs.RunReports.{RunReports}
-use Rattle.fak_kernel.proofs.Sums.{sum_by-map, sum_by-flat_map}
-use Rattle.fak_kernel.proofs.Permuting.{permuted}
-use Rattle.fak_kernel.proofs.SameRows.{same_row, same_row_is, same_row_self}
+use Rattle.fak_process.specs.Reported as reported
+use Rattle.fak_process.specs.RunReports.{RunReports}
+use Rattle.fak_process.proofs.Sums.{sum_by-map, sum_by-flat_map}
+use Rattle.fak_process.proofs.Permuting.{permuted}
+use Rattle.fak_process.proofs.SameRows.{same_row, same_row_is, same_row_self}
 use Rattle.fak_kernel.proofs.Naming.{is_whole}
-use Rattle.fak_kernel.proofs.Conserved.{lines_are}
+use Rattle.fak_process.proofs.Conserved.{lines_are}
 use Rattle.fak_kernel.proofs.Gathering.{AreWhole, gathered, histories_of}
-use Rattle.fak_kernel.proofs.Reports.{promised, lines_all}
+use Rattle.fak_process.proofs.Reports.{promised, lines_all}
 use Rattle.fak_kernel.proofs.ReportingFiles.{file_weight, file_lines_weigh, files_replay}
 
 -- ---- who sleeps

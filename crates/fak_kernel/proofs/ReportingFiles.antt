@@ -6,10 +6,10 @@ use Rattle.fak_model.specs.declared.file.FileMark.{FileMark}
 use Rattle.fak_files.specs.Calls.{entries_after}
 use Rattle.fak_text.specs.Journal.{NoteOf}
 use Rattle.fak_kernel.proofs.Common.{free_entry, ReportOf, FileHold, hold_line, gather_from, FilesJoined}
-use Rattle.fak_kernel.specs.Replays.{Replays}
-use Rattle.fak_kernel.specs.Merging.{AreMerged}
-use Rattle.fak_kernel.specs.Reported.{is_file_line, file_lines, lines_of, FilesReplay}
-use Rattle.fak_kernel.proofs.Scan.{holds_replay}
+use Rattle.fak_process.specs.Replays.{Replays}
+use Rattle.fak_process.specs.Merging.{AreMerged}
+use Rattle.fak_process.specs.Reported.{is_file_line, file_lines, lines_of, FilesReplay}
+use Rattle.fak_process.proofs.Scan.{holds_replay}
 
 -- what file lines weigh among all lines
 abbrev pub file_weight : (NoteOf → ℕ) → NoteOf → ℕ

@@ -5,19 +5,19 @@ use Rattle.fak_model.specs.declared.queue.Mark.{Mark}
 use Rattle.fak_model.specs.Calls.{SeatInfo}
 use Rattle.fak_queue.specs.Retries.{kinds_in, kinds_out}
 use Rattle.fak_text.proofs.Common.{ScriptOf, Process, new_process}
-use Rattle.fak_kernel.specs.ListScheduler.{Lists, begun_from, enter_ready, first_lists, numbers_from, turn_over}
+use Rattle.fak_process.specs.ListScheduler.{Lists, begun_from, enter_ready, first_lists, numbers_from, turn_over}
 use Rattle.fak_kernel.proofs.Common.{AreLines, Balanced, Named, joined, named, nothing, begun_names, Gains, GrowsAtLast, IsIdle, Moves, files_of, AreSeated, fresh_all, fresh_processor, no_seat}
 use Rattle.fak_kernel.specs.Events.{empty, fills}
 use Rattle.fak_kernel.specs.Processors.{ObjectsOf, ProcessorOf, AreFor, AreOf, GoesTo, HasNoSlot, IsAlone, IsReached, TakesSlot, lists_of}
 use Rattle.fak_kernel.specs.Begun.{Begins, Between, FindsNoSlot, FindsSlot, StartsOne, begins, empty_lists}
-use Rattle.fak_kernel.proofs.Joining.{balanced-joined}
+use Rattle.fak_process.proofs.Joining.{balanced-joined}
 use Rattle.fak_kernel.proofs.Events.{keeps_fills, none_waits, quiet}
 use Rattle.fak_kernel.proofs.Calls.{turning_more}
 use Rattle.fak_kernel.proofs.Moving.{gains_free, gains_none, gains_then, idle_none, idle_then}
 use Rattle.fak_kernel.proofs.Gaining.{gains_as}
 use Rattle.fak_kernel.proofs.Acting.{keeps_idle}
-use Rattle.fak_kernel.proofs.Opening.{numbers_from-next}
-use Rattle.fak_kernel.proofs.Holding.{lines_none}
+use Rattle.fak_process.proofs.Opening.{numbers_from-next}
+use Rattle.fak_process.proofs.Holding.{lines_none}
 use Rattle.fak_kernel.proofs.Looping.{keeps_name}
 use Rattle.fak_kernel.proofs.Fresh.{fresh_are, fresh_between, fresh_goes, fresh_name, fresh_turning}
 use Rattle.fak_kernel.proofs.Dealing.{fresh_at, length-all}

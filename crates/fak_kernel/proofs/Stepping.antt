@@ -12,11 +12,11 @@ use Rattle.fak_model.proofs.Deciding.{cond_here}
 use Rattle.fak_queue.specs.Retries.{kinds_in, kinds_out, kinds_not_in, kinds_not_out}
 use Rattle.fak_text.proofs.Common.{ScriptOf, StepOf, say, yield, open_file, close_file, stat, down, up, spawn, shutdown, NoteOf, said, yielded, opened, closed, statted, downed, upped, spawned, no_birth, no_slot, shut_down, Process, child_count, after_note, FitsScript, StandsAt, Allows}
 use Rattle.fak_kernel.proofs.Common.{child_of, ProcessorOf, HasMade, AreLines, is_file_line}
-use Rattle.fak_kernel.specs.Ledger.{Ledger, IsMade, nothing, joined, other_down}
+use Rattle.fak_process.specs.Ledger.{Ledger, IsMade, nothing, joined, other_down}
 use Rattle.fak_kernel.specs.Events.{made_of, IsPlain, steps, passes, parks, adds, wakes, spawns, lacks_birth, lacks_slot, shuts, waits_refused, refused_claim, empty}
 use Rattle.fak_kernel.specs.Moving.{bundle_of, names_of, Gains, GainsParked, GainsWoken, Moves, at_one}
-use Rattle.fak_kernel.proofs.Holding.{lines_more}
-use Rattle.fak_kernel.proofs.Joining.{balanced-joined}
+use Rattle.fak_process.proofs.Holding.{lines_more}
+use Rattle.fak_process.proofs.Joining.{balanced-joined}
 use Rattle.fak_kernel.proofs.Events.{balanced-beside, keeps_steps, keeps_passes, keeps_parks, keeps_adds, keeps_wakes, keeps_spawns, keeps_lacks_birth, keeps_lacks_slot, keeps_shuts, keeps_waits_refused}
 use Rattle.fak_kernel.proofs.Calls.{refused_in_weighs, refused_out_weighs}
 use Rattle.fak_kernel.proofs.Moving.{adds_none, gains_none, gains_then}

@@ -4,7 +4,7 @@ use Rattle.fak_model.proofs.Common.{map-append, sum_by-append, All-nil, Rules, i
 use Rattle.fak_model.proofs.Appending.{history_none}
 use Rattle.fak_model.proofs.SeatWeights.{mine_one, mine_push, mine_known}
 use Rattle.fak_kernel.specs.Holding.{Owns, Weighs}
-use Rattle.fak_kernel.proofs.Sums.{sum_by-map}
+use Rattle.fak_process.proofs.Sums.{sum_by-map}
 
 -- ---- seats
 

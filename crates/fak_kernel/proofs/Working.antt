@@ -1,7 +1,7 @@
 -- The loop of the only processor.
 use Rattle.std.proofs.Common.{◌≡◌, List, [], ◌∷◌, suc, refl, ap, sym, ◌∙◌, subst, Option, None}
 use Rattle.fak_text.proofs.Common.{ScriptOf, Process}
-use Rattle.fak_kernel.specs.ListScheduler.{State, Lists, Turn, step, take_front, turn_over}
+use Rattle.fak_process.specs.ListScheduler.{State, Lists, Turn, step, take_front, turn_over}
 use Rattle.fak_kernel.specs.Processors.{ProcessorOf, IsAlone, GoesOn, GoesTo, IsReached, lists_of}
 
 -- the processor with who has it

@@ -1,7 +1,7 @@
 -- The faults that a processor meets.
 use Rattle.std.specs.Prelude.{◌≡◌, ◌⊎◌, Bool, true}
-use Rattle.fak_kernel.specs.declared.fault.Fault.{Fault}
-use Rattle.fak_kernel.specs.declared.fault.Fault.TheVariants.{Memory, Worn, Gate}
+use Rattle.fak_process.specs.declared.fault.Fault.{Fault}
+use Rattle.fak_process.specs.declared.fault.Fault.TheVariants.{Memory, Worn, Gate}
 
 -- a step had no memory, or the stint of a seat was over
 abbrev pub IsOfStep : Fault → Type 0

@@ -16,9 +16,9 @@ use Rattle.fak_model.specs.Credit as credit
 use Rattle.fak_sem.specs.Semaphores.{SemSeatInfo, SemTallyInfo, credit_part, queue_part, credit_tally, queue_tally, JoinsSeat}
 use Rattle.fak_text.specs.Script.{ScriptOf}
 use Rattle.fak_text.specs.Journal.{Process}
-use Rattle.fak_kernel.specs.ListScheduler.{numbers_from}
-use Rattle.fak_kernel.specs.Ledger.{Ledger, Balanced, named}
-use Rattle.fak_kernel.specs.Whole.{begun_names}
+use Rattle.fak_process.specs.ListScheduler.{numbers_from}
+use Rattle.fak_process.specs.Ledger.{Ledger, Balanced, named}
+use Rattle.fak_process.specs.Whole.{begun_names}
 
 -- the seat's own marks are of these kinds, and what it has seen is lawful
 pub record Owns {M W C K : Type 0} (rules : Rules M W C) (kind_of : M → K) (s : SeatInfo M) (kinds : List K) : Type 0 where

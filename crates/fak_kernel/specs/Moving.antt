@@ -11,17 +11,17 @@ use Rattle.fak_sem.specs.Semaphores.{SemInfo, SemSeatInfo, Downs, Ups}
 use Rattle.fak_queue.specs.Retries.{RefusedInsertion, RefusedDeletion, kinds_not_in, kinds_not_out, kinds_in, kinds_out}
 use Rattle.fak_text.specs.Script.{ScriptOf, down}
 use Rattle.fak_text.specs.Journal.{NoteOf, Process, FitsScript, StandsAt, after_note, downed}
-use Rattle.fak_kernel.specs.ListScheduler.{Turn}
-use Rattle.fak_kernel.specs.declared.report.Outcome.{Outcome}
-use Rattle.fak_kernel.specs.declared.report.Outcome.TheVariants.{Ended, Halted}
-use Rattle.fak_kernel.specs.Report.{RowOf}
-use Rattle.fak_kernel.specs.Ledger.{Ledger, Balanced, nothing}
+use Rattle.fak_process.specs.ListScheduler.{Turn}
+use Rattle.fak_process.specs.declared.report.Outcome.{Outcome}
+use Rattle.fak_process.specs.declared.report.Outcome.TheVariants.{Ended, Halted}
+use Rattle.fak_process.specs.Report.{RowOf}
+use Rattle.fak_process.specs.Ledger.{Ledger, Balanced, nothing}
 use Rattle.fak_model.specs.Weights.{put_of, got_of, close_of, closed_of}
 use Rattle.fak_kernel.specs.Events.{closed, empty}
 use Rattle.fak_kernel.specs.Holding.{queue_kind, Bundle}
 use Rattle.fak_kernel.specs.Turning.{Grows, Adds}
-use Rattle.fak_kernel.specs.Making.{AreLines}
-use Rattle.fak_kernel.specs.Reported.{file_lines}
+use Rattle.fak_process.specs.Making.{AreLines}
+use Rattle.fak_process.specs.Reported.{file_lines}
 use Rattle.fak_kernel.specs.Processors.{ProcessorOf, AtPlace}
 
 -- ---- calls on one queue, tried again where they were refused

@@ -1,10 +1,10 @@
 -- What is known of the processors of a run when their threads begin, and of what each answers.
 use Rattle.std.specs.Prelude.{◌≡◌, ◌⊎◌, ℕ, Bool, List, [], ◌∷◌, Option, Some, None, Result, Ok, Err, IfOk, IfErr, IfSome}
 use Rattle.fak_text.specs.Script.{ScriptOf}
-use Rattle.fak_kernel.specs.declared.fault.Fault.{Fault}
-use Rattle.fak_kernel.specs.declared.fault.Fault.TheVariants.{NoThread}
+use Rattle.fak_process.specs.declared.fault.Fault.{Fault}
+use Rattle.fak_process.specs.declared.fault.Fault.TheVariants.{NoThread}
 use Rattle.fak_kernel.specs.Faults.{IsOfLoop}
-use Rattle.fak_kernel.specs.ListScheduler.{turn_over}
+use Rattle.fak_process.specs.ListScheduler.{turn_over}
 use Rattle.fak_kernel.specs.Processors.{ObjectsOf, ProcessorOf, IsReached, lists_of}
 use Rattle.fak_kernel.specs.Begun.{Between, IsLeftBy}
 

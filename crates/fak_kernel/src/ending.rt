@@ -1,25 +1,23 @@
 //! How a run ends: the seats of all processors are joined, the objects are closed, and what is left is reported.
 
 ghost use Rattle.std.specs.Prelude.{◌≡◌, ◌<◌, ◌≤◌, [], ℕ, vec_len, slice_index_or, IfOk, IfErr};
-ghost use Rattle.fak_kernel.specs.ListScheduler.{turn_over};
-ghost use Rattle.fak_kernel.specs.Report.{ListSchedulerReports};
-ghost use Rattle.fak_kernel.specs.RunReports.{RunReports};
+ghost use Rattle.fak_process.specs.ListScheduler.{turn_over};
+ghost use Rattle.fak_process.specs.Report.{ListSchedulerReports};
+ghost use Rattle.fak_process.specs.RunReports.{RunReports};
 ghost use Rattle.fak_kernel.specs.Processors.{AreFor, IsReached, ProcessorOf, lists_of};
 ghost use Rattle.fak_kernel.specs.Opened.{AreSeated};
 ghost use Rattle.fak_kernel.specs.Begun.{IsLeftBy};
-ghost use Rattle.fak_kernel.specs.Told.{told_report};
-ghost use Rattle.fak_kernel.specs.Views.{report_of};
+ghost use Rattle.fak_process.specs.Told.{told_report};
+ghost use Rattle.fak_process.specs.Views.{report_of};
 
 pub mod closing;
 pub mod gathering;
 pub mod joining;
 pub mod reporting;
 
-use crate::context::Run;
-use crate::fault::Fault;
 use crate::objects::Objects;
 use crate::processor::Processor;
-use crate::report::Report;
+use fak_process::{Fault, Report, Run};
 use fak_text::Script;
 use gathering::gather;
 use reporting::{report_with, rows_of};

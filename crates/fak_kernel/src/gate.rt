@@ -3,7 +3,7 @@
 ghost use Rattle.std.specs.Prelude.{◌≡◌, Bool, true, false, cond, ◌+◌, ◌==◌, IfErr};
 ghost use Rattle.fak_kernel.specs.Faults.{IsOfGate};
 
-use crate::fault::Fault;
+use fak_process::Fault;
 
 /// What a processor passes before each look at the ready queue.
 pub trait Gate {

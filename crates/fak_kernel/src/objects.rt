@@ -5,10 +5,9 @@ pub(crate) mod semaphores;
 pub(crate) mod starting;
 
 use crate::alarm::Alarm;
-use crate::context::{Context, Run};
-use crate::slot::Slot;
 use fak_count::{Credit, Room};
 use fak_files::FileTable;
+use fak_process::{Context, Run, Slot};
 use fak_queue::Queue;
 use semaphores::Semaphores;
 use std::marker::Model;

@@ -2,7 +2,7 @@
 
 ghost use Rattle.std.specs.Prelude.{◌≡◌, [], ◌∷◌, IfOk, IfErr};
 ghost use Rattle.fak_model.specs.declared.credit.CreditKind.TheVariants as made;
-ghost use Rattle.fak_kernel.specs.Ledger.{nothing};
+ghost use Rattle.fak_process.specs.Ledger.{nothing};
 ghost use Rattle.fak_kernel.specs.Moving.{Gains};
 ghost use Rattle.fak_kernel.specs.Processors.{AreOf, GoesTo, IsAlone, ProcessorOf, lists_of};
 
@@ -16,13 +16,11 @@ mod steps;
 mod turn;
 mod turns;
 
-use crate::context::{Context, Run};
-use crate::fault::Fault;
 use crate::objects::Objects;
 use crate::objects::semaphores::SemSeats;
-use crate::slot::Slot;
 use fak_count::{CreditSeat, RoomSeat};
 use fak_files::FileSeat;
+use fak_process::{Context, Fault, Run, Slot};
 use fak_queue::Seat;
 use files::Files;
 use std::marker::Model;

@@ -2,25 +2,21 @@
 
 ghost use Rattle.std.specs.Prelude.{◌≡◌, Err, IfOk, IfErr};
 ghost use Rattle.fak_kernel.specs.Opened.{AreProcessors};
-ghost use Rattle.fak_kernel.specs.Report.{ListSchedulerReports};
-ghost use Rattle.fak_kernel.specs.ReportText.{ListSchedulerPrints, RunPrints};
-ghost use Rattle.fak_kernel.specs.RunReports.{RunReports};
+ghost use Rattle.fak_process.specs.Report.{ListSchedulerReports};
+ghost use Rattle.fak_process.specs.ReportText.{ListSchedulerPrints, RunPrints};
+ghost use Rattle.fak_process.specs.RunReports.{RunReports};
 ghost use Rattle.fak_kernel.specs.Threads.{IsOfRun};
-ghost use Rattle.fak_kernel.specs.Told.{told_report};
-ghost use Rattle.fak_kernel.specs.Views.{report_of};
+ghost use Rattle.fak_process.specs.Told.{told_report};
+ghost use Rattle.fak_process.specs.Views.{report_of};
 
 mod answering;
 mod leaving;
 
-use crate::context::Run;
 use crate::ending::report_of_run;
-use crate::fault::Fault;
 use crate::gate::Gate;
 use crate::objects::opening::{Opened, open_run};
-use crate::report::Report;
-use crate::telling::told_in_full;
-use crate::text::{Printed, print_brief};
 use answering::all_left;
+use fak_process::{Fault, Printed, Report, Run, print_brief, told_in_full};
 use fak_text::Script;
 use leaving::leave_all;
 use std::alloc::Global;

@@ -8,14 +8,12 @@ ghost use Rattle.fak_kernel.specs.Processors.{ids_of};
 ghost use Rattle.fak_kernel.specs.Joined.{AreTalliesOf, ids_of_tallies};
 ghost use Rattle.fak_kernel.specs.Closing.{AreClosed, IsSleeper, IsWholeAt};
 
-use crate::context::{Context, Run};
 use crate::ending::joining::Tallies;
-use crate::fault::Fault;
 use crate::objects::Objects;
 use crate::objects::semaphores::Semaphores;
-use crate::sleeper::Sleeper;
 use fak_files::FileRest;
 use fak_model::FileEntry;
+use fak_process::{Context, Fault, Run, Sleeper};
 use fak_queue::Rest;
 use fak_sem::{SemTally, Semaphore};
 use std::alloc::Global;

@@ -5,11 +5,10 @@ ghost use Rattle.fak_kernel.specs.Processors.{AreFor, ProcessorOf};
 ghost use Rattle.fak_kernel.specs.Begun.{IsLeftBy};
 ghost use Rattle.fak_kernel.specs.Gathered.{AreGathered, AreOfOne};
 
-use crate::context::Run;
 use crate::ending::joining::Joined;
-use crate::fault::Fault;
 use crate::objects::Objects;
 use crate::processor::Processor;
+use fak_process::{Fault, Run};
 use std::alloc::Global;
 
 /// All processors, in the order of their numbers.

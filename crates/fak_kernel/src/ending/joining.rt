@@ -8,15 +8,12 @@ ghost use Rattle.fak_sem.specs.Semaphores.{sem_tally_of};
 ghost use Rattle.fak_kernel.specs.Processors.{AreOf, ids_of, ids_of_seats};
 ghost use Rattle.fak_kernel.specs.Joined.{AreTalliesOf, JoinAll, JoinEach, first_tallies, ids_of_tallies};
 
-use crate::context::{Context, Run};
-use crate::fault::Fault;
 use crate::objects::Objects;
 use crate::objects::semaphores::SemSeats;
 use crate::processor::Processor;
-use crate::sleeper::Sleeper;
-use crate::slot::Slot;
 use fak_count::{CreditTally, RoomTally};
 use fak_files::FileTally;
+use fak_process::{Context, Fault, Run, Sleeper, Slot};
 use fak_queue::Tally;
 use fak_sem::{SemTally, Semaphore};
 use std::alloc::Global;

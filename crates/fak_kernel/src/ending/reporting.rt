@@ -3,18 +3,15 @@
 ghost use Rattle.std.specs.Prelude.{◌≡◌, ◌≤◌, ◌-◌, nat_lt, length, map, IfOk, IfErr};
 ghost use Rattle.std.specs.List.{list_any, sum_by};
 ghost use Rattle.std.specs.List.Sorted.{IsPermutation};
-ghost use Rattle.fak_kernel.specs.Report.{IsSortedByName, sleepers_outcome};
-ghost use Rattle.fak_kernel.specs.Ledger.{shuts_of};
-ghost use Rattle.fak_kernel.specs.Whole.{lines_of};
+ghost use Rattle.fak_process.specs.Report.{IsSortedByName, sleepers_outcome};
+ghost use Rattle.fak_process.specs.Ledger.{shuts_of};
+ghost use Rattle.fak_process.specs.Whole.{lines_of};
 ghost use Rattle.fak_kernel.specs.Closing.{rows_left, shut_lines};
-ghost use Rattle.fak_kernel.specs.Told.{told_rows};
-ghost use Rattle.fak_kernel.specs.Views.{report_of, row_of};
+ghost use Rattle.fak_process.specs.Told.{told_rows};
+ghost use Rattle.fak_process.specs.Views.{report_of, row_of};
 
-use crate::context::{Context, Run};
-use crate::fault::Fault;
-use crate::report::{Outcome, ProcessRow, Report};
-use crate::rows::{add_rows, sort_rows};
 use fak_model::FileEntry;
+use fak_process::{Context, Fault, Outcome, ProcessRow, Report, Run, add_rows, sort_rows};
 use fak_text::Script;
 use std::alloc::Global;
 

@@ -5,9 +5,7 @@ ghost use Rattle.fak_kernel.specs.OnlyCounts.{IsOnlySem, Passes, Parks, Raises, 
 ghost use Rattle.fak_kernel.specs.Processors.{AtPlace, ids_of, ids_of_seats};
 ghost use Rattle.fak_kernel.specs.Moving.{DownsAt, UpsAt};
 
-use crate::context::Run;
-use crate::fault::Fault;
-use crate::sleeper::Sleeper;
+use fak_process::{Fault, Run, Sleeper};
 use fak_sem::{SemSeat, Semaphore};
 use std::marker::Model;
 use std::sync::Wait;

@@ -2,18 +2,16 @@
 
 ghost use Rattle.std.specs.Prelude.{◌≡◌, ◌<◌, [], ◌∷◌, ◌++◌, length, IfOk, IfErr};
 ghost use Rattle.fak_kernel.specs.Faults.{IsOfStep};
-ghost use Rattle.fak_kernel.specs.ListScheduler as lists;
-ghost use Rattle.fak_kernel.specs.Whole.{begun_names};
+ghost use Rattle.fak_process.specs.ListScheduler as lists;
+ghost use Rattle.fak_process.specs.Whole.{begun_names};
 ghost use Rattle.fak_kernel.specs.Processors.{AreFor, AreOf, GoesTo, IsAlone, IsReached, TakesSlot, lists_of};
 ghost use Rattle.fak_kernel.specs.Begun.{Begins, FindsSlot, StartsOne, empty_lists};
 
-use crate::context::{Context, Run};
-use crate::fault::Fault;
 use crate::objects::Objects;
 use crate::processor::Processor;
 use crate::processor::entering::put;
-use crate::slot::Slot;
 use crossbeam_utils::Backoff;
+use fak_process::{Context, Fault, Run, Slot};
 use fak_text::Script;
 use std::alloc::Global;
 use std::sync::Wait;

@@ -3,17 +3,16 @@
 ghost use Rattle.std.specs.Prelude.{◌≡◌, [], ◌∷◌, Bool, ◌-◌, ◌≤◌, IfOk, IfErr, MatchBool};
 ghost use Rattle.fak_count.specs.Rooms.{held_amount};
 ghost use Rattle.fak_model.specs.declared.room.RoomKind.TheVariants.{Up, Release};
-ghost use Rattle.fak_kernel.specs.Ledger.{nothing};
+ghost use Rattle.fak_process.specs.Ledger.{nothing};
 ghost use Rattle.fak_kernel.specs.Events.{refused_claim};
 ghost use Rattle.fak_kernel.specs.Moving.{Gains};
 ghost use Rattle.fak_kernel.specs.Faults.{IsOfStep};
 ghost use Rattle.fak_kernel.specs.Processors.{AreFor, AreOf, HasNoBirth, IsAlone, IsBorn, GoesTo, lists_of};
 
-use crate::context::Run;
-use crate::fault::Fault;
 use crate::objects::Objects;
 use crate::processor::Processor;
 use fak_count::TirFault;
+use fak_process::{Fault, Run};
 
 impl<K: Run> Processor<K> {
     /// Claims a birth, if there is one left.

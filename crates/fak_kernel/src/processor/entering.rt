@@ -10,8 +10,8 @@ ghost use Rattle.fak_kernel.specs.Holding.{queue_kind};
 ghost use Rattle.fak_kernel.specs.Turning.{Grows};
 ghost use Rattle.fak_kernel.specs.Moving.{GrowsAtLast, GrowsEmpty, GrowsIn, GrowsOut, GrowsShut};
 
-use crate::fault::Fault;
 use crossbeam_utils::Backoff;
+use fak_process::Fault;
 use fak_queue::{DeleteFault, InsertFault, Queue, Seat};
 use std::sync::Wait;
 

@@ -2,10 +2,10 @@
 
 ghost use Rattle.std.specs.Prelude.{◌≡◌, ◌<◌, List, length, replicate, slice_get, IfOk, IfErr, IfSome};
 ghost use Rattle.fak_model.specs.declared.file.FileEntry.{FileEntry};
-ghost use Rattle.fak_kernel.specs.Files.{open_change, close_change, uses_of, free_entry, first_entry, raise};
+ghost use Rattle.fak_process.specs.Files.{open_change, close_change, uses_of, free_entry, first_entry, raise};
 
-use crate::fault::Fault;
 use fak_model::FileEntry;
+use fak_process::Fault;
 use std::alloc::Global;
 use std::marker::Model;
 

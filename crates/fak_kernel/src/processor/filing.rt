@@ -2,15 +2,15 @@
 
 ghost use Rattle.std.specs.Prelude.{◌≡◌, ◌≢◌, ◌<◌, [], length, map, IfSome, IfOk, IfErr, MatchOption};
 ghost use Rattle.fak_files.specs.declared.phase.Hold.TheVariants.{Nothing, Writing};
-ghost use Rattle.fak_kernel.specs.Files.{open_change, close_change, uses_of};
+ghost use Rattle.fak_process.specs.Files.{open_change, close_change, uses_of};
 ghost use Rattle.fak_model.specs.File.{set_mark};
 ghost use Rattle.fak_text.specs.Journal.{opened, closed, statted};
-ghost use Rattle.fak_kernel.specs.Making.{HasJustTaken, HasMade, Left, sets_of};
-ghost use Rattle.fak_kernel.specs.OnlyFiles.{IsOnlyFiles, KeepsFiles, StoresEntry, ChangesFiles, entries_now};
+ghost use Rattle.fak_process.specs.Making.{HasJustTaken, HasMade, Left, sets_of};
+ghost use Rattle.fak_process.specs.OnlyFiles.{IsOnlyFiles, KeepsFiles, StoresEntry, ChangesFiles, entries_now};
 
-use crate::fault::Fault;
 use crate::processor::files::Files;
 use fak_files::{FileField, FileSeat, FileTable};
+use fak_process::Fault;
 use std::sync::Wait;
 
 impl Files {

@@ -2,22 +2,20 @@
 
 ghost use Rattle.std.specs.Prelude.{◌≡◌, [], ◌∷◌, Bool, ℕ, None, true, IfOk, IfErr, MatchOption};
 ghost use Rattle.fak_model.specs.Queue.{contents};
-ghost use Rattle.fak_kernel.specs.ListScheduler as lists;
+ghost use Rattle.fak_process.specs.ListScheduler as lists;
 ghost use Rattle.fak_kernel.specs.Faults.{IsOfStep};
 ghost use Rattle.fak_kernel.specs.Processors.{AreFor, AreOf, IsAlone, GoesOn, GoesTo, HasNoSlot, TakesSlot, lists_of};
 ghost use Rattle.fak_model.specs.declared.queue.Kind.TheVariants.{Close};
 ghost use Rattle.fak_queue.specs.Retries.{kinds_out};
-ghost use Rattle.fak_kernel.specs.Ledger.{nothing};
+ghost use Rattle.fak_process.specs.Ledger.{nothing};
 ghost use Rattle.fak_kernel.specs.Events.{empty};
 ghost use Rattle.fak_kernel.specs.Moving.{Gains, Moves, hand_of};
 
-use crate::context::{Context, Run};
-use crate::fault::Fault;
 use crate::objects::Objects;
 use crate::processor::Processor;
 use crate::processor::entering::{enter, put, shut, take};
 use crate::processor::turn::Turn;
-use crate::slot::Slot;
+use fak_process::{Context, Fault, Run, Slot};
 use std::sync::Wait;
 
 impl<K: Run> Processor<K> {

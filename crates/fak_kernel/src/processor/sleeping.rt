@@ -6,14 +6,12 @@ ghost use Rattle.fak_text.specs.Journal.{StandsAt};
 ghost use Rattle.fak_kernel.specs.Faults.{IsOfStep};
 ghost use Rattle.fak_kernel.specs.Processors.{AreFor, AreOf, IsAlone, CountFalls, SleepsLast, WakesFirst, WakesNobody, lists_of};
 ghost use Rattle.fak_model.specs.declared.credit.CreditKind.TheVariants.{Debit, Credit};
-ghost use Rattle.fak_kernel.specs.Ledger.{nothing};
+ghost use Rattle.fak_process.specs.Ledger.{nothing};
 ghost use Rattle.fak_kernel.specs.Moving.{Gains, GainsParked, GainsWoken, at_one};
 
-use crate::context::{Context, Run};
-use crate::fault::Fault;
 use crate::objects::Objects;
 use crate::processor::Processor;
-use crate::sleeper::Sleeper;
+use fak_process::{Context, Fault, Run, Sleeper};
 use std::sync::Wait;
 
 impl<K: Run> Processor<K> {

@@ -3,18 +3,16 @@
 ghost use Rattle.std.specs.Prelude.{[], ◌∷◌, ◌<◌, false, length, IfOk, IfErr};
 ghost use Rattle.fak_text.specs.Script.{down, up, open_file, close_file, stat, spawn, shutdown};
 ghost use Rattle.fak_text.specs.Journal.{StandsAt};
-ghost use Rattle.fak_kernel.specs.ListScheduler as lists;
-ghost use Rattle.fak_kernel.specs.Contexts.{HasStepsLeft};
+ghost use Rattle.fak_process.specs.ListScheduler as lists;
+ghost use Rattle.fak_process.specs.Contexts.{HasStepsLeft};
 ghost use Rattle.fak_kernel.specs.Faults.{IsOfStep};
 ghost use Rattle.fak_kernel.specs.Processors.{AreFor, AreOf, IsAlone, GoesOn, lists_of};
 ghost use Rattle.fak_kernel.specs.Moving.{Moves, hand_of};
 
-use crate::context::{Context, Run};
-use crate::fault::Fault;
 use crate::objects::Objects;
 use crate::processor::Processor;
 use crate::processor::turn::Turn;
-use crate::sleeper::Sleeper;
+use fak_process::{Context, Fault, Run, Sleeper};
 use fak_text::Note;
 use std::alloc::Global;
 use std::sync::Wait;

@@ -4,11 +4,10 @@ ghost use Rattle.std.specs.Prelude.{◌≡◌, ℕ, List, [], ◌∷◌, ◌++�
 ghost use Rattle.fak_text.specs.Script.{StepOf, say};
 ghost use Rattle.fak_text.specs.Journal.{Allows, FitsScript, StandsAt, after_note, child_count, said};
 ghost use Rattle.fak_text.specs.Views.{note_of};
-ghost use Rattle.fak_kernel.specs.ListScheduler as lists;
-ghost use Rattle.fak_kernel.specs.Contexts.{HasStepsLeft};
+ghost use Rattle.fak_process.specs.ListScheduler as lists;
+ghost use Rattle.fak_process.specs.Contexts.{HasStepsLeft};
 
-use crate::context::{Context, Run};
-use crate::fault::Fault;
+use fak_process::{Context, Fault, Run};
 use fak_text::{Note, Script};
 use std::alloc::Global;
 use std::marker::Model;
@@ -23,7 +22,7 @@ pub struct Turn<K: Run> {
 
 impl<K: Run> Model for Turn<K> {
     ghost use Rattle.std.specs.Prelude.{◌≤◌};
-    ghost use Rattle.fak_kernel.specs.ListScheduler as lists;
+    ghost use Rattle.fak_process.specs.ListScheduler as lists;
 
     ghost Value = { lists.Turn };
 

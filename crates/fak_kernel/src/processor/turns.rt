@@ -4,21 +4,20 @@ ghost use Rattle.std.specs.Prelude.{◌≡◌, [], ◌∷◌, ◌<◌, pos, leng
 ghost use Rattle.fak_text.specs.Script.{IsStepInRange, limits_of};
 ghost use Rattle.fak_text.specs.Journal.{StandsAt};
 ghost use Rattle.fak_text.specs.Views.{step_of};
-ghost use Rattle.fak_kernel.specs.ListScheduler as lists;
+ghost use Rattle.fak_process.specs.ListScheduler as lists;
 ghost use Rattle.fak_kernel.specs.Faults.{IsOfLoop, IsOfStep};
-ghost use Rattle.fak_kernel.specs.Contexts.{HasStepsLeft};
+ghost use Rattle.fak_process.specs.Contexts.{HasStepsLeft};
 ghost use Rattle.fak_kernel.specs.Processors.{AreFor, AreOf, IsAlone, GoesOn, GoesTo, IsReached, lists_of};
 ghost use Rattle.fak_model.specs.Credit.{value};
-ghost use Rattle.fak_kernel.specs.Ledger.{nothing};
+ghost use Rattle.fak_process.specs.Ledger.{nothing};
 ghost use Rattle.fak_kernel.specs.Moving.{Gains, LeavesNone, Moves, hand_of};
 
-use crate::context::Run;
-use crate::fault::Fault;
 use crate::gate::{Gate, Looks};
 use crate::objects::Objects;
 use crate::processor::Processor;
 use crate::processor::turn::Turn;
 use crossbeam_utils::Backoff;
+use fak_process::{Fault, Run};
 use fak_text::{Note, Script, Step};
 use std::alloc::Global;
 use std::sync::Wait;

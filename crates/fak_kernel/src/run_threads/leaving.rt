@@ -4,11 +4,10 @@ ghost use Rattle.std.specs.Prelude.{◌≡◌, ◌<◌, ℕ, vec_len, slice_inde
 ghost use Rattle.fak_kernel.specs.Processors.{AreFor};
 ghost use Rattle.fak_kernel.specs.Threads.{HasAnswered, HasBegun, IsOfRun};
 
-use crate::context::Run;
-use crate::fault::Fault;
 use crate::gate::Gate;
 use crate::objects::Objects;
 use crate::processor::Processor;
+use fak_process::{Fault, Run};
 use fak_text::Script;
 use std::alloc::Global;
 use std::marker::{Send, Sync};

@@ -1,9 +1,9 @@
 use Rattle.std.proofs.Common.{length, ap, sym, arith}
 use Rattle.fak_text.specs.Script.{ScriptOf}
-use Rattle.fak_kernel.specs.Told.{told_report}
+use Rattle.fak_process.specs.Told.{told_report}
 use Rattle.fak_kernel.proofs.Reporting.{whole_each, whole_files, started_have_rows, run_reports_with}
 use Rattle.fak_kernel.proofs.ReportingAlone.{alone_reports}
-use Rattle.fak_kernel.proofs.Told.{length-told_rows}
+use Rattle.fak_process.proofs.Told.{length-told_rows}
 use Rattle.fak_kernel.proofs.ending.report_of_run.Goals as goal
 
 pub close-requires-clause-semaphores : goal.close-requires-clause-semaphores

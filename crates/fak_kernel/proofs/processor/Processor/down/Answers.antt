@@ -1,6 +1,6 @@
 use Rattle.std.proofs.Common.{ap, sym, subst, ◌∙◌, ◌≡◌}
 use Rattle.fak_text.proofs.Common.{down, Process, StandsAt, after_note, downed}
-use Rattle.fak_kernel.specs.ListScheduler as lists
+use Rattle.fak_process.specs.ListScheduler as lists
 use Rattle.fak_kernel.specs.Moving.{GainsParked}
 use Rattle.fak_kernel.proofs.Stepping.{moves_to, moves_passed, moves_parked}
 use Rattle.fak_kernel.proofs.processor.Processor.down.Goals as goal

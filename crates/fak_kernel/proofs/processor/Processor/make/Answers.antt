@@ -1,6 +1,6 @@
 use Rattle.std.proofs.Common.{ap, refl}
 use Rattle.fak_text.proofs.Common.{say, yield, StandsAt, after_note, said, yielded}
-use Rattle.fak_kernel.specs.ListScheduler as lists
+use Rattle.fak_process.specs.ListScheduler as lists
 use Rattle.fak_kernel.proofs.Stepping.{gains_told, moves_to, made_is, moves_plain, plain_said, plain_yielded}
 use Rattle.fak_kernel.proofs.processor.Processor.make.Goals as goal
 

@@ -1,7 +1,7 @@
 use Rattle.std.proofs.Common.{◌≡◌, ◌∙◌, ◌<◌, ap, sym, subst, refl, IfSome}
 use Rattle.fak_text.proofs.Common.{open_file, FitsScript, StandsAt, after_note, opened}
-use Rattle.fak_kernel.specs.ListScheduler as lists
-use Rattle.fak_kernel.specs.Making.{HasMade}
+use Rattle.fak_process.specs.ListScheduler as lists
+use Rattle.fak_process.specs.Making.{HasMade}
 use Rattle.fak_kernel.proofs.Stepping.{moves_to, made_is, gains_files, moves_plain, plain_opened}
 use Rattle.fak_kernel.proofs.processor.Processor.open_file.Goals as goal
 

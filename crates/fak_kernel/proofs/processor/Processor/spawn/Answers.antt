@@ -1,6 +1,6 @@
 use Rattle.std.proofs.Common.{◌≡◌, ◌∙◌, ap, sym, subst, true, false, rules, [], ◌∷◌, ◌++◌, ℕ, None}
 use Rattle.fak_text.proofs.Common.{spawn, Process, FitsScript, StandsAt, new_process, after_note, child_count, spawned, no_birth, no_slot}
-use Rattle.fak_kernel.specs.ListScheduler as lists
+use Rattle.fak_process.specs.ListScheduler as lists
 use Rattle.fak_kernel.specs.Moving.{Moves}
 use Rattle.fak_kernel.proofs.Stepping.{moves_from, moves_to, moves_unborn, moves_slotless, moves_spawned, moves_enters}
 use Rattle.fak_kernel.proofs.processor.Processor.spawn.Goals as goal

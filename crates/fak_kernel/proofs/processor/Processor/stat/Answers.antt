@@ -1,7 +1,7 @@
 use Rattle.std.proofs.Common.{◌≡◌, ◌∙◌, ap, subst, refl}
 use Rattle.fak_text.proofs.Common.{stat, FitsScript, after_note, statted}
-use Rattle.fak_kernel.specs.ListScheduler as lists
-use Rattle.fak_kernel.specs.Making.{HasMade}
+use Rattle.fak_process.specs.ListScheduler as lists
+use Rattle.fak_process.specs.Making.{HasMade}
 use Rattle.fak_kernel.proofs.Stepping.{moves_to, made_is, gains_files, moves_plain, plain_statted}
 use Rattle.fak_kernel.proofs.processor.Processor.stat.Goals as goal
 

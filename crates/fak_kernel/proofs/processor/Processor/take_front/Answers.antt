@@ -1,5 +1,5 @@
 use Rattle.std.proofs.Common.{ap}
-use Rattle.fak_kernel.specs.ListScheduler as lists
+use Rattle.fak_process.specs.ListScheduler as lists
 use Rattle.fak_kernel.proofs.Acting.{moves_taken, moves_empty}
 use Rattle.fak_kernel.proofs.processor.Processor.take_front.Goals as goal
 

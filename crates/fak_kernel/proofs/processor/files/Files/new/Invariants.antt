@@ -1,5 +1,5 @@
 use Rattle.std.proofs.Common.{◌≡◌, replicate}
-use Rattle.fak_kernel.specs.Files.{free_entry}
+use Rattle.fak_process.specs.Files.{free_entry}
 use Rattle.fak_kernel.proofs.processor.files.Files.new.Given as goal
 
 abbrev pub invariant-loop : goal.invariant-loop

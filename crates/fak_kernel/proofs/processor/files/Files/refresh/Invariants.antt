@@ -1,7 +1,7 @@
 use Rattle.std.proofs.Common.{◌≡◌, ◌<◌, ℕ, [], length, slice_get, Some}
 use Rattle.fak_files.specs.Versions.{entry_of}
-use Rattle.fak_kernel.specs.Making.{HasJustTaken, Left}
-use Rattle.fak_kernel.specs.OnlyFiles.{IsOnlyFiles, KeepsFiles}
+use Rattle.fak_process.specs.Making.{HasJustTaken, Left}
+use Rattle.fak_process.specs.OnlyFiles.{IsOnlyFiles, KeepsFiles}
 use Rattle.fak_kernel.proofs.processor.files.Files.refresh.Given as goal
 
 -- the entries below this one were read

@@ -1,5 +1,0 @@
-use Rattle.fak_kernel.proofs.Ends.{ends_alike}
-use Rattle.fak_kernel.proofs.laws.the_list_scheduler_ends_in_one_way.Goals as goal
-
-pub returns : goal.returns
-returns c = ends_alike

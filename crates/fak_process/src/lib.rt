@@ -1,0 +1,21 @@
+//! The processes of a script, the list scheduler that says what becomes of them, and the report of a run with its text.
+#![tactic(auto)]
+
+mod context;
+mod fault;
+pub mod laws;
+mod report;
+mod rows;
+mod sleeper;
+mod slot;
+mod telling;
+mod text;
+
+pub use context::{Context, Run};
+pub use fault::Fault;
+pub use report::{Outcome, ProcessRow, Report};
+pub use rows::{add_rows, sort_rows};
+pub use sleeper::Sleeper;
+pub use slot::Slot;
+pub use telling::told_in_full;
+pub use text::{Printed, print_brief, report_text};
