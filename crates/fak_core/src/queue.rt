@@ -13,8 +13,6 @@ mod marks;
 mod moves;
 pub mod phase;
 pub mod step;
-#[cfg(test)]
-mod tests;
 mod words;
 
 use crate::call::QueueCall;

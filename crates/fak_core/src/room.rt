@@ -8,8 +8,6 @@ ghost use Rattle.fak_core.specs.Room.{IsBegun, IsStep, LeavesMark, amount_of, be
 pub mod moves;
 pub mod phase;
 pub mod step;
-#[cfg(test)]
-mod tests;
 
 use crate::call::RoomCall;
 use crate::fault::CoreFault;

@@ -5,12 +5,8 @@ ghost use Rattle.fak_model.specs.Checker.{FirstFault};
 ghost use Rattle.fak_model.specs.Queue.{IsQueueHistory};
 
 pub mod counts;
-#[cfg(test)]
-mod examples;
 pub mod judge;
 pub mod look_back;
-#[cfg(test)]
-mod tests;
 
 use crate::queue::Mark;
 use counts::Counts;

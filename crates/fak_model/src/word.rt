@@ -14,14 +14,3 @@ pub fn count_of(word: u64) -> i64
 {
     word as i64 - BIAS as i64
 }
-
-#[cfg(test)]
-mod tests {
-    use crate::word::{BIAS, count_of};
-
-    #[test]
-    fn counts_below_0_are_kept_too(rt: HostRuntime) {
-        assert_eq!(rt; count_of(BIAS + 5), 5);
-        assert_eq!(rt; count_of(BIAS - 1), -1);
-    }
-}

@@ -2,13 +2,12 @@
 
 ghost use Rattle.std.specs.Prelude.{◌≤◌};
 
-use super::first_fault;
-use crate::queue::Kind::{
+use Part::{By, Deleted, Inserted};
+use fak_model::Kind::{
     BackIn, BackOut, ClaimIn, ClaimOut, Close, Closed, EndIn, EndOut, Fill, Got, LateIn, NoItem,
     NoRoom, OverIn, OverOut, Put, Take,
 };
-use crate::queue::{Kind, Mark};
-use Part::{By, Deleted, Inserted};
+use fak_model::{Kind, Mark, first_fault};
 use std::alloc::{AllocError, Global};
 use std::test::*;
 

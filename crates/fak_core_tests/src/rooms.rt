@@ -1,9 +1,6 @@
 //! Schedules on a room, step by step, and each refusal.
 
-use super::RoomCore;
-use crate::call::RoomCall;
-use crate::fault::CoreFault;
-use crate::line::{CoreMove, Line, LineMark};
+use fak_core::{CoreFault, CoreMove, Line, LineMark, RoomCall, RoomCore};
 use fak_model::{RoomKind, RoomMark};
 
 /// One atomic step.

@@ -1,8 +1,6 @@
 //! Recorded histories and their first faults.
 
-use super::first_fault;
-use crate::cell::{cell_of, round_of};
-use crate::queue::{Kind, Mark};
+use fak_model::{Kind, Mark, cell_of, first_fault, round_of};
 
 fn mark(seat: u64, kind: Kind<u64>) -> Mark<u64> {
     Mark { seat, kind }

@@ -1,9 +1,6 @@
 //! Schedules on a queue, step by step, and each refusal.
 
-use super::QueueCore;
-use crate::call::QueueCall;
-use crate::fault::CoreFault;
-use crate::line::{CoreMove, Line, LineMark};
+use fak_core::{CoreFault, CoreMove, Line, LineMark, QueueCall, QueueCore};
 use fak_model::{Kind, Mark};
 use std::alloc::Global;
 use std::process::Abort;

@@ -1,0 +1,16 @@
+//! The tests of `fak_model` and `fak_core`, in a crate of their own, so that those are proved once: histories on either side of
+//! each part of the checker's definition, and schedules on rooms and queues as plain data, step by step.
+#![tactic(auto)]
+
+#[cfg(test)]
+mod examples;
+#[cfg(test)]
+mod histories;
+#[cfg(test)]
+mod name_sets;
+#[cfg(test)]
+mod queues;
+#[cfg(test)]
+mod rooms;
+#[cfg(test)]
+mod words;
