@@ -44,6 +44,3 @@ pub use rest::Rest;
 pub use seat::Seat;
 pub use state::SeatState;
 pub use tally::Tally;
-
-#[cfg(test)]
-mod tests;

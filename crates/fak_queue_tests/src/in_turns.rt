@@ -5,7 +5,7 @@ ghost use Rattle.fak_queue.specs.declared.state.SeatState.TheVariants.{Idle};
 ghost use Rattle.fak_queue.specs.Queues.{state_of};
 
 use super::threads::close_whole;
-use crate::{Queue, Seat, Tally};
+use fak_queue::{Queue, Seat, Tally};
 use std::sync::{Condvar, Mutex, Wait};
 use std::thread::{Threads, join};
 

@@ -1,7 +1,7 @@
 use Rattle.std.proofs.Common.{subst}
 use Rattle.fak_model.specs.Calls.{ObjectId}
 use Rattle.fak_model.specs.Seats.{IsWhole}
-use Rattle.fak_queue.proofs.tests.waits.close_counted.Goals as goal
+use Rattle.fak_queue_tests.proofs.waits.close_counted.Goals as goal
 
 pub close-requires-clause-whole : goal.close-requires-clause-whole
 close-requires-clause-whole c =

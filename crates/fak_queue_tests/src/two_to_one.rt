@@ -6,7 +6,7 @@ ghost use Rattle.fak_queue.specs.Queues.{state_of};
 
 use super::items::{are_all, fifty, ids_of, loads_of, rise};
 use super::threads::{delete_all, insert_all, leaves_nothing};
-use crate::{Queue, Seat, Tally};
+use fak_queue::{Queue, Seat, Tally};
 use std::alloc::Global;
 use std::sync::Wait;
 use std::test::Fail;

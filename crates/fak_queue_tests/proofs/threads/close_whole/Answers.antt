@@ -1,6 +1,6 @@
 use Rattle.std.proofs.Common.{rules, ◌<◌, ℕ, IsTrue, ap, sym, subst}
 use Rattle.fak_model.specs.Calls.{ObjectId}
-use Rattle.fak_queue.proofs.tests.threads.close_whole.Goals as goal
+use Rattle.fak_queue_tests.proofs.threads.close_whole.Goals as goal
 
 pub close-requires-clause-whole : goal.close-requires-clause-whole
 close-requires-clause-whole g c = λ n low.

@@ -1,6 +1,6 @@
 //! Worked rows, on one thread.
 
-use crate::{DeleteFault, InsertFault, OpenFault, Queue, SeatState};
+use fak_queue::{DeleteFault, InsertFault, OpenFault, Queue, SeatState};
 
 #[test]
 fn a_cell_that_is_full_and_one_that_is_not(rt: HostRuntime) {

@@ -4,8 +4,8 @@ ghost use Rattle.std.specs.Prelude.{◌≡◌, ◌+◌, IfOk, IsTrue, MatchOptio
 ghost use Rattle.fak_model.specs.Queue.{contents, lower_count, upper_count};
 ghost use Rattle.fak_queue.specs.Queues.{IsIdleSeat, drawn_by};
 
-use crate::{DeleteFault, InsertFault, Queue, Rest, Seat, Tally};
 use fak_model::laws::queue::a_queue_at_rest_counts_its_items;
+use fak_queue::{DeleteFault, InsertFault, Queue, Rest, Seat, Tally};
 use std::sync::Wait;
 
 // Inserts the numbers below `count`, and waits where the queue is full.

@@ -5,7 +5,7 @@ ghost use Rattle.fak_queue.specs.declared.state.SeatState.TheVariants.{Deleting}
 ghost use Rattle.fak_queue.specs.Queues.{state_of};
 
 use super::threads::close_whole;
-use crate::{InsertFault, Queue, Seat, SeatState, Tally};
+use fak_queue::{InsertFault, Queue, Seat, SeatState, Tally};
 
 // Whether a hundred tries of a claimed deletion find that it is not their turn.
 fn never_takes(queue: &Queue<u64>, seat: &mut Seat<u64>) -> bool

@@ -1,6 +1,6 @@
 //! A value that is dropped with its queue, its seat or its rest is dropped once.
 
-use crate::{Queue, Tally};
+use fak_queue::{Queue, Tally};
 use std::sync::Arc;
 
 #[test]

@@ -4,7 +4,7 @@ ghost use Rattle.std.specs.Prelude.{◌≡◌};
 
 use super::items::{are_all, fifty, rise};
 use super::threads::{Pair, join_pair, leaves_nothing, one_pair, tally_of, two_pairs};
-use crate::Queue;
+use fak_queue::Queue;
 use std::alloc::Global;
 use std::process::Abort;
 use std::sync::Wait;

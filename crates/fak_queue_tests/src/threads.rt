@@ -4,7 +4,7 @@ ghost use Rattle.std.specs.Prelude.{◌≡◌, ◌+◌, ◌<◌};
 ghost use Rattle.fak_queue.specs.declared.state.SeatState.TheVariants.{Idle};
 ghost use Rattle.fak_queue.specs.Queues.{state_of};
 
-use crate::{Queue, Rest, Seat, Tally};
+use fak_queue::{Queue, Rest, Seat, Tally};
 use std::alloc::Global;
 use std::sync::Wait;
 use std::thread::{Threads, join};

@@ -1,6 +1,6 @@
 //! An item of some kilobytes.
 
-use crate::Queue;
+use fak_queue::Queue;
 
 // An item of 4 KB, which begins and ends with this number.
 #[derive(Clone, Copy, Debug, PartialEq, Eq, Drop)]

@@ -1,0 +1,24 @@
+//! The tests of `fak_queue`, in a crate of their own, so that it is proved once: calls of one thread, in order, threads that take
+//! turns, and storms of threads.
+#![tactic(auto)]
+
+#[cfg(test)]
+mod drops;
+#[cfg(test)]
+mod in_turns;
+#[cfg(test)]
+mod items;
+#[cfg(test)]
+mod joined;
+#[cfg(test)]
+mod pages;
+#[cfg(test)]
+mod rows;
+#[cfg(test)]
+mod storms;
+#[cfg(test)]
+mod threads;
+#[cfg(test)]
+mod two_to_one;
+#[cfg(test)]
+mod waits;
