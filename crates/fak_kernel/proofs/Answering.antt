@@ -4,7 +4,7 @@ use Rattle.std.proofs.lemmas.List.{get_or-map, length-map}
 use Rattle.fak_text.specs.Script.{ScriptOf}
 use Rattle.fak_process.specs.declared.fault.Fault.{Fault}
 use Rattle.fak_process.specs.declared.fault.Fault.TheVariants.{Memory}
-use Rattle.fak_kernel.specs.Faults.{IsOfLoop}
+use Rattle.fak_processor.specs.Faults.{IsOfLoop}
 use Rattle.fak_kernel.proofs.Common.{turn_over, ObjectsOf, ProcessorOf, IsReached, lists_of, Between, IsLeftBy}
 use Rattle.fak_kernel.specs.Threads.{HasAnswered, HasBegun, HasLeft, IsOfRun, as_left, first_fault}
 

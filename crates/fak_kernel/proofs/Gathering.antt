@@ -10,10 +10,10 @@ use Rattle.fak_sem.specs.Grants.{IsSettled}
 use Rattle.fak_sem.specs.Semaphores.{sem_tally_of}
 use Rattle.fak_text.proofs.Common.{ScriptOf, Process}
 use Rattle.fak_kernel.proofs.Common.{numbers_from, Ledger, named, joined, begun_names, Histories, Gathered}
-use Rattle.fak_kernel.specs.Holding.{Weighs, queue_kind, Bundle, Tallies, Leaves, Have, Joins}
+use Rattle.fak_processor.specs.Holding.{Weighs, queue_kind, Bundle, Tallies, Leaves, Have, Joins}
 use Rattle.fak_process.proofs.Sums.{sum_by-map}
 use Rattle.fak_process.proofs.Joining.{balanced-joined}
-use Rattle.fak_kernel.proofs.Tallies.{weighs_one, weighs_joined, joined_either}
+use Rattle.fak_processor.proofs.Tallies.{weighs_one, weighs_joined, joined_either}
 
 -- the tallies of the first processor's seats
 abbrev pub first_tallies : Bundle → Tallies

@@ -4,10 +4,10 @@ use Rattle.fak_model.proofs.Common.{length-map, sum_by-append, ObjectId, IsJoine
 use Rattle.fak_sem.specs.Semaphores.{SemInfo, SemSeatInfo, SemTallyInfo}
 use Rattle.fak_text.proofs.Common.{ScriptOf, Process}
 use Rattle.fak_kernel.proofs.Common.{Ended, Halted, RowOf, joined, ObjectsOf, ProcessorOf, AreOf, AreFor, HasName, bundle_of, files_of, row_as, IsLeftBy}
-use Rattle.fak_kernel.specs.Holding.{Tallies, Have, Joins, JoinedTo}
-use Rattle.fak_kernel.specs.Joined.{TalliesOf, AreTalliesOf, HaveNames, JoinAll, tallies_of, first_tallies, no_seat, no_tally}
+use Rattle.fak_processor.specs.Holding.{Tallies, Have, Joins, JoinedTo}
+use Rattle.fak_processor.specs.Joined.{TalliesOf, AreTalliesOf, HaveNames, JoinAll, tallies_of, first_tallies, no_seat, no_tally}
 use Rattle.fak_kernel.specs.Gathered.{AreGathered, AreOfOne, FilesJoined, left_weigh}
-use Rattle.fak_kernel.proofs.Calls.{turning_leaves}
+use Rattle.fak_processor.proofs.Calls.{turning_leaves}
 use Rattle.fak_kernel.proofs.Gathering.{have_first, have_more}
 use Rattle.fak_kernel.proofs.Gathering as gathering
 use Rattle.fak_kernel.proofs.Naming.{first_joined, next_joined, is_new}

@@ -4,13 +4,13 @@ use Rattle.std.proofs.lemmas.List.Sums.{sum_by-append}
 use Rattle.fak_text.specs.Script.{ScriptOf}
 use Rattle.fak_process.specs.declared.fault.Fault.{Fault}
 use Rattle.fak_kernel.proofs.Common.{turn_over, Ledger, named, joined, AreLines, ObjectsOf, ProcessorOf, AreFor, AreOf, IsReached, lists_of, no_seat}
-use Rattle.fak_kernel.specs.Faults.{IsOfLoop}
-use Rattle.fak_kernel.specs.Moving.{BeginsNone, LeavesNone, files_of}
-use Rattle.fak_kernel.specs.Begun.{IsFirst, Between, IsLeftBy}
+use Rattle.fak_processor.specs.Faults.{IsOfLoop}
+use Rattle.fak_processor.specs.Moving.{BeginsNone, LeavesNone, files_of}
+use Rattle.fak_processor.specs.Begun.{IsFirst, Between, IsLeftBy}
 use Rattle.fak_kernel.specs.Threads.{HasBegun, HasAnswered}
-use Rattle.fak_kernel.proofs.Calls.{turning_more}
-use Rattle.fak_kernel.proofs.Moving.{files_then}
-use Rattle.fak_kernel.proofs.Looping.{keeps_name}
+use Rattle.fak_processor.proofs.Calls.{turning_more}
+use Rattle.fak_processor.proofs.Moving.{files_then}
+use Rattle.fak_processor.proofs.Looping.{keeps_name}
 
 -- nothing is begun later
 first_then : (script : ScriptOf) (name : ℕ) (a b : Ledger) → IsFirst script name a → BeginsNone b → IsFirst script name (joined a b)

@@ -15,7 +15,7 @@ use Rattle.fak_text.proofs.Common.{ScriptOf, NoteOf, Process}
 use Rattle.fak_kernel.proofs.Common.{Outcome, Ended, Halted, RowOf, ReportOf, IsSortedByName, rows_with, sleepers_outcome, FitsRow, notes, shuts_of, JoinedTo, ObjectsOf, AreFor, ids_of, AreSeated, row_as, files_of, AreGathered, FilesJoined, AreClosed, IsSleeper, IsWholeAt, left_at, rows_left, shut_lines}
 use Rattle.fak_process.specs.Whole.{Gathered, asleep, lines, lines_of, rows_of}
 use Rattle.fak_process.specs.Promises.{Promised, spawned_names}
-use Rattle.fak_kernel.specs.Joined.{TalliesOf, AreTalliesOf, HaveNames, tallies_of, ids_of_tallies, no_tally}
+use Rattle.fak_processor.specs.Joined.{TalliesOf, AreTalliesOf, HaveNames, tallies_of, ids_of_tallies, no_tally}
 use Rattle.fak_process.specs.Reported as reported
 use Rattle.fak_process.specs.RunReports.{RunReports}
 use Rattle.fak_process.proofs.Sums.{sum_by-map, sum_by-flat_map}

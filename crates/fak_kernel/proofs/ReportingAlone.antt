@@ -16,7 +16,7 @@ use Rattle.fak_sem.specs.Semaphores.{SemSeatInfo, sem_tally_of}
 use Rattle.fak_text.proofs.Common.{ScriptOf, Process, births_of}
 use Rattle.fak_kernel.proofs.Common.{turn_over, Ended, Halted, notes, sleepers_of, ObjectsOf, ProcessorOf, AreFor, IsReached, lists_of, AreSeated, TalliesOf, AreGathered, AreOfOne, AreClosed, left_at, rows_left, shut_lines}
 use Rattle.fak_process.specs.Report.{RowOf, ReportOf, IsSortedByName, IsReportOf, ListSchedulerReports, rows_at, rows_with, sleepers_outcome}
-use Rattle.fak_kernel.specs.OnlyQueues.{has_close, is_close}
+use Rattle.fak_processor.specs.OnlyQueues.{has_close, is_close}
 use Rattle.fak_process.proofs.Sums.{sum_by-map}
 use Rattle.fak_model.proofs.SeatWeights.{mine_one}
 use Rattle.fak_kernel.proofs.Reporting.{all_gathered, shut_notes, rows_promised, notes_in_rows}

@@ -11,7 +11,7 @@ use Rattle.fak_process.specs.declared.report.Outcome.TheVariants.{Ended, Halted}
 use Rattle.fak_process.specs.Report.{RowOf, rows_with, sleepers_outcome}
 use Rattle.fak_process.specs.Ledger.{shuts_of}
 use Rattle.fak_process.specs.Whole.{lines_of}
-use Rattle.fak_kernel.specs.Joined.{ids_of_tallies}
+use Rattle.fak_processor.specs.Joined.{ids_of_tallies}
 
 -- a process that sleeps fits the script and stands before a down
 pub record IsSleeper (script : ScriptOf) (p : Process) : Type 0 where

@@ -12,10 +12,10 @@ use Rattle.fak_process.specs.Report.{RowOf}
 use Rattle.fak_process.specs.Holds.{FileHold, AreHolds, hold_line, gather_from}
 use Rattle.fak_process.specs.Reported.{AreAsOften}
 use Rattle.fak_process.specs.Ledger.{Ledger}
-use Rattle.fak_kernel.specs.Holding.{Have}
-use Rattle.fak_kernel.specs.Moving.{files_of, row_as}
-use Rattle.fak_kernel.specs.Processors.{ObjectsOf, ProcessorOf}
-use Rattle.fak_kernel.specs.Joined.{TalliesOf, AreTalliesOf, HaveNames, first_tallies, tallies_of}
+use Rattle.fak_processor.specs.Holding.{Have}
+use Rattle.fak_processor.specs.Moving.{files_of, row_as}
+use Rattle.fak_processor.specs.Processors.{ObjectsOf, ProcessorOf}
+use Rattle.fak_processor.specs.Joined.{TalliesOf, AreTalliesOf, HaveNames, first_tallies, tallies_of}
 
 -- the lines of the holds of the first k seats of a table of n entries
 pub record FilesJoined (n seats k : ℕ) (t : TallyInfo FileMark) (lines : List NoteOf) : Type 0 where

@@ -1,14 +1,3 @@
-pub mod Faults
-pub mod OnlyQueues
-pub mod OnlyCounts
-pub mod Processors
-pub mod Events
-pub mod Holding
 pub mod Threads
-pub mod Turning
-pub mod Moving
-pub mod Opened
-pub mod Joined
-pub mod Begun
 pub mod Gathered
 pub mod Closing

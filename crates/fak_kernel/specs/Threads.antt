@@ -3,10 +3,10 @@ use Rattle.std.specs.Prelude.{◌≡◌, ◌⊎◌, ℕ, Bool, List, [], ◌∷�
 use Rattle.fak_text.specs.Script.{ScriptOf}
 use Rattle.fak_process.specs.declared.fault.Fault.{Fault}
 use Rattle.fak_process.specs.declared.fault.Fault.TheVariants.{NoThread}
-use Rattle.fak_kernel.specs.Faults.{IsOfLoop}
+use Rattle.fak_processor.specs.Faults.{IsOfLoop}
 use Rattle.fak_process.specs.ListScheduler.{turn_over}
-use Rattle.fak_kernel.specs.Processors.{ObjectsOf, ProcessorOf, IsReached, lists_of}
-use Rattle.fak_kernel.specs.Begun.{Between, IsLeftBy}
+use Rattle.fak_processor.specs.Processors.{ObjectsOf, ProcessorOf, IsReached, lists_of}
+use Rattle.fak_processor.specs.Begun.{Between, IsLeftBy}
 
 -- a run on 1 to 8 processors answers this fault
 abbrev pub IsOfRun : Bool → Fault → Type 0

@@ -4,9 +4,9 @@ ghost use Rattle.std.specs.Prelude.{◌≡◌, ◌<◌, ◌≤◌, [], ℕ, vec_
 ghost use Rattle.fak_process.specs.ListScheduler.{turn_over};
 ghost use Rattle.fak_process.specs.Report.{ListSchedulerReports};
 ghost use Rattle.fak_process.specs.RunReports.{RunReports};
-ghost use Rattle.fak_kernel.specs.Processors.{AreFor, IsReached, ProcessorOf, lists_of};
-ghost use Rattle.fak_kernel.specs.Opened.{AreSeated};
-ghost use Rattle.fak_kernel.specs.Begun.{IsLeftBy};
+ghost use Rattle.fak_processor.specs.Processors.{AreFor, IsReached, ProcessorOf, lists_of};
+ghost use Rattle.fak_processor.specs.Opened.{AreSeated};
+ghost use Rattle.fak_processor.specs.Begun.{IsLeftBy};
 ghost use Rattle.fak_process.specs.Told.{told_report};
 ghost use Rattle.fak_process.specs.Views.{report_of};
 
@@ -15,9 +15,9 @@ pub mod gathering;
 pub mod joining;
 pub mod reporting;
 
-use crate::objects::Objects;
-use crate::processor::Processor;
+use closing::close;
 use fak_process::{Fault, Report, Run};
+use fak_processor::{Objects, Processor};
 use fak_text::Script;
 use gathering::gather;
 use reporting::{report_with, rows_of};
@@ -48,7 +48,7 @@ pub(crate) fn report_of_run<K: Run>(
     ensures memory { IfErr result (λ fault. fault ≡ Fault.Memory) }
 {
     let all = gather(alloc, &objects, left)?;
-    let remains = objects.close(alloc, all.tallies, script.files())?;
+    let remains = close(alloc, objects, all.tallies, script.files())?;
     let rows = rows_of(alloc, all.ended, all.halted, remains.asleep)?;
     Ok(report_with(script, rows, remains.entries))
 }

@@ -1,16 +1,12 @@
 //! Processors that share objects: scripts are run, and what became of each process is reported, as a `Report` or as its text.
 #![tactic(auto)]
 
-mod alarm;
 mod ending;
-mod gate;
-mod objects;
-mod processor;
 mod run_threads;
 mod running;
 
 pub use fak_model::FileEntry;
 pub use fak_process::{Fault, Outcome, Printed, ProcessRow, Report, laws, report_text};
-pub use gate::{FreeGate, Gate};
+pub use fak_processor::{FreeGate, Gate};
 pub use run_threads::{run, run_to_text};
 pub use running::{run_one, run_one_to_text};

@@ -1,7 +1,7 @@
 //! Runs on several processors, a thread for each.
 
 ghost use Rattle.std.specs.Prelude.{◌≡◌, Err, IfOk, IfErr};
-ghost use Rattle.fak_kernel.specs.Opened.{AreProcessors};
+ghost use Rattle.fak_processor.specs.Opened.{AreProcessors};
 ghost use Rattle.fak_process.specs.Report.{ListSchedulerReports};
 ghost use Rattle.fak_process.specs.ReportText.{ListSchedulerPrints, RunPrints};
 ghost use Rattle.fak_process.specs.RunReports.{RunReports};
@@ -13,10 +13,9 @@ mod answering;
 mod leaving;
 
 use crate::ending::report_of_run;
-use crate::gate::Gate;
-use crate::objects::opening::{Opened, open_run};
 use answering::all_left;
 use fak_process::{Fault, Printed, Report, Run, print_brief, told_in_full};
+use fak_processor::{Gate, Opened, open_run};
 use fak_text::Script;
 use leaving::leave_all;
 use std::alloc::Global;

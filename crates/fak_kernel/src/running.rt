@@ -1,9 +1,9 @@
 //! Runs of scripts on one processor.
 
 ghost use Rattle.std.specs.Prelude.{◌≡◌, ◌<◌, vec_len, slice_index_or, IfOk, IfErr};
-ghost use Rattle.fak_kernel.specs.Faults.{IsOfStep};
-ghost use Rattle.fak_kernel.specs.Opened.{AreSeated};
-ghost use Rattle.fak_kernel.specs.Processors.{AreFor, ProcessorOf};
+ghost use Rattle.fak_processor.specs.Faults.{IsOfStep};
+ghost use Rattle.fak_processor.specs.Opened.{AreSeated};
+ghost use Rattle.fak_processor.specs.Processors.{AreFor, ProcessorOf};
 ghost use Rattle.fak_process.specs.Report.{ListSchedulerReports};
 ghost use Rattle.fak_process.specs.ReportText.{ListSchedulerPrints, RunPrints};
 ghost use Rattle.fak_process.specs.RunReports.{RunReports};
@@ -12,11 +12,8 @@ ghost use Rattle.fak_process.specs.Told.{told_report};
 ghost use Rattle.fak_process.specs.Views.{report_of};
 
 use crate::ending::report_of_run;
-use crate::gate::FreeGate;
-use crate::objects::Objects;
-use crate::objects::opening::{Opened, open_run};
-use crate::processor::Processor;
 use fak_process::{Fault, Printed, Report, Run, print_brief, told_in_full};
+use fak_processor::{FreeGate, Objects, Opened, Processor, open_run};
 use fak_text::Script;
 use std::alloc::Global;
 use std::marker::Brand;

@@ -4,16 +4,15 @@ ghost use Rattle.std.specs.Prelude.{◌≡◌, ◌++◌, length, IfOk, IfErr};
 ghost use Rattle.std.specs.List.{All};
 ghost use Rattle.fak_model.specs.Seats.{IsWhole};
 ghost use Rattle.fak_files.specs.Calls.{entries_after};
-ghost use Rattle.fak_kernel.specs.Processors.{ids_of};
-ghost use Rattle.fak_kernel.specs.Joined.{AreTalliesOf, ids_of_tallies};
+ghost use Rattle.fak_processor.specs.Processors.{ids_of};
+ghost use Rattle.fak_processor.specs.Joined.{AreTalliesOf, ids_of_tallies};
 ghost use Rattle.fak_kernel.specs.Closing.{AreClosed, IsSleeper, IsWholeAt};
 
 use crate::ending::joining::Tallies;
-use crate::objects::Objects;
-use crate::objects::semaphores::Semaphores;
 use fak_files::FileRest;
 use fak_model::FileEntry;
 use fak_process::{Context, Fault, Run, Sleeper};
+use fak_processor::{Objects, Semaphores};
 use fak_queue::Rest;
 use fak_sem::{SemTally, Semaphore};
 use std::alloc::Global;
@@ -73,44 +72,42 @@ fn read_entries(alloc: Global, rest: &FileRest, count: u64) -> Result<Vec<FileEn
     Ok(entries)
 }
 
-impl<K: Run> Objects<K> {
-    /// Closes the objects, whose file table has so many entries, once all seats are joined.
-    #[tactic(auto, using(crate::proofs::Closing::length_entries))]
-    pub(crate) fn close(
-        self,
-        alloc: Global,
-        tallies: Tallies<K>,
-        count: u64,
-    ) -> Result<Remains<K>, Fault>
-        requires tallies { AreTalliesOf self tallies }
-        requires semaphores { All IsWholeAt tallies.semaphores }
-        requires files { IsWhole tallies.files.object.seats tallies.files.names }
-        requires count { count ≡ self.files.entries }
-        ensures closed { IfOk result (λ left. AreClosed K.script tallies.semaphores left.asleep.items) }
-        ensures entries { IfOk result (λ left. left.entries.items ≡ entries_after tallies.files.seen 0 self.files.entries) }
-        ensures memory { IfErr result (λ fault. fault ≡ Fault.Memory) }
-    {
-        let Objects {
-            ready: _,
-            free: _,
-            semaphores,
-            births: _,
-            busy: _,
-            files,
-            alarm: _,
-        } = self;
-        let Semaphores { all: semaphores } = semaphores;
-        let Tallies {
-            ready: _,
-            free: _,
-            births: _,
-            busy: _,
-            semaphores: tallies,
-            files: file_tally,
-        } = tallies;
-        let asleep = close_each(alloc, semaphores, tallies)?;
-        let rest = files.close(file_tally);
-        let entries = read_entries(alloc, &rest, count)?;
-        Ok(Remains { asleep, entries })
-    }
+/// Closes the objects, whose file table has so many entries, once all seats are joined.
+#[tactic(auto, using(crate::proofs::Closing::length_entries))]
+pub(crate) fn close<K: Run>(
+    alloc: Global,
+    objects: Objects<K>,
+    tallies: Tallies<K>,
+    count: u64,
+) -> Result<Remains<K>, Fault>
+    requires tallies { AreTalliesOf objects tallies }
+    requires semaphores { All IsWholeAt tallies.semaphores }
+    requires files { IsWhole tallies.files.object.seats tallies.files.names }
+    requires count { count ≡ objects.files.entries }
+    ensures closed { IfOk result (λ left. AreClosed K.script tallies.semaphores left.asleep.items) }
+    ensures entries { IfOk result (λ left. left.entries.items ≡ entries_after tallies.files.seen 0 objects.files.entries) }
+    ensures memory { IfErr result (λ fault. fault ≡ Fault.Memory) }
+{
+    let Objects {
+        ready: _,
+        free: _,
+        semaphores,
+        births: _,
+        busy: _,
+        files,
+        alarm: _,
+    } = objects;
+    let Semaphores { all: semaphores } = semaphores;
+    let Tallies {
+        ready: _,
+        free: _,
+        births: _,
+        busy: _,
+        semaphores: tallies,
+        files: file_tally,
+    } = tallies;
+    let asleep = close_each(alloc, semaphores, tallies)?;
+    let rest = files.close(file_tally);
+    let entries = read_entries(alloc, &rest, count)?;
+    Ok(Remains { asleep, entries })
 }

@@ -1,14 +1,13 @@
 //! How the seats of all processors are gathered.
 
 ghost use Rattle.std.specs.Prelude.{◌≡◌, ◌<◌, ◌≤◌, ℕ, vec_len, slice_index_or, IfOk, IfErr};
-ghost use Rattle.fak_kernel.specs.Processors.{AreFor, ProcessorOf};
-ghost use Rattle.fak_kernel.specs.Begun.{IsLeftBy};
+ghost use Rattle.fak_processor.specs.Processors.{AreFor, ProcessorOf};
+ghost use Rattle.fak_processor.specs.Begun.{IsLeftBy};
 ghost use Rattle.fak_kernel.specs.Gathered.{AreGathered, AreOfOne};
 
 use crate::ending::joining::Joined;
-use crate::objects::Objects;
-use crate::processor::Processor;
 use fak_process::{Fault, Run};
+use fak_processor::{Objects, Processor};
 use std::alloc::Global;
 
 /// All processors, in the order of their numbers.

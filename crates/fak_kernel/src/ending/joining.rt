@@ -5,15 +5,13 @@ ghost use Rattle.fak_queue.specs.declared.state.SeatState.TheVariants.{Idle};
 ghost use Rattle.fak_queue.specs.Queues.{state_of};
 ghost use Rattle.fak_files.specs.declared.phase.Hold.TheVariants.{Nothing};
 ghost use Rattle.fak_sem.specs.Semaphores.{sem_tally_of};
-ghost use Rattle.fak_kernel.specs.Processors.{AreOf, ids_of, ids_of_seats};
-ghost use Rattle.fak_kernel.specs.Joined.{AreTalliesOf, JoinAll, JoinEach, first_tallies, ids_of_tallies};
+ghost use Rattle.fak_processor.specs.Processors.{AreOf, ids_of, ids_of_seats};
+ghost use Rattle.fak_processor.specs.Joined.{AreTalliesOf, JoinAll, JoinEach, first_tallies, ids_of_tallies};
 
-use crate::objects::Objects;
-use crate::objects::semaphores::SemSeats;
-use crate::processor::Processor;
 use fak_count::{CreditTally, RoomTally};
 use fak_files::FileTally;
 use fak_process::{Context, Fault, Run, Sleeper, Slot};
+use fak_processor::{Objects, Processor, SemSeats};
 use fak_queue::Tally;
 use fak_sem::{SemTally, Semaphore};
 use std::alloc::Global;
@@ -31,7 +29,7 @@ pub(crate) struct Tallies<K: Run> {
 }
 
 impl<K: Run> Model for Tallies<K> {
-    ghost use Rattle.fak_kernel.specs.Joined.{TalliesOf};
+    ghost use Rattle.fak_processor.specs.Joined.{TalliesOf};
 
     ghost Value = { TalliesOf };
 

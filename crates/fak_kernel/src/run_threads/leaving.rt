@@ -1,13 +1,11 @@
 //! A thread for each processor.
 
 ghost use Rattle.std.specs.Prelude.{◌≡◌, ◌<◌, ℕ, vec_len, slice_index_or, IfOk, IfErr};
-ghost use Rattle.fak_kernel.specs.Processors.{AreFor};
+ghost use Rattle.fak_processor.specs.Processors.{AreFor};
 ghost use Rattle.fak_kernel.specs.Threads.{HasAnswered, HasBegun, IsOfRun};
 
-use crate::gate::Gate;
-use crate::objects::Objects;
-use crate::processor::Processor;
 use fak_process::{Fault, Run};
+use fak_processor::{Gate, Objects, Processor};
 use fak_text::Script;
 use std::alloc::Global;
 use std::marker::{Send, Sync};

@@ -1,0 +1,370 @@
+-- Each kind of event of a turn keeps what balances.
+use Rattle.std.proofs.Common.{◌≡◌, ℕ, ◌+◌, ◌<◌, ◌==◌, Bool, true, false, cond, List, [], ◌∷◌, ◌++◌, refl, ap, sym, ◌∙◌, subst, arith, None, sum_by, All}
+use Rattle.fak_model.proofs.Common.{nat_tests, sum_by-append, All-nil, All-cons, sum_below, debit_weight, credit_weight, up_amount, release_amount, put_of, got_of, close_of, closed_of, refusal_of, other_amount}
+use Rattle.fak_model.specs.declared.queue.Kind.{Kind}
+use Rattle.fak_model.specs.declared.credit.CreditKind.TheVariants.{Debit, Credit}
+use Rattle.fak_model.proofs.Leading.{sum_none}
+use Rattle.fak_model.proofs.Deciding.{cond_here, cond_else}
+use Rattle.fak_queue.specs.Retries.{kinds_in, kinds_out}
+use Rattle.fak_text.proofs.Common.{ScriptOf, StepOf, down, up, spawn, shutdown, NoteOf, downed, upped, spawned, no_birth, no_slot, shut_down, Process, child_count, after_note, FitsScript}
+use Rattle.fak_processor.proofs.Common.{child_of, next_step, RowOf, IsIdle}
+use Rattle.fak_process.specs.Ledger.{Ledger, Made, Balanced, IsMade, FitsRow, nothing, not_before, its_down, before_down}
+use Rattle.fak_processor.specs.Events.{made_of, IsPlain, fills, takes, puts, halts, steps, passes, parks, adds, wakes, spawns, lacks_birth, lacks_slot, ends, waits_refused, shuts, closed, refused_claim}
+use Rattle.fak_processor.proofs.Moving.{quiet_empty, idle_closed}
+use Rattle.fak_process.proofs.Sums.{sum_at}
+
+-- no wait queue
+pub none_waits : (n : ℕ) → sum_below (λ (s : ℕ). 0) n ≡ 0
+none_waits n = sum_none (λ (s : ℕ). 0) n (λ s. refl)
+
+-- one wait queue alone
+pub waiting_at : (w : Kind Process → ℕ) (kinds : List (Kind Process)) (s n : ℕ) → s < n → sum_below (λ t. sum_by w (cond (s == t) kinds [])) n ≡ sum_by w kinds
+waiting_at w kinds s n below =
+    sum_at (λ t. sum_by w (cond (s == t) kinds [])) s n below (λ t d. ap (sum_by w) (cond_else s t kinds [] (λ e. d (sym e)))) ∙ ap (sum_by w) (cond_here s kinds [])
+
+-- what is in hand may be told otherwise, as long as it weighs as much
+pub in_other_hands : {script : ScriptOf} {n : ℕ} {before after before' after' : List Process} {l : Ledger} → Balanced script n before after l
+    → ((f : Process → ℕ) → sum_by f after' + sum_by f before ≡ sum_by f before' + sum_by f after) → Balanced script n before' after' l
+in_other_hands b weighs = record {
+  processes = λ f. omega (arith, b.processes f, weighs f);
+  slots = b.slots;
+  children = b.children;
+  new = b.new;
+  births = b.births;
+  busy = b.busy;
+  semaphores = b.semaphores;
+  shutdown = b.shutdown;
+  made = b.made;
+  rows = b.rows;
+}
+
+-- who holds more processes still holds them
+pub balanced-beside : {script : ScriptOf} {n : ℕ} {before after : List Process} {l : Ledger} (others : List Process) → Balanced script n before after l → Balanced script n (before ++ others) (after ++ others) l
+balanced-beside {before = before} {after = after} others b = in_other_hands b (λ f. omega (arith, sum_by-append f before others, sum_by-append f after others))
+
+-- ---- what refused calls weigh, refused at the test or at the add
+
+record ClosedWeighs (T : Type 0) (late : Bool) : Type 0 where
+  pub idle : IsIdle {T = T} (closed late)
+  pub closes : sum_by close_of (closed {A = T} late) ≡ 0
+  pub closeds : sum_by closed_of (closed {A = T} late) ≡ 1
+
+closed_weighs : {T : Type 0} (late : Bool) → ClosedWeighs T late
+closed_weighs true = record { idle = idle_closed true; closes = refl; closeds = refl }
+closed_weighs false = record { idle = idle_closed false; closes = refl; closeds = refl }
+
+record RefusedClaimWeighs (late : Bool) : Type 0 where
+  pub ups : sum_by up_amount (refused_claim late) ≡ 0
+  pub releases : sum_by release_amount (refused_claim late) ≡ 0
+  pub refusals : sum_by refusal_of (refused_claim late) ≡ 1
+  pub others : sum_by other_amount (refused_claim late) ≡ 0
+
+refused_claim_weighs : (late : Bool) → RefusedClaimWeighs late
+refused_claim_weighs true = record { ups = refl; releases = refl; refusals = refl; others = refl }
+refused_claim_weighs false = record { ups = refl; releases = refl; refusals = refl; others = refl }
+
+module _ (script : ScriptOf) (n : ℕ) where
+  -- nothing was done
+  pub quiet : Balanced script n [] [] nothing
+  quiet = record {
+    processes = λ f. omega arith;
+    slots = λ g. omega arith;
+    children = λ g. refl;
+    new = omega arith;
+    births = record { ups = omega arith; releases = refl; refusals = refl; ones = refl };
+    busy = record { credits = omega (arith, none_waits n); debits = omega (arith, none_waits n) };
+    semaphores = record { downs = λ s below. omega (arith, none_waits n); upped = λ s below. refl; parked = λ s below. refl };
+    shutdown = record { shuts = refl; halts = refl; no_stuck = refl };
+    made = All-nil (IsMade script);
+    rows = All-nil (FitsRow script);
+  }
+
+  one_made : (m : Made) → IsMade script m → All (IsMade script) (m ∷ [])
+  one_made m is = All-cons (IsMade script) m [] is (All-nil (IsMade script))
+
+  one_row : (r : RowOf) → FitsRow script r → All (FitsRow script) (r ∷ [])
+  one_row r fits = All-cons (FitsRow script) r [] fits (All-nil (FitsRow script))
+
+  -- a first slot
+  pub keeps_fills : (k slot : ℕ) → Balanced script n [] [] (fills k slot)
+  keeps_fills k slot = record {
+    processes = quiet.processes;
+    slots = λ g. omega arith;
+    children = quiet.children;
+    new = quiet.new;
+    births = quiet.births;
+    busy = quiet.busy;
+    semaphores = quiet.semaphores;
+    shutdown = quiet.shutdown;
+    made = quiet.made;
+    rows = quiet.rows;
+  }
+
+  -- a process is taken
+  pub keeps_takes : (k : ℕ) (p : Process) → Balanced script n [] (p ∷ []) (takes k p)
+  keeps_takes k p = record {
+    processes = λ f. omega (arith, none_waits n);
+    slots = quiet.slots;
+    children = quiet.children;
+    new = quiet.new;
+    births = quiet.births;
+    busy = quiet.busy;
+    semaphores = quiet.semaphores;
+    shutdown = record { shuts = refl; halts = refl; no_stuck = refl };
+    made = quiet.made;
+    rows = quiet.rows;
+  }
+
+  -- a process is put
+  pub keeps_puts : (k : ℕ) (p : Process) → Balanced script n (p ∷ []) [] (puts k p)
+  keeps_puts k p = record {
+    processes = λ f. omega (arith, none_waits n);
+    slots = quiet.slots;
+    children = quiet.children;
+    new = quiet.new;
+    births = quiet.births;
+    busy = quiet.busy;
+    semaphores = quiet.semaphores;
+    shutdown = record { shuts = refl; halts = refl; no_stuck = refl };
+    made = quiet.made;
+    rows = quiet.rows;
+  }
+
+  -- the ready queue is shut
+  pub keeps_halts : (late : Bool) (p : Process) → FitsScript script p → Balanced script n (p ∷ []) [] (halts late p)
+  keeps_halts late p fits = let c = closed_weighs {T = Process} late in record {
+    processes = λ f. omega (arith, none_waits n, c.idle.puts f, c.idle.gots f);
+    slots = λ g. omega arith;
+    children = quiet.children;
+    new = quiet.new;
+    births = quiet.births;
+    busy = record { credits = quiet.busy.credits; debits = omega (arith, none_waits n) };
+    semaphores = quiet.semaphores;
+    shutdown = record { shuts = c.closes; halts = omega (arith, c.closeds); no_stuck = omega arith };
+    made = quiet.made;
+    rows = one_row _ (record { process = fits; stands = tt });
+  }
+
+  -- a plain step
+  pub keeps_steps : (p : Process) (step : StepOf) (note : NoteOf) → IsMade script (made_of p step note) → IsPlain step note → Balanced script n (p ∷ []) (after_note p note ∷ []) (steps p step note)
+  keeps_steps p step note is plain = record {
+    processes = λ f. omega (arith, none_waits n);
+    slots = quiet.slots;
+    children = λ g. sym (ap (λ c. 0 + sum_by g c) (plain.childless p.name));
+    new = quiet.new;
+    births = record { ups = omega (arith, plain.births, plain.no_slots); releases = omega (arith, plain.no_slots); refusals = omega (arith, plain.no_births); ones = quiet.births.ones };
+    busy = quiet.busy;
+    semaphores = record { downs = λ s below. omega (arith, plain.downs s, none_waits n); upped = λ s below. omega (arith, plain.ups s); parked = quiet.semaphores.parked };
+    shutdown = record { shuts = omega (arith, plain.shuts); halts = quiet.shutdown.halts; no_stuck = quiet.shutdown.no_stuck };
+    made = one_made _ is;
+    rows = quiet.rows;
+  }
+
+  -- a down passes
+  pub keeps_passes : (s : ℕ) (p : Process) → IsMade script (made_of p (down s) (downed s)) → Balanced script n (p ∷ []) (after_note p (downed s) ∷ []) (passes s p)
+  keeps_passes s p is = record {
+    processes = λ f. omega (arith, none_waits n);
+    slots = quiet.slots;
+    children = λ g. refl;
+    new = quiet.new;
+    births = record { ups = omega arith; releases = omega arith; refusals = omega arith; ones = quiet.births.ones };
+    busy = quiet.busy;
+    semaphores = record { downs = λ t below. by_test (s == t); upped = λ t below. by_ups (s == t); parked = quiet.semaphores.parked };
+    shutdown = record { shuts = omega arith; halts = quiet.shutdown.halts; no_stuck = quiet.shutdown.no_stuck };
+    made = one_made _ is;
+    rows = quiet.rows;
+  }
+    where
+      by_test : (b : Bool) → 0 + cond b 1 0 + 0 ≡ sum_by debit_weight (cond b (Debit ∷ []) []) + sum_below (λ (u : ℕ). 0) n
+      by_test true = omega (arith, none_waits n)
+      by_test false = omega (arith, none_waits n)
+
+      by_ups : (b : Bool) → ◌≡◌ {A = ℕ} 0 (sum_by credit_weight (cond b (Debit ∷ []) []))
+      by_ups true = omega arith
+      by_ups false = omega arith
+
+  -- a down parks the process
+  pub keeps_parks : (s k : ℕ) (p : Process) → s < n → not_before script s p ≡ 0 → Balanced script n (p ∷ []) [] (parks s k p)
+  keeps_parks s k p below stands = record {
+    processes = λ f. omega (arith, waiting_at (put_of f) (kinds_in k p) s n below, waiting_at (got_of f) (kinds_in k p) s n below);
+    slots = quiet.slots;
+    children = quiet.children;
+    new = quiet.new;
+    births = quiet.births;
+    busy = record { credits = omega (arith, waiting_at (got_of (λ (q : Process). 1)) (kinds_in k p) s n below); debits = omega (arith, waiting_at (put_of (λ (q : Process). 1)) (kinds_in k p) s n below) };
+    semaphores = record { downs = λ t lt. omega (arith, by_test (s == t), waiting_at (got_of (before_down script t)) (kinds_in k p) s n below); upped = λ t lt. by_ups (s == t); parked = λ t lt. by_parked t (s == t) refl };
+    shutdown = quiet.shutdown;
+    made = quiet.made;
+    rows = quiet.rows;
+  }
+    where
+      by_test : (b : Bool) → 0 + sum_by (put_of (λ (q : Process). 1)) (cond b (kinds_in k p) []) ≡ sum_by debit_weight (cond b (Debit ∷ []) []) + 0
+      by_test true = omega arith
+      by_test false = omega arith
+
+      by_ups : (b : Bool) → ◌≡◌ {A = ℕ} 0 (sum_by credit_weight (cond b (Debit ∷ []) []))
+      by_ups true = omega arith
+      by_ups false = omega arith
+
+      by_parked : (t : ℕ) (b : Bool) → (s == t) ≡ b → sum_by (put_of (not_before script t)) (cond b (kinds_in k p) []) ≡ 0
+      by_parked t true is = (let same : s ≡ t = grind (arith, nat_tests) in let stands_t : not_before script t p ≡ 0 = subst (λ u. not_before script u p ≡ 0) same stands in omega (arith, stands_t))
+      by_parked t false is = omega arith
+
+  -- an up wakes nobody
+  pub keeps_adds : (s : ℕ) (p : Process) → IsMade script (made_of p (up s) (upped s)) → Balanced script n (p ∷ []) (after_note p (upped s) ∷ []) (adds s p)
+  keeps_adds s p is = record {
+    processes = λ f. omega (arith, none_waits n);
+    slots = quiet.slots;
+    children = λ g. refl;
+    new = quiet.new;
+    births = record { ups = omega arith; releases = omega arith; refusals = omega arith; ones = quiet.births.ones };
+    busy = quiet.busy;
+    semaphores = record { downs = λ t below. by_test (s == t); upped = λ t below. by_ups (s == t); parked = quiet.semaphores.parked };
+    shutdown = record { shuts = omega arith; halts = quiet.shutdown.halts; no_stuck = quiet.shutdown.no_stuck };
+    made = one_made _ is;
+    rows = quiet.rows;
+  }
+    where
+      by_test : (b : Bool) → ◌≡◌ {A = ℕ} 0 (sum_by debit_weight (cond b (Credit ∷ []) []) + sum_below (λ (u : ℕ). 0) n)
+      by_test true = omega (arith, none_waits n)
+      by_test false = omega (arith, none_waits n)
+
+      by_ups : (b : Bool) → 0 + cond b 1 0 ≡ sum_by credit_weight (cond b (Credit ∷ []) [])
+      by_ups true = omega arith
+      by_ups false = omega arith
+
+  -- an up wakes q
+  pub keeps_wakes : (s k : ℕ) (p q : Process) (t : ℕ) → s < n → IsMade script (made_of q (down t) (downed t)) → IsMade script (made_of p (up s) (upped s)) → Balanced script n (p ∷ []) (after_note p (upped s) ∷ after_note q (downed t) ∷ []) (wakes s k p q t)
+  keeps_wakes s k p q t below q_is p_is = record {
+    processes = λ f. omega (arith, waiting_at (put_of f) (kinds_out k q) s n below, waiting_at (got_of f) (kinds_out k q) s n below);
+    slots = quiet.slots;
+    children = λ g. refl;
+    new = quiet.new;
+    births = record { ups = omega arith; releases = omega arith; refusals = omega arith; ones = quiet.births.ones };
+    busy = record { credits = omega (arith, waiting_at (got_of (λ (r : Process). 1)) (kinds_out k q) s n below); debits = omega (arith, waiting_at (put_of (λ (r : Process). 1)) (kinds_out k q) s n below) };
+    semaphores = record {
+      downs = λ u lt. omega (arith, by_test (s == u), waiting_at (got_of (before_down script u)) (kinds_out k q) s n below, ap (its_down u) q_is.stands);
+      upped = λ u lt. by_ups (s == u);
+      parked = λ u lt. by_parked u (s == u);
+    };
+    shutdown = record { shuts = omega arith; halts = quiet.shutdown.halts; no_stuck = quiet.shutdown.no_stuck };
+    made = All-cons (IsMade script) (made_of q (down t) (downed t)) (made_of p (up s) (upped s) ∷ []) q_is (one_made _ p_is);
+    rows = quiet.rows;
+  }
+    where
+      by_test : (b : Bool) → sum_by (put_of (λ (r : Process). 1)) (cond b (kinds_out k q) []) ≡ sum_by debit_weight (cond b (Credit ∷ []) [])
+      by_test true = omega arith
+      by_test false = omega arith
+
+      by_ups : (b : Bool) → 0 + 0 + cond b 1 0 ≡ sum_by credit_weight (cond b (Credit ∷ []) [])
+      by_ups true = omega arith
+      by_ups false = omega arith
+
+      by_parked : (u : ℕ) (b : Bool) → sum_by (put_of (not_before script u)) (cond b (kinds_out k q) []) ≡ 0
+      by_parked u true = omega arith
+      by_parked u false = omega arith
+
+  -- a spawn
+  pub keeps_spawns : (k : ℕ) (p : Process) (program slot : ℕ) → IsMade script (made_of p (spawn program) (spawned (child_count p.journal))) → Balanced script n (p ∷ []) (after_note p (spawned (child_count p.journal)) ∷ child_of p program slot ∷ []) (spawns k p program slot)
+  keeps_spawns k p program slot is = record {
+    processes = λ f. omega (arith, none_waits n);
+    slots = λ g. omega arith;
+    children = λ g. omega arith;
+    new = omega arith;
+    births = record { ups = omega arith; releases = omega arith; refusals = omega arith; ones = omega arith };
+    busy = record { credits = omega (arith, none_waits n); debits = quiet.busy.debits };
+    semaphores = record { downs = λ t below. omega (arith, none_waits n); upped = λ t below. omega arith; parked = quiet.semaphores.parked };
+    shutdown = record { shuts = omega arith; halts = quiet.shutdown.halts; no_stuck = quiet.shutdown.no_stuck };
+    made = one_made _ is;
+    rows = quiet.rows;
+  }
+
+  -- a spawn that gets no birth
+  pub keeps_lacks_birth : (late : Bool) (p : Process) (program : ℕ) → IsMade script (made_of p (spawn program) no_birth) → Balanced script n (p ∷ []) (after_note p no_birth ∷ []) (lacks_birth late p program)
+  keeps_lacks_birth late p program is = let r = refused_claim_weighs late in record {
+    processes = λ f. omega (arith, none_waits n);
+    slots = quiet.slots;
+    children = λ g. refl;
+    new = quiet.new;
+    births = record { ups = omega (arith, r.ups); releases = omega (arith, r.releases); refusals = omega (arith, r.refusals); ones = r.others };
+    busy = quiet.busy;
+    semaphores = record { downs = λ t below. omega (arith, none_waits n); upped = λ t below. omega arith; parked = quiet.semaphores.parked };
+    shutdown = record { shuts = omega arith; halts = quiet.shutdown.halts; no_stuck = quiet.shutdown.no_stuck };
+    made = one_made _ is;
+    rows = quiet.rows;
+  }
+
+  -- a spawn that gets no slot
+  pub keeps_lacks_slot : (late : Bool) (p : Process) (program : ℕ) → IsMade script (made_of p (spawn program) no_slot) → Balanced script n (p ∷ []) (after_note p no_slot ∷ []) (lacks_slot late p program)
+  keeps_lacks_slot late p program is = let e = (quiet_empty {T = ℕ} late).idle in record {
+    processes = λ f. omega (arith, none_waits n);
+    slots = λ g. omega (arith, e.puts g, e.gots g);
+    children = λ g. refl;
+    new = quiet.new;
+    births = record { ups = omega arith; releases = omega arith; refusals = omega arith; ones = omega arith };
+    busy = quiet.busy;
+    semaphores = record { downs = λ t below. omega (arith, none_waits n); upped = λ t below. omega arith; parked = quiet.semaphores.parked };
+    shutdown = record { shuts = omega arith; halts = quiet.shutdown.halts; no_stuck = quiet.shutdown.no_stuck };
+    made = one_made _ is;
+    rows = quiet.rows;
+  }
+
+  -- a process ends
+  pub keeps_ends : (k : ℕ) (p : Process) → FitsScript script p → next_step script p ≡ None → Balanced script n (p ∷ []) [] (ends k p)
+  keeps_ends k p fits over = record {
+    processes = λ f. omega (arith, none_waits n);
+    slots = λ g. omega arith;
+    children = quiet.children;
+    new = quiet.new;
+    births = quiet.births;
+    busy = record { credits = quiet.busy.credits; debits = omega (arith, none_waits n) };
+    semaphores = quiet.semaphores;
+    shutdown = record { shuts = quiet.shutdown.shuts; halts = omega arith; no_stuck = omega arith };
+    made = quiet.made;
+    rows = one_row _ (record { process = fits; stands = over });
+  }
+
+  -- a shutdown
+  pub keeps_shuts : (p : Process) → IsMade script (made_of p shutdown shut_down) → Balanced script n (p ∷ []) (after_note p shut_down ∷ []) (shuts p)
+  keeps_shuts p is = record {
+    processes = λ f. omega (arith, none_waits n);
+    slots = quiet.slots;
+    children = λ g. refl;
+    new = quiet.new;
+    births = record { ups = omega arith; releases = omega arith; refusals = omega arith; ones = quiet.births.ones };
+    busy = quiet.busy;
+    semaphores = record { downs = λ t below. omega (arith, none_waits n); upped = λ t below. omega arith; parked = quiet.semaphores.parked };
+    shutdown = record { shuts = omega arith; halts = omega arith; no_stuck = quiet.shutdown.no_stuck };
+    made = one_made _ is;
+    rows = quiet.rows;
+  }
+
+  -- refused calls on a wait queue: kinds that put and get nothing
+  pub keeps_waits_refused : (s : ℕ) (kinds : List (Kind Process)) → s < n → ((f : Process → ℕ) → (sum_by (put_of f) kinds ≡ 0) × (sum_by (got_of f) kinds ≡ 0)) → Balanced script n [] [] (waits_refused s kinds)
+  keeps_waits_refused s kinds below none = record {
+    processes = λ f. omega (arith, waiting_at (put_of f) kinds s n below, waiting_at (got_of f) kinds s n below, (none f).0, (none f).1);
+    slots = quiet.slots;
+    children = quiet.children;
+    new = quiet.new;
+    births = quiet.births;
+    busy = record {
+      credits = omega (arith, waiting_at (got_of (λ (q : Process). 1)) kinds s n below, (none (λ (q : Process). 1)).1);
+      debits = omega (arith, waiting_at (put_of (λ (q : Process). 1)) kinds s n below, (none (λ (q : Process). 1)).0);
+    };
+    semaphores = record {
+      downs = λ t lt. omega (arith, by_test (s == t), waiting_at (got_of (before_down script t)) kinds s n below, (none (before_down script t)).1);
+      upped = quiet.semaphores.upped;
+      parked = λ t lt. by_parked t (s == t);
+    };
+    shutdown = quiet.shutdown;
+    made = quiet.made;
+    rows = quiet.rows;
+  }
+    where
+      by_test : (b : Bool) → sum_by (put_of (λ (q : Process). 1)) (cond b kinds []) ≡ 0
+      by_test true = (none (λ (q : Process). 1)).0
+      by_test false = refl
+
+      by_parked : (t : ℕ) (b : Bool) → sum_by (put_of (not_before script t)) (cond b kinds []) ≡ 0
+      by_parked t true = (none (not_before script t)).0
+      by_parked t false = refl

@@ -1,0 +1,151 @@
+-- Processors with seats as they are opened: what they know, and the lists that the list scheduler has where there is one.
+use Rattle.std.proofs.Common.{◌≡◌, ℕ, zero, suc, ◌+◌, ◌-◌, ◌<◌, List, [], ◌∷◌, All, length, map, replicate, get_or, slice_index_or, refl, ap, sym, ◌∙◌, subst, arith, false}
+use Rattle.fak_model.proofs.Common.{length-replicate, All-nil, All-cons, All-head, All-tail, ObjectId, seat_info, credit_rules, queue_rules, room_rules}
+use Rattle.fak_model.specs.declared.file.FileEntry.{FileEntry}
+use Rattle.fak_model.specs.declared.file.FileMark.{FileMark}
+use Rattle.fak_model.specs.declared.credit.CreditMark.{CreditMark}
+use Rattle.fak_model.specs.declared.room.RoomMark.{RoomMark}
+use Rattle.fak_model.specs.declared.queue.Mark.{Mark}
+use Rattle.fak_model.specs.Credit as credit
+use Rattle.fak_model.specs.Room as room
+use Rattle.fak_files.specs.Calls.{entries_after}
+use Rattle.fak_sem.specs.Semaphores.{SemId, SemInfo, SemSeatInfo, credit_part, queue_part}
+use Rattle.fak_text.proofs.Common.{ScriptOf, down, Process, StandsAt}
+use Rattle.fak_processor.proofs.Common.{free_entry, nothing, Owns, queue_kind, IsOnly, ObjectsOf, AreFor, AreOf, GoesTo, IsAlone, ids_of, ids_of_seats, bundle_of, Between, empty_lists}
+use Rattle.fak_processor.specs.Turning.{Turning}
+use Rattle.fak_processor.specs.OnlyCounts.{IsOnlySem, semaphore_count, sleepers_of}
+use Rattle.fak_processor.specs.Joined.{no_seat, no_table}
+use Rattle.fak_processor.specs.Opened.{AreSeated, HasName, fresh_processor, fresh_sem_at}
+use Rattle.fak_processor.proofs.Events.{quiet}
+use Rattle.fak_processor.proofs.Tallies.{owns_fresh}
+use Rattle.fak_process.proofs.Holding.{lines_none}
+
+-- ---- among any number of processors
+
+fresh_credits : (stint name : ℕ) (ids : List SemId) (s : ℕ) → Owns credit_rules credit.kind_of (credit_part (get_or (map (fresh_sem_at stint name) ids) s no_seat)) []
+fresh_credits stint name [] s = owns_fresh credit_rules credit.kind_of no_table 0 0
+fresh_credits stint name (o ∷ ids) zero = owns_fresh credit_rules credit.kind_of o.credit name stint
+fresh_credits stint name (o ∷ ids) (suc s) = fresh_credits stint name ids s
+
+fresh_waits : (size stint name : ℕ) (ids : List SemId) (s : ℕ) → Owns (queue_rules size) queue_kind (queue_part (get_or (map (fresh_sem_at stint name) ids) s no_seat)) []
+fresh_waits size stint name [] s = owns_fresh (queue_rules size) queue_kind no_table 0 0
+fresh_waits size stint name (o ∷ ids) zero = owns_fresh (queue_rules size) queue_kind o.queue name stint
+fresh_waits size stint name (o ∷ ids) (suc s) = fresh_waits size stint name ids s
+
+fresh_ids : (stint name : ℕ) (ids : List SemId) → ids_of_seats (map (fresh_sem_at stint name) ids) ≡ ids
+fresh_ids stint name [] = refl
+fresh_ids stint name (o ∷ ids) = ap (λ l. o ∷ l) (fresh_ids stint name ids)
+
+fresh_names : (stint name : ℕ) (ids : List SemId) (k : ℕ) (d : SemSeatInfo Process) → k < length (map (fresh_sem_at stint name) ids) → (get_or (map (fresh_sem_at stint name) ids) k d).name ≡ name
+fresh_names stint name [] k d below = absurd (omega (arith, below))
+fresh_names stint name (o ∷ ids) zero d below = refl
+fresh_names stint name (o ∷ ids) (suc k) d below = fresh_names stint name ids k d (omega (arith, below))
+
+module _ (o : ObjectsOf) (stint name : ℕ) where
+  pub fresh_are : AreOf o (fresh_processor o stint name)
+  fresh_are = record {
+    ready = refl;
+    ready_idle = refl;
+    free = refl;
+    free_idle = refl;
+    semaphores = fresh_ids stint name (ids_of o.semaphores);
+    births = refl;
+    busy = refl;
+    files = refl;
+    files_free = refl;
+    copy = length-replicate o.files.entries free_entry;
+  }
+
+  pub fresh_name : HasName name (fresh_processor o stint name)
+  fresh_name = record { ready = refl; free = refl; births = refl; busy = refl; semaphores = fresh_names stint name (ids_of o.semaphores); files = refl }
+
+  pub fresh_turning : (script : ScriptOf) → Turning script (bundle_of no_seat (fresh_processor o stint name)) nothing []
+  fresh_turning script = record {
+    balanced = quiet script (length script.semaphores);
+    ready = owns_fresh (queue_rules script.slots) queue_kind o.ready.object name stint;
+    free = owns_fresh (queue_rules script.slots) queue_kind o.free.object name stint;
+    births = owns_fresh (room_rules script.births) room.kind_of o.births.object name stint;
+    busy = owns_fresh credit_rules credit.kind_of o.busy.object name stint;
+    credits = λ s below. fresh_credits stint name (ids_of o.semaphores) s;
+    waits = λ s below. fresh_waits script.slots stint name (ids_of o.semaphores) s;
+  }
+
+-- another processor than the first begins nothing
+pub fresh_between : (script : ScriptOf) (o : ObjectsOf) (stint m : ℕ) → Between script o (suc m) (fresh_processor o stint (suc m))
+fresh_between script o stint m = record {
+  are = fresh_are o stint (suc m);
+  is = fresh_name o stint (suc m);
+  ledger = nothing;
+  first = (refl, refl);
+  turning = fresh_turning o stint (suc m) script;
+  rows = λ f. omega arith;
+  lines = lines_none o.files.entries o.files.object (suc m) stint;
+}
+
+-- ---- the only processor
+
+only_fresh : {M : Type 0} (seat_of : M → ℕ) (o : ObjectId) (stint : ℕ) → o.seats ≡ 1 → IsOnly seat_of (seat_info o 0 stint [])
+only_fresh {M} seat_of o stint one = record { one = one; name = refl; named = All-nil (λ (m : M). seat_of m < 1) }
+
+sem_fresh : (stint : ℕ) (o : SemId) → o.credit.seats ≡ 1 → o.queue.seats ≡ 1 → IsOnlySem (fresh_sem_at stint 0 o)
+sem_fresh stint o credits waits = record {
+  credit = only_fresh (λ (m : CreditMark). m.seat) o.credit stint credits;
+  queue = only_fresh (λ (m : Mark Process). m.seat) o.queue stint waits;
+  owed = omega arith;
+}
+
+sems_fresh : (stint : ℕ) (sems : List SemInfo) → All (λ (s : SemInfo). s.object.credit.seats ≡ 1) sems → All (λ (s : SemInfo). s.object.queue.seats ≡ 1) sems → All IsOnlySem (map (fresh_sem_at stint 0) (ids_of sems))
+sems_fresh stint [] credits waits = All-nil IsOnlySem
+sems_fresh stint (s ∷ sems) credits waits =
+    let c : All (λ (s : SemInfo). s.object.credit.seats ≡ 1) sems = All-tail (λ (s : SemInfo). s.object.credit.seats ≡ 1) s sems credits in
+    let w : All (λ (s : SemInfo). s.object.queue.seats ≡ 1) sems = All-tail (λ (s : SemInfo). s.object.queue.seats ≡ 1) s sems waits in
+    let one : IsOnlySem (fresh_sem_at stint 0 s.object) = sem_fresh stint s.object (All-head (λ (s : SemInfo). s.object.credit.seats ≡ 1) s sems credits) (All-head (λ (s : SemInfo). s.object.queue.seats ≡ 1) s sems waits) in
+    All-cons IsOnlySem (fresh_sem_at stint 0 s.object) (map (fresh_sem_at stint 0) (ids_of sems)) one (sems_fresh stint sems c w)
+
+nobody_at : (stint : ℕ) (ids : List SemId) (n : ℕ) → slice_index_or (map sleepers_of (map (fresh_sem_at stint 0) ids)) n [] ≡ []
+nobody_at stint [] n = refl
+nobody_at stint (o ∷ ids) zero = refl
+nobody_at stint (o ∷ ids) (suc n) = nobody_at stint ids n
+
+counts_fresh : (stint : ℕ) (sems : List SemInfo) → map semaphore_count (map (fresh_sem_at stint 0) (ids_of sems)) ≡ map (λ (s : SemInfo). s.object.start) sems
+counts_fresh stint [] = refl
+counts_fresh stint (s ∷ sems) = let here : (s.object.start + 0) - 0 ≡ s.object.start = omega arith in ap (λ n. n ∷ map semaphore_count (map (fresh_sem_at stint 0) (ids_of sems))) here ∙ ap (λ l. s.object.start ∷ l) (counts_fresh stint sems)
+
+sleepers_fresh : (stint : ℕ) (sems : List SemInfo) → map sleepers_of (map (fresh_sem_at stint 0) (ids_of sems)) ≡ map (λ _. []) (map (λ (s : SemInfo). s.object.start) sems)
+sleepers_fresh stint [] = refl
+sleepers_fresh stint (s ∷ sems) = ap (λ (l : List (List Process)). [] ∷ l) (sleepers_fresh stint sems)
+
+entries_fresh : (from count : ℕ) → entries_after [] from count ≡ replicate count free_entry
+entries_fresh from zero = refl
+entries_fresh from (suc n) = ap (λ (l : List FileEntry). free_entry ∷ l) (entries_fresh (suc from) n)
+
+module _ (script : ScriptOf) (o : ObjectsOf) (stint : ℕ) where
+  fresh_alone : AreSeated 1 o → IsAlone script (fresh_processor o stint 0)
+  fresh_alone one = record {
+    ready = record { only = only_fresh (λ (m : Mark Process). m.seat) o.ready.object stint one.ready; rest = refl };
+    free = record { only = only_fresh (λ (m : Mark ℕ). m.seat) o.free.object stint one.free; rest = refl };
+    semaphores = sems_fresh stint o.semaphores one.credits one.waits;
+    asleep = λ n. subst (All (λ p. StandsAt script p (down n))) (sym (nobody_at stint (ids_of o.semaphores) n)) (All-nil (λ p. StandsAt script p (down n)));
+    births = record { only = only_fresh (λ (m : RoomMark). m.seat) o.births.object stint one.births; held = refl };
+    files = only_fresh (λ (m : FileMark). m.seat) o.files.object stint one.files;
+  }
+
+  -- where there is one processor, it begins with the list scheduler's lists, but for who is ready and which slots are free
+  pub fresh_goes : AreFor script o → AreSeated 1 o → GoesTo script (fresh_processor o stint 0) (empty_lists script)
+  fresh_goes made one =
+      let counts = counts_fresh stint o.semaphores ∙ made.starts in
+      let sleepers = sleepers_fresh stint o.semaphores ∙ ap (map (λ _. [])) made.starts in
+      record {
+        alone = fresh_alone one;
+        lists_are = λ i. record {
+          ready = [];
+          free_slots = [];
+          counts = counts i;
+          sleepers = sleepers i;
+          entries = entries_fresh 0 script.files i;
+          births = 0;
+          is_shut = false;
+          ended = [];
+          halted = [];
+        };
+      }

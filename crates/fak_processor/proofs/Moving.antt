@@ -1,0 +1,235 @@
+-- How calls of a processor add to its seats' own marks and to its rows.
+use Rattle.std.proofs.Common.{◌≡◌, ◌⊎◌, ℕ, ◌<◌, Bool, true, false, List, [], ◌++◌, length, map, slice_index_or, slice_set, refl, ap, sym, ◌∙◌, subst, arith, inl, inr, append_assoc, ℤ}
+use Rattle.std.proofs.lemmas.Bool.{cases_eq}
+use Rattle.std.proofs.lemmas.List.{append-nil, map-append, get_or_default, get_or-set_same, get_or-set_other}
+use Rattle.fak_model.proofs.Common.{sum_by-append, filter-append, SeatInfo, queue_rules, room_rules, credit_rules, put_of, got_of, close_of, closed_of}
+use Rattle.fak_model.specs.declared.queue.Kind.{Kind}
+use Rattle.fak_model.specs.declared.queue.Mark.{Mark}
+use Rattle.fak_model.specs.declared.room.RoomKind.{RoomKind}
+use Rattle.fak_model.specs.declared.room.RoomKind.TheVariants.{No}
+use Rattle.fak_model.specs.declared.room.RoomMark.{RoomMark}
+use Rattle.fak_model.specs.declared.credit.CreditKind.{CreditKind}
+use Rattle.fak_model.specs.declared.credit.CreditMark.{CreditMark}
+use Rattle.fak_model.specs.declared.file.FileMark.{FileMark}
+use Rattle.fak_model.specs.Room as room
+use Rattle.fak_model.specs.Credit as credit
+use Rattle.fak_model.proofs.Deciding.{cond_here, cond_else}
+use Rattle.fak_count.specs.Rooms as rooms
+use Rattle.fak_queue.proofs.Common.{RefusesFull, RefusesEmpty, RefusesClosed, Inserts, Deletes, kinds_in}
+use Rattle.fak_sem.specs.Semaphores.{SemSeatInfo, credit_part, queue_part}
+use Rattle.fak_text.proofs.Common.{ScriptOf, NoteOf, Process}
+use Rattle.fak_processor.proofs.Common.{Ledger, Made, nothing, joined, queue_kind, Bundle, ProcessorOf, AreLines, is_file_line, file_lines}
+use Rattle.fak_processor.specs.Events.{full, empty, closed, refused_claim}
+use Rattle.fak_processor.specs.Turning.{Grows, Adds}
+use Rattle.fak_processor.specs.Moving.{IsIdle, IsQuiet, GrowsIn, GrowsShut, GrowsAtLast, GrowsIdle, GrowsEmpty, GrowsOut, GrowsNone, bundle_of, names_of, files_of, Gains, at_one}
+use Rattle.fak_processor.proofs.Places.{alike_after}
+use Rattle.fak_processor.proofs.Calls.{grows_same, grows_inserts, grows_deletes, grows_full, grows_empty, grows_closed, grows_room, grows_withdraws}
+use Rattle.fak_processor.proofs.Growing.{grows_then}
+
+-- ---- marks that weigh nothing
+
+pub idle_none : {T : Type 0} → IsIdle {T = T} []
+idle_none = record { puts = λ f. refl; gots = λ f. refl }
+
+pub idle_then : {T : Type 0} {ks ms : List (Kind T)} → IsIdle ks → IsIdle ms → IsIdle (ks ++ ms)
+idle_then {ks = ks} {ms = ms} a b = record {
+  puts = λ f. omega (arith, a.puts f, b.puts f, sum_by-append (put_of f) ks ms);
+  gots = λ f. omega (arith, a.gots f, b.gots f, sum_by-append (got_of f) ks ms);
+}
+
+pub quiet_none : {T : Type 0} → IsQuiet {T = T} []
+quiet_none = record { idle = idle_none; closes = refl; closeds = refl }
+
+pub quiet_then : {T : Type 0} {ks ms : List (Kind T)} → IsQuiet ks → IsQuiet ms → IsQuiet (ks ++ ms)
+quiet_then {ks = ks} {ms = ms} a b = record {
+  idle = idle_then a.idle b.idle;
+  closes = omega (arith, a.closes, b.closes, sum_by-append close_of ks ms);
+  closeds = omega (arith, a.closeds, b.closeds, sum_by-append closed_of ks ms);
+}
+
+pub quiet_full : {T : Type 0} (late : Bool) → IsQuiet {T = T} (full late)
+quiet_full true = record { idle = record { puts = λ f. refl; gots = λ f. refl }; closes = refl; closeds = refl }
+quiet_full false = record { idle = record { puts = λ f. refl; gots = λ f. refl }; closes = refl; closeds = refl }
+
+pub quiet_empty : {T : Type 0} (late : Bool) → IsQuiet {T = T} (empty late)
+quiet_empty true = record { idle = record { puts = λ f. refl; gots = λ f. refl }; closes = refl; closeds = refl }
+quiet_empty false = record { idle = record { puts = λ f. refl; gots = λ f. refl }; closes = refl; closeds = refl }
+
+pub idle_closed : {T : Type 0} (late : Bool) → IsIdle {T = T} (closed late)
+idle_closed true = record { puts = λ f. refl; gots = λ f. refl }
+idle_closed false = record { puts = λ f. refl; gots = λ f. refl }
+
+-- ---- calls on one queue
+
+module _ {T : Type 0} {size : ℕ} where
+  pub none_yet : (s : SeatInfo (Mark T)) → GrowsNone size s s
+  none_yet s = record { refused = []; quiet = quiet_none; grows = grows_same (queue_rules size) queue_kind s }
+
+  pub full_again : {a b c : SeatInfo (Mark T)} {upper : _} → GrowsNone size a b → RefusesFull size upper b c → GrowsNone size a c
+  full_again n r = let g = grows_full r in record { refused = n.refused ++ full g.0; quiet = quiet_then n.quiet (quiet_full g.0); grows = grows_then n.refused (full g.0) n.grows g.1 }
+
+  pub in_at_last : {a b c : SeatInfo (Mark T)} {k : ℕ} {x : T} → GrowsNone size a b → Inserts size k x b c → GrowsIn size x a c
+  in_at_last {k = k} {x = x} n i = record { refused = n.refused; quiet = n.quiet; ticket = k; grows = grows_then n.refused (kinds_in k x) n.grows (grows_inserts i) }
+
+  pub shut_at_last : {a b c : SeatInfo (Mark T)} → GrowsNone size a b → RefusesClosed size b c → GrowsShut size a c
+  shut_at_last {b = b} {c = c} n r = let g = grows_closed b c r in record { refused = n.refused; quiet = n.quiet; late = g.0; grows = grows_then n.refused (closed g.0) n.grows g.1 }
+
+  pub idle_yet : (s : SeatInfo (Mark T)) → GrowsIdle size s s
+  idle_yet s = record { refused = []; idle = idle_none; grows = grows_same (queue_rules size) queue_kind s }
+
+  pub shut_again : {a b c : SeatInfo (Mark T)} → GrowsIdle size a b → GrowsShut size b c → GrowsIdle size a c
+  shut_again n g = record { refused = n.refused ++ (g.refused ++ closed g.late); idle = idle_then n.idle (idle_then g.quiet.idle (idle_closed g.late)); grows = grows_then n.refused (g.refused ++ closed g.late) n.grows g.grows }
+
+  pub put_at_last : {a b c : SeatInfo (Mark T)} {x : T} → GrowsIdle size a b → GrowsIn size x b c → GrowsAtLast size x a c
+  put_at_last {a} {b} {c} {x} n g = record {
+    refused = n.refused ++ g.refused;
+    idle = idle_then n.idle g.quiet.idle;
+    ticket = g.ticket;
+    grows = subst (Grows (queue_rules size) queue_kind a c) (sym (append_assoc n.refused g.refused (kinds_in g.ticket x))) (grows_then n.refused (g.refused ++ kinds_in g.ticket x) n.grows g.grows);
+  }
+
+  pub out_at_once : {a b : SeatInfo (Mark T)} {k : ℕ} {x : T} → Deletes size k x a b → GrowsOut size x a b
+  out_at_once {k = k} d = record { ticket = k; grows = grows_deletes d }
+
+  pub none_there : {a b : SeatInfo (Mark T)} {lower : _} → RefusesEmpty size lower a b → GrowsEmpty size a b
+  none_there r = let g = grows_empty r in record { late = g.0; grows = g.1 }
+
+pub refused_grows : {room_is : rooms.RoomInfo} {old new : SeatInfo RoomMark} {v : ℤ} → rooms.MakesCall (No 1) room_is old new v ⊎ rooms.Withdraws 1 room_is old new v → (late : Bool) × Grows (room_rules room_is.bound) room.kind_of old new (refused_claim late)
+refused_grows (inl m) = (false, grows_room m)
+refused_grows (inr w) = (true, grows_withdraws w)
+
+-- ---- a processor
+
+-- no line is made
+no_lines : (n : ℕ) (seat : SeatInfo FileMark) (before : List NoteOf) → AreLines n before seat → AreLines n (before ++ []) seat
+no_lines n seat before are = subst (λ ls. AreLines n ls seat) (sym (append-nil before)) are
+
+-- the lines of two ledgers
+pub files_then : (a b : Ledger) → files_of (joined a b) ≡ files_of a ++ files_of b
+files_then a b = ap file_lines (map-append (λ (m : Made). m.note) a.made b.made) ∙ filter-append is_file_line (map (λ (m : Made). m.note) a.made) (map (λ (m : Made). m.note) b.made)
+
+module _ {script : ScriptOf} where
+  pub adds_none : (b : Bundle) → Adds script b b nothing
+  adds_none b = record {
+    ready = grows_same (queue_rules script.slots) queue_kind b.ready;
+    free = grows_same (queue_rules script.slots) queue_kind b.free;
+    births = grows_same (room_rules script.births) room.kind_of b.births;
+    busy = grows_same credit_rules credit.kind_of b.busy;
+    credits = λ s below. grows_same credit_rules credit.kind_of (credit_part (b.sems s));
+    waits = λ s below. grows_same (queue_rules script.slots) queue_kind (queue_part (b.sems s));
+  }
+
+  pub gains_none : (p : ProcessorOf) → Gains script p p nothing
+  gains_none p = record { names = refl; adds = λ d. adds_none (bundle_of d p); rows = λ f. omega arith; lines = no_lines script.files p.files.seat }
+
+  -- one after the other
+  pub gains_then : {p q r : ProcessorOf} (a b : Ledger) → Gains script p q a → Gains script q r b → Gains script p r (joined a b)
+  gains_then {r = r} a b x y = record {
+    adds = λ d. let m = x.adds d in let n = y.adds d in record {
+      ready = grows_then a.ready b.ready m.ready n.ready;
+      free = grows_then a.free b.free m.free n.free;
+      births = grows_then a.births b.births m.births n.births;
+      busy = grows_then a.busy b.busy m.busy n.busy;
+      credits = λ s below. grows_then (a.credits s) (b.credits s) (m.credits s below) (n.credits s below);
+      waits = λ s below. grows_then (a.waits s) (b.waits s) (m.waits s below) (n.waits s below);
+    };
+    rows = λ f. omega (arith, x.rows f, y.rows f, sum_by-append f a.rows b.rows);
+    names = y.names ∙ x.names;
+    lines = λ before are. subst (λ ls. AreLines script.files ls r.files.seat) (append_assoc before (files_of a) (files_of b) ∙ ap (λ ls. before ++ ls) (sym (files_then a b))) (y.lines (before ++ files_of a) (x.lines before are));
+  }
+
+  -- one seat alone
+  pub gains_ready : (p : ProcessorOf) {size : ℕ} {s : SeatInfo (Mark Process)} (kinds : List (Kind Process)) → size ≡ script.slots → Grows (queue_rules size) queue_kind p.ready s kinds → Gains script p (record p { ready = s }) (record nothing { ready = kinds })
+  gains_ready p {s = s} kinds size_is g = record {
+    adds = λ d. record {
+      ready = subst (λ n. Grows (queue_rules n) queue_kind p.ready s kinds) size_is g;
+      free = grows_same (queue_rules script.slots) queue_kind p.free;
+      births = grows_same (room_rules script.births) room.kind_of p.births;
+      busy = grows_same credit_rules credit.kind_of p.busy;
+      credits = λ s below. grows_same credit_rules credit.kind_of (credit_part (slice_index_or p.semaphores s d));
+      waits = λ s below. grows_same (queue_rules script.slots) queue_kind (queue_part (slice_index_or p.semaphores s d));
+    };
+    rows = λ f. omega arith;
+    names = ap (λ (n : ℕ). record (names_of p) { ready = n }) g.name;
+    lines = no_lines script.files p.files.seat;
+  }
+
+  pub gains_free : (p : ProcessorOf) {size : ℕ} {s : SeatInfo (Mark ℕ)} (kinds : List (Kind ℕ)) → size ≡ script.slots → Grows (queue_rules size) queue_kind p.free s kinds → Gains script p (record p { free = s }) (record nothing { free = kinds })
+  gains_free p {s = s} kinds size_is g = record {
+    adds = λ d. record {
+      ready = grows_same (queue_rules script.slots) queue_kind p.ready;
+      free = subst (λ n. Grows (queue_rules n) queue_kind p.free s kinds) size_is g;
+      births = grows_same (room_rules script.births) room.kind_of p.births;
+      busy = grows_same credit_rules credit.kind_of p.busy;
+      credits = λ s below. grows_same credit_rules credit.kind_of (credit_part (slice_index_or p.semaphores s d));
+      waits = λ s below. grows_same (queue_rules script.slots) queue_kind (queue_part (slice_index_or p.semaphores s d));
+    };
+    rows = λ f. omega arith;
+    names = ap (λ (n : ℕ). record (names_of p) { free = n }) g.name;
+    lines = no_lines script.files p.files.seat;
+  }
+
+  pub gains_births : (p : ProcessorOf) {bound : ℕ} {s : SeatInfo RoomMark} (kinds : List RoomKind) → bound ≡ script.births → Grows (room_rules bound) room.kind_of p.births s kinds → Gains script p (record p { births = s }) (record nothing { births = kinds })
+  gains_births p {s = s} kinds bound_is g = record {
+    adds = λ d. record {
+      ready = grows_same (queue_rules script.slots) queue_kind p.ready;
+      free = grows_same (queue_rules script.slots) queue_kind p.free;
+      births = subst (λ n. Grows (room_rules n) room.kind_of p.births s kinds) bound_is g;
+      busy = grows_same credit_rules credit.kind_of p.busy;
+      credits = λ s below. grows_same credit_rules credit.kind_of (credit_part (slice_index_or p.semaphores s d));
+      waits = λ s below. grows_same (queue_rules script.slots) queue_kind (queue_part (slice_index_or p.semaphores s d));
+    };
+    rows = λ f. omega arith;
+    names = ap (λ (n : ℕ). record (names_of p) { births = n }) g.name;
+    lines = no_lines script.files p.files.seat;
+  }
+
+  pub gains_busy : (p : ProcessorOf) {s : SeatInfo CreditMark} (kinds : List CreditKind) → Grows credit_rules credit.kind_of p.busy s kinds → Gains script p (record p { busy = s }) (record nothing { busy = kinds })
+  gains_busy p {s = s} kinds g = record {
+    adds = λ d. record {
+      ready = grows_same (queue_rules script.slots) queue_kind p.ready;
+      free = grows_same (queue_rules script.slots) queue_kind p.free;
+      births = grows_same (room_rules script.births) room.kind_of p.births;
+      busy = g;
+      credits = λ s below. grows_same credit_rules credit.kind_of (credit_part (slice_index_or p.semaphores s d));
+      waits = λ s below. grows_same (queue_rules script.slots) queue_kind (queue_part (slice_index_or p.semaphores s d));
+    };
+    rows = λ f. omega arith;
+    names = ap (λ (n : ℕ). record (names_of p) { busy = n }) g.name;
+    lines = no_lines script.files p.files.seat;
+  }
+
+  -- the calls of one semaphore
+  pub gains_semaphore : (p : ProcessorOf) {size at : ℕ} (was is : SemSeatInfo Process) (seats : List (SemSeatInfo Process)) (credits : List CreditKind) (waits : List (Kind Process)) → at < length p.semaphores
+      → size ≡ script.slots → was ≡ slice_index_or p.semaphores at was → seats ≡ slice_set p.semaphores at is
+      → Grows credit_rules credit.kind_of (credit_part was) (credit_part is) credits → Grows (queue_rules size) queue_kind (queue_part was) (queue_part is) waits
+      → Gains script p (record p { semaphores = seats }) (record nothing { credits = at_one at credits; waits = at_one at waits })
+  gains_semaphore p {size} {at} was is seats credits waits below size_is stood stands g w = record {
+    adds = λ d. record {
+      ready = grows_same (queue_rules script.slots) queue_kind p.ready;
+      free = grows_same (queue_rules script.slots) queue_kind p.free;
+      births = grows_same (room_rules script.births) room.kind_of p.births;
+      busy = grows_same credit_rules credit.kind_of p.busy;
+      credits = λ s low. place (λ a b ks. Grows credit_rules credit.kind_of (credit_part a) (credit_part b) ks) credits d s (λ a. grows_same credit_rules credit.kind_of (credit_part a)) g;
+      waits = λ s low. place (λ a b ks. Grows (queue_rules script.slots) queue_kind (queue_part a) (queue_part b) ks) waits d s (λ a. grows_same (queue_rules script.slots) queue_kind (queue_part a))
+          (subst (λ n. Grows (queue_rules n) queue_kind (queue_part was) (queue_part is) waits) size_is w);
+    };
+    rows = λ f. omega arith;
+    names = ap (λ (ns : List ℕ). record (names_of p) { semaphores = ns }) (ap (map (λ (s : SemSeatInfo Process). s.name)) stands ∙ alike_after (λ (s : SemSeatInfo Process). s.name) p.semaphores at was is stood g.name);
+    lines = no_lines script.files p.files.seat;
+  }
+    where
+      old_at : (d : SemSeatInfo Process) → slice_index_or p.semaphores at d ≡ was
+      old_at d = get_or_default p.semaphores at d was below ∙ sym stood
+
+      new_at : (d : SemSeatInfo Process) → slice_index_or seats at d ≡ is
+      new_at d = ap (λ l. slice_index_or l at d) stands ∙ get_or-set_same p.semaphores at is d below
+
+      place : {K : Type 0} (P : SemSeatInfo Process → SemSeatInfo Process → List K → Type 0) (kinds : List K) (d : SemSeatInfo Process) (s : ℕ) → ((a : SemSeatInfo Process) → P a a []) → P was is kinds
+          → P (slice_index_or p.semaphores s d) (slice_index_or seats s d) (at_one at kinds s)
+      place P kinds d s same made = elim (cases_eq s at) [
+        | inl e ↦ subst (λ t. P (slice_index_or p.semaphores t d) (slice_index_or seats t d) (at_one at kinds t)) (sym e)
+            (subst (λ a. P a (slice_index_or seats at d) (at_one at kinds at)) (sym (old_at d)) (subst (λ b. P was b (at_one at kinds at)) (sym (new_at d)) (subst (P was is) (sym (cond_here at kinds [])) made)))
+        | inr n ↦ subst (λ b. P (slice_index_or p.semaphores s d) b (at_one at kinds s)) (sym (ap (λ l. slice_index_or l s d) stands ∙ get_or-set_other p.semaphores at s is d n))
+            (subst (P (slice_index_or p.semaphores s d) (slice_index_or p.semaphores s d)) (sym (cond_else at s kinds [] (λ e. n (sym e)))) (same (slice_index_or p.semaphores s d)))
+      ]

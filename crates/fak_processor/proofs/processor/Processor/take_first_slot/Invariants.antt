@@ -1,0 +1,11 @@
+use Rattle.fak_processor.specs.Processors.{AreOf, GoesTo, IsAlone, lists_of}
+use Rattle.fak_processor.specs.Begun.{FindsNoSlot}
+use Rattle.fak_processor.proofs.processor.Processor.take_first_slot.Given as goal
+
+-- so far no slot was free
+abbrev pub invariant-loop : goal.invariant-loop
+invariant-loop g l =
+    ((goal.iterator-loop g).can_next l.iterator' × (goal.iterator-loop g).is_finite l.iterator')
+    × AreOf l.objects l.self
+    × FindsNoSlot g.K.Run.script l.initial.self l.self
+    × (IsAlone g.K.Run.script l.initial.self → GoesTo g.K.Run.script l.self (lists_of g.K.Run.script l.initial.self))

@@ -1,0 +1,31 @@
+use Rattle.std.proofs.Common.{◌∙◌, subst, refl}
+use Rattle.fak_processor.proofs.Common.{Enters, GrowsAtLast}
+use Rattle.fak_processor.proofs.Moving.{idle_yet, shut_again, put_at_last}
+use Rattle.fak_processor.proofs.OnlyQueues.{keeps_then, keeps_enters}
+use Rattle.fak_processor.proofs.processor.entering.put.Goals as goal
+
+pub returns-in-Ok-None-clause-only : goal.returns-in-Ok-None-clause-only
+returns-in-Ok-None-clause-only g c = λ o.
+    let k = c.loop.invariant.6 o in
+    let e = rw c.in-Ok-None.field-0-is at c.in-Ok-None.ensures.only in
+    subst (λ (x : g.row.T.Denot). Enters x c.args.seat.now c.enter.new.seat) c.loop.invariant.4 (keeps_enters k (e k.only))
+
+pub loop-preserved : goal.loop-preserved
+loop-preserved g c =
+    let e = rw c.in-Ok-Some.field-0-is at c.in-Ok-Some.ensures.only in (
+      (tt, tt),
+      c.in-Ok-Some.ensures.object ∙ c.loop.invariant.1,
+      c.loop.invariant.2,
+      c.in-Ok-Some.ensures.idle,
+      (rw c.in-Ok-Some.field-0-is at c.in-Ok-Some.ensures.same) ∙ c.loop.invariant.4,
+      shut_again c.loop.invariant.5 (rw c.in-Ok-Some.field-0-is at c.in-Ok-Some.ensures.grows),
+      λ o. let k = c.loop.invariant.6 o in keeps_then k (e k.only).1.keeps,
+    )
+
+pub loop-init : goal.loop-init
+loop-init g c = ((tt, tt), refl, c.requires.object, c.requires.idle, refl, idle_yet c.args.seat.now, λ o. record { only = o; items = refl; shut = refl })
+
+pub returns-in-Ok-None-clause-grows : goal.returns-in-Ok-None-clause-grows
+returns-in-Ok-None-clause-grows g c =
+    let e = rw c.in-Ok-None.field-0-is at c.in-Ok-None.ensures.grows in
+    subst (λ (x : g.row.T.Denot). GrowsAtLast c.args.queue.now.size x c.args.seat.now c.enter.new.seat) c.loop.invariant.4 (put_at_last c.loop.invariant.5 e)

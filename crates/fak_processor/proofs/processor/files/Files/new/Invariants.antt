@@ -1,0 +1,6 @@
+use Rattle.std.proofs.Common.{◌≡◌, replicate}
+use Rattle.fak_process.specs.Files.{free_entry}
+use Rattle.fak_processor.proofs.processor.files.Files.new.Given as goal
+
+abbrev pub invariant-loop : goal.invariant-loop
+invariant-loop l = l.entries.items ≡ replicate l.counter free_entry

@@ -1,0 +1,13 @@
+use Rattle.std.proofs.Common.{◌≡◌, ◌<◌, ℕ, [], length, slice_get, Some}
+use Rattle.fak_files.specs.Versions.{entry_of}
+use Rattle.fak_process.specs.Making.{HasJustTaken, Left}
+use Rattle.fak_process.specs.OnlyFiles.{IsOnlyFiles, KeepsFiles}
+use Rattle.fak_processor.proofs.processor.files.Files.refresh.Given as goal
+
+-- the entries below this one were read
+abbrev pub invariant-loop-i : goal.invariant-loop-i
+invariant-loop-i l =
+    (l.seat.seat.object ≡ l.table.object) × (l.seat.hold ≡ l.initial.seat.hold) × (length l.self-inside.entries.items ≡ l.table.entries)
+    × Left [] l.initial.seat.seat l.seat.seat
+    × (HasJustTaken l.initial.seat.seat → (j : ℕ) → j < l.i → slice_get l.self-inside.entries.items j ≡ Some (entry_of l.initial.seat.seat.seen j))
+    × (IsOnlyFiles l.initial.seat → KeepsFiles l.initial.seat l.seat × ((j : ℕ) → j < l.i → slice_get l.self-inside.entries.items j ≡ Some (entry_of l.initial.seat.seat.seen j)))

@@ -1,0 +1,11 @@
+pub mod Faults
+pub mod OnlyQueues
+pub mod OnlyCounts
+pub mod Processors
+pub mod Events
+pub mod Holding
+pub mod Turning
+pub mod Moving
+pub mod Opened
+pub mod Joined
+pub mod Begun

@@ -1,0 +1,50 @@
+//! What the processors of a run share.
+
+pub(crate) mod opening;
+pub(crate) mod semaphores;
+pub(crate) mod starting;
+
+use crate::alarm::Alarm;
+use fak_count::{Credit, Room};
+use fak_files::FileTable;
+use fak_process::{Context, Run, Slot};
+use fak_queue::Queue;
+use semaphores::Semaphores;
+use std::marker::Model;
+
+/// What all processors of a run share.
+#[derive(Drop)]
+pub struct Objects<K: Run> {
+    /// The ready queue.
+    pub ready: Queue<Context<K>>,
+    /// The free slots.
+    pub free: Queue<Slot<K>>,
+    /// The semaphores of the script, with who sleeps there.
+    pub semaphores: Semaphores<K>,
+    /// The births that were used.
+    pub births: Room,
+    /// How many processes are ready or run.
+    pub busy: Credit,
+    /// The file table.
+    pub files: FileTable,
+    /// The word that stops the processors after a fault. Contracts don't see it; it is for as many processors as the ready queue has seats.
+    pub alarm: Alarm,
+}
+
+impl<K: Run> Model for Objects<K> {
+    ghost use Rattle.std.specs.Prelude.{◌≡◌};
+    ghost use Rattle.fak_processor.specs.Processors.{ObjectsOf};
+
+    ghost Value = { ObjectsOf };
+
+    ghost view = { λ o. record {
+      ready = o.ready;
+      free = o.free;
+      semaphores = o.semaphores;
+      births = o.births;
+      busy = o.busy;
+      files = o.files;
+    } };
+
+    ghost invariant = { λ o. o.alarm ≡ o.ready.object.seats };
+}

@@ -1,0 +1,335 @@
+//! How the objects of a run are opened, and their seats dealt to the processors.
+
+ghost use Rattle.std.specs.Prelude.{◌≡◌, ℕ, ◌<◌, ◌≤◌, ◌∷◌, [], ◌++◌, length, map, slice_index_or, vec_len, IfOk, IfErr};
+ghost use Rattle.fak_model.specs.Calls.{fresh_seats};
+ghost use Rattle.fak_sem.specs.Semaphores.{fresh_sem_seats, seats_of};
+ghost use Rattle.fak_files.specs.Calls.{idle_seats};
+ghost use Rattle.fak_processor.specs.Faults.{IsOfStep};
+ghost use Rattle.fak_process.specs.ListScheduler as lists;
+ghost use Rattle.fak_processor.specs.Processors.{AreFor, IsReached, ids_of, lists_of};
+ghost use Rattle.fak_processor.specs.Opened.{AreProcessors, AreSeated, AreSemaphoresFor, dealt_to, fresh_all, fresh_rows, zipped};
+ghost use Rattle.fak_processor.specs.Begun.{Between};
+
+use crate::alarm::Alarm;
+use crate::objects::Objects;
+use crate::objects::semaphores::{SemSeats, Semaphores};
+use crate::processor::Processor;
+use crate::processor::files::Files;
+use fak_count::{Credit, CreditSeat, Room, RoomSeat};
+use fak_files::{FileSeat, FileTable};
+use fak_process::{Context, Fault, Run, Sleeper, Slot};
+use fak_queue::{Queue, Seat};
+use fak_sem::{SemSeat, Semaphore};
+use fak_text::Script;
+use std::alloc::Global;
+use std::sync::Wait;
+
+/// The objects of a run that begins, and its processors, each with a seat of every object.
+#[derive(Drop)]
+pub struct Opened<K: Run> {
+    /// What all processors share.
+    pub objects: Objects<K>,
+    /// The processors, in the order of their numbers.
+    pub processors: Vec<Processor<K>>,
+}
+
+/// Opens the objects of a run, and has processor 0 put the slots in and start the processes.
+///
+/// # Errors
+///
+/// `Memory`, and `Worn` where processor 0 has no calls left.
+pub fn open_run<K: Run, R: Wait>(
+    rt: &R,
+    alloc: Global,
+    script: &Script,
+    processors: u64,
+) -> Result<Opened<K>, Fault>
+    requires script { script.now ≡ K.script }
+    requires processors { AreProcessors processors }
+    ensures made { IfOk result (λ o. AreFor K.script o.objects × AreSeated processors o.objects) }
+    ensures len { IfOk result (λ o. vec_len o.processors ≡ processors) }
+    ensures begun { IfOk result (λ o. (i : ℕ) (d : _) → i < vec_len o.processors
+        → Between K.script o.objects i (slice_index_or o.processors.items i d)) }
+    ensures alone { processors ≡ 1 → IfOk result
+        (λ o. (d : _) → IsReached K.script (slice_index_or o.processors.items 0 d)
+        (lists.turn_over (lists_of K.script (slice_index_or o.processors.items 0 d)))) }
+    ensures fault { IfErr result (λ fault. IsOfStep fault) }
+{
+    let mut opened = open_objects(alloc, script, processors)?;
+    let first = &mut opened.processors[0];
+    first.begin(rt, alloc, script, &opened.objects)?;
+    Ok(opened)
+}
+
+/// The objects of a run, and the processors with new seats.
+fn open_objects<K: Run>(alloc: Global, script: &Script, processors: u64) -> Result<Opened<K>, Fault>
+    requires script { script.now ≡ K.script }
+    requires processors { AreProcessors processors }
+    ensures made { IfOk result (λ o. AreFor K.script o.objects) }
+    ensures seated { IfOk result (λ o. AreSeated processors o.objects) }
+    ensures fresh { IfOk result (λ o. o.processors.items ≡ fresh_all o.objects K.script.stint 0 processors) }
+    ensures memory { IfErr result (λ fault. fault ≡ Fault.Memory) }
+{
+    let (ready, ready_seats) = open_queue(alloc, script, processors)?;
+    let (free, free_seats) = open_queue(alloc, script, processors)?;
+    let (births, birth_seats) = open_births(alloc, script, processors)?;
+    let (busy, busy_seats) = open_busy(alloc, script, processors)?;
+    let (semaphores, rows) = open_semaphores(alloc, script, processors)?;
+    let (files, file_seats) = open_files(alloc, script, processors)?;
+    let entries = script.files();
+    let dealt = zip_seats(
+        alloc,
+        entries,
+        ready_seats,
+        free_seats,
+        birth_seats,
+        busy_seats,
+        rows,
+        file_seats,
+    )?;
+    let objects = Objects {
+        ready,
+        free,
+        semaphores: Semaphores { all: semaphores },
+        births,
+        busy,
+        files,
+        alarm: Alarm::new(processors),
+    };
+    Ok(Opened {
+        objects,
+        processors: dealt,
+    })
+}
+
+/// A queue with a cell for each slot.
+fn open_queue<T: Drop>(
+    alloc: Global,
+    script: &Script,
+    processors: u64,
+) -> Result<(Queue<T>, Vec<Seat<T>>), Fault>
+    requires processors { AreProcessors processors }
+    ensures opened { IfOk result (λ r. (r.0.size ≡ script.now.slots) × (r.0.object.seats ≡ processors)
+        × (r.1.items ≡ fresh_seats r.0.object script.now.stint 0 processors)) }
+    ensures memory { IfErr result (λ fault. fault ≡ Fault.Memory) }
+{
+    match Queue::open(alloc, script.slots(), processors, script.stint()) {
+        Ok(opened) => Ok(opened),
+        Err(fak_queue::OpenFault::Memory) => Err(Fault::Memory),
+        Err(fak_queue::OpenFault::BadSize) => unreachable!(),
+        Err(fak_queue::OpenFault::BadSeats) => unreachable!(),
+        Err(fak_queue::OpenFault::BadStint) => unreachable!(),
+    }
+}
+
+/// The room for births.
+fn open_births(
+    alloc: Global,
+    script: &Script,
+    processors: u64,
+) -> Result<(Room, Vec<RoomSeat>), Fault>
+    requires processors { AreProcessors processors }
+    ensures opened { IfOk result (λ r. (r.0.bound ≡ script.now.births) × (r.0.object.seats ≡ processors)
+        × (r.1.items ≡ fresh_seats r.0.object script.now.stint 0 processors)) }
+    ensures memory { IfErr result (λ fault. fault ≡ Fault.Memory) }
+{
+    match Room::open(alloc, script.births(), processors, script.stint()) {
+        Ok(opened) => Ok(opened),
+        Err(fak_count::OpenFault::Memory) => Err(Fault::Memory),
+        Err(fak_count::OpenFault::BadSize) => unreachable!(),
+        Err(fak_count::OpenFault::BadSeats) => unreachable!(),
+        Err(fak_count::OpenFault::BadStint) => unreachable!(),
+    }
+}
+
+/// The count of the processes that are ready or run.
+fn open_busy(
+    alloc: Global,
+    script: &Script,
+    processors: u64,
+) -> Result<(Credit, Vec<CreditSeat>), Fault>
+    requires processors { AreProcessors processors }
+    ensures opened { IfOk result (λ r. (r.0.start ≡ length script.now.start) × (r.0.object.seats ≡ processors)
+        × (r.1.items ≡ fresh_seats r.0.object script.now.stint 0 processors)) }
+    ensures memory { IfErr result (λ fault. fault ≡ Fault.Memory) }
+{
+    let started = script.start().len() as u64;
+    match Credit::open(alloc, started, processors, script.stint()) {
+        Ok(opened) => Ok(opened),
+        Err(fak_count::OpenFault::Memory) => Err(Fault::Memory),
+        Err(fak_count::OpenFault::BadSize) => unreachable!(),
+        Err(fak_count::OpenFault::BadSeats) => unreachable!(),
+        Err(fak_count::OpenFault::BadStint) => unreachable!(),
+    }
+}
+
+/// The file table.
+fn open_files(
+    alloc: Global,
+    script: &Script,
+    processors: u64,
+) -> Result<(FileTable, Vec<FileSeat>), Fault>
+    requires processors { AreProcessors processors }
+    ensures opened { IfOk result (λ r. (r.0.entries ≡ script.now.files) × (r.0.object.seats ≡ processors)
+        × (r.1.items ≡ idle_seats (fresh_seats r.0.object script.now.stint 0 processors))) }
+    ensures memory { IfErr result (λ fault. fault ≡ Fault.Memory) }
+{
+    match FileTable::open(alloc, script.files(), processors, script.stint()) {
+        Ok(opened) => Ok(opened),
+        Err(fak_files::OpenFault::Memory) => Err(Fault::Memory),
+        Err(fak_files::OpenFault::BadSize) => unreachable!(),
+        Err(fak_files::OpenFault::BadSeats) => unreachable!(),
+        Err(fak_files::OpenFault::BadStint) => unreachable!(),
+    }
+}
+
+/// The semaphores of the script, and a seat of each for each processor.
+fn open_semaphores<K: Run>(
+    alloc: Global,
+    script: &Script,
+    processors: u64,
+) -> Result<(Vec<Semaphore<Sleeper<K>>>, Vec<Vec<SemSeat<Sleeper<K>>>>), Fault>
+    requires processors { AreProcessors processors }
+    ensures opened { IfOk result (λ r. AreSemaphoresFor script.now processors script.now.semaphores r.0.items) }
+    ensures dealt { IfOk result (λ r. map (λ row. row.items) r.1.items ≡ fresh_rows (ids_of r.0.items) script.now.stint 0 processors) }
+    ensures memory { IfErr result (λ fault. fault ≡ Fault.Memory) }
+{
+    let starts = script.semaphores();
+    let mut semaphores = Vec::with_capacity(alloc, starts.len())?;
+    let mut rows = empty_rows(alloc, script.stint(), processors)?;
+    for start in starts {
+        let (semaphore, seats) = open_semaphore(alloc, script, *start, processors)?;
+        rows = deal(alloc, rows, seats)?;
+        semaphores.push(semaphore)?;
+    }
+    Ok((semaphores, rows))
+}
+
+/// A semaphore whose wait queue has a cell for each slot.
+fn open_semaphore<K: Run>(
+    alloc: Global,
+    script: &Script,
+    start: u64,
+    processors: u64,
+) -> Result<(Semaphore<Sleeper<K>>, Vec<SemSeat<Sleeper<K>>>), Fault>
+    requires processors { AreProcessors processors }
+    requires start { start ≤ 1000000 }
+    ensures opened { IfOk result (λ r. (r.0.object.start ≡ start) × (r.0.size ≡ script.now.slots) × (seats_of r.0.object ≡ processors)
+        × (r.0.object.queue.seats ≡ processors)) }
+    ensures seats { IfOk result (λ r. r.1.items ≡ fresh_sem_seats r.0.object script.now.stint 0 processors) }
+    ensures memory { IfErr result (λ fault. fault ≡ Fault.Memory) }
+{
+    match Semaphore::open(alloc, start, script.slots(), processors, script.stint()) {
+        Ok(opened) => Ok(opened),
+        Err(fak_sem::OpenFault::Memory) => Err(Fault::Memory),
+        Err(fak_sem::OpenFault::BadSize) => unreachable!(),
+        Err(fak_sem::OpenFault::BadSeats) => unreachable!(),
+        Err(fak_sem::OpenFault::BadStint) => unreachable!(),
+    }
+}
+
+/// A row with no seat for each processor.
+fn empty_rows<K: Run>(
+    alloc: Global,
+    _stint: u64,
+    processors: u64,
+) -> Result<Vec<Vec<SemSeat<Sleeper<K>>>>, Fault>
+    requires processors { AreProcessors processors }
+    ensures rows { IfOk result (λ rows. map (λ row. row.items) rows.items ≡ fresh_rows [] _stint 0 processors) }
+    ensures memory { IfErr result (λ fault. fault ≡ Fault.Memory) }
+{
+    let mut rows = Vec::with_capacity(alloc, processors as usize)?;
+    for _name in 0..processors {
+        rows.push(Vec::new(alloc))?;
+    }
+    Ok(rows)
+}
+
+/// One more seat for each processor.
+fn deal<K: Run>(
+    alloc: Global,
+    rows: Vec<Vec<SemSeat<Sleeper<K>>>>,
+    seats: Vec<SemSeat<Sleeper<K>>>,
+) -> Result<Vec<Vec<SemSeat<Sleeper<K>>>>, Fault>
+    requires len { length rows.items ≡ length seats.items }
+    ensures dealt { IfOk result (λ dealt. map (λ row. row.items) dealt.items ≡ dealt_to (map (λ row. row.items) rows.items) seats.items) }
+    ensures memory { IfErr result (λ fault. fault ≡ Fault.Memory) }
+{
+    let mut dealt = Vec::with_capacity(alloc, rows.len())?;
+    let mut seats = seats.into_iter();
+    for row in rows {
+        let Some(seat) = seats.next() else {
+            unreachable!()
+        };
+        dealt.push(longer(row, seat)?)?;
+    }
+    Ok(dealt)
+}
+
+/// The row with one more seat.
+fn longer<K: Run>(
+    mut row: Vec<SemSeat<Sleeper<K>>>,
+    seat: SemSeat<Sleeper<K>>,
+) -> Result<Vec<SemSeat<Sleeper<K>>>, Fault>
+    ensures longer { IfOk result (λ longer. longer.items ≡ row.items ++ seat ∷ []) }
+    ensures memory { IfErr result (λ fault. fault ≡ Fault.Memory) }
+{
+    row.push(seat)?;
+    Ok(row)
+}
+
+/// The processors: of each object a seat for each.
+fn zip_seats<K: Run>(
+    alloc: Global,
+    entries: u64,
+    ready: Vec<Seat<Context<K>>>,
+    free: Vec<Seat<Slot<K>>>,
+    births: Vec<RoomSeat>,
+    busy: Vec<CreditSeat>,
+    rows: Vec<Vec<SemSeat<Sleeper<K>>>>,
+    files: Vec<FileSeat>,
+) -> Result<Vec<Processor<K>>, Fault>
+    requires len { (length free.items ≡ length ready.items) × (length births.items ≡ length ready.items)
+        × (length busy.items ≡ length ready.items) × (length rows.items ≡ length ready.items)
+        × (length files.items ≡ length ready.items) }
+    ensures zipped { IfOk result (λ all. all.items ≡ zipped entries ready.items free.items births.items busy.items
+        (map (λ row. row.items) rows.items) files.items) }
+    ensures memory { IfErr result (λ fault. fault ≡ Fault.Memory) }
+{
+    let mut all = Vec::with_capacity(alloc, ready.len())?;
+    let mut free = free.into_iter();
+    let mut births = births.into_iter();
+    let mut busy = busy.into_iter();
+    let mut rows = rows.into_iter();
+    let mut files = files.into_iter();
+    for ready in ready {
+        let Some(free) = free.next() else {
+            unreachable!()
+        };
+        let Some(births) = births.next() else {
+            unreachable!()
+        };
+        let Some(busy) = busy.next() else {
+            unreachable!()
+        };
+        let Some(row) = rows.next() else {
+            unreachable!()
+        };
+        let Some(files) = files.next() else {
+            unreachable!()
+        };
+        let copy = Files::new(alloc, entries)?;
+        all.push(Processor {
+            ready,
+            free,
+            semaphores: SemSeats { all: row },
+            births,
+            busy,
+            files,
+            ended: Vec::new(alloc),
+            halted: Vec::new(alloc),
+            copy,
+        })?;
+    }
+    Ok(all)
+}

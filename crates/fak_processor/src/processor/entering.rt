@@ -1,0 +1,115 @@
+//! Insertions and deletions of a processor.
+
+ghost use Rattle.std.specs.Prelude.{◌≡◌, [], ◌∷◌, MatchOption, IfOk, IfErr, IfSome};
+ghost use Rattle.fak_queue.specs.declared.state.SeatState.TheVariants.{Idle};
+ghost use Rattle.fak_queue.specs.Queues.{state_of};
+ghost use Rattle.fak_processor.specs.OnlyQueues.{IsOnlySeat, Enters, Bounces, Leaves, FindsNone, Shuts};
+ghost use Rattle.fak_model.specs.declared.queue.Kind.TheVariants.{Close};
+ghost use Rattle.fak_model.specs.Queue.{queue_rules};
+ghost use Rattle.fak_processor.specs.Holding.{queue_kind};
+ghost use Rattle.fak_processor.specs.Turning.{Grows};
+ghost use Rattle.fak_processor.specs.Moving.{GrowsAtLast, GrowsEmpty, GrowsIn, GrowsOut, GrowsShut};
+
+use crossbeam_utils::Backoff;
+use fak_process::Fault;
+use fak_queue::{DeleteFault, InsertFault, Queue, Seat};
+use std::sync::Wait;
+
+/// Inserts the item, tried again where the queue is full. Where the queue is shut the item comes back.
+pub fn enter<T: Drop, R: Wait>(
+    queue: &Queue<T>,
+    rt: &R,
+    seat: &mut Seat<T>,
+    item: T,
+) -> Result<Option<T>, Fault>
+    requires object { seat.old.object ≡ queue.now.object }
+    requires idle { state_of seat.old ≡ Idle }
+    ensures object { seat.new.object ≡ seat.old.object }
+    ensures idle { state_of seat.new ≡ Idle }
+    ensures same { IfOk result (λ back. IfSome back (λ x. x ≡ item)) }
+    ensures grows { IfOk result (λ back. MatchOption back (GrowsIn queue.now.size item seat.old seat.new)
+        (λ _. GrowsShut queue.now.size seat.old seat.new)) }
+    ensures only { IsOnlySeat seat.old → IfOk result
+        (λ back. MatchOption back (Enters item seat.old seat.new) (λ x. (x ≡ item) × Bounces seat.old seat.new)) }
+    ensures worn { IfErr result (λ fault. fault ≡ Fault.Worn) }
+{
+    let backoff = Backoff::new();
+    let mut waiting = item;
+    for _ in rt.forever() {
+        match queue.insert(rt, seat, waiting) {
+            Ok(_) => return Ok(None),
+            Err(InsertFault::Worn { item: _ }) => return Err(Fault::Worn),
+            Err(InsertFault::Closed { item }) => return Ok(Some(item)),
+            Err(InsertFault::Full { upper: _, item }) => {
+                waiting = item;
+            }
+        }
+        backoff.snooze();
+    }
+    unreachable!()
+}
+
+/// Inserts the item, tried again where the queue is full or shut.
+pub fn put<T: Drop, R: Wait>(
+    queue: &Queue<T>,
+    rt: &R,
+    seat: &mut Seat<T>,
+    item: T,
+) -> Result<(), Fault>
+    requires object { seat.old.object ≡ queue.now.object }
+    requires idle { state_of seat.old ≡ Idle }
+    ensures object { seat.new.object ≡ seat.old.object }
+    ensures idle { state_of seat.new ≡ Idle }
+    ensures grows { IfOk result (λ _. GrowsAtLast queue.now.size item seat.old seat.new) }
+    ensures only { IsOnlySeat seat.old → IfOk result (λ _. Enters item seat.old seat.new) }
+    ensures worn { IfErr result (λ fault. fault ≡ Fault.Worn) }
+{
+    let backoff = Backoff::new();
+    let mut waiting = item;
+    for _ in rt.forever() {
+        match enter(queue, rt, seat, waiting) {
+            Ok(None) => return Ok(()),
+            Err(fault) => return Err(fault),
+            Ok(Some(back)) => {
+                waiting = back;
+            }
+        }
+        backoff.snooze();
+    }
+    unreachable!()
+}
+
+/// Deletes the oldest item, if there is one.
+pub fn take<T: Drop, R: Wait>(
+    queue: &Queue<T>,
+    rt: &R,
+    seat: &mut Seat<T>,
+) -> Result<Option<T>, Fault>
+    requires object { seat.old.object ≡ queue.now.object }
+    requires idle { state_of seat.old ≡ Idle }
+    ensures object { seat.new.object ≡ seat.old.object }
+    ensures idle { state_of seat.new ≡ Idle }
+    ensures grows { IfOk result (λ found. MatchOption found
+        (GrowsEmpty queue.now.size seat.old seat.new) (λ x. GrowsOut queue.now.size x seat.old seat.new)) }
+    ensures only { IsOnlySeat seat.old → IfOk result
+        (λ found. MatchOption found (FindsNone seat.old seat.new) (λ x. Leaves x seat.old seat.new)) }
+    ensures worn { IfErr result (λ fault. fault ≡ Fault.Worn) }
+{
+    match queue.delete(rt, seat) {
+        Ok((_, item)) => Ok(Some(item)),
+        Err(DeleteFault::Worn) => Err(Fault::Worn),
+        Err(DeleteFault::Empty(_)) => Ok(None),
+    }
+}
+
+/// Shuts the queue.
+pub fn shut<T: Drop>(queue: &Queue<T>, seat: &mut Seat<T>)
+    requires object { seat.old.object ≡ queue.now.object }
+    requires idle { state_of seat.old ≡ Idle }
+    ensures object { seat.new.object ≡ seat.old.object }
+    ensures idle { state_of seat.new ≡ Idle }
+    ensures grows { Grows (queue_rules queue.now.size) queue_kind seat.old seat.new (Close ∷ []) }
+    ensures only { IsOnlySeat seat.old → Shuts seat.old seat.new }
+{
+    queue.shut(seat);
+}

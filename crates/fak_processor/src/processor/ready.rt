@@ -1,0 +1,140 @@
+//! Who enters and leaves the ready queue and the free queue.
+
+ghost use Rattle.std.specs.Prelude.{◌≡◌, [], ◌∷◌, Bool, ℕ, None, true, IfOk, IfErr, MatchOption};
+ghost use Rattle.fak_model.specs.Queue.{contents};
+ghost use Rattle.fak_process.specs.ListScheduler as lists;
+ghost use Rattle.fak_processor.specs.Faults.{IsOfStep};
+ghost use Rattle.fak_processor.specs.Processors.{AreFor, AreOf, IsAlone, GoesOn, GoesTo, HasNoSlot, TakesSlot, lists_of};
+ghost use Rattle.fak_model.specs.declared.queue.Kind.TheVariants.{Close};
+ghost use Rattle.fak_queue.specs.Retries.{kinds_out};
+ghost use Rattle.fak_process.specs.Ledger.{nothing};
+ghost use Rattle.fak_processor.specs.Events.{empty};
+ghost use Rattle.fak_processor.specs.Moving.{Gains, Moves, hand_of};
+
+use crate::objects::Objects;
+use crate::processor::Processor;
+use crate::processor::entering::{enter, put, shut, take};
+use crate::processor::turn::Turn;
+use fak_process::{Context, Fault, Run, Slot};
+use std::sync::Wait;
+
+impl<K: Run> Processor<K> {
+    /// The front of the ready queue gets the processor.
+    pub fn take_front<R: Wait>(
+        &mut self,
+        rt: &R,
+        objects: &Objects<K>,
+    ) -> Result<Option<Turn<K>>, Fault>
+        requires objects { AreOf objects.now self.old }
+        requires made { AreFor K.script objects.now }
+        ensures objects { AreOf objects.now self.new }
+        ensures general { IfOk result (λ running. Moves K.script [] (hand_of running) self.old self.new) }
+        ensures alone { IsAlone K.script self.old
+            → IfOk result (λ running. GoesOn K.script self.new running
+            (lists.take_front (lists_of K.script self.old) (contents self.old.ready.seen))) }
+        ensures fault { IfErr result (λ fault. IsOfStep fault) }
+    {
+        match take(&objects.ready, rt, &mut self.ready) {
+            Err(fault) => return Err(fault),
+            Ok(None) => return Ok(None),
+            Ok(Some(context)) => return Ok(Some(Turn::new(context))),
+        }
+    }
+
+    /// Asks for the memory of one halted process more.
+    pub fn reserve_halted(&mut self) -> Result<(), Fault>
+        ensures same { self.new ≡ self.old }
+        ensures memory { IfErr result (λ fault. fault ≡ Fault.Memory) }
+    {
+        self.halted.reserve(1)?;
+        Ok(())
+    }
+
+    /// A process becomes ready, or halts where the ready queue is shut.
+    pub fn enter_ready<R: Wait>(
+        &mut self,
+        rt: &R,
+        objects: &Objects<K>,
+        context: Context<K>,
+    ) -> Result<(), Fault>
+        requires objects { AreOf objects.now self.old }
+        requires made { AreFor K.script objects.now }
+        ensures objects { AreOf objects.now self.new }
+        ensures general { IfOk result (λ _. Moves K.script (context ∷ []) [] self.old self.new) }
+        ensures alone { IsAlone K.script self.old
+            → IfOk result (λ _. GoesTo K.script self.new (lists.enter_ready (lists_of K.script self.old) context)) }
+        ensures fault { IfErr result (λ fault. IsOfStep fault) }
+    {
+        // The slot is read for the proof alone: reading it tells that the context fits the script.
+        let _slot = context.slot();
+        self.halted.reserve(1)?;
+        match enter(&objects.ready, rt, &mut self.ready, context) {
+            Err(fault) => return Err(fault),
+            Ok(None) => return Ok(()),
+            Ok(Some(back)) => {
+                self.halted.push(back)?;
+                self.debit(objects)?;
+                return Ok(());
+            }
+        }
+    }
+
+    /// A process ends, and its slot goes to the back of the free ones.
+    pub fn end<R: Wait>(
+        &mut self,
+        rt: &R,
+        objects: &Objects<K>,
+        context: Context<K>,
+    ) -> Result<(), Fault>
+        requires objects { AreOf objects.now self.old }
+        requires made { AreFor K.script objects.now }
+        requires over { lists.next_step K.script context ≡ None }
+        ensures objects { AreOf objects.now self.new }
+        ensures general { IfOk result (λ _. Moves K.script (context ∷ []) [] self.old self.new) }
+        ensures alone { IsAlone K.script self.old
+            → IfOk result (λ _. GoesTo K.script self.new (lists.end_process (lists_of K.script self.old) context).lists) }
+        ensures fault { IfErr result (λ fault. IsOfStep fault) }
+    {
+        let slot = Slot::new(context.slot());
+        self.ended.push(context)?;
+        put(&objects.free, rt, &mut self.free, slot)?;
+        self.debit(objects)?;
+        Ok(())
+    }
+
+    /// The front of the free slots is taken.
+    pub fn take_slot<R: Wait>(
+        &mut self,
+        rt: &R,
+        objects: &Objects<K>,
+    ) -> Result<Option<Slot<K>>, Fault>
+        requires objects { AreOf objects.now self.old }
+        requires made { AreFor K.script objects.now }
+        ensures objects { AreOf objects.now self.new }
+        ensures births { self.new.births ≡ self.old.births }
+        ensures gains { IfOk result (λ slot. MatchOption slot
+            ((late : Bool) × Gains K.script self.old self.new (record nothing { free = empty late }))
+            (λ n. (ticket : ℕ) × Gains K.script self.old self.new (record nothing { free = kinds_out ticket n }))) }
+        ensures alone { IsAlone K.script self.old
+            → IfOk result (λ slot. MatchOption slot (HasNoSlot K.script (lists_of K.script self.old) self.new)
+            (λ n. TakesSlot K.script (lists_of K.script self.old) n self.new)) }
+        ensures fault { IfErr result (λ fault. IsOfStep fault) }
+    {
+        match take(&objects.free, rt, &mut self.free) {
+            Err(fault) => return Err(fault),
+            Ok(None) => return Ok(None),
+            Ok(Some(slot)) => return Ok(Some(slot)),
+        }
+    }
+
+    /// The ready queue is shut.
+    pub fn shut_ready(&mut self, objects: &Objects<K>)
+        requires objects { AreOf objects.now self.old }
+        requires made { AreFor K.script objects.now }
+        ensures objects { AreOf objects.now self.new }
+        ensures gains { Gains K.script self.old self.new (record nothing { ready = Close ∷ [] }) }
+        ensures alone { IsAlone K.script self.old → GoesTo K.script self.new (record (lists_of K.script self.old) { is_shut = true }) }
+    {
+        shut(&objects.ready, &mut self.ready);
+    }
+}

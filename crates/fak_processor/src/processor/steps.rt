@@ -1,0 +1,218 @@
+//! What each step does.
+
+ghost use Rattle.std.specs.Prelude.{[], ◌∷◌, ◌<◌, false, length, IfOk, IfErr};
+ghost use Rattle.fak_text.specs.Script.{down, up, open_file, close_file, stat, spawn, shutdown};
+ghost use Rattle.fak_text.specs.Journal.{StandsAt};
+ghost use Rattle.fak_process.specs.ListScheduler as lists;
+ghost use Rattle.fak_process.specs.Contexts.{HasStepsLeft};
+ghost use Rattle.fak_processor.specs.Faults.{IsOfStep};
+ghost use Rattle.fak_processor.specs.Processors.{AreFor, AreOf, IsAlone, GoesOn, lists_of};
+ghost use Rattle.fak_processor.specs.Moving.{Moves, hand_of};
+
+use crate::objects::Objects;
+use crate::processor::Processor;
+use crate::processor::turn::Turn;
+use fak_process::{Context, Fault, Run, Sleeper};
+use fak_text::Note;
+use std::alloc::Global;
+use std::sync::Wait;
+
+impl<K: Run> Processor<K> {
+    /// A down: the process goes on, or sleeps at the semaphore and leaves the processor.
+    pub(crate) fn down<R: Wait>(
+        &mut self,
+        rt: &R,
+        objects: &Objects<K>,
+        turn: Turn<K>,
+        n: u64,
+    ) -> Result<Option<Turn<K>>, Fault>
+        requires objects { AreOf objects.now self.old }
+        requires made { AreFor K.script objects.now }
+        requires next { StandsAt K.script turn.process (down n) }
+        requires range { n < length K.script.semaphores }
+        requires left { HasStepsLeft K.script turn }
+        ensures objects { AreOf objects.now self.new }
+        ensures general { IfOk result (λ running. Moves K.script (turn.process ∷ []) (hand_of running) self.old self.new) }
+        ensures alone { IsAlone K.script self.old
+            → IfOk result (λ running. GoesOn K.script self.new running (lists.make_down (lists_of K.script self.old) turn n)) }
+        ensures fault { IfErr result (λ fault. IsOfStep fault) }
+    {
+        let made = turn.made();
+        let sleeper = Sleeper::new(turn.into_context(), n)?;
+        match self.pass_or_park(rt, objects, n as usize, sleeper) {
+            Err(fault) => return Err(fault),
+            Ok(None) => {
+                self.debit(objects)?;
+                return Ok(None);
+            }
+            Ok(Some(who)) => return Ok(Some(Turn::after(who.rouse(), made))),
+        }
+    }
+
+    /// An up: the first who sleeps at the semaphore becomes ready, or the count rises.
+    pub(crate) fn up<R: Wait>(
+        &mut self,
+        rt: &R,
+        objects: &Objects<K>,
+        turn: Turn<K>,
+        n: u64,
+    ) -> Result<Option<Turn<K>>, Fault>
+        requires objects { AreOf objects.now self.old }
+        requires made { AreFor K.script objects.now }
+        requires next { StandsAt K.script turn.process (up n) }
+        requires range { n < length K.script.semaphores }
+        requires left { HasStepsLeft K.script turn }
+        ensures objects { AreOf objects.now self.new }
+        ensures general { IfOk result (λ running. Moves K.script (turn.process ∷ []) (hand_of running) self.old self.new) }
+        ensures alone { IsAlone K.script self.old
+            → IfOk result (λ running. GoesOn K.script self.new running (lists.make_up (lists_of K.script self.old) turn n)) }
+        ensures fault { IfErr result (λ fault. IsOfStep fault) }
+    {
+        let turn = turn.noted(Note::Up(n), false)?;
+        self.reserve_halted()?;
+        match self.wake(rt, objects, n as usize) {
+            Err(fault) => return Err(fault),
+            Ok(None) => return Ok(Some(turn)),
+            Ok(Some(context)) => {
+                self.credit(objects)?;
+                self.enter_ready(rt, objects, context)?;
+                return Ok(Some(turn));
+            }
+        }
+    }
+
+    /// A spawn: the child becomes ready, unless a birth or a slot is wanting.
+    pub(crate) fn spawn<R: Wait>(
+        &mut self,
+        rt: &R,
+        alloc: Global,
+        objects: &Objects<K>,
+        turn: Turn<K>,
+        program: u64,
+    ) -> Result<Option<Turn<K>>, Fault>
+        requires objects { AreOf objects.now self.old }
+        requires made { AreFor K.script objects.now }
+        requires next { StandsAt K.script turn.process (spawn program) }
+        requires range { program < length K.script.programs }
+        requires left { HasStepsLeft K.script turn }
+        ensures objects { AreOf objects.now self.new }
+        ensures general { IfOk result (λ running. Moves K.script (turn.process ∷ []) (hand_of running) self.old self.new) }
+        ensures alone { IsAlone K.script self.old
+            → IfOk result (λ running. GoesOn K.script self.new running
+            (lists.make_spawn K.script (lists_of K.script self.old) turn program)) }
+        ensures fault { IfErr result (λ fault. IsOfStep fault) }
+    {
+        let name = turn.child_name(alloc)?;
+        let turn = turn.with_room()?;
+        self.reserve_halted()?;
+        if !self.claim_birth(objects)? {
+            return Ok(Some(turn.noted(Note::NoBirth, false)?));
+        }
+        let Some(slot) = self.take_slot(rt, objects)? else {
+            self.give_birth_back(objects);
+            return Ok(Some(turn.noted(Note::NoSlot, false)?));
+        };
+        let number = turn.children();
+        let child = Context::new(alloc, name, program, slot.number());
+        self.credit(objects)?;
+        self.enter_ready(rt, objects, child)?;
+        Ok(Some(turn.noted(Note::Spawned(number), false)?))
+    }
+
+    /// An open, in a hold of the file table.
+    pub(crate) fn open_file<R: Wait>(
+        &mut self,
+        rt: &R,
+        objects: &Objects<K>,
+        turn: Turn<K>,
+        inode: u64,
+    ) -> Result<Option<Turn<K>>, Fault>
+        requires objects { AreOf objects.now self.old }
+        requires made { AreFor K.script objects.now }
+        requires next { StandsAt K.script turn.process (open_file inode) }
+        requires left { HasStepsLeft K.script turn }
+        ensures objects { AreOf objects.now self.new }
+        ensures general { IfOk result (λ running. Moves K.script (turn.process ∷ []) (hand_of running) self.old self.new) }
+        ensures alone { IsAlone K.script self.old
+            → IfOk result (λ running. GoesOn K.script self.new running (lists.make_open (lists_of K.script self.old) turn inode)) }
+        ensures fault { IfErr result (λ fault. IsOfStep fault) }
+    {
+        let turn = turn.with_room()?;
+        let entry = self
+            .copy
+            .open_shared(rt, &objects.files, &mut self.files, inode)?;
+        Ok(Some(turn.noted(Note::OpenFile(inode, entry), false)?))
+    }
+
+    /// A close, in a hold of the file table.
+    pub(crate) fn close_file<R: Wait>(
+        &mut self,
+        rt: &R,
+        objects: &Objects<K>,
+        turn: Turn<K>,
+        inode: u64,
+    ) -> Result<Option<Turn<K>>, Fault>
+        requires objects { AreOf objects.now self.old }
+        requires made { AreFor K.script objects.now }
+        requires next { StandsAt K.script turn.process (close_file inode) }
+        requires left { HasStepsLeft K.script turn }
+        ensures objects { AreOf objects.now self.new }
+        ensures general { IfOk result (λ running. Moves K.script (turn.process ∷ []) (hand_of running) self.old self.new) }
+        ensures alone { IsAlone K.script self.old
+            → IfOk result (λ running. GoesOn K.script self.new running (lists.make_close (lists_of K.script self.old) turn inode)) }
+        ensures fault { IfErr result (λ fault. IsOfStep fault) }
+    {
+        let turn = turn.with_room()?;
+        let entry = self
+            .copy
+            .close_shared(rt, &objects.files, &mut self.files, inode)?;
+        Ok(Some(turn.noted(Note::CloseFile(inode, entry), false)?))
+    }
+
+    /// A stat, in a hold of the file table.
+    pub(crate) fn stat<R: Wait>(
+        &mut self,
+        rt: &R,
+        objects: &Objects<K>,
+        turn: Turn<K>,
+        inode: u64,
+    ) -> Result<Option<Turn<K>>, Fault>
+        requires objects { AreOf objects.now self.old }
+        requires made { AreFor K.script objects.now }
+        requires next { StandsAt K.script turn.process (stat inode) }
+        requires left { HasStepsLeft K.script turn }
+        ensures objects { AreOf objects.now self.new }
+        ensures general { IfOk result (λ running. Moves K.script (turn.process ∷ []) (hand_of running) self.old self.new) }
+        ensures alone { IsAlone K.script self.old
+            → IfOk result (λ running. GoesOn K.script self.new running
+            (lists.make K.script (lists_of K.script self.old) turn (stat inode))) }
+        ensures fault { IfErr result (λ fault. IsOfStep fault) }
+    {
+        let turn = turn.with_room()?;
+        let uses = self
+            .copy
+            .uses_shared(rt, &objects.files, &mut self.files, inode)?;
+        Ok(Some(turn.noted(Note::Stat(inode, uses), false)?))
+    }
+
+    /// A shutdown: nobody becomes ready any more.
+    pub(crate) fn shutdown(
+        &mut self,
+        objects: &Objects<K>,
+        turn: Turn<K>,
+    ) -> Result<Option<Turn<K>>, Fault>
+        requires objects { AreOf objects.now self.old }
+        requires made { AreFor K.script objects.now }
+        requires next { StandsAt K.script turn.process shutdown }
+        requires left { HasStepsLeft K.script turn }
+        ensures objects { AreOf objects.now self.new }
+        ensures general { IfOk result (λ running. Moves K.script (turn.process ∷ []) (hand_of running) self.old self.new) }
+        ensures alone { IsAlone K.script self.old
+            → IfOk result (λ running. GoesOn K.script self.new running (lists.make K.script (lists_of K.script self.old) turn shutdown)) }
+        ensures fault { IfErr result (λ fault. IsOfStep fault) }
+    {
+        let turn = turn.noted(Note::Shutdown, false)?;
+        self.shut_ready(objects);
+        Ok(Some(turn))
+    }
+}

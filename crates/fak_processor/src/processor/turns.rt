@@ -1,0 +1,227 @@
+//! The loop of a processor.
+
+ghost use Rattle.std.specs.Prelude.{◌≡◌, [], ◌∷◌, ◌<◌, pos, length, true, None, IfOk, IfErr, IfSome, IfNone};
+ghost use Rattle.fak_text.specs.Script.{IsStepInRange, limits_of};
+ghost use Rattle.fak_text.specs.Journal.{StandsAt};
+ghost use Rattle.fak_text.specs.Views.{step_of};
+ghost use Rattle.fak_process.specs.ListScheduler as lists;
+ghost use Rattle.fak_processor.specs.Faults.{IsOfLoop, IsOfStep};
+ghost use Rattle.fak_process.specs.Contexts.{HasStepsLeft};
+ghost use Rattle.fak_processor.specs.Processors.{AreFor, AreOf, IsAlone, GoesOn, GoesTo, IsReached, lists_of};
+ghost use Rattle.fak_model.specs.Credit.{value};
+ghost use Rattle.fak_process.specs.Ledger.{nothing};
+ghost use Rattle.fak_processor.specs.Moving.{Gains, LeavesNone, Moves, hand_of};
+
+use crate::gate::{Gate, Looks};
+use crate::objects::Objects;
+use crate::processor::Processor;
+use crate::processor::turn::Turn;
+use crossbeam_utils::Backoff;
+use fak_process::{Fault, Run};
+use fak_text::{Note, Script, Step};
+use std::alloc::Global;
+use std::sync::Wait;
+
+impl<K: Run> Processor<K> {
+    /// The process that has the processor makes this step, and keeps the processor or not.
+    fn make<R: Wait>(
+        &mut self,
+        rt: &R,
+        alloc: Global,
+        objects: &Objects<K>,
+        turn: Turn<K>,
+        step: &Step,
+    ) -> Result<Option<Turn<K>>, Fault>
+        requires objects { AreOf objects.now self.old }
+        requires made { AreFor K.script objects.now }
+        requires next { StandsAt K.script turn.process (step_of step.now) }
+        requires range { IsStepInRange (limits_of K.script) (step_of step.now) }
+        requires left { HasStepsLeft K.script turn }
+        ensures objects { AreOf objects.now self.new }
+        ensures general { IfOk result (λ running. Moves K.script (turn.process ∷ []) (hand_of running) self.old self.new) }
+        ensures alone { IsAlone K.script self.old
+            → IfOk result (λ running. GoesOn K.script self.new running
+            (lists.make K.script (lists_of K.script self.old) turn (step_of step.now))) }
+        ensures fault { IfErr result (λ fault. IsOfStep fault) }
+    {
+        match step {
+            Step::Say(_) => return Ok(Some(turn.said(alloc)?)),
+            Step::Yield => return Ok(Some(turn.noted(Note::Yield, true)?)),
+            Step::Down(n) => return self.down(rt, objects, turn, *n),
+            Step::Up(n) => return self.up(rt, objects, turn, *n),
+            Step::OpenFile(inode) => return self.open_file(rt, objects, turn, *inode),
+            Step::CloseFile(inode) => return self.close_file(rt, objects, turn, *inode),
+            Step::Stat(inode) => return self.stat(rt, objects, turn, *inode),
+            Step::Spawn(program) => return self.spawn(rt, alloc, objects, turn, *program),
+            Step::Shutdown => return self.shutdown(objects, turn),
+        }
+    }
+
+    /// What the processor does next with the process that has it.
+    fn continue_turn<R: Wait>(
+        &mut self,
+        rt: &R,
+        alloc: Global,
+        script: &Script,
+        objects: &Objects<K>,
+        turn: Turn<K>,
+    ) -> Result<Option<Turn<K>>, Fault>
+        requires script { script.now ≡ K.script }
+        requires objects { AreOf objects.now self.old }
+        requires made { AreFor K.script objects.now }
+        ensures objects { AreOf objects.now self.new }
+        ensures general { IfOk result (λ running. Moves K.script (turn.process ∷ []) (hand_of running) self.old self.new) }
+        ensures alone { IsAlone K.script self.old
+            → IfOk result (λ running. GoesOn K.script self.new running
+            (lists.turn_by K.script (lists_of K.script self.old) turn (lists.next_step K.script turn.process))) }
+        ensures fault { IfErr result (λ fault. IsOfStep fault) }
+    {
+        match turn.context.next(script) {
+            None => {
+                self.end(rt, objects, turn.into_context())?;
+                return Ok(None);
+            }
+            Some(step) => {
+                if !turn.is_over(script) {
+                    return self.make(rt, alloc, objects, turn, step);
+                }
+                self.enter_ready(rt, objects, turn.into_context())?;
+                return Ok(None);
+            }
+        }
+    }
+
+    /// One small step of the processor.
+    fn step<R: Wait>(
+        &mut self,
+        rt: &R,
+        alloc: Global,
+        script: &Script,
+        objects: &Objects<K>,
+        running: Option<Turn<K>>,
+    ) -> Result<Option<Turn<K>>, Fault>
+        requires script { script.now ≡ K.script }
+        requires objects { AreOf objects.now self.old }
+        requires made { AreFor K.script objects.now }
+        ensures objects { AreOf objects.now self.new }
+        ensures general { IfOk result (λ next. Moves K.script (hand_of running) (hand_of next) self.old self.new) }
+        ensures alone { IsAlone K.script self.old
+            → IfOk result (λ next. GoesOn K.script self.new next
+            (lists.step K.script (record { running = running; lists = lists_of K.script self.old }))) }
+        ensures fault { IfErr result (λ fault. IsOfStep fault) }
+    {
+        match running {
+            None => return self.take_front(rt, objects),
+            Some(turn) => return self.continue_turn(rt, alloc, script, objects, turn),
+        }
+    }
+
+    /// Nothing ran before the step nor after it, and nobody is ready or runs.
+    #[tactic(auto, using(crate::proofs::Moving::gains_none))]
+    fn is_done(&mut self, objects: &Objects<K>, was_idle: bool, running: &Option<Turn<K>>) -> bool
+        requires objects { AreOf objects.now self.old }
+        requires made { AreFor K.script objects.now }
+        ensures objects { AreOf objects.now self.new }
+        ensures gains { Gains K.script self.old self.new nothing }
+        ensures alone { IsAlone K.script self.old → GoesTo K.script self.new (lists_of K.script self.old) }
+        ensures done { result ≡ true → (was_idle ≡ true) × (running.now ≡ None) }
+        ensures idle { result ≡ true → value (length K.script.start) self.new.busy.seen ≡ pos 0 }
+    {
+        if !was_idle {
+            return false;
+        }
+        if running.is_some() {
+            return false;
+        }
+        let shown = objects.busy.value(&mut self.busy);
+        if shown != 0 {
+            return false;
+        }
+        true
+    }
+
+    /// The loop of a processor: turns of ready processes, until nobody is ready or runs, or another processor has met
+    /// a fault.
+    fn turns<R: Wait, G: Gate>(
+        self,
+        rt: &R,
+        alloc: Global,
+        script: &Script,
+        objects: &Objects<K>,
+        gate: &G,
+        number: u64,
+    ) -> Result<Option<Processor<K>>, Fault>
+        requires script { script.now ≡ K.script }
+        requires objects { AreOf objects.now self }
+        requires made { AreFor K.script objects.now }
+        ensures objects { IfOk result (λ left. IfSome left (λ p. AreOf objects.now p)) }
+        ensures general { IfOk result (λ left. IfSome left (λ p. LeavesNone K.script self p)) }
+        ensures stopped { IfOk result (λ left. IfNone left (1 < objects.now.ready.object.seats)) }
+        ensures alone { IsReached K.script self (lists.turn_over (lists_of K.script self))
+            → IfOk result (λ left. IfSome left (λ p. IsReached K.script p (lists.turn_over (lists_of K.script p))
+            × ((lists_of K.script p).ready ≡ []))) }
+        ensures fault { IfErr result (λ fault. IsOfLoop (G.refuses gate.now) fault) }
+    {
+        let mut processor = self;
+        let mut running = None;
+        let mut looks = Looks::new(number);
+        let pause = Backoff::new();
+        for _ in rt.forever() {
+            let was_idle = running.is_none();
+            if was_idle {
+                if objects.alarm.is_rung() {
+                    return Ok(None);
+                }
+                looks.pass(gate)?;
+            }
+            running = processor.step(rt, alloc, script, objects, running)?;
+            if processor.is_done(objects, was_idle, &running) {
+                return Ok(Some(processor));
+            }
+            rest(&pause, was_idle, running.is_some());
+        }
+        unreachable!()
+    }
+
+    /// What the processor of this number does in a run: turns of ready processes, until nobody is ready or runs. None
+    /// where another processor has met a fault.
+    ///
+    /// # Errors
+    ///
+    /// `Memory`, `Worn`, and `Gate` where the gate may refuse and did. The other processors are told of it.
+    pub fn work<R: Wait, G: Gate>(
+        self,
+        rt: &R,
+        alloc: Global,
+        script: &Script,
+        objects: &Objects<K>,
+        gate: &G,
+        number: u64,
+    ) -> Result<Option<Processor<K>>, Fault>
+        requires script { script.now ≡ K.script }
+        requires objects { AreOf objects.now self }
+        requires made { AreFor K.script objects.now }
+        ensures objects { IfOk result (λ left. IfSome left (λ p. AreOf objects.now p)) }
+        ensures general { IfOk result (λ left. IfSome left (λ p. LeavesNone K.script self p)) }
+        ensures stopped { IfOk result (λ left. IfNone left (1 < objects.now.ready.object.seats)) }
+        ensures alone { IsReached K.script self (lists.turn_over (lists_of K.script self))
+            → IfOk result (λ left. IfSome left (λ p. IsReached K.script p (lists.turn_over (lists_of K.script p))
+            × ((lists_of K.script p).ready ≡ []))) }
+        ensures fault { IfErr result (λ fault. IsOfLoop (G.refuses gate.now) fault) }
+    {
+        let left = self.turns(rt, alloc, script, objects, gate, number);
+        if left.is_err() {
+            objects.alarm.ring();
+        }
+        left
+    }
+}
+
+/// Waits a little after a look at the ready queue that found nobody; a turn that began ends the waiting.
+fn rest(pause: &Backoff, looked: bool, found: bool) {
+    if found {
+        pause.reset();
+    } else if looked {
+        pause.snooze();
+    }
+}
