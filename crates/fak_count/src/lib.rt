@@ -17,8 +17,6 @@ mod credits;
 mod fault;
 mod opening;
 mod rooms;
-#[cfg(test)]
-mod tests;
 mod words;
 
 pub use credits::{Credit, CreditSeat, CreditTally};

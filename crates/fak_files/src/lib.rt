@@ -27,8 +27,6 @@ mod seat;
 mod steps;
 mod table;
 mod tally;
-#[cfg(test)]
-mod tests;
 mod waiting;
 mod words;
 

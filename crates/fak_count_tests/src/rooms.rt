@@ -5,8 +5,7 @@ ghost use Rattle.fak_model.specs.Histories.{sum_below};
 ghost use Rattle.fak_model.specs.Room.{amount_held, value};
 ghost use Rattle.fak_count.specs.Seats.{IsSeatOf};
 
-use crate::fault::{OpenFault, TirFault};
-use crate::rooms::{Room, RoomSeat, RoomTally};
+use fak_count::{OpenFault, Room, RoomSeat, RoomTally, TirFault};
 use fak_model::laws::room::amounts_held_in_a_room_fit;
 use std::process::Abort;
 use std::test::*;

@@ -1,3 +1,5 @@
+//! File tables.
+
 ghost use Rattle.std.specs.Prelude.{◌≡◌, ◌<◌, IsTrue, pos};
 ghost use Rattle.fak_model.specs.File.{amount_held, count, field};
 ghost use Rattle.fak_model.specs.Seats.{IsWhole};
@@ -5,7 +7,7 @@ ghost use Rattle.fak_model.specs.declared.file.FileField.TheVariants.{Inode};
 ghost use Rattle.fak_files.specs.Calls.{IsFreeSeatOf};
 ghost use Rattle.fak_files.specs.declared.phase.Hold.TheVariants.{Nothing};
 
-use crate::{FileFault, FileField, FileSeat, FileTable, FileTally, Hold, OpenFault, Worn};
+use fak_files::{FileFault, FileField, FileSeat, FileTable, FileTally, Hold, OpenFault, Worn};
 use fak_model::laws::file::a_file_table_at_rest_is_free;
 use std::alloc::Global;
 use std::hint;

@@ -4,8 +4,7 @@ ghost use Rattle.std.specs.Prelude.{◌≡◌, ◌+◌, ◌<◌, min};
 ghost use Rattle.std.specs.List.{All};
 ghost use Rattle.fak_model.specs.Credit.{credits as credits_in, debits as debits_in, grants_made};
 
-use crate::credits::{Credit, CreditSeat, CreditTally};
-use crate::fault::{OpenFault, Worn};
+use fak_count::{Credit, CreditSeat, CreditTally, OpenFault, Worn};
 use fak_model::laws::credit::a_credit_grants_what_it_can;
 use std::process::Abort;
 use std::test::*;

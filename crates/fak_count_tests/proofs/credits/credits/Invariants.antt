@@ -1,5 +1,5 @@
 use Rattle.std.proofs.Common.{◌≡◌}
-use Rattle.fak_count.proofs.tests.credits.credits.Given as goal
+use Rattle.fak_count_tests.proofs.credits.credits.Given as goal
 
 abbrev pub invariant-loop : goal.invariant-loop
 invariant-loop l = l.seat.object ≡ l.credit.object

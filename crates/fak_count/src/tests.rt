@@ -1,4 +1,0 @@
-//! Calls of one thread, in order, and of two threads at once.
-
-mod credits;
-mod rooms;

@@ -1,0 +1,10 @@
+//! The tests of `fak_count` and `fak_files`, in a crate of their own, so that those are proved once: calls of one thread, in
+//! order, and of two threads at once.
+#![tactic(auto)]
+
+#[cfg(test)]
+mod credits;
+#[cfg(test)]
+mod files;
+#[cfg(test)]
+mod rooms;
