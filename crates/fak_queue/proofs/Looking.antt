@@ -24,7 +24,7 @@ module _ {T : Type 0} {size seats n : ℕ} {p : Phase T} {m a : QueueHolder T} (
   still_at at = ⊎_elim (λ e. subst (λ (z : QueueHolder T). z.0.phase ≡ Some p) e at) (λ w. ap (λ (z : QueueHolder T). z.0.phase) w.after_is) waited
 
   -- what it does then it does after the first look
-  then_part : {kinds : List (Kind T)} {q : Phase T} {b : QueueHolder T} → IsPart size seats n kinds q a.0.left Nothing a b → IsPart size seats n kinds q m.0.left Nothing m b
+  pub then_part : {kinds : List (Kind T)} {q : Phase T} {b : QueueHolder T} → IsPart size seats n kinds q a.0.left Nothing a b → IsPart size seats n kinds q m.0.left Nothing m b
   then_part {kinds} {q} {b} part = ⊎_elim (λ e. subst (λ (z : QueueHolder T). IsPart size seats n kinds q z.0.left Nothing z b) (sym e) part) (λ w. joined w) waited
     where
       joined : IsPart size seats n [] p m.0.left Nothing m a → IsPart size seats n kinds q m.0.left Nothing m b

@@ -6,6 +6,8 @@
 //!
 //! Two seats that call by turns fetch each line from one another in each call. So a seat that may wait leaves the counts to others for
 //! a while where it finds that they change them, and then both run alone for many calls.
+//!
+//! An atomic step waits for the writes before it. So where a seat finds what it expected, it writes no note of that.
 
 ghost use Rattle.std.specs.Prelude.{◌≡◌, ◌<◌, ◌≤◌};
 ghost use mathlib.Core.Option.{none};
@@ -44,7 +46,7 @@ pub(crate) struct CountTest {
     expected: u64,
     // So many tests to come are fetch-and-adds of 0.
     contended: u64,
-    // Whether the last test found that others had changed the count.
+    // Whether a test has found, since the seat last looked whether to give way, that others had changed the count.
     opposed: bool,
     // How many tickets were left when the seat last gave way; at first the stint.
     rested: u64,
@@ -63,8 +65,12 @@ impl CountTest {
 
     // Where others change this count too, leaves it to them for a moment for each cell; not twice in a few tickets.
     pub(crate) fn give_way(&mut self, size: u64, left: u64) {
+        if !self.opposed {
+            return;
+        }
+        self.opposed = false;
         let is_due = self.rested.wrapping_sub(left) >= BETWEEN_RESTS;
-        if self.opposed && is_due && size >= SHORTEST_REST {
+        if is_due && size >= SHORTEST_REST {
             self.rested = left;
             for _ in 0..size.min(LONGEST_REST) {
                 hint::spin_loop();
@@ -93,8 +99,10 @@ impl CountTest {
         } else {
             words.load::<M>(token, word)
         };
-        self.opposed = found != self.expected;
-        self.expected = found;
+        if found != self.expected {
+            self.opposed = true;
+            self.expected = found;
+        }
         found
     }
 
@@ -102,8 +110,8 @@ impl CountTest {
     pub(crate) fn retest(&mut self, found: u64) {
         if found != self.expected {
             self.contended = CONTENDED;
+            self.expected = found;
         }
-        self.expected = found;
     }
 }
 

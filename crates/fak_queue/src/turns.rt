@@ -103,8 +103,8 @@ pub(crate) fn empty_cell<T>(words: &QueueWords<T>, token: &mut QueueToken<T>, pl
     }
 }
 
-// Waits for the ticket's turn, then moves the item into its cell and ends the insertion.
-pub(crate) fn wait_to_fill<T, R: Wait>(
+// Lets others run and looks again until it is the ticket's turn, then moves the item into its cell and ends the insertion.
+fn fill_later<T, R: Wait>(
     rt: &R,
     words: &QueueWords<T>,
     token: &mut QueueToken<T>,
@@ -119,17 +119,40 @@ pub(crate) fn wait_to_fill<T, R: Wait>(
     ensures told { Named token.old.me (λ n. Filled words.now.table_id.slots words.now.key.seats n place.ticket token.old.me token.new.me) }
 {
     for _ in rt.forever() {
+        thread::yield_now();
         if finds_room(words, token, place) {
             fill_cell(words, token, place, item);
             return;
         }
-        thread::yield_now();
     }
     unreachable!()
 }
 
-// Waits for the ticket's turn, then moves the item out of its cell and ends the deletion.
-pub(crate) fn wait_to_empty<T, R: Wait>(
+// Waits for the ticket's turn, then moves the item into its cell and ends the insertion. The first look is no round of a
+// loop, which costs more.
+pub(crate) fn wait_to_fill<T, R: Wait>(
+    rt: &R,
+    words: &QueueWords<T>,
+    token: &mut QueueToken<T>,
+    place: Place,
+    item: T,
+)
+    requires table { FitsTable token.old.table_id words.now.table_id words.now.key words.now.key.seats }
+    requires place { IsPlace words.now.table_id.slots place }
+    requires seat { HasOneName token.old.me × (token.old.me.1 ≡ []) }
+    requires phase { token.old.me.0.phase ≡ Some (TurnIn place.ticket item) }
+    ensures same { token.new.table_id ≡ token.old.table_id }
+    ensures told { Named token.old.me (λ n. Filled words.now.table_id.slots words.now.key.seats n place.ticket token.old.me token.new.me) }
+{
+    if finds_room(words, token, place) {
+        fill_cell(words, token, place, item);
+        return;
+    }
+    fill_later(rt, words, token, place, item);
+}
+
+// Lets others run and looks again until it is the ticket's turn, then moves the item out of its cell and ends the deletion.
+fn empty_later<T, R: Wait>(
     rt: &R,
     words: &QueueWords<T>,
     token: &mut QueueToken<T>,
@@ -144,10 +167,31 @@ pub(crate) fn wait_to_empty<T, R: Wait>(
         (λ n. Taken words.now.table_id.slots words.now.key.seats n place.ticket result token.old.me token.new.me) }
 {
     for _ in rt.forever() {
+        thread::yield_now();
         if finds_item(words, token, place) {
             return empty_cell(words, token, place);
         }
-        thread::yield_now();
     }
     unreachable!()
+}
+
+// Waits for the ticket's turn, then moves the item out of its cell and ends the deletion. The first look is as above.
+pub(crate) fn wait_to_empty<T, R: Wait>(
+    rt: &R,
+    words: &QueueWords<T>,
+    token: &mut QueueToken<T>,
+    place: Place,
+) -> T
+    requires table { FitsTable token.old.table_id words.now.table_id words.now.key words.now.key.seats }
+    requires place { IsPlace words.now.table_id.slots place }
+    requires seat { HasOneName token.old.me × (token.old.me.1 ≡ []) }
+    requires phase { token.old.me.0.phase ≡ Some (TurnOut place.ticket) }
+    ensures same { token.new.table_id ≡ token.old.table_id }
+    ensures told { Named token.old.me
+        (λ n. Taken words.now.table_id.slots words.now.key.seats n place.ticket result token.old.me token.new.me) }
+{
+    if finds_item(words, token, place) {
+        return empty_cell(words, token, place);
+    }
+    empty_later(rt, words, token, place)
 }

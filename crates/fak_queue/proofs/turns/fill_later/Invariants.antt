@@ -2,7 +2,7 @@ use Rattle.std.proofs.Common.{◌≡◌}
 use Rattle.fak_core.specs.declared.queue.phase.Phase.TheVariants.{TurnIn}
 use Rattle.fak_queue.specs.Steps.{Named}
 use Rattle.fak_queue.proofs.Looking.{HasWaited}
-use Rattle.fak_queue.proofs.turns.wait_to_fill.Given as goal
+use Rattle.fak_queue.proofs.turns.fill_later.Given as goal
 
 -- the seat was turned away each time
 abbrev pub invariant-loop : goal.invariant-loop
