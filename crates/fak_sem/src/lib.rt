@@ -22,8 +22,6 @@ mod retries;
 mod seat;
 mod semaphore;
 mod tally;
-#[cfg(test)]
-mod tests;
 
 pub use fak_count::Worn;
 pub use fak_queue::Rest;

@@ -1,5 +1,5 @@
 use Rattle.std.proofs.Common.{◌≡◌}
-use Rattle.fak_sem.proofs.tests.threads.downs.Given as goal
+use Rattle.fak_sem_tests.proofs.threads.downs.Given as goal
 
 -- the seat is one of the semaphore
 abbrev pub invariant-loop-i : goal.invariant-loop-i

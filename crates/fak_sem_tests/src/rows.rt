@@ -4,8 +4,8 @@ ghost use Rattle.std.specs.Prelude.{◌≡◌, ◌+◌, IsTrue, length, pos};
 ghost use Rattle.fak_model.specs.Queue.{contents, lower_count};
 ghost use Rattle.fak_sem.specs.Semaphores.{IsIdleSemSeat, passed_by};
 
-use crate::{OpenFault, SemSeat, SemTally, SemWorn, Semaphore, Worn};
 use fak_model::laws::queue::a_queue_at_rest_counts_its_items;
+use fak_sem::{OpenFault, SemSeat, SemTally, SemWorn, Semaphore, Worn};
 use std::sync::Wait;
 
 #[test]

@@ -1,5 +1,5 @@
 use Rattle.std.proofs.Common.{◌≡◌}
-use Rattle.fak_sem.proofs.tests.threads.ups.Given as goal
+use Rattle.fak_sem_tests.proofs.threads.ups.Given as goal
 
 -- the seat is one of the semaphore
 abbrev pub invariant-loop : goal.invariant-loop

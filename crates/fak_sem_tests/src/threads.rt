@@ -2,7 +2,7 @@
 
 ghost use Rattle.std.specs.Prelude.{◌≡◌};
 
-use crate::{SemSeat, SemTally, Semaphore};
+use fak_sem::{SemSeat, SemTally, Semaphore};
 use std::alloc::Global;
 use std::process::Abort;
 use std::sync::Wait;

@@ -1,6 +1,6 @@
 use Rattle.std.proofs.Common.{◌≡◌, ◌+◌, ◌≤◌}
 use Rattle.fak_sem.specs.Semaphores.{IsIdleSemSeat, passed_by}
-use Rattle.fak_sem.proofs.tests.rows.down_below.Given as goal
+use Rattle.fak_sem_tests.proofs.rows.down_below.Given as goal
 
 -- the seat is one of the semaphore, and so many downs of those so far passed
 abbrev pub invariant-loop-who : goal.invariant-loop-who

@@ -1,0 +1,8 @@
+//! The tests of `fak_sem`, in a crate of their own, so that it is proved once: worked rows on one thread, and downs and ups at
+//! once.
+#![tactic(auto)]
+
+#[cfg(test)]
+mod rows;
+#[cfg(test)]
+mod threads;
