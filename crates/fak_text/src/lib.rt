@@ -21,6 +21,3 @@ pub use text::{
     append_journal, append_line, append_name, append_refusal, journal_text, line_text, name_text,
     refused_text,
 };
-
-#[cfg(test)]
-mod tests;

@@ -1,4 +1,4 @@
-use crate::{Field, Step, TextFault, read_script};
+use fak_text::{Field, Step, TextFault, read_script};
 use std::test::Fail;
 
 const PROGRAMS: TextFault = TextFault::Range(Field::Programs);

@@ -1,4 +1,4 @@
-use crate::{Field, TextFault, read_history, read_schedule, read_script};
+use fak_text::{Field, TextFault, read_history, read_schedule, read_script};
 use std::test::Fail;
 
 #[test]

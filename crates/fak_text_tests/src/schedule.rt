@@ -1,5 +1,5 @@
-use crate::{Act, Event, Field, Object, TextFault, read_schedule};
 use fak_core::{QueueCall, RoomCall};
+use fak_text::{Act, Event, Field, Object, TextFault, read_schedule};
 use std::test::Fail;
 
 const EVENTS: TextFault = TextFault::Range(Field::Events);

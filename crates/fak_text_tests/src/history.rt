@@ -1,5 +1,5 @@
-use crate::{Field, TextFault, read_history};
 use fak_model::{Kind, Mark};
+use fak_text::{Field, TextFault, read_history};
 use std::test::Fail;
 
 const MARKS: TextFault = TextFault::Range(Field::Marks);

@@ -1,9 +1,9 @@
-use crate::{
+use fak_core::{CoreFault, CoreMove, Line, LineMark};
+use fak_model::{Kind, RoomKind};
+use fak_text::{
     Note, append_journal, append_line, append_name, append_refusal, journal_text, line_text,
     name_text, refused_text,
 };
-use fak_core::{CoreFault, CoreMove, Line, LineMark};
-use fak_model::{Kind, RoomKind};
 use std::test::Fail;
 
 #[test]

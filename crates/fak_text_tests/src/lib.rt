@@ -1,0 +1,14 @@
+//! The tests of `fak_text`, in a crate of their own, so that it is proved once. They show what no contract says: that the
+//! definitions are those of the formats, by examples of each.
+#![tactic(auto)]
+
+#[cfg(test)]
+mod fault;
+#[cfg(test)]
+mod history;
+#[cfg(test)]
+mod schedule;
+#[cfg(test)]
+mod script;
+#[cfg(test)]
+mod text;
