@@ -28,9 +28,6 @@ pub use fault::Fault;
 pub use report::{measure, try_each};
 use std::process::ExitCode;
 
-#[cfg(test)]
-mod tests;
-
 fn main(rt: HostRuntime) -> ExitCode {
     command::run_process(&rt, &mut rt.stderr())
 }
