@@ -7,7 +7,7 @@ ghost use Rattle.fak_queue.specs.Parts.{fault_of};
 use crate::fault::InsertFault;
 
 /// What a load of the upper count's word, or an add to it, found.
-#[derive(Clone, Copy, Debug, PartialEq, Eq, Drop)]
+#[derive(Clone, Copy, Drop)]
 pub enum UpperCount {
     /// The count was below the queue's size.
     Below,
@@ -18,7 +18,7 @@ pub enum UpperCount {
 }
 
 /// What a load of the lower count's word, or a subtraction from it, found.
-#[derive(Clone, Copy, Debug, PartialEq, Eq, Drop)]
+#[derive(Clone, Copy, Drop)]
 pub enum LowerCount {
     /// The count was at least 1.
     Positive,
@@ -27,7 +27,7 @@ pub enum LowerCount {
 }
 
 /// Why an insertion was not claimed.
-#[derive(Clone, Copy, Debug, PartialEq, Eq, Drop)]
+#[derive(Clone, Copy, Drop)]
 pub enum NoRoom {
     /// The upper count, which was at least the queue's size.
     Full(i64),

@@ -51,7 +51,7 @@ pub enum Note {
 }
 
 /// What the steps of a script may name.
-#[derive(Clone, Copy, Debug, PartialEq, Eq)]
+#[derive(Clone, Copy)]
 pub(crate) struct StepLimits {
     pub version: u64,
     pub semaphores: u64,

@@ -4,7 +4,7 @@ ghost use Rattle.std.specs.Prelude.{◌≡◌};
 ghost use Rattle.pool_of_workers.specs.Leap.{is_leap};
 
 /// What a worker takes from the queue.
-#[derive(Clone, Copy, Debug, PartialEq, Eq, Drop)]
+#[derive(Clone, Copy, Drop)]
 pub enum Work {
     /// A job: the year is to be looked at.
     Year(u64),

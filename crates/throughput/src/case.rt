@@ -12,7 +12,7 @@ use std::thread::Threads;
 use std::time::Clock;
 
 /// How much is measured.
-#[derive(Clone, Copy, Debug, PartialEq, Eq)]
+#[derive(Clone, Copy)]
 pub struct Plan {
     /// How often each case is run.
     pub rounds: u64,
@@ -21,7 +21,7 @@ pub struct Plan {
 }
 
 /// One thing that is measured.
-#[derive(Clone, Copy, Debug, PartialEq, Eq)]
+#[derive(Clone, Copy)]
 pub enum Case {
     Queue(QueueCase),
     Gate(GateCase),

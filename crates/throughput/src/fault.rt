@@ -5,7 +5,7 @@ use std::io;
 use thiserror::Error;
 
 /// Why there are no figures. Its text is one line on standard error.
-#[derive(Clone, Copy, Debug, PartialEq, Eq, Error)]
+#[derive(Debug, Clone, Copy, Error)]
 pub enum Fault {
     /// The words of the command line ask for nothing that the program does.
     #[error("throughput: usage: throughput [--figures] [--rounds 1..1000] [--items 1..10000000]")]

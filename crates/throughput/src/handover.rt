@@ -77,7 +77,7 @@ impl<G: Gate + Send> Job for Turns<G> {
 }
 
 /// Which semaphore.
-#[derive(Clone, Copy, Debug, PartialEq, Eq)]
+#[derive(Clone, Copy)]
 pub enum Guard {
     /// This repository's, with a parker for the thread that waits.
     Seats,
@@ -86,7 +86,7 @@ pub enum Guard {
 }
 
 /// A semaphore by one thread, or two by two threads.
-#[derive(Clone, Copy, Debug, PartialEq, Eq)]
+#[derive(Clone, Copy)]
 pub struct GateCase {
     pub guard: Guard,
     pub is_shared: bool,

@@ -19,7 +19,7 @@ use std::thread::Threads;
 use std::time::Clock;
 
 /// Which queue.
-#[derive(Clone, Copy, Debug, PartialEq, Eq)]
+#[derive(Clone, Copy)]
 pub enum Way {
     /// This repository's.
     Seats,
@@ -32,7 +32,7 @@ pub enum Way {
 }
 
 /// Which items.
-#[derive(Clone, Copy, Debug, PartialEq, Eq)]
+#[derive(Clone, Copy)]
 pub enum Goods {
     /// A `u64`.
     Number,
@@ -41,7 +41,7 @@ pub enum Goods {
 }
 
 /// A queue of so many cells, with so many pairs of threads; with none, one thread does both.
-#[derive(Clone, Copy, Debug, PartialEq, Eq)]
+#[derive(Clone, Copy)]
 pub struct QueueCase {
     pub way: Way,
     pub goods: Goods,

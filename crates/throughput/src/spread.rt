@@ -6,7 +6,7 @@ ghost use Rattle.throughput.specs.Spreads.{IsSpread};
 use std::alloc::AllocError;
 
 /// The best, the median and the worst time.
-#[derive(Clone, Copy, Debug, PartialEq, Eq)]
+#[derive(Clone, Copy)]
 pub struct Spread {
     pub best: u64,
     pub median: u64,

@@ -53,7 +53,7 @@ impl<S: Shelf + Send> Job for Visit<S> {
 }
 
 /// Which table.
-#[derive(Clone, Copy, Debug, PartialEq, Eq)]
+#[derive(Clone, Copy)]
 pub enum Cover {
     /// This repository's file table.
     Seats,
@@ -64,7 +64,7 @@ pub enum Cover {
 }
 
 /// An entry, with so many threads that read it, and write it in one call of a hundred or never.
-#[derive(Clone, Copy, Debug, PartialEq, Eq)]
+#[derive(Clone, Copy)]
 pub struct TableCase {
     pub cover: Cover,
     pub threads: u64,

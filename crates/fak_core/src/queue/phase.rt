@@ -1,7 +1,11 @@
 //! Where a seat of a queue stands.
 
+ghost use Rattle.std.specs.Prelude.{◌≡◌};
+
+use std::alloc::AllocError;
+
 /// The next move of a seat, with the item and the ticket of its call.
-#[derive(Clone, Copy, Debug, PartialEq, Eq, Drop)]
+#[derive(Drop)]
 pub enum Phase<T> {
     /// No call is open.
     Idle,
@@ -40,3 +44,15 @@ pub enum Phase<T> {
     /// The setting of the upper count's shut bit.
     SetShut,
 }
+
+impl<T: Copy> Clone for Phase<T> {
+    ghost is_clone = { λ x y. y ≡ x };
+
+    ghost is_infallible = { λ _. Unit {0} };
+
+    fn clone(&self) -> Result<Phase<T>, AllocError> {
+        Ok(*self)
+    }
+}
+
+impl<T: Copy> Copy for Phase<T> {}

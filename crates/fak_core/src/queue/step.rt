@@ -1,11 +1,14 @@
 //! What one atomic step of a seat of a queue does.
 
+ghost use Rattle.std.specs.Prelude.{◌≡◌};
+
 use crate::line::CoreMove;
 use crate::queue::phase::Phase;
 use fak_model::Kind;
+use std::alloc::AllocError;
 
 /// What a step found in its word; of a store of a turn or an item, the value stored.
-#[derive(Clone, Copy, Debug, PartialEq, Eq, Drop)]
+#[derive(Drop)]
 pub enum Found<T> {
     /// A count, or a ticket counter.
     Count(i64),
@@ -16,7 +19,7 @@ pub enum Found<T> {
 }
 
 /// What a step writes: the word, and its new value.
-#[derive(Clone, Copy, Debug, PartialEq, Eq, Drop)]
+#[derive(Drop)]
 pub enum Write<T> {
     /// The step only loads.
     Nothing,
@@ -36,8 +39,20 @@ pub enum Write<T> {
     Shut,
 }
 
+impl<T: Copy> Clone for Write<T> {
+    ghost is_clone = { λ x y. y ≡ x };
+
+    ghost is_infallible = { λ _. Unit {0} };
+
+    fn clone(&self) -> Result<Write<T>, AllocError> {
+        Ok(*self)
+    }
+}
+
+impl<T: Copy> Copy for Write<T> {}
+
 /// One atomic step of a seat.
-#[derive(Clone, Copy, Debug, PartialEq, Eq, Drop)]
+#[derive(Drop)]
 pub struct QueueMove<T> {
     /// Which step it is.
     pub step: CoreMove,

@@ -1,7 +1,7 @@
 //! Where a seat of a room core stands.
 
 /// The next step of a seat, with the amount of its call.
-#[derive(Clone, Copy, Debug, PartialEq, Eq)]
+#[derive(Clone, Copy)]
 pub enum RoomPhase {
     /// No call: there is no next step.
     Idle,
@@ -16,7 +16,7 @@ pub enum RoomPhase {
 }
 
 /// What a seat of a room core holds, and its next step.
-#[derive(Clone, Copy, Debug, PartialEq, Eq)]
+#[derive(Clone, Copy)]
 pub struct CoreSeat {
     pub held: u64,
     pub phase: RoomPhase,

@@ -1,7 +1,7 @@
 //! What the checker keeps of the marks that it has read.
 
 /// What the marks of a queue's history count, so far.
-#[derive(Clone, Copy, Debug, PartialEq, Eq)]
+#[derive(Clone, Copy)]
 pub struct Counts {
     /// The marks that raise the upper count.
     pub upper_raises: u64,

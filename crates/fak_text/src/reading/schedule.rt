@@ -24,7 +24,7 @@ const MOST_AMOUNT: u64 = 1_024;
 const MOST_STEPS: u64 = 64;
 
 /// The operations of events.
-#[derive(Clone, Copy, Debug, PartialEq, Eq)]
+#[derive(Clone, Copy)]
 pub(crate) enum Op {
     Step,
     Tir,

@@ -27,7 +27,7 @@ const MOST_CHARACTERS: usize = 80;
 const MOST_INODE: u64 = 4_294_967_296;
 
 /// The operations of steps.
-#[derive(Clone, Copy, Debug, PartialEq, Eq)]
+#[derive(Clone, Copy)]
 pub(crate) enum StepOp {
     Say,
     Yield,
