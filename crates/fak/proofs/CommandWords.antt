@@ -5,7 +5,7 @@ use Rattle.clap.specs.Words.{App, Text, HasMatchesOf, ReadsOne, found_of, is_sim
 use Rattle.clap.specs.declared.parser.matches.ArgMatches.{ArgMatches}
 use Rattle.clap.proofs.OnLiterals.{clap_on_literals}
 use Rattle.clap.proofs.WalkLemmas.{one_text-rows}
-use Rattle.fak.specs.declared.command.Command.{Command}
+use Rattle.fak_replay.specs.declared.command.Command.{Command}
 use Rattle.fak.specs.Commands.{Asks, Means, command_line}
 
 -- the program's own command line is one whose matches `clap` tells

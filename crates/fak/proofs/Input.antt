@@ -8,11 +8,11 @@ use Rattle.fak_text.specs.HistoryText.{history_from}
 use Rattle.fak_text.specs.ScheduleText.{schedule_from}
 use Rattle.fak_text.specs.ScriptText.{script_from}
 use Rattle.fak_text.proofs.Common.{input_in, ◌>>=◌}
-use Rattle.fak.specs.declared.command.Command.{Command}
-use Rattle.fak.specs.declared.command.Command.TheVariants.{Replay, Check, Run}
-use Rattle.fak.specs.declared.fault.MainFault.{MainFault}
-use Rattle.fak.specs.declared.fault.MainFault.TheVariants as faults
-use Rattle.fak.specs.Answers.{Reply, FailsBy, FailsToServe, IsCheckReply, IsRead, IsReply, IsRunReply, replay_reply, most_kept}
+use Rattle.fak_replay.specs.declared.command.Command.{Command}
+use Rattle.fak_replay.specs.declared.command.Command.TheVariants.{Replay, Check, Run}
+use Rattle.fak_replay.specs.declared.fault.MainFault.{MainFault}
+use Rattle.fak_replay.specs.declared.fault.MainFault.TheVariants as faults
+use Rattle.fak_replay.specs.Answers.{Reply, FailsBy, FailsToServe, IsCheckReply, IsRead, IsReply, IsRunReply, replay_reply, most_kept}
 
 cut : (m : ℕ) (input chunk kept : List ℕ) → kept ≡ take m input → (b : Bool) → ltb m (length input) ≡ b
     → kept ++ take (min (m - min (length kept) m) (length chunk)) chunk ≡ take m (input ++ chunk)

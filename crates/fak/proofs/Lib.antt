@@ -1,3 +1,2 @@
 mod CommandWords
 mod Input
-mod Replays

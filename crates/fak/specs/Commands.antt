@@ -4,10 +4,10 @@ use Rattle.std.specs.Str.Parse.{digits_value, without_leading_plus}
 use Rattle.clap.specs.Words.{App, Row, Rule, Text, new_app, new_rule, one_of, subcommand_of, with_rule, with_subcommand}
 use Rattle.clap.specs.Simple.{on_top}
 use Rattle.clap.specs.declared.builder.value_parser.ValueParser.TheVariants as parsers
-use Rattle.fak.specs.declared.command.Command.{Command}
-use Rattle.fak.specs.declared.command.Command.TheVariants.{Replay, Check, Run}
-use Rattle.fak.specs.declared.fault.MainFault.{MainFault}
-use Rattle.fak.specs.declared.fault.MainFault.TheVariants.{Usage, Memory}
+use Rattle.fak_replay.specs.declared.command.Command.{Command}
+use Rattle.fak_replay.specs.declared.command.Command.TheVariants.{Replay, Check, Run}
+use Rattle.fak_replay.specs.declared.fault.MainFault.{MainFault}
+use Rattle.fak_replay.specs.declared.fault.MainFault.TheVariants.{Usage, Memory}
 
 -- the program's command line: three subcommands, and no word for help or the version
 abbrev pub bare_line : App

@@ -1,12 +1,12 @@
 -- What the program leaves behind: its exit status, and what it wrote.
 use Rattle.std.specs.Prelude.{◌≡◌, ◌≢◌, ◌⊎◌, ℕ, List, Ok}
 use Rattle.clap.specs.Words.{Text}
-use Rattle.fak.specs.Answers.{FailsToServe, IsReply}
+use Rattle.fak_replay.specs.Answers.{FailsToServe, IsReply}
 use Rattle.fak.specs.Commands.{Asks, IsOfWords}
-use Rattle.fak.specs.Faults.{status_of}
-use Rattle.fak.specs.declared.command.Command.{Command}
-use Rattle.fak.specs.declared.fault.MainFault.{MainFault}
-use Rattle.fak.specs.declared.fault.MainFault.TheVariants.{Write}
+use Rattle.fak_replay.specs.Faults.{status_of}
+use Rattle.fak_replay.specs.declared.command.Command.{Command}
+use Rattle.fak_replay.specs.declared.fault.MainFault.{MainFault}
+use Rattle.fak_replay.specs.declared.fault.MainFault.TheVariants.{Write}
 
 -- the words ask for a command, its reply to the input that was read has this status, and its text was written
 pub record Answers (words : List Text) (Reads Writes : List ℕ → Type 0) (status : ℕ) : Type 0 where

@@ -1,24 +1,13 @@
-//! The commands, and the words that ask for them.
+//! The words that ask for a command.
 
 ghost use Rattle.std.specs.Prelude.{◌≡◌, map, string_bytes, IfErr, IfOk, IfSome, false};
 ghost use Rattle.clap.specs.Words.{app_of, found_of, rows_of, rule_of, subcommand_rows_of};
 ghost use Rattle.fak.specs.Commands.{AreProcessors, Asks, IsOfWords, Means, command_line, processors_rule};
 
-use crate::fault::MainFault;
 use clap::error::ErrorKind;
 use clap::{Arg, ArgMatches, value_parser};
+use fak_replay::{Command, MainFault};
 use std::alloc::{AllocError, Global};
-
-/// What the program is asked to do.
-#[derive(Clone, Copy, Debug, PartialEq, Eq)]
-pub enum Command {
-    /// Replay a schedule of atomic steps.
-    Replay,
-    /// Judge a recorded history of a queue.
-    Check,
-    /// Run a script of processes on so many processors.
-    Run(u64),
-}
 
 /// How many processors a script may run on.
 const MOST_PROCESSORS: u64 = 8;

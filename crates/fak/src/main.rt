@@ -1,26 +1,15 @@
 //! The program `fak`: replays schedules of atomic steps, judges recorded histories, and runs process scripts.
 #![tactic(auto)]
 
-mod answer;
-mod checking;
 mod command;
-mod fault;
-mod machine;
 mod process;
 mod program;
-mod replaying;
-mod row;
 mod running;
 mod serving;
-mod stepping;
-mod trace;
 
-pub use answer::Answer;
-pub use checking::check;
-pub use command::{Command, command_of};
-pub use fault::MainFault;
+pub use command::command_of;
+pub use fak_replay::{Answer, Command, MainFault, check, replay};
 pub use program::run_words;
-pub use replaying::replay;
 pub use running::run_script;
 pub use serving::serve;
 use std::process::ExitCode;

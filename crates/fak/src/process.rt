@@ -1,7 +1,7 @@
 //! The program over the process's own arguments, input and outputs.
 
-use crate::fault::MainFault;
 use crate::program::{conclude, run_words};
+use fak_replay::MainFault;
 use std::io::Write;
 use std::marker::Sync;
 use std::process::ExitCode;

@@ -2,14 +2,14 @@
 
 ghost use Rattle.std.specs.Prelude.{◌≡◌, ◌≢◌, ◌⊎◌, map, string_bytes, IfErr, IfOk, MatchResult, OnOk};
 ghost use Rattle.std.specs.Io.KnownBytes.{Appends, Keeps};
-ghost use Rattle.fak.specs.Answers.{IsRead};
-ghost use Rattle.fak.specs.Faults.{status_of};
+ghost use Rattle.fak_replay.specs.Answers.{IsRead};
+ghost use Rattle.fak_replay.specs.Faults.{status_of};
 ghost use Rattle.fak.specs.Program.{Answers, EndsByFault, FailsOnWords};
-ghost use Rattle.fak.specs.declared.fault.MainFault.TheVariants.{Write};
+ghost use Rattle.fak_replay.specs.declared.fault.MainFault.TheVariants.{Write};
 
 use crate::command::command_of;
-use crate::fault::MainFault;
 use crate::serving::serve;
+use fak_replay::MainFault;
 use std::alloc::Global;
 use std::io::{Read, Write};
 use std::marker::Sync;

@@ -2,13 +2,12 @@
 
 ghost use Rattle.std.specs.Prelude.{◌≡◌, ◌⊎◌, IfErr, IfOk};
 ghost use Rattle.fak_process.specs.ReportText.{ListSchedulerPrints, RunPrints};
-ghost use Rattle.fak.specs.Answers.{AreSeveral, GivesAnswer, IsFaultOfRun, IsReply};
-ghost use Rattle.fak.specs.declared.command.Command.TheVariants.{Run};
-ghost use Rattle.fak.specs.declared.fault.MainFault.TheVariants.{Memory};
+ghost use Rattle.fak_replay.specs.Answers.{AreSeveral, GivesAnswer, IsFaultOfRun, IsReply};
+ghost use Rattle.fak_replay.specs.declared.command.Command.TheVariants.{Run};
+ghost use Rattle.fak_replay.specs.declared.fault.MainFault.TheVariants.{Memory};
 
-use crate::answer::Answer;
-use crate::fault::MainFault;
 use fak_kernel::{FreeGate, Printed, run_one_to_text, run_to_text};
+use fak_replay::{Answer, MainFault};
 use fak_text::{Script, read_script};
 use std::alloc::Global;
 use std::marker::Sync;

@@ -2,15 +2,11 @@
 
 ghost use Rattle.std.specs.Prelude.{◌≡◌, ◌≢◌, ◌⊎◌, ◌++◌, ℕ, List, take, IfOk, IfErr, OnOk, Ok};
 ghost use Rattle.std.specs.Io.KnownBytes.{Appends, Keeps};
-ghost use Rattle.fak.specs.Answers.{FailsToServe, GivesAnswer, IsRead, IsReply, most_kept};
-ghost use Rattle.fak.specs.declared.fault.MainFault.TheVariants as faults;
+ghost use Rattle.fak_replay.specs.Answers.{FailsToServe, GivesAnswer, IsRead, IsReply, most_kept};
+ghost use Rattle.fak_replay.specs.declared.fault.MainFault.TheVariants as faults;
 
-use crate::answer::Answer;
-use crate::checking::check;
-use crate::command::Command;
-use crate::fault::MainFault;
-use crate::replaying::replay;
 use crate::running::run_script;
+use fak_replay::{Command, MainFault, check, replay};
 use std::alloc::Global;
 use std::io::{Read, Write};
 use std::marker::Sync;

@@ -2,33 +2,44 @@
 
 use fak_core::{CoreFault, CoreMove, Line, LineMark, RoomCall, RoomCore};
 use fak_model::{RoomKind, RoomMark};
+use std::alloc::Global;
+use std::process::Abort;
 
-/// One atomic step.
-fn line(seat: u64, step: CoreMove, found: i128, kind: Option<RoomKind>) -> Result<Line, CoreFault> {
-    Ok(Line {
-        seat,
-        step,
-        found,
-        mark: kind.map(LineMark::Room),
-    })
+/// A step of a seat: which it is, what it finds, and the mark that it leaves.
+type Step = (u64, CoreMove, i128, Option<RoomKind>);
+
+/// Makes the next steps, which are to be these.
+fn steps(rt: &impl Abort, alloc: Global, core: &mut RoomCore, trace: &[Step]) {
+    for &(seat, step, found, kind) in trace {
+        let line = Line {
+            seat,
+            step,
+            found,
+            mark: kind.map(LineMark::Room),
+        };
+        assert_eq!(rt; core.advance(alloc, seat), Ok(line));
+    }
 }
 
 #[test]
 fn a_second_claim_is_refused_at_the_test(rt: HostRuntime) -> Result<(), CoreFault> {
     let mut core = RoomCore::new(rt.alloc(), 1, 2)?;
     core.begin(0, RoomCall::Tir(1))?;
-    assert_eq!(rt;
-        core.advance(rt.alloc(), 0),
-        line(0, CoreMove::Test, 0, None)
-    );
-    assert_eq!(rt;
-        core.advance(rt.alloc(), 0),
-        line(0, CoreMove::Add, 0, Some(RoomKind::Up(1)))
+    steps(
+        &rt,
+        rt.alloc(),
+        &mut core,
+        &[
+            (0, CoreMove::Test, 0, None),
+            (0, CoreMove::Add, 0, Some(RoomKind::Up(1))),
+        ],
     );
     core.begin(1, RoomCall::Tir(1))?;
-    assert_eq!(rt;
-        core.advance(rt.alloc(), 1),
-        line(1, CoreMove::Test, 1, Some(RoomKind::No(1)))
+    steps(
+        &rt,
+        rt.alloc(),
+        &mut core,
+        &[(1, CoreMove::Test, 1, Some(RoomKind::No(1)))],
     );
     assert_eq!(rt; core.value(), 1);
     assert_eq!(rt; core.held(0), 1);
@@ -52,25 +63,17 @@ fn a_claim_over_the_bound_is_withdrawn(rt: HostRuntime) -> Result<(), CoreFault>
     let mut core = RoomCore::new(rt.alloc(), 1, 2)?;
     core.begin(0, RoomCall::Tir(1))?;
     core.begin(1, RoomCall::Tir(1))?;
-    assert_eq!(rt;
-        core.advance(rt.alloc(), 0),
-        line(0, CoreMove::Test, 0, None)
-    );
-    assert_eq!(rt;
-        core.advance(rt.alloc(), 1),
-        line(1, CoreMove::Test, 0, None)
-    );
-    assert_eq!(rt;
-        core.advance(rt.alloc(), 0),
-        line(0, CoreMove::Add, 0, Some(RoomKind::Up(1)))
-    );
-    assert_eq!(rt;
-        core.advance(rt.alloc(), 1),
-        line(1, CoreMove::Add, 1, Some(RoomKind::Over(1)))
-    );
-    assert_eq!(rt;
-        core.advance(rt.alloc(), 1),
-        line(1, CoreMove::Back, 2, Some(RoomKind::Back(1)))
+    steps(
+        &rt,
+        rt.alloc(),
+        &mut core,
+        &[
+            (0, CoreMove::Test, 0, None),
+            (1, CoreMove::Test, 0, None),
+            (0, CoreMove::Add, 0, Some(RoomKind::Up(1))),
+            (1, CoreMove::Add, 1, Some(RoomKind::Over(1))),
+            (1, CoreMove::Back, 2, Some(RoomKind::Back(1))),
+        ],
     );
     assert_eq!(rt; core.value(), 1);
     Ok(())
@@ -80,28 +83,32 @@ fn a_claim_over_the_bound_is_withdrawn(rt: HostRuntime) -> Result<(), CoreFault>
 fn refused_calls_leave_the_others_as_they_were(rt: HostRuntime) -> Result<(), CoreFault> {
     let mut core = RoomCore::new(rt.alloc(), 5, 2)?;
     core.begin(0, RoomCall::Tir(3))?;
-    assert_eq!(rt;
-        core.advance(rt.alloc(), 0),
-        line(0, CoreMove::Test, 0, None)
-    );
-    assert_eq!(rt;
-        core.advance(rt.alloc(), 0),
-        line(0, CoreMove::Add, 0, Some(RoomKind::Up(3)))
+    steps(
+        &rt,
+        rt.alloc(),
+        &mut core,
+        &[
+            (0, CoreMove::Test, 0, None),
+            (0, CoreMove::Add, 0, Some(RoomKind::Up(3))),
+        ],
     );
     core.begin(1, RoomCall::Tir(3))?;
-    assert_eq!(rt;
-        core.advance(rt.alloc(), 1),
-        line(1, CoreMove::Test, 3, Some(RoomKind::No(3)))
+    steps(
+        &rt,
+        rt.alloc(),
+        &mut core,
+        &[(1, CoreMove::Test, 3, Some(RoomKind::No(3)))],
     );
     core.begin(1, RoomCall::Tir(2))?;
     assert_eq!(rt; core.begin(1, RoomCall::Tir(2)), Err(CoreFault::MidCall));
-    assert_eq!(rt;
-        core.advance(rt.alloc(), 1),
-        line(1, CoreMove::Test, 3, None)
-    );
-    assert_eq!(rt;
-        core.advance(rt.alloc(), 1),
-        line(1, CoreMove::Add, 3, Some(RoomKind::Up(2)))
+    steps(
+        &rt,
+        rt.alloc(),
+        &mut core,
+        &[
+            (1, CoreMove::Test, 3, None),
+            (1, CoreMove::Add, 3, Some(RoomKind::Up(2))),
+        ],
     );
     assert_eq!(rt; core.advance(rt.alloc(), 1), Err(CoreFault::IdleSeat));
     assert_eq!(rt;
@@ -109,9 +116,11 @@ fn refused_calls_leave_the_others_as_they_were(rt: HostRuntime) -> Result<(), Co
         Err(CoreFault::NotHeld)
     );
     core.begin(0, RoomCall::Release(3))?;
-    assert_eq!(rt;
-        core.advance(rt.alloc(), 0),
-        line(0, CoreMove::Release, 5, Some(RoomKind::Release(3)))
+    steps(
+        &rt,
+        rt.alloc(),
+        &mut core,
+        &[(0, CoreMove::Release, 5, Some(RoomKind::Release(3)))],
     );
     assert_eq!(rt; core.advance(rt.alloc(), 2), Err(CoreFault::NoSuchSeat));
     assert_eq!(rt;

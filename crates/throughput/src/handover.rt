@@ -150,6 +150,37 @@ fn run_both<R: Threads + Wait + Clock + Sync, G: Gate + Send>(
     Ok(run_all(rt, jobs, numbers_below(items))? / 2)
 }
 
+/// One thread at one semaphore of two seats.
+fn alone_by_seats<R: Threads + Wait + Clock + Sync>(
+    rt: &R,
+    alloc: Global,
+    items: u64,
+) -> Result<u64, Fault> {
+    let bell = Parker::new();
+    let (semaphore, seat, _other) = open_gate(alloc, 1)?;
+    run_alone(rt, alloc, seat_gate(&semaphore, &bell, seat), items)
+}
+
+/// Two threads at two semaphores of two seats, a seat of each for each thread.
+fn both_by_seats<R: Threads + Wait + Clock + Sync>(
+    rt: &R,
+    alloc: Global,
+    items: u64,
+) -> Result<u64, Fault> {
+    let bells = (Parker::new(), Parker::new());
+    let (left, a, b) = open_gate(alloc, 0)?;
+    let (right, c, d) = open_gate(alloc, 0)?;
+    let first = (
+        seat_gate(&left, &bells.0, a),
+        seat_gate(&right, &bells.1, c),
+    );
+    let second = (
+        seat_gate(&right, &bells.1, d),
+        seat_gate(&left, &bells.0, b),
+    );
+    run_both(rt, alloc, first, second, items)
+}
+
 impl GateCase {
     fn by_seats<R: Threads + Wait + Clock + Sync>(
         &self,
@@ -157,23 +188,11 @@ impl GateCase {
         alloc: Global,
         items: u64,
     ) -> Result<u64, Fault> {
-        let bells = (Parker::new(), Parker::new());
-        if !self.is_shared {
-            let (semaphore, seat, _other) = open_gate(alloc, 1)?;
-            let gate = seat_gate(&semaphore, &bells.0, seat);
-            return run_alone(rt, alloc, gate, items);
+        if self.is_shared {
+            both_by_seats(rt, alloc, items)
+        } else {
+            alone_by_seats(rt, alloc, items)
         }
-        let (left, a, b) = open_gate(alloc, 0)?;
-        let (right, c, d) = open_gate(alloc, 0)?;
-        let first = (
-            seat_gate(&left, &bells.0, a),
-            seat_gate(&right, &bells.1, c),
-        );
-        let second = (
-            seat_gate(&right, &bells.1, d),
-            seat_gate(&left, &bells.0, b),
-        );
-        run_both(rt, alloc, first, second, items)
     }
 
     fn by_lock<R: Threads + Wait + Clock + Sync>(

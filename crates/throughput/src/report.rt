@@ -91,15 +91,35 @@ fn file_table(alloc: Global, title: &'static str, writes: bool) -> Result<Table,
     })
 }
 
+/// The tables of queues of such items, of 8, 1,000 and 1,024 cells, under these titles.
+fn queue_tables(
+    alloc: Global,
+    all: &mut Vec<Table>,
+    goods: Goods,
+    titles: [&'static str; 3],
+) -> Result<(), AllocError> {
+    let [few, many, power] = titles;
+    all.push(queue_table(alloc, few, goods, 8)?)?;
+    all.push(queue_table(alloc, many, goods, 1000)?)?;
+    all.push(queue_table(alloc, power, goods, 1024)?)?;
+    Ok(())
+}
+
 /// All tables.
 fn tables(alloc: Global) -> Result<Vec<Table>, AllocError> {
     let mut all = Vec::new(alloc);
-    all.push(queue_table(alloc, "u64, 8 cells", Goods::Number, 8)?)?;
-    all.push(queue_table(alloc, "u64, 1,000 cells", Goods::Number, 1000)?)?;
-    all.push(queue_table(alloc, "u64, 1,024 cells", Goods::Number, 1024)?)?;
-    all.push(queue_table(alloc, "Vec, 8 cells", Goods::Parcel, 8)?)?;
-    all.push(queue_table(alloc, "Vec, 1,000 cells", Goods::Parcel, 1000)?)?;
-    all.push(queue_table(alloc, "Vec, 1,024 cells", Goods::Parcel, 1024)?)?;
+    queue_tables(
+        alloc,
+        &mut all,
+        Goods::Number,
+        ["u64, 8 cells", "u64, 1,000 cells", "u64, 1,024 cells"],
+    )?;
+    queue_tables(
+        alloc,
+        &mut all,
+        Goods::Parcel,
+        ["Vec, 8 cells", "Vec, 1,000 cells", "Vec, 1,024 cells"],
+    )?;
     all.push(gate_table(alloc)?)?;
     all.push(file_table(alloc, "entry, only read", false)?)?;
     all.push(file_table(alloc, "1 write in 100", true)?)?;

@@ -11,7 +11,7 @@ use std::thread::{Threads, map_vec};
 use std::time::{Clock, Instant};
 
 /// What came out: how many numbers, and their sum.
-#[derive(Clone, Copy, Drop)]
+#[derive(Clone, Copy, PartialEq, Drop)]
 pub struct Passed {
     pub count: u64,
     pub sum: u64,

@@ -9,7 +9,7 @@ ghost use Rattle.fak_processor.specs.Joined.{AreTalliesOf, ids_of_tallies};
 ghost use Rattle.fak_kernel.specs.Closing.{AreClosed, IsSleeper, IsWholeAt};
 
 use crate::ending::joining::Tallies;
-use fak_files::FileRest;
+use fak_files::{FileRest, FileTable, FileTally};
 use fak_model::FileEntry;
 use fak_process::{Context, Fault, Run, Sleeper};
 use fak_processor::{Objects, Semaphores};
@@ -72,6 +72,43 @@ fn read_entries(alloc: Global, rest: &FileRest, count: u64) -> Result<Vec<FileEn
     Ok(entries)
 }
 
+/// What of the objects has something left, with its tallies.
+#[derive(Drop)]
+struct Closing<K: Run> {
+    semaphores: Vec<Semaphore<Sleeper<K>>>,
+    tallies: Vec<SemTally<Sleeper<K>>>,
+    files: FileTable,
+    file_tally: FileTally,
+}
+
+/// Takes apart what is to be closed, and drops what has nothing left.
+fn closing_of<K: Run>(objects: Objects<K>, tallies: Tallies<K>) -> Closing<K>
+    ensures semaphores { result.semaphores.items ≡ objects.semaphores }
+    ensures tallies { result.tallies.items ≡ tallies.semaphores }
+    ensures files { result.files ≡ objects.files }
+    ensures file_tally { result.file_tally ≡ tallies.files }
+{
+    let Objects {
+        ready: _,
+        free: _,
+        semaphores: Semaphores { all: semaphores },
+        births: _,
+        busy: _,
+        files,
+        alarm: _,
+    } = objects;
+    let Tallies {
+        single,
+        semaphores: tallies,
+    } = tallies;
+    Closing {
+        semaphores,
+        tallies,
+        files,
+        file_tally: single.files,
+    }
+}
+
 /// Closes the objects, whose file table has so many entries, once all seats are joined.
 #[tactic(auto, using(crate::proofs::Closing::length_entries))]
 pub(crate) fn close<K: Run>(
@@ -88,24 +125,12 @@ pub(crate) fn close<K: Run>(
     ensures entries { IfOk result (λ left. left.entries.items ≡ entries_after tallies.files.seen 0 objects.files.entries) }
     ensures memory { IfErr result (λ fault. fault ≡ Fault.Memory) }
 {
-    let Objects {
-        ready: _,
-        free: _,
+    let Closing {
         semaphores,
-        births: _,
-        busy: _,
+        tallies,
         files,
-        alarm: _,
-    } = objects;
-    let Semaphores { all: semaphores } = semaphores;
-    let Tallies {
-        ready: _,
-        free: _,
-        births: _,
-        busy: _,
-        semaphores: tallies,
-        files: file_tally,
-    } = tallies;
+        file_tally,
+    } = closing_of(objects, tallies);
     let asleep = close_each(alloc, semaphores, tallies)?;
     let rest = files.close(file_tally);
     let entries = read_entries(alloc, &rest, count)?;

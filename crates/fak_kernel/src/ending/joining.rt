@@ -1,6 +1,11 @@
 //! How the seats of the processors are joined, processor by processor.
 
 ghost use Rattle.std.specs.Prelude.{◌≡◌, ◌++◌, map, IfOk, IfErr};
+ghost use Rattle.fak_model.specs.Calls.{IsJoined, tally_of};
+ghost use Rattle.fak_model.specs.Credit.{credit_rules};
+ghost use Rattle.fak_model.specs.File.{file_rules};
+ghost use Rattle.fak_model.specs.Queue.{queue_rules};
+ghost use Rattle.fak_model.specs.Room.{room_rules};
 ghost use Rattle.fak_queue.specs.declared.state.SeatState.TheVariants.{Idle};
 ghost use Rattle.fak_queue.specs.Queues.{state_of};
 ghost use Rattle.fak_files.specs.declared.phase.Hold.TheVariants.{Nothing};
@@ -8,24 +13,30 @@ ghost use Rattle.fak_sem.specs.Semaphores.{sem_tally_of};
 ghost use Rattle.fak_processor.specs.Processors.{AreOf, ids_of, ids_of_seats};
 ghost use Rattle.fak_processor.specs.Joined.{AreTalliesOf, JoinAll, JoinEach, first_tallies, ids_of_tallies};
 
-use fak_count::{CreditTally, RoomTally};
-use fak_files::FileTally;
+use fak_count::{CreditSeat, CreditTally, RoomSeat, RoomTally};
+use fak_files::{FileSeat, FileTally};
 use fak_process::{Context, Fault, Run, Sleeper, Slot};
 use fak_processor::{Objects, Processor, SemSeats};
-use fak_queue::Tally;
+use fak_queue::{Seat, Tally};
 use fak_sem::{SemTally, Semaphore};
 use std::alloc::Global;
 use std::marker::Model;
 
-/// The seats of some processors, joined.
+/// Of each object that a run has one of, the seats of some processors, joined.
 #[derive(Drop)]
-pub(crate) struct Tallies<K: Run> {
+pub(crate) struct SingleTallies<K: Run> {
     pub(crate) ready: Tally<Context<K>>,
     pub(crate) free: Tally<Slot<K>>,
     pub(crate) births: RoomTally,
     pub(crate) busy: CreditTally,
-    pub(crate) semaphores: Vec<SemTally<Sleeper<K>>>,
     pub(crate) files: FileTally,
+}
+
+/// The seats of some processors, joined.
+#[derive(Drop)]
+pub(crate) struct Tallies<K: Run> {
+    pub(crate) single: SingleTallies<K>,
+    pub(crate) semaphores: Vec<SemTally<Sleeper<K>>>,
 }
 
 impl<K: Run> Model for Tallies<K> {
@@ -34,13 +45,38 @@ impl<K: Run> Model for Tallies<K> {
     ghost Value = { TalliesOf };
 
     ghost view = { λ t. record {
-      ready = t.ready;
-      free = t.free;
-      births = t.births;
-      busy = t.busy;
+      ready = t.single.ready;
+      free = t.single.free;
+      births = t.single.births;
+      busy = t.single.busy;
       semaphores = t.semaphores.items;
-      files = t.files;
+      files = t.single.files;
     } };
+}
+
+/// Of each object that a run has one of, a processor's seat.
+#[derive(Drop)]
+struct SingleSeats<K: Run> {
+    ready: Seat<Context<K>>,
+    free: Seat<Slot<K>>,
+    births: RoomSeat,
+    busy: CreditSeat,
+    files: FileSeat,
+}
+
+/// The processes that some processors saw end and halt.
+#[derive(Drop)]
+struct Processes<K: Run> {
+    ended: Vec<Context<K>>,
+    halted: Vec<Context<K>>,
+}
+
+/// A processor that has left, in parts: its seats of the objects that a run has one of, those of the semaphores, and its processes.
+#[derive(Drop)]
+struct Parts<K: Run> {
+    single: SingleSeats<K>,
+    semaphores: SemSeats<K>,
+    processes: Processes<K>,
 }
 
 /// Some processors that have left: their seats, and the processes that they saw end and halt.
@@ -92,6 +128,131 @@ fn join_each<K: Run>(
     Ok(joined)
 }
 
+/// The parts of a processor.
+fn parts_of<K: Run>(processor: Processor<K>) -> Parts<K>
+    ensures ready { result.single.ready ≡ processor.ready }
+    ensures free { result.single.free ≡ processor.free }
+    ensures births { result.single.births ≡ processor.births }
+    ensures busy { result.single.busy ≡ processor.busy }
+    ensures files { result.single.files ≡ processor.files }
+    ensures semaphores { result.semaphores ≡ processor.semaphores }
+    ensures ended { result.processes.ended.items ≡ processor.ended }
+    ensures halted { result.processes.halted.items ≡ processor.halted }
+{
+    let Processor {
+        ready,
+        free,
+        semaphores,
+        births,
+        busy,
+        files,
+        ended,
+        halted,
+        copy: _,
+    } = processor;
+    Parts {
+        single: SingleSeats {
+            ready,
+            free,
+            births,
+            busy,
+            files,
+        },
+        semaphores,
+        processes: Processes { ended, halted },
+    }
+}
+
+/// The processes, and then those of one processor more.
+fn appended<K: Run>(processes: Processes<K>, more: Processes<K>) -> Result<Processes<K>, Fault>
+    ensures ended { IfOk result (λ all. all.ended.items ≡ processes.ended.items ++ more.ended.items) }
+    ensures halted { IfOk result (λ all. all.halted.items ≡ processes.halted.items ++ more.halted.items) }
+    ensures memory { IfErr result (λ fault. fault ≡ Fault.Memory) }
+{
+    let mut all = processes;
+    let mut more = more;
+    all.ended.append(&mut more.ended)?;
+    all.halted.append(&mut more.halted)?;
+    Ok(all)
+}
+
+impl<K: Run> SingleTallies<K> {
+    /// The tallies of these seats alone.
+    fn of(seats: SingleSeats<K>) -> SingleTallies<K>
+        requires idle { (state_of seats.ready ≡ Idle) × (state_of seats.free ≡ Idle) × (seats.files.hold ≡ Nothing) }
+        ensures ready { result.ready ≡ tally_of seats.ready }
+        ensures free { result.free ≡ tally_of seats.free }
+        ensures births { result.births ≡ tally_of seats.births }
+        ensures busy { result.busy ≡ tally_of seats.busy }
+        ensures files { result.files ≡ tally_of seats.files.seat }
+    {
+        SingleTallies {
+            ready: Tally::of(seats.ready),
+            free: Tally::of(seats.free),
+            births: RoomTally::of(seats.births),
+            busy: CreditTally::of(seats.busy),
+            files: FileTally::of(seats.files),
+        }
+    }
+
+    /// The tallies with these seats too.
+    fn join(self, objects: &Objects<K>, seats: SingleSeats<K>) -> SingleTallies<K>
+        requires ready { (self.ready.object ≡ objects.now.ready.object) × (seats.ready.object ≡ objects.now.ready.object) }
+        requires free { (self.free.object ≡ objects.now.free.object) × (seats.free.object ≡ objects.now.free.object) }
+        requires births { (self.births.object ≡ objects.now.births.object) × (seats.births.object ≡ objects.now.births.object) }
+        requires busy { (self.busy.object ≡ objects.now.busy.object) × (seats.busy.object ≡ objects.now.busy.object) }
+        requires files { (self.files.object ≡ objects.now.files.object) × (seats.files.seat.object ≡ objects.now.files.object) }
+        requires idle { (state_of seats.ready ≡ Idle) × (state_of seats.free ≡ Idle) × (seats.files.hold ≡ Nothing) }
+        ensures ready { IsJoined (queue_rules objects.now.ready.size) self.ready seats.ready result.ready }
+        ensures free { IsJoined (queue_rules objects.now.free.size) self.free seats.free result.free }
+        ensures births { IsJoined (room_rules objects.now.births.bound) self.births seats.births result.births }
+        ensures busy { IsJoined credit_rules self.busy seats.busy result.busy }
+        ensures files { IsJoined (file_rules objects.now.files.object.seats) self.files seats.files.seat result.files }
+    {
+        SingleTallies {
+            ready: objects.ready.join(self.ready, seats.ready),
+            free: objects.free.join(self.free, seats.free),
+            births: objects.births.join(self.births, seats.births),
+            busy: objects.busy.join(self.busy, seats.busy),
+            files: objects.files.join(self.files, seats.files),
+        }
+    }
+}
+
+impl<K: Run> Tallies<K> {
+    /// The tallies with these seats too.
+    fn join(
+        self,
+        alloc: Global,
+        objects: &Objects<K>,
+        single: SingleSeats<K>,
+        semaphores: SemSeats<K>,
+    ) -> Result<Tallies<K>, Fault>
+        requires tallies { AreTalliesOf objects.now self }
+        requires ready { single.ready.object ≡ objects.now.ready.object }
+        requires free { single.free.object ≡ objects.now.free.object }
+        requires births { single.births.object ≡ objects.now.births.object }
+        requires busy { single.busy.object ≡ objects.now.busy.object }
+        requires semaphores { ids_of_seats semaphores ≡ ids_of objects.now.semaphores }
+        requires files { single.files.seat.object ≡ objects.now.files.object }
+        requires idle { (state_of single.ready ≡ Idle) × (state_of single.free ≡ Idle) × (single.files.hold ≡ Nothing) }
+        ensures ready { IfOk result (λ both. IsJoined (queue_rules objects.now.ready.size) self.ready single.ready both.ready) }
+        ensures free { IfOk result (λ both. IsJoined (queue_rules objects.now.free.size) self.free single.free both.free) }
+        ensures births { IfOk result (λ both. IsJoined (room_rules objects.now.births.bound) self.births single.births both.births) }
+        ensures busy { IfOk result (λ both. IsJoined credit_rules self.busy single.busy both.busy) }
+        ensures semaphores { IfOk result (λ both. JoinEach objects.now.semaphores self.semaphores semaphores both.semaphores) }
+        ensures files { IfOk result (λ both. IsJoined (file_rules objects.now.files.object.seats) self.files single.files.seat both.files) }
+        ensures memory { IfErr result (λ fault. fault ≡ Fault.Memory) }
+    {
+        let all = objects.semaphores.all.as_slice();
+        let semaphores = join_each(alloc, all, self.semaphores, semaphores)?;
+        Ok(Tallies {
+            single: self.single.join(objects, single),
+            semaphores,
+        })
+    }
+}
+
 impl<K: Run> Joined<K> {
     /// One processor, the first.
     pub(crate) fn of(alloc: Global, processor: Processor<K>) -> Result<Joined<K>, Fault>
@@ -101,30 +262,20 @@ impl<K: Run> Joined<K> {
         ensures halted { IfOk result (λ joined. joined.halted.items ≡ processor.halted) }
         ensures memory { IfErr result (λ fault. fault ≡ Fault.Memory) }
     {
-        let Processor {
-            ready,
-            free,
+        let Parts {
+            single,
             semaphores,
-            births,
-            busy,
-            files,
-            ended,
-            halted,
-            copy: _,
-        } = processor;
+            processes,
+        } = parts_of(processor);
         let semaphores = first_each(alloc, semaphores)?;
         let tallies = Tallies {
-            ready: Tally::of(ready),
-            free: Tally::of(free),
-            births: RoomTally::of(births),
-            busy: CreditTally::of(busy),
+            single: SingleTallies::of(single),
             semaphores,
-            files: FileTally::of(files),
         };
         Ok(Joined {
             tallies,
-            ended,
-            halted,
+            ended: processes.ended,
+            halted: processes.halted,
         })
     }
 
@@ -144,36 +295,16 @@ impl<K: Run> Joined<K> {
     {
         let Joined {
             tallies,
-            mut ended,
-            mut halted,
+            ended,
+            halted,
         } = self;
-        let Processor {
-            ready,
-            free,
+        let Parts {
+            single,
             semaphores,
-            births,
-            busy,
-            files,
-            ended: mut more_ended,
-            halted: mut more_halted,
-            copy: _,
-        } = processor;
-        ended.append(&mut more_ended)?;
-        halted.append(&mut more_halted)?;
-        let semaphores = join_each(
-            alloc,
-            objects.semaphores.all.as_slice(),
-            tallies.semaphores,
-            semaphores,
-        )?;
-        let tallies = Tallies {
-            ready: objects.ready.join(tallies.ready, ready),
-            free: objects.free.join(tallies.free, free),
-            births: objects.births.join(tallies.births, births),
-            busy: objects.busy.join(tallies.busy, busy),
-            semaphores,
-            files: objects.files.join(tallies.files, files),
-        };
+            processes,
+        } = parts_of(processor);
+        let Processes { ended, halted } = appended(Processes { ended, halted }, processes)?;
+        let tallies = tallies.join(alloc, objects, single, semaphores)?;
         Ok(Joined {
             tallies,
             ended,

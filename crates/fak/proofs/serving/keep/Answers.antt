@@ -1,5 +1,5 @@
 use Rattle.std.proofs.Common.{◌∙◌, ◌-◌, rules}
-use Rattle.fak.specs.Answers.{most_kept}
+use Rattle.fak_replay.specs.Answers.{most_kept}
 use Rattle.fak.proofs.Input.{front_grows_by}
 use Rattle.fak.proofs.serving.keep.Goals as goal
 

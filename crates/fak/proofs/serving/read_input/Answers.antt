@@ -1,5 +1,5 @@
 use Rattle.std.proofs.Common.{◌++◌, take, rules}
-use Rattle.fak.specs.Answers.{most_kept}
+use Rattle.fak_replay.specs.Answers.{most_kept}
 use Rattle.fak.proofs.Input.{consumes_more, at_last}
 use Rattle.fak.proofs.serving.read_input.Goals as goal
 

@@ -1,6 +1,6 @@
 use Rattle.std.proofs.Common.{◌≡◌, ℕ, List, take}
 use Rattle.std.specs.Io.KnownBytes.{Consumes}
-use Rattle.fak.specs.Answers.{most_kept}
+use Rattle.fak_replay.specs.Answers.{most_kept}
 use Rattle.fak.proofs.serving.read_input.Given as goal
 
 -- what was consumed so far, and that its front is kept

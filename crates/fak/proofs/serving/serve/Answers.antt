@@ -1,7 +1,7 @@
 use Rattle.std.proofs.Common.{List, ℕ, rules}
 use Rattle.std.specs.Io.KnownBytes.{Appends}
 use Rattle.std.proofs.lemmas.Result.{err_from_is_err_and}
-use Rattle.fak.specs.Answers.{reply_of}
+use Rattle.fak_replay.specs.Answers.{reply_of}
 use Rattle.fak.proofs.Input.{serves, fails}
 use Rattle.fak.proofs.serving.serve.Goals as goal
 

@@ -1,9 +1,9 @@
 //! The text of a replay, as it grows.
 
 ghost use Rattle.std.specs.Prelude.{◌≡◌, ◌++◌, [], ◌∷◌, IfErr, IsTrue, OnOk, Some, string_bytes};
-ghost use Rattle.fak.specs.Replay.{IsShownRow, text_of_row};
-ghost use Rattle.fak.specs.Trace.{KeepsItsLine};
-ghost use Rattle.fak.specs.declared.fault.MainFault.TheVariants.{Memory};
+ghost use Rattle.fak_replay.specs.Replay.{IsShownRow, text_of_row};
+ghost use Rattle.fak_replay.specs.Trace.{KeepsItsLine};
+ghost use Rattle.fak_replay.specs.declared.fault.MainFault.TheVariants.{Memory};
 
 use crate::fault::MainFault;
 use crate::row::Row;

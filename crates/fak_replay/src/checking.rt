@@ -1,7 +1,7 @@
 //! The command `check`: whether a recorded history of a queue is legal.
 
-ghost use Rattle.fak.specs.Answers.{GivesAnswer, IsReply};
-ghost use Rattle.fak.specs.declared.command.Command.TheVariants.{Check};
+ghost use Rattle.fak_replay.specs.Answers.{GivesAnswer, IsReply};
+ghost use Rattle.fak_replay.specs.declared.command.Command.TheVariants.{Check};
 
 use crate::answer::Answer;
 use crate::fault::MainFault;

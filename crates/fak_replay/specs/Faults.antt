@@ -4,8 +4,8 @@ use Rattle.fak_process.specs.declared.fault.Fault.{Fault}
 use Rattle.fak_process.specs.declared.fault.Fault.TheVariants as run
 use Rattle.fak_text.specs.declared.fault.TextFault.{TextFault}
 use Rattle.fak_text.specs.declared.fault.TextFault.TheVariants as text
-use Rattle.fak.specs.declared.fault.MainFault.{MainFault}
-use Rattle.fak.specs.declared.fault.MainFault.TheVariants.{Usage, Text, Kernel, Memory, Read, Write}
+use Rattle.fak_replay.specs.declared.fault.MainFault.{MainFault}
+use Rattle.fak_replay.specs.declared.fault.MainFault.TheVariants.{Usage, Text, Kernel, Memory, Read, Write}
 
 -- the program's fault where an input can't be read
 abbrev pub fault_of : TextFault → MainFault

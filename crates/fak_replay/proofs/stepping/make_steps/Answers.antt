@@ -1,7 +1,7 @@
 use Rattle.std.proofs.Common.{string_bytes, ◌++◌, ◌+◌, ◌-◌, ◌∙◌, ap, sym, replicate}
-use Rattle.fak.specs.Replay.{rows_from, steps, text_of_rows}
-use Rattle.fak.proofs.Replays.{row_appended, steps_left}
-use Rattle.fak.proofs.stepping.make_steps.Goals as goal
+use Rattle.fak_replay.specs.Replay.{rows_from, steps, text_of_rows}
+use Rattle.fak_replay.proofs.Replays.{row_appended, steps_left}
+use Rattle.fak_replay.proofs.stepping.make_steps.Goals as goal
 
 pub loop-made-preserved : goal.loop-made-preserved
 loop-made-preserved c = (

@@ -1,7 +1,7 @@
 -- The text of a replay, as it grows.
 use Rattle.std.specs.Prelude.{◌≡◌, [], ◌∷◌, ◌++◌, IfSome, string_bytes}
-use Rattle.fak.specs.Replay.{text_of_row}
-use Rattle.fak.specs.declared.trace.Trace.{Trace}
+use Rattle.fak_replay.specs.Replay.{text_of_row}
+use Rattle.fak_replay.specs.declared.trace.Trace.{Trace}
 
 -- where a last row is kept, its line is: the row's text and a newline
 abbrev pub KeepsItsLine : Trace → Type 0

@@ -1,10 +1,10 @@
 //! Why the program gave no answer.
 
 ghost use Rattle.std.specs.Prelude.{◌≡◌};
-ghost use Rattle.fak.specs.Faults.{fault_of, fault_of_run, status_of};
-ghost use Rattle.fak.specs.declared.fault.MainFault.TheVariants.{Memory};
+ghost use Rattle.fak_replay.specs.Faults.{fault_of, fault_of_run, status_of};
+ghost use Rattle.fak_replay.specs.declared.fault.MainFault.TheVariants.{Memory};
 
-use fak_kernel::Fault;
+use fak_process::Fault;
 use fak_text::TextFault;
 use std::alloc::{AllocError, AllocFailed};
 use thiserror::Error;

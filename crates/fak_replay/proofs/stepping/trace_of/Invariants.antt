@@ -1,7 +1,7 @@
 use Rattle.std.proofs.Common.{string_bytes, ◌≡◌, ◌++◌, drop, flat_map}
-use Rattle.fak.specs.Replay.{actions_of, rows_from, text_of_rows}
-use Rattle.fak.specs.Trace.{KeepsItsLine}
-use Rattle.fak.proofs.stepping.trace_of.Given as goal
+use Rattle.fak_replay.specs.Replay.{actions_of, rows_from, text_of_rows}
+use Rattle.fak_replay.specs.Trace.{KeepsItsLine}
+use Rattle.fak_replay.proofs.stepping.trace_of.Given as goal
 
 -- what is printed so far, and the events that are still to come, print what all events print; and the last line is kept
 abbrev pub invariant-loop-event : goal.invariant-loop-event

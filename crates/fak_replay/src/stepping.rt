@@ -3,10 +3,10 @@
 ghost use Rattle.std.specs.Prelude.{◌≡◌, ◌++◌, [], ◌∷◌, All, IfErr, IfOk, IfSome, List, MatchResult, None, Ok, OnOk, Some, replicate, string_bytes};
 ghost use Rattle.std.specs.List.{flat_map};
 ghost use Rattle.fak_text.specs.ScheduleText.{IsActInRange};
-ghost use Rattle.fak.specs.Replay.{Action, IsRefusedStep, IsShownRow, actions_of, begins, list_of, outcome_of, rows_from, steps, text_of_rows};
-ghost use Rattle.fak.specs.Trace.{KeepsItsLine};
-ghost use Rattle.fak.specs.declared.fault.MainFault.TheVariants.{Memory};
-ghost use Rattle.fak.specs.declared.row.Row.TheVariants.{Moved, Refused};
+ghost use Rattle.fak_replay.specs.Replay.{Action, IsRefusedStep, IsShownRow, actions_of, begins, list_of, outcome_of, rows_from, steps, text_of_rows};
+ghost use Rattle.fak_replay.specs.Trace.{KeepsItsLine};
+ghost use Rattle.fak_replay.specs.declared.fault.MainFault.TheVariants.{Memory};
+ghost use Rattle.fak_replay.specs.declared.row.Row.TheVariants.{Moved, Refused};
 
 use crate::fault::MainFault;
 use crate::machine::Machine;

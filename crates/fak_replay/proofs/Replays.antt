@@ -1,8 +1,8 @@
 -- The text of a replay, action by action.
 use Rattle.std.proofs.Common.{◌≡◌, ℕ, suc, ◌+◌, ◌-◌, ◌<◌, List, [], ◌∷◌, ◌++◌, ap, sym, ◌∙◌, arith, append_assoc, replicate}
-use Rattle.fak.specs.declared.machine.Machine.{Machine}
-use Rattle.fak.specs.declared.row.Row.{Row}
-use Rattle.fak.specs.Replay.{Action, ReplayOutcome, steps, outcome_of, rows_from, text_of_row, text_of_rows}
+use Rattle.fak_replay.specs.declared.machine.Machine.{Machine}
+use Rattle.fak_replay.specs.declared.row.Row.{Row}
+use Rattle.fak_replay.specs.Replay.{Action, ReplayOutcome, steps, outcome_of, rows_from, text_of_row, text_of_rows}
 
 -- an action that prints one row
 row_first : (machine next : Machine) (row : Row) (action : Action) (rest : List Action) → outcome_of machine action ≡ record { machine = next; rows = row ∷ [] }

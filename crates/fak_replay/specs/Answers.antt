@@ -9,14 +9,14 @@ use Rattle.fak_text.specs.Script.{ScriptOf}
 use Rattle.fak_text.specs.ScriptText.{script_in}
 use Rattle.fak_text.specs.HistoryText.{HistoryOf, history_in}
 use Rattle.fak_text.specs.declared.fault.TextFault.{TextFault}
-use Rattle.fak.specs.declared.answer.Answer.{Answer}
-use Rattle.fak.specs.declared.command.Command.{Command}
-use Rattle.fak.specs.declared.command.Command.TheVariants.{Replay, Check, Run}
-use Rattle.fak.specs.declared.fault.MainFault.{MainFault}
-use Rattle.fak.specs.declared.fault.MainFault.TheVariants.{Usage, Text, Kernel, Memory, Read, Write}
+use Rattle.fak_replay.specs.declared.answer.Answer.{Answer}
+use Rattle.fak_replay.specs.declared.command.Command.{Command}
+use Rattle.fak_replay.specs.declared.command.Command.TheVariants.{Replay, Check, Run}
+use Rattle.fak_replay.specs.declared.fault.MainFault.{MainFault}
+use Rattle.fak_replay.specs.declared.fault.MainFault.TheVariants.{Usage, Text, Kernel, Memory, Read, Write}
 use Rattle.fak_text.specs.ScheduleText.{ScheduleOf, schedule_in}
-use Rattle.fak.specs.Faults.{fault_of}
-use Rattle.fak.specs.Replay.{replay_of}
+use Rattle.fak_replay.specs.Faults.{fault_of}
+use Rattle.fak_replay.specs.Replay.{replay_of}
 
 -- a status and a text
 abbrev pub Reply : Type 0

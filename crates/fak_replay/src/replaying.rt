@@ -2,10 +2,10 @@
 
 ghost use Rattle.std.specs.Prelude.{◌≡◌, ◌≤◌, IfErr, IfOk};
 ghost use Rattle.fak_text.specs.ScheduleText.{IsObjectInRange};
-ghost use Rattle.fak.specs.Answers.{GivesAnswer, IsReply};
-ghost use Rattle.fak.specs.Replay.{machine_of};
-ghost use Rattle.fak.specs.declared.command.Command.TheVariants.{Replay};
-ghost use Rattle.fak.specs.declared.fault.MainFault.TheVariants.{Memory};
+ghost use Rattle.fak_replay.specs.Answers.{GivesAnswer, IsReply};
+ghost use Rattle.fak_replay.specs.Replay.{machine_of};
+ghost use Rattle.fak_replay.specs.declared.command.Command.TheVariants.{Replay};
+ghost use Rattle.fak_replay.specs.declared.fault.MainFault.TheVariants.{Memory};
 
 use crate::answer::Answer;
 use crate::fault::MainFault;

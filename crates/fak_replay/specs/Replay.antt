@@ -19,12 +19,12 @@ use Rattle.fak_text.specs.declared.schedule.Object.TheVariants as objects
 use Rattle.fak_text.specs.LineText.{text_of_line, text_of_refusal}
 use Rattle.fak_text.specs.Names.{IsRefusal}
 use Rattle.fak_text.specs.ScheduleText.{ScheduleOf}
-use Rattle.fak.specs.declared.fault.MainFault.{MainFault}
-use Rattle.fak.specs.declared.fault.MainFault.TheVariants.{Memory}
-use Rattle.fak.specs.declared.machine.Machine.{Machine}
-use Rattle.fak.specs.declared.machine.Machine.TheVariants as machines
-use Rattle.fak.specs.declared.row.Row.{Row}
-use Rattle.fak.specs.declared.row.Row.TheVariants.{Moved, Refused}
+use Rattle.fak_replay.specs.declared.fault.MainFault.{MainFault}
+use Rattle.fak_replay.specs.declared.fault.MainFault.TheVariants.{Memory}
+use Rattle.fak_replay.specs.declared.machine.Machine.{Machine}
+use Rattle.fak_replay.specs.declared.machine.Machine.TheVariants as machines
+use Rattle.fak_replay.specs.declared.row.Row.{Row}
+use Rattle.fak_replay.specs.declared.row.Row.TheVariants.{Moved, Refused}
 
 -- ---- actions
 

@@ -1,7 +1,7 @@
 use Rattle.std.proofs.Common.{string_bytes, ◌≡◌, ◌++◌, ◌-◌, List, replicate}
-use Rattle.fak.specs.Replay.{Action, rows_from, steps, text_of_rows}
-use Rattle.fak.specs.Trace.{KeepsItsLine}
-use Rattle.fak.proofs.stepping.make_steps.Given as goal
+use Rattle.fak_replay.specs.Replay.{Action, rows_from, steps, text_of_rows}
+use Rattle.fak_replay.specs.Trace.{KeepsItsLine}
+use Rattle.fak_replay.proofs.stepping.make_steps.Given as goal
 
 -- what is printed so far, and the steps that are still to come, print what all steps print; and the last line is kept
 abbrev pub invariant-loop-made : goal.invariant-loop-made

@@ -1,0 +1,6 @@
+use Rattle.std.proofs.Common.{ap}
+use Rattle.fak_text.proofs.Common.{ScriptOf}
+use Rattle.fak_text.proofs.script.Script.quantum.Goals as goal
+
+pub returns-clause-value : goal.returns-clause-value
+returns-clause-value c = ap (λ (s : ScriptOf). s.quantum) c.self.view_is
