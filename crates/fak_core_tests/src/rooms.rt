@@ -5,19 +5,23 @@ use fak_model::{RoomKind, RoomMark};
 use std::alloc::Global;
 use std::process::Abort;
 
+/// One atomic step.
+fn line(seat: u64, step: CoreMove, found: i128, kind: Option<RoomKind>) -> Result<Line, CoreFault> {
+    Ok(Line {
+        seat,
+        step,
+        found,
+        mark: kind.map(LineMark::Room),
+    })
+}
+
 /// A step of a seat: which it is, what it finds, and the mark that it leaves.
 type Step = (u64, CoreMove, i128, Option<RoomKind>);
 
 /// Makes the next steps, which are to be these.
 fn steps(rt: &impl Abort, alloc: Global, core: &mut RoomCore, trace: &[Step]) {
     for &(seat, step, found, kind) in trace {
-        let line = Line {
-            seat,
-            step,
-            found,
-            mark: kind.map(LineMark::Room),
-        };
-        assert_eq!(rt; core.advance(alloc, seat), Ok(line));
+        assert_eq!(rt; core.advance(alloc, seat), line(seat, step, found, kind));
     }
 }
 
@@ -25,21 +29,18 @@ fn steps(rt: &impl Abort, alloc: Global, core: &mut RoomCore, trace: &[Step]) {
 fn a_second_claim_is_refused_at_the_test(rt: HostRuntime) -> Result<(), CoreFault> {
     let mut core = RoomCore::new(rt.alloc(), 1, 2)?;
     core.begin(0, RoomCall::Tir(1))?;
-    steps(
-        &rt,
-        rt.alloc(),
-        &mut core,
-        &[
-            (0, CoreMove::Test, 0, None),
-            (0, CoreMove::Add, 0, Some(RoomKind::Up(1))),
-        ],
+    assert_eq!(rt;
+        core.advance(rt.alloc(), 0),
+        line(0, CoreMove::Test, 0, None)
+    );
+    assert_eq!(rt;
+        core.advance(rt.alloc(), 0),
+        line(0, CoreMove::Add, 0, Some(RoomKind::Up(1)))
     );
     core.begin(1, RoomCall::Tir(1))?;
-    steps(
-        &rt,
-        rt.alloc(),
-        &mut core,
-        &[(1, CoreMove::Test, 1, Some(RoomKind::No(1)))],
+    assert_eq!(rt;
+        core.advance(rt.alloc(), 1),
+        line(1, CoreMove::Test, 1, Some(RoomKind::No(1)))
     );
     assert_eq!(rt; core.value(), 1);
     assert_eq!(rt; core.held(0), 1);

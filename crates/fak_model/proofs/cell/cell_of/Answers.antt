@@ -1,0 +1,5 @@
+use Rattle.std.proofs.Common.{refl}
+use Rattle.fak_model.proofs.cell.cell_of.Goals as goal
+
+pub returns : goal.returns
+returns c = refl
