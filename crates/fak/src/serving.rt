@@ -6,7 +6,7 @@ ghost use Rattle.fak_replay.specs.Answers.{FailsToServe, GivesAnswer, IsRead, Is
 ghost use Rattle.fak_replay.specs.declared.fault.MainFault.TheVariants as faults;
 
 use crate::running::run_script;
-use fak_replay::{Command, MainFault, check, replay};
+use fak_replay::{Answer, Command, MainFault, check, replay};
 use std::alloc::Global;
 use std::io::{Read, Write};
 use std::marker::Sync;
