@@ -2,14 +2,13 @@
 
 use fak_core::{CoreFault, CoreMove, Line, LineMark, QueueCall, QueueCore};
 use fak_model::{Kind, Mark};
-use std::alloc::Global;
 use std::process::Abort;
 
 /// A step of a seat: which it is, what it finds, and the mark that it leaves.
 type Step = (u64, CoreMove, i128, Option<Kind<u64>>);
 
 /// Makes the next steps, which are to be these.
-fn steps(rt: &impl Abort, alloc: Global, core: &mut QueueCore, trace: &[Step]) {
+fn steps(rt: &(impl AllocGlobal + Abort), core: &mut QueueCore, trace: &[Step]) {
     for &(seat, step, found, kind) in trace {
         let line = Line {
             seat,
@@ -17,7 +16,7 @@ fn steps(rt: &impl Abort, alloc: Global, core: &mut QueueCore, trace: &[Step]) {
             found,
             mark: kind.map(LineMark::Queue),
         };
-        assert_eq!(rt; core.advance(alloc, seat), Ok(line));
+        assert_eq!(rt; core.advance(rt.alloc(), seat), Ok(line));
     }
 }
 
@@ -47,9 +46,9 @@ const DELETED: [Step; 7] = [
 fn an_item_is_inserted_and_deleted(rt: HostRuntime) -> Result<(), CoreFault> {
     let mut core = QueueCore::new(rt.alloc(), 1, 1)?;
     core.begin(0, QueueCall::Insert(7))?;
-    steps(&rt, rt.alloc(), &mut core, &INSERTED);
+    steps(&rt, &mut core, &INSERTED);
     core.begin(0, QueueCall::Delete)?;
-    steps(&rt, rt.alloc(), &mut core, &DELETED);
+    steps(&rt, &mut core, &DELETED);
     let kinds = [
         Kind::ClaimIn,
         Kind::Put(7),
@@ -71,23 +70,16 @@ fn a_deletion_too_many_is_withdrawn(rt: HostRuntime) -> Result<(), CoreFault> {
     core.begin(0, QueueCall::Delete)?;
     steps(
         &rt,
-        rt.alloc(),
         &mut core,
         &[(0, CoreMove::TestLow, 0, Some(Kind::NoItem))],
     );
     core.begin(0, QueueCall::Insert(7))?;
-    steps(&rt, rt.alloc(), &mut core, &INSERTED);
+    steps(&rt, &mut core, &INSERTED);
     core.begin(1, QueueCall::Delete)?;
-    steps(
-        &rt,
-        rt.alloc(),
-        &mut core,
-        &[(1, CoreMove::TestLow, 1, None)],
-    );
+    steps(&rt, &mut core, &[(1, CoreMove::TestLow, 1, None)]);
     core.begin(2, QueueCall::Delete)?;
     steps(
         &rt,
-        rt.alloc(),
         &mut core,
         &[
             (2, CoreMove::TestLow, 1, None),
@@ -98,7 +90,6 @@ fn a_deletion_too_many_is_withdrawn(rt: HostRuntime) -> Result<(), CoreFault> {
     core.begin(0, QueueCall::Delete)?;
     steps(
         &rt,
-        rt.alloc(),
         &mut core,
         &[
             (0, CoreMove::TestLow, -1, Some(Kind::NoItem)),
@@ -112,11 +103,10 @@ fn a_deletion_too_many_is_withdrawn(rt: HostRuntime) -> Result<(), CoreFault> {
 fn an_insertion_into_a_full_queue_is_refused(rt: HostRuntime) -> Result<(), CoreFault> {
     let mut core = QueueCore::new(rt.alloc(), 1, 1)?;
     core.begin(0, QueueCall::Insert(7))?;
-    steps(&rt, rt.alloc(), &mut core, &INSERTED);
+    steps(&rt, &mut core, &INSERTED);
     core.begin(0, QueueCall::Insert(8))?;
     steps(
         &rt,
-        rt.alloc(),
         &mut core,
         &[(0, CoreMove::TestUp, 1, Some(Kind::NoRoom))],
     );
@@ -127,11 +117,10 @@ fn an_insertion_into_a_full_queue_is_refused(rt: HostRuntime) -> Result<(), Core
 fn an_insertion_that_has_not_ended_gives_no_item(rt: HostRuntime) -> Result<(), CoreFault> {
     let mut core = QueueCore::new(rt.alloc(), 1, 2)?;
     core.begin(0, QueueCall::Insert(7))?;
-    steps(&rt, rt.alloc(), &mut core, &INSERTED[..6]);
+    steps(&rt, &mut core, &INSERTED[..6]);
     core.begin(1, QueueCall::Delete)?;
     steps(
         &rt,
-        rt.alloc(),
         &mut core,
         &[(1, CoreMove::TestLow, 0, Some(Kind::NoItem))],
     );
@@ -145,7 +134,6 @@ fn a_claim_not_yet_withdrawn_refuses_others(rt: HostRuntime) -> Result<(), CoreF
     core.begin(1, QueueCall::Insert(8))?;
     steps(
         &rt,
-        rt.alloc(),
         &mut core,
         &[
             (0, CoreMove::TestUp, 0, None),
@@ -154,19 +142,17 @@ fn a_claim_not_yet_withdrawn_refuses_others(rt: HostRuntime) -> Result<(), CoreF
             (1, CoreMove::AddUp, 1, Some(Kind::OverIn)),
         ],
     );
-    steps(&rt, rt.alloc(), &mut core, &INSERTED[2..]);
+    steps(&rt, &mut core, &INSERTED[2..]);
     core.begin(0, QueueCall::Delete)?;
-    steps(&rt, rt.alloc(), &mut core, &DELETED[..6]);
+    steps(&rt, &mut core, &DELETED[..6]);
     steps(
         &rt,
-        rt.alloc(),
         &mut core,
         &[(0, CoreMove::EndOut, 2, Some(Kind::EndOut))],
     );
     core.begin(2, QueueCall::Insert(9))?;
     steps(
         &rt,
-        rt.alloc(),
         &mut core,
         &[
             (2, CoreMove::TestUp, 1, Some(Kind::NoRoom)),
@@ -182,7 +168,6 @@ fn calls_overlap_in_a_queue_of_three_cells(rt: HostRuntime) -> Result<(), CoreFa
     core.begin(0, QueueCall::Insert(10))?;
     steps(
         &rt,
-        rt.alloc(),
         &mut core,
         &[
             (0, CoreMove::TestUp, 0, None),
@@ -193,7 +178,6 @@ fn calls_overlap_in_a_queue_of_three_cells(rt: HostRuntime) -> Result<(), CoreFa
     core.begin(1, QueueCall::Insert(11))?;
     steps(
         &rt,
-        rt.alloc(),
         &mut core,
         &[
             (1, CoreMove::TestUp, 1, None),
@@ -208,7 +192,6 @@ fn calls_overlap_in_a_queue_of_three_cells(rt: HostRuntime) -> Result<(), CoreFa
     core.begin(2, QueueCall::Delete)?;
     steps(
         &rt,
-        rt.alloc(),
         &mut core,
         &[
             (2, CoreMove::TestLow, 1, None),
@@ -220,7 +203,6 @@ fn calls_overlap_in_a_queue_of_three_cells(rt: HostRuntime) -> Result<(), CoreFa
     core.begin(1, QueueCall::Insert(12))?;
     steps(
         &rt,
-        rt.alloc(),
         &mut core,
         &[
             (1, CoreMove::TestUp, 2, None),
@@ -235,7 +217,6 @@ fn calls_overlap_in_a_queue_of_three_cells(rt: HostRuntime) -> Result<(), CoreFa
     core.begin(3, QueueCall::Delete)?;
     steps(
         &rt,
-        rt.alloc(),
         &mut core,
         &[
             (3, CoreMove::TestLow, 1, None),
@@ -250,7 +231,6 @@ fn calls_overlap_in_a_queue_of_three_cells(rt: HostRuntime) -> Result<(), CoreFa
     core.begin(1, QueueCall::Insert(13))?;
     steps(
         &rt,
-        rt.alloc(),
         &mut core,
         &[
             (1, CoreMove::TestUp, 2, None),
@@ -278,16 +258,10 @@ fn calls_overlap_in_a_queue_of_three_cells(rt: HostRuntime) -> Result<(), CoreFa
 fn a_shut_queue_refuses_insertions(rt: HostRuntime) -> Result<(), CoreFault> {
     let mut core = QueueCore::new(rt.alloc(), 2, 2)?;
     core.begin(0, QueueCall::Insert(5))?;
-    steps(
-        &rt,
-        rt.alloc(),
-        &mut core,
-        &[(0, CoreMove::TestUp, 0, None)],
-    );
+    steps(&rt, &mut core, &[(0, CoreMove::TestUp, 0, None)]);
     core.begin(1, QueueCall::Shut)?;
     steps(
         &rt,
-        rt.alloc(),
         &mut core,
         &[
             (1, CoreMove::Shut, 0, Some(Kind::Close)),
@@ -298,14 +272,12 @@ fn a_shut_queue_refuses_insertions(rt: HostRuntime) -> Result<(), CoreFault> {
     core.begin(1, QueueCall::Insert(6))?;
     steps(
         &rt,
-        rt.alloc(),
         &mut core,
         &[(1, CoreMove::TestUp, 0, Some(Kind::Closed))],
     );
     core.begin(1, QueueCall::Delete)?;
     steps(
         &rt,
-        rt.alloc(),
         &mut core,
         &[(1, CoreMove::TestLow, 0, Some(Kind::NoItem))],
     );
@@ -320,12 +292,7 @@ fn seats_without_a_step_to_make_are_refused(rt: HostRuntime) -> Result<(), CoreF
     assert_eq!(rt; core.advance(rt.alloc(), 1), Err(CoreFault::IdleSeat));
     core.begin(1, QueueCall::Insert(5))?;
     assert_eq!(rt; core.begin(1, QueueCall::Delete), Err(CoreFault::MidCall));
-    steps(
-        &rt,
-        rt.alloc(),
-        &mut core,
-        &[(1, CoreMove::TestUp, 0, None)],
-    );
+    steps(&rt, &mut core, &[(1, CoreMove::TestUp, 0, None)]);
     assert!(rt; core.marks().is_empty());
     Ok(())
 }

@@ -2,7 +2,6 @@
 
 use fak_core::{CoreFault, CoreMove, Line, LineMark, RoomCall, RoomCore};
 use fak_model::{RoomKind, RoomMark};
-use std::alloc::Global;
 use std::process::Abort;
 
 /// One atomic step.
@@ -19,9 +18,12 @@ fn line(seat: u64, step: CoreMove, found: i128, kind: Option<RoomKind>) -> Resul
 type Step = (u64, CoreMove, i128, Option<RoomKind>);
 
 /// Makes the next steps, which are to be these.
-fn steps(rt: &impl Abort, alloc: Global, core: &mut RoomCore, trace: &[Step]) {
+fn steps(rt: &(impl AllocGlobal + Abort), core: &mut RoomCore, trace: &[Step]) {
     for &(seat, step, found, kind) in trace {
-        assert_eq!(rt; core.advance(alloc, seat), line(seat, step, found, kind));
+        assert_eq!(rt;
+            core.advance(rt.alloc(), seat),
+            line(seat, step, found, kind)
+        );
     }
 }
 
@@ -66,7 +68,6 @@ fn a_claim_over_the_bound_is_withdrawn(rt: HostRuntime) -> Result<(), CoreFault>
     core.begin(1, RoomCall::Tir(1))?;
     steps(
         &rt,
-        rt.alloc(),
         &mut core,
         &[
             (0, CoreMove::Test, 0, None),
@@ -86,7 +87,6 @@ fn refused_calls_leave_the_others_as_they_were(rt: HostRuntime) -> Result<(), Co
     core.begin(0, RoomCall::Tir(3))?;
     steps(
         &rt,
-        rt.alloc(),
         &mut core,
         &[
             (0, CoreMove::Test, 0, None),
@@ -96,7 +96,6 @@ fn refused_calls_leave_the_others_as_they_were(rt: HostRuntime) -> Result<(), Co
     core.begin(1, RoomCall::Tir(3))?;
     steps(
         &rt,
-        rt.alloc(),
         &mut core,
         &[(1, CoreMove::Test, 3, Some(RoomKind::No(3)))],
     );
@@ -104,7 +103,6 @@ fn refused_calls_leave_the_others_as_they_were(rt: HostRuntime) -> Result<(), Co
     assert_eq!(rt; core.begin(1, RoomCall::Tir(2)), Err(CoreFault::MidCall));
     steps(
         &rt,
-        rt.alloc(),
         &mut core,
         &[
             (1, CoreMove::Test, 3, None),
@@ -119,7 +117,6 @@ fn refused_calls_leave_the_others_as_they_were(rt: HostRuntime) -> Result<(), Co
     core.begin(0, RoomCall::Release(3))?;
     steps(
         &rt,
-        rt.alloc(),
         &mut core,
         &[(0, CoreMove::Release, 5, Some(RoomKind::Release(3)))],
     );

@@ -4,6 +4,7 @@ ghost use Rattle.std.specs.Prelude.{◌≡◌, ℕ};
 ghost use Rattle.fak_queue.specs.declared.state.SeatState.TheVariants.{Deleting};
 ghost use Rattle.fak_queue.specs.Queues.{state_of};
 
+use super::calls::{claims_in, claims_out, fills, takes, waits_to_fill, waits_to_take};
 use super::threads::close_whole;
 use fak_queue::{InsertFault, Queue, Seat, SeatState, Tally};
 
@@ -26,50 +27,22 @@ fn four_seats_over_three_cells(rt: HostRuntime) {
     let mut c = seats.pop().expect(&rt, "four seats");
     let mut b = seats.pop().expect(&rt, "four seats");
     let mut a = seats.pop().expect(&rt, "four seats");
-    let Ok(0) = queue.claim_insert(&mut a, 10) else {
-        panic!(rt; "claim 10")
-    };
+    claims_in(&rt, &queue, &mut a, 10, 0);
     assert_eq!(rt; a.state(), SeatState::Inserting(0));
-    let Ok(1) = queue.claim_insert(&mut b, 11) else {
-        panic!(rt; "claim 11")
-    };
-    let Some(1) = queue.try_fill(&mut b) else {
-        panic!(rt; "fill 1")
-    };
-    let Ok(0) = queue.claim_delete(&mut c) else {
-        panic!(rt; "claim 0")
-    };
-    let None = queue.try_take(&mut c) else {
-        panic!(rt; "take 0 before its turn")
-    };
+    claims_in(&rt, &queue, &mut b, 11, 1);
+    fills(&rt, &queue, &mut b, 1);
+    claims_out(&rt, &queue, &mut c, 0);
+    waits_to_take(&rt, &queue, &mut c, 0);
     assert_eq!(rt; c.state(), SeatState::Deleting(0));
-    let Ok(2) = queue.claim_insert(&mut b, 12) else {
-        panic!(rt; "claim 12")
-    };
-    let Some(2) = queue.try_fill(&mut b) else {
-        panic!(rt; "fill 2")
-    };
-    let Ok(1) = queue.claim_delete(&mut d) else {
-        panic!(rt; "claim 1")
-    };
-    let Some((1, 11)) = queue.try_take(&mut d) else {
-        panic!(rt; "take 1")
-    };
-    let Ok(3) = queue.claim_insert(&mut b, 13) else {
-        panic!(rt; "claim 13")
-    };
-    let None = queue.try_fill(&mut b) else {
-        panic!(rt; "fill 3 before its turn")
-    };
-    let Some(0) = queue.try_fill(&mut a) else {
-        panic!(rt; "fill 0")
-    };
-    let Some((0, 10)) = queue.try_take(&mut c) else {
-        panic!(rt; "take 0")
-    };
-    let Some(3) = queue.try_fill(&mut b) else {
-        panic!(rt; "fill 3")
-    };
+    claims_in(&rt, &queue, &mut b, 12, 2);
+    fills(&rt, &queue, &mut b, 2);
+    claims_out(&rt, &queue, &mut d, 1);
+    assert_eq!(rt; takes(&rt, &queue, &mut d, 1), 11);
+    claims_in(&rt, &queue, &mut b, 13, 3);
+    waits_to_fill(&rt, &queue, &mut b, 3);
+    fills(&rt, &queue, &mut a, 0);
+    assert_eq!(rt; takes(&rt, &queue, &mut c, 0), 10);
+    fills(&rt, &queue, &mut b, 3);
     let tally = queue.join(queue.join(queue.join(Tally::of(a), b), c), d);
     let mut rest = close_whole(queue, tally).expect(&rt, "whole");
     assert_eq!(rt; rest.next(), Some(12));

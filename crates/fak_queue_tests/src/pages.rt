@@ -1,5 +1,6 @@
 //! An item of some kilobytes.
 
+use super::calls::{claims_in, claims_out, fills, takes, waits_to_fill};
 use fak_queue::Queue;
 
 // An item of 4 KB, which begins and ends with this number.
@@ -23,30 +24,17 @@ fn a_page_waits_for_its_cell(rt: HostRuntime) {
     let mut a = seats.pop().expect(&rt, "three seats");
     assert!(rt; matches!(queue.insert(&rt, &mut a, page_of(10)), Ok(0)));
     assert!(rt; matches!(queue.insert(&rt, &mut b, page_of(11)), Ok(1)));
-    let Ok(0) = queue.claim_delete(&mut c) else {
-        panic!(rt; "the first deletion's claim")
-    };
+    claims_out(&rt, &queue, &mut c, 0);
     assert!(rt;
         queue
             .delete(&rt, &mut b)
             .is_ok_and(|(ticket, item)| ticket == 1 && item == page_of(11))
     );
-    let Ok(2) = queue.claim_insert(&mut b, page_of(12)) else {
-        panic!(rt; "the claim of a cell that was not emptied")
-    };
-    let None = queue.try_fill(&mut b) else {
-        panic!(rt; "a cell that was not emptied")
-    };
-    let None = queue.try_fill(&mut b) else {
-        panic!(rt; "a cell that was not emptied yet")
-    };
-    let Some((0, first)) = queue.try_take(&mut c) else {
-        panic!(rt; "the first item")
-    };
-    assert!(rt; first == page_of(10));
-    let Some(2) = queue.try_fill(&mut b) else {
-        panic!(rt; "the next round")
-    };
+    claims_in(&rt, &queue, &mut b, page_of(12), 2);
+    waits_to_fill(&rt, &queue, &mut b, 2);
+    waits_to_fill(&rt, &queue, &mut b, 2);
+    assert!(rt; takes(&rt, &queue, &mut c, 0) == page_of(10));
+    fills(&rt, &queue, &mut b, 2);
     assert!(rt;
         queue
             .delete(&rt, &mut a)
