@@ -1,24 +1,8 @@
 //! Rows with three and four seats, on one thread.
 
-ghost use Rattle.std.specs.Prelude.{◌≡◌, ℕ};
-ghost use Rattle.fak_queue.specs.declared.state.SeatState.TheVariants.{Deleting};
-ghost use Rattle.fak_queue.specs.Queues.{state_of};
-
 use super::calls::{claims_in, claims_out, fills, takes, waits_to_fill, waits_to_take};
 use super::threads::close_whole;
-use fak_queue::{InsertFault, Queue, Seat, SeatState, Tally};
-
-// Whether a hundred tries of a claimed deletion find that it is not their turn.
-fn never_takes(queue: &Queue<u64>, seat: &mut Seat<u64>) -> bool
-    requires { (seat.old.object ≡ queue.now.object) × ((k : ℕ) × (state_of seat.old ≡ Deleting k)) }
-{
-    for _ in 0..100 {
-        if queue.try_take(seat).is_some() {
-            return false;
-        }
-    }
-    true
-}
+use fak_queue::{InsertFault, Queue, SeatState, Tally};
 
 #[test]
 fn four_seats_over_three_cells(rt: HostRuntime) {
@@ -56,17 +40,14 @@ fn a_seat_that_was_dropped_in_its_insertion(rt: HostRuntime) {
     let mut c = seats.pop().expect(&rt, "three seats");
     let mut b = seats.pop().expect(&rt, "three seats");
     let mut a = seats.pop().expect(&rt, "three seats");
-    let Ok(0) = queue.claim_insert(&mut a, 1) else {
-        panic!(rt; "claim 1")
-    };
+    claims_in(&rt, &queue, &mut a, 1, 0);
     drop(a);
     let Ok(1) = queue.insert(&rt, &mut b, 2) else {
         panic!(rt; "insert 2")
     };
-    let Ok(0) = queue.claim_delete(&mut c) else {
-        panic!(rt; "claim 0")
-    };
-    assert!(rt; never_takes(&queue, &mut c));
+    claims_out(&rt, &queue, &mut c, 0);
+    waits_to_take(&rt, &queue, &mut c, 0);
+    waits_to_take(&rt, &queue, &mut c, 0);
     let Err(InsertFault::Full { upper: 2, item: 3 }) = queue.claim_insert(&mut b, 3) else {
         panic!(rt; "full")
     };

@@ -1,5 +1,6 @@
 //! Worked rows, on one thread.
 
+use super::calls::{claims_in, fills};
 use fak_queue::{DeleteFault, InsertFault, OpenFault, Queue, SeatState};
 
 #[test]
@@ -7,15 +8,11 @@ fn a_cell_that_is_full_and_one_that_is_not(rt: HostRuntime) {
     let (queue, mut seats) = Queue::<u64>::open(rt.alloc(), 1, 2, 10).expect(&rt, "open");
     let mut b = seats.pop().expect(&rt, "two seats");
     let mut a = seats.pop().expect(&rt, "two seats");
-    let Ok(0) = queue.claim_insert(&mut a, 7) else {
-        panic!(rt; "claim")
-    };
+    claims_in(&rt, &queue, &mut a, 7, 0);
     let Err(DeleteFault::Empty(0)) = queue.claim_delete(&mut b) else {
         panic!(rt; "empty")
     };
-    let Some(0) = queue.try_fill(&mut a) else {
-        panic!(rt; "fill")
-    };
+    fills(&rt, &queue, &mut a, 0);
     let Err(InsertFault::Full { upper: 1, item: 8 }) = queue.claim_insert(&mut a, 8) else {
         panic!(rt; "full")
     };
