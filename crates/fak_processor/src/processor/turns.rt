@@ -1,6 +1,6 @@
 //! The loop of a processor.
 
-ghost use Rattle.std.specs.Prelude.{◌≡◌, [], ◌∷◌, ◌<◌, pos, length, true, None, IfOk, IfErr, IfSome, IfNone};
+ghost use Rattle.std.specs.Prelude.{◌≡◌, [], ◌∷◌, ◌<◌, pos, length, true, false, None, IfOk, IfErr, IfSome, IfNone};
 ghost use Rattle.fak_text.specs.Script.{IsStepInRange, limits_of};
 ghost use Rattle.fak_text.specs.Journal.{StandsAt};
 ghost use Rattle.fak_text.specs.Views.{step_of};
@@ -140,29 +140,28 @@ impl<K: Run> Processor<K> {
         true
     }
 
-    /// The loop of a processor: turns of ready processes, until nobody is ready or runs, or another processor has met
-    /// a fault.
+    /// The loop of a processor: turns of ready processes, until nobody is ready or runs. False where another processor
+    /// has met a fault.
     fn turns<R: Wait, G: Gate>(
-        self,
+        &mut self,
         rt: &R,
         alloc: Global,
         script: &Script,
         objects: &Objects<K>,
         gate: &G,
         number: u64,
-    ) -> Result<Option<Processor<K>>, Fault>
+    ) -> Result<bool, Fault>
         requires script { script.now ≡ K.script }
-        requires objects { AreOf objects.now self }
+        requires objects { AreOf objects.now self.old }
         requires made { AreFor K.script objects.now }
-        ensures objects { IfOk result (λ left. IfSome left (λ p. AreOf objects.now p)) }
-        ensures general { IfOk result (λ left. IfSome left (λ p. LeavesNone K.script self p)) }
-        ensures stopped { IfOk result (λ left. IfNone left (1 < objects.now.ready.object.seats)) }
-        ensures alone { IsReached K.script self (lists.turn_over (lists_of K.script self))
-            → IfOk result (λ left. IfSome left (λ p. IsReached K.script p (lists.turn_over (lists_of K.script p))
-            × ((lists_of K.script p).ready ≡ []))) }
+        ensures objects { AreOf objects.now self.new }
+        ensures general { IfOk result (λ done. done ≡ true → LeavesNone K.script self.old self.new) }
+        ensures stopped { IfOk result (λ done. done ≡ false → 1 < objects.now.ready.object.seats) }
+        ensures alone { IsReached K.script self.old (lists.turn_over (lists_of K.script self.old))
+            → IfOk result (λ done. done ≡ true → IsReached K.script self.new (lists.turn_over (lists_of K.script self.new))
+            × ((lists_of K.script self.new).ready ≡ [])) }
         ensures fault { IfErr result (λ fault. IsOfLoop (G.refuses gate.now) fault) }
     {
-        let mut processor = self;
         let mut running = None;
         let mut looks = Looks::new(number);
         let pause = Backoff::new();
@@ -170,13 +169,13 @@ impl<K: Run> Processor<K> {
             let was_idle = running.is_none();
             if was_idle {
                 if objects.alarm.is_rung() {
-                    return Ok(None);
+                    return Ok(false);
                 }
                 looks.pass(gate)?;
             }
-            running = processor.step(rt, alloc, script, objects, running)?;
-            if processor.is_done(objects, was_idle, &running) {
-                return Ok(Some(processor));
+            running = self.step(rt, alloc, script, objects, running)?;
+            if self.is_done(objects, was_idle, &running) {
+                return Ok(true);
             }
             rest(&pause, was_idle, running.is_some());
         }
@@ -209,11 +208,19 @@ impl<K: Run> Processor<K> {
             × ((lists_of K.script p).ready ≡ []))) }
         ensures fault { IfErr result (λ fault. IsOfLoop (G.refuses gate.now) fault) }
     {
-        let left = self.turns(rt, alloc, script, objects, gate, number);
-        if left.is_err() {
-            objects.alarm.ring();
+        let mut processor = self;
+        match processor.turns(rt, alloc, script, objects, gate, number) {
+            Ok(true) => Ok(Some(processor)),
+            Ok(false) => {
+                drop(processor);
+                Ok(None)
+            }
+            Err(fault) => {
+                drop(processor);
+                objects.alarm.ring();
+                Err(fault)
+            }
         }
-        left
     }
 }
 

@@ -5,7 +5,7 @@ use Rattle.fak_processor.proofs.Working.{reached_on, reached_the_end}
 use Rattle.fak_processor.proofs.processor.Processor.turns.Goals as goal
 
 pub loop-init : goal.loop-init
-loop-init g c = ((tt, tt), c.requires.objects, moves_none c.args.self, λ r. r)
+loop-init g c = ((tt, tt), c.requires.objects, moves_none c.args.self.now, λ r. r)
 
 pub loop-preserved : goal.loop-preserved
 loop-preserved g c =
@@ -14,11 +14,11 @@ loop-preserved g c =
 pub returns-then-is_done-clause-general : goal.returns-then-is_done-clause-general
 returns-then-is_done-clause-general g c =
     let done : c.is_done.result ≡ true = search rules in
-    leaves_none c.loop.running c.in_ok-running.running c.loop.invariant.2 c.in_ok-running.ensures.general c.is_done.ensures.gains (c.is_done.ensures.done done).1 (c.is_done.ensures.idle done)
+    λ _. leaves_none c.loop.running c.in_ok-running.running c.loop.invariant.2 c.in_ok-running.ensures.general c.is_done.ensures.gains (c.is_done.ensures.done done).1 (c.is_done.ensures.idle done)
 
 pub returns-then-is_done-clause-alone : goal.returns-then-is_done-clause-alone
 returns-then-is_done-clause-alone g c =
     let done : c.is_done.result ≡ true = search rules in
     let over = c.is_done.ensures.done done in
     let idle : c.loop.running ≡ None = search (rules, over) in
-    λ r. reached_the_end c.loop.running c.in_ok-running.running idle over.1 (c.loop.invariant.3 r) c.in_ok-running.ensures.alone c.is_done.ensures.alone
+    λ r _. reached_the_end c.loop.running c.in_ok-running.running idle over.1 (c.loop.invariant.3 r) c.in_ok-running.ensures.alone c.is_done.ensures.alone
