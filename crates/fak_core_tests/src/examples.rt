@@ -41,29 +41,29 @@ fn push_parts(marks: &mut Vec<Mark<u64>>, parts: &[Part]) -> Result<(), AllocErr
     Ok(())
 }
 
-// After the marks of `before` those of `may` may come, and those of `may_not` have their first fault at this index.
+// After the marks of `before` those of `may` may come, and those of `may_not` but for the last one, which is the first fault.
 #[derive(Clone, Copy)]
 struct Example<'a> {
     size: u64,
     before: &'a [Part],
     may: &'a [Part],
     may_not: &'a [Part],
-    fault: usize,
 }
 
-// The first fault of some marks and of those that come after them.
-fn fault_of(
+// How many of some marks and of those that come after them are before the first fault, and how many they are.
+fn legal_of(
     alloc: Global,
     size: u64,
     before: &[Part],
     after: &[Part],
-) -> Result<Option<usize>, AllocError>
+) -> Result<(usize, usize), AllocError>
     requires { (1 ≤ size) × (size ≤ 4096) }
 {
     let mut marks = Vec::new(alloc);
     push_parts(&mut marks, before)?;
     push_parts(&mut marks, after)?;
-    Ok(first_fault(size, &marks))
+    let legal = first_fault(size, &marks).unwrap_or(marks.len());
+    Ok((legal, marks.len()))
 }
 
 // The number of the first example that is judged otherwise.
@@ -72,9 +72,9 @@ fn judged_otherwise(alloc: Global, examples: &[Example]) -> Result<Option<usize>
         if e.size < 1 || e.size > 4096 {
             return Ok(Some(i));
         }
-        let none = fault_of(alloc, e.size, e.before, e.may)?;
-        let one = fault_of(alloc, e.size, e.before, e.may_not)?;
-        if none.is_some() || one != Some(e.fault) {
+        let (legal, all) = legal_of(alloc, e.size, e.before, e.may)?;
+        let (fault, marks) = legal_of(alloc, e.size, e.before, e.may_not)?;
+        if legal != all || fault.checked_add(1) != Some(marks) {
             return Ok(Some(i));
         }
     }
@@ -89,98 +89,84 @@ fn the_calls_of_a_queue_are_judged(rt: HostRuntime) -> Result<(), Fail> {
             before: &[Inserted(0, 7, 0)],
             may: &[By(1, OverIn), By(1, BackIn)],
             may_not: &[By(1, BackIn)],
-            fault: 4,
         },
         Example {
             size: 1,
             before: &[],
             may: &[By(0, ClaimIn), By(0, Put(7))],
             may_not: &[By(0, Put(7))],
-            fault: 0,
         },
         Example {
             size: 2,
             before: &[By(0, ClaimIn), By(0, Put(7))],
             may: &[By(0, Fill(0)), By(0, EndIn)],
             may_not: &[By(0, Fill(0)), By(0, Fill(0))],
-            fault: 3,
         },
         Example {
             size: 1,
             before: &[By(0, ClaimIn), By(0, Put(7))],
             may: &[By(0, Fill(0)), By(0, EndIn)],
             may_not: &[By(0, EndIn)],
-            fault: 2,
         },
         Example {
             size: 1,
             before: &[],
             may: &[By(0, OverOut), By(0, BackOut)],
             may_not: &[By(0, BackOut)],
-            fault: 0,
         },
         Example {
             size: 1,
             before: &[Inserted(0, 7, 0)],
             may: &[By(1, ClaimOut), By(1, Got(7))],
             may_not: &[By(1, Got(7))],
-            fault: 4,
         },
         Example {
             size: 1,
             before: &[Inserted(0, 7, 0), By(1, ClaimOut)],
             may: &[By(1, Got(7)), By(1, Take(0))],
             may_not: &[By(1, Take(0))],
-            fault: 5,
         },
         Example {
             size: 1,
             before: &[Inserted(0, 7, 0), By(1, ClaimOut), By(1, Got(7))],
             may: &[By(1, Take(0)), By(1, EndOut)],
             may_not: &[By(1, EndOut)],
-            fault: 6,
         },
         Example {
             size: 1,
             before: &[By(0, ClaimIn)],
             may: &[By(1, NoItem)],
             may_not: &[By(0, NoItem)],
-            fault: 1,
         },
         Example {
             size: 1,
             before: &[By(0, ClaimIn)],
             may: &[By(1, Close)],
             may_not: &[By(0, Close)],
-            fault: 1,
         },
         Example {
             size: 1,
             before: &[By(0, Close), By(1, LateIn)],
             may: &[By(1, BackIn), By(1, Closed)],
             may_not: &[By(1, Closed)],
-            fault: 2,
         },
         Example {
             size: 1,
             before: &[By(0, OverOut)],
             may: &[By(0, BackOut), By(0, NoItem)],
             may_not: &[By(0, NoItem)],
-            fault: 1,
         },
         Example {
             size: 2,
             before: &[Inserted(0, 7, 0), By(1, ClaimIn)],
             may: &[By(1, Put(8))],
             may_not: &[By(1, Got(7))],
-            fault: 5,
         },
         Example {
             size: 2,
             before: &[Inserted(0, 7, 0), By(1, ClaimOut)],
             may: &[By(1, Got(7))],
             may_not: &[By(1, Put(8))],
-            fault: 5,
         },
     ];
     assert_eq!(rt; judged_otherwise(rt.alloc(), &examples)?, None);
@@ -195,91 +181,78 @@ fn the_answers_of_a_queue_are_judged(rt: HostRuntime) -> Result<(), Fail> {
             before: &[Inserted(0, 7, 0)],
             may: &[By(1, NoRoom)],
             may_not: &[Deleted(1, 7, 0), By(1, NoRoom)],
-            fault: 8,
         },
         Example {
             size: 1,
             before: &[Inserted(0, 7, 0)],
             may: &[By(1, NoRoom), By(0, Close)],
             may_not: &[By(0, Close), By(1, NoRoom)],
-            fault: 5,
         },
         Example {
             size: 1,
             before: &[Inserted(0, 7, 0)],
             may: &[By(1, OverIn)],
             may_not: &[Deleted(1, 7, 0), By(1, OverIn)],
-            fault: 8,
         },
         Example {
             size: 1,
             before: &[Inserted(0, 7, 0)],
             may: &[By(1, OverIn), By(0, Close)],
             may_not: &[By(0, Close), By(1, OverIn)],
-            fault: 5,
         },
         Example {
             size: 1,
             before: &[Inserted(0, 7, 0)],
             may: &[Deleted(1, 7, 0), By(1, ClaimIn)],
             may_not: &[By(1, ClaimIn)],
-            fault: 4,
         },
         Example {
             size: 1,
             before: &[],
             may: &[By(1, ClaimIn), By(0, Close)],
             may_not: &[By(0, Close), By(1, ClaimIn)],
-            fault: 1,
         },
         Example {
             size: 1,
             before: &[],
             may: &[By(0, Close), By(1, Closed)],
             may_not: &[By(1, Closed)],
-            fault: 0,
         },
         Example {
             size: 1,
             before: &[],
             may: &[By(0, Close), By(1, LateIn)],
             may_not: &[By(1, LateIn)],
-            fault: 0,
         },
         Example {
             size: 1,
             before: &[],
             may: &[By(1, NoItem), Inserted(0, 7, 0)],
             may_not: &[Inserted(0, 7, 0), By(1, NoItem)],
-            fault: 4,
         },
         Example {
             size: 1,
             before: &[],
             may: &[By(1, OverOut), Inserted(0, 7, 0)],
             may_not: &[Inserted(0, 7, 0), By(1, OverOut)],
-            fault: 4,
         },
         Example {
             size: 1,
             before: &[By(0, ClaimIn), By(0, Put(7)), By(0, Fill(0))],
             may: &[By(0, EndIn), By(1, ClaimOut)],
             may_not: &[By(1, ClaimOut)],
-            fault: 3,
         },
         Example {
             size: 2,
             before: &[Inserted(0, 7, 0), By(1, ClaimOut)],
             may: &[Inserted(0, 8, 1), By(2, ClaimOut)],
             may_not: &[By(2, ClaimOut)],
-            fault: 5,
         },
         Example {
             size: 1,
             before: &[By(0, Close)],
             may: &[By(1, NoItem)],
             may_not: &[By(1, ClaimOut)],
-            fault: 1,
         },
     ];
     assert_eq!(rt; judged_otherwise(rt.alloc(), &examples)?, None);
@@ -294,7 +267,6 @@ fn the_counts_of_a_queue_are_judged(rt: HostRuntime) -> Result<(), Fail> {
             before: &[Inserted(0, 7, 0), By(1, OverIn), Deleted(2, 7, 0)],
             may: &[By(3, NoRoom)],
             may_not: &[By(1, BackIn), By(3, NoRoom)],
-            fault: 10,
         },
         Example {
             size: 1,
@@ -306,21 +278,18 @@ fn the_counts_of_a_queue_are_judged(rt: HostRuntime) -> Result<(), Fail> {
             ],
             may: &[By(2, NoRoom)],
             may_not: &[By(1, EndOut), By(2, NoRoom)],
-            fault: 8,
         },
         Example {
             size: 1,
             before: &[By(1, OverOut), Inserted(0, 7, 0)],
             may: &[By(2, NoItem)],
             may_not: &[By(1, BackOut), By(2, NoItem)],
-            fault: 6,
         },
         Example {
             size: 1,
             before: &[By(0, ClaimIn), By(0, Put(7)), By(0, Fill(0))],
             may: &[By(1, NoItem)],
             may_not: &[By(0, EndIn), By(1, NoItem)],
-            fault: 4,
         },
     ];
     assert_eq!(rt; judged_otherwise(rt.alloc(), &examples)?, None);
@@ -335,7 +304,6 @@ fn the_items_of_a_queue_are_judged(rt: HostRuntime) -> Result<(), Fail> {
             before: &[Inserted(0, 7, 0), Inserted(0, 8, 1), By(1, ClaimOut)],
             may: &[By(1, Got(7))],
             may_not: &[By(1, Got(8))],
-            fault: 9,
         },
         Example {
             size: 2,
@@ -348,14 +316,12 @@ fn the_items_of_a_queue_are_judged(rt: HostRuntime) -> Result<(), Fail> {
             ],
             may: &[By(2, Got(8))],
             may_not: &[By(2, Got(7))],
-            fault: 11,
         },
         Example {
             size: 1,
             before: &[Inserted(0, 7, 0), By(1, ClaimOut)],
             may: &[By(1, Got(7))],
             may_not: &[By(1, Got(9))],
-            fault: 5,
         },
     ];
     assert_eq!(rt; judged_otherwise(rt.alloc(), &examples)?, None);
@@ -370,14 +336,12 @@ fn the_cells_of_a_queue_are_judged(rt: HostRuntime) -> Result<(), Fail> {
             before: &[By(0, ClaimIn), By(1, ClaimIn), By(0, Put(7)), By(1, Put(8))],
             may: &[By(1, Fill(1))],
             may_not: &[By(1, Fill(0))],
-            fault: 4,
         },
         Example {
             size: 2,
             before: &[By(0, ClaimIn), By(0, Put(7))],
             may: &[By(0, Fill(0))],
             may_not: &[By(0, Fill(1))],
-            fault: 2,
         },
         Example {
             size: 2,
@@ -389,7 +353,6 @@ fn the_cells_of_a_queue_are_judged(rt: HostRuntime) -> Result<(), Fail> {
             ],
             may: &[By(1, Take(0))],
             may_not: &[By(1, Take(1))],
-            fault: 10,
         },
         Example {
             size: 2,
@@ -404,7 +367,6 @@ fn the_cells_of_a_queue_are_judged(rt: HostRuntime) -> Result<(), Fail> {
             ],
             may: &[By(1, Take(0)), By(0, Fill(2))],
             may_not: &[By(0, Fill(2))],
-            fault: 16,
         },
         Example {
             size: 2,
@@ -417,7 +379,6 @@ fn the_cells_of_a_queue_are_judged(rt: HostRuntime) -> Result<(), Fail> {
             ],
             may: &[By(0, Fill(0)), By(2, Take(0))],
             may_not: &[By(2, Take(0))],
-            fault: 8,
         },
     ];
     assert_eq!(rt; judged_otherwise(rt.alloc(), &examples)?, None);

@@ -49,6 +49,6 @@ pub(crate) fn report_of_run<K: Run>(
 {
     let all = gather(alloc, &objects, left)?;
     let remains = close(alloc, objects, all.tallies, script.files())?;
-    let rows = rows_of(alloc, all.ended, all.halted, remains.asleep)?;
+    let rows = rows_of(alloc, all.processes, remains.asleep)?;
     Ok(report_with(script, rows, remains.entries))
 }

@@ -1,11 +1,12 @@
 //! Runs on several processors, a thread for each.
 
-ghost use Rattle.std.specs.Prelude.{◌≡◌, Err, IfOk, IfErr};
+ghost use Rattle.std.specs.Prelude.{◌≡◌, ◌<◌, ℕ, Err, vec_len, slice_index_or, IfOk, IfErr};
 ghost use Rattle.fak_processor.specs.Opened.{AreProcessors};
 ghost use Rattle.fak_process.specs.Report.{ListSchedulerReports};
 ghost use Rattle.fak_process.specs.ReportText.{ListSchedulerPrints, RunPrints};
 ghost use Rattle.fak_process.specs.RunReports.{RunReports};
-ghost use Rattle.fak_kernel.specs.Threads.{IsOfRun};
+ghost use Rattle.fak_processor.specs.Processors.{AreFor, ProcessorOf};
+ghost use Rattle.fak_kernel.specs.Threads.{HasBegun, HasLeft, IsOfRun};
 ghost use Rattle.fak_process.specs.Told.{told_report};
 ghost use Rattle.fak_process.specs.Views.{report_of};
 
@@ -15,7 +16,7 @@ mod leaving;
 use crate::ending::report_of_run;
 use answering::all_left;
 use fak_process::{Fault, Printed, Report, Run, print_brief, told_in_full};
-use fak_processor::{Gate, Opened, open_run};
+use fak_processor::{Gate, Objects, Opened, Processor, open_run};
 use fak_text::Script;
 use leaving::leave_all;
 use std::alloc::Global;
@@ -46,10 +47,7 @@ pub fn run<G: Gate + Sync, R: Threads + Wait + Sync>(
     ensures outside { (AreProcessors processors → ⊥) → result ≡ Err Fault.BadProcessors }
     ensures fault { AreProcessors processors → IfErr result (λ fault. IsOfRun (G.refuses gate.now) fault) }
 {
-    let brief = match run_briefly(rt, alloc, script, processors, gate) {
-        Ok(brief) => brief,
-        Err(fault) => return Err(fault),
-    };
+    let brief = run_briefly(rt, alloc, script, processors, gate)?;
     match told_in_full(alloc, script, brief) {
         Ok(report) => Ok(report),
         Err(fault) => Err(fault),
@@ -73,10 +71,7 @@ pub fn run_to_text<G: Gate + Sync, R: Threads + Wait + Sync>(
     ensures outside { (AreProcessors processors → ⊥) → result ≡ Err Fault.BadProcessors }
     ensures fault { AreProcessors processors → IfErr result (λ fault. IsOfRun (G.refuses gate.now) fault) }
 {
-    let brief = match run_briefly(rt, alloc, script, processors, gate) {
-        Ok(brief) => brief,
-        Err(fault) => return Err(fault),
-    };
+    let brief = run_briefly(rt, alloc, script, processors, gate)?;
     match print_brief(alloc, script, &brief) {
         Ok(printed) => Ok(printed),
         Err(fault) => Err(fault),
@@ -123,16 +118,37 @@ fn run_as<K: Run + Send + Sync, G: Gate + Sync, R: Threads + Wait + Sync>(
         Ok(opened) => opened,
         Err(fault) => return Err(fault),
     };
-    let answers = match leave_all(rt, alloc, script, &objects, gate, processors, all) {
-        Ok(answers) => answers,
-        Err(fault) => return Err(fault),
-    };
-    let left = match all_left(alloc, answers) {
+    let left = match work_all(rt, alloc, script, &objects, gate, processors, all) {
         Ok(left) => left,
         Err(fault) => return Err(fault),
     };
     match report_of_run(alloc, script, objects, left) {
         Ok(report) => Ok(report),
+        Err(fault) => Err(fault),
+    }
+}
+
+/// All processors work, each in a thread of its own, until they leave.
+fn work_all<K: Run + Send + Sync, G: Gate + Sync, R: Threads + Wait + Sync>(
+    rt: &R,
+    alloc: Global,
+    script: &Script,
+    objects: &Objects<K>,
+    gate: &G,
+    processors: u64,
+    all: Vec<Processor<K>>,
+) -> Result<Vec<Processor<K>>, Fault>
+    requires script { script.now ≡ K.script }
+    requires made { AreFor K.script objects.now }
+    requires begun { (i : ℕ) (d : _) → i < vec_len all → HasBegun K.script objects.now processors i (slice_index_or all.items i d) }
+    ensures len { IfOk result (λ left. vec_len left ≡ vec_len all) }
+    ensures left { IfOk result (λ left. (i : ℕ) (d : ProcessorOf) → i < vec_len left
+        → HasLeft K.script objects.now processors i (slice_index_or left.items i d)) }
+    ensures fault { IfErr result (λ fault. IsOfRun (G.refuses gate.now) fault) }
+{
+    let answers = leave_all(rt, alloc, script, objects, gate, processors, all)?;
+    match all_left(alloc, answers) {
+        Ok(left) => Ok(left),
         Err(fault) => Err(fault),
     }
 }

@@ -29,10 +29,7 @@ pub fn run_one<R: Wait>(rt: &R, alloc: Global, script: &Script) -> Result<Report
     ensures conserved { IfOk result (λ report. RunReports script.now (report_of report)) }
     ensures fault { IfErr result (λ fault. IsOfStep fault) }
 {
-    let brief = match run_alone::<Brand, R>(rt, alloc, script) {
-        Ok(brief) => brief,
-        Err(fault) => return Err(fault),
-    };
+    let brief = run_alone::<Brand, R>(rt, alloc, script)?;
     match told_in_full(alloc, script, brief) {
         Ok(report) => Ok(report),
         Err(fault) => Err(fault),
@@ -49,10 +46,7 @@ pub fn run_one_to_text<R: Wait>(rt: &R, alloc: Global, script: &Script) -> Resul
     ensures conserved { IfOk result (λ printed. RunPrints script.now printed.text.items printed.status) }
     ensures fault { IfErr result (λ fault. IsOfStep fault) }
 {
-    let brief = match run_alone::<Brand, R>(rt, alloc, script) {
-        Ok(brief) => brief,
-        Err(fault) => return Err(fault),
-    };
+    let brief = run_alone::<Brand, R>(rt, alloc, script)?;
     match print_brief(alloc, script, &brief) {
         Ok(printed) => Ok(printed),
         Err(fault) => Err(fault),

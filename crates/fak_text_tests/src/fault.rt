@@ -1,4 +1,5 @@
 use fak_text::{Field, TextFault, read_history, read_schedule, read_script};
+use std::process::Abort;
 use std::test::Fail;
 
 #[test]
@@ -27,6 +28,14 @@ fn faults_are_one_line_each(rt: HostRuntime) -> Result<(), Fail> {
     Ok(())
 }
 
+// Finds that the field is written as this key, and named so.
+fn is_named<R: Abort + AllocGlobal>(rt: &R, field: Field, key: &str) -> Result<(), Fail> {
+    let text = field.to_string(rt.alloc())?;
+    assert!(rt; text.as_str() == key, "at {key}");
+    assert!(rt; field.name() == key, "at {key}");
+    Ok(())
+}
+
 #[test]
 fn fields_are_named_as_their_keys(rt: HostRuntime) -> Result<(), Fail> {
     let table = [
@@ -48,9 +57,7 @@ fn fields_are_named_as_their_keys(rt: HostRuntime) -> Result<(), Fail> {
         (Field::Start, "start"),
     ];
     for (field, want) in table {
-        let text = field.to_string(rt.alloc())?;
-        assert!(rt; text.as_str() == want, "at {want}");
-        assert!(rt; field.name() == want, "at {want}");
+        is_named(&rt, field, want)?;
     }
     Ok(())
 }

@@ -1,12 +1,12 @@
 -- What ports have put into a channel and got out of it, under every weight of buffers.
-use Rattle.std.specs.Prelude.{ℕ, ◌+◌, ◌≡◌, List}
+use Rattle.std.specs.Prelude.{ℕ, ◌+◌, ◌^◌, ◌≡◌, List, [], ◌∷◌}
 use Rattle.std.specs.List.{sum_by}
 use Rattle.fak_model.specs.declared.queue.Mark.{Mark}
 use Rattle.fak_model.specs.Queue.{count}
 use Rattle.fak_model.specs.Calls.{ObjectId, SeatInfo, mine_of}
 use Rattle.fak_model.specs.Weights.{put_of, got_of}
 use Rattle.fak_queue.specs.Queues.{IsIdleSeat, seat_of}
-use Rattle.fak_sem.specs.Semaphores.{SemId, queue_part}
+use Rattle.fak_sem.specs.Semaphores.{SemId, SemSeatInfo, fresh_sem_seats, queue_part}
 use Rattle.producers_and_consumers.specs.declared.channel.Buffer.{Buffer}
 use Rattle.producers_and_consumers.specs.declared.channel.Port.{Port}
 
@@ -45,6 +45,10 @@ pub record Moves (sent received : Sum) (old new : Port) : Type 0 where
 
 abbrev pub nothing : Sum
 nothing w = 0
+
+-- the two seats of a gate that was just opened
+abbrev pub AreFreshGates : SemId → SemSeatInfo Buffer → SemSeatInfo Buffer → Type 0
+AreFreshGates gate a b = b ∷ a ∷ [] ≡ fresh_sem_seats gate (2 ^ 40) 0 2
 
 -- a port that was just opened
 pub record IsFresh (name : ℕ) (p : Port) : Type 0 where

@@ -1,9 +1,10 @@
 //! How a channel is opened and closed.
 
-ghost use Rattle.std.specs.Prelude.{◌≡◌, ◌≢◌, IfSome, IsTrue};
+ghost use Rattle.std.specs.Prelude.{◌≡◌, ◌≢◌, ◌^◌, [], IfSome, IsTrue};
+ghost use Rattle.fak_model.specs.Calls.{seat_info};
 ghost use Rattle.fak_queue.specs.Queues.{IsIdleSeat};
 ghost use Rattle.fak_sem.specs.Semaphores.{queue_part};
-ghost use Rattle.producers_and_consumers.specs.Passing.{AllOut, IsFresh, IsPort};
+ghost use Rattle.producers_and_consumers.specs.Passing.{AllOut, AreFreshGates, IsFresh, IsPort};
 
 use crate::channel::{Buffer, Channel, Port};
 use fak_model::laws::queue::a_queue_weighs_what_was_put;
@@ -17,24 +18,43 @@ const CELLS: u64 = 64;
 /// The calls of each seat, more than a run makes.
 const STINT: u64 = 1 << 40;
 
+/// An empty queue and its two seats.
+fn open_queue(alloc: Global) -> Option<(Queue<Buffer>, Seat<Buffer>, Seat<Buffer>)>
+    ensures { IfSome result (λ r. (r.1 ≡ seat_info r.0.object 1 (2 ^ 40) []) × (r.2 ≡ seat_info r.0.object 0 (2 ^ 40) [])) }
+{
+    let Ok((queue, mut seats)) = Queue::open(alloc, CELLS, 2, STINT) else {
+        return None;
+    };
+    match (seats.pop(), seats.pop()) {
+        (Some(a), Some(b)) => Some((queue, a, b)),
+        _ => None,
+    }
+}
+
+/// A gate that lets `room` buffers through, and its two seats.
+fn open_gate(
+    alloc: Global,
+    room: u64,
+) -> Option<(Semaphore<Buffer>, SemSeat<Buffer>, SemSeat<Buffer>)>
+    ensures { IfSome result (λ r. AreFreshGates r.0.object r.1 r.2) }
+{
+    let Ok((gate, mut seats)) = Semaphore::open(alloc, room, CELLS, 2, STINT) else {
+        return None;
+    };
+    match (seats.pop(), seats.pop()) {
+        (Some(a), Some(b)) => Some((gate, a, b)),
+        _ => None,
+    }
+}
+
 /// An empty channel and its two ports.
 pub fn open_channel(alloc: Global, room: u64) -> Option<(Channel, Port, Port)>
     ensures ports { IfSome result (λ r. IsPort r.0.queue.object r.0.gate.object r.1 × IsPort r.0.queue.object r.0.gate.object r.2) }
     ensures fresh { IfSome result (λ r. IsFresh 1 r.1 × IsFresh 0 r.2) }
 {
-    let Ok((queue, mut seats)) = Queue::<Buffer>::open(alloc, CELLS, 2, STINT) else {
-        return None;
-    };
-    let Ok((gate, mut gates)) = Semaphore::<Buffer>::open(alloc, room, CELLS, 2, STINT) else {
-        return None;
-    };
-    let (Some(a), Some(b)) = (seats.pop(), seats.pop()) else {
-        return None;
-    };
-    let (Some(first), Some(second)) = (gates.pop(), gates.pop()) else {
-        return None;
-    };
-    let channel = Channel { queue, gate };
+    let opened = open_queue(alloc)?;
+    let (gate, first, second) = open_gate(alloc, room)?;
+    let (queue, a, b) = opened;
     let a = Port {
         queue: a,
         gate: first,
@@ -43,7 +63,7 @@ pub fn open_channel(alloc: Global, room: u64) -> Option<(Channel, Port, Port)>
         queue: b,
         gate: second,
     };
-    Some((channel, a, b))
+    Some((Channel { queue, gate }, a, b))
 }
 
 /// Closes the queue, and tells whether both seats are back and nothing is left in it.
@@ -88,17 +108,7 @@ pub fn is_empty(channel: Channel, a: Port, b: Port) -> bool
     requires apart { (b.queue.name ≢ a.queue.name) × (b.gate.name ≢ a.gate.name) }
     ensures { IsTrue result → AllOut a.queue b.queue × AllOut (queue_part a.gate) (queue_part b.gate) }
 {
-    let Channel { queue, gate } = channel;
-    let Port {
-        queue: first,
-        gate: first_gate,
-    } = a;
-    let Port {
-        queue: second,
-        gate: second_gate,
-    } = b;
-    if !queue_is_empty(queue, first, second) {
-        return false;
-    }
-    gate_is_empty(gate, first_gate, second_gate)
+    let no_buffer_queued = queue_is_empty(channel.queue, a.queue, b.queue);
+    let none_held_back = gate_is_empty(channel.gate, a.gate, b.gate);
+    no_buffer_queued && none_held_back
 }

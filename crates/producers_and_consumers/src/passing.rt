@@ -98,8 +98,9 @@ pub fn pass<R: Threads + Wait + Sync>(
 {
     let (channel, a, b) = open_channel(alloc, room)?;
     let ((a, sent), (b, received, all)) = run_both(rt, &channel, (a, b), buffers, Vec::new(alloc));
-    if !sent || !all || !is_empty(channel, a, b) {
+    if !sent || !all {
         return None;
     }
-    Some(received)
+    let empty = is_empty(channel, a, b);
+    if empty { Some(received) } else { None }
 }

@@ -19,9 +19,9 @@ pub(crate) fn gather<K: Run>(
     requires made { AreFor K.script objects.now }
     requires some { 1 ≤ vec_len left }
     requires left { (i : ℕ) (d : ProcessorOf) → i < vec_len left → IsLeftBy K.script objects.now i (slice_index_or left.items i d) }
-    ensures gathered { IfOk result (λ all. AreGathered K.script objects.now (vec_len left) all.tallies all.ended.items all.halted.items) }
+    ensures gathered { IfOk result (λ all. AreGathered K.script objects.now (vec_len left) all.tallies all.processes.ended.items all.processes.halted.items) }
     ensures alone { vec_len left ≡ 1 → (d : ProcessorOf)
-        → IfOk result (λ all. AreOfOne (slice_index_or left.items 0 d) all.tallies all.ended.items all.halted.items) }
+        → IfOk result (λ all. AreOfOne (slice_index_or left.items 0 d) all.tallies all.processes.ended.items all.processes.halted.items) }
     ensures memory { IfErr result (λ fault. fault ≡ Fault.Memory) }
 {
     let count = left.len();

@@ -66,16 +66,22 @@ struct SingleSeats<K: Run> {
 
 /// The processes that some processors saw end and halt.
 #[derive(Drop)]
-struct Processes<K: Run> {
-    ended: Vec<Context<K>>,
-    halted: Vec<Context<K>>,
+pub(crate) struct Processes<K: Run> {
+    pub(crate) ended: Vec<Context<K>>,
+    pub(crate) halted: Vec<Context<K>>,
 }
 
-/// A processor that has left, in parts: its seats of the objects that a run has one of, those of the semaphores, and its processes.
+/// A processor's seats.
 #[derive(Drop)]
-struct Parts<K: Run> {
+struct Seats<K: Run> {
     single: SingleSeats<K>,
     semaphores: SemSeats<K>,
+}
+
+/// A processor that has left, in parts: its seats, and its processes.
+#[derive(Drop)]
+struct Parts<K: Run> {
+    seats: Seats<K>,
     processes: Processes<K>,
 }
 
@@ -83,8 +89,7 @@ struct Parts<K: Run> {
 #[derive(Drop)]
 pub(crate) struct Joined<K: Run> {
     pub(crate) tallies: Tallies<K>,
-    pub(crate) ended: Vec<Context<K>>,
-    pub(crate) halted: Vec<Context<K>>,
+    pub(crate) processes: Processes<K>,
 }
 
 /// The tallies of one seat of each semaphore.
@@ -130,12 +135,12 @@ fn join_each<K: Run>(
 
 /// The parts of a processor.
 fn parts_of<K: Run>(processor: Processor<K>) -> Parts<K>
-    ensures ready { result.single.ready ≡ processor.ready }
-    ensures free { result.single.free ≡ processor.free }
-    ensures births { result.single.births ≡ processor.births }
-    ensures busy { result.single.busy ≡ processor.busy }
-    ensures files { result.single.files ≡ processor.files }
-    ensures semaphores { result.semaphores ≡ processor.semaphores }
+    ensures ready { result.seats.single.ready ≡ processor.ready }
+    ensures free { result.seats.single.free ≡ processor.free }
+    ensures births { result.seats.single.births ≡ processor.births }
+    ensures busy { result.seats.single.busy ≡ processor.busy }
+    ensures files { result.seats.single.files ≡ processor.files }
+    ensures semaphores { result.seats.semaphores ≡ processor.semaphores }
     ensures ended { result.processes.ended.items ≡ processor.ended }
     ensures halted { result.processes.halted.items ≡ processor.halted }
 {
@@ -150,15 +155,15 @@ fn parts_of<K: Run>(processor: Processor<K>) -> Parts<K>
         halted,
         copy: _,
     } = processor;
+    let single = SingleSeats {
+        ready,
+        free,
+        births,
+        busy,
+        files,
+    };
     Parts {
-        single: SingleSeats {
-            ready,
-            free,
-            births,
-            busy,
-            files,
-        },
-        semaphores,
+        seats: Seats { single, semaphores },
         processes: Processes { ended, halted },
     }
 }
@@ -221,35 +226,27 @@ impl<K: Run> SingleTallies<K> {
 
 impl<K: Run> Tallies<K> {
     /// The tallies with these seats too.
-    fn join(
-        self,
-        alloc: Global,
-        objects: &Objects<K>,
-        single: SingleSeats<K>,
-        semaphores: SemSeats<K>,
-    ) -> Result<Tallies<K>, Fault>
+    fn join(self, alloc: Global, objects: &Objects<K>, seats: Seats<K>) -> Result<Tallies<K>, Fault>
         requires tallies { AreTalliesOf objects.now self }
-        requires ready { single.ready.object ≡ objects.now.ready.object }
-        requires free { single.free.object ≡ objects.now.free.object }
-        requires births { single.births.object ≡ objects.now.births.object }
-        requires busy { single.busy.object ≡ objects.now.busy.object }
-        requires semaphores { ids_of_seats semaphores ≡ ids_of objects.now.semaphores }
-        requires files { single.files.seat.object ≡ objects.now.files.object }
-        requires idle { (state_of single.ready ≡ Idle) × (state_of single.free ≡ Idle) × (single.files.hold ≡ Nothing) }
-        ensures ready { IfOk result (λ both. IsJoined (queue_rules objects.now.ready.size) self.ready single.ready both.ready) }
-        ensures free { IfOk result (λ both. IsJoined (queue_rules objects.now.free.size) self.free single.free both.free) }
-        ensures births { IfOk result (λ both. IsJoined (room_rules objects.now.births.bound) self.births single.births both.births) }
-        ensures busy { IfOk result (λ both. IsJoined credit_rules self.busy single.busy both.busy) }
-        ensures semaphores { IfOk result (λ both. JoinEach objects.now.semaphores self.semaphores semaphores both.semaphores) }
-        ensures files { IfOk result (λ both. IsJoined (file_rules objects.now.files.object.seats) self.files single.files.seat both.files) }
+        requires ready { seats.single.ready.object ≡ objects.now.ready.object }
+        requires free { seats.single.free.object ≡ objects.now.free.object }
+        requires births { seats.single.births.object ≡ objects.now.births.object }
+        requires busy { seats.single.busy.object ≡ objects.now.busy.object }
+        requires semaphores { ids_of_seats seats.semaphores ≡ ids_of objects.now.semaphores }
+        requires files { seats.single.files.seat.object ≡ objects.now.files.object }
+        requires idle { (state_of seats.single.ready ≡ Idle) × (state_of seats.single.free ≡ Idle) × (seats.single.files.hold ≡ Nothing) }
+        ensures ready { IfOk result (λ both. IsJoined (queue_rules objects.now.ready.size) self.ready seats.single.ready both.ready) }
+        ensures free { IfOk result (λ both. IsJoined (queue_rules objects.now.free.size) self.free seats.single.free both.free) }
+        ensures births { IfOk result (λ both. IsJoined (room_rules objects.now.births.bound) self.births seats.single.births both.births) }
+        ensures busy { IfOk result (λ both. IsJoined credit_rules self.busy seats.single.busy both.busy) }
+        ensures semaphores { IfOk result (λ both. JoinEach objects.now.semaphores self.semaphores seats.semaphores both.semaphores) }
+        ensures files { IfOk result (λ both. IsJoined (file_rules objects.now.files.object.seats) self.files seats.single.files.seat both.files) }
         ensures memory { IfErr result (λ fault. fault ≡ Fault.Memory) }
     {
         let all = objects.semaphores.all.as_slice();
-        let semaphores = join_each(alloc, all, self.semaphores, semaphores)?;
-        Ok(Tallies {
-            single: self.single.join(objects, single),
-            semaphores,
-        })
+        let single = self.single.join(objects, seats.single);
+        let semaphores = join_each(alloc, all, self.semaphores, seats.semaphores)?;
+        Ok(Tallies { single, semaphores })
     }
 }
 
@@ -258,24 +255,16 @@ impl<K: Run> Joined<K> {
     pub(crate) fn of(alloc: Global, processor: Processor<K>) -> Result<Joined<K>, Fault>
         requires idle { (state_of processor.ready ≡ Idle) × (state_of processor.free ≡ Idle) × (processor.files.hold ≡ Nothing) }
         ensures tallies { IfOk result (λ joined. joined.tallies ≡ first_tallies processor) }
-        ensures ended { IfOk result (λ joined. joined.ended.items ≡ processor.ended) }
-        ensures halted { IfOk result (λ joined. joined.halted.items ≡ processor.halted) }
+        ensures ended { IfOk result (λ joined. joined.processes.ended.items ≡ processor.ended) }
+        ensures halted { IfOk result (λ joined. joined.processes.halted.items ≡ processor.halted) }
         ensures memory { IfErr result (λ fault. fault ≡ Fault.Memory) }
     {
-        let Parts {
-            single,
-            semaphores,
-            processes,
-        } = parts_of(processor);
-        let semaphores = first_each(alloc, semaphores)?;
-        let tallies = Tallies {
-            single: SingleTallies::of(single),
-            semaphores,
-        };
+        let Parts { seats, processes } = parts_of(processor);
+        let single = SingleTallies::of(seats.single);
+        let semaphores = first_each(alloc, seats.semaphores)?;
         Ok(Joined {
-            tallies,
-            ended: processes.ended,
-            halted: processes.halted,
+            tallies: Tallies { single, semaphores },
+            processes,
         })
     }
 
@@ -289,26 +278,13 @@ impl<K: Run> Joined<K> {
         requires tallies { AreTalliesOf objects.now self.tallies }
         requires seats { AreOf objects.now processor }
         ensures tallies { IfOk result (λ both. JoinAll objects.now self.tallies processor both.tallies) }
-        ensures ended { IfOk result (λ both. both.ended.items ≡ self.ended.items ++ processor.ended) }
-        ensures halted { IfOk result (λ both. both.halted.items ≡ self.halted.items ++ processor.halted) }
+        ensures ended { IfOk result (λ both. both.processes.ended.items ≡ self.processes.ended.items ++ processor.ended) }
+        ensures halted { IfOk result (λ both. both.processes.halted.items ≡ self.processes.halted.items ++ processor.halted) }
         ensures memory { IfErr result (λ fault. fault ≡ Fault.Memory) }
     {
-        let Joined {
-            tallies,
-            ended,
-            halted,
-        } = self;
-        let Parts {
-            single,
-            semaphores,
-            processes,
-        } = parts_of(processor);
-        let Processes { ended, halted } = appended(Processes { ended, halted }, processes)?;
-        let tallies = tallies.join(alloc, objects, single, semaphores)?;
-        Ok(Joined {
-            tallies,
-            ended,
-            halted,
-        })
+        let more = parts_of(processor);
+        let processes = appended(self.processes, more.processes)?;
+        let tallies = self.tallies.join(alloc, objects, more.seats)?;
+        Ok(Joined { tallies, processes })
     }
 }

@@ -10,6 +10,7 @@ ghost use Rattle.fak_kernel.specs.Closing.{rows_left, shut_lines};
 ghost use Rattle.fak_process.specs.Told.{told_rows};
 ghost use Rattle.fak_process.specs.Views.{report_of, row_of};
 
+use crate::ending::joining::Processes;
 use fak_model::FileEntry;
 use fak_process::{Context, Fault, Outcome, ProcessRow, Report, Run, add_rows, sort_rows};
 use fak_text::Script;
@@ -46,15 +47,15 @@ fn outcome_of_sleepers<K: Run>(
 /// A row for each process, sorted by name.
 pub(crate) fn rows_of<K: Run>(
     alloc: Global,
-    ended: Vec<Context<K>>,
-    halted: Vec<Context<K>>,
+    processes: Processes<K>,
     asleep: Vec<Context<K>>,
 ) -> Result<Vec<ProcessRow>, Fault>
-    ensures rows { IfOk result (λ rows. IsPermutation (rows_left ended.items halted.items asleep.items)
+    ensures rows { IfOk result (λ rows. IsPermutation (rows_left processes.ended.items processes.halted.items asleep.items)
         (told_rows K.script (map row_of rows.items))) }
     ensures sorted { IfOk result (λ rows. IsSortedByName (told_rows K.script (map row_of rows.items))) }
     ensures memory { IfErr result (λ fault. fault ≡ Fault.Memory) }
 {
+    let Processes { ended, halted } = processes;
     let outcome = outcome_of_sleepers(ended.as_slice(), halted.as_slice(), asleep.as_slice());
     let mut rows = Vec::new(alloc);
     add_rows(&mut rows, ended, Outcome::Ended)?;

@@ -23,6 +23,7 @@ use fak_sem::{SemSeat, Semaphore};
 use fak_text::Script;
 use std::alloc::Global;
 use std::sync::Wait;
+use std::vec::IntoIter;
 
 /// The objects of a run that begins, and its processors, each with a seat of every object.
 #[derive(Drop)]
@@ -258,12 +259,20 @@ fn deal<K: Run>(
     let mut dealt = Vec::with_capacity(alloc, rows.len())?;
     let mut seats = seats.into_iter();
     for row in rows {
-        let Some(seat) = seats.next() else {
-            unreachable!()
-        };
-        dealt.push(longer(row, seat)?)?;
+        dealt.push(longer(row, next_of(&mut seats))?)?;
     }
     Ok(dealt)
+}
+
+/// The next one of those that are dealt.
+fn next_of<T: Drop>(left: &mut IntoIter<T>) -> T
+    requires left { 0 < length left.old.rest.items }
+    ensures next { left.old.rest.items ≡ result ∷ left.new.rest.items }
+{
+    let Some(next) = left.next() else {
+        unreachable!()
+    };
+    next
 }
 
 /// The row with one more seat.
@@ -303,29 +312,16 @@ fn zip_seats<K: Run>(
     let mut rows = rows.into_iter();
     let mut files = files.into_iter();
     for ready in ready {
-        let Some(free) = free.next() else {
-            unreachable!()
-        };
-        let Some(births) = births.next() else {
-            unreachable!()
-        };
-        let Some(busy) = busy.next() else {
-            unreachable!()
-        };
-        let Some(row) = rows.next() else {
-            unreachable!()
-        };
-        let Some(files) = files.next() else {
-            unreachable!()
-        };
         let copy = Files::new(alloc, entries)?;
         all.push(Processor {
             ready,
-            free,
-            semaphores: SemSeats { all: row },
-            births,
-            busy,
-            files,
+            free: next_of(&mut free),
+            semaphores: SemSeats {
+                all: next_of(&mut rows),
+            },
+            births: next_of(&mut births),
+            busy: next_of(&mut busy),
+            files: next_of(&mut files),
             ended: Vec::new(alloc),
             halted: Vec::new(alloc),
             copy,

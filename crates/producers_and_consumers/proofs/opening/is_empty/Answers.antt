@@ -1,5 +1,5 @@
 use Rattle.std.proofs.Common.{rules}
 use Rattle.producers_and_consumers.proofs.opening.is_empty.Goals as goal
 
-pub returns : goal.returns
-returns c = λ yes. (c.queue_is_empty.ensures (search (rules, c.if-not-queue_is_empty.false)), c.gate_is_empty.ensures yes)
+pub returns-then-no_buffer_queued : goal.returns-then-no_buffer_queued
+returns-then-no_buffer_queued c = λ yes. (c.queue_is_empty-no_buffer_queued.ensures (search (rules, c.if-no_buffer_queued.true)), c.gate_is_empty-none_held_back.ensures yes)
