@@ -6,14 +6,12 @@ use Rattle.fak_model.specs.declared.queue.Kind.TheVariants.{OverIn, BackIn, NoRo
 use Rattle.fak_model.specs.declared.queue.Mark.{Mark}
 use Rattle.fak_model.proofs.QueueBackwards.{count_append}
 use Rattle.fak_model.proofs.SeatWeights.{mine_one, mine_joined}
-use Rattle.fak_queue.specs.declared.fault.InsertFault.{InsertFault}
-use Rattle.fak_queue.specs.declared.fault.InsertFault.TheVariants as insertion
 use Rattle.fak_queue.specs.declared.fault.DeleteFault.{DeleteFault}
 use Rattle.fak_queue.specs.declared.fault.DeleteFault.TheVariants as deletion
 use Rattle.fak_queue.specs.Queues.{IsWorn, ShutsAs, made_by, seat_of}
-use Rattle.fak_queue.specs.Refusals.{RefusesInsertion, RefusesDeletion}
-use Rattle.fak_queue.specs.Retries.{RefusedInsertion, NotIn, WithdrawnIn, ClosedIn, WithdrawnLate, kinds_not_in, RefusedDeletion, NotOut, WithdrawnOut, kinds_not_out, kinds_in, kinds_out, MakesAtLast, RefusesWaitingInsertion}
-use Rattle.fak_queue.proofs.AfterRefusals.{made_by_append, at_once, refused_full, refused_closed, refused_empty}
+use Rattle.fak_queue.specs.Refusals.{RefusesDeletion}
+use Rattle.fak_queue.specs.Retries.{RefusedInsertion, NotIn, WithdrawnIn, ClosedIn, WithdrawnLate, kinds_not_in, RefusedDeletion, NotOut, WithdrawnOut, kinds_not_out, kinds_in, kinds_out, MakesAtLast}
+use Rattle.fak_queue.proofs.AfterRefusals.{made_by_append, at_once, refused_empty}
 
 -- ---- weights of kinds
 
@@ -106,22 +104,6 @@ module _ {A : Type 0} {old new : SeatInfo (Mark A)} where
   pub shut_weighs : (size : ℕ) (first : Bool) → ShutsAs size first old new → Weighs (λ w. 0) (λ w. 0) old new
   shut_weighs size true s = after_full {size = size} {kinds = Close ∷ []} (λ w. 0) (λ w. 0) (at_once kinds_not_in s.0) (λ w. refl) (λ w. refl)
   shut_weighs size false s = after_full {size = size} {kinds = Close ∷ []} (λ w. 0) (λ w. 0) (at_once kinds_not_in s.0) (λ w. refl) (λ w. refl)
-
-  -- nor an insertion that was refused at last
-  no_insertion_weighs : {size : ℕ} (r : RefusedInsertion) → MakesAtLast kinds_not_in size (kinds_not_in r) old new → Weighs (λ w. 0) (λ w. 0) old new
-  no_insertion_weighs r t = after_full (λ w. 0) (λ w. 0) t (λ w. none_in (put_of w) refl old.name r) (λ w. none_in (got_of w) refl old.name r)
-
-  -- nor a refused `insert`
-  pub refused_insert_weighs : (size : ℕ) (x : A) (fault : InsertFault A) → RefusesInsertion size x old new fault → Weighs (λ w. 0) (λ w. 0) old new
-  refused_insert_weighs size x (insertion.Worn y) r = worn_weighs r.1
-  refused_insert_weighs size x (insertion.Closed y) r = let is = refused_closed r.2 in no_insertion_weighs is.refusal (at_once kinds_not_in is.makes)
-  refused_insert_weighs size x (insertion.Full upper y) r = let is = refused_full r.2 in no_insertion_weighs is.refusal (at_once kinds_not_in is.makes)
-
-  -- nor a refused `wait_insert`
-  pub refused_wait_insert_weighs : (size : ℕ) (x : A) (fault : InsertFault A) → RefusesWaitingInsertion size x old new fault → Weighs (λ w. 0) (λ w. 0) old new
-  refused_wait_insert_weighs size x (insertion.Worn y) r = worn_weighs r.1
-  refused_wait_insert_weighs size x (insertion.Closed y) r = no_insertion_weighs r.1.closed r.1.tries
-  refused_wait_insert_weighs size x (insertion.Full upper y) r = absurd r
 
   -- nor a refused `delete`
   pub refused_delete_weighs : (size : ℕ) (fault : DeleteFault) → RefusesDeletion size old new fault → Weighs (λ w. 0) (λ w. 0) old new
