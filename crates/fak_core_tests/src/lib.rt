@@ -2,7 +2,6 @@
 //! each part of the checker's definition, and schedules on rooms and queues as plain data, step by step.
 #![tactic(auto)]
 
-#[cfg(test)]
 mod examples;
 #[cfg(test)]
 mod histories;

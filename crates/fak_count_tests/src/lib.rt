@@ -4,7 +4,6 @@
 
 #[cfg(test)]
 mod credits;
-#[cfg(test)]
 mod files;
 #[cfg(test)]
 mod rooms;

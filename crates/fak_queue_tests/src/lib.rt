@@ -22,5 +22,4 @@ mod storms;
 mod threads;
 #[cfg(test)]
 mod two_to_one;
-#[cfg(test)]
 mod waits;

@@ -2,7 +2,6 @@
 //! once.
 #![tactic(auto)]
 
-#[cfg(test)]
 mod rows;
 #[cfg(test)]
 mod threads;
