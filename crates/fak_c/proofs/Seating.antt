@@ -1,10 +1,9 @@
 -- The seats of a queue as they are opened, each in a handle.
-use Rattle.std.proofs.Common.{◌≡◌, ℕ, ◌+◌, ◌<◌, List, length, slice_index_or, slice_set, ap, sym, subst, ◌∙◌, inl, inr, arith, get_or-set_same, get_or-set_other}
+use Rattle.fak_c.proofs.Common.{◌≡◌, ℕ, ◌+◌, ◌<◌, List, length, slice_index_or, slice_set, ap, sym, subst, ◌∙◌, inl, inr, arith, get_or-set_same, get_or-set_other, HasSeat, AreSeatedBelow, IsOpened}
 use Rattle.std.proofs.lemmas.Bool.{cases_eq}
 use Rattle.fak_queue.specs.Queues.{QueueInfo}
 use Rattle.fak_queue.specs.Refusals.{IsInRange}
 use Rattle.fak_c.specs.declared.place.Place.{Place}
-use Rattle.fak_c.specs.Openings.{HasSeat, AreSeatedBelow, IsOpened}
 
 -- one handle more has its seat
 pub seated_next : (queue : QueueInfo) (stint n : ℕ) (places : List Place) (p : Place) → n < length places → AreSeatedBelow queue stint n places → HasSeat queue stint n p → AreSeatedBelow queue stint (n + 1) (slice_set places n p)

@@ -1,20 +1,14 @@
 -- What the calls of a queue core learn from its fields, and from the values that they read.
-use Rattle.std.proofs.Common.{subst, ◌≡◌, ◌+◌, ◌*◌, ◌/◌, ◌%◌, ◌==◌, int_lt, pos, ◌<◌, ◌++◌, ◌∙◌, ℕ, zero, suc, List, [], ◌∷◌, length, get_or, reverse, Option, Some, None, Ok, refl, ap, sym, slice_get, slice_set}
 use Rattle.std.proofs.lemmas.List.{append-nil, reverse-reverse}
-use Rattle.fak_model.proofs.Common.{get_or_from_slice_get, slice_get_read, item_at, item_in, items_put, item_of}
-use Rattle.fak_model.specs.declared.queue.Kind.{Kind}
-use Rattle.fak_model.specs.declared.queue.Kind.TheVariants.{Put}
-use Rattle.fak_model.specs.declared.queue.Mark.{Mark}
 use Rattle.fak_model.proofs.Reversing.{reverse_cons}
 use Rattle.fak_model.proofs.QueueBackwards.{item_same, items_push}
 use Rattle.fak_core.specs.declared.line.CoreMove.{CoreMove}
 use Rattle.fak_core.specs.declared.line.CoreMove.TheVariants as step
 use Rattle.fak_core.specs.declared.line.Line.{Line}
-use Rattle.fak_core.proofs.Common.{Phase, Idle, TestUp, AddUp, BackUp, TicketIn, TurnIn, StoreItem, SetFull, EndInsert, TestLow, SubLow, BackLow, TicketOut, TurnOut, LoadItem, SetFree, EndDelete, SetShut, QueueMove}
+use Rattle.fak_core.proofs.Common.{Phase, Idle, TestUp, AddUp, BackUp, TicketIn, TurnIn, StoreItem, SetFull, EndInsert, TestLow, SubLow, BackLow, TicketOut, TurnOut, LoadItem, SetFree, EndDelete, SetShut, QueueMove, subst, ◌≡◌, ◌+◌, ◌*◌, ◌/◌, ◌%◌, ◌==◌, int_lt, pos, ◌<◌, ◌++◌, ◌∙◌, ℕ, zero, suc, List, [], ◌∷◌, length, get_or, reverse, Option, Some, None, Ok, refl, ap, sym, slice_get, slice_set, get_or_from_slice_get, slice_get_read, item_at, item_in, items_put, item_of, Kind, Put, Mark, QueueState, load_item, move_by, next_move, past_after}
 use Rattle.fak_core.specs.declared.queue.step.Found.TheVariants.{Item}
 use Rattle.fak_core.specs.declared.queue.step.Write.{Write}
 use Rattle.fak_core.specs.declared.queue.step.Write.TheVariants as write
-use Rattle.fak_core.specs.QueueMoves.{QueueState, load_item, move_by, next_move, past_after}
 use Rattle.fak_core.specs.QueueFields.{QueueFields, queue_state, history_of, written_fields, moved_fields, item_left, or_idle, phase_step, step_of, line_of, number_found, IsSound, IsSoundWith, IsStep, LoadsPut}
 use Rattle.fak_core.proofs.QueueSteps.{by_test}
 use Rattle.fak_core.proofs.QueueLoads.{loads_own}

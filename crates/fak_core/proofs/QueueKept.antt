@@ -1,11 +1,8 @@
 -- What holds of a queue core between any two steps.
 use Rattle.std.specs.Prelude.{◌≡◌, ℕ, ◌+◌, ◌*◌, ◌/◌, ◌%◌, ◌≤◌, List, Bool, true, false, Option, Some}
-use Rattle.fak_model.specs.declared.queue.Kind.TheVariants.{Fill, Take, Close}
-use Rattle.fak_model.specs.declared.queue.Mark.{Mark}
 use Rattle.fak_model.specs.declared.queue.Stage.{Stage}
 use Rattle.fak_model.specs.declared.queue.Stage.TheVariants as made
-use Rattle.fak_model.proofs.Common.{count, puts, gots, upper_count, lower_count, Has, stage, item_of, IsLegalPast}
-use Rattle.fak_core.proofs.Common.{Phase, Idle, TestUp, AddUp, BackUp, TicketIn, TurnIn, StoreItem, SetFull, EndInsert, TestLow, SubLow, BackLow, TicketOut, TurnOut, LoadItem, SetFree, EndDelete, SetShut, QueueState}
+use Rattle.fak_core.proofs.Common.{Phase, Idle, TestUp, AddUp, BackUp, TicketIn, TurnIn, StoreItem, SetFull, EndInsert, TestLow, SubLow, BackLow, TicketOut, TurnOut, LoadItem, SetFree, EndDelete, SetShut, QueueState, Fill, Take, Close, Mark, count, puts, gots, upper_count, lower_count, Has, stage, item_of, IsLegalPast}
 
 -- what the marks show of a phase
 abbrev pub shown : {A : Type 0} → Phase A → Stage A

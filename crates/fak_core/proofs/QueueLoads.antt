@@ -1,15 +1,8 @@
 -- A deletion loads the item of the Put with its own ticket.
-use Rattle.std.proofs.Common.{◌≡◌, ℕ, List, [], ◌∷◌, ◌++◌, Some, reverse, refl, sym, ap, ◌∙◌, subst, inl, inr, IsSome}
-use Rattle.fak_model.proofs.Common.{reverse-reverse, gots, item_at, items_put, Drew, stage, item_of, MayFollow, IsLegalPast}
-use Rattle.fak_model.specs.declared.queue.Kind.TheVariants.{Got}
-use Rattle.fak_model.specs.declared.queue.Mark.{Mark}
-use Rattle.fak_model.specs.declared.queue.Stage.TheVariants.{Getting}
+use Rattle.fak_core.proofs.Common.{◌≡◌, ℕ, List, [], ◌∷◌, ◌++◌, Some, reverse, refl, sym, ap, ◌∙◌, subst, inl, inr, IsSome, reverse-reverse, gots, item_at, items_put, Drew, stage, item_of, MayFollow, IsLegalPast, Got, Mark, Getting, item_stays, LoadItem, TicketOut, LoadsItsItem}
 use Rattle.fak_model.proofs.QueueStages.{after_getting}
-use Rattle.fak_model.proofs.QueueTickets.{item_stays}
 use Rattle.fak_model.proofs.QueueBackwards.{item_same, last_of, drew}
-use Rattle.fak_core.specs.declared.queue.phase.Phase.TheVariants.{LoadItem, TicketOut}
 use Rattle.fak_core.specs.QueueMoves.{QueueState, history_of}
-use Rattle.fak_core.specs.QueueSchedule.{LoadsItsItem}
 use Rattle.fak_core.proofs.QueueKept.{IsKept, shown}
 use Rattle.fak_core.proofs.QueueReached.{loads_put, draws_put}
 

@@ -1,13 +1,6 @@
 -- Seats: each cell has one owner at most, and each seat goes on in its own place.
-use Rattle.std.proofs.Common.{◌≡◌, ◌≢◌, ◌⊎◌, ℕ, ◌+◌, ◌-◌, ◌*◌, ◌/◌, ◌%◌, ◌<◌, Bool, List, ◌∷◌, Option, refl, sym, ap, ◌∙◌, subst, inl, inr, arith, ℤ}
-use Rattle.fak_model.specs.declared.queue.Kind.{Kind}
-use Rattle.fak_model.specs.declared.queue.Kind.TheVariants.{Fill, Take, Close}
-use Rattle.fak_model.specs.declared.queue.Mark.{Mark}
-use Rattle.fak_model.specs.declared.queue.Stage.TheVariants.{Putting, Getting}
-use Rattle.fak_model.proofs.Common.{count, puts, gots, upper_count, lower_count, Has, after, stage, MayFollow}
 use Rattle.fak_model.proofs.QueueStages.{stage_here, stage_else}
-use Rattle.fak_model.proofs.QueueTickets.{putting_one, putting_unfilled, getting_one, getting_untaken}
-use Rattle.fak_core.proofs.Common.{Phase, StoreItem, SetFull, LoadItem, SetFree, QueueState, with_at, with_phase, InCell}
+use Rattle.fak_core.proofs.Common.{Phase, StoreItem, SetFull, LoadItem, SetFree, QueueState, with_at, with_phase, InCell, ◌≡◌, ◌≢◌, ◌⊎◌, ℕ, ◌+◌, ◌-◌, ◌*◌, ◌/◌, ◌%◌, ◌<◌, Bool, List, ◌∷◌, Option, refl, sym, ap, ◌∙◌, subst, inl, inr, arith, ℤ, Kind, Fill, Take, Close, Mark, Putting, Getting, count, puts, gots, upper_count, lower_count, Has, after, stage, MayFollow, putting_one, putting_unfilled, getting_one, getting_untaken}
 use Rattle.fak_core.proofs.QueueKept.{shown, TakenBefore, IsReady, Turns, Cells, TellsShut, IsKept}
 use Rattle.fak_core.proofs.QueueTurns.{at_else, by_place, one_ticket, fill_turn, take_turn, le_or_lt}
 

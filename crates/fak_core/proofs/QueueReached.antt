@@ -1,11 +1,6 @@
 -- A reached state: what holds of it, and which states one more event leads to.
-use Rattle.std.proofs.Common.{◌≡◌, ◌⊎◌, ℕ, ◌%◌, ◌<◌, ◌++◌, cond, Bool, true, false, List, [], ◌∷◌, Some, refl, sym, ap, ◌∙◌, subst, inl, inr}
-use Rattle.fak_model.proofs.Common.{reverse-reverse, IsQueueHistory, count, gots, stage, item_of, IsLegalPast}
-use Rattle.fak_model.specs.declared.queue.Stage.TheVariants.{Getting}
-use Rattle.fak_model.proofs.QueueTickets.{getting_untaken, item_there}
 use Rattle.fak_model.proofs.QueueLiteral.{to_literal}
-use Rattle.fak_model.proofs.QueueCounts.{claimed_out_left}
-use Rattle.fak_core.proofs.Common.{Phase, Idle, TestUp, TestLow, TicketOut, LoadItem, SetShut, QueueMove}
+use Rattle.fak_core.proofs.Common.{Phase, Idle, TestUp, TestLow, TicketOut, LoadItem, SetShut, QueueMove, ◌≡◌, ◌⊎◌, ℕ, ◌%◌, ◌<◌, ◌++◌, cond, Bool, true, false, List, [], ◌∷◌, Some, refl, sym, ap, ◌∙◌, subst, inl, inr, reverse-reverse, IsQueueHistory, count, gots, stage, item_of, IsLegalPast, Getting, getting_untaken, item_there, claimed_out_left}
 use Rattle.fak_core.specs.QueueMoves.{QueueState, next_move, moved, with_phase, history_of}
 use Rattle.fak_core.specs.QueueSchedule.{QueueEvent, Inserts, Deletes, Shuts, Advances, opening, after_step, move_from, begun, happens, run, reached, IsReached}
 use Rattle.fak_core.proofs.QueueKept.{IsKept, IsReady, shown}

@@ -1,20 +1,10 @@
 -- The fields of a queue core stay those of a reached state.
-use Rattle.std.proofs.Common.{◌≡◌, ℕ, zero, suc, ◌+◌, ◌*◌, ◌/◌, ◌%◌, ◌<◌, ◌≤◌, ◌==◌, List, [], length, get_or, Option, Some, None, Ok, refl, sym, ap, ◌∙◌, subst, inl, inr, arith, pos, int_lt, mod-lt, slice_get, slice_set, replicate}
-use Rattle.fak_model.proofs.Common.{ints, slice_get_within, get_or_from_slice_get, count, puts, gots, stage, item_of, SeatsBelow}
-use Rattle.std.proofs.lemmas.List.{length-set, length-replicate, get_or-set_same, get_or-set_other}
-use Rattle.fak_model.specs.declared.queue.Kind.{Kind}
-use Rattle.fak_model.specs.declared.queue.Mark.{Mark}
-use Rattle.fak_model.proofs.Deciding.{same_or_not}
-use Rattle.fak_model.proofs.QueueTickets.{a_put_bit, putting_below, getting_below}
-use Rattle.fak_model.proofs.QueueCounts.{count_few, contents_bounded, upper_range, lower_range}
 use Rattle.fak_core.specs.declared.call.QueueCall.{QueueCall}
 use Rattle.fak_core.specs.declared.call.QueueCall.TheVariants.{Insert, Delete, Shut}
-use Rattle.fak_core.proofs.Common.{Phase, Idle, TestUp, AddUp, TicketOut, TurnIn, StoreItem, SetFull, TestLow, SubLow, TurnOut, SetFree, QueueMove}
+use Rattle.fak_core.proofs.Common.{Phase, Idle, TestUp, AddUp, TicketOut, TurnIn, StoreItem, SetFull, TestLow, SubLow, TurnOut, SetFree, QueueMove, ◌≡◌, ℕ, zero, suc, ◌+◌, ◌*◌, ◌/◌, ◌%◌, ◌<◌, ◌≤◌, ◌==◌, List, [], length, get_or, Option, Some, None, Ok, refl, sym, ap, ◌∙◌, subst, inl, inr, arith, pos, int_lt, mod-lt, slice_get, slice_set, replicate, ints, slice_get_within, get_or_from_slice_get, count, puts, gots, stage, item_of, SeatsBelow, length-set, length-replicate, get_or-set_same, get_or-set_other, Kind, Mark, same_or_not, a_put_bit, putting_below, getting_below, count_few, contents_bounded, upper_range, lower_range, QueueState, move_by, next_move, moved, written, past_after, with_at, with_phase, QueueFields, queue_state, opening_fields, written_fields, moved_fields, or_idle, phase_step, step_of, first_phase, phase_begin, begin_of, IsSound, IsSmall, HasTicketBelow, IsWithin}
 use Rattle.fak_core.specs.declared.queue.step.Write.{Write}
 use Rattle.fak_core.specs.declared.queue.step.Write.TheVariants as write
-use Rattle.fak_core.specs.QueueMoves.{QueueState, move_by, next_move, moved, written, past_after, with_at, with_phase}
 use Rattle.fak_core.specs.QueueSchedule.{IsReached, opening}
-use Rattle.fak_core.specs.QueueFields.{QueueFields, queue_state, opening_fields, written_fields, moved_fields, or_idle, phase_step, step_of, first_phase, phase_begin, begin_of, IsSound, IsSmall, HasTicketBelow, IsWithin}
 use Rattle.fak_core.proofs.QueueKept.{IsKept, shown}
 use Rattle.fak_core.proofs.QueueTurns.{at_same, at_else}
 use Rattle.fak_core.proofs.QueueSteps.{by_test}

@@ -1,18 +1,8 @@
 -- Each of the moves keeps the invariant.
-use Rattle.std.proofs.Common.{◌≡◌, ℕ, ◌+◌, ◌*◌, ◌/◌, ◌%◌, ◌<◌, ◌==◌, cond, Bool, List, [], ◌∷◌, Some, refl, sym, ap, ◌∙◌, subst, inl, arith, ℤ, pos, ◌+ℤ◌, ◌-ℤ◌, int_lt, true, false}
-use Rattle.fak_model.proofs.Common.{ints, count, puts, gots, upper_count, lower_count, Has, after, stage, item_of, MayFollow, nat_tests}
-use Rattle.fak_model.specs.declared.queue.Kind.{Kind}
-use Rattle.fak_model.specs.declared.queue.Kind.TheVariants.{ClaimIn, OverIn, BackIn, NoRoom, Put, Fill, EndIn, ClaimOut, OverOut, BackOut, NoItem, Got, Take, EndOut, Close, Closed, LateIn}
-use Rattle.fak_model.specs.declared.queue.Mark.{Mark}
 use Rattle.fak_model.specs.declared.queue.Stage.TheVariants as made
-use Rattle.fak_model.specs.declared.queue.Stage.TheVariants.{Withdrawing, Claimed, Putting, Filled, WithdrawingOut, ClaimedOut, Getting, Taken}
-use Rattle.fak_model.proofs.QueueTickets.{item_there, putting_item}
-use Rattle.fak_core.proofs.Common.{Phase, Idle, TestUp, AddUp, BackUp, TicketIn, TurnIn, StoreItem, SetFull, EndInsert, TestLow, SubLow, BackLow, TicketOut, TurnOut, LoadItem, SetFree, EndDelete, SetShut, QueueMove}
-use Rattle.fak_core.specs.QueueMoves.{QueueState, with_at, with_phase, with_mark}
+use Rattle.fak_core.proofs.Common.{Phase, Idle, TestUp, AddUp, BackUp, TicketIn, TurnIn, StoreItem, SetFull, EndInsert, TestLow, SubLow, BackLow, TicketOut, TurnOut, LoadItem, SetFree, EndDelete, SetShut, QueueMove, ◌≡◌, ℕ, ◌+◌, ◌*◌, ◌/◌, ◌%◌, ◌<◌, ◌==◌, cond, Bool, List, [], ◌∷◌, Some, refl, sym, ap, ◌∙◌, subst, inl, arith, ℤ, pos, ◌+ℤ◌, ◌-ℤ◌, int_lt, true, false, ints, count, puts, gots, upper_count, lower_count, Has, after, stage, item_of, MayFollow, nat_tests, Kind, ClaimIn, OverIn, BackIn, NoRoom, Put, Fill, EndIn, ClaimOut, OverOut, BackOut, NoItem, Got, Take, EndOut, Close, Closed, LateIn, Mark, Withdrawing, Claimed, Putting, Filled, WithdrawingOut, ClaimedOut, Getting, Taken, item_there, putting_item, QueueState, with_at, with_phase, with_mark, claimed_out_left, moved, ticket_out}
 use Rattle.fak_core.proofs.QueueKept.{shown, TakenBefore, IsReady, Turns, IsKept}
 use Rattle.std.proofs.Math.Nat.{add-mod_right, add-div_right}
-use Rattle.fak_model.proofs.QueueCounts.{claimed_out_left}
-use Rattle.fak_core.specs.QueueMoves.{moved, ticket_out}
 use Rattle.fak_core.specs.QueueSchedule.{InCell, QueueEvent, Inserts, Deletes, Shuts, Advances, opening, move_from, begun, happens, run}
 use Rattle.fak_core.proofs.QueueTurns.{at_here, by_place, turns_plain, turns_fill, turns_take, cells_plain, cells_fill, cells_store}
 use Rattle.fak_core.proofs.QueueOwners.{filling, emptying, alone, ready_store, shuts_plain, kept_goes, kept_marks}

@@ -1,11 +1,5 @@
 -- The turn words and the cells, after one more mark or one more write.
-use Rattle.std.proofs.Common.{◌≡◌, ◌≢◌, ◌⊎◌, ℕ, ◌+◌, ◌-◌, ◌*◌, ◌/◌, ◌%◌, ◌<◌, ◌≤◌, List, ◌∷◌, Option, Some, sym, ap, ◌∙◌, subst, inl, inr, arith}
-use Rattle.fak_model.specs.declared.queue.Kind.TheVariants.{Fill, Take}
-use Rattle.fak_model.specs.declared.queue.Mark.{Mark}
-use Rattle.fak_model.proofs.Common.{Has, item_of, IsLegalPast}
-use Rattle.fak_model.proofs.Deciding.{same_or_not, cond_here, cond_else}
-use Rattle.fak_model.proofs.QueueTickets.{item_stays, item_there, fill_below}
-use Rattle.fak_core.specs.QueueMoves.{with_at}
+use Rattle.fak_core.proofs.Common.{◌≡◌, ◌≢◌, ◌⊎◌, ℕ, ◌+◌, ◌-◌, ◌*◌, ◌/◌, ◌%◌, ◌<◌, ◌≤◌, List, ◌∷◌, Option, Some, sym, ap, ◌∙◌, subst, inl, inr, arith, Fill, Take, Mark, Has, item_of, IsLegalPast, same_or_not, cond_here, cond_else, item_stays, item_there, fill_below, with_at}
 use Rattle.fak_core.proofs.QueueKept.{TakenBefore, Turns, Cells}
 use Rattle.std.proofs.Math.Nat.{div-add-mod, add-mod_right, add-div_right}
 

@@ -1,10 +1,7 @@
 -- What the calls of a room core learn from its state, and from the values that they read.
-use Rattle.std.proofs.Common.{◌≡◌, ◌≤◌, ◌<◌, ◌∙◌, ◌++◌, ℕ, ℤ, List, length, refl, arith, Ok, Option, ap, sym, subst, slice_set, get_or, w64, to_z, of_z, pos, Result}
 use Rattle.std.specs.Int.{w128}
 use Rattle.std.proofs.Math.ListN.{length-replicate}
-use Rattle.fak_model.proofs.Common.{ints, slice_get_read}
-use Rattle.fak_model.specs.declared.room.RoomMark.{RoomMark}
-use Rattle.fak_core.proofs.Common.{RoomCall, CoreSeat, RoomMove}
+use Rattle.fak_core.proofs.Common.{RoomCall, CoreSeat, RoomMove, ◌≡◌, ◌≤◌, ◌<◌, ◌∙◌, ◌++◌, ℕ, ℤ, List, length, refl, arith, Ok, Option, ap, sym, subst, slice_set, get_or, w64, to_z, of_z, pos, Result, ints, slice_get_read, RoomMark}
 use Rattle.fak_core.specs.declared.fault.CoreFault.{CoreFault}
 use Rattle.fak_core.specs.declared.line.LineMark.{LineMark}
 use Rattle.fak_core.specs.Room.{RoomState, opening, step_of, next_move, or_idle, moved, marks_left, line_of, line_mark, begin_of, begun, amount_of}

@@ -1,15 +1,9 @@
 -- What every step of a room core keeps.
-use Rattle.std.proofs.Common.{◌≡◌, ◌≢◌, ℕ, ◌+◌, ◌-◌, ◌<◌, ◌≤◌, Bool, true, false, cond, List, [], ◌∷◌, ◌++◌, length, reverse, Option, Some, None, Ok, Err, refl, ap, sym, ◌∙◌, subst, arith, inl, inr, slice_get, slice_set, ℤ, pos, ◌+ℤ◌, ◌-ℤ◌, ◌≤ℤ◌, ◌<ℤ◌, nat_lt, All, sum_by}
-use Rattle.fak_model.proofs.Common.{nat_tests, ints, All-push, All-nil, All-head, All-tail, slice_get_within, AreNamed}
-use Rattle.fak_model.specs.declared.room.RoomKind.{RoomKind}
 use Rattle.fak_model.specs.declared.room.RoomKind.TheVariants.{Up, Over, Back, No, Release as GivenBack}
-use Rattle.fak_model.specs.declared.room.RoomMark.{RoomMark}
 use Rattle.fak_model.specs.Room.{Granted, Refused, Withdrawn, Released, kinds_of_call, up_amount, release_amount, value, amount_held, room_rules, IsFair, IsRoomHistory}
 use Rattle.fak_model.proofs.Appending.{seat_words-other, call_begins, history_none, history_owed}
-use Rattle.fak_model.proofs.Leading.{}
-use Rattle.fak_model.proofs.Deciding.{same_or_not}
 use Rattle.fak_model.proofs.Reversing.{reverse_cons}
-use Rattle.fak_core.proofs.Common.{RoomCall, CoreSeat, RoomMove, RoomEvent, Begins, Advances, IsEvent, after_step, after_begin, happens, run}
+use Rattle.fak_core.proofs.Common.{RoomCall, CoreSeat, RoomMove, RoomEvent, Begins, Advances, IsEvent, after_step, after_begin, happens, run, ◌≡◌, ◌≢◌, ℕ, ◌+◌, ◌-◌, ◌<◌, ◌≤◌, Bool, true, false, cond, List, [], ◌∷◌, ◌++◌, length, reverse, Option, Some, None, Ok, Err, refl, ap, sym, ◌∙◌, subst, arith, inl, inr, slice_get, slice_set, ℤ, pos, ◌+ℤ◌, ◌-ℤ◌, ◌≤ℤ◌, ◌<ℤ◌, nat_lt, All, sum_by, nat_tests, ints, All-push, All-nil, All-head, All-tail, slice_get_within, AreNamed, RoomKind, RoomMark, same_or_not}
 use Rattle.fak_core.specs.declared.call.RoomCall.TheVariants.{Tir, Release}
 use Rattle.fak_core.specs.declared.fault.CoreFault.TheVariants.{NotHeld}
 use Rattle.fak_core.specs.declared.room.phase.RoomPhase.{RoomPhase}

@@ -1,11 +1,7 @@
 -- What one more mark does to the value of a room's history, and to what its seat holds.
-use Rattle.std.proofs.Common.{◌≡◌, ℕ, ◌+◌, ◌-◌, List, [], ◌∷◌, ◌++◌, refl, ap, arith, ℤ, pos, ◌+ℤ◌, ◌-ℤ◌, sum_by}
-use Rattle.fak_model.proofs.Common.{ints, sum_by_push, words_by, Owes}
-use Rattle.fak_model.specs.declared.room.RoomKind.{RoomKind}
-use Rattle.fak_model.specs.declared.room.RoomMark.{RoomMark}
+use Rattle.fak_core.proofs.Common.{◌≡◌, ℕ, ◌+◌, ◌-◌, List, [], ◌∷◌, ◌++◌, refl, ap, arith, ℤ, pos, ◌+ℤ◌, ◌-ℤ◌, sum_by, ints, sum_by_push, words_by, Owes, RoomKind, RoomMark, total_push}
 use Rattle.fak_model.specs.Room.{seat_of, kind_of, kinds_of_call, up_amount, over_amount, back_amount, release_amount, value, amount_held, room_rules, IsRoomHistory}
 use Rattle.fak_model.proofs.Appending.{seat_words-own}
-use Rattle.fak_model.proofs.Leading.{total_push}
 use Rattle.fak_model.proofs.RoomLaw.{releases_le}
 
 -- the kinds of a seat's marks, in order

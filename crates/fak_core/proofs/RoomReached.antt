@@ -1,14 +1,8 @@
 -- The reached states of a room core: how they go on, and what holds of them.
-use Rattle.std.proofs.Common.{◌≡◌, ℕ, ◌+◌, ◌-◌, ◌*◌, ◌<◌, ◌≤◌, List, [], ◌∷◌, ◌++◌, length, Option, Some, Ok, Err, refl, ap, sym, ◌∙◌, subst, arith, slice_get, get_or, pos, Result, sum_by}
-use Rattle.fak_model.proofs.Common.{ints, sum_by-cons, All-push, All-nil, slice_get_within, slice_get-get_or, sum_below}
 use Rattle.std.proofs.Math.ListN.{length-replicate}
-use Rattle.fak_model.specs.declared.room.RoomKind.{RoomKind}
 use Rattle.fak_model.specs.declared.room.RoomKind.TheVariants.{Back}
-use Rattle.fak_model.specs.declared.room.RoomMark.{RoomMark}
-use Rattle.fak_model.specs.Room.{kinds_of_call, total, over_amount, back_amount, value, amount_held, room_rules}
-use Rattle.fak_model.proofs.Leading.{calls_lead, owes_even, sum_same, sum_parts, sum_plus, sum_most, sum_term}
 use Rattle.fak_model.proofs.RoomLaw.{backs_after, call_even, held_fits}
-use Rattle.fak_core.proofs.Common.{RoomCall, CoreSeat, RoomMove}
+use Rattle.fak_core.proofs.Common.{RoomCall, CoreSeat, RoomMove, ◌≡◌, ℕ, ◌+◌, ◌-◌, ◌*◌, ◌<◌, ◌≤◌, List, [], ◌∷◌, ◌++◌, length, Option, Some, Ok, Err, refl, ap, sym, ◌∙◌, subst, arith, slice_get, get_or, pos, Result, sum_by, ints, sum_by-cons, All-push, All-nil, slice_get_within, slice_get-get_or, sum_below, RoomKind, RoomMark, kinds_of_call, total, over_amount, back_amount, value, amount_held, room_rules, calls_lead, owes_even, sum_same, sum_parts, sum_plus, sum_most, sum_term}
 use Rattle.fak_core.specs.declared.fault.CoreFault.{CoreFault}
 use Rattle.fak_core.specs.declared.room.phase.RoomPhase.{RoomPhase}
 use Rattle.fak_core.specs.declared.room.phase.RoomPhase.TheVariants.{Idle, Testing, Adding, Backing, Releasing}

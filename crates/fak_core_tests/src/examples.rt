@@ -9,7 +9,7 @@ use fak_model::Kind::{
 };
 use fak_model::{Kind, Mark, first_fault};
 use std::alloc::{AllocError, Global};
-use std::test::*;
+use std::process::Abort;
 
 // A mark, or all marks of an insertion or a deletion with its item and ticket.
 #[derive(Clone, Copy, Drop)]
@@ -81,9 +81,15 @@ fn judged_otherwise(alloc: Global, examples: &[Example]) -> Result<Option<usize>
     Ok(None)
 }
 
+// Finds that each example is judged as it says.
+#[cfg(test)]
+fn are_judged(rt: &(impl Abort + AllocGlobal), examples: &[Example]) {
+    assert_eq!(rt; judged_otherwise(rt.alloc(), examples), Ok(None));
+}
+
 #[test]
-fn the_calls_of_a_queue_are_judged(rt: HostRuntime) -> Result<(), Fail> {
-    let examples = [
+fn the_calls_of_a_queue_are_judged(rt: HostRuntime) {
+    let examples = &[
         Example {
             size: 1,
             before: &[Inserted(0, 7, 0)],
@@ -169,13 +175,12 @@ fn the_calls_of_a_queue_are_judged(rt: HostRuntime) -> Result<(), Fail> {
             may_not: &[By(1, Put(8))],
         },
     ];
-    assert_eq!(rt; judged_otherwise(rt.alloc(), &examples)?, None);
-    Ok(())
+    are_judged(&rt, examples);
 }
 
 #[test]
-fn the_answers_of_a_queue_are_judged(rt: HostRuntime) -> Result<(), Fail> {
-    let examples = [
+fn the_answers_of_a_queue_are_judged(rt: HostRuntime) {
+    let examples = &[
         Example {
             size: 1,
             before: &[Inserted(0, 7, 0)],
@@ -255,13 +260,12 @@ fn the_answers_of_a_queue_are_judged(rt: HostRuntime) -> Result<(), Fail> {
             may_not: &[By(1, ClaimOut)],
         },
     ];
-    assert_eq!(rt; judged_otherwise(rt.alloc(), &examples)?, None);
-    Ok(())
+    are_judged(&rt, examples);
 }
 
 #[test]
-fn the_counts_of_a_queue_are_judged(rt: HostRuntime) -> Result<(), Fail> {
-    let examples = [
+fn the_counts_of_a_queue_are_judged(rt: HostRuntime) {
+    let examples = &[
         Example {
             size: 1,
             before: &[Inserted(0, 7, 0), By(1, OverIn), Deleted(2, 7, 0)],
@@ -292,13 +296,12 @@ fn the_counts_of_a_queue_are_judged(rt: HostRuntime) -> Result<(), Fail> {
             may_not: &[By(0, EndIn), By(1, NoItem)],
         },
     ];
-    assert_eq!(rt; judged_otherwise(rt.alloc(), &examples)?, None);
-    Ok(())
+    are_judged(&rt, examples);
 }
 
 #[test]
-fn the_items_of_a_queue_are_judged(rt: HostRuntime) -> Result<(), Fail> {
-    let examples = [
+fn the_items_of_a_queue_are_judged(rt: HostRuntime) {
+    let examples = &[
         Example {
             size: 2,
             before: &[Inserted(0, 7, 0), Inserted(0, 8, 1), By(1, ClaimOut)],
@@ -324,13 +327,12 @@ fn the_items_of_a_queue_are_judged(rt: HostRuntime) -> Result<(), Fail> {
             may_not: &[By(1, Got(9))],
         },
     ];
-    assert_eq!(rt; judged_otherwise(rt.alloc(), &examples)?, None);
-    Ok(())
+    are_judged(&rt, examples);
 }
 
 #[test]
-fn the_cells_of_a_queue_are_judged(rt: HostRuntime) -> Result<(), Fail> {
-    let examples = [
+fn the_cells_of_a_queue_are_judged(rt: HostRuntime) {
+    let examples = &[
         Example {
             size: 2,
             before: &[By(0, ClaimIn), By(1, ClaimIn), By(0, Put(7)), By(1, Put(8))],
@@ -381,6 +383,5 @@ fn the_cells_of_a_queue_are_judged(rt: HostRuntime) -> Result<(), Fail> {
             may_not: &[By(2, Take(0))],
         },
     ];
-    assert_eq!(rt; judged_otherwise(rt.alloc(), &examples)?, None);
-    Ok(())
+    are_judged(&rt, examples);
 }

@@ -20,6 +20,18 @@ fn steps(rt: &(impl AllocGlobal + Abort), core: &mut QueueCore, trace: &[Step]) 
     }
 }
 
+/// Begins a call, which is not refused.
+fn begins(rt: &impl Abort, core: &mut QueueCore, seat: u64, call: QueueCall) {
+    assert!(rt; core.begin(seat, call).is_ok());
+}
+
+/// A queue of this size with so many seats.
+fn opened(rt: &(impl AllocGlobal + Abort), size: u64, seats: u64) -> QueueCore {
+    QueueCore::new(rt.alloc(), size, seats)
+        .ok()
+        .expect(rt, "a queue")
+}
+
 /// The steps of the first insertion, of 7, into a queue of one cell by seat 0.
 const INSERTED: [Step; 7] = [
     (0, CoreMove::TestUp, 0, None),
@@ -43,11 +55,11 @@ const DELETED: [Step; 7] = [
 ];
 
 #[test]
-fn an_item_is_inserted_and_deleted(rt: HostRuntime) -> Result<(), CoreFault> {
-    let mut core = QueueCore::new(rt.alloc(), 1, 1)?;
-    core.begin(0, QueueCall::Insert(7))?;
+fn an_item_is_inserted_and_deleted(rt: HostRuntime) {
+    let mut core = opened(&rt, 1, 1);
+    begins(&rt, &mut core, 0, QueueCall::Insert(7));
     steps(&rt, &mut core, &INSERTED);
-    core.begin(0, QueueCall::Delete)?;
+    begins(&rt, &mut core, 0, QueueCall::Delete);
     steps(&rt, &mut core, &DELETED);
     let kinds = [
         Kind::ClaimIn,
@@ -61,23 +73,22 @@ fn an_item_is_inserted_and_deleted(rt: HostRuntime) -> Result<(), CoreFault> {
     ];
     let marks = kinds.map(|kind| Mark { seat: 0, kind });
     assert_eq!(rt; core.marks(), &marks[..]);
-    Ok(())
 }
 
 #[test]
-fn a_deletion_too_many_is_withdrawn(rt: HostRuntime) -> Result<(), CoreFault> {
-    let mut core = QueueCore::new(rt.alloc(), 1, 3)?;
-    core.begin(0, QueueCall::Delete)?;
+fn a_deletion_too_many_is_withdrawn(rt: HostRuntime) {
+    let mut core = opened(&rt, 1, 3);
+    begins(&rt, &mut core, 0, QueueCall::Delete);
     steps(
         &rt,
         &mut core,
         &[(0, CoreMove::TestLow, 0, Some(Kind::NoItem))],
     );
-    core.begin(0, QueueCall::Insert(7))?;
+    begins(&rt, &mut core, 0, QueueCall::Insert(7));
     steps(&rt, &mut core, &INSERTED);
-    core.begin(1, QueueCall::Delete)?;
+    begins(&rt, &mut core, 1, QueueCall::Delete);
     steps(&rt, &mut core, &[(1, CoreMove::TestLow, 1, None)]);
-    core.begin(2, QueueCall::Delete)?;
+    begins(&rt, &mut core, 2, QueueCall::Delete);
     steps(
         &rt,
         &mut core,
@@ -87,7 +98,7 @@ fn a_deletion_too_many_is_withdrawn(rt: HostRuntime) -> Result<(), CoreFault> {
             (1, CoreMove::SubLow, 0, Some(Kind::OverOut)),
         ],
     );
-    core.begin(0, QueueCall::Delete)?;
+    begins(&rt, &mut core, 0, QueueCall::Delete);
     steps(
         &rt,
         &mut core,
@@ -96,42 +107,39 @@ fn a_deletion_too_many_is_withdrawn(rt: HostRuntime) -> Result<(), CoreFault> {
             (1, CoreMove::BackLow, -1, Some(Kind::BackOut)),
         ],
     );
-    Ok(())
 }
 
 #[test]
-fn an_insertion_into_a_full_queue_is_refused(rt: HostRuntime) -> Result<(), CoreFault> {
-    let mut core = QueueCore::new(rt.alloc(), 1, 1)?;
-    core.begin(0, QueueCall::Insert(7))?;
+fn an_insertion_into_a_full_queue_is_refused(rt: HostRuntime) {
+    let mut core = opened(&rt, 1, 1);
+    begins(&rt, &mut core, 0, QueueCall::Insert(7));
     steps(&rt, &mut core, &INSERTED);
-    core.begin(0, QueueCall::Insert(8))?;
+    begins(&rt, &mut core, 0, QueueCall::Insert(8));
     steps(
         &rt,
         &mut core,
         &[(0, CoreMove::TestUp, 1, Some(Kind::NoRoom))],
     );
-    Ok(())
 }
 
 #[test]
-fn an_insertion_that_has_not_ended_gives_no_item(rt: HostRuntime) -> Result<(), CoreFault> {
-    let mut core = QueueCore::new(rt.alloc(), 1, 2)?;
-    core.begin(0, QueueCall::Insert(7))?;
+fn an_insertion_that_has_not_ended_gives_no_item(rt: HostRuntime) {
+    let mut core = opened(&rt, 1, 2);
+    begins(&rt, &mut core, 0, QueueCall::Insert(7));
     steps(&rt, &mut core, &INSERTED[..6]);
-    core.begin(1, QueueCall::Delete)?;
+    begins(&rt, &mut core, 1, QueueCall::Delete);
     steps(
         &rt,
         &mut core,
         &[(1, CoreMove::TestLow, 0, Some(Kind::NoItem))],
     );
-    Ok(())
 }
 
 #[test]
-fn a_claim_not_yet_withdrawn_refuses_others(rt: HostRuntime) -> Result<(), CoreFault> {
-    let mut core = QueueCore::new(rt.alloc(), 1, 3)?;
-    core.begin(0, QueueCall::Insert(7))?;
-    core.begin(1, QueueCall::Insert(8))?;
+fn a_claim_not_yet_withdrawn_refuses_others(rt: HostRuntime) {
+    let mut core = opened(&rt, 1, 3);
+    begins(&rt, &mut core, 0, QueueCall::Insert(7));
+    begins(&rt, &mut core, 1, QueueCall::Insert(8));
     steps(
         &rt,
         &mut core,
@@ -143,14 +151,14 @@ fn a_claim_not_yet_withdrawn_refuses_others(rt: HostRuntime) -> Result<(), CoreF
         ],
     );
     steps(&rt, &mut core, &INSERTED[2..]);
-    core.begin(0, QueueCall::Delete)?;
+    begins(&rt, &mut core, 0, QueueCall::Delete);
     steps(&rt, &mut core, &DELETED[..6]);
     steps(
         &rt,
         &mut core,
         &[(0, CoreMove::EndOut, 2, Some(Kind::EndOut))],
     );
-    core.begin(2, QueueCall::Insert(9))?;
+    begins(&rt, &mut core, 2, QueueCall::Insert(9));
     steps(
         &rt,
         &mut core,
@@ -159,13 +167,12 @@ fn a_claim_not_yet_withdrawn_refuses_others(rt: HostRuntime) -> Result<(), CoreF
             (1, CoreMove::BackUp, 1, Some(Kind::BackIn)),
         ],
     );
-    Ok(())
 }
 
 #[test]
-fn calls_overlap_in_a_queue_of_three_cells(rt: HostRuntime) -> Result<(), CoreFault> {
-    let mut core = QueueCore::new(rt.alloc(), 3, 4)?;
-    core.begin(0, QueueCall::Insert(10))?;
+fn calls_overlap_in_a_queue_of_three_cells(rt: HostRuntime) {
+    let mut core = opened(&rt, 3, 4);
+    begins(&rt, &mut core, 0, QueueCall::Insert(10));
     steps(
         &rt,
         &mut core,
@@ -175,7 +182,7 @@ fn calls_overlap_in_a_queue_of_three_cells(rt: HostRuntime) -> Result<(), CoreFa
             (0, CoreMove::TicketIn, 0, Some(Kind::Put(10))),
         ],
     );
-    core.begin(1, QueueCall::Insert(11))?;
+    begins(&rt, &mut core, 1, QueueCall::Insert(11));
     steps(
         &rt,
         &mut core,
@@ -189,7 +196,7 @@ fn calls_overlap_in_a_queue_of_three_cells(rt: HostRuntime) -> Result<(), CoreFa
             (1, CoreMove::EndIn, 0, Some(Kind::EndIn)),
         ],
     );
-    core.begin(2, QueueCall::Delete)?;
+    begins(&rt, &mut core, 2, QueueCall::Delete);
     steps(
         &rt,
         &mut core,
@@ -200,7 +207,7 @@ fn calls_overlap_in_a_queue_of_three_cells(rt: HostRuntime) -> Result<(), CoreFa
             (2, CoreMove::TurnOut, 0, None),
         ],
     );
-    core.begin(1, QueueCall::Insert(12))?;
+    begins(&rt, &mut core, 1, QueueCall::Insert(12));
     steps(
         &rt,
         &mut core,
@@ -214,7 +221,7 @@ fn calls_overlap_in_a_queue_of_three_cells(rt: HostRuntime) -> Result<(), CoreFa
             (1, CoreMove::EndIn, 0, Some(Kind::EndIn)),
         ],
     );
-    core.begin(3, QueueCall::Delete)?;
+    begins(&rt, &mut core, 3, QueueCall::Delete);
     steps(
         &rt,
         &mut core,
@@ -228,7 +235,7 @@ fn calls_overlap_in_a_queue_of_three_cells(rt: HostRuntime) -> Result<(), CoreFa
             (3, CoreMove::EndOut, 3, Some(Kind::EndOut)),
         ],
     );
-    core.begin(1, QueueCall::Insert(13))?;
+    begins(&rt, &mut core, 1, QueueCall::Insert(13));
     steps(
         &rt,
         &mut core,
@@ -251,15 +258,14 @@ fn calls_overlap_in_a_queue_of_three_cells(rt: HostRuntime) -> Result<(), CoreFa
             (1, CoreMove::EndIn, 1, Some(Kind::EndIn)),
         ],
     );
-    Ok(())
 }
 
 #[test]
-fn a_shut_queue_refuses_insertions(rt: HostRuntime) -> Result<(), CoreFault> {
-    let mut core = QueueCore::new(rt.alloc(), 2, 2)?;
-    core.begin(0, QueueCall::Insert(5))?;
+fn a_shut_queue_refuses_insertions(rt: HostRuntime) {
+    let mut core = opened(&rt, 2, 2);
+    begins(&rt, &mut core, 0, QueueCall::Insert(5));
     steps(&rt, &mut core, &[(0, CoreMove::TestUp, 0, None)]);
-    core.begin(1, QueueCall::Shut)?;
+    begins(&rt, &mut core, 1, QueueCall::Shut);
     steps(
         &rt,
         &mut core,
@@ -269,32 +275,30 @@ fn a_shut_queue_refuses_insertions(rt: HostRuntime) -> Result<(), CoreFault> {
             (0, CoreMove::BackUp, 1, Some(Kind::BackIn)),
         ],
     );
-    core.begin(1, QueueCall::Insert(6))?;
+    begins(&rt, &mut core, 1, QueueCall::Insert(6));
     steps(
         &rt,
         &mut core,
         &[(1, CoreMove::TestUp, 0, Some(Kind::Closed))],
     );
-    core.begin(1, QueueCall::Delete)?;
+    begins(&rt, &mut core, 1, QueueCall::Delete);
     steps(
         &rt,
         &mut core,
         &[(1, CoreMove::TestLow, 0, Some(Kind::NoItem))],
     );
-    Ok(())
 }
 
 #[test]
-fn seats_without_a_step_to_make_are_refused(rt: HostRuntime) -> Result<(), CoreFault> {
-    let mut core = QueueCore::new(rt.alloc(), 2, 2)?;
-    assert_eq!(rt; core.begin(2, QueueCall::Shut), Err(CoreFault::NoSuchSeat));
-    assert_eq!(rt; core.advance(rt.alloc(), 2), Err(CoreFault::NoSuchSeat));
-    assert_eq!(rt; core.advance(rt.alloc(), 1), Err(CoreFault::IdleSeat));
-    core.begin(1, QueueCall::Insert(5))?;
-    assert_eq!(rt; core.begin(1, QueueCall::Delete), Err(CoreFault::MidCall));
+fn seats_without_a_step_to_make_are_refused(rt: HostRuntime) {
+    let mut core = opened(&rt, 2, 2);
+    assert!(rt; core.begin(2, QueueCall::Shut) == Err(CoreFault::NoSuchSeat));
+    assert!(rt; core.advance(rt.alloc(), 2) == Err(CoreFault::NoSuchSeat));
+    assert!(rt; core.advance(rt.alloc(), 1) == Err(CoreFault::IdleSeat));
+    begins(&rt, &mut core, 1, QueueCall::Insert(5));
+    assert!(rt; core.begin(1, QueueCall::Delete) == Err(CoreFault::MidCall));
     steps(&rt, &mut core, &[(1, CoreMove::TestUp, 0, None)]);
     assert!(rt; core.marks().is_empty());
-    Ok(())
 }
 
 #[test]

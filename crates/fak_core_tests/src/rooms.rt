@@ -28,22 +28,13 @@ fn steps(rt: &(impl AllocGlobal + Abort), core: &mut RoomCore, trace: &[Step]) {
 }
 
 #[test]
-fn a_second_claim_is_refused_at_the_test(rt: HostRuntime) -> Result<(), CoreFault> {
-    let mut core = RoomCore::new(rt.alloc(), 1, 2)?;
-    core.begin(0, RoomCall::Tir(1))?;
-    assert_eq!(rt;
-        core.advance(rt.alloc(), 0),
-        line(0, CoreMove::Test, 0, None)
-    );
-    assert_eq!(rt;
-        core.advance(rt.alloc(), 0),
-        line(0, CoreMove::Add, 0, Some(RoomKind::Up(1)))
-    );
-    core.begin(1, RoomCall::Tir(1))?;
-    assert_eq!(rt;
-        core.advance(rt.alloc(), 1),
-        line(1, CoreMove::Test, 1, Some(RoomKind::No(1)))
-    );
+fn a_second_claim_is_refused_at_the_test(rt: HostRuntime) {
+    let mut core = RoomCore::new(rt.alloc(), 1, 2).ok().expect(&rt, "a room");
+    assert!(rt; core.begin(0, RoomCall::Tir(1)).is_ok());
+    assert!(rt; core.advance(rt.alloc(), 0) == line(0, CoreMove::Test, 0, None));
+    assert!(rt; core.advance(rt.alloc(), 0) == line(0, CoreMove::Add, 0, Some(RoomKind::Up(1))));
+    assert!(rt; core.begin(1, RoomCall::Tir(1)).is_ok());
+    assert!(rt; core.advance(rt.alloc(), 1) == line(1, CoreMove::Test, 1, Some(RoomKind::No(1))));
     assert_eq!(rt; core.value(), 1);
     assert_eq!(rt; core.held(0), 1);
     assert_eq!(rt; core.held(1), 0);
@@ -58,14 +49,13 @@ fn a_second_claim_is_refused_at_the_test(rt: HostRuntime) -> Result<(), CoreFaul
         },
     ];
     assert_eq!(rt; core.marks(), &marks[..]);
-    Ok(())
 }
 
 #[test]
-fn a_claim_over_the_bound_is_withdrawn(rt: HostRuntime) -> Result<(), CoreFault> {
-    let mut core = RoomCore::new(rt.alloc(), 1, 2)?;
-    core.begin(0, RoomCall::Tir(1))?;
-    core.begin(1, RoomCall::Tir(1))?;
+fn a_claim_over_the_bound_is_withdrawn(rt: HostRuntime) {
+    let mut core = RoomCore::new(rt.alloc(), 1, 2).ok().expect(&rt, "a room");
+    assert!(rt; core.begin(0, RoomCall::Tir(1)).is_ok());
+    assert!(rt; core.begin(1, RoomCall::Tir(1)).is_ok());
     steps(
         &rt,
         &mut core,
@@ -78,13 +68,12 @@ fn a_claim_over_the_bound_is_withdrawn(rt: HostRuntime) -> Result<(), CoreFault>
         ],
     );
     assert_eq!(rt; core.value(), 1);
-    Ok(())
 }
 
 #[test]
-fn refused_calls_leave_the_others_as_they_were(rt: HostRuntime) -> Result<(), CoreFault> {
-    let mut core = RoomCore::new(rt.alloc(), 5, 2)?;
-    core.begin(0, RoomCall::Tir(3))?;
+fn refused_calls_leave_the_others_as_they_were(rt: HostRuntime) {
+    let mut core = RoomCore::new(rt.alloc(), 5, 2).ok().expect(&rt, "a room");
+    assert!(rt; core.begin(0, RoomCall::Tir(3)).is_ok());
     steps(
         &rt,
         &mut core,
@@ -93,14 +82,14 @@ fn refused_calls_leave_the_others_as_they_were(rt: HostRuntime) -> Result<(), Co
             (0, CoreMove::Add, 0, Some(RoomKind::Up(3))),
         ],
     );
-    core.begin(1, RoomCall::Tir(3))?;
+    assert!(rt; core.begin(1, RoomCall::Tir(3)).is_ok());
     steps(
         &rt,
         &mut core,
         &[(1, CoreMove::Test, 3, Some(RoomKind::No(3)))],
     );
-    core.begin(1, RoomCall::Tir(2))?;
-    assert_eq!(rt; core.begin(1, RoomCall::Tir(2)), Err(CoreFault::MidCall));
+    assert!(rt; core.begin(1, RoomCall::Tir(2)).is_ok());
+    assert!(rt; core.begin(1, RoomCall::Tir(2)) == Err(CoreFault::MidCall));
     steps(
         &rt,
         &mut core,
@@ -109,24 +98,17 @@ fn refused_calls_leave_the_others_as_they_were(rt: HostRuntime) -> Result<(), Co
             (1, CoreMove::Add, 3, Some(RoomKind::Up(2))),
         ],
     );
-    assert_eq!(rt; core.advance(rt.alloc(), 1), Err(CoreFault::IdleSeat));
-    assert_eq!(rt;
-        core.begin(0, RoomCall::Release(4)),
-        Err(CoreFault::NotHeld)
-    );
-    core.begin(0, RoomCall::Release(3))?;
+    assert!(rt; core.advance(rt.alloc(), 1) == Err(CoreFault::IdleSeat));
+    assert!(rt; core.begin(0, RoomCall::Release(4)) == Err(CoreFault::NotHeld));
+    assert!(rt; core.begin(0, RoomCall::Release(3)).is_ok());
     steps(
         &rt,
         &mut core,
         &[(0, CoreMove::Release, 5, Some(RoomKind::Release(3)))],
     );
-    assert_eq!(rt; core.advance(rt.alloc(), 2), Err(CoreFault::NoSuchSeat));
-    assert_eq!(rt;
-        core.begin(2, RoomCall::Release(1)),
-        Err(CoreFault::NoSuchSeat)
-    );
+    assert!(rt; core.advance(rt.alloc(), 2) == Err(CoreFault::NoSuchSeat));
+    assert!(rt; core.begin(2, RoomCall::Release(1)) == Err(CoreFault::NoSuchSeat));
     assert_eq!(rt; core.value(), 2);
-    Ok(())
 }
 
 #[test]

@@ -1,15 +1,10 @@
 -- From the steps of a seat of a credit to what its calls promise.
-use Rattle.std.proofs.Common.{◌≡◌, ℕ, ◌+◌, ◌-◌, ◌<◌, ◌^◌, ℤ, pos, ◌-ℤ◌, List, [], ◌∷◌, length, length-append, refl, ap, sym, ◌∙◌, subst, arith, inl, reverse, map, flat_map}
-use Rattle.fak_model.proofs.Common.{ints, IsAtRest, marks_of, sight, Leaves, ObjectId, object_id, SeatInfo, seat_info, Appends, before_appended, IsSeatToken, bias}
+use Rattle.fak_count.proofs.Common.{◌≡◌, ℕ, ◌+◌, ◌-◌, ◌<◌, ◌^◌, ℤ, pos, ◌-ℤ◌, List, [], ◌∷◌, length, length-append, refl, ap, sym, ◌∙◌, subst, arith, inl, reverse, map, flat_map, ints, IsAtRest, marks_of, sight, Leaves, ObjectId, object_id, SeatInfo, seat_info, Appends, before_appended, IsSeatToken, bias, rest_after, rest_none, begins_self, token_names, token_left, token_slots, step_appends, token_after, step_before, CreditHolder, credit_mark, credit_object, FoundValue, MadeMark, Observed}
 use Rattle.atomic_table.specs.Seated.{TableId}
 use Rattle.fak_model.specs.declared.credit.CreditKind.{CreditKind}
 use Rattle.fak_model.specs.declared.credit.CreditMark.{CreditMark}
 use Rattle.fak_model.specs.Credit.{kind_of, value, credit_rules}
-use Rattle.fak_model.proofs.Resting.{rest_after, rest_none}
-use Rattle.fak_model.proofs.Seats.{begins_self}
-use Rattle.fak_model.proofs.RunningCalls.{token_names, token_left, token_slots, step_appends, token_after, step_before}
 use Rattle.fak_count.specs.declared.credits.limits.CreditLimits.{CreditLimits}
-use Rattle.fak_count.specs.CreditShown.{CreditHolder, credit_mark, credit_object, FoundValue, MadeMark, Observed}
 use Rattle.fak_count.specs.Credits.{CreditInfo, credit_info, seat_of, credit_seat, MakesCall, Observes}
 
 -- a seat of a credit, with its token m, and what contracts see of both

@@ -1,3 +1,4 @@
+pub mod Common
 pub mod CountWords
 pub mod CreditSteps
 pub mod CreditCalls

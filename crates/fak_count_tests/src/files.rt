@@ -11,40 +11,112 @@ use fak_files::{FileFault, FileField, FileSeat, FileTable, FileTally, Hold, Open
 use fak_model::laws::file::a_file_table_at_rest_is_free;
 use std::alloc::Global;
 use std::hint;
+#[cfg(test)]
+use std::process::Abort;
 use std::sync::Wait;
 use std::sync::atomic::{AtomicU64, Ordering};
 use std::test::*;
 use std::thread::{Threads, join};
 
+// A table with two seats.
+#[cfg(test)]
+fn open_two(
+    rt: &impl Abort,
+    alloc: Global,
+    entries: u64,
+    stint: u64,
+) -> (FileTable, FileSeat, FileSeat)
+    ensures table { (result.0.entries ≡ entries) × (result.0.object.seats ≡ 2) }
+    ensures first { IsFreeSeatOf result.0.object result.1 }
+    ensures second { IsFreeSeatOf result.0.object result.2 }
+{
+    let Ok((table, mut seats)) = FileTable::open(alloc, entries, 2, stint) else {
+        panic!(rt; "open")
+    };
+    let b = seats.pop().expect(rt, "two seats");
+    let a = seats.pop().expect(rt, "two seats");
+    (table, a, b)
+}
+
+// A call of a seat, and what it is to answer.
+#[cfg(test)]
+#[derive(Drop)]
+enum Call {
+    TryRead(Result<(), FileFault>),
+    TryWrite(Result<(), FileFault>),
+    Read(Result<(), Worn>),
+    Write(Result<(), Worn>),
+    End,
+}
+
+// Makes the call of this row of a test, after which the seat is to hold this.
+#[cfg(test)]
+fn makes<R: Abort + Wait>(
+    rt: &R,
+    table: &FileTable,
+    seat: &mut FileSeat,
+    row: u64,
+    call: &Call,
+    hold: Hold,
+)
+    requires { seat.old.seat.object ≡ table.now.object }
+    ensures same { seat.new.seat.object ≡ table.now.object }
+    ensures hold { seat.new.hold ≡ hold }
+{
+    let met = match (seat.hold(), call) {
+        (Hold::Nothing, Call::TryRead(answer)) => table.try_read(seat) == *answer,
+        (Hold::Nothing, Call::TryWrite(answer)) => table.try_write(seat) == *answer,
+        (Hold::Nothing, Call::Read(answer)) => table.read(rt, seat) == *answer,
+        (Hold::Nothing, Call::Write(answer)) => table.write(rt, seat) == *answer,
+        (Hold::Reading | Hold::Writing, Call::End) => {
+            table.end(seat);
+            true
+        }
+        _ => false,
+    };
+    if !met || seat.hold() != hold {
+        panic!(rt; "row {row}")
+    }
+}
+
+// Each call for a hold tells that the seat is worn.
+#[cfg(test)]
+fn is_worn<R: Abort + Wait>(rt: &R, table: &FileTable, seat: &mut FileSeat)
+    requires { seat.old.seat.object ≡ table.now.object }
+    ensures { IsFreeSeatOf table.now.object seat.new }
+{
+    let try_read = Call::TryRead(Err(FileFault::Worn));
+    let try_write = Call::TryWrite(Err(FileFault::Worn));
+    makes(rt, table, seat, 11, &try_read, Hold::Nothing);
+    makes(rt, table, seat, 12, &try_write, Hold::Nothing);
+    makes(rt, table, seat, 13, &Call::Read(Err(Worn)), Hold::Nothing);
+    makes(rt, table, seat, 14, &Call::Write(Err(Worn)), Hold::Nothing);
+}
+
 // A writer is refused beside a reader, and a reader beside a writer, whose Sets are read after its end.
 #[test]
 fn one_thread(rt: HostRuntime) {
-    let (table, mut seats) = FileTable::open(rt.alloc(), 1, 2, 10).expect(&rt, "open");
-    let mut b = seats.pop().expect(&rt, "two seats");
-    let mut a = seats.pop().expect(&rt, "two seats");
-    let Ok(()) = table.try_read(&mut a) else {
-        panic!(rt; "the first read")
-    };
-    assert!(rt; a.hold() == Hold::Reading);
-    let Err(FileFault::Busy(1)) = table.try_write(&mut b) else {
-        panic!(rt; "a write beside a reader")
-    };
-    table.end(&mut a);
-    assert!(rt; a.hold() == Hold::Nothing);
-    let Ok(()) = table.try_write(&mut b) else {
-        panic!(rt; "the write")
-    };
-    assert!(rt; b.hold() == Hold::Writing);
-    let Err(FileFault::Busy(0)) = table.try_read(&mut a) else {
-        panic!(rt; "a read beside a writer")
-    };
+    let (table, mut a, mut b) = open_two(&rt, rt.alloc(), 1, 10);
+    let granted = Call::TryRead(Ok(()));
+    makes(&rt, &table, &mut a, 1, &granted, Hold::Reading);
+    let refused = Call::TryWrite(Err(FileFault::Busy(1)));
+    makes(&rt, &table, &mut b, 2, &refused, Hold::Nothing);
+    makes(&rt, &table, &mut a, 3, &Call::End, Hold::Nothing);
+    makes(
+        &rt,
+        &table,
+        &mut b,
+        4,
+        &Call::TryWrite(Ok(())),
+        Hold::Writing,
+    );
+    let refused = Call::TryRead(Err(FileFault::Busy(0)));
+    makes(&rt, &table, &mut a, 5, &refused, Hold::Nothing);
     table.set(&mut b, 0, FileField::Inode, 7);
     table.set(&mut b, 0, FileField::Uses, 1);
-    assert_eq!(rt; table.get(&mut b, 0).inode, 7);
+    assert!(rt; table.get(&mut b, 0).inode == 7);
     table.end(&mut b);
-    let Ok(()) = table.try_read(&mut a) else {
-        panic!(rt; "the second read")
-    };
+    makes(&rt, &table, &mut a, 6, &granted, Hold::Reading);
     let entry = table.get(&mut a, 0);
     assert_eq!(rt; entry.inode, 7);
     assert_eq!(rt; entry.uses, 1);
@@ -52,7 +124,9 @@ fn one_thread(rt: HostRuntime) {
     let tally = FileTally::of(b);
     assert!(rt; !tally.is_whole());
     let tally = table.join(tally, a);
-    assert!(rt; tally.is_whole());
+    if !tally.is_whole() {
+        panic!(rt; "a tally of both seats")
+    }
     let rest = table.close(tally);
     let entry = rest.get(0);
     assert_eq!(rt; entry.inode, 7);
@@ -66,16 +140,12 @@ fn a_reader_is_dropped(rt: HostRuntime) {
     let mut c = seats.pop().expect(&rt, "three seats");
     let mut b = seats.pop().expect(&rt, "three seats");
     let mut a = seats.pop().expect(&rt, "three seats");
-    let Ok(()) = table.try_read(&mut a) else {
-        panic!(rt; "the dropped read")
-    };
+    let granted = Call::TryRead(Ok(()));
+    makes(&rt, &table, &mut a, 1, &granted, Hold::Reading);
     drop(a);
-    let Err(FileFault::Busy(2)) = table.try_write(&mut b) else {
-        panic!(rt; "a write beside a dropped reader")
-    };
-    let Ok(()) = table.try_read(&mut b) else {
-        panic!(rt; "the read")
-    };
+    let refused = Call::TryWrite(Err(FileFault::Busy(2)));
+    makes(&rt, &table, &mut b, 2, &refused, Hold::Nothing);
+    makes(&rt, &table, &mut b, 3, &granted, Hold::Reading);
     table.end(&mut b);
     assert!(rt; c.hold() == Hold::Nothing);
     let tally = table.join(FileTally::of(b), c);
@@ -85,58 +155,36 @@ fn a_reader_is_dropped(rt: HostRuntime) {
 // A seat has as many holds as its stint, by tries and by waiting; refused tries don't count.
 #[test]
 fn a_seat_is_worn(rt: HostRuntime) {
-    let (table, mut seats) = FileTable::open(rt.alloc(), 2, 2, 2).expect(&rt, "open");
-    let mut b = seats.pop().expect(&rt, "two seats");
-    let mut a = seats.pop().expect(&rt, "two seats");
-    let Ok(()) = table.read(&rt, &mut a) else {
-        panic!(rt; "the first hold")
-    };
-    let Err(FileFault::Busy(1)) = table.try_write(&mut b) else {
-        panic!(rt; "a refused try")
-    };
-    table.end(&mut a);
-    let Ok(()) = table.write(&rt, &mut a) else {
-        panic!(rt; "the second hold")
-    };
-    table.end(&mut a);
-    let Err(FileFault::Worn) = table.try_read(&mut a) else {
-        panic!(rt; "a third hold")
-    };
-    let Err(FileFault::Worn) = table.try_write(&mut a) else {
-        panic!(rt; "a third hold to write")
-    };
-    let Err(Worn) = table.read(&rt, &mut a) else {
-        panic!(rt; "a third hold by waiting")
-    };
-    let Err(Worn) = table.write(&rt, &mut a) else {
-        panic!(rt; "a third hold to write by waiting")
-    };
-    let Ok(()) = table.try_write(&mut b) else {
-        panic!(rt; "the other seat")
-    };
+    let (table, mut a, mut b) = open_two(&rt, rt.alloc(), 2, 2);
+    makes(&rt, &table, &mut a, 1, &Call::Read(Ok(())), Hold::Reading);
+    let refused = Call::TryWrite(Err(FileFault::Busy(1)));
+    makes(&rt, &table, &mut b, 2, &refused, Hold::Nothing);
+    makes(&rt, &table, &mut a, 3, &Call::End, Hold::Nothing);
+    makes(&rt, &table, &mut a, 4, &Call::Write(Ok(())), Hold::Writing);
+    makes(&rt, &table, &mut a, 5, &Call::End, Hold::Nothing);
+    is_worn(&rt, &table, &mut a);
+    makes(
+        &rt,
+        &table,
+        &mut b,
+        6,
+        &Call::TryWrite(Ok(())),
+        Hold::Writing,
+    );
     table.set(&mut b, 1, FileField::Uses, 5);
-    assert_eq!(rt; table.get(&mut b, 1).uses, 5);
-    assert_eq!(rt; table.get(&mut b, 0).uses, 0);
+    assert!(rt; table.get(&mut b, 1).uses == 5);
+    assert!(rt; table.get(&mut b, 0).uses == 0);
     table.end(&mut b);
 }
 
 // A worn seat is told so at once while another holds, which a wait would not end.
 #[test]
 fn a_worn_seat_does_not_wait(rt: HostRuntime) {
-    let (table, mut seats) = FileTable::open(rt.alloc(), 1, 2, 1).expect(&rt, "open");
-    let mut b = seats.pop().expect(&rt, "two seats");
-    let mut a = seats.pop().expect(&rt, "two seats");
-    let Ok(()) = table.read(&rt, &mut a) else {
-        panic!(rt; "the only hold")
-    };
-    table.end(&mut a);
-    let Ok(()) = table.write(&rt, &mut b) else {
-        panic!(rt; "the writer's hold")
-    };
-    assert!(rt; table.try_read(&mut a) == Err(FileFault::Worn));
-    assert!(rt; table.try_write(&mut a) == Err(FileFault::Worn));
-    assert!(rt; table.read(&rt, &mut a) == Err(Worn));
-    assert!(rt; table.write(&rt, &mut a) == Err(Worn));
+    let (table, mut a, mut b) = open_two(&rt, rt.alloc(), 1, 1);
+    makes(&rt, &table, &mut a, 1, &Call::Read(Ok(())), Hold::Reading);
+    makes(&rt, &table, &mut a, 2, &Call::End, Hold::Nothing);
+    makes(&rt, &table, &mut b, 3, &Call::Write(Ok(())), Hold::Writing);
+    is_worn(&rt, &table, &mut a);
     assert!(rt; is_alone(&b, 2));
     table.end(&mut b);
     let tally = table.join(FileTally::of(b), a);
@@ -317,9 +365,7 @@ fn run_two<R: Threads + Wait + Sync>(rt: &R, table: FileTable, a: FileSeat, b: F
 
 #[test]
 fn two_threads(rt: HostRuntime) {
-    let (table, mut seats) = FileTable::open(rt.alloc(), 1, 2, 1000).expect(&rt, "open");
-    let b = seats.pop().expect(&rt, "two seats");
-    let a = seats.pop().expect(&rt, "two seats");
+    let (table, a, b) = open_two(&rt, rt.alloc(), 1, 1000);
     assert!(rt; run_two(&rt, table, a, b));
 }
 

@@ -5,6 +5,7 @@ ghost use Rattle.fak_model.specs.Histories.{sum_below};
 ghost use Rattle.fak_model.specs.Room.{amount_held, value};
 ghost use Rattle.fak_count.specs.Seats.{IsSeatOf};
 
+use super::credits::is;
 use fak_count::{OpenFault, Room, RoomSeat, RoomTally, TirFault};
 use fak_model::laws::room::amounts_held_in_a_room_fit;
 use std::process::Abort;
@@ -16,18 +17,18 @@ fn claims_and_releases_in_turn(rt: HostRuntime) {
     let (room, mut seats) = Room::open(rt.alloc(), 5, 2, 2).expect(&rt, "open");
     let mut b = seats.pop().expect(&rt, "two seats");
     let mut a = seats.pop().expect(&rt, "two seats");
-    assert_eq!(rt; room.tir(&mut a, 3), Ok(0));
-    assert_eq!(rt; room.tir(&mut b, 3), Err(TirFault::AtBound(3)));
-    assert_eq!(rt; room.tir(&mut b, 2), Ok(3));
-    assert_eq!(rt; a.held(), 3);
+    is(&rt, room.tir(&mut a, 3), Ok(0));
+    is(&rt, room.tir(&mut b, 3), Err(TirFault::AtBound(3)));
+    is(&rt, room.tir(&mut b, 2), Ok(3));
+    is(&rt, a.held(), 3);
     if a.held() < 3 {
         panic!(rt; "held")
     }
-    assert_eq!(rt; room.release(&mut a, 3), 5);
-    assert_eq!(rt; a.left(), 1);
-    assert_eq!(rt; room.tir(&mut a, 1), Ok(2));
-    assert_eq!(rt; room.tir(&mut a, 1), Err(TirFault::Worn));
-    assert_eq!(rt; (a.left(), a.held()), (0, 1));
+    is(&rt, room.release(&mut a, 3), 5);
+    is(&rt, a.left(), 1);
+    is(&rt, room.tir(&mut a, 1), Ok(2));
+    is(&rt, room.tir(&mut a, 1), Err(TirFault::Worn));
+    is(&rt, (a.left(), a.held()), (0, 1));
     let one = RoomTally::of(a);
     assert!(rt; !one.is_whole());
     let all = room.join(one, b);
@@ -38,8 +39,8 @@ fn claims_and_releases_in_turn(rt: HostRuntime) {
 fn a_room_of_bound_0_is_full(rt: HostRuntime) {
     let (room, mut seats) = Room::open(rt.alloc(), 0, 1, 1).expect(&rt, "open");
     let mut a = seats.pop().expect(&rt, "one seat");
-    assert_eq!(rt; room.tir(&mut a, 1), Err(TirFault::AtBound(0)));
-    assert_eq!(rt; a.left(), 1);
+    is(&rt, room.tir(&mut a, 1), Err(TirFault::AtBound(0)));
+    is(&rt, a.left(), 1);
     assert!(rt; RoomTally::of(a).is_whole());
 }
 
@@ -95,7 +96,7 @@ fn two_threads_leave_a_room_empty(rt: HostRuntime) {
             ensures { result.object ≡ room.entry.now.object }
         { rounds(room, b, 1000) },
     );
-    assert_eq!(rt; room.tir(&mut c, 1), Ok(0));
+    is(&rt, room.tir(&mut c, 1), Ok(0));
     let all = room.join(room.join(RoomTally::of(c), a), b);
     assert!(rt; all.is_whole());
 }
@@ -126,7 +127,7 @@ fn a_whole_room_is_counted(rt: HostRuntime) {
     let (room, mut seats) = Room::open(rt.alloc(), 5, 2, 2).expect(&rt, "open");
     let mut b = seats.pop().expect(&rt, "two seats");
     let a = seats.pop().expect(&rt, "two seats");
-    assert_eq!(rt; room.tir(&mut b, 3), Ok(0));
+    is(&rt, room.tir(&mut b, 3), Ok(0));
     let (tally, whole) = fit_together(&room, a, b);
     assert!(rt; whole);
     assert!(rt; is_counted(&tally));

@@ -1,14 +1,7 @@
 -- What a closed file table shows.
-use Rattle.std.proofs.Common.{◌≡◌, ◌≢◌, inl, inr, slice_set, ℕ, zero, suc, ◌+◌, ◌<◌, List, [], ◌∷◌, length, take, slice_get, slice_index, get_or, Some, None, refl, ap, sym, ◌∙◌, subst, arith, reverse}
-use Rattle.fak_model.proofs.Common.{some, some-injective, some-ne-none, get_elem?, file_rules, IsWhole}
-use Rattle.atomic_table.specs.Table.{State}
 use Rattle.fak_model.specs.declared.file.FileEntry.{FileEntry}
-use Rattle.fak_model.specs.declared.file.FileField.TheVariants.{Inode, Uses}
-use Rattle.fak_model.specs.declared.file.FileMark.{FileMark}
-use Rattle.fak_model.proofs.Deciding.{same_or_not}
 use Rattle.fak_model.proofs.RunningViews.{sees_whole}
-use Rattle.fak_files.proofs.Common.{FileLimits, word_of, entry_of, entries_after, entry_in}
-use Rattle.fak_files.specs.Shown.{FileView, IsShownFile, FileHolder}
+use Rattle.fak_files.proofs.Common.{FileLimits, word_of, entry_of, entries_after, entry_in, ◌≡◌, ◌≢◌, inl, inr, slice_set, ℕ, zero, suc, ◌+◌, ◌<◌, List, [], ◌∷◌, length, take, slice_get, slice_index, get_or, Some, None, refl, ap, sym, ◌∙◌, subst, arith, reverse, some, some-injective, some-ne-none, get_elem?, file_rules, IsWhole, State, Inode, Uses, FileMark, same_or_not, FileView, IsShownFile, FileHolder}
 
 -- where all seats were joined, the words show what the tally has seen
 pub ends : (table : FileLimits) (s : State (Unit {0}) FileView) (id : ℕ) (m : FileHolder) → IsShownFile table s → get_elem? s.views id ≡ some m.0 → IsWhole table.seats m.0.names → (words : List ℕ) → s.words ≡ words

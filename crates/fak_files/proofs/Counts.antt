@@ -1,12 +1,6 @@
 -- The count of a file table: what a mark does to it, and how low it may be.
-use Rattle.std.proofs.Common.{◌≡◌, ℕ, ◌+◌, ◌-◌, ◌*◌, ◌≤◌, List, [], ◌∷◌, ◌++◌, refl, ap, ◌∙◌, arith, inl, inr, append_assoc, ℤ, pos, ◌+ℤ◌, ◌-ℤ◌, sum_by}
-use Rattle.fak_model.proofs.Common.{ints, sum_by-cons, AreCalls, AreNamed, seat_words, sum_below}
-use Rattle.fak_model.specs.declared.file.FileKind.{FileKind}
-use Rattle.fak_model.specs.declared.file.FileKind.TheVariants.{Take, Over, Back, No, Set, Give}
-use Rattle.fak_model.specs.declared.file.FileMark.{FileMark}
+use Rattle.fak_files.proofs.Common.{◌≡◌, ℕ, ◌+◌, ◌-◌, ◌*◌, ◌≤◌, List, [], ◌∷◌, ◌++◌, refl, ap, ◌∙◌, arith, inl, inr, append_assoc, ℤ, pos, ◌+ℤ◌, ◌-ℤ◌, sum_by, ints, sum_by-cons, AreCalls, AreNamed, seat_words, sum_below, FileKind, Take, Over, Back, No, Set, Give, FileMark, same_or_not, snoc_ind, seat_words-own, seat_words-other, history_front, last_fair}
 use Rattle.fak_model.specs.File.{kinds_of_call, kind_of, take_amount, over_amount, back_amount, total, amount_held, gives, count, IsFair, file_rules, IsFileHistory}
-use Rattle.fak_model.proofs.Deciding.{same_or_not}
-use Rattle.fak_model.proofs.Appending.{snoc_ind, seat_words-own, seat_words-other, history_front, last_fair}
 use Rattle.fak_model.proofs.Leading.{total_push, sum_same, sum_most, sum_parts, sum_plus}
 use Rattle.fak_model.proofs.Places.{ends, ends_append, Runs, may_come, rests}
 use Rattle.fak_model.proofs.FileLaw.{given_push, files_fit}

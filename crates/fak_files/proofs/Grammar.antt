@@ -1,16 +1,7 @@
 -- The kinds of a seat's marks as its calls go on.
-use Rattle.std.proofs.Common.{◌≡◌, ◌≢◌, ℕ, List, [], ◌∷◌, ◌++◌, refl, ap, sym, ◌∙◌, subst, inl, inr, append_assoc, map, flat_map}
 use Rattle.std.proofs.lemmas.List.{append-nil, map-append}
-use Rattle.fak_model.proofs.Common.{flat_map-append, Owes, words_by}
-use Rattle.fak_model.specs.declared.file.FileKind.{FileKind}
-use Rattle.fak_model.specs.declared.file.FileKind.TheVariants.{Take, Over, Back, No, Set, Give}
-use Rattle.fak_model.specs.declared.file.FileMark.{FileMark}
 use Rattle.fak_model.specs.File.{WholeCall, Setting, set_mark, Refused, Withdrawn, Held, kinds_of_call, seat_of, kind_of, hold_after, hold_from, amount_held, IsAmount, IsFair, file_rules, IsFileHistory}
-use Rattle.fak_model.proofs.Resting.{owes_more}
-use Rattle.fak_model.proofs.Appending.{owed_comes, seat_words-own, seat_words-other, history_push, history_begun, history_owed}
-use Rattle.fak_files.proofs.Common.{Access, Read, Write, FilePhase, mark}
-use Rattle.fak_files.specs.declared.phase.FilePhase.TheVariants.{Idle, Backing, Holding}
-use Rattle.fak_files.specs.Phases.{amount_of, AreInHold, StandsIn}
+use Rattle.fak_files.proofs.Common.{Access, Read, Write, FilePhase, mark, ◌≡◌, ◌≢◌, ℕ, List, [], ◌∷◌, ◌++◌, refl, ap, sym, ◌∙◌, subst, inl, inr, append_assoc, map, flat_map, flat_map-append, Owes, words_by, FileKind, Take, Over, Back, No, Set, Give, FileMark, owes_more, owed_comes, seat_words-own, seat_words-other, history_push, history_begun, history_owed, Idle, Backing, Holding, amount_of, AreInHold, StandsIn}
 
 -- ---- holds
 

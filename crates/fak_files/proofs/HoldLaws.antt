@@ -1,16 +1,6 @@
 -- The laws of holds: what lies between a Take and its Give, and what is read in a hold.
-use Rattle.std.proofs.Common.{◌≡◌, ◌≢◌, ℕ, ◌<◌, ◌≤◌, ◌==◌, Bool, true, false, List, [], ◌∷◌, ◌++◌, refl, ap, sym, ◌∙◌, subst, arith, inl, inr, append_assoc, true≢false, reverse, All}
-use Rattle.fak_model.proofs.Common.{nat_tests, All-head, All-tail, All-cons, All-nil, AreNamed, seat_of, amount_held, hold_after, field, IsFair, file_rules, IsFileHistory, marks_of, Foreign}
+use Rattle.fak_files.proofs.Common.{◌≡◌, ◌≢◌, ℕ, ◌<◌, ◌≤◌, ◌==◌, Bool, true, false, List, [], ◌∷◌, ◌++◌, refl, ap, sym, ◌∙◌, subst, arith, inl, inr, append_assoc, true≢false, reverse, All, nat_tests, All-head, All-tail, All-cons, All-nil, AreNamed, seat_of, amount_held, hold_after, field, IsFair, file_rules, IsFileHistory, marks_of, Foreign, FileField, FileKind, Take, Over, Back, No, Set, Give, FileMark, same_or_not, history_prefix, last_fair, reverse_push, marks_of-reverse, is_take, is_set, KeepsHold, back_from_take, own_since_take, prefix_through_take, marks_since_take}
 use Rattle.std.proofs.lemmas.List.{append-nil, reverse-append, reverse-reverse}
-use Rattle.fak_model.specs.declared.file.FileField.{FileField}
-use Rattle.fak_model.specs.declared.file.FileKind.{FileKind}
-use Rattle.fak_model.specs.declared.file.FileKind.TheVariants.{Take, Over, Back, No, Set, Give}
-use Rattle.fak_model.specs.declared.file.FileMark.{FileMark}
-use Rattle.fak_model.proofs.Deciding.{same_or_not}
-use Rattle.fak_model.proofs.Appending.{history_prefix, last_fair}
-use Rattle.fak_model.proofs.Reversing.{reverse_push}
-use Rattle.fak_model.proofs.RunningCalls.{marks_of-reverse}
-use Rattle.fak_files.specs.Versions.{is_take, is_set, KeepsHold, back_from_take, own_since_take, prefix_through_take, marks_since_take}
 use Rattle.fak_files.proofs.HoldReads.{alone, held_own, held_other, reads, back_from_take-foreign, own_since_take-foreign}
 
 -- ---- between a Take and its Give

@@ -1,16 +1,7 @@
 -- A writer is alone, and what a seat reads in a hold.
-use Rattle.std.proofs.Common.{◌≡◌, ◌≢◌, ◌⊎◌, ℕ, zero, suc, ◌+◌, ◌<◌, ◌≤◌, ◌==◌, Bool, true, false, List, [], ◌∷◌, ◌++◌, Some, refl, ap, sym, ◌∙◌, subst, arith, inl, inr, append_assoc, true≢false, reverse, All, append-nil}
-use Rattle.fak_model.proofs.Common.{nat_tests, All-pop, AreNamed, seat_words, sum_below, words_by, seat_of, kind_of, hold_after, hold_from, amount_held, field_after, field, IsFair, file_rules, IsFileHistory, In, Foreign, Sees}
-use Rattle.fak_model.specs.declared.file.FileField.{FileField}
-use Rattle.fak_model.specs.declared.file.FileKind.{FileKind}
-use Rattle.fak_model.specs.declared.file.FileKind.TheVariants.{Take, Over, Back, No, Set, Give}
-use Rattle.fak_model.specs.declared.file.FileMark.{FileMark}
-use Rattle.fak_model.proofs.Deciding.{same_or_not}
-use Rattle.fak_model.proofs.Appending.{seat_words-own, seat_words-other, history_front, last_fair}
+use Rattle.fak_files.proofs.Common.{◌≡◌, ◌≢◌, ◌⊎◌, ℕ, zero, suc, ◌+◌, ◌<◌, ◌≤◌, ◌==◌, Bool, true, false, List, [], ◌∷◌, ◌++◌, Some, refl, ap, sym, ◌∙◌, subst, arith, inl, inr, append_assoc, true≢false, reverse, All, append-nil, nat_tests, All-pop, AreNamed, seat_words, sum_below, words_by, seat_of, kind_of, hold_after, hold_from, amount_held, field_after, field, IsFair, file_rules, IsFileHistory, In, Foreign, Sees, FileField, FileKind, Take, Over, Back, No, Set, Give, FileMark, same_or_not, seat_words-own, seat_words-other, history_front, last_fair, reverse_cons, is_take, back_from_take, own_since_take}
 use Rattle.fak_model.proofs.Leading.{sum_term}
 use Rattle.fak_model.proofs.FileLaw.{files_fit, hold_push}
-use Rattle.fak_model.proofs.Reversing.{reverse_cons}
-use Rattle.fak_files.specs.Versions.{is_take, back_from_take, own_since_take}
 use Rattle.fak_files.proofs.WordPlaces.{field-push}
 
 -- ---- a writer is alone

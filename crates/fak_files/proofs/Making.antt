@@ -1,15 +1,7 @@
 -- What the steps of a call make together, in the words of contracts.
-use Rattle.std.proofs.Common.{◌≡◌, ℕ, ◌+◌, List, [], ◌∷◌, length, refl, ap, sym, ◌∙◌, arith, inl, inr, reverse, map, ℤ, pos, ◌+ℤ◌, append-nil}
-use Rattle.fak_model.proofs.Common.{ints, marks_of, ObjectId, object_id, seat_info, IsSeatToken, bias}
-use Rattle.fak_model.specs.declared.file.FileKind.{FileKind}
-use Rattle.fak_model.specs.declared.file.FileKind.TheVariants.{Over, Back, No}
-use Rattle.fak_model.specs.declared.file.FileMark.{FileMark}
 use Rattle.fak_model.specs.File.{seat_of, count, file_rules}
 use Rattle.fak_model.proofs.Seats.{begins_self}
-use Rattle.fak_model.proofs.RunningCalls.{token_names, appends_then, appends_none, step_appends, step_before}
-use Rattle.fak_files.proofs.Common.{FilePhase, Idle, FileLimits}
-use Rattle.fak_files.specs.Shown.{FileHolder, mark, Steps, CountIs}
-use Rattle.fak_files.specs.SeatTokens.{Makes, Misses, before_steps}
+use Rattle.fak_files.proofs.Common.{FilePhase, Idle, FileLimits, ◌≡◌, ℕ, ◌+◌, List, [], ◌∷◌, length, refl, ap, sym, ◌∙◌, arith, inl, inr, reverse, map, ℤ, pos, ◌+ℤ◌, append-nil, ints, marks_of, ObjectId, object_id, seat_info, IsSeatToken, bias, FileKind, Over, Back, No, FileMark, token_names, appends_then, appends_none, step_appends, step_before, FileHolder, mark, Steps, CountIs, Makes, Misses, before_steps}
 
 -- some object of so many seats
 abbrev pub some_object : ℕ → ObjectId

@@ -1,18 +1,6 @@
 -- The words and seats of a new file table.
-use Rattle.std.proofs.Common.{◌≡◌, ℕ, ◌+◌, ◌<◌, ◌≤◌, List, [], ◌∷◌, ◌++◌, length, take, replicate, set, get_or, refl, ap, sym, ◌∙◌, subst, arith, reverse}
-use Rattle.fak_model.proofs.Common.{ints, words_by, seat_of, kind_of, file_rules, IsFileHistory, sight, ObjectId, SeatInfo, seat_info, fresh_seats, bias}
-use Rattle.std.proofs.lemmas.List.{get_or-take, get_or-set_other, get_or-replicate, length-take-le}
-use Rattle.atomic_table.specs.Table.{opening}
-use Rattle.fak_model.specs.declared.file.FileField.{FileField}
-use Rattle.fak_model.specs.declared.file.FileMark.{FileMark}
-use Rattle.fak_model.proofs.Appending.{history_none}
 use Rattle.fak_model.proofs.RunningSeats.{starts}
-use Rattle.fak_model.proofs.RunningJoins.{fresh_token, fresh_next}
-use Rattle.fak_files.proofs.Common.{Idle, Nothing, StandsIn}
-use Rattle.fak_files.specs.Words.{count_place, width, word_of}
-use Rattle.fak_files.specs.Shown.{limits, ShowsHistory, file_object, IsShownFile, opened_file, FileHolder}
-use Rattle.fak_files.specs.Calls.{FileSeatInfo, file_seat, idle_seats}
-use Rattle.fak_files.specs.SeatTokens.{seat_now, IsFileSeat}
+use Rattle.fak_files.proofs.Common.{Idle, Nothing, StandsIn, ◌≡◌, ℕ, ◌+◌, ◌<◌, ◌≤◌, List, [], ◌∷◌, ◌++◌, length, take, replicate, set, get_or, refl, ap, sym, ◌∙◌, subst, arith, reverse, ints, words_by, seat_of, kind_of, file_rules, IsFileHistory, sight, ObjectId, SeatInfo, seat_info, fresh_seats, bias, get_or-take, get_or-set_other, get_or-replicate, length-take-le, opening, FileField, FileMark, history_none, fresh_token, fresh_next, count_place, width, word_of, limits, ShowsHistory, file_object, IsShownFile, opened_file, FileHolder, FileSeatInfo, file_seat, idle_seats, seat_now, IsFileSeat}
 use Rattle.fak_files.proofs.WordPlaces.{word_of-low}
 
 -- ---- words

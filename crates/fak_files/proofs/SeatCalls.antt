@@ -1,21 +1,8 @@
 -- From the steps of a seat's token to what the seat's call promises.
-use Rattle.std.proofs.Common.{◌≡◌, ◌≢◌, ℕ, ◌+◌, ◌-◌, ◌<◌, ◌≤◌, List, [], ◌∷◌, ◌++◌, refl, ap, sym, ◌∙◌, subst, arith, inl, inr, reverse, map, ℤ, slice_index, sum_by, flat_map}
 use Rattle.std.proofs.lemmas.List.{append-nil, map-append, reverse-reverse}
-use Rattle.fak_model.proofs.Common.{sum_by-cons, sum_by-append, words_by, Owes, seat_of, kind_of, kinds_of_call, field, file_rules, In, marks_of, ObjectId, seat_info, Appends, IsSeatToken}
-use Rattle.fak_model.specs.declared.file.FileKind.{FileKind}
-use Rattle.fak_model.specs.declared.file.FileKind.TheVariants.{Take, Over, Back, No, Set, Give}
-use Rattle.fak_model.specs.declared.file.FileField.{FileField}
-use Rattle.fak_model.specs.declared.file.FileField.TheVariants.{Inode, Uses}
 use Rattle.fak_model.specs.declared.file.FileEntry.{FileEntry}
-use Rattle.fak_model.specs.declared.file.FileMark.{FileMark}
-use Rattle.fak_model.proofs.RunningCalls.{token_names}
-use Rattle.fak_files.proofs.Common.{Access, Read, Write, FilePhase, Idle, Holding, FileLimits, entry_of, back_from_take, own_since_take, prefix_through_take, marks_since_take}
+use Rattle.fak_files.proofs.Common.{Access, Read, Write, FilePhase, Idle, Holding, FileLimits, entry_of, back_from_take, own_since_take, prefix_through_take, marks_since_take, ◌≡◌, ◌≢◌, ℕ, ◌+◌, ◌-◌, ◌<◌, ◌≤◌, List, [], ◌∷◌, ◌++◌, refl, ap, sym, ◌∙◌, subst, arith, inl, inr, reverse, map, ℤ, slice_index, sum_by, flat_map, sum_by-cons, sum_by-append, words_by, Owes, seat_of, kind_of, kinds_of_call, field, file_rules, In, marks_of, ObjectId, seat_info, Appends, IsSeatToken, FileKind, Take, Over, Back, No, Set, Give, FileField, Inode, Uses, FileMark, token_names, Nothing, Reading, Writing, amount_of, phase_of, hold_for, StandsIn, limits, FileHolder, mark, Steps, Got, FileSeatInfo, one_hold, holds_of, LeavesMarks, IsGranted, IsBusy, IsGot, IsSet, IsEnded, IsHoldOf, seat_now, IsFileSeat, Makes, Misses}
 use Rattle.fak_files.specs.declared.phase.Hold.{Hold}
-use Rattle.fak_files.specs.declared.phase.Hold.TheVariants.{Nothing, Reading, Writing}
-use Rattle.fak_files.specs.Phases.{amount_of, phase_of, hold_for, StandsIn}
-use Rattle.fak_files.specs.Shown.{limits, FileHolder, mark, Steps, Got}
-use Rattle.fak_files.specs.Calls.{FileSeatInfo, one_hold, holds_of, LeavesMarks, IsGranted, IsBusy, IsGot, IsSet, IsEnded, IsHoldOf}
-use Rattle.fak_files.specs.SeatTokens.{seat_now, IsFileSeat, Makes, Misses}
 use Rattle.fak_files.proofs.Making.{some_object, makes_none, makes_one, none_then}
 use Rattle.fak_files.proofs.Grammar.{holds_amount, hold_amount, rest_amount, stands_refused, stands_withdrawn, stands_taken, stands_set, stands_given}
 use Rattle.fak_files.proofs.HoldReads.{version, reads, version-sees, own_since-take}

@@ -1,9 +1,5 @@
 -- What seats of a file table that were joined know.
-use Rattle.std.proofs.Common.{◌≡◌, ℕ, List, [], ◌∷◌, sym, subst, inl, inr}
-use Rattle.fak_model.specs.declared.file.FileMark.{FileMark}
-use Rattle.fak_model.proofs.Common.{words_by, Owes, seat_of, kind_of, kinds_of_call, file_rules, IsFileHistory, AreBetweenCalls, SeatInfo, TallyInfo, IsJoined}
-use Rattle.fak_model.proofs.Resting.{rest_joined}
-use Rattle.fak_files.specs.SeatTokens.{IsSettled}
+use Rattle.fak_files.proofs.Common.{◌≡◌, ℕ, List, [], ◌∷◌, sym, subst, inl, inr, FileMark, words_by, Owes, seat_of, kind_of, kinds_of_call, file_rules, IsFileHistory, AreBetweenCalls, SeatInfo, TallyInfo, IsJoined, rest_joined, IsSettled}
 
 -- one name stands between two calls
 pub settled_one : (seats name : ℕ) (seen : List FileMark) → Owes kinds_of_call (words_by seat_of kind_of name seen) [] → AreBetweenCalls (file_rules seats) (name ∷ []) seen

@@ -1,21 +1,10 @@
 -- Each kind of step of a seat keeps what a file table shows, and what it tells.
-use Rattle.std.proofs.Common.{◌≡◌, ℕ, ◌+◌, ◌-◌, ◌%◌, ◌^◌, ◌<◌, ◌≤◌, List, [], ◌∷◌, ◌++◌, refl, ap, sym, ◌∙◌, subst, arith, set, slice_index, Some, reverse, pos, ◌+ℤ◌, ◌-ℤ◌, ◌≤ℤ◌, ◌<ℤ◌}
 use Rattle.std.proofs.Math.Nat.{lt_of_not-le}
-use Rattle.fak_model.proofs.Common.{ints, some, get_elem?, words_by, sight, AreOwn, Leaves, IsSeatToken, bias}
 use native.Mathlib.Decide.{dec_le}
-use Rattle.atomic_table.specs.Table.{State, Act, keeps, stepped, carried_after, Valid, Allows}
-use Rattle.fak_model.specs.declared.file.FileField.{FileField}
-use Rattle.fak_model.specs.declared.file.FileKind.{FileKind}
-use Rattle.fak_model.specs.declared.file.FileKind.TheVariants.{Take, Over, Back, No, Set, Give}
-use Rattle.fak_model.specs.declared.file.FileMark.{FileMark}
 use Rattle.fak_model.specs.File.{seat_of, kind_of, field_after, amount_held, count, IsFileHistory}
-use Rattle.fak_model.proofs.Reversing.{reverse_cons, All-reverse}
 use Rattle.fak_model.proofs.RunningSteps.{Advances, stands_now, steps}
 use Rattle.fak_model.proofs.RunningSeats.{hears}
-use Rattle.fak_model.proofs.RunningCalls.{token_names, token_phase, token_slots, token_after}
-use Rattle.fak_files.proofs.Common.{Access, Read, Write, FilePhase, FileLimits, amount_of, StandsIn, count_place, word_of}
-use Rattle.fak_files.specs.declared.phase.FilePhase.TheVariants.{Idle, Taking, Backing, Holding}
-use Rattle.fak_files.specs.Shown.{FileView, ShowsHistory, file_object, IsShownFile, FileHolder, mark, Steps, CountIs, Tested, Took, Anything, Withdrew, Gave, FieldIs, Got, WasSet, HeardJoin}
+use Rattle.fak_files.proofs.Common.{Access, Read, Write, FilePhase, FileLimits, amount_of, StandsIn, count_place, word_of, ◌≡◌, ℕ, ◌+◌, ◌-◌, ◌%◌, ◌^◌, ◌<◌, ◌≤◌, List, [], ◌∷◌, ◌++◌, refl, ap, sym, ◌∙◌, subst, arith, set, slice_index, Some, reverse, pos, ◌+ℤ◌, ◌-ℤ◌, ◌≤ℤ◌, ◌<ℤ◌, ints, some, get_elem?, words_by, sight, AreOwn, Leaves, IsSeatToken, bias, State, Act, keeps, stepped, carried_after, Valid, Allows, FileField, FileKind, Take, Over, Back, No, Set, Give, FileMark, reverse_cons, All-reverse, token_names, token_phase, token_slots, token_after, Idle, Taking, Backing, Holding, FileView, ShowsHistory, file_object, IsShownFile, FileHolder, mark, Steps, CountIs, Tested, Took, Anything, Withdrew, Gave, FieldIs, Got, WasSet, HeardJoin}
 use Rattle.fak_files.proofs.Counts.{count_after, count-push, count_within}
 use Rattle.fak_files.proofs.Grammar.{GoesOn, amounts, refuses, overdraws, withdraws, takes, sets_field, holds_amount, gives_back, stands_other}
 use Rattle.fak_files.proofs.WordPlaces.{sub_word, add_word, near_word, words_same, counts_next, fields_next}

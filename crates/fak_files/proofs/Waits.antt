@@ -1,13 +1,6 @@
 -- A hold that is tried until it is granted.
-use Rattle.std.proofs.Common.{◌≡◌, ◌⊎◌, ℕ, ◌+◌, ◌<◌, List, [], ◌∷◌, ◌++◌, refl, ap, sym, ◌∙◌, subst, arith, inl, inr, map, ℤ, sum_by, flat_map}
 use Rattle.std.proofs.lemmas.List.{append-nil, map-append}
-use Rattle.fak_model.proofs.Common.{All-push, All-nil, sum_by-cons, sum_by-append, flat_map-append, WholeCall, Refused, Withdrawn, kinds_of_call, seat_of, file_rules, SeatInfo, mine_of, Appends}
-use Rattle.fak_model.specs.declared.file.FileKind.{FileKind}
-use Rattle.fak_model.specs.declared.file.FileKind.TheVariants.{Take, Over, Back, No}
-use Rattle.fak_model.specs.declared.file.FileMark.{FileMark}
-use Rattle.fak_model.proofs.RunningCalls.{appends_then}
-use Rattle.fak_files.proofs.Common.{Access, amount_of, mark}
-use Rattle.fak_files.specs.Calls.{FileSeatInfo, one_hold, holds_had, LeavesMarks, amount_for, IsGranted, IsWorn, IsBusy, AreRefused, IsWaitedFor}
+use Rattle.fak_files.proofs.Common.{Access, amount_of, mark, ◌≡◌, ◌⊎◌, ℕ, ◌+◌, ◌<◌, List, [], ◌∷◌, ◌++◌, refl, ap, sym, ◌∙◌, subst, arith, inl, inr, map, ℤ, sum_by, flat_map, All-push, All-nil, sum_by-cons, sum_by-append, flat_map-append, WholeCall, Refused, Withdrawn, kinds_of_call, seat_of, file_rules, SeatInfo, mine_of, Appends, FileKind, Take, Over, Back, No, FileMark, appends_then, FileSeatInfo, one_hold, holds_had, LeavesMarks, amount_for, IsGranted, IsWorn, IsBusy, AreRefused, IsWaitedFor}
 
 -- ---- marks of two calls
 

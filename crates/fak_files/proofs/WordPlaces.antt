@@ -1,16 +1,7 @@
 -- The words of a file table after a step.
-use Rattle.std.proofs.Common.{◌≡◌, ◌≢◌, ℕ, ◌+◌, ◌-◌, ◌%◌, ◌^◌, ◌<◌, ◌≤◌, ◌==◌, Bool, true, false, cond, List, [], ◌∷◌, ◌++◌, refl, ap, sym, ◌∙◌, subst, arith, inl, inr, set, get_or, length, mod-eq_of_lt, ℤ, pos, ◌+ℤ◌, ◌-ℤ◌, ◌&&◌}
 use Rattle.std.proofs.Math.Nat.{add-mod_left}
-use Rattle.fak_model.proofs.Common.{nat_tests, ints, bias}
-use Rattle.std.proofs.lemmas.List.{get_or-set_same, get_or-set_other, length-set, set-get_or}
-use Rattle.fak_model.specs.declared.file.FileField.{FileField}
-use Rattle.fak_model.specs.declared.file.FileField.TheVariants.{Inode, Uses}
-use Rattle.fak_model.specs.declared.file.FileKind.TheVariants.{Set}
-use Rattle.fak_model.specs.declared.file.FileMark.{FileMark}
 use Rattle.fak_model.specs.File.{count, same_field, field_after, field_from, field}
-use Rattle.fak_model.proofs.Deciding.{same_or_not}
-use Rattle.fak_files.proofs.Common.{FileLimits, ShowsHistory, mark}
-use Rattle.fak_files.specs.Words.{count_place, width, word_of}
+use Rattle.fak_files.proofs.Common.{FileLimits, ShowsHistory, mark, ◌≡◌, ◌≢◌, ℕ, ◌+◌, ◌-◌, ◌%◌, ◌^◌, ◌<◌, ◌≤◌, ◌==◌, Bool, true, false, cond, List, [], ◌∷◌, ◌++◌, refl, ap, sym, ◌∙◌, subst, arith, inl, inr, set, get_or, length, mod-eq_of_lt, ℤ, pos, ◌+ℤ◌, ◌-ℤ◌, ◌&&◌, nat_tests, ints, bias, get_or-set_same, get_or-set_other, length-set, set-get_or, FileField, Inode, Uses, Set, FileMark, same_or_not, count_place, width, word_of}
 
 -- ---- numbers
 

@@ -1,13 +1,6 @@
 -- Semaphores are closed, one after the other.
-use Rattle.std.proofs.Common.{◌≡◌, ℕ, zero, suc, ◌+◌, List, [], ◌∷◌, ◌++◌, length, take, refl, ap, sym, ◌∙◌, subst, arith, append_assoc, slice_get, Some, All, flat_map, append-nil}
-use Rattle.fak_model.proofs.Common.{All-nil, All-cons, All-head, All-tail, All-append, IsWhole}
-use Rattle.fak_model.specs.declared.file.FileMark.{FileMark}
-use Rattle.fak_files.specs.Calls.{entries_after}
-use Rattle.fak_sem.specs.Grants.{IsSettled}
-use Rattle.fak_sem.specs.Semaphores.{SemId, SemInfo, SemTallyInfo, seats_of}
 use Rattle.fak_text.proofs.Common.{ScriptOf, down, Process, FitsScript, StandsAt}
-use Rattle.fak_kernel.proofs.Common.{ids_of, ids_of_tallies}
-use Rattle.fak_kernel.specs.Closing.{IsSleeper, IsWholeAt, IsSettledAt, AreClosed, AreClosing, left_at}
+use Rattle.fak_kernel.proofs.Common.{ids_of, ids_of_tallies, ◌≡◌, ℕ, zero, suc, ◌+◌, List, [], ◌∷◌, ◌++◌, length, take, refl, ap, sym, ◌∙◌, subst, arith, append_assoc, slice_get, Some, All, flat_map, append-nil, All-nil, All-cons, All-head, All-tail, All-append, IsWhole, FileMark, entries_after, IsSettled, SemId, SemInfo, SemTallyInfo, seats_of, IsSleeper, IsWholeAt, IsSettledAt, AreClosed, AreClosing, left_at}
 
 module _ {script : ScriptOf} where
   pub closing_first : {os all_os : List SemInfo} {rest tallies : List (SemTallyInfo Process)} {asleep : List Process} → os ≡ all_os → rest ≡ tallies → asleep ≡ [] → ids_of_tallies tallies ≡ ids_of all_os → All IsWholeAt tallies

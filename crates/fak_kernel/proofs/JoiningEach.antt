@@ -1,8 +1,5 @@
 -- Seats of all semaphores are joined.
-use Rattle.std.proofs.Common.{◌≡◌, ℕ, zero, suc, ◌<◌, ◌≤◌, List, [], ◌∷◌, length, drop, get_or, refl, ap, sym, subst, arith, map}
-use Rattle.fak_sem.specs.Semaphores.{SemInfo, SemSeatInfo, SemTallyInfo, JoinsSeat, sem_tally_of}
-use Rattle.fak_text.specs.Journal.{Process}
-use Rattle.fak_kernel.proofs.Common.{JoinedTo, ids_of, ids_of_seats, JoinEach, ids_of_tallies, no_seat, no_tally}
+use Rattle.fak_kernel.proofs.Common.{JoinedTo, ids_of, ids_of_seats, JoinEach, ids_of_tallies, no_seat, no_tally, ◌≡◌, ℕ, zero, suc, ◌<◌, ◌≤◌, List, [], ◌∷◌, length, drop, get_or, refl, ap, sym, subst, arith, map, SemInfo, SemSeatInfo, SemTallyInfo, JoinsSeat, sem_tally_of, Process}
 use Rattle.fak_kernel.proofs.Naming.{first_joined, next_joined}
 
 pub drop_past : {A : Type 0} (n : ℕ) (xs : List A) → length xs ≤ n → drop n xs ≡ []

@@ -1,10 +1,6 @@
 -- The seats of a file table are joined, and their lines replay.
-use Rattle.std.proofs.Common.{◌≡◌, ℕ, zero, suc, ◌+◌, ◌<◌, ◌≤◌, Bool, true, false, cond, nat_lt, List, [], ◌∷◌, ◌++◌, refl, ap, sym, ◌∙◌, subst, arith, inl, inr, append_assoc, map, sum_by}
-use Rattle.fak_model.proofs.Common.{nat_tests, filter-append, sum_by-append, AreNamed, seat_of, file_rules, IsFileHistory, SeatInfo, TallyInfo, IsJoined, tally_of, In, Knows, marks_of}
 use Rattle.std.proofs.lemmas.List.{append-nil, map-append}
-use Rattle.fak_model.specs.declared.file.FileMark.{FileMark}
-use Rattle.fak_text.specs.Journal.{NoteOf}
-use Rattle.fak_kernel.proofs.Common.{Ledger, joined, JoinedTo, FileHold, AreHolds, held_kinds, hold_line, gather_from, AreLines, Left, is_file_line, file_lines, files_of, FilesJoined}
+use Rattle.fak_kernel.proofs.Common.{Ledger, joined, JoinedTo, FileHold, AreHolds, held_kinds, hold_line, gather_from, AreLines, Left, is_file_line, file_lines, files_of, FilesJoined, ◌≡◌, ℕ, zero, suc, ◌+◌, ◌<◌, ◌≤◌, Bool, true, false, cond, nat_lt, List, [], ◌∷◌, ◌++◌, refl, ap, sym, ◌∙◌, subst, arith, inl, inr, append_assoc, map, sum_by, nat_tests, filter-append, sum_by-append, AreNamed, seat_of, file_rules, IsFileHistory, SeatInfo, TallyInfo, IsJoined, tally_of, In, Knows, marks_of, FileMark, NoteOf}
 use Rattle.fak_process.proofs.Holding.{held-left, reads-left}
 use Rattle.fak_process.proofs.GatheredHolds.{gather_same}
 

@@ -1,12 +1,6 @@
 -- The seats of the processors are joined, processor by processor.
-use Rattle.std.proofs.Common.{◌≡◌, ℕ, zero, suc, ◌+◌, ◌≤◌, List, ◌++◌, length, get_or, ap, sym, ◌∙◌, subst, arith, sum_by}
-use Rattle.fak_model.proofs.Common.{length-map, sum_by-append, ObjectId, IsJoined, queue_rules, room_rules}
-use Rattle.fak_sem.specs.Semaphores.{SemInfo, SemSeatInfo, SemTallyInfo}
 use Rattle.fak_text.proofs.Common.{ScriptOf, Process}
-use Rattle.fak_kernel.proofs.Common.{Ended, Halted, RowOf, joined, ObjectsOf, ProcessorOf, AreOf, AreFor, HasName, bundle_of, files_of, row_as, IsLeftBy}
-use Rattle.fak_processor.specs.Holding.{Tallies, Have, Joins, JoinedTo}
-use Rattle.fak_processor.specs.Joined.{TalliesOf, AreTalliesOf, HaveNames, JoinAll, tallies_of, first_tallies, no_seat, no_tally}
-use Rattle.fak_kernel.specs.Gathered.{AreGathered, AreOfOne, FilesJoined, left_weigh}
+use Rattle.fak_kernel.proofs.Common.{Ended, Halted, RowOf, joined, ObjectsOf, ProcessorOf, AreOf, AreFor, HasName, bundle_of, files_of, row_as, IsLeftBy, ◌≡◌, ℕ, zero, suc, ◌+◌, ◌≤◌, List, ◌++◌, length, get_or, ap, sym, ◌∙◌, subst, arith, sum_by, length-map, sum_by-append, ObjectId, IsJoined, queue_rules, room_rules, SemInfo, SemSeatInfo, SemTallyInfo, Tallies, Have, Joins, JoinedTo, TalliesOf, AreTalliesOf, HaveNames, JoinAll, tallies_of, first_tallies, no_seat, no_tally, AreGathered, AreOfOne, FilesJoined, left_weigh}
 use Rattle.fak_processor.proofs.Calls.{turning_leaves}
 use Rattle.fak_kernel.proofs.Gathering.{have_first, have_more}
 use Rattle.fak_kernel.proofs.Gathering as gathering

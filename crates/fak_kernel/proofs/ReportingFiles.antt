@@ -1,11 +1,5 @@
 -- From the lines of the joined seats of the file table to the report.
-use Rattle.std.proofs.Common.{◌≡◌, ℕ, zero, suc, ◌+◌, ◌≤◌, Bool, true, false, cond, List, [], ◌∷◌, ◌++◌, refl, ap, sym, ◌∙◌, subst, arith, map, replicate, sum_by}
-use Rattle.fak_model.proofs.Common.{map-append, sum_by-cons, IsPermutation-map, sum_by-IsPermutation, TallyInfo}
-use Rattle.fak_model.specs.declared.file.FileEntry.{FileEntry}
-use Rattle.fak_model.specs.declared.file.FileMark.{FileMark}
-use Rattle.fak_files.specs.Calls.{entries_after}
-use Rattle.fak_text.specs.Journal.{NoteOf}
-use Rattle.fak_kernel.proofs.Common.{free_entry, ReportOf, FileHold, hold_line, gather_from, FilesJoined}
+use Rattle.fak_kernel.proofs.Common.{free_entry, ReportOf, FileHold, hold_line, gather_from, FilesJoined, ◌≡◌, ℕ, zero, suc, ◌+◌, ◌≤◌, Bool, true, false, cond, List, [], ◌∷◌, ◌++◌, refl, ap, sym, ◌∙◌, subst, arith, map, replicate, sum_by, map-append, sum_by-cons, IsPermutation-map, sum_by-IsPermutation, TallyInfo, FileEntry, FileMark, entries_after, NoteOf}
 use Rattle.fak_process.specs.Replays.{Replays}
 use Rattle.fak_process.specs.Merging.{AreMerged}
 use Rattle.fak_process.specs.Reported.{is_file_line, file_lines, lines_of, FilesReplay}

@@ -15,11 +15,12 @@ pub mod gathering;
 pub mod joining;
 pub mod reporting;
 
-use closing::close;
+use closing::{Remains, close};
 use fak_process::{Fault, Report, Run};
 use fak_processor::{Objects, Processor};
 use fak_text::Script;
 use gathering::gather;
+use joining::Joined;
 use reporting::{report_with, rows_of};
 use std::alloc::Global;
 
@@ -47,8 +48,20 @@ pub(crate) fn report_of_run<K: Run>(
         → IfOk result (λ report. ListSchedulerReports K.script (told_report K.script (report_of report))) }
     ensures memory { IfErr result (λ fault. fault ≡ Fault.Memory) }
 {
-    let all = gather(alloc, &objects, left)?;
-    let remains = close(alloc, objects, all.tallies, script.files())?;
-    let rows = rows_of(alloc, all.processes, remains.asleep)?;
-    Ok(report_with(script, rows, remains.entries))
+    let Joined { tallies, processes } = match gather(alloc, &objects, left) {
+        Ok(all) => all,
+        Err(fault) => {
+            drop(objects);
+            return Err(fault);
+        }
+    };
+    let Remains { asleep, entries } = match close(alloc, objects, tallies, script.files()) {
+        Ok(remains) => remains,
+        Err(fault) => {
+            drop(processes);
+            return Err(fault);
+        }
+    };
+    let rows = rows_of(alloc, processes, asleep)?;
+    Ok(report_with(script, rows, entries))
 }

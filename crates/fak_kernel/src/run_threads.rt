@@ -120,7 +120,10 @@ fn run_as<K: Run + Send + Sync, G: Gate + Sync, R: Threads + Wait + Sync>(
     };
     let left = match work_all(rt, alloc, script, &objects, gate, processors, all) {
         Ok(left) => left,
-        Err(fault) => return Err(fault),
+        Err(fault) => {
+            drop(objects);
+            return Err(fault);
+        }
     };
     match report_of_run(alloc, script, objects, left) {
         Ok(report) => Ok(report),

@@ -69,7 +69,10 @@ fn run_alone<K: Run, R: Wait>(rt: &R, alloc: Global, script: &Script) -> Result<
     };
     let left = match leave_alone(rt, alloc, script, &objects, processors) {
         Ok(left) => left,
-        Err(fault) => return Err(fault),
+        Err(fault) => {
+            drop(objects);
+            return Err(fault);
+        }
     };
     match report_of_run(alloc, script, objects, left) {
         Ok(report) => Ok(report),

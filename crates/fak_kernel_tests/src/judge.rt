@@ -7,15 +7,14 @@ mod names;
 
 use fak_kernel::Report;
 use fak_text::Script;
-use std::alloc::Global;
-use std::test::Fail;
+use std::alloc::{AllocError, Global};
 
 /// The promise that the report breaks.
 pub(super) fn broken_promise(
     alloc: Global,
     script: &Script,
     report: &Report,
-) -> Result<Option<&'static str>, Fail> {
+) -> Result<Option<&'static str>, AllocError> {
     let rows = report.rows.as_slice();
     if report.version != script.version() || report.bound != script.births() {
         return Ok(Some("version and bound"));

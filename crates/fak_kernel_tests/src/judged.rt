@@ -1,12 +1,12 @@
 //! The judge finds what is broken in reports that were changed.
 
-use super::examples::READER;
+use super::examples::{READER, report_of, script_of};
 use super::judge::broken_promise;
-use fak_kernel::{Outcome, Report, run_one};
-use fak_text::{Note, read_script};
-use std::alloc::Global;
+use fak_kernel::{Outcome, ProcessRow, Report};
+use fak_text::{Note, Script};
+use std::alloc::{AllocError, Global};
+use std::process::Abort;
 use std::sync::Wait;
-use std::test::Fail;
 
 /// Two sleepers.
 const SLEEPERS: &str = r#"{"version":1,"slots":2,"births":0,"quantum":4,"semaphores":[0],"files":1,
@@ -23,55 +23,67 @@ enum Change {
     Entry,
 }
 
-/// Makes the change.
-fn apply(report: &mut Report, what: Change) -> Result<(), Fail> {
+/// Makes the change, if it can be made.
+fn apply(report: &mut Report, what: Change) -> bool {
     match what {
-        Change::Version => report.version = 2,
-        Change::Order => report.rows.as_mut_slice().reverse(),
-        Change::Row => drop(report.rows.pop()),
-        Change::Entry => drop(report.entries.pop()),
-        _ => apply_to_row(report, what)?,
+        Change::Version => {
+            report.version = 2;
+            true
+        }
+        Change::Order => {
+            report.rows.as_mut_slice().reverse();
+            true
+        }
+        Change::Row => report.rows.pop().is_some(),
+        Change::Entry => report.entries.pop().is_some(),
+        _ => match report.rows.get_mut(0) {
+            Some(row) => apply_to_row(row, what),
+            None => false,
+        },
     }
-    Ok(())
 }
 
-fn apply_to_row(report: &mut Report, what: Change) -> Result<(), Fail> {
-    let Some(row) = report.rows.get_mut(0) else {
-        return Ok(());
-    };
+fn apply_to_row(row: &mut ProcessRow, what: Change) -> bool {
     match what {
         Change::Slot => row.slot = 1,
         Change::Pass => {
-            row.journal.push(Note::Down(0))?;
             row.position = 1;
             row.outcome = Outcome::Ended;
+            return row.journal.push(Note::Down(0)).is_ok();
         }
         _ => row.outcome = Outcome::Halted,
     }
-    Ok(())
+    true
 }
 
-/// What the judge says of the changed report.
-fn verdict<R: Wait>(
+/// What the judge says of the changed report, where it said nothing before.
+fn verdict_after(
+    rt: &impl Abort,
+    alloc: Global,
+    script: &Script,
+    report: &mut Report,
+    what: Change,
+) -> Result<Option<&'static str>, AllocError> {
+    let kept = broken_promise(alloc, script, report);
+    assert!(rt; kept == Ok(None), "nothing was changed yet");
+    assert!(rt; apply(report, what), "a change");
+    broken_promise(alloc, script, report)
+}
+
+/// The same of the report of a script on one processor.
+fn verdict<R: Abort + Wait>(
     rt: &R,
     alloc: Global,
     script: &str,
     what: Change,
-) -> Result<Option<&'static str>, Fail> {
-    let script = read_script(alloc, script.as_bytes())
-        .ok()
-        .ok_or("a script")?;
-    let mut report = run_one(rt, alloc, &script).ok().ok_or("a report")?;
-    let kept = broken_promise(alloc, &script, &report)?;
-    if kept.is_some() {
-        return Ok(Some("nothing was changed yet"));
-    }
-    apply(&mut report, what)?;
-    broken_promise(alloc, &script, &report)
+) -> Result<Option<&'static str>, AllocError> {
+    let mut report = report_of(rt, alloc, script);
+    let script = script_of(rt, alloc, script);
+    verdict_after(rt, alloc, &script, &mut report, what)
 }
 
 #[test]
-fn each_promise_can_be_broken(rt: HostRuntime) -> Result<(), Fail> {
+fn each_promise_can_be_broken(rt: HostRuntime) {
     let changes = [
         (READER, Change::Version, "version and bound"),
         (READER, Change::Order, "names"),
@@ -81,12 +93,10 @@ fn each_promise_can_be_broken(rt: HostRuntime) -> Result<(), Fail> {
         (SLEEPERS, Change::Pass, "semaphores"),
         (READER, Change::Entry, "files"),
     ];
-    for (script, what, broken) in changes {
-        assert_eq!(rt;
-            verdict(&rt, rt.alloc(), script, what)?,
-            Some(broken),
+    for &(script, what, broken) in &changes {
+        assert!(rt;
+            verdict(&rt, rt.alloc(), script, what) == Ok(Some(broken)),
             "{broken}"
         );
     }
-    Ok(())
 }

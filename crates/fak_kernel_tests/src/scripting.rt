@@ -1,8 +1,8 @@
 //! Small scripts that are drawn at random, by a fixed beginning.
 
 use crate::Draws;
-use std::alloc::Global;
-use std::test::Fail;
+use std::alloc::{AllocError, Global};
+use std::fmt::Write;
 
 /// How much of each there is.
 #[derive(Clone, Copy, Drop)]
@@ -13,89 +13,105 @@ struct Sizes {
 }
 
 /// A script of a few short programs.
-pub(super) fn drawn_script(alloc: Global, draws: &mut Draws) -> Result<String, Fail> {
+pub(super) fn drawn_script(alloc: Global, draws: &mut Draws) -> Result<String, AllocError> {
+    let mut text = String::new(alloc);
+    add_script(&mut text, draws)?;
+    Ok(text)
+}
+
+fn add_script(text: &mut String, draws: &mut Draws) -> Result<(), AllocError> {
     let sizes = Sizes {
         version: draws.below(2).saturating_add(1),
         programs: draws.below(3).saturating_add(1),
         semaphores: draws.below(2).saturating_add(1),
     };
+    let version = sizes.version;
     let slots = draws.below(6).saturating_add(2);
     let (births, quantum, files) = (
         draws.below(5),
         draws.below(3).saturating_add(1),
         draws.below(3).saturating_add(1),
     );
-    let semaphores = drawn_numbers(alloc, draws, sizes.semaphores, 3)?;
-    let programs = drawn_programs(alloc, draws, sizes)?;
-    let started = draws.below(slots).saturating_add(1);
-    let start = drawn_numbers(alloc, draws, started, sizes.programs)?;
-    let version = sizes.version;
-    let head = format!(in alloc;
-        "\"version\":{version},\"slots\":{slots},\"births\":{births},\"quantum\":{quantum}"
+    write!(
+        text,
+        "{{\"version\":{version},\"slots\":{slots},\"births\":{births},"
     )?;
-    Ok(format!(in alloc;
-        "{{{head},\"files\":{files},\"semaphores\":[{semaphores}],\"programs\":[{programs}],\"start\":[{start}]}}"
-    )?)
+    write!(
+        text,
+        "\"quantum\":{quantum},\"files\":{files},\"semaphores\":["
+    )?;
+    add_numbers(text, draws, sizes.semaphores, 3)?;
+    text.push_str("],\"programs\":[")?;
+    add_programs(text, draws, sizes)?;
+    text.push_str("],\"start\":[")?;
+    let started = draws.below(slots).saturating_add(1);
+    add_numbers(text, draws, started, sizes.programs)?;
+    text.push_str("]}")
+}
+
+/// A comma, but before the first.
+fn add_comma(text: &mut String, i: u64) -> Result<(), AllocError> {
+    if i > 0 {
+        text.push_str(",")?;
+    }
+    Ok(())
 }
 
 /// So many numbers below the bound.
-fn drawn_numbers(alloc: Global, draws: &mut Draws, count: u64, bound: u64) -> Result<String, Fail> {
-    let mut all = String::new(alloc);
+fn add_numbers(
+    text: &mut String,
+    draws: &mut Draws,
+    count: u64,
+    bound: u64,
+) -> Result<(), AllocError> {
     for i in 0..count {
-        if i > 0 {
-            all.push_str(",")?;
-        }
+        add_comma(text, i)?;
         let number = draws.below(bound);
-        all.push_str(format!(in alloc; "{number}")?.as_str())?;
+        write!(text, "{number}")?;
     }
-    Ok(all)
+    Ok(())
 }
 
-fn drawn_programs(alloc: Global, draws: &mut Draws, sizes: Sizes) -> Result<String, Fail> {
-    let mut all = String::new(alloc);
+fn add_programs(text: &mut String, draws: &mut Draws, sizes: Sizes) -> Result<(), AllocError> {
     for i in 0..sizes.programs {
-        if i > 0 {
-            all.push_str(",")?;
-        }
-        let program = drawn_program(alloc, draws, sizes)?;
-        all.push_str(format!(in alloc; "[{program}]")?.as_str())?;
+        add_comma(text, i)?;
+        text.push_str("[")?;
+        add_program(text, draws, sizes)?;
+        text.push_str("]")?;
     }
-    Ok(all)
+    Ok(())
 }
 
-fn drawn_program(alloc: Global, draws: &mut Draws, sizes: Sizes) -> Result<String, Fail> {
-    let mut all = String::new(alloc);
+fn add_program(text: &mut String, draws: &mut Draws, sizes: Sizes) -> Result<(), AllocError> {
     for i in 0..draws.below(8) {
-        if i > 0 {
-            all.push_str(",")?;
-        }
-        all.push_str(drawn_step(alloc, draws, sizes)?.as_str())?;
+        add_comma(text, i)?;
+        add_step(text, draws, sizes)?;
     }
-    Ok(all)
+    Ok(())
 }
 
-fn drawn_step(alloc: Global, draws: &mut Draws, sizes: Sizes) -> Result<String, Fail> {
+fn add_step(text: &mut String, draws: &mut Draws, sizes: Sizes) -> Result<(), AllocError> {
     let semaphore = draws.below(sizes.semaphores);
     let inode = draws.below(2).saturating_add(1);
     let program = draws.below(sizes.programs);
-    let step = match draws.below(16) {
-        0 | 1 => format!(in alloc; "[\"yield\"]")?,
-        2 | 3 | 4 => format!(in alloc; "[\"down\",{semaphore}]")?,
-        5 | 6 | 7 => format!(in alloc; "[\"up\",{semaphore}]")?,
-        8 => format!(in alloc; "[\"open\",{inode}]")?,
-        9 => format!(in alloc; "[\"close\",{inode}]")?,
-        10 => format!(in alloc; "[\"stat\",{inode}]")?,
-        11 | 12 | 13 => format!(in alloc; "[\"spawn\",{program}]")?,
-        14 => drawn_end(alloc, draws, sizes)?,
-        _ => format!(in alloc; "[\"say\",\"x\"]")?,
+    let (name, number) = match draws.below(16) {
+        0 | 1 => return text.push_str("[\"yield\"]"),
+        2 | 3 | 4 => ("down", semaphore),
+        5 | 6 | 7 => ("up", semaphore),
+        8 => ("open", inode),
+        9 => ("close", inode),
+        10 => ("stat", inode),
+        11 | 12 | 13 => ("spawn", program),
+        14 => return add_end(text, draws, sizes),
+        _ => return text.push_str("[\"say\",\"x\"]"),
     };
-    Ok(step)
+    write!(text, "[\"{name}\",{number}]")
 }
 
 /// A shutdown, though seldom, and in version 2 alone.
-fn drawn_end(alloc: Global, draws: &mut Draws, sizes: Sizes) -> Result<String, Fail> {
+fn add_end(text: &mut String, draws: &mut Draws, sizes: Sizes) -> Result<(), AllocError> {
     if sizes.version == 2 && draws.below(3) == 0 {
-        return Ok(format!(in alloc; "[\"shutdown\"]")?);
+        return text.push_str("[\"shutdown\"]");
     }
-    Ok(format!(in alloc; "[\"say\",\"\"]")?)
+    text.push_str("[\"say\",\"\"]")
 }

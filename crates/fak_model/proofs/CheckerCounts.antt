@@ -1,7 +1,5 @@
 -- What the checker counts, after one more mark.
-use Rattle.std.proofs.Common.{◌≡◌, ℕ, ◌+◌, ◌<◌, ◌≤◌, List, [], ◌∷◌, ◌++◌, length, length-append, take, reverse, refl, ap, sym, ◌∙◌, subst, arith, inl, inr, ◌↔◌, IsTrue}
-use Rattle.fak_model.proofs.Common.{length-reverse, take-append-le, Kind, ClaimIn, BackIn, Put, EndIn, ClaimOut, Got, Close, Mark, count, Has, puts, gots, upper_raise, upper_drop, lower_raise, lower_drop}
-use Rattle.fak_model.specs.Checker.{AreBelow, AreCounts, counts_with}
+use Rattle.fak_model.proofs.Common.{length-reverse, take-append-le, Kind, ClaimIn, BackIn, Put, EndIn, ClaimOut, Got, Close, Mark, count, Has, puts, gots, upper_raise, upper_drop, lower_raise, lower_drop, ◌≡◌, ℕ, ◌+◌, ◌<◌, ◌≤◌, List, [], ◌∷◌, ◌++◌, length, length-append, take, reverse, refl, ap, sym, ◌∙◌, subst, arith, inl, inr, ◌↔◌, IsTrue, AreBelow, AreCounts, counts_with}
 use Rattle.fak_model.specs.declared.checker.counts.Counts.{Counts}
 use Rattle.fak_model.proofs.QueueCounts.{count_few}
 use Rattle.fak_model.proofs.QueueTickets.{a_put_bit}

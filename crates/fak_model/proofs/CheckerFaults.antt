@@ -1,8 +1,5 @@
 -- The checker's answers, in the words of the definition.
-use Rattle.std.proofs.Common.{ℕ, ◌+◌, ◌<◌, ◌≤◌, List, length, take, get_or, reverse, subst, take_all}
-use Rattle.fak_model.specs.Checker.{FirstFault}
-use Rattle.fak_model.proofs.Common.{IsQueueHistory, Mark}
-use Rattle.fak_model.specs.QueuePast.{IsLegalByStage, IsLegalPast, MayFollow}
+use Rattle.fak_model.proofs.Common.{IsQueueHistory, Mark, ℕ, ◌+◌, ◌<◌, ◌≤◌, List, length, take, get_or, reverse, subst, take_all, FirstFault, IsLegalByStage, IsLegalPast, MayFollow}
 use Rattle.fak_model.proofs.CheckerPast.{past_more}
 use Rattle.fak_model.proofs.QueueLiteral.{to_past, to_literal}
 

@@ -1,8 +1,5 @@
 -- What the checker finds in the marks that it has read.
-use Rattle.std.proofs.Common.{◌≡◌, ℕ, ◌+◌, ◌-◌, ◌<◌, ◌≤◌, List, [], ◌∷◌, ◌++◌, length, take, drop, get_or, reverse, Option, Some, None, refl, ap, sym, ◌∙◌, subst, arith, inl, inr}
-use Rattle.std.proofs.lemmas.List.{reverse-append, take_more, take-append-drop}
-use Rattle.fak_model.specs.Checker.{stage_with}
-use Rattle.fak_model.proofs.Common.{count, Has, puts, gots, stage, after, item_of, HasCell, Kind, ClaimIn, OverIn, Put, Fill, ClaimOut, OverOut, Got, Take, LateIn, Mark, Stage, Putting, Getting}
+use Rattle.fak_model.proofs.Common.{count, Has, puts, gots, stage, after, item_of, HasCell, Kind, ClaimIn, OverIn, Put, Fill, ClaimOut, OverOut, Got, Take, LateIn, Mark, Stage, Putting, Getting, ◌≡◌, ℕ, ◌+◌, ◌-◌, ◌<◌, ◌≤◌, List, [], ◌∷◌, ◌++◌, length, take, drop, get_or, reverse, Option, Some, None, refl, ap, sym, ◌∙◌, subst, arith, inl, inr, reverse-append, take_more, take-append-drop, stage_with}
 use Rattle.fak_model.proofs.Deciding.{cond_here}
 use Rattle.fak_model.proofs.QueueStages.{stage_here}
 use Rattle.fak_model.proofs.QueueTickets.{item_stays, item_below}

@@ -1,6 +1,5 @@
 -- The law of a credit.
-use Rattle.std.proofs.Common.{◌≡◌, ℕ, ◌+◌, min, true, false, cond, List, [], ◌∷◌, ◌++◌, refl, ap, sym, ◌∙◌, arith, append_assoc, pos, ◌-ℤ◌, int_lt, append-nil, flat_map}
-use Rattle.fak_model.proofs.Common.{ints, AreCalls, seat_words}
+use Rattle.fak_model.proofs.Common.{ints, AreCalls, seat_words, ◌≡◌, ℕ, ◌+◌, min, true, false, cond, List, [], ◌∷◌, ◌++◌, refl, ap, sym, ◌∙◌, arith, append_assoc, pos, ◌-ℤ◌, int_lt, append-nil, flat_map}
 use Rattle.fak_model.specs.declared.credit.CreditKind.{CreditKind}
 use Rattle.fak_model.specs.declared.credit.CreditKind.TheVariants.{Debit, Credit}
 use Rattle.fak_model.specs.declared.credit.CreditMark.{CreditMark}

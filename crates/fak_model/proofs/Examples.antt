@@ -1,8 +1,5 @@
 -- What the tests of lists of marks tell of examples.
-use Rattle.std.proofs.Common.{◌≡◌, ℕ, true, false, List, ◌++◌, reverse}
-use Rattle.std.proofs.lemmas.Bool.Decides.{not_from_Decides}
-use Rattle.fak_model.proofs.Common.{Mark, RoomMark, FileMark, IsQueueHistory, IsRoomHistory, IsFileHistory}
-use Rattle.fak_model.specs.Examples.{Parts}
+use Rattle.fak_model.proofs.Common.{Mark, RoomMark, FileMark, IsQueueHistory, IsRoomHistory, IsFileHistory, ◌≡◌, ℕ, true, false, List, ◌++◌, reverse, not_from_Decides, Parts}
 use Rattle.fak_model.proofs.QueueJudging.{is_legal_past, queue_decided}
 use Rattle.fak_model.proofs.RoomJudging.{is_room_history, room_decided}
 use Rattle.fak_model.proofs.FileJudging.{is_file_history, file_decided}

@@ -1,10 +1,7 @@
 -- Whether a list of marks is a file table's history.
-use Rattle.std.proofs.Common.{◌≡◌, ℕ, zero, suc, ◌+◌, ltb, ◌==◌, Bool, true, List, [], ◌∷◌, ◌++◌, Decides, refl, ap, sym, ◌∙◌, arith, append_assoc, ◌&&◌, ◌||◌, map, flat_map}
-use Rattle.std.proofs.lemmas.Bool.Decides.{Decides-eqb, Decides-ltb, Decides-like, Decides-and, Decides-or}
-use Rattle.fak_model.proofs.Common.{ints, flat_map-append, FileKind, FileMark, Owes, AreCalls}
+use Rattle.fak_model.proofs.Common.{ints, flat_map-append, FileKind, FileMark, Owes, AreCalls, ◌≡◌, ℕ, zero, suc, ◌+◌, ltb, ◌==◌, Bool, true, List, [], ◌∷◌, ◌++◌, Decides, refl, ap, sym, ◌∙◌, arith, append_assoc, ◌&&◌, ◌||◌, map, flat_map, Decides-eqb, Decides-ltb, Decides-like, Decides-and, Decides-or, Setting, set_mark, WholeCall, Refused, Withdrawn, Held, kinds_of_call, total, take_amount, over_amount, back_amount, amount_held, amount_given, IsAmount, IsFair, file_rules, IsFileHistory}
 use Rattle.std.proofs.lemmas.List.{append-nil, map-append}
 use Rattle.fak_model.specs.declared.file.FileKind.TheVariants.{Take, Over, Back, No, Set, Give}
-use Rattle.fak_model.specs.File.{Setting, set_mark, WholeCall, Refused, Withdrawn, Held, kinds_of_call, total, take_amount, over_amount, back_amount, amount_held, amount_given, IsAmount, IsFair, file_rules, IsFileHistory}
 use Rattle.fak_model.proofs.Appending.{owed_comes, call_begins}
 use Rattle.fak_model.proofs.Places.{Runs, ends, CallsRun}
 use Rattle.fak_model.proofs.Judging.{Grammar, judged, history_decided, le_decided}

@@ -1,8 +1,6 @@
 -- The law of a file table.
-use Rattle.std.proofs.Common.{◌≡◌, ◌≢◌, ◌⊎◌, ℕ, ◌+◌, ◌<◌, ◌≤◌, List, [], ◌∷◌, ◌++◌, Some, refl, ap, sym, ◌∙◌, arith, inl, inr, append_assoc, map, append-nil}
-use Rattle.fak_model.proofs.Common.{ints, All-pop, FileKind, FileMark, seat_words, AreNamed, sum_below}
+use Rattle.fak_model.proofs.Common.{ints, All-pop, FileKind, FileMark, seat_words, AreNamed, sum_below, ◌≡◌, ◌≢◌, ◌⊎◌, ℕ, ◌+◌, ◌<◌, ◌≤◌, List, [], ◌∷◌, ◌++◌, Some, refl, ap, sym, ◌∙◌, arith, inl, inr, append_assoc, map, append-nil, Setting, set_mark, Refused, Withdrawn, Held, kinds_of_call, kind_of, take_amount, over_amount, back_amount, total, hold_after, hold_from, amount_held, gives, amount_given_from, amount_given, IsFair, file_rules, IsFileHistory}
 use Rattle.fak_model.specs.declared.file.FileKind.TheVariants.{Take, Give}
-use Rattle.fak_model.specs.File.{Setting, set_mark, Refused, Withdrawn, Held, kinds_of_call, kind_of, take_amount, over_amount, back_amount, total, hold_after, hold_from, amount_held, gives, amount_given_from, amount_given, IsFair, file_rules, IsFileHistory}
 use Rattle.fak_model.proofs.Appending.{snoc_ind, seat_words-own, seat_words-other, history_front, last_fair}
 use Rattle.fak_model.proofs.Leading.{CallsLead, Leads, history_leads, total_push, sum_one, sum_none}
 

@@ -1,6 +1,5 @@
 -- A file table at rest.
-use Rattle.std.proofs.Common.{◌≡◌, ◌≢◌, ◌⊎◌, ℕ, ◌+◌, ◌<◌, List, [], ◌∷◌, ◌++◌, Some, refl, ap, sym, ◌∙◌, arith, inl, inr, map, pos, sum_by}
-use Rattle.fak_model.proofs.Common.{ints, All-pop, FileKind, FileMark, seat_words, IsAtRest, AreNamed, sum_below}
+use Rattle.fak_model.proofs.Common.{ints, All-pop, FileKind, FileMark, seat_words, IsAtRest, AreNamed, sum_below, ◌≡◌, ◌≢◌, ◌⊎◌, ℕ, ◌+◌, ◌<◌, List, [], ◌∷◌, ◌++◌, Some, refl, ap, sym, ◌∙◌, arith, inl, inr, map, pos, sum_by}
 use Rattle.fak_model.specs.declared.file.FileKind.TheVariants.{Take, Over, Back, No, Set, Give}
 use Rattle.fak_model.specs.File.{Setting, set_mark, WholeCall, Refused, Withdrawn, Held, kinds_of_call, kind_of, take_amount, over_amount, back_amount, total, hold_after, hold_from, amount_held, gives, amount_given, count, file_rules, IsFileHistory}
 use Rattle.fak_model.proofs.Appending.{snoc_ind, seat_words-own, seat_words-other, history_front, last_calls}

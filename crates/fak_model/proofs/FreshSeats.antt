@@ -1,6 +1,5 @@
 -- Seats as an opening deals them.
-use Rattle.std.proofs.Common.{◌≡◌, ℕ, zero, suc, ◌+◌, ◌-◌, ◌<◌, List, ◌∷◌, [], length, refl, ap, sym, ◌∙◌, arith}
-use Rattle.fak_model.specs.Calls.{ObjectId, SeatInfo, seat_info, fresh_seats}
+use Rattle.fak_model.proofs.Common.{◌≡◌, ℕ, zero, suc, ◌+◌, ◌-◌, ◌<◌, List, ◌∷◌, [], length, refl, ap, sym, ◌∙◌, arith, ObjectId, SeatInfo, seat_info, fresh_seats}
 
 pub length-fresh_seats : (M : Type 0) (object : ObjectId) (stint name n : ℕ) → length (fresh_seats {M = M} object stint name n) ≡ n
 length-fresh_seats M object stint name zero = refl

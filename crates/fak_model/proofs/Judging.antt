@@ -1,6 +1,5 @@
 -- Whether a list of marks is a history, by a test of each mark: for grammars in which each word has one place in a call.
-use Rattle.std.proofs.Common.{◌≡◌, ℕ, ◌+◌, ◌≤◌, ltb, ◌==◌, Bool, true, false, List, [], ◌∷◌, ◌++◌, Decides, refl, sym, subst, arith, inl, inr, append_assoc, ◌&&◌, append-nil}
-use Rattle.fak_model.proofs.Common.{Decides-eqb, Decides-ltb, Decides-like, Decides-and, Rules, seat_words, AreCalls, IsHistory}
+use Rattle.fak_model.proofs.Common.{Decides-eqb, Decides-ltb, Decides-like, Decides-and, Rules, seat_words, AreCalls, IsHistory, ◌≡◌, ℕ, ◌+◌, ◌≤◌, ltb, ◌==◌, Bool, true, false, List, [], ◌∷◌, ◌++◌, Decides, refl, sym, subst, arith, inl, inr, append_assoc, ◌&&◌, append-nil}
 use Rattle.fak_model.proofs.Appending.{seat_words-own, seat_words-other, history_none, history_push, history_prefix, last_calls, last_fair}
 use Rattle.fak_model.proofs.Deciding.{same_or_not}
 use Rattle.fak_model.proofs.Places.{ends, ends_push, CallsRun, may_come}

@@ -1,6 +1,5 @@
 -- What each call does first stays ahead in the marks of a seat, and of all seats.
-use Rattle.std.proofs.Common.{sym, ◌≡◌, ◌≢◌, ℕ, zero, suc, ◌+◌, ◌*◌, ◌<◌, ◌≤◌, ◌==◌, Bool, true, false, cond, List, [], ◌∷◌, ◌++◌, refl, ap, ◌∙◌, subst, arith, inl, inr, map, sum_by, flat_map}
-use Rattle.fak_model.proofs.Common.{nat_tests, sum_by-cons, sum_by_push, sum_by-append, All-head, All-tail, Rules, seat_words, Owes, AreCalls, IsHistory, IsAtRest, AreNamed, sum_below}
+use Rattle.fak_model.proofs.Common.{nat_tests, sum_by-cons, sum_by_push, sum_by-append, All-head, All-tail, Rules, seat_words, Owes, AreCalls, IsHistory, IsAtRest, AreNamed, sum_below, sym, ◌≡◌, ◌≢◌, ℕ, zero, suc, ◌+◌, ◌*◌, ◌<◌, ◌≤◌, ◌==◌, Bool, true, false, cond, List, [], ◌∷◌, ◌++◌, refl, ap, ◌∙◌, subst, arith, inl, inr, map, sum_by, flat_map}
 use Rattle.std.proofs.lemmas.List.{append-nil, map_push}
 use Rattle.fak_model.proofs.Deciding.{same_or_not}
 

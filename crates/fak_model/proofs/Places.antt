@@ -1,6 +1,5 @@
 -- Grammars in which each word has one place in a call.
-use Rattle.std.proofs.Common.{◌≡◌, ℕ, List, [], ◌∷◌, ◌++◌, refl, ap, sym, ◌∙◌, subst, append_assoc, flat_map, append-nil}
-use Rattle.fak_model.specs.Histories.{Owes, AreCalls}
+use Rattle.fak_model.proofs.Common.{◌≡◌, ℕ, List, [], ◌∷◌, ◌++◌, refl, ap, sym, ◌∙◌, subst, append_assoc, flat_map, append-nil, Owes, AreCalls}
 
 -- the place after these words
 abbrev pub ends : {W : Type 0} → (W → ℕ) → ℕ → List W → ℕ

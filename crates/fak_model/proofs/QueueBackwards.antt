@@ -1,8 +1,6 @@
 -- A history and its past: counts, marks and items are the same from either end.
-use Rattle.std.proofs.Common.{◌≡◌, ◌≢◌, ◌⊎◌, ℕ, zero, suc, ◌+◌, ◌==◌, cond, List, [], ◌∷◌, ◌++◌, length, length-append, reverse, Option, Some, refl, ap, sym, ◌∙◌, subst, arith, rules, inl, inr, All}
 use Rattle.std.proofs.lemmas.List.{append-nil, reverse-reverse}
-use Rattle.fak_model.proofs.Common.{All-cons, All-head, All-tail, flat_map-append, Kind, Put, Mark, count, puts, Has, Idle, items_put, item_in, item_at, Drew}
-use Rattle.fak_model.specs.QueuePast.{after, stage, item_put, item_of}
+use Rattle.fak_model.proofs.Common.{All-cons, All-head, All-tail, flat_map-append, Kind, Put, Mark, count, puts, Has, Idle, items_put, item_in, item_at, Drew, ◌≡◌, ◌≢◌, ◌⊎◌, ℕ, zero, suc, ◌+◌, ◌==◌, cond, List, [], ◌∷◌, ◌++◌, length, length-append, reverse, Option, Some, refl, ap, sym, ◌∙◌, subst, arith, rules, inl, inr, All, after, stage, item_put, item_of}
 use Rattle.fak_model.proofs.Appending.{snoc_ind}
 use Rattle.fak_model.proofs.Reversing.{reverse_cons, reverse_push, reverse_split, All-reverse}
 use Rattle.fak_model.proofs.Deciding.{cond_here, cond_else, same_or_not}

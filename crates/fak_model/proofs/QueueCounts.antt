@@ -1,8 +1,6 @@
 -- What the marks of a legal past add up to, seat by seat.
-use Rattle.std.proofs.Common.{◌≡◌, ◌≢◌, ◌⊎◌, ℕ, zero, suc, ◌+◌, ◌<◌, ◌≤◌, List, [], ◌∷◌, length, refl, ap, ◌∙◌, inl, inr, arith}
-use Rattle.fak_model.proofs.Common.{Kind, ClaimIn, OverIn, BackIn, Fill, EndIn, ClaimOut, OverOut, BackOut, EndOut, LateIn, Mark, count, puts, gots, upper_raise, upper_drop, lower_raise, lower_drop, Stage}
+use Rattle.fak_model.proofs.Common.{Kind, ClaimIn, OverIn, BackIn, Fill, EndIn, ClaimOut, OverOut, BackOut, EndOut, LateIn, Mark, count, puts, gots, upper_raise, upper_drop, lower_raise, lower_drop, Stage, ◌≡◌, ◌≢◌, ◌⊎◌, ℕ, zero, suc, ◌+◌, ◌<◌, ◌≤◌, List, [], ◌∷◌, length, refl, ap, ◌∙◌, inl, inr, arith, Idle, Withdrawing, Claimed, Putting, Filled, WithdrawingOut, ClaimedOut, Getting, Taken}
 use Rattle.fak_model.specs.QueuePast.{UpperBelow, LowerPositive, after, stage, IsNext, IsFair, IsLegalPast, HasNoOpenCall, SeatsBelow}
-use Rattle.fak_model.specs.declared.queue.Stage.TheVariants.{Idle, Withdrawing, Claimed, Putting, Filled, WithdrawingOut, ClaimedOut, Getting, Taken}
 use Rattle.fak_model.proofs.Deciding.{same_or_not}
 use Rattle.fak_model.proofs.QueueStages.{stage_here, stage_else}
 

@@ -1,7 +1,5 @@
 -- Whether a list of marks of a queue of numbers is legal, by the machine of pasts.
-use Rattle.std.proofs.Common.{◌≡◌, ◌⊎◌, ℕ, ◌+◌, ◌-◌, ◌<◌, ltb, ◌==◌, Bool, true, false, not, List, [], ◌∷◌, reverse, Option, Some, None, Decides, refl, ap, sym, subst, arith, inl, inr, ◌&&◌, ◌||◌}
-use Rattle.fak_model.proofs.Common.{cases_lt, Kind, ClaimIn, OverIn, BackIn, NoRoom, Put, Fill, EndIn, ClaimOut, OverOut, BackOut, NoItem, Got, Take, EndOut, Close, Closed, LateIn, Mark, Stage, Putting, Getting, count, gots, upper_raise, upper_drop, lower_raise, lower_drop, Has, IsQueueHistory}
-use Rattle.std.proofs.lemmas.Bool.Decides.{Decides-eqb, Decides-ltb, Decides-like, Decides-not, Decides-and, Decides-or}
+use Rattle.fak_model.proofs.Common.{cases_lt, Kind, ClaimIn, OverIn, BackIn, NoRoom, Put, Fill, EndIn, ClaimOut, OverOut, BackOut, NoItem, Got, Take, EndOut, Close, Closed, LateIn, Mark, Stage, Putting, Getting, count, gots, upper_raise, upper_drop, lower_raise, lower_drop, Has, IsQueueHistory, ◌≡◌, ◌⊎◌, ℕ, ◌+◌, ◌-◌, ◌<◌, ltb, ◌==◌, Bool, true, false, not, List, [], ◌∷◌, reverse, Option, Some, None, Decides, refl, ap, sym, subst, arith, inl, inr, ◌&&◌, ◌||◌, Decides-eqb, Decides-ltb, Decides-like, Decides-not, Decides-and, Decides-or}
 use Rattle.fak_model.specs.QueuePast.{UpperAtLeast, LowerNotPositive, stage, item_of, IsNext, IsFair, IsOldest, HasCell, MayFollow, IsLegalPast}
 use Rattle.fak_model.proofs.QueueWords.{place, at_idle, at_over_in, at_claimed_in, at_filled, at_over_out, at_claimed_out, at_taken}
 use Rattle.fak_model.proofs.QueueLiteral.{to_past, to_literal}

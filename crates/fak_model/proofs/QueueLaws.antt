@@ -1,7 +1,5 @@
 -- The laws of legal histories, over the literal definition.
-use Rattle.std.proofs.Common.{◌≡◌, ◌≢◌, ◌⊎◌, ℕ, ◌<◌, ◌≤◌, List, [], ◌∷◌, ◌++◌, length, length-drop, reverse, refl, ap, sym, ◌∙◌, subst, arith, inl, inr, append_assoc, pos, All}
-use Rattle.fak_model.proofs.Common.{ints, reverse-reverse, Kind, Fill, ClaimOut, Got, Take, Mark, seat_words, IsAtRest, count, puts, gots, upper_raise, upper_drop, lower_raise, lower_drop, Has, ClaimedOut, upper_count, lower_count, items_put, contents, words_of_call, queue_rules, IsQueueHistory}
-use Rattle.fak_model.specs.QueuePast.{after, stage, MayFollow, IsLegalPast, HasNoOpenCall}
+use Rattle.fak_model.proofs.Common.{ints, reverse-reverse, Kind, Fill, ClaimOut, Got, Take, Mark, seat_words, IsAtRest, count, puts, gots, upper_raise, upper_drop, lower_raise, lower_drop, Has, ClaimedOut, upper_count, lower_count, items_put, contents, words_of_call, queue_rules, IsQueueHistory, ◌≡◌, ◌≢◌, ◌⊎◌, ℕ, ◌<◌, ◌≤◌, List, [], ◌∷◌, ◌++◌, length, length-drop, reverse, refl, ap, sym, ◌∙◌, subst, arith, inl, inr, append_assoc, pos, All, after, stage, MayFollow, IsLegalPast, HasNoOpenCall}
 use Rattle.fak_model.specs.QueueOrder.{Deletion, KeepsCallOrder}
 use Rattle.fak_model.proofs.Appending.{history_prefix}
 use Rattle.fak_model.proofs.Places.{rests}

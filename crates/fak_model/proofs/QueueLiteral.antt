@@ -1,8 +1,6 @@
 -- The literal definition of a legal history and the one by stages are one.
-use Rattle.std.proofs.Common.{◌≡◌, ℕ, List, [], ◌∷◌, ◌++◌, reverse, refl, ap, sym, ◌∙◌, subst, arith, inl, inr}
-use Rattle.fak_model.proofs.Common.{ints, Kind, ClaimIn, OverIn, BackIn, NoRoom, Put, Fill, EndIn, ClaimOut, OverOut, BackOut, NoItem, Got, Take, EndOut, Close, Closed, LateIn, Mark, seat_words, Owes, count, puts, gots, upper_raise, upper_drop, lower_raise, lower_drop, Putting, Getting}
+use Rattle.fak_model.proofs.Common.{ints, Kind, ClaimIn, OverIn, BackIn, NoRoom, Put, Fill, EndIn, ClaimOut, OverOut, BackOut, NoItem, Got, Take, EndOut, Close, Closed, LateIn, Mark, seat_words, Owes, count, puts, gots, upper_raise, upper_drop, lower_raise, lower_drop, Putting, Getting, ◌≡◌, ℕ, List, [], ◌∷◌, ◌++◌, reverse, refl, ap, sym, ◌∙◌, subst, arith, inl, inr, word, words_of_call, IsFairAnswer, IsFirstOut, items_put, item_at, Drew, BearsTicket, HasItsCell, IsFairMark, queue_rules, IsQueueHistory}
 use Rattle.fak_model.specs.QueuePast.{after, stage, item_of, IsNext, IsFair, IsOldest, HasCell, MayFollow, IsLegalPast}
-use Rattle.fak_model.specs.Queue.{word, words_of_call, IsFairAnswer, IsFirstOut, items_put, item_at, Drew, BearsTicket, HasItsCell, IsFairMark, queue_rules, IsQueueHistory}
 use Rattle.fak_model.proofs.Appending.{snoc_ind, seat_words-own, seat_words-other, history_none, history_push, history_front, last_calls, last_fair}
 use Rattle.fak_model.proofs.Deciding.{same_or_not}
 use Rattle.fak_model.proofs.QueueStages.{stage_here, stage_else, after_putting, after_getting}

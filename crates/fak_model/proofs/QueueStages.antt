@@ -1,6 +1,5 @@
 -- The stage of each seat after one more mark.
-use Rattle.std.proofs.Common.{◌≡◌, ◌≢◌, ◌⊎◌, ℕ, List, ◌∷◌, refl, sym, ap, ◌∙◌, inl, inr}
-use Rattle.fak_model.proofs.Common.{Kind, Put, Got, Mark, count, puts, gots, after, stage, Putting, Getting}
+use Rattle.fak_model.proofs.Common.{Kind, Put, Got, Mark, count, puts, gots, after, stage, Putting, Getting, ◌≡◌, ◌≢◌, ◌⊎◌, ℕ, List, ◌∷◌, refl, sym, ap, ◌∙◌, inl, inr}
 use Rattle.fak_model.proofs.Deciding.{same_or_not, cond_here, cond_else}
 
 pub stage_here : {A : Type 0} (m : Mark A) (h : List (Mark A)) → stage (m ∷ h) m.seat ≡ after h m.kind

@@ -1,7 +1,5 @@
 -- Each ticket has one inserter and one deleter, and its cell is filled and emptied by them alone.
-use Rattle.std.proofs.Common.{◌≡◌, ◌≢◌, ◌⊎◌, ℕ, ◌<◌, ◌≤◌, ◌==◌, cond, List, [], ◌∷◌, Option, Some, refl, sym, ap, ◌∙◌, subst, inl, inr, arith}
-use Rattle.fak_model.proofs.Common.{Kind, Put, Fill, Take, Mark, count, puts, gots, Has, Putting, Getting}
-use Rattle.fak_model.specs.QueuePast.{stage, item_put, item_of, MayFollow, IsLegalPast}
+use Rattle.fak_model.proofs.Common.{Kind, Put, Fill, Take, Mark, count, puts, gots, Has, Putting, Getting, ◌≡◌, ◌≢◌, ◌⊎◌, ℕ, ◌<◌, ◌≤◌, ◌==◌, cond, List, [], ◌∷◌, Option, Some, refl, sym, ap, ◌∙◌, subst, inl, inr, arith, stage, item_put, item_of, MayFollow, IsLegalPast}
 use Rattle.fak_model.proofs.Deciding.{cond_here, cond_else, same_or_not}
 use Rattle.fak_model.proofs.QueueStages.{putting_back, getting_back}
 

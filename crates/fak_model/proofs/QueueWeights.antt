@@ -1,9 +1,6 @@
 -- What the marks of a legal history of a queue weigh.
-use Rattle.std.proofs.Common.{◌≡◌, ℕ, zero, suc, ◌+◌, ◌<◌, ◌≤◌, List, [], ◌∷◌, ◌++◌, length, get_or, take, length-drop, reverse, Some, refl, ap, sym, ◌∙◌, subst, arith, inl, inr, sum_by}
 use Rattle.std.proofs.lemmas.List.{append-nil, take-append-le, take_more, nil_from_length}
-use Rattle.fak_model.proofs.Common.{cases_lt, Kind, Put, Fill, Got, Take, Close, Closed, LateIn, Mark, put_of, got_of, close_of, closed_of}
-use Rattle.std.proofs.lemmas.List.Sums.{sum_by-append, sum_by_push, sum_by-take-drop}
-use Rattle.fak_model.specs.Queue.{queue_rules, IsQueueHistory, IsFairMark, IsFirstOut, count, puts, gots, items_put, item_in, item_at, contents, Has, Drew, BearsTicket, HasItsCell}
+use Rattle.fak_model.proofs.Common.{cases_lt, Kind, Put, Fill, Got, Take, Close, Closed, LateIn, Mark, put_of, got_of, close_of, closed_of, ◌≡◌, ℕ, zero, suc, ◌+◌, ◌<◌, ◌≤◌, List, [], ◌∷◌, ◌++◌, length, get_or, take, length-drop, reverse, Some, refl, ap, sym, ◌∙◌, subst, arith, inl, inr, sum_by, sum_by-append, sum_by_push, sum_by-take-drop, queue_rules, IsQueueHistory, IsFairMark, IsFirstOut, count, puts, gots, items_put, item_in, item_at, contents, Has, Drew, BearsTicket, HasItsCell}
 use Rattle.fak_model.specs.QueuePast.{IsFair, IsLegalPast}
 use Rattle.fak_model.proofs.Appending.{snoc_ind, history_front, last_fair}
 use Rattle.fak_model.proofs.QueueBackwards.{count_append, count_reverse, items_push, items_count}

@@ -1,8 +1,6 @@
 -- The order of words within the calls of a seat: each word has one place in a call.
-use Rattle.std.proofs.Common.{◌≡◌, ℕ, List, [], ◌∷◌, ◌++◌, refl, subst}
-use Rattle.fak_model.proofs.Common.{Kind, ClaimIn, OverIn, BackIn, NoRoom, Put, Fill, EndIn, ClaimOut, OverOut, BackOut, NoItem, Got, Take, EndOut, Close, Closed, LateIn, Owes, after, IsNext, Stage, Mark}
+use Rattle.fak_model.proofs.Common.{Kind, ClaimIn, OverIn, BackIn, NoRoom, Put, Fill, EndIn, ClaimOut, OverOut, BackOut, NoItem, Got, Take, EndOut, Close, Closed, LateIn, Owes, after, IsNext, Stage, Mark, ◌≡◌, ℕ, List, [], ◌∷◌, ◌++◌, refl, subst, Idle, Withdrawing, Claimed, Putting, Filled, WithdrawingOut, ClaimedOut, Getting, Taken}
 use Rattle.fak_model.specs.Queue.{Word, word, WholeCall, NotIn, WithdrawnIn, Inserted, NotOut, WithdrawnOut, Deleted, Shut, ClosedIn, WithdrawnLate, words_of_call}
-use Rattle.fak_model.specs.declared.queue.Stage.TheVariants.{Idle, Withdrawing, Claimed, Putting, Filled, WithdrawingOut, ClaimedOut, Getting, Taken}
 use Rattle.fak_model.proofs.Appending.{owed_comes, call_begins}
 use Rattle.fak_model.proofs.Places.{CallsRun}
 

@@ -1,6 +1,5 @@
 -- Names that stand between two calls, as they make calls and are joined.
-use Rattle.std.proofs.Common.{◌≡◌, ℕ, ◌<◌, ◌≤◌, List, [], ◌∷◌, ◌++◌, refl, ap, sym, ◌∙◌, subst, inl, inr, map, flat_map}
-use Rattle.fak_model.proofs.Common.{cases_lt, flat_map-append, Rules, seat_words, Owes, AreNamed, IsAtRest, In, marks_of, IsWhole, TallyInfo, SeatInfo, IsJoined, AreBetweenCalls}
+use Rattle.fak_model.proofs.Common.{cases_lt, flat_map-append, Rules, seat_words, Owes, AreNamed, IsAtRest, In, marks_of, IsWhole, TallyInfo, SeatInfo, IsJoined, AreBetweenCalls, ◌≡◌, ℕ, ◌<◌, ◌≤◌, List, [], ◌∷◌, ◌++◌, refl, ap, sym, ◌∙◌, subst, inl, inr, map, flat_map}
 use Rattle.std.proofs.lemmas.List.{append-nil, map-append}
 use Rattle.fak_model.proofs.Seats.{in_either}
 use Rattle.fak_model.proofs.SeatWeights.{none_beyond}

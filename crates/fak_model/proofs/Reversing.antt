@@ -1,6 +1,5 @@
 -- Lists from their other end.
-use Rattle.std.proofs.Common.{◌≡◌, List, [], ◌∷◌, ◌++◌, reverse, ap, ◌∙◌, sym, subst, rules, append_assoc, All}
-use Rattle.fak_model.proofs.Common.{reverse-append, All-append, All-head, All-tail}
+use Rattle.fak_model.proofs.Common.{reverse-append, All-append, All-head, All-tail, ◌≡◌, List, [], ◌∷◌, ◌++◌, reverse, ap, ◌∙◌, sym, subst, rules, append_assoc, All}
 
 pub reverse_cons : {A : Type 0} (x : A) (xs : List A) → reverse (x ∷ xs) ≡ reverse xs ++ x ∷ []
 reverse_cons x xs = reverse-append (x ∷ []) xs

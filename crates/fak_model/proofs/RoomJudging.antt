@@ -1,6 +1,5 @@
 -- Whether a list of marks is a room's history.
-use Rattle.std.proofs.Common.{ℕ, zero, suc, ◌+◌, ltb, Bool, true, List, [], ◌∷◌, ◌++◌, Decides, refl, arith}
-use Rattle.fak_model.proofs.Common.{Decides-like, Decides-ltb, ints, RoomKind, Up, Over, Back, No, Release, RoomMark, Owes}
+use Rattle.fak_model.proofs.Common.{Decides-like, Decides-ltb, ints, RoomKind, Up, Over, Back, No, Release, RoomMark, Owes, ℕ, zero, suc, ◌+◌, ltb, Bool, true, List, [], ◌∷◌, ◌++◌, Decides, refl, arith}
 use Rattle.fak_model.specs.Room.{Granted, Refused, Withdrawn, Released, kinds_of_call, total, up_amount, over_amount, back_amount, release_amount, amount_held, IsFair, room_rules, IsRoomHistory}
 use Rattle.fak_model.proofs.Appending.{owed_comes, call_begins}
 use Rattle.fak_model.proofs.Places.{CallsRun}

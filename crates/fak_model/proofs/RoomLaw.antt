@@ -1,6 +1,5 @@
 -- The law of a room.
-use Rattle.std.proofs.Common.{◌≡◌, ◌≢◌, ◌⊎◌, ℕ, ◌+◌, ◌-◌, ◌<◌, ◌≤◌, List, [], ◌∷◌, ◌++◌, Some, refl, ap, sym, ◌∙◌, subst, arith, inl, inr, pos, sum_by}
-use Rattle.fak_model.proofs.Common.{ints, sum_by_push, All-pop, RoomKind, Up, Over, Back, No, Release, RoomMark, seat_words, IsAtRest, AreNamed, sum_below}
+use Rattle.fak_model.proofs.Common.{ints, sum_by_push, All-pop, RoomKind, Up, Over, Back, No, Release, RoomMark, seat_words, IsAtRest, AreNamed, sum_below, ◌≡◌, ◌≢◌, ◌⊎◌, ℕ, ◌+◌, ◌-◌, ◌<◌, ◌≤◌, List, [], ◌∷◌, ◌++◌, Some, refl, ap, sym, ◌∙◌, subst, arith, inl, inr, pos, sum_by}
 use Rattle.fak_model.specs.Room.{WholeCall, Granted, Refused, Withdrawn, Released, kinds_of_call, kind_of, total, up_amount, over_amount, back_amount, release_amount, amount_held, IsFair, value, room_rules, IsRoomHistory}
 use Rattle.fak_model.proofs.Appending.{snoc_ind, seat_words-own, seat_words-other, history_front, last_fair}
 use Rattle.fak_model.proofs.Leading.{CallsLead, history_leads, rest_even, total_push, sum_one, sum_none}

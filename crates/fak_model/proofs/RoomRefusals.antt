@@ -1,6 +1,5 @@
 -- A claim of 1 is refused only where so many were granted as the bound says.
-use Rattle.std.proofs.Common.{◌≡◌, ℕ, ◌+◌, ◌<◌, ◌≤◌, List, refl, arith, inl, inr}
-use Rattle.fak_model.proofs.Common.{ints, cases_lt, nat_tests, RoomKind, Up, Over, Back, No, Release, RoomMark, AreNamed, refusal_of, other_amount}
+use Rattle.fak_model.proofs.Common.{ints, cases_lt, nat_tests, RoomKind, Up, Over, Back, No, Release, RoomMark, AreNamed, refusal_of, other_amount, ◌≡◌, ℕ, ◌+◌, ◌<◌, ◌≤◌, List, refl, arith, inl, inr}
 use Rattle.fak_model.specs.Room.{kind_of, total, up_amount, over_amount, back_amount, release_amount, IsFair, room_rules, IsRoomHistory}
 use Rattle.fak_model.proofs.Appending.{snoc_ind, history_front, last_fair}
 use Rattle.fak_model.proofs.Leading.{total_push}

@@ -1,9 +1,6 @@
 -- From the steps of a seat to what its calls promise: histories with the oldest mark first.
-use Rattle.std.proofs.Common.{◌≡◌, ◌≢◌, ℕ, zero, suc, ◌==◌, Bool, true, false, cond, List, [], ◌∷◌, ◌++◌, length, refl, ap, sym, ◌∙◌, subst, arith, inl, append_assoc, Some, reverse}
-use Rattle.fak_model.proofs.Common.{nat_tests, View, Rules, IsHistory, AreNamed, Begins, In, marks_of, Knows, Object, Leaves, ObjectId, SeatInfo, seat_info, mine_of, last_of, Appends, before_mark, IsSeatToken}
+use Rattle.fak_model.proofs.Common.{nat_tests, View, Rules, IsHistory, AreNamed, Begins, In, marks_of, Knows, Object, Leaves, ObjectId, SeatInfo, seat_info, mine_of, last_of, Appends, before_mark, IsSeatToken, ◌≡◌, ◌≢◌, ℕ, zero, suc, ◌==◌, Bool, true, false, cond, List, [], ◌∷◌, ◌++◌, length, refl, ap, sym, ◌∙◌, subst, arith, inl, append_assoc, Some, reverse, Me, sight, HasOneName, Foreign, AreOwn, Sees}
 use Rattle.std.proofs.lemmas.List.{append-nil, reverse-append}
-use Rattle.atomic_table.specs.Table.{Me}
-use Rattle.fak_model.specs.Views.{sight, HasOneName, Foreign, AreOwn, Sees}
 use Rattle.fak_model.proofs.Seats.{marks_of_append}
 use Rattle.fak_model.proofs.RunningViews.{sees_begins}
 

@@ -1,14 +1,9 @@
 -- What a tally knows once a seat was joined, and how the seats of a new object are dealt.
-use Rattle.std.proofs.Common.{◌≡◌, ◌⊎◌, ℕ, zero, suc, ◌+◌, ◌-◌, ◌*◌, ◌/◌, ◌<◌, ◌≤◌, Bool, true, false, cond, nat_lt, List, [], ◌∷◌, ◌++◌, length, refl, ap, sym, ◌∙◌, subst, arith, inl, inr, Some, suc-mul, reverse, IsTrue, ◌↔◌}
-use Rattle.fak_model.proofs.Common.{length-reverse, View, IsHistory, AreNamed, Begins, In, IsWhole, Knows, longer_of, ObjectId, object_id, SeatInfo, seat_info, fresh_seats, TallyInfo, tally_info, IsJoined}
+use Rattle.fak_model.proofs.Common.{length-reverse, View, IsHistory, AreNamed, Begins, In, IsWhole, Knows, longer_of, ObjectId, object_id, SeatInfo, seat_info, fresh_seats, TallyInfo, tally_info, IsJoined, ◌≡◌, ◌⊎◌, ℕ, zero, suc, ◌+◌, ◌-◌, ◌*◌, ◌/◌, ◌<◌, ◌≤◌, Bool, true, false, cond, nat_lt, List, [], ◌∷◌, ◌++◌, length, refl, ap, sym, ◌∙◌, subst, arith, inl, inr, Some, suc-mul, reverse, IsTrue, ◌↔◌, Me, Splits, Joins, sight, Sees, names_from, first_name, later_names, dealt, kept, joined, spent, settled, Object, IsShown, Hears, IsSeatToken, IsTallyToken}
 use Rattle.std.proofs.Math.Nat.{mul-div_cancel_left}
-use Rattle.atomic_table.specs.Table.{Me, Splits, Joins}
-use Rattle.fak_model.specs.Views.{sight, Sees, names_from, first_name, later_names, dealt, kept, joined, spent, settled}
-use Rattle.fak_model.specs.Shown.{Object, IsShown, Hears}
 use Rattle.atomic_table.specs.Seated.{TableId}
 use Rattle.fak_model.specs.declared.name_set.NameSet.{NameSet}
 use Rattle.fak_model.specs.Names.{Has, HasJust}
-use Rattle.fak_model.specs.Tokens.{IsSeatToken, IsTallyToken}
 use Rattle.fak_model.proofs.Seats.{in_left, in_right, in_either}
 use Rattle.fak_model.proofs.RunningViews.{sees_all, sees_begins, length-names_from, names_apart}
 use Rattle.fak_model.proofs.RunningSeats.{splits, joins}

@@ -1,10 +1,7 @@
 -- How a running object begins, and how its seats are dealt, joined and told what they saw together.
-use Rattle.std.proofs.Common.{◌≡◌, ◌≢◌, ◌⊎◌, ℕ, zero, suc, ◌+◌, ◌<◌, ◌≤◌, List, [], ◌∷◌, ◌++◌, length, set, map, refl, ap, sym, ◌∙◌, subst, arith, inl, inr, ⊎_elim, Some}
 use Rattle.std.proofs.Math.Nat.{div-le_self}
-use Rattle.fak_model.proofs.Common.{some, some-injective, some-ne-none, get_elem?, View, AreNamed, In}
-use Rattle.atomic_table.specs.Table.{Me, keeps, opening, Allows, Splits, Joins}
+use Rattle.fak_model.proofs.Common.{some, some-injective, some-ne-none, get_elem?, View, AreNamed, In, ◌≡◌, ◌≢◌, ◌⊎◌, ℕ, zero, suc, ◌+◌, ◌<◌, ◌≤◌, List, [], ◌∷◌, ◌++◌, length, set, map, refl, ap, sym, ◌∙◌, subst, arith, inl, inr, ⊎_elim, Some, Me, keeps, opening, Allows, Splits, Joins, Sees, opened, first_name, later_names, share_of, dealt, kept, joined, spent, settled}
 use Rattle.atomic_table.proofs.Lists.{set_else}
-use Rattle.fak_model.specs.Views.{Sees, opened, first_name, later_names, share_of, dealt, kept, joined, spent, settled}
 use Rattle.fak_model.specs.Shown.{Object, total, IsShown, Hears}
 use Rattle.fak_model.proofs.Seats.{in_either}
 use Rattle.fak_model.proofs.RunningViews.{sees_all, sees_nothing, sees_fewer, first_in, later_in, in_names_from, sees_lawful, sees_named, Compared, compared}

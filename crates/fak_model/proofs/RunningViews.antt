@@ -1,8 +1,6 @@
 -- What views know after a step of their own or of another, and when two are joined.
-use Rattle.std.proofs.Common.{◌≡◌, ℕ, zero, suc, ◌+◌, ◌<◌, ◌≤◌, true, false, Bool, cond, nat_lt, List, [], ◌∷◌, ◌++◌, length, length-append, refl, ap, sym, ◌∙◌, subst, arith, inl, inr, append_assoc, reverse, All}
-use Rattle.fak_model.proofs.Common.{nat_tests, All-head, All-tail, Rules, IsHistory, AreNamed, Begins, In, IsWhole, longer_of}
+use Rattle.fak_model.proofs.Common.{nat_tests, All-head, All-tail, Rules, IsHistory, AreNamed, Begins, In, IsWhole, longer_of, ◌≡◌, ℕ, zero, suc, ◌+◌, ◌<◌, ◌≤◌, true, false, Bool, cond, nat_lt, List, [], ◌∷◌, ◌++◌, length, length-append, refl, ap, sym, ◌∙◌, subst, arith, inl, inr, append_assoc, reverse, All, Foreign, AreOwn, Sees, names_from, first_name, later_names, shorter_of}
 use Rattle.std.proofs.lemmas.List.{append-nil, reverse-append}
-use Rattle.fak_model.specs.Views.{Foreign, AreOwn, Sees, names_from, first_name, later_names, shorter_of}
 use Rattle.fak_model.proofs.Seats.{in_either, seen_lawful}
 use Rattle.fak_model.proofs.Reversing.{All-reverse}
 

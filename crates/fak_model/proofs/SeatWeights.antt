@@ -1,7 +1,5 @@
 -- What tallies know, name by name, and what an only seat knows.
-use Rattle.std.proofs.Common.{◌≡◌, ◌⊎◌, ℕ, suc, ◌+◌, ◌<◌, ◌≤◌, ◌==◌, Bool, true, false, cond, List, [], ◌∷◌, ◌++◌, length, refl, ap, sym, ◌∙◌, subst, arith, inl, inr, ◌||◌, All, sum_by, append-nil}
-use Rattle.std.proofs.lemmas.Bool.{false_from_ne_true}
-use Rattle.fak_model.proofs.Common.{nat_tests, sum_by-cons, filter-append, All-head, All-tail, All-cons, All-nil, In, is_in, marks_of, mine, Knows, before_mark}
+use Rattle.fak_model.proofs.Common.{nat_tests, sum_by-cons, filter-append, All-head, All-tail, All-cons, All-nil, In, is_in, marks_of, mine, Knows, before_mark, ◌≡◌, ◌⊎◌, ℕ, suc, ◌+◌, ◌<◌, ◌≤◌, ◌==◌, Bool, true, false, cond, List, [], ◌∷◌, ◌++◌, length, refl, ap, sym, ◌∙◌, subst, arith, inl, inr, ◌||◌, All, sum_by, append-nil, false_from_ne_true}
 use Rattle.fak_model.proofs.Seats.{between_foreign}
 
 -- ---- names

@@ -1,6 +1,5 @@
 -- What seats and tallies know, after a step and after a join.
-use Rattle.std.proofs.Common.{◌≡◌, ◌⊎◌, ℕ, ◌<◌, ◌≤◌, ◌==◌, true, false, cond, nat_lt, List, [], ◌∷◌, ◌++◌, length, refl, ap, sym, ◌∙◌, subst, arith, inl, inr, ◌||◌, All, append-nil}
-use Rattle.fak_model.proofs.Common.{nat_tests, filter-append, All-head, All-tail, Rules, IsHistory, Begins, In, is_in, marks_of, mine, Knows, longer_of, IsWhole}
+use Rattle.fak_model.proofs.Common.{nat_tests, filter-append, All-head, All-tail, Rules, IsHistory, Begins, In, is_in, marks_of, mine, Knows, longer_of, IsWhole, ◌≡◌, ◌⊎◌, ℕ, ◌<◌, ◌≤◌, ◌==◌, true, false, cond, nat_lt, List, [], ◌∷◌, ◌++◌, length, refl, ap, sym, ◌∙◌, subst, arith, inl, inr, ◌||◌, All, append-nil}
 use Rattle.fak_model.proofs.Appending.{history_prefix}
 
 pub begins_self : {M : Type 0} (h : List M) → Begins h h

@@ -1,10 +1,8 @@
 -- Some element weighs something exactly where all together do.
-use Rattle.std.proofs.Common.{◌≡◌, ℕ, ◌+◌, nat_lt, Bool, true, false, List, [], ◌∷◌, refl, ap, sym, ◌∙◌, arith, map}
+use Rattle.fak_process.proofs.Common.{◌≡◌, ℕ, ◌+◌, nat_lt, Bool, true, false, List, [], ◌∷◌, refl, ap, sym, ◌∙◌, arith, map, nat_tests, sum_by-cons, shuts_of}
 use Rattle.std.specs.List.{list_any, sum_by}
-use Rattle.fak_model.proofs.Common.{nat_tests, sum_by-cons}
 use Rattle.fak_text.specs.declared.steps.Note.{Note}
 use Rattle.fak_text.specs.Views.{note_of}
-use Rattle.fak_process.specs.Ledger.{shuts_of}
 use Rattle.fak_process.proofs.Sums.{sum_by-map}
 
 pub any_weighs : {A : Type 0} (f : A → ℕ) (xs : List A) → list_any (λ x. nat_lt 0 (f x)) xs ≡ nat_lt 0 (sum_by f xs)

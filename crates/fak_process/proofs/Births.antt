@@ -1,9 +1,5 @@
 -- The children of all processes.
-use Rattle.std.proofs.Common.{◌≡◌, ℕ, ◌+◌, ◌<◌, ◌≤◌, List, [], ◌∷◌, ◌++◌, length, slice_get, Some, refl, ap, sym, ◌∙◌, subst, arith, sum_by, append-nil}
-use Rattle.fak_model.proofs.Common.{sum_by-append, up_amount, release_amount, refusal_of, other_amount}
-use Rattle.fak_text.proofs.Common.{ScriptOf, StepOf, steps_of, spawn, NoteOf, spawned, Process, births_of, child_count, Allows, FitsFrom}
-use Rattle.fak_process.proofs.Common.{RowOf, Ledger, Made, Named, named, child, after_made, IsMade, notes, no_births_of, no_slots_of, Histories, Gathered, begun_names, asleep}
-use Rattle.fak_process.specs.Promises.{children_from, children_of}
+use Rattle.fak_process.proofs.Common.{RowOf, Ledger, Made, Named, named, child, after_made, IsMade, notes, no_births_of, no_slots_of, Histories, Gathered, begun_names, asleep, ◌≡◌, ℕ, ◌+◌, ◌<◌, ◌≤◌, List, [], ◌∷◌, ◌++◌, length, slice_get, Some, refl, ap, sym, ◌∙◌, subst, arith, sum_by, append-nil, sum_by-append, up_amount, release_amount, refusal_of, other_amount, ScriptOf, StepOf, steps_of, spawn, NoteOf, spawned, Process, births_of, child_count, Allows, FitsFrom, children_from, children_of}
 use Rattle.fak_process.proofs.Sums.{sum_by-map, sum_by_plus, sum_by-zeros}
 use Rattle.fak_process.proofs.Conserved.{conserved, grown, fresh}
 use Rattle.fak_model.proofs.RoomRefusals.{refused_at_bound, granted_fit}

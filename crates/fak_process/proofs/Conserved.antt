@@ -1,10 +1,6 @@
 -- What the ledgers of all processors and the whole histories conserve.
-use Rattle.std.proofs.Common.{◌≡◌, ℕ, zero, suc, ◌+◌, ◌≤◌, List, [], ◌∷◌, length, refl, ap, sym, ◌∙◌, arith, sum_by}
-use Rattle.fak_model.proofs.Common.{ints, length-map, sum_by-append, sum_by_push, contents, debit_weight, credit_weight, put_of, got_of}
-use Rattle.fak_text.proofs.Common.{ScriptOf, NoteOf, Process}
-use Rattle.fak_process.proofs.Common.{RowOf, Ledger, Made, named, after_made, IsMade, waiting, notes, Histories, Gathered, begun_names, asleep, lines, lines_of}
+use Rattle.fak_process.proofs.Common.{RowOf, Ledger, Made, named, after_made, IsMade, waiting, notes, Histories, Gathered, begun_names, asleep, lines, lines_of, ◌≡◌, ℕ, zero, suc, ◌+◌, ◌≤◌, List, [], ◌∷◌, length, refl, ap, sym, ◌∙◌, arith, sum_by, ints, length-map, sum_by-append, sum_by_push, contents, debit_weight, credit_weight, put_of, got_of, ScriptOf, NoteOf, Process, queue_weighs, nothing_left, puts_weigh, gots_weigh_one}
 use Rattle.fak_process.proofs.Sums.{sum_by-ones, sum_by_nothing, sum_by_plus}
-use Rattle.fak_model.proofs.QueueWeights.{queue_weighs, nothing_left, puts_weigh, gots_weigh_one}
 
 pub length-begun : (i : ℕ) (programs : List ℕ) → length (begun_names i programs) ≡ length programs
 length-begun i [] = refl

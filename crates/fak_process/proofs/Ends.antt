@@ -1,7 +1,6 @@
 -- The list scheduler ends in one way.
-use Rattle.std.proofs.Common.{◌≡◌, ℕ, zero, suc, ◌≤◌, ◌⊎◌, [], arith, ap, sym, ◌∙◌, inl, inr}
+use Rattle.fak_process.proofs.Common.{◌≡◌, ℕ, zero, suc, ◌≤◌, ◌⊎◌, [], arith, ap, sym, ◌∙◌, inl, inr, Lists, State, turn_over, take_front, step, steps, opening, EndsIn}
 use Rattle.fak_text.specs.Script.{ScriptOf}
-use Rattle.fak_process.specs.ListScheduler.{Lists, State, turn_over, take_front, step, steps, opening, EndsIn}
 
 -- a still machine stays as it is
 step-still : (script : ScriptOf) (l : Lists) → l.ready ≡ [] → step script (turn_over l) ≡ turn_over l

@@ -1,14 +1,7 @@
 -- The entries after one mark more.
-use Rattle.std.proofs.Common.{◌≡◌, ◌≢◌, ℕ, zero, suc, ◌+◌, ◌<◌, ◌==◌, true, false, List, [], ◌∷◌, ◌++◌, refl, ap, sym, ◌∙◌, subst, arith}
-use Rattle.fak_model.proofs.Common.{nat_tests, field, field_after}
-use Rattle.fak_model.specs.declared.file.FileEntry.{FileEntry}
-use Rattle.fak_model.specs.declared.file.FileField.{FileField}
-use Rattle.fak_model.specs.declared.file.FileField.TheVariants.{Inode, Uses}
-use Rattle.fak_model.specs.declared.file.FileKind.TheVariants.{Set}
-use Rattle.fak_model.specs.declared.file.FileMark.{FileMark}
+use Rattle.fak_process.proofs.Common.{◌≡◌, ◌≢◌, ℕ, zero, suc, ◌+◌, ◌<◌, ◌==◌, true, false, List, [], ◌∷◌, ◌++◌, refl, ap, sym, ◌∙◌, subst, arith, nat_tests, field, field_after, FileEntry, FileField, Inode, Uses, Set, FileMark, with_field, set_in}
 use Rattle.fak_files.proofs.Common.{entry_of, entries_after}
 use Rattle.fak_files.proofs.WordPlaces.{field-push}
-use Rattle.fak_process.specs.Holds.{with_field, set_in}
 
 -- the fields of an entry make it
 entry_by : (i u j v : ℕ) → i ≡ j → u ≡ v → ◌≡◌ {A = FileEntry} (record { inode = i; uses = u }) (record { inode = j; uses = v })

@@ -1,8 +1,5 @@
 -- The lists of all seats together.
-use Rattle.std.proofs.Common.{◌≡◌, ◌≢◌, ℕ, zero, suc, ◌+◌, ◌<◌, ◌≤◌, List, [], ◌∷◌, ◌++◌, refl, sym, subst, arith, inl, inr, IsPermutation}
-use Rattle.std.proofs.lemmas.List.Sorted.{IsPermutation-refl, IsPermutation-trans, IsPermutation-append_right, IsPermutation-middle}
-use Rattle.fak_model.proofs.Deciding.{same_or_not}
-use Rattle.fak_process.specs.Holds.{gather_from}
+use Rattle.fak_process.proofs.Common.{◌≡◌, ◌≢◌, ℕ, zero, suc, ◌+◌, ◌<◌, ◌≤◌, List, [], ◌∷◌, ◌++◌, refl, sym, subst, arith, inl, inr, IsPermutation, IsPermutation-refl, IsPermutation-trans, IsPermutation-append_right, IsPermutation-middle, same_or_not, gather_from}
 
 pub gather_same : {A : Type 0} (f g : ℕ → List A) (first n : ℕ) → ((s : ℕ) → first ≤ s → s < first + n → f s ≡ g s) → gather_from f first n ≡ gather_from g first n
 gather_same f g first zero same = refl

@@ -1,22 +1,14 @@
 -- What a seat knows of its hold: from the calls of one hold to its line.
-use Rattle.std.proofs.Common.{◌≡◌, ◌⊎◌, ℕ, ◌<◌, ◌==◌, Bool, true, false, cond, List, [], ◌∷◌, ◌++◌, Some, refl, ap, sym, ◌∙◌, subst, arith, inl, inr, append_assoc, map, filter, flat_map}
-use Rattle.fak_model.proofs.Common.{nat_tests, All-nil, All-head, All-tail, All-push, filter-append, flat_map-append, AreNamed, words_by, Setting, set_mark, WholeCall, Refused, Withdrawn, kinds_of_call, seat_of, kind_of, file_rules, IsFileHistory, ObjectId, SeatInfo, seat_info, last_of, Begins, marks_of}
+use Rattle.fak_process.proofs.Common.{◌≡◌, ◌⊎◌, ℕ, ◌<◌, ◌==◌, Bool, true, false, cond, List, [], ◌∷◌, ◌++◌, Some, refl, ap, sym, ◌∙◌, subst, arith, inl, inr, append_assoc, map, filter, flat_map, nat_tests, All-nil, All-head, All-tail, All-push, filter-append, flat_map-append, AreNamed, words_by, Setting, set_mark, WholeCall, Refused, Withdrawn, kinds_of_call, seat_of, kind_of, file_rules, IsFileHistory, ObjectId, SeatInfo, seat_info, last_of, Begins, marks_of, FileEntry, FileKind, Take, Over, Back, No, Give, FileMark, history_none, FileSeatInfo, LeavesMarks, amount_for, AreRefused, IsWaitedFor, IsGot, entries_after, set_all, IsFitHold, is_of_hold, held_kinds, kinds_of_hold, reads_from, reads_of, hold_line, read_of, AreHolds}
 use Rattle.std.proofs.lemmas.List.{append-nil, map-append}
-use Rattle.fak_model.specs.declared.file.FileEntry.{FileEntry}
-use Rattle.fak_model.specs.declared.file.FileKind.{FileKind}
-use Rattle.fak_model.specs.declared.file.FileKind.TheVariants.{Take, Over, Back, No, Give}
-use Rattle.fak_model.specs.declared.file.FileMark.{FileMark}
-use Rattle.fak_model.proofs.Appending.{history_none}
 use Rattle.fak_model.proofs.Seats.{marks_of_append}
 use Rattle.fak_files.specs.declared.phase.Access.{Access}
 use Rattle.fak_files.specs.declared.phase.Access.TheVariants.{Write}
 use Rattle.fak_files.specs.Shown.{mark}
 use Rattle.fak_files.specs.Versions.{entry_of, is_take, is_take_of, prefix_through_take, marks_since_take}
-use Rattle.fak_files.specs.Calls.{FileSeatInfo, LeavesMarks, amount_for, AreRefused, IsWaitedFor, IsGot, entries_after}
 use Rattle.fak_files.proofs.HoldLaws.{reads_stay, take_reads}
 use Rattle.fak_text.specs.Journal.{NoteOf}
 use Rattle.fak_process.specs.Replays.{Steps}
-use Rattle.fak_process.specs.Holds.{set_all, IsFitHold, is_of_hold, held_kinds, kinds_of_hold, reads_from, reads_of, hold_line, read_of, AreHolds}
 use Rattle.fak_process.specs.Making.{Left, HasJustTaken, HasMade, AreLines}
 use Rattle.fak_process.proofs.Entries.{entries-same}
 

@@ -1,10 +1,5 @@
 -- Each name once.
-use Rattle.std.proofs.Common.{◌≡◌, ◌⊎◌, ℕ, suc, ◌+◌, ◌≤◌, ◌==◌, nat_lt, Bool, true, false, cond, List, [], ◌∷◌, ◌++◌, get_or, refl, ap, ◌∙◌, arith, inl, inr, ◌&&◌, sum_by, All, AllPairs}
-use Rattle.fak_model.proofs.Common.{nat_tests, sum_by-append, sum_by-cons}
-use Rattle.fak_model.proofs.Appending.{snoc_ind}
-use Rattle.fak_text.proofs.Common.{ScriptOf, StepOf, steps_of, spawn, NoteOf, spawned, births_of, Allows, FitsFrom}
-use Rattle.fak_process.proofs.Common.{RowOf, Named, named, child, FitsRow, begun_names}
-use Rattle.fak_process.specs.Promises.{children_from, children_of}
+use Rattle.fak_process.proofs.Common.{RowOf, Named, named, child, FitsRow, begun_names, ◌≡◌, ◌⊎◌, ℕ, suc, ◌+◌, ◌≤◌, ◌==◌, nat_lt, Bool, true, false, cond, List, [], ◌∷◌, ◌++◌, get_or, refl, ap, ◌∙◌, arith, inl, inr, ◌&&◌, sum_by, All, AllPairs, nat_tests, sum_by-append, sum_by-cons, snoc_ind, ScriptOf, StepOf, steps_of, spawn, NoteOf, spawned, births_of, Allows, FitsFrom, children_from, children_of}
 use Rattle.fak_process.proofs.Sums.{sum_by_le, sum_by-zeros}
 use Rattle.fak_process.proofs.Permuting.{two_weigh}
 

@@ -1,6 +1,5 @@
 -- What calls leave to the only seat of an object.
-use Rattle.std.proofs.Common.{◌≡◌, ℕ, ◌+◌, ◌<◌, ◌==◌, true, List, [], ◌∷◌, ◌++◌, refl, ap, sym, ◌∙◌, subst, arith, All, length}
-use Rattle.fak_model.proofs.Common.{nat_tests, All-head, All-tail, Rules, IsHistory, AreNamed, marks_of, SeatInfo, mine_of, Appends, before_appended}
+use Rattle.fak_process.proofs.Common.{◌≡◌, ℕ, ◌+◌, ◌<◌, ◌==◌, true, List, [], ◌∷◌, ◌++◌, refl, ap, sym, ◌∙◌, subst, arith, All, length, nat_tests, All-head, All-tail, Rules, IsHistory, AreNamed, marks_of, SeatInfo, mine_of, Appends, before_appended}
 use Rattle.fak_model.proofs.RunningCalls.{before_mark-append}
 use Rattle.fak_process.specs.Only.{IsOnly}
 

@@ -1,20 +1,11 @@
 -- What calls do to a file table that has one seat.
-use Rattle.std.proofs.Common.{◌≡◌, ◌≢◌, ◌⊎◌, ℕ, zero, suc, ◌+◌, ◌<◌, ◌==◌, ◌&&◌, Bool, true, false, cond, List, [], ◌∷◌, ◌++◌, Some, slice_set, length, refl, ap, sym, ◌∙◌, subst, arith, inl, inr, All, map, reverse, slice_get, slice_index_or, nat_lt, Option, None, MatchOption, flat_map}
-use Rattle.fak_model.proofs.Common.{nat_tests, All-head, All-tail, SeatInfo}
+use Rattle.fak_process.proofs.Common.{◌≡◌, ◌≢◌, ◌⊎◌, ℕ, zero, suc, ◌+◌, ◌<◌, ◌==◌, ◌&&◌, Bool, true, false, cond, List, [], ◌∷◌, ◌++◌, Some, slice_set, length, refl, ap, sym, ◌∙◌, subst, arith, inl, inr, All, map, reverse, slice_get, slice_index_or, nat_lt, Option, None, MatchOption, flat_map, nat_tests, All-head, All-tail, SeatInfo, FileEntry, FileField, Inode, Uses, FileKind, Take, Set, Give, FileMark, FileSeatInfo, entries_after, LeavesMarks, AreRefused, IsWaitedFor, IsGot, IsSet, IsEnded, FileChange, most_uses, open_change, open_by, raise, raise_by, close_change, close_by, lower, lowered, first_entry}
 use Rattle.std.proofs.lemmas.List.{append-nil, reverse-append, reverse-reverse}
-use Rattle.fak_model.specs.declared.file.FileEntry.{FileEntry}
-use Rattle.fak_model.specs.declared.file.FileField.{FileField}
-use Rattle.fak_model.specs.declared.file.FileField.TheVariants.{Inode, Uses}
-use Rattle.fak_model.specs.declared.file.FileKind.{FileKind}
-use Rattle.fak_model.specs.declared.file.FileKind.TheVariants.{Take, Set, Give}
-use Rattle.fak_model.specs.declared.file.FileMark.{FileMark}
 use Rattle.fak_model.specs.File.{WholeCall, Refused, Withdrawn, kinds_of_call, same_field, field_after, field_from, field}
 use Rattle.fak_model.proofs.Reversing.{All-reverse}
 use Rattle.fak_files.specs.declared.phase.Access.{Access}
 use Rattle.fak_files.specs.Shown.{mark}
 use Rattle.fak_files.specs.Versions.{entry_of, is_take_of, back_from_take, own_since_take, prefix_through_take, marks_since_take}
-use Rattle.fak_files.specs.Calls.{FileSeatInfo, entries_after, LeavesMarks, AreRefused, IsWaitedFor, IsGot, IsSet, IsEnded}
-use Rattle.fak_process.specs.Files.{FileChange, most_uses, open_change, open_by, raise, raise_by, close_change, close_by, lower, lowered, first_entry}
 use Rattle.fak_process.specs.OnlyFiles.{IsOnlyFiles, entries_now, KeepsFiles, PutsEntry, StoresEntry, ChangesFiles}
 use Rattle.fak_process.proofs.Only.{only_seen, only_still}
 

@@ -1,6 +1,5 @@
 -- The lists before the first step.
-use Rattle.std.proofs.Common.{◌≡◌, ℕ, suc, ◌+◌, ◌∷◌, ap, sym, ◌∙◌}
-use Rattle.fak_process.specs.ListScheduler.{numbers_from}
+use Rattle.fak_process.proofs.Common.{◌≡◌, ℕ, suc, ◌+◌, ◌∷◌, ap, sym, ◌∙◌, numbers_from}
 
 -- the first number, and the others
 pub numbers_from-next : (a k m b : ℕ) → k ≡ suc m → b ≡ a + 1 → numbers_from a k ≡ a ∷ numbers_from b m

@@ -1,8 +1,7 @@
 -- The next step of a process is in range.
-use Rattle.std.proofs.Common.{Option, Some, None, IfSome}
+use Rattle.fak_process.proofs.Common.{Option, Some, None, IfSome, step_of_script_is_in_range}
 use Rattle.fak_text.specs.Script.{ScriptOf, StepOf, IsInRange, IsStepInRange, limits_of}
 use Rattle.fak_text.specs.Journal.{Process, StandsAt}
-use Rattle.fak_text.proofs.Journals.{step_of_script_is_in_range}
 
 -- the step that a process stands at, where there is one, is in range
 pub found_in_range : {A : Type 0} (f : A → StepOf) (script : ScriptOf) (p : Process) (found : Option A) → IsInRange script

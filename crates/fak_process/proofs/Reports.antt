@@ -1,16 +1,8 @@
 -- What the rows of all processes promise.
-use Rattle.std.proofs.Common.{◌≡◌, ℕ, zero, suc, ◌+◌, ◌<◌, ◌≤◌, ◌==◌, nat_lt, Bool, true, false, cond, List, [], ◌∷◌, ◌++◌, length, get_or, refl, ap, sym, ◌∙◌, arith, inl, inr, map, ◌&&◌, sum_by, All, AllPairs, IsPermutation}
 use Rattle.std.proofs.lemmas.Bool.{cases_lt, and_parts, and_from}
-use Rattle.fak_model.proofs.Common.{nat_tests, sum_by-append, sum_by-cons, contents, put_of, got_of, close_of, closed_of}
 use Rattle.std.proofs.lemmas.List.Sorted.{sum_by-IsPermutation, All-permutation}
-use Rattle.fak_text.proofs.Common.{ScriptOf, NoteOf, Process, births_of}
-use Rattle.fak_process.proofs.Common.{numbers_from, Outcome, Ended, Stuck, Halted}
-use Rattle.fak_process.specs.Report.{RowOf, rows_with, sleepers_outcome, is_ended}
-use Rattle.fak_process.specs.Ledger.{Ledger, Named, named, notes, downs_of, ups_of, shuts_of, no_births_of, no_slots_of, ended_slot, stuck_of, halted_of, FitsRow}
-use Rattle.fak_process.specs.Whole.{Histories, Gathered, begun_names, asleep, lines, lines_of, is_shut, rows_of}
-use Rattle.fak_process.specs.Promises.{children_of, spawned_names, stuck_at, stuck_before, kept_slot, Promised}
+use Rattle.fak_process.proofs.Common.{numbers_from, Outcome, Ended, Stuck, Halted, ◌≡◌, ℕ, zero, suc, ◌+◌, ◌<◌, ◌≤◌, ◌==◌, nat_lt, Bool, true, false, cond, List, [], ◌∷◌, ◌++◌, length, get_or, refl, ap, sym, ◌∙◌, arith, inl, inr, map, ◌&&◌, sum_by, All, AllPairs, IsPermutation, nat_tests, sum_by-append, sum_by-cons, contents, put_of, got_of, close_of, closed_of, ScriptOf, NoteOf, Process, births_of, RowOf, rows_with, sleepers_outcome, is_ended, Ledger, Named, named, notes, downs_of, ups_of, shuts_of, no_births_of, no_slots_of, ended_slot, stuck_of, halted_of, FitsRow, Histories, Gathered, begun_names, asleep, lines, lines_of, is_shut, rows_of, children_of, spawned_names, stuck_at, stuck_before, kept_slot, Promised, queue_weighs, closed_after_close}
 use Rattle.fak_process.proofs.Sums.{sum_by-map, sum_by-flat_map, sum_by-ones, sum_by-zeros, sum_by_same}
-use Rattle.fak_model.proofs.QueueWeights.{queue_weighs, closed_after_close}
 use Rattle.fak_process.proofs.Conserved.{conserved, lines_are, length-begun}
 use Rattle.fak_process.proofs.Permuting.{permuted, two_weigh}
 use Rattle.fak_process.proofs.Names.{same_name, same_name_self, same_name_is, names_differ}

@@ -1,7 +1,5 @@
 -- The rows of a report, as they are added and sorted.
-use Rattle.std.proofs.Common.{◌≡◌, ◌||◌, Bool, refl, ◌+◌, ◌<◌, List, [], ◌∷◌, length, map, get_or, ap, arith, nat_cmp, IsSortedByKey}
-use Rattle.fak_model.proofs.Common.{list_any, slice_cmp, get_or-map, length-map}
-use Rattle.fak_process.proofs.Common.{ProcessRow, IsSortedByName, row_of}
+use Rattle.fak_process.proofs.Common.{ProcessRow, IsSortedByName, row_of, ◌≡◌, ◌||◌, Bool, refl, ◌+◌, ◌<◌, List, [], ◌∷◌, length, map, get_or, ap, arith, nat_cmp, IsSortedByKey, list_any, slice_cmp, get_or-map, length-map}
 
 -- the rows in the program are sorted as those in the report are
 pub IsSortedByName-map : (rows : List ProcessRow) → IsSortedByKey (λ row. row.name.items) (slice_cmp nat_cmp) rows → IsSortedByName (map row_of rows)

@@ -1,9 +1,7 @@
 -- Whether two rows are the same.
-use Rattle.std.proofs.Common.{◌≡◌, ℕ, ◌==◌, Bool, true, false, cond, List, [], ◌∷◌, refl, ap, sym, ◌∙◌, arith, ◌&&◌, Option, Some, None}
-use Rattle.std.proofs.lemmas.Bool.{and_parts, and_from}
 use Rattle.std.proofs.lemmas.Bool.Decides.{nat_tests}
 use Rattle.fak_text.specs.Journal.{NoteOf, said, yielded, downed, upped, opened, closed, statted, spawned, no_birth, no_slot, shut_down, Process}
-use Rattle.fak_process.proofs.Common.{Outcome, Ended, Stuck, Halted, RowOf}
+use Rattle.fak_process.proofs.Common.{Outcome, Ended, Stuck, Halted, RowOf, ◌≡◌, ℕ, ◌==◌, Bool, true, false, cond, List, [], ◌∷◌, refl, ap, sym, ◌∙◌, arith, ◌&&◌, Option, Some, None, and_parts, and_from}
 use Rattle.fak_process.proofs.Names.{same_name, same_name_self, same_name_is}
 
 same_number_is : (a b : ℕ) → (a == b) ≡ true → a ≡ b

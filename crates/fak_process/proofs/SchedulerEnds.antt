@@ -1,12 +1,8 @@
 -- The list scheduler ends every script: what is left to do falls with each small step.
-use Rattle.std.proofs.Common.{◌≡◌, ◌⊎◌, ℕ, zero, suc, ◌+◌, ◌-◌, ◌*◌, ◌<◌, ◌≤◌, nat_lt, Bool, true, false, List, [], ◌∷◌, ◌++◌, length, refl, ap, sym, ◌∙◌, arith, inl, inr, Option, Some, None, ◌==◌, ◌||◌, slice_get, slice_set, slice_index, slice_index_or, sum_by}
-use Rattle.fak_model.proofs.Common.{cases_lt, nat_tests, slice_get_within}
-use Rattle.std.proofs.lemmas.List.{get_or_past, set_past, length_push}
+use Rattle.fak_process.proofs.Common.{◌≡◌, ◌⊎◌, ℕ, zero, suc, ◌+◌, ◌-◌, ◌*◌, ◌<◌, ◌≤◌, nat_lt, Bool, true, false, List, [], ◌∷◌, ◌++◌, length, refl, ap, sym, ◌∙◌, arith, inl, inr, Option, Some, None, ◌==◌, ◌||◌, slice_get, slice_set, slice_index, slice_index_or, sum_by, cases_lt, nat_tests, slice_get_within, get_or_past, set_past, length_push, open_change, close_change, uses_of, Turn, Lists, State, EndsIn, next_step, enter_by, go_on, turn_over, down_by, up_by, child_of, spawn_by, make, go_or_make, turn_by, take_front, step_by, steps, opening}
 use Rattle.std.proofs.lemmas.List.Sums.{sum_by-cons, sum_by_push, sum_by-set}
 use Rattle.fak_text.specs.Script.{ScriptOf, StepOf, say, yield, down, up, open_file, close_file, stat, spawn, shutdown, steps_of, steps_or_none}
 use Rattle.fak_text.specs.Journal.{NoteOf, said, yielded, downed, upped, opened, closed, statted, spawned, no_birth, no_slot, shut_down, Process, after_note, child_count}
-use Rattle.fak_process.specs.Files.{open_change, close_change, uses_of}
-use Rattle.fak_process.specs.ListScheduler.{Turn, Lists, State, EndsIn, next_step, enter_by, go_on, turn_over, down_by, up_by, child_of, spawn_by, make, go_or_make, turn_by, take_front, step_by, steps, opening}
 
 -- one of the programs is no longer than all together
 part_of : (programs : List (List StepOf)) (i : ℕ) → length (steps_or_none (slice_get programs i)) ≤ sum_by length programs

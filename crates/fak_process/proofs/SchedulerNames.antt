@@ -1,11 +1,5 @@
 -- The names in the list scheduler's report: each once.
-use Rattle.std.proofs.Common.{◌≡◌, ℕ, suc, ◌+◌, ◌≤◌, ◌==◌, nat_lt, Bool, true, false, cond, List, [], ◌∷◌, ◌++◌, refl, ap, sym, ◌∙◌, subst, arith, Option, Some, None, map, ◌&&◌, sum_by, flat_map, AllPairs}
-use Rattle.fak_model.proofs.Common.{nat_tests, sum_by-append, sum_by-cons, sum_by-IsPermutation}
-use Rattle.fak_model.proofs.Appending.{snoc_ind}
-use Rattle.fak_text.proofs.Common.{ScriptOf, spawned, Process, new_process, after_note, child_count}
-use Rattle.fak_text.proofs.Journals.{child_count-append}
-use Rattle.fak_process.proofs.Common.{Turn, Lists, State, turn_over, child_of, begun_from, opening, Outcome, Ended, Halted, named, begun_names}
-use Rattle.fak_process.specs.Report.{RowOf, ReportOf, rows_with, sleepers_outcome, rows_at, IsReportOf, ListSchedulerReports}
+use Rattle.fak_process.proofs.Common.{Turn, Lists, State, turn_over, child_of, begun_from, opening, Outcome, Ended, Halted, named, begun_names, ◌≡◌, ℕ, suc, ◌+◌, ◌≤◌, ◌==◌, nat_lt, Bool, true, false, cond, List, [], ◌∷◌, ◌++◌, refl, ap, sym, ◌∙◌, subst, arith, Option, Some, None, map, ◌&&◌, sum_by, flat_map, AllPairs, nat_tests, sum_by-append, sum_by-cons, sum_by-IsPermutation, snoc_ind, ScriptOf, spawned, Process, new_process, after_note, child_count, child_count-append, RowOf, ReportOf, rows_with, sleepers_outcome, rows_at, IsReportOf, ListSchedulerReports}
 use Rattle.fak_process.proofs.Sums.{sum_by-map, sum_by-flat_map, sum_by_less, sum_by-zeros}
 use Rattle.fak_process.proofs.Ends.{ends_alike}
 use Rattle.fak_process.proofs.Names.{same_name, same_end, not_nameless, is_named, is_first, first_le, begun_le, first_is_short, differ}

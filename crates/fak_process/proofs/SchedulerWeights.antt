@@ -1,11 +1,7 @@
 -- What all processes of the list scheduler weigh together, from step to step.
-use Rattle.std.proofs.Common.{◌≡◌, ℕ, zero, suc, ◌+◌, ◌-◌, ◌<◌, ◌≤◌, nat_lt, Bool, true, false, List, [], ◌∷◌, ◌++◌, length, refl, ap, sym, ◌∙◌, arith, inl, inr, Option, Some, None, ◌==◌, ◌||◌, slice_set, slice_index, slice_index_or, sum_by}
+use Rattle.fak_process.proofs.Common.{◌≡◌, ℕ, zero, suc, ◌+◌, ◌-◌, ◌<◌, ◌≤◌, nat_lt, Bool, true, false, List, [], ◌∷◌, ◌++◌, length, refl, ap, sym, ◌∙◌, arith, inl, inr, Option, Some, None, ◌==◌, ◌||◌, slice_set, slice_index, slice_index_or, sum_by, get_or_past, set_past, ScriptOf, StepOf, say, yield, down, up, open_file, close_file, stat, spawn, shutdown, NoteOf, said, yielded, downed, upped, opened, closed, statted, spawned, no_birth, no_slot, shut_down, Process, after_note, births_of, child_count, open_change, close_change, uses_of, Turn, Lists, State, next_step, enter_by, enter_ready, go_on, turn_over, down_by, up_by, child_of, spawn_by, make, end_process, go_or_make, turn_by, take_front, step_by, steps}
 use Rattle.std.proofs.lemmas.Bool.{cases_lt}
-use Rattle.std.proofs.lemmas.List.{get_or_past, set_past}
 use Rattle.std.proofs.lemmas.List.Sums.{sum_by-append, sum_by-cons, sum_by_push, sum_by-set}
-use Rattle.fak_text.proofs.Common.{ScriptOf, StepOf, say, yield, down, up, open_file, close_file, stat, spawn, shutdown, NoteOf, said, yielded, downed, upped, opened, closed, statted, spawned, no_birth, no_slot, shut_down, Process, after_note, births_of, child_count}
-use Rattle.fak_process.specs.Files.{open_change, close_change, uses_of}
-use Rattle.fak_process.specs.ListScheduler.{Turn, Lists, State, next_step, enter_by, enter_ready, go_on, turn_over, down_by, up_by, child_of, spawn_by, make, end_process, go_or_make, turn_by, take_front, step_by, steps}
 
 -- what each process weighs, all together: in the lists, and with the one that has the processor
 abbrev pub lists_weigh : (Process → ℕ) → Lists → ℕ

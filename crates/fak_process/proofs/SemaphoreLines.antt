@@ -1,15 +1,8 @@
 -- The downs, ups and sleepers of each semaphore.
-use Rattle.std.proofs.Common.{◌≡◌, ℕ, zero, suc, ◌+◌, ◌<◌, ◌≤◌, ◌==◌, nat_lt, Bool, true, false, cond, min, List, [], ◌∷◌, length, refl, ap, arith, inl, inr, Option, Some, None, slice_index, sum_by}
-use Rattle.fak_model.proofs.Common.{nat_tests, sum_by-append, sum_by-cons, contents, debit_weight, credit_weight, put_of, got_of}
 use Rattle.fak_model.specs.declared.queue.Kind.{Kind}
 use Rattle.fak_model.specs.declared.queue.Kind.TheVariants.{Got}
-use Rattle.fak_model.proofs.Deciding.{same_or_not}
-use Rattle.fak_text.proofs.Common.{ScriptOf, StepOf, down, Process}
-use Rattle.fak_process.proofs.Common.{next_step, Outcome, Ended, Stuck, Halted, Histories, Gathered, asleep}
-use Rattle.fak_process.specs.Ledger.{Ledger, notes, downs_of, ups_of, other_down, not_before, its_down, before_down, waiting, stuck_of}
-use Rattle.fak_process.specs.Promises.{stuck_at}
+use Rattle.fak_process.proofs.Common.{next_step, Outcome, Ended, Stuck, Halted, Histories, Gathered, asleep, ◌≡◌, ℕ, zero, suc, ◌+◌, ◌<◌, ◌≤◌, ◌==◌, nat_lt, Bool, true, false, cond, min, List, [], ◌∷◌, length, refl, ap, arith, inl, inr, Option, Some, None, slice_index, sum_by, nat_tests, sum_by-append, sum_by-cons, contents, debit_weight, credit_weight, put_of, got_of, same_or_not, ScriptOf, StepOf, down, Process, Ledger, notes, downs_of, ups_of, other_down, not_before, its_down, before_down, waiting, stuck_of, stuck_at, queue_weighs}
 use Rattle.fak_process.proofs.Sums.{sum_by-ones}
-use Rattle.fak_model.proofs.QueueWeights.{queue_weighs}
 
 -- who stands before a down of t stands before one of s where t is s alone
 one_down : (s t : ℕ) (o : Option StepOf) → other_down t o ≡ 0 → other_down s o ≡ cond (t == s) 0 1

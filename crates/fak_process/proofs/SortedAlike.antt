@@ -1,9 +1,7 @@
 -- Sorted lists of the same elements, no two with one name, are the same.
-use Rattle.std.proofs.Common.{◌≡◌, ℕ, zero, suc, ◌+◌, ◌<◌, ◌≤◌, Ordering, Less, Equal, Greater, Bool, true, false, cond, List, [], ◌∷◌, length, get_or, refl, ap, sym, ◌∙◌, subst, arith, sum_by, IsSortedByKey}
-use Rattle.fak_model.proofs.Common.{slice_cmp, nil_from_length, sum_by-cons}
+use Rattle.fak_process.proofs.Common.{◌≡◌, ℕ, zero, suc, ◌+◌, ◌<◌, ◌≤◌, Ordering, Less, Equal, Greater, Bool, true, false, cond, List, [], ◌∷◌, length, get_or, refl, ap, sym, ◌∙◌, subst, arith, sum_by, IsSortedByKey, slice_cmp, nil_from_length, sum_by-cons, sorted_far}
 use Rattle.std.specs.Ordering.{nat_cmp, is_lt, ordering_reverse}
 use Rattle.std.proofs.lemmas.Cmp.{nat_list_cmp_total}
-use Rattle.std.proofs.lemmas.List.Sorted.{sorted_far}
 use Rattle.std.proofs.lemmas.List.MinMax.{ranks_by}
 use Rattle.std.proofs.lemmas.Map.Lookups.{exact_bytes}
 use Rattle.fak_process.proofs.Sums.{sum_by-ones}

@@ -1,12 +1,6 @@
 -- An entry of a copy that was changed is stored: the Sets make the change that the rules give.
-use Rattle.std.proofs.Common.{◌≡◌, ℕ, zero, suc, ◌<◌, List, [], ◌∷◌, Some, None, slice_set, length, get_or, refl, ap, sym, ◌∙◌, subst, arith, Option, map, slice_get, IfSome}
-use Rattle.fak_model.specs.declared.file.FileEntry.{FileEntry}
-use Rattle.fak_model.specs.declared.file.FileField.TheVariants.{Inode, Uses}
-use Rattle.fak_model.specs.declared.file.FileKind.TheVariants.{Set}
+use Rattle.fak_process.proofs.Common.{◌≡◌, ℕ, zero, suc, ◌<◌, List, [], ◌∷◌, Some, None, slice_set, length, get_or, refl, ap, sym, ◌∙◌, subst, arith, Option, map, slice_get, IfSome, FileEntry, Inode, Uses, Set, FileSeatInfo, IsSet, FileChange, free_entry, set_in, set_all}
 use Rattle.fak_model.specs.File.{set_mark}
-use Rattle.fak_files.specs.Calls.{FileSeatInfo, IsSet}
-use Rattle.fak_process.specs.Files.{FileChange, free_entry}
-use Rattle.fak_process.specs.Holds.{set_in, set_all}
 use Rattle.fak_process.specs.Making.{Left, sets_at, sets_of}
 use Rattle.fak_process.proofs.Holding.{left_of, left_then}
 use Rattle.fak_process.proofs.OnlyFiles.{OneChange}

@@ -1,11 +1,6 @@
 -- Notes and rows whose said texts are left out.
-use Rattle.std.proofs.Common.{◌≡◌, ℕ, zero, suc, ◌+◌, ◌<◌, List, [], ◌∷◌, ◌++◌, length, map, take, get_or, slice_get, Some, refl, ap, sym, ◌∙◌, arith}
 use Rattle.std.specs.List.{list_any, sum_by}
-use Rattle.fak_model.proofs.Common.{get_or-map, length-map, sum_by-cons}
-use Rattle.fak_text.proofs.Common.{ScriptOf, StepOf, say, yield, down, up, open_file, close_file, stat, spawn, shutdown, NoteOf, said, yielded, downed, upped, opened, closed, statted, spawned, no_birth, no_slot, shut_down, Allows}
-use Rattle.fak_process.proofs.Common.{ProcessRow, shuts_of, row_of}
-use Rattle.fak_process.specs.Report.{RowOf, IsSortedByName, is_stuck}
-use Rattle.fak_process.specs.Told.{told, told_notes, told_row, told_rows}
+use Rattle.fak_process.proofs.Common.{ProcessRow, shuts_of, row_of, ◌≡◌, ℕ, zero, suc, ◌+◌, ◌<◌, List, [], ◌∷◌, ◌++◌, length, map, take, get_or, slice_get, Some, refl, ap, sym, ◌∙◌, arith, get_or-map, length-map, sum_by-cons, ScriptOf, StepOf, say, yield, down, up, open_file, close_file, stat, spawn, shutdown, NoteOf, said, yielded, downed, upped, opened, closed, statted, spawned, no_birth, no_slot, shut_down, Allows, RowOf, IsSortedByName, is_stuck, told, told_notes, told_row, told_rows}
 
 -- ---- notes
 

@@ -1,15 +1,6 @@
 -- How what a processor does balances.
-use Rattle.std.proofs.Common.{◌≡◌, ℕ, List, [], ◌∷◌, ◌++◌, length, refl, ap, sym, ◌∙◌, subst, arith, None, sum_by, append-nil}
-use Rattle.fak_model.proofs.Common.{sum_by-append, SeatInfo}
-use Rattle.fak_model.specs.declared.queue.Kind.{Kind}
-use Rattle.fak_model.specs.declared.queue.Mark.{Mark}
-use Rattle.fak_model.specs.declared.credit.CreditKind.TheVariants.{Debit}
-use Rattle.fak_queue.specs.Retries.{kinds_in, kinds_out}
-use Rattle.fak_text.proofs.Common.{ScriptOf, Process, FitsScript}
-use Rattle.fak_processor.proofs.Common.{Ended, Halted, next_step, Ledger, Balanced, nothing, joined, ObjectsOf, ProcessorOf, AreFor}
+use Rattle.fak_processor.proofs.Common.{Ended, Halted, next_step, Ledger, Balanced, nothing, joined, ObjectsOf, ProcessorOf, AreFor, ◌≡◌, ℕ, List, [], ◌∷◌, ◌++◌, length, refl, ap, sym, ◌∙◌, subst, arith, None, sum_by, append-nil, sum_by-append, SeatInfo, Kind, Mark, Debit, kinds_in, kinds_out, ScriptOf, Process, FitsScript, IsIdle, IsQuiet, GrowsIn, GrowsShut, GrowsAtLast, GrowsOut, GrowsEmpty, BeginsNone, Gains, Moves, row_as, balanced-joined}
 use Rattle.fak_processor.specs.Events.{takes, puts, halts, ends, closed, empty}
-use Rattle.fak_processor.specs.Moving.{IsIdle, IsQuiet, GrowsIn, GrowsShut, GrowsAtLast, GrowsOut, GrowsEmpty, BeginsNone, Gains, Moves, row_as}
-use Rattle.fak_process.proofs.Joining.{balanced-joined}
 use Rattle.fak_processor.proofs.Events.{none_waits, quiet, in_other_hands, balanced-beside, keeps_takes, keeps_puts, keeps_halts, keeps_ends}
 use Rattle.fak_processor.proofs.Moving.{quiet_empty, gains_none, gains_then, gains_ready, gains_free}
 use Rattle.fak_processor.proofs.Gaining.{gains_as}

@@ -1,27 +1,13 @@
 -- How the calls on the shared objects make a seat's own marks grow.
-use Rattle.std.proofs.Common.{◌≡◌, ℕ, Bool, true, false, List, [], ◌∷◌, ◌++◌, length, refl, ap, sym, subst, arith, inl, inr, map, ℤ, pos, Some, None, sum_by, flat_map, append-nil}
-use Rattle.fak_model.proofs.Common.{sum_by-append, Rules, SeatInfo, queue_rules, room_rules, credit_rules, value, put_of, got_of}
-use Rattle.fak_model.specs.declared.queue.Kind.{Kind}
+use Rattle.fak_processor.proofs.Common.{◌≡◌, ℕ, Bool, true, false, List, [], ◌∷◌, ◌++◌, length, refl, ap, sym, subst, arith, inl, inr, map, ℤ, pos, Some, None, sum_by, flat_map, append-nil, sum_by-append, Rules, SeatInfo, queue_rules, room_rules, credit_rules, value, put_of, got_of, Kind, Mark, RoomKind, Over, Back, RoomMark, CreditKind, Debit, Credit, CreditMark, SemInfo, SemSeatInfo, credit_part, queue_part, Downs, Ups, ScriptOf, Process, Ledger, Balanced, joined, Turning, Grows, Adds, balanced-joined}
 use Rattle.fak_model.specs.declared.queue.Kind.TheVariants.{NoRoom, OverIn, BackIn, NoItem, OverOut, BackOut, Closed, LateIn, Close}
-use Rattle.fak_model.specs.declared.queue.Mark.{Mark}
-use Rattle.fak_model.specs.declared.room.RoomKind.{RoomKind}
-use Rattle.fak_model.specs.declared.room.RoomKind.TheVariants.{Over, Back}
-use Rattle.fak_model.specs.declared.room.RoomMark.{RoomMark}
-use Rattle.fak_model.specs.declared.credit.CreditKind.{CreditKind}
-use Rattle.fak_model.specs.declared.credit.CreditKind.TheVariants.{Debit, Credit}
-use Rattle.fak_model.specs.declared.credit.CreditMark.{CreditMark}
 use Rattle.fak_model.specs.Room as room
 use Rattle.fak_model.specs.Credit as credit
 use Rattle.fak_count.specs.Rooms as rooms
 use Rattle.fak_count.specs.Credits as credits
 use Rattle.fak_queue.proofs.Common.{made_by, Makes, Inserts, Deletes, RefusesFull, RefusesEmpty, RefusesClosed, ShutsAs, RefusedInsertion, NotIn, WithdrawnIn, ClosedIn, WithdrawnLate, RefusedDeletion, NotOut, WithdrawnOut, kinds_not_in, kinds_not_out, kinds_in, kinds_out}
-use Rattle.fak_sem.specs.Semaphores.{SemInfo, SemSeatInfo, credit_part, queue_part, Downs, Ups}
-use Rattle.fak_text.proofs.Common.{ScriptOf, Process}
-use Rattle.fak_process.specs.Ledger.{Ledger, Balanced, joined}
 use Rattle.fak_processor.specs.Events.{full, empty, closed}
 use Rattle.fak_processor.specs.Holding.{Owns, queue_kind, Bundle, Leaves}
-use Rattle.fak_processor.specs.Turning.{Turning, Grows, Adds}
-use Rattle.fak_process.proofs.Joining.{balanced-joined}
 use Rattle.fak_processor.proofs.Tallies.{owns_more}
 
 -- ---- a seat

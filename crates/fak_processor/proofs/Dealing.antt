@@ -1,11 +1,5 @@
 -- How the seats of new objects are dealt to the processors.
-use Rattle.std.proofs.Common.{◌≡◌, ℕ, zero, suc, ◌+◌, ◌<◌, ◌≤◌, List, [], ◌∷◌, ◌++◌, length, drop, get_or, refl, ap, sym, ◌∙◌, arith, map, All}
-use Rattle.fak_model.proofs.Common.{map-append, ObjectId, SeatInfo, fresh_seats}
-use Rattle.fak_files.specs.Calls.{idle_seats}
-use Rattle.fak_sem.specs.Semaphores.{SemId, SemInfo, fresh_sem_seats}
-use Rattle.fak_text.proofs.Common.{ScriptOf, Process}
-use Rattle.fak_processor.specs.Processors.{ObjectsOf, ProcessorOf, ids_of}
-use Rattle.fak_processor.specs.Opened.{dealt_to, fresh_rows, fresh_sem_at, fresh_all, fresh_processor, zipped, IsSemaphoreFor}
+use Rattle.fak_processor.proofs.Common.{FileSeatInfo, SemSeatInfo, RoomMark, CreditMark, Mark, free_entry, replicate, append_assoc, ◌≡◌, ℕ, zero, suc, ◌+◌, ◌<◌, ◌≤◌, List, [], ◌∷◌, ◌++◌, length, drop, get_or, refl, ap, sym, ◌∙◌, arith, map, All, map-append, ObjectId, SeatInfo, fresh_seats, idle_seats, SemId, SemInfo, fresh_sem_seats, ScriptOf, Process, ObjectsOf, ProcessorOf, ids_of, dealt_to, fresh_rows, fresh_sem_at, fresh_all, fresh_processor, zipped, IsSemaphoreFor}
 
 -- ---- lists
 
@@ -79,6 +73,12 @@ pub zips : (o : ObjectsOf) (stint a n : ℕ)
     → zipped o.files.entries (fresh_seats o.ready.object stint a n) (fresh_seats o.free.object stint a n) (fresh_seats o.births.object stint a n) (fresh_seats o.busy.object stint a n) (fresh_rows (ids_of o.semaphores) stint a n) (idle_seats (fresh_seats o.files.object stint a n)) ≡ fresh_all o stint a n
 zips o stint a zero = refl
 zips o stint a (suc n) = ap (λ l. fresh_processor o stint a ∷ l) (zips o stint (suc a) n)
+
+-- one processor more is zipped
+pub zips_more : (n : ℕ) (all : List ProcessorOf) (p : ProcessorOf) (r : SeatInfo (Mark Process)) (rs : List (SeatInfo (Mark Process))) (fs : List (SeatInfo (Mark ℕ))) (bs : List (SeatInfo RoomMark)) (cs : List (SeatInfo CreditMark)) (ss : List (List (SemSeatInfo Process))) (xs : List FileSeatInfo)
+    → p ≡ record p { ready = r; ended = []; halted = []; copy = replicate n free_entry }
+    → (all ++ p ∷ []) ++ zipped n rs fs bs cs ss xs ≡ all ++ zipped n (r ∷ rs) (p.free ∷ fs) (p.births ∷ bs) (p.busy ∷ cs) (p.semaphores ∷ ss) (p.files ∷ xs)
+zips_more n all p r rs fs bs cs ss xs is = (λ i. (all ++ is i ∷ []) ++ zipped n rs fs bs cs ss xs) ∙ append_assoc all (record p { ready = r; ended = []; halted = []; copy = replicate n free_entry } ∷ []) (zipped n rs fs bs cs ss xs)
 
 -- the processor at a place
 pub fresh_at : (o : ObjectsOf) (stint a n i : ℕ) (d : ProcessorOf) → i < n → get_or (fresh_all o stint a n) i d ≡ fresh_processor o stint (a + i)

@@ -1,14 +1,6 @@
 -- Each kind of event of a turn keeps what balances.
-use Rattle.std.proofs.Common.{◌≡◌, ℕ, ◌+◌, ◌<◌, ◌==◌, Bool, true, false, cond, List, [], ◌∷◌, ◌++◌, refl, ap, sym, ◌∙◌, subst, arith, None, sum_by, All}
-use Rattle.fak_model.proofs.Common.{nat_tests, sum_by-append, All-nil, All-cons, sum_below, debit_weight, credit_weight, up_amount, release_amount, put_of, got_of, close_of, closed_of, refusal_of, other_amount}
-use Rattle.fak_model.specs.declared.queue.Kind.{Kind}
-use Rattle.fak_model.specs.declared.credit.CreditKind.TheVariants.{Debit, Credit}
 use Rattle.fak_model.proofs.Leading.{sum_none}
-use Rattle.fak_model.proofs.Deciding.{cond_here, cond_else}
-use Rattle.fak_queue.specs.Retries.{kinds_in, kinds_out}
-use Rattle.fak_text.proofs.Common.{ScriptOf, StepOf, down, up, spawn, shutdown, NoteOf, downed, upped, spawned, no_birth, no_slot, shut_down, Process, child_count, after_note, FitsScript}
-use Rattle.fak_processor.proofs.Common.{child_of, next_step, RowOf, IsIdle}
-use Rattle.fak_process.specs.Ledger.{Ledger, Made, Balanced, IsMade, FitsRow, nothing, not_before, its_down, before_down}
+use Rattle.fak_processor.proofs.Common.{child_of, next_step, RowOf, IsIdle, ◌≡◌, ℕ, ◌+◌, ◌<◌, ◌==◌, Bool, true, false, cond, List, [], ◌∷◌, ◌++◌, refl, ap, sym, ◌∙◌, subst, arith, None, sum_by, All, nat_tests, sum_by-append, All-nil, All-cons, sum_below, debit_weight, credit_weight, up_amount, release_amount, put_of, got_of, close_of, closed_of, refusal_of, other_amount, Kind, Debit, Credit, cond_here, cond_else, kinds_in, kinds_out, ScriptOf, StepOf, down, up, spawn, shutdown, NoteOf, downed, upped, spawned, no_birth, no_slot, shut_down, Process, child_count, after_note, FitsScript, Ledger, Made, Balanced, IsMade, FitsRow, nothing, not_before, its_down, before_down}
 use Rattle.fak_processor.specs.Events.{made_of, IsPlain, fills, takes, puts, halts, steps, passes, parks, adds, wakes, spawns, lacks_birth, lacks_slot, ends, waits_refused, shuts, closed, refused_claim}
 use Rattle.fak_processor.proofs.Moving.{quiet_empty, idle_closed}
 use Rattle.fak_process.proofs.Sums.{sum_at}

@@ -1,14 +1,5 @@
 -- What calls on one semaphore add to a processor's seats.
-use Rattle.std.proofs.Common.{◌≡◌, ℕ, ◌+◌, ◌<◌, ◌==◌, Bool, true, false, cond, List, [], ◌∷◌, ◌++◌, length, slice_index_or, refl, ap, sym, ◌∙◌, subst, arith, Some, None, sum_by, flat_map}
-use Rattle.std.proofs.lemmas.List.{length-map}
-use Rattle.std.proofs.lemmas.List.Elements.{All-get_or}
-use Rattle.fak_model.specs.declared.credit.CreditKind.{CreditKind}
-use Rattle.fak_model.specs.declared.credit.CreditKind.TheVariants.{Debit, Credit}
-use Rattle.fak_queue.specs.Retries.{kinds_not_in, kinds_not_out, kinds_in, kinds_out}
-use Rattle.fak_sem.specs.Semaphores.{SemInfo, SemSeatInfo}
-use Rattle.fak_text.proofs.Common.{ScriptOf, down, Process, FitsScript, StandsAt, after_note, downed}
-use Rattle.fak_processor.proofs.Common.{RowOf, Ledger, nothing, ObjectsOf, ProcessorOf, AreFor, AreOf, AreLines}
-use Rattle.fak_processor.specs.Moving.{files_of, Gains, GainsParked, GainsWoken, at_one, DownsAt, UpsAt}
+use Rattle.fak_processor.proofs.Common.{RowOf, Ledger, nothing, ObjectsOf, ProcessorOf, AreFor, AreOf, AreLines, ◌≡◌, ℕ, ◌+◌, ◌<◌, ◌==◌, Bool, true, false, cond, List, [], ◌∷◌, ◌++◌, length, slice_index_or, refl, ap, sym, ◌∙◌, subst, arith, Some, None, sum_by, flat_map, length-map, All-get_or, CreditKind, Debit, Credit, kinds_not_in, kinds_not_out, kinds_in, kinds_out, SemInfo, SemSeatInfo, ScriptOf, down, Process, FitsScript, StandsAt, after_note, downed, files_of, Gains, GainsParked, GainsWoken, at_one, DownsAt, UpsAt}
 use Rattle.fak_processor.proofs.Calls.{grows_parks, grows_passes, grows_wakes, grows_adds}
 use Rattle.fak_processor.proofs.Moving.{gains_semaphore}
 

@@ -1,11 +1,7 @@
 -- The loop of a processor, among any number of them.
-use Rattle.std.proofs.Common.{◌≡◌, ◌∙◌, ℕ, List, [], ◌∷◌, All, length, map, refl, ap, sym, subst, Option, None, pos}
 use Rattle.std.proofs.lemmas.List.Elements.{All-nil, All-cons, All-head, All-tail, All-map}
 use Rattle.fak_model.specs.Credit.{value}
-use Rattle.fak_text.proofs.Common.{ScriptOf, Process}
-use Rattle.fak_processor.proofs.Common.{Turn, nothing, ProcessorOf, HasName}
-use Rattle.fak_processor.specs.Moving.{names_of, Gains, Moves, LeavesNone, hand_of}
-use Rattle.fak_sem.specs.Semaphores.{SemSeatInfo}
+use Rattle.fak_processor.proofs.Common.{Turn, nothing, ProcessorOf, HasName, ◌≡◌, ◌∙◌, ℕ, List, [], ◌∷◌, All, length, map, refl, ap, sym, subst, Option, None, pos, ScriptOf, Process, names_of, Gains, Moves, LeavesNone, hand_of, SemSeatInfo}
 use Rattle.fak_processor.proofs.Events.{quiet, balanced-beside}
 use Rattle.fak_processor.proofs.Acting.{moves_then}
 

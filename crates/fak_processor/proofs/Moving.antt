@@ -1,27 +1,12 @@
 -- How calls of a processor add to its seats' own marks and to its rows.
-use Rattle.std.proofs.Common.{◌≡◌, ◌⊎◌, ℕ, ◌<◌, Bool, true, false, List, [], ◌++◌, length, map, slice_index_or, slice_set, refl, ap, sym, ◌∙◌, subst, arith, inl, inr, append_assoc, ℤ}
 use Rattle.std.proofs.lemmas.Bool.{cases_eq}
 use Rattle.std.proofs.lemmas.List.{append-nil, map-append, get_or_default, get_or-set_same, get_or-set_other}
-use Rattle.fak_model.proofs.Common.{sum_by-append, filter-append, SeatInfo, queue_rules, room_rules, credit_rules, put_of, got_of, close_of, closed_of}
-use Rattle.fak_model.specs.declared.queue.Kind.{Kind}
-use Rattle.fak_model.specs.declared.queue.Mark.{Mark}
-use Rattle.fak_model.specs.declared.room.RoomKind.{RoomKind}
-use Rattle.fak_model.specs.declared.room.RoomKind.TheVariants.{No}
-use Rattle.fak_model.specs.declared.room.RoomMark.{RoomMark}
-use Rattle.fak_model.specs.declared.credit.CreditKind.{CreditKind}
-use Rattle.fak_model.specs.declared.credit.CreditMark.{CreditMark}
-use Rattle.fak_model.specs.declared.file.FileMark.{FileMark}
 use Rattle.fak_model.specs.Room as room
 use Rattle.fak_model.specs.Credit as credit
-use Rattle.fak_model.proofs.Deciding.{cond_here, cond_else}
 use Rattle.fak_count.specs.Rooms as rooms
 use Rattle.fak_queue.proofs.Common.{RefusesFull, RefusesEmpty, RefusesClosed, Inserts, Deletes, kinds_in}
-use Rattle.fak_sem.specs.Semaphores.{SemSeatInfo, credit_part, queue_part}
-use Rattle.fak_text.proofs.Common.{ScriptOf, NoteOf, Process}
-use Rattle.fak_processor.proofs.Common.{Ledger, Made, nothing, joined, queue_kind, Bundle, ProcessorOf, AreLines, is_file_line, file_lines}
+use Rattle.fak_processor.proofs.Common.{Ledger, Made, nothing, joined, queue_kind, Bundle, ProcessorOf, AreLines, is_file_line, file_lines, ◌≡◌, ◌⊎◌, ℕ, ◌<◌, Bool, true, false, List, [], ◌++◌, length, map, slice_index_or, slice_set, refl, ap, sym, ◌∙◌, subst, arith, inl, inr, append_assoc, ℤ, sum_by-append, filter-append, SeatInfo, queue_rules, room_rules, credit_rules, put_of, got_of, close_of, closed_of, Kind, Mark, RoomKind, No, RoomMark, CreditKind, CreditMark, FileMark, cond_here, cond_else, SemSeatInfo, credit_part, queue_part, ScriptOf, NoteOf, Process, Grows, Adds, IsIdle, IsQuiet, GrowsIn, GrowsShut, GrowsAtLast, GrowsIdle, GrowsEmpty, GrowsOut, GrowsNone, bundle_of, names_of, files_of, Gains, at_one}
 use Rattle.fak_processor.specs.Events.{full, empty, closed, refused_claim}
-use Rattle.fak_processor.specs.Turning.{Grows, Adds}
-use Rattle.fak_processor.specs.Moving.{IsIdle, IsQuiet, GrowsIn, GrowsShut, GrowsAtLast, GrowsIdle, GrowsEmpty, GrowsOut, GrowsNone, bundle_of, names_of, files_of, Gains, at_one}
 use Rattle.fak_processor.proofs.Places.{alike_after}
 use Rattle.fak_processor.proofs.Calls.{grows_same, grows_inserts, grows_deletes, grows_full, grows_empty, grows_closed, grows_room, grows_withdraws}
 use Rattle.fak_processor.proofs.Growing.{grows_then}

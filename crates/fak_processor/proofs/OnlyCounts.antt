@@ -1,27 +1,14 @@
 -- What calls do to semaphores and rooms that have one seat.
-use Rattle.std.proofs.Common.{◌≡◌, ◌⊎◌, ℕ, ◌+◌, ◌-◌, ◌<◌, ◌≤◌, List, [], ◌∷◌, ◌++◌, Some, None, length, length-append, refl, ap, sym, ◌∙◌, subst, arith, inl, inr, ℤ, pos, map, ◌+ℤ◌, ◌≤ℤ◌, ◌<ℤ◌, flat_map, sum_by}
-use Rattle.fak_model.proofs.Common.{ints, map-append, sum_by-append, count, gots, items_put, contents, SeatInfo, Appends}
-use Rattle.fak_model.specs.declared.credit.CreditKind.{CreditKind}
-use Rattle.fak_model.specs.declared.credit.CreditMark.{CreditMark}
-use Rattle.fak_model.specs.declared.room.RoomKind.{RoomKind}
-use Rattle.fak_model.specs.declared.room.RoomKind.TheVariants.{Up, Over, Back, No, Release}
-use Rattle.fak_model.specs.declared.room.RoomMark.{RoomMark}
-use Rattle.fak_model.specs.declared.queue.Kind.{Kind}
+use Rattle.fak_processor.proofs.Common.{◌≡◌, ◌⊎◌, ℕ, ◌+◌, ◌-◌, ◌<◌, ◌≤◌, List, [], ◌∷◌, ◌++◌, Some, None, length, length-append, refl, ap, sym, ◌∙◌, subst, arith, inl, inr, ℤ, pos, map, ◌+ℤ◌, ◌≤ℤ◌, ◌<ℤ◌, flat_map, sum_by, ints, map-append, sum_by-append, count, gots, items_put, contents, SeatInfo, Appends, CreditKind, CreditMark, RoomKind, Up, Over, Back, No, Release, RoomMark, Kind, Mark, made_by, RefusedInsertion, NotIn, WithdrawnIn, ClosedIn, WithdrawnLate, kinds_not_in, RefusedDeletion, NotOut, WithdrawnOut, kinds_not_out, kinds_in, kinds_out, InsertsAtLast, DeletesAtLast, SemInfo, SemId, SemSeatInfo, Downs, Ups, IsOnly, IsOnlySem, Passes, Parks, Raises, Rouses, IsOnlyRoom, Claims, FindsFull, GivesBack}
 use Rattle.fak_model.specs.declared.queue.Kind.TheVariants as made
-use Rattle.fak_model.specs.declared.queue.Mark.{Mark}
 use Rattle.fak_model.specs.Credit as credit
 use Rattle.fak_model.specs.Room as room
 use Rattle.fak_model.proofs.Leading.{total_push}
 use Rattle.fak_count.specs.Credits as credits
 use Rattle.fak_count.specs.Rooms.{RoomInfo, held_amount, IsGranted, MakesCall, Withdraws}
 use Rattle.fak_count.specs.RoomShown.{room_mark}
-use Rattle.fak_queue.specs.Queues.{made_by}
-use Rattle.fak_queue.specs.Retries.{RefusedInsertion, NotIn, WithdrawnIn, ClosedIn, WithdrawnLate, kinds_not_in, RefusedDeletion, NotOut, WithdrawnOut, kinds_not_out, kinds_in, kinds_out, InsertsAtLast, DeletesAtLast}
-use Rattle.fak_sem.specs.Semaphores.{SemInfo, SemId, SemSeatInfo, Downs, Ups}
 use Rattle.fak_queue.proofs.AfterRefusals.{made_by_append}
 use Rattle.fak_queue.proofs.Weighing.{count_at_last, none_in, none_out}
-use Rattle.fak_process.specs.Only.{IsOnly}
-use Rattle.fak_processor.specs.OnlyCounts.{IsOnlySem, Passes, Parks, Raises, Rouses, IsOnlyRoom, Claims, FindsFull, GivesBack}
 use Rattle.fak_process.proofs.Only.{only_seen, only_still, only_lawful, only_before}
 use Rattle.fak_processor.proofs.OnlyQueues.{items_more, items_added, first_left}
 

@@ -1,12 +1,7 @@
 -- One of several seats makes a call.
-use Rattle.std.proofs.Common.{◌≡◌, ℕ, ◌<◌, List, All, length, map, slice_set, slice_index_or, get_or, ap, sym, ◌∙◌, subst, arith, Option, Some, None, IfSome, MatchOption}
-use Rattle.std.proofs.lemmas.List.{get_or-map, length-map}
-use Rattle.std.proofs.lemmas.List.Elements.{All-get_or}
+use Rattle.fak_processor.proofs.Common.{◌≡◌, ℕ, ◌<◌, List, All, length, map, slice_set, slice_index_or, get_or, ap, sym, ◌∙◌, subst, arith, Option, Some, None, IfSome, MatchOption, get_or-map, length-map, All-get_or, SemInfo, SemSeatInfo, Downs, Ups, IsOnlySem, Passes, Parks, Raises, Rouses, AtPlace}
 use Rattle.std.proofs.Math.Seq.{map-set_same}
 use Rattle.fak_text.specs.Journal.{Process}
-use Rattle.fak_sem.specs.Semaphores.{SemInfo, SemSeatInfo, Downs, Ups}
-use Rattle.fak_processor.specs.OnlyCounts.{IsOnlySem, Passes, Parks, Raises, Rouses}
-use Rattle.fak_processor.specs.Processors.{AtPlace}
 use Rattle.fak_processor.proofs.OnlyCounts.{down_passes, down_parks, up_raises, up_rouses}
 
 -- what two lists have alike at a place

@@ -1,23 +1,13 @@
 -- What processor 0 does before the threads start.
-use Rattle.std.proofs.Common.{◌≡◌, ℕ, zero, suc, ◌+◌, ◌-◌, ◌<◌, ◌≤◌, Bool, true, false, List, [], ◌∷◌, ◌++◌, length, map, take, drop, get_or, slice_index_or, slice_set, refl, ap, sym, ◌∙◌, subst, arith}
 use Rattle.std.proofs.lemmas.List.{length-take-le, map-append, get_or-set_same}
-use Rattle.fak_model.specs.declared.queue.Mark.{Mark}
 use Rattle.fak_model.specs.Calls.{SeatInfo}
-use Rattle.fak_queue.specs.Retries.{kinds_in, kinds_out}
-use Rattle.fak_text.proofs.Common.{ScriptOf, Process, new_process}
-use Rattle.fak_process.specs.ListScheduler.{Lists, begun_from, enter_ready, first_lists, numbers_from, turn_over}
-use Rattle.fak_processor.proofs.Common.{AreLines, Balanced, Named, joined, named, nothing, begun_names, Gains, GrowsAtLast, IsIdle, Moves, files_of, AreSeated, fresh_all, fresh_processor, no_seat}
-use Rattle.fak_processor.specs.Events.{empty, fills}
-use Rattle.fak_processor.specs.Processors.{ObjectsOf, ProcessorOf, AreFor, AreOf, GoesTo, HasNoSlot, IsAlone, IsReached, TakesSlot, lists_of}
-use Rattle.fak_processor.specs.Begun.{Begins, Between, FindsNoSlot, FindsSlot, StartsOne, begins, empty_lists}
-use Rattle.fak_process.proofs.Joining.{balanced-joined}
+use Rattle.fak_processor.proofs.Common.{AreLines, Balanced, Named, joined, named, nothing, begun_names, Gains, GrowsAtLast, IsIdle, Moves, files_of, AreSeated, fresh_all, fresh_processor, no_seat, ◌≡◌, ℕ, zero, suc, ◌+◌, ◌-◌, ◌<◌, ◌≤◌, Bool, true, false, List, [], ◌∷◌, ◌++◌, length, map, take, drop, get_or, slice_index_or, slice_set, refl, ap, sym, ◌∙◌, subst, arith, Mark, kinds_in, kinds_out, ScriptOf, Process, new_process, Lists, begun_from, enter_ready, first_lists, numbers_from, turn_over, empty, fills, ObjectsOf, ProcessorOf, AreFor, AreOf, GoesTo, HasNoSlot, IsAlone, IsReached, TakesSlot, lists_of, Begins, Between, FindsNoSlot, FindsSlot, StartsOne, begins, empty_lists, balanced-joined, lines_none}
 use Rattle.fak_processor.proofs.Events.{keeps_fills, none_waits, quiet}
 use Rattle.fak_processor.proofs.Calls.{turning_more}
 use Rattle.fak_processor.proofs.Moving.{gains_free, gains_none, gains_then, idle_none, idle_then}
 use Rattle.fak_processor.proofs.Gaining.{gains_as}
 use Rattle.fak_processor.proofs.Acting.{keeps_idle}
 use Rattle.fak_process.proofs.Opening.{numbers_from-next}
-use Rattle.fak_process.proofs.Holding.{lines_none}
 use Rattle.fak_processor.proofs.Looping.{keeps_name}
 use Rattle.fak_processor.proofs.Fresh.{fresh_are, fresh_between, fresh_goes, fresh_name, fresh_turning}
 use Rattle.fak_processor.proofs.Dealing.{fresh_at, length-all}

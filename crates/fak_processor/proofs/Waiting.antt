@@ -1,8 +1,5 @@
 -- Several queues, seen as the lists of their items, where one of them changes.
-use Rattle.std.proofs.Common.{◌≡◌, ℕ, ◌<◌, List, [], ◌∷◌, ◌++◌, All, length, map, slice_set, slice_index_or, ap, sym, ◌∙◌, subst, arith, inl, inr, drop, Option, Some, None, IfSome, option_to_list}
-use Rattle.std.proofs.lemmas.List.{map-set, get_or-map, length-map, get_or-set_same, get_or-set_other}
-use Rattle.std.proofs.lemmas.List.Elements.{All-push, All-drop}
-use Rattle.fak_model.proofs.Deciding.{same_or_not}
+use Rattle.fak_processor.proofs.Common.{◌≡◌, ℕ, ◌<◌, List, [], ◌∷◌, ◌++◌, All, length, map, slice_set, slice_index_or, ap, sym, ◌∙◌, subst, arith, inl, inr, drop, Option, Some, None, IfSome, option_to_list, map-set, get_or-map, length-map, get_or-set_same, get_or-set_other, All-push, All-drop, same_or_not}
 
 -- P n holds of each item of the list at place n
 abbrev pub AllAtTheirs : {X : Type 0} → (ℕ → X → Type 0) → List (List X) → Type 0

@@ -1,8 +1,5 @@
 -- The loop of the only processor.
-use Rattle.std.proofs.Common.{◌≡◌, List, [], ◌∷◌, suc, refl, ap, sym, ◌∙◌, subst, Option, None}
-use Rattle.fak_text.proofs.Common.{ScriptOf, Process}
-use Rattle.fak_process.specs.ListScheduler.{State, Lists, Turn, step, take_front, turn_over}
-use Rattle.fak_processor.specs.Processors.{ProcessorOf, IsAlone, GoesOn, GoesTo, IsReached, lists_of}
+use Rattle.fak_processor.proofs.Common.{◌≡◌, List, [], ◌∷◌, suc, refl, ap, sym, ◌∙◌, subst, Option, None, ScriptOf, Process, State, Lists, Turn, step, take_front, turn_over, ProcessorOf, IsAlone, GoesOn, GoesTo, IsReached, lists_of}
 
 -- the processor with who has it
 abbrev pub state_of : ScriptOf → ProcessorOf → Option Turn → State

@@ -1,17 +1,13 @@
 -- From the atomic steps of a seat to its claims.
-use Rattle.std.proofs.Common.{◌≡◌, ℕ, ◌-◌, ◌<◌, ◌^◌, List, [], ◌∷◌, refl, sym, ap, ◌∙◌, subst, inl, inr, Some, ℤ, Bool, true, false, reverse}
 use Rattle.fak_model.specs.declared.queue.Kind.TheVariants as made
-use Rattle.fak_model.specs.declared.queue.Mark.{Mark}
 use Rattle.fak_model.specs.declared.queue.Stage.TheVariants as at
 use Rattle.fak_model.specs.Queue.{count, puts, gots, upper_count, lower_count}
 use Rattle.fak_model.specs.QueuePast.{after as after_kind}
-use Rattle.fak_model.proofs.QueueBackwards.{count_reverse}
 use Rattle.fak_core.specs.declared.queue.phase.Phase.TheVariants.{Idle, AddUp, BackUp, TicketIn, TurnIn, TurnOut}
-use Rattle.fak_queue.proofs.Common.{UpperCount, LowerCount, QueueHolder, RestsAt, idle, inserting, deleting, IsPart, ClaimedIn, RefusedIn, ClaimedOut, RefusedOut, Nothing}
+use Rattle.fak_queue.proofs.Common.{UpperCount, LowerCount, QueueHolder, RestsAt, idle, inserting, deleting, IsPart, ClaimedIn, RefusedIn, ClaimedOut, RefusedOut, Nothing, ◌≡◌, ℕ, ◌-◌, ◌<◌, ◌^◌, List, [], ◌∷◌, refl, sym, ap, ◌∙◌, subst, inl, inr, Some, ℤ, Bool, true, false, reverse, Mark, count_reverse, mark, Marks, Named, ShutAs, TestedUp, AddedUp, BacksUp, DrewIn, TestedLow, SubtractedLow, BacksLow, DrawsOut}
 use Rattle.fak_queue.specs.declared.found.UpperCount.TheVariants.{Below, Full, Shut}
 use Rattle.fak_queue.specs.declared.found.LowerCount.TheVariants.{Positive, Empty}
 use Rattle.fak_queue.specs.declared.found.NoRoom.TheVariants as refused
-use Rattle.fak_queue.specs.Steps.{mark, Marks, Named, ShutAs, TestedUp, AddedUp, BacksUp, DrewIn, TestedLow, SubtractedLow, BacksLow, DrawsOut}
 use Rattle.fak_queue.proofs.PartSteps.{put_there, put_new, names_kept, phase_is, left_is, slots_are, part_one, part_two}
 
 -- an item's Put, or its Got, leaves the seat waiting with the ticket that was drawn

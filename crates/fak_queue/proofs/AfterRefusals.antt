@@ -1,12 +1,6 @@
 -- Calls that follow refused ones.
-use Rattle.std.proofs.Common.{◌≡◌, ◌⊎◌, ℕ, ◌+◌, ◌<◌, arith, List, [], ◌∷◌, ◌++◌, length, length-append, refl, ap, sym, ◌∙◌, subst, inl, inr, append_assoc, All, flat_map, append-nil}
 use Rattle.std.proofs.lemmas.List.Concat.{flat_map-append}
-use Rattle.fak_model.proofs.Common.{All-append, All-push, queue_rules, count, puts, gots, ObjectId, SeatInfo, Appends, mine_of, before_mark}
-use Rattle.fak_model.specs.declared.queue.Kind.{Kind}
-use Rattle.fak_model.specs.declared.queue.Mark.{Mark}
-use Rattle.fak_model.proofs.RunningCalls.{appends_then}
-use Rattle.fak_queue.proofs.Common.{Idle, Makes, made_by, seat_of, drawn_by, state_of, Inserts, Deletes, RefusesFull, RefusesClosed, RefusesEmpty}
-use Rattle.fak_queue.specs.Retries.{RefusedInsertion, NotIn, WithdrawnIn, ClosedIn, WithdrawnLate, kinds_not_in, IsFull, IsClosed, RefusedDeletion, NotOut, WithdrawnOut, kinds_not_out, MakesAtLast, before_last, InsertsAfterFull, ClosesAfterFull, DeletesAfterEmpty}
+use Rattle.fak_queue.proofs.Common.{Idle, Makes, made_by, seat_of, drawn_by, state_of, Inserts, Deletes, RefusesFull, RefusesClosed, RefusesEmpty, ◌≡◌, ◌⊎◌, ℕ, ◌+◌, ◌<◌, arith, List, [], ◌∷◌, ◌++◌, length, length-append, refl, ap, sym, ◌∙◌, subst, inl, inr, append_assoc, All, flat_map, append-nil, All-append, All-push, queue_rules, count, puts, gots, ObjectId, SeatInfo, Appends, mine_of, before_mark, Kind, Mark, appends_then, RefusedInsertion, NotIn, WithdrawnIn, ClosedIn, WithdrawnLate, kinds_not_in, IsFull, IsClosed, RefusedDeletion, NotOut, WithdrawnOut, kinds_not_out, MakesAtLast, before_last, InsertsAfterFull, ClosesAfterFull, DeletesAfterEmpty}
 
 pub made_by_append : {T : Type 0} (name : ℕ) (ks ls : List (Kind T)) → made_by name (ks ++ ls) ≡ made_by name ks ++ made_by name ls
 made_by_append name [] ls = refl

@@ -1,11 +1,6 @@
 -- A claim and the rest of its call, with no call of the seat between them.
-use Rattle.std.proofs.Common.{◌≡◌, ℕ, ◌+◌, ◌-◌, ◌<◌, refl, sym, ap, ◌∙◌, subst, arith}
-use Rattle.atomic_table.specs.Seated.{TableId}
-use Rattle.fak_model.specs.declared.queue.Mark.{Mark}
 use Rattle.fak_model.specs.Calls.{object_id, SeatInfo}
-use Rattle.fak_core.specs.declared.queue.phase.Phase.{Phase}
-use Rattle.fak_core.specs.declared.queue.phase.Phase.TheVariants.{TurnIn, TurnOut}
-use Rattle.fak_queue.proofs.Common.{QueueLimits, Idle, QueueHolder, QueueInfo, queue_info, drawn_by, state_of, IsQueue, queue_seat, IsQueueSeat, Inserts, Deletes, ClaimedIn, Filled, ClaimedOut, Taken}
+use Rattle.fak_queue.proofs.Common.{QueueLimits, Idle, QueueHolder, QueueInfo, queue_info, drawn_by, state_of, IsQueue, queue_seat, IsQueueSeat, Inserts, Deletes, ClaimedIn, Filled, ClaimedOut, Taken, ◌≡◌, ℕ, ◌+◌, ◌-◌, ◌<◌, refl, sym, ap, ◌∙◌, subst, arith, TableId, Mark, Phase, TurnIn, TurnOut}
 use Rattle.fak_queue.proofs.SeatCalls.{idle_now, seat_after, state_after, drawn_after, left_less, left_same, claims_in, claims_out, fills, takes}
 use Rattle.fak_queue.proofs.WholeCalls.{inserted, deleted}
 

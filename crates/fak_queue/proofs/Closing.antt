@@ -1,24 +1,10 @@
 -- The table of a queue whose seats are all joined: its slots hold what its history leaves.
-use Rattle.std.proofs.Common.{◌≡◌, ℕ, zero, suc, ◌+◌, ◌-◌, ◌/◌, ◌%◌, ◌<◌, ◌≤◌, List, [], ◌∷◌, ◌++◌, length, slice_index, drop, refl, sym, ap, ◌∙◌, subst, inl, inr, arith, mod-lt, Option, Some, reverse, All}
-use Rattle.fak_model.proofs.Common.{All-head, All-tail, some, some-injective, some-ne-none, get_elem?, count, puts, gots, items_put, item_at, contents, Has, stage, item_of, IsWhole}
-use Rattle.atomic_table.specs.Table.{State, Final, Seen}
-use Rattle.fak_model.specs.declared.queue.Kind.TheVariants.{Fill, Take}
-use Rattle.fak_model.specs.declared.queue.Mark.{Mark}
-use Rattle.fak_model.specs.declared.queue.Stage.{Stage}
 use Rattle.fak_model.specs.declared.queue.Stage.TheVariants as at
 use Rattle.fak_model.specs.Shown.{total}
-use Rattle.fak_model.proofs.QueueBackwards.{count_reverse, items_count}
-use Rattle.fak_model.proofs.QueueCounts.{contents_bounded}
-use Rattle.fak_model.proofs.QueueStages.{stage_else}
-use Rattle.fak_model.proofs.QueueTickets.{item_there, take_below}
 use Rattle.fak_model.proofs.RunningViews.{sees_whole}
 use Rattle.fak_core.specs.declared.queue.phase.Phase.TheVariants as phase
 use Rattle.fak_core.specs.QueueSchedule.{InCell}
-use Rattle.fak_core.proofs.QueueKept.{IsKept, shown}
-use Rattle.fak_core.proofs.QueueTurns.{take_turn, le_or_lt}
-use Rattle.fak_core.proofs.QueueOwners.{in_cell}
-use Rattle.fak_core.proofs.QueueReached.{kept}
-use Rattle.fak_queue.proofs.Common.{QueueLimits, QueueView, queue_object, IsShownQueue}
+use Rattle.fak_queue.proofs.Common.{QueueLimits, QueueView, queue_object, IsShownQueue, ◌≡◌, ℕ, zero, suc, ◌+◌, ◌-◌, ◌/◌, ◌%◌, ◌<◌, ◌≤◌, List, [], ◌∷◌, ◌++◌, length, slice_index, drop, refl, sym, ap, ◌∙◌, subst, inl, inr, arith, mod-lt, Option, Some, reverse, All, All-head, All-tail, some, some-injective, some-ne-none, get_elem?, count, puts, gots, items_put, item_at, contents, Has, stage, item_of, IsWhole, State, Final, Seen, Fill, Take, Mark, Stage, count_reverse, items_count, contents_bounded, stage_else, item_there, take_below, IsKept, shown, take_turn, le_or_lt, in_cell, kept}
 use Rattle.fak_queue.specs.Left.{item_in, items_left, AreLeft}
 use Rattle.fak_queue.proofs.DeletionSteps.{item_past}
 use Rattle.fak_queue.proofs.WholePasts.{filled_or_putting}

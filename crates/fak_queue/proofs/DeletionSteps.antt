@@ -1,26 +1,10 @@
 -- Each atomic step of a deletion keeps what the queue shows, and tells what it did.
-use Rattle.std.proofs.Common.{◌≡◌, ◌≢◌, ℕ, ◌+◌, ◌-◌, ◌*◌, ◌/◌, ◌%◌, ◌^◌, ◌<◌, ◌==◌, List, [], ◌∷◌, ◌++◌, slice_index, set, refl, sym, ap, ◌∙◌, subst, inl, inr, arith, length-set, Option, Some, None, ℤ, pos, int_lt, mod-eq_of_lt, reverse}
-use Rattle.fak_model.proofs.Common.{reverse-reverse, nat_tests, some, none, get_elem?, count, gots, lower_count, items_put, item_at, stage, item_of, sight}
-use Rattle.atomic_table.specs.Table.{keeps, takes, gives, homes_after}
-use Rattle.fak_model.specs.declared.queue.Mark.{Mark}
 use Rattle.fak_model.specs.declared.queue.Kind.TheVariants as made
-use Rattle.fak_model.specs.declared.queue.Stage.TheVariants.{Getting}
-use Rattle.fak_model.proofs.QueueBackwards.{count_reverse, has_back, item_same}
-use Rattle.fak_model.proofs.QueueCounts.{contents_bounded}
-use Rattle.fak_model.proofs.QueueTickets.{item_there, getting_below}
-use Rattle.fak_model.proofs.RunningSteps.{steps}
-use Rattle.fak_core.specs.declared.queue.phase.Phase.{Phase}
 use Rattle.fak_core.specs.declared.queue.phase.Phase.TheVariants.{Idle, TestLow, SubLow, BackLow, TicketOut, TurnOut, LoadItem, SetFree, EndDelete}
 use Rattle.fak_core.specs.declared.queue.step.QueueMove.{QueueMove}
 use Rattle.fak_core.specs.QueueMoves.{QueueState, with_at, with_phase, moved, ticket_out}
 use Rattle.fak_core.specs.QueueSchedule.{InCell, IsReached, move_from}
-use Rattle.fak_core.proofs.QueueKept.{shown}
-use Rattle.fak_core.proofs.QueueTurns.{at_here, at_else}
-use Rattle.fak_core.proofs.QueueOwners.{waits_take}
-use Rattle.fak_core.proofs.QueueReached.{true_or_false, if_true, if_false, kept, moves, deletes, loads_put, draws_put}
-use Rattle.fak_queue.proofs.Common.{LowerCount, QueueLimits, QueueHolder, IsAtHome, IsEncoded, queue_object, IsShownQueue}
-use Rattle.fak_queue.specs.Words.{AreWords, IsLowerCount}
-use Rattle.fak_queue.specs.Steps.{mark, Anything, TestedLow, SubtractedLow, BacksLow, DrawsOut, WaitsOut, TurnedOut, FreedCell, EndsOut}
+use Rattle.fak_queue.proofs.Common.{LowerCount, QueueLimits, QueueHolder, IsAtHome, IsEncoded, queue_object, IsShownQueue, ◌≡◌, ◌≢◌, ℕ, ◌+◌, ◌-◌, ◌*◌, ◌/◌, ◌%◌, ◌^◌, ◌<◌, ◌==◌, List, [], ◌∷◌, ◌++◌, slice_index, set, refl, sym, ap, ◌∙◌, subst, inl, inr, arith, length-set, Option, Some, None, ℤ, pos, int_lt, mod-eq_of_lt, reverse, reverse-reverse, nat_tests, some, none, get_elem?, count, gots, lower_count, items_put, item_at, stage, item_of, sight, keeps, takes, gives, homes_after, Mark, Getting, count_reverse, has_back, item_same, contents_bounded, item_there, getting_below, steps, Phase, shown, at_here, at_else, waits_take, true_or_false, if_true, if_false, kept, moves, deletes, loads_put, draws_put, AreWords, IsLowerCount, mark, Anything, TestedLow, SubtractedLow, BacksLow, DrawsOut, WaitsOut, TurnedOut, FreedCell, EndsOut}
 use Rattle.fak_queue.proofs.WordWrites.{positive_word, empty_word, only_positive, only_empty, words_draws_out}
 use Rattle.fak_queue.proofs.Slots.{takes_slot, gives_slot, slot_there}
 use Rattle.fak_queue.proofs.Stepping.{QueueTable, queue_law, Permits, K, stands, outside, lower_past, loaded, upper_shrunk, lower_grown, lower_shrunk, few_draws, near, turn_is, turn_set, apart1, apart2, here1, here2, advances, quiet_step}

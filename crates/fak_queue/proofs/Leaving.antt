@@ -1,8 +1,7 @@
 -- Taking the oldest item out of a closed queue.
-use Rattle.std.proofs.Common.{◌≡◌, ◌≢◌, ℕ, zero, suc, ◌+◌, ◌-◌, ◌%◌, ◌<◌, ◌≤◌, Bool, true, false, List, ◌∷◌, ◌++◌, length, get_or, set, refl, sym, ap, ◌∙◌, subst, arith, length-append, length-set, get_or-set_same, get_or-set_other, Option, Some, None}
+use Rattle.fak_queue.proofs.Common.{◌≡◌, ◌≢◌, ℕ, zero, suc, ◌+◌, ◌-◌, ◌%◌, ◌<◌, ◌≤◌, Bool, true, false, List, ◌∷◌, ◌++◌, length, get_or, set, refl, sym, ap, ◌∙◌, subst, arith, length-append, length-set, get_or-set_same, get_or-set_other, Option, Some, None, some, none, some-injective, get_elem?}
 use mathlib.Core.Logic.{dite}
 use native.Mathlib.Decide.{ℕ_discrete}
-use Rattle.fak_model.proofs.Common.{some, none, some-injective, get_elem?}
 use mathlib.Core.Option as maybe
 use Rattle.atomic_table.proofs.Lists.{set_else, one_turn}
 use Rattle.fak_queue.specs.Left.{item_in, items_left}

@@ -1,11 +1,6 @@
 -- A seat that looks at its cell again and again.
-use Rattle.std.proofs.Common.{◌≡◌, ◌⊎◌, ℕ, ◌%◌, true, false, [], ◌∷◌, List, ap, sym, ◌∙◌, subst, inr, ⊎_elim, Some, None}
-use Rattle.fak_model.specs.declared.queue.Kind.{Kind}
 use Rattle.fak_model.specs.Queue.{queue_rules}
-use Rattle.fak_model.proofs.RunningCalls.{appends_none}
-use Rattle.fak_core.specs.declared.queue.phase.Phase.{Phase}
-use Rattle.fak_core.specs.declared.queue.phase.Phase.TheVariants.{TurnIn, StoreItem, TurnOut, LoadItem}
-use Rattle.fak_queue.proofs.Common.{QueueHolder, Named, made_by, IsPart, Nothing, Filled, LooksIn, FillsSlot, Taken, LooksOut, TakesSlot}
+use Rattle.fak_queue.proofs.Common.{QueueHolder, Named, made_by, IsPart, Nothing, Filled, LooksIn, FillsSlot, Taken, LooksOut, TakesSlot, ◌≡◌, ◌⊎◌, ℕ, ◌%◌, true, false, [], ◌∷◌, List, ap, sym, ◌∙◌, subst, inr, ⊎_elim, Some, None, Kind, appends_none, Phase, TurnIn, StoreItem, TurnOut, LoadItem}
 use Rattle.fak_queue.proofs.PartSteps.{names_kept, phase_is}
 use Rattle.fak_queue.proofs.Turning.{slot_in, slot_out}
 

@@ -1,16 +1,9 @@
 -- The table of an empty queue shows the opening state.
-use Rattle.std.proofs.Common.{◌≡◌, ◌≢◌, ℕ, zero, suc, ◌+◌, ◌*◌, ◌<◌, ◌≤◌, false, List, [], ◌∷◌, length, slice_index, map, set, replicate, refl, ap, sym, ◌∙◌, subst, inl, arith, length-set, get_or-set_other, get_or-set_same, None, pos}
-use Rattle.fak_model.proofs.Common.{length-map, length-replicate, get_or-replicate, some, get_elem?, ObjectId, seat_info, sight, IsSeatToken, queue_rules, bias}
-use Rattle.std.proofs.Math.Nat.{mul-le-mul}
-use Rattle.atomic_table.specs.Table.{opening}
 use Rattle.fak_model.proofs.RunningSeats.{starts}
 use Rattle.fak_core.specs.declared.queue.phase.Phase.TheVariants as phase
 use Rattle.fak_core.specs.QueueSchedule as core
-use Rattle.fak_core.proofs.QueueReached.{is_reached}
 use Rattle.fak_model.proofs.Appending.{history_none}
-use Rattle.fak_queue.proofs.Common.{QueueLimits, AreWords, seat_of, idle, IsQueueSeat, queue_seat}
-use Rattle.fak_queue.specs.Shown.{QueueHolder, IsEncoded, queue_object, IsShownQueue, opened_queue}
-use Rattle.fak_queue.specs.Refusals.{IsInRange}
+use Rattle.fak_queue.proofs.Common.{QueueLimits, AreWords, seat_of, idle, IsQueueSeat, queue_seat, ◌≡◌, ◌≢◌, ℕ, zero, suc, ◌+◌, ◌*◌, ◌<◌, ◌≤◌, false, List, [], ◌∷◌, length, slice_index, map, set, replicate, refl, ap, sym, ◌∙◌, subst, inl, arith, length-set, get_or-set_other, get_or-set_same, None, pos, length-map, length-replicate, get_or-replicate, some, get_elem?, ObjectId, seat_info, sight, IsSeatToken, queue_rules, bias, mul-le-mul, opening, is_reached, QueueHolder, IsEncoded, queue_object, IsShownQueue, opened_queue, IsInRange}
 
 read_map : {A : Type 0} (n c : ℕ) (a : A) → c < n → get_elem? (map some (replicate n a)) c ≡ some (some a)
 read_map zero c a near = absurd (omega (arith, near))

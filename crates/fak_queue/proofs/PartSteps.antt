@@ -1,19 +1,7 @@
 -- From the atomic steps of a seat to the parts of its calls.
-use Rattle.std.proofs.Common.{◌≡◌, ℕ, ◌+◌, ◌==◌, true, List, [], ◌∷◌, ◌++◌, length, length-append, refl, sym, ap, ◌∙◌, subst, arith, Option, Some, reverse, append-nil}
-use Rattle.fak_model.proofs.Common.{nat_tests, queue_rules, count, puts, items_put, item_at, marks_of, sight, Leaves, ObjectId, seat_info, Appends}
-use Rattle.fak_model.specs.declared.queue.Kind.{Kind}
-use Rattle.fak_model.specs.declared.queue.Mark.{Mark}
-use Rattle.fak_model.specs.declared.queue.Kind.TheVariants.{Put}
 use Rattle.fak_model.specs.QueuePast.{after as after_kind, stage, item_of}
-use Rattle.fak_model.proofs.Seats.{begins_self}
-use Rattle.fak_model.proofs.QueueBackwards.{count_reverse}
-use Rattle.fak_model.proofs.QueueStages.{stage_here}
-use Rattle.fak_model.proofs.QueueTickets.{item_stays}
-use Rattle.fak_model.proofs.RunningCalls.{step_appends, step_before, appends_then, appends_none, begins_after, mine_after}
-use Rattle.fak_core.specs.declared.queue.phase.Phase.{Phase}
-use Rattle.fak_queue.proofs.Common.{QueueView, QueueHolder, queue_object, mark, seat_of, made_by, RestsAt}
+use Rattle.fak_queue.proofs.Common.{QueueView, QueueHolder, queue_object, mark, seat_of, made_by, RestsAt, ◌≡◌, ℕ, ◌+◌, ◌==◌, true, List, [], ◌∷◌, ◌++◌, length, length-append, refl, sym, ap, ◌∙◌, subst, arith, Option, Some, reverse, append-nil, nat_tests, queue_rules, count, puts, items_put, item_at, marks_of, sight, Leaves, ObjectId, seat_info, Appends, Kind, Mark, Put, begins_self, count_reverse, stage_here, item_stays, step_appends, step_before, appends_then, appends_none, begins_after, mine_after, Phase, before_part, IsPart, Nothing}
 use Rattle.fak_queue.proofs.DeletionSteps.{item_past}
-use Rattle.fak_queue.specs.Parts.{before_part, IsPart, Nothing}
 
 -- ---- the seat after a step
 

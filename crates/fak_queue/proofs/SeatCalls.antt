@@ -1,24 +1,12 @@
 -- From the parts of a seat's calls to what the calls promise.
-use Rattle.std.proofs.Common.{◌≡◌, ℕ, ◌+◌, ◌-◌, ◌<◌, ℤ, List, [], ◌∷◌, ◌++◌, refl, ap, sym, ◌∙◌, subst, arith, inl, inr, ⊎_elim, Bool, true, false, ◌⊎◌, ◌↔◌, reverse, All}
-use Rattle.fak_model.proofs.Common.{reverse-reverse, queue_rules, IsQueueHistory, puts, gots, Has, stage, In, marks_of, ObjectId, object_id, SeatInfo, seat_info, Appends, IsSeatToken}
-use Rattle.atomic_table.specs.Seated.{TableId}
-use Rattle.fak_model.specs.declared.queue.Kind.{Kind}
 use Rattle.fak_model.specs.declared.queue.Kind.TheVariants as made
-use Rattle.fak_model.specs.declared.queue.Mark.{Mark}
-use Rattle.fak_model.specs.declared.queue.Stage.{Stage}
 use Rattle.fak_model.specs.declared.name_set.NameSet.{NameSet}
 use Rattle.fak_model.specs.Names.{Has as HasName, HasJust}
-use Rattle.fak_model.proofs.QueueBackwards.{count_append}
-use Rattle.fak_model.proofs.RunningCalls.{token_names, token_left, token_slots}
-use Rattle.fak_core.specs.declared.queue.phase.Phase.{Phase}
 use Rattle.fak_core.specs.declared.queue.phase.Phase.TheVariants as phase
 use Rattle.fak_queue.specs.declared.state.SeatState.{SeatState}
-use Rattle.fak_queue.proofs.Common.{Idle, Inserting, Deleting, QueueLimits, QueueHolder, RefusesInsertion}
+use Rattle.fak_queue.proofs.Common.{Idle, Inserting, Deleting, QueueLimits, QueueHolder, RefusesInsertion, ◌≡◌, ℕ, ◌+◌, ◌-◌, ◌<◌, ℤ, List, [], ◌∷◌, ◌++◌, refl, ap, sym, ◌∙◌, subst, arith, inl, inr, ⊎_elim, Bool, true, false, ◌⊎◌, ◌↔◌, reverse, All, reverse-reverse, queue_rules, IsQueueHistory, puts, gots, Has, stage, In, marks_of, ObjectId, object_id, SeatInfo, seat_info, Appends, IsSeatToken, TableId, Kind, Mark, Stage, count_append, token_names, token_left, token_slots, Phase, mark, Marks, FitsTable, HasOneName, ShutAs, QueueInfo, queue_info, seat_of, tickets_in, drawn_by, state_at, state_of, IsQueue, queue_seat, RestsAt, idle, inserting, deleting, IsQueueSeat, made_by, Makes, before_own, ClaimsIn, RefusesFull, RefusesClosed, ClaimsOut, RefusesEmpty, WaitsToFill, Fills, WaitsToTake, Takes, ShutsAs, ShutsAfter, fault_of, IsPart, Nothing, ClaimedIn, RefusedIn, Filled, IsTurnedAwayIn, ClaimedOut, RefusedOut, Taken, IsTurnedAwayOut}
 use Rattle.fak_queue.specs.declared.found.NoRoom.{NoRoom}
 use Rattle.fak_queue.specs.declared.found.NoRoom.TheVariants as refused
-use Rattle.fak_queue.specs.Steps.{mark, Marks, FitsTable, HasOneName, ShutAs}
-use Rattle.fak_queue.specs.Queues.{QueueInfo, queue_info, seat_of, tickets_in, drawn_by, state_at, state_of, IsQueue, queue_seat, RestsAt, idle, inserting, deleting, IsQueueSeat, made_by, Makes, before_own, ClaimsIn, RefusesFull, RefusesClosed, ClaimsOut, RefusesEmpty, WaitsToFill, Fills, WaitsToTake, Takes, ShutsAs, ShutsAfter}
-use Rattle.fak_queue.specs.Parts.{fault_of, IsPart, Nothing, ClaimedIn, RefusedIn, Filled, IsTurnedAwayIn, ClaimedOut, RefusedOut, Taken, IsTurnedAwayOut}
 use Rattle.fak_queue.proofs.Admissions.{closing, closed}
 
 -- ---- where a seat stands

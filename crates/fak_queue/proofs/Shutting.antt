@@ -1,11 +1,5 @@
 -- The shut bit of a queue, between any two atomic steps.
-use Rattle.std.proofs.Common.{◌≡◌, ◌+◌, ◌-◌, ◌≤◌, ◌↔◌, arith, ap, ◌∙◌, inl, inr, slice_index, pos, ◌+ℤ◌, Option}
-use Rattle.fak_model.proofs.Common.{ints, count, upper_raise, upper_drop, Has, bias}
-use Rattle.atomic_table.specs.Table.{State}
-use Rattle.fak_model.specs.declared.queue.Kind.TheVariants.{Close}
-use Rattle.fak_model.proofs.QueueCounts.{upper_range}
-use Rattle.fak_core.proofs.QueueReached.{true_or_false, kept}
-use Rattle.fak_queue.proofs.Common.{QueueLimits, IsShownQueue, QueueView, shut_bit, shut_part}
+use Rattle.fak_queue.proofs.Common.{QueueLimits, IsShownQueue, QueueView, shut_bit, shut_part, ◌≡◌, ◌+◌, ◌-◌, ◌≤◌, ◌↔◌, arith, ap, ◌∙◌, inl, inr, slice_index, pos, ◌+ℤ◌, Option, ints, count, upper_raise, upper_drop, Has, bias, State, Close, upper_range, true_or_false, kept}
 use Rattle.fak_queue.proofs.Stepping.{below_of}
 use Rattle.fak_queue.proofs.WordWrites.{shut_above, open_below}
 

@@ -1,14 +1,8 @@
 -- The slots of a queue's cells as a seat takes one and gives it back.
-use Rattle.std.proofs.Common.{◌≡◌, ◌≢◌, ◌⊎◌, ◌↔◌, ℕ, ◌+◌, ◌*◌, ◌/◌, ◌%◌, ◌<◌, List, length, set, sym, ap, ◌∙◌, subst, inl, inr, arith, Option, None}
-use Rattle.fak_model.proofs.Common.{some, none, get_elem?}
+use Rattle.fak_queue.proofs.Common.{◌≡◌, ◌≢◌, ◌⊎◌, ◌↔◌, ℕ, ◌+◌, ◌*◌, ◌/◌, ◌%◌, ◌<◌, List, length, set, sym, ap, ◌∙◌, subst, inl, inr, arith, Option, None, some, none, get_elem?, QueueState, InCell, IsReached, alone, kept, le_or_lt, IsAtHome, HasSlot}
 use mathlib.Core.Option as maybe
 use Rattle.atomic_table.proofs.Lists.{set_here, set_else}
 use Rattle.fak_model.proofs.Deciding.{same_or_not}
-use Rattle.fak_core.proofs.Common.{QueueState, InCell, IsReached}
-use Rattle.fak_core.proofs.QueueOwners.{alone}
-use Rattle.fak_core.proofs.QueueReached.{kept}
-use Rattle.fak_core.proofs.QueueTurns.{le_or_lt}
-use Rattle.fak_queue.specs.Shown.{IsAtHome, HasSlot}
 
 abbrev Homes : Type 0 → Type 0
 Homes T = List (maybe.Option (Option T))

@@ -1,19 +1,10 @@
 -- Where a seat stands, in the words of histories.
-use Rattle.std.proofs.Common.{◌≡◌, ℕ, ◌<◌, ◌^◌, List, refl, sym, ap, ◌∙◌, subst, inl, inr, Bool, true, false, nat_lt, arith, reverse}
-use Rattle.fak_model.proofs.Common.{reverse-reverse, nat_tests, Owes, seat_words, IsQueueHistory, queue_rules, words_of_call, puts, gots, after, stage, ObjectId, SeatInfo, object_id}
 use Rattle.fak_model.specs.declared.queue.Kind.TheVariants as made
-use Rattle.fak_model.specs.declared.queue.Mark.{Mark}
-use Rattle.fak_model.specs.declared.queue.Stage.{Stage}
 use Rattle.fak_model.specs.declared.queue.Stage.TheVariants as at
-use Rattle.atomic_table.specs.Seated.{TableId}
-use Rattle.fak_core.specs.declared.queue.phase.Phase.{Phase}
-use Rattle.fak_model.proofs.QueueStages.{after_putting, after_getting}
-use Rattle.fak_model.proofs.QueueBackwards.{Last, last_of, drew}
 use Rattle.fak_model.proofs.QueueWords.{owed_in}
 use Rattle.fak_model.proofs.QueueLiteral.{owes, to_past}
-use Rattle.fak_queue.proofs.Common.{Idle, Inserting, Deleting, QueueHolder, Shuts, ShutAs, shut_bit}
+use Rattle.fak_queue.proofs.Common.{Idle, Inserting, Deleting, QueueHolder, Shuts, ShutAs, shut_bit, ◌≡◌, ℕ, ◌<◌, ◌^◌, List, refl, sym, ap, ◌∙◌, subst, inl, inr, Bool, true, false, nat_lt, arith, reverse, reverse-reverse, nat_tests, Owes, seat_words, IsQueueHistory, queue_rules, words_of_call, puts, gots, after, stage, ObjectId, SeatInfo, object_id, Mark, Stage, TableId, Phase, after_putting, after_getting, Last, last_of, drew, IsState, queue_seat, IsQueueSeat, RestsAt, idle, inserting, deleting}
 use Rattle.fak_core.specs.declared.queue.phase.Phase.TheVariants as phase
-use Rattle.fak_queue.specs.Queues.{IsState, queue_seat, IsQueueSeat, RestsAt, idle, inserting, deleting}
 
 -- a seat with no open call
 pub idle_state : {T : Type 0} (size : ℕ) (object : ObjectId) (name left : ℕ) (m : QueueHolder T) → IsQueueHistory size (reverse m.0.seen) → stage m.0.seen name ≡ at.Idle → IsState (queue_seat object name left m) Idle

@@ -1,17 +1,5 @@
 -- What a seat knows as it makes an atomic step, and the steps that take and give no slot.
-use Rattle.std.proofs.Common.{◌≡◌, ◌≢◌, ℕ, ◌+◌, ◌-◌, ◌%◌, ◌^◌, ◌<◌, ◌≤◌, List, [], ◌∷◌, ◌++◌, slice_index, set, refl, sym, ap, ◌∙◌, subst, inl, arith, mod-lt, Option, Some, true, false, ℤ, pos, ◌+ℤ◌, ◌-ℤ◌, reverse, All}
-use Rattle.fak_model.proofs.Common.{All-head, All-tail, ints, some, get_elem?, count, puts, gots, upper_raise, upper_drop, lower_raise, lower_drop, upper_count, lower_count, SeatsBelow, In, sight, AreOwn, Leaves, bias}
-use Rattle.atomic_table.specs.Table.{State, Act, keeps, stepped, carried_after, Valid}
-use Rattle.fak_model.specs.declared.queue.Mark.{Mark}
-use Rattle.fak_model.proofs.QueueBackwards.{count_reverse}
-use Rattle.fak_model.proofs.QueueCounts.{upper_range, lower_range}
-use Rattle.fak_model.proofs.RunningSteps.{AreLawful, Advances, steps, total_at}
-use Rattle.fak_core.specs.declared.queue.phase.Phase.{Phase}
-use Rattle.fak_core.proofs.Common.{QueueState, with_at, InCell, IsReached}
-use Rattle.fak_core.proofs.QueueKept.{IsKept}
-use Rattle.fak_core.proofs.QueueTurns.{at_here, at_else}
-use Rattle.fak_core.proofs.QueueReached.{kept, legal_history}
-use Rattle.fak_queue.proofs.Common.{QueueLimits, shut_part, AreWords, QueueView, QueueHolder, queue_object, IsShownQueue}
+use Rattle.fak_queue.proofs.Common.{QueueLimits, shut_part, AreWords, QueueView, QueueHolder, queue_object, IsShownQueue, ◌≡◌, ◌≢◌, ℕ, ◌+◌, ◌-◌, ◌%◌, ◌^◌, ◌<◌, ◌≤◌, List, [], ◌∷◌, ◌++◌, slice_index, set, refl, sym, ap, ◌∙◌, subst, inl, arith, mod-lt, Option, Some, true, false, ℤ, pos, ◌+ℤ◌, ◌-ℤ◌, reverse, All, All-head, All-tail, ints, some, get_elem?, count, puts, gots, upper_raise, upper_drop, lower_raise, lower_drop, upper_count, lower_count, SeatsBelow, In, sight, AreOwn, Leaves, bias, State, Act, keeps, stepped, carried_after, Valid, Mark, count_reverse, upper_range, lower_range, AreLawful, Advances, steps, total_at, Phase, QueueState, with_at, InCell, IsReached, IsKept, at_here, at_else, kept, legal_history}
 use Rattle.fak_queue.proofs.WordWrites.{grown, shrunk, shut_part-small, words_same, words_upper, words_lower, words_turn}
 use Rattle.fak_queue.proofs.Slots.{stays_home}
 

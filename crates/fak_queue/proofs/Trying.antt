@@ -1,14 +1,7 @@
 -- From one try at a cell to what the call promises.
-use Rattle.std.proofs.Common.{◌≡◌, ℕ, ◌%◌, true, false, [], ◌∷◌, sym, ap, ◌∙◌, subst, arith, Some, None}
-use Rattle.atomic_table.specs.Seated.{TableId}
-use Rattle.fak_model.specs.declared.queue.Mark.{Mark}
 use Rattle.fak_model.specs.Calls.{object_id, SeatInfo}
-use Rattle.fak_model.proofs.RunningCalls.{token_names, token_phase, token_slots}
-use Rattle.fak_core.specs.declared.queue.phase.Phase.{Phase}
 use Rattle.fak_core.specs.declared.queue.phase.Phase.TheVariants as phase
-use Rattle.fak_core.specs.declared.queue.phase.Phase.TheVariants.{TurnIn, StoreItem, TurnOut, LoadItem}
-use Rattle.fak_queue.proofs.Common.{QueueLimits, Idle, Inserting, Deleting, QueueHolder, Named, Filled, LooksIn, FillsSlot, Taken, LooksOut, TakesSlot}
-use Rattle.fak_queue.specs.Queues.{QueueInfo, queue_info, drawn_by, state_of, IsQueue, queue_seat, IsQueueSeat, WaitsToFill, Fills, WaitsToTake, Takes}
+use Rattle.fak_queue.proofs.Common.{QueueLimits, Idle, Inserting, Deleting, QueueHolder, Named, Filled, LooksIn, FillsSlot, Taken, LooksOut, TakesSlot, ◌≡◌, ℕ, ◌%◌, true, false, [], ◌∷◌, sym, ap, ◌∙◌, subst, arith, Some, None, TableId, Mark, token_names, token_phase, token_slots, Phase, TurnIn, StoreItem, TurnOut, LoadItem, QueueInfo, queue_info, drawn_by, state_of, IsQueue, queue_seat, IsQueueSeat, WaitsToFill, Fills, WaitsToTake, Takes}
 use Rattle.fak_queue.proofs.PartSteps.{names_kept, phase_is}
 use Rattle.fak_queue.proofs.Turning.{slot_in, slot_out}
 use Rattle.fak_queue.proofs.SeatCalls.{left_same, seat_after, state_after, drawn_after, inserting_now, deleting_now, one_insertion, one_deletion, fills, waits_to_fill, takes, waits_to_take}

@@ -1,12 +1,6 @@
 -- From the atomic steps of a seat to what it does at its ticket's cell.
-use Rattle.std.proofs.Common.{◌≡◌, ◌≢◌, ℕ, ◌+◌, ◌*◌, ◌/◌, ◌%◌, ◌<◌, ◌^◌, ◌==◌, Bool, true, false, List, [], ◌∷◌, refl, sym, ap, ◌∙◌, subst, arith, Some, None, reverse}
-use Rattle.fak_model.proofs.Common.{nat_tests, items_put, item_at, Has, stage}
-use Rattle.atomic_table.specs.Table.{rest}
 use Rattle.fak_model.specs.declared.queue.Kind.TheVariants as made
-use Rattle.fak_core.specs.declared.queue.phase.Phase.{Phase}
-use Rattle.fak_core.specs.declared.queue.phase.Phase.TheVariants.{TurnIn, EndInsert, TurnOut, EndDelete}
-use Rattle.fak_queue.proofs.Common.{QueueView, QueueHolder, Named, TurnedIn, FilledCell, EndsIn, TurnedOut, FreedCell, EndsOut, RestsAt, idle, inserting, deleting}
-use Rattle.fak_queue.specs.Parts.{IsTurnedAwayIn, LooksIn, FillsSlot, IsTurnedAwayOut, LooksOut, TakesSlot, Nothing}
+use Rattle.fak_queue.proofs.Common.{QueueView, QueueHolder, Named, TurnedIn, FilledCell, EndsIn, TurnedOut, FreedCell, EndsOut, RestsAt, idle, inserting, deleting, ◌≡◌, ◌≢◌, ℕ, ◌+◌, ◌*◌, ◌/◌, ◌%◌, ◌<◌, ◌^◌, ◌==◌, Bool, true, false, List, [], ◌∷◌, refl, sym, ap, ◌∙◌, subst, arith, Some, None, reverse, nat_tests, items_put, item_at, Has, stage, rest, Phase, TurnIn, EndInsert, TurnOut, EndDelete, IsTurnedAwayIn, LooksIn, FillsSlot, IsTurnedAwayOut, LooksOut, TakesSlot, Nothing}
 use Rattle.fak_queue.proofs.PartSteps.{names_kept, phase_is, left_is, slots_are, seen_is, part_none, part_two, sees_item}
 
 -- what a seat took first is what it has

@@ -1,16 +1,8 @@
 -- What calls and joins add to the weights of the items that were put into a queue and got out of it.
-use Rattle.std.proofs.Common.{◌≡◌, ◌≢◌, ℕ, ◌+◌, Bool, true, false, List, [], ◌∷◌, ◌++◌, refl, ap, sym, ◌∙◌, subst, inl, inr, arith, flat_map, sum_by}
-use Rattle.fak_model.proofs.Common.{sum_by-cons, queue_rules, count, contents, In, mine, SeatInfo, TallyInfo, tally_of, mine_of, IsJoined, put_of, got_of}
-use Rattle.fak_model.specs.declared.queue.Kind.{Kind}
-use Rattle.fak_model.specs.declared.queue.Kind.TheVariants.{OverIn, BackIn, NoRoom, OverOut, BackOut, NoItem, Close, Closed, LateIn}
-use Rattle.fak_model.specs.declared.queue.Mark.{Mark}
-use Rattle.fak_model.proofs.QueueBackwards.{count_append}
+use Rattle.fak_queue.proofs.Common.{◌≡◌, ◌≢◌, ℕ, ◌+◌, Bool, true, false, List, [], ◌∷◌, ◌++◌, refl, ap, sym, ◌∙◌, subst, inl, inr, arith, flat_map, sum_by, sum_by-cons, queue_rules, count, contents, In, mine, SeatInfo, TallyInfo, tally_of, mine_of, IsJoined, put_of, got_of, Kind, OverIn, BackIn, NoRoom, OverOut, BackOut, NoItem, Close, Closed, LateIn, Mark, count_append, IsWorn, ShutsAs, made_by, seat_of, RefusesDeletion, RefusedInsertion, NotIn, WithdrawnIn, ClosedIn, WithdrawnLate, kinds_not_in, RefusedDeletion, NotOut, WithdrawnOut, kinds_not_out, kinds_in, kinds_out, MakesAtLast}
 use Rattle.fak_model.proofs.SeatWeights.{mine_one, mine_joined}
 use Rattle.fak_queue.specs.declared.fault.DeleteFault.{DeleteFault}
 use Rattle.fak_queue.specs.declared.fault.DeleteFault.TheVariants as deletion
-use Rattle.fak_queue.specs.Queues.{IsWorn, ShutsAs, made_by, seat_of}
-use Rattle.fak_queue.specs.Refusals.{RefusesDeletion}
-use Rattle.fak_queue.specs.Retries.{RefusedInsertion, NotIn, WithdrawnIn, ClosedIn, WithdrawnLate, kinds_not_in, RefusedDeletion, NotOut, WithdrawnOut, kinds_not_out, kinds_in, kinds_out, MakesAtLast}
 use Rattle.fak_queue.proofs.AfterRefusals.{made_by_append, at_once, refused_empty}
 
 -- ---- weights of kinds

@@ -1,12 +1,7 @@
 -- From a claim and the rest of the call to the whole call.
-use Rattle.std.proofs.Common.{◌≡◌, ℕ, zero, suc, ◌+◌, ◌<◌, ◌==◌, Bool, true, false, cond, List, [], ◌∷◌, ◌++◌, length, length-append, refl, ap, sym, ◌∙◌, subst, arith, Some}
+use Rattle.fak_queue.proofs.Common.{◌≡◌, ℕ, zero, suc, ◌+◌, ◌<◌, ◌==◌, Bool, true, false, cond, List, [], ◌∷◌, ◌++◌, length, length-append, refl, ap, sym, ◌∙◌, subst, arith, Some, Kind, Mark, queue_rules, count, puts, gots, items_put, item_in, item_at, marks_of, SeatInfo, Appends, mine_of, before_mark, appends_then, seat_of, made_by, Makes, before_own, ClaimsIn, ClaimsOut, Fills, Takes, Inserts, Deletes}
 use Rattle.std.proofs.lemmas.List.Concat.{flat_map-append}
-use Rattle.fak_model.specs.declared.queue.Kind.{Kind}
 use Rattle.fak_model.specs.declared.queue.Kind.TheVariants as made
-use Rattle.fak_model.specs.declared.queue.Mark.{Mark}
-use Rattle.fak_model.proofs.Common.{queue_rules, count, puts, gots, items_put, item_in, item_at, marks_of, SeatInfo, Appends, mine_of, before_mark}
-use Rattle.fak_model.proofs.RunningCalls.{appends_then}
-use Rattle.fak_queue.specs.Queues.{seat_of, made_by, Makes, before_own, ClaimsIn, ClaimsOut, Fills, Takes, Inserts, Deletes}
 
 -- ---- what stands before a mark stays so as more is seen
 

@@ -1,15 +1,7 @@
 -- Where no call is cut short, every ticket that was put is filled, and every ticket that was got is taken.
-use Rattle.std.proofs.Common.{◌≡◌, ◌⊎◌, ℕ, ◌<◌, ◌≤◌, List, [], ◌∷◌, refl, sym, ap, ◌∙◌, subst, inl, inr, arith}
-use Rattle.fak_model.specs.declared.queue.Kind.{Kind}
+use Rattle.fak_queue.proofs.Common.{◌≡◌, ◌⊎◌, ℕ, ◌<◌, ◌≤◌, List, [], ◌∷◌, refl, sym, ap, ◌∙◌, subst, inl, inr, arith, Kind, Fill, Take, Mark, Stage, Putting, count, puts, Has, after, stage, IsNext, IsLegalPast, stage_here, stage_else, le_or_lt}
 use Rattle.fak_model.specs.declared.queue.Kind.TheVariants as made
-use Rattle.fak_model.specs.declared.queue.Kind.TheVariants.{Fill, Take}
-use Rattle.fak_model.specs.declared.queue.Mark.{Mark}
-use Rattle.fak_model.specs.declared.queue.Stage.{Stage}
-use Rattle.fak_model.specs.declared.queue.Stage.TheVariants.{Putting}
-use Rattle.fak_model.proofs.Common.{count, puts, Has, after, stage, IsNext, IsLegalPast}
 use Rattle.fak_model.proofs.Deciding.{same_or_not}
-use Rattle.fak_model.proofs.QueueStages.{stage_here, stage_else}
-use Rattle.fak_core.proofs.QueueTurns.{le_or_lt}
 
 -- ---- insertions
 

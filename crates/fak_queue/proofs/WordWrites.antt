@@ -1,17 +1,12 @@
 -- One word of a queue's table changes.
-use Rattle.std.proofs.Common.{◌≡◌, ◌≢◌, ℕ, ◌+◌, ◌-◌, ◌*◌, ◌%◌, ◌^◌, ◌<◌, ◌≤◌, Bool, true, false, List, slice_index, set, sym, ap, ◌∙◌, subst, arith, length-set, get_or-set_other, get_or-set_same, mod-eq_of_lt, bit_or, bit_and, ℤ, pos, ◌+ℤ◌, ◌-ℤ◌, int_lt}
-use Rattle.fak_model.proofs.Common.{ints, bias}
-use Rattle.std.proofs.Math.Nat.{add-mod_left}
 use Rattle.std.proofs.lemmas.List.{set-get_or}
 use Rattle.std.specs.Int.{bit_at}
 use Rattle.std.specs.Int.Bits.{or_add_and}
 use Rattle.std.proofs.lemmas.Nat.Bits.{and_pow}
 use Rattle.fak_core.specs.QueueMoves.{with_at}
-use Rattle.fak_core.proofs.QueueTurns.{by_place}
-use Rattle.fak_queue.proofs.Common.{UpperCount, LowerCount}
+use Rattle.fak_queue.proofs.Common.{UpperCount, LowerCount, ◌≡◌, ◌≢◌, ℕ, ◌+◌, ◌-◌, ◌*◌, ◌%◌, ◌^◌, ◌<◌, ◌≤◌, Bool, true, false, List, slice_index, set, sym, ap, ◌∙◌, subst, arith, length-set, get_or-set_other, get_or-set_same, mod-eq_of_lt, bit_or, bit_and, ℤ, pos, ◌+ℤ◌, ◌-ℤ◌, int_lt, ints, bias, add-mod_left, by_place, shut_bit, shut_part, AreWords, IsUpperCount, IsLowerCount}
 use Rattle.fak_queue.specs.declared.found.UpperCount.TheVariants.{Below, Full, Shut}
 use Rattle.fak_queue.specs.declared.found.LowerCount.TheVariants.{Positive, Empty}
-use Rattle.fak_queue.specs.Words.{shut_bit, shut_part, AreWords, IsUpperCount, IsLowerCount}
 
 pub shut_part-small : (b : Bool) → shut_part b ≤ 9223372036854775808
 shut_part-small true = omega arith

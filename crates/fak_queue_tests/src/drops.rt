@@ -1,21 +1,40 @@
 //! A value that is dropped with its queue, its seat or its rest is dropped once.
 
-use fak_queue::{Queue, Tally};
-use std::sync::Arc;
+ghost use Rattle.fak_queue.specs.Queues.{IsIdleSeat};
+
+use super::steps::{close, open, take};
+use fak_queue::{Queue, Seat, Tally};
+use std::process::Abort;
+use std::sync::{Arc, Wait};
+
+// One more holder of the value.
+fn held(rt: &impl Abort, shared: &Arc<u8>) -> Arc<u8> {
+    Arc::try_clone(shared).expect(rt, "memory")
+}
+
+// Inserts two holders, the first items.
+fn insert_two<R: Abort + Wait>(
+    rt: &R,
+    queue: &Queue<Arc<u8>>,
+    seat: &mut Seat<Arc<u8>>,
+    shared: &Arc<u8>,
+)
+    requires { IsIdleSeat queue.now.object seat.old }
+    ensures { IsIdleSeat queue.now.object seat.new }
+{
+    for ticket in 0..2 {
+        let inserted = queue.insert(rt, seat, held(rt, shared)).ok();
+        assert_eq!(rt; inserted, Some(ticket));
+    }
+}
 
 #[test]
 fn values_are_dropped_once(rt: HostRuntime) {
     let shared = Arc::new(rt.alloc(), 7u8).expect(&rt, "memory");
-    let (queue, mut seats) = Queue::<Arc<u8>>::open(rt.alloc(), 4, 2, 100).expect(&rt, "open");
-    let b = seats.pop().expect(&rt, "two seats");
-    let mut a = seats.pop().expect(&rt, "two seats");
-    let Ok(0) = queue.insert(&rt, &mut a, Arc::try_clone(&shared).expect(&rt, "memory")) else {
-        panic!(rt; "insert")
-    };
-    let Ok(1) = queue.insert(&rt, &mut a, Arc::try_clone(&shared).expect(&rt, "memory")) else {
-        panic!(rt; "insert again")
-    };
-    let Ok(2) = queue.claim_insert(&mut a, Arc::try_clone(&shared).expect(&rt, "memory")) else {
+    let (queue, mut seats) = open::<Arc<u8>>(&rt, rt.alloc(), (4, 2, 100));
+    let mut a = take(&rt, &queue, &mut seats);
+    insert_two(&rt, &queue, &mut a, &shared);
+    let Ok(2) = queue.claim_insert(&mut a, held(&rt, &shared)) else {
         panic!(rt; "claim")
     };
     assert_eq!(rt; Arc::strong_count(&shared), 4);
@@ -23,23 +42,16 @@ fn values_are_dropped_once(rt: HostRuntime) {
     assert_eq!(rt; Arc::strong_count(&shared), 3);
     drop(queue);
     assert_eq!(rt; Arc::strong_count(&shared), 1);
-    drop(b);
+    drop(seats);
 }
 
 #[test]
 fn what_a_rest_hands_out_is_moved(rt: HostRuntime) {
     let shared = Arc::new(rt.alloc(), 7u8).expect(&rt, "memory");
-    let (queue, mut seats) = Queue::<Arc<u8>>::open(rt.alloc(), 4, 1, 100).expect(&rt, "open");
-    let mut a = seats.pop().expect(&rt, "one seat");
-    let Ok(0) = queue.insert(&rt, &mut a, Arc::try_clone(&shared).expect(&rt, "memory")) else {
-        panic!(rt; "insert")
-    };
-    let Ok(1) = queue.insert(&rt, &mut a, Arc::try_clone(&shared).expect(&rt, "memory")) else {
-        panic!(rt; "insert again")
-    };
-    let tally = Tally::of(a);
-    assert!(rt; tally.is_whole());
-    let mut rest = queue.close(tally);
+    let (queue, mut seats) = open::<Arc<u8>>(&rt, rt.alloc(), (4, 1, 100));
+    let mut a = take(&rt, &queue, &mut seats);
+    insert_two(&rt, &queue, &mut a, &shared);
+    let mut rest = close(&rt, queue, Tally::of(a));
     let first = rest.next().expect(&rt, "first");
     assert_eq!(rt; Arc::strong_count(&shared), 3);
     drop(rest);

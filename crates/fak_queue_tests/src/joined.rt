@@ -1,55 +1,70 @@
 //! Rows with three and four seats, on one thread.
 
-use super::calls::{claims_in, claims_out, fills, takes, waits_to_fill, waits_to_take};
-use super::threads::close_whole;
-use fak_queue::{InsertFault, Queue, SeatState, Tally};
+ghost use Rattle.std.specs.Prelude.{◌≡◌, All};
 
-#[test]
-fn four_seats_over_three_cells(rt: HostRuntime) {
-    let (queue, mut seats) = Queue::<u64>::open(rt.alloc(), 3, 4, 100).expect(&rt, "open");
-    let mut d = seats.pop().expect(&rt, "four seats");
-    let mut c = seats.pop().expect(&rt, "four seats");
-    let mut b = seats.pop().expect(&rt, "four seats");
-    let mut a = seats.pop().expect(&rt, "four seats");
-    claims_in(&rt, &queue, &mut a, 10, 0);
-    assert_eq!(rt; a.state(), SeatState::Inserting(0));
-    claims_in(&rt, &queue, &mut b, 11, 1);
-    fills(&rt, &queue, &mut b, 1);
-    claims_out(&rt, &queue, &mut c, 0);
-    waits_to_take(&rt, &queue, &mut c, 0);
-    assert_eq!(rt; c.state(), SeatState::Deleting(0));
-    claims_in(&rt, &queue, &mut b, 12, 2);
-    fills(&rt, &queue, &mut b, 2);
-    claims_out(&rt, &queue, &mut d, 1);
-    assert_eq!(rt; takes(&rt, &queue, &mut d, 1), 11);
-    claims_in(&rt, &queue, &mut b, 13, 3);
-    waits_to_fill(&rt, &queue, &mut b, 3);
-    fills(&rt, &queue, &mut a, 0);
-    assert_eq!(rt; takes(&rt, &queue, &mut c, 0), 10);
-    fills(&rt, &queue, &mut b, 3);
-    let tally = queue.join(queue.join(queue.join(Tally::of(a), b), c), d);
-    let mut rest = close_whole(queue, tally).expect(&rt, "whole");
+use super::steps::{A, B, C, D, Step, close, joined, open, walk};
+use fak_queue::{InsertFault, Queue, Seat, SeatState};
+use std::process::Abort;
+
+// Cells wait for their turns: the second item is out before the first is in.
+pub const CELLS_WAIT: [(usize, Step<u64>); 16] = [
+    (A, Step::ClaimInsert(10, Ok(0))),
+    (A, Step::State(SeatState::Inserting(0))),
+    (B, Step::ClaimInsert(11, Ok(1))),
+    (B, Step::TryFill(Some(1))),
+    (C, Step::ClaimDelete(Ok(0))),
+    (C, Step::TryTake(None)),
+    (C, Step::State(SeatState::Deleting(0))),
+    (B, Step::ClaimInsert(12, Ok(2))),
+    (B, Step::TryFill(Some(2))),
+    (D, Step::ClaimDelete(Ok(1))),
+    (D, Step::TryTake(Some((1, 11)))),
+    (B, Step::ClaimInsert(13, Ok(3))),
+    (B, Step::TryFill(None)),
+    (A, Step::TryFill(Some(0))),
+    (C, Step::TryTake(Some((0, 10)))),
+    (B, Step::TryFill(Some(3))),
+];
+
+// Closes the queue, which is to leave the third and the fourth item.
+pub fn leaves_two(rt: &impl Abort, queue: Queue<u64>, seats: Vec<Seat<u64>>)
+    requires { All (λ s. s.object ≡ queue.object) seats.items }
+{
+    let tally = joined(rt, &queue, seats);
+    let mut rest = close(rt, queue, tally);
     assert_eq!(rt; rest.next(), Some(12));
     assert_eq!(rt; rest.next(), Some(13));
     assert_eq!(rt; rest.next(), None);
 }
 
 #[test]
+fn four_seats_over_three_cells(rt: HostRuntime) {
+    let (queue, mut seats) = open(&rt, rt.alloc(), (3, 4, 100));
+    walk(&rt, &queue, &mut seats, CELLS_WAIT.as_slice());
+    leaves_two(&rt, queue, seats);
+}
+
+#[test]
 fn a_seat_that_was_dropped_in_its_insertion(rt: HostRuntime) {
-    let (queue, mut seats) = Queue::<u64>::open(rt.alloc(), 2, 3, 10).expect(&rt, "open");
-    let mut c = seats.pop().expect(&rt, "three seats");
-    let mut b = seats.pop().expect(&rt, "three seats");
-    let mut a = seats.pop().expect(&rt, "three seats");
-    claims_in(&rt, &queue, &mut a, 1, 0);
-    drop(a);
-    let Ok(1) = queue.insert(&rt, &mut b, 2) else {
-        panic!(rt; "insert 2")
-    };
-    claims_out(&rt, &queue, &mut c, 0);
-    waits_to_take(&rt, &queue, &mut c, 0);
-    waits_to_take(&rt, &queue, &mut c, 0);
-    let Err(InsertFault::Full { upper: 2, item: 3 }) = queue.claim_insert(&mut b, 3) else {
-        panic!(rt; "full")
-    };
-    assert!(rt; !Tally::of(b).is_whole());
+    let (queue, mut seats) = open(&rt, rt.alloc(), (2, 3, 10));
+    walk(
+        &rt,
+        &queue,
+        &mut seats,
+        [(C, Step::ClaimInsert(1, Ok(0)))].as_slice(),
+    );
+    drop(seats.pop());
+    let steps = [
+        (A, Step::Insert(2, Ok(1))),
+        (B, Step::ClaimDelete(Ok(0))),
+        (B, Step::TryTake(None)),
+        (B, Step::TryTake(None)),
+        (
+            A,
+            Step::ClaimInsert(3, Err(InsertFault::Full { upper: 2, item: 3 })),
+        ),
+    ];
+    walk(&rt, &queue, &mut seats, steps.as_slice());
+    drop(seats.pop());
+    assert!(rt; !joined(&rt, &queue, seats).is_whole());
 }

@@ -3,8 +3,6 @@
 #![tactic(auto)]
 
 #[cfg(test)]
-mod calls;
-#[cfg(test)]
 mod drops;
 #[cfg(test)]
 mod in_turns;
@@ -17,9 +15,7 @@ mod pages;
 #[cfg(test)]
 mod rows;
 #[cfg(test)]
+mod steps;
+#[cfg(test)]
 mod storms;
-#[cfg(test)]
-mod threads;
-#[cfg(test)]
-mod two_to_one;
 mod waits;

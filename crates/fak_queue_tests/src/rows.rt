@@ -1,102 +1,89 @@
 //! Worked rows, on one thread.
 
-use super::calls::{claims_in, fills};
+use super::steps::{A, B, Step, open, open_and_walk};
 use fak_queue::{DeleteFault, InsertFault, OpenFault, Queue, SeatState};
+use std::alloc::Global;
 
 #[test]
 fn a_cell_that_is_full_and_one_that_is_not(rt: HostRuntime) {
-    let (queue, mut seats) = Queue::<u64>::open(rt.alloc(), 1, 2, 10).expect(&rt, "open");
-    let mut b = seats.pop().expect(&rt, "two seats");
-    let mut a = seats.pop().expect(&rt, "two seats");
-    claims_in(&rt, &queue, &mut a, 7, 0);
-    let Err(DeleteFault::Empty(0)) = queue.claim_delete(&mut b) else {
-        panic!(rt; "empty")
-    };
-    fills(&rt, &queue, &mut a, 0);
-    let Err(InsertFault::Full { upper: 1, item: 8 }) = queue.claim_insert(&mut a, 8) else {
-        panic!(rt; "full")
-    };
-    assert_eq!(rt; a.state(), SeatState::Idle);
-    assert_eq!(rt; a.left(), 9);
+    let steps = [
+        (A, Step::ClaimInsert(7, Ok(0))),
+        (B, Step::ClaimDelete(Err(DeleteFault::Empty(0)))),
+        (A, Step::TryFill(Some(0))),
+        (
+            A,
+            Step::ClaimInsert(8, Err(InsertFault::Full { upper: 1, item: 8 })),
+        ),
+        (A, Step::State(SeatState::Idle)),
+        (A, Step::Left(9)),
+    ];
+    open_and_walk::<u64, HostRuntime>(&rt, rt.alloc(), (1, 2, 10), steps.as_slice());
 }
 
 #[test]
 fn a_seat_that_drew_its_stint(rt: HostRuntime) {
-    let (queue, mut seats) = Queue::<u64>::open(rt.alloc(), 4, 2, 2).expect(&rt, "open");
-    let mut b = seats.pop().expect(&rt, "two seats");
-    let mut a = seats.pop().expect(&rt, "two seats");
-    assert!(rt; matches!(queue.insert(&rt, &mut a, 5), Ok(0)));
-    assert!(rt; matches!(queue.insert(&rt, &mut a, 6), Ok(1)));
-    assert!(rt;
-        matches!(
-            queue.insert(&rt, &mut a, 7),
-            Err(InsertFault::Worn { item: 7 })
-        )
-    );
-    assert!(rt; matches!(queue.delete(&rt, &mut a), Err(DeleteFault::Worn)));
-    assert_eq!(rt; a.left(), 0);
-    assert_eq!(rt; a.state(), SeatState::Idle);
-    assert!(rt; matches!(queue.delete(&rt, &mut b), Ok((0, 5))));
+    let steps = [
+        (A, Step::Insert(5, Ok(0))),
+        (A, Step::Insert(6, Ok(1))),
+        (A, Step::Insert(7, Err(InsertFault::Worn { item: 7 }))),
+        (A, Step::Delete(Err(DeleteFault::Worn))),
+        (A, Step::Left(0)),
+        (A, Step::State(SeatState::Idle)),
+        (B, Step::Delete(Ok((0, 5)))),
+    ];
+    open_and_walk::<u64, HostRuntime>(&rt, rt.alloc(), (4, 2, 2), steps.as_slice());
 }
 
 #[test]
 fn a_seat_with_one_ticket(rt: HostRuntime) {
-    let (queue, mut seats) = Queue::<u64>::open(rt.alloc(), 1, 2, 1).expect(&rt, "open");
-    let mut b = seats.pop().expect(&rt, "two seats");
-    let mut a = seats.pop().expect(&rt, "two seats");
-    assert!(rt; matches!(queue.insert(&rt, &mut a, 7), Ok(0)));
-    assert_eq!(rt; a.left(), 0);
-    assert!(rt;
-        matches!(
-            queue.insert(&rt, &mut a, 8),
-            Err(InsertFault::Worn { item: 8 })
-        )
-    );
-    assert!(rt; matches!(queue.delete(&rt, &mut b), Ok((0, 7))));
-    assert!(rt; matches!(queue.delete(&rt, &mut b), Err(DeleteFault::Worn)));
+    let steps = [
+        (A, Step::Insert(7, Ok(0))),
+        (A, Step::Left(0)),
+        (A, Step::Insert(8, Err(InsertFault::Worn { item: 8 }))),
+        (B, Step::Delete(Ok((0, 7)))),
+        (B, Step::Delete(Err(DeleteFault::Worn))),
+    ];
+    open_and_walk::<u64, HostRuntime>(&rt, rt.alloc(), (1, 2, 1), steps.as_slice());
 }
 
 #[test]
 fn a_queue_that_was_shut(rt: HostRuntime) {
-    let (queue, mut seats) = Queue::<u64>::open(rt.alloc(), 2, 2, 10).expect(&rt, "open");
-    let mut b = seats.pop().expect(&rt, "two seats");
-    let mut a = seats.pop().expect(&rt, "two seats");
-    assert!(rt; matches!(queue.insert(&rt, &mut a, 5), Ok(0)));
-    assert!(rt; queue.shut(&mut b));
-    assert!(rt; !queue.shut(&mut b));
-    assert!(rt;
-        matches!(
-            queue.insert(&rt, &mut a, 6),
-            Err(InsertFault::Closed { item: 6 })
-        )
-    );
-    assert!(rt; matches!(queue.delete(&rt, &mut b), Ok((0, 5))));
-    assert!(rt; matches!(queue.delete(&rt, &mut b), Err(DeleteFault::Empty(0))));
+    let steps = [
+        (A, Step::Insert(5, Ok(0))),
+        (B, Step::Shut(true)),
+        (B, Step::Shut(false)),
+        (A, Step::Insert(6, Err(InsertFault::Closed { item: 6 }))),
+        (B, Step::Delete(Ok((0, 5)))),
+        (B, Step::Delete(Err(DeleteFault::Empty(0)))),
+    ];
+    open_and_walk::<u64, HostRuntime>(&rt, rt.alloc(), (2, 2, 10), steps.as_slice());
+}
+
+// Why no queue is opened.
+fn refusal(alloc: Global, size: u64, seats: u64, stint: u64) -> Option<OpenFault> {
+    match Queue::<u64>::open(alloc, size, seats, stint) {
+        Ok(_) => None,
+        Err(fault) => Some(fault),
+    }
 }
 
 #[test]
 fn the_ranges_of_an_opening(rt: HostRuntime) {
-    let (_, seats) = Queue::<u64>::open(rt.alloc(), 4096, 64, 1 << 40).expect(&rt, "open");
-    assert_eq!(rt; seats.len(), 64);
     let alloc = rt.alloc();
-    assert!(rt;
-        matches!(
-            Queue::<u64>::open(alloc, 4097, 1, 1),
-            Err(OpenFault::BadSize)
-        )
-    );
-    assert!(rt; matches!(Queue::<u64>::open(alloc, 0, 0, 0), Err(OpenFault::BadSize)));
-    assert!(rt;
-        matches!(
-            Queue::<u64>::open(alloc, 1, 65, 1),
-            Err(OpenFault::BadSeats)
-        )
-    );
-    assert!(rt; matches!(Queue::<u64>::open(alloc, 1, 1, 0), Err(OpenFault::BadStint)));
-    assert!(rt;
-        matches!(
-            Queue::<u64>::open(alloc, 1, 1, (1 << 40) + 1),
-            Err(OpenFault::BadStint)
-        )
-    );
+    let (_, seats) = open::<u64>(&rt, alloc, (4096, 64, 1 << 40));
+    assert!(rt; seats.len() == 64);
+    drop(seats);
+    let refused = [
+        (4097, 1, 1, OpenFault::BadSize),
+        (0, 0, 0, OpenFault::BadSize),
+        (1, 65, 1, OpenFault::BadSeats),
+        (1, 1, 0, OpenFault::BadStint),
+        (1, 1, (1 << 40) + 1, OpenFault::BadStint),
+    ];
+    for (size, seats, stint, fault) in refused {
+        assert!(rt;
+            refusal(alloc, size, seats, stint) == Some(fault),
+            "{size}, {seats}, {stint}"
+        );
+    }
 }

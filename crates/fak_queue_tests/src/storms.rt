@@ -1,152 +1,205 @@
-//! One, two and four pairs of seats: in each, one seat inserts while the other deletes.
+//! Storms: some seats insert while others delete, each in a thread of its own.
 
-ghost use Rattle.std.specs.Prelude.{◌≡◌};
+ghost use Rattle.std.specs.Prelude.{◌≡◌, All};
+ghost use Rattle.fak_queue.specs.Queues.{IsIdleSeat};
 
-use super::items::{are_all, fifty, rise};
-use super::threads::{Pair, join_pair, leaves_nothing, one_pair, tally_of, two_pairs};
-use fak_queue::Queue;
+use super::items::{are_all, fifty, ids_of, loads_of, rise};
+use super::steps::{close, joined, open};
+use fak_queue::{Queue, Seat, SeatState};
 use std::alloc::Global;
 use std::process::Abort;
-use std::sync::Wait;
-use std::thread::{Threads, join};
+use std::sync::{Mutex, Wait};
+use std::test::Fail;
+use std::thread::{Threads, map_vec};
 
-// Four pairs at once.
-fn four_pairs<R: Threads + Wait + Sync>(
-    rt: &R,
-    alloc: Global,
-    queue: &Queue<u64>,
-    first: (Pair<u64>, Pair<u64>),
-    second: (Pair<u64>, Pair<u64>),
-) -> ((Pair<u64>, Pair<u64>), (Pair<u64>, Pair<u64>))
-    requires first { (first.0.inserter.object ≡ queue.now.object) × (first.1.inserter.object ≡ queue.now.object) }
-    requires second { (second.0.inserter.object ≡ queue.now.object) × (second.1.inserter.object ≡ queue.now.object) }
-    ensures first { (result.0.0.inserter.object ≡ queue.now.object) × (result.0.1.inserter.object ≡ queue.now.object) }
-    ensures second { (result.1.0.inserter.object ≡ queue.now.object) × (result.1.1.inserter.object ≡ queue.now.object) }
-{
-    join(
-        rt,
-        move || -> (Pair<u64>, Pair<u64>)
-            requires { (first.0.inserter.object ≡ queue.now.object) × (first.1.inserter.object ≡ queue.now.object) }
-            ensures { (result.0.inserter.object ≡ queue.entry.now.object) × (result.1.inserter.object ≡ queue.entry.now.object) }
-        { two_pairs(rt, alloc, queue, first) },
-        move || -> (Pair<u64>, Pair<u64>)
-            requires { (second.0.inserter.object ≡ queue.now.object) × (second.1.inserter.object ≡ queue.now.object) }
-            ensures { (result.0.inserter.object ≡ queue.entry.now.object) × (result.1.inserter.object ≡ queue.entry.now.object) }
-        { two_pairs(rt, alloc, queue, second) },
-    )
+// The lists that no seat has begun to insert, and what each of the other seats deleted.
+#[derive(Drop)]
+struct Lists<T> {
+    waiting: Mutex<Vec<Vec<T>>>,
+    deleted: Mutex<Vec<Vec<T>>>,
 }
 
-// Whether the numbers that a seat deleted rise, for each inserter. They go into the list.
-fn gather<R: Abort>(rt: &R, got: Vec<u64>, firsts: &[u64], all: &mut Vec<u64>) -> bool {
-    let rises = firsts.iter().all(|&first| rise(got.as_slice(), first));
-    for item in got {
-        all.push(item).expect(rt, "memory for an item");
+// Inserts the items, the last of the list first.
+fn insert_all<T: Drop, R: Wait>(
+    rt: &R,
+    queue: &Queue<T>,
+    mut seat: Seat<T>,
+    mut items: Vec<T>,
+) -> Seat<T>
+    requires { IsIdleSeat queue.now.object seat }
+    ensures { result.object ≡ queue.now.object }
+{
+    while let Some(item) = items.pop() {
+        let _ = queue.wait_insert(rt, &mut seat, item);
     }
-    rises
+    seat
+}
+
+// Deletes so many items, into this list.
+fn delete_all<T: Drop, R: Wait>(
+    rt: &R,
+    queue: &Queue<T>,
+    mut seat: Seat<T>,
+    deletions: usize,
+    into: &mut Vec<T>,
+) -> Seat<T>
+    requires { IsIdleSeat queue.now.object seat }
+    ensures { result.object ≡ queue.now.object }
+{
+    for _ in 0..deletions {
+        if let Ok((_, item)) = queue.wait_delete(rt, &mut seat) {
+            let _ = into.push(item);
+        }
+    }
+    seat
+}
+
+fn add_list<T: Drop>(rt: &impl Abort, lists: &mut Vec<Vec<T>>, list: Vec<T>) {
+    let Ok(()) = lists.push(list) else {
+        panic!(rt; "memory for a list")
+    };
+}
+
+// Inserts one of the lists; where none is waiting, deletes so many items.
+fn work<T: Drop, R: Abort + Wait>(
+    rt: &R,
+    alloc: Global,
+    queue: &Queue<T>,
+    lists: &Lists<T>,
+    deletions: usize,
+    seat: Seat<T>,
+) -> Seat<T>
+    requires { seat.object ≡ queue.now.object }
+    ensures { result.object ≡ queue.now.object }
+{
+    let SeatState::Idle = seat.state() else {
+        panic!(rt; "a seat in mid-call")
+    };
+    let list = lists.waiting.lock(rt).pop();
+    if let Some(items) = list {
+        return insert_all(rt, queue, seat, items);
+    }
+    let mut items = Vec::new(alloc);
+    let seat = delete_all(rt, queue, seat, deletions, &mut items);
+    add_list(rt, &mut lists.deleted.lock(rt), items);
+    seat
+}
+
+// Has all seats work at once.
+fn work_all<T: Drop + Send, R: Abort + Threads + Wait + Sync>(
+    rt: &R,
+    alloc: Global,
+    queue: &Queue<T>,
+    lists: &Lists<T>,
+    deletions: usize,
+    seats: Vec<Seat<T>>,
+) -> Vec<Seat<T>>
+    requires { All (λ s. s.object ≡ queue.now.object) seats.items }
+    ensures { All (λ s. s.object ≡ queue.now.object) result.items }
+{
+    let part = move |seat: Seat<T>| -> Seat<T>
+        requires { seat.object ≡ queue.now.object }
+        ensures { result.object ≡ queue.entry.now.object }
+    { work(rt, alloc, queue, lists, deletions, seat) };
+    let Ok(seats) = map_vec(rt, seats, &part) else {
+        panic!(rt; "memory for the threads")
+    };
+    seats
+}
+
+// What each seat deleted, where the lists are inserted by a seat each while so many others delete. Nothing is to be left.
+fn storm<T: Drop + Send, R: Abort + Threads + Wait + Sync>(
+    rt: &R,
+    alloc: Global,
+    lists: Vec<Vec<T>>,
+    deleters: u64,
+    deletions: usize,
+) -> Vec<Vec<T>> {
+    let seats = deleters.wrapping_add(lists.len() as u64);
+    let lists = Lists {
+        waiting: Mutex::new(lists),
+        deleted: Mutex::new(Vec::new(alloc)),
+    };
+    let (queue, seats) = open(rt, alloc, (8, seats, 100));
+    let seats = work_all(rt, alloc, &queue, &lists, deletions, seats);
+    let tally = joined(rt, &queue, seats);
+    let None = close(rt, queue, tally).next() else {
+        panic!(rt; "an item that was left")
+    };
+    let Lists {
+        waiting: _,
+        deleted,
+    } = lists;
+    deleted.into_inner()
+}
+
+// Stops where the numbers that each seat deleted do not rise from each of these on, or are not all of them.
+fn check_all(rt: &impl Abort, alloc: Global, lists: Vec<Vec<u64>>, firsts: &[u64]) {
+    let mut all = Vec::new(alloc);
+    for list in lists {
+        for &first in firsts {
+            assert!(rt; rise(list.as_slice(), first), "those from {first} on");
+        }
+        for item in list {
+            all.push(item).expect(rt, "memory for an item");
+        }
+    }
+    assert!(rt; are_all(rt, all, firsts));
+}
+
+// Fifty numbers from each of these on.
+fn lists_of(rt: &impl Abort, alloc: Global, firsts: &[u64]) -> Vec<Vec<u64>> {
+    let mut lists = Vec::new(alloc);
+    for &first in firsts {
+        add_list(rt, &mut lists, fifty(rt, alloc, first));
+    }
+    lists
+}
+
+// Fifty numbers from each of these on go in by a seat each, and come out by so many others.
+fn storm_of_numbers<R: Abort + Threads + Wait + Sync>(
+    rt: &R,
+    alloc: Global,
+    firsts: &[u64],
+    deleters: u64,
+    deletions: usize,
+) {
+    let got = storm(rt, alloc, lists_of(rt, alloc, firsts), deleters, deletions);
+    check_all(rt, alloc, got, firsts);
 }
 
 #[test]
 fn a_storm_of_one_pair(rt: HostRuntime) {
-    let alloc = rt.alloc();
-    let firsts = [1001u64];
-    let (queue, mut seats) = Queue::<u64>::open(alloc, 8, 2, 100).expect(&rt, "open");
-    let deleter = seats.pop().expect(&rt, "two seats");
-    let inserter = seats.pop().expect(&rt, "two seats");
-    let items = fifty(&rt, alloc, 1001);
-    let pair = one_pair(
-        &rt,
-        alloc,
-        &queue,
-        Pair {
-            inserter,
-            deleter,
-            items,
-        },
-    );
-    let (tally, got) = tally_of(&queue, pair);
-    assert!(rt; leaves_nothing(queue, tally));
-    assert!(rt; rise(got.as_slice(), 1001));
-    assert!(rt; are_all(&rt, got, firsts.as_slice()));
+    storm_of_numbers(&rt, rt.alloc(), [1001].as_slice(), 1, 50);
 }
 
 #[test]
 fn a_storm_of_two_pairs(rt: HostRuntime) {
-    let alloc = rt.alloc();
-    let firsts = [1001u64, 2001];
-    let (queue, mut seats) = Queue::<u64>::open(alloc, 8, 4, 100).expect(&rt, "open");
-    let d = seats.pop().expect(&rt, "four seats");
-    let c = seats.pop().expect(&rt, "four seats");
-    let b = seats.pop().expect(&rt, "four seats");
-    let a = seats.pop().expect(&rt, "four seats");
-    let first = Pair {
-        inserter: a,
-        deleter: c,
-        items: fifty(&rt, alloc, 1001),
-    };
-    let second = Pair {
-        inserter: b,
-        deleter: d,
-        items: fifty(&rt, alloc, 2001),
-    };
-    let (first, second) = two_pairs(&rt, alloc, &queue, (first, second));
-    let (tally, got) = tally_of(&queue, first);
-    let (tally, others) = join_pair(&queue, tally, second);
-    assert!(rt; leaves_nothing(queue, tally));
-    let mut all = Vec::new(alloc);
-    assert!(rt; gather(&rt, got, firsts.as_slice(), &mut all));
-    assert!(rt; gather(&rt, others, firsts.as_slice(), &mut all));
-    assert!(rt; are_all(&rt, all, firsts.as_slice()));
+    storm_of_numbers(&rt, rt.alloc(), [1001, 2001].as_slice(), 2, 50);
 }
 
 #[test]
 fn a_storm_of_four_pairs(rt: HostRuntime) {
+    storm_of_numbers(&rt, rt.alloc(), [1001, 2001, 3001, 4001].as_slice(), 4, 50);
+}
+
+#[test]
+fn two_inserters_and_a_deleter(rt: HostRuntime) {
+    storm_of_numbers(&rt, rt.alloc(), [1001, 2001].as_slice(), 1, 100);
+}
+
+#[test]
+fn two_inserters_of_loads_and_a_deleter(rt: HostRuntime) -> Result<(), Fail> {
     let alloc = rt.alloc();
-    let firsts = [1001u64, 2001, 3001, 4001];
-    let (queue, mut seats) = Queue::<u64>::open(alloc, 8, 8, 100).expect(&rt, "open");
-    let h = seats.pop().expect(&rt, "four seats");
-    let g = seats.pop().expect(&rt, "four seats");
-    let f = seats.pop().expect(&rt, "four seats");
-    let e = seats.pop().expect(&rt, "four seats");
-    let d = seats.pop().expect(&rt, "eight seats");
-    let c = seats.pop().expect(&rt, "eight seats");
-    let b = seats.pop().expect(&rt, "eight seats");
-    let a = seats.pop().expect(&rt, "eight seats");
-    let first = Pair {
-        inserter: a,
-        deleter: e,
-        items: fifty(&rt, alloc, 1001),
-    };
-    let second = Pair {
-        inserter: b,
-        deleter: f,
-        items: fifty(&rt, alloc, 2001),
-    };
-    let third = Pair {
-        inserter: c,
-        deleter: g,
-        items: fifty(&rt, alloc, 3001),
-    };
-    let fourth = Pair {
-        inserter: d,
-        deleter: h,
-        items: fifty(&rt, alloc, 4001),
-    };
-    let ((first, second), (third, fourth)) = four_pairs(
-        &rt,
-        alloc,
-        &queue,
-        (first, second),
-        (third, fourth),
-    );
-    let mut all = Vec::new(alloc);
-    let (tally, got) = tally_of(&queue, first);
-    assert!(rt; gather(&rt, got, firsts.as_slice(), &mut all));
-    let (tally, got) = join_pair(&queue, tally, second);
-    assert!(rt; gather(&rt, got, firsts.as_slice(), &mut all));
-    let (tally, got) = join_pair(&queue, tally, third);
-    assert!(rt; gather(&rt, got, firsts.as_slice(), &mut all));
-    let (tally, got) = join_pair(&queue, tally, fourth);
-    assert!(rt; gather(&rt, got, firsts.as_slice(), &mut all));
-    assert!(rt; leaves_nothing(queue, tally));
-    assert!(rt; are_all(&rt, all, firsts.as_slice()));
+    let firsts = [1001, 2001];
+    let mut lists = Vec::new(alloc);
+    for ids in lists_of(&rt, alloc, firsts.as_slice()) {
+        lists.push(loads_of(alloc, ids)?)?;
+    }
+    let mut got = Vec::new(alloc);
+    for loads in storm(&rt, alloc, lists, 1, 100) {
+        got.push(ids_of(alloc, loads)?)?;
+    }
+    check_all(&rt, alloc, got, firsts.as_slice());
+    Ok(())
 }

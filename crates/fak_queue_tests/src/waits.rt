@@ -4,6 +4,8 @@ ghost use Rattle.std.specs.Prelude.{◌≡◌, ◌+◌, IfOk, IsTrue, MatchOptio
 ghost use Rattle.fak_model.specs.Queue.{contents, lower_count, upper_count};
 ghost use Rattle.fak_queue.specs.Queues.{IsIdleSeat, drawn_by};
 
+#[cfg(test)]
+use crate::steps::{A, B, Step, open, open_and_walk, take};
 use fak_model::laws::queue::a_queue_at_rest_counts_its_items;
 use fak_queue::{DeleteFault, InsertFault, Queue, Rest, Seat, Tally};
 use std::sync::Wait;
@@ -51,40 +53,31 @@ fn close_counted(queue: Queue<u64>, tally: Tally<u64>) -> Option<Rest<u64>>
 
 #[test]
 fn worn_seats_do_not_wait(rt: HostRuntime) {
-    let (queue, mut seats) = Queue::<u64>::open(rt.alloc(), 1, 2, 1).expect(&rt, "open");
-    let mut b = seats.pop().expect(&rt, "two seats");
-    let mut a = seats.pop().expect(&rt, "two seats");
-    assert!(rt; matches!(queue.wait_insert(&rt, &mut a, 7), Ok(0)));
-    assert!(rt;
-        matches!(
-            queue.wait_insert(&rt, &mut a, 8),
-            Err(InsertFault::Worn { item: 8 })
-        )
-    );
-    assert!(rt; matches!(queue.wait_delete(&rt, &mut b), Ok((0, 7))));
-    assert!(rt; matches!(queue.wait_delete(&rt, &mut b), Err(DeleteFault::Worn)));
-    assert!(rt; matches!(queue.delete(&rt, &mut b), Err(DeleteFault::Worn)));
+    let steps = [
+        (A, Step::WaitInsert(7, Ok(0))),
+        (A, Step::WaitInsert(8, Err(InsertFault::Worn { item: 8 }))),
+        (B, Step::WaitDelete(Ok((0, 7)))),
+        (B, Step::WaitDelete(Err(DeleteFault::Worn))),
+        (B, Step::Delete(Err(DeleteFault::Worn))),
+    ];
+    open_and_walk::<u64, HostRuntime>(&rt, rt.alloc(), (1, 2, 1), steps.as_slice());
 }
 
 #[test]
 fn a_shut_queue_does_not_keep_a_seat_waiting(rt: HostRuntime) {
-    let (queue, mut seats) = Queue::<u64>::open(rt.alloc(), 1, 1, 9).expect(&rt, "open");
-    let mut a = seats.pop().expect(&rt, "one seat");
-    assert!(rt; matches!(queue.wait_insert(&rt, &mut a, 7), Ok(0)));
-    assert!(rt; queue.shut(&mut a));
-    assert!(rt;
-        matches!(
-            queue.wait_insert(&rt, &mut a, 8),
-            Err(InsertFault::Closed { item: 8 })
-        )
-    );
-    assert!(rt; matches!(queue.wait_delete(&rt, &mut a), Ok((0, 7))));
+    let steps = [
+        (A, Step::WaitInsert(7, Ok(0))),
+        (A, Step::Shut(true)),
+        (A, Step::WaitInsert(8, Err(InsertFault::Closed { item: 8 }))),
+        (A, Step::WaitDelete(Ok((0, 7)))),
+    ];
+    open_and_walk::<u64, HostRuntime>(&rt, rt.alloc(), (1, 1, 9), steps.as_slice());
 }
 
 #[test]
 fn items_that_were_inserted_and_left(rt: HostRuntime) {
-    let (queue, mut seats) = Queue::<u64>::open(rt.alloc(), 3, 1, 9).expect(&rt, "open");
-    let mut a = seats.pop().expect(&rt, "one seat");
+    let (queue, mut seats) = open(&rt, rt.alloc(), (3, 1, 9));
+    let mut a = take(&rt, &queue, &mut seats);
     let Ok(()) = insert_below(&rt, &queue, &mut a, 3) else {
         panic!(rt; "insert")
     };

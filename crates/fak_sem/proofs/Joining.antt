@@ -1,17 +1,10 @@
 -- What joins and closes leave of the invariant of a tally.
-use Rattle.std.proofs.Common.{◌≡◌, ◌≢◌, ℕ, ◌+◌, ◌<◌, ◌==◌, true, false, List, [], ◌∷◌, ◌++◌, length-drop, refl, ap, sym, ◌∙◌, subst, arith, inl, inr, All, flat_map, append-nil}
+use Rattle.fak_sem.proofs.Common.{◌≡◌, ◌≢◌, ℕ, ◌+◌, ◌<◌, ◌==◌, true, false, List, [], ◌∷◌, ◌++◌, length-drop, refl, ap, sym, ◌∙◌, subst, arith, inl, inr, All, flat_map, append-nil, CreditKind, CreditMark, Mark, in_either, seat_of, weight_from, parks, wakes, of_all, downs_parked_by, ups_waking_by, IsMatched, IsSettled, SemId, SemTallyInfo, seats_of, IsSemSeat, IsSemTally, sem_tally}
 use Rattle.fak_model.proofs.Common.{nat_tests, All-head, All-tail, IsAtRest, seat_words, sum_below, credit_rules, count, puts, gots, items_put, queue_rules, In, IsWhole, Knows, marks_of, ObjectId, SeatInfo, TallyInfo, IsJoined}
-use Rattle.fak_model.specs.declared.credit.CreditKind.{CreditKind}
-use Rattle.fak_model.specs.declared.credit.CreditMark.{CreditMark}
 use Rattle.fak_model.specs.declared.queue.Kind.{Kind}
-use Rattle.fak_model.specs.declared.queue.Mark.{Mark}
-use Rattle.fak_model.proofs.Seats.{in_either}
 use Rattle.fak_model.proofs.Leading.{sum_none, sum_one, sum_same}
 use Rattle.fak_model.proofs.CreditLaw.{granted_is}
 use Rattle.fak_model.proofs.QueueBackwards.{items_count}
-use Rattle.fak_queue.specs.Queues.{seat_of}
-use Rattle.fak_sem.specs.Grants.{weight_from, parks, wakes, of_all, downs_parked_by, ups_waking_by, IsMatched, IsSettled}
-use Rattle.fak_sem.specs.Semaphores.{SemId, SemTallyInfo, seats_of, IsSemSeat, IsSemTally, sem_tally}
 use Rattle.fak_sem.proofs.Weights.{weight-known, weights-names, grants-parts, debits-parts}
 
 -- whoever knows a name's marks knows that they match

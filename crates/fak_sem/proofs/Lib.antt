@@ -1,3 +1,4 @@
+pub mod Common
 pub mod WholeInsertions
 pub mod Weights
 pub mod SeatCalls

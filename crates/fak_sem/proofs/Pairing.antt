@@ -1,9 +1,5 @@
 -- The seats of a semaphore as they are opened.
-use Rattle.std.proofs.Common.{◌≡◌, ℕ, zero, suc, ◌+◌, [], ◌∷◌, ◌++◌, refl, ap, sym, ◌∙◌, subst, arith}
-use Rattle.fak_model.specs.declared.credit.CreditMark.{CreditMark}
-use Rattle.fak_model.specs.declared.queue.Mark.{Mark}
-use Rattle.fak_model.specs.Calls.{ObjectId, SeatInfo, seat_info}
-use Rattle.fak_sem.specs.Semaphores.{SemId, SemSeatInfo, IsSemSeat, sem_seat, fresh_sem_seats}
+use Rattle.fak_sem.proofs.Common.{◌≡◌, ℕ, zero, suc, ◌+◌, [], ◌∷◌, ◌++◌, refl, ap, sym, ◌∙◌, subst, arith, CreditMark, Mark, ObjectId, SeatInfo, seat_info, SemId, SemSeatInfo, IsSemSeat, sem_seat, fresh_sem_seats}
 
 pub fresh_sem_seat : {T : Type 0} (start : ℕ) {credit_id queue_id : ObjectId} {name stint : ℕ} {credit : SeatInfo CreditMark} {queue : SeatInfo (Mark T)} → queue_id.seats ≡ credit_id.seats
     → credit ≡ seat_info credit_id name stint [] → queue ≡ seat_info queue_id name stint [] → IsSemSeat start credit queue

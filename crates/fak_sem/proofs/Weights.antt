@@ -1,15 +1,11 @@
 -- What the marks of a credit's history weigh, as it grows, by names, and together.
-use Rattle.std.proofs.Common.{◌≡◌, ◌≢◌, ℕ, ◌+◌, ◌<◌, ◌≤◌, ◌==◌, Bool, true, false, cond, List, [], ◌∷◌, ◌++◌, length, refl, ap, sym, ◌∙◌, arith, append_assoc, map, ℤ, pos, int_lt, All, append-nil}
+use Rattle.fak_sem.proofs.Common.{◌≡◌, ◌≢◌, ℕ, ◌+◌, ◌<◌, ◌≤◌, ◌==◌, Bool, true, false, cond, List, [], ◌∷◌, ◌++◌, length, refl, ap, sym, ◌∙◌, arith, append_assoc, map, ℤ, pos, int_lt, All, append-nil, CreditKind, CreditMark, marks_of_append, between_foreign, weight_from, passes, parks, wakes, of_all, of_name}
 use Rattle.fak_model.proofs.Common.{nat_tests, All-head, All-tail, sum_by-cons, sum_below, marks_of, Knows, In, SeatInfo, before_mark}
-use Rattle.fak_model.specs.declared.credit.CreditKind.{CreditKind}
 use Rattle.fak_model.specs.declared.credit.CreditKind.TheVariants.{Debit, Credit}
-use Rattle.fak_model.specs.declared.credit.CreditMark.{CreditMark}
 use Rattle.fak_model.specs.Credit.{debit_weight, kind_of, debits, value, grants, grants_made_from}
-use Rattle.fak_model.proofs.Seats.{marks_of_append, between_foreign}
 use Rattle.fak_model.proofs.Leading.{sum_none, sum_one}
 use Rattle.fak_model.proofs.RunningCalls.{before_mark-append}
 use Rattle.fak_count.specs.Credits.{CreditInfo, MakesCall, calls_made}
-use Rattle.fak_sem.specs.Grants.{weight_from, passes, parks, wakes, of_all, of_name}
 
 pub weight_from-append : (weight : CreditMark → ℤ → ℕ) (start : ℕ) (before f g : List CreditMark) → weight_from weight start before (f ++ g) ≡ weight_from weight start before f + weight_from weight start (before ++ f) g
 weight_from-append weight start before [] g = ap (λ (h : List CreditMark). weight_from weight start h g) (sym (append-nil before)) ∙ omega arith

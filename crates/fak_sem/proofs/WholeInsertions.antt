@@ -1,10 +1,6 @@
 -- Insertions that are tried again where the queue is shut too.
-use Rattle.std.proofs.Common.{◌≡◌, ◌<◌, ℕ, List, ◌∙◌, All}
-use Rattle.fak_model.specs.declared.queue.Mark.{Mark}
-use Rattle.fak_model.specs.Calls.{ObjectId, SeatInfo}
+use Rattle.fak_sem.proofs.Common.{◌≡◌, ◌<◌, ℕ, List, ◌∙◌, All, Mark, ObjectId, SeatInfo, drawn_by, state_of, RefusedInsertion, kinds_not_in, InsertsAfterFull, ClosesAfterFull, InsertsAtLast}
 use Rattle.fak_queue.specs.declared.state.SeatState.TheVariants.{Idle}
-use Rattle.fak_queue.specs.Queues.{drawn_by, state_of}
-use Rattle.fak_queue.specs.Retries.{RefusedInsertion, kinds_not_in, InsertsAfterFull, ClosesAfterFull, InsertsAtLast}
 use Rattle.fak_queue.proofs.AfterRefusals.{IsRetrying, leads, leads_in, left_so_far, refused_again, at_last}
 
 abbrev pub Any : RefusedInsertion → Type 0

@@ -4,4 +4,6 @@
 
 mod rows;
 #[cfg(test)]
+mod steps;
+#[cfg(test)]
 mod threads;

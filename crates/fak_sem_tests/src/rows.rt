@@ -4,119 +4,105 @@ ghost use Rattle.std.specs.Prelude.{◌≡◌, ◌+◌, IsTrue, length, pos};
 ghost use Rattle.fak_model.specs.Queue.{contents, lower_count};
 ghost use Rattle.fak_sem.specs.Semaphores.{IsIdleSemSeat, passed_by};
 
+#[cfg(test)]
+use crate::steps::{A, B, Step, close, joined, leaves_nothing, open, take, walk};
 use fak_model::laws::queue::a_queue_at_rest_counts_its_items;
 use fak_sem::{OpenFault, SemSeat, SemTally, SemWorn, Semaphore, Worn};
+use std::alloc::Global;
+use std::process::Abort;
 use std::sync::Wait;
 
 #[test]
 fn a_down_that_passes_and_one_that_is_woken(rt: HostRuntime) {
-    let (semaphore, mut seats) = Semaphore::<u64>::open(rt.alloc(), 1, 4, 2, 10).expect(
-        &rt, "open",
-    );
-    let mut b = seats.pop().expect(&rt, "two seats");
-    let mut a = seats.pop().expect(&rt, "two seats");
-    assert!(rt; matches!(semaphore.down(&rt, &mut a, 100), Ok(Some(100))));
-    assert!(rt; matches!(semaphore.down(&rt, &mut b, 101), Ok(None)));
-    assert!(rt; matches!(semaphore.up(&rt, &mut a), Ok(Some(101))));
-    let first = SemTally::of(a);
+    let (semaphore, mut seats) = open(&rt, rt.alloc(), (1, 4, 2, 10));
+    let steps = [
+        (A, Step::Down(100, Ok(Some(100)))),
+        (B, Step::Down(101, Ok(None))),
+        (A, Step::Up(Ok(Some(101)))),
+    ];
+    walk(&rt, &semaphore, &mut seats, steps.as_slice());
+    let b = take(&rt, &semaphore, &mut seats);
+    let first = joined(&rt, &semaphore, seats);
     assert!(rt; !first.is_whole());
     let tally = semaphore.join(first, b);
-    assert!(rt; tally.is_whole());
-    assert_eq!(rt; semaphore.close(tally).next(), None);
+    leaves_nothing(&rt, semaphore, tally);
 }
 
 #[test]
 fn seats_with_one_call(rt: HostRuntime) {
-    let (semaphore, mut seats) = Semaphore::<u64>::open(rt.alloc(), 0, 1, 2, 1).expect(&rt, "open");
-    let mut b = seats.pop().expect(&rt, "two seats");
-    let mut a = seats.pop().expect(&rt, "two seats");
-    assert!(rt; matches!(semaphore.down(&rt, &mut a, 5), Ok(None)));
-    assert!(rt; matches!(semaphore.up(&rt, &mut a), Err(Worn)));
-    assert!(rt; matches!(semaphore.up(&rt, &mut b), Ok(Some(5))));
-    assert!(rt; matches!(semaphore.down(&rt, &mut b, 6), Err(SemWorn(6))));
-    let tally = semaphore.join(SemTally::of(a), b);
-    assert!(rt; tally.is_whole());
-    assert_eq!(rt; semaphore.close(tally).next(), None);
+    let (semaphore, mut seats) = open(&rt, rt.alloc(), (0, 1, 2, 1));
+    let steps = [
+        (A, Step::Down(5, Ok(None))),
+        (A, Step::Up(Err(Worn))),
+        (B, Step::Up(Ok(Some(5)))),
+        (B, Step::Down(6, Err(SemWorn(6)))),
+    ];
+    walk(&rt, &semaphore, &mut seats, steps.as_slice());
+    let tally = joined(&rt, &semaphore, seats);
+    leaves_nothing(&rt, semaphore, tally);
 }
 
 // A value that is moved and never copied.
-#[derive(Debug, PartialEq, Drop)]
+#[derive(PartialEq, Drop)]
 struct Load {
     id: u64,
 }
 
+// An up for nobody, a down that passes, three that park, and an up that wakes the oldest.
+#[cfg(test)]
+fn call_with_loads<R: Abort + Wait>(rt: &R, semaphore: &Semaphore<Load>, seat: &mut SemSeat<Load>)
+    requires { seat.old.object ≡ semaphore.now.object }
+    ensures { seat.new.object ≡ semaphore.now.object }
+{
+    assert!(rt; semaphore.up(rt, seat) == Ok(None));
+    assert!(rt; semaphore.down(rt, seat, Load { id: 1 }) == Ok(Some(Load { id: 1 })));
+    assert!(rt; semaphore.down(rt, seat, Load { id: 2 }) == Ok(None));
+    assert!(rt; semaphore.down(rt, seat, Load { id: 3 }) == Ok(None));
+    assert!(rt; semaphore.down(rt, seat, Load { id: 4 }) == Ok(None));
+    assert!(rt; semaphore.up(rt, seat) == Ok(Some(Load { id: 2 })));
+}
+
 #[test]
 fn items_that_nobody_woke(rt: HostRuntime) {
-    let (semaphore, mut seats) = Semaphore::<Load>::open(rt.alloc(), 0, 4, 1, 10).expect(
-        &rt, "open",
-    );
-    let mut a = seats.pop().expect(&rt, "one seat");
-    assert!(rt; matches!(semaphore.up(&rt, &mut a), Ok(None)));
-    assert!(rt;
-        matches!(
-            semaphore.down(&rt, &mut a, Load { id: 1 }),
-            Ok(Some(Load { id: 1 }))
-        )
-    );
-    assert!(rt; matches!(semaphore.down(&rt, &mut a, Load { id: 2 }), Ok(None)));
-    assert!(rt; matches!(semaphore.down(&rt, &mut a, Load { id: 3 }), Ok(None)));
-    assert!(rt; matches!(semaphore.down(&rt, &mut a, Load { id: 4 }), Ok(None)));
-    assert!(rt; matches!(semaphore.up(&rt, &mut a), Ok(Some(Load { id: 2 }))));
-    let tally = SemTally::of(a);
-    assert!(rt; tally.is_whole());
-    let mut rest = semaphore.close(tally);
-    assert_eq!(rt; rest.next(), Some(Load { id: 3 }));
-    assert_eq!(rt; rest.next(), Some(Load { id: 4 }));
-    assert_eq!(rt; rest.next(), None);
+    let (semaphore, mut seats) = open::<Load>(&rt, rt.alloc(), (0, 4, 1, 10));
+    let mut a = take(&rt, &semaphore, &mut seats);
+    call_with_loads(&rt, &semaphore, &mut a);
+    let mut rest = close(&rt, semaphore, SemTally::of(a));
+    assert!(rt; rest.next() == Some(Load { id: 3 }));
+    assert!(rt; rest.next() == Some(Load { id: 4 }));
+    assert!(rt; rest.next() == None);
+}
+
+// Why a semaphore is not opened with these.
+#[cfg(test)]
+fn refusal(alloc: Global, start: u64, size: u64, seats: u64, stint: u64) -> Option<OpenFault> {
+    match Semaphore::<u64>::open(alloc, start, size, seats, stint) {
+        Ok((_semaphore, _seats)) => None,
+        Err(fault) => Some(fault),
+    }
 }
 
 #[test]
 fn the_ranges_of_an_opening(rt: HostRuntime) {
     let alloc = rt.alloc();
-    let (_, seats) = Semaphore::<u64>::open(alloc, 1 << 32, 4096, 64, 1 << 40).expect(&rt, "open");
-    assert_eq!(rt; seats.len(), 64);
-    assert!(rt;
-        matches!(
-            Semaphore::<u64>::open(alloc, (1 << 32) + 1, 1, 1, 1),
-            Err(OpenFault::BadSize)
-        )
-    );
-    assert!(rt;
-        matches!(
-            Semaphore::<u64>::open(alloc, 0, 4097, 1, 1),
-            Err(OpenFault::BadSize)
-        )
-    );
-    assert!(rt;
-        matches!(
-            Semaphore::<u64>::open(alloc, 0, 0, 0, 0),
-            Err(OpenFault::BadSize)
-        )
-    );
-    assert!(rt;
-        matches!(
-            Semaphore::<u64>::open(alloc, 0, 1, 65, 0),
-            Err(OpenFault::BadSeats)
-        )
-    );
-    assert!(rt;
-        matches!(
-            Semaphore::<u64>::open(alloc, 0, 1, 0, 1),
-            Err(OpenFault::BadSeats)
-        )
-    );
-    assert!(rt;
-        matches!(
-            Semaphore::<u64>::open(alloc, 0, 1, 1, 0),
-            Err(OpenFault::BadStint)
-        )
-    );
-    assert!(rt;
-        matches!(
-            Semaphore::<u64>::open(alloc, 0, 1, 1, (1 << 40) + 1),
-            Err(OpenFault::BadStint)
-        )
-    );
+    let (_, seats) = open::<u64>(&rt, alloc, (1 << 32, 4096, 64, 1 << 40));
+    assert!(rt; seats.len() == 64);
+    drop(seats);
+    let refused = [
+        ((1 << 32) + 1, 1, 1, 1, OpenFault::BadSize),
+        (0, 4097, 1, 1, OpenFault::BadSize),
+        (0, 0, 0, 0, OpenFault::BadSize),
+        (0, 1, 65, 0, OpenFault::BadSeats),
+        (0, 1, 0, 1, OpenFault::BadSeats),
+        (0, 1, 1, 0, OpenFault::BadStint),
+        (0, 1, 1, (1 << 40) + 1, OpenFault::BadStint),
+    ];
+    for (start, size, seats, stint, fault) in refused {
+        assert!(rt;
+            refusal(alloc, start, size, seats, stint) == Some(fault),
+            "{start}, {size}, {seats}, {stint}"
+        );
+    }
 }
 
 // Downs with the numbers below `count`; how many of them passed. A worn seat ends it.
@@ -151,22 +137,23 @@ fn counts_the_parked(tally: &SemTally<u64>) -> bool
 
 #[test]
 fn downs_that_passed_are_counted(rt: HostRuntime) {
-    let (semaphore, mut seats) = Semaphore::<u64>::open(rt.alloc(), 2, 4, 1, 4).expect(&rt, "open");
-    let mut a = seats.pop().expect(&rt, "one seat");
-    assert_eq!(rt; down_below(&rt, &semaphore, &mut a, 3), 2);
-    assert!(rt; matches!(semaphore.up(&rt, &mut a), Ok(Some(2))));
+    let (semaphore, mut seats) = open(&rt, rt.alloc(), (2, 4, 1, 4));
+    let mut a = take(&rt, &semaphore, &mut seats);
+    assert!(rt; down_below(&rt, &semaphore, &mut a, 3) == 2);
+    assert!(rt; semaphore.up(&rt, &mut a) == Ok(Some(2)));
     assert!(rt; counts_the_parked(&SemTally::of(a)));
 }
 
 #[test]
 fn worn_seats_do_not_wait(rt: HostRuntime) {
-    let (semaphore, mut seats) = Semaphore::<u64>::open(rt.alloc(), 0, 1, 2, 1).expect(&rt, "open");
-    let mut b = seats.pop().expect(&rt, "two seats");
-    let mut a = seats.pop().expect(&rt, "two seats");
+    let (semaphore, mut seats) = open(&rt, rt.alloc(), (0, 1, 2, 1));
     // the wait queue is full, and then empty
-    assert!(rt; matches!(semaphore.down(&rt, &mut a, 5), Ok(None)));
-    assert!(rt; matches!(semaphore.down(&rt, &mut a, 6), Err(SemWorn(6))));
-    assert!(rt; matches!(semaphore.up(&rt, &mut b), Ok(Some(5))));
-    assert!(rt; matches!(semaphore.up(&rt, &mut b), Err(Worn)));
-    assert!(rt; matches!(semaphore.up(&rt, &mut a), Err(Worn)));
+    let steps = [
+        (A, Step::Down(5, Ok(None))),
+        (A, Step::Down(6, Err(SemWorn(6)))),
+        (B, Step::Up(Ok(Some(5)))),
+        (B, Step::Up(Err(Worn))),
+        (A, Step::Up(Err(Worn))),
+    ];
+    walk(&rt, &semaphore, &mut seats, steps.as_slice());
 }

@@ -1,11 +1,7 @@
 -- Reading the elements of an array one after the other, as a loop does.
-use Rattle.std.proofs.Common.{◌≡◌, ℕ, suc, ◌+◌, ◌<◌, ◌≤◌, List, [], ◌∷◌, ◌++◌, length, drop, get_or, Result, Ok, Err, refl, sym, ap, ◌∙◌, append_assoc, add-one, drop-cons}
 use Rattle.std.proofs.lemmas.List.{append-nil, drop_all}
-use Rattle.serde_json.specs.Data.{Data}
-use Rattle.serde_json.specs.View.{view, items_view}
 use Rattle.serde_json.specs.declared.value.Value.{Value}
-use Rattle.fak_text.specs.Gives.{◌>>=◌, Fails}
-use Rattle.fak_text.proofs.Common.{running_from, TextFault}
+use Rattle.fak_text.proofs.Common.{running_from, TextFault, ◌≡◌, ℕ, suc, ◌+◌, ◌<◌, ◌≤◌, List, [], ◌∷◌, ◌++◌, length, drop, get_or, Result, Ok, Err, refl, sym, ap, ◌∙◌, append_assoc, add-one, drop-cons, Data, view, items_view, ◌>>=◌, Fails}
 use Rattle.fak_text.specs.declared.fault.TextFault.TheVariants as faults
 
 -- what was read before, and what is still read

@@ -1,8 +1,5 @@
 -- The histories that are read are in range.
-use Rattle.std.proofs.Common.{◌≡◌, ℕ, ◌≤◌, ◌&&◌, nat_le, unwrap_or, List, Ok, subst, arith, leb-true}
-use Rattle.serde_json.specs.Data.{Data}
-use Rattle.serde_json.specs.Events.{items_len}
-use Rattle.serde_json.specs.Find.{as_array}
+use Rattle.fak_text.proofs.Common.{◌≡◌, ℕ, ◌≤◌, ◌&&◌, nat_le, unwrap_or, List, Ok, subst, arith, leb-true, Data, items_len, as_array}
 use Rattle.fak_model.specs.declared.queue.Mark.{Mark}
 use Rattle.fak_text.specs.HistoryText.{HistoryOf, kind_named, is_complete, mark_from, most_marks, history_from, history_in, IsHistoryInRange}
 use Rattle.fak_text.specs.Names.{number_of}

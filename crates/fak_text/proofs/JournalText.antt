@@ -1,10 +1,7 @@
 -- The text of a journal, line by line.
-use Rattle.std.proofs.Common.{◌≡◌, ℕ, ◌+◌, ◌<◌, List, [], ◌∷◌, ◌++◌, map, codes, take, get_or, length, decimal, refl, ap, sym, ◌∙◌, append_assoc, append-nil, flat_map}
-use Rattle.fak_model.proofs.Common.{map-append, take_more, flat_map-append}
 use Rattle.fak_text.specs.declared.steps.Note.{Note}
-use Rattle.fak_text.proofs.Common.{NoteOf, said, yielded, downed, upped, opened, closed, statted, spawned, no_birth, no_slot, shut_down, note_of}
+use Rattle.fak_text.proofs.Common.{NoteOf, said, yielded, downed, upped, opened, closed, statted, spawned, no_birth, no_slot, shut_down, note_of, ◌≡◌, ℕ, ◌+◌, ◌<◌, List, [], ◌∷◌, ◌++◌, map, codes, take, get_or, length, decimal, refl, ap, sym, ◌∙◌, append_assoc, append-nil, flat_map, map-append, take_more, flat_map-append, text_of_name, child_prefix, text_of_note, journal_line, text_of_journal}
 use Rattle.fak_text.proofs.NameText.{text_of_name_push}
-use Rattle.fak_text.specs.JournalText.{text_of_name, child_prefix, text_of_note, journal_line, text_of_journal}
 
 -- two ways to write a child's name that are the same give the same line
 text_of_note-same : (f g : ℕ → List ℕ) → ((j : ℕ) → f j ≡ g j) → (note : NoteOf) → text_of_note f note ≡ text_of_note g note

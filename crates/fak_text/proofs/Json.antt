@@ -1,15 +1,10 @@
 -- Bytes that are a JSON value, and bytes that are none.
-use Rattle.std.proofs.Common.{◌≡◌, ℕ, List, length, Bool, true, false, Some, None, Ok, Err, refl}
+use Rattle.fak_text.proofs.Common.{◌≡◌, ℕ, List, length, Bool, true, false, Some, None, Ok, Err, refl, Data, items_len, items_view, json_in, NotJson}
 use Rattle.std.specs.Str.{IsUtf8, is_utf8}
 use Rattle.std.proofs.lemmas.Str.{IsUtf8-from_is_utf8, is_utf8-from_IsUtf8}
-use Rattle.serde_json.specs.Data.{Data}
-use Rattle.serde_json.specs.Events.{items_len}
-use Rattle.serde_json.specs.View.{items_view}
 use Rattle.serde_json.specs.Read.{read}
 use Rattle.serde_json.specs.declared.value.Value.{Value}
 use Rattle.serde_json.proofs.Views.{items_len-items_view}
-use Rattle.fak_text.specs.Values.{json_in}
-use Rattle.fak_text.specs.declared.fault.TextFault.TheVariants.{NotJson}
 
 pub json_in_read : (bytes : List ℕ) (d : Data) → IsUtf8 bytes → read bytes ≡ Some d → json_in bytes ≡ Ok d
 json_in_read bytes d is_text reads = rw (is_utf8-from_IsUtf8 bytes is_text, reads) refl

@@ -1,14 +1,8 @@
 -- What a reading gives is in range: numbers, and the elements of arrays.
-use Rattle.std.proofs.Common.{◌≡◌, ℕ, ◌<◌, ◌≤◌, suc, Bool, true, false, List, [], ◌∷◌, length, Option, Some, None, Result, Ok, Err, refl, sym, ap, subst, ◌∙◌, nat_lt, nat_le, ◌&&◌, if◌then◌else◌, arith, IfOk, All, ltb-true, leb-true}
-use Rattle.std.proofs.lemmas.List.Elements.{All-nil, All-cons}
-use Rattle.serde_json.specs.Data.{Data, Items, no_items, item}
-use Rattle.serde_json.specs.Events.{items_len}
-use Rattle.serde_json.specs.Find.{as_array}
-use Rattle.fak_text.specs.Gives.{◌>>=◌, Gives}
+use Rattle.fak_text.proofs.Common.{◌≡◌, ℕ, ◌<◌, ◌≤◌, suc, Bool, true, false, List, [], ◌∷◌, length, Option, Some, None, Result, Ok, Err, refl, sym, ap, subst, ◌∙◌, nat_lt, nat_le, ◌&&◌, if◌then◌else◌, arith, IfOk, All, ltb-true, leb-true, All-nil, All-cons, Data, Items, no_items, item, items_len, as_array, ◌>>=◌, Gives, TextFault}
 use Rattle.fak_text.specs.ScriptText.{number_from, numbers_of_key}
 use Rattle.fak_text.specs.Values.{value_or, value_of_key, number_of_key, whole_number, number_below, number_within, elements_within, elements_of_key, running_from, next_index}
 use Rattle.fak_text.specs.declared.fault.Field.{Field}
-use Rattle.fak_text.specs.declared.fault.TextFault.{TextFault}
 
 -- a reading that goes on with a value has one
 pub parts_of : {A B : Type 0} (r : Result A TextFault) (f : A → Result B TextFault) (y : B) → (r >>= f) ≡ Ok y → (x : A) × (r ≡ Ok x) × (f x ≡ Ok y)

@@ -1,17 +1,11 @@
 -- The steps that are read are in range.
-use Rattle.std.proofs.Common.{◌≡◌, ℕ, ◌<◌, ◌≤◌, Bool, true, false, List, length, Option, Some, None, Result, Ok, Err, refl, sym, subst, nat_le, ◌&&◌, ◌==◌, if◌then◌else◌, arith, leb-true, eqb-true}
 use Rattle.std.specs.List.{All, list_all}
 use Rattle.std.proofs.lemmas.List.Elements.{All-weaker}
 use Rattle.std.proofs.lemmas.List.Sums.{AllPass-from_list_all}
-use Rattle.serde_json.specs.Data.{Data}
-use Rattle.serde_json.specs.Events.{items_len}
-use Rattle.serde_json.specs.Find.{as_array}
-use Rattle.fak_text.proofs.Common.{◌>>=◌, TextFault}
-use Rattle.fak_text.specs.Script.{StepOf, say, yield, down, up, open_file, close_file, stat, spawn, shutdown, IsWithin, IsSayable, most_inode, IsStepInRange, IsProgramInRange}
+use Rattle.fak_text.proofs.Common.{◌>>=◌, TextFault, ◌≡◌, ℕ, ◌<◌, ◌≤◌, Bool, true, false, List, length, Option, Some, None, Result, Ok, Err, refl, sym, subst, nat_le, ◌&&◌, ◌==◌, if◌then◌else◌, arith, leb-true, eqb-true, Data, items_len, as_array, StepOf, say, yield, down, up, open_file, close_file, stat, spawn, shutdown, IsWithin, IsSayable, most_inode, IsStepInRange, IsProgramInRange, Range}
 use Rattle.fak_text.specs.StepText.{any_op_named, has_op, op_of_version, step_op_named, is_printable, is_sayable, said_text, lone_step, inode_argument, argument_below, step_with, step_from, most_steps, program_from, index_after, programs_from, most_programs, programs_of_key}
 use Rattle.fak_text.specs.Values.{value_or, number_within, number_below, number_at, text_at, elements_within, elements_of_key, running_from, next_index}
 use Rattle.fak_text.specs.declared.fault.Field.TheVariants.{Programs}
-use Rattle.fak_text.specs.declared.fault.TextFault.TheVariants.{Range}
 use Rattle.fak_text.specs.declared.reading.step.StepOp.{StepOp}
 use Rattle.fak_text.specs.declared.reading.step.StepOp.TheVariants as ops
 use Rattle.fak_text.specs.declared.steps.StepLimits.{StepLimits}

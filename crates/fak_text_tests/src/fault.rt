@@ -1,10 +1,20 @@
-use fak_text::{Field, TextFault, read_history, read_schedule, read_script};
+use crate::inputs::Input;
+use fak_text::{Field, TextFault};
+use std::alloc::{AllocError, Global};
+use std::fmt::Display;
 use std::process::Abort;
-use std::test::Fail;
+
+// Whether a value is written so.
+fn is_written<D: Display>(alloc: Global, value: &D, want: &str) -> bool {
+    match value.to_string(alloc) {
+        Ok(text) => text.as_str() == want,
+        Err(_) => false,
+    }
+}
 
 #[test]
-fn faults_are_one_line_each(rt: HostRuntime) -> Result<(), Fail> {
-    let table = [
+fn faults_are_one_line_each(rt: HostRuntime) {
+    let rows = &[
         (TextFault::NotJson, "fak: input is not JSON"),
         (
             TextFault::Missing(Field::Quantum),
@@ -21,24 +31,14 @@ fn faults_are_one_line_each(rt: HostRuntime) -> Result<(), Fail> {
         (TextFault::UnknownOp(17), "fak: unknown operation at 17"),
         (TextFault::Memory, "fak: out of memory"),
     ];
-    for (fault, want) in table {
-        let text = fault.to_string(rt.alloc())?;
-        assert!(rt; text.as_str() == want, "at {want}");
+    for (fault, want) in rows {
+        assert!(rt; is_written(rt.alloc(), fault, want), "at {want}");
     }
-    Ok(())
-}
-
-// Finds that the field is written as this key, and named so.
-fn is_named<R: Abort + AllocGlobal>(rt: &R, field: Field, key: &str) -> Result<(), Fail> {
-    let text = field.to_string(rt.alloc())?;
-    assert!(rt; text.as_str() == key, "at {key}");
-    assert!(rt; field.name() == key, "at {key}");
-    Ok(())
 }
 
 #[test]
-fn fields_are_named_as_their_keys(rt: HostRuntime) -> Result<(), Fail> {
-    let table = [
+fn fields_are_named_as_their_keys(rt: HostRuntime) {
+    let rows = &[
         (Field::Input, "input"),
         (Field::Object, "object"),
         (Field::Bound, "bound"),
@@ -56,20 +56,36 @@ fn fields_are_named_as_their_keys(rt: HostRuntime) -> Result<(), Fail> {
         (Field::Programs, "programs"),
         (Field::Start, "start"),
     ];
-    for (field, want) in table {
-        is_named(&rt, field, want)?;
+    for (field, want) in rows {
+        assert!(rt; is_written(rt.alloc(), field, want), "at {want}");
+        assert!(rt; field.name() == *want, "at {want}");
     }
-    Ok(())
+}
+
+// The faults of these bytes as a schedule, a history and a script.
+fn faults(alloc: Global, bytes: &[u8]) -> [Option<TextFault>; 3] {
+    [
+        Input::Schedule.fault(alloc, bytes),
+        Input::History.fault(alloc, bytes),
+        Input::Script.fault(alloc, bytes),
+    ]
+}
+
+// Finds that each text has this fault, whatever it is read as.
+fn have_fault(rt: &(impl Abort + AllocGlobal), texts: &[&str], fault: TextFault) {
+    for &text in texts {
+        let found = faults(rt.alloc(), text.as_bytes());
+        assert!(rt; found == [Some(fault); 3], "{found:?} at {text}");
+    }
 }
 
 #[test]
 fn bytes_that_are_no_json(rt: HostRuntime) {
     // not UTF-8, cut short, nothing, a number that fits no float, a lone surrogate, a byte order mark, two values, a
     // number that begins with 0
-    assert!(rt;
-        read_schedule(rt.alloc(), &[123, 34, 255, 34, 125]).err() == Some(TextFault::NotJson)
-    );
-    for text in [
+    let fault = Input::Schedule.fault(rt.alloc(), &[123, 34, 255, 34, 125]);
+    assert!(rt; fault == Some(TextFault::NotJson));
+    let texts = &[
         "{\"version\":1,",
         "",
         " ",
@@ -79,68 +95,50 @@ fn bytes_that_are_no_json(rt: HostRuntime) {
         "{} {}",
         "01",
         "{'a':1}",
-    ] {
-        let bytes = text.as_bytes();
-        assert!(rt;
-            read_schedule(rt.alloc(), bytes).err() == Some(TextFault::NotJson),
-            "at {text}"
-        );
-        assert!(rt;
-            read_history(rt.alloc(), bytes).err() == Some(TextFault::NotJson),
-            "at {text}"
-        );
-        assert!(rt;
-            read_script(rt.alloc(), bytes).err() == Some(TextFault::NotJson),
-            "at {text}"
-        );
-    }
+    ];
+    have_fault(&rt, texts, TextFault::NotJson);
 }
 
 #[test]
 fn values_that_are_no_object(rt: HostRuntime) {
-    let fault = Some(TextFault::Range(Field::Input));
-    for text in ["[]", "7", "null", "\"object\"", "true"] {
-        let bytes = text.as_bytes();
-        assert!(rt;
-            read_schedule(rt.alloc(), bytes).err() == fault,
-            "at {text}"
-        );
-        assert!(rt; read_history(rt.alloc(), bytes).err() == fault, "at {text}");
-        assert!(rt; read_script(rt.alloc(), bytes).err() == fault, "at {text}");
-    }
+    let texts = &["[]", "7", "null", "\"object\"", "true"];
+    have_fault(&rt, texts, TextFault::Range(Field::Input));
+}
+
+// The fault of a history with a list so deep in the object.
+fn fault_of_nested(alloc: Global, depth: usize) -> Result<Option<TextFault>, AllocError> {
+    let left = "[".repeat(alloc, depth)?;
+    let right = "]".repeat(alloc, depth)?;
+    let text = [r#"{"size":1,"marks":[],"other":"#, &left, &right, "}"].concat(alloc)?;
+    Ok(Input::History.fault(alloc, text.as_bytes()))
 }
 
 #[test]
-fn nesting_is_read_to_depth_127(rt: HostRuntime) -> Result<(), Fail> {
-    let mut brackets = String::new(rt.alloc());
-    for _ in 0..126 {
-        brackets.push('[')?;
-    }
-    for _ in 0..126 {
-        brackets.push(']')?;
-    }
-    let deep = format!(in rt.alloc(); "{{\"size\":1,\"marks\":[],\"other\":{brackets}}}")?;
-    assert!(rt; read_history(rt.alloc(), deep.as_bytes()).is_ok());
-    let deeper = format!(in rt.alloc(); "{{\"size\":1,\"marks\":[],\"other\":[{brackets}]}}")?;
-    assert!(rt; read_history(rt.alloc(), deeper.as_bytes()).err() == Some(TextFault::NotJson));
-    Ok(())
+fn nesting_is_read_to_depth_127(rt: HostRuntime) {
+    assert!(rt; fault_of_nested(rt.alloc(), 126) == Ok(None));
+    assert!(rt; fault_of_nested(rt.alloc(), 127) == Ok(Some(TextFault::NotJson)));
+}
+
+// The faults of so many spaces and then this text.
+fn faults_behind(
+    alloc: Global,
+    spaces: usize,
+    text: &str,
+) -> Result<[Option<TextFault>; 3], AllocError> {
+    let mut input = " ".repeat(alloc, spaces)?;
+    input.push_str(text)?;
+    Ok(faults(alloc, input.as_bytes()))
 }
 
 #[test]
-fn an_input_has_at_most_1048576_bytes(rt: HostRuntime) -> Result<(), Fail> {
-    let mut input = vec![in rt.alloc(); 32u8; 1_048_574]?;
-    input.push(b'{')?;
-    input.push(b'}')?;
-    let bytes = input.as_slice();
-    assert!(rt; read_schedule(rt.alloc(), bytes).err() == Some(TextFault::Missing(Field::Object)));
-    assert!(rt; read_history(rt.alloc(), bytes).err() == Some(TextFault::Missing(Field::Size)));
-    assert!(rt; read_script(rt.alloc(), bytes).err() == Some(TextFault::Missing(Field::Version)));
+fn an_input_has_at_most_1048576_bytes(rt: HostRuntime) {
+    let missing = [
+        Some(TextFault::Missing(Field::Object)),
+        Some(TextFault::Missing(Field::Size)),
+        Some(TextFault::Missing(Field::Version)),
+    ];
+    assert!(rt; faults_behind(rt.alloc(), 1_048_574, "{}") == Ok(missing));
     // the length is tested before the JSON is read
-    input.push(b'}')?;
-    let bytes = input.as_slice();
     let fault = Some(TextFault::Range(Field::Input));
-    assert!(rt; read_schedule(rt.alloc(), bytes).err() == fault);
-    assert!(rt; read_history(rt.alloc(), bytes).err() == fault);
-    assert!(rt; read_script(rt.alloc(), bytes).err() == fault);
-    Ok(())
+    assert!(rt; faults_behind(rt.alloc(), 1_048_574, "{}}") == Ok([fault; 3]));
 }

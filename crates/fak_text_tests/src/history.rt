@@ -1,18 +1,32 @@
+use crate::inputs::{Input, have_faults};
+use crate::script::repeated;
 use fak_model::{Kind, Mark};
 use fak_text::{Field, TextFault, read_history};
-use std::test::Fail;
+use std::alloc::Global;
+use std::process::Abort;
 
 const MARKS: TextFault = TextFault::Range(Field::Marks);
 
+// Finds that the marks are of these kinds, in this order.
+fn are_of_kinds(rt: &impl Abort, marks: &[Mark<u64>], kinds: &[Kind<u64>]) {
+    assert!(rt; marks.len() == kinds.len());
+    for (mark, kind) in marks.iter().zip(kinds.iter()) {
+        assert!(rt; mark.kind == *kind, "at {kind:?}");
+    }
+}
+
+// The size, and how many marks there are.
+fn extent(alloc: Global, text: &str) -> Result<(u64, usize), TextFault> {
+    let history = read_history(alloc, text.as_bytes())?;
+    Ok((history.size, history.marks.len()))
+}
+
 #[test]
-fn a_history_of_each_kind_of_mark(rt: HostRuntime) -> Result<(), Fail> {
+fn a_history_of_each_kind_of_mark(rt: HostRuntime) {
     let text =
         r#"{"size":4096,"marks":[[0,"claim-in"],[63,"over-in"],[0,"back-in"],[0,"no-room"],[0,"put",18446744073709551615],[0,"fill",1],
         [0,"end-in"],[0,"claim-out"],[0,"over-out"],[0,"back-out"],[0,"no-item"],[0,"got",0],[0,"take",2],[0,"end-out"],[0,"close"],[0,"closed"],[0,"late-in"]]}"#;
-    let history = read_history(rt.alloc(), text.as_bytes())
-        .ok()
-        .ok_or("a history")?;
-    let kinds = [
+    let kinds = &[
         Kind::ClaimIn,
         Kind::OverIn,
         Kind::BackIn,
@@ -31,11 +45,12 @@ fn a_history_of_each_kind_of_mark(rt: HostRuntime) -> Result<(), Fail> {
         Kind::Closed,
         Kind::LateIn,
     ];
+    assert!(rt; extent(rt.alloc(), r#"{"size":1,"marks":[]}"#) == Ok((1, 0)));
+    let history = read_history(rt.alloc(), text.as_bytes())
+        .ok()
+        .expect(&rt, "a history");
     assert!(rt; history.size == 4096);
-    assert!(rt; history.marks.len() == kinds.len());
-    for (mark, kind) in history.marks.iter().zip(kinds.iter()) {
-        assert!(rt; mark.kind == *kind, "at {kind:?}");
-    }
+    are_of_kinds(&rt, &history.marks, kinds);
     assert!(rt;
         history.marks.get(1).copied()
             == Some(Mark {
@@ -43,31 +58,19 @@ fn a_history_of_each_kind_of_mark(rt: HostRuntime) -> Result<(), Fail> {
                 kind: Kind::OverIn
             })
     );
-    let text = r#"{"size":1,"marks":[]}"#;
-    let history = read_history(rt.alloc(), text.as_bytes())
-        .ok()
-        .ok_or("a history")?;
-    assert!(rt; history.size == 1);
-    assert!(rt; history.marks.is_empty());
-    Ok(())
 }
 
 #[test]
-fn the_first_fault_of_a_history(rt: HostRuntime) -> Result<(), Fail> {
-    let table = [
+fn the_first_fault_of_a_history(rt: HostRuntime) {
+    let rows = &[
         (r#"{"marks":7}"#, TextFault::Missing(Field::Size)),
         (r#"{"size":0,"marks":7}"#, TextFault::Range(Field::Size)),
         (r#"{"size":4097}"#, TextFault::Range(Field::Size)),
         (r#"{"size":1}"#, TextFault::Missing(Field::Marks)),
         (r#"{"size":1,"marks":{}}"#, MARKS),
     ];
-    for (text, want) in table {
-        assert!(rt;
-            read_history(rt.alloc(), text.as_bytes()).err() == Some(want),
-            "at {text}"
-        );
-    }
-    let table = [
+    have_faults(&rt, Input::History, "", "", rows);
+    let rows = &[
         (r#"7"#, MARKS),
         (r#"[]"#, MARKS),
         (r#"[0]"#, MARKS),
@@ -87,28 +90,18 @@ fn the_first_fault_of_a_history(rt: HostRuntime) -> Result<(), Fail> {
         (r#"[0,"claim-in",1]"#, MARKS),
         (r#"[0,"late-in",1]"#, MARKS),
     ];
-    for (marks, want) in table {
-        let text = format!(in rt.alloc(); "{{\"size\":1,\"marks\":[{marks}]}}")?;
-        assert!(rt;
-            read_history(rt.alloc(), text.as_bytes()).err() == Some(want),
-            "at {marks}"
-        );
-    }
-    Ok(())
+    have_faults(&rt, Input::History, r#"{"size":1,"marks":["#, "]}", rows);
+}
+
+// The size, and how many marks there are, where these come after others.
+fn extent_with(alloc: Global, before: &str, marks: &str) -> Result<(u64, usize), TextFault> {
+    let text = [r#"{"size":1,"marks":["#, before, marks, "]}"].concat(alloc)?;
+    extent(alloc, text.as_str())
 }
 
 #[test]
-fn a_history_has_at_most_4096_marks(rt: HostRuntime) -> Result<(), Fail> {
-    let mut marks = String::from_str(rt.alloc(), r#"[0,"no-room"]"#)?;
-    for _ in 1..4_096 {
-        marks.push_str(r#",[0,"no-room"]"#)?;
-    }
-    let text = format!(in rt.alloc(); "{{\"size\":1,\"marks\":[{marks}]}}")?;
-    let history = read_history(rt.alloc(), text.as_bytes())
-        .ok()
-        .ok_or("a history")?;
-    assert!(rt; history.marks.len() == 4_096);
-    let text = format!(in rt.alloc(); "{{\"size\":1,\"marks\":[[0,\"jump\"],{marks}]}}")?;
-    assert!(rt; read_history(rt.alloc(), text.as_bytes()).err() == Some(MARKS));
-    Ok(())
+fn a_history_has_at_most_4096_marks(rt: HostRuntime) {
+    let marks = repeated(&rt, r#"[0,"no-room"]"#, 4_096).expect(&rt, "memory");
+    assert!(rt; extent_with(rt.alloc(), "", &marks) == Ok((1, 4_096)));
+    assert!(rt; extent_with(rt.alloc(), r#"[0,"jump"],"#, &marks) == Err(MARKS));
 }

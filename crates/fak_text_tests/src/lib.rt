@@ -7,8 +7,9 @@ mod fault;
 #[cfg(test)]
 mod history;
 #[cfg(test)]
-mod schedule;
+mod inputs;
 #[cfg(test)]
+mod schedule;
 mod script;
 #[cfg(test)]
 mod text;

@@ -1,17 +1,37 @@
+use crate::inputs::{Input, have_faults};
+use crate::script::repeated;
 use fak_core::{QueueCall, RoomCall};
 use fak_text::{Act, Event, Field, Object, TextFault, read_schedule};
-use std::test::Fail;
+use std::alloc::Global;
+use std::process::Abort;
 
 const EVENTS: TextFault = TextFault::Range(Field::Events);
 
-#[test]
-fn a_schedule_of_a_room(rt: HostRuntime) -> Result<(), Fail> {
-    let text =
-        r#"{"object":"room","bound":4294967296,"seats":64,"events":[[0,"tir",1024],[1,"release",1],[2,"step"],[18446744073709551615,"step",64]]}"#;
+const ROOM: &str = r#"{"object":"room","bound":1,"seats":1,"events":["#;
+
+const QUEUE: &str = r#"{"object":"queue","size":1,"seats":1,"events":["#;
+
+// Finds that the text is a schedule of these parts.
+fn has_parts(
+    rt: &(impl Abort + AllocGlobal),
+    text: &str,
+    object: Object,
+    seats: u64,
+    events: &[Event],
+) {
     let schedule = read_schedule(rt.alloc(), text.as_bytes())
         .ok()
-        .ok_or("a schedule")?;
-    let events = [
+        .expect(rt, "a schedule");
+    assert!(rt; schedule.object == object);
+    assert!(rt; schedule.seats == seats);
+    assert!(rt; schedule.events.as_slice() == events);
+}
+
+#[test]
+fn a_schedule_of_a_room(rt: HostRuntime) {
+    let text =
+        r#"{"object":"room","bound":4294967296,"seats":64,"events":[[0,"tir",1024],[1,"release",1],[2,"step"],[18446744073709551615,"step",64]]}"#;
+    let events = &[
         Event {
             seat: 0,
             act: Act::Room(RoomCall::Tir(1024)),
@@ -29,20 +49,14 @@ fn a_schedule_of_a_room(rt: HostRuntime) -> Result<(), Fail> {
             act: Act::Steps(64),
         },
     ];
-    assert!(rt; schedule.object == Object::Room(4294967296));
-    assert!(rt; schedule.seats == 64);
-    assert!(rt; schedule.events.as_slice() == events.as_slice());
-    Ok(())
+    has_parts(&rt, text, Object::Room(4294967296), 64, events);
 }
 
 #[test]
-fn a_schedule_of_a_queue(rt: HostRuntime) -> Result<(), Fail> {
+fn a_schedule_of_a_queue(rt: HostRuntime) {
     let text =
         r#"{"events":[[0,"insert",18446744073709551615],[1,"delete"],[1,"shut"],[1,"step",2]],"seats":1,"more":{},"size":4096,"object":"queue"}"#;
-    let schedule = read_schedule(rt.alloc(), text.as_bytes())
-        .ok()
-        .ok_or("a schedule")?;
-    let events = [
+    let events = &[
         Event {
             seat: 0,
             act: Act::Queue(QueueCall::Insert(18446744073709551615)),
@@ -60,15 +74,12 @@ fn a_schedule_of_a_queue(rt: HostRuntime) -> Result<(), Fail> {
             act: Act::Steps(2),
         },
     ];
-    assert!(rt; schedule.object == Object::Queue(4096));
-    assert!(rt; schedule.seats == 1);
-    assert!(rt; schedule.events.as_slice() == events.as_slice());
-    Ok(())
+    has_parts(&rt, text, Object::Queue(4096), 1, events);
 }
 
 #[test]
 fn the_first_fault_of_the_keys(rt: HostRuntime) {
-    let table = [
+    let rows = &[
         (
             r#"{"seats":0,"events":7}"#,
             TextFault::Missing(Field::Object),
@@ -156,17 +167,12 @@ fn the_first_fault_of_the_keys(rt: HostRuntime) {
             TextFault::Range(Field::Seats),
         ),
     ];
-    for (text, want) in table {
-        assert!(rt;
-            read_schedule(rt.alloc(), text.as_bytes()).err() == Some(want),
-            "at {text}"
-        );
-    }
+    have_faults(&rt, Input::Schedule, "", "", rows);
 }
 
 #[test]
-fn the_first_fault_of_the_events(rt: HostRuntime) -> Result<(), Fail> {
-    let table = [
+fn the_first_fault_of_the_events(rt: HostRuntime) {
+    let rows = &[
         (r#"7"#, EVENTS),
         (r#"{}"#, EVENTS),
         (r#"[]"#, EVENTS),
@@ -193,16 +199,8 @@ fn the_first_fault_of_the_events(rt: HostRuntime) -> Result<(), Fail> {
         (r#"[0,"release",0]"#, EVENTS),
         (r#"[0,"release",1025]"#, EVENTS),
     ];
-    for (events, want) in table {
-        let text = format!(in rt.alloc();
-            "{{\"object\":\"room\",\"bound\":1,\"seats\":1,\"events\":[{events}]}}"
-        )?;
-        assert!(rt;
-            read_schedule(rt.alloc(), text.as_bytes()).err() == Some(want),
-            "at {events}"
-        );
-    }
-    let table = [
+    have_faults(&rt, Input::Schedule, ROOM, "]}", rows);
+    let rows = &[
         (r#"[0,"tir",1]"#, TextFault::UnknownOp(0)),
         (r#"[0,"release",1]"#, TextFault::UnknownOp(0)),
         (r#"[0,"insert"]"#, EVENTS),
@@ -213,35 +211,20 @@ fn the_first_fault_of_the_events(rt: HostRuntime) -> Result<(), Fail> {
         (r#"[0,"shut",1]"#, EVENTS),
         (r#"[0,"step",65]"#, EVENTS),
     ];
-    for (events, want) in table {
-        let text = format!(in rt.alloc();
-            "{{\"object\":\"queue\",\"size\":1,\"seats\":1,\"events\":[{events}]}}"
-        )?;
-        assert!(rt;
-            read_schedule(rt.alloc(), text.as_bytes()).err() == Some(want),
-            "at {events}"
-        );
-    }
-    Ok(())
+    have_faults(&rt, Input::Schedule, QUEUE, "]}", rows);
+}
+
+// How many events there are, where these come after others.
+fn count_with(alloc: Global, before: &str, events: &str) -> Result<usize, TextFault> {
+    let text = [ROOM, before, events, "]}"].concat(alloc)?;
+    let schedule = read_schedule(alloc, text.as_bytes())?;
+    Ok(schedule.events.len())
 }
 
 #[test]
-fn a_schedule_has_at_most_16384_events(rt: HostRuntime) -> Result<(), Fail> {
-    let mut events = String::from_str(rt.alloc(), r#"[0,"step"]"#)?;
-    for _ in 1..16_384 {
-        events.push_str(r#",[0,"step"]"#)?;
-    }
-    let text = format!(in rt.alloc();
-        "{{\"object\":\"room\",\"bound\":1,\"seats\":1,\"events\":[{events}]}}"
-    )?;
-    let schedule = read_schedule(rt.alloc(), text.as_bytes())
-        .ok()
-        .ok_or("a schedule")?;
-    assert!(rt; schedule.events.len() == 16_384);
+fn a_schedule_has_at_most_16384_events(rt: HostRuntime) {
+    let events = repeated(&rt, r#"[0,"step"]"#, 16_384).expect(&rt, "memory");
+    assert!(rt; count_with(rt.alloc(), "", &events) == Ok(16_384));
     // their number is tested before the first event is
-    let text = format!(in rt.alloc();
-        "{{\"object\":\"room\",\"bound\":1,\"seats\":1,\"events\":[[0,\"jump\"],{events}]}}"
-    )?;
-    assert!(rt; read_schedule(rt.alloc(), text.as_bytes()).err() == Some(EVENTS));
-    Ok(())
+    assert!(rt; count_with(rt.alloc(), r#"[0,"jump"],"#, &events) == Err(EVENTS));
 }

@@ -1,83 +1,122 @@
+ghost use Rattle.fak_text.specs.Names.{IsRefusal};
+
+use LineMark::{Queue, Room};
 use fak_core::{CoreFault, CoreMove, Line, LineMark};
 use fak_model::{Kind, RoomKind};
 use fak_text::{
-    Note, append_journal, append_line, append_name, append_refusal, journal_text, line_text,
-    name_text, refused_text,
+    Note, TextFault, append_journal, append_line, append_name, append_refusal, journal_text,
+    line_text, name_text, refused_text,
 };
-use std::test::Fail;
+use std::alloc::{AllocError, Global};
+use std::process::Abort;
+
+// Whether a text was made, and is this one.
+fn is_text(made: Result<Vec<u8>, TextFault>, want: &str) -> bool {
+    match made {
+        Ok(text) => text.as_slice() == want.as_bytes(),
+        Err(_) => false,
+    }
+}
+
+// Finds that the lines of a seat have the texts beside them.
+fn have_texts(
+    rt: &(impl Abort + AllocGlobal),
+    seat: u64,
+    rows: &[(CoreMove, i128, Option<LineMark>, &str)],
+) {
+    for &(step, found, mark, want) in rows {
+        let line = Line {
+            seat,
+            step,
+            found,
+            mark,
+        };
+        assert!(rt; is_text(line_text(rt.alloc(), &line), want), "at {want}");
+    }
+}
 
 #[test]
-fn lines_of_rooms(rt: HostRuntime) -> Result<(), Fail> {
-    let table = [
+fn lines_of_rooms(rt: HostRuntime) {
+    let rows = &[
         (CoreMove::Test, 0, None, "1 test 0 -"),
-        (CoreMove::Test, 3, Some(RoomKind::No(3)), "1 test 3 no 3"),
+        (
+            CoreMove::Test,
+            3,
+            Some(Room(RoomKind::No(3))),
+            "1 test 3 no 3",
+        ),
         (
             CoreMove::Add,
             0,
-            Some(RoomKind::Up(1024)),
+            Some(Room(RoomKind::Up(1024))),
             "1 add 0 up 1024",
         ),
-        (CoreMove::Add, 1, Some(RoomKind::Over(1)), "1 add 1 over 1"),
+        (
+            CoreMove::Add,
+            1,
+            Some(Room(RoomKind::Over(1))),
+            "1 add 1 over 1",
+        ),
         (
             CoreMove::Back,
             2,
-            Some(RoomKind::Back(1)),
+            Some(Room(RoomKind::Back(1))),
             "1 back 2 back 1",
         ),
         (
             CoreMove::Release,
             5,
-            Some(RoomKind::Release(3)),
+            Some(Room(RoomKind::Release(3))),
             "1 release 5 release 3",
         ),
     ];
-    for (step, found, kind, want) in table {
-        let line = Line {
-            seat: 1,
-            step,
-            found,
-            mark: kind.map(LineMark::Room),
-        };
-        let text = line_text(rt.alloc(), &line).ok().ok_or("a text")?;
-        assert!(rt; text.as_slice() == want.as_bytes(), "at {want}");
-    }
-    Ok(())
+    have_texts(&rt, 1, rows);
 }
 
 #[test]
-fn lines_of_queues(rt: HostRuntime) -> Result<(), Fail> {
-    let table = [
+fn lines_of_queues(rt: HostRuntime) {
+    let rows = &[
         (CoreMove::TestUp, 0, None, "2 test-up 0 -"),
         (
             CoreMove::TestUp,
             1,
-            Some(Kind::NoRoom),
+            Some(Queue(Kind::NoRoom)),
             "2 test-up 1 no-room",
         ),
         (
             CoreMove::TestUp,
             1,
-            Some(Kind::Closed),
+            Some(Queue(Kind::Closed)),
             "2 test-up 1 closed",
         ),
         (
             CoreMove::AddUp,
             0,
-            Some(Kind::ClaimIn),
+            Some(Queue(Kind::ClaimIn)),
             "2 add-up 0 claim-in",
         ),
-        (CoreMove::AddUp, 1, Some(Kind::OverIn), "2 add-up 1 over-in"),
-        (CoreMove::AddUp, 0, Some(Kind::LateIn), "2 add-up 0 late-in"),
+        (
+            CoreMove::AddUp,
+            1,
+            Some(Queue(Kind::OverIn)),
+            "2 add-up 1 over-in",
+        ),
+        (
+            CoreMove::AddUp,
+            0,
+            Some(Queue(Kind::LateIn)),
+            "2 add-up 0 late-in",
+        ),
         (
             CoreMove::BackUp,
             1,
-            Some(Kind::BackIn),
+            Some(Queue(Kind::BackIn)),
             "2 back-up 1 back-in",
         ),
         (
             CoreMove::TicketIn,
             0,
-            Some(Kind::Put(7)),
+            Some(Queue(Kind::Put(7))),
             "2 ticket-in 0 put 7",
         ),
         (CoreMove::TurnIn, 0, None, "2 turn-in 0 -"),
@@ -90,38 +129,43 @@ fn lines_of_queues(rt: HostRuntime) -> Result<(), Fail> {
         (
             CoreMove::SetFull,
             1,
-            Some(Kind::Fill(0)),
+            Some(Queue(Kind::Fill(0))),
             "2 set-full 1 fill 0",
         ),
-        (CoreMove::EndIn, 0, Some(Kind::EndIn), "2 end-in 0 end-in"),
+        (
+            CoreMove::EndIn,
+            0,
+            Some(Queue(Kind::EndIn)),
+            "2 end-in 0 end-in",
+        ),
         (
             CoreMove::TestLow,
             -1,
-            Some(Kind::NoItem),
+            Some(Queue(Kind::NoItem)),
             "2 test-low -1 no-item",
         ),
         (
             CoreMove::SubLow,
             1,
-            Some(Kind::ClaimOut),
+            Some(Queue(Kind::ClaimOut)),
             "2 sub-low 1 claim-out",
         ),
         (
             CoreMove::SubLow,
             0,
-            Some(Kind::OverOut),
+            Some(Queue(Kind::OverOut)),
             "2 sub-low 0 over-out",
         ),
         (
             CoreMove::BackLow,
             -1,
-            Some(Kind::BackOut),
+            Some(Queue(Kind::BackOut)),
             "2 back-low -1 back-out",
         ),
         (
             CoreMove::TicketOut,
             0,
-            Some(Kind::Got(10)),
+            Some(Queue(Kind::Got(10))),
             "2 ticket-out 0 got 10",
         ),
         (CoreMove::TurnOut, 1, None, "2 turn-out 1 -"),
@@ -129,49 +173,46 @@ fn lines_of_queues(rt: HostRuntime) -> Result<(), Fail> {
         (
             CoreMove::SetFree,
             2,
-            Some(Kind::Take(1)),
+            Some(Queue(Kind::Take(1))),
             "2 set-free 2 take 1",
         ),
         (
             CoreMove::EndOut,
             3,
-            Some(Kind::EndOut),
+            Some(Queue(Kind::EndOut)),
             "2 end-out 3 end-out",
         ),
-        (CoreMove::Shut, 0, Some(Kind::Close), "2 shut 0 close"),
+        (
+            CoreMove::Shut,
+            0,
+            Some(Queue(Kind::Close)),
+            "2 shut 0 close",
+        ),
     ];
-    for (step, found, kind, want) in table {
-        let line = Line {
-            seat: 2,
-            step,
-            found,
-            mark: kind.map(LineMark::Queue),
-        };
-        let text = line_text(rt.alloc(), &line).ok().ok_or("a text")?;
-        assert!(rt; text.as_slice() == want.as_bytes(), "at {want}");
-    }
-    Ok(())
+    have_texts(&rt, 2, rows);
+}
+
+// Whether a refusal has this text.
+fn is_refused_as(alloc: Global, seat: u64, fault: &CoreFault, want: &str) -> bool
+    requires { IsRefusal fault.now }
+{
+    is_text(refused_text(alloc, seat, fault), want)
 }
 
 #[test]
-fn refusals(rt: HostRuntime) -> Result<(), Fail> {
-    let text = refused_text(rt.alloc(), 2, &CoreFault::NoSuchSeat)
-        .ok()
-        .ok_or("a text")?;
-    assert!(rt; text.as_slice() == b"2 refused no-such-seat".as_slice());
-    let text = refused_text(rt.alloc(), 1, &CoreFault::MidCall)
-        .ok()
-        .ok_or("a text")?;
-    assert!(rt; text.as_slice() == b"1 refused mid-call".as_slice());
-    let text = refused_text(rt.alloc(), 1, &CoreFault::IdleSeat)
-        .ok()
-        .ok_or("a text")?;
-    assert!(rt; text.as_slice() == b"1 refused idle-seat".as_slice());
-    let text = refused_text(rt.alloc(), 18446744073709551615, &CoreFault::NotHeld)
-        .ok()
-        .ok_or("a text")?;
-    assert!(rt; text.as_slice() == b"18446744073709551615 refused not-held".as_slice());
-    Ok(())
+fn refusals(rt: HostRuntime) {
+    let alloc = rt.alloc();
+    assert!(rt; is_refused_as(alloc, 2, &CoreFault::NoSuchSeat, "2 refused no-such-seat"));
+    assert!(rt; is_refused_as(alloc, 1, &CoreFault::MidCall, "1 refused mid-call"));
+    assert!(rt; is_refused_as(alloc, 1, &CoreFault::IdleSeat, "1 refused idle-seat"));
+    assert!(rt;
+        is_refused_as(
+            alloc,
+            18446744073709551615,
+            &CoreFault::NotHeld,
+            "18446744073709551615 refused not-held"
+        )
+    );
 }
 
 const JOURNAL: &str = "  say ping pong
@@ -192,9 +233,11 @@ const JOURNAL: &str = "  say ping pong
 ";
 
 #[test]
-fn a_journal_of_each_kind_of_note(rt: HostRuntime) -> Result<(), Fail> {
+fn a_journal_of_each_kind_of_note(rt: HostRuntime) {
+    assert!(rt; is_text(journal_text(rt.alloc(), &[0], &[]), ""));
+    let ping = String::from_str(rt.alloc(), "ping pong").expect(&rt, "memory");
     let notes = [
-        Note::Say(String::from_str(rt.alloc(), "ping pong")?),
+        Note::Say(ping),
         Note::Say(String::new(rt.alloc())),
         Note::Yield,
         Note::Down(0),
@@ -210,42 +253,47 @@ fn a_journal_of_each_kind_of_note(rt: HostRuntime) -> Result<(), Fail> {
         Note::NoSlot,
         Note::Shutdown,
     ];
-    let text = journal_text(rt.alloc(), &[3, 0], &notes)
-        .ok()
-        .ok_or("a text")?;
-    assert!(rt; text.as_slice() == JOURNAL.as_bytes());
-    let text = journal_text(rt.alloc(), &[0], &[]).ok().ok_or("a text")?;
-    assert!(rt; text.is_empty());
-    Ok(())
+    assert!(rt; is_text(journal_text(rt.alloc(), &[3, 0], &notes), JOURNAL));
+}
+
+// Whether a process of these numbers is named so.
+fn is_named(alloc: Global, name: &[u64], want: &str) -> bool {
+    match name_text(alloc, name) {
+        Ok(text) => text.as_str() == want,
+        Err(_) => false,
+    }
 }
 
 #[test]
-fn names(rt: HostRuntime) -> Result<(), Fail> {
-    assert!(rt; name_text(rt.alloc(), &[])?.as_str() == "");
-    assert!(rt; name_text(rt.alloc(), &[0])?.as_str() == "0");
-    assert!(rt; name_text(rt.alloc(), &[12, 0, 1000])?.as_str() == "12.0.1000");
-    Ok(())
+fn names(rt: HostRuntime) {
+    assert!(rt; is_named(rt.alloc(), &[], ""));
+    assert!(rt; is_named(rt.alloc(), &[0], "0"));
+    assert!(rt; is_named(rt.alloc(), &[12, 0, 1000], "12.0.1000"));
+}
+
+// Appends one of each, and a newline after each but the journal.
+fn append_each(text: &mut String, line: &Line) -> Result<(), AllocError> {
+    append_line(text, line)?;
+    text.push_str("\n")?;
+    append_refusal(text, 100, &CoreFault::NotHeld)?;
+    text.push_str("\n")?;
+    append_name(text, &[3, 0, 1000])?;
+    text.push_str("\n")?;
+    append_journal(text, &[3, 0], &[Note::Spawned(7), Note::Yield])
 }
 
 #[test]
-fn texts_are_appended(rt: HostRuntime) -> Result<(), Fail> {
+fn texts_are_appended(rt: HostRuntime) {
     let line = Line {
         seat: 63,
         step: CoreMove::SubLow,
         found: -4096,
-        mark: Some(LineMark::Queue(Kind::OverOut)),
+        mark: Some(Queue(Kind::OverOut)),
     };
-    let mut text = String::from_str(rt.alloc(), "begun\n")?;
-    append_line(&mut text, &line)?;
-    text.push_str("\n")?;
-    append_refusal(&mut text, 100, &CoreFault::NotHeld)?;
-    text.push_str("\n")?;
-    append_name(&mut text, &[3, 0, 1000])?;
-    text.push_str("\n")?;
-    append_journal(&mut text, &[3, 0], &[Note::Spawned(7), Note::Yield])?;
+    let mut text = String::from_str(rt.alloc(), "begun\n").expect(&rt, "memory");
+    append_each(&mut text, &line).expect(&rt, "memory");
     assert!(rt;
         text.as_str()
             == "begun\n63 sub-low -4096 over-out\n100 refused not-held\n3.0.1000\n  spawn 3.0.7\n  yield\n"
     );
-    Ok(())
 }

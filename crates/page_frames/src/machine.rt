@@ -122,6 +122,9 @@ pub fn churn_all<R: Threads + Wait + Sync>(
     let (a, filled) = fill(rt, &free, a, frames);
     let ((a, first), (b, second)) = churn_both(rt, &free, a, b, times);
     if !filled || !first || !second {
+        drop(free);
+        drop(a);
+        drop(b);
         return None;
     }
     close(free, a, b, frames)
@@ -134,8 +137,7 @@ fn open_list(alloc: Global, frames: u64) -> Option<(Queue<Frame>, Seat<Frame>, S
     let Ok((free, mut seats)) = Queue::<Frame>::open(alloc, frames, 2, 1 << 40) else {
         return None;
     };
-    let (Some(a), Some(b)) = (seats.pop(), seats.pop()) else {
-        return None;
-    };
+    let Some(a) = seats.pop() else { unreachable!() };
+    let Some(b) = seats.pop() else { unreachable!() };
     Some((free, a, b))
 }

@@ -25,10 +25,9 @@ fn open_queue(alloc: Global) -> Option<(Queue<Buffer>, Seat<Buffer>, Seat<Buffer
     let Ok((queue, mut seats)) = Queue::open(alloc, CELLS, 2, STINT) else {
         return None;
     };
-    match (seats.pop(), seats.pop()) {
-        (Some(a), Some(b)) => Some((queue, a, b)),
-        _ => None,
-    }
+    let Some(a) = seats.pop() else { unreachable!() };
+    let Some(b) = seats.pop() else { unreachable!() };
+    Some((queue, a, b))
 }
 
 /// A gate that lets `room` buffers through, and its two seats.
@@ -41,10 +40,9 @@ fn open_gate(
     let Ok((gate, mut seats)) = Semaphore::open(alloc, room, CELLS, 2, STINT) else {
         return None;
     };
-    match (seats.pop(), seats.pop()) {
-        (Some(a), Some(b)) => Some((gate, a, b)),
-        _ => None,
-    }
+    let Some(a) = seats.pop() else { unreachable!() };
+    let Some(b) = seats.pop() else { unreachable!() };
+    Some((gate, a, b))
 }
 
 /// An empty channel and its two ports.
@@ -78,10 +76,7 @@ fn queue_is_empty(queue: Queue<Buffer>, a: Seat<Buffer>, b: Seat<Buffer>) -> boo
     if !whole {
         return false;
     }
-    match queue.close(tally).next() {
-        None => true,
-        Some(_) => false,
-    }
+    queue.close(tally).next().is_none()
 }
 
 /// Closes the gate, and tells whether both seats are back and nothing is held back.
@@ -96,10 +91,7 @@ fn gate_is_empty(gate: Semaphore<Buffer>, a: SemSeat<Buffer>, b: SemSeat<Buffer>
     if !whole {
         return false;
     }
-    match gate.close(tally).next() {
-        None => true,
-        Some(_) => false,
-    }
+    gate.close(tally).next().is_none()
 }
 
 /// Closes the channel, and tells whether nothing is left in it.

@@ -11,44 +11,44 @@ use std::sync::Wait;
 use std::thread::{Threads, join};
 
 /// Sends all buffers. Tells whether none was lost.
-fn produce<R: Wait>(rt: &R, channel: &Channel, mut port: Port, buffers: Vec<Buffer>) -> (Port, bool)
-    requires { IsPort channel.now.queue.object channel.now.gate.object port }
-    ensures port { IsPort channel.now.queue.object channel.now.gate.object result.0 }
-    ensures sent { IsTrue result.1 → Moves (λ w. sum_by w buffers.items) nothing port result.0 }
+fn produce<R: Wait>(rt: &R, channel: &Channel, port: &mut Port, buffers: Vec<Buffer>) -> bool
+    requires { IsPort channel.now.queue.object channel.now.gate.object port.old }
+    ensures port { IsPort channel.now.queue.object channel.now.gate.object port.new }
+    ensures sent { IsTrue result → Moves (λ w. sum_by w buffers.items) nothing port.old port.new }
 {
     for buffer in buffers {
         if !port.send(rt, channel, buffer) {
-            return (port, false);
+            return false;
         }
     }
-    (port, true)
+    true
 }
 
 /// Receives so many buffers, into this list. Tells whether none was lost.
 fn consume<R: Wait>(
     rt: &R,
     channel: &Channel,
-    mut port: Port,
+    port: &mut Port,
     count: usize,
-    mut into: Vec<Buffer>,
-) -> (Port, Vec<Buffer>, bool)
-    requires port { IsPort channel.now.queue.object channel.now.gate.object port }
-    requires empty { into.items ≡ [] }
-    ensures port { IsPort channel.now.queue.object channel.now.gate.object result.0 }
-    ensures received { IsTrue result.2 → Moves nothing (λ w. sum_by w result.1.items) port result.0 }
+    into: &mut Vec<Buffer>,
+) -> bool
+    requires port { IsPort channel.now.queue.object channel.now.gate.object port.old }
+    requires empty { into.old.items ≡ [] }
+    ensures port { IsPort channel.now.queue.object channel.now.gate.object port.new }
+    ensures received { IsTrue result → Moves nothing (λ w. sum_by w into.new.items) port.old port.new }
 {
     for _ in 0..count {
         let Some(buffer) = port.receive(rt, channel) else {
-            return (port, into, false);
+            return false;
         };
         let Ok(()) = into.push(buffer) else {
-            return (port, into, false);
+            return false;
         };
         if !port.make_room(rt, channel) {
-            return (port, into, false);
+            return false;
         }
     }
-    (port, into, true)
+    true
 }
 
 /// Both at once.
@@ -57,7 +57,7 @@ fn run_both<R: Threads + Wait + Sync>(
     channel: &Channel,
     ports: (Port, Port),
     buffers: Vec<Buffer>,
-    into: Vec<Buffer>,
+    mut into: Vec<Buffer>,
 ) -> ((Port, bool), (Port, Vec<Buffer>, bool))
     requires first { IsPort channel.now.queue.object channel.now.gate.object ports.0 }
     requires second { IsPort channel.now.queue.object channel.now.gate.object ports.1 }
@@ -67,7 +67,7 @@ fn run_both<R: Threads + Wait + Sync>(
     ensures sent { IsTrue result.0.1 → Moves (λ w. sum_by w buffers.items) nothing ports.0 result.0.0 }
     ensures received { IsTrue result.1.2 → Moves nothing (λ w. sum_by w result.1.1.items) ports.1 result.1.0 }
 {
-    let (a, b) = ports;
+    let (mut a, mut b) = ports;
     let count = buffers.len();
     join(
         rt,
@@ -75,12 +75,18 @@ fn run_both<R: Threads + Wait + Sync>(
             requires { IsPort channel.now.queue.object channel.now.gate.object a }
             ensures port { IsPort channel.entry.now.queue.object channel.entry.now.gate.object result.0 }
             ensures sent { IsTrue result.1 → Moves (λ w. sum_by w buffers.items) nothing a result.0 }
-        { produce(rt, channel, a, buffers) },
+        {
+            let sent = produce(rt, channel, &mut a, buffers);
+            (a, sent)
+        },
         move || -> (Port, Vec<Buffer>, bool)
             requires { IsPort channel.now.queue.object channel.now.gate.object b × (into.items ≡ []) }
             ensures port { IsPort channel.entry.now.queue.object channel.entry.now.gate.object result.0 }
             ensures received { IsTrue result.2 → Moves nothing (λ w. sum_by w result.1.items) b result.0 }
-        { consume(rt, channel, b, count, into) },
+        {
+            let all = consume(rt, channel, &mut b, count, &mut into);
+            (b, into, all)
+        },
     )
 }
 
@@ -99,8 +105,13 @@ pub fn pass<R: Threads + Wait + Sync>(
     let (channel, a, b) = open_channel(alloc, room)?;
     let ((a, sent), (b, received, all)) = run_both(rt, &channel, (a, b), buffers, Vec::new(alloc));
     if !sent || !all {
+        drop(channel);
+        drop(a);
+        drop(b);
         return None;
     }
-    let empty = is_empty(channel, a, b);
-    if empty { Some(received) } else { None }
+    if !is_empty(channel, a, b) {
+        return None;
+    }
+    Some(received)
 }

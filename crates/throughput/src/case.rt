@@ -5,7 +5,7 @@ use crate::handover::GateCase;
 use crate::queues::QueueCase;
 use crate::spread::{Spread, spread_of};
 use crate::visits::TableCase;
-use std::alloc::Global;
+use std::alloc::{AllocError, Global};
 use std::marker::Sync;
 use std::sync::Wait;
 use std::thread::Threads;
@@ -29,18 +29,23 @@ pub enum Case {
 }
 
 impl Case {
-    /// Runs it once, and answers the nanoseconds for each item or call; none where it is not measured at all.
+    /// Runs it once, and adds the nanoseconds for each item or call to the list; none where it is not measured at all.
     fn once<R: Threads + Wait + Clock + Sync>(
         &self,
         rt: &R,
         alloc: Global,
         items: u64,
-    ) -> Result<Option<u64>, Fault> {
-        match self {
-            Case::Queue(case) => case.once(rt, alloc, items),
-            Case::Gate(case) => case.once(rt, alloc, items).map(Some),
-            Case::Table(case) => case.once(rt, alloc, items).map(Some),
+        list: &mut Vec<u64>,
+    ) -> Result<(), Fault> {
+        let nanos = match self {
+            Case::Queue(case) => case.once(rt, alloc, items)?,
+            Case::Gate(case) => Some(case.once(rt, alloc, items)?),
+            Case::Table(case) => Some(case.once(rt, alloc, items)?),
+        };
+        if let Some(nanos) = nanos {
+            list.push(nanos)?;
         }
+        Ok(())
     }
 }
 
@@ -50,14 +55,30 @@ fn round<R: Threads + Wait + Clock + Sync>(
     alloc: Global,
     cases: &[Case],
     items: u64,
-    times: &mut Vec<Vec<u64>>,
+    times: &mut [Vec<u64>],
 ) -> Result<(), Fault> {
     for (case, list) in cases.iter().zip(times.iter_mut()) {
-        if let Some(nanos) = case.once(rt, alloc, items)? {
-            list.push(nanos)?;
-        }
+        case.once(rt, alloc, items, list)?;
     }
     Ok(())
+}
+
+/// An empty list for each case.
+fn lists_of(alloc: Global, cases: &[Case]) -> Result<Vec<Vec<u64>>, AllocError> {
+    let mut times = Vec::new(alloc);
+    for _ in cases {
+        times.push(Vec::new(alloc))?;
+    }
+    Ok(times)
+}
+
+/// What is spread of each list.
+fn spreads_in(alloc: Global, times: Vec<Vec<u64>>) -> Result<Vec<Option<Spread>>, AllocError> {
+    let mut spreads = Vec::new(alloc);
+    for list in times {
+        spreads.push(spread_of(list)?)?;
+    }
+    Ok(spreads)
 }
 
 /// The times of all cases, in the same order. Each round has each case once, so that what else the machine does meets all of
@@ -68,16 +89,9 @@ pub fn spreads_of<R: Threads + Wait + Clock + Sync>(
     cases: &[Case],
     plan: Plan,
 ) -> Result<Vec<Option<Spread>>, Fault> {
-    let mut times = Vec::new(alloc);
-    for _ in cases {
-        times.push(Vec::new(alloc))?;
-    }
+    let mut times = lists_of(alloc, cases)?;
     for _ in 0..plan.rounds {
-        round(rt, alloc, cases, plan.items, &mut times)?;
+        round(rt, alloc, cases, plan.items, times.as_mut_slice())?;
     }
-    let mut spreads = Vec::new(alloc);
-    for list in times {
-        spreads.push(spread_of(list)?)?;
-    }
-    Ok(spreads)
+    Ok(spreads_in(alloc, times)?)
 }

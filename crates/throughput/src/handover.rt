@@ -13,30 +13,36 @@ use std::sync::{Condvar, Mutex, Wait};
 use std::thread::{Parker, Threads};
 use std::time::Clock;
 
-/// What a thread does with its gates, so many times.
+/// A thread that goes down and up at its gate, so many times.
 #[derive(Drop)]
-enum Turns<G> {
-    /// Down and up.
-    Alone { gate: G, count: u64 },
-    /// The other's gate up, then its own down.
-    Serve { ours: G, theirs: G, count: u64 },
-    /// Its own gate down, then the other's up.
-    Answer { ours: G, theirs: G, count: u64 },
+struct Alone<G> {
+    gate: G,
+    count: u64,
 }
 
-/// Down and up.
-fn pass<R: Wait, G: Gate>(rt: &R, mut gate: G, count: u64) -> Passed {
-    let mut passed = Passed::NONE;
-    for number in 0..count {
-        if gate.down(rt) && gate.up(rt) {
-            passed = passed.with(number);
+/// One of two threads that let each other through, so many times.
+#[derive(Drop)]
+struct InTurn<G> {
+    ours: G,
+    theirs: G,
+    count: u64,
+    begins: bool,
+}
+
+impl<G: Gate + Send> Job for Alone<G> {
+    fn work<R: Wait>(&mut self, rt: &R) -> Passed {
+        let mut passed = Passed::NONE;
+        for number in 0..self.count {
+            if self.gate.down(rt) && self.gate.up(rt) {
+                passed = passed.with(number);
+            }
         }
+        passed
     }
-    passed
 }
 
 /// The other's gate up, then its own down.
-fn serve<R: Wait, G: Gate>(rt: &R, mut ours: G, mut theirs: G, count: u64) -> Passed {
+fn serve<R: Wait, G: Gate>(rt: &R, ours: &mut G, theirs: &mut G, count: u64) -> Passed {
     let mut passed = Passed::NONE;
     for number in 0..count {
         if theirs.up(rt) && ours.down(rt) {
@@ -47,7 +53,7 @@ fn serve<R: Wait, G: Gate>(rt: &R, mut ours: G, mut theirs: G, count: u64) -> Pa
 }
 
 /// Its own gate down, then the other's up.
-fn answer<R: Wait, G: Gate>(rt: &R, mut ours: G, mut theirs: G, count: u64) {
+fn answer<R: Wait, G: Gate>(rt: &R, ours: &mut G, theirs: &mut G, count: u64) {
     for _ in 0..count {
         if !ours.down(rt) || !theirs.up(rt) {
             return;
@@ -55,24 +61,14 @@ fn answer<R: Wait, G: Gate>(rt: &R, mut ours: G, mut theirs: G, count: u64) {
     }
 }
 
-impl<G: Gate + Send> Job for Turns<G> {
-    fn work<R: Wait>(self, rt: &R) -> Passed {
-        match self {
-            Turns::Alone { gate, count } => pass(rt, gate, count),
-            Turns::Serve {
-                ours,
-                theirs,
-                count,
-            } => serve(rt, ours, theirs, count),
-            Turns::Answer {
-                ours,
-                theirs,
-                count,
-            } => {
-                answer(rt, ours, theirs, count);
-                Passed::NONE
-            }
+impl<G: Gate + Send> Job for InTurn<G> {
+    /// Who begins counts.
+    fn work<R: Wait>(&mut self, rt: &R) -> Passed {
+        if self.begins {
+            return serve(rt, &mut self.ours, &mut self.theirs, self.count);
         }
+        answer(rt, &mut self.ours, &mut self.theirs, self.count);
+        Passed::NONE
     }
 }
 
@@ -92,7 +88,10 @@ pub struct GateCase {
     pub is_shared: bool,
 }
 
-/// A semaphore with two seats.
+/// A semaphore with its two seats.
+type Opened = (Semaphore<()>, SemSeat<()>, SemSeat<()>);
+
+/// The semaphore with its two seats.
 fn open_gate(alloc: Global, start: u64) -> Result<(Semaphore<()>, SemSeat<()>, SemSeat<()>), Fault>
     ensures { IfOk result (λ r. (r.1.object ≡ r.0.object) × (r.2.object ≡ r.0.object)) }
 {
@@ -124,7 +123,7 @@ fn run_alone<R: Threads + Wait + Clock + Sync, G: Gate + Send>(
     items: u64,
 ) -> Result<u64, Fault> {
     let mut jobs = Vec::new(alloc);
-    jobs.push(Turns::Alone { gate, count: items })?;
+    jobs.push(Alone { gate, count: items })?;
     run_all(rt, jobs, numbers_below(items))
 }
 
@@ -137,15 +136,17 @@ fn run_both<R: Threads + Wait + Clock + Sync, G: Gate + Send>(
     items: u64,
 ) -> Result<u64, Fault> {
     let mut jobs = Vec::new(alloc);
-    jobs.push(Turns::Serve {
+    jobs.push(InTurn {
         ours: first.0,
         theirs: first.1,
         count: items,
+        begins: true,
     })?;
-    jobs.push(Turns::Answer {
+    jobs.push(InTurn {
         ours: second.0,
         theirs: second.1,
         count: items,
+        begins: false,
     })?;
     Ok(run_all(rt, jobs, numbers_below(items))? / 2)
 }
@@ -156,20 +157,25 @@ fn alone_by_seats<R: Threads + Wait + Clock + Sync>(
     alloc: Global,
     items: u64,
 ) -> Result<u64, Fault> {
-    let bell = Parker::new();
     let (semaphore, seat, _other) = open_gate(alloc, 1)?;
+    let bell = Parker::new();
     run_alone(rt, alloc, seat_gate(&semaphore, &bell, seat), items)
 }
 
-/// Two threads at two semaphores of two seats, a seat of each for each thread.
-fn both_by_seats<R: Threads + Wait + Clock + Sync>(
+/// Two threads at these two semaphores, a seat of each for each thread.
+fn both_at<R: Threads + Wait + Clock + Sync>(
     rt: &R,
     alloc: Global,
+    left: Opened,
+    right: Opened,
     items: u64,
-) -> Result<u64, Fault> {
+) -> Result<u64, Fault>
+    requires left { (left.1.object ≡ left.0.object) × (left.2.object ≡ left.0.object) }
+    requires right { (right.1.object ≡ right.0.object) × (right.2.object ≡ right.0.object) }
+{
     let bells = (Parker::new(), Parker::new());
-    let (left, a, b) = open_gate(alloc, 0)?;
-    let (right, c, d) = open_gate(alloc, 0)?;
+    let (left, a, b) = left;
+    let (right, c, d) = right;
     let first = (
         seat_gate(&left, &bells.0, a),
         seat_gate(&right, &bells.1, c),
@@ -181,20 +187,18 @@ fn both_by_seats<R: Threads + Wait + Clock + Sync>(
     run_both(rt, alloc, first, second, items)
 }
 
-impl GateCase {
-    fn by_seats<R: Threads + Wait + Clock + Sync>(
-        &self,
-        rt: &R,
-        alloc: Global,
-        items: u64,
-    ) -> Result<u64, Fault> {
-        if self.is_shared {
-            both_by_seats(rt, alloc, items)
-        } else {
-            alone_by_seats(rt, alloc, items)
-        }
-    }
+/// Two threads at two semaphores of two seats.
+fn both_by_seats<R: Threads + Wait + Clock + Sync>(
+    rt: &R,
+    alloc: Global,
+    items: u64,
+) -> Result<u64, Fault> {
+    let left = open_gate(alloc, 0)?;
+    let right = open_gate(alloc, 0)?;
+    both_at(rt, alloc, left, right, items)
+}
 
+impl GateCase {
     fn by_lock<R: Threads + Wait + Clock + Sync>(
         &self,
         rt: &R,
@@ -226,7 +230,8 @@ impl GateCase {
         items: u64,
     ) -> Result<u64, Fault> {
         let nanos = match self.guard {
-            Guard::Seats => self.by_seats(rt, alloc, items)?,
+            Guard::Seats if self.is_shared => both_by_seats(rt, alloc, items)?,
+            Guard::Seats => alone_by_seats(rt, alloc, items)?,
             Guard::Lock => self.by_lock(rt, alloc, items)?,
         };
         Ok(nanos / items.max(1))

@@ -5,18 +5,25 @@ use crate::run::{Job, Passed};
 use std::sync::Wait;
 
 /// What a thread does with its port.
-#[derive(Drop)]
-pub enum Passing<P> {
+#[derive(Clone, Copy)]
+pub enum Part {
     /// It puts the items of these numbers in.
-    Put { port: P, first: u64, end: u64 },
+    Put { first: u64, end: u64 },
     /// It takes so many items out.
-    Get { port: P, count: u64 },
+    Get { count: u64 },
     /// It puts an item in and takes it out, so many times.
-    Both { port: P, count: u64 },
+    Both { count: u64 },
+}
+
+/// A thread with its port.
+#[derive(Drop)]
+pub struct Passing<P> {
+    pub port: P,
+    pub part: Part,
 }
 
 /// Puts the items of these numbers in, until one does not go in.
-fn put_all<R: Wait, P: Port>(rt: &R, mut port: P, first: u64, end: u64) {
+fn put_all<R: Wait, P: Port>(rt: &R, port: &mut P, first: u64, end: u64) {
     for number in first..end {
         if !port.put(rt, number) {
             return;
@@ -25,7 +32,7 @@ fn put_all<R: Wait, P: Port>(rt: &R, mut port: P, first: u64, end: u64) {
 }
 
 /// Takes so many items out.
-fn get_all<R: Wait, P: Port>(rt: &R, mut port: P, count: u64) -> Passed {
+fn get_all<R: Wait, P: Port>(rt: &R, port: &mut P, count: u64) -> Passed {
     let mut passed = Passed::NONE;
     for _ in 0..count {
         if let Some(number) = port.get(rt) {
@@ -36,7 +43,7 @@ fn get_all<R: Wait, P: Port>(rt: &R, mut port: P, count: u64) -> Passed {
 }
 
 /// Puts an item in and takes it out, so many times.
-fn pass_all<R: Wait, P: Port>(rt: &R, mut port: P, count: u64) -> Passed {
+fn pass_all<R: Wait, P: Port>(rt: &R, port: &mut P, count: u64) -> Passed {
     let mut passed = Passed::NONE;
     for number in 0..count {
         if !port.put(rt, number) {
@@ -50,14 +57,14 @@ fn pass_all<R: Wait, P: Port>(rt: &R, mut port: P, count: u64) -> Passed {
 }
 
 impl<P: Port + Send> Job for Passing<P> {
-    fn work<R: Wait>(self, rt: &R) -> Passed {
-        match self {
-            Passing::Put { port, first, end } => {
-                put_all(rt, port, first, end);
+    fn work<R: Wait>(&mut self, rt: &R) -> Passed {
+        match self.part {
+            Part::Put { first, end } => {
+                put_all(rt, &mut self.port, first, end);
                 Passed::NONE
             }
-            Passing::Get { port, count } => get_all(rt, port, count),
-            Passing::Both { port, count } => pass_all(rt, port, count),
+            Part::Get { count } => get_all(rt, &mut self.port, count),
+            Part::Both { count } => pass_all(rt, &mut self.port, count),
         }
     }
 }

@@ -5,7 +5,7 @@ ghost use Rattle.throughput.specs.Seats.{AreIdle};
 
 use crate::fault::Fault;
 use crate::item::{Item, Parcel};
-use crate::passing::Passing;
+use crate::passing::{Part, Passing};
 use crate::port::{LockPort, Port, RingPort, Row, SeatPort};
 use crate::run::{numbers_below, run_all};
 use crate::steps::time_steps;
@@ -68,7 +68,20 @@ fn seat_ports<'q, T: Item>(
     Ok(ports)
 }
 
-/// What each thread does: with no pairs, one does both.
+/// What the thread of this number does: with no pairs one does both, else the first of each pair puts in and the second takes out.
+fn part_of(number: u64, pairs: u64, items: u64) -> Part {
+    if pairs == 0 {
+        return Part::Both { count: items };
+    }
+    if number % 2 != 0 {
+        return Part::Get { count: items };
+    }
+    let first = (number / 2).wrapping_mul(items);
+    let end = first.wrapping_add(items);
+    Part::Put { first, end }
+}
+
+/// What each thread does.
 fn jobs_of<P: Port>(
     alloc: Global,
     mut ports: Vec<P>,
@@ -76,21 +89,11 @@ fn jobs_of<P: Port>(
     items: u64,
 ) -> Result<Vec<Passing<P>>, AllocError> {
     let mut jobs = Vec::new(alloc);
-    if pairs == 0 {
-        if let Some(port) = ports.pop() {
-            jobs.push(Passing::Both { port, count: items })?;
-        }
-        return Ok(jobs);
-    }
-    let mut first = 0u64;
-    while let (Some(port), Some(other)) = (ports.pop(), ports.pop()) {
-        let end = first.wrapping_add(items);
-        jobs.push(Passing::Put { port, first, end })?;
-        jobs.push(Passing::Get {
-            port: other,
-            count: items,
-        })?;
-        first = end;
+    let mut number = 0u64;
+    while let Some(port) = ports.pop() {
+        let part = part_of(number, pairs, items);
+        jobs.push(Passing { port, part })?;
+        number = number.wrapping_add(1);
     }
     Ok(jobs)
 }

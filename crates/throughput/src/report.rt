@@ -55,7 +55,7 @@ fn queue_table(
 }
 
 /// The table of semaphores.
-fn gate_table(alloc: Global) -> Result<Table, AllocError> {
+fn gate_table(alloc: Global, title: &'static str) -> Result<Table, AllocError> {
     let mut cases = Vec::new(alloc);
     for guard in [Guard::Seats, Guard::Lock] {
         for is_shared in [false, true] {
@@ -63,7 +63,7 @@ fn gate_table(alloc: Global) -> Result<Table, AllocError> {
         }
     }
     Ok(Table {
-        title: "semaphore",
+        title,
         columns: &["down and up", "two in turn"],
         rows: &["fak_sem, Parker", "Mutex, Condvar"],
         cases,
@@ -91,39 +91,46 @@ fn file_table(alloc: Global, title: &'static str, writes: bool) -> Result<Table,
     })
 }
 
-/// The tables of queues of such items, of 8, 1,000 and 1,024 cells, under these titles.
-fn queue_tables(
-    alloc: Global,
-    all: &mut Vec<Table>,
-    goods: Goods,
-    titles: [&'static str; 3],
-) -> Result<(), AllocError> {
-    let [few, many, power] = titles;
-    all.push(queue_table(alloc, few, goods, 8)?)?;
-    all.push(queue_table(alloc, many, goods, 1000)?)?;
-    all.push(queue_table(alloc, power, goods, 1024)?)?;
-    Ok(())
+/// What a table is of.
+#[derive(Clone, Copy)]
+enum Subject {
+    /// Queues of such items, of so many cells.
+    Queues(Goods, u64),
+    /// Semaphores.
+    Gates,
+    /// File tables, only read or written too.
+    Files(bool),
 }
 
-/// All tables.
-fn tables(alloc: Global) -> Result<Vec<Table>, AllocError> {
-    let mut all = Vec::new(alloc);
-    queue_tables(
-        alloc,
-        &mut all,
-        Goods::Number,
-        ["u64, 8 cells", "u64, 1,000 cells", "u64, 1,024 cells"],
+/// The titles of all tables, and what they are of.
+const TABLES: &[(&str, Subject)] = &[
+    ("u64, 8 cells", Subject::Queues(Goods::Number, 8)),
+    ("u64, 1,000 cells", Subject::Queues(Goods::Number, 1000)),
+    ("u64, 1,024 cells", Subject::Queues(Goods::Number, 1024)),
+    ("Vec, 8 cells", Subject::Queues(Goods::Parcel, 8)),
+    ("Vec, 1,000 cells", Subject::Queues(Goods::Parcel, 1000)),
+    ("Vec, 1,024 cells", Subject::Queues(Goods::Parcel, 1024)),
+    ("semaphore", Subject::Gates),
+    ("entry, only read", Subject::Files(false)),
+    ("1 write in 100", Subject::Files(true)),
+];
+
+/// The table of this. A queue has one cell at least.
+fn table_of(alloc: Global, title: &'static str, subject: Subject) -> Result<Table, AllocError> {
+    match subject {
+        Subject::Queues(goods, size) => queue_table(alloc, title, goods, size.max(1)),
+        Subject::Gates => gate_table(alloc, title),
+        Subject::Files(writes) => file_table(alloc, title, writes),
+    }
+}
+
+/// Prints the line over all tables.
+fn print_head<R: Print>(rt: &R, plan: Plan) -> Result<(), Fault> {
+    println!(rt;
+        "Nanoseconds for an item or a call: best, median and worst of {} rounds; {} items of each producer, or calls of each thread",
+        plan.rounds, plan.items
     )?;
-    queue_tables(
-        alloc,
-        &mut all,
-        Goods::Parcel,
-        ["Vec, 8 cells", "Vec, 1,000 cells", "Vec, 1,024 cells"],
-    )?;
-    all.push(gate_table(alloc)?)?;
-    all.push(file_table(alloc, "entry, only read", false)?)?;
-    all.push(file_table(alloc, "1 write in 100", true)?)?;
-    Ok(all)
+    Ok(())
 }
 
 /// Measures everything and prints the tables.
@@ -132,22 +139,29 @@ pub fn measure<R: Threads + Wait + Clock + Print + Sync>(
     alloc: Global,
     plan: Plan,
 ) -> Result<(), Fault> {
-    println!(rt;
-        "Nanoseconds for an item or a call: best, median and worst of {} rounds; {} items of each producer, or calls of each thread",
-        plan.rounds, plan.items
-    )?;
-    for table in tables(alloc)? {
-        table.print(rt, alloc, plan)?;
+    print_head(rt, plan)?;
+    for &(title, subject) in TABLES {
+        table_of(alloc, title, subject)?.print(rt, alloc, plan)?;
     }
     Ok(())
+}
+
+/// Makes one short run of each of these cases. Answers how many there were.
+fn runs_of<R: Threads + Wait + Clock + Sync>(
+    rt: &R,
+    alloc: Global,
+    cases: &[Case],
+) -> Result<usize, Fault> {
+    let spreads = spreads_of(rt, alloc, cases, SHORT)?;
+    Ok(spreads.iter().flatten().count())
 }
 
 /// Makes one short run of each case. Answers how many there were.
 pub fn try_each<R: Threads + Wait + Clock + Sync>(rt: &R, alloc: Global) -> Result<usize, Fault> {
     let mut runs = 0usize;
-    for table in tables(alloc)? {
-        let spreads = spreads_of(rt, alloc, table.cases.as_slice(), SHORT)?;
-        runs = runs.wrapping_add(spreads.iter().flatten().count());
+    for &(title, subject) in TABLES {
+        let table = table_of(alloc, title, subject)?;
+        runs = runs.wrapping_add(runs_of(rt, alloc, table.cases.as_slice())?);
     }
     Ok(runs)
 }

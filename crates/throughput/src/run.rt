@@ -52,7 +52,7 @@ pub fn numbers_below(end: u64) -> Passed
 /// What one thread does in a run.
 pub trait Job: Send + Drop {
     /// Does it, and answers what came out.
-    fn work<R: Wait>(self, rt: &R) -> Passed;
+    fn work<R: Wait>(&mut self, rt: &R) -> Passed;
 }
 
 /// One thread's part of a run.
@@ -91,7 +91,7 @@ fn timed<R: Wait + Clock, J: Job>(
     rt: &R,
     come: &AtomicU64,
     threads: u64,
-    job: J,
+    job: &mut J,
 ) -> Result<Lap, Fault> {
     if !meet(come, threads) {
         return Err(Fault::Threads);
@@ -111,10 +111,13 @@ fn timed<R: Wait + Clock, J: Job>(
 }
 
 /// The run of these parts: from the first begin to the last end.
-fn whole(first: Lap, others: Vec<Result<Lap, Fault>>) -> Result<Lap, Fault> {
-    let mut all = first;
+fn whole(laps: &[Result<Lap, Fault>]) -> Result<Lap, Fault> {
+    let Some((first, others)) = laps.split_last() else {
+        return Err(Fault::Lost);
+    };
+    let mut all = (*first)?;
     for lap in others {
-        let lap = lap?;
+        let lap = (*lap)?;
         all = Lap {
             begun: all.begun.min(lap.begun),
             ended: all.ended.max(lap.ended),
@@ -147,10 +150,7 @@ pub fn run_all<R: Threads + Wait + Clock + Sync, J: Job>(
     let threads = jobs.len() as u64;
     let come = AtomicU64::new(0);
     let here = &come;
-    let part = move |job: J| -> Result<Lap, Fault> { timed(rt, here, threads, job) };
-    let mut laps = map_vec(rt, jobs, &part)?;
-    let Some(first) = laps.pop() else {
-        return Err(Fault::Lost);
-    };
-    nanos_of(whole(first?, laps)?, expected)
+    let part = move |mut job: J| -> Result<Lap, Fault> { timed(rt, here, threads, &mut job) };
+    let laps = map_vec(rt, jobs, &part)?;
+    nanos_of(whole(laps.as_slice())?, expected)
 }

@@ -71,7 +71,7 @@ impl<'t> Shelf for SeatShelf<'t> {
 }
 
 /// An entry under a lock that readers share.
-#[derive(Drop)]
+#[derive(Clone, Copy, Drop)]
 pub struct ReadersShelf<'t> {
     pub entry: &'t RwLock<FileEntry>,
 }
@@ -89,7 +89,7 @@ impl<'t> Shelf for ReadersShelf<'t> {
 }
 
 /// An entry under a lock that nobody shares.
-#[derive(Drop)]
+#[derive(Clone, Copy, Drop)]
 pub struct LockShelf<'t> {
     pub entry: &'t Mutex<FileEntry>,
 }

@@ -18,6 +18,14 @@ pub struct Table {
     pub cases: Vec<Case>,
 }
 
+/// Adds the best, the median and the worst of a column.
+fn add_figures(line: &mut String, spread: &Option<Spread>) -> Result<(), AllocError> {
+    match spread {
+        Some(s) => write!(line, " |{:>6} {:>6} {:>6}", s.best, s.median, s.worst),
+        None => write!(line, " |{:>6} {:>6} {:>6}", "-", "-", "-"),
+    }
+}
+
 /// A line of the table: the best, the median and the worst of each column.
 pub fn line_of(
     alloc: Global,
@@ -26,10 +34,7 @@ pub fn line_of(
 ) -> Result<String, AllocError> {
     let mut line = format!(in alloc; "{name:<20}")?;
     for spread in spreads {
-        match spread {
-            Some(s) => write!(line, " |{:>6} {:>6} {:>6}", s.best, s.median, s.worst)?,
-            None => write!(line, " |{:>6} {:>6} {:>6}", "-", "-", "-")?,
-        }
+        add_figures(&mut line, spread)?;
     }
     Ok(line)
 }
@@ -43,7 +48,27 @@ fn heads_of(alloc: Global, table: &Table) -> Result<String, AllocError> {
     Ok(line)
 }
 
+/// Prints this text and the end of a line.
+fn print_line<R: Print>(rt: &R, line: Result<String, AllocError>) -> Result<(), Fault> {
+    println!(rt; "{}", line?)?;
+    Ok(())
+}
+
 impl Table {
+    /// Prints the rows, of which these are the times of the cases.
+    fn print_rows<R: Print>(
+        &self,
+        rt: &R,
+        alloc: Global,
+        spreads: &[Option<Spread>],
+    ) -> Result<(), Fault> {
+        let width = self.columns.len().max(1);
+        for (name, row) in self.rows.iter().zip(spreads.chunks(width)) {
+            print_line(rt, line_of(alloc, name, row))?;
+        }
+        Ok(())
+    }
+
     /// Measures all cases and prints the table.
     pub fn print<R: Threads + Wait + Clock + Print + Sync>(
         &self,
@@ -52,11 +77,8 @@ impl Table {
         plan: Plan,
     ) -> Result<(), Fault> {
         let spreads = spreads_of(rt, alloc, self.cases.as_slice(), plan)?;
-        println!(rt; "\n{}", heads_of(alloc, self)?)?;
-        let width = self.columns.len().max(1);
-        for (name, row) in self.rows.iter().zip(spreads.as_slice().chunks(width)) {
-            println!(rt; "{}", line_of(alloc, name, row)?)?;
-        }
-        Ok(())
+        println!(rt; "")?;
+        print_line(rt, heads_of(alloc, self))?;
+        self.print_rows(rt, alloc, spreads.as_slice())
     }
 }

@@ -30,19 +30,14 @@ struct Visit<S> {
 
 impl<S: Shelf + Send> Job for Visit<S> {
     /// Counts the calls in which the two fields were equal, and adds up the writes.
-    fn work<R: Wait>(self, rt: &R) -> Passed {
-        let Visit {
-            mut shelf,
-            calls,
-            writes,
-        } = self;
+    fn work<R: Wait>(&mut self, rt: &R) -> Passed {
         let mut passed = Passed::NONE;
-        for number in 0..calls {
-            if writes && number % PERIOD == PERIOD - 1 {
-                if shelf.write(rt) {
+        for number in 0..self.calls {
+            if self.writes && number % PERIOD == PERIOD - 1 {
+                if self.shelf.write(rt) {
                     passed = passed.with(1);
                 }
-            } else if let Some(entry) = shelf.read(rt) {
+            } else if let Some(entry) = self.shelf.read(rt) {
                 if entry.inode == entry.uses {
                     passed = passed.with(0);
                 }
@@ -87,6 +82,15 @@ fn seat_shelves<'t>(
     Ok(shelves)
 }
 
+/// The same shelf so many times.
+fn copies_of<S: Copy + Drop>(alloc: Global, shelf: S, count: u64) -> Result<Vec<S>, AllocError> {
+    let mut shelves = Vec::new(alloc);
+    for _ in 0..count {
+        shelves.push(shelf)?;
+    }
+    Ok(shelves)
+}
+
 impl TableCase {
     /// How many calls of a thread write.
     fn writes_of(&self, items: u64) -> u64 {
@@ -104,6 +108,8 @@ impl TableCase {
         let Some(mut last) = shelves.pop() else {
             return Err(Fault::Lost);
         };
+        let count = self.threads.saturating_mul(items);
+        let sum = self.threads.saturating_mul(self.writes_of(items));
         let mut jobs = Vec::new(alloc);
         for shelf in shelves {
             jobs.push(Visit {
@@ -112,21 +118,11 @@ impl TableCase {
                 writes: self.writes,
             })?;
         }
-        let writes = self.threads.saturating_mul(self.writes_of(items));
-        let expected = Passed {
-            count: self.threads.saturating_mul(items),
-            sum: writes,
-        };
-        let nanos = run_all(rt, jobs, expected)?;
-        if last.read(rt)
-            != Some(FileEntry {
-                inode: writes,
-                uses: writes,
-            })
-        {
-            return Err(Fault::Lost);
+        let nanos = run_all(rt, jobs, Passed { count, sum })?;
+        match last.read(rt) {
+            Some(entry) if entry.inode == sum && entry.uses == sum => Ok(nanos / count.max(1)),
+            _ => Err(Fault::Lost),
         }
-        Ok(nanos / expected.count.max(1))
     }
 
     fn by_seats<R: Threads + Wait + Clock + Sync>(
@@ -150,10 +146,8 @@ impl TableCase {
         items: u64,
     ) -> Result<u64, Fault> {
         let entry = RwLock::new(BLANK);
-        let mut shelves = Vec::new(alloc);
-        for _ in 0..self.threads.saturating_add(1) {
-            shelves.push(ReadersShelf { entry: &entry })?;
-        }
+        let seats = self.threads.saturating_add(1);
+        let shelves = copies_of(alloc, ReadersShelf { entry: &entry }, seats)?;
         self.over(rt, alloc, shelves, items)
     }
 
@@ -164,10 +158,8 @@ impl TableCase {
         items: u64,
     ) -> Result<u64, Fault> {
         let entry = Mutex::new(BLANK);
-        let mut shelves = Vec::new(alloc);
-        for _ in 0..self.threads.saturating_add(1) {
-            shelves.push(LockShelf { entry: &entry })?;
-        }
+        let seats = self.threads.saturating_add(1);
+        let shelves = copies_of(alloc, LockShelf { entry: &entry }, seats)?;
         self.over(rt, alloc, shelves, items)
     }
 

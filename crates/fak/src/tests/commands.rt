@@ -1,76 +1,87 @@
 //! Command lines.
 
+use super::words_of;
 use crate::{Command, MainFault, command_of};
 use std::alloc::{AllocError, Global};
-use std::test::Fail;
+use std::process::Abort;
 
-fn answer(alloc: Global, line: &str) -> Result<Result<Command, MainFault>, AllocError> {
-    let mut words = Vec::new(alloc);
-    for word in line.split(' ') {
-        words.push(String::from_str(alloc, word)?)?;
-    }
+/// What the words of a line ask for.
+fn asked(alloc: Global, line: &str) -> Result<Result<Command, MainFault>, AllocError> {
+    let words = words_of(alloc, line)?;
     Ok(command_of(alloc, words))
 }
 
-#[test]
-fn command_lines(rt: HostRuntime) -> Result<(), Fail> {
-    let table = [
-        ("fak replay", Ok(Command::Replay)),
-        ("other replay", Ok(Command::Replay)),
-        ("fak check", Ok(Command::Check)),
-        ("fak run", Ok(Command::Run(1))),
-        ("fak run 2", Err(MainFault::Usage)),
-        ("fak", Err(MainFault::Usage)),
-        ("fak copy", Err(MainFault::Usage)),
-        ("fak replay extra", Err(MainFault::Usage)),
-        ("fak -- replay", Err(MainFault::Usage)),
-        ("fak replay --", Ok(Command::Replay)),
-        ("fak replay -- replay", Err(MainFault::Usage)),
-        ("fak run -- --processors 2", Err(MainFault::Usage)),
-        ("fak help", Err(MainFault::Usage)),
-        ("fak --help", Err(MainFault::Usage)),
-        ("fak -h", Err(MainFault::Usage)),
-        ("fak replay --help", Err(MainFault::Usage)),
-        ("fak --version", Err(MainFault::Usage)),
-        ("fak -V", Err(MainFault::Usage)),
-    ];
-    for (line, want) in table {
-        assert_eq!(rt; answer(rt.alloc(), line)?, want, "at {line}");
+/// Finds that the lines ask for the commands beside them.
+fn ask_for(rt: &(impl Abort + AllocGlobal), rows: &[(&str, Command)]) {
+    for &(line, command) in rows {
+        if asked(rt.alloc(), line) != Ok(Ok(command)) {
+            panic!(rt; "at {line}")
+        }
     }
-    Ok(())
+}
+
+/// Finds that no line is a command.
+fn are_refused(rt: &(impl Abort + AllocGlobal), lines: &[&str]) {
+    for &line in lines {
+        if asked(rt.alloc(), line) != Ok(Err(MainFault::Usage)) {
+            panic!(rt; "at {line}")
+        }
+    }
 }
 
 #[test]
-fn processors_of_a_run(rt: HostRuntime) -> Result<(), Fail> {
-    let table = [
-        ("fak run --processors 1", Ok(Command::Run(1))),
-        ("fak run --processors 2", Ok(Command::Run(2))),
-        ("fak run --processors=7", Ok(Command::Run(7))),
-        ("fak run --processors 8", Ok(Command::Run(8))),
-        ("fak run --processors=0", Err(MainFault::Usage)),
-        ("fak run --processors 0", Err(MainFault::Usage)),
-        ("fak run --processors 9", Err(MainFault::Usage)),
-        (
-            "fak run --processors 18446744073709551616",
-            Err(MainFault::Usage),
-        ),
-        ("fak run --processors -1", Err(MainFault::Usage)),
-        ("fak run --processors two", Err(MainFault::Usage)),
-        ("fak run --processors 1.0", Err(MainFault::Usage)),
-        ("fak run --processors=", Err(MainFault::Usage)),
-        ("fak run --processors", Err(MainFault::Usage)),
-        ("fak run --processors 2 3", Err(MainFault::Usage)),
-        (
-            "fak run --processors 2 --processors 2",
-            Err(MainFault::Usage),
-        ),
-        ("fak run --processor 2", Err(MainFault::Usage)),
-        ("fak --processors 2 run", Err(MainFault::Usage)),
-        ("fak replay --processors 2", Err(MainFault::Usage)),
-        ("fak check --processors=2", Err(MainFault::Usage)),
+fn command_lines(rt: HostRuntime) {
+    let rows = [
+        ("fak replay", Command::Replay),
+        ("other replay", Command::Replay),
+        ("fak check", Command::Check),
+        ("fak run", Command::Run(1)),
+        ("fak replay --", Command::Replay),
     ];
-    for (line, want) in table {
-        assert_eq!(rt; answer(rt.alloc(), line)?, want, "at {line}");
-    }
-    Ok(())
+    ask_for(&rt, &rows);
+    let lines = [
+        "fak run 2",
+        "fak",
+        "fak copy",
+        "fak replay extra",
+        "fak -- replay",
+        "fak replay -- replay",
+        "fak run -- --processors 2",
+        "fak help",
+        "fak --help",
+        "fak -h",
+        "fak replay --help",
+        "fak --version",
+        "fak -V",
+    ];
+    are_refused(&rt, &lines);
+}
+
+#[test]
+fn processors_of_a_run(rt: HostRuntime) {
+    let rows = [
+        ("fak run --processors 1", Command::Run(1)),
+        ("fak run --processors 2", Command::Run(2)),
+        ("fak run --processors=7", Command::Run(7)),
+        ("fak run --processors 8", Command::Run(8)),
+    ];
+    ask_for(&rt, &rows);
+    let lines = [
+        "fak run --processors=0",
+        "fak run --processors 0",
+        "fak run --processors 9",
+        "fak run --processors 18446744073709551616",
+        "fak run --processors -1",
+        "fak run --processors two",
+        "fak run --processors 1.0",
+        "fak run --processors=",
+        "fak run --processors",
+        "fak run --processors 2 3",
+        "fak run --processors 2 --processors 2",
+        "fak run --processor 2",
+        "fak --processors 2 run",
+        "fak replay --processors 2",
+        "fak check --processors=2",
+    ];
+    are_refused(&rt, &lines);
 }

@@ -1,40 +1,55 @@
 //! Readers and writers that fail, or never end.
 
+use super::{ROOM, ROWS, is_text};
 use crate::{Command, MainFault, serve};
 use fak_text::{Field, TextFault};
+use std::alloc::Global;
 use std::io;
 use std::io::{ErrorKind, Read, Write};
-use std::test::Fail;
+use std::marker::Sync;
+use std::process::Abort;
+use std::sync::Wait;
+use std::thread::Threads;
 
-const ROOM: &[u8] =
-    b"{\"object\":\"room\",\"bound\":1,\"seats\":2,\"events\":[[0,\"tir\",1],[0,\"step\",2],[1,\"tir\",1],[1,\"step\"]]}";
-
-const ROWS: &[u8] = b"0 test 0 -\n0 add 0 up 1\n1 test 1 no 1\n";
-
-/// A reader that gives its bytes one by one, and fails after so many reads.
+/// A reader that gives up to so many bytes at once, but one alone at the read of one number, and fails from that of
+/// another.
 #[derive(Drop)]
-struct Faltering<'a> {
+struct Uneven<'a> {
     rest: &'a [u8],
-    reads_left: u32,
+    most: usize,
+    reads: u32,
+    short_read: u32,
+    failing_read: u32,
 }
 
-impl Read for Faltering<'_> {
+impl Uneven<'_> {
+    /// A reader that gives its bytes one by one, and fails after so many reads.
+    fn faltering(rest: &[u8], reads: u32) -> Uneven<'_> {
+        Uneven {
+            rest,
+            most: 1,
+            reads: 0,
+            short_read: 0,
+            failing_read: reads,
+        }
+    }
+}
+
+impl Read for Uneven<'_> {
     fn read(&mut self, buf: &mut [u8]) -> io::Result<usize> {
-        if self.reads_left == 0 {
+        if self.reads == self.failing_read {
             return Err(io::Error::from(ErrorKind::Other));
         }
-        self.reads_left -= 1;
-        match self.rest {
-            [] => Ok(0),
-            [first, rest @ ..] => {
-                if buf.is_empty() {
-                    return Ok(0);
-                }
-                buf[0] = *first;
-                self.rest = rest;
-                Ok(1)
-            }
-        }
+        let most = if self.reads == self.short_read {
+            1
+        } else {
+            self.most
+        };
+        self.reads = self.reads.saturating_add(1);
+        let count = self.rest.len().min(buf.len()).min(most);
+        buf[..count].copy_from_slice(&self.rest[..count]);
+        self.rest = &self.rest[count..];
+        Ok(count)
     }
 }
 
@@ -43,12 +58,6 @@ impl Read for Faltering<'_> {
 struct Spaces {
     left: u64,
     reads: u64,
-}
-
-impl Spaces {
-    fn new(left: u64) -> Spaces {
-        Spaces { left, reads: 0 }
-    }
 }
 
 impl Read for Spaces {
@@ -63,46 +72,21 @@ impl Read for Spaces {
     }
 }
 
-/// A reader that gives up to seven bytes at once, but one alone at the read of this number.
-#[derive(Drop)]
-struct Uneven<'a> {
-    rest: &'a [u8],
-    reads: u32,
-    short_read: u32,
-}
-
-impl Read for Uneven<'_> {
-    fn read(&mut self, buf: &mut [u8]) -> io::Result<usize> {
-        let most = if self.reads == self.short_read { 1 } else { 7 };
-        self.reads = self.reads.saturating_add(1);
-        let count = self.rest.len().min(buf.len()).min(most);
-        buf[..count].copy_from_slice(&self.rest[..count]);
-        self.rest = &self.rest[count..];
-        Ok(count)
-    }
-}
-
-/// A writer that takes so many bytes, and then fails.
+/// A writer that takes so many bytes, and then fails; or fails when it is to pass them on.
 #[derive(Drop)]
 struct Full {
     room: usize,
     is_touched: bool,
+    fails_at_flush: bool,
 }
 
-/// A writer that takes all bytes, and fails when it is to pass them on.
-#[derive(Drop)]
-struct Unflushed {
-    taken: usize,
-}
-
-impl Write for Unflushed {
-    fn write(&mut self, buf: &[u8]) -> io::Result<usize> {
-        self.taken = self.taken.saturating_add(buf.len());
-        Ok(buf.len())
-    }
-
-    fn flush(&mut self) -> io::Result<()> {
-        Err(io::Error::from(ErrorKind::Other))
+impl Full {
+    fn new(room: usize, fails_at_flush: bool) -> Full {
+        Full {
+            room,
+            is_touched: false,
+            fails_at_flush,
+        }
     }
 }
 
@@ -118,134 +102,125 @@ impl Write for Full {
     }
 
     fn flush(&mut self) -> io::Result<()> {
+        if self.fails_at_flush {
+            return Err(io::Error::from(ErrorKind::Other));
+        }
         Ok(())
     }
 }
 
-#[test]
-fn serves_what_is_read(rt: HostRuntime) -> Result<(), Fail> {
-    let mut written = Vec::new(rt.alloc());
-    let mut reader = ROOM;
-    let status = serve(&rt, rt.alloc(), Command::Replay, &mut reader, &mut written);
-    assert_eq!(rt; status, Ok(0));
-    assert_eq!(rt; written.as_slice(), ROWS);
-    Ok(())
+/// Whether a replay of what is read is answered so, and writes these rows.
+fn is_served<R: Read>(
+    rt: &(impl Threads + Wait + Sync),
+    alloc: Global,
+    reader: &mut R,
+    want: Result<u8, MainFault>,
+    rows: &str,
+) -> bool {
+    let mut written = Vec::new(alloc);
+    let answer = serve(rt, alloc, Command::Replay, reader, &mut written);
+    is_text(&written, rows) && answer == want
+}
+
+/// The fault of a replay into a writer.
+fn fault_into<W: Write>(
+    rt: &(impl Threads + Wait + Sync),
+    alloc: Global,
+    input: &str,
+    writer: &mut W,
+) -> Option<MainFault> {
+    let mut reader = input.as_bytes();
+    match serve(rt, alloc, Command::Replay, &mut reader, writer) {
+        Ok(_) => None,
+        Err(fault) => Some(fault),
+    }
+}
+
+/// Finds that so many spaces have this fault, with nothing written, after so many reads.
+fn have_fault(
+    rt: &(impl Abort + AllocGlobal + Threads + Wait + Sync),
+    left: u64,
+    reads: u64,
+    fault: MainFault,
+) {
+    let mut spaces = Spaces { left, reads: 0 };
+    let is_served = is_served(rt, rt.alloc(), &mut spaces, Err(fault), "");
+    assert!(rt; is_served && spaces.reads == reads, "{left} spaces");
 }
 
 #[test]
-fn a_failing_reader_is_a_read_fault(rt: HostRuntime) -> Result<(), Fail> {
-    let mut written = Vec::new(rt.alloc());
-    for reads_left in [0, 1, 2, 20] {
-        let mut reader = Faltering {
-            rest: ROOM,
-            reads_left,
-        };
-        let answer = serve(&rt, rt.alloc(), Command::Replay, &mut reader, &mut written);
-        assert_eq!(rt; answer, Err(MainFault::Read));
-        assert!(rt; written.is_empty());
+fn serves_what_is_read(rt: HostRuntime) {
+    assert!(rt; is_served(&rt, rt.alloc(), &mut ROOM.as_bytes(), Ok(0), ROWS));
+}
+
+#[test]
+fn a_failing_reader_is_a_read_fault(rt: HostRuntime) {
+    for reads in [0, 1, 2, 20] {
+        let mut reader = Uneven::faltering(ROOM.as_bytes(), reads);
+        let want = Err(MainFault::Read);
+        assert!(rt;
+            is_served(&rt, rt.alloc(), &mut reader, want, ""),
+            "{reads}"
+        );
     }
-    let mut reader = Faltering {
-        rest: ROOM,
-        reads_left: 2000,
-    };
-    assert_eq!(rt;
-        serve(&rt, rt.alloc(), Command::Replay, &mut reader, &mut written),
-        Ok(0)
-    );
-    Ok(())
+    let mut reader = Uneven::faltering(ROOM.as_bytes(), 2000);
+    assert!(rt; is_served(&rt, rt.alloc(), &mut reader, Ok(0), ROWS));
 }
 
 #[test]
 fn an_input_that_does_not_end_is_a_read_fault(rt: HostRuntime) {
-    let mut written = Vec::new(rt.alloc());
-    let mut endless = Spaces::new(u64::MAX);
-    let answer = serve(&rt, rt.alloc(), Command::Replay, &mut endless, &mut written);
-    assert_eq!(rt; answer, Err(MainFault::Read));
-    assert_eq!(rt; endless.reads, 2_097_152);
-    assert!(rt; written.is_empty());
+    have_fault(&rt, u64::MAX, 2_097_152, MainFault::Read);
 }
 
 #[test]
 fn an_input_that_ends_at_the_last_read_is_read(rt: HostRuntime) {
-    let mut written = Vec::new(rt.alloc());
-    let mut last = Spaces::new(2_097_151);
-    let answer = serve(&rt, rt.alloc(), Command::Replay, &mut last, &mut written);
-    assert_eq!(rt;
-        answer,
-        Err(MainFault::Text(TextFault::Range(Field::Input)))
-    );
-    assert_eq!(rt; last.reads, 2_097_152);
-    let mut late = Spaces::new(2_097_152);
-    let answer = serve(&rt, rt.alloc(), Command::Replay, &mut late, &mut written);
-    assert_eq!(rt; answer, Err(MainFault::Read));
-    assert_eq!(rt; late.reads, 2_097_152);
-    assert!(rt; written.is_empty());
+    let fault = MainFault::Text(TextFault::Range(Field::Input));
+    have_fault(&rt, 2_097_151, 2_097_152, fault);
+    have_fault(&rt, 2_097_152, 2_097_152, MainFault::Read);
 }
 
 #[test]
 fn an_input_is_at_most_1_048_576_bytes(rt: HostRuntime) {
-    let mut written = Vec::new(rt.alloc());
-    let mut long = Spaces::new(1_048_577);
-    let answer = serve(&rt, rt.alloc(), Command::Replay, &mut long, &mut written);
-    assert_eq!(rt;
-        answer,
-        Err(MainFault::Text(TextFault::Range(Field::Input)))
-    );
-    let mut blank = Spaces::new(1_048_576);
-    let answer = serve(&rt, rt.alloc(), Command::Replay, &mut blank, &mut written);
-    assert_eq!(rt; answer, Err(MainFault::Text(TextFault::NotJson)));
-    assert!(rt; written.is_empty());
+    let fault = MainFault::Text(TextFault::Range(Field::Input));
+    have_fault(&rt, 1_048_577, 1_048_578, fault);
+    let fault = MainFault::Text(TextFault::NotJson);
+    have_fault(&rt, 1_048_576, 1_048_577, fault);
 }
 
 #[test]
-fn a_read_may_give_one_byte(rt: HostRuntime) -> Result<(), Fail> {
+fn a_read_may_give_one_byte(rt: HostRuntime) {
     for short_read in 0..20 {
-        let mut written = Vec::new(rt.alloc());
         let mut reader = Uneven {
-            rest: ROOM,
+            rest: ROOM.as_bytes(),
+            most: 7,
             reads: 0,
             short_read,
+            failing_read: u32::MAX,
         };
-        let status = serve(&rt, rt.alloc(), Command::Replay, &mut reader, &mut written);
-        assert_eq!(rt; status, Ok(0), "at {short_read}");
-        assert_eq!(rt; written.as_slice(), ROWS);
+        assert!(rt;
+            is_served(&rt, rt.alloc(), &mut reader, Ok(0), ROWS),
+            "at {short_read}"
+        );
     }
-    Ok(())
 }
 
 #[test]
-fn a_failing_writer_is_a_write_fault(rt: HostRuntime) -> Result<(), Fail> {
+fn a_failing_writer_is_a_write_fault(rt: HostRuntime) {
     for room in [0, 1] {
-        let mut full = Full {
-            room,
-            is_touched: false,
-        };
-        let mut reader = ROOM;
-        let answer = serve(&rt, rt.alloc(), Command::Replay, &mut reader, &mut full);
-        assert_eq!(rt; answer, Err(MainFault::Write));
+        let mut full = Full::new(room, false);
+        let fault = fault_into(&rt, rt.alloc(), ROOM, &mut full);
+        assert!(rt; fault == Some(MainFault::Write), "{room}");
     }
-    let mut unused = Full {
-        room: 1,
-        is_touched: false,
-    };
-    let mut bad = b"[".as_slice();
-    let answer = serve(&rt, rt.alloc(), Command::Replay, &mut bad, &mut unused);
-    assert_eq!(rt; answer, Err(MainFault::Text(TextFault::NotJson)));
+    let mut unused = Full::new(1, false);
+    let fault = fault_into(&rt, rt.alloc(), "[", &mut unused);
+    assert!(rt; fault == Some(MainFault::Text(TextFault::NotJson)));
     assert!(rt; !unused.is_touched);
-    Ok(())
 }
 
 #[test]
 fn a_writer_that_fails_at_its_flush_is_a_write_fault(rt: HostRuntime) {
-    let mut unflushed = Unflushed { taken: 0 };
-    let mut reader = ROOM;
-    let answer = serve(
-        &rt,
-        rt.alloc(),
-        Command::Replay,
-        &mut reader,
-        &mut unflushed,
-    );
-    assert_eq!(rt; answer, Err(MainFault::Write));
-    assert_eq!(rt; unflushed.taken, ROWS.len());
+    let mut unflushed = Full::new(ROWS.len() + 1, true);
+    let fault = fault_into(&rt, rt.alloc(), ROOM, &mut unflushed);
+    assert!(rt; fault == Some(MainFault::Write));
+    assert!(rt; unflushed.room == 1);
 }

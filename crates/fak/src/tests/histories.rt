@@ -1,12 +1,12 @@
 //! Verdicts on histories.
 
-use super::is_answer;
-use crate::{MainFault, check};
+use super::{has_answer, have_faults};
+use crate::Command;
 use fak_text::{Field, TextFault};
 
 #[test]
 fn verdicts(rt: HostRuntime) {
-    let table = [
+    let rows = [
         (
             "{\"size\":2,\"marks\":[[0,\"claim-in\"],[0,\"put\",10],[0,\"fill\",0],[0,\"end-in\"],[0,\"claim-in\"],[0,\"put\",11],[0,\"fill\",1],[0,\"end-in\"],[1,\"claim-out\"],[1,\"got\",10],[2,\"claim-out\"],[2,\"got\",11],[2,\"take\",1],[2,\"end-out\"],[0,\"claim-in\"],[0,\"put\",12],[0,\"fill\",2]]}",
             3,
@@ -45,17 +45,14 @@ fn verdicts(rt: HostRuntime) {
             "legal\n",
         ),
     ];
-    for (input, status, text) in table {
-        assert!(rt;
-            is_answer(check(rt.alloc(), input.as_bytes()), status, text),
-            "at {input}"
-        );
+    for &(input, status, text) in &rows {
+        has_answer(&rt, Command::Check, input, status, text);
     }
 }
 
 #[test]
 fn faults_of_an_input(rt: HostRuntime) {
-    let table = [
+    let rows = [
         ("{\"size\":0}", TextFault::Range(Field::Size)),
         ("{\"size\":1}", TextFault::Missing(Field::Marks)),
         (
@@ -71,8 +68,5 @@ fn faults_of_an_input(rt: HostRuntime) {
             TextFault::UnknownOp(0),
         ),
     ];
-    for (input, fault) in table {
-        let answer = check(rt.alloc(), input.as_bytes()).map(|answer| answer.status);
-        assert_eq!(rt; answer, Err(MainFault::Text(fault)), "at {input}");
-    }
+    have_faults(&rt, Command::Check, &rows);
 }

@@ -1,14 +1,12 @@
 //! Replays of queues.
 
-use super::is_answer;
-use crate::replay;
+use super::has_answer;
+use crate::Command;
 
 #[test]
 fn an_item_goes_in_and_comes_out(rt: HostRuntime) {
-    let answer = replay(
-        rt.alloc(),
-        b"{\"object\":\"queue\",\"size\":1,\"seats\":1,\"events\":[[0,\"insert\",7],[0,\"step\",7],[0,\"delete\"],[0,\"step\",7]]}",
-    );
+    let input =
+        "{\"object\":\"queue\",\"size\":1,\"seats\":1,\"events\":[[0,\"insert\",7],[0,\"step\",7],[0,\"delete\"],[0,\"step\",7]]}";
     let rows = "\
 0 test-up 0 -\n\
 0 add-up 0 claim-in\n\
@@ -24,15 +22,13 @@ fn an_item_goes_in_and_comes_out(rt: HostRuntime) {
 0 load-item 7 -\n\
 0 set-free 2 take 0\n\
 0 end-out 1 end-out\n";
-    assert!(rt; is_answer(answer, 0, rows));
+    has_answer(&rt, Command::Replay, input, 0, rows);
 }
 
 #[test]
 fn deletions_are_refused_at_their_test_and_at_their_subtraction(rt: HostRuntime) {
-    let answer = replay(
-        rt.alloc(),
-        b"{\"object\":\"queue\",\"size\":1,\"seats\":3,\"events\":[[0,\"delete\"],[0,\"step\"],[0,\"insert\",7],[0,\"step\",7],[1,\"delete\"],[1,\"step\"],[2,\"delete\"],[2,\"step\",2],[1,\"step\"],[0,\"delete\"],[0,\"step\"],[1,\"step\"]]}",
-    );
+    let input =
+        "{\"object\":\"queue\",\"size\":1,\"seats\":3,\"events\":[[0,\"delete\"],[0,\"step\"],[0,\"insert\",7],[0,\"step\",7],[1,\"delete\"],[1,\"step\"],[2,\"delete\"],[2,\"step\",2],[1,\"step\"],[0,\"delete\"],[0,\"step\"],[1,\"step\"]]}";
     let rows = "\
 0 test-low 0 no-item\n\
 0 test-up 0 -\n\
@@ -48,15 +44,13 @@ fn deletions_are_refused_at_their_test_and_at_their_subtraction(rt: HostRuntime)
 1 sub-low 0 over-out\n\
 0 test-low -1 no-item\n\
 1 back-low -1 back-out\n";
-    assert!(rt; is_answer(answer, 0, rows));
+    has_answer(&rt, Command::Replay, input, 0, rows);
 }
 
 #[test]
 fn an_insertion_into_a_full_queue_is_refused(rt: HostRuntime) {
-    let answer = replay(
-        rt.alloc(),
-        b"{\"object\":\"queue\",\"size\":1,\"seats\":1,\"events\":[[0,\"insert\",7],[0,\"step\",7],[0,\"insert\",8],[0,\"step\"]]}",
-    );
+    let input =
+        "{\"object\":\"queue\",\"size\":1,\"seats\":1,\"events\":[[0,\"insert\",7],[0,\"step\",7],[0,\"insert\",8],[0,\"step\"]]}";
     let rows = "\
 0 test-up 0 -\n\
 0 add-up 0 claim-in\n\
@@ -66,15 +60,13 @@ fn an_insertion_into_a_full_queue_is_refused(rt: HostRuntime) {
 0 set-full 1 fill 0\n\
 0 end-in 0 end-in\n\
 0 test-up 1 no-room\n";
-    assert!(rt; is_answer(answer, 0, rows));
+    has_answer(&rt, Command::Replay, input, 0, rows);
 }
 
 #[test]
 fn a_deletion_before_the_end_of_the_insertion_is_refused(rt: HostRuntime) {
-    let answer = replay(
-        rt.alloc(),
-        b"{\"object\":\"queue\",\"size\":1,\"seats\":2,\"events\":[[0,\"insert\",7],[0,\"step\",6],[1,\"delete\"],[1,\"step\"]]}",
-    );
+    let input =
+        "{\"object\":\"queue\",\"size\":1,\"seats\":2,\"events\":[[0,\"insert\",7],[0,\"step\",6],[1,\"delete\"],[1,\"step\"]]}";
     let rows = "\
 0 test-up 0 -\n\
 0 add-up 0 claim-in\n\
@@ -83,15 +75,13 @@ fn a_deletion_before_the_end_of_the_insertion_is_refused(rt: HostRuntime) {
 0 store-item 7 -\n\
 0 set-full 1 fill 0\n\
 1 test-low 0 no-item\n";
-    assert!(rt; is_answer(answer, 0, rows));
+    has_answer(&rt, Command::Replay, input, 0, rows);
 }
 
 #[test]
 fn an_over_claim_that_is_not_undone_yet_counts(rt: HostRuntime) {
-    let answer = replay(
-        rt.alloc(),
-        b"{\"object\":\"queue\",\"size\":1,\"seats\":3,\"events\":[[0,\"insert\",7],[1,\"insert\",8],[0,\"step\"],[1,\"step\"],[0,\"step\"],[1,\"step\"],[0,\"step\",5],[0,\"delete\"],[0,\"step\",7],[2,\"insert\",9],[2,\"step\"],[1,\"step\"]]}",
-    );
+    let input =
+        "{\"object\":\"queue\",\"size\":1,\"seats\":3,\"events\":[[0,\"insert\",7],[1,\"insert\",8],[0,\"step\"],[1,\"step\"],[0,\"step\"],[1,\"step\"],[0,\"step\",5],[0,\"delete\"],[0,\"step\",7],[2,\"insert\",9],[2,\"step\"],[1,\"step\"]]}";
     let rows = "\
 0 test-up 0 -\n\
 1 test-up 0 -\n\
@@ -111,15 +101,13 @@ fn an_over_claim_that_is_not_undone_yet_counts(rt: HostRuntime) {
 0 end-out 2 end-out\n\
 2 test-up 1 no-room\n\
 1 back-up 1 back-in\n";
-    assert!(rt; is_answer(answer, 0, rows));
+    has_answer(&rt, Command::Replay, input, 0, rows);
 }
 
 #[test]
 fn cells_wait_for_their_turns(rt: HostRuntime) {
-    let answer = replay(
-        rt.alloc(),
-        b"{\"object\":\"queue\",\"size\":3,\"seats\":4,\"events\":[[0,\"insert\",10],[0,\"step\",3],[1,\"insert\",11],[1,\"step\",7],[2,\"delete\"],[2,\"step\",4],[1,\"insert\",12],[1,\"step\",7],[3,\"delete\"],[3,\"step\",7],[1,\"insert\",13],[1,\"step\",4],[0,\"step\",4],[2,\"step\",4],[1,\"step\",4]]}",
-    );
+    let input =
+        "{\"object\":\"queue\",\"size\":3,\"seats\":4,\"events\":[[0,\"insert\",10],[0,\"step\",3],[1,\"insert\",11],[1,\"step\",7],[2,\"delete\"],[2,\"step\",4],[1,\"insert\",12],[1,\"step\",7],[3,\"delete\"],[3,\"step\",7],[1,\"insert\",13],[1,\"step\",4],[0,\"step\",4],[2,\"step\",4],[1,\"step\",4]]}";
     let rows = "\
 0 test-up 0 -\n\
 0 add-up 0 claim-in\n\
@@ -165,15 +153,13 @@ fn cells_wait_for_their_turns(rt: HostRuntime) {
 1 store-item 13 -\n\
 1 set-full 3 fill 3\n\
 1 end-in 1 end-in\n";
-    assert!(rt; is_answer(answer, 0, rows));
+    has_answer(&rt, Command::Replay, input, 0, rows);
 }
 
 #[test]
 fn a_shut_queue_refuses_insertions_and_not_deletions(rt: HostRuntime) {
-    let answer = replay(
-        rt.alloc(),
-        b"{\"object\":\"queue\",\"size\":2,\"seats\":2,\"events\":[[0,\"insert\",5],[0,\"step\"],[1,\"shut\"],[1,\"step\"],[0,\"step\",2],[1,\"insert\",6],[1,\"step\"],[1,\"delete\"],[1,\"step\"]]}",
-    );
+    let input =
+        "{\"object\":\"queue\",\"size\":2,\"seats\":2,\"events\":[[0,\"insert\",5],[0,\"step\"],[1,\"shut\"],[1,\"step\"],[0,\"step\",2],[1,\"insert\",6],[1,\"step\"],[1,\"delete\"],[1,\"step\"]]}";
     let rows = "\
 0 test-up 0 -\n\
 1 shut 0 close\n\
@@ -181,5 +167,5 @@ fn a_shut_queue_refuses_insertions_and_not_deletions(rt: HostRuntime) {
 0 back-up 1 back-in\n\
 1 test-up 0 closed\n\
 1 test-low 0 no-item\n";
-    assert!(rt; is_answer(answer, 0, rows));
+    has_answer(&rt, Command::Replay, input, 0, rows);
 }

@@ -1,64 +1,36 @@
 //! Replays of rooms, and the faults of schedules.
 
-use super::is_answer;
-use crate::{MainFault, replay};
+use super::{ROOM, ROWS, has_answer, have_faults};
+use crate::Command;
 use fak_text::{Field, TextFault};
 
 #[test]
 fn a_claim_that_does_not_fit_is_refused_at_its_test(rt: HostRuntime) {
-    assert!(rt;
-        is_answer(
-            replay(
-                rt.alloc(),
-                b"{\"object\":\"room\",\"bound\":1,\"seats\":2,\"events\":[[0,\"tir\",1],[0,\"step\",2],[1,\"tir\",1],[1,\"step\"]]}"
-            ),
-            0,
-            "0 test 0 -\n0 add 0 up 1\n1 test 1 no 1\n"
-        )
-    );
-    assert!(rt;
-        is_answer(
-            replay(
-                rt.alloc(),
-                b"{\"object\":\"room\",\"bound\":1,\"seats\":2,\"events\":[]}"
-            ),
-            0,
-            ""
-        )
-    );
+    has_answer(&rt, Command::Replay, ROOM, 0, ROWS);
+    let input = "{\"object\":\"room\",\"bound\":1,\"seats\":2,\"events\":[]}";
+    has_answer(&rt, Command::Replay, input, 0, "");
 }
 
 #[test]
 fn a_claim_that_fails_its_retest_is_withdrawn(rt: HostRuntime) {
-    assert!(rt;
-        is_answer(
-            replay(
-                rt.alloc(),
-                b"{\"object\":\"room\",\"bound\":1,\"seats\":2,\"events\":[[0,\"tir\",1],[1,\"tir\",1],[0,\"step\"],[1,\"step\"],[0,\"step\"],[1,\"step\",2]]}"
-            ),
-            0,
-            "0 test 0 -\n1 test 0 -\n0 add 0 up 1\n1 add 1 over 1\n1 back 2 back 1\n"
-        )
-    );
+    let input =
+        "{\"object\":\"room\",\"bound\":1,\"seats\":2,\"events\":[[0,\"tir\",1],[1,\"tir\",1],[0,\"step\"],[1,\"step\"],[0,\"step\"],[1,\"step\",2]]}";
+    let rows = "0 test 0 -\n1 test 0 -\n0 add 0 up 1\n1 add 1 over 1\n1 back 2 back 1\n";
+    has_answer(&rt, Command::Replay, input, 0, rows);
 }
 
 #[test]
 fn refused_events_are_rows(rt: HostRuntime) {
-    assert!(rt;
-        is_answer(
-            replay(
-                rt.alloc(),
-                b"{\"object\":\"room\",\"bound\":5,\"seats\":2,\"events\":[[0,\"tir\",3],[0,\"step\",2],[1,\"tir\",3],[1,\"step\"],[1,\"tir\",2],[1,\"tir\",2],[1,\"step\",3],[0,\"release\",4],[0,\"release\",3],[0,\"step\"],[2,\"step\"]]}"
-            ),
-            0,
-            "0 test 0 -\n0 add 0 up 3\n1 test 3 no 3\n1 refused mid-call\n1 test 3 -\n1 add 3 up 2\n1 refused idle-seat\n0 refused not-held\n0 release 5 release 3\n2 refused no-such-seat\n"
-        )
-    );
+    let input =
+        "{\"object\":\"room\",\"bound\":5,\"seats\":2,\"events\":[[0,\"tir\",3],[0,\"step\",2],[1,\"tir\",3],[1,\"step\"],[1,\"tir\",2],[1,\"tir\",2],[1,\"step\",3],[0,\"release\",4],[0,\"release\",3],[0,\"step\"],[2,\"step\"]]}";
+    let rows =
+        "0 test 0 -\n0 add 0 up 3\n1 test 3 no 3\n1 refused mid-call\n1 test 3 -\n1 add 3 up 2\n1 refused idle-seat\n0 refused not-held\n0 release 5 release 3\n2 refused no-such-seat\n";
+    has_answer(&rt, Command::Replay, input, 0, rows);
 }
 
 #[test]
 fn faults_of_an_input(rt: HostRuntime) {
-    let table = [
+    let rows = [
         ("", TextFault::NotJson),
         ("{\"object\":\"room\",", TextFault::NotJson),
         ("[1]", TextFault::Range(Field::Input)),
@@ -90,8 +62,5 @@ fn faults_of_an_input(rt: HostRuntime) {
             TextFault::Range(Field::Events),
         ),
     ];
-    for (input, fault) in table {
-        let answer = replay(rt.alloc(), input.as_bytes()).map(|answer| answer.status);
-        assert_eq!(rt; answer, Err(MainFault::Text(fault)), "at {input}");
-    }
+    have_faults(&rt, Command::Replay, &rows);
 }

@@ -1,7 +1,7 @@
 //! Runs of scripts.
 
-use super::is_answer;
-use crate::{MainFault, run_script};
+use super::{has_answer, has_fault, have_faults};
+use crate::{Command, MainFault};
 use fak_kernel::Fault;
 use fak_text::{Field, TextFault};
 
@@ -39,8 +39,7 @@ process 1 program 1 slot 1 ended\n\
 \x20 close 7 entry 0\n\
 births 2 of 2\n\
 ended 4 stuck 0\n";
-    let answer = run_script(&rt, rt.alloc(), script.as_bytes(), 1);
-    assert!(rt; is_answer(answer, 0, report));
+    has_answer(&rt, Command::Run(1), script, 0, report);
 }
 
 #[test]
@@ -52,8 +51,7 @@ process 0 program 0 slot 0 stuck\n\
 \x20 say a\n\
 births 0 of 0\n\
 ended 0 stuck 1\n";
-    let answer = run_script(&rt, rt.alloc(), script.as_bytes(), 1);
-    assert!(rt; is_answer(answer, 3, report));
+    has_answer(&rt, Command::Run(1), script, 3, report);
 }
 
 #[test]
@@ -64,8 +62,7 @@ fn an_empty_program_ends(rt: HostRuntime) {
 process 0 program 0 slot 0 ended\n\
 births 0 of 0\n\
 ended 1 stuck 0\n";
-    let answer = run_script(&rt, rt.alloc(), script.as_bytes(), 1);
-    assert!(rt; is_answer(answer, 0, report));
+    has_answer(&rt, Command::Run(1), script, 0, report);
 }
 
 #[test]
@@ -85,8 +82,7 @@ process 1 program 1 slot 1 ended\n\
 \x20 up 0\n\
 births 0 of 0\n\
 ended 2 stuck 0\n";
-    let answer = run_script(&rt, rt.alloc(), script.as_bytes(), 1);
-    assert!(rt; is_answer(answer, 0, report));
+    has_answer(&rt, Command::Run(1), script, 0, report);
 }
 
 #[test]
@@ -105,8 +101,7 @@ process 1 program 1 slot 1 ended\n\
 process 2 program 2 slot 2 halted\n\
 births 0 of 0\n\
 ended 1 stuck 0 halted 2\n";
-    let answer = run_script(&rt, rt.alloc(), script.as_bytes(), 1);
-    assert!(rt; is_answer(answer, 0, report));
+    has_answer(&rt, Command::Run(1), script, 0, report);
 }
 
 #[test]
@@ -117,8 +112,7 @@ fn reports_of_version_2_count_the_halted(rt: HostRuntime) {
 process 0 program 0 slot 0 ended\n\
 births 0 of 0\n\
 ended 1 stuck 0 halted 0\n";
-    let answer = run_script(&rt, rt.alloc(), script.as_bytes(), 1);
-    assert!(rt; is_answer(answer, 0, report));
+    has_answer(&rt, Command::Run(1), script, 0, report);
 }
 
 #[test]
@@ -130,8 +124,7 @@ process 0 program 0 slot 0 stuck\n\
 \x20 say a\n\
 births 0 of 0\n\
 ended 0 stuck 1 halted 0\n";
-    let answer = run_script(&rt, rt.alloc(), script.as_bytes(), 1);
-    assert!(rt; is_answer(answer, 3, report));
+    has_answer(&rt, Command::Run(1), script, 3, report);
 }
 
 #[test]
@@ -145,8 +138,7 @@ process 0 program 0 slot 0 ended\n\
 process 0.0 program 1 slot 1 halted\n\
 births 1 of 1\n\
 ended 1 stuck 0 halted 1\n";
-    let answer = run_script(&rt, rt.alloc(), script.as_bytes(), 1);
-    assert!(rt; is_answer(answer, 0, report));
+    has_answer(&rt, Command::Run(1), script, 0, report);
 }
 
 #[test]
@@ -163,8 +155,7 @@ process 0.0 program 1 slot 1 ended\n\
 file 0 inode 7 uses 2\n\
 births 1 of 1\n\
 ended 2 stuck 0\n";
-    let answer = run_script(&rt, rt.alloc(), script.as_bytes(), 1);
-    assert!(rt; is_answer(answer, 0, report));
+    has_answer(&rt, Command::Run(1), script, 0, report);
 }
 
 #[test]
@@ -183,13 +174,12 @@ process 0.0 program 1 slot 1 ended\n\
 file 0 inode 7 uses 1\n\
 births 1 of 1\n\
 ended 2 stuck 0\n";
-    let answer = run_script(&rt, rt.alloc(), script.as_bytes(), 1);
-    assert!(rt; is_answer(answer, 0, report));
+    has_answer(&rt, Command::Run(1), script, 0, report);
 }
 
 #[test]
 fn faults_of_a_script(rt: HostRuntime) {
-    let table = [
+    let rows = [
         ("{\"version\":1,", TextFault::NotJson),
         (
             "{\"version\":1,\"slots\":1,\"births\":0,\"semaphores\":[0],\"files\":1,\"programs\":[[]],\"start\":[0]}",
@@ -216,10 +206,7 @@ fn faults_of_a_script(rt: HostRuntime) {
             TextFault::Range(Field::Start),
         ),
     ];
-    for (script, fault) in table {
-        let answer = run_script(&rt, rt.alloc(), script.as_bytes(), 1).map(|answer| answer.status);
-        assert_eq!(rt; answer, Err(MainFault::Text(fault)), "at {script}");
-    }
+    have_faults(&rt, Command::Run(1), &rows);
 }
 
 #[test]
@@ -240,8 +227,7 @@ file 0 inode 7 uses 1\n\
 births 1 of 1\n\
 ended 2 stuck 0\n";
     for processors in 1..9u64 {
-        let answer = run_script(&rt, rt.alloc(), script.as_bytes(), processors);
-        assert!(rt; is_answer(answer, 0, report), "{processors}");
+        has_answer(&rt, Command::Run(processors), script, 0, report);
     }
 }
 
@@ -249,15 +235,13 @@ ended 2 stuck 0\n";
 fn no_other_number_of_processors(rt: HostRuntime) {
     let script =
         "{\"version\":1,\"slots\":1,\"births\":0,\"quantum\":4,\"semaphores\":[0],\"files\":1,\"programs\":[[]],\"start\":[0]}";
+    let fault = MainFault::Kernel(Fault::BadProcessors);
     for processors in [0, 9, u64::MAX] {
-        let answer = run_script(&rt, rt.alloc(), script.as_bytes(), processors).map(
-            |answer| answer.status,
-        );
-        assert_eq!(rt; answer, Err(MainFault::Kernel(Fault::BadProcessors)));
+        has_fault(&rt, Command::Run(processors), script, fault);
     }
     // The script is read first.
-    let answer = run_script(&rt, rt.alloc(), b"[", 9).map(|answer| answer.status);
-    assert_eq!(rt; answer, Err(MainFault::Text(TextFault::NotJson)));
+    let fault = MainFault::Text(TextFault::NotJson);
+    has_fault(&rt, Command::Run(9), "[", fault);
 }
 
 #[test]
@@ -265,9 +249,11 @@ fn a_seat_is_worn(rt: HostRuntime) {
     let script =
         "{\"version\":1,\"slots\":1,\"births\":0,\"quantum\":4,\"stint\":1,\"semaphores\":[0],\"files\":1,\"programs\":[[]],\"start\":[0]}";
     for processors in 1..3u64 {
-        let answer = run_script(&rt, rt.alloc(), script.as_bytes(), processors).map(
-            |answer| answer.status,
+        has_fault(
+            &rt,
+            Command::Run(processors),
+            script,
+            MainFault::Kernel(Fault::Worn),
         );
-        assert_eq!(rt; answer, Err(MainFault::Kernel(Fault::Worn)));
     }
 }

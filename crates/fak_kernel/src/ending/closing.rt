@@ -12,7 +12,7 @@ use crate::ending::joining::Tallies;
 use fak_files::{FileRest, FileTable, FileTally};
 use fak_model::FileEntry;
 use fak_process::{Context, Fault, Run, Sleeper};
-use fak_processor::{Objects, Semaphores};
+use fak_processor::Objects;
 use fak_queue::Rest;
 use fak_sem::{SemTally, Semaphore};
 use std::alloc::Global;
@@ -60,9 +60,9 @@ fn close_each<K: Run>(
 }
 
 /// The entries of a closed file table of so many.
-fn read_entries(alloc: Global, rest: &FileRest, count: u64) -> Result<Vec<FileEntry>, Fault>
-    requires count { length rest.now ≡ count }
-    ensures entries { IfOk result (λ entries. entries.items ≡ rest.now) }
+fn read_entries(alloc: Global, rest: FileRest, count: u64) -> Result<Vec<FileEntry>, Fault>
+    requires count { length rest ≡ count }
+    ensures entries { IfOk result (λ entries. entries.items ≡ rest) }
     ensures memory { IfErr result (λ fault. fault ≡ Fault.Memory) }
 {
     let mut entries = Vec::new(alloc);
@@ -72,40 +72,49 @@ fn read_entries(alloc: Global, rest: &FileRest, count: u64) -> Result<Vec<FileEn
     Ok(entries)
 }
 
-/// What of the objects has something left, with its tallies.
+/// The objects that have something left.
 #[derive(Drop)]
 struct Closing<K: Run> {
     semaphores: Vec<Semaphore<Sleeper<K>>>,
-    tallies: Vec<SemTally<Sleeper<K>>>,
     files: FileTable,
-    file_tally: FileTally,
 }
 
-/// Takes apart what is to be closed, and drops what has nothing left.
-fn closing_of<K: Run>(objects: Objects<K>, tallies: Tallies<K>) -> Closing<K>
+/// What is to be closed. What has nothing left is dropped.
+fn closing_of<K: Run>(objects: Objects<K>) -> Closing<K>
     ensures semaphores { result.semaphores.items ≡ objects.semaphores }
-    ensures tallies { result.tallies.items ≡ tallies.semaphores }
     ensures files { result.files ≡ objects.files }
-    ensures file_tally { result.file_tally ≡ tallies.files }
 {
-    let Objects {
-        ready: _,
-        free: _,
-        semaphores: Semaphores { all: semaphores },
-        births: _,
-        busy: _,
-        files,
-        alarm: _,
-    } = objects;
-    let Tallies {
-        single,
-        semaphores: tallies,
-    } = tallies;
+    drop(objects.ready);
+    drop(objects.free);
+    drop(objects.births);
+    drop(objects.busy);
+    drop(objects.alarm);
     Closing {
+        semaphores: objects.semaphores.all,
+        files: objects.files,
+    }
+}
+
+/// The tallies of what is to be closed.
+#[derive(Drop)]
+struct ClosingTallies<K: Run> {
+    semaphores: Vec<SemTally<Sleeper<K>>>,
+    files: FileTally,
+}
+
+/// The tallies of what is to be closed. The others are dropped.
+fn closing_tallies<K: Run>(tallies: Tallies<K>) -> ClosingTallies<K>
+    ensures semaphores { result.semaphores.items ≡ tallies.semaphores }
+    ensures files { result.files ≡ tallies.files }
+{
+    let Tallies { single, semaphores } = tallies;
+    drop(single.ready);
+    drop(single.free);
+    drop(single.births);
+    drop(single.busy);
+    ClosingTallies {
         semaphores,
-        tallies,
-        files,
-        file_tally: single.files,
+        files: single.files,
     }
 }
 
@@ -125,14 +134,13 @@ pub(crate) fn close<K: Run>(
     ensures entries { IfOk result (λ left. left.entries.items ≡ entries_after tallies.files.seen 0 objects.files.entries) }
     ensures memory { IfErr result (λ fault. fault ≡ Fault.Memory) }
 {
-    let Closing {
-        semaphores,
-        tallies,
-        files,
-        file_tally,
-    } = closing_of(objects, tallies);
-    let asleep = close_each(alloc, semaphores, tallies)?;
+    let Closing { semaphores, files } = closing_of(objects);
+    let ClosingTallies {
+        semaphores: tallies,
+        files: file_tally,
+    } = closing_tallies(tallies);
     let rest = files.close(file_tally);
-    let entries = read_entries(alloc, &rest, count)?;
+    let entries = read_entries(alloc, rest, count)?;
+    let asleep = close_each(alloc, semaphores, tallies)?;
     Ok(Remains { asleep, entries })
 }

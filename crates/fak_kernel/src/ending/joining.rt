@@ -245,8 +245,13 @@ impl<K: Run> Tallies<K> {
     {
         let all = objects.semaphores.all.as_slice();
         let single = self.single.join(objects, seats.single);
-        let semaphores = join_each(alloc, all, self.semaphores, seats.semaphores)?;
-        Ok(Tallies { single, semaphores })
+        match join_each(alloc, all, self.semaphores, seats.semaphores) {
+            Ok(semaphores) => Ok(Tallies { single, semaphores }),
+            Err(fault) => {
+                drop(single);
+                Err(fault)
+            }
+        }
     }
 }
 
@@ -260,8 +265,9 @@ impl<K: Run> Joined<K> {
         ensures memory { IfErr result (λ fault. fault ≡ Fault.Memory) }
     {
         let Parts { seats, processes } = parts_of(processor);
-        let single = SingleTallies::of(seats.single);
-        let semaphores = first_each(alloc, seats.semaphores)?;
+        let Seats { single, semaphores } = seats;
+        let single = SingleTallies::of(single);
+        let semaphores = first_each(alloc, semaphores)?;
         Ok(Joined {
             tallies: Tallies { single, semaphores },
             processes,
@@ -283,8 +289,20 @@ impl<K: Run> Joined<K> {
         ensures memory { IfErr result (λ fault. fault ≡ Fault.Memory) }
     {
         let more = parts_of(processor);
-        let processes = appended(self.processes, more.processes)?;
-        let tallies = self.tallies.join(alloc, objects, more.seats)?;
-        Ok(Joined { tallies, processes })
+        let processes = match appended(self.processes, more.processes) {
+            Ok(processes) => processes,
+            Err(fault) => {
+                drop(self.tallies);
+                drop(more.seats);
+                return Err(fault);
+            }
+        };
+        match self.tallies.join(alloc, objects, more.seats) {
+            Ok(tallies) => Ok(Joined { tallies, processes }),
+            Err(fault) => {
+                drop(processes);
+                Err(fault)
+            }
+        }
     }
 }

@@ -94,6 +94,7 @@ pub(crate) fn leave_all<K: Run + Send + Sync, R: Threads + Wait + Sync, G: Gate 
             ensures fault { IfErr result (IsOfRun (G.refuses gate.entry.now)) }
         {
             let Ok(mut handles) = Vec::with_capacity(alloc, all.len()) else {
+                drop(all);
                 return Err(Fault::Memory);
             };
             for processor in all {
@@ -114,11 +115,13 @@ pub(crate) fn leave_all<K: Run + Send + Sync, R: Threads + Wait + Sync, G: Gate 
                     Ok(handle) => {
                         let Ok(()) = handles.push(handle) else {
                             objects.alarm.ring();
+                            drop(handles);
                             return Err(Fault::Memory);
                         };
                     }
                     Err(_) => {
                         objects.alarm.ring();
+                        drop(handles);
                         return Err(Fault::NoThread);
                     }
                 }

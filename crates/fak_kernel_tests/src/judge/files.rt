@@ -9,7 +9,7 @@ const MOST_PLACES: u64 = 2_000_000;
 
 const FREE: FileEntry = FileEntry { inode: 0, uses: 0 };
 
-#[derive(Clone, Copy, PartialEq, Eq, Drop)]
+#[derive(Clone, Copy, Drop)]
 enum Call {
     Open,
     Close,
@@ -24,7 +24,7 @@ struct Line {
     gave: Option<u64>,
 }
 
-/// The lines that are left of each row, and the table at that point.
+/// How many lines were made of each row, and the table at that point.
 #[derive(Drop)]
 struct Place {
     made: Vec<usize>,
@@ -33,85 +33,48 @@ struct Place {
 
 /// The file lines of the rows replay from free entries to the report's.
 pub fn replay(alloc: Global, script: &Script, report: &Report) -> Result<bool, AllocError> {
-    let lines = all_lines(alloc, report.rows.as_slice())?;
-    let first = first_place(alloc, script, lines.len())?;
     let mut places = Vec::new(alloc);
-    places.push(first)?;
+    places.push(first_place(alloc, script, report.rows.len())?)?;
     for _ in 0..MOST_PLACES {
         let Some(place) = places.pop() else {
             return Ok(false);
         };
-        if is_over(lines.as_slice(), &place)
-            && place.entries.as_slice() == report.entries.as_slice()
-        {
+        if is_last(report, &place) {
             return Ok(true);
         }
-        add_next(alloc, lines.as_slice(), &place, &mut places)?;
+        add_next(alloc, report.rows.as_slice(), &place, &mut places)?;
     }
     Ok(false)
 }
 
-fn all_lines(alloc: Global, rows: &[ProcessRow]) -> Result<Vec<Vec<Line>>, AllocError> {
-    let mut all = Vec::new(alloc);
-    for row in rows {
-        all.push(lines_of(alloc, row)?)?;
-    }
-    Ok(all)
-}
-
-fn lines_of(alloc: Global, row: &ProcessRow) -> Result<Vec<Line>, AllocError> {
-    let mut lines = Vec::new(alloc);
-    for note in &row.journal {
-        if let Some(line) = line_of(note) {
-            lines.push(line)?;
-        }
-    }
-    Ok(lines)
-}
-
-fn line_of(note: &Note) -> Option<Line> {
-    let (call, inode, gave) = match note {
-        Note::OpenFile(inode, entry) => (Call::Open, *inode, *entry),
-        Note::CloseFile(inode, entry) => (Call::Close, *inode, *entry),
-        Note::Stat(inode, uses) => (Call::Stat, *inode, *uses),
-        _ => return None,
-    };
-    Some(Line { call, inode, gave })
-}
-
 fn first_place(alloc: Global, script: &Script, rows: usize) -> Result<Place, AllocError> {
-    let mut made = Vec::new(alloc);
-    for _ in 0..rows {
-        made.push(0)?;
-    }
-    let mut entries = Vec::new(alloc);
-    for _ in 0..script.files() {
-        entries.push(FREE)?;
-    }
+    let made = vec![in alloc; 0; rows]?;
+    let entries = vec![in alloc; FREE; script.files() as usize]?;
     Ok(Place { made, entries })
 }
 
-fn is_over(lines: &[Vec<Line>], place: &Place) -> bool {
-    lines
-        .iter()
-        .zip(place.made.iter())
-        .all(|(row, made)| row.len() == *made)
+/// All lines are made, and the table is the report's.
+fn is_last(report: &Report, place: &Place) -> bool {
+    let rows = report.rows.as_slice();
+    (0..rows.len()).all(|row| next_line(rows, place, row).is_none())
+        && place.entries.as_slice() == report.entries.as_slice()
 }
 
 /// The places that one line more leads to. A line that changes nothing can come at once, whatever comes later.
 fn add_next(
     alloc: Global,
-    lines: &[Vec<Line>],
+    rows: &[ProcessRow],
     place: &Place,
     places: &mut Vec<Place>,
 ) -> Result<(), AllocError> {
-    for row in 0..lines.len() {
-        if let Some(next) = place_after(alloc, lines, place, row)? {
-            let is_same = next.entries.as_slice() == place.entries.as_slice();
-            places.push(next)?;
-            if is_same {
-                return Ok(());
-            }
+    for row in 0..rows.len() {
+        let Some(next) = place_after(alloc, rows, place, row)? else {
+            continue;
+        };
+        let is_same = next.entries.as_slice() == place.entries.as_slice();
+        places.push(next)?;
+        if is_same {
+            return Ok(());
         }
     }
     Ok(())
@@ -120,11 +83,11 @@ fn add_next(
 /// The place after the next line of this row, where that could give what it gave.
 fn place_after(
     alloc: Global,
-    lines: &[Vec<Line>],
+    rows: &[ProcessRow],
     place: &Place,
     row: usize,
 ) -> Result<Option<Place>, AllocError> {
-    let Some(line) = next_line(lines, place, row) else {
+    let Some(line) = next_line(rows, place, row) else {
         return Ok(None);
     };
     let mut entries = place.entries.as_slice().to_vec(alloc)?;
@@ -138,9 +101,20 @@ fn place_after(
     Ok(Some(Place { made, entries }))
 }
 
-fn next_line(lines: &[Vec<Line>], place: &Place, row: usize) -> Option<Line> {
+fn next_line(rows: &[ProcessRow], place: &Place, row: usize) -> Option<Line> {
     let made = place.made.get(row)?;
-    lines.get(row)?.get(*made).copied()
+    let row = rows.get(row)?;
+    row.journal.iter().filter_map(line_of).nth(*made)
+}
+
+fn line_of(note: &Note) -> Option<Line> {
+    let (call, inode, gave) = match note {
+        Note::OpenFile(inode, entry) => (Call::Open, *inode, *entry),
+        Note::CloseFile(inode, entry) => (Call::Close, *inode, *entry),
+        Note::Stat(inode, uses) => (Call::Stat, *inode, *uses),
+        _ => return None,
+    };
+    Some(Line { call, inode, gave })
 }
 
 /// What the call gives, after which the entries are changed.

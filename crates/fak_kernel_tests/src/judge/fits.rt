@@ -22,18 +22,15 @@ fn stands_beside(steps: &[Step], row: &ProcessRow) -> bool {
     let made = row.journal.len();
     let mut children = 0u64;
     for (step, note) in steps.iter().zip(row.journal.iter()) {
-        if !allows(step, note, children) {
+        if !allows(step, note, &mut children) {
             return false;
-        }
-        if let Note::Spawned(_) = note {
-            children = children.saturating_add(1);
         }
     }
     made <= steps.len() && row.position == made as u64
 }
 
-/// The step may have this result, where so many children were begun.
-fn allows(step: &Step, note: &Note, children: u64) -> bool {
+/// The step may have this result, where so many children were begun, and maybe one more is then.
+fn allows(step: &Step, note: &Note, children: &mut u64) -> bool {
     match (step, note) {
         (Step::Say(text), Note::Say(said)) => text.as_str() == said.as_str(),
         (Step::Yield, Note::Yield) => true,
@@ -43,7 +40,11 @@ fn allows(step: &Step, note: &Note, children: u64) -> bool {
         (Step::OpenFile(inode), Note::OpenFile(other, _)) => inode == other,
         (Step::CloseFile(inode), Note::CloseFile(other, _)) => inode == other,
         (Step::Stat(inode), Note::Stat(other, _)) => inode == other,
-        (Step::Spawn(_), Note::Spawned(child)) => *child == children,
+        (Step::Spawn(_), Note::Spawned(child)) => {
+            let is_next = *child == *children;
+            *children = children.saturating_add(1);
+            is_next
+        }
         (Step::Spawn(_), Note::NoBirth) => true,
         (Step::Spawn(_), Note::NoSlot) => true,
         _ => false,

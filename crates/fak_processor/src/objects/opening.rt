@@ -77,17 +77,15 @@ fn open_objects<K: Run>(alloc: Global, script: &Script, processors: u64) -> Resu
     let (busy, busy_seats) = open_busy(alloc, script, processors)?;
     let (semaphores, rows) = open_semaphores(alloc, script, processors)?;
     let (files, file_seats) = open_files(alloc, script, processors)?;
+    let mut left = Undealt {
+        free: free_seats.into_iter(),
+        births: birth_seats.into_iter(),
+        busy: busy_seats.into_iter(),
+        rows: rows.into_iter(),
+        files: file_seats.into_iter(),
+    };
     let entries = script.files();
-    let dealt = zip_seats(
-        alloc,
-        entries,
-        ready_seats,
-        free_seats,
-        birth_seats,
-        busy_seats,
-        rows,
-        file_seats,
-    )?;
+    let dealt = zip_seats(alloc, entries, ready_seats, &mut left)?;
     let objects = Objects {
         ready,
         free,
@@ -287,45 +285,62 @@ fn longer<K: Run>(
     Ok(row)
 }
 
+/// The seats that no processor has yet: of each object as many as there are processors to come.
+#[derive(Drop)]
+struct Undealt<K: Run> {
+    free: IntoIter<Seat<Slot<K>>>,
+    births: IntoIter<RoomSeat>,
+    busy: IntoIter<CreditSeat>,
+    rows: IntoIter<Vec<SemSeat<Sleeper<K>>>>,
+    files: IntoIter<FileSeat>,
+}
+
+impl<K: Run> Undealt<K> {
+    /// The next processor.
+    fn next(&mut self, alloc: Global, ready: Seat<Context<K>>, copy: Files) -> Processor<K>
+        requires left { (0 < length self.old.free.rest.items) × (0 < length self.old.births.rest.items) × (0 < length self.old.busy.rest.items)
+            × (0 < length self.old.rows.rest.items) × (0 < length self.old.files.rest.items) }
+        ensures free { self.old.free.rest.items ≡ result.free ∷ self.new.free.rest.items }
+        ensures births { self.old.births.rest.items ≡ result.births ∷ self.new.births.rest.items }
+        ensures busy { self.old.busy.rest.items ≡ result.busy ∷ self.new.busy.rest.items }
+        ensures rows { map (λ row. row.items) self.old.rows.rest.items ≡ result.semaphores ∷ map (λ row. row.items) self.new.rows.rest.items }
+        ensures files { self.old.files.rest.items ≡ result.files ∷ self.new.files.rest.items }
+        ensures others { result ≡ record result { ready = ready; ended = []; halted = []; copy = copy } }
+    {
+        Processor {
+            ready,
+            free: next_of(&mut self.free),
+            semaphores: SemSeats {
+                all: next_of(&mut self.rows),
+            },
+            births: next_of(&mut self.births),
+            busy: next_of(&mut self.busy),
+            files: next_of(&mut self.files),
+            ended: Vec::new(alloc),
+            halted: Vec::new(alloc),
+            copy,
+        }
+    }
+}
+
 /// The processors: of each object a seat for each.
 fn zip_seats<K: Run>(
     alloc: Global,
     entries: u64,
     ready: Vec<Seat<Context<K>>>,
-    free: Vec<Seat<Slot<K>>>,
-    births: Vec<RoomSeat>,
-    busy: Vec<CreditSeat>,
-    rows: Vec<Vec<SemSeat<Sleeper<K>>>>,
-    files: Vec<FileSeat>,
+    left: &mut Undealt<K>,
 ) -> Result<Vec<Processor<K>>, Fault>
-    requires len { (length free.items ≡ length ready.items) × (length births.items ≡ length ready.items)
-        × (length busy.items ≡ length ready.items) × (length rows.items ≡ length ready.items)
-        × (length files.items ≡ length ready.items) }
-    ensures zipped { IfOk result (λ all. all.items ≡ zipped entries ready.items free.items births.items busy.items
-        (map (λ row. row.items) rows.items) files.items) }
+    requires len { (length left.old.free.rest.items ≡ length ready.items) × (length left.old.births.rest.items ≡ length ready.items)
+        × (length left.old.busy.rest.items ≡ length ready.items) × (length left.old.rows.rest.items ≡ length ready.items)
+        × (length left.old.files.rest.items ≡ length ready.items) }
+    ensures zipped { IfOk result (λ all. all.items ≡ zipped entries ready.items left.old.free.rest.items left.old.births.rest.items
+        left.old.busy.rest.items (map (λ row. row.items) left.old.rows.rest.items) left.old.files.rest.items) }
     ensures memory { IfErr result (λ fault. fault ≡ Fault.Memory) }
 {
     let mut all = Vec::with_capacity(alloc, ready.len())?;
-    let mut free = free.into_iter();
-    let mut births = births.into_iter();
-    let mut busy = busy.into_iter();
-    let mut rows = rows.into_iter();
-    let mut files = files.into_iter();
     for ready in ready {
         let copy = Files::new(alloc, entries)?;
-        all.push(Processor {
-            ready,
-            free: next_of(&mut free),
-            semaphores: SemSeats {
-                all: next_of(&mut rows),
-            },
-            births: next_of(&mut births),
-            busy: next_of(&mut busy),
-            files: next_of(&mut files),
-            ended: Vec::new(alloc),
-            halted: Vec::new(alloc),
-            copy,
-        })?;
+        all.push(left.next(alloc, ready, copy))?;
     }
     Ok(all)
 }

@@ -1,6 +1,6 @@
 //! What each step does.
 
-ghost use Rattle.std.specs.Prelude.{[], ◌∷◌, ◌<◌, false, length, IfOk, IfErr};
+ghost use Rattle.std.specs.Prelude.{[], ◌∷◌, ◌<◌, false, length, Some, IfOk, IfErr};
 ghost use Rattle.fak_text.specs.Script.{down, up, open_file, close_file, stat, spawn, shutdown};
 ghost use Rattle.fak_text.specs.Journal.{StandsAt};
 ghost use Rattle.fak_process.specs.ListScheduler as lists;
@@ -54,29 +54,29 @@ impl<K: Run> Processor<K> {
         &mut self,
         rt: &R,
         objects: &Objects<K>,
-        turn: Turn<K>,
+        turn: &mut Turn<K>,
         n: u64,
-    ) -> Result<Option<Turn<K>>, Fault>
+    ) -> Result<(), Fault>
         requires objects { AreOf objects.now self.old }
         requires made { AreFor K.script objects.now }
-        requires next { StandsAt K.script turn.process (up n) }
+        requires next { StandsAt K.script turn.old.process (up n) }
         requires range { n < length K.script.semaphores }
-        requires left { HasStepsLeft K.script turn }
+        requires left { HasStepsLeft K.script turn.old }
         ensures objects { AreOf objects.now self.new }
-        ensures general { IfOk result (λ running. Moves K.script (turn.process ∷ []) (hand_of running) self.old self.new) }
+        ensures general { IfOk result (λ _. Moves K.script (turn.old.process ∷ []) (turn.new.process ∷ []) self.old self.new) }
         ensures alone { IsAlone K.script self.old
-            → IfOk result (λ running. GoesOn K.script self.new running (lists.make_up (lists_of K.script self.old) turn n)) }
+            → IfOk result (λ _. GoesOn K.script self.new (Some turn.new) (lists.make_up (lists_of K.script self.old) turn.old n)) }
         ensures fault { IfErr result (λ fault. IsOfStep fault) }
     {
-        let turn = turn.noted(Note::Up(n), false)?;
+        turn.note(Note::Up(n), false)?;
         self.reserve_halted()?;
         match self.wake(rt, objects, n as usize) {
             Err(fault) => return Err(fault),
-            Ok(None) => return Ok(Some(turn)),
+            Ok(None) => return Ok(()),
             Ok(Some(context)) => {
                 self.credit(objects)?;
                 self.enter_ready(rt, objects, context)?;
-                return Ok(Some(turn));
+                return Ok(());
             }
         }
     }
@@ -87,36 +87,36 @@ impl<K: Run> Processor<K> {
         rt: &R,
         alloc: Global,
         objects: &Objects<K>,
-        turn: Turn<K>,
+        turn: &mut Turn<K>,
         program: u64,
-    ) -> Result<Option<Turn<K>>, Fault>
+    ) -> Result<(), Fault>
         requires objects { AreOf objects.now self.old }
         requires made { AreFor K.script objects.now }
-        requires next { StandsAt K.script turn.process (spawn program) }
+        requires next { StandsAt K.script turn.old.process (spawn program) }
         requires range { program < length K.script.programs }
-        requires left { HasStepsLeft K.script turn }
+        requires left { HasStepsLeft K.script turn.old }
         ensures objects { AreOf objects.now self.new }
-        ensures general { IfOk result (λ running. Moves K.script (turn.process ∷ []) (hand_of running) self.old self.new) }
+        ensures general { IfOk result (λ _. Moves K.script (turn.old.process ∷ []) (turn.new.process ∷ []) self.old self.new) }
         ensures alone { IsAlone K.script self.old
-            → IfOk result (λ running. GoesOn K.script self.new running
-            (lists.make_spawn K.script (lists_of K.script self.old) turn program)) }
+            → IfOk result (λ _. GoesOn K.script self.new (Some turn.new)
+            (lists.make_spawn K.script (lists_of K.script self.old) turn.old program)) }
         ensures fault { IfErr result (λ fault. IsOfStep fault) }
     {
         let name = turn.child_name(alloc)?;
-        let turn = turn.with_room()?;
+        turn.reserve_note()?;
         self.reserve_halted()?;
         if !self.claim_birth(objects)? {
-            return Ok(Some(turn.noted(Note::NoBirth, false)?));
+            return turn.note(Note::NoBirth, false);
         }
         let Some(slot) = self.take_slot(rt, objects)? else {
             self.give_birth_back(objects);
-            return Ok(Some(turn.noted(Note::NoSlot, false)?));
+            return turn.note(Note::NoSlot, false);
         };
         let number = turn.children();
         let child = Context::new(alloc, name, program, slot.number());
         self.credit(objects)?;
         self.enter_ready(rt, objects, child)?;
-        Ok(Some(turn.noted(Note::Spawned(number), false)?))
+        turn.note(Note::Spawned(number), false)
     }
 
     /// An open, in a hold of the file table.
@@ -124,24 +124,24 @@ impl<K: Run> Processor<K> {
         &mut self,
         rt: &R,
         objects: &Objects<K>,
-        turn: Turn<K>,
+        turn: &mut Turn<K>,
         inode: u64,
-    ) -> Result<Option<Turn<K>>, Fault>
+    ) -> Result<(), Fault>
         requires objects { AreOf objects.now self.old }
         requires made { AreFor K.script objects.now }
-        requires next { StandsAt K.script turn.process (open_file inode) }
-        requires left { HasStepsLeft K.script turn }
+        requires next { StandsAt K.script turn.old.process (open_file inode) }
+        requires left { HasStepsLeft K.script turn.old }
         ensures objects { AreOf objects.now self.new }
-        ensures general { IfOk result (λ running. Moves K.script (turn.process ∷ []) (hand_of running) self.old self.new) }
+        ensures general { IfOk result (λ _. Moves K.script (turn.old.process ∷ []) (turn.new.process ∷ []) self.old self.new) }
         ensures alone { IsAlone K.script self.old
-            → IfOk result (λ running. GoesOn K.script self.new running (lists.make_open (lists_of K.script self.old) turn inode)) }
+            → IfOk result (λ _. GoesOn K.script self.new (Some turn.new) (lists.make_open (lists_of K.script self.old) turn.old inode)) }
         ensures fault { IfErr result (λ fault. IsOfStep fault) }
     {
-        let turn = turn.with_room()?;
+        turn.reserve_note()?;
         let entry = self
             .copy
             .open_shared(rt, &objects.files, &mut self.files, inode)?;
-        Ok(Some(turn.noted(Note::OpenFile(inode, entry), false)?))
+        turn.note(Note::OpenFile(inode, entry), false)
     }
 
     /// A close, in a hold of the file table.
@@ -149,24 +149,24 @@ impl<K: Run> Processor<K> {
         &mut self,
         rt: &R,
         objects: &Objects<K>,
-        turn: Turn<K>,
+        turn: &mut Turn<K>,
         inode: u64,
-    ) -> Result<Option<Turn<K>>, Fault>
+    ) -> Result<(), Fault>
         requires objects { AreOf objects.now self.old }
         requires made { AreFor K.script objects.now }
-        requires next { StandsAt K.script turn.process (close_file inode) }
-        requires left { HasStepsLeft K.script turn }
+        requires next { StandsAt K.script turn.old.process (close_file inode) }
+        requires left { HasStepsLeft K.script turn.old }
         ensures objects { AreOf objects.now self.new }
-        ensures general { IfOk result (λ running. Moves K.script (turn.process ∷ []) (hand_of running) self.old self.new) }
+        ensures general { IfOk result (λ _. Moves K.script (turn.old.process ∷ []) (turn.new.process ∷ []) self.old self.new) }
         ensures alone { IsAlone K.script self.old
-            → IfOk result (λ running. GoesOn K.script self.new running (lists.make_close (lists_of K.script self.old) turn inode)) }
+            → IfOk result (λ _. GoesOn K.script self.new (Some turn.new) (lists.make_close (lists_of K.script self.old) turn.old inode)) }
         ensures fault { IfErr result (λ fault. IsOfStep fault) }
     {
-        let turn = turn.with_room()?;
+        turn.reserve_note()?;
         let entry = self
             .copy
             .close_shared(rt, &objects.files, &mut self.files, inode)?;
-        Ok(Some(turn.noted(Note::CloseFile(inode, entry), false)?))
+        turn.note(Note::CloseFile(inode, entry), false)
     }
 
     /// A stat, in a hold of the file table.
@@ -174,45 +174,42 @@ impl<K: Run> Processor<K> {
         &mut self,
         rt: &R,
         objects: &Objects<K>,
-        turn: Turn<K>,
+        turn: &mut Turn<K>,
         inode: u64,
-    ) -> Result<Option<Turn<K>>, Fault>
+    ) -> Result<(), Fault>
         requires objects { AreOf objects.now self.old }
         requires made { AreFor K.script objects.now }
-        requires next { StandsAt K.script turn.process (stat inode) }
-        requires left { HasStepsLeft K.script turn }
+        requires next { StandsAt K.script turn.old.process (stat inode) }
+        requires left { HasStepsLeft K.script turn.old }
         ensures objects { AreOf objects.now self.new }
-        ensures general { IfOk result (λ running. Moves K.script (turn.process ∷ []) (hand_of running) self.old self.new) }
+        ensures general { IfOk result (λ _. Moves K.script (turn.old.process ∷ []) (turn.new.process ∷ []) self.old self.new) }
         ensures alone { IsAlone K.script self.old
-            → IfOk result (λ running. GoesOn K.script self.new running
-            (lists.make K.script (lists_of K.script self.old) turn (stat inode))) }
+            → IfOk result (λ _. GoesOn K.script self.new (Some turn.new)
+            (lists.make K.script (lists_of K.script self.old) turn.old (stat inode))) }
         ensures fault { IfErr result (λ fault. IsOfStep fault) }
     {
-        let turn = turn.with_room()?;
+        turn.reserve_note()?;
         let uses = self
             .copy
             .uses_shared(rt, &objects.files, &mut self.files, inode)?;
-        Ok(Some(turn.noted(Note::Stat(inode, uses), false)?))
+        turn.note(Note::Stat(inode, uses), false)
     }
 
     /// A shutdown: nobody becomes ready any more.
-    pub(crate) fn shutdown(
-        &mut self,
-        objects: &Objects<K>,
-        turn: Turn<K>,
-    ) -> Result<Option<Turn<K>>, Fault>
+    pub(crate) fn shutdown(&mut self, objects: &Objects<K>, turn: &mut Turn<K>) -> Result<(), Fault>
         requires objects { AreOf objects.now self.old }
         requires made { AreFor K.script objects.now }
-        requires next { StandsAt K.script turn.process shutdown }
-        requires left { HasStepsLeft K.script turn }
+        requires next { StandsAt K.script turn.old.process shutdown }
+        requires left { HasStepsLeft K.script turn.old }
         ensures objects { AreOf objects.now self.new }
-        ensures general { IfOk result (λ running. Moves K.script (turn.process ∷ []) (hand_of running) self.old self.new) }
+        ensures general { IfOk result (λ _. Moves K.script (turn.old.process ∷ []) (turn.new.process ∷ []) self.old self.new) }
         ensures alone { IsAlone K.script self.old
-            → IfOk result (λ running. GoesOn K.script self.new running (lists.make K.script (lists_of K.script self.old) turn shutdown)) }
+            → IfOk result (λ _. GoesOn K.script self.new (Some turn.new)
+            (lists.make K.script (lists_of K.script self.old) turn.old shutdown)) }
         ensures fault { IfErr result (λ fault. IsOfStep fault) }
     {
-        let turn = turn.noted(Note::Shutdown, false)?;
+        turn.note(Note::Shutdown, false)?;
         self.shut_ready(objects);
-        Ok(Some(turn))
+        Ok(())
     }
 }

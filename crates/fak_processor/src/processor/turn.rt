@@ -44,21 +44,11 @@ impl<K: Run> Turn<K> {
     }
 
     /// Asks for the memory of one note more.
-    pub fn with_room(self) -> Result<Turn<K>, Fault>
-        ensures same { IfOk result (λ t. t ≡ self) }
+    pub fn reserve_note(&mut self) -> Result<(), Fault>
+        ensures same { self.new ≡ self.old }
         ensures memory { IfErr result (λ fault. fault ≡ Fault.Memory) }
     {
-        let Turn {
-            mut context,
-            made,
-            has_yielded,
-        } = self;
-        context.reserve_note()?;
-        Ok(Turn {
-            context,
-            made,
-            has_yielded,
-        })
+        self.context.reserve_note()
     }
 
     /// The name of the process's next child.
@@ -99,55 +89,41 @@ impl<K: Run> Turn<K> {
     }
 
     /// Goes on after a step that was made with this note.
-    pub fn noted(self, note: Note, yields: bool) -> Result<Turn<K>, Fault>
-        requires allowed { (step : StepOf) × StandsAt K.script self.process step
-            × Allows K.script.files (child_count self.process.journal) step (note_of note) }
-        requires left { HasStepsLeft K.script self }
-        ensures noted { IfOk result (λ t. t ≡ record {
-          process = after_note self.process
+    pub fn note(&mut self, note: Note, yields: bool) -> Result<(), Fault>
+        requires allowed { (step : StepOf) × StandsAt K.script self.old.process step
+            × Allows K.script.files (child_count self.old.process.journal) step (note_of note) }
+        requires left { HasStepsLeft K.script self.old }
+        ensures noted { IfOk result (λ _. self.new ≡ record {
+          process = after_note self.old.process
               (note_of note);
-          made = self.made + 1;
+          made = self.old.made + 1;
           has_yielded = yields;
         }) }
         ensures memory { IfErr result (λ fault. fault ≡ Fault.Memory) }
-        ensures fits { FitsScript K.script self.process }
+        ensures fits { FitsScript K.script self.old.process }
     {
-        let Turn {
-            mut context,
-            made,
-            has_yielded: _,
-        } = self;
         // The slot is read for the proof alone: reading it tells that the context fits the script.
-        let _slot = context.slot();
-        context.note(note)?;
-        Ok(Turn {
-            context,
-            made: made + 1,
-            has_yielded: yields,
-        })
+        let _slot = self.context.slot();
+        self.context.note(note)?;
+        self.made += 1;
+        self.has_yielded = yields;
+        Ok(())
     }
 
     /// Goes on after a step that said its text.
-    pub fn said(self, alloc: Global) -> Result<Turn<K>, Fault>
-        requires said { (text : List ℕ) × StandsAt K.script self.process (say text) }
-        requires left { HasStepsLeft K.script self }
-        ensures noted { IfOk result (λ t. (text : List ℕ) → StandsAt K.script self.process (say text)
-            → t ≡ record { process = after_note self.process (said text); made = self.made + 1; has_yielded = false }) }
+    pub fn note_said(&mut self, alloc: Global) -> Result<(), Fault>
+        requires said { (text : List ℕ) × StandsAt K.script self.old.process (say text) }
+        requires left { HasStepsLeft K.script self.old }
+        ensures noted { IfOk result (λ _. (text : List ℕ) → StandsAt K.script self.old.process (say text)
+            → self.new ≡ record { process = after_note self.old.process (said text); made = self.old.made + 1; has_yielded = false }) }
         ensures memory { IfErr result (λ fault. fault ≡ Fault.Memory) }
-        ensures fits { FitsScript K.script self.process }
+        ensures fits { FitsScript K.script self.old.process }
     {
-        let Turn {
-            mut context,
-            made,
-            has_yielded: _,
-        } = self;
-        let _slot = context.slot();
-        context.note_said(alloc)?;
-        Ok(Turn {
-            context,
-            made: made + 1,
-            has_yielded: false,
-        })
+        let _slot = self.context.slot();
+        self.context.note_said(alloc)?;
+        self.made += 1;
+        self.has_yielded = false;
+        Ok(())
     }
 
     /// The process leaves the processor.

@@ -1,6 +1,6 @@
 //! The loop of a processor.
 
-ghost use Rattle.std.specs.Prelude.{◌≡◌, [], ◌∷◌, ◌<◌, pos, length, true, false, None, IfOk, IfErr, IfSome, IfNone};
+ghost use Rattle.std.specs.Prelude.{◌≡◌, ◌≢◌, ℕ, [], ◌∷◌, ◌<◌, pos, length, true, false, Some, None, IfOk, IfErr, IfSome, IfNone};
 ghost use Rattle.fak_text.specs.Script.{IsStepInRange, limits_of};
 ghost use Rattle.fak_text.specs.Journal.{StandsAt};
 ghost use Rattle.fak_text.specs.Views.{step_of};
@@ -45,9 +45,41 @@ impl<K: Run> Processor<K> {
         ensures fault { IfErr result (λ fault. IsOfStep fault) }
     {
         match step {
-            Step::Say(_) => return Ok(Some(turn.said(alloc)?)),
-            Step::Yield => return Ok(Some(turn.noted(Note::Yield, true)?)),
             Step::Down(n) => return self.down(rt, objects, turn, *n),
+            _ => {
+                let mut turn = turn;
+                self.make_and_stay(rt, alloc, objects, &mut turn, step)?;
+                return Ok(Some(turn));
+            }
+        }
+    }
+
+    /// The process makes this step, which is no down, and keeps the processor.
+    fn make_and_stay<R: Wait>(
+        &mut self,
+        rt: &R,
+        alloc: Global,
+        objects: &Objects<K>,
+        turn: &mut Turn<K>,
+        step: &Step,
+    ) -> Result<(), Fault>
+        requires objects { AreOf objects.now self.old }
+        requires made { AreFor K.script objects.now }
+        requires next { StandsAt K.script turn.old.process (step_of step.now) }
+        requires range { IsStepInRange (limits_of K.script) (step_of step.now) }
+        requires left { HasStepsLeft K.script turn.old }
+        requires stays { (n : ℕ) → step.now ≢ Step.Down n }
+        ensures objects { AreOf objects.now self.new }
+        ensures general { IfOk result (λ _. Moves K.script (turn.old.process ∷ []) (turn.new.process ∷ []) self.old self.new) }
+        ensures alone { IsAlone K.script self.old
+            → IfOk result (λ _. GoesOn K.script self.new (Some turn.new)
+            (lists.make K.script (lists_of K.script self.old) turn.old (step_of step.now))) }
+        ensures fault { IfErr result (λ fault. IsOfStep fault) }
+    {
+        match step {
+            Step::Down(_) => unreachable!(),
+            Step::Say(_) => return turn.note_said(alloc),
+            Step::Yield => return turn.note(Note::Yield, true),
             Step::Up(n) => return self.up(rt, objects, turn, *n),
             Step::OpenFile(inode) => return self.open_file(rt, objects, turn, *inode),
             Step::CloseFile(inode) => return self.close_file(rt, objects, turn, *inode),

@@ -14,3 +14,6 @@ loop-preserved g c = (
   consumes_more (g.R.Read.remaining c.args.reader.now) (g.R.Read.remaining c.loop.reader) (g.R.Read.remaining c.read.new.self) c.loop.invariant.0 (take c.in-Ok.n c.read.new.buf) c.loop.invariant.1 c.in-Ok.ensures.bytes.0,
   c.in_ok-keep-in-Ok.ensures.ok c.loop.invariant.0 c.loop.invariant.2,
 )
+
+pub returns-in-Err-clause-ok : goal.returns-in-Err-clause-ok
+returns-in-Err-clause-ok g c = search rules

@@ -1,5 +1,4 @@
-use Rattle.std.proofs.Common.{◌≡◌, length}
-use Rattle.fak_c.specs.Openings.{AreEmptyBelow}
+use Rattle.fak_c.proofs.Common.{◌≡◌, length, AreEmptyBelow}
 use Rattle.fak_c.proofs.opening.clear.Given as goal
 
 -- as many handles as before, and those below this one are empty

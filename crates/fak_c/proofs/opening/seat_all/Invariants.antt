@@ -1,6 +1,5 @@
-use Rattle.std.proofs.Common.{◌≡◌, ◌-◌, length}
+use Rattle.fak_c.proofs.Common.{◌≡◌, ◌-◌, length, AreSeatedBelow}
 use Rattle.fak_model.proofs.Common.{arc_value, fresh_seats}
-use Rattle.fak_c.specs.Openings.{AreSeatedBelow}
 use Rattle.fak_c.proofs.opening.seat_all.Given as goal
 
 -- the handles below this one have seats, and the others' seats are to come

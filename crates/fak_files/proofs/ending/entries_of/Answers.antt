@@ -1,6 +1,5 @@
-use Rattle.std.proofs.Common.{rules}
+use Rattle.fak_files.proofs.Common.{rules, entry_in}
 use Rattle.std.specs.Slots.{slots_items}
-use Rattle.fak_files.specs.Closing.{entry_in}
 use Rattle.fak_files.proofs.Closing.{read_more, entry_read}
 use Rattle.fak_files.proofs.ending.entries_of.Goals as goal
 

@@ -1,6 +1,5 @@
-use Rattle.std.proofs.Common.{◌≡◌, ℕ, ◌<◌, length, slice_get, Some}
+use Rattle.fak_files.proofs.Common.{◌≡◌, ℕ, ◌<◌, length, slice_get, Some, entry_in}
 use Rattle.std.specs.Slots.{slots_items}
-use Rattle.fak_files.specs.Closing.{entry_in}
 use Rattle.fak_files.proofs.ending.entries_of.Given as goal
 
 -- the entries below this one were read

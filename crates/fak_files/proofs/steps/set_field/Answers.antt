@@ -1,5 +1,4 @@
-use Rattle.std.proofs.Common.{◌∙◌, ap, arith, subst, ◌<◌}
-use Rattle.fak_files.specs.Words.{word_of}
+use Rattle.fak_files.proofs.Common.{◌∙◌, ap, arith, subst, ◌<◌, word_of}
 use Rattle.fak_files.proofs.StepKinds.{sets_allowed}
 use Rattle.fak_files.proofs.WordPlaces.{word_of-low}
 use Rattle.fak_files.proofs.steps.set_field.Goals as goal

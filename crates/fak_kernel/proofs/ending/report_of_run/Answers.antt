@@ -7,22 +7,22 @@ use Rattle.fak_process.proofs.Told.{length-told_rows}
 use Rattle.fak_kernel.proofs.ending.report_of_run.Goals as goal
 
 pub close-requires-clause-semaphores : goal.close-requires-clause-semaphores
-close-requires-clause-semaphores g c = let all = c.in_ok-all.ensures.gathered in whole_each all.are c.requires.seated all.names
+close-requires-clause-semaphores g c = let all = c.in-Ok.ensures.gathered in whole_each all.are c.requires.seated all.names
 
 pub close-requires-clause-files : goal.close-requires-clause-files
-close-requires-clause-files g c = let all = c.in_ok-all.ensures.gathered in whole_files all.are c.requires.seated all.names
+close-requires-clause-files g c = let all = c.in-Ok.ensures.gathered in whole_files all.are c.requires.seated all.names
 
 pub report_with-requires : goal.report_with-requires
 report_with-requires g c =
-    let rows = started_have_rows c.requires.made c.requires.seated c.in_ok-all.ensures.gathered c.in_ok-remains.ensures.closed c.in_ok-rows.ensures.rows in
+    let rows = started_have_rows c.requires.made c.requires.seated c.in-Ok.ensures.gathered c.in-Ok-close.ensures.closed c.in_ok-rows.ensures.rows in
     omega (arith, rows, length-told_rows g.K.Run.script c.in_ok-rows.rows.items, ap (λ (s : ScriptOf). length s.start) c.requires.script)
 
 pub returns-clause-general : goal.returns-clause-general
 returns-clause-general g c =
-    run_reports_with c.requires.made c.requires.seated c.in_ok-all.ensures.gathered c.in_ok-remains.ensures.closed c.in_ok-rows.ensures.rows
-    c.requires.script (sym (length-told_rows g.K.Run.script c.in_ok-rows.rows.items)) c.requires.some c.in_ok-rows.ensures.sorted c.in_ok-remains.ensures.entries (ap (told_report g.K.Run.script) c.report_with.ensures)
+    run_reports_with c.requires.made c.requires.seated c.in-Ok.ensures.gathered c.in-Ok-close.ensures.closed c.in_ok-rows.ensures.rows
+    c.requires.script (sym (length-told_rows g.K.Run.script c.in_ok-rows.rows.items)) c.requires.some c.in_ok-rows.ensures.sorted c.in-Ok-close.ensures.entries (ap (told_report g.K.Run.script) c.report_with.ensures)
 
 pub returns-clause-alone : goal.returns-clause-alone
 returns-clause-alone g c one reached d =
-    alone_reports c.requires.made c.requires.seated c.in_ok-all.ensures.gathered c.in_ok-remains.ensures.closed (c.in_ok-all.ensures.alone one d) c.in_ok-rows.ensures.rows
-    c.requires.script (sym (length-told_rows g.K.Run.script c.in_ok-rows.rows.items)) (reached d).0 (reached d).1 c.in_ok-rows.ensures.sorted c.in_ok-remains.ensures.entries (ap (told_report g.K.Run.script) c.report_with.ensures)
+    alone_reports c.requires.made c.requires.seated c.in-Ok.ensures.gathered c.in-Ok-close.ensures.closed (c.in-Ok.ensures.alone one d) c.in_ok-rows.ensures.rows
+    c.requires.script (sym (length-told_rows g.K.Run.script c.in_ok-rows.rows.items)) (reached d).0 (reached d).1 c.in_ok-rows.ensures.sorted c.in-Ok-close.ensures.entries (ap (told_report g.K.Run.script) c.report_with.ensures)

@@ -1,5 +1,4 @@
-use Rattle.std.proofs.Common.{◌≡◌, ℕ, vec_len, length, arith, sym, subst}
-use Rattle.fak_kernel.proofs.Common.{AreSeated, fresh_processor}
+use Rattle.fak_kernel.proofs.Common.{AreSeated, fresh_processor, ◌≡◌, ℕ, vec_len, length, arith, sym, subst}
 use Rattle.fak_kernel.proofs.Answering.{begun_each, left_alone, left_each}
 use Rattle.fak_kernel.proofs.run_threads.run_as.Goals as goal
 

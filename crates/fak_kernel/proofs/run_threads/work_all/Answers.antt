@@ -1,6 +1,5 @@
-use Rattle.std.proofs.Common.{◌≡◌, length, arith, ap, ◌∙◌, sym}
 use Rattle.std.proofs.lemmas.List.{length-map}
-use Rattle.fak_kernel.proofs.Common.{as_left}
+use Rattle.fak_kernel.proofs.Common.{as_left, ◌≡◌, length, arith, ap, ◌∙◌, sym}
 use Rattle.fak_kernel.proofs.Answering.{have_left, run_fault}
 use Rattle.fak_kernel.proofs.run_threads.work_all.Goals as goal
 

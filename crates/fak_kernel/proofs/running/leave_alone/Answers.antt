@@ -1,5 +1,4 @@
-use Rattle.std.proofs.Common.{◌≡◌, refl, arith, length, vec_len}
-use Rattle.fak_kernel.specs.Threads.{HasBegun, HasLeft}
+use Rattle.fak_kernel.proofs.Common.{◌≡◌, refl, arith, length, vec_len, HasBegun, HasLeft}
 use Rattle.fak_kernel.proofs.Alone.{first_is_last, only_is_first}
 use Rattle.fak_kernel.proofs.Leaving.{left_by}
 use Rattle.fak_kernel.proofs.running.leave_alone.Goals as goal

@@ -1,5 +1,4 @@
-use Rattle.std.proofs.Common.{◌≡◌, refl, arith, get_or, sym, subst}
-use Rattle.fak_kernel.proofs.Common.{fresh_processor, IsLeftBy}
+use Rattle.fak_kernel.proofs.Common.{fresh_processor, IsLeftBy, ◌≡◌, refl, arith, get_or, sym, subst}
 use Rattle.fak_kernel.proofs.running.run_alone.Goals as goal
 
 pub leave_alone-requires-clause-begun : goal.leave_alone-requires-clause-begun

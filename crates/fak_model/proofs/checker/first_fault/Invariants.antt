@@ -1,6 +1,4 @@
-use Rattle.std.proofs.Common.{take}
-use Rattle.fak_model.specs.Checker.{AreCounts}
-use Rattle.fak_model.specs.QueuePast.{IsLegalByStage}
+use Rattle.fak_model.proofs.Common.{take, AreCounts, IsLegalByStage}
 use Rattle.fak_model.proofs.checker.first_fault.Given as goal
 
 abbrev pub invariant-loop-i : goal.invariant-loop-i

@@ -1,6 +1,4 @@
-use Rattle.std.proofs.Common.{◌≡◌, ◌++◌, map}
-use Rattle.std.specs.Vec.Iter.{into_iter_items}
-use Rattle.fak_process.proofs.Common.{rows_with, told_rows, row_of}
+use Rattle.fak_process.proofs.Common.{rows_with, told_rows, row_of, ◌≡◌, ◌++◌, map, into_iter_items}
 use Rattle.fak_process.proofs.rows.add_rows.Given as goal
 
 abbrev pub invariant-loop-context : goal.invariant-loop-context

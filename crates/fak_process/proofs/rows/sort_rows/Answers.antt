@@ -1,9 +1,7 @@
-use Rattle.std.proofs.Common.{rules, is_lt, nat_cmp}
 use Rattle.std.specs.Cmp.Lexicographic.{slice_cmp}
-use Rattle.std.proofs.lemmas.List.Sorted.{IsPermutation-map, answers_always}
 use Rattle.std.proofs.lemmas.List.MinMax.{ranks_by}
 use Rattle.std.proofs.lemmas.Cmp.{nat_list_cmp_total}
-use Rattle.fak_process.proofs.Common.{row_of, ProcessRow}
+use Rattle.fak_process.proofs.Common.{row_of, ProcessRow, rules, is_lt, nat_cmp, IsPermutation-map, answers_always}
 use Rattle.fak_process.proofs.RowLemmas.{IsSortedByName-map}
 use Rattle.fak_process.proofs.rows.sort_rows.Goals as goal
 

@@ -1,8 +1,6 @@
-use Rattle.std.proofs.Common.{◌≡◌, ◌++◌, map}
+use Rattle.fak_process.proofs.Common.{◌≡◌, ◌++◌, map, into_iter_items, told_notes}
 use Rattle.std.specs.Slice.Iter.{iter_rest}
-use Rattle.std.specs.Vec.Iter.{into_iter_items}
 use Rattle.fak_text.specs.Views.{note_of, steps_view}
-use Rattle.fak_process.specs.Told.{told_notes}
 use Rattle.fak_process.proofs.telling.told_all.Given as goal
 
 -- the notes so far, and those that will be

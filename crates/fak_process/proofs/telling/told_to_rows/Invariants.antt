@@ -1,6 +1,4 @@
-use Rattle.std.proofs.Common.{◌≡◌, ◌++◌, map}
-use Rattle.std.specs.Vec.Iter.{into_iter_items}
-use Rattle.fak_process.proofs.Common.{told_rows, row_of}
+use Rattle.fak_process.proofs.Common.{told_rows, row_of, ◌≡◌, ◌++◌, map, into_iter_items}
 use Rattle.fak_process.proofs.telling.told_to_rows.Given as goal
 
 -- the rows so far, and those that will be

@@ -1,5 +1,4 @@
-use Rattle.std.proofs.Common.{string_bytes, ◌≡◌, ◌++◌, drop}
-use Rattle.fak_process.specs.ReportText.{text_of_entries}
+use Rattle.fak_process.proofs.Common.{string_bytes, ◌≡◌, ◌++◌, drop, text_of_entries}
 use Rattle.fak_process.proofs.text.add_entries.Given as goal
 
 abbrev pub invariant-loop-i : goal.invariant-loop-i

@@ -1,6 +1,4 @@
-use Rattle.std.proofs.Common.{string_bytes, ◌≡◌, ◌++◌, map, take, flat_map}
-use Rattle.fak_process.specs.ReportText.{text_of_row}
-use Rattle.fak_process.specs.Views.{row_of}
+use Rattle.fak_process.proofs.Common.{string_bytes, ◌≡◌, ◌++◌, map, take, flat_map, text_of_row, row_of}
 use Rattle.fak_process.proofs.text.add_rows.Given as goal
 
 abbrev pub invariant-loop-row : goal.invariant-loop-row

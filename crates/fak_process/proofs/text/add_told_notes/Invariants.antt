@@ -1,7 +1,5 @@
-use Rattle.std.proofs.Common.{string_bytes, ◌≡◌, ◌++◌, map, drop}
+use Rattle.fak_process.proofs.Common.{string_bytes, ◌≡◌, ◌++◌, map, drop, text_of_journal, note_of, steps_view, told_notes}
 use Rattle.std.specs.Slice.Iter.{iter_rest}
-use Rattle.fak_text.proofs.Common.{text_of_journal, note_of, steps_view}
-use Rattle.fak_process.specs.Told.{told_notes}
 use Rattle.fak_process.proofs.text.add_told_notes.Given as goal
 
 -- what is written, and what is still to be

@@ -1,6 +1,4 @@
-use Rattle.std.proofs.Common.{rules, sym, subst, w64}
-use Rattle.std.proofs.Math.Facts.{to_z-of_z}
-use Rattle.fak_queue.specs.Parts.{RefusedOut}
+use Rattle.fak_queue.proofs.Common.{rules, sym, subst, w64, to_z-of_z, RefusedOut}
 use Rattle.fak_queue.proofs.Admissions.{empty_at_test, claimed_out, empty_at_subtraction}
 use Rattle.fak_queue.proofs.admission.admit_deletion.Goals as goal
 

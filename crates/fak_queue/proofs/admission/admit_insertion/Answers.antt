@@ -1,7 +1,5 @@
-use Rattle.std.proofs.Common.{rules, sym, subst, w64}
-use Rattle.std.proofs.Math.Facts.{to_z-of_z}
+use Rattle.fak_queue.proofs.Common.{rules, sym, subst, w64, to_z-of_z, RefusedIn}
 use Rattle.fak_queue.specs.declared.found.NoRoom.TheVariants.{Full}
-use Rattle.fak_queue.specs.Parts.{RefusedIn}
 use Rattle.fak_queue.proofs.Admissions.{full_at_test, shut_at_test, add_phase, ticket_phase, claimed_in, back_phase_full, full_at_add, back_phase_shut, shut_at_add}
 use Rattle.fak_queue.proofs.admission.admit_insertion.Goals as goal
 

@@ -1,5 +1,4 @@
-use Rattle.fak_core.proofs.QueueOwners.{alone}
-use Rattle.fak_core.proofs.QueueReached.{kept}
+use Rattle.fak_queue.proofs.Common.{alone, kept}
 use Rattle.fak_queue.proofs.laws.a_running_cell_has_one_owner.Goals as goal
 
 pub returns : goal.returns

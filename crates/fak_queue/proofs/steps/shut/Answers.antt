@@ -1,6 +1,5 @@
-use Rattle.std.proofs.Common.{arith}
+use Rattle.fak_queue.proofs.Common.{arith, refl}
 use Rattle.fak_queue.proofs.Allowed.{shuts_allowed}
-use Rattle.std.proofs.Common.{refl}
 use Rattle.fak_queue.proofs.States.{shut_as}
 use Rattle.fak_queue.proofs.steps.shut.Goals as goal
 

@@ -1,6 +1,4 @@
-use Rattle.std.proofs.Common.{◌≡◌}
-use Rattle.fak_core.specs.declared.queue.phase.Phase.TheVariants.{TurnOut}
-use Rattle.fak_queue.specs.Steps.{Named}
+use Rattle.fak_queue.proofs.Common.{◌≡◌, TurnOut, Named}
 use Rattle.fak_queue.proofs.Looking.{HasWaited}
 use Rattle.fak_queue.proofs.turns.empty_later.Given as goal
 

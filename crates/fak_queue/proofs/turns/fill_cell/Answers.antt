@@ -1,6 +1,4 @@
-use Rattle.std.proofs.Common.{rules, ◌≡◌, ap, sym, ◌∙◌, ◌∷◌, Some, None}
-use Rattle.atomic_table.specs.Table.{rest}
-use Rattle.fak_queue.specs.Shown.{QueueHolder}
+use Rattle.fak_queue.proofs.Common.{rules, ◌≡◌, ap, sym, ◌∙◌, ◌∷◌, Some, None, rest, QueueHolder}
 use Rattle.fak_queue.proofs.Turning.{names_filled, phase_filled, fills_slot, took}
 use Rattle.fak_queue.proofs.turns.fill_cell.Goals as goal
 

@@ -1,5 +1,4 @@
-use Rattle.std.proofs.Common.{sym, ◌∙◌, subst}
-use Rattle.fak_queue.specs.Parts.{FillsSlot}
+use Rattle.fak_queue.proofs.Common.{sym, ◌∙◌, subst, FillsSlot}
 use Rattle.fak_queue.proofs.Turning.{same_item}
 use Rattle.fak_queue.proofs.turns.fill_cell_from.Goals as goal
 

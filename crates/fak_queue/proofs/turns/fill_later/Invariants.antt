@@ -1,6 +1,4 @@
-use Rattle.std.proofs.Common.{◌≡◌}
-use Rattle.fak_core.specs.declared.queue.phase.Phase.TheVariants.{TurnIn}
-use Rattle.fak_queue.specs.Steps.{Named}
+use Rattle.fak_queue.proofs.Common.{◌≡◌, TurnIn, Named}
 use Rattle.fak_queue.proofs.Looking.{HasWaited}
 use Rattle.fak_queue.proofs.turns.fill_later.Given as goal
 

@@ -1,5 +1,4 @@
-use Rattle.std.proofs.Common.{◌∙◌, subst}
-use Rattle.fak_queue.specs.Retries.{InsertsAtLast}
+use Rattle.fak_sem.proofs.Common.{◌∙◌, subst, InsertsAtLast}
 use Rattle.fak_sem.proofs.WholeInsertions.{closed_again, inserted_at_last}
 use Rattle.fak_sem.proofs.retries.insert_at_last.Goals as goal
 

@@ -1,6 +1,5 @@
-use Rattle.std.proofs.Common.{subst}
 use Rattle.fak_model.specs.Room.{IsRoomHistory}
-use Rattle.fak_core.proofs.Common.{history_of, opening, run}
+use Rattle.fak_core.proofs.Common.{history_of, opening, run, subst}
 use Rattle.fak_core.proofs.RoomKept.{schedule_kept}
 use Rattle.fak_core.proofs.RoomReached.{schedule_bound}
 use Rattle.fak_core.proofs.laws.room.every_room_schedule_is_lawful.Goals as goal

@@ -1,7 +1,5 @@
-use Rattle.std.proofs.Common.{◌≡◌, ◌∙◌, arith, reverse, slice_set, subst, sym, Ok}
+use Rattle.fak_core.proofs.Common.{◌≡◌, ◌∙◌, arith, reverse, slice_set, subst, sym, Ok, QueueFields, IsSoundWith, IsStep, LoadsPut, moved_fields, step_of, fields_of}
 use Rattle.std.proofs.lemmas.Option.{slice_get_within}
-use Rattle.fak_core.specs.QueueFields.{QueueFields, IsSoundWith, IsStep, LoadsPut, moved_fields, step_of}
-use Rattle.fak_core.specs.QueueWords.{fields_of}
 use Rattle.fak_core.proofs.QueueSound.{step_made, within_of}
 use Rattle.fak_core.proofs.QueueCalls.{load_is, step_is, step_left, step_sound}
 use Rattle.fak_core.proofs.queue.QueueCore.advance.Goals as goal

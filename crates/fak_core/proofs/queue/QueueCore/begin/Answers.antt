@@ -1,7 +1,5 @@
-use Rattle.std.proofs.Common.{◌≡◌, ◌<◌, ◌∙◌, length, refl, reverse, arith, Ok, ap, sym, subst, slice_set}
+use Rattle.fak_core.proofs.Common.{◌≡◌, ◌<◌, ◌∙◌, length, refl, reverse, arith, Ok, ap, sym, subst, slice_set, QueueFields, IsBegun, begin_of, phase_begin, fields_of}
 use Rattle.std.proofs.lemmas.Option.{slice_get_read}
-use Rattle.fak_core.specs.QueueFields.{QueueFields, IsBegun, begin_of, phase_begin}
-use Rattle.fak_core.specs.QueueWords.{fields_of}
 use Rattle.fak_core.proofs.QueueSound.{sound_begun}
 use Rattle.fak_core.proofs.queue.QueueCore.begin.Goals as goal
 

@@ -1,7 +1,4 @@
-use Rattle.std.proofs.Common.{◌≡◌, ◌≤◌, ℕ, List, [], ◌∙◌, ap, arith, reverse, rules, sym, subst, replicate}
-use Rattle.fak_model.specs.declared.queue.Mark.{Mark}
-use Rattle.fak_core.proofs.Common.{Phase, Idle}
-use Rattle.fak_core.specs.QueueFields.{QueueFields, IsSoundWith, opening_fields}
+use Rattle.fak_core.proofs.Common.{Phase, Idle, ◌≡◌, ◌≤◌, ℕ, List, [], ◌∙◌, ap, arith, reverse, rules, sym, subst, replicate, Mark, QueueFields, IsSoundWith, opening_fields}
 use Rattle.fak_core.proofs.QueueSound.{sound_opening}
 use Rattle.fak_core.proofs.queue.QueueCore.new.Goals as goal
 

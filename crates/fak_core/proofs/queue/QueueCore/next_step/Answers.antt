@@ -1,7 +1,4 @@
-use Rattle.std.proofs.Common.{◌<◌, ◌^◌, ◌∙◌, ap, arith, length, refl, reverse, slice_get, sym}
-use Rattle.fak_model.proofs.Common.{length-reverse, slice_get_read}
-use Rattle.fak_core.specs.QueueFields.{QueueFields, or_idle}
-use Rattle.fak_core.specs.QueueWords.{fields_of}
+use Rattle.fak_core.proofs.Common.{◌<◌, ◌^◌, ◌∙◌, ap, arith, length, refl, reverse, slice_get, sym, length-reverse, slice_get_read, QueueFields, or_idle, fields_of}
 use Rattle.fak_core.proofs.QueueSound.{draws_few, lower_small, ticket_few, upper_small}
 use Rattle.fak_core.proofs.QueueCalls.{step_found}
 use Rattle.fak_core.proofs.queue.QueueCore.next_step.Goals as goal

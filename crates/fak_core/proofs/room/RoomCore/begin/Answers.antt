@@ -1,7 +1,6 @@
-use Rattle.std.proofs.Common.{◌≡◌, ◌<◌, ◌∙◌, length, reverse, refl, arith, Ok, sym, subst}
+use Rattle.fak_core.proofs.Common.{◌≡◌, ◌<◌, ◌∙◌, length, reverse, refl, arith, Ok, sym, subst, CoreSeat}
 use Rattle.std.proofs.lemmas.Option.{slice_get_read}
 use Rattle.fak_core.specs.Room.{RoomState, begin_of, IsBegun, begun}
-use Rattle.fak_core.specs.declared.room.phase.CoreSeat.{CoreSeat}
 use Rattle.fak_core.proofs.RoomReached.{begin_is}
 use Rattle.fak_core.proofs.RoomCalls.{sound_begun}
 use Rattle.fak_core.proofs.room.RoomCore.begin.Goals as goal

@@ -1,5 +1,4 @@
-use Rattle.std.proofs.Common.{subst}
-use Rattle.fak_model.proofs.Common.{reverse-reverse, IsRoomHistory}
+use Rattle.fak_core.proofs.Common.{subst, reverse-reverse, IsRoomHistory}
 use Rattle.fak_core.proofs.RoomCalls.{sound_kept}
 use Rattle.fak_core.proofs.room.RoomCore.marks.Goals as goal
 

@@ -1,6 +1,5 @@
-use Rattle.std.proofs.Common.{◌≡◌, reverse, arith}
+use Rattle.fak_core.proofs.Common.{◌≡◌, reverse, arith, value}
 use Rattle.std.proofs.lemmas.Int.{ints}
-use Rattle.fak_model.specs.Room.{value}
 use Rattle.fak_core.proofs.RoomCalls.{sound_kept}
 use Rattle.fak_core.proofs.room.RoomCore.value.Goals as goal
 

@@ -1,6 +1,5 @@
-use Rattle.std.proofs.Common.{◌+◌, refl, reverse}
+use Rattle.fak_files.proofs.Common.{◌+◌, refl, reverse, holds_of}
 use Rattle.fak_model.specs.Calls.{object_id}
-use Rattle.fak_files.specs.Calls.{holds_of}
 use Rattle.fak_files.proofs.SeatCalls.{hold_marked}
 use Rattle.fak_files.proofs.seat.FileSeat.hold.Goals as goal
 

@@ -1,7 +1,4 @@
-use Rattle.std.proofs.Common.{◌≡◌, ℕ, length, slice_get, Some, ap, ◌∙◌, sym, subst}
-use Rattle.fak_model.proofs.Common.{AreNamed, IsAtRest, IsFileHistory, file_rules, AreBetweenCalls, IsWhole}
-use Rattle.fak_model.proofs.Resting.{rest_whole}
-use Rattle.fak_files.proofs.Common.{entries_after, entry_of}
+use Rattle.fak_files.proofs.Common.{entries_after, entry_of, ◌≡◌, ℕ, length, slice_get, Some, ap, ◌∙◌, sym, subst, AreNamed, IsAtRest, IsFileHistory, file_rules, AreBetweenCalls, IsWhole, rest_whole}
 use Rattle.fak_files.proofs.Closing.{closed_entries, entries_after-get, entries_after-length}
 use Rattle.fak_files.proofs.table.FileTable.close.Goals as goal
 

@@ -1,5 +1,4 @@
-use Rattle.std.proofs.Common.{slice_index}
-use Rattle.fak_model.specs.declared.file.FileField.TheVariants.{Inode}
+use Rattle.fak_files.proofs.Common.{slice_index, Inode}
 use Rattle.fak_files.proofs.table.FileTable.end.Given as goal
 
 -- the step is this seat's, on this table

@@ -1,10 +1,4 @@
-use Rattle.std.proofs.Common.{rules, ℕ, [], ap, sym, subst, ◌∙◌, reverse}
-use Rattle.fak_model.specs.declared.file.FileMark.{FileMark}
-use Rattle.fak_model.proofs.Common.{words_by, Owes, object_id, SeatInfo, TallyInfo, tally_info, IsJoined, seat_of, kind_of, kinds_of_call, file_rules, IsSeatToken}
-use Rattle.fak_model.proofs.RunningCalls.{token_slots}
-use Rattle.fak_model.proofs.RunningJoins.{tally_at, seat_at, may_join, token_joined, set_joined, call_joined}
-use Rattle.fak_files.proofs.Common.{phase_of, StandsIn, file_object}
-use Rattle.fak_files.specs.SeatTokens.{IsSettled}
+use Rattle.fak_files.proofs.Common.{phase_of, StandsIn, file_object, rules, ℕ, [], ap, sym, subst, ◌∙◌, reverse, FileMark, words_by, Owes, object_id, SeatInfo, TallyInfo, tally_info, IsJoined, seat_of, kind_of, kinds_of_call, file_rules, IsSeatToken, token_slots, tally_at, seat_at, may_join, token_joined, set_joined, call_joined, IsSettled}
 use Rattle.fak_files.proofs.Settling.{settled_joined}
 use Rattle.fak_files.proofs.table.FileTable.join.Goals as goal
 

@@ -1,5 +1,4 @@
-use Rattle.fak_model.specs.declared.file.FileField.TheVariants.{Inode}
-use Rattle.fak_files.specs.declared.phase.Access.TheVariants.{Read}
+use Rattle.fak_files.proofs.Common.{Inode, Read}
 use Rattle.fak_files.proofs.table.FileTable.join.Given as goal
 
 -- the load is made on this table

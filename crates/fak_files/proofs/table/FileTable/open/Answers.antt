@@ -1,7 +1,5 @@
-use Rattle.std.proofs.Common.{rules, ◌≡◌, ◌++◌, [], ◌∷◌, ap, not, true, is_ok, ◌∙◌}
 use Rattle.fak_model.specs.Calls.{object_id}
-use Rattle.fak_model.proofs.RunningJoins.{deals, dealt_is, kept_is}
-use Rattle.fak_files.proofs.Common.{Idle, Nothing, file_object, seat_now}
+use Rattle.fak_files.proofs.Common.{Idle, Nothing, file_object, seat_now, rules, ◌≡◌, ◌++◌, [], ◌∷◌, ap, not, true, is_ok, ◌∙◌, deals, dealt_is, kept_is}
 use Rattle.fak_files.proofs.Openings.{opens, fresh_file_seat, idle_next}
 use Rattle.fak_files.proofs.table.FileTable.open.Goals as goal
 

@@ -1,7 +1,5 @@
-use Rattle.std.proofs.Common.{◌≡◌, []}
 use Rattle.fak_model.specs.Calls.{object_id, fresh_seats}
-use Rattle.fak_model.proofs.RunningJoins.{rest_from}
-use Rattle.fak_files.proofs.Common.{Idle, idle_seats}
+use Rattle.fak_files.proofs.Common.{Idle, idle_seats, ◌≡◌, [], rest_from}
 use Rattle.fak_files.proofs.table.FileTable.open.Given as goal
 
 -- the seats below this one were dealt

@@ -1,5 +1,4 @@
-use Rattle.std.proofs.Common.{slice_index}
-use Rattle.fak_files.specs.declared.phase.Access.TheVariants.{Write}
+use Rattle.fak_files.proofs.Common.{slice_index, Write}
 use Rattle.fak_files.proofs.table.FileTable.set.Given as goal
 
 -- the step is this seat's, on this table

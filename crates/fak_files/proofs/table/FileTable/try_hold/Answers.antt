@@ -1,8 +1,6 @@
-use Rattle.std.proofs.Common.{rules, ℕ, ◌∷◌, [], ◌∙◌, sym, ap, subst, slice_index, w64}
 use Rattle.std.proofs.Math.Facts.{to_z-of_z}
-use Rattle.fak_model.specs.declared.file.FileKind.TheVariants.{Take}
 use Rattle.fak_model.specs.Calls.{object_id}
-use Rattle.fak_files.proofs.Common.{Holding, amount_of, phase_of, Makes, Misses}
+use Rattle.fak_files.proofs.Common.{Holding, amount_of, phase_of, Makes, Misses, rules, ℕ, ◌∷◌, [], ◌∙◌, sym, ap, subst, slice_index, w64, Take}
 use Rattle.fak_files.proofs.SeatCalls.{phase_of-hold_for, file_seat_granted, file_seat_missed, granted_of, busy_of}
 use Rattle.fak_files.proofs.table.FileTable.try_hold.Goals as goal
 

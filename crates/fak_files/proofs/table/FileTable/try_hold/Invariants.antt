@@ -1,5 +1,4 @@
-use Rattle.std.proofs.Common.{slice_index}
-use Rattle.fak_model.specs.declared.file.FileField.TheVariants.{Inode}
+use Rattle.fak_files.proofs.Common.{slice_index, Inode}
 use Rattle.fak_files.proofs.table.FileTable.try_hold.Given as goal
 
 abbrev pub ghosts-admit : goal.ghosts-admit

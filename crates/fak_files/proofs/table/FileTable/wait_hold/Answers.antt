@@ -1,5 +1,4 @@
-use Rattle.std.proofs.Common.{◌∙◌, subst}
-use Rattle.fak_files.specs.Calls.{IsRefused}
+use Rattle.fak_files.proofs.Common.{◌∙◌, subst, IsRefused}
 use Rattle.fak_files.proofs.Waits.{tries_more, tries_granted, tries_worn}
 use Rattle.fak_files.proofs.table.FileTable.wait_hold.Goals as goal
 

@@ -1,5 +1,4 @@
-use Rattle.std.proofs.Common.{◌≡◌}
-use Rattle.fak_files.specs.declared.phase.Hold.TheVariants.{Nothing}
+use Rattle.fak_files.proofs.Common.{◌≡◌, Nothing}
 use Rattle.fak_files.proofs.Waits.{IsTrying}
 use Rattle.fak_files.proofs.table.FileTable.wait_hold.Given as goal
 

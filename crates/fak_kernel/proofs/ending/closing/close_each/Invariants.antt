@@ -1,7 +1,4 @@
-use Rattle.std.proofs.Common.{◌≡◌, []}
-use Rattle.std.specs.Vec.Iter.{into_iter_items}
-use Rattle.fak_kernel.proofs.Common.{ids_of, ids_of_tallies}
-use Rattle.fak_kernel.specs.Closing.{AreClosed, AreClosing}
+use Rattle.fak_kernel.proofs.Common.{ids_of, ids_of_tallies, ◌≡◌, [], into_iter_items, AreClosed, AreClosing}
 use Rattle.fak_kernel.proofs.ending.closing.close_each.Given as goal
 
 abbrev pub invariant-loop-semaphore : goal.invariant-loop-semaphore

@@ -1,5 +1,4 @@
-use Rattle.std.proofs.Common.{◌≡◌, ◌++◌, length, All}
-use Rattle.fak_kernel.specs.Closing.{IsSleeper}
+use Rattle.fak_kernel.proofs.Common.{◌≡◌, ◌++◌, length, All, IsSleeper}
 use Rattle.fak_kernel.proofs.ending.closing.drain.Given as goal
 
 abbrev pub invariant-loop-sleeper : goal.invariant-loop-sleeper

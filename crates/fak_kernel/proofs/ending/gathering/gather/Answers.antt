@@ -1,5 +1,4 @@
-use Rattle.std.proofs.Common.{◌≡◌, ℕ, ◌+◌, get_or, ap, sym, ◌∙◌, subst, arith}
-use Rattle.fak_kernel.proofs.Common.{ProcessorOf, IsLeftBy, AreGathered, AreOfOne}
+use Rattle.fak_kernel.proofs.Common.{ProcessorOf, IsLeftBy, AreGathered, AreOfOne, ◌≡◌, ℕ, ◌+◌, get_or, ap, sym, ◌∙◌, subst, arith}
 use Rattle.fak_kernel.proofs.JoiningProcessors.{gathered_of_first, next_of}
 use Rattle.fak_kernel.proofs.JoiningNext.{took, took_first}
 use Rattle.fak_kernel.proofs.ending.gathering.gather.Goals as goal

@@ -1,6 +1,4 @@
-use Rattle.std.proofs.Common.{◌≡◌, ◌++◌, map}
-use Rattle.std.specs.Vec.Iter.{into_iter_items}
-use Rattle.fak_sem.specs.Semaphores.{sem_tally_of}
+use Rattle.fak_kernel.proofs.Common.{◌≡◌, ◌++◌, map, into_iter_items, sem_tally_of}
 use Rattle.fak_kernel.proofs.ending.joining.first_each.Given as goal
 
 abbrev pub invariant-loop-seat : goal.invariant-loop-seat

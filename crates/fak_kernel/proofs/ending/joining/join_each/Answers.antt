@@ -1,7 +1,4 @@
-use Rattle.std.proofs.Common.{◌≡◌, [], List, drop, arith, subst, append-nil}
-use Rattle.fak_sem.specs.Semaphores.{SemTallyInfo}
-use Rattle.fak_text.specs.Journal.{Process}
-use Rattle.fak_processor.specs.Joined.{JoinEach}
+use Rattle.fak_kernel.proofs.Common.{◌≡◌, [], List, drop, arith, subst, append-nil, SemTallyInfo, Process, JoinEach}
 use Rattle.fak_kernel.proofs.JoiningEach.{drop_past, join_none}
 use Rattle.fak_kernel.proofs.ending.joining.join_each.Goals as goal
 

@@ -1,7 +1,4 @@
-use Rattle.std.proofs.Common.{◌≡◌, List, ◌++◌, drop}
-use Rattle.fak_sem.specs.Semaphores.{SemTallyInfo}
-use Rattle.fak_text.specs.Journal.{Process}
-use Rattle.fak_kernel.proofs.Common.{ids_of, ids_of_seats, JoinEach, ids_of_tallies}
+use Rattle.fak_kernel.proofs.Common.{ids_of, ids_of_seats, JoinEach, ids_of_tallies, ◌≡◌, List, ◌++◌, drop, SemTallyInfo, Process}
 use Rattle.fak_kernel.proofs.ending.joining.join_each.Given as goal
 
 -- whatever joins those that are left, joins all

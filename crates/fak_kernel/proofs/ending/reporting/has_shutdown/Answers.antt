@@ -1,6 +1,4 @@
-use Rattle.std.proofs.Common.{◌∙◌, sum_by}
-use Rattle.fak_process.specs.Ledger.{shuts_of}
-use Rattle.fak_text.specs.Journal.{Process}
+use Rattle.fak_kernel.proofs.Common.{◌∙◌, sum_by, shuts_of, Process}
 use Rattle.fak_process.proofs.AnyWeighs.{any_weighs}
 use Rattle.fak_kernel.proofs.ending.reporting.has_shutdown.Goals as goal
 

@@ -1,5 +1,4 @@
-use Rattle.std.proofs.Common.{◌≡◌, drop}
-use Rattle.fak_kernel.specs.Threads.{first_fault}
+use Rattle.fak_kernel.proofs.Common.{◌≡◌, drop, first_fault}
 use Rattle.fak_kernel.proofs.run_threads.answering.first_fault.Given as goal
 
 abbrev pub invariant-loop-answer : goal.invariant-loop-answer

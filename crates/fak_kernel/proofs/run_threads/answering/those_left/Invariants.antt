@@ -1,6 +1,4 @@
-use Rattle.std.proofs.Common.{◌≡◌, ◌++◌, map}
-use Rattle.std.specs.Vec.Iter.{into_iter_items}
-use Rattle.fak_kernel.specs.Threads.{as_left}
+use Rattle.fak_kernel.proofs.Common.{◌≡◌, ◌++◌, map, into_iter_items, as_left}
 use Rattle.fak_kernel.proofs.run_threads.answering.those_left.Given as goal
 
 abbrev pub invariant-loop-answer : goal.invariant-loop-answer

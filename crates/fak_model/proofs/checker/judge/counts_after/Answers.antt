@@ -1,5 +1,4 @@
-use Rattle.std.proofs.Common.{subst, sym}
-use Rattle.fak_model.specs.Checker.{AreCounts}
+use Rattle.fak_model.proofs.Common.{subst, sym, AreCounts}
 use Rattle.fak_model.proofs.CheckerCounts.{counts_below, counts_other}
 use Rattle.fak_model.proofs.checker.judge.counts_after.Goals as goal
 

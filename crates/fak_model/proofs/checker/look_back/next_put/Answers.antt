@@ -1,5 +1,4 @@
-use Rattle.std.proofs.Common.{reverse, ◌∙◌, ap, sym, take_all}
-use Rattle.fak_model.specs.Queue.{count, puts}
+use Rattle.fak_model.proofs.Common.{reverse, ◌∙◌, ap, sym, take_all, count, puts}
 use Rattle.fak_model.proofs.CheckerPast.{item_at_put, item_none}
 use Rattle.fak_model.proofs.checker.look_back.next_put.Goals as goal
 

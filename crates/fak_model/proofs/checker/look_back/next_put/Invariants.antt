@@ -1,5 +1,4 @@
-use Rattle.std.proofs.Common.{◌≡◌, reverse, take}
-use Rattle.fak_model.specs.Queue.{count, puts}
+use Rattle.fak_model.proofs.Common.{◌≡◌, reverse, take, count, puts}
 use Rattle.fak_model.proofs.checker.look_back.next_put.Given as goal
 
 abbrev pub invariant-loop-i : goal.invariant-loop-i

@@ -1,5 +1,4 @@
-use Rattle.std.proofs.Common.{◌≡◌, reverse, take}
-use Rattle.fak_model.proofs.Common.{count, puts, gots, stage}
+use Rattle.fak_model.proofs.Common.{count, puts, gots, stage, ◌≡◌, reverse, take}
 use Rattle.fak_model.proofs.checker.look_back.stage_of.Given as goal
 
 abbrev pub invariant-loop-i : goal.invariant-loop-i

@@ -1,5 +1,4 @@
-use Rattle.std.proofs.Common.{reverse, take}
-use Rattle.fak_model.proofs.Common.{Fill, Has}
+use Rattle.fak_model.proofs.Common.{Fill, Has, reverse, take}
 use Rattle.fak_model.proofs.checker.look_back.was_filled.Given as goal
 
 abbrev pub invariant-loop-i : goal.invariant-loop-i

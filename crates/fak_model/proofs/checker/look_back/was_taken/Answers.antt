@@ -1,5 +1,4 @@
-use Rattle.std.proofs.Common.{◌<◌, ◌-◌, ◌∙◌, ap, length, arith, refl}
-use Rattle.fak_model.specs.declared.queue.Kind.TheVariants.{Take}
+use Rattle.fak_model.proofs.Common.{◌<◌, ◌-◌, ◌∙◌, ap, length, arith, refl, Take}
 use Rattle.fak_model.proofs.CheckerPast.{has_at}
 use Rattle.fak_model.proofs.checker.look_back.was_taken.Goals as goal
 

@@ -1,5 +1,4 @@
-use Rattle.std.proofs.Common.{reverse, take}
-use Rattle.fak_model.proofs.Common.{Take, Has}
+use Rattle.fak_model.proofs.Common.{Take, Has, reverse, take}
 use Rattle.fak_model.proofs.checker.look_back.was_taken.Given as goal
 
 abbrev pub invariant-loop-i : goal.invariant-loop-i

@@ -1,5 +1,4 @@
-use Rattle.std.proofs.Common.{ap, sym, ◌∙◌, map, nat_lt}
-use Rattle.fak_text.proofs.Common.{steps_of, note_of}
+use Rattle.fak_process.proofs.Common.{ap, sym, ◌∙◌, map, nat_lt, steps_of, note_of}
 use Rattle.fak_process.proofs.AnyWeighs.{any_notes}
 use Rattle.fak_process.proofs.Told.{shuts-told_notes}
 use Rattle.fak_process.proofs.context.Context.has_shutdown.Goals as goal

@@ -1,7 +1,5 @@
-use Rattle.std.proofs.Common.{ap, sym, ◌∙◌, ◌≡◌, ◌++◌, ◌∷◌, map, [], arith, ◌≤◌, length, slice_get, Some, refl}
+use Rattle.fak_process.proofs.Common.{ap, sym, ◌∙◌, ◌≡◌, ◌++◌, ◌∷◌, map, [], arith, ◌≤◌, length, slice_get, Some, refl, steps_of, note_of, told_notes}
 use Rattle.std.proofs.lemmas.List.{map-append, length-map}
-use Rattle.fak_text.proofs.Common.{steps_of, note_of}
-use Rattle.fak_process.specs.Told.{told_notes}
 use Rattle.fak_process.proofs.Fitting.{IsContext-after_note, children-position}
 use Rattle.fak_process.proofs.Told.{length-told, told-allowed, told-push}
 use Rattle.fak_process.proofs.context.Context.note.Goals as goal

@@ -1,7 +1,5 @@
-use Rattle.std.proofs.Common.{ap, sym, ◌∙◌, ◌≡◌, ◌++◌, ◌∷◌, map, [], arith, length, slice_get, Some, refl, string_bytes}
+use Rattle.fak_process.proofs.Common.{ap, sym, ◌∙◌, ◌≡◌, ◌++◌, ◌∷◌, map, [], arith, length, slice_get, Some, refl, string_bytes, say, steps_of, said, note_of, told_notes}
 use Rattle.std.proofs.lemmas.List.{map-append, length-map}
-use Rattle.fak_text.proofs.Common.{say, steps_of, said, note_of}
-use Rattle.fak_process.specs.Told.{told_notes}
 use Rattle.fak_process.proofs.Fitting.{IsContext-said}
 use Rattle.fak_process.proofs.Told.{length-told, told-push}
 use Rattle.fak_process.proofs.context.Context.note_said.Goals as goal

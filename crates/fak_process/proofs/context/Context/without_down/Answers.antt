@@ -1,7 +1,5 @@
-use Rattle.std.proofs.Common.{◌≡◌, ◌∙◌, ◌-◌, ap, sym, map, take, length, refl}
+use Rattle.fak_process.proofs.Common.{◌≡◌, ◌∙◌, ◌-◌, ap, sym, map, take, length, refl, steps_of, note_of, told_notes}
 use Rattle.std.proofs.lemmas.List.{take-map, length-map}
-use Rattle.fak_text.proofs.Common.{steps_of, note_of}
-use Rattle.fak_process.specs.Told.{told_notes}
 use Rattle.fak_process.proofs.Fitting.{IsContext-unnoted}
 use Rattle.fak_process.proofs.Told.{length-told, told-take}
 use Rattle.fak_process.proofs.context.Context.without_down.Goals as goal

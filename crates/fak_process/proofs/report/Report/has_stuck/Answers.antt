@@ -1,7 +1,5 @@
-use Rattle.std.proofs.Common.{◌∙◌, ap, sym}
+use Rattle.fak_process.proofs.Common.{◌∙◌, ap, sym, is_stuck, row_of}
 use Rattle.std.specs.List.{list_any}
-use Rattle.fak_process.specs.Report.{is_stuck}
-use Rattle.fak_process.specs.Views.{row_of}
 use Rattle.fak_process.proofs.RowLemmas.{list_any-map}
 use Rattle.fak_process.proofs.report.Report.has_stuck.Goals as goal
 

@@ -1,8 +1,6 @@
-use Rattle.std.proofs.Common.{◌≡◌, suc, ◌+◌, [], ◌∷◌, ◌++◌, List, ap, ◌∙◌, arith, map}
-use Rattle.fak_sem.specs.Semaphores.{SemSeatInfo}
+use Rattle.fak_processor.proofs.Common.{◌≡◌, suc, ◌+◌, [], ◌∷◌, ◌++◌, List, ap, ◌∙◌, arith, map, SemSeatInfo, fresh_rows}
 use Rattle.fak_text.specs.Journal.{Process}
 use Rattle.std.proofs.lemmas.List.{map-append}
-use Rattle.fak_processor.specs.Opened.{fresh_rows}
 use Rattle.fak_processor.proofs.Dealing.{rows_next}
 use Rattle.fak_processor.proofs.objects.opening.empty_rows.Goals as goal
 

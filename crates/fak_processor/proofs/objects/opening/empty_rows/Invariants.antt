@@ -1,5 +1,4 @@
-use Rattle.std.proofs.Common.{◌≡◌, [], map}
-use Rattle.fak_processor.specs.Opened.{fresh_rows}
+use Rattle.fak_processor.proofs.Common.{◌≡◌, [], map, fresh_rows}
 use Rattle.fak_processor.proofs.objects.opening.empty_rows.Given as goal
 
 abbrev pub invariant-loop-name : goal.invariant-loop-name

@@ -1,8 +1,5 @@
-use Rattle.std.proofs.Common.{◌≡◌, ◌∙◌, length, ap, sym, subst, arith}
-use Rattle.std.proofs.lemmas.List.{length-map}
-use Rattle.fak_sem.specs.Semaphores.{SemInfo}
 use Rattle.fak_text.specs.Script.{ScriptOf}
-use Rattle.fak_processor.proofs.Common.{AreFor, ObjectsOf, ids_of, fresh_all, zipped}
+use Rattle.fak_processor.proofs.Common.{AreFor, ObjectsOf, ids_of, fresh_all, zipped, map, ◌≡◌, ◌∙◌, length, ap, sym, subst, arith, length-map, SemInfo}
 use Rattle.fak_processor.proofs.Dealing.{length-new, length-rows, length-seats, zips}
 use Rattle.fak_processor.proofs.objects.opening.open_objects.Goals as goal
 
@@ -52,11 +49,11 @@ returns-clause-seated g c =
 pub returns-clause-fresh : goal.returns-clause-fresh
 returns-clause-fresh g c =
     let r = c.in_ok-ready.ensures.opened.2 in
-    let f = c.in_ok-free.ensures.opened.2 in
-    let b = c.in_ok-births.ensures.opened.2 in
-    let u = c.in_ok-busy.ensures.opened.2 in
-    let s = c.in_ok-semaphores.ensures.dealt in
-    let x = c.in_ok-files.ensures.opened.2 in
+    let f = c.into_iter.ensures.rest ∙ c.in_ok-free.ensures.opened.2 in
+    let b = c.into_iter-2.ensures.rest ∙ c.in_ok-births.ensures.opened.2 in
+    let u = c.into_iter-3.ensures.rest ∙ c.in_ok-busy.ensures.opened.2 in
+    let s = ap (map (λ row. row.items)) c.into_iter-4.ensures.rest ∙ c.in_ok-semaphores.ensures.dealt in
+    let x = c.into_iter-5.ensures.rest ∙ c.in_ok-files.ensures.opened.2 in
     let o : ObjectsOf = record { ready = c.in_ok-ready.ready; free = c.in_ok-free.free; births = c.in_ok-births.births; busy = c.in_ok-busy.busy; semaphores = c.in_ok-semaphores.semaphores.items; files = c.in_ok-files.files } in
     let entries : c.files-entries.result ≡ o.files.entries = c.files-entries.ensures.value ∙ sym c.in_ok-files.ensures.opened.0 in
     c.in_ok-dealt.ensures.zipped

@@ -1,7 +1,5 @@
-use Rattle.std.proofs.Common.{◌≡◌, ◌+◌, [], ◌∷◌, ◌++◌, List, length, drop, ap, sym, ◌∙◌, subst, arith, map, All}
 use Rattle.std.proofs.lemmas.List.{append-nil, map-append, length-map}
-use Rattle.fak_sem.specs.Semaphores.{SemId, SemInfo}
-use Rattle.fak_processor.proofs.Common.{ids_of, IsSemaphoreFor, dealt_to, fresh_rows}
+use Rattle.fak_processor.proofs.Common.{ids_of, IsSemaphoreFor, dealt_to, fresh_rows, ◌≡◌, ◌+◌, [], ◌∷◌, ◌++◌, List, length, drop, ap, sym, ◌∙◌, subst, arith, map, All, SemId, SemInfo}
 use Rattle.fak_processor.proofs.Dealing.{deals_more, drop_at, drop_past, length-fresh, length-rows, sems_more, starts_next}
 use Rattle.fak_processor.proofs.objects.opening.open_semaphores.Goals as goal
 

@@ -1,5 +1,4 @@
-use Rattle.std.proofs.Common.{◌≡◌, ◌++◌, map, drop, All}
-use Rattle.fak_processor.proofs.Common.{ids_of, IsSemaphoreFor, fresh_rows}
+use Rattle.fak_processor.proofs.Common.{ids_of, IsSemaphoreFor, fresh_rows, ◌≡◌, ◌++◌, map, drop, All}
 use Rattle.fak_processor.proofs.objects.opening.open_semaphores.Given as goal
 
 -- the semaphores so far are open, and their seats are dealt

@@ -1,5 +1,4 @@
-use Rattle.std.proofs.Common.{[], subst, append-nil}
-use Rattle.fak_processor.proofs.Common.{numbers_from, begun_names, Begins}
+use Rattle.fak_processor.proofs.Common.{numbers_from, begun_names, Begins, [], subst, append-nil}
 use Rattle.fak_processor.proofs.Starting.{begins_then, reached_first}
 use Rattle.fak_processor.proofs.processor.Processor.begin.Goals as goal
 

@@ -1,7 +1,5 @@
-use Rattle.std.proofs.Common.{ap, sym, subst, ◌∙◌, ◌≡◌}
-use Rattle.fak_text.proofs.Common.{down, Process, StandsAt, after_note, downed}
+use Rattle.fak_processor.proofs.Common.{ap, sym, subst, ◌∙◌, ◌≡◌, down, Process, StandsAt, after_note, downed, GainsParked}
 use Rattle.fak_process.specs.ListScheduler as lists
-use Rattle.fak_processor.specs.Moving.{GainsParked}
 use Rattle.fak_processor.proofs.Stepping.{moves_to, moves_passed, moves_parked}
 use Rattle.fak_processor.proofs.processor.Processor.down.Goals as goal
 

@@ -1,5 +1,4 @@
-use Rattle.std.proofs.Common.{[], subst}
-use Rattle.fak_processor.proofs.Common.{GoesTo, Begins, empty_lists}
+use Rattle.fak_processor.proofs.Common.{GoesTo, Begins, empty_lists, [], subst}
 use Rattle.fak_processor.proofs.Starting.{begins_none, begins_then, filled_alone, numbers_next}
 use Rattle.fak_processor.proofs.processor.Processor.free_slots.Goals as goal
 

@@ -1,5 +1,4 @@
-use Rattle.std.proofs.Common.{[]}
-use Rattle.fak_processor.proofs.Common.{numbers_from, AreOf, GoesTo, Begins, empty_lists}
+use Rattle.fak_processor.proofs.Common.{numbers_from, AreOf, GoesTo, Begins, empty_lists, []}
 use Rattle.fak_processor.proofs.processor.Processor.free_slots.Given as goal
 
 -- the slots below this one are free

@@ -1,6 +1,5 @@
-use Rattle.std.proofs.Common.{◌≡◌, ◌<◌, ◌∙◌, [], List, ℕ, length, take, ap, subst, refl, arith, take_all}
 use Rattle.fak_text.specs.Script.{ScriptOf}
-use Rattle.fak_processor.proofs.Common.{Named, begun_names, Begins}
+use Rattle.fak_processor.proofs.Common.{Named, begun_names, Begins, ◌≡◌, ◌<◌, ◌∙◌, [], List, ℕ, length, take, ap, subst, refl, arith, take_all}
 use Rattle.fak_processor.proofs.Starting.{all_started, begins_none, begins_then, names_next, started_next, started_none}
 use Rattle.fak_processor.proofs.processor.Processor.start_processes.Goals as goal
 

@@ -1,5 +1,4 @@
-use Rattle.std.proofs.Common.{◌≡◌, ◌≤◌, ◌-◌, [], length, take}
-use Rattle.fak_processor.proofs.Common.{begun_from, numbers_from, begun_names, AreOf, GoesTo, Begins, empty_lists}
+use Rattle.fak_processor.proofs.Common.{begun_from, numbers_from, begun_names, AreOf, GoesTo, Begins, empty_lists, ◌≡◌, ◌≤◌, ◌-◌, [], length, take}
 use Rattle.fak_processor.proofs.processor.Processor.start_processes.Given as goal
 
 -- the processes so far are started

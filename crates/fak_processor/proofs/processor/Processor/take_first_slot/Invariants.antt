@@ -1,5 +1,4 @@
-use Rattle.fak_processor.specs.Processors.{AreOf, GoesTo, IsAlone, lists_of}
-use Rattle.fak_processor.specs.Begun.{FindsNoSlot}
+use Rattle.fak_processor.proofs.Common.{AreOf, GoesTo, IsAlone, lists_of, FindsNoSlot}
 use Rattle.fak_processor.proofs.processor.Processor.take_first_slot.Given as goal
 
 -- so far no slot was free

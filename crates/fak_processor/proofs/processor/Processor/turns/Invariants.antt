@@ -1,6 +1,4 @@
-use Rattle.fak_processor.proofs.Common.{turn_over, AreOf, IsReached, lists_of}
-use Rattle.std.proofs.Common.{[]}
-use Rattle.fak_processor.specs.Moving.{Moves, hand_of}
+use Rattle.fak_processor.proofs.Common.{turn_over, AreOf, IsReached, lists_of, [], Moves, hand_of}
 use Rattle.fak_processor.proofs.processor.Processor.turns.Given as goal
 
 abbrev pub invariant-loop : goal.invariant-loop

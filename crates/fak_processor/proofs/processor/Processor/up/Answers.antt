@@ -8,11 +8,11 @@ pub returns-in-Ok-None-clause-general : goal.returns-in-Ok-None-clause-general
 returns-in-Ok-None-clause-general g c =
     let raised = rw c.in-Ok-None.field-0-is at c.in-Ok-None.ensures.gains in
     moves_from c.reserve_halted.ensures.same
-    (moves_to (after_note c.args.turn.process (upped c.args.n)) (ap (λ (t : lists.Turn). t.process) c.in_ok-turn.ensures.noted) (moves_added c.args.n c.args.turn.process c.noted.ensures.fits c.requires.next raised))
+    (moves_to (after_note c.args.turn.now.process (upped c.args.n)) (ap (λ (t : lists.Turn). t.process) c.in_ok-note.ensures.noted) (moves_added c.args.n c.args.turn.now.process c.note.ensures.fits c.requires.next raised))
 
 pub returns-in-Ok-Some-clause-general : goal.returns-in-Ok-Some-clause-general
 returns-in-Ok-Some-clause-general g c =
     let woken = rw c.in-Ok-Some.field-0-is at c.in-Ok-Some.ensures.gains in
     moves_from c.reserve_halted.ensures.same
-    (moves_to (after_note c.args.turn.process (upped c.args.n)) (ap (λ (t : lists.Turn). t.process) c.in_ok-turn.ensures.noted)
-    (moves_enters (after_note c.args.turn.process (upped c.args.n)) c.in-Ok-Some.context (moves_woken c.args.n c.args.turn.process c.in-Ok-Some.context c.requires.range c.noted.ensures.fits c.requires.next woken c.in_ok-credit-in-Ok-Some.ensures.gains) c.in_ok-enter_ready-in-Ok-Some.ensures.general))
+    (moves_to (after_note c.args.turn.now.process (upped c.args.n)) (ap (λ (t : lists.Turn). t.process) c.in_ok-note.ensures.noted)
+    (moves_enters (after_note c.args.turn.now.process (upped c.args.n)) c.in-Ok-Some.context (moves_woken c.args.n c.args.turn.now.process c.in-Ok-Some.context c.requires.range c.note.ensures.fits c.requires.next woken c.in_ok-credit-in-Ok-Some.ensures.gains) c.in_ok-enter_ready-in-Ok-Some.ensures.general))

@@ -1,5 +1,4 @@
-use Rattle.std.proofs.Common.{◌∙◌, subst, refl}
-use Rattle.fak_processor.proofs.Common.{Enters, GrowsIn}
+use Rattle.fak_processor.proofs.Common.{Enters, GrowsIn, ◌∙◌, subst, refl}
 use Rattle.fak_processor.proofs.Moving.{none_yet, full_again, in_at_last, shut_at_last}
 use Rattle.fak_processor.proofs.OnlyQueues.{enters, bounces, keeps_full, keeps_then, keeps_enters, keeps_bounces}
 use Rattle.fak_processor.proofs.processor.entering.enter.Goals as goal

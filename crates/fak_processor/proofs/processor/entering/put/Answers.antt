@@ -1,5 +1,4 @@
-use Rattle.std.proofs.Common.{◌∙◌, subst, refl}
-use Rattle.fak_processor.proofs.Common.{Enters, GrowsAtLast}
+use Rattle.fak_processor.proofs.Common.{Enters, GrowsAtLast, ◌∙◌, subst, refl}
 use Rattle.fak_processor.proofs.Moving.{idle_yet, shut_again, put_at_last}
 use Rattle.fak_processor.proofs.OnlyQueues.{keeps_then, keeps_enters}
 use Rattle.fak_processor.proofs.processor.entering.put.Goals as goal

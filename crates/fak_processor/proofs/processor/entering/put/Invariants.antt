@@ -1,8 +1,5 @@
-use Rattle.std.proofs.Common.{◌≡◌}
+use Rattle.fak_processor.proofs.Common.{◌≡◌, state_of, IsOnlySeat, Keeps, GrowsIdle}
 use Rattle.fak_queue.specs.declared.state.SeatState.TheVariants.{Idle}
-use Rattle.fak_queue.specs.Queues.{state_of}
-use Rattle.fak_processor.specs.OnlyQueues.{IsOnlySeat, Keeps}
-use Rattle.fak_processor.specs.Moving.{GrowsIdle}
 use Rattle.fak_processor.proofs.processor.entering.put.Given as goal
 
 -- so far the queue was shut

@@ -1,8 +1,5 @@
-use Rattle.std.proofs.Common.{ap, rules, sym, refl, subst, arith, w64}
-use Rattle.std.proofs.Math.Facts.{to_z-of_z}
-use Rattle.fak_model.proofs.RunningCalls.{token_names}
+use Rattle.fak_queue.proofs.Common.{ap, rules, sym, refl, subst, arith, w64, to_z-of_z, token_names, RefusesEmpty, queue_seat}
 use Rattle.fak_model.specs.Calls.{object_id}
-use Rattle.fak_queue.specs.Queues.{RefusesEmpty, queue_seat}
 use Rattle.fak_queue.proofs.SeatCalls.{idle_token, left_less, seat_after, state_after, drawn_after, claims_out, seat_refused, state_refused, drawn_refused, refuses_empty}
 use Rattle.fak_queue.proofs.queue.Queue.claim_delete.Goals as goal
 

@@ -1,7 +1,5 @@
-use Rattle.std.proofs.Common.{ap, ◌≡◌, ◌+◌, MatchResult, sym, subst, arith}
-use Rattle.fak_model.proofs.RunningCalls.{token_names}
 use Rattle.fak_model.specs.Calls.{object_id}
-use Rattle.fak_queue.proofs.Common.{Idle, Inserting, ClaimsIn, drawn_by, state_of, queue_seat, RefusesInsertion}
+use Rattle.fak_queue.proofs.Common.{Idle, Inserting, ClaimsIn, drawn_by, state_of, queue_seat, RefusesInsertion, ap, ◌≡◌, ◌+◌, MatchResult, sym, subst, arith, token_names}
 use Rattle.fak_queue.proofs.SeatCalls.{idle_token, left_less, seat_after, state_after, drawn_after, claims_in, seat_refused_in, state_refused_in, drawn_refused_in, refuses_insertion}
 use Rattle.fak_queue.proofs.queue.Queue.claim_insert.Goals as goal
 

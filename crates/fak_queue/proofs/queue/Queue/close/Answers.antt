@@ -1,8 +1,4 @@
-use Rattle.std.proofs.Common.{ℕ, List, ap, sym, ◌∙◌, subst}
-use Rattle.std.specs.Slots.{slots_items, slots_counts}
-use Rattle.fak_model.specs.declared.queue.Mark.{Mark}
-use Rattle.fak_model.proofs.Common.{AreNamed, IsQueueHistory, contents, queue_rules, IsWhole, TallyInfo}
-use Rattle.fak_queue.proofs.Common.{QueueHolder, QueueInfo, AreIdle, size_of}
+use Rattle.fak_queue.proofs.Common.{QueueHolder, QueueInfo, AreIdle, size_of, ℕ, List, ap, sym, ◌∙◌, subst, slots_items, slots_counts, Mark, AreNamed, IsQueueHistory, contents, queue_rules, IsWhole, TallyInfo}
 use Rattle.fak_queue.proofs.Closing.{closes}
 use Rattle.fak_queue.proofs.Tallies.{whole_rests, lawful_in, named_in}
 use Rattle.fak_queue.proofs.queue.Queue.close.Goals as goal

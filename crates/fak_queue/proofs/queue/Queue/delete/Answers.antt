@@ -1,9 +1,5 @@
-use Rattle.std.proofs.Common.{rules, refl, sym, ap, ◌∙◌, subst, arith, Some, w64}
-use Rattle.std.proofs.Math.Facts.{to_z-of_z}
-use Rattle.fak_model.proofs.RunningCalls.{token_names}
 use Rattle.fak_model.specs.Calls.{object_id}
-use Rattle.fak_core.specs.declared.queue.phase.Phase.TheVariants.{TurnOut}
-use Rattle.fak_queue.proofs.Common.{Taken, RefusesEmpty, queue_seat}
+use Rattle.fak_queue.proofs.Common.{Taken, RefusesEmpty, queue_seat, rules, refl, sym, ap, ◌∙◌, subst, arith, Some, w64, to_z-of_z, token_names, TurnOut}
 use Rattle.fak_queue.proofs.States.{rests_deleting}
 use Rattle.fak_queue.proofs.PartSteps.{names_then, phase_then, slots_then}
 use Rattle.fak_queue.proofs.SeatCalls.{idle_token, seat_refused, state_refused, drawn_refused, refuses_empty}

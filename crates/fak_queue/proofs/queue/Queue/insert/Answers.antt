@@ -1,8 +1,5 @@
-use Rattle.std.proofs.Common.{ap, ◌≡◌, ◌+◌, ◌∙◌, MatchResult, Some, sym, subst, arith}
-use Rattle.fak_model.proofs.RunningCalls.{token_names}
 use Rattle.fak_model.specs.Calls.{object_id}
-use Rattle.fak_queue.proofs.Common.{Filled, Inserts, drawn_by, queue_seat, RefusesInsertion}
-use Rattle.fak_core.specs.declared.queue.phase.Phase.TheVariants.{TurnIn}
+use Rattle.fak_queue.proofs.Common.{Filled, Inserts, drawn_by, queue_seat, RefusesInsertion, ap, ◌≡◌, ◌+◌, ◌∙◌, MatchResult, Some, sym, subst, arith, token_names, TurnIn}
 use Rattle.fak_queue.proofs.States.{rests_inserting}
 use Rattle.fak_queue.proofs.PartSteps.{names_then, phase_then, slots_then}
 use Rattle.fak_queue.proofs.SeatCalls.{idle_token, seat_refused_in, state_refused_in, drawn_refused_in, refuses_insertion}

@@ -1,10 +1,4 @@
-use Rattle.std.proofs.Common.{rules, ap, refl, sym, ◌∙◌, subst, reverse}
-use Rattle.fak_model.proofs.RunningCalls.{token_slots}
-use Rattle.fak_model.proofs.RunningJoins.{tally_at, seat_at, may_join, token_joined, set_joined, call_joined}
-use Rattle.atomic_table.specs.Seated.{TableId}
-use Rattle.fak_model.specs.declared.queue.Mark.{Mark}
-use Rattle.fak_model.proofs.Common.{IsJoined, SeatInfo, TallyInfo, object_id, tally_info, IsQueueHistory, queue_rules}
-use Rattle.fak_queue.proofs.Common.{queue_object, QueueInfo, AreIdle}
+use Rattle.fak_queue.proofs.Common.{queue_object, QueueInfo, AreIdle, rules, ap, refl, sym, ◌∙◌, subst, reverse, token_slots, tally_at, seat_at, may_join, token_joined, set_joined, call_joined, TableId, Mark, IsJoined, SeatInfo, TallyInfo, object_id, tally_info, IsQueueHistory, queue_rules}
 use Rattle.fak_queue.proofs.SeatCalls.{idle_token}
 use Rattle.fak_queue.proofs.Tallies.{HasEnded, seat_ended, idle_joined}
 use Rattle.fak_queue.proofs.queue.Queue.join.Goals as goal

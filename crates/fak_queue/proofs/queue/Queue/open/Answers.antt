@@ -1,8 +1,6 @@
-use Rattle.std.proofs.Common.{rules, ◌≡◌, ◌+◌, ◌++◌, [], ◌∷◌, ap, sym, not, true, is_ok, ◌∙◌, arith}
 use Rattle.fak_core.specs.declared.queue.phase.Phase.TheVariants.{Idle}
 use Rattle.fak_model.specs.Calls.{object_id, seat_info}
-use Rattle.fak_model.proofs.RunningJoins.{deals, dealt_is, kept_is, fresh_token, fresh_next}
-use Rattle.fak_queue.proofs.Common.{queue_object, seat_of, queue_seat}
+use Rattle.fak_queue.proofs.Common.{queue_object, seat_of, queue_seat, rules, ◌≡◌, ◌+◌, ◌++◌, [], ◌∷◌, ap, sym, not, true, is_ok, ◌∙◌, arith, deals, dealt_is, kept_is, fresh_token, fresh_next}
 use Rattle.fak_queue.proofs.Openings.{fresh_queue_seat, fresh_keeps}
 use Rattle.fak_queue.proofs.queue.Queue.open.Goals as goal
 

@@ -1,7 +1,6 @@
-use Rattle.std.proofs.Common.{◌≡◌, []}
+use Rattle.fak_queue.proofs.Common.{◌≡◌, [], rest_from}
 use Rattle.fak_core.specs.declared.queue.phase.Phase.TheVariants.{Idle}
 use Rattle.fak_model.specs.Calls.{object_id, fresh_seats}
-use Rattle.fak_model.proofs.RunningJoins.{rest_from}
 use Rattle.fak_queue.proofs.queue.Queue.open.Given as goal
 
 -- the seats below this one were dealt

@@ -1,5 +1,4 @@
-use Rattle.std.proofs.Common.{ap}
-use Rattle.fak_model.proofs.RunningCalls.{token_names}
+use Rattle.fak_queue.proofs.Common.{ap, token_names}
 use Rattle.fak_queue.proofs.SeatCalls.{fits_table, idle_token, seat_shut, state_shut, drawn_shut, shuts_as}
 use Rattle.fak_queue.proofs.queue.Queue.shut.Goals as goal
 

@@ -1,7 +1,4 @@
-use Rattle.std.proofs.Common.{sym, ap, ◌∙◌, subst}
-use Rattle.fak_model.proofs.Common.{stage}
-use Rattle.fak_core.specs.declared.queue.phase.Phase.TheVariants.{TurnIn}
-use Rattle.fak_queue.specs.Queues.{RestsAt}
+use Rattle.fak_queue.proofs.Common.{sym, ap, ◌∙◌, subst, stage, TurnIn, RestsAt}
 use Rattle.fak_queue.proofs.States.{rests_inserting}
 use Rattle.fak_queue.proofs.Trying.{seat_waits_in, state_waits_in, drawn_waits_in, waits_in, names_looked_in, phase_looked_in, slot_looked_in, seat_filled, state_filled, drawn_filled, fills_cell}
 use Rattle.fak_queue.proofs.queue.Queue.try_fill.Goals as goal

@@ -1,7 +1,4 @@
-use Rattle.std.proofs.Common.{sym, ap, ◌∙◌, subst}
-use Rattle.fak_model.proofs.Common.{stage}
-use Rattle.fak_core.specs.declared.queue.phase.Phase.TheVariants.{TurnOut}
-use Rattle.fak_queue.specs.Queues.{RestsAt}
+use Rattle.fak_queue.proofs.Common.{sym, ap, ◌∙◌, subst, stage, TurnOut, RestsAt}
 use Rattle.fak_queue.proofs.States.{rests_deleting}
 use Rattle.fak_queue.proofs.Trying.{seat_waits_out, state_waits_out, drawn_waits_out, waits_out, names_looked_out, phase_looked_out, slot_looked_out, seat_taken, state_taken, drawn_taken, takes_item}
 use Rattle.fak_queue.proofs.queue.Queue.try_take.Goals as goal

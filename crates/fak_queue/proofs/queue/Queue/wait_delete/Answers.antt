@@ -1,5 +1,4 @@
-use Rattle.std.proofs.Common.{◌∙◌, subst}
-use Rattle.fak_queue.specs.Refusals.{RefusesDeletion}
+use Rattle.fak_queue.proofs.Common.{◌∙◌, subst, RefusesDeletion}
 use Rattle.fak_queue.proofs.AfterRefusals.{deleted_after, empty_again}
 use Rattle.fak_queue.proofs.queue.Queue.wait_delete.Goals as goal
 

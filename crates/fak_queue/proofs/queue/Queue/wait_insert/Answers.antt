@@ -1,5 +1,4 @@
-use Rattle.std.proofs.Common.{◌∙◌, subst}
-use Rattle.fak_queue.proofs.Common.{InsertsAfterFull, RefusesInsertion}
+use Rattle.fak_queue.proofs.Common.{InsertsAfterFull, RefusesInsertion, ◌∙◌, subst}
 use Rattle.fak_queue.proofs.AfterRefusals.{inserted_after, closed_after, full_again}
 use Rattle.fak_queue.proofs.queue.Queue.wait_insert.Goals as goal
 

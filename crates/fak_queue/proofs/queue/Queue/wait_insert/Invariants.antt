@@ -1,5 +1,4 @@
-use Rattle.std.proofs.Common.{◌≡◌}
-use Rattle.fak_queue.specs.Retries.{kinds_not_in, IsFull}
+use Rattle.fak_queue.proofs.Common.{◌≡◌, kinds_not_in, IsFull}
 use Rattle.fak_queue.proofs.AfterRefusals.{IsRetrying}
 use Rattle.fak_queue.proofs.queue.Queue.wait_insert.Given as goal
 

@@ -1,5 +1,4 @@
-use Rattle.std.proofs.Common.{◌≡◌, ℕ, ◌-◌, ◌<◌, false, get_or}
-use Rattle.std.specs.Slots.{slots_filled, slots_len}
+use Rattle.fak_queue.proofs.Common.{◌≡◌, ℕ, ◌-◌, ◌<◌, false, get_or, slots_filled, slots_len}
 use Rattle.std.specs.Slots.Ownership.{Filled}
 use Rattle.fak_queue.proofs.rest.Rest.drop.Given as goal
 

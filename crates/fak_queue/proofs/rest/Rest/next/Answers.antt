@@ -1,6 +1,4 @@
-use Rattle.std.proofs.Common.{arith, sym, ap, subst, ◌∙◌, ◌≡◌, ℕ, ◌+◌, ◌-◌, ◌%◌, ◌<◌, ◌∷◌, true, false, length, get_or, set, mod-lt, None}
-use Rattle.std.specs.Slots.{slots_items, slots_len, slots_filled, slots_counts}
-use Rattle.fak_queue.specs.Left.{items_left}
+use Rattle.fak_queue.proofs.Common.{arith, sym, ap, subst, ◌∙◌, ◌≡◌, ℕ, ◌+◌, ◌-◌, ◌%◌, ◌<◌, ◌∷◌, true, false, length, get_or, set, mod-lt, None, slots_items, slots_len, slots_filled, slots_counts, items_left}
 use Rattle.fak_queue.proofs.Leaving.{next_item, not_none, none_or_some, refilled, same_some}
 use Rattle.fak_queue.proofs.rest.Rest.next.Goals as goal
 

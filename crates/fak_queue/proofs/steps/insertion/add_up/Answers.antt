@@ -1,5 +1,4 @@
-use Rattle.std.proofs.Common.{arith, subst}
-use Rattle.fak_queue.specs.Words.{IsUpperCount}
+use Rattle.fak_queue.proofs.Common.{arith, subst, IsUpperCount}
 use Rattle.fak_queue.proofs.Allowed.{adds_up_allowed}
 use Rattle.fak_queue.proofs.steps.insertion.add_up.Goals as goal
 

@@ -1,6 +1,4 @@
-use Rattle.fak_model.proofs.Seats.{whole_mine}
-use Rattle.fak_model.proofs.RunningJoins.{whole_set}
-use Rattle.fak_queue.specs.Queues.{seat_of}
+use Rattle.fak_queue.proofs.Common.{whole_mine, whole_set, seat_of}
 use Rattle.fak_queue.proofs.Tallies.{whole_rests}
 use Rattle.fak_queue.proofs.tally.Tally.is_whole.Goals as goal
 

@@ -1,6 +1,4 @@
-use Rattle.fak_model.proofs.RunningCalls.{token_names}
-use Rattle.fak_model.proofs.RunningJoins.{tally_token}
-use Rattle.fak_queue.specs.Queues.{seat_of}
+use Rattle.fak_queue.proofs.Common.{token_names, tally_token, seat_of}
 use Rattle.fak_queue.proofs.SeatCalls.{idle_token, just_one}
 use Rattle.fak_queue.proofs.Tallies.{seat_ended, one_idle}
 use Rattle.fak_queue.proofs.tally.Tally.of.Goals as goal

@@ -1,6 +1,5 @@
-use Rattle.std.proofs.Common.{ap, sym, ◌∙◌, subst}
+use Rattle.fak_sem.proofs.Common.{ap, sym, ◌∙◌, subst, SemInfo, SemTallyInfo}
 use Rattle.fak_model.specs.Seats.{IsWhole}
-use Rattle.fak_sem.specs.Semaphores.{SemInfo, SemTallyInfo}
 use Rattle.fak_sem.proofs.Joining.{tally_whole, tally_settled, whole_queue, settled}
 use Rattle.fak_sem.proofs.semaphore.Semaphore.close.Goals as goal
 

@@ -1,5 +1,4 @@
-use Rattle.std.proofs.Common.{ap, sym, ◌∙◌}
-use Rattle.fak_sem.specs.Semaphores.{SemTallyInfo, SemSeatInfo}
+use Rattle.fak_sem.proofs.Common.{ap, sym, ◌∙◌, SemTallyInfo, SemSeatInfo}
 use Rattle.fak_sem.proofs.Joining.{tally_joined}
 use Rattle.fak_sem.proofs.semaphore.Semaphore.join.Goals as goal
 

@@ -1,8 +1,4 @@
-use Rattle.std.proofs.Common.{rules, ◌≡◌, ◌-◌, ◌++◌, [], ◌∷◌, length, ap, sym, ◌∙◌, arith}
-use Rattle.fak_model.specs.declared.credit.CreditMark.{CreditMark}
-use Rattle.fak_model.specs.declared.queue.Mark.{Mark}
-use Rattle.fak_model.specs.Calls.{fresh_seats}
-use Rattle.fak_sem.specs.Semaphores.{fresh_sem_seats, sem_seat}
+use Rattle.fak_sem.proofs.Common.{rules, ◌≡◌, ◌-◌, ◌++◌, [], ◌∷◌, length, ap, sym, ◌∙◌, arith, CreditMark, Mark, fresh_seats, fresh_sem_seats, sem_seat}
 use Rattle.fak_model.proofs.FreshSeats.{length-fresh_seats, next_seat}
 use Rattle.fak_sem.proofs.Pairing.{fresh_sem_seat, fresh_paired, fresh_sem_next}
 use Rattle.fak_sem.proofs.semaphore.Semaphore.paired.Goals as goal

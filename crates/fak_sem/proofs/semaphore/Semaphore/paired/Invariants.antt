@@ -1,6 +1,4 @@
-use Rattle.std.proofs.Common.{◌≡◌, ◌-◌}
-use Rattle.fak_model.specs.Calls.{fresh_seats}
-use Rattle.fak_sem.specs.Semaphores.{fresh_sem_seats}
+use Rattle.fak_sem.proofs.Common.{◌≡◌, ◌-◌, fresh_seats, fresh_sem_seats}
 use Rattle.fak_sem.proofs.semaphore.Semaphore.paired.Given as goal
 
 -- the seats below this name are paired, and the others are to come

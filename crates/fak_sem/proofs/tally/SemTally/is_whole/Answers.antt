@@ -1,9 +1,6 @@
-use Rattle.std.proofs.Common.{subst, ◌<◌, All}
-use Rattle.fak_model.specs.declared.queue.Mark.{Mark}
-use Rattle.fak_model.proofs.Seats.{whole_mine}
+use Rattle.fak_sem.proofs.Common.{subst, ◌<◌, All, Mark, whole_mine, seat_of}
 use Rattle.fak_model.proofs.CreditLaw.{every_history}
 use Rattle.fak_count.specs.Credits.{seat_of as credit_name}
-use Rattle.fak_queue.specs.Queues.{seat_of}
 use Rattle.fak_sem.proofs.Joining.{whole_credit, whole_queue, credit_rests}
 use Rattle.fak_sem.proofs.tally.SemTally.is_whole.Goals as goal
 

@@ -1,5 +1,4 @@
-use Rattle.std.proofs.Common.{rules}
-use Rattle.fak_text.specs.HistoryText.{history_of, history_in, IsHistoryInRange}
+use Rattle.fak_text.proofs.Common.{rules, history_of, history_in, IsHistoryInRange}
 use Rattle.fak_text.proofs.ReadRange.{IfOk-from_Gives}
 use Rattle.fak_text.proofs.HistoryRange.{history_is_in_range}
 use Rattle.fak_text.proofs.reading.history.read_history.Goals as goal

@@ -1,6 +1,4 @@
-use Rattle.std.proofs.Common.{◌≡◌, drop}
-use Rattle.serde_json.specs.View.{items_view}
-use Rattle.fak_text.proofs.Common.{each_from, event_from}
+use Rattle.fak_text.proofs.Common.{each_from, event_from, ◌≡◌, drop, items_view}
 use Rattle.fak_text.proofs.Elements.{with_front}
 use Rattle.fak_text.proofs.reading.schedule.events_of.Given as goal
 

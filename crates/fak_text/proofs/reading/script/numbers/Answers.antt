@@ -1,6 +1,5 @@
-use Rattle.std.proofs.Common.{rules}
 use Rattle.std.proofs.lemmas.Result.{err_from_is_err_and}
-use Rattle.fak_text.proofs.Common.{next_index, number_from}
+use Rattle.fak_text.proofs.Common.{next_index, number_from, rules}
 use Rattle.fak_text.proofs.Elements.{goes_on, ends, is_done}
 use Rattle.fak_text.proofs.reading.script.numbers.Goals as goal
 

@@ -1,6 +1,4 @@
-use Rattle.std.proofs.Common.{◌≡◌, ◌≤◌, ◌<◌, ℕ, length, arith, rules, sym, subst, ◌∙◌, All}
-use Rattle.fak_model.proofs.Common.{length-map, All-weaker}
-use Rattle.fak_text.proofs.Common.{IsProgramInRange, steps_view, programs_of}
+use Rattle.fak_text.proofs.Common.{IsProgramInRange, steps_view, programs_of, ◌≡◌, ◌≤◌, ◌<◌, ℕ, length, arith, rules, sym, subst, ◌∙◌, All, length-map, All-weaker}
 use Rattle.fak_text.proofs.ReadRange.{numbers_are_few, numbers_are_below}
 use Rattle.fak_text.proofs.StepRange.{programs_are_few, programs_are_in_range}
 use Rattle.fak_text.proofs.reading.script.script_of_object.Goals as goal

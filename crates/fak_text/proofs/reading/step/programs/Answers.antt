@@ -1,7 +1,5 @@
-use Rattle.std.proofs.Common.{◌≡◌, ℕ, ◌+◌, ◌≤◌, ◌++◌, ◌∷◌, [], length, vec_len, rules, arith, ap, ◌∙◌}
-use Rattle.fak_model.proofs.Common.{err_from_is_err_and, map_push, length-map}
+use Rattle.fak_text.proofs.Common.{◌≡◌, ℕ, ◌+◌, ◌≤◌, ◌++◌, ◌∷◌, [], length, vec_len, rules, arith, ap, ◌∙◌, err_from_is_err_and, map_push, length-map, step_of, steps_view, programs_of}
 use Rattle.fak_text.specs.StepText.{program_from, index_after}
-use Rattle.fak_text.specs.Views.{step_of, steps_view, programs_of}
 use Rattle.fak_text.proofs.Elements.{goes_on, ends, is_done}
 use Rattle.fak_text.proofs.reading.step.programs.Goals as goal
 

@@ -1,7 +1,4 @@
-use Rattle.std.proofs.Common.{◌≡◌, ◌*◌, ◌≤◌, drop}
-use Rattle.serde_json.specs.View.{items_view}
-use Rattle.fak_text.specs.StepText.{programs_from}
-use Rattle.fak_text.specs.Views.{programs_of}
+use Rattle.fak_text.proofs.Common.{◌≡◌, ◌*◌, ◌≤◌, drop, items_view, programs_from, programs_of}
 use Rattle.fak_text.proofs.Elements.{with_front}
 use Rattle.fak_text.proofs.reading.step.programs.Given as goal
 

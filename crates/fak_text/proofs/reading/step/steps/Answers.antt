@@ -1,6 +1,4 @@
-use Rattle.std.proofs.Common.{◌≡◌, ◌++◌, ◌∷◌, [], rules, arith}
-use Rattle.fak_model.proofs.Common.{err_from_is_err_and, map_push}
-use Rattle.fak_text.proofs.Common.{step_from, next_index, step_of, steps_view}
+use Rattle.fak_text.proofs.Common.{step_from, next_index, step_of, steps_view, ◌≡◌, ◌++◌, ◌∷◌, [], rules, arith, err_from_is_err_and, map_push}
 use Rattle.fak_text.proofs.Elements.{goes_on, ends, is_done}
 use Rattle.fak_text.proofs.reading.step.steps.Goals as goal
 

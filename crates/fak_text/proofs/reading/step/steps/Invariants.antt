@@ -1,6 +1,4 @@
-use Rattle.std.proofs.Common.{◌≡◌, ◌+◌, drop, vec_len}
-use Rattle.serde_json.specs.View.{items_view}
-use Rattle.fak_text.proofs.Common.{step_from, each_from, steps_view}
+use Rattle.fak_text.proofs.Common.{step_from, each_from, steps_view, ◌≡◌, ◌+◌, drop, vec_len, items_view}
 use Rattle.fak_text.proofs.Elements.{with_front}
 use Rattle.fak_text.proofs.reading.step.steps.Given as goal
 

@@ -1,6 +1,4 @@
-use Rattle.std.proofs.Common.{◌∙◌, ap}
-use Rattle.fak_text.specs.Views.{programs_of}
-use Rattle.fak_text.proofs.Common.{ScriptOf}
+use Rattle.fak_text.proofs.Common.{ScriptOf, ◌∙◌, ap, programs_of}
 use Rattle.fak_text.proofs.script.Script.programs.Goals as goal
 
 pub returns-clause-value : goal.returns-clause-value

@@ -1,5 +1,4 @@
-use Rattle.std.proofs.Common.{ap}
-use Rattle.fak_text.proofs.Common.{ScriptOf}
+use Rattle.fak_text.proofs.Common.{ScriptOf, ap}
 use Rattle.fak_text.proofs.script.Script.quantum.Goals as goal
 
 pub returns-clause-value : goal.returns-clause-value

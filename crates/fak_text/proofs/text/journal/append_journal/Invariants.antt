@@ -1,5 +1,4 @@
-use Rattle.std.proofs.Common.{◌≡◌, ◌++◌, map, take, string_bytes}
-use Rattle.fak_text.proofs.Common.{text_of_journal, note_of}
+use Rattle.fak_text.proofs.Common.{text_of_journal, note_of, ◌≡◌, ◌++◌, map, take, string_bytes}
 use Rattle.fak_text.proofs.text.journal.append_journal.Given as goal
 
 abbrev pub invariant-loop-note : goal.invariant-loop-note

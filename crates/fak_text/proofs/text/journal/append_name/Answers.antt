@@ -1,5 +1,4 @@
-use Rattle.std.proofs.lemmas.Result.{on_ok_weaker}
-use Rattle.std.proofs.Common.{string_bytes}
+use Rattle.fak_text.proofs.Common.{on_ok_weaker, string_bytes}
 use Rattle.fak_text.proofs.NameText.{name_appended}
 use Rattle.fak_text.proofs.text.journal.append_name.Goals as goal
 

@@ -1,5 +1,4 @@
-use Rattle.std.proofs.Common.{◌≡◌, ◌++◌, take, string_bytes}
-use Rattle.fak_text.specs.JournalText.{child_prefix}
+use Rattle.fak_text.proofs.Common.{◌≡◌, ◌++◌, take, string_bytes, child_prefix}
 use Rattle.fak_text.proofs.text.journal.append_prefix.Given as goal
 
 abbrev pub invariant-loop-number : goal.invariant-loop-number

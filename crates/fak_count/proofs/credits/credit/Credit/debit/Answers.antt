@@ -1,6 +1,4 @@
-use Rattle.std.proofs.Common.{rules, refl, ◌∙◌, w64, arith}
-use Rattle.std.proofs.Math.Facts.{to_z-of_z}
-use Rattle.fak_model.proofs.RunningCalls.{token_name, token_left}
+use Rattle.fak_count.proofs.Common.{rules, refl, ◌∙◌, w64, arith, to_z-of_z, token_name, token_left}
 use Rattle.fak_count.proofs.CreditCalls.{same_table, found_fits, token_made, call_made}
 use Rattle.fak_count.proofs.credits.credit.Credit.debit.Goals as goal
 

@@ -1,8 +1,4 @@
-use Rattle.std.proofs.Common.{rules, ap}
-use Rattle.fak_model.proofs.RunningCalls.{token_slots}
-use Rattle.fak_model.proofs.RunningJoins.{tally_at, seat_at, may_join, token_joined, set_joined, call_joined}
-use Rattle.fak_count.specs.CreditShown.{credit_object}
-use Rattle.fak_count.specs.Credits.{CreditInfo}
+use Rattle.fak_count.proofs.Common.{rules, ap, token_slots, tally_at, seat_at, may_join, token_joined, set_joined, call_joined, credit_object, CreditInfo}
 use Rattle.fak_count.proofs.credits.credit.Credit.join.Goals as goal
 
 pub join_seat-requires : goal.join_seat-requires

@@ -1,7 +1,5 @@
-use Rattle.std.proofs.Common.{rules, ◌≡◌, ◌+◌, ◌++◌, [], ◌∷◌, ap, sym, refl, not, true, is_ok, ◌∙◌, arith}
+use Rattle.fak_count.proofs.Common.{rules, ◌≡◌, ◌+◌, ◌++◌, [], ◌∷◌, ap, sym, refl, not, true, is_ok, ◌∙◌, arith, deals, dealt_is, kept_is, fresh_token, fresh_next, credit_object}
 use Rattle.fak_model.specs.Calls.{object_id, seat_info}
-use Rattle.fak_model.proofs.RunningJoins.{deals, dealt_is, kept_is, fresh_token, fresh_next}
-use Rattle.fak_count.specs.CreditShown.{credit_object}
 use Rattle.fak_count.specs.Credits.{seat_of, credit_seat}
 use Rattle.fak_count.proofs.CreditSteps.{opens_credit}
 use Rattle.fak_count.proofs.CreditCalls.{fresh_credit_seat}

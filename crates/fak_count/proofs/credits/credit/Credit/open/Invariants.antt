@@ -1,6 +1,5 @@
-use Rattle.std.proofs.Common.{◌≡◌, []}
+use Rattle.fak_count.proofs.Common.{◌≡◌, [], rest_from}
 use Rattle.fak_model.specs.Calls.{object_id, fresh_seats}
-use Rattle.fak_model.proofs.RunningJoins.{rest_from}
 use Rattle.fak_count.proofs.credits.credit.Credit.open.Given as goal
 
 -- the seats below this one were dealt

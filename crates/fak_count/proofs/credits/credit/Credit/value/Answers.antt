@@ -1,6 +1,4 @@
-use Rattle.std.proofs.Common.{rules, refl, ◌∙◌, w64}
-use Rattle.std.proofs.Math.Facts.{to_z-of_z}
-use Rattle.fak_model.proofs.RunningCalls.{token_name, token_phase}
+use Rattle.fak_count.proofs.Common.{rules, refl, ◌∙◌, w64, to_z-of_z, token_name, token_phase}
 use Rattle.fak_count.proofs.CreditCalls.{same_table, observed_fits, token_observed, call_observed}
 use Rattle.fak_count.proofs.credits.credit.Credit.value.Goals as goal
 

@@ -1,6 +1,4 @@
-use Rattle.fak_model.proofs.Seats.{whole_mine}
-use Rattle.fak_model.proofs.RunningJoins.{whole_set}
-use Rattle.fak_model.proofs.CreditLaw.{every_history}
+use Rattle.fak_count.proofs.Common.{whole_mine, whole_set, every_history}
 use Rattle.fak_count.specs.Credits.{seat_of}
 use Rattle.fak_count.proofs.CreditCalls.{always_at_rest}
 use Rattle.fak_count.proofs.credits.tally.CreditTally.is_whole.Goals as goal

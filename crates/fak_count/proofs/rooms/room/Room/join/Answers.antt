@@ -1,10 +1,5 @@
-use Rattle.std.proofs.Common.{rules, ℕ, [], ◌∷◌, refl, ap, subst, reverse}
-use Rattle.fak_model.proofs.Common.{room_rules, object_id, SeatInfo, TallyInfo, tally_info, IsJoined}
+use Rattle.fak_count.proofs.Common.{rules, ℕ, [], ◌∷◌, refl, ap, subst, reverse, room_rules, object_id, SeatInfo, TallyInfo, tally_info, IsJoined, token_slots, tally_at, seat_at, may_join, token_joined, set_joined, call_joined, room_object, RoomInfo, IsSettled}
 use Rattle.fak_model.specs.declared.room.RoomMark.{RoomMark}
-use Rattle.fak_model.proofs.RunningCalls.{token_slots}
-use Rattle.fak_model.proofs.RunningJoins.{tally_at, seat_at, may_join, token_joined, set_joined, call_joined}
-use Rattle.fak_count.specs.RoomShown.{room_object}
-use Rattle.fak_count.specs.Rooms.{RoomInfo, IsSettled}
 use Rattle.fak_count.proofs.RoomCalls.{settled_joined}
 use Rattle.fak_count.proofs.rooms.room.Room.join.Goals as goal
 

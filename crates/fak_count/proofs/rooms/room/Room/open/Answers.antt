@@ -1,10 +1,5 @@
-use Rattle.std.proofs.Common.{rules, ◌≡◌, ◌+◌, ◌++◌, [], ◌∷◌, ap, sym, refl, not, true, is_ok, ◌∙◌, arith, reverse}
+use Rattle.fak_count.proofs.Common.{rules, ◌≡◌, ◌+◌, ◌++◌, [], ◌∷◌, ap, sym, refl, not, true, is_ok, ◌∙◌, arith, reverse, deals, dealt_is, kept_is, fresh_token, fresh_next, RoomHolder, room_object, room_seat, seat_of, amount_held, Idle}
 use Rattle.fak_model.specs.Calls.{object_id, seat_info}
-use Rattle.fak_model.proofs.RunningJoins.{deals, dealt_is, kept_is, fresh_token, fresh_next}
-use Rattle.fak_count.specs.RoomShown.{RoomHolder, room_object}
-use Rattle.fak_count.specs.Rooms.{room_seat}
-use Rattle.fak_model.specs.Room.{seat_of, amount_held}
-use Rattle.fak_core.specs.declared.room.phase.RoomPhase.TheVariants.{Idle}
 use Rattle.fak_count.proofs.RoomSteps.{opens_room}
 use Rattle.fak_count.proofs.RoomCalls.{fresh_room_seat, settled_none}
 use Rattle.fak_count.proofs.rooms.room.Room.open.Goals as goal

@@ -1,7 +1,4 @@
-use Rattle.std.proofs.Common.{rules, [], ◌∷◌, ◌-◌, refl, ◌∙◌, w64, arith}
-use Rattle.std.proofs.Math.Facts.{to_z-of_z}
-use Rattle.fak_model.specs.declared.room.RoomKind.TheVariants.{Release}
-use Rattle.fak_model.specs.Room.{Released}
+use Rattle.fak_count.proofs.Common.{rules, [], ◌∷◌, ◌-◌, refl, ◌∙◌, w64, arith, to_z-of_z, Release, Released}
 use Rattle.fak_count.proofs.RoomCalls.{did_release, at_room, same_table, own_token, holds_seen, held_old, seat_after, held_after, makes_call}
 use Rattle.fak_count.proofs.rooms.room.Room.release.Goals as goal
 

@@ -1,8 +1,4 @@
-use Rattle.std.proofs.Common.{rules, [], ◌∷◌, refl, ◌+◌, ◌-◌, ◌^◌, ◌<◌, ◌∙◌, w64, arith, inl, inr}
-use Rattle.std.proofs.Math.Facts.{to_z-of_z}
-use Rattle.fak_model.specs.declared.room.RoomKind.TheVariants.{Up, No}
-use Rattle.fak_model.specs.Room.{Granted, Refused, Withdrawn}
-use Rattle.fak_model.proofs.RunningCalls.{token_name, token_phase}
+use Rattle.fak_count.proofs.Common.{rules, [], ◌∷◌, refl, ◌+◌, ◌-◌, ◌^◌, ◌<◌, ◌∙◌, w64, arith, inl, inr, to_z-of_z, Up, No, Granted, Refused, Withdrawn, token_name, token_phase}
 use Rattle.fak_count.proofs.RoomCalls.{did_refuse, did_claim, did_withdraw, token_adding, token_backing, held_fits, at_room, own_token, within_stint, seat_after, held_after, makes_call, withdraws_claim}
 use Rattle.fak_count.proofs.rooms.room.Room.tir.Goals as goal
 

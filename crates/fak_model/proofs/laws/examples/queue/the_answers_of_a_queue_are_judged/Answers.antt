@@ -1,5 +1,4 @@
-use Rattle.std.proofs.Common.{[], ◌∷◌, ◌++◌, refl}
-use Rattle.fak_model.proofs.Common.{ClaimIn, OverIn, NoRoom, Put, Fill, EndIn, ClaimOut, OverOut, NoItem, Close, Closed, LateIn, by, deleted, inserted}
+use Rattle.fak_model.proofs.Common.{ClaimIn, OverIn, NoRoom, Put, Fill, EndIn, ClaimOut, OverOut, NoItem, Close, Closed, LateIn, by, deleted, inserted, [], ◌∷◌, ◌++◌, refl}
 use Rattle.fak_model.proofs.Examples.{queue_parts}
 use Rattle.fak_model.proofs.laws.examples.queue.the_answers_of_a_queue_are_judged.Goals as goal
 

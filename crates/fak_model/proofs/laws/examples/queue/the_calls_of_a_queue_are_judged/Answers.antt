@@ -1,5 +1,4 @@
-use Rattle.std.proofs.Common.{[], ◌∷◌, ◌++◌, refl}
-use Rattle.fak_model.proofs.Common.{ClaimIn, OverIn, BackIn, Put, Fill, EndIn, ClaimOut, OverOut, BackOut, NoItem, Got, Take, EndOut, Close, Closed, LateIn, by, inserted}
+use Rattle.fak_model.proofs.Common.{ClaimIn, OverIn, BackIn, Put, Fill, EndIn, ClaimOut, OverOut, BackOut, NoItem, Got, Take, EndOut, Close, Closed, LateIn, by, inserted, [], ◌∷◌, ◌++◌, refl}
 use Rattle.fak_model.proofs.Examples.{queue_parts}
 use Rattle.fak_model.proofs.laws.examples.queue.the_calls_of_a_queue_are_judged.Goals as goal
 

@@ -1,6 +1,4 @@
-use Rattle.std.proofs.Common.{[], ◌∷◌, refl}
-use Rattle.fak_model.specs.declared.room.RoomKind.TheVariants.{Up, Over, Back, No, Release}
-use Rattle.fak_model.specs.Examples.{room_by}
+use Rattle.fak_model.proofs.Common.{[], ◌∷◌, refl, Up, Over, Back, No, Release, room_by}
 use Rattle.fak_model.proofs.Examples.{room_parts}
 use Rattle.fak_model.proofs.laws.examples.room.the_answers_of_a_room_are_judged.Goals as goal
 

@@ -1,7 +1,5 @@
-use Rattle.std.proofs.Common.{refl, ◌∙◌, ◌<◌, length, ◌≡◌}
-use Rattle.fak_sem.specs.Semaphores.{SemInfo, SemSeatInfo}
+use Rattle.fak_processor.proofs.Common.{refl, ◌∙◌, ◌<◌, length, ◌≡◌, SemInfo, SemSeatInfo, ids_of, ids_of_seats}
 use Rattle.fak_text.specs.Journal.{Process}
-use Rattle.fak_processor.specs.Processors.{ids_of, ids_of_seats}
 use Rattle.fak_processor.proofs.Places.{alike_at, alike_after, down_at, passed_same}
 use Rattle.fak_processor.proofs.objects.semaphores.SemSeats.down.Goals as goal
 

@@ -1,5 +1,4 @@
-use Rattle.std.proofs.Common.{◌≡◌, replicate}
-use Rattle.fak_process.specs.Files.{free_entry}
+use Rattle.fak_processor.proofs.Common.{◌≡◌, replicate, free_entry}
 use Rattle.fak_processor.proofs.processor.files.Files.new.Given as goal
 
 abbrev pub invariant-loop : goal.invariant-loop

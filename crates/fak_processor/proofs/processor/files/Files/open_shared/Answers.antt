@@ -1,10 +1,5 @@
-use Rattle.std.proofs.Common.{◌∙◌, refl, inr, rules}
-use Rattle.fak_files.specs.declared.phase.Access.TheVariants.{Write}
 use Rattle.fak_text.specs.Journal.{opened}
-use Rattle.fak_processor.proofs.Common.{open_change, sets_of}
-use Rattle.fak_process.proofs.Holding.{taken_of, made_by_sets}
-use Rattle.fak_process.proofs.Storing.{stores_change}
-use Rattle.fak_process.proofs.OnlyFiles.{waited_for, ended, changes_files, open_one, keeps_files_then, stored_only}
+use Rattle.fak_processor.proofs.Common.{open_change, sets_of, ◌∙◌, refl, inr, rules, Write, taken_of, made_by_sets, stores_change, waited_for, ended, changes_files, open_one, keeps_files_then, stored_only}
 use Rattle.fak_processor.proofs.processor.files.Files.open_shared.Goals as goal
 
 pub returns-clause-only : goal.returns-clause-only

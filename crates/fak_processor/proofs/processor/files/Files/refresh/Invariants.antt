@@ -1,6 +1,5 @@
-use Rattle.std.proofs.Common.{◌≡◌, ◌<◌, ℕ, [], length, slice_get, Some}
+use Rattle.fak_processor.proofs.Common.{◌≡◌, ◌<◌, ℕ, [], length, slice_get, Some, HasJustTaken, Left}
 use Rattle.fak_files.specs.Versions.{entry_of}
-use Rattle.fak_process.specs.Making.{HasJustTaken, Left}
 use Rattle.fak_process.specs.OnlyFiles.{IsOnlyFiles, KeepsFiles}
 use Rattle.fak_processor.proofs.processor.files.Files.refresh.Given as goal
 

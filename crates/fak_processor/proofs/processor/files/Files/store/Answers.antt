@@ -1,6 +1,4 @@
-use Rattle.std.proofs.Common.{◌<◌, length}
-use Rattle.fak_process.proofs.OnlyFiles.{sets_entry, found_at}
-use Rattle.fak_process.proofs.Storing.{left_sets}
+use Rattle.fak_processor.proofs.Common.{◌<◌, length, sets_entry, found_at, left_sets}
 use Rattle.fak_processor.proofs.processor.files.Files.store.Goals as goal
 
 pub returns-clause-only : goal.returns-clause-only

@@ -1,9 +1,5 @@
-use Rattle.std.proofs.Common.{◌∙◌, [], ap, inl, refl, sym}
-use Rattle.fak_files.specs.declared.phase.Access.TheVariants.{Read}
+use Rattle.fak_processor.proofs.Common.{◌∙◌, [], ap, inl, refl, sym, Read, uses_of, taken_of, made_by_sets, left_none, waited_for, ended, keeps_files_then}
 use Rattle.fak_text.specs.Journal.{statted}
-use Rattle.fak_process.specs.Files.{uses_of}
-use Rattle.fak_process.proofs.Holding.{taken_of, made_by_sets, left_none}
-use Rattle.fak_process.proofs.OnlyFiles.{waited_for, ended, keeps_files_then}
 use Rattle.fak_processor.proofs.processor.files.Files.uses_shared.Goals as goal
 
 pub returns-clause-only : goal.returns-clause-only

@@ -1,8 +1,6 @@
-use Rattle.std.proofs.Common.{◌≡◌, ℕ, ◌+◌, vec_len, get_or, arith, subst}
-use Rattle.std.specs.Vec.Iter.{into_iter_len, into_iter_items}
 use Rattle.std.proofs.iter.Serving.{serving}
 use Rattle.std.proofs.lemmas.Grind.{common_steps}
-use Rattle.fak_kernel.proofs.Common.{ProcessorOf, HasBegun}
+use Rattle.fak_kernel.proofs.Common.{ProcessorOf, HasBegun, ◌≡◌, ℕ, ◌+◌, vec_len, get_or, arith, subst, into_iter_len, into_iter_items}
 use Rattle.fak_kernel.proofs.Indexing.{first_of, rest_of}
 use Rattle.fak_kernel.proofs.run_threads.leaving.fn.leave_all.scope.Goals as goal
 

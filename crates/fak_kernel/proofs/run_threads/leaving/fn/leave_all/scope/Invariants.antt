@@ -1,6 +1,4 @@
-use Rattle.std.proofs.Common.{◌≡◌, ℕ, ◌+◌, ◌<◌, vec_items, vec_len, get_or}
-use Rattle.std.specs.Vec.Iter.{into_iter_len, into_iter_items}
-use Rattle.fak_kernel.specs.Threads.{HasBegun}
+use Rattle.fak_kernel.proofs.Common.{◌≡◌, ℕ, ◌+◌, ◌<◌, vec_items, vec_len, get_or, into_iter_len, into_iter_items, HasBegun}
 use Rattle.fak_kernel.proofs.run_threads.leaving.fn.leave_all.scope.Given as goal
 
 -- the handles so far are those of the first processors, and the others are still to begin

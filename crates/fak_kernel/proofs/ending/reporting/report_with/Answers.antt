@@ -1,0 +1,5 @@
+use Rattle.std.proofs.Common.{rules}
+use Rattle.fak_kernel.proofs.ending.reporting.report_with.Goals as goal
+
+pub returns : goal.returns
+returns c = search rules
