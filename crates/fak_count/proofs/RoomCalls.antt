@@ -193,7 +193,7 @@ module _ {key : RoomLimits} {left seats name held : ℕ} {table mine : TableId} 
     appended : Appends (room_rules key.bound) marks (seat_info (object_id mine seats) name (left + grants_of name (reverse m.0.seen)) (reverse m.0.seen)) (seat_info (object_id mine seats) name (left + grants_of name (reverse m.0.seen)) (reverse after.0.seen))
     appended = d.appends (object_id mine seats) (left + grants_of name (reverse m.0.seen)) same_seats
 
-    -- the seat as it is after these whole calls, where so much is held
+    -- the seat as it is after these whole calls, where this much is held
     pub seat_after : (calls : List WholeCall) → map kind_of marks ≡ flat_map kinds_of_call calls → (held' : ℕ) → held' + sum_by release_amount (map kind_of marks) ≡ held + sum_by up_amount (map kind_of marks)
         → IsSeatToken seat_of seats name Idle 0 after × (held' ≡ amount_held name (reverse after.0.seen)) × IsSettled (name ∷ []) (reverse after.0.seen)
     seat_after calls are held' is =

@@ -22,7 +22,7 @@ seat_of m = m.seat
 abbrev pub calls_made : SeatInfo CreditMark → ℕ
 calls_made s = length (mine_of seat_of s)
 
--- a seat of this object, name and view, with so many calls left of its stint
+-- a seat of this object, name and view, with this many calls left of its stint
 abbrev pub credit_seat : ObjectId → ℕ → ℕ → CreditHolder → SeatInfo CreditMark
 credit_seat object name left me = seat_info object name (left + length (marks_of seat_of name (reverse me.0.seen))) (reverse me.0.seen)
 

@@ -35,7 +35,7 @@ granted_claims s = grants_of s.name s.seen
 abbrev pub held_amount : SeatInfo RoomMark → ℕ
 held_amount s = amount_held s.name s.seen
 
--- a seat of this object, name and view, with so many claims left of its stint
+-- a seat of this object, name and view, with this many claims left of its stint
 abbrev pub room_seat : ObjectId → ℕ → ℕ → RoomHolder → SeatInfo RoomMark
 room_seat object name left me = seat_info object name (left + grants_of name (reverse me.0.seen)) (reverse me.0.seen)
 

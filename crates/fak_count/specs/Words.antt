@@ -14,6 +14,6 @@ pub record KeepsCount (count : ℤ) (words : List ℕ) : Type 0 where
   pub wide : length words ≡ width
   pub count_is : pos (slice_index words count_place) ≡ pos bias +ℤ count
 
--- a seat's table is this one, of so many words, and it was made with this key
+-- a seat's table is this one, of this many words, and it was made with this key
 abbrev pub FitsTable : {K : Type 0} → TableId → TableId → K → K → Type 0
 FitsTable of_seat table key made_with = (of_seat ≡ table) × (table.words ≡ width) × (key ≡ made_with)

@@ -57,10 +57,8 @@ fn credits_out_of_range_are_not_opened(rt: HostRuntime) {
         (1, 1, 0, OpenFault::BadStint),
         (1, 1, 1_099_511_627_777, OpenFault::BadStint),
     ] {
-        match Credit::open(rt.alloc(), start, seats, stint) {
-            Ok((_opened, _dealt)) => panic!(rt; "opened"),
-            Err(found) => assert_eq!(rt; found, fault),
-        }
+        let found = Credit::open(rt.alloc(), start, seats, stint).expect_err(&rt, "opened");
+        is(&rt, found, fault);
     }
     let (_widest, seats) = Credit::open(rt.alloc(), 4_294_967_296, 64, 1_099_511_627_776).expect(
         &rt, "widest",
@@ -77,7 +75,7 @@ fn is_granted(tally: &CreditTally) -> bool
     tally.is_whole()
 }
 
-// So many debits.
+// Makes this many debits.
 fn debits(credit: &Credit, mut seat: CreditSeat, count: usize) -> CreditSeat
     requires { seat.object ≡ credit.now.object }
     ensures { result.object ≡ credit.now.object }
@@ -88,7 +86,7 @@ fn debits(credit: &Credit, mut seat: CreditSeat, count: usize) -> CreditSeat
     seat
 }
 
-// So many credits.
+// Makes this many credits.
 fn credits(credit: &Credit, mut seat: CreditSeat, count: usize) -> CreditSeat
     requires { seat.object ≡ credit.now.object }
     ensures { result.object ≡ credit.now.object }

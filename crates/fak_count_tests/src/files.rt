@@ -228,7 +228,7 @@ fn last_file(table: FileTable, tally: FileTally, i: u64) -> u64
     table.close(tally).get(i).inode
 }
 
-// So many writer's holds of an entry that stays as it is.
+// Makes this many writer's holds of an entry that stays as it is.
 fn hold_often(table: &FileTable, mut seat: FileSeat, holds: u64) -> FileSeat
     requires { IsFreeSeatOf table.now.object seat }
     ensures { IsFreeSeatOf table.now.object result }
@@ -283,7 +283,7 @@ fn meet(here: &AtomicU64) {
     }
 }
 
-// So many writer's holds, the j-th of which sets both fields of entry 0 to j.
+// Makes this many writer's holds, the j-th of which sets both fields of entry 0 to j.
 fn write_in_turn<R: Wait>(rt: &R, table: &FileTable, mut seat: FileSeat, count: u64) -> FileSeat
     requires object { (seat.seat.object ≡ table.now.object) × (0 < table.now.entries) }
     requires idle { seat.hold ≡ Nothing }
@@ -301,8 +301,8 @@ fn write_in_turn<R: Wait>(rt: &R, table: &FileTable, mut seat: FileSeat, count: 
     seat
 }
 
-// So many reader's holds, with two looks at entry 0 in each: whether both looks were equal, their fields too, and no
-// look found less than an earlier one.
+// Makes this many reader's holds, with two reads of entry 0 in each: whether both reads were equal, their fields too, and no
+// read found less than an earlier one.
 fn read_in_turn<R: Wait>(
     rt: &R,
     table: &FileTable,

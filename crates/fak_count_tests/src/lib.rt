@@ -6,4 +6,8 @@
 mod credits;
 mod files;
 #[cfg(test)]
+mod openings;
+#[cfg(test)]
+mod prints;
+#[cfg(test)]
 mod rooms;

@@ -45,6 +45,55 @@ fn a_room_of_bound_0_is_full(rt: HostRuntime) {
 }
 
 #[test]
+fn a_worn_seat_is_told_so_in_a_full_room(rt: HostRuntime) {
+    let (room, mut seats) = Room::open(rt.alloc(), 1, 2, 1).expect(&rt, "open");
+    let mut b = seats.pop().expect(&rt, "two seats");
+    let mut a = seats.pop().expect(&rt, "two seats");
+    is(&rt, room.tir(&mut a, 1), Ok(0));
+    is(&rt, room.tir(&mut b, 1), Err(TirFault::AtBound(1)));
+    is(&rt, room.tir(&mut a, 1), Err(TirFault::Worn));
+    is(&rt, room.tir(&mut a, 1024), Err(TirFault::Worn));
+    is(&rt, (a.left(), a.held()), (0, 1));
+}
+
+// Whether one seat may claim this amount of a room of 1,024 and give it back, while the other is refused one more than is left.
+fn fits(room: &Room, a: &mut RoomSeat, b: &mut RoomSeat, d: u64) -> bool
+    requires amount { (1 ≤ d) × (d ≤ 1024) }
+    requires seats { IsSeatOf room.now.object a.old × IsSeatOf room.now.object b.old }
+    ensures seats { IsSeatOf room.now.object a.new × IsSeatOf room.now.object b.new }
+{
+    let Ok(0) = room.tir(a, d) else {
+        return false;
+    };
+    if room.tir(b, 1025 - d) != Err(TirFault::AtBound(d as i64)) {
+        return false;
+    }
+    room.release(a, d) == d as i64
+}
+
+// Claims and gives back each amount that a claim may have.
+fn each_amount_fits(rt: &impl Abort, room: &Room, mut a: RoomSeat, mut b: RoomSeat)
+    requires { IsSeatOf room.now.object a × IsSeatOf room.now.object b }
+{
+    for d in 1..1025 {
+        assert!(rt; fits(room, &mut a, &mut b, d), "{d}");
+    }
+    is(
+        rt,
+        (a.left(), a.held(), b.left(), b.held()),
+        (0, 0, 1024, 0),
+    );
+}
+
+#[test]
+fn amounts_from_1_to_1_024(rt: HostRuntime) {
+    let (room, mut seats) = Room::open(rt.alloc(), 1024, 2, 1024).expect(&rt, "open");
+    let b = seats.pop().expect(&rt, "two seats");
+    let a = seats.pop().expect(&rt, "two seats");
+    each_amount_fits(&rt, &room, a, b);
+}
+
+#[test]
 fn rooms_out_of_range_are_not_opened(rt: HostRuntime) {
     for (bound, seats, stint, fault) in [
         (4_294_967_297, 1, 1, OpenFault::BadSize),
@@ -54,10 +103,8 @@ fn rooms_out_of_range_are_not_opened(rt: HostRuntime) {
         (1, 1, 0, OpenFault::BadStint),
         (1, 1, 1_099_511_627_777, OpenFault::BadStint),
     ] {
-        match Room::open(rt.alloc(), bound, seats, stint) {
-            Ok((_opened, _dealt)) => panic!(rt; "opened"),
-            Err(found) => assert_eq!(rt; found, fault),
-        }
+        let found = Room::open(rt.alloc(), bound, seats, stint).expect_err(&rt, "opened");
+        is(&rt, found, fault);
     }
     let (_widest, seats) = Room::open(rt.alloc(), 4_294_967_296, 64, 1_099_511_627_776).expect(
         &rt, "widest",
@@ -65,7 +112,7 @@ fn rooms_out_of_range_are_not_opened(rt: HostRuntime) {
     assert_eq!(rt; seats.len(), 64);
 }
 
-// So many claims of 1, each with its release where it is granted.
+// Makes this many claims of 1, each with its release where it is granted.
 fn rounds(room: &Room, mut seat: RoomSeat, count: usize) -> RoomSeat
     requires { seat.object ≡ room.now.object }
     ensures { result.object ≡ room.now.object }

@@ -8,7 +8,7 @@ use Rattle.fak_model.proofs.FileRest.{needs, leads, calls_run, holds_total}
 
 -- ---- one mark more
 
--- the count after a mark of a seat that holds so much
+-- the count after a mark of a seat that holds this much
 abbrev pub count_after : ℤ → ℕ → FileKind → ℤ
 count_after n held kind = n +ℤ pos (back_amount kind + gives held kind) -ℤ pos (take_amount kind + over_amount kind)
 

@@ -39,7 +39,7 @@ file_seat_after {name} {seats} {after = after} next f x is stands = record {
 }
 
 module _ (object object' : ObjectId) (same : object' ≡ object) (name left : ℕ) (hold : Hold) (m after : FileHolder) where
-  -- the marks that a call leaves, where so many holds are left then
+  -- the marks that a call leaves, where this many holds are left then
   pub leaves_of : (kinds : List FileKind) (phase : FilePhase) → Makes object.seats name kinds phase m after → (left' : ℕ) → left' + sum_by one_hold (map (mark name) kinds) ≡ left → (next : Hold)
       → LeavesMarks kinds (seat_now object name left hold m).seat (seat_now object' name left' next after).seat
   leaves_of kinds phase x left' fits next =

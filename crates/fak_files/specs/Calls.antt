@@ -134,7 +134,7 @@ pub record IsEnded (old new : FileSeatInfo) : Type 0 where
 
 -- ---- the end
 
--- the entries from `entry` on, so many of them, after a history
+-- the entries from `entry` on, this many of them, after a history
 abbrev pub entries_after : List FileMark → ℕ → ℕ → List FileEntry
 entries_after h entry zero = []
 entries_after h entry (suc n) = entry_of h entry ∷ entries_after h (suc entry) n

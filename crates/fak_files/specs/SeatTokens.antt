@@ -16,7 +16,7 @@ use Rattle.fak_files.specs.Phases.{phase_of, StandsIn}
 use Rattle.fak_files.specs.Shown.{FileHolder, mark}
 use Rattle.fak_files.specs.Calls.{FileSeatInfo, file_seat, holds_of}
 
--- a seat of this object, with so many holds left of its stint
+-- a seat of this object, with this many holds left of its stint
 abbrev pub seat_now : ObjectId → ℕ → ℕ → Hold → FileHolder → FileSeatInfo
 seat_now object name left hold me = file_seat (seat_info object name (left + holds_of name (reverse me.0.seen)) (reverse me.0.seen)) hold
 
@@ -40,7 +40,7 @@ pub record Makes (seats name : ℕ) (kinds : List FileKind) (phase : FilePhase) 
 abbrev pub before_steps : ℕ → FileHolder → FileHolder → List FileMark
 before_steps name m after = before_mark seat_of name (length (marks_of seat_of name (reverse m.0.seen)) + 0) (reverse after.0.seen)
 
--- a claim of so much was refused, or withdrawn
+-- a claim of this much was refused, or withdrawn
 pub record Misses (seats name n : ℕ) (m after : FileHolder) (answer : ℤ) : Type 0 where
   pub makes : Makes seats name (No n ∷ []) Idle m after ⊎ Makes seats name (Over n ∷ Back n ∷ []) Idle m after
   pub answers : answer ≡ count seats (before_steps name m after)

@@ -12,7 +12,7 @@ count_place = 16
 abbrev pub fields_place : ℕ
 fields_place = 32
 
--- how many words so many entries make
+-- how many words this many entries make
 abbrev pub width : ℕ → ℕ
 width entries = fields_place + 2 * entries
 
@@ -24,6 +24,6 @@ offset_of Uses = 1
 abbrev pub word_of : ℕ → FileField → ℕ
 word_of entry f = fields_place + 2 * entry + offset_of f
 
--- a seat's table is this one, of so many words, and it was made with this key
+-- a seat's table is this one, of this many words, and it was made with this key
 abbrev pub FitsTable : TableId → TableId → FileLimits → FileLimits → Type 0
 FitsTable of_seat table key made_with = (of_seat ≡ table) × (table.words ≡ width key.entries) × (key ≡ made_with)

@@ -2,7 +2,7 @@
 
 //! A file table of a few entries that seats share as readers and writers, by one count and fetch-and-add with a test and a
 //! retest (A. Gottlieb, B. D. Lubachevsky and L. Rudolph, ACM TOPLAS 5(2), 1983): a reader lowers the count by 1, a writer by
-//! the number of seats, so that a writer is alone. Each call stands once in one history.
+//! the number of seats, so that a writer is alone. Each call occurs once in one history.
 //!
 //! - `FileTable::open(alloc, entries, seats, stint)` answers the table and its seats.
 //! - `try_read` and `try_write` take a hold or are refused; `read` and `write` wait for it. `end` gives it back.

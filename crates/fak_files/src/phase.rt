@@ -1,4 +1,4 @@
-//! Where a seat stands, and what it holds.
+//! The phase of a seat, and what it holds.
 
 ghost use Rattle.std.specs.Prelude.{◌≡◌, ◌≢◌};
 
@@ -12,7 +12,7 @@ pub enum Access {
 impl Access {
     ghost use Rattle.fak_files.specs.Phases.{amount_of, hold_for};
 
-    /// What a hold takes of a count of so many seats.
+    /// What a hold takes of a count of this many seats.
     pub(crate) fn amount(self, seats: u64) -> u64
         ensures { result ≡ amount_of seats self }
     {
@@ -33,7 +33,7 @@ impl Access {
     }
 }
 
-/// Where a seat stands in a call.
+/// The phase of a seat in a call.
 pub enum FilePhase {
     /// It holds nothing, and is in no call.
     Idle,

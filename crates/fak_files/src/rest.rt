@@ -4,6 +4,7 @@ ghost use Rattle.std.specs.Prelude.{◌≡◌, ◌<◌, length, slice_get, Some}
 
 use crate::words::MOST_ENTRIES;
 use fak_model::FileEntry;
+use std::fmt;
 use std::marker::Model;
 
 /// The entries of a file table that was closed.
@@ -32,5 +33,14 @@ impl FileRest {
     {
         let row = &self.entries;
         row[i as usize]
+    }
+}
+
+impl fmt::Debug for FileRest {
+    fn fmt<W: fmt::Write>(&self, f: &mut fmt::Formatter<W>) -> fmt::Result {
+        let entries = &self.entries[..self.count as usize];
+        f.debug_struct("FileRest")
+            .field("entries", &entries)
+            .finish()
     }
 }

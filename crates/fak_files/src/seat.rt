@@ -5,6 +5,7 @@ ghost use Rattle.fak_files.specs.Calls.{IsHoldOf};
 
 use crate::phase::Hold;
 use crate::steps::FileToken;
+use std::fmt;
 use std::marker::Model;
 
 /// The right to hold a `FileTable`, as often as its stint says. Contracts see its object, its name, its stint, the
@@ -37,5 +38,15 @@ impl FileSeat {
         ensures marks { IsHoldOf self.now.seat self.now.hold }
     {
         self.hold
+    }
+}
+
+impl fmt::Debug for FileSeat {
+    fn fmt<W: fmt::Write>(&self, f: &mut fmt::Formatter<W>) -> fmt::Result {
+        f.debug_struct("FileSeat")
+            .field("name", &self.name)
+            .field("hold", &self.hold)
+            .field("left", &self.left)
+            .finish_non_exhaustive()
     }
 }

@@ -16,6 +16,7 @@ use crate::steps::{get_field, give, set_field};
 use atomic_table::Table;
 use fak_model::{FileEntry, FileField};
 use std::alloc::Global;
+use std::fmt;
 use std::marker::{Brand, Model};
 
 /// Entries that many seats may read at once, or one seat may write.
@@ -76,7 +77,7 @@ impl FileTable {
         self.try_hold(seat, Access::Read)
     }
 
-    /// A writer's hold, beside which nobody holds.
+    /// A writer's hold, beside which no seat holds.
     ///
     /// `Worn` where the seat has had as many holds as its stint; `Busy` with the count that was found, where others
     /// hold or have just tried to.
@@ -130,5 +131,13 @@ impl FileTable {
         let amount = access.amount(seat.seats);
         give::<Brand>(&self.table.shared, &mut seat.token, amount, access);
         seat.hold = Hold::Nothing;
+    }
+}
+
+impl fmt::Debug for FileTable {
+    fn fmt<W: fmt::Write>(&self, f: &mut fmt::Formatter<W>) -> fmt::Result {
+        f.debug_struct("FileTable")
+            .field("entries", &self.entries)
+            .finish_non_exhaustive()
     }
 }

@@ -10,6 +10,7 @@ ghost use Rattle.fak_files.specs.declared.phase.Hold.TheVariants.{Nothing};
 use crate::seat::FileSeat;
 use crate::steps::FileToken;
 use fak_model::NameSet;
+use std::fmt;
 use std::marker::Model;
 
 /// Seats of a file table that make no calls any more. Contracts see their object, their names, and the longest
@@ -71,5 +72,14 @@ impl FileTally {
         ensures rest { IsTrue result → IsAtRest (file_rules self.now.object.seats) self.now.seen }
     {
         self.names.has_all(self.seats)
+    }
+}
+
+impl fmt::Debug for FileTally {
+    fn fmt<W: fmt::Write>(&self, f: &mut fmt::Formatter<W>) -> fmt::Result {
+        f.debug_struct("FileTally")
+            .field("seats", &self.seats)
+            .field("is_whole", &self.is_whole())
+            .finish_non_exhaustive()
     }
 }

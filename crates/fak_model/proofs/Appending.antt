@@ -107,7 +107,7 @@ last_calls rules h m law = subst (AreCalls rules.words_of) (seat_words-own rules
 pub last_fair : {M W C : Type 0} (rules : Rules M W C) (h : List M) (m : M) → IsHistory rules (h ++ m ∷ []) → rules.IsFair h m
 last_fair rules h m law = law.fair h m [] refl
 
--- every beginning of a history is one
+-- every prefix of a history is a history
 pub history_prefix : {M W C : Type 0} (rules : Rules M W C) (h rest : List M) → IsHistory rules (h ++ rest) → IsHistory rules h
 history_prefix {M} rules h = snoc_ind (λ (rest : List M). IsHistory rules (h ++ rest) → IsHistory rules h)
     (λ law. subst (IsHistory rules) (append-nil h) law)

@@ -62,7 +62,7 @@ stage_counted h p g OverOut e f = refl
 stage_counted h p g (Take k) e f = refl
 stage_counted h p g _ e f = refl
 
--- the stage that is read off the newest mark of a seat, before which so many draws are left
+-- the stage that is read off the newest mark of a seat, with this many draws left before it
 pub stage_found : (past : List (Mark ℕ)) (i j s p g : ℕ) (d : Mark ℕ) (r : Stage ℕ) → j + 1 ≡ i → j < length past → (get_or past j d).seat ≡ s → stage (reverse past) s ≡ stage (reverse (take i past)) s
     → p ≡ count puts (reverse (take i past)) → g ≡ count gots (reverse (take i past)) → r ≡ stage_with (p - puts (get_or past j d).kind) (g - gots (get_or past j d).kind) (get_or past j d).kind → r ≡ stage (reverse past) s
 stage_found past i j s p g d r next l own stays ps gs is =

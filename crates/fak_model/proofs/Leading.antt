@@ -47,7 +47,7 @@ pub sum_same : (f g : ℕ → ℕ) (n : ℕ) → ((k : ℕ) → k < n → f k �
 sum_same f g zero h = refl
 sum_same f g (suc n) h = omega (arith, sum_same f g n (λ k l. h k (omega arith)), h n (omega arith))
 
-sum_le : (f g : ℕ → ℕ) (n : ℕ) → ((k : ℕ) → f k ≤ g k) → sum_below f n ≤ sum_below g n
+pub sum_le : (f g : ℕ → ℕ) (n : ℕ) → ((k : ℕ) → f k ≤ g k) → sum_below f n ≤ sum_below g n
 sum_le f g zero h = omega arith
 sum_le f g (suc n) h = omega (arith, sum_le f g n h, h n)
 
@@ -67,7 +67,7 @@ pub sum_plus : (f g : ℕ → ℕ) (n : ℕ) → sum_below (λ k. f k + g k) n �
 sum_plus f g zero = refl
 sum_plus f g (suc n) = omega (arith, sum_plus f g n)
 
--- what is at most so much at each seat is at most so much for each
+-- a bound for each seat bounds every seat
 pub sum_most : (f : ℕ → ℕ) (most n : ℕ) → ((k : ℕ) → k < n → f k ≤ most) → sum_below f n ≤ n * most
 sum_most f most zero h = omega arith
 sum_most f most (suc n) h =

@@ -12,6 +12,7 @@ pub mod FileRest
 pub mod QueueStages
 pub mod QueueTickets
 pub mod QueueCounts
+pub mod QueueDrawn
 pub mod QueueWords
 pub mod QueueBackwards
 pub mod QueueLiteral

@@ -229,7 +229,7 @@ claims_out_bounded size (m ∷ h) l =
           let d = count_two lower_drop a_claim_out an_over_out lower_drop_two h in omega arith)
     ]
 
--- whoever has claimed a deletion and drawn no ticket finds an item that nobody has got
+-- a seat that has claimed a deletion and drawn no ticket finds an item that nobody has got
 pub claimed_out_left : {A : Type 0} (size : ℕ) (h : List (Mark A)) → IsLegalPast size h → (s : ℕ) → stage h s ≡ ClaimedOut → count gots h < count puts h
 claimed_out_left size h l s e =
     let below = seats_more (seat_bound h) (suc s + seat_bound h) h (omega arith) (seats_bounded h) in

@@ -1,11 +1,11 @@
--- A claim of 1 is refused only where so many were granted as the bound says.
+-- A claim of 1 is refused only where as many were granted as the bound says.
 use Rattle.fak_model.proofs.Common.{ints, cases_lt, nat_tests, RoomKind, Up, Over, Back, No, Release, RoomMark, AreNamed, refusal_of, other_amount, ◌≡◌, ℕ, ◌+◌, ◌<◌, ◌≤◌, List, refl, arith, inl, inr}
 use Rattle.fak_model.specs.Room.{kind_of, total, up_amount, over_amount, back_amount, release_amount, IsFair, room_rules, IsRoomHistory}
 use Rattle.fak_model.proofs.Appending.{snoc_ind, history_front, last_fair}
 use Rattle.fak_model.proofs.Leading.{total_push}
 use Rattle.fak_model.proofs.RoomLaw.{held_fits}
 
--- so far no claim was refused, and so none was withdrawn; or so many were granted
+-- so far no claim was refused, and so none was withdrawn; or as many were granted as the bound says
 refused_here : (bound : ℕ) (h : List RoomMark) (seat : ℕ) (kind : RoomKind) → IsFair bound h seat kind → 0 < refusal_of kind → other_amount kind ≡ 0
     → bound + (total back_amount h + total release_amount h) ≤ total up_amount h + total over_amount h
 refused_here bound h seat (No d) fair some one = let d_is : d ≡ 1 = grind (arith, nat_tests) in omega (arith, ints, fair, d_is)

@@ -66,7 +66,7 @@ mine_none {M} seat_of names (m ∷ h) none = by (is_in (seat_of m) names) refl (
       absurd (cc)
   by false is later = rw is (later (λ n i. tail_none n (seat_of m == n) refl (none n i)))
 
--- whoever knows all marks of the names knows all that are mine
+-- all marks of the names determine the own marks
 pub mine_known : {M : Type 0} (seat_of : M → ℕ) (names : List ℕ) (seen h : List M) → Knows seat_of names seen h → mine seat_of names h ≡ mine seat_of names seen
 mine_known {M} seat_of names seen h k =
     let his : M → Bool = λ (m : M). is_in (seat_of m) names in

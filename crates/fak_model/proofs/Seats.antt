@@ -5,7 +5,7 @@ use Rattle.fak_model.proofs.Appending.{history_prefix}
 pub begins_self : {M : Type 0} (h : List M) → Begins h h
 begins_self h = ([], append-nil h)
 
--- of two beginnings of one list one begins the other
+-- of two prefixes of one list one is a prefix of the other
 pub one_begins : {M : Type 0} (s t h : List M) → Begins s h → Begins t h → Begins s t ⊎ Begins t s
 one_begins [] t h a b = inl (t, refl)
 one_begins (x ∷ s) [] h a b = inr (x ∷ s, refl)

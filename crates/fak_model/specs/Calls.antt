@@ -22,7 +22,7 @@ pub record SeatInfo (M : Type 0) : Type 0 where
 abbrev pub seat_info : {M : Type 0} → ObjectId → ℕ → ℕ → List M → SeatInfo M
 seat_info object name stint seen = record { object = object; name = name; stint = stint; seen = seen }
 
--- the seats named from `name` on, so many of them, as they are opened
+-- the seats named from `name` on, this many of them, as they are opened
 abbrev pub fresh_seats : {M : Type 0} → ObjectId → ℕ → ℕ → ℕ → List (SeatInfo M)
 fresh_seats object stint name zero = []
 fresh_seats object stint name (suc n) = seat_info object name stint [] ∷ fresh_seats object stint (suc name) n

@@ -27,7 +27,7 @@ pub record AreCounts (h : List (Mark ℕ)) (c : Counts) : Type 0 where
   pub oldest_within : c.oldest ≤ length h
   pub oldest_is : count puts (reverse (take c.oldest h)) ≡ c.gots
 
--- the stage of a seat whose newest mark is of this kind, with so many Puts and Gots before it
+-- the stage of a seat whose newest mark is of this kind, with this many Puts and Gots before it
 abbrev pub stage_with : ℕ → ℕ → Kind ℕ → Stage ℕ
 stage_with p g ClaimIn = Claimed
 stage_with p g OverIn = Withdrawing
@@ -40,7 +40,7 @@ stage_with p g (Got x) = Getting g
 stage_with p g (Take k) = Taken k
 stage_with p g _ = Idle
 
--- the next Put, at this index and with this item, is the one with the ticket that so many Puts before it make
+-- the next Put, at this index and with this item, is the one with the ticket that this many Puts before it make
 pub record IsPutAt (h : List (Mark ℕ)) (ticket i x : ℕ) : Type 0 where
   pub inside : i < length h
   pub item : item_of (reverse h) ticket ≡ Some x

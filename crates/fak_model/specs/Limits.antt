@@ -4,7 +4,7 @@ use Rattle.std.specs.Prelude.{ℕ, ◌≤◌}
 abbrev pub IsNumberOfSeats : ℕ → Type 0
 IsNumberOfSeats seats = (1 ≤ seats) × (seats ≤ 64)
 
--- 2^40: so many tickets, changes of a count, or holds
+-- 2^40 tickets, changes of a count, or holds
 abbrev pub longest_stint : ℕ
 longest_stint = 1099511627776
 

@@ -144,7 +144,7 @@ IsFirstOut before _ = Unit {0}
 
 -- ---- cells
 
--- the seat's last mark is this draw, before which so many such draws stand
+-- the seat's last mark is this draw, with this many such draws before it
 pub record Drew {T : Type 0} (before : List (Mark T)) (seat : ℕ) (draw : Kind T) (draws : Kind T → ℕ) (ticket : ℕ) : Type 0 where
   pub earlier : List (Mark T)
   pub m : Mark T

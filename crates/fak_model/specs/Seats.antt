@@ -23,12 +23,12 @@ marks_of {M} seat_of name h = filter (λ (m : M). seat_of m == name) h
 abbrev pub mine : {M : Type 0} → (M → ℕ) → List ℕ → List M → List M
 mine {M} seat_of names seen = filter (λ (m : M). is_in (seat_of m) names) seen
 
--- whoever bears these names has seen a beginning of h, and no mark of these names lies beyond it
+-- a seat or tally with these names has observed a prefix of h, and no mark of these names lies beyond it
 pub record Knows {M : Type 0} (seat_of : M → ℕ) (names : List ℕ) (seen h : List M) : Type 0 where
   pub begins : Begins seen h
   pub own : (n : ℕ) → In n names → marks_of seat_of n h ≡ marks_of seat_of n seen
 
--- the longer of two beginnings of one history
+-- the longer of two prefixes of one history
 abbrev pub longer_of : {M : Type 0} → List M → List M → List M
 longer_of s t = cond (nat_lt (length s) (length t)) t s
 

@@ -6,7 +6,7 @@ use Rattle.atomic_table.specs.Table.{Me}
 use Rattle.fak_model.specs.declared.view.View.{View}
 use Rattle.fak_model.specs.Views.{sight}
 
--- a seat's token, of so many seats, stands for its name alone, at this phase with these tickets left, and holds no slot
+-- a seat's token, of this many seats, stands for its name alone, at this phase with these tickets left, and holds no slot
 pub record IsSeatToken {M P H : Type 0} (seat_of : M → ℕ) (seats name : ℕ) (phase : P) (left : ℕ) (me : Me H (View M P)) : Type 0 where
   pub me_is : me ≡ (sight (name ∷ []) me.0.seen phase left, [])
   pub below : name < seats

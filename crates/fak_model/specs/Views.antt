@@ -56,7 +56,7 @@ dealt v = record { names = first_name v.names; seen = v.seen; phase = v.phase; l
 abbrev pub kept : {M P : Type 0} → View M P → View M P
 kept v = record { names = later_names v.names; seen = v.seen; phase = v.phase; left = v.left - share_of v; told = []; told_names = [] }
 
--- the shorter of two beginnings of one history, and the names that came with it
+-- the shorter of two prefixes of one history, and the names that came with it
 abbrev pub shorter_of : {M : Type 0} → List M → List M → List M
 shorter_of s t = cond (nat_lt (length s) (length t)) s t
 

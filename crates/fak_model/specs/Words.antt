@@ -1,6 +1,6 @@
 -- How a word keeps a count that may be below 0.
 use Rattle.std.specs.Prelude.{ℕ}
 
--- a count is kept as so much more: 2^62
+-- what is added to a count in its word: 2^62
 abbrev pub bias : ℕ
 bias = 4611686018427387904

@@ -9,5 +9,5 @@ pub const LARGEST_SIZE: u64 = 4096;
 /// The seats of an object.
 pub const MOST_SEATS: u64 = 64;
 
-/// The stint of a seat: so many tickets, changes of a count, or holds.
+/// The longest stint of a seat: tickets, changes of a count, or holds.
 pub const LONGEST_STINT: u64 = 1 << 40;

@@ -51,7 +51,7 @@ pub struct Mark<T> {
 }
 
 /// What the open call of a seat has done so far.
-#[derive(Drop)]
+#[derive(Debug, PartialEq, Eq, Drop)]
 pub enum Stage<T> {
     /// No call is open.
     Idle,

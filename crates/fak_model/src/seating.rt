@@ -4,6 +4,7 @@ use crate::view::View;
 use atomic_table::{Join, Split};
 
 /// A seat for the first name, with its part of the tickets.
+#[derive(Debug)]
 pub struct Deal;
 
 impl<M, P> Split<View<M, P>> for Deal {
@@ -15,6 +16,7 @@ impl<M, P> Split<View<M, P>> for Deal {
 }
 
 /// Two views as one, for the names of both.
+#[derive(Debug)]
 pub struct Both;
 
 impl<M, P> Join<View<M, P>> for Both {

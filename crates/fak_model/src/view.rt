@@ -2,14 +2,15 @@
 
 use std::collections::LinkedList;
 
-/// What a seat, or seats that were joined, know of a running object; it stands for a set of names. No value of it
+/// What a seat, or seats that were joined, know of a running object; it has a set of names. No value of it
 /// is made. `M` is a mark of the object's history, `P` a phase of a call.
+#[derive(Debug)]
 pub struct View<M, P> {
-    /// The names that it stands for: all at the opening, one after a split, none once it is spent.
+    /// Its names: all at the opening, one after a split, none once it is spent.
     pub names: LinkedList<u64>,
     /// The history that it has seen, newest mark first.
     pub seen: LinkedList<M>,
-    /// Where its names stand in a call; a spent view has none.
+    /// The phase of its names in a call; a spent view has none.
     pub phase: Option<P>,
     /// The tickets left of its stints.
     pub left: u64,

@@ -3,7 +3,7 @@
 ghost use Rattle.std.specs.Prelude.{◌≡◌, ◌^◌, ◌<◌, pos, ◌+ℤ◌, ◌-ℤ◌};
 ghost use Rattle.fak_model.specs.Words.{bias};
 
-/// A count is kept in its word as so much more, so that it may be below 0.
+/// What is added to a count in its word, so that the count may be below 0.
 pub const BIAS: u64 = 1 << 62;
 
 /// The count that a word keeps.

@@ -10,7 +10,7 @@ made_by_length : {T : Type 0} (name : ℕ) (ks : List (Kind T)) → length (made
 made_by_length name [] = refl
 made_by_length name (κ ∷ ks) = omega (arith, made_by_length name ks)
 
-flat_map_push : {A B : Type 0} (f : A → List B) (xs : List A) (x : A) → flat_map f (xs ++ x ∷ []) ≡ flat_map f xs ++ f x
+pub flat_map_push : {A B : Type 0} (f : A → List B) (xs : List A) (x : A) → flat_map f (xs ++ x ∷ []) ≡ flat_map f xs ++ f x
 flat_map_push f xs x = flat_map-append f xs (x ∷ []) ∙ ap (λ l. flat_map f xs ++ l) (append-nil (f x))
 
 all_none : {A : Type 0} (P : A → Type 0) → All P []

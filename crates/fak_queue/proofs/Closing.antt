@@ -7,7 +7,7 @@ use Rattle.fak_core.specs.QueueSchedule.{InCell}
 use Rattle.fak_queue.proofs.Common.{QueueLimits, QueueView, queue_object, IsShownQueue, ◌≡◌, ℕ, zero, suc, ◌+◌, ◌-◌, ◌/◌, ◌%◌, ◌<◌, ◌≤◌, List, [], ◌∷◌, ◌++◌, length, slice_index, drop, refl, sym, ap, ◌∙◌, subst, inl, inr, arith, mod-lt, Option, Some, reverse, All, All-head, All-tail, some, some-injective, some-ne-none, get_elem?, count, puts, gots, items_put, item_at, contents, Has, stage, item_of, IsWhole, State, Final, Seen, Fill, Take, Mark, Stage, count_reverse, items_count, contents_bounded, stage_else, item_there, take_below, IsKept, shown, take_turn, le_or_lt, in_cell, kept}
 use Rattle.fak_queue.specs.Left.{item_in, items_left, AreLeft}
 use Rattle.fak_queue.proofs.DeletionSteps.{item_past}
-use Rattle.fak_queue.proofs.WholePasts.{filled_or_putting}
+use Rattle.fak_model.proofs.QueueDrawn.{filled_or_putting}
 
 -- a seat of no mark is idle
 unnamed : {T : Type 0} (seats : ℕ) (h : List (Mark T)) (s : ℕ) → All (λ (m : Mark T). m.seat < seats) h → seats ≤ s → stage h s ≡ at.Idle

@@ -21,5 +21,4 @@ pub mod Weighing
 pub mod Tallies
 pub mod Shutting
 pub mod Leaving
-pub mod WholePasts
 pub mod Closing

@@ -17,7 +17,7 @@ seat_ended {T} {size} {seats} {name} {left} {p} {m} {table} f seat_is e =
 pub one_idle : {T : Type 0} {name : ℕ} {names : List ℕ} (h : List (Mark T)) → names ≡ name ∷ [] → HasEnded name h → AreIdle names h
 one_idle {name = name} h one ended n i = elim (subst (In n) one i) [ inl e ↦ subst (λ k. HasEnded k h) (sym e) ended | inr z ↦ absurd z ]
 
--- whoever knows the marks of these names knows that they are idle
+-- the marks of these names determine that they are idle
 idle_known : {T : Type 0} {names : List ℕ} {seen h : List (Mark T)} → Knows seat_of names seen h → AreIdle names seen → AreIdle names h
 idle_known {T} k idle n i = subst (λ (l : List (Mark T)). Owes words_of_call (map (λ (m : Mark T). word m.kind) l) []) (sym (k.own n i)) (idle n i)
 

@@ -46,7 +46,7 @@ module _ {A R : Type 0} (v : Kind A → ℕ) (kinds_of : R → List (Kind A)) (n
 
 -- ---- calls
 
--- a call whose own marks put in and got out so much, under every weight of items
+-- a call whose own marks put in and got out this much, under every weight of items
 pub record Weighs {A : Type 0} (put got : (A → ℕ) → ℕ) (old new : SeatInfo (Mark A)) : Type 0 where
   pub name : new.name ≡ old.name
   pub stint : new.stint ≡ old.stint

@@ -20,7 +20,7 @@ before_mark-stays seat_of name (m ∷ h) rest (suc i) lt = ap (λ l. m ∷ l) (b
     by true t low more = rw t (more i (let less : suc i < suc (length (marks_of seat_of name h)) = rw t at low in omega (arith, less)))
     by false t low more = rw t (more (suc i) (rw t at low))
 
-item_at-front : {T : Type 0} (xs ys : List T) (k : ℕ) (x : T) → item_at xs k ≡ Some x → item_at (xs ++ ys) k ≡ Some x
+pub item_at-front : {T : Type 0} (xs ys : List T) (k : ℕ) (x : T) → item_at xs k ≡ Some x → item_at (xs ++ ys) k ≡ Some x
 item_at-front [] ys k x e = absurd cc
 item_at-front (y ∷ xs) ys zero x e = e
 item_at-front (y ∷ xs) ys (suc k) x e = item_at-front xs ys k x e

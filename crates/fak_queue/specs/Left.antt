@@ -9,7 +9,7 @@ item_in none = []
 item_in (some None) = []
 item_in (some (Some x)) = x ∷ []
 
--- the items in the cells of the tickets from k on, so many of them, in a ring of `size` cells
+-- the items in the cells of the tickets from k on, this many of them, in a ring of `size` cells
 abbrev pub items_left : {T : Type 0} → ℕ → List (Option T) → ℕ → ℕ → List T
 items_left size cells k zero = []
 items_left size cells k (suc n) = item_in (get_elem? cells (k % size)) ++ items_left size cells (suc k) n

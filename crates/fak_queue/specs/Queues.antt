@@ -79,7 +79,7 @@ pub record IsQueue (size : ℕ) (table : TableId) : Type 0 where
   pub some_cell : 0 < size
   pub few_cells : size ≤ 4096
 
--- a seat of this object, name and view, with so many tickets left of its stint
+-- a seat of this object, name and view, with this many tickets left of its stint
 abbrev pub queue_seat : {T : Type 0} → ObjectId → ℕ → ℕ → QueueHolder T → SeatInfo (Mark T)
 queue_seat object name left me = seat_info object name (left + tickets_in (marks_of seat_of name (reverse me.0.seen))) (reverse me.0.seen)
 
@@ -115,7 +115,7 @@ Makes size kinds old new = Appends (queue_rules size) (made_by old.name kinds) o
 abbrev pub before_own : {T : Type 0} → ℕ → SeatInfo (Mark T) → SeatInfo (Mark T) → List (Mark T)
 before_own number old new = before_appended seat_of number old new
 
--- a granted insertion within the stint: so many Puts stand before its own, and its item stands under this ticket
+-- a granted insertion within the stint: as many Puts come before its own as the ticket says, and its item stands under this ticket
 pub record ClaimsIn {T : Type 0} (size k : ℕ) (x : T) (old new : SeatInfo (Mark T)) : Type 0 where
   pub within : drawn_by old < old.stint
   pub makes : Makes size (made.ClaimIn ∷ made.Put x ∷ []) old new
@@ -131,7 +131,7 @@ pub record RefusesFull {T : Type 0} (size : ℕ) (upper : ℤ) (old new : SeatIn
 abbrev pub RefusesClosed : {T : Type 0} → ℕ → SeatInfo (Mark T) → SeatInfo (Mark T) → Type 0
 RefusesClosed size old new = Makes size (made.Closed ∷ []) old new ⊎ Makes size (made.LateIn ∷ made.BackIn ∷ []) old new
 
--- a granted deletion within the stint: so many Gots stand before its own, and its item is the one that was put under this ticket
+-- a granted deletion within the stint: as many Gots come before its own as the ticket says, and its item is the one that was put under this ticket
 pub record ClaimsOut {T : Type 0} (size k : ℕ) (old new : SeatInfo (Mark T)) : Type 0 where
   pub within : drawn_by old < old.stint
   pub item : T

@@ -78,7 +78,7 @@ before_last kinds_of refused number old new = before_own (length (flat_map kinds
 
 -- ---- calls that wait
 
--- an insertion of x with ticket k within the stint, after any number refused Full: so many Puts stand before its own,
+-- an insertion of x with ticket k within the stint, after any number refused Full: as many Puts come before its own as the ticket says,
 -- and its item stands under this ticket
 pub record InsertsAfterFull {T : Type 0} (size k : ℕ) (x : T) (old new : SeatInfo (Mark T)) : Type 0 where
   pub within : drawn_by old < old.stint

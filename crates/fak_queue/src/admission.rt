@@ -5,7 +5,7 @@ ghost use Rattle.fak_core.specs.declared.queue.phase.Phase.TheVariants.{Idle};
 ghost use Rattle.fak_queue.specs.Steps.{FitsTable, HasOneName, Named};
 ghost use Rattle.fak_queue.specs.Parts.{ClaimedIn, ClaimedOut, RefusedIn, RefusedOut};
 
-use crate::contention::CountTests;
+use crate::contention::SharedCounts;
 use crate::found::{LowerCount, NoRoom, UpperCount};
 use crate::steps::deletion::{back_low, sub_low, test_low, ticket_out};
 use crate::steps::insertion::{add_up, back_up, test_up, ticket_in};
@@ -17,7 +17,7 @@ pub(crate) fn admit_insertion<T>(
     words: &QueueWords<T>,
     token: &mut QueueToken<T>,
     size: u64,
-    tests: &mut CountTests,
+    counts: &mut SharedCounts,
     item: &T,
 ) -> Result<u64, NoRoom>
     requires table { FitsTable token.old.table_id words.now.table_id words.now.key words.now.key.seats }
@@ -30,12 +30,12 @@ pub(crate) fn admit_insertion<T>(
         (λ k. ClaimedIn words.now.table_id.slots words.now.key.seats n item.now k token.old.me token.new.me)
         (λ r. RefusedIn words.now.table_id.slots words.now.key.seats n r token.old.me token.new.me)) }
 {
-    match test_up::<T, Brand>(words, token, size, tests, item) {
+    match test_up::<T, Brand>(words, token, size, counts, item) {
         UpperCount::Below => {}
         UpperCount::Full(upper) => return Err(NoRoom::Full(upper)),
         UpperCount::Shut => return Err(NoRoom::Shut),
     }
-    match add_up::<T, Brand>(words, token, size, tests) {
+    match add_up::<T, Brand>(words, token, size) {
         UpperCount::Below => Ok(ticket_in::<T, Brand>(words, token)),
         UpperCount::Full(upper) => {
             back_up::<T, Brand>(words, token);
@@ -52,11 +52,9 @@ pub(crate) fn admit_insertion<T>(
 pub(crate) fn admit_deletion<T>(
     words: &QueueWords<T>,
     token: &mut QueueToken<T>,
-    size: u64,
-    tests: &mut CountTests,
+    counts: &mut SharedCounts,
 ) -> Result<u64, i64>
     requires table { FitsTable token.old.table_id words.now.table_id words.now.key words.now.key.seats }
-    requires size { (size ≡ words.now.table_id.slots) × (size ≤ 4096) }
     requires seat { HasOneName token.old.me × (token.old.me.1 ≡ []) }
     requires phase { token.old.me.0.phase ≡ Some Idle }
     requires left { 0 < token.old.me.0.left }
@@ -65,11 +63,11 @@ pub(crate) fn admit_deletion<T>(
         (λ k. ClaimedOut words.now.table_id.slots words.now.key.seats n k token.old.me token.new.me)
         (λ l. RefusedOut words.now.table_id.slots words.now.key.seats n l token.old.me token.new.me)) }
 {
-    match test_low::<T, Brand>(words, token, size, tests) {
+    match test_low::<T, Brand>(words, token, counts) {
         LowerCount::Positive => {}
         LowerCount::Empty(lower) => return Err(lower),
     }
-    match sub_low::<T, Brand>(words, token, tests) {
+    match sub_low::<T, Brand>(words, token) {
         LowerCount::Positive => Ok(ticket_out::<T, Brand>(words, token)),
         LowerCount::Empty(lower) => {
             back_low::<T, Brand>(words, token);

@@ -16,7 +16,7 @@ pub struct Cells {
 }
 
 impl Cells {
-    // So many cells.
+    // The number of cells.
     pub(crate) fn new(size: u64) -> Cells
         requires { (1 ≤ size) × (size ≤ 4096) }
         ensures { result.size ≡ size }

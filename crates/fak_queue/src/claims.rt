@@ -1,4 +1,4 @@
-//! The claims of insertions and deletions, which wait for nobody.
+//! The claims of insertions and deletions, which never wait.
 
 ghost use Rattle.std.specs.Prelude.{◌≡◌, ◌+◌, MatchResult};
 ghost use Rattle.fak_queue.specs.declared.state.SeatState.TheVariants.{Deleting, Idle, Inserting};
@@ -35,12 +35,12 @@ impl<T: Drop> Queue<T> {
             words,
             &mut seat.token,
             self.cells.size,
-            &mut seat.tests,
+            &mut seat.counts,
             &item,
         ) {
             Ok(ticket) => {
                 seat.left -= 1;
-                seat.tests.expect_insertion();
+                seat.counts.expect_insertion();
                 seat.phase = Phase::TurnIn(ticket, item);
                 Ok(ticket)
             }
@@ -64,10 +64,10 @@ impl<T: Drop> Queue<T> {
             return Err(DeleteFault::Worn);
         }
         let words = &self.table.shared;
-        match admit_deletion(words, &mut seat.token, self.cells.size, &mut seat.tests) {
+        match admit_deletion(words, &mut seat.token, &mut seat.counts) {
             Ok(ticket) => {
                 seat.left -= 1;
-                seat.tests.expect_deletion();
+                seat.counts.expect_deletion();
                 seat.phase = Phase::TurnOut(ticket);
                 Ok(ticket)
             }

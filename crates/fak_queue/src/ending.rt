@@ -36,7 +36,7 @@ impl<T: Drop> Queue<T> {
             seats: _,
             left: _,
             phase: _,
-            tests: _,
+            counts: _,
         } = seat;
         self.table.shared.join_seat::<Both>(&mut token, other);
         hear::<T, Brand>(&self.table.shared, &mut token);

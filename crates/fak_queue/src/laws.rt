@@ -1,31 +1,43 @@
 //! What the rule of a running queue says of its cells and its words, between any two atomic steps of its seats.
 
-ghost use Rattle.std.specs.Prelude.{◌≡◌, ℕ, ◌<◌, ◌≤◌, ◌↔◌, Option, slice_index};
+ghost use Rattle.std.specs.Prelude.{◌≡◌, ◌≢◌, ℕ, ◌<◌, ◌≤◌, ◌↔◌, Option, slice_index};
 ghost use mathlib.Core.Option.{some, none};
 ghost use lib.ListN.{get_elem?};
 ghost use Rattle.atomic_table.specs.Table.{State};
+ghost use Rattle.fak_core.specs.QueueProgress.{HoldsTicketOf, MakesProgress};
 ghost use Rattle.fak_core.specs.QueueSchedule.{InCell};
+ghost use Rattle.fak_core.specs.declared.queue.phase.Phase.TheVariants.{Idle};
 ghost use Rattle.fak_queue.specs.declared.limits.QueueLimits.{QueueLimits};
 ghost use Rattle.fak_model.specs.declared.queue.Kind.TheVariants.{Close};
 ghost use Rattle.fak_model.specs.Queue.{Has};
 ghost use Rattle.fak_queue.specs.Shown.{IsShownQueue, QueueView};
 ghost use Rattle.fak_queue.specs.Words.{shut_bit};
 
-/// At most one seat at a time stands between the load that found its turn at a cell and the store that gives the
+/// At most one seat at a time is between the load that found its turn at a cell and the store that gives the
 /// cell on.
 pub fn a_running_cell_has_one_owner<T>()
     ensures { (key : QueueLimits) (s : State (Option T) (QueueView T)) (shown : IsShownQueue key s) → (a b cell : ℕ)
         → InCell key.size (shown.core.phase a) cell → InCell key.size (shown.core.phase b) cell → a ≡ b }
 {}
 
-/// A cell's slot is out of the table exactly while a seat stands so in the cell.
+/// A cell's slot is out of the table exactly while a seat is in the cell.
 pub fn a_slot_is_out_while_its_cell_has_an_owner<T>()
     ensures { (key : QueueLimits) (s : State (Option T) (QueueView T)) (shown : IsShownQueue key s) → (cell : ℕ) → cell < key.size
         → (get_elem? s.homes cell ≡ some none) ↔ ((a : ℕ) × InCell key.size (shown.core.phase a) cell) }
 {}
 
-/// The shut bit is set in the word of the upper count exactly where a `Close` stands in the history that is shown.
+/// The shut bit is set in the word of the upper count exactly where the history that is shown has a `Close`.
 pub fn the_shut_bit_tells_of_a_close<T>()
     ensures { (key : QueueLimits) (s : State (Option T) (QueueView T)) (shown : IsShownQueue key s)
         → (shut_bit ≤ slice_index s.words 16) ↔ Has Close shown.core.past }
+{}
+
+/// A running queue never locks up: while a call is open, some seat's next atomic step moves its call forward. Where the
+/// call holds a ticket, so does some seat that holds a ticket of the same cell.
+pub fn a_running_queue_never_locks_up<T>()
+    ensures call { (key : QueueLimits) (s : State (Option T) (QueueView T)) (shown : IsShownQueue key s) → (a : ℕ)
+        → shown.core.phase a ≢ Idle → (b : ℕ) × MakesProgress key.size shown.core b }
+    ensures cell { (key : QueueLimits) (s : State (Option T) (QueueView T)) (shown : IsShownQueue key s) → (a cell : ℕ)
+        → HoldsTicketOf key.size (shown.core.phase a) cell
+        → (b : ℕ) × HoldsTicketOf key.size (shown.core.phase b) cell × MakesProgress key.size shown.core b }
 {}

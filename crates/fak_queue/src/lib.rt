@@ -5,7 +5,7 @@
 //!
 //! - `Queue::<T>::open(alloc, size, seats, stint)` answers the queue and all its seats. A thread calls with a seat of its own.
 //! - `insert` and `delete` make one attempt; `wait_insert` and `wait_delete` wait while the queue is full or empty;
-//!   `claim_insert` with `try_fill`, and `claim_delete` with `try_take`, wait for nobody.
+//!   `claim_insert` with `try_fill`, and `claim_delete` with `try_take`, never wait.
 //! - `shut` refuses later insertions; deletions go on.
 //! - `Tally::of(seat)` and `Queue::join` bring the seats back together; with all of them `Queue::close` answers a `Rest`, what is left.
 //! - Callers owe that a seat is of this queue and idle: `IsIdleSeat queue.now.object seat`.

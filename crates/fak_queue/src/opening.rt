@@ -6,7 +6,7 @@ ghost use Rattle.fak_queue.specs.Refusals.{IsInRange, IsOpenFault, IsRangeFault}
 ghost use Rattle.fak_queue.specs.Shown.{opened_queue};
 
 use crate::cells::Cells;
-use crate::contention::CountTests;
+use crate::contention::SharedCounts;
 use crate::fault::OpenFault;
 use crate::limits::QueueLimits;
 use crate::queue::Queue;
@@ -86,7 +86,7 @@ impl<T: Drop> Queue<T> {
                 seats,
                 left: stint,
                 phase: Phase::Idle,
-                tests: CountTests::new(stint),
+                counts: SharedCounts::new(stint),
             };
             if dealt.push(seat).is_err() {
                 return Err(OpenFault::Memory);

@@ -7,6 +7,7 @@ use atomic_table::Table;
 use fak_core::Phase;
 use fak_model::{Mark, View};
 use std::alloc::Global;
+use std::fmt;
 use std::marker::Model;
 
 /// A bounded first-in-first-out queue, whose cells own the values in it. Its seats insert and delete at once, with
@@ -26,4 +27,12 @@ impl<T> Model for Queue<T> {
     ghost view = { λ q. queue_info (object_id q.table.shared.table_id q.table.shared.key.seats) };
 
     ghost invariant = { λ q. IsQueue q.cells.size q.table.shared.table_id };
+}
+
+impl<T> fmt::Debug for Queue<T> {
+    fn fmt<W: fmt::Write>(&self, f: &mut fmt::Formatter<W>) -> fmt::Result {
+        f.debug_struct("Queue")
+            .field("size", &self.cells.size)
+            .finish_non_exhaustive()
+    }
 }

@@ -4,6 +4,7 @@ ghost use Rattle.std.specs.Prelude.{◌≡◌, [], ◌∷◌, MatchOption};
 
 use atomic_table::Closed;
 use std::alloc::Global;
+use std::fmt;
 use std::marker::Model;
 
 /// The items that a closed queue had left, oldest first. Contracts see the list of them.
@@ -44,6 +45,14 @@ impl<T> Rest<T> {
             Some(item) => Some(item),
             None => unreachable!(),
         }
+    }
+}
+
+impl<T> fmt::Debug for Rest<T> {
+    fn fmt<W: fmt::Write>(&self, f: &mut fmt::Formatter<W>) -> fmt::Result {
+        f.debug_struct("Rest")
+            .field("left", &self.count)
+            .finish_non_exhaustive()
     }
 }
 

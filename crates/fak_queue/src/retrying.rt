@@ -8,8 +8,8 @@ ghost use Rattle.fak_queue.specs.Retries.{DeletesAfterEmpty, InsertsAfterFull, R
 use crate::fault::{DeleteFault, InsertFault};
 use crate::queue::Queue;
 use crate::seat::Seat;
+use crossbeam_utils::Backoff;
 use std::sync::Wait;
-use std::thread;
 
 impl<T: Drop> Queue<T> {
     /// Inserts the item, and tries again while the queue is full. Answers the ticket.
@@ -29,6 +29,7 @@ impl<T: Drop> Queue<T> {
         ensures call { MatchResult result (λ k. InsertsAfterFull self.now.size k item seat.old seat.new)
             (RefusesWaitingInsertion self.now.size item seat.old seat.new) }
     {
+        let backoff = Backoff::new();
         let mut waiting = item;
         for _ in rt.forever() {
             match self.insert(rt, seat, waiting) {
@@ -37,7 +38,7 @@ impl<T: Drop> Queue<T> {
                 Err(InsertFault::Closed { item }) => return Err(InsertFault::Closed { item }),
                 Err(InsertFault::Full { upper: _, item }) => waiting = item,
             }
-            thread::yield_now();
+            backoff.snooze();
         }
         unreachable!()
     }
@@ -54,13 +55,13 @@ impl<T: Drop> Queue<T> {
         ensures call { MatchResult result (λ r. DeletesAfterEmpty self.now.size r.0 r.1 seat.old seat.new)
             (RefusesWaitingDeletion seat.old seat.new) }
     {
+        let backoff = Backoff::new();
         for _ in rt.forever() {
             match self.delete(rt, seat) {
                 Ok((ticket, item)) => return Ok((ticket, item)),
                 Err(DeleteFault::Worn) => return Err(DeleteFault::Worn),
-                Err(DeleteFault::Empty(_)) => {}
+                Err(DeleteFault::Empty(_)) => backoff.snooze(),
             }
-            thread::yield_now();
         }
         unreachable!()
     }

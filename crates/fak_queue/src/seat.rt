@@ -3,10 +3,11 @@
 ghost use Rattle.std.specs.Prelude.{◌≡◌, ◌+◌};
 ghost use Rattle.fak_queue.specs.Queues.{IsState, drawn_by, state_of};
 
-use crate::contention::CountTests;
+use crate::contention::SharedCounts;
 use crate::state::SeatState;
 use crate::steps::QueueToken;
 use fak_core::Phase;
+use std::fmt;
 use std::marker::Model;
 
 /// The right to insert into a queue and delete from it, as often as its stint says. Between a claim and the try that
@@ -18,7 +19,7 @@ pub struct Seat<T> {
     pub(crate) seats: u64,
     pub(crate) left: u64,
     pub(crate) phase: Phase<T>,
-    pub(crate) tests: CountTests,
+    pub(crate) counts: SharedCounts,
 }
 
 impl<T> Model for Seat<T> {
@@ -34,7 +35,7 @@ impl<T> Model for Seat<T> {
 }
 
 impl<T> Seat<T> {
-    /// Where the seat stands between two calls.
+    /// The state of the seat between two calls.
     pub fn state(&self) -> SeatState
         ensures value { result ≡ state_of self.now }
         ensures read_off_seen { IsState self.now result }
@@ -52,5 +53,15 @@ impl<T> Seat<T> {
         ensures { result + drawn_by self.now ≡ self.now.stint }
     {
         self.left
+    }
+}
+
+impl<T> fmt::Debug for Seat<T> {
+    fn fmt<W: fmt::Write>(&self, f: &mut fmt::Formatter<W>) -> fmt::Result {
+        f.debug_struct("Seat")
+            .field("name", &self.name)
+            .field("state", &self.state())
+            .field("left", &self.left)
+            .finish_non_exhaustive()
     }
 }

@@ -1,6 +1,6 @@
-//! Where a seat stands between two calls.
+//! The state of a seat between two calls.
 
-/// Where a seat of a queue stands between two calls.
+/// The state of a queue's seat between two calls.
 #[derive(Clone, Copy, Debug, PartialEq, Eq, Drop)]
 pub enum SeatState {
     /// No call is open.

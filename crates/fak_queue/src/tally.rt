@@ -11,6 +11,7 @@ ghost use Rattle.fak_queue.specs.Queues.{seat_of, size_of, state_of};
 use crate::seat::Seat;
 use crate::steps::QueueToken;
 use fak_model::NameSet;
+use std::fmt;
 use std::marker::Model;
 
 /// Seats of a queue that were joined and make no calls any more. Contracts see its object, the names of the seats and
@@ -49,7 +50,7 @@ impl<T: Drop> Tally<T> {
             seats,
             left: _,
             phase: _,
-            tests: _,
+            counts: _,
         } = seat;
         Tally {
             token,
@@ -68,5 +69,14 @@ impl<T: Drop> Tally<T> {
         ensures rest { IsTrue result → IsAtRest (queue_rules (size_of self.now.object)) self.now.seen }
     {
         self.names.has_all(self.seats)
+    }
+}
+
+impl<T: Drop> fmt::Debug for Tally<T> {
+    fn fmt<W: fmt::Write>(&self, f: &mut fmt::Formatter<W>) -> fmt::Result {
+        f.debug_struct("Tally")
+            .field("seats", &self.seats)
+            .field("is_whole", &self.is_whole())
+            .finish_non_exhaustive()
     }
 }

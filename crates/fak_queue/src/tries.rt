@@ -1,4 +1,4 @@
-//! One try of a claimed insertion or deletion at its cell, which waits for nobody.
+//! One try of a claimed insertion or deletion at its cell, which never waits.
 
 ghost use Rattle.std.specs.Prelude.{◌≡◌, ℕ, MatchOption};
 ghost use Rattle.fak_queue.specs.declared.state.SeatState.TheVariants.{Deleting, Idle, Inserting};

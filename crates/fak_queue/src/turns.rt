@@ -1,5 +1,5 @@
 //! A ticket's turn at its cell, on a seat's token. `fill_cell` and `empty_cell` alone move values into slots and out of
-//! them: a seat has the slot of a cell between the look that finds its turn and the store that gives the cell on.
+//! them: a seat has the slot of a cell from the load that finds its turn to the store that passes the cell on.
 
 ghost use Rattle.std.specs.Prelude.{◌≡◌, [], ◌∷◌, None, Some};
 ghost use Rattle.fak_core.specs.declared.queue.phase.Phase.TheVariants.{Idle, LoadItem, StoreItem, TurnIn, TurnOut};
@@ -10,10 +10,11 @@ use crate::place::Place;
 use crate::steps::deletion::{end_out, set_free, turn_out};
 use crate::steps::insertion::{end_in, set_full, turn_in};
 use crate::steps::{QueueToken, QueueWords};
+use crossbeam_utils::Backoff;
 use fak_core::Phase;
 use std::marker::Brand;
+use std::mem;
 use std::sync::Wait;
-use std::{mem, thread};
 
 // Whether it is the ticket's turn to fill its cell. Then the seat has the cell's slot.
 pub(crate) fn finds_room<T>(words: &QueueWords<T>, token: &mut QueueToken<T>, place: Place) -> bool
@@ -103,7 +104,7 @@ pub(crate) fn empty_cell<T>(words: &QueueWords<T>, token: &mut QueueToken<T>, pl
     }
 }
 
-// Lets others run and looks again until it is the ticket's turn, then moves the item into its cell and ends the insertion.
+// Pauses and polls until it is the ticket's turn, then moves the item into its cell and ends the insertion.
 fn fill_later<T, R: Wait>(
     rt: &R,
     words: &QueueWords<T>,
@@ -118,8 +119,9 @@ fn fill_later<T, R: Wait>(
     ensures same { token.new.table_id ≡ token.old.table_id }
     ensures told { Named token.old.me (λ n. Filled words.now.table_id.slots words.now.key.seats n place.ticket token.old.me token.new.me) }
 {
+    let backoff = Backoff::new();
     for _ in rt.forever() {
-        thread::yield_now();
+        backoff.snooze();
         if finds_room(words, token, place) {
             fill_cell(words, token, place, item);
             return;
@@ -128,7 +130,7 @@ fn fill_later<T, R: Wait>(
     unreachable!()
 }
 
-// Waits for the ticket's turn, then moves the item into its cell and ends the insertion. The first look is no round of a
+// Waits for the ticket's turn, then moves the item into its cell and ends the insertion. The first poll is no round of a
 // loop, which costs more.
 pub(crate) fn wait_to_fill<T, R: Wait>(
     rt: &R,
@@ -151,7 +153,7 @@ pub(crate) fn wait_to_fill<T, R: Wait>(
     fill_later(rt, words, token, place, item);
 }
 
-// Lets others run and looks again until it is the ticket's turn, then moves the item out of its cell and ends the deletion.
+// Pauses and polls until it is the ticket's turn, then moves the item out of its cell and ends the deletion.
 fn empty_later<T, R: Wait>(
     rt: &R,
     words: &QueueWords<T>,
@@ -166,8 +168,9 @@ fn empty_later<T, R: Wait>(
     ensures told { Named token.old.me
         (λ n. Taken words.now.table_id.slots words.now.key.seats n place.ticket result token.old.me token.new.me) }
 {
+    let backoff = Backoff::new();
     for _ in rt.forever() {
-        thread::yield_now();
+        backoff.snooze();
         if finds_item(words, token, place) {
             return empty_cell(words, token, place);
         }
@@ -175,7 +178,7 @@ fn empty_later<T, R: Wait>(
     unreachable!()
 }
 
-// Waits for the ticket's turn, then moves the item out of its cell and ends the deletion. The first look is as above.
+// Waits for the ticket's turn, then moves the item out of its cell and ends the deletion. The first poll is as above.
 pub(crate) fn wait_to_empty<T, R: Wait>(
     rt: &R,
     words: &QueueWords<T>,

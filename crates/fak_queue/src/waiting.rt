@@ -14,8 +14,7 @@ use crate::turns::{wait_to_empty, wait_to_fill};
 use std::sync::Wait;
 
 impl<T: Drop> Queue<T> {
-    /// Inserts the item: one claim, and where it is granted tries until it is the cell's turn. Answers the ticket. Where other
-    /// seats change the queue at the same time it may rest first, for a moment for each cell and some microseconds at most.
+    /// Inserts the item: one claim, and where it is granted tries until it is the cell's turn. Answers the ticket.
     ///
     /// Refused with `Worn`, `Closed` or `Full`, in this order; the item comes back.
     pub fn insert<R: Wait>(
@@ -35,18 +34,20 @@ impl<T: Drop> Queue<T> {
         if seat.left == 0 {
             return refuse_worn(item);
         }
-        seat.tests.upper.give_way(self.cells.size, seat.left);
+        seat.counts
+            .upper
+            .pause_where_contended(self.cells.size, seat.left);
         let words = &self.table.shared;
         match admit_insertion(
             words,
             &mut seat.token,
             self.cells.size,
-            &mut seat.tests,
+            &mut seat.counts,
             &item,
         ) {
             Ok(ticket) => {
                 seat.left -= 1;
-                seat.tests.expect_insertion();
+                seat.counts.expect_insertion();
                 let place = self.cells.place(ticket);
                 wait_to_fill(rt, words, &mut seat.token, place, item);
                 Ok(ticket)
@@ -56,7 +57,7 @@ impl<T: Drop> Queue<T> {
     }
 
     /// Deletes the oldest item: one claim, and where it is granted tries until it is the cell's turn. Answers the ticket
-    /// and the item. It may rest first, as `insert` may.
+    /// and the item.
     ///
     /// Refused with `Worn` or `Empty`, in this order.
     pub fn delete<R: Wait>(&self, rt: &R, seat: &mut Seat<T>) -> Result<(u64, T), DeleteFault>
@@ -71,12 +72,14 @@ impl<T: Drop> Queue<T> {
         if seat.left == 0 {
             return Err(DeleteFault::Worn);
         }
-        seat.tests.lower.give_way(self.cells.size, seat.left);
+        seat.counts
+            .lower
+            .pause_where_contended(self.cells.size, seat.left);
         let words = &self.table.shared;
-        match admit_deletion(words, &mut seat.token, self.cells.size, &mut seat.tests) {
+        match admit_deletion(words, &mut seat.token, &mut seat.counts) {
             Ok(ticket) => {
                 seat.left -= 1;
-                seat.tests.expect_deletion();
+                seat.counts.expect_deletion();
                 let place = self.cells.place(ticket);
                 Ok((ticket, wait_to_empty(rt, words, &mut seat.token, place)))
             }

@@ -11,7 +11,7 @@
 //!   round k div size.
 //! - The turn of a cell: 2 r while round r may fill it, 2 r + 1 while round r may take from it.
 //!
-//! Both counts can pass their bounds for a moment, L below 0 too, so a count is kept as count + 2^62, the bias. The
+//! Both counts can pass their bounds, L below 0 too, so a count is kept as count + 2^62, the bias. The
 //! four words are 128 bytes apart from one another, from the turns and from both ends of the table, so that none of
 //! them shares a cache line with another, or with anything else in memory.
 
@@ -21,7 +21,7 @@ ghost use Rattle.fak_queue.specs.Words.{IsLowerCount, IsUpperCount};
 use crate::found::{LowerCount, UpperCount};
 use fak_model::{BIAS, count_of};
 
-/// So many words before the first counter and behind the last turn are not used.
+/// The number of unused words before the first counter, and behind the last turn.
 pub(crate) const MARGIN: usize = 16;
 
 /// The upper count, U.

@@ -44,7 +44,7 @@ pub fn ids_of(alloc: Global, loads: Vec<Load>) -> Result<Vec<u64>, Fail> {
     Ok(ids)
 }
 
-// Whether those of the fifty numbers from `first` on that stand in the list stand there in rising order.
+// Whether those of the fifty numbers from `first` on that are in the list are in rising order.
 pub fn rise(items: &[u64], first: u64) -> bool {
     let mut next = first;
     for &item in items {

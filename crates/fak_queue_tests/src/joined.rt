@@ -2,7 +2,7 @@
 
 ghost use Rattle.std.specs.Prelude.{◌≡◌, All};
 
-use super::steps::{A, B, C, D, Step, close, joined, open, walk};
+use super::steps::{A, B, C, D, Step, close, joined, open, repeat, walk};
 use fak_queue::{InsertFault, Queue, Seat, SeatState};
 use std::process::Abort;
 
@@ -41,6 +41,17 @@ pub fn leaves_two(rt: &impl Abort, queue: Queue<u64>, seats: Vec<Seat<u64>>)
 fn four_seats_over_three_cells(rt: HostRuntime) {
     let (queue, mut seats) = open(&rt, rt.alloc(), (3, 4, 100));
     walk(&rt, &queue, &mut seats, CELLS_WAIT.as_slice());
+    leaves_two(&rt, queue, seats);
+}
+
+#[test]
+fn cells_that_are_looked_at_a_hundred_times(rt: HostRuntime) {
+    let (queue, mut seats) = open(&rt, rt.alloc(), (3, 4, 100));
+    walk(&rt, &queue, &mut seats, &CELLS_WAIT[..5]);
+    repeat(&rt, &queue, &mut seats, C, &Step::TryTake(None), 100);
+    walk(&rt, &queue, &mut seats, &CELLS_WAIT[7..12]);
+    repeat(&rt, &queue, &mut seats, B, &Step::TryFill(None), 100);
+    walk(&rt, &queue, &mut seats, &CELLS_WAIT[13..]);
     leaves_two(&rt, queue, seats);
 }
 

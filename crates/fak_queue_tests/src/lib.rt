@@ -3,6 +3,8 @@
 #![tactic(auto)]
 
 #[cfg(test)]
+mod attempts;
+#[cfg(test)]
 mod drops;
 #[cfg(test)]
 mod in_turns;
@@ -11,7 +13,11 @@ mod items;
 #[cfg(test)]
 mod joined;
 #[cfg(test)]
+mod openings;
+#[cfg(test)]
 mod pages;
+#[cfg(test)]
+mod prints;
 #[cfg(test)]
 mod rows;
 #[cfg(test)]

@@ -59,6 +59,26 @@ fn a_queue_that_was_shut(rt: HostRuntime) {
     open_and_walk::<u64, HostRuntime>(&rt, rt.alloc(), (2, 2, 10), steps.as_slice());
 }
 
+#[test]
+fn a_worn_seat_is_told_so_of_a_shut_queue(rt: HostRuntime) {
+    let steps = [
+        (A, Step::Insert(5, Ok(0))),
+        (B, Step::Shut(true)),
+        (A, Step::Insert(6, Err(InsertFault::Worn { item: 6 }))),
+        (A, Step::ClaimInsert(7, Err(InsertFault::Worn { item: 7 }))),
+        (A, Step::WaitInsert(8, Err(InsertFault::Worn { item: 8 }))),
+        (A, Step::ClaimDelete(Err(DeleteFault::Worn))),
+        (
+            B,
+            Step::ClaimInsert(9, Err(InsertFault::Closed { item: 9 })),
+        ),
+        (B, Step::Delete(Ok((0, 5)))),
+        (B, Step::ClaimInsert(9, Err(InsertFault::Worn { item: 9 }))),
+        (B, Step::ClaimDelete(Err(DeleteFault::Worn))),
+    ];
+    open_and_walk::<u64, HostRuntime>(&rt, rt.alloc(), (1, 2, 1), steps.as_slice());
+}
+
 // Why no queue is opened.
 fn refusal(alloc: Global, size: u64, seats: u64, stint: u64) -> Option<OpenFault> {
     match Queue::<u64>::open(alloc, size, seats, stint) {

@@ -17,7 +17,7 @@ pub const C: usize = 2;
 
 pub const D: usize = 3;
 
-// A call of a seat, or a look at it, and what it is to answer.
+// A call of a seat, or a question to it, and what it is to answer.
 #[derive(Drop)]
 pub enum Step<T> {
     Insert(T, Result<u64, InsertFault<T>>),
@@ -105,6 +105,25 @@ pub fn walk<T: Copy + PartialEq + Drop, R: Abort + Wait>(
     for (row, (name, step)) in steps.iter().enumerate() {
         if *name >= seats.len() || !meets(rt, queue, seats, *name, step) {
             panic!(rt; "row {row}")
+        }
+    }
+}
+
+// Makes the same step this many times.
+pub fn repeat<T: Copy + PartialEq + Drop, R: Abort + Wait>(
+    rt: &R,
+    queue: &Queue<T>,
+    seats: &mut Vec<Seat<T>>,
+    name: usize,
+    step: &Step<T>,
+    times: u64,
+)
+    requires { All (λ s. s.object ≡ queue.now.object) seats.old.items }
+    ensures { All (λ s. s.object ≡ queue.now.object) seats.new.items }
+{
+    for time in 0..times {
+        if name >= seats.len() || !meets(rt, queue, seats, name, step) {
+            panic!(rt; "time {time}")
         }
     }
 }

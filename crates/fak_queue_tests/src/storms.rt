@@ -3,6 +3,7 @@
 ghost use Rattle.std.specs.Prelude.{◌≡◌, All};
 ghost use Rattle.fak_queue.specs.Queues.{IsIdleSeat};
 
+use super::attempts::{delete_again, insert_again};
 use super::items::{are_all, fifty, ids_of, loads_of, rise};
 use super::steps::{close, joined, open};
 use fak_queue::{Queue, Seat, SeatState};
@@ -12,9 +13,17 @@ use std::sync::{Mutex, Wait};
 use std::test::Fail;
 use std::thread::{Threads, map_vec};
 
+// How the seats of a storm insert and delete: by calls that wait, or by attempts that are made again.
+#[derive(Clone, Copy)]
+enum Calls {
+    Waiting,
+    Attempts,
+}
+
 // The lists that no seat has begun to insert, and what each of the other seats deleted.
 #[derive(Drop)]
 struct Lists<T> {
+    calls: Calls,
     waiting: Mutex<Vec<Vec<T>>>,
     deleted: Mutex<Vec<Vec<T>>>,
 }
@@ -24,22 +33,27 @@ fn insert_all<T: Drop, R: Wait>(
     rt: &R,
     queue: &Queue<T>,
     mut seat: Seat<T>,
+    calls: Calls,
     mut items: Vec<T>,
 ) -> Seat<T>
     requires { IsIdleSeat queue.now.object seat }
     ensures { result.object ≡ queue.now.object }
 {
     while let Some(item) = items.pop() {
-        let _ = queue.wait_insert(rt, &mut seat, item);
+        let _ = match calls {
+            Calls::Waiting => queue.wait_insert(rt, &mut seat, item),
+            Calls::Attempts => insert_again(rt, queue, &mut seat, item),
+        };
     }
     seat
 }
 
-// Deletes so many items, into this list.
+// Deletes this many items, into this list.
 fn delete_all<T: Drop, R: Wait>(
     rt: &R,
     queue: &Queue<T>,
     mut seat: Seat<T>,
+    calls: Calls,
     deletions: usize,
     into: &mut Vec<T>,
 ) -> Seat<T>
@@ -47,7 +61,11 @@ fn delete_all<T: Drop, R: Wait>(
     ensures { result.object ≡ queue.now.object }
 {
     for _ in 0..deletions {
-        if let Ok((_, item)) = queue.wait_delete(rt, &mut seat) {
+        let deleted = match calls {
+            Calls::Waiting => queue.wait_delete(rt, &mut seat),
+            Calls::Attempts => delete_again(rt, queue, &mut seat),
+        };
+        if let Ok((_, item)) = deleted {
             let _ = into.push(item);
         }
     }
@@ -60,7 +78,7 @@ fn add_list<T: Drop>(rt: &impl Abort, lists: &mut Vec<Vec<T>>, list: Vec<T>) {
     };
 }
 
-// Inserts one of the lists; where none is waiting, deletes so many items.
+// Inserts one of the lists; where none is waiting, deletes this many items.
 fn work<T: Drop, R: Abort + Wait>(
     rt: &R,
     alloc: Global,
@@ -77,10 +95,10 @@ fn work<T: Drop, R: Abort + Wait>(
     };
     let list = lists.waiting.lock(rt).pop();
     if let Some(items) = list {
-        return insert_all(rt, queue, seat, items);
+        return insert_all(rt, queue, seat, lists.calls, items);
     }
     let mut items = Vec::new(alloc);
-    let seat = delete_all(rt, queue, seat, deletions, &mut items);
+    let seat = delete_all(rt, queue, seat, lists.calls, deletions, &mut items);
     add_list(rt, &mut lists.deleted.lock(rt), items);
     seat
 }
@@ -107,16 +125,18 @@ fn work_all<T: Drop + Send, R: Abort + Threads + Wait + Sync>(
     seats
 }
 
-// What each seat deleted, where the lists are inserted by a seat each while so many others delete. Nothing is to be left.
+// What each seat deleted, where the lists are inserted by a seat each while as many others delete. Nothing is to be left.
 fn storm<T: Drop + Send, R: Abort + Threads + Wait + Sync>(
     rt: &R,
     alloc: Global,
+    calls: Calls,
     lists: Vec<Vec<T>>,
     deleters: u64,
     deletions: usize,
 ) -> Vec<Vec<T>> {
     let seats = deleters.wrapping_add(lists.len() as u64);
     let lists = Lists {
+        calls,
         waiting: Mutex::new(lists),
         deleted: Mutex::new(Vec::new(alloc)),
     };
@@ -127,6 +147,7 @@ fn storm<T: Drop + Send, R: Abort + Threads + Wait + Sync>(
         panic!(rt; "an item that was left")
     };
     let Lists {
+        calls: _,
         waiting: _,
         deleted,
     } = lists;
@@ -156,36 +177,48 @@ fn lists_of(rt: &impl Abort, alloc: Global, firsts: &[u64]) -> Vec<Vec<u64>> {
     lists
 }
 
-// Fifty numbers from each of these on go in by a seat each, and come out by so many others.
+// Fifty numbers from each of these on go in by a seat each, and come out by as many others.
 fn storm_of_numbers<R: Abort + Threads + Wait + Sync>(
     rt: &R,
     alloc: Global,
+    calls: Calls,
     firsts: &[u64],
     deleters: u64,
     deletions: usize,
 ) {
-    let got = storm(rt, alloc, lists_of(rt, alloc, firsts), deleters, deletions);
+    let lists = lists_of(rt, alloc, firsts);
+    let got = storm(rt, alloc, calls, lists, deleters, deletions);
     check_all(rt, alloc, got, firsts);
 }
 
 #[test]
 fn a_storm_of_one_pair(rt: HostRuntime) {
-    storm_of_numbers(&rt, rt.alloc(), [1001].as_slice(), 1, 50);
+    let firsts = [1001];
+    storm_of_numbers(&rt, rt.alloc(), Calls::Waiting, firsts.as_slice(), 1, 50);
 }
 
 #[test]
 fn a_storm_of_two_pairs(rt: HostRuntime) {
-    storm_of_numbers(&rt, rt.alloc(), [1001, 2001].as_slice(), 2, 50);
+    let firsts = [1001, 2001];
+    storm_of_numbers(&rt, rt.alloc(), Calls::Waiting, firsts.as_slice(), 2, 50);
 }
 
 #[test]
 fn a_storm_of_four_pairs(rt: HostRuntime) {
-    storm_of_numbers(&rt, rt.alloc(), [1001, 2001, 3001, 4001].as_slice(), 4, 50);
+    let firsts = [1001, 2001, 3001, 4001];
+    storm_of_numbers(&rt, rt.alloc(), Calls::Waiting, firsts.as_slice(), 4, 50);
 }
 
 #[test]
 fn two_inserters_and_a_deleter(rt: HostRuntime) {
-    storm_of_numbers(&rt, rt.alloc(), [1001, 2001].as_slice(), 1, 100);
+    let firsts = [1001, 2001];
+    storm_of_numbers(&rt, rt.alloc(), Calls::Waiting, firsts.as_slice(), 1, 100);
+}
+
+#[test]
+fn two_inserters_and_a_deleter_that_try_again(rt: HostRuntime) {
+    let firsts = [1001, 2001];
+    storm_of_numbers(&rt, rt.alloc(), Calls::Attempts, firsts.as_slice(), 1, 100);
 }
 
 #[test]
@@ -197,7 +230,7 @@ fn two_inserters_of_loads_and_a_deleter(rt: HostRuntime) -> Result<(), Fail> {
         lists.push(loads_of(alloc, ids)?)?;
     }
     let mut got = Vec::new(alloc);
-    for loads in storm(&rt, alloc, lists, 1, 100) {
+    for loads in storm(&rt, alloc, Calls::Waiting, lists, 1, 100) {
         got.push(ids_of(alloc, loads)?)?;
     }
     check_all(&rt, alloc, got, firsts.as_slice());

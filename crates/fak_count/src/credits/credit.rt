@@ -13,6 +13,7 @@ use crate::fault::Worn;
 use atomic_table::Table;
 use fak_model::count_of;
 use std::alloc::Global;
+use std::fmt;
 use std::marker::{Brand, Model};
 
 /// A count that debits lower and credits raise, each by 1 in one atomic step, with no test.
@@ -71,5 +72,11 @@ impl Credit {
     {
         let found = observe::<Brand>(&self.table.shared, &mut seat.token);
         count_of(found)
+    }
+}
+
+impl fmt::Debug for Credit {
+    fn fmt<W: fmt::Write>(&self, f: &mut fmt::Formatter<W>) -> fmt::Result {
+        f.debug_struct("Credit").finish_non_exhaustive()
     }
 }

@@ -4,6 +4,7 @@ ghost use Rattle.std.specs.Prelude.{◌≡◌, ◌+◌};
 ghost use Rattle.fak_count.specs.Credits.{calls_made};
 
 use crate::credits::steps::CreditToken;
+use std::fmt;
 use std::marker::Model;
 
 /// The right to debit and credit a `Credit`, as often as its stint says. Contracts see its object, its name, its
@@ -35,5 +36,14 @@ impl CreditSeat {
         ensures { result + calls_made self.now ≡ self.now.stint }
     {
         self.left
+    }
+}
+
+impl fmt::Debug for CreditSeat {
+    fn fmt<W: fmt::Write>(&self, f: &mut fmt::Formatter<W>) -> fmt::Result {
+        f.debug_struct("CreditSeat")
+            .field("name", &self.name)
+            .field("left", &self.left)
+            .finish_non_exhaustive()
     }
 }

@@ -10,6 +10,7 @@ ghost use Rattle.fak_count.specs.Credits.{seat_of};
 use crate::credits::seat::CreditSeat;
 use crate::credits::steps::CreditToken;
 use fak_model::NameSet;
+use std::fmt;
 use std::marker::Model;
 
 /// Seats of a credit that were joined and make no calls any more. Contracts see its object, the names of the seats
@@ -66,5 +67,14 @@ impl CreditTally {
         ensures rest { IsAtRest credit_rules self.now.seen }
     {
         self.names.has_all(self.seats)
+    }
+}
+
+impl fmt::Debug for CreditTally {
+    fn fmt<W: fmt::Write>(&self, f: &mut fmt::Formatter<W>) -> fmt::Result {
+        f.debug_struct("CreditTally")
+            .field("seats", &self.seats)
+            .field("is_whole", &self.is_whole())
+            .finish_non_exhaustive()
     }
 }

@@ -13,6 +13,7 @@ use crate::rooms::steps::{add, release, test, withdraw};
 use atomic_table::Table;
 use fak_model::{BIAS, count_of};
 use std::alloc::Global;
+use std::fmt;
 use std::marker::{Brand, Model};
 
 /// A count that claims raise while it stays within a bound, by test, increment and retest, and that releases lower
@@ -78,5 +79,13 @@ impl Room {
         let found = release::<Brand>(&self.table.shared, &mut seat.token, d);
         seat.held -= d;
         count_of(found)
+    }
+}
+
+impl fmt::Debug for Room {
+    fn fmt<W: fmt::Write>(&self, f: &mut fmt::Formatter<W>) -> fmt::Result {
+        f.debug_struct("Room")
+            .field("bound", &self.bound)
+            .finish_non_exhaustive()
     }
 }

@@ -4,6 +4,7 @@ ghost use Rattle.std.specs.Prelude.{◌≡◌, ◌+◌};
 ghost use Rattle.fak_count.specs.Rooms.{granted_claims, held_amount};
 
 use crate::rooms::steps::RoomToken;
+use std::fmt;
 use std::marker::Model;
 
 /// The right to claim of a `Room`, and to give back what it holds. As many claims are granted as its stint says.
@@ -47,5 +48,15 @@ impl RoomSeat {
         ensures { result + granted_claims self.now ≡ self.now.stint }
     {
         self.left
+    }
+}
+
+impl fmt::Debug for RoomSeat {
+    fn fmt<W: fmt::Write>(&self, f: &mut fmt::Formatter<W>) -> fmt::Result {
+        f.debug_struct("RoomSeat")
+            .field("name", &self.name)
+            .field("held", &self.held)
+            .field("left", &self.left)
+            .finish_non_exhaustive()
     }
 }

@@ -9,6 +9,7 @@ ghost use Rattle.fak_model.specs.Room.{IsRoomHistory, amount_held, room_rules, s
 use crate::rooms::seat::RoomSeat;
 use crate::rooms::steps::RoomToken;
 use fak_model::NameSet;
+use std::fmt;
 use std::marker::Model;
 
 /// Seats of a room that were joined and make no calls any more. Contracts see its object, the names of the seats
@@ -71,5 +72,14 @@ impl RoomTally {
             → value self.now.seen ≡ pos (sum_below (λ seat. amount_held seat self.now.seen) self.now.object.seats) }
     {
         self.names.has_all(self.seats)
+    }
+}
+
+impl fmt::Debug for RoomTally {
+    fn fmt<W: fmt::Write>(&self, f: &mut fmt::Formatter<W>) -> fmt::Result {
+        f.debug_struct("RoomTally")
+            .field("seats", &self.seats)
+            .field("is_whole", &self.is_whole())
+            .finish_non_exhaustive()
     }
 }

@@ -15,6 +15,6 @@ pub struct Counts {
     pub gots: u64,
     /// A `Close` was read.
     pub is_shut: bool,
-    /// As many `Put`s stand before this index as there are `Got`s: the oldest item left is that of the next `Put`.
+    /// As many `Put`s come before this index as there are `Got`s: the oldest item left is that of the next `Put`.
     pub oldest: usize,
 }

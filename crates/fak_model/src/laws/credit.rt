@@ -15,7 +15,7 @@ pub fn every_credit_mark_is_lawful()
     ensures { (h : List CreditMark) → IsCreditHistory h }
 {}
 
-/// Every beginning of a credit's history is one.
+/// Every prefix of a credit's history is a history.
 pub fn a_beginning_of_a_credit_history_is_one()
     ensures { (h rest : List CreditMark) → IsCreditHistory (h ++ rest) → IsCreditHistory h }
 {}

@@ -12,13 +12,13 @@ pub fn amounts_held_in_a_file_table_fit()
         → sum_below (λ seat. amount_held seat h) seats ≤ k }
 {}
 
-/// Where no call is cut short nobody holds, and the count is the number of seats.
+/// Where no call is unfinished no seat holds, and the count is the number of seats.
 pub fn a_file_table_at_rest_is_free()
     ensures { (k seats : ℕ) (h : List FileMark) → IsFileHistory k h → AreNamed (file_rules k) seats h
         → IsAtRest (file_rules k) h → count k h ≡ pos k }
 {}
 
-/// Every beginning of a file table's history is one.
+/// Every prefix of a file table's history is a history.
 pub fn a_beginning_of_a_file_history_is_one()
     ensures { (k : ℕ) (h rest : List FileMark) → IsFileHistory k (h ++ rest) → IsFileHistory k h }
 {}

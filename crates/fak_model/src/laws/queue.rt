@@ -45,7 +45,7 @@ pub fn a_queue_is_found_shut_after_a_close<T>()
     ensures { (size : ℕ) (h : List (Mark T)) → IsQueueHistory size h → 0 < count closed_of h → 0 < count close_of h }
 {}
 
-/// A `Fill` stands after its seat's `Put`, which drew its ticket, and a `Take` after the `Fill` of its ticket.
+/// A `Fill` comes after its seat's `Put`, which drew its ticket, and a `Take` after the `Fill` of its ticket.
 pub fn a_cell_is_put_then_filled_then_taken<T>()
     ensures filled { (size k : ℕ) (h before after : List (Mark T)) (m : Mark T) → IsQueueHistory size h → before ++ m ∷ after ≡ h
         → m.kind ≡ Fill k → ((x : T) × Drew before m.seat (Put x) puts k) × (k < count puts before) }
@@ -64,7 +64,7 @@ pub fn a_seat_without_a_call_keeps_a_queue_history<T>()
         → ((seat : ℕ) → seat < seats → Owes words_of_call (seat_words (queue_rules size) seat h) []) → IsAtRest (queue_rules size) h }
 {}
 
-/// Every beginning of a queue's history is one.
+/// Every prefix of a queue's history is a history.
 pub fn a_beginning_of_a_queue_history_is_one<T>()
     ensures { (size : ℕ) (h rest : List (Mark T)) → IsQueueHistory size (h ++ rest) → IsQueueHistory size h }
 {}

@@ -19,7 +19,7 @@ pub fn a_room_at_rest_counts_what_is_held()
         → IsAtRest (room_rules bound) h → value h ≡ pos (sum_below (λ seat. amount_held seat h) seats) }
 {}
 
-/// Where each refused claim asked for 1, none is refused before so much is granted as the bound says; and no more is
+/// Where each refused claim asked for 1, none is refused before as much is granted as the bound says; and no more is
 /// granted than the bound and what is given back.
 pub fn a_room_refuses_at_its_bound()
     ensures refused { (bound : ℕ) (h : List RoomMark) → IsRoomHistory bound h → total other_amount h ≡ 0 → 0 < total refusal_of h
@@ -28,7 +28,7 @@ pub fn a_room_refuses_at_its_bound()
         → total up_amount h ≤ bound + total release_amount h }
 {}
 
-/// Every beginning of a room's history is one.
+/// Every prefix of a room's history is a history.
 pub fn a_beginning_of_a_room_history_is_one()
     ensures { (bound : ℕ) (h rest : List RoomMark) → IsRoomHistory bound (h ++ rest) → IsRoomHistory bound h }
 {}

@@ -5,8 +5,8 @@ ghost use Rattle.std.specs.List.{All, sum_by};
 ghost use Rattle.fak_model.specs.Calls.{before_mark};
 ghost use Rattle.fak_model.specs.Seats.{Begins, In, IsWhole, Knows, longer_of, marks_of, mine};
 
-/// Of two beginnings of one history one begins the other; whoever joins two seats knows the longer under both names;
-/// and with the names of all seats every mark is of a joined seat.
+/// Of two prefixes of one history one is a prefix of the other. Joining two seats gives the longer, under both names.
+/// Once every seat has joined, every mark belongs to a joined seat.
 pub fn seats_that_join_have_seen_one_history<M>()
     ensures one { (s t h : List M) → Begins s h → Begins t h → Begins s t ⊎ Begins t s }
     ensures joined { (seat_of : M → ℕ) (a b : List ℕ) (s t h : List M) → Knows seat_of a s h → Knows seat_of b t h
@@ -15,8 +15,8 @@ pub fn seats_that_join_have_seen_one_history<M>()
         → All (λ m. seat_of m < seats) seen → mine seat_of names seen ≡ seen }
 {}
 
-/// What a tally knows is what its seats know: the marks of one name; and with a new name more, under every weight of
-/// marks, what was known and the marks of that name. Whoever knows all marks of some names knows all that are mine.
+/// What a tally knows is what its seats know. A tally of one seat knows the marks of its name. Each new name adds its
+/// marks to what was known, under every weight of marks.
 pub fn a_tally_knows_what_its_seats_know<M>()
     ensures one { (seat_of : M → ℕ) (name : ℕ) (h : List M) → mine seat_of (name ∷ []) h ≡ marks_of seat_of name h }
     ensures more { (seat_of weight : M → ℕ) (names : List ℕ) (name : ℕ) (h : List M) → ¬ In name names
@@ -30,8 +30,8 @@ pub fn a_tally_knows_what_its_seats_know<M>()
         ≡ sum_by weight (mine seat_of names of_tally) + sum_by weight (marks_of seat_of name of_seat) }
 {}
 
-/// What the only seat of an object has seen is its own: a call makes it longer by the call's marks alone, and what stood
-/// before the first of them is what it had seen.
+/// The only seat of an object observes its own marks alone. A call makes them longer by the call's marks, and before the
+/// first of these comes what the seat had observed.
 pub fn an_only_seat_has_seen_its_own_marks<M>()
     ensures mine { (seat_of : M → ℕ) (seen : List M) → All (λ m. seat_of m < 1) seen → marks_of seat_of 0 seen ≡ seen }
     ensures grows { (seat_of : M → ℕ) (old new marks : List M) → All (λ m. seat_of m < 1) old → All (λ m. seat_of m < 1) new

@@ -24,7 +24,7 @@ ghost use Rattle.fak_queue.specs.Steps.{
   EndsOut,
 };
 
-use crate::contention::CountTests;
+use crate::contention::SharedCounts;
 use crate::found::LowerCount;
 use crate::place::Place;
 use crate::plays::{
@@ -37,28 +37,21 @@ use crate::words::{DRAWS_OUT, LOWER, TURNS, UPPER, read_lower};
 pub(crate) fn test_low<T, J: Call<T>>(
     words: &QueueWords<T>,
     token: &mut QueueToken<T>,
-    size: u64,
-    tests: &mut CountTests,
+    counts: &mut SharedCounts,
 ) -> LowerCount
     requires table { FitsTable token.old.table_id words.now.table_id words.now.key J.seats }
-    requires size { (size ≡ words.now.table_id.slots) × (size ≤ 4096) }
     requires seat { HasOneName token.old.me }
     requires phase { token.old.me.0.phase ≡ Some Idle }
     ensures same { token.new.table_id ≡ token.old.table_id }
     ensures told { Named token.old.me (λ n. TestedLow words.now.table_id.slots J.seats n result token.old.me token.new.me) }
 {
-    let found = tests
-        .lower
-        .test::<T, TestLowPlay<J>>(words, token, LOWER, size);
+    let found = words.load::<TestLowPlay<J>>(token, LOWER);
+    counts.lower.found(found);
     read_lower(found)
 }
 
 // Subtracts 1 from the lower count.
-pub(crate) fn sub_low<T, J: Call<T>>(
-    words: &QueueWords<T>,
-    token: &mut QueueToken<T>,
-    tests: &mut CountTests,
-) -> LowerCount
+pub(crate) fn sub_low<T, J: Call<T>>(words: &QueueWords<T>, token: &mut QueueToken<T>) -> LowerCount
     requires table { FitsTable token.old.table_id words.now.table_id words.now.key J.seats }
     requires seat { HasOneName token.old.me }
     requires phase { token.old.me.0.phase ≡ Some SubLow }
@@ -66,7 +59,6 @@ pub(crate) fn sub_low<T, J: Call<T>>(
     ensures told { Named token.old.me (λ n. SubtractedLow words.now.table_id.slots J.seats n result token.old.me token.new.me) }
 {
     let found = words.fetch_sub::<SubLowPlay<J>>(token, LOWER, 1);
-    tests.lower.retest(found);
     read_lower(found)
 }
 

@@ -24,7 +24,7 @@ ghost use Rattle.fak_queue.specs.Steps.{
   EndsIn,
 };
 
-use crate::contention::CountTests;
+use crate::contention::SharedCounts;
 use crate::found::UpperCount;
 use crate::place::Place;
 use crate::plays::{
@@ -38,7 +38,7 @@ pub(crate) fn test_up<T, J: Call<T>>(
     words: &QueueWords<T>,
     token: &mut QueueToken<T>,
     size: u64,
-    tests: &mut CountTests,
+    counts: &mut SharedCounts,
     _item: &T,
 ) -> UpperCount
     requires table { FitsTable token.old.table_id words.now.table_id words.now.key J.seats }
@@ -49,9 +49,8 @@ pub(crate) fn test_up<T, J: Call<T>>(
     ensures same { token.new.table_id ≡ token.old.table_id }
     ensures told { Named token.old.me (λ n. TestedUp words.now.table_id.slots J.seats n _item.now result token.old.me token.new.me) }
 {
-    let found = tests
-        .upper
-        .test::<T, TestUpPlay<J>>(words, token, UPPER, size);
+    let found = words.load::<TestUpPlay<J>>(token, UPPER);
+    counts.upper.found(found);
     read_upper(found, size)
 }
 
@@ -60,7 +59,6 @@ pub(crate) fn add_up<T, J: Call<T>>(
     words: &QueueWords<T>,
     token: &mut QueueToken<T>,
     size: u64,
-    tests: &mut CountTests,
 ) -> UpperCount
     requires table { FitsTable token.old.table_id words.now.table_id words.now.key J.seats }
     requires size { (size ≡ words.now.table_id.slots) × (size ≤ 4096) }
@@ -71,7 +69,6 @@ pub(crate) fn add_up<T, J: Call<T>>(
         → AddedUp words.now.table_id.slots J.seats n x result token.old.me token.new.me) }
 {
     let found = words.fetch_add::<AddUpPlay<J>>(token, UPPER, 1);
-    tests.upper.retest(found);
     read_upper(found, size)
 }
 

@@ -1,0 +1,79 @@
+//! What objects, seats and faults print.
+
+use super::credits::is;
+use fak_count::{Credit, CreditTally, OpenFault, Room, RoomTally, TirFault, Worn};
+use fak_files::{FileField, FileTable, FileTally, Hold};
+use std::test::*;
+
+#[test]
+fn rooms_print_their_numbers(rt: HostRuntime) -> Result<(), Fail> {
+    let alloc = rt.alloc();
+    let (room, mut seats) = Room::open(alloc, 5, 2, 9).expect(&rt, "open");
+    let mut seat = seats.pop().expect(&rt, "two seats");
+    is(&rt, room.tir(&mut seat, 3), Ok(0));
+    let text = format!(in alloc; "{room:?}, {seat:?}")?;
+    assert_eq!(rt;
+        text.as_str(),
+        "Room { bound: 5, .. }, RoomSeat { name: 1, held: 3, left: 8, .. }"
+    );
+    let text = format!(in alloc; "{:?}", RoomTally::of(seat))?;
+    assert_eq!(rt;
+        text.as_str(),
+        "RoomTally { seats: 2, is_whole: false, .. }"
+    );
+    let refused = Room::open(alloc, 5, 0, 9).expect_err(&rt, "a room of no seats");
+    is(&rt, refused, OpenFault::BadSeats);
+    let text = format!(in alloc; "{refused:?}, {:?}", TirFault::AtBound(-1))?;
+    assert_eq!(rt; text.as_str(), "BadSeats, AtBound(-1)");
+    Ok(())
+}
+
+#[test]
+fn credits_print_their_numbers(rt: HostRuntime) -> Result<(), Fail> {
+    let alloc = rt.alloc();
+    let (credit, mut seats) = Credit::open(alloc, 5, 1, 9).expect(&rt, "open");
+    let mut seat = seats.pop().expect(&rt, "one seat");
+    is(&rt, credit.debit(&mut seat), Ok(5));
+    let text = format!(in alloc; "{credit:?}, {seat:?}, {Worn:?}")?;
+    assert_eq!(rt;
+        text.as_str(),
+        "Credit { .. }, CreditSeat { name: 0, left: 8, .. }, Worn"
+    );
+    let text = format!(in alloc; "{:?}", CreditTally::of(seat))?;
+    assert_eq!(rt;
+        text.as_str(),
+        "CreditTally { seats: 1, is_whole: true, .. }"
+    );
+    Ok(())
+}
+
+#[test]
+fn file_tables_print_their_numbers(rt: HostRuntime) -> Result<(), Fail> {
+    let alloc = rt.alloc();
+    let (table, mut seats) = FileTable::open(alloc, 2, 1, 9).expect(&rt, "open");
+    let mut seat = seats.pop().expect(&rt, "one seat");
+    is(&rt, seat.hold(), Hold::Nothing);
+    is(&rt, table.try_write(&mut seat), Ok(()));
+    let text = format!(in alloc; "{table:?}, {seat:?}")?;
+    assert_eq!(rt;
+        text.as_str(),
+        "FileTable { entries: 2, .. }, FileSeat { name: 0, hold: Writing, left: 8, .. }"
+    );
+    if seat.hold() != Hold::Writing {
+        panic!(rt; "the hold")
+    }
+    table.set(&mut seat, 1, FileField::Uses, 3);
+    table.end(&mut seat);
+    let tally = FileTally::of(seat);
+    let text = format!(in alloc; "{tally:?}")?;
+    assert_eq!(rt; text.as_str(), "FileTally { seats: 1, is_whole: true, .. }");
+    if !tally.is_whole() {
+        panic!(rt; "one seat")
+    }
+    let text = format!(in alloc; "{:?}", table.close(tally))?;
+    assert_eq!(rt;
+        text.as_str(),
+        "FileRest { entries: [FileEntry { inode: 0, uses: 0 }, FileEntry { inode: 0, uses: 3 }] }"
+    );
+    Ok(())
+}
