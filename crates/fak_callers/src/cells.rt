@@ -4,7 +4,9 @@ ghost use Rattle.std.specs.Prelude.{◌≡◌, ◌≢◌, ℕ, ◌<◌, ◌≤�
 ghost use mathlib.Core.Option.{some, none};
 ghost use lib.ListN.{get_elem?};
 ghost use Rattle.atomic_table.specs.Table.{State};
-ghost use Rattle.fak_core.specs.QueueSchedule.{InCell};
+ghost use Rattle.fak_core.specs.QueueProgress.{HoldsTicketOf};
+ghost use Rattle.fak_core.specs.QueueSchedule.{InCell, stepped};
+ghost use Rattle.fak_core.specs.declared.queue.phase.Phase.TheVariants.{Idle};
 ghost use Rattle.fak_model.specs.declared.queue.Kind.TheVariants.{Close};
 ghost use Rattle.fak_model.specs.Queue.{Has};
 ghost use Rattle.fak_queue.specs.declared.limits.QueueLimits.{QueueLimits};
@@ -12,8 +14,8 @@ ghost use Rattle.fak_queue.specs.Shown.{IsShownQueue, QueueView};
 ghost use Rattle.fak_queue.specs.Words.{shut_bit};
 
 use fak_queue::laws::{
-    a_running_cell_has_one_owner, a_slot_is_out_while_its_cell_has_an_owner,
-    the_shut_bit_tells_of_a_close,
+    a_running_cell_has_one_owner, a_running_queue_never_locks_up,
+    a_slot_is_out_while_its_cell_has_an_owner, the_shut_bit_tells_of_a_close,
 };
 
 /// Two seats are never in one cell.
@@ -38,4 +40,16 @@ pub fn a_set_bit_has_its_close<T>()
         → shut_bit ≤ slice_index s.words 16 → Has Close shown.core.past }
 {
     the_shut_bit_tells_of_a_close::<T>();
+}
+
+/// While a call is open, the next steps of all seats do not all leave their seats where they stand; nor, where the call holds
+/// a ticket, do those of the seats that hold a ticket of the same cell.
+pub fn never_all_stuck<T>()
+    ensures call { (key : QueueLimits) (s : State (Option T) (QueueView T)) (shown : IsShownQueue key s) (a : ℕ) → shown.core.phase a ≢ Idle
+        → ((b : ℕ) → (stepped key.size shown.core b).phase b ≡ shown.core.phase b) → ⊥ }
+    ensures cell { (key : QueueLimits) (s : State (Option T) (QueueView T)) (shown : IsShownQueue key s) (a cell : ℕ)
+        → HoldsTicketOf key.size (shown.core.phase a) cell
+        → ((b : ℕ) → HoldsTicketOf key.size (shown.core.phase b) cell → (stepped key.size shown.core b).phase b ≡ shown.core.phase b) → ⊥ }
+{
+    a_running_queue_never_locks_up::<T>();
 }

@@ -4,8 +4,8 @@ ghost use Rattle.std.specs.Prelude.{◌≡◌, ℕ, ◌<◌, ◌≤◌, ◌++◌
 ghost use Rattle.fak_model.specs.declared.queue.Kind.TheVariants.{Fill, Take};
 ghost use Rattle.fak_model.specs.declared.queue.Mark.{Mark};
 ghost use Rattle.fak_model.specs.Histories.{AreNamed, IsAtRest, seat_words};
-ghost use Rattle.fak_model.specs.Queue.{Has, IsQueueHistory, contents, count, puts, queue_rules};
-ghost use Rattle.fak_model.specs.QueueOrder.{KeepsCallOrder};
+ghost use Rattle.fak_model.specs.Queue.{Has, IsQueueHistory, contents, count, gots, puts, queue_rules};
+ghost use Rattle.fak_model.specs.QueueOrder.{Deletion, DeletionEnded, Insertion, InsertionEnded};
 ghost use Rattle.fak_model.specs.QueuePast.{IsLegalPast};
 ghost use Rattle.fak_model.specs.Weights.{close_of, closed_of};
 ghost use Rattle.fak_queue.specs.declared.state.SeatState.TheVariants.{Idle};
@@ -19,19 +19,23 @@ use fak_model::laws::queue::{
 };
 use fak_queue::{Queue, Seat, Tally};
 
-/// Brings two seats together: no more is left in what they have seen than the queue has cells.
+/// Brings two seats together: in what they have seen no more was got than was put, and no more is left than the queue has
+/// cells.
 pub fn join_within_size(queue: &Queue<u64>, a: Seat<u64>, b: Seat<u64>) -> Tally<u64>
     requires { IsIdleSeat queue.now.object a × IsIdleSeat queue.now.object b }
-    ensures { length (contents result.seen) ≤ queue.now.size }
+    ensures got { count gots result.seen ≤ count puts result.seen }
+    ensures left { length (contents result.seen) ≤ queue.now.size }
 {
     a_queue_holds_no_more_than_its_size::<u64>();
     queue.join(Tally::of(a), b)
 }
 
-/// Brings two seats together: what they have seen keeps the order of its calls.
+/// Brings two seats together: where the insertion of p had ended before that of q began, a deletion of q ends only after one
+/// of p has begun.
 pub fn join_in_order(queue: &Queue<u64>, a: Seat<u64>, b: Seat<u64>) -> Tally<u64>
     requires { IsIdleSeat queue.now.object a × IsIdleSeat queue.now.object b }
-    ensures { KeepsCallOrder result.seen }
+    ensures { (p q : ℕ) (now later : List (Mark ℕ)) (of_q : Insertion result.seen q) → now ++ later ≡ result.seen
+        → InsertionEnded of_q.claim.before p → DeletionEnded now q → Deletion now p }
 {
     a_queue_keeps_the_order_of_its_calls::<u64>();
     queue.join(Tally::of(a), b)
@@ -56,8 +60,8 @@ pub fn shut_lawfully(queue: &Queue<u64>, seat: &mut Seat<u64>) -> bool
     queue.shut(seat)
 }
 
-/// Brings two seats together: a name that the queue does not have has no words in what they have seen, which more names
-/// name as well.
+/// Brings two seats together. A seat number beyond the queue's seats has no marks in the joined history, which is also well
+/// formed for a larger number of seats.
 pub fn join_among_more(queue: &Queue<u64>, a: Seat<u64>, b: Seat<u64>) -> Tally<u64>
     requires { IsIdleSeat queue.now.object a × IsIdleSeat queue.now.object b }
     ensures named { result.object.seats ≤ 64 → AreNamed (queue_rules queue.now.size) 64 result.seen }
@@ -78,7 +82,7 @@ pub fn tally_at_rest(seat: Seat<u64>) -> Tally<u64>
     Tally::of(seat)
 }
 
-/// Brings two seats together: where nobody has shut the queue, no insertion has found it shut.
+/// Brings two seats together: where no seat has shut the queue, no insertion has found it shut.
 pub fn join_open(queue: &Queue<u64>, a: Seat<u64>, b: Seat<u64>) -> Tally<u64>
     requires { IsIdleSeat queue.now.object a × IsIdleSeat queue.now.object b }
     ensures { count close_of result.seen ≡ 0 → count closed_of result.seen ≡ 0 }

@@ -12,3 +12,8 @@ pub mod QueueReached
 pub mod QueueLoads
 pub mod QueueSound
 pub mod QueueCalls
+pub mod QueueProgress
+pub mod QueueEvents
+pub mod QueueHolders
+pub mod QueueRounds
+pub mod Examples

@@ -25,13 +25,13 @@ kept_counts {A} size st s p κ U L K may e r u l i d nf nt nc =
     (turns_plain size m st.past st.turn nf nt K.turns) (cells_plain size m st.past st.cell K.legal nf K.cells) (shuts_plain m st.past st.shut nc K.closed)
 
 -- a seat that finds its turn may go on
-found_fill : {A : Type 0} (size : ℕ) (h : List (Mark A)) (turn : ℕ → ℕ) (k : ℕ) → 0 < size → Turns size h turn → turn (k % size) ≡ 2 * (k / size) → TakenBefore size h k
+pub found_fill : {A : Type 0} (size : ℕ) (h : List (Mark A)) (turn : ℕ → ℕ) (k : ℕ) → 0 < size → Turns size h turn → turn (k % size) ≡ 2 * (k / size) → TakenBefore size h k
 found_fill size h turn k z ts e j is =
     let cell : turn (k % size) ≡ turn (j % size) = ap turn (ap (λ i. i % size) is ∙ add-mod_right j size) in
     let round : k / size ≡ j / size + 1 = ap (λ i. i / size) is ∙ add-div_right j z in
     ts.up_taken j (omega arith)
 
-found_take : {A : Type 0} (size : ℕ) (h : List (Mark A)) (turn : ℕ → ℕ) (k : ℕ) → Turns size h turn → turn (k % size) ≡ 2 * (k / size) + 1 → Has (Fill k) h
+pub found_take : {A : Type 0} (size : ℕ) (h : List (Mark A)) (turn : ℕ → ℕ) (k : ℕ) → Turns size h turn → turn (k % size) ≡ 2 * (k / size) + 1 → Has (Fill k) h
 found_take size h turn k ts e = ts.up_filled k (omega arith)
 
 -- the store of an item

@@ -4,3 +4,6 @@ pub mod QueueMoves
 pub mod QueueSchedule
 pub mod QueueFields
 pub mod QueueWords
+pub mod QueueProgress
+pub mod ProgressExamples
+pub mod Equality

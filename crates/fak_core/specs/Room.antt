@@ -62,7 +62,7 @@ back_move found held d = record { step = step.Back; mark = Some (Back d); count 
 abbrev pub release_move : ℤ → ℕ → ℕ → RoomMove
 release_move found held d = record { step = step.Release; mark = Some (GivenBack d); count = found -ℤ pos d; seat = record { held = held - d; phase = Idle } }
 
--- the next step of a seat that holds so much, where the word has the value found
+-- the next step of a seat that holds this much, where the word has the value found
 abbrev pub next_move : ℕ → ℤ → ℕ → RoomPhase → Option RoomMove
 next_move bound found held Idle = None
 next_move bound found held (Testing d) = Some (test_move (fits bound found d) found held d)
@@ -111,7 +111,7 @@ abbrev pub amount_of : RoomCall → ℕ
 amount_of (Tir d) = d
 amount_of (Release d) = d
 
--- the phase in which a call of a seat that holds so much begins, or why it doesn't
+-- the phase in which a call of a seat that holds this much begins, or why it doesn't
 abbrev pub begun_phase : ℕ → RoomPhase → RoomCall → Result RoomPhase CoreFault
 begun_phase held Idle (Tir d) = Ok (Testing d)
 begun_phase held Idle (Release d) = if nat_lt held d then Err NotHeld else Ok (Releasing d)

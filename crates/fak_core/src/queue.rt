@@ -31,7 +31,7 @@ use words::QueueWords;
 ///
 /// Its value in contracts is the record of its fields, with the marks so far newest first; `queue_state` is the state
 /// that they show. The items put are kept by their tickets, beside the marks that say them.
-#[derive(Drop)]
+#[derive(Debug, Drop)]
 pub struct QueueCore {
     words: QueueWords,
     items: Vec<u64>,
@@ -53,7 +53,27 @@ impl Model for QueueCore {
         (fields_of c.words) { phases = c.phases.items; past = reverse c.marks.items }) c.items.items };
 }
 
-/// The phase in which a call of a seat that stands in this phase begins.
+// Two queues with the same marks have the same items.
+impl PartialEq for QueueCore {
+    ghost use Rattle.std.specs.Cmp.{partial_equiv_from_equiv};
+    ghost use Rattle.fak_core.specs.Equality.{same_queue, same_queue_laws};
+
+    ghost eq = { same_queue };
+
+    ghost laws = { partial_equiv_from_equiv same_queue_laws };
+
+    fn eq(&self, other: &QueueCore) -> bool {
+        self.words == other.words && self.phases == other.phases && self.marks == other.marks
+    }
+}
+
+impl Eq for QueueCore {
+    ghost use Rattle.fak_core.specs.Equality.{same_queue_laws};
+
+    ghost laws = { same_queue_laws };
+}
+
+/// The phase in which a call of a seat in this phase begins.
 fn first_phase(at: Phase<u64>, call: QueueCall) -> Result<Phase<u64>, CoreFault>
     ensures { result ≡ phase_begin (Some at) call }
 {

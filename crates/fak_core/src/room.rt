@@ -22,7 +22,7 @@ use std::marker::Model;
 ///
 /// Its value in contracts is a state: the bound, the count, what each seat holds and its next step, and the marks so
 /// far, newest first.
-#[derive(Drop)]
+#[derive(Debug, Drop)]
 pub struct RoomCore {
     bound: u64,
     count: i64,
@@ -40,6 +40,28 @@ impl Model for RoomCore {
     ghost view = { λ c. record { bound = c.bound; count = c.count; seats = c.seats.items; past = reverse c.marks.items } };
 
     ghost invariant = { λ c. IsSound (record { bound = c.bound; count = c.count; seats = c.seats.items; past = reverse c.marks.items }) };
+}
+
+impl PartialEq for RoomCore {
+    ghost use Rattle.std.specs.Cmp.{partial_equiv_from_equiv};
+    ghost use Rattle.fak_core.specs.Equality.{same_room, same_room_laws};
+
+    ghost eq = { same_room };
+
+    ghost laws = { partial_equiv_from_equiv same_room_laws };
+
+    fn eq(&self, other: &RoomCore) -> bool {
+        self.bound == other.bound
+            && self.count == other.count
+            && self.seats == other.seats
+            && self.marks == other.marks
+    }
+}
+
+impl Eq for RoomCore {
+    ghost use Rattle.fak_core.specs.Equality.{same_room_laws};
+
+    ghost laws = { same_room_laws };
 }
 
 impl RoomCore {

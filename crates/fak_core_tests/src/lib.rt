@@ -6,9 +6,15 @@ mod examples;
 #[cfg(test)]
 mod histories;
 #[cfg(test)]
+mod many_calls;
+#[cfg(test)]
 mod name_sets;
 #[cfg(test)]
+mod progress;
+#[cfg(test)]
 mod queues;
+#[cfg(test)]
+mod refusals;
 #[cfg(test)]
 mod rooms;
 #[cfg(test)]

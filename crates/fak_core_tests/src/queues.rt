@@ -5,7 +5,7 @@ use fak_model::{Kind, Mark};
 use std::process::Abort;
 
 /// A step of a seat: which it is, what it finds, and the mark that it leaves.
-type Step = (u64, CoreMove, i128, Option<Kind<u64>>);
+pub(crate) type Step = (u64, CoreMove, i128, Option<Kind<u64>>);
 
 /// Makes the next steps, which are to be these.
 fn steps(rt: &(impl AllocGlobal + Abort), core: &mut QueueCore, trace: &[Step]) {
@@ -21,19 +21,19 @@ fn steps(rt: &(impl AllocGlobal + Abort), core: &mut QueueCore, trace: &[Step]) 
 }
 
 /// Begins a call, which is not refused.
-fn begins(rt: &impl Abort, core: &mut QueueCore, seat: u64, call: QueueCall) {
+pub(crate) fn begins(rt: &impl Abort, core: &mut QueueCore, seat: u64, call: QueueCall) {
     assert!(rt; core.begin(seat, call).is_ok());
 }
 
-/// A queue of this size with so many seats.
-fn opened(rt: &(impl AllocGlobal + Abort), size: u64, seats: u64) -> QueueCore {
+/// A queue of this size with this many seats.
+pub(crate) fn opened(rt: &(impl AllocGlobal + Abort), size: u64, seats: u64) -> QueueCore {
     QueueCore::new(rt.alloc(), size, seats)
         .ok()
         .expect(rt, "a queue")
 }
 
 /// The steps of the first insertion, of 7, into a queue of one cell by seat 0.
-const INSERTED: [Step; 7] = [
+pub(crate) const INSERTED: [Step; 7] = [
     (0, CoreMove::TestUp, 0, None),
     (0, CoreMove::AddUp, 0, Some(Kind::ClaimIn)),
     (0, CoreMove::TicketIn, 0, Some(Kind::Put(7))),
@@ -44,7 +44,7 @@ const INSERTED: [Step; 7] = [
 ];
 
 /// The steps of the first deletion after it, by seat 0.
-const DELETED: [Step; 7] = [
+pub(crate) const DELETED: [Step; 7] = [
     (0, CoreMove::TestLow, 1, None),
     (0, CoreMove::SubLow, 1, Some(Kind::ClaimOut)),
     (0, CoreMove::TicketOut, 0, Some(Kind::Got(7))),

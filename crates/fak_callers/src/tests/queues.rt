@@ -1,6 +1,8 @@
 //! Queues, and what is said of their cells.
 
-use crate::cells::{a_set_bit_has_its_close, a_slot_that_is_out_has_an_owner, owners_are_apart};
+use crate::cells::{
+    a_set_bit_has_its_close, a_slot_that_is_out_has_an_owner, never_all_stuck, owners_are_apart,
+};
 use crate::queues::{
     join_among_more, join_in_order, join_in_turn, join_mark_by_mark, join_open, join_within_size,
     shut_lawfully, tally_at_rest,
@@ -59,4 +61,5 @@ fn cells_of_any_items() {
     owners_are_apart::<u64>();
     a_slot_that_is_out_has_an_owner::<u64>();
     a_set_bit_has_its_close::<u64>();
+    never_all_stuck::<u64>();
 }

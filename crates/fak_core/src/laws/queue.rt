@@ -11,7 +11,7 @@ pub fn every_queue_schedule_is_legal<T>()
     ensures { (size : ℕ) (schedule : List (QueueEvent T)) → 0 < size → IsQueueHistory size (history_of (reached size schedule)) }
 {}
 
-/// At most one seat at a time stands between the load that found its turn at a cell and the store that gives the
+/// At most one seat at a time is between the load that found its turn at a cell and the store that gives the
 /// cell on.
 pub fn a_cell_has_one_owner<T>()
     ensures { (size : ℕ) (schedule : List (QueueEvent T)) (s t c : ℕ) → 0 < size

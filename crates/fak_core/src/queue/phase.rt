@@ -1,11 +1,11 @@
-//! Where a seat of a queue stands.
+//! The phase of a queue core's seat.
 
 ghost use Rattle.std.specs.Prelude.{◌≡◌};
 
 use std::alloc::AllocError;
 
 /// The next move of a seat, with the item and the ticket of its call.
-#[derive(Drop)]
+#[derive(Debug, PartialEq, Eq, Drop)]
 pub enum Phase<T> {
     /// No call is open.
     Idle,

@@ -13,7 +13,7 @@ use fak_model::cell_of;
 use std::alloc::Global;
 
 /// The counts, the ticket counters, the shut bit, and a turn and a content for each cell.
-#[derive(Drop)]
+#[derive(Debug, PartialEq, Eq, Drop)]
 pub struct QueueWords {
     pub size: u64,
     pub upper: i64,
@@ -51,7 +51,7 @@ impl QueueWords {
         })
     }
 
-    /// The step of a seat that stands in this phase, where the next deletion's ticket draws `drawn`.
+    /// The step of a seat in this phase, where the next deletion's ticket draws `drawn`.
     pub fn next_move(&self, drawn: Option<u64>, phase: Phase<u64>) -> Option<QueueMove<u64>>
         requires size { (1 ≤ self.now.size) × (self.now.size ≤ 4096) }
         requires upper { IsSmall self.now.upper }

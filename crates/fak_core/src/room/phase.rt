@@ -1,7 +1,7 @@
-//! Where a seat of a room core stands.
+//! The phase of a room core's seat.
 
 /// The next step of a seat, with the amount of its call.
-#[derive(Clone, Copy)]
+#[derive(Clone, Copy, Debug, PartialEq, Eq)]
 pub enum RoomPhase {
     /// No call: there is no next step.
     Idle,
@@ -16,7 +16,7 @@ pub enum RoomPhase {
 }
 
 /// What a seat of a room core holds, and its next step.
-#[derive(Clone, Copy)]
+#[derive(Clone, Copy, Debug, PartialEq, Eq)]
 pub struct CoreSeat {
     pub held: u64,
     pub phase: RoomPhase,

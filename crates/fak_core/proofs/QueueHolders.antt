@@ -1,0 +1,74 @@
+-- How many seats hold tickets at once, and so how many turns of a cell are still to come.
+use Rattle.std.specs.Prelude.{min}
+use Rattle.fak_model.proofs.Leading.{sum_le}
+use Rattle.fak_model.proofs.QueueCounts.{seat_bound}
+use Rattle.fak_model.proofs.QueueDrawn.{in_drawn, stage_beyond, drawn_few}
+use Rattle.fak_core.specs.QueueProgress.{HoldsTicketOf, AreIdleFrom}
+use Rattle.fak_core.proofs.Common.{Phase, TurnIn, StoreItem, SetFull, TurnOut, LoadItem, SetFree, QueueState, stage, sum_below, sum_most, ◌≡◌, ℕ, zero, suc, ◌+◌, ◌-◌, ◌<◌, ◌≤◌, refl, sym, ap, ◌∙◌, inl, inr, arith, same_or_not}
+use Rattle.fak_core.proofs.QueueKept.{shown, IsKept}
+use Rattle.fak_core.proofs.QueueTurns.{le_or_lt}
+use Rattle.fak_core.proofs.QueueProgress.{due, held}
+use Rattle.fak_core.proofs.QueueEvents.{holds_open}
+
+-- ---- sums over seats
+
+sum_strict : (f f' : ℕ → ℕ) (t n : ℕ) → t < n → ((s : ℕ) → f s ≤ f' s) → f t < f' t → sum_below f n < sum_below f' n
+sum_strict f f' t zero l each more = absurd (omega arith)
+sum_strict f f' t (suc n) l each more = elim (same_or_not t n) [
+  | inl q ↦ (let a = ap f q in let b = ap f' q in let rest = sum_le f f' n each in omega arith)
+  | inr ne ↦ (let rest = sum_strict f f' t n (omega arith) each more in let here = each n in omega arith)
+]
+
+-- values that this many seats of weight have weigh no more than the seats
+seats_for : (w g : ℕ → ℕ) (n low m : ℕ) → ((v : ℕ) → low ≤ v → v < low + m → (t : ℕ) × (t < n) × (g t ≡ v) × (1 ≤ w t)) → m ≤ sum_below (λ s. w s - ((g s + 1) - (low + m))) n
+seats_for w g n low zero each = omega arith
+seats_for w g n low (suc m) each =
+    let rest = seats_for w g n low m (λ v a b. each v a (omega arith)) in
+    let t = each (low + m) (omega arith) (omega arith) in
+    let more = sum_strict (λ s. w s - ((g s + 1) - (low + m))) (λ s. w s - ((g s + 1) - (low + suc m))) t.0 n t.1 (λ s. omega arith) (omega (arith, t.2, t.3)) in
+    omega arith
+
+few_values : (w g : ℕ → ℕ) (n low m : ℕ) → ((v : ℕ) → low ≤ v → v < low + m → (t : ℕ) × (t < n) × (g t ≡ v) × (1 ≤ w t)) → m ≤ sum_below w n
+few_values w g n low m each = omega (arith, seats_for w g n low m each, sum_le (λ s. w s - ((g s + 1) - (low + m))) w n (λ s. omega arith))
+
+-- ---- who holds a ticket
+
+-- who holds a ticket is one of the seats
+pub below : {A : Type 0} (size seats : ℕ) (st : QueueState A) (s c : ℕ) → AreIdleFrom seats st → HoldsTicketOf size (st.phase s) c → s < seats
+below size seats st s c idle h = elim (le_or_lt seats s) [
+  | inl b ↦ absurd (holds_open size (st.phase s) c h (idle s b))
+  | inr l ↦ l
+]
+
+holds_drawn : {A : Type 0} (size : ℕ) (p : Phase A) (c : ℕ) → HoldsTicketOf size p c → in_drawn (shown p) ≡ 1
+holds_drawn size (TurnIn k x) c h = refl
+holds_drawn size (StoreItem k x) c h = refl
+holds_drawn size (SetFull k x) c h = refl
+holds_drawn size (TurnOut k) c h = refl
+holds_drawn size (LoadItem k) c h = refl
+holds_drawn size (SetFree k) c h = refl
+holds_drawn size _ c h = absurd h
+
+-- ---- turns to come
+
+-- no more turns of a cell are to come, up to a seat's own, than the queue has cells
+pub turns_in_size : {A : Type 0} (size : ℕ) (st : QueueState A) (s c : ℕ) → 0 < size → IsKept size st → HoldsTicketOf size (st.phase s) c → (due size (st.phase s) + 1) - st.turn c ≤ size
+turns_in_size {A} size st s c z K h =
+    let n = seat_bound st.past in
+    let few = few_values (λ t. in_drawn (stage st.past t)) (λ t. due size (st.phase t)) n (st.turn c) ((due size (st.phase s) + 1) - st.turn c) (λ v a b.
+    let w = held size st c v z K (due size (st.phase s) - v) s (h, omega arith) a in
+    let one : in_drawn (stage st.past w.0) ≡ 1 = ap in_drawn (sym (K.phases w.0)) ∙ holds_drawn size (st.phase w.0) c w.1.0 in
+    let within : w.0 < n = elim (le_or_lt n w.0) [ inl out ↦ absurd (omega (arith, one, ap in_drawn (stage_beyond st.past w.0 out))) | inr l ↦ l ] in
+    (w.0, within, w.1.1, omega arith)) in
+    omega (arith, few, drawn_few size st.past K.legal)
+
+-- nor than there are seats
+turns_in_seats : {A : Type 0} (size seats : ℕ) (st : QueueState A) (s c : ℕ) → 0 < size → IsKept size st → AreIdleFrom seats st → HoldsTicketOf size (st.phase s) c → (due size (st.phase s) + 1) - st.turn c ≤ seats
+turns_in_seats {A} size seats st s c z K idle h =
+    let few = few_values (λ t. 1) (λ t. due size (st.phase t)) seats (st.turn c) ((due size (st.phase s) + 1) - st.turn c) (λ v a b.
+    let w = held size st c v z K (due size (st.phase s) - v) s (h, omega arith) a in
+    (w.0, below size seats st w.0 c idle w.1.0, w.1.1, omega arith)) in
+    omega (arith, few, sum_most (λ t. 1) 1 seats (λ t l. omega arith))
+
+pub few_turns : {A : Type 0} (size seats : ℕ) (st : QueueState A) (s c : ℕ) → 0 < size → IsKept size st → AreIdleFrom seats st → HoldsTicketOf size (st.phase s) c → (due size (st.phase s) + 1) - st.turn c ≤ min size seats
+few_turns size seats st s c z K idle h = omega (arith, turns_in_size size st s c z K h, turns_in_seats size seats st s c z K idle h)

@@ -1,0 +1,298 @@
+-- A queue core never locks up: while a call is open, some seat is unblocked, and its next step moves its call forward.
+use Rattle.std.proofs.Math.Nat.{add-mod_right, add-div_right}
+use Rattle.fak_core.specs.QueueProgress.{MakesProgress, steps_left, steps_made, HoldsTicketOf}
+use Rattle.fak_core.specs.QueueSchedule.{after_step, stepped}
+use Rattle.fak_core.proofs.Common.{Phase, Idle, TestUp, AddUp, BackUp, EndInsert, BackLow, EndDelete, SetShut, TurnIn, StoreItem, SetFull, TestLow, SubLow, TicketOut, TurnOut, LoadItem, SetFree, QueueMove, QueueState, ticket_out, ◌≡◌, ◌≢◌, ◌⊎◌, ℕ, zero, suc, ◌+◌, ◌-◌, ◌*◌, ◌/◌, ◌%◌, ◌<◌, ◌≤◌, ◌==◌, int_lt, pos, List, Option, None, Some, refl, sym, ap, ◌∙◌, subst, inl, inr, arith, nat_tests, Kind, Fill, Take, Mark, Putting, Getting, Has, item_of, same_or_not, getting_below, putting_below, putting_unfilled, getting_untaken, contents_bounded, next_move, past_after}
+use Rattle.fak_core.proofs.QueueKept.{shown, TakenBefore, IsReady, IsKept}
+use Rattle.fak_core.proofs.QueueTurns.{at_here, at_else, le_or_lt}
+use Rattle.fak_core.proofs.QueueOwners.{filling, emptying, waits_fill, waits_take}
+use Rattle.fak_core.proofs.QueueSteps.{by_test, found_fill, found_take}
+use Rattle.fak_core.proofs.QueueReached.{draws_put}
+use Rattle.fak_model.proofs.QueueDrawn.{filled_or_putting, taken_or_getting}
+
+-- ---- a step of a seat, in its own phase and in the others'
+
+-- where a seat stands after its move
+abbrev pub after_phase : {A : Type 0} → Phase A → Option (QueueMove A) → Phase A
+after_phase p None = p
+after_phase p (Some m) = m.phase
+
+pub step_here : {A : Type 0} (st : QueueState A) (s : ℕ) (o : Option (QueueMove A)) → (after_step st s o).phase s ≡ after_phase (st.phase s) o
+step_here st s None = refl
+step_here st s (Some m) = at_here st.phase s m.phase
+
+pub step_else : {A : Type 0} (st : QueueState A) (s t : ℕ) (o : Option (QueueMove A)) → t ≢ s → (after_step st s o).phase t ≡ st.phase t
+step_else st s t None n = refl
+step_else st s t (Some m) n = at_else st.phase s t m.phase n
+
+marked_more : {A : Type 0} (s : ℕ) (o : Option (Kind A)) (h : List (Mark A)) (κ : Kind A) → Has κ h → Has κ (past_after s o h)
+marked_more s None h κ e = e
+marked_more s (Some k) h κ e = inr e
+
+pub step_more : {A : Type 0} (st : QueueState A) (s : ℕ) (o : Option (QueueMove A)) (κ : Kind A) → Has κ st.past → Has κ (after_step st s o).past
+step_more st s None κ e = e
+step_more st s (Some m) κ e = marked_more s m.mark st.past κ e
+
+-- ---- who is unblocked
+
+-- a call is open, and where it waits for a turn this has come
+abbrev pub IsUnblocked : {A : Type 0} → ℕ → List (Mark A) → Phase A → Type 0
+IsUnblocked size h Idle = ⊥
+IsUnblocked size h (TurnIn k x) = TakenBefore size h k
+IsUnblocked size h (TurnOut k) = Has (Fill k) h
+IsUnblocked size h _ = Unit {0}
+
+pub unblocked_more : {A : Type 0} (size : ℕ) (h h' : List (Mark A)) (p : Phase A) → ((κ : Kind A) → Has κ h → Has κ h') → IsUnblocked size h p → IsUnblocked size h' p
+unblocked_more size h h' Idle more f = f
+unblocked_more size h h' (TurnIn k x) more f = λ j e. more (Take j) (f j e)
+unblocked_more size h h' (TurnOut k) more f = more (Fill k) f
+unblocked_more size h h' _ more f = tt
+
+out_falls : {A : Type 0} (n : ℕ) (o : Option A) (x : A) → o ≡ Some x → steps_left {A = A} (ticket_out n o).phase < 5
+out_falls n None x e = absurd cc
+out_falls n (Some y) x e = omega arith
+
+-- the step of an unblocked seat leaves it fewer steps
+falls : {A : Type 0} (size : ℕ) (st : QueueState A) (s : ℕ) (p : Phase A) → 0 < size → IsKept size st → st.phase s ≡ p → IsUnblocked size st.past p
+    → steps_left (after_phase p (next_move size st p)) < steps_left p
+falls size st s Idle z K e f = absurd f
+falls {A} size st s (TestUp x) z K e f =
+    by_test (λ (m : QueueMove A). steps_left m.phase < 7) st.shut _ _ (λ _. omega arith)
+    (λ _. by_test (λ (m : QueueMove A). steps_left m.phase < 7) (int_lt st.upper (pos size)) _ _ (λ _. omega arith) (λ _. omega arith))
+falls {A} size st s (AddUp x) z K e f =
+    by_test (λ (m : QueueMove A). steps_left m.phase < 6) st.shut _ _ (λ _. omega arith)
+    (λ _. by_test (λ (m : QueueMove A). steps_left m.phase < 6) (int_lt st.upper (pos size)) _ _ (λ _. omega arith) (λ _. omega arith))
+falls {A} size st s (TurnIn k x) z K e f =
+    let here = filling size st s k x z K (sym (K.phases s) ∙ ap shown e) f in
+    by_test (λ (m : QueueMove A). steps_left m.phase < 4) (st.turn (k % size) == 2 * (k / size)) _ _ (λ _. omega arith) (λ b. absurd (grind (arith, nat_tests)))
+falls {A} size st s TestLow z K e f = by_test (λ (m : QueueMove A). steps_left m.phase < 7) (int_lt (pos 0) st.lower) _ _ (λ _. omega arith) (λ _. omega arith)
+falls {A} size st s SubLow z K e f = by_test (λ (m : QueueMove A). steps_left m.phase < 6) (int_lt (pos 0) st.lower) _ _ (λ _. omega arith) (λ _. omega arith)
+falls size st s TicketOut z K e f = let d = draws_put size st s K e in out_falls st.draws_out (item_of st.past st.draws_out) d.0 d.1
+falls {A} size st s (TurnOut k) z K e f =
+    let here = emptying size st s k K (sym (K.phases s) ∙ ap shown e) f in
+    by_test (λ (m : QueueMove A). steps_left m.phase < 4) (st.turn (k % size) == 2 * (k / size) + 1) _ _ (λ _. omega arith) (λ b. absurd (grind (arith, nat_tests)))
+falls size st s _ z K e f = omega arith
+
+pub unblocked_falls : {A : Type 0} (size : ℕ) (st : QueueState A) (s : ℕ) → 0 < size → IsKept size st → IsUnblocked size st.past (st.phase s) → steps_left ((stepped size st s).phase s) < steps_left (st.phase s)
+unblocked_falls size st s z K f =
+    let here = ap steps_left (step_here st s (next_move size st (st.phase s))) in
+    let down = falls size st s (st.phase s) z K refl f in omega arith
+
+-- the phase comes after one whose call has made this many steps, or ends the call
+abbrev Counts : {A : Type 0} → ℕ → Phase A → Type 0
+Counts n p = (p ≡ Idle) ⊎ (steps_made p ≡ n + 1)
+
+out_counts : {A : Type 0} (n : ℕ) (o : Option A) (x : A) → o ≡ Some x → Counts 2 (ticket_out n o).phase
+out_counts n None x e = absurd cc
+out_counts n (Some y) x e = inr refl
+
+-- the step of an unblocked seat is one more, or its call's last
+counts : {A : Type 0} (size : ℕ) (st : QueueState A) (s : ℕ) (p : Phase A) → 0 < size → IsKept size st → st.phase s ≡ p → IsUnblocked size st.past p
+    → Counts (steps_made p) (after_phase p (next_move size st p))
+counts size st s Idle z K e f = absurd f
+counts {A} size st s (TestUp x) z K e f =
+    by_test (λ (m : QueueMove A). Counts 0 m.phase) st.shut _ _ (λ _. inl refl)
+    (λ _. by_test (λ (m : QueueMove A). Counts 0 m.phase) (int_lt st.upper (pos size)) _ _ (λ _. inr refl) (λ _. inl refl))
+counts {A} size st s (AddUp x) z K e f =
+    by_test (λ (m : QueueMove A). Counts 1 m.phase) st.shut _ _ (λ _. inr refl)
+    (λ _. by_test (λ (m : QueueMove A). Counts 1 m.phase) (int_lt st.upper (pos size)) _ _ (λ _. inr refl) (λ _. inr refl))
+counts {A} size st s (TurnIn k x) z K e f =
+    let here = filling size st s k x z K (sym (K.phases s) ∙ ap shown e) f in
+    by_test (λ (m : QueueMove A). Counts 3 m.phase) (st.turn (k % size) == 2 * (k / size)) _ _ (λ _. inr refl) (λ b. absurd (grind (arith, nat_tests)))
+counts {A} size st s TestLow z K e f = by_test (λ (m : QueueMove A). Counts 0 m.phase) (int_lt (pos 0) st.lower) _ _ (λ _. inr refl) (λ _. inl refl)
+counts {A} size st s SubLow z K e f = by_test (λ (m : QueueMove A). Counts 1 m.phase) (int_lt (pos 0) st.lower) _ _ (λ _. inr refl) (λ _. inr refl)
+counts size st s TicketOut z K e f = let d = draws_put size st s K e in out_counts st.draws_out (item_of st.past st.draws_out) d.0 d.1
+counts {A} size st s (TurnOut k) z K e f =
+    let here = emptying size st s k K (sym (K.phases s) ∙ ap shown e) f in
+    by_test (λ (m : QueueMove A). Counts 3 m.phase) (st.turn (k % size) == 2 * (k / size) + 1) _ _ (λ _. inr refl) (λ b. absurd (grind (arith, nat_tests)))
+counts size st s (BackUp x) z K e f = inl refl
+counts size st s (EndInsert k) z K e f = inl refl
+counts size st s BackLow z K e f = inl refl
+counts size st s (EndDelete k) z K e f = inl refl
+counts size st s SetShut z K e f = inl refl
+counts size st s _ z K e f = inr refl
+
+pub step_counted : {A : Type 0} (size : ℕ) (st : QueueState A) (s : ℕ) → 0 < size → IsKept size st → IsUnblocked size st.past (st.phase s)
+    → ((stepped size st s).phase s ≡ Idle) ⊎ (steps_made ((stepped size st s).phase s) ≡ steps_made (st.phase s) + 1)
+step_counted size st s z K f = subst (Counts (steps_made (st.phase s))) (sym (step_here st s (next_move size st (st.phase s)))) (counts size st s (st.phase s) z K refl f)
+
+pub unblocked_moves : {A : Type 0} (size : ℕ) (st : QueueState A) (s : ℕ) → 0 < size → IsKept size st → IsUnblocked size st.past (st.phase s) → MakesProgress size st s
+unblocked_moves size st s z K f e = let down = unblocked_falls size st s z K f in let same = ap steps_left e in omega arith
+
+-- ---- who holds up a waiting call
+
+-- the turn at which the seat's ticket has its cell
+abbrev pub due : {A : Type 0} → ℕ → Phase A → ℕ
+due size (TurnIn k x) = 2 * (k / size)
+due size (StoreItem k x) = 2 * (k / size)
+due size (SetFull k x) = 2 * (k / size)
+due size (TurnOut k) = 2 * (k / size) + 1
+due size (LoadItem k) = 2 * (k / size) + 1
+due size (SetFree k) = 2 * (k / size) + 1
+due size _ = 0
+
+putting_place : {A : Type 0} (size : ℕ) (p : Phase A) (k : ℕ) (x : A) → shown p ≡ Putting k x → HoldsTicketOf size p (k % size) × (due size p ≡ 2 * (k / size))
+putting_place size (TurnIn j y) k x e = let same : j ≡ k = cc in (ap (λ i. i % size) same, ap (λ i. 2 * (i / size)) same)
+putting_place size (StoreItem j y) k x e = let same : j ≡ k = cc in (ap (λ i. i % size) same, ap (λ i. 2 * (i / size)) same)
+putting_place size (SetFull j y) k x e = let same : j ≡ k = cc in (ap (λ i. i % size) same, ap (λ i. 2 * (i / size)) same)
+putting_place size _ k x e = absurd cc
+
+getting_place : {A : Type 0} (size : ℕ) (p : Phase A) (k : ℕ) → shown p ≡ Getting k → HoldsTicketOf size p (k % size) × (due size p ≡ 2 * (k / size) + 1)
+getting_place size (TurnOut j) k e = let same : j ≡ k = cc in (ap (λ i. i % size) same, ap (λ i. 2 * (i / size) + 1) same)
+getting_place size (LoadItem j) k e = let same : j ≡ k = cc in (ap (λ i. i % size) same, ap (λ i. 2 * (i / size) + 1) same)
+getting_place size (SetFree j) k e = let same : j ≡ k = cc in (ap (λ i. i % size) same, ap (λ i. 2 * (i / size) + 1) same)
+getting_place size _ k e = absurd cc
+
+-- who holds a ticket inserts or deletes under it
+holder : {A : Type 0} (size : ℕ) (p : Phase A) (c : ℕ) → HoldsTicketOf size p c
+    → ((k : ℕ) × (x : A) × (shown p ≡ Putting k x) × (k % size ≡ c) × (due size p ≡ 2 * (k / size))) ⊎ ((k : ℕ) × (shown p ≡ Getting k) × (k % size ≡ c) × (due size p ≡ 2 * (k / size) + 1))
+holder size (TurnIn k x) c h = inl (k, x, refl, h, refl)
+holder size (StoreItem k x) c h = inl (k, x, refl, h, refl)
+holder size (SetFull k x) c h = inl (k, x, refl, h, refl)
+holder size (TurnOut k) c h = inr (k, refl, h, refl)
+holder size (LoadItem k) c h = inr (k, refl, h, refl)
+holder size (SetFree k) c h = inr (k, refl, h, refl)
+holder size _ c h = absurd h
+
+-- the turn of who holds a ticket has not passed
+pub not_passed : {A : Type 0} (size : ℕ) (st : QueueState A) (s c : ℕ) → IsKept size st → HoldsTicketOf size (st.phase s) c → st.turn c ≤ due size (st.phase s)
+not_passed size st s c K h = elim (holder size (st.phase s) c h) [
+  | inl w ↦ (let words = ap st.turn w.3 in
+      elim (le_or_lt (2 * (w.0 / size) + 1) (st.turn (w.0 % size))) [
+        | inl over ↦ absurd (putting_unfilled size st.past K.legal s w.0 w.1 (sym (K.phases s) ∙ w.2) (K.turns.up_filled w.0 over))
+        | inr under ↦ omega (arith, words, w.4)
+      ])
+  | inr w ↦ (let words = ap st.turn w.2 in
+      elim (le_or_lt (2 * (w.0 / size) + 2) (st.turn (w.0 % size))) [
+        | inl over ↦ absurd (getting_untaken size st.past K.legal s w.0 (sym (K.phases s) ∙ w.1) (K.turns.up_taken w.0 over))
+        | inr under ↦ omega (arith, words, w.3)
+      ])
+]
+
+-- a seat whose turn has come is unblocked
+pub turn_unblocks : {A : Type 0} (size : ℕ) (st : QueueState A) (c : ℕ) (p : Phase A) → 0 < size → IsKept size st → HoldsTicketOf size p c → st.turn c ≡ due size p → IsUnblocked size st.past p
+turn_unblocks size st c (TurnIn k x) z K h t = found_fill size st.past st.turn k z K.turns (ap st.turn h ∙ t)
+turn_unblocks size st c (TurnOut k) z K h t = found_take size st.past st.turn k K.turns (ap st.turn h ∙ t)
+turn_unblocks size st c (StoreItem k x) z K h t = tt
+turn_unblocks size st c (SetFull k x) z K h t = tt
+turn_unblocks size st c (LoadItem k) z K h t = tt
+turn_unblocks size st c (SetFree k) z K h t = tt
+turn_unblocks size st c _ z K h t = absurd h
+
+-- the insertion holds up the deletion of its ticket
+filler : {A : Type 0} (size : ℕ) (st : QueueState A) (s k : ℕ) → IsKept size st → st.phase s ≡ TurnOut k → (Has (Fill k) st.past → ⊥) → (t : ℕ) × (x : A) × (shown (st.phase t) ≡ Putting k x)
+filler size st s k K e un =
+    let drawn = getting_below st.past s k (sym (K.phases s) ∙ ap shown e) in
+    let fit = contents_bounded size st.past K.legal in
+    elim (filled_or_putting size st.past K.legal k (omega arith)) [
+      | inl f ↦ absurd (un f)
+      | inr w ↦ (w.0, w.1, K.phases w.0 ∙ w.2)
+    ]
+
+-- the deletion one round before holds up the insertion
+taker : {A : Type 0} (size : ℕ) (st : QueueState A) (s k j : ℕ) (x : A) → IsKept size st → st.phase s ≡ TurnIn k x → k ≡ j + size → (Has (Take j) st.past → ⊥) → (t : ℕ) × (shown (st.phase t) ≡ Getting j)
+taker size st s k j x K e is un =
+    let drawn = putting_below st.past s k x (sym (K.phases s) ∙ ap shown e) in
+    let fit = contents_bounded size st.past K.legal in
+    elim (taken_or_getting size st.past K.legal j (omega arith)) [
+      | inl f ↦ absurd (un f)
+      | inr w ↦ (w.0, K.phases w.0 ∙ w.1)
+    ]
+
+-- the seat holds the ticket of this cell that has it at this turn
+abbrev pub HoldsTurn : {A : Type 0} → ℕ → QueueState A → ℕ → ℕ → ℕ → Type 0
+HoldsTurn size st t c v = HoldsTicketOf size (st.phase t) c × (due size (st.phase t) ≡ v)
+
+-- while a seat's turn has not come, another seat holds the turn before
+before : {A : Type 0} (size : ℕ) (st : QueueState A) (s c v : ℕ) (p : Phase A) → 0 < size → IsKept size st → st.phase s ≡ p → HoldsTicketOf size p c → st.turn c < due size p → due size p ≡ v + 1
+    → (t : ℕ) × HoldsTurn size st t c v
+before size st s c v (TurnIn k x) z K e h l is =
+    let words = ap st.turn h in
+    let ne : st.turn (k % size) ≢ 2 * (k / size) = λ q. omega arith in
+    let w = waits_fill size st s k x z K (sym (K.phases s) ∙ ap shown e) ne in
+    let t = taker size st s k w.0 x K e w.1 w.2 in
+    let place = getting_place size (st.phase t.0) w.0 t.1 in
+    let cell : w.0 % size ≡ c = sym (add-mod_right w.0 size) ∙ (ap (λ i. i % size) (sym w.1) ∙ h) in
+    let round : k / size ≡ w.0 / size + 1 = ap (λ i. i / size) w.1 ∙ add-div_right w.0 z in
+    (t.0, (subst (HoldsTicketOf size (st.phase t.0)) cell place.0, omega (arith, place.1)))
+before size st s c v (TurnOut k) z K e h l is =
+    let words = ap st.turn h in
+    let ne : st.turn (k % size) ≢ 2 * (k / size) + 1 = λ q. omega arith in
+    let t = filler size st s k K e (waits_take size st s k K (sym (K.phases s) ∙ ap shown e) ne) in
+    let place = putting_place size (st.phase t.0) k t.1 t.2 in
+    (t.0, (subst (HoldsTicketOf size (st.phase t.0)) h place.0, omega (arith, place.1)))
+before size st s c v (StoreItem k x) z K e h l is =
+    let now = filling size st s k x z K (sym (K.phases s) ∙ ap shown e) (subst (IsReady size st.past st.cell) e (K.ready s)) in
+    absurd (omega (arith, ap st.turn h))
+before size st s c v (SetFull k x) z K e h l is =
+    let r : IsReady size st.past st.cell (SetFull k x) = subst (IsReady size st.past st.cell) e (K.ready s) in
+    let now = filling size st s k x z K (sym (K.phases s) ∙ ap shown e) r.0 in
+    absurd (omega (arith, ap st.turn h))
+before size st s c v (LoadItem k) z K e h l is =
+    let now = emptying size st s k K (sym (K.phases s) ∙ ap shown e) (subst (IsReady size st.past st.cell) e (K.ready s)) in
+    absurd (omega (arith, ap st.turn h))
+before size st s c v (SetFree k) z K e h l is =
+    let now = emptying size st s k K (sym (K.phases s) ∙ ap shown e) (subst (IsReady size st.past st.cell) e (K.ready s)) in
+    absurd (omega (arith, ap st.turn h))
+before size st s c v _ z K e h l is = absurd h
+
+-- each turn from the cell's word up to a seat's own is held
+pub held : {A : Type 0} (size : ℕ) (st : QueueState A) (c v : ℕ) → 0 < size → IsKept size st → (n s : ℕ) → HoldsTurn size st s c (v + n) → st.turn c ≤ v → (t : ℕ) × HoldsTurn size st t c v
+held size st c v z K zero s h l = (s, (h.0, omega (arith, h.1)))
+held size st c v z K (suc n) s h l =
+    let w = before size st s c (v + n) (st.phase s) z K refl h.0 (omega (arith, h.1)) (omega (arith, h.1)) in
+    held size st c v z K n w.0 w.1 l
+
+-- among the seats that hold tickets of one cell one is unblocked
+pub unblocked_at : {A : Type 0} (size : ℕ) (st : QueueState A) (s c : ℕ) → 0 < size → IsKept size st → HoldsTicketOf size (st.phase s) c → (t : ℕ) × IsUnblocked size st.past (st.phase t) × HoldsTicketOf size (st.phase t) c
+unblocked_at size st s c z K h =
+    let l = not_passed size st s c K h in
+    let w = held size st c (st.turn c) z K (due size (st.phase s) - st.turn c) s (h, omega arith) (omega arith) in
+    (w.0, turn_unblocks size st c (st.phase w.0) z K w.1.0 (sym w.1.1), w.1.0)
+
+-- while a call is open some seat is unblocked
+someone : {A : Type 0} (size : ℕ) (st : QueueState A) (s : ℕ) (p : Phase A) → 0 < size → IsKept size st → st.phase s ≡ p → p ≢ Idle → (t : ℕ) × IsUnblocked size st.past (st.phase t)
+someone size st s Idle z K e n = absurd (n refl)
+someone size st s (TurnIn k x) z K e n = let w = unblocked_at size st s (k % size) z K (subst (λ p. HoldsTicketOf size p (k % size)) (sym e) refl) in (w.0, w.1)
+someone size st s (TurnOut k) z K e n = let w = unblocked_at size st s (k % size) z K (subst (λ p. HoldsTicketOf size p (k % size)) (sym e) refl) in (w.0, w.1)
+someone size st s _ z K e n = (s, subst (IsUnblocked size st.past) (sym e) tt)
+
+pub someone_unblocked : {A : Type 0} (size : ℕ) (st : QueueState A) (s : ℕ) → 0 < size → IsKept size st → st.phase s ≢ Idle → (t : ℕ) × IsUnblocked size st.past (st.phase t)
+someone_unblocked size st s z K n = someone size st s (st.phase s) z K refl n
+
+-- ---- a step that changes nothing
+
+-- a seat is unblocked, or its step leaves it where it stands
+pub unblocked_or_stays : {A : Type 0} (size : ℕ) (st : QueueState A) (p : Phase A) → 0 < size → IsKept size st → IsUnblocked size st.past p ⊎ (after_phase p (next_move size st p) ≡ p)
+unblocked_or_stays size st Idle z K = inr refl
+unblocked_or_stays {A} size st (TurnIn k x) z K = elim (same_or_not (st.turn (k % size)) (2 * (k / size))) [
+  | inl q ↦ inl (found_fill size st.past st.turn k z K.turns q)
+  | inr n ↦ inr (by_test (λ (m : QueueMove A). m.phase ≡ TurnIn k x) (st.turn (k % size) == 2 * (k / size)) _ _ (λ b. absurd (n (grind (arith, nat_tests)))) (λ b. refl))
+]
+unblocked_or_stays {A} size st (TurnOut k) z K = elim (same_or_not (st.turn (k % size)) (2 * (k / size) + 1)) [
+  | inl q ↦ inl (found_take size st.past st.turn k K.turns q)
+  | inr n ↦ inr (by_test (λ (m : QueueMove A). m.phase ≡ TurnOut k) (st.turn (k % size) == 2 * (k / size) + 1) _ _ (λ b. absurd (n (grind (arith, nat_tests)))) (λ b. refl))
+]
+unblocked_or_stays size st _ z K = inl tt
+
+pub moves_unblocked : {A : Type 0} (size : ℕ) (st : QueueState A) (s : ℕ) → 0 < size → IsKept size st → MakesProgress size st s → IsUnblocked size st.past (st.phase s)
+moves_unblocked size st s z K g = elim (unblocked_or_stays size st (st.phase s) z K) [
+  | inl f ↦ f
+  | inr stays ↦ absurd (g (step_here st s (next_move size st (st.phase s)) ∙ stays))
+]
+
+pub unblocked_open : {A : Type 0} (size : ℕ) (h : List (Mark A)) (p : Phase A) → IsUnblocked size h p → p ≢ Idle
+unblocked_open size h p f e = subst (IsUnblocked size h) e f
+
+-- a seat that is unblocked stays so while others step
+pub unblocked_stays : {A : Type 0} (size : ℕ) (st : QueueState A) (s u : ℕ) → s ≢ u → IsUnblocked size st.past (st.phase s) → IsUnblocked size (stepped size st u).past ((stepped size st u).phase s)
+unblocked_stays size st s u n f =
+    let o = next_move size st (st.phase u) in
+    subst (IsUnblocked size (after_step st u o).past) (sym (step_else st u s o n)) (unblocked_more size st.past (after_step st u o).past (st.phase s) (step_more st u o) f)
+
+-- a seat that holds no ticket waits for nobody
+pub ticketless_unblocked : {A : Type 0} (size : ℕ) (h : List (Mark A)) (p : Phase A) → p ≢ Idle → ((c : ℕ) → HoldsTicketOf size p c → ⊥) → IsUnblocked size h p
+ticketless_unblocked size h Idle n un = absurd (n refl)
+ticketless_unblocked size h (TurnIn k x) n un = absurd (un (k % size) refl)
+ticketless_unblocked size h (TurnOut k) n un = absurd (un (k % size) refl)
+ticketless_unblocked size h _ n un = tt

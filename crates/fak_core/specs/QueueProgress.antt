@@ -1,0 +1,110 @@
+-- Progress of a queue core: the steps that move a call forward, and rounds in which each seat makes a step.
+use Rattle.std.specs.Prelude.{ℕ, zero, suc, ◌≡◌, ◌≢◌, ◌⊎◌, ◌%◌, ◌<◌, ◌≤◌, List, [], ◌∷◌}
+use Rattle.std.specs.List.{All, Contains}
+use Rattle.fak_core.specs.declared.queue.phase.Phase.{Phase}
+use Rattle.fak_core.specs.declared.queue.phase.Phase.TheVariants.{Idle, TestUp, AddUp, BackUp, TicketIn, TurnIn, StoreItem, SetFull, EndInsert, TestLow, SubLow, BackLow, TicketOut, TurnOut, LoadItem, SetFree, EndDelete, SetShut}
+use Rattle.fak_core.specs.QueueMoves.{QueueState}
+use Rattle.fak_core.specs.QueueSchedule.{QueueEvent, Inserts, Deletes, Shuts, Advances, happens, run, stepped}
+
+-- the seat's next step changes where it stands: it isn't a look at a turn that has not come
+abbrev pub MakesProgress : {A : Type 0} → ℕ → QueueState A → ℕ → Type 0
+MakesProgress size st seat = (stepped size st seat).phase seat ≢ st.phase seat
+
+-- the most steps that a seat in this phase makes until its call ends, not counting looks at a turn that has not come
+abbrev pub steps_left : {A : Type 0} → Phase A → ℕ
+steps_left Idle = 0
+steps_left (TestUp x) = 7
+steps_left (AddUp x) = 6
+steps_left (BackUp x) = 1
+steps_left (TicketIn x) = 5
+steps_left (TurnIn k x) = 4
+steps_left (StoreItem k x) = 3
+steps_left (SetFull k x) = 2
+steps_left (EndInsert k) = 1
+steps_left TestLow = 7
+steps_left SubLow = 6
+steps_left BackLow = 1
+steps_left TicketOut = 5
+steps_left (TurnOut k) = 4
+steps_left (LoadItem k) = 3
+steps_left (SetFree k) = 2
+steps_left (EndDelete k) = 1
+steps_left SetShut = 1
+
+-- the steps that its call has made, not counting such looks
+abbrev pub steps_made : {A : Type 0} → Phase A → ℕ
+steps_made Idle = 0
+steps_made (TestUp x) = 0
+steps_made (AddUp x) = 1
+steps_made (BackUp x) = 2
+steps_made (TicketIn x) = 2
+steps_made (TurnIn k x) = 3
+steps_made (StoreItem k x) = 4
+steps_made (SetFull k x) = 5
+steps_made (EndInsert k) = 6
+steps_made TestLow = 0
+steps_made SubLow = 1
+steps_made BackLow = 2
+steps_made TicketOut = 2
+steps_made (TurnOut k) = 3
+steps_made (LoadItem k) = 4
+steps_made (SetFree k) = 5
+steps_made (EndDelete k) = 6
+steps_made SetShut = 0
+
+-- the seat has drawn a ticket of this cell, and has yet to give the cell on
+abbrev pub HoldsTicketOf : {A : Type 0} → ℕ → Phase A → ℕ → Type 0
+HoldsTicketOf size (TurnIn k x) c = k % size ≡ c
+HoldsTicketOf size (StoreItem k x) c = k % size ≡ c
+HoldsTicketOf size (SetFull k x) c = k % size ≡ c
+HoldsTicketOf size (TurnOut k) c = k % size ≡ c
+HoldsTicketOf size (LoadItem k) c = k % size ≡ c
+HoldsTicketOf size (SetFree k) c = k % size ≡ c
+HoldsTicketOf size _ c = ⊥
+
+-- ---- rounds
+
+-- the seat that begins a call or makes a step
+abbrev pub seat_of : {A : Type 0} → QueueEvent A → ℕ
+seat_of (Inserts s x) = s
+seat_of (Deletes s) = s
+seat_of (Shuts s) = s
+seat_of (Advances s) = s
+
+-- the event begins no call
+abbrev pub IsAdvance : {A : Type 0} → QueueEvent A → Type 0
+IsAdvance (Advances s) = Unit {0}
+IsAdvance _ = ⊥
+
+-- each seat from this one on is idle
+abbrev pub AreIdleFrom : {A : Type 0} → ℕ → QueueState A → Type 0
+AreIdleFrom seats st = (s : ℕ) → seats ≤ s → st.phase s ≡ Idle
+
+-- each such seat makes a step at least once
+abbrev pub EachSteps : {A : Type 0} → (ℕ → Type 0) → List (QueueEvent A) → Type 0
+EachSteps IsSuch es = (s : ℕ) → IsSuch s → Contains es (Advances s)
+
+-- only the first seats have events, and each of them makes a step at least once
+pub record IsRound {A : Type 0} (seats : ℕ) (es : List (QueueEvent A)) : Type 0 where
+  pub each : EachSteps (λ s. s < seats) es
+  pub within : All (λ (e : QueueEvent A). seat_of e < seats) es
+
+-- the state after these rounds
+abbrev pub after_rounds : {A : Type 0} → ℕ → List (List (QueueEvent A)) → QueueState A → QueueState A
+after_rounds size [] st = st
+after_rounds size (r ∷ rs) st = after_rounds size rs (run size r st)
+
+-- the seat is idle before one of these events, or after the last
+abbrev pub IsIdleOnce : {A : Type 0} → ℕ → List (QueueEvent A) → QueueState A → ℕ → Type 0
+IsIdleOnce size [] st s = st.phase s ≡ Idle
+IsIdleOnce size (e ∷ es) st s = (st.phase s ≡ Idle) ⊎ IsIdleOnce size es (happens size st e) s
+
+-- the seat is idle at some time within these rounds
+abbrev pub IsIdleWithin : {A : Type 0} → ℕ → List (List (QueueEvent A)) → QueueState A → ℕ → Type 0
+IsIdleWithin size [] st s = st.phase s ≡ Idle
+IsIdleWithin size (r ∷ rs) st s = IsIdleOnce size r st s ⊎ IsIdleWithin size rs (run size r st) s
+
+-- each of the first n seats makes one step, seat 0 last
+abbrev pub round_robin : {A : Type 0} → ℕ → List (QueueEvent A)
+round_robin zero = []
+round_robin (suc n) = Advances n ∷ round_robin n

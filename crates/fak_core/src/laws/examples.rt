@@ -1,0 +1,33 @@
+//! Known cases on either side of the definitions of progress.
+
+ghost use Rattle.std.specs.Prelude.{◌≡◌, ◌<◌, ℕ, [], ◌∷◌};
+ghost use Rattle.fak_core.specs.declared.queue.phase.Phase.TheVariants.{EndDelete, EndInsert, SetFree, SetFull};
+ghost use Rattle.fak_core.specs.ProgressExamples.{begun, rounds_of_two, waiting};
+ghost use Rattle.fak_core.specs.QueueProgress.{AreIdleFrom, HoldsTicketOf, IsAdvance, IsIdleWithin, IsRound, MakesProgress, after_rounds, round_robin};
+ghost use Rattle.fak_core.specs.QueueSchedule.{Advances, Deletes};
+
+/// A deletion waits for the insertion of its ticket, which does not wait and holds a ticket of the same cell. Once a cell is
+/// given on, its ticket is held no more.
+pub fn the_seats_that_wait_are_judged()
+    ensures waits { MakesProgress 2 waiting 2 → ⊥ }
+    ensures moves { MakesProgress 2 waiting 0 }
+    ensures held { HoldsTicketOf 2 (waiting.phase 2) 0 × HoldsTicketOf 2 (waiting.phase 0) 0 }
+    ensures not_held { HoldsTicketOf 2 (waiting.phase 2) 1 → ⊥ }
+    ensures full { HoldsTicketOf {A = ℕ} 2 (SetFull 5 10) 1 × (HoldsTicketOf {A = ℕ} 2 (EndInsert 5) 1 → ⊥) }
+    ensures free { HoldsTicketOf {A = ℕ} 2 (SetFree 5) 1 × (HoldsTicketOf {A = ℕ} 2 (EndDelete 5) 1 → ⊥) }
+{}
+
+/// In a round each seat steps, and no other seat does anything. On a queue of one cell a call may need all of the seven
+/// rounds that the law allows: after six it is open.
+pub fn the_rounds_of_a_queue_are_judged()
+    ensures round { IsRound {A = ℕ} 2 (Advances 1 ∷ Deletes 0 ∷ Advances 0 ∷ []) }
+    ensures each { IsRound {A = ℕ} 2 (Advances 0 ∷ []) → ⊥ }
+    ensures within { IsRound {A = ℕ} 2 (Advances 0 ∷ Advances 1 ∷ Deletes 2 ∷ []) → ⊥ }
+    ensures six { IsIdleWithin 1 (rounds_of_two 6) begun 0 → ⊥ }
+    ensures seven { IsIdleWithin 1 (rounds_of_two 7) begun 0 }
+    ensures rest { AreIdleFrom 0 (after_rounds 1 (rounds_of_two 7) begun) }
+    ensures no_rest { AreIdleFrom 0 (after_rounds 1 (rounds_of_two 6) begun) → ⊥ }
+    ensures idle { AreIdleFrom 1 begun × (AreIdleFrom 0 begun → ⊥) }
+    ensures advance { IsAdvance {A = ℕ} (Advances 0) × (IsAdvance {A = ℕ} (Deletes 0) → ⊥) }
+    ensures in_turn { round_robin {A = ℕ} 3 ≡ Advances 2 ∷ Advances 1 ∷ Advances 0 ∷ [] }
+{}
