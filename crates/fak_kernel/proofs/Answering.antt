@@ -2,8 +2,9 @@
 use Rattle.std.proofs.lemmas.List.{get_or-map, length-map}
 use Rattle.fak_text.specs.Script.{ScriptOf}
 use Rattle.fak_process.specs.declared.fault.Fault.{Fault}
-use Rattle.fak_process.specs.declared.fault.Fault.TheVariants.{Memory}
-use Rattle.fak_processor.specs.Faults.{IsOfLoop}
+use Rattle.fak_process.specs.declared.fault.Fault.TheVariants.{Memory, Gate}
+use Rattle.fak_processor.specs.Faults.{IsOfLoop, IsRefused}
+use Rattle.fak_kernel.specs.Threads.{OneIsRefused}
 use Rattle.fak_kernel.proofs.Common.{turn_over, ObjectsOf, ProcessorOf, IsReached, lists_of, Between, IsLeftBy, ◌≡◌, ◌⊎◌, ℕ, zero, suc, ◌<◌, Bool, List, [], ◌∷◌, length, map, get_or, ap, sym, ◌∙◌, subst, arith, inl, inr, Option, Some, None, Result, Ok, Err, IfErr, HasAnswered, HasBegun, HasLeft, IsOfRun, as_left, first_fault}
 
 -- what each answer tells, the one that has left tells
@@ -13,24 +14,35 @@ left_at P answers left is each i d low =
     let long : i < length answers = omega (arith, low, length-map left as_left, ap length is) in
     subst (P i) (ap (λ l. get_or l i (as_left d)) (sym is) ∙ get_or-map as_left left i d (as_left d) low) (each i (as_left d) long)
 
--- what each fault is, the first is
-pub met_first : {A : Type 0} (Q : Fault → Type 0) (answers : List (Result A Fault)) (fault : Fault) → ((i : ℕ) (d : Result A Fault) → i < length answers → IfErr (get_or answers i d) Q) → first_fault answers ≡ Some fault → Q fault
+-- what each fault is, the first is, of the one that answers it
+pub met_first : {A : Type 0} (Q : ℕ → Fault → Type 0) (answers : List (Result A Fault)) (fault : Fault) → ((i : ℕ) (d : Result A Fault) → i < length answers → IfErr (get_or answers i d) (Q i)) → first_fault answers ≡ Some fault
+    → (i : ℕ) × (i < length answers) × Q i fault
 met_first Q [] fault each is = search Rattle.std.proofs.Common.rules
-met_first Q (Ok x ∷ others) fault each is = met_first Q others fault (λ i d low. each (suc i) d (omega (arith, low))) is
+met_first Q (Ok x ∷ others) fault each is =
+    let later = met_first (λ (i : ℕ). Q (suc i)) others fault (λ i d low. each (suc i) d (omega (arith, low))) is in
+    (suc later.0, omega (arith, later.1), later.2)
 met_first Q (Err f ∷ others) fault each is =
     let same : f ≡ fault = search Rattle.std.proofs.Common.rules in
-    subst Q same (each zero (Err f) (omega arith))
+    (0, omega arith, subst (Q 0) same (each zero (Err f) (omega arith)))
 
 -- all have left
-pub have_left : {script : ScriptOf} {o : ObjectsOf} {processors : ℕ} {refuses : Bool} (answers : List (Result (Option ProcessorOf) Fault)) (left : List ProcessorOf) → map as_left left ≡ answers
-    → ((i : ℕ) (d : Result (Option ProcessorOf) Fault) → i < length answers → HasAnswered script o processors refuses i (get_or answers i d)) → (i : ℕ) (d : ProcessorOf) → i < length left → HasLeft script o processors i (get_or left i d)
-have_left {script} {o} {processors} {refuses} answers left is each i d low = let a = left_at (HasAnswered script o processors refuses) answers left is each i d low in a.left
+pub have_left : {script : ScriptOf} {o : ObjectsOf} {processors : ℕ} {refuses : Bool} {says : ℕ → ℕ → Bool → Type 0} (answers : List (Result (Option ProcessorOf) Fault)) (left : List ProcessorOf) → map as_left left ≡ answers
+    → ((i : ℕ) (d : Result (Option ProcessorOf) Fault) → i < length answers → HasAnswered script o processors refuses says i (get_or answers i d)) → (i : ℕ) (d : ProcessorOf) → i < length left → HasLeft script o processors i (get_or left i d)
+have_left {script} {o} {processors} {refuses} {says} answers left is each i d low = let a = left_at (HasAnswered script o processors refuses says) answers left is each i d low in a.left
 
 -- the fault that is answered is one of a run
-pub run_fault : {script : ScriptOf} {o : ObjectsOf} {processors : ℕ} {refuses : Bool} (answers : List (Result (Option ProcessorOf) Fault)) (fault : Fault)
-    → ((i : ℕ) (d : Result (Option ProcessorOf) Fault) → i < length answers → HasAnswered script o processors refuses i (get_or answers i d)) → (first_fault answers ≡ Some fault) ⊎ ((first_fault answers ≡ None) × (fault ≡ Memory)) → IsOfRun refuses fault
-run_fault {refuses = refuses} answers fault each (inl is) = inl (met_first (IsOfLoop refuses) answers fault (λ i d low. let a = each i d low in a.fault) is)
+pub run_fault : {script : ScriptOf} {o : ObjectsOf} {processors : ℕ} {refuses : Bool} {says : ℕ → ℕ → Bool → Type 0} (answers : List (Result (Option ProcessorOf) Fault)) (fault : Fault)
+    → ((i : ℕ) (d : Result (Option ProcessorOf) Fault) → i < length answers → HasAnswered script o processors refuses says i (get_or answers i d)) → (first_fault answers ≡ Some fault) ⊎ ((first_fault answers ≡ None) × (fault ≡ Memory)) → IsOfRun refuses fault
+run_fault {refuses = refuses} answers fault each (inl is) = inl (met_first (λ (i : ℕ). IsOfLoop refuses) answers fault (λ i d low. let a = each i d low in a.fault) is).2
 run_fault answers fault each (inr is) = inl (inl (inl is.1))
+
+-- where it is that of the gate, one processor was refused
+pub run_refused : {script : ScriptOf} {o : ObjectsOf} {processors : ℕ} {refuses : Bool} {says : ℕ → ℕ → Bool → Type 0} (answers : List (Result (Option ProcessorOf) Fault)) (fault : Fault) → length answers ≡ processors
+    → ((i : ℕ) (d : Result (Option ProcessorOf) Fault) → i < length answers → HasAnswered script o processors refuses says i (get_or answers i d)) → (first_fault answers ≡ Some fault) ⊎ ((first_fault answers ≡ None) × (fault ≡ Memory)) → fault ≡ Gate → OneIsRefused processors says
+run_refused {says = says} answers fault long each (inl is) gate =
+    let met = met_first (λ (i : ℕ) (f : Fault). f ≡ Gate → IsRefused (says i)) answers fault (λ i d low. let a = each i d low in a.refused) is in
+    record { processor = met.0; below = omega (arith, long, met.1); refused = met.2 gate }
+run_refused answers fault long each (inr is) gate = let clash : Memory ≡ Gate = sym is.1 ∙ gate in absurd (cc)
 
 -- each processor has begun
 pub begun_each : {script : ScriptOf} {o : ObjectsOf} (processors : ℕ) (all : List ProcessorOf) → length all ≡ processors → ((i : ℕ) (d : ProcessorOf) → i < length all → Between script o i (get_or all i d))

@@ -18,7 +18,7 @@ holds_known n k name holds seen h s are l =
       fit = are.fit;
     }
 
--- whoever knows the marks of some names knows those of each
+-- the marks of some names determine those of each
 known_one : (n : ℕ) (names : List ℕ) (seen h : List FileMark) → Knows seat_of names seen h → In n names → Knows seat_of (n ∷ []) seen h
 known_one n names seen h k i = record {
   begins = k.begins;

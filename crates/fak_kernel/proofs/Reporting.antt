@@ -195,5 +195,11 @@ whole_each {o} {k} {t} are seated names = each t.semaphores o.semaphores are.sem
         All-cons IsWholeAt u ts (subst (λ (n : ℕ). IsWhole n u.names) (sym seats) (is_whole k u.names (joins 0 u (omega arith))))
         (each ts os others (λ i d low. credits (suc i) d (omega (arith, low))) (λ i d low. joins (suc i) d (omega (arith, low))))
 
+pub whole_ready : {o : ObjectsOf} {k : ℕ} {t : TalliesOf} → AreTalliesOf o t → AreSeated k o → HaveNames k t → IsWhole t.ready.object.seats t.ready.names
+whole_ready {o} {k} {t} are seated names = subst (λ (n : ℕ). IsWhole n t.ready.names) (sym (ap (λ (i : ObjectId). i.seats) are.ready ∙ seated.ready)) (is_whole k t.ready.names names.ready)
+
+pub whole_free : {o : ObjectsOf} {k : ℕ} {t : TalliesOf} → AreTalliesOf o t → AreSeated k o → HaveNames k t → IsWhole t.free.object.seats t.free.names
+whole_free {o} {k} {t} are seated names = subst (λ (n : ℕ). IsWhole n t.free.names) (sym (ap (λ (i : ObjectId). i.seats) are.free ∙ seated.free)) (is_whole k t.free.names names.free)
+
 pub whole_files : {o : ObjectsOf} {k : ℕ} {t : TalliesOf} → AreTalliesOf o t → AreSeated k o → HaveNames k t → IsWhole t.files.object.seats t.files.names
 whole_files {o} {k} {t} are seated names = subst (λ (n : ℕ). IsWhole n t.files.names) (sym (ap (λ (i : ObjectId). i.seats) are.files ∙ seated.files)) (is_whole k t.files.names names.files)

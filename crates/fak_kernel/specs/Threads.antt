@@ -1,9 +1,9 @@
 -- What is known of the processors of a run when their threads begin, and of what each answers.
-use Rattle.std.specs.Prelude.{◌≡◌, ◌⊎◌, ℕ, Bool, List, [], ◌∷◌, Option, Some, None, Result, Ok, Err, IfOk, IfErr, IfSome}
+use Rattle.std.specs.Prelude.{◌≡◌, ◌⊎◌, ℕ, ◌<◌, Bool, true, List, [], ◌∷◌, Option, Some, None, Result, Ok, Err, IfOk, IfErr, IfSome}
 use Rattle.fak_text.specs.Script.{ScriptOf}
 use Rattle.fak_process.specs.declared.fault.Fault.{Fault}
-use Rattle.fak_process.specs.declared.fault.Fault.TheVariants.{NoThread}
-use Rattle.fak_processor.specs.Faults.{IsOfLoop}
+use Rattle.fak_process.specs.declared.fault.Fault.TheVariants.{Memory, NoThread, Gate}
+use Rattle.fak_processor.specs.Faults.{IsOfLoop, IsRefused}
 use Rattle.fak_process.specs.ListScheduler.{turn_over}
 use Rattle.fak_processor.specs.Processors.{ObjectsOf, ProcessorOf, IsReached, lists_of}
 use Rattle.fak_processor.specs.Begun.{Between, IsLeftBy}
@@ -11,6 +11,16 @@ use Rattle.fak_processor.specs.Begun.{Between, IsLeftBy}
 -- a run on 1 to 8 processors answers this fault
 abbrev pub IsOfRun : Bool → Fault → Type 0
 IsOfRun refuses fault = IsOfLoop refuses fault ⊎ (fault ≡ NoThread)
+
+-- one of this many processors was refused by a gate of these answers
+pub record OneIsRefused (processors : ℕ) (answers : ℕ → ℕ → Bool → Type 0) : Type 0 where
+  pub processor : ℕ
+  pub below : processor < processors
+  pub refused : IsRefused (answers processor)
+
+-- a thread could not be begun, or there was no memory for what is kept of it
+abbrev pub IsOfStart : Fault → Type 0
+IsOfStart fault = (fault ≡ Memory) ⊎ (fault ≡ NoThread)
 
 -- the first fault that a processor answers, in the order of their numbers
 abbrev pub first_fault : {A : Type 0} → List (Result A Fault) → Option Fault
@@ -22,7 +32,7 @@ first_fault (Err fault ∷ others) = Some fault
 abbrev pub as_left : {A : Type 0} → A → Result (Option A) Fault
 as_left x = Ok (Some x)
 
--- one of so many processors, before its thread begins
+-- one of this many processors, before its thread begins
 pub record HasBegun (script : ScriptOf) (o : ObjectsOf) (processors name : ℕ) (p : ProcessorOf) : Type 0 where
   pub between : Between script o name p
   pub alone : processors ≡ 1 → IsReached script p (turn_over (lists_of script p))
@@ -34,6 +44,8 @@ pub record HasLeft (script : ScriptOf) (o : ObjectsOf) (processors name : ℕ) (
   pub still : processors ≡ 1 → (lists_of script p).ready ≡ []
 
 -- what its thread answers
-pub record HasAnswered (script : ScriptOf) (o : ObjectsOf) (processors : ℕ) (refuses : Bool) (name : ℕ) (r : Result (Option ProcessorOf) Fault) : Type 0 where
+pub record HasAnswered (script : ScriptOf) (o : ObjectsOf) (processors : ℕ) (refuses : Bool) (answers : ℕ → ℕ → Bool → Type 0) (name : ℕ) (r : Result (Option ProcessorOf) Fault) : Type 0 where
   pub left : IfOk r (λ left. IfSome left (HasLeft script o processors name))
+  pub passed : IfOk r (λ left. IfSome left (λ _. answers name 0 true))
   pub fault : IfErr r (IsOfLoop refuses)
+  pub refused : IfErr r (λ fault. fault ≡ Gate → IsRefused (answers name))

@@ -6,7 +6,7 @@ ghost use Rattle.fak_process.specs.Report.{ListSchedulerReports};
 ghost use Rattle.fak_process.specs.ReportText.{ListSchedulerPrints, RunPrints};
 ghost use Rattle.fak_process.specs.RunReports.{RunReports};
 ghost use Rattle.fak_processor.specs.Processors.{AreFor, ProcessorOf};
-ghost use Rattle.fak_kernel.specs.Threads.{HasBegun, HasLeft, IsOfRun};
+ghost use Rattle.fak_kernel.specs.Threads.{HasBegun, HasLeft, IsOfRun, OneIsRefused};
 ghost use Rattle.fak_process.specs.Told.{told_report};
 ghost use Rattle.fak_process.specs.Views.{report_of};
 
@@ -24,7 +24,7 @@ use std::marker::{Brand, Send, Sync};
 use std::sync::Wait;
 use std::thread::Threads;
 
-/// A run is on so many processors at most.
+/// The most processors of a run.
 const MOST_PROCESSORS: u64 = 8;
 
 /// Runs a script on 1 to 8 processors, each in a thread of its own. A processor passes the gate before each look at
@@ -33,10 +33,10 @@ const MOST_PROCESSORS: u64 = 8;
 /// # Errors
 ///
 /// `BadProcessors` before anything else, for any other number. `NoThread` where the system gave no thread, whatever
-/// processors met; else the fault of the first processor that met one, in the order of their numbers. `Gate` stands
-/// only where the gate may refuse.
-pub fn run<G: Gate + Sync, R: Threads + Wait + Sync>(
-    rt: &R,
+/// processors met; else the fault of the first processor that met one, in the order of their numbers. `Gate` comes
+/// only where the gate may refuse and refused one of the processors a look, after it let that one pass those before.
+pub fn run<G: Gate + Sync>(
+    rt: &(impl Threads + Wait + Sync),
     alloc: Global,
     script: &Script,
     processors: u64,
@@ -46,6 +46,7 @@ pub fn run<G: Gate + Sync, R: Threads + Wait + Sync>(
     ensures one { processors ≡ 1 → IfOk result (λ report. ListSchedulerReports script.now (report_of report)) }
     ensures outside { (AreProcessors processors → ⊥) → result ≡ Err Fault.BadProcessors }
     ensures fault { AreProcessors processors → IfErr result (λ fault. IsOfRun (G.refuses gate.now) fault) }
+    ensures refused { IfErr result (λ fault. fault ≡ Fault.Gate → OneIsRefused processors (G.answers gate.now)) }
 {
     let brief = run_briefly(rt, alloc, script, processors, gate)?;
     match told_in_full(alloc, script, brief) {
@@ -54,13 +55,13 @@ pub fn run<G: Gate + Sync, R: Threads + Wait + Sync>(
     }
 }
 
-/// Runs a script as `run` does. The text is that of the report, which nowhere stands beside it.
+/// Runs a script as `run` does. Returns the report as text, without building a `Report`.
 ///
 /// # Errors
 ///
 /// Those of `run`.
-pub fn run_to_text<G: Gate + Sync, R: Threads + Wait + Sync>(
-    rt: &R,
+pub fn run_to_text<G: Gate + Sync>(
+    rt: &(impl Threads + Wait + Sync),
     alloc: Global,
     script: &Script,
     processors: u64,
@@ -70,6 +71,7 @@ pub fn run_to_text<G: Gate + Sync, R: Threads + Wait + Sync>(
     ensures one { processors ≡ 1 → IfOk result (λ printed. ListSchedulerPrints script.now printed.text.items printed.status) }
     ensures outside { (AreProcessors processors → ⊥) → result ≡ Err Fault.BadProcessors }
     ensures fault { AreProcessors processors → IfErr result (λ fault. IsOfRun (G.refuses gate.now) fault) }
+    ensures refused { IfErr result (λ fault. fault ≡ Fault.Gate → OneIsRefused processors (G.answers gate.now)) }
 {
     let brief = run_briefly(rt, alloc, script, processors, gate)?;
     match print_brief(alloc, script, &brief) {
@@ -90,6 +92,7 @@ fn run_briefly<G: Gate + Sync, R: Threads + Wait + Sync>(
     ensures one { processors ≡ 1 → IfOk result (λ brief. ListSchedulerReports script.now (told_report script.now (report_of brief))) }
     ensures outside { (AreProcessors processors → ⊥) → result ≡ Err Fault.BadProcessors }
     ensures fault { AreProcessors processors → IfErr result (λ fault. IsOfRun (G.refuses gate.now) fault) }
+    ensures refused { IfErr result (λ fault. fault ≡ Fault.Gate → OneIsRefused processors (G.answers gate.now)) }
 {
     if processors < 1 || processors > MOST_PROCESSORS {
         return Err(Fault::BadProcessors);
@@ -110,6 +113,7 @@ fn run_as<K: Run + Send + Sync, G: Gate + Sync, R: Threads + Wait + Sync>(
     ensures report { IfOk result (λ report. RunReports K.script (told_report K.script (report_of report))) }
     ensures alone { processors ≡ 1 → IfOk result (λ report. ListSchedulerReports K.script (told_report K.script (report_of report))) }
     ensures fault { IfErr result (λ fault. IsOfRun (G.refuses gate.now) fault) }
+    ensures refused { IfErr result (λ fault. fault ≡ Fault.Gate → OneIsRefused processors (G.answers gate.now)) }
 {
     let Opened {
         objects,
@@ -143,11 +147,13 @@ fn work_all<K: Run + Send + Sync, G: Gate + Sync, R: Threads + Wait + Sync>(
 ) -> Result<Vec<Processor<K>>, Fault>
     requires script { script.now ≡ K.script }
     requires made { AreFor K.script objects.now }
+    requires len { vec_len all ≡ processors }
     requires begun { (i : ℕ) (d : _) → i < vec_len all → HasBegun K.script objects.now processors i (slice_index_or all.items i d) }
     ensures len { IfOk result (λ left. vec_len left ≡ vec_len all) }
     ensures left { IfOk result (λ left. (i : ℕ) (d : ProcessorOf) → i < vec_len left
         → HasLeft K.script objects.now processors i (slice_index_or left.items i d)) }
     ensures fault { IfErr result (λ fault. IsOfRun (G.refuses gate.now) fault) }
+    ensures refused { IfErr result (λ fault. fault ≡ Fault.Gate → OneIsRefused processors (G.answers gate.now)) }
 {
     let answers = leave_all(rt, alloc, script, objects, gate, processors, all)?;
     match all_left(alloc, answers) {

@@ -24,29 +24,29 @@ use std::sync::Wait;
 /// # Errors
 ///
 /// `Worn`, where the script's stint is used up, and `Memory`.
-pub fn run_one<R: Wait>(rt: &R, alloc: Global, script: &Script) -> Result<Report, Fault>
+pub fn run_one(rt: &impl Wait, alloc: Global, script: &Script) -> Result<Report, Fault>
     ensures report { IfOk result (λ report. ListSchedulerReports script.now (report_of report)) }
     ensures conserved { IfOk result (λ report. RunReports script.now (report_of report)) }
     ensures fault { IfErr result (λ fault. IsOfStep fault) }
 {
-    let brief = run_alone::<Brand, R>(rt, alloc, script)?;
+    let brief = run_alone::<Brand, _>(rt, alloc, script)?;
     match told_in_full(alloc, script, brief) {
         Ok(report) => Ok(report),
         Err(fault) => Err(fault),
     }
 }
 
-/// Runs a script on one processor. The text is that of the list scheduler's report, which nowhere stands beside it.
+/// Runs a script on one processor. Returns the report as text, without building a `Report`.
 ///
 /// # Errors
 ///
 /// `Worn`, where the script's stint is used up, and `Memory`.
-pub fn run_one_to_text<R: Wait>(rt: &R, alloc: Global, script: &Script) -> Result<Printed, Fault>
+pub fn run_one_to_text(rt: &impl Wait, alloc: Global, script: &Script) -> Result<Printed, Fault>
     ensures report { IfOk result (λ printed. ListSchedulerPrints script.now printed.text.items printed.status) }
     ensures conserved { IfOk result (λ printed. RunPrints script.now printed.text.items printed.status) }
     ensures fault { IfErr result (λ fault. IsOfStep fault) }
 {
-    let brief = run_alone::<Brand, R>(rt, alloc, script)?;
+    let brief = run_alone::<Brand, _>(rt, alloc, script)?;
     match print_brief(alloc, script, &brief) {
         Ok(printed) => Ok(printed),
         Err(fault) => Err(fault),

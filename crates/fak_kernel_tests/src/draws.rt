@@ -1,8 +1,8 @@
-//! A row of numbers that a beginning fixes.
+//! A row of numbers that a seed fixes.
 
 ghost use Rattle.std.specs.Prelude.{◌<◌};
 
-/// Numbers that look drawn at random, always the same after the same beginning (xorshift with 13, 7 and 17, after
+/// Numbers that look drawn at random, always the same after the same seed (xorshift with 13, 7 and 17, after
 /// G. Marsaglia, Journal of Statistical Software 8(14), 2003).
 #[derive(Drop)]
 pub struct Draws {

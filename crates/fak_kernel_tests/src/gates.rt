@@ -1,12 +1,14 @@
-//! Gates that hold a processor until another one is somewhere, and refuse it where that does not come.
-
-ghost use Rattle.std.specs.Prelude.{true};
+//! Gates that hold a processor until another one is somewhere, and refuse it where that does not come. Each is its two
+//! methods.
 
 use fak_kernel::Gate;
 use std::hint::spin_loop;
 use std::sync::atomic::{AtomicBool, Ordering};
 
-/// A flag that one processor sets and another waits for, so many turns at most.
+/// The looks of a processor that are many more than a run needs where the others leave.
+const MOST_LOOKS: u64 = 1_000_000;
+
+/// A flag that one processor sets and another waits for, this many turns at most.
 #[derive(Drop)]
 struct Flag {
     turns: u64,
@@ -25,10 +27,14 @@ impl Flag {
         self.is_set.store(true, Ordering::SeqCst);
     }
 
+    fn is_set(&self) -> bool {
+        self.is_set.load(Ordering::SeqCst)
+    }
+
     /// Waits until it is set; false where it was not.
     fn wait(&self) -> bool {
         for _ in 0..self.turns {
-            if self.is_set.load(Ordering::SeqCst) {
+            if self.is_set() {
                 return true;
             }
             spin_loop();
@@ -37,25 +43,28 @@ impl Flag {
     }
 }
 
-/// Holds the first pass of each of two processors until the other one comes to its own.
+/// Holds the first pass of each processor below 3 until this many have come to theirs.
 #[derive(Drop)]
 pub(super) struct Meeting {
+    processors: u64,
     first: Flag,
     second: Flag,
+    third: Flag,
 }
 
 impl Meeting {
-    pub(super) fn new(turns: u64) -> Meeting {
+    /// Of two or three processors.
+    pub(super) fn new(processors: u64, turns: u64) -> Meeting {
         Meeting {
+            processors,
             first: Flag::new(turns),
             second: Flag::new(turns),
+            third: Flag::new(turns),
         }
     }
 }
 
 impl Gate for Meeting {
-    ghost refuses = { λ _. true };
-
     fn may_refuse(&self) -> bool {
         true
     }
@@ -64,13 +73,12 @@ impl Gate for Meeting {
         if step > 0 {
             return true;
         }
-        let (mine, other) = if processor == 0 {
-            (&self.first, &self.second)
-        } else {
-            (&self.second, &self.first)
-        };
-        mine.set();
-        other.wait()
+        match processor {
+            0 => self.first.set(),
+            1 => self.second.set(),
+            _ => self.third.set(),
+        }
+        self.first.wait() && self.second.wait() && (self.processors < 3 || self.third.wait())
     }
 }
 
@@ -91,8 +99,6 @@ impl Holding {
 }
 
 impl Gate for Holding {
-    ghost refuses = { λ _. true };
-
     fn may_refuse(&self) -> bool {
         true
     }
@@ -121,13 +127,89 @@ impl Refusing {
 }
 
 impl Gate for Refusing {
-    ghost refuses = { λ _. true };
-
     fn may_refuse(&self) -> bool {
         true
     }
 
     fn pass(&self, processor: u64, step: u64) -> bool {
         processor != self.refused || step > 0
+    }
+}
+
+/// Refuses the first pass of one processor once another one has come to its own, and each processor that looks so often
+/// that the others must have been left alone.
+#[derive(Drop)]
+pub(super) struct Late {
+    refused: u64,
+    has_begun: Flag,
+    is_left_alone: Flag,
+}
+
+impl Late {
+    pub(super) fn new(refused: u64, turns: u64) -> Late {
+        Late {
+            refused,
+            has_begun: Flag::new(turns),
+            is_left_alone: Flag::new(0),
+        }
+    }
+
+    /// Whether a processor went on looking where it should have left.
+    pub(super) fn has_left_alone(&self) -> bool {
+        self.is_left_alone.is_set()
+    }
+}
+
+impl Gate for Late {
+    fn may_refuse(&self) -> bool {
+        true
+    }
+
+    fn pass(&self, processor: u64, step: u64) -> bool {
+        if processor == self.refused {
+            self.has_begun.wait();
+            return false;
+        }
+        self.has_begun.set();
+        if step < MOST_LOOKS {
+            return true;
+        }
+        self.is_left_alone.set();
+        false
+    }
+}
+
+/// Holds the first pass of processor 0 until another one has come to its own and had time for its look.
+#[derive(Drop)]
+pub(super) struct Slow {
+    turns: u64,
+    has_begun: Flag,
+}
+
+impl Slow {
+    pub(super) fn new(turns: u64) -> Slow {
+        Slow {
+            turns,
+            has_begun: Flag::new(turns),
+        }
+    }
+}
+
+impl Gate for Slow {
+    fn may_refuse(&self) -> bool {
+        true
+    }
+
+    fn pass(&self, processor: u64, step: u64) -> bool {
+        if processor > 0 {
+            self.has_begun.set();
+            return true;
+        }
+        if step == 0 && self.has_begun.wait() {
+            for _ in 0..self.turns / 100 {
+                spin_loop();
+            }
+        }
+        true
     }
 }

@@ -10,6 +10,8 @@ pub use draws::Draws;
 #[cfg(test)]
 mod examples;
 #[cfg(test)]
+mod faults;
+#[cfg(test)]
 mod gates;
 #[cfg(test)]
 mod judge;
@@ -23,3 +25,9 @@ mod scripting;
 mod scripts;
 #[cfg(test)]
 mod texts;
+#[cfg(test)]
+mod told;
+#[cfg(test)]
+mod turns;
+#[cfg(test)]
+mod worn;

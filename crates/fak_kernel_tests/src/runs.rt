@@ -15,7 +15,7 @@ use std::process::Abort;
 use std::sync::Wait;
 use std::thread::Threads;
 
-/// A processor is held so many turns at most, where another one comes, and where none does.
+/// A processor is held this many turns at most, where another one comes, and where none does.
 const MANY: u64 = 100_000_000;
 
 const FEW: u64 = 1_000;
@@ -68,11 +68,19 @@ fn fault_of<R: Abort + Threads + Wait + Sync, G: Gate + Sync>(
 
 #[test]
 fn two_processors_meet(rt: HostRuntime) {
-    let gate = Meeting::new(MANY);
+    let gate = Meeting::new(2, MANY);
     assert!(rt; gate.may_refuse());
     assert!(rt; reports(&rt, rt.alloc(), PING_PONG, 2, &gate, PING_PONG_REPORT));
-    let alone = fault_of(&rt, rt.alloc(), PING_PONG, 1, &Meeting::new(FEW));
+    let alone = fault_of(&rt, rt.alloc(), PING_PONG, 1, &Meeting::new(2, FEW));
     assert!(rt; alone == Some(Fault::Gate));
+}
+
+#[test]
+fn three_processors_meet(rt: HostRuntime) {
+    let gate = Meeting::new(3, MANY);
+    assert!(rt; reports(&rt, rt.alloc(), PING_PONG, 3, &gate, PING_PONG_REPORT));
+    let two = fault_of(&rt, rt.alloc(), PING_PONG, 2, &Meeting::new(3, FEW));
+    assert!(rt; two == Some(Fault::Gate));
 }
 
 #[test]

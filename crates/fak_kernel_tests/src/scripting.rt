@@ -1,4 +1,4 @@
-//! Small scripts that are drawn at random, by a fixed beginning.
+//! Small scripts that are drawn at random, by a fixed seed.
 
 use crate::Draws;
 use std::alloc::{AllocError, Global};
@@ -57,7 +57,7 @@ fn add_comma(text: &mut String, i: u64) -> Result<(), AllocError> {
     Ok(())
 }
 
-/// So many numbers below the bound.
+/// This many numbers below the bound.
 fn add_numbers(
     text: &mut String,
     draws: &mut Draws,

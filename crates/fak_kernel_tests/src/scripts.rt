@@ -4,7 +4,7 @@ use super::examples::{
     CURFEW, PING_PONG, PING_PONG_REPORT, READER, READER_REPORT, is_printed, is_text_of, report_of,
     script_of,
 };
-use fak_kernel::{Fault, Outcome, ProcessRow, run_one, run_one_to_text};
+use fak_kernel::{Outcome, ProcessRow, run_one_to_text};
 use std::alloc::Global;
 use std::process::Abort;
 use std::sync::Wait;
@@ -17,7 +17,13 @@ fn is_reported<R: Abort + Wait>(rt: &R, alloc: Global, script: &str, text: &str,
 }
 
 /// Finds the same of the report, and of what is printed where the text alone is asked for.
-fn answers<R: Abort + Wait>(rt: &R, alloc: Global, script: &str, text: &str, status: u8) {
+pub(super) fn answers<R: Abort + Wait>(
+    rt: &R,
+    alloc: Global,
+    script: &str,
+    text: &str,
+    status: u8,
+) {
     is_reported(rt, alloc, script, text, status);
     let script = script_of(rt, alloc, script);
     let printed = run_one_to_text(rt, alloc, &script);
@@ -130,7 +136,7 @@ ended 1 stuck 0
     answers(&rt, rt.alloc(), script, report, 0);
 }
 
-/// Whether the rows are of processes that were left so, after so many steps.
+/// Whether the rows are of processes that were left so, after this many steps.
 fn are_left(rows: &[ProcessRow], wanted: &[(Outcome, u64)]) -> bool {
     rows.len() == wanted.len()
         && rows.iter().zip(wanted.iter()).all(|(row, (outcome, position))| row.outcome == *outcome
@@ -239,25 +245,6 @@ fn names_are_sorted_by_numbers(rt: HostRuntime) {
     let report = report_of(&rt, rt.alloc(), script);
     assert!(rt; are_named(&report.rows, names));
     assert!(rt; report.births == 2);
-}
-
-/// The fault of a script on one processor.
-fn fault_of<R: Abort + Wait>(rt: &R, alloc: Global, script: &str) -> Option<Fault> {
-    let script = script_of(rt, alloc, script);
-    run_one(rt, alloc, &script).err()
-}
-
-#[test]
-fn a_stint_that_is_used_up(rt: HostRuntime) {
-    let empty =
-        r#"{"version":1,"slots":1,"births":0,"quantum":4,"stint":1,"semaphores":[0],"files":1,"programs":[[]],"start":[0]}"#;
-    assert!(rt; fault_of(&rt, rt.alloc(), empty) == Some(Fault::Worn));
-    let ups =
-        r#"{"version":1,"slots":1,"births":0,"quantum":9,"stint":4,"semaphores":[0],"files":1,"programs":[[["up",0],["up",0],["up",0],["up",0],["up",0]]],"start":[0]}"#;
-    assert!(rt; fault_of(&rt, rt.alloc(), ups) == Some(Fault::Worn));
-    let few =
-        r#"{"version":1,"slots":1,"births":0,"quantum":9,"stint":4,"semaphores":[0],"files":1,"programs":[[["up",0],["up",0],["up",0],["up",0]]],"start":[0]}"#;
-    assert!(rt; fault_of(&rt, rt.alloc(), few) == None);
 }
 
 const MOST_ENTRIES_REPORT: &str = "process 0 program 0 slot 0 ended

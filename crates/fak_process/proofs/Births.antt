@@ -50,7 +50,7 @@ module _ {script : ScriptOf} {seats : ℕ} {h : Histories} {l : Ledger} (g : Gat
       let releases = g.births release_amount in
       omega (arith, fit, ups, releases, g.balanced.births.ups, g.balanced.births.releases)
 
-  -- a birth is refused only where so many were claimed
+  -- a birth is refused only where as many were claimed as the bound says
   pub no_birth_at_bound : 0 < notes no_births_of l → script.births ≤ notes births_of l + notes no_slots_of l
   no_birth_at_bound some =
       let refusals = g.births refusal_of in

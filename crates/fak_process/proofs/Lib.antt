@@ -26,3 +26,4 @@ pub mod SortedAlike
 pub mod SchedulerWeights
 pub mod SchedulerEnds
 pub mod SchedulerNames
+pub mod ReportExamples

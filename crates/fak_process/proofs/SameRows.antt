@@ -7,7 +7,7 @@ use Rattle.fak_process.proofs.Names.{same_name, same_name_self, same_name_is}
 same_number_is : (a b : ℕ) → (a == b) ≡ true → a ≡ b
 same_number_is a b e = grind (arith, nat_tests)
 
-same_number_self : (a : ℕ) → (a == a) ≡ true
+pub same_number_self : (a : ℕ) → (a == a) ≡ true
 same_number_self a = grind (arith, nat_tests)
 
 -- ---- notes, by numbers that tell them
@@ -67,10 +67,10 @@ decode_code no_birth = refl
 decode_code no_slot = refl
 decode_code shut_down = refl
 
-abbrev same_note : NoteOf → NoteOf → Bool
+abbrev pub same_note : NoteOf → NoteOf → Bool
 same_note a b = same_name (code a) (code b)
 
-same_note_is : (a b : NoteOf) → same_note a b ≡ true → a ≡ b
+pub same_note_is : (a b : NoteOf) → same_note a b ≡ true → a ≡ b
 same_note_is a b e = sym (decode_code a) ∙ (ap decode (same_name_is (code a) (code b) e) ∙ decode_code b)
 
 abbrev same_journal : List NoteOf → List NoteOf → Bool
@@ -78,6 +78,9 @@ same_journal [] [] = true
 same_journal [] (b ∷ bs) = false
 same_journal (a ∷ cs) [] = false
 same_journal (a ∷ cs) (b ∷ bs) = same_note a b && same_journal cs bs
+
+pub same_note_self : (a : NoteOf) → same_note a a ≡ true
+same_note_self a = same_name_self (code a)
 
 same_journal_self : (x : List NoteOf) → same_journal x x ≡ true
 same_journal_self [] = refl

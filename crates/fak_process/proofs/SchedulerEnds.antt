@@ -10,7 +10,7 @@ part_of [] i = omega arith
 part_of (p ∷ ps) zero = omega (arith, sum_by-cons length p ps)
 part_of (p ∷ ps) (suc i) = omega (arith, sum_by-cons length p ps, part_of ps i)
 
--- what so many births weigh, where no child has more steps than `most`
+-- what this many births weigh, where no child has more steps than `most`
 abbrev births_weigh : ℕ → ℕ → ℕ
 births_weigh most zero = 0
 births_weigh most (suc n) = most + 1 + births_weigh most n
@@ -183,7 +183,7 @@ module _ (script : ScriptOf) where
     falls s None = takes s s.ready refl
     falls s (Some t) = inr (turns s t (next_step script t.process) refl)
 
-    -- after so many steps it was still, or as much less remains
+    -- after this many steps it was still, or as much less remains
     falls_or_ends : (n : ℕ) (s : State) → ((k : ℕ) × IsStill (steps k script s).running (steps k script s).lists) ⊎ (remains (steps n script s) + n ≤ remains s)
     falls_or_ends zero s = inr (omega arith)
     falls_or_ends (suc n) s = elim (falls_or_ends n s) [

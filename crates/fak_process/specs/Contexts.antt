@@ -4,7 +4,7 @@ use Rattle.fak_text.specs.Script.{ScriptOf, down}
 use Rattle.fak_text.specs.Journal.{Process, FitsScript, StandsAt, after_note, child_count, downed}
 use Rattle.fak_process.specs.ListScheduler.{Turn}
 
--- the process fits the script, and has so many children
+-- the process fits the script, and has this many children
 pub record IsContext (script : ScriptOf) (children : ℕ) (process : Process) : Type 0 where
   pub fits : FitsScript script process
   pub children_are : children ≡ child_count process.journal

@@ -1,9 +1,10 @@
 -- Scripts that are known, and how the list scheduler leaves its lists. Each of its rules changes what is left of one of them.
-use Rattle.std.specs.Prelude.{[], ◌∷◌, Some, true, false, codes}
+use Rattle.std.specs.Prelude.{ℕ, List, [], ◌∷◌, Option, Some, None, true, false, codes}
+use Rattle.fak_model.specs.declared.file.FileEntry.{FileEntry}
 use Rattle.fak_model.specs.Limits.{longest_stint}
 use Rattle.fak_text.specs.Script.{ScriptOf, say, yield, down, up, open_file, close_file, stat, spawn, shutdown}
-use Rattle.fak_text.specs.Journal.{said, yielded, downed, upped, opened, closed, statted, spawned, no_birth, no_slot, shut_down}
-use Rattle.fak_process.specs.Files.{free_entry}
+use Rattle.fak_text.specs.Journal.{NoteOf, said, yielded, downed, upped, opened, closed, statted, spawned, no_birth, no_slot, shut_down}
+use Rattle.fak_process.specs.Files.{FileChange, free_entry}
 use Rattle.fak_process.specs.ListScheduler.{Lists}
 
 -- one process wakes the other, which wakes the first
@@ -255,3 +256,107 @@ reader_left = record {
       record { name = 0 ∷ 0 ∷ []; program = 1; slot = 1; position = 1; journal = said (codes "hi") ∷ [] } ∷ [];
   halted = [];
 }
+
+-- a stat, a close and a spawn that come to nothing end no turn: the first process opens the only entry before the second runs
+abbrev pub refused : ℕ → ScriptOf
+refused births = record {
+  version = 1;
+  slots = 2;
+  births = births;
+  quantum = 9;
+  stint = longest_stint;
+  semaphores = [];
+  files = 1;
+  programs = (stat 7 ∷ close_file 7 ∷ spawn 1 ∷ open_file 7 ∷ stat 7 ∷ []) ∷ (open_file 8 ∷ stat 7 ∷ []) ∷ [];
+  start = 0 ∷ 1 ∷ [];
+}
+
+-- how it is left, with this line of the spawn
+abbrev pub refused_left : NoteOf → Lists
+refused_left spawn_line = record {
+  ready = [];
+  free_slots = 0 ∷ 1 ∷ [];
+  counts = [];
+  sleepers = [];
+  entries = record { inode = 7; uses = 1 } ∷ [];
+  births = 0;
+  is_shut = false;
+  ended =
+      record { name = 0 ∷ []; program = 0; slot = 0; position = 5; journal = statted 7 None ∷ closed 7 None ∷ spawn_line ∷ opened 7 (Some 0) ∷ statted 7 (Some 1) ∷ [] } ∷
+      record { name = 1 ∷ []; program = 1; slot = 1; position = 2; journal = opened 8 None ∷ statted 7 (Some 1) ∷ [] } ∷ [];
+  halted = [];
+}
+
+-- every kind of step but a yield, all in one turn, while three others wait
+abbrev pub unhurried : ScriptOf
+unhurried = record {
+  version = 2;
+  slots = 4;
+  births = 2;
+  quantum = 20;
+  stint = longest_stint;
+  semaphores = 0 ∷ 0 ∷ [];
+  files = 2;
+  programs =
+      (say (codes "a") ∷ up 0 ∷ down 0 ∷ up 1 ∷ open_file 5 ∷ stat 5 ∷ close_file 5 ∷ stat 5 ∷ spawn 2 ∷ spawn 2 ∷ shutdown ∷ stat 7 ∷ []) ∷
+      (down 1 ∷ []) ∷
+      (open_file 7 ∷ []) ∷ [];
+  start = 1 ∷ 0 ∷ 2 ∷ [];
+}
+
+-- how it is left
+abbrev pub unhurried_left : Lists
+unhurried_left = record {
+  ready = [];
+  free_slots = 1 ∷ 2 ∷ 0 ∷ 3 ∷ [];
+  counts = 0 ∷ 0 ∷ [];
+  sleepers = [] ∷ [] ∷ [];
+  entries = record { inode = 7; uses = 2 } ∷ free_entry ∷ [];
+  births = 1;
+  is_shut = true;
+  ended =
+      record { name = 1 ∷ []; program = 0; slot = 1; position = 12; journal = said (codes "a") ∷ upped 0 ∷ downed 0 ∷ upped 1 ∷ opened 5 (Some 0) ∷ statted 5 (Some 1) ∷ closed 5 (Some 0) ∷ statted 5 None ∷ spawned 0 ∷ no_slot ∷ shut_down ∷ statted 7 None ∷ [] } ∷
+      record { name = 2 ∷ []; program = 2; slot = 2; position = 1; journal = opened 7 (Some 0) ∷ [] } ∷
+      record { name = 0 ∷ []; program = 1; slot = 0; position = 1; journal = downed 1 ∷ [] } ∷
+      record { name = 1 ∷ 0 ∷ []; program = 2; slot = 3; position = 1; journal = opened 7 (Some 0) ∷ [] } ∷ [];
+  halted = [];
+}
+
+-- two processes come to the ready list after it was shut
+abbrev pub latecomers : ScriptOf
+latecomers = record {
+  version = 2;
+  slots = 3;
+  births = 0;
+  quantum = 1;
+  stint = longest_stint;
+  semaphores = [];
+  files = 1;
+  programs = (shutdown ∷ yield ∷ []) ∷ (yield ∷ yield ∷ yield ∷ []) ∷ [];
+  start = 1 ∷ 0 ∷ 1 ∷ [];
+}
+
+-- how it is left
+abbrev pub latecomers_left : Lists
+latecomers_left = record {
+  ready = [];
+  free_slots = [];
+  counts = [];
+  sleepers = [];
+  entries = free_entry ∷ [];
+  births = 0;
+  is_shut = true;
+  ended = [];
+  halted =
+      record { name = 1 ∷ []; program = 0; slot = 1; position = 1; journal = shut_down ∷ [] } ∷
+      record { name = 2 ∷ []; program = 1; slot = 2; position = 1; journal = yielded ∷ [] } ∷
+      record { name = 0 ∷ []; program = 1; slot = 0; position = 2; journal = yielded ∷ yielded ∷ [] } ∷ [];
+}
+
+-- the change that an open or a close makes: the entry that it names, and the entries after it
+abbrev pub changed : Option ℕ → List FileEntry → FileChange
+changed entry entries = record { entry = entry; entries = entries }
+
+-- an entry with this inode and this many uses
+abbrev pub used : ℕ → ℕ → FileEntry
+used inode uses = record { inode = inode; uses = uses }

@@ -76,7 +76,7 @@ pub record AreHolds (n k name : ℕ) (holds : List FileHold) (h : List FileMark)
   pub reads : reads_of n name h ≡ map read_of holds
   pub fit : All (IsFitHold k) holds
 
--- all these lists, those of the seats from `first` on, so many of them
+-- all these lists, those of the seats from `first` on, this many of them
 abbrev pub gather_from : {A : Type 0} → (ℕ → List A) → ℕ → ℕ → List A
 gather_from lists first zero = []
 gather_from lists first (suc n) = lists first ++ gather_from lists (suc first) n

@@ -152,7 +152,7 @@ joined a b = record {
   rows = a.rows ++ b.rows;
 }
 
--- what the marks in the wait queues of so many semaphores weigh, together, and what the notes of these steps weigh
+-- what the marks in the wait queues of this many semaphores weigh, together, and what the notes of these steps weigh
 abbrev pub waited : (Kind Process → ℕ) → ℕ → (ℕ → List (Kind Process)) → ℕ
 waited w n waits = sum_below (λ s. sum_by w (waits s)) n
 
@@ -178,7 +178,7 @@ pub record BalancedBusy (n : ℕ) (busy : List CreditKind) (waits : ℕ → List
   pub credits : sum_by credit_weight busy ≡ waited (got_of (λ p. 1)) n waits + sum_by (λ p. 1) born
   pub debits : sum_by debit_weight busy ≡ waited (put_of (λ p. 1)) n waits + sum_by (λ r. 1) rows
 
--- each of n semaphores: a Debit for each down, done or parked, a Credit for each up; whoever is woken, at whatever wait
+-- each of n semaphores: a Debit for each down, done or parked, a Credit for each up; a woken process counts, at whatever wait
 -- queue, makes the down that it stands before
 pub record BalancedSemaphores (script : ScriptOf) (n : ℕ) (credits : ℕ → List CreditKind) (waits : ℕ → List (Kind Process)) (made : List Made) : Type 0 where
   pub downs : (s : ℕ) → s < n → noted (downs_of s) made + sum_by (put_of (λ p. 1)) (waits s) ≡ sum_by debit_weight (credits s) + waited (got_of (before_down script s)) n waits

@@ -6,6 +6,7 @@ pub mod Views
 pub mod ReportText
 pub mod Told
 pub mod Examples
+pub mod ReportExamples
 pub mod Only
 pub mod OnlyFiles
 pub mod Ledger

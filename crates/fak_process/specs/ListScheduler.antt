@@ -137,7 +137,7 @@ step_by script s (Some t) = turn_by script s t (next_step script t.process)
 abbrev pub step : ScriptOf → State → State
 step script s = step_by script s.lists s.running
 
--- so many small steps
+-- this many small steps
 abbrev pub steps : ℕ → ScriptOf → State → State
 steps zero script s = s
 steps (suc n) script s = step script (steps n script s)
@@ -147,7 +147,7 @@ abbrev pub begun_from : ℕ → List ℕ → List Process
 begun_from i [] = []
 begun_from i (program ∷ programs) = new_process (i ∷ []) program i ∷ begun_from (i + 1) programs
 
--- so many numbers, from i up
+-- this many numbers, from i up
 abbrev pub numbers_from : ℕ → ℕ → List ℕ
 numbers_from i zero = []
 numbers_from i (suc n) = i ∷ numbers_from (i + 1) n

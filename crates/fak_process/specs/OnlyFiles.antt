@@ -10,7 +10,7 @@ use Rattle.fak_process.specs.Only.{IsOnly}
 abbrev pub IsOnlyFiles : FileSeatInfo → Type 0
 IsOnlyFiles seat = IsOnly (λ (m : FileMark). m.seat) seat.seat
 
--- the entries, where there are so many
+-- the entries, where there are this many
 abbrev pub entries_now : ℕ → FileSeatInfo → List FileEntry
 entries_now count seat = entries_after seat.seat.seen 0 count
 
@@ -31,7 +31,7 @@ pub record StoresEntry (copy : List FileEntry) (i : ℕ) (old new : FileSeatInfo
   pub in_copy : slice_get copy i ≡ Some e
   pub puts : PutsEntry i e old new
 
--- the entries, so many of them, are those of the change, and this entry is the one that it names
+-- the entries, this many of them, are those of the change, and this entry is the one that it names
 pub record ChangesFiles (count : ℕ) (entry : Option ℕ) (change : FileChange) (new : FileSeatInfo) : Type 0 where
   pub only : IsOnlyFiles new
   pub entry_is : entry ≡ change.entry

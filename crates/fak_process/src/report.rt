@@ -13,7 +13,7 @@ use std::fmt;
 pub enum Outcome {
     /// It came to the end of its program.
     Ended,
-    /// It sleeps at a semaphore, and nobody is left to wake it.
+    /// It sleeps at a semaphore, and no process is left to wake it.
     Stuck,
     /// It would have been ready, or sleeps, after the ready queue was shut.
     Halted,

@@ -9,8 +9,8 @@ use crate::fault::Fault;
 use fak_text::Note;
 use std::marker::Model;
 
-/// A process that stands before a down. The note of the down is written when the process falls asleep, so waking
-/// it takes no memory; the process is seen without it.
+/// A process in front of a down. The note of the down is written when the process falls asleep, so waking
+/// it takes no memory. Contracts see the process without that note.
 #[derive(Drop)]
 pub struct Sleeper<K: Run> {
     context: Context<K>,
@@ -40,7 +40,7 @@ impl<K: Run> Sleeper<K> {
         Ok(Sleeper { context, semaphore })
     }
 
-    /// The process wakes, and the down that it stands before is done.
+    /// The process wakes, and the down in front of it is done.
     pub fn rouse(self) -> Context<K>
         ensures woken { (semaphore : ℕ) × StandsAt K.script self (down semaphore) × (result ≡ after_note self (downed semaphore)) }
         ensures done { (semaphore : ℕ) → StandsAt K.script self (down semaphore) → result ≡ after_note self (downed semaphore) }
@@ -55,7 +55,7 @@ impl<K: Run> Sleeper<K> {
         context
     }
 
-    /// The process as it stands before its down.
+    /// The process as it is in front of its down.
     pub fn rest(self) -> Context<K>
         ensures same { result ≡ self }
         ensures fits { FitsScript K.script self }

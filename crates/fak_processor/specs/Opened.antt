@@ -31,7 +31,7 @@ fresh_rows ids stint name (suc n) = map (fresh_sem_at stint name) ids ∷ fresh_
 abbrev pub AreProcessors : ℕ → Type 0
 AreProcessors n = (1 ≤ n) × (n ≤ 8)
 
--- a semaphore of this script, for so many processors
+-- a semaphore of this script, for this many processors
 pub record IsSemaphoreFor (script : ScriptOf) (processors : ℕ) (s : SemInfo) : Type 0 where
   pub size : s.size ≡ script.slots
   pub seats : seats_of s.object ≡ processors
@@ -56,7 +56,7 @@ fresh_processor o stint name = record {
   copy = replicate o.files.entries free_entry;
 }
 
--- the seats of all objects, processor by processor, each with a copy of so many free entries
+-- the seats of all objects, processor by processor, each with a copy of this many free entries
 abbrev pub zipped : ℕ → List (SeatInfo (Mark Process)) → List (SeatInfo (Mark ℕ)) → List (SeatInfo RoomMark) → List (SeatInfo CreditMark) → List (List (SemSeatInfo Process)) → List FileSeatInfo → List ProcessorOf
 zipped n (r ∷ rs) (f ∷ fs) (b ∷ bs) (c ∷ cs) (s ∷ ss) (x ∷ xs) = record { ready = r; free = f; births = b; busy = c; semaphores = s; files = x; ended = []; halted = []; copy = replicate n free_entry } ∷ zipped n rs fs bs cs ss xs
 zipped n _ _ _ _ _ _ = []

@@ -22,7 +22,7 @@ impl Model for Alarm {
 }
 
 impl Alarm {
-    /// An alarm for so many processors, not rung yet.
+    /// An alarm for this many processors, not rung yet.
     pub fn new(processors: u64) -> Alarm
         ensures { result ≡ processors }
     {

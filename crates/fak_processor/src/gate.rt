@@ -1,14 +1,18 @@
 //! What lets processors look at the ready queue.
 
-ghost use Rattle.std.specs.Prelude.{◌≡◌, Bool, true, false, cond, ◌+◌, ◌==◌, IfErr};
-ghost use Rattle.fak_processor.specs.Faults.{IsOfGate};
+ghost use Rattle.std.specs.Prelude.{◌≡◌, ◌≤◌, ℕ, Bool, true, false, cond, ◌+◌, ◌==◌, IfOk, IfErr};
+ghost use Rattle.fak_processor.specs.Faults.{HasPassed, IsOfGate};
 
 use fak_process::Fault;
 
-/// What a processor passes before each look at the ready queue.
+/// What a processor passes before each look at the ready queue. A gate is its two methods. The ghost members, which
+/// proofs alone see, have defaults: a gate that may refuse, and that may answer anything.
 pub trait Gate {
-    /// Whether the gate may ever refuse a processor.
-    ghost refuses: { Self → Bool };
+    /// Whether the gate may ever refuse a processor. A gate that never does names this member, as `FreeGate`.
+    ghost refuses: { Self → Bool } = { λ _. true };
+
+    /// What `pass` may answer the processor of this number at its look of this number.
+    ghost answers: { Self → ℕ → ℕ → Bool → Type 0 } = { λ _ _ _ _. Unit {0} };
 
     /// Whether `pass` may answer false.
     fn may_refuse(&self) -> bool
@@ -17,11 +21,12 @@ pub trait Gate {
     /// Lets the processor of this number make the look of this number, counted from 0; after 2^64 - 1 looks the
     /// number stays there. False is a refusal, and ends the run.
     fn pass(&self, processor: u64, step: u64) -> bool
-        ensures { refuses self.now ≡ false → result ≡ true };
+        ensures free { refuses self.now ≡ false → result ≡ true }
+        ensures answer { answers self.now processor step result };
 }
 
 /// A gate that never refuses.
-#[derive(Drop, Clone, Copy)]
+#[derive(Clone, Copy, Debug, PartialEq, Eq, Drop)]
 pub struct FreeGate;
 
 impl Gate for FreeGate {
@@ -37,7 +42,7 @@ impl Gate for FreeGate {
 }
 
 /// The looks of a processor at the ready queue.
-#[derive(Drop)]
+#[derive(Debug, Drop)]
 pub(crate) struct Looks {
     processor: u64,
     made: u64,
@@ -61,7 +66,9 @@ impl Looks {
           made = cond (self.old.made == 18446744073709551615) self.old.made
               (self.old.made + 1);
         } }
+        ensures passed { IfOk result (λ _. G.answers gate.now self.old.processor self.old.made true) }
         ensures gate { IfErr result (λ fault. IsOfGate (G.refuses gate.now) fault) }
+        ensures refused { IfErr result (λ _. G.answers gate.now self.old.processor self.old.made false) }
     {
         let step = self.made;
         self.made = step.saturating_add(1);
@@ -69,5 +76,24 @@ impl Looks {
             return Ok(());
         }
         Err(Fault::Gate)
+    }
+
+    /// Passes the gate before the next look, where the processor makes one.
+    ///
+    /// # Errors
+    ///
+    /// `Gate`, where the gate may refuse and did.
+    pub(crate) fn pass_where<G: Gate>(&mut self, gate: &G, looks: bool) -> Result<(), Fault>
+        ensures same { self.new.processor ≡ self.old.processor }
+        ensures passed { IfOk result (λ _. HasPassed (G.answers gate.now self.old.processor) self.old.made
+            → HasPassed (G.answers gate.now self.old.processor) self.new.made) }
+        ensures looked { looks ≡ true → 1 ≤ self.new.made }
+        ensures gate { IfErr result (λ fault. IsOfGate (G.refuses gate.now) fault) }
+        ensures refused { IfErr result (λ _. G.answers gate.now self.old.processor self.old.made false) }
+    {
+        if looks {
+            return self.pass(gate);
+        }
+        Ok(())
     }
 }

@@ -19,7 +19,7 @@ pub struct Objects<K: Run> {
     pub ready: Queue<Context<K>>,
     /// The free slots.
     pub free: Queue<Slot<K>>,
-    /// The semaphores of the script, with who sleeps there.
+    /// The semaphores of the script, with the processes that sleep there.
     pub semaphores: Semaphores<K>,
     /// The births that were used.
     pub births: Room,

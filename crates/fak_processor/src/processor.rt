@@ -2,6 +2,7 @@
 
 ghost use Rattle.std.specs.Prelude.{◌≡◌, [], ◌∷◌, IfOk, IfErr};
 ghost use Rattle.fak_model.specs.declared.credit.CreditKind.TheVariants as made;
+ghost use Rattle.fak_count.specs.Credits.{calls_made};
 ghost use Rattle.fak_process.specs.Ledger.{nothing};
 ghost use Rattle.fak_processor.specs.Moving.{Gains};
 ghost use Rattle.fak_processor.specs.Processors.{AreOf, GoesTo, IsAlone, ProcessorOf, lists_of};
@@ -36,7 +37,7 @@ pub struct Processor<K: Run> {
     pub semaphores: SemSeats<K>,
     /// Its seat at the births.
     pub births: RoomSeat,
-    /// Its seat at the count of who is ready or runs.
+    /// Its seat at the count of the processes that are ready or run.
     pub busy: CreditSeat,
     /// Its seat at the file table.
     pub files: FileSeat,
@@ -75,6 +76,7 @@ impl<K: Run> Processor<K> {
         ensures gains { IfOk result (λ _. Gains K.script self.old self.new (record nothing { busy = made.Credit ∷ [] })) }
         ensures alone { IsAlone K.script self.old → GoesTo K.script self.new (lists_of K.script self.old) }
         ensures worn { IfErr result (λ fault. fault ≡ Fault.Worn) }
+        ensures spent { IfErr result (λ _. calls_made self.new.busy ≡ self.new.busy.stint) }
     {
         let Ok(_) = objects.busy.credit(&mut self.busy) else {
             return Err(Fault::Worn);
@@ -90,6 +92,7 @@ impl<K: Run> Processor<K> {
         ensures gains { IfOk result (λ _. Gains K.script self.old self.new (record nothing { busy = made.Debit ∷ [] })) }
         ensures alone { IsAlone K.script self.old → GoesTo K.script self.new (lists_of K.script self.old) }
         ensures worn { IfErr result (λ fault. fault ≡ Fault.Worn) }
+        ensures spent { IfErr result (λ _. calls_made self.new.busy ≡ self.new.busy.stint) }
     {
         let Ok(_) = objects.busy.debit(&mut self.busy) else {
             return Err(Fault::Worn);

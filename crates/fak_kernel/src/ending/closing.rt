@@ -17,7 +17,7 @@ use fak_queue::Rest;
 use fak_sem::{SemTally, Semaphore};
 use std::alloc::Global;
 
-/// What the objects of a run have left: who sleeps, semaphore by semaphore, oldest first, and the file entries.
+/// What the objects of a run have left: the sleepers, semaphore by semaphore, oldest first, and the file entries.
 #[derive(Drop)]
 pub(crate) struct Remains<K: Run> {
     pub(crate) asleep: Vec<Context<K>>,
@@ -59,7 +59,7 @@ fn close_each<K: Run>(
     Ok(asleep)
 }
 
-/// The entries of a closed file table of so many.
+/// The entries of a closed file table of this many.
 fn read_entries(alloc: Global, rest: FileRest, count: u64) -> Result<Vec<FileEntry>, Fault>
     requires count { length rest ≡ count }
     ensures entries { IfOk result (λ entries. entries.items ≡ rest) }
@@ -72,53 +72,46 @@ fn read_entries(alloc: Global, rest: FileRest, count: u64) -> Result<Vec<FileEnt
     Ok(entries)
 }
 
-/// The objects that have something left.
+/// The semaphores and the file table of a run, with their tallies.
 #[derive(Drop)]
 struct Closing<K: Run> {
     semaphores: Vec<Semaphore<Sleeper<K>>>,
+    sleepers: Vec<SemTally<Sleeper<K>>>,
     files: FileTable,
+    holds: FileTally,
 }
 
-/// What is to be closed. What has nothing left is dropped.
-fn closing_of<K: Run>(objects: Objects<K>) -> Closing<K>
+/// Closes the queues, once all their seats are joined. What they have left is dropped: no process is ready, and the slots are
+/// free. The births and the count of busy processes have nothing to close.
+fn close_queues<K: Run>(objects: Objects<K>, tallies: Tallies<K>) -> Closing<K>
+    requires tallies { AreTalliesOf objects tallies }
+    requires ready { IsWhole tallies.ready.object.seats tallies.ready.names }
+    requires free { IsWhole tallies.free.object.seats tallies.free.names }
     ensures semaphores { result.semaphores.items ≡ objects.semaphores }
+    ensures sleepers { result.sleepers.items ≡ tallies.semaphores }
     ensures files { result.files ≡ objects.files }
+    ensures holds { result.holds ≡ tallies.files }
 {
-    drop(objects.ready);
-    drop(objects.free);
+    let Tallies {
+        single,
+        semaphores: sleepers,
+    } = tallies;
+    drop(objects.ready.close(single.ready));
+    drop(objects.free.close(single.free));
     drop(objects.births);
+    drop(single.births);
     drop(objects.busy);
+    drop(single.busy);
     drop(objects.alarm);
     Closing {
         semaphores: objects.semaphores.all,
+        sleepers,
         files: objects.files,
+        holds: single.files,
     }
 }
 
-/// The tallies of what is to be closed.
-#[derive(Drop)]
-struct ClosingTallies<K: Run> {
-    semaphores: Vec<SemTally<Sleeper<K>>>,
-    files: FileTally,
-}
-
-/// The tallies of what is to be closed. The others are dropped.
-fn closing_tallies<K: Run>(tallies: Tallies<K>) -> ClosingTallies<K>
-    ensures semaphores { result.semaphores.items ≡ tallies.semaphores }
-    ensures files { result.files ≡ tallies.files }
-{
-    let Tallies { single, semaphores } = tallies;
-    drop(single.ready);
-    drop(single.free);
-    drop(single.births);
-    drop(single.busy);
-    ClosingTallies {
-        semaphores,
-        files: single.files,
-    }
-}
-
-/// Closes the objects, whose file table has so many entries, once all seats are joined.
+/// Closes the objects, whose file table has this many entries, once all seats are joined.
 #[tactic(auto, using(crate::proofs::Closing::length_entries))]
 pub(crate) fn close<K: Run>(
     alloc: Global,
@@ -127,6 +120,8 @@ pub(crate) fn close<K: Run>(
     count: u64,
 ) -> Result<Remains<K>, Fault>
     requires tallies { AreTalliesOf objects tallies }
+    requires ready { IsWhole tallies.ready.object.seats tallies.ready.names }
+    requires free { IsWhole tallies.free.object.seats tallies.free.names }
     requires semaphores { All IsWholeAt tallies.semaphores }
     requires files { IsWhole tallies.files.object.seats tallies.files.names }
     requires count { count ≡ objects.files.entries }
@@ -134,13 +129,14 @@ pub(crate) fn close<K: Run>(
     ensures entries { IfOk result (λ left. left.entries.items ≡ entries_after tallies.files.seen 0 objects.files.entries) }
     ensures memory { IfErr result (λ fault. fault ≡ Fault.Memory) }
 {
-    let Closing { semaphores, files } = closing_of(objects);
-    let ClosingTallies {
-        semaphores: tallies,
-        files: file_tally,
-    } = closing_tallies(tallies);
-    let rest = files.close(file_tally);
+    let Closing {
+        semaphores,
+        sleepers,
+        files,
+        holds,
+    } = close_queues(objects, tallies);
+    let rest = files.close(holds);
     let entries = read_entries(alloc, rest, count)?;
-    let asleep = close_each(alloc, semaphores, tallies)?;
+    let asleep = close_each(alloc, semaphores, sleepers)?;
     Ok(Remains { asleep, entries })
 }

@@ -22,7 +22,7 @@ use fak_sem::{SemTally, Semaphore};
 use std::alloc::Global;
 use std::marker::Model;
 
-/// Of each object that a run has one of, the seats of some processors, joined.
+/// The joined seats of some processors, for each object of which a run has one.
 #[derive(Drop)]
 pub(crate) struct SingleTallies<K: Run> {
     pub(crate) ready: Tally<Context<K>>,

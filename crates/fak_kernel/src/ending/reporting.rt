@@ -29,7 +29,7 @@ fn is_one_shut<K: Run>(contexts: &[Context<K>]) -> bool
     contexts.iter().any(|context| context.has_shutdown())
 }
 
-/// How those who sleep are left.
+/// How the sleepers are left.
 fn outcome_of_sleepers<K: Run>(
     ended: &[Context<K>],
     halted: &[Context<K>],

@@ -2,7 +2,7 @@
 
 ghost use Rattle.std.specs.Prelude.{◌≡◌, ◌<◌, ℕ, vec_len, slice_index_or, IfOk, IfErr};
 ghost use Rattle.fak_processor.specs.Processors.{AreFor};
-ghost use Rattle.fak_kernel.specs.Threads.{HasAnswered, HasBegun, IsOfRun};
+ghost use Rattle.fak_kernel.specs.Threads.{HasAnswered, HasBegun, IsOfStart};
 
 use fak_process::{Fault, Run};
 use fak_processor::{Gate, Objects, Processor};
@@ -36,7 +36,7 @@ impl<'o, K: Run, G> Drop for Leaves<'o, K, G> {
 }
 
 impl<'o, K: Run, G: Gate> Promise<Answer<K>> for Leaves<'o, K, G> {
-    ghost kept_by = { λ p r. HasAnswered K.script p.objects.now p.processors (G.refuses p.gate.now) p.number r };
+    ghost kept_by = { λ p r. HasAnswered K.script p.objects.now p.processors (G.refuses p.gate.now) (G.answers p.gate.now) p.number r };
 }
 
 /// The processor of this number works until it leaves.
@@ -53,7 +53,7 @@ fn leave<K: Run, R: Wait, G: Gate>(
     requires script { script.now ≡ K.script }
     requires made { AreFor K.script objects.now }
     requires begun { HasBegun K.script objects.now processors number processor }
-    ensures { HasAnswered K.script objects.now processors (G.refuses gate.now) number result }
+    ensures { HasAnswered K.script objects.now processors (G.refuses gate.now) (G.answers gate.now) number result }
 {
     processor.work(rt, alloc, script, objects, gate, number)
 }
@@ -77,8 +77,8 @@ pub(crate) fn leave_all<K: Run + Send + Sync, R: Threads + Wait + Sync, G: Gate 
     requires begun { (i : ℕ) (d : _) → i < vec_len all → HasBegun K.script objects.now processors i (slice_index_or all.items i d) }
     ensures len { IfOk result (λ v. vec_len v ≡ vec_len all) }
     ensures answered { IfOk result (λ v. (i : ℕ) (d : _) → i < vec_len v
-        → HasAnswered K.script objects.now processors (G.refuses gate.now) i (slice_index_or v.items i d)) }
-    ensures fault { IfErr result (IsOfRun (G.refuses gate.now)) }
+        → HasAnswered K.script objects.now processors (G.refuses gate.now) (G.answers gate.now) i (slice_index_or v.items i d)) }
+    ensures fault { IfErr result IsOfStart }
 {
     thread::scope(
         thread::scope_env(),
@@ -90,8 +90,8 @@ pub(crate) fn leave_all<K: Run + Send + Sync, R: Threads + Wait + Sync, G: Gate 
                 → HasBegun K.script objects.now processors i (slice_index_or all.items i d) }
             ensures len { IfOk result (λ v. vec_len v ≡ vec_len all) }
             ensures answered { IfOk result (λ v. (i : ℕ) (d : _) → i < vec_len v
-                → HasAnswered K.script objects.entry.now processors (G.refuses gate.entry.now) i (slice_index_or v.items i d)) }
-            ensures fault { IfErr result (IsOfRun (G.refuses gate.entry.now)) }
+                → HasAnswered K.script objects.entry.now processors (G.refuses gate.entry.now) (G.answers gate.entry.now) i (slice_index_or v.items i d)) }
+            ensures fault { IfErr result IsOfStart }
         {
             let Ok(mut handles) = Vec::with_capacity(alloc, all.len()) else {
                 drop(all);

@@ -4,7 +4,7 @@ use fak_kernel::{FileEntry, ProcessRow, Report};
 use fak_text::{Note, Script};
 use std::alloc::{AllocError, Global};
 
-/// So many places of the search are looked at.
+/// The most places that the search looks at.
 const MOST_PLACES: u64 = 2_000_000;
 
 const FREE: FileEntry = FileEntry { inode: 0, uses: 0 };

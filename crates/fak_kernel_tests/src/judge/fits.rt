@@ -4,7 +4,7 @@ use super::lines::count;
 use fak_kernel::{Outcome, ProcessRow};
 use fak_text::{Note, Script, Step};
 
-/// Each journal stands beside the first steps of its program, and each process is left where its outcome may stand.
+/// Each journal goes with the first steps of its program, and each process is left where its outcome allows.
 pub fn all_fit(script: &Script, rows: &[ProcessRow]) -> bool {
     let is_shut = count(rows, &Note::Shutdown) > 0;
     rows.iter().all(|row| fits(script, row, is_shut))
@@ -29,7 +29,7 @@ fn stands_beside(steps: &[Step], row: &ProcessRow) -> bool {
     made <= steps.len() && row.position == made as u64
 }
 
-/// The step may have this result, where so many children were begun, and maybe one more is then.
+/// The step may have this result, where this many children were begun, and maybe one more is then.
 fn allows(step: &Step, note: &Note, children: &mut u64) -> bool {
     match (step, note) {
         (Step::Say(text), Note::Say(said)) => text.as_str() == said.as_str(),

@@ -3,7 +3,7 @@
 use fak_kernel::{Outcome, ProcessRow};
 use fak_text::{Note, Script, Step};
 
-/// How often a line stands in all journals.
+/// How often a line occurs in all journals.
 pub fn count(rows: &[ProcessRow], line: &Note) -> u64 {
     let mut total = 0u64;
     for row in rows {

@@ -70,7 +70,7 @@ impl<K: Run> SemSeats<K> {
         Ok(passed)
     }
 
-    /// An up of this semaphore, which wakes one or nobody.
+    /// An up of this semaphore, which wakes one process or none.
     pub fn up<R: Wait>(
         &mut self,
         rt: &R,

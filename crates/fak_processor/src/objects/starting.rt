@@ -1,7 +1,7 @@
 //! What processor 0 does before the threads start: all slots become free, and the started processes become ready.
 
 ghost use Rattle.std.specs.Prelude.{◌≡◌, ◌<◌, [], ◌∷◌, ◌++◌, length, IfOk, IfErr};
-ghost use Rattle.fak_processor.specs.Faults.{IsOfStep};
+ghost use Rattle.fak_processor.specs.Faults.{IsOfStep, IsSpent};
 ghost use Rattle.fak_process.specs.ListScheduler as lists;
 ghost use Rattle.fak_process.specs.Whole.{begun_names};
 ghost use Rattle.fak_processor.specs.Processors.{AreFor, AreOf, GoesTo, IsAlone, IsReached, TakesSlot, lists_of};
@@ -55,7 +55,7 @@ impl<K: Run> Processor<K> {
         ensures alone { GoesTo K.script self.old (empty_lists K.script)
             → IfOk result (λ _. GoesTo K.script self.new
             (record (empty_lists K.script) { free_slots = lists.numbers_from 0 K.script.slots })) }
-        ensures fault { IfErr result (λ fault. IsOfStep fault) }
+        ensures worn { IfErr result (λ fault. fault ≡ Fault.Worn) }
     {
         for number in 0..script.slots() {
             self.free_slot(rt, objects, Slot::new(number))?;
@@ -141,7 +141,8 @@ impl<K: Run> Processor<K> {
         ensures objects { AreOf objects.now self.new }
         ensures general { IfOk result (λ slot. FindsSlot K.script slot self.old self.new) }
         ensures alone { IsAlone K.script self.old → IfOk result (λ slot. TakesSlot K.script (lists_of K.script self.old) slot self.new) }
-        ensures fault { IfErr result (λ fault. IsOfStep fault) }
+        ensures worn { IfErr result (λ fault. fault ≡ Fault.Worn) }
+        ensures spent { IfErr result (λ _. IsSpent self.new.free) }
     {
         let backoff = Backoff::new();
         for _ in rt.forever() {

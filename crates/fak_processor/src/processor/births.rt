@@ -1,12 +1,11 @@
 //! Births.
 
 ghost use Rattle.std.specs.Prelude.{◌≡◌, [], ◌∷◌, Bool, ◌-◌, ◌≤◌, IfOk, IfErr, MatchBool};
-ghost use Rattle.fak_count.specs.Rooms.{held_amount};
+ghost use Rattle.fak_count.specs.Rooms.{granted_claims, held_amount};
 ghost use Rattle.fak_model.specs.declared.room.RoomKind.TheVariants.{Up, Release};
 ghost use Rattle.fak_process.specs.Ledger.{nothing};
 ghost use Rattle.fak_processor.specs.Events.{refused_claim};
 ghost use Rattle.fak_processor.specs.Moving.{Gains};
-ghost use Rattle.fak_processor.specs.Faults.{IsOfStep};
 ghost use Rattle.fak_processor.specs.Processors.{AreFor, AreOf, HasNoBirth, IsAlone, IsBorn, GoesTo, lists_of};
 
 use crate::objects::Objects;
@@ -15,7 +14,7 @@ use fak_count::TirFault;
 use fak_process::{Fault, Run};
 
 impl<K: Run> Processor<K> {
-    /// Claims a birth, if there is one left.
+    /// Claims a birth, if there is one left. `Worn` where the seat has no claims left.
     pub fn claim_birth(&mut self, objects: &Objects<K>) -> Result<bool, Fault>
         requires objects { AreOf objects.now self.old }
         requires made { AreFor K.script objects.now }
@@ -27,7 +26,8 @@ impl<K: Run> Processor<K> {
         ensures alone { IsAlone K.script self.old
             → IfOk result (λ born. MatchBool born (IsBorn K.script (lists_of K.script self.old) self.new)
             (HasNoBirth K.script (lists_of K.script self.old) self.new)) }
-        ensures fault { IfErr result (λ fault. IsOfStep fault) }
+        ensures worn { IfErr result (λ fault. fault ≡ Fault.Worn) }
+        ensures spent { IfErr result (λ _. granted_claims self.new.births ≡ self.new.births.stint) }
     {
         match objects.births.tir(&mut self.births, 1) {
             Ok(_) => return Ok(true),

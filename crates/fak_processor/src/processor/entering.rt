@@ -8,6 +8,7 @@ ghost use Rattle.fak_model.specs.declared.queue.Kind.TheVariants.{Close};
 ghost use Rattle.fak_model.specs.Queue.{queue_rules};
 ghost use Rattle.fak_processor.specs.Holding.{queue_kind};
 ghost use Rattle.fak_processor.specs.Turning.{Grows};
+ghost use Rattle.fak_processor.specs.Faults.{IsSpent};
 ghost use Rattle.fak_processor.specs.Moving.{GrowsAtLast, GrowsEmpty, GrowsIn, GrowsOut, GrowsShut};
 
 use crossbeam_utils::Backoff;
@@ -32,6 +33,7 @@ pub fn enter<T: Drop, R: Wait>(
     ensures only { IsOnlySeat seat.old → IfOk result
         (λ back. MatchOption back (Enters item seat.old seat.new) (λ x. (x ≡ item) × Bounces seat.old seat.new)) }
     ensures worn { IfErr result (λ fault. fault ≡ Fault.Worn) }
+    ensures spent { IfErr result (λ _. IsSpent seat.new) }
 {
     let backoff = Backoff::new();
     let mut waiting = item;
@@ -63,6 +65,7 @@ pub fn put<T: Drop, R: Wait>(
     ensures grows { IfOk result (λ _. GrowsAtLast queue.now.size item seat.old seat.new) }
     ensures only { IsOnlySeat seat.old → IfOk result (λ _. Enters item seat.old seat.new) }
     ensures worn { IfErr result (λ fault. fault ≡ Fault.Worn) }
+    ensures spent { IfErr result (λ _. IsSpent seat.new) }
 {
     let backoff = Backoff::new();
     let mut waiting = item;
@@ -94,6 +97,7 @@ pub fn take<T: Drop, R: Wait>(
     ensures only { IsOnlySeat seat.old → IfOk result
         (λ found. MatchOption found (FindsNone seat.old seat.new) (λ x. Leaves x seat.old seat.new)) }
     ensures worn { IfErr result (λ fault. fault ≡ Fault.Worn) }
+    ensures spent { IfErr result (λ _. IsSpent seat.new) }
 {
     match queue.delete(rt, seat) {
         Ok((_, item)) => Ok(Some(item)),

@@ -27,7 +27,7 @@ impl Model for Files {
 }
 
 impl Files {
-    /// So many free entries.
+    /// This many free entries.
     pub fn new(alloc: Global, count: u64) -> Result<Files, Fault>
         ensures free { IfOk result (λ files. files ≡ replicate count free_entry) }
         ensures memory { IfErr result (λ fault. fault ≡ Fault.Memory) }

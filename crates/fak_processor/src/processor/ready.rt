@@ -3,7 +3,7 @@
 ghost use Rattle.std.specs.Prelude.{◌≡◌, [], ◌∷◌, Bool, ℕ, None, true, IfOk, IfErr, MatchOption};
 ghost use Rattle.fak_model.specs.Queue.{contents};
 ghost use Rattle.fak_process.specs.ListScheduler as lists;
-ghost use Rattle.fak_processor.specs.Faults.{IsOfStep};
+ghost use Rattle.fak_processor.specs.Faults.{IsOfStep, IsSpent};
 ghost use Rattle.fak_processor.specs.Processors.{AreFor, AreOf, IsAlone, GoesOn, GoesTo, HasNoSlot, TakesSlot, lists_of};
 ghost use Rattle.fak_model.specs.declared.queue.Kind.TheVariants.{Close};
 ghost use Rattle.fak_queue.specs.Retries.{kinds_out};
@@ -19,7 +19,7 @@ use fak_process::{Context, Fault, Run, Slot};
 use std::sync::Wait;
 
 impl<K: Run> Processor<K> {
-    /// The front of the ready queue gets the processor.
+    /// The front of the ready queue gets the processor. `Worn` where the seat at the queue has no calls left.
     pub fn take_front<R: Wait>(
         &mut self,
         rt: &R,
@@ -32,7 +32,8 @@ impl<K: Run> Processor<K> {
         ensures alone { IsAlone K.script self.old
             → IfOk result (λ running. GoesOn K.script self.new running
             (lists.take_front (lists_of K.script self.old) (contents self.old.ready.seen))) }
-        ensures fault { IfErr result (λ fault. IsOfStep fault) }
+        ensures worn { IfErr result (λ fault. fault ≡ Fault.Worn) }
+        ensures spent { IfErr result (λ _. IsSpent self.new.ready) }
     {
         match take(&objects.ready, rt, &mut self.ready) {
             Err(fault) => return Err(fault),
@@ -102,7 +103,7 @@ impl<K: Run> Processor<K> {
         Ok(())
     }
 
-    /// The front of the free slots is taken.
+    /// The front of the free slots is taken. `Worn` where the seat at the slots has no calls left.
     pub fn take_slot<R: Wait>(
         &mut self,
         rt: &R,
@@ -118,7 +119,8 @@ impl<K: Run> Processor<K> {
         ensures alone { IsAlone K.script self.old
             → IfOk result (λ slot. MatchOption slot (HasNoSlot K.script (lists_of K.script self.old) self.new)
             (λ n. TakesSlot K.script (lists_of K.script self.old) n self.new)) }
-        ensures fault { IfErr result (λ fault. IsOfStep fault) }
+        ensures worn { IfErr result (λ fault. fault ≡ Fault.Worn) }
+        ensures spent { IfErr result (λ _. IsSpent self.new.free) }
     {
         match take(&objects.free, rt, &mut self.free) {
             Err(fault) => return Err(fault),

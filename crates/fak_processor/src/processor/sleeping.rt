@@ -3,7 +3,6 @@
 ghost use Rattle.std.specs.Prelude.{◌≡◌, ◌<◌, [], ◌∷◌, length, IfOk, IfErr, IfSome, MatchOption};
 ghost use Rattle.fak_text.specs.Script.{down};
 ghost use Rattle.fak_text.specs.Journal.{StandsAt};
-ghost use Rattle.fak_processor.specs.Faults.{IsOfStep};
 ghost use Rattle.fak_processor.specs.Processors.{AreFor, AreOf, IsAlone, CountFalls, SleepsLast, WakesFirst, WakesNobody, lists_of};
 ghost use Rattle.fak_model.specs.declared.credit.CreditKind.TheVariants.{Debit, Credit};
 ghost use Rattle.fak_process.specs.Ledger.{nothing};
@@ -34,7 +33,7 @@ impl<K: Run> Processor<K> {
         ensures alone { IsAlone K.script self.old
             → IfOk result (λ passed. MatchOption passed (SleepsLast K.script (lists_of K.script self.old) at sleeper self.new)
             (λ _. CountFalls K.script (lists_of K.script self.old) at self.new)) }
-        ensures fault { IfErr result (λ fault. IsOfStep fault) }
+        ensures worn { IfErr result (λ fault. fault ≡ Fault.Worn) }
     {
         match self.semaphores.down(rt, &objects.semaphores, at, sleeper) {
             Err(fault) => return Err(fault),
@@ -43,7 +42,7 @@ impl<K: Run> Processor<K> {
         }
     }
 
-    /// An up: the first who sleeps wakes, or the count rises.
+    /// An up: the first sleeper wakes, or the count rises.
     pub fn wake<R: Wait>(
         &mut self,
         rt: &R,
@@ -60,7 +59,7 @@ impl<K: Run> Processor<K> {
         ensures alone { IsAlone K.script self.old
             → IfOk result (λ woken. MatchOption woken (WakesNobody K.script (lists_of K.script self.old) at self.new)
             (λ q. WakesFirst K.script (lists_of K.script self.old) at q self.new)) }
-        ensures fault { IfErr result (λ fault. IsOfStep fault) }
+        ensures worn { IfErr result (λ fault. fault ≡ Fault.Worn) }
     {
         match self.semaphores.up(rt, &objects.semaphores, at) {
             Err(fault) => return Err(fault),

@@ -1,6 +1,6 @@
 //! What each step does.
 
-ghost use Rattle.std.specs.Prelude.{[], ◌∷◌, ◌<◌, false, length, Some, IfOk, IfErr};
+ghost use Rattle.std.specs.Prelude.{◌≡◌, [], ◌∷◌, ◌<◌, false, length, Some, IfOk, IfErr};
 ghost use Rattle.fak_text.specs.Script.{down, up, open_file, close_file, stat, spawn, shutdown};
 ghost use Rattle.fak_text.specs.Journal.{StandsAt};
 ghost use Rattle.fak_process.specs.ListScheduler as lists;
@@ -49,7 +49,7 @@ impl<K: Run> Processor<K> {
         }
     }
 
-    /// An up: the first who sleeps at the semaphore becomes ready, or the count rises.
+    /// An up: the first sleeper of the semaphore becomes ready, or the count rises.
     pub(crate) fn up<R: Wait>(
         &mut self,
         rt: &R,
@@ -81,7 +81,7 @@ impl<K: Run> Processor<K> {
         }
     }
 
-    /// A spawn: the child becomes ready, unless a birth or a slot is wanting.
+    /// A spawn: the child becomes ready, unless a birth or a slot is missing.
     pub(crate) fn spawn<R: Wait>(
         &mut self,
         rt: &R,
@@ -195,7 +195,7 @@ impl<K: Run> Processor<K> {
         turn.note(Note::Stat(inode, uses), false)
     }
 
-    /// A shutdown: nobody becomes ready any more.
+    /// A shutdown: no process becomes ready any more.
     pub(crate) fn shutdown(&mut self, objects: &Objects<K>, turn: &mut Turn<K>) -> Result<(), Fault>
         requires objects { AreOf objects.now self.old }
         requires made { AreFor K.script objects.now }
@@ -206,7 +206,7 @@ impl<K: Run> Processor<K> {
         ensures alone { IsAlone K.script self.old
             → IfOk result (λ _. GoesOn K.script self.new (Some turn.new)
             (lists.make K.script (lists_of K.script self.old) turn.old shutdown)) }
-        ensures fault { IfErr result (λ fault. IsOfStep fault) }
+        ensures memory { IfErr result (λ fault. fault ≡ Fault.Memory) }
     {
         turn.note(Note::Shutdown, false)?;
         self.shut_ready(objects);

@@ -5,7 +5,7 @@ ghost use Rattle.fak_text.specs.Script.{IsStepInRange, limits_of};
 ghost use Rattle.fak_text.specs.Journal.{StandsAt};
 ghost use Rattle.fak_text.specs.Views.{step_of};
 ghost use Rattle.fak_process.specs.ListScheduler as lists;
-ghost use Rattle.fak_processor.specs.Faults.{IsOfLoop, IsOfStep};
+ghost use Rattle.fak_processor.specs.Faults.{IsOfLoop, IsOfStep, IsRefused};
 ghost use Rattle.fak_process.specs.Contexts.{HasStepsLeft};
 ghost use Rattle.fak_processor.specs.Processors.{AreFor, AreOf, IsAlone, GoesOn, GoesTo, IsReached, lists_of};
 ghost use Rattle.fak_model.specs.Credit.{value};
@@ -148,7 +148,7 @@ impl<K: Run> Processor<K> {
         }
     }
 
-    /// Nothing ran before the step nor after it, and nobody is ready or runs.
+    /// Nothing ran before the step nor after it, and no process is ready or runs.
     #[tactic(auto, using(crate::proofs::Moving::gains_none))]
     fn is_done(&mut self, objects: &Objects<K>, was_idle: bool, running: &Option<Turn<K>>) -> bool
         requires objects { AreOf objects.now self.old }
@@ -172,7 +172,7 @@ impl<K: Run> Processor<K> {
         true
     }
 
-    /// The loop of a processor: turns of ready processes, until nobody is ready or runs. False where another processor
+    /// The loop of a processor: turns of ready processes, until no process is ready or runs. False where another processor
     /// has met a fault.
     fn turns<R: Wait, G: Gate>(
         &mut self,
@@ -192,19 +192,19 @@ impl<K: Run> Processor<K> {
         ensures alone { IsReached K.script self.old (lists.turn_over (lists_of K.script self.old))
             → IfOk result (λ done. done ≡ true → IsReached K.script self.new (lists.turn_over (lists_of K.script self.new))
             × ((lists_of K.script self.new).ready ≡ [])) }
+        ensures passed { IfOk result (λ done. done ≡ true → G.answers gate.now number 0 true) }
         ensures fault { IfErr result (λ fault. IsOfLoop (G.refuses gate.now) fault) }
+        ensures refused { IfErr result (λ fault. fault ≡ Fault.Gate → IsRefused (G.answers gate.now number)) }
     {
         let mut running = None;
         let mut looks = Looks::new(number);
         let pause = Backoff::new();
         for _ in rt.forever() {
             let was_idle = running.is_none();
-            if was_idle {
-                if objects.alarm.is_rung() {
-                    return Ok(false);
-                }
-                looks.pass(gate)?;
+            if was_idle && objects.alarm.is_rung() {
+                return Ok(false);
             }
+            looks.pass_where(gate, was_idle)?;
             running = self.step(rt, alloc, script, objects, running)?;
             if self.is_done(objects, was_idle, &running) {
                 return Ok(true);
@@ -214,12 +214,13 @@ impl<K: Run> Processor<K> {
         unreachable!()
     }
 
-    /// What the processor of this number does in a run: turns of ready processes, until nobody is ready or runs. None
+    /// What the processor of this number does in a run: turns of ready processes, until no process is ready or runs. None
     /// where another processor has met a fault.
     ///
     /// # Errors
     ///
-    /// `Memory`, `Worn`, and `Gate` where the gate may refuse and did. The other processors are told of it.
+    /// `Memory`, `Worn`, and `Gate` where the gate may refuse and did: at one of this processor's looks, which are
+    /// counted from 0, after it passed those before. The other processors are told of it.
     pub fn work<R: Wait, G: Gate>(
         self,
         rt: &R,
@@ -238,7 +239,9 @@ impl<K: Run> Processor<K> {
         ensures alone { IsReached K.script self (lists.turn_over (lists_of K.script self))
             → IfOk result (λ left. IfSome left (λ p. IsReached K.script p (lists.turn_over (lists_of K.script p))
             × ((lists_of K.script p).ready ≡ []))) }
+        ensures passed { IfOk result (λ left. IfSome left (λ _. G.answers gate.now number 0 true)) }
         ensures fault { IfErr result (λ fault. IsOfLoop (G.refuses gate.now) fault) }
+        ensures refused { IfErr result (λ fault. fault ≡ Fault.Gate → IsRefused (G.answers gate.now number)) }
     {
         let mut processor = self;
         match processor.turns(rt, alloc, script, objects, gate, number) {
@@ -256,7 +259,7 @@ impl<K: Run> Processor<K> {
     }
 }
 
-/// Waits a little after a look at the ready queue that found nobody; a turn that began ends the waiting.
+/// Waits a little after a look at the ready queue that found no process; a turn that began ends the waiting.
 fn rest(pause: &Backoff, looked: bool, found: bool) {
     if found {
         pause.reset();

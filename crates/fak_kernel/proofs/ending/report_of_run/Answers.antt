@@ -1,13 +1,19 @@
 use Rattle.std.proofs.Common.{length, ap, sym, arith}
 use Rattle.fak_text.specs.Script.{ScriptOf}
 use Rattle.fak_process.specs.Told.{told_report}
-use Rattle.fak_kernel.proofs.Reporting.{whole_each, whole_files, started_have_rows, run_reports_with}
+use Rattle.fak_kernel.proofs.Reporting.{whole_each, whole_files, whole_free, whole_ready, started_have_rows, run_reports_with}
 use Rattle.fak_kernel.proofs.ReportingAlone.{alone_reports}
 use Rattle.fak_process.proofs.Told.{length-told_rows}
 use Rattle.fak_kernel.proofs.ending.report_of_run.Goals as goal
 
 pub close-requires-clause-semaphores : goal.close-requires-clause-semaphores
 close-requires-clause-semaphores g c = let all = c.in-Ok.ensures.gathered in whole_each all.are c.requires.seated all.names
+
+pub close-requires-clause-ready : goal.close-requires-clause-ready
+close-requires-clause-ready g c = let all = c.in-Ok.ensures.gathered in whole_ready all.are c.requires.seated all.names
+
+pub close-requires-clause-free : goal.close-requires-clause-free
+close-requires-clause-free g c = let all = c.in-Ok.ensures.gathered in whole_free all.are c.requires.seated all.names
 
 pub close-requires-clause-files : goal.close-requires-clause-files
 close-requires-clause-files g c = let all = c.in-Ok.ensures.gathered in whole_files all.are c.requires.seated all.names

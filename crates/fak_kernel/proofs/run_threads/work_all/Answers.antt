@@ -1,12 +1,18 @@
 use Rattle.std.proofs.lemmas.List.{length-map}
 use Rattle.fak_kernel.proofs.Common.{as_left, ◌≡◌, length, arith, ap, ◌∙◌, sym}
-use Rattle.fak_kernel.proofs.Answering.{have_left, run_fault}
+use Rattle.fak_kernel.proofs.Answering.{have_left, run_fault, run_refused}
 use Rattle.fak_kernel.proofs.run_threads.work_all.Goals as goal
 
 pub returns-in-Err-clause-fault : goal.returns-in-Err-clause-fault
 returns-in-Err-clause-fault g c =
     let answers = c.in_ok-answers.answers in
     run_fault answers.items c.in-Err.fault (λ i d low. c.in_ok-answers.ensures.answered i d (omega (arith, low, answers.ok))) c.in-Err.ensures.fault
+
+pub returns-in-Err-clause-refused : goal.returns-in-Err-clause-refused
+returns-in-Err-clause-refused g c =
+    let answers = c.in_ok-answers.answers in
+    let long : length answers.items ≡ c.args.processors = omega (arith, answers.ok, c.in_ok-answers.ensures.len, c.requires.len) in
+    run_refused answers.items c.in-Err.fault long (λ i d low. c.in_ok-answers.ensures.answered i d (omega (arith, low, answers.ok))) c.in-Err.ensures.fault
 
 pub returns-in-Ok-clause-len : goal.returns-in-Ok-clause-len
 returns-in-Ok-clause-len g c =

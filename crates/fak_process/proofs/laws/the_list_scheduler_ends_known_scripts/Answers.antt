@@ -11,4 +11,8 @@ returns c = record {
   shut = record { count = 47; reached = refl; still = refl };
   halted_child = record { count = 44; reached = refl; still = refl };
   files = record { count = 49; reached = refl; still = refl };
+  unborn = record { count = 40; reached = refl; still = refl };
+  slotless = record { count = 40; reached = refl; still = refl };
+  long_turn = record { count = 50; reached = refl; still = refl };
+  late = record { count = 40; reached = refl; still = refl };
 }

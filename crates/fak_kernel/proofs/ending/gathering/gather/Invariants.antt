@@ -1,7 +1,7 @@
 use Rattle.fak_kernel.proofs.Common.{ProcessorOf, IsLeftBy, AreGathered, AreOfOne, ◌≡◌, ℕ, ◌+◌, ◌<◌, ◌≤◌, get_or}
 use Rattle.fak_kernel.proofs.ending.gathering.gather.Given as goal
 
--- so many processors are joined, and the others are to come
+-- this many processors are joined, and the others are to come
 abbrev pub invariant-loop-joined : goal.invariant-loop-joined
 invariant-loop-joined g l = record {
   from : 1 ≤ l._joined;

@@ -1,15 +1,19 @@
-use Rattle.std.proofs.Common.{◌≡◌, true, rules, None}
+use Rattle.std.proofs.Common.{◌≡◌, ◌∙◌, ℕ, true, rules, None, arith}
 use Rattle.fak_processor.proofs.Acting.{moves_none}
-use Rattle.fak_processor.proofs.Looping.{moves_on, leaves_none}
+use Rattle.fak_processor.proofs.Looping.{moves_on, leaves_none, passed_next}
 use Rattle.fak_processor.proofs.Working.{reached_on, reached_the_end}
 use Rattle.fak_processor.proofs.processor.Processor.turns.Goals as goal
 
 pub loop-init : goal.loop-init
-loop-init g c = ((tt, tt), c.requires.objects, moves_none c.args.self.now, λ r. r)
+loop-init g c =
+    let nought : ℕ = 0 in
+    let none : c.new-looks.result.made ≡ nought = (λ i. (c.new-looks.ensures i).made) in
+    ((tt, tt), c.requires.objects, moves_none c.args.self.now, λ r. r, (λ i. (c.new-looks.ensures i).processor), λ k low. absurd (omega (arith, low, none)))
 
 pub loop-preserved : goal.loop-preserved
 loop-preserved g c =
-    ((tt, tt), c.is_done.ensures.objects, moves_on c.loop.running c.in_ok-running.running c.loop.invariant.2 c.in_ok-running.ensures.general c.is_done.ensures.gains, λ r. reached_on c.loop.running c.in_ok-running.running (c.loop.invariant.3 r) c.in_ok-running.ensures.alone c.is_done.ensures.alone)
+    let same = c.loop.invariant.4 in
+    ((tt, tt), c.is_done.ensures.objects, moves_on c.loop.running c.in_ok-running.running c.loop.invariant.2 c.in_ok-running.ensures.general c.is_done.ensures.gains, λ r. reached_on c.loop.running c.in_ok-running.running (c.loop.invariant.3 r) c.in_ok-running.ensures.alone c.is_done.ensures.alone, c.pass_where.ensures.same ∙ same, passed_next (g.G.Gate.answers c.args.gate.now) same c.loop.invariant.5 c.in_ok-pass_where.ensures.passed)
 
 pub returns-then-is_done-clause-general : goal.returns-then-is_done-clause-general
 returns-then-is_done-clause-general g c =

@@ -1,0 +1,131 @@
+//! Stints that are used up, at each object of a run: with one call more in the stint the run ends.
+
+use super::examples::script_of;
+use fak_kernel::{Fault, FreeGate, run, run_one};
+use std::alloc::{AllocError, Global};
+use std::fmt::Write;
+use std::process::Abort;
+use std::sync::Wait;
+use std::thread::Threads;
+
+/// A script, but for its stint, and the least stint with which it ends.
+type Case = (&'static str, u64);
+
+/// One process makes its calls in one turn, or processor 0 makes them before the first: the object's seat is the same on
+/// any number of processors. These are the free slots, a semaphore that is raised and one that lets pass, the births, and
+/// the file table by each of its steps.
+const IN_ONE_TURN: [Case; 7] = [
+    (
+        r#"{"version":1,"slots":5,"births":0,"quantum":9,"semaphores":[],"files":1,"programs":[],"start":[],"#,
+        5,
+    ),
+    (
+        r#"{"version":1,"slots":1,"births":0,"quantum":9,"semaphores":[0],"files":1,"programs":[[["up",0],["up",0],["up",0],["up",0],["up",0]]],"start":[0],"#,
+        5,
+    ),
+    (
+        r#"{"version":1,"slots":1,"births":0,"quantum":9,"semaphores":[9],"files":1,"programs":[[["down",0],["down",0],["down",0],["down",0],["down",0]]],"start":[0],"#,
+        5,
+    ),
+    (
+        r#"{"version":1,"slots":1,"births":9,"quantum":9,"semaphores":[],"files":1,"programs":[[["spawn",0],["spawn",0],["spawn",0],["spawn",0],["spawn",0]]],"start":[0],"#,
+        5,
+    ),
+    (
+        r#"{"version":1,"slots":1,"births":0,"quantum":9,"semaphores":[],"files":1,"programs":[[["open",7],["open",7],["open",7],["open",7],["open",7]]],"start":[0],"#,
+        5,
+    ),
+    (
+        r#"{"version":1,"slots":1,"births":0,"quantum":9,"semaphores":[],"files":1,"programs":[[["close",7],["close",7],["close",7],["close",7],["close",7]]],"start":[0],"#,
+        5,
+    ),
+    (
+        r#"{"version":1,"slots":1,"births":0,"quantum":9,"semaphores":[],"files":1,"programs":[[["stat",7],["stat",7],["stat",7],["stat",7],["stat",7]]],"start":[0],"#,
+        5,
+    ),
+];
+
+/// One processor makes all calls. The ready queue is entered and left twice, and looked at once more. Busy is changed
+/// five times by processes that sleep, ten times by those that are woken after the shutdown, and once by the last to end.
+const ALONE: [Case; 2] = [
+    (
+        r#"{"version":1,"slots":1,"births":0,"quantum":9,"semaphores":[],"files":1,"programs":[[["yield"],["yield"]]],"start":[0],"#,
+        5,
+    ),
+    (
+        r#"{"version":2,"slots":6,"births":0,"quantum":9,"semaphores":[0,0,0,0,0],"files":1,"programs":[
+[["down",0]],[["down",1]],[["down",2]],[["down",3]],[["down",4]],
+[["shutdown"],["up",0],["up",1],["up",2],["up",3],["up",4]]],"start":[0,1,2,3,4,5],"#,
+        16,
+    ),
+];
+
+fn with_stint(alloc: Global, front: &str, stint: u64) -> Result<String, AllocError> {
+    let mut text = String::new(alloc);
+    text.push_str(front)?;
+    write!(text, "\"stint\":{stint}}}")?;
+    Ok(text)
+}
+
+/// The fault of the script with this stint, on one processor where none are named.
+fn fault_on<R: Abort + Threads + Wait + Sync>(
+    rt: &R,
+    alloc: Global,
+    front: &str,
+    stint: u64,
+    processors: u64,
+) -> Option<Fault> {
+    let text = with_stint(alloc, front, stint).expect(rt, "a script");
+    let script = script_of(rt, alloc, &text);
+    if processors == 0 {
+        return run_one(rt, alloc, &script).err();
+    }
+    run(rt, alloc, &script, processors, &FreeGate).err()
+}
+
+/// Finds that the script is worn with each stint below the least, and ends with the least.
+fn is_worn_below<R: Abort + Threads + Wait + Sync>(
+    rt: &R,
+    alloc: Global,
+    (front, least): Case,
+    processors: u64,
+) {
+    for stint in 1..least {
+        let fault = fault_on(rt, alloc, front, stint, processors);
+        assert!(rt;
+            fault == Some(Fault::Worn),
+            "{fault:?} with {stint} on {processors}: {front}"
+        );
+    }
+    let fault = fault_on(rt, alloc, front, least, processors);
+    assert!(rt;
+        fault == None,
+        "{fault:?} with {least} on {processors}: {front}"
+    );
+}
+
+#[test]
+fn a_seat_is_worn_in_one_turn(rt: HostRuntime) {
+    for &case in &IN_ONE_TURN {
+        for &processors in &[0u64, 1] {
+            is_worn_below(&rt, rt.alloc(), case, processors);
+        }
+        let (front, least) = case;
+        for &processors in &[2u64, 3, 8] {
+            let fault = fault_on(&rt, rt.alloc(), front, least - 1, processors);
+            assert!(rt;
+                fault == Some(Fault::Worn),
+                "{fault:?} on {processors}: {front}"
+            );
+        }
+    }
+}
+
+#[test]
+fn a_seat_is_worn_by_many_turns(rt: HostRuntime) {
+    for &case in &ALONE {
+        for &processors in &[0u64, 1] {
+            is_worn_below(&rt, rt.alloc(), case, processors);
+        }
+    }
+}
