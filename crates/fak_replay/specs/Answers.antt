@@ -1,5 +1,5 @@
 -- What the program answers to an input.
-use Rattle.std.specs.Prelude.{◌≡◌, ◌<◌, ◌≤◌, ◌⊎◌, ℕ, ◌++◌, ◌∷◌, [], codes, decimal, List, Option, Result, Ok, Err}
+use Rattle.std.specs.Prelude.{◌≡◌, ◌<◌, ◌≤◌, ◌⊎◌, ℕ, ◌++◌, ◌∷◌, [], codes, decimal, length, List, Option, Result, Ok, Err}
 use Rattle.std.specs.Io.KnownBytes.{Consumes, IsAtEnd}
 use Rattle.fak_model.specs.Checker.{FirstFault}
 use Rattle.fak_model.specs.Queue.{IsQueueHistory}
@@ -8,7 +8,10 @@ use Rattle.fak_process.specs.declared.fault.Fault.TheVariants.{BadProcessors, No
 use Rattle.fak_text.specs.Script.{ScriptOf}
 use Rattle.fak_text.specs.ScriptText.{script_in}
 use Rattle.fak_text.specs.HistoryText.{HistoryOf, history_in}
+use Rattle.fak_text.specs.Values.{most_bytes}
+use Rattle.fak_text.specs.declared.fault.Field.TheVariants.{Input}
 use Rattle.fak_text.specs.declared.fault.TextFault.{TextFault}
+use Rattle.fak_text.specs.declared.fault.TextFault.TheVariants.{Range}
 use Rattle.fak_replay.specs.declared.answer.Answer.{Answer}
 use Rattle.fak_replay.specs.declared.command.Command.{Command}
 use Rattle.fak_replay.specs.declared.command.Command.TheVariants.{Replay, Check, Run}
@@ -52,7 +55,7 @@ IsReplyOfSeveral script reply = (text : List ℕ) × (status : ℕ) × RunPrints
 abbrev pub AreSeveral : ℕ → Type 0
 AreSeveral processors = (2 ≤ processors) × (processors ≤ 8)
 
--- a fault that a run on so many processors may meet, whatever the script: a stint is used up, or the system gave no thread; or
+-- a fault that a run on this many processors may meet, whatever the script: a stint is used up, or the system gave no thread; or
 -- there is no such number
 abbrev pub IsFaultOfRun : ℕ → MainFault → Type 0
 IsFaultOfRun processors fault =
@@ -92,11 +95,15 @@ abbrev pub GivesAnswer : (Result Reply MainFault → Type 0) → Result Answer M
 GivesAnswer Replies (Ok answer) = Replies (Ok (reply_of answer))
 GivesAnswer Replies (Err fault) = FailsBy Replies fault
 
+-- an input that is too long is refused as such, whatever memory there is
+abbrev pub RefusesLong : List ℕ → Result Answer MainFault → Type 0
+RefusesLong input result = most_bytes < length input → result ≡ Err (Text (Range Input))
+
 -- a reader gave this input, to its end
 abbrev pub IsRead : Option (List ℕ) → Option (List ℕ) → List ℕ → Type 0
 IsRead old new input = Consumes old new input × IsAtEnd new
 
--- the fault of serving a command: a device's, or want of memory, or else the command's on the input that was read
+-- the fault of serving a command: a device's, or out of memory, or else the command's on the input that was read
 abbrev pub FailsToServe : Command → (List ℕ → Type 0) → MainFault → Type 0
 FailsToServe command Reads Memory = Unit {0}
 FailsToServe command Reads Read = Unit {0}
@@ -104,7 +111,3 @@ FailsToServe command Reads Write = Unit {0}
 FailsToServe command Reads Usage = (input : List ℕ) × Reads input × IsReply command input (Err Usage)
 FailsToServe command Reads (Text fault) = (input : List ℕ) × Reads input × IsReply command input (Err (Text fault))
 FailsToServe command Reads (Kernel fault) = (input : List ℕ) × Reads input × IsReply command input (Err (Kernel fault))
-
--- how many bytes of an input are kept: one more than an input may have
-abbrev pub most_kept : ℕ
-most_kept = 1048577

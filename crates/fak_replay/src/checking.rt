@@ -1,6 +1,6 @@
 //! The command `check`: whether a recorded history of a queue is legal.
 
-ghost use Rattle.fak_replay.specs.Answers.{GivesAnswer, IsReply};
+ghost use Rattle.fak_replay.specs.Answers.{GivesAnswer, IsReply, RefusesLong};
 ghost use Rattle.fak_replay.specs.declared.command.Command.TheVariants.{Check};
 
 use crate::answer::Answer;
@@ -10,9 +10,11 @@ use fak_text::read_history;
 use std::alloc::Global;
 
 /// Judges the history that the input is: `legal` with status 0, or `fault at I` with status 3, where I is the index of
-/// the first mark with which the history stops being legal. Refuses the input's first fault, or `Memory`.
+/// the first mark with which the history stops being legal. Refuses the input's first fault, or `Memory`; an
+/// input of more than 1,048,576 bytes as `Range(Field::Input)`, whatever memory there is.
 pub fn check(alloc: Global, input: &[u8]) -> Result<Answer, MainFault>
-    ensures { GivesAnswer (IsReply Check input.now) result }
+    ensures gives { GivesAnswer (IsReply Check input.now) result }
+    ensures long { RefusesLong input.now result }
 {
     let history = read_history(alloc, input)?;
     match first_fault(history.size, &history.marks) {

@@ -7,6 +7,6 @@ pub enum Command {
     Replay,
     /// Judge a recorded history of a queue.
     Check,
-    /// Run a script of processes on so many processors.
+    /// Run a script of processes on this many processors.
     Run(u64),
 }

@@ -1,5 +1,5 @@
 //! The commands that call no shared object, from bytes to bytes: `replay` makes the atomic steps of a schedule, and `check` judges a
-//! recorded history. What a command answers, and why there is no answer, stand here for all of them.
+//! recorded history. What a command answers, and why there is no answer, is declared here for all of them.
 #![tactic(auto)]
 
 pub mod answer;

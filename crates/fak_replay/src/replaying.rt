@@ -2,7 +2,7 @@
 
 ghost use Rattle.std.specs.Prelude.{◌≡◌, ◌≤◌, IfErr, IfOk};
 ghost use Rattle.fak_text.specs.ScheduleText.{IsObjectInRange};
-ghost use Rattle.fak_replay.specs.Answers.{GivesAnswer, IsReply};
+ghost use Rattle.fak_replay.specs.Answers.{GivesAnswer, IsReply, RefusesLong};
 ghost use Rattle.fak_replay.specs.Replay.{machine_of};
 ghost use Rattle.fak_replay.specs.declared.command.Command.TheVariants.{Replay};
 ghost use Rattle.fak_replay.specs.declared.fault.MainFault.TheVariants.{Memory};
@@ -30,9 +30,11 @@ fn new_machine(alloc: Global, object: Object, seats: u64) -> Result<Machine, Mai
 }
 
 /// Replays the schedule that the input is: the line of each atomic step, and of each event that the object refuses,
-/// with status 0. Refuses the input's first fault, or `Memory`.
+/// with status 0. Refuses the input's first fault, or `Memory`; an
+/// input of more than 1,048,576 bytes as `Range(Field::Input)`, whatever memory there is.
 pub fn replay(alloc: Global, input: &[u8]) -> Result<Answer, MainFault>
-    ensures { GivesAnswer (IsReply Replay input.now) result }
+    ensures gives { GivesAnswer (IsReply Replay input.now) result }
+    ensures long { RefusesLong input.now result }
 {
     let schedule = read_schedule(alloc, input)?;
     let machine = new_machine(alloc, schedule.object, schedule.seats)?;

@@ -62,7 +62,7 @@ fn begin(machine: &mut Machine, seat: u64, act: Act) -> Option<Row>
     }
 }
 
-/// Makes so many steps of a seat, and appends their rows.
+/// Makes this many steps of a seat, and appends their rows.
 fn make_steps(
     machine: &mut Machine,
     alloc: Global,

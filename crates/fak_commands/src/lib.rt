@@ -1,0 +1,13 @@
+//! The commands of the program `fak`, for any program: from words to a command, and from the bytes of an input to those of its answer.
+#![tactic(auto)]
+
+mod command;
+mod program;
+mod running;
+mod serving;
+
+pub use command::command_of;
+pub use fak_replay::{Answer, Command, MainFault, check, replay};
+pub use program::{conclude, run_words};
+pub use running::run_script;
+pub use serving::serve;

@@ -1,0 +1,116 @@
+//! What the commands answer to an input, compared with what is wanted.
+
+use fak_commands::{Answer, Command, MainFault, check, replay, run_script};
+use fak_text::TextFault;
+use std::alloc::{AllocError, Global};
+use std::marker::Sync;
+use std::process::Abort;
+use std::sync::Wait;
+use std::thread::Threads;
+
+/// A schedule in which a room has no place for the second claim.
+pub(crate) const ROOM: &str =
+    "{\"object\":\"room\",\"bound\":1,\"seats\":2,\"events\":[[0,\"tir\",1],[0,\"step\",2],[1,\"tir\",1],[1,\"step\"]]}";
+
+/// The rows of its replay.
+pub(crate) const ROWS: &str = "0 test 0 -\n0 add 0 up 1\n1 test 1 no 1\n";
+
+/// Adds a word.
+pub(crate) fn add_word(
+    alloc: Global,
+    words: &mut Vec<String>,
+    word: &str,
+) -> Result<(), AllocError> {
+    let word = String::from_str(alloc, word)?;
+    words.push(word)?;
+    Ok(())
+}
+
+/// The words of a command line.
+pub(crate) fn words_of(alloc: Global, line: &str) -> Result<Vec<String>, AllocError> {
+    let mut words = Vec::new(alloc);
+    for word in line.split(' ') {
+        add_word(alloc, &mut words, word)?;
+    }
+    Ok(words)
+}
+
+/// Whether the bytes are this text.
+pub(crate) fn is_text(bytes: &[u8], text: &str) -> bool {
+    *bytes == *text.as_bytes()
+}
+
+/// The answer of a command to an input.
+pub(crate) fn answer_to(
+    rt: &(impl AllocGlobal + Threads + Wait + Sync),
+    command: Command,
+    input: &[u8],
+) -> Result<Answer, MainFault> {
+    match command {
+        Command::Replay => replay(rt.alloc(), input),
+        Command::Check => check(rt.alloc(), input),
+        Command::Run(processors) => run_script(rt, rt.alloc(), input, processors),
+    }
+}
+
+/// Whether the command answers the input with this status and this text.
+pub(crate) fn is_answer(
+    rt: &(impl AllocGlobal + Threads + Wait + Sync),
+    command: Command,
+    input: &str,
+    status: u8,
+    text: &str,
+) -> bool {
+    match answer_to(rt, command, input.as_bytes()) {
+        Ok(answer) => is_text(&answer.text, text) && answer.status == status,
+        Err(_) => false,
+    }
+}
+
+/// Finds that the command answers the input with this status and this text.
+pub(crate) fn has_answer(
+    rt: &(impl Abort + AllocGlobal + Threads + Wait + Sync),
+    command: Command,
+    input: &str,
+    status: u8,
+    text: &str,
+) {
+    if !is_answer(rt, command, input, status, text) {
+        panic!(rt; "{command:?} at {input}")
+    }
+}
+
+/// The fault of a command at an input.
+pub(crate) fn fault_at(
+    rt: &(impl AllocGlobal + Threads + Wait + Sync),
+    command: Command,
+    input: &[u8],
+) -> Option<MainFault> {
+    match answer_to(rt, command, input) {
+        Ok(_) => None,
+        Err(fault) => Some(fault),
+    }
+}
+
+/// Finds that the command has this fault at the input.
+pub(crate) fn has_fault(
+    rt: &(impl Abort + AllocGlobal + Threads + Wait + Sync),
+    command: Command,
+    input: &str,
+    fault: MainFault,
+) {
+    if fault_at(rt, command, input.as_bytes()) != Some(fault) {
+        panic!(rt; "{command:?} at {input}")
+    }
+}
+
+/// Finds that the command has the faults beside the inputs.
+pub(crate) fn have_faults(
+    rt: &(impl Abort + AllocGlobal + Threads + Wait + Sync),
+    command: Command,
+    rows: &[(&str, TextFault)],
+) {
+    for &(input, fault) in rows {
+        has_fault(rt, command, input, MainFault::Text(fault));
+    }
+}

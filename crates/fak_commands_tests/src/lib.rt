@@ -1,0 +1,30 @@
+//! The tests of `fak_commands` and `fak_replay`, in a crate of their own, so that their proofs are checked once: texts, statuses, command
+//! lines, scripts of many sizes, and devices that fail. It embeds the program as any other may: one line in crates.txt lists `fak_commands`.
+#![tactic(auto)]
+
+mod embedding;
+
+pub use embedding::{Served, serve_bytes};
+
+#[cfg(test)]
+mod answers;
+#[cfg(test)]
+mod commands;
+#[cfg(test)]
+mod devices;
+#[cfg(test)]
+mod histories;
+#[cfg(test)]
+mod inputs;
+#[cfg(test)]
+mod program;
+#[cfg(test)]
+mod queues;
+#[cfg(test)]
+mod rooms;
+#[cfg(test)]
+mod scripts;
+#[cfg(test)]
+mod sizes;
+#[cfg(test)]
+mod texts;

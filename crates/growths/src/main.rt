@@ -1,0 +1,59 @@
+//! Makes each public call that takes memory, and prints what it answers. A call that says that there was no memory is told of on the
+//! output of faults, and made once more: it must then answer as if nothing had been.
+#![tactic(auto)]
+
+mod commands;
+mod cores;
+mod opens;
+mod runs;
+mod texts;
+
+use std::io;
+use std::io::Write;
+use std::process::ExitCode;
+
+/// The value of a call that is made once more where it is refused. What it was refused for goes to the output of faults; a second
+/// refusal ends the function with false.
+macro_rules! again {
+    ($rt:expr, $name:expr, $call:expr) => {
+        match $call {
+            Ok(value) => value,
+            Err(fault) => {
+                let _ = eprintln!($rt; "{}: {fault:?}", $name);
+                match $call {
+                    Ok(value) => value,
+                    Err(_) => return false,
+                }
+            }
+        }
+    };
+}
+
+pub(crate) use again;
+
+/// Prints a text, and a newline.
+pub(crate) fn put(rt: &impl Print, text: &[u8]) {
+    let mut writer = io::writer(rt);
+    // What cannot be printed is missed in the output.
+    let _ = writer.write_all(text);
+    let _ = writer.write_all(b"\n");
+}
+
+fn main(rt: HostRuntime) -> ExitCode {
+    let are_made = [
+        cores::room_core(&rt),
+        cores::queue_core(&rt),
+        opens::opens(&rt),
+        texts::inputs(&rt),
+        texts::texts(&rt),
+        runs::on_one(&rt),
+        runs::on_two(&rt),
+        commands::commands(&rt),
+    ];
+    for is_made in are_made {
+        if !is_made {
+            return ExitCode::from(3);
+        }
+    }
+    ExitCode::from(0)
+}
