@@ -46,7 +46,7 @@ abbrev pub child_count : List NoteOf → ℕ
 child_count [] = 0
 child_count (note ∷ notes) = births_of note + child_count notes
 
--- the step allows this result, where there are so many files and the process has so many children before it
+-- the step allows this result, where there are this many files and the process has this many children before it
 abbrev pub Allows : ℕ → ℕ → StepOf → NoteOf → Type 0
 Allows files children (say text) (said t) = t ≡ text
 Allows files children yield yielded = Unit {0}
@@ -61,7 +61,7 @@ Allows files children (spawn p) no_slot = Unit {0}
 Allows files children shutdown shut_down = Unit {0}
 Allows files children _ _ = ⊥
 
--- the notes are one for each step of a beginning of the program, in order, where the process has so many children before
+-- the notes are one for each step of a prefix of the program, in order, where the process has this many children before
 abbrev pub FitsFrom : ℕ → ℕ → List StepOf → List NoteOf → Type 0
 FitsFrom files children steps [] = Unit {0}
 FitsFrom files children [] (note ∷ notes) = ⊥

@@ -11,4 +11,5 @@ pub mod HistoryText
 pub mod StepText
 pub mod ScriptText
 pub mod JournalText
+pub mod Examples
 pub mod Laws

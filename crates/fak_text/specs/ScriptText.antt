@@ -16,7 +16,7 @@ use Rattle.fak_text.specs.declared.fault.TextFault.{TextFault}
 abbrev pub number_from : Field → ℕ → ℕ → Data → Result ℕ TextFault
 number_from f bound i d = number_below f bound (whole_number d)
 
--- the array of a key, at most so many whole numbers below the bound
+-- the array of a key, at most this many whole numbers below the bound
 unfoldable pub numbers_of_key : Field → ℕ → ℕ → Data → Result (List ℕ) TextFault
 numbers_of_key f most bound d = do
   ds ← elements_of_key f most d

@@ -66,7 +66,7 @@ inode_argument size number = if size == 2 then number_within Programs 1 most_ino
 abbrev pub argument_below : ℕ → ℕ → Option ℕ → Result ℕ TextFault
 argument_below size bound number = if size == 2 then number_below Programs bound number else Err (Range Programs)
 
--- the step of an operation, where it has so many elements, and this text or this number for its second
+-- the step of an operation, where it has this many elements, and this text or this number for its second
 abbrev pub step_with : StepLimits → StepOp → ℕ → Option (List ℕ) → Option ℕ → Result StepOf TextFault
 step_with limits ops.Say size text number = said_text size text >>= λ t. Ok (say t)
 step_with limits ops.Yield size text number = lone_step yield size
@@ -106,7 +106,7 @@ programs_from limits i ds = running_from (program_from limits) index_after i ds
 abbrev pub most_programs : ℕ
 most_programs = 64
 
--- the programs of a script of this version with so many semaphores
+-- the programs of a script of this version with this many semaphores
 unfoldable pub programs_of_key : ℕ → ℕ → Data → Result (List (List StepOf)) TextFault
 programs_of_key version semaphores d = do
   ds ← elements_of_key Programs most_programs d

@@ -1,5 +1,5 @@
 -- The values that stand in an input of any format, and the first fault where they do not.
-use Rattle.std.specs.Prelude.{ℕ, ◌+◌, ◌&&◌, List, [], ◌∷◌, length, Option, Some, None, Result, Ok, Err, option_and_then, nat_lt, nat_le, if◌then◌else◌}
+use Rattle.std.specs.Prelude.{◌≡◌, ℕ, ◌+◌, ◌<◌, ◌&&◌, List, [], ◌∷◌, length, Option, Some, None, Result, Ok, Err, option_and_then, nat_lt, nat_le, if◌then◌else◌}
 use Rattle.std.specs.Str.{is_utf8}
 use Rattle.serde_json.specs.Data.{Data, Items, no_items, item}
 use Rattle.serde_json.specs.Find.{get, at, as_number, as_u64, as_str, as_array, as_object}
@@ -31,6 +31,10 @@ unfoldable pub input_in : List ℕ → Result Data TextFault
 input_in bytes =
     if nat_lt most_bytes (length bytes) then Err (Range Input) else (
     json_in bytes >>= λ d. value_or (Range Input) (as_object d) >>= λ members. Ok d)
+
+-- an input that is too long is refused as such, whatever memory there is
+abbrev pub RefusesLong : {A : Type 0} → List ℕ → Result A TextFault → Type 0
+RefusesLong bytes reading = most_bytes < length bytes → reading ≡ Err (Range Input)
 
 -- ---- numbers and texts
 
@@ -65,7 +69,7 @@ number_of_key f low high d = do
   value ← value_of_key f d
   number_within f low high (whole_number value)
 
--- the elements of an array that has at most so many
+-- the elements of an array that has at most this many
 unfoldable pub elements_within : Field → ℕ → Data → Result Items TextFault
 elements_within f most d = do
   ds ← value_or (Range f) (as_array d)

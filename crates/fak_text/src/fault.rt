@@ -68,7 +68,7 @@ impl fmt::Display for Field {
     }
 }
 
-/// The first fault of an input, or want of memory for reading it.
+/// The first fault of an input, or out of memory while it is read.
 #[derive(Clone, Copy, Debug, PartialEq, Eq, Error)]
 pub enum TextFault {
     /// The input is no JSON value, as `serde_json` reads it.

@@ -58,7 +58,7 @@ impl Script {
         self.version
     }
 
-    /// How many processes may stand in the run at once, 1 to 64.
+    /// How many processes may be in the run at once, 1 to 64.
     pub fn slots(&self) -> u64
         ensures value { result ≡ self.now.slots }
         ensures range { IsInRange self.now }

@@ -38,7 +38,7 @@ pub enum Note {
     OpenFile(u64, Option<u64>),
     /// The file of this inode was closed at this entry of the file table, if it was open.
     CloseFile(u64, Option<u64>),
-    /// The file of this inode had so many uses, if it was open.
+    /// The file of this inode had this many uses, if it was open.
     Stat(u64, Option<u64>),
     /// A child with this number was started.
     Spawned(u64),

@@ -119,7 +119,7 @@ fn nesting_is_read_to_depth_127(rt: HostRuntime) {
     assert!(rt; fault_of_nested(rt.alloc(), 127) == Ok(Some(TextFault::NotJson)));
 }
 
-// The faults of so many spaces and then this text.
+// The faults of this many spaces and then this text.
 fn faults_behind(
     alloc: Global,
     spaces: usize,

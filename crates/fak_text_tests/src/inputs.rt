@@ -22,7 +22,7 @@ impl Input {
         }
     }
 
-    // The fault of what stands between these two texts.
+    // The fault of what is between these two texts.
     pub fn fault_between(
         self,
         alloc: Global,

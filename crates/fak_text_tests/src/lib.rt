@@ -3,13 +3,19 @@
 #![tactic(auto)]
 
 #[cfg(test)]
+mod counts;
+#[cfg(test)]
 mod fault;
 #[cfg(test)]
 mod history;
 #[cfg(test)]
 mod inputs;
 #[cfg(test)]
+mod ranges;
+#[cfg(test)]
 mod schedule;
 mod script;
+#[cfg(test)]
+mod spread;
 #[cfg(test)]
 mod text;

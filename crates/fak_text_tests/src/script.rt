@@ -244,7 +244,7 @@ fn the_first_fault_of_the_programs(rt: HostRuntime) {
     );
 }
 
-// So many items, between commas; none is left out.
+// This many items, between commas; none is left out.
 pub fn repeated(rt: &impl AllocGlobal, item: &str, count: usize) -> Result<String, AllocError>
     ensures { IfOk result (λ text. count ≤ length (string_bytes text) + 1) }
 {
@@ -256,7 +256,7 @@ pub fn repeated(rt: &impl AllocGlobal, item: &str, count: usize) -> Result<Strin
     Ok(text)
 }
 
-// The fault of a script with so many of an item between two texts.
+// The fault of a script with this many of an item between two texts.
 #[cfg(test)]
 fn fault_of_many(
     rt: &impl AllocGlobal,

@@ -3,7 +3,7 @@
 ghost use Rattle.std.specs.Prelude.{◌≡◌, IfOk};
 ghost use Rattle.serde_json.specs.View.{view, items_view};
 ghost use Rattle.fak_text.specs.Gives.{Gives};
-ghost use Rattle.fak_text.specs.Values.{each_from};
+ghost use Rattle.fak_text.specs.Values.{RefusesLong, each_from};
 ghost use Rattle.fak_text.specs.HistoryText.{history_of, kind_named, is_complete, mark_from, history_from, history_in, IsHistoryInRange};
 
 use crate::fault::{Field, TextFault};
@@ -102,10 +102,11 @@ fn history_of_object(alloc: Global, value: &Value) -> Result<History, TextFault>
 ///
 /// # Errors
 ///
-/// The input's first fault, or `Memory`.
+/// The input's first fault, or `Memory`. Of more than 1,048,576 bytes it is `Range(Field::Input)`, whatever memory there is.
 pub fn read_history(alloc: Global, bytes: &[u8]) -> Result<History, TextFault>
     ensures gives { Gives history_of result (history_in bytes.now) }
     ensures range { IfOk result (λ history. IsHistoryInRange (history_of history)) }
+    ensures long { RefusesLong bytes.now result }
 {
     let value = input_of(alloc, bytes)?;
     history_of_object(alloc, &value)

@@ -3,7 +3,7 @@
 ghost use Rattle.std.specs.Prelude.{◌≡◌, IfOk};
 ghost use Rattle.serde_json.specs.View.{view, items_view};
 ghost use Rattle.fak_text.specs.Gives.{Gives};
-ghost use Rattle.fak_text.specs.Values.{each_from};
+ghost use Rattle.fak_text.specs.Values.{RefusesLong, each_from};
 ghost use Rattle.fak_text.specs.ScheduleText.{schedule_of, room_op, queue_op, op_named, without_number, third, third_within, steps_act, act_from, event_from, object_named, object_from, schedule_from, schedule_in, IsScheduleInRange};
 
 use crate::fault::{Field, TextFault};
@@ -103,7 +103,7 @@ fn third_number_within(
     }
 }
 
-/// So many steps, 1 where no number stands.
+/// The number of steps, 1 where there is none.
 #[tactic(auto, unfolding(crate::specs::ScheduleText::steps_act))]
 fn steps(size: usize, number: Option<u64>) -> Result<Act, TextFault>
     ensures { Gives (λ a. a) result (steps_act size number) }
@@ -115,7 +115,7 @@ fn steps(size: usize, number: Option<u64>) -> Result<Act, TextFault>
     }
 }
 
-/// What the seat does, where the event has so many elements and this third one.
+/// What the seat does, where the event has this many elements and this third one.
 fn act_of(op: Op, size: usize, number: Option<u64>) -> Result<Act, TextFault>
     ensures { Gives (λ a. a) result (act_from op size number) }
 {
@@ -198,10 +198,11 @@ fn schedule_of_object(alloc: Global, value: &Value) -> Result<Schedule, TextFaul
 ///
 /// # Errors
 ///
-/// The input's first fault, or `Memory`.
+/// The input's first fault, or `Memory`. Of more than 1,048,576 bytes it is `Range(Field::Input)`, whatever memory there is.
 pub fn read_schedule(alloc: Global, bytes: &[u8]) -> Result<Schedule, TextFault>
     ensures gives { Gives schedule_of result (schedule_in bytes.now) }
     ensures range { IfOk result (λ schedule. IsScheduleInRange (schedule_of schedule)) }
+    ensures long { RefusesLong bytes.now result }
 {
     let value = input_of(alloc, bytes)?;
     schedule_of_object(alloc, &value)

@@ -5,7 +5,7 @@ ghost use Rattle.serde_json.specs.View.{view, items_view};
 ghost use Rattle.fak_model.specs.Limits.{longest_stint};
 ghost use Rattle.fak_text.specs.Gives.{Gives};
 ghost use Rattle.fak_text.specs.ScriptText.{number_from, numbers_of_key, stint_of_key, script_from, script_in};
-ghost use Rattle.fak_text.specs.Values.{each_from};
+ghost use Rattle.fak_text.specs.Values.{RefusesLong, each_from};
 
 use crate::fault::{Field, TextFault};
 use crate::reading::step::programs_at_key;
@@ -30,7 +30,7 @@ fn numbers(alloc: Global, values: &[Value], field: Field, bound: u64) -> Result<
     Ok(numbers)
 }
 
-/// The array of a key, at most so many whole numbers below the bound.
+/// The array of a key, at most this many whole numbers below the bound.
 #[tactic(auto, unfolding(crate::specs::ScriptText::numbers_of_key))]
 fn numbers_at_key(
     alloc: Global,
@@ -99,9 +99,10 @@ fn script_of_object(alloc: Global, value: &Value) -> Result<Script, TextFault>
 ///
 /// # Errors
 ///
-/// The input's first fault, or `Memory`.
+/// The input's first fault, or `Memory`. Of more than 1,048,576 bytes it is `Range(Field::Input)`, whatever memory there is.
 pub fn read_script(alloc: Global, bytes: &[u8]) -> Result<Script, TextFault>
-    ensures { Gives (λ s. s) result (script_in bytes.now) }
+    ensures gives { Gives (λ s. s) result (script_in bytes.now) }
+    ensures long { RefusesLong bytes.now result }
 {
     let value = input_of(alloc, bytes)?;
     script_of_object(alloc, &value)

@@ -141,7 +141,7 @@ fn say(alloc: Global, size: usize, text: Option<&str>) -> Result<Step, TextFault
     Ok(Step::Say(String::from_str(alloc, text)?))
 }
 
-/// The step of an operation, where it has so many elements, and this text or this number for its second.
+/// The step of an operation, where it has this many elements, and this text or this number for its second.
 fn step_of_op(
     alloc: Global,
     limits: StepLimits,
@@ -235,7 +235,7 @@ fn programs(
     Ok(programs)
 }
 
-/// The programs of a script of this version with so many semaphores.
+/// The programs of a script of this version with this many semaphores.
 #[tactic(auto, unfolding(crate::specs::StepText::programs_of_key))]
 pub(crate) fn programs_at_key(
     alloc: Global,

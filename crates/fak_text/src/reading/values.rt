@@ -1,10 +1,10 @@
-//! The values that stand in an input of any format.
+//! The values in an input of any format.
 
 ghost use Rattle.std.specs.Prelude.{◌≡◌, ◌≤◌, ◌<◌, length, IfOk, option_map};
 ghost use Rattle.serde_json.specs.Events.{items_len};
 ghost use Rattle.serde_json.specs.View.{view, items_view};
 ghost use Rattle.fak_text.specs.Gives.{Gives};
-ghost use Rattle.fak_text.specs.Values.{json_in, input_in, number_within, number_below, number_at, text_at, value_of_key, number_of_key, elements_within, elements_of_key};
+ghost use Rattle.fak_text.specs.Values.{RefusesLong, json_in, input_in, number_within, number_below, number_at, text_at, value_of_key, number_of_key, elements_within, elements_of_key};
 
 use crate::fault::{Field, TextFault};
 use serde_json::Value;
@@ -29,10 +29,11 @@ fn json_of(alloc: Global, bytes: &[u8]) -> Result<Value, TextFault>
     }
 }
 
-/// The object that an input is.
+/// The object that an input is. One that is too long is refused before anything grows.
 #[tactic(auto, unfolding(crate::specs::Values::input_in))]
 pub(crate) fn input_of(alloc: Global, bytes: &[u8]) -> Result<Value, TextFault>
-    ensures { Gives view result (input_in bytes.now) }
+    ensures gives { Gives view result (input_in bytes.now) }
+    ensures long { RefusesLong bytes.now result }
 {
     if bytes.len() > MOST_BYTES {
         return Err(TextFault::Range(Field::Input));
@@ -126,7 +127,7 @@ pub(crate) fn count(values: &[Value]) -> usize
     values.len()
 }
 
-/// The elements of an array that has at most so many.
+/// The elements of an array that has at most this many.
 #[tactic(auto, unfolding(crate::specs::Values::elements_within))]
 pub(crate) fn elements(value: &Value, field: Field, most: usize) -> Result<&[Value], TextFault>
     ensures gives { Gives (λ vs. items_view vs.now) result (elements_within field most (view value.now)) }
@@ -141,7 +142,7 @@ pub(crate) fn elements(value: &Value, field: Field, most: usize) -> Result<&[Val
     }
 }
 
-/// The elements of the array of a key, at most so many.
+/// The elements of the array of a key, at most this many.
 #[tactic(auto, unfolding(crate::specs::Values::elements_of_key))]
 pub(crate) fn elements_at_key(
     value: &Value,
