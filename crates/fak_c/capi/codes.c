@@ -1,4 +1,4 @@
-/* Each code of each call, on one thread. */
+/* Each code of each call of a queue, on one thread, and seats that move. */
 #include "tests.h"
 
 #define MOST_SEATS 64
@@ -42,6 +42,8 @@ static void an_empty_handle_is_refused(fak_c_seat *seat) {
     CHECK(fak_c_try_fill(seat) == FAK_C_NO_SEAT);
     CHECK(fak_c_claim_delete(seat, &number) == FAK_C_NO_SEAT);
     CHECK(fak_c_try_take(seat, &number) == FAK_C_NO_SEAT);
+    CHECK(fak_c_insert(seat, 1, &number) == FAK_C_NO_SEAT);
+    CHECK(fak_c_delete(seat, &number, &left) == FAK_C_NO_SEAT);
     CHECK(fak_c_shut(seat, &was_open) == FAK_C_NO_SEAT);
     CHECK(fak_c_state(seat, &state, &number, &left) == FAK_C_NO_SEAT);
     CHECK(fak_c_leave(seat) == FAK_C_NO_SEAT);
@@ -58,6 +60,11 @@ static void limits_are_tested(void) {
     CHECK(fak_c_open(seats, 2, 4, 0) == FAK_C_BAD_LIMIT);
     CHECK(fak_c_open(seats, 2, 4, LONG_STINT + 1) == FAK_C_BAD_LIMIT);
     CHECK(fak_c_open(seats, MOST_SEATS, 4096, LONG_STINT) == FAK_C_OK);
+    for (int i = 0; i < MOST_SEATS; i++)
+        stands(&seats[i], FAK_C_IDLE, 99, LONG_STINT);
+    /* Where the number of handles is out of range, none is read or given up. */
+    CHECK(fak_c_open(seats, 0, 4, 4) == FAK_C_BAD_LIMIT);
+    CHECK(fak_c_open(seats, MOST_SEATS + 1, 4, 4) == FAK_C_BAD_LIMIT);
     for (int i = 0; i < MOST_SEATS; i++)
         stands(&seats[i], FAK_C_IDLE, 99, LONG_STINT);
     /* What the handles held is given up, also by an opening that fails. */
@@ -81,9 +88,11 @@ static void states_are_tested(void) {
         ticket = 99;
         CHECK(fak_c_claim_insert(&seats[0], 8, &ticket) == FAK_C_WRONG_STATE);
         CHECK(fak_c_claim_delete(&seats[0], &ticket) == FAK_C_WRONG_STATE);
+        CHECK(fak_c_insert(&seats[0], 8, &ticket) == FAK_C_WRONG_STATE);
+        CHECK(fak_c_delete(&seats[0], &ticket, &item) == FAK_C_WRONG_STATE);
         CHECK(fak_c_shut(&seats[0], &was_open) == FAK_C_WRONG_STATE);
         CHECK(fak_c_leave(&seats[0]) == FAK_C_WRONG_STATE);
-        CHECK(ticket == 99 && was_open && !is_empty(&seats[0]));
+        CHECK(ticket == 99 && item == 99 && was_open && !is_empty(&seats[0]));
         if (round == 0) {
             CHECK(fak_c_try_take(&seats[0], &item) == FAK_C_WRONG_STATE && item == 99);
             CHECK(fak_c_claim_delete(&seats[1], &ticket) == FAK_C_EMPTY && ticket == 99);
@@ -165,8 +174,77 @@ static void a_shut_queue_refuses_insertions(void) {
     CHECK(fak_c_leave(&seats[0]) == FAK_C_OK && fak_c_leave(&seats[1]) == FAK_C_OK);
 }
 
+/* A claim with its first try in one call: a refused try keeps the claim. */
+static void one_call_inserts_and_deletes(void) {
+    fak_c_seat seats[2] = {0};
+    uint64_t ticket = 99, item = 99;
+    bool was_open = false;
+    CHECK(fak_c_open(seats, 2, 2, 7) == FAK_C_OK);
+    CHECK(fak_c_delete(&seats[1], &ticket, &item) == FAK_C_EMPTY && ticket == 99 && item == 99);
+    CHECK(fak_c_insert(&seats[0], 5, &ticket) == FAK_C_OK && ticket == 0);
+    CHECK(fak_c_put(&seats[0], 6, NULL) == FAK_C_OK);
+    ticket = 99;
+    CHECK(fak_c_insert(&seats[0], 7, &ticket) == FAK_C_FULL && fak_c_put(&seats[0], 7, &ticket) == FAK_C_FULL && ticket == 99);
+    claim_delete(&seats[1], 0);
+    CHECK(fak_c_get(&seats[0], NULL, &item) == FAK_C_OK && item == 6);
+    /* The cell of ticket 2 has an item that was claimed, and not yet taken. */
+    CHECK(fak_c_insert(&seats[0], 8, &ticket) == FAK_C_NOT_YET && ticket == 2);
+    stands(&seats[0], FAK_C_INSERTING, 2, 3);
+    take(&seats[1], 5);
+    CHECK(fak_c_try_fill(&seats[0]) == FAK_C_OK);
+    CHECK(fak_c_claim_insert(&seats[0], 9, &ticket) == FAK_C_OK && ticket == 3);
+    item = 99;
+    CHECK(fak_c_delete(&seats[1], &ticket, &item) == FAK_C_OK && ticket == 2 && item == 8);
+    CHECK(fak_c_try_fill(&seats[0]) == FAK_C_OK);
+    CHECK(fak_c_get(&seats[1], &ticket, &item) == FAK_C_OK && ticket == 3 && item == 9);
+    CHECK(fak_c_shut(&seats[0], &was_open) == FAK_C_OK && fak_c_insert(&seats[0], 1, &ticket) == FAK_C_CLOSED);
+    stands(&seats[0], FAK_C_IDLE, 99, 2);
+    CHECK(fak_c_leave(&seats[0]) == FAK_C_OK && fak_c_leave(&seats[1]) == FAK_C_OK);
+    CHECK(fak_c_open(seats, 1, 1, 2) == FAK_C_OK);
+    CHECK(fak_c_put(&seats[0], 1, NULL) == FAK_C_OK && fak_c_get(&seats[0], NULL, &item) == FAK_C_OK && item == 1);
+    CHECK(fak_c_put(&seats[0], 1, NULL) == FAK_C_WORN && fak_c_get(&seats[0], NULL, &item) == FAK_C_WORN);
+    CHECK(fak_c_leave(&seats[0]) == FAK_C_OK);
+}
+
+/* A deletion whose cell is not yet filled keeps its claim. */
+static void a_deletion_in_one_call_may_stay_open(void) {
+    fak_c_seat seats[3] = {0};
+    uint64_t ticket = 99, item = 99;
+    CHECK(fak_c_open(seats, 3, 2, 9) == FAK_C_OK);
+    CHECK(fak_c_claim_insert(&seats[0], 5, &ticket) == FAK_C_OK);
+    CHECK(fak_c_put(&seats[1], 6, NULL) == FAK_C_OK);
+    ticket = 99;
+    CHECK(fak_c_delete(&seats[2], &ticket, &item) == FAK_C_NOT_YET && ticket == 0 && item == 99);
+    stands(&seats[2], FAK_C_DELETING, 0, 8);
+    CHECK(fak_c_try_fill(&seats[0]) == FAK_C_OK);
+    take(&seats[2], 5);
+    CHECK(fak_c_get(&seats[2], NULL, &item) == FAK_C_OK && item == 6);
+    for (int i = 0; i < 3; i++)
+        CHECK(fak_c_leave(&seats[i]) == FAK_C_OK);
+}
+
+/* A seat moves to an empty handle, in mid-call too. */
+static void a_seat_moves(void) {
+    fak_c_seat seats[2] = {0}, home = {0};
+    uint64_t ticket = 99;
+    CHECK(fak_c_move(&home, &seats[0]) == FAK_C_NO_SEAT);
+    CHECK(fak_c_open(seats, 2, 2, 4) == FAK_C_OK);
+    CHECK(fak_c_claim_insert(&seats[0], 5, &ticket) == FAK_C_OK && ticket == 0);
+    CHECK(fak_c_move(&seats[0], &seats[1]) == FAK_C_WRONG_STATE);
+    CHECK(fak_c_move(&seats[0], &home) == FAK_C_OK && is_empty(&seats[0]));
+    CHECK(fak_c_move(&seats[0], &home) == FAK_C_NO_SEAT);
+    stands(&home, FAK_C_INSERTING, 0, 3);
+    CHECK(fak_c_try_fill(&home) == FAK_C_OK);
+    claim_delete(&seats[1], 0);
+    take(&seats[1], 5);
+    CHECK(fak_c_leave(&home) == FAK_C_OK && fak_c_leave(&seats[1]) == FAK_C_OK);
+}
+
 void each_code_is_answered(void) {
     fak_c_seat seat = {0};
+    one_call_inserts_and_deletes();
+    a_deletion_in_one_call_may_stay_open();
+    a_seat_moves();
     an_empty_handle_is_refused(&seat);
     limits_are_tested();
     states_are_tested();

@@ -1,23 +1,49 @@
-/* A bounded first-in-first-out queue of 64-bit items (numbers, or pointers as uintptr_t) that threads share without a lock.
+/* Queues, semaphores, rooms, credits and file tables that threads or processors share without locks, for programs and kernels
+ * in C. Items are 64-bit numbers, or pointers as uintptr_t.
  *
- * A queue is its seats. Each thread has a seat of its own, behind a handle; the last seat that leaves frees the queue. An
- * insertion is two calls: a claim, which draws a ticket, and tries at the ticket's cell until the answer is FAK_C_OK. So is a
- * deletion. No call waits: where the answer is FAK_C_NOT_YET, FAK_C_FULL or FAK_C_EMPTY, the caller tries again, or does not.
+ * An object is its seats. Each thread, or each processor of a kernel, has a seat of its own behind a handle; the last seat that
+ * leaves frees the object. No call waits: where the answer is FAK_C_NOT_YET, FAK_C_FULL, FAK_C_EMPTY or FAK_C_BUSY, the caller
+ * tries again, or does not. No call takes memory but those that open objects, and none frees any but those and fak_c_leave.
  *
  * What C owes, and nothing checks:
  * - One call at a time on a handle. A handle that goes to another thread is handed over in order: by a lock, by the start or
- *   join of a thread, or by a sequentially consistent atomic.
- * - A handle starts as {0}, and is never copied, nor written but by these calls.
+ *   join of a thread, by the switch of a processor from one thread to the next, or by a sequentially consistent atomic.
+ * - A handle starts as {0} (in C++ as {}), is never copied, and is written by these calls alone. fak_c_move moves a seat to
+ *   another handle.
  * - Pointers are distinct: nothing that one argument of a call points to overlaps what another does. They are aligned and not
- *   null, and what they point to is initialised, out-pointers too (a bool is true or false).
- * - No call from a signal handler, or in the forked child of a process with threads.
- * - malloc, realloc and free are those of one allocator, which may be called by many threads, and aligns to 16 bytes.
+ *   null (fak_c_put and fak_c_get take null for the ticket, and no other call takes null), and what they point to is
+ *   initialised, out-pointers too (a bool is true or false).
+ * - The heap (below) is one heap that many threads may call, and aligns to 16 bytes. With block.c one thread opens at a time.
  *
- * What C can't prove is tested by each call: that the handle has a seat, that the seat stands where the call takes it up, that
- * its stint lasts. A call that does not answer FAK_C_OK writes nothing through its out-pointers.
+ * What C can't prove is tested by each call: that the handle has a seat of the kind of object that the call is for (else
+ * FAK_C_NO_SEAT), that the seat is in the state that the call needs, that its stint lasts. A call writes through an out-pointer
+ * only what its comment says; a call that answers FAK_C_NO_SEAT or FAK_C_WRONG_STATE writes nothing and changes nothing.
  *
- * The calls synchronise by sequentially consistent atomics: what a thread wrote before it inserted a pointer is there for the
- * thread that takes the pointer out. */
+ * The calls synchronise by sequentially consistent atomics. What a thread wrote before it inserted an item, a pointer or a
+ * number, is there for the thread that takes the item out. What it wrote before an up is there after a down that passes, and
+ * after a wake. ThreadSanitizer doesn't see inside the library, so tell it: FAK_C_GIVES(address) before the insertion, the up
+ * or the claim of a down, FAK_C_GETS(address) after the item was taken out, the down passed or the item woke. Any address that
+ * both sides know will do, as that of a counter that a semaphore guards.
+ *
+ * Interrupts and signals. A handler may make every call but those that open, and fak_c_leave, on one of two conditions:
+ * - It has seats of its own, which nobody else uses. Then it must not try again until FAK_C_OK: the call that it interrupted
+ *   may be the one whose ticket comes first, and that call can't go on before the handler ends. It leaves its call open, and
+ *   goes on when it runs next. An NMI handler has only this way.
+ * - Or interrupts are off from each claim to the end of its call, wherever the handler's objects are used. Then the handler may
+ *   use the seats of its processor, and try again until FAK_C_OK.
+ *
+ * The calls that open, and fak_c_leave, call the heap, which the interrupted code may be in. The forked child of a process with
+ * threads makes no call.
+ *
+ * For kernels there are two archives with the same calls, libfak_c.a by `rt lib` and by `rt lib --backend rattle`. The first
+ * uses SSE registers in any call, also under a caller that is compiled without them; the second only in calls that open or free
+ * an object. README.md has what each holds. Both want these functions, and no others: rattle_alloc, rattle_realloc and
+ * rattle_dealloc, of the toolchain's liblibc_c.a over malloc, realloc and free, or of block.c over memory of your own; the
+ * first archive also memcpy and memset.
+ *
+ * What the calls take. Stack: below 256 bytes; below 1,536 in fak_c_leave; below 6,144 in a call that opens. Heap: 288 bytes a
+ * seat, and beside its seats a queue 856 bytes and 24 a cell, a semaphore 1,184 bytes and 24 a cell of its wait queue, a room,
+ * a credit and a file table below 640; more while an object is opened (block.h). */
 #ifndef FAK_C_H
 #define FAK_C_H
 
@@ -29,8 +55,25 @@
 extern "C" {
 #endif
 
-/* A handle. It owns a seat, or nothing, where it is all zeros. The unused bytes keep it on a cache line of 64 bytes of its
- * own, wherever it lies. */
+#if defined(__SANITIZE_THREAD__)
+#define FAK_C_THREAD_SANITIZER 1
+#elif defined(__has_feature)
+#if __has_feature(thread_sanitizer)
+#define FAK_C_THREAD_SANITIZER 1
+#endif
+#endif
+#ifdef FAK_C_THREAD_SANITIZER
+void __tsan_release(void *address);
+void __tsan_acquire(void *address);
+#define FAK_C_GIVES(pointer) __tsan_release(pointer)
+#define FAK_C_GETS(pointer) __tsan_acquire(pointer)
+#else
+#define FAK_C_GIVES(pointer) ((void)(pointer))
+#define FAK_C_GETS(pointer) ((void)(pointer))
+#endif
+
+/* A handle. It owns a seat of one object, or nothing, where it is all zeros. The unused bytes keep it on a cache line of 64 bytes
+ * of its own, wherever it lies. */
 typedef struct fak_c_seat {
     uint64_t before[8];
     void *at;
@@ -39,38 +82,60 @@ typedef struct fak_c_seat {
 
 enum {
     FAK_C_OK = 0,          /* the call was made */
-    FAK_C_NOT_YET = 1,     /* it is not yet this ticket's turn at its cell: try again */
-    FAK_C_FULL = 2,        /* the queue had no room */
+    FAK_C_NOT_YET = 1,     /* the call stays open: try again */
+    FAK_C_FULL = 2,        /* the queue, or the room, had no room */
     FAK_C_EMPTY = 3,       /* the queue had no item */
     FAK_C_CLOSED = 4,      /* the queue was shut */
-    FAK_C_WORN = 5,        /* the seat has drawn all the tickets of its stint */
-    FAK_C_NO_SEAT = 6,     /* the handle is empty */
-    FAK_C_WRONG_STATE = 7, /* the seat does not stand where this call takes it up */
-    FAK_C_BAD_LIMIT = 8,   /* the size, the number of seats or the stint is out of range */
-    FAK_C_MEMORY = 9       /* there was no memory */
+    FAK_C_WORN = 5,        /* the seat has made all the calls of its stint */
+    FAK_C_NO_SEAT = 6,     /* the handle has no seat of this kind of object */
+    FAK_C_WRONG_STATE = 7, /* the seat is in another state than this call needs */
+    FAK_C_BAD_LIMIT = 8,   /* a number is out of range */
+    FAK_C_MEMORY = 9,      /* there was no memory */
+    FAK_C_PARKS = 10,      /* the down parks its item: fak_c_sem_try_park is next */
+    FAK_C_WAKES = 11,      /* the up owes a wake: fak_c_sem_try_wake is next */
+    FAK_C_BUSY = 12        /* others hold the file table, or try to */
 };
 
-/* Where a seat stands, as fak_c_state writes it. */
+/* ---- Every kind of seat ----
+ *
+ * Each kind has a call that opens an object with a seat for each of the n handles that `seats` points to (1 to 64). A seat may
+ * make `stint` calls (1 to 2^40); a refused call does not count. No call renews a stint: after FAK_C_WORN go on with another seat, or
+ * with a new object. A call that opens answers FAK_C_OK, FAK_C_BAD_LIMIT or FAK_C_MEMORY. Where n is out of range it neither reads
+ * nor clears a handle. Else, where it is not FAK_C_OK, all n handles are empty. A seat that a handle held before is given up in
+ * any case, in mid-call too, and then its cell is never used again: pass handles that are empty. */
+
+/* Gives up the seat, of which no call is open, and which holds nothing of a room or a file table. The handle is empty then. The last
+ * seat to leave frees the object, with the items that are still in it: these are numbers, so what they may point to is the caller's
+ * to free.
+ *
+ * FAK_C_OK; FAK_C_NO_SEAT; or FAK_C_WRONG_STATE, where the handle keeps its seat: end the call, or give back, first. */
+int32_t fak_c_leave(fak_c_seat *seat);
+
+/* Moves the seat of a handle, in mid-call too, to an empty handle: open in any array, and move each seat to where its thread or
+ * processor keeps its things.
+ *
+ * FAK_C_OK; FAK_C_NO_SEAT; or FAK_C_WRONG_STATE where `to` has a seat. Both handles stay as they were then. */
+int32_t fak_c_move(fak_c_seat *seat, fak_c_seat *to);
+
+/* ---- Queues: bounded, first in first out ----
+ *
+ * An insertion is a claim, which draws a ticket, and tries at the ticket's cell until the answer is FAK_C_OK. So is a deletion.
+ * fak_c_insert and fak_c_delete make the claim and the first try in one call.
+ *
+ * FAK_C_FULL and FAK_C_EMPTY count the calls that other seats have begun: a queue with a free cell may be full for a moment,
+ * while a seat that claimed beyond the size withdraws. A queue with a cell for each item that there may be is never full. */
+
+/* The state of a queue's seat, as fak_c_state writes it. */
 enum {
     FAK_C_IDLE = 0,      /* no call is open */
     FAK_C_INSERTING = 1, /* an insertion was claimed: fak_c_try_fill is next */
     FAK_C_DELETING = 2   /* a deletion was claimed: fak_c_try_take is next */
 };
 
-/* Opens an empty queue of `size` cells (1 to 4,096), and gives each of the n handles (1 to 64) a seat of it, which may draw
- * `stint` tickets (1 to 2^40), insertions and deletions together.
- *
- * FAK_C_OK, FAK_C_BAD_LIMIT or FAK_C_MEMORY. Where it is not FAK_C_OK, all the handles are empty. A seat that a handle held
- * before is given up in any case, in mid-call too, and then its cell is never used again: pass handles that are empty. */
+/* Opens an empty queue of `size` cells (1 to 4,096). The stint is of insertions and deletions together. */
 int32_t fak_c_open(fak_c_seat *seats, size_t n, uint64_t size, uint64_t stint);
 
-/* Gives up the seat, which must be idle. The handle is empty then. The last seat to leave frees the queue, with the items
- * that are still in it: these are numbers, so what they may point to is the caller's to free.
- *
- * FAK_C_OK; FAK_C_NO_SEAT; or FAK_C_WRONG_STATE in mid-call, where the handle keeps its seat: end the call first. */
-int32_t fak_c_leave(fak_c_seat *seat);
-
-/* Claims room for the item, and writes the insertion's ticket: so many insertions were granted before. The seat keeps the
+/* Claims room for the item, and writes the insertion's ticket: the number of insertions granted before. The seat keeps the
  * item until fak_c_try_fill answers FAK_C_OK. The seat must be idle.
  *
  * FAK_C_OK; FAK_C_WORN, FAK_C_CLOSED or FAK_C_FULL, the first of them that applies, where the item is not taken;
@@ -84,7 +149,7 @@ int32_t fak_c_claim_insert(fak_c_seat *seat, uint64_t item, uint64_t *ticket);
  * FAK_C_WRONG_STATE. */
 int32_t fak_c_try_fill(fak_c_seat *seat);
 
-/* Claims an item, and writes the deletion's ticket: so many deletions were granted before. The item is the one that was
+/* Claims an item, and writes the deletion's ticket: the number of deletions granted before. The item is the one that was
  * inserted under the same ticket. The seat must be idle.
  *
  * FAK_C_OK; FAK_C_WORN or FAK_C_EMPTY, the first of them that applies; FAK_C_NO_SEAT or FAK_C_WRONG_STATE. */
@@ -96,6 +161,28 @@ int32_t fak_c_claim_delete(fak_c_seat *seat, uint64_t *ticket);
  * FAK_C_OK; FAK_C_NOT_YET where the cell was not yet filled; FAK_C_NO_SEAT or FAK_C_WRONG_STATE. */
 int32_t fak_c_try_take(fak_c_seat *seat, uint64_t *item);
 
+/* The claim of an insertion and, where it is granted, the first try. The ticket is written where the claim is granted.
+ *
+ * FAK_C_OK; FAK_C_NOT_YET with the claim kept for fak_c_try_fill; or what fak_c_claim_insert answers. */
+int32_t fak_c_insert(fak_c_seat *seat, uint64_t item, uint64_t *ticket);
+
+/* The claim of a deletion and, where it is granted, the first try. The ticket is written where the claim is granted, the item where
+ * it was taken out.
+ *
+ * FAK_C_OK; FAK_C_NOT_YET with the claim kept for fak_c_try_take; or what fak_c_claim_delete answers. */
+int32_t fak_c_delete(fak_c_seat *seat, uint64_t *ticket, uint64_t *item);
+
+/* The same for callers that may do without the ticket: the pointer to it may be null. */
+static inline int32_t fak_c_put(fak_c_seat *seat, uint64_t item, uint64_t *ticket) {
+    uint64_t unused = 0;
+    return fak_c_insert(seat, item, ticket ? ticket : &unused);
+}
+
+static inline int32_t fak_c_get(fak_c_seat *seat, uint64_t *ticket, uint64_t *item) {
+    uint64_t unused = 0;
+    return fak_c_delete(seat, ticket ? ticket : &unused, item);
+}
+
 /* Shuts the queue: insertions are refused as FAK_C_CLOSED from now on, and deletions go on. Writes whether the queue was open
  * before. The seat must be idle. Insertions that were claimed before end as ever. To drain a queue: shut it, let every seat end
  * its call, and delete until FAK_C_EMPTY.
@@ -103,11 +190,137 @@ int32_t fak_c_try_take(fak_c_seat *seat, uint64_t *item);
  * FAK_C_OK; FAK_C_NO_SEAT or FAK_C_WRONG_STATE. */
 int32_t fak_c_shut(fak_c_seat *seat, bool *was_open);
 
-/* Writes where the seat stands, the ticket of its open call (where it is idle, nothing is written there), and how many tickets
+/* Writes the state of the seat, the ticket of its open call (where it is idle, nothing is written there), and how many tickets
  * are left of its stint. Changes nothing.
  *
  * FAK_C_OK or FAK_C_NO_SEAT. */
 int32_t fak_c_state(fak_c_seat *seat, uint32_t *state, uint64_t *ticket, uint64_t *left);
+
+/* ---- Semaphores: a count, and a queue of the items that wait ----
+ *
+ * A down subtracts 1, and passes where it found at least 1; else its item is parked in the wait queue. An up adds 1, and where it
+ * found less than 0 it wakes the oldest parked item, which the caller goes on with. What waits is the item, as a thread of a kernel.
+ * A down that parks, and an up that wakes, are made by steps: a kernel leaves the thread's stack between fak_c_sem_claim_down and
+ * fak_c_sem_try_park, so the caller that wakes the thread finds that its stack was left. Once the item is parked another
+ * processor may run it: write its state before fak_c_sem_claim_down, and don't touch it after fak_c_sem_try_park's FAK_C_OK. */
+
+/* The state of a semaphore's seat, as fak_c_sem_state writes it. */
+enum {
+    FAK_C_SEM_IDLE = 0,    /* no call is open */
+    FAK_C_SEM_PARKING = 1, /* a down parks its item: fak_c_sem_try_park is next */
+    FAK_C_SEM_WAKING = 2   /* an up owes a wake: fak_c_sem_try_wake is next */
+};
+
+/* Opens a semaphore that begins at `start` (0 to 2^32), with an empty wait queue of `size` cells (1 to 4,096): no fewer than items
+ * may wait at once. With fewer a down tries to park until an up makes room, for ever where the callers of the ups are parking
+ * too. The stint is of downs and ups together. */
+int32_t fak_c_sem_open(fak_c_seat *seats, size_t n, uint64_t start, uint64_t size, uint64_t stint);
+
+/* Begins a down. The seat must be idle.
+ *
+ * FAK_C_OK where it passed, and is done; FAK_C_PARKS where the seat keeps the item, and fak_c_sem_try_park is next; FAK_C_WORN;
+ * FAK_C_NO_SEAT or FAK_C_WRONG_STATE. */
+int32_t fak_c_sem_claim_down(fak_c_seat *seat, uint64_t item);
+
+/* One step more of a down that parks its item. The seat must be parking, and is idle after FAK_C_OK.
+ *
+ * FAK_C_OK where the item is parked, and the down is done; FAK_C_NOT_YET where no cell is free, or the cell's last item was not yet
+ * taken; FAK_C_NO_SEAT or FAK_C_WRONG_STATE. */
+int32_t fak_c_sem_try_park(fak_c_seat *seat);
+
+/* Begins an up. The seat must be idle.
+ *
+ * FAK_C_OK where it woke no item, and is done; FAK_C_WAKES where it owes a wake, and fak_c_sem_try_wake is next; FAK_C_WORN;
+ * FAK_C_NO_SEAT or FAK_C_WRONG_STATE. */
+int32_t fak_c_sem_claim_up(fak_c_seat *seat);
+
+/* One step more of an up that owes a wake. The seat must be waking, and is idle after FAK_C_OK.
+ *
+ * FAK_C_OK with the woken item, and the up is done; FAK_C_NOT_YET where the item to wake is not parked yet; FAK_C_NO_SEAT or
+ * FAK_C_WRONG_STATE. */
+int32_t fak_c_sem_try_wake(fak_c_seat *seat, uint64_t *item);
+
+/* Writes the state of the seat, and how many calls are left of its stint. Changes nothing.
+ *
+ * FAK_C_OK or FAK_C_NO_SEAT. */
+int32_t fak_c_sem_state(fak_c_seat *seat, uint32_t *state, uint64_t *left);
+
+/* ---- Rooms: a count from 0 to a bound, of which seats claim amounts ---- */
+
+/* Opens a room whose count is 0, with this bound (0 to 2^32). The stint is of granted claims. */
+int32_t fak_c_room_open(fak_c_seat *seats, size_t n, uint64_t bound, uint64_t stint);
+
+/* Claims the amount, 1 to 1,024, where it fits beside the count. `found` is the count that the claim found.
+ *
+ * FAK_C_OK; FAK_C_WORN, where nothing is written; FAK_C_FULL, where `found` is written too: beside claims that are about to be
+ * withdrawn it may be refused although it would fit; FAK_C_BAD_LIMIT or FAK_C_NO_SEAT. */
+int32_t fak_c_room_tir(fak_c_seat *seat, uint64_t amount, int64_t *found);
+
+/* Gives back the amount, 1 to 1,024 and no more than the seat holds. `found` is the count before.
+ *
+ * FAK_C_OK; FAK_C_BAD_LIMIT or FAK_C_NO_SEAT, where nothing is written. */
+int32_t fak_c_room_release(fak_c_seat *seat, uint64_t amount, int64_t *found);
+
+/* Writes how much the seat holds, and how many claims are left of its stint. Changes nothing.
+ *
+ * FAK_C_OK or FAK_C_NO_SEAT. */
+int32_t fak_c_room_state(fak_c_seat *seat, uint64_t *held, uint64_t *left);
+
+/* ---- Credits: a count that moves by 1, with no bound ---- */
+
+/* Opens a credit that begins at `start` (0 to 2^32). The stint is of debits and credits together. */
+int32_t fak_c_credit_open(fak_c_seat *seats, size_t n, uint64_t start, uint64_t stint);
+
+/* Subtracts 1, or adds 1. `found` is the count before; it may be below 0.
+ *
+ * FAK_C_OK; FAK_C_WORN or FAK_C_NO_SEAT, where nothing is written. */
+int32_t fak_c_credit_debit(fak_c_seat *seat, int64_t *found);
+int32_t fak_c_credit_credit(fak_c_seat *seat, int64_t *found);
+
+/* Writes the count, and how many calls are left of the seat's stint.
+ *
+ * FAK_C_OK or FAK_C_NO_SEAT. */
+int32_t fak_c_credit_value(fak_c_seat *seat, int64_t *value, uint64_t *left);
+
+/* ---- File tables: entries that many seats read at once, or one seat writes ---- */
+
+/* What a seat of a file table holds, as fak_c_files_hold writes it. */
+enum {
+    FAK_C_FILES_NOTHING = 0,
+    FAK_C_FILES_READING = 1, /* others may read */
+    FAK_C_FILES_WRITING = 2  /* no other seat holds the table */
+};
+
+/* Opens a table of `entries` entries (1 to 16), each with two fields, `inode` and `uses`, which are 0. The stint is of holds. */
+int32_t fak_c_files_open(fak_c_seat *seats, size_t n, uint64_t entries, uint64_t stint);
+
+/* A reader's hold, and a writer's, by one attempt. The seat must hold nothing.
+ *
+ * FAK_C_OK; FAK_C_WORN; FAK_C_BUSY, where `count` is what was left of n, of which a reader takes 1 and a writer all (it is not written
+ * else); FAK_C_NO_SEAT or FAK_C_WRONG_STATE. */
+int32_t fak_c_files_try_read(fak_c_seat *seat, int64_t *count);
+int32_t fak_c_files_try_write(fak_c_seat *seat, int64_t *count);
+
+/* Writes both fields of an entry, as they were when the hold was granted, with what the seat has set since.
+ *
+ * FAK_C_OK; FAK_C_WRONG_STATE without a hold, or where there is no such entry; FAK_C_NO_SEAT. */
+int32_t fak_c_files_get(fak_c_seat *seat, uint64_t entry, uint64_t *inode, uint64_t *uses);
+
+/* Sets a field of an entry.
+ *
+ * FAK_C_OK; FAK_C_WRONG_STATE without a writer's hold, or where there is no such entry; FAK_C_NO_SEAT. */
+int32_t fak_c_files_set_inode(fak_c_seat *seat, uint64_t entry, uint64_t to);
+int32_t fak_c_files_set_uses(fak_c_seat *seat, uint64_t entry, uint64_t to);
+
+/* Gives the hold back.
+ *
+ * FAK_C_OK; FAK_C_WRONG_STATE without a hold; FAK_C_NO_SEAT. */
+int32_t fak_c_files_end(fak_c_seat *seat);
+
+/* Writes what the seat holds. Changes nothing.
+ *
+ * FAK_C_OK or FAK_C_NO_SEAT. */
+int32_t fak_c_files_hold(fak_c_seat *seat, uint32_t *hold);
 
 #ifdef __cplusplus
 }

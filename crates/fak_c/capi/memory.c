@@ -1,10 +1,12 @@
-/* Each allocation of an opening fails in turn, and no other call makes one. The linker's --wrap sends the library's calls of
+/* Each allocation of each opening fails in turn, and no other call makes one. The linker's --wrap sends the library's calls of
  * malloc and free here. */
 #include "tests.h"
 
-enum { SEATS = 3 };
+#include <stdatomic.h>
 
-static long made, failing, live;
+enum { SEATS = 3, KINDS = 5 };
+
+static atomic_long made, failing, live;
 
 void *__real_malloc(size_t size);
 void *__wrap_malloc(size_t size);
@@ -13,7 +15,7 @@ void __wrap_free(void *block);
 
 void *__wrap_malloc(size_t size) {
     void *block;
-    if (++made == failing)
+    if (atomic_fetch_add(&made, 1) + 1 == failing)
         return NULL;
     block = __real_malloc(size);
     live += block != NULL;
@@ -25,12 +27,27 @@ void __wrap_free(void *block) {
     __real_free(block);
 }
 
-/* Opens a queue while the allocation of this number fails. True where the opening succeeded. */
-static bool opens(fak_c_seat *seats, long number) {
+static int32_t open_kind(fak_c_seat *seats, int kind) {
+    switch (kind) {
+    case 0:
+        return fak_c_open(seats, SEATS, 5, 10);
+    case 1:
+        return fak_c_sem_open(seats, SEATS, 0, 5, 10);
+    case 2:
+        return fak_c_room_open(seats, SEATS, 5, 10);
+    case 3:
+        return fak_c_credit_open(seats, SEATS, 5, 10);
+    default:
+        return fak_c_files_open(seats, SEATS, 5, 10);
+    }
+}
+
+/* Opens an object while the allocation of this number fails. True where the opening succeeded. */
+static bool opens(fak_c_seat *seats, int kind, long number) {
     int32_t answer;
     made = 0;
     failing = number;
-    answer = fak_c_open(seats, SEATS, 5, 10);
+    answer = open_kind(seats, kind);
     failing = 0;
     if (answer == FAK_C_OK)
         return true;
@@ -41,25 +58,75 @@ static bool opens(fak_c_seat *seats, long number) {
     return false;
 }
 
-void want_of_memory_is_answered(void) {
-    fak_c_seat seats[SEATS] = {0};
+static void use_a_queue(fak_c_seat *seats) {
     uint64_t ticket = 0, item = 0, left = 0;
     uint32_t state = 0;
     bool was_open = false;
-    long number = 1;
-    live = 0;
-    while (!opens(seats, number)) {
-        /* The next one finds its handles full. */
-        CHECK(number % 2 == 0 || opens(seats, 0));
-        number++;
-    }
-    /* There is a desk for each seat, and the queue. */
-    CHECK(number > SEATS + 1 && made < number && live > SEATS);
-    made = 0;
     CHECK(fak_c_claim_insert(&seats[0], 7, &ticket) == FAK_C_OK && fak_c_try_fill(&seats[0]) == FAK_C_OK);
-    CHECK(fak_c_claim_delete(&seats[1], &ticket) == FAK_C_OK && fak_c_try_take(&seats[1], &item) == FAK_C_OK);
+    CHECK(fak_c_claim_delete(&seats[1], &ticket) == FAK_C_OK && fak_c_try_take(&seats[1], &item) == FAK_C_OK && item == 7);
+    CHECK(fak_c_insert(&seats[0], 8, &ticket) == FAK_C_OK && fak_c_delete(&seats[1], &ticket, &item) == FAK_C_OK && item == 8);
     CHECK(fak_c_state(&seats[2], &state, &ticket, &left) == FAK_C_OK && fak_c_shut(&seats[2], &was_open) == FAK_C_OK);
+}
+
+static void use_a_semaphore(fak_c_seat *seats) {
+    uint64_t item = 0, left = 0;
+    uint32_t state = 0;
+    CHECK(fak_c_sem_claim_down(&seats[0], 7) == FAK_C_PARKS && fak_c_sem_try_park(&seats[0]) == FAK_C_OK);
+    CHECK(fak_c_sem_claim_up(&seats[1]) == FAK_C_WAKES && fak_c_sem_try_wake(&seats[1], &item) == FAK_C_OK && item == 7);
+    CHECK(fak_c_sem_state(&seats[2], &state, &left) == FAK_C_OK);
+}
+
+static void use_a_room(fak_c_seat *seats) {
+    uint64_t held = 0, left = 0;
+    int64_t found = 0;
+    CHECK(fak_c_room_tir(&seats[0], 2, &found) == FAK_C_OK && fak_c_room_release(&seats[0], 2, &found) == FAK_C_OK);
+    CHECK(fak_c_room_state(&seats[0], &held, &left) == FAK_C_OK);
+}
+
+static void use_a_credit(fak_c_seat *seats) {
+    uint64_t left = 0;
+    int64_t found = 0;
+    CHECK(fak_c_credit_debit(&seats[0], &found) == FAK_C_OK && fak_c_credit_credit(&seats[1], &found) == FAK_C_OK);
+    CHECK(fak_c_credit_value(&seats[0], &found, &left) == FAK_C_OK);
+}
+
+static void use_a_table(fak_c_seat *seats) {
+    uint64_t inode = 0, uses = 0;
+    uint32_t hold = 0;
+    int64_t count = 0;
+    CHECK(fak_c_files_try_read(&seats[0], &count) == FAK_C_OK && fak_c_files_end(&seats[0]) == FAK_C_OK);
+    CHECK(fak_c_files_try_write(&seats[1], &count) == FAK_C_OK);
+    CHECK(fak_c_files_set_inode(&seats[1], 0, 1) == FAK_C_OK && fak_c_files_set_uses(&seats[1], 0, 1) == FAK_C_OK);
+    CHECK(fak_c_files_get(&seats[1], 0, &inode, &uses) == FAK_C_OK && fak_c_files_end(&seats[1]) == FAK_C_OK);
+    CHECK(fak_c_files_hold(&seats[1], &hold) == FAK_C_OK);
+}
+
+/* Each call of this kind; none takes memory. */
+static void use(fak_c_seat *seats, int kind) {
+    static void (*const uses[KINDS])(fak_c_seat *) = {use_a_queue, use_a_semaphore, use_a_room, use_a_credit, use_a_table};
+    fak_c_seat home = {0};
+    long before = live;
+    made = 0;
+    uses[kind](seats);
+    CHECK(fak_c_move(&seats[0], &home) == FAK_C_OK && fak_c_move(&home, &seats[0]) == FAK_C_OK);
+    CHECK(live == before);
     for (int i = 0; i < SEATS; i++)
         CHECK(fak_c_leave(&seats[i]) == FAK_C_OK);
-    CHECK(item == 7 && made == 0 && live == 0);
+    CHECK(made == 0 && live == 0);
+}
+
+void want_of_memory_is_answered(void) {
+    for (int kind = 0; kind < KINDS; kind++) {
+        fak_c_seat seats[SEATS] = {0};
+        long number = 1;
+        live = 0;
+        while (!opens(seats, kind, number)) {
+            /* The next one finds its handles full. */
+            CHECK(number % 2 == 0 || opens(seats, kind, 0));
+            number++;
+        }
+        /* There is a desk for each seat, and the object. */
+        CHECK(number > SEATS + 1 && made < number && live > SEATS);
+        use(seats, kind);
+    }
 }

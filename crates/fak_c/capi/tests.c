@@ -1,4 +1,4 @@
-/* Runs one group of the tests: `codes`, `memory`, `threads PAIRS ITEMS` or `drain ITEMS`. */
+/* Runs one group of the tests: `codes`, `kinds`, `memory`, `threads PAIRS ITEMS`, `drain ITEMS`, `objects ROUNDS` or `pointers ITEMS`. */
 #include "tests.h"
 
 #include <string.h>
@@ -6,12 +6,18 @@
 int main(int count, char **words) {
     if (count == 2 && strcmp(words[1], "codes") == 0)
         each_code_is_answered();
+    else if (count == 2 && strcmp(words[1], "kinds") == 0)
+        each_kind_is_answered();
     else if (count == 2 && strcmp(words[1], "memory") == 0)
         want_of_memory_is_answered();
     else if (count == 4 && strcmp(words[1], "threads") == 0)
         threads_share_a_queue(atoi(words[2]), strtoull(words[3], NULL, 10));
     else if (count == 3 && strcmp(words[1], "drain") == 0)
         a_shut_queue_is_drained(strtoull(words[2], NULL, 10));
+    else if (count == 3 && strcmp(words[1], "objects") == 0)
+        threads_share_objects(strtoull(words[2], NULL, 10));
+    else if (count == 3 && strcmp(words[1], "pointers") == 0)
+        memory_is_handed_over(strtoull(words[2], NULL, 10));
     else
         return 2;
     return 0;

@@ -19,14 +19,23 @@
 /* The longest stint. */
 #define LONG_STINT (UINT64_C(1) << 40)
 
-/* Each code of each call, on one thread. */
+/* Each code of each call of a queue, on one thread, and seats that move. */
 void each_code_is_answered(void);
+
+/* The same of semaphores, rooms, credits and file tables; and what each kind of seat answers to the calls of the others. */
+void each_kind_is_answered(void);
 
 /* Each allocation of an opening fails in turn. */
 void want_of_memory_is_answered(void);
 
 /* So many producers and as many consumers share a queue. */
 void threads_share_a_queue(int pairs, uint64_t items);
+
+/* Threads share a semaphore, a room, a credit and a file table. */
+void threads_share_objects(uint64_t rounds);
+
+/* Memory that one thread fills and another reads, behind a pointer that goes through a queue. */
+void memory_is_handed_over(uint64_t items);
 
 /* A queue is shut while threads insert into it, and drained. */
 void a_shut_queue_is_drained(uint64_t items);

@@ -1,10 +1,29 @@
 //! The answers of the queue as numbers.
 
 ghost use Rattle.std.specs.Prelude.{◌≡◌};
-ghost use Rattle.fak_c.specs.Answers.{delete_code, drawn_or, insert_code, open_or, shut_code, shut_or, state_code, taken_or, try_code};
+ghost use Rattle.fak_c.specs.Answers.{delete_code, delete_fault_code, delete_once_code, drawn_or, drawn_once_or, insert_code, insert_fault_code, insert_once_code, open_or, shut_code, shut_or, state_code, taken_or, taken_once_or, try_code};
 
 use crate::code::{CLOSED, EMPTY, FULL, NOT_YET, OK, WORN, WRONG_STATE};
 use fak_queue::{DeleteFault, InsertFault, SeatState};
+
+fn of_insert_fault(fault: &InsertFault<u64>) -> i32
+    ensures { result ≡ insert_fault_code fault.now }
+{
+    match fault {
+        InsertFault::Worn { item: _ } => WORN,
+        InsertFault::Closed { item: _ } => CLOSED,
+        InsertFault::Full { upper: _, item: _ } => FULL,
+    }
+}
+
+fn of_delete_fault(fault: &DeleteFault) -> i32
+    ensures { result ≡ delete_fault_code fault.now }
+{
+    match fault {
+        DeleteFault::Worn => WORN,
+        DeleteFault::Empty(_) => EMPTY,
+    }
+}
 
 pub(crate) fn of_insert(claimed: &Option<Result<u64, InsertFault<u64>>>, ticket: &mut u64) -> i32
     ensures code { result ≡ insert_code claimed.now }
@@ -16,9 +35,7 @@ pub(crate) fn of_insert(claimed: &Option<Result<u64, InsertFault<u64>>>, ticket:
             *ticket = *drawn;
             OK
         }
-        Some(Err(InsertFault::Worn { item: _ })) => WORN,
-        Some(Err(InsertFault::Closed { item: _ })) => CLOSED,
-        Some(Err(InsertFault::Full { upper: _, item: _ })) => FULL,
+        Some(Err(fault)) => of_insert_fault(fault),
     }
 }
 
@@ -32,8 +49,7 @@ pub(crate) fn of_delete(claimed: &Option<Result<u64, DeleteFault>>, ticket: &mut
             *ticket = *drawn;
             OK
         }
-        Some(Err(DeleteFault::Worn)) => WORN,
-        Some(Err(DeleteFault::Empty(_))) => EMPTY,
+        Some(Err(fault)) => of_delete_fault(fault),
     }
 }
 
@@ -88,5 +104,46 @@ pub(crate) fn of_state(stands: SeatState, state: &mut u32, ticket: &mut u64)
             *state = 2;
             *ticket = drawn;
         }
+    }
+}
+
+pub(crate) fn of_insert_once(
+    made: &Option<Result<(u64, bool), InsertFault<u64>>>,
+    ticket: &mut u64,
+) -> i32
+    ensures code { result ≡ insert_once_code made.now }
+    ensures ticket { ticket.new ≡ drawn_once_or ticket.old made.now }
+{
+    match made {
+        None => WRONG_STATE,
+        Some(Ok((drawn, filled))) => {
+            *ticket = *drawn;
+            if *filled { OK } else { NOT_YET }
+        }
+        Some(Err(fault)) => of_insert_fault(fault),
+    }
+}
+
+pub(crate) fn of_delete_once(
+    made: &Option<Result<(u64, Option<u64>), DeleteFault>>,
+    ticket: &mut u64,
+    item: &mut u64,
+) -> i32
+    ensures code { result ≡ delete_once_code made.now }
+    ensures ticket { ticket.new ≡ drawn_once_or ticket.old made.now }
+    ensures item { item.new ≡ taken_once_or item.old made.now }
+{
+    match made {
+        None => WRONG_STATE,
+        Some(Ok((drawn, None))) => {
+            *ticket = *drawn;
+            NOT_YET
+        }
+        Some(Ok((drawn, Some(out)))) => {
+            *ticket = *drawn;
+            *item = *out;
+            OK
+        }
+        Some(Err(fault)) => of_delete_fault(fault),
     }
 }

@@ -1,30 +1,38 @@
-//! The exported functions.
+//! The exported functions. Here those that open objects, move seats and give them up; the calls of each kind of seat are below.
 
 ghost use Rattle.std.specs.Prelude.{◌≡◌, length};
-ghost use Rattle.fak_c.specs.Answers.{Called, Deletes, Inserts, Leaves, Looks, Shuts, TriesToFill, TriesToTake};
-ghost use Rattle.fak_c.specs.Openings.{Opens};
+ghost use Rattle.fak_c.specs.Kinds.{Leaves, Moves};
+ghost use Rattle.fak_c.specs.Openings.{OpensCredit, OpensOrKeeps, OpensQueue, OpensRoom, OpensSem, OpensTable};
 
-use crate::answers::{of_delete, of_fill, of_insert, of_shut, of_state, of_take};
-use crate::code::{NO_SEAT, OK, WRONG_STATE};
+mod credit;
+mod files;
+mod queue;
+mod room;
+mod semaphore;
+
+use crate::code::{BAD_LIMIT, NO_SEAT, OK, WRONG_STATE};
+use crate::opening::is_number_of_seats;
 use crate::place::Place;
-use fak_queue::SeatState;
 use std::alloc::Global;
 
-/// Opens a queue of `size` cells, and gives each handle a seat of it with so large a stint. What the handles held is given
-/// up. A failed call leaves them empty.
+/// Opens a queue of `size` cells, and gives each of 1 to 64 handles a seat of it with this stint. What the handles held is
+/// given up. A failed call leaves them empty, but keeps them where their number is out of range.
 ///
 /// `OK`, `BAD_LIMIT` or `MEMORY`.
 #[unsafe(no_mangle)]
 pub extern "C" fn fak_c_open(alloc: Global, seats: &mut [Place], size: u64, stint: u64) -> i32
     ensures len { length seats.new ≡ length seats.old }
-    ensures opens { Opens result size stint seats.new }
+    ensures opens { OpensOrKeeps result seats.old seats.new (OpensQueue result size stint seats.new) }
 {
-    crate::opening::open(alloc, seats, size, stint)
+    if !is_number_of_seats(seats.len()) {
+        return BAD_LIMIT;
+    }
+    crate::opening::open_queue(alloc, seats, size, stint)
 }
 
-/// Gives up an idle seat; its handle is empty then. The last seat of a queue frees it.
+/// Gives up a seat at rest; its handle is empty then. The last seat of an object frees it.
 ///
-/// `OK`, `NO_SEAT`, or `WRONG_STATE` in mid-call, where the handle keeps the seat.
+/// `OK`, `NO_SEAT`, or `WRONG_STATE` in mid-call or in a hold, where the handle keeps the seat.
 #[unsafe(no_mangle)]
 pub extern "C" fn fak_c_leave(alloc: Global, seat: &mut Place) -> i32
     ensures { Leaves result seat.old.handle.desk seat.new.handle.desk }
@@ -32,120 +40,98 @@ pub extern "C" fn fak_c_leave(alloc: Global, seat: &mut Place) -> i32
     let Some(desk) = seat.take(alloc) else {
         return NO_SEAT;
     };
-    match desk.seat.state() {
-        SeatState::Idle => {
-            drop(desk);
-            OK
-        }
-        SeatState::Inserting(_) | SeatState::Deleting(_) => {
-            seat.put(desk);
-            WRONG_STATE
-        }
+    if desk.is_at_rest() {
+        drop(desk);
+        OK
+    } else {
+        seat.put(desk);
+        WRONG_STATE
     }
 }
 
-/// Claims room for the item, and writes its ticket. `fak_c_try_fill` then moves the item in.
-///
-/// `OK`, `WORN`, `CLOSED`, `FULL`, `NO_SEAT` or `WRONG_STATE`.
+/// Opens a room with this bound, and gives each handle a seat of it. As `fak_c_open`.
 #[unsafe(no_mangle)]
-pub extern "C" fn fak_c_claim_insert(
+pub extern "C" fn fak_c_room_open(alloc: Global, seats: &mut [Place], bound: u64, stint: u64) -> i32
+    ensures len { length seats.new ≡ length seats.old }
+    ensures opens { OpensOrKeeps result seats.old seats.new (OpensRoom result bound stint seats.new) }
+{
+    if !is_number_of_seats(seats.len()) {
+        return BAD_LIMIT;
+    }
+    crate::opening::open_room(alloc, seats, bound, stint)
+}
+
+/// Opens a credit that begins at `start`, and gives each handle a seat of it. As `fak_c_open`.
+#[unsafe(no_mangle)]
+pub extern "C" fn fak_c_credit_open(
     alloc: Global,
-    seat: &mut Place,
-    item: u64,
-    ticket: &mut u64,
+    seats: &mut [Place],
+    start: u64,
+    stint: u64,
 ) -> i32
-    ensures { Called result (ticket.new ≡ ticket.old)
-        (Inserts result item ticket.old ticket.new) seat.old.handle.desk seat.new.handle.desk }
+    ensures len { length seats.new ≡ length seats.old }
+    ensures opens { OpensOrKeeps result seats.old seats.new (OpensCredit result start stint seats.new) }
 {
-    let Some(mut desk) = seat.take(alloc) else {
-        return NO_SEAT;
-    };
-    let claimed = desk.claim_insert(item);
-    seat.put(desk);
-    of_insert(&claimed, ticket)
+    if !is_number_of_seats(seats.len()) {
+        return BAD_LIMIT;
+    }
+    crate::opening::open_credit(alloc, seats, start, stint)
 }
 
-/// Moves the item of a claimed insertion into its cell, where it is the cell's turn.
-///
-/// `OK`, `NOT_YET`, `NO_SEAT` or `WRONG_STATE`.
+/// Opens a file table of this many entries, and gives each handle a seat of it. As `fak_c_open`.
 #[unsafe(no_mangle)]
-pub extern "C" fn fak_c_try_fill(alloc: Global, seat: &mut Place) -> i32
-    ensures { Called result Unit (TriesToFill result) seat.old.handle.desk seat.new.handle.desk }
-{
-    let Some(mut desk) = seat.take(alloc) else {
-        return NO_SEAT;
-    };
-    let tried = desk.try_fill();
-    seat.put(desk);
-    of_fill(&tried)
-}
-
-/// Claims an item, and writes its ticket. `fak_c_try_take` then hands the item out.
-///
-/// `OK`, `WORN`, `EMPTY`, `NO_SEAT` or `WRONG_STATE`.
-#[unsafe(no_mangle)]
-pub extern "C" fn fak_c_claim_delete(alloc: Global, seat: &mut Place, ticket: &mut u64) -> i32
-    ensures { Called result (ticket.new ≡ ticket.old) (Deletes result ticket.old ticket.new) seat.old.handle.desk seat.new.handle.desk }
-{
-    let Some(mut desk) = seat.take(alloc) else {
-        return NO_SEAT;
-    };
-    let claimed = desk.claim_delete();
-    seat.put(desk);
-    of_delete(&claimed, ticket)
-}
-
-/// Moves the item of a claimed deletion out of its cell, where it is the cell's turn.
-///
-/// `OK`, `NOT_YET`, `NO_SEAT` or `WRONG_STATE`.
-#[unsafe(no_mangle)]
-pub extern "C" fn fak_c_try_take(alloc: Global, seat: &mut Place, item: &mut u64) -> i32
-    ensures { Called result (item.new ≡ item.old) (TriesToTake result item.old item.new) seat.old.handle.desk seat.new.handle.desk }
-{
-    let Some(mut desk) = seat.take(alloc) else {
-        return NO_SEAT;
-    };
-    let tried = desk.try_take();
-    seat.put(desk);
-    of_take(&tried, item)
-}
-
-/// Shuts the queue: insertions are refused from now on. Writes whether it was open before.
-///
-/// `OK`, `NO_SEAT` or `WRONG_STATE`.
-#[unsafe(no_mangle)]
-pub extern "C" fn fak_c_shut(alloc: Global, seat: &mut Place, was_open: &mut bool) -> i32
-    ensures { Called result (was_open.new ≡ was_open.old)
-        (Shuts result was_open.old was_open.new) seat.old.handle.desk seat.new.handle.desk }
-{
-    let Some(mut desk) = seat.take(alloc) else {
-        return NO_SEAT;
-    };
-    let shut = desk.shut();
-    seat.put(desk);
-    of_shut(shut, was_open)
-}
-
-/// Writes where the seat stands, 0 idle, 1 inserting, 2 deleting, with the ticket of the open call, and how many tickets
-/// are left of the stint. Nothing changes.
-///
-/// `OK` or `NO_SEAT`.
-#[unsafe(no_mangle)]
-pub extern "C" fn fak_c_state(
+pub extern "C" fn fak_c_files_open(
     alloc: Global,
-    seat: &mut Place,
-    state: &mut u32,
-    ticket: &mut u64,
-    left: &mut u64,
+    seats: &mut [Place],
+    entries: u64,
+    stint: u64,
 ) -> i32
-    ensures { Called result ((state.new ≡ state.old) × (ticket.new ≡ ticket.old) × (left.new ≡ left.old))
-        (Looks result state.new ticket.old ticket.new left.new) seat.old.handle.desk seat.new.handle.desk }
+    ensures len { length seats.new ≡ length seats.old }
+    ensures opens { OpensOrKeeps result seats.old seats.new (OpensTable result entries stint seats.new) }
+{
+    if !is_number_of_seats(seats.len()) {
+        return BAD_LIMIT;
+    }
+    crate::opening::open_table(alloc, seats, entries, stint)
+}
+
+/// Opens a semaphore that begins at `start`, with a wait queue of `size` cells, and gives each handle a seat of it. As `fak_c_open`.
+#[unsafe(no_mangle)]
+pub extern "C" fn fak_c_sem_open(
+    alloc: Global,
+    seats: &mut [Place],
+    start: u64,
+    size: u64,
+    stint: u64,
+) -> i32
+    ensures len { length seats.new ≡ length seats.old }
+    ensures opens { OpensOrKeeps result seats.old seats.new (OpensSem result start size stint seats.new) }
+{
+    if !is_number_of_seats(seats.len()) {
+        return BAD_LIMIT;
+    }
+    crate::opening::open_semaphore(alloc, seats, start, size, stint)
+}
+
+/// Moves the seat of a handle to an empty one.
+///
+/// `OK`, `NO_SEAT`, or `WRONG_STATE` where the other has a seat.
+#[unsafe(no_mangle)]
+pub extern "C" fn fak_c_move(alloc: Global, seat: &mut Place, to: &mut Place) -> i32
+    ensures { Moves result seat.old.handle.desk to.old.handle.desk seat.new.handle.desk to.new.handle.desk }
 {
     let Some(desk) = seat.take(alloc) else {
         return NO_SEAT;
     };
-    of_state(desk.seat.state(), state, ticket);
-    *left = desk.seat.left();
-    seat.put(desk);
-    OK
+    match to.take(alloc) {
+        None => {
+            to.put(desk);
+            OK
+        }
+        Some(there) => {
+            to.put(there);
+            seat.put(desk);
+            WRONG_STATE
+        }
+    }
 }

@@ -7,7 +7,7 @@ use Rattle.fak_model.proofs.CreditLaw.{granted_is}
 use Rattle.fak_model.proofs.QueueBackwards.{items_count}
 use Rattle.fak_sem.proofs.Weights.{weight-known, weights-names, grants-parts, debits-parts}
 
--- whoever knows a name's marks knows that they match
+-- the marks of a name determine that they match
 matched_known : {T : Type 0} {start name : ℕ} {credit_names queue_names : List ℕ} {s s' : List CreditMark} {q q' : List (Mark T)} → Knows (λ (m : CreditMark). m.seat) credit_names s s' → Knows (λ (m : Mark T). m.seat) queue_names q q'
     → In name credit_names → In name queue_names → IsMatched start name s q → IsMatched start name s' q'
 matched_known {T} {start} {name} {credit_names} {queue_names} {s} {s'} k l i j m = record {

@@ -66,7 +66,7 @@ module _ (name : ℕ) (weight : CreditKind → ℤ → ℕ) (start : ℕ) where
                 (let w = r.weighs in let at = ap (λ (l : List CreditMark). weight own.kind (value start l)) (append_assoc before (m ∷ []) r.earlier) in rw t (omega (arith, w, at)));
           }
 
-  -- what a name's marks weigh is known to whoever knows its marks
+  -- what a name's marks weigh is determined by its marks
   pub weight-known : (names : List ℕ) (seen h : List CreditMark) → Knows (λ (m : CreditMark). m.seat) names seen h → In name names → weight_from (of_name name weight) start [] h ≡ weight_from (of_name name weight) start [] seen
   weight-known names seen h k i =
       let more = k.begins.0 in

@@ -56,7 +56,7 @@ pub record IsMatched {T : Type 0} (start name : ℕ) (credit_seen : List CreditM
   pub woken : count gots (marks_of seat_of name queue_seen) ≡ ups_waking_by name start credit_seen
 
 -- with all calls ended: passed downs and woken items together are the lesser of the downs, and the start and the ups;
--- each other down put its item; and so many items as there are other downs are left
+-- each other down put its item; and as many items are left as there are other downs
 pub record IsSettled {T : Type 0} (start : ℕ) (credit_seen : List CreditMark) (queue_seen : List (Mark T)) : Type 0 where
   pub granted : downs_passed start credit_seen + count gots queue_seen ≡ min (debits credit_seen) (start + credits credit_seen)
   pub put : downs_passed start credit_seen + count puts queue_seen ≡ debits credit_seen

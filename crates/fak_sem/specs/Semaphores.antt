@@ -122,7 +122,7 @@ pub record IsSemTally {T : Type 0} (start : ℕ) (credit : TallyInfo CreditMark)
 
 -- ---- what calls leave
 
--- the seats named from `name` on, so many of them, as they are opened
+-- the seats named from `name` on, this many of them, as they are opened
 abbrev pub fresh_sem_seats : {T : Type 0} → SemId → ℕ → ℕ → ℕ → List (SemSeatInfo T)
 fresh_sem_seats object stint name zero = []
 fresh_sem_seats object stint name (suc n) = record { object = object; name = name; stint = stint; credit_seen = []; queue_seen = [] } ∷ fresh_sem_seats object stint (suc name) n

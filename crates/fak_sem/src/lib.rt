@@ -1,6 +1,6 @@
 #![tactic(auto)]
 
-//! Counting semaphores whose waiting items stand in a wait queue, by fetch-and-add over the queue of A. Gottlieb, B. D.
+//! Counting semaphores whose waiting items are in a wait queue, by fetch-and-add over the queue of A. Gottlieb, B. D.
 //! Lubachevsky and L. Rudolph (ACM TOPLAS 5(2), 1983): a down subtracts 1 and passes where it found at least 1, else its item
 //! is parked; an up adds 1 and wakes one parked item where it found less than 0.
 //!
@@ -8,12 +8,16 @@
 //! - `down(rt, &mut seat, item)` answers the item where it passes, and none where it was parked. No thread sleeps: the item is
 //!   what waits, as the context of a process.
 //! - `up(rt, &mut seat)` answers the item that it woke, which is then the caller's to go on with.
+//! - `StepSeat::of(seat)` goes by steps, none of which waits: `claim_down` and `try_park`, `claim_up` and `try_wake`. `into_seat`
+//!   answers the seat that it is between two calls.
 //! - `SemTally::of`, `join`, `close`: as a queue's; what is left is the items that nobody woke, oldest first.
 //! - Callers owe that a seat is of this semaphore: `seat.old.object ≡ semaphore.now.object`.
-//! - To cite: `Downs`, `Ups`, `CountsDown`, `CountsUp` (`specs/Semaphores.antt`), and `IsSettled` at the close.
+//! - To cite: `Downs`, `Ups`, `CountsDown`, `CountsUp` (`specs/Semaphores.antt`), and `IsSettled` at the close. Between the steps
+//!   of a call `ParksSince` and `WakesSince` (`specs/Steps.antt`), from which the last step makes `Downs` or `Ups`.
 //!
 //! `docs/CALLING.md` is the guide for callers.
 
+mod claims;
 mod ending;
 mod fault;
 pub mod laws;
@@ -21,6 +25,9 @@ mod opening;
 mod retries;
 mod seat;
 mod semaphore;
+mod standing;
+mod step_seat;
+mod steps;
 mod tally;
 
 pub use fak_count::Worn;
@@ -28,4 +35,6 @@ pub use fak_queue::Rest;
 pub use fault::{OpenFault, SemWorn};
 pub use seat::SemSeat;
 pub use semaphore::Semaphore;
+pub use standing::StepState;
+pub use step_seat::StepSeat;
 pub use tally::SemTally;

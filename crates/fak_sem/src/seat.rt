@@ -2,6 +2,7 @@
 
 use fak_count::CreditSeat;
 use fak_queue::Seat;
+use std::fmt;
 use std::marker::Model;
 
 /// The right to downs and ups on a `Semaphore`, as often as its stint says. Contracts see its semaphore, its name, its
@@ -21,4 +22,13 @@ impl<T> Model for SemSeat<T> {
     ghost view = { λ s. sem_seat s.start s.credit s.queue };
 
     ghost invariant = { λ s. IsSemSeat s.start s.credit s.queue };
+}
+
+impl<T> fmt::Debug for SemSeat<T> {
+    fn fmt<W: fmt::Write>(&self, f: &mut fmt::Formatter<W>) -> fmt::Result {
+        f.debug_struct("SemSeat")
+            .field("start", &self.start)
+            .field("left", &self.credit.left())
+            .finish_non_exhaustive()
+    }
 }

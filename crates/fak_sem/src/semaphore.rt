@@ -8,10 +8,11 @@ use crate::retries::{delete_at_last, insert_at_last};
 use crate::seat::SemSeat;
 use fak_count::{Credit, Worn};
 use fak_queue::Queue;
+use std::fmt;
 use std::marker::Model;
 use std::sync::Wait;
 
-/// A counting semaphore over moved values. Its count is a credit, and what waits stands in a bounded queue. Contracts see
+/// A counting semaphore over moved values. Its count is a credit, and what waits is in a bounded queue. Contracts see
 /// which semaphore it is and the size of its wait queue.
 #[derive(Drop)]
 pub struct Semaphore<T> {
@@ -74,5 +75,11 @@ impl<T: Drop> Semaphore<T> {
             return Ok(None);
         }
         Ok(Some(delete_at_last(&self.queue, rt, &mut seat.queue)))
+    }
+}
+
+impl<T> fmt::Debug for Semaphore<T> {
+    fn fmt<W: fmt::Write>(&self, f: &mut fmt::Formatter<W>) -> fmt::Result {
+        f.debug_struct("Semaphore").finish_non_exhaustive()
     }
 }

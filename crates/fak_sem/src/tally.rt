@@ -13,6 +13,7 @@ ghost use Rattle.fak_sem.specs.Semaphores.{sem_tally_of, seats_of};
 use crate::seat::SemSeat;
 use fak_count::CreditTally;
 use fak_queue::Tally;
+use std::fmt;
 use std::marker::Model;
 
 /// Seats of a semaphore that were joined and make no calls any more. Contracts see its semaphore, the names of the seats,
@@ -69,5 +70,13 @@ impl<T: Drop> SemTally<T> {
             → IsMatched self.now.object.start name self.now.credit_seen self.now.queue_seen }
     {
         self.queue.is_whole()
+    }
+}
+
+impl<T> fmt::Debug for SemTally<T> {
+    fn fmt<W: fmt::Write>(&self, f: &mut fmt::Formatter<W>) -> fmt::Result {
+        f.debug_struct("SemTally")
+            .field("start", &self.start)
+            .finish_non_exhaustive()
     }
 }

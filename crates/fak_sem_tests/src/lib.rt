@@ -1,9 +1,13 @@
-//! The tests of `fak_sem`, in a crate of their own, so that it is proved once: worked rows on one thread, and downs and ups at
-//! once.
+//! The tests of `fak_sem`, in a crate of their own, so that it is proved once: worked rows on one thread, each step by itself,
+//! and downs and ups at once.
 #![tactic(auto)]
 
+#[cfg(test)]
+mod bounded;
 mod rows;
 #[cfg(test)]
 mod steps;
+#[cfg(test)]
+mod stepwise;
 #[cfg(test)]
 mod threads;

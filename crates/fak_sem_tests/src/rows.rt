@@ -7,7 +7,7 @@ ghost use Rattle.fak_sem.specs.Semaphores.{IsIdleSemSeat, passed_by};
 #[cfg(test)]
 use crate::steps::{A, B, Step, close, joined, leaves_nothing, open, take, walk};
 use fak_model::laws::queue::a_queue_at_rest_counts_its_items;
-use fak_sem::{OpenFault, SemSeat, SemTally, SemWorn, Semaphore, Worn};
+use fak_sem::{OpenFault, SemSeat, SemTally, SemWorn, Semaphore, StepSeat, Worn};
 use std::alloc::Global;
 use std::process::Abort;
 use std::sync::Wait;
@@ -48,7 +48,7 @@ struct Load {
     id: u64,
 }
 
-// An up for nobody, a down that passes, three that park, and an up that wakes the oldest.
+// An up that wakes no item, a down that passes, three that park, and an up that wakes the oldest.
 #[cfg(test)]
 fn call_with_loads<R: Abort + Wait>(rt: &R, semaphore: &Semaphore<Load>, seat: &mut SemSeat<Load>)
     requires { seat.old.object ≡ semaphore.now.object }
@@ -75,11 +75,9 @@ fn items_that_nobody_woke(rt: HostRuntime) {
 
 // Why a semaphore is not opened with these.
 #[cfg(test)]
-fn refusal(alloc: Global, start: u64, size: u64, seats: u64, stint: u64) -> Option<OpenFault> {
-    match Semaphore::<u64>::open(alloc, start, size, seats, stint) {
-        Ok((_semaphore, _seats)) => None,
-        Err(fault) => Some(fault),
-    }
+fn refusal(rt: &impl Abort, alloc: Global, limits: (u64, u64, u64, u64)) -> OpenFault {
+    let (start, size, seats, stint) = limits;
+    Semaphore::<u64>::open(alloc, start, size, seats, stint).expect_err(rt, "it opened")
 }
 
 #[test]
@@ -99,7 +97,7 @@ fn the_ranges_of_an_opening(rt: HostRuntime) {
     ];
     for (start, size, seats, stint, fault) in refused {
         assert!(rt;
-            refusal(alloc, start, size, seats, stint) == Some(fault),
+            refusal(&rt, alloc, (start, size, seats, stint)) == fault,
             "{start}, {size}, {seats}, {stint}"
         );
     }
@@ -156,4 +154,24 @@ fn worn_seats_do_not_wait(rt: HostRuntime) {
         (A, Step::Up(Err(Worn))),
     ];
     walk(&rt, &semaphore, &mut seats, steps.as_slice());
+}
+
+#[test]
+fn what_debug_prints(rt: HostRuntime) {
+    let alloc = rt.alloc();
+    let (semaphore, mut seats) = open::<u64>(&rt, alloc, (3, 4, 2, 10));
+    let mut a = StepSeat::of(take(&rt, &semaphore, &mut seats));
+    assert!(rt; semaphore.claim_down(&mut a, 7) == Ok(Some(7)));
+    let text = format!(in alloc; "{semaphore:?}; {seats:?}; {a:?}").expect(&rt, "memory");
+    assert!(rt;
+        text.as_str()
+            == "Semaphore { .. }; [SemSeat { start: 3, left: 10, .. }]; StepSeat { start: 3, left: 9, state: Idle, .. }",
+        "{text}"
+    );
+    let tally = joined(&rt, &semaphore, seats);
+    let text = format!(in alloc; "{tally:?}, {:?}", SemWorn(7u64)).expect(&rt, "memory");
+    assert!(rt;
+        text.as_str() == "SemTally { start: 3, .. }, SemWorn(7)",
+        "{text}"
+    );
 }

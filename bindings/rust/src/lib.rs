@@ -1,0 +1,292 @@
+//! Seats of the proved objects of `libfak_c.a`, for plain Rust. No call waits, and none takes memory but those that open.
+//!
+//! The calls are safe, since the types keep what `fak_c.h` asks of C. A call takes `&mut self`, so a handle is in one call at a time; a
+//! handle is moved, never copied; out-pointers are locals; a seat may go to another thread (`Send`), which the crate `fak_c` proves of a
+//! handle. What is left to the program that links it: the heap, and no opening or drop of a seat in an interrupt or signal handler.
+#![no_std]
+
+mod raw;
+
+use core::mem::MaybeUninit;
+use raw::Handle;
+
+/// Why a call was not made. A refused item is not taken.
+#[derive(Clone, Copy, Debug, PartialEq, Eq)]
+pub enum Fault {
+    /// The queue had no room.
+    Full,
+    /// The queue had no item.
+    Empty,
+    /// The queue is shut.
+    Closed,
+    /// The claim did not fit beside this count of the room.
+    AtBound(i64),
+    /// Others hold the file table, or try to; this is the count that was found.
+    Busy(i64),
+    /// The seat has made all the calls of its stint.
+    Worn,
+    /// The seat is in another state than this call needs, or there is no such entry.
+    WrongState,
+    /// A number is out of range.
+    BadLimit,
+    /// There was no memory.
+    Memory,
+}
+
+/// How far a call has come.
+#[derive(Clone, Copy, Debug, PartialEq, Eq)]
+pub enum Step<T> {
+    /// It is done.
+    Done(T),
+    /// It stays open: go on with `try_fill`, `try_take`, `try_park` or `try_wake`.
+    NotYet,
+}
+
+// The fault of a code, where the call is refused.
+fn fault(code: i32) -> Fault {
+    match code {
+        raw::FULL => Fault::Full,
+        raw::EMPTY => Fault::Empty,
+        raw::CLOSED => Fault::Closed,
+        raw::WORN => Fault::Worn,
+        raw::BAD_LIMIT => Fault::BadLimit,
+        raw::MEMORY => Fault::Memory,
+        _ => Fault::WrongState,
+    }
+}
+
+fn made<T>(code: i32, value: T) -> Result<T, Fault> {
+    if code == raw::OK {
+        Ok(value)
+    } else {
+        Err(fault(code))
+    }
+}
+
+fn step<T>(code: i32, value: T) -> Result<Step<T>, Fault> {
+    match code {
+        raw::OK => Ok(Step::Done(value)),
+        raw::NOT_YET | raw::PARKS | raw::WAKES => Ok(Step::NotYet),
+        _ => Err(fault(code)),
+    }
+}
+
+// N handles, filled by `open`.
+fn opened<const N: usize>(open: impl FnOnce(*mut Handle) -> i32) -> Result<[Handle; N], Fault> {
+    let mut seats: MaybeUninit<[Handle; N]> = MaybeUninit::uninit();
+    let first = seats.as_mut_ptr().cast::<Handle>();
+    for i in 0..N {
+        // SAFETY: the place lies in the array.
+        unsafe { first.add(i).write(Handle::EMPTY) };
+    }
+    // SAFETY: all N places were written.
+    made(open(first), ()).map(|()| unsafe { seats.assume_init() })
+}
+
+macro_rules! seats {
+    ($($(#[$doc:meta])* $name:ident;)*) => {$(
+        $(#[$doc])*
+        ///
+        /// Dropped, it is given up. In mid-call, or while it holds something, that can't be: then its object is never freed.
+        pub struct $name(Handle);
+
+        // SAFETY: `fak_c` proves that a handle may go to another thread.
+        unsafe impl Send for $name {}
+
+        impl Drop for $name {
+            fn drop(&mut self) {
+                // SAFETY: a handle of its own; a refused call changes nothing.
+                unsafe { raw::fak_c_leave(&mut self.0) };
+            }
+        }
+    )*};
+}
+
+seats! {
+    /// A seat of a bounded queue of numbers, first in first out.
+    Seat;
+    /// A seat of a semaphore whose waiting items are numbers.
+    SemSeat;
+    /// A seat of a room: a count from 0 to a bound, of which seats claim amounts.
+    RoomSeat;
+    /// A seat of a credit: a count that moves by 1.
+    CreditSeat;
+    /// A seat of a file table, whose entries many seats read at once, or one seat writes.
+    FileSeat;
+}
+
+// SAFETY of the calls below: each handle is the seat's own, and out-pointers are locals that were written.
+
+impl Seat {
+    /// A queue of `size` cells, 1 to 4,096, as its N seats, 1 to 64, each of which may make `stint` calls.
+    pub fn open<const N: usize>(size: u64, stint: u64) -> Result<[Seat; N], Fault> {
+        opened::<N>(|seats| unsafe { raw::fak_c_open(seats, N, size, stint) }).map(|all| all.map(Seat))
+    }
+
+    /// A claim of room and one try: the ticket. Where it stays open, the seat keeps the item.
+    pub fn insert(&mut self, item: u64) -> Result<Step<u64>, Fault> {
+        let mut ticket = 0;
+        let code = unsafe { raw::fak_c_insert(&mut self.0, item, &mut ticket) };
+        step(code, ticket)
+    }
+
+    /// One try more of an insertion.
+    pub fn try_fill(&mut self) -> Result<Step<()>, Fault> {
+        step(unsafe { raw::fak_c_try_fill(&mut self.0) }, ())
+    }
+
+    /// A claim of an item and one try: the item.
+    pub fn delete(&mut self) -> Result<Step<u64>, Fault> {
+        let (mut ticket, mut item) = (0, 0);
+        let code = unsafe { raw::fak_c_delete(&mut self.0, &mut ticket, &mut item) };
+        step(code, item)
+    }
+
+    /// One try more of a deletion.
+    pub fn try_take(&mut self) -> Result<Step<u64>, Fault> {
+        let mut item = 0;
+        let code = unsafe { raw::fak_c_try_take(&mut self.0, &mut item) };
+        step(code, item)
+    }
+
+    /// Shuts the queue, and tells whether it was open.
+    pub fn shut(&mut self) -> Result<bool, Fault> {
+        let mut was_open = false;
+        let code = unsafe { raw::fak_c_shut(&mut self.0, &mut was_open) };
+        made(code, was_open)
+    }
+}
+
+impl SemSeat {
+    /// A semaphore that begins at `start`, 0 to 2^32, with a wait queue of `size` cells, as its N seats.
+    pub fn open<const N: usize>(start: u64, size: u64, stint: u64) -> Result<[SemSeat; N], Fault> {
+        opened::<N>(|seats| unsafe { raw::fak_c_sem_open(seats, N, start, size, stint) }).map(|all| all.map(SemSeat))
+    }
+
+    /// A down of the item: `Done` where it passes, `NotYet` where `try_park` is next.
+    pub fn down(&mut self, item: u64) -> Result<Step<()>, Fault> {
+        step(unsafe { raw::fak_c_sem_claim_down(&mut self.0, item) }, ())
+    }
+
+    /// One step more of a down: `Done` where the item is parked.
+    pub fn try_park(&mut self) -> Result<Step<()>, Fault> {
+        step(unsafe { raw::fak_c_sem_try_park(&mut self.0) }, ())
+    }
+
+    /// An up: `Done` where it wakes no item, `NotYet` where `try_wake` is next.
+    pub fn up(&mut self) -> Result<Step<()>, Fault> {
+        step(unsafe { raw::fak_c_sem_claim_up(&mut self.0) }, ())
+    }
+
+    /// One step more of an up: the woken item.
+    pub fn try_wake(&mut self) -> Result<Step<u64>, Fault> {
+        let mut item = 0;
+        let code = unsafe { raw::fak_c_sem_try_wake(&mut self.0, &mut item) };
+        step(code, item)
+    }
+}
+
+impl RoomSeat {
+    /// A room whose count is 0, with this bound, 0 to 2^32, as its N seats.
+    pub fn open<const N: usize>(bound: u64, stint: u64) -> Result<[RoomSeat; N], Fault> {
+        opened::<N>(|seats| unsafe { raw::fak_c_room_open(seats, N, bound, stint) }).map(|all| all.map(RoomSeat))
+    }
+
+    /// Claims the amount, 1 to 1,024: the count that it found.
+    pub fn claim(&mut self, amount: u64) -> Result<i64, Fault> {
+        let mut found = 0;
+        match unsafe { raw::fak_c_room_tir(&mut self.0, amount, &mut found) } {
+            raw::FULL => Err(Fault::AtBound(found)),
+            code => made(code, found),
+        }
+    }
+
+    /// Gives the amount back, no more than the seat holds: the count before.
+    pub fn release(&mut self, amount: u64) -> Result<i64, Fault> {
+        let mut found = 0;
+        let code = unsafe { raw::fak_c_room_release(&mut self.0, amount, &mut found) };
+        made(code, found)
+    }
+
+    /// How much the seat holds.
+    pub fn held(&mut self) -> u64 {
+        let (mut held, mut left) = (0, 0);
+        unsafe { raw::fak_c_room_state(&mut self.0, &mut held, &mut left) };
+        held
+    }
+}
+
+impl CreditSeat {
+    /// A credit that begins at `start`, 0 to 2^32, as its N seats.
+    pub fn open<const N: usize>(start: u64, stint: u64) -> Result<[CreditSeat; N], Fault> {
+        opened::<N>(|seats| unsafe { raw::fak_c_credit_open(seats, N, start, stint) }).map(|all| all.map(CreditSeat))
+    }
+
+    /// Subtracts 1: the count before.
+    pub fn debit(&mut self) -> Result<i64, Fault> {
+        let mut found = 0;
+        let code = unsafe { raw::fak_c_credit_debit(&mut self.0, &mut found) };
+        made(code, found)
+    }
+
+    /// Adds 1: the count before.
+    pub fn credit(&mut self) -> Result<i64, Fault> {
+        let mut found = 0;
+        let code = unsafe { raw::fak_c_credit_credit(&mut self.0, &mut found) };
+        made(code, found)
+    }
+
+    /// The count.
+    pub fn value(&mut self) -> i64 {
+        let (mut value, mut left) = (0, 0);
+        unsafe { raw::fak_c_credit_value(&mut self.0, &mut value, &mut left) };
+        value
+    }
+}
+
+impl FileSeat {
+    /// A table of this many entries, 1 to 16, as its N seats.
+    pub fn open<const N: usize>(entries: u64, stint: u64) -> Result<[FileSeat; N], Fault> {
+        opened::<N>(|seats| unsafe { raw::fak_c_files_open(seats, N, entries, stint) }).map(|all| all.map(FileSeat))
+    }
+
+    /// A reader's hold.
+    pub fn try_read(&mut self) -> Result<(), Fault> {
+        let mut count = 0;
+        match unsafe { raw::fak_c_files_try_read(&mut self.0, &mut count) } {
+            raw::BUSY => Err(Fault::Busy(count)),
+            code => made(code, ()),
+        }
+    }
+
+    /// A writer's hold.
+    pub fn try_write(&mut self) -> Result<(), Fault> {
+        let mut count = 0;
+        match unsafe { raw::fak_c_files_try_write(&mut self.0, &mut count) } {
+            raw::BUSY => Err(Fault::Busy(count)),
+            code => made(code, ()),
+        }
+    }
+
+    /// Both fields of an entry, `inode` and `uses`, in a hold.
+    pub fn get(&mut self, entry: u64) -> Result<(u64, u64), Fault> {
+        let (mut inode, mut uses) = (0, 0);
+        let code = unsafe { raw::fak_c_files_get(&mut self.0, entry, &mut inode, &mut uses) };
+        made(code, (inode, uses))
+    }
+
+    /// Sets the inode of an entry, in a writer's hold.
+    pub fn set_inode(&mut self, entry: u64, to: u64) -> Result<(), Fault> {
+        made(unsafe { raw::fak_c_files_set_inode(&mut self.0, entry, to) }, ())
+    }
+
+    /// Sets the uses of an entry, in a writer's hold.
+    pub fn set_uses(&mut self, entry: u64, to: u64) -> Result<(), Fault> {
+        made(unsafe { raw::fak_c_files_set_uses(&mut self.0, entry, to) }, ())
+    }
+
+    /// Gives the hold back.
+    pub fn end(&mut self) -> Result<(), Fault> {
+        made(unsafe { raw::fak_c_files_end(&mut self.0) }, ())
+    }
+}

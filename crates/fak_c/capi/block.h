@@ -1,0 +1,38 @@
+/* Memory of the caller in place of a heap, for objects that are opened before there is one: link block.c in place of the toolchain's
+ * liblibc_c.a and of malloc. It is C, and tested, not proved.
+ *
+ * Between fak_c_block_begin and fak_c_block_end all that the opening calls take lies in the caller's block; a block may have several
+ * objects. The block is the caller's again when fak_c_block_is_free: when the last seat of each of its objects has left. One
+ * thread opens at a time; seats may leave on any. */
+#ifndef FAK_C_BLOCK_H
+#define FAK_C_BLOCK_H
+
+#include <stdbool.h>
+#include <stddef.h>
+#include <stdint.h>
+
+#ifdef __cplusplus
+extern "C" {
+#endif
+
+/* How many bytes a block needs for one object with n seats: a queue, or a semaphore, with `size` cells; a room or a credit; a file
+ * table. Align the block to 16. The test of block.c opens each at these sizes. */
+#define FAK_C_QUEUE_BYTES(n, size) (1920 + 432 * (size_t)(n) + 48 * (size_t)(size))
+#define FAK_C_SEM_BYTES(n, size) (2368 + 608 * (size_t)(n) + 48 * (size_t)(size))
+#define FAK_C_COUNT_BYTES(n) (512 + 360 * (size_t)(n))
+#define FAK_C_FILES_BYTES(n) (1088 + 360 * (size_t)(n))
+
+/* What is opened from now on lies in this block, of at least 64 bytes. */
+void fak_c_block_begin(void *block, size_t bytes);
+
+/* How many bytes of the block are used. Until the next beginning there is no memory. */
+size_t fak_c_block_end(void);
+
+/* Whether nothing in the block is in use. */
+bool fak_c_block_is_free(const void *block);
+
+#ifdef __cplusplus
+}
+#endif
+
+#endif

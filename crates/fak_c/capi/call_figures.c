@@ -1,0 +1,76 @@
+/* Prints what each pair of calls costs in nanoseconds, by one thread with nobody beside it: the best of several runs. */
+#include "tests.h"
+
+#include <time.h>
+
+enum { SEATS = 1, RUNS = 200, TURNS = 20000 };
+
+static fak_c_seat seats[SEATS];
+
+static double nanoseconds(void) {
+    struct timespec now;
+    clock_gettime(CLOCK_MONOTONIC, &now);
+    return (double)now.tv_sec * 1e9 + (double)now.tv_nsec;
+}
+
+static void claim_and_try(void) {
+    uint64_t ticket = 0, item = 0;
+    CHECK(fak_c_claim_insert(seats, 1, &ticket) == FAK_C_OK && fak_c_try_fill(seats) == FAK_C_OK);
+    CHECK(fak_c_claim_delete(seats, &ticket) == FAK_C_OK && fak_c_try_take(seats, &item) == FAK_C_OK);
+}
+
+static void insert_and_delete(void) {
+    uint64_t ticket = 0, item = 0;
+    CHECK(fak_c_insert(seats, 1, &ticket) == FAK_C_OK && fak_c_delete(seats, &ticket, &item) == FAK_C_OK);
+}
+
+static void pass_and_raise(void) {
+    CHECK(fak_c_sem_claim_down(seats, 1) == FAK_C_OK && fak_c_sem_claim_up(seats) == FAK_C_OK);
+}
+
+static void park_and_wake(void) {
+    uint64_t item = 0;
+    CHECK(fak_c_sem_claim_down(seats, 1) == FAK_C_PARKS && fak_c_sem_try_park(seats) == FAK_C_OK);
+    CHECK(fak_c_sem_claim_up(seats) == FAK_C_WAKES && fak_c_sem_try_wake(seats, &item) == FAK_C_OK);
+}
+
+static void claim_and_release(void) {
+    int64_t found = 0;
+    CHECK(fak_c_room_tir(seats, 1, &found) == FAK_C_OK && fak_c_room_release(seats, 1, &found) == FAK_C_OK);
+}
+
+static void debit_and_credit(void) {
+    int64_t found = 0;
+    CHECK(fak_c_credit_debit(seats, &found) == FAK_C_OK && fak_c_credit_credit(seats, &found) == FAK_C_OK);
+}
+
+static void read_and_end(void) {
+    int64_t count = 0;
+    CHECK(fak_c_files_try_read(seats, &count) == FAK_C_OK && fak_c_files_end(seats) == FAK_C_OK);
+}
+
+/* Prints the best time of one turn, and gives the seat up. */
+static void measure(const char *name, int32_t opened, void (*turn)(void)) {
+    double best = 0;
+    CHECK(opened == FAK_C_OK);
+    for (int run = 0; run < RUNS; run++) {
+        double start = nanoseconds(), each;
+        for (int i = 0; i < TURNS; i++)
+            turn();
+        each = (nanoseconds() - start) / TURNS;
+        best = run == 0 || each < best ? each : best;
+    }
+    printf("%-48s %6.1f\n", name, best);
+    CHECK(fak_c_leave(seats) == FAK_C_OK);
+}
+
+int main(void) {
+    measure("claim_insert, try_fill, claim_delete, try_take", fak_c_open(seats, SEATS, 1024, LONG_STINT), claim_and_try);
+    measure("insert, delete", fak_c_open(seats, SEATS, 1024, LONG_STINT), insert_and_delete);
+    measure("a down that passes, an up that wakes nobody", fak_c_sem_open(seats, SEATS, 1, 64, LONG_STINT), pass_and_raise);
+    measure("a down that parks, an up that wakes", fak_c_sem_open(seats, SEATS, 0, 64, LONG_STINT), park_and_wake);
+    measure("room_tir, room_release", fak_c_room_open(seats, SEATS, 8, LONG_STINT), claim_and_release);
+    measure("credit_debit, credit_credit", fak_c_credit_open(seats, SEATS, 8, LONG_STINT), debit_and_credit);
+    measure("files_try_read, files_end", fak_c_files_open(seats, SEATS, 2, LONG_STINT), read_and_end);
+    return 0;
+}

@@ -1,0 +1,154 @@
+//! The exported calls of seats of queues.
+
+ghost use Rattle.std.specs.Prelude.{◌≡◌};
+ghost use Rattle.fak_c.specs.Answers.{Deletes, DeletesOnce, Inserts, InsertsOnce, Looks, SameQueue, Shuts, TriesToFill, TriesToTake};
+ghost use Rattle.fak_c.specs.Calls.{Called};
+ghost use Rattle.fak_c.specs.Kinds.{Spares, queue_in};
+
+use crate::code::NO_SEAT;
+use crate::place::Place;
+use std::alloc::Global;
+
+/// Claims room for the item, and writes its ticket. `fak_c_try_fill` then moves the item in.
+///
+/// `OK`, `WORN`, `CLOSED`, `FULL`, `NO_SEAT` or `WRONG_STATE`.
+#[unsafe(no_mangle)]
+pub extern "C" fn fak_c_claim_insert(
+    alloc: Global,
+    seat: &mut Place,
+    item: u64,
+    ticket: &mut u64,
+) -> i32
+    ensures call { Called result (ticket.new ≡ ticket.old) SameQueue (Inserts result item ticket.old ticket.new) (queue_in seat.old.handle.desk) (queue_in seat.new.handle.desk) }
+    ensures spares { Spares queue_in seat.old.handle.desk seat.new.handle.desk }
+{
+    let Some(mut desk) = seat.take(alloc) else {
+        return NO_SEAT;
+    };
+    let code = desk.claim_insert(item, ticket);
+    seat.put(desk);
+    code
+}
+
+/// Moves the item of a claimed insertion into its cell, where it is the cell's turn.
+///
+/// `OK`, `NOT_YET`, `NO_SEAT` or `WRONG_STATE`.
+#[unsafe(no_mangle)]
+pub extern "C" fn fak_c_try_fill(alloc: Global, seat: &mut Place) -> i32
+    ensures call { Called result Unit SameQueue (TriesToFill result) (queue_in seat.old.handle.desk) (queue_in seat.new.handle.desk) }
+    ensures spares { Spares queue_in seat.old.handle.desk seat.new.handle.desk }
+{
+    let Some(mut desk) = seat.take(alloc) else {
+        return NO_SEAT;
+    };
+    let code = desk.try_fill();
+    seat.put(desk);
+    code
+}
+
+/// Claims an item, and writes its ticket. `fak_c_try_take` then hands the item out.
+///
+/// `OK`, `WORN`, `EMPTY`, `NO_SEAT` or `WRONG_STATE`.
+#[unsafe(no_mangle)]
+pub extern "C" fn fak_c_claim_delete(alloc: Global, seat: &mut Place, ticket: &mut u64) -> i32
+    ensures call { Called result (ticket.new ≡ ticket.old) SameQueue (Deletes result ticket.old ticket.new) (queue_in seat.old.handle.desk) (queue_in seat.new.handle.desk) }
+    ensures spares { Spares queue_in seat.old.handle.desk seat.new.handle.desk }
+{
+    let Some(mut desk) = seat.take(alloc) else {
+        return NO_SEAT;
+    };
+    let code = desk.claim_delete(ticket);
+    seat.put(desk);
+    code
+}
+
+/// Moves the item of a claimed deletion out of its cell, where it is the cell's turn.
+///
+/// `OK`, `NOT_YET`, `NO_SEAT` or `WRONG_STATE`.
+#[unsafe(no_mangle)]
+pub extern "C" fn fak_c_try_take(alloc: Global, seat: &mut Place, item: &mut u64) -> i32
+    ensures call { Called result (item.new ≡ item.old) SameQueue (TriesToTake result item.old item.new) (queue_in seat.old.handle.desk) (queue_in seat.new.handle.desk) }
+    ensures spares { Spares queue_in seat.old.handle.desk seat.new.handle.desk }
+{
+    let Some(mut desk) = seat.take(alloc) else {
+        return NO_SEAT;
+    };
+    let code = desk.try_take(item);
+    seat.put(desk);
+    code
+}
+
+/// Claims room for the item, writes its ticket, and tries once to move the item in.
+///
+/// `OK`, `NOT_YET` where the claim is kept for `fak_c_try_fill`, `WORN`, `CLOSED`, `FULL`, `NO_SEAT` or `WRONG_STATE`.
+#[unsafe(no_mangle)]
+pub extern "C" fn fak_c_insert(alloc: Global, seat: &mut Place, item: u64, ticket: &mut u64) -> i32
+    ensures call { Called result (ticket.new ≡ ticket.old) SameQueue (InsertsOnce result item ticket.old ticket.new) (queue_in seat.old.handle.desk) (queue_in seat.new.handle.desk) }
+    ensures spares { Spares queue_in seat.old.handle.desk seat.new.handle.desk }
+{
+    let Some(mut desk) = seat.take(alloc) else {
+        return NO_SEAT;
+    };
+    let code = desk.insert(item, ticket);
+    seat.put(desk);
+    code
+}
+
+/// Claims an item, writes its ticket, and tries once to hand the item out.
+///
+/// `OK`, `NOT_YET` where the claim is kept for `fak_c_try_take`, `WORN`, `EMPTY`, `NO_SEAT` or `WRONG_STATE`.
+#[unsafe(no_mangle)]
+pub extern "C" fn fak_c_delete(
+    alloc: Global,
+    seat: &mut Place,
+    ticket: &mut u64,
+    item: &mut u64,
+) -> i32
+    ensures call { Called result ((ticket.new ≡ ticket.old) × (item.new ≡ item.old)) SameQueue (DeletesOnce result ticket.old ticket.new item.old item.new) (queue_in seat.old.handle.desk) (queue_in seat.new.handle.desk) }
+    ensures spares { Spares queue_in seat.old.handle.desk seat.new.handle.desk }
+{
+    let Some(mut desk) = seat.take(alloc) else {
+        return NO_SEAT;
+    };
+    let code = desk.delete(ticket, item);
+    seat.put(desk);
+    code
+}
+
+/// Shuts the queue: insertions are refused from now on. Writes whether it was open before.
+///
+/// `OK`, `NO_SEAT` or `WRONG_STATE`.
+#[unsafe(no_mangle)]
+pub extern "C" fn fak_c_shut(alloc: Global, seat: &mut Place, was_open: &mut bool) -> i32
+    ensures call { Called result (was_open.new ≡ was_open.old) SameQueue (Shuts result was_open.old was_open.new) (queue_in seat.old.handle.desk) (queue_in seat.new.handle.desk) }
+    ensures spares { Spares queue_in seat.old.handle.desk seat.new.handle.desk }
+{
+    let Some(mut desk) = seat.take(alloc) else {
+        return NO_SEAT;
+    };
+    let code = desk.shut(was_open);
+    seat.put(desk);
+    code
+}
+
+/// Writes the state of the seat, 0 idle, 1 inserting, 2 deleting, with the ticket of the open call, and how many tickets are left.
+///
+/// `OK` or `NO_SEAT`.
+#[unsafe(no_mangle)]
+pub extern "C" fn fak_c_state(
+    alloc: Global,
+    seat: &mut Place,
+    state: &mut u32,
+    ticket: &mut u64,
+    left: &mut u64,
+) -> i32
+    ensures call { Called result ((state.new ≡ state.old) × (ticket.new ≡ ticket.old) × (left.new ≡ left.old)) SameQueue (Looks result state.new ticket.old ticket.new left.new) (queue_in seat.old.handle.desk) (queue_in seat.new.handle.desk) }
+    ensures spares { Spares queue_in seat.old.handle.desk seat.new.handle.desk }
+{
+    let Some(mut desk) = seat.take(alloc) else {
+        return NO_SEAT;
+    };
+    let code = desk.state(state, ticket, left);
+    seat.put(desk);
+    code
+}

@@ -1,0 +1,40 @@
+use Rattle.std.proofs.Common.{refl, sym, ◌∙◌}
+use Rattle.fak_sem.proofs.StepCalls.{at_standing, tickets_left, seat_claimed_out, seat_taken, seat_waits_out, wakes_claim, wakes_look, wakes_whole}
+use Rattle.fak_sem.proofs.semaphore.Semaphore.try_wake.Goals as goal
+
+pub claim_item-requires-clause-left : goal.claim_item-requires-clause-left
+claim_item-requires-clause-left g c =
+    let e = sym c.replace.ensures.value ∙ c.in-Waking.is in
+    tickets_left (at_standing e c.seat.invariant) refl
+
+pub invariant_of-seat : goal.invariant_of-seat
+invariant_of-seat g c = let e = sym c.replace.ensures.value ∙ c.in-Waking.is in seat_claimed_out c.self.inside.queue.size c.claim_item.new.seat (at_standing e c.seat.invariant) c.claim_item.result c.claim_item.ensures.call
+
+pub returns-in-Waking-clause-call : goal.returns-in-Waking-clause-call
+returns-in-Waking-clause-call g c =
+    let e = sym c.replace.ensures.value ∙ c.in-Waking.is in
+    wakes_claim c.seat.invariant c.self.view_is c.seat.view_is e (invariant_of-seat g c) c.claim_item.ensures.call
+
+pub invariant_of-seat-in-Some : goal.invariant_of-seat-in-Some
+invariant_of-seat-in-Some g c =
+    let e = sym c.replace.ensures.value ∙ c.in-Deleting.is in
+    let s = at_standing e c.seat.invariant in
+    at_standing (sym c.replace.ensures.after) (seat_taken s (c.in-Some.ensures.call s.stands.0 s.stands.1).1 c.in-Some.ensures.state)
+
+pub returns-in-Some-clause-call : goal.returns-in-Some-clause-call
+returns-in-Some-clause-call g c =
+    let e = sym c.replace.ensures.value ∙ c.in-Deleting.is in
+    let s = at_standing e c.seat.invariant in
+    wakes_whole c.seat.invariant c.self.view_is c.seat.view_is e (seat_taken s (c.in-Some.ensures.call s.stands.0 s.stands.1).1 c.in-Some.ensures.state) c.in-Some.ensures.call
+
+pub returns-in-None-clause-call : goal.returns-in-None-clause-call
+returns-in-None-clause-call g c =
+    let e = sym c.replace.ensures.value ∙ c.in-Deleting.is in
+    let s = at_standing e c.seat.invariant in
+    wakes_look c.seat.invariant c.self.view_is c.seat.view_is e (seat_waits_out s s.stands.1 (c.in-None.ensures.call s.stands.0 s.stands.1) c.in-None.ensures.state) c.in-None.ensures.state c.in-None.ensures.call
+
+pub invariant_of-seat-in-None : goal.invariant_of-seat-in-None
+invariant_of-seat-in-None g c =
+    let e = sym c.replace.ensures.value ∙ c.in-Deleting.is in
+    let s = at_standing e c.seat.invariant in
+    seat_waits_out s s.stands.1 (c.in-None.ensures.call s.stands.0 s.stands.1) c.in-None.ensures.state

@@ -1,0 +1,43 @@
+//! One claim in the wait queue, within a seat's stint.
+
+ghost use Rattle.std.specs.Prelude.{◌≡◌, ◌<◌};
+ghost use Rattle.fak_queue.specs.declared.state.SeatState.TheVariants.{Idle};
+ghost use Rattle.fak_queue.specs.Queues.{drawn_by, state_of};
+ghost use Rattle.fak_sem.specs.Standings.{IsParking, IsWaking};
+ghost use Rattle.fak_sem.specs.Steps.{ClaimsItem, ClaimsRoom};
+
+use crate::standing::Standing;
+use fak_queue::{DeleteFault, InsertFault, Queue, Seat};
+
+// One claim of room for the item; where the queue is full or shut the item is to be claimed for again.
+pub(crate) fn claim_room<T: Drop>(queue: &Queue<T>, seat: &mut Seat<T>, item: T) -> Standing<T>
+    requires object { seat.old.object ≡ queue.now.object }
+    requires idle { state_of seat.old ≡ Idle }
+    requires left { drawn_by seat.old < seat.old.stint }
+    ensures object { seat.new.object ≡ seat.old.object }
+    ensures stands { IsParking result }
+    ensures call { ClaimsRoom queue.now.size item seat.old seat.new result }
+{
+    match queue.claim_insert(seat, item) {
+        Ok(_) => Standing::Inserting,
+        Err(InsertFault::Worn { item: _ }) => unreachable!(),
+        Err(InsertFault::Closed { item }) => Standing::Parking(item),
+        Err(InsertFault::Full { upper: _, item }) => Standing::Parking(item),
+    }
+}
+
+// One claim of an item; where the queue is empty it is to be claimed again.
+pub(crate) fn claim_item<T: Drop>(queue: &Queue<T>, seat: &mut Seat<T>) -> Standing<T>
+    requires object { seat.old.object ≡ queue.now.object }
+    requires idle { state_of seat.old ≡ Idle }
+    requires left { drawn_by seat.old < seat.old.stint }
+    ensures object { seat.new.object ≡ seat.old.object }
+    ensures stands { IsWaking result }
+    ensures call { ClaimsItem queue.now.size seat.old seat.new result }
+{
+    match queue.claim_delete(seat) {
+        Ok(_) => Standing::Deleting,
+        Err(DeleteFault::Worn) => unreachable!(),
+        Err(DeleteFault::Empty(_)) => Standing::Waking,
+    }
+}

@@ -1,0 +1,80 @@
+/* A small kernel whose lists and semaphores are the library's. It boots on 1 to 8 processors, runs 64 threads, and says what each
+ * processor did. README.md tells where to begin reading. */
+#include "kernel.h"
+
+static uint32_t in_use; /* processors */
+static _Atomic uint32_t started, stopped;
+static _Atomic bool opened;
+
+/* How many pages are free, each once. */
+static uint64_t free_page_count(void) {
+    bool seen[PAGES] = {false};
+    uint64_t count = 0;
+    for (unsigned char *page; (page = get(&free_pages[0])) != NULL;) {
+        size_t i = (size_t)(page - page_frames[0]) / PAGE;
+        if (i >= PAGES || seen[i])
+            fail("a page that is none, or is free twice:", i);
+        seen[i] = true;
+        count++;
+    }
+    return count;
+}
+
+/* Takes each semaphore's tokens: there are as many as at the start. */
+static void tokens_are_back(void) {
+    for (int i = 0; i < SEMAPHORES; i++)
+        for (int token = 0; token < TOKENS; token++)
+            must(fak_c_sem_claim_down(&ring[i][0], 0), "a token is lost");
+}
+
+static void say_what_was_done(uint32_t number) {
+    const processor_state *s = &processor_states[number];
+    say("processor %u: ran %u, yields %u, parks %u, sleeps %u, ended %u, no page %u, idle %u, not yet %u;", (uint64_t)number, s->ran,
+        s->yields, s->parks, s->sleeps, s->ended, s->no_page, s->idle, s->not_yet);
+    say(" ticks %u, in the library %u, raised %u, woke %u, not yet %u\n", s->ticks, s->in_library, s->raised, s->woken, s->late);
+}
+
+/* Prints what was done, once all processors have stopped, and ends the machine. */
+static _Noreturn void report(void) {
+    uint64_t ended = 0, pages = free_page_count();
+    for (uint32_t i = 0; i < in_use; i++) {
+        ended += processor_states[i].ended;
+        say_what_was_done(i);
+    }
+    if (get(&ready.threads[0]) != NULL || get(&sleeping.threads[0]) != NULL)
+        fail("a thread that was left", 0);
+    tokens_are_back();
+    leave_objects(in_use);
+    say("all %u threads ended, pages %u of %u free\n", ended, pages, (uint64_t)PAGES);
+    leave(ended == THREADS && pages == PAGES);
+}
+
+/* Each processor begins here, on a stack of its own, with interrupts off. The first opens all objects and starts the others. */
+void enter(uint32_t number) {
+    set_up(number);
+    if (number == 0) {
+        in_use = processors();
+        if (in_use > PROCESSORS)
+            fail("too many processors:", in_use);
+        open_objects(in_use);
+        make_threads();
+        atomic_store(&opened, true);
+        start_others();
+    }
+    atomic_fetch_add(&started, 1);
+    while (!atomic_load(&opened) || atomic_load(&started) < in_use)
+        pause();
+    timer_on(TICK_NS);
+    interrupts_on();
+    run_threads(number);
+    timer_off();
+    interrupts_off();
+    atomic_fetch_add(&stopped, 1);
+    if (number == 0) {
+        while (atomic_load(&stopped) < in_use)
+            pause();
+        report();
+    }
+    for (;;)
+        halt();
+}

@@ -1,0 +1,119 @@
+/* What the parts of the kernel share. */
+#ifndef KERNEL_H
+#define KERNEL_H
+
+#include "fak_c.h"
+#include "machine.h"
+
+enum {
+    THREADS = 64,
+    ROUNDS = 500,     /* of each thread's work */
+    PAGES = 24,
+    PAGE = 4096,
+    SEMAPHORES = 16,  /* in the ring of the workload */
+    TOKENS = 2,       /* of each semaphore of the ring */
+    STACK = 8192,
+    TICK_NS = 250000,
+    MOST_WOKEN = 8    /* threads that one tick makes ready, at most */
+};
+
+/* ---- Objects (objects.c): each is its seats. ---- */
+
+/* A processor has a seat of each object, which the thread that runs on it uses. The second half of a list, and of the alarm, are the
+ * seats of the processors' timer handlers. */
+typedef struct {
+    fak_c_seat threads[PROCESSORS];
+    fak_c_seat handlers[PROCESSORS];
+} shared_object;
+
+extern shared_object ready, sleeping, alarm_clock;
+extern fak_c_seat free_pages[PROCESSORS];
+extern fak_c_seat ring[SEMAPHORES][PROCESSORS];
+extern unsigned char page_frames[PAGES][PAGE];
+
+void open_objects(uint32_t processors);
+void leave_objects(uint32_t processors);
+
+/* ---- Threads (threads.c) ---- */
+
+enum wish { YIELDS, SLEEPS, PARKS, ENDS };
+
+typedef struct thread {
+    void *stack_at;
+    enum wish wish;       /* what becomes of it once its stack was left */
+    fak_c_seat *parks_in; /* with PARKS: the processor's seat of the semaphore, in mid-call */
+    uint64_t number;
+    unsigned char stack[STACK] __attribute__((aligned(16)));
+} thread;
+
+void make_threads(void);
+bool threads_live(void);
+void stop(thread *me, enum wish wish);
+void run_threads(uint32_t number);
+
+/* ---- What each processor counts, and its handler's open call. ---- */
+
+typedef struct {
+    void *stack_at; /* of the processor itself, while a thread runs */
+    thread *runs;
+    uint64_t ran, yields, parks, sleeps, ended, idle; /* threads.c */
+    uint64_t no_page, not_yet;                        /* work.c, lists.c and semaphores.c */
+    uint64_t ticks, in_library, woken, raised, late;  /* timer.c */
+} processor_state;
+
+extern processor_state processor_states[PROCESSORS];
+static inline processor_state *this_processor(void) { return &processor_states[processor()]; }
+
+/* ---- Lists (lists.c): a queue of pointers that has room for all there is. ---- */
+
+void put(fak_c_seat *seat, void *item);
+void *get(fak_c_seat *seat); /* NULL where there is none */
+
+/* ---- Semaphores (semaphores.c) ---- */
+
+void down(fak_c_seat *of_processors, thread *me);
+void park(thread *stopped);
+void up(fak_c_seat *of_processors);
+
+/* ---- The timer (timer.c) ---- */
+
+void ask_for_alarm(void); /* some tick raises the alarm once */
+
+/* ---- Work (work.c): the threads' program. ---- */
+
+void work(thread *me);
+
+/* ---- The two ways of interrupts ----
+ *
+ * Open: interrupts stay on in every call. The timer's handler has seats of its own, and never waits.
+ * SHIELDED: interrupts are off from each claim to the end of its call. The handler may use its processor's seats, and wait.
+ *
+ * The ways that fail, to show that the rules are needed: SAME_SEAT, the handler of the open way uses its processor's seats;
+ * HANDLER_WAITS, it waits. */
+#ifdef SHIELDED
+static inline uint64_t shield(void) { return flags_off(); }
+static inline void unshield(uint64_t flags) { flags_back(flags); }
+#define SAME_SEAT
+#define HANDLER_WAITS
+#else
+static inline uint64_t shield(void) { return 0; }
+static inline void unshield(uint64_t flags) { (void)flags; }
+#endif
+
+/* Between a claim and its end. GAP makes some of these moments long, so that interrupts come in them. */
+static inline void gap(void) {
+#ifdef GAP
+    static _Atomic unsigned calls;
+    if (atomic_fetch_add(&calls, 1) % 64 == 0)
+        for (int i = 0; i < GAP; i++)
+            __asm__ volatile("");
+#endif
+}
+
+/* Stops the machine where a call was refused that can't be. */
+static inline void must(int32_t answer, const char *what) {
+    if (answer != FAK_C_OK)
+        fail(what, (uint64_t)answer);
+}
+
+#endif

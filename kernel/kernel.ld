@@ -1,0 +1,17 @@
+/* One image from 1 MB on. The library's code is in one piece, so that the timer can tell whether it interrupted it. */
+ENTRY(start)
+SECTIONS
+{
+    . = 1M;
+    .boot : { *(.boot) }
+    .text : {
+        library_start = .;
+        *libfak_c.a:*(.text .text.*)
+        library_end = .;
+        *(.text .text.*)
+    }
+    .rodata : { *(.rodata .rodata.*) }
+    .data : { *(.data .data.*) }
+    .bss : { *(.bss .bss.*) *(COMMON) }
+    /DISCARD/ : { *(.comment) *(.note*) *(.eh_frame*) *(.debug_frame*) *(.llvm_addrsig) }
+}
