@@ -48,7 +48,7 @@ fn use_one<R: Wait>(rt: &R, free: &Queue<Frame>, seat: &mut Seat<Frame>) -> bool
     }
 }
 
-/// A processor, which uses a frame so many times. Tells whether all were taken back.
+/// A processor, which uses a frame this many times. Tells whether all were taken back.
 fn churn<R: Wait>(
     rt: &R,
     free: &Queue<Frame>,
@@ -106,7 +106,7 @@ fn close(free: Queue<Frame>, a: Seat<Frame>, b: Seat<Frame>, frames: u64) -> Opt
     Some(free.close(tally))
 }
 
-/// Two processors that each take a frame and give it back so many times, on a machine with so many frames. Answers the
+/// Two processors that each take a frame and give it back this many times, on a machine with this many frames. Answers the
 /// free list at the end, which has each frame once.
 ///
 /// None where there was no memory, or a frame was refused.

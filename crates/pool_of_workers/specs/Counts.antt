@@ -28,21 +28,21 @@ put_in t = count (put_of leaps) (mine seat_of t.names t.seen)
 abbrev pub got_in : TallyInfo (Mark Work) → ℕ
 got_in t = count (got_of leaps) (mine seat_of t.names t.seen)
 
--- a call of the seat that put and got so many leap years
+-- a call of the seat that put and got this many leap years
 pub record Adds (put got : ℕ) (old new : SeatInfo (Mark Work)) : Type 0 where
   pub name : new.name ≡ old.name
   pub stint : new.stint ≡ old.stint
   pub put_is : put_by new ≡ put_by old + put
   pub got_is : got_by new ≡ got_by old + got
 
--- an idle seat of the queue with this name, which has put and got so many leap years
+-- an idle seat of the queue with this name, which has put and got this many leap years
 pub record Stands (object : ObjectId) (name put got : ℕ) (s : SeatInfo (Mark Work)) : Type 0 where
   pub idle : IsIdleSeat object s
   pub name_is : s.name ≡ name
   pub put_is : put_by s ≡ put
   pub got_is : got_by s ≡ got
 
--- joined seats with names below this one, which have put no leap year and got so many
+-- joined seats with names below this one, which have put no leap year and got this many
 pub record AreJoined (object : ObjectId) (below got : ℕ) (t : TallyInfo (Mark Work)) : Type 0 where
   pub object_is : t.object ≡ object
   pub names : (name : ℕ) → In name t.names → name < below

@@ -1,4 +1,4 @@
-//! The pool: who puts jobs in, who takes them out, and how the seats are joined.
+//! The pool: the thread that puts jobs in, the threads that take them out, and how the seats are joined.
 
 ghost use Rattle.std.specs.Prelude.{◌≡◌, ◌≢◌, ◌+◌, ◌<◌, ◌≤◌, ◌^◌, Err, IfErr, IfOk, IsTrue, vec_len};
 ghost use Rattle.std.specs.List.{count_by};
@@ -18,7 +18,7 @@ use std::alloc::Global;
 use std::sync::Wait;
 use std::thread::{Threads, join};
 
-/// The cells of the queue: fewer than there are jobs, so whoever puts them in waits for the workers.
+/// The cells of the queue: fewer than there are jobs, so the thread that puts them in waits for the workers.
 const CELLS: u64 = 8;
 
 /// The tickets of each seat, more than a run draws.
@@ -167,7 +167,7 @@ fn open_pool(
     Ok((queue, seat, seats))
 }
 
-/// How many of the years are leap years, counted by so many workers.
+/// How many of the years are leap years, counted by this many workers.
 ///
 /// # Errors
 ///

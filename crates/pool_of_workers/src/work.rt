@@ -1,4 +1,4 @@
-//! What stands in the queue.
+//! What is in the queue.
 
 ghost use Rattle.std.specs.Prelude.{◌≡◌};
 ghost use Rattle.pool_of_workers.specs.Leap.{is_leap};

@@ -36,7 +36,7 @@ pub record IsPort (queue : ObjectId) (gate : SemId) (p : Port) : Type 0 where
   pub idle : IsIdleSeat queue p.queue
   pub gate_is : p.gate.object ≡ gate
 
--- a call of the port, which sent and received so much
+-- a call of the port, which sent and received this much
 pub record Moves (sent received : Sum) (old new : Port) : Type 0 where
   pub name : new.queue.name ≡ old.queue.name
   pub gate_name : new.gate.name ≡ old.gate.name

@@ -24,7 +24,7 @@ fn produce<R: Wait>(rt: &R, channel: &Channel, port: &mut Port, buffers: Vec<Buf
     true
 }
 
-/// Receives so many buffers, into this list. Tells whether none was lost.
+/// Receives this many buffers, into this list. Tells whether none was lost.
 fn consume<R: Wait>(
     rt: &R,
     channel: &Channel,
@@ -90,7 +90,7 @@ fn run_both<R: Threads + Wait + Sync>(
     )
 }
 
-/// Sends all buffers from one thread and receives them in another, with so many on their way at once. What is received is
+/// Sends all buffers from one thread and receives them in another, with this many on their way at once. What is received is
 /// what was sent.
 ///
 /// None where there was no memory, or `room` is above 4,294,967,296.

@@ -72,7 +72,7 @@ fn lists_of(alloc: Global, cases: &[Case]) -> Result<Vec<Vec<u64>>, AllocError> 
     Ok(times)
 }
 
-/// What is spread of each list.
+/// The spread of each list.
 fn spreads_in(alloc: Global, times: Vec<Vec<u64>>) -> Result<Vec<Option<Spread>>, AllocError> {
     let mut spreads = Vec::new(alloc);
     for list in times {
@@ -81,8 +81,8 @@ fn spreads_in(alloc: Global, times: Vec<Vec<u64>>) -> Result<Vec<Option<Spread>>
     Ok(spreads)
 }
 
-/// The times of all cases, in the same order. Each round has each case once, so that what else the machine does meets all of
-/// them.
+/// The times of all cases, in the same order. Each round has each case once, so that other load on the machine affects all of
+/// them alike.
 pub fn spreads_of<R: Threads + Wait + Clock + Sync>(
     rt: &R,
     alloc: Global,

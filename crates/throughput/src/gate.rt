@@ -15,7 +15,7 @@ pub trait Gate: Drop {
     fn down<R: Wait>(&mut self, rt: &R) -> bool;
 }
 
-/// A seat of this repository's semaphore, of which one thread waits. What is parked there stands for that thread, and who wakes
+/// A seat of this repository's semaphore, of which one thread waits. What is parked there represents that thread, and the thread that wakes
 /// it rings the bell.
 #[derive(Drop)]
 pub struct SeatGate<'s> {

@@ -13,14 +13,14 @@ use std::sync::{Condvar, Mutex, Wait};
 use std::thread::{Parker, Threads};
 use std::time::Clock;
 
-/// A thread that goes down and up at its gate, so many times.
+/// A thread that goes down and up at its gate, this many times.
 #[derive(Drop)]
 struct Alone<G> {
     gate: G,
     count: u64,
 }
 
-/// One of two threads that let each other through, so many times.
+/// One of two threads that let each other through, this many times.
 #[derive(Drop)]
 struct InTurn<G> {
     ours: G,

@@ -9,9 +9,9 @@ use std::sync::Wait;
 pub enum Part {
     /// It puts the items of these numbers in.
     Put { first: u64, end: u64 },
-    /// It takes so many items out.
+    /// It takes this many items out.
     Get { count: u64 },
-    /// It puts an item in and takes it out, so many times.
+    /// It puts an item in and takes it out, this many times.
     Both { count: u64 },
 }
 
@@ -31,7 +31,7 @@ fn put_all<R: Wait, P: Port>(rt: &R, port: &mut P, first: u64, end: u64) {
     }
 }
 
-/// Takes so many items out.
+/// Takes this many items out.
 fn get_all<R: Wait, P: Port>(rt: &R, port: &mut P, count: u64) -> Passed {
     let mut passed = Passed::NONE;
     for _ in 0..count {
@@ -42,7 +42,7 @@ fn get_all<R: Wait, P: Port>(rt: &R, port: &mut P, count: u64) -> Passed {
     passed
 }
 
-/// Puts an item in and takes it out, so many times.
+/// Puts an item in and takes it out, this many times.
 fn pass_all<R: Wait, P: Port>(rt: &R, port: &mut P, count: u64) -> Passed {
     let mut passed = Passed::NONE;
     for number in 0..count {

@@ -40,7 +40,7 @@ pub enum Goods {
     Parcel,
 }
 
-/// A queue of so many cells, with so many pairs of threads; with none, one thread does both.
+/// A queue of this many cells, with this many pairs of threads; with none, one thread does both.
 #[derive(Clone, Copy)]
 pub struct QueueCase {
     pub way: Way,

@@ -20,7 +20,7 @@ const SHORT: Plan = Plan {
     items: 200,
 };
 
-/// A table of queues of so many cells.
+/// A table of queues of this many cells.
 fn queue_table(
     alloc: Global,
     title: &'static str,
@@ -94,7 +94,7 @@ fn file_table(alloc: Global, title: &'static str, writes: bool) -> Result<Table,
 /// What a table is of.
 #[derive(Clone, Copy)]
 enum Subject {
-    /// Queues of such items, of so many cells.
+    /// Queues of such items, of this many cells.
     Queues(Goods, u64),
     /// Semaphores.
     Gates,

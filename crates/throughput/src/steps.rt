@@ -20,7 +20,7 @@ struct Words {
     turns: Vec<AtomicU64>,
 }
 
-/// One thread that makes the steps so many times.
+/// One thread that makes the steps this many times.
 #[derive(Drop)]
 struct Walk<'w> {
     words: &'w Words,
@@ -71,7 +71,7 @@ impl<'w> Job for Walk<'w> {
     }
 }
 
-/// The nanoseconds of the steps of so many items, at so many cells.
+/// The nanoseconds of the steps of this many items, at this many cells.
 pub fn time_steps<R: Threads + Wait + Clock + Sync>(
     rt: &R,
     alloc: Global,

@@ -17,10 +17,10 @@ use std::time::Clock;
 /// An entry that nobody has written.
 const BLANK: FileEntry = FileEntry { inode: 0, uses: 0 };
 
-/// Of so many calls the last one writes.
+/// The number of calls of which the last one writes.
 const PERIOD: u64 = 100;
 
-/// A thread that visits an entry so many times, and writes in every hundredth call, or never.
+/// A thread that visits an entry this many times, and writes in every hundredth call, or never.
 #[derive(Drop)]
 struct Visit<S> {
     shelf: S,
@@ -58,7 +58,7 @@ pub enum Cover {
     Lock,
 }
 
-/// An entry, with so many threads that read it, and write it in one call of a hundred or never.
+/// An entry, with this many threads that read it, and write it in one call of a hundred or never.
 #[derive(Clone, Copy)]
 pub struct TableCase {
     pub cover: Cover,
@@ -82,7 +82,7 @@ fn seat_shelves<'t>(
     Ok(shelves)
 }
 
-/// The same shelf so many times.
+/// The same shelf this many times.
 fn copies_of<S: Copy + Drop>(alloc: Global, shelf: S, count: u64) -> Result<Vec<S>, AllocError> {
     let mut shelves = Vec::new(alloc);
     for _ in 0..count {
