@@ -15,7 +15,7 @@ function gather_legend(    i, name, count) {
     return count
 }
 
-# Draws the legend below `top`, so many beside one another.
+# Draws the legend below `top`, this many beside one another.
 function write_legend(top, count, across, width,    i, x, y, name) {
     for (i = 1; i <= count; i++) {
         name = legend_names[i]

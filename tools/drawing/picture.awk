@@ -24,6 +24,10 @@ END {
     if (trace_fault == "") {
         trace_fault = follow_trace()
     }
+    if (trace_fault == "" && trace_length == 0) {
+        print "picture: the trace is empty" | "cat 1>&2"
+        exit 2
+    }
     if (trace_fault != "") {
         print "picture: line " trace_fault_line ": " trace_fault | "cat 1>&2"
         exit 2
@@ -37,10 +41,10 @@ END {
     print "</svg>"
 }
 
-# The sizes: rows as even as may be, wide enough for the legend.
+# The sizes: rows of `most_columns` lines, the last perhaps shorter, wide enough for the legend.
 function lay_out() {
     rows = int((trace_length + most_columns - 1) / most_columns)
-    columns = rows ? int((trace_length + rows - 1) / rows) : 0
+    columns = rows > 1 ? most_columns : trace_length
     full_width = 2 * margin + label_width + columns * column_width
     if (full_width < 680) {
         full_width = 680
@@ -184,7 +188,12 @@ function band_of(now) {
     return now == "over" ? "over-claimed" : now
 }
 
-# The box of a line: the step, the number found, and the mark.
+# Whether the number of a step's line is the one that it wrote.
+function is_store(step) {
+    return step == "store-item" || step == "set-full" || step == "set-free"
+}
+
+# The box of a line: the step, the number found or written, and the mark.
 function write_step(i, x, top,    y) {
     y = top + int((lane_height - box_height) / 2)
     print "<g><title>line " i ": " escaped(line_text[i]) "</title>"
@@ -194,7 +203,7 @@ function write_step(i, x, top,    y) {
         write_text("", x + 20, y + 34, short_refusal(line_name[i]))
     } else {
         write_text("step", x + 20, y + 15, line_step[i])
-        write_text("", x + 20, y + 28, cut_to("found " line_found[i], 10))
+        write_text("", x + 20, y + 28, cut_to((is_store(line_step[i]) ? "wrote " : "found ") line_found[i], 10))
         if (line_mark[i] != "-") {
             write_text("", x + 20, y + 41, cut_to(line_mark[i], 10))
         }
@@ -233,7 +242,7 @@ function write_contents(first, last, top,    i, from, x, width, tint) {
     }
 }
 
-# The items that stand in the queue after a line, in so many characters.
+# The items that stand in the queue after a line, in this many characters.
 function contents_after(i, most,    j, text) {
     if (puts_after[i] == gots_after[i]) {
         return cut_to("(empty)", most)

@@ -40,7 +40,7 @@ function escaped(text) {
     return text
 }
 
-# The text, cut to so many characters.
+# The text, cut to this many characters.
 function cut_to(text, most) {
     return length(text) > most ? substr(text, 1, most - 1) "\342\200\246" : text
 }
@@ -80,7 +80,7 @@ function write_box(name, x, y, width, height,    shape) {
     }
 }
 
-# An octagon whose corners are cut by so much; a hexagon where the cuts meet at half the height.
+# An octagon whose corners are cut by this much; a hexagon where the cuts meet at half the height.
 function write_polygon(name, x, y, width, height, across, down,    right, bottom) {
     right = x + width
     bottom = y + height

@@ -14,7 +14,7 @@ function draw(limit) {
     return random_state % limit
 }
 
-# Whether something that happens so many times in a hundred happens now.
+# Whether something that happens this many times in a hundred happens now.
 function happens(percent) {
     return draw(100) < percent + 0
 }

@@ -1,0 +1,5 @@
+    .text
+    .globl fak_c_state
+fak_c_state:
+    movq %rdi, -0x8(%rsp)
+    ret

@@ -1,0 +1,5 @@
+    .text
+    .globl fak_c_state
+fak_c_state:
+    movq %fs:0, %rax
+    ret
