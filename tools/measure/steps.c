@@ -1,13 +1,4 @@
-#!/bin/sh
-# Prints what an item costs in nanoseconds where a queue's atomic steps alone pass it, best and median, by a program in C whose
-# words lie as the queue's do: by one thread alone and by 1, 2 and 4 pairs, at 8 and 1,024 cells; with several pauses between two looks at a
-# turn or a count, with the counters in other lines; and by threads that make the steps and never wait. Each thread is held to one
-# processor. So it shows what pauses and places can change, and what they cannot. Arguments: rounds, 21, and items of each producer, 10,000.
-# CC names another compiler than cc.
-set -eu
-out=$(mktemp -d)
-trap 'rm -rf "$out"' EXIT
-cat > "$out/steps.c" <<'C'
+/* What an item costs where a queue's atomic steps alone pass it; tools/measure/steps builds and runs it. */
 #define _GNU_SOURCE
 #include <pthread.h>
 #include <sched.h>
@@ -194,6 +185,3 @@ int main(int count, char **arguments) {
     }
     return 0;
 }
-C
-${CC:-cc} -std=c11 -O2 -Wall -Wextra -Werror "$out/steps.c" -pthread -o "$out/steps"
-"$out/steps" "$@"

@@ -1,10 +1,5 @@
-#!/bin/sh
-# Builds a shim round `malloc` and `realloc` as the named file: where FAILING_ALLOCATION is N, the N-th allocation fails, and how many there
-# were is written to the file that ALLOCATIONS_MADE names. Needs a C compiler.
-set -eu
-source=$(mktemp -d)
-trap 'rm -rf "$source"' EXIT
-cat > "$source/shim.c" <<'C'
+/* A shim round `malloc` and `realloc`: where FAILING_ALLOCATION is N, the N-th allocation fails. It writes how many there
+   were to the file that ALLOCATIONS_MADE names. */
 #define _GNU_SOURCE
 #include <dlfcn.h>
 #include <stdio.h>
@@ -36,5 +31,3 @@ void _exit(int status) {
     next(status);
     __builtin_unreachable();
 }
-C
-cc -shared -fPIC -o "$1" "$source/shim.c" -ldl
