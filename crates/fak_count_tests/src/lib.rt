@@ -1,10 +1,10 @@
-//! The tests of `fak_count` and `fak_files`, in a crate of their own, so that those are proved once: calls of one thread, in
-//! order, and of two threads at once.
+//! The tests of `fak_count`, in a crate of their own, so that it is proved once: calls of one thread, in order, and of two
+//! threads at once.
 #![tactic(auto)]
 
+mod counted;
 #[cfg(test)]
 mod credits;
-mod files;
 #[cfg(test)]
 mod openings;
 #[cfg(test)]

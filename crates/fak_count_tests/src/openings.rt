@@ -1,11 +1,7 @@
 //! Objects of each size in range are opened, with all their seats, and count as far as they say.
 
-ghost use Rattle.std.specs.Prelude.{◌≡◌, ◌≢◌};
-ghost use Rattle.fak_files.specs.declared.phase.Hold.TheVariants.{Nothing, Writing};
-
 use super::credits::is;
 use fak_count::{Credit, Room, TirFault};
-use fak_files::{FileEntry, FileField, FileSeat, FileTable, FileTally};
 use std::alloc::Global;
 use std::process::Abort;
 use std::test::*;
@@ -15,7 +11,7 @@ const WIDEST: u64 = 4_294_967_296;
 const LONGEST: u64 = 1_099_511_627_776;
 
 // The powers of two up to `most`, the numbers beside them, and as many drawn ones of each width.
-pub fn spread(rt: &impl Abort, alloc: Global, most: u64) -> Vec<u64> {
+fn spread(rt: &impl Abort, alloc: Global, most: u64) -> Vec<u64> {
     let mut numbers = Vec::new(alloc);
     let mut drawn = 1u64;
     for width in 0..41u32 {
@@ -102,86 +98,5 @@ fn credits_of_every_width(rt: HostRuntime) {
     }
     for seats in 1..65 {
         opens_credit(&rt, rt.alloc(), 5, seats, 2);
-    }
-}
-
-// What is set in an entry of a table.
-fn entry_of(i: u64) -> FileEntry {
-    FileEntry {
-        inode: i.wrapping_add(1),
-        uses: i.wrapping_add(101),
-    }
-}
-
-// Sets both fields of each of the entries, in a writer's hold.
-fn set_each(table: &FileTable, seat: &mut FileSeat, entries: u64)
-    requires entries { entries ≡ table.now.entries }
-    requires object { seat.old.seat.object ≡ table.now.object }
-    requires held { seat.old.hold ≡ Writing }
-    ensures object { seat.new.seat.object ≡ table.now.object }
-    ensures held { seat.new.hold ≡ Writing }
-{
-    for i in 0..entries {
-        let to = entry_of(i);
-        table.set(seat, i, FileField::Inode, to.inode);
-        table.set(seat, i, FileField::Uses, to.uses);
-    }
-}
-
-// Whether each of the entries is what was set, in a hold.
-fn shows_each(table: &FileTable, seat: &mut FileSeat, entries: u64) -> bool
-    requires entries { entries ≡ table.now.entries }
-    requires object { seat.old.seat.object ≡ table.now.object }
-    requires held { seat.old.hold ≢ Nothing }
-    ensures object { seat.new.seat.object ≡ table.now.object }
-    ensures held { seat.new.hold ≡ seat.old.hold }
-{
-    for i in 0..entries {
-        if table.get(seat, i) != entry_of(i) {
-            return false;
-        }
-    }
-    true
-}
-
-// Opens the table with this many seats, and with one, which writes each entry and reads it. What is left when it is closed is the same.
-fn opens_table(rt: &impl Abort, alloc: Global, entries: u64, seats: u64, stint: u64) {
-    let (_table, dealt) = FileTable::open(alloc, entries, seats, stint).expect(rt, "table");
-    is(rt, dealt.len() as u64, seats);
-    let (table, mut one) = FileTable::open(alloc, entries, 1, stint).expect(rt, "table");
-    let mut seat = one.pop().expect(rt, "one seat");
-    let Ok(()) = table.try_write(&mut seat) else {
-        panic!(rt; "write")
-    };
-    set_each(&table, &mut seat, entries);
-    assert!(rt; shows_each(&table, &mut seat, entries), "{entries}");
-    table.end(&mut seat);
-    let tally = FileTally::of(seat);
-    if !tally.is_whole() {
-        panic!(rt; "one seat")
-    }
-    let rest = table.close(tally);
-    for i in 0..entries {
-        is(rt, rest.get(i), entry_of(i));
-    }
-}
-
-#[test]
-fn tables_of_each_size(rt: HostRuntime) {
-    let stints = spread(&rt, rt.alloc(), LONGEST);
-    for entries in 1..17 {
-        for seats in 1..65 {
-            let row = (entries * 64 + seats) as usize;
-            opens_table(
-                &rt,
-                rt.alloc(),
-                entries,
-                seats,
-                stint_of(stints.as_slice(), row),
-            );
-        }
-    }
-    for stint in stints {
-        opens_table(&rt, rt.alloc(), 5, 1, stint.max(1));
     }
 }

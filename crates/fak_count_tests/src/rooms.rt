@@ -5,6 +5,7 @@ ghost use Rattle.fak_model.specs.Histories.{sum_below};
 ghost use Rattle.fak_model.specs.Room.{amount_held, value};
 ghost use Rattle.fak_count.specs.Seats.{IsSeatOf};
 
+use super::counted::is_counted;
 use super::credits::is;
 use fak_count::{OpenFault, Room, RoomSeat, RoomTally, TirFault};
 use fak_model::laws::room::amounts_held_in_a_room_fit;
@@ -146,14 +147,6 @@ fn two_threads_leave_a_room_empty(rt: HostRuntime) {
     is(&rt, room.tir(&mut c, 1), Ok(0));
     let all = room.join(room.join(RoomTally::of(c), a), b);
     assert!(rt; all.is_whole());
-}
-
-// Whether the tally is whole; the value of a whole room is then what all seats hold.
-fn is_counted(tally: &RoomTally) -> bool
-    ensures { IsTrue result
-        → value tally.now.seen ≡ pos (sum_below (λ seat. amount_held seat tally.now.seen) tally.now.object.seats) }
-{
-    tally.is_whole()
 }
 
 // Whether these two seats are all of the room; what they hold together is within its bound, and the value then.

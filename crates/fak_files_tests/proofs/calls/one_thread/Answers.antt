@@ -1,5 +1,5 @@
 use Rattle.std.proofs.Common.{rules, IsTrue}
-use Rattle.fak_count_tests.proofs.files.one_thread.Goals as goal
+use Rattle.fak_files_tests.proofs.calls.one_thread.Goals as goal
 
 pub close-rest-requires-clause-whole : goal.close-rest-requires-clause-whole
 close-rest-requires-clause-whole g c =

@@ -1,6 +1,6 @@
 use Rattle.std.proofs.Common.{◌≡◌}
 use Rattle.fak_files.specs.declared.phase.Hold.TheVariants.{Nothing}
-use Rattle.fak_count_tests.proofs.files.write_in_turn.Given as goal
+use Rattle.fak_files_tests.proofs.calls.write_in_turn.Given as goal
 
 -- the seat is the table's, and holds nothing
 abbrev pub invariant-loop-j : goal.invariant-loop-j

@@ -1,6 +1,6 @@
 use Rattle.std.proofs.Common.{◌≡◌}
 use Rattle.fak_files.specs.declared.phase.Hold.TheVariants.{Writing}
-use Rattle.fak_count_tests.proofs.openings.set_each.Given as goal
+use Rattle.fak_files_tests.proofs.openings.set_each.Given as goal
 
 -- the seat writes the table
 abbrev pub invariant-loop-i : goal.invariant-loop-i

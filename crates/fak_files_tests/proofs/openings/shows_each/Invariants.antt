@@ -1,5 +1,5 @@
 use Rattle.std.proofs.Common.{◌≡◌}
-use Rattle.fak_count_tests.proofs.openings.shows_each.Given as goal
+use Rattle.fak_files_tests.proofs.openings.shows_each.Given as goal
 
 -- the seat holds the table as before
 abbrev pub invariant-loop-i : goal.invariant-loop-i

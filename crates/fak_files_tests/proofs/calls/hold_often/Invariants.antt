@@ -1,5 +1,5 @@
 use Rattle.fak_files.specs.Calls.{IsFreeSeatOf}
-use Rattle.fak_count_tests.proofs.files.hold_often.Given as goal
+use Rattle.fak_files_tests.proofs.calls.hold_often.Given as goal
 
 -- the seat is of this table, and holds nothing
 abbrev pub invariant-loop : goal.invariant-loop

@@ -1,0 +1,9 @@
+//! The tests of `fak_files`, in a crate of their own, so that it is proved once: calls of one thread, in order, and of two
+//! threads at once.
+#![tactic(auto)]
+
+mod calls;
+#[cfg(test)]
+mod openings;
+#[cfg(test)]
+mod prints;

@@ -1,0 +1,35 @@
+//! What tables, seats and tallies print.
+
+use fak_files::{FileField, FileTable, FileTally, Hold};
+use std::test::*;
+
+#[test]
+fn file_tables_print_their_numbers(rt: HostRuntime) -> Result<(), Fail> {
+    let alloc = rt.alloc();
+    let (table, mut seats) = FileTable::open(alloc, 2, 1, 9).expect(&rt, "open");
+    let mut seat = seats.pop().expect(&rt, "one seat");
+    assert_eq!(rt; seat.hold(), Hold::Nothing);
+    assert_eq!(rt; table.try_write(&mut seat), Ok(()));
+    let text = format!(in alloc; "{table:?}, {seat:?}")?;
+    assert_eq!(rt;
+        text.as_str(),
+        "FileTable { entries: 2, .. }, FileSeat { name: 0, hold: Writing, left: 8, .. }"
+    );
+    if seat.hold() != Hold::Writing {
+        panic!(rt; "the hold")
+    }
+    table.set(&mut seat, 1, FileField::Uses, 3);
+    table.end(&mut seat);
+    let tally = FileTally::of(seat);
+    let text = format!(in alloc; "{tally:?}")?;
+    assert_eq!(rt; text.as_str(), "FileTally { seats: 1, is_whole: true, .. }");
+    if !tally.is_whole() {
+        panic!(rt; "one seat")
+    }
+    let text = format!(in alloc; "{:?}", table.close(tally))?;
+    assert_eq!(rt;
+        text.as_str(),
+        "FileRest { entries: [FileEntry { inode: 0, uses: 0 }, FileEntry { inode: 0, uses: 3 }] }"
+    );
+    Ok(())
+}
