@@ -86,5 +86,5 @@ impl Drop for Handle {
     }
 }
 
-// The seat and its share of the queue may go to another thread.
+/// The seat and its share of the queue may go to another thread.
 unsafe impl Send for Handle {}

@@ -24,14 +24,14 @@ use fak_sem::{SemSeat, Semaphore, StepSeat};
 use std::alloc::Global;
 use std::sync::Arc;
 
-// Whether an object may have this many seats.
+/// Whether an object may have this many seats.
 pub(crate) fn is_number_of_seats(count: usize) -> bool
     ensures { MatchBool result (IsNumberOfSeats count) (¬ IsNumberOfSeats count) }
 {
     count >= 1 && count as u64 <= MOST_SEATS
 }
 
-// Empties all handles.
+/// Empties all handles.
 fn clear(alloc: Global, places: &mut [Place])
     ensures len { length places.new ≡ length places.old }
     ensures empty { AreEmpty places.new }
@@ -41,7 +41,7 @@ fn clear(alloc: Global, places: &mut [Place])
     }
 }
 
-// Gives each handle one of the seats, with a share of the object. False where memory ran out.
+/// Gives each handle one of the seats, with a share of the object. False where memory ran out.
 fn seat_queue(
     alloc: Global,
     queue: &Arc<Queue<u64>, Global>,
@@ -97,7 +97,7 @@ pub(crate) fn open_queue(alloc: Global, places: &mut [Place], size: u64, stint: 
     }
 }
 
-// Gives each handle one of the seats, with a share of the object. False where memory ran out.
+/// Gives each handle one of the seats, with a share of the object. False where memory ran out.
 fn seat_room(
     alloc: Global,
     room: &Arc<Room, Global>,
@@ -153,7 +153,7 @@ pub(crate) fn open_room(alloc: Global, places: &mut [Place], bound: u64, stint: 
     }
 }
 
-// Gives each handle one of the seats, with a share of the object. False where memory ran out.
+/// Gives each handle one of the seats, with a share of the object. False where memory ran out.
 fn seat_credit(
     alloc: Global,
     credit: &Arc<Credit, Global>,
@@ -209,7 +209,7 @@ pub(crate) fn open_credit(alloc: Global, places: &mut [Place], start: u64, stint
     }
 }
 
-// Gives each handle one of the seats, with a share of the object. False where memory ran out.
+/// Gives each handle one of the seats, with a share of the object. False where memory ran out.
 fn seat_table(
     alloc: Global,
     table: &Arc<FileTable, Global>,
@@ -267,7 +267,7 @@ pub(crate) fn open_table(alloc: Global, places: &mut [Place], entries: u64, stin
     }
 }
 
-// Gives each handle one of the seats, with a share of the object. False where memory ran out.
+/// Gives each handle one of the seats, with a share of the object. False where memory ran out.
 fn seat_semaphore(
     alloc: Global,
     semaphore: &Arc<Semaphore<u64>, Global>,

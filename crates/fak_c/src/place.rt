@@ -18,7 +18,7 @@ pub struct Place {
 }
 
 impl Place {
-    // Takes the desk out; the handle is empty then.
+    /// Takes the desk out; the handle is empty then.
     pub(crate) fn take(&mut self, alloc: Global) -> Option<Box<Desk, Global>>
         ensures desk { MatchOption result (self.old.handle.desk ≡ None) (λ b. self.old.handle.desk ≡ Some b.value) }
         ensures empty { self.new.handle.desk ≡ None }
@@ -26,7 +26,7 @@ impl Place {
         mem::replace(&mut self.handle, Handle::none(alloc)).into_box()
     }
 
-    // Puts a desk in. What was there is given up.
+    /// Puts a desk in. What was there is given up.
     pub(crate) fn put(&mut self, desk: Box<Desk, Global>)
         ensures { self.new.handle.desk ≡ Some desk.value }
     {

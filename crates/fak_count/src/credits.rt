@@ -1,9 +1,7 @@
 //! Credits: counts that debits lower and credits raise.
 
 mod credit;
-mod ending;
 mod limits;
-mod opening;
 mod plays;
 mod rule;
 mod seat;

@@ -1,8 +1,6 @@
 //! Rooms: counts that claims raise up to a bound, and releases lower.
 
-mod ending;
 mod limits;
-mod opening;
 mod plays;
 mod room;
 mod rule;

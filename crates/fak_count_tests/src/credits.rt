@@ -11,7 +11,7 @@ use std::process::Abort;
 use std::test::*;
 use std::thread::{Threads, join};
 
-// An answer is as it should be.
+/// An answer is as it should be.
 pub fn is<T: Debug + PartialEq + Drop>(rt: &impl Abort, found: T, wanted: T) {
     assert_eq!(rt; found, wanted);
 }
@@ -66,7 +66,7 @@ fn credits_out_of_range_are_not_opened(rt: HostRuntime) {
     assert_eq!(rt; seats.len(), 64);
 }
 
-// Whether all seats are joined. What they have seen grants the lesser of debits, and start and credits.
+/// Whether all seats are joined. What they have seen grants the lesser of debits, and start and credits.
 fn is_granted(tally: &CreditTally) -> bool
     ensures grants { grants_made 7 tally.now.seen ≡ min (debits_in tally.now.seen) (7 + credits_in tally.now.seen) }
     ensures named { All (λ m. m.seat < tally.now.object.seats) tally.now.seen }
@@ -75,7 +75,7 @@ fn is_granted(tally: &CreditTally) -> bool
     tally.is_whole()
 }
 
-// Makes this many debits.
+/// Makes this many debits.
 fn debits(credit: &Credit, mut seat: CreditSeat, count: usize) -> CreditSeat
     requires { seat.object ≡ credit.now.object }
     ensures { result.object ≡ credit.now.object }
@@ -86,7 +86,7 @@ fn debits(credit: &Credit, mut seat: CreditSeat, count: usize) -> CreditSeat
     seat
 }
 
-// Makes this many credits.
+/// Makes this many credits.
 fn credits(credit: &Credit, mut seat: CreditSeat, count: usize) -> CreditSeat
     requires { seat.object ≡ credit.now.object }
     ensures { result.object ≡ credit.now.object }

@@ -10,7 +10,7 @@ const WIDEST: u64 = 4_294_967_296;
 
 const LONGEST: u64 = 1_099_511_627_776;
 
-// The powers of two up to `most`, the numbers beside them, and as many drawn ones of each width.
+/// The powers of two up to `most`, the numbers beside them, and as many drawn ones of each width.
 fn spread(rt: &impl Abort, alloc: Global, most: u64) -> Vec<u64> {
     let mut numbers = Vec::new(alloc);
     let mut drawn = 1u64;
@@ -28,7 +28,7 @@ fn spread(rt: &impl Abort, alloc: Global, most: u64) -> Vec<u64> {
     numbers
 }
 
-// The stint, of those that are spread, that belongs to this row.
+/// The stint, of those that are spread, that belongs to this row.
 fn stint_of(stints: &[u64], row: usize) -> u64 {
     let Some(stint) = stints.get(row.wrapping_mul(29) % 127) else {
         return LONGEST;
@@ -36,7 +36,7 @@ fn stint_of(stints: &[u64], row: usize) -> u64 {
     (*stint).max(1)
 }
 
-// Opens the room with this many seats, and with one, which claims as much as one claim may, and more.
+/// Opens the room with this many seats, and with one, which claims as much as one claim may, and more.
 fn opens_room(rt: &impl Abort, alloc: Global, bound: u64, seats: u64, stint: u64) {
     let (_room, dealt) = Room::open(alloc, bound, seats, stint).expect(rt, "room");
     is(rt, dealt.len() as u64, seats);
@@ -73,7 +73,7 @@ fn rooms_of_every_width(rt: HostRuntime) {
     }
 }
 
-// Opens the credit with this many seats, and with one, which finds the start.
+/// Opens the credit with this many seats, and with one, which finds the start.
 fn opens_credit(rt: &impl Abort, alloc: Global, start: u64, seats: u64, stint: u64) {
     let (_credit, dealt) = Credit::open(alloc, start, seats, stint).expect(rt, "credit");
     is(rt, dealt.len() as u64, seats);

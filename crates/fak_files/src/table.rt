@@ -1,23 +1,37 @@
 //! A file table that threads share.
 
-ghost use Rattle.std.specs.Prelude.{◌≡◌, ◌≢◌, ◌<◌, MatchResult, is_ok, if◌then◌else◌};
-ghost use Rattle.fak_files.specs.Calls.{IsFileSeatOf, IsGranted, IsRefused, IsGot, IsSet, IsEnded};
+ghost use Rattle.std.specs.Prelude.{◌≡◌, ◌≢◌, ◌<◌, MatchResult, is_ok, if◌then◌else◌, ◌≤◌, ℕ, length, slice_get, Some};
+ghost use Rattle.fak_files.specs.Calls.{IsFileSeatOf, IsGranted, IsRefused, IsGot, IsSet, IsEnded, idle_seats, IsWaitedFor, IsWorn, entries_after};
 ghost use Rattle.fak_files.specs.Phases.{hold_for};
 ghost use Rattle.fak_files.specs.declared.phase.Access.TheVariants.{Read, Write};
 ghost use Rattle.fak_files.specs.declared.phase.Hold.TheVariants.{Nothing, Reading, Writing};
+ghost use Rattle.fak_model.specs.Calls.{fresh_seats, IsJoined};
+ghost use Rattle.fak_files.specs.Opening.{IsInRange, IsOpenFault};
+ghost use Rattle.fak_model.specs.Histories.{AreNamed, IsAtRest};
+ghost use Rattle.fak_model.specs.File.{IsFileHistory, file_rules};
+ghost use Rattle.fak_model.specs.Seats.{IsWhole};
+ghost use Rattle.fak_files.specs.Versions.{entry_of};
+ghost use Rattle.fak_files.specs.Words.{width};
 
 use crate::admission::admit;
-use crate::fault::FileFault;
+use crate::ending::entries_of;
+use crate::fault::{FileFault, OpenFault, Worn};
 use crate::limits::FileLimits;
+use crate::opening::{WORDS, tested_limits};
 use crate::phase::{Access, Hold};
+use crate::rest::FileRest;
 use crate::rule::{FileRule, FileView};
 use crate::seat::FileSeat;
-use crate::steps::{get_field, give, set_field};
+use crate::steps::{get_field, give, hear, set_field};
+use crate::tally::FileTally;
+use crate::words::{COUNT, FIELDS};
 use atomic_table::Table;
-use fak_model::{FileEntry, FileField};
+use crossbeam_utils::Backoff;
+use fak_model::{BIAS, Both, Deal, FileEntry, FileField};
 use std::alloc::Global;
 use std::fmt;
 use std::marker::{Brand, Model};
+use std::sync::Wait;
 
 /// Entries that many seats may read at once, or one seat may write.
 #[derive(Drop)]
@@ -41,7 +55,47 @@ impl Model for FileTable {
 }
 
 impl FileTable {
-    // A hold for this access, or why it is refused.
+    /// A table of free entries, with its seats, each of which may have `stint` holds.
+    ///
+    /// `entries` is 1 to 16, `seats` 1 to 64, `stint` 1 to 2^40.
+    pub fn open(
+        alloc: Global,
+        entries: u64,
+        seats: u64,
+        stint: u64,
+    ) -> Result<(FileTable, Vec<FileSeat>), OpenFault>
+        ensures { MatchResult result (λ r. IsInRange entries seats stint × (r.0.entries ≡ entries) × (r.0.object.seats ≡ seats)
+            × (r.1.items ≡ idle_seats (fresh_seats r.0.object stint 0 seats))) (IsOpenFault entries seats stint) }
+    {
+        if let Err(fault) = tested_limits(entries, seats, stint) {
+            return Err(fault);
+        }
+        let mut words = [0; WORDS];
+        words[COUNT] = BIAS + seats;
+        let limits = FileLimits { entries, seats };
+        let words = &words[..FIELDS + 2 * entries as usize];
+        let Ok((table, mut rest)) = Table::of_words(alloc, words, &limits) else {
+            return Err(OpenFault::Memory);
+        };
+        let Ok(mut dealt) = Vec::with_capacity(alloc, seats as usize) else {
+            return Err(OpenFault::Memory);
+        };
+        for name in 0..seats {
+            let seat = FileSeat {
+                token: table.shared.split_seat::<Deal>(&mut rest),
+                name,
+                seats,
+                left: stint,
+                hold: Hold::Nothing,
+            };
+            if dealt.push(seat).is_err() {
+                return Err(OpenFault::Memory);
+            }
+        }
+        Ok((FileTable { table, entries }, dealt))
+    }
+
+    /// A hold for this access, or why it is refused.
     pub(crate) fn try_hold(&self, seat: &mut FileSeat, access: Access) -> Result<(), FileFault>
         requires object { IsFileSeatOf self.now.object seat.old }
         requires idle { seat.old.hold ≡ Nothing }
@@ -131,6 +185,103 @@ impl FileTable {
         let amount = access.amount(seat.seats);
         give::<Brand>(&self.table.shared, &mut seat.token, amount, access);
         seat.hold = Hold::Nothing;
+    }
+
+    /// A hold for this access, tried until it is granted.
+    fn wait_hold<R: Wait>(&self, rt: &R, seat: &mut FileSeat, access: Access) -> Result<(), Worn>
+        requires object { IsFileSeatOf self.now.object seat.old }
+        requires idle { seat.old.hold ≡ Nothing }
+        ensures call { MatchResult result (λ _. IsWaitedFor access seat.old seat.new) (λ _. IsWorn seat.old seat.new) }
+        ensures hold { seat.new.hold ≡ (if is_ok result then hold_for access else Nothing) }
+        ensures object { seat.new.seat.object ≡ self.now.object }
+    {
+        let backoff = Backoff::new();
+        for _ in rt.forever() {
+            match self.try_hold(seat, access) {
+                Ok(()) => return Ok(()),
+                Err(FileFault::Worn) => return Err(Worn),
+                Err(FileFault::Busy(_)) => backoff.snooze(),
+            }
+        }
+        unreachable!()
+    }
+
+    /// A reader's hold, tried again while a writer holds. `Worn` where the seat has had as many holds as its stint.
+    pub fn read<R: Wait>(&self, rt: &R, seat: &mut FileSeat) -> Result<(), Worn>
+        requires object { IsFileSeatOf self.now.object seat.old }
+        requires idle { seat.old.hold ≡ Nothing }
+        ensures call { MatchResult result (λ _. IsWaitedFor Read seat.old seat.new) (λ _. IsWorn seat.old seat.new) }
+        ensures hold { seat.new.hold ≡ (if is_ok result then Reading else Nothing) }
+        ensures object { seat.new.seat.object ≡ self.now.object }
+    {
+        self.wait_hold(rt, seat, Access::Read)
+    }
+
+    /// A writer's hold, tried again while others hold. `Worn` where the seat has had as many holds as its stint.
+    pub fn write<R: Wait>(&self, rt: &R, seat: &mut FileSeat) -> Result<(), Worn>
+        requires object { IsFileSeatOf self.now.object seat.old }
+        requires idle { seat.old.hold ≡ Nothing }
+        ensures call { MatchResult result (λ _. IsWaitedFor Write seat.old seat.new) (λ _. IsWorn seat.old seat.new) }
+        ensures hold { seat.new.hold ≡ (if is_ok result then Writing else Nothing) }
+        ensures object { seat.new.seat.object ≡ self.now.object }
+    {
+        self.wait_hold(rt, seat, Access::Write)
+    }
+
+    /// The tally with one more seat, which holds nothing.
+    pub fn join(&self, tally: FileTally, seat: FileSeat) -> FileTally
+        requires object { (tally.object ≡ self.now.object) × IsFileSeatOf self.now.object seat }
+        requires idle { seat.hold ≡ Nothing }
+        ensures joined { IsJoined (file_rules self.now.object.seats) tally seat.seat result }
+        ensures object { result.object ≡ self.now.object }
+    {
+        let FileTally {
+            mut token,
+            mut names,
+            seats,
+        } = tally;
+        let FileSeat {
+            token: other,
+            name,
+            seats: _,
+            left: _,
+            hold: _,
+        } = seat;
+        self.table.shared.join_seat::<Both>(&mut token, other);
+        hear::<Brand>(&self.table.shared, &mut token);
+        names.insert(name);
+        FileTally {
+            token,
+            names,
+            seats,
+        }
+    }
+
+    /// The entries that are left, once all seats are in the tally: as after the whole history, which is lawful, and in
+    /// which no call is cut short.
+    pub fn close(self, tally: FileTally) -> FileRest
+        requires object { tally.object ≡ self.object }
+        requires whole { IsWhole tally.object.seats tally.names }
+        ensures entries { result ≡ entries_after tally.seen 0 self.entries }
+        ensures each { (i : ℕ) → i < self.entries → slice_get result i ≡ Some (entry_of tally.seen i) }
+        ensures number { length result ≡ self.entries }
+        ensures lawful { IsFileHistory self.object.seats tally.seen }
+        ensures named { AreNamed (file_rules self.object.seats) self.object.seats tally.seen }
+        ensures rest { IsAtRest (file_rules self.object.seats) tally.seen }
+    {
+        let FileTable {
+            table,
+            entries: count,
+        } = self;
+        let FileTally {
+            token,
+            names: _names,
+            seats: _,
+        } = tally;
+        let closed = table.close_with(token);
+        let entries = entries_of(&closed, count);
+        closed.free();
+        FileRest { entries, count }
     }
 }
 

@@ -18,7 +18,7 @@ use std::sync::atomic::{AtomicU64, Ordering};
 use std::test::*;
 use std::thread::{Threads, join};
 
-// A table with two seats.
+/// A table with two seats.
 #[cfg(test)]
 fn open_two(
     rt: &impl Abort,
@@ -38,7 +38,7 @@ fn open_two(
     (table, a, b)
 }
 
-// A call of a seat, and what it is to answer.
+/// A call of a seat, and what it is to answer.
 #[cfg(test)]
 #[derive(Drop)]
 enum Call {
@@ -49,7 +49,7 @@ enum Call {
     End,
 }
 
-// Makes the call of this row of a test, after which the seat is to hold this.
+/// Makes the call of this row of a test, after which the seat is to hold this.
 #[cfg(test)]
 fn makes<R: Abort + Wait>(
     rt: &R,
@@ -79,7 +79,7 @@ fn makes<R: Abort + Wait>(
     }
 }
 
-// Each call for a hold tells that the seat is worn.
+/// Each call for a hold tells that the seat is worn.
 #[cfg(test)]
 fn is_worn<R: Abort + Wait>(rt: &R, table: &FileTable, seat: &mut FileSeat)
     requires { seat.old.seat.object ≡ table.now.object }
@@ -93,7 +93,7 @@ fn is_worn<R: Abort + Wait>(rt: &R, table: &FileTable, seat: &mut FileSeat)
     makes(rt, table, seat, 14, &Call::Write(Err(Worn)), Hold::Nothing);
 }
 
-// A writer is refused beside a reader, and a reader beside a writer, whose Sets are read after its end.
+/// A writer is refused beside a reader, and a reader beside a writer, whose Sets are read after its end.
 #[test]
 fn one_thread(rt: HostRuntime) {
     let (table, mut a, mut b) = open_two(&rt, rt.alloc(), 1, 10);
@@ -133,7 +133,7 @@ fn one_thread(rt: HostRuntime) {
     assert_eq!(rt; entry.uses, 1);
 }
 
-// A seat that is dropped while it reads keeps what it took: writers are refused, readers are not, and no tally is whole.
+/// A seat that is dropped while it reads keeps what it took: writers are refused, readers are not, and no tally is whole.
 #[test]
 fn a_reader_is_dropped(rt: HostRuntime) {
     let (table, mut seats) = FileTable::open(rt.alloc(), 1, 3, 10).expect(&rt, "open");
@@ -152,7 +152,7 @@ fn a_reader_is_dropped(rt: HostRuntime) {
     assert!(rt; !tally.is_whole());
 }
 
-// A seat has as many holds as its stint, by tries and by waiting; refused tries don't count.
+/// A seat has as many holds as its stint, by tries and by waiting; refused tries don't count.
 #[test]
 fn a_seat_is_worn(rt: HostRuntime) {
     let (table, mut a, mut b) = open_two(&rt, rt.alloc(), 2, 2);
@@ -177,7 +177,7 @@ fn a_seat_is_worn(rt: HostRuntime) {
     table.end(&mut b);
 }
 
-// A worn seat is told so at once while another holds, which a wait would not end.
+/// A worn seat is told so at once while another holds, which a wait would not end.
 #[test]
 fn a_worn_seat_does_not_wait(rt: HostRuntime) {
     let (table, mut a, mut b) = open_two(&rt, rt.alloc(), 1, 1);
@@ -194,7 +194,7 @@ fn a_worn_seat_does_not_wait(rt: HostRuntime) {
     }
 }
 
-// Whether the seat writes; it then holds as much as there are seats.
+/// Whether the seat writes; it then holds as much as there are seats.
 fn is_alone(seat: &FileSeat, seats: u64) -> bool
     requires { seat.now.seat.object.seats ≡ seats }
     ensures { IsTrue result → amount_held seat.now.seat.name seat.now.seat.seen ≡ seats }
@@ -202,7 +202,7 @@ fn is_alone(seat: &FileSeat, seats: u64) -> bool
     seat.hold() == Hold::Writing
 }
 
-// Whether all seats are joined; the table is then free.
+/// Whether all seats are joined; the table is then free.
 fn is_free(tally: &FileTally) -> bool
     ensures { IsTrue result → count tally.now.object.seats tally.now.seen ≡ pos tally.now.object.seats }
 {
@@ -210,7 +210,7 @@ fn is_free(tally: &FileTally) -> bool
     tally.is_whole()
 }
 
-// A closed table was free.
+/// A closed table was free.
 fn close_free(table: FileTable, tally: FileTally)
     requires { (tally.object ≡ table.object) × IsWhole tally.object.seats tally.names }
     ensures { count table.object.seats tally.seen ≡ pos table.object.seats }
@@ -219,7 +219,7 @@ fn close_free(table: FileTable, tally: FileTally)
     let _rest = table.close(tally);
 }
 
-// The file of an entry of a closed table is the last that was set.
+/// The file of an entry of a closed table is the last that was set.
 fn last_file(table: FileTable, tally: FileTally, i: u64) -> u64
     requires tally { (tally.object ≡ table.object) × IsWhole tally.object.seats tally.names }
     requires entry { i < table.entries }
@@ -228,7 +228,7 @@ fn last_file(table: FileTable, tally: FileTally, i: u64) -> u64
     table.close(tally).get(i).inode
 }
 
-// Makes this many writer's holds of an entry that stays as it is.
+/// Makes this many writer's holds of an entry that stays as it is.
 fn hold_often(table: &FileTable, mut seat: FileSeat, holds: u64) -> FileSeat
     requires { IsFreeSeatOf table.now.object seat }
     ensures { IsFreeSeatOf table.now.object result }
@@ -260,7 +260,7 @@ fn fault_of(alloc: Global, entries: u64, seats: u64, stint: u64) -> Option<OpenF
     FileTable::open(alloc, entries, seats, stint).err()
 }
 
-// The first value that is out of range is answered.
+/// The first value that is out of range is answered.
 #[test]
 fn ranges(rt: HostRuntime) {
     assert!(rt; fault_of(rt.alloc(), 17, 0, 0) == Some(OpenFault::BadSize));
@@ -272,7 +272,7 @@ fn ranges(rt: HostRuntime) {
     assert!(rt; fault_of(rt.alloc(), 16, 64, 1_099_511_627_776).is_none());
 }
 
-// Waits until both threads are here, so that their holds meet; not for ever, since the other may have no thread.
+/// Waits until both threads are here, so that their holds meet; not for ever, since the other may have no thread.
 fn meet(here: &AtomicU64) {
     here.fetch_add(1, Ordering::SeqCst);
     for _ in 0..100_000_000 {
@@ -283,7 +283,7 @@ fn meet(here: &AtomicU64) {
     }
 }
 
-// Makes this many writer's holds, the j-th of which sets both fields of entry 0 to j.
+/// Makes this many writer's holds, the j-th of which sets both fields of entry 0 to j.
 fn write_in_turn<R: Wait>(rt: &R, table: &FileTable, mut seat: FileSeat, count: u64) -> FileSeat
     requires object { (seat.seat.object ≡ table.now.object) × (0 < table.now.entries) }
     requires idle { seat.hold ≡ Nothing }
@@ -301,8 +301,8 @@ fn write_in_turn<R: Wait>(rt: &R, table: &FileTable, mut seat: FileSeat, count: 
     seat
 }
 
-// Makes this many reader's holds, with two reads of entry 0 in each: whether both reads were equal, their fields too, and no
-// read found less than an earlier one.
+/// Makes this many reader's holds, with two reads of entry 0 in each: whether both reads were equal, their fields too, and no
+/// read found less than an earlier one.
 fn read_in_turn<R: Wait>(
     rt: &R,
     table: &FileTable,
@@ -330,7 +330,7 @@ fn read_in_turn<R: Wait>(
     (seat, true)
 }
 
-// Both in threads, and what the joined seats and the closed table show then.
+/// Both in threads, and what the joined seats and the closed table show then.
 fn run_two<R: Threads + Wait + Sync>(rt: &R, table: FileTable, a: FileSeat, b: FileSeat) -> bool
     requires object { (a.seat.object ≡ table.object) × (b.seat.object ≡ table.object) × (table.entries ≡ 1) }
     requires idle { (a.hold ≡ Nothing) × (b.hold ≡ Nothing) }
@@ -369,7 +369,7 @@ fn two_threads(rt: HostRuntime) {
     assert!(rt; run_two(&rt, table, a, b));
 }
 
-// Whichever allocation fails, no other fault than Memory is answered in range.
+/// Whichever allocation fails, no other fault than Memory is answered in range.
 #[test]
 fn memory(rt: HostRuntime) {
     let fault = fault_of(rt.alloc(), 16, 64, 1);

@@ -9,7 +9,7 @@ ghost use Rattle.fak_sem.specs.Steps.{ClaimsItem, ClaimsRoom};
 use crate::standing::Standing;
 use fak_queue::{DeleteFault, InsertFault, Queue, Seat};
 
-// One claim of room for the item; where the queue is full or shut the item is to be claimed for again.
+/// One claim of room for the item; where the queue is full or shut the item is to be claimed for again.
 pub(crate) fn claim_room<T: Drop>(queue: &Queue<T>, seat: &mut Seat<T>, item: T) -> Standing<T>
     requires object { seat.old.object ≡ queue.now.object }
     requires idle { state_of seat.old ≡ Idle }
@@ -26,7 +26,7 @@ pub(crate) fn claim_room<T: Drop>(queue: &Queue<T>, seat: &mut Seat<T>, item: T)
     }
 }
 
-// One claim of an item; where the queue is empty it is to be claimed again.
+/// One claim of an item; where the queue is empty it is to be claimed again.
 pub(crate) fn claim_item<T: Drop>(queue: &Queue<T>, seat: &mut Seat<T>) -> Standing<T>
     requires object { seat.old.object ≡ queue.now.object }
     requires idle { state_of seat.old ≡ Idle }

@@ -1,13 +1,21 @@
 //! A semaphore that threads share.
 
 ghost use Rattle.std.specs.Prelude.{◌≡◌, IfOk, MatchResult};
-ghost use Rattle.fak_sem.specs.Semaphores.{CountsDown, CountsUp, Downs, IsWornSeat, Ups};
+ghost use Rattle.fak_sem.specs.Semaphores.{CountsDown, CountsUp, Downs, IsWornSeat, Ups, fresh_sem_seats, seats_of, JoinsSeat};
+ghost use Rattle.fak_model.specs.Calls.{fresh_seats};
+ghost use Rattle.fak_sem.specs.Opening.{IsInRange, IsOpenFault};
+ghost use Rattle.fak_model.specs.Queue.{contents};
+ghost use Rattle.fak_model.specs.Seats.{IsWhole};
+ghost use Rattle.fak_sem.specs.Grants.{IsSettled};
 
-use crate::fault::SemWorn;
+use crate::fault::{OpenFault, SemWorn};
+use crate::opening::opened_credit;
 use crate::retries::{delete_at_last, insert_at_last};
 use crate::seat::SemSeat;
-use fak_count::{Credit, Worn};
-use fak_queue::Queue;
+use crate::tally::SemTally;
+use fak_count::{Credit, CreditSeat, Worn};
+use fak_queue::{Queue, Rest, Seat};
+use std::alloc::{AllocError, Global};
 use std::fmt;
 use std::marker::Model;
 use std::sync::Wait;
@@ -32,6 +40,70 @@ impl<T> Model for Semaphore<T> {
 }
 
 impl<T: Drop> Semaphore<T> {
+    /// A semaphore that begins at `start` with an empty wait queue of `size` cells, and its seats, each of which may make
+    /// `stint` downs and ups together.
+    ///
+    /// `start` is 0 to 4,294,967,296, `size` 1 to 4,096, `seats` 1 to 64, `stint` 1 to 2^40.
+    pub fn open(
+        alloc: Global,
+        start: u64,
+        size: u64,
+        seats: u64,
+        stint: u64,
+    ) -> Result<(Semaphore<T>, Vec<SemSeat<T>>), OpenFault>
+        ensures { MatchResult result (λ r. IsInRange start size seats stint × (r.0.object.start ≡ start) × (r.0.size ≡ size)
+            × (seats_of r.0.object ≡ seats) × (r.0.object.queue.seats ≡ seats) × (r.1.items ≡ fresh_sem_seats r.0.object stint 0 seats))
+            (IsOpenFault start size seats stint) }
+    {
+        let (credit, credit_seats) = match opened_credit(alloc, start, size, seats, stint) {
+            Ok(opened) => opened,
+            Err(fault) => return Err(fault),
+        };
+        let Ok((queue, queue_seats)) = Queue::open(alloc, size, seats, stint) else {
+            return Err(OpenFault::Memory);
+        };
+        let semaphore = Semaphore { credit, queue };
+        match semaphore.paired(alloc, start, seats, stint, credit_seats, queue_seats) {
+            Ok(paired) => Ok((semaphore, paired)),
+            Err(_) => Err(OpenFault::Memory),
+        }
+    }
+
+    /// A seat for each seat of the credit and the seat of the wait queue with the same name.
+    fn paired(
+        &self,
+        alloc: Global,
+        start: u64,
+        seats: u64,
+        stint: u64,
+        credit_seats: Vec<CreditSeat>,
+        queue_seats: Vec<Seat<T>>,
+    ) -> Result<Vec<SemSeat<T>>, AllocError>
+        requires start { self.now.object.start ≡ start }
+        requires seats { (self.now.object.credit.seats ≡ seats) × (self.now.object.queue.seats ≡ seats) }
+        requires credit { credit_seats.items ≡ fresh_seats self.now.object.credit stint 0 seats }
+        requires queue { queue_seats.items ≡ fresh_seats self.now.object.queue stint 0 seats }
+        ensures { IfOk result (λ r. r.items ≡ fresh_sem_seats self.now.object stint 0 seats) }
+    {
+        let mut paired = Vec::with_capacity(alloc, seats as usize)?;
+        let mut credits = credit_seats.into_iter();
+        let mut queues = queue_seats.into_iter();
+        for _name in 0..seats {
+            let Some(credit) = credits.next() else {
+                unreachable!()
+            };
+            let Some(queue) = queues.next() else {
+                unreachable!()
+            };
+            paired.push(SemSeat {
+                start,
+                credit,
+                queue,
+            })?;
+        }
+        Ok(paired)
+    }
+
     /// Subtracts 1. Where it found at least 1 the item passes and comes back; else it is parked, which waits for room in the
     /// wait queue.
     ///
@@ -75,6 +147,46 @@ impl<T: Drop> Semaphore<T> {
             return Ok(None);
         }
         Ok(Some(delete_at_last(&self.queue, rt, &mut seat.queue)))
+    }
+
+    /// The tally with one more seat.
+    pub fn join(&self, tally: SemTally<T>, seat: SemSeat<T>) -> SemTally<T>
+        requires object { (tally.object ≡ self.now.object) × (seat.object ≡ self.now.object) }
+        ensures joined { JoinsSeat self.now.size tally seat result }
+        ensures object { result.object ≡ self.now.object }
+    {
+        let SemTally {
+            start,
+            credit,
+            queue,
+        } = tally;
+        let SemSeat {
+            start: _,
+            credit: credit_seat,
+            queue: queue_seat,
+        } = seat;
+        SemTally {
+            start,
+            credit: self.credit.join(credit, credit_seat),
+            queue: self.queue.join(queue, queue_seat),
+        }
+    }
+
+    /// Closes the semaphore, once all seats are in the tally. What is left is the items of the downs that neither passed
+    /// nor were woken, oldest first.
+    pub fn close(self, tally: SemTally<T>) -> Rest<T>
+        requires object { tally.object ≡ self.object }
+        requires whole { IsWhole (seats_of self.object) tally.names }
+        ensures rest { result ≡ contents tally.queue_seen }
+        ensures settled { IsSettled self.object.start tally.credit_seen tally.queue_seen }
+    {
+        let Semaphore { credit: _, queue } = self;
+        let SemTally {
+            start: _,
+            credit: _,
+            queue: parked,
+        } = tally;
+        queue.close(parked)
     }
 }
 

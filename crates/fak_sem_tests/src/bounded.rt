@@ -8,7 +8,7 @@ ghost use Rattle.fak_sem.specs.Steps.{IsWornStep, ParksSince, WakesSince};
 use fak_sem::{SemSeat, SemWorn, Semaphore, StepSeat, StepState, Worn};
 use std::process::Abort;
 
-// Answers what `down` answers, or `None` where the down stays open after this many steps.
+/// Answers what `down` answers, or `None` where the down stays open after this many steps.
 pub fn try_down<T: Drop>(
     semaphore: &Semaphore<T>,
     seat: &mut StepSeat<T>,
@@ -35,7 +35,7 @@ pub fn try_down<T: Drop>(
     Ok(None)
 }
 
-// Answers what `up` answers, or `None` where the up stays open after this many steps.
+/// Answers what `up` answers, or `None` where the up stays open after this many steps.
 pub fn try_up<T: Drop>(
     semaphore: &Semaphore<T>,
     seat: &mut StepSeat<T>,
@@ -61,7 +61,7 @@ pub fn try_up<T: Drop>(
     Ok(None)
 }
 
-// The seat that a seat by steps is, once its call is done.
+/// The seat that a seat by steps is, once its call is done.
 pub fn ended(rt: &impl Abort, semaphore: &Semaphore<u64>, seat: StepSeat<u64>) -> SemSeat<u64>
     requires { seat.seat.object ≡ semaphore.now.object }
     ensures { result.object ≡ semaphore.now.object }
@@ -72,7 +72,7 @@ pub fn ended(rt: &impl Abort, semaphore: &Semaphore<u64>, seat: StepSeat<u64>) -
     }
 }
 
-// A down by steps, as often as need be.
+/// A down by steps, as often as need be.
 pub fn down_by_steps(
     rt: &impl Abort,
     semaphore: &Semaphore<u64>,
@@ -91,7 +91,7 @@ pub fn down_by_steps(
     (ended(rt, semaphore, steps), passed)
 }
 
-// An up by steps, as often as need be.
+/// An up by steps, as often as need be.
 pub fn up_by_steps(
     rt: &impl Abort,
     semaphore: &Semaphore<u64>,

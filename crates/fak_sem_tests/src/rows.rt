@@ -42,13 +42,13 @@ fn seats_with_one_call(rt: HostRuntime) {
     leaves_nothing(&rt, semaphore, tally);
 }
 
-// A value that is moved and never copied.
+/// A value that is moved and never copied.
 #[derive(PartialEq, Drop)]
 struct Load {
     id: u64,
 }
 
-// An up that wakes no item, a down that passes, three that park, and an up that wakes the oldest.
+/// An up that wakes no item, a down that passes, three that park, and an up that wakes the oldest.
 #[cfg(test)]
 fn call_with_loads<R: Abort + Wait>(rt: &R, semaphore: &Semaphore<Load>, seat: &mut SemSeat<Load>)
     requires { seat.old.object ≡ semaphore.now.object }
@@ -73,7 +73,7 @@ fn items_that_nobody_woke(rt: HostRuntime) {
     assert!(rt; rest.next() == None);
 }
 
-// Why a semaphore is not opened with these.
+/// Why a semaphore is not opened with these.
 #[cfg(test)]
 fn refusal(rt: &impl Abort, alloc: Global, limits: (u64, u64, u64, u64)) -> OpenFault {
     let (start, size, seats, stint) = limits;
@@ -103,7 +103,7 @@ fn the_ranges_of_an_opening(rt: HostRuntime) {
     }
 }
 
-// Downs with the numbers below `count`; how many of them passed. A worn seat ends it.
+/// Downs with the numbers below `count`; how many of them passed. A worn seat ends it.
 fn down_below<R: Wait>(
     rt: &R,
     semaphore: &Semaphore<u64>,
@@ -125,7 +125,7 @@ fn down_below<R: Wait>(
     passed
 }
 
-// Whether all seats are in the tally. Then the wait queue's counts are the number of parked items.
+/// Whether all seats are in the tally. Then the wait queue's counts are the number of parked items.
 fn counts_the_parked(tally: &SemTally<u64>) -> bool
     ensures { IsTrue result → lower_count tally.now.queue_seen ≡ pos (length (contents tally.now.queue_seen)) }
 {

@@ -8,10 +8,10 @@ use fak_sem::{SemSeat, SemTally, SemWorn, Semaphore, StepSeat, StepState, Worn};
 use std::alloc::Global;
 use std::process::Abort;
 
-// The third seat of a test.
+/// The third seat of a test.
 const C: usize = 2;
 
-// A step, and what it is to answer.
+/// A step, and what it is to answer.
 #[derive(Drop)]
 enum Call {
     Down(u64, Result<Option<u64>, SemWorn<u64>>),
@@ -21,7 +21,7 @@ enum Call {
 }
 
 impl Call {
-    // Makes the step where the seat is ready for it, and tells whether it was answered so.
+    /// Makes the step where the seat is ready for it, and tells whether it was answered so.
     fn is_met(&self, semaphore: &Semaphore<u64>, seat: &mut StepSeat<u64>) -> bool
         requires { seat.old.seat.object ≡ semaphore.now.object }
         ensures { seat.new.seat.object ≡ semaphore.now.object }
@@ -48,10 +48,10 @@ impl Call {
     }
 }
 
-// A row: the seat, its step, its state afterwards, and the calls left.
+/// A row: the seat, its step, its state afterwards, and the calls left.
 type Row = (usize, Call, StepState, u64);
 
-// Takes the seat's row, and tells whether all is as it says.
+/// Takes the seat's row, and tells whether all is as it says.
 fn meets(semaphore: &Semaphore<u64>, seat: &mut StepSeat<u64>, row: &Row) -> bool
     requires { seat.old.seat.object ≡ semaphore.now.object }
     ensures { seat.new.seat.object ≡ semaphore.now.object }
@@ -60,7 +60,7 @@ fn meets(semaphore: &Semaphore<u64>, seat: &mut StepSeat<u64>, row: &Row) -> boo
     call.is_met(semaphore, seat) && seat.state() == *stands && seat.left() == *left
 }
 
-// Takes a row with the seat of this number.
+/// Takes a row with the seat of this number.
 fn meets_at(
     semaphore: &Semaphore<u64>,
     seats: &mut Vec<StepSeat<u64>>,
@@ -74,7 +74,7 @@ fn meets_at(
     meets(semaphore, &mut seats[name], row)
 }
 
-// Takes the rows in their order, each with the seat of its number.
+/// Takes the rows in their order, each with the seat of its number.
 fn walk(rt: &impl Abort, semaphore: &Semaphore<u64>, seats: &mut Vec<StepSeat<u64>>, rows: &[Row])
     requires { All (λ s. s.seat.object ≡ semaphore.now.object) seats.old.items }
     ensures { All (λ s. s.seat.object ≡ semaphore.now.object) seats.new.items }
@@ -87,7 +87,7 @@ fn walk(rt: &impl Abort, semaphore: &Semaphore<u64>, seats: &mut Vec<StepSeat<u6
     }
 }
 
-// The seats, each going by steps; A is the last of them.
+/// The seats, each going by steps; A is the last of them.
 fn by_steps(
     rt: &impl Abort,
     alloc: Global,
@@ -105,7 +105,7 @@ fn by_steps(
     steps
 }
 
-// Takes out the last of the seats, whose call is done.
+/// Takes out the last of the seats, whose call is done.
 fn take_ended(
     rt: &impl Abort,
     semaphore: &Semaphore<u64>,
@@ -121,7 +121,7 @@ fn take_ended(
     ended(rt, semaphore, seat)
 }
 
-// The tally of these seats, whose calls are done.
+/// The tally of these seats, whose calls are done.
 fn joined(
     rt: &impl Abort,
     semaphore: &Semaphore<u64>,

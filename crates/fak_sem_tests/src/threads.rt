@@ -11,14 +11,14 @@ use std::sync::atomic::{AtomicUsize, Ordering};
 use std::sync::{Mutex, Wait};
 use std::thread::{Threads, map_vec};
 
-// How many threads have come, and the numbers of all that passed or were woken.
+/// How many threads have come, and the numbers of all that passed or were woken.
 #[derive(Drop)]
 struct Turnout {
     come: AtomicUsize,
     all: Mutex<Vec<u64>>,
 }
 
-// How the calls are made: they wait, or they go by steps, or the threads take turns at both ways.
+/// How the calls are made: they wait, or they go by steps, or the threads take turns at both ways.
 #[derive(Clone, Copy, Drop)]
 enum Way {
     Waiting,
@@ -27,7 +27,7 @@ enum Way {
 }
 
 impl Way {
-    // Whether the threads of this pair go by steps.
+    /// Whether the threads of this pair go by steps.
     fn goes_by_steps(self, pair: u64) -> bool {
         match self {
             Way::Waiting => false,
@@ -37,7 +37,7 @@ impl Way {
     }
 }
 
-// Fifty downs, with the numbers after `base`; those that passed go into the list.
+/// Fifty downs, with the numbers after `base`; those that passed go into the list.
 fn downs<R: Wait>(
     rt: &R,
     semaphore: &Semaphore<u64>,
@@ -56,7 +56,7 @@ fn downs<R: Wait>(
     seat
 }
 
-// Fifty ups; those that were woken go into the list.
+/// Fifty ups; those that were woken go into the list.
 fn ups<R: Wait>(
     rt: &R,
     semaphore: &Semaphore<u64>,
@@ -74,7 +74,7 @@ fn ups<R: Wait>(
     seat
 }
 
-// As `downs`, by steps.
+/// As `downs`, by steps.
 fn downs_by_steps(
     rt: &impl Abort,
     semaphore: &Semaphore<u64>,
@@ -95,7 +95,7 @@ fn downs_by_steps(
     seat
 }
 
-// As `ups`, by steps.
+/// As `ups`, by steps.
 fn ups_by_steps(
     rt: &impl Abort,
     semaphore: &Semaphore<u64>,
@@ -121,7 +121,7 @@ fn add_all(all: &mut Vec<u64>, list: Vec<u64>) {
     }
 }
 
-// The downs of a thread that came as the first, the third and so on, with the numbers after a base of its own; the ups of another.
+/// The downs of a thread that came as the first, the third and so on, with the numbers after a base of its own; the ups of another.
 fn work<R: Abort + Wait>(
     rt: &R,
     alloc: Global,
@@ -148,7 +148,7 @@ fn work<R: Abort + Wait>(
     seat
 }
 
-// Has all seats work at once.
+/// Has all seats work at once.
 fn work_all<R: Abort + Threads + Wait + Sync>(
     rt: &R,
     alloc: Global,
@@ -170,7 +170,7 @@ fn work_all<R: Abort + Threads + Wait + Sync>(
     seats
 }
 
-// Whether the list has the numbers after each of `pairs` bases, 1,000 apart, fifty each, each once.
+/// Whether the list has the numbers after each of `pairs` bases, 1,000 apart, fifty each, each once.
 fn are_all(rt: &impl Abort, mut list: Vec<u64>, base: u64, pairs: u64) -> bool {
     list.sort().expect(rt, "memory to sort");
     let mut place = 0usize;
@@ -186,7 +186,7 @@ fn are_all(rt: &impl Abort, mut list: Vec<u64>, base: u64, pairs: u64) -> bool {
     place == list.len()
 }
 
-// This many pairs of threads at once, one with fifty downs and one with fifty ups. Nothing is to be left.
+/// This many pairs of threads at once, one with fifty downs and one with fifty ups. Nothing is to be left.
 fn storm<R: Abort + Threads + Wait + Sync>(
     rt: &R,
     alloc: Global,

@@ -4,14 +4,20 @@ ghost use Rattle.std.specs.Prelude.{◌≡◌, MatchResult};
 ghost use Rattle.fak_model.specs.declared.credit.CreditKind.TheVariants.{Debit, Credit as Credited};
 ghost use Rattle.fak_count.specs.Credits.{MakesCall, IsWorn, Observes};
 ghost use Rattle.fak_count.specs.Seats.{IsSeatOf};
+ghost use Rattle.fak_model.specs.Calls.{fresh_seats, IsJoined};
+ghost use Rattle.fak_count.specs.Opening.{IsInRange, IsOpenFault};
+ghost use Rattle.fak_model.specs.Credit.{credit_rules};
 
 use crate::credits::limits::CreditLimits;
 use crate::credits::rule::{CreditRule, CreditView};
 use crate::credits::seat::CreditSeat;
-use crate::credits::steps::{credit, debit, observe};
-use crate::fault::Worn;
+use crate::credits::steps::{credit, debit, hear, observe};
+use crate::credits::tally::CreditTally;
+use crate::fault::{OpenFault, Worn};
+use crate::opening::tested_limits;
+use crate::words::{COUNT, WORDS};
 use atomic_table::Table;
-use fak_model::count_of;
+use fak_model::{BIAS, Both, Deal, count_of};
 use std::alloc::Global;
 use std::fmt;
 use std::marker::{Brand, Model};
@@ -36,6 +42,48 @@ impl Model for Credit {
 }
 
 impl Credit {
+    /// A credit that begins at `start`, with its seats, each of which may make `stint` debits and credits together.
+    ///
+    /// `start` is 0 to 4,294,967,296, `seats` 1 to 64, `stint` 1 to 2^40.
+    pub fn open(
+        alloc: Global,
+        start: u64,
+        seats: u64,
+        stint: u64,
+    ) -> Result<(Credit, Vec<CreditSeat>), OpenFault>
+        ensures { MatchResult result (λ r. IsInRange start seats stint × (r.0.start ≡ start) × (r.0.object.seats ≡ seats)
+            × (r.1.items ≡ fresh_seats r.0.object stint 0 seats)) (IsOpenFault start seats stint) }
+    {
+        if let Err(fault) = tested_limits(start, seats, stint) {
+            return Err(fault);
+        }
+        let mut words = [0; WORDS];
+        words[COUNT] = BIAS + start;
+        let key = CreditLimits {
+            start,
+            seats,
+            stint,
+        };
+        let Ok((table, mut rest)) = Table::of_words(alloc, &words, &key) else {
+            return Err(OpenFault::Memory);
+        };
+        let Ok(mut dealt) = Vec::with_capacity(alloc, seats as usize) else {
+            return Err(OpenFault::Memory);
+        };
+        for name in 0..seats {
+            let seat = CreditSeat {
+                token: table.shared.split_seat::<Deal>(&mut rest),
+                name,
+                seats,
+                left: stint,
+            };
+            if dealt.push(seat).is_err() {
+                return Err(OpenFault::Memory);
+            }
+        }
+        Ok((Credit { table }, dealt))
+    }
+
     /// Subtracts 1, and answers the value before.
     pub fn debit(&self, seat: &mut CreditSeat) -> Result<i64, Worn>
         requires object { IsSeatOf self.now.object seat.old }
@@ -72,6 +120,33 @@ impl Credit {
     {
         let found = observe::<Brand>(&self.table.shared, &mut seat.token);
         count_of(found)
+    }
+
+    /// The tally with one more seat.
+    pub fn join(&self, tally: CreditTally, seat: CreditSeat) -> CreditTally
+        requires object { (tally.object ≡ self.now.object) × IsSeatOf self.now.object seat }
+        ensures joined { IsJoined credit_rules tally seat result }
+        ensures object { result.object ≡ self.now.object }
+    {
+        let CreditTally {
+            mut token,
+            mut names,
+            seats,
+        } = tally;
+        let CreditSeat {
+            token: other,
+            name,
+            seats: _,
+            left: _,
+        } = seat;
+        self.table.shared.join_seat::<Both>(&mut token, other);
+        hear::<Brand>(&self.table.shared, &mut token);
+        names.insert(name);
+        CreditTally {
+            token,
+            names,
+            seats,
+        }
     }
 }
 

@@ -4,14 +4,20 @@ ghost use Rattle.std.specs.Prelude.{◌≡◌, ◌+◌, ◌≤◌, MatchResult, 
 ghost use Rattle.fak_model.specs.declared.room.RoomKind.TheVariants.{Release};
 ghost use Rattle.fak_count.specs.Rooms.{held_amount, IsGranted, IsRefused, MakesCall};
 ghost use Rattle.fak_count.specs.Seats.{IsSeatOf};
+ghost use Rattle.fak_model.specs.Calls.{fresh_seats, IsJoined};
+ghost use Rattle.fak_count.specs.Opening.{IsInRange, IsOpenFault};
+ghost use Rattle.fak_model.specs.Room.{room_rules};
 
-use crate::fault::TirFault;
+use crate::fault::{OpenFault, TirFault};
+use crate::opening::tested_limits;
 use crate::rooms::limits::RoomLimits;
 use crate::rooms::rule::{RoomRule, RoomView};
 use crate::rooms::seat::RoomSeat;
-use crate::rooms::steps::{add, release, test, withdraw};
+use crate::rooms::steps::{add, hear, release, test, withdraw};
+use crate::rooms::tally::RoomTally;
+use crate::words::{COUNT, WORDS};
 use atomic_table::Table;
-use fak_model::{BIAS, count_of};
+use fak_model::{BIAS, Both, Deal, count_of};
 use std::alloc::Global;
 use std::fmt;
 use std::marker::{Brand, Model};
@@ -39,6 +45,45 @@ impl Model for Room {
 }
 
 impl Room {
+    /// A room whose count is 0, with its seats, each of which may be granted `stint` claims.
+    ///
+    /// `bound` is 0 to 4,294,967,296, `seats` 1 to 64, `stint` 1 to 2^40.
+    pub fn open(
+        alloc: Global,
+        bound: u64,
+        seats: u64,
+        stint: u64,
+    ) -> Result<(Room, Vec<RoomSeat>), OpenFault>
+        ensures { MatchResult result (λ r. IsInRange bound seats stint × (r.0.bound ≡ bound) × (r.0.object.seats ≡ seats)
+            × (r.1.items ≡ fresh_seats r.0.object stint 0 seats)) (IsOpenFault bound seats stint) }
+    {
+        if let Err(fault) = tested_limits(bound, seats, stint) {
+            return Err(fault);
+        }
+        let mut words = [0; WORDS];
+        words[COUNT] = BIAS;
+        let Ok((table, mut rest)) = Table::of_words(alloc, &words, &RoomLimits { bound, seats })
+        else {
+            return Err(OpenFault::Memory);
+        };
+        let Ok(mut dealt) = Vec::with_capacity(alloc, seats as usize) else {
+            return Err(OpenFault::Memory);
+        };
+        for name in 0..seats {
+            let seat = RoomSeat {
+                token: table.shared.split_seat::<Deal>(&mut rest),
+                name,
+                seats,
+                left: stint,
+                held: 0,
+            };
+            if dealt.push(seat).is_err() {
+                return Err(OpenFault::Memory);
+            }
+        }
+        Ok((Room { table, bound }, dealt))
+    }
+
     /// Claims `d`, 1 to 1,024, where it fits beside the value, and answers the value that the add found.
     pub fn tir(&self, seat: &mut RoomSeat, d: u64) -> Result<i64, TirFault>
         requires amount { (1 ≤ d) × (d ≤ 1024) }
@@ -79,6 +124,34 @@ impl Room {
         let found = release::<Brand>(&self.table.shared, &mut seat.token, d);
         seat.held -= d;
         count_of(found)
+    }
+
+    /// The tally with one more seat.
+    pub fn join(&self, tally: RoomTally, seat: RoomSeat) -> RoomTally
+        requires object { (tally.object ≡ self.now.object) × IsSeatOf self.now.object seat }
+        ensures joined { IsJoined (room_rules self.now.bound) tally seat result }
+        ensures object { result.object ≡ self.now.object }
+    {
+        let RoomTally {
+            mut token,
+            mut names,
+            seats,
+        } = tally;
+        let RoomSeat {
+            token: other,
+            name,
+            seats: _,
+            left: _,
+            held: _,
+        } = seat;
+        self.table.shared.join_seat::<Both>(&mut token, other);
+        hear::<Brand>(&self.table.shared, &mut token);
+        names.insert(name);
+        RoomTally {
+            token,
+            names,
+            seats,
+        }
     }
 }
 
