@@ -1,7 +1,7 @@
 //! Cases that are measured, in rounds.
 
 use crate::fault::Fault;
-use crate::handover::GateCase;
+use crate::handover::SemaphoreCase;
 use crate::queues::QueueCase;
 use crate::spread::{Spread, spread_of};
 use crate::visits::TableCase;
@@ -24,7 +24,7 @@ pub struct Plan {
 #[derive(Clone, Copy)]
 pub enum Case {
     Queue(QueueCase),
-    Gate(GateCase),
+    Semaphore(SemaphoreCase),
     Table(TableCase),
 }
 
@@ -39,7 +39,7 @@ impl Case {
     ) -> Result<(), Fault> {
         let nanos = match self {
             Case::Queue(case) => case.once(rt, alloc, items)?,
-            Case::Gate(case) => Some(case.once(rt, alloc, items)?),
+            Case::Semaphore(case) => Some(case.once(rt, alloc, items)?),
             Case::Table(case) => Some(case.once(rt, alloc, items)?),
         };
         if let Some(nanos) = nanos {

@@ -3,9 +3,9 @@
 ghost use Rattle.std.specs.Prelude.{◌≡◌, IfOk};
 
 use crate::fault::Fault;
-use crate::gate::{Gate, LockGate, SeatGate};
 use crate::queues::STINT;
 use crate::run::{Job, Passed, numbers_below, run_all};
+use crate::semaphore_handle::{LockedSemaphore, SeatSemaphore, SemaphoreHandle};
 use fak_sem::{SemSeat, Semaphore};
 use std::alloc::Global;
 use std::marker::Sync;
@@ -13,10 +13,10 @@ use std::sync::{Condvar, Mutex, Wait};
 use std::thread::{Parker, Threads};
 use std::time::Clock;
 
-/// A thread that goes down and up at its gate, this many times.
+/// A thread that goes down and up with its handle, this many times.
 #[derive(Drop)]
 struct Alone<G> {
-    gate: G,
+    handle: G,
     count: u64,
 }
 
@@ -29,11 +29,11 @@ struct InTurn<G> {
     begins: bool,
 }
 
-impl<G: Gate + Send> Job for Alone<G> {
+impl<G: SemaphoreHandle + Send> Job for Alone<G> {
     fn work<R: Wait>(&mut self, rt: &R) -> Passed {
         let mut passed = Passed::NONE;
         for number in 0..self.count {
-            if self.gate.down(rt) && self.gate.up(rt) {
+            if self.handle.down(rt) && self.handle.up(rt) {
                 passed = passed.with(number);
             }
         }
@@ -41,8 +41,8 @@ impl<G: Gate + Send> Job for Alone<G> {
     }
 }
 
-/// The other's gate up, then its own down.
-fn serve<R: Wait, G: Gate>(rt: &R, ours: &mut G, theirs: &mut G, count: u64) -> Passed {
+/// The other's semaphore up, then its own down.
+fn serve<R: Wait, G: SemaphoreHandle>(rt: &R, ours: &mut G, theirs: &mut G, count: u64) -> Passed {
     let mut passed = Passed::NONE;
     for number in 0..count {
         if theirs.up(rt) && ours.down(rt) {
@@ -52,8 +52,8 @@ fn serve<R: Wait, G: Gate>(rt: &R, ours: &mut G, theirs: &mut G, count: u64) -> 
     passed
 }
 
-/// Its own gate down, then the other's up.
-fn answer<R: Wait, G: Gate>(rt: &R, ours: &mut G, theirs: &mut G, count: u64) {
+/// Its own semaphore down, then the other's up.
+fn answer<R: Wait, G: SemaphoreHandle>(rt: &R, ours: &mut G, theirs: &mut G, count: u64) {
     for _ in 0..count {
         if !ours.down(rt) || !theirs.up(rt) {
             return;
@@ -61,7 +61,7 @@ fn answer<R: Wait, G: Gate>(rt: &R, ours: &mut G, theirs: &mut G, count: u64) {
     }
 }
 
-impl<G: Gate + Send> Job for InTurn<G> {
+impl<G: SemaphoreHandle + Send> Job for InTurn<G> {
     /// Who begins counts.
     fn work<R: Wait>(&mut self, rt: &R) -> Passed {
         if self.begins {
@@ -74,7 +74,7 @@ impl<G: Gate + Send> Job for InTurn<G> {
 
 /// Which semaphore.
 #[derive(Clone, Copy)]
-pub enum Guard {
+pub enum SemaphoreKind {
     /// This repository's, with a parker for the thread that waits.
     Seats,
     /// A count under a lock, with a condition variable.
@@ -83,8 +83,8 @@ pub enum Guard {
 
 /// A semaphore by one thread, or two by two threads.
 #[derive(Clone, Copy)]
-pub struct GateCase {
-    pub guard: Guard,
+pub struct SemaphoreCase {
+    pub semaphore_kind: SemaphoreKind,
     pub is_shared: bool,
 }
 
@@ -92,7 +92,10 @@ pub struct GateCase {
 type Opened = (Semaphore<()>, SemSeat<()>, SemSeat<()>);
 
 /// The semaphore with its two seats.
-fn open_gate(alloc: Global, start: u64) -> Result<(Semaphore<()>, SemSeat<()>, SemSeat<()>), Fault>
+fn open_semaphore(
+    alloc: Global,
+    start: u64,
+) -> Result<(Semaphore<()>, SemSeat<()>, SemSeat<()>), Fault>
     ensures { IfOk result (λ r. (r.1.object ≡ r.0.object) × (r.2.object ≡ r.0.object)) }
 {
     let Ok((semaphore, mut seats)) = Semaphore::<()>::open(alloc, start, 2, 2, STINT) else {
@@ -104,31 +107,38 @@ fn open_gate(alloc: Global, start: u64) -> Result<(Semaphore<()>, SemSeat<()>, S
     Ok((semaphore, first, second))
 }
 
-/// A seat's gate.
-fn seat_gate<'s>(semaphore: &'s Semaphore<()>, bell: &'s Parker, seat: SemSeat<()>) -> SeatGate<'s>
+/// A seat's handle.
+fn seat_handle<'s>(
+    semaphore: &'s Semaphore<()>,
+    bell: &'s Parker,
+    seat: SemSeat<()>,
+) -> SeatSemaphore<'s>
     requires { seat.object ≡ semaphore.now.object }
 {
-    SeatGate {
+    SeatSemaphore {
         semaphore,
         bell,
         seat,
     }
 }
 
-/// One thread at one gate.
-fn run_alone<R: Threads + Wait + Clock + Sync, G: Gate + Send>(
+/// One thread with one handle.
+fn run_alone<R: Threads + Wait + Clock + Sync, G: SemaphoreHandle + Send>(
     rt: &R,
     alloc: Global,
-    gate: G,
+    handle: G,
     items: u64,
 ) -> Result<u64, Fault> {
     let mut jobs = Vec::new(alloc);
-    jobs.push(Alone { gate, count: items })?;
+    jobs.push(Alone {
+        handle,
+        count: items,
+    })?;
     run_all(rt, jobs, numbers_below(items))
 }
 
-/// Two threads at two gates; a time for each time that one lets the other through.
-fn run_both<R: Threads + Wait + Clock + Sync, G: Gate + Send>(
+/// Two threads with two handles; a time for each time that one lets the other through.
+fn run_both<R: Threads + Wait + Clock + Sync, G: SemaphoreHandle + Send>(
     rt: &R,
     alloc: Global,
     first: (G, G),
@@ -157,9 +167,9 @@ fn alone_by_seats<R: Threads + Wait + Clock + Sync>(
     alloc: Global,
     items: u64,
 ) -> Result<u64, Fault> {
-    let (semaphore, seat, _other) = open_gate(alloc, 1)?;
+    let (semaphore, seat, _other) = open_semaphore(alloc, 1)?;
     let bell = Parker::new();
-    run_alone(rt, alloc, seat_gate(&semaphore, &bell, seat), items)
+    run_alone(rt, alloc, seat_handle(&semaphore, &bell, seat), items)
 }
 
 /// Two threads at these two semaphores, a seat of each for each thread.
@@ -177,12 +187,12 @@ fn both_at<R: Threads + Wait + Clock + Sync>(
     let (left, a, b) = left;
     let (right, c, d) = right;
     let first = (
-        seat_gate(&left, &bells.0, a),
-        seat_gate(&right, &bells.1, c),
+        seat_handle(&left, &bells.0, a),
+        seat_handle(&right, &bells.1, c),
     );
     let second = (
-        seat_gate(&right, &bells.1, d),
-        seat_gate(&left, &bells.0, b),
+        seat_handle(&right, &bells.1, d),
+        seat_handle(&left, &bells.0, b),
     );
     run_both(rt, alloc, first, second, items)
 }
@@ -193,12 +203,12 @@ fn both_by_seats<R: Threads + Wait + Clock + Sync>(
     alloc: Global,
     items: u64,
 ) -> Result<u64, Fault> {
-    let left = open_gate(alloc, 0)?;
-    let right = open_gate(alloc, 0)?;
+    let left = open_semaphore(alloc, 0)?;
+    let right = open_semaphore(alloc, 0)?;
     both_at(rt, alloc, left, right, items)
 }
 
-impl GateCase {
+impl SemaphoreCase {
     fn by_lock<R: Threads + Wait + Clock + Sync>(
         &self,
         rt: &R,
@@ -208,11 +218,11 @@ impl GateCase {
         let start = if self.is_shared { 0u64 } else { 1 };
         let counts = (Mutex::new(start), Mutex::new(start));
         let signals = (Condvar::new(), Condvar::new());
-        let left = || LockGate {
+        let left = || LockedSemaphore {
             count: &counts.0,
             risen: &signals.0,
         };
-        let right = || LockGate {
+        let right = || LockedSemaphore {
             count: &counts.1,
             risen: &signals.1,
         };
@@ -229,10 +239,10 @@ impl GateCase {
         alloc: Global,
         items: u64,
     ) -> Result<u64, Fault> {
-        let nanos = match self.guard {
-            Guard::Seats if self.is_shared => both_by_seats(rt, alloc, items)?,
-            Guard::Seats => alone_by_seats(rt, alloc, items)?,
-            Guard::Lock => self.by_lock(rt, alloc, items)?,
+        let nanos = match self.semaphore_kind {
+            SemaphoreKind::Seats if self.is_shared => both_by_seats(rt, alloc, items)?,
+            SemaphoreKind::Seats => alone_by_seats(rt, alloc, items)?,
+            SemaphoreKind::Lock => self.by_lock(rt, alloc, items)?,
         };
         Ok(nanos / items.max(1))
     }

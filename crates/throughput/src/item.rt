@@ -32,16 +32,16 @@ impl Item for u64 {
 /// An item that owns a `Vec`: 32 bytes, which are moved and never copied. The `Vec` has no block on the heap, so that no
 /// figure has the allocator in it.
 #[derive(Drop)]
-pub struct Parcel {
+pub struct OwnedItem {
     number: u64,
     words: Vec<u64>,
 }
 
-impl Item for Parcel {
+impl Item for OwnedItem {
     ghost shown = { λ parcel. parcel.number };
 
-    fn of(alloc: Global, number: u64) -> Parcel {
-        Parcel {
+    fn of(alloc: Global, number: u64) -> OwnedItem {
+        OwnedItem {
             number,
             words: Vec::new(alloc),
         }

@@ -7,16 +7,16 @@
 
 mod case;
 mod command;
+mod entry_handle;
 mod fault;
-mod gate;
 mod handover;
 mod item;
 mod passing;
-mod port;
+mod queue_handle;
 mod queues;
 mod report;
 mod run;
-mod shelf;
+mod semaphore_handle;
 mod spread;
 mod steps;
 mod table;

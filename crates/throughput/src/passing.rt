@@ -1,12 +1,12 @@
 //! What a thread does with a queue.
 
-use crate::port::Port;
+use crate::queue_handle::QueueHandle;
 use crate::run::{Job, Passed};
 use std::sync::Wait;
 
-/// What a thread does with its port.
+/// What a thread does with its handle.
 #[derive(Clone, Copy)]
-pub enum Part {
+pub enum Workload {
     /// It puts the items of these numbers in.
     Put { first: u64, end: u64 },
     /// It takes this many items out.
@@ -15,27 +15,27 @@ pub enum Part {
     Both { count: u64 },
 }
 
-/// A thread with its port.
+/// A thread with its handle.
 #[derive(Drop)]
 pub struct Passing<P> {
-    pub port: P,
-    pub part: Part,
+    pub handle: P,
+    pub workload: Workload,
 }
 
 /// Puts the items of these numbers in, until one does not go in.
-fn put_all<R: Wait, P: Port>(rt: &R, port: &mut P, first: u64, end: u64) {
+fn put_all<R: Wait, P: QueueHandle>(rt: &R, handle: &mut P, first: u64, end: u64) {
     for number in first..end {
-        if !port.put(rt, number) {
+        if !handle.put(rt, number) {
             return;
         }
     }
 }
 
 /// Takes this many items out.
-fn get_all<R: Wait, P: Port>(rt: &R, port: &mut P, count: u64) -> Passed {
+fn get_all<R: Wait, P: QueueHandle>(rt: &R, handle: &mut P, count: u64) -> Passed {
     let mut passed = Passed::NONE;
     for _ in 0..count {
-        if let Some(number) = port.get(rt) {
+        if let Some(number) = handle.get(rt) {
             passed = passed.with(number);
         }
     }
@@ -43,28 +43,28 @@ fn get_all<R: Wait, P: Port>(rt: &R, port: &mut P, count: u64) -> Passed {
 }
 
 /// Puts an item in and takes it out, this many times.
-fn pass_all<R: Wait, P: Port>(rt: &R, port: &mut P, count: u64) -> Passed {
+fn pass_all<R: Wait, P: QueueHandle>(rt: &R, handle: &mut P, count: u64) -> Passed {
     let mut passed = Passed::NONE;
     for number in 0..count {
-        if !port.put(rt, number) {
+        if !handle.put(rt, number) {
             return passed;
         }
-        if let Some(number) = port.get(rt) {
+        if let Some(number) = handle.get(rt) {
             passed = passed.with(number);
         }
     }
     passed
 }
 
-impl<P: Port + Send> Job for Passing<P> {
+impl<P: QueueHandle + Send> Job for Passing<P> {
     fn work<R: Wait>(&mut self, rt: &R) -> Passed {
-        match self.part {
-            Part::Put { first, end } => {
-                put_all(rt, &mut self.port, first, end);
+        match self.workload {
+            Workload::Put { first, end } => {
+                put_all(rt, &mut self.handle, first, end);
                 Passed::NONE
             }
-            Part::Get { count } => get_all(rt, &mut self.port, count),
-            Part::Both { count } => pass_all(rt, &mut self.port, count),
+            Workload::Get { count } => get_all(rt, &mut self.handle, count),
+            Workload::Both { count } => pass_all(rt, &mut self.handle, count),
         }
     }
 }

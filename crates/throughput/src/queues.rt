@@ -4,9 +4,9 @@ ghost use Rattle.std.specs.Prelude.{◌<◌};
 ghost use Rattle.throughput.specs.Seats.{AreIdle};
 
 use crate::fault::Fault;
-use crate::item::{Item, Parcel};
-use crate::passing::{Part, Passing};
-use crate::port::{LockPort, Port, RingPort, Row, SeatPort};
+use crate::item::{Item, OwnedItem};
+use crate::passing::{Passing, Workload};
+use crate::queue_handle::{LockedQueue, QueueHandle, RingQueue, Row, SeatQueue};
 use crate::run::{numbers_below, run_all};
 use crate::steps::time_steps;
 use crossbeam_queue::ArrayQueue;
@@ -20,7 +20,7 @@ use std::time::Clock;
 
 /// Which queue.
 #[derive(Clone, Copy)]
-pub enum Way {
+pub enum Implementation {
     /// This repository's.
     Seats,
     /// The kit's by compare-and-swap.
@@ -33,18 +33,18 @@ pub enum Way {
 
 /// Which items.
 #[derive(Clone, Copy)]
-pub enum Goods {
+pub enum ItemKind {
     /// A `u64`.
     Number,
     /// A struct that holds a `Vec`.
-    Parcel,
+    OwnedItem,
 }
 
 /// A queue of this many cells, with this many pairs of threads; with none, one thread does both.
 #[derive(Clone, Copy)]
 pub struct QueueCase {
-    pub way: Way,
-    pub goods: Goods,
+    pub implementation: Implementation,
+    pub item_kind: ItemKind,
     pub size: u64,
     pub pairs: u64,
     ghost some: { 0 < size },
@@ -53,46 +53,46 @@ pub struct QueueCase {
 /// The tickets of each seat, more than a run draws.
 pub const STINT: u64 = 1 << 40;
 
-/// A port for each seat.
-fn seat_ports<'q, T: Item>(
+/// A handle for each seat.
+fn seat_handles<'q, T: Item>(
     alloc: Global,
     queue: &'q Queue<T>,
     mut seats: Vec<Seat<T>>,
-) -> Result<Vec<SeatPort<'q, T>>, AllocError>
+) -> Result<Vec<SeatQueue<'q, T>>, AllocError>
     requires { AreIdle queue.now.object seats.items }
 {
-    let mut ports = Vec::new(alloc);
+    let mut handles = Vec::new(alloc);
     while let Some(seat) = seats.pop() {
-        ports.push(SeatPort { alloc, queue, seat })?;
+        handles.push(SeatQueue { alloc, queue, seat })?;
     }
-    Ok(ports)
+    Ok(handles)
 }
 
 /// What the thread of this number does: with no pairs one does both, else the first of each pair puts in and the second takes out.
-fn part_of(number: u64, pairs: u64, items: u64) -> Part {
+fn part_of(number: u64, pairs: u64, items: u64) -> Workload {
     if pairs == 0 {
-        return Part::Both { count: items };
+        return Workload::Both { count: items };
     }
     if number % 2 != 0 {
-        return Part::Get { count: items };
+        return Workload::Get { count: items };
     }
     let first = (number / 2).wrapping_mul(items);
     let end = first.wrapping_add(items);
-    Part::Put { first, end }
+    Workload::Put { first, end }
 }
 
 /// What each thread does.
-fn jobs_of<P: Port>(
+fn jobs_of<P: QueueHandle>(
     alloc: Global,
-    mut ports: Vec<P>,
+    mut handles: Vec<P>,
     pairs: u64,
     items: u64,
 ) -> Result<Vec<Passing<P>>, AllocError> {
     let mut jobs = Vec::new(alloc);
     let mut number = 0u64;
-    while let Some(port) = ports.pop() {
-        let part = part_of(number, pairs, items);
-        jobs.push(Passing { port, part })?;
+    while let Some(handle) = handles.pop() {
+        let workload = part_of(number, pairs, items);
+        jobs.push(Passing { handle, workload })?;
         number = number.wrapping_add(1);
     }
     Ok(jobs)
@@ -109,16 +109,16 @@ impl QueueCase {
         self.pairs.max(1).saturating_mul(items)
     }
 
-    /// One run over these ports, in nanoseconds for each item.
-    fn over<R: Threads + Wait + Clock + Sync, P: Port + Send>(
+    /// One run over these handles, in nanoseconds for each item.
+    fn over<R: Threads + Wait + Clock + Sync, P: QueueHandle + Send>(
         &self,
         rt: &R,
         alloc: Global,
-        ports: Vec<P>,
+        handles: Vec<P>,
         items: u64,
     ) -> Result<u64, Fault> {
         let total = self.total(items);
-        let jobs = jobs_of(alloc, ports, self.pairs, items)?;
+        let jobs = jobs_of(alloc, handles, self.pairs, items)?;
         let nanos = run_all(rt, jobs, numbers_below(total))?;
         Ok(nanos / total.max(1))
     }
@@ -132,8 +132,8 @@ impl QueueCase {
         let Ok((queue, seats)) = Queue::<T>::open(alloc, self.size, self.threads(), STINT) else {
             return Err(Fault::Memory);
         };
-        let ports = seat_ports(alloc, &queue, seats)?;
-        self.over(rt, alloc, ports, items)
+        let handles = seat_handles(alloc, &queue, seats)?;
+        self.over(rt, alloc, handles, items)
     }
 
     fn by_ring<T: Item + Send, R: Threads + Wait + Clock + Sync>(
@@ -143,11 +143,11 @@ impl QueueCase {
         items: u64,
     ) -> Result<u64, Fault> {
         let ring = ArrayQueue::<T>::new(alloc, self.size as usize)?;
-        let mut ports = Vec::new(alloc);
+        let mut handles = Vec::new(alloc);
         for _ in 0..self.threads() {
-            ports.push(RingPort { alloc, ring: &ring })?;
+            handles.push(RingQueue { alloc, ring: &ring })?;
         }
-        self.over(rt, alloc, ports, items)
+        self.over(rt, alloc, handles, items)
     }
 
     fn by_lock<T: Item + Send, R: Threads + Wait + Clock + Sync>(
@@ -161,11 +161,11 @@ impl QueueCase {
             items: VecDeque::with_capacity(alloc, size)?,
             size,
         });
-        let mut ports = Vec::new(alloc);
+        let mut handles = Vec::new(alloc);
         for _ in 0..self.threads() {
-            ports.push(LockPort { alloc, row: &row })?;
+            handles.push(LockedQueue { alloc, row: &row })?;
         }
-        self.over(rt, alloc, ports, items)
+        self.over(rt, alloc, handles, items)
     }
 
     fn with_items<T: Item + Send, R: Threads + Wait + Clock + Sync>(
@@ -174,14 +174,14 @@ impl QueueCase {
         alloc: Global,
         items: u64,
     ) -> Result<Option<u64>, Fault> {
-        match self.way {
-            Way::Seats => self.by_seats::<T, R>(rt, alloc, items).map(Some),
-            Way::Ring => self.by_ring::<T, R>(rt, alloc, items).map(Some),
-            Way::Lock => self.by_lock::<T, R>(rt, alloc, items).map(Some),
-            Way::Steps if self.pairs == 0 => {
+        match self.implementation {
+            Implementation::Seats => self.by_seats::<T, R>(rt, alloc, items).map(Some),
+            Implementation::Ring => self.by_ring::<T, R>(rt, alloc, items).map(Some),
+            Implementation::Lock => self.by_lock::<T, R>(rt, alloc, items).map(Some),
+            Implementation::Steps if self.pairs == 0 => {
                 Ok(Some(time_steps(rt, alloc, self.size as usize, items)? / items.max(1)))
             }
-            Way::Steps => Ok(None),
+            Implementation::Steps => Ok(None),
         }
     }
 
@@ -192,9 +192,9 @@ impl QueueCase {
         alloc: Global,
         items: u64,
     ) -> Result<Option<u64>, Fault> {
-        match self.goods {
-            Goods::Number => self.with_items::<u64, R>(rt, alloc, items),
-            Goods::Parcel => self.with_items::<Parcel, R>(rt, alloc, items),
+        match self.item_kind {
+            ItemKind::Number => self.with_items::<u64, R>(rt, alloc, items),
+            ItemKind::OwnedItem => self.with_items::<OwnedItem, R>(rt, alloc, items),
         }
     }
 }

@@ -4,10 +4,10 @@ ghost use Rattle.std.specs.Prelude.{◌<◌};
 
 use crate::case::{Case, Plan, spreads_of};
 use crate::fault::Fault;
-use crate::handover::{GateCase, Guard};
-use crate::queues::{Goods, QueueCase, Way};
+use crate::handover::{SemaphoreCase, SemaphoreKind};
+use crate::queues::{Implementation, ItemKind, QueueCase};
 use crate::table::Table;
-use crate::visits::{Cover, TableCase};
+use crate::visits::{TableCase, TableKind};
 use std::alloc::{AllocError, Global};
 use std::marker::Sync;
 use std::sync::Wait;
@@ -24,17 +24,22 @@ const SHORT: Plan = Plan {
 fn queue_table(
     alloc: Global,
     title: &'static str,
-    goods: Goods,
+    item_kind: ItemKind,
     size: u64,
 ) -> Result<Table, AllocError>
     requires { 0 < size }
 {
     let mut cases = Vec::new(alloc);
-    for way in [Way::Seats, Way::Ring, Way::Lock, Way::Steps] {
+    for implementation in [
+        Implementation::Seats,
+        Implementation::Ring,
+        Implementation::Lock,
+        Implementation::Steps,
+    ] {
         for pairs in [0u64, 1, 2, 4] {
             let case = QueueCase {
-                way,
-                goods,
+                implementation,
+                item_kind,
                 size,
                 pairs,
             };
@@ -55,11 +60,14 @@ fn queue_table(
 }
 
 /// The table of semaphores.
-fn gate_table(alloc: Global, title: &'static str) -> Result<Table, AllocError> {
+fn semaphore_table(alloc: Global, title: &'static str) -> Result<Table, AllocError> {
     let mut cases = Vec::new(alloc);
-    for guard in [Guard::Seats, Guard::Lock] {
+    for semaphore_kind in [SemaphoreKind::Seats, SemaphoreKind::Lock] {
         for is_shared in [false, true] {
-            cases.push(Case::Gate(GateCase { guard, is_shared }))?;
+            cases.push(Case::Semaphore(SemaphoreCase {
+                semaphore_kind,
+                is_shared,
+            }))?;
         }
     }
     Ok(Table {
@@ -73,10 +81,10 @@ fn gate_table(alloc: Global, title: &'static str) -> Result<Table, AllocError> {
 /// A table of file tables, only read or written too.
 fn file_table(alloc: Global, title: &'static str, writes: bool) -> Result<Table, AllocError> {
     let mut cases = Vec::new(alloc);
-    for cover in [Cover::Seats, Cover::Readers, Cover::Lock] {
+    for table_kind in [TableKind::Seats, TableKind::Readers, TableKind::Lock] {
         for threads in [1u64, 2, 4] {
             let case = TableCase {
-                cover,
+                table_kind,
                 threads,
                 writes,
             };
@@ -95,22 +103,28 @@ fn file_table(alloc: Global, title: &'static str, writes: bool) -> Result<Table,
 #[derive(Clone, Copy)]
 enum Subject {
     /// Queues of such items, of this many cells.
-    Queues(Goods, u64),
+    Queues(ItemKind, u64),
     /// Semaphores.
-    Gates,
+    Semaphores,
     /// File tables, only read or written too.
     Files(bool),
 }
 
 /// The titles of all tables, and what they are of.
 const TABLES: &[(&str, Subject)] = &[
-    ("u64, 8 cells", Subject::Queues(Goods::Number, 8)),
-    ("u64, 1,000 cells", Subject::Queues(Goods::Number, 1000)),
-    ("u64, 1,024 cells", Subject::Queues(Goods::Number, 1024)),
-    ("Vec, 8 cells", Subject::Queues(Goods::Parcel, 8)),
-    ("Vec, 1,000 cells", Subject::Queues(Goods::Parcel, 1000)),
-    ("Vec, 1,024 cells", Subject::Queues(Goods::Parcel, 1024)),
-    ("semaphore", Subject::Gates),
+    ("u64, 8 cells", Subject::Queues(ItemKind::Number, 8)),
+    ("u64, 1,000 cells", Subject::Queues(ItemKind::Number, 1000)),
+    ("u64, 1,024 cells", Subject::Queues(ItemKind::Number, 1024)),
+    ("Vec, 8 cells", Subject::Queues(ItemKind::OwnedItem, 8)),
+    (
+        "Vec, 1,000 cells",
+        Subject::Queues(ItemKind::OwnedItem, 1000),
+    ),
+    (
+        "Vec, 1,024 cells",
+        Subject::Queues(ItemKind::OwnedItem, 1024),
+    ),
+    ("semaphore", Subject::Semaphores),
     ("entry, only read", Subject::Files(false)),
     ("1 write in 100", Subject::Files(true)),
 ];
@@ -118,8 +132,8 @@ const TABLES: &[(&str, Subject)] = &[
 /// The table of this. A queue has one cell at least.
 fn table_of(alloc: Global, title: &'static str, subject: Subject) -> Result<Table, AllocError> {
     match subject {
-        Subject::Queues(goods, size) => queue_table(alloc, title, goods, size.max(1)),
-        Subject::Gates => gate_table(alloc, title),
+        Subject::Queues(item_kind, size) => queue_table(alloc, title, item_kind, size.max(1)),
+        Subject::Semaphores => semaphore_table(alloc, title),
         Subject::Files(writes) => file_table(alloc, title, writes),
     }
 }

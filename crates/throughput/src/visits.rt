@@ -3,10 +3,10 @@
 ghost use Rattle.std.specs.Prelude.{◌<◌};
 ghost use Rattle.throughput.specs.Seats.{AreFree};
 
+use crate::entry_handle::{EntryHandle, LockedEntry, ReadersEntry, SeatEntry};
 use crate::fault::Fault;
 use crate::queues::STINT;
 use crate::run::{Job, Passed, run_all};
-use crate::shelf::{LockShelf, ReadersShelf, SeatShelf, Shelf};
 use fak_files::{FileEntry, FileSeat, FileTable};
 use std::alloc::{AllocError, Global};
 use std::marker::Sync;
@@ -23,21 +23,21 @@ const PERIOD: u64 = 100;
 /// A thread that visits an entry this many times, and writes in every hundredth call, or never.
 #[derive(Drop)]
 struct Visit<S> {
-    shelf: S,
+    handle: S,
     calls: u64,
     writes: bool,
 }
 
-impl<S: Shelf + Send> Job for Visit<S> {
+impl<S: EntryHandle + Send> Job for Visit<S> {
     /// Counts the calls in which the two fields were equal, and adds up the writes.
     fn work<R: Wait>(&mut self, rt: &R) -> Passed {
         let mut passed = Passed::NONE;
         for number in 0..self.calls {
             if self.writes && number % PERIOD == PERIOD - 1 {
-                if self.shelf.write(rt) {
+                if self.handle.write(rt) {
                     passed = passed.with(1);
                 }
-            } else if let Some(entry) = self.shelf.read(rt) {
+            } else if let Some(entry) = self.handle.read(rt) {
                 if entry.inode == entry.uses {
                     passed = passed.with(0);
                 }
@@ -49,7 +49,7 @@ impl<S: Shelf + Send> Job for Visit<S> {
 
 /// Which table.
 #[derive(Clone, Copy)]
-pub enum Cover {
+pub enum TableKind {
     /// This repository's file table.
     Seats,
     /// A lock that readers share.
@@ -61,34 +61,34 @@ pub enum Cover {
 /// An entry, with this many threads that read it, and write it in one call of a hundred or never.
 #[derive(Clone, Copy)]
 pub struct TableCase {
-    pub cover: Cover,
+    pub table_kind: TableKind,
     pub threads: u64,
     pub writes: bool,
 }
 
-/// A shelf for each seat.
-fn seat_shelves<'t>(
+/// A handle for each seat.
+fn seat_handles<'t>(
     alloc: Global,
     table: &'t FileTable,
     mut seats: Vec<FileSeat>,
-) -> Result<Vec<SeatShelf<'t>>, AllocError>
+) -> Result<Vec<SeatEntry<'t>>, AllocError>
     requires idle { AreFree table.now.object seats.items }
     requires some { 0 < table.now.entries }
 {
-    let mut shelves = Vec::new(alloc);
+    let mut handles = Vec::new(alloc);
     while let Some(seat) = seats.pop() {
-        shelves.push(SeatShelf { table, seat })?;
+        handles.push(SeatEntry { table, seat })?;
     }
-    Ok(shelves)
+    Ok(handles)
 }
 
-/// The same shelf this many times.
-fn copies_of<S: Copy + Drop>(alloc: Global, shelf: S, count: u64) -> Result<Vec<S>, AllocError> {
-    let mut shelves = Vec::new(alloc);
+/// The same handle this many times.
+fn copies_of<S: Copy + Drop>(alloc: Global, handle: S, count: u64) -> Result<Vec<S>, AllocError> {
+    let mut handles = Vec::new(alloc);
     for _ in 0..count {
-        shelves.push(shelf)?;
+        handles.push(handle)?;
     }
-    Ok(shelves)
+    Ok(handles)
 }
 
 impl TableCase {
@@ -97,23 +97,23 @@ impl TableCase {
         if self.writes { items / PERIOD } else { 0 }
     }
 
-    /// One run over these shelves and one more, by which the entry is read at the end.
-    fn over<R: Threads + Wait + Clock + Sync, S: Shelf + Send>(
+    /// One run over these handles and one more, by which the entry is read at the end.
+    fn over<R: Threads + Wait + Clock + Sync, S: EntryHandle + Send>(
         &self,
         rt: &R,
         alloc: Global,
-        mut shelves: Vec<S>,
+        mut handles: Vec<S>,
         items: u64,
     ) -> Result<u64, Fault> {
-        let Some(mut last) = shelves.pop() else {
+        let Some(mut last) = handles.pop() else {
             return Err(Fault::Lost);
         };
         let count = self.threads.saturating_mul(items);
         let sum = self.threads.saturating_mul(self.writes_of(items));
         let mut jobs = Vec::new(alloc);
-        for shelf in shelves {
+        for handle in handles {
             jobs.push(Visit {
-                shelf,
+                handle,
                 calls: items,
                 writes: self.writes,
             })?;
@@ -135,8 +135,8 @@ impl TableCase {
         let Ok((table, seats)) = FileTable::open(alloc, 1, seats, STINT) else {
             return Err(Fault::Memory);
         };
-        let shelves = seat_shelves(alloc, &table, seats)?;
-        self.over(rt, alloc, shelves, items)
+        let handles = seat_handles(alloc, &table, seats)?;
+        self.over(rt, alloc, handles, items)
     }
 
     fn by_readers<R: Threads + Wait + Clock + Sync>(
@@ -147,8 +147,8 @@ impl TableCase {
     ) -> Result<u64, Fault> {
         let entry = RwLock::new(BLANK);
         let seats = self.threads.saturating_add(1);
-        let shelves = copies_of(alloc, ReadersShelf { entry: &entry }, seats)?;
-        self.over(rt, alloc, shelves, items)
+        let handles = copies_of(alloc, ReadersEntry { entry: &entry }, seats)?;
+        self.over(rt, alloc, handles, items)
     }
 
     fn by_lock<R: Threads + Wait + Clock + Sync>(
@@ -159,8 +159,8 @@ impl TableCase {
     ) -> Result<u64, Fault> {
         let entry = Mutex::new(BLANK);
         let seats = self.threads.saturating_add(1);
-        let shelves = copies_of(alloc, LockShelf { entry: &entry }, seats)?;
-        self.over(rt, alloc, shelves, items)
+        let handles = copies_of(alloc, LockedEntry { entry: &entry }, seats)?;
+        self.over(rt, alloc, handles, items)
     }
 
     /// Runs it once, and answers the nanoseconds for each call.
@@ -170,10 +170,10 @@ impl TableCase {
         alloc: Global,
         items: u64,
     ) -> Result<u64, Fault> {
-        match self.cover {
-            Cover::Seats => self.by_seats(rt, alloc, items),
-            Cover::Readers => self.by_readers(rt, alloc, items),
-            Cover::Lock => self.by_lock(rt, alloc, items),
+        match self.table_kind {
+            TableKind::Seats => self.by_seats(rt, alloc, items),
+            TableKind::Readers => self.by_readers(rt, alloc, items),
+            TableKind::Lock => self.by_lock(rt, alloc, items),
         }
     }
 }

@@ -11,7 +11,7 @@ use std::collections::VecDeque;
 use std::sync::{Mutex, Wait};
 
 /// A queue in the hands of one thread.
-pub trait Port: Drop {
+pub trait QueueHandle: Drop {
     /// Puts the item of this number in, and waits while there is no room. Tells whether it went in.
     fn put<R: Wait>(&mut self, rt: &R, number: u64) -> bool;
 
@@ -21,14 +21,14 @@ pub trait Port: Drop {
 
 /// A seat of this repository's queue.
 #[derive(Drop)]
-pub struct SeatPort<'q, T> {
+pub struct SeatQueue<'q, T> {
     pub queue: &'q Queue<T>,
     pub alloc: Global,
     pub seat: Seat<T>,
     ghost idle: { IsIdleSeat queue.now.object seat },
 }
 
-impl<'q, T: Item> Port for SeatPort<'q, T> {
+impl<'q, T: Item> QueueHandle for SeatQueue<'q, T> {
     fn put<R: Wait>(&mut self, rt: &R, number: u64) -> bool {
         let item = T::of(self.alloc, number);
         self.queue.wait_insert(rt, &mut self.seat, item).is_ok()
@@ -44,12 +44,12 @@ impl<'q, T: Item> Port for SeatPort<'q, T> {
 
 /// The kit's queue by compare-and-swap.
 #[derive(Drop)]
-pub struct RingPort<'q, T> {
+pub struct RingQueue<'q, T> {
     pub alloc: Global,
     pub ring: &'q ArrayQueue<T>,
 }
 
-impl<'q, T: Item> Port for RingPort<'q, T> {
+impl<'q, T: Item> QueueHandle for RingQueue<'q, T> {
     fn put<R: Wait>(&mut self, rt: &R, number: u64) -> bool {
         let backoff = Backoff::new();
         let mut waiting = T::of(self.alloc, number);
@@ -97,12 +97,12 @@ impl<T: Drop> Row<T> {
 
 /// Such a row under a lock.
 #[derive(Drop)]
-pub struct LockPort<'q, T> {
+pub struct LockedQueue<'q, T> {
     pub alloc: Global,
     pub row: &'q Mutex<Row<T>>,
 }
 
-impl<'q, T: Item> Port for LockPort<'q, T> {
+impl<'q, T: Item> QueueHandle for LockedQueue<'q, T> {
     fn put<R: Wait>(&mut self, rt: &R, number: u64) -> bool {
         let backoff = Backoff::new();
         let mut waiting = T::of(self.alloc, number);

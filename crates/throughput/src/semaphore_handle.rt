@@ -7,7 +7,7 @@ use std::sync::{Condvar, Mutex, Wait};
 use std::thread::Parker;
 
 /// A counting semaphore in the hands of one thread.
-pub trait Gate: Drop {
+pub trait SemaphoreHandle: Drop {
     /// Adds 1, and wakes a thread that waits. Tells whether it did.
     fn up<R: Wait>(&mut self, rt: &R) -> bool;
 
@@ -18,14 +18,14 @@ pub trait Gate: Drop {
 /// A seat of this repository's semaphore, of which one thread waits. What is parked there represents that thread, and the thread that wakes
 /// it rings the bell.
 #[derive(Drop)]
-pub struct SeatGate<'s> {
+pub struct SeatSemaphore<'s> {
     pub semaphore: &'s Semaphore<()>,
     pub bell: &'s Parker,
     pub seat: SemSeat<()>,
     ghost same: { seat.object ≡ semaphore.now.object },
 }
 
-impl<'s> Gate for SeatGate<'s> {
+impl<'s> SemaphoreHandle for SeatSemaphore<'s> {
     fn up<R: Wait>(&mut self, rt: &R) -> bool {
         match self.semaphore.up(rt, &mut self.seat) {
             Ok(Some(())) => {
@@ -51,12 +51,12 @@ impl<'s> Gate for SeatGate<'s> {
 
 /// A count under a lock, and those that wait for it to rise.
 #[derive(Drop)]
-pub struct LockGate<'s> {
+pub struct LockedSemaphore<'s> {
     pub count: &'s Mutex<u64>,
     pub risen: &'s Condvar,
 }
 
-impl<'s> Gate for LockGate<'s> {
+impl<'s> SemaphoreHandle for LockedSemaphore<'s> {
     fn up<R: Wait>(&mut self, rt: &R) -> bool {
         let mut count = self.count.lock(rt);
         let Some(more) = count.checked_add(1) else {

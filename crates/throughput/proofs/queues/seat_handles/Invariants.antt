@@ -1,6 +1,6 @@
 use Rattle.std.proofs.Common.{vec_len}
 use Rattle.throughput.specs.Seats.{AreIdle}
-use Rattle.throughput.proofs.queues.seat_ports.Given as goal
+use Rattle.throughput.proofs.queues.seat_handles.Given as goal
 
 -- what is left to deal is idle
 abbrev pub invariant-loop-seat : goal.invariant-loop-seat

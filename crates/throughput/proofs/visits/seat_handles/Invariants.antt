@@ -1,6 +1,6 @@
 use Rattle.std.proofs.Common.{◌<◌, vec_len}
 use Rattle.throughput.specs.Seats.{AreFree}
-use Rattle.throughput.proofs.visits.seat_shelves.Given as goal
+use Rattle.throughput.proofs.visits.seat_handles.Given as goal
 
 -- what is left to deal is free
 abbrev pub invariant-loop-seat : goal.invariant-loop-seat

@@ -7,7 +7,7 @@ use fak_files::{FileEntry, FileField, FileSeat, FileTable};
 use std::sync::{Mutex, RwLock, Wait};
 
 /// An entry in the hands of one thread.
-pub trait Shelf: Drop {
+pub trait EntryHandle: Drop {
     /// Reads the entry.
     fn read<R: Wait>(&mut self, rt: &R) -> Option<FileEntry>;
 
@@ -25,7 +25,7 @@ fn raised(entry: FileEntry) -> FileEntry {
 
 /// A seat of this repository's file table.
 #[derive(Drop)]
-pub struct SeatShelf<'t> {
+pub struct SeatEntry<'t> {
     pub table: &'t FileTable,
     pub seat: FileSeat,
     ghost free: { IsFreeSeatOf table.now.object seat },
@@ -60,7 +60,7 @@ fn raise_first<R: Wait>(rt: &R, table: &FileTable, seat: &mut FileSeat) -> bool
     true
 }
 
-impl<'t> Shelf for SeatShelf<'t> {
+impl<'t> EntryHandle for SeatEntry<'t> {
     fn read<R: Wait>(&mut self, rt: &R) -> Option<FileEntry> {
         read_first(rt, self.table, &mut self.seat)
     }
@@ -72,11 +72,11 @@ impl<'t> Shelf for SeatShelf<'t> {
 
 /// An entry under a lock that readers share.
 #[derive(Clone, Copy, Drop)]
-pub struct ReadersShelf<'t> {
+pub struct ReadersEntry<'t> {
     pub entry: &'t RwLock<FileEntry>,
 }
 
-impl<'t> Shelf for ReadersShelf<'t> {
+impl<'t> EntryHandle for ReadersEntry<'t> {
     fn read<R: Wait>(&mut self, rt: &R) -> Option<FileEntry> {
         Some(*self.entry.read(rt))
     }
@@ -90,11 +90,11 @@ impl<'t> Shelf for ReadersShelf<'t> {
 
 /// An entry under a lock that nobody shares.
 #[derive(Clone, Copy, Drop)]
-pub struct LockShelf<'t> {
+pub struct LockedEntry<'t> {
     pub entry: &'t Mutex<FileEntry>,
 }
 
-impl<'t> Shelf for LockShelf<'t> {
+impl<'t> EntryHandle for LockedEntry<'t> {
     fn read<R: Wait>(&mut self, rt: &R) -> Option<FileEntry> {
         Some(*self.entry.lock(rt))
     }
