@@ -1,5 +1,5 @@
 -- What callers see of a queue and of its seats, and what calls do to them. Histories have the oldest mark first.
-use Rattle.std.specs.Prelude.{◌≡◌, ◌⊎◌, ℕ, ◌+◌, ◌<◌, ◌≤◌, ◌^◌, Bool, true, false, ℤ, List, [], ◌∷◌, map, reverse, Some, refl}
+use Rattle.std.specs.Prelude.{◌≡◌, ◌⊎◌, ℕ, ◌+◌, ◌<◌, ◌≤◌, ◌^◌, Bool, true, false, ℤ, List, [], ◌∷◌, map, reverse, Some, refl, Result, MatchResult}
 use Rattle.atomic_table.specs.Seated.{TableId}
 use Rattle.fak_model.specs.declared.queue.Kind.{Kind}
 use Rattle.fak_model.specs.declared.queue.Kind.TheVariants as made
@@ -45,6 +45,10 @@ tickets_in h = count puts h + count gots h
 -- the tickets that the seat has drawn
 abbrev pub drawn_by : {T : Type 0} → SeatInfo (Mark T) → ℕ
 drawn_by s = tickets_in (mine_of seat_of s)
+
+-- a call has drawn one ticket where it was granted, and none where it was refused
+abbrev pub DrawsIfGranted : {T A B : Type 0} → Result A B → SeatInfo (Mark T) → SeatInfo (Mark T) → Type 0
+DrawsIfGranted result old new = MatchResult result (λ _. drawn_by new ≡ drawn_by old + 1) (λ _. drawn_by new ≡ drawn_by old)
 
 -- where a seat whose open call has got this far stands
 abbrev pub state_at : {T : Type 0} → Stage T → SeatState

@@ -14,14 +14,30 @@ abbrev pub shut_part : Bool → ℕ
 shut_part true = 9223372036854775808
 shut_part false = 0
 
+-- where the counts, the ticket counters and the turns of the cells stand
+abbrev pub upper_word : ℕ
+upper_word = 16
+
+abbrev pub lower_word : ℕ
+lower_word = 32
+
+abbrev pub draws_in_word : ℕ
+draws_in_word = 48
+
+abbrev pub draws_out_word : ℕ
+draws_out_word = 64
+
+abbrev pub first_turn : ℕ
+first_turn = 80
+
 -- sixteen words, then the counts and the ticket counters, sixteen words apart, the turns of the cells, and sixteen words
 pub record AreWords (size : ℕ) (upper lower : ℤ) (draws_in draws_out : ℕ) (turn : ℕ → ℕ) (shut : Bool) (words : List ℕ) : Type 0 where
   pub wide : length words ≡ 96 + size
-  pub upper_is : pos (slice_index words 16) ≡ pos (shut_part shut + bias) +ℤ upper
-  pub lower_is : pos (slice_index words 32) ≡ pos bias +ℤ lower
-  pub draws_in_is : slice_index words 48 ≡ draws_in
-  pub draws_out_is : slice_index words 64 ≡ draws_out
-  pub turns_are : (c : ℕ) → c < size → slice_index words (80 + c) ≡ turn c
+  pub upper_is : pos (slice_index words upper_word) ≡ pos (shut_part shut + bias) +ℤ upper
+  pub lower_is : pos (slice_index words lower_word) ≡ pos bias +ℤ lower
+  pub draws_in_is : slice_index words draws_in_word ≡ draws_in
+  pub draws_out_is : slice_index words draws_out_word ≡ draws_out
+  pub turns_are : (c : ℕ) → c < size → slice_index words (first_turn + c) ≡ turn c
 
 -- what a word of the upper count says, in a queue of this size
 abbrev pub IsUpperCount : ℕ → ℕ → UpperCount → Type 0

@@ -12,7 +12,7 @@ use crate::steps::insertion::{add_up, back_up, test_up, ticket_in};
 use crate::steps::{QueueToken, QueueWords};
 use std::marker::Brand;
 
-// Claims room for an item, and draws its ticket.
+/// Claims room for an item, and draws its ticket.
 pub(crate) fn admit_insertion<T>(
     words: &QueueWords<T>,
     token: &mut QueueToken<T>,
@@ -48,7 +48,7 @@ pub(crate) fn admit_insertion<T>(
     }
 }
 
-// Claims an item, and draws its ticket; where there is none, the lower count that was found.
+/// Claims an item, and draws its ticket; where there is none, the lower count that was found.
 pub(crate) fn admit_deletion<T>(
     words: &QueueWords<T>,
     token: &mut QueueToken<T>,

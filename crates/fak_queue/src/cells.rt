@@ -16,7 +16,7 @@ pub struct Cells {
 }
 
 impl Cells {
-    // The number of cells.
+    /// The number of cells.
     pub(crate) fn new(size: u64) -> Cells
         requires { (1 ≤ size) × (size ≤ 4096) }
         ensures { result.size ≡ size }
@@ -27,7 +27,7 @@ impl Cells {
         }
     }
 
-    // The place of a ticket.
+    /// The place of a ticket.
     pub(crate) fn place(&self, ticket: u64) -> Place
         requires { ticket < 2 ^ 46 }
         ensures ticket { result.ticket ≡ ticket }

@@ -33,7 +33,7 @@ pub(crate) struct SharedCount {
 }
 
 impl SharedCount {
-    // Before the first test of a seat that may draw this many tickets.
+    /// Before the first test of a seat that may draw this many tickets.
     fn new(stint: u64) -> SharedCount {
         SharedCount {
             expected: 0,
@@ -42,8 +42,8 @@ impl SharedCount {
         }
     }
 
-    // A test has found this word. Nothing is written where it is the expected one, since an atomic step waits for the writes
-    // before it.
+    /// A test has found this word. Nothing is written where it is the expected one, since an atomic step waits for the writes
+    /// before it.
     pub(crate) fn found(&mut self, found: u64) {
         if found != self.expected {
             self.is_contended = true;
@@ -51,7 +51,7 @@ impl SharedCount {
         }
     }
 
-    // Pauses where others changed the count, but not twice in a few tickets.
+    /// Pauses where others changed the count, but not twice in a few tickets.
     pub(crate) fn pause_where_contended(&mut self, size: u64, left: u64) {
         if !self.is_contended {
             return;
@@ -76,7 +76,7 @@ pub(crate) struct SharedCounts {
 }
 
 impl SharedCounts {
-    // Before the first test of either, of a seat that may draw this many tickets.
+    /// Before the first test of either, of a seat that may draw this many tickets.
     pub(crate) fn new(stint: u64) -> SharedCounts {
         SharedCounts {
             upper: SharedCount::new(stint),
@@ -84,13 +84,13 @@ impl SharedCounts {
         }
     }
 
-    // The seat inserts an item, which adds 1 to both counts.
+    /// The seat inserts an item, which adds 1 to both counts.
     pub(crate) fn expect_insertion(&mut self) {
         self.upper.expected = self.upper.expected.wrapping_add(1);
         self.lower.expected = self.lower.expected.wrapping_add(1);
     }
 
-    // The seat deletes an item, which subtracts 1 from both counts.
+    /// The seat deletes an item, which subtracts 1 from both counts.
     pub(crate) fn expect_deletion(&mut self) {
         self.upper.expected = self.upper.expected.wrapping_sub(1);
         self.lower.expected = self.lower.expected.wrapping_sub(1);

@@ -36,7 +36,7 @@ pub enum NoRoom {
 }
 
 impl NoRoom {
-    // Refuses an insertion of this item.
+    /// Refuses an insertion of this item.
     pub(crate) fn refuse<T>(self, item: T) -> Result<u64, InsertFault<T>>
         ensures { result ≡ Err (fault_of self item) }
     {
@@ -47,7 +47,7 @@ impl NoRoom {
     }
 }
 
-// Refuses an insertion of this item on a seat that has drawn its stint.
+/// Refuses an insertion of this item on a seat that has drawn its stint.
 pub(crate) fn refuse_worn<T>(item: T) -> Result<u64, InsertFault<T>>
     ensures { result ≡ Err (Worn item) }
 {

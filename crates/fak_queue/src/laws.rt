@@ -11,7 +11,7 @@ ghost use Rattle.fak_queue.specs.declared.limits.QueueLimits.{QueueLimits};
 ghost use Rattle.fak_model.specs.declared.queue.Kind.TheVariants.{Close};
 ghost use Rattle.fak_model.specs.Queue.{Has};
 ghost use Rattle.fak_queue.specs.Shown.{IsShownQueue, QueueView};
-ghost use Rattle.fak_queue.specs.Words.{shut_bit};
+ghost use Rattle.fak_queue.specs.Words.{shut_bit, upper_word};
 
 /// At most one seat at a time is between the load that found its turn at a cell and the store that gives the
 /// cell on.
@@ -29,7 +29,7 @@ pub fn a_slot_is_out_while_its_cell_has_an_owner<T>()
 /// The shut bit is set in the word of the upper count exactly where the history that is shown has a `Close`.
 pub fn the_shut_bit_tells_of_a_close<T>()
     ensures { (key : QueueLimits) (s : State (Option T) (QueueView T)) (shown : IsShownQueue key s)
-        → (shut_bit ≤ slice_index s.words 16) ↔ Has Close shown.core.past }
+        → (shut_bit ≤ slice_index s.words upper_word) ↔ Has Close shown.core.past }
 {}
 
 /// A running queue never locks up: while a call is open, some seat's next atomic step moves its call forward. Where the

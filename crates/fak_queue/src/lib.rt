@@ -1,5 +1,3 @@
-#![tactic(auto)]
-
 //! A bounded first-in-first-out queue that processors share without a lock, by fetch-and-add, after A. Gottlieb, B. D.
 //! Lubachevsky and L. Rudolph (ACM TOPLAS 5(2), 1983). Its cells own moved values.
 //!
@@ -12,12 +10,11 @@
 //! - To cite: `Inserts`, `Deletes` and their like (`specs/Queues.antt`, `specs/Retries.antt`), and the laws of `fak_model::laws`.
 //!
 //! `docs/CALLING.md` is the guide for callers; `crates/pool_of_workers` and `crates/page_frames` are programs to begin from.
+#![tactic(auto)]
 
 mod admission;
 mod cells;
-mod claims;
 mod contention;
-mod ending;
 mod fault;
 mod found;
 pub mod laws;
@@ -27,15 +24,12 @@ mod place;
 mod plays;
 mod queue;
 mod rest;
-mod retrying;
 mod rule;
 mod seat;
 mod state;
 mod steps;
 mod tally;
-mod tries;
 mod turns;
-mod waiting;
 mod words;
 
 pub use fault::{DeleteFault, InsertFault, OpenFault};

@@ -21,7 +21,7 @@ pub(crate) type QueueToken<T> = atomic_table::Seat<Option<T>, View<Mark<T>, Phas
 /// The words and the slots of a queue.
 pub(crate) type QueueWords<T> = Shared<Option<T>, View<Mark<T>, Phase<T>>, QueueLimits, QueueRule>;
 
-// Sets the shut bit, and tells whether it was not set before.
+/// Sets the shut bit, and tells whether it was not set before.
 pub(crate) fn shut<T, J: Call<T>>(words: &QueueWords<T>, token: &mut QueueToken<T>) -> bool
     requires table { FitsTable token.old.table_id words.now.table_id words.now.key J.seats }
     requires seat { HasOneName token.old.me }
@@ -33,7 +33,7 @@ pub(crate) fn shut<T, J: Call<T>>(words: &QueueWords<T>, token: &mut QueueToken<
     found < SHUT
 }
 
-// After a join, a load that tells what it compared.
+/// After a join, a load that tells what it compared.
 pub(crate) fn hear<T, J: Call<T>>(words: &QueueWords<T>, token: &mut QueueToken<T>)
     requires table { FitsTable token.old.table_id words.now.table_id words.now.key J.seats }
     ensures same { token.new.table_id ≡ token.old.table_id }

@@ -16,7 +16,7 @@ use std::marker::Brand;
 use std::mem;
 use std::sync::Wait;
 
-// Whether it is the ticket's turn to fill its cell. Then the seat has the cell's slot.
+/// Whether it is the ticket's turn to fill its cell. Then the seat has the cell's slot.
 pub(crate) fn finds_room<T>(words: &QueueWords<T>, token: &mut QueueToken<T>, place: Place) -> bool
     requires table { FitsTable token.old.table_id words.now.table_id words.now.key words.now.key.seats }
     requires place { IsPlace words.now.table_id.slots place }
@@ -29,7 +29,7 @@ pub(crate) fn finds_room<T>(words: &QueueWords<T>, token: &mut QueueToken<T>, pl
     turn_in::<T, Brand>(words, token, place) == 2 * place.round
 }
 
-// Moves the item into the cell whose slot the seat has, and ends the insertion.
+/// Moves the item into the cell whose slot the seat has, and ends the insertion.
 pub(crate) fn fill_cell<T>(words: &QueueWords<T>, token: &mut QueueToken<T>, place: Place, item: T)
     requires table { FitsTable token.old.table_id words.now.table_id words.now.key words.now.key.seats }
     requires place { IsPlace words.now.table_id.slots place }
@@ -48,7 +48,7 @@ pub(crate) fn fill_cell<T>(words: &QueueWords<T>, token: &mut QueueToken<T>, pla
     end_in::<T, Brand>(words, token);
 }
 
-// The same with the item that a waiting seat keeps.
+/// The same with the item that a waiting seat keeps.
 pub(crate) fn fill_cell_from<T: Drop>(
     words: &QueueWords<T>,
     token: &mut QueueToken<T>,
@@ -71,7 +71,7 @@ pub(crate) fn fill_cell_from<T: Drop>(
     fill_cell(words, token, place, item);
 }
 
-// Whether it is the ticket's turn to empty its cell. Then the seat has the cell's slot.
+/// Whether it is the ticket's turn to empty its cell. Then the seat has the cell's slot.
 pub(crate) fn finds_item<T>(words: &QueueWords<T>, token: &mut QueueToken<T>, place: Place) -> bool
     requires table { FitsTable token.old.table_id words.now.table_id words.now.key words.now.key.seats }
     requires place { IsPlace words.now.table_id.slots place }
@@ -84,7 +84,7 @@ pub(crate) fn finds_item<T>(words: &QueueWords<T>, token: &mut QueueToken<T>, pl
     turn_out::<T, Brand>(words, token, place) == 2 * place.round + 1
 }
 
-// Moves the item out of the cell whose slot the seat has, and ends the deletion.
+/// Moves the item out of the cell whose slot the seat has, and ends the deletion.
 pub(crate) fn empty_cell<T>(words: &QueueWords<T>, token: &mut QueueToken<T>, place: Place) -> T
     requires table { FitsTable token.old.table_id words.now.table_id words.now.key words.now.key.seats }
     requires place { IsPlace words.now.table_id.slots place }
@@ -104,7 +104,7 @@ pub(crate) fn empty_cell<T>(words: &QueueWords<T>, token: &mut QueueToken<T>, pl
     }
 }
 
-// Pauses and polls until it is the ticket's turn, then moves the item into its cell and ends the insertion.
+/// Pauses and polls until it is the ticket's turn, then moves the item into its cell and ends the insertion.
 fn fill_later<T, R: Wait>(
     rt: &R,
     words: &QueueWords<T>,
@@ -130,8 +130,8 @@ fn fill_later<T, R: Wait>(
     unreachable!()
 }
 
-// Waits for the ticket's turn, then moves the item into its cell and ends the insertion. The first poll is no round of a
-// loop, which costs more.
+/// Waits for the ticket's turn, then moves the item into its cell and ends the insertion. The first poll is no round of a
+/// loop, which costs more.
 pub(crate) fn wait_to_fill<T, R: Wait>(
     rt: &R,
     words: &QueueWords<T>,
@@ -153,7 +153,7 @@ pub(crate) fn wait_to_fill<T, R: Wait>(
     fill_later(rt, words, token, place, item);
 }
 
-// Pauses and polls until it is the ticket's turn, then moves the item out of its cell and ends the deletion.
+/// Pauses and polls until it is the ticket's turn, then moves the item out of its cell and ends the deletion.
 fn empty_later<T, R: Wait>(
     rt: &R,
     words: &QueueWords<T>,
@@ -178,7 +178,7 @@ fn empty_later<T, R: Wait>(
     unreachable!()
 }
 
-// Waits for the ticket's turn, then moves the item out of its cell and ends the deletion. The first poll is as above.
+/// Waits for the ticket's turn, then moves the item out of its cell and ends the deletion. The first poll is as above.
 pub(crate) fn wait_to_empty<T, R: Wait>(
     rt: &R,
     words: &QueueWords<T>,

@@ -25,24 +25,24 @@ use fak_model::{BIAS, count_of};
 pub(crate) const MARGIN: usize = 16;
 
 /// The upper count, U.
-pub(crate) const UPPER: usize = 16;
+pub(crate) const UPPER: usize = MARGIN;
 
 /// The lower count, L.
-pub(crate) const LOWER: usize = 32;
+pub(crate) const LOWER: usize = UPPER + MARGIN;
 
 /// The counter of insertions' tickets, I.
-pub(crate) const DRAWS_IN: usize = 48;
+pub(crate) const DRAWS_IN: usize = LOWER + MARGIN;
 
 /// The counter of deletions' tickets, D.
-pub(crate) const DRAWS_OUT: usize = 64;
+pub(crate) const DRAWS_OUT: usize = DRAWS_IN + MARGIN;
 
 /// The first cell's turn.
-pub(crate) const TURNS: usize = 80;
+pub(crate) const TURNS: usize = DRAWS_OUT + MARGIN;
 
 /// The bit of the upper count's word that is set where the queue is shut.
 pub(crate) const SHUT: u64 = 1 << 63;
 
-// What this word of the upper count says, in a queue of this size.
+/// What this word of the upper count says, in a queue of this size.
 pub(crate) fn read_upper(found: u64, size: u64) -> UpperCount
     requires { size < 2 ^ 62 }
     ensures { IsUpperCount size found result }
@@ -56,7 +56,7 @@ pub(crate) fn read_upper(found: u64, size: u64) -> UpperCount
     }
 }
 
-// What this word of the lower count says.
+/// What this word of the lower count says.
 pub(crate) fn read_lower(found: u64) -> LowerCount
     ensures { IsLowerCount found result }
 {

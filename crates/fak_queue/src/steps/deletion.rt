@@ -33,7 +33,7 @@ use crate::plays::{
 use crate::steps::{QueueToken, QueueWords};
 use crate::words::{DRAWS_OUT, LOWER, TURNS, UPPER, read_lower};
 
-// Tests the lower count.
+/// Tests the lower count.
 pub(crate) fn test_low<T, J: Call<T>>(
     words: &QueueWords<T>,
     token: &mut QueueToken<T>,
@@ -50,7 +50,7 @@ pub(crate) fn test_low<T, J: Call<T>>(
     read_lower(found)
 }
 
-// Subtracts 1 from the lower count.
+/// Subtracts 1 from the lower count.
 pub(crate) fn sub_low<T, J: Call<T>>(words: &QueueWords<T>, token: &mut QueueToken<T>) -> LowerCount
     requires table { FitsTable token.old.table_id words.now.table_id words.now.key J.seats }
     requires seat { HasOneName token.old.me }
@@ -62,7 +62,7 @@ pub(crate) fn sub_low<T, J: Call<T>>(words: &QueueWords<T>, token: &mut QueueTok
     read_lower(found)
 }
 
-// Gives back the 1 that was subtracted from the lower count.
+/// Gives back the 1 that was subtracted from the lower count.
 pub(crate) fn back_low<T, J: Call<T>>(words: &QueueWords<T>, token: &mut QueueToken<T>)
     requires table { FitsTable token.old.table_id words.now.table_id words.now.key J.seats }
     requires seat { HasOneName token.old.me }
@@ -73,7 +73,7 @@ pub(crate) fn back_low<T, J: Call<T>>(words: &QueueWords<T>, token: &mut QueueTo
     words.fetch_add::<BackLowPlay<J>>(token, LOWER, 1);
 }
 
-// Draws a deletion's ticket.
+/// Draws a deletion's ticket.
 pub(crate) fn ticket_out<T, J: Call<T>>(words: &QueueWords<T>, token: &mut QueueToken<T>) -> u64
     requires table { FitsTable token.old.table_id words.now.table_id words.now.key J.seats }
     requires seat { HasOneName token.old.me }
@@ -85,7 +85,7 @@ pub(crate) fn ticket_out<T, J: Call<T>>(words: &QueueWords<T>, token: &mut Queue
     words.fetch_add::<TicketOutPlay<J>>(token, DRAWS_OUT, 1)
 }
 
-// Loads the turn of a ticket's cell.
+/// Loads the turn of a ticket's cell.
 pub(crate) fn turn_out<T, J: Call<T>>(
     words: &QueueWords<T>,
     token: &mut QueueToken<T>,
@@ -101,7 +101,7 @@ pub(crate) fn turn_out<T, J: Call<T>>(
     words.load::<TurnOutPlay<J>>(token, place.cell + TURNS)
 }
 
-// Gives the slot back empty, and makes its cell free for the next round.
+/// Gives the slot back empty, and makes its cell free for the next round.
 pub(crate) fn set_free<T, J: Call<T>>(
     words: &QueueWords<T>,
     token: &mut QueueToken<T>,
@@ -118,7 +118,7 @@ pub(crate) fn set_free<T, J: Call<T>>(
     words.store::<SetFreePlay<J>>(token, place.cell + TURNS, 2 * place.round + 2);
 }
 
-// Subtracts 1 from the upper count, which ends a deletion.
+/// Subtracts 1 from the upper count, which ends a deletion.
 pub(crate) fn end_out<T, J: Call<T>>(words: &QueueWords<T>, token: &mut QueueToken<T>)
     requires table { FitsTable token.old.table_id words.now.table_id words.now.key J.seats }
     requires seat { HasOneName token.old.me }

@@ -33,7 +33,7 @@ use crate::plays::{
 use crate::steps::{QueueToken, QueueWords};
 use crate::words::{DRAWS_IN, LOWER, TURNS, UPPER, read_upper};
 
-// Tests the upper count.
+/// Tests the upper count.
 pub(crate) fn test_up<T, J: Call<T>>(
     words: &QueueWords<T>,
     token: &mut QueueToken<T>,
@@ -54,7 +54,7 @@ pub(crate) fn test_up<T, J: Call<T>>(
     read_upper(found, size)
 }
 
-// Adds 1 to the upper count.
+/// Adds 1 to the upper count.
 pub(crate) fn add_up<T, J: Call<T>>(
     words: &QueueWords<T>,
     token: &mut QueueToken<T>,
@@ -72,7 +72,7 @@ pub(crate) fn add_up<T, J: Call<T>>(
     read_upper(found, size)
 }
 
-// Takes back the 1 that was added to the upper count.
+/// Takes back the 1 that was added to the upper count.
 pub(crate) fn back_up<T, J: Call<T>>(words: &QueueWords<T>, token: &mut QueueToken<T>)
     requires table { FitsTable token.old.table_id words.now.table_id words.now.key J.seats }
     requires seat { HasOneName token.old.me }
@@ -83,7 +83,7 @@ pub(crate) fn back_up<T, J: Call<T>>(words: &QueueWords<T>, token: &mut QueueTok
     words.fetch_sub::<BackUpPlay<J>>(token, UPPER, 1);
 }
 
-// Draws an insertion's ticket.
+/// Draws an insertion's ticket.
 pub(crate) fn ticket_in<T, J: Call<T>>(words: &QueueWords<T>, token: &mut QueueToken<T>) -> u64
     requires table { FitsTable token.old.table_id words.now.table_id words.now.key J.seats }
     requires seat { HasOneName token.old.me }
@@ -96,7 +96,7 @@ pub(crate) fn ticket_in<T, J: Call<T>>(words: &QueueWords<T>, token: &mut QueueT
     words.fetch_add::<TicketInPlay<J>>(token, DRAWS_IN, 1)
 }
 
-// Loads the turn of a ticket's cell.
+/// Loads the turn of a ticket's cell.
 pub(crate) fn turn_in<T, J: Call<T>>(
     words: &QueueWords<T>,
     token: &mut QueueToken<T>,
@@ -113,7 +113,7 @@ pub(crate) fn turn_in<T, J: Call<T>>(
     words.load::<TurnInPlay<J>>(token, place.cell + TURNS)
 }
 
-// Gives the slot back with the item, and makes its cell full.
+/// Gives the slot back with the item, and makes its cell full.
 pub(crate) fn set_full<T, J: Call<T>>(
     words: &QueueWords<T>,
     token: &mut QueueToken<T>,
@@ -130,7 +130,7 @@ pub(crate) fn set_full<T, J: Call<T>>(
     words.store::<SetFullPlay<J>>(token, place.cell + TURNS, 2 * place.round + 1);
 }
 
-// Adds 1 to the lower count, which ends an insertion.
+/// Adds 1 to the lower count, which ends an insertion.
 pub(crate) fn end_in<T, J: Call<T>>(words: &QueueWords<T>, token: &mut QueueToken<T>)
     requires table { FitsTable token.old.table_id words.now.table_id words.now.key J.seats }
     requires seat { HasOneName token.old.me }
