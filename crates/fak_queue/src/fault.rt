@@ -1,5 +1,8 @@
 //! Why a queue was not opened, or a call on it was refused.
 
+use std::error::Error;
+use std::fmt;
+
 /// Why a queue was not opened. Of several faults the first is answered.
 #[derive(Clone, Copy, Debug, PartialEq, Eq, Drop)]
 pub enum OpenFault {
@@ -43,3 +46,41 @@ pub enum DeleteFault {
     /// The queue had no item; the lower count that the test or the subtraction found.
     Empty(i64),
 }
+
+impl fmt::Display for OpenFault {
+    fn fmt<W: fmt::Write>(&self, f: &mut fmt::Formatter<W>) -> fmt::Result {
+        f.write_str(match self {
+            OpenFault::BadSize => "the size is not 1 to 4096",
+            OpenFault::BadSeats => "the number of seats is not 1 to 64",
+            OpenFault::BadStint => "the stint is not 1 to 1099511627776",
+            OpenFault::Memory => "out of memory",
+        })
+    }
+}
+
+impl Error for OpenFault {}
+
+impl<T> fmt::Display for InsertFault<T> {
+    fn fmt<W: fmt::Write>(&self, f: &mut fmt::Formatter<W>) -> fmt::Result {
+        match self {
+            InsertFault::Worn { item: _ } => f.write_str("the stint is used up"),
+            InsertFault::Closed { item: _ } => f.write_str("the queue is shut"),
+            InsertFault::Full { upper, item: _ } => {
+                write!(f, "the queue is full: its upper count was {upper}")
+            }
+        }
+    }
+}
+
+impl fmt::Display for DeleteFault {
+    fn fmt<W: fmt::Write>(&self, f: &mut fmt::Formatter<W>) -> fmt::Result {
+        match self {
+            DeleteFault::Worn => f.write_str("the stint is used up"),
+            DeleteFault::Empty(lower) => {
+                write!(f, "the queue is empty: its lower count was {lower}")
+            }
+        }
+    }
+}
+
+impl Error for DeleteFault {}

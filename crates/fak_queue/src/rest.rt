@@ -1,13 +1,14 @@
 //! What a queue has left when it is closed.
 
 ghost use Rattle.std.specs.Prelude.{◌≡◌, [], ◌∷◌, MatchOption};
+ghost use Rattle.std.specs.Iterator.{YieldsFirst, item_count};
 
 use atomic_table::Closed;
 use std::alloc::Global;
 use std::fmt;
 use std::marker::Model;
 
-/// The items that a closed queue had left, oldest first. Contracts see the list of them.
+/// The items that a closed queue had left: an iterator over them, oldest first. Contracts see the list of them.
 pub struct Rest<T> {
     pub(crate) closed: Closed<Option<T>, Global>,
     pub(crate) size: u64,
@@ -28,9 +29,15 @@ impl<T> Model for Rest<T> {
     ghost invariant = { λ r. IsRest r.closed r.size r.next r.count };
 }
 
-impl<T> Rest<T> {
+impl<T: Drop> Iterator for Rest<T> {
+    type Item = T;
+
+    ghost next_gives = { YieldsFirst (λ left. left) };
+
+    ghost remaining = { item_count (λ left. left) };
+
     /// Takes out the oldest item that is left.
-    pub fn next(&mut self) -> Option<T>
+    fn next(&mut self) -> Option<T>
         ensures { MatchOption result ((self.old ≡ []) × (self.new ≡ [])) (λ x. self.old ≡ x ∷ self.new) }
     {
         if self.count == 0 {

@@ -1,6 +1,6 @@
 use Rattle.fak_queue.proofs.Common.{arith, sym, ap, subst, ◌∙◌, ◌≡◌, ℕ, ◌+◌, ◌-◌, ◌%◌, ◌<◌, ◌∷◌, true, false, length, get_or, set, mod-lt, None, slots_items, slots_len, slots_filled, slots_counts, items_left}
 use Rattle.fak_queue.proofs.Leaving.{next_item, not_none, none_or_some, refilled, same_some}
-use Rattle.fak_queue.proofs.rest.Rest.next.Goals as goal
+use Rattle.fak_queue.proofs.rest.RestIterator.next.Goals as goal
 
 pub unreachable-requires : goal.unreachable-requires
 unreachable-requires g c =
