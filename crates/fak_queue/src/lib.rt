@@ -2,6 +2,7 @@
 //! Lubachevsky and L. Rudolph (ACM TOPLAS 5(2), 1983). Its cells own moved values.
 //!
 //! - `Queue::<T>::open(alloc, size, seats, stint)` answers the queue and all its seats. A thread calls with a seat of its own.
+//! - `Port::new(&queue, seat)` is a queue and its seat as one value, whose calls have no condition: the way to begin.
 //! - `insert` and `delete` make one attempt; `wait_insert` and `wait_delete` wait while the queue is full or empty;
 //!   `claim_insert` with `try_fill`, and `claim_delete` with `try_take`, never wait.
 //! - `shut` refuses later insertions; deletions go on.
@@ -22,6 +23,7 @@ mod limits;
 mod opening;
 mod place;
 mod plays;
+mod port;
 mod queue;
 mod rest;
 mod rule;
@@ -32,7 +34,9 @@ mod tally;
 mod turns;
 mod words;
 
+pub use fak_model::{LARGEST_SIZE, LONGEST_STINT, MOST_SEATS};
 pub use fault::{DeleteFault, InsertFault, OpenFault};
+pub use port::Port;
 pub use queue::Queue;
 pub use rest::Rest;
 pub use seat::Seat;
