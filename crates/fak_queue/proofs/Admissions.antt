@@ -5,9 +5,9 @@ use Rattle.fak_model.specs.Queue.{count, puts, gots, upper_count, lower_count}
 use Rattle.fak_model.specs.QueuePast.{after as after_kind}
 use Rattle.fak_core.specs.declared.queue.phase.Phase.TheVariants.{Idle, AddUp, BackUp, TicketIn, TurnIn, TurnOut}
 use Rattle.fak_queue.proofs.Common.{UpperCount, LowerCount, QueueHolder, RestsAt, idle, inserting, deleting, IsPart, ClaimedIn, RefusedIn, ClaimedOut, RefusedOut, Nothing, ◌≡◌, ℕ, ◌-◌, ◌<◌, ◌^◌, List, [], ◌∷◌, refl, sym, ap, ◌∙◌, subst, inl, inr, Some, ℤ, Bool, true, false, reverse, Mark, count_reverse, mark, Marks, Named, ShutAs, TestedUp, AddedUp, BacksUp, DrewIn, TestedLow, SubtractedLow, BacksLow, DrawsOut}
-use Rattle.fak_queue.specs.declared.found.UpperCount.TheVariants.{Below, Full, Shut}
-use Rattle.fak_queue.specs.declared.found.LowerCount.TheVariants.{Positive, Empty}
-use Rattle.fak_queue.specs.declared.found.NoRoom.TheVariants as refused
+use Rattle.std.specs.Prelude.{Ok, Err}
+use Rattle.fak_queue.specs.declared.found.NoRoom.{NoRoom}
+use Rattle.fak_queue.specs.declared.found.NoRoom.TheVariants.{Full, Shut}
 use Rattle.fak_queue.proofs.PartSteps.{put_there, put_new, names_kept, phase_is, left_is, slots_are, part_one, part_two}
 
 -- an item's Put, or its Got, leaves the seat waiting with the ticket that was drawn
@@ -20,21 +20,19 @@ deleting_after {T} h k x e few = subst (λ j. RestsAt {T = T} (TurnOut k) (at.Ge
 -- ---- insertions
 
 module _ {T : Type 0} (size seats n : ℕ) (x : T) (r : UpperCount) (m0 m1 : QueueHolder T) (one : m0.0.names ≡ n ∷ []) (free : m0.1 ≡ []) (tested : TestedUp size seats n x r m0 m1) where
-  pub full_at_test : (u : ℤ) → r ≡ Full u → RefusedIn size seats n (refused.Full u) m0 m1
-  full_at_test u e =
+  pub refused_at_test : (why : NoRoom) → r ≡ Err why → RefusedIn size seats n why m0 m1
+  refused_at_test (Full u) e =
       let l = subst (λ q. TestedUp size seats n x q m0 m1) e tested in
       inl (part_one n made.NoRoom l one free m0.0.left refl idle (λ h. u ≡ upper_count h) l.told)
-
-  pub shut_at_test : r ≡ Shut → RefusedIn size seats n refused.Shut m0 m1
-  shut_at_test e =
+  refused_at_test Shut e =
       let l = subst (λ q. TestedUp size seats n x q m0 m1) e tested in
       inl (part_one n made.Closed l one free m0.0.left refl idle (λ h. Unit {0}) tt)
 
-  pub add_phase : r ≡ Below → m1.0.phase ≡ Some (AddUp x)
+  pub add_phase : r ≡ Ok tt → m1.0.phase ≡ Some (AddUp x)
   add_phase e = phase_is (subst (λ q. TestedUp size seats n x q m0 m1) e tested)
 
-  module _ (room : r ≡ Below) (q : UpperCount) (m2 : QueueHolder T) (adds : Named m1 (λ n. (x : T) → m1.0.phase ≡ Some (AddUp x) → AddedUp size seats n x q m1 m2)) where
-    first : TestedUp size seats n x Below m0 m1
+  module _ (room : r ≡ Ok tt) (q : UpperCount) (m2 : QueueHolder T) (adds : Named m1 (λ n. (x : T) → m1.0.phase ≡ Some (AddUp x) → AddedUp size seats n x q m1 m2)) where
+    first : TestedUp size seats n x (Ok tt) m0 m1
     first = subst (λ q. TestedUp size seats n x q m0 m1) room tested
 
     one1 : m1.0.names ≡ n ∷ []
@@ -49,10 +47,10 @@ module _ {T : Type 0} (size seats n : ℕ) (x : T) (r : UpperCount) (m0 m1 : Que
     added : AddedUp size seats n x q m1 m2
     added = adds n one1 x (add_phase room)
 
-    pub ticket_phase : q ≡ Below → m2.0.phase ≡ Some (TicketIn x)
+    pub ticket_phase : q ≡ Ok tt → m2.0.phase ≡ Some (TicketIn x)
     ticket_phase e = phase_is (subst (λ z. AddedUp size seats n x z m1 m2) e added)
 
-    pub claimed_in : q ≡ Below → {k : ℕ} {m3 : QueueHolder T} → Named m2 (λ n. (x : T) → m2.0.phase ≡ Some (TicketIn x) → DrewIn size seats n x m2 k m3) → ClaimedIn size seats n x k m0 m3
+    pub claimed_in : q ≡ Ok tt → {k : ℕ} {m3 : QueueHolder T} → Named m2 (λ n. (x : T) → m2.0.phase ≡ Some (TicketIn x) → DrewIn size seats n x m2 k m3) → ClaimedIn size seats n x k m0 m3
     claimed_in e {k} {m3} draws =
         let l = subst (λ z. AddedUp size seats n x z m1 m2) e added in
         let d = draws n (names_kept l ∙ one1) x (phase_is l) in
@@ -62,20 +60,20 @@ module _ {T : Type 0} (size seats n : ℕ) (x : T) (r : UpperCount) (m0 m1 : Que
           put = put_new k x d.leaves d.leaves.told;
         }
 
-    pub back_phase_full : (u : ℤ) → q ≡ Full u → m2.0.phase ≡ Some (BackUp x)
-    back_phase_full u e = phase_is (subst (λ z. AddedUp size seats n x z m1 m2) e added)
+    pub back_names : (why : NoRoom) → q ≡ Err why → m2.0.names ≡ n ∷ []
+    back_names (Full u) e = names_kept (subst (λ z. AddedUp size seats n x z m1 m2) e added) ∙ one1
+    back_names Shut e = names_kept (subst (λ z. AddedUp size seats n x z m1 m2) e added) ∙ one1
 
-    pub full_at_add : (u : ℤ) → q ≡ Full u → {m3 : QueueHolder T} → Named m2 (λ n. BacksUp size seats n m2 m3) → RefusedIn size seats n (refused.Full u) m0 m3
-    full_at_add u e backs =
+    pub back_phase : (why : NoRoom) → q ≡ Err why → m2.0.phase ≡ Some (BackUp x)
+    back_phase (Full u) e = phase_is (subst (λ z. AddedUp size seats n x z m1 m2) e added)
+    back_phase Shut e = phase_is (subst (λ z. AddedUp size seats n x z m1 m2) e added)
+
+    pub refused_at_add : (why : NoRoom) → q ≡ Err why → {m3 : QueueHolder T} → Named m2 (λ n. BacksUp size seats n m2 m3) → RefusedIn size seats n why m0 m3
+    refused_at_add (Full u) e backs =
         let l = subst (λ z. AddedUp size seats n x z m1 m2) e added in
         let b = backs n (names_kept l ∙ one1) in
         inr (part_two n made.OverIn made.BackIn first refl l b one (slots_are l ∙ free1) m0.0.left (left_is l ∙ left1) idle (λ first second. u ≡ upper_count first) l.told)
-
-    pub back_phase_shut : q ≡ Shut → m2.0.phase ≡ Some (BackUp x)
-    back_phase_shut e = phase_is (subst (λ z. AddedUp size seats n x z m1 m2) e added)
-
-    pub shut_at_add : q ≡ Shut → {m3 : QueueHolder T} → Named m2 (λ n. BacksUp size seats n m2 m3) → RefusedIn size seats n refused.Shut m0 m3
-    shut_at_add e backs =
+    refused_at_add Shut e backs =
         let l = subst (λ z. AddedUp size seats n x z m1 m2) e added in
         let b = backs n (names_kept l ∙ one1) in
         inr (part_two n made.LateIn made.BackIn first refl l b one (slots_are l ∙ free1) m0.0.left (left_is l ∙ left1) idle Nothing tt)
@@ -83,13 +81,13 @@ module _ {T : Type 0} (size seats n : ℕ) (x : T) (r : UpperCount) (m0 m1 : Que
 -- ---- deletions
 
 module _ {T : Type 0} (size seats n : ℕ) (r : LowerCount) (m0 m1 : QueueHolder T) (one : m0.0.names ≡ n ∷ []) (free : m0.1 ≡ []) (tested : TestedLow size seats n r m0 m1) where
-  pub empty_at_test : (v : ℤ) → r ≡ Empty v → RefusedOut size seats n v m0 m1
+  pub empty_at_test : (v : ℤ) → r ≡ Err v → RefusedOut size seats n v m0 m1
   empty_at_test v e =
       let l = subst (λ q. TestedLow size seats n q m0 m1) e tested in
       inl (part_one n made.NoItem l one free m0.0.left refl idle (λ h. v ≡ lower_count h) l.told)
 
-  module _ (stock : r ≡ Positive) (q : LowerCount) (m2 : QueueHolder T) (subtracts : Named m1 (λ n. SubtractedLow size seats n q m1 m2)) where
-    tested_first : TestedLow size seats n Positive m0 m1
+  module _ (stock : r ≡ Ok tt) (q : LowerCount) (m2 : QueueHolder T) (subtracts : Named m1 (λ n. SubtractedLow size seats n q m1 m2)) where
+    tested_first : TestedLow size seats n (Ok tt) m0 m1
     tested_first = subst (λ q. TestedLow size seats n q m0 m1) stock tested
 
     names1 : m1.0.names ≡ n ∷ []
@@ -98,7 +96,7 @@ module _ {T : Type 0} (size seats n : ℕ) (r : LowerCount) (m0 m1 : QueueHolder
     slots1 : m1.1 ≡ []
     slots1 = slots_are tested_first ∙ free
 
-    pub claimed_out : q ≡ Positive → {k : ℕ} {m3 : QueueHolder T} → Named m2 (λ n. DrawsOut size seats n m2 k m3) → ClaimedOut size seats n k m0 m3
+    pub claimed_out : q ≡ Ok tt → {k : ℕ} {m3 : QueueHolder T} → Named m2 (λ n. DrawsOut size seats n m2 k m3) → ClaimedOut size seats n k m0 m3
     claimed_out e {k} {m3} draws =
         let l = subst (λ z. SubtractedLow size seats n z m1 m2) e (subtracts n names1) in
         let d = draws n (names_kept l ∙ names1) in
@@ -109,7 +107,7 @@ module _ {T : Type 0} (size seats n : ℕ) (r : LowerCount) (m0 m1 : QueueHolder
           put = put_there d.leaves k d.item d.leaves.told.1;
         }
 
-    pub empty_at_subtraction : (v : ℤ) → q ≡ Empty v → {m3 : QueueHolder T} → Named m2 (λ n. BacksLow size seats n m2 m3) → RefusedOut size seats n v m0 m3
+    pub empty_at_subtraction : (v : ℤ) → q ≡ Err v → {m3 : QueueHolder T} → Named m2 (λ n. BacksLow size seats n m2 m3) → RefusedOut size seats n v m0 m3
     empty_at_subtraction v e backs =
         let l = subst (λ z. SubtractedLow size seats n z m1 m2) e (subtracts n names1) in
         let b = backs n (names_kept l ∙ names1) in

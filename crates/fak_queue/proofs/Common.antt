@@ -29,9 +29,7 @@ pub use Rattle.fak_queue.specs.Refusals.{RefusesInsertion, IsInRange, RefusesDel
 pub use Rattle.fak_queue.specs.Retries.{kinds_in, kinds_out, RefusedInsertion, NotIn, WithdrawnIn, ClosedIn, WithdrawnLate, RefusedDeletion, NotOut, WithdrawnOut, kinds_not_in, kinds_not_out, InsertsAfterFull, IsFull, IsClosed, MakesAtLast, before_last, ClosesAfterFull, DeletesAfterEmpty}
 pub use Rattle.fak_queue.specs.Shown.{QueueHolder, queue_object, IsShownQueue, QueueView, IsAtHome, IsEncoded, opened_queue, HasSlot}
 pub use Rattle.fak_queue.specs.Steps.{mark, Named, ShutAs, TurnedIn, FilledCell, EndsIn, TurnedOut, FreedCell, EndsOut, Shuts, Marks, TestedUp, AddedUp, BacksUp, DrewIn, TestedLow, SubtractedLow, BacksLow, DrawsOut, TestsUp, AddsUp, DrawsIn, TurnsIn, SetsFull, TestsLow, SubtractsLow, TurnsOut, SetsFree, HeardJoin, Anything, WaitsOut, WaitsIn, FitsTable, HasOneName}
-pub use Rattle.fak_queue.specs.Words.{IsUpperCount, AreWords, shut_bit, shut_part, IsLowerCount}
-pub use Rattle.fak_queue.specs.declared.found.LowerCount.{LowerCount}
-pub use Rattle.fak_queue.specs.declared.found.UpperCount.{UpperCount}
+pub use Rattle.fak_queue.specs.Words.{UpperCount, LowerCount, IsUpperCount, AreWords, shut_bit, shut_part, IsLowerCount}
 pub use Rattle.fak_queue.specs.declared.limits.QueueLimits.{QueueLimits}
 pub use Rattle.fak_queue.specs.declared.state.SeatState.TheVariants.{Idle, Inserting, Deleting}
 pub use Rattle.std.proofs.Common.{◌≡◌, ℕ, ◌-◌, ◌<◌, ◌^◌, List, [], ◌∷◌, refl, sym, ap, ◌∙◌, subst, inl, inr, Some, ℤ, Bool, true, false, reverse, ◌⊎◌, ◌+◌, arith, ◌++◌, length, length-append, append_assoc, All, flat_map, append-nil, ◌*◌, ◌/◌, ◌%◌, slice_index, bit_or, Option, None, zero, suc, ◌≤◌, drop, mod-lt, ◌≢◌, ◌==◌, set, length-set, pos, int_lt, mod-eq_of_lt, get_or, get_or-set_same, get_or-set_other, ⊎_elim, map, replicate, ◌↔◌, ◌+ℤ◌, nat_lt, ◌-ℤ◌, sum_by, cond, bit_and, MatchResult, rules, not, is_ok, w64}

@@ -5,8 +5,8 @@ use Rattle.std.specs.Int.Bits.{or_add_and}
 use Rattle.std.proofs.lemmas.Nat.Bits.{and_pow}
 use Rattle.fak_core.specs.QueueMoves.{with_at}
 use Rattle.fak_queue.proofs.Common.{UpperCount, LowerCount, ◌≡◌, ◌≢◌, ℕ, ◌+◌, ◌-◌, ◌*◌, ◌%◌, ◌^◌, ◌<◌, ◌≤◌, Bool, true, false, List, slice_index, set, sym, ap, ◌∙◌, subst, arith, length-set, get_or-set_other, get_or-set_same, mod-eq_of_lt, bit_or, bit_and, ℤ, pos, ◌+ℤ◌, ◌-ℤ◌, int_lt, ints, bias, add-mod_left, by_place, shut_bit, shut_part, AreWords, IsUpperCount, IsLowerCount}
-use Rattle.fak_queue.specs.declared.found.UpperCount.TheVariants.{Below, Full, Shut}
-use Rattle.fak_queue.specs.declared.found.LowerCount.TheVariants.{Positive, Empty}
+use Rattle.std.specs.Prelude.{Ok, Err}
+use Rattle.fak_queue.specs.declared.found.NoRoom.TheVariants.{Full, Shut}
 
 pub shut_part-small : (b : Bool) → shut_part b ≤ 9223372036854775808
 shut_part-small true = omega arith
@@ -65,28 +65,28 @@ pub open_below : (w lo hi : ℕ) (u : ℤ) → pos w ≡ pos bias +ℤ u → pos
 open_below w lo hi u e l a = omega (arith, ints, e, l)
 
 -- a fact of the only reading that a word has is one of each
-pub only_shut : (P : UpperCount → Type 0) (size w : ℕ) → size ≤ 4096 → shut_bit ≤ w → P Shut → (u : UpperCount) → IsUpperCount size w u → P u
-only_shut P size w small high p Below is = absurd (omega (arith, small, high, is))
-only_shut P size w small high p (Full n) is = let low = is.1 in absurd (omega (arith, high, low))
-only_shut P size w small high p Shut is = p
+pub only_shut : (P : UpperCount → Type 0) (size w : ℕ) → size ≤ 4096 → shut_bit ≤ w → P (Err Shut) → (u : UpperCount) → IsUpperCount size w u → P u
+only_shut P size w small high p (Ok room) is = absurd (omega (arith, small, high, is))
+only_shut P size w small high p (Err (Full n)) is = let low = is.1 in absurd (omega (arith, high, low))
+only_shut P size w small high p (Err Shut) is = p
 
-pub only_below : (P : UpperCount → Type 0) (size w : ℕ) → size ≤ 4096 → w < bias + size → P Below → (u : UpperCount) → IsUpperCount size w u → P u
-only_below P size w small low p Below is = p
-only_below P size w small low p (Full n) is = let high = is.0 in absurd (omega (arith, high, low))
-only_below P size w small low p Shut is = absurd (omega (arith, small, low, is))
+pub only_below : (P : UpperCount → Type 0) (size w : ℕ) → size ≤ 4096 → w < bias + size → P (Ok tt) → (u : UpperCount) → IsUpperCount size w u → P u
+only_below P size w small low p (Ok room) is = p
+only_below P size w small low p (Err (Full n)) is = let high = is.0 in absurd (omega (arith, high, low))
+only_below P size w small low p (Err Shut) is = absurd (omega (arith, small, low, is))
 
-pub only_full : (P : UpperCount → Type 0) (size w : ℕ) (v : ℤ) → bias + size ≤ w → w < shut_bit → pos w ≡ pos bias +ℤ v → ((n : ℤ) → n ≡ v → P (Full n)) → (u : UpperCount) → IsUpperCount size w u → P u
-only_full P size w v high low e p Below is = absurd (omega (arith, high, is))
-only_full P size w v high low e p (Full n) is = let f = is.2 in p n (omega (arith, ints, e, f))
-only_full P size w v high low e p Shut is = absurd (omega (arith, low, is))
+pub only_full : (P : UpperCount → Type 0) (size w : ℕ) (v : ℤ) → bias + size ≤ w → w < shut_bit → pos w ≡ pos bias +ℤ v → ((n : ℤ) → n ≡ v → P (Err (Full n))) → (u : UpperCount) → IsUpperCount size w u → P u
+only_full P size w v high low e p (Ok room) is = absurd (omega (arith, high, is))
+only_full P size w v high low e p (Err (Full n)) is = let f = is.2 in p n (omega (arith, ints, e, f))
+only_full P size w v high low e p (Err Shut) is = absurd (omega (arith, low, is))
 
-pub only_positive : (P : LowerCount → Type 0) (w : ℕ) → bias < w → P Positive → (l : LowerCount) → IsLowerCount w l → P l
-only_positive P w high p Positive is = p
-only_positive P w high p (Empty n) is = let low = is.0 in absurd (omega (arith, high, low))
+pub only_positive : (P : LowerCount → Type 0) (w : ℕ) → bias < w → P (Ok tt) → (l : LowerCount) → IsLowerCount w l → P l
+only_positive P w high p (Ok stock) is = p
+only_positive P w high p (Err n) is = let low = is.0 in absurd (omega (arith, high, low))
 
-pub only_empty : (P : LowerCount → Type 0) (w : ℕ) (v : ℤ) → w ≤ bias → pos w ≡ pos bias +ℤ v → ((n : ℤ) → n ≡ v → P (Empty n)) → (l : LowerCount) → IsLowerCount w l → P l
-only_empty P w v low e p Positive is = absurd (omega (arith, low, is))
-only_empty P w v low e p (Empty n) is = let f = is.1 in p n (omega (arith, ints, e, f))
+pub only_empty : (P : LowerCount → Type 0) (w : ℕ) (v : ℤ) → w ≤ bias → pos w ≡ pos bias +ℤ v → ((n : ℤ) → n ≡ v → P (Err n)) → (l : LowerCount) → IsLowerCount w l → P l
+only_empty P w v low e p (Ok stock) is = absurd (omega (arith, low, is))
+only_empty P w v low e p (Err n) is = let f = is.1 in p n (omega (arith, ints, e, f))
 
 -- ---- a word changes
 

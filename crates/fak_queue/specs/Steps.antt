@@ -1,6 +1,6 @@
 -- What each atomic step of a seat of a queue tells it: of the past, newest mark first, and of the seat after it. `size`
 -- is that of the queue, `seats` the number of its seats, `n` the seat's name.
-use Rattle.std.specs.Prelude.{◌≡◌, ◌≢◌, ℕ, ◌+◌, ◌-◌, ◌*◌, ◌/◌, ◌%◌, ◌<◌, ◌≤◌, ◌^◌, Option, Some, None, Bool, true, false, List, [], ◌∷◌, reverse}
+use Rattle.std.specs.Prelude.{◌≡◌, ◌≢◌, ℕ, ◌+◌, ◌-◌, ◌*◌, ◌/◌, ◌%◌, ◌<◌, ◌≤◌, ◌^◌, Option, Some, None, Ok, Err, Bool, true, false, List, [], ◌∷◌, reverse}
 use Rattle.atomic_table.specs.Table.{rest}
 use Rattle.atomic_table.specs.Seated.{TableId}
 use Rattle.fak_model.specs.declared.queue.Kind.{Kind}
@@ -12,13 +12,10 @@ use Rattle.fak_model.specs.QueuePast.{stage}
 use Rattle.fak_model.specs.Shown.{Leaves, Hears}
 use Rattle.fak_core.specs.declared.queue.phase.Phase.{Phase}
 use Rattle.fak_core.specs.declared.queue.phase.Phase.TheVariants.{Idle, AddUp, BackUp, TicketIn, TurnIn, StoreItem, EndInsert, SubLow, BackLow, TicketOut, TurnOut, LoadItem, EndDelete}
-use Rattle.fak_queue.specs.declared.found.UpperCount.{UpperCount}
-use Rattle.fak_queue.specs.declared.found.UpperCount.TheVariants.{Below, Full, Shut}
-use Rattle.fak_queue.specs.declared.found.LowerCount.{LowerCount}
-use Rattle.fak_queue.specs.declared.found.LowerCount.TheVariants.{Positive, Empty}
+use Rattle.fak_queue.specs.declared.found.NoRoom.TheVariants.{Full, Shut}
 use Rattle.fak_queue.specs.declared.place.Place.{Place}
 use Rattle.fak_queue.specs.declared.limits.QueueLimits.{QueueLimits}
-use Rattle.fak_queue.specs.Words.{shut_bit, IsUpperCount, IsLowerCount}
+use Rattle.fak_queue.specs.Words.{shut_bit, UpperCount, LowerCount, IsUpperCount, IsLowerCount}
 use Rattle.fak_queue.specs.Shown.{QueueHolder, queue_object}
 
 -- a seat's table is the queue's, whose numbers are these
@@ -57,17 +54,17 @@ module _ {T : Type 0} (size seats n : ℕ) where
   -- ---- insertions
 
   abbrev pub TestedUp : T → UpperCount → QueueHolder T → QueueHolder T → Type 0
-  TestedUp x Below m after = Marks size seats m [] (AddUp x) Anything after
-  TestedUp x (Full u) m after = Marks size seats m (mark n made.NoRoom ∷ []) Idle (λ past. u ≡ upper_count (reverse past)) after
-  TestedUp x Shut m after = Marks size seats m (mark n made.Closed ∷ []) Idle Anything after
+  TestedUp x (Ok room) m after = Marks size seats m [] (AddUp x) Anything after
+  TestedUp x (Err (Full u)) m after = Marks size seats m (mark n made.NoRoom ∷ []) Idle (λ past. u ≡ upper_count (reverse past)) after
+  TestedUp x (Err Shut) m after = Marks size seats m (mark n made.Closed ∷ []) Idle Anything after
 
   abbrev pub TestsUp : Option T → QueueHolder T → ℕ → QueueHolder T → Type 0
   TestsUp item m found after = (x : T) → item ≡ Some x → (u : UpperCount) → IsUpperCount size found u → TestedUp x u m after
 
   abbrev pub AddedUp : T → UpperCount → QueueHolder T → QueueHolder T → Type 0
-  AddedUp x Below m after = Marks size seats m (mark n made.ClaimIn ∷ []) (TicketIn x) Anything after
-  AddedUp x (Full u) m after = Marks size seats m (mark n made.OverIn ∷ []) (BackUp x) (λ past. u ≡ upper_count (reverse past)) after
-  AddedUp x Shut m after = Marks size seats m (mark n made.LateIn ∷ []) (BackUp x) Anything after
+  AddedUp x (Ok room) m after = Marks size seats m (mark n made.ClaimIn ∷ []) (TicketIn x) Anything after
+  AddedUp x (Err (Full u)) m after = Marks size seats m (mark n made.OverIn ∷ []) (BackUp x) (λ past. u ≡ upper_count (reverse past)) after
+  AddedUp x (Err Shut) m after = Marks size seats m (mark n made.LateIn ∷ []) (BackUp x) Anything after
 
   abbrev pub AddsUp : QueueHolder T → ℕ → QueueHolder T → Type 0
   AddsUp m found after = (x : T) → m.0.phase ≡ Some (AddUp x) → (u : UpperCount) → IsUpperCount size found u → AddedUp x u m after
@@ -110,15 +107,15 @@ module _ {T : Type 0} (size seats n : ℕ) where
   -- ---- deletions
 
   abbrev pub TestedLow : LowerCount → QueueHolder T → QueueHolder T → Type 0
-  TestedLow Positive m after = Marks size seats m [] SubLow Anything after
-  TestedLow (Empty l) m after = Marks size seats m (mark n made.NoItem ∷ []) Idle (λ past. l ≡ lower_count (reverse past)) after
+  TestedLow (Ok stock) m after = Marks size seats m [] SubLow Anything after
+  TestedLow (Err l) m after = Marks size seats m (mark n made.NoItem ∷ []) Idle (λ past. l ≡ lower_count (reverse past)) after
 
   abbrev pub TestsLow : QueueHolder T → ℕ → QueueHolder T → Type 0
   TestsLow m found after = (l : LowerCount) → IsLowerCount found l → TestedLow l m after
 
   abbrev pub SubtractedLow : LowerCount → QueueHolder T → QueueHolder T → Type 0
-  SubtractedLow Positive m after = Marks size seats m (mark n made.ClaimOut ∷ []) TicketOut Anything after
-  SubtractedLow (Empty l) m after = Marks size seats m (mark n made.OverOut ∷ []) BackLow (λ past. l ≡ lower_count (reverse past)) after
+  SubtractedLow (Ok stock) m after = Marks size seats m (mark n made.ClaimOut ∷ []) TicketOut Anything after
+  SubtractedLow (Err l) m after = Marks size seats m (mark n made.OverOut ∷ []) BackLow (λ past. l ≡ lower_count (reverse past)) after
 
   abbrev pub SubtractsLow : QueueHolder T → ℕ → QueueHolder T → Type 0
   SubtractsLow m found after = (l : LowerCount) → IsLowerCount found l → SubtractedLow l m after

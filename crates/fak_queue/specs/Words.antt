@@ -1,10 +1,8 @@
 -- The words of a queue's table.
-use Rattle.std.specs.Prelude.{◌≡◌, ℕ, ◌+◌, ◌<◌, ◌≤◌, Bool, true, false, List, length, slice_index, ℤ, pos, ◌+ℤ◌}
+use Rattle.std.specs.Prelude.{◌≡◌, ℕ, ◌+◌, ◌<◌, ◌≤◌, Bool, true, false, List, length, slice_index, ℤ, pos, ◌+ℤ◌, Result, Ok, Err}
 use Rattle.fak_model.specs.Words.{bias}
-use Rattle.fak_queue.specs.declared.found.UpperCount.{UpperCount}
-use Rattle.fak_queue.specs.declared.found.UpperCount.TheVariants.{Below, Full, Shut}
-use Rattle.fak_queue.specs.declared.found.LowerCount.{LowerCount}
-use Rattle.fak_queue.specs.declared.found.LowerCount.TheVariants.{Positive, Empty}
+use Rattle.fak_queue.specs.declared.found.NoRoom.{NoRoom}
+use Rattle.fak_queue.specs.declared.found.NoRoom.TheVariants.{Full, Shut}
 
 -- the bit that a shut queue has in the word of its upper count: 2^63
 abbrev pub shut_bit : ℕ
@@ -39,13 +37,21 @@ pub record AreWords (size : ℕ) (upper lower : ℤ) (draws_in draws_out : ℕ) 
   pub draws_out_is : slice_index words draws_out_word ≡ draws_out
   pub turns_are : (c : ℕ) → c < size → slice_index words (first_turn + c) ≡ turn c
 
+-- whether there is room for an insertion, or why not
+abbrev pub UpperCount : Type 0
+UpperCount = Result (Unit {0}) NoRoom
+
+-- whether there is an item for a deletion, or the lower count
+abbrev pub LowerCount : Type 0
+LowerCount = Result (Unit {0}) ℤ
+
 -- what a word of the upper count says, in a queue of this size
 abbrev pub IsUpperCount : ℕ → ℕ → UpperCount → Type 0
-IsUpperCount size found Below = found < bias + size
-IsUpperCount size found (Full n) = (bias + size ≤ found) × (found < shut_bit) × (pos found ≡ pos bias +ℤ n)
-IsUpperCount size found Shut = shut_bit ≤ found
+IsUpperCount size found (Ok room) = found < bias + size
+IsUpperCount size found (Err (Full n)) = (bias + size ≤ found) × (found < shut_bit) × (pos found ≡ pos bias +ℤ n)
+IsUpperCount size found (Err Shut) = shut_bit ≤ found
 
 -- what a word of the lower count says
 abbrev pub IsLowerCount : ℕ → LowerCount → Type 0
-IsLowerCount found Positive = bias < found
-IsLowerCount found (Empty n) = (found ≤ bias) × (pos found ≡ pos bias +ℤ n)
+IsLowerCount found (Ok stock) = bias < found
+IsLowerCount found (Err n) = (found ≤ bias) × (pos found ≡ pos bias +ℤ n)

@@ -6,7 +6,7 @@ ghost use Rattle.fak_queue.specs.Steps.{FitsTable, HasOneName, Named};
 ghost use Rattle.fak_queue.specs.Parts.{ClaimedIn, ClaimedOut, RefusedIn, RefusedOut};
 
 use crate::contention::SharedCounts;
-use crate::found::{LowerCount, NoRoom, UpperCount};
+use crate::found::NoRoom;
 use crate::steps::deletion::{back_low, sub_low, test_low, ticket_out};
 use crate::steps::insertion::{add_up, back_up, test_up, ticket_in};
 use crate::steps::{QueueToken, QueueWords};
@@ -31,19 +31,14 @@ pub(crate) fn admit_insertion<T>(
         (λ r. RefusedIn words.now.table_id.slots words.now.key.seats n r token.old.me token.new.me)) }
 {
     match test_up::<T, Brand>(words, token, size, counts, item) {
-        UpperCount::Below => {}
-        UpperCount::Full(upper) => return Err(NoRoom::Full(upper)),
-        UpperCount::Shut => return Err(NoRoom::Shut),
+        Ok(()) => {}
+        Err(reason) => return Err(reason),
     }
     match add_up::<T, Brand>(words, token, size) {
-        UpperCount::Below => Ok(ticket_in::<T, Brand>(words, token)),
-        UpperCount::Full(upper) => {
+        Ok(()) => Ok(ticket_in::<T, Brand>(words, token)),
+        Err(reason) => {
             back_up::<T, Brand>(words, token);
-            Err(NoRoom::Full(upper))
-        }
-        UpperCount::Shut => {
-            back_up::<T, Brand>(words, token);
-            Err(NoRoom::Shut)
+            Err(reason)
         }
     }
 }
@@ -64,12 +59,12 @@ pub(crate) fn admit_deletion<T>(
         (λ l. RefusedOut words.now.table_id.slots words.now.key.seats n l token.old.me token.new.me)) }
 {
     match test_low::<T, Brand>(words, token, counts) {
-        LowerCount::Positive => {}
-        LowerCount::Empty(lower) => return Err(lower),
+        Ok(()) => {}
+        Err(lower) => return Err(lower),
     }
     match sub_low::<T, Brand>(words, token) {
-        LowerCount::Positive => Ok(ticket_out::<T, Brand>(words, token)),
-        LowerCount::Empty(lower) => {
+        Ok(()) => Ok(ticket_out::<T, Brand>(words, token)),
+        Err(lower) => {
             back_low::<T, Brand>(words, token);
             Err(lower)
         }

@@ -18,7 +18,7 @@
 ghost use Rattle.std.specs.Prelude.{◌+◌, ◌<◌, ◌^◌};
 ghost use Rattle.fak_queue.specs.Words.{IsLowerCount, IsUpperCount};
 
-use crate::found::{LowerCount, UpperCount};
+use crate::found::NoRoom;
 use fak_model::{BIAS, count_of};
 
 /// The number of unused words before the first counter, and behind the last turn.
@@ -42,27 +42,27 @@ pub(crate) const TURNS: usize = DRAWS_OUT + MARGIN;
 /// The bit of the upper count's word that is set where the queue is shut.
 pub(crate) const SHUT: u64 = 1 << 63;
 
-/// What this word of the upper count says, in a queue of this size.
-pub(crate) fn read_upper(found: u64, size: u64) -> UpperCount
+/// Whether this word of the upper count says that there is room in a queue of this size, or why not.
+pub(crate) fn read_upper(found: u64, size: u64) -> Result<(), NoRoom>
     requires { size < 2 ^ 62 }
     ensures { IsUpperCount size found result }
 {
     if found >= SHUT {
-        UpperCount::Shut
+        Err(NoRoom::Shut)
     } else if found >= BIAS + size {
-        UpperCount::Full(count_of(found))
+        Err(NoRoom::Full(count_of(found)))
     } else {
-        UpperCount::Below
+        Ok(())
     }
 }
 
-/// What this word of the lower count says.
-pub(crate) fn read_lower(found: u64) -> LowerCount
+/// Whether this word of the lower count says that there is an item, or the count that it says.
+pub(crate) fn read_lower(found: u64) -> Result<(), i64>
     ensures { IsLowerCount found result }
 {
     if found > BIAS {
-        LowerCount::Positive
+        Ok(())
     } else {
-        LowerCount::Empty(count_of(found))
+        Err(count_of(found))
     }
 }

@@ -25,7 +25,6 @@ ghost use Rattle.fak_queue.specs.Steps.{
 };
 
 use crate::contention::SharedCounts;
-use crate::found::LowerCount;
 use crate::place::Place;
 use crate::plays::{
     BackLowPlay, Call, EndOutPlay, SetFreePlay, SubLowPlay, TestLowPlay, TicketOutPlay, TurnOutPlay,
@@ -33,12 +32,12 @@ use crate::plays::{
 use crate::steps::{QueueToken, QueueWords};
 use crate::words::{DRAWS_OUT, LOWER, TURNS, UPPER, read_lower};
 
-/// Tests the lower count.
+/// Tests the lower count: whether there is an item, or the count.
 pub(crate) fn test_low<T, J: Call<T>>(
     words: &QueueWords<T>,
     token: &mut QueueToken<T>,
     counts: &mut SharedCounts,
-) -> LowerCount
+) -> Result<(), i64>
     requires table { FitsTable token.old.table_id words.now.table_id words.now.key J.seats }
     requires seat { HasOneName token.old.me }
     requires phase { token.old.me.0.phase ≡ Some Idle }
@@ -50,8 +49,11 @@ pub(crate) fn test_low<T, J: Call<T>>(
     read_lower(found)
 }
 
-/// Subtracts 1 from the lower count.
-pub(crate) fn sub_low<T, J: Call<T>>(words: &QueueWords<T>, token: &mut QueueToken<T>) -> LowerCount
+/// Subtracts 1 from the lower count, and tests again what it was before.
+pub(crate) fn sub_low<T, J: Call<T>>(
+    words: &QueueWords<T>,
+    token: &mut QueueToken<T>,
+) -> Result<(), i64>
     requires table { FitsTable token.old.table_id words.now.table_id words.now.key J.seats }
     requires seat { HasOneName token.old.me }
     requires phase { token.old.me.0.phase ≡ Some SubLow }

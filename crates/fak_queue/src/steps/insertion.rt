@@ -25,7 +25,7 @@ ghost use Rattle.fak_queue.specs.Steps.{
 };
 
 use crate::contention::SharedCounts;
-use crate::found::UpperCount;
+use crate::found::NoRoom;
 use crate::place::Place;
 use crate::plays::{
     AddUpPlay, BackUpPlay, Call, EndInPlay, SetFullPlay, TestUpPlay, TicketInPlay, TurnInPlay,
@@ -33,14 +33,14 @@ use crate::plays::{
 use crate::steps::{QueueToken, QueueWords};
 use crate::words::{DRAWS_IN, LOWER, TURNS, UPPER, read_upper};
 
-/// Tests the upper count.
+/// Tests the upper count: whether there is room, or why not.
 pub(crate) fn test_up<T, J: Call<T>>(
     words: &QueueWords<T>,
     token: &mut QueueToken<T>,
     size: u64,
     counts: &mut SharedCounts,
     _item: &T,
-) -> UpperCount
+) -> Result<(), NoRoom>
     requires table { FitsTable token.old.table_id words.now.table_id words.now.key J.seats }
     requires size { (size ≡ words.now.table_id.slots) × (size ≤ 4096) }
     requires seat { HasOneName token.old.me }
@@ -54,12 +54,12 @@ pub(crate) fn test_up<T, J: Call<T>>(
     read_upper(found, size)
 }
 
-/// Adds 1 to the upper count.
+/// Adds 1 to the upper count, and tests again what it was before.
 pub(crate) fn add_up<T, J: Call<T>>(
     words: &QueueWords<T>,
     token: &mut QueueToken<T>,
     size: u64,
-) -> UpperCount
+) -> Result<(), NoRoom>
     requires table { FitsTable token.old.table_id words.now.table_id words.now.key J.seats }
     requires size { (size ≡ words.now.table_id.slots) × (size ≤ 4096) }
     requires seat { HasOneName token.old.me }
