@@ -18,6 +18,7 @@ pub mod AtOnce
 pub mod Trying
 pub mod AfterRefusals
 pub mod Weighing
+pub mod Sums
 pub mod Tallies
 pub mod Shutting
 pub mod Leaving

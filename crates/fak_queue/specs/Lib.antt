@@ -7,3 +7,4 @@ pub mod Retries
 pub mod Parts
 pub mod Left
 pub mod Rests
+pub mod Sums
