@@ -69,7 +69,7 @@ impl Trace {
         }
     }
 
-    /// The row is surely the last one.
+    /// Whether the row is surely the last one.
     fn repeats(&self, row: Row) -> bool
         ensures { IsTrue result → self.now.last ≡ Some row }
     {
