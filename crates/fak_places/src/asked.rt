@@ -1,0 +1,112 @@
+//! What is asked of a value, and where in its key's array the value is.
+
+use std::fmt;
+use thiserror::Error;
+
+/// What is asked of a value.
+#[derive(Clone, Copy, Debug, PartialEq, Eq, Error)]
+pub enum Asked {
+    /// What these words say.
+    #[error("{0}")]
+    Words(&'static str),
+    /// This is a whole number in this range, both ends included.
+    #[error("{0} is {1} to {2}")]
+    Within(&'static str, u64, u64),
+}
+
+/// Where a value is.
+#[derive(Clone, Copy, Debug, PartialEq, Eq)]
+pub enum Spot {
+    /// This line and column of a text that is not JSON, both from 1.
+    Text(usize, usize),
+    /// The value of the key.
+    Key,
+    /// The element of this index.
+    One(usize),
+    /// An element of an element.
+    Two(usize, usize),
+    /// An element of an element of an element.
+    Three(usize, usize, usize),
+}
+
+impl fmt::Display for Spot {
+    fn fmt<W: fmt::Write>(&self, f: &mut fmt::Formatter<W>) -> fmt::Result {
+        match self {
+            Spot::Text(line, column) => write!(f, "line {line}, column {column}"),
+            Spot::Key => Ok(()),
+            Spot::One(i) => write!(f, "[{i}]"),
+            Spot::Two(i, j) => write!(f, "[{i}][{j}]"),
+            Spot::Three(i, j, k) => write!(f, "[{i}][{j}][{k}]"),
+        }
+    }
+}
+
+/// Where a value is wrong, and what is asked there.
+#[derive(Clone, Copy, Debug, PartialEq, Eq)]
+pub struct Hint {
+    pub spot: Spot,
+    pub asked: Asked,
+}
+
+/// Which element of an event, a mark or a step is wrong, or all of it; and what is asked there.
+#[derive(Clone, Copy, Debug, PartialEq, Eq)]
+pub(crate) struct Wrong {
+    pub element: Option<usize>,
+    pub asked: Asked,
+}
+
+/// All of the value is wrong.
+pub(crate) fn whole(asked: &'static str) -> Wrong {
+    Wrong {
+        element: None,
+        asked: Asked::Words(asked),
+    }
+}
+
+/// The element of this index is wrong.
+pub(crate) fn element(index: usize, asked: &'static str) -> Wrong {
+    Wrong {
+        element: Some(index),
+        asked: Asked::Words(asked),
+    }
+}
+
+/// The element of this index is no number from `low` to `high`.
+pub(crate) fn outside(index: usize, what: &'static str, low: u64, high: u64) -> Wrong {
+    Wrong {
+        element: Some(index),
+        asked: Asked::Within(what, low, high),
+    }
+}
+
+/// What is wrong with the element of this index of a key's array.
+pub(crate) fn in_item(index: usize, wrong: Wrong) -> Hint {
+    let spot = match wrong.element {
+        None => Spot::One(index),
+        Some(element) => Spot::Two(index, element),
+    };
+    Hint {
+        spot,
+        asked: wrong.asked,
+    }
+}
+
+/// What is wrong with a step of a program.
+pub(crate) fn in_step(program: usize, step: usize, wrong: Wrong) -> Hint {
+    let spot = match wrong.element {
+        None => Spot::Two(program, step),
+        Some(element) => Spot::Three(program, step, element),
+    };
+    Hint {
+        spot,
+        asked: wrong.asked,
+    }
+}
+
+/// What is asked of the value of a key.
+pub(crate) fn of_key(asked: Asked) -> Hint {
+    Hint {
+        spot: Spot::Key,
+        asked,
+    }
+}

@@ -1,0 +1,16 @@
+//! Where an input is wrong: the place of its first fault, as the readers of `fak_text` find it, and what is asked there.
+#![tactic(auto)]
+
+mod asked;
+mod event;
+mod finding;
+mod json;
+mod mark;
+mod place;
+mod script;
+mod step;
+mod values;
+
+pub use asked::{Asked, Hint, Spot};
+pub use finding::{Format, place_of};
+pub use place::Place;

@@ -1,0 +1,102 @@
+//! What is wrong with the arrays of a script.
+
+ghost use Rattle.std.specs.Prelude.{◌≡◌, is_ok, not};
+ghost use Rattle.std.specs.List.{position};
+ghost use Rattle.serde_json.specs.View.{view};
+ghost use Rattle.fak_text.specs.ScriptText.{number_from};
+
+use crate::asked::{Asked, Hint, Spot, in_step};
+use crate::step::{Limits, first_wrong_step, wrong_step};
+use crate::values::elements_of_key;
+use fak_text::Field;
+use serde_json::Value;
+
+const MOST_STEPS: usize = 1_000;
+
+const MOST_START: u64 = 1_000_000;
+
+/// The whole number of a key, 0 where there is none.
+fn number_of_key(value: &Value, field: Field) -> u64 {
+    match value.get(field.name()) {
+        Some(found) => found.as_u64().unwrap_or(0),
+        None => 0,
+    }
+}
+
+/// How many elements the array of a key has.
+fn count_of_key(value: &Value, field: Field) -> u64 {
+    elements_of_key(value, field).len() as u64
+}
+
+/// The index of the first value that is no whole number below the bound.
+fn first_wrong_number(field: Field, bound: u64, values: &[Value]) -> Option<usize>
+    ensures { result ≡ position (λ v. not (is_ok (number_from field bound 0 (view v)))) values.now }
+{
+    values
+        .iter()
+        .position(|value| !matches!(value.as_u64(), Some(n) if n < bound))
+}
+
+/// What is wrong with a program, if anything.
+fn hint_in_program(limits: Limits, index: usize, program: &Value) -> Option<Hint> {
+    let steps = match program.as_array() {
+        Some(steps) if steps.len() <= MOST_STEPS => steps.as_slice(),
+        _ => {
+            return Some(Hint {
+                spot: Spot::One(index),
+                asked: Asked::Words("a program is an array of at most 1000 steps"),
+            });
+        }
+    };
+    let step = first_wrong_step(limits, steps)?;
+    let wrong = wrong_step(limits, steps.get(step)?)?;
+    Some(in_step(index, step, wrong))
+}
+
+/// What is wrong in the programs of a script.
+pub(crate) fn hint_in_programs(script: &Value) -> Option<Hint> {
+    let programs = elements_of_key(script, Field::Programs);
+    let limits = Limits {
+        version: number_of_key(script, Field::Version),
+        semaphores: count_of_key(script, Field::Semaphores),
+        programs: programs.len() as u64,
+    };
+    for (i, program) in programs.iter().enumerate() {
+        if let Some(hint) = hint_in_program(limits, i, program) {
+            return Some(hint);
+        }
+    }
+    None
+}
+
+/// What is wrong in the values that the semaphores of a script begin at.
+pub(crate) fn hint_in_semaphores(script: &Value) -> Option<Hint> {
+    let values = elements_of_key(script, Field::Semaphores);
+    let index = first_wrong_number(Field::Semaphores, MOST_START + 1, values)?;
+    Some(Hint {
+        spot: Spot::One(index),
+        asked: Asked::Within("a semaphore's value", 0, MOST_START),
+    })
+}
+
+/// What is wrong in the programs that the first processes of a script run.
+pub(crate) fn hint_in_start(script: &Value) -> Option<Hint> {
+    let values = elements_of_key(script, Field::Start);
+    let slots = number_of_key(script, Field::Slots);
+    if values.len() as u64 > slots {
+        return Some(Hint {
+            spot: Spot::Key,
+            asked: Asked::Within("the number of processes, with these slots,", 0, slots),
+        });
+    }
+    let programs = count_of_key(script, Field::Programs);
+    let index = first_wrong_number(Field::Start, programs, values)?;
+    let asked = match programs.checked_sub(1) {
+        Some(last) => Asked::Within("a program", 0, last),
+        None => Asked::Words("the script has no program"),
+    };
+    Some(Hint {
+        spot: Spot::One(index),
+        asked,
+    })
+}
