@@ -6,7 +6,7 @@ ghost use Rattle.fak_places.specs.Places.{fault_in, key_of, list_of};
 
 use crate::asked::{Asked, Hint, in_item, of_key};
 use crate::event::{first_wrong_event, wrong_event};
-use crate::json::{found_in_text, hint_of_text};
+use crate::json::hint_of_text;
 use crate::mark::{first_wrong_mark, wrong_mark};
 use crate::place::{Place, shown, value_at};
 use crate::script::{hint_in_programs, hint_in_semaphores, hint_in_start};
@@ -177,12 +177,15 @@ fn place_of_fault(
     match Value::from_slice(alloc, bytes) {
         Ok(value) => place_in_value(alloc, format, fault, &value),
         Err(error) if error.is_memory() => Err(AllocError),
-        Err(error) => Ok(Place {
-            fault,
-            key,
-            hint: hint_of_text(&error),
-            found: found_in_text(alloc, bytes, &error)?,
-        }),
+        Err(error) => {
+            let (hint, found) = hint_of_text(alloc, bytes, &error)?;
+            Ok(Place {
+                fault,
+                key,
+                hint,
+                found,
+            })
+        }
     }
 }
 

@@ -4,17 +4,35 @@ use crate::asked::{Asked, Hint, Spot};
 use serde_json::Error;
 use std::alloc::{AllocError, Global};
 
-/// Where and how a text stops being JSON.
-pub(crate) fn hint_of_text(error: &Error) -> Hint {
-    let asked = if error.is_eof() {
-        "the text ends before all its brackets, braces and quotation marks are closed"
+const OPEN: &'static str =
+    "the text ends before all its brackets, braces and quotation marks are closed";
+
+const NEXT: &'static str = "a comma, a colon, a value, a closing bracket or the end";
+
+const NUMBER: &'static str = "before this column, a number that a double can hold";
+
+/// Whether a text stops being JSON behind a number that is too large. The crate says so in its message alone.
+fn is_of_number(alloc: Global, error: &Error) -> Result<bool, AllocError> {
+    let message = format!(in alloc; "{error}")?;
+    Ok(message.as_str().starts_with("number"))
+}
+
+/// Where and how a text stops being JSON, and the character that is there.
+pub(crate) fn hint_of_text(
+    alloc: Global,
+    bytes: &[u8],
+    error: &Error,
+) -> Result<(Hint, Option<String>), AllocError> {
+    let spot = Spot::Text(error.line(), error.column());
+    let (asked, found) = if error.is_eof() {
+        (OPEN, None)
+    } else if is_of_number(alloc, error)? {
+        (NUMBER, None)
     } else {
-        "a comma, a colon, a value, a closing bracket or the end"
+        (NEXT, found_in_text(alloc, bytes, error)?)
     };
-    Hint {
-        spot: Spot::Text(error.line(), error.column()),
-        asked: Asked::Words(asked),
-    }
+    let asked = Asked::Words(asked);
+    Ok((Hint { spot, asked }, found))
 }
 
 /// The byte at a line and a column, both from 1.
@@ -35,14 +53,7 @@ fn byte_at(bytes: &[u8], line: usize, column: usize) -> Option<u8> {
 }
 
 /// The character that is where a text stops being JSON.
-pub(crate) fn found_in_text(
-    alloc: Global,
-    bytes: &[u8],
-    error: &Error,
-) -> Result<Option<String>, AllocError> {
-    if error.is_eof() {
-        return Ok(None);
-    }
+fn found_in_text(alloc: Global, bytes: &[u8], error: &Error) -> Result<Option<String>, AllocError> {
     match byte_at(bytes, error.line(), error.column()) {
         Some(byte) if byte.is_ascii_graphic() => Ok(Some(format!(in alloc; "{}", byte as char)?)),
         Some(byte) => Ok(Some(format!(in alloc; "byte {byte}")?)),

@@ -86,14 +86,14 @@ pub(crate) fn hint_in_start(script: &Value) -> Option<Hint> {
     if values.len() as u64 > slots {
         return Some(Hint {
             spot: Spot::Key,
-            asked: Asked::Within("the number of processes, with these slots,", 0, slots),
+            asked: Asked::Within("the number of first processes", 0, slots),
         });
     }
     let programs = count_of_key(script, Field::Programs);
     let index = first_wrong_number(Field::Start, programs, values)?;
     let asked = match programs.checked_sub(1) {
         Some(last) => Asked::Within("a program", 0, last),
-        None => Asked::Words("the script has no program"),
+        None => Asked::Words("no program, since the script has none"),
     };
     Some(Hint {
         spot: Spot::One(index),

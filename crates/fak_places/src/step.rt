@@ -105,7 +105,7 @@ fn wrong_semaphore(semaphores: u64, size: usize, number: Option<u64>) -> Option<
 {
     wrong_index(
         "a semaphore",
-        "the script has no semaphore",
+        "no semaphore, since the script has none",
         semaphores,
         size,
         number,
@@ -145,7 +145,7 @@ fn wrong_named(
         "stat" => wrong_inode(size, number),
         "spawn" => wrong_index(
             "a program",
-            "the script has no program",
+            "no program, since the script has none",
             limits.programs,
             size,
             number,

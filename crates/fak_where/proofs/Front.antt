@@ -1,0 +1,57 @@
+-- The front of an input, which has the input's first fault.
+use Rattle.std.proofs.Common.{◌≡◌, ℕ, ◌<◌, ◌≤◌, Bool, true, false, List, [], ◌++◌, length, take, Option, Some, None, IfSome, option_map, refl, ap, ◌∙◌, subst, arith, ltb-true, ltb-false, lt-ltb}
+use Rattle.std.proofs.lemmas.List.{length-take-le, take_all}
+use Rattle.std.proofs.Math.Dec.{ltb}
+use Rattle.std.specs.Result.{result_err}
+use Rattle.std.specs.Io.Take.{take_limit, take_inner, take_remaining}
+use Rattle.std.specs.declared.io.traits.Take.{Take}
+use Rattle.fak_text.specs.Gives.{◌>>=◌}
+use Rattle.fak_text.specs.HistoryText.{history_from}
+use Rattle.fak_text.specs.ScheduleText.{schedule_from}
+use Rattle.fak_text.specs.ScriptText.{script_from}
+use Rattle.fak_text.specs.Values.{input_in}
+use Rattle.fak_places.specs.Places.{fault_in}
+use Rattle.fak_places.specs.declared.finding.Format.{Format}
+use Rattle.fak_places.specs.declared.finding.Format.TheVariants as formats
+use Rattle.fak_where.specs.Answers.{most_kept, status_of_place}
+
+-- an input that is too long is so by its front already
+too_long : (input : List ℕ) → 1048576 < length input → input_in (take most_kept input) ≡ input_in input
+unfolding input_in
+too_long input lt =
+    let all : ltb 1048576 (length input) ≡ true = lt-ltb 1048576 (length input) lt in
+    let enough : most_kept ≤ length input = omega arith in
+    let front : ltb 1048576 (length (take most_kept input)) ≡ true = rw (length-take-le most_kept input enough) refl in
+    rw (all, front) refl
+
+front_read : (input : List ℕ) (b : Bool) → ltb 1048576 (length input) ≡ b → input_in (take most_kept input) ≡ input_in input
+front_read input true h = too_long input (ltb-true 1048576 (length input) h)
+front_read input false h =
+    let le : length input ≤ 1048576 = ltb-false 1048576 (length input) h in
+    ap input_in (take_all most_kept input (omega arith))
+
+-- the front of an input has the first fault of the whole
+front_fault : (format : Format) (input : List ℕ) → fault_in format (take most_kept input) ≡ fault_in format input
+front_fault formats.Schedule input = ap (λ value. result_err (value >>= schedule_from)) (front_read input (ltb 1048576 (length input)) refl)
+front_fault formats.History input = ap (λ value. result_err (value >>= history_from)) (front_read input (ltb 1048576 (length input)) refl)
+front_fault formats.Script input = ap (λ value. result_err (value >>= script_from)) (front_read input (ltb 1048576 (length input)) refl)
+
+-- the status for the front is that for the whole
+pub status_is : (known : Option (List ℕ)) (format : Format) (kept : List ℕ) (status : ℕ) → IfSome known (λ input. kept ≡ take most_kept input)
+    → status ≡ status_of_place (fault_in format kept) → IfSome known (λ input. status ≡ status_of_place (fault_in format input))
+status_is None format kept status front is = tt
+status_is (Some input) format kept status front is =
+    is ∙ ap (λ (bytes : List ℕ). status_of_place (fault_in format bytes)) front ∙ ap status_of_place (front_fault format input)
+
+kept_by : (known : Option (List ℕ)) (old kept : List ℕ) → old ≡ [] → IfSome (option_map (take most_kept) known) (λ xs. kept ≡ old ++ xs)
+    → IfSome known (λ input. kept ≡ take most_kept input)
+kept_by None old kept none read = tt
+kept_by (Some input) old kept none read = read ∙ ap (λ (front : List ℕ). front ++ take most_kept input) none
+
+-- what was read up to the limit is the front of the input
+pub kept_is : {R : Type 0} (remaining : R → Option (List ℕ)) (limited : Take R) (reader : R) (old kept : List ℕ) → take_limit limited ≡ most_kept → take_inner limited ≡ reader
+    → old ≡ [] → IfSome (take_remaining remaining limited) (λ xs. kept ≡ old ++ xs) → IfSome (remaining reader) (λ input. kept ≡ take most_kept input)
+kept_is {R} remaining limited reader old kept limit inner none read =
+    let by_limit = subst (λ (n : ℕ). IfSome (option_map (take n) (remaining (take_inner limited))) (λ xs. kept ≡ old ++ xs)) limit read in
+    let by_reader = subst (λ (r : R). IfSome (option_map (take most_kept) (remaining r)) (λ xs. kept ≡ old ++ xs)) inner by_limit in
+    kept_by (remaining reader) old kept none by_reader

@@ -1,0 +1,34 @@
+-- What the program is asked, and its exit status.
+use Rattle.std.specs.Prelude.{ℕ, List, [], ◌∷◌, codes, Option, Some, None, if◌then◌else◌}
+use Rattle.std.specs.Str.{bytes_eq}
+use Rattle.fak_text.specs.declared.fault.TextFault.{TextFault}
+use Rattle.fak_places.specs.declared.finding.Format.{Format}
+use Rattle.fak_places.specs.declared.finding.Format.TheVariants as formats
+use Rattle.fak_where.specs.declared.fault.WhereFault.{WhereFault}
+use Rattle.fak_where.specs.declared.fault.WhereFault.TheVariants as faults
+
+-- the format that a command of `fak` reads
+unfoldable pub format_named : List ℕ → Option Format
+format_named name =
+    if bytes_eq name (codes "replay") then Some formats.Schedule else (
+    if bytes_eq name (codes "check") then Some formats.History else (
+    if bytes_eq name (codes "run") then Some formats.Script else None))
+
+-- the format that the words ask for: the program's name, and a command
+abbrev pub format_asked : List (List ℕ) → Option Format
+format_asked (program ∷ (name ∷ [])) = format_named name
+format_asked words = None
+
+-- the status where the input has this fault, or none
+abbrev pub status_of_place : Option TextFault → ℕ
+status_of_place None = 0
+status_of_place (Some fault) = 1
+
+-- the status of a fault of the program
+abbrev pub status_of_fault : WhereFault → ℕ
+status_of_fault faults.Usage = 2
+status_of_fault _ = 1
+
+-- how many bytes of an input are read: one more than an input may have
+abbrev pub most_kept : ℕ
+most_kept = 1048577

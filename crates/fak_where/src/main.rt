@@ -1,0 +1,34 @@
+//! The program `fak_where`: says where an input of `fak` is wrong. It takes the word that `fak` takes, and the same input.
+#![tactic(auto)]
+
+mod fault;
+mod serving;
+#[cfg(test)]
+mod tests;
+mod words;
+
+use crate::fault::WhereFault;
+use crate::serving::serve;
+use crate::words::{format_of, words_of};
+use std::io::Write;
+use std::process::ExitCode;
+use std::rt::Env;
+use std::{env, io};
+
+/// Serves the words of the command line, from standard input to standard output. Answers the exit status.
+fn run<R: Input + Print + AllocGlobal + Env>(rt: &R) -> Result<u8, WhereFault> {
+    let words = words_of(rt.alloc(), env::args(rt))?;
+    let format = format_of(&words)?;
+    serve(rt.alloc(), format, rt.reader(), &mut io::writer(rt))
+}
+
+fn main(rt: HostRuntime) -> ExitCode {
+    match run(&rt) {
+        Ok(status) => ExitCode::from(status),
+        Err(fault) => {
+            // There is nowhere left to tell of a failure to print.
+            let _ = rt.stderr().writeln(&fault);
+            ExitCode::from(fault.status())
+        }
+    }
+}

@@ -1,0 +1,68 @@
+//! One input and one output.
+
+ghost use Rattle.std.specs.Prelude.{◌≡◌, ◌≢◌, ◌⊎◌, ℕ, List, take, IfErr, IfOk, IfSome};
+ghost use Rattle.std.specs.Io.KnownBytes.{Appends, Keeps};
+ghost use Rattle.fak_places.specs.Places.{fault_in};
+ghost use Rattle.fak_where.specs.Answers.{most_kept, status_of_place};
+ghost use Rattle.fak_where.specs.declared.fault.WhereFault.TheVariants.{Memory, Read, Write};
+
+use crate::fault::WhereFault;
+use fak_places::{Format, place_of};
+use std::alloc::Global;
+use std::io::{ErrorKind, Read, Write};
+
+/// How many bytes of the input are read at most: one more than an input may have.
+const MOST_KEPT: u64 = 1_048_577;
+
+/// Reads the input, up to one byte more than shows that it is too long.
+fn read_input<R: Read + Drop>(alloc: Global, reader: R) -> Result<Vec<u8>, WhereFault>
+    ensures ok { IfOk result (λ kept. IfSome (R.Read.remaining reader) (λ input. kept.items ≡ take most_kept input)) }
+    ensures err { IfErr result (λ e. (e ≡ Memory) ⊎ (e ≡ Read)) }
+{
+    let mut kept = Vec::new(alloc);
+    match reader.take(MOST_KEPT).read_to_end(&mut kept) {
+        Ok(_) => Ok(kept),
+        Err(error) if error.kind() == ErrorKind::OutOfMemory => Err(WhereFault::Memory),
+        Err(_) => Err(WhereFault::Read),
+    }
+}
+
+/// The status and the text for an input: 0 where nothing is wrong, else 1 and the place.
+fn answer_of(alloc: Global, format: Format, input: &[u8]) -> Result<(u8, String), WhereFault>
+    ensures ok { IfOk result (λ answer. answer.0 ≡ status_of_place (fault_in format input.now)) }
+    ensures err { IfErr result (λ e. e ≡ Memory) }
+{
+    match place_of(alloc, format, input)? {
+        None => Ok((0, format!(in alloc; "nothing is wrong\n")?)),
+        Some(place) => Ok((1, format!(in alloc; "{place}\n")?)),
+    }
+}
+
+/// Writes a text whole.
+fn write_text<W: Write>(writer: &mut W, text: &str) -> Result<(), WhereFault>
+    ensures { IfErr result (λ e. e ≡ Write) }
+{
+    if writer.write_all(text.as_bytes()).is_err() {
+        return Err(WhereFault::Write);
+    }
+    if writer.flush().is_err() {
+        return Err(WhereFault::Write);
+    }
+    Ok(())
+}
+
+/// Reads an input, and writes where it is wrong. Answers the status: 0 where nothing is wrong, else 1.
+pub fn serve<R: Read + Drop, W: Write>(
+    alloc: Global,
+    format: Format,
+    reader: R,
+    writer: &mut W,
+) -> Result<u8, WhereFault>
+    ensures ok { IfOk result (λ status. IfSome (R.Read.remaining reader) (λ input. status ≡ status_of_place (fault_in format input))) }
+    ensures untouched { IfErr result (λ e. e ≢ Write → Keeps (W.Write.contents writer.old) (W.Write.contents writer.new)) }
+{
+    let input = read_input(alloc, reader)?;
+    let (status, text) = answer_of(alloc, format, &input)?;
+    write_text(writer, text.as_str())?;
+    Ok(status)
+}

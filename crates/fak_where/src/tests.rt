@@ -1,0 +1,263 @@
+//! The places of mistakes, as users make them: an input of each kind, and the line that names its place.
+
+use crate::fault::WhereFault;
+use crate::serving::serve;
+use crate::words::format_of;
+use fak_places::Format;
+use std::alloc::{AllocError, Global};
+use std::fmt::Display;
+use std::process::Abort;
+
+/// The status and the line for an input.
+fn served(alloc: Global, format: Format, input: &str) -> Option<(u8, Vec<u8>)> {
+    let mut written = Vec::new(alloc);
+    match serve(alloc, format, input.as_bytes(), &mut written) {
+        Ok(status) => Some((status, written)),
+        Err(_) => None,
+    }
+}
+
+/// Whether an input has its first fault at this place.
+fn is_at(alloc: Global, format: Format, input: &str, want: &str) -> bool {
+    match served(alloc, format, input) {
+        Some((status, written)) => status == 1 && written.as_slice() == want.as_bytes(),
+        None => false,
+    }
+}
+
+#[test]
+fn a_text_stops_being_json_at_its_place(rt: HostRuntime) {
+    let rows = &[
+        (
+            "{\"object\":\"queue\",\n\"size\":1 \"seats\":1}",
+            "line 2, column 10: a comma, a colon, a value, a closing bracket or the end, not \"\n",
+        ),
+        (
+            "{\"object\":\"room\",\"bound\":1e999}",
+            "line 1, column 31: before this column, a number that a double can hold\n",
+        ),
+        (
+            "{\"object\":[",
+            "line 1, column 11: the text ends before all its brackets, braces and quotation marks are closed\n",
+        ),
+        (
+            "{} {}",
+            "line 1, column 4: a comma, a colon, a value, a closing bracket or the end, not {\n",
+        ),
+    ];
+    for (input, want) in rows {
+        assert!(rt;
+            is_at(rt.alloc(), Format::Schedule, input, want),
+            "at {want}"
+        );
+    }
+}
+
+#[test]
+fn a_schedule_is_wrong_at_its_place(rt: HostRuntime) {
+    let rows = &[
+        (
+            "[]",
+            "input: an input is an object of at most 1048576 bytes, not an array of 0\n",
+        ),
+        (
+            "{\"object\":\"heap\"}",
+            "object: an object is \"room\" or \"queue\", not \"heap\"\n",
+        ),
+        (
+            "{\"object\":\"queue\",\"size\":\"1\"}",
+            "size: a queue's size is 1 to 4096, not \"1\"\n",
+        ),
+        (
+            "{\"object\":\"queue\",\"size\":1}",
+            "seats: the key is missing\n",
+        ),
+        (
+            "{\"object\":\"queue\",\"size\":1,\"seats\":1,\"events\":{}}",
+            "events: this is an array of at most 16384 events, not an object\n",
+        ),
+        (
+            "{\"object\":\"queue\",\"size\":1,\"seats\":1,\"events\":[[0,\"delete\"],[0,\"step\",65]]}",
+            "events[1][2]: a step count is 1 to 64, not 65\n",
+        ),
+        (
+            "{\"object\":\"queue\",\"size\":1,\"seats\":1,\"events\":[[0,\"tir\",1]]}",
+            "events[0][1]: an operation of a queue is step, insert, delete or shut, not \"tir\"\n",
+        ),
+        (
+            "{\"object\":\"room\",\"bound\":1,\"seats\":1,\"events\":[[0,\"tir\"]]}",
+            "events[0]: an event of this operation has three elements, not an array of 2\n",
+        ),
+    ];
+    for (input, want) in rows {
+        assert!(rt;
+            is_at(rt.alloc(), Format::Schedule, input, want),
+            "at {want}"
+        );
+    }
+}
+
+#[test]
+fn a_history_is_wrong_at_its_place(rt: HostRuntime) {
+    let rows = &[
+        (
+            "{\"size\":0,\"size\":5000,\"marks\":[]}",
+            "size: a queue's size is 1 to 4096, not 5000\n",
+        ),
+        (
+            "{\"size\":1,\"marks\":[[0]]}",
+            "marks[0][1]: a mark's name is a text\n",
+        ),
+        (
+            "{\"size\":1,\"marks\":[[64,\"close\"]]}",
+            "marks[0][0]: a seat is 0 to 63, not 64\n",
+        ),
+        (
+            "{\"size\":1,\"marks\":[[0,\"claim-in\"],[0,\"put\",-1]]}",
+            "marks[1][2]: an item or a ticket is a whole number, not -1\n",
+        ),
+        (
+            "{\"size\":1,\"marks\":[[0,\"claim-in\",1]]}",
+            "marks[0]: a mark of this name has two elements, not an array of 3\n",
+        ),
+        (
+            "{\"size\":1,\"marks\":[[0,\"got\",1],[0,\"shut\"]]}",
+            "marks[1][1]: a mark is claim-in, over-in, back-in, no-room, put, fill, end-in, claim-out, over-out, back-out, no-item, got, take, end-out, close, closed or late-in, not \"shut\"\n",
+        ),
+    ];
+    for (input, want) in rows {
+        assert!(rt;
+            is_at(rt.alloc(), Format::History, input, want),
+            "at {want}"
+        );
+    }
+}
+
+/// A script of version 1 with 2 slots, whose other keys are these.
+fn script(
+    alloc: Global,
+    semaphores: &str,
+    programs: &str,
+    start: &str,
+) -> Result<String, AllocError> {
+    format!(in alloc;
+        "{{\"version\":1,\"slots\":2,\"births\":0,\"quantum\":1,\"semaphores\":{semaphores},\"files\":1,\"programs\":{programs},\"start\":{start}}}"
+    )
+}
+
+#[test]
+fn a_script_is_wrong_at_its_place(rt: HostRuntime) -> Result<(), AllocError> {
+    let rows = &[
+        (
+            "[0,1000001]",
+            "[]",
+            "[]",
+            "semaphores[1]: a semaphore's value is 0 to 1000000, not 1000001\n",
+        ),
+        (
+            "[]",
+            "[[],7]",
+            "[]",
+            "programs[1]: a program is an array of at most 1000 steps, not 7\n",
+        ),
+        (
+            "[0]",
+            "[[[\"yield\"]],[[\"yield\"],[\"up\",1]]]",
+            "[]",
+            "programs[1][1][1]: a semaphore is 0 to 0, not 1\n",
+        ),
+        (
+            "[]",
+            "[[[\"open\",0]]]",
+            "[]",
+            "programs[0][0][1]: an inode is 1 to 4294967296, not 0\n",
+        ),
+        (
+            "[]",
+            "[[[\"spawn\",1]]]",
+            "[]",
+            "programs[0][0][1]: a program is 0 to 0, not 1\n",
+        ),
+        (
+            "[]",
+            "[[[\"shutdown\"]]]",
+            "[]",
+            "programs[0][0][0]: a step is say, yield, down, up, open, close, stat or spawn, in version 2 also shutdown, not \"shutdown\"\n",
+        ),
+        (
+            "[]",
+            "[[]]",
+            "[0,1]",
+            "start[1]: a program is 0 to 0, not 1\n",
+        ),
+        (
+            "[]",
+            "[[]]",
+            "[0,0,0]",
+            "start: the number of first processes is 0 to 2, not an array of 3\n",
+        ),
+    ];
+    for (semaphores, programs, start, want) in rows {
+        let input = script(rt.alloc(), semaphores, programs, start)?;
+        assert!(rt;
+            is_at(rt.alloc(), Format::Script, &input, want),
+            "at {want}"
+        );
+    }
+    Ok(())
+}
+
+#[test]
+fn nothing_is_wrong_with_a_history(rt: HostRuntime) {
+    let served = served(
+        rt.alloc(),
+        Format::History,
+        "{\"size\":1,\"marks\":[[0,\"close\"]]}",
+    );
+    assert!(rt;
+        matches!(served, Some((0, line)) if line.as_slice() == b"nothing is wrong\n".as_slice())
+    );
+}
+
+/// Whether a value is written so.
+fn is_written<D: Display>(alloc: Global, value: &D, want: &str) -> bool {
+    match value.to_string(alloc) {
+        Ok(text) => text.as_str() == want,
+        Err(_) => false,
+    }
+}
+
+#[test]
+fn faults_are_one_line_each(rt: HostRuntime) {
+    let rows = &[
+        (
+            WhereFault::Usage,
+            2,
+            "fak_where: usage: fak_where replay, fak_where check, fak_where run",
+        ),
+        (WhereFault::Memory, 1, "fak_where: out of memory"),
+        (WhereFault::Read, 1, "fak_where: input could not be read"),
+        (
+            WhereFault::Write,
+            1,
+            "fak_where: output could not be written",
+        ),
+    ];
+    for (fault, status, want) in rows {
+        assert!(rt;
+            fault.status() == *status && is_written(rt.alloc(), fault, want),
+            "at {want}"
+        );
+    }
+}
+
+#[test]
+fn words_name_a_format(rt: HostRuntime) -> Result<(), AllocError> {
+    let words = vec![in rt.alloc();
+        format!(in rt.alloc(); "fak_where")?,
+        format!(in rt.alloc(); "run")?,
+    ]?;
+    assert!(rt; format_of(&words) == Ok(Format::Script));
+    assert!(rt; format_of(&words[..1]) == Err(WhereFault::Usage));
+    Ok(())
+}
