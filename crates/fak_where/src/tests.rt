@@ -8,20 +8,12 @@ use std::alloc::{AllocError, Global};
 use std::fmt::Display;
 use std::process::Abort;
 
-/// The status and the line for an input.
-fn served(alloc: Global, format: Format, input: &str) -> Option<(u8, Vec<u8>)> {
+/// Whether an input is answered with this status and this line.
+fn answers(alloc: Global, format: Format, input: &str, status: u8, want: &str) -> bool {
     let mut written = Vec::new(alloc);
     match serve(alloc, format, input.as_bytes(), &mut written) {
-        Ok(status) => Some((status, written)),
-        Err(_) => None,
-    }
-}
-
-/// Whether an input has its first fault at this place.
-fn is_at(alloc: Global, format: Format, input: &str, want: &str) -> bool {
-    match served(alloc, format, input) {
-        Some((status, written)) => status == 1 && written.as_slice() == want.as_bytes(),
-        None => false,
+        Ok(found) => found == status && written.as_slice() == want.as_bytes(),
+        Err(_) => false,
     }
 }
 
@@ -47,7 +39,7 @@ fn a_text_stops_being_json_at_its_place(rt: HostRuntime) {
     ];
     for (input, want) in rows {
         assert!(rt;
-            is_at(rt.alloc(), Format::Schedule, input, want),
+            answers(rt.alloc(), Format::Schedule, input, 1, want),
             "at {want}"
         );
     }
@@ -91,7 +83,7 @@ fn a_schedule_is_wrong_at_its_place(rt: HostRuntime) {
     ];
     for (input, want) in rows {
         assert!(rt;
-            is_at(rt.alloc(), Format::Schedule, input, want),
+            answers(rt.alloc(), Format::Schedule, input, 1, want),
             "at {want}"
         );
     }
@@ -127,7 +119,7 @@ fn a_history_is_wrong_at_its_place(rt: HostRuntime) {
     ];
     for (input, want) in rows {
         assert!(rt;
-            is_at(rt.alloc(), Format::History, input, want),
+            answers(rt.alloc(), Format::History, input, 1, want),
             "at {want}"
         );
     }
@@ -200,7 +192,7 @@ fn a_script_is_wrong_at_its_place(rt: HostRuntime) -> Result<(), AllocError> {
     for (semaphores, programs, start, want) in rows {
         let input = script(rt.alloc(), semaphores, programs, start)?;
         assert!(rt;
-            is_at(rt.alloc(), Format::Script, &input, want),
+            answers(rt.alloc(), Format::Script, &input, 1, want),
             "at {want}"
         );
     }
@@ -209,14 +201,8 @@ fn a_script_is_wrong_at_its_place(rt: HostRuntime) -> Result<(), AllocError> {
 
 #[test]
 fn nothing_is_wrong_with_a_history(rt: HostRuntime) {
-    let served = served(
-        rt.alloc(),
-        Format::History,
-        "{\"size\":1,\"marks\":[[0,\"close\"]]}",
-    );
-    assert!(rt;
-        matches!(served, Some((0, line)) if line.as_slice() == b"nothing is wrong\n".as_slice())
-    );
+    let input = "{\"size\":1,\"marks\":[[0,\"close\"]]}";
+    assert!(rt; answers(rt.alloc(), Format::History, input, 0, "nothing is wrong\n"));
 }
 
 /// Whether a value is written so.
