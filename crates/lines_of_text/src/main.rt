@@ -9,7 +9,7 @@ ghost use Rattle.fak_queue.specs.Queues.{IsIdleSeat};
 ghost use Rattle.fak_queue.specs.Sums.{Adds, Balances};
 ghost use Rattle.lines_of_text.specs.Lines.{Received, Sent, Stands, bytes, one};
 
-use fak_queue::{Queue, Seat, Tally};
+use fak_queue::{LONGEST_STINT, Queue, Seat, Tally};
 use std::alloc::{AllocError, Global};
 use std::io;
 use std::sync::Wait;
@@ -133,7 +133,7 @@ fn open_queue(alloc: Global) -> Option<(Queue<Line>, Seats)>
     ensures fresh { IfSome result (λ r. Stands r.0.object 0 0 0 0 r.1.0 × Stands r.0.object 0 0 0 0 r.1.1 × Stands r.0.object 0 0 0 0 r.1.2) }
     ensures three { IfSome result (λ r. r.0.object.seats ≡ 3) }
 {
-    let Ok((queue, mut seats)) = Queue::<Line>::open(alloc, 16, 3, 1 << 40) else {
+    let Ok((queue, mut seats)) = Queue::<Line>::open(alloc, 16, 3, LONGEST_STINT) else {
         return None;
     };
     let Some(a) = seats.pop() else { unreachable!() };

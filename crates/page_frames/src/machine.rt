@@ -8,7 +8,7 @@ ghost use Rattle.page_frames.specs.Frames.{HasPut, Keeps, is_number, none, one_o
 use crate::frame::Frame;
 use crate::free_list::{give_back, take};
 use fak_model::laws::queue::a_queue_weighs_what_was_put;
-use fak_queue::{Queue, Rest, Seat, Tally};
+use fak_queue::{LONGEST_STINT, Queue, Rest, Seat, Tally};
 use std::alloc::Global;
 use std::sync::Wait;
 use std::thread::{Threads, join};
@@ -134,7 +134,7 @@ pub fn churn_all<R: Threads + Wait + Sync>(
 fn open_list(alloc: Global, frames: u64) -> Option<(Queue<Frame>, Seat<Frame>, Seat<Frame>)>
     ensures { IfSome result (λ r. HasPut r.0.object 1 none r.1 × HasPut r.0.object 0 none r.2) }
 {
-    let Ok((free, mut seats)) = Queue::<Frame>::open(alloc, frames, 2, 1 << 40) else {
+    let Ok((free, mut seats)) = Queue::<Frame>::open(alloc, frames, 2, LONGEST_STINT) else {
         return None;
     };
     let Some(a) = seats.pop() else { unreachable!() };

@@ -13,16 +13,13 @@ use crate::calls::{put, take};
 use crate::fault::Fault;
 use crate::work::{Work, is_leap};
 use fak_model::laws::queue::a_queue_weighs_what_was_put;
-use fak_queue::{Queue, Seat, Tally};
+use fak_queue::{LONGEST_STINT, Queue, Seat, Tally};
 use std::alloc::Global;
 use std::sync::Wait;
 use std::thread::{Threads, join};
 
 /// The cells of the queue: fewer than there are jobs, so the thread that puts them in waits for the workers.
 const CELLS: u64 = 8;
-
-/// The tickets of each seat, more than a run draws.
-const STINT: u64 = 1 << 40;
 
 /// One worker: it takes jobs until it gets a `Stop`. Answers its seat, and how many leap years it got.
 fn work<R: Wait>(rt: &R, queue: &Queue<Work>, mut seat: Seat<Work>) -> (Seat<Work>, u64)
@@ -158,7 +155,8 @@ fn open_pool(
     ensures others { IfOk result (λ r. (vec_len r.2 ≡ workers) × AreFresh r.0.object r.2.items) }
     ensures fault { IfErr result (λ fault. fault ≡ Memory) }
 {
-    let Ok((queue, mut seats)) = Queue::<Work>::open(alloc, CELLS, workers + 1, STINT) else {
+    let Ok((queue, mut seats)) = Queue::<Work>::open(alloc, CELLS, workers + 1, LONGEST_STINT)
+    else {
         return Err(Fault::Memory);
     };
     let Some(seat) = seats.pop() else {

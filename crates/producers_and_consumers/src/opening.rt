@@ -8,21 +8,18 @@ ghost use Rattle.producers_and_consumers.specs.Passing.{AllOut, AreFreshGates, I
 
 use crate::channel::{Buffer, Channel, Port};
 use fak_model::laws::queue::a_queue_weighs_what_was_put;
-use fak_queue::{Queue, Seat, Tally};
+use fak_queue::{LONGEST_STINT, Queue, Seat, Tally};
 use fak_sem::{SemSeat, SemTally, Semaphore};
 use std::alloc::Global;
 
 /// The cells of the queue, and those of the gate's wait queue.
 const CELLS: u64 = 64;
 
-/// The calls of each seat, more than a run makes.
-const STINT: u64 = 1 << 40;
-
 /// An empty queue and its two seats.
 fn open_queue(alloc: Global) -> Option<(Queue<Buffer>, Seat<Buffer>, Seat<Buffer>)>
     ensures { IfSome result (λ r. (r.1 ≡ seat_info r.0.object 1 (2 ^ 40) []) × (r.2 ≡ seat_info r.0.object 0 (2 ^ 40) [])) }
 {
-    let Ok((queue, mut seats)) = Queue::open(alloc, CELLS, 2, STINT) else {
+    let Ok((queue, mut seats)) = Queue::open(alloc, CELLS, 2, LONGEST_STINT) else {
         return None;
     };
     let Some(a) = seats.pop() else { unreachable!() };
@@ -37,7 +34,7 @@ fn open_gate(
 ) -> Option<(Semaphore<Buffer>, SemSeat<Buffer>, SemSeat<Buffer>)>
     ensures { IfSome result (λ r. AreFreshGates r.0.object r.1 r.2) }
 {
-    let Ok((gate, mut seats)) = Semaphore::open(alloc, room, CELLS, 2, STINT) else {
+    let Ok((gate, mut seats)) = Semaphore::open(alloc, room, CELLS, 2, LONGEST_STINT) else {
         return None;
     };
     let Some(a) = seats.pop() else { unreachable!() };

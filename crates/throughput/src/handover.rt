@@ -3,9 +3,9 @@
 ghost use Rattle.std.specs.Prelude.{◌≡◌, IfOk};
 
 use crate::fault::Fault;
-use crate::queues::STINT;
 use crate::run::{Job, Passed, numbers_below, run_all};
 use crate::semaphore_handle::{LockedSemaphore, SeatSemaphore, SemaphoreHandle};
+use fak_queue::LONGEST_STINT;
 use fak_sem::{SemSeat, Semaphore};
 use std::alloc::Global;
 use std::marker::Sync;
@@ -98,7 +98,7 @@ fn open_semaphore(
 ) -> Result<(Semaphore<()>, SemSeat<()>, SemSeat<()>), Fault>
     ensures { IfOk result (λ r. (r.1.object ≡ r.0.object) × (r.2.object ≡ r.0.object)) }
 {
-    let Ok((semaphore, mut seats)) = Semaphore::<()>::open(alloc, start, 2, 2, STINT) else {
+    let Ok((semaphore, mut seats)) = Semaphore::<()>::open(alloc, start, 2, 2, LONGEST_STINT) else {
         return Err(Fault::Memory);
     };
     let (Some(second), Some(first)) = (seats.pop(), seats.pop()) else {

@@ -10,7 +10,7 @@ use crate::queue_handle::{LockedQueue, QueueHandle, RingQueue, Row, SeatQueue};
 use crate::run::{numbers_below, run_all};
 use crate::steps::time_steps;
 use crossbeam_queue::ArrayQueue;
-use fak_queue::{Queue, Seat};
+use fak_queue::{LONGEST_STINT, Queue, Seat};
 use std::alloc::{AllocError, Global};
 use std::collections::VecDeque;
 use std::marker::Sync;
@@ -49,9 +49,6 @@ pub struct QueueCase {
     pub pairs: u64,
     ghost some: { 0 < size },
 }
-
-/// The tickets of each seat, more than a run draws.
-pub const STINT: u64 = 1 << 40;
 
 /// A handle for each seat.
 fn seat_handles<'q, T: Item>(
@@ -129,7 +126,8 @@ impl QueueCase {
         alloc: Global,
         items: u64,
     ) -> Result<u64, Fault> {
-        let Ok((queue, seats)) = Queue::<T>::open(alloc, self.size, self.threads(), STINT) else {
+        let Ok((queue, seats)) = Queue::<T>::open(alloc, self.size, self.threads(), LONGEST_STINT)
+        else {
             return Err(Fault::Memory);
         };
         let handles = seat_handles(alloc, &queue, seats)?;

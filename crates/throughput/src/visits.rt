@@ -5,9 +5,9 @@ ghost use Rattle.throughput.specs.Seats.{AreFree};
 
 use crate::entry_handle::{EntryHandle, LockedEntry, ReadersEntry, SeatEntry};
 use crate::fault::Fault;
-use crate::queues::STINT;
 use crate::run::{Job, Passed, run_all};
 use fak_files::{FileEntry, FileSeat, FileTable};
+use fak_queue::LONGEST_STINT;
 use std::alloc::{AllocError, Global};
 use std::marker::Sync;
 use std::sync::{Mutex, RwLock, Wait};
@@ -132,7 +132,7 @@ impl TableCase {
         items: u64,
     ) -> Result<u64, Fault> {
         let seats = self.threads.saturating_add(1);
-        let Ok((table, seats)) = FileTable::open(alloc, 1, seats, STINT) else {
+        let Ok((table, seats)) = FileTable::open(alloc, 1, seats, LONGEST_STINT) else {
             return Err(Fault::Memory);
         };
         let handles = seat_handles(alloc, &table, seats)?;
