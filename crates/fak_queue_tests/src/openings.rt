@@ -3,13 +3,11 @@
 ghost use Rattle.fak_queue.specs.Queues.{IsIdleSeat};
 
 use super::steps::{open, take};
-use fak_queue::{DeleteFault, InsertFault, Queue, Seat};
+use fak_queue::{DeleteFault, InsertFault, LARGEST_SIZE, LONGEST_STINT, MOST_SEATS, Queue, Seat};
 use std::alloc::Global;
 use std::process::Abort;
 use std::sync::Wait;
 use std::test::*;
-
-const LONGEST: u64 = 1 << 40;
 
 // The stint of this row: the powers of two in turn, the numbers beside them, and drawn ones.
 fn stint_of(row: u64) -> u64 {
@@ -21,7 +19,7 @@ fn stint_of(row: u64) -> u64 {
         2 => power + 1,
         _ => drawn % power,
     };
-    stint.max(1).min(LONGEST)
+    stint.max(1).min(LONGEST_STINT)
 }
 
 // Opens a queue of items of any type, each of whose seats may draw the whole stint.
@@ -35,10 +33,10 @@ fn opens(rt: &impl Abort, alloc: Global, size: u64, seats: u64, stint: u64) {
 
 #[test]
 fn queues_of_each_size(rt: HostRuntime) {
-    for size in 1..4097 {
-        opens(&rt, rt.alloc(), size, size % 64 + 1, stint_of(size));
+    for size in 1..LARGEST_SIZE + 1 {
+        opens(&rt, rt.alloc(), size, size % MOST_SEATS + 1, stint_of(size));
     }
-    for seats in 1..65 {
+    for seats in 1..MOST_SEATS + 1 {
         opens(&rt, rt.alloc(), 5, seats, 9);
     }
 }
@@ -85,7 +83,7 @@ fn empties<R: Wait>(rt: &R, queue: &Queue<u64>, seat: &mut Seat<u64>, size: u64)
 
 // Opens a queue of this size, and fills and empties it twice.
 fn holds_twice<R: Abort + Wait>(rt: &R, alloc: Global, size: u64) {
-    let (queue, mut seats) = open::<u64>(rt, alloc, (size, 1, LONGEST));
+    let (queue, mut seats) = open::<u64>(rt, alloc, (size, 1, LONGEST_STINT));
     let mut seat = take(rt, &queue, &mut seats);
     assert!(rt; holds(rt, &queue, &mut seat, size), "{size}");
     assert!(rt; holds(rt, &queue, &mut seat, size), "{size} again");

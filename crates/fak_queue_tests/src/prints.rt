@@ -1,7 +1,7 @@
 //! What queues, seats and faults print.
 
 use super::steps::{close, open, take};
-use fak_queue::{DeleteFault, InsertFault, OpenFault, Queue, SeatState, Tally};
+use fak_queue::{DeleteFault, InsertFault, OpenFault, Port, Queue, SeatState, Tally};
 use std::test::*;
 
 #[test]
@@ -42,5 +42,37 @@ fn faults_print_what_they_hand_back(rt: HostRuntime) -> Result<(), Fail> {
         text.as_str(),
         "BadSize, Full { upper: 1, item: 7 }, Empty(-1)"
     );
+    Ok(())
+}
+
+#[test]
+fn ports_print_their_queue_and_their_seat(rt: HostRuntime) -> Result<(), Fail> {
+    let alloc = rt.alloc();
+    let (queue, mut seats) = open::<u64>(&rt, alloc, (3, 1, 9));
+    let port = Port::new(&queue, take(&rt, &queue, &mut seats));
+    let text = format!(in alloc; "{port:?}")?;
+    assert_eq!(rt;
+        text.as_str(),
+        "Port { queue: Queue { size: 3, .. }, seat: Seat { name: 0, state: Idle, left: 9, .. } }"
+    );
+    Ok(())
+}
+
+#[test]
+fn faults_say_what_is_the_matter(rt: HostRuntime) -> Result<(), Fail> {
+    let alloc = rt.alloc();
+    let full = InsertFault::Full { upper: 3, item: 7 };
+    let text = format!(in alloc; "{full}; {}", InsertFault::Closed { item: 7 })?;
+    assert_eq!(rt;
+        text.as_str(),
+        "the queue is full: its upper count was 3; the queue is shut"
+    );
+    let text = format!(in alloc; "{}; {}", DeleteFault::Empty(0), DeleteFault::Worn)?;
+    assert_eq!(rt;
+        text.as_str(),
+        "the queue is empty: its lower count was 0; the stint is used up"
+    );
+    let text = format!(in alloc; "{}; {}", OpenFault::BadSize, OpenFault::Memory)?;
+    assert_eq!(rt; text.as_str(), "the size is not 1 to 4096; out of memory");
     Ok(())
 }
