@@ -7,7 +7,7 @@ use crossbeam_utils::Backoff;
 use fak_queue::{DeleteFault, InsertFault, Queue, Seat};
 use std::sync::Wait;
 
-// Inserts the item, at the first attempt that the queue is not full for.
+/// Inserts the item, at the first attempt that the queue is not full for.
 pub fn insert_again<T: Drop, R: Wait>(
     rt: &R,
     queue: &Queue<T>,
@@ -29,7 +29,7 @@ pub fn insert_again<T: Drop, R: Wait>(
     unreachable!()
 }
 
-// Deletes an item, at the first attempt that the queue is not empty for.
+/// Deletes an item, at the first attempt that the queue is not empty for.
 pub fn delete_again<T: Drop, R: Wait>(
     rt: &R,
     queue: &Queue<T>,

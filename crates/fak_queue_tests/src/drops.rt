@@ -7,12 +7,12 @@ use fak_queue::{Queue, Seat, Tally};
 use std::process::Abort;
 use std::sync::{Arc, Wait};
 
-// One more holder of the value.
+/// One more holder of the value.
 fn held(rt: &impl Abort, shared: &Arc<u8>) -> Arc<u8> {
     Arc::try_clone(shared).expect(rt, "memory")
 }
 
-// Inserts two holders, the first items.
+/// Inserts two holders, the first items.
 fn insert_two<R: Abort + Wait>(
     rt: &R,
     queue: &Queue<Arc<u8>>,

@@ -10,7 +10,7 @@ use std::sync::atomic::{AtomicUsize, Ordering};
 use std::sync::{Condvar, Mutex, Wait};
 use std::thread::{Threads, map_vec};
 
-// How many threads have come, and which row is next.
+/// How many threads have come, and which row is next.
 #[derive(Drop)]
 struct Turns {
     come: AtomicUsize,
@@ -19,14 +19,14 @@ struct Turns {
 }
 
 impl Turns {
-    // Waits for this turn.
+    /// Waits for this turn.
     fn wait_for<R: Wait>(&self, rt: &R, turn: usize) {
         let _now = self
             .changed
             .wait_while(rt, self.now.lock(rt), |now| *now < turn);
     }
 
-    // Begins this turn.
+    /// Begins this turn.
     fn begin<R: Wait>(&self, rt: &R, turn: usize) {
         let mut now = self.now.lock(rt);
         *now = turn;
@@ -34,7 +34,7 @@ impl Turns {
     }
 }
 
-// Makes the steps of one of the four, each in its turn.
+/// Makes the steps of one of the four, each in its turn.
 fn take_turns<R: Abort + Wait>(
     rt: &R,
     turns: &Turns,
@@ -57,7 +57,7 @@ fn take_turns<R: Abort + Wait>(
     seat
 }
 
-// Makes all steps, those of each seat in a thread of its own.
+/// Makes all steps, those of each seat in a thread of its own.
 fn run_all<R: Abort + Threads + Wait + Sync>(
     rt: &R,
     queue: &Queue<u64>,

@@ -4,14 +4,14 @@ use std::alloc::Global;
 use std::process::Abort;
 use std::test::Fail;
 
-// A value that is moved and never copied: its parts are three times its number.
+/// A value that is moved and never copied: its parts are three times its number.
 #[derive(Drop)]
 pub struct Load {
     id: u64,
     parts: Vec<u64>,
 }
 
-// The numbers from `first` on, fifty of them, the last first.
+/// The numbers from `first` on, fifty of them, the last first.
 pub fn fifty<R: Abort>(rt: &R, alloc: Global, first: u64) -> Vec<u64> {
     let mut items = Vec::new(alloc);
     for i in 0..50u64 {
@@ -22,7 +22,7 @@ pub fn fifty<R: Abort>(rt: &R, alloc: Global, first: u64) -> Vec<u64> {
     items
 }
 
-// Loads with these numbers.
+/// Loads with these numbers.
 pub fn loads_of(alloc: Global, ids: Vec<u64>) -> Result<Vec<Load>, Fail> {
     let mut loads = Vec::new(alloc);
     for id in ids {
@@ -32,7 +32,7 @@ pub fn loads_of(alloc: Global, ids: Vec<u64>) -> Result<Vec<Load>, Fail> {
     Ok(loads)
 }
 
-// The numbers of loads that came out as they went in.
+/// The numbers of loads that came out as they went in.
 pub fn ids_of(alloc: Global, loads: Vec<Load>) -> Result<Vec<u64>, Fail> {
     let mut ids = Vec::new(alloc);
     for load in loads {
@@ -44,7 +44,7 @@ pub fn ids_of(alloc: Global, loads: Vec<Load>) -> Result<Vec<u64>, Fail> {
     Ok(ids)
 }
 
-// Whether those of the fifty numbers from `first` on that are in the list are in rising order.
+/// Whether those of the fifty numbers from `first` on that are in the list are in rising order.
 pub fn rise(items: &[u64], first: u64) -> bool {
     let mut next = first;
     for &item in items {
@@ -58,7 +58,7 @@ pub fn rise(items: &[u64], first: u64) -> bool {
     true
 }
 
-// Whether the list has the fifty numbers from each of these on, and nothing else.
+/// Whether the list has the fifty numbers from each of these on, and nothing else.
 pub fn are_all<R: Abort>(rt: &R, mut list: Vec<u64>, firsts: &[u64]) -> bool {
     list.sort().expect(rt, "memory to sort");
     let mut place = 0usize;

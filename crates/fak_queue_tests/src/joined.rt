@@ -6,7 +6,7 @@ use super::steps::{A, B, C, D, Step, close, joined, open, repeat, walk};
 use fak_queue::{InsertFault, Queue, Seat, SeatState};
 use std::process::Abort;
 
-// Cells wait for their turns: the second item is out before the first is in.
+/// Cells wait for their turns: the second item is out before the first is in.
 pub const CELLS_WAIT: [(usize, Step<u64>); 16] = [
     (A, Step::ClaimInsert(10, Ok(0))),
     (A, Step::State(SeatState::Inserting(0))),
@@ -26,7 +26,7 @@ pub const CELLS_WAIT: [(usize, Step<u64>); 16] = [
     (B, Step::TryFill(Some(3))),
 ];
 
-// Closes the queue, which is to leave the third and the fourth item.
+/// Closes the queue, which is to leave the third and the fourth item.
 pub fn leaves_two(rt: &impl Abort, queue: Queue<u64>, seats: Vec<Seat<u64>>)
     requires { All (λ s. s.object ≡ queue.object) seats.items }
 {

@@ -9,7 +9,7 @@ use std::process::Abort;
 use std::sync::Wait;
 use std::test::*;
 
-// The stint of this row: the powers of two in turn, the numbers beside them, and drawn ones.
+/// The stint of this row: the powers of two in turn, the numbers beside them, and drawn ones.
 fn stint_of(row: u64) -> u64 {
     let power = 1u64 << (row % 41);
     let drawn = row.wrapping_mul(11_400_714_819_323_198_485) >> 24;
@@ -22,7 +22,7 @@ fn stint_of(row: u64) -> u64 {
     stint.max(1).min(LONGEST_STINT)
 }
 
-// Opens a queue of items of any type, each of whose seats may draw the whole stint.
+/// Opens a queue of items of any type, each of whose seats may draw the whole stint.
 fn opens(rt: &impl Abort, alloc: Global, size: u64, seats: u64, stint: u64) {
     let (_queue, dealt) = open::<Vec<u8>>(rt, alloc, (size, seats, stint));
     assert_eq!(rt; dealt.len() as u64, seats);
@@ -41,7 +41,7 @@ fn queues_of_each_size(rt: HostRuntime) {
     }
 }
 
-// Whether this many items go in and no more, and come out in the same order.
+/// Whether this many items go in and no more, and come out in the same order.
 fn holds<R: Wait>(rt: &R, queue: &Queue<u64>, seat: &mut Seat<u64>, size: u64) -> bool
     requires { IsIdleSeat queue.now.object seat.old }
     ensures { IsIdleSeat queue.now.object seat.new }
@@ -49,7 +49,7 @@ fn holds<R: Wait>(rt: &R, queue: &Queue<u64>, seat: &mut Seat<u64>, size: u64) -
     fills(rt, queue, seat, size) && empties(rt, queue, seat, size)
 }
 
-// Whether the numbers below `size` go in, and no more.
+/// Whether the numbers below `size` go in, and no more.
 fn fills<R: Wait>(rt: &R, queue: &Queue<u64>, seat: &mut Seat<u64>, size: u64) -> bool
     requires { IsIdleSeat queue.now.object seat.old }
     ensures { IsIdleSeat queue.now.object seat.new }
@@ -65,7 +65,7 @@ fn fills<R: Wait>(rt: &R, queue: &Queue<u64>, seat: &mut Seat<u64>, size: u64) -
     upper.unsigned_abs() == size && item == size
 }
 
-// Whether the numbers below `size` come out in their order, and no more.
+/// Whether the numbers below `size` come out in their order, and no more.
 fn empties<R: Wait>(rt: &R, queue: &Queue<u64>, seat: &mut Seat<u64>, size: u64) -> bool
     requires { IsIdleSeat queue.now.object seat.old }
     ensures { IsIdleSeat queue.now.object seat.new }
@@ -81,7 +81,7 @@ fn empties<R: Wait>(rt: &R, queue: &Queue<u64>, seat: &mut Seat<u64>, size: u64)
     queue.delete(rt, seat) == Err(DeleteFault::Empty(0))
 }
 
-// Opens a queue of this size, and fills and empties it twice.
+/// Opens a queue of this size, and fills and empties it twice.
 fn holds_twice<R: Abort + Wait>(rt: &R, alloc: Global, size: u64) {
     let (queue, mut seats) = open::<u64>(rt, alloc, (size, 1, LONGEST_STINT));
     let mut seat = take(rt, &queue, &mut seats);

@@ -2,7 +2,7 @@
 
 use super::steps::{A, B, C, Step, open_and_walk};
 
-// An item of 4 KB, which is full of this number.
+/// An item of 4 KB, which is full of this number.
 #[derive(Clone, Copy, PartialEq, Eq, Drop)]
 struct Page {
     words: [u64; 512],

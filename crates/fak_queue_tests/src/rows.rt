@@ -79,7 +79,7 @@ fn a_worn_seat_is_told_so_of_a_shut_queue(rt: HostRuntime) {
     open_and_walk::<u64, HostRuntime>(&rt, rt.alloc(), (1, 2, 1), steps.as_slice());
 }
 
-// Why no queue is opened.
+/// Why no queue is opened.
 fn refusal(alloc: Global, size: u64, seats: u64, stint: u64) -> Option<OpenFault> {
     match Queue::<u64>::open(alloc, size, seats, stint) {
         Ok(_) => None,

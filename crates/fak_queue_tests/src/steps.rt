@@ -8,7 +8,7 @@ use std::alloc::Global;
 use std::process::Abort;
 use std::sync::Wait;
 
-// The seats of a test.
+/// The seats of a test.
 pub const A: usize = 0;
 
 pub const B: usize = 1;
@@ -17,7 +17,7 @@ pub const C: usize = 2;
 
 pub const D: usize = 3;
 
-// A call of a seat, or a question to it, and what it is to answer.
+/// A call of a seat, or a question to it, and what it is to answer.
 #[derive(Drop)]
 pub enum Step<T> {
     Insert(T, Result<u64, InsertFault<T>>),
@@ -34,7 +34,7 @@ pub enum Step<T> {
 }
 
 impl<T: Copy + PartialEq + Drop> Step<T> {
-    // Makes the call, and tells whether it was answered so.
+    /// Makes the call, and tells whether it was answered so.
     pub fn is_met<R: Wait>(&self, rt: &R, queue: &Queue<T>, seat: &mut Seat<T>) -> bool
         requires { seat.old.object ≡ queue.now.object }
         ensures { seat.new.object ≡ queue.now.object }
@@ -62,7 +62,7 @@ impl<T: Copy + PartialEq + Drop> Step<T> {
     }
 }
 
-// An open queue with all its seats.
+/// An open queue with all its seats.
 pub fn open<T: Drop>(
     rt: &impl Abort,
     alloc: Global,
@@ -77,7 +77,7 @@ pub fn open<T: Drop>(
     (queue, seats)
 }
 
-// Makes the step with the seat of this number.
+/// Makes the step with the seat of this number.
 fn meets<T: Copy + PartialEq + Drop, R: Wait>(
     rt: &R,
     queue: &Queue<T>,
@@ -92,7 +92,7 @@ fn meets<T: Copy + PartialEq + Drop, R: Wait>(
     step.is_met(rt, queue, &mut seats[name])
 }
 
-// Walks the steps in their order, each with the seat of its number.
+/// Walks the steps in their order, each with the seat of its number.
 pub fn walk<T: Copy + PartialEq + Drop, R: Abort + Wait>(
     rt: &R,
     queue: &Queue<T>,
@@ -109,7 +109,7 @@ pub fn walk<T: Copy + PartialEq + Drop, R: Abort + Wait>(
     }
 }
 
-// Makes the same step this many times.
+/// Makes the same step this many times.
 pub fn repeat<T: Copy + PartialEq + Drop, R: Abort + Wait>(
     rt: &R,
     queue: &Queue<T>,
@@ -128,7 +128,7 @@ pub fn repeat<T: Copy + PartialEq + Drop, R: Abort + Wait>(
     }
 }
 
-// Opens a queue and walks the steps.
+/// Opens a queue and walks the steps.
 pub fn open_and_walk<T: Copy + PartialEq + Drop, R: Abort + Wait>(
     rt: &R,
     alloc: Global,
@@ -139,7 +139,7 @@ pub fn open_and_walk<T: Copy + PartialEq + Drop, R: Abort + Wait>(
     walk(rt, &queue, &mut seats, steps);
 }
 
-// Takes out the last of the seats, which is to be between two calls.
+/// Takes out the last of the seats, which is to be between two calls.
 pub fn take<T: Drop>(rt: &impl Abort, queue: &Queue<T>, seats: &mut Vec<Seat<T>>) -> Seat<T>
     requires { All (λ s. s.object ≡ queue.now.object) seats.old.items }
     ensures seat { IsIdleSeat queue.now.object result }
@@ -154,7 +154,7 @@ pub fn take<T: Drop>(rt: &impl Abort, queue: &Queue<T>, seats: &mut Vec<Seat<T>>
     seat
 }
 
-// The tally of these seats.
+/// The tally of these seats.
 pub fn joined<T: Drop>(rt: &impl Abort, queue: &Queue<T>, mut seats: Vec<Seat<T>>) -> Tally<T>
     requires { All (λ s. s.object ≡ queue.now.object) seats.items }
     ensures { result.object ≡ queue.now.object }
@@ -166,7 +166,7 @@ pub fn joined<T: Drop>(rt: &impl Abort, queue: &Queue<T>, mut seats: Vec<Seat<T>
     tally
 }
 
-// What is left where all seats are in the tally.
+/// What is left where all seats are in the tally.
 pub fn close<T: Drop>(rt: &impl Abort, queue: Queue<T>, tally: Tally<T>) -> Rest<T>
     requires { tally.object ≡ queue.object }
 {

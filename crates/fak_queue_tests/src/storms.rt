@@ -13,14 +13,14 @@ use std::sync::{Mutex, Wait};
 use std::test::Fail;
 use std::thread::{Threads, map_vec};
 
-// How the seats of a storm insert and delete: by calls that wait, or by attempts that are made again.
+/// How the seats of a storm insert and delete: by calls that wait, or by attempts that are made again.
 #[derive(Clone, Copy)]
 enum Calls {
     Waiting,
     Attempts,
 }
 
-// The lists that no seat has begun to insert, and what each of the other seats deleted.
+/// The lists that no seat has begun to insert, and what each of the other seats deleted.
 #[derive(Drop)]
 struct Lists<T> {
     calls: Calls,
@@ -28,7 +28,7 @@ struct Lists<T> {
     deleted: Mutex<Vec<Vec<T>>>,
 }
 
-// Inserts the items, the last of the list first.
+/// Inserts the items, the last of the list first.
 fn insert_all<T: Drop, R: Wait>(
     rt: &R,
     queue: &Queue<T>,
@@ -48,7 +48,7 @@ fn insert_all<T: Drop, R: Wait>(
     seat
 }
 
-// Deletes this many items, into this list.
+/// Deletes this many items, into this list.
 fn delete_all<T: Drop, R: Wait>(
     rt: &R,
     queue: &Queue<T>,
@@ -78,7 +78,7 @@ fn add_list<T: Drop>(rt: &impl Abort, lists: &mut Vec<Vec<T>>, list: Vec<T>) {
     };
 }
 
-// Inserts one of the lists; where none is waiting, deletes this many items.
+/// Inserts one of the lists; where none is waiting, deletes this many items.
 fn work<T: Drop, R: Abort + Wait>(
     rt: &R,
     alloc: Global,
@@ -103,7 +103,7 @@ fn work<T: Drop, R: Abort + Wait>(
     seat
 }
 
-// Has all seats work at once.
+/// Has all seats work at once.
 fn work_all<T: Drop + Send, R: Abort + Threads + Wait + Sync>(
     rt: &R,
     alloc: Global,
@@ -125,7 +125,7 @@ fn work_all<T: Drop + Send, R: Abort + Threads + Wait + Sync>(
     seats
 }
 
-// What each seat deleted, where the lists are inserted by a seat each while as many others delete. Nothing is to be left.
+/// What each seat deleted, where the lists are inserted by a seat each while as many others delete. Nothing is to be left.
 fn storm<T: Drop + Send, R: Abort + Threads + Wait + Sync>(
     rt: &R,
     alloc: Global,
@@ -154,7 +154,7 @@ fn storm<T: Drop + Send, R: Abort + Threads + Wait + Sync>(
     deleted.into_inner()
 }
 
-// Stops where the numbers that each seat deleted do not rise from each of these on, or are not all of them.
+/// Stops where the numbers that each seat deleted do not rise from each of these on, or are not all of them.
 fn check_all(rt: &impl Abort, alloc: Global, lists: Vec<Vec<u64>>, firsts: &[u64]) {
     let mut all = Vec::new(alloc);
     for list in lists {
@@ -168,7 +168,7 @@ fn check_all(rt: &impl Abort, alloc: Global, lists: Vec<Vec<u64>>, firsts: &[u64
     assert!(rt; are_all(rt, all, firsts));
 }
 
-// Fifty numbers from each of these on.
+/// Fifty numbers from each of these on.
 fn lists_of(rt: &impl Abort, alloc: Global, firsts: &[u64]) -> Vec<Vec<u64>> {
     let mut lists = Vec::new(alloc);
     for &first in firsts {
@@ -177,7 +177,7 @@ fn lists_of(rt: &impl Abort, alloc: Global, firsts: &[u64]) -> Vec<Vec<u64>> {
     lists
 }
 
-// Fifty numbers from each of these on go in by a seat each, and come out by as many others.
+/// Fifty numbers from each of these on go in by a seat each, and come out by as many others.
 fn storm_of_numbers<R: Abort + Threads + Wait + Sync>(
     rt: &R,
     alloc: Global,

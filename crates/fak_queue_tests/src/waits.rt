@@ -10,7 +10,7 @@ use fak_model::laws::queue::a_queue_at_rest_counts_its_items;
 use fak_queue::{DeleteFault, InsertFault, Queue, Rest, Seat, Tally};
 use std::sync::Wait;
 
-// Inserts the numbers below `count`, and waits where the queue is full.
+/// Inserts the numbers below `count`, and waits where the queue is full.
 fn insert_below<R: Wait>(
     rt: &R,
     queue: &Queue<u64>,
@@ -29,7 +29,7 @@ fn insert_below<R: Wait>(
     Ok(())
 }
 
-// Whether all seats are in the tally. Then both counts are the number of items left.
+/// Whether all seats are in the tally. Then both counts are the number of items left.
 fn counts_its_items(tally: &Tally<u64>) -> bool
     ensures lower { IsTrue result → lower_count tally.now.seen ≡ pos (length (contents tally.now.seen)) }
     ensures upper { IsTrue result → upper_count tally.now.seen ≡ pos (length (contents tally.now.seen)) }
@@ -38,7 +38,7 @@ fn counts_its_items(tally: &Tally<u64>) -> bool
     tally.is_whole()
 }
 
-// What a queue with a whole tally leaves: as many items as both counts say.
+/// What a queue with a whole tally leaves: as many items as both counts say.
 fn close_counted(queue: Queue<u64>, tally: Tally<u64>) -> Option<Rest<u64>>
     requires { tally.object ≡ queue.object }
     ensures { MatchOption result ⊤ (λ rest. upper_count tally.seen ≡ pos (length rest)) }
