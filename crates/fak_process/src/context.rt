@@ -12,6 +12,7 @@ use crate::fault::Fault;
 use crate::report::{Outcome, ProcessRow};
 use fak_text::{Note, Script, Step};
 use std::alloc::Global;
+use std::fmt;
 use std::marker::{Brand, Model, PhantomData};
 
 /// Which script a run is of. The call that begins the run picks it.
@@ -235,16 +236,11 @@ impl<K: Run> Context<K> {
     }
 }
 
+/// One of the notes is a shutdown's.
 fn has_shutdown_note(notes: &[Note]) -> bool
     ensures { result ≡ list_any (λ note. nat_lt 0 (shuts_of (note_of note))) notes.now }
 {
-    notes.iter().any(|note| is_shutdown(note))
-}
-
-fn is_shutdown(note: &Note) -> bool
-    ensures { result ≡ nat_lt 0 (shuts_of (note_of note.now)) }
-{
-    matches!(note, Note::Shutdown)
+    notes.iter().any(|note| matches!(note, Note::Shutdown))
 }
 
 /// How many children a step began.
@@ -255,5 +251,16 @@ fn birth_count(note: &Note) -> u64
     match note {
         Note::Spawned(_) => 1,
         _ => 0,
+    }
+}
+
+impl<K: Run> fmt::Debug for Context<K> {
+    fn fmt<W: fmt::Write>(&self, f: &mut fmt::Formatter<W>) -> fmt::Result {
+        f.debug_struct("Context")
+            .field("name", &self.name)
+            .field("program", &self.program)
+            .field("slot", &self.slot)
+            .field("position", &self.position)
+            .finish_non_exhaustive()
     }
 }

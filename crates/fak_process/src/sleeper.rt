@@ -7,6 +7,7 @@ ghost use Rattle.fak_text.specs.Journal.{FitsScript, StandsAt, after_note, downe
 use crate::context::{Context, Run};
 use crate::fault::Fault;
 use fak_text::Note;
+use std::fmt;
 use std::marker::Model;
 
 /// A process in front of a down. The note of the down is written when the process falls asleep, so waking
@@ -69,5 +70,14 @@ impl<K: Run> Sleeper<K> {
         // The slot is read for the proof alone: reading it tells that the context fits the script.
         let _slot = rested.slot();
         rested
+    }
+}
+
+impl<K: Run> fmt::Debug for Sleeper<K> {
+    fn fmt<W: fmt::Write>(&self, f: &mut fmt::Formatter<W>) -> fmt::Result {
+        f.debug_struct("Sleeper")
+            .field("context", &self.context)
+            .field("semaphore", &self.semaphore)
+            .finish()
     }
 }

@@ -3,6 +3,7 @@
 ghost use Rattle.std.specs.Prelude.{◌≡◌, ◌<◌};
 
 use crate::context::Run;
+use std::fmt;
 use std::marker::{Model, PhantomData};
 
 /// A number below the script's number of slots.
@@ -40,5 +41,13 @@ impl<K: Run> Slot<K> {
         ensures range { self.now < K.script.slots }
     {
         self.number
+    }
+}
+
+impl<K: Run> fmt::Debug for Slot<K> {
+    fn fmt<W: fmt::Write>(&self, f: &mut fmt::Formatter<W>) -> fmt::Result {
+        f.debug_struct("Slot")
+            .field("number", &self.number)
+            .finish_non_exhaustive()
     }
 }

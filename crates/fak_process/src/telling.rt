@@ -9,7 +9,7 @@ ghost use Rattle.fak_process.specs.Views.{report_of, row_of};
 use crate::fault::Fault;
 use crate::report::{ProcessRow, Report};
 use fak_text::{Note, Script, Step};
-use std::alloc::Global;
+use std::alloc::{AllocError, Global};
 
 /// The steps of a program; none where the script has no such program.
 pub(crate) fn steps_at(script: &Script, program: u64) -> &[Step]
@@ -22,9 +22,8 @@ pub(crate) fn steps_at(script: &Script, program: u64) -> &[Step]
 }
 
 /// The note with this text, if one was said.
-fn with_text(note: Note, text: &String) -> Result<Note, Fault>
+fn with_text(note: Note, text: &String) -> Result<Note, AllocError>
     ensures told { IfOk result (λ full. note_of full ≡ told (say (string_bytes text.now)) (note_of note)) }
-    ensures memory { IfErr result (λ fault. fault ≡ Fault.Memory) }
 {
     match note {
         Note::Say(_) => Ok(Note::Say(text.clone()?)),
@@ -33,9 +32,8 @@ fn with_text(note: Note, text: &String) -> Result<Note, Fault>
 }
 
 /// The note of this step.
-fn told_note(note: Note, step: &Step) -> Result<Note, Fault>
+fn told_note(note: Note, step: &Step) -> Result<Note, AllocError>
     ensures told { IfOk result (λ full. note_of full ≡ told (step_of step.now) (note_of note)) }
-    ensures memory { IfErr result (λ fault. fault ≡ Fault.Memory) }
 {
     match step {
         Step::Say(text) => with_text(note, text),
@@ -44,9 +42,8 @@ fn told_note(note: Note, step: &Step) -> Result<Note, Fault>
 }
 
 /// The notes of these steps.
-fn told_all(alloc: Global, steps: &[Step], notes: Vec<Note>) -> Result<Vec<Note>, Fault>
+fn told_all(alloc: Global, steps: &[Step], notes: Vec<Note>) -> Result<Vec<Note>, AllocError>
     ensures told { IfOk result (λ full. map note_of full.items ≡ told_notes (steps_view steps.now) (map note_of notes.items)) }
-    ensures memory { IfErr result (λ fault. fault ≡ Fault.Memory) }
 {
     let mut full = Vec::with_capacity(alloc, notes.len())?;
     let mut steps = steps.iter();
@@ -61,9 +58,8 @@ fn told_all(alloc: Global, steps: &[Step], notes: Vec<Note>) -> Result<Vec<Note>
 }
 
 /// The row of a process of this script.
-fn told_to_row(alloc: Global, script: &Script, row: ProcessRow) -> Result<ProcessRow, Fault>
+fn told_to_row(alloc: Global, script: &Script, row: ProcessRow) -> Result<ProcessRow, AllocError>
     ensures told { IfOk result (λ full. row_of full ≡ told_row script.now (row_of row)) }
-    ensures memory { IfErr result (λ fault. fault ≡ Fault.Memory) }
 {
     let ProcessRow {
         name,
@@ -88,9 +84,8 @@ fn told_to_rows(
     alloc: Global,
     script: &Script,
     rows: Vec<ProcessRow>,
-) -> Result<Vec<ProcessRow>, Fault>
+) -> Result<Vec<ProcessRow>, AllocError>
     ensures told { IfOk result (λ full. map row_of full.items ≡ told_rows script.now (map row_of rows.items)) }
-    ensures memory { IfErr result (λ fault. fault ≡ Fault.Memory) }
 {
     let mut full = Vec::with_capacity(alloc, rows.len())?;
     for row in rows {

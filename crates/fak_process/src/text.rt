@@ -14,7 +14,7 @@ use crate::report::{ProcessRow, Report};
 use crate::telling::steps_at;
 use fak_model::FileEntry;
 use fak_text::{Note, Script, Step, append_journal, append_name};
-use std::alloc::Global;
+use std::alloc::{AllocError, Global};
 use std::fmt::Write;
 use std::slice;
 
@@ -44,9 +44,8 @@ pub fn report_text(alloc: Global, report: &Report) -> Result<Vec<u8>, Fault>
     Ok(text.into_bytes())
 }
 
-fn add_rows(text: &mut String, rows: &[ProcessRow]) -> Result<(), Fault>
+fn add_rows(text: &mut String, rows: &[ProcessRow]) -> Result<(), AllocError>
     ensures text { IfOk result (λ _. string_bytes text.new ≡ string_bytes text.old ++ flat_map text_of_row (map row_of rows.now)) }
-    ensures memory { IfErr result (λ fault. fault ≡ Fault.Memory) }
 {
     for row in rows {
         add_row(text, row)?;
@@ -54,9 +53,8 @@ fn add_rows(text: &mut String, rows: &[ProcessRow]) -> Result<(), Fault>
     Ok(())
 }
 
-fn add_row(text: &mut String, row: &ProcessRow) -> Result<(), Fault>
+fn add_row(text: &mut String, row: &ProcessRow) -> Result<(), AllocError>
     ensures text { IfOk result (λ _. string_bytes text.new ≡ string_bytes text.old ++ text_of_row (row_of row.now)) }
-    ensures memory { IfErr result (λ fault. fault ≡ Fault.Memory) }
 {
     add_row_line(text, row)?;
     append_journal(text, row.name.as_slice(), row.journal.as_slice())?;
@@ -80,10 +78,9 @@ pub fn print_brief(alloc: Global, script: &Script, brief: &Report) -> Result<Pri
     })
 }
 
-fn add_told_rows(text: &mut String, script: &Script, rows: &[ProcessRow]) -> Result<(), Fault>
+fn add_told_rows(text: &mut String, script: &Script, rows: &[ProcessRow]) -> Result<(), AllocError>
     ensures text { IfOk result (λ _. string_bytes text.new ≡ string_bytes text.old ++ flat_map text_of_row
         (told_rows script.now (map row_of rows.now))) }
-    ensures memory { IfErr result (λ fault. fault ≡ Fault.Memory) }
 {
     for row in rows {
         add_told_row(text, script, row)?;
@@ -91,9 +88,8 @@ fn add_told_rows(text: &mut String, script: &Script, rows: &[ProcessRow]) -> Res
     Ok(())
 }
 
-fn add_told_row(text: &mut String, script: &Script, row: &ProcessRow) -> Result<(), Fault>
+fn add_told_row(text: &mut String, script: &Script, row: &ProcessRow) -> Result<(), AllocError>
     ensures text { IfOk result (λ _. string_bytes text.new ≡ string_bytes text.old ++ text_of_row (told_row script.now (row_of row.now))) }
-    ensures memory { IfErr result (λ fault. fault ≡ Fault.Memory) }
 {
     add_row_line(text, row)?;
     let steps = steps_at(script, row.program);
@@ -106,10 +102,9 @@ fn add_told_notes(
     name: &[u64],
     steps: &[Step],
     notes: &[Note],
-) -> Result<(), Fault>
+) -> Result<(), AllocError>
     ensures text { IfOk result (λ _. string_bytes text.new ≡ string_bytes text.old ++ text_of_journal name.now
         (told_notes (steps_view steps.now) (map note_of notes.now))) }
-    ensures memory { IfErr result (λ fault. fault ≡ Fault.Memory) }
 {
     let mut steps = steps.iter();
     for note in notes {
@@ -123,10 +118,9 @@ fn add_told_note(
     name: &[u64],
     step: Option<&Step>,
     note: &Note,
-) -> Result<(), Fault>
+) -> Result<(), AllocError>
     ensures text { IfOk result (λ _. string_bytes text.new ≡ string_bytes text.old ++ text_of_journal name.now
         (told_by (option_map (λ s. step_of s.now) step.entry) (note_of note.now) ∷ [])) }
-    ensures memory { IfErr result (λ fault. fault ≡ Fault.Memory) }
 {
     match (note, step) {
         (Note::Say(_), Some(Step::Say(said))) => {
@@ -139,9 +133,8 @@ fn add_told_note(
     Ok(())
 }
 
-fn add_row_line(text: &mut String, row: &ProcessRow) -> Result<(), Fault>
+fn add_row_line(text: &mut String, row: &ProcessRow) -> Result<(), AllocError>
     ensures text { IfOk result (λ _. string_bytes text.new ≡ string_bytes text.old ++ line_of_row (row_of row.now)) }
-    ensures memory { IfErr result (λ fault. fault ≡ Fault.Memory) }
 {
     let program = row.program;
     let slot = row.slot;
@@ -152,9 +145,8 @@ fn add_row_line(text: &mut String, row: &ProcessRow) -> Result<(), Fault>
     Ok(())
 }
 
-fn add_entries(text: &mut String, entries: &[FileEntry]) -> Result<(), Fault>
+fn add_entries(text: &mut String, entries: &[FileEntry]) -> Result<(), AllocError>
     ensures text { IfOk result (λ _. string_bytes text.new ≡ string_bytes text.old ++ text_of_entries 0 entries.now) }
-    ensures memory { IfErr result (λ fault. fault ≡ Fault.Memory) }
 {
     for (i, entry) in entries.iter().enumerate() {
         add_entry(text, i, *entry)?;
@@ -162,9 +154,8 @@ fn add_entries(text: &mut String, entries: &[FileEntry]) -> Result<(), Fault>
     Ok(())
 }
 
-fn add_entry(text: &mut String, i: usize, entry: FileEntry) -> Result<(), Fault>
+fn add_entry(text: &mut String, i: usize, entry: FileEntry) -> Result<(), AllocError>
     ensures text { IfOk result (λ _. string_bytes text.new ≡ string_bytes text.old ++ text_of_entry i entry) }
-    ensures memory { IfErr result (λ fault. fault ≡ Fault.Memory) }
 {
     let FileEntry { inode, uses } = entry;
     if inode != 0 {
@@ -173,9 +164,8 @@ fn add_entry(text: &mut String, i: usize, entry: FileEntry) -> Result<(), Fault>
     Ok(())
 }
 
-fn add_births(text: &mut String, report: &Report) -> Result<(), Fault>
+fn add_births(text: &mut String, report: &Report) -> Result<(), AllocError>
     ensures text { IfOk result (λ _. string_bytes text.new ≡ string_bytes text.old ++ text_of_births (report_of report.now)) }
-    ensures memory { IfErr result (λ fault. fault ≡ Fault.Memory) }
 {
     let births = report.births;
     let bound = report.bound;
@@ -183,9 +173,8 @@ fn add_births(text: &mut String, report: &Report) -> Result<(), Fault>
     Ok(())
 }
 
-fn add_outcomes(text: &mut String, report: &Report) -> Result<(), Fault>
+fn add_outcomes(text: &mut String, report: &Report) -> Result<(), AllocError>
     ensures text { IfOk result (λ _. string_bytes text.new ≡ string_bytes text.old ++ text_of_outcomes (report_of report.now)) }
-    ensures memory { IfErr result (λ fault. fault ≡ Fault.Memory) }
 {
     let rows = report.rows.as_slice();
     let ended = count_ended(rows);
