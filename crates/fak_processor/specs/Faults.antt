@@ -1,5 +1,5 @@
 -- The faults that a processor meets.
-use Rattle.std.specs.Prelude.{◌≡◌, ◌⊎◌, ◌<◌, ℕ, Bool, true, false}
+use Rattle.std.specs.Prelude.{◌≡◌, ◌⊎◌, ◌<◌, ℕ, Bool, true, false, cond, ◌+◌, ◌==◌}
 use Rattle.fak_model.specs.Calls.{SeatInfo}
 use Rattle.fak_model.specs.declared.queue.Mark.{Mark}
 use Rattle.fak_queue.specs.Queues.{drawn_by}
@@ -21,6 +21,10 @@ IsOfGate refuses fault = (refuses ≡ true) × (fault ≡ Gate)
 -- what a processor meets at a gate that may refuse or not
 abbrev pub IsOfLoop : Bool → Fault → Type 0
 IsOfLoop refuses fault = IsOfStep fault ⊎ IsOfGate refuses fault
+
+-- the number of the look behind the one of this number: the largest that a word holds stays
+abbrev pub look_behind : ℕ → ℕ
+look_behind made = cond (made == 18446744073709551615) made (made + 1)
 
 -- by these answers of a gate a processor passed its first looks, this many
 abbrev pub HasPassed : (ℕ → Bool → Type 0) → ℕ → Type 0

@@ -2,6 +2,7 @@
 
 ghost use Rattle.std.specs.Prelude.{◌≡◌, ◌<◌, true};
 
+use std::fmt;
 use std::marker::Model;
 use std::sync::atomic::{AtomicBool, Ordering};
 
@@ -42,5 +43,14 @@ impl Alarm {
         ensures { result ≡ true → 1 < self.now }
     {
         self.processors > 1 && self.rung.load(Ordering::SeqCst)
+    }
+}
+
+impl fmt::Debug for Alarm {
+    fn fmt<W: fmt::Write>(&self, f: &mut fmt::Formatter<W>) -> fmt::Result {
+        f.debug_struct("Alarm")
+            .field("processors", &self.processors)
+            .field("rung", &self.rung.load(Ordering::SeqCst))
+            .finish()
     }
 }

@@ -1,7 +1,7 @@
 //! What lets processors look at the ready queue.
 
-ghost use Rattle.std.specs.Prelude.{◌≡◌, ◌≤◌, ℕ, Bool, true, false, cond, ◌+◌, ◌==◌, IfOk, IfErr};
-ghost use Rattle.fak_processor.specs.Faults.{HasPassed, IsOfGate};
+ghost use Rattle.std.specs.Prelude.{◌≡◌, ◌≤◌, ℕ, Bool, true, false, IfOk, IfErr};
+ghost use Rattle.fak_processor.specs.Faults.{HasPassed, IsOfGate, look_behind};
 
 use fak_process::Fault;
 
@@ -62,10 +62,7 @@ impl Looks {
     ///
     /// `Gate`, where the gate may refuse and did.
     pub(crate) fn pass<G: Gate>(&mut self, gate: &G) -> Result<(), Fault>
-        ensures next { self.new ≡ record self.old {
-          made = cond (self.old.made == 18446744073709551615) self.old.made
-              (self.old.made + 1);
-        } }
+        ensures next { self.new ≡ record self.old { made = look_behind self.old.made } }
         ensures passed { IfOk result (λ _. G.answers gate.now self.old.processor self.old.made true) }
         ensures gate { IfErr result (λ fault. IsOfGate (G.refuses gate.now) fault) }
         ensures refused { IfErr result (λ _. G.answers gate.now self.old.processor self.old.made false) }

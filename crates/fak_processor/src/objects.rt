@@ -10,6 +10,7 @@ use fak_files::FileTable;
 use fak_process::{Context, Run, Slot};
 use fak_queue::Queue;
 use semaphores::Semaphores;
+use std::fmt;
 use std::marker::Model;
 
 /// What all processors of a run share.
@@ -47,4 +48,18 @@ impl<K: Run> Model for Objects<K> {
     } };
 
     ghost invariant = { λ o. o.alarm ≡ o.ready.object.seats };
+}
+
+impl<K: Run> fmt::Debug for Objects<K> {
+    fn fmt<W: fmt::Write>(&self, f: &mut fmt::Formatter<W>) -> fmt::Result {
+        f.debug_struct("Objects")
+            .field("ready", &self.ready)
+            .field("free", &self.free)
+            .field("semaphores", &self.semaphores)
+            .field("births", &self.births)
+            .field("busy", &self.busy)
+            .field("files", &self.files)
+            .field("alarm", &self.alarm)
+            .finish()
+    }
 }

@@ -24,6 +24,7 @@ use fak_files::FileSeat;
 use fak_process::{Context, Fault, Run, Slot};
 use fak_queue::Seat;
 use files::Files;
+use std::fmt;
 use std::marker::Model;
 
 /// A seat of each object, and the processes that the processor has seen end or halt.
@@ -98,5 +99,20 @@ impl<K: Run> Processor<K> {
             return Err(Fault::Worn);
         };
         Ok(())
+    }
+}
+
+impl<K: Run> fmt::Debug for Processor<K> {
+    fn fmt<W: fmt::Write>(&self, f: &mut fmt::Formatter<W>) -> fmt::Result {
+        f.debug_struct("Processor")
+            .field("ready", &self.ready)
+            .field("free", &self.free)
+            .field("semaphores", &self.semaphores)
+            .field("births", &self.births)
+            .field("busy", &self.busy)
+            .field("files", &self.files)
+            .field("ended", &self.ended)
+            .field("halted", &self.halted)
+            .finish_non_exhaustive()
     }
 }

@@ -21,7 +21,8 @@ use fak_process::{Context, Fault, Run, Sleeper, Slot};
 use fak_queue::{Queue, Seat};
 use fak_sem::{SemSeat, Semaphore};
 use fak_text::Script;
-use std::alloc::Global;
+use std::alloc::{AllocError, Global};
+use std::fmt;
 use std::sync::Wait;
 use std::vec::IntoIter;
 
@@ -32,6 +33,15 @@ pub struct Opened<K: Run> {
     pub objects: Objects<K>,
     /// The processors, in the order of their numbers.
     pub processors: Vec<Processor<K>>,
+}
+
+impl<K: Run> fmt::Debug for Opened<K> {
+    fn fmt<W: fmt::Write>(&self, f: &mut fmt::Formatter<W>) -> fmt::Result {
+        f.debug_struct("Opened")
+            .field("objects", &self.objects)
+            .field("processors", &self.processors)
+            .finish()
+    }
 }
 
 /// Opens the objects of a run, and has processor 0 put the slots in and start the processes.
@@ -63,13 +73,16 @@ pub fn open_run<K: Run, R: Wait>(
 }
 
 /// The objects of a run, and the processors with new seats.
-fn open_objects<K: Run>(alloc: Global, script: &Script, processors: u64) -> Result<Opened<K>, Fault>
+fn open_objects<K: Run>(
+    alloc: Global,
+    script: &Script,
+    processors: u64,
+) -> Result<Opened<K>, AllocError>
     requires script { script.now ≡ K.script }
     requires processors { AreProcessors processors }
     ensures made { IfOk result (λ o. AreFor K.script o.objects) }
     ensures seated { IfOk result (λ o. AreSeated processors o.objects) }
     ensures fresh { IfOk result (λ o. o.processors.items ≡ fresh_all o.objects K.script.stint 0 processors) }
-    ensures memory { IfErr result (λ fault. fault ≡ Fault.Memory) }
 {
     let (ready, ready_seats) = open_queue(alloc, script, processors)?;
     let (free, free_seats) = open_queue(alloc, script, processors)?;
@@ -106,15 +119,14 @@ fn open_queue<T: Drop>(
     alloc: Global,
     script: &Script,
     processors: u64,
-) -> Result<(Queue<T>, Vec<Seat<T>>), Fault>
+) -> Result<(Queue<T>, Vec<Seat<T>>), AllocError>
     requires processors { AreProcessors processors }
     ensures opened { IfOk result (λ r. (r.0.size ≡ script.now.slots) × (r.0.object.seats ≡ processors)
         × (r.1.items ≡ fresh_seats r.0.object script.now.stint 0 processors)) }
-    ensures memory { IfErr result (λ fault. fault ≡ Fault.Memory) }
 {
     match Queue::open(alloc, script.slots(), processors, script.stint()) {
         Ok(opened) => Ok(opened),
-        Err(fak_queue::OpenFault::Memory) => Err(Fault::Memory),
+        Err(fak_queue::OpenFault::Memory) => Err(AllocError),
         Err(fak_queue::OpenFault::BadSize) => unreachable!(),
         Err(fak_queue::OpenFault::BadSeats) => unreachable!(),
         Err(fak_queue::OpenFault::BadStint) => unreachable!(),
@@ -126,15 +138,14 @@ fn open_births(
     alloc: Global,
     script: &Script,
     processors: u64,
-) -> Result<(Room, Vec<RoomSeat>), Fault>
+) -> Result<(Room, Vec<RoomSeat>), AllocError>
     requires processors { AreProcessors processors }
     ensures opened { IfOk result (λ r. (r.0.bound ≡ script.now.births) × (r.0.object.seats ≡ processors)
         × (r.1.items ≡ fresh_seats r.0.object script.now.stint 0 processors)) }
-    ensures memory { IfErr result (λ fault. fault ≡ Fault.Memory) }
 {
     match Room::open(alloc, script.births(), processors, script.stint()) {
         Ok(opened) => Ok(opened),
-        Err(fak_count::OpenFault::Memory) => Err(Fault::Memory),
+        Err(fak_count::OpenFault::Memory) => Err(AllocError),
         Err(fak_count::OpenFault::BadSize) => unreachable!(),
         Err(fak_count::OpenFault::BadSeats) => unreachable!(),
         Err(fak_count::OpenFault::BadStint) => unreachable!(),
@@ -146,16 +157,15 @@ fn open_busy(
     alloc: Global,
     script: &Script,
     processors: u64,
-) -> Result<(Credit, Vec<CreditSeat>), Fault>
+) -> Result<(Credit, Vec<CreditSeat>), AllocError>
     requires processors { AreProcessors processors }
     ensures opened { IfOk result (λ r. (r.0.start ≡ length script.now.start) × (r.0.object.seats ≡ processors)
         × (r.1.items ≡ fresh_seats r.0.object script.now.stint 0 processors)) }
-    ensures memory { IfErr result (λ fault. fault ≡ Fault.Memory) }
 {
     let started = script.start().len() as u64;
     match Credit::open(alloc, started, processors, script.stint()) {
         Ok(opened) => Ok(opened),
-        Err(fak_count::OpenFault::Memory) => Err(Fault::Memory),
+        Err(fak_count::OpenFault::Memory) => Err(AllocError),
         Err(fak_count::OpenFault::BadSize) => unreachable!(),
         Err(fak_count::OpenFault::BadSeats) => unreachable!(),
         Err(fak_count::OpenFault::BadStint) => unreachable!(),
@@ -167,15 +177,14 @@ fn open_files(
     alloc: Global,
     script: &Script,
     processors: u64,
-) -> Result<(FileTable, Vec<FileSeat>), Fault>
+) -> Result<(FileTable, Vec<FileSeat>), AllocError>
     requires processors { AreProcessors processors }
     ensures opened { IfOk result (λ r. (r.0.entries ≡ script.now.files) × (r.0.object.seats ≡ processors)
         × (r.1.items ≡ idle_seats (fresh_seats r.0.object script.now.stint 0 processors))) }
-    ensures memory { IfErr result (λ fault. fault ≡ Fault.Memory) }
 {
     match FileTable::open(alloc, script.files(), processors, script.stint()) {
         Ok(opened) => Ok(opened),
-        Err(fak_files::OpenFault::Memory) => Err(Fault::Memory),
+        Err(fak_files::OpenFault::Memory) => Err(AllocError),
         Err(fak_files::OpenFault::BadSize) => unreachable!(),
         Err(fak_files::OpenFault::BadSeats) => unreachable!(),
         Err(fak_files::OpenFault::BadStint) => unreachable!(),
@@ -187,11 +196,10 @@ fn open_semaphores<K: Run>(
     alloc: Global,
     script: &Script,
     processors: u64,
-) -> Result<(Vec<Semaphore<Sleeper<K>>>, Vec<Vec<SemSeat<Sleeper<K>>>>), Fault>
+) -> Result<(Vec<Semaphore<Sleeper<K>>>, Vec<Vec<SemSeat<Sleeper<K>>>>), AllocError>
     requires processors { AreProcessors processors }
     ensures opened { IfOk result (λ r. AreSemaphoresFor script.now processors script.now.semaphores r.0.items) }
     ensures dealt { IfOk result (λ r. map (λ row. row.items) r.1.items ≡ fresh_rows (ids_of r.0.items) script.now.stint 0 processors) }
-    ensures memory { IfErr result (λ fault. fault ≡ Fault.Memory) }
 {
     let starts = script.semaphores();
     let mut semaphores = Vec::with_capacity(alloc, starts.len())?;
@@ -210,17 +218,16 @@ fn open_semaphore<K: Run>(
     script: &Script,
     start: u64,
     processors: u64,
-) -> Result<(Semaphore<Sleeper<K>>, Vec<SemSeat<Sleeper<K>>>), Fault>
+) -> Result<(Semaphore<Sleeper<K>>, Vec<SemSeat<Sleeper<K>>>), AllocError>
     requires processors { AreProcessors processors }
     requires start { start ≤ 1000000 }
     ensures opened { IfOk result (λ r. (r.0.object.start ≡ start) × (r.0.size ≡ script.now.slots) × (seats_of r.0.object ≡ processors)
         × (r.0.object.queue.seats ≡ processors)) }
     ensures seats { IfOk result (λ r. r.1.items ≡ fresh_sem_seats r.0.object script.now.stint 0 processors) }
-    ensures memory { IfErr result (λ fault. fault ≡ Fault.Memory) }
 {
     match Semaphore::open(alloc, start, script.slots(), processors, script.stint()) {
         Ok(opened) => Ok(opened),
-        Err(fak_sem::OpenFault::Memory) => Err(Fault::Memory),
+        Err(fak_sem::OpenFault::Memory) => Err(AllocError),
         Err(fak_sem::OpenFault::BadSize) => unreachable!(),
         Err(fak_sem::OpenFault::BadSeats) => unreachable!(),
         Err(fak_sem::OpenFault::BadStint) => unreachable!(),
@@ -232,10 +239,9 @@ fn empty_rows<K: Run>(
     alloc: Global,
     _stint: u64,
     processors: u64,
-) -> Result<Vec<Vec<SemSeat<Sleeper<K>>>>, Fault>
+) -> Result<Vec<Vec<SemSeat<Sleeper<K>>>>, AllocError>
     requires processors { AreProcessors processors }
     ensures rows { IfOk result (λ rows. map (λ row. row.items) rows.items ≡ fresh_rows [] _stint 0 processors) }
-    ensures memory { IfErr result (λ fault. fault ≡ Fault.Memory) }
 {
     let mut rows = Vec::with_capacity(alloc, processors as usize)?;
     for _name in 0..processors {
@@ -249,10 +255,9 @@ fn deal<K: Run>(
     alloc: Global,
     rows: Vec<Vec<SemSeat<Sleeper<K>>>>,
     seats: Vec<SemSeat<Sleeper<K>>>,
-) -> Result<Vec<Vec<SemSeat<Sleeper<K>>>>, Fault>
+) -> Result<Vec<Vec<SemSeat<Sleeper<K>>>>, AllocError>
     requires len { length rows.items ≡ length seats.items }
     ensures dealt { IfOk result (λ dealt. map (λ row. row.items) dealt.items ≡ dealt_to (map (λ row. row.items) rows.items) seats.items) }
-    ensures memory { IfErr result (λ fault. fault ≡ Fault.Memory) }
 {
     let mut dealt = Vec::with_capacity(alloc, rows.len())?;
     let mut seats = seats.into_iter();
@@ -277,9 +282,8 @@ fn next_of<T: Drop>(left: &mut IntoIter<T>) -> T
 fn longer<K: Run>(
     mut row: Vec<SemSeat<Sleeper<K>>>,
     seat: SemSeat<Sleeper<K>>,
-) -> Result<Vec<SemSeat<Sleeper<K>>>, Fault>
+) -> Result<Vec<SemSeat<Sleeper<K>>>, AllocError>
     ensures longer { IfOk result (λ longer. longer.items ≡ row.items ++ seat ∷ []) }
-    ensures memory { IfErr result (λ fault. fault ≡ Fault.Memory) }
 {
     row.push(seat)?;
     Ok(row)
@@ -329,13 +333,12 @@ fn zip_seats<K: Run>(
     entries: u64,
     ready: Vec<Seat<Context<K>>>,
     left: &mut Undealt<K>,
-) -> Result<Vec<Processor<K>>, Fault>
+) -> Result<Vec<Processor<K>>, AllocError>
     requires len { (length left.old.free.rest.items ≡ length ready.items) × (length left.old.births.rest.items ≡ length ready.items)
         × (length left.old.busy.rest.items ≡ length ready.items) × (length left.old.rows.rest.items ≡ length ready.items)
         × (length left.old.files.rest.items ≡ length ready.items) }
     ensures zipped { IfOk result (λ all. all.items ≡ zipped entries ready.items left.old.free.rest.items left.old.births.rest.items
         left.old.busy.rest.items (map (λ row. row.items) left.old.rows.rest.items) left.old.files.rest.items) }
-    ensures memory { IfErr result (λ fault. fault ≡ Fault.Memory) }
 {
     let mut all = Vec::with_capacity(alloc, ready.len())?;
     for ready in ready {

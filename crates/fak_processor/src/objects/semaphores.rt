@@ -7,6 +7,7 @@ ghost use Rattle.fak_processor.specs.Moving.{DownsAt, UpsAt};
 
 use fak_process::{Fault, Run, Sleeper};
 use fak_sem::{SemSeat, Semaphore};
+use std::fmt;
 use std::marker::Model;
 use std::sync::Wait;
 
@@ -91,5 +92,19 @@ impl<K: Run> SemSeats<K> {
             return Err(Fault::Worn);
         };
         Ok(woken)
+    }
+}
+
+impl<K: Run> fmt::Debug for Semaphores<K> {
+    fn fmt<W: fmt::Write>(&self, f: &mut fmt::Formatter<W>) -> fmt::Result {
+        f.debug_struct("Semaphores")
+            .field("all", &self.all)
+            .finish()
+    }
+}
+
+impl<K: Run> fmt::Debug for SemSeats<K> {
+    fn fmt<W: fmt::Write>(&self, f: &mut fmt::Formatter<W>) -> fmt::Result {
+        f.debug_struct("SemSeats").field("all", &self.all).finish()
     }
 }

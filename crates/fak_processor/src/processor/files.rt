@@ -1,12 +1,11 @@
 //! A copy of the entries of a file table.
 
-ghost use Rattle.std.specs.Prelude.{◌≡◌, ◌<◌, List, length, replicate, slice_get, IfOk, IfErr, IfSome};
+ghost use Rattle.std.specs.Prelude.{◌≡◌, ◌<◌, List, length, replicate, slice_get, IfOk, IfSome};
 ghost use Rattle.fak_model.specs.declared.file.FileEntry.{FileEntry};
 ghost use Rattle.fak_process.specs.Files.{open_change, close_change, uses_of, free_entry, first_entry, raise};
 
 use fak_model::FileEntry;
-use fak_process::Fault;
-use std::alloc::Global;
+use std::alloc::{AllocError, Global};
 use std::marker::Model;
 
 /// An entry is opened at most so often.
@@ -15,7 +14,7 @@ const MOST_USES: u64 = 4_294_967_295;
 const FREE: FileEntry = FileEntry { inode: 0, uses: 0 };
 
 /// The entries of a file table, as a processor copies them.
-#[derive(Drop)]
+#[derive(Debug, Drop)]
 pub struct Files {
     pub(crate) entries: Vec<FileEntry>,
 }
@@ -28,9 +27,8 @@ impl Model for Files {
 
 impl Files {
     /// This many free entries.
-    pub fn new(alloc: Global, count: u64) -> Result<Files, Fault>
+    pub fn new(alloc: Global, count: u64) -> Result<Files, AllocError>
         ensures free { IfOk result (λ files. files ≡ replicate count free_entry) }
-        ensures memory { IfErr result (λ fault. fault ≡ Fault.Memory) }
     {
         let mut entries = Vec::new(alloc);
         for _ in 0..count {
