@@ -47,6 +47,7 @@ fn main(rt: HostRuntime) -> ExitCode {
         texts::inputs(&rt),
         texts::texts(&rt),
         runs::on_one(&rt),
+        runs::on_each(&rt),
         runs::on_two(&rt),
         commands::commands(&rt),
     ];

@@ -12,6 +12,10 @@ use std::thread::Threads;
 const ALONE: &str =
     r#"{"version":2,"slots":2,"births":0,"quantum":3,"semaphores":[9],"files":2,"programs":[[["say","a text that is said"],["down",0],["open",7],["yield"],["up",0],["yield"]]],"start":[0]}"#;
 
+/// A script with nothing to do: its processors take no memory once their threads have begun.
+const IDLE: &str =
+    r#"{"version":1,"slots":1,"births":0,"quantum":1,"semaphores":[],"files":1,"programs":[],"start":[]}"#;
+
 /// Runs a script on one processor.
 pub(crate) fn on_one(rt: &(impl Print + Eprint + AllocGlobal + Wait)) -> bool {
     let alloc = rt.alloc();
@@ -22,6 +26,26 @@ pub(crate) fn on_one(rt: &(impl Print + Eprint + AllocGlobal + Wait)) -> bool {
     let printed = again!(rt, "run_one_to_text", run_one_to_text(rt, alloc, &script));
     let _ = println!(rt; "status {}", printed.status);
     put(rt, &printed.text);
+    true
+}
+
+/// Runs the script that has nothing to do on 1 to 8 processors. What a run is refused for names their number. It comes
+/// before other runs on several processors, whose allocations are not as many each time.
+pub(crate) fn on_each(rt: &(impl Print + Eprint + AllocGlobal + Threads + Wait + Sync)) -> bool {
+    let alloc = rt.alloc();
+    let script = again!(rt, "read_script", read_script(alloc, IDLE.as_bytes()));
+    for processors in 1..9u64 {
+        let _ = match run(rt, alloc, &script, processors, &FreeGate) {
+            Ok(report) => println!(rt; "{processors}: {} rows", report.rows.len()),
+            Err(fault) => {
+                let _ = eprintln!(rt; "run on {processors}: {fault:?}");
+                let Ok(report) = run(rt, alloc, &script, processors, &FreeGate) else {
+                    return false;
+                };
+                println!(rt; "{processors}: {} rows", report.rows.len())
+            }
+        };
+    }
     true
 }
 
