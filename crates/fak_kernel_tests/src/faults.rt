@@ -1,9 +1,9 @@
 //! Faults among several processors: the others leave, and the fault of the first one is answered.
 
 use super::examples::script_of;
-use super::gates::{Late, Slow};
+use super::gates::{Chosen, Late, Slow, Slowing};
 use fak_kernel::{Fault, FreeGate, Gate, run};
-use std::alloc::Global;
+use std::alloc::{AllocError, Global};
 use std::marker::Sync;
 use std::process::Abort;
 use std::sync::Wait;
@@ -67,4 +67,49 @@ fn the_fault_of_the_first_processor_is_answered(rt: HostRuntime) {
 fn the_fault_of_a_later_processor_is_answered(rt: HostRuntime) {
     let fault = fault_of(&rt, rt.alloc(), 2, &Slow::new(MANY));
     assert!(rt; fault == Some(Fault::Worn), "{fault:?}");
+}
+
+#[test]
+fn whoever_is_worn_the_others_leave(rt: HostRuntime) {
+    for &processors in &[2u64, 3, 8] {
+        for chosen in 0..processors {
+            let gate = Chosen::new(chosen, MANY);
+            let fault = fault_of(&rt, rt.alloc(), processors, &gate);
+            assert!(rt;
+                fault == Some(Fault::Worn),
+                "{fault:?} of {chosen} on {processors}"
+            );
+            assert!(rt; !gate.has_left_alone(), "{chosen} of {processors}");
+        }
+    }
+}
+
+/// Eight processes of 1,000 turns each, so that who has all of them to himself makes 8,000 looks.
+fn many_turns(alloc: Global) -> Result<String, AllocError> {
+    let mut text = String::new(alloc);
+    text.push_str(
+        r#"{"version":1,"slots":8,"births":0,"quantum":1,"semaphores":[],"files":1,"programs":[["#,
+    )?;
+    for _ in 0..999 {
+        text.push_str(r#"["yield"],"#)?;
+    }
+    text.push_str(r#"["yield"]]],"start":[0,0,0,0,0,0,0,0]}"#)?;
+    Ok(text)
+}
+
+#[test]
+fn whoever_is_refused_the_others_leave(rt: HostRuntime) {
+    let text = many_turns(rt.alloc()).expect(&rt, "a script");
+    let script = script_of(&rt, rt.alloc(), &text);
+    for &processors in &[2u64, 3, 8] {
+        for refused in 0..processors {
+            let gate = Slowing::new(refused, 900, MANY);
+            let fault = run(&rt, rt.alloc(), &script, processors, &gate).err();
+            assert!(rt;
+                fault == Some(Fault::Gate),
+                "{fault:?} where {refused} of {processors} is refused"
+            );
+            assert!(rt; !gate.has_left_alone(), "{refused} of {processors}");
+        }
+    }
 }

@@ -213,3 +213,104 @@ impl Gate for Slow {
         true
     }
 }
+
+/// Lets one processor work alone: holds the first pass of each other until that one has come to its own and had time for
+/// its look. Refuses each that looks so often that it must have been left alone.
+#[derive(Drop)]
+pub(super) struct Chosen {
+    chosen: u64,
+    turns: u64,
+    has_begun: Flag,
+    is_left_alone: Flag,
+}
+
+impl Chosen {
+    pub(super) fn new(chosen: u64, turns: u64) -> Chosen {
+        Chosen {
+            chosen,
+            turns,
+            has_begun: Flag::new(turns),
+            is_left_alone: Flag::new(0),
+        }
+    }
+
+    /// Whether a processor went on looking where it should have left.
+    pub(super) fn has_left_alone(&self) -> bool {
+        self.is_left_alone.is_set()
+    }
+
+    /// Waits until the chosen one has begun, and a while longer.
+    fn hold(&self) {
+        if self.has_begun.wait() {
+            for _ in 0..self.turns / 100 {
+                spin_loop();
+            }
+        }
+    }
+}
+
+impl Gate for Chosen {
+    fn may_refuse(&self) -> bool {
+        true
+    }
+
+    fn pass(&self, processor: u64, step: u64) -> bool {
+        if processor == self.chosen {
+            self.has_begun.set();
+        } else if step == 0 {
+            self.hold();
+        }
+        if step < MOST_LOOKS {
+            return true;
+        }
+        self.is_left_alone.set();
+        false
+    }
+}
+
+/// Refuses the first pass of one processor. Each other waits for that, and is slow from then on. One that comes to its
+/// look of number `most` must have been left alone.
+#[derive(Drop)]
+pub(super) struct Slowing {
+    refused: u64,
+    most: u64,
+    is_refused: Flag,
+    is_left_alone: Flag,
+}
+
+impl Slowing {
+    pub(super) fn new(refused: u64, most: u64, turns: u64) -> Slowing {
+        Slowing {
+            refused,
+            most,
+            is_refused: Flag::new(turns),
+            is_left_alone: Flag::new(0),
+        }
+    }
+
+    /// Whether a processor went on looking where it should have left.
+    pub(super) fn has_left_alone(&self) -> bool {
+        self.is_left_alone.is_set()
+    }
+}
+
+impl Gate for Slowing {
+    fn may_refuse(&self) -> bool {
+        true
+    }
+
+    fn pass(&self, processor: u64, step: u64) -> bool {
+        if processor == self.refused {
+            self.is_refused.set();
+            return false;
+        }
+        self.is_refused.wait();
+        if step >= self.most {
+            self.is_left_alone.set();
+        }
+        for _ in 0..100_000u64 {
+            spin_loop();
+        }
+        true
+    }
+}
