@@ -10,7 +10,7 @@ use std::thread::Threads;
 
 /// A schedule in which a room has no place for the second claim.
 pub(crate) const ROOM: &str =
-    "{\"object\":\"room\",\"bound\":1,\"seats\":2,\"events\":[[0,\"tir\",1],[0,\"step\",2],[1,\"tir\",1],[1,\"step\"]]}";
+    r#"{"object":"room","bound":1,"seats":2,"events":[[0,"tir",1],[0,"step",2],[1,"tir",1],[1,"step"]]}"#;
 
 /// The rows of its replay.
 pub(crate) const ROWS: &str = "0 test 0 -\n0 add 0 up 1\n1 test 1 no 1\n";
@@ -33,6 +33,18 @@ pub(crate) fn words_of(alloc: Global, line: &str) -> Result<Vec<String>, AllocEr
         add_word(alloc, &mut words, word)?;
     }
     Ok(words)
+}
+
+/// This many items, with commas between them.
+pub(crate) fn list_of(alloc: Global, item: &str, count: u64) -> Result<String, AllocError> {
+    let mut text = String::new(alloc);
+    for made in 0..count {
+        if made > 0 {
+            text.push(',')?;
+        }
+        text.push_str(item)?;
+    }
+    Ok(text)
 }
 
 /// Whether the bytes are this text.

@@ -53,23 +53,23 @@ fn an_input_is_nested_at_most_127_deep(rt: HostRuntime) {
 fn versions_of_a_script(rt: HostRuntime) {
     let rows = [
         (
-            "{\"slots\":1,\"births\":0,\"quantum\":4,\"semaphores\":[0],\"files\":1,\"programs\":[[]],\"start\":[0]}",
+            r#"{"slots":1,"births":0,"quantum":4,"semaphores":[0],"files":1,"programs":[[]],"start":[0]}"#,
             TextFault::Missing(Field::Version),
         ),
         (
-            "{\"version\":0,\"slots\":1,\"births\":0,\"quantum\":4,\"semaphores\":[0],\"files\":1,\"programs\":[[]],\"start\":[0]}",
+            r#"{"version":0,"slots":1,"births":0,"quantum":4,"semaphores":[0],"files":1,"programs":[[]],"start":[0]}"#,
             TextFault::Range(Field::Version),
         ),
         (
-            "{\"version\":3,\"slots\":1,\"births\":0,\"quantum\":4,\"semaphores\":[0],\"files\":1,\"programs\":[[]],\"start\":[0]}",
+            r#"{"version":3,"slots":1,"births":0,"quantum":4,"semaphores":[0],"files":1,"programs":[[]],"start":[0]}"#,
             TextFault::Range(Field::Version),
         ),
         (
-            "{\"version\":\"1\",\"slots\":1,\"births\":0,\"quantum\":4,\"semaphores\":[0],\"files\":1,\"programs\":[[]],\"start\":[0]}",
+            r#"{"version":"1","slots":1,"births":0,"quantum":4,"semaphores":[0],"files":1,"programs":[[]],"start":[0]}"#,
             TextFault::Range(Field::Version),
         ),
         (
-            "{\"version\":1,\"slots\":1,\"births\":0,\"quantum\":4,\"semaphores\":[0],\"files\":1,\"programs\":[[]],\"start\":[0,0]}",
+            r#"{"version":1,"slots":1,"births":0,"quantum":4,"semaphores":[0],"files":1,"programs":[[]],"start":[0,0]}"#,
             TextFault::Range(Field::Start),
         ),
     ];

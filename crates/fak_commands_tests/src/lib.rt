@@ -19,9 +19,7 @@ mod inputs;
 #[cfg(test)]
 mod program;
 #[cfg(test)]
-mod queues;
-#[cfg(test)]
-mod rooms;
+mod schedules;
 #[cfg(test)]
 mod scripts;
 #[cfg(test)]

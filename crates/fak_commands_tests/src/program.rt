@@ -54,20 +54,20 @@ fn have_ends(
 #[test]
 fn an_answer_goes_to_the_output(rt: HostRuntime) {
     let rows = [
-        ("fak check", "{\"size\":1,\"marks\":[]}", (0, "legal\n", "")),
+        ("fak check", r#"{"size":1,"marks":[]}"#, (0, "legal\n", "")),
         (
             "fak check",
-            "{\"size\":1,\"marks\":[[0,\"no-room\"]]}",
+            r#"{"size":1,"marks":[[0,"no-room"]]}"#,
             (3, "fault at 0\n", ""),
         ),
         (
             "fak replay",
-            "{\"object\":\"room\",\"bound\":1,\"seats\":1,\"events\":[[1,\"step\"]]}",
+            r#"{"object":"room","bound":1,"seats":1,"events":[[1,"step"]]}"#,
             (0, "1 refused no-such-seat\n", ""),
         ),
         (
             "fak run",
-            "{\"version\":1,\"slots\":1,\"births\":0,\"quantum\":4,\"semaphores\":[0],\"files\":1,\"programs\":[[[\"down\",0]]],\"start\":[0]}",
+            r#"{"version":1,"slots":1,"births":0,"quantum":4,"semaphores":[0],"files":1,"programs":[[["down",0]]],"start":[0]}"#,
             (
                 3,
                 "process 0 program 0 slot 0 stuck\nbirths 0 of 0\nended 0 stuck 1\n",
@@ -76,7 +76,7 @@ fn an_answer_goes_to_the_output(rt: HostRuntime) {
         ),
         (
             "fak run --processors 2",
-            "{\"version\":1,\"slots\":1,\"births\":0,\"quantum\":4,\"semaphores\":[0],\"files\":1,\"programs\":[[[\"down\",0]]],\"start\":[0]}",
+            r#"{"version":1,"slots":1,"births":0,"quantum":4,"semaphores":[0],"files":1,"programs":[[["down",0]]],"start":[0]}"#,
             (
                 3,
                 "process 0 program 0 slot 0 stuck\nbirths 0 of 0\nended 0 stuck 1\n",
@@ -94,12 +94,12 @@ fn a_fault_goes_to_the_output_of_faults(rt: HostRuntime) {
         ("fak check", "{}", (2, "", "fak: missing field size\n")),
         (
             "fak run",
-            "{\"version\":3}",
+            r#"{"version":3}"#,
             (2, "", "fak: field version out of range\n"),
         ),
         (
             "fak check",
-            "{\"size\":1,\"marks\":[[0,\"shut\"]]}",
+            r#"{"size":1,"marks":[[0,"shut"]]}"#,
             (2, "", "fak: unknown operation at 0\n"),
         ),
         (

@@ -1,5 +1,6 @@
 //! Scripts of all sizes, on each number of processors.
 
+use crate::answers::list_of;
 use fak_commands::run_script;
 use std::alloc::{AllocError, Global};
 use std::marker::Sync;
@@ -34,18 +35,6 @@ const SMALL: Sizes = Sizes {
     yields: 0,
     started: 2,
 };
-
-/// This many items, with commas between them.
-fn list_of(alloc: Global, item: &str, count: u64) -> Result<String, AllocError> {
-    let mut text = String::new(alloc);
-    for made in 0..count {
-        if made > 0 {
-            text.push(',')?;
-        }
-        text.push_str(item)?;
-    }
-    Ok(text)
-}
 
 /// The programs of a script: all are empty but the last.
 fn programs_of(alloc: Global, sizes: &Sizes) -> Result<String, AllocError> {

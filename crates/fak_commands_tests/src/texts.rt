@@ -1,6 +1,6 @@
 //! Inputs and answers that are as long as they may be.
 
-use crate::answers::has_answer;
+use crate::answers::{has_answer, list_of};
 use fak_commands::{Command, serve};
 use std::alloc::{AllocError, Global};
 use std::io;
@@ -40,24 +40,12 @@ fn served(
     }
 }
 
-/// A text that is repeated, with commas between.
-fn listed(alloc: Global, item: &str, count: u64) -> Result<String, AllocError> {
-    let mut text = String::new(alloc);
-    for made in 0..count {
-        if made > 0 {
-            text.push(',')?;
-        }
-        text.push_str(item)?;
-    }
-    Ok(text)
-}
-
 /// The script of two processes with this many children each, one after the other, that say a text of 80 characters a thousand times.
 fn talkers(alloc: Global, children: u64) -> Result<String, AllocError> {
     let said = "x".repeat(alloc, 80)?;
     let say = format!(in alloc; r#"["say","{said}"]"#)?;
-    let says = listed(alloc, &say, 1_000)?;
-    let spawns = listed(alloc, r#"["spawn",1],["yield"]"#, children)?;
+    let says = list_of(alloc, &say, 1_000)?;
+    let spawns = list_of(alloc, r#"["spawn",1],["yield"]"#, children)?;
     format!(in alloc;
         r#"{{"version":1,"slots":4,"births":1000,"quantum":1000,"semaphores":[],"files":1,"programs":[[{spawns}],[{says}]],"start":[0,0]}}"#
     )
@@ -78,7 +66,7 @@ fn reports_of_up_to_87_megabytes(rt: HostRuntime) {
 #[test]
 fn a_replay_of_44_megabytes(rt: HostRuntime) {
     for events in [1u64, 1_000, 3_000, 16_384] {
-        let list = listed(rt.alloc(), r#"[18446744073709551615,"step",64]"#, events).expect(
+        let list = list_of(rt.alloc(), r#"[18446744073709551615,"step",64]"#, events).expect(
             &rt, "memory",
         );
         let input = format!(in rt.alloc();
