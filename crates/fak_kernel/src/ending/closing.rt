@@ -1,6 +1,6 @@
 //! How the objects of a run are closed, and what they have left.
 
-ghost use Rattle.std.specs.Prelude.{◌≡◌, ◌++◌, length, IfOk, IfErr};
+ghost use Rattle.std.specs.Prelude.{◌≡◌, ◌++◌, ◌∷◌, [], length, IfOk, IfErr, MatchOption};
 ghost use Rattle.std.specs.List.{All};
 ghost use Rattle.fak_model.specs.Seats.{IsWhole};
 ghost use Rattle.fak_files.specs.Calls.{entries_after};
@@ -24,6 +24,14 @@ pub(crate) struct Remains<K: Run> {
     pub(crate) entries: Vec<FileEntry>,
 }
 
+/// Takes out the sleeper that has waited longest. A function of its own, since a loop over the iterator itself asks for a
+/// proof of what it has yielded so far.
+fn take_oldest<K: Run>(rest: &mut Rest<Sleeper<K>>) -> Option<Sleeper<K>>
+    ensures { MatchOption result ((rest.old ≡ []) × (rest.new ≡ [])) (λ x. rest.old ≡ x ∷ rest.new) }
+{
+    rest.next()
+}
+
 /// Takes the processes out of a wait queue.
 fn drain<K: Run>(asleep: &mut Vec<Context<K>>, waiting: Rest<Sleeper<K>>) -> Result<(), Fault>
     ensures added { IfOk result (λ _. asleep.new.items ≡ asleep.old.items ++ waiting) }
@@ -31,7 +39,7 @@ fn drain<K: Run>(asleep: &mut Vec<Context<K>>, waiting: Rest<Sleeper<K>>) -> Res
     ensures memory { IfErr result (λ fault. fault ≡ Fault.Memory) }
 {
     let mut rest = waiting;
-    while let Some(sleeper) = rest.next() {
+    while let Some(sleeper) = take_oldest(&mut rest) {
         asleep.push(sleeper.rest())?;
     }
     Ok(())
