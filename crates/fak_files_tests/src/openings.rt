@@ -84,9 +84,13 @@ fn tables_of_each_size(rt: HostRuntime) {
 
 #[test]
 fn stints_of_each_width(rt: HostRuntime) {
-    for width in 0..WIDEST_STINT {
+    for width in 0..WIDEST_STINT + 1 {
         let power = 1u64 << width;
-        for stint in [power, power + 1, power * 2 - 1, power * 2] {
+        for stint in [
+            power.wrapping_sub(1).max(1),
+            power,
+            (power / 2).wrapping_add(1),
+        ] {
             opens_table(&rt, rt.alloc(), 5, 1, stint);
         }
     }
