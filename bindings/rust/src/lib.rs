@@ -130,6 +130,13 @@ impl Seat {
         step(code, ticket)
     }
 
+    /// Leaves the queue to others for a while, where the seat has found that they use it too. It spins for some tens of microseconds,
+    /// at most once in some 100 calls. Not for an interrupt or signal handler.
+    pub fn pause(&mut self) {
+        // A seat of a queue is not refused.
+        unsafe { raw::fak_c_pause(&mut self.0) };
+    }
+
     /// One try more of an insertion.
     pub fn try_fill(&mut self) -> Result<Step<()>, Fault> {
         step(unsafe { raw::fak_c_try_fill(&mut self.0) }, ())

@@ -38,6 +38,7 @@ extern "C" {
     pub fn fak_c_try_fill(seat: *mut Handle) -> i32;
     pub fn fak_c_delete(seat: *mut Handle, ticket: *mut u64, item: *mut u64) -> i32;
     pub fn fak_c_try_take(seat: *mut Handle, item: *mut u64) -> i32;
+    pub fn fak_c_pause(seat: *mut Handle) -> i32;
     pub fn fak_c_shut(seat: *mut Handle, was_open: *mut bool) -> i32;
 
     pub fn fak_c_sem_open(seats: *mut Handle, n: usize, start: u64, size: u64, stint: u64) -> i32;

@@ -38,9 +38,10 @@ fn get(seat: &mut Seat) -> u64 {
 
 #[test]
 fn each_item_once_in_order() {
-    let [mut a, mut b] = Seat::open::<2>(8, 1 << 30).unwrap();
+    let [mut a, mut b] = Seat::open::<2>(64, 1 << 30).unwrap();
     let producer = spawn(move || {
         for item in 0..50_000 {
+            a.pause();
             put(&mut a, item);
         }
         assert_eq!(a.shut(), Ok(true));

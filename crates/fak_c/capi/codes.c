@@ -45,6 +45,7 @@ static void an_empty_handle_is_refused(fak_c_seat *seat) {
     CHECK(fak_c_insert(seat, 1, &number) == FAK_C_NO_SEAT);
     CHECK(fak_c_delete(seat, &number, &left) == FAK_C_NO_SEAT);
     CHECK(fak_c_shut(seat, &was_open) == FAK_C_NO_SEAT);
+    CHECK(fak_c_pause(seat) == FAK_C_NO_SEAT);
     CHECK(fak_c_state(seat, &state, &number, &left) == FAK_C_NO_SEAT);
     CHECK(fak_c_leave(seat) == FAK_C_NO_SEAT);
     CHECK(state == 99 && number == 99 && left == 99 && was_open && is_empty(seat));
@@ -84,6 +85,7 @@ static void states_are_tested(void) {
     CHECK(fak_c_try_take(&seats[0], &item) == FAK_C_WRONG_STATE);
     CHECK(fak_c_claim_insert(&seats[0], 7, &ticket) == FAK_C_OK && ticket == 0);
     for (int round = 0; round < 2; round++) {
+        CHECK(fak_c_pause(&seats[0]) == FAK_C_OK);
         stands(&seats[0], round == 0 ? FAK_C_INSERTING : FAK_C_DELETING, 0, round == 0 ? 3 : 2);
         ticket = 99;
         CHECK(fak_c_claim_insert(&seats[0], 8, &ticket) == FAK_C_WRONG_STATE);

@@ -41,7 +41,7 @@
  * rattle_dealloc, of the toolchain's liblibc_c.a over malloc, realloc and free, or of block.c over memory of your own; the
  * first archive also memcpy and memset.
  *
- * What the calls take. Stack: below 256 bytes; below 1,536 in fak_c_leave; below 6,144 in a call that opens. Heap: 288 bytes a
+ * What the calls take. Stack: below 256 bytes; below 1,536 in fak_c_leave; below 6,144 in a call that opens. Heap: 280 bytes a
  * seat, and beside its seats a queue 856 bytes and 24 a cell, a semaphore 1,184 bytes and 24 a cell of its wait queue, a room,
  * a credit and a file table below 640; more while an object is opened (block.h). */
 #ifndef FAK_C_H
@@ -182,6 +182,15 @@ static inline int32_t fak_c_get(fak_c_seat *seat, uint64_t *ticket, uint64_t *it
     uint64_t unused = 0;
     return fak_c_delete(seat, ticket ? ticket : &unused, item);
 }
+
+/* Leaves the queue to others for a while, where since its last pause the seat has found that others use the queue too. Threads that
+ * call by turns fetch each cache line from one another; while one pauses, another has them at hand. So call it between two calls
+ * where the rate counts for more than the longest time of a call, and not in a handler. It spins, at most once in some 100 tickets
+ * and for some tens of microseconds, and waits for nobody. In queues of fewer than 64 cells it does nothing. No other call
+ * pauses. The seat may be in any state.
+ *
+ * FAK_C_OK or FAK_C_NO_SEAT. */
+int32_t fak_c_pause(fak_c_seat *seat);
 
 /* Shuts the queue: insertions are refused as FAK_C_CLOSED from now on, and deletions go on. Writes whether the queue was open
  * before. The seat must be idle. Insertions that were claimed before end as ever. To drain a queue: shut it, let every seat end

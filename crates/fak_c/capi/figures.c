@@ -1,5 +1,5 @@
-/* What an item costs, put and got, in nanoseconds: through this library, a ring under a mutex, and a ring without a lock
- * (D. Vyukov's bounded queue, which compares and swaps). Each figure is the best and the median of some runs. */
+/* What an item costs, put and got, in nanoseconds: through this library, without pauses and with them, a ring under a mutex, and a
+ * ring without a lock (D. Vyukov's bounded queue, which compares and swaps). Each figure is the best and the median of some runs. */
 #include "fak_c.h"
 
 #include <pthread.h>
@@ -9,7 +9,7 @@
 #include <stdlib.h>
 #include <time.h>
 
-enum { ITEMS = 400000, CELLS = 1024, MOST_PAIRS = 4, RUNS = 9 };
+enum { ITEMS = 400000, CELLS = 1024, MOST_PAIRS = 4, RUNS = 9, KINDS = 4 };
 
 typedef struct {
     const char *name;
@@ -37,6 +37,18 @@ static bool library_get(int thread, uint64_t *item) {
     while (fak_c_try_take(&seats[thread], item) != FAK_C_OK)
         sched_yield();
     return true;
+}
+
+/* ---- the same, with pauses between its calls */
+
+static bool pausing_put(int thread, uint64_t item) {
+    fak_c_pause(&seats[thread]);
+    return library_put(thread, item);
+}
+
+static bool pausing_get(int thread, uint64_t *item) {
+    fak_c_pause(&seats[thread]);
+    return library_get(thread, item);
 }
 
 /* ---- a ring under a mutex */
@@ -167,6 +179,7 @@ static int order(const void *a, const void *b) {
 
 int main(void) {
     static const queue queues[] = {{"this library", library_put, library_get},
+        {"this library with pauses", pausing_put, pausing_get},
         {"a ring under a mutex", mutex_put, mutex_get},
         {"a ring without a lock", lockless_put, lockless_get}};
     for (uint64_t i = 0; i < CELLS; i++)
@@ -174,7 +187,7 @@ int main(void) {
     if (fak_c_open(seats, 2 * MOST_PAIRS, CELLS, UINT64_C(1) << 40) != FAK_C_OK)
         return 1;
     for (int pairs = 0; pairs <= MOST_PAIRS; pairs = pairs == 0 ? 1 : 2 * pairs) {
-        for (int k = 0; k < 3; k++) {
+        for (int k = 0; k < KINDS; k++) {
             double runs[RUNS];
             measured = &queues[k];
             for (int i = 0; i < RUNS; i++)

@@ -173,7 +173,8 @@ static void refused(fak_c_seat *seat, int counts[KINDS]) {
     counts[QUEUE] = (fak_c_claim_insert(seat, 1, &a) == FAK_C_NO_SEAT) + (fak_c_try_fill(seat) == FAK_C_NO_SEAT)
         + (fak_c_claim_delete(seat, &a) == FAK_C_NO_SEAT) + (fak_c_try_take(seat, &a) == FAK_C_NO_SEAT)
         + (fak_c_insert(seat, 1, &a) == FAK_C_NO_SEAT) + (fak_c_delete(seat, &a, &b) == FAK_C_NO_SEAT)
-        + (fak_c_shut(seat, &e) == FAK_C_NO_SEAT) + (fak_c_state(seat, &c, &a, &b) == FAK_C_NO_SEAT);
+        + (fak_c_shut(seat, &e) == FAK_C_NO_SEAT) + (fak_c_pause(seat) == FAK_C_NO_SEAT)
+        + (fak_c_state(seat, &c, &a, &b) == FAK_C_NO_SEAT);
     counts[SEMAPHORE] = (fak_c_sem_claim_down(seat, 1) == FAK_C_NO_SEAT) + (fak_c_sem_try_park(seat) == FAK_C_NO_SEAT)
         + (fak_c_sem_claim_up(seat) == FAK_C_NO_SEAT) + (fak_c_sem_try_wake(seat, &a) == FAK_C_NO_SEAT)
         + (fak_c_sem_state(seat, &c, &a) == FAK_C_NO_SEAT);
@@ -204,7 +205,7 @@ static int32_t opened(fak_c_seat *seat, int kind) {
 
 /* A seat answers the calls of its own kind alone. An empty handle answers none. */
 static void a_seat_has_one_kind(void) {
-    static const int all[KINDS] = {8, 5, 3, 3, 7};
+    static const int all[KINDS] = {9, 5, 3, 3, 7};
     fak_c_seat seat = {0};
     int counts[KINDS];
     for (int kind = 0; kind <= KINDS; kind++) {

@@ -60,6 +60,7 @@ static bool take_one(worker *self) {
     CHECK(answer == FAK_C_OK);
     self->taken[ticket] = item;
     self->count++;
+    CHECK(fak_c_pause(self->seat) == FAK_C_OK);
     return true;
 }
 

@@ -151,6 +151,10 @@ pub record Shuts (code : ℤ) (before after : Bool) (d e : QueueDesk) : Type 0 w
   pub open_is : after ≡ shut_or before answer
   pub call : MatchOption answer (IsBusy d e) (λ was_open. AsksToShut was_open d e)
 
+-- nothing has changed
+abbrev pub Pauses : ℤ → QueueDesk → QueueDesk → Type 0
+Pauses code d e = (code ≡ pos 0) × (e ≡ d)
+
 -- nothing has changed, and what was written tells where the seat stands
 pub record Looks (code : ℤ) (state before after left : ℕ) (d e : QueueDesk) : Type 0 where
   pub code_is : code ≡ pos 0

@@ -57,12 +57,20 @@ impl QueueDesk {
     /// `Queue::shut`; `None` where the seat is not idle.
     pub fn shut(&mut self) -> Option<bool>
         ensures queue { arc_value self.new.queue ≡ arc_value self.old.queue }
-        ensures call { MatchOption result (IsBusy self.old self.new) (λ was_open. AsksToShut was_open self.old self.new) }
+        ensures call { MatchOption result (IsBusy self.old self.new)
+            (λ was_open. AsksToShut was_open self.old self.new) }
     {
         match self.seat.state() {
             SeatState::Idle => Some(self.queue.shut(&mut self.seat)),
             SeatState::Inserting(_) | SeatState::Deleting(_) => None,
         }
+    }
+
+    /// `Queue::pause`.
+    pub fn pause(&mut self)
+        ensures { self.new ≡ self.old }
+    {
+        self.queue.pause(&mut self.seat)
     }
 
     /// A claim, and where it is granted one try to fill: the ticket, and whether the item is in its cell. `None` where the

@@ -51,7 +51,8 @@ fn seat_queue(
 ) -> bool
     requires { seats.items ≡ fresh_seats (arc_value queue.now).object stint 0 (length places.old) }
     ensures len { length places.new ≡ length places.old }
-    ensures seated { IsTrue result → AreSeatedBelow (IsFreshQueue (arc_value queue.now) stint) (length places.old) places.new }
+    ensures seated { IsTrue result → AreSeatedBelow (IsFreshQueue (arc_value queue.now) stint)
+        (length places.old) places.new }
 {
     let mut rest = seats.into_iter();
     for i in 0..places.len() {
@@ -107,7 +108,8 @@ fn seat_room(
 ) -> bool
     requires { seats.items ≡ fresh_seats (arc_value room.now).object stint 0 (length places.old) }
     ensures len { length places.new ≡ length places.old }
-    ensures seated { IsTrue result → AreSeatedBelow (IsFreshRoom (arc_value room.now) stint) (length places.old) places.new }
+    ensures seated { IsTrue result → AreSeatedBelow (IsFreshRoom (arc_value room.now) stint)
+        (length places.old) places.new }
 {
     let mut rest = seats.into_iter();
     for i in 0..places.len() {
@@ -163,7 +165,8 @@ fn seat_credit(
 ) -> bool
     requires { seats.items ≡ fresh_seats (arc_value credit.now).object stint 0 (length places.old) }
     ensures len { length places.new ≡ length places.old }
-    ensures seated { IsTrue result → AreSeatedBelow (IsFreshCredit (arc_value credit.now) stint) (length places.old) places.new }
+    ensures seated { IsTrue result → AreSeatedBelow (IsFreshCredit (arc_value credit.now) stint)
+        (length places.old) places.new }
 {
     let mut rest = seats.into_iter();
     for i in 0..places.len() {
@@ -221,7 +224,8 @@ fn seat_table(
     requires fresh { seats.items ≡ idle_seats (fresh_seats (arc_value table.now).object stint 0 (length places.old)) }
     requires many { entries ≡ (arc_value table.now).entries }
     ensures len { length places.new ≡ length places.old }
-    ensures seated { IsTrue result → AreSeatedBelow (IsFreshFile (arc_value table.now) stint) (length places.old) places.new }
+    ensures seated { IsTrue result → AreSeatedBelow (IsFreshFile (arc_value table.now) stint)
+        (length places.old) places.new }
 {
     let mut rest = seats.into_iter();
     for i in 0..places.len() {
@@ -277,7 +281,8 @@ fn seat_semaphore(
 ) -> bool
     requires { seats.items ≡ fresh_sem_seats (arc_value semaphore.now).object stint 0 (length places.old) }
     ensures len { length places.new ≡ length places.old }
-    ensures seated { IsTrue result → AreSeatedBelow (IsFreshSem (arc_value semaphore.now) stint) (length places.old) places.new }
+    ensures seated { IsTrue result → AreSeatedBelow (IsFreshSem (arc_value semaphore.now) stint)
+        (length places.old) places.new }
 {
     let mut rest = seats.into_iter();
     for i in 0..places.len() {

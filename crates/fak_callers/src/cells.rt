@@ -45,11 +45,13 @@ pub fn a_set_bit_has_its_close<T>()
 /// While a call is open, the next steps of all seats do not all leave their seats where they stand; nor, where the call holds
 /// a ticket, do those of the seats that hold a ticket of the same cell.
 pub fn never_all_stuck<T>()
-    ensures call { (key : QueueLimits) (s : State (Option T) (QueueView T)) (shown : IsShownQueue key s) (a : ℕ) → shown.core.phase a ≢ Idle
+    ensures call { (key : QueueLimits) (s : State (Option T) (QueueView T)) (shown : IsShownQueue key s) (a : ℕ)
+        → shown.core.phase a ≢ Idle
         → ((b : ℕ) → (stepped key.size shown.core b).phase b ≡ shown.core.phase b) → ⊥ }
     ensures cell { (key : QueueLimits) (s : State (Option T) (QueueView T)) (shown : IsShownQueue key s) (a cell : ℕ)
         → HoldsTicketOf key.size (shown.core.phase a) cell
-        → ((b : ℕ) → HoldsTicketOf key.size (shown.core.phase b) cell → (stepped key.size shown.core b).phase b ≡ shown.core.phase b) → ⊥ }
+        → ((b : ℕ) → HoldsTicketOf key.size (shown.core.phase b) cell
+        → (stepped key.size shown.core b).phase b ≡ shown.core.phase b) → ⊥ }
 {
     a_running_queue_never_locks_up::<T>();
 }

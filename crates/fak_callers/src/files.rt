@@ -102,7 +102,8 @@ pub fn close_with_holds_apart(table: FileTable, tally: FileTally) -> FileRest
     requires whole { (tally.object ≡ table.object) × IsWhole tally.object.seats tally.names }
     requires seats { 1 ≤ table.object.seats }
     ensures number { length result ≡ table.entries }
-    ensures apart { (before mid after : List FileMark) (take set : FileMark) → before ++ take ∷ (mid ++ set ∷ after) ≡ tally.seen
+    ensures apart { (before mid after : List FileMark) (take set : FileMark)
+        → before ++ take ∷ (mid ++ set ∷ after) ≡ tally.seen
         → is_take take.kind ≡ true → KeepsHold take.seat mid → is_set set.kind ≡ true → set.seat ≡ take.seat }
 {
     no_set_of_another_seat_lies_in_a_hold();

@@ -54,7 +54,8 @@ pub fn join_weights(room: &Room, tally: RoomTally, seat: RoomSeat) -> RoomTally
     ensures joined { (weight : RoomMark → ℕ) → sum_by weight (mine seat_of (tally.names ++ seat.name ∷ []) result.seen)
         ≡ sum_by weight (mine seat_of tally.names tally.seen) + sum_by weight (mine_of seat_of seat) }
     ensures more { (weight : RoomMark → ℕ) → sum_by weight (mine seat_of (tally.names ++ seat.name ∷ []) result.seen)
-        ≡ sum_by weight (mine seat_of tally.names result.seen) + sum_by weight (marks_of seat_of seat.name result.seen) }
+        ≡ sum_by weight (mine seat_of tally.names result.seen) + sum_by weight
+        (marks_of seat_of seat.name result.seen) }
     ensures known { mine seat_of tally.names result.seen ≡ mine seat_of tally.names tally.seen }
 {
     a_tally_knows_what_its_seats_know::<RoomMark>();

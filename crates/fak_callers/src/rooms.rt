@@ -17,7 +17,8 @@ use fak_model::laws::seats::an_only_seat_has_seen_its_own_marks;
 /// Brings both seats of a room together. Where they are all its seats, the value is what they hold.
 pub fn count_at_rest(room: &Room, a: RoomSeat, b: RoomSeat) -> Option<RoomTally>
     requires { IsSeatOf room.now.object a × IsSeatOf room.now.object b }
-    ensures { IfSome result (λ tally. value tally.seen ≡ pos (sum_below (λ seat. amount_held seat tally.seen) tally.object.seats)) }
+    ensures { IfSome result (λ tally. value tally.seen ≡ pos
+        (sum_below (λ seat. amount_held seat tally.seen) tally.object.seats)) }
 {
     a_room_at_rest_counts_what_is_held();
     let tally = room.join(RoomTally::of(a), b);

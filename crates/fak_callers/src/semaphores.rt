@@ -19,7 +19,8 @@ pub fn down_counted<R: Wait>(
 ) -> Result<Option<u64>, SemWorn<u64>>
     requires { IsIdleSemSeat semaphore.now.object seat.old }
     ensures idle { IsIdleSemSeat semaphore.now.object seat.new }
-    ensures downs { passed_by seat.new + parked_by seat.new ≡ debits (marks_of seat_of seat.new.name seat.new.credit_seen) }
+    ensures downs { passed_by seat.new + parked_by seat.new ≡ debits
+        (marks_of seat_of seat.new.name seat.new.credit_seen) }
 {
     each_down_passes_or_parks();
     semaphore.down(rt, seat, item)

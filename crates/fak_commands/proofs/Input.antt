@@ -7,14 +7,14 @@ use Rattle.std.specs.Io.KnownBytes.{Consumes, IsAtEnd}
 use Rattle.fak_text.specs.HistoryText.{history_from}
 use Rattle.fak_text.specs.ScheduleText.{schedule_from}
 use Rattle.fak_text.specs.ScriptText.{script_from}
-use Rattle.fak_text.specs.Values.{most_bytes}
-use Rattle.fak_text.proofs.Common.{input_in, ◌>>=◌}
+use Rattle.fak_text.specs.Values.{most_bytes, most_kept}
+use Rattle.fak_text.proofs.Common.{◌>>=◌}
+use Rattle.fak_text.proofs.Front.{front_read}
 use Rattle.fak_replay.specs.declared.command.Command.{Command}
 use Rattle.fak_replay.specs.declared.command.Command.TheVariants.{Replay, Check, Run}
 use Rattle.fak_replay.specs.declared.fault.MainFault.{MainFault}
 use Rattle.fak_replay.specs.declared.fault.MainFault.TheVariants as faults
 use Rattle.fak_replay.specs.Answers.{Reply, FailsBy, FailsToServe, IsCheckReply, IsRead, IsReply, IsRunReply, replay_reply}
-use Rattle.fak_commands.specs.Kept.{most_kept}
 
 cut : (m : ℕ) (input chunk kept : List ℕ) → kept ≡ take m input → (b : Bool) → ltb m (length input) ≡ b
     → kept ++ take (min (m - min (length kept) m) (length chunk)) chunk ≡ take m (input ++ chunk)
@@ -62,27 +62,11 @@ front_is_few kept input e =
     let len : length kept ≡ min most_kept (length input) = ap length e ∙ length-take most_kept input in
     omega arith
 
--- an input that is too long is so by its front already
-too_long : (input : List ℕ) → 1048576 < length input → input_in (take most_kept input) ≡ input_in input
-unfolding input_in
-too_long input lt =
-    let all : ltb 1048576 (length input) ≡ true = lt-ltb 1048576 (length input) lt in
-    let enough : most_kept ≤ length input = omega arith in
-    let front : ltb 1048576 (length (take most_kept input)) ≡ true = rw (length-take-le most_kept input enough) refl in
-    rw (all, front) refl
-
--- the front that is kept is read as the whole input
-front_read : (input : List ℕ) (b : Bool) → ltb 1048576 (length input) ≡ b → input_in (take most_kept input) ≡ input_in input
-front_read input true h = too_long input (ltb-true 1048576 (length input) h)
-front_read input false h =
-    let le : length input ≤ 1048576 = ltb-false 1048576 (length input) h in
-    ap input_in (take_all most_kept input (omega arith))
-
 -- the front that is kept has the replies of the whole
 of_front : (command : Command) (input : List ℕ) (reply : Result Reply MainFault) → IsReply command (take most_kept input) reply → IsReply command input reply
-of_front Check input reply is = subst (λ value. IsCheckReply (value >>= history_from) reply) (front_read input (ltb 1048576 (length input)) refl) is
-of_front (Run n) input reply is = subst (λ value. IsRunReply n (value >>= script_from) reply) (front_read input (ltb 1048576 (length input)) refl) is
-of_front Replay input reply is = subst (λ value. reply ≡ replay_reply (value >>= schedule_from)) (front_read input (ltb 1048576 (length input)) refl) is
+of_front Check input reply is = subst (λ value. IsCheckReply (value >>= history_from) reply) (front_read input) is
+of_front (Run n) input reply is = subst (λ value. IsRunReply n (value >>= script_from) reply) (front_read input) is
+of_front Replay input reply is = subst (λ value. reply ≡ replay_reply (value >>= schedule_from)) (front_read input) is
 
 -- what was answered to the front of an input is the reply to the whole
 pub serves : (old new : Option (List ℕ)) (command : Command) (kept : List ℕ) (r : Reply) (P : List ℕ → Type 0)

@@ -6,11 +6,9 @@ ghost use Rattle.fak_commands.specs.Commands.{AreProcessors, Asks, IsOfWords, Me
 
 use clap::error::ErrorKind;
 use clap::{Arg, ArgMatches, value_parser};
+use fak_kernel::MOST_PROCESSORS;
 use fak_replay::{Command, MainFault};
 use std::alloc::{AllocError, Global};
-
-/// How many processors a script may run on.
-const MOST_PROCESSORS: u64 = 8;
 
 /// The option that says on how many processors a script runs.
 fn processors_option<'a>(alloc: Global) -> Arg<'a>

@@ -24,9 +24,11 @@ fn serve_words<R: Read, W: Write>(
     reader: &mut R,
     writer: &mut W,
 ) -> Result<u8, MainFault>
-    ensures ok { IfOk result (Answers (map string_bytes words.items) (IsRead (R.remaining reader.old) (R.remaining reader.new))
+    ensures ok { IfOk result (Answers (map string_bytes words.items)
+        (IsRead (R.remaining reader.old) (R.remaining reader.new))
         (Appends (W.contents writer.old) (W.contents writer.new))) }
-    ensures fault { IfErr result (FailsOnWords (map string_bytes words.items) (IsRead (R.remaining reader.old) (R.remaining reader.new))) }
+    ensures fault { IfErr result (FailsOnWords (map string_bytes words.items)
+        (IsRead (R.remaining reader.old) (R.remaining reader.new))) }
     ensures untouched { IfErr result (λ e. e ≢ Write → Keeps (W.contents writer.old) (W.contents writer.new)) }
 {
     let command = command_of(alloc, words)?;

@@ -1,7 +1,7 @@
 //! The command `run`: a script of processes, and the report of its run.
 
 ghost use Rattle.std.specs.Prelude.{◌≡◌, ◌⊎◌, IfErr, IfOk};
-ghost use Rattle.fak_process.specs.ReportText.{ListSchedulerPrints, RunPrints};
+ghost use Rattle.fak_run.specs.ReportText.{ListSchedulerPrints, RunPrints};
 ghost use Rattle.fak_replay.specs.Answers.{AreSeveral, GivesAnswer, IsFaultOfRun, IsReply, RefusesLong};
 ghost use Rattle.fak_replay.specs.declared.command.Command.TheVariants.{Run};
 ghost use Rattle.fak_replay.specs.declared.fault.MainFault.TheVariants.{Memory};
@@ -21,7 +21,8 @@ fn printed_on(
     script: &Script,
     processors: u64,
 ) -> Result<Printed, MainFault>
-    ensures one { processors ≡ 1 → IfOk result (λ printed. ListSchedulerPrints script.now printed.text.items printed.status) }
+    ensures one { processors ≡ 1 → IfOk result (λ printed. ListSchedulerPrints script.now printed.text.items
+        printed.status) }
     ensures any { IfOk result (λ printed. RunPrints script.now printed.text.items printed.status) }
     ensures in_range { IfOk result (λ _. (processors ≡ 1) ⊎ AreSeveral processors) }
     ensures fault { IfErr result (λ fault. (fault ≡ Memory) ⊎ IsFaultOfRun processors fault) }

@@ -2,9 +2,8 @@
 
 ghost use Rattle.std.specs.Prelude.{◌≡◌, ◌≢◌, ◌⊎◌, ◌++◌, ◌+◌, ◌≤◌, ℕ, List, length, take, IfOk, IfErr, OnOk, Ok};
 ghost use Rattle.std.specs.Io.KnownBytes.{Appends, Keeps};
-ghost use Rattle.fak_text.specs.Values.{most_bytes};
+ghost use Rattle.fak_text.specs.Values.{most_bytes, most_kept};
 ghost use Rattle.fak_replay.specs.Answers.{FailsToServe, GivesAnswer, IsRead, IsReply};
-ghost use Rattle.fak_commands.specs.Kept.{most_kept};
 ghost use Rattle.fak_replay.specs.declared.fault.MainFault.TheVariants as faults;
 
 use crate::running::run_script;
@@ -91,7 +90,8 @@ pub fn serve<R: Read, W: Write>(
     reader: &mut R,
     writer: &mut W,
 ) -> Result<u8, MainFault>
-    ensures ok { IfOk result (λ status. (input text : List ℕ) × IsRead (R.remaining reader.old) (R.remaining reader.new) input
+    ensures ok { IfOk result (λ status. (input text : List ℕ)
+        × IsRead (R.remaining reader.old) (R.remaining reader.new) input
         × IsReply command input (Ok (status, text)) × Appends (W.contents writer.old) (W.contents writer.new) text) }
     ensures fault { IfErr result (FailsToServe command (IsRead (R.remaining reader.old) (R.remaining reader.new))) }
     ensures untouched { IfErr result (λ e. e ≢ faults.Write → Keeps (W.contents writer.old) (W.contents writer.new)) }

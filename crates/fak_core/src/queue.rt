@@ -97,7 +97,8 @@ impl QueueCore {
 
         // Refusals, in their order.
         ensures size { IsErrOf result CoreFault.BadSize ↔ ((size ≡ 0) ⊎ (4096 < size)) }
-        ensures seats { IsErrOf result CoreFault.BadSeats ↔ ((1 ≤ size) × (size ≤ 4096) × ((seats ≡ 0) ⊎ (64 < seats))) }
+        ensures seats { IsErrOf result CoreFault.BadSeats
+            ↔ ((1 ≤ size) × (size ≤ 4096) × ((seats ≡ 0) ⊎ (64 < seats))) }
         ensures fault { IfErr result (λ fault. (fault ≡ BadSize) ⊎ (fault ≡ BadSeats) ⊎ (fault ≡ Memory)) }
     {
         if size == 0 || size > LARGEST_SIZE {

@@ -37,9 +37,21 @@ impl Model for RoomCore {
 
     ghost Value = { RoomState };
 
-    ghost view = { λ c. record { bound = c.bound; count = c.count; seats = c.seats.items; past = reverse c.marks.items } };
+    ghost view = { λ c. record {
+      bound = c.bound;
+      count = c.count;
+      seats = c.seats.items;
+      past = reverse
+          c.marks.items;
+    } };
 
-    ghost invariant = { λ c. IsSound (record { bound = c.bound; count = c.count; seats = c.seats.items; past = reverse c.marks.items }) };
+    ghost invariant = { λ c. IsSound (record {
+      bound = c.bound;
+      count = c.count;
+      seats = c.seats.items;
+      past = reverse
+          c.marks.items;
+    }) };
 }
 
 impl PartialEq for RoomCore {

@@ -4,7 +4,8 @@ pub use Rattle.fak_files.specs.Calls.{entries_after, idle_seats, FileSeatInfo, f
 pub use Rattle.fak_files.specs.Closing.{entry_in}
 pub use Rattle.fak_files.specs.Phases.{amount_of, StandsIn, phase_of, AreInHold, hold_for}
 pub use Rattle.fak_files.specs.SeatTokens.{Makes, Misses, seat_now, before_steps, IsFileSeat, IsSettled}
-pub use Rattle.fak_files.specs.Shown.{mark, ShowsHistory, file_object, FileView, IsShownFile, FileHolder, Steps, CountIs, limits, opened_file, Got, Tested, Took, Anything, Withdrew, Gave, FieldIs, WasSet, HeardJoin}
+pub use Rattle.fak_files.specs.Shown.{mark, ShowsHistory, file_object, FileView, IsShownFile, FileHolder, Steps, CountIs, limits, opened_file, Got, Tested, Took, Withdrew, Gave, FieldIs, WasSet, HeardJoin}
+pub use Rattle.fak_model.specs.Shown.{TellsNothing}
 pub use Rattle.fak_files.specs.Versions.{prefix_through_take, entry_of, is_take, back_from_take, own_since_take, marks_since_take, is_set, KeepsHold}
 pub use Rattle.fak_files.specs.Words.{word_of, count_place, width}
 pub use Rattle.fak_files.specs.declared.limits.FileLimits.{FileLimits}

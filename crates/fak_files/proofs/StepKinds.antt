@@ -4,7 +4,7 @@ use native.Mathlib.Decide.{dec_le}
 use Rattle.fak_model.specs.File.{seat_of, kind_of, field_after, amount_held, count, IsFileHistory}
 use Rattle.fak_model.proofs.RunningSteps.{Advances, stands_now, steps}
 use Rattle.fak_model.proofs.RunningSeats.{hears}
-use Rattle.fak_files.proofs.Common.{Access, Read, Write, FilePhase, FileLimits, amount_of, StandsIn, count_place, word_of, ◌≡◌, ℕ, ◌+◌, ◌-◌, ◌%◌, ◌^◌, ◌<◌, ◌≤◌, List, [], ◌∷◌, ◌++◌, refl, ap, sym, ◌∙◌, subst, arith, set, slice_index, Some, reverse, pos, ◌+ℤ◌, ◌-ℤ◌, ◌≤ℤ◌, ◌<ℤ◌, ints, some, get_elem?, words_by, sight, AreOwn, Leaves, IsSeatToken, bias, State, Act, keeps, stepped, carried_after, Valid, Allows, FileField, FileKind, Take, Over, Back, No, Set, Give, FileMark, reverse_cons, All-reverse, token_names, token_phase, token_slots, token_after, Idle, Taking, Backing, Holding, FileView, ShowsHistory, file_object, IsShownFile, FileHolder, mark, Steps, CountIs, Tested, Took, Anything, Withdrew, Gave, FieldIs, Got, WasSet, HeardJoin}
+use Rattle.fak_files.proofs.Common.{Access, Read, Write, FilePhase, FileLimits, amount_of, StandsIn, count_place, word_of, ◌≡◌, ℕ, ◌+◌, ◌-◌, ◌%◌, ◌^◌, ◌<◌, ◌≤◌, List, [], ◌∷◌, ◌++◌, refl, ap, sym, ◌∙◌, subst, arith, set, slice_index, Some, reverse, pos, ◌+ℤ◌, ◌-ℤ◌, ◌≤ℤ◌, ◌<ℤ◌, ints, some, get_elem?, words_by, sight, AreOwn, Leaves, IsSeatToken, bias, State, Act, keeps, stepped, carried_after, Valid, Allows, FileField, FileKind, Take, Over, Back, No, Set, Give, FileMark, reverse_cons, All-reverse, token_names, token_phase, token_slots, token_after, Idle, Taking, Backing, Holding, FileView, ShowsHistory, file_object, IsShownFile, FileHolder, mark, Steps, CountIs, Tested, Took, TellsNothing, Withdrew, Gave, FieldIs, Got, WasSet, HeardJoin}
 use Rattle.fak_files.proofs.Counts.{count_after, count-push, count_within}
 use Rattle.fak_files.proofs.Grammar.{GoesOn, amounts, refuses, overdraws, withdraws, takes, sets_field, holds_amount, gives_back, stands_other}
 use Rattle.fak_files.proofs.WordPlaces.{sub_word, add_word, near_word, words_same, counts_next, fields_next}
@@ -114,7 +114,7 @@ module _ (table : FileLimits) (s : State (Unit {0}) FileView) (r : IsShownFile t
     withdraws_by backing =
         let kind = Back (amount_of table.seats access) in
         let g = withdraws table.seats h r.reached n access (stood (Backing access) backing) in
-        let t = leaves kind Idle count_place _ g (count_next kind ((slice_index s.words count_place + amount_of table.seats access) % 2 ^ 64) (λ i f v. refl) (omega (arith, ints, more))) Anything tt in
+        let t = leaves kind Idle count_place _ g (count_next kind ((slice_index s.words count_place + amount_of table.seats access) % 2 ^ 64) (λ i f v. refl) (omega (arith, ints, more))) TellsNothing tt in
         (after (mark n kind ∷ []) Idle, keeps, tt, t.0, t.1)
 
     gives_by : m.0.phase ≡ Some (Holding access) → Step count_place (λ x. (x + amount_of table.seats access) % 2 ^ 64) (λ _. Gave table n m)
@@ -122,7 +122,7 @@ module _ (table : FileLimits) (s : State (Unit {0}) FileView) (r : IsShownFile t
         let stands = stood (Holding access) holding in
         let g = gives_back table.seats h r.reached n access stands in
         let held = holds_amount table.seats h r.reached n access stands in
-        let t = leaves Give Idle count_place _ g (count_next Give ((slice_index s.words count_place + amount_of table.seats access) % 2 ^ 64) (λ i f v. refl) (omega (arith, ints, more, held))) Anything tt in
+        let t = leaves Give Idle count_place _ g (count_next Give ((slice_index s.words count_place + amount_of table.seats access) % 2 ^ 64) (λ i f v. refl) (omega (arith, ints, more, held))) TellsNothing tt in
         (after (mark n Give ∷ []) Idle, keeps, tt, t.0, t.1)
 
     gets_by : m.0.phase ≡ Some (Holding access) → (i : ℕ) (f : FileField) → i < table.entries → Step (word_of i f) (λ x. x) (Got table n access i f m)
@@ -136,7 +136,7 @@ module _ (table : FileLimits) (s : State (Unit {0}) FileView) (r : IsShownFile t
       let kind = Set i f v in
       let g = sets_field table.seats h r.reached n i f v (stood (Holding Write) holding) in
       let same : count table.seats (h ++ mark n kind ∷ []) ≡ count table.seats h = count-push table.seats h (mark n kind) ∙ omega (arith, ints) in
-      let t = leaves kind (Holding Write) (word_of i f) v g (fields_next table h s.words r.encoded n i f v low same) Anything tt in
+      let t = leaves kind (Holding Write) (word_of i f) v g (fields_next table h s.words r.encoded n i f v low same) TellsNothing tt in
       (after (mark n kind ∷ []) (Holding Write), keeps, tt, t.0, t.1)
 
 -- each kind, for a table that is named by its step

@@ -9,7 +9,7 @@ use Rattle.fak_model.specs.declared.file.FileMark.{FileMark}
 use Rattle.fak_model.specs.Histories.{words_by}
 use Rattle.fak_model.specs.File.{WholeCall, seat_of, kind_of, count, field, file_rules, IsFileHistory}
 use Rattle.fak_model.specs.Views.{opened}
-use Rattle.fak_model.specs.Shown.{Object, IsShown, Leaves, Hears}
+use Rattle.fak_model.specs.Shown.{Object, IsShown, Leaves, Hears, TellsNothing}
 use Rattle.fak_model.specs.Tokens.{IsSeatToken}
 use Rattle.fak_files.specs.declared.phase.Access.{Access}
 use Rattle.fak_files.specs.declared.phase.Access.TheVariants.{Write}
@@ -83,14 +83,11 @@ Tested table name access = Decided table name access [] (mark name (No (amount_o
 abbrev pub Took : FileLimits → ℕ → Access → FileHolder → ℕ → FileHolder → Type 0
 Took table name access = Decided table name access (mark name (Take (amount_of table.seats access)) ∷ []) (mark name (Over (amount_of table.seats access)) ∷ []) (Holding access) (Backing access)
 
-abbrev pub Anything : List FileMark → Type 0
-Anything past = Unit {0}
-
 abbrev pub Withdrew : FileLimits → ℕ → Access → FileHolder → FileHolder → Type 0
-Withdrew table name access m after = Steps table name m (mark name (Back (amount_of table.seats access)) ∷ []) Idle Anything after
+Withdrew table name access m after = Steps table name m (mark name (Back (amount_of table.seats access)) ∷ []) Idle TellsNothing after
 
 abbrev pub Gave : FileLimits → ℕ → FileHolder → FileHolder → Type 0
-Gave table name m after = Steps table name m (mark name Give ∷ []) Idle Anything after
+Gave table name m after = Steps table name m (mark name Give ∷ []) Idle TellsNothing after
 
 -- the word that was found is that of a field, and the seat holds the table
 pub record FieldIs (table : FileLimits) (name : ℕ) (access : Access) (entry : ℕ) (f : FileField) (found : ℕ) (past : List FileMark) : Type 0 where
@@ -101,7 +98,7 @@ abbrev pub Got : FileLimits → ℕ → Access → ℕ → FileField → FileHol
 Got table name access entry f m found after = Steps table name m [] (Holding access) (FieldIs table name access entry f found) after
 
 abbrev pub WasSet : FileLimits → ℕ → ℕ → FileField → ℕ → FileHolder → FileHolder → Type 0
-WasSet table name entry f to m after = Steps table name m (mark name (Set entry f to) ∷ []) (Holding Write) Anything after
+WasSet table name entry f to m after = Steps table name m (mark name (Set entry f to) ∷ []) (Holding Write) TellsNothing after
 
 abbrev pub HeardJoin : FileLimits → FileHolder → FileHolder → Type 0
 HeardJoin table m after = Hears (file_object table) m after

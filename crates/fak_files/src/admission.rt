@@ -27,7 +27,8 @@ pub(crate) fn admit<J: Call>(
     requires seat { IsSeatToken seat_of J.key.seats J.name Idle 0 token.old.me }
     ensures same { token.new.table_id ≡ token.old.table_id }
     ensures made { MatchResult result
-        (λ _. Makes J.key.seats J.name (Take (amount_of J.key.seats J.access) ∷ []) (Holding J.access) token.old.me token.new.me)
+        (λ _. Makes J.key.seats J.name (Take (amount_of J.key.seats J.access) ∷ [])
+        (Holding J.access) token.old.me token.new.me)
         (λ count. Misses J.key.seats J.name (amount_of J.key.seats J.access) token.old.me token.new.me count) }
 {
     let tested = test::<J>(words, token, amount, access);

@@ -12,7 +12,8 @@ use fak_model::FileMark;
 /// While one seat holds as much as there are seats, no other seat holds.
 pub fn a_writer_is_alone()
     ensures { (k seats : ℕ) (h : List FileMark) → IsFileHistory k h → AreNamed (file_rules k) seats h
-        → (writer other : ℕ) → writer < seats → other < seats → writer ≢ other → amount_held writer h ≡ k → amount_held other h ≡ 0 }
+        → (writer other : ℕ) → writer < seats → other < seats → writer ≢ other → amount_held writer h ≡ k
+        → amount_held other h ≡ 0 }
 {}
 
 /// Between a Take and its Give no field is set but by that seat.
@@ -39,5 +40,6 @@ pub fn what_a_hold_reads_stays()
 /// At its Take a seat reads all that it has seen.
 pub fn a_take_reads_all_before_it()
     ensures { (h : List FileMark) (take : FileMark) → is_take take.kind ≡ true
-        → (prefix_through_take take.seat (h ++ take ∷ []) ≡ h ++ take ∷ []) × (marks_since_take take.seat (h ++ take ∷ []) ≡ []) }
+        → (prefix_through_take take.seat (h ++ take ∷ []) ≡ h ++ take ∷ [])
+        × (marks_since_take take.seat (h ++ take ∷ []) ≡ []) }
 {}

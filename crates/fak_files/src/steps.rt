@@ -109,7 +109,8 @@ pub(crate) fn set_field<J: Call>(
     to: u64,
 )
     requires table { FitsTable token.old.table_id words.now.table_id words.now.key J.key }
-    requires field { (entry ≡ J.entry) × (field ≡ J.field) × (to ≡ J.to) × (entry < J.key.entries) × (J.key.entries ≤ 16) }
+    requires field { (entry ≡ J.entry) × (field ≡ J.field) × (to ≡ J.to) × (entry < J.key.entries)
+        × (J.key.entries ≤ 16) }
     requires seat { IsSeatToken seat_of J.key.seats J.name (Holding Write) 0 token.old.me }
     ensures same { token.new.table_id ≡ token.old.table_id }
     ensures told { WasSet J.key J.name J.entry J.field J.to token.old.me token.new.me }

@@ -50,7 +50,8 @@ impl Model for FileTable {
 
     ghost view = { λ t. table_info (object_id t.table.shared.table_id t.table.shared.key.seats) t.entries };
 
-    ghost invariant = { λ t. (t.table.shared.key.entries ≡ t.entries) × (t.table.shared.table_id.words ≡ width t.entries)
+    ghost invariant = { λ t. (t.table.shared.key.entries ≡ t.entries)
+        × (t.table.shared.table_id.words ≡ width t.entries)
         × (t.table.shared.table_id.slots ≡ 0) × (t.entries ≤ 16) };
 }
 
@@ -64,7 +65,8 @@ impl FileTable {
         seats: u64,
         stint: u64,
     ) -> Result<(FileTable, Vec<FileSeat>), OpenFault>
-        ensures { MatchResult result (λ r. IsInRange entries seats stint × (r.0.entries ≡ entries) × (r.0.object.seats ≡ seats)
+        ensures { MatchResult result (λ r. IsInRange entries seats stint × (r.0.entries ≡ entries)
+            × (r.0.object.seats ≡ seats)
             × (r.1.items ≡ idle_seats (fresh_seats r.0.object stint 0 seats))) (IsOpenFault entries seats stint) }
     {
         if let Err(fault) = tested_limits(entries, seats, stint) {
@@ -99,7 +101,8 @@ impl FileTable {
     pub(crate) fn try_hold(&self, seat: &mut FileSeat, access: Access) -> Result<(), FileFault>
         requires object { IsFileSeatOf self.now.object seat.old }
         requires idle { seat.old.hold ≡ Nothing }
-        ensures call { MatchResult result (λ _. IsGranted access seat.old seat.new) (λ fault. IsRefused access seat.old seat.new fault) }
+        ensures call { MatchResult result (λ _. IsGranted access seat.old seat.new)
+            (λ fault. IsRefused access seat.old seat.new fault) }
         ensures hold { seat.new.hold ≡ (if is_ok result then hold_for access else Nothing) }
         ensures object { seat.new.seat.object ≡ self.now.object }
     {
@@ -124,7 +127,8 @@ impl FileTable {
     pub fn try_read(&self, seat: &mut FileSeat) -> Result<(), FileFault>
         requires object { IsFileSeatOf self.now.object seat.old }
         requires idle { seat.old.hold ≡ Nothing }
-        ensures call { MatchResult result (λ _. IsGranted Read seat.old seat.new) (λ fault. IsRefused Read seat.old seat.new fault) }
+        ensures call { MatchResult result (λ _. IsGranted Read seat.old seat.new)
+            (λ fault. IsRefused Read seat.old seat.new fault) }
         ensures hold { seat.new.hold ≡ (if is_ok result then Reading else Nothing) }
         ensures object { seat.new.seat.object ≡ self.now.object }
     {
@@ -138,7 +142,8 @@ impl FileTable {
     pub fn try_write(&self, seat: &mut FileSeat) -> Result<(), FileFault>
         requires object { IsFileSeatOf self.now.object seat.old }
         requires idle { seat.old.hold ≡ Nothing }
-        ensures call { MatchResult result (λ _. IsGranted Write seat.old seat.new) (λ fault. IsRefused Write seat.old seat.new fault) }
+        ensures call { MatchResult result (λ _. IsGranted Write seat.old seat.new)
+            (λ fault. IsRefused Write seat.old seat.new fault) }
         ensures hold { seat.new.hold ≡ (if is_ok result then Writing else Nothing) }
         ensures object { seat.new.seat.object ≡ self.now.object }
     {

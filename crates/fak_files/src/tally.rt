@@ -34,7 +34,8 @@ impl Model for FileTally {
 
     ghost Value = { TallyInfo FileMark };
 
-    ghost view = { λ t. tally_info (object_id t.token.table_id t.seats) t.token.me.0.names (reverse t.token.me.0.seen) };
+    ghost view = { λ t. tally_info (object_id t.token.table_id t.seats) t.token.me.0.names
+        (reverse t.token.me.0.seen) };
 
     ghost invariant = { λ t. IsTallyToken seat_of t.seats Idle t.token.me × HasJust t.names t.token.me.0.names
         × IsSettled t.seats t.token.me.0.names (reverse t.token.me.0.seen) };

@@ -1,8 +1,8 @@
 -- What the answers of threads tell of those that have left, and of a fault.
 use Rattle.std.proofs.lemmas.List.{get_or-map, length-map}
 use Rattle.fak_text.specs.Script.{ScriptOf}
-use Rattle.fak_process.specs.declared.fault.Fault.{Fault}
-use Rattle.fak_process.specs.declared.fault.Fault.TheVariants.{Memory, Gate}
+use Rattle.fak_run.specs.declared.fault.Fault.{Fault}
+use Rattle.fak_run.specs.declared.fault.Fault.TheVariants.{Memory, Gate}
 use Rattle.fak_processor.specs.Faults.{IsOfLoop, IsRefused}
 use Rattle.fak_kernel.specs.Threads.{OneIsRefused}
 use Rattle.fak_kernel.proofs.Common.{turn_over, ObjectsOf, ProcessorOf, IsReached, lists_of, Between, IsLeftBy, ◌≡◌, ◌⊎◌, ℕ, zero, suc, ◌<◌, Bool, List, [], ◌∷◌, length, map, get_or, ap, sym, ◌∙◌, subst, arith, inl, inr, Option, Some, None, Result, Ok, Err, IfErr, HasAnswered, HasBegun, HasLeft, IsOfRun, as_left, first_fault}

@@ -3,25 +3,24 @@ pub use Rattle.fak_files.specs.Calls.{entries_after}
 pub use Rattle.fak_kernel.specs.Closing.{IsSleeper, IsWholeAt, AreClosed, left_at, rows_left, shut_lines, IsSettledAt, AreClosing}
 pub use Rattle.fak_kernel.specs.Gathered.{FilesJoined, AreGathered, AreOfOne, left_weigh}
 pub use Rattle.fak_kernel.specs.Threads.{HasBegun, as_left, HasAnswered, HasLeft, IsOfRun, first_fault}
-pub use Rattle.fak_model.proofs.Common.{All-nil, All-cons, All-head, All-tail, All-append, IsWhole, sum_by-cons, Rules, mine, TallyInfo, tally_of, count, value, nat_tests, filter-append, sum_by-append, AreNamed, seat_of, file_rules, IsFileHistory, SeatInfo, IsJoined, In, Knows, marks_of, length-map, ObjectId, queue_rules, room_rules, IsPermutation-trans, contents, up_amount, release_amount, close_of, map-append, IsPermutation-map, sum_by-IsPermutation}
+pub use Rattle.fak_model.proofs.Common.{All-nil, All-cons, All-head, All-tail, All-append, IsWhole, sum_by-cons, Rules, mine, TallyInfo, tally_of, count, value, nat_tests, sum_by-append, AreNamed, seat_of, file_rules, IsFileHistory, SeatInfo, IsJoined, In, Knows, marks_of, length-map, ObjectId, queue_rules, room_rules, IsPermutation-trans, contents, up_amount, release_amount, close_of, map-append, IsPermutation-map, sum_by-IsPermutation}
 pub use Rattle.fak_model.specs.declared.file.FileEntry.{FileEntry}
 pub use Rattle.fak_model.specs.declared.file.FileMark.{FileMark}
 pub use Rattle.fak_model.specs.declared.queue.Mark.{Mark}
-pub use Rattle.fak_process.proofs.Sums.{sum_by-map, sum_by-flat_map}
-pub use Rattle.fak_process.specs.Files.{free_entry}
-pub use Rattle.fak_process.specs.Holds.{gather_from, held_kinds, hold_line, AreHolds, FileHold}
-pub use Rattle.fak_process.specs.Ledger.{Ledger, joined, shuts_of, named, notes, FitsRow}
-pub use Rattle.fak_process.specs.ListScheduler.{turn_over, numbers_from}
-pub use Rattle.fak_process.specs.Making.{AreLines, Left}
-pub use Rattle.fak_process.specs.Report.{RowOf, ReportOf, IsSortedByName, rows_with, sleepers_outcome, IsReportOf, ListSchedulerReports, rows_at}
-pub use Rattle.fak_process.specs.Reported.{is_file_line, file_lines}
-pub use Rattle.fak_process.specs.Views.{row_of}
-pub use Rattle.fak_process.specs.Whole.{Histories, Gathered, begun_names, asleep, lines, lines_of, rows_of}
-pub use Rattle.fak_process.specs.declared.report.Outcome.{Outcome}
-pub use Rattle.fak_process.specs.declared.report.Outcome.TheVariants.{Ended, Halted}
-pub use Rattle.fak_process.specs.declared.report.ProcessRow.{ProcessRow}
+pub use Rattle.fak_run.proofs.Sums.{sum_by-map, sum_by-flat_map}
+pub use Rattle.fak_run.specs.Files.{free_entry}
+pub use Rattle.fak_run.specs.Holds.{gather_from, held_kinds, hold_line, AreHolds, FileHold}
+pub use Rattle.fak_run.specs.Ledger.{Ledger, joined, shuts_of, named, notes, FitsRow}
+pub use Rattle.fak_run.specs.ListScheduler.{turn_over, numbers_from}
+pub use Rattle.fak_run.specs.Making.{AreLines, Left}
+pub use Rattle.fak_run.specs.Report.{RowOf, ReportOf, IsSortedByName, rows_with, sleepers_outcome, IsReportOf, ListSchedulerReports, rows_at}
+pub use Rattle.fak_run.specs.Views.{row_of}
+pub use Rattle.fak_run.specs.Whole.{Histories, Gathered, begun_names, asleep, lines, lines_of, rows_of}
+pub use Rattle.fak_run.specs.declared.report.Outcome.{Outcome}
+pub use Rattle.fak_run.specs.declared.report.Outcome.TheVariants.{Ended, Halted}
+pub use Rattle.fak_run.specs.declared.report.ProcessRow.{ProcessRow}
 pub use Rattle.fak_processor.specs.Begun.{Between, IsLeftBy, IsFirst}
-pub use Rattle.fak_processor.specs.Holding.{JoinedTo, Weighs, queue_kind, Bundle, Tallies, Leaves, Have, Joins}
+pub use Rattle.fak_processor.specs.Holding.{JoinedTo, Weighs, queue_kind, Bundle, Tallies, Have, Joins}
 pub use Rattle.fak_processor.specs.Joined.{ids_of_tallies, no_seat, JoinEach, no_tally, TalliesOf, AreTalliesOf, HaveNames, JoinAll, tallies_of, first_tallies}
 pub use Rattle.fak_processor.specs.Moving.{row_as, bundle_of, files_of, BeginsNone, LeavesNone}
 pub use Rattle.fak_processor.specs.OnlyCounts.{sleepers_of}

@@ -4,8 +4,9 @@ use Rattle.fak_model.specs.declared.credit.CreditMark.{CreditMark}
 use Rattle.fak_model.specs.Room as room
 use Rattle.fak_model.specs.Credit as credit
 use Rattle.fak_text.proofs.Common.{ScriptOf, Process}
-use Rattle.fak_kernel.proofs.Common.{numbers_from, Ledger, named, joined, begun_names, Histories, Gathered, ◌≡◌, ℕ, ◌<◌, List, [], ◌∷◌, ◌++◌, length, refl, ap, sym, ◌∙◌, arith, map, pos, slice_index, sum_by, append-nil, sum_by-cons, Rules, mine, TallyInfo, tally_of, count, value, Mark, IsSettled, sem_tally_of, Weighs, queue_kind, Bundle, Tallies, Leaves, Have, Joins, sum_by-map}
-use Rattle.fak_process.proofs.Joining.{balanced-joined}
+use Rattle.fak_kernel.proofs.Common.{numbers_from, Ledger, named, joined, begun_names, Histories, Gathered, ◌≡◌, ℕ, ◌<◌, List, [], ◌∷◌, ◌++◌, length, refl, ap, sym, ◌∙◌, arith, map, pos, slice_index, sum_by, append-nil, sum_by-cons, Rules, mine, TallyInfo, tally_of, count, value, Mark, IsSettled, sem_tally_of, Weighs, queue_kind, Bundle, Tallies, Have, Joins, sum_by-map}
+use Rattle.fak_processor.specs.Turning.{Turning}
+use Rattle.fak_run.proofs.Joining.{balanced-joined}
 use Rattle.fak_processor.proofs.Tallies.{weighs_one, weighs_joined, joined_either}
 
 -- the tallies of the first processor's seats
@@ -18,8 +19,8 @@ first_tallies b = record {
   sems = λ s. sem_tally_of (b.sems s);
 }
 
-pub have_first : {script : ScriptOf} {b : Bundle} {l : Ledger} → Leaves script b l → map named l.begun ≡ begun_names 0 script.start → l.first ≡ numbers_from 0 script.slots → Have script (first_tallies b) l
-have_first x begun first = record {
+pub have_first : {script : ScriptOf} {b : Bundle} {l : Ledger} → Turning script b l [] → value (length script.start) b.busy.seen ≡ pos 0 → map named l.begun ≡ begun_names 0 script.start → l.first ≡ numbers_from 0 script.slots → Have script (first_tallies b) l
+have_first x idle begun first = record {
   balanced = x.balanced;
   ready = weighs_one x.ready;
   free = weighs_one x.free;
@@ -27,14 +28,14 @@ have_first x begun first = record {
   busy = weighs_one x.busy;
   credits = λ s below. weighs_one (x.credits s below);
   waits = λ s below. weighs_one (x.waits s below);
-  idle = x.idle;
+  idle = idle;
   begun = begun;
   first = first;
 }
 
 -- another one, which started nothing
-pub have_more : {script : ScriptOf} {t both : Tallies} {b : Bundle} {l m : Ledger} → Have script t l → Leaves script b m → m.begun ≡ [] → m.first ≡ [] → Joins script t b both → Have script both (joined l m)
-have_more {script} {t} {both} {b} {l} {m} has x no_begun no_first j = record {
+pub have_more : {script : ScriptOf} {t both : Tallies} {b : Bundle} {l m : Ledger} → Have script t l → Turning script b m [] → value (length script.start) b.busy.seen ≡ pos 0 → m.begun ≡ [] → m.first ≡ [] → Joins script t b both → Have script both (joined l m)
+have_more {script} {t} {both} {b} {l} {m} has x idle no_begun no_first j = record {
   balanced = balanced-joined script (length script.semaphores) [] [] [] l m has.balanced x.balanced;
   ready = weighs_joined l.ready m.ready j.ready j.new_ready has.ready x.ready;
   free = weighs_joined l.free m.free j.free j.new_free has.free x.free;
@@ -42,7 +43,7 @@ have_more {script} {t} {both} {b} {l} {m} has x no_begun no_first j = record {
   busy = weighs_joined l.busy m.busy j.busy j.new_busy has.busy x.busy;
   credits = λ s below. weighs_joined (l.credits s) (m.credits s) (j.sems s below).credit (j.new_sems s below) (has.credits s below) (x.credits s below);
   waits = λ s below. weighs_joined (l.waits s) (m.waits s) (j.sems s below).queue (j.new_sems s below) (has.waits s below) (x.waits s below);
-  idle = joined_either (λ (h : List CreditMark). value (length script.start) h ≡ pos 0) j.busy has.idle x.idle;
+  idle = joined_either (λ (h : List CreditMark). value (length script.start) h ≡ pos 0) j.busy has.idle idle;
   begun = ap (λ ps. map named (l.begun ++ ps)) no_begun ∙ (ap (map named) (append-nil l.begun) ∙ has.begun);
   first = ap (λ ns. l.first ++ ns) no_first ∙ (append-nil l.first ∙ has.first);
 }

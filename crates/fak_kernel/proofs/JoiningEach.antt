@@ -1,12 +1,6 @@
 -- Seats of all semaphores are joined.
-use Rattle.fak_kernel.proofs.Common.{JoinedTo, ids_of, ids_of_seats, JoinEach, ids_of_tallies, no_seat, no_tally, ◌≡◌, ℕ, zero, suc, ◌<◌, ◌≤◌, List, [], ◌∷◌, length, drop, get_or, refl, ap, sym, subst, arith, map, SemInfo, SemSeatInfo, SemTallyInfo, JoinsSeat, sem_tally_of, Process}
+use Rattle.fak_kernel.proofs.Common.{JoinedTo, ids_of, ids_of_seats, JoinEach, ids_of_tallies, no_seat, no_tally, ◌≡◌, ℕ, zero, suc, ◌<◌, List, [], ◌∷◌, length, get_or, refl, ap, sym, subst, arith, map, SemInfo, SemSeatInfo, SemTallyInfo, JoinsSeat, sem_tally_of, Process}
 use Rattle.fak_kernel.proofs.Naming.{first_joined, next_joined}
-
-pub drop_past : {A : Type 0} (n : ℕ) (xs : List A) → length xs ≤ n → drop n xs ≡ []
-drop_past zero [] low = refl
-drop_past zero (x ∷ xs) low = absurd (omega (arith, low))
-drop_past (suc n) [] low = refl
-drop_past (suc n) (x ∷ xs) low = drop_past n xs (omega (arith, low))
 
 pub join_none : (os : List SemInfo) (ts : List (SemTallyInfo Process)) (ss : List (SemSeatInfo Process)) → os ≡ [] → ids_of_tallies ts ≡ ids_of os → ids_of_seats ss ≡ ids_of os → JoinEach os ts ss []
 join_none [] [] [] e a b = tt

@@ -1,8 +1,8 @@
 -- The seats of a file table are joined, and their lines replay.
-use Rattle.std.proofs.lemmas.List.{append-nil, map-append}
-use Rattle.fak_kernel.proofs.Common.{Ledger, joined, JoinedTo, FileHold, AreHolds, held_kinds, hold_line, gather_from, AreLines, Left, is_file_line, file_lines, files_of, FilesJoined, ◌≡◌, ℕ, zero, suc, ◌+◌, ◌<◌, ◌≤◌, Bool, true, false, cond, nat_lt, List, [], ◌∷◌, ◌++◌, refl, ap, sym, ◌∙◌, subst, arith, inl, inr, append_assoc, map, sum_by, nat_tests, filter-append, sum_by-append, AreNamed, seat_of, file_rules, IsFileHistory, SeatInfo, TallyInfo, IsJoined, tally_of, In, Knows, marks_of, FileMark, NoteOf}
-use Rattle.fak_process.proofs.Holding.{held-left, reads-left}
-use Rattle.fak_process.proofs.GatheredHolds.{gather_same}
+use Rattle.std.proofs.lemmas.List.{append-nil}
+use Rattle.fak_kernel.proofs.Common.{JoinedTo, FileHold, AreHolds, held_kinds, hold_line, gather_from, AreLines, Left, FilesJoined, ◌≡◌, ℕ, zero, suc, ◌+◌, ◌<◌, ◌≤◌, Bool, true, false, cond, nat_lt, List, [], ◌∷◌, ◌++◌, refl, ap, sym, ◌∙◌, subst, arith, inl, inr, append_assoc, map, sum_by, nat_tests, sum_by-append, AreNamed, seat_of, file_rules, IsFileHistory, SeatInfo, TallyInfo, IsJoined, tally_of, In, Knows, marks_of, FileMark, NoteOf}
+use Rattle.fak_run.proofs.Holding.{held-left, reads-left}
+use Rattle.fak_run.proofs.GatheredHolds.{gather_same}
 
 -- ---- what the whole history tells
 
@@ -36,9 +36,6 @@ gather_push {A} f first (suc n) =
     let next : suc first + n ≡ first + suc n = omega arith in
     let rest : gather_from f (suc first) (suc n) ≡ gather_from f (suc first) n ++ f (first + suc n) = gather_push f (suc first) n ∙ ap (λ k. gather_from f (suc first) n ++ f k) next in
     ap (λ l. f first ++ l) rest ∙ sym (append_assoc (f first) (gather_from f (suc first) n) (f (first + suc n)))
-
-pub files_joined : (a b : Ledger) → files_of (joined a b) ≡ files_of a ++ files_of b
-files_joined a b = ap file_lines (map-append (λ m. m.note) a.made b.made) ∙ filter-append is_file_line (map (λ m. m.note) a.made) (map (λ m. m.note) b.made)
 
 -- ---- one seat, and one more
 

@@ -1,12 +1,12 @@
 -- The seats of the processors are joined, processor by processor.
 use Rattle.fak_text.proofs.Common.{ScriptOf, Process}
 use Rattle.fak_kernel.proofs.Common.{Ended, Halted, RowOf, joined, ObjectsOf, ProcessorOf, AreOf, AreFor, HasName, bundle_of, files_of, row_as, IsLeftBy, ◌≡◌, ℕ, zero, suc, ◌+◌, ◌≤◌, List, ◌++◌, length, get_or, ap, sym, ◌∙◌, subst, arith, sum_by, length-map, sum_by-append, ObjectId, IsJoined, queue_rules, room_rules, SemInfo, SemSeatInfo, SemTallyInfo, Tallies, Have, Joins, JoinedTo, TalliesOf, AreTalliesOf, HaveNames, JoinAll, tallies_of, first_tallies, no_seat, no_tally, AreGathered, AreOfOne, FilesJoined, left_weigh}
-use Rattle.fak_processor.proofs.Calls.{turning_leaves}
+use Rattle.fak_processor.proofs.Moving.{files_then}
 use Rattle.fak_kernel.proofs.Gathering.{have_first, have_more}
 use Rattle.fak_kernel.proofs.Gathering as gathering
 use Rattle.fak_kernel.proofs.Naming.{first_joined, next_joined, is_new}
 use Rattle.fak_kernel.proofs.JoiningEach.{ids_first, first_at, first_names, ids_joined, names_joined, joins_at}
-use Rattle.fak_kernel.proofs.JoiningFiles.{files_first, files_more, files_joined}
+use Rattle.fak_kernel.proofs.JoiningFiles.{files_first, files_more}
 
 -- what rows weigh together
 rows_more : (f : RowOf → ℕ) (e h e' h' : List Process) (xs ys : List RowOf) → left_weigh f e h ≡ sum_by f xs → left_weigh f e' h' ≡ sum_by f ys → left_weigh f (e ++ e') (h ++ h') ≡ sum_by f (xs ++ ys)
@@ -30,7 +30,7 @@ gathered_first {script} {o} {p} x =
         files = first_joined p.files.seat.name b.is.files;
       };
       ledger = b.ledger;
-      have = subst (λ (t : Tallies). Have script t b.ledger) (same_first p) (have_first (turning_leaves b.turning x.idle) b.first.0 b.first.1);
+      have = subst (λ (t : Tallies). Have script t b.ledger) (same_first p) (have_first b.turning x.idle b.first.0 b.first.1);
       rows = b.rows;
       files = files_first o.files.entries o.files.object.seats p.files.seat (files_of b.ledger) b.is.files (ap (λ (i : ObjectId). i.seats) b.are.files) b.lines;
     }
@@ -78,9 +78,9 @@ module _ {script : ScriptOf} {o : ObjectsOf} (for_it : AreFor script o) where
           files = subst (JoinedTo (suc (suc m))) (sym j.files.names) (next_joined (suc m) p.files.seat.name t.files.names a.names.files b.is.files);
         };
         ledger = joined a.ledger b.ledger;
-        have = have_more a.have (turning_leaves b.turning x.idle) b.first.0 b.first.1 (joins_of a.are a.names b.are b.is j);
+        have = have_more a.have b.turning x.idle b.first.0 b.first.1 (joins_of a.are a.names b.are b.is j);
         rows = λ f. rows_more f ended halted p.ended p.halted a.ledger.rows b.ledger.rows (a.rows f) (b.rows f);
-        files = subst (FilesJoined o.files.entries o.files.object.seats (suc (suc m)) both.files) (sym (files_joined a.ledger b.ledger))
+        files = subst (FilesJoined o.files.entries o.files.object.seats (suc (suc m)) both.files) (sym (files_then a.ledger b.ledger))
             (files_more a.files a.names.files b.is.files (ap (λ (i : ObjectId). i.seats) b.are.files) (ap (λ (i : ObjectId). i.seats) (j.files.object ∙ a.are.files)) j.files b.lines);
       }
 

@@ -4,7 +4,6 @@ pub mod Naming
 pub mod JoiningEach
 pub mod JoiningFiles
 pub mod JoiningProcessors
-pub mod JoiningNext
 pub mod Closing
 pub mod ReportingFiles
 pub mod Reporting

@@ -6,15 +6,15 @@ use Rattle.fak_model.specs.Room as room
 use Rattle.fak_model.proofs.Seats.{whole_mine}
 use Rattle.fak_text.proofs.Common.{ScriptOf, NoteOf, Process}
 use Rattle.fak_kernel.proofs.Common.{Outcome, Ended, Halted, RowOf, ReportOf, IsSortedByName, rows_with, sleepers_outcome, FitsRow, notes, shuts_of, JoinedTo, ObjectsOf, AreFor, ids_of, AreSeated, row_as, files_of, AreGathered, FilesJoined, AreClosed, IsSleeper, IsWholeAt, left_at, rows_left, shut_lines, ◌≡◌, ℕ, zero, suc, ◌+◌, ◌-◌, ◌<◌, ◌≤◌, nat_lt, Bool, true, false, List, [], ◌∷◌, ◌++◌, length, get_or, refl, ap, sym, ◌∙◌, subst, arith, append_assoc, map, slice_index, sum_by, flat_map, All, IsPermutation, All-nil, All-cons, All-head, All-tail, All-append, sum_by-append, IsPermutation-trans, contents, ObjectId, IsWhole, FileEntry, Mark, entries_after, IsSettled, SemId, SemInfo, SemTallyInfo, Gathered, asleep, lines, lines_of, rows_of, TalliesOf, AreTalliesOf, HaveNames, tallies_of, ids_of_tallies, no_tally, sum_by-map, sum_by-flat_map}
-use Rattle.fak_process.specs.Promises.{Promised, spawned_names}
-use Rattle.fak_process.specs.Reported as reported
-use Rattle.fak_process.specs.RunReports.{RunReports}
-use Rattle.fak_process.proofs.Permuting.{permuted}
-use Rattle.fak_process.proofs.SameRows.{same_row, same_row_is, same_row_self}
+use Rattle.fak_run.specs.Promises.{Promised, spawned_names}
+use Rattle.fak_run.specs.Reported as reported
+use Rattle.fak_run.specs.RunReports.{RunReports}
+use Rattle.fak_run.proofs.Permuting.{permuted}
+use Rattle.fak_run.proofs.SameRows.{same_row, same_row_is, same_row_self}
 use Rattle.fak_kernel.proofs.Naming.{is_whole}
-use Rattle.fak_process.proofs.Conserved.{lines_are}
+use Rattle.fak_run.proofs.Conserved.{lines_are}
 use Rattle.fak_kernel.proofs.Gathering.{AreWhole, gathered, histories_of}
-use Rattle.fak_process.proofs.Reports.{promised, lines_all}
+use Rattle.fak_run.proofs.Reports.{promised, lines_all}
 use Rattle.fak_kernel.proofs.ReportingFiles.{file_weight, file_lines_weigh, files_replay}
 
 -- ---- who sleeps
@@ -57,12 +57,13 @@ start_at (t ∷ ts) (suc s) below = start_at ts s (omega (arith, below))
 add_up : (all left rows slept ended others halted e h : ℕ) → all ≡ rows + slept → left ≡ others + slept → others ≡ ended + halted → ended ≡ e → halted ≡ h → e + h ≡ rows → all ≡ left
 add_up all left rows slept ended others halted e h a b c d f g = omega (arith, a, b, c, d, f, g)
 
+-- a tally of an object with a seat for each processor has them all
+pub whole_names : {k : ℕ} {object mine_object : ObjectId} {names : List ℕ} → mine_object ≡ object → object.seats ≡ k → JoinedTo k names → IsWhole mine_object.seats names
+whole_names {k} {object} {mine_object} {names} same seats j = subst (λ (n : ℕ). IsWhole n names) (sym (ap (λ (i : ObjectId). i.seats) same ∙ seats)) (is_whole k names j)
+
 module _ {script : ScriptOf} {o : ObjectsOf} {k : ℕ} {t : TalliesOf} {ended halted slept : List Process} (for_it : AreFor script o) (seated : AreSeated k o) (a : AreGathered script o k t ended halted) (c : AreClosed script t.semaphores slept) where
   count : length t.semaphores ≡ length script.semaphores
   count = sym (length-map t.semaphores (λ (s : SemTallyInfo Process). s.object)) ∙ (ap length a.are.semaphores ∙ (length-map o.semaphores (λ (s : SemInfo). s.object) ∙ for_it.semaphores))
-
-  whole_names : {object mine_object : ObjectId} {names : List ℕ} → mine_object ≡ object → object.seats ≡ k → JoinedTo k names → IsWhole mine_object.seats names
-  whole_names {object} {mine_object} {names} same seats j = subst (λ (n : ℕ). IsWhole n names) (sym (ap (λ (i : ObjectId). i.seats) same ∙ seats)) (is_whole k names j)
 
   -- a semaphore's tally has as many seats as there are processors
   seats_at : (ts : List (SemTallyInfo Process)) (os : List SemInfo) → ids_of_tallies ts ≡ ids_of os → All (λ (s : SemInfo). s.object.credit.seats ≡ k) os → All (λ (s : SemInfo). s.object.queue.seats ≡ k) os → (s : ℕ) → s < length ts
@@ -194,12 +195,3 @@ whole_each {o} {k} {t} are seated names = each t.semaphores o.semaphores are.sem
         let seats : u.object.credit.seats ≡ k = ap (λ (i : SemId). i.credit.seats) first ∙ credits 0 o (omega arith) in
         All-cons IsWholeAt u ts (subst (λ (n : ℕ). IsWhole n u.names) (sym seats) (is_whole k u.names (joins 0 u (omega arith))))
         (each ts os others (λ i d low. credits (suc i) d (omega (arith, low))) (λ i d low. joins (suc i) d (omega (arith, low))))
-
-pub whole_ready : {o : ObjectsOf} {k : ℕ} {t : TalliesOf} → AreTalliesOf o t → AreSeated k o → HaveNames k t → IsWhole t.ready.object.seats t.ready.names
-whole_ready {o} {k} {t} are seated names = subst (λ (n : ℕ). IsWhole n t.ready.names) (sym (ap (λ (i : ObjectId). i.seats) are.ready ∙ seated.ready)) (is_whole k t.ready.names names.ready)
-
-pub whole_free : {o : ObjectsOf} {k : ℕ} {t : TalliesOf} → AreTalliesOf o t → AreSeated k o → HaveNames k t → IsWhole t.free.object.seats t.free.names
-whole_free {o} {k} {t} are seated names = subst (λ (n : ℕ). IsWhole n t.free.names) (sym (ap (λ (i : ObjectId). i.seats) are.free ∙ seated.free)) (is_whole k t.free.names names.free)
-
-pub whole_files : {o : ObjectsOf} {k : ℕ} {t : TalliesOf} → AreTalliesOf o t → AreSeated k o → HaveNames k t → IsWhole t.files.object.seats t.files.names
-whole_files {o} {k} {t} are seated names = subst (λ (n : ℕ). IsWhole n t.files.names) (sym (ap (λ (i : ObjectId). i.seats) are.files ∙ seated.files)) (is_whole k t.files.names names.files)

@@ -1,9 +1,10 @@
 -- From the lines of the joined seats of the file table to the report.
 use Rattle.fak_kernel.proofs.Common.{free_entry, ReportOf, FileHold, hold_line, gather_from, FilesJoined, ◌≡◌, ℕ, zero, suc, ◌+◌, ◌≤◌, Bool, true, false, cond, List, [], ◌∷◌, ◌++◌, refl, ap, sym, ◌∙◌, subst, arith, map, replicate, sum_by, map-append, sum_by-cons, IsPermutation-map, sum_by-IsPermutation, TallyInfo, FileEntry, FileMark, entries_after, NoteOf}
-use Rattle.fak_process.specs.Replays.{Replays}
-use Rattle.fak_process.specs.Merging.{AreMerged}
-use Rattle.fak_process.specs.Reported.{is_file_line, file_lines, lines_of, FilesReplay}
-use Rattle.fak_process.proofs.Scan.{holds_replay}
+use Rattle.fak_run.specs.Replays.{Replays}
+use Rattle.fak_run.specs.Merging.{AreMerged}
+use Rattle.fak_run.specs.Reported.{is_file_line, file_lines, lines_of, FilesReplay}
+use Rattle.fak_run.proofs.Scan.{holds_replay}
+use Rattle.fak_processor.proofs.Fresh.{entries_fresh}
 
 -- what file lines weigh among all lines
 abbrev pub file_weight : (NoteOf → ℕ) → NoteOf → ℕ
@@ -28,10 +29,6 @@ lines-gathered : (holds : ℕ → List FileHold) (first n : ℕ) → map hold_li
 lines-gathered holds first zero = refl
 lines-gathered holds first (suc n) = map-append hold_line (holds first) (gather_from holds (suc first) n) ∙ ap (λ l. map hold_line (holds first) ++ l) (lines-gathered holds (suc first) n)
 
-free-entries : (first n : ℕ) → entries_after [] first n ≡ replicate n free_entry
-free-entries first zero = refl
-free-entries first (suc n) = ap (λ l. free_entry ∷ l) (free-entries (suc first) n)
-
 -- the lines of all seats, which weigh as the file lines of the report, replay to the entries that are left
 pub files_replay : {n k : ℕ} {t : TallyInfo FileMark} {lines : List NoteOf} (report : ReportOf) → 1 ≤ k → FilesJoined n k k t lines → report.entries ≡ entries_after t.seen 0 n
     → ((weight : NoteOf → ℕ) → sum_by weight lines ≡ sum_by (file_weight weight) (lines_of report)) → FilesReplay n report
@@ -43,5 +40,5 @@ files_replay {n} {k} {t} {lines} report some f entries weigh =
       as_often = λ weight.
           sum_by-IsPermutation weight (map hold_line (gather_from f.holds 0 k)) (map hold_line merged.list) permutation
           ∙ (ap (sum_by weight) (lines-gathered f.holds 0 k) ∙ (f.often weight ∙ (weigh weight ∙ sym (file_lines_weigh weight (lines_of report)))));
-      replays = subst (Replays (replicate n free_entry) (map hold_line merged.list)) (sym entries) (subst (λ (l : List FileEntry). Replays l (map hold_line merged.list) (entries_after t.seen 0 n)) (free-entries 0 n) merged.replays);
+      replays = subst (Replays (replicate n free_entry) (map hold_line merged.list)) (sym entries) (subst (λ (l : List FileEntry). Replays l (map hold_line merged.list) (entries_after t.seen 0 n)) (entries_fresh 0 n) merged.replays);
     }

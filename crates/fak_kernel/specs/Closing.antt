@@ -7,10 +7,10 @@ use Rattle.fak_sem.specs.Grants.{IsSettled}
 use Rattle.fak_sem.specs.Semaphores.{SemId, SemTallyInfo, seats_of}
 use Rattle.fak_text.specs.Script.{ScriptOf, down}
 use Rattle.fak_text.specs.Journal.{Process, FitsScript, StandsAt}
-use Rattle.fak_process.specs.declared.report.Outcome.TheVariants.{Ended, Halted}
-use Rattle.fak_process.specs.Report.{RowOf, rows_with, sleepers_outcome}
-use Rattle.fak_process.specs.Ledger.{shuts_of}
-use Rattle.fak_process.specs.Whole.{lines_of}
+use Rattle.fak_run.specs.declared.report.Outcome.TheVariants.{Ended, Halted}
+use Rattle.fak_run.specs.Report.{RowOf, rows_with, sleepers_outcome}
+use Rattle.fak_run.specs.Ledger.{shuts_of}
+use Rattle.fak_run.specs.Whole.{lines_of}
 use Rattle.fak_processor.specs.Joined.{ids_of_tallies}
 
 -- a process that sleeps fits the script and stands before a down

@@ -7,11 +7,11 @@ use Rattle.fak_model.specs.Histories.{AreNamed}
 use Rattle.fak_model.specs.File.{IsFileHistory, file_rules}
 use Rattle.fak_text.specs.Script.{ScriptOf}
 use Rattle.fak_text.specs.Journal.{NoteOf, Process}
-use Rattle.fak_process.specs.declared.report.Outcome.TheVariants.{Ended, Halted}
-use Rattle.fak_process.specs.Report.{RowOf}
-use Rattle.fak_process.specs.Holds.{FileHold, AreHolds, hold_line, gather_from}
-use Rattle.fak_process.specs.Reported.{AreAsOften}
-use Rattle.fak_process.specs.Ledger.{Ledger}
+use Rattle.fak_run.specs.declared.report.Outcome.TheVariants.{Ended, Halted}
+use Rattle.fak_run.specs.Report.{RowOf}
+use Rattle.fak_run.specs.Holds.{FileHold, AreHolds, hold_line, gather_from}
+use Rattle.fak_run.specs.Reported.{AreAsOften}
+use Rattle.fak_run.specs.Ledger.{Ledger}
 use Rattle.fak_processor.specs.Holding.{Have}
 use Rattle.fak_processor.specs.Moving.{files_of, row_as}
 use Rattle.fak_processor.specs.Processors.{ObjectsOf, ProcessorOf}

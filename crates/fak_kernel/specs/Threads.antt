@@ -1,10 +1,10 @@
 -- What is known of the processors of a run when their threads begin, and of what each answers.
 use Rattle.std.specs.Prelude.{◌≡◌, ◌⊎◌, ℕ, ◌<◌, Bool, true, List, [], ◌∷◌, Option, Some, None, Result, Ok, Err, IfOk, IfErr, IfSome}
 use Rattle.fak_text.specs.Script.{ScriptOf}
-use Rattle.fak_process.specs.declared.fault.Fault.{Fault}
-use Rattle.fak_process.specs.declared.fault.Fault.TheVariants.{Memory, NoThread, Gate}
+use Rattle.fak_run.specs.declared.fault.Fault.{Fault}
+use Rattle.fak_run.specs.declared.fault.Fault.TheVariants.{Memory, NoThread, Gate}
 use Rattle.fak_processor.specs.Faults.{IsOfLoop, IsRefused}
-use Rattle.fak_process.specs.ListScheduler.{turn_over}
+use Rattle.fak_run.specs.ListScheduler.{turn_over}
 use Rattle.fak_processor.specs.Processors.{ObjectsOf, ProcessorOf, IsReached, lists_of}
 use Rattle.fak_processor.specs.Begun.{Between, IsLeftBy}
 

@@ -1,26 +1,25 @@
 //! How a run ends: the seats of all processors are joined, the objects are closed, and what is left is reported.
 
 ghost use Rattle.std.specs.Prelude.{◌≡◌, ◌<◌, ◌≤◌, [], ℕ, vec_len, slice_index_or, IfOk, IfErr};
-ghost use Rattle.fak_process.specs.ListScheduler.{turn_over};
-ghost use Rattle.fak_process.specs.Report.{ListSchedulerReports};
-ghost use Rattle.fak_process.specs.RunReports.{RunReports};
+ghost use Rattle.fak_run.specs.ListScheduler.{turn_over};
+ghost use Rattle.fak_run.specs.Report.{ListSchedulerReports};
+ghost use Rattle.fak_run.specs.RunReports.{RunReports};
 ghost use Rattle.fak_processor.specs.Processors.{AreFor, IsReached, ProcessorOf, lists_of};
 ghost use Rattle.fak_processor.specs.Opened.{AreSeated};
 ghost use Rattle.fak_processor.specs.Begun.{IsLeftBy};
-ghost use Rattle.fak_process.specs.Told.{told_report};
-ghost use Rattle.fak_process.specs.Views.{report_of};
+ghost use Rattle.fak_run.specs.Told.{told_report};
+ghost use Rattle.fak_run.specs.Views.{report_of};
 
 pub mod closing;
 pub mod gathering;
 pub mod joining;
 pub mod reporting;
 
-use closing::{Remains, close};
-use fak_process::{Fault, Report, Run};
+use closing::close;
 use fak_processor::{Objects, Processor};
+use fak_run::{Fault, Report, Run};
 use fak_text::Script;
 use gathering::gather;
-use joining::Joined;
 use reporting::{report_with, rows_of};
 use std::alloc::Global;
 
@@ -40,28 +39,18 @@ pub(crate) fn report_of_run<K: Run>(
     requires made { AreFor K.script objects }
     requires seated { AreSeated (vec_len left) objects }
     requires some { 1 ≤ vec_len left }
-    requires left { (i : ℕ) (d : ProcessorOf) → i < vec_len left → IsLeftBy K.script objects i (slice_index_or left.items i d) }
+    requires left { (i : ℕ) (d : ProcessorOf) → i < vec_len left
+        → IsLeftBy K.script objects i (slice_index_or left.items i d) }
     ensures general { IfOk result (λ report. RunReports K.script (told_report K.script (report_of report))) }
     ensures alone { vec_len left ≡ 1 → ((d : ProcessorOf)
-        → IsReached K.script (slice_index_or left.items 0 d) (turn_over (lists_of K.script (slice_index_or left.items 0 d)))
+        → IsReached K.script (slice_index_or left.items 0 d)
+        (turn_over (lists_of K.script (slice_index_or left.items 0 d)))
         × ((lists_of K.script (slice_index_or left.items 0 d)).ready ≡ [])) → (d : ProcessorOf)
         → IfOk result (λ report. ListSchedulerReports K.script (told_report K.script (report_of report))) }
     ensures memory { IfErr result (λ fault. fault ≡ Fault.Memory) }
 {
-    let Joined { tallies, processes } = match gather(alloc, &objects, left) {
-        Ok(all) => all,
-        Err(fault) => {
-            drop(objects);
-            return Err(fault);
-        }
-    };
-    let Remains { asleep, entries } = match close(alloc, objects, tallies, script.files()) {
-        Ok(remains) => remains,
-        Err(fault) => {
-            drop(processes);
-            return Err(fault);
-        }
-    };
-    let rows = rows_of(alloc, processes, asleep)?;
-    Ok(report_with(script, rows, entries))
+    let all = gather(alloc, &objects, left)?;
+    let remains = close(alloc, objects, all.tallies, script.files())?;
+    let rows = rows_of(alloc, all.ended, all.halted, remains.asleep)?;
+    Ok(report_with(script, rows, remains.entries))
 }

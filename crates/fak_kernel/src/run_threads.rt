@@ -2,21 +2,21 @@
 
 ghost use Rattle.std.specs.Prelude.{◌≡◌, ◌<◌, ℕ, Err, vec_len, slice_index_or, IfOk, IfErr};
 ghost use Rattle.fak_processor.specs.Opened.{AreProcessors};
-ghost use Rattle.fak_process.specs.Report.{ListSchedulerReports};
-ghost use Rattle.fak_process.specs.ReportText.{ListSchedulerPrints, RunPrints};
-ghost use Rattle.fak_process.specs.RunReports.{RunReports};
+ghost use Rattle.fak_run.specs.Report.{ListSchedulerReports};
+ghost use Rattle.fak_run.specs.ReportText.{ListSchedulerPrints, RunPrints};
+ghost use Rattle.fak_run.specs.RunReports.{RunReports};
 ghost use Rattle.fak_processor.specs.Processors.{AreFor, ProcessorOf};
 ghost use Rattle.fak_kernel.specs.Threads.{HasBegun, HasLeft, IsOfRun, OneIsRefused};
-ghost use Rattle.fak_process.specs.Told.{told_report};
-ghost use Rattle.fak_process.specs.Views.{report_of};
+ghost use Rattle.fak_run.specs.Told.{told_report};
+ghost use Rattle.fak_run.specs.Views.{report_of};
 
 mod answering;
 mod leaving;
 
 use crate::ending::report_of_run;
 use answering::all_left;
-use fak_process::{Fault, Printed, Report, Run, print_brief, told_in_full};
-use fak_processor::{Gate, Objects, Opened, Processor, open_run};
+use fak_processor::{Gate, Objects, Processor, open_run};
+use fak_run::{Fault, Printed, Report, Run, print_brief, told_in_full};
 use fak_text::Script;
 use leaving::leave_all;
 use std::alloc::Global;
@@ -25,7 +25,7 @@ use std::sync::Wait;
 use std::thread::Threads;
 
 /// The most processors of a run.
-const MOST_PROCESSORS: u64 = 8;
+pub const MOST_PROCESSORS: u64 = 8;
 
 /// Runs a script on 1 to 8 processors, each in a thread of its own. A processor passes the gate before each look at
 /// the ready queue. On one processor the report is the list scheduler's.
@@ -49,10 +49,7 @@ pub fn run<G: Gate + Sync>(
     ensures refused { IfErr result (λ fault. fault ≡ Fault.Gate → OneIsRefused processors (G.answers gate.now)) }
 {
     let brief = run_briefly(rt, alloc, script, processors, gate)?;
-    match told_in_full(alloc, script, brief) {
-        Ok(report) => Ok(report),
-        Err(fault) => Err(fault),
-    }
+    told_in_full(alloc, script, brief)
 }
 
 /// Runs a script as `run` does. Returns the report as text, without building a `Report`.
@@ -68,16 +65,14 @@ pub fn run_to_text<G: Gate + Sync>(
     gate: &G,
 ) -> Result<Printed, Fault>
     ensures report { IfOk result (λ printed. RunPrints script.now printed.text.items printed.status) }
-    ensures one { processors ≡ 1 → IfOk result (λ printed. ListSchedulerPrints script.now printed.text.items printed.status) }
+    ensures one { processors ≡ 1 → IfOk result (λ printed. ListSchedulerPrints script.now printed.text.items
+        printed.status) }
     ensures outside { (AreProcessors processors → ⊥) → result ≡ Err Fault.BadProcessors }
     ensures fault { AreProcessors processors → IfErr result (λ fault. IsOfRun (G.refuses gate.now) fault) }
     ensures refused { IfErr result (λ fault. fault ≡ Fault.Gate → OneIsRefused processors (G.answers gate.now)) }
 {
     let brief = run_briefly(rt, alloc, script, processors, gate)?;
-    match print_brief(alloc, script, &brief) {
-        Ok(printed) => Ok(printed),
-        Err(fault) => Err(fault),
-    }
+    print_brief(alloc, script, &brief)
 }
 
 /// The report, with its said texts left out.
@@ -89,7 +84,8 @@ fn run_briefly<G: Gate + Sync, R: Threads + Wait + Sync>(
     gate: &G,
 ) -> Result<Report, Fault>
     ensures report { IfOk result (λ brief. RunReports script.now (told_report script.now (report_of brief))) }
-    ensures one { processors ≡ 1 → IfOk result (λ brief. ListSchedulerReports script.now (told_report script.now (report_of brief))) }
+    ensures one { processors ≡ 1 → IfOk result (λ brief. ListSchedulerReports script.now
+        (told_report script.now (report_of brief))) }
     ensures outside { (AreProcessors processors → ⊥) → result ≡ Err Fault.BadProcessors }
     ensures fault { AreProcessors processors → IfErr result (λ fault. IsOfRun (G.refuses gate.now) fault) }
     ensures refused { IfErr result (λ fault. fault ≡ Fault.Gate → OneIsRefused processors (G.answers gate.now)) }
@@ -111,28 +107,15 @@ fn run_as<K: Run + Send + Sync, G: Gate + Sync, R: Threads + Wait + Sync>(
     requires script { script.now ≡ K.script }
     requires processors { AreProcessors processors }
     ensures report { IfOk result (λ report. RunReports K.script (told_report K.script (report_of report))) }
-    ensures alone { processors ≡ 1 → IfOk result (λ report. ListSchedulerReports K.script (told_report K.script (report_of report))) }
+    ensures alone { processors ≡ 1 → IfOk result (λ report. ListSchedulerReports K.script
+        (told_report K.script (report_of report))) }
     ensures fault { IfErr result (λ fault. IsOfRun (G.refuses gate.now) fault) }
     ensures refused { IfErr result (λ fault. fault ≡ Fault.Gate → OneIsRefused processors (G.answers gate.now)) }
 {
-    let Opened {
-        objects,
-        processors: all,
-    } = match open_run::<K, R>(rt, alloc, script, processors) {
-        Ok(opened) => opened,
-        Err(fault) => return Err(fault),
-    };
-    let left = match work_all(rt, alloc, script, &objects, gate, processors, all) {
-        Ok(left) => left,
-        Err(fault) => {
-            drop(objects);
-            return Err(fault);
-        }
-    };
-    match report_of_run(alloc, script, objects, left) {
-        Ok(report) => Ok(report),
-        Err(fault) => Err(fault),
-    }
+    let opened = open_run::<K, R>(rt, alloc, script, processors)?;
+    let all = opened.processors;
+    let left = work_all(rt, alloc, script, &opened.objects, gate, processors, all)?;
+    report_of_run(alloc, script, opened.objects, left)
 }
 
 /// All processors work, each in a thread of its own, until they leave.
@@ -148,7 +131,8 @@ fn work_all<K: Run + Send + Sync, G: Gate + Sync, R: Threads + Wait + Sync>(
     requires script { script.now ≡ K.script }
     requires made { AreFor K.script objects.now }
     requires len { vec_len all ≡ processors }
-    requires begun { (i : ℕ) (d : _) → i < vec_len all → HasBegun K.script objects.now processors i (slice_index_or all.items i d) }
+    requires begun { (i : ℕ) (d : _) → i < vec_len all
+        → HasBegun K.script objects.now processors i (slice_index_or all.items i d) }
     ensures len { IfOk result (λ left. vec_len left ≡ vec_len all) }
     ensures left { IfOk result (λ left. (i : ℕ) (d : ProcessorOf) → i < vec_len left
         → HasLeft K.script objects.now processors i (slice_index_or left.items i d)) }
@@ -156,8 +140,5 @@ fn work_all<K: Run + Send + Sync, G: Gate + Sync, R: Threads + Wait + Sync>(
     ensures refused { IfErr result (λ fault. fault ≡ Fault.Gate → OneIsRefused processors (G.answers gate.now)) }
 {
     let answers = leave_all(rt, alloc, script, objects, gate, processors, all)?;
-    match all_left(alloc, answers) {
-        Ok(left) => Ok(left),
-        Err(fault) => Err(fault),
-    }
+    all_left(alloc, answers)
 }

@@ -4,16 +4,16 @@ ghost use Rattle.std.specs.Prelude.{◌≡◌, ◌<◌, vec_len, slice_index_or,
 ghost use Rattle.fak_processor.specs.Faults.{IsOfStep};
 ghost use Rattle.fak_processor.specs.Opened.{AreSeated};
 ghost use Rattle.fak_processor.specs.Processors.{AreFor, ProcessorOf};
-ghost use Rattle.fak_process.specs.Report.{ListSchedulerReports};
-ghost use Rattle.fak_process.specs.ReportText.{ListSchedulerPrints, RunPrints};
-ghost use Rattle.fak_process.specs.RunReports.{RunReports};
+ghost use Rattle.fak_run.specs.Report.{ListSchedulerReports};
+ghost use Rattle.fak_run.specs.ReportText.{ListSchedulerPrints, RunPrints};
+ghost use Rattle.fak_run.specs.RunReports.{RunReports};
 ghost use Rattle.fak_kernel.specs.Threads.{HasBegun, HasLeft};
-ghost use Rattle.fak_process.specs.Told.{told_report};
-ghost use Rattle.fak_process.specs.Views.{report_of};
+ghost use Rattle.fak_run.specs.Told.{told_report};
+ghost use Rattle.fak_run.specs.Views.{report_of};
 
 use crate::ending::report_of_run;
-use fak_process::{Fault, Printed, Report, Run, print_brief, told_in_full};
-use fak_processor::{FreeGate, Objects, Opened, Processor, open_run};
+use fak_processor::{FreeGate, Objects, Processor, open_run};
+use fak_run::{Fault, Printed, Report, Run, print_brief, told_in_full};
 use fak_text::Script;
 use std::alloc::Global;
 use std::marker::Brand;
@@ -30,10 +30,7 @@ pub fn run_one(rt: &impl Wait, alloc: Global, script: &Script) -> Result<Report,
     ensures fault { IfErr result (λ fault. IsOfStep fault) }
 {
     let brief = run_alone::<Brand, _>(rt, alloc, script)?;
-    match told_in_full(alloc, script, brief) {
-        Ok(report) => Ok(report),
-        Err(fault) => Err(fault),
-    }
+    told_in_full(alloc, script, brief)
 }
 
 /// Runs a script on one processor. Returns the report as text, without building a `Report`.
@@ -47,10 +44,7 @@ pub fn run_one_to_text(rt: &impl Wait, alloc: Global, script: &Script) -> Result
     ensures fault { IfErr result (λ fault. IsOfStep fault) }
 {
     let brief = run_alone::<Brand, _>(rt, alloc, script)?;
-    match print_brief(alloc, script, &brief) {
-        Ok(printed) => Ok(printed),
-        Err(fault) => Err(fault),
-    }
+    print_brief(alloc, script, &brief)
 }
 
 /// The report, with its said texts left out.
@@ -60,24 +54,10 @@ fn run_alone<K: Run, R: Wait>(rt: &R, alloc: Global, script: &Script) -> Result<
     ensures conserved { IfOk result (λ report. RunReports K.script (told_report K.script (report_of report))) }
     ensures fault { IfErr result (λ fault. IsOfStep fault) }
 {
-    let Opened {
-        objects,
-        processors,
-    } = match open_run::<K, R>(rt, alloc, script, 1) {
-        Ok(opened) => opened,
-        Err(fault) => return Err(fault),
-    };
-    let left = match leave_alone(rt, alloc, script, &objects, processors) {
-        Ok(left) => left,
-        Err(fault) => {
-            drop(objects);
-            return Err(fault);
-        }
-    };
-    match report_of_run(alloc, script, objects, left) {
-        Ok(report) => Ok(report),
-        Err(fault) => Err(fault),
-    }
+    let opened = open_run::<K, R>(rt, alloc, script, 1)?;
+    let only = opened.processors;
+    let left = leave_alone(rt, alloc, script, &opened.objects, only)?;
+    report_of_run(alloc, script, opened.objects, left)
 }
 
 /// The only processor works until it leaves.
@@ -94,7 +74,8 @@ fn leave_alone<K: Run, R: Wait>(
     requires one { vec_len only ≡ 1 }
     requires begun { (d : ProcessorOf) → HasBegun K.script objects.now 1 0 (slice_index_or only.items 0 d) }
     ensures one { IfOk result (λ left. vec_len left ≡ 1) }
-    ensures left { IfOk result (λ left. (d : ProcessorOf) → HasLeft K.script objects.now 1 0 (slice_index_or left.items 0 d)) }
+    ensures left { IfOk result (λ left. (d : ProcessorOf)
+        → HasLeft K.script objects.now 1 0 (slice_index_or left.items 0 d)) }
     ensures fault { IfErr result (λ fault. IsOfStep fault) }
 {
     let mut only = only;

@@ -1,7 +1,7 @@
 //! Gates that hold a processor until another one is somewhere, and refuse it where that does not come. Each is its two
 //! methods.
 
-use fak_kernel::Gate;
+use fak_kernel::{Gate, MOST_PROCESSORS};
 use std::hint::spin_loop;
 use std::sync::atomic::{AtomicBool, Ordering};
 
@@ -136,19 +136,22 @@ impl Gate for Refusing {
     }
 }
 
-/// Refuses the first pass of one processor once another one has come to its own, and each processor that looks so often
-/// that the others must have been left alone.
+/// Refuses the first pass of one processor once another one has come to its own, where that one waits for it. Refuses each
+/// processor that looks so often that the others must have been left alone. Where no processor has the number, nobody waits.
 #[derive(Drop)]
 pub(super) struct Late {
     refused: u64,
+    has_come: Flag,
     has_begun: Flag,
     is_left_alone: Flag,
 }
 
 impl Late {
     pub(super) fn new(refused: u64, turns: u64) -> Late {
+        let is_anybody_refused = refused < MOST_PROCESSORS;
         Late {
             refused,
+            has_come: Flag::new(if is_anybody_refused { turns } else { 0 }),
             has_begun: Flag::new(turns),
             is_left_alone: Flag::new(0),
         }
@@ -167,8 +170,12 @@ impl Gate for Late {
 
     fn pass(&self, processor: u64, step: u64) -> bool {
         if processor == self.refused {
+            self.has_come.set();
             self.has_begun.wait();
             return false;
+        }
+        if step == 0 {
+            self.has_come.wait();
         }
         self.has_begun.set();
         if step < MOST_LOOKS {

@@ -50,6 +50,10 @@ pub record Leaves {M W C P S H : Type 0} (object : Object M W C P S H) (m : Me H
   pub named : AreNamed object.rules object.seats (reverse (new ++ past))
   pub told : tells past
 
+-- a step that tells nothing of the past
+abbrev pub TellsNothing : {M : Type 0} → List M → Type 0
+TellsNothing past = Unit {0}
+
 -- a load after a join: the view is told what the join compared
 pub record Hears {M W C P S H : Type 0} (object : Object M W C P S H) (m after : Me H (View M P)) : Type 0 where
   pub after_is : after ≡ (settled m.0, m.1)

@@ -7,8 +7,8 @@ ghost use Rattle.fak_text.specs.ScheduleText.{third_within, third, without_numbe
 ghost use Rattle.fak_places.specs.Named.{room_act, queue_act, act_named};
 
 use crate::asked::{Wrong, element, outside, whole};
-use crate::values::{count, nth_number, nth_text};
-use fak_text::Object;
+use crate::values::count;
+use fak_text::{Object, number_at, text_at};
 use serde_json::Value;
 
 const MOST_AMOUNT: u64 = 1_024;
@@ -109,13 +109,13 @@ pub(crate) fn wrong_event(object: Object, value: &Value) -> Option<Wrong>
     let Some(items) = value.as_array() else {
         return Some(whole("an event is an array of two or three elements"));
     };
-    if nth_number(value, 0).is_none() {
+    if number_at(value, 0).is_none() {
         return Some(element(0, "a seat is a whole number"));
     }
-    let Some(name) = nth_text(value, 1) else {
+    let Some(name) = text_at(value, 1) else {
         return Some(element(1, "an operation is a text"));
     };
-    wrong_act(object, name, count(items), nth_number(value, 2))
+    wrong_act(object, name, count(items), number_at(value, 2))
 }
 
 /// The index of the first event that is wrong.

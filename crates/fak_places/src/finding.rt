@@ -11,12 +11,10 @@ use crate::mark::{first_wrong_mark, wrong_mark};
 use crate::place::{Place, shown, value_at};
 use crate::script::{hint_in_programs, hint_in_semaphores, hint_in_start};
 use crate::values::elements_of_key;
-use fak_model::LONGEST_STINT;
-use fak_text::{Field, Object, TextFault, read_history, read_schedule, read_script};
+use fak_model::{LARGEST_BOUND, LARGEST_SIZE, LONGEST_STINT};
+use fak_text::{Field, LARGEST_INPUT, Object, TextFault, read_history, read_schedule, read_script};
 use serde_json::Value;
 use std::alloc::{AllocError, Global};
-
-const MOST_BYTES: usize = 1_048_576;
 
 /// The formats of inputs.
 #[derive(Clone, Copy, Debug, PartialEq, Eq)]
@@ -77,8 +75,8 @@ fn asked_of_key(key: Field) -> Asked {
     match key {
         Field::Input => Asked::Words("an input is an object of at most 1048576 bytes"),
         Field::Object => Asked::Words("an object is \"room\" or \"queue\""),
-        Field::Bound => Asked::Within("a room's bound", 0, 4_294_967_296),
-        Field::Size => Asked::Within("a queue's size", 1, 4_096),
+        Field::Bound => Asked::Within("a room's bound", 0, LARGEST_BOUND),
+        Field::Size => Asked::Within("a queue's size", 1, LARGEST_SIZE),
         Field::Seats => Asked::Within("the number of seats", 1, 64),
         Field::Events => Asked::Words("this is an array of at most 16384 events"),
         Field::Marks => Asked::Words("this is an array of at most 4096 marks"),
@@ -166,7 +164,7 @@ fn place_of_fault(
     ensures { IfOk result (λ place. (place.fault ≡ fault) × (place.key ≡ key_of (list_of format) fault)) }
 {
     let key = key_of_fault(format, fault);
-    if bytes.len() > MOST_BYTES {
+    if bytes.len() > LARGEST_INPUT {
         return Ok(Place {
             fault,
             key,

@@ -7,7 +7,8 @@ ghost use Rattle.fak_text.specs.HistoryText.{is_complete, kind_named, mark_from}
 ghost use Rattle.fak_places.specs.Named.{bears_named, is_whole_mark};
 
 use crate::asked::{Wrong, element, outside, whole};
-use crate::values::{count, nth_number, nth_text};
+use crate::values::count;
+use fak_text::{number_at, text_at};
 use serde_json::Value;
 
 const LAST_SEAT: u64 = 63;
@@ -65,10 +66,10 @@ pub(crate) fn wrong_mark(value: &Value) -> Option<Wrong>
     let Some(items) = value.as_array() else {
         return Some(whole("a mark is an array of two or three elements"));
     };
-    let Some(seat) = nth_number(value, 0) else {
+    let Some(seat) = number_at(value, 0) else {
         return Some(outside(0, "a seat", 0, LAST_SEAT));
     };
-    let Some(name) = nth_text(value, 1) else {
+    let Some(name) = text_at(value, 1) else {
         return Some(element(1, "a mark's name is a text"));
     };
     let Some(bears) = bears(name) else {
@@ -77,7 +78,7 @@ pub(crate) fn wrong_mark(value: &Value) -> Option<Wrong>
     if seat > LAST_SEAT {
         return Some(outside(0, "a seat", 0, LAST_SEAT));
     }
-    wrong_elements(bears, count(items), nth_number(value, 2))
+    wrong_elements(bears, count(items), number_at(value, 2))
 }
 
 /// The index of the first mark that is wrong.

@@ -7,7 +7,8 @@ ghost use Rattle.fak_text.specs.StepText.{is_printable, is_sayable, said_text, i
 ghost use Rattle.fak_places.specs.Named.{step_named, step_in};
 
 use crate::asked::{Wrong, element, outside, whole};
-use crate::values::{count, nth_number, nth_text};
+use crate::values::count;
+use fak_text::{number_at, text_at};
 use serde_json::Value;
 
 const MOST_CHARACTERS: usize = 80;
@@ -163,15 +164,15 @@ pub(crate) fn wrong_step(limits: Limits, value: &Value) -> Option<Wrong>
     let Some(items) = value.as_array() else {
         return Some(whole("a step is an array that begins with its name"));
     };
-    let Some(name) = nth_text(value, 0) else {
+    let Some(name) = text_at(value, 0) else {
         return Some(element(0, NAMES));
     };
     wrong_named(
         limits,
         name,
         count(items),
-        nth_text(value, 1),
-        nth_number(value, 1),
+        text_at(value, 1),
+        number_at(value, 1),
     )
 }
 

@@ -1,13 +1,13 @@
 -- How the calls on the shared objects make a seat's own marks grow.
-use Rattle.fak_processor.proofs.Common.{◌≡◌, ℕ, Bool, true, false, List, [], ◌∷◌, ◌++◌, length, refl, ap, sym, subst, arith, inl, inr, map, ℤ, pos, Some, None, sum_by, flat_map, append-nil, sum_by-append, Rules, SeatInfo, queue_rules, room_rules, credit_rules, value, put_of, got_of, Kind, Mark, RoomKind, Over, Back, RoomMark, CreditKind, Debit, Credit, CreditMark, SemInfo, SemSeatInfo, credit_part, queue_part, Downs, Ups, ScriptOf, Process, Ledger, Balanced, joined, Turning, Grows, Adds, balanced-joined}
-use Rattle.fak_model.specs.declared.queue.Kind.TheVariants.{NoRoom, OverIn, BackIn, NoItem, OverOut, BackOut, Closed, LateIn, Close}
+use Rattle.fak_processor.proofs.Common.{◌≡◌, ℕ, Bool, true, false, List, [], ◌∷◌, ◌++◌, length, refl, ap, sym, subst, arith, inl, inr, map, ℤ, Some, None, sum_by, flat_map, append-nil, sum_by-append, Rules, SeatInfo, queue_rules, room_rules, credit_rules, put_of, got_of, Kind, Mark, RoomKind, Over, Back, RoomMark, CreditKind, Debit, Credit, CreditMark, SemInfo, SemSeatInfo, credit_part, queue_part, Downs, Ups, ScriptOf, Process, Ledger, Balanced, joined, Turning, Grows, Adds, balanced-joined}
+use Rattle.fak_model.specs.declared.queue.Kind.TheVariants.{NoItem, OverOut, BackOut, Close}
 use Rattle.fak_model.specs.Room as room
 use Rattle.fak_model.specs.Credit as credit
 use Rattle.fak_count.specs.Rooms as rooms
 use Rattle.fak_count.specs.Credits as credits
-use Rattle.fak_queue.proofs.Common.{made_by, Makes, Inserts, Deletes, RefusesFull, RefusesEmpty, RefusesClosed, ShutsAs, RefusedInsertion, NotIn, WithdrawnIn, ClosedIn, WithdrawnLate, RefusedDeletion, NotOut, WithdrawnOut, kinds_not_in, kinds_not_out, kinds_in, kinds_out}
-use Rattle.fak_processor.specs.Events.{full, empty, closed}
-use Rattle.fak_processor.specs.Holding.{Owns, queue_kind, Bundle, Leaves}
+use Rattle.fak_queue.proofs.Common.{made_by, Makes, Deletes, RefusesEmpty, ShutsAs, RefusedInsertion, NotIn, WithdrawnIn, ClosedIn, WithdrawnLate, RefusedDeletion, NotOut, WithdrawnOut, kinds_not_in, kinds_not_out, kinds_in, kinds_out}
+use Rattle.fak_processor.specs.Events.{empty}
+use Rattle.fak_processor.specs.Holding.{Owns, queue_kind, Bundle}
 use Rattle.fak_processor.proofs.Tallies.{owns_more}
 
 -- ---- a seat
@@ -22,20 +22,11 @@ made_kinds name (k ∷ kinds) = ap (λ l. k ∷ l) (made_kinds name kinds)
 pub grows_makes : {T : Type 0} {size : ℕ} {old new : SeatInfo (Mark T)} (kinds : List (Kind T)) → Makes size kinds old new → Grows (queue_rules size) queue_kind old new kinds
 grows_makes {old = old} kinds m = record { name = ap (λ s. s.name) m.same_seat; owns = λ before o. owns_more kinds m (made_kinds old.name kinds) o }
 
-pub grows_inserts : {T : Type 0} {size k : ℕ} {x : T} {old new : SeatInfo (Mark T)} → Inserts size k x old new → Grows (queue_rules size) queue_kind old new (kinds_in k x)
-grows_inserts {k = k} {x = x} i = grows_makes (kinds_in k x) i.makes
-
 pub grows_deletes : {T : Type 0} {size k : ℕ} {x : T} {old new : SeatInfo (Mark T)} → Deletes size k x old new → Grows (queue_rules size) queue_kind old new (kinds_out k x)
 grows_deletes {k = k} {x = x} d = grows_makes (kinds_out k x) d.makes
 
-pub grows_full : {T : Type 0} {size : ℕ} {upper : ℤ} {old new : SeatInfo (Mark T)} → RefusesFull size upper old new → (late : Bool) × Grows (queue_rules size) queue_kind old new (full late)
-grows_full r = elim r.makes [ inl m ↦ (false, grows_makes (NoRoom ∷ []) m) | inr m ↦ (true, grows_makes (OverIn ∷ BackIn ∷ []) m) ]
-
 pub grows_empty : {T : Type 0} {size : ℕ} {lower : ℤ} {old new : SeatInfo (Mark T)} → RefusesEmpty size lower old new → (late : Bool) × Grows (queue_rules size) queue_kind old new (empty late)
 grows_empty r = elim r.makes [ inl m ↦ (false, grows_makes (NoItem ∷ []) m) | inr m ↦ (true, grows_makes (OverOut ∷ BackOut ∷ []) m) ]
-
-pub grows_closed : {T : Type 0} {size : ℕ} (old new : SeatInfo (Mark T)) → RefusesClosed size old new → (late : Bool) × Grows (queue_rules size) queue_kind old new (closed late)
-grows_closed old new r = elim r [ inl m ↦ (false, grows_makes (Closed ∷ []) m) | inr m ↦ (true, grows_makes (LateIn ∷ BackIn ∷ []) m) ]
 
 pub grows_shuts : {T : Type 0} {size : ℕ} (b : Bool) (old new : SeatInfo (Mark T)) → ShutsAs size b old new → Grows (queue_rules size) queue_kind old new (Close ∷ [])
 grows_shuts true old new s = grows_makes (Close ∷ []) s.0
@@ -52,31 +43,30 @@ grows_credit {kind} c = record { name = ap (λ s. s.name) c.appends.same_seat; o
 
 -- ---- a semaphore
 
-pub refused_in_weighs : {T : Type 0} (f : T → ℕ) (rs : List RefusedInsertion) → (sum_by (put_of f) (flat_map kinds_not_in rs) ≡ 0) × (sum_by (got_of f) (flat_map kinds_not_in rs) ≡ 0)
-refused_in_weighs f [] = (refl, refl)
-refused_in_weighs f (r ∷ rs) =
-    let rest = refused_in_weighs f rs in
-    let p = sum_by-append (put_of f) (kinds_not_in r) (flat_map kinds_not_in rs) in
-    let g = sum_by-append (got_of f) (kinds_not_in r) (flat_map kinds_not_in rs) in
+-- refused calls put and get nothing
+abbrev WeighNothing : {T : Type 0} → (T → ℕ) → List (Kind T) → Type 0
+WeighNothing f kinds = (sum_by (put_of f) kinds ≡ 0) × (sum_by (got_of f) kinds ≡ 0)
+
+refused_weigh : {T R : Type 0} (kinds_of : R → List (Kind T)) (f : T → ℕ) → ((r : R) → WeighNothing f (kinds_of r)) → (rs : List R) → WeighNothing f (flat_map kinds_of rs)
+refused_weigh kinds_of f one [] = (refl, refl)
+refused_weigh kinds_of f one (r ∷ rs) =
+    let rest = refused_weigh kinds_of f one rs in
     let here = one r in
-    (omega (arith, rest.0, p, here.0), omega (arith, rest.1, g, here.1))
+    (omega (arith, rest.0, here.0, sum_by-append (put_of f) (kinds_of r) (flat_map kinds_of rs)), omega (arith, rest.1, here.1, sum_by-append (got_of f) (kinds_of r) (flat_map kinds_of rs)))
+
+pub refused_in_weighs : {T : Type 0} (f : T → ℕ) (rs : List RefusedInsertion) → WeighNothing f (flat_map kinds_not_in rs)
+refused_in_weighs f = refused_weigh kinds_not_in f one
   where
-    one : (r : RefusedInsertion) → (sum_by (put_of f) (kinds_not_in r) ≡ 0) × (sum_by (got_of f) (kinds_not_in r) ≡ 0)
+    one : (r : RefusedInsertion) → WeighNothing f (kinds_not_in r)
     one NotIn = (refl, refl)
     one WithdrawnIn = (refl, refl)
     one ClosedIn = (refl, refl)
     one WithdrawnLate = (refl, refl)
 
-pub refused_out_weighs : {T : Type 0} (f : T → ℕ) (rs : List RefusedDeletion) → (sum_by (put_of f) (flat_map kinds_not_out rs) ≡ 0) × (sum_by (got_of f) (flat_map kinds_not_out rs) ≡ 0)
-refused_out_weighs f [] = (refl, refl)
-refused_out_weighs f (r ∷ rs) =
-    let rest = refused_out_weighs f rs in
-    let p = sum_by-append (put_of f) (kinds_not_out r) (flat_map kinds_not_out rs) in
-    let g = sum_by-append (got_of f) (kinds_not_out r) (flat_map kinds_not_out rs) in
-    let here = one r in
-    (omega (arith, rest.0, p, here.0), omega (arith, rest.1, g, here.1))
+pub refused_out_weighs : {T : Type 0} (f : T → ℕ) (rs : List RefusedDeletion) → WeighNothing f (flat_map kinds_not_out rs)
+refused_out_weighs f = refused_weigh kinds_not_out f one
   where
-    one : (r : RefusedDeletion) → (sum_by (put_of f) (kinds_not_out r) ≡ 0) × (sum_by (got_of f) (kinds_not_out r) ≡ 0)
+    one : (r : RefusedDeletion) → WeighNothing f (kinds_not_out r)
     one NotOut = (refl, refl)
     one WithdrawnOut = (refl, refl)
 
@@ -120,7 +110,3 @@ turning_more {script} {l = l} m {before} {after} t a b = record {
   credits = λ s below. let c = a.credits s below in c.owns (l.credits s) (t.credits s below);
   waits = λ s below. let w = a.waits s below in w.owns (l.waits s) (t.waits s below);
 }
-
--- a processor that leaves with nothing in hand, where busy shows 0
-pub turning_leaves : {script : ScriptOf} {b : Bundle} {l : Ledger} → Turning script b l [] → value (length script.start) b.busy.seen ≡ pos 0 → Leaves script b l
-turning_leaves t shows = record { balanced = t.balanced; ready = t.ready; free = t.free; births = t.births; busy = t.busy; credits = t.credits; waits = t.waits; idle = shows }

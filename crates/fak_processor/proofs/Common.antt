@@ -12,30 +12,30 @@ pub use Rattle.fak_model.specs.declared.queue.Mark.{Mark}
 pub use Rattle.fak_model.specs.declared.room.RoomKind.{RoomKind}
 pub use Rattle.fak_model.specs.declared.room.RoomKind.TheVariants.{Over, Back, No, Up, Release}
 pub use Rattle.fak_model.specs.declared.room.RoomMark.{RoomMark}
-pub use Rattle.fak_process.proofs.Holding.{lines_none, lines_more, left_none, taken_of, made_by_sets}
-pub use Rattle.fak_process.proofs.Joining.{balanced-joined}
-pub use Rattle.fak_process.proofs.OnlyFiles.{got, keeps_files_then, keeps_files_all, all_read, waited_for, ended, changes_files, open_one, stored_only, sets_entry, found_at, close_one}
-pub use Rattle.fak_process.proofs.Storing.{stores_change, left_sets}
-pub use Rattle.fak_process.specs.Files.{free_entry, open_change, close_change, uses_of}
-pub use Rattle.fak_process.specs.Ledger.{Ledger, Balanced, nothing, joined, Made, Named, named, IsMade, FitsRow, not_before, its_down, before_down, other_down}
-pub use Rattle.fak_process.specs.ListScheduler.{next_step, turn_over, child_of, numbers_from, Turn, begun_from, Lists, enter_ready, first_lists, State, step, take_front}
-pub use Rattle.fak_process.specs.Making.{AreLines, HasMade, sets_of, HasJustTaken, Left}
-pub use Rattle.fak_process.specs.Only.{IsOnly}
-pub use Rattle.fak_process.specs.Report.{RowOf}
-pub use Rattle.fak_process.specs.Reported.{is_file_line, file_lines}
-pub use Rattle.fak_process.specs.Whole.{begun_names}
-pub use Rattle.fak_process.specs.declared.report.Outcome.TheVariants.{Ended, Halted}
+pub use Rattle.fak_run.proofs.Holding.{lines_none, lines_more, left_none, taken_of, made_by_sets}
+pub use Rattle.fak_run.proofs.Joining.{balanced-joined}
+pub use Rattle.fak_run.proofs.OnlyFiles.{got, keeps_files_then, keeps_files_all, all_read, waited_for, ended, changes_files, open_one, stored_only, sets_entry, found_at, close_one}
+pub use Rattle.fak_run.proofs.Storing.{stores_change, left_sets}
+pub use Rattle.fak_run.specs.Files.{free_entry, open_change, close_change, uses_of}
+pub use Rattle.fak_run.specs.Ledger.{Ledger, Balanced, nothing, joined, Made, Named, named, IsMade, FitsRow, not_before, its_down, before_down, other_down}
+pub use Rattle.fak_run.specs.ListScheduler.{next_step, turn_over, child_of, numbers_from, Turn, begun_from, Lists, enter_ready, first_lists, State, step, take_front}
+pub use Rattle.fak_run.specs.Making.{AreLines, HasMade, sets_of, HasJustTaken, Left}
+pub use Rattle.fak_run.specs.Only.{IsOnly}
+pub use Rattle.fak_run.specs.Report.{RowOf}
+pub use Rattle.fak_run.specs.Reported.{is_file_line, file_lines}
+pub use Rattle.fak_run.specs.Whole.{begun_names}
+pub use Rattle.fak_run.specs.declared.report.Outcome.TheVariants.{Ended, Halted}
 pub use Rattle.fak_processor.specs.Begun.{Between, empty_lists, Begins, FindsNoSlot, FindsSlot, StartsOne, begins}
 pub use Rattle.fak_processor.specs.Events.{empty, made_of, IsPlain, fills, steps, passes, parks, adds, wakes, spawns, lacks_birth, lacks_slot, waits_refused, shuts, refused_claim}
 pub use Rattle.fak_processor.specs.Holding.{Owns, queue_kind, Bundle, Weighs}
 pub use Rattle.fak_processor.specs.Joined.{no_seat, no_table}
-pub use Rattle.fak_processor.specs.Moving.{IsIdle, GrowsIn, GrowsAtLast, Gains, Moves, bundle_of, files_of, IsQuiet, GrowsShut, GrowsOut, GrowsEmpty, BeginsNone, row_as, GainsParked, GainsWoken, at_one, DownsAt, UpsAt, names_of, LeavesNone, hand_of, GrowsIdle, GrowsNone}
+pub use Rattle.fak_processor.specs.Moving.{IsIdle, GrowsIn, GrowsAtLast, Gains, Moves, bundle_of, files_of, IsQuiet, GrowsShut, GrowsOut, GrowsEmpty, BeginsNone, row_as, GainsParked, GainsWoken, at_one, DownsAt, UpsAt, names_of, LeavesNone, hand_of, GrowsIdle}
 pub use Rattle.fak_processor.specs.OnlyCounts.{IsOnlySem, semaphore_count, sleepers_of, IsOnlyRoom, Passes, Parks, Raises, Rouses, Claims, FindsFull, GivesBack}
 pub use Rattle.fak_processor.specs.OnlyQueues.{Enters, is_close, has_close, IsOnlySeat, Keeps, Bounces, Leaves, FindsNone, Shuts}
 pub use Rattle.fak_processor.specs.Opened.{dealt_to, fresh_rows, fresh_all, fresh_processor, zipped, IsSemaphoreFor, AreSeated, HasName, fresh_sem_at}
 pub use Rattle.fak_processor.specs.Processors.{ObjectsOf, ProcessorOf, AreFor, IsReached, lists_of, ids_of, AreOf, GoesTo, IsAlone, ids_of_seats, AtPlace, IsBorn, HasNoBirth, WakesNobody, WakesFirst, SleepsLast, CountFalls, HasNoSlot, TakesSlot, GoesOn}
 pub use Rattle.fak_processor.specs.Turning.{Grows, Turning, Adds}
-pub use Rattle.fak_queue.specs.Queues.{made_by, Makes, RefusesFull, RefusesClosed, RefusesEmpty, ShutsAs, state_of}
+pub use Rattle.fak_queue.specs.Queues.{made_by, Makes, RefusesEmpty, ShutsAs, state_of}
 pub use Rattle.fak_queue.specs.Retries.{kinds_in, kinds_out, kinds_not_in, kinds_not_out, RefusedInsertion, NotIn, WithdrawnIn, ClosedIn, WithdrawnLate, RefusedDeletion, NotOut, WithdrawnOut, InsertsAtLast, DeletesAtLast}
 pub use Rattle.fak_sem.specs.Semaphores.{SemInfo, SemSeatInfo, credit_part, queue_part, Downs, Ups, SemId, fresh_sem_seats}
 pub use Rattle.fak_text.proofs.Common.{ScriptOf, Process, FitsScript, StepOf, down, up, spawn, shutdown, NoteOf, downed, upped, spawned, no_birth, no_slot, shut_down, child_count, after_note, StandsAt, new_process, say, yield, open_file, close_file, stat, said, yielded, opened, closed, statted, Allows}

@@ -1,9 +1,9 @@
 -- Each kind of event of a turn keeps what balances.
 use Rattle.fak_model.proofs.Leading.{sum_none}
-use Rattle.fak_processor.proofs.Common.{child_of, next_step, RowOf, IsIdle, ◌≡◌, ℕ, ◌+◌, ◌<◌, ◌==◌, Bool, true, false, cond, List, [], ◌∷◌, ◌++◌, refl, ap, sym, ◌∙◌, subst, arith, None, sum_by, All, nat_tests, sum_by-append, All-nil, All-cons, sum_below, debit_weight, credit_weight, up_amount, release_amount, put_of, got_of, close_of, closed_of, refusal_of, other_amount, Kind, Debit, Credit, cond_here, cond_else, kinds_in, kinds_out, ScriptOf, StepOf, down, up, spawn, shutdown, NoteOf, downed, upped, spawned, no_birth, no_slot, shut_down, Process, child_count, after_note, FitsScript, Ledger, Made, Balanced, IsMade, FitsRow, nothing, not_before, its_down, before_down}
+use Rattle.fak_processor.proofs.Common.{child_of, next_step, RowOf, IsIdle, ◌≡◌, ℕ, ◌+◌, ◌<◌, ◌==◌, Bool, true, false, cond, List, [], ◌∷◌, ◌++◌, length, refl, ap, sym, ◌∙◌, subst, arith, None, sum_by, All, nat_tests, sum_by-append, All-nil, All-cons, sum_below, debit_weight, credit_weight, up_amount, release_amount, put_of, got_of, close_of, closed_of, refusal_of, other_amount, Kind, Debit, Credit, cond_here, cond_else, kinds_in, kinds_out, ScriptOf, StepOf, down, up, spawn, shutdown, NoteOf, downed, upped, spawned, no_birth, no_slot, shut_down, Process, child_count, after_note, FitsScript, Ledger, Made, Balanced, IsMade, FitsRow, nothing, not_before, its_down, before_down}
 use Rattle.fak_processor.specs.Events.{made_of, IsPlain, fills, takes, puts, halts, steps, passes, parks, adds, wakes, spawns, lacks_birth, lacks_slot, ends, waits_refused, shuts, closed, refused_claim}
 use Rattle.fak_processor.proofs.Moving.{quiet_empty, idle_closed}
-use Rattle.fak_process.proofs.Sums.{sum_at}
+use Rattle.fak_run.proofs.Sums.{sum_at}
 
 -- no wait queue
 pub none_waits : (n : ℕ) → sum_below (λ (s : ℕ). 0) n ≡ 0
@@ -77,13 +77,14 @@ module _ (script : ScriptOf) (n : ℕ) where
   one_row : (r : RowOf) → FitsRow script r → All (FitsRow script) (r ∷ [])
   one_row r fits = All-cons (FitsRow script) r [] fits (All-nil (FitsRow script))
 
-  -- a first slot
-  pub keeps_fills : (k slot : ℕ) → Balanced script n [] [] (fills k slot)
-  keeps_fills k slot = record {
-    processes = quiet.processes;
-    slots = λ g. omega arith;
+  -- what only the free queue saw, and who was started with no line yet
+  pub by_free : {after : List Process} (kinds : List (Kind ℕ)) (first : List ℕ) (begun : List Process) → ((g : ℕ → ℕ) → sum_by (put_of g) kinds + sum_by (λ p. g p.slot) begun ≡ sum_by (got_of g) kinds + sum_by g first)
+      → ((f : Process → ℕ) → sum_by f begun ≡ sum_by f after) → sum_by (λ p. length p.journal) begun ≡ 0 → Balanced script n [] after (record nothing { free = kinds; first = first; begun = begun })
+  by_free kinds first begun slots hand new = record {
+    processes = λ f. omega (arith, none_waits n, hand f);
+    slots = λ g. omega (arith, slots g);
     children = quiet.children;
-    new = quiet.new;
+    new = omega (arith, new);
     births = quiet.births;
     busy = quiet.busy;
     semaphores = quiet.semaphores;
@@ -92,35 +93,31 @@ module _ (script : ScriptOf) (n : ℕ) where
     rows = quiet.rows;
   }
 
-  -- a process is taken
-  pub keeps_takes : (k : ℕ) (p : Process) → Balanced script n [] (p ∷ []) (takes k p)
-  keeps_takes k p = record {
-    processes = λ f. omega (arith, none_waits n);
+  -- what only the ready queue saw
+  pub by_ready : {before after : List Process} (kinds : List (Kind Process)) → ((f : Process → ℕ) → sum_by (put_of f) kinds + sum_by f after ≡ sum_by (got_of f) kinds + sum_by f before)
+      → sum_by close_of kinds ≡ 0 → sum_by closed_of kinds ≡ 0 → Balanced script n before after (record nothing { ready = kinds })
+  by_ready kinds weighs closes closeds = record {
+    processes = λ f. omega (arith, none_waits n, weighs f);
     slots = quiet.slots;
     children = quiet.children;
     new = quiet.new;
     births = quiet.births;
     busy = quiet.busy;
     semaphores = quiet.semaphores;
-    shutdown = record { shuts = refl; halts = refl; no_stuck = refl };
+    shutdown = record { shuts = closes; halts = sym closeds; no_stuck = quiet.shutdown.no_stuck };
     made = quiet.made;
     rows = quiet.rows;
   }
 
-  -- a process is put
+  -- a first slot; a process is taken, and put
+  pub keeps_fills : (k slot : ℕ) → Balanced script n [] [] (fills k slot)
+  keeps_fills k slot = by_free (kinds_in k slot) (slot ∷ []) [] (λ g. omega arith) (λ f. refl) refl
+
+  pub keeps_takes : (k : ℕ) (p : Process) → Balanced script n [] (p ∷ []) (takes k p)
+  keeps_takes k p = by_ready (kinds_out k p) (λ f. omega arith) refl refl
+
   pub keeps_puts : (k : ℕ) (p : Process) → Balanced script n (p ∷ []) [] (puts k p)
-  keeps_puts k p = record {
-    processes = λ f. omega (arith, none_waits n);
-    slots = quiet.slots;
-    children = quiet.children;
-    new = quiet.new;
-    births = quiet.births;
-    busy = quiet.busy;
-    semaphores = quiet.semaphores;
-    shutdown = record { shuts = refl; halts = refl; no_stuck = refl };
-    made = quiet.made;
-    rows = quiet.rows;
-  }
+  keeps_puts k p = by_ready (kinds_in k p) (λ f. omega arith) refl refl
 
   -- the ready queue is shut
   pub keeps_halts : (late : Bool) (p : Process) → FitsScript script p → Balanced script n (p ∷ []) [] (halts late p)

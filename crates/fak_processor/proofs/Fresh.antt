@@ -101,7 +101,7 @@ sleepers_fresh : (stint : ℕ) (sems : List SemInfo) → map sleepers_of (map (f
 sleepers_fresh stint [] = refl
 sleepers_fresh stint (s ∷ sems) = ap (λ (l : List (List Process)). [] ∷ l) (sleepers_fresh stint sems)
 
-entries_fresh : (from count : ℕ) → entries_after [] from count ≡ replicate count free_entry
+pub entries_fresh : (from count : ℕ) → entries_after [] from count ≡ replicate count free_entry
 entries_fresh from zero = refl
 entries_fresh from (suc n) = ap (λ (l : List FileEntry). free_entry ∷ l) (entries_fresh (suc from) n)
 

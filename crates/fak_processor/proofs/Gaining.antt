@@ -2,6 +2,7 @@
 use Rattle.fak_processor.proofs.Common.{RowOf, Ledger, nothing, ObjectsOf, ProcessorOf, AreFor, AreOf, AreLines, ◌≡◌, ℕ, ◌+◌, ◌<◌, ◌==◌, Bool, true, false, cond, List, [], ◌∷◌, ◌++◌, length, slice_index_or, refl, ap, sym, ◌∙◌, subst, arith, Some, None, sum_by, flat_map, length-map, All-get_or, CreditKind, Debit, Credit, kinds_not_in, kinds_not_out, kinds_in, kinds_out, SemInfo, SemSeatInfo, ScriptOf, down, Process, FitsScript, StandsAt, after_note, downed, files_of, Gains, GainsParked, GainsWoken, at_one, DownsAt, UpsAt}
 use Rattle.fak_processor.proofs.Calls.{grows_parks, grows_passes, grows_wakes, grows_adds}
 use Rattle.fak_processor.proofs.Moving.{gains_semaphore}
+use Rattle.fak_processor.proofs.Places.{alike_at}
 
 -- the same marks and rows, told in another way
 pub record Alike (a b : Ledger) : Type 0 where
@@ -42,11 +43,17 @@ cond_none false = refl
 size_at : {script : ScriptOf} {o : ObjectsOf} (made : AreFor script o) (at : ℕ) → at < length o.semaphores → (sem : SemInfo) → sem ≡ slice_index_or o.semaphores at sem → sem.size ≡ script.slots
 size_at {script} {o} made at below sem is = subst (λ (s : SemInfo). s.size ≡ script.slots) (sym is) (All-get_or (λ (s : SemInfo). s.size ≡ script.slots) o.semaphores at sem below made.waits)
 
-module _ {script : ScriptOf} {o : ObjectsOf} (p : ProcessorOf) (made : AreFor script o) (fits : AreOf o p) {at : ℕ} (below : at < length p.semaphores) where
+module _ {script : ScriptOf} {o : ObjectsOf} (p : ProcessorOf) (made : AreFor script o) (fits : AreOf o p) {at : ℕ} (low : at < length script.semaphores) where
   there : at < length o.semaphores
-  there =
+  there = omega (arith, low, made.semaphores)
+
+  pub seat_there : at < length p.semaphores
+  seat_there =
       let lengths : length p.semaphores ≡ length o.semaphores = sym (length-map p.semaphores (λ (s : SemSeatInfo Process). s.object)) ∙ (ap length fits.semaphores ∙ length-map o.semaphores (λ (s : SemInfo). s.object)) in
-      omega (arith, lengths, below)
+      omega (arith, lengths, there)
+
+  pub same_there : {seat : SemSeatInfo Process} {sem : SemInfo} → seat ≡ slice_index_or p.semaphores at seat → sem ≡ slice_index_or o.semaphores at sem → seat.object ≡ sem.object
+  same_there {seat} {sem} = alike_at (λ (s : SemSeatInfo Process). s.object) (λ (s : SemInfo). s.object) p.semaphores o.semaphores at seat sem fits.semaphores seat_there
 
   one_only : {seats : List (SemSeatInfo Process)} (kinds : List CreditKind) → Gains script p (record p { semaphores = seats }) (record nothing { credits = at_one at kinds; waits = at_one at [] }) → Gains script p (record p { semaphores = seats }) (record nothing { credits = at_one at kinds })
   one_only kinds g = gains_as (record nothing { credits = at_one at kinds; waits = at_one at [] }) (record nothing { credits = at_one at kinds }) g (record { ready = refl; free = refl; births = refl; busy = refl; credits = λ s. refl; waits = λ s. cond_none (at == s); rows = refl; lines = refl })
@@ -57,18 +64,18 @@ module _ {script : ScriptOf} {o : ObjectsOf} (p : ProcessorOf) (made : AreFor sc
       record {
         refused = g.1.0;
         ticket = g.1.1;
-        gains = gains_semaphore p d.was d.is seats (Debit ∷ []) (flat_map kinds_not_in g.1.0 ++ kinds_in g.1.1 who) below (size_at made at there d.made.0 d.made.1) d.stood d.stands g.0 g.1.2;
+        gains = gains_semaphore p d.was d.is seats (Debit ∷ []) (flat_map kinds_not_in g.1.0 ++ kinds_in g.1.1 who) seat_there (size_at made at there d.made.0 d.made.1) d.stood d.stands g.0 g.1.2;
       }
 
   pub gains_passed : {seats : List (SemSeatInfo Process)} {who passed : Process} → DownsAt o.semaphores at who (Some passed) p.semaphores seats → Gains script p (record p { semaphores = seats }) (record nothing { credits = at_one at (Debit ∷ []) })
   gains_passed {seats} d =
       let g = grows_passes d.made.2 in
-      one_only (Debit ∷ []) (gains_semaphore p d.was d.is seats (Debit ∷ []) [] below (size_at made at there d.made.0 d.made.1) d.stood d.stands g.0 g.1)
+      one_only (Debit ∷ []) (gains_semaphore p d.was d.is seats (Debit ∷ []) [] seat_there (size_at made at there d.made.0 d.made.1) d.stood d.stands g.0 g.1)
 
   pub gains_credited : {seats : List (SemSeatInfo Process)} → UpsAt o.semaphores at None p.semaphores seats → Gains script p (record p { semaphores = seats }) (record nothing { credits = at_one at (Credit ∷ []) })
   gains_credited {seats} u =
       let g = grows_adds u.made.2 in
-      one_only (Credit ∷ []) (gains_semaphore p u.was u.is seats (Credit ∷ []) [] below (size_at made at there u.made.0 u.made.1) u.stood u.stands g.0 g.1)
+      one_only (Credit ∷ []) (gains_semaphore p u.was u.is seats (Credit ∷ []) [] seat_there (size_at made at there u.made.0 u.made.1) u.stood u.stands g.0 g.1)
 
   pub gains_woken : {seats : List (SemSeatInfo Process)} {sleeper woken : Process} → UpsAt o.semaphores at (Some sleeper) p.semaphores seats → (semaphore : ℕ) × StandsAt script sleeper (down semaphore) × (woken ≡ after_note sleeper (downed semaphore)) → FitsScript script sleeper
       → GainsWoken script at woken p (record p { semaphores = seats })
@@ -82,5 +89,5 @@ module _ {script : ScriptOf} {o : ObjectsOf} (p : ProcessorOf) (made : AreFor sc
         woken_is = done.2;
         refused = g.1.0;
         ticket = g.1.1;
-        gains = gains_semaphore p u.was u.is seats (Credit ∷ []) (flat_map kinds_not_out g.1.0 ++ kinds_out g.1.1 sleeper) below (size_at made at there u.made.0 u.made.1) u.stood u.stands g.0 g.1.2;
+        gains = gains_semaphore p u.was u.is seats (Credit ∷ []) (flat_map kinds_not_out g.1.0 ++ kinds_out g.1.1 sleeper) seat_there (size_at made at there u.made.0 u.made.1) u.stood u.stands g.0 g.1.2;
       }

@@ -14,6 +14,8 @@ pub mod Calls
 pub mod Growing
 pub mod Moving
 pub mod Gaining
+pub mod Sleeping
+pub mod Entering
 pub mod Acting
 pub mod Stepping
 pub mod Looping

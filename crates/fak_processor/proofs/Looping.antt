@@ -1,8 +1,8 @@
 -- The loop of a processor, among any number of them.
 use Rattle.std.proofs.lemmas.List.Elements.{All-nil, All-cons, All-head, All-tail, All-map}
 use Rattle.fak_model.specs.Credit.{value}
-use Rattle.fak_processor.specs.Faults.{HasPassed, IsRefused}
-use Rattle.fak_processor.proofs.Common.{Turn, nothing, ProcessorOf, HasName, ◌≡◌, ◌∙◌, ℕ, Bool, false, List, [], ◌∷◌, All, length, map, refl, ap, sym, subst, Option, None, pos, ScriptOf, Process, names_of, Gains, Moves, LeavesNone, hand_of, SemSeatInfo}
+use Rattle.fak_processor.specs.Faults.{HasPassed}
+use Rattle.fak_processor.proofs.Common.{Turn, nothing, ProcessorOf, HasName, ◌≡◌, ◌∙◌, ℕ, Bool, List, [], ◌∷◌, All, length, map, refl, ap, sym, subst, Option, None, pos, ScriptOf, Process, names_of, Gains, Moves, LeavesNone, hand_of, SemSeatInfo}
 use Rattle.fak_processor.proofs.Events.{quiet, balanced-beside}
 use Rattle.fak_processor.proofs.Acting.{moves_then}
 
@@ -30,10 +30,6 @@ keeps_name {n} {p} {q} same h =
 -- one more look was passed, by a processor of this number
 pub passed_next : (answers : ℕ → ℕ → Bool → Type 0) {name number made next : ℕ} → name ≡ number → HasPassed (answers number) made → (HasPassed (answers name) made → HasPassed (answers name) next) → HasPassed (answers number) next
 passed_next answers {made = made} {next = next} same was more = subst (λ (n : ℕ). HasPassed (answers n) next) same (more (subst (λ (n : ℕ). HasPassed (answers n) made) (sym same) was))
-
--- the next one was refused
-pub refused_next : (answers : ℕ → ℕ → Bool → Type 0) {name number made : ℕ} → name ≡ number → HasPassed (answers number) made → answers name made false → IsRefused (answers number)
-refused_next answers {made = made} same was refused = record { look = made; passed = was; refused = subst (λ (n : ℕ). answers n made false) same refused }
 
 -- ---- the loop
 

@@ -4,11 +4,12 @@ use Rattle.std.proofs.lemmas.List.{append-nil, map-append, get_or_default, get_o
 use Rattle.fak_model.specs.Room as room
 use Rattle.fak_model.specs.Credit as credit
 use Rattle.fak_count.specs.Rooms as rooms
-use Rattle.fak_queue.proofs.Common.{RefusesFull, RefusesEmpty, RefusesClosed, Inserts, Deletes, kinds_in}
-use Rattle.fak_processor.proofs.Common.{Ledger, Made, nothing, joined, queue_kind, Bundle, ProcessorOf, AreLines, is_file_line, file_lines, ◌≡◌, ◌⊎◌, ℕ, ◌<◌, Bool, true, false, List, [], ◌++◌, length, map, slice_index_or, slice_set, refl, ap, sym, ◌∙◌, subst, arith, inl, inr, append_assoc, ℤ, sum_by-append, filter-append, SeatInfo, queue_rules, room_rules, credit_rules, put_of, got_of, close_of, closed_of, Kind, Mark, RoomKind, No, RoomMark, CreditKind, CreditMark, FileMark, cond_here, cond_else, SemSeatInfo, credit_part, queue_part, ScriptOf, NoteOf, Process, Grows, Adds, IsIdle, IsQuiet, GrowsIn, GrowsShut, GrowsAtLast, GrowsIdle, GrowsEmpty, GrowsOut, GrowsNone, bundle_of, names_of, files_of, Gains, at_one}
+use Rattle.fak_queue.proofs.Common.{Makes, RefusesEmpty, Deletes, RefusedInsertion, NotIn, WithdrawnIn, ClosedIn, WithdrawnLate, kinds_not_in, kinds_in}
+use Rattle.fak_queue.specs.Retries.{IsFull, IsClosed, InsertsAfterFull, ClosesAfterFull}
+use Rattle.fak_processor.proofs.Common.{Ledger, Made, nothing, joined, queue_kind, Bundle, ProcessorOf, AreLines, is_file_line, file_lines, ◌≡◌, ◌⊎◌, ℕ, ◌<◌, Bool, true, false, List, [], ◌∷◌, ◌++◌, All, All-head, All-tail, no_seat, flat_map, length, map, slice_index_or, slice_set, refl, ap, sym, ◌∙◌, subst, arith, inl, inr, append_assoc, ℤ, sum_by-append, filter-append, SeatInfo, queue_rules, room_rules, credit_rules, put_of, got_of, close_of, closed_of, Kind, Mark, RoomKind, No, RoomMark, CreditKind, CreditMark, FileMark, cond_here, cond_else, SemSeatInfo, credit_part, queue_part, ScriptOf, NoteOf, Process, Grows, Adds, IsIdle, IsQuiet, GrowsIn, GrowsShut, GrowsAtLast, GrowsIdle, GrowsEmpty, GrowsOut, bundle_of, names_of, files_of, Gains, at_one}
 use Rattle.fak_processor.specs.Events.{full, empty, closed, refused_claim}
 use Rattle.fak_processor.proofs.Places.{alike_after}
-use Rattle.fak_processor.proofs.Calls.{grows_same, grows_inserts, grows_deletes, grows_full, grows_empty, grows_closed, grows_room, grows_withdraws}
+use Rattle.fak_processor.proofs.Calls.{grows_same, grows_makes, grows_deletes, grows_empty, grows_room, grows_withdraws}
 use Rattle.fak_processor.proofs.Growing.{grows_then}
 
 -- ---- marks that weigh nothing
@@ -36,6 +37,17 @@ pub quiet_full : {T : Type 0} (late : Bool) → IsQuiet {T = T} (full late)
 quiet_full true = record { idle = record { puts = λ f. refl; gots = λ f. refl }; closes = refl; closeds = refl }
 quiet_full false = record { idle = record { puts = λ f. refl; gots = λ f. refl }; closes = refl; closeds = refl }
 
+-- insertions that were refused Full
+quiet_try : {T : Type 0} (r : RefusedInsertion) → IsFull r → IsQuiet {T = T} (kinds_not_in r)
+quiet_try NotIn is = quiet_full false
+quiet_try WithdrawnIn is = quiet_full true
+quiet_try ClosedIn is = absurd is
+quiet_try WithdrawnLate is = absurd is
+
+pub quiet_tries : {T : Type 0} (rs : List RefusedInsertion) → All IsFull rs → IsQuiet {T = T} (flat_map kinds_not_in rs)
+quiet_tries [] full = quiet_none
+quiet_tries (r ∷ rs) full = quiet_then (quiet_try r (All-head IsFull r rs full)) (quiet_tries rs (All-tail IsFull r rs full))
+
 pub quiet_empty : {T : Type 0} (late : Bool) → IsQuiet {T = T} (empty late)
 quiet_empty true = record { idle = record { puts = λ f. refl; gots = λ f. refl }; closes = refl; closeds = refl }
 quiet_empty false = record { idle = record { puts = λ f. refl; gots = λ f. refl }; closes = refl; closeds = refl }
@@ -47,17 +59,20 @@ idle_closed false = record { puts = λ f. refl; gots = λ f. refl }
 -- ---- calls on one queue
 
 module _ {T : Type 0} {size : ℕ} where
-  pub none_yet : (s : SeatInfo (Mark T)) → GrowsNone size s s
-  none_yet s = record { refused = []; quiet = quiet_none; grows = grows_same (queue_rules size) queue_kind s }
+  pub in_after_full : {a b : SeatInfo (Mark T)} {k : ℕ} {x : T} → InsertsAfterFull size k x a b → GrowsIn size x a b
+  in_after_full {k = k} {x = x} i = let tries = i.tries.refused in record { refused = flat_map kinds_not_in tries; quiet = quiet_tries tries i.full; ticket = k; grows = grows_makes (flat_map kinds_not_in tries ++ kinds_in k x) i.tries.makes }
 
-  pub full_again : {a b c : SeatInfo (Mark T)} {upper : _} → GrowsNone size a b → RefusesFull size upper b c → GrowsNone size a c
-  full_again n r = let g = grows_full r in record { refused = n.refused ++ full g.0; quiet = quiet_then n.quiet (quiet_full g.0); grows = grows_then n.refused (full g.0) n.grows g.1 }
+  pub shut_after_full : {a b : SeatInfo (Mark T)} → ClosesAfterFull size a b → GrowsShut size a b
+  shut_after_full {a} {b} c = by c.closed c.is_closed c.tries.makes
+    where
+      tries : List (Kind T)
+      tries = flat_map kinds_not_in c.tries.refused
 
-  pub in_at_last : {a b c : SeatInfo (Mark T)} {k : ℕ} {x : T} → GrowsNone size a b → Inserts size k x b c → GrowsIn size x a c
-  in_at_last {k = k} {x = x} n i = record { refused = n.refused; quiet = n.quiet; ticket = k; grows = grows_then n.refused (kinds_in k x) n.grows (grows_inserts i) }
-
-  pub shut_at_last : {a b c : SeatInfo (Mark T)} → GrowsNone size a b → RefusesClosed size b c → GrowsShut size a c
-  shut_at_last {b = b} {c = c} n r = let g = grows_closed b c r in record { refused = n.refused; quiet = n.quiet; late = g.0; grows = grows_then n.refused (closed g.0) n.grows g.1 }
+      by : (r : RefusedInsertion) → IsClosed r → Makes size (tries ++ kinds_not_in r) a b → GrowsShut size a b
+      by NotIn is m = absurd is
+      by WithdrawnIn is m = absurd is
+      by ClosedIn is m = record { refused = tries; quiet = quiet_tries c.tries.refused c.full; late = false; grows = grows_makes (tries ++ closed false) m }
+      by WithdrawnLate is m = record { refused = tries; quiet = quiet_tries c.tries.refused c.full; late = true; grows = grows_makes (tries ++ closed true) m }
 
   pub idle_yet : (s : SeatInfo (Mark T)) → GrowsIdle size s s
   idle_yet s = record { refused = []; idle = idle_none; grows = grows_same (queue_rules size) queue_kind s }
@@ -123,66 +138,33 @@ module _ {script : ScriptOf} where
     lines = λ before are. subst (λ ls. AreLines script.files ls r.files.seat) (append_assoc before (files_of a) (files_of b) ∙ ap (λ ls. before ++ ls) (sym (files_then a b))) (y.lines (before ++ files_of a) (x.lines before are));
   }
 
-  -- one seat alone
-  pub gains_ready : (p : ProcessorOf) {size : ℕ} {s : SeatInfo (Mark Process)} (kinds : List (Kind Process)) → size ≡ script.slots → Grows (queue_rules size) queue_kind p.ready s kinds → Gains script p (record p { ready = s }) (record nothing { ready = kinds })
-  gains_ready p {s = s} kinds size_is g = record {
-    adds = λ d. record {
-      ready = subst (λ n. Grows (queue_rules n) queue_kind p.ready s kinds) size_is g;
-      free = grows_same (queue_rules script.slots) queue_kind p.free;
-      births = grows_same (room_rules script.births) room.kind_of p.births;
-      busy = grows_same credit_rules credit.kind_of p.busy;
-      credits = λ s below. grows_same credit_rules credit.kind_of (credit_part (slice_index_or p.semaphores s d));
-      waits = λ s below. grows_same (queue_rules script.slots) queue_kind (queue_part (slice_index_or p.semaphores s d));
-    };
+  -- each seat of which a processor has one
+  gains_single : (p : ProcessorOf) {r : SeatInfo (Mark Process)} {f : SeatInfo (Mark ℕ)} {b : SeatInfo RoomMark} {c : SeatInfo CreditMark} {ready : List (Kind Process)} {free : List (Kind ℕ)} {births : List RoomKind} {busy : List CreditKind}
+      → Grows (queue_rules script.slots) queue_kind p.ready r ready → Grows (queue_rules script.slots) queue_kind p.free f free → Grows (room_rules script.births) room.kind_of p.births b births → Grows credit_rules credit.kind_of p.busy c busy
+      → Gains script p (record p { ready = r; free = f; births = b; busy = c }) (record nothing { ready = ready; free = free; births = births; busy = busy })
+  gains_single p gr gf gb gc = record {
+    adds = λ d. let a = adds_none (bundle_of d p) in record { ready = gr; free = gf; births = gb; busy = gc; credits = a.credits; waits = a.waits };
     rows = λ f. omega arith;
-    names = ap (λ (n : ℕ). record (names_of p) { ready = n }) g.name;
+    names = λ i. record (names_of p) { ready = gr.name i; free = gf.name i; births = gb.name i; busy = gc.name i };
     lines = no_lines script.files p.files.seat;
   }
 
-  pub gains_free : (p : ProcessorOf) {size : ℕ} {s : SeatInfo (Mark ℕ)} (kinds : List (Kind ℕ)) → size ≡ script.slots → Grows (queue_rules size) queue_kind p.free s kinds → Gains script p (record p { free = s }) (record nothing { free = kinds })
-  gains_free p {s = s} kinds size_is g = record {
-    adds = λ d. record {
-      ready = grows_same (queue_rules script.slots) queue_kind p.ready;
-      free = subst (λ n. Grows (queue_rules n) queue_kind p.free s kinds) size_is g;
-      births = grows_same (room_rules script.births) room.kind_of p.births;
-      busy = grows_same credit_rules credit.kind_of p.busy;
-      credits = λ s below. grows_same credit_rules credit.kind_of (credit_part (slice_index_or p.semaphores s d));
-      waits = λ s below. grows_same (queue_rules script.slots) queue_kind (queue_part (slice_index_or p.semaphores s d));
-    };
-    rows = λ f. omega arith;
-    names = ap (λ (n : ℕ). record (names_of p) { free = n }) g.name;
-    lines = no_lines script.files p.files.seat;
-  }
+  -- one of them
+  module _ (p : ProcessorOf) where
+    kept : Adds script (bundle_of no_seat p) (bundle_of no_seat p) nothing
+    kept = adds_none (bundle_of no_seat p)
 
-  pub gains_births : (p : ProcessorOf) {bound : ℕ} {s : SeatInfo RoomMark} (kinds : List RoomKind) → bound ≡ script.births → Grows (room_rules bound) room.kind_of p.births s kinds → Gains script p (record p { births = s }) (record nothing { births = kinds })
-  gains_births p {s = s} kinds bound_is g = record {
-    adds = λ d. record {
-      ready = grows_same (queue_rules script.slots) queue_kind p.ready;
-      free = grows_same (queue_rules script.slots) queue_kind p.free;
-      births = subst (λ n. Grows (room_rules n) room.kind_of p.births s kinds) bound_is g;
-      busy = grows_same credit_rules credit.kind_of p.busy;
-      credits = λ s below. grows_same credit_rules credit.kind_of (credit_part (slice_index_or p.semaphores s d));
-      waits = λ s below. grows_same (queue_rules script.slots) queue_kind (queue_part (slice_index_or p.semaphores s d));
-    };
-    rows = λ f. omega arith;
-    names = ap (λ (n : ℕ). record (names_of p) { births = n }) g.name;
-    lines = no_lines script.files p.files.seat;
-  }
+    pub gains_ready : {size : ℕ} {s : SeatInfo (Mark Process)} (kinds : List (Kind Process)) → size ≡ script.slots → Grows (queue_rules size) queue_kind p.ready s kinds → Gains script p (record p { ready = s }) (record nothing { ready = kinds })
+    gains_ready {s = s} kinds same g = gains_single p (subst (λ n. Grows (queue_rules n) queue_kind p.ready s kinds) same g) kept.free kept.births kept.busy
 
-  pub gains_busy : (p : ProcessorOf) {s : SeatInfo CreditMark} (kinds : List CreditKind) → Grows credit_rules credit.kind_of p.busy s kinds → Gains script p (record p { busy = s }) (record nothing { busy = kinds })
-  gains_busy p {s = s} kinds g = record {
-    adds = λ d. record {
-      ready = grows_same (queue_rules script.slots) queue_kind p.ready;
-      free = grows_same (queue_rules script.slots) queue_kind p.free;
-      births = grows_same (room_rules script.births) room.kind_of p.births;
-      busy = g;
-      credits = λ s below. grows_same credit_rules credit.kind_of (credit_part (slice_index_or p.semaphores s d));
-      waits = λ s below. grows_same (queue_rules script.slots) queue_kind (queue_part (slice_index_or p.semaphores s d));
-    };
-    rows = λ f. omega arith;
-    names = ap (λ (n : ℕ). record (names_of p) { busy = n }) g.name;
-    lines = no_lines script.files p.files.seat;
-  }
+    pub gains_free : {size : ℕ} {s : SeatInfo (Mark ℕ)} (kinds : List (Kind ℕ)) → size ≡ script.slots → Grows (queue_rules size) queue_kind p.free s kinds → Gains script p (record p { free = s }) (record nothing { free = kinds })
+    gains_free {s = s} kinds same g = gains_single p kept.ready (subst (λ n. Grows (queue_rules n) queue_kind p.free s kinds) same g) kept.births kept.busy
+
+    pub gains_births : {bound : ℕ} {s : SeatInfo RoomMark} (kinds : List RoomKind) → bound ≡ script.births → Grows (room_rules bound) room.kind_of p.births s kinds → Gains script p (record p { births = s }) (record nothing { births = kinds })
+    gains_births {s = s} kinds same g = gains_single p kept.ready kept.free (subst (λ n. Grows (room_rules n) room.kind_of p.births s kinds) same g) kept.busy
+
+    pub gains_busy : {s : SeatInfo CreditMark} (kinds : List CreditKind) → Grows credit_rules credit.kind_of p.busy s kinds → Gains script p (record p { busy = s }) (record nothing { busy = kinds })
+    gains_busy kinds g = gains_single p kept.ready kept.free kept.births g
 
   -- the calls of one semaphore
   pub gains_semaphore : (p : ProcessorOf) {size at : ℕ} (was is : SemSeatInfo Process) (seats : List (SemSeatInfo Process)) (credits : List CreditKind) (waits : List (Kind Process)) → at < length p.semaphores

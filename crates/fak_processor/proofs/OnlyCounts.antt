@@ -9,7 +9,7 @@ use Rattle.fak_count.specs.Rooms.{RoomInfo, held_amount, IsGranted, MakesCall, W
 use Rattle.fak_count.specs.RoomShown.{room_mark}
 use Rattle.fak_queue.proofs.AfterRefusals.{made_by_append}
 use Rattle.fak_queue.proofs.Weighing.{count_at_last, none_in, none_out}
-use Rattle.fak_process.proofs.Only.{only_seen, only_still, only_lawful, only_before}
+use Rattle.fak_run.proofs.Only.{only_seen, only_still, only_lawful, only_before}
 use Rattle.fak_processor.proofs.OnlyQueues.{items_more, items_added, first_left}
 
 -- ---- the wait queue after refusals
@@ -22,12 +22,12 @@ module _ {T R : Type 0} (kinds_of : R → List (Kind T)) (name : ℕ) (no_puts :
       ap (λ (h : List (Mark T)). items_put h) (made_by_append name (kinds_of r) (flat_map kinds_of rs))
       ∙ (items_more (made_by name (kinds_of r)) (made_by name (flat_map kinds_of rs)) ∙ (ap (λ l. l ++ items_put (made_by name (flat_map kinds_of rs))) (no_puts r) ∙ none_put rs))
 
-  put_at_last : (refused : List R) (kinds : List (Kind T)) → items_put (made_by name (flat_map kinds_of refused ++ kinds)) ≡ items_put (made_by name kinds)
+  pub put_at_last : (refused : List R) (kinds : List (Kind T)) → items_put (made_by name (flat_map kinds_of refused ++ kinds)) ≡ items_put (made_by name kinds)
   put_at_last refused kinds =
       ap (λ (h : List (Mark T)). items_put h) (made_by_append name (flat_map kinds_of refused) kinds)
       ∙ (items_more (made_by name (flat_map kinds_of refused)) (made_by name kinds) ∙ ap (λ l. l ++ items_put (made_by name kinds)) (none_put refused))
 
-in_put : (T : Type 0) (name : ℕ) (r : RefusedInsertion) → items_put (made_by name (kinds_not_in {T = T} r)) ≡ []
+pub in_put : (T : Type 0) (name : ℕ) (r : RefusedInsertion) → items_put (made_by name (kinds_not_in {T = T} r)) ≡ []
 in_put T name NotIn = refl
 in_put T name WithdrawnIn = refl
 in_put T name ClosedIn = refl
@@ -87,18 +87,13 @@ module _ {T : Type 0} {sem : SemInfo} {old new : SemSeatInfo T} (o : IsOnlySem o
   pub down_passes : {who passed : T} → Downs sem who old new (Some passed) → (passed ≡ who) × Passes old new
   down_passes {who} {passed} d =
       let n = made_count o.credit (same_start fits) d.debits in
-      let enough = d.passes.1.enough in
       let q : contents new.queue_seen ≡ contents old.queue_seen = ap (λ (s : SeatInfo (Mark T)). contents s.seen) d.passes.1.same_queue in
       let k : length (contents new.queue_seen) ≡ length (contents old.queue_seen) = ap length q in
-      let owed = o.owed in
-      let s = same_start same in
-      let nd = n.debits in
-      let nc = n.credits in
-      let nf = n.value_is in (
+      let s = same_start same in (
         d.passes.0,
         record {
-          only = record { credit = only_still o.credit d.debits.appends; queue = subst (IsOnly (λ (m : Mark T). m.seat)) (sym d.passes.1.same_queue) o.queue; owed = omega (arith, ints, k, owed, s, nd, nc, nf, enough) };
-          count = omega (arith, ints, s, nd, nc, nf, enough);
+          only = record { credit = only_still o.credit d.debits.appends; queue = subst (IsOnly (λ (m : Mark T). m.seat)) (sym d.passes.1.same_queue) o.queue; owed = omega (arith, ints, k, o.owed, s, n.debits, n.credits, n.value_is, d.passes.1.enough) };
+          count = omega (arith, ints, s, n.debits, n.credits, n.value_is, d.passes.1.enough);
           sleepers = q;
         },
       )
@@ -106,55 +101,40 @@ module _ {T : Type 0} {sem : SemInfo} {old new : SemSeatInfo T} (o : IsOnlySem o
   pub down_parks : {who : T} → Downs sem who old new None → Parks who old new
   down_parks {who} d =
       let n = made_count o.credit (same_start fits) d.debits in
-      let short = d.passes.short in
       let i = inserted o.queue d.passes.inserts in
       let q : contents new.queue_seen ≡ contents old.queue_seen ++ who ∷ [] = i.0 in
       let k : length (contents new.queue_seen) ≡ length (contents old.queue_seen) + 1 = ap length q ∙ length-append (contents old.queue_seen) (who ∷ []) in
-      let owed = o.owed in
       let s = same_start same in
-      let nd = n.debits in
-      let nc = n.credits in
-      let nf = n.value_is in
       record {
-        only = record { credit = only_still o.credit d.debits.appends; queue = i.1; owed = omega (arith, ints, k, owed, s, nd, nc, nf, short) };
-        none = omega (arith, ints, s, nd, nc, nf, short);
-        count = omega (arith, ints, s, nd, nc, nf, short);
+        only = record { credit = only_still o.credit d.debits.appends; queue = i.1; owed = omega (arith, ints, k, o.owed, s, n.debits, n.credits, n.value_is, d.passes.short) };
+        none = omega (arith, ints, s, n.debits, n.credits, n.value_is, d.passes.short);
+        count = omega (arith, ints, s, n.debits, n.credits, n.value_is, d.passes.short);
         sleepers = q;
       }
 
   pub up_raises : Ups sem old new None → Raises old new
   up_raises u =
       let n = made_count o.credit (same_start fits) u.credits in
-      let enough = u.wakes.enough in
       let q : contents new.queue_seen ≡ contents old.queue_seen = ap (λ (s : SeatInfo (Mark T)). contents s.seen) u.wakes.same_queue in
       let k : length (contents new.queue_seen) ≡ length (contents old.queue_seen) = ap length q in
-      let owed = o.owed in
       let s = same_start same in
-      let nd = n.debits in
-      let nc = n.credits in
-      let nf = n.value_is in
       record {
-        only = record { credit = only_still o.credit u.credits.appends; queue = subst (IsOnly (λ (m : Mark T). m.seat)) (sym u.wakes.same_queue) o.queue; owed = omega (arith, ints, k, owed, s, nd, nc, nf, enough) };
-        count = omega (arith, ints, s, nd, nc, nf, enough);
-        none = Rattle.fak_processor.proofs.OnlyQueues.no_items (contents old.queue_seen) (omega (arith, ints, owed, nf, enough));
+        only = record { credit = only_still o.credit u.credits.appends; queue = subst (IsOnly (λ (m : Mark T). m.seat)) (sym u.wakes.same_queue) o.queue; owed = omega (arith, ints, k, o.owed, s, n.debits, n.credits, n.value_is, u.wakes.enough) };
+        count = omega (arith, ints, s, n.debits, n.credits, n.value_is, u.wakes.enough);
+        none = Rattle.fak_processor.proofs.OnlyQueues.no_items (contents old.queue_seen) (omega (arith, ints, o.owed, n.value_is, u.wakes.enough));
         sleepers = q;
       }
 
   pub up_rouses : {x : T} → Ups sem old new (Some x) → Rouses x old new
   up_rouses {x} u =
       let n = made_count o.credit (same_start fits) u.credits in
-      let owes = u.wakes.owes in
       let i = deleted o.queue u.wakes.deletes in
       let q : contents old.queue_seen ≡ x ∷ contents new.queue_seen = i.0 in
       let k : length (contents old.queue_seen) ≡ length (contents new.queue_seen) + 1 = ap length q ∙ omega arith in
-      let owed = o.owed in
       let s = same_start same in
-      let nd = n.debits in
-      let nc = n.credits in
-      let nf = n.value_is in
       record {
-        only = record { credit = only_still o.credit u.credits.appends; queue = i.1; owed = omega (arith, ints, k, owed, s, nd, nc, nf, owes) };
-        count = omega (arith, ints, s, nd, nc, nf, owes);
+        only = record { credit = only_still o.credit u.credits.appends; queue = i.1; owed = omega (arith, ints, k, o.owed, s, n.debits, n.credits, n.value_is, u.wakes.owes) };
+        count = omega (arith, ints, s, n.debits, n.credits, n.value_is, u.wakes.owes);
         sleepers = q;
       }
 
@@ -163,62 +143,29 @@ module _ {T : Type 0} {sem : SemInfo} {old new : SemSeatInfo T} (o : IsOnlySem o
 total_more : (amount : RoomKind → ℕ) (h l : List RoomMark) → room.total amount (h ++ l) ≡ room.total amount h + room.total amount l
 total_more amount h l = ap (sum_by amount) (map-append room.kind_of h l) ∙ sum_by-append amount (map room.kind_of h) (map room.kind_of l)
 
-module _ {bound : ℕ} {marks : List RoomMark} {old new : SeatInfo RoomMark} (o : IsOnly (λ (m : RoomMark). m.seat) old) (a : Appends (room.room_rules bound) marks old new) where
+-- the only seat made these marks, and holds as much more as they weigh
+module _ {bound : ℕ} {marks : List RoomMark} {old new : SeatInfo RoomMark} (o : IsOnlyRoom old) (a : Appends (room.room_rules bound) marks old new) where
   amount_after : (amount : RoomKind → ℕ) → room.total amount new.seen ≡ room.total amount old.seen + room.total amount marks
-  amount_after amount = ap (room.total amount) (only_seen o a) ∙ total_more amount old.seen marks
+  amount_after amount = ap (room.total amount) (only_seen o.only a) ∙ total_more amount old.seen marks
+
+  room_after : pos (held_amount new) ≡ pos (held_amount old) +ℤ room.value marks → IsOnlyRoom new
+  room_after held = record {
+    only = only_still o.only a;
+    held = omega (arith, ints, amount_after room.up_amount, amount_after room.over_amount, amount_after room.back_amount, amount_after room.release_amount, o.held, held);
+  }
 
 pub claims : {info : RoomInfo} {answer : ℤ} {old new : SeatInfo RoomMark} → IsOnlyRoom old → IsGranted 1 info old new answer → held_amount new ≡ held_amount old + 1 → Claims info.bound old new
-claims {info} {answer} {old} {new} o g held =
-    let a = g.1.appends in
-    let u = amount_after o.only a room.up_amount in
-    let v = amount_after o.only a room.over_amount in
-    let b = amount_after o.only a room.back_amount in
-    let r = amount_after o.only a room.release_amount in
-    let was = o.held in
-    let fair : (room.value old.seen +ℤ pos 1) ≤ℤ pos info.bound = (only_lawful o.only a).fair old.seen (room_mark old.name (Up 1)) [] refl in
-    record {
-      only = record { only = only_still o.only a; held = omega (arith, ints, u, v, b, r, was, held) };
-      fits = omega (arith, ints, fair, was);
-      held = held;
-    }
+claims {info} {old = old} o g held =
+    let fair : (room.value old.seen +ℤ pos 1) ≤ℤ pos info.bound = (only_lawful o.only g.1.appends).fair old.seen (room_mark old.name (Up 1)) [] refl in
+    record { only = room_after o g.1.appends (omega (arith, ints, held)); fits = omega (arith, ints, fair, o.held); held = held }
 
 pub finds_full : {info : RoomInfo} {answer : ℤ} {old new : SeatInfo RoomMark} → IsOnlyRoom old → (MakesCall (No 1) info old new answer ⊎ Withdraws 1 info old new answer) → held_amount new ≡ held_amount old → FindsFull info.bound old new
-finds_full {info} {answer} {old} {new} o (inl c) held =
-    let a = c.appends in
-    let u = amount_after o.only a room.up_amount in
-    let v = amount_after o.only a room.over_amount in
-    let b = amount_after o.only a room.back_amount in
-    let r = amount_after o.only a room.release_amount in
-    let was = o.held in
-    let fair : pos info.bound <ℤ (room.value old.seen +ℤ pos 1) = (only_lawful o.only a).fair old.seen (room_mark old.name (No 1)) [] refl in
-    record {
-      only = record { only = only_still o.only a; held = omega (arith, ints, u, v, b, r, was, held) };
-      full = omega (arith, ints, fair, was);
-      held = held;
-    }
-finds_full {info} {answer} {old} {new} o (inr c) held =
-    let a = c.appends in
-    let u = amount_after o.only a room.up_amount in
-    let v = amount_after o.only a room.over_amount in
-    let b = amount_after o.only a room.back_amount in
-    let r = amount_after o.only a room.release_amount in
-    let was = o.held in
-    let fair : pos info.bound <ℤ (room.value old.seen +ℤ pos 1) = (only_lawful o.only a).fair old.seen (room_mark old.name (Over 1)) (room_mark old.name (Back 1) ∷ []) refl in
-    record {
-      only = record { only = only_still o.only a; held = omega (arith, ints, u, v, b, r, was, held) };
-      full = omega (arith, ints, fair, was);
-      held = held;
-    }
+finds_full {info} {old = old} o (inl c) held =
+    let fair : pos info.bound <ℤ (room.value old.seen +ℤ pos 1) = (only_lawful o.only c.appends).fair old.seen (room_mark old.name (No 1)) [] refl in
+    record { only = room_after o c.appends (omega (arith, ints, held)); full = omega (arith, ints, fair, o.held); held = held }
+finds_full {info} {old = old} o (inr c) held =
+    let fair : pos info.bound <ℤ (room.value old.seen +ℤ pos 1) = (only_lawful o.only c.appends).fair old.seen (room_mark old.name (Over 1)) (room_mark old.name (Back 1) ∷ []) refl in
+    record { only = room_after o c.appends (omega (arith, ints, held)); full = omega (arith, ints, fair, o.held); held = held }
 
 pub gives_back : {info : RoomInfo} {answer : ℤ} {old new : SeatInfo RoomMark} → IsOnlyRoom old → MakesCall (Release 1) info old new answer → held_amount new + 1 ≡ held_amount old → GivesBack old new
-gives_back {info} {answer} {old} {new} o c held =
-    let a = c.appends in
-    let u = amount_after o.only a room.up_amount in
-    let v = amount_after o.only a room.over_amount in
-    let b = amount_after o.only a room.back_amount in
-    let r = amount_after o.only a room.release_amount in
-    let was = o.held in
-    record {
-      only = record { only = only_still o.only a; held = omega (arith, ints, u, v, b, r, was, held) };
-      held = held;
-    }
+gives_back o c held = record { only = room_after o c.appends (omega (arith, ints, held)); held = held }

@@ -1,11 +1,11 @@
 -- What calls do to the contents of a queue that has one seat.
-use Rattle.fak_processor.proofs.Common.{◌≡◌, ℕ, zero, suc, ◌+◌, ◌≤◌, ◌||◌, Bool, true, false, List, [], ◌∷◌, ◌++◌, Some, length, drop, refl, ap, sym, ◌∙◌, subst, arith, inl, inr, append_assoc, ℤ, pos, ◌≤ℤ◌, ints, flat_map-append, queue_rules, IsQueueHistory, count, puts, gots, lower_raise, lower_drop, lower_count, Has, item_in, item_at, items_put, contents, IsFairMark, SeatInfo, Kind, Mark, Makes, made_by, RefusesFull, RefusesClosed, RefusesEmpty, ShutsAs, IsOnly, is_close, has_close, IsOnlySeat, Keeps, Enters, Bounces, Leaves, FindsNone, Shuts}
+use Rattle.fak_processor.proofs.Common.{◌≡◌, ℕ, zero, suc, ◌+◌, ◌≤◌, ◌||◌, Bool, true, false, List, [], ◌∷◌, ◌++◌, Some, length, drop, refl, ap, sym, ◌∙◌, subst, arith, inl, inr, append_assoc, ℤ, pos, ◌≤ℤ◌, ints, flat_map-append, queue_rules, IsQueueHistory, count, puts, gots, lower_raise, lower_drop, lower_count, Has, item_in, item_at, items_put, contents, IsFairMark, SeatInfo, Kind, Mark, Makes, made_by, RefusesEmpty, ShutsAs, IsOnly, is_close, has_close, IsOnlySeat, Keeps, Enters, Bounces, Leaves, FindsNone, Shuts}
 use Rattle.std.proofs.lemmas.List.{drop-append-le, append-nil}
 use Rattle.fak_model.specs.declared.queue.Kind.TheVariants as made
 use Rattle.fak_model.proofs.Appending.{history_prefix}
 use Rattle.fak_model.proofs.QueueBackwards.{count_append, items_count}
 use Rattle.fak_model.proofs.QueueLaws.{contents_fit}
-use Rattle.fak_process.proofs.Only.{only_seen, only_still, only_lawful}
+use Rattle.fak_run.proofs.Only.{only_seen, only_still, only_lawful}
 
 -- ---- lists
 
@@ -38,7 +38,7 @@ or_more : (a b c : Bool) → ((a || b) || c) ≡ (a || (b || c))
 or_more true b c = refl
 or_more false b c = refl
 
-or_false : (a : Bool) → (a || false) ≡ a
+pub or_false : (a : Bool) → (a || false) ≡ a
 or_false true = refl
 or_false false = refl
 
@@ -142,7 +142,7 @@ empty_where {T} {old} o low = let before = o.rest in no_items (contents old.seen
 
 module _ {T : Type 0} {size : ℕ} {old new : SeatInfo (Mark T)} (o : IsOnlySeat old) where
   -- marks that put nothing and get nothing, and change the lower count by nothing
-  keeps : (kinds : List (Kind T)) → Makes size kinds old new → count gots (made_by old.name kinds) ≡ 0 → items_put (made_by old.name kinds) ≡ []
+  pub keeps : (kinds : List (Kind T)) → Makes size kinds old new → count gots (made_by old.name kinds) ≡ 0 → items_put (made_by old.name kinds) ≡ []
       → count lower_raise (made_by old.name kinds) ≡ count lower_drop (made_by old.name kinds) → has_close (made_by old.name kinds) ≡ false → Keeps old new
   keeps kinds a none put even unshut =
       let items : contents new.seen ≡ contents old.seen = items_same kinds o.only a none put in
@@ -154,21 +154,6 @@ module _ {T : Type 0} {size : ℕ} {old new : SeatInfo (Mark T)} (o : IsOnlySeat
         only = record { only = only_still o.only a; rest = omega (arith, up, down, before, len, even) };
         items = items;
         shut = shut_same kinds o.only a unshut;
-      }
-
-  pub enters : (k : ℕ) (x : T) → Makes size (made.ClaimIn ∷ made.Put x ∷ made.Fill k ∷ made.EndIn ∷ []) old new → Enters x old new
-  enters k x a =
-      let items : contents new.seen ≡ contents old.seen ++ x ∷ [] = items_added (made.ClaimIn ∷ made.Put x ∷ made.Fill k ∷ made.EndIn ∷ []) o.only a refl in
-      let up = counted (made.ClaimIn ∷ made.Put x ∷ made.Fill k ∷ made.EndIn ∷ []) o.only a lower_raise in
-      let down = counted (made.ClaimIn ∷ made.Put x ∷ made.Fill k ∷ made.EndIn ∷ []) o.only a lower_drop in
-      let before = o.rest in
-      let len : length (contents new.seen) ≡ length (contents old.seen) + 1 = ap length items ∙ Rattle.std.proofs.Common.length-append (contents old.seen) (x ∷ []) in
-      let fair = fair_after (made.ClaimIn ∷ made.Put x ∷ made.Fill k ∷ made.EndIn ∷ []) o.only a [] (record { seat = old.name; kind = made.ClaimIn }) _ refl in
-      record {
-        only = record { only = only_still o.only a; rest = omega (arith, up, down, before, len) };
-        items = items;
-        shut = shut_same (made.ClaimIn ∷ made.Put x ∷ made.Fill k ∷ made.EndIn ∷ []) o.only a refl;
-        unshut = not_shut old.seen (subst (λ (h : List (Mark T)). Has made.Close h → ⊥) (append-nil old.seen) fair.answer.1);
       }
 
   pub leaves : (k : ℕ) (x : T) → Makes size (made.ClaimOut ∷ made.Got x ∷ made.Take k ∷ made.EndOut ∷ []) old new → Leaves x old new
@@ -183,20 +168,6 @@ module _ {T : Type 0} {size : ℕ} {old new : SeatInfo (Mark T)} (o : IsOnlySeat
         items = items;
         shut = shut_same (made.ClaimOut ∷ made.Got x ∷ made.Take k ∷ made.EndOut ∷ []) o.only a refl;
       }
-
-  pub keeps_full : {upper : ℤ} → RefusesFull size upper old new → Keeps old new
-  keeps_full {upper} r = elim r.makes [
-    | inl a ↦ keeps (made.NoRoom ∷ []) a refl refl refl refl
-    | inr a ↦ keeps (made.OverIn ∷ made.BackIn ∷ []) a refl refl refl refl
-  ]
-
-  pub bounces : RefusesClosed size old new → Bounces old new
-  bounces (inl a) =
-      let fair = fair_after (made.Closed ∷ []) o.only a [] (record { seat = old.name; kind = made.Closed }) _ refl in
-      record { keeps = keeps (made.Closed ∷ []) a refl refl refl refl; closed = has_then_close old.seen (subst (λ (h : List (Mark T)). Has made.Close h) (append-nil old.seen) fair.answer) }
-  bounces (inr a) =
-      let fair = fair_after (made.LateIn ∷ made.BackIn ∷ []) o.only a [] (record { seat = old.name; kind = made.LateIn }) _ refl in
-      record { keeps = keeps (made.LateIn ∷ made.BackIn ∷ []) a refl refl refl refl; closed = has_then_close old.seen (subst (λ (h : List (Mark T)). Has made.Close h) (append-nil old.seen) fair.answer) }
 
   pub finds_none : {lower : ℤ} → RefusesEmpty size lower old new → FindsNone old new
   finds_none {lower} r = elim r.makes [

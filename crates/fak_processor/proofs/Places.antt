@@ -1,8 +1,7 @@
 -- One of several seats makes a call.
-use Rattle.fak_processor.proofs.Common.{◌≡◌, ℕ, ◌<◌, List, All, length, map, slice_set, slice_index_or, get_or, ap, sym, ◌∙◌, subst, arith, Option, Some, None, IfSome, MatchOption, get_or-map, length-map, All-get_or, SemInfo, SemSeatInfo, Downs, Ups, IsOnlySem, Passes, Parks, Raises, Rouses, AtPlace}
+use Rattle.fak_processor.proofs.Common.{◌≡◌, ℕ, ◌<◌, List, All, length, map, slice_set, slice_index_or, get_or, ap, sym, ◌∙◌, subst, arith, Option, Some, None, IfSome, get_or-map, length-map, All-get_or, SemInfo, SemSeatInfo, Downs}
 use Rattle.std.proofs.Math.Seq.{map-set_same}
 use Rattle.fak_text.specs.Journal.{Process}
-use Rattle.fak_processor.proofs.OnlyCounts.{down_passes, down_parks, up_raises, up_rouses}
 
 -- what two lists have alike at a place
 pub alike_at : {X Y A : Type 0} (f : X → A) (g : Y → A) (xs : List X) (ys : List Y) (i : ℕ) (x : X) (y : Y) → map f xs ≡ map g ys → i < length xs → x ≡ slice_index_or xs i x → y ≡ slice_index_or ys i y → f x ≡ g y
@@ -18,20 +17,6 @@ alike_after f xs i x y xis same = map-set_same f xs i y x (same ∙ ap f xis)
 -- the seat at a place is the only one of its object
 pub only_at : {X : Type 0} (P : X → Type 0) (xs : List X) (i : ℕ) (x : X) → i < length xs → x ≡ slice_index_or xs i x → All P xs → P x
 only_at P xs i x below xis all = subst P (sym xis) (All-get_or P xs i x below all)
-
-module _ {old new : SemSeatInfo Process} {sem : SemInfo} (seats : List (SemSeatInfo Process)) (at : ℕ) (below : at < length seats) (is : old ≡ slice_index_or seats at old)
-    (fits : old.object ≡ sem.object) (same : new.object ≡ old.object) (all : All IsOnlySem seats) where
-  pub down_at : {who : Process} (answer : Option Process) → Downs sem who old new answer
-      → MatchOption answer (AtPlace at seats (slice_set seats at new) (Parks who)) (λ passed. (passed ≡ who) × AtPlace at seats (slice_set seats at new) Passes)
-  down_at None d = record { was = old; is = new; stood = is; stands = Rattle.std.proofs.Common.refl; made = down_parks (only_at IsOnlySem seats at old below is all) fits same d }
-  down_at (Some passed) d =
-      let made = down_passes (only_at IsOnlySem seats at old below is all) fits same d in
-      (made.0, record { was = old; is = new; stood = is; stands = Rattle.std.proofs.Common.refl; made = made.1 })
-
-  pub up_at : (answer : Option Process) → Ups sem old new answer
-      → MatchOption answer (AtPlace at seats (slice_set seats at new) Raises) (λ woken. AtPlace at seats (slice_set seats at new) (Rouses woken))
-  up_at None u = record { was = old; is = new; stood = is; stands = Rattle.std.proofs.Common.refl; made = up_raises (only_at IsOnlySem seats at old below is all) fits same u }
-  up_at (Some woken) u = record { was = old; is = new; stood = is; stands = Rattle.std.proofs.Common.refl; made = up_rouses (only_at IsOnlySem seats at old below is all) fits same u }
 
 pub passed_same : {who : Process} {old new : SemSeatInfo Process} {sem : SemInfo} (answer : Option Process) → Downs sem who old new answer → IfSome answer (λ passed. passed ≡ who)
 passed_same None d = tt

@@ -1,38 +1,23 @@
 -- What processor 0 does before the threads start.
 use Rattle.std.proofs.lemmas.List.{length-take-le, map-append, get_or-set_same}
 use Rattle.fak_model.specs.Calls.{SeatInfo}
-use Rattle.fak_processor.proofs.Common.{AreLines, Balanced, Named, joined, named, nothing, begun_names, Gains, GrowsAtLast, IsIdle, Moves, files_of, AreSeated, fresh_all, fresh_processor, no_seat, ◌≡◌, ℕ, zero, suc, ◌+◌, ◌-◌, ◌<◌, ◌≤◌, Bool, true, false, List, [], ◌∷◌, ◌++◌, length, map, take, drop, get_or, slice_index_or, slice_set, refl, ap, sym, ◌∙◌, subst, arith, Mark, kinds_in, kinds_out, ScriptOf, Process, new_process, Lists, begun_from, enter_ready, first_lists, numbers_from, turn_over, empty, fills, ObjectsOf, ProcessorOf, AreFor, AreOf, GoesTo, HasNoSlot, IsAlone, IsReached, TakesSlot, lists_of, Begins, Between, FindsNoSlot, FindsSlot, StartsOne, begins, empty_lists, balanced-joined, lines_none}
-use Rattle.fak_processor.proofs.Events.{keeps_fills, none_waits, quiet}
+use Rattle.fak_processor.proofs.Common.{AreLines, Balanced, Named, joined, named, nothing, begun_names, Gains, GrowsAtLast, Moves, files_of, AreSeated, fresh_all, fresh_processor, no_seat, ◌≡◌, ℕ, zero, suc, ◌+◌, ◌-◌, ◌<◌, ◌≤◌, Bool, List, [], ◌∷◌, ◌++◌, length, map, take, drop, get_or, slice_index_or, slice_set, refl, ap, sym, ◌∙◌, subst, arith, Mark, kinds_in, kinds_out, ScriptOf, Process, new_process, Lists, begun_from, enter_ready, first_lists, numbers_from, turn_over, empty, fills, ObjectsOf, ProcessorOf, AreFor, AreOf, GoesTo, HasNoSlot, IsAlone, IsReached, TakesSlot, lists_of, Begins, Between, FindsNoSlot, FindsSlot, StartsOne, begins, empty_lists, balanced-joined, lines_none}
+use Rattle.fak_processor.proofs.Events.{by_free, keeps_fills, quiet}
 use Rattle.fak_processor.proofs.Calls.{turning_more}
-use Rattle.fak_processor.proofs.Moving.{gains_free, gains_none, gains_then, idle_none, idle_then}
+use Rattle.fak_processor.proofs.Moving.{gains_free, gains_none, gains_then, idle_none, idle_then, quiet_empty}
 use Rattle.fak_processor.proofs.Gaining.{gains_as}
 use Rattle.fak_processor.proofs.Acting.{keeps_idle}
-use Rattle.fak_process.proofs.Opening.{numbers_from-next}
+use Rattle.fak_run.proofs.Opening.{numbers_from-next}
 use Rattle.fak_processor.proofs.Looping.{keeps_name}
 use Rattle.fak_processor.proofs.Fresh.{fresh_are, fresh_between, fresh_goes, fresh_name, fresh_turning}
 use Rattle.fak_processor.proofs.Dealing.{fresh_at, length-all}
 
 -- ---- among any number of processors
 
-idle_empty : (late : Bool) → IsIdle {T = ℕ} (empty late)
-idle_empty true = record { puts = λ f. refl; gots = λ f. refl }
-idle_empty false = record { puts = λ f. refl; gots = λ f. refl }
-
 module _ {script : ScriptOf} where
   -- a started process gets a slot
   keeps_begins : (n j i program slot : ℕ) → Balanced script n [] (new_process (i ∷ []) program slot ∷ []) (begins j (new_process (i ∷ []) program slot))
-  keeps_begins n j i program slot = let z = quiet script n in record {
-    processes = λ f. omega (arith, none_waits n);
-    slots = λ g. omega arith;
-    children = z.children;
-    new = omega arith;
-    births = z.births;
-    busy = z.busy;
-    semaphores = z.semaphores;
-    shutdown = z.shutdown;
-    made = z.made;
-    rows = z.rows;
-  }
+  keeps_begins n j i program slot = by_free script n (kinds_out j slot) [] (new_process (i ∷ []) program slot ∷ []) (λ g. omega arith) (λ f. refl) refl
 
   -- nothing was done yet
   pub begins_none : (p : ProcessorOf) → Begins script [] [] [] [] p p
@@ -66,7 +51,7 @@ module _ {script : ScriptOf} where
   pub no_slot_again : {p q r : ProcessorOf} → FindsNoSlot script p q → (late : Bool) × Gains script q r (record nothing { free = empty late }) → FindsNoSlot script p r
   no_slot_again x y = record {
     refused = x.refused ++ empty y.0;
-    idle = idle_then x.idle (idle_empty y.0);
+    idle = idle_then x.idle (quiet_empty {T = ℕ} y.0).idle;
     gains = gains_then (record nothing { free = x.refused }) (record nothing { free = empty y.0 }) x.gains y.1;
   }
 

@@ -6,11 +6,11 @@ use Rattle.fak_model.specs.Credit.{value}
 use Rattle.fak_queue.specs.Retries.{kinds_out}
 use Rattle.fak_text.specs.Script.{ScriptOf}
 use Rattle.fak_text.specs.Journal.{Process, new_process}
-use Rattle.fak_process.specs.ListScheduler.{Lists, enter_ready, first_lists, numbers_from}
-use Rattle.fak_process.specs.Report.{RowOf}
-use Rattle.fak_process.specs.Making.{AreLines}
-use Rattle.fak_process.specs.Ledger.{Balanced, Ledger, Named, named, nothing}
-use Rattle.fak_process.specs.Whole.{begun_names}
+use Rattle.fak_run.specs.ListScheduler.{Lists, enter_ready, first_lists, numbers_from}
+use Rattle.fak_run.specs.Report.{RowOf}
+use Rattle.fak_run.specs.Making.{AreLines}
+use Rattle.fak_run.specs.Ledger.{Balanced, Ledger, Named, named, nothing}
+use Rattle.fak_run.specs.Whole.{begun_names}
 use Rattle.fak_processor.specs.Turning.{Turning}
 use Rattle.fak_processor.specs.Processors.{ObjectsOf, ProcessorOf, AreOf, GoesTo}
 use Rattle.fak_processor.specs.Moving.{Gains, IsIdle, bundle_of, files_of, rows_weigh}

@@ -8,10 +8,10 @@ use Rattle.fak_model.specs.declared.credit.CreditKind.TheVariants.{Debit, Credit
 use Rattle.fak_queue.specs.Retries.{kinds_in, kinds_out}
 use Rattle.fak_text.specs.Script.{StepOf, down, up, spawn, shutdown}
 use Rattle.fak_text.specs.Journal.{NoteOf, downed, upped, spawned, no_birth, no_slot, shut_down, Process, births_of, child_count}
-use Rattle.fak_process.specs.ListScheduler.{child_of}
-use Rattle.fak_process.specs.declared.report.Outcome.TheVariants.{Ended, Halted}
-use Rattle.fak_process.specs.Report.{RowOf}
-use Rattle.fak_process.specs.Ledger.{Ledger, Made, nothing, child, downs_of, ups_of, shuts_of, no_births_of, no_slots_of}
+use Rattle.fak_run.specs.ListScheduler.{child_of}
+use Rattle.fak_run.specs.declared.report.Outcome.TheVariants.{Ended, Halted}
+use Rattle.fak_run.specs.Report.{RowOf}
+use Rattle.fak_run.specs.Ledger.{Ledger, Made, nothing, child, downs_of, ups_of, shuts_of, no_births_of, no_slots_of}
 
 abbrev pub made_of : Process → StepOf → NoteOf → Made
 made_of p step note = record { before = p; step = step; note = note }

@@ -3,8 +3,8 @@ use Rattle.std.specs.Prelude.{◌≡◌, ◌⊎◌, ◌<◌, ℕ, Bool, true, fa
 use Rattle.fak_model.specs.Calls.{SeatInfo}
 use Rattle.fak_model.specs.declared.queue.Mark.{Mark}
 use Rattle.fak_queue.specs.Queues.{drawn_by}
-use Rattle.fak_process.specs.declared.fault.Fault.{Fault}
-use Rattle.fak_process.specs.declared.fault.Fault.TheVariants.{Memory, Worn, Gate}
+use Rattle.fak_run.specs.declared.fault.Fault.{Fault}
+use Rattle.fak_run.specs.declared.fault.Fault.TheVariants.{Memory, Worn, Gate}
 
 -- a step had no memory, or the stint of a seat was over
 abbrev pub IsOfStep : Fault → Type 0

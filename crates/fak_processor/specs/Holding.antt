@@ -13,12 +13,12 @@ use Rattle.fak_model.specs.Room.{room_rules}
 use Rattle.fak_model.specs.Room as room
 use Rattle.fak_model.specs.Credit.{credit_rules, value}
 use Rattle.fak_model.specs.Credit as credit
-use Rattle.fak_sem.specs.Semaphores.{SemSeatInfo, SemTallyInfo, credit_part, queue_part, credit_tally, queue_tally, JoinsSeat}
+use Rattle.fak_sem.specs.Semaphores.{SemSeatInfo, SemTallyInfo, credit_tally, queue_tally, JoinsSeat}
 use Rattle.fak_text.specs.Script.{ScriptOf}
 use Rattle.fak_text.specs.Journal.{Process}
-use Rattle.fak_process.specs.ListScheduler.{numbers_from}
-use Rattle.fak_process.specs.Ledger.{Ledger, Balanced, named}
-use Rattle.fak_process.specs.Whole.{begun_names}
+use Rattle.fak_run.specs.ListScheduler.{numbers_from}
+use Rattle.fak_run.specs.Ledger.{Ledger, Balanced, named}
+use Rattle.fak_run.specs.Whole.{begun_names}
 
 -- the seat's own marks are of these kinds, and what it has seen is lawful
 pub record Owns {M W C K : Type 0} (rules : Rules M W C) (kind_of : M → K) (s : SeatInfo M) (kinds : List K) : Type 0 where
@@ -49,18 +49,6 @@ pub record Tallies : Type 0 where
   pub births : TallyInfo RoomMark
   pub busy : TallyInfo CreditMark
   pub sems : ℕ → SemTallyInfo Process
-
--- what a processor has when it leaves
-pub record Leaves (script : ScriptOf) (b : Bundle) (l : Ledger) : Type 0 where
-  pub balanced : Balanced script (length script.semaphores) [] [] l
-  pub ready : Owns (queue_rules script.slots) queue_kind b.ready l.ready
-  pub free : Owns (queue_rules script.slots) queue_kind b.free l.free
-  pub births : Owns (room_rules script.births) room.kind_of b.births l.births
-  pub busy : Owns credit_rules credit.kind_of b.busy l.busy
-  pub credits : (s : ℕ) → s < length script.semaphores → Owns credit_rules credit.kind_of (credit_part (b.sems s)) (l.credits s)
-  pub waits : (s : ℕ) → s < length script.semaphores → Owns (queue_rules script.slots) queue_kind (queue_part (b.sems s)) (l.waits s)
-  -- it leaves where busy showed 0
-  pub idle : value (length script.start) b.busy.seen ≡ pos 0
 
 -- what they have together
 pub record Have (script : ScriptOf) (t : Tallies) (l : Ledger) : Type 0 where

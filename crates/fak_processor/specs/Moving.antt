@@ -11,17 +11,17 @@ use Rattle.fak_sem.specs.Semaphores.{SemInfo, SemSeatInfo, Downs, Ups}
 use Rattle.fak_queue.specs.Retries.{RefusedInsertion, RefusedDeletion, kinds_not_in, kinds_not_out, kinds_in, kinds_out}
 use Rattle.fak_text.specs.Script.{ScriptOf, down}
 use Rattle.fak_text.specs.Journal.{NoteOf, Process, FitsScript, StandsAt, after_note, downed}
-use Rattle.fak_process.specs.ListScheduler.{Turn}
-use Rattle.fak_process.specs.declared.report.Outcome.{Outcome}
-use Rattle.fak_process.specs.declared.report.Outcome.TheVariants.{Ended, Halted}
-use Rattle.fak_process.specs.Report.{RowOf}
-use Rattle.fak_process.specs.Ledger.{Ledger, Balanced, nothing}
+use Rattle.fak_run.specs.ListScheduler.{Turn}
+use Rattle.fak_run.specs.declared.report.Outcome.{Outcome}
+use Rattle.fak_run.specs.declared.report.Outcome.TheVariants.{Ended, Halted}
+use Rattle.fak_run.specs.Report.{RowOf}
+use Rattle.fak_run.specs.Ledger.{Ledger, Balanced, nothing}
 use Rattle.fak_model.specs.Weights.{put_of, got_of, close_of, closed_of}
 use Rattle.fak_processor.specs.Events.{closed, empty}
 use Rattle.fak_processor.specs.Holding.{queue_kind, Bundle}
 use Rattle.fak_processor.specs.Turning.{Grows, Adds}
-use Rattle.fak_process.specs.Making.{AreLines}
-use Rattle.fak_process.specs.Reported.{file_lines}
+use Rattle.fak_run.specs.Making.{AreLines}
+use Rattle.fak_run.specs.Reported.{file_lines}
 use Rattle.fak_processor.specs.Processors.{ProcessorOf, AtPlace}
 
 -- ---- calls on one queue, tried again where they were refused
@@ -68,12 +68,6 @@ pub record GrowsAtLast {T : Type 0} (size : ℕ) (x : T) (old new : SeatInfo (Ma
 pub record GrowsOut {T : Type 0} (size : ℕ) (x : T) (old new : SeatInfo (Mark T)) : Type 0 where
   pub ticket : ℕ
   pub grows : Grows (queue_rules size) queue_kind old new (kinds_out ticket x)
-
--- refusals Full
-pub record GrowsNone {T : Type 0} (size : ℕ) (old new : SeatInfo (Mark T)) : Type 0 where
-  pub refused : List (Kind T)
-  pub quiet : IsQuiet refused
-  pub grows : Grows (queue_rules size) queue_kind old new refused
 
 -- nothing was there
 pub record GrowsEmpty {T : Type 0} (size : ℕ) (old new : SeatInfo (Mark T)) : Type 0 where

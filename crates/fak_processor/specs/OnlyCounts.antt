@@ -9,7 +9,7 @@ use Rattle.fak_model.specs.Queue.{contents}
 use Rattle.fak_model.specs.Calls.{SeatInfo}
 use Rattle.fak_count.specs.Rooms.{held_amount}
 use Rattle.fak_sem.specs.Semaphores.{SemSeatInfo, credit_part, queue_part}
-use Rattle.fak_process.specs.Only.{IsOnly}
+use Rattle.fak_run.specs.Only.{IsOnly}
 
 -- ---- semaphores
 

@@ -5,7 +5,7 @@ use Rattle.fak_model.specs.declared.queue.Kind.TheVariants.{Close}
 use Rattle.fak_model.specs.declared.queue.Mark.{Mark}
 use Rattle.fak_model.specs.Queue.{count, lower_raise, lower_drop, contents}
 use Rattle.fak_model.specs.Calls.{SeatInfo}
-use Rattle.fak_process.specs.Only.{IsOnly}
+use Rattle.fak_run.specs.Only.{IsOnly}
 
 abbrev pub is_close : {T : Type 0} → Kind T → Bool
 is_close Close = true

@@ -10,7 +10,7 @@ use Rattle.fak_files.specs.declared.phase.Hold.TheVariants.{Nothing}
 use Rattle.fak_files.specs.Calls.{FileSeatInfo, file_seat}
 use Rattle.fak_text.specs.Script.{ScriptOf}
 use Rattle.fak_text.specs.Journal.{Process}
-use Rattle.fak_process.specs.Files.{free_entry}
+use Rattle.fak_run.specs.Files.{free_entry}
 use Rattle.fak_processor.specs.Processors.{ObjectsOf, ProcessorOf, ids_of}
 
 -- a row for each processor, and one more seat for each row

@@ -15,11 +15,11 @@ use Rattle.fak_files.specs.Calls.{FileTableInfo, FileSeatInfo}
 use Rattle.fak_files.specs.declared.phase.Hold.TheVariants.{Nothing}
 use Rattle.fak_text.specs.Script.{ScriptOf}
 use Rattle.fak_text.specs.Journal.{Process, downed, after_note}
-use Rattle.fak_process.specs.ListScheduler.{Lists, State, Turn, steps, opening}
-use Rattle.fak_process.specs.Contexts.{WaitAtTheirs}
+use Rattle.fak_run.specs.ListScheduler.{Lists, State, Turn, steps, opening}
+use Rattle.fak_run.specs.Contexts.{WaitAtTheirs}
 use Rattle.fak_processor.specs.OnlyQueues.{IsOnlySeat, has_close}
 use Rattle.fak_processor.specs.OnlyCounts.{IsOnlySem, IsOnlyRoom, semaphore_count, sleepers_of}
-use Rattle.fak_process.specs.OnlyFiles.{IsOnlyFiles, entries_now}
+use Rattle.fak_run.specs.OnlyFiles.{IsOnlyFiles, entries_now}
 
 -- what all processors share
 pub record ObjectsOf : Type 0 where

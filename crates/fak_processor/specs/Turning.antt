@@ -10,7 +10,7 @@ use Rattle.fak_model.specs.Credit as credit
 use Rattle.fak_sem.specs.Semaphores.{credit_part, queue_part}
 use Rattle.fak_text.specs.Script.{ScriptOf}
 use Rattle.fak_text.specs.Journal.{Process}
-use Rattle.fak_process.specs.Ledger.{Ledger, Balanced}
+use Rattle.fak_run.specs.Ledger.{Ledger, Balanced}
 use Rattle.fak_processor.specs.Holding.{Owns, queue_kind, Bundle}
 
 -- the seats' marks are those of the ledger, which balances but for what is in hand

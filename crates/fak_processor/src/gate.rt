@@ -3,7 +3,7 @@
 ghost use Rattle.std.specs.Prelude.{◌≡◌, ◌≤◌, ℕ, Bool, true, false, IfOk, IfErr};
 ghost use Rattle.fak_processor.specs.Faults.{HasPassed, IsOfGate, look_behind};
 
-use fak_process::Fault;
+use fak_run::Fault;
 
 /// What a processor passes before each look at the ready queue. A gate is its two methods. The ghost members, which
 /// proofs alone see, have defaults: a gate that may refuse, and that may answer anything.

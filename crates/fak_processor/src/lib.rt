@@ -10,6 +10,5 @@ pub use alarm::Alarm;
 pub use gate::{FreeGate, Gate};
 pub use objects::Objects;
 pub use objects::opening::{Opened, open_run};
-pub use objects::semaphores::{SemSeats, Semaphores};
 pub use processor::Processor;
 pub use processor::files::Files;

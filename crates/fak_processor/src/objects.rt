@@ -1,15 +1,14 @@
 //! What the processors of a run share.
 
 pub(crate) mod opening;
-pub(crate) mod semaphores;
 pub(crate) mod starting;
 
 use crate::alarm::Alarm;
 use fak_count::{Credit, Room};
 use fak_files::FileTable;
-use fak_process::{Context, Run, Slot};
 use fak_queue::Queue;
-use semaphores::Semaphores;
+use fak_run::{Context, Run, Sleeper, Slot};
+use fak_sem::Semaphore;
 use std::fmt;
 use std::marker::Model;
 
@@ -20,8 +19,8 @@ pub struct Objects<K: Run> {
     pub ready: Queue<Context<K>>,
     /// The free slots.
     pub free: Queue<Slot<K>>,
-    /// The semaphores of the script, with the processes that sleep there.
-    pub semaphores: Semaphores<K>,
+    /// The semaphores of the script, in its order, with the processes that sleep there.
+    pub semaphores: Vec<Semaphore<Sleeper<K>>>,
     /// The births that were used.
     pub births: Room,
     /// How many processes are ready or run.
@@ -34,20 +33,27 @@ pub struct Objects<K: Run> {
 
 impl<K: Run> Model for Objects<K> {
     ghost use Rattle.std.specs.Prelude.{◌≡◌};
-    ghost use Rattle.fak_processor.specs.Processors.{ObjectsOf};
+    ghost use Rattle.fak_processor.specs.Processors.{AreFor, ObjectsOf};
 
     ghost Value = { ObjectsOf };
 
     ghost view = { λ o. record {
       ready = o.ready;
       free = o.free;
-      semaphores = o.semaphores;
+      semaphores = o.semaphores.items;
       births = o.births;
       busy = o.busy;
       files = o.files;
     } };
 
-    ghost invariant = { λ o. o.alarm ≡ o.ready.object.seats };
+    ghost invariant = { λ o. (o.alarm ≡ o.ready.object.seats) × AreFor K.script (record {
+      ready = o.ready;
+      free = o.free;
+      semaphores = o.semaphores.items;
+      births = o.births;
+      busy = o.busy;
+      files = o.files;
+    }) };
 }
 
 impl<K: Run> fmt::Debug for Objects<K> {

@@ -3,7 +3,7 @@
 ghost use Rattle.std.specs.Prelude.{◌≡◌, [], ◌∷◌, IfOk, IfErr};
 ghost use Rattle.fak_model.specs.declared.credit.CreditKind.TheVariants as made;
 ghost use Rattle.fak_count.specs.Credits.{calls_made};
-ghost use Rattle.fak_process.specs.Ledger.{nothing};
+ghost use Rattle.fak_run.specs.Ledger.{nothing};
 ghost use Rattle.fak_processor.specs.Moving.{Gains};
 ghost use Rattle.fak_processor.specs.Processors.{AreOf, GoesTo, IsAlone, ProcessorOf, lists_of};
 
@@ -18,11 +18,11 @@ mod turn;
 mod turns;
 
 use crate::objects::Objects;
-use crate::objects::semaphores::SemSeats;
 use fak_count::{CreditSeat, RoomSeat};
 use fak_files::FileSeat;
-use fak_process::{Context, Fault, Run, Slot};
 use fak_queue::Seat;
+use fak_run::{Context, Fault, Run, Sleeper, Slot};
+use fak_sem::SemSeat;
 use files::Files;
 use std::fmt;
 use std::marker::Model;
@@ -34,8 +34,8 @@ pub struct Processor<K: Run> {
     pub ready: Seat<Context<K>>,
     /// Its seat at the free slots.
     pub free: Seat<Slot<K>>,
-    /// Its seats at the semaphores.
-    pub semaphores: SemSeats<K>,
+    /// Its seats at the semaphores, in the order of the script.
+    pub semaphores: Vec<SemSeat<Sleeper<K>>>,
     /// Its seat at the births.
     pub births: RoomSeat,
     /// Its seat at the count of the processes that are ready or run.
@@ -58,7 +58,7 @@ impl<K: Run> Model for Processor<K> {
     ghost view = { λ p. record {
       ready = p.ready;
       free = p.free;
-      semaphores = p.semaphores;
+      semaphores = p.semaphores.items;
       births = p.births;
       busy = p.busy;
       files = p.files;
@@ -74,7 +74,8 @@ impl<K: Run> Processor<K> {
         requires objects { AreOf objects.now self.old }
         ensures objects { AreOf objects.now self.new }
         ensures same { self.new ≡ record self.old { busy = self.new.busy } }
-        ensures gains { IfOk result (λ _. Gains K.script self.old self.new (record nothing { busy = made.Credit ∷ [] })) }
+        ensures gains { IfOk result (λ _. Gains K.script self.old self.new
+            (record nothing { busy = made.Credit ∷ [] })) }
         ensures alone { IsAlone K.script self.old → GoesTo K.script self.new (lists_of K.script self.old) }
         ensures worn { IfErr result (λ fault. fault ≡ Fault.Worn) }
         ensures spent { IfErr result (λ _. calls_made self.new.busy ≡ self.new.busy.stint) }
@@ -90,7 +91,8 @@ impl<K: Run> Processor<K> {
         requires objects { AreOf objects.now self.old }
         ensures objects { AreOf objects.now self.new }
         ensures same { self.new ≡ record self.old { busy = self.new.busy } }
-        ensures gains { IfOk result (λ _. Gains K.script self.old self.new (record nothing { busy = made.Debit ∷ [] })) }
+        ensures gains { IfOk result (λ _. Gains K.script self.old self.new
+            (record nothing { busy = made.Debit ∷ [] })) }
         ensures alone { IsAlone K.script self.old → GoesTo K.script self.new (lists_of K.script self.old) }
         ensures worn { IfErr result (λ fault. fault ≡ Fault.Worn) }
         ensures spent { IfErr result (λ _. calls_made self.new.busy ≡ self.new.busy.stint) }

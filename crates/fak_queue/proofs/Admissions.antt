@@ -4,7 +4,7 @@ use Rattle.fak_model.specs.declared.queue.Stage.TheVariants as at
 use Rattle.fak_model.specs.Queue.{count, puts, gots, upper_count, lower_count}
 use Rattle.fak_model.specs.QueuePast.{after as after_kind}
 use Rattle.fak_core.specs.declared.queue.phase.Phase.TheVariants.{Idle, AddUp, BackUp, TicketIn, TurnIn, TurnOut}
-use Rattle.fak_queue.proofs.Common.{UpperCount, LowerCount, QueueHolder, RestsAt, idle, inserting, deleting, IsPart, ClaimedIn, RefusedIn, ClaimedOut, RefusedOut, Nothing, ◌≡◌, ℕ, ◌-◌, ◌<◌, ◌^◌, List, [], ◌∷◌, refl, sym, ap, ◌∙◌, subst, inl, inr, Some, ℤ, Bool, true, false, reverse, Mark, count_reverse, mark, Marks, Named, ShutAs, TestedUp, AddedUp, BacksUp, DrewIn, TestedLow, SubtractedLow, BacksLow, DrawsOut}
+use Rattle.fak_queue.proofs.Common.{UpperCount, LowerCount, QueueHolder, RestsAt, idle, inserting, deleting, IsPart, ClaimedIn, RefusedIn, ClaimedOut, RefusedOut, TellsOfNeither, ◌≡◌, ℕ, ◌-◌, ◌<◌, ◌^◌, List, [], ◌∷◌, refl, sym, ap, ◌∙◌, subst, inl, inr, Some, ℤ, Bool, true, false, reverse, Mark, count_reverse, mark, Marks, Named, ShutAs, TestedUp, AddedUp, BacksUp, DrewIn, TestedLow, SubtractedLow, BacksLow, DrawsOut}
 use Rattle.std.specs.Prelude.{Ok, Err}
 use Rattle.fak_queue.specs.declared.found.NoRoom.{NoRoom}
 use Rattle.fak_queue.specs.declared.found.NoRoom.TheVariants.{Full, Shut}
@@ -76,7 +76,7 @@ module _ {T : Type 0} (size seats n : ℕ) (x : T) (r : UpperCount) (m0 m1 : Que
     refused_at_add Shut e backs =
         let l = subst (λ z. AddedUp size seats n x z m1 m2) e added in
         let b = backs n (names_kept l ∙ one1) in
-        inr (part_two n made.LateIn made.BackIn first refl l b one (slots_are l ∙ free1) m0.0.left (left_is l ∙ left1) idle Nothing tt)
+        inr (part_two n made.LateIn made.BackIn first refl l b one (slots_are l ∙ free1) m0.0.left (left_is l ∙ left1) idle TellsOfNeither tt)
 
 -- ---- deletions
 
@@ -119,6 +119,6 @@ pub closing : {T : Type 0} (size seats n : ℕ) (m w : QueueHolder T) (then : Li
     → IsPart size seats n (made.Close ∷ []) Idle m.0.left (λ first second. then first) m w
 closing size seats n m w then one free l = part_one n made.Close l one free m.0.left refl idle then l.told
 
-pub closed : {T : Type 0} (size seats n : ℕ) (m w : QueueHolder T) → m.0.names ≡ n ∷ [] → m.1 ≡ [] → (b : Bool) → ShutAs size seats n b m w → IsPart size seats n (made.Close ∷ []) Idle m.0.left Nothing m w
+pub closed : {T : Type 0} (size seats n : ℕ) (m w : QueueHolder T) → m.0.names ≡ n ∷ [] → m.1 ≡ [] → (b : Bool) → ShutAs size seats n b m w → IsPart size seats n (made.Close ∷ []) Idle m.0.left TellsOfNeither m w
 closed size seats n m w one free true l = part_one n made.Close l one free m.0.left refl idle (λ h. Unit {0}) tt
 closed size seats n m w one free false l = part_one n made.Close l one free m.0.left refl idle (λ h. Unit {0}) tt

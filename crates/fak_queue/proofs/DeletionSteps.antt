@@ -4,7 +4,7 @@ use Rattle.fak_core.specs.declared.queue.phase.Phase.TheVariants.{Idle, TestLow,
 use Rattle.fak_core.specs.declared.queue.step.QueueMove.{QueueMove}
 use Rattle.fak_core.specs.QueueMoves.{QueueState, with_at, with_phase, moved, ticket_out}
 use Rattle.fak_core.specs.QueueSchedule.{InCell, IsReached, move_from}
-use Rattle.fak_queue.proofs.Common.{LowerCount, QueueLimits, QueueHolder, IsAtHome, IsEncoded, queue_object, IsShownQueue, ◌≡◌, ◌≢◌, ℕ, ◌+◌, ◌-◌, ◌*◌, ◌/◌, ◌%◌, ◌^◌, ◌<◌, ◌==◌, List, [], ◌∷◌, ◌++◌, slice_index, set, refl, sym, ap, ◌∙◌, subst, inl, inr, arith, length-set, Option, Some, None, ℤ, pos, int_lt, mod-eq_of_lt, reverse, reverse-reverse, nat_tests, some, none, get_elem?, count, gots, lower_count, items_put, item_at, stage, item_of, sight, keeps, takes, gives, homes_after, Mark, Getting, count_reverse, has_back, item_same, contents_bounded, item_there, getting_below, steps, Phase, shown, at_here, at_else, waits_take, true_or_false, if_true, if_false, kept, moves, deletes, loads_put, draws_put, AreWords, IsLowerCount, mark, Anything, TestedLow, SubtractedLow, BacksLow, DrawsOut, WaitsOut, TurnedOut, FreedCell, EndsOut}
+use Rattle.fak_queue.proofs.Common.{LowerCount, QueueLimits, QueueHolder, IsAtHome, IsEncoded, queue_object, IsShownQueue, ◌≡◌, ◌≢◌, ℕ, ◌+◌, ◌-◌, ◌*◌, ◌/◌, ◌%◌, ◌^◌, ◌<◌, ◌==◌, List, [], ◌∷◌, ◌++◌, slice_index, set, refl, sym, ap, ◌∙◌, subst, inl, inr, arith, length-set, Option, Some, None, ℤ, pos, int_lt, mod-eq_of_lt, reverse, reverse-reverse, nat_tests, some, none, get_elem?, count, gots, lower_count, items_put, item_at, stage, item_of, sight, keeps, takes, gives, homes_after, Mark, Getting, count_reverse, has_back, item_same, contents_bounded, item_there, getting_below, steps, Phase, shown, at_here, at_else, waits_take, true_or_false, if_true, if_false, kept, moves, deletes, loads_put, draws_put, AreWords, IsLowerCount, mark, TellsNothing, TestedLow, SubtractedLow, BacksLow, DrawsOut, WaitsOut, TurnedOut, FreedCell, EndsOut}
 use Rattle.fak_queue.proofs.WordWrites.{positive_word, empty_word, only_positive, only_empty, words_draws_out}
 use Rattle.fak_queue.proofs.Slots.{takes_slot, gives_slot, slot_there}
 use Rattle.fak_queue.proofs.Stepping.{QueueTable, queue_law, Permits, K, stands, outside, lower_past, loaded, upper_shrunk, lower_grown, lower_shrunk, few_draws, near, turn_is, turn_set, apart1, apart2, here1, here2, advances, quiet_step}
@@ -39,7 +39,7 @@ module _ {T : Type 0} (key : QueueLimits) (s : QueueTable T) (r : IsShownQueue k
       elim (true_or_false (int_lt (pos 0) r.core.lower)) [
         | inl lt ↦ (
             let reached_here = if_true (Leads c) (int_lt (pos 0) r.core.lower) _ _ lt reached_next in
-            let q = quiet_step key s r id n m at one _ reached_here [] refl tt (phases SubLow) refl refl out 32 w (loaded key s r id n m at one 32) SubLow (here SubLow) (λ i j. j) m.0.left (omega arith) Anything tt in
+            let q = quiet_step key s r id n m at one _ reached_here [] refl tt (phases SubLow) refl refl out 32 w (loaded key s r id n m at one 32) SubLow (here SubLow) (λ i j. j) m.0.left (omega arith) TellsNothing tt in
             (sight m.0.names r.core.past SubLow m.0.left, keeps, tt, q.0, only_positive (Then (After [] SubLow)) w (positive_word w r.core.lower word lt) q.1))
         | inr ge ↦ (
             let reached_here = if_false (Leads c) (int_lt (pos 0) r.core.lower) _ _ ge reached_next in
@@ -62,7 +62,7 @@ module _ {T : Type 0} (key : QueueLimits) (s : QueueTable T) (r : IsShownQueue k
         | inl lt ↦ (
             let reached_here = if_true (Leads r.core) (int_lt (pos 0) r.core.lower) _ _ lt reached_next in
             let new : List (Mark T) = mark n made.ClaimOut ∷ [] in
-            let q = quiet_step key s r id n m at one _ reached_here new refl (refl, tt) (apart1 key s r id n m at one TicketOut) refl refl out 32 w' words TicketOut (here1 key s r id n m at one TicketOut) (λ i j. j) m.0.left (omega arith) Anything tt in
+            let q = quiet_step key s r id n m at one _ reached_here new refl (refl, tt) (apart1 key s r id n m at one TicketOut) refl refl out 32 w' words TicketOut (here1 key s r id n m at one TicketOut) (λ i j. j) m.0.left (omega arith) TellsNothing tt in
             (sight m.0.names (new ++ r.core.past) TicketOut m.0.left, keeps, tt, q.0, only_positive (Then (After new TicketOut)) w (positive_word w r.core.lower word lt) q.1))
         | inr ge ↦ (
             let reached_here = if_false (Leads r.core) (int_lt (pos 0) r.core.lower) _ _ ge reached_next in
@@ -76,7 +76,7 @@ module _ {T : Type 0} (key : QueueLimits) (s : QueueTable T) (r : IsShownQueue k
   backs_low e =
       let R = moves key.size r.core r.reached n BackLow (stands key s r id n m at one BackLow e) in
       let new : List (Mark T) = mark n made.BackOut ∷ [] in
-      let q = quiet_step key s r id n m at one _ R new refl (refl, tt) (apart1 key s r id n m at one Idle) refl refl (outside key s r id n m at one BackLow e (λ i j. j)) 32 _ (lower_grown key s r id n m at one) Idle (here1 key s r id n m at one Idle) (λ i j. j) m.0.left (omega arith) Anything tt in
+      let q = quiet_step key s r id n m at one _ R new refl (refl, tt) (apart1 key s r id n m at one Idle) refl refl (outside key s r id n m at one BackLow e (λ i j. j)) 32 _ (lower_grown key s r id n m at one) Idle (here1 key s r id n m at one Idle) (λ i j. j) m.0.left (omega arith) TellsNothing tt in
       (sight m.0.names (new ++ r.core.past) Idle m.0.left, keeps, tt, q.0, q.1)
 
   pub draws_out : m.0.phase ≡ Some TicketOut → 0 < m.0.left → Step 64 (λ w. (w + 1) % 2 ^ 64) (DrawsOut key.size key.seats n m)
@@ -175,12 +175,12 @@ module _ {T : Type 0} (key : QueueLimits) (s : QueueTable T) (r : IsShownQueue k
         slots_are = gives_slot key.size n r.core s.homes r.encoded.wide r.encoded.slots_are d others r.encoded.some_cell r.reached i (near key s r id n m at one k) (λ j ne. (at_else r.core.turn i j (2 * (k / key.size) + 2) ne, refl)) inside mine nowhere None home;
       } in
       let gives_back : IsEncoded key.size key.seats d (set s.words (80 + i) v) (homes_after s.homes m.1 gives) = subst (λ l. IsEncoded key.size key.seats d (set s.words (80 + i) v) (homes_after s.homes l gives)) (sym held) shows in
-      let q = steps (queue_object key.size key.seats) s r id n m at one (queue_law key.size key.seats r.encoded.some_cell) d new p step (80 + i) v gives gives_back m.0.left (omega arith) Anything tt in
+      let q = steps (queue_object key.size key.seats) s r id n m at one (queue_law key.size key.seats r.encoded.some_cell) d new p step (80 + i) v gives gives_back m.0.left (omega arith) TellsNothing tt in
       (sight m.0.names (new ++ r.core.past) p m.0.left, gives, tt, q.0, q.1)
 
   pub ends_out : (k : ℕ) → m.0.phase ≡ Some (EndDelete k) → Step 16 (λ w. (w + (2 ^ 64 - 1)) % 2 ^ 64) (λ found after. EndsOut key.size key.seats n m after)
   ends_out k e =
       let R = moves key.size r.core r.reached n (EndDelete k) (stands key s r id n m at one (EndDelete k) e) in
       let new : List (Mark T) = mark n made.EndOut ∷ [] in
-      let q = quiet_step key s r id n m at one _ R new refl (refl, tt) (apart1 key s r id n m at one Idle) refl refl (outside key s r id n m at one (EndDelete k) e (λ i j. j)) 16 _ (upper_shrunk key s r id n m at one) Idle (here1 key s r id n m at one Idle) (λ i j. j) m.0.left (omega arith) Anything tt in
+      let q = quiet_step key s r id n m at one _ R new refl (refl, tt) (apart1 key s r id n m at one Idle) refl refl (outside key s r id n m at one (EndDelete k) e (λ i j. j)) 16 _ (upper_shrunk key s r id n m at one) Idle (here1 key s r id n m at one Idle) (λ i j. j) m.0.left (omega arith) TellsNothing tt in
       (sight m.0.names (new ++ r.core.past) Idle m.0.left, keeps, tt, q.0, q.1)

@@ -2,7 +2,7 @@
 use Rattle.fak_model.specs.declared.queue.Kind.TheVariants as made
 use Rattle.fak_core.specs.declared.queue.phase.Phase.TheVariants.{Idle, TestUp, AddUp, BackUp, TicketIn, TurnIn, StoreItem, SetFull, EndInsert, SetShut}
 use Rattle.fak_core.specs.declared.queue.step.QueueMove.{QueueMove}
-use Rattle.fak_queue.proofs.Common.{UpperCount, QueueLimits, AreWords, IsUpperCount, QueueHolder, IsAtHome, IsEncoded, queue_object, IsShownQueue, ◌≡◌, ◌≢◌, ℕ, ◌+◌, ◌-◌, ◌*◌, ◌/◌, ◌%◌, ◌^◌, ◌<◌, ◌==◌, true, List, [], ◌∷◌, ◌++◌, slice_index, set, refl, sym, ap, ◌∙◌, subst, inl, inr, arith, length-set, bit_or, Option, Some, None, ℤ, pos, int_lt, mod-eq_of_lt, reverse, nat_tests, some, none, get_elem?, count, puts, upper_count, Has, stage, sight, keeps, takes, gives, homes_after, Mark, Putting, count_reverse, has_reverse, has_back, steps, Phase, QueueState, with_at, with_phase, moved, InCell, IsReached, move_from, shown, at_here, at_else, waits_fill, true_or_false, if_true, if_false, moves, inserts, closes, mark, Anything, TestedUp, AddedUp, BacksUp, DrewIn, WaitsIn, TurnedIn, FilledCell, EndsIn, Shuts}
+use Rattle.fak_queue.proofs.Common.{UpperCount, QueueLimits, AreWords, IsUpperCount, QueueHolder, IsAtHome, IsEncoded, queue_object, IsShownQueue, ◌≡◌, ◌≢◌, ℕ, ◌+◌, ◌-◌, ◌*◌, ◌/◌, ◌%◌, ◌^◌, ◌<◌, ◌==◌, true, List, [], ◌∷◌, ◌++◌, slice_index, set, refl, sym, ap, ◌∙◌, subst, inl, inr, arith, length-set, bit_or, Option, Some, None, ℤ, pos, int_lt, mod-eq_of_lt, reverse, nat_tests, some, none, get_elem?, count, puts, upper_count, Has, stage, sight, keeps, takes, gives, homes_after, Mark, Putting, count_reverse, has_reverse, has_back, steps, Phase, QueueState, with_at, with_phase, moved, InCell, IsReached, move_from, shown, at_here, at_else, waits_fill, true_or_false, if_true, if_false, moves, inserts, closes, mark, TellsNothing, TestedUp, AddedUp, BacksUp, DrewIn, WaitsIn, TurnedIn, FilledCell, EndsIn, Shuts}
 use Rattle.fak_queue.proofs.WordWrites.{below_word, full_word, shut_above, open_below, only_shut, only_below, only_full, shut_word, words_upper, words_draws_in}
 use Rattle.fak_queue.proofs.Slots.{takes_slot, gives_slot, slot_there}
 use Rattle.fak_queue.proofs.Stepping.{QueueTable, queue_law, Permits, K, stands, outside, upper_most, upper_bounds, upper_shut, upper_open, upper_past, loaded, upper_grown, upper_shrunk, lower_grown, few_draws, near, turn_is, turn_set, apart1, apart2, here1, here2, advances, quiet_step}
@@ -36,7 +36,7 @@ module _ {T : Type 0} (key : QueueLimits) (s : QueueTable T) (r : IsShownQueue k
         | inl shut ↦ (
             let reached_here = if_true (Leads c) r.core.shut _ _ shut reached_next in
             let new : List (Mark T) = mark n made.Closed ∷ [] in
-            let q = quiet_step key s r id n m at one _ reached_here new refl (refl, tt) (phases Idle) refl refl out 16 w same Idle (here Idle) (λ i j. j) m.0.left (omega arith) Anything tt in
+            let q = quiet_step key s r id n m at one _ reached_here new refl (refl, tt) (phases Idle) refl refl out 16 w same Idle (here Idle) (λ i j. j) m.0.left (omega arith) TellsNothing tt in
             let high = shut_above w 0 most r.core.upper (upper_shut key s r id n m at one shut) b.0 (omega arith) in
             (sight m.0.names (new ++ r.core.past) Idle m.0.left, keeps, tt, q.0, only_shut (Then (After new Idle)) key.size w r.encoded.few_cells high q.1))
         | inr opn ↦ (
@@ -45,7 +45,7 @@ module _ {T : Type 0} (key : QueueLimits) (s : QueueTable T) (r : IsShownQueue k
             elim (true_or_false (int_lt r.core.upper (pos key.size))) [
               | inl lt ↦ (
                   let reached_last = if_true (Leads c) (int_lt r.core.upper (pos key.size)) _ _ lt reached_here in
-                  let q = quiet_step key s r id n m at one _ reached_last [] refl tt (phases (AddUp x)) refl refl out 16 w same (AddUp x) (here (AddUp x)) (λ i j. j) m.0.left (omega arith) Anything tt in
+                  let q = quiet_step key s r id n m at one _ reached_last [] refl tt (phases (AddUp x)) refl refl out 16 w same (AddUp x) (here (AddUp x)) (λ i j. j) m.0.left (omega arith) TellsNothing tt in
                   let low = below_word w key.size r.core.upper word lt in
                   (sight m.0.names r.core.past (AddUp x) m.0.left, keeps, tt, q.0, only_below (Then (After [] (AddUp x))) key.size w r.encoded.few_cells low q.1))
               | inr ge ↦ (
@@ -73,7 +73,7 @@ module _ {T : Type 0} (key : QueueLimits) (s : QueueTable T) (r : IsShownQueue k
         | inl shut ↦ (
             let reached_here = if_true (Leads r.core) r.core.shut _ _ shut reached_next in
             let new : List (Mark T) = mark n made.LateIn ∷ [] in
-            let q = quiet_step key s r id n m at one _ reached_here new refl (refl, tt) (apart1 key s r id n m at one (BackUp x)) refl refl out 16 w' words (BackUp x) (here1 key s r id n m at one (BackUp x)) (λ i j. j) m.0.left (omega arith) Anything tt in
+            let q = quiet_step key s r id n m at one _ reached_here new refl (refl, tt) (apart1 key s r id n m at one (BackUp x)) refl refl out 16 w' words (BackUp x) (here1 key s r id n m at one (BackUp x)) (λ i j. j) m.0.left (omega arith) TellsNothing tt in
             let high = shut_above w 0 most r.core.upper (upper_shut key s r id n m at one shut) b.0 (omega arith) in
             (sight m.0.names (new ++ r.core.past) (BackUp x) m.0.left, keeps, tt, q.0, only_shut (Then (After new (BackUp x))) key.size w r.encoded.few_cells high q.1))
         | inr opn ↦ (
@@ -83,7 +83,7 @@ module _ {T : Type 0} (key : QueueLimits) (s : QueueTable T) (r : IsShownQueue k
               | inl lt ↦ (
                   let reached_last = if_true (Leads r.core) (int_lt r.core.upper (pos key.size)) _ _ lt reached_here in
                   let new : List (Mark T) = mark n made.ClaimIn ∷ [] in
-                  let q = quiet_step key s r id n m at one _ reached_last new refl (refl, tt) (apart1 key s r id n m at one (TicketIn x)) refl refl out 16 w' words (TicketIn x) (here1 key s r id n m at one (TicketIn x)) (λ i j. j) m.0.left (omega arith) Anything tt in
+                  let q = quiet_step key s r id n m at one _ reached_last new refl (refl, tt) (apart1 key s r id n m at one (TicketIn x)) refl refl out 16 w' words (TicketIn x) (here1 key s r id n m at one (TicketIn x)) (λ i j. j) m.0.left (omega arith) TellsNothing tt in
                   let low = below_word w key.size r.core.upper word lt in
                   (sight m.0.names (new ++ r.core.past) (TicketIn x) m.0.left, keeps, tt, q.0, only_below (Then (After new (TicketIn x))) key.size w r.encoded.few_cells low q.1))
               | inr ge ↦ (
@@ -101,7 +101,7 @@ module _ {T : Type 0} (key : QueueLimits) (s : QueueTable T) (r : IsShownQueue k
   backs_up x e =
       let R = moves key.size r.core r.reached n (BackUp x) (stands key s r id n m at one (BackUp x) e) in
       let new : List (Mark T) = mark n made.BackIn ∷ [] in
-      let q = quiet_step key s r id n m at one _ R new refl (refl, tt) (apart1 key s r id n m at one Idle) refl refl (outside key s r id n m at one (BackUp x) e (λ i j. j)) 16 _ (upper_shrunk key s r id n m at one) Idle (here1 key s r id n m at one Idle) (λ i j. j) m.0.left (omega arith) Anything tt in
+      let q = quiet_step key s r id n m at one _ R new refl (refl, tt) (apart1 key s r id n m at one Idle) refl refl (outside key s r id n m at one (BackUp x) e (λ i j. j)) 16 _ (upper_shrunk key s r id n m at one) Idle (here1 key s r id n m at one Idle) (λ i j. j) m.0.left (omega arith) TellsNothing tt in
       (sight m.0.names (new ++ r.core.past) Idle m.0.left, keeps, tt, q.0, q.1)
 
   pub draws_in : (x : T) → m.0.phase ≡ Some (TicketIn x) → 0 < m.0.left → Step 48 (λ w. (w + 1) % 2 ^ 64) (DrewIn key.size key.seats n x m)
@@ -144,7 +144,7 @@ module _ {T : Type 0} (key : QueueLimits) (s : QueueTable T) (r : IsShownQueue k
               wide = length-set s.homes i none ∙ r.encoded.wide;
               slots_are = takes_slot key.size n r.core s.homes r.encoded.wide r.encoded.slots_are c others refl refl out i (near key s r id n m at one k) inside stands_here;
             } in
-            let q = steps (queue_object key.size key.seats) s r id n m at one (queue_law key.size key.seats r.encoded.some_cell) c [] (StoreItem k x) step (80 + i) w (takes i None) shows m.0.left (omega arith) Anything tt in
+            let q = steps (queue_object key.size key.seats) s r id n m at one (queue_law key.size key.seats r.encoded.some_cell) c [] (StoreItem k x) step (80 + i) w (takes i None) shows m.0.left (omega arith) TellsNothing tt in
             (sight m.0.names r.core.past (StoreItem k x) m.0.left, takes i None, home.even (k / key.size) turn, q.0, record { hit = λ _. q.1; miss = λ ne. absurd (ne (is ∙ turn)) }))
         | inr far ↦ (
             let turn : r.core.turn i ≢ 2 * (k / key.size) = λ q. absurd (grind (arith, nat_tests)) in
@@ -190,14 +190,14 @@ module _ {T : Type 0} (key : QueueLimits) (s : QueueTable T) (r : IsShownQueue k
             (λ j ne. (at_else r.core.turn i j (2 * (k / key.size) + 1) ne, at_else r.core.cell i j (Some x) ne)) inside mine nowhere (Some x) home;
       } in
       let gives_back : IsEncoded key.size key.seats d (set s.words (80 + i) v) (homes_after s.homes m.1 gives) = subst (λ l. IsEncoded key.size key.seats d (set s.words (80 + i) v) (homes_after s.homes l gives)) (sym held) shows in
-      let q = steps (queue_object key.size key.seats) s r id n m at one (queue_law key.size key.seats r.encoded.some_cell) d new p step (80 + i) v gives gives_back m.0.left (omega arith) Anything tt in
+      let q = steps (queue_object key.size key.seats) s r id n m at one (queue_law key.size key.seats r.encoded.some_cell) d new p step (80 + i) v gives gives_back m.0.left (omega arith) TellsNothing tt in
       (sight m.0.names (new ++ r.core.past) p m.0.left, gives, tt, q.0, q.1)
 
   pub ends_in : (k : ℕ) → m.0.phase ≡ Some (EndInsert k) → Step 32 (λ w. (w + 1) % 2 ^ 64) (λ found after. EndsIn key.size key.seats n m after)
   ends_in k e =
       let R = moves key.size r.core r.reached n (EndInsert k) (stands key s r id n m at one (EndInsert k) e) in
       let new : List (Mark T) = mark n made.EndIn ∷ [] in
-      let q = quiet_step key s r id n m at one _ R new refl (refl, tt) (apart1 key s r id n m at one Idle) refl refl (outside key s r id n m at one (EndInsert k) e (λ i j. j)) 32 _ (lower_grown key s r id n m at one) Idle (here1 key s r id n m at one Idle) (λ i j. j) m.0.left (omega arith) Anything tt in
+      let q = quiet_step key s r id n m at one _ R new refl (refl, tt) (apart1 key s r id n m at one Idle) refl refl (outside key s r id n m at one (EndInsert k) e (λ i j. j)) 32 _ (lower_grown key s r id n m at one) Idle (here1 key s r id n m at one Idle) (λ i j. j) m.0.left (omega arith) TellsNothing tt in
       (sight m.0.names (new ++ r.core.past) Idle m.0.left, keeps, tt, q.0, q.1)
 
   -- ---- shutting
@@ -218,7 +218,7 @@ module _ {T : Type 0} (key : QueueLimits) (s : QueueTable T) (r : IsShownQueue k
         sight m.0.names (new ++ r.core.past) Idle m.0.left,
         keeps,
         tt,
-        (q Anything tt).0,
+        (q TellsNothing tt).0,
         elim (true_or_false r.core.shut) [
           | inl shut ↦ (
               let high = shut_above w 0 most r.core.upper (upper_shut key s r id n m at one shut) b.0 (omega arith) in

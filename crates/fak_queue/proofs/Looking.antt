@@ -1,12 +1,12 @@
 -- A seat that looks at its cell again and again.
 use Rattle.fak_model.specs.Queue.{queue_rules}
-use Rattle.fak_queue.proofs.Common.{QueueHolder, Named, made_by, IsPart, Nothing, Filled, LooksIn, FillsSlot, Taken, LooksOut, TakesSlot, ◌≡◌, ◌⊎◌, ℕ, ◌%◌, true, false, [], ◌∷◌, List, ap, sym, ◌∙◌, subst, inr, ⊎_elim, Some, None, Kind, appends_none, Phase, TurnIn, StoreItem, TurnOut, LoadItem}
+use Rattle.fak_queue.proofs.Common.{QueueHolder, Named, made_by, IsPart, TellsOfNeither, Filled, LooksIn, FillsSlot, Taken, LooksOut, TakesSlot, ◌≡◌, ◌⊎◌, ℕ, ◌%◌, true, false, [], ◌∷◌, List, ap, sym, ◌∙◌, subst, inr, ⊎_elim, Some, None, Kind, appends_none, Phase, TurnIn, StoreItem, TurnOut, LoadItem}
 use Rattle.fak_queue.proofs.PartSteps.{names_kept, phase_is}
 use Rattle.fak_queue.proofs.Turning.{slot_in, slot_out}
 
 -- the seat has not looked yet, or has left no mark
 abbrev pub HasWaited : {T : Type 0} → ℕ → ℕ → ℕ → Phase T → QueueHolder T → QueueHolder T → Type 0
-HasWaited size seats n p m a = (m ≡ a) ⊎ IsPart size seats n [] p m.0.left Nothing m a
+HasWaited size seats n p m a = (m ≡ a) ⊎ IsPart size seats n [] p m.0.left TellsOfNeither m a
 
 module _ {T : Type 0} {size seats n : ℕ} {p : Phase T} {m a : QueueHolder T} (waited : HasWaited size seats n p m a) where
   pub still_named : m.0.names ≡ n ∷ [] → a.0.names ≡ n ∷ []
@@ -19,11 +19,11 @@ module _ {T : Type 0} {size seats n : ℕ} {p : Phase T} {m a : QueueHolder T} (
   still_at at = ⊎_elim (λ e. subst (λ (z : QueueHolder T). z.0.phase ≡ Some p) e at) (λ w. ap (λ (z : QueueHolder T). z.0.phase) w.after_is) waited
 
   -- what it does then it does after the first look
-  pub then_part : {kinds : List (Kind T)} {q : Phase T} {b : QueueHolder T} → IsPart size seats n kinds q a.0.left Nothing a b → IsPart size seats n kinds q m.0.left Nothing m b
-  then_part {kinds} {q} {b} part = ⊎_elim (λ e. subst (λ (z : QueueHolder T). IsPart size seats n kinds q z.0.left Nothing z b) (sym e) part) (λ w. joined w) waited
+  pub then_part : {kinds : List (Kind T)} {q : Phase T} {b : QueueHolder T} → IsPart size seats n kinds q a.0.left TellsOfNeither a b → IsPart size seats n kinds q m.0.left TellsOfNeither m b
+  then_part {kinds} {q} {b} part = ⊎_elim (λ e. subst (λ (z : QueueHolder T). IsPart size seats n kinds q z.0.left TellsOfNeither z b) (sym e) part) (λ w. joined w) waited
     where
-      joined : IsPart size seats n [] p m.0.left Nothing m a → IsPart size seats n kinds q m.0.left Nothing m b
-      joined w = subst (λ k. IsPart size seats n kinds q k Nothing m b) (ap (λ (z : QueueHolder T). z.0.left) w.after_is) record {
+      joined : IsPart size seats n [] p m.0.left TellsOfNeither m a → IsPart size seats n kinds q m.0.left TellsOfNeither m b
+      joined w = subst (λ k. IsPart size seats n kinds q k TellsOfNeither m b) (ap (λ (z : QueueHolder T). z.0.left) w.after_is) record {
         after_is = part.after_is;
         rests = part.rests;
         appends = λ object stint few. appends_none (queue_rules size) (made_by n kinds) _ _ _ (w.appends object stint few) (part.appends object stint few);

@@ -1,6 +1,6 @@
 -- From the atomic steps of a seat to the parts of its calls.
 use Rattle.fak_model.specs.QueuePast.{after as after_kind, stage, item_of}
-use Rattle.fak_queue.proofs.Common.{QueueView, QueueHolder, queue_object, mark, seat_of, made_by, RestsAt, ◌≡◌, ℕ, ◌+◌, ◌==◌, true, List, [], ◌∷◌, ◌++◌, length, length-append, refl, sym, ap, ◌∙◌, subst, arith, Option, Some, reverse, append-nil, nat_tests, queue_rules, count, puts, items_put, item_at, marks_of, sight, Leaves, ObjectId, seat_info, Appends, Kind, Mark, Put, begins_self, count_reverse, stage_here, item_stays, step_appends, step_before, appends_then, appends_none, begins_after, mine_after, Phase, before_part, IsPart, Nothing}
+use Rattle.fak_queue.proofs.Common.{QueueView, QueueHolder, queue_object, mark, seat_of, made_by, RestsAt, ◌≡◌, ℕ, ◌+◌, ◌==◌, true, List, [], ◌∷◌, ◌++◌, length, length-append, refl, sym, ap, ◌∙◌, subst, arith, Option, Some, reverse, append-nil, nat_tests, queue_rules, count, puts, items_put, item_at, marks_of, sight, Leaves, ObjectId, seat_info, Appends, Kind, Mark, Put, begins_self, count_reverse, stage_here, item_stays, step_appends, step_before, appends_then, appends_none, begins_after, mine_after, Phase, before_part, IsPart, TellsOfNeither}
 use Rattle.fak_queue.proofs.DeletionSteps.{item_past}
 
 -- ---- the seat after a step
@@ -38,8 +38,8 @@ module _ {T : Type 0} {size seats n left : ℕ} {kinds : List (Kind T)} {p : Pha
 
 -- a look that leaves no mark
 pub part_none : {T : Type 0} {size seats : ℕ} (n : ℕ) {m w : QueueHolder T} {p : Phase T} {left : ℕ} {carried : List (ℕ × Option T)} {tells : List (Mark T) → Type 0} → Leaves (queue_object size seats) m [] p left carried tells w
-    → m.0.names ≡ n ∷ [] → carried ≡ [] → (keep : ℕ) → left ≡ keep → RestsAt p (stage w.0.seen n) → IsPart size seats n [] p keep Nothing m w
-part_none {size = size} {seats = seats} n {m = m} {w = w} {p = p} {left = left} l one none keep kept rests = subst (λ k. IsPart size seats n [] p k Nothing m w) kept record {
+    → m.0.names ≡ n ∷ [] → carried ≡ [] → (keep : ℕ) → left ≡ keep → RestsAt p (stage w.0.seen n) → IsPart size seats n [] p keep TellsOfNeither m w
+part_none {size = size} {seats = seats} n {m = m} {w = w} {p = p} {left = left} l one none keep kept rests = subst (λ k. IsPart size seats n [] p k TellsOfNeither m w) kept record {
   after_is = rests_after l n one none;
   rests = rests;
   appends = λ object stint few. step_appends l n one tt object stint few;

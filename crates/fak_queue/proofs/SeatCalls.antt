@@ -4,7 +4,7 @@ use Rattle.fak_model.specs.declared.name_set.NameSet.{NameSet}
 use Rattle.fak_model.specs.Names.{Has as HasName, HasJust}
 use Rattle.fak_core.specs.declared.queue.phase.Phase.TheVariants as phase
 use Rattle.fak_queue.specs.declared.state.SeatState.{SeatState}
-use Rattle.fak_queue.proofs.Common.{Idle, Inserting, Deleting, QueueLimits, QueueHolder, RefusesInsertion, ◌≡◌, ℕ, ◌+◌, ◌-◌, ◌<◌, ℤ, List, [], ◌∷◌, ◌++◌, refl, ap, sym, ◌∙◌, subst, arith, inl, inr, ⊎_elim, Bool, true, false, ◌⊎◌, ◌↔◌, reverse, All, reverse-reverse, queue_rules, IsQueueHistory, puts, gots, Has, stage, In, marks_of, ObjectId, object_id, SeatInfo, seat_info, Appends, IsSeatToken, TableId, Kind, Mark, Stage, count_append, token_names, token_left, token_slots, Phase, mark, Marks, FitsTable, HasOneName, ShutAs, QueueInfo, queue_info, seat_of, tickets_in, drawn_by, state_at, state_of, IsQueue, queue_seat, RestsAt, idle, inserting, deleting, IsQueueSeat, made_by, Makes, before_own, ClaimsIn, RefusesFull, RefusesClosed, ClaimsOut, RefusesEmpty, WaitsToFill, Fills, WaitsToTake, Takes, ShutsAs, ShutsAfter, fault_of, IsPart, Nothing, ClaimedIn, RefusedIn, Filled, IsTurnedAwayIn, ClaimedOut, RefusedOut, Taken, IsTurnedAwayOut}
+use Rattle.fak_queue.proofs.Common.{Idle, Inserting, Deleting, QueueLimits, QueueHolder, RefusesInsertion, ◌≡◌, ℕ, ◌+◌, ◌-◌, ◌<◌, ℤ, List, [], ◌∷◌, ◌++◌, refl, ap, sym, ◌∙◌, subst, arith, inl, inr, ⊎_elim, Bool, true, false, ◌⊎◌, ◌↔◌, reverse, All, reverse-reverse, queue_rules, IsQueueHistory, puts, gots, Has, stage, In, marks_of, ObjectId, object_id, SeatInfo, seat_info, Appends, IsSeatToken, TableId, Kind, Mark, Stage, count_append, token_names, token_left, token_slots, Phase, mark, Marks, FitsTable, HasOneName, ShutAs, QueueInfo, queue_info, seat_of, tickets_in, drawn_by, state_at, state_of, IsQueue, queue_seat, RestsAt, idle, inserting, deleting, IsQueueSeat, made_by, Makes, before_own, ClaimsIn, RefusesFull, RefusesClosed, ClaimsOut, RefusesEmpty, WaitsToFill, Fills, WaitsToTake, Takes, ShutsAs, ShutsAfter, fault_of, IsPart, TellsOfNeither, ClaimedIn, RefusedIn, Filled, IsTurnedAwayIn, ClaimedOut, RefusedOut, Taken, IsTurnedAwayOut}
 use Rattle.fak_queue.specs.declared.found.NoRoom.{NoRoom}
 use Rattle.fak_queue.specs.declared.found.NoRoom.TheVariants as refused
 use Rattle.fak_queue.proofs.Admissions.{closing, closed}
@@ -178,7 +178,7 @@ module _ {T : Type 0} (key : QueueLimits) {size seats name left : ℕ} {p : Phas
     pub refuses_empty : {l : ℤ} → 0 < left → RefusedOut table.slots key.seats name l m after → (drawn_by old < old.stint) × RefusesEmpty queue.size l old (New left)
     refuses_empty some_left r = (within some_left, record { makes = makes_refused refl refl r; lower_is = told_refused refl refl r })
 
-    pub part_shut : (b : Bool) → ShutAs table.slots key.seats name b m after → IsPart table.slots key.seats name (made.Close ∷ []) phase.Idle m.0.left Nothing m after
+    pub part_shut : (b : Bool) → ShutAs table.slots key.seats name b m after → IsPart table.slots key.seats name (made.Close ∷ []) phase.Idle m.0.left TellsOfNeither m after
     part_shut b l = closed table.slots key.seats name m after (token_names f.token) (token_slots f.token) b l
 
     pub seat_shut : (b : Bool) → ShutAs table.slots key.seats name b m after → state_of old ≡ Idle → IsQueueSeat now.slots seats name p left after

@@ -1,6 +1,6 @@
 -- From the atomic steps of a seat to what it does at its ticket's cell.
 use Rattle.fak_model.specs.declared.queue.Kind.TheVariants as made
-use Rattle.fak_queue.proofs.Common.{QueueView, QueueHolder, Named, TurnedIn, FilledCell, EndsIn, TurnedOut, FreedCell, EndsOut, RestsAt, idle, inserting, deleting, ◌≡◌, ◌≢◌, ℕ, ◌+◌, ◌*◌, ◌/◌, ◌%◌, ◌<◌, ◌^◌, ◌==◌, Bool, true, false, List, [], ◌∷◌, refl, sym, ap, ◌∙◌, subst, arith, Some, None, reverse, nat_tests, items_put, item_at, Has, stage, rest, Phase, TurnIn, EndInsert, TurnOut, EndDelete, IsTurnedAwayIn, LooksIn, FillsSlot, IsTurnedAwayOut, LooksOut, TakesSlot, Nothing}
+use Rattle.fak_queue.proofs.Common.{QueueView, QueueHolder, Named, TurnedIn, FilledCell, EndsIn, TurnedOut, FreedCell, EndsOut, RestsAt, idle, inserting, deleting, ◌≡◌, ◌≢◌, ℕ, ◌+◌, ◌*◌, ◌/◌, ◌%◌, ◌<◌, ◌^◌, ◌==◌, Bool, true, false, List, [], ◌∷◌, refl, sym, ap, ◌∙◌, subst, arith, Some, None, reverse, nat_tests, items_put, item_at, Has, stage, rest, Phase, TurnIn, EndInsert, TurnOut, EndDelete, IsTurnedAwayIn, LooksIn, FillsSlot, IsTurnedAwayOut, LooksOut, TakesSlot, TellsOfNeither}
 use Rattle.fak_queue.proofs.PartSteps.{names_kept, phase_is, left_is, slots_are, seen_is, part_none, part_two, sees_item}
 
 -- what a seat took first is what it has
@@ -58,7 +58,7 @@ module _ {T : Type 0} (slots seats n k cell : ℕ) (x : T) (m1 mid m2 m3 : Queue
   fills_slot ends was was_one free look =
       let none : m2.1 ≡ [] = slots_are filled_cell ∙ (ap (λ (y : QueueHolder T). rest y.1) exchanged ∙ ap rest slot) in
       let kept : m2.0.left ≡ was.0.left = left_is filled_cell ∙ (ap (λ (v : QueueView T). v.left) same_in ∙ left_is look) in
-      part_two n (made.Fill k) made.EndIn look same_in filled_cell (ends n names_filled) was_one none was.0.left kept idle Nothing tt
+      part_two n (made.Fill k) made.EndIn look same_in filled_cell (ends n names_filled) was_one none was.0.left kept idle TellsOfNeither tt
 
 -- ---- deletions
 
@@ -104,6 +104,6 @@ module _ {T : Type 0} (slots seats n k cell : ℕ) (x : T) (m1 mid m2 m3 : Queue
       let kept : m2.0.left ≡ was.0.left = left_is freed_cell ∙ (ap (λ (v : QueueView T). v.left) same_out ∙ left_is look.leaves) in
       let item_is : Some look.item ≡ Some x = took m1.1 _ _ _ _ _ _ (slots_are look.leaves) slot in
       record {
-        part = part_two n (made.Take k) made.EndOut look.leaves same_out freed_cell e was_one none was.0.left kept idle Nothing tt;
+        part = part_two n (made.Take k) made.EndOut look.leaves same_out freed_cell e was_one none was.0.left kept idle TellsOfNeither tt;
         put = sees_item e k x (sees_item freed_cell k x (subst (λ h. item_at (items_put (reverse h)) k ≡ Some x) (sym (ap (λ (v : QueueView T). v.seen) same_out ∙ seen_is look.leaves)) (look.leaves.told ∙ item_is)));
       }

@@ -7,7 +7,7 @@ use Rattle.fak_model.specs.Queue.{queue_rules, count, puts, gots, upper_count, l
 use Rattle.fak_model.specs.QueuePast.{stage}
 use Rattle.fak_model.specs.Seats.{marks_of}
 use Rattle.fak_model.specs.Views.{sight}
-use Rattle.fak_model.specs.Shown.{Leaves}
+use Rattle.fak_model.specs.Shown.{Leaves, TellsNothing}
 use Rattle.fak_model.specs.Calls.{ObjectId, seat_info, Appends, before_mark}
 use Rattle.fak_core.specs.declared.queue.phase.Phase.{Phase}
 use Rattle.fak_core.specs.declared.queue.phase.Phase.TheVariants.{Idle, TurnIn, StoreItem, TurnOut}
@@ -16,7 +16,7 @@ use Rattle.fak_queue.specs.declared.fault.InsertFault.TheVariants as refused
 use Rattle.fak_queue.specs.declared.found.NoRoom.{NoRoom}
 use Rattle.fak_queue.specs.declared.found.NoRoom.TheVariants.{Full, Shut}
 use Rattle.fak_queue.specs.Shown.{QueueHolder, queue_object}
-use Rattle.fak_queue.specs.Steps.{Anything, TookSlot}
+use Rattle.fak_queue.specs.Steps.{TookSlot}
 use Rattle.fak_queue.specs.Queues.{seat_of, made_by, RestsAt}
 
 -- what stood before the seat's mark of this number, among those that it made between m and after
@@ -32,8 +32,9 @@ pub record IsPart {T : Type 0} (size seats n : ℕ) (kinds : List (Kind T)) (p :
       → Appends (queue_rules size) (made_by n kinds) (seat_info object n stint (reverse m.0.seen)) (seat_info object n stint (reverse after.0.seen))
   pub told : tells (before_part n 0 m after) (before_part n 1 m after)
 
-abbrev pub Nothing : {T : Type 0} → List (Mark T) → List (Mark T) → Type 0
-Nothing first second = Unit {0}
+-- a part that tells of neither mark what stood before it
+abbrev pub TellsOfNeither : {T : Type 0} → List (Mark T) → List (Mark T) → Type 0
+TellsOfNeither first second = Unit {0}
 
 -- what an insertion is refused with
 abbrev pub fault_of : {T : Type 0} → NoRoom → T → InsertFault T
@@ -52,20 +53,20 @@ module _ {T : Type 0} (size seats n : ℕ) where
       IsPart size seats n (made.NoRoom ∷ []) Idle m.0.left (λ first second. u ≡ upper_count first) m after
       ⊎ IsPart size seats n (made.OverIn ∷ made.BackIn ∷ []) Idle m.0.left (λ first second. u ≡ upper_count first) m after
   RefusedIn Shut m after =
-      IsPart size seats n (made.Closed ∷ []) Idle m.0.left Nothing m after ⊎ IsPart size seats n (made.LateIn ∷ made.BackIn ∷ []) Idle m.0.left Nothing m after
+      IsPart size seats n (made.Closed ∷ []) Idle m.0.left TellsOfNeither m after ⊎ IsPart size seats n (made.LateIn ∷ made.BackIn ∷ []) Idle m.0.left TellsOfNeither m after
 
   abbrev pub Filled : ℕ → QueueHolder T → QueueHolder T → Type 0
-  Filled k m after = IsPart size seats n (made.Fill k ∷ made.EndIn ∷ []) Idle m.0.left Nothing m after
+  Filled k m after = IsPart size seats n (made.Fill k ∷ made.EndIn ∷ []) Idle m.0.left TellsOfNeither m after
 
   pub record IsTurnedAwayIn (k : ℕ) (x : T) (m after : QueueHolder T) : Type 0 where
-    pub part : IsPart size seats n [] (TurnIn k x) m.0.left Nothing m after
+    pub part : IsPart size seats n [] (TurnIn k x) m.0.left TellsOfNeither m after
     pub earlier : ℕ
     pub round : k ≡ earlier + size
     pub untaken : Has (made.Take earlier) (reverse after.0.seen) → ⊥
 
   -- a look at the cell: the seat has its slot, or was turned away
   abbrev pub LooksIn : ℕ → T → Bool → QueueHolder T → QueueHolder T → Type 0
-  LooksIn k x true m after = Leaves (queue_object size seats) m [] (StoreItem k x) m.0.left ((k % size, None) ∷ m.1) Anything after
+  LooksIn k x true m after = Leaves (queue_object size seats) m [] (StoreItem k x) m.0.left ((k % size, None) ∷ m.1) TellsNothing after
   LooksIn k x false m after = IsTurnedAwayIn k x m after
 
   -- the rest of the insertion, after a look that found the slot
@@ -85,11 +86,11 @@ module _ {T : Type 0} (size seats n : ℕ) where
       ⊎ IsPart size seats n (made.OverOut ∷ made.BackOut ∷ []) Idle m.0.left (λ first second. l ≡ lower_count first) m after
 
   pub record Taken (k : ℕ) (x : T) (m after : QueueHolder T) : Type 0 where
-    pub part : IsPart size seats n (made.Take k ∷ made.EndOut ∷ []) Idle m.0.left Nothing m after
+    pub part : IsPart size seats n (made.Take k ∷ made.EndOut ∷ []) Idle m.0.left TellsOfNeither m after
     pub put : item_at (items_put (reverse after.0.seen)) k ≡ Some x
 
   pub record IsTurnedAwayOut (k : ℕ) (m after : QueueHolder T) : Type 0 where
-    pub part : IsPart size seats n [] (TurnOut k) m.0.left Nothing m after
+    pub part : IsPart size seats n [] (TurnOut k) m.0.left TellsOfNeither m after
     pub unfilled : Has (made.Fill k) (reverse after.0.seen) → ⊥
 
   -- a look at the cell: the seat has its slot with an item, or was turned away

@@ -9,7 +9,7 @@ use Rattle.fak_model.specs.declared.queue.Mark.{Mark}
 use Rattle.fak_model.specs.declared.queue.Stage.TheVariants.{Putting, Getting}
 use Rattle.fak_model.specs.Queue.{count, puts, gots, upper_count, lower_count, items_put, item_at, Has}
 use Rattle.fak_model.specs.QueuePast.{stage}
-use Rattle.fak_model.specs.Shown.{Leaves, Hears}
+use Rattle.fak_model.specs.Shown.{Leaves, Hears, TellsNothing}
 use Rattle.fak_core.specs.declared.queue.phase.Phase.{Phase}
 use Rattle.fak_core.specs.declared.queue.phase.Phase.TheVariants.{Idle, AddUp, BackUp, TicketIn, TurnIn, StoreItem, EndInsert, SubLow, BackLow, TicketOut, TurnOut, LoadItem, EndDelete}
 use Rattle.fak_queue.specs.declared.found.NoRoom.TheVariants.{Full, Shut}
@@ -42,10 +42,6 @@ module _ {T : Type 0} where
   abbrev pub mark : ℕ → Kind T → Mark T
   mark n κ = record { seat = n; kind = κ }
 
-  -- the step tells nothing of the past
-  abbrev pub Anything : List (Mark T) → Type 0
-  Anything past = Unit {0}
-
   -- a step that leaves tickets and slots as they are
   abbrev pub Marks : ℕ → ℕ → QueueHolder T → List (Mark T) → Phase T → (List (Mark T) → Type 0) → QueueHolder T → Type 0
   Marks size seats m new phase tells after = Leaves (queue_object size seats) m new phase m.0.left m.1 tells after
@@ -54,23 +50,23 @@ module _ {T : Type 0} (size seats n : ℕ) where
   -- ---- insertions
 
   abbrev pub TestedUp : T → UpperCount → QueueHolder T → QueueHolder T → Type 0
-  TestedUp x (Ok room) m after = Marks size seats m [] (AddUp x) Anything after
+  TestedUp x (Ok room) m after = Marks size seats m [] (AddUp x) TellsNothing after
   TestedUp x (Err (Full u)) m after = Marks size seats m (mark n made.NoRoom ∷ []) Idle (λ past. u ≡ upper_count (reverse past)) after
-  TestedUp x (Err Shut) m after = Marks size seats m (mark n made.Closed ∷ []) Idle Anything after
+  TestedUp x (Err Shut) m after = Marks size seats m (mark n made.Closed ∷ []) Idle TellsNothing after
 
   abbrev pub TestsUp : Option T → QueueHolder T → ℕ → QueueHolder T → Type 0
   TestsUp item m found after = (x : T) → item ≡ Some x → (u : UpperCount) → IsUpperCount size found u → TestedUp x u m after
 
   abbrev pub AddedUp : T → UpperCount → QueueHolder T → QueueHolder T → Type 0
-  AddedUp x (Ok room) m after = Marks size seats m (mark n made.ClaimIn ∷ []) (TicketIn x) Anything after
+  AddedUp x (Ok room) m after = Marks size seats m (mark n made.ClaimIn ∷ []) (TicketIn x) TellsNothing after
   AddedUp x (Err (Full u)) m after = Marks size seats m (mark n made.OverIn ∷ []) (BackUp x) (λ past. u ≡ upper_count (reverse past)) after
-  AddedUp x (Err Shut) m after = Marks size seats m (mark n made.LateIn ∷ []) (BackUp x) Anything after
+  AddedUp x (Err Shut) m after = Marks size seats m (mark n made.LateIn ∷ []) (BackUp x) TellsNothing after
 
   abbrev pub AddsUp : QueueHolder T → ℕ → QueueHolder T → Type 0
   AddsUp m found after = (x : T) → m.0.phase ≡ Some (AddUp x) → (u : UpperCount) → IsUpperCount size found u → AddedUp x u m after
 
   abbrev pub BacksUp : QueueHolder T → QueueHolder T → Type 0
-  BacksUp m after = Marks size seats m (mark n made.BackIn ∷ []) Idle Anything after
+  BacksUp m after = Marks size seats m (mark n made.BackIn ∷ []) Idle TellsNothing after
 
   -- the ticket that was drawn is the number of earlier Puts
   pub record DrewIn (x : T) (m : QueueHolder T) (found : ℕ) (after : QueueHolder T) : Type 0 where
@@ -89,39 +85,39 @@ module _ {T : Type 0} (size seats n : ℕ) where
 
   -- where its turn was found the seat has the cell's slot
   pub record TurnedIn (k : ℕ) (x : T) (m : QueueHolder T) (found : ℕ) (after : QueueHolder T) : Type 0 where
-    pub hit : found ≡ 2 * (k / size) → Leaves (queue_object size seats) m [] (StoreItem k x) m.0.left ((k % size, None) ∷ m.1) Anything after
+    pub hit : found ≡ 2 * (k / size) → Leaves (queue_object size seats) m [] (StoreItem k x) m.0.left ((k % size, None) ∷ m.1) TellsNothing after
     pub miss : found ≢ 2 * (k / size) → Marks size seats m [] (TurnIn k x) (WaitsIn k x) after
 
   abbrev pub TurnsIn : QueueHolder T → ℕ → QueueHolder T → Type 0
   TurnsIn m found after = (k : ℕ) (x : T) → m.0.phase ≡ Some (TurnIn k x) → TurnedIn k x m found after
 
   abbrev pub FilledCell : ℕ → QueueHolder T → QueueHolder T → Type 0
-  FilledCell k m after = Leaves (queue_object size seats) m (mark n (made.Fill k) ∷ []) (EndInsert k) m.0.left (rest m.1) Anything after
+  FilledCell k m after = Leaves (queue_object size seats) m (mark n (made.Fill k) ∷ []) (EndInsert k) m.0.left (rest m.1) TellsNothing after
 
   abbrev pub SetsFull : QueueHolder T → QueueHolder T → Type 0
   SetsFull m after = (k : ℕ) (x : T) → m.0.phase ≡ Some (StoreItem k x) → FilledCell k m after
 
   abbrev pub EndsIn : QueueHolder T → QueueHolder T → Type 0
-  EndsIn m after = Marks size seats m (mark n made.EndIn ∷ []) Idle Anything after
+  EndsIn m after = Marks size seats m (mark n made.EndIn ∷ []) Idle TellsNothing after
 
   -- ---- deletions
 
   abbrev pub TestedLow : LowerCount → QueueHolder T → QueueHolder T → Type 0
-  TestedLow (Ok stock) m after = Marks size seats m [] SubLow Anything after
+  TestedLow (Ok stock) m after = Marks size seats m [] SubLow TellsNothing after
   TestedLow (Err l) m after = Marks size seats m (mark n made.NoItem ∷ []) Idle (λ past. l ≡ lower_count (reverse past)) after
 
   abbrev pub TestsLow : QueueHolder T → ℕ → QueueHolder T → Type 0
   TestsLow m found after = (l : LowerCount) → IsLowerCount found l → TestedLow l m after
 
   abbrev pub SubtractedLow : LowerCount → QueueHolder T → QueueHolder T → Type 0
-  SubtractedLow (Ok stock) m after = Marks size seats m (mark n made.ClaimOut ∷ []) TicketOut Anything after
+  SubtractedLow (Ok stock) m after = Marks size seats m (mark n made.ClaimOut ∷ []) TicketOut TellsNothing after
   SubtractedLow (Err l) m after = Marks size seats m (mark n made.OverOut ∷ []) BackLow (λ past. l ≡ lower_count (reverse past)) after
 
   abbrev pub SubtractsLow : QueueHolder T → ℕ → QueueHolder T → Type 0
   SubtractsLow m found after = (l : LowerCount) → IsLowerCount found l → SubtractedLow l m after
 
   abbrev pub BacksLow : QueueHolder T → QueueHolder T → Type 0
-  BacksLow m after = Marks size seats m (mark n made.BackOut ∷ []) Idle Anything after
+  BacksLow m after = Marks size seats m (mark n made.BackOut ∷ []) Idle TellsNothing after
 
   -- the ticket that was drawn is the number of earlier Gots, and the item is that of the Put with this ticket
   pub record DrawsOut (m : QueueHolder T) (found : ℕ) (after : QueueHolder T) : Type 0 where
@@ -147,13 +143,13 @@ module _ {T : Type 0} (size seats n : ℕ) where
   TurnsOut m found after = (k : ℕ) → m.0.phase ≡ Some (TurnOut k) → TurnedOut k m found after
 
   abbrev pub FreedCell : ℕ → QueueHolder T → QueueHolder T → Type 0
-  FreedCell k m after = Leaves (queue_object size seats) m (mark n (made.Take k) ∷ []) (EndDelete k) m.0.left (rest m.1) Anything after
+  FreedCell k m after = Leaves (queue_object size seats) m (mark n (made.Take k) ∷ []) (EndDelete k) m.0.left (rest m.1) TellsNothing after
 
   abbrev pub SetsFree : QueueHolder T → QueueHolder T → Type 0
   SetsFree m after = (k : ℕ) → m.0.phase ≡ Some (LoadItem k) → FreedCell k m after
 
   abbrev pub EndsOut : QueueHolder T → QueueHolder T → Type 0
-  EndsOut m after = Marks size seats m (mark n made.EndOut ∷ []) Idle Anything after
+  EndsOut m after = Marks size seats m (mark n made.EndOut ∷ []) Idle TellsNothing after
 
   -- ---- shutting, joining
 

@@ -1,13 +1,23 @@
 //! How a seat leaves its queue to others for a while.
 //!
 //! Two seats that call by turns fetch each cache line from one another in each call. So where a test finds that others have
-//! changed its count since the seat's last call, the seat's next `insert` or `delete` first pauses by `Backoff`. Meanwhile
-//! another seat runs alone, with each line at hand. A claim never pauses, and no contract sees a pause.
+//! changed its count since the seat's last call, the seat soon pauses by `Backoff`: before an `insert` or a `delete`, or where
+//! `Queue::pause` is called. Meanwhile another seat runs alone, with each line at hand.
+//!
+//! A pause takes as long as some hundred calls, and at most one call in 100 pauses. So 99 of 100 calls are as fast as without
+//! pauses, and faster where the others pause. A claim never pauses, and no contract sees a pause.
 
 use crossbeam_utils::Backoff;
 
-/// A seat draws this many tickets at least between two pauses.
-const BETWEEN_PAUSES: u64 = 16;
+/// The tickets that a seat draws for each of its pauses: a little more than 100.
+const TICKETS_FOR_A_PAUSE: u64 = 112;
+
+/// A seat saves tickets for this many pauses at most. Where many seats meet at once, they need a few pauses in a row before one
+/// of them is alone.
+const MOST_SAVED_PAUSES: u64 = 4;
+
+/// A seat draws this many tickets at least between two pauses. So of two seats that meet, the one that has just paused goes on.
+const FEWEST_TICKETS_BETWEEN: u64 = 16;
 
 /// A queue of fewer cells is full or empty before a pause is worth it.
 const FEWEST_CELLS: u64 = 64;
@@ -15,84 +25,105 @@ const FEWEST_CELLS: u64 = 64;
 /// More cells make a pause no longer.
 const MOST_CELLS: u64 = 1024;
 
-/// A pause spins about once for each cell: in its longest rounds `Backoff` spins this many times.
+/// How often a pause spins for each cell.
+const SPINS_FOR_A_CELL: u64 = 6;
+
+/// In its longest rounds `Backoff` spins this many times.
 const LONGEST_ROUND: u64 = 64;
 
 /// The rounds of `Backoff` that are shorter.
 const SHORT_ROUNDS: u64 = 6;
 
-/// What a seat knows of a count that others change too.
-#[derive(Drop)]
-pub(crate) struct SharedCount {
-    /// The word of the count as the seat left it.
-    expected: u64,
-    /// Whether a test has found since the last pause that others changed it.
-    is_contended: bool,
-    /// The tickets that were left at the last pause; at first the stint.
-    left_then: u64,
-}
-
-impl SharedCount {
-    /// Before the first test of a seat that may draw this many tickets.
-    fn new(stint: u64) -> SharedCount {
-        SharedCount {
-            expected: 0,
-            is_contended: false,
-            left_then: stint,
-        }
-    }
-
-    /// A test has found this word. Nothing is written where it is the expected one, since an atomic step waits for the writes
-    /// before it.
-    pub(crate) fn found(&mut self, found: u64) {
-        if found != self.expected {
-            self.is_contended = true;
-            self.expected = found;
-        }
-    }
-
-    /// Pauses where others changed the count, but not twice in a few tickets.
-    pub(crate) fn pause_where_contended(&mut self, size: u64, left: u64) {
-        if !self.is_contended {
-            return;
-        }
-        self.is_contended = false;
-        if size < FEWEST_CELLS || self.left_then.wrapping_sub(left) < BETWEEN_PAUSES {
-            return;
-        }
-        self.left_then = left;
-        let backoff = Backoff::new();
-        for _ in 0..size.min(MOST_CELLS) / LONGEST_ROUND + SHORT_ROUNDS {
-            backoff.spin();
-        }
-    }
-}
-
-/// What a seat knows of both counts of its queue.
+/// What a seat knows of the counts of its queue, which others change too.
 #[derive(Drop)]
 pub(crate) struct SharedCounts {
-    pub(crate) upper: SharedCount,
-    pub(crate) lower: SharedCount,
+    /// The word of the upper count as the seat left it.
+    upper: u64,
+    /// The word of the lower count as the seat left it.
+    lower: u64,
+    /// Whether a test has found since the last look that others changed its count.
+    is_contended: bool,
+    /// Whether insertions and deletions pause by themselves.
+    pub(crate) pauses_in_calls: bool,
+    /// The tickets that were left at the last pause; at first the stint.
+    left_then: u64,
+    /// The tickets that were saved for pauses then.
+    saved_then: u64,
 }
 
 impl SharedCounts {
-    /// Before the first test of either, of a seat that may draw this many tickets.
+    /// Before the first test of a seat that may draw this many tickets.
     pub(crate) fn new(stint: u64) -> SharedCounts {
         SharedCounts {
-            upper: SharedCount::new(stint),
-            lower: SharedCount::new(stint),
+            upper: 0,
+            lower: 0,
+            is_contended: false,
+            pauses_in_calls: true,
+            left_then: stint,
+            saved_then: 0,
+        }
+    }
+
+    /// A test of the upper count has found this word. Nothing is written where it is the expected one, since an atomic step
+    /// waits for the writes before it.
+    pub(crate) fn found_upper(&mut self, found: u64) {
+        if found != self.upper {
+            self.is_contended = true;
+            self.upper = found;
+        }
+    }
+
+    /// A test of the lower count has found this word.
+    pub(crate) fn found_lower(&mut self, found: u64) {
+        if found != self.lower {
+            self.is_contended = true;
+            self.lower = found;
         }
     }
 
     /// The seat inserts an item, which adds 1 to both counts.
     pub(crate) fn expect_insertion(&mut self) {
-        self.upper.expected = self.upper.expected.wrapping_add(1);
-        self.lower.expected = self.lower.expected.wrapping_add(1);
+        self.upper = self.upper.wrapping_add(1);
+        self.lower = self.lower.wrapping_add(1);
     }
 
     /// The seat deletes an item, which subtracts 1 from both counts.
     pub(crate) fn expect_deletion(&mut self) {
-        self.upper.expected = self.upper.expected.wrapping_sub(1);
-        self.lower.expected = self.lower.expected.wrapping_sub(1);
+        self.upper = self.upper.wrapping_sub(1);
+        self.lower = self.lower.wrapping_sub(1);
+    }
+
+    /// Pauses in a call, where the seat's calls pause by themselves.
+    pub(crate) fn pause_in_call(&mut self, size: u64, left: u64) {
+        if self.pauses_in_calls {
+            self.pause_where_contended(size, left);
+        }
+    }
+
+    /// Pauses where others changed a count, and the seat has drawn tickets enough for a pause.
+    pub(crate) fn pause_where_contended(&mut self, size: u64, left: u64) {
+        if !self.is_contended {
+            return;
+        }
+        self.is_contended = false;
+        let drawn = self.left_then.wrapping_sub(left);
+        let saved = self
+            .saved_then
+            .saturating_add(drawn)
+            .min(MOST_SAVED_PAUSES * TICKETS_FOR_A_PAUSE);
+        if size < FEWEST_CELLS || drawn < FEWEST_TICKETS_BETWEEN || saved < TICKETS_FOR_A_PAUSE {
+            return;
+        }
+        self.left_then = left;
+        self.saved_then = saved - TICKETS_FOR_A_PAUSE;
+        pause(size);
+    }
+}
+
+/// Spins a few times for each cell.
+fn pause(size: u64) {
+    let backoff = Backoff::new();
+    for _ in 0..size.min(MOST_CELLS) * SPINS_FOR_A_CELL / LONGEST_ROUND + SHORT_ROUNDS {
+        backoff.spin();
     }
 }

@@ -22,7 +22,8 @@ pub fn a_running_cell_has_one_owner<T>()
 
 /// A cell's slot is out of the table exactly while a seat is in the cell.
 pub fn a_slot_is_out_while_its_cell_has_an_owner<T>()
-    ensures { (key : QueueLimits) (s : State (Option T) (QueueView T)) (shown : IsShownQueue key s) → (cell : ℕ) → cell < key.size
+    ensures { (key : QueueLimits) (s : State (Option T) (QueueView T)) (shown : IsShownQueue key s)
+        → (cell : ℕ) → cell < key.size
         → (get_elem? s.homes cell ≡ some none) ↔ ((a : ℕ) × InCell key.size (shown.core.phase a) cell) }
 {}
 

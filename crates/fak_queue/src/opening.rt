@@ -45,7 +45,8 @@ pub(crate) fn empty_table<T>(
     key: &QueueLimits,
 ) -> Result<(QueueTable<T>, QueueToken<T>), AllocError>
     requires { IsInRange key.now.size key.now.seats key.now.stint }
-    ensures { IfOk result (λ r. (r.0.shared.table_id.words ≡ 96 + key.now.size) × (r.0.shared.table_id.slots ≡ key.now.size)
+    ensures { IfOk result (λ r. (r.0.shared.table_id.words ≡ 96 + key.now.size)
+        × (r.0.shared.table_id.slots ≡ key.now.size)
         × (r.0.shared.key ≡ key.now) × (r.1.table_id ≡ r.0.shared.table_id) × (r.1.me ≡ (opened_queue key.now, []))) }
 {
     let cells = key.size as usize;

@@ -3,7 +3,8 @@
 ghost use Rattle.std.specs.Prelude.{◌≡◌, ◌+◌, MatchResult};
 ghost use Rattle.fak_queue.specs.Queues.{Deletes, DrawsIfGranted, Inserts, IsIdleSeat, ShutsAs, drawn_by};
 ghost use Rattle.fak_queue.specs.Refusals.{RefusesDeletion, RefusesInsertion};
-ghost use Rattle.fak_queue.specs.Retries.{DeletesAfterEmpty, InsertsAfterFull, RefusesWaitingDeletion, RefusesWaitingInsertion};
+ghost use Rattle.fak_queue.specs.Retries.{DeletesAfterEmpty, InsertsAfterFull};
+ghost use Rattle.fak_queue.specs.Retries.{RefusesWaitingDeletion, RefusesWaitingInsertion};
 
 use crate::fault::{DeleteFault, InsertFault};
 use crate::queue::Queue;
@@ -68,7 +69,8 @@ impl<'q, T: Drop> Port<'q, T> {
     pub fn wait_insert<R: Wait>(&mut self, rt: &R, item: T) -> Result<u64, InsertFault<T>>
         ensures queue { self.new.queue ≡ self.old.queue }
         ensures left { DrawsIfGranted result self.old.seat self.new.seat }
-        ensures call { MatchResult result (λ k. InsertsAfterFull self.old.queue.now.size k item self.old.seat self.new.seat)
+        ensures call { MatchResult result
+            (λ k. InsertsAfterFull self.old.queue.now.size k item self.old.seat self.new.seat)
             (RefusesWaitingInsertion self.old.queue.now.size item self.old.seat self.new.seat) }
     {
         self.queue.wait_insert(rt, &mut self.seat, item)
@@ -82,7 +84,8 @@ impl<'q, T: Drop> Port<'q, T> {
     pub fn wait_delete<R: Wait>(&mut self, rt: &R) -> Result<(u64, T), DeleteFault>
         ensures queue { self.new.queue ≡ self.old.queue }
         ensures left { DrawsIfGranted result self.old.seat self.new.seat }
-        ensures call { MatchResult result (λ r. DeletesAfterEmpty self.old.queue.now.size r.0 r.1 self.old.seat self.new.seat)
+        ensures call { MatchResult result
+            (λ r. DeletesAfterEmpty self.old.queue.now.size r.0 r.1 self.old.seat self.new.seat)
             (RefusesWaitingDeletion self.old.seat self.new.seat) }
     {
         self.queue.wait_delete(rt, &mut self.seat)
@@ -95,6 +98,15 @@ impl<'q, T: Drop> Port<'q, T> {
         ensures call { ShutsAs self.old.queue.now.size result self.old.seat self.new.seat }
     {
         self.queue.shut(&mut self.seat)
+    }
+
+    /// Leaves the queue to others for a while, where since the last pause a call has found that others use it too
+    /// (`Queue::pause`).
+    pub fn pause(&mut self)
+        ensures queue { self.new.queue ≡ self.old.queue }
+        ensures seat { self.new.seat ≡ self.old.seat }
+    {
+        self.queue.pause(&mut self.seat)
     }
 
     /// How many tickets are left of the seat's stint.

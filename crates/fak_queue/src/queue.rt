@@ -9,7 +9,8 @@ ghost use Rattle.fak_queue.specs.declared.state.SeatState.TheVariants.{Deleting,
 ghost use Rattle.fak_queue.specs.Queues.{ClaimsIn, ClaimsOut, Deletes, DrawsIfGranted, Fills, Inserts, ShutsAs, Takes};
 ghost use Rattle.fak_queue.specs.Queues.{WaitsToFill, WaitsToTake, drawn_by, state_of};
 ghost use Rattle.fak_queue.specs.Refusals.{IsInRange, IsOpenFault, RefusesDeletion, RefusesInsertion};
-ghost use Rattle.fak_queue.specs.Retries.{DeletesAfterEmpty, InsertsAfterFull, RefusesWaitingDeletion, RefusesWaitingInsertion};
+ghost use Rattle.fak_queue.specs.Retries.{DeletesAfterEmpty, InsertsAfterFull};
+ghost use Rattle.fak_queue.specs.Retries.{RefusesWaitingDeletion, RefusesWaitingInsertion};
 
 use crate::admission::{admit_deletion, admit_insertion};
 use crate::cells::Cells;
@@ -123,17 +124,10 @@ impl<T: Drop> Queue<T> {
         if seat.left == 0 {
             return refuse_worn(item);
         }
-        seat.counts
-            .upper
-            .pause_where_contended(self.cells.size, seat.left);
+        let size = self.cells.size;
+        seat.counts.pause_in_call(size, seat.left);
         let words = &self.table.shared;
-        match admit_insertion(
-            words,
-            &mut seat.token,
-            self.cells.size,
-            &mut seat.counts,
-            &item,
-        ) {
+        match admit_insertion(words, &mut seat.token, size, &mut seat.counts, &item) {
             Ok(ticket) => {
                 seat.left -= 1;
                 seat.counts.expect_insertion();
@@ -163,9 +157,7 @@ impl<T: Drop> Queue<T> {
         if seat.left == 0 {
             return Err(DeleteFault::Worn);
         }
-        seat.counts
-            .lower
-            .pause_where_contended(self.cells.size, seat.left);
+        seat.counts.pause_in_call(self.cells.size, seat.left);
         let words = &self.table.shared;
         match admit_deletion(words, &mut seat.token, &mut seat.counts) {
             Ok(ticket) => {
@@ -332,7 +324,8 @@ impl<T: Drop> Queue<T> {
         ensures state { MatchOption result (state_of seat.new ≡ state_of seat.old) (λ _. state_of seat.new ≡ Idle) }
         ensures left { drawn_by seat.new ≡ drawn_by seat.old }
         ensures call { (k : ℕ) → state_of seat.old ≡ Deleting k → MatchOption result
-            (WaitsToTake self.now.size k seat.old seat.new) (λ r. (r.0 ≡ k) × Takes self.now.size k r.1 seat.old seat.new) }
+            (WaitsToTake self.now.size k seat.old seat.new)
+            (λ r. (r.0 ≡ k) × Takes self.now.size k r.1 seat.old seat.new) }
     {
         let Phase::TurnOut(ticket) = seat.phase else {
             unreachable!()
@@ -346,6 +339,18 @@ impl<T: Drop> Queue<T> {
             ticket,
             empty_cell(&self.table.shared, &mut seat.token, place),
         ))
+    }
+
+    /// Leaves the queue to others for a while, where since the seat's last pause a call has found that others use it too. It
+    /// spins, for some 40 microseconds at most, and waits for nobody.
+    ///
+    /// `insert`, `delete` and the calls that wait begin so by themselves, unless `Seat::set_pauses_in_calls` says that they
+    /// don't. Claims never pause. No contract sees a pause.
+    pub fn pause(&self, seat: &mut Seat<T>)
+        ensures { seat.new ≡ seat.old }
+    {
+        seat.counts
+            .pause_where_contended(self.cells.size, seat.left);
     }
 
     /// Shuts the queue: insertions are refused from now on, deletions go on. Tells whether it was open before.

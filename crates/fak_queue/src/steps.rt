@@ -27,7 +27,8 @@ pub(crate) fn shut<T, J: Call<T>>(words: &QueueWords<T>, token: &mut QueueToken<
     requires seat { HasOneName token.old.me }
     requires phase { token.old.me.0.phase ≡ Some Idle }
     ensures same { token.new.table_id ≡ token.old.table_id }
-    ensures told { Named token.old.me (λ n. ShutAs words.now.table_id.slots J.seats n result token.old.me token.new.me) }
+    ensures told { Named token.old.me
+        (λ n. ShutAs words.now.table_id.slots J.seats n result token.old.me token.new.me) }
 {
     let found = words.fetch_or::<ShutPlay<J>>(token, UPPER, SHUT);
     found < SHUT

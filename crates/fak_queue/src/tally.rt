@@ -31,7 +31,8 @@ impl<T> Model for Tally<T> {
 
     ghost Value = { TallyInfo (Mark T) };
 
-    ghost view = { λ t. tally_info (object_id t.token.table_id t.seats) t.token.me.0.names (reverse t.token.me.0.seen) };
+    ghost view = { λ t.
+        tally_info (object_id t.token.table_id t.seats) t.token.me.0.names (reverse t.token.me.0.seen) };
 
     ghost invariant = { λ t. IsQueueTally t.token.table_id.slots t.seats t.names t.token.me };
 }

@@ -58,7 +58,8 @@ pub(crate) fn fill_cell_from<T: Drop>(
     requires table { FitsTable token.old.table_id words.now.table_id words.now.key words.now.key.seats }
     requires place { IsPlace words.now.table_id.slots place }
     requires seat { HasOneName token.old.me }
-    requires item { (x : T) × (kept.old ≡ TurnIn place.ticket x) × (token.old.me.0.phase ≡ Some (StoreItem place.ticket x)) }
+    requires item { (x : T) × (kept.old ≡ TurnIn place.ticket x)
+        × (token.old.me.0.phase ≡ Some (StoreItem place.ticket x)) }
     requires slot { token.old.me.1 ≡ (place.cell, None) ∷ [] }
     ensures same { token.new.table_id ≡ token.old.table_id }
     ensures kept { kept.new ≡ Idle }
@@ -117,7 +118,8 @@ fn fill_later<T, R: Wait>(
     requires seat { HasOneName token.old.me × (token.old.me.1 ≡ []) }
     requires phase { token.old.me.0.phase ≡ Some (TurnIn place.ticket item) }
     ensures same { token.new.table_id ≡ token.old.table_id }
-    ensures told { Named token.old.me (λ n. Filled words.now.table_id.slots words.now.key.seats n place.ticket token.old.me token.new.me) }
+    ensures told { Named token.old.me
+        (λ n. Filled words.now.table_id.slots words.now.key.seats n place.ticket token.old.me token.new.me) }
 {
     let backoff = Backoff::new();
     for _ in rt.forever() {
@@ -144,7 +146,8 @@ pub(crate) fn wait_to_fill<T, R: Wait>(
     requires seat { HasOneName token.old.me × (token.old.me.1 ≡ []) }
     requires phase { token.old.me.0.phase ≡ Some (TurnIn place.ticket item) }
     ensures same { token.new.table_id ≡ token.old.table_id }
-    ensures told { Named token.old.me (λ n. Filled words.now.table_id.slots words.now.key.seats n place.ticket token.old.me token.new.me) }
+    ensures told { Named token.old.me
+        (λ n. Filled words.now.table_id.slots words.now.key.seats n place.ticket token.old.me token.new.me) }
 {
     if finds_room(words, token, place) {
         fill_cell(words, token, place, item);

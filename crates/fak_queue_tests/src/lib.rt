@@ -17,6 +17,8 @@ mod openings;
 #[cfg(test)]
 mod pages;
 #[cfg(test)]
+mod pauses;
+#[cfg(test)]
 mod ports;
 #[cfg(test)]
 mod prints;

@@ -29,6 +29,7 @@ pub enum Step<T> {
     ClaimDelete(Result<u64, DeleteFault>),
     TryTake(Option<(u64, T)>),
     Shut(bool),
+    Pause,
     State(SeatState),
     Left(u64),
 }
@@ -55,6 +56,10 @@ impl<T: Copy + PartialEq + Drop> Step<T> {
             (SeatState::Idle, Step::ClaimDelete(answer)) => queue.claim_delete(seat) == *answer,
             (SeatState::Deleting(_), Step::TryTake(answer)) => queue.try_take(seat) == *answer,
             (SeatState::Idle, Step::Shut(answer)) => queue.shut(seat) == *answer,
+            (_, Step::Pause) => {
+                queue.pause(seat);
+                true
+            }
             (state, Step::State(answer)) => state == *answer,
             (_, Step::Left(answer)) => seat.left() == *answer,
             _ => false,

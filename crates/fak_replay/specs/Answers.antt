@@ -3,8 +3,8 @@ use Rattle.std.specs.Prelude.{◌≡◌, ◌<◌, ◌≤◌, ◌⊎◌, ℕ, ◌
 use Rattle.std.specs.Io.KnownBytes.{Consumes, IsAtEnd}
 use Rattle.fak_model.specs.Checker.{FirstFault}
 use Rattle.fak_model.specs.Queue.{IsQueueHistory}
-use Rattle.fak_process.specs.ReportText.{ListSchedulerPrints, RunPrints}
-use Rattle.fak_process.specs.declared.fault.Fault.TheVariants.{BadProcessors, NoThread, Worn}
+use Rattle.fak_run.specs.ReportText.{ListSchedulerPrints, RunPrints}
+use Rattle.fak_run.specs.declared.fault.Fault.TheVariants.{BadProcessors, NoThread, Worn}
 use Rattle.fak_text.specs.Script.{ScriptOf}
 use Rattle.fak_text.specs.ScriptText.{script_in}
 use Rattle.fak_text.specs.HistoryText.{HistoryOf, history_in}

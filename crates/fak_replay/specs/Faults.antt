@@ -1,7 +1,7 @@
 -- What the program says where it gives no answer.
 use Rattle.std.specs.Prelude.{ℕ}
-use Rattle.fak_process.specs.declared.fault.Fault.{Fault}
-use Rattle.fak_process.specs.declared.fault.Fault.TheVariants as run
+use Rattle.fak_run.specs.declared.fault.Fault.{Fault}
+use Rattle.fak_run.specs.declared.fault.Fault.TheVariants as run
 use Rattle.fak_text.specs.declared.fault.TextFault.{TextFault}
 use Rattle.fak_text.specs.declared.fault.TextFault.TheVariants as text
 use Rattle.fak_replay.specs.declared.fault.MainFault.{MainFault}

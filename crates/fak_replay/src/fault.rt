@@ -4,7 +4,7 @@ ghost use Rattle.std.specs.Prelude.{◌≡◌};
 ghost use Rattle.fak_replay.specs.Faults.{fault_of, fault_of_run, status_of};
 ghost use Rattle.fak_replay.specs.declared.fault.MainFault.TheVariants.{Memory};
 
-use fak_process::Fault;
+use fak_run::Fault;
 use fak_text::TextFault;
 use std::alloc::{AllocError, AllocFailed};
 use thiserror::Error;

@@ -29,7 +29,8 @@ fn row_of_step(seat: u64, step: Result<Line, CoreFault>) -> Result<Row, MainFaul
 
 /// Makes the next step of a seat.
 fn advance(machine: &mut Machine, alloc: Global, seat: u64) -> Result<Row, MainFault>
-    ensures ok { IfOk result (λ row. outcome_of machine.old (steps seat) ≡ record { machine = machine.new; rows = row ∷ [] }) }
+    ensures ok { IfOk result (λ row. outcome_of machine.old
+        (steps seat) ≡ record { machine = machine.new; rows = row ∷ [] }) }
     ensures shown { IfOk result IsShownRow }
     ensures err { IfErr result (λ fault. fault ≡ Memory) }
 {
@@ -52,7 +53,8 @@ fn row_of_refusal(seat: u64, begun: Result<(), CoreFault>) -> Option<Row>
 /// Begins a call of a seat; a row where it is refused.
 fn begin(machine: &mut Machine, seat: u64, act: Act) -> Option<Row>
     requires { IsActInRange act }
-    ensures outcome { outcome_of machine.old (begins seat act) ≡ record { machine = machine.new; rows = list_of result } }
+    ensures outcome { outcome_of machine.old (begins seat act)
+        ≡ record { machine = machine.new; rows = list_of result } }
     ensures shown { IfSome result IsShownRow }
 {
     match (machine, act) {
@@ -71,7 +73,8 @@ fn make_steps(
     trace: &mut Trace,
 ) -> Result<(), MainFault>
     requires { KeepsItsLine trace.old }
-    ensures ok { OnOk result ((rest : List Action) → string_bytes trace.new.text ++ text_of_rows (rows_from machine.new rest)
+    ensures ok { OnOk result ((rest : List Action) → string_bytes trace.new.text ++ text_of_rows
+        (rows_from machine.new rest)
         ≡ string_bytes trace.old.text ++ text_of_rows (rows_from machine.old (replicate count (steps seat) ++ rest))) }
     ensures kept { OnOk result (KeepsItsLine trace.new) }
     ensures err { IfErr result (λ fault. fault ≡ Memory) }
@@ -92,7 +95,8 @@ fn make_event(
 ) -> Result<(), MainFault>
     requires act { IsActInRange event.act }
     requires kept { KeepsItsLine trace.old }
-    ensures ok { OnOk result ((rest : List Action) → string_bytes trace.new.text ++ text_of_rows (rows_from machine.new rest)
+    ensures ok { OnOk result ((rest : List Action) → string_bytes trace.new.text ++ text_of_rows
+        (rows_from machine.new rest)
         ≡ string_bytes trace.old.text ++ text_of_rows (rows_from machine.old (actions_of event ++ rest))) }
     ensures kept { OnOk result (KeepsItsLine trace.new) }
     ensures err { IfErr result (λ fault. fault ≡ Memory) }

@@ -82,7 +82,8 @@ impl Trace {
     /// Keeps the line of a row as the last.
     fn keep(&mut self, row: Row) -> Result<(), MainFault>
         requires { IsShownRow row }
-        ensures ok { OnOk result ((self.new.text ≡ self.old.text) × (string_bytes self.new.line ≡ text_of_row row ++ 10 ∷ [])
+        ensures ok { OnOk result ((self.new.text ≡ self.old.text)
+            × (string_bytes self.new.line ≡ text_of_row row ++ 10 ∷ [])
             × (self.new.last ≡ Some row)) }
         ensures err { IfErr result (λ fault. fault ≡ Memory) }
     {
@@ -96,7 +97,8 @@ impl Trace {
     pub(crate) fn push(&mut self, row: Row) -> Result<(), MainFault>
         requires shown { IsShownRow row }
         requires kept { KeepsItsLine self.old }
-        ensures ok { OnOk result (string_bytes self.new.text ≡ string_bytes self.old.text ++ (text_of_row row ++ 10 ∷ [])) }
+        ensures ok { OnOk result (string_bytes self.new.text ≡ string_bytes self.old.text ++
+            (text_of_row row ++ 10 ∷ [])) }
         ensures kept { OnOk result (KeepsItsLine self.new) }
         ensures err { IfErr result (λ fault. fault ≡ Memory) }
     {

@@ -17,7 +17,8 @@ pub(crate) fn opened_credit(
     seats: u64,
     stint: u64,
 ) -> Result<(Credit, Vec<CreditSeat>), OpenFault>
-    ensures { MatchResult result (λ r. IsInRange start size seats stint × (r.0.start ≡ start) × (r.0.object.seats ≡ seats)
+    ensures { MatchResult result (λ r. IsInRange start size seats stint × (r.0.start ≡ start)
+        × (r.0.object.seats ≡ seats)
         × (r.1.items ≡ fresh_seats r.0.object stint 0 seats)) (IsOpenFault start size seats stint) }
 {
     if size == 0 || size > LARGEST_SIZE {

@@ -51,8 +51,10 @@ impl<T: Drop> Semaphore<T> {
         seats: u64,
         stint: u64,
     ) -> Result<(Semaphore<T>, Vec<SemSeat<T>>), OpenFault>
-        ensures { MatchResult result (λ r. IsInRange start size seats stint × (r.0.object.start ≡ start) × (r.0.size ≡ size)
-            × (seats_of r.0.object ≡ seats) × (r.0.object.queue.seats ≡ seats) × (r.1.items ≡ fresh_sem_seats r.0.object stint 0 seats))
+        ensures { MatchResult result (λ r. IsInRange start size seats stint × (r.0.object.start ≡ start)
+            × (r.0.size ≡ size)
+            × (seats_of r.0.object ≡ seats) × (r.0.object.queue.seats ≡ seats)
+            × (r.1.items ≡ fresh_sem_seats r.0.object stint 0 seats))
             (IsOpenFault start size seats stint) }
     {
         let (credit, credit_seats) = match opened_credit(alloc, start, size, seats, stint) {
@@ -116,7 +118,8 @@ impl<T: Drop> Semaphore<T> {
     ) -> Result<Option<T>, SemWorn<T>>
         requires { seat.old.object ≡ self.now.object }
         ensures object { seat.new.object ≡ seat.old.object }
-        ensures call { MatchResult result (Downs self.now who seat.old seat.new) (λ worn. (worn.0 ≡ who) × IsWornSeat seat.old seat.new) }
+        ensures call { MatchResult result (Downs self.now who seat.old seat.new)
+            (λ worn. (worn.0 ≡ who) × IsWornSeat seat.old seat.new) }
         ensures counts { IfOk result (CountsDown seat.old seat.new) }
     {
         let Ok(found) = self.credit.debit(&mut seat.credit) else {

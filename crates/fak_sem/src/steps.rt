@@ -23,8 +23,10 @@ impl<T: Drop> Semaphore<T> {
         requires object { seat.old.seat.object ≡ self.now.object }
         requires idle { seat.old.standing ≡ Idle }
         ensures object { seat.new.seat.object ≡ seat.old.seat.object }
-        ensures state { IfOk result (λ answer. MatchOption answer (IsParking seat.new.standing) (λ _. seat.new.standing ≡ Idle)) }
-        ensures call { MatchResult result (BeginsDown self.now who seat.old seat.new) (λ worn. (worn.0 ≡ who) × IsWornStep seat.old seat.new) }
+        ensures state { IfOk result (λ answer. MatchOption answer (IsParking seat.new.standing)
+            (λ _. seat.new.standing ≡ Idle)) }
+        ensures call { MatchResult result (BeginsDown self.now who seat.old seat.new)
+            (λ worn. (worn.0 ≡ who) × IsWornStep seat.old seat.new) }
         ensures counts { IfOk result (CountsDown seat.old.seat seat.new.seat) }
     {
         let Ok(found) = self.credit.debit(&mut seat.credit) else {
@@ -46,7 +48,8 @@ impl<T: Drop> Semaphore<T> {
         ensures object { seat.new.seat.object ≡ seat.old.seat.object }
         ensures state { StandsAfter seat.new.standing result }
         ensures credit { SameCredit seat.old seat.new }
-        ensures call { (began : SemSeatInfo T) (who : T) → ParksSince self.now who began seat.old → ParksOn self.now who began seat.new result }
+        ensures call { (began : SemSeatInfo T) (who : T) → ParksSince self.now who began seat.old
+            → ParksOn self.now who began seat.new result }
     {
         match mem::replace(&mut seat.standing, Standing::Idle) {
             Standing::Parking(item) => {
@@ -96,7 +99,8 @@ impl<T: Drop> Semaphore<T> {
         ensures state { MatchOption result (IsWaking seat.new.standing) (λ _. seat.new.standing ≡ Idle) }
         ensures credit { SameCredit seat.old seat.new }
         ensures call { (began : SemSeatInfo T) → WakesSince self.now began seat.old
-            → MatchOption result (WakesSince self.now began seat.new) (λ woken. Ups self.now began seat.new.seat (Some woken)) }
+            → MatchOption result (WakesSince self.now began seat.new)
+            (λ woken. Ups self.now began seat.new.seat (Some woken)) }
     {
         match mem::replace(&mut seat.standing, Standing::Idle) {
             Standing::Waking => {

@@ -41,7 +41,8 @@ impl<T: Drop> SemTally<T> {
         ensures tally { result ≡ sem_tally_of seat }
         ensures lawful { IsQueueHistory (size_of result.object.queue) result.queue_seen }
         ensures credit_named { AreNamed credit_rules (seats_of result.object) result.credit_seen }
-        ensures queue_named { AreNamed (queue_rules (size_of result.object.queue)) (seats_of result.object) result.queue_seen }
+        ensures queue_named { AreNamed (queue_rules (size_of result.object.queue))
+            (seats_of result.object) result.queue_seen }
     {
         let SemSeat {
             start,
@@ -61,11 +62,14 @@ impl<T: Drop> SemTally<T> {
         ensures whole { IsTrue result ↔ IsWhole (seats_of self.now.object) self.now.names }
         ensures credit { IsTrue result → mine credit_name self.now.names self.now.credit_seen ≡ self.now.credit_seen }
         ensures queue { IsTrue result → mine queue_name self.now.names self.now.queue_seen ≡ self.now.queue_seen }
-        ensures lawful { IsCreditHistory self.now.credit_seen × IsQueueHistory (size_of self.now.object.queue) self.now.queue_seen }
+        ensures lawful { IsCreditHistory self.now.credit_seen
+            × IsQueueHistory (size_of self.now.object.queue) self.now.queue_seen }
         ensures credit_named { AreNamed credit_rules (seats_of self.now.object) self.now.credit_seen }
-        ensures queue_named { AreNamed (queue_rules (size_of self.now.object.queue)) (seats_of self.now.object) self.now.queue_seen }
+        ensures queue_named { AreNamed (queue_rules (size_of self.now.object.queue))
+            (seats_of self.now.object) self.now.queue_seen }
         ensures credit_rest { IsTrue result → IsAtRest credit_rules self.now.credit_seen }
-        ensures queue_rest { IsTrue result → IsAtRest (queue_rules (size_of self.now.object.queue)) self.now.queue_seen }
+        ensures queue_rest { IsTrue result → IsAtRest
+            (queue_rules (size_of self.now.object.queue)) self.now.queue_seen }
         ensures matched { (name : ℕ) → In name self.now.names
             → IsMatched self.now.object.start name self.now.credit_seen self.now.queue_seen }
     {

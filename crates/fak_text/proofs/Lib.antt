@@ -1,5 +1,6 @@
 pub mod Common
 pub mod Json
+pub mod Front
 pub mod Elements
 pub mod ReadRange
 pub mod StepRange

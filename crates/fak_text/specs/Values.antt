@@ -23,8 +23,13 @@ value_or fault None = Err fault
 abbrev pub json_in : List ℕ → Result Data TextFault
 json_in bytes = if is_utf8 bytes then value_or NotJson (read bytes) else Err NotJson
 
+-- how many bytes an input has at most
 abbrev pub most_bytes : ℕ
 most_bytes = 1048576
+
+-- how many bytes of an input show that it is too long: one more
+abbrev pub most_kept : ℕ
+most_kept = 1048577
 
 -- the object of an input that is not too long
 unfoldable pub input_in : List ℕ → Result Data TextFault

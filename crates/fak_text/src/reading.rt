@@ -9,3 +9,4 @@ mod values;
 pub use history::read_history;
 pub use schedule::read_schedule;
 pub use script::read_script;
+pub use values::{LARGEST_INPUT, number_at, text_at};

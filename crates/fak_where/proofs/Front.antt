@@ -9,32 +9,18 @@ use Rattle.fak_text.specs.Gives.{◌>>=◌}
 use Rattle.fak_text.specs.HistoryText.{history_from}
 use Rattle.fak_text.specs.ScheduleText.{schedule_from}
 use Rattle.fak_text.specs.ScriptText.{script_from}
-use Rattle.fak_text.specs.Values.{input_in}
+use Rattle.fak_text.specs.Values.{most_kept}
+use Rattle.fak_text.proofs.Front.{front_read}
 use Rattle.fak_places.specs.Places.{fault_in}
 use Rattle.fak_places.specs.declared.finding.Format.{Format}
 use Rattle.fak_places.specs.declared.finding.Format.TheVariants as formats
-use Rattle.fak_where.specs.Answers.{most_kept, status_of_place}
-
--- an input that is too long is so by its front already
-too_long : (input : List ℕ) → 1048576 < length input → input_in (take most_kept input) ≡ input_in input
-unfolding input_in
-too_long input lt =
-    let all : ltb 1048576 (length input) ≡ true = lt-ltb 1048576 (length input) lt in
-    let enough : most_kept ≤ length input = omega arith in
-    let front : ltb 1048576 (length (take most_kept input)) ≡ true = rw (length-take-le most_kept input enough) refl in
-    rw (all, front) refl
-
-front_read : (input : List ℕ) (b : Bool) → ltb 1048576 (length input) ≡ b → input_in (take most_kept input) ≡ input_in input
-front_read input true h = too_long input (ltb-true 1048576 (length input) h)
-front_read input false h =
-    let le : length input ≤ 1048576 = ltb-false 1048576 (length input) h in
-    ap input_in (take_all most_kept input (omega arith))
+use Rattle.fak_where.specs.Answers.{status_of_place}
 
 -- the front of an input has the first fault of the whole
 front_fault : (format : Format) (input : List ℕ) → fault_in format (take most_kept input) ≡ fault_in format input
-front_fault formats.Schedule input = ap (λ value. result_err (value >>= schedule_from)) (front_read input (ltb 1048576 (length input)) refl)
-front_fault formats.History input = ap (λ value. result_err (value >>= history_from)) (front_read input (ltb 1048576 (length input)) refl)
-front_fault formats.Script input = ap (λ value. result_err (value >>= script_from)) (front_read input (ltb 1048576 (length input)) refl)
+front_fault formats.Schedule input = ap (λ value. result_err (value >>= schedule_from)) (front_read input)
+front_fault formats.History input = ap (λ value. result_err (value >>= history_from)) (front_read input)
+front_fault formats.Script input = ap (λ value. result_err (value >>= script_from)) (front_read input)
 
 -- the status for the front is that for the whole
 pub status_is : (known : Option (List ℕ)) (format : Format) (kept : List ℕ) (status : ℕ) → IfSome known (λ input. kept ≡ take most_kept input)

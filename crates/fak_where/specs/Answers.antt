@@ -28,7 +28,3 @@ status_of_place (Some fault) = 1
 abbrev pub status_of_fault : WhereFault → ℕ
 status_of_fault faults.Usage = 2
 status_of_fault _ = 1
-
--- how many bytes of an input are read: one more than an input may have
-abbrev pub most_kept : ℕ
-most_kept = 1048577

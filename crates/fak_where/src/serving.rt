@@ -2,8 +2,9 @@
 
 ghost use Rattle.std.specs.Prelude.{◌≡◌, ◌≢◌, ◌⊎◌, ℕ, List, take, IfErr, IfOk, IfSome};
 ghost use Rattle.std.specs.Io.KnownBytes.{Appends, Keeps};
+ghost use Rattle.fak_text.specs.Values.{most_kept};
 ghost use Rattle.fak_places.specs.Places.{fault_in};
-ghost use Rattle.fak_where.specs.Answers.{most_kept, status_of_place};
+ghost use Rattle.fak_where.specs.Answers.{status_of_place};
 ghost use Rattle.fak_where.specs.declared.fault.WhereFault.TheVariants.{Memory, Read, Write};
 
 use crate::fault::WhereFault;
@@ -58,8 +59,10 @@ pub fn serve<R: Read + Drop, W: Write>(
     reader: R,
     writer: &mut W,
 ) -> Result<u8, WhereFault>
-    ensures ok { IfOk result (λ status. IfSome (R.Read.remaining reader) (λ input. status ≡ status_of_place (fault_in format input))) }
-    ensures untouched { IfErr result (λ e. e ≢ Write → Keeps (W.Write.contents writer.old) (W.Write.contents writer.new)) }
+    ensures ok { IfOk result (λ status. IfSome (R.Read.remaining reader)
+        (λ input. status ≡ status_of_place (fault_in format input))) }
+    ensures untouched { IfErr result (λ e. e ≢ Write
+        → Keeps (W.Write.contents writer.old) (W.Write.contents writer.new)) }
 {
     let input = read_input(alloc, reader)?;
     let (status, text) = answer_of(alloc, format, &input)?;

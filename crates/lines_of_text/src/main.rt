@@ -95,7 +95,8 @@ fn run_all<R: Threads + Wait + Sync>(
     second: Vec<Line>,
     count: usize,
 ) -> (Sender, (Sender, Receiver))
-    requires { Stands queue.now.object 0 0 0 0 seats.0 × Stands queue.now.object 0 0 0 0 seats.1 × Stands queue.now.object 0 0 0 0 seats.2 }
+    requires { Stands queue.now.object 0 0 0 0 seats.0 × Stands queue.now.object 0 0 0 0 seats.1
+        × Stands queue.now.object 0 0 0 0 seats.2 }
     ensures first { Sent queue.now.object first.items result.0.0 result.0.1 }
     ensures second { Sent queue.now.object second.items result.1.0.0 result.1.0.1 }
     ensures received { Received queue.now.object result.1.1.0 result.1.1.1 }
@@ -130,7 +131,8 @@ fn run_all<R: Threads + Wait + Sync>(
 
 /// An empty queue and its three seats.
 fn open_queue(alloc: Global) -> Option<(Queue<Line>, Seats)>
-    ensures fresh { IfSome result (λ r. Stands r.0.object 0 0 0 0 r.1.0 × Stands r.0.object 0 0 0 0 r.1.1 × Stands r.0.object 0 0 0 0 r.1.2) }
+    ensures fresh { IfSome result (λ r. Stands r.0.object 0 0 0 0 r.1.0 × Stands r.0.object 0 0 0 0 r.1.1
+        × Stands r.0.object 0 0 0 0 r.1.2) }
     ensures three { IfSome result (λ r. r.0.object.seats ≡ 3) }
 {
     let Ok((queue, mut seats)) = Queue::<Line>::open(alloc, 16, 3, LONGEST_STINT) else {

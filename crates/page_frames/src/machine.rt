@@ -1,70 +1,57 @@
 //! A machine of two processors that take frames and give them back.
 
-ghost use Rattle.std.specs.Prelude.{◌≡◌, IfSome, IsTrue};
+ghost use Rattle.std.specs.Prelude.{◌≡◌, ℕ, [], ◌∷◌, IfSome, IsTrue};
 ghost use Rattle.std.specs.List.{sum_by};
 ghost use Rattle.fak_queue.specs.Queues.{IsIdleSeat};
 ghost use Rattle.page_frames.specs.Frames.{HasPut, Keeps, is_number, none, one_of};
 
 use crate::frame::Frame;
 use crate::free_list::{give_back, take};
-use fak_model::laws::queue::a_queue_weighs_what_was_put;
-use fak_queue::{LONGEST_STINT, Queue, Rest, Seat, Tally};
+use fak_queue::{LONGEST_STINT, Port, Queue, Rest, Seat, Tally};
 use std::alloc::Global;
 use std::sync::Wait;
 use std::thread::{Threads, join};
 
-/// Puts all frames of the machine into the list. Tells whether none was refused.
-fn fill<R: Wait>(
-    rt: &R,
-    free: &Queue<Frame>,
-    mut seat: Seat<Frame>,
-    frames: u64,
-) -> (Seat<Frame>, bool)
-    requires { HasPut free.now.object seat.name none seat }
+/// Puts all frames of the machine into the list. Answers the seat, and whether none was refused.
+fn fill<R: Wait>(rt: &R, free: &Queue<Frame>, seat: Seat<Frame>, frames: u64) -> (Seat<Frame>, bool)
+    requires idle { IsIdleSeat free.now.object seat }
+    requires put { HasPut none seat }
     ensures idle { IsIdleSeat free.now.object result.0 }
-    ensures all { IsTrue result.1 → HasPut free.now.object seat.name (one_of frames) result.0 }
+    ensures all { IsTrue result.1 → HasPut (one_of frames) result.0 }
 {
+    let mut port = Port::new(free, seat);
     for number in 0..frames {
-        match give_back(rt, free, &mut seat, Frame { number }) {
-            Ok(()) => {}
-            Err(_) => return (seat, false),
-        }
+        let Ok(()) = give_back(rt, &mut port, Frame { number }) else {
+            return (port.into_seat(), false);
+        };
     }
-    (seat, true)
+    (port.into_seat(), true)
 }
 
 /// Takes a frame, uses it and gives it back, if there is one. Tells whether it was taken back.
-fn use_one<R: Wait>(rt: &R, free: &Queue<Frame>, seat: &mut Seat<Frame>) -> bool
-    requires { IsIdleSeat free.now.object seat.old }
-    ensures idle { IsIdleSeat free.now.object seat.new }
-    ensures same { IsTrue result → Keeps seat.old seat.new }
+fn use_one<R: Wait>(rt: &R, free: &mut Port<'_, Frame>) -> bool
+    ensures list { free.new.queue ≡ free.old.queue }
+    ensures same { IsTrue result → Keeps free.old.seat free.new.seat }
 {
-    let Some(frame) = take(rt, free, seat) else {
-        return true;
-    };
-    match give_back(rt, free, seat, frame) {
-        Ok(()) => true,
-        Err(_) => false,
+    match take(rt, free) {
+        Some(frame) => give_back(rt, free, frame).is_ok(),
+        None => true,
     }
 }
 
-/// A processor, which uses a frame this many times. Tells whether all were taken back.
-fn churn<R: Wait>(
-    rt: &R,
-    free: &Queue<Frame>,
-    mut seat: Seat<Frame>,
-    times: u64,
-) -> (Seat<Frame>, bool)
+/// A processor, which uses a frame this many times. Answers its seat, and whether all were taken back.
+fn churn<R: Wait>(rt: &R, free: &Queue<Frame>, seat: Seat<Frame>, times: u64) -> (Seat<Frame>, bool)
     requires { IsIdleSeat free.now.object seat }
     ensures idle { IsIdleSeat free.now.object result.0 }
     ensures same { IsTrue result.1 → Keeps seat result.0 }
 {
+    let mut port = Port::new(free, seat);
     for _ in 0..times {
-        if !use_one(rt, free, &mut seat) {
-            return (seat, false);
+        if !use_one(rt, &mut port) {
+            return (port.into_seat(), false);
         }
     }
-    (seat, true)
+    (port.into_seat(), true)
 }
 
 /// Both processors at once.
@@ -92,12 +79,13 @@ fn churn_both<R: Threads + Wait + Sync>(
     )
 }
 
-/// Closes the list, once all seats are back.
+/// Closes the list, once both seats are back.
 fn close(free: Queue<Frame>, a: Seat<Frame>, b: Seat<Frame>, frames: u64) -> Option<Rest<Frame>>
-    requires seats { HasPut free.object 1 (one_of frames) a × HasPut free.object 0 none b }
-    ensures { IfSome result (λ left. (n : _) → sum_by (is_number n) left ≡ one_of frames n) }
+    requires idle { IsIdleSeat free.object a × IsIdleSeat free.object b }
+    requires two { free.object.seats ≡ 2 }
+    requires put { HasPut (one_of frames) a × HasPut none b }
+    ensures { IfSome result (λ left. (n : ℕ) → sum_by (is_number n) left ≡ one_of frames n) }
 {
-    a_queue_weighs_what_was_put::<Frame>();
     let tally = free.join(Tally::of(a), b);
     let whole = tally.is_whole();
     if !whole {
@@ -122,9 +110,6 @@ pub fn churn_all<R: Threads + Wait + Sync>(
     let (a, filled) = fill(rt, &free, a, frames);
     let ((a, first), (b, second)) = churn_both(rt, &free, a, b, times);
     if !filled || !first || !second {
-        drop(free);
-        drop(a);
-        drop(b);
         return None;
     }
     close(free, a, b, frames)
@@ -132,7 +117,9 @@ pub fn churn_all<R: Threads + Wait + Sync>(
 
 /// An empty list, and the seats of two processors.
 fn open_list(alloc: Global, frames: u64) -> Option<(Queue<Frame>, Seat<Frame>, Seat<Frame>)>
-    ensures { IfSome result (λ r. HasPut r.0.object 1 none r.1 × HasPut r.0.object 0 none r.2) }
+    ensures idle { IfSome result (λ r. IsIdleSeat r.0.object r.1 × IsIdleSeat r.0.object r.2) }
+    ensures two { IfSome result (λ r. r.0.object.seats ≡ 2) }
+    ensures put { IfSome result (λ r. HasPut none r.1 × HasPut none r.2) }
 {
     let Ok((free, mut seats)) = Queue::<Frame>::open(alloc, frames, 2, LONGEST_STINT) else {
         return None;

@@ -2,7 +2,8 @@
 
 ghost use Rattle.std.specs.Prelude.{◌≡◌, ◌+◌, ◌<◌, IsTrue, IfSome, MatchOption};
 ghost use Rattle.fak_queue.specs.Queues.{IsIdleSeat, drawn_by};
-ghost use Rattle.pool_of_workers.specs.Counts.{Adds, leaps};
+ghost use Rattle.fak_queue.specs.Sums.{Adds};
+ghost use Rattle.pool_of_workers.specs.Counts.{leaps};
 
 use crate::work::Work;
 use fak_queue::{Queue, Seat};
@@ -12,7 +13,7 @@ use std::sync::Wait;
 pub fn put<R: Wait>(rt: &R, queue: &Queue<Work>, seat: &mut Seat<Work>, work: Work) -> bool
     requires { IsIdleSeat queue.now.object seat.old }
     ensures idle { IsIdleSeat queue.now.object seat.new }
-    ensures adds { IsTrue result → Adds (leaps work) 0 seat.old seat.new }
+    ensures adds { IsTrue result → Adds leaps (leaps work) 0 seat.old seat.new }
 {
     queue.wait_insert(rt, seat, work).is_ok()
 }
@@ -21,8 +22,11 @@ pub fn put<R: Wait>(rt: &R, queue: &Queue<Work>, seat: &mut Seat<Work>, work: Wo
 pub fn take<R: Wait>(rt: &R, queue: &Queue<Work>, seat: &mut Seat<Work>) -> Option<Work>
     requires { IsIdleSeat queue.now.object seat.old }
     ensures idle { IsIdleSeat queue.now.object seat.new }
-    ensures adds { MatchOption result (Adds 0 0 seat.old seat.new) (λ work. Adds 0 (leaps work) seat.old seat.new) }
-    ensures drawn { IfSome result (λ _. (drawn_by seat.new ≡ drawn_by seat.old + 1) × (drawn_by seat.old < seat.old.stint)) }
+    ensures adds { MatchOption result (Adds leaps 0 0 seat.old seat.new)
+        (λ work. Adds leaps 0 (leaps work) seat.old seat.new) }
+    ensures drawn { IfSome result
+        (λ _. (drawn_by seat.new ≡ drawn_by seat.old + 1) × (drawn_by seat.old < seat.old.stint)) }
+    ensures stint { seat.new.stint ≡ seat.old.stint }
 {
     match queue.wait_delete(rt, seat) {
         Ok((_, work)) => Some(work),

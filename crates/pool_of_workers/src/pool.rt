@@ -1,18 +1,18 @@
 //! The pool: the thread that puts jobs in, the threads that take them out, and how the seats are joined.
 
-ghost use Rattle.std.specs.Prelude.{◌≡◌, ◌≢◌, ◌+◌, ◌<◌, ◌≤◌, ◌^◌, Err, IfErr, IfOk, IsTrue, vec_len};
-ghost use Rattle.std.specs.List.{count_by};
+ghost use Rattle.std.specs.Prelude.{◌≡◌, ◌≢◌, ◌+◌, ◌<◌, ◌≤◌, ◌^◌, [], length, Err, IfErr, IfOk, IsTrue, vec_len};
+ghost use Rattle.std.specs.List.{All, count_by};
 ghost use Rattle.std.specs.Thread.{IsSync};
 ghost use Rattle.fak_queue.specs.Queues.{IsIdleSeat};
 ghost use Rattle.pool_of_workers.specs.Leap.{is_leap};
-ghost use Rattle.pool_of_workers.specs.Counts.{AreFresh, AreJoined, Stands, got_in, put_in};
+ghost use Rattle.fak_queue.specs.Sums.{AreJoined, Balances};
+ghost use Rattle.pool_of_workers.specs.Counts.{HaveWorked, IsFresh, Stands, leaps};
 ghost use Rattle.pool_of_workers.specs.Workers.{AreWorkers};
 ghost use Rattle.pool_of_workers.specs.declared.fault.Fault.TheVariants.{BadWorkers, Memory};
 
 use crate::calls::{put, take};
 use crate::fault::Fault;
 use crate::work::{Work, is_leap};
-use fak_model::laws::queue::a_queue_weighs_what_was_put;
 use fak_queue::{LONGEST_STINT, Queue, Seat, Tally};
 use std::alloc::Global;
 use std::sync::Wait;
@@ -23,9 +23,8 @@ const CELLS: u64 = 8;
 
 /// One worker: it takes jobs until it gets a `Stop`. Answers its seat, and how many leap years it got.
 fn work<R: Wait>(rt: &R, queue: &Queue<Work>, mut seat: Seat<Work>) -> (Seat<Work>, u64)
-    requires fresh { Stands queue.now.object seat.name 0 0 seat }
-    requires stint { seat.stint ≡ 2 ^ 40 }
-    ensures done { Stands queue.now.object seat.name 0 result.1 result.0 }
+    requires { IsFresh queue.now.object seat }
+    ensures done { Stands queue.now.object 0 result.1 result.0 }
     ensures few { result.1 ≤ 2 ^ 40 }
 {
     let mut leap_years = 0u64;
@@ -49,8 +48,8 @@ fn work_all<R: Threads + Wait + Sync>(
     mut seats: Vec<Seat<Work>>,
 ) -> (Tally<Work>, u64)
     requires some { (0 < vec_len seats) × (vec_len seats ≤ 64) }
-    requires fresh { AreFresh queue.now.object seats.items }
-    ensures { AreJoined queue.now.object (vec_len seats) result.1 result.0 }
+    requires fresh { All (IsFresh queue.now.object) seats.items }
+    ensures { HaveWorked queue.now (vec_len seats) result.1 result.0 }
 {
     let Some(seat) = seats.pop() else {
         unreachable!()
@@ -62,14 +61,14 @@ fn work_all<R: Threads + Wait + Sync>(
     let ((seat, leap_years), (tally, others)) = join(
         rt,
         move || -> (Seat<Work>, u64)
-            requires { Stands queue.now.object seat.name 0 0 seat × (seat.stint ≡ 2 ^ 40) }
-            ensures { Stands queue.entry.now.object seat.name 0 result.1 result.0 × (result.1 ≤ 2 ^ 40) }
+            requires { IsFresh queue.now.object seat }
+            ensures { Stands queue.entry.now.object 0 result.1 result.0 × (result.1 ≤ 2 ^ 40) }
         { work(rt, queue, seat) },
         move || -> (Tally<Work>, u64)
             requires sync { IsSync R.row }
             requires some { (0 < vec_len seats) × (vec_len seats ≤ 64) }
-            requires fresh { AreFresh queue.now.object seats.items }
-            ensures { AreJoined queue.entry.now.object (vec_len seats) result.1 result.0 }
+            requires fresh { All (IsFresh queue.now.object) seats.items }
+            ensures { HaveWorked queue.entry.now (vec_len seats) result.1 result.0 }
         { work_all(rt, queue, seats) },
     );
     (queue.join(tally, seat), leap_years + others)
@@ -83,9 +82,9 @@ fn give<R: Wait>(
     years: &[u64],
     workers: u64,
 ) -> (Seat<Work>, bool)
-    requires { Stands queue.now.object workers 0 0 seat }
+    requires { Stands queue.now.object 0 0 seat }
     ensures idle { IsIdleSeat queue.now.object result.0 }
-    ensures given { IsTrue result.1 → Stands queue.now.object workers (count_by is_leap years.now) 0 result.0 }
+    ensures given { IsTrue result.1 → Stands queue.now.object (count_by is_leap years.now) 0 result.0 }
 {
     for &year in years {
         if !put(rt, queue, &mut seat, Work::Year(year)) {
@@ -110,24 +109,25 @@ fn give_and_work<R: Threads + Wait + Sync>(
     years: &[u64],
     workers: u64,
 ) -> ((Seat<Work>, bool), (Tally<Work>, u64))
-    requires seat { Stands queue.now.object workers 0 0 seat }
+    requires seat { Stands queue.now.object 0 0 seat }
     requires some { (vec_len others ≡ workers) × (0 < workers) × (workers ≤ 63) }
-    requires fresh { AreFresh queue.now.object others.items }
+    requires fresh { All (IsFresh queue.now.object) others.items }
     ensures idle { IsIdleSeat queue.now.object result.0.0 }
-    ensures given { IsTrue result.0.1 → Stands queue.now.object workers (count_by is_leap years.now) 0 result.0.0 }
-    ensures worked { AreJoined queue.now.object (vec_len others) result.1.1 result.1.0 }
+    ensures given { IsTrue result.0.1 → Stands queue.now.object (count_by is_leap years.now) 0 result.0.0 }
+    ensures worked { HaveWorked queue.now (vec_len others) result.1.1 result.1.0 }
 {
     join(
         rt,
         move || -> (Seat<Work>, bool)
-            requires { Stands queue.now.object workers 0 0 seat }
+            requires { Stands queue.now.object 0 0 seat }
             ensures idle { IsIdleSeat queue.entry.now.object result.0 }
-            ensures given { IsTrue result.1 → Stands queue.entry.now.object workers (count_by is_leap years.entry.now) 0 result.0 }
+            ensures given { IsTrue result.1
+                → Stands queue.entry.now.object (count_by is_leap years.entry.now) 0 result.0 }
         { give(rt, queue, seat, years, workers) },
         move || -> (Tally<Work>, u64)
             requires some { (0 < vec_len others) × (vec_len others ≤ 64) }
-            requires fresh { AreFresh queue.now.object others.items }
-            ensures { AreJoined queue.entry.now.object (vec_len others) result.1 result.0 }
+            requires fresh { All (IsFresh queue.now.object) others.items }
+            ensures { HaveWorked queue.entry.now (vec_len others) result.1 result.0 }
         { work_all(rt, queue, others) },
     )
 }
@@ -135,9 +135,9 @@ fn give_and_work<R: Threads + Wait + Sync>(
 /// Closes the queue, and tells whether all seats are back and all that went in came out.
 fn is_done(queue: Queue<Work>, tally: Tally<Work>) -> bool
     requires { tally.object ≡ queue.object }
-    ensures { IsTrue result → put_in tally ≡ got_in tally }
+    ensures { IsTrue result → (seats : _) → AreJoined queue.size seats tally
+        → queue.object.seats ≡ length seats → Balances leaps seats [] }
 {
-    a_queue_weighs_what_was_put::<Work>();
     let whole = tally.is_whole();
     if !whole {
         return false;
@@ -151,8 +151,9 @@ fn open_pool(
     workers: u64,
 ) -> Result<(Queue<Work>, Seat<Work>, Vec<Seat<Work>>), Fault>
     requires { AreWorkers workers }
-    ensures seat { IfOk result (λ r. Stands r.0.object workers 0 0 r.1) }
-    ensures others { IfOk result (λ r. (vec_len r.2 ≡ workers) × AreFresh r.0.object r.2.items) }
+    ensures seat { IfOk result (λ r. Stands r.0.object 0 0 r.1) }
+    ensures others { IfOk result (λ r. (vec_len r.2 ≡ workers) × All (IsFresh r.0.object) r.2.items) }
+    ensures seats { IfOk result (λ r. r.0.object.seats ≡ workers + 1) }
     ensures fault { IfErr result (λ fault. fault ≡ Memory) }
 {
     let Ok((queue, mut seats)) = Queue::<Work>::open(alloc, CELLS, workers + 1, LONGEST_STINT)

@@ -13,7 +13,8 @@ use Rattle.fak_queue.proofs.Weighing.{Weighs, insertion_weighs, deletion_weighs,
 use Rattle.fak_sem.specs.Semaphores.{SemInfo, SemSeatInfo, queue_part, Downs, Ups}
 use Rattle.producers_and_consumers.specs.declared.channel.Buffer.{Buffer}
 use Rattle.producers_and_consumers.specs.declared.channel.Port.{Port}
-use Rattle.producers_and_consumers.specs.Passing.{Sum, put_by, got_by, Moves, nothing, IsFresh, AllOut}
+use Rattle.fak_queue.specs.Sums.{put_by, got_by}
+use Rattle.producers_and_consumers.specs.Passing.{Sum, Moves, nothing, IsFresh, AllOut}
 
 -- ---- ports
 

@@ -2,10 +2,9 @@
 use Rattle.std.specs.Prelude.{ℕ, ◌+◌, ◌^◌, ◌≡◌, List, [], ◌∷◌}
 use Rattle.std.specs.List.{sum_by}
 use Rattle.fak_model.specs.declared.queue.Mark.{Mark}
-use Rattle.fak_model.specs.Queue.{count}
-use Rattle.fak_model.specs.Calls.{ObjectId, SeatInfo, mine_of}
-use Rattle.fak_model.specs.Weights.{put_of, got_of}
-use Rattle.fak_queue.specs.Queues.{IsIdleSeat, seat_of}
+use Rattle.fak_model.specs.Calls.{ObjectId, SeatInfo}
+use Rattle.fak_queue.specs.Queues.{IsIdleSeat}
+use Rattle.fak_queue.specs.Sums.{put_by, got_by}
 use Rattle.fak_sem.specs.Semaphores.{SemId, SemSeatInfo, fresh_sem_seats, queue_part}
 use Rattle.producers_and_consumers.specs.declared.channel.Buffer.{Buffer}
 use Rattle.producers_and_consumers.specs.declared.channel.Port.{Port}
@@ -13,13 +12,6 @@ use Rattle.producers_and_consumers.specs.declared.channel.Port.{Port}
 -- a sum over buffers, for each weight of a buffer
 abbrev pub Sum : Type 0
 Sum = (Buffer → ℕ) → ℕ
-
--- what a seat of a queue put into it and got out of it
-abbrev pub put_by : (Buffer → ℕ) → SeatInfo (Mark Buffer) → ℕ
-put_by w s = count (put_of w) (mine_of seat_of s)
-
-abbrev pub got_by : (Buffer → ℕ) → SeatInfo (Mark Buffer) → ℕ
-got_by w s = count (got_of w) (mine_of seat_of s)
 
 -- what a port put into the queue and held back at the gate; what it let through the gate; what it took out of the queue
 abbrev pub put_in : (Buffer → ℕ) → Port → ℕ

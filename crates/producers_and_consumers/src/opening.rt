@@ -17,7 +17,8 @@ const CELLS: u64 = 64;
 
 /// An empty queue and its two seats.
 fn open_queue(alloc: Global) -> Option<(Queue<Buffer>, Seat<Buffer>, Seat<Buffer>)>
-    ensures { IfSome result (λ r. (r.1 ≡ seat_info r.0.object 1 (2 ^ 40) []) × (r.2 ≡ seat_info r.0.object 0 (2 ^ 40) [])) }
+    ensures { IfSome result (λ r. (r.1 ≡ seat_info r.0.object 1 (2 ^ 40) [])
+        × (r.2 ≡ seat_info r.0.object 0 (2 ^ 40) [])) }
 {
     let Ok((queue, mut seats)) = Queue::open(alloc, CELLS, 2, LONGEST_STINT) else {
         return None;
@@ -44,7 +45,8 @@ fn open_gate(
 
 /// An empty channel and its two ports.
 pub fn open_channel(alloc: Global, room: u64) -> Option<(Channel, Port, Port)>
-    ensures ports { IfSome result (λ r. IsPort r.0.queue.object r.0.gate.object r.1 × IsPort r.0.queue.object r.0.gate.object r.2) }
+    ensures ports { IfSome result (λ r. IsPort r.0.queue.object r.0.gate.object r.1
+        × IsPort r.0.queue.object r.0.gate.object r.2) }
     ensures fresh { IfSome result (λ r. IsFresh 1 r.1 × IsFresh 0 r.2) }
 {
     let opened = open_queue(alloc)?;
@@ -93,7 +95,8 @@ fn gate_is_empty(gate: Semaphore<Buffer>, a: SemSeat<Buffer>, b: SemSeat<Buffer>
 
 /// Closes the channel, and tells whether nothing is left in it.
 pub fn is_empty(channel: Channel, a: Port, b: Port) -> bool
-    requires ports { IsPort channel.queue.object channel.gate.object a × IsPort channel.queue.object channel.gate.object b }
+    requires ports { IsPort channel.queue.object channel.gate.object a
+        × IsPort channel.queue.object channel.gate.object b }
     requires apart { (b.queue.name ≢ a.queue.name) × (b.gate.name ≢ a.gate.name) }
     ensures { IsTrue result → AllOut a.queue b.queue × AllOut (queue_part a.gate) (queue_part b.gate) }
 {

@@ -12,7 +12,8 @@ use crate::desk::Desk;
 
 impl Desk {
     pub(crate) fn credit_debit(&mut self, found: &mut i64) -> i32
-        ensures call { Called result (found.new ≡ found.old) SameCredit (MovesCredit Debit result found.old found.new) (credit_in (Some self.old)) (credit_in (Some self.new)) }
+        ensures call { Called result (found.new ≡ found.old) SameCredit (MovesCredit Debit result found.old found.new)
+            (credit_in (Some self.old)) (credit_in (Some self.new)) }
         ensures spares { Spares credit_in (Some self.old) (Some self.new) }
     {
         match self {
@@ -25,7 +26,8 @@ impl Desk {
     }
 
     pub(crate) fn credit_credit(&mut self, found: &mut i64) -> i32
-        ensures call { Called result (found.new ≡ found.old) SameCredit (MovesCredit Credited result found.old found.new) (credit_in (Some self.old)) (credit_in (Some self.new)) }
+        ensures call { Called result (found.new ≡ found.old) SameCredit
+            (MovesCredit Credited result found.old found.new) (credit_in (Some self.old)) (credit_in (Some self.new)) }
         ensures spares { Spares credit_in (Some self.old) (Some self.new) }
     {
         match self {
@@ -38,7 +40,8 @@ impl Desk {
     }
 
     pub(crate) fn credit_value(&mut self, value: &mut i64, left: &mut u64) -> i32
-        ensures call { Called result ((value.new ≡ value.old) × (left.new ≡ left.old)) SameCredit (LoadsCredit result value.new left.new) (credit_in (Some self.old)) (credit_in (Some self.new)) }
+        ensures call { Called result ((value.new ≡ value.old) × (left.new ≡ left.old)) SameCredit
+            (LoadsCredit result value.new left.new) (credit_in (Some self.old)) (credit_in (Some self.new)) }
         ensures spares { Spares credit_in (Some self.old) (Some self.new) }
     {
         match self {

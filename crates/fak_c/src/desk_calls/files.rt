@@ -14,7 +14,8 @@ use fak_model::FileField;
 
 impl Desk {
     pub(crate) fn files_try_read(&mut self, count: &mut i64) -> i32
-        ensures call { Called result (count.new ≡ count.old) SameTable (TriesHold Read result count.old count.new) (files_in (Some self.old)) (files_in (Some self.new)) }
+        ensures call { Called result (count.new ≡ count.old) SameTable (TriesHold Read result count.old count.new)
+            (files_in (Some self.old)) (files_in (Some self.new)) }
         ensures spares { Spares files_in (Some self.old) (Some self.new) }
     {
         match self {
@@ -27,7 +28,8 @@ impl Desk {
     }
 
     pub(crate) fn files_try_write(&mut self, count: &mut i64) -> i32
-        ensures call { Called result (count.new ≡ count.old) SameTable (TriesHold Write result count.old count.new) (files_in (Some self.old)) (files_in (Some self.new)) }
+        ensures call { Called result (count.new ≡ count.old) SameTable (TriesHold Write result count.old count.new)
+            (files_in (Some self.old)) (files_in (Some self.new)) }
         ensures spares { Spares files_in (Some self.old) (Some self.new) }
     {
         match self {
@@ -40,7 +42,9 @@ impl Desk {
     }
 
     pub(crate) fn files_get(&mut self, entry: u64, inode: &mut u64, uses: &mut u64) -> i32
-        ensures call { Called result ((inode.new ≡ inode.old) × (uses.new ≡ uses.old)) SameTable (Gets result entry inode.old inode.new uses.old uses.new) (files_in (Some self.old)) (files_in (Some self.new)) }
+        ensures call { Called result ((inode.new ≡ inode.old) × (uses.new ≡ uses.old)) SameTable
+            (Gets result entry inode.old inode.new uses.old uses.new) (files_in (Some self.old))
+            (files_in (Some self.new)) }
         ensures spares { Spares files_in (Some self.old) (Some self.new) }
     {
         match self {
@@ -53,7 +57,8 @@ impl Desk {
     }
 
     pub(crate) fn files_set_inode(&mut self, entry: u64, to: u64) -> i32
-        ensures call { Called result Unit SameTable (Sets result entry Inode to) (files_in (Some self.old)) (files_in (Some self.new)) }
+        ensures call { Called result Unit SameTable (Sets result entry Inode to) (files_in (Some self.old))
+            (files_in (Some self.new)) }
         ensures spares { Spares files_in (Some self.old) (Some self.new) }
     {
         match self {
@@ -63,7 +68,8 @@ impl Desk {
     }
 
     pub(crate) fn files_set_uses(&mut self, entry: u64, to: u64) -> i32
-        ensures call { Called result Unit SameTable (Sets result entry Uses to) (files_in (Some self.old)) (files_in (Some self.new)) }
+        ensures call { Called result Unit SameTable (Sets result entry Uses to) (files_in (Some self.old))
+            (files_in (Some self.new)) }
         ensures spares { Spares files_in (Some self.old) (Some self.new) }
     {
         match self {
@@ -73,7 +79,8 @@ impl Desk {
     }
 
     pub(crate) fn files_end(&mut self) -> i32
-        ensures call { Called result Unit SameTable (Ends result) (files_in (Some self.old)) (files_in (Some self.new)) }
+        ensures call { Called result Unit SameTable (Ends result) (files_in (Some self.old))
+            (files_in (Some self.new)) }
         ensures spares { Spares files_in (Some self.old) (Some self.new) }
     {
         match self {
@@ -83,7 +90,8 @@ impl Desk {
     }
 
     pub(crate) fn files_hold(&mut self, hold: &mut u32) -> i32
-        ensures call { Called result (hold.new ≡ hold.old) SameTable (LooksAtHold result hold.new) (files_in (Some self.old)) (files_in (Some self.new)) }
+        ensures call { Called result (hold.new ≡ hold.old) SameTable (LooksAtHold result hold.new)
+            (files_in (Some self.old)) (files_in (Some self.new)) }
         ensures spares { Spares files_in (Some self.old) (Some self.new) }
     {
         match self {

@@ -1,7 +1,7 @@
 //! The calls of seats of queues on a desk, as C asks for them: a desk of another kind is refused and stays as it was.
 
 ghost use Rattle.std.specs.Prelude.{◌≡◌, Some};
-ghost use Rattle.fak_c.specs.Answers.{Deletes, DeletesOnce, Inserts, InsertsOnce, Looks, SameQueue, Shuts, TriesToFill, TriesToTake};
+ghost use Rattle.fak_c.specs.Answers.{Deletes, DeletesOnce, Inserts, InsertsOnce, Looks, Pauses, SameQueue, Shuts, TriesToFill, TriesToTake};
 ghost use Rattle.fak_c.specs.Calls.{Called};
 ghost use Rattle.fak_c.specs.Kinds.{Spares, queue_in};
 
@@ -13,7 +13,8 @@ use crate::desk::Desk;
 
 impl Desk {
     pub(crate) fn claim_insert(&mut self, item: u64, ticket: &mut u64) -> i32
-        ensures call { Called result (ticket.new ≡ ticket.old) SameQueue (Inserts result item ticket.old ticket.new) (queue_in (Some self.old)) (queue_in (Some self.new)) }
+        ensures call { Called result (ticket.new ≡ ticket.old) SameQueue (Inserts result item ticket.old ticket.new)
+            (queue_in (Some self.old)) (queue_in (Some self.new)) }
         ensures spares { Spares queue_in (Some self.old) (Some self.new) }
     {
         match self {
@@ -26,7 +27,8 @@ impl Desk {
     }
 
     pub(crate) fn try_fill(&mut self) -> i32
-        ensures call { Called result Unit SameQueue (TriesToFill result) (queue_in (Some self.old)) (queue_in (Some self.new)) }
+        ensures call { Called result Unit SameQueue (TriesToFill result) (queue_in (Some self.old))
+            (queue_in (Some self.new)) }
         ensures spares { Spares queue_in (Some self.old) (Some self.new) }
     {
         match self {
@@ -39,7 +41,8 @@ impl Desk {
     }
 
     pub(crate) fn claim_delete(&mut self, ticket: &mut u64) -> i32
-        ensures call { Called result (ticket.new ≡ ticket.old) SameQueue (Deletes result ticket.old ticket.new) (queue_in (Some self.old)) (queue_in (Some self.new)) }
+        ensures call { Called result (ticket.new ≡ ticket.old) SameQueue (Deletes result ticket.old ticket.new)
+            (queue_in (Some self.old)) (queue_in (Some self.new)) }
         ensures spares { Spares queue_in (Some self.old) (Some self.new) }
     {
         match self {
@@ -52,7 +55,8 @@ impl Desk {
     }
 
     pub(crate) fn try_take(&mut self, item: &mut u64) -> i32
-        ensures call { Called result (item.new ≡ item.old) SameQueue (TriesToTake result item.old item.new) (queue_in (Some self.old)) (queue_in (Some self.new)) }
+        ensures call { Called result (item.new ≡ item.old) SameQueue (TriesToTake result item.old item.new)
+            (queue_in (Some self.old)) (queue_in (Some self.new)) }
         ensures spares { Spares queue_in (Some self.old) (Some self.new) }
     {
         match self {
@@ -65,7 +69,8 @@ impl Desk {
     }
 
     pub(crate) fn insert(&mut self, item: u64, ticket: &mut u64) -> i32
-        ensures call { Called result (ticket.new ≡ ticket.old) SameQueue (InsertsOnce result item ticket.old ticket.new) (queue_in (Some self.old)) (queue_in (Some self.new)) }
+        ensures call { Called result (ticket.new ≡ ticket.old) SameQueue (InsertsOnce result item ticket.old ticket.new)
+            (queue_in (Some self.old)) (queue_in (Some self.new)) }
         ensures spares { Spares queue_in (Some self.old) (Some self.new) }
     {
         match self {
@@ -78,7 +83,9 @@ impl Desk {
     }
 
     pub(crate) fn delete(&mut self, ticket: &mut u64, item: &mut u64) -> i32
-        ensures call { Called result ((ticket.new ≡ ticket.old) × (item.new ≡ item.old)) SameQueue (DeletesOnce result ticket.old ticket.new item.old item.new) (queue_in (Some self.old)) (queue_in (Some self.new)) }
+        ensures call { Called result ((ticket.new ≡ ticket.old) × (item.new ≡ item.old)) SameQueue
+            (DeletesOnce result ticket.old ticket.new item.old item.new) (queue_in (Some self.old))
+            (queue_in (Some self.new)) }
         ensures spares { Spares queue_in (Some self.old) (Some self.new) }
     {
         match self {
@@ -91,7 +98,8 @@ impl Desk {
     }
 
     pub(crate) fn shut(&mut self, was_open: &mut bool) -> i32
-        ensures call { Called result (was_open.new ≡ was_open.old) SameQueue (Shuts result was_open.old was_open.new) (queue_in (Some self.old)) (queue_in (Some self.new)) }
+        ensures call { Called result (was_open.new ≡ was_open.old) SameQueue (Shuts result was_open.old was_open.new)
+            (queue_in (Some self.old)) (queue_in (Some self.new)) }
         ensures spares { Spares queue_in (Some self.old) (Some self.new) }
     {
         match self {
@@ -103,8 +111,24 @@ impl Desk {
         }
     }
 
+    pub(crate) fn pause(&mut self) -> i32
+        ensures call { Called result Unit SameQueue (Pauses result) (queue_in (Some self.old))
+            (queue_in (Some self.new)) }
+        ensures spares { Spares queue_in (Some self.old) (Some self.new) }
+    {
+        match self {
+            Desk::Queue(desk) => {
+                desk.pause();
+                OK
+            }
+            Desk::Semaphore(_) | Desk::Room(_) | Desk::Credit(_) | Desk::Files(_) => NO_SEAT,
+        }
+    }
+
     pub(crate) fn state(&mut self, state: &mut u32, ticket: &mut u64, left: &mut u64) -> i32
-        ensures call { Called result ((state.new ≡ state.old) × (ticket.new ≡ ticket.old) × (left.new ≡ left.old)) SameQueue (Looks result state.new ticket.old ticket.new left.new) (queue_in (Some self.old)) (queue_in (Some self.new)) }
+        ensures call { Called result ((state.new ≡ state.old) × (ticket.new ≡ ticket.old)
+            × (left.new ≡ left.old)) SameQueue (Looks result state.new ticket.old ticket.new left.new)
+            (queue_in (Some self.old)) (queue_in (Some self.new)) }
         ensures spares { Spares queue_in (Some self.old) (Some self.new) }
     {
         match self {

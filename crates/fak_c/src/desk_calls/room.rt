@@ -11,7 +11,8 @@ use crate::desk::Desk;
 
 impl Desk {
     pub(crate) fn room_tir(&mut self, amount: u64, found: &mut i64) -> i32
-        ensures call { Called result (found.new ≡ found.old) SameRoom (TriesRoom result amount found.old found.new) (room_in (Some self.old)) (room_in (Some self.new)) }
+        ensures call { Called result (found.new ≡ found.old) SameRoom (TriesRoom result amount found.old found.new)
+            (room_in (Some self.old)) (room_in (Some self.new)) }
         ensures spares { Spares room_in (Some self.old) (Some self.new) }
     {
         match self {
@@ -24,7 +25,8 @@ impl Desk {
     }
 
     pub(crate) fn room_release(&mut self, amount: u64, found: &mut i64) -> i32
-        ensures call { Called result (found.new ≡ found.old) SameRoom (Releases result amount found.old found.new) (room_in (Some self.old)) (room_in (Some self.new)) }
+        ensures call { Called result (found.new ≡ found.old) SameRoom (Releases result amount found.old found.new)
+            (room_in (Some self.old)) (room_in (Some self.new)) }
         ensures spares { Spares room_in (Some self.old) (Some self.new) }
     {
         match self {
@@ -37,7 +39,8 @@ impl Desk {
     }
 
     pub(crate) fn room_state(&mut self, held: &mut u64, left: &mut u64) -> i32
-        ensures call { Called result ((held.new ≡ held.old) × (left.new ≡ left.old)) SameRoom (LooksAtRoom result held.new left.new) (room_in (Some self.old)) (room_in (Some self.new)) }
+        ensures call { Called result ((held.new ≡ held.old) × (left.new ≡ left.old)) SameRoom
+            (LooksAtRoom result held.new left.new) (room_in (Some self.old)) (room_in (Some self.new)) }
         ensures spares { Spares room_in (Some self.old) (Some self.new) }
     {
         match self {

@@ -11,7 +11,8 @@ use crate::sem_calls::{of_down, of_park, of_step, of_up, of_wake};
 
 impl Desk {
     pub(crate) fn sem_claim_down(&mut self, item: u64) -> i32
-        ensures call { Called result Unit SameSemaphore (ClaimsDown result item) (semaphore_in (Some self.old)) (semaphore_in (Some self.new)) }
+        ensures call { Called result Unit SameSemaphore (ClaimsDown result item) (semaphore_in (Some self.old))
+            (semaphore_in (Some self.new)) }
         ensures spares { Spares semaphore_in (Some self.old) (Some self.new) }
     {
         match self {
@@ -24,7 +25,8 @@ impl Desk {
     }
 
     pub(crate) fn sem_try_park(&mut self) -> i32
-        ensures call { Called result Unit SameSemaphore (TriesToPark result) (semaphore_in (Some self.old)) (semaphore_in (Some self.new)) }
+        ensures call { Called result Unit SameSemaphore (TriesToPark result) (semaphore_in (Some self.old))
+            (semaphore_in (Some self.new)) }
         ensures spares { Spares semaphore_in (Some self.old) (Some self.new) }
     {
         match self {
@@ -37,7 +39,8 @@ impl Desk {
     }
 
     pub(crate) fn sem_claim_up(&mut self) -> i32
-        ensures call { Called result Unit SameSemaphore (ClaimsUp result) (semaphore_in (Some self.old)) (semaphore_in (Some self.new)) }
+        ensures call { Called result Unit SameSemaphore (ClaimsUp result) (semaphore_in (Some self.old))
+            (semaphore_in (Some self.new)) }
         ensures spares { Spares semaphore_in (Some self.old) (Some self.new) }
     {
         match self {
@@ -50,7 +53,8 @@ impl Desk {
     }
 
     pub(crate) fn sem_try_wake(&mut self, item: &mut u64) -> i32
-        ensures call { Called result (item.new ≡ item.old) SameSemaphore (TriesToWake result item.old item.new) (semaphore_in (Some self.old)) (semaphore_in (Some self.new)) }
+        ensures call { Called result (item.new ≡ item.old) SameSemaphore (TriesToWake result item.old item.new)
+            (semaphore_in (Some self.old)) (semaphore_in (Some self.new)) }
         ensures spares { Spares semaphore_in (Some self.old) (Some self.new) }
     {
         match self {
@@ -63,7 +67,8 @@ impl Desk {
     }
 
     pub(crate) fn sem_state(&mut self, state: &mut u32, left: &mut u64) -> i32
-        ensures call { Called result ((state.new ≡ state.old) × (left.new ≡ left.old)) SameSemaphore (LooksAtSem result state.new left.new) (semaphore_in (Some self.old)) (semaphore_in (Some self.new)) }
+        ensures call { Called result ((state.new ≡ state.old) × (left.new ≡ left.old)) SameSemaphore
+            (LooksAtSem result state.new left.new) (semaphore_in (Some self.old)) (semaphore_in (Some self.new)) }
         ensures spares { Spares semaphore_in (Some self.old) (Some self.new) }
     {
         match self {

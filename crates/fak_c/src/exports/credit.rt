@@ -15,7 +15,8 @@ use std::alloc::Global;
 /// `OK`, `WORN` or `NO_SEAT`.
 #[unsafe(no_mangle)]
 pub extern "C" fn fak_c_credit_debit(alloc: Global, seat: &mut Place, found: &mut i64) -> i32
-    ensures call { Called result (found.new ≡ found.old) SameCredit (MovesCredit Debit result found.old found.new) (credit_in seat.old.handle.desk) (credit_in seat.new.handle.desk) }
+    ensures call { Called result (found.new ≡ found.old) SameCredit (MovesCredit Debit result found.old found.new)
+        (credit_in seat.old.handle.desk) (credit_in seat.new.handle.desk) }
     ensures spares { Spares credit_in seat.old.handle.desk seat.new.handle.desk }
 {
     let Some(mut desk) = seat.take(alloc) else {
@@ -31,7 +32,8 @@ pub extern "C" fn fak_c_credit_debit(alloc: Global, seat: &mut Place, found: &mu
 /// `OK`, `WORN` or `NO_SEAT`.
 #[unsafe(no_mangle)]
 pub extern "C" fn fak_c_credit_credit(alloc: Global, seat: &mut Place, found: &mut i64) -> i32
-    ensures call { Called result (found.new ≡ found.old) SameCredit (MovesCredit Credited result found.old found.new) (credit_in seat.old.handle.desk) (credit_in seat.new.handle.desk) }
+    ensures call { Called result (found.new ≡ found.old) SameCredit (MovesCredit Credited result found.old found.new)
+        (credit_in seat.old.handle.desk) (credit_in seat.new.handle.desk) }
     ensures spares { Spares credit_in seat.old.handle.desk seat.new.handle.desk }
 {
     let Some(mut desk) = seat.take(alloc) else {
@@ -52,7 +54,8 @@ pub extern "C" fn fak_c_credit_value(
     value: &mut i64,
     left: &mut u64,
 ) -> i32
-    ensures call { Called result ((value.new ≡ value.old) × (left.new ≡ left.old)) SameCredit (LoadsCredit result value.new left.new) (credit_in seat.old.handle.desk) (credit_in seat.new.handle.desk) }
+    ensures call { Called result ((value.new ≡ value.old) × (left.new ≡ left.old)) SameCredit
+        (LoadsCredit result value.new left.new) (credit_in seat.old.handle.desk) (credit_in seat.new.handle.desk) }
     ensures spares { Spares credit_in seat.old.handle.desk seat.new.handle.desk }
 {
     let Some(mut desk) = seat.take(alloc) else {

@@ -16,7 +16,8 @@ use std::alloc::Global;
 /// `OK`, `WORN`, `BUSY` with the count that was found, `NO_SEAT` or `WRONG_STATE`.
 #[unsafe(no_mangle)]
 pub extern "C" fn fak_c_files_try_read(alloc: Global, seat: &mut Place, count: &mut i64) -> i32
-    ensures call { Called result (count.new ≡ count.old) SameTable (TriesHold Read result count.old count.new) (files_in seat.old.handle.desk) (files_in seat.new.handle.desk) }
+    ensures call { Called result (count.new ≡ count.old) SameTable (TriesHold Read result count.old count.new)
+        (files_in seat.old.handle.desk) (files_in seat.new.handle.desk) }
     ensures spares { Spares files_in seat.old.handle.desk seat.new.handle.desk }
 {
     let Some(mut desk) = seat.take(alloc) else {
@@ -32,7 +33,8 @@ pub extern "C" fn fak_c_files_try_read(alloc: Global, seat: &mut Place, count: &
 /// `OK`, `WORN`, `BUSY` with the count that was found, `NO_SEAT` or `WRONG_STATE`.
 #[unsafe(no_mangle)]
 pub extern "C" fn fak_c_files_try_write(alloc: Global, seat: &mut Place, count: &mut i64) -> i32
-    ensures call { Called result (count.new ≡ count.old) SameTable (TriesHold Write result count.old count.new) (files_in seat.old.handle.desk) (files_in seat.new.handle.desk) }
+    ensures call { Called result (count.new ≡ count.old) SameTable (TriesHold Write result count.old count.new)
+        (files_in seat.old.handle.desk) (files_in seat.new.handle.desk) }
     ensures spares { Spares files_in seat.old.handle.desk seat.new.handle.desk }
 {
     let Some(mut desk) = seat.take(alloc) else {
@@ -54,7 +56,9 @@ pub extern "C" fn fak_c_files_get(
     inode: &mut u64,
     uses: &mut u64,
 ) -> i32
-    ensures call { Called result ((inode.new ≡ inode.old) × (uses.new ≡ uses.old)) SameTable (Gets result entry inode.old inode.new uses.old uses.new) (files_in seat.old.handle.desk) (files_in seat.new.handle.desk) }
+    ensures call { Called result ((inode.new ≡ inode.old) × (uses.new ≡ uses.old)) SameTable
+        (Gets result entry inode.old inode.new uses.old uses.new) (files_in seat.old.handle.desk)
+        (files_in seat.new.handle.desk) }
     ensures spares { Spares files_in seat.old.handle.desk seat.new.handle.desk }
 {
     let Some(mut desk) = seat.take(alloc) else {
@@ -70,7 +74,8 @@ pub extern "C" fn fak_c_files_get(
 /// `OK`, `WRONG_STATE` with no such hold or entry, or `NO_SEAT`.
 #[unsafe(no_mangle)]
 pub extern "C" fn fak_c_files_set_inode(alloc: Global, seat: &mut Place, entry: u64, to: u64) -> i32
-    ensures call { Called result Unit SameTable (Sets result entry Inode to) (files_in seat.old.handle.desk) (files_in seat.new.handle.desk) }
+    ensures call { Called result Unit SameTable (Sets result entry Inode to) (files_in seat.old.handle.desk)
+        (files_in seat.new.handle.desk) }
     ensures spares { Spares files_in seat.old.handle.desk seat.new.handle.desk }
 {
     let Some(mut desk) = seat.take(alloc) else {
@@ -86,7 +91,8 @@ pub extern "C" fn fak_c_files_set_inode(alloc: Global, seat: &mut Place, entry: 
 /// `OK`, `WRONG_STATE` with no such hold or entry, or `NO_SEAT`.
 #[unsafe(no_mangle)]
 pub extern "C" fn fak_c_files_set_uses(alloc: Global, seat: &mut Place, entry: u64, to: u64) -> i32
-    ensures call { Called result Unit SameTable (Sets result entry Uses to) (files_in seat.old.handle.desk) (files_in seat.new.handle.desk) }
+    ensures call { Called result Unit SameTable (Sets result entry Uses to) (files_in seat.old.handle.desk)
+        (files_in seat.new.handle.desk) }
     ensures spares { Spares files_in seat.old.handle.desk seat.new.handle.desk }
 {
     let Some(mut desk) = seat.take(alloc) else {
@@ -102,7 +108,8 @@ pub extern "C" fn fak_c_files_set_uses(alloc: Global, seat: &mut Place, entry: u
 /// `OK`, `WRONG_STATE` with no hold, or `NO_SEAT`.
 #[unsafe(no_mangle)]
 pub extern "C" fn fak_c_files_end(alloc: Global, seat: &mut Place) -> i32
-    ensures call { Called result Unit SameTable (Ends result) (files_in seat.old.handle.desk) (files_in seat.new.handle.desk) }
+    ensures call { Called result Unit SameTable (Ends result) (files_in seat.old.handle.desk)
+        (files_in seat.new.handle.desk) }
     ensures spares { Spares files_in seat.old.handle.desk seat.new.handle.desk }
 {
     let Some(mut desk) = seat.take(alloc) else {
@@ -118,7 +125,8 @@ pub extern "C" fn fak_c_files_end(alloc: Global, seat: &mut Place) -> i32
 /// `OK` or `NO_SEAT`.
 #[unsafe(no_mangle)]
 pub extern "C" fn fak_c_files_hold(alloc: Global, seat: &mut Place, hold: &mut u32) -> i32
-    ensures call { Called result (hold.new ≡ hold.old) SameTable (LooksAtHold result hold.new) (files_in seat.old.handle.desk) (files_in seat.new.handle.desk) }
+    ensures call { Called result (hold.new ≡ hold.old) SameTable (LooksAtHold result hold.new)
+        (files_in seat.old.handle.desk) (files_in seat.new.handle.desk) }
     ensures spares { Spares files_in seat.old.handle.desk seat.new.handle.desk }
 {
     let Some(mut desk) = seat.take(alloc) else {

@@ -1,7 +1,7 @@
 //! The exported calls of seats of queues.
 
 ghost use Rattle.std.specs.Prelude.{◌≡◌};
-ghost use Rattle.fak_c.specs.Answers.{Deletes, DeletesOnce, Inserts, InsertsOnce, Looks, SameQueue, Shuts, TriesToFill, TriesToTake};
+ghost use Rattle.fak_c.specs.Answers.{Deletes, DeletesOnce, Inserts, InsertsOnce, Looks, Pauses, SameQueue, Shuts, TriesToFill, TriesToTake};
 ghost use Rattle.fak_c.specs.Calls.{Called};
 ghost use Rattle.fak_c.specs.Kinds.{Spares, queue_in};
 
@@ -19,7 +19,8 @@ pub extern "C" fn fak_c_claim_insert(
     item: u64,
     ticket: &mut u64,
 ) -> i32
-    ensures call { Called result (ticket.new ≡ ticket.old) SameQueue (Inserts result item ticket.old ticket.new) (queue_in seat.old.handle.desk) (queue_in seat.new.handle.desk) }
+    ensures call { Called result (ticket.new ≡ ticket.old) SameQueue (Inserts result item ticket.old ticket.new)
+        (queue_in seat.old.handle.desk) (queue_in seat.new.handle.desk) }
     ensures spares { Spares queue_in seat.old.handle.desk seat.new.handle.desk }
 {
     let Some(mut desk) = seat.take(alloc) else {
@@ -35,7 +36,8 @@ pub extern "C" fn fak_c_claim_insert(
 /// `OK`, `NOT_YET`, `NO_SEAT` or `WRONG_STATE`.
 #[unsafe(no_mangle)]
 pub extern "C" fn fak_c_try_fill(alloc: Global, seat: &mut Place) -> i32
-    ensures call { Called result Unit SameQueue (TriesToFill result) (queue_in seat.old.handle.desk) (queue_in seat.new.handle.desk) }
+    ensures call { Called result Unit SameQueue (TriesToFill result) (queue_in seat.old.handle.desk)
+        (queue_in seat.new.handle.desk) }
     ensures spares { Spares queue_in seat.old.handle.desk seat.new.handle.desk }
 {
     let Some(mut desk) = seat.take(alloc) else {
@@ -51,7 +53,8 @@ pub extern "C" fn fak_c_try_fill(alloc: Global, seat: &mut Place) -> i32
 /// `OK`, `WORN`, `EMPTY`, `NO_SEAT` or `WRONG_STATE`.
 #[unsafe(no_mangle)]
 pub extern "C" fn fak_c_claim_delete(alloc: Global, seat: &mut Place, ticket: &mut u64) -> i32
-    ensures call { Called result (ticket.new ≡ ticket.old) SameQueue (Deletes result ticket.old ticket.new) (queue_in seat.old.handle.desk) (queue_in seat.new.handle.desk) }
+    ensures call { Called result (ticket.new ≡ ticket.old) SameQueue (Deletes result ticket.old ticket.new)
+        (queue_in seat.old.handle.desk) (queue_in seat.new.handle.desk) }
     ensures spares { Spares queue_in seat.old.handle.desk seat.new.handle.desk }
 {
     let Some(mut desk) = seat.take(alloc) else {
@@ -67,7 +70,8 @@ pub extern "C" fn fak_c_claim_delete(alloc: Global, seat: &mut Place, ticket: &m
 /// `OK`, `NOT_YET`, `NO_SEAT` or `WRONG_STATE`.
 #[unsafe(no_mangle)]
 pub extern "C" fn fak_c_try_take(alloc: Global, seat: &mut Place, item: &mut u64) -> i32
-    ensures call { Called result (item.new ≡ item.old) SameQueue (TriesToTake result item.old item.new) (queue_in seat.old.handle.desk) (queue_in seat.new.handle.desk) }
+    ensures call { Called result (item.new ≡ item.old) SameQueue (TriesToTake result item.old item.new)
+        (queue_in seat.old.handle.desk) (queue_in seat.new.handle.desk) }
     ensures spares { Spares queue_in seat.old.handle.desk seat.new.handle.desk }
 {
     let Some(mut desk) = seat.take(alloc) else {
@@ -83,7 +87,8 @@ pub extern "C" fn fak_c_try_take(alloc: Global, seat: &mut Place, item: &mut u64
 /// `OK`, `NOT_YET` where the claim is kept for `fak_c_try_fill`, `WORN`, `CLOSED`, `FULL`, `NO_SEAT` or `WRONG_STATE`.
 #[unsafe(no_mangle)]
 pub extern "C" fn fak_c_insert(alloc: Global, seat: &mut Place, item: u64, ticket: &mut u64) -> i32
-    ensures call { Called result (ticket.new ≡ ticket.old) SameQueue (InsertsOnce result item ticket.old ticket.new) (queue_in seat.old.handle.desk) (queue_in seat.new.handle.desk) }
+    ensures call { Called result (ticket.new ≡ ticket.old) SameQueue (InsertsOnce result item ticket.old ticket.new)
+        (queue_in seat.old.handle.desk) (queue_in seat.new.handle.desk) }
     ensures spares { Spares queue_in seat.old.handle.desk seat.new.handle.desk }
 {
     let Some(mut desk) = seat.take(alloc) else {
@@ -104,7 +109,9 @@ pub extern "C" fn fak_c_delete(
     ticket: &mut u64,
     item: &mut u64,
 ) -> i32
-    ensures call { Called result ((ticket.new ≡ ticket.old) × (item.new ≡ item.old)) SameQueue (DeletesOnce result ticket.old ticket.new item.old item.new) (queue_in seat.old.handle.desk) (queue_in seat.new.handle.desk) }
+    ensures call { Called result ((ticket.new ≡ ticket.old) × (item.new ≡ item.old)) SameQueue
+        (DeletesOnce result ticket.old ticket.new item.old item.new) (queue_in seat.old.handle.desk)
+        (queue_in seat.new.handle.desk) }
     ensures spares { Spares queue_in seat.old.handle.desk seat.new.handle.desk }
 {
     let Some(mut desk) = seat.take(alloc) else {
@@ -120,13 +127,31 @@ pub extern "C" fn fak_c_delete(
 /// `OK`, `NO_SEAT` or `WRONG_STATE`.
 #[unsafe(no_mangle)]
 pub extern "C" fn fak_c_shut(alloc: Global, seat: &mut Place, was_open: &mut bool) -> i32
-    ensures call { Called result (was_open.new ≡ was_open.old) SameQueue (Shuts result was_open.old was_open.new) (queue_in seat.old.handle.desk) (queue_in seat.new.handle.desk) }
+    ensures call { Called result (was_open.new ≡ was_open.old) SameQueue (Shuts result was_open.old was_open.new)
+        (queue_in seat.old.handle.desk) (queue_in seat.new.handle.desk) }
     ensures spares { Spares queue_in seat.old.handle.desk seat.new.handle.desk }
 {
     let Some(mut desk) = seat.take(alloc) else {
         return NO_SEAT;
     };
     let code = desk.shut(was_open);
+    seat.put(desk);
+    code
+}
+
+/// Leaves the queue to others for a while, where since the last pause a call of the seat has found that others use it too.
+///
+/// `OK` or `NO_SEAT`.
+#[unsafe(no_mangle)]
+pub extern "C" fn fak_c_pause(alloc: Global, seat: &mut Place) -> i32
+    ensures call { Called result Unit SameQueue (Pauses result) (queue_in seat.old.handle.desk)
+        (queue_in seat.new.handle.desk) }
+    ensures spares { Spares queue_in seat.old.handle.desk seat.new.handle.desk }
+{
+    let Some(mut desk) = seat.take(alloc) else {
+        return NO_SEAT;
+    };
+    let code = desk.pause();
     seat.put(desk);
     code
 }
@@ -142,7 +167,9 @@ pub extern "C" fn fak_c_state(
     ticket: &mut u64,
     left: &mut u64,
 ) -> i32
-    ensures call { Called result ((state.new ≡ state.old) × (ticket.new ≡ ticket.old) × (left.new ≡ left.old)) SameQueue (Looks result state.new ticket.old ticket.new left.new) (queue_in seat.old.handle.desk) (queue_in seat.new.handle.desk) }
+    ensures call { Called result ((state.new ≡ state.old) × (ticket.new ≡ ticket.old) × (left.new ≡ left.old)) SameQueue
+        (Looks result state.new ticket.old ticket.new left.new) (queue_in seat.old.handle.desk)
+        (queue_in seat.new.handle.desk) }
     ensures spares { Spares queue_in seat.old.handle.desk seat.new.handle.desk }
 {
     let Some(mut desk) = seat.take(alloc) else {

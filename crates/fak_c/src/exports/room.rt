@@ -19,7 +19,8 @@ pub extern "C" fn fak_c_room_tir(
     amount: u64,
     found: &mut i64,
 ) -> i32
-    ensures call { Called result (found.new ≡ found.old) SameRoom (TriesRoom result amount found.old found.new) (room_in seat.old.handle.desk) (room_in seat.new.handle.desk) }
+    ensures call { Called result (found.new ≡ found.old) SameRoom (TriesRoom result amount found.old found.new)
+        (room_in seat.old.handle.desk) (room_in seat.new.handle.desk) }
     ensures spares { Spares room_in seat.old.handle.desk seat.new.handle.desk }
 {
     let Some(mut desk) = seat.take(alloc) else {
@@ -40,7 +41,8 @@ pub extern "C" fn fak_c_room_release(
     amount: u64,
     found: &mut i64,
 ) -> i32
-    ensures call { Called result (found.new ≡ found.old) SameRoom (Releases result amount found.old found.new) (room_in seat.old.handle.desk) (room_in seat.new.handle.desk) }
+    ensures call { Called result (found.new ≡ found.old) SameRoom (Releases result amount found.old found.new)
+        (room_in seat.old.handle.desk) (room_in seat.new.handle.desk) }
     ensures spares { Spares room_in seat.old.handle.desk seat.new.handle.desk }
 {
     let Some(mut desk) = seat.take(alloc) else {
@@ -61,7 +63,8 @@ pub extern "C" fn fak_c_room_state(
     held: &mut u64,
     left: &mut u64,
 ) -> i32
-    ensures call { Called result ((held.new ≡ held.old) × (left.new ≡ left.old)) SameRoom (LooksAtRoom result held.new left.new) (room_in seat.old.handle.desk) (room_in seat.new.handle.desk) }
+    ensures call { Called result ((held.new ≡ held.old) × (left.new ≡ left.old)) SameRoom
+        (LooksAtRoom result held.new left.new) (room_in seat.old.handle.desk) (room_in seat.new.handle.desk) }
     ensures spares { Spares room_in seat.old.handle.desk seat.new.handle.desk }
 {
     let Some(mut desk) = seat.take(alloc) else {

@@ -14,7 +14,8 @@ use std::alloc::Global;
 /// `OK` where it passes; `PARKS` where `fak_c_sem_try_park` is next; `WORN`, `NO_SEAT` or `WRONG_STATE`.
 #[unsafe(no_mangle)]
 pub extern "C" fn fak_c_sem_claim_down(alloc: Global, seat: &mut Place, item: u64) -> i32
-    ensures call { Called result Unit SameSemaphore (ClaimsDown result item) (semaphore_in seat.old.handle.desk) (semaphore_in seat.new.handle.desk) }
+    ensures call { Called result Unit SameSemaphore (ClaimsDown result item) (semaphore_in seat.old.handle.desk)
+        (semaphore_in seat.new.handle.desk) }
     ensures spares { Spares semaphore_in seat.old.handle.desk seat.new.handle.desk }
 {
     let Some(mut desk) = seat.take(alloc) else {
@@ -30,7 +31,8 @@ pub extern "C" fn fak_c_sem_claim_down(alloc: Global, seat: &mut Place, item: u6
 /// `OK` where the item is parked, `NOT_YET`, `NO_SEAT` or `WRONG_STATE`.
 #[unsafe(no_mangle)]
 pub extern "C" fn fak_c_sem_try_park(alloc: Global, seat: &mut Place) -> i32
-    ensures call { Called result Unit SameSemaphore (TriesToPark result) (semaphore_in seat.old.handle.desk) (semaphore_in seat.new.handle.desk) }
+    ensures call { Called result Unit SameSemaphore (TriesToPark result) (semaphore_in seat.old.handle.desk)
+        (semaphore_in seat.new.handle.desk) }
     ensures spares { Spares semaphore_in seat.old.handle.desk seat.new.handle.desk }
 {
     let Some(mut desk) = seat.take(alloc) else {
@@ -46,7 +48,8 @@ pub extern "C" fn fak_c_sem_try_park(alloc: Global, seat: &mut Place) -> i32
 /// `OK` where it wakes no item; `WAKES` where `fak_c_sem_try_wake` is next; `WORN`, `NO_SEAT` or `WRONG_STATE`.
 #[unsafe(no_mangle)]
 pub extern "C" fn fak_c_sem_claim_up(alloc: Global, seat: &mut Place) -> i32
-    ensures call { Called result Unit SameSemaphore (ClaimsUp result) (semaphore_in seat.old.handle.desk) (semaphore_in seat.new.handle.desk) }
+    ensures call { Called result Unit SameSemaphore (ClaimsUp result) (semaphore_in seat.old.handle.desk)
+        (semaphore_in seat.new.handle.desk) }
     ensures spares { Spares semaphore_in seat.old.handle.desk seat.new.handle.desk }
 {
     let Some(mut desk) = seat.take(alloc) else {
@@ -62,7 +65,8 @@ pub extern "C" fn fak_c_sem_claim_up(alloc: Global, seat: &mut Place) -> i32
 /// `OK`, `NOT_YET`, `NO_SEAT` or `WRONG_STATE`.
 #[unsafe(no_mangle)]
 pub extern "C" fn fak_c_sem_try_wake(alloc: Global, seat: &mut Place, item: &mut u64) -> i32
-    ensures call { Called result (item.new ≡ item.old) SameSemaphore (TriesToWake result item.old item.new) (semaphore_in seat.old.handle.desk) (semaphore_in seat.new.handle.desk) }
+    ensures call { Called result (item.new ≡ item.old) SameSemaphore (TriesToWake result item.old item.new)
+        (semaphore_in seat.old.handle.desk) (semaphore_in seat.new.handle.desk) }
     ensures spares { Spares semaphore_in seat.old.handle.desk seat.new.handle.desk }
 {
     let Some(mut desk) = seat.take(alloc) else {
@@ -83,7 +87,8 @@ pub extern "C" fn fak_c_sem_state(
     state: &mut u32,
     left: &mut u64,
 ) -> i32
-    ensures call { Called result ((state.new ≡ state.old) × (left.new ≡ left.old)) SameSemaphore (LooksAtSem result state.new left.new) (semaphore_in seat.old.handle.desk) (semaphore_in seat.new.handle.desk) }
+    ensures call { Called result ((state.new ≡ state.old) × (left.new ≡ left.old)) SameSemaphore
+        (LooksAtSem result state.new left.new) (semaphore_in seat.old.handle.desk) (semaphore_in seat.new.handle.desk) }
     ensures spares { Spares semaphore_in seat.old.handle.desk seat.new.handle.desk }
 {
     let Some(mut desk) = seat.take(alloc) else {

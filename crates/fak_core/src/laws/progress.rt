@@ -10,18 +10,24 @@ ghost use Rattle.fak_core.specs.QueueSchedule.{QueueEvent, reached, stepped};
 /// A queue never locks up: while a call is open, some seat's next step moves its call forward. Only a call that holds a
 /// ticket can wait, and then some seat that holds a ticket of the same cell can move forward.
 pub fn a_queue_never_locks_up<T>()
-    ensures call { (size : ℕ) (schedule : List (QueueEvent T)) (s : ℕ) → 0 < size → (reached size schedule).phase s ≢ Idle
+    ensures call { (size : ℕ) (schedule : List (QueueEvent T)) (s : ℕ) → 0 < size
+        → (reached size schedule).phase s ≢ Idle
         → (t : ℕ) × MakesProgress size (reached size schedule) t }
-    ensures cell { (size : ℕ) (schedule : List (QueueEvent T)) (s c : ℕ) → 0 < size → HoldsTicketOf size ((reached size schedule).phase s) c
-        → (t : ℕ) × HoldsTicketOf size ((reached size schedule).phase t) c × MakesProgress size (reached size schedule) t }
-    ensures ticketless { (size : ℕ) (schedule : List (QueueEvent T)) (s : ℕ) → 0 < size → (reached size schedule).phase s ≢ Idle
-        → ((c : ℕ) → HoldsTicketOf size ((reached size schedule).phase s) c → ⊥) → MakesProgress size (reached size schedule) s }
+    ensures cell { (size : ℕ) (schedule : List (QueueEvent T)) (s c : ℕ) → 0 < size
+        → HoldsTicketOf size ((reached size schedule).phase s) c
+        → (t : ℕ) × HoldsTicketOf size ((reached size schedule).phase t) c
+        × MakesProgress size (reached size schedule) t }
+    ensures ticketless { (size : ℕ) (schedule : List (QueueEvent T)) (s : ℕ) → 0 < size
+        → (reached size schedule).phase s ≢ Idle
+        → ((c : ℕ) → HoldsTicketOf size ((reached size schedule).phase s) c → ⊥)
+        → MakesProgress size (reached size schedule) s }
 {}
 
 /// A seat whose next step would move its call forward keeps that chance: whatever step another seat makes, its own next
 /// step still does.
 pub fn a_turn_that_has_come_stays<T>()
-    ensures { (size : ℕ) (schedule : List (QueueEvent T)) (s t : ℕ) → 0 < size → s ≢ t → MakesProgress size (reached size schedule) s
+    ensures { (size : ℕ) (schedule : List (QueueEvent T)) (s t : ℕ) → 0 < size → s ≢ t
+        → MakesProgress size (reached size schedule) s
         → MakesProgress size (stepped size (reached size schedule) t) s }
 {}
 
@@ -29,12 +35,16 @@ pub fn a_turn_that_has_come_stays<T>()
 /// withdrawn makes three of them.
 pub fn a_call_has_few_steps<T>()
     ensures most { (p : Phase T) → steps_made p + steps_left p ≤ 7 }
-    ensures withdrawn { (x : T) → (steps_made (BackUp x) + steps_left (BackUp x) ≡ 3) × (steps_made {A = T} BackLow + steps_left {A = T} BackLow ≡ 3) }
+    ensures withdrawn { (x : T) → (steps_made (BackUp x) + steps_left (BackUp x) ≡ 3)
+        × (steps_made {A = T} BackLow + steps_left {A = T} BackLow ≡ 3) }
     ensures none { (p : Phase T) → steps_left p ≡ 0 → p ≡ Idle }
-    ensures counted { (size : ℕ) (schedule : List (QueueEvent T)) (s : ℕ) → 0 < size → MakesProgress size (reached size schedule) s
+    ensures counted { (size : ℕ) (schedule : List (QueueEvent T)) (s : ℕ) → 0 < size
+        → MakesProgress size (reached size schedule) s
         → ((stepped size (reached size schedule) s).phase s ≡ Idle)
-        ⊎ (steps_made ((stepped size (reached size schedule) s).phase s) ≡ steps_made ((reached size schedule).phase s) + 1) }
-    ensures fewer { (size : ℕ) (schedule : List (QueueEvent T)) (s : ℕ) → 0 < size → MakesProgress size (reached size schedule) s
+        ⊎ (steps_made ((stepped size (reached size schedule) s).phase s) ≡ steps_made
+        ((reached size schedule).phase s) + 1) }
+    ensures fewer { (size : ℕ) (schedule : List (QueueEvent T)) (s : ℕ) → 0 < size
+        → MakesProgress size (reached size schedule) s
         → steps_left ((stepped size (reached size schedule) s).phase s) < steps_left ((reached size schedule).phase s) }
 {}
 
@@ -42,7 +52,8 @@ pub fn a_call_has_few_steps<T>()
 /// order: after 3 min(size, n) + 4 such rounds each call that was open has ended.
 pub fn every_open_call_ends<T>()
     ensures { (size seats : ℕ) (schedule : List (QueueEvent T)) (rounds : List (List (QueueEvent T))) (s : ℕ) → 0 < size
-        → AreIdleFrom seats (reached size schedule) → All (IsRound seats) rounds → 3 * min size seats + 4 ≤ length rounds
+        → AreIdleFrom seats (reached size schedule) → All (IsRound seats) rounds
+        → 3 * min size seats + 4 ≤ length rounds
         → IsIdleWithin size rounds (reached size schedule) s }
 {}
 
@@ -51,7 +62,8 @@ pub fn every_open_call_ends<T>()
 pub fn a_stopped_seat_holds_up_its_cell_alone<T>()
     ensures { (size : ℕ) (schedule : List (QueueEvent T)) (rounds : List (List (QueueEvent T))) (s c : ℕ) → 0 < size
         → HoldsTicketOf size ((reached size schedule).phase s) c
-        → All (EachSteps (λ t. HoldsTicketOf size ((reached size schedule).phase t) c)) rounds → 3 * size + 1 ≤ length rounds
+        → All (EachSteps (λ t. HoldsTicketOf size ((reached size schedule).phase t) c)) rounds
+        → 3 * size + 1 ≤ length rounds
         → IsIdleWithin size rounds (reached size schedule) s }
 {}
 
@@ -59,8 +71,11 @@ pub fn a_stopped_seat_holds_up_its_cell_alone<T>()
 /// which each seat makes one step, are enough.
 pub fn a_queue_comes_to_rest<T>()
     ensures rounds { (size seats : ℕ) (schedule : List (QueueEvent T)) (rounds : List (List (QueueEvent T))) → 0 < size
-        → AreIdleFrom seats (reached size schedule) → All (IsRound seats) rounds → All (λ (r : List (QueueEvent T)). All (IsAdvance {A = T}) r) rounds
+        → AreIdleFrom seats (reached size schedule) → All (IsRound seats) rounds
+        → All (λ (r : List (QueueEvent T)). All (IsAdvance {A = T}) r) rounds
         → 3 * min size seats + 4 ≤ length rounds → AreIdleFrom 0 (after_rounds size rounds (reached size schedule)) }
-    ensures in_turn { (size seats n : ℕ) (schedule : List (QueueEvent T)) → 0 < size → AreIdleFrom seats (reached size schedule)
-        → 3 * min size seats + 4 ≤ n → AreIdleFrom 0 (after_rounds size (replicate n (round_robin seats)) (reached size schedule)) }
+    ensures in_turn { (size seats n : ℕ) (schedule : List (QueueEvent T)) → 0 < size
+        → AreIdleFrom seats (reached size schedule)
+        → 3 * min size seats + 4 ≤ n → AreIdleFrom 0
+        (after_rounds size (replicate n (round_robin seats)) (reached size schedule)) }
 {}

@@ -8,7 +8,8 @@ ghost use Rattle.fak_core.specs.QueueSchedule.{QueueEvent, InCell, LoadsItsItem,
 
 /// The marks of every schedule are a legal history of a queue of that size.
 pub fn every_queue_schedule_is_legal<T>()
-    ensures { (size : ℕ) (schedule : List (QueueEvent T)) → 0 < size → IsQueueHistory size (history_of (reached size schedule)) }
+    ensures { (size : ℕ) (schedule : List (QueueEvent T)) → 0 < size
+        → IsQueueHistory size (history_of (reached size schedule)) }
 {}
 
 /// At most one seat at a time is between the load that found its turn at a cell and the store that gives the
@@ -26,6 +27,7 @@ pub fn a_deletion_loads_the_item_of_its_ticket<T>()
 
 /// A deletion that is granted draws a ticket under which an item was put.
 pub fn a_granted_deletion_draws_an_item<T>()
-    ensures { (size : ℕ) (schedule : List (QueueEvent T)) (s : ℕ) → 0 < size → (reached size schedule).phase s ≡ TicketOut
+    ensures { (size : ℕ) (schedule : List (QueueEvent T)) (s : ℕ) → 0 < size
+        → (reached size schedule).phase s ≡ TicketOut
         → IsSome (item_at (items_put (history_of (reached size schedule))) (reached size schedule).draws_out) }
 {}

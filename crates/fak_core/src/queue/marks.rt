@@ -36,7 +36,8 @@ fn keep_put(
     seat: u64,
     item: u64,
 ) -> Result<(), CoreFault>
-    ensures ok { OnOk result (reverse marks.new.items ≡ record { seat = seat; kind = mark.Put item } ∷ reverse marks.old.items) }
+    ensures ok { OnOk result (reverse marks.new.items ≡ record { seat = seat; kind = mark.Put item }
+        ∷ reverse marks.old.items) }
     ensures items { OnOk result (items.new.items ≡ items.old.items ++ item ∷ []) }
     ensures err { OnErr result (marks.new.items ≡ marks.old.items) }
     ensures err_items { OnErr result (items.new.items ≡ items.old.items) }

@@ -36,7 +36,8 @@ impl Model for Credit {
 
     ghost Value = { CreditInfo };
 
-    ghost view = { λ c. credit_info (object_id c.table.shared.table_id c.table.shared.key.seats) c.table.shared.key.start };
+    ghost view = { λ c. credit_info (object_id c.table.shared.table_id c.table.shared.key.seats)
+        c.table.shared.key.start };
 
     ghost invariant = { λ c. c.table.shared.table_id.words ≡ width };
 }
@@ -51,7 +52,8 @@ impl Credit {
         seats: u64,
         stint: u64,
     ) -> Result<(Credit, Vec<CreditSeat>), OpenFault>
-        ensures { MatchResult result (λ r. IsInRange start seats stint × (r.0.start ≡ start) × (r.0.object.seats ≡ seats)
+        ensures { MatchResult result (λ r. IsInRange start seats stint × (r.0.start ≡ start)
+            × (r.0.object.seats ≡ seats)
             × (r.1.items ≡ fresh_seats r.0.object stint 0 seats)) (IsOpenFault start seats stint) }
     {
         if let Err(fault) = tested_limits(start, seats, stint) {
@@ -102,7 +104,8 @@ impl Credit {
     pub fn credit(&self, seat: &mut CreditSeat) -> Result<i64, Worn>
         requires object { IsSeatOf self.now.object seat.old }
         ensures object { seat.new.object ≡ seat.old.object }
-        ensures call { MatchResult result (MakesCall Credited self.now seat.old seat.new) (λ _. IsWorn seat.old seat.new) }
+        ensures call { MatchResult result (MakesCall Credited self.now seat.old seat.new)
+            (λ _. IsWorn seat.old seat.new) }
     {
         if seat.left == 0 {
             return Err(Worn);

@@ -39,9 +39,11 @@ impl Model for Room {
 
     ghost Value = { RoomInfo };
 
-    ghost view = { λ r. room_info (object_id r.table.shared.table_id r.table.shared.key.seats) r.table.shared.key.bound };
+    ghost view = { λ r. room_info (object_id r.table.shared.table_id r.table.shared.key.seats)
+        r.table.shared.key.bound };
 
-    ghost invariant = { λ r. (r.table.shared.table_id.words ≡ width) × (r.bound ≡ r.table.shared.key.bound) × IsCount r.bound };
+    ghost invariant = { λ r. (r.table.shared.table_id.words ≡ width) × (r.bound ≡ r.table.shared.key.bound)
+        × IsCount r.bound };
 }
 
 impl Room {
@@ -54,7 +56,8 @@ impl Room {
         seats: u64,
         stint: u64,
     ) -> Result<(Room, Vec<RoomSeat>), OpenFault>
-        ensures { MatchResult result (λ r. IsInRange bound seats stint × (r.0.bound ≡ bound) × (r.0.object.seats ≡ seats)
+        ensures { MatchResult result (λ r. IsInRange bound seats stint × (r.0.bound ≡ bound)
+            × (r.0.object.seats ≡ seats)
             × (r.1.items ≡ fresh_seats r.0.object stint 0 seats)) (IsOpenFault bound seats stint) }
     {
         if let Err(fault) = tested_limits(bound, seats, stint) {
@@ -89,7 +92,8 @@ impl Room {
         requires amount { (1 ≤ d) × (d ≤ 1024) }
         requires object { IsSeatOf self.now.object seat.old }
         ensures object { seat.new.object ≡ seat.old.object }
-        ensures call { MatchResult result (IsGranted d self.now seat.old seat.new) (IsRefused d self.now seat.old seat.new) }
+        ensures call { MatchResult result (IsGranted d self.now seat.old seat.new)
+            (IsRefused d self.now seat.old seat.new) }
         ensures held { held_amount seat.new ≡ held_amount seat.old + (if is_ok result then d else 0) }
     {
         if seat.left == 0 {

@@ -32,7 +32,8 @@ impl Model for RoomSeat {
     ghost view = { λ s. room_seat (object_id s.token.table_id s.seats) s.name s.left s.token.me };
 
     ghost invariant = { λ s. IsSeatToken seat_of s.seats s.name Idle 0 s.token.me
-        × (s.held ≡ amount_held s.name (reverse s.token.me.0.seen)) × IsSettled (s.name ∷ []) (reverse s.token.me.0.seen) };
+        × (s.held ≡ amount_held s.name (reverse s.token.me.0.seen))
+        × IsSettled (s.name ∷ []) (reverse s.token.me.0.seen) };
 }
 
 impl RoomSeat {

@@ -33,7 +33,8 @@ impl Model for RoomTally {
 
     ghost Value = { TallyInfo RoomMark };
 
-    ghost view = { λ t. tally_info (object_id t.token.table_id t.seats) t.token.me.0.names (reverse t.token.me.0.seen) };
+    ghost view = { λ t. tally_info (object_id t.token.table_id t.seats) t.token.me.0.names
+        (reverse t.token.me.0.seen) };
 
     ghost invariant = { λ t. IsTallyToken seat_of t.seats Idle t.token.me × HasJust t.names t.token.me.0.names
         × IsSettled t.token.me.0.names (reverse t.token.me.0.seen) };

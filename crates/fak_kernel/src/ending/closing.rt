@@ -1,6 +1,6 @@
 //! How the objects of a run are closed, and what they have left.
 
-ghost use Rattle.std.specs.Prelude.{◌≡◌, ◌++◌, ◌∷◌, [], length, IfOk, IfErr, MatchOption};
+ghost use Rattle.std.specs.Prelude.{◌≡◌, ◌++◌, ◌∷◌, [], length, IfOk, MatchOption};
 ghost use Rattle.std.specs.List.{All};
 ghost use Rattle.fak_model.specs.Seats.{IsWhole};
 ghost use Rattle.fak_files.specs.Calls.{entries_after};
@@ -9,13 +9,13 @@ ghost use Rattle.fak_processor.specs.Joined.{AreTalliesOf, ids_of_tallies};
 ghost use Rattle.fak_kernel.specs.Closing.{AreClosed, IsSleeper, IsWholeAt};
 
 use crate::ending::joining::Tallies;
-use fak_files::{FileRest, FileTable, FileTally};
+use fak_files::FileRest;
 use fak_model::FileEntry;
-use fak_process::{Context, Fault, Run, Sleeper};
 use fak_processor::Objects;
 use fak_queue::Rest;
+use fak_run::{Context, Run, Sleeper};
 use fak_sem::{SemTally, Semaphore};
-use std::alloc::Global;
+use std::alloc::{AllocError, Global};
 
 /// What the objects of a run have left: the sleepers, semaphore by semaphore, oldest first, and the file entries.
 #[derive(Drop)]
@@ -33,10 +33,9 @@ fn take_oldest<K: Run>(rest: &mut Rest<Sleeper<K>>) -> Option<Sleeper<K>>
 }
 
 /// Takes the processes out of a wait queue.
-fn drain<K: Run>(asleep: &mut Vec<Context<K>>, waiting: Rest<Sleeper<K>>) -> Result<(), Fault>
+fn drain<K: Run>(asleep: &mut Vec<Context<K>>, waiting: Rest<Sleeper<K>>) -> Result<(), AllocError>
     ensures added { IfOk result (λ _. asleep.new.items ≡ asleep.old.items ++ waiting) }
     ensures sleepers { IfOk result (λ _. All (IsSleeper K.script) waiting) }
-    ensures memory { IfErr result (λ fault. fault ≡ Fault.Memory) }
 {
     let mut rest = waiting;
     while let Some(sleeper) = take_oldest(&mut rest) {
@@ -50,11 +49,10 @@ fn close_each<K: Run>(
     alloc: Global,
     semaphores: Vec<Semaphore<Sleeper<K>>>,
     tallies: Vec<SemTally<Sleeper<K>>>,
-) -> Result<Vec<Context<K>>, Fault>
+) -> Result<Vec<Context<K>>, AllocError>
     requires tallies { ids_of_tallies tallies.items ≡ ids_of semaphores.items }
     requires whole { All IsWholeAt tallies.items }
     ensures closed { IfOk result (λ asleep. AreClosed K.script tallies.items asleep.items) }
-    ensures memory { IfErr result (λ fault. fault ≡ Fault.Memory) }
 {
     let mut asleep = Vec::new(alloc);
     let mut rest = tallies.into_iter();
@@ -68,10 +66,9 @@ fn close_each<K: Run>(
 }
 
 /// The entries of a closed file table of this many.
-fn read_entries(alloc: Global, rest: FileRest, count: u64) -> Result<Vec<FileEntry>, Fault>
+fn read_entries(alloc: Global, rest: FileRest, count: u64) -> Result<Vec<FileEntry>, AllocError>
     requires count { length rest ≡ count }
     ensures entries { IfOk result (λ entries. entries.items ≡ rest) }
-    ensures memory { IfErr result (λ fault. fault ≡ Fault.Memory) }
 {
     let mut entries = Vec::new(alloc);
     for i in 0..count {
@@ -80,53 +77,15 @@ fn read_entries(alloc: Global, rest: FileRest, count: u64) -> Result<Vec<FileEnt
     Ok(entries)
 }
 
-/// The semaphores and the file table of a run, with their tallies.
-#[derive(Drop)]
-struct Closing<K: Run> {
-    semaphores: Vec<Semaphore<Sleeper<K>>>,
-    sleepers: Vec<SemTally<Sleeper<K>>>,
-    files: FileTable,
-    holds: FileTally,
-}
-
-/// Closes the queues, once all their seats are joined. What they have left is dropped: no process is ready, and the slots are
-/// free. The births and the count of busy processes have nothing to close.
-fn close_queues<K: Run>(objects: Objects<K>, tallies: Tallies<K>) -> Closing<K>
-    requires tallies { AreTalliesOf objects tallies }
-    requires ready { IsWhole tallies.ready.object.seats tallies.ready.names }
-    requires free { IsWhole tallies.free.object.seats tallies.free.names }
-    ensures semaphores { result.semaphores.items ≡ objects.semaphores }
-    ensures sleepers { result.sleepers.items ≡ tallies.semaphores }
-    ensures files { result.files ≡ objects.files }
-    ensures holds { result.holds ≡ tallies.files }
-{
-    let Tallies {
-        single,
-        semaphores: sleepers,
-    } = tallies;
-    drop(objects.ready.close(single.ready));
-    drop(objects.free.close(single.free));
-    drop(objects.births);
-    drop(single.births);
-    drop(objects.busy);
-    drop(single.busy);
-    drop(objects.alarm);
-    Closing {
-        semaphores: objects.semaphores.all,
-        sleepers,
-        files: objects.files,
-        holds: single.files,
-    }
-}
-
-/// Closes the objects, whose file table has this many entries, once all seats are joined.
+/// Closes the objects, whose file table has this many entries, once all seats are joined. What the queues have left is
+/// dropped: no process is ready, and the slots are free. The births and the count of busy processes have nothing to close.
 #[tactic(auto, using(crate::proofs::Closing::length_entries))]
 pub(crate) fn close<K: Run>(
     alloc: Global,
     objects: Objects<K>,
     tallies: Tallies<K>,
     count: u64,
-) -> Result<Remains<K>, Fault>
+) -> Result<Remains<K>, AllocError>
     requires tallies { AreTalliesOf objects tallies }
     requires ready { IsWhole tallies.ready.object.seats tallies.ready.names }
     requires free { IsWhole tallies.free.object.seats tallies.free.names }
@@ -134,17 +93,13 @@ pub(crate) fn close<K: Run>(
     requires files { IsWhole tallies.files.object.seats tallies.files.names }
     requires count { count ≡ objects.files.entries }
     ensures closed { IfOk result (λ left. AreClosed K.script tallies.semaphores left.asleep.items) }
-    ensures entries { IfOk result (λ left. left.entries.items ≡ entries_after tallies.files.seen 0 objects.files.entries) }
-    ensures memory { IfErr result (λ fault. fault ≡ Fault.Memory) }
+    ensures entries { IfOk result (λ left. left.entries.items
+        ≡ entries_after tallies.files.seen 0 objects.files.entries) }
 {
-    let Closing {
-        semaphores,
-        sleepers,
-        files,
-        holds,
-    } = close_queues(objects, tallies);
-    let rest = files.close(holds);
+    drop(objects.ready.close(tallies.ready));
+    drop(objects.free.close(tallies.free));
+    let rest = objects.files.close(tallies.files);
     let entries = read_entries(alloc, rest, count)?;
-    let asleep = close_each(alloc, semaphores, sleepers)?;
+    let asleep = close_each(alloc, objects.semaphores, tallies.semaphores)?;
     Ok(Remains { asleep, entries })
 }

@@ -1,28 +1,29 @@
 //! How the seats of all processors are gathered.
 
-ghost use Rattle.std.specs.Prelude.{◌≡◌, ◌<◌, ◌≤◌, ℕ, vec_len, slice_index_or, IfOk, IfErr};
+ghost use Rattle.std.specs.Prelude.{◌≡◌, ◌<◌, ◌≤◌, ℕ, vec_len, slice_index_or, IfOk};
 ghost use Rattle.fak_processor.specs.Processors.{AreFor, ProcessorOf};
 ghost use Rattle.fak_processor.specs.Begun.{IsLeftBy};
 ghost use Rattle.fak_kernel.specs.Gathered.{AreGathered, AreOfOne};
 
 use crate::ending::joining::Joined;
-use fak_process::{Fault, Run};
 use fak_processor::{Objects, Processor};
-use std::alloc::Global;
+use fak_run::Run;
+use std::alloc::{AllocError, Global};
 
 /// All processors, in the order of their numbers.
 pub(crate) fn gather<K: Run>(
     alloc: Global,
     objects: &Objects<K>,
     left: Vec<Processor<K>>,
-) -> Result<Joined<K>, Fault>
+) -> Result<Joined<K>, AllocError>
     requires made { AreFor K.script objects.now }
     requires some { 1 ≤ vec_len left }
-    requires left { (i : ℕ) (d : ProcessorOf) → i < vec_len left → IsLeftBy K.script objects.now i (slice_index_or left.items i d) }
-    ensures gathered { IfOk result (λ all. AreGathered K.script objects.now (vec_len left) all.tallies all.processes.ended.items all.processes.halted.items) }
+    requires left { (i : ℕ) (d : ProcessorOf) → i < vec_len left
+        → IsLeftBy K.script objects.now i (slice_index_or left.items i d) }
+    ensures gathered { IfOk result
+        (λ all. AreGathered K.script objects.now (vec_len left) all.tallies all.ended.items all.halted.items) }
     ensures alone { vec_len left ≡ 1 → (d : ProcessorOf)
-        → IfOk result (λ all. AreOfOne (slice_index_or left.items 0 d) all.tallies all.processes.ended.items all.processes.halted.items) }
-    ensures memory { IfErr result (λ fault. fault ≡ Fault.Memory) }
+        → IfOk result (λ all. AreOfOne (slice_index_or left.items 0 d) all.tallies all.ended.items all.halted.items) }
 {
     let count = left.len();
     let mut processors = left.into_iter();

@@ -1,30 +1,22 @@
 //! The report of what all processors have left, with its said texts left out.
 
 ghost use Rattle.std.specs.Prelude.{◌≡◌, ◌≤◌, ◌-◌, nat_lt, length, map, IfOk, IfErr};
-ghost use Rattle.std.specs.List.{list_any, sum_by};
 ghost use Rattle.std.specs.List.Sorted.{IsPermutation};
-ghost use Rattle.fak_process.specs.Report.{IsSortedByName, sleepers_outcome};
-ghost use Rattle.fak_process.specs.Ledger.{shuts_of};
-ghost use Rattle.fak_process.specs.Whole.{lines_of};
+ghost use Rattle.fak_run.specs.Report.{IsSortedByName, sleepers_outcome};
+ghost use Rattle.fak_run.specs.Ledger.{shuts_of};
+ghost use Rattle.fak_run.specs.Whole.{lines_of};
 ghost use Rattle.fak_kernel.specs.Closing.{rows_left, shut_lines};
-ghost use Rattle.fak_process.specs.Told.{told_rows};
-ghost use Rattle.fak_process.specs.Views.{report_of, row_of};
+ghost use Rattle.fak_run.specs.Told.{told_rows};
+ghost use Rattle.fak_run.specs.Views.{report_of, row_of};
 
-use crate::ending::joining::Processes;
 use fak_model::FileEntry;
-use fak_process::{Context, Fault, Outcome, ProcessRow, Report, Run, add_rows, sort_rows};
+use fak_run::{Context, Fault, Outcome, ProcessRow, Report, Run, add_rows, sort_rows};
 use fak_text::Script;
 use std::alloc::Global;
 
 /// One of the processes made a shutdown.
 fn has_shutdown<K: Run>(contexts: &[Context<K>]) -> bool
     ensures { result ≡ nat_lt 0 (lines_of shuts_of contexts.now) }
-{
-    is_one_shut(contexts)
-}
-
-fn is_one_shut<K: Run>(contexts: &[Context<K>]) -> bool
-    ensures { result ≡ list_any (λ p. nat_lt 0 (sum_by shuts_of p.journal)) contexts.now }
 {
     contexts.iter().any(|context| context.has_shutdown())
 }
@@ -47,15 +39,15 @@ fn outcome_of_sleepers<K: Run>(
 /// A row for each process, sorted by name.
 pub(crate) fn rows_of<K: Run>(
     alloc: Global,
-    processes: Processes<K>,
+    ended: Vec<Context<K>>,
+    halted: Vec<Context<K>>,
     asleep: Vec<Context<K>>,
 ) -> Result<Vec<ProcessRow>, Fault>
-    ensures rows { IfOk result (λ rows. IsPermutation (rows_left processes.ended.items processes.halted.items asleep.items)
+    ensures rows { IfOk result (λ rows. IsPermutation (rows_left ended.items halted.items asleep.items)
         (told_rows K.script (map row_of rows.items))) }
     ensures sorted { IfOk result (λ rows. IsSortedByName (told_rows K.script (map row_of rows.items))) }
     ensures memory { IfErr result (λ fault. fault ≡ Fault.Memory) }
 {
-    let Processes { ended, halted } = processes;
     let outcome = outcome_of_sleepers(ended.as_slice(), halted.as_slice(), asleep.as_slice());
     let mut rows = Vec::new(alloc);
     add_rows(&mut rows, ended, Outcome::Ended)?;

@@ -3,7 +3,7 @@
 ghost use Rattle.std.specs.Prelude.{◌≡◌, ◌⊎◌, Some, None, map, IfOk, IfErr};
 ghost use Rattle.fak_kernel.specs.Threads.{as_left, first_fault};
 
-use fak_process::Fault;
+use fak_run::Fault;
 use std::alloc::Global;
 
 /// What the threads answered, where all of them have left.

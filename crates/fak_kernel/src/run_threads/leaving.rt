@@ -4,8 +4,8 @@ ghost use Rattle.std.specs.Prelude.{◌≡◌, ◌<◌, ℕ, vec_len, slice_inde
 ghost use Rattle.fak_processor.specs.Processors.{AreFor};
 ghost use Rattle.fak_kernel.specs.Threads.{HasAnswered, HasBegun, IsOfStart};
 
-use fak_process::{Fault, Run};
 use fak_processor::{Gate, Objects, Processor};
+use fak_run::{Fault, Run};
 use fak_text::Script;
 use std::alloc::Global;
 use std::marker::{Send, Sync};
@@ -17,6 +17,7 @@ use std::thread::{Promise, Threads};
 pub(crate) type Answer<K> = Result<Option<Processor<K>>, Fault>;
 
 /// What is promised of a processor's answer.
+#[derive(Drop)]
 struct Leaves<'o, K: Run, G> {
     objects: &'o Objects<K>,
     gate: &'o G,
@@ -24,19 +25,9 @@ struct Leaves<'o, K: Run, G> {
     number: u64,
 }
 
-impl<'o, K: Run, G> Drop for Leaves<'o, K, G> {
-    fn drop(self) {
-        let Leaves {
-            objects: _,
-            gate: _,
-            processors: _,
-            number: _,
-        } = self;
-    }
-}
-
 impl<'o, K: Run, G: Gate> Promise<Answer<K>> for Leaves<'o, K, G> {
-    ghost kept_by = { λ p r. HasAnswered K.script p.objects.now p.processors (G.refuses p.gate.now) (G.answers p.gate.now) p.number r };
+    ghost kept_by = { λ p r. HasAnswered K.script p.objects.now p.processors (G.refuses p.gate.now)
+        (G.answers p.gate.now) p.number r };
 }
 
 /// The processor of this number works until it leaves.
@@ -74,10 +65,12 @@ pub(crate) fn leave_all<K: Run + Send + Sync, R: Threads + Wait + Sync, G: Gate 
 ) -> Result<Vec<Answer<K>>, Fault>
     requires script { script.now ≡ K.script }
     requires made { AreFor K.script objects.now }
-    requires begun { (i : ℕ) (d : _) → i < vec_len all → HasBegun K.script objects.now processors i (slice_index_or all.items i d) }
+    requires begun { (i : ℕ) (d : _) → i < vec_len all
+        → HasBegun K.script objects.now processors i (slice_index_or all.items i d) }
     ensures len { IfOk result (λ v. vec_len v ≡ vec_len all) }
     ensures answered { IfOk result (λ v. (i : ℕ) (d : _) → i < vec_len v
-        → HasAnswered K.script objects.now processors (G.refuses gate.now) (G.answers gate.now) i (slice_index_or v.items i d)) }
+        → HasAnswered K.script objects.now processors (G.refuses gate.now) (G.answers gate.now) i
+        (slice_index_or v.items i d)) }
     ensures fault { IfErr result IsOfStart }
 {
     thread::scope(
@@ -90,7 +83,8 @@ pub(crate) fn leave_all<K: Run + Send + Sync, R: Threads + Wait + Sync, G: Gate 
                 → HasBegun K.script objects.now processors i (slice_index_or all.items i d) }
             ensures len { IfOk result (λ v. vec_len v ≡ vec_len all) }
             ensures answered { IfOk result (λ v. (i : ℕ) (d : _) → i < vec_len v
-                → HasAnswered K.script objects.entry.now processors (G.refuses gate.entry.now) (G.answers gate.entry.now) i (slice_index_or v.items i d)) }
+                → HasAnswered K.script objects.entry.now processors (G.refuses gate.entry.now)
+                (G.answers gate.entry.now) i (slice_index_or v.items i d)) }
             ensures fault { IfErr result IsOfStart }
         {
             let Ok(mut handles) = Vec::with_capacity(alloc, all.len()) else {

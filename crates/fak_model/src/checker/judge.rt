@@ -41,7 +41,8 @@ fn has_item(counts: &Counts) -> bool
 
 /// Whether the counts grant or refuse so.
 fn is_fair(size: u64, counts: &Counts, kind: &Kind<u64>) -> bool
-    ensures { (past : List (Mark ℕ)) → AreCounts past counts.now → (IsTrue result ↔ IsFair size (reverse past) kind.now) }
+    ensures { (past : List (Mark ℕ)) → AreCounts past counts.now
+        → (IsTrue result ↔ IsFair size (reverse past) kind.now) }
 {
     match kind {
         Kind::NoRoom | Kind::OverIn => !has_room(size, counts) && !counts.is_shut,

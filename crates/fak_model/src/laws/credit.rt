@@ -7,7 +7,8 @@ use crate::credit::CreditMark;
 
 /// The grants are the lesser of the debits, and the start and the credits together.
 pub fn a_credit_grants_what_it_can()
-    ensures { (start : ℕ) (h : List CreditMark) → IsCreditHistory h → grants_made start h ≡ min (debits h) (start + credits h) }
+    ensures { (start : ℕ) (h : List CreditMark) → IsCreditHistory h
+        → grants_made start h ≡ min (debits h) (start + credits h) }
 {}
 
 /// Every list of marks is a credit's history: debits and credits are whole calls, and are never refused.

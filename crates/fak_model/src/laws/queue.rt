@@ -47,9 +47,11 @@ pub fn a_queue_is_found_shut_after_a_close<T>()
 
 /// A `Fill` comes after its seat's `Put`, which drew its ticket, and a `Take` after the `Fill` of its ticket.
 pub fn a_cell_is_put_then_filled_then_taken<T>()
-    ensures filled { (size k : ℕ) (h before after : List (Mark T)) (m : Mark T) → IsQueueHistory size h → before ++ m ∷ after ≡ h
+    ensures filled { (size k : ℕ) (h before after : List (Mark T)) (m : Mark T) → IsQueueHistory size h
+        → before ++ m ∷ after ≡ h
         → m.kind ≡ Fill k → ((x : T) × Drew before m.seat (Put x) puts k) × (k < count puts before) }
-    ensures taken { (size k : ℕ) (h before after : List (Mark T)) (m : Mark T) → IsQueueHistory size h → before ++ m ∷ after ≡ h
+    ensures taken { (size k : ℕ) (h before after : List (Mark T)) (m : Mark T) → IsQueueHistory size h
+        → before ++ m ∷ after ≡ h
         → m.kind ≡ Take k → Has (Fill k) before }
 {}
 
@@ -61,7 +63,8 @@ pub fn a_seat_without_a_call_keeps_a_queue_history<T>()
     ensures free { (size seats seat : ℕ) (h : List (Mark T)) → AreNamed (queue_rules size) seats h → seats ≤ seat
         → seat_words (queue_rules size) seat h ≡ [] }
     ensures rest { (size seats : ℕ) (h : List (Mark T)) → AreNamed (queue_rules size) seats h
-        → ((seat : ℕ) → seat < seats → Owes words_of_call (seat_words (queue_rules size) seat h) []) → IsAtRest (queue_rules size) h }
+        → ((seat : ℕ) → seat < seats → Owes words_of_call (seat_words (queue_rules size) seat h) [])
+        → IsAtRest (queue_rules size) h }
 {}
 
 /// Every prefix of a queue's history is a history.

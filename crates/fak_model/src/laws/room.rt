@@ -22,9 +22,11 @@ pub fn a_room_at_rest_counts_what_is_held()
 /// Where each refused claim asked for 1, none is refused before as much is granted as the bound says; and no more is
 /// granted than the bound and what is given back.
 pub fn a_room_refuses_at_its_bound()
-    ensures refused { (bound : ℕ) (h : List RoomMark) → IsRoomHistory bound h → total other_amount h ≡ 0 → 0 < total refusal_of h
+    ensures refused { (bound : ℕ) (h : List RoomMark) → IsRoomHistory bound h → total other_amount h ≡ 0
+        → 0 < total refusal_of h
         → bound ≤ total up_amount h }
-    ensures granted { (bound seats : ℕ) (h : List RoomMark) → IsRoomHistory bound h → AreNamed (room_rules bound) seats h
+    ensures granted { (bound seats : ℕ) (h : List RoomMark) → IsRoomHistory bound h
+        → AreNamed (room_rules bound) seats h
         → total up_amount h ≤ bound + total release_amount h }
 {}
 

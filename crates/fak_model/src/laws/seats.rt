@@ -24,7 +24,8 @@ pub fn a_tally_knows_what_its_seats_know<M>()
         (marks_of seat_of name h) }
     ensures known { (seat_of : M → ℕ) (names : List ℕ) (seen h : List M) → Knows seat_of names seen h
         → mine seat_of names h ≡ mine seat_of names seen }
-    ensures joined { (seat_of weight : M → ℕ) (names : List ℕ) (name : ℕ) (of_tally of_seat both : List M) → ¬ In name names
+    ensures joined { (seat_of weight : M → ℕ) (names : List ℕ) (name : ℕ) (of_tally of_seat both : List M)
+        → ¬ In name names
         → Knows seat_of names of_tally both → Knows seat_of (name ∷ []) of_seat both
         → sum_by weight (mine seat_of (names ++ name ∷ []) both)
         ≡ sum_by weight (mine seat_of names of_tally) + sum_by weight (marks_of seat_of name of_seat) }
@@ -34,7 +35,8 @@ pub fn a_tally_knows_what_its_seats_know<M>()
 /// first of these comes what the seat had observed.
 pub fn an_only_seat_has_seen_its_own_marks<M>()
     ensures mine { (seat_of : M → ℕ) (seen : List M) → All (λ m. seat_of m < 1) seen → marks_of seat_of 0 seen ≡ seen }
-    ensures grows { (seat_of : M → ℕ) (old new marks : List M) → All (λ m. seat_of m < 1) old → All (λ m. seat_of m < 1) new
+    ensures grows { (seat_of : M → ℕ) (old new marks : List M) → All (λ m. seat_of m < 1) old
+        → All (λ m. seat_of m < 1) new
         → marks_of seat_of 0 new ≡ marks_of seat_of 0 old ++ marks → new ≡ old ++ marks }
     ensures before { (seat_of : M → ℕ) (old rest : List M) (m : M) → All (λ x. seat_of x < 1) (old ++ m ∷ rest)
         → before_mark seat_of 0 (length (marks_of seat_of 0 old) + 0) (old ++ m ∷ rest) ≡ old }

@@ -1,24 +1,23 @@
 //! How the objects of a run are opened, and their seats dealt to the processors.
 
-ghost use Rattle.std.specs.Prelude.{◌≡◌, ℕ, ◌<◌, ◌≤◌, ◌∷◌, [], ◌++◌, length, map, slice_index_or, vec_len, IfOk, IfErr};
+ghost use Rattle.std.specs.Prelude.{◌≡◌, ℕ, ◌<◌, ◌≤◌, ◌∷◌, [], length, map, slice_index_or, vec_len, IfOk, IfErr};
 ghost use Rattle.fak_model.specs.Calls.{fresh_seats};
 ghost use Rattle.fak_sem.specs.Semaphores.{fresh_sem_seats, seats_of};
 ghost use Rattle.fak_files.specs.Calls.{idle_seats};
 ghost use Rattle.fak_processor.specs.Faults.{IsOfStep};
-ghost use Rattle.fak_process.specs.ListScheduler as lists;
+ghost use Rattle.fak_run.specs.ListScheduler as lists;
 ghost use Rattle.fak_processor.specs.Processors.{AreFor, IsReached, ids_of, lists_of};
 ghost use Rattle.fak_processor.specs.Opened.{AreProcessors, AreSeated, AreSemaphoresFor, dealt_to, fresh_all, fresh_rows, zipped};
 ghost use Rattle.fak_processor.specs.Begun.{Between};
 
 use crate::alarm::Alarm;
 use crate::objects::Objects;
-use crate::objects::semaphores::{SemSeats, Semaphores};
 use crate::processor::Processor;
 use crate::processor::files::Files;
 use fak_count::{Credit, CreditSeat, Room, RoomSeat};
 use fak_files::{FileSeat, FileTable};
-use fak_process::{Context, Fault, Run, Sleeper, Slot};
 use fak_queue::{Queue, Seat};
+use fak_run::{Context, Fault, Run, Sleeper, Slot};
 use fak_sem::{SemSeat, Semaphore};
 use fak_text::Script;
 use std::alloc::{AllocError, Global};
@@ -102,7 +101,7 @@ fn open_objects<K: Run>(
     let objects = Objects {
         ready,
         free,
-        semaphores: Semaphores { all: semaphores },
+        semaphores,
         births,
         busy,
         files,
@@ -127,9 +126,7 @@ fn open_queue<T: Drop>(
     match Queue::open(alloc, script.slots(), processors, script.stint()) {
         Ok(opened) => Ok(opened),
         Err(fak_queue::OpenFault::Memory) => Err(AllocError),
-        Err(fak_queue::OpenFault::BadSize) => unreachable!(),
-        Err(fak_queue::OpenFault::BadSeats) => unreachable!(),
-        Err(fak_queue::OpenFault::BadStint) => unreachable!(),
+        Err(_) => unreachable!(),
     }
 }
 
@@ -146,9 +143,7 @@ fn open_births(
     match Room::open(alloc, script.births(), processors, script.stint()) {
         Ok(opened) => Ok(opened),
         Err(fak_count::OpenFault::Memory) => Err(AllocError),
-        Err(fak_count::OpenFault::BadSize) => unreachable!(),
-        Err(fak_count::OpenFault::BadSeats) => unreachable!(),
-        Err(fak_count::OpenFault::BadStint) => unreachable!(),
+        Err(_) => unreachable!(),
     }
 }
 
@@ -166,9 +161,7 @@ fn open_busy(
     match Credit::open(alloc, started, processors, script.stint()) {
         Ok(opened) => Ok(opened),
         Err(fak_count::OpenFault::Memory) => Err(AllocError),
-        Err(fak_count::OpenFault::BadSize) => unreachable!(),
-        Err(fak_count::OpenFault::BadSeats) => unreachable!(),
-        Err(fak_count::OpenFault::BadStint) => unreachable!(),
+        Err(_) => unreachable!(),
     }
 }
 
@@ -185,9 +178,7 @@ fn open_files(
     match FileTable::open(alloc, script.files(), processors, script.stint()) {
         Ok(opened) => Ok(opened),
         Err(fak_files::OpenFault::Memory) => Err(AllocError),
-        Err(fak_files::OpenFault::BadSize) => unreachable!(),
-        Err(fak_files::OpenFault::BadSeats) => unreachable!(),
-        Err(fak_files::OpenFault::BadStint) => unreachable!(),
+        Err(_) => unreachable!(),
     }
 }
 
@@ -199,7 +190,8 @@ fn open_semaphores<K: Run>(
 ) -> Result<(Vec<Semaphore<Sleeper<K>>>, Vec<Vec<SemSeat<Sleeper<K>>>>), AllocError>
     requires processors { AreProcessors processors }
     ensures opened { IfOk result (λ r. AreSemaphoresFor script.now processors script.now.semaphores r.0.items) }
-    ensures dealt { IfOk result (λ r. map (λ row. row.items) r.1.items ≡ fresh_rows (ids_of r.0.items) script.now.stint 0 processors) }
+    ensures dealt { IfOk result (λ r. map (λ row. row.items) r.1.items ≡ fresh_rows
+        (ids_of r.0.items) script.now.stint 0 processors) }
 {
     let starts = script.semaphores();
     let mut semaphores = Vec::with_capacity(alloc, starts.len())?;
@@ -221,16 +213,15 @@ fn open_semaphore<K: Run>(
 ) -> Result<(Semaphore<Sleeper<K>>, Vec<SemSeat<Sleeper<K>>>), AllocError>
     requires processors { AreProcessors processors }
     requires start { start ≤ 1000000 }
-    ensures opened { IfOk result (λ r. (r.0.object.start ≡ start) × (r.0.size ≡ script.now.slots) × (seats_of r.0.object ≡ processors)
+    ensures opened { IfOk result (λ r. (r.0.object.start ≡ start) × (r.0.size ≡ script.now.slots)
+        × (seats_of r.0.object ≡ processors)
         × (r.0.object.queue.seats ≡ processors)) }
     ensures seats { IfOk result (λ r. r.1.items ≡ fresh_sem_seats r.0.object script.now.stint 0 processors) }
 {
     match Semaphore::open(alloc, start, script.slots(), processors, script.stint()) {
         Ok(opened) => Ok(opened),
         Err(fak_sem::OpenFault::Memory) => Err(AllocError),
-        Err(fak_sem::OpenFault::BadSize) => unreachable!(),
-        Err(fak_sem::OpenFault::BadSeats) => unreachable!(),
-        Err(fak_sem::OpenFault::BadStint) => unreachable!(),
+        Err(_) => unreachable!(),
     }
 }
 
@@ -257,12 +248,15 @@ fn deal<K: Run>(
     seats: Vec<SemSeat<Sleeper<K>>>,
 ) -> Result<Vec<Vec<SemSeat<Sleeper<K>>>>, AllocError>
     requires len { length rows.items ≡ length seats.items }
-    ensures dealt { IfOk result (λ dealt. map (λ row. row.items) dealt.items ≡ dealt_to (map (λ row. row.items) rows.items) seats.items) }
+    ensures dealt { IfOk result (λ dealt. map (λ row. row.items) dealt.items ≡ dealt_to
+        (map (λ row. row.items) rows.items) seats.items) }
 {
     let mut dealt = Vec::with_capacity(alloc, rows.len())?;
     let mut seats = seats.into_iter();
     for row in rows {
-        dealt.push(longer(row, next_of(&mut seats))?)?;
+        let mut row = row;
+        row.push(next_of(&mut seats))?;
+        dealt.push(row)?;
     }
     Ok(dealt)
 }
@@ -278,17 +272,6 @@ fn next_of<T: Drop>(left: &mut IntoIter<T>) -> T
     next
 }
 
-/// The row with one more seat.
-fn longer<K: Run>(
-    mut row: Vec<SemSeat<Sleeper<K>>>,
-    seat: SemSeat<Sleeper<K>>,
-) -> Result<Vec<SemSeat<Sleeper<K>>>, AllocError>
-    ensures longer { IfOk result (λ longer. longer.items ≡ row.items ++ seat ∷ []) }
-{
-    row.push(seat)?;
-    Ok(row)
-}
-
 /// The seats that no processor has yet: of each object as many as there are processors to come.
 #[derive(Drop)]
 struct Undealt<K: Run> {
@@ -302,21 +285,21 @@ struct Undealt<K: Run> {
 impl<K: Run> Undealt<K> {
     /// The next processor.
     fn next(&mut self, alloc: Global, ready: Seat<Context<K>>, copy: Files) -> Processor<K>
-        requires left { (0 < length self.old.free.rest.items) × (0 < length self.old.births.rest.items) × (0 < length self.old.busy.rest.items)
+        requires left { (0 < length self.old.free.rest.items) × (0 < length self.old.births.rest.items)
+            × (0 < length self.old.busy.rest.items)
             × (0 < length self.old.rows.rest.items) × (0 < length self.old.files.rest.items) }
         ensures free { self.old.free.rest.items ≡ result.free ∷ self.new.free.rest.items }
         ensures births { self.old.births.rest.items ≡ result.births ∷ self.new.births.rest.items }
         ensures busy { self.old.busy.rest.items ≡ result.busy ∷ self.new.busy.rest.items }
-        ensures rows { map (λ row. row.items) self.old.rows.rest.items ≡ result.semaphores ∷ map (λ row. row.items) self.new.rows.rest.items }
+        ensures rows { map (λ row. row.items) self.old.rows.rest.items ≡ result.semaphores ∷ map
+            (λ row. row.items) self.new.rows.rest.items }
         ensures files { self.old.files.rest.items ≡ result.files ∷ self.new.files.rest.items }
         ensures others { result ≡ record result { ready = ready; ended = []; halted = []; copy = copy } }
     {
         Processor {
             ready,
             free: next_of(&mut self.free),
-            semaphores: SemSeats {
-                all: next_of(&mut self.rows),
-            },
+            semaphores: next_of(&mut self.rows),
             births: next_of(&mut self.births),
             busy: next_of(&mut self.busy),
             files: next_of(&mut self.files),
@@ -334,10 +317,13 @@ fn zip_seats<K: Run>(
     ready: Vec<Seat<Context<K>>>,
     left: &mut Undealt<K>,
 ) -> Result<Vec<Processor<K>>, AllocError>
-    requires len { (length left.old.free.rest.items ≡ length ready.items) × (length left.old.births.rest.items ≡ length ready.items)
-        × (length left.old.busy.rest.items ≡ length ready.items) × (length left.old.rows.rest.items ≡ length ready.items)
+    requires len { (length left.old.free.rest.items ≡ length ready.items)
+        × (length left.old.births.rest.items ≡ length ready.items)
+        × (length left.old.busy.rest.items ≡ length ready.items)
+        × (length left.old.rows.rest.items ≡ length ready.items)
         × (length left.old.files.rest.items ≡ length ready.items) }
-    ensures zipped { IfOk result (λ all. all.items ≡ zipped entries ready.items left.old.free.rest.items left.old.births.rest.items
+    ensures zipped { IfOk result (λ all. all.items ≡ zipped entries ready.items left.old.free.rest.items
+        left.old.births.rest.items
         left.old.busy.rest.items (map (λ row. row.items) left.old.rows.rest.items) left.old.files.rest.items) }
 {
     let mut all = Vec::with_capacity(alloc, ready.len())?;

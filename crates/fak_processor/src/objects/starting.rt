@@ -2,16 +2,16 @@
 
 ghost use Rattle.std.specs.Prelude.{◌≡◌, ◌<◌, [], ◌∷◌, ◌++◌, length, IfOk, IfErr};
 ghost use Rattle.fak_processor.specs.Faults.{IsOfStep, IsSpent};
-ghost use Rattle.fak_process.specs.ListScheduler as lists;
-ghost use Rattle.fak_process.specs.Whole.{begun_names};
-ghost use Rattle.fak_processor.specs.Processors.{AreFor, AreOf, GoesTo, IsAlone, IsReached, TakesSlot, lists_of};
+ghost use Rattle.fak_run.specs.ListScheduler as lists;
+ghost use Rattle.fak_run.specs.Whole.{begun_names};
+ghost use Rattle.fak_processor.specs.Processors.{AreOf, GoesTo, IsAlone, IsReached, TakesSlot, lists_of};
 ghost use Rattle.fak_processor.specs.Begun.{Begins, FindsSlot, StartsOne, empty_lists};
 
 use crate::objects::Objects;
 use crate::processor::Processor;
 use crate::processor::entering::put;
 use crossbeam_utils::Backoff;
-use fak_process::{Context, Fault, Run, Slot};
+use fak_run::{Context, Fault, Run, Slot};
 use fak_text::Script;
 use std::alloc::Global;
 use std::sync::Wait;
@@ -27,7 +27,6 @@ impl<K: Run> Processor<K> {
     ) -> Result<(), Fault>
         requires script { script.now ≡ K.script }
         requires objects { AreOf objects.now self.old }
-        requires made { AreFor K.script objects.now }
         ensures objects { AreOf objects.now self.new }
         ensures general { IfOk result (λ _. Begins K.script [] [] (lists.numbers_from 0 K.script.slots)
             (begun_names 0 K.script.start) self.old self.new) }
@@ -49,9 +48,9 @@ impl<K: Run> Processor<K> {
     ) -> Result<(), Fault>
         requires script { script.now ≡ K.script }
         requires objects { AreOf objects.now self.old }
-        requires made { AreFor K.script objects.now }
         ensures objects { AreOf objects.now self.new }
-        ensures general { IfOk result (λ _. Begins K.script [] [] (lists.numbers_from 0 K.script.slots) [] self.old self.new) }
+        ensures general { IfOk result (λ _. Begins K.script [] []
+            (lists.numbers_from 0 K.script.slots) [] self.old self.new) }
         ensures alone { GoesTo K.script self.old (empty_lists K.script)
             → IfOk result (λ _. GoesTo K.script self.new
             (record (empty_lists K.script) { free_slots = lists.numbers_from 0 K.script.slots })) }
@@ -71,12 +70,14 @@ impl<K: Run> Processor<K> {
         slot: Slot<K>,
     ) -> Result<(), Fault>
         requires objects { AreOf objects.now self.old }
-        requires made { AreFor K.script objects.now }
         ensures objects { AreOf objects.now self.new }
         ensures general { IfOk result (λ _. Begins K.script [] [] (slot ∷ []) [] self.old self.new) }
         ensures alone { IsAlone K.script self.old
             → IfOk result (λ _. GoesTo K.script self.new
-            (record (lists_of K.script self.old) { free_slots = (lists_of K.script self.old).free_slots ++ slot ∷ [] })) }
+            (record (lists_of K.script self.old) {
+              free_slots = (lists_of K.script self.old).free_slots ++ slot
+                  ∷ [];
+            })) }
         ensures worn { IfErr result (λ fault. fault ≡ Fault.Worn) }
     {
         put(&objects.free, rt, &mut self.free, slot)?;
@@ -93,10 +94,10 @@ impl<K: Run> Processor<K> {
     ) -> Result<(), Fault>
         requires script { script.now ≡ K.script }
         requires objects { AreOf objects.now self.old }
-        requires made { AreFor K.script objects.now }
         ensures objects { AreOf objects.now self.new }
         ensures general { IfOk result (λ _. Begins K.script [] [] [] (begun_names 0 K.script.start) self.old self.new) }
-        ensures alone { GoesTo K.script self.old (record (empty_lists K.script) { free_slots = lists.numbers_from 0 K.script.slots })
+        ensures alone { GoesTo K.script self.old (record
+            (empty_lists K.script) { free_slots = lists.numbers_from 0 K.script.slots })
             → IfOk result (λ _. GoesTo K.script self.new (lists.first_lists K.script)) }
         ensures fault { IfErr result (λ fault. IsOfStep fault) }
     {
@@ -119,7 +120,6 @@ impl<K: Run> Processor<K> {
     ) -> Result<(), Fault>
         requires program { program < length K.script.programs }
         requires objects { AreOf objects.now self.old }
-        requires made { AreFor K.script objects.now }
         ensures objects { AreOf objects.now self.new }
         ensures general { IfOk result (λ _. Begins K.script [] [] [] ((number ∷ [], program) ∷ []) self.old self.new) }
         ensures alone { IsAlone K.script self.old
@@ -137,10 +137,10 @@ impl<K: Run> Processor<K> {
     /// The front of the free slots is taken, tried again where there is none.
     fn take_first_slot<R: Wait>(&mut self, rt: &R, objects: &Objects<K>) -> Result<Slot<K>, Fault>
         requires objects { AreOf objects.now self.old }
-        requires made { AreFor K.script objects.now }
         ensures objects { AreOf objects.now self.new }
         ensures general { IfOk result (λ slot. FindsSlot K.script slot self.old self.new) }
-        ensures alone { IsAlone K.script self.old → IfOk result (λ slot. TakesSlot K.script (lists_of K.script self.old) slot self.new) }
+        ensures alone { IsAlone K.script self.old → IfOk result
+            (λ slot. TakesSlot K.script (lists_of K.script self.old) slot self.new) }
         ensures worn { IfErr result (λ fault. fault ≡ Fault.Worn) }
         ensures spent { IfErr result (λ _. IsSpent self.new.free) }
     {

@@ -12,8 +12,8 @@ ghost use Rattle.fak_processor.specs.Faults.{IsSpent};
 ghost use Rattle.fak_processor.specs.Moving.{GrowsAtLast, GrowsEmpty, GrowsIn, GrowsOut, GrowsShut};
 
 use crossbeam_utils::Backoff;
-use fak_process::Fault;
 use fak_queue::{DeleteFault, InsertFault, Queue, Seat};
+use fak_run::Fault;
 use std::sync::Wait;
 
 /// Inserts the item, tried again where the queue is full. Where the queue is shut the item comes back.
@@ -35,23 +35,16 @@ pub fn enter<T: Drop, R: Wait>(
     ensures worn { IfErr result (λ fault. fault ≡ Fault.Worn) }
     ensures spent { IfErr result (λ _. IsSpent seat.new) }
 {
-    let backoff = Backoff::new();
-    let mut waiting = item;
-    for _ in rt.forever() {
-        match queue.insert(rt, seat, waiting) {
-            Ok(_) => return Ok(None),
-            Err(InsertFault::Worn { item: _ }) => return Err(Fault::Worn),
-            Err(InsertFault::Closed { item }) => return Ok(Some(item)),
-            Err(InsertFault::Full { upper: _, item }) => {
-                waiting = item;
-            }
-        }
-        backoff.snooze();
+    match queue.wait_insert(rt, seat, item) {
+        Ok(_) => Ok(None),
+        Err(InsertFault::Worn { item: _ }) => Err(Fault::Worn),
+        Err(InsertFault::Closed { item }) => Ok(Some(item)),
+        Err(InsertFault::Full { upper: _, item: _ }) => unreachable!(),
     }
-    unreachable!()
 }
 
-/// Inserts the item, tried again where the queue is full or shut.
+/// Inserts the item, tried again where the queue is full or shut. Nobody shuts the free queue, but what a seat knows of
+/// a queue is its own marks and what it has seen of the others', so no call can say it.
 pub fn put<T: Drop, R: Wait>(
     queue: &Queue<T>,
     rt: &R,
@@ -73,9 +66,7 @@ pub fn put<T: Drop, R: Wait>(
         match enter(queue, rt, seat, waiting) {
             Ok(None) => return Ok(()),
             Err(fault) => return Err(fault),
-            Ok(Some(back)) => {
-                waiting = back;
-            }
+            Ok(Some(back)) => waiting = back,
         }
         backoff.snooze();
     }

@@ -2,7 +2,7 @@
 
 ghost use Rattle.std.specs.Prelude.{◌≡◌, ◌<◌, List, length, replicate, slice_get, IfOk, IfSome};
 ghost use Rattle.fak_model.specs.declared.file.FileEntry.{FileEntry};
-ghost use Rattle.fak_process.specs.Files.{open_change, close_change, uses_of, free_entry, first_entry, raise};
+ghost use Rattle.fak_run.specs.Files.{open_change, close_change, uses_of, free_entry, first_entry, raise};
 
 use fak_model::FileEntry;
 use std::alloc::{AllocError, Global};

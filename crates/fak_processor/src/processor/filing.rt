@@ -2,15 +2,15 @@
 
 ghost use Rattle.std.specs.Prelude.{◌≡◌, ◌≢◌, ◌<◌, [], length, map, IfSome, IfOk, IfErr, MatchOption};
 ghost use Rattle.fak_files.specs.declared.phase.Hold.TheVariants.{Nothing, Writing};
-ghost use Rattle.fak_process.specs.Files.{open_change, close_change, uses_of};
+ghost use Rattle.fak_run.specs.Files.{open_change, close_change, uses_of};
 ghost use Rattle.fak_model.specs.File.{set_mark};
 ghost use Rattle.fak_text.specs.Journal.{opened, closed, statted};
-ghost use Rattle.fak_process.specs.Making.{HasJustTaken, HasMade, Left, sets_of};
-ghost use Rattle.fak_process.specs.OnlyFiles.{IsOnlyFiles, KeepsFiles, StoresEntry, ChangesFiles, entries_now};
+ghost use Rattle.fak_run.specs.Making.{HasJustTaken, HasMade, Left, sets_of};
+ghost use Rattle.fak_run.specs.OnlyFiles.{IsOnlyFiles, KeepsFiles, StoresEntry, ChangesFiles, entries_now};
 
 use crate::processor::files::Files;
 use fak_files::{FileField, FileSeat, FileTable};
-use fak_process::Fault;
+use fak_run::Fault;
 use std::sync::Wait;
 
 impl Files {
@@ -24,7 +24,8 @@ impl Files {
         ensures len { length self.new ≡ table.now.entries }
         ensures left { Left [] seat.old.seat seat.new.seat }
         ensures read { HasJustTaken seat.old.seat → self.new ≡ entries_now table.now.entries seat.old }
-        ensures only { IsOnlyFiles seat.old → KeepsFiles seat.old seat.new × (self.new ≡ entries_now table.now.entries seat.old) }
+        ensures only { IsOnlyFiles seat.old → KeepsFiles seat.old seat.new
+            × (self.new ≡ entries_now table.now.entries seat.old) }
     {
         for i in 0..self.entries.len() {
             self.entries[i] = table.get(seat, i as u64);
@@ -66,9 +67,11 @@ impl Files {
         ensures idle { seat.new.hold ≡ Nothing }
         ensures len { length self.new ≡ table.now.entries }
         ensures within { IfOk result (λ entry. IfSome entry (λ i. i < table.now.entries)) }
-        ensures made { IfOk result (λ entry. HasMade table.now.entries (opened inode entry) seat.old.seat seat.new.seat) }
+        ensures made { IfOk result (λ entry. HasMade table.now.entries
+            (opened inode entry) seat.old.seat seat.new.seat) }
         ensures only { IsOnlyFiles seat.old → IfOk result
-            (λ entry. ChangesFiles table.now.entries entry (open_change (entries_now table.now.entries seat.old) inode) seat.new) }
+            (λ entry. ChangesFiles table.now.entries entry
+            (open_change (entries_now table.now.entries seat.old) inode) seat.new) }
         ensures worn { IfErr result (λ fault. fault ≡ Fault.Worn) }
     {
         let Ok(()) = table.write(rt, seat) else {
@@ -96,9 +99,11 @@ impl Files {
         ensures idle { seat.new.hold ≡ Nothing }
         ensures len { length self.new ≡ table.now.entries }
         ensures within { IfOk result (λ entry. IfSome entry (λ i. i < table.now.entries)) }
-        ensures made { IfOk result (λ entry. HasMade table.now.entries (closed inode entry) seat.old.seat seat.new.seat) }
+        ensures made { IfOk result (λ entry. HasMade table.now.entries
+            (closed inode entry) seat.old.seat seat.new.seat) }
         ensures only { IsOnlyFiles seat.old → IfOk result
-            (λ entry. ChangesFiles table.now.entries entry (close_change (entries_now table.now.entries seat.old) inode) seat.new) }
+            (λ entry. ChangesFiles table.now.entries entry
+            (close_change (entries_now table.now.entries seat.old) inode) seat.new) }
         ensures worn { IfErr result (λ fault. fault ≡ Fault.Worn) }
     {
         let Ok(()) = table.write(rt, seat) else {
@@ -125,7 +130,8 @@ impl Files {
         ensures object { seat.new.seat.object ≡ table.now.object }
         ensures idle { seat.new.hold ≡ Nothing }
         ensures len { length self.new ≡ table.now.entries }
-        ensures made { IfOk result (λ uses. HasMade table.now.entries (statted inode uses) seat.old.seat seat.new.seat) }
+        ensures made { IfOk result (λ uses. HasMade table.now.entries
+            (statted inode uses) seat.old.seat seat.new.seat) }
         ensures only { IsOnlyFiles seat.old → IfOk result
             (λ uses. KeepsFiles seat.old seat.new × (uses ≡ uses_of (entries_now table.now.entries seat.old) inode)) }
         ensures worn { IfErr result (λ fault. fault ≡ Fault.Worn) }

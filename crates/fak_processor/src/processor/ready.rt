@@ -2,12 +2,12 @@
 
 ghost use Rattle.std.specs.Prelude.{◌≡◌, [], ◌∷◌, Bool, ℕ, None, true, IfOk, IfErr, MatchOption};
 ghost use Rattle.fak_model.specs.Queue.{contents};
-ghost use Rattle.fak_process.specs.ListScheduler as lists;
+ghost use Rattle.fak_run.specs.ListScheduler as lists;
 ghost use Rattle.fak_processor.specs.Faults.{IsOfStep, IsSpent};
-ghost use Rattle.fak_processor.specs.Processors.{AreFor, AreOf, IsAlone, GoesOn, GoesTo, HasNoSlot, TakesSlot, lists_of};
+ghost use Rattle.fak_processor.specs.Processors.{AreOf, IsAlone, GoesOn, GoesTo, HasNoSlot, TakesSlot, lists_of};
 ghost use Rattle.fak_model.specs.declared.queue.Kind.TheVariants.{Close};
 ghost use Rattle.fak_queue.specs.Retries.{kinds_out};
-ghost use Rattle.fak_process.specs.Ledger.{nothing};
+ghost use Rattle.fak_run.specs.Ledger.{nothing};
 ghost use Rattle.fak_processor.specs.Events.{empty};
 ghost use Rattle.fak_processor.specs.Moving.{Gains, Moves, hand_of};
 
@@ -15,7 +15,8 @@ use crate::objects::Objects;
 use crate::processor::Processor;
 use crate::processor::entering::{enter, put, shut, take};
 use crate::processor::turn::Turn;
-use fak_process::{Context, Fault, Run, Slot};
+use fak_run::{Context, Fault, Run, Slot};
+use std::alloc::AllocError;
 use std::sync::Wait;
 
 impl<K: Run> Processor<K> {
@@ -26,7 +27,6 @@ impl<K: Run> Processor<K> {
         objects: &Objects<K>,
     ) -> Result<Option<Turn<K>>, Fault>
         requires objects { AreOf objects.now self.old }
-        requires made { AreFor K.script objects.now }
         ensures objects { AreOf objects.now self.new }
         ensures general { IfOk result (λ running. Moves K.script [] (hand_of running) self.old self.new) }
         ensures alone { IsAlone K.script self.old
@@ -43,12 +43,10 @@ impl<K: Run> Processor<K> {
     }
 
     /// Asks for the memory of one halted process more.
-    pub fn reserve_halted(&mut self) -> Result<(), Fault>
+    pub fn reserve_halted(&mut self) -> Result<(), AllocError>
         ensures same { self.new ≡ self.old }
-        ensures memory { IfErr result (λ fault. fault ≡ Fault.Memory) }
     {
-        self.halted.reserve(1)?;
-        Ok(())
+        self.halted.reserve(1)
     }
 
     /// A process becomes ready, or halts where the ready queue is shut.
@@ -59,7 +57,6 @@ impl<K: Run> Processor<K> {
         context: Context<K>,
     ) -> Result<(), Fault>
         requires objects { AreOf objects.now self.old }
-        requires made { AreFor K.script objects.now }
         ensures objects { AreOf objects.now self.new }
         ensures general { IfOk result (λ _. Moves K.script (context ∷ []) [] self.old self.new) }
         ensures alone { IsAlone K.script self.old
@@ -88,12 +85,12 @@ impl<K: Run> Processor<K> {
         context: Context<K>,
     ) -> Result<(), Fault>
         requires objects { AreOf objects.now self.old }
-        requires made { AreFor K.script objects.now }
         requires over { lists.next_step K.script context ≡ None }
         ensures objects { AreOf objects.now self.new }
         ensures general { IfOk result (λ _. Moves K.script (context ∷ []) [] self.old self.new) }
         ensures alone { IsAlone K.script self.old
-            → IfOk result (λ _. GoesTo K.script self.new (lists.end_process (lists_of K.script self.old) context).lists) }
+            → IfOk result (λ _. GoesTo K.script self.new
+            (lists.end_process (lists_of K.script self.old) context).lists) }
         ensures fault { IfErr result (λ fault. IsOfStep fault) }
     {
         let slot = Slot::new(context.slot());
@@ -110,7 +107,6 @@ impl<K: Run> Processor<K> {
         objects: &Objects<K>,
     ) -> Result<Option<Slot<K>>, Fault>
         requires objects { AreOf objects.now self.old }
-        requires made { AreFor K.script objects.now }
         ensures objects { AreOf objects.now self.new }
         ensures births { self.new.births ≡ self.old.births }
         ensures gains { IfOk result (λ slot. MatchOption slot
@@ -132,10 +128,10 @@ impl<K: Run> Processor<K> {
     /// The ready queue is shut.
     pub fn shut_ready(&mut self, objects: &Objects<K>)
         requires objects { AreOf objects.now self.old }
-        requires made { AreFor K.script objects.now }
         ensures objects { AreOf objects.now self.new }
         ensures gains { Gains K.script self.old self.new (record nothing { ready = Close ∷ [] }) }
-        ensures alone { IsAlone K.script self.old → GoesTo K.script self.new (record (lists_of K.script self.old) { is_shut = true }) }
+        ensures alone { IsAlone K.script self.old → GoesTo K.script self.new
+            (record (lists_of K.script self.old) { is_shut = true }) }
     {
         shut(&objects.ready, &mut self.ready);
     }

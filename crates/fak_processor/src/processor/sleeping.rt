@@ -3,14 +3,14 @@
 ghost use Rattle.std.specs.Prelude.{◌≡◌, ◌<◌, [], ◌∷◌, length, IfOk, IfErr, IfSome, MatchOption};
 ghost use Rattle.fak_text.specs.Script.{down};
 ghost use Rattle.fak_text.specs.Journal.{StandsAt};
-ghost use Rattle.fak_processor.specs.Processors.{AreFor, AreOf, IsAlone, CountFalls, SleepsLast, WakesFirst, WakesNobody, lists_of};
+ghost use Rattle.fak_processor.specs.Processors.{AreOf, IsAlone, CountFalls, SleepsLast, WakesFirst, WakesNobody, lists_of};
 ghost use Rattle.fak_model.specs.declared.credit.CreditKind.TheVariants.{Debit, Credit};
-ghost use Rattle.fak_process.specs.Ledger.{nothing};
+ghost use Rattle.fak_run.specs.Ledger.{nothing};
 ghost use Rattle.fak_processor.specs.Moving.{Gains, GainsParked, GainsWoken, at_one};
 
 use crate::objects::Objects;
 use crate::processor::Processor;
-use fak_process::{Context, Fault, Run, Sleeper};
+use fak_run::{Context, Fault, Run, Sleeper};
 use std::sync::Wait;
 
 impl<K: Run> Processor<K> {
@@ -23,23 +23,24 @@ impl<K: Run> Processor<K> {
         sleeper: Sleeper<K>,
     ) -> Result<Option<Sleeper<K>>, Fault>
         requires objects { AreOf objects.now self.old }
-        requires made { AreFor K.script objects.now }
-        requires at { at < length self.old.semaphores }
+        requires at { at < length K.script.semaphores }
         requires before { StandsAt K.script sleeper (down at) }
         ensures objects { AreOf objects.now self.new }
         ensures same { IfOk result (λ passed. IfSome passed (λ who. who ≡ sleeper)) }
         ensures gains { IfOk result (λ passed. MatchOption passed (GainsParked K.script at sleeper self.old self.new)
             (λ _. Gains K.script self.old self.new (record nothing { credits = at_one at (Debit ∷ []) }))) }
         ensures alone { IsAlone K.script self.old
-            → IfOk result (λ passed. MatchOption passed (SleepsLast K.script (lists_of K.script self.old) at sleeper self.new)
+            → IfOk result (λ passed. MatchOption passed
+            (SleepsLast K.script (lists_of K.script self.old) at sleeper self.new)
             (λ _. CountFalls K.script (lists_of K.script self.old) at self.new)) }
         ensures worn { IfErr result (λ fault. fault ≡ Fault.Worn) }
     {
-        match self.semaphores.down(rt, &objects.semaphores, at, sleeper) {
-            Err(fault) => return Err(fault),
-            Ok(None) => return Ok(None),
-            Ok(Some(who)) => return Ok(Some(who)),
-        }
+        let semaphore = &objects.semaphores[at];
+        let seat = &mut self.semaphores[at];
+        let Ok(passed) = semaphore.down(rt, seat, sleeper) else {
+            return Err(Fault::Worn);
+        };
+        Ok(passed)
     }
 
     /// An up: the first sleeper wakes, or the count rises.
@@ -50,8 +51,7 @@ impl<K: Run> Processor<K> {
         at: usize,
     ) -> Result<Option<Context<K>>, Fault>
         requires objects { AreOf objects.now self.old }
-        requires made { AreFor K.script objects.now }
-        requires at { at < length self.old.semaphores }
+        requires at { at < length K.script.semaphores }
         ensures objects { AreOf objects.now self.new }
         ensures gains { IfOk result (λ woken. MatchOption woken
             (Gains K.script self.old self.new (record nothing { credits = at_one at (Credit ∷ []) }))
@@ -61,8 +61,10 @@ impl<K: Run> Processor<K> {
             (λ q. WakesFirst K.script (lists_of K.script self.old) at q self.new)) }
         ensures worn { IfErr result (λ fault. fault ≡ Fault.Worn) }
     {
-        match self.semaphores.up(rt, &objects.semaphores, at) {
-            Err(fault) => return Err(fault),
+        let semaphore = &objects.semaphores[at];
+        let seat = &mut self.semaphores[at];
+        match semaphore.up(rt, seat) {
+            Err(_) => return Err(Fault::Worn),
             Ok(None) => return Ok(None),
             Ok(Some(sleeper)) => return Ok(Some(sleeper.rouse())),
         }

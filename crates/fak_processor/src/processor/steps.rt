@@ -3,16 +3,16 @@
 ghost use Rattle.std.specs.Prelude.{◌≡◌, [], ◌∷◌, ◌<◌, false, length, Some, IfOk, IfErr};
 ghost use Rattle.fak_text.specs.Script.{down, up, open_file, close_file, stat, spawn, shutdown};
 ghost use Rattle.fak_text.specs.Journal.{StandsAt};
-ghost use Rattle.fak_process.specs.ListScheduler as lists;
-ghost use Rattle.fak_process.specs.Contexts.{HasStepsLeft};
+ghost use Rattle.fak_run.specs.ListScheduler as lists;
+ghost use Rattle.fak_run.specs.Contexts.{HasStepsLeft};
 ghost use Rattle.fak_processor.specs.Faults.{IsOfStep};
-ghost use Rattle.fak_processor.specs.Processors.{AreFor, AreOf, IsAlone, GoesOn, lists_of};
+ghost use Rattle.fak_processor.specs.Processors.{AreOf, IsAlone, GoesOn, lists_of};
 ghost use Rattle.fak_processor.specs.Moving.{Moves, hand_of};
 
 use crate::objects::Objects;
 use crate::processor::Processor;
 use crate::processor::turn::Turn;
-use fak_process::{Context, Fault, Run, Sleeper};
+use fak_run::{Context, Fault, Run, Sleeper};
 use fak_text::Note;
 use std::alloc::Global;
 use std::sync::Wait;
@@ -27,14 +27,15 @@ impl<K: Run> Processor<K> {
         n: u64,
     ) -> Result<Option<Turn<K>>, Fault>
         requires objects { AreOf objects.now self.old }
-        requires made { AreFor K.script objects.now }
         requires next { StandsAt K.script turn.process (down n) }
         requires range { n < length K.script.semaphores }
         requires left { HasStepsLeft K.script turn }
         ensures objects { AreOf objects.now self.new }
-        ensures general { IfOk result (λ running. Moves K.script (turn.process ∷ []) (hand_of running) self.old self.new) }
+        ensures general { IfOk result (λ running. Moves K.script (turn.process ∷ [])
+            (hand_of running) self.old self.new) }
         ensures alone { IsAlone K.script self.old
-            → IfOk result (λ running. GoesOn K.script self.new running (lists.make_down (lists_of K.script self.old) turn n)) }
+            → IfOk result (λ running. GoesOn K.script self.new running
+            (lists.make_down (lists_of K.script self.old) turn n)) }
         ensures fault { IfErr result (λ fault. IsOfStep fault) }
     {
         let made = turn.made();
@@ -58,14 +59,15 @@ impl<K: Run> Processor<K> {
         n: u64,
     ) -> Result<(), Fault>
         requires objects { AreOf objects.now self.old }
-        requires made { AreFor K.script objects.now }
         requires next { StandsAt K.script turn.old.process (up n) }
         requires range { n < length K.script.semaphores }
         requires left { HasStepsLeft K.script turn.old }
         ensures objects { AreOf objects.now self.new }
-        ensures general { IfOk result (λ _. Moves K.script (turn.old.process ∷ []) (turn.new.process ∷ []) self.old self.new) }
+        ensures general { IfOk result (λ _. Moves K.script (turn.old.process ∷ [])
+            (turn.new.process ∷ []) self.old self.new) }
         ensures alone { IsAlone K.script self.old
-            → IfOk result (λ _. GoesOn K.script self.new (Some turn.new) (lists.make_up (lists_of K.script self.old) turn.old n)) }
+            → IfOk result (λ _. GoesOn K.script self.new (Some turn.new)
+            (lists.make_up (lists_of K.script self.old) turn.old n)) }
         ensures fault { IfErr result (λ fault. IsOfStep fault) }
     {
         turn.note(Note::Up(n), false)?;
@@ -91,12 +93,12 @@ impl<K: Run> Processor<K> {
         program: u64,
     ) -> Result<(), Fault>
         requires objects { AreOf objects.now self.old }
-        requires made { AreFor K.script objects.now }
         requires next { StandsAt K.script turn.old.process (spawn program) }
         requires range { program < length K.script.programs }
         requires left { HasStepsLeft K.script turn.old }
         ensures objects { AreOf objects.now self.new }
-        ensures general { IfOk result (λ _. Moves K.script (turn.old.process ∷ []) (turn.new.process ∷ []) self.old self.new) }
+        ensures general { IfOk result (λ _. Moves K.script (turn.old.process ∷ [])
+            (turn.new.process ∷ []) self.old self.new) }
         ensures alone { IsAlone K.script self.old
             → IfOk result (λ _. GoesOn K.script self.new (Some turn.new)
             (lists.make_spawn K.script (lists_of K.script self.old) turn.old program)) }
@@ -128,13 +130,14 @@ impl<K: Run> Processor<K> {
         inode: u64,
     ) -> Result<(), Fault>
         requires objects { AreOf objects.now self.old }
-        requires made { AreFor K.script objects.now }
         requires next { StandsAt K.script turn.old.process (open_file inode) }
         requires left { HasStepsLeft K.script turn.old }
         ensures objects { AreOf objects.now self.new }
-        ensures general { IfOk result (λ _. Moves K.script (turn.old.process ∷ []) (turn.new.process ∷ []) self.old self.new) }
+        ensures general { IfOk result (λ _. Moves K.script (turn.old.process ∷ [])
+            (turn.new.process ∷ []) self.old self.new) }
         ensures alone { IsAlone K.script self.old
-            → IfOk result (λ _. GoesOn K.script self.new (Some turn.new) (lists.make_open (lists_of K.script self.old) turn.old inode)) }
+            → IfOk result (λ _. GoesOn K.script self.new (Some turn.new)
+            (lists.make_open (lists_of K.script self.old) turn.old inode)) }
         ensures fault { IfErr result (λ fault. IsOfStep fault) }
     {
         turn.reserve_note()?;
@@ -153,13 +156,14 @@ impl<K: Run> Processor<K> {
         inode: u64,
     ) -> Result<(), Fault>
         requires objects { AreOf objects.now self.old }
-        requires made { AreFor K.script objects.now }
         requires next { StandsAt K.script turn.old.process (close_file inode) }
         requires left { HasStepsLeft K.script turn.old }
         ensures objects { AreOf objects.now self.new }
-        ensures general { IfOk result (λ _. Moves K.script (turn.old.process ∷ []) (turn.new.process ∷ []) self.old self.new) }
+        ensures general { IfOk result (λ _. Moves K.script (turn.old.process ∷ [])
+            (turn.new.process ∷ []) self.old self.new) }
         ensures alone { IsAlone K.script self.old
-            → IfOk result (λ _. GoesOn K.script self.new (Some turn.new) (lists.make_close (lists_of K.script self.old) turn.old inode)) }
+            → IfOk result (λ _. GoesOn K.script self.new (Some turn.new)
+            (lists.make_close (lists_of K.script self.old) turn.old inode)) }
         ensures fault { IfErr result (λ fault. IsOfStep fault) }
     {
         turn.reserve_note()?;
@@ -178,11 +182,11 @@ impl<K: Run> Processor<K> {
         inode: u64,
     ) -> Result<(), Fault>
         requires objects { AreOf objects.now self.old }
-        requires made { AreFor K.script objects.now }
         requires next { StandsAt K.script turn.old.process (stat inode) }
         requires left { HasStepsLeft K.script turn.old }
         ensures objects { AreOf objects.now self.new }
-        ensures general { IfOk result (λ _. Moves K.script (turn.old.process ∷ []) (turn.new.process ∷ []) self.old self.new) }
+        ensures general { IfOk result (λ _. Moves K.script (turn.old.process ∷ [])
+            (turn.new.process ∷ []) self.old self.new) }
         ensures alone { IsAlone K.script self.old
             → IfOk result (λ _. GoesOn K.script self.new (Some turn.new)
             (lists.make K.script (lists_of K.script self.old) turn.old (stat inode))) }
@@ -198,11 +202,11 @@ impl<K: Run> Processor<K> {
     /// A shutdown: no process becomes ready any more.
     pub(crate) fn shutdown(&mut self, objects: &Objects<K>, turn: &mut Turn<K>) -> Result<(), Fault>
         requires objects { AreOf objects.now self.old }
-        requires made { AreFor K.script objects.now }
         requires next { StandsAt K.script turn.old.process shutdown }
         requires left { HasStepsLeft K.script turn.old }
         ensures objects { AreOf objects.now self.new }
-        ensures general { IfOk result (λ _. Moves K.script (turn.old.process ∷ []) (turn.new.process ∷ []) self.old self.new) }
+        ensures general { IfOk result (λ _. Moves K.script (turn.old.process ∷ [])
+            (turn.new.process ∷ []) self.old self.new) }
         ensures alone { IsAlone K.script self.old
             → IfOk result (λ _. GoesOn K.script self.new (Some turn.new)
             (lists.make K.script (lists_of K.script self.old) turn.old shutdown)) }

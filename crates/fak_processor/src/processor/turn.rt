@@ -4,10 +4,10 @@ ghost use Rattle.std.specs.Prelude.{◌≡◌, ℕ, List, [], ◌∷◌, ◌++�
 ghost use Rattle.fak_text.specs.Script.{StepOf, say};
 ghost use Rattle.fak_text.specs.Journal.{Allows, FitsScript, StandsAt, after_note, child_count, said};
 ghost use Rattle.fak_text.specs.Views.{note_of};
-ghost use Rattle.fak_process.specs.ListScheduler as lists;
-ghost use Rattle.fak_process.specs.Contexts.{HasStepsLeft};
+ghost use Rattle.fak_run.specs.ListScheduler as lists;
+ghost use Rattle.fak_run.specs.Contexts.{HasStepsLeft};
 
-use fak_process::{Context, Fault, Run};
+use fak_run::{Context, Fault, Run};
 use fak_text::{Note, Script};
 use std::alloc::Global;
 use std::marker::Model;
@@ -22,7 +22,7 @@ pub struct Turn<K: Run> {
 
 impl<K: Run> Model for Turn<K> {
     ghost use Rattle.std.specs.Prelude.{◌≤◌};
-    ghost use Rattle.fak_process.specs.ListScheduler as lists;
+    ghost use Rattle.fak_run.specs.ListScheduler as lists;
 
     ghost Value = { lists.Turn };
 
@@ -53,7 +53,8 @@ impl<K: Run> Turn<K> {
 
     /// The name of the process's next child.
     pub fn child_name(&self, alloc: Global) -> Result<Vec<u64>, Fault>
-        ensures name { IfOk result (λ name. name.items ≡ self.now.process.name ++ child_count self.now.process.journal ∷ []) }
+        ensures name { IfOk result (λ name. name.items ≡ self.now.process.name ++ child_count self.now.process.journal
+            ∷ []) }
         ensures memory { IfErr result (λ fault. fault ≡ Fault.Memory) }
     {
         self.context.child_name(alloc)
@@ -115,7 +116,12 @@ impl<K: Run> Turn<K> {
         requires said { (text : List ℕ) × StandsAt K.script self.old.process (say text) }
         requires left { HasStepsLeft K.script self.old }
         ensures noted { IfOk result (λ _. (text : List ℕ) → StandsAt K.script self.old.process (say text)
-            → self.new ≡ record { process = after_note self.old.process (said text); made = self.old.made + 1; has_yielded = false }) }
+            → self.new ≡ record {
+              process = after_note self.old.process
+                  (said text);
+              made = self.old.made + 1;
+              has_yielded = false;
+            }) }
         ensures memory { IfErr result (λ fault. fault ≡ Fault.Memory) }
         ensures fits { FitsScript K.script self.old.process }
     {
@@ -130,12 +136,7 @@ impl<K: Run> Turn<K> {
     pub fn into_context(self) -> Context<K>
         ensures { result ≡ self.process }
     {
-        let Turn {
-            context,
-            made: _,
-            has_yielded: _,
-        } = self;
-        context
+        self.context
     }
 
     /// The turn is over: as many steps were made as a turn has, or the last one was a yield.

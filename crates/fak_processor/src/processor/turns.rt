@@ -4,12 +4,12 @@ ghost use Rattle.std.specs.Prelude.{◌≡◌, ◌≢◌, ℕ, [], ◌∷◌, �
 ghost use Rattle.fak_text.specs.Script.{IsStepInRange, limits_of};
 ghost use Rattle.fak_text.specs.Journal.{StandsAt};
 ghost use Rattle.fak_text.specs.Views.{step_of};
-ghost use Rattle.fak_process.specs.ListScheduler as lists;
+ghost use Rattle.fak_run.specs.ListScheduler as lists;
 ghost use Rattle.fak_processor.specs.Faults.{IsOfLoop, IsOfStep, IsRefused};
-ghost use Rattle.fak_process.specs.Contexts.{HasStepsLeft};
-ghost use Rattle.fak_processor.specs.Processors.{AreFor, AreOf, IsAlone, GoesOn, GoesTo, IsReached, lists_of};
+ghost use Rattle.fak_run.specs.Contexts.{HasStepsLeft};
+ghost use Rattle.fak_processor.specs.Processors.{AreOf, IsAlone, GoesOn, GoesTo, IsReached, lists_of};
 ghost use Rattle.fak_model.specs.Credit.{value};
-ghost use Rattle.fak_process.specs.Ledger.{nothing};
+ghost use Rattle.fak_run.specs.Ledger.{nothing};
 ghost use Rattle.fak_processor.specs.Moving.{Gains, LeavesNone, Moves, hand_of};
 
 use crate::gate::{Gate, Looks};
@@ -17,7 +17,7 @@ use crate::objects::Objects;
 use crate::processor::Processor;
 use crate::processor::turn::Turn;
 use crossbeam_utils::Backoff;
-use fak_process::{Fault, Run};
+use fak_run::{Fault, Run};
 use fak_text::{Note, Script, Step};
 use std::alloc::Global;
 use std::sync::Wait;
@@ -33,12 +33,12 @@ impl<K: Run> Processor<K> {
         step: &Step,
     ) -> Result<Option<Turn<K>>, Fault>
         requires objects { AreOf objects.now self.old }
-        requires made { AreFor K.script objects.now }
         requires next { StandsAt K.script turn.process (step_of step.now) }
         requires range { IsStepInRange (limits_of K.script) (step_of step.now) }
         requires left { HasStepsLeft K.script turn }
         ensures objects { AreOf objects.now self.new }
-        ensures general { IfOk result (λ running. Moves K.script (turn.process ∷ []) (hand_of running) self.old self.new) }
+        ensures general { IfOk result (λ running. Moves K.script (turn.process ∷ [])
+            (hand_of running) self.old self.new) }
         ensures alone { IsAlone K.script self.old
             → IfOk result (λ running. GoesOn K.script self.new running
             (lists.make K.script (lists_of K.script self.old) turn (step_of step.now))) }
@@ -64,13 +64,13 @@ impl<K: Run> Processor<K> {
         step: &Step,
     ) -> Result<(), Fault>
         requires objects { AreOf objects.now self.old }
-        requires made { AreFor K.script objects.now }
         requires next { StandsAt K.script turn.old.process (step_of step.now) }
         requires range { IsStepInRange (limits_of K.script) (step_of step.now) }
         requires left { HasStepsLeft K.script turn.old }
         requires stays { (n : ℕ) → step.now ≢ Step.Down n }
         ensures objects { AreOf objects.now self.new }
-        ensures general { IfOk result (λ _. Moves K.script (turn.old.process ∷ []) (turn.new.process ∷ []) self.old self.new) }
+        ensures general { IfOk result (λ _. Moves K.script (turn.old.process ∷ [])
+            (turn.new.process ∷ []) self.old self.new) }
         ensures alone { IsAlone K.script self.old
             → IfOk result (λ _. GoesOn K.script self.new (Some turn.new)
             (lists.make K.script (lists_of K.script self.old) turn.old (step_of step.now))) }
@@ -100,9 +100,9 @@ impl<K: Run> Processor<K> {
     ) -> Result<Option<Turn<K>>, Fault>
         requires script { script.now ≡ K.script }
         requires objects { AreOf objects.now self.old }
-        requires made { AreFor K.script objects.now }
         ensures objects { AreOf objects.now self.new }
-        ensures general { IfOk result (λ running. Moves K.script (turn.process ∷ []) (hand_of running) self.old self.new) }
+        ensures general { IfOk result (λ running. Moves K.script (turn.process ∷ [])
+            (hand_of running) self.old self.new) }
         ensures alone { IsAlone K.script self.old
             → IfOk result (λ running. GoesOn K.script self.new running
             (lists.turn_by K.script (lists_of K.script self.old) turn (lists.next_step K.script turn.process))) }
@@ -134,7 +134,6 @@ impl<K: Run> Processor<K> {
     ) -> Result<Option<Turn<K>>, Fault>
         requires script { script.now ≡ K.script }
         requires objects { AreOf objects.now self.old }
-        requires made { AreFor K.script objects.now }
         ensures objects { AreOf objects.now self.new }
         ensures general { IfOk result (λ next. Moves K.script (hand_of running) (hand_of next) self.old self.new) }
         ensures alone { IsAlone K.script self.old
@@ -152,24 +151,17 @@ impl<K: Run> Processor<K> {
     #[tactic(auto, using(crate::proofs::Moving::gains_none))]
     fn is_done(&mut self, objects: &Objects<K>, was_idle: bool, running: &Option<Turn<K>>) -> bool
         requires objects { AreOf objects.now self.old }
-        requires made { AreFor K.script objects.now }
         ensures objects { AreOf objects.now self.new }
         ensures gains { Gains K.script self.old self.new nothing }
         ensures alone { IsAlone K.script self.old → GoesTo K.script self.new (lists_of K.script self.old) }
         ensures done { result ≡ true → (was_idle ≡ true) × (running.now ≡ None) }
         ensures idle { result ≡ true → value (length K.script.start) self.new.busy.seen ≡ pos 0 }
     {
-        if !was_idle {
-            return false;
-        }
-        if running.is_some() {
+        if !was_idle || running.is_some() {
             return false;
         }
         let shown = objects.busy.value(&mut self.busy);
-        if shown != 0 {
-            return false;
-        }
-        true
+        shown == 0
     }
 
     /// The loop of a processor: turns of ready processes, until no process is ready or runs. False where another processor
@@ -185,12 +177,12 @@ impl<K: Run> Processor<K> {
     ) -> Result<bool, Fault>
         requires script { script.now ≡ K.script }
         requires objects { AreOf objects.now self.old }
-        requires made { AreFor K.script objects.now }
         ensures objects { AreOf objects.now self.new }
         ensures general { IfOk result (λ done. done ≡ true → LeavesNone K.script self.old self.new) }
         ensures stopped { IfOk result (λ done. done ≡ false → 1 < objects.now.ready.object.seats) }
         ensures alone { IsReached K.script self.old (lists.turn_over (lists_of K.script self.old))
-            → IfOk result (λ done. done ≡ true → IsReached K.script self.new (lists.turn_over (lists_of K.script self.new))
+            → IfOk result (λ done. done ≡ true → IsReached K.script self.new
+            (lists.turn_over (lists_of K.script self.new))
             × ((lists_of K.script self.new).ready ≡ [])) }
         ensures passed { IfOk result (λ done. done ≡ true → G.answers gate.now number 0 true) }
         ensures fault { IfErr result (λ fault. IsOfLoop (G.refuses gate.now) fault) }
@@ -232,7 +224,6 @@ impl<K: Run> Processor<K> {
     ) -> Result<Option<Processor<K>>, Fault>
         requires script { script.now ≡ K.script }
         requires objects { AreOf objects.now self }
-        requires made { AreFor K.script objects.now }
         ensures objects { IfOk result (λ left. IfSome left (λ p. AreOf objects.now p)) }
         ensures general { IfOk result (λ left. IfSome left (λ p. LeavesNone K.script self p)) }
         ensures stopped { IfOk result (λ left. IfNone left (1 < objects.now.ready.object.seats)) }
@@ -246,12 +237,8 @@ impl<K: Run> Processor<K> {
         let mut processor = self;
         match processor.turns(rt, alloc, script, objects, gate, number) {
             Ok(true) => Ok(Some(processor)),
-            Ok(false) => {
-                drop(processor);
-                Ok(None)
-            }
+            Ok(false) => Ok(None),
             Err(fault) => {
-                drop(processor);
                 objects.alarm.ring();
                 Err(fault)
             }

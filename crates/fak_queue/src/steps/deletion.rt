@@ -42,10 +42,11 @@ pub(crate) fn test_low<T, J: Call<T>>(
     requires seat { HasOneName token.old.me }
     requires phase { token.old.me.0.phase ≡ Some Idle }
     ensures same { token.new.table_id ≡ token.old.table_id }
-    ensures told { Named token.old.me (λ n. TestedLow words.now.table_id.slots J.seats n result token.old.me token.new.me) }
+    ensures told { Named token.old.me
+        (λ n. TestedLow words.now.table_id.slots J.seats n result token.old.me token.new.me) }
 {
     let found = words.load::<TestLowPlay<J>>(token, LOWER);
-    counts.lower.found(found);
+    counts.found_lower(found);
     read_lower(found)
 }
 
@@ -58,7 +59,8 @@ pub(crate) fn sub_low<T, J: Call<T>>(
     requires seat { HasOneName token.old.me }
     requires phase { token.old.me.0.phase ≡ Some SubLow }
     ensures same { token.new.table_id ≡ token.old.table_id }
-    ensures told { Named token.old.me (λ n. SubtractedLow words.now.table_id.slots J.seats n result token.old.me token.new.me) }
+    ensures told { Named token.old.me
+        (λ n. SubtractedLow words.now.table_id.slots J.seats n result token.old.me token.new.me) }
 {
     let found = words.fetch_sub::<SubLowPlay<J>>(token, LOWER, 1);
     read_lower(found)
@@ -82,7 +84,8 @@ pub(crate) fn ticket_out<T, J: Call<T>>(words: &QueueWords<T>, token: &mut Queue
     requires phase { token.old.me.0.phase ≡ Some TicketOut }
     requires left { 0 < token.old.me.0.left }
     ensures same { token.new.table_id ≡ token.old.table_id }
-    ensures told { Named token.old.me (λ n. DrawsOut words.now.table_id.slots J.seats n token.old.me result token.new.me) }
+    ensures told { Named token.old.me
+        (λ n. DrawsOut words.now.table_id.slots J.seats n token.old.me result token.new.me) }
 {
     words.fetch_add::<TicketOutPlay<J>>(token, DRAWS_OUT, 1)
 }
@@ -98,7 +101,8 @@ pub(crate) fn turn_out<T, J: Call<T>>(
     requires seat { HasOneName token.old.me }
     requires phase { token.old.me.0.phase ≡ Some (TurnOut place.ticket) }
     ensures same { token.new.table_id ≡ token.old.table_id }
-    ensures told { Named token.old.me (λ n. TurnedOut words.now.table_id.slots J.seats n place.ticket token.old.me result token.new.me) }
+    ensures told { Named token.old.me
+        (λ n. TurnedOut words.now.table_id.slots J.seats n place.ticket token.old.me result token.new.me) }
 {
     words.load::<TurnOutPlay<J>>(token, place.cell + TURNS)
 }
@@ -115,7 +119,8 @@ pub(crate) fn set_free<T, J: Call<T>>(
     requires phase { token.old.me.0.phase ≡ Some (LoadItem place.ticket) }
     requires slot { (others : List (ℕ × Option T)) × (token.old.me.1 ≡ (place.cell, None) ∷ others) }
     ensures same { token.new.table_id ≡ token.old.table_id }
-    ensures told { Named token.old.me (λ n. FreedCell words.now.table_id.slots J.seats n place.ticket token.old.me token.new.me) }
+    ensures told { Named token.old.me
+        (λ n. FreedCell words.now.table_id.slots J.seats n place.ticket token.old.me token.new.me) }
 {
     words.store::<SetFreePlay<J>>(token, place.cell + TURNS, 2 * place.round + 2);
 }

@@ -47,10 +47,11 @@ pub(crate) fn test_up<T, J: Call<T>>(
     requires item { J.item ≡ Some _item.now }
     requires phase { token.old.me.0.phase ≡ Some Idle }
     ensures same { token.new.table_id ≡ token.old.table_id }
-    ensures told { Named token.old.me (λ n. TestedUp words.now.table_id.slots J.seats n _item.now result token.old.me token.new.me) }
+    ensures told { Named token.old.me
+        (λ n. TestedUp words.now.table_id.slots J.seats n _item.now result token.old.me token.new.me) }
 {
     let found = words.load::<TestUpPlay<J>>(token, UPPER);
-    counts.upper.found(found);
+    counts.found_upper(found);
     read_upper(found, size)
 }
 
@@ -125,7 +126,8 @@ pub(crate) fn set_full<T, J: Call<T>>(
     requires phase { (x : T) × (token.old.me.0.phase ≡ Some (StoreItem place.ticket x))
         × ((others : List (ℕ × Option T)) × (token.old.me.1 ≡ (place.cell, Some x) ∷ others)) }
     ensures same { token.new.table_id ≡ token.old.table_id }
-    ensures told { Named token.old.me (λ n. FilledCell words.now.table_id.slots J.seats n place.ticket token.old.me token.new.me) }
+    ensures told { Named token.old.me
+        (λ n. FilledCell words.now.table_id.slots J.seats n place.ticket token.old.me token.new.me) }
 {
     words.store::<SetFullPlay<J>>(token, place.cell + TURNS, 2 * place.round + 1);
 }

@@ -9,10 +9,8 @@ ghost use Rattle.fak_text.specs.HistoryText.{history_of, kind_named, is_complete
 use crate::fault::{Field, TextFault};
 use crate::history::History;
 use crate::names::{kind_name, number};
-use crate::reading::values::{
-    count, elements_at_key, input_of, nth_number, nth_text, number_at_key,
-};
-use fak_model::{Kind, Mark};
+use crate::reading::values::{count, elements_of_key, input_in, number_at, number_of_key, text_at};
+use fak_model::{Kind, LARGEST_SIZE, Mark};
 use serde_json::Value;
 use std::alloc::Global;
 
@@ -24,7 +22,7 @@ const LAST_SEAT: u64 = 63;
 
 /// The kind of this name, with this number where it bears one.
 #[tactic(auto, unfolding(crate::specs::HistoryText::kind_named))]
-fn kind_of_name(name: &str, n: u64) -> Option<Kind<u64>>
+fn kind_named(name: &str, n: u64) -> Option<Kind<u64>>
     ensures { result ≡ kind_named name.now n }
 {
     let kinds = [
@@ -61,14 +59,14 @@ fn has_its_elements(borne: Option<u64>, size: usize, number: Option<u64>) -> boo
 
 /// The mark of this index.
 #[tactic(auto, unfolding(crate::specs::HistoryText::mark_from))]
-fn mark_of(index: u64, value: &Value) -> Result<Mark<u64>, TextFault>
+fn mark_from(index: u64, value: &Value) -> Result<Mark<u64>, TextFault>
     ensures { Gives (λ m. m) result (mark_from index (view value.now)) }
 {
     let items = value.as_array().ok_or(FAULT)?;
-    let seat = nth_number(value, 0).ok_or(FAULT)?;
-    let name = nth_text(value, 1).ok_or(FAULT)?;
-    let third = nth_number(value, 2);
-    let kind = kind_of_name(name, third.unwrap_or(0)).ok_or(TextFault::UnknownOp(index))?;
+    let seat = number_at(value, 0).ok_or(FAULT)?;
+    let name = text_at(value, 1).ok_or(FAULT)?;
+    let third = number_at(value, 2);
+    let kind = kind_named(name, third.unwrap_or(0)).ok_or(TextFault::UnknownOp(index))?;
     let complete = has_its_elements(number(kind), count(items), third);
     if seat <= LAST_SEAT && complete {
         Ok(Mark { seat, kind })
@@ -78,23 +76,23 @@ fn mark_of(index: u64, value: &Value) -> Result<Mark<u64>, TextFault>
 }
 
 /// The marks of an array, in order.
-fn marks_of(alloc: Global, values: &[Value]) -> Result<Vec<Mark<u64>>, TextFault>
+fn marks_from(alloc: Global, values: &[Value]) -> Result<Vec<Mark<u64>>, TextFault>
     ensures { Gives (λ v. v.items) result (each_from mark_from 0 (items_view values.now)) }
 {
     let mut marks = Vec::new(alloc);
     for (i, value) in values.iter().enumerate() {
-        marks.push(mark_of(i as u64, value)?)?;
+        marks.push(mark_from(i as u64, value)?)?;
     }
     Ok(marks)
 }
 
 #[tactic(auto, unfolding(crate::specs::HistoryText::history_from))]
-fn history_of_object(alloc: Global, value: &Value) -> Result<History, TextFault>
+fn history_from(alloc: Global, value: &Value) -> Result<History, TextFault>
     ensures { Gives history_of result (history_from (view value.now)) }
 {
-    let size = number_at_key(value, Field::Size, 1, 4_096)?;
-    let values = elements_at_key(value, Field::Marks, MOST_MARKS)?;
-    let marks = marks_of(alloc, values)?;
+    let size = number_of_key(value, Field::Size, 1, LARGEST_SIZE)?;
+    let values = elements_of_key(value, Field::Marks, MOST_MARKS)?;
+    let marks = marks_from(alloc, values)?;
     Ok(History { size, marks })
 }
 
@@ -108,6 +106,6 @@ pub fn read_history(alloc: Global, bytes: &[u8]) -> Result<History, TextFault>
     ensures range { IfOk result (λ history. IsHistoryInRange (history_of history)) }
     ensures long { RefusesLong bytes.now result }
 {
-    let value = input_of(alloc, bytes)?;
-    history_of_object(alloc, &value)
+    let value = input_in(alloc, bytes)?;
+    history_from(alloc, &value)
 }

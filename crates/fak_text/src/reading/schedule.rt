@@ -8,10 +8,12 @@ ghost use Rattle.fak_text.specs.ScheduleText.{schedule_of, room_op, queue_op, op
 
 use crate::fault::{Field, TextFault};
 use crate::reading::values::{
-    count, elements_at_key, input_of, nth_number, nth_text, number_at_key, value_at_key, within,
+    count, elements_of_key, input_in, number_at, number_of_key, number_within, text_at,
+    value_of_key,
 };
 use crate::schedule::{Act, Event, Object, Schedule};
 use fak_core::{QueueCall, RoomCall};
+use fak_model::{LARGEST_BOUND, LARGEST_SIZE, MOST_SEATS};
 use serde_json::Value;
 use std::alloc::Global;
 
@@ -70,14 +72,14 @@ fn op_of(object: Object, name: &str) -> Option<Op>
 }
 
 /// An event of two elements.
-fn plain(act: Act, size: usize) -> Result<Act, TextFault>
+fn without_number(act: Act, size: usize) -> Result<Act, TextFault>
     ensures { Gives (λ a. a) result (without_number act size) }
 {
     if size == 2 { Ok(act) } else { Err(FAULT) }
 }
 
 /// The third of three elements.
-fn third_number(size: usize, number: Option<u64>) -> Result<u64, TextFault>
+fn third(size: usize, number: Option<u64>) -> Result<u64, TextFault>
     ensures { Gives (λ n. n) result (third size number) }
 {
     if size == 3 {
@@ -88,16 +90,11 @@ fn third_number(size: usize, number: Option<u64>) -> Result<u64, TextFault>
 }
 
 /// The third of three elements, from `low` to `high`.
-fn third_number_within(
-    low: u64,
-    high: u64,
-    size: usize,
-    number: Option<u64>,
-) -> Result<u64, TextFault>
+fn third_within(low: u64, high: u64, size: usize, number: Option<u64>) -> Result<u64, TextFault>
     ensures { Gives (λ n. n) result (third_within low high size number) }
 {
     if size == 3 {
-        within(Field::Events, low, high, number)
+        number_within(Field::Events, low, high, number)
     } else {
         Err(FAULT)
     }
@@ -105,88 +102,88 @@ fn third_number_within(
 
 /// The number of steps, 1 where there is none.
 #[tactic(auto, unfolding(crate::specs::ScheduleText::steps_act))]
-fn steps(size: usize, number: Option<u64>) -> Result<Act, TextFault>
+fn steps_act(size: usize, number: Option<u64>) -> Result<Act, TextFault>
     ensures { Gives (λ a. a) result (steps_act size number) }
 {
     if size == 2 {
         Ok(Act::Steps(1))
     } else {
-        Ok(Act::Steps(third_number_within(1, MOST_STEPS, size, number)?))
+        Ok(Act::Steps(third_within(1, MOST_STEPS, size, number)?))
     }
 }
 
 /// What the seat does, where the event has this many elements and this third one.
-fn act_of(op: Op, size: usize, number: Option<u64>) -> Result<Act, TextFault>
+fn act_from(op: Op, size: usize, number: Option<u64>) -> Result<Act, TextFault>
     ensures { Gives (λ a. a) result (act_from op size number) }
 {
     match op {
-        Op::Step => steps(size, number),
-        Op::Tir => Ok(Act::Room(RoomCall::Tir(third_number_within(1, MOST_AMOUNT, size, number)?))),
-        Op::Release => Ok(Act::Room(RoomCall::Release(third_number_within(
+        Op::Step => steps_act(size, number),
+        Op::Tir => Ok(Act::Room(RoomCall::Tir(third_within(1, MOST_AMOUNT, size, number)?))),
+        Op::Release => Ok(Act::Room(RoomCall::Release(third_within(
             1,
             MOST_AMOUNT,
             size,
             number,
         )?))),
-        Op::Insert => Ok(Act::Queue(QueueCall::Insert(third_number(size, number)?))),
-        Op::Delete => plain(Act::Queue(QueueCall::Delete), size),
-        Op::Shut => plain(Act::Queue(QueueCall::Shut), size),
+        Op::Insert => Ok(Act::Queue(QueueCall::Insert(third(size, number)?))),
+        Op::Delete => without_number(Act::Queue(QueueCall::Delete), size),
+        Op::Shut => without_number(Act::Queue(QueueCall::Shut), size),
     }
 }
 
 /// The event of this index.
 #[tactic(auto, unfolding(crate::specs::ScheduleText::event_from))]
-fn event_of(object: Object, index: u64, value: &Value) -> Result<Event, TextFault>
+fn event_from(object: Object, index: u64, value: &Value) -> Result<Event, TextFault>
     ensures { Gives (λ e. e) result (event_from object index (view value.now)) }
 {
     let items = value.as_array().ok_or(FAULT)?;
-    let seat = nth_number(value, 0).ok_or(FAULT)?;
-    let name = nth_text(value, 1).ok_or(FAULT)?;
+    let seat = number_at(value, 0).ok_or(FAULT)?;
+    let name = text_at(value, 1).ok_or(FAULT)?;
     let op = op_of(object, name).ok_or(TextFault::UnknownOp(index))?;
-    let act = act_of(op, count(items), nth_number(value, 2))?;
+    let act = act_from(op, count(items), number_at(value, 2))?;
     Ok(Event { seat, act })
 }
 
 /// The events of an array, in order.
-fn events_of(alloc: Global, object: Object, values: &[Value]) -> Result<Vec<Event>, TextFault>
+fn events_from(alloc: Global, object: Object, values: &[Value]) -> Result<Vec<Event>, TextFault>
     ensures { Gives (λ v. v.items) result (each_from (event_from object) 0 (items_view values.now)) }
 {
     let mut events = Vec::new(alloc);
     for (i, value) in values.iter().enumerate() {
-        events.push(event_of(object, i as u64, value)?)?;
+        events.push(event_from(object, i as u64, value)?)?;
     }
     Ok(events)
 }
 
 /// The object of this name, with its bound or size.
 #[tactic(auto, unfolding(crate::specs::ScheduleText::object_named))]
-fn named_object(name: &str, value: &Value) -> Result<Object, TextFault>
+fn object_named(name: &str, value: &Value) -> Result<Object, TextFault>
     ensures { Gives (λ o. o) result (object_named name.now (view value.now)) }
 {
     match name {
-        "room" => Ok(Object::Room(number_at_key(value, Field::Bound, 0, 4_294_967_296)?)),
-        "queue" => Ok(Object::Queue(number_at_key(value, Field::Size, 1, 4_096)?)),
+        "room" => Ok(Object::Room(number_of_key(value, Field::Bound, 0, LARGEST_BOUND)?)),
+        "queue" => Ok(Object::Queue(number_of_key(value, Field::Size, 1, LARGEST_SIZE)?)),
         _ => Err(TextFault::Range(Field::Object)),
     }
 }
 
 #[tactic(auto, unfolding(crate::specs::ScheduleText::object_from))]
-fn object_of(value: &Value) -> Result<Object, TextFault>
+fn object_from(value: &Value) -> Result<Object, TextFault>
     ensures { Gives (λ o. o) result (object_from (view value.now)) }
 {
-    let found = value_at_key(value, Field::Object)?;
+    let found = value_of_key(value, Field::Object)?;
     let name = found.as_str().ok_or(TextFault::Range(Field::Object))?;
-    named_object(name, value)
+    object_named(name, value)
 }
 
 #[tactic(auto, unfolding(crate::specs::ScheduleText::schedule_from))]
-fn schedule_of_object(alloc: Global, value: &Value) -> Result<Schedule, TextFault>
+fn schedule_from(alloc: Global, value: &Value) -> Result<Schedule, TextFault>
     ensures { Gives schedule_of result (schedule_from (view value.now)) }
 {
-    let object = object_of(value)?;
-    let seats = number_at_key(value, Field::Seats, 1, 64)?;
-    let values = elements_at_key(value, Field::Events, MOST_EVENTS)?;
-    let events = events_of(alloc, object, values)?;
+    let object = object_from(value)?;
+    let seats = number_of_key(value, Field::Seats, 1, MOST_SEATS)?;
+    let values = elements_of_key(value, Field::Events, MOST_EVENTS)?;
+    let events = events_from(alloc, object, values)?;
     Ok(Schedule {
         object,
         seats,
@@ -204,6 +201,6 @@ pub fn read_schedule(alloc: Global, bytes: &[u8]) -> Result<Schedule, TextFault>
     ensures range { IfOk result (λ schedule. IsScheduleInRange (schedule_of schedule)) }
     ensures long { RefusesLong bytes.now result }
 {
-    let value = input_of(alloc, bytes)?;
-    schedule_of_object(alloc, &value)
+    let value = input_in(alloc, bytes)?;
+    schedule_from(alloc, &value)
 }

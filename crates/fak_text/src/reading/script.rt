@@ -8,8 +8,10 @@ ghost use Rattle.fak_text.specs.ScriptText.{number_from, numbers_of_key, stint_o
 ghost use Rattle.fak_text.specs.Values.{RefusesLong, each_from};
 
 use crate::fault::{Field, TextFault};
-use crate::reading::step::programs_at_key;
-use crate::reading::values::{below, elements_at_key, input_of, number_at_key, within};
+use crate::reading::step::programs_of_key;
+use crate::reading::values::{
+    elements_of_key, input_in, number_below, number_of_key, number_within,
+};
 use crate::script::Script;
 use fak_model::LONGEST_STINT;
 use serde_json::Value;
@@ -25,14 +27,14 @@ fn numbers(alloc: Global, values: &[Value], field: Field, bound: u64) -> Result<
 {
     let mut numbers = Vec::new(alloc);
     for (i, value) in values.iter().enumerate() {
-        numbers.push(below(field, bound, value.as_u64())?)?;
+        numbers.push(number_below(field, bound, value.as_u64())?)?;
     }
     Ok(numbers)
 }
 
 /// The array of a key, at most this many whole numbers below the bound.
 #[tactic(auto, unfolding(crate::specs::ScriptText::numbers_of_key))]
-fn numbers_at_key(
+fn numbers_of_key(
     alloc: Global,
     value: &Value,
     field: Field,
@@ -41,41 +43,41 @@ fn numbers_at_key(
 ) -> Result<Vec<u64>, TextFault>
     ensures { Gives (λ v. v.items) result (numbers_of_key field most bound (view value.now)) }
 {
-    let values = elements_at_key(value, field, most)?;
+    let values = elements_of_key(value, field, most)?;
     numbers(alloc, values, field, bound)
 }
 
 /// The stint, the greatest where the key is absent.
 #[tactic(auto, unfolding(crate::specs::ScriptText::stint_of_key))]
-fn stint_at_key(value: &Value) -> Result<u64, TextFault>
+fn stint_of_key(value: &Value) -> Result<u64, TextFault>
     ensures gives { Gives (λ n. n) result (stint_of_key (view value.now)) }
     ensures range { IfOk result (λ n. (1 ≤ n) × (n ≤ longest_stint)) }
 {
     match value.get(Field::Stint.name()) {
         None => Ok(LONGEST_STINT),
-        Some(found) => within(Field::Stint, 1, LONGEST_STINT, found.as_u64()),
+        Some(found) => number_within(Field::Stint, 1, LONGEST_STINT, found.as_u64()),
     }
 }
 
 #[tactic(auto, unfolding(crate::specs::ScriptText::script_from))]
-fn script_of_object(alloc: Global, value: &Value) -> Result<Script, TextFault>
+fn script_from(alloc: Global, value: &Value) -> Result<Script, TextFault>
     ensures { Gives (λ s. s) result (script_from (view value.now)) }
 {
-    let version = number_at_key(value, Field::Version, 1, 2)?;
-    let slots = number_at_key(value, Field::Slots, 1, 64)?;
-    let births = number_at_key(value, Field::Births, 0, 1_000)?;
-    let quantum = number_at_key(value, Field::Quantum, 1, 1_000)?;
-    let stint = stint_at_key(value)?;
-    let semaphores = numbers_at_key(
+    let version = number_of_key(value, Field::Version, 1, 2)?;
+    let slots = number_of_key(value, Field::Slots, 1, 64)?;
+    let births = number_of_key(value, Field::Births, 0, 1_000)?;
+    let quantum = number_of_key(value, Field::Quantum, 1, 1_000)?;
+    let stint = stint_of_key(value)?;
+    let semaphores = numbers_of_key(
         alloc,
         value,
         Field::Semaphores,
         MOST_SEMAPHORES,
         SEMAPHORE_BOUND,
     )?;
-    let files = number_at_key(value, Field::Files, 1, 16)?;
-    let programs = programs_at_key(alloc, value, version, semaphores.len() as u64)?;
-    let start = numbers_at_key(
+    let files = number_of_key(value, Field::Files, 1, 16)?;
+    let programs = programs_of_key(alloc, value, version, semaphores.len() as u64)?;
+    let start = numbers_of_key(
         alloc,
         value,
         Field::Start,
@@ -104,6 +106,6 @@ pub fn read_script(alloc: Global, bytes: &[u8]) -> Result<Script, TextFault>
     ensures gives { Gives (λ s. s) result (script_in bytes.now) }
     ensures long { RefusesLong bytes.now result }
 {
-    let value = input_of(alloc, bytes)?;
-    script_of_object(alloc, &value)
+    let value = input_in(alloc, bytes)?;
+    script_from(alloc, &value)
 }

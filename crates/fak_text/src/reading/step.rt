@@ -10,7 +10,7 @@ ghost use Rattle.fak_text.specs.Views.{step_of, steps_view, programs_of};
 
 use crate::fault::{Field, TextFault};
 use crate::reading::values::{
-    below, count, elements, elements_at_key, nth_number, nth_text, within,
+    count, elements_of_key, elements_within, number_at, number_below, number_within, text_at,
 };
 use crate::steps::{Step, StepLimits};
 use serde_json::Value;
@@ -94,7 +94,7 @@ fn may_be_said(text: &str) -> bool
 }
 
 /// The text that is said, the second of two elements.
-fn say_argument(size: usize, text: Option<&str>) -> Result<&str, TextFault>
+fn said_text(size: usize, text: Option<&str>) -> Result<&str, TextFault>
     ensures { Gives (λ t. t.now) result (said_text size (option_map (λ t. t.now) text.entry)) }
 {
     match text {
@@ -104,29 +104,29 @@ fn say_argument(size: usize, text: Option<&str>) -> Result<&str, TextFault>
 }
 
 /// A step of one element.
-fn lone(step: Step, size: usize) -> Result<Step, TextFault>
+fn lone_step(step: Step, size: usize) -> Result<Step, TextFault>
     ensures { Gives step_of result (lone_step (step_of step) size) }
 {
     if size == 1 { Ok(step) } else { Err(FAULT) }
 }
 
 /// The second of two elements, an inode.
-fn inode(size: usize, number: Option<u64>) -> Result<u64, TextFault>
+fn inode_argument(size: usize, number: Option<u64>) -> Result<u64, TextFault>
     ensures { Gives (λ n. n) result (inode_argument size number) }
 {
     if size == 2 {
-        within(Field::Programs, 1, MOST_INODE, number)
+        number_within(Field::Programs, 1, MOST_INODE, number)
     } else {
         Err(FAULT)
     }
 }
 
 /// The second of two elements, a number below the bound.
-fn number_below(size: usize, bound: u64, number: Option<u64>) -> Result<u64, TextFault>
+fn argument_below(size: usize, bound: u64, number: Option<u64>) -> Result<u64, TextFault>
     ensures { Gives (λ n. n) result (argument_below size bound number) }
 {
     if size == 2 {
-        below(Field::Programs, bound, number)
+        number_below(Field::Programs, bound, number)
     } else {
         Err(FAULT)
     }
@@ -137,12 +137,12 @@ fn say(alloc: Global, size: usize, text: Option<&str>) -> Result<Step, TextFault
     ensures { Gives step_of result (step_with (record { version = 0; semaphores = 0; programs = 0 }) StepOp.Say size
         (option_map (λ t. t.now) text.entry) Option.None) }
 {
-    let text = say_argument(size, text)?;
+    let text = said_text(size, text)?;
     Ok(Step::Say(String::from_str(alloc, text)?))
 }
 
 /// The step of an operation, where it has this many elements, and this text or this number for its second.
-fn step_of_op(
+fn step_with(
     alloc: Global,
     limits: StepLimits,
     op: StepOp,
@@ -154,32 +154,37 @@ fn step_of_op(
 {
     match op {
         StepOp::Say => say(alloc, size, text),
-        StepOp::Yield => lone(Step::Yield, size),
-        StepOp::Down => Ok(Step::Down(number_below(size, limits.semaphores, number)?)),
-        StepOp::Up => Ok(Step::Up(number_below(size, limits.semaphores, number)?)),
-        StepOp::OpenFile => Ok(Step::OpenFile(inode(size, number)?)),
-        StepOp::CloseFile => Ok(Step::CloseFile(inode(size, number)?)),
-        StepOp::Stat => Ok(Step::Stat(inode(size, number)?)),
-        StepOp::Spawn => Ok(Step::Spawn(number_below(size, limits.programs, number)?)),
-        StepOp::Shutdown => lone(Step::Shutdown, size),
+        StepOp::Yield => lone_step(Step::Yield, size),
+        StepOp::Down => Ok(Step::Down(argument_below(size, limits.semaphores, number)?)),
+        StepOp::Up => Ok(Step::Up(argument_below(size, limits.semaphores, number)?)),
+        StepOp::OpenFile => Ok(Step::OpenFile(inode_argument(size, number)?)),
+        StepOp::CloseFile => Ok(Step::CloseFile(inode_argument(size, number)?)),
+        StepOp::Stat => Ok(Step::Stat(inode_argument(size, number)?)),
+        StepOp::Spawn => Ok(Step::Spawn(argument_below(size, limits.programs, number)?)),
+        StepOp::Shutdown => lone_step(Step::Shutdown, size),
     }
 }
 
 /// The step of this index among the steps of all programs.
 #[tactic(auto, unfolding(crate::specs::StepText::step_from))]
-fn step(alloc: Global, limits: StepLimits, index: u64, value: &Value) -> Result<Step, TextFault>
+fn step_from(
+    alloc: Global,
+    limits: StepLimits,
+    index: u64,
+    value: &Value,
+) -> Result<Step, TextFault>
     ensures { Gives step_of result (step_from limits index (view value.now)) }
 {
     let items = value.as_array().ok_or(FAULT)?;
-    let name = nth_text(value, 0).ok_or(FAULT)?;
+    let name = text_at(value, 0).ok_or(FAULT)?;
     let op = op_of(limits.version, name).ok_or(TextFault::UnknownOp(index))?;
-    let text = nth_text(value, 1);
-    let number = nth_number(value, 1);
-    step_of_op(alloc, limits, op, count(items), text, number)
+    let text = text_at(value, 1);
+    let number = number_at(value, 1);
+    step_with(alloc, limits, op, count(items), text, number)
 }
 
 /// The steps of one program, whose first has this index.
-fn steps(
+fn steps_from(
     alloc: Global,
     limits: StepLimits,
     first: u64,
@@ -187,13 +192,14 @@ fn steps(
 ) -> Result<Vec<Step>, TextFault>
     requires first { first ≤ 64000 }
     requires few { length values.now ≤ 1000 }
-    ensures gives { Gives (λ v. steps_view v.items) result (each_from (step_from limits) first (items_view values.now)) }
+    ensures gives { Gives (λ v. steps_view v.items) result
+        (each_from (step_from limits) first (items_view values.now)) }
     ensures few { IfOk result (λ v. vec_len v ≤ 1000) }
 {
     let mut steps = Vec::new(alloc);
     let mut index = first;
     for value in values {
-        let step = step(alloc, limits, index, value)?;
+        let step = step_from(alloc, limits, index, value)?;
         steps.push(step)?;
         index += 1;
     }
@@ -202,7 +208,7 @@ fn steps(
 
 /// The program whose first step has this index.
 #[tactic(auto, unfolding(crate::specs::StepText::program_from))]
-fn program(
+fn program_from(
     alloc: Global,
     limits: StepLimits,
     first: u64,
@@ -212,12 +218,12 @@ fn program(
     ensures gives { Gives (λ v. steps_view v.items) result (program_from limits first (view value.now)) }
     ensures few { IfOk result (λ v. vec_len v ≤ 1000) }
 {
-    let values = elements(value, Field::Programs, MOST_STEPS)?;
-    steps(alloc, limits, first, values)
+    let values = elements_within(value, Field::Programs, MOST_STEPS)?;
+    steps_from(alloc, limits, first, values)
 }
 
 /// The programs of an array.
-fn programs(
+fn programs_from(
     alloc: Global,
     limits: StepLimits,
     values: &[Value],
@@ -228,7 +234,7 @@ fn programs(
     let mut programs = Vec::new(alloc);
     let mut index = 0u64;
     for value in values {
-        let program = program(alloc, limits, index, value)?;
+        let program = program_from(alloc, limits, index, value)?;
         index += program.len() as u64;
         programs.push(program)?;
     }
@@ -237,7 +243,7 @@ fn programs(
 
 /// The programs of a script of this version with this many semaphores.
 #[tactic(auto, unfolding(crate::specs::StepText::programs_of_key))]
-pub(crate) fn programs_at_key(
+pub(crate) fn programs_of_key(
     alloc: Global,
     value: &Value,
     version: u64,
@@ -245,11 +251,11 @@ pub(crate) fn programs_at_key(
 ) -> Result<Vec<Vec<Step>>, TextFault>
     ensures { Gives (λ v. programs_of v.items) result (programs_of_key version semaphores (view value.now)) }
 {
-    let values = elements_at_key(value, Field::Programs, MOST_PROGRAMS)?;
+    let values = elements_of_key(value, Field::Programs, MOST_PROGRAMS)?;
     let limits = StepLimits {
         version,
         semaphores,
         programs: count(values) as u64,
     };
-    programs(alloc, limits, values)
+    programs_from(alloc, limits, values)
 }

@@ -10,11 +10,12 @@ use crate::fault::{Field, TextFault};
 use serde_json::Value;
 use std::alloc::Global;
 
-const MOST_BYTES: usize = 1_048_576;
+/// An input has at most this many bytes.
+pub const LARGEST_INPUT: usize = 1_048_576;
 
 /// The JSON value that the bytes are.
 #[tactic(auto, using(crate::proofs::Json::json_in_read, crate::proofs::Json::json_in_refused))]
-fn json_of(alloc: Global, bytes: &[u8]) -> Result<Value, TextFault>
+fn json_in(alloc: Global, bytes: &[u8]) -> Result<Value, TextFault>
     ensures { Gives view result (json_in bytes.now) }
 {
     match Value::from_slice(alloc, bytes) {
@@ -31,14 +32,14 @@ fn json_of(alloc: Global, bytes: &[u8]) -> Result<Value, TextFault>
 
 /// The object that an input is. One that is too long is refused before anything grows.
 #[tactic(auto, unfolding(crate::specs::Values::input_in))]
-pub(crate) fn input_of(alloc: Global, bytes: &[u8]) -> Result<Value, TextFault>
+pub(crate) fn input_in(alloc: Global, bytes: &[u8]) -> Result<Value, TextFault>
     ensures gives { Gives view result (input_in bytes.now) }
     ensures long { RefusesLong bytes.now result }
 {
-    if bytes.len() > MOST_BYTES {
+    if bytes.len() > LARGEST_INPUT {
         return Err(TextFault::Range(Field::Input));
     }
-    let value = json_of(alloc, bytes)?;
+    let value = json_in(alloc, bytes)?;
     if value.is_object() {
         Ok(value)
     } else {
@@ -47,7 +48,7 @@ pub(crate) fn input_of(alloc: Global, bytes: &[u8]) -> Result<Value, TextFault>
 }
 
 /// The number, where it is from `low` to `high`.
-pub(crate) fn within(
+pub(crate) fn number_within(
     field: Field,
     low: u64,
     high: u64,
@@ -63,7 +64,7 @@ pub(crate) fn within(
 }
 
 /// The number, where it is below the bound.
-pub(crate) fn below(field: Field, bound: u64, number: Option<u64>) -> Result<u64, TextFault>
+pub(crate) fn number_below(field: Field, bound: u64, number: Option<u64>) -> Result<u64, TextFault>
     ensures gives { Gives (λ n. n) result (number_below field bound number) }
     ensures range { IfOk result (λ n. n < bound) }
 {
@@ -74,7 +75,7 @@ pub(crate) fn below(field: Field, bound: u64, number: Option<u64>) -> Result<u64
 }
 
 /// The whole number at an index of an array.
-pub(crate) fn nth_number(value: &Value, index: usize) -> Option<u64>
+pub fn number_at(value: &Value, index: usize) -> Option<u64>
     ensures { result ≡ number_at index (view value.now) }
 {
     match value.get(index) {
@@ -84,7 +85,7 @@ pub(crate) fn nth_number(value: &Value, index: usize) -> Option<u64>
 }
 
 /// The text at an index of an array.
-pub(crate) fn nth_text(value: &Value, index: usize) -> Option<&str>
+pub fn text_at(value: &Value, index: usize) -> Option<&str>
     ensures { option_map (λ t. t.now) result ≡ text_at index (view value.now) }
 {
     match value.get(index) {
@@ -94,7 +95,7 @@ pub(crate) fn nth_text(value: &Value, index: usize) -> Option<&str>
 }
 
 /// The value of a key.
-pub(crate) fn value_at_key(value: &Value, field: Field) -> Result<&Value, TextFault>
+pub(crate) fn value_of_key(value: &Value, field: Field) -> Result<&Value, TextFault>
     ensures { Gives (λ v. view v.now) result (value_of_key field (view value.now)) }
 {
     match value.get(field.name()) {
@@ -105,7 +106,7 @@ pub(crate) fn value_at_key(value: &Value, field: Field) -> Result<&Value, TextFa
 
 /// The whole number of a key, from `low` to `high`.
 #[tactic(auto, unfolding(crate::specs::Values::number_of_key))]
-pub(crate) fn number_at_key(
+pub(crate) fn number_of_key(
     value: &Value,
     field: Field,
     low: u64,
@@ -114,8 +115,8 @@ pub(crate) fn number_at_key(
     ensures gives { Gives (λ n. n) result (number_of_key field low high (view value.now)) }
     ensures range { IfOk result (λ n. (low ≤ n) × (n ≤ high)) }
 {
-    let found = value_at_key(value, field)?;
-    within(field, low, high, found.as_u64())
+    let found = value_of_key(value, field)?;
+    number_within(field, low, high, found.as_u64())
 }
 
 /// How many elements an array has.
@@ -129,7 +130,11 @@ pub(crate) fn count(values: &[Value]) -> usize
 
 /// The elements of an array that has at most this many.
 #[tactic(auto, unfolding(crate::specs::Values::elements_within))]
-pub(crate) fn elements(value: &Value, field: Field, most: usize) -> Result<&[Value], TextFault>
+pub(crate) fn elements_within(
+    value: &Value,
+    field: Field,
+    most: usize,
+) -> Result<&[Value], TextFault>
     ensures gives { Gives (λ vs. items_view vs.now) result (elements_within field most (view value.now)) }
     ensures few { IfOk result (λ vs. length vs.now ≤ most) }
 {
@@ -144,7 +149,7 @@ pub(crate) fn elements(value: &Value, field: Field, most: usize) -> Result<&[Val
 
 /// The elements of the array of a key, at most this many.
 #[tactic(auto, unfolding(crate::specs::Values::elements_of_key))]
-pub(crate) fn elements_at_key(
+pub(crate) fn elements_of_key(
     value: &Value,
     field: Field,
     most: usize,
@@ -152,6 +157,6 @@ pub(crate) fn elements_at_key(
     ensures gives { Gives (λ vs. items_view vs.now) result (elements_of_key field most (view value.now)) }
     ensures few { IfOk result (λ vs. length vs.now ≤ most) }
 {
-    let found = value_at_key(value, field)?;
-    elements(found, field, most)
+    let found = value_of_key(value, field)?;
+    elements_within(found, field, most)
 }

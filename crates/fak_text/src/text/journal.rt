@@ -60,7 +60,8 @@ pub fn append_name(text: &mut String, name: &[u64]) -> Result<(), AllocError>
 
 /// Appends the text of a note of the process of this name.
 fn append_note(text: &mut String, name: &[u64], note: &Note) -> Result<(), AllocError>
-    ensures { OnOk result (string_bytes text.new ≡ string_bytes text.old ++ text_of_note (λ j. child_prefix name.now ++ decimal j)
+    ensures { OnOk result (string_bytes text.new ≡ string_bytes text.old ++ text_of_note
+        (λ j. child_prefix name.now ++ decimal j)
         (note_of note.now)) }
 {
     match note {
@@ -97,7 +98,8 @@ fn append_note(text: &mut String, name: &[u64], note: &Note) -> Result<(), Alloc
 /// Appends the text of the journal of the process of this name: a line for each note, which begins with two spaces and
 /// ends with a newline. A child's name is the process's name and the child's number.
 pub fn append_journal(text: &mut String, name: &[u64], notes: &[Note]) -> Result<(), AllocError>
-    ensures { OnOk result (string_bytes text.new ≡ string_bytes text.old ++ text_of_journal name.now (map note_of notes.now)) }
+    ensures { OnOk result (string_bytes text.new ≡ string_bytes text.old ++ text_of_journal name.now
+        (map note_of notes.now)) }
 {
     for note in notes {
         text.push_str("  ")?;

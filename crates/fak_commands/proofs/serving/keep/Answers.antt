@@ -1,7 +1,7 @@
 use Rattle.std.proofs.Common.{◌∙◌, ◌-◌, rules}
-use Rattle.fak_commands.specs.Kept.{most_kept}
 use Rattle.fak_commands.proofs.Input.{front_grows_by}
 use Rattle.fak_commands.proofs.serving.keep.Goals as goal
+use Rattle.fak_text.specs.Values.{most_kept}
 
 pub returns-clause-ok : goal.returns-clause-ok
 returns-clause-ok c = λ input e.

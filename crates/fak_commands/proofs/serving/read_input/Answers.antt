@@ -1,7 +1,7 @@
 use Rattle.std.proofs.Common.{◌++◌, take, rules}
-use Rattle.fak_commands.specs.Kept.{most_kept}
 use Rattle.fak_commands.proofs.Input.{consumes_more, at_last, front_is_few}
 use Rattle.fak_commands.proofs.serving.read_input.Goals as goal
+use Rattle.fak_text.specs.Values.{most_kept}
 
 pub returns-in-Ok-eq0-clause-ok : goal.returns-in-Ok-eq0-clause-ok
 returns-in-Ok-eq0-clause-ok g c =

@@ -1,7 +1,7 @@
 use Rattle.std.proofs.Common.{◌≡◌, ℕ, List, take}
 use Rattle.std.specs.Io.KnownBytes.{Consumes}
-use Rattle.fak_commands.specs.Kept.{most_kept}
 use Rattle.fak_commands.proofs.serving.read_input.Given as goal
+use Rattle.fak_text.specs.Values.{most_kept}
 
 -- what was consumed so far, and that its front is kept
 abbrev pub invariant-loop : goal.invariant-loop

@@ -1,34 +1,34 @@
 use Rattle.std.proofs.Common.{length, ap, sym, arith}
 use Rattle.fak_text.specs.Script.{ScriptOf}
-use Rattle.fak_process.specs.Told.{told_report}
-use Rattle.fak_kernel.proofs.Reporting.{whole_each, whole_files, whole_free, whole_ready, started_have_rows, run_reports_with}
+use Rattle.fak_run.specs.Told.{told_report}
+use Rattle.fak_kernel.proofs.Reporting.{whole_each, whole_names, started_have_rows, run_reports_with}
 use Rattle.fak_kernel.proofs.ReportingAlone.{alone_reports}
-use Rattle.fak_process.proofs.Told.{length-told_rows}
+use Rattle.fak_run.proofs.Told.{length-told_rows}
 use Rattle.fak_kernel.proofs.ending.report_of_run.Goals as goal
 
 pub close-requires-clause-semaphores : goal.close-requires-clause-semaphores
-close-requires-clause-semaphores g c = let all = c.in-Ok.ensures.gathered in whole_each all.are c.requires.seated all.names
+close-requires-clause-semaphores g c = let all = c.in_ok-all.ensures.gathered in whole_each all.are c.requires.seated all.names
 
 pub close-requires-clause-ready : goal.close-requires-clause-ready
-close-requires-clause-ready g c = let all = c.in-Ok.ensures.gathered in whole_ready all.are c.requires.seated all.names
+close-requires-clause-ready g c = let all = c.in_ok-all.ensures.gathered in whole_names all.are.ready c.requires.seated.ready all.names.ready
 
 pub close-requires-clause-free : goal.close-requires-clause-free
-close-requires-clause-free g c = let all = c.in-Ok.ensures.gathered in whole_free all.are c.requires.seated all.names
+close-requires-clause-free g c = let all = c.in_ok-all.ensures.gathered in whole_names all.are.free c.requires.seated.free all.names.free
 
 pub close-requires-clause-files : goal.close-requires-clause-files
-close-requires-clause-files g c = let all = c.in-Ok.ensures.gathered in whole_files all.are c.requires.seated all.names
+close-requires-clause-files g c = let all = c.in_ok-all.ensures.gathered in whole_names all.are.files c.requires.seated.files all.names.files
 
 pub report_with-requires : goal.report_with-requires
 report_with-requires g c =
-    let rows = started_have_rows c.requires.made c.requires.seated c.in-Ok.ensures.gathered c.in-Ok-close.ensures.closed c.in_ok-rows.ensures.rows in
+    let rows = started_have_rows c.requires.made c.requires.seated c.in_ok-all.ensures.gathered c.in_ok-remains.ensures.closed c.in_ok-rows.ensures.rows in
     omega (arith, rows, length-told_rows g.K.Run.script c.in_ok-rows.rows.items, ap (λ (s : ScriptOf). length s.start) c.requires.script)
 
 pub returns-clause-general : goal.returns-clause-general
 returns-clause-general g c =
-    run_reports_with c.requires.made c.requires.seated c.in-Ok.ensures.gathered c.in-Ok-close.ensures.closed c.in_ok-rows.ensures.rows
-    c.requires.script (sym (length-told_rows g.K.Run.script c.in_ok-rows.rows.items)) c.requires.some c.in_ok-rows.ensures.sorted c.in-Ok-close.ensures.entries (ap (told_report g.K.Run.script) c.report_with.ensures)
+    run_reports_with c.requires.made c.requires.seated c.in_ok-all.ensures.gathered c.in_ok-remains.ensures.closed c.in_ok-rows.ensures.rows
+    c.requires.script (sym (length-told_rows g.K.Run.script c.in_ok-rows.rows.items)) c.requires.some c.in_ok-rows.ensures.sorted c.in_ok-remains.ensures.entries (ap (told_report g.K.Run.script) c.report_with.ensures)
 
 pub returns-clause-alone : goal.returns-clause-alone
 returns-clause-alone g c one reached d =
-    alone_reports c.requires.made c.requires.seated c.in-Ok.ensures.gathered c.in-Ok-close.ensures.closed (c.in-Ok.ensures.alone one d) c.in_ok-rows.ensures.rows
-    c.requires.script (sym (length-told_rows g.K.Run.script c.in_ok-rows.rows.items)) (reached d).0 (reached d).1 c.in_ok-rows.ensures.sorted c.in-Ok-close.ensures.entries (ap (told_report g.K.Run.script) c.report_with.ensures)
+    alone_reports c.requires.made c.requires.seated c.in_ok-all.ensures.gathered c.in_ok-remains.ensures.closed (c.in_ok-all.ensures.alone one d) c.in_ok-rows.ensures.rows
+    c.requires.script (sym (length-told_rows g.K.Run.script c.in_ok-rows.rows.items)) (reached d).0 (reached d).1 c.in_ok-rows.ensures.sorted c.in_ok-remains.ensures.entries (ap (told_report g.K.Run.script) c.report_with.ensures)

@@ -4,23 +4,23 @@ use Rattle.fak_kernel.proofs.run_threads.run_as.Goals as goal
 
 pub work_all-requires-clause-begun : goal.work_all-requires-clause-begun
 work_all-requires-clause-begun g c κs within i d low =
-    let opened = c.in-Ok.opened in
-    let long : length opened.processors.items ≡ c.args.processors = omega (arith, opened.processors.ok, c.in-Ok.ensures.len) in
-    begun_each c.args.processors opened.processors.items long (λ j e below. c.in-Ok.ensures.begun j e (omega (arith, below, opened.processors.ok))) c.in-Ok.ensures.alone i d (omega (arith, low, opened.processors.ok))
+    let opened = c.in_ok-opened.opened in
+    let long : length opened.processors.items ≡ c.args.processors = omega (arith, opened.processors.ok, c.in_ok-opened.ensures.len) in
+    begun_each c.args.processors opened.processors.items long (λ j e below. c.in_ok-opened.ensures.begun j e (omega (arith, below, opened.processors.ok))) c.in_ok-opened.ensures.alone i d (omega (arith, low, opened.processors.ok))
 
 pub report_of_run-requires-clause-seated : goal.report_of_run-requires-clause-seated
 report_of_run-requires-clause-seated g c =
-    let long : vec_len c.in-Ok-work_all.left ≡ c.args.processors = omega (arith, c.in-Ok-work_all.ensures.len, c.in-Ok.ensures.len) in
-    subst (λ (n : ℕ). AreSeated n c.in-Ok.opened.objects) (sym long) c.in-Ok.ensures.made.1
+    let long : vec_len c.in_ok-left.left ≡ c.args.processors = omega (arith, c.in_ok-left.ensures.len, c.in_ok-opened.ensures.len) in
+    subst (λ (n : ℕ). AreSeated n c.in_ok-opened.opened.objects) (sym long) c.in_ok-opened.ensures.made.1
 
 pub report_of_run-requires-clause-left : goal.report_of_run-requires-clause-left
 report_of_run-requires-clause-left g c i d low =
-    let left = c.in-Ok-work_all.left in
-    left_each left.items (λ j e below. c.in-Ok-work_all.ensures.left j e (omega (arith, below, left.ok))) i d (omega (arith, low, left.ok))
+    let left = c.in_ok-left.left in
+    left_each left.items (λ j e below. c.in_ok-left.ensures.left j e (omega (arith, below, left.ok))) i d (omega (arith, low, left.ok))
 
-pub returns-in-Ok-report_of_run-clause-alone : goal.returns-in-Ok-report_of_run-clause-alone
-returns-in-Ok-report_of_run-clause-alone g c one =
-    let left = c.in-Ok-work_all.left in
-    let long : length left.items ≡ c.args.processors = omega (arith, left.ok, c.in-Ok-work_all.ensures.len, c.in-Ok.ensures.len) in
-    c.in-Ok-report_of_run.ensures.alone (omega (arith, one, long, left.ok))
-    (left_alone left.items (λ j e below. c.in-Ok-work_all.ensures.left j e (omega (arith, below, left.ok))) long one) (fresh_processor c.in-Ok.opened.objects 0 0)
+pub returns-clause-alone : goal.returns-clause-alone
+returns-clause-alone g c one =
+    let left = c.in_ok-left.left in
+    let long : length left.items ≡ c.args.processors = omega (arith, left.ok, c.in_ok-left.ensures.len, c.in_ok-opened.ensures.len) in
+    c.report_of_run.ensures.alone (omega (arith, one, long, left.ok))
+    (left_alone left.items (λ j e below. c.in_ok-left.ensures.left j e (omega (arith, below, left.ok))) long one) (fresh_processor c.in_ok-opened.opened.objects 0 0)

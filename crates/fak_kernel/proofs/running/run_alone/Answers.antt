@@ -3,18 +3,18 @@ use Rattle.fak_kernel.proofs.running.run_alone.Goals as goal
 
 pub leave_alone-requires-clause-begun : goal.leave_alone-requires-clause-begun
 leave_alone-requires-clause-begun g c d = record {
-  between = c.in-Ok.ensures.begun 0 d (omega (arith, c.in-Ok.ensures.len));
-  alone = λ _. c.in-Ok.ensures.alone refl d;
+  between = c.in_ok-opened.ensures.begun 0 d (omega (arith, c.in_ok-opened.ensures.len));
+  alone = λ _. c.in_ok-opened.ensures.alone refl d;
 }
 
 pub report_of_run-requires-clause-left : goal.report_of_run-requires-clause-left
 report_of_run-requires-clause-left g c i d low =
-    let left = c.in-Ok-leave_alone.left in
-    let first : i ≡ 0 = omega (arith, low, c.in-Ok-leave_alone.ensures.one) in
-    let has = c.in-Ok-leave_alone.ensures.left d in
-    subst (λ k. IsLeftBy g.K.Run.script c.in-Ok.opened.objects k (get_or left.items k d)) (sym first) has.left
+    let left = c.in_ok-left.left in
+    let first : i ≡ 0 = omega (arith, low, c.in_ok-left.ensures.one) in
+    let has = c.in_ok-left.ensures.left d in
+    subst (λ k. IsLeftBy g.K.Run.script c.in_ok-opened.opened.objects k (get_or left.items k d)) (sym first) has.left
 
-pub returns-in-Ok-report_of_run-clause-report : goal.returns-in-Ok-report_of_run-clause-report
-returns-in-Ok-report_of_run-clause-report g c =
-    let has = c.in-Ok-leave_alone.ensures.left in
-    c.in-Ok-report_of_run.ensures.alone c.in-Ok-leave_alone.ensures.one (λ d. let h = has d in (h.alone refl, h.still refl)) (fresh_processor c.in-Ok.opened.objects 0 0)
+pub returns-clause-report : goal.returns-clause-report
+returns-clause-report g c =
+    let has = c.in_ok-left.ensures.left in
+    c.report_of_run.ensures.alone c.in_ok-left.ensures.one (λ d. let h = has d in (h.alone refl, h.still refl)) (fresh_processor c.in_ok-opened.opened.objects 0 0)

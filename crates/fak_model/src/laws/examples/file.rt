@@ -18,9 +18,11 @@ pub fn the_calls_of_a_file_table_are_judged()
     ensures give_again { Parts (IsFileHistory 2)
         (file_by 0 (Take 1) ∷ file_by 0 Give ∷ [])
         (file_by 0 (Take 1) ∷ file_by 0 Give ∷ []) (file_by 0 Give ∷ []) }
-    ensures take { Parts (IsFileHistory 2) (file_by 0 (Take 1) ∷ []) (file_by 1 (Take 1) ∷ []) (file_by 0 (Take 1) ∷ []) }
+    ensures take { Parts (IsFileHistory 2) (file_by 0 (Take 1) ∷ []) (file_by 1 (Take 1) ∷ [])
+        (file_by 0 (Take 1) ∷ []) }
     ensures no { Parts (IsFileHistory 2) (file_by 0 (Take 2) ∷ []) (file_by 1 (No 1) ∷ []) (file_by 0 (No 1) ∷ []) }
-    ensures set { Parts (IsFileHistory 0) [] (file_by 0 (Take 0) ∷ file_by 0 (Set 0 Inode 7) ∷ []) (file_by 0 (Set 0 Inode 7) ∷ []) }
+    ensures set { Parts (IsFileHistory 0) [] (file_by 0 (Take 0) ∷ file_by 0 (Set 0 Inode 7) ∷ [])
+        (file_by 0 (Set 0 Inode 7) ∷ []) }
     ensures set_after_give { Parts (IsFileHistory 0)
         (file_by 0 (Take 0) ∷ [])
         (file_by 0 (Set 0 Uses 1) ∷ file_by 0 Give ∷ []) (file_by 0 Give ∷ file_by 0 (Set 0 Uses 1) ∷ []) }
@@ -29,12 +31,16 @@ pub fn the_calls_of_a_file_table_are_judged()
 /// A hold takes 1 or as much as there are seats, where the count has it, and is refused where the count has
 /// less; only a writer sets a field.
 pub fn the_answers_of_a_file_table_are_judged()
-    ensures take { Parts (IsFileHistory 2) (file_by 0 (Take 1) ∷ []) (file_by 1 (Take 1) ∷ []) (file_by 1 (Take 2) ∷ []) }
+    ensures take { Parts (IsFileHistory 2) (file_by 0 (Take 1) ∷ []) (file_by 1 (Take 1) ∷ [])
+        (file_by 1 (Take 2) ∷ []) }
     ensures take_amount { Parts (IsFileHistory 3) [] (file_by 0 (Take 3) ∷ []) (file_by 0 (Take 2) ∷ []) }
     ensures no { Parts (IsFileHistory 2) (file_by 0 (Take 1) ∷ []) (file_by 1 (No 2) ∷ []) (file_by 1 (No 1) ∷ []) }
-    ensures no_amount { Parts (IsFileHistory 3) (file_by 0 (Take 3) ∷ []) (file_by 1 (No 1) ∷ []) (file_by 1 (No 2) ∷ []) }
-    ensures over { Parts (IsFileHistory 2) (file_by 0 (Take 1) ∷ []) (file_by 1 (Over 2) ∷ []) (file_by 1 (Over 1) ∷ []) }
-    ensures over_amount { Parts (IsFileHistory 3) (file_by 0 (Take 3) ∷ []) (file_by 1 (Over 3) ∷ []) (file_by 1 (Over 2) ∷ []) }
+    ensures no_amount { Parts (IsFileHistory 3) (file_by 0 (Take 3) ∷ []) (file_by 1 (No 1) ∷ [])
+        (file_by 1 (No 2) ∷ []) }
+    ensures over { Parts (IsFileHistory 2) (file_by 0 (Take 1) ∷ []) (file_by 1 (Over 2) ∷ [])
+        (file_by 1 (Over 1) ∷ []) }
+    ensures over_amount { Parts (IsFileHistory 3) (file_by 0 (Take 3) ∷ []) (file_by 1 (Over 3) ∷ [])
+        (file_by 1 (Over 2) ∷ []) }
     ensures set { Parts (IsFileHistory 2)
         []
         (file_by 0 (Take 2) ∷ file_by 0 (Set 0 Inode 7) ∷ []) (file_by 0 (Take 1) ∷ file_by 0 (Set 0 Inode 7) ∷ []) }

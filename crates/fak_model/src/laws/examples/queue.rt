@@ -13,7 +13,8 @@ pub fn the_calls_of_a_queue_are_judged()
     ensures fill { Parts (IsQueueHistory 2)
         (by 0 ClaimIn ∷ by 0 (Put 7) ∷ [])
         (by 0 (Fill 0) ∷ by 0 EndIn ∷ []) (by 0 (Fill 0) ∷ by 0 (Fill 0) ∷ []) }
-    ensures end_in { Parts (IsQueueHistory 1) (by 0 ClaimIn ∷ by 0 (Put 7) ∷ []) (by 0 (Fill 0) ∷ by 0 EndIn ∷ []) (by 0 EndIn ∷ []) }
+    ensures end_in { Parts (IsQueueHistory 1) (by 0 ClaimIn ∷ by 0 (Put 7) ∷ []) (by 0 (Fill 0) ∷ by 0 EndIn ∷ [])
+        (by 0 EndIn ∷ []) }
     ensures back_out { Parts (IsQueueHistory 1) [] (by 0 OverOut ∷ by 0 BackOut ∷ []) (by 0 BackOut ∷ []) }
     ensures got { Parts (IsQueueHistory 1) (inserted 0 7 0) (by 1 ClaimOut ∷ by 1 (Got 7) ∷ []) (by 1 (Got 7) ∷ []) }
     ensures take { Parts (IsQueueHistory 1)
@@ -24,25 +25,34 @@ pub fn the_calls_of_a_queue_are_judged()
         (by 1 (Take 0) ∷ by 1 EndOut ∷ []) (by 1 EndOut ∷ []) }
     ensures refusal { Parts (IsQueueHistory 1) (by 0 ClaimIn ∷ []) (by 1 NoItem ∷ []) (by 0 NoItem ∷ []) }
     ensures close { Parts (IsQueueHistory 1) (by 0 ClaimIn ∷ []) (by 1 Close ∷ []) (by 0 Close ∷ []) }
-    ensures late { Parts (IsQueueHistory 1) (by 0 Close ∷ by 1 LateIn ∷ []) (by 1 BackIn ∷ by 1 Closed ∷ []) (by 1 Closed ∷ []) }
+    ensures late { Parts (IsQueueHistory 1) (by 0 Close ∷ by 1 LateIn ∷ []) (by 1 BackIn ∷ by 1 Closed ∷ [])
+        (by 1 Closed ∷ []) }
     ensures over { Parts (IsQueueHistory 1) (by 0 OverOut ∷ []) (by 0 BackOut ∷ by 0 NoItem ∷ []) (by 0 NoItem ∷ []) }
-    ensures insertion { Parts (IsQueueHistory 2) (inserted 0 7 0 ++ by 1 ClaimIn ∷ []) (by 1 (Put 8) ∷ []) (by 1 (Got 7) ∷ []) }
-    ensures deletion { Parts (IsQueueHistory 2) (inserted 0 7 0 ++ by 1 ClaimOut ∷ []) (by 1 (Got 7) ∷ []) (by 1 (Put 8) ∷ []) }
+    ensures insertion { Parts (IsQueueHistory 2) (inserted 0 7 0 ++ by 1 ClaimIn ∷ []) (by 1 (Put 8) ∷ [])
+        (by 1 (Got 7) ∷ []) }
+    ensures deletion { Parts (IsQueueHistory 2) (inserted 0 7 0 ++ by 1 ClaimOut ∷ []) (by 1 (Got 7) ∷ [])
+        (by 1 (Put 8) ∷ []) }
 {}
 
 /// Each answer is fair: an insertion is refused where there is no room, granted where there is, and neither
 /// once the queue is shut; a deletion is refused where there is no item, and granted where there is.
 pub fn the_answers_of_a_queue_are_judged()
     ensures no_room { Parts (IsQueueHistory 1) (inserted 0 7 0) (by 1 NoRoom ∷ []) (deleted 1 7 0 ++ by 1 NoRoom ∷ []) }
-    ensures no_room_open { Parts (IsQueueHistory 1) (inserted 0 7 0) (by 1 NoRoom ∷ by 0 Close ∷ []) (by 0 Close ∷ by 1 NoRoom ∷ []) }
+    ensures no_room_open { Parts (IsQueueHistory 1) (inserted 0 7 0) (by 1 NoRoom ∷ by 0 Close ∷ [])
+        (by 0 Close ∷ by 1 NoRoom ∷ []) }
     ensures over_in { Parts (IsQueueHistory 1) (inserted 0 7 0) (by 1 OverIn ∷ []) (deleted 1 7 0 ++ by 1 OverIn ∷ []) }
-    ensures over_in_open { Parts (IsQueueHistory 1) (inserted 0 7 0) (by 1 OverIn ∷ by 0 Close ∷ []) (by 0 Close ∷ by 1 OverIn ∷ []) }
-    ensures claim_in { Parts (IsQueueHistory 1) (inserted 0 7 0) (deleted 1 7 0 ++ by 1 ClaimIn ∷ []) (by 1 ClaimIn ∷ []) }
-    ensures claim_in_open { Parts (IsQueueHistory 1) [] (by 1 ClaimIn ∷ by 0 Close ∷ []) (by 0 Close ∷ by 1 ClaimIn ∷ []) }
+    ensures over_in_open { Parts (IsQueueHistory 1) (inserted 0 7 0) (by 1 OverIn ∷ by 0 Close ∷ [])
+        (by 0 Close ∷ by 1 OverIn ∷ []) }
+    ensures claim_in { Parts (IsQueueHistory 1) (inserted 0 7 0) (deleted 1 7 0 ++ by 1 ClaimIn ∷ [])
+        (by 1 ClaimIn ∷ []) }
+    ensures claim_in_open { Parts (IsQueueHistory 1) [] (by 1 ClaimIn ∷ by 0 Close ∷ [])
+        (by 0 Close ∷ by 1 ClaimIn ∷ []) }
     ensures closed { Parts (IsQueueHistory 1) [] (by 0 Close ∷ by 1 Closed ∷ []) (by 1 Closed ∷ []) }
     ensures late_in { Parts (IsQueueHistory 1) [] (by 0 Close ∷ by 1 LateIn ∷ []) (by 1 LateIn ∷ []) }
-    ensures no_item { Parts (IsQueueHistory 1) [] (by 1 NoItem ∷ [] ++ inserted 0 7 0) (inserted 0 7 0 ++ by 1 NoItem ∷ []) }
-    ensures over_out { Parts (IsQueueHistory 1) [] (by 1 OverOut ∷ [] ++ inserted 0 7 0) (inserted 0 7 0 ++ by 1 OverOut ∷ []) }
+    ensures no_item { Parts (IsQueueHistory 1) [] (by 1 NoItem ∷ [] ++ inserted 0 7 0)
+        (inserted 0 7 0 ++ by 1 NoItem ∷ []) }
+    ensures over_out { Parts (IsQueueHistory 1) [] (by 1 OverOut ∷ [] ++ inserted 0 7 0)
+        (inserted 0 7 0 ++ by 1 OverOut ∷ []) }
     ensures claim_out { Parts (IsQueueHistory 1)
         (by 0 ClaimIn ∷ by 0 (Put 7) ∷ by 0 (Fill 0) ∷ [])
         (by 0 EndIn ∷ by 1 ClaimOut ∷ []) (by 1 ClaimOut ∷ []) }
@@ -76,7 +86,8 @@ pub fn the_items_of_a_queue_are_judged()
     ensures second { Parts (IsQueueHistory 2)
         (inserted 0 7 0 ++ inserted 0 8 1 ++ by 1 ClaimOut ∷ by 2 ClaimOut ∷ by 1 (Got 7) ∷ [])
         (by 2 (Got 8) ∷ []) (by 2 (Got 7) ∷ []) }
-    ensures another { Parts (IsQueueHistory 1) (inserted 0 7 0 ++ by 1 ClaimOut ∷ []) (by 1 (Got 7) ∷ []) (by 1 (Got 9) ∷ []) }
+    ensures another { Parts (IsQueueHistory 1) (inserted 0 7 0 ++ by 1 ClaimOut ∷ []) (by 1 (Got 7) ∷ [])
+        (by 1 (Got 9) ∷ []) }
 {}
 
 /// A fill and a take bear their call's ticket. A cell is filled once it was taken from in the round before, and
@@ -85,12 +96,14 @@ pub fn the_cells_of_a_queue_are_judged()
     ensures fill_ticket { Parts (IsQueueHistory 2)
         (by 0 ClaimIn ∷ by 1 ClaimIn ∷ by 0 (Put 7) ∷ by 1 (Put 8) ∷ [])
         (by 1 (Fill 1) ∷ []) (by 1 (Fill 0) ∷ []) }
-    ensures fill_ticket_ahead { Parts (IsQueueHistory 2) (by 0 ClaimIn ∷ by 0 (Put 7) ∷ []) (by 0 (Fill 0) ∷ []) (by 0 (Fill 1) ∷ []) }
+    ensures fill_ticket_ahead { Parts (IsQueueHistory 2) (by 0 ClaimIn ∷ by 0 (Put 7) ∷ []) (by 0 (Fill 0) ∷ [])
+        (by 0 (Fill 1) ∷ []) }
     ensures take_ticket { Parts (IsQueueHistory 2)
         (inserted 0 7 0 ++ inserted 0 8 1 ++ by 1 ClaimOut ∷ by 1 (Got 7) ∷ [])
         (by 1 (Take 0) ∷ []) (by 1 (Take 1) ∷ []) }
     ensures fill { Parts (IsQueueHistory 2)
-        (inserted 0 7 0 ++ inserted 0 8 1 ++ by 1 ClaimOut ∷ by 1 (Got 7) ∷ [] ++ deleted 2 8 1 ++ by 0 ClaimIn ∷ by 0 (Put 9) ∷ [])
+        (inserted 0 7 0 ++ inserted 0 8 1 ++ by 1 ClaimOut ∷ by 1 (Got 7) ∷ [] ++ deleted 2 8 1 ++ by 0 ClaimIn ∷ by 0
+        (Put 9) ∷ [])
         (by 1 (Take 0) ∷ by 0 (Fill 2) ∷ []) (by 0 (Fill 2) ∷ []) }
     ensures take { Parts (IsQueueHistory 2)
         (by 0 ClaimIn ∷ by 0 (Put 7) ∷ [] ++ inserted 1 8 1 ++ by 2 ClaimOut ∷ by 2 (Got 7) ∷ [])

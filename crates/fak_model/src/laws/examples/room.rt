@@ -27,7 +27,8 @@ pub fn the_answers_of_a_room_are_judged()
     ensures up { Parts (IsRoomHistory 2) (room_by 0 (Up 1) ∷ []) (room_by 1 (Up 1) ∷ []) (room_by 1 (Up 2) ∷ []) }
     ensures no { Parts (IsRoomHistory 2) (room_by 0 (Up 1) ∷ []) (room_by 1 (No 2) ∷ []) (room_by 1 (No 1) ∷ []) }
     ensures over { Parts (IsRoomHistory 2) (room_by 0 (Up 1) ∷ []) (room_by 1 (Over 2) ∷ []) (room_by 1 (Over 1) ∷ []) }
-    ensures release { Parts (IsRoomHistory 2) (room_by 0 (Up 1) ∷ []) (room_by 0 (Release 1) ∷ []) (room_by 0 (Release 2) ∷ []) }
+    ensures release { Parts (IsRoomHistory 2) (room_by 0 (Up 1) ∷ []) (room_by 0 (Release 1) ∷ [])
+        (room_by 0 (Release 2) ∷ []) }
     ensures release_twice { Parts (IsRoomHistory 2)
         (room_by 0 (Up 1) ∷ room_by 1 (Up 1) ∷ room_by 0 (Release 1) ∷ [])
         (room_by 1 (Release 1) ∷ []) (room_by 0 (Release 1) ∷ []) }

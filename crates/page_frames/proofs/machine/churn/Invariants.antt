@@ -1,7 +1,7 @@
-use Rattle.fak_queue.specs.Queues.{IsIdleSeat}
+use Rattle.std.proofs.Common.{◌≡◌}
 use Rattle.page_frames.specs.Frames.{Keeps}
 use Rattle.page_frames.proofs.machine.churn.Given as goal
 
--- the seat is between two calls, and has given back what it took
+-- what was taken was given back
 abbrev pub invariant-loop : goal.invariant-loop
-invariant-loop g l = IsIdleSeat l.free.object l.seat × Keeps l.fn.seat l.seat
+invariant-loop g l = (l.port.queue.now ≡ l.free) × Keeps l.fn.seat l.port.seat

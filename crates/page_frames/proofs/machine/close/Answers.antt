@@ -1,16 +1,18 @@
-use Rattle.std.proofs.Common.{ℕ, ◌<◌, rules, ap, ◌∙◌, subst, sym}
-use Rattle.std.specs.List.{sum_by}
+use Rattle.std.proofs.Common.{arith, rules}
+use Rattle.std.specs.Prelude.{IsTrue}
+use Rattle.fak_queue.specs.Sums.{joined_first, joined_next}
+use Rattle.fak_queue.proofs.Sums.{seats_balance, whole_over}
 use Rattle.page_frames.specs.Frames.{is_number}
-use Rattle.page_frames.proofs.Counting.{all_left}
 use Rattle.page_frames.proofs.machine.close.Goals as goal
 
 pub close-requires-clause-whole : goal.close-requires-clause-whole
-close-requires-clause-whole c n low =
-    c.is_whole-whole.ensures.whole.0 (search (rules, c.if-not-whole.false)) n (subst (λ o. n < o.seats) (sym c.join-tally.ensures.object) low)
+close-requires-clause-whole c =
+    whole_over c.join-tally.result c.join-tally.ensures.object (c.is_whole-whole.ensures.whole.0 (search (rules, c.if-not-whole.false)))
 
 pub returns : goal.returns
 returns c n =
-    let tally = c.join-tally.result in
-    let whole = c.is_whole-whole.ensures.mine (search (rules, c.if-not-whole.false)) in
-    let weighs = λ (n : ℕ). c.a_queue_weighs_what_was_put.ensures.weighs c.args.free.size (is_number n) tally.seen c.close.ensures.lawful in
-    ap (sum_by (is_number n)) c.close.ensures.rest ∙ all_left c.args.frames c.requires.seats.0 c.requires.seats.1 c.of.ensures.tally c.join-tally.ensures.joined whole weighs n
+    let joined = joined_next (joined_first c.args.a c.of.ensures.tally) c.join-tally.ensures.joined in
+    let whole = c.is_whole-whole.ensures in
+    let yes : IsTrue c.is_whole-whole.result = search (rules, c.if-not-whole.false) in
+    let balance = seats_balance (is_number n) joined c.join-tally.ensures.object c.requires.two (whole.whole.0 yes) (whole.mine yes) c.close.ensures.lawful c.close.ensures.rest in
+    omega (arith, balance, c.requires.put.0 n, c.requires.put.1 n)

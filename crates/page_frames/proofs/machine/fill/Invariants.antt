@@ -1,6 +1,7 @@
+use Rattle.std.proofs.Common.{◌≡◌}
 use Rattle.page_frames.specs.Frames.{HasPut, one_of}
 use Rattle.page_frames.proofs.machine.fill.Given as goal
 
--- the seat has put in each frame below this number, once
+-- each frame below this number was put in once
 abbrev pub invariant-loop-number : goal.invariant-loop-number
-invariant-loop-number g l = HasPut l.free.object l.fn.seat.name (one_of l.number) l.seat
+invariant-loop-number g l = (l.port.queue.now ≡ l.free) × HasPut (one_of l.number) l.port.seat

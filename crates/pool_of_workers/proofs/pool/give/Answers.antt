@@ -1,8 +1,14 @@
-use Rattle.std.proofs.Common.{◌∙◌}
-use Rattle.pool_of_workers.proofs.Counting.{shuts, stays}
+use Rattle.std.proofs.Common.{arith, ◌∙◌}
+use Rattle.fak_queue.proofs.Sums.{shut}
+use Rattle.pool_of_workers.specs.Counts.{leaps}
 use Rattle.pool_of_workers.proofs.pool.give.Goals as goal
 
 pub returns-clause-given : goal.returns-clause-given
 returns-clause-given g c = λ given.
     let was = c.loop.invariant in
-    stays was (c.shut.ensures.object ∙ was.idle.0, c.shut.ensures.state) (shuts c.args.queue.now.size c.shut.result c.shut.ensures.call)
+    let adds = shut leaps c.args.queue.now.size c.shut.result c.shut.ensures.call in
+    record {
+      idle = (c.shut.ensures.object ∙ was.idle.0, c.shut.ensures.state);
+      put_is = omega (arith, adds.put_is, was.put_is);
+      got_is = omega (arith, adds.got_is, was.got_is);
+    }

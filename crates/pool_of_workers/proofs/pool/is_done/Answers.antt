@@ -1,16 +1,17 @@
-use Rattle.std.proofs.Common.{◌≡◌, [], rules, subst, sym, ◌∙◌}
-use Rattle.fak_model.specs.Calls.{ObjectId}
+use Rattle.std.proofs.Common.{◌≡◌, [], rules, sym, ◌∙◌}
+use Rattle.std.specs.Prelude.{IsTrue}
 use Rattle.fak_model.specs.Queue.{contents}
-use Rattle.fak_model.specs.Seats.{IsWhole}
-use Rattle.fak_queue.proofs.Weighing.{all_out}
+use Rattle.fak_queue.proofs.Sums.{seats_balance, whole_over}
 use Rattle.pool_of_workers.specs.Counts.{leaps}
 use Rattle.pool_of_workers.proofs.pool.is_done.Goals as goal
 
 pub close-requires-clause-whole : goal.close-requires-clause-whole
 close-requires-clause-whole c =
-    subst (λ (o : ObjectId). IsWhole o.seats c.args.tally.names) c.requires (c.is_whole-whole.ensures.whole.0 (search (rules, c.if-not-whole.false)))
+    whole_over c.args.tally c.requires (c.is_whole-whole.ensures.whole.0 (search (rules, c.if-not-whole.false)))
 
 pub returns : goal.returns
-returns c = λ none.
-    let left : contents c.args.tally.seen ≡ [] = sym c.close.ensures.rest ∙ search (rules, c.next.ensures, c.is_none.ensures, none) in
-    all_out leaps c.args.tally (c.is_whole-whole.ensures.mine (search (rules, c.if-not-whole.false))) (c.a_queue_weighs_what_was_put.ensures.weighs c.args.queue.size leaps c.args.tally.seen c.close.ensures.lawful) left
+returns c = λ none seats joined all.
+    let left : [] ≡ contents c.args.tally.seen = sym (search (rules, c.next.ensures, c.is_none.ensures, none)) ∙ c.close.ensures.rest in
+    let whole = c.is_whole-whole.ensures in
+    let yes : IsTrue c.is_whole-whole.result = search (rules, c.if-not-whole.false) in
+    seats_balance leaps joined c.requires all (whole.whole.0 yes) (whole.mine yes) c.close.ensures.lawful left

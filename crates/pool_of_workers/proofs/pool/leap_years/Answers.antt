@@ -1,11 +1,16 @@
-use Rattle.std.proofs.Common.{rules, ◌∙◌, subst, sym}
-use Rattle.pool_of_workers.specs.Counts.{AreJoined}
-use Rattle.pool_of_workers.proofs.Counting.{joined_all}
+use Rattle.std.proofs.Common.{rules, arith, ◌∷◌}
+use Rattle.fak_model.proofs.Common.{sum_by-cons}
+use Rattle.fak_queue.specs.Sums.{put_by, got_by, joined_next}
+use Rattle.pool_of_workers.specs.Counts.{leaps}
 use Rattle.pool_of_workers.proofs.pool.leap_years.Goals as goal
 
 pub returns-clause-ok : goal.returns-clause-ok
 returns-clause-ok g c =
     let run = c.give_and_work-seat in
-    let worked = subst (λ n. AreJoined c.in_ok-queue.queue.object n run.result.1.1 run.result.1.0) c.in_ok-queue.ensures.others.0 run.ensures.worked in
-    let both = joined_all c.join-tally.ensures.joined worked (run.ensures.given (search (rules, c.if-not-given.false))) in
-    sym both.1 ∙ (sym (c.is_done.ensures (search (rules, c.if-not-is_done.false))) ∙ both.0)
+    let seat = run.result.0.0 in
+    let were = run.ensures.worked in
+    let given = run.ensures.given (search (rules, c.if-not-given.false)) in
+    let opened = c.in_ok-queue.ensures in
+    let seats = seat ∷ were.seats in
+    let balance = c.is_done.ensures (search (rules, c.if-not-is_done.false)) seats (joined_next were.joined c.join-tally.ensures.joined) (omega (arith, were.many, opened.others.0, opened.seats)) in
+    omega (arith, balance, sum_by-cons (put_by leaps) seat were.seats, sum_by-cons (got_by leaps) seat were.seats, were.put_is, were.got_is, given.put_is, given.got_is)

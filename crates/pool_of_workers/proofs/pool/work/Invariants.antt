@@ -6,7 +6,7 @@ use Rattle.pool_of_workers.proofs.pool.work.Given as goal
 -- the seat has got the leap years counted so far, no more than it has drawn tickets
 abbrev pub invariant-loop : goal.invariant-loop
 invariant-loop g l =
-    Stands l.queue.object l.fn.seat.name 0 l.leap_years l.seat
+    Stands l.queue.object 0 l.leap_years l.seat
     × (l.seat.stint ≡ 2 ^ 40)
     × (l.leap_years ≤ drawn_by l.seat)
     × (l.leap_years ≤ 2 ^ 40)

@@ -1,6 +1,6 @@
 use Rattle.fak_kernel.proofs.Common.{ProcessorOf, IsLeftBy, AreGathered, AreOfOne, ◌≡◌, ℕ, ◌+◌, get_or, ap, sym, ◌∙◌, subst, arith}
 use Rattle.fak_kernel.proofs.JoiningProcessors.{gathered_of_first, next_of}
-use Rattle.fak_kernel.proofs.JoiningNext.{took, took_first}
+use Rattle.fak_kernel.proofs.Indexing.{took, took_first}
 use Rattle.fak_kernel.proofs.ending.gathering.gather.Goals as goal
 
 pub of-requires : goal.of-requires
@@ -16,14 +16,14 @@ loop-joined-init g c =
     let cases = c.in-Some.ensures.cases in
     let first = took_first (IsLeftBy g.K.Run.script c.args.objects.now) c.args.left.len c.into_iter-processors.result.rest.len c.next.new.self.rest.len c.into_iter-processors.ensures.rest c.into_iter-processors.ensures.len cases.0 (omega (arith, cases.1)) c.requires.left in
     let of = c.in_ok-all.ensures in
-    let one : AreOfOne c.in-Some.first c.in_ok-all.all.tallies c.in_ok-all.all.processes.ended.items c.in_ok-all.all.processes.halted.items = record { tallies = of.tallies; ended_are = of.ended; halted_are = of.halted } in
+    let one : AreOfOne c.in-Some.first c.in_ok-all.all.tallies c.in_ok-all.all.ended.items c.in_ok-all.all.halted.items = record { tallies = of.tallies; ended_are = of.ended; halted_are = of.halted } in
     let at : (d : ProcessorOf) → get_or c.args.left.items 0 d ≡ c.in-Some.first = λ d. ap (λ l. get_or l 0 d) (sym rest ∙ cases.0) in
     record {
       from = omega arith;
       gathered = gathered_of_first first.0 one;
       len = omega (arith, len, cases.1, c.requires.some);
       left = first.1;
-      alone = λ e d. subst (λ (p : ProcessorOf). AreOfOne p c.in_ok-all.all.tallies c.in_ok-all.all.processes.ended.items c.in_ok-all.all.processes.halted.items) (sym (at d)) one;
+      alone = λ e d. subst (λ (p : ProcessorOf). AreOfOne p c.in_ok-all.all.tallies c.in_ok-all.all.ended.items c.in_ok-all.all.halted.items) (sym (at d)) one;
     }
 
 pub join-requires-clause-seats : goal.join-requires-clause-seats
@@ -51,7 +51,7 @@ returns-clause-gathered g c =
     let end = c.loop-joined.auto._joined-end in
     let last = c.loop-joined-test.false in
     let all : c.loop-joined._joined ≡ c.args.left.len = omega (arith, end, last, c.loop-joined.invariant.from, c.loop-joined.invariant.len) in
-    subst (λ (n : ℕ). AreGathered g.K.Run.script c.args.objects.now n c.loop-joined.all.tallies c.loop-joined.all.processes.ended.items c.loop-joined.all.processes.halted.items) all c.loop-joined.invariant.gathered
+    subst (λ (n : ℕ). AreGathered g.K.Run.script c.args.objects.now n c.loop-joined.all.tallies c.loop-joined.all.ended.items c.loop-joined.all.halted.items) all c.loop-joined.invariant.gathered
 
 pub returns-clause-alone : goal.returns-clause-alone
 returns-clause-alone g c one d =

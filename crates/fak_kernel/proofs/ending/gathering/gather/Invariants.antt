@@ -5,8 +5,8 @@ use Rattle.fak_kernel.proofs.ending.gathering.gather.Given as goal
 abbrev pub invariant-loop-joined : goal.invariant-loop-joined
 invariant-loop-joined g l = record {
   from : 1 ≤ l._joined;
-  gathered : AreGathered g.K.Run.script l.objects l._joined l.all.tallies l.all.processes.ended.items l.all.processes.halted.items;
+  gathered : AreGathered g.K.Run.script l.objects l._joined l.all.tallies l.all.ended.items l.all.halted.items;
   len : l._joined + l.processors.rest.len ≡ l.count;
   left : (k : ℕ) (d : ProcessorOf) → k < l.processors.rest.len → IsLeftBy g.K.Run.script l.objects (l._joined + k) (get_or l.processors.rest.items k d);
-  alone : l._joined ≡ 1 → (d : ProcessorOf) → AreOfOne (get_or l.fn.left.items 0 d) l.all.tallies l.all.processes.ended.items l.all.processes.halted.items;
+  alone : l._joined ≡ 1 → (d : ProcessorOf) → AreOfOne (get_or l.fn.left.items 0 d) l.all.tallies l.all.ended.items l.all.halted.items;
 }

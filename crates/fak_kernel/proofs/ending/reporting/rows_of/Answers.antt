@@ -1,14 +1,14 @@
 use Rattle.std.proofs.lemmas.List.Sorted.{IsPermutation-map}
 use Rattle.fak_kernel.proofs.Common.{Outcome, Ended, Halted, ProcessRow, rows_left, shut_lines, RowOf, rows_with, sleepers_outcome, row_of, ◌≡◌, ◌∙◌, ◌++◌, [], List, map, ap, subst, nat_lt, IsPermutation}
-use Rattle.fak_process.specs.Told.{told_row, told_rows}
-use Rattle.fak_process.proofs.Told.{IsSortedByName-told}
+use Rattle.fak_run.specs.Told.{told_row, told_rows}
+use Rattle.fak_run.proofs.Told.{IsSortedByName-told}
 use Rattle.fak_kernel.proofs.ending.reporting.rows_of.Goals as goal
 
 pub returns-clause-rows : goal.returns-clause-rows
 returns-clause-rows g c =
     let script = g.K.Run.script in
-    let ended = c.args.processes.ended.items in
-    let halted = c.args.processes.halted.items in
+    let ended = c.args.ended.items in
+    let halted = c.args.halted.items in
     let asleep = c.args.asleep.items in
     let start : told_rows script (map row_of c.new-rows.result.items) ≡ [] = ap (λ (l : List ProcessRow). told_rows script (map row_of l)) c.new-rows.ensures.items in
     let first = c.in_ok-add_rows.ensures.added ∙ ap (λ (l : List RowOf). l ++ rows_with Ended ended) start in

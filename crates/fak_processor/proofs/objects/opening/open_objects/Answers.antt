@@ -1,5 +1,6 @@
 use Rattle.fak_text.specs.Script.{ScriptOf}
-use Rattle.fak_processor.proofs.Common.{AreFor, ObjectsOf, ids_of, fresh_all, zipped, map, ◌≡◌, ◌∙◌, length, ap, sym, subst, arith, length-map, SemInfo}
+use Rattle.fak_processor.proofs.Common.{ℕ, AreFor, ObjectsOf, ids_of, fresh_all, zipped, map, ◌≡◌, ◌∙◌, length, ap, sym, subst, arith, length-map, SemInfo}
+use Rattle.fak_processor.specs.Opened.{AreSemaphoresFor}
 use Rattle.fak_processor.proofs.Dealing.{length-new, length-rows, length-seats, zips}
 use Rattle.fak_processor.proofs.objects.opening.open_objects.Goals as goal
 
@@ -18,20 +19,29 @@ zip_seats-requires g c =
     let new = length-new c.in_ok-files.files.object stint 0 n in
     record { len = (omega (arith, ready, free), omega (arith, ready, births), omega (arith, ready, busy), omega (arith, ready, dealt, rows, mapped), omega (arith, ready, files, new)) }
 
+-- new objects are for the script that they were opened by
+for_script : {script now : ScriptOf} {processors : ℕ} (o : ObjectsOf) → now ≡ script → o.ready.size ≡ now.slots → o.free.size ≡ now.slots → o.births.bound ≡ now.births → o.busy.start ≡ length now.start → o.files.entries ≡ now.files
+    → AreSemaphoresFor now processors now.semaphores o.semaphores → AreFor script o
+for_script o same ready free births busy files s = subst (λ (script : ScriptOf). AreFor script o) same (record {
+  ready = ready;
+  free = free;
+  births = births;
+  busy = busy;
+  files = files;
+  semaphores = sym (length-map o.semaphores (λ (s : SemInfo). s.object.start)) ∙ ap length s.starts_are;
+  starts = s.starts_are;
+  waits = λ k d below. (s.each k d below).size;
+})
+
+pub invariant_of-objects : goal.invariant_of-objects
+invariant_of-objects g c =
+    let o : ObjectsOf = record { ready = c.in_ok-ready.ready; free = c.in_ok-free.free; births = c.in_ok-births.births; busy = c.in_ok-busy.busy; semaphores = c.in_ok-semaphores.semaphores.items; files = c.in_ok-files.files } in
+    (c.new.ensures ∙ sym c.in_ok-ready.ensures.opened.1, for_script o c.requires.script c.in_ok-ready.ensures.opened.0 c.in_ok-free.ensures.opened.0 c.in_ok-births.ensures.opened.0 c.in_ok-busy.ensures.opened.0 c.in_ok-files.ensures.opened.0 c.in_ok-semaphores.ensures.opened)
+
 pub returns-clause-made : goal.returns-clause-made
 returns-clause-made g c =
-    let s = c.in_ok-semaphores.ensures.opened in
     let o : ObjectsOf = record { ready = c.in_ok-ready.ready; free = c.in_ok-free.free; births = c.in_ok-births.births; busy = c.in_ok-busy.busy; semaphores = c.in_ok-semaphores.semaphores.items; files = c.in_ok-files.files } in
-    subst (λ (script : ScriptOf). AreFor script o) c.requires.script (record {
-      ready = c.in_ok-ready.ensures.opened.0;
-      free = c.in_ok-free.ensures.opened.0;
-      births = c.in_ok-births.ensures.opened.0;
-      busy = c.in_ok-busy.ensures.opened.0;
-      files = c.in_ok-files.ensures.opened.0;
-      semaphores = sym (length-map c.in_ok-semaphores.semaphores.items (λ (s : SemInfo). s.object.start)) ∙ ap length s.starts_are;
-      starts = s.starts_are;
-      waits = λ k d below. (s.each k d below).size;
-    })
+    for_script o c.requires.script c.in_ok-ready.ensures.opened.0 c.in_ok-free.ensures.opened.0 c.in_ok-births.ensures.opened.0 c.in_ok-busy.ensures.opened.0 c.in_ok-files.ensures.opened.0 c.in_ok-semaphores.ensures.opened
 
 pub returns-clause-seated : goal.returns-clause-seated
 returns-clause-seated g c =

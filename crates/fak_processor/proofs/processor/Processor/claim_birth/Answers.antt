@@ -7,24 +7,20 @@ use Rattle.fak_processor.proofs.processor.Processor.claim_birth.Goals as goal
 
 pub returns-in-Ok-clause-alone : goal.returns-in-Ok-clause-alone
 returns-in-Ok-clause-alone g c =
-    let made = rw (← c.objects.view_is) at c.requires.made in
-    rw (← c.self.view_is) (λ alone. is_born _ alone made (claims alone.births c.in-Ok.ensures.call c.in-Ok.ensures.held))
+    rw (← c.self.view_is) (λ alone. is_born _ alone c.objects.invariant.1 (claims alone.births c.in-Ok.ensures.call c.in-Ok.ensures.held))
 
 pub returns-in-Err-AtBound-clause-alone : goal.returns-in-Err-AtBound-clause-alone
 returns-in-Err-AtBound-clause-alone g c =
-    let made = rw (← c.objects.view_is) at c.requires.made in
     let call = rw c.in-Err-AtBound.field-0-is at c.in-Err-AtBound.ensures.call in
     let held = c.in-Err-AtBound.ensures.held in
-    rw (← c.self.view_is) (λ alone. has_no_birth _ alone made (finds_full alone.births call.1 (omega (arith, held))))
+    rw (← c.self.view_is) (λ alone. has_no_birth _ alone c.objects.invariant.1 (finds_full alone.births call.1 (omega (arith, held))))
 
 pub returns-in-Ok-clause-gains : goal.returns-in-Ok-clause-gains
 returns-in-Ok-clause-gains g c =
-    let made = rw (← c.objects.view_is) at c.requires.made in
-    rw (← c.self.view_is) (gains_births _ _ made.births (grows_room c.in-Ok.ensures.call.1))
+    rw (← c.self.view_is) (gains_births _ _ c.objects.invariant.1.births (grows_room c.in-Ok.ensures.call.1))
 
 pub returns-in-Err-AtBound-clause-gains : goal.returns-in-Err-AtBound-clause-gains
 returns-in-Err-AtBound-clause-gains g c =
-    let made = rw (← c.objects.view_is) at c.requires.made in
     let call = rw c.in-Err-AtBound.field-0-is at c.in-Err-AtBound.ensures.call in
     let grown = refused_grows call.1 in
-    rw (← c.self.view_is) (grown.0, gains_births _ _ made.births grown.1)
+    rw (← c.self.view_is) (grown.0, gains_births _ _ c.objects.invariant.1.births grown.1)

@@ -1,5 +1,5 @@
 use Rattle.fak_processor.proofs.Common.{ap, sym, subst, ◌∙◌, ◌≡◌, down, Process, StandsAt, after_note, downed, GainsParked}
-use Rattle.fak_process.specs.ListScheduler as lists
+use Rattle.fak_run.specs.ListScheduler as lists
 use Rattle.fak_processor.proofs.Stepping.{moves_to, moves_passed, moves_parked}
 use Rattle.fak_processor.proofs.processor.Processor.down.Goals as goal
 

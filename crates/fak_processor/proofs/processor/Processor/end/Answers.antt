@@ -4,5 +4,4 @@ use Rattle.fak_processor.proofs.processor.Processor.end.Goals as goal
 
 pub returns-clause-general : goal.returns-clause-general
 returns-clause-general g c =
-    let made = rw (← c.objects.view_is) at c.requires.made in
-    rw (← c.self.view_is) (moves_ended _ made c.slot.ensures.fits c.requires.over (c.new-slot.ensures ∙ c.slot.ensures.slot) c.in_ok-push.ensures.items c.in_ok-put.ensures.grows c.in_ok-debit.ensures.gains)
+    rw (← c.self.view_is) (moves_ended _ c.objects.invariant.1 c.slot.ensures.fits c.requires.over (c.new-slot.ensures ∙ c.slot.ensures.slot) c.in_ok-push.ensures.items c.in_ok-put.ensures.grows c.in_ok-debit.ensures.gains)

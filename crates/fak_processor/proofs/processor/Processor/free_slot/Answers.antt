@@ -3,5 +3,4 @@ use Rattle.fak_processor.proofs.processor.Processor.free_slot.Goals as goal
 
 pub returns-clause-general : goal.returns-clause-general
 returns-clause-general g c =
-    let made = rw (← c.objects.view_is) at c.requires.made in
-    rw (← c.self.view_is) (begins_filled _ made c.in_ok-put.ensures.grows)
+    rw (← c.self.view_is) (begins_filled _ c.objects.invariant.1 c.in_ok-put.ensures.grows)

@@ -9,5 +9,4 @@ returns-clause-alone g c = rw (← c.self.view_is) (λ alone. birth_given _ alon
 
 pub returns-clause-gains : goal.returns-clause-gains
 returns-clause-gains g c =
-    let made = rw (← c.objects.view_is) at c.requires.made in
-    rw (← c.self.view_is) (gains_births _ _ made.births (grows_room c.release.ensures.call))
+    rw (← c.self.view_is) (gains_births _ _ c.objects.invariant.1.births (grows_room c.release.ensures.call))

@@ -1,6 +1,6 @@
 use Rattle.fak_processor.proofs.Common.{ap, refl, say, yield, StandsAt, after_note, said, yielded}
 use Rattle.std.proofs.lemmas.Result.{IfOk-weaker}
-use Rattle.fak_process.specs.ListScheduler as lists
+use Rattle.fak_run.specs.ListScheduler as lists
 use Rattle.fak_processor.proofs.Stepping.{gains_told, moves_to, made_is, moves_plain, plain_said, plain_yielded}
 use Rattle.fak_processor.proofs.processor.Processor.make_and_stay.Goals as goal
 

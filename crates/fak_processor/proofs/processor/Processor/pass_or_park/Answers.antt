@@ -1,32 +1,27 @@
-use Rattle.std.proofs.Common.{◌<◌, length}
-use Rattle.fak_processor.proofs.Gaining.{gains_parked, gains_passed}
-use Rattle.fak_processor.proofs.Machines.{sleeps_last, count_falls}
+use Rattle.fak_processor.proofs.Places.{passed_same}
+use Rattle.fak_processor.proofs.Gaining.{same_there}
+use Rattle.fak_processor.proofs.Sleeping.{are_after, downs, downs_alone}
 use Rattle.fak_processor.proofs.processor.Processor.pass_or_park.Goals as goal
 
-pub returns-in-Ok-None-clause-alone : goal.returns-in-Ok-None-clause-alone
-returns-in-Ok-None-clause-alone g c =
-    let below : c.args.at < length c.self.inside.semaphores = rw (← c.self.view_is) at c.requires.at in
-    let e = rw c.in-Ok-None.field-0-is at c.in-Ok-None.ensures.only in
-    rw (← c.self.view_is) (λ alone. sleeps_last _ alone c.args.at below c.requires.before (e alone.semaphores))
-
-pub returns-in-Ok-Some-clause-alone : goal.returns-in-Ok-Some-clause-alone
-returns-in-Ok-Some-clause-alone g c =
-    let below : c.args.at < length c.self.inside.semaphores = rw (← c.self.view_is) at c.requires.at in
-    let e = rw c.in-Ok-Some.field-0-is at c.in-Ok-Some.ensures.only in
-    rw (← c.self.view_is) (λ alone. count_falls _ alone c.args.at below (e alone.semaphores).1)
-
-pub returns-in-Ok-None-clause-gains : goal.returns-in-Ok-None-clause-gains
-returns-in-Ok-None-clause-gains g c =
-    let below : c.args.at < length c.self.inside.semaphores = rw (← c.self.view_is) at c.requires.at in
-    let made = rw (← c.objects.view_is) at c.requires.made in
+pub down-requires : goal.down-requires
+down-requires g c =
     let fits = rw (← c.self.view_is, ← c.objects.view_is) at c.requires.objects in
-    let e = rw c.in-Ok-None.field-0-is at c.in-Ok-None.ensures.call in
-    rw (← c.self.view_is) (gains_parked _ made fits below e)
+    same_there _ c.objects.invariant.1 fits c.requires.at c.index_mut-seat.ensures.value c.index-semaphore.ensures
 
-pub returns-in-Ok-Some-clause-gains : goal.returns-in-Ok-Some-clause-gains
-returns-in-Ok-Some-clause-gains g c =
-    let below : c.args.at < length c.self.inside.semaphores = rw (← c.self.view_is) at c.requires.at in
-    let made = rw (← c.objects.view_is) at c.requires.made in
+pub returns-clause-objects : goal.returns-clause-objects
+returns-clause-objects g c =
     let fits = rw (← c.self.view_is, ← c.objects.view_is) at c.requires.objects in
-    let e = rw c.in-Ok-Some.field-0-is at c.in-Ok-Some.ensures.call in
-    rw (← c.self.view_is) (gains_passed _ made fits below e)
+    rw (← c.objects.view_is) (are_after _ c.objects.invariant.1 fits c.args.at c.requires.at c.down.new.seat c.index_mut-seat.ensures.value c.index-semaphore.ensures c.in-Ok.ensures.object)
+
+pub returns-clause-same : goal.returns-clause-same
+returns-clause-same g c = passed_same c.in-Ok.passed c.in-Ok.ensures.call
+
+pub returns-clause-gains : goal.returns-clause-gains
+returns-clause-gains g c =
+    let fits = rw (← c.self.view_is, ← c.objects.view_is) at c.requires.objects in
+    rw (← c.self.view_is) (downs _ c.objects.invariant.1 fits c.args.at c.requires.at c.down.new.seat c.index_mut-seat.ensures.value c.index-semaphore.ensures c.in-Ok.ensures.object c.in-Ok.passed c.in-Ok.ensures.call)
+
+pub returns-clause-alone : goal.returns-clause-alone
+returns-clause-alone g c =
+    let fits = rw (← c.self.view_is, ← c.objects.view_is) at c.requires.objects in
+    rw (← c.self.view_is) (λ alone. downs_alone _ c.objects.invariant.1 fits c.args.at c.requires.at c.down.new.seat c.index_mut-seat.ensures.value c.index-semaphore.ensures c.in-Ok.ensures.object c.requires.before alone c.in-Ok.passed c.in-Ok.ensures.call)

@@ -1,6 +1,6 @@
 use Rattle.fak_processor.proofs.Common.{◌≡◌, ◌∙◌, ap, sym, subst, true, false, rules, [], ◌∷◌, ◌++◌, ℕ, None, spawn, Process, FitsScript, StandsAt, new_process, after_note, child_count, spawned, no_birth, no_slot, Moves}
 use Rattle.std.proofs.lemmas.Result.{IfOk-weaker}
-use Rattle.fak_process.specs.ListScheduler as lists
+use Rattle.fak_run.specs.ListScheduler as lists
 use Rattle.fak_processor.proofs.Stepping.{moves_from, moves_to, moves_unborn, moves_slotless, moves_spawned, moves_enters}
 use Rattle.fak_processor.proofs.processor.Processor.spawn.Goals as goal
 

@@ -1,6 +1,6 @@
 use Rattle.std.proofs.Common.{ap}
 use Rattle.fak_text.specs.Journal.{after_note, upped}
-use Rattle.fak_process.specs.ListScheduler as lists
+use Rattle.fak_run.specs.ListScheduler as lists
 use Rattle.fak_processor.proofs.Stepping.{moves_from, moves_to, moves_added, moves_woken, moves_enters}
 use Rattle.fak_processor.proofs.processor.Processor.up.Goals as goal
 

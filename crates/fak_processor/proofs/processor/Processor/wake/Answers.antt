@@ -1,32 +1,42 @@
-use Rattle.std.proofs.Common.{◌<◌, length}
-use Rattle.fak_processor.proofs.Gaining.{gains_credited, gains_woken}
-use Rattle.fak_processor.proofs.Machines.{wakes_nobody, wakes_first}
+use Rattle.fak_processor.proofs.Gaining.{same_there}
+use Rattle.fak_processor.proofs.Sleeping.{are_after, raises, raises_alone, wakes, wakes_alone}
 use Rattle.fak_processor.proofs.processor.Processor.wake.Goals as goal
 
-pub returns-in-Ok-None-clause-alone : goal.returns-in-Ok-None-clause-alone
-returns-in-Ok-None-clause-alone g c =
-    let below : c.args.at < length c.self.inside.semaphores = rw (← c.self.view_is) at c.requires.at in
-    let e = rw c.in-Ok-None.field-0-is at c.in-Ok-None.ensures.only in
-    rw (← c.self.view_is) (λ alone. wakes_nobody _ alone c.args.at below (e alone.semaphores))
+pub up-requires : goal.up-requires
+up-requires g c =
+    let fits = rw (← c.self.view_is, ← c.objects.view_is) at c.requires.objects in
+    same_there _ c.objects.invariant.1 fits c.requires.at c.index_mut-seat.ensures.value c.index-semaphore.ensures
 
-pub returns-in-Ok-Some-clause-alone : goal.returns-in-Ok-Some-clause-alone
-returns-in-Ok-Some-clause-alone g c =
-    let below : c.args.at < length c.self.inside.semaphores = rw (← c.self.view_is) at c.requires.at in
-    let e = rw c.in-Ok-Some.field-0-is at c.in-Ok-Some.ensures.only in
-    rw (← c.self.view_is) (λ alone. wakes_first _ alone c.args.at below c.in-Ok-Some.sleeper c.rouse.result (e alone.semaphores) c.rouse.ensures.done)
+pub returns-in-Ok-None-clause-objects : goal.returns-in-Ok-None-clause-objects
+returns-in-Ok-None-clause-objects g c =
+    let fits = rw (← c.self.view_is, ← c.objects.view_is) at c.requires.objects in
+    rw (← c.objects.view_is) (are_after _ c.objects.invariant.1 fits c.args.at c.requires.at c.up.new.seat c.index_mut-seat.ensures.value c.index-semaphore.ensures c.in-Ok-None.ensures.object)
+
+pub returns-in-Ok-Some-clause-objects : goal.returns-in-Ok-Some-clause-objects
+returns-in-Ok-Some-clause-objects g c =
+    let fits = rw (← c.self.view_is, ← c.objects.view_is) at c.requires.objects in
+    rw (← c.objects.view_is) (are_after _ c.objects.invariant.1 fits c.args.at c.requires.at c.up.new.seat c.index_mut-seat.ensures.value c.index-semaphore.ensures c.in-Ok-Some.ensures.object)
 
 pub returns-in-Ok-None-clause-gains : goal.returns-in-Ok-None-clause-gains
 returns-in-Ok-None-clause-gains g c =
-    let below : c.args.at < length c.self.inside.semaphores = rw (← c.self.view_is) at c.requires.at in
-    let made = rw (← c.objects.view_is) at c.requires.made in
     let fits = rw (← c.self.view_is, ← c.objects.view_is) at c.requires.objects in
-    let e = rw c.in-Ok-None.field-0-is at c.in-Ok-None.ensures.call in
-    rw (← c.self.view_is) (gains_credited _ made fits below e)
+    let up = rw c.in-Ok-None.field-0-is at c.in-Ok-None.ensures.call in
+    rw (← c.self.view_is) (raises _ c.objects.invariant.1 fits c.args.at c.requires.at c.up.new.seat c.index_mut-seat.ensures.value c.index-semaphore.ensures c.in-Ok-None.ensures.object up)
 
 pub returns-in-Ok-Some-clause-gains : goal.returns-in-Ok-Some-clause-gains
 returns-in-Ok-Some-clause-gains g c =
-    let below : c.args.at < length c.self.inside.semaphores = rw (← c.self.view_is) at c.requires.at in
-    let made = rw (← c.objects.view_is) at c.requires.made in
     let fits = rw (← c.self.view_is, ← c.objects.view_is) at c.requires.objects in
-    let e = rw c.in-Ok-Some.field-0-is at c.in-Ok-Some.ensures.call in
-    rw (← c.self.view_is) (gains_woken _ made fits below e c.rouse.ensures.woken c.rouse.ensures.fits)
+    let up = rw c.in-Ok-Some.field-0-is at c.in-Ok-Some.ensures.call in
+    rw (← c.self.view_is) (wakes _ c.objects.invariant.1 fits c.args.at c.requires.at c.up.new.seat c.index_mut-seat.ensures.value c.index-semaphore.ensures c.in-Ok-Some.ensures.object up c.rouse.ensures.woken c.rouse.ensures.fits)
+
+pub returns-in-Ok-None-clause-alone : goal.returns-in-Ok-None-clause-alone
+returns-in-Ok-None-clause-alone g c =
+    let fits = rw (← c.self.view_is, ← c.objects.view_is) at c.requires.objects in
+    let up = rw c.in-Ok-None.field-0-is at c.in-Ok-None.ensures.call in
+    rw (← c.self.view_is) (λ alone. raises_alone _ c.objects.invariant.1 fits c.args.at c.requires.at c.up.new.seat c.index_mut-seat.ensures.value c.index-semaphore.ensures c.in-Ok-None.ensures.object alone up)
+
+pub returns-in-Ok-Some-clause-alone : goal.returns-in-Ok-Some-clause-alone
+returns-in-Ok-Some-clause-alone g c =
+    let fits = rw (← c.self.view_is, ← c.objects.view_is) at c.requires.objects in
+    let up = rw c.in-Ok-Some.field-0-is at c.in-Ok-Some.ensures.call in
+    rw (← c.self.view_is) (λ alone. wakes_alone _ c.objects.invariant.1 fits c.args.at c.requires.at c.up.new.seat c.index_mut-seat.ensures.value c.index-semaphore.ensures c.in-Ok-Some.ensures.object alone up c.rouse.ensures.done)

@@ -6,4 +6,4 @@ use Rattle.fak_text.proofs.reading.history.read_history.Goals as goal
 pub returns-clause-range : goal.returns-clause-range
 returns-clause-range c =
     let bytes = c.args.bytes.now in
-    IfOk-from_Gives history_of (λ h. IsHistoryInRange h) c.history_of_object.result (history_in bytes) (search rules) (history_is_in_range bytes)
+    IfOk-from_Gives history_of (λ h. IsHistoryInRange h) c.history_from.result (history_in bytes) (search rules) (history_is_in_range bytes)

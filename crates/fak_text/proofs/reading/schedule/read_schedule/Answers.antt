@@ -7,4 +7,4 @@ use Rattle.fak_text.proofs.reading.schedule.read_schedule.Goals as goal
 pub returns-clause-range : goal.returns-clause-range
 returns-clause-range c =
     let bytes = c.args.bytes.now in
-    IfOk-from_Gives schedule_of (λ s. IsScheduleInRange s) c.schedule_of_object.result (schedule_in bytes) (search rules) (schedule_is_in_range bytes)
+    IfOk-from_Gives schedule_of (λ s. IsScheduleInRange s) c.schedule_from.result (schedule_in bytes) (search rules) (schedule_is_in_range bytes)

@@ -1,15 +1,6 @@
-use Rattle.fak_count.proofs.Common.{rules, refl, ◌∙◌, w64, arith, to_z-of_z, token_name, token_left}
-use Rattle.fak_count.proofs.CreditCalls.{same_table, found_fits, token_made, call_made}
+use Rattle.fak_count.proofs.Common.{rules, ◌∙◌, w64, arith, to_z-of_z}
+use Rattle.fak_count.proofs.CreditCalls.{found_fits, token_made, call_made}
 use Rattle.fak_count.proofs.credits.credit.Credit.credit.Goals as goal
-
-pub credit-found-requires-clause-table : goal.credit-found-requires-clause-table
-credit-found-requires-clause-table c = (same_table c.self.inside.table.shared.key c.seat.invariant c.seat.view_is c.self.view_is c.requires.object, c.self.invariant, refl)
-
-pub credit-found-requires-clause-seat : goal.credit-found-requires-clause-seat
-credit-found-requires-clause-seat c = token_name c.seat.invariant
-
-pub credit-found-requires-clause-left : goal.credit-found-requires-clause-left
-credit-found-requires-clause-left c = let left = token_left c.seat.invariant in let some_left = c.if-seat-eq0.false in omega (arith, left, some_left)
 
 pub count_of-requires : goal.count_of-requires
 count_of-requires c = found_fits c.self.inside.table.shared.key c.seat.invariant c.seat.view_is c.self.view_is c.requires.object c.credit-found.ensures.told

@@ -12,8 +12,5 @@ returns-clause-mine c = rw (← c.self.view_is) (λ h. whole_mine seat_of c.self
 pub returns-clause-lawful : goal.returns-clause-lawful
 returns-clause-lawful c = every_history c.args.self.now.seen
 
-pub returns-clause-named : goal.returns-clause-named
-returns-clause-named c = rw (← c.self.view_is) c.self.invariant.0.named
-
 pub returns-clause-rest : goal.returns-clause-rest
 returns-clause-rest c = always_at_rest c.args.self.now.seen

@@ -1,9 +1,5 @@
-use Rattle.std.proofs.Common.{rules}
 use Rattle.fak_model.proofs.CreditLaw.{every_history}
 use Rattle.fak_count.proofs.credits.tally.CreditTally.of.Goals as goal
 
 pub returns-clause-lawful : goal.returns-clause-lawful
 returns-clause-lawful c = every_history _
-
-pub invariant_of-result : goal.invariant_of-result
-invariant_of-result c = search rules

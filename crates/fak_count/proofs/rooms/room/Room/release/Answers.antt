@@ -1,16 +1,6 @@
 use Rattle.fak_count.proofs.Common.{rules, [], ◌∷◌, ◌-◌, refl, ◌∙◌, w64, arith, to_z-of_z, Release, Released}
-use Rattle.fak_count.proofs.RoomCalls.{did_release, at_room, same_table, own_token, holds_seen, held_old, seat_after, held_after, makes_call}
+use Rattle.fak_count.proofs.RoomCalls.{did_release, at_room, own_token, held_old, seat_after, held_after, makes_call}
 use Rattle.fak_count.proofs.rooms.room.Room.release.Goals as goal
-
-pub release-found-requires-clause-table : goal.release-found-requires-clause-table
-release-found-requires-clause-table c =
-    let at = at_room c.self.inside.table.shared.key c.seat.inside.left c.seat.invariant c.seat.view_is c.self.view_is c.requires.object in
-    (same_table at, c.self.invariant.0, refl)
-
-pub release-found-requires-clause-holds : goal.release-found-requires-clause-holds
-release-found-requires-clause-holds c =
-    let at = at_room c.self.inside.table.shared.key c.seat.inside.left c.seat.invariant c.seat.view_is c.self.view_is c.requires.object in
-    holds_seen at c.args.d c.requires.holds
 
 pub invariant_of-seat : goal.invariant_of-seat
 invariant_of-seat c =

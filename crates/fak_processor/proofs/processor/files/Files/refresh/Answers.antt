@@ -1,7 +1,7 @@
 use Rattle.fak_processor.proofs.Common.{◌≡◌, ◌∙◌, ◌+◌, ◌≤◌, ℕ, [], length, rules, arith, refl, ap, Some, got, keeps_files_then, keeps_files_all, all_read}
 use Rattle.fak_files.specs.Versions.{entry_of}
 use Rattle.fak_files.proofs.Closing.{read_more}
-use Rattle.fak_process.proofs.Holding.{left_of, left_then, left_none, got_of}
+use Rattle.fak_run.proofs.Holding.{left_of, left_then, left_none, got_of}
 use Rattle.fak_processor.proofs.processor.files.Files.refresh.Goals as goal
 
 pub loop-i-init : goal.loop-i-init

@@ -1,5 +1,0 @@
-use Rattle.std.proofs.Common.{rules}
-use Rattle.fak_count.proofs.rooms.seat.RoomSeat.held.Goals as goal
-
-pub returns : goal.returns
-returns c = search rules

@@ -1,5 +1,0 @@
-use Rattle.fak_process.proofs.Reports.{promised}
-use Rattle.fak_process.proofs.laws.a_gathered_run_keeps_its_promises.Goals as goal
-
-pub returns : goal.returns
-returns c = λ script seats h l rows gathered fit sorted. promised gathered rows fit sorted

@@ -1,5 +1,0 @@
-use Rattle.fak_process.proofs.Joining.{balanced-joined}
-use Rattle.fak_process.proofs.laws.ledgers_balance_together.Goals as goal
-
-pub returns : goal.returns
-returns c = balanced-joined

@@ -1,5 +1,0 @@
-use Rattle.fak_process.proofs.SchedulerEnds.{ends}
-use Rattle.fak_process.proofs.laws.the_list_scheduler_ends_every_script.Goals as goal
-
-pub returns : goal.returns
-returns c = ends

@@ -1,5 +1,0 @@
-use Rattle.fak_process.proofs.Common.{told_rows, row_of, string_bytes, ◌≡◌, ◌++◌, map, take, flat_map, text_of_row}
-use Rattle.fak_process.proofs.text.add_told_rows.Given as goal
-
-abbrev pub invariant-loop-row : goal.invariant-loop-row
-invariant-loop-row l = string_bytes l.text ≡ string_bytes l.fn.text ++ flat_map text_of_row (told_rows l.script (map row_of (take l.row-index l.rows)))

@@ -1,0 +1,55 @@
+//! Pauses, which leave answers and seats as they are. How long they are, a test cannot see.
+
+use super::steps::{A, B, Step, close, open, open_and_walk, take};
+use fak_queue::{Port, SeatState, Tally};
+
+#[test]
+fn a_seat_pauses_in_each_state(rt: HostRuntime) {
+    let steps = [
+        (A, Step::Pause),
+        (A, Step::ClaimInsert(7, Ok(0))),
+        (A, Step::Pause),
+        (A, Step::State(SeatState::Inserting(0))),
+        (A, Step::TryFill(Some(0))),
+        (B, Step::ClaimDelete(Ok(0))),
+        (B, Step::Pause),
+        (B, Step::State(SeatState::Deleting(0))),
+        (B, Step::TryTake(Some((0, 7)))),
+        (B, Step::Pause),
+        (B, Step::State(SeatState::Idle)),
+        (B, Step::Left(8)),
+    ];
+    open_and_walk::<u64, HostRuntime>(&rt, rt.alloc(), (1, 2, 9), steps.as_slice());
+}
+
+#[test]
+fn ports_that_take_turns_pause(rt: HostRuntime) {
+    let (queue, mut seats) = open::<u64>(&rt, rt.alloc(), (64, 2, 1000));
+    let mut seat = take(&rt, &queue, &mut seats);
+    seat.set_pauses_in_calls(false);
+    let mut sender = Port::new(&queue, seat);
+    let mut receiver = Port::new(&queue, take(&rt, &queue, &mut seats));
+    for number in 0..400u64 {
+        assert_eq!(rt; sender.insert(&rt, number), Ok(number));
+        sender.pause();
+        assert_eq!(rt; receiver.delete(&rt), Ok((number, number)));
+        receiver.pause();
+    }
+    assert_eq!(rt; sender.left(), 600);
+    assert_eq!(rt; receiver.left(), 600);
+}
+
+#[test]
+fn a_seat_whose_calls_do_not_pause_is_told_to_again(rt: HostRuntime) {
+    let (queue, mut seats) = open::<u64>(&rt, rt.alloc(), (64, 1, 9));
+    let mut seat = take(&rt, &queue, &mut seats);
+    seat.set_pauses_in_calls(false);
+    assert_eq!(rt; queue.wait_insert(&rt, &mut seat, 7), Ok(0));
+    seat.set_pauses_in_calls(true);
+    assert_eq!(rt; queue.wait_insert(&rt, &mut seat, 8), Ok(1));
+    assert_eq!(rt; seat.left(), 7);
+    let mut rest = close(&rt, queue, Tally::of(seat));
+    assert_eq!(rt; rest.next(), Some(7));
+    assert_eq!(rt; rest.next(), Some(8));
+    assert_eq!(rt; rest.next(), None);
+}

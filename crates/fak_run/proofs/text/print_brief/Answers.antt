@@ -1,0 +1,7 @@
+use Rattle.std.proofs.Common.{◌∙◌, ap, sym, map, if◌then◌else◌}
+use Rattle.fak_run.specs.Views.{row_of}
+use Rattle.fak_run.proofs.Told.{any_stuck-told}
+use Rattle.fak_run.proofs.text.print_brief.Goals as goal
+
+pub returns-clause-status : goal.returns-clause-status
+returns-clause-status c = c.exit_status.ensures ∙ ap (λ b. if b then 3 else 0) (sym (any_stuck-told c.args.script.now (map row_of c.args.brief.now.rows.items)))

@@ -1,0 +1,32 @@
+-- The file lines of a report replay.
+use Rattle.std.specs.Prelude.{◌≡◌, ℕ, Bool, true, false, List, replicate}
+use Rattle.std.specs.List.{filter, flat_map, sum_by}
+use Rattle.fak_text.specs.Journal.{NoteOf, opened, closed, statted}
+use Rattle.fak_run.specs.Files.{free_entry}
+use Rattle.fak_run.specs.Report.{ReportOf}
+use Rattle.fak_run.specs.Replays.{Replays}
+
+-- the lines of opens, closes and stats
+abbrev pub is_file_line : NoteOf → Bool
+is_file_line (opened inode entry) = true
+is_file_line (closed inode entry) = true
+is_file_line (statted inode uses) = true
+is_file_line _ = false
+
+abbrev pub file_lines : List NoteOf → List NoteOf
+file_lines lines = filter is_file_line lines
+
+-- the lines of all rows
+abbrev pub lines_of : ReportOf → List NoteOf
+lines_of report = flat_map (λ row. row.process.journal) report.rows
+
+-- each line stands in both lists as often: whatever lines weigh, both weigh the same
+abbrev pub AreAsOften : List NoteOf → List NoteOf → Type 0
+AreAsOften lines others = (weight : NoteOf → ℕ) → sum_by weight lines ≡ sum_by weight others
+
+-- some list of the open, close and stat lines of all rows, each as often as it stands there, replays from free entries, and
+-- ends at the report's entries
+pub record FilesReplay (files : ℕ) (report : ReportOf) : Type 0 where
+  pub list : List NoteOf
+  pub as_often : AreAsOften list (file_lines (lines_of report))
+  pub replays : Replays (replicate files free_entry) list report.entries

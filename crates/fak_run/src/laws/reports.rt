@@ -1,0 +1,114 @@
+//! What a run may report, and what it may not: reports of small scripts, on either side of each promise; and their texts.
+
+ghost use Rattle.std.specs.Prelude.{◌≡◌, ℕ, ◌<◌, [], ◌∷◌, ◌++◌, codes, decimal, Some, None};
+ghost use Rattle.fak_text.specs.Journal.{downed, no_birth, opened, shut_down, spawned, yielded};
+ghost use Rattle.fak_run.specs.Examples.{used};
+ghost use Rattle.fak_run.specs.Files.{free_entry};
+ghost use Rattle.fak_run.specs.declared.report.Outcome.TheVariants.{Ended, Halted, Stuck};
+ghost use Rattle.fak_run.specs.ReportExamples.{child_row, family_rows, halted_report, left_row, opener, pair_at, parent, parent_row, shutter, stuck_report, tells};
+ghost use Rattle.fak_run.specs.Report.{exit_status};
+ghost use Rattle.fak_run.specs.ReportText.{line_of_row, text_of_births, text_of_entries, text_of_report};
+ghost use Rattle.fak_run.specs.RunReports.{RunReports};
+
+/// What runs of known scripts may report: births that are named and counted, downs that pass and that sleep, a process
+/// that halts, and a file that is opened.
+pub fn known_reports_are_allowed()
+    ensures child { RunReports (parent 1) (tells 1 1 1 family_rows free_entry) }
+    ensures no_birth { RunReports (parent 0) (tells 1 0 0 (parent_row (no_birth ∷ []) ∷ []) free_entry) }
+    ensures passed { RunReports (pair_at 1)
+        (tells 1 0 0 (left_row (0 ∷ []) 0 0 (downed 0 ∷ []) Ended ∷ left_row (1 ∷ []) 0 0 [] Stuck ∷ []) free_entry) }
+    ensures halted { RunReports shutter (tells 2 0 0 (left_row (0 ∷ []) 0 0 (shut_down ∷ []) Halted ∷ []) free_entry) }
+    ensures opened { RunReports opener (tells 1 0 0 (parent_row (opened 7 (Some 0) ∷ []) ∷ []) (used 7 1)) }
+{}
+
+/// A version and a bound that are not the script's, a wrong count of births, rows in another order, a child of another name or
+/// program, one that is lost, and more than are allowed.
+pub fn reports_with_wrong_names_are_refused()
+    ensures version { RunReports (parent 1) (tells 2 1 1 family_rows free_entry) → ⊥ }
+    ensures bound { RunReports (parent 1) (tells 1 1 2 family_rows free_entry) → ⊥ }
+    ensures births { RunReports (parent 1) (tells 1 0 1 family_rows free_entry) → ⊥ }
+    ensures order { RunReports (parent 1) (tells 1 1 1 (child_row ∷ parent_row (spawned 0 ∷ []) ∷ []) free_entry) → ⊥ }
+    ensures name { RunReports (parent 1)
+        (tells 1 1 1 (parent_row (spawned 0 ∷ []) ∷ left_row (0 ∷ 1 ∷ []) 1 1 [] Ended ∷ []) free_entry) → ⊥ }
+    ensures program { RunReports (parent 1)
+        (tells 1 1 1 (parent_row (spawned 0 ∷ []) ∷ left_row (0 ∷ 0 ∷ []) 2 1 [] Ended ∷ []) free_entry) → ⊥ }
+    ensures lost { RunReports (parent 1) (tells 1 1 1 (parent_row (spawned 0 ∷ []) ∷ []) free_entry) → ⊥ }
+    ensures too_many { RunReports (parent 0) (tells 1 1 0 family_rows free_entry) → ⊥ }
+    ensures no_birth { RunReports (parent 1) (tells 1 0 1 (parent_row (no_birth ∷ []) ∷ []) free_entry) → ⊥ }
+{}
+
+/// A slot out of range, a position that is not the journal's, a line of another step, a child of another number, and outcomes
+/// that do not fit the position of the process, or that need a shutdown.
+pub fn reports_with_rows_that_do_not_fit_are_refused()
+    ensures slot { RunReports (parent 1)
+        (tells 1 1 1 (parent_row (spawned 0 ∷ []) ∷ left_row (0 ∷ 0 ∷ []) 1 3 [] Ended ∷ []) free_entry) → ⊥ }
+    ensures position { RunReports (parent 0)
+        (tells 1 0 0 (record (parent_row (no_birth ∷ [])) {
+          process = record (parent_row (no_birth ∷ [])).process { position = 2 };
+        } ∷ []) free_entry) → ⊥ }
+    ensures line { RunReports (parent 1) (tells 1 0 1 (parent_row (yielded ∷ []) ∷ []) free_entry) → ⊥ }
+    ensures number { RunReports (parent 1)
+        (tells 1 1 1 (parent_row (spawned 1 ∷ []) ∷ left_row (0 ∷ 1 ∷ []) 1 1 [] Ended ∷ []) free_entry) → ⊥ }
+    ensures unended { RunReports (parent 1) (tells 1 0 1 (parent_row [] ∷ []) free_entry) → ⊥ }
+    ensures unstuck { RunReports (parent 1)
+        (tells 1 1 1 (parent_row (spawned 0 ∷ []) ∷ left_row (0 ∷ 0 ∷ []) 1 1 [] Stuck ∷ []) free_entry) → ⊥ }
+    ensures halted { RunReports (parent 1)
+        (tells 1 1 1 (parent_row (spawned 0 ∷ []) ∷ left_row (0 ∷ 0 ∷ []) 1 1 [] Halted ∷ []) free_entry) → ⊥ }
+    ensures stuck { RunReports shutter (tells 2 0 0 (left_row (0 ∷ []) 0 0 (shut_down ∷ []) Stuck ∷ []) free_entry)
+        → ⊥ }
+{}
+
+/// Two sleepers in one slot, a down that passed though the count was 0, one that sleeps though it was 1, and a down of
+/// another semaphore; an entry that no line made, and a line that the entries do not give.
+pub fn reports_with_wrong_lines_are_refused()
+    ensures one_slot { RunReports (pair_at 0)
+        (tells 1 0 0 (left_row (0 ∷ []) 0 0 [] Stuck ∷ left_row (1 ∷ []) 0 0 [] Stuck ∷ []) free_entry) → ⊥ }
+    ensures passed { RunReports (pair_at 0)
+        (tells 1 0 0 (left_row (0 ∷ []) 0 0 (downed 0 ∷ []) Ended ∷ left_row (1 ∷ []) 0 0 [] Stuck ∷ []) free_entry)
+        → ⊥ }
+    ensures asleep { RunReports (pair_at 1)
+        (tells 1 0 0 (left_row (0 ∷ []) 0 0 [] Stuck ∷ left_row (1 ∷ []) 0 1 [] Stuck ∷ []) free_entry) → ⊥ }
+    ensures other { RunReports (pair_at 0)
+        (tells 1 0 0 (left_row (0 ∷ []) 0 0 (downed 1 ∷ []) Ended ∷ left_row (1 ∷ []) 0 0 [] Stuck ∷ []) free_entry)
+        → ⊥ }
+    ensures entry { RunReports opener (tells 1 0 0 (parent_row (opened 7 (Some 0) ∷ []) ∷ []) free_entry) → ⊥ }
+    ensures unopened { RunReports opener (tells 1 0 0 (parent_row (opened 7 None ∷ []) ∷ []) free_entry) → ⊥ }
+{}
+
+/// A stuck process makes the exit status 3, and no other outcome does.
+pub fn known_reports_have_known_statuses()
+    ensures stuck { exit_status (tells 1 0 0 (left_row (0 ∷ []) 0 0 [] Ended ∷ left_row (1 ∷ []) 0 0 [] Stuck ∷ [])
+        free_entry) ≡ 3 }
+    ensures others { exit_status (tells 2 0 0 (left_row (0 ∷ []) 0 0 [] Ended ∷ left_row (1 ∷ []) 0 0 [] Halted ∷ [])
+        free_entry) ≡ 0 }
+{}
+
+/// The whole texts of two reports, letter by letter; and a row, an entry and the births, whatever their numbers.
+pub fn known_reports_have_known_texts()
+    ensures stuck { text_of_report stuck_report
+        ≡ codes "process 0 program 1 slot 2 ended\n"
+        ++ codes "  say a b\n"
+        ++ codes "  spawn 0.0\n"
+        ++ codes "process 0.0 program 3 slot 0 ended\n"
+        ++ codes "  yield\n"
+        ++ codes "process 1 program 4 slot 5 stuck\n"
+        ++ codes "file 0 inode 7 uses 2\n"
+        ++ codes "file 2 inode 9 uses 8\n"
+        ++ codes "births 1 of 6\n"
+        ++ codes "ended 2 stuck 1\n" }
+    ensures halted { text_of_report halted_report
+        ≡ codes "process 0 program 0 slot 0 halted\n"
+        ++ codes "process 1 program 1 slot 1 ended\n"
+        ++ codes "  shutdown\n"
+        ++ codes "process 2 program 0 slot 2 halted\n"
+        ++ codes "births 0 of 3\n"
+        ++ codes "ended 1 stuck 0 halted 2\n" }
+    ensures row { (name program slot : ℕ) → line_of_row (left_row (name ∷ []) program slot [] Ended)
+        ≡ codes "process " ++ decimal name ++ codes " program " ++ decimal program ++ codes " slot " ++ decimal slot
+        ++ codes " ended\n" }
+    ensures entry { (i inode uses : ℕ) → 0 < inode → text_of_entries i (used inode uses ∷ [])
+        ≡ codes "file " ++ decimal i ++ codes " inode " ++ decimal inode ++ codes " uses " ++ decimal uses
+        ++ codes "\n" }
+    ensures births { (births bound : ℕ) → text_of_births (tells 1 births bound [] free_entry)
+        ≡ codes "births " ++ decimal births ++ codes " of " ++ decimal bound ++ codes "\n" }
+{}
