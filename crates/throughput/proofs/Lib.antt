@@ -1,2 +1,3 @@
 pub mod Dealing
 pub mod Spreads
+pub mod Tails

@@ -1,3 +1,4 @@
 pub mod Plans
 pub mod Seats
 pub mod Spreads
+pub mod Tails

@@ -18,6 +18,8 @@ pub struct Plan {
     pub rounds: u64,
     /// The items of each producer in a run, or the calls of each thread.
     pub items: u64,
+    /// Whether single calls are timed.
+    pub tails: bool,
 }
 
 /// One thing that is measured.

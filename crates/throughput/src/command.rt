@@ -6,6 +6,7 @@ ghost use Rattle.throughput.specs.Plans.{IsInRange};
 use crate::case::Plan;
 use crate::fault::Fault;
 use crate::report::{measure, try_each};
+use crate::tail_table::measure_tails;
 use clap::error::ErrorKind;
 use clap::{Arg, ArgAction, ArgMatches, value_parser};
 use std::alloc::{AllocError, Global};
@@ -42,6 +43,11 @@ fn grammar<'a>(alloc: Global) -> Result<clap::Command<'a>, AllocError> {
                 .long("figures")
                 .action(ArgAction::SetTrue),
         )?
+        .arg(
+            Arg::new(alloc, "tails")
+                .long("tails")
+                .action(ArgAction::SetTrue),
+        )?
         .arg(number(alloc, "rounds", "9"))?
         .arg(number(alloc, "items", "100000"))
 }
@@ -59,10 +65,15 @@ fn plan_from(matches: &ArgMatches) -> Result<Option<Plan>, Fault>
     if rounds < 1 || rounds > MOST_ROUNDS || items < 1 || items > MOST_ITEMS {
         return Err(Fault::Usage);
     }
-    if !matches.get_flag("figures") {
-        return Ok(None);
+    match (matches.get_flag("figures"), matches.get_flag("tails")) {
+        (false, false) => Ok(None),
+        (true, true) => Err(Fault::Usage),
+        (_, tails) => Ok(Some(Plan {
+            rounds,
+            items,
+            tails,
+        })),
     }
-    Ok(Some(Plan { rounds, items }))
 }
 
 /// What the words ask for; none where no figures are asked for. The first word is the program's name.
@@ -91,6 +102,7 @@ fn words_of(rt: &(impl AllocGlobal + Env)) -> Result<Vec<String>, Fault> {
 /// Prints the figures, or where none are asked for that each case was run.
 fn run<R: Print + AllocGlobal + Env + Clock + Threads + Wait + Sync>(rt: &R) -> Result<(), Fault> {
     match plan_of(rt.alloc(), words_of(rt)?)? {
+        Some(plan) if plan.tails => measure_tails(rt, rt.alloc(), plan),
         Some(plan) => measure(rt, rt.alloc(), plan),
         None => {
             let runs = try_each(rt, rt.alloc())?;

@@ -8,7 +8,7 @@ use thiserror::Error;
 #[derive(Debug, Clone, Copy, Error)]
 pub enum Fault {
     /// The words of the command line ask for nothing that the program does.
-    #[error("throughput: usage: throughput [--figures] [--rounds 1..1000] [--items 1..10000000]")]
+    #[error("throughput: usage: throughput [--figures | --tails] [--rounds 1..1000] [--items 1..10000000]")]
     Usage,
     /// There was no memory.
     #[error("throughput: out of memory")]

@@ -30,7 +30,7 @@ struct InTurn<G> {
 }
 
 impl<G: SemaphoreHandle + Send> Job for Alone<G> {
-    fn work<R: Wait>(&mut self, rt: &R) -> Passed {
+    fn work<R: Wait + Clock>(&mut self, rt: &R) -> Passed {
         let mut passed = Passed::NONE;
         for number in 0..self.count {
             if self.handle.down(rt) && self.handle.up(rt) {
@@ -63,7 +63,7 @@ fn answer<R: Wait, G: SemaphoreHandle>(rt: &R, ours: &mut G, theirs: &mut G, cou
 
 impl<G: SemaphoreHandle + Send> Job for InTurn<G> {
     /// Who begins counts.
-    fn work<R: Wait>(&mut self, rt: &R) -> Passed {
+    fn work<R: Wait + Clock>(&mut self, rt: &R) -> Passed {
         if self.begins {
             return serve(rt, &mut self.ours, &mut self.theirs, self.count);
         }

@@ -1,10 +1,12 @@
 //! Measures the queue, the semaphore and the file table from Rust, beside what the kit has.
 //!
 //! Without words it makes one short run of each case, and tells that what went in came out once. With `--figures` it prints,
-//! for each case, the best, the median and the worst of several rounds, in nanoseconds for an item or a call. A run's time
-//! counts only where the run's numbers come out right (`nanos_of`).
+//! for each case, the best, the median and the worst of several rounds, in nanoseconds for an item or a call. With `--tails` it
+//! prints the median and the tail of the times of single calls. A run's times count only where the run's numbers come out right
+//! (`nanos_of`).
 #![tactic(auto)]
 
+mod attempts;
 mod case;
 mod command;
 mod entry_handle;
@@ -20,6 +22,10 @@ mod semaphore_handle;
 mod spread;
 mod steps;
 mod table;
+mod tail;
+mod tail_case;
+mod tail_table;
+mod timing;
 mod visits;
 
 pub use case::Plan;

@@ -3,6 +3,7 @@
 use crate::queue_handle::QueueHandle;
 use crate::run::{Job, Passed};
 use std::sync::Wait;
+use std::time::Clock;
 
 /// What a thread does with its handle.
 #[derive(Clone, Copy)]
@@ -57,7 +58,7 @@ fn pass_all<R: Wait, P: QueueHandle>(rt: &R, handle: &mut P, count: u64) -> Pass
 }
 
 impl<P: QueueHandle + Send> Job for Passing<P> {
-    fn work<R: Wait>(&mut self, rt: &R) -> Passed {
+    fn work<R: Wait + Clock>(&mut self, rt: &R) -> Passed {
         match self.workload {
             Workload::Put { first, end } => {
                 put_all(rt, &mut self.handle, first, end);

@@ -84,7 +84,7 @@ pub struct Row<T> {
 
 impl<T: Drop> Row<T> {
     /// Puts the item in; it comes back where there is no room.
-    fn push(&mut self, item: T) -> Result<(), T> {
+    pub fn push(&mut self, item: T) -> Result<(), T> {
         if self.items.len() >= self.size {
             return Err(item);
         }

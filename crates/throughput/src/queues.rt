@@ -66,7 +66,7 @@ fn seat_handles<'q, T: Item>(
 }
 
 /// What the thread of this number does: with no pairs one does both, else the first of each pair puts in and the second takes out.
-fn part_of(number: u64, pairs: u64, items: u64) -> Workload {
+pub fn part_of(number: u64, pairs: u64, items: u64) -> Workload {
     if pairs == 0 {
         return Workload::Both { count: items };
     }

@@ -18,6 +18,7 @@ use std::time::Clock;
 const SHORT: Plan = Plan {
     rounds: 1,
     items: 200,
+    tails: false,
 };
 
 /// A table of queues of this many cells.

@@ -52,7 +52,7 @@ pub fn numbers_below(end: u64) -> Passed
 /// What one thread does in a run.
 pub trait Job: Send + Drop {
     /// Does it, and answers what came out.
-    fn work<R: Wait>(&mut self, rt: &R) -> Passed;
+    fn work<R: Wait + Clock>(&mut self, rt: &R) -> Passed;
 }
 
 /// One thread's part of a run.

@@ -16,7 +16,8 @@ pub struct Spread {
 /// The best, the median and the worst of these times; none of no times. Of an even number of times the median is the later of
 /// the two in the middle.
 pub fn spread_of(mut times: Vec<u64>) -> Result<Option<Spread>, AllocError>
-    ensures { IfOk result (λ found. MatchOption found (vec_len times ≡ 0) (λ s. IsSpread times.items s.best s.median s.worst)) }
+    ensures { IfOk result (λ found. MatchOption found (vec_len times ≡ 0)
+        (λ s. IsSpread times.items s.best s.median s.worst)) }
 {
     let count = times.len();
     if count == 0 {

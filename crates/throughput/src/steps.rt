@@ -50,7 +50,7 @@ fn deletion(words: &Words, turn: &AtomicU64) -> u64 {
 }
 
 impl<'w> Job for Walk<'w> {
-    fn work<R: Wait>(&mut self, _rt: &R) -> Passed {
+    fn work<R: Wait + Clock>(&mut self, _rt: &R) -> Passed {
         let turns = self.words.turns.as_slice();
         let mut passed = Passed::NONE;
         let mut cell = 0usize;

@@ -30,7 +30,7 @@ struct Visit<S> {
 
 impl<S: EntryHandle + Send> Job for Visit<S> {
     /// Counts the calls in which the two fields were equal, and adds up the writes.
-    fn work<R: Wait>(&mut self, rt: &R) -> Passed {
+    fn work<R: Wait + Clock>(&mut self, rt: &R) -> Passed {
         let mut passed = Passed::NONE;
         for number in 0..self.calls {
             if self.writes && number % PERIOD == PERIOD - 1 {
