@@ -1,6 +1,8 @@
-/* Prints what each pair of calls costs in nanoseconds, by one thread with nobody beside it: the best of several runs. */
+/* Prints what each pair of calls costs in nanoseconds, by one thread with nobody beside it: the median, the best and the worst of
+ * several runs. */
 #include "tests.h"
 
+#include <stdlib.h>
 #include <time.h>
 
 enum { SEATS = 1, RUNS = 200, TURNS = 20000 };
@@ -49,25 +51,29 @@ static void read_and_end(void) {
     CHECK(fak_c_files_try_read(seats, &count) == FAK_C_OK && fak_c_files_end(seats) == FAK_C_OK);
 }
 
-/* Prints the best time of one turn, and gives the seat up. */
+static int order(const void *a, const void *b) {
+    return (*(const double *)a > *(const double *)b) - (*(const double *)a < *(const double *)b);
+}
+
+/* Prints the time of one turn, and gives the seat up. */
 static void measure(const char *name, int32_t opened, void (*turn)(void)) {
-    double best = 0;
+    double runs[RUNS];
     CHECK(opened == FAK_C_OK);
     for (int run = 0; run < RUNS; run++) {
-        double start = nanoseconds(), each;
+        double start = nanoseconds();
         for (int i = 0; i < TURNS; i++)
             turn();
-        each = (nanoseconds() - start) / TURNS;
-        best = run == 0 || each < best ? each : best;
+        runs[run] = (nanoseconds() - start) / TURNS;
     }
-    printf("%-48s %6.1f\n", name, best);
+    qsort(runs, RUNS, sizeof *runs, order);
+    printf("%-48s %4.0f (%.0f to %.0f)\n", name, runs[RUNS / 2], runs[0], runs[RUNS - 1]);
     CHECK(fak_c_leave(seats) == FAK_C_OK);
 }
 
 int main(void) {
     measure("claim_insert, try_fill, claim_delete, try_take", fak_c_open(seats, SEATS, 1024, LONG_STINT), claim_and_try);
     measure("insert, delete", fak_c_open(seats, SEATS, 1024, LONG_STINT), insert_and_delete);
-    measure("a down that passes, an up that wakes nobody", fak_c_sem_open(seats, SEATS, 1, 64, LONG_STINT), pass_and_raise);
+    measure("a down that passes, an up that wakes no item", fak_c_sem_open(seats, SEATS, 1, 64, LONG_STINT), pass_and_raise);
     measure("a down that parks, an up that wakes", fak_c_sem_open(seats, SEATS, 0, 64, LONG_STINT), park_and_wake);
     measure("room_tir, room_release", fak_c_room_open(seats, SEATS, 8, LONG_STINT), claim_and_release);
     measure("credit_debit, credit_credit", fak_c_credit_open(seats, SEATS, 8, LONG_STINT), debit_and_credit);

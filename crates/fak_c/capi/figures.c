@@ -1,5 +1,5 @@
 /* What an item costs, put and got, in nanoseconds: through this library, without pauses and with them, a ring under a mutex, and a
- * ring without a lock (D. Vyukov's bounded queue, which compares and swaps). Each figure is the best and the median of some runs. */
+ * ring without a lock (D. Vyukov's bounded queue, which compares and swaps). Each figure is the median of some runs, with the best and the worst. */
 #include "fak_c.h"
 
 #include <pthread.h>
@@ -193,7 +193,7 @@ int main(void) {
             for (int i = 0; i < RUNS; i++)
                 runs[i] = pairs == 0 ? alone() : shared(pairs);
             qsort(runs, RUNS, sizeof *runs, order);
-            printf("%d pairs, %s: %.0f, %.0f\n", pairs, measured->name, runs[0], runs[RUNS / 2]);
+            printf("%d pairs, %s: %.0f (%.0f to %.0f)\n", pairs, measured->name, runs[RUNS / 2], runs[0], runs[RUNS - 1]);
         }
     }
     return 0;

@@ -65,6 +65,7 @@ static void use_a_queue(fak_c_seat *seats) {
     CHECK(fak_c_claim_insert(&seats[0], 7, &ticket) == FAK_C_OK && fak_c_try_fill(&seats[0]) == FAK_C_OK);
     CHECK(fak_c_claim_delete(&seats[1], &ticket) == FAK_C_OK && fak_c_try_take(&seats[1], &item) == FAK_C_OK && item == 7);
     CHECK(fak_c_insert(&seats[0], 8, &ticket) == FAK_C_OK && fak_c_delete(&seats[1], &ticket, &item) == FAK_C_OK && item == 8);
+    CHECK(fak_c_pause(&seats[1]) == FAK_C_OK);
     CHECK(fak_c_state(&seats[2], &state, &ticket, &left) == FAK_C_OK && fak_c_shut(&seats[2], &was_open) == FAK_C_OK);
 }
 

@@ -1,5 +1,8 @@
 //! Why an object was not opened, or a call on it was refused.
 
+use std::error::Error;
+use std::fmt;
+
 /// Why an object was not opened. Of several faults the first is answered.
 #[derive(Clone, Copy, Debug, PartialEq, Eq)]
 pub enum OpenFault {
@@ -25,3 +28,37 @@ pub enum TirFault {
 /// The seat has made all the calls of its stint.
 #[derive(Clone, Copy, Debug, PartialEq, Eq)]
 pub struct Worn;
+
+impl fmt::Display for OpenFault {
+    fn fmt<W: fmt::Write>(&self, f: &mut fmt::Formatter<W>) -> fmt::Result {
+        f.write_str(match self {
+            OpenFault::BadSize => "the bound or the start is above 4294967296",
+            OpenFault::BadSeats => "the number of seats is not 1 to 64",
+            OpenFault::BadStint => "the stint is not 1 to 1099511627776",
+            OpenFault::Memory => "out of memory",
+        })
+    }
+}
+
+impl Error for OpenFault {}
+
+impl fmt::Display for TirFault {
+    fn fmt<W: fmt::Write>(&self, f: &mut fmt::Formatter<W>) -> fmt::Result {
+        match self {
+            TirFault::Worn => f.write_str("the stint is used up"),
+            TirFault::AtBound(value) => {
+                write!(f, "the room is at its bound: its value was {value}")
+            }
+        }
+    }
+}
+
+impl Error for TirFault {}
+
+impl fmt::Display for Worn {
+    fn fmt<W: fmt::Write>(&self, f: &mut fmt::Formatter<W>) -> fmt::Result {
+        f.write_str("the stint is used up")
+    }
+}
+
+impl Error for Worn {}

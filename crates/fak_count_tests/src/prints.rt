@@ -45,3 +45,19 @@ fn credits_print_their_numbers(rt: HostRuntime) -> Result<(), Fail> {
     );
     Ok(())
 }
+
+#[test]
+fn faults_say_what_is_the_matter(rt: HostRuntime) -> Result<(), Fail> {
+    let alloc = rt.alloc();
+    let text = format!(in alloc; "{}; {}; {Worn}", TirFault::AtBound(5), TirFault::Worn)?;
+    assert_eq!(rt;
+        text.as_str(),
+        "the room is at its bound: its value was 5; the stint is used up; the stint is used up"
+    );
+    let text = format!(in alloc; "{}; {}", OpenFault::BadSize, OpenFault::BadStint)?;
+    assert_eq!(rt;
+        text.as_str(),
+        "the bound or the start is above 4294967296; the stint is not 1 to 1099511627776"
+    );
+    Ok(())
+}

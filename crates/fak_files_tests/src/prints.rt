@@ -1,6 +1,6 @@
-//! What tables, seats and tallies print.
+//! What tables, seats, tallies and faults print.
 
-use fak_files::{FileField, FileTable, FileTally, Hold};
+use fak_files::{FileFault, FileField, FileTable, FileTally, Hold, OpenFault, Worn};
 use std::test::*;
 
 #[test]
@@ -30,6 +30,22 @@ fn file_tables_print_their_numbers(rt: HostRuntime) -> Result<(), Fail> {
     assert_eq!(rt;
         text.as_str(),
         "FileRest { entries: [FileEntry { inode: 0, uses: 0 }, FileEntry { inode: 0, uses: 3 }] }"
+    );
+    Ok(())
+}
+
+#[test]
+fn faults_say_what_is_the_matter(rt: HostRuntime) -> Result<(), Fail> {
+    let alloc = rt.alloc();
+    let text = format!(in alloc; "{}; {}; {Worn}", FileFault::Busy(2), FileFault::Worn)?;
+    assert_eq!(rt;
+        text.as_str(),
+        "others hold the table: its count was 2; the stint is used up; the stint is used up"
+    );
+    let text = format!(in alloc; "{}; {}", OpenFault::BadSize, OpenFault::BadSeats)?;
+    assert_eq!(rt;
+        text.as_str(),
+        "the number of entries is not 1 to 16; the number of seats is not 1 to 64"
     );
     Ok(())
 }

@@ -1,5 +1,8 @@
 //! Why a semaphore was not opened, or a call on it was refused.
 
+use std::error::Error;
+use std::fmt;
+
 /// Why a semaphore was not opened. Of several faults the first is answered.
 #[derive(Clone, Copy, Debug, PartialEq, Eq, Drop)]
 pub enum OpenFault {
@@ -16,3 +19,22 @@ pub enum OpenFault {
 /// The seat has made all the downs and ups of its stint. The item of the down comes back.
 #[derive(Clone, Copy, Debug, PartialEq, Eq, Drop)]
 pub struct SemWorn<T>(pub T);
+
+impl fmt::Display for OpenFault {
+    fn fmt<W: fmt::Write>(&self, f: &mut fmt::Formatter<W>) -> fmt::Result {
+        f.write_str(match self {
+            OpenFault::BadSize => "the start is above 4294967296, or the size is not 1 to 4096",
+            OpenFault::BadSeats => "the number of seats is not 1 to 64",
+            OpenFault::BadStint => "the stint is not 1 to 1099511627776",
+            OpenFault::Memory => "out of memory",
+        })
+    }
+}
+
+impl Error for OpenFault {}
+
+impl<T> fmt::Display for SemWorn<T> {
+    fn fmt<W: fmt::Write>(&self, f: &mut fmt::Formatter<W>) -> fmt::Result {
+        f.write_str("the stint is used up")
+    }
+}

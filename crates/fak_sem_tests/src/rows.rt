@@ -175,3 +175,15 @@ fn what_debug_prints(rt: HostRuntime) {
         "{text}"
     );
 }
+
+#[test]
+fn what_faults_say(rt: HostRuntime) {
+    let text = format!(in rt.alloc(); "{}; {}", OpenFault::BadSize, SemWorn(7u64)).expect(
+        &rt, "memory",
+    );
+    assert!(rt;
+        text.as_str()
+            == "the start is above 4294967296, or the size is not 1 to 4096; the stint is used up",
+        "{text}"
+    );
+}
