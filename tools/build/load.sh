@@ -23,8 +23,10 @@ begin_load() {
 end_load() {
     printf '%s %s %s %s %s %s\n' "$load_begun" "$(date +%s.%N)" "$load_busy" "$(busy_seconds)" "$load_own" "$(own_seconds)" \
         | awk -v processors="$(getconf _NPROCESSORS_ONLN)" '{
-            others = ($4 - $3) - ($6 - $5)
-            printf "other programs took %.0f %% of the processors; ", others <= 0 ? 0 : 100 * others / (($2 - $1) * processors)
+            share = 100 * (($4 - $3) - ($6 - $5)) / (($2 - $1) * processors)
+            if (share < 0) share = 0
+            if (share > 100) share = 100
+            printf "other programs took %.0f %% of the processors; ", share
         }'
     printf 'load average at the end: %s\n' "$(cut -d ' ' -f 1-3 /proc/loadavg)"
 }

@@ -196,10 +196,10 @@ int main(int count, char **arguments) {
     for (int round = 0; round < rounds; round++)
         for (int row = 0; row < PARTS; row++)
             times[row][round] = once(row, (uint64_t)items);
-    printf("%-38s | %6s %6s %6s\n", "nanoseconds an item, 1,024 cells", "best", "median", "worst");
+    puts("Nanoseconds an item, 1,024 cells: the median, the best and the worst");
     for (int row = 0; row < PARTS; row++) {
         qsort(times[row], (size_t)rounds, sizeof(double), by_size);
-        printf("%-38s | %6.1f %6.1f %6.1f\n", rows[row].name, times[row][0], times[row][rounds / 2], times[row][rounds - 1]);
+        printf("%-36s %4.0f (%.0f, %.0f)\n", rows[row].name, times[row][rounds / 2], times[row][0], times[row][rounds - 1]);
     }
     return 0;
 }
