@@ -5,9 +5,9 @@ busy_seconds() {
     awk -v hertz="$(getconf CLK_TCK)" '/^cpu / { print ($2 + $3 + $4 + $7 + $8 + $9) / hertz }' /proc/stat
 }
 
-# The seconds that this script and the programs that it ran took: `times` prints 0m1.250s for each of user and system.
+# The seconds that this script and the programs that it ran took, by what `times` has printed: 0m1.250s for each of user and system. A
+# subshell would print its own.
 own_seconds() {
-    times > "$out/times"
     awk '{ for (i = 1; i <= 2; i++) { split($i, part, /[ms]/); sum += 60 * part[1] + part[2] } } END { print sum }' "$out/times"
 }
 
@@ -16,11 +16,13 @@ begin_load() {
     printf '%s processors; load average at the start: %s\n' "$(getconf _NPROCESSORS_ONLN)" "$(cut -d ' ' -f 1-3 /proc/loadavg)"
     load_begun=$(date +%s.%N)
     load_busy=$(busy_seconds)
+    times > "$out/times"
     load_own=$(own_seconds)
 }
 
 # Prints the share of the processors that other programs took since, and the load average again.
 end_load() {
+    times > "$out/times"
     printf '%s %s %s %s %s %s\n' "$load_begun" "$(date +%s.%N)" "$load_busy" "$(busy_seconds)" "$load_own" "$(own_seconds)" \
         | awk -v processors="$(getconf _NPROCESSORS_ONLN)" '{
             share = 100 * (($4 - $3) - ($6 - $5)) / (($2 - $1) * processors)
