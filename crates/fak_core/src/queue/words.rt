@@ -1,6 +1,6 @@
 //! The words and the cells of a queue.
 
-ghost use Rattle.std.specs.Prelude.{◌≡◌, ◌%◌, ◌≤◌, ◌<◌, ◌^◌, IfErr, IfOk, get_or, length};
+ghost use Rattle.std.specs.Prelude.{◌≡◌, ◌%◌, ◌≤◌, ◌<◌, ◌^◌, IfErr, IfOk, slice_index_or, length};
 ghost use Rattle.fak_core.specs.declared.fault.CoreFault.TheVariants.{Memory};
 ghost use Rattle.fak_core.specs.QueueFields.{HasTicketBelow, IsSmall, IsWithin, opening_fields, queue_state, written_fields};
 ghost use Rattle.fak_core.specs.QueueMoves.{move_by};
@@ -90,7 +90,7 @@ impl QueueWords {
     fn turn(&self, ticket: u64) -> u64
         requires size { 1 ≤ self.now.size }
         requires turns { length self.now.turns.items ≡ self.now.size }
-        ensures { result ≡ get_or self.now.turns.items (ticket % self.now.size) 0 }
+        ensures { result ≡ slice_index_or self.now.turns.items (ticket % self.now.size) 0 }
     {
         self.turns[cell_of(ticket, self.size) as usize]
     }
@@ -99,7 +99,7 @@ impl QueueWords {
     fn content(&self, ticket: u64) -> Option<u64>
         requires size { 1 ≤ self.now.size }
         requires cells { length self.now.cells.items ≡ self.now.size }
-        ensures { result ≡ get_or self.now.cells.items (ticket % self.now.size) None }
+        ensures { result ≡ slice_index_or self.now.cells.items (ticket % self.now.size) None }
     {
         self.cells[cell_of(ticket, self.size) as usize]
     }
