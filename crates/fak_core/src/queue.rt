@@ -74,7 +74,7 @@ impl Eq for QueueCore {
 }
 
 /// The phase in which a call of a seat in this phase begins.
-fn first_phase(at: Phase<u64>, call: QueueCall) -> Result<Phase<u64>, CoreFault>
+fn phase_begin(at: Phase<u64>, call: QueueCall) -> Result<Phase<u64>, CoreFault>
     ensures { result ≡ phase_begin (Some at) call }
 {
     match at {
@@ -136,7 +136,7 @@ impl QueueCore {
         if seat >= self.phases.len() as u64 {
             return Err(CoreFault::NoSuchSeat);
         }
-        let phase = first_phase(self.phases[seat as usize], call)?;
+        let phase = phase_begin(self.phases[seat as usize], call)?;
         self.phases[seat as usize] = phase;
         Ok(())
     }
@@ -153,7 +153,7 @@ impl QueueCore {
         ensures fault { IfErr result (λ fault. (step_of self.old seat ≡ Err fault)
             ⊎ ((fault ≡ Memory) × LeavesMark (step_of self.old seat))) }
     {
-        let step = self.next_step(seat)?;
+        let step = self.step_of(seat)?;
         if let Err(fault) = keep_mark(&mut self.marks, &mut self.items, seat, step.mark) {
             return Err(fault);
         }
@@ -163,7 +163,7 @@ impl QueueCore {
     }
 
     /// The next step of a seat.
-    fn next_step(&self, seat: u64) -> Result<QueueMove<u64>, CoreFault>
+    fn step_of(&self, seat: u64) -> Result<QueueMove<u64>, CoreFault>
         ensures { result ≡ step_of self.now seat }
     {
         if seat >= self.phases.len() as u64 {
@@ -173,7 +173,7 @@ impl QueueCore {
         let _marks = self.marks.as_slice();
         let phase = self.phases[seat as usize];
         let drawn = item_put(&self.items, self.words.draws_out);
-        let Some(step) = self.words.next_move(drawn, phase) else {
+        let Some(step) = self.words.move_by(drawn, phase) else {
             return Err(CoreFault::IdleSeat);
         };
         Ok(step)

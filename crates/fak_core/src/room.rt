@@ -13,7 +13,7 @@ use crate::call::RoomCall;
 use crate::fault::CoreFault;
 use crate::line::Line;
 use fak_model::{LARGEST_BOUND, MOST_SEATS, RoomMark};
-use moves::{add_mark, first_phase_of, line_mark_of, move_of};
+use moves::{begun_phase, keep_mark, line_mark, next_move};
 use phase::{CoreSeat, RoomPhase};
 use std::alloc::Global;
 use std::marker::Model;
@@ -142,7 +142,7 @@ impl RoomCore {
             return Err(CoreFault::NoSuchSeat);
         }
         let at = self.seats[seat as usize];
-        let phase = first_phase_of(at, call)?;
+        let phase = begun_phase(at, call)?;
         self.seats[seat as usize] = CoreSeat {
             held: at.held,
             phase,
@@ -164,10 +164,10 @@ impl RoomCore {
         }
         let at = self.seats[seat as usize];
         let found = self.count;
-        let Some(step) = move_of(self.bound, found, at) else {
+        let Some(step) = next_move(self.bound, found, at) else {
             return Err(CoreFault::IdleSeat);
         };
-        if let Err(fault) = add_mark(&mut self.marks, seat, step.mark) {
+        if let Err(fault) = keep_mark(&mut self.marks, seat, step.mark) {
             return Err(fault);
         }
         self.count = step.count;
@@ -176,7 +176,7 @@ impl RoomCore {
             seat,
             step: step.step,
             found: found as i128,
-            mark: line_mark_of(step.mark),
+            mark: line_mark(step.mark),
         })
     }
 }

@@ -34,7 +34,7 @@ fn are_printable(bytes: &[u8]) -> bool
 }
 
 /// Whether a text may be said.
-fn may_be_said(text: &str) -> bool
+fn is_sayable(text: &str) -> bool
     ensures { result ≡ is_sayable text.now }
 {
     text.len() <= MOST_CHARACTERS && are_printable(text.as_bytes())
@@ -48,7 +48,7 @@ fn wrong_text(size: usize, text: Option<&str>) -> Option<Wrong>
         return Some(whole("a step of this name has two elements"));
     }
     match text {
-        Some(text) if may_be_said(text) => None,
+        Some(text) if is_sayable(text) => None,
         _ => Some(element(
             1,
             "what is said is a text of 0 to 80 characters, each from space to tilde",

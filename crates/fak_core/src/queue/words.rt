@@ -52,7 +52,7 @@ impl QueueWords {
     }
 
     /// The step of a seat in this phase, where the next deletion's ticket draws `drawn`.
-    pub fn next_move(&self, drawn: Option<u64>, phase: Phase<u64>) -> Option<QueueMove<u64>>
+    pub fn move_by(&self, drawn: Option<u64>, phase: Phase<u64>) -> Option<QueueMove<u64>>
         requires size { (1 ≤ self.now.size) × (self.now.size ≤ 4096) }
         requires upper { IsSmall self.now.upper }
         requires lower { IsSmall self.now.lower }

@@ -12,7 +12,7 @@ use crate::line::{CoreMove, LineMark};
 use fak_model::{RoomKind, RoomMark};
 
 /// Whether `d` more than was found fits the bound.
-fn fits_in(bound: u64, found: i64, d: u64) -> bool
+fn fits(bound: u64, found: i64, d: u64) -> bool
     requires bound { bound ≤ 4294967296 }
     requires low { pos 0 ≤ℤ found }
     requires high { found ≤ℤ pos 8589934592 }
@@ -23,7 +23,7 @@ fn fits_in(bound: u64, found: i64, d: u64) -> bool
 }
 
 /// The load of a claim, where its test passes or fails.
-fn test_of(passes: bool, found: i64, held: u64, d: u64) -> RoomMove
+fn test_move(passes: bool, found: i64, held: u64, d: u64) -> RoomMove
     ensures { result ≡ test_move passes found held d }
 {
     let (mark, phase) = if passes {
@@ -40,7 +40,7 @@ fn test_of(passes: bool, found: i64, held: u64, d: u64) -> RoomMove
 }
 
 /// The add of a claim, where the test of what it found passes or fails.
-fn add_of(passes: bool, found: i64, held: u64, d: u64) -> RoomMove
+fn add_move(passes: bool, found: i64, held: u64, d: u64) -> RoomMove
     requires found { found ≤ℤ pos 8589934592 }
     requires held { held ≤ 4294967296 }
     requires amount { d ≤ 1024 }
@@ -60,7 +60,7 @@ fn add_of(passes: bool, found: i64, held: u64, d: u64) -> RoomMove
 }
 
 /// The subtraction that withdraws a claim.
-fn back_of(found: i64, held: u64, d: u64) -> RoomMove
+fn back_move(found: i64, held: u64, d: u64) -> RoomMove
     requires found { pos 0 ≤ℤ found }
     requires amount { d ≤ 1024 }
     ensures { result ≡ back_move found held d }
@@ -77,7 +77,7 @@ fn back_of(found: i64, held: u64, d: u64) -> RoomMove
 }
 
 /// The subtraction that gives an amount back.
-fn release_of(found: i64, held: u64, d: u64) -> RoomMove
+fn release_move(found: i64, held: u64, d: u64) -> RoomMove
     requires found { pos 0 ≤ℤ found }
     requires amount { (d ≤ 1024) × (d ≤ held) }
     ensures { result ≡ release_move found held d }
@@ -94,7 +94,7 @@ fn release_of(found: i64, held: u64, d: u64) -> RoomMove
 }
 
 /// The next step of a seat, where the word has the value `found`; None where the seat is idle.
-pub(crate) fn move_of(bound: u64, found: i64, seat: CoreSeat) -> Option<RoomMove>
+pub(crate) fn next_move(bound: u64, found: i64, seat: CoreSeat) -> Option<RoomMove>
     requires bound { bound ≤ 4294967296 }
     requires low { pos 0 ≤ℤ found }
     requires high { found ≤ℤ pos 8589934592 }
@@ -106,20 +106,20 @@ pub(crate) fn move_of(bound: u64, found: i64, seat: CoreSeat) -> Option<RoomMove
     match seat.phase {
         RoomPhase::Idle => None,
         RoomPhase::Testing(d) => {
-            let fits = fits_in(bound, found, d);
-            Some(test_of(fits, found, held, d))
+            let passes = fits(bound, found, d);
+            Some(test_move(passes, found, held, d))
         }
         RoomPhase::Adding(d) => {
-            let still_fits = fits_in(bound, found, d);
-            Some(add_of(still_fits, found, held, d))
+            let still_fits = fits(bound, found, d);
+            Some(add_move(still_fits, found, held, d))
         }
-        RoomPhase::Backing(d) => Some(back_of(found, held, d)),
-        RoomPhase::Releasing(d) => Some(release_of(found, held, d)),
+        RoomPhase::Backing(d) => Some(back_move(found, held, d)),
+        RoomPhase::Releasing(d) => Some(release_move(found, held, d)),
     }
 }
 
 /// The phase in which a call of this seat begins.
-pub(crate) fn first_phase_of(seat: CoreSeat, call: RoomCall) -> Result<RoomPhase, CoreFault>
+pub(crate) fn begun_phase(seat: CoreSeat, call: RoomCall) -> Result<RoomPhase, CoreFault>
     ensures { result ≡ begun_phase seat.held seat.phase call }
 {
     match (seat.phase, call) {
@@ -135,8 +135,8 @@ pub(crate) fn first_phase_of(seat: CoreSeat, call: RoomCall) -> Result<RoomPhase
     }
 }
 
-/// Adds the mark of a step to the marks, if it leaves one.
-pub(crate) fn add_mark(
+/// Keeps the mark of a step of this seat, if it leaves one.
+pub(crate) fn keep_mark(
     marks: &mut Vec<RoomMark>,
     seat: u64,
     mark: Option<RoomKind>,
@@ -154,7 +154,7 @@ pub(crate) fn add_mark(
 }
 
 /// The mark of a step's line.
-pub(crate) fn line_mark_of(mark: Option<RoomKind>) -> Option<LineMark>
+pub(crate) fn line_mark(mark: Option<RoomKind>) -> Option<LineMark>
     ensures { result ≡ line_mark mark }
 {
     mark.map(LineMark::Room)

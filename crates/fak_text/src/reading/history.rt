@@ -48,7 +48,7 @@ fn kind_named(name: &str, n: u64) -> Option<Kind<u64>>
 }
 
 /// Whether a mark has three elements where it bears a number, and else two.
-fn has_its_elements(borne: Option<u64>, size: usize, number: Option<u64>) -> bool
+fn is_complete(borne: Option<u64>, size: usize, number: Option<u64>) -> bool
     ensures { result ≡ is_complete borne size number }
 {
     match borne {
@@ -67,7 +67,7 @@ fn mark_from(index: u64, value: &Value) -> Result<Mark<u64>, TextFault>
     let name = text_at(value, 1).ok_or(FAULT)?;
     let third = number_at(value, 2);
     let kind = kind_named(name, third.unwrap_or(0)).ok_or(TextFault::UnknownOp(index))?;
-    let complete = has_its_elements(number(kind), count(items), third);
+    let complete = is_complete(number(kind), count(items), third);
     if seat <= LAST_SEAT && complete {
         Ok(Mark { seat, kind })
     } else {

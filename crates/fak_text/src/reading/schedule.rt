@@ -37,7 +37,7 @@ pub(crate) enum Op {
 }
 
 #[tactic(auto, unfolding(crate::specs::ScheduleText::room_op))]
-fn room_op_named(name: &str) -> Option<Op>
+fn room_op(name: &str) -> Option<Op>
     ensures { result ≡ room_op name.now }
 {
     match name {
@@ -49,7 +49,7 @@ fn room_op_named(name: &str) -> Option<Op>
 }
 
 #[tactic(auto, unfolding(crate::specs::ScheduleText::queue_op))]
-fn queue_op_named(name: &str) -> Option<Op>
+fn queue_op(name: &str) -> Option<Op>
     ensures { result ≡ queue_op name.now }
 {
     match name {
@@ -62,12 +62,12 @@ fn queue_op_named(name: &str) -> Option<Op>
 }
 
 /// The operation of this name that the object has.
-fn op_of(object: Object, name: &str) -> Option<Op>
+fn op_named(object: Object, name: &str) -> Option<Op>
     ensures { result ≡ op_named object name.now }
 {
     match object {
-        Object::Room(_) => room_op_named(name),
-        Object::Queue(_) => queue_op_named(name),
+        Object::Room(_) => room_op(name),
+        Object::Queue(_) => queue_op(name),
     }
 }
 
@@ -139,7 +139,7 @@ fn event_from(object: Object, index: u64, value: &Value) -> Result<Event, TextFa
     let items = value.as_array().ok_or(FAULT)?;
     let seat = number_at(value, 0).ok_or(FAULT)?;
     let name = text_at(value, 1).ok_or(FAULT)?;
-    let op = op_of(object, name).ok_or(TextFault::UnknownOp(index))?;
+    let op = op_named(object, name).ok_or(TextFault::UnknownOp(index))?;
     let act = act_from(op, count(items), number_at(value, 2))?;
     Ok(Event { seat, act })
 }

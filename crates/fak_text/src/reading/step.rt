@@ -42,7 +42,7 @@ pub(crate) enum StepOp {
 
 /// The operation of this name, in any version.
 #[tactic(auto, unfolding(crate::specs::StepText::any_op_named))]
-fn any_op(name: &str) -> Option<StepOp>
+fn any_op_named(name: &str) -> Option<StepOp>
     ensures { result ≡ any_op_named name.now }
 {
     match name {
@@ -60,7 +60,7 @@ fn any_op(name: &str) -> Option<StepOp>
 }
 
 /// Whether scripts of this version have the operation.
-fn is_in_version(version: u64, op: StepOp) -> bool
+fn has_op(version: u64, op: StepOp) -> bool
     ensures { result ≡ has_op version op }
 {
     match op {
@@ -70,11 +70,11 @@ fn is_in_version(version: u64, op: StepOp) -> bool
 }
 
 /// The operation of this name, in scripts of this version.
-fn op_of(version: u64, name: &str) -> Option<StepOp>
+fn step_op_named(version: u64, name: &str) -> Option<StepOp>
     ensures { result ≡ step_op_named version name.now }
 {
-    match any_op(name) {
-        Some(op) if is_in_version(version, op) => Some(op),
+    match any_op_named(name) {
+        Some(op) if has_op(version, op) => Some(op),
         _ => None,
     }
 }
@@ -87,7 +87,7 @@ fn are_printable(bytes: &[u8]) -> bool
 }
 
 /// Whether a text may be said.
-fn may_be_said(text: &str) -> bool
+fn is_sayable(text: &str) -> bool
     ensures { result ≡ is_sayable text.now }
 {
     text.len() <= MOST_CHARACTERS && are_printable(text.as_bytes())
@@ -98,7 +98,7 @@ fn said_text(size: usize, text: Option<&str>) -> Result<&str, TextFault>
     ensures { Gives (λ t. t.now) result (said_text size (option_map (λ t. t.now) text.entry)) }
 {
     match text {
-        Some(text) if size == 2 && may_be_said(text) => Ok(text),
+        Some(text) if size == 2 && is_sayable(text) => Ok(text),
         _ => Err(FAULT),
     }
 }
@@ -177,7 +177,7 @@ fn step_from(
 {
     let items = value.as_array().ok_or(FAULT)?;
     let name = text_at(value, 0).ok_or(FAULT)?;
-    let op = op_of(limits.version, name).ok_or(TextFault::UnknownOp(index))?;
+    let op = step_op_named(limits.version, name).ok_or(TextFault::UnknownOp(index))?;
     let text = text_at(value, 1);
     let number = number_at(value, 1);
     step_with(alloc, limits, op, count(items), text, number)

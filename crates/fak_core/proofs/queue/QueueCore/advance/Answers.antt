@@ -9,7 +9,7 @@ abbrev before : goal.After-write-arg-1 → QueueFields
 before c = record (fields_of c.self.inside.words) { phases = c.self.inside.phases.items; past = reverse c.self.inside.marks.items }
 
 steps : (c : goal.After-write-arg-1) → step_of (before c) c.args.seat ≡ Ok c.in_ok-step.step
-steps c = subst (λ (f : QueueFields). step_of f c.args.seat ≡ Ok c.in_ok-step.step) (sym c.self.view_is) (sym c.next_step.ensures ∙ c.in_ok-step.was)
+steps c = subst (λ (f : QueueFields). step_of f c.args.seat ≡ Ok c.in_ok-step.step) (sym c.self.view_is) (sym c.step_of.ensures ∙ c.in_ok-step.was)
 
 pub write-requires-clause-within : goal.write-requires-clause-within
 write-requires-clause-within c = within_of (before c) c.args.seat c.in_ok-step.step c.self.invariant.sound (step_made (before c) c.args.seat c.in_ok-step.step (steps c))
@@ -17,7 +17,7 @@ write-requires-clause-within c = within_of (before c) c.args.seat c.in_ok-step.s
 pub index_mut-requires : goal.index_mut-requires
 index_mut-requires c =
     let f : QueueFields = record (fields_of c.self.inside.words) { phases = c.self.inside.phases.items; past = reverse c.self.inside.marks.items } in
-    let e : step_of f c.args.seat ≡ Ok c.in_ok-step.step = subst (λ (g : QueueFields). step_of g c.args.seat ≡ Ok c.in_ok-step.step) (sym c.self.view_is) (sym c.next_step.ensures ∙ c.in_ok-step.was) in
+    let e : step_of f c.args.seat ≡ Ok c.in_ok-step.step = subst (λ (g : QueueFields). step_of g c.args.seat ≡ Ok c.in_ok-step.step) (sym c.self.view_is) (sym c.step_of.ensures ∙ c.in_ok-step.was) in
     let made = step_made f c.args.seat c.in_ok-step.step e in
     omega (arith, slice_get_within f.phases c.args.seat made.phase made.at, c.self.inside.phases.ok)
 
@@ -29,7 +29,7 @@ abbrev new : goal.After-line_of → QueueFields
 new c = record (fields_of c.write.new.self) { phases = slice_set c.self.inside.phases.items c.args.seat c.in_ok-step.step.phase; past = reverse c.keep_mark.new.marks.items }
 
 stepped : (c : goal.After-line_of) → step_of (old c) c.args.seat ≡ Ok c.in_ok-step.step
-stepped c = subst (λ (f : QueueFields). step_of f c.args.seat ≡ Ok c.in_ok-step.step) (sym c.self.view_is) (sym c.next_step.ensures ∙ c.in_ok-step.was)
+stepped c = subst (λ (f : QueueFields). step_of f c.args.seat ≡ Ok c.in_ok-step.step) (sym c.self.view_is) (sym c.step_of.ensures ∙ c.in_ok-step.was)
 
 left : (c : goal.After-line_of) → new c ≡ moved_fields (old c) c.args.seat c.in_ok-step.step
 left c = step_left (old c) (fields_of c.write.new.self) c.args.seat c.in_ok-step.step (reverse c.keep_mark.new.marks.items) c.write.ensures c.in_default.ensures.ok

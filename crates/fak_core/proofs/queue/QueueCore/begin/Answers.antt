@@ -11,7 +11,7 @@ begins : (c : goal.After-self-1) → begin_of (before c) c.args.seat c.args.call
 begins c =
     let within : c.args.seat < length c.self.inside.phases.items = omega (arith, c.len.ensures) in
     let at = slice_get_read c.self.inside.phases.items _ c.args.seat c.index.result.now refl within c.index.ensures in
-    ap (λ o. phase_begin o c.args.call) at ∙ (sym c.first_phase.ensures ∙ c.in_ok-phase.was)
+    ap (λ o. phase_begin o c.args.call) at ∙ (sym c.phase_begin.ensures ∙ c.in_ok-phase.was)
 
 pub invariant_of-self : goal.invariant_of-self
 invariant_of-self c = record { sound = sound_begun (before c) c.args.seat c.args.call c.in_ok-phase.phase c.self.invariant.sound (begins c); put = c.self.invariant.put }

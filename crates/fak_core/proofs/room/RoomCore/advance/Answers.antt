@@ -14,48 +14,48 @@ here c =
     let within : c.args.seat < length c.self.inside.seats.items = omega (arith, c.len.ensures) in
     slice_get_read c.self.inside.seats.items _ c.args.seat c.index-at.result.now refl within c.index-at.ensures
 
-pub move_of-requires-clause-low : goal.move_of-requires-clause-low
-move_of-requires-clause-low c = let v = sound_count (state c) c.self.invariant in omega (arith, ints, v.1, v.2)
+pub next_move-requires-clause-low : goal.next_move-requires-clause-low
+next_move-requires-clause-low c = let v = sound_count (state c) c.self.invariant in omega (arith, ints, v.1, v.2)
 
-pub move_of-requires-clause-high : goal.move_of-requires-clause-high
-move_of-requires-clause-high c = let v = sound_count (state c) c.self.invariant in omega (arith, ints, v.1, v.2)
+pub next_move-requires-clause-high : goal.next_move-requires-clause-high
+next_move-requires-clause-high c = let v = sound_count (state c) c.self.invariant in omega (arith, ints, v.1, v.2)
 
-pub move_of-requires-clause-held : goal.move_of-requires-clause-held
-move_of-requires-clause-held c = omega (arith, held_within (state c) c.args.seat c.index-at.result.now (sound_kept (state c) c.self.invariant) (here c), c.self.invariant.bound)
+pub next_move-requires-clause-held : goal.next_move-requires-clause-held
+next_move-requires-clause-held c = omega (arith, held_within (state c) c.args.seat c.index-at.result.now (sound_kept (state c) c.self.invariant) (here c), c.self.invariant.bound)
 
-pub move_of-requires-clause-range : goal.move_of-requires-clause-range
-move_of-requires-clause-range c = ((sound_kept (state c) c.self.invariant).seats c.args.seat c.index-at.result.now (here c)).range
+pub next_move-requires-clause-range : goal.next_move-requires-clause-range
+next_move-requires-clause-range c = ((sound_kept (state c) c.self.invariant).seats c.args.seat c.index-at.result.now (here c)).range
 
 pub returns-in_default-clause-fault : goal.returns-in_default-clause-fault
 returns-in_default-clause-fault c =
     let within : c.args.seat < length c.self.inside.seats.items = omega (arith, c.len.ensures) in
-    let is = step_found (record { bound = c.self.inside.bound; count = c.self.inside.count; seats = c.self.inside.seats.items; past = reverse c.self.inside.marks.items }) c.args.seat c.index-at.result.now c.move_of.result c.self.invariant within c.index-at.ensures c.move_of.ensures in
+    let is = step_found (record { bound = c.self.inside.bound; count = c.self.inside.count; seats = c.self.inside.seats.items; past = reverse c.self.inside.marks.items }) c.args.seat c.index-at.result.now c.next_move.result c.self.invariant within c.index-at.ensures c.next_move.ensures in
     inl (rw (← c.self.view_is) (is ∙ ap or_idle c.in_default.is))
 
 pub returns-in-Err-clause-fault : goal.returns-in-Err-clause-fault
 returns-in-Err-clause-fault c =
     let within : c.args.seat < length c.self.inside.seats.items = omega (arith, c.len.ensures) in
-    let is = step_found (record { bound = c.self.inside.bound; count = c.self.inside.count; seats = c.self.inside.seats.items; past = reverse c.self.inside.marks.items }) c.args.seat c.index-at.result.now c.move_of.result c.self.invariant within c.index-at.ensures c.move_of.ensures in
+    let is = step_found (record { bound = c.self.inside.bound; count = c.self.inside.count; seats = c.self.inside.seats.items; past = reverse c.self.inside.marks.items }) c.args.seat c.index-at.result.now c.next_move.result c.self.invariant within c.index-at.ensures c.next_move.ensures in
     inr (c.in-Err.ensures.fault.0, rw (← c.self.view_is) (c.in-Some.step, (is ∙ ap or_idle c.in-Some.is), c.in-Err.ensures.fault.1))
 
-abbrev before : goal.After-line_mark_of → RoomState
+abbrev before : goal.After-line_mark → RoomState
 before c = record { bound = c.self.inside.bound; count = c.self.inside.count; seats = c.self.inside.seats.items; past = reverse c.self.inside.marks.items }
 
-steps : (c : goal.After-line_mark_of) → step_of (before c) c.args.seat ≡ Ok c.in-Some.step
+steps : (c : goal.After-line_mark) → step_of (before c) c.args.seat ≡ Ok c.in-Some.step
 steps c =
     let within : c.args.seat < length c.self.inside.seats.items = omega (arith, c.len.ensures) in
-    step_found (before c) c.args.seat c.index-at.result.now c.move_of.result c.self.invariant within c.index-at.ensures c.move_of.ensures ∙ ap or_idle c.in-Some.is
+    step_found (before c) c.args.seat c.index-at.result.now c.next_move.result c.self.invariant within c.index-at.ensures c.next_move.ensures ∙ ap or_idle c.in-Some.is
 
 pub invariant_of-self-2 : goal.invariant_of-self-2
-invariant_of-self-2 c = step_sound (before c) c.args.seat c.in-Some.step (reverse c.add_mark.new.marks.items) c.self.invariant (steps c) c.in_default-add_mark.ensures.ok
+invariant_of-self-2 c = step_sound (before c) c.args.seat c.in-Some.step (reverse c.keep_mark.new.marks.items) c.self.invariant (steps c) c.in_default-keep_mark.ensures.ok
 
 pub returns-clause-ok : goal.returns-clause-ok
 returns-clause-ok c =
-    let after : RoomState = record { bound = c.self.inside.bound; count = to_z w64 (of_z w64 c.in-Some.step.count); seats = slice_set c.self.inside.seats.items c.args.seat c.in-Some.step.seat; past = reverse c.add_mark.new.marks.items } in
-    let P : RoomState → Type 0 = λ (s : RoomState). IsStep s c.args.seat (record { seat = c.args.seat; step = c.in-Some.step.step; found = to_z w128 (of_z w128 (to_z w64 (of_z w64 c.self.inside.count))); mark = c.line_mark_of.result }) after in
+    let after : RoomState = record { bound = c.self.inside.bound; count = to_z w64 (of_z w64 c.in-Some.step.count); seats = slice_set c.self.inside.seats.items c.args.seat c.in-Some.step.seat; past = reverse c.keep_mark.new.marks.items } in
+    let P : RoomState → Type 0 = λ (s : RoomState). IsStep s c.args.seat (record { seat = c.args.seat; step = c.in-Some.step.step; found = to_z w128 (of_z w128 (to_z w64 (of_z w64 c.self.inside.count))); mark = c.line_mark.result }) after in
     subst P c.self.view_is (record {
       step = c.in-Some.step;
       is = steps c;
-      says = step_line (before c) c.args.seat c.in-Some.step c.line_mark_of.result c.self.invariant c.line_mark_of.ensures;
-      leaves = step_left (before c) c.args.seat c.in-Some.step (reverse c.add_mark.new.marks.items) c.self.invariant (steps c) c.in_default-add_mark.ensures.ok;
+      says = step_line (before c) c.args.seat c.in-Some.step c.line_mark.result c.self.invariant c.line_mark.ensures;
+      leaves = step_left (before c) c.args.seat c.in-Some.step (reverse c.keep_mark.new.marks.items) c.self.invariant (steps c) c.in_default-keep_mark.ensures.ok;
     })

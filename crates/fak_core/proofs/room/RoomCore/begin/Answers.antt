@@ -14,7 +14,7 @@ seat_now c = record { held = c.index-at.result.now.held; phase = c.in_ok-phase.p
 begins : (c : goal.After-self-1) → begin_of (state c) c.args.seat c.args.call ≡ Ok (seat_now c)
 begins c =
     let within : c.args.seat < length c.self.inside.seats.items = omega (arith, c.len.ensures) in
-    begin_is (state c) c.args.seat c.args.call c.index-at.result.now (Ok c.in_ok-phase.phase) (slice_get_read c.self.inside.seats.items _ c.args.seat c.index-at.result.now refl within c.index-at.ensures) (sym c.first_phase_of.ensures ∙ c.in_ok-phase.was)
+    begin_is (state c) c.args.seat c.args.call c.index-at.result.now (Ok c.in_ok-phase.phase) (slice_get_read c.self.inside.seats.items _ c.args.seat c.index-at.result.now refl within c.index-at.ensures) (sym c.begun_phase.ensures ∙ c.in_ok-phase.was)
 
 pub invariant_of-self : goal.invariant_of-self
 invariant_of-self c = sound_begun (state c) c.args.seat c.args.call (seat_now c) c.requires c.self.invariant (begins c)
