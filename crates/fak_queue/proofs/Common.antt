@@ -28,7 +28,7 @@ pub use Rattle.fak_queue.specs.Queues.{QueueInfo, size_of, made_by, Makes, Inser
 pub use Rattle.fak_queue.specs.Refusals.{RefusesInsertion, IsInRange, RefusesDeletion}
 pub use Rattle.fak_queue.specs.Retries.{kinds_in, kinds_out, RefusedInsertion, NotIn, WithdrawnIn, ClosedIn, WithdrawnLate, RefusedDeletion, NotOut, WithdrawnOut, kinds_not_in, kinds_not_out, InsertsAfterFull, IsFull, IsClosed, MakesAtLast, before_last, ClosesAfterFull, DeletesAfterEmpty}
 pub use Rattle.fak_queue.specs.Shown.{QueueHolder, queue_object, IsShownQueue, QueueView, IsAtHome, IsEncoded, opened_queue, HasSlot}
-pub use Rattle.fak_queue.specs.Steps.{mark, Named, ShutAs, TurnedIn, FilledCell, EndsIn, TurnedOut, FreedCell, EndsOut, Shuts, Marks, TestedUp, AddedUp, BacksUp, DrewIn, TestedLow, SubtractedLow, BacksLow, DrawsOut, TestsUp, AddsUp, DrawsIn, TurnsIn, SetsFull, TestsLow, SubtractsLow, TurnsOut, SetsFree, HeardJoin, WaitsOut, WaitsIn, FitsTable, HasOneName}
+pub use Rattle.fak_queue.specs.Steps.{mark, Named, ShutAs, TurnedIn, FilledCell, EndsIn, TurnedOut, FreedCell, EndsOut, Shuts, Marks, TestedUp, AddedUp, BacksUp, DrewIn, TestedLow, SubtractedLow, BacksLow, DrawsOut, TestsUp, AddsUp, DrawsIn, TurnsIn, SetsFull, TestsLow, SubtractsLow, TurnsOut, SetsFree, HeardJoin, WaitsOut, WaitsIn, FitsTable}
 pub use Rattle.fak_model.specs.Shown.{TellsNothing}
 pub use Rattle.fak_queue.specs.Words.{UpperCount, LowerCount, IsUpperCount, AreWords, shut_bit, shut_part, IsLowerCount}
 pub use Rattle.fak_queue.specs.declared.limits.QueueLimits.{QueueLimits}

@@ -2,9 +2,10 @@
 use Rattle.fak_model.specs.declared.queue.Kind.TheVariants as made
 use Rattle.fak_model.specs.declared.name_set.NameSet.{NameSet}
 use Rattle.fak_model.specs.Names.{Has as HasName, HasJust}
+use Rattle.fak_model.specs.Views.{HasOneName}
 use Rattle.fak_core.specs.declared.queue.phase.Phase.TheVariants as phase
 use Rattle.fak_queue.specs.declared.state.SeatState.{SeatState}
-use Rattle.fak_queue.proofs.Common.{Idle, Inserting, Deleting, QueueLimits, QueueHolder, RefusesInsertion, ◌≡◌, ℕ, ◌+◌, ◌-◌, ◌<◌, ℤ, List, [], ◌∷◌, ◌++◌, refl, ap, sym, ◌∙◌, subst, arith, inl, inr, ⊎_elim, Bool, true, false, ◌⊎◌, ◌↔◌, reverse, All, reverse-reverse, queue_rules, IsQueueHistory, puts, gots, Has, stage, In, marks_of, ObjectId, object_id, SeatInfo, seat_info, Appends, IsSeatToken, TableId, Kind, Mark, Stage, count_append, token_names, token_left, token_slots, Phase, mark, Marks, FitsTable, HasOneName, ShutAs, QueueInfo, queue_info, seat_of, tickets_in, drawn_by, state_at, state_of, IsQueue, queue_seat, RestsAt, idle, inserting, deleting, IsQueueSeat, made_by, Makes, before_own, ClaimsIn, RefusesFull, RefusesClosed, ClaimsOut, RefusesEmpty, WaitsToFill, Fills, WaitsToTake, Takes, ShutsAs, ShutsAfter, fault_of, IsPart, TellsOfNeither, ClaimedIn, RefusedIn, Filled, IsTurnedAwayIn, ClaimedOut, RefusedOut, Taken, IsTurnedAwayOut}
+use Rattle.fak_queue.proofs.Common.{Idle, Inserting, Deleting, QueueLimits, QueueHolder, RefusesInsertion, ◌≡◌, ℕ, ◌+◌, ◌-◌, ◌<◌, ℤ, List, [], ◌∷◌, ◌++◌, refl, ap, sym, ◌∙◌, subst, arith, inl, inr, ⊎_elim, Bool, true, false, ◌⊎◌, ◌↔◌, reverse, All, reverse-reverse, queue_rules, IsQueueHistory, puts, gots, Has, stage, In, marks_of, ObjectId, object_id, SeatInfo, seat_info, Appends, IsSeatToken, TableId, Kind, Mark, Stage, count_append, token_names, token_left, token_slots, Phase, mark, Marks, FitsTable, ShutAs, QueueInfo, queue_info, seat_of, tickets_in, drawn_by, state_at, state_of, IsQueue, queue_seat, RestsAt, idle, inserting, deleting, IsQueueSeat, made_by, Makes, before_own, ClaimsIn, RefusesFull, RefusesClosed, ClaimsOut, RefusesEmpty, WaitsToFill, Fills, WaitsToTake, Takes, ShutsAs, ShutsAfter, fault_of, IsPart, TellsOfNeither, ClaimedIn, RefusedIn, Filled, IsTurnedAwayIn, ClaimedOut, RefusedOut, Taken, IsTurnedAwayOut}
 use Rattle.fak_queue.specs.declared.found.NoRoom.{NoRoom}
 use Rattle.fak_queue.specs.declared.found.NoRoom.TheVariants as refused
 use Rattle.fak_queue.proofs.Admissions.{closing, closed}
@@ -58,7 +59,7 @@ module _ {T : Type 0} (key : QueueLimits) {size seats name left : ℕ} {p : Phas
   pub fits_table : FitsTable mine table key key.seats
   fits_table = record { same = same_table; few = refl; words = q.words }
 
-  pub has_name : HasOneName m
+  pub has_name : HasOneName m.0
   has_name = (name, token_names f.token)
 
   pub state_now : state_of old ≡ state_in p

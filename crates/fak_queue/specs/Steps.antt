@@ -30,10 +30,6 @@ pub record IsPlace (size : ℕ) (p : Place) : Type 0 where
   pub cell_is : p.cell ≡ p.ticket % size
   pub round_is : p.round ≡ p.ticket / size
 
--- the seat's own name
-abbrev pub HasOneName : {T : Type 0} → QueueHolder T → Type 0
-HasOneName m = (n : ℕ) × (m.0.names ≡ n ∷ [])
-
 -- a fact of the seat's name
 abbrev pub Named : {T : Type 0} → QueueHolder T → (ℕ → Type 0) → Type 0
 Named m then = (n : ℕ) → m.0.names ≡ n ∷ [] → then n

@@ -1,8 +1,9 @@
 //! The claims of calls, on a seat's token: the test, the change and the retest of a count, and the draw of a ticket.
 
 ghost use Rattle.std.specs.Prelude.{◌≡◌, ◌<◌, ◌≤◌, [], MatchResult, Some};
+ghost use Rattle.fak_model.specs.Views.{HasOneName};
 ghost use Rattle.fak_core.specs.declared.queue.phase.Phase.TheVariants.{Idle};
-ghost use Rattle.fak_queue.specs.Steps.{FitsTable, HasOneName, Named};
+ghost use Rattle.fak_queue.specs.Steps.{FitsTable, Named};
 ghost use Rattle.fak_queue.specs.Parts.{ClaimedIn, ClaimedOut, RefusedIn, RefusedOut};
 
 use crate::contention::SharedCounts;
@@ -22,7 +23,7 @@ pub(crate) fn admit_insertion<T>(
 ) -> Result<u64, NoRoom>
     requires table { FitsTable token.old.table_id words.now.table_id words.now.key words.now.key.seats }
     requires size { (size ≡ words.now.table_id.slots) × (size ≤ 4096) }
-    requires seat { HasOneName token.old.me × (token.old.me.1 ≡ []) }
+    requires seat { HasOneName token.old.me.0 × (token.old.me.1 ≡ []) }
     requires phase { token.old.me.0.phase ≡ Some Idle }
     requires left { 0 < token.old.me.0.left }
     ensures same { token.new.table_id ≡ token.old.table_id }
@@ -50,7 +51,7 @@ pub(crate) fn admit_deletion<T>(
     counts: &mut SharedCounts,
 ) -> Result<u64, i64>
     requires table { FitsTable token.old.table_id words.now.table_id words.now.key words.now.key.seats }
-    requires seat { HasOneName token.old.me × (token.old.me.1 ≡ []) }
+    requires seat { HasOneName token.old.me.0 × (token.old.me.1 ≡ []) }
     requires phase { token.old.me.0.phase ≡ Some Idle }
     requires left { 0 < token.old.me.0.left }
     ensures same { token.new.table_id ≡ token.old.table_id }

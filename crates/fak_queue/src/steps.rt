@@ -4,8 +4,9 @@ pub(crate) mod deletion;
 pub(crate) mod insertion;
 
 ghost use Rattle.std.specs.Prelude.{◌≡◌, Some};
+ghost use Rattle.fak_model.specs.Views.{HasOneName};
 ghost use Rattle.fak_core.specs.declared.queue.phase.Phase.TheVariants.{Idle};
-ghost use Rattle.fak_queue.specs.Steps.{FitsTable, HasOneName, HeardJoin, Named, ShutAs};
+ghost use Rattle.fak_queue.specs.Steps.{FitsTable, HeardJoin, Named, ShutAs};
 
 use crate::limits::QueueLimits;
 use crate::plays::{Call, HearPlay, ShutPlay};
@@ -24,7 +25,7 @@ pub(crate) type QueueWords<T> = Shared<Option<T>, View<Mark<T>, Phase<T>>, Queue
 /// Sets the shut bit, and tells whether it was not set before.
 pub(crate) fn shut<T, J: Call<T>>(words: &QueueWords<T>, token: &mut QueueToken<T>) -> bool
     requires table { FitsTable token.old.table_id words.now.table_id words.now.key J.seats }
-    requires seat { HasOneName token.old.me }
+    requires seat { HasOneName token.old.me.0 }
     requires phase { token.old.me.0.phase ≡ Some Idle }
     ensures same { token.new.table_id ≡ token.old.table_id }
     ensures told { Named token.old.me

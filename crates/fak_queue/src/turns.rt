@@ -2,8 +2,9 @@
 //! them: a seat has the slot of a cell from the load that finds its turn to the store that passes the cell on.
 
 ghost use Rattle.std.specs.Prelude.{◌≡◌, [], ◌∷◌, None, Some};
+ghost use Rattle.fak_model.specs.Views.{HasOneName};
 ghost use Rattle.fak_core.specs.declared.queue.phase.Phase.TheVariants.{Idle, LoadItem, StoreItem, TurnIn, TurnOut};
-ghost use Rattle.fak_queue.specs.Steps.{FitsTable, HasOneName, IsPlace, Named};
+ghost use Rattle.fak_queue.specs.Steps.{FitsTable, IsPlace, Named};
 ghost use Rattle.fak_queue.specs.Parts.{Filled, FillsSlot, LooksIn, LooksOut, Taken, TakesSlot};
 
 use crate::place::Place;
@@ -20,7 +21,7 @@ use std::sync::Wait;
 pub(crate) fn finds_room<T>(words: &QueueWords<T>, token: &mut QueueToken<T>, place: Place) -> bool
     requires table { FitsTable token.old.table_id words.now.table_id words.now.key words.now.key.seats }
     requires place { IsPlace words.now.table_id.slots place }
-    requires seat { HasOneName token.old.me × (token.old.me.1 ≡ []) }
+    requires seat { HasOneName token.old.me.0 × (token.old.me.1 ≡ []) }
     requires phase { (x : T) × (token.old.me.0.phase ≡ Some (TurnIn place.ticket x)) }
     ensures same { token.new.table_id ≡ token.old.table_id }
     ensures told { Named token.old.me (λ n. (x : T) → token.old.me.0.phase ≡ Some (TurnIn place.ticket x)
@@ -33,7 +34,7 @@ pub(crate) fn finds_room<T>(words: &QueueWords<T>, token: &mut QueueToken<T>, pl
 pub(crate) fn fill_cell<T>(words: &QueueWords<T>, token: &mut QueueToken<T>, place: Place, item: T)
     requires table { FitsTable token.old.table_id words.now.table_id words.now.key words.now.key.seats }
     requires place { IsPlace words.now.table_id.slots place }
-    requires seat { HasOneName token.old.me }
+    requires seat { HasOneName token.old.me.0 }
     requires phase { token.old.me.0.phase ≡ Some (StoreItem place.ticket item) }
     requires slot { token.old.me.1 ≡ (place.cell, None) ∷ [] }
     ensures same { token.new.table_id ≡ token.old.table_id }
@@ -57,7 +58,7 @@ pub(crate) fn fill_cell_from<T: Drop>(
 )
     requires table { FitsTable token.old.table_id words.now.table_id words.now.key words.now.key.seats }
     requires place { IsPlace words.now.table_id.slots place }
-    requires seat { HasOneName token.old.me }
+    requires seat { HasOneName token.old.me.0 }
     requires item { (x : T) × (kept.old ≡ TurnIn place.ticket x)
         × (token.old.me.0.phase ≡ Some (StoreItem place.ticket x)) }
     requires slot { token.old.me.1 ≡ (place.cell, None) ∷ [] }
@@ -76,7 +77,7 @@ pub(crate) fn fill_cell_from<T: Drop>(
 pub(crate) fn finds_item<T>(words: &QueueWords<T>, token: &mut QueueToken<T>, place: Place) -> bool
     requires table { FitsTable token.old.table_id words.now.table_id words.now.key words.now.key.seats }
     requires place { IsPlace words.now.table_id.slots place }
-    requires seat { HasOneName token.old.me × (token.old.me.1 ≡ []) }
+    requires seat { HasOneName token.old.me.0 × (token.old.me.1 ≡ []) }
     requires phase { token.old.me.0.phase ≡ Some (TurnOut place.ticket) }
     ensures same { token.new.table_id ≡ token.old.table_id }
     ensures told { Named token.old.me
@@ -89,7 +90,7 @@ pub(crate) fn finds_item<T>(words: &QueueWords<T>, token: &mut QueueToken<T>, pl
 pub(crate) fn empty_cell<T>(words: &QueueWords<T>, token: &mut QueueToken<T>, place: Place) -> T
     requires table { FitsTable token.old.table_id words.now.table_id words.now.key words.now.key.seats }
     requires place { IsPlace words.now.table_id.slots place }
-    requires seat { HasOneName token.old.me }
+    requires seat { HasOneName token.old.me.0 }
     requires phase { token.old.me.0.phase ≡ Some (LoadItem place.ticket) }
     requires slot { (x : T) × (token.old.me.1 ≡ (place.cell, Some x) ∷ []) }
     ensures same { token.new.table_id ≡ token.old.table_id }
@@ -115,7 +116,7 @@ fn fill_later<T, R: Wait>(
 )
     requires table { FitsTable token.old.table_id words.now.table_id words.now.key words.now.key.seats }
     requires place { IsPlace words.now.table_id.slots place }
-    requires seat { HasOneName token.old.me × (token.old.me.1 ≡ []) }
+    requires seat { HasOneName token.old.me.0 × (token.old.me.1 ≡ []) }
     requires phase { token.old.me.0.phase ≡ Some (TurnIn place.ticket item) }
     ensures same { token.new.table_id ≡ token.old.table_id }
     ensures told { Named token.old.me
@@ -143,7 +144,7 @@ pub(crate) fn wait_to_fill<T, R: Wait>(
 )
     requires table { FitsTable token.old.table_id words.now.table_id words.now.key words.now.key.seats }
     requires place { IsPlace words.now.table_id.slots place }
-    requires seat { HasOneName token.old.me × (token.old.me.1 ≡ []) }
+    requires seat { HasOneName token.old.me.0 × (token.old.me.1 ≡ []) }
     requires phase { token.old.me.0.phase ≡ Some (TurnIn place.ticket item) }
     ensures same { token.new.table_id ≡ token.old.table_id }
     ensures told { Named token.old.me
@@ -165,7 +166,7 @@ fn empty_later<T, R: Wait>(
 ) -> T
     requires table { FitsTable token.old.table_id words.now.table_id words.now.key words.now.key.seats }
     requires place { IsPlace words.now.table_id.slots place }
-    requires seat { HasOneName token.old.me × (token.old.me.1 ≡ []) }
+    requires seat { HasOneName token.old.me.0 × (token.old.me.1 ≡ []) }
     requires phase { token.old.me.0.phase ≡ Some (TurnOut place.ticket) }
     ensures same { token.new.table_id ≡ token.old.table_id }
     ensures told { Named token.old.me
@@ -190,7 +191,7 @@ pub(crate) fn wait_to_empty<T, R: Wait>(
 ) -> T
     requires table { FitsTable token.old.table_id words.now.table_id words.now.key words.now.key.seats }
     requires place { IsPlace words.now.table_id.slots place }
-    requires seat { HasOneName token.old.me × (token.old.me.1 ≡ []) }
+    requires seat { HasOneName token.old.me.0 × (token.old.me.1 ≡ []) }
     requires phase { token.old.me.0.phase ≡ Some (TurnOut place.ticket) }
     ensures same { token.new.table_id ≡ token.old.table_id }
     ensures told { Named token.old.me

@@ -1,6 +1,7 @@
 //! The atomic steps of a deletion.
 
 ghost use Rattle.std.specs.Prelude.{◌≡◌, ℕ, ◌<◌, ◌≤◌, ◌∷◌, List, Option, Some, None};
+ghost use Rattle.fak_model.specs.Views.{HasOneName};
 ghost use Rattle.fak_core.specs.declared.queue.phase.Phase.TheVariants.{
   Idle,
   SubLow,
@@ -12,7 +13,6 @@ ghost use Rattle.fak_core.specs.declared.queue.phase.Phase.TheVariants.{
 };
 ghost use Rattle.fak_queue.specs.Steps.{
   FitsTable,
-  HasOneName,
   IsPlace,
   Named,
   TestedLow,
@@ -39,7 +39,7 @@ pub(crate) fn test_low<T, J: Call<T>>(
     counts: &mut SharedCounts,
 ) -> Result<(), i64>
     requires table { FitsTable token.old.table_id words.now.table_id words.now.key J.seats }
-    requires seat { HasOneName token.old.me }
+    requires seat { HasOneName token.old.me.0 }
     requires phase { token.old.me.0.phase ≡ Some Idle }
     ensures same { token.new.table_id ≡ token.old.table_id }
     ensures told { Named token.old.me
@@ -56,7 +56,7 @@ pub(crate) fn sub_low<T, J: Call<T>>(
     token: &mut QueueToken<T>,
 ) -> Result<(), i64>
     requires table { FitsTable token.old.table_id words.now.table_id words.now.key J.seats }
-    requires seat { HasOneName token.old.me }
+    requires seat { HasOneName token.old.me.0 }
     requires phase { token.old.me.0.phase ≡ Some SubLow }
     ensures same { token.new.table_id ≡ token.old.table_id }
     ensures told { Named token.old.me
@@ -69,7 +69,7 @@ pub(crate) fn sub_low<T, J: Call<T>>(
 /// Gives back the 1 that was subtracted from the lower count.
 pub(crate) fn back_low<T, J: Call<T>>(words: &QueueWords<T>, token: &mut QueueToken<T>)
     requires table { FitsTable token.old.table_id words.now.table_id words.now.key J.seats }
-    requires seat { HasOneName token.old.me }
+    requires seat { HasOneName token.old.me.0 }
     requires phase { token.old.me.0.phase ≡ Some BackLow }
     ensures same { token.new.table_id ≡ token.old.table_id }
     ensures told { Named token.old.me (λ n. BacksLow words.now.table_id.slots J.seats n token.old.me token.new.me) }
@@ -80,7 +80,7 @@ pub(crate) fn back_low<T, J: Call<T>>(words: &QueueWords<T>, token: &mut QueueTo
 /// Draws a deletion's ticket.
 pub(crate) fn ticket_out<T, J: Call<T>>(words: &QueueWords<T>, token: &mut QueueToken<T>) -> u64
     requires table { FitsTable token.old.table_id words.now.table_id words.now.key J.seats }
-    requires seat { HasOneName token.old.me }
+    requires seat { HasOneName token.old.me.0 }
     requires phase { token.old.me.0.phase ≡ Some TicketOut }
     requires left { 0 < token.old.me.0.left }
     ensures same { token.new.table_id ≡ token.old.table_id }
@@ -98,7 +98,7 @@ pub(crate) fn turn_out<T, J: Call<T>>(
 ) -> u64
     requires table { FitsTable token.old.table_id words.now.table_id words.now.key J.seats }
     requires place { IsPlace words.now.table_id.slots place }
-    requires seat { HasOneName token.old.me }
+    requires seat { HasOneName token.old.me.0 }
     requires phase { token.old.me.0.phase ≡ Some (TurnOut place.ticket) }
     ensures same { token.new.table_id ≡ token.old.table_id }
     ensures told { Named token.old.me
@@ -115,7 +115,7 @@ pub(crate) fn set_free<T, J: Call<T>>(
 )
     requires table { FitsTable token.old.table_id words.now.table_id words.now.key J.seats }
     requires place { IsPlace words.now.table_id.slots place }
-    requires seat { HasOneName token.old.me }
+    requires seat { HasOneName token.old.me.0 }
     requires phase { token.old.me.0.phase ≡ Some (LoadItem place.ticket) }
     requires slot { (others : List (ℕ × Option T)) × (token.old.me.1 ≡ (place.cell, None) ∷ others) }
     ensures same { token.new.table_id ≡ token.old.table_id }
@@ -128,7 +128,7 @@ pub(crate) fn set_free<T, J: Call<T>>(
 /// Subtracts 1 from the upper count, which ends a deletion.
 pub(crate) fn end_out<T, J: Call<T>>(words: &QueueWords<T>, token: &mut QueueToken<T>)
     requires table { FitsTable token.old.table_id words.now.table_id words.now.key J.seats }
-    requires seat { HasOneName token.old.me }
+    requires seat { HasOneName token.old.me.0 }
     requires phase { (k : ℕ) × (token.old.me.0.phase ≡ Some (EndDelete k)) }
     ensures same { token.new.table_id ≡ token.old.table_id }
     ensures told { Named token.old.me (λ n. EndsOut words.now.table_id.slots J.seats n token.old.me token.new.me) }

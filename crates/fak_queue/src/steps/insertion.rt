@@ -1,6 +1,7 @@
 //! The atomic steps of an insertion.
 
 ghost use Rattle.std.specs.Prelude.{◌≡◌, ℕ, ◌<◌, ◌≤◌, ◌∷◌, List, Option, Some};
+ghost use Rattle.fak_model.specs.Views.{HasOneName};
 ghost use Rattle.fak_core.specs.declared.queue.phase.Phase.TheVariants.{
   Idle,
   AddUp,
@@ -12,7 +13,6 @@ ghost use Rattle.fak_core.specs.declared.queue.phase.Phase.TheVariants.{
 };
 ghost use Rattle.fak_queue.specs.Steps.{
   FitsTable,
-  HasOneName,
   IsPlace,
   Named,
   TestedUp,
@@ -43,7 +43,7 @@ pub(crate) fn test_up<T, J: Call<T>>(
 ) -> Result<(), NoRoom>
     requires table { FitsTable token.old.table_id words.now.table_id words.now.key J.seats }
     requires size { (size ≡ words.now.table_id.slots) × (size ≤ 4096) }
-    requires seat { HasOneName token.old.me }
+    requires seat { HasOneName token.old.me.0 }
     requires item { J.item ≡ Some _item.now }
     requires phase { token.old.me.0.phase ≡ Some Idle }
     ensures same { token.new.table_id ≡ token.old.table_id }
@@ -63,7 +63,7 @@ pub(crate) fn add_up<T, J: Call<T>>(
 ) -> Result<(), NoRoom>
     requires table { FitsTable token.old.table_id words.now.table_id words.now.key J.seats }
     requires size { (size ≡ words.now.table_id.slots) × (size ≤ 4096) }
-    requires seat { HasOneName token.old.me }
+    requires seat { HasOneName token.old.me.0 }
     requires phase { (x : T) × (token.old.me.0.phase ≡ Some (AddUp x)) }
     ensures same { token.new.table_id ≡ token.old.table_id }
     ensures told { Named token.old.me (λ n. (x : T) → token.old.me.0.phase ≡ Some (AddUp x)
@@ -76,7 +76,7 @@ pub(crate) fn add_up<T, J: Call<T>>(
 /// Takes back the 1 that was added to the upper count.
 pub(crate) fn back_up<T, J: Call<T>>(words: &QueueWords<T>, token: &mut QueueToken<T>)
     requires table { FitsTable token.old.table_id words.now.table_id words.now.key J.seats }
-    requires seat { HasOneName token.old.me }
+    requires seat { HasOneName token.old.me.0 }
     requires phase { (x : T) × (token.old.me.0.phase ≡ Some (BackUp x)) }
     ensures same { token.new.table_id ≡ token.old.table_id }
     ensures told { Named token.old.me (λ n. BacksUp words.now.table_id.slots J.seats n token.old.me token.new.me) }
@@ -87,7 +87,7 @@ pub(crate) fn back_up<T, J: Call<T>>(words: &QueueWords<T>, token: &mut QueueTok
 /// Draws an insertion's ticket.
 pub(crate) fn ticket_in<T, J: Call<T>>(words: &QueueWords<T>, token: &mut QueueToken<T>) -> u64
     requires table { FitsTable token.old.table_id words.now.table_id words.now.key J.seats }
-    requires seat { HasOneName token.old.me }
+    requires seat { HasOneName token.old.me.0 }
     requires phase { (x : T) × (token.old.me.0.phase ≡ Some (TicketIn x)) }
     requires left { 0 < token.old.me.0.left }
     ensures same { token.new.table_id ≡ token.old.table_id }
@@ -105,7 +105,7 @@ pub(crate) fn turn_in<T, J: Call<T>>(
 ) -> u64
     requires table { FitsTable token.old.table_id words.now.table_id words.now.key J.seats }
     requires place { IsPlace words.now.table_id.slots place }
-    requires seat { HasOneName token.old.me }
+    requires seat { HasOneName token.old.me.0 }
     requires phase { (x : T) × (token.old.me.0.phase ≡ Some (TurnIn place.ticket x)) }
     ensures same { token.new.table_id ≡ token.old.table_id }
     ensures told { Named token.old.me (λ n. (x : T) → token.old.me.0.phase ≡ Some (TurnIn place.ticket x)
@@ -122,7 +122,7 @@ pub(crate) fn set_full<T, J: Call<T>>(
 )
     requires table { FitsTable token.old.table_id words.now.table_id words.now.key J.seats }
     requires place { IsPlace words.now.table_id.slots place }
-    requires seat { HasOneName token.old.me }
+    requires seat { HasOneName token.old.me.0 }
     requires phase { (x : T) × (token.old.me.0.phase ≡ Some (StoreItem place.ticket x))
         × ((others : List (ℕ × Option T)) × (token.old.me.1 ≡ (place.cell, Some x) ∷ others)) }
     ensures same { token.new.table_id ≡ token.old.table_id }
@@ -135,7 +135,7 @@ pub(crate) fn set_full<T, J: Call<T>>(
 /// Adds 1 to the lower count, which ends an insertion.
 pub(crate) fn end_in<T, J: Call<T>>(words: &QueueWords<T>, token: &mut QueueToken<T>)
     requires table { FitsTable token.old.table_id words.now.table_id words.now.key J.seats }
-    requires seat { HasOneName token.old.me }
+    requires seat { HasOneName token.old.me.0 }
     requires phase { (k : ℕ) × (token.old.me.0.phase ≡ Some (EndInsert k)) }
     ensures same { token.new.table_id ≡ token.old.table_id }
     ensures told { Named token.old.me (λ n. EndsIn words.now.table_id.slots J.seats n token.old.me token.new.me) }
