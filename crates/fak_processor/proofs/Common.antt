@@ -35,8 +35,8 @@ pub use Rattle.fak_processor.specs.OnlyQueues.{Enters, is_close, has_close, IsOn
 pub use Rattle.fak_processor.specs.Opened.{dealt_to, fresh_rows, fresh_all, fresh_processor, zipped, IsSemaphoreFor, AreSeated, HasName, fresh_sem_at}
 pub use Rattle.fak_processor.specs.Processors.{ObjectsOf, ProcessorOf, AreFor, IsReached, lists_of, ids_of, AreOf, GoesTo, IsAlone, ids_of_seats, AtPlace, IsBorn, HasNoBirth, WakesNobody, WakesFirst, SleepsLast, CountFalls, HasNoSlot, TakesSlot, GoesOn}
 pub use Rattle.fak_processor.specs.Turning.{Grows, Turning, Adds}
-pub use Rattle.fak_queue.specs.Queues.{made_by, Makes, RefusesEmpty, ShutsAs, state_of}
-pub use Rattle.fak_queue.specs.Retries.{kinds_in, kinds_out, kinds_not_in, kinds_not_out, RefusedInsertion, NotIn, WithdrawnIn, ClosedIn, WithdrawnLate, RefusedDeletion, NotOut, WithdrawnOut, InsertsAtLast, DeletesAtLast}
+pub use Rattle.fak_queue.specs.Queues.{made_by, Makes, RefusesEmpty, ShutsAs, state_of, kinds_in, kinds_out}
+pub use Rattle.fak_queue.specs.Retries.{kinds_not_in, kinds_not_out, RefusedInsertion, NotIn, WithdrawnIn, ClosedIn, WithdrawnLate, RefusedDeletion, NotOut, WithdrawnOut, InsertsAtLast, DeletesAtLast}
 pub use Rattle.fak_sem.specs.Semaphores.{SemInfo, SemSeatInfo, credit_part, queue_part, Downs, Ups, SemId, fresh_sem_seats}
 pub use Rattle.fak_text.proofs.Common.{ScriptOf, Process, FitsScript, StepOf, down, up, spawn, shutdown, NoteOf, downed, upped, spawned, no_birth, no_slot, shut_down, child_count, after_note, StandsAt, new_process, say, yield, open_file, close_file, stat, said, yielded, opened, closed, statted, Allows}
 pub use Rattle.std.proofs.Common.{◌≡◌, ℕ, List, [], ◌∷◌, ◌++◌, length, refl, ap, sym, ◌∙◌, subst, arith, None, sum_by, append-nil, Bool, true, false, inl, inr, map, ℤ, pos, Some, flat_map, zero, suc, ◌+◌, ◌<◌, ◌≤◌, drop, get_or, All, ◌==◌, cond, ◌-◌, replicate, slice_index_or, append_assoc, Option, slice_set, nat_lt, slice_index, ◌⊎◌, length-append, ◌+ℤ◌, ◌≤ℤ◌, ◌<ℤ◌, ◌||◌, IfSome, MatchOption, take, option_to_list, rules, take_all, slice_get}

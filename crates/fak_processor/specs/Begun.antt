@@ -3,7 +3,7 @@ use Rattle.std.specs.Prelude.{◌≡◌, ℕ, zero, suc, List, [], ◌∷◌, �
 use Rattle.std.specs.List.{sum_by}
 use Rattle.fak_model.specs.declared.queue.Kind.{Kind}
 use Rattle.fak_model.specs.Credit.{value}
-use Rattle.fak_queue.specs.Retries.{kinds_out}
+use Rattle.fak_queue.specs.Queues.{kinds_out}
 use Rattle.fak_text.specs.Script.{ScriptOf}
 use Rattle.fak_text.specs.Journal.{Process, new_process}
 use Rattle.fak_run.specs.ListScheduler.{Lists, enter_ready, first_lists, numbers_from}

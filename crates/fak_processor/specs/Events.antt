@@ -5,7 +5,7 @@ use Rattle.fak_model.specs.declared.queue.Kind.TheVariants.{OverIn, BackIn, NoRo
 use Rattle.fak_model.specs.declared.room.RoomKind.{RoomKind}
 use Rattle.fak_model.specs.declared.room.RoomKind.TheVariants.{Up, Over, Back, No, Release}
 use Rattle.fak_model.specs.declared.credit.CreditKind.TheVariants.{Debit, Credit}
-use Rattle.fak_queue.specs.Retries.{kinds_in, kinds_out}
+use Rattle.fak_queue.specs.Queues.{kinds_in, kinds_out}
 use Rattle.fak_text.specs.Script.{StepOf, down, up, spawn, shutdown}
 use Rattle.fak_text.specs.Journal.{NoteOf, downed, upped, spawned, no_birth, no_slot, shut_down, Process, births_of, child_count}
 use Rattle.fak_run.specs.ListScheduler.{child_of}

@@ -8,7 +8,8 @@ use Rattle.fak_model.specs.Calls.{SeatInfo}
 use Rattle.fak_model.specs.Queue.{queue_rules}
 use Rattle.fak_model.specs.Credit.{value}
 use Rattle.fak_sem.specs.Semaphores.{SemInfo, SemSeatInfo, Downs, Ups}
-use Rattle.fak_queue.specs.Retries.{RefusedInsertion, RefusedDeletion, kinds_not_in, kinds_not_out, kinds_in, kinds_out}
+use Rattle.fak_queue.specs.Queues.{kinds_in, kinds_out}
+use Rattle.fak_queue.specs.Retries.{RefusedInsertion, RefusedDeletion, kinds_not_in, kinds_not_out}
 use Rattle.fak_text.specs.Script.{ScriptOf, down}
 use Rattle.fak_text.specs.Journal.{NoteOf, Process, FitsScript, StandsAt, after_note, downed}
 use Rattle.fak_run.specs.ListScheduler.{Turn}

@@ -185,16 +185,23 @@ pub record IsWorn {T : Type 0} (old new : SeatInfo (Mark T)) : Type 0 where
 
 -- ---- whole calls
 
+-- a whole insertion and a whole deletion of x with this ticket
+abbrev pub kinds_in : {T : Type 0} → ℕ → T → List (Kind T)
+kinds_in ticket x = made.ClaimIn ∷ made.Put x ∷ made.Fill ticket ∷ made.EndIn ∷ []
+
+abbrev pub kinds_out : {T : Type 0} → ℕ → T → List (Kind T)
+kinds_out ticket x = made.ClaimOut ∷ made.Got x ∷ made.Take ticket ∷ made.EndOut ∷ []
+
 -- an insertion: the claim, and the rest of the call; its item stands under its ticket
 pub record Inserts {T : Type 0} (size k : ℕ) (x : T) (old new : SeatInfo (Mark T)) : Type 0 where
   pub within : drawn_by old < old.stint
-  pub makes : Makes size (made.ClaimIn ∷ made.Put x ∷ made.Fill k ∷ made.EndIn ∷ []) old new
+  pub makes : Makes size (kinds_in k x) old new
   pub ticket : count puts (before_own 1 old new) ≡ k
   pub put : item_at (items_put new.seen) k ≡ Some x
 
 -- a deletion, which hands out the value that was put under its ticket
 pub record Deletes {T : Type 0} (size k : ℕ) (x : T) (old new : SeatInfo (Mark T)) : Type 0 where
   pub within : drawn_by old < old.stint
-  pub makes : Makes size (made.ClaimOut ∷ made.Got x ∷ made.Take k ∷ made.EndOut ∷ []) old new
+  pub makes : Makes size (kinds_out k x) old new
   pub ticket : count gots (before_own 1 old new) ≡ k
   pub put : item_at (items_put new.seen) k ≡ Some x

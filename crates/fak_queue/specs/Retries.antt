@@ -2,7 +2,7 @@
 use Rattle.std.specs.Prelude.{◌≡◌, ℕ, ◌+◌, ◌<◌, List, [], ◌∷◌, ◌++◌, length, Some}
 use Rattle.std.specs.List.{All, flat_map}
 use Rattle.fak_model.specs.declared.queue.Kind.{Kind}
-use Rattle.fak_model.specs.declared.queue.Kind.TheVariants.{ClaimIn, OverIn, BackIn, NoRoom, Put, Fill, EndIn, ClaimOut, OverOut, BackOut, NoItem, Got, Take, EndOut, Closed, LateIn}
+use Rattle.fak_model.specs.declared.queue.Kind.TheVariants.{OverIn, BackIn, NoRoom, OverOut, BackOut, NoItem, Closed, LateIn}
 use Rattle.fak_model.specs.declared.queue.Mark.{Mark}
 use Rattle.fak_model.specs.Queue.{count, puts, gots, items_put, item_at}
 use Rattle.fak_model.specs.Calls.{SeatInfo}
@@ -10,7 +10,7 @@ use Rattle.fak_queue.specs.declared.fault.InsertFault.{InsertFault}
 use Rattle.fak_queue.specs.declared.fault.InsertFault.TheVariants as insertion
 use Rattle.fak_queue.specs.declared.fault.DeleteFault.{DeleteFault}
 use Rattle.fak_queue.specs.declared.fault.DeleteFault.TheVariants as deletion
-use Rattle.fak_queue.specs.Queues.{Makes, before_own, drawn_by, IsWorn}
+use Rattle.fak_queue.specs.Queues.{Makes, before_own, drawn_by, IsWorn, kinds_in, kinds_out}
 
 -- ---- refused calls
 
@@ -56,13 +56,6 @@ kinds_not_out WithdrawnOut = OverOut ∷ BackOut ∷ []
 pub record MakesAtLast {T R : Type 0} (kinds_of : R → List (Kind T)) (size : ℕ) (kinds : List (Kind T)) (old new : SeatInfo (Mark T)) : Type 0 where
   pub refused : List R
   pub makes : Makes size (flat_map kinds_of refused ++ kinds) old new
-
--- a whole insertion and a whole deletion of x with this ticket
-abbrev pub kinds_in : {T : Type 0} → ℕ → T → List (Kind T)
-kinds_in ticket x = ClaimIn ∷ Put x ∷ Fill ticket ∷ EndIn ∷ []
-
-abbrev pub kinds_out : {T : Type 0} → ℕ → T → List (Kind T)
-kinds_out ticket x = ClaimOut ∷ Got x ∷ Take ticket ∷ EndOut ∷ []
 
 -- one whole insertion of x, after any number refused Full or Closed
 abbrev pub InsertsAtLast : {T : Type 0} → ℕ → T → SeatInfo (Mark T) → SeatInfo (Mark T) → Type 0

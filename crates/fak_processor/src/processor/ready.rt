@@ -6,7 +6,7 @@ ghost use Rattle.fak_run.specs.ListScheduler as lists;
 ghost use Rattle.fak_processor.specs.Faults.{IsOfStep, IsSpent};
 ghost use Rattle.fak_processor.specs.Processors.{AreOf, IsAlone, GoesOn, GoesTo, HasNoSlot, TakesSlot, lists_of};
 ghost use Rattle.fak_model.specs.declared.queue.Kind.TheVariants.{Close};
-ghost use Rattle.fak_queue.specs.Retries.{kinds_out};
+ghost use Rattle.fak_queue.specs.Queues.{kinds_out};
 ghost use Rattle.fak_run.specs.Ledger.{nothing};
 ghost use Rattle.fak_processor.specs.Events.{empty};
 ghost use Rattle.fak_processor.specs.Moving.{Gains, Moves, hand_of};
