@@ -8,6 +8,7 @@ ghost use Rattle.fak_replay.specs.declared.fault.MainFault.TheVariants as faults
 
 use crate::running::run_script;
 use fak_replay::{Answer, Command, MainFault, check, replay};
+use fak_text::LARGEST_INPUT;
 use std::alloc::Global;
 use std::io::{Read, Write};
 use std::marker::Sync;
@@ -18,7 +19,7 @@ use std::thread::Threads;
 const MOST_READS: u32 = 2_097_152;
 
 /// How many bytes of the input are kept at most: one more than an input may have.
-const MOST_KEPT: usize = 1_048_577;
+const MOST_KEPT: usize = LARGEST_INPUT + 1;
 
 /// Appends to what is kept as much of the chunk as there is room for.
 fn keep(kept: &mut Vec<u8>, chunk: &[u8]) -> Result<(), MainFault>

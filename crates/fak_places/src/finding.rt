@@ -11,8 +11,11 @@ use crate::mark::{first_wrong_mark, wrong_mark};
 use crate::place::{Place, shown, value_at};
 use crate::script::{hint_in_programs, hint_in_semaphores, hint_in_start};
 use crate::values::elements_of_key;
-use fak_model::{LARGEST_BOUND, LARGEST_SIZE, LONGEST_STINT};
-use fak_text::{Field, LARGEST_INPUT, Object, TextFault, read_history, read_schedule, read_script};
+use fak_model::{LARGEST_BOUND, LARGEST_SIZE, LONGEST_STINT, MOST_SEATS};
+use fak_text::{
+    Field, LARGEST_INPUT, LONGEST_QUANTUM, MOST_BIRTHS, MOST_FILES, MOST_SLOTS, Object, TextFault,
+    read_history, read_schedule, read_script,
+};
 use serde_json::Value;
 use std::alloc::{AllocError, Global};
 
@@ -77,16 +80,16 @@ fn asked_of_key(key: Field) -> Asked {
         Field::Object => Asked::Words("an object is \"room\" or \"queue\""),
         Field::Bound => Asked::Within("a room's bound", 0, LARGEST_BOUND),
         Field::Size => Asked::Within("a queue's size", 1, LARGEST_SIZE),
-        Field::Seats => Asked::Within("the number of seats", 1, 64),
+        Field::Seats => Asked::Within("the number of seats", 1, MOST_SEATS),
         Field::Events => Asked::Words("this is an array of at most 16384 events"),
         Field::Marks => Asked::Words("this is an array of at most 4096 marks"),
         Field::Version => Asked::Within("the version", 1, 2),
-        Field::Slots => Asked::Within("the number of slots", 1, 64),
-        Field::Births => Asked::Within("the number of births", 0, 1_000),
-        Field::Quantum => Asked::Within("the quantum", 1, 1_000),
+        Field::Slots => Asked::Within("the number of slots", 1, MOST_SLOTS),
+        Field::Births => Asked::Within("the number of births", 0, MOST_BIRTHS),
+        Field::Quantum => Asked::Within("the quantum", 1, LONGEST_QUANTUM),
         Field::Stint => Asked::Within("the stint", 1, LONGEST_STINT),
         Field::Semaphores => Asked::Words("this is an array of at most 16 whole numbers"),
-        Field::Files => Asked::Within("the number of files", 1, 16),
+        Field::Files => Asked::Within("the number of files", 1, MOST_FILES),
         Field::Programs => Asked::Words("this is an array of at most 64 programs"),
         Field::Start => Asked::Words("this is an array of programs' numbers"),
     }

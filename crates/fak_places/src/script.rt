@@ -8,10 +8,8 @@ ghost use Rattle.fak_text.specs.ScriptText.{number_from};
 use crate::asked::{Asked, Hint, Spot, in_step};
 use crate::step::{Limits, first_wrong_step, wrong_step};
 use crate::values::elements_of_key;
-use fak_text::Field;
+use fak_text::{Field, MOST_STEPS};
 use serde_json::Value;
-
-const MOST_STEPS: usize = 1_000;
 
 const MOST_START: u64 = 1_000_000;
 

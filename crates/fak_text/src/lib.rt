@@ -13,7 +13,10 @@ mod text;
 
 pub use fault::{Field, TextFault};
 pub use history::History;
-pub use reading::{LARGEST_INPUT, number_at, read_history, read_schedule, read_script, text_at};
+pub use reading::{
+    LARGEST_INPUT, LONGEST_QUANTUM, MOST_BIRTHS, MOST_FILES, MOST_SLOTS, MOST_STEPS, number_at,
+    read_history, read_schedule, read_script, text_at,
+};
 pub use schedule::{Act, Event, Object, Schedule};
 pub use script::Script;
 pub use steps::{Note, Step};

@@ -8,5 +8,6 @@ mod values;
 
 pub use history::read_history;
 pub use schedule::read_schedule;
-pub use script::read_script;
+pub use script::{LONGEST_QUANTUM, MOST_BIRTHS, MOST_FILES, MOST_SLOTS, read_script};
+pub use step::MOST_STEPS;
 pub use values::{LARGEST_INPUT, number_at, text_at};

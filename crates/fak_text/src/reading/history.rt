@@ -10,7 +10,7 @@ use crate::fault::{Field, TextFault};
 use crate::history::History;
 use crate::names::{kind_name, number};
 use crate::reading::values::{count, elements_of_key, input_in, number_at, number_of_key, text_at};
-use fak_model::{Kind, LARGEST_SIZE, Mark};
+use fak_model::{Kind, LARGEST_SIZE, MOST_SEATS, Mark};
 use serde_json::Value;
 use std::alloc::Global;
 
@@ -18,7 +18,7 @@ const FAULT: TextFault = TextFault::Range(Field::Marks);
 
 const MOST_MARKS: usize = 4_096;
 
-const LAST_SEAT: u64 = 63;
+const LAST_SEAT: u64 = MOST_SEATS - 1;
 
 /// The kind of this name, with this number where it bears one.
 #[tactic(auto, unfolding(crate::specs::HistoryText::kind_named))]

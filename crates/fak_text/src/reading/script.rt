@@ -17,6 +17,18 @@ use fak_model::LONGEST_STINT;
 use serde_json::Value;
 use std::alloc::Global;
 
+/// A script has at most this many slots.
+pub const MOST_SLOTS: u64 = 64;
+
+/// A script has at most this many births.
+pub const MOST_BIRTHS: u64 = 1_000;
+
+/// A quantum has at most this many steps.
+pub const LONGEST_QUANTUM: u64 = 1_000;
+
+/// A script has at most this many files.
+pub const MOST_FILES: u64 = 16;
+
 const MOST_SEMAPHORES: usize = 16;
 
 const SEMAPHORE_BOUND: u64 = 1_000_001;
@@ -64,9 +76,9 @@ fn script_from(alloc: Global, value: &Value) -> Result<Script, TextFault>
     ensures { Gives (λ s. s) result (script_from (view value.now)) }
 {
     let version = number_of_key(value, Field::Version, 1, 2)?;
-    let slots = number_of_key(value, Field::Slots, 1, 64)?;
-    let births = number_of_key(value, Field::Births, 0, 1_000)?;
-    let quantum = number_of_key(value, Field::Quantum, 1, 1_000)?;
+    let slots = number_of_key(value, Field::Slots, 1, MOST_SLOTS)?;
+    let births = number_of_key(value, Field::Births, 0, MOST_BIRTHS)?;
+    let quantum = number_of_key(value, Field::Quantum, 1, LONGEST_QUANTUM)?;
     let stint = stint_of_key(value)?;
     let semaphores = numbers_of_key(
         alloc,
@@ -75,7 +87,7 @@ fn script_from(alloc: Global, value: &Value) -> Result<Script, TextFault>
         MOST_SEMAPHORES,
         SEMAPHORE_BOUND,
     )?;
-    let files = number_of_key(value, Field::Files, 1, 16)?;
+    let files = number_of_key(value, Field::Files, 1, MOST_FILES)?;
     let programs = programs_of_key(alloc, value, version, semaphores.len() as u64)?;
     let start = numbers_of_key(
         alloc,

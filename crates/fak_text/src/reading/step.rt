@@ -20,7 +20,8 @@ const FAULT: TextFault = TextFault::Range(Field::Programs);
 
 const MOST_PROGRAMS: usize = 64;
 
-const MOST_STEPS: usize = 1_000;
+/// A program has at most this many steps.
+pub const MOST_STEPS: usize = 1_000;
 
 const MOST_CHARACTERS: usize = 80;
 
