@@ -19,5 +19,6 @@ mod rooms;
 mod words;
 
 pub use credits::{Credit, CreditSeat, CreditTally};
+pub use fak_model::{LARGEST_BOUND, LONGEST_STINT, MOST_SEATS};
 pub use fault::{OpenFault, TirFault, Worn};
 pub use rooms::{Room, RoomSeat, RoomTally};

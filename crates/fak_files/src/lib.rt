@@ -28,7 +28,7 @@ mod table;
 mod tally;
 mod words;
 
-pub use fak_model::{FileEntry, FileField};
+pub use fak_model::{FileEntry, FileField, LONGEST_STINT, MOST_SEATS};
 pub use fault::{FileFault, OpenFault, Worn};
 pub use phase::Hold;
 pub use rest::FileRest;
