@@ -11,7 +11,7 @@ use fak_model::{Kind, Mark, first_fault};
 use std::alloc::{AllocError, Global};
 use std::process::Abort;
 
-// A mark, or all marks of an insertion or a deletion with its item and ticket.
+/// A mark, or all marks of an insertion or a deletion with its item and ticket.
 #[derive(Clone, Copy, Drop)]
 enum Part {
     By(u64, Kind<u64>),
@@ -41,7 +41,8 @@ fn push_parts(marks: &mut Vec<Mark<u64>>, parts: &[Part]) -> Result<(), AllocErr
     Ok(())
 }
 
-// After the marks of `before` those of `may` may come, and those of `may_not` but for the last one, which is the first fault.
+/// After the marks of `before` those of `may` may come, and those of `may_not` but for the last one, which is the first
+/// fault.
 #[derive(Clone, Copy)]
 struct Example<'a> {
     size: u64,
@@ -50,7 +51,7 @@ struct Example<'a> {
     may_not: &'a [Part],
 }
 
-// How many of some marks and of those that come after them are before the first fault, and how many they are.
+/// How many of some marks and of those that come after them are before the first fault, and how many they are.
 fn legal_of(
     alloc: Global,
     size: u64,
@@ -66,7 +67,7 @@ fn legal_of(
     Ok((legal, marks.len()))
 }
 
-// The number of the first example that is judged otherwise.
+/// The number of the first example that is judged otherwise.
 fn judged_otherwise(alloc: Global, examples: &[Example]) -> Result<Option<usize>, AllocError> {
     for (i, e) in examples.iter().enumerate() {
         if e.size < 1 || e.size > 4096 {
@@ -81,7 +82,7 @@ fn judged_otherwise(alloc: Global, examples: &[Example]) -> Result<Option<usize>
     Ok(None)
 }
 
-// Finds that each example is judged as it says.
+/// Finds that each example is judged as it says.
 #[cfg(test)]
 fn are_judged(rt: &(impl Abort + AllocGlobal), examples: &[Example]) {
     assert_eq!(rt; judged_otherwise(rt.alloc(), examples), Ok(None));

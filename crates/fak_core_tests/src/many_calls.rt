@@ -25,7 +25,7 @@ fn makes(
     assert_eq!(rt; core.advance(rt.alloc(), seat), Err(CoreFault::IdleSeat));
 }
 
-// Each seat inserts and deletes in its turn, and the queue stays full.
+/// Each seat inserts and deletes in its turn, and the queue stays full.
 #[test]
 fn a_queue_takes_many_items(rt: HostRuntime) {
     for (size, insertions, marks) in [
@@ -47,7 +47,7 @@ fn a_queue_takes_many_items(rt: HostRuntime) {
     }
 }
 
-// Each seat claims and gives back in its turn, all amounts that a call may have.
+/// Each seat claims and gives back in its turn, all amounts that a call may have.
 #[test]
 fn a_room_takes_many_claims(rt: HostRuntime) {
     for (bound, claims, marks) in [(1024, 20_000, 40_000), (4_294_967_296, 5_000, 10_000)] {

@@ -132,7 +132,7 @@ fn marks_of(core: &QueueCore, kind: Kind<u64>) -> usize {
     core.marks().iter().filter(|mark| mark.kind == kind).count()
 }
 
-// With one cell the bound is 7 rounds, and this call needs them all.
+/// With one cell the bound is 7 rounds, and this call needs them all.
 #[test]
 fn a_call_on_one_cell_ends_in_its_seventh_round(rt: HostRuntime) {
     let mut core = opened(&rt, 1, 2);
@@ -150,7 +150,7 @@ fn a_call_on_one_cell_ends_in_its_seventh_round(rt: HostRuntime) {
     assert_eq!(rt; rounds.len() + 1, 7);
 }
 
-// Two other seats overtake this call twice. With two cells the bound is 10 rounds; the search found none longer than 9.
+/// Two other seats overtake this call twice. With two cells the bound is 10 rounds; the search found none longer than 9.
 #[test]
 fn a_call_that_others_overtake_ends_in_its_ninth_round(rt: HostRuntime) {
     let mut core = opened(&rt, 2, 3);
@@ -198,8 +198,8 @@ fn a_call_that_others_overtake_ends_in_its_ninth_round(rt: HostRuntime) {
     assert_eq!(rt; rounds.len() + 1, 9);
 }
 
-// A seat for each cell of the queue holds a ticket of cell 0, each for the turn after that of the seat before: where an
-// earlier seat steps later in each round, the last of them needs all of the 3 size + 1 rounds that the law allows.
+/// A seat for each cell of the queue holds a ticket of cell 0, each for the turn after that of the seat before: where an
+/// earlier seat steps later in each round, the last of them needs all of the 3 size + 1 rounds that the law allows.
 #[test]
 fn seats_of_one_cell_need_three_rounds_each(rt: HostRuntime) {
     // Seat 63 makes whole calls at I and D; each i and d draws a ticket of cell 0 for the next seat.
@@ -240,7 +240,7 @@ fn seats_of_one_cell_need_three_rounds_each(rt: HostRuntime) {
     }
 }
 
-// Seat 4 stops with ticket 0, for whose item seat 3 waits. Seats 0 and 1 have ticket 1.
+/// Seat 4 stops with ticket 0, for whose item seat 3 waits. Seats 0 and 1 have ticket 1.
 #[test]
 fn a_stopped_seat_holds_up_its_cell_alone(rt: HostRuntime) {
     let mut core = opened(&rt, 4, 5);
@@ -256,8 +256,8 @@ fn a_stopped_seat_holds_up_its_cell_alone(rt: HostRuntime) {
     assert_eq!(rt; rounds_to_end(&rt, &mut core, 5, 3, 13), Some(6));
 }
 
-// All 64 seats pass their test before any adds: as many claims are granted as fit, and the others are withdrawn. Of the
-// seven steps of a granted call six are left.
+/// All 64 seats pass their test before any adds: as many claims are granted as fit, and the others are withdrawn. Of the
+/// seven steps of a granted call six are left.
 #[test]
 fn a_queue_that_every_seat_claims_comes_to_rest(rt: HostRuntime) {
     for (size, granted, withdrawn) in [

@@ -70,8 +70,8 @@ fn a_refused_call_leaves_a_room_as_it_was(rt: HostRuntime) {
     assert_ne!(rt; core, before);
 }
 
-// The call of seat 0 is still to test, to add, to withdraw or to give back, and it holds 3: whatever it asks for meanwhile
-// is refused as that of a seat in mid-call, also an amount that it does not hold.
+/// The call of seat 0 is still to test, to add, to withdraw or to give back, and it holds 3: whatever it asks for
+/// meanwhile is refused as that of a seat in mid-call, also an amount that it does not hold.
 #[test]
 fn a_room_seat_in_mid_call_begins_nothing(rt: HostRuntime) {
     let cases: [(RoomCall, &[u64]); 4] = [
@@ -119,7 +119,7 @@ fn insists(
     core.advance(rt.alloc(), seat)
 }
 
-// With `rt try --test --fail-alloc N` the Nth allocation fails, here that of an opening or of a mark.
+/// With `rt try --test --fail-alloc N` the Nth allocation fails, here that of an opening or of a mark.
 #[test]
 fn a_step_that_found_no_memory_is_made_at_the_next_try(rt: HostRuntime) {
     let mut core = reopened(&rt);

@@ -5,7 +5,7 @@ use fak_text::{Field, Script, Step, TextFault, read_history, read_schedule, read
 use std::alloc::Global;
 use std::process::Abort;
 
-// A list of a format.
+/// A list of a format.
 #[derive(Clone, Copy, Debug)]
 enum Items {
     Events,
@@ -29,7 +29,7 @@ fn count_in_script(items: Items, script: &Script) -> usize {
     }
 }
 
-// How many items a text has, as it is read.
+/// How many items a text has, as it is read.
 fn read(items: Items, alloc: Global, text: &str) -> Result<usize, TextFault> {
     let bytes = text.as_bytes();
     match items {
@@ -39,10 +39,11 @@ fn read(items: Items, alloc: Global, text: &str) -> Result<usize, TextFault> {
     }
 }
 
-// A list: its text before, one item, its text behind, how many items it may have, and the key at fault where it has more.
+/// A list: its text before, one item, its text behind, how many items it may have, and the key at fault where it has
+/// more.
 type Row<'a> = (Items, &'a str, &'a str, &'a str, usize, Field);
 
-// What is read where the row has this many items.
+/// What is read where the row has this many items.
 fn read_at(rt: &impl AllocGlobal, row: &Row<'_>, count: usize) -> Result<usize, TextFault> {
     let items = match count {
         0 => String::new(rt.alloc()),
@@ -52,7 +53,7 @@ fn read_at(rt: &impl AllocGlobal, row: &Row<'_>, count: usize) -> Result<usize, 
     read(row.0, rt.alloc(), &text)
 }
 
-// Finds that the row is read with this many items, or refused.
+/// Finds that the row is read with this many items, or refused.
 fn has_count(rt: &(impl Abort + AllocGlobal), row: &Row<'_>, count: usize) {
     let want = if count <= row.4 {
         Ok(count)
@@ -94,7 +95,7 @@ fn each_count_of_short_lists(rt: HostRuntime) {
     }
 }
 
-// Finds that the row is read with as many items as each power of two, and refused beyond its bound.
+/// Finds that the row is read with as many items as each power of two, and refused beyond its bound.
 fn has_counts(rt: &(impl Abort + AllocGlobal), row: &Row<'_>) {
     for place in 0..14u32 {
         let count = 1usize << place;
@@ -163,7 +164,7 @@ fn many_counts_of_events(rt: HostRuntime) {
     has_count(&rt, &row, 10_000);
 }
 
-// The script of this many slots that starts this many processes.
+/// The script of this many slots that starts this many processes.
 fn read_start(rt: &impl AllocGlobal, slots: usize, started: usize) -> Result<usize, TextFault> {
     let start = match started {
         0 => String::new(rt.alloc()),
@@ -192,7 +193,7 @@ fn as_many_processes_start_as_there_are_slots(rt: HostRuntime) {
     }
 }
 
-// The text that a script says, written so in its input.
+/// The text that a script says, written so in its input.
 fn said(alloc: Global, written: &str) -> Result<Option<String>, TextFault> {
     let before =
         r#"{"version":1,"slots":1,"births":0,"quantum":1,"semaphores":[],"files":1,"programs":[[["say",""#;
@@ -204,7 +205,7 @@ fn said(alloc: Global, written: &str) -> Result<Option<String>, TextFault> {
     }
 }
 
-// Whether what is written is said as this text, or refused where there is none.
+/// Whether what is written is said as this text, or refused where there is none.
 fn is_said(alloc: Global, written: &str, want: Option<&str>) -> bool {
     match (said(alloc, written), want) {
         (Ok(Some(said)), Some(want)) => said.as_str() == want,

@@ -4,7 +4,7 @@ use std::alloc::{AllocError, Global};
 use std::fmt::Display;
 use std::process::Abort;
 
-// Whether a value is written so.
+/// Whether a value is written so.
 fn is_written<D: Display>(alloc: Global, value: &D, want: &str) -> bool {
     match value.to_string(alloc) {
         Ok(text) => text.as_str() == want,
@@ -62,7 +62,7 @@ fn fields_are_named_as_their_keys(rt: HostRuntime) {
     }
 }
 
-// The faults of these bytes as a schedule, a history and a script.
+/// The faults of these bytes as a schedule, a history and a script.
 fn faults(alloc: Global, bytes: &[u8]) -> [Option<TextFault>; 3] {
     [
         Input::Schedule.fault(alloc, bytes),
@@ -71,7 +71,7 @@ fn faults(alloc: Global, bytes: &[u8]) -> [Option<TextFault>; 3] {
     ]
 }
 
-// Finds that each text has this fault, whatever it is read as.
+/// Finds that each text has this fault, whatever it is read as.
 fn have_fault(rt: &(impl Abort + AllocGlobal), texts: &[&str], fault: TextFault) {
     for &text in texts {
         let found = faults(rt.alloc(), text.as_bytes());
@@ -105,7 +105,7 @@ fn values_that_are_no_object(rt: HostRuntime) {
     have_fault(&rt, texts, TextFault::Range(Field::Input));
 }
 
-// The fault of a history with a list so deep in the object.
+/// The fault of a history with a list so deep in the object.
 fn fault_of_nested(alloc: Global, depth: usize) -> Result<Option<TextFault>, AllocError> {
     let left = "[".repeat(alloc, depth)?;
     let right = "]".repeat(alloc, depth)?;
@@ -119,7 +119,7 @@ fn nesting_is_read_to_depth_127(rt: HostRuntime) {
     assert!(rt; fault_of_nested(rt.alloc(), 127) == Ok(Some(TextFault::NotJson)));
 }
 
-// The faults of this many spaces and then this text.
+/// The faults of this many spaces and then this text.
 fn faults_behind(
     alloc: Global,
     spaces: usize,

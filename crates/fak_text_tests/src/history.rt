@@ -7,7 +7,7 @@ use std::process::Abort;
 
 const MARKS: TextFault = TextFault::Range(Field::Marks);
 
-// Finds that the marks are of these kinds, in this order.
+/// Finds that the marks are of these kinds, in this order.
 fn are_of_kinds(rt: &impl Abort, marks: &[Mark<u64>], kinds: &[Kind<u64>]) {
     assert!(rt; marks.len() == kinds.len());
     for (mark, kind) in marks.iter().zip(kinds.iter()) {
@@ -15,7 +15,7 @@ fn are_of_kinds(rt: &impl Abort, marks: &[Mark<u64>], kinds: &[Kind<u64>]) {
     }
 }
 
-// The size, and how many marks there are.
+/// The size, and how many marks there are.
 fn extent(alloc: Global, text: &str) -> Result<(u64, usize), TextFault> {
     let history = read_history(alloc, text.as_bytes())?;
     Ok((history.size, history.marks.len()))
@@ -93,7 +93,7 @@ fn the_first_fault_of_a_history(rt: HostRuntime) {
     have_faults(&rt, Input::History, r#"{"size":1,"marks":["#, "]}", rows);
 }
 
-// The size, and how many marks there are, where these come after others.
+/// The size, and how many marks there are, where these come after others.
 fn extent_with(alloc: Global, before: &str, marks: &str) -> Result<(u64, usize), TextFault> {
     let text = [r#"{"size":1,"marks":["#, before, marks, "]}"].concat(alloc)?;
     extent(alloc, text.as_str())

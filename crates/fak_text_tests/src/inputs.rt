@@ -4,7 +4,7 @@ use fak_text::{TextFault, read_history, read_schedule, read_script};
 use std::alloc::{AllocError, Global};
 use std::process::Abort;
 
-// What a text is read as.
+/// What a text is read as.
 #[derive(Clone, Copy)]
 pub enum Input {
     Schedule,
@@ -13,7 +13,7 @@ pub enum Input {
 }
 
 impl Input {
-    // The fault of these bytes, if they have one.
+    /// The fault of these bytes, if they have one.
     pub fn fault(self, alloc: Global, bytes: &[u8]) -> Option<TextFault> {
         match self {
             Input::Schedule => read_schedule(alloc, bytes).err(),
@@ -22,7 +22,7 @@ impl Input {
         }
     }
 
-    // The fault of what is between these two texts.
+    /// The fault of what is between these two texts.
     pub fn fault_between(
         self,
         alloc: Global,
@@ -35,7 +35,7 @@ impl Input {
     }
 }
 
-// Finds that each of these, between the two texts, makes an input with this fault.
+/// Finds that each of these, between the two texts, makes an input with this fault.
 pub fn have_faults(
     rt: &(impl Abort + AllocGlobal),
     input: Input,

@@ -10,7 +10,7 @@ use fak_text::{
 use std::alloc::{AllocError, Global};
 use std::process::Abort;
 
-// A number of a schedule.
+/// A number of a schedule.
 #[derive(Clone, Copy, Debug)]
 enum OfSchedule {
     Extent,
@@ -19,7 +19,7 @@ enum OfSchedule {
     Argument,
 }
 
-// A number of a history.
+/// A number of a history.
 #[derive(Clone, Copy, Debug)]
 enum OfHistory {
     Size,
@@ -27,7 +27,7 @@ enum OfHistory {
     Argument,
 }
 
-// A number of a script.
+/// A number of a script.
 #[derive(Clone, Copy, Debug)]
 enum OfScript {
     Version,
@@ -93,34 +93,34 @@ fn of_script(place: OfScript, script: &Script) -> Option<u64> {
     }
 }
 
-// Where a number stands.
+/// Where a number stands.
 #[derive(Clone, Copy, Debug)]
-enum Place {
+enum NumberAt {
     Schedule(OfSchedule),
     History(OfHistory),
     Script(OfScript),
 }
 
-// The number that a text has at a place, as it is read.
-fn read(place: Place, alloc: Global, text: &str) -> Result<Option<u64>, TextFault> {
+/// The number that a text has at a place, as it is read.
+fn read(place: NumberAt, alloc: Global, text: &str) -> Result<Option<u64>, TextFault> {
     let bytes = text.as_bytes();
     match place {
-        Place::Schedule(place) => Ok(of_schedule(place, &read_schedule(alloc, bytes)?)),
-        Place::History(place) => Ok(of_history(place, &read_history(alloc, bytes)?)),
-        Place::Script(place) => Ok(of_script(place, &read_script(alloc, bytes)?)),
+        NumberAt::Schedule(place) => Ok(of_schedule(place, &read_schedule(alloc, bytes)?)),
+        NumberAt::History(place) => Ok(of_history(place, &read_history(alloc, bytes)?)),
+        NumberAt::Script(place) => Ok(of_script(place, &read_script(alloc, bytes)?)),
     }
 }
 
-// A number between two texts: where it stands, its least and its greatest, and the key at fault beyond them.
-type Row<'a> = (Place, &'a str, &'a str, u64, u64, Field);
+/// A number between two texts: where it stands, its least and its greatest, and the key at fault beyond them.
+type Row<'a> = (NumberAt, &'a str, &'a str, u64, u64, Field);
 
-// What is read where the row has this number.
+/// What is read where the row has this number.
 fn read_at(alloc: Global, row: &Row<'_>, number: u64) -> Result<Option<u64>, TextFault> {
     let text = format!(in alloc; "{}{number}{}", row.1, row.2)?;
     read(row.0, alloc, &text)
 }
 
-// What ought to be read.
+/// What ought to be read.
 fn want_at(row: &Row<'_>, number: u64) -> Result<Option<u64>, TextFault> {
     if row.3 <= number && number <= row.4 {
         Ok(Some(number))
@@ -129,7 +129,7 @@ fn want_at(row: &Row<'_>, number: u64) -> Result<Option<u64>, TextFault> {
     }
 }
 
-// Finds that each row reads its numbers in range, and refuses those beyond.
+/// Finds that each row reads its numbers in range, and refuses those beyond.
 fn have_ranges(rt: &(impl Abort + AllocGlobal), rows: &[Row<'_>]) {
     let numbers = spread(rt.alloc()).expect(rt, "memory");
     for row in rows {
@@ -142,7 +142,7 @@ fn have_ranges(rt: &(impl Abort + AllocGlobal), rows: &[Row<'_>]) {
     }
 }
 
-// The whole range of a row where it is short, else its bounds, with what lies beside them.
+/// The whole range of a row where it is short, else its bounds, with what lies beside them.
 fn range_of(alloc: Global, row: &Row<'_>) -> Result<Vec<u64>, AllocError> {
     let mut numbers = Vec::new(alloc);
     if row.4 <= 4_096 {
@@ -159,7 +159,7 @@ const MOST: u64 = u64::MAX;
 #[test]
 fn the_numbers_of_schedules(rt: HostRuntime) {
     use OfSchedule::{Argument, Extent, Seat, Seats};
-    let of = Place::Schedule;
+    let of = NumberAt::Schedule;
     let events = Field::Events;
     let room = r#"{"object":"room","bound":1,"seats":1,"events":[["#;
     let queue = r#"{"object":"queue","size":1,"seats":1,"events":[["#;
@@ -215,7 +215,7 @@ fn the_numbers_of_schedules(rt: HostRuntime) {
 #[test]
 fn the_numbers_of_histories(rt: HostRuntime) {
     use OfHistory::{Argument, Seat, Size};
-    let of = Place::History;
+    let of = NumberAt::History;
     let marks = Field::Marks;
     let rows: &[Row<'_>] = &[
         (
@@ -281,7 +281,7 @@ fn the_numbers_of_histories(rt: HostRuntime) {
 #[test]
 fn the_numbers_of_scripts(rt: HostRuntime) {
     use OfScript::{Births, Files, Quantum, Semaphore, Slots, Stint, Version};
-    let of = Place::Script;
+    let of = NumberAt::Script;
     let from_slots =
         r#","slots":1,"births":0,"quantum":1,"semaphores":[],"files":1,"programs":[],"start":[]}"#;
     let from_births =
@@ -346,7 +346,7 @@ fn the_numbers_of_scripts(rt: HostRuntime) {
 #[test]
 fn the_numbers_of_steps(rt: HostRuntime) {
     use OfScript::{Argument, Start};
-    let of = Place::Script;
+    let of = NumberAt::Script;
     let programs = Field::Programs;
     let most = 1 << 32;
     let down =

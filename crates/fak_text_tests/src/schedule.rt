@@ -11,7 +11,7 @@ const ROOM: &str = r#"{"object":"room","bound":1,"seats":1,"events":["#;
 
 const QUEUE: &str = r#"{"object":"queue","size":1,"seats":1,"events":["#;
 
-// Finds that the text is a schedule of these parts.
+/// Finds that the text is a schedule of these parts.
 fn has_parts(
     rt: &(impl Abort + AllocGlobal),
     text: &str,
@@ -214,7 +214,7 @@ fn the_first_fault_of_the_events(rt: HostRuntime) {
     have_faults(&rt, Input::Schedule, QUEUE, "]}", rows);
 }
 
-// How many events there are, where these come after others.
+/// How many events there are, where these come after others.
 fn count_with(alloc: Global, before: &str, events: &str) -> Result<usize, TextFault> {
     let text = [ROOM, before, events, "]}"].concat(alloc)?;
     let schedule = read_schedule(alloc, text.as_bytes())?;

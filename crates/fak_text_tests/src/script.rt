@@ -23,7 +23,7 @@ fn script_of(rt: &(impl Abort + AllocGlobal), text: &str) -> Script {
         .expect(rt, "a script")
 }
 
-// Whether these are a step of each kind of version 1, with the first of them saying this.
+/// Whether these are a step of each kind of version 1, with the first of them saying this.
 #[cfg(test)]
 fn are_of_each_kind(steps: &[Step], said: String, nothing: String) -> bool {
     let kinds = [
@@ -65,7 +65,7 @@ fn a_script_of_each_kind_of_step(rt: HostRuntime) {
     assert!(rt; programs[1].as_slice() == [Step::Spawn(1), Step::Shutdown].as_slice());
 }
 
-// The version, the stint, and how many semaphores, programs and processes at the start there are.
+/// The version, the stint, and how many semaphores, programs and processes at the start there are.
 #[cfg(test)]
 fn extent(script: &Script) -> (u64, u64, [usize; 3]) {
     (
@@ -244,7 +244,7 @@ fn the_first_fault_of_the_programs(rt: HostRuntime) {
     );
 }
 
-// This many items, between commas; none is left out.
+/// This many items, between commas; none is left out.
 pub fn repeated(rt: &impl AllocGlobal, item: &str, count: usize) -> Result<String, AllocError>
     ensures { IfOk result (λ text. count ≤ length (string_bytes text) + 1) }
 {
@@ -256,7 +256,7 @@ pub fn repeated(rt: &impl AllocGlobal, item: &str, count: usize) -> Result<Strin
     Ok(text)
 }
 
-// The fault of a script with this many of an item between two texts.
+/// The fault of a script with this many of an item between two texts.
 #[cfg(test)]
 fn fault_of_many(
     rt: &impl AllocGlobal,

@@ -2,7 +2,7 @@
 
 use std::alloc::{AllocError, Global};
 
-// The numbers at and beside each power of two and each round number, and some of each length that look drawn.
+/// The numbers at and beside each power of two and each round number, and some of each length that look drawn.
 pub(crate) fn spread(alloc: Global) -> Result<Vec<u64>, AllocError> {
     let mut numbers = Vec::new(alloc);
     for place in 0..64u32 {
@@ -15,7 +15,7 @@ pub(crate) fn spread(alloc: Global) -> Result<Vec<u64>, AllocError> {
     Ok(numbers)
 }
 
-// Adds a number, and those that are up to this much less or more.
+/// Adds a number, and those that are up to this much less or more.
 pub(crate) fn add_about(numbers: &mut Vec<u64>, number: u64, reach: u64) -> Result<(), AllocError> {
     for n in number.saturating_sub(reach)..=number.saturating_add(reach) {
         numbers.push(n)?;
@@ -23,7 +23,7 @@ pub(crate) fn add_about(numbers: &mut Vec<u64>, number: u64, reach: u64) -> Resu
     Ok(())
 }
 
-// Adds 2 numbers of each length in bits, always the same (xorshift with 13, 7 and 17).
+/// Adds 2 numbers of each length in bits, always the same (xorshift with 13, 7 and 17).
 fn add_drawn(numbers: &mut Vec<u64>) -> Result<(), AllocError> {
     let mut state = 88_172_645_463_325_252u64;
     for drawn in 0..128u32 {

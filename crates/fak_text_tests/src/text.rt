@@ -10,7 +10,7 @@ use fak_text::{
 use std::alloc::{AllocError, Global};
 use std::process::Abort;
 
-// Whether a text was made, and is this one.
+/// Whether a text was made, and is this one.
 fn is_text(made: Result<Vec<u8>, TextFault>, want: &str) -> bool {
     match made {
         Ok(text) => text.as_slice() == want.as_bytes(),
@@ -18,7 +18,7 @@ fn is_text(made: Result<Vec<u8>, TextFault>, want: &str) -> bool {
     }
 }
 
-// Finds that the lines of a seat have the texts beside them.
+/// Finds that the lines of a seat have the texts beside them.
 fn have_texts(
     rt: &(impl Abort + AllocGlobal),
     seat: u64,
@@ -192,7 +192,7 @@ fn lines_of_queues(rt: HostRuntime) {
     have_texts(&rt, 2, rows);
 }
 
-// Whether a refusal has this text.
+/// Whether a refusal has this text.
 fn is_refused_as(alloc: Global, seat: u64, fault: &CoreFault, want: &str) -> bool
     requires { IsRefusal fault.now }
 {
@@ -256,7 +256,7 @@ fn a_journal_of_each_kind_of_note(rt: HostRuntime) {
     assert!(rt; is_text(journal_text(rt.alloc(), &[3, 0], &notes), JOURNAL));
 }
 
-// Whether a process of these numbers is named so.
+/// Whether a process of these numbers is named so.
 fn is_named(alloc: Global, name: &[u64], want: &str) -> bool {
     match name_text(alloc, name) {
         Ok(text) => text.as_str() == want,
@@ -271,7 +271,7 @@ fn names(rt: HostRuntime) {
     assert!(rt; is_named(rt.alloc(), &[12, 0, 1000], "12.0.1000"));
 }
 
-// Appends one of each, and a newline after each but the journal.
+/// Appends one of each, and a newline after each but the journal.
 fn append_each(text: &mut String, line: &Line) -> Result<(), AllocError> {
     append_line(text, line)?;
     text.push_str("\n")?;
