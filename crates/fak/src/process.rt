@@ -16,8 +16,12 @@ use std::sync::Wait;
 use std::thread::Threads;
 use std::{env, io};
 
-/// The words of the command line, from the process's arguments. Refuses `Memory` where there was none for them, and
-/// `Usage` where they could not be had for any other cause, as that one is not UTF-8.
+/// The words of the command line, from the process's arguments.
+///
+/// # Errors
+///
+/// `Memory`, where there was none for them, or `Usage`, where they could not be had for any other cause, as that one is
+/// not UTF-8.
 fn words_of(alloc: Global, arguments: io::Result<Args>) -> Result<Vec<String>, MainFault>
     ensures had { OnOk arguments (IfErr result (λ fault. fault ≡ Memory)) }
     ensures memory { IfErr arguments (λ error. error_kind error ≡ OutOfMemory → result ≡ Err Memory) }

@@ -58,7 +58,11 @@ fn command_from(matches: &ArgMatches) -> Option<Command>
     }
 }
 
-/// The command that the words ask for; the first word is the program's name. Refuses `Usage`, or `Memory`.
+/// The command that the words ask for; the first word is the program's name.
+///
+/// # Errors
+///
+/// `Memory`, or `Usage`, where the words ask for no command.
 pub fn command_of(alloc: Global, words: Vec<String>) -> Result<Command, MainFault>
     ensures ok { IfOk result (Asks (map string_bytes words.items)) }
     ensures err { IfErr result IsOfWords }

@@ -91,6 +91,10 @@ fn phase_begin(at: Phase<u64>, call: QueueCall) -> Result<Phase<u64>, CoreFault>
 
 impl QueueCore {
     /// An open and empty queue of this size, 1 to 4,096, with this number of seats, 1 to 64, all idle.
+    ///
+    /// # Errors
+    ///
+    /// `BadSize`, `BadSeats` or `Memory`, in this order.
     pub fn new(alloc: Global, size: u64, seats: u64) -> Result<QueueCore, CoreFault>
         ensures ok { IfOk result (λ core. core ≡ opening_fields size seats) }
         ensures opens { IfOk result (λ core. queue_state core ≡ opening) }
@@ -127,7 +131,11 @@ impl QueueCore {
         &self.marks
     }
 
-    /// Begins a call of a seat. Refused as `NoSuchSeat` or `MidCall`, in this order.
+    /// Begins a call of a seat.
+    ///
+    /// # Errors
+    ///
+    /// `NoSuchSeat` or `MidCall`, in this order.
     pub fn begin(&mut self, seat: u64, call: QueueCall) -> Result<(), CoreFault>
         ensures ok { OnOk result (IsBegun self.old seat call self.new) }
         ensures err { OnErr result (self.new ≡ self.old) }
@@ -141,8 +149,12 @@ impl QueueCore {
         Ok(())
     }
 
-    /// Makes one atomic step of the call that a seat is in. Refused as `NoSuchSeat` or `IdleSeat`, in this order, or
-    /// as `Memory`, only at a step that leaves a mark. After `Memory` the seat's next step is still the same.
+    /// Makes one atomic step of the call that a seat is in.
+    ///
+    /// # Errors
+    ///
+    /// `NoSuchSeat`, `IdleSeat` or `Memory`, in this order. `Memory` comes only at a step that leaves a mark; the seat's
+    /// next step is then still the same.
     pub fn advance(&mut self, _alloc: Global, seat: u64) -> Result<Line, CoreFault>
         ensures ok { IfOk result (λ line. IsStep self.old seat line self.new) }
 

@@ -78,6 +78,10 @@ impl Eq for RoomCore {
 
 impl RoomCore {
     /// A room of this bound, 0 to 4,294,967,296, with this number of seats, 1 to 64, none of which holds anything.
+    ///
+    /// # Errors
+    ///
+    /// `BadSize`, `BadSeats` or `Memory`, in this order.
     pub fn new(alloc: Global, bound: u64, seats: u64) -> Result<RoomCore, CoreFault>
         ensures ok { IfOk result (λ core. core ≡ opening bound seats) }
         ensures many { IfOk result (λ core. length core.seats ≡ seats) }
@@ -130,7 +134,11 @@ impl RoomCore {
         self.seats[seat as usize].held
     }
 
-    /// Begins a call of a seat. Refused as `NoSuchSeat`, `MidCall` or `NotHeld`, in this order.
+    /// Begins a call of a seat.
+    ///
+    /// # Errors
+    ///
+    /// `NoSuchSeat`, `MidCall` or `NotHeld`, in this order.
     pub fn begin(&mut self, seat: u64, call: RoomCall) -> Result<(), CoreFault>
         requires { (1 ≤ amount_of call) × (amount_of call ≤ 1024) }
         ensures ok { OnOk result (IsBegun self.old seat call self.new) }
@@ -150,8 +158,12 @@ impl RoomCore {
         Ok(())
     }
 
-    /// Makes one atomic step of the call that a seat is in. Refused as `NoSuchSeat` or `IdleSeat`, in this order, or
-    /// as `Memory`, only at a step that leaves a mark. After `Memory` the seat's next step is still the same.
+    /// Makes one atomic step of the call that a seat is in.
+    ///
+    /// # Errors
+    ///
+    /// `NoSuchSeat`, `IdleSeat` or `Memory`, in this order. `Memory` comes only at a step that leaves a mark; the seat's
+    /// next step is then still the same.
     pub fn advance(&mut self, _alloc: Global, seat: u64) -> Result<Line, CoreFault>
         ensures ok { IfOk result (λ line. IsStep self.old seat line self.new) }
         ensures err { OnErr result (self.new ≡ self.old) }

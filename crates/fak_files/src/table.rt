@@ -59,6 +59,10 @@ impl FileTable {
     /// A table of free entries, with its seats, each of which may have `stint` holds.
     ///
     /// `entries` is 1 to 16, `seats` 1 to 64, `stint` 1 to 2^40.
+    ///
+    /// # Errors
+    ///
+    /// `BadSize`, `BadSeats`, `BadStint` or `Memory`, in this order.
     pub fn open(
         alloc: Global,
         entries: u64,
@@ -122,8 +126,9 @@ impl FileTable {
 
     /// A reader's hold, which others may have at the same time.
     ///
-    /// `Worn` where the seat has had as many holds as its stint; `Busy` with the count that was found, where a writer
-    /// holds or has just tried to.
+    /// # Errors
+    ///
+    /// `Worn` or `Busy`, in this order. `Busy` has the count that was found, where a writer holds or has just tried to.
     pub fn try_read(&self, seat: &mut FileSeat) -> Result<(), FileFault>
         requires object { IsFileSeatOf self.now.object seat.old }
         requires idle { seat.old.hold ≡ Nothing }
@@ -137,8 +142,9 @@ impl FileTable {
 
     /// A writer's hold, beside which no seat holds.
     ///
-    /// `Worn` where the seat has had as many holds as its stint; `Busy` with the count that was found, where others
-    /// hold or have just tried to.
+    /// # Errors
+    ///
+    /// `Worn` or `Busy`, in this order. `Busy` has the count that was found, where others hold or have just tried to.
     pub fn try_write(&self, seat: &mut FileSeat) -> Result<(), FileFault>
         requires object { IsFileSeatOf self.now.object seat.old }
         requires idle { seat.old.hold ≡ Nothing }
@@ -211,7 +217,11 @@ impl FileTable {
         unreachable!()
     }
 
-    /// A reader's hold, tried again while a writer holds. `Worn` where the seat has had as many holds as its stint.
+    /// A reader's hold, tried again while a writer holds.
+    ///
+    /// # Errors
+    ///
+    /// `Worn`, where the seat has had as many holds as its stint.
     pub fn read<R: Wait>(&self, rt: &R, seat: &mut FileSeat) -> Result<(), Worn>
         requires object { IsFileSeatOf self.now.object seat.old }
         requires idle { seat.old.hold ≡ Nothing }
@@ -222,7 +232,11 @@ impl FileTable {
         self.wait_hold(rt, seat, Access::Read)
     }
 
-    /// A writer's hold, tried again while others hold. `Worn` where the seat has had as many holds as its stint.
+    /// A writer's hold, tried again while others hold.
+    ///
+    /// # Errors
+    ///
+    /// `Worn`, where the seat has had as many holds as its stint.
     pub fn write<R: Wait>(&self, rt: &R, seat: &mut FileSeat) -> Result<(), Worn>
         requires object { IsFileSeatOf self.now.object seat.old }
         requires idle { seat.old.hold ≡ Nothing }

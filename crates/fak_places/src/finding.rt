@@ -40,7 +40,11 @@ impl Format {
     }
 }
 
-/// The fault of what was read, if it has one. Refuses an input for which there was no memory.
+/// The fault of what was read, if it has one.
+///
+/// # Errors
+///
+/// There was no memory for the input.
 fn fault_from<T: Drop>(read: Result<T, TextFault>) -> Result<Option<TextFault>, AllocError>
     ensures { IfOk result (λ fault. MatchOption fault (IsOk read) (λ e. (read ≡ Err e) × (e ≢ Memory))) }
 {

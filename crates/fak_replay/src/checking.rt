@@ -10,8 +10,11 @@ use fak_text::read_history;
 use std::alloc::Global;
 
 /// Judges the history that the input is: `legal` with status 0, or `fault at I` with status 3, where I is the index of
-/// the first mark with which the history stops being legal. Refuses the input's first fault, or `Memory`; an
-/// input of more than 1,048,576 bytes as `Range(Field::Input)`, whatever memory there is.
+/// the first mark with which the history stops being legal.
+///
+/// # Errors
+///
+/// The input's first fault, or `Memory`. Of more than 1,048,576 bytes it is `Range(Field::Input)`, whatever memory there is.
 pub fn check(alloc: Global, input: &[u8]) -> Result<Answer, MainFault>
     ensures gives { GivesAnswer (IsReply Check input.now) result }
     ensures long { RefusesLong input.now result }

@@ -30,8 +30,11 @@ fn new_machine(alloc: Global, object: Object, seats: u64) -> Result<Machine, Mai
 }
 
 /// Replays the schedule that the input is: the line of each atomic step, and of each event that the object refuses,
-/// with status 0. Refuses the input's first fault, or `Memory`; an
-/// input of more than 1,048,576 bytes as `Range(Field::Input)`, whatever memory there is.
+/// with status 0.
+///
+/// # Errors
+///
+/// The input's first fault, or `Memory`. Of more than 1,048,576 bytes it is `Range(Field::Input)`, whatever memory there is.
 pub fn replay(alloc: Global, input: &[u8]) -> Result<Answer, MainFault>
     ensures gives { GivesAnswer (IsReply Replay input.now) result }
     ensures long { RefusesLong input.now result }

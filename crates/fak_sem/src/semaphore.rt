@@ -44,6 +44,10 @@ impl<T: Drop> Semaphore<T> {
     /// `stint` downs and ups together.
     ///
     /// `start` is 0 to 4,294,967,296, `size` 1 to 4,096, `seats` 1 to 64, `stint` 1 to 2^40.
+    ///
+    /// # Errors
+    ///
+    /// `BadSize`, `BadSeats`, `BadStint` or `Memory`, in this order.
     pub fn open(
         alloc: Global,
         start: u64,
@@ -109,7 +113,9 @@ impl<T: Drop> Semaphore<T> {
     /// Subtracts 1. Where it found at least 1 the item passes and comes back; else it is parked, which waits for room in the
     /// wait queue.
     ///
-    /// Refused where the seat's stint is used up; the item comes back.
+    /// # Errors
+    ///
+    /// `SemWorn`, where the seat's stint is used up; the item comes back.
     pub fn down<R: Wait>(
         &self,
         rt: &R,
@@ -135,7 +141,9 @@ impl<T: Drop> Semaphore<T> {
 
     /// Adds 1. Where it found less than 0 it wakes the oldest parked item, which waits for an item in the wait queue.
     ///
-    /// Refused where the seat's stint is used up.
+    /// # Errors
+    ///
+    /// `Worn`, where the seat's stint is used up.
     pub fn up<R: Wait>(&self, rt: &R, seat: &mut SemSeat<T>) -> Result<Option<T>, Worn>
         requires { seat.old.object ≡ self.now.object }
         ensures object { seat.new.object ≡ seat.old.object }

@@ -18,7 +18,9 @@ impl<T: Drop> Semaphore<T> {
     /// Begins a down: subtracts 1. Where it found at least 1 the item passes and comes back, and the down is done. Else the
     /// seat keeps the item, and room for it in the wait queue is claimed once; `try_park` goes on.
     ///
-    /// Refused where the seat's stint is used up; the item comes back.
+    /// # Errors
+    ///
+    /// `SemWorn`, where the seat's stint is used up; the item comes back.
     pub fn claim_down(&self, seat: &mut StepSeat<T>, who: T) -> Result<Option<T>, SemWorn<T>>
         requires object { seat.old.seat.object ≡ self.now.object }
         requires idle { seat.old.standing ≡ Idle }
@@ -70,7 +72,9 @@ impl<T: Drop> Semaphore<T> {
     /// Begins an up: adds 1. Where it found at least 0 it wakes no item, and the up is done: false. Else it owes a wake, and
     /// an item of the wait queue is claimed once; `try_wake` goes on.
     ///
-    /// Refused where the seat's stint is used up.
+    /// # Errors
+    ///
+    /// `Worn`, where the seat's stint is used up.
     pub fn claim_up(&self, seat: &mut StepSeat<T>) -> Result<bool, Worn>
         requires object { seat.old.seat.object ≡ self.now.object }
         requires idle { seat.old.standing ≡ Idle }

@@ -53,6 +53,10 @@ fn write_text<W: Write>(writer: &mut W, text: &str) -> Result<(), WhereFault>
 }
 
 /// Reads an input, and writes where it is wrong. Answers the status: 0 where nothing is wrong, else 1.
+///
+/// # Errors
+///
+/// `Read` or `Memory`, then `Write`. On any fault but `Write` nothing was written.
 pub fn serve<R: Read + Drop, W: Write>(
     alloc: Global,
     format: Format,

@@ -46,6 +46,10 @@ impl Credit {
     /// A credit that begins at `start`, with its seats, each of which may make `stint` debits and credits together.
     ///
     /// `start` is 0 to 4,294,967,296, `seats` 1 to 64, `stint` 1 to 2^40.
+    ///
+    /// # Errors
+    ///
+    /// `BadSize`, `BadSeats`, `BadStint` or `Memory`, in this order.
     pub fn open(
         alloc: Global,
         start: u64,
@@ -87,6 +91,10 @@ impl Credit {
     }
 
     /// Subtracts 1, and answers the value before.
+    ///
+    /// # Errors
+    ///
+    /// `Worn`, where the seat's stint is used up.
     pub fn debit(&self, seat: &mut CreditSeat) -> Result<i64, Worn>
         requires object { IsSeatOf self.now.object seat.old }
         ensures object { seat.new.object ≡ seat.old.object }
@@ -101,6 +109,10 @@ impl Credit {
     }
 
     /// Adds 1, and answers the value before.
+    ///
+    /// # Errors
+    ///
+    /// `Worn`, where the seat's stint is used up.
     pub fn credit(&self, seat: &mut CreditSeat) -> Result<i64, Worn>
         requires object { IsSeatOf self.now.object seat.old }
         ensures object { seat.new.object ≡ seat.old.object }

@@ -50,6 +50,10 @@ impl Room {
     /// A room whose count is 0, with its seats, each of which may be granted `stint` claims.
     ///
     /// `bound` is 0 to 4,294,967,296, `seats` 1 to 64, `stint` 1 to 2^40.
+    ///
+    /// # Errors
+    ///
+    /// `BadSize`, `BadSeats`, `BadStint` or `Memory`, in this order.
     pub fn open(
         alloc: Global,
         bound: u64,
@@ -88,6 +92,10 @@ impl Room {
     }
 
     /// Claims `d`, 1 to 1,024, where it fits beside the value, and answers the value that the add found.
+    ///
+    /// # Errors
+    ///
+    /// `Worn` or `AtBound`, in this order.
     pub fn tir(&self, seat: &mut RoomSeat, d: u64) -> Result<i64, TirFault>
         requires amount { (1 ≤ d) × (d ≤ 1024) }
         requires object { IsSeatOf self.now.object seat.old }
