@@ -19,7 +19,7 @@ pub(crate) type RoomWords = Shared<(), RoomView, RoomLimits, RoomRule>;
 /// A seat's right to make steps on them.
 pub(crate) type RoomToken = Seat<(), RoomView>;
 
-/// Loads the count, which the caller tests for a claim of `d`.
+/// Loads the count, which the caller tests for a claim of `d`. The amount is for the proof alone.
 pub(crate) fn test<J: Call>(words: &RoomWords, token: &mut RoomToken, d: u64) -> u64
     requires table { FitsTable token.old.table_id words.now.table_id words.now.key J.key }
     requires amount { (1 ≤ d) × (d ≤ 1024) × (d ≡ J.amount) }

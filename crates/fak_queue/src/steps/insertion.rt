@@ -33,7 +33,7 @@ use crate::plays::{
 use crate::steps::{QueueToken, QueueWords};
 use crate::words::{DRAWS_IN, LOWER, TURNS, UPPER, read_upper};
 
-/// Tests the upper count: whether there is room, or why not.
+/// Tests the upper count: whether there is room, or why not. The item is for the proof alone.
 pub(crate) fn test_up<T, J: Call<T>>(
     words: &QueueWords<T>,
     token: &mut QueueToken<T>,
