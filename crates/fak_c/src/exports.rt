@@ -1,7 +1,7 @@
 //! The exported functions. Here those that open objects, move seats and give them up; the calls of each kind of seat are below.
 
 ghost use Rattle.std.specs.Prelude.{◌≡◌, length};
-ghost use Rattle.fak_c.specs.Kinds.{Leaves, Moves};
+ghost use Rattle.fak_c.specs.Kinds.{GivesUp, Moves};
 ghost use Rattle.fak_c.specs.Openings.{OpensCredit, OpensOrKeeps, OpensQueue, OpensRoom, OpensSem, OpensTable};
 
 mod credit;
@@ -35,7 +35,7 @@ pub extern "C" fn fak_c_open(alloc: Global, seats: &mut [Place], size: u64, stin
 /// `OK`, `NO_SEAT`, or `WRONG_STATE` in mid-call or in a hold, where the handle keeps the seat.
 #[unsafe(no_mangle)]
 pub extern "C" fn fak_c_leave(alloc: Global, seat: &mut Place) -> i32
-    ensures { Leaves result seat.old.handle.desk seat.new.handle.desk }
+    ensures { GivesUp result seat.old.handle.desk seat.new.handle.desk }
 {
     let Some(desk) = seat.take(alloc) else {
         return NO_SEAT;

@@ -31,7 +31,7 @@ pub use Rattle.fak_processor.specs.Holding.{Owns, queue_kind, Bundle, Weighs}
 pub use Rattle.fak_processor.specs.Joined.{no_seat, no_table}
 pub use Rattle.fak_processor.specs.Moving.{IsIdle, GrowsIn, GrowsAtLast, Gains, Moves, bundle_of, files_of, IsQuiet, GrowsShut, GrowsOut, GrowsEmpty, BeginsNone, row_as, GainsParked, GainsWoken, at_one, DownsAt, UpsAt, names_of, LeavesNone, hand_of, GrowsIdle}
 pub use Rattle.fak_processor.specs.OnlyCounts.{IsOnlySem, semaphore_count, sleepers_of, IsOnlyRoom, Passes, Parks, Raises, Rouses, Claims, FindsFull, GivesBack}
-pub use Rattle.fak_processor.specs.OnlyQueues.{Enters, is_close, has_close, IsOnlySeat, Keeps, Bounces, Leaves, FindsNone, Shuts}
+pub use Rattle.fak_processor.specs.OnlyQueues.{Enters, is_close, has_close, IsOnlySeat, Keeps, Bounces, TakesFirst, FindsNone, Shuts}
 pub use Rattle.fak_processor.specs.Opened.{dealt_to, fresh_rows, fresh_all, fresh_processor, zipped, IsSemaphoreFor, AreSeated, HasName, fresh_sem_at}
 pub use Rattle.fak_processor.specs.Processors.{ObjectsOf, ProcessorOf, AreFor, IsReached, lists_of, ids_of, AreOf, GoesTo, IsAlone, ids_of_seats, AtPlace, IsBorn, HasNoBirth, WakesNobody, WakesFirst, SleepsLast, CountFalls, HasNoSlot, TakesSlot, GoesOn}
 pub use Rattle.fak_processor.specs.Turning.{Grows, Turning, Adds}

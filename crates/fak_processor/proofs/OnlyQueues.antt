@@ -1,5 +1,5 @@
 -- What calls do to the contents of a queue that has one seat.
-use Rattle.fak_processor.proofs.Common.{◌≡◌, ℕ, zero, suc, ◌+◌, ◌≤◌, ◌||◌, Bool, true, false, List, [], ◌∷◌, ◌++◌, Some, length, drop, refl, ap, sym, ◌∙◌, subst, arith, inl, inr, append_assoc, ℤ, pos, ◌≤ℤ◌, ints, flat_map-append, queue_rules, IsQueueHistory, count, puts, gots, lower_raise, lower_drop, lower_count, Has, item_in, item_at, items_put, contents, IsFairMark, SeatInfo, Kind, Mark, Makes, made_by, RefusesEmpty, ShutsAs, IsOnly, is_close, has_close, IsOnlySeat, Keeps, Enters, Bounces, Leaves, FindsNone, Shuts}
+use Rattle.fak_processor.proofs.Common.{◌≡◌, ℕ, zero, suc, ◌+◌, ◌≤◌, ◌||◌, Bool, true, false, List, [], ◌∷◌, ◌++◌, Some, length, drop, refl, ap, sym, ◌∙◌, subst, arith, inl, inr, append_assoc, ℤ, pos, ◌≤ℤ◌, ints, flat_map-append, queue_rules, IsQueueHistory, count, puts, gots, lower_raise, lower_drop, lower_count, Has, item_in, item_at, items_put, contents, IsFairMark, SeatInfo, Kind, Mark, Makes, made_by, RefusesEmpty, ShutsAs, IsOnly, is_close, has_close, IsOnlySeat, Keeps, Enters, Bounces, TakesFirst, FindsNone, Shuts}
 use Rattle.std.proofs.lemmas.List.{drop-append-le, append-nil}
 use Rattle.fak_model.specs.declared.queue.Kind.TheVariants as made
 use Rattle.fak_model.proofs.Appending.{history_prefix}
@@ -156,8 +156,8 @@ module _ {T : Type 0} {size : ℕ} {old new : SeatInfo (Mark T)} (o : IsOnlySeat
         shut = shut_same kinds o.only a unshut;
       }
 
-  pub leaves : (k : ℕ) (x : T) → Makes size (made.ClaimOut ∷ made.Got x ∷ made.Take k ∷ made.EndOut ∷ []) old new → Leaves x old new
-  leaves k x a =
+  pub takes_first : (k : ℕ) (x : T) → Makes size (made.ClaimOut ∷ made.Got x ∷ made.Take k ∷ made.EndOut ∷ []) old new → TakesFirst x old new
+  takes_first k x a =
       let items : contents old.seen ≡ x ∷ contents new.seen = first_left (made.ClaimOut ∷ made.Got x ∷ made.Take k ∷ made.EndOut ∷ []) o.only a x (record { seat = old.name; kind = made.ClaimOut } ∷ []) _ refl refl refl refl refl in
       let up = counted (made.ClaimOut ∷ made.Got x ∷ made.Take k ∷ made.EndOut ∷ []) o.only a lower_raise in
       let down = counted (made.ClaimOut ∷ made.Got x ∷ made.Take k ∷ made.EndOut ∷ []) o.only a lower_drop in

@@ -40,7 +40,7 @@ pub record Bounces {T : Type 0} (old new : SeatInfo (Mark T)) : Type 0 where
   pub closed : has_close old.seen ≡ true
 
 -- x was the first
-pub record Leaves {T : Type 0} (x : T) (old new : SeatInfo (Mark T)) : Type 0 where
+pub record TakesFirst {T : Type 0} (x : T) (old new : SeatInfo (Mark T)) : Type 0 where
   pub only : IsOnlySeat new
   pub items : contents old.seen ≡ x ∷ contents new.seen
   pub shut : has_close new.seen ≡ has_close old.seen

@@ -83,13 +83,13 @@ module _ {T : Type 0} (key : QueueLimits) (s : State (Option T) (QueueView T)) (
     saw_all = ap reverse (sees_whole (queue_object {T = T} key.size key.seats).rules key.seats v.names v.seen r.core.past whole r.named (r.sees id v there))
 
     -- the tickets that were got and put, and what is left between them
-    pub record Leaves (put got : ℕ) : Type 0 where
+    pub record Remains (put got : ℕ) : Type 0 where
       pub more : got ≤ put
       pub left : AreLeft key.size cells got (put - got)
       pub are : items_left key.size cells got (put - got) ≡ contents (reverse v.seen)
 
-    pub leaves : (put got : ℕ) → slice_index s.words 48 ≡ put → slice_index s.words 64 ≡ got → Leaves put got
-    leaves put got put_is got_is =
+    pub remains : (put got : ℕ) → slice_index s.words 48 ≡ put → slice_index s.words 64 ≡ got → Remains put got
+    remains put got put_is got_is =
         let p : put ≡ count puts r.core.past = sym put_is ∙ (r.encoded.words_are.draws_in_is ∙ K.draws_in) in
         let q : got ≡ count gots r.core.past = sym got_is ∙ (r.encoded.words_are.draws_out_is ∙ K.draws_out) in
         let bounds = contents_bounded key.size r.core.past K.legal in
@@ -115,5 +115,5 @@ closes {T} key size id v ws cells put got f long idle whole at_put at_got =
     let s = f.0 in
     let r = f.1.0 in
     let same : key.size ≡ size = sym r.encoded.wide ∙ (f.3 ∙ long) in
-    let l = leaves key s r id v f.1.1 idle whole cells f.4 put got (ap (λ ws. slice_index ws 48) f.2 ∙ read_at ws 48 put at_put) (ap (λ ws. slice_index ws 64) f.2 ∙ read_at ws 64 got at_got) in
+    let l = remains key s r id v f.1.1 idle whole cells f.4 put got (ap (λ ws. slice_index ws 48) f.2 ∙ read_at ws 48 put at_put) (ap (λ ws. slice_index ws 64) f.2 ∙ read_at ws 64 got at_got) in
     subst (λ k. Closes k (reverse v.seen) cells put got) same record { more = l.more; left = l.left; are = l.are }

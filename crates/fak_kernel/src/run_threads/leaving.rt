@@ -18,14 +18,14 @@ pub(crate) type Answer<K> = Result<Option<Processor<K>>, Fault>;
 
 /// What is promised of a processor's answer.
 #[derive(Drop)]
-struct Leaves<'o, K: Run, G> {
+struct LeavePromise<'o, K: Run, G> {
     objects: &'o Objects<K>,
     gate: &'o G,
     processors: u64,
     number: u64,
 }
 
-impl<'o, K: Run, G: Gate> Promise<Answer<K>> for Leaves<'o, K, G> {
+impl<'o, K: Run, G: Gate> Promise<Answer<K>> for LeavePromise<'o, K, G> {
     ghost kept_by = { λ p r. HasAnswered K.script p.objects.now p.processors (G.refuses p.gate.now)
         (G.answers p.gate.now) p.number r };
 }
@@ -93,7 +93,7 @@ pub(crate) fn leave_all<K: Run + Send + Sync, R: Threads + Wait + Sync, G: Gate 
             };
             for processor in all {
                 let number = handles.len() as u64;
-                let promise = Leaves {
+                let promise = LeavePromise {
                     objects,
                     gate,
                     processors,

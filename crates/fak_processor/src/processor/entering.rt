@@ -3,7 +3,7 @@
 ghost use Rattle.std.specs.Prelude.{◌≡◌, [], ◌∷◌, MatchOption, IfOk, IfErr, IfSome};
 ghost use Rattle.fak_queue.specs.declared.state.SeatState.TheVariants.{Idle};
 ghost use Rattle.fak_queue.specs.Queues.{state_of};
-ghost use Rattle.fak_processor.specs.OnlyQueues.{IsOnlySeat, Enters, Bounces, Leaves, FindsNone, Shuts};
+ghost use Rattle.fak_processor.specs.OnlyQueues.{IsOnlySeat, Enters, Bounces, TakesFirst, FindsNone, Shuts};
 ghost use Rattle.fak_model.specs.declared.queue.Kind.TheVariants.{Close};
 ghost use Rattle.fak_model.specs.Queue.{queue_rules};
 ghost use Rattle.fak_processor.specs.Holding.{queue_kind};
@@ -86,7 +86,7 @@ pub fn take<T: Drop, R: Wait>(
     ensures grows { IfOk result (λ found. MatchOption found
         (GrowsEmpty queue.now.size seat.old seat.new) (λ x. GrowsOut queue.now.size x seat.old seat.new)) }
     ensures only { IsOnlySeat seat.old → IfOk result
-        (λ found. MatchOption found (FindsNone seat.old seat.new) (λ x. Leaves x seat.old seat.new)) }
+        (λ found. MatchOption found (FindsNone seat.old seat.new) (λ x. TakesFirst x seat.old seat.new)) }
     ensures worn { IfErr result (λ fault. fault ≡ Fault.Worn) }
     ensures spent { IfErr result (λ _. IsSpent seat.new) }
 {

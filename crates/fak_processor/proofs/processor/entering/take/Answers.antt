@@ -1,9 +1,9 @@
-use Rattle.fak_processor.proofs.OnlyQueues.{leaves, finds_none}
+use Rattle.fak_processor.proofs.OnlyQueues.{takes_first, finds_none}
 use Rattle.fak_processor.proofs.Moving.{out_at_once, none_there}
 use Rattle.fak_processor.proofs.processor.entering.take.Goals as goal
 
 pub returns-in-Ok-clause-only : goal.returns-in-Ok-clause-only
-returns-in-Ok-clause-only g c = λ o. leaves o _ c.in-Ok.item c.in-Ok.ensures.call.makes
+returns-in-Ok-clause-only g c = λ o. takes_first o _ c.in-Ok.item c.in-Ok.ensures.call.makes
 
 pub returns-in-Err-Empty-clause-only : goal.returns-in-Err-Empty-clause-only
 returns-in-Err-Empty-clause-only g c = λ o. let e = rw c.in-Err-Empty.field-0-is at c.in-Err-Empty.ensures.call in finds_none o e.1
