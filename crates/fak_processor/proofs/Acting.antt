@@ -1,5 +1,5 @@
 -- How what a processor does balances.
-use Rattle.fak_processor.proofs.Common.{Ended, Halted, next_step, Ledger, Balanced, nothing, joined, ObjectsOf, ProcessorOf, AreFor, ◌≡◌, ℕ, List, [], ◌∷◌, ◌++◌, length, refl, ap, sym, ◌∙◌, subst, arith, None, sum_by, append-nil, sum_by-append, SeatInfo, Kind, Mark, Debit, kinds_in, kinds_out, ScriptOf, Process, FitsScript, IsIdle, IsQuiet, GrowsIn, GrowsShut, GrowsAtLast, GrowsOut, GrowsEmpty, BeginsNone, Gains, Moves, row_as, balanced-joined}
+use Rattle.fak_processor.proofs.Common.{Ended, Halted, next_step, Ledger, Balanced, nothing, joined, ObjectsOf, ProcessorOf, AreFor, ◌≡◌, ℕ, List, [], ◌∷◌, ◌++◌, length, refl, ap, sym, ◌∙◌, subst, arith, None, sum_by, append-nil, sum_by-append, SeatInfo, Kind, Mark, Debit, kinds_in, kinds_out, ScriptOf, Process, FitsScript, MovesNoItem, IsQuiet, GrowsIn, GrowsShut, GrowsAtLast, GrowsOut, GrowsEmpty, BeginsNone, Gains, Moves, row_as, balanced-joined}
 use Rattle.fak_processor.specs.Events.{takes, puts, halts, ends, closed, empty}
 use Rattle.fak_processor.proofs.Events.{by_free, by_ready, quiet, in_other_hands, balanced-beside, keeps_takes, keeps_puts, keeps_halts, keeps_ends}
 use Rattle.fak_processor.proofs.Moving.{quiet_empty, gains_none, gains_then, gains_ready, gains_free}
@@ -15,7 +15,7 @@ module _ {script : ScriptOf} where
   pub keeps_quiet : (n : ℕ) (kinds : List (Kind Process)) → IsQuiet kinds → Balanced script n [] [] (record nothing { ready = kinds })
   keeps_quiet n kinds q = by_ready script n kinds (λ f. omega (arith, q.idle.puts f, q.idle.gots f)) q.closes q.closeds
 
-  pub keeps_idle : (n : ℕ) (kinds : List (Kind ℕ)) → IsIdle kinds → Balanced script n [] [] (record nothing { free = kinds })
+  pub keeps_idle : (n : ℕ) (kinds : List (Kind ℕ)) → MovesNoItem kinds → Balanced script n [] [] (record nothing { free = kinds })
   keeps_idle n kinds q = by_free script n kinds [] [] (λ g. omega (arith, q.puts g, q.gots g)) (λ f. refl) refl
 
   -- ---- moves one after the other, and beside others in hand

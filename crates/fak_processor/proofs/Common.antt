@@ -29,7 +29,7 @@ pub use Rattle.fak_processor.specs.Begun.{Between, empty_lists, Begins, FindsNoS
 pub use Rattle.fak_processor.specs.Events.{empty, made_of, IsPlain, fills, steps, passes, parks, adds, wakes, spawns, lacks_birth, lacks_slot, waits_refused, shuts, refused_claim}
 pub use Rattle.fak_processor.specs.Holding.{Owns, queue_kind, Bundle, Weighs}
 pub use Rattle.fak_processor.specs.Joined.{no_seat, no_table}
-pub use Rattle.fak_processor.specs.Moving.{IsIdle, GrowsIn, GrowsAtLast, Gains, Moves, bundle_of, files_of, IsQuiet, GrowsShut, GrowsOut, GrowsEmpty, BeginsNone, row_as, GainsParked, GainsWoken, at_one, DownsAt, UpsAt, names_of, LeavesNone, hand_of, GrowsIdle}
+pub use Rattle.fak_processor.specs.Moving.{MovesNoItem, GrowsIn, GrowsAtLast, Gains, Moves, bundle_of, files_of, IsQuiet, GrowsShut, GrowsOut, GrowsEmpty, BeginsNone, row_as, GainsParked, GainsWoken, at_one, DownsAt, UpsAt, names_of, LeavesNone, hand_of, GrowsIdle}
 pub use Rattle.fak_processor.specs.OnlyCounts.{IsOnlySem, semaphore_count, sleepers_of, IsOnlyRoom, Passes, Parks, Raises, Rouses, Claims, FindsFull, GivesBack}
 pub use Rattle.fak_processor.specs.OnlyQueues.{Enters, is_close, has_close, IsOnlySeat, Keeps, Bounces, TakesFirst, FindsNone, Shuts}
 pub use Rattle.fak_processor.specs.Opened.{dealt_to, fresh_rows, fresh_all, fresh_processor, zipped, IsSemaphoreFor, AreSeated, HasName, fresh_sem_at}

@@ -1,6 +1,6 @@
 -- Each kind of event of a turn keeps what balances.
 use Rattle.fak_model.proofs.Leading.{sum_none}
-use Rattle.fak_processor.proofs.Common.{child_of, next_step, RowOf, IsIdle, ◌≡◌, ℕ, ◌+◌, ◌<◌, ◌==◌, Bool, true, false, cond, List, [], ◌∷◌, ◌++◌, length, refl, ap, sym, ◌∙◌, subst, arith, None, sum_by, All, nat_tests, sum_by-append, All-nil, All-cons, sum_below, debit_weight, credit_weight, up_amount, release_amount, put_of, got_of, close_of, closed_of, refusal_of, other_amount, Kind, Debit, Credit, cond_here, cond_else, kinds_in, kinds_out, ScriptOf, StepOf, down, up, spawn, shutdown, NoteOf, downed, upped, spawned, no_birth, no_slot, shut_down, Process, child_count, after_note, FitsScript, Ledger, Made, Balanced, IsMade, FitsRow, nothing, not_before, its_down, before_down}
+use Rattle.fak_processor.proofs.Common.{child_of, next_step, RowOf, MovesNoItem, ◌≡◌, ℕ, ◌+◌, ◌<◌, ◌==◌, Bool, true, false, cond, List, [], ◌∷◌, ◌++◌, length, refl, ap, sym, ◌∙◌, subst, arith, None, sum_by, All, nat_tests, sum_by-append, All-nil, All-cons, sum_below, debit_weight, credit_weight, up_amount, release_amount, put_of, got_of, close_of, closed_of, refusal_of, other_amount, Kind, Debit, Credit, cond_here, cond_else, kinds_in, kinds_out, ScriptOf, StepOf, down, up, spawn, shutdown, NoteOf, downed, upped, spawned, no_birth, no_slot, shut_down, Process, child_count, after_note, FitsScript, Ledger, Made, Balanced, IsMade, FitsRow, nothing, not_before, its_down, before_down}
 use Rattle.fak_processor.specs.Events.{made_of, IsPlain, fills, takes, puts, halts, steps, passes, parks, adds, wakes, spawns, lacks_birth, lacks_slot, ends, waits_refused, shuts, closed, refused_claim}
 use Rattle.fak_processor.proofs.Moving.{quiet_empty, idle_closed}
 use Rattle.fak_run.proofs.Sums.{sum_at}
@@ -37,7 +37,7 @@ balanced-beside {before = before} {after = after} others b = in_other_hands b (�
 -- ---- what refused calls weigh, refused at the test or at the add
 
 record ClosedWeighs (T : Type 0) (late : Bool) : Type 0 where
-  pub idle : IsIdle {T = T} (closed late)
+  pub idle : MovesNoItem {T = T} (closed late)
   pub closes : sum_by close_of (closed {A = T} late) ≡ 0
   pub closeds : sum_by closed_of (closed {A = T} late) ≡ 1
 

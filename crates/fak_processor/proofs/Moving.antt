@@ -6,7 +6,7 @@ use Rattle.fak_model.specs.Credit as credit
 use Rattle.fak_count.specs.Rooms as rooms
 use Rattle.fak_queue.proofs.Common.{Makes, RefusesEmpty, Deletes, RefusedInsertion, NotIn, WithdrawnIn, ClosedIn, WithdrawnLate, kinds_not_in, kinds_in}
 use Rattle.fak_queue.specs.Retries.{IsFull, IsClosed, InsertsAfterFull, ClosesAfterFull}
-use Rattle.fak_processor.proofs.Common.{Ledger, Made, nothing, joined, queue_kind, Bundle, ProcessorOf, AreLines, is_file_line, file_lines, ◌≡◌, ◌⊎◌, ℕ, ◌<◌, Bool, true, false, List, [], ◌∷◌, ◌++◌, All, All-head, All-tail, no_seat, flat_map, length, map, slice_index_or, slice_set, refl, ap, sym, ◌∙◌, subst, arith, inl, inr, append_assoc, ℤ, sum_by-append, filter-append, SeatInfo, queue_rules, room_rules, credit_rules, put_of, got_of, close_of, closed_of, Kind, Mark, RoomKind, No, RoomMark, CreditKind, CreditMark, FileMark, cond_here, cond_else, SemSeatInfo, credit_part, queue_part, ScriptOf, NoteOf, Process, Grows, Adds, IsIdle, IsQuiet, GrowsIn, GrowsShut, GrowsAtLast, GrowsIdle, GrowsEmpty, GrowsOut, bundle_of, names_of, files_of, Gains, at_one}
+use Rattle.fak_processor.proofs.Common.{Ledger, Made, nothing, joined, queue_kind, Bundle, ProcessorOf, AreLines, is_file_line, file_lines, ◌≡◌, ◌⊎◌, ℕ, ◌<◌, Bool, true, false, List, [], ◌∷◌, ◌++◌, All, All-head, All-tail, no_seat, flat_map, length, map, slice_index_or, slice_set, refl, ap, sym, ◌∙◌, subst, arith, inl, inr, append_assoc, ℤ, sum_by-append, filter-append, SeatInfo, queue_rules, room_rules, credit_rules, put_of, got_of, close_of, closed_of, Kind, Mark, RoomKind, No, RoomMark, CreditKind, CreditMark, FileMark, cond_here, cond_else, SemSeatInfo, credit_part, queue_part, ScriptOf, NoteOf, Process, Grows, Adds, MovesNoItem, IsQuiet, GrowsIn, GrowsShut, GrowsAtLast, GrowsIdle, GrowsEmpty, GrowsOut, bundle_of, names_of, files_of, Gains, at_one}
 use Rattle.fak_processor.specs.Events.{full, empty, closed, refused_claim}
 use Rattle.fak_processor.proofs.Places.{alike_after}
 use Rattle.fak_processor.proofs.Calls.{grows_same, grows_makes, grows_deletes, grows_empty, grows_room, grows_withdraws}
@@ -14,10 +14,10 @@ use Rattle.fak_processor.proofs.Growing.{grows_then}
 
 -- ---- marks that weigh nothing
 
-pub idle_none : {T : Type 0} → IsIdle {T = T} []
+pub idle_none : {T : Type 0} → MovesNoItem {T = T} []
 idle_none = record { puts = λ f. refl; gots = λ f. refl }
 
-pub idle_then : {T : Type 0} {ks ms : List (Kind T)} → IsIdle ks → IsIdle ms → IsIdle (ks ++ ms)
+pub idle_then : {T : Type 0} {ks ms : List (Kind T)} → MovesNoItem ks → MovesNoItem ms → MovesNoItem (ks ++ ms)
 idle_then {ks = ks} {ms = ms} a b = record {
   puts = λ f. omega (arith, a.puts f, b.puts f, sum_by-append (put_of f) ks ms);
   gots = λ f. omega (arith, a.gots f, b.gots f, sum_by-append (got_of f) ks ms);
@@ -52,7 +52,7 @@ pub quiet_empty : {T : Type 0} (late : Bool) → IsQuiet {T = T} (empty late)
 quiet_empty true = record { idle = record { puts = λ f. refl; gots = λ f. refl }; closes = refl; closeds = refl }
 quiet_empty false = record { idle = record { puts = λ f. refl; gots = λ f. refl }; closes = refl; closeds = refl }
 
-pub idle_closed : {T : Type 0} (late : Bool) → IsIdle {T = T} (closed late)
+pub idle_closed : {T : Type 0} (late : Bool) → MovesNoItem {T = T} (closed late)
 idle_closed true = record { puts = λ f. refl; gots = λ f. refl }
 idle_closed false = record { puts = λ f. refl; gots = λ f. refl }
 

@@ -13,7 +13,7 @@ use Rattle.fak_run.specs.Ledger.{Balanced, Ledger, Named, named, nothing}
 use Rattle.fak_run.specs.Whole.{begun_names}
 use Rattle.fak_processor.specs.Turning.{Turning}
 use Rattle.fak_processor.specs.Processors.{ObjectsOf, ProcessorOf, AreOf, GoesTo}
-use Rattle.fak_processor.specs.Moving.{Gains, IsIdle, bundle_of, files_of, rows_weigh}
+use Rattle.fak_processor.specs.Moving.{Gains, MovesNoItem, bundle_of, files_of, rows_weigh}
 use Rattle.fak_processor.specs.Joined.{no_seat}
 use Rattle.fak_processor.specs.Opened.{HasName}
 
@@ -55,13 +55,13 @@ pub record Begins (script : ScriptOf) (before after : List Process) (first : Lis
 -- the free queue was empty so far
 pub record FindsNoSlot (script : ScriptOf) (old new : ProcessorOf) : Type 0 where
   pub refused : List (Kind ℕ)
-  pub idle : IsIdle refused
+  pub idle : MovesNoItem refused
   pub gains : Gains script old new (record nothing { free = refused })
 
 -- this slot was got off the free queue, after refusals Empty
 pub record FindsSlot (script : ScriptOf) (slot : ℕ) (old new : ProcessorOf) : Type 0 where
   pub refused : List (Kind ℕ)
-  pub idle : IsIdle refused
+  pub idle : MovesNoItem refused
   pub ticket : ℕ
   pub gains : Gains script old new (record nothing { free = refused ++ kinds_out ticket slot })
 

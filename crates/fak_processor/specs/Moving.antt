@@ -28,13 +28,13 @@ use Rattle.fak_processor.specs.Processors.{ProcessorOf, AtPlace}
 -- ---- calls on one queue, tried again where they were refused
 
 -- marks that neither put nor get an item
-pub record IsIdle {T : Type 0} (kinds : List (Kind T)) : Type 0 where
+pub record MovesNoItem {T : Type 0} (kinds : List (Kind T)) : Type 0 where
   pub puts : (f : T → ℕ) → sum_by (put_of f) kinds ≡ 0
   pub gots : (f : T → ℕ) → sum_by (got_of f) kinds ≡ 0
 
 -- nor shut the queue, nor find it shut
 pub record IsQuiet {T : Type 0} (kinds : List (Kind T)) : Type 0 where
-  pub idle : IsIdle kinds
+  pub idle : MovesNoItem kinds
   pub closes : sum_by close_of kinds ≡ 0
   pub closeds : sum_by closed_of kinds ≡ 0
 
@@ -55,13 +55,13 @@ pub record GrowsShut {T : Type 0} (size : ℕ) (old new : SeatInfo (Mark T)) : T
 -- refusals Full or Closed
 pub record GrowsIdle {T : Type 0} (size : ℕ) (old new : SeatInfo (Mark T)) : Type 0 where
   pub refused : List (Kind T)
-  pub idle : IsIdle refused
+  pub idle : MovesNoItem refused
   pub grows : Grows (queue_rules size) queue_kind old new refused
 
 -- x was put, after refusals Full or Closed
 pub record GrowsAtLast {T : Type 0} (size : ℕ) (x : T) (old new : SeatInfo (Mark T)) : Type 0 where
   pub refused : List (Kind T)
-  pub idle : IsIdle refused
+  pub idle : MovesNoItem refused
   pub ticket : ℕ
   pub grows : Grows (queue_rules size) queue_kind old new (refused ++ kinds_in ticket x)
 
