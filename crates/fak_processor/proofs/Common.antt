@@ -17,7 +17,7 @@ pub use Rattle.fak_run.proofs.Joining.{balanced-joined}
 pub use Rattle.fak_run.proofs.OnlyFiles.{got, keeps_files_then, keeps_files_all, all_read, waited_for, ended, changes_files, open_one, stored_only, sets_entry, found_at, close_one}
 pub use Rattle.fak_run.proofs.Storing.{stores_change, left_sets}
 pub use Rattle.fak_run.specs.Files.{free_entry, open_change, close_change, uses_of}
-pub use Rattle.fak_run.specs.Ledger.{Ledger, Balanced, nothing, joined, Made, Named, named, IsMade, FitsRow, not_before, its_down, before_down, other_down}
+pub use Rattle.fak_run.specs.Ledger.{Ledger, Balanced, nothing, joined, Made, NameAndProgram, named, IsMade, FitsRow, not_before, its_down, before_down, other_down}
 pub use Rattle.fak_run.specs.ListScheduler.{next_step, turn_over, child_of, numbers_from, Turn, begun_from, Lists, enter_ready, first_lists, State, step, take_front}
 pub use Rattle.fak_run.specs.Making.{AreLines, HasMade, sets_of, HasJustTaken, Left}
 pub use Rattle.fak_run.specs.Only.{IsOnly}

@@ -1,7 +1,7 @@
 -- What processor 0 does before the threads start.
 use Rattle.std.proofs.lemmas.List.{length-take-le, map-append, get_or-set_same}
 use Rattle.fak_model.specs.Calls.{SeatInfo}
-use Rattle.fak_processor.proofs.Common.{AreLines, Balanced, Named, joined, named, nothing, begun_names, Gains, GrowsAtLast, Moves, files_of, AreSeated, fresh_all, fresh_processor, no_seat, ◌≡◌, ℕ, zero, suc, ◌+◌, ◌-◌, ◌<◌, ◌≤◌, Bool, List, [], ◌∷◌, ◌++◌, length, map, take, drop, get_or, slice_index_or, slice_set, refl, ap, sym, ◌∙◌, subst, arith, Mark, kinds_in, kinds_out, ScriptOf, Process, new_process, Lists, begun_from, enter_ready, first_lists, numbers_from, turn_over, empty, fills, ObjectsOf, ProcessorOf, AreFor, AreOf, GoesTo, HasNoSlot, IsAlone, IsReached, TakesSlot, lists_of, Begins, Between, FindsNoSlot, FindsSlot, StartsOne, begins, empty_lists, balanced-joined, lines_none}
+use Rattle.fak_processor.proofs.Common.{AreLines, Balanced, NameAndProgram, joined, named, nothing, begun_names, Gains, GrowsAtLast, Moves, files_of, AreSeated, fresh_all, fresh_processor, no_seat, ◌≡◌, ℕ, zero, suc, ◌+◌, ◌-◌, ◌<◌, ◌≤◌, Bool, List, [], ◌∷◌, ◌++◌, length, map, take, drop, get_or, slice_index_or, slice_set, refl, ap, sym, ◌∙◌, subst, arith, Mark, kinds_in, kinds_out, ScriptOf, Process, new_process, Lists, begun_from, enter_ready, first_lists, numbers_from, turn_over, empty, fills, ObjectsOf, ProcessorOf, AreFor, AreOf, GoesTo, HasNoSlot, IsAlone, IsReached, TakesSlot, lists_of, Begins, Between, FindsNoSlot, FindsSlot, StartsOne, begins, empty_lists, balanced-joined, lines_none}
 use Rattle.fak_processor.proofs.Events.{by_free, keeps_fills, quiet}
 use Rattle.fak_processor.proofs.Calls.{turning_more}
 use Rattle.fak_processor.proofs.Moving.{gains_free, gains_none, gains_then, idle_none, idle_then, quiet_empty}
@@ -24,7 +24,7 @@ module _ {script : ScriptOf} where
   begins_none p = record { ledger = nothing; balanced = quiet script (length script.semaphores); gains = gains_none p; first_are = refl; begun_are = refl }
 
   -- one after the other
-  pub begins_then : {before between after : List Process} {f g : List ℕ} {b c : List Named} {p q r : ProcessorOf} → Begins script before between f b p q → Begins script between after g c q r → Begins script before after (f ++ g) (b ++ c) p r
+  pub begins_then : {before between after : List Process} {f g : List ℕ} {b c : List NameAndProgram} {p q r : ProcessorOf} → Begins script before between f b p q → Begins script between after g c q r → Begins script before after (f ++ g) (b ++ c) p r
   begins_then {before} {between} {after} x y = record {
     ledger = joined x.ledger y.ledger;
     balanced = balanced-joined script (length script.semaphores) before between after x.ledger y.ledger x.balanced y.balanced;

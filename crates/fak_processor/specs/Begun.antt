@@ -9,7 +9,7 @@ use Rattle.fak_text.specs.Journal.{Process, new_process}
 use Rattle.fak_run.specs.ListScheduler.{Lists, enter_ready, first_lists, numbers_from}
 use Rattle.fak_run.specs.Report.{RowOf}
 use Rattle.fak_run.specs.Making.{AreLines}
-use Rattle.fak_run.specs.Ledger.{Balanced, Ledger, Named, named, nothing}
+use Rattle.fak_run.specs.Ledger.{Balanced, Ledger, NameAndProgram, named, nothing}
 use Rattle.fak_run.specs.Whole.{begun_names}
 use Rattle.fak_processor.specs.Turning.{Turning}
 use Rattle.fak_processor.specs.Processors.{ObjectsOf, ProcessorOf, AreOf, GoesTo}
@@ -45,7 +45,7 @@ begins j p = record nothing { free = kinds_out j p.slot; begun = p ∷ [] }
 
 -- its seats' own marks and its rows grow by those of a ledger that balances, in which these slots are the first and these
 -- processes are started
-pub record Begins (script : ScriptOf) (before after : List Process) (first : List ℕ) (begun : List Named) (old new : ProcessorOf) : Type 0 where
+pub record Begins (script : ScriptOf) (before after : List Process) (first : List ℕ) (begun : List NameAndProgram) (old new : ProcessorOf) : Type 0 where
   pub ledger : Ledger
   pub balanced : Balanced script (length script.semaphores) before after ledger
   pub gains : Gains script old new ledger

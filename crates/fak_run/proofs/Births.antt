@@ -1,11 +1,11 @@
 -- The children of all processes.
-use Rattle.fak_run.proofs.Common.{RowOf, Ledger, Made, Named, named, child, after_made, IsMade, notes, no_births_of, no_slots_of, Histories, Gathered, begun_names, asleep, ◌≡◌, ℕ, ◌+◌, ◌<◌, ◌≤◌, List, [], ◌∷◌, ◌++◌, length, slice_get, Some, refl, ap, sym, ◌∙◌, subst, arith, sum_by, append-nil, sum_by-append, up_amount, release_amount, refusal_of, other_amount, ScriptOf, StepOf, steps_of, spawn, NoteOf, spawned, Process, births_of, child_count, Allows, FitsFrom, children_from, children_of}
+use Rattle.fak_run.proofs.Common.{RowOf, Ledger, Made, NameAndProgram, named, child, after_made, IsMade, notes, no_births_of, no_slots_of, Histories, Gathered, begun_names, asleep, ◌≡◌, ℕ, ◌+◌, ◌<◌, ◌≤◌, List, [], ◌∷◌, ◌++◌, length, slice_get, Some, refl, ap, sym, ◌∙◌, subst, arith, sum_by, append-nil, sum_by-append, up_amount, release_amount, refusal_of, other_amount, ScriptOf, StepOf, steps_of, spawn, NoteOf, spawned, Process, births_of, child_count, Allows, FitsFrom, children_from, children_of}
 use Rattle.fak_run.proofs.Sums.{sum_by-map, sum_by_plus, sum_by-zeros}
 use Rattle.fak_run.proofs.Conserved.{conserved, grown, fresh}
 use Rattle.fak_model.proofs.RoomRefusals.{refused_at_bound, granted_fit}
 
 -- one note more names one child more, where the step names one
-children_push : (g : Named → ℕ) (files n : ℕ) (name : List ℕ) (steps : List StepOf) (notes : List NoteOf) (step : StepOf) (note : NoteOf)
+children_push : (g : NameAndProgram → ℕ) (files n : ℕ) (name : List ℕ) (steps : List StepOf) (notes : List NoteOf) (step : StepOf) (note : NoteOf)
     → FitsFrom files n steps notes → slice_get steps (length notes) ≡ Some step
     → sum_by g (children_from name steps (notes ++ note ∷ [])) ≡ sum_by g (children_from name steps notes) + sum_by g (child name step note)
 children_push g files n name [] [] step note fits at = absurd (cc)
@@ -17,19 +17,19 @@ children_push g files n name (s ∷ ss) (m ∷ ms) step note fits at =
     let rest = children_push g files (n + births_of m) name ss ms step note fits.1 at in
     omega (arith, rest, sum_by-append g (child name s m) (children_from name ss ms), sum_by-append g (child name s m) (children_from name ss (ms ++ note ∷ [])))
 
-pub children_grow : (g : Named → ℕ) (script : ScriptOf) (m : Made) → IsMade script m
+pub children_grow : (g : NameAndProgram → ℕ) (script : ScriptOf) (m : Made) → IsMade script m
     → sum_by g (children_of script (after_made m)) ≡ sum_by g (children_of script m.before) + sum_by g (child m.before.name m.step m.note)
 children_grow g script m is = children_push g script.files 0 m.before.name (steps_of script m.before.program) m.before.journal m.step m.note is.fits.fits (subst (λ k. slice_get (steps_of script m.before.program) k ≡ Some m.step) is.fits.position is.stands)
 
 -- a step begins as many children as its note says
-child_count_is : (files n : ℕ) (name : List ℕ) (step : StepOf) (note : NoteOf) → Allows files n step note → sum_by (λ (c : Named). 1) (child name step note) ≡ births_of note
+child_count_is : (files n : ℕ) (name : List ℕ) (step : StepOf) (note : NoteOf) → Allows files n step note → sum_by (λ (c : NameAndProgram). 1) (child name step note) ≡ births_of note
 child_count_is files n name (spawn p) (spawned j) ok = refl
 child_count_is files n name _ (spawned j) ok = absurd ok
 child_count_is files n name _ _ ok = refl
 
 module _ {script : ScriptOf} {seats : ℕ} {h : Histories} {l : Ledger} (g : Gathered script seats h l) where
   -- rows and sleepers are those that were begun or spawned
-  pub names_alike : (w : Named → ℕ) → sum_by (λ (r : RowOf). w (named r.process)) l.rows + sum_by (λ (p : Process). w (named p)) (asleep h.waits (length script.semaphores))
+  pub names_alike : (w : NameAndProgram → ℕ) → sum_by (λ (r : RowOf). w (named r.process)) l.rows + sum_by (λ (p : Process). w (named p)) (asleep h.waits (length script.semaphores))
       ≡ sum_by w (begun_names 0 script.start) + (sum_by (λ (r : RowOf). sum_by w (children_of script r.process)) l.rows + sum_by (λ (p : Process). sum_by w (children_of script p)) (asleep h.waits (length script.semaphores)))
   names_alike w =
       let all = conserved g (λ (p : Process). w (named p)) in
@@ -62,7 +62,7 @@ module _ {script : ScriptOf} {seats : ℕ} {h : Histories} {l : Ledger} (g : Gat
   -- the spawned processes are as many as the notes that say so
   pub spawned_are : sum_by (λ (p : Process). 1) l.born ≡ notes births_of l
   spawned_are =
-      let named_so = g.balanced.children (λ (c : Named). 1) in
-      let zero_more = sum_by_plus (IsMade script) (λ (m : Made). births_of m.note) (λ (m : Made). 0) (λ (m : Made). sum_by (λ (c : Named). 1) (child m.before.name m.step m.note)) (λ m is. child_count_is script.files (child_count m.before.journal) m.before.name m.step m.note is.allows ∙ omega arith) l.made g.balanced.made in
+      let named_so = g.balanced.children (λ (c : NameAndProgram). 1) in
+      let zero_more = sum_by_plus (IsMade script) (λ (m : Made). births_of m.note) (λ (m : Made). 0) (λ (m : Made). sum_by (λ (c : NameAndProgram). 1) (child m.before.name m.step m.note)) (λ m is. child_count_is script.files (child_count m.before.journal) m.before.name m.step m.note is.allows ∙ omega arith) l.made g.balanced.made in
       let none = sum_by-zeros l.made in
       omega (arith, named_so, zero_more, none)

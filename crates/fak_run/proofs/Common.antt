@@ -12,7 +12,7 @@ pub use Rattle.fak_model.specs.declared.file.FileKind.TheVariants.{Set, Take, Ov
 pub use Rattle.fak_model.specs.declared.file.FileMark.{FileMark}
 pub use Rattle.fak_run.specs.Files.{FileChange, most_uses, open_change, open_by, raise, raise_by, close_change, close_by, lower, lowered, first_entry, uses_of, free_entry}
 pub use Rattle.fak_run.specs.Holds.{with_field, set_in, gather_from, set_all, IsFitHold, is_of_hold, held_kinds, kinds_of_hold, reads_from, reads_of, hold_line, read_of, AreHolds, FileHold}
-pub use Rattle.fak_run.specs.Ledger.{Ledger, shuts_of, Made, Named, named, child, after_made, IsMade, notes, no_births_of, no_slots_of, waiting, FitsRow, Balanced, joined, downs_of, ups_of, ended_slot, stuck_of, halted_of, not_before, before_down, other_down, its_down}
+pub use Rattle.fak_run.specs.Ledger.{Ledger, shuts_of, Made, NameAndProgram, named, child, after_made, IsMade, notes, no_births_of, no_slots_of, waiting, FitsRow, Balanced, joined, downs_of, ups_of, ended_slot, stuck_of, halted_of, not_before, before_down, other_down, its_down}
 pub use Rattle.fak_run.specs.ListScheduler.{next_step, turn_over, Lists, State, opening, child_of, numbers_from, Turn, begun_from, take_front, step, steps, EndsIn, enter_by, go_on, down_by, up_by, spawn_by, make, go_or_make, turn_by, step_by, enter_ready, end_process}
 pub use Rattle.fak_run.specs.Promises.{children_from, children_of, spawned_names, stuck_at, stuck_before, kept_slot, Promised}
 pub use Rattle.fak_run.specs.Report.{RowOf, IsSortedByName, rows_with, sleepers_outcome, is_ended, ReportOf, rows_at, IsReportOf, ListSchedulerReports, is_stuck}

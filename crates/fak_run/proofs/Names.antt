@@ -1,5 +1,5 @@
 -- Each name once.
-use Rattle.fak_run.proofs.Common.{RowOf, Named, named, child, FitsRow, begun_names, ◌≡◌, ◌⊎◌, ℕ, suc, ◌+◌, ◌≤◌, ◌==◌, nat_lt, Bool, true, false, cond, List, [], ◌∷◌, ◌++◌, get_or, refl, ap, ◌∙◌, arith, inl, inr, ◌&&◌, sum_by, All, AllPairs, nat_tests, sum_by-append, sum_by-cons, snoc_ind, ScriptOf, StepOf, steps_of, spawn, NoteOf, spawned, births_of, Allows, FitsFrom, children_from, children_of}
+use Rattle.fak_run.proofs.Common.{RowOf, NameAndProgram, named, child, FitsRow, begun_names, ◌≡◌, ◌⊎◌, ℕ, suc, ◌+◌, ◌≤◌, ◌==◌, nat_lt, Bool, true, false, cond, List, [], ◌∷◌, ◌++◌, get_or, refl, ap, ◌∙◌, arith, inl, inr, ◌&&◌, sum_by, All, AllPairs, nat_tests, sum_by-append, sum_by-cons, snoc_ind, ScriptOf, StepOf, steps_of, spawn, NoteOf, spawned, births_of, Allows, FitsFrom, children_from, children_of}
 use Rattle.fak_run.proofs.Sums.{sum_by_le, sum_by-zeros}
 use Rattle.fak_run.proofs.Permuting.{two_weigh}
 
@@ -37,7 +37,7 @@ not_nameless i [] = refl
 not_nameless i (a ∷ x) = refl
 
 -- 1 for this name
-abbrev pub is_named : List ℕ → Named → ℕ
+abbrev pub is_named : List ℕ → NameAndProgram → ℕ
 is_named x n = cond (same_name n.0 x) 1 0
 
 -- ---- the started processes
@@ -108,7 +108,7 @@ children_le : (files n : ℕ) (p : List ℕ) (j : ℕ) (name : List ℕ) (steps 
 children_le files n p j name steps [] fits = omega arith
 children_le files n p j name [] (m ∷ ms) fits = absurd fits
 children_le files n p j name (s ∷ ss) (m ∷ ms) fits =
-    let w : Named → ℕ = is_named (p ++ j ∷ []) in
+    let w : NameAndProgram → ℕ = is_named (p ++ j ∷ []) in
     let parts = sum_by-append (is_named (p ++ j ∷ [])) (child name s m) (children_from name ss ms) in
     let rest = children_le files (n + births_of m) p j name ss ms fits.1 in
     elim (child_is files n name s m fits.0) [
@@ -144,7 +144,7 @@ differ rows once_at_most i j d lt below same =
     omega (arith, two, last, first, once_at_most x)
 
 module _ (script : ScriptOf) (rows : List RowOf) (fit : All (FitsRow script) rows)
-    (alike : (g : Named → ℕ) → sum_by (λ (r : RowOf). g (named r.process)) rows ≡ sum_by g (begun_names 0 script.start) + sum_by (λ (r : RowOf). sum_by g (children_of script r.process)) rows) where
+    (alike : (g : NameAndProgram → ℕ) → sum_by (λ (r : RowOf). g (named r.process)) rows ≡ sum_by g (begun_names 0 script.start) + sum_by (λ (r : RowOf). sum_by g (children_of script r.process)) rows) where
   nameless : sum_by (λ (r : RowOf). is_named [] (named r.process)) rows ≡ 0
   nameless =
       let all = alike (is_named []) in

@@ -1,7 +1,7 @@
 -- What the rows of all processes promise.
 use Rattle.std.proofs.lemmas.Bool.{cases_lt, and_parts, and_from}
 use Rattle.std.proofs.lemmas.List.Sorted.{sum_by-IsPermutation, All-permutation}
-use Rattle.fak_run.proofs.Common.{numbers_from, Outcome, Ended, Stuck, Halted, ◌≡◌, ℕ, zero, suc, ◌+◌, ◌<◌, ◌≤◌, ◌==◌, nat_lt, Bool, true, false, cond, List, [], ◌∷◌, ◌++◌, length, get_or, refl, ap, sym, ◌∙◌, arith, inl, inr, map, ◌&&◌, sum_by, All, AllPairs, IsPermutation, nat_tests, sum_by-append, sum_by-cons, contents, put_of, got_of, close_of, closed_of, ScriptOf, NoteOf, Process, births_of, RowOf, rows_with, sleepers_outcome, is_ended, Ledger, Named, named, notes, downs_of, ups_of, shuts_of, no_births_of, no_slots_of, ended_slot, stuck_of, halted_of, FitsRow, Histories, Gathered, begun_names, asleep, lines, lines_of, is_shut, rows_of, children_of, spawned_names, stuck_at, stuck_before, kept_slot, Promised, queue_weighs, closed_after_close}
+use Rattle.fak_run.proofs.Common.{numbers_from, Outcome, Ended, Stuck, Halted, ◌≡◌, ℕ, zero, suc, ◌+◌, ◌<◌, ◌≤◌, ◌==◌, nat_lt, Bool, true, false, cond, List, [], ◌∷◌, ◌++◌, length, get_or, refl, ap, sym, ◌∙◌, arith, inl, inr, map, ◌&&◌, sum_by, All, AllPairs, IsPermutation, nat_tests, sum_by-append, sum_by-cons, contents, put_of, got_of, close_of, closed_of, ScriptOf, NoteOf, Process, births_of, RowOf, rows_with, sleepers_outcome, is_ended, Ledger, NameAndProgram, named, notes, downs_of, ups_of, shuts_of, no_births_of, no_slots_of, ended_slot, stuck_of, halted_of, FitsRow, Histories, Gathered, begun_names, asleep, lines, lines_of, is_shut, rows_of, children_of, spawned_names, stuck_at, stuck_before, kept_slot, Promised, queue_weighs, closed_after_close}
 use Rattle.fak_run.proofs.Sums.{sum_by-map, sum_by-flat_map, sum_by-ones, sum_by-zeros, sum_by_same}
 use Rattle.fak_run.proofs.Conserved.{conserved, lines_are, length-begun}
 use Rattle.fak_run.proofs.Permuting.{permuted, two_weigh}
@@ -11,17 +11,17 @@ use Rattle.fak_run.proofs.Births.{names_alike, births_fit, no_birth_at_bound, sp
 
 -- ---- names with programs
 
-abbrev same_named : Named → Named → Bool
+abbrev same_named : NameAndProgram → NameAndProgram → Bool
 same_named a b = same_name a.0 b.0 && (a.1 == b.1)
 
-same_named_is : (a b : Named) → same_named a b ≡ true → a ≡ b
+same_named_is : (a b : NameAndProgram) → same_named a b ≡ true → a ≡ b
 same_named_is a b e =
     let parts = and_parts (same_name a.0 b.0) (a.1 == b.1) e in
     let names = same_name_is a.0 b.0 parts.0 in
     let programs : a.1 ≡ b.1 = grind (arith, nat_tests) in
     λ i. (names i, programs i)
 
-same_named_self : (a : Named) → same_named a a ≡ true
+same_named_self : (a : NameAndProgram) → same_named a a ≡ true
 same_named_self a = and_from (same_name a.0 a.0) (a.1 == a.1) (same_name_self a.0) (grind (arith, nat_tests))
 
 -- ---- slots
@@ -154,7 +154,7 @@ module _ {script : ScriptOf} {seats : ℕ} {h : Histories} {l : Ledger} (g : Gat
     fits_all : All (FitsRow script) rows
     fits_all = All-permutation (FitsRow script) (rows_of script h l) rows sorted fit
 
-    alike : (w : Named → ℕ) → sum_by (λ (r : RowOf). w (named r.process)) rows ≡ sum_by w (begun_names 0 script.start) + sum_by (λ (r : RowOf). sum_by w (children_of script r.process)) rows
+    alike : (w : NameAndProgram → ℕ) → sum_by (λ (r : RowOf). w (named r.process)) rows ≡ sum_by w (begun_names 0 script.start) + sum_by (λ (r : RowOf). sum_by w (children_of script r.process)) rows
     alike w = omega (arith, same (λ (r : RowOf). w (named r.process)), same (λ (r : RowOf). sum_by w (children_of script r.process)), all_weigh (λ (p : Process). w (named p)), all_weigh (λ (p : Process). sum_by w (children_of script p)), names_alike g w)
 
     pub lines_all : (w : NoteOf → ℕ) → lines w rows ≡ notes w l
@@ -163,21 +163,21 @@ module _ {script : ScriptOf} {seats : ℕ} {h : Histories} {l : Ledger} (g : Gat
     spawned_count : length (spawned_names script rows) ≡ notes births_of l
     spawned_count =
         let ones = sum_by-ones (spawned_names script rows) in
-        let flat = sum_by-flat_map (λ (c : Named). 1) (λ (r : RowOf). children_of script r.process) rows in
-        let all = alike (λ (c : Named). 1) in
+        let flat = sum_by-flat_map (λ (c : NameAndProgram). 1) (λ (r : RowOf). children_of script r.process) rows in
+        let all = alike (λ (c : NameAndProgram). 1) in
         let every = same (λ (r : RowOf). 1) in
         let rows_are = all_weigh (λ (p : Process). 1) in
         let conserves = conserved g (λ (p : Process). 1) in
-        let begun = sym (sum_by-map (λ (c : Named). 1) named l.begun) ∙ ap (sum_by (λ (c : Named). 1)) g.begun in
+        let begun = sym (sum_by-map (λ (c : NameAndProgram). 1) named l.begun) ∙ ap (sum_by (λ (c : NameAndProgram). 1)) g.begun in
         omega (arith, ones, flat, all, every, rows_are, conserves, begun, spawned_are g)
 
     row_count : length rows ≡ length script.start + length (spawned_names script rows)
     row_count =
         let ones = sum_by-ones rows in
         let spawned = sum_by-ones (spawned_names script rows) in
-        let flat = sum_by-flat_map (λ (c : Named). 1) (λ (r : RowOf). children_of script r.process) rows in
+        let flat = sum_by-flat_map (λ (c : NameAndProgram). 1) (λ (r : RowOf). children_of script r.process) rows in
         let begun = sum_by-ones (begun_names 0 script.start) in
-        omega (arith, ones, spawned, flat, begun, length-begun 0 script.start, alike (λ (c : Named). 1))
+        omega (arith, ones, spawned, flat, begun, length-begun 0 script.start, alike (λ (c : NameAndProgram). 1))
 
     slots_differ : AllPairs (λ (a b : RowOf). is_ended a.outcome ≡ false → is_ended b.outcome ≡ false → a.process.slot ≡ b.process.slot → ⊥) rows
     slots_differ i j d lt below a_lives b_lives one_slot =

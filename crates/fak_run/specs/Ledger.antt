@@ -70,14 +70,14 @@ before_down script s p = its_down s (next_step script p)
 -- ---- what a processor made
 
 -- a name with its program
-abbrev pub Named : Type 0
-Named = List ℕ × ℕ
+abbrev pub NameAndProgram : Type 0
+NameAndProgram = List ℕ × ℕ
 
-abbrev pub named : Process → Named
+abbrev pub named : Process → NameAndProgram
 named p = (p.name, p.program)
 
 -- the child, if any, that a step with this note began
-abbrev pub child : List ℕ → StepOf → NoteOf → List Named
+abbrev pub child : List ℕ → StepOf → NoteOf → List NameAndProgram
 child name (spawn p) (spawned j) = (name ++ j ∷ [], p) ∷ []
 child name _ _ = []
 
@@ -203,7 +203,7 @@ pub record Balanced (script : ScriptOf) (n : ℕ) (before after : List Process) 
       sum_by (put_of g) l.free + sum_by (λ p. g p.slot) l.begun + sum_by (λ p. g p.slot) l.born
       ≡ sum_by (got_of g) l.free + sum_by (λ r. ended_slot g r.outcome r.process.slot) l.rows + sum_by g l.first
   -- the spawned processes are those that the notes name
-  pub children : (g : Named → ℕ) → sum_by (λ p. g (named p)) l.born ≡ sum_by (λ m. sum_by g (child m.before.name m.step m.note)) l.made
+  pub children : (g : NameAndProgram → ℕ) → sum_by (λ p. g (named p)) l.born ≡ sum_by (λ m. sum_by g (child m.before.name m.step m.note)) l.made
   -- those that were started or spawned have made no step
   pub new : sum_by (λ p. length p.journal) l.begun + sum_by (λ p. length p.journal) l.born ≡ 0
   pub births : BalancedBirths l.births l.made

@@ -7,20 +7,20 @@ use Rattle.fak_text.specs.Journal.{NoteOf, Process, births_of}
 use Rattle.fak_run.specs.declared.report.Outcome.{Outcome}
 use Rattle.fak_run.specs.declared.report.Outcome.TheVariants.{Ended, Stuck}
 use Rattle.fak_run.specs.Report.{RowOf, is_ended}
-use Rattle.fak_run.specs.Ledger.{Named, named, child, downs_of, ups_of, shuts_of, no_births_of, no_slots_of, stuck_of, halted_of, not_before, FitsRow}
+use Rattle.fak_run.specs.Ledger.{NameAndProgram, named, child, downs_of, ups_of, shuts_of, no_births_of, no_slots_of, stuck_of, halted_of, not_before, FitsRow}
 use Rattle.fak_run.specs.Whole.{begun_names, lines}
 
 -- the children that a journal names, where it stands beside the steps of its program
-abbrev pub children_from : List ℕ → List StepOf → List NoteOf → List Named
+abbrev pub children_from : List ℕ → List StepOf → List NoteOf → List NameAndProgram
 children_from name steps [] = []
 children_from name [] (note ∷ notes) = []
 children_from name (step ∷ steps) (note ∷ notes) = child name step note ++ children_from name steps notes
 
-abbrev pub children_of : ScriptOf → Process → List Named
+abbrev pub children_of : ScriptOf → Process → List NameAndProgram
 children_of script p = children_from p.name (steps_of script p.program) p.journal
 
 -- the names that spawn lines name, each with the program of its step
-abbrev pub spawned_names : ScriptOf → List RowOf → List Named
+abbrev pub spawned_names : ScriptOf → List RowOf → List NameAndProgram
 spawned_names script rows = flat_map (λ r. children_of script r.process) rows
 
 abbrev pub stuck_at : ScriptOf → ℕ → Outcome → Process → ℕ

@@ -17,7 +17,7 @@ use Rattle.fak_text.specs.Script.{ScriptOf}
 use Rattle.fak_text.specs.Journal.{NoteOf, Process}
 use Rattle.fak_run.specs.ListScheduler.{numbers_from}
 use Rattle.fak_run.specs.Report.{RowOf, rows_with, sleepers_outcome}
-use Rattle.fak_run.specs.Ledger.{Ledger, Balanced, Named, named, shuts_of}
+use Rattle.fak_run.specs.Ledger.{Ledger, Balanced, NameAndProgram, named, shuts_of}
 
 pub record Histories : Type 0 where
   pub ready : List (Mark Process)
@@ -28,7 +28,7 @@ pub record Histories : Type 0 where
   pub waits : ℕ → List (Mark Process)
 
 -- the names of the started processes, each with its program
-abbrev pub begun_names : ℕ → List ℕ → List Named
+abbrev pub begun_names : ℕ → List ℕ → List NameAndProgram
 begun_names i [] = []
 begun_names i (program ∷ programs) = (i ∷ [], program) ∷ begun_names (suc i) programs
 

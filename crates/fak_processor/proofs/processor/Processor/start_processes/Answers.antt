@@ -1,5 +1,5 @@
 use Rattle.fak_text.specs.Script.{ScriptOf}
-use Rattle.fak_processor.proofs.Common.{Named, begun_names, Begins, ◌≡◌, ◌<◌, ◌∙◌, [], List, ℕ, length, take, ap, subst, refl, arith, take_all}
+use Rattle.fak_processor.proofs.Common.{NameAndProgram, begun_names, Begins, ◌≡◌, ◌<◌, ◌∙◌, [], List, ℕ, length, take, ap, subst, refl, arith, take_all}
 use Rattle.fak_processor.proofs.Starting.{all_started, begins_none, begins_then, names_next, started_next, started_none}
 use Rattle.fak_processor.proofs.processor.Processor.start_processes.Goals as goal
 
@@ -19,7 +19,7 @@ loop-program-preserved g c =
       omega (arith, was.0),
       omega (arith, low),
       c.in_ok-start_process.ensures.objects,
-      subst (λ (l : List Named). Begins script [] [] [] l c.args.self.now c.start_process.new.self) names (begins_then was.3 c.in_ok-start_process.ensures.general),
+      subst (λ (l : List NameAndProgram). Begins script [] [] [] l c.args.self.now c.start_process.new.self) names (begins_then was.3 c.in_ok-start_process.ensures.general),
       λ a. started_next xs i c.loop-program.number 0 was.0 low below (was.4 a) c.in_ok-start_process.ensures.alone,
     )
 
