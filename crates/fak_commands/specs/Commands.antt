@@ -39,14 +39,14 @@ command_line =
     run_line.top
 
 -- this many processors, 1 to 8: the number that `clap` reads of the option
-abbrev pub AreProcessors : List Row → ℕ → Type 0
-AreProcessors rows n = (text : Text) × (one_of (codes "processors") rows ≡ Some text) × (n ≡ digits_value 10 (without_leading_plus text)) × (1 ≤ n) × (n ≤ 8)
+abbrev pub AskedProcessors : List Row → ℕ → Type 0
+AskedProcessors rows n = (text : Text) × (one_of (codes "processors") rows ≡ Some text) × (n ≡ digits_value 10 (without_leading_plus text)) × (1 ≤ n) × (n ≤ 8)
 
 -- a subcommand, by its name and what `clap` matched below it, is this command
 abbrev pub Means : Option (Text × List Row) → Command → Type 0
 Means found Replay = (rows : List Row) × (found ≡ Some (codes "replay", rows))
 Means found Check = (rows : List Row) × (found ≡ Some (codes "check", rows))
-Means found (Run n) = (rows : List Row) × (found ≡ Some (codes "run", rows)) × AreProcessors rows n
+Means found (Run n) = (rows : List Row) × (found ≡ Some (codes "run", rows)) × AskedProcessors rows n
 
 -- the words ask for this command
 abbrev pub Asks : List Text → Command → Type 0

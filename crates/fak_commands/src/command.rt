@@ -2,7 +2,7 @@
 
 ghost use Rattle.std.specs.Prelude.{◌≡◌, map, string_bytes, IfErr, IfOk, IfSome, false};
 ghost use Rattle.clap.specs.Words.{app_of, found_of, rows_of, rule_of, subcommand_rows_of};
-ghost use Rattle.fak_commands.specs.Commands.{AreProcessors, Asks, IsOfWords, Means, command_line, processors_rule};
+ghost use Rattle.fak_commands.specs.Commands.{AskedProcessors, Asks, IsOfWords, Means, command_line, processors_rule};
 
 use clap::error::ErrorKind;
 use clap::{Arg, ArgMatches, value_parser};
@@ -37,7 +37,7 @@ fn grammar<'a>(alloc: Global) -> Result<clap::Command<'a>, AllocError>
 
 /// The number of processors that the words of `run` ask for, where it is 1 to 8.
 fn processors_of(matches: &ArgMatches) -> Option<u64>
-    ensures { IfSome result (AreProcessors (rows_of (found_of matches.now))) }
+    ensures { IfSome result (AskedProcessors (rows_of (found_of matches.now))) }
 {
     let processors = matches.get_one::<u64>("processors")?;
     if processors < 1 || processors > MOST_PROCESSORS {

@@ -33,7 +33,7 @@ pub use Rattle.fak_processor.specs.Moving.{MovesNoItem, GrowsIn, GrowsAtLast, Ga
 pub use Rattle.fak_processor.specs.OnlyCounts.{IsOnlySem, semaphore_count, sleepers_of, IsOnlyRoom, Passes, Parks, Raises, Rouses, Claims, FindsFull, GivesBack}
 pub use Rattle.fak_processor.specs.OnlyQueues.{Enters, is_close, has_close, IsOnlySeat, Keeps, Bounces, TakesFirst, FindsNone, Shuts}
 pub use Rattle.fak_processor.specs.Opened.{dealt_to, fresh_rows, fresh_all, fresh_processor, zipped, IsSemaphoreFor, AreSeated, HasName, fresh_sem_at}
-pub use Rattle.fak_processor.specs.Processors.{ObjectsOf, ProcessorOf, AreFor, IsReached, lists_of, ids_of, AreOf, GoesTo, IsAlone, ids_of_seats, AtPlace, IsBorn, HasNoBirth, WakesNobody, WakesFirst, SleepsLast, CountFalls, HasNoSlot, TakesSlot, GoesOn}
+pub use Rattle.fak_processor.specs.Processors.{ObjectsOf, ProcessorOf, AreFor, IsReached, lists_of, ids_of, AreOf, GoesTo, IsAlone, ids_of_seats, AtPlace, IsBorn, HasNoBirth, WakesNobody, WakesFirst, SleepsLast, CountFalls, HasNoSlot, TakesFreeSlot, GoesOn}
 pub use Rattle.fak_processor.specs.Turning.{Grows, Turning, Adds}
 pub use Rattle.fak_queue.specs.Queues.{made_by, Makes, RefusesEmpty, ShutsAs, state_of, kinds_in, kinds_out}
 pub use Rattle.fak_queue.specs.Retries.{kinds_not_in, kinds_not_out, RefusedInsertion, NotIn, WithdrawnIn, ClosedIn, WithdrawnLate, RefusedDeletion, NotOut, WithdrawnOut, InsertsAtLast, DeletesAtLast}

@@ -1,7 +1,7 @@
 -- What processor 0 does before the threads start.
 use Rattle.std.proofs.lemmas.List.{length-take-le, map-append, get_or-set_same}
 use Rattle.fak_model.specs.Calls.{SeatInfo}
-use Rattle.fak_processor.proofs.Common.{AreLines, Balanced, NameAndProgram, joined, named, nothing, begun_names, Gains, GrowsAtLast, Moves, files_of, AreSeated, fresh_all, fresh_processor, no_seat, ◌≡◌, ℕ, zero, suc, ◌+◌, ◌-◌, ◌<◌, ◌≤◌, Bool, List, [], ◌∷◌, ◌++◌, length, map, take, drop, get_or, slice_index_or, slice_set, refl, ap, sym, ◌∙◌, subst, arith, Mark, kinds_in, kinds_out, ScriptOf, Process, new_process, Lists, begun_from, enter_ready, first_lists, numbers_from, turn_over, empty, fills, ObjectsOf, ProcessorOf, AreFor, AreOf, GoesTo, HasNoSlot, IsAlone, IsReached, TakesSlot, lists_of, Begins, Between, FindsNoSlot, FindsSlot, StartsOne, begins, empty_lists, balanced-joined, lines_none}
+use Rattle.fak_processor.proofs.Common.{AreLines, Balanced, NameAndProgram, joined, named, nothing, begun_names, Gains, GrowsAtLast, Moves, files_of, AreSeated, fresh_all, fresh_processor, no_seat, ◌≡◌, ℕ, zero, suc, ◌+◌, ◌-◌, ◌<◌, ◌≤◌, Bool, List, [], ◌∷◌, ◌++◌, length, map, take, drop, get_or, slice_index_or, slice_set, refl, ap, sym, ◌∙◌, subst, arith, Mark, kinds_in, kinds_out, ScriptOf, Process, new_process, Lists, begun_from, enter_ready, first_lists, numbers_from, turn_over, empty, fills, ObjectsOf, ProcessorOf, AreFor, AreOf, GoesTo, HasNoSlot, IsAlone, IsReached, TakesFreeSlot, lists_of, Begins, Between, FindsNoSlot, FindsSlot, StartsOne, begins, empty_lists, balanced-joined, lines_none}
 use Rattle.fak_processor.proofs.Events.{by_free, keeps_fills, quiet}
 use Rattle.fak_processor.proofs.Calls.{turning_more}
 use Rattle.fak_processor.proofs.Moving.{gains_free, gains_none, gains_then, idle_none, idle_then, quiet_empty}
@@ -147,10 +147,10 @@ filled_alone x was made =
 pub no_slot_goes : {script : ScriptOf} {q r : ProcessorOf} {s : Lists} → GoesTo script q s → (IsAlone script q → HasNoSlot script (lists_of script q) r) → GoesTo script r s
 no_slot_goes was made = let m = made was.alone in record { alone = m.goes.alone; lists_are = m.goes.lists_are ∙ was.lists_are }
 
-pub slot_taken : {script : ScriptOf} {q r : ProcessorOf} {s : Lists} {slot : ℕ} → GoesTo script q s → (IsAlone script q → TakesSlot script (lists_of script q) slot r) → TakesSlot script s slot r
-slot_taken {script} {r = r} {slot = slot} was made = subst (λ (l : Lists). TakesSlot script l slot r) was.lists_are (made was.alone)
+pub slot_taken : {script : ScriptOf} {q r : ProcessorOf} {s : Lists} {slot : ℕ} → GoesTo script q s → (IsAlone script q → TakesFreeSlot script (lists_of script q) slot r) → TakesFreeSlot script s slot r
+slot_taken {script} {r = r} {slot = slot} was made = subst (λ (l : Lists). TakesFreeSlot script l slot r) was.lists_are (made was.alone)
 
-pub starts_one : {script : ScriptOf} {q r : ProcessorOf} {s : Lists} {slot : ℕ} (i program : ℕ) (x : Process) → x ≡ new_process (i ∷ []) program slot → TakesSlot script s slot q → (IsAlone script q → GoesTo script r (enter_ready (lists_of script q) x)) → StartsOne script s i program r
+pub starts_one : {script : ScriptOf} {q r : ProcessorOf} {s : Lists} {slot : ℕ} (i program : ℕ) (x : Process) → x ≡ new_process (i ∷ []) program slot → TakesFreeSlot script s slot q → (IsAlone script q → GoesTo script r (enter_ready (lists_of script q) x)) → StartsOne script s i program r
 starts_one {slot = slot} i program x is took made = let m = made took.goes.alone in record {
   slot = slot;
   others = took.others;

@@ -151,7 +151,7 @@ pub record HasNoBirth (script : ScriptOf) (s : Lists) (p : ProcessorOf) : Type 0
   pub goes : GoesTo script p s
 
 -- a slot is taken, or there is none
-pub record TakesSlot (script : ScriptOf) (s : Lists) (slot : ℕ) (p : ProcessorOf) : Type 0 where
+pub record TakesFreeSlot (script : ScriptOf) (s : Lists) (slot : ℕ) (p : ProcessorOf) : Type 0 where
   pub others : List ℕ
   pub free : s.free_slots ≡ slot ∷ others
   pub goes : GoesTo script p (record s { free_slots = others })

@@ -6,14 +6,14 @@ use Rattle.fak_model.specs.Calls.{ObjectId, SeatInfo, seat_info, fresh_seats}
 use Rattle.fak_queue.specs.Queues.{IsIdleSeat}
 use Rattle.fak_files.specs.Calls.{FileSeatInfo, IsFreeSeatOf, file_seat, idle_seats}
 use Rattle.fak_files.specs.declared.phase.Hold.TheVariants.{Nothing}
-use Rattle.throughput.specs.Seats.{AreIdle, AreFree}
+use Rattle.throughput.specs.Seats.{AreIdleSeats, AreFree}
 
-fresh_are_idle : {T : Type 0} (object : ObjectId) (stint name n : ℕ) → AreIdle {T = T} object (fresh_seats object stint name n)
+fresh_are_idle : {T : Type 0} (object : ObjectId) (stint name n : ℕ) → AreIdleSeats {T = T} object (fresh_seats object stint name n)
 fresh_are_idle object stint name zero = All-nil (IsIdleSeat object)
 fresh_are_idle object stint name (suc n) = All-cons (IsIdleSeat object) (seat_info object name stint []) (fresh_seats object stint (suc name) n) (refl, refl) (fresh_are_idle object stint (suc name) n)
 
-pub dealt_are_idle : {T : Type 0} (object : ObjectId) (stint n : ℕ) (seats : List (SeatInfo (Mark T))) → seats ≡ fresh_seats object stint 0 n → AreIdle object seats
-dealt_are_idle object stint n seats is = subst (AreIdle object) (sym is) (fresh_are_idle object stint 0 n)
+pub dealt_are_idle : {T : Type 0} (object : ObjectId) (stint n : ℕ) (seats : List (SeatInfo (Mark T))) → seats ≡ fresh_seats object stint 0 n → AreIdleSeats object seats
+dealt_are_idle object stint n seats is = subst (AreIdleSeats object) (sym is) (fresh_are_idle object stint 0 n)
 
 fresh_are_free : (object : ObjectId) (stint name n : ℕ) → AreFree object (idle_seats (fresh_seats object stint name n))
 fresh_are_free object stint name zero = All-nil (IsFreeSeatOf object)

@@ -7,8 +7,8 @@ use Rattle.fak_queue.specs.Queues.{IsIdleSeat}
 use Rattle.fak_files.specs.Calls.{FileSeatInfo, IsFreeSeatOf}
 
 -- each seat is of the queue, and between two calls
-abbrev pub AreIdle : {T : Type 0} → ObjectId → List (SeatInfo (Mark T)) → Type 0
-AreIdle object seats = All (IsIdleSeat object) seats
+abbrev pub AreIdleSeats : {T : Type 0} → ObjectId → List (SeatInfo (Mark T)) → Type 0
+AreIdleSeats object seats = All (IsIdleSeat object) seats
 
 -- each seat is of the file table, and holds nothing
 abbrev pub AreFree : ObjectId → List FileSeatInfo → Type 0

@@ -1,7 +1,7 @@
 //! The cases of queues: one thread that puts an item in and takes it out, or pairs of a producer and a consumer.
 
 ghost use Rattle.std.specs.Prelude.{◌<◌};
-ghost use Rattle.throughput.specs.Seats.{AreIdle};
+ghost use Rattle.throughput.specs.Seats.{AreIdleSeats};
 
 use crate::fault::Fault;
 use crate::item::{Item, OwnedItem};
@@ -56,7 +56,7 @@ fn seat_handles<'q, T: Item>(
     queue: &'q Queue<T>,
     mut seats: Vec<Seat<T>>,
 ) -> Result<Vec<SeatQueue<'q, T>>, AllocError>
-    requires { AreIdle queue.now.object seats.items }
+    requires { AreIdleSeats queue.now.object seats.items }
 {
     let mut handles = Vec::new(alloc);
     while let Some(seat) = seats.pop() {

@@ -1,7 +1,7 @@
 //! The cases whose single calls are timed: pairs of a producer and a consumer at one queue.
 
 ghost use Rattle.std.specs.Prelude.{◌<◌};
-ghost use Rattle.throughput.specs.Seats.{AreIdle};
+ghost use Rattle.throughput.specs.Seats.{AreIdleSeats};
 
 use crate::attempts::{Attempts, Manner, NoQueue, SeatAttempts};
 use crate::fault::Fault;
@@ -49,7 +49,7 @@ fn seat_attempts<'q>(
     manner: Manner,
     pauses: bool,
 ) -> Result<Vec<SeatAttempts<'q>>, AllocError>
-    requires { AreIdle queue.now.object seats.items }
+    requires { AreIdleSeats queue.now.object seats.items }
 {
     let mut handles = Vec::new(alloc);
     while let Some(mut seat) = seats.pop() {

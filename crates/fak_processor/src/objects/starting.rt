@@ -4,7 +4,7 @@ ghost use Rattle.std.specs.Prelude.{◌≡◌, ◌<◌, [], ◌∷◌, ◌++◌,
 ghost use Rattle.fak_processor.specs.Faults.{IsOfStep, IsSpent};
 ghost use Rattle.fak_run.specs.ListScheduler as lists;
 ghost use Rattle.fak_run.specs.Whole.{begun_names};
-ghost use Rattle.fak_processor.specs.Processors.{AreOf, GoesTo, IsAlone, IsReached, TakesSlot, lists_of};
+ghost use Rattle.fak_processor.specs.Processors.{AreOf, GoesTo, IsAlone, IsReached, TakesFreeSlot, lists_of};
 ghost use Rattle.fak_processor.specs.Begun.{Begins, FindsSlot, StartsOne, empty_lists};
 
 use crate::objects::Objects;
@@ -140,7 +140,7 @@ impl<K: Run> Processor<K> {
         ensures objects { AreOf objects.now self.new }
         ensures general { IfOk result (λ slot. FindsSlot K.script slot self.old self.new) }
         ensures alone { IsAlone K.script self.old → IfOk result
-            (λ slot. TakesSlot K.script (lists_of K.script self.old) slot self.new) }
+            (λ slot. TakesFreeSlot K.script (lists_of K.script self.old) slot self.new) }
         ensures worn { IfErr result (λ fault. fault ≡ Fault.Worn) }
         ensures spent { IfErr result (λ _. IsSpent self.new.free) }
     {

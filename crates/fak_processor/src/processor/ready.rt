@@ -4,7 +4,7 @@ ghost use Rattle.std.specs.Prelude.{◌≡◌, [], ◌∷◌, Bool, ℕ, None, t
 ghost use Rattle.fak_model.specs.Queue.{contents};
 ghost use Rattle.fak_run.specs.ListScheduler as lists;
 ghost use Rattle.fak_processor.specs.Faults.{IsOfStep, IsSpent};
-ghost use Rattle.fak_processor.specs.Processors.{AreOf, IsAlone, GoesOn, GoesTo, HasNoSlot, TakesSlot, lists_of};
+ghost use Rattle.fak_processor.specs.Processors.{AreOf, IsAlone, GoesOn, GoesTo, HasNoSlot, TakesFreeSlot, lists_of};
 ghost use Rattle.fak_model.specs.declared.queue.Kind.TheVariants.{Close};
 ghost use Rattle.fak_queue.specs.Queues.{kinds_out};
 ghost use Rattle.fak_run.specs.Ledger.{nothing};
@@ -114,7 +114,7 @@ impl<K: Run> Processor<K> {
             (λ n. (ticket : ℕ) × Gains K.script self.old self.new (record nothing { free = kinds_out ticket n }))) }
         ensures alone { IsAlone K.script self.old
             → IfOk result (λ slot. MatchOption slot (HasNoSlot K.script (lists_of K.script self.old) self.new)
-            (λ n. TakesSlot K.script (lists_of K.script self.old) n self.new)) }
+            (λ n. TakesFreeSlot K.script (lists_of K.script self.old) n self.new)) }
         ensures worn { IfErr result (λ fault. fault ≡ Fault.Worn) }
         ensures spent { IfErr result (λ _. IsSpent self.new.free) }
     {
