@@ -1,4 +1,4 @@
--- What the calls of ports and the joins of their seats add, under every weight of buffers.
+-- What the calls of ends and the joins of their seats add, under every weight of buffers.
 use Rattle.std.proofs.Common.{◌≡◌, ◌≢◌, ℕ, ◌+◌, arith, [], ap, ◌∙◌, Some, None}
 use Rattle.std.specs.List.{sum_by}
 use Rattle.fak_model.specs.declared.queue.Mark.{Mark}
@@ -12,13 +12,13 @@ use Rattle.fak_queue.proofs.Weighing as weighing
 use Rattle.fak_queue.proofs.Weighing.{Weighs, insertion_weighs, deletion_weighs, pair_weighs}
 use Rattle.fak_sem.specs.Semaphores.{SemInfo, SemSeatInfo, queue_part, Downs, Ups}
 use Rattle.producers_and_consumers.specs.declared.channel.Buffer.{Buffer}
-use Rattle.producers_and_consumers.specs.declared.channel.Port.{Port}
+use Rattle.producers_and_consumers.specs.declared.channel.Ends.{Ends}
 use Rattle.fak_queue.specs.Sums.{put_by, got_by}
 use Rattle.producers_and_consumers.specs.Passing.{Sum, Moves, nothing, IsFresh, AllOut}
 
--- ---- ports
+-- ---- ends
 
-module _ (old new : Port) where
+module _ (old new : Ends) where
   -- a call on the queue alone
   on_queue : (put got : Sum) → Weighs put got old.queue new.queue → new.gate ≡ old.gate → Moves put got old new
   on_queue put got s same = record {
@@ -60,7 +60,7 @@ module _ (old new : Port) where
   wakes_nobody u same = same_parts u.wakes.same_queue same
 
 -- an up that wakes a buffer, which then goes into the queue
-pub lets_through : (old mid new : Port) {sem : SemInfo} (y : Buffer) → Ups sem old.gate mid.gate (Some y) → mid.queue ≡ old.queue → Moves (λ w. w y) nothing mid new → Moves nothing nothing old new
+pub lets_through : (old mid new : Ends) {sem : SemInfo} (y : Buffer) → Ups sem old.gate mid.gate (Some y) → mid.queue ≡ old.queue → Moves (λ w. w y) nothing mid new → Moves nothing nothing old new
 lets_through old mid new y u same m =
     let s : Weighs nothing (λ w. w y) (queue_part old.gate) (queue_part mid.gate) = deletion_weighs u.wakes.deletes.1 in record {
       name = m.name ∙ ap (λ (q : SeatInfo (Mark Buffer)). q.name) same;
@@ -69,7 +69,7 @@ lets_through old mid new y u same m =
       received_is = λ w. omega (arith, m.received_is w, ap (got_by w) same);
     }
 
-pub moves_then : {a b c : Port} (s r s' r' all got : Sum) → Moves s r a b → Moves s' r' b c → ((w : Buffer → ℕ) → all w ≡ s w + s' w) → ((w : Buffer → ℕ) → got w ≡ r w + r' w) → Moves all got a c
+pub moves_then : {a b c : Ends} (s r s' r' all got : Sum) → Moves s r a b → Moves s' r' b c → ((w : Buffer → ℕ) → all w ≡ s w + s' w) → ((w : Buffer → ℕ) → got w ≡ r w + r' w) → Moves all got a c
 moves_then s r s' r' all got m n sums gots = record {
   name = n.name ∙ m.name;
   gate_name = n.gate_name ∙ m.gate_name;
@@ -87,7 +87,7 @@ all_out a {both = both} one j apart whole weighs none w =
 
 -- ---- the whole run
 
--- what a fresh port sent and received
-pub passed : (a b a' b' : Port) (given got : Sum) → IsFresh 1 a → IsFresh 0 b → Moves given nothing a a' → Moves nothing got b b' → AllOut a'.queue b'.queue → AllOut (queue_part a'.gate) (queue_part b'.gate) → (w : Buffer → ℕ) → got w ≡ given w
+-- what fresh ends sent and received
+pub passed : (a b a' b' : Ends) (given got : Sum) → IsFresh 1 a → IsFresh 0 b → Moves given nothing a a' → Moves nothing got b b' → AllOut a'.queue b'.queue → AllOut (queue_part a'.gate) (queue_part b'.gate) → (w : Buffer → ℕ) → got w ≡ given w
 passed a b a' b' given got f g m n q h w =
     omega (arith, f.none_put w, f.none_let w, f.none_taken w, g.none_put w, g.none_let w, g.none_taken w, m.sent_is w, m.received_is w, n.sent_is w, n.received_is w, q w, h w)

@@ -1,4 +1,4 @@
--- What ports have put into a channel and got out of it, under every weight of buffers.
+-- What the ends have put into a channel and got out of it, under every weight of buffers.
 use Rattle.std.specs.Prelude.{ℕ, ◌+◌, ◌^◌, ◌≡◌, List, [], ◌∷◌}
 use Rattle.std.specs.List.{sum_by}
 use Rattle.fak_model.specs.declared.queue.Mark.{Mark}
@@ -7,29 +7,29 @@ use Rattle.fak_queue.specs.Queues.{IsIdleSeat}
 use Rattle.fak_queue.specs.Sums.{put_by, got_by}
 use Rattle.fak_sem.specs.Semaphores.{SemId, SemSeatInfo, fresh_sem_seats, queue_part}
 use Rattle.producers_and_consumers.specs.declared.channel.Buffer.{Buffer}
-use Rattle.producers_and_consumers.specs.declared.channel.Port.{Port}
+use Rattle.producers_and_consumers.specs.declared.channel.Ends.{Ends}
 
 -- a sum over buffers, for each weight of a buffer
 abbrev pub Sum : Type 0
 Sum = (Buffer → ℕ) → ℕ
 
--- what a port put into the queue and held back at the gate; what it let through the gate; what it took out of the queue
-abbrev pub put_in : (Buffer → ℕ) → Port → ℕ
+-- what one's ends put into the queue and held back at the gate; what they let through the gate; what they took out of the queue
+abbrev pub put_in : (Buffer → ℕ) → Ends → ℕ
 put_in w p = put_by w p.queue + put_by w (queue_part p.gate)
 
-abbrev pub let_through : (Buffer → ℕ) → Port → ℕ
+abbrev pub let_through : (Buffer → ℕ) → Ends → ℕ
 let_through w p = got_by w (queue_part p.gate)
 
-abbrev pub taken : (Buffer → ℕ) → Port → ℕ
+abbrev pub taken : (Buffer → ℕ) → Ends → ℕ
 taken w p = got_by w p.queue
 
--- a port of this channel between two calls
-pub record IsPort (queue : ObjectId) (gate : SemId) (p : Port) : Type 0 where
+-- ends of this channel, between two calls
+pub record AreEnds (queue : ObjectId) (gate : SemId) (p : Ends) : Type 0 where
   pub idle : IsIdleSeat queue p.queue
   pub gate_is : p.gate.object ≡ gate
 
--- a call of the port, which sent and received this much
-pub record Moves (sent received : Sum) (old new : Port) : Type 0 where
+-- a call of the ends, which sent and received this much
+pub record Moves (sent received : Sum) (old new : Ends) : Type 0 where
   pub name : new.queue.name ≡ old.queue.name
   pub gate_name : new.gate.name ≡ old.gate.name
   pub sent_is : (w : Buffer → ℕ) → put_in w new + let_through w old ≡ put_in w old + let_through w new + sent w
@@ -42,8 +42,8 @@ nothing w = 0
 abbrev pub AreFreshGates : SemId → SemSeatInfo Buffer → SemSeatInfo Buffer → Type 0
 AreFreshGates gate a b = b ∷ a ∷ [] ≡ fresh_sem_seats gate (2 ^ 40) 0 2
 
--- a port that was just opened
-pub record IsFresh (name : ℕ) (p : Port) : Type 0 where
+-- ends that were just opened
+pub record IsFresh (name : ℕ) (p : Ends) : Type 0 where
   pub queue_name : p.queue.name ≡ name
   pub gate_name : p.gate.name ≡ name
   pub none_put : (w : Buffer → ℕ) → put_in w p ≡ 0

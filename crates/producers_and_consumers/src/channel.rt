@@ -1,7 +1,7 @@
 //! A channel: a queue of buffers behind a gate that holds back what the queue should not hold yet.
 
 ghost use Rattle.std.specs.Prelude.{IfSome, IsTrue};
-ghost use Rattle.producers_and_consumers.specs.Passing.{IsPort, Moves, nothing};
+ghost use Rattle.producers_and_consumers.specs.Passing.{AreEnds, Moves, nothing};
 
 use fak_queue::{Queue, Seat};
 use fak_sem::{SemSeat, Semaphore};
@@ -21,18 +21,18 @@ pub struct Channel {
     pub(crate) gate: Semaphore<Buffer>,
 }
 
-/// A seat of the queue and a seat of the gate.
+/// What one thread holds of the channel: a seat of the queue and a seat of the gate.
 #[derive(Drop)]
-pub struct Port {
+pub struct Ends {
     pub(crate) queue: Seat<Buffer>,
     pub(crate) gate: SemSeat<Buffer>,
 }
 
-impl Port {
+impl Ends {
     /// Puts a buffer into the queue. Tells whether the seat was neither worn nor the queue shut.
     fn put<R: Wait>(&mut self, rt: &R, channel: &Channel, buffer: Buffer) -> bool
-        requires { IsPort channel.now.queue.object channel.now.gate.object self.old }
-        ensures port { IsPort channel.now.queue.object channel.now.gate.object self.new }
+        requires { AreEnds channel.now.queue.object channel.now.gate.object self.old }
+        ensures ends { AreEnds channel.now.queue.object channel.now.gate.object self.new }
         ensures moves { IsTrue result → Moves (λ w. w buffer) nothing self.old self.new }
     {
         match channel.queue.wait_insert(rt, &mut self.queue, buffer) {
@@ -43,8 +43,8 @@ impl Port {
 
     /// Sends a buffer: through the gate into the queue, or else it is held back at the gate. Tells whether it was not lost.
     pub fn send<R: Wait>(&mut self, rt: &R, channel: &Channel, buffer: Buffer) -> bool
-        requires { IsPort channel.now.queue.object channel.now.gate.object self.old }
-        ensures port { IsPort channel.now.queue.object channel.now.gate.object self.new }
+        requires { AreEnds channel.now.queue.object channel.now.gate.object self.old }
+        ensures ends { AreEnds channel.now.queue.object channel.now.gate.object self.new }
         ensures moves { IsTrue result → Moves (λ w. w buffer) nothing self.old self.new }
     {
         match channel.gate.down(rt, &mut self.gate, buffer) {
@@ -56,8 +56,8 @@ impl Port {
 
     /// Makes room for one more buffer: one that was held back goes into the queue. Tells whether it was not lost.
     pub fn make_room<R: Wait>(&mut self, rt: &R, channel: &Channel) -> bool
-        requires { IsPort channel.now.queue.object channel.now.gate.object self.old }
-        ensures port { IsPort channel.now.queue.object channel.now.gate.object self.new }
+        requires { AreEnds channel.now.queue.object channel.now.gate.object self.old }
+        ensures ends { AreEnds channel.now.queue.object channel.now.gate.object self.new }
         ensures moves { IsTrue result → Moves nothing nothing self.old self.new }
     {
         match channel.gate.up(rt, &mut self.gate) {
@@ -69,8 +69,8 @@ impl Port {
 
     /// Receives the oldest buffer. `make_room` has to follow.
     pub fn receive<R: Wait>(&mut self, rt: &R, channel: &Channel) -> Option<Buffer>
-        requires { IsPort channel.now.queue.object channel.now.gate.object self.old }
-        ensures port { IsPort channel.now.queue.object channel.now.gate.object self.new }
+        requires { AreEnds channel.now.queue.object channel.now.gate.object self.old }
+        ensures ends { AreEnds channel.now.queue.object channel.now.gate.object self.new }
         ensures moves { IfSome result (λ buffer. Moves nothing (λ w. w buffer) self.old self.new) }
     {
         match channel.queue.wait_delete(rt, &mut self.queue) {

@@ -9,7 +9,7 @@ mod channel;
 mod opening;
 mod passing;
 
-pub use channel::{Buffer, Channel, Port};
+pub use channel::{Buffer, Channel, Ends};
 pub use passing::pass;
 use std::io;
 

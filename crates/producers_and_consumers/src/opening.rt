@@ -4,9 +4,9 @@ ghost use Rattle.std.specs.Prelude.{◌≡◌, ◌≢◌, ◌^◌, [], IfSome, I
 ghost use Rattle.fak_model.specs.Calls.{seat_info};
 ghost use Rattle.fak_queue.specs.Queues.{IsIdleSeat};
 ghost use Rattle.fak_sem.specs.Semaphores.{queue_part};
-ghost use Rattle.producers_and_consumers.specs.Passing.{AllOut, AreFreshGates, IsFresh, IsPort};
+ghost use Rattle.producers_and_consumers.specs.Passing.{AllOut, AreEnds, AreFreshGates, IsFresh};
 
-use crate::channel::{Buffer, Channel, Port};
+use crate::channel::{Buffer, Channel, Ends};
 use fak_model::laws::queue::a_queue_weighs_what_was_put;
 use fak_queue::{LONGEST_STINT, Queue, Seat, Tally};
 use fak_sem::{SemSeat, SemTally, Semaphore};
@@ -43,20 +43,20 @@ fn open_gate(
     Some((gate, a, b))
 }
 
-/// An empty channel and its two ports.
-pub fn open_channel(alloc: Global, room: u64) -> Option<(Channel, Port, Port)>
-    ensures ports { IfSome result (λ r. IsPort r.0.queue.object r.0.gate.object r.1
-        × IsPort r.0.queue.object r.0.gate.object r.2) }
+/// An empty channel, and its ends for two threads.
+pub fn open_channel(alloc: Global, room: u64) -> Option<(Channel, Ends, Ends)>
+    ensures ends { IfSome result (λ r. AreEnds r.0.queue.object r.0.gate.object r.1
+        × AreEnds r.0.queue.object r.0.gate.object r.2) }
     ensures fresh { IfSome result (λ r. IsFresh 1 r.1 × IsFresh 0 r.2) }
 {
     let opened = open_queue(alloc)?;
     let (gate, first, second) = open_gate(alloc, room)?;
     let (queue, a, b) = opened;
-    let a = Port {
+    let a = Ends {
         queue: a,
         gate: first,
     };
-    let b = Port {
+    let b = Ends {
         queue: b,
         gate: second,
     };
@@ -94,9 +94,9 @@ fn gate_is_empty(gate: Semaphore<Buffer>, a: SemSeat<Buffer>, b: SemSeat<Buffer>
 }
 
 /// Closes the channel, and tells whether nothing is left in it.
-pub fn is_empty(channel: Channel, a: Port, b: Port) -> bool
-    requires ports { IsPort channel.queue.object channel.gate.object a
-        × IsPort channel.queue.object channel.gate.object b }
+pub fn is_empty(channel: Channel, a: Ends, b: Ends) -> bool
+    requires ends { AreEnds channel.queue.object channel.gate.object a
+        × AreEnds channel.queue.object channel.gate.object b }
     requires apart { (b.queue.name ≢ a.queue.name) × (b.gate.name ≢ a.gate.name) }
     ensures { IsTrue result → AllOut a.queue b.queue × AllOut (queue_part a.gate) (queue_part b.gate) }
 {

@@ -2,22 +2,22 @@
 
 ghost use Rattle.std.specs.Prelude.{◌≡◌, [], IfSome, IsTrue};
 ghost use Rattle.std.specs.List.{sum_by};
-ghost use Rattle.producers_and_consumers.specs.Passing.{AreSame, IsPort, Moves, nothing};
+ghost use Rattle.producers_and_consumers.specs.Passing.{AreEnds, AreSame, Moves, nothing};
 
-use crate::channel::{Buffer, Channel, Port};
+use crate::channel::{Buffer, Channel, Ends};
 use crate::opening::{is_empty, open_channel};
 use std::alloc::Global;
 use std::sync::Wait;
 use std::thread::{Threads, join};
 
 /// Sends all buffers. Tells whether none was lost.
-fn produce<R: Wait>(rt: &R, channel: &Channel, port: &mut Port, buffers: Vec<Buffer>) -> bool
-    requires { IsPort channel.now.queue.object channel.now.gate.object port.old }
-    ensures port { IsPort channel.now.queue.object channel.now.gate.object port.new }
-    ensures sent { IsTrue result → Moves (λ w. sum_by w buffers.items) nothing port.old port.new }
+fn produce<R: Wait>(rt: &R, channel: &Channel, ends: &mut Ends, buffers: Vec<Buffer>) -> bool
+    requires { AreEnds channel.now.queue.object channel.now.gate.object ends.old }
+    ensures ends { AreEnds channel.now.queue.object channel.now.gate.object ends.new }
+    ensures sent { IsTrue result → Moves (λ w. sum_by w buffers.items) nothing ends.old ends.new }
 {
     for buffer in buffers {
-        if !port.send(rt, channel, buffer) {
+        if !ends.send(rt, channel, buffer) {
             return false;
         }
     }
@@ -28,23 +28,23 @@ fn produce<R: Wait>(rt: &R, channel: &Channel, port: &mut Port, buffers: Vec<Buf
 fn consume<R: Wait>(
     rt: &R,
     channel: &Channel,
-    port: &mut Port,
+    ends: &mut Ends,
     count: usize,
     into: &mut Vec<Buffer>,
 ) -> bool
-    requires port { IsPort channel.now.queue.object channel.now.gate.object port.old }
+    requires ends { AreEnds channel.now.queue.object channel.now.gate.object ends.old }
     requires empty { into.old.items ≡ [] }
-    ensures port { IsPort channel.now.queue.object channel.now.gate.object port.new }
-    ensures received { IsTrue result → Moves nothing (λ w. sum_by w into.new.items) port.old port.new }
+    ensures ends { AreEnds channel.now.queue.object channel.now.gate.object ends.new }
+    ensures received { IsTrue result → Moves nothing (λ w. sum_by w into.new.items) ends.old ends.new }
 {
     for _ in 0..count {
-        let Some(buffer) = port.receive(rt, channel) else {
+        let Some(buffer) = ends.receive(rt, channel) else {
             return false;
         };
         let Ok(()) = into.push(buffer) else {
             return false;
         };
-        if !port.make_room(rt, channel) {
+        if !ends.make_room(rt, channel) {
             return false;
         }
     }
@@ -55,33 +55,33 @@ fn consume<R: Wait>(
 fn run_both<R: Threads + Wait + Sync>(
     rt: &R,
     channel: &Channel,
-    ports: (Port, Port),
+    ends: (Ends, Ends),
     buffers: Vec<Buffer>,
     mut into: Vec<Buffer>,
-) -> ((Port, bool), (Port, Vec<Buffer>, bool))
-    requires first { IsPort channel.now.queue.object channel.now.gate.object ports.0 }
-    requires second { IsPort channel.now.queue.object channel.now.gate.object ports.1 }
+) -> ((Ends, bool), (Ends, Vec<Buffer>, bool))
+    requires first { AreEnds channel.now.queue.object channel.now.gate.object ends.0 }
+    requires second { AreEnds channel.now.queue.object channel.now.gate.object ends.1 }
     requires empty { into.items ≡ [] }
-    ensures first { IsPort channel.now.queue.object channel.now.gate.object result.0.0 }
-    ensures second { IsPort channel.now.queue.object channel.now.gate.object result.1.0 }
-    ensures sent { IsTrue result.0.1 → Moves (λ w. sum_by w buffers.items) nothing ports.0 result.0.0 }
-    ensures received { IsTrue result.1.2 → Moves nothing (λ w. sum_by w result.1.1.items) ports.1 result.1.0 }
+    ensures first { AreEnds channel.now.queue.object channel.now.gate.object result.0.0 }
+    ensures second { AreEnds channel.now.queue.object channel.now.gate.object result.1.0 }
+    ensures sent { IsTrue result.0.1 → Moves (λ w. sum_by w buffers.items) nothing ends.0 result.0.0 }
+    ensures received { IsTrue result.1.2 → Moves nothing (λ w. sum_by w result.1.1.items) ends.1 result.1.0 }
 {
-    let (mut a, mut b) = ports;
+    let (mut a, mut b) = ends;
     let count = buffers.len();
     join(
         rt,
-        move || -> (Port, bool)
-            requires { IsPort channel.now.queue.object channel.now.gate.object a }
-            ensures port { IsPort channel.entry.now.queue.object channel.entry.now.gate.object result.0 }
+        move || -> (Ends, bool)
+            requires { AreEnds channel.now.queue.object channel.now.gate.object a }
+            ensures ends { AreEnds channel.entry.now.queue.object channel.entry.now.gate.object result.0 }
             ensures sent { IsTrue result.1 → Moves (λ w. sum_by w buffers.items) nothing a result.0 }
         {
             let sent = produce(rt, channel, &mut a, buffers);
             (a, sent)
         },
-        move || -> (Port, Vec<Buffer>, bool)
-            requires { IsPort channel.now.queue.object channel.now.gate.object b × (into.items ≡ []) }
-            ensures port { IsPort channel.entry.now.queue.object channel.entry.now.gate.object result.0 }
+        move || -> (Ends, Vec<Buffer>, bool)
+            requires { AreEnds channel.now.queue.object channel.now.gate.object b × (into.items ≡ []) }
+            ensures ends { AreEnds channel.entry.now.queue.object channel.entry.now.gate.object result.0 }
             ensures received { IsTrue result.2 → Moves nothing (λ w. sum_by w result.1.items) b result.0 }
         {
             let all = consume(rt, channel, &mut b, count, &mut into);

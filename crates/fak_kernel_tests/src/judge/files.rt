@@ -4,8 +4,8 @@ use fak_kernel::{FileEntry, ProcessRow, Report};
 use fak_text::{Note, Script};
 use std::alloc::{AllocError, Global};
 
-/// The most places that the search looks at.
-const MOST_PLACES: u64 = 2_000_000;
+/// The most nodes that the search looks at.
+const MOST_NODES: u64 = 2_000_000;
 
 const FREE: FileEntry = FileEntry { inode: 0, uses: 0 };
 
@@ -24,55 +24,55 @@ struct Line {
     gave: Option<u64>,
 }
 
-/// How many lines were made of each row, and the table at that point.
+/// A node of the search: how many lines of each row were made, and the table at that point.
 #[derive(Drop)]
-struct Place {
+struct SearchNode {
     made: Vec<usize>,
     entries: Vec<FileEntry>,
 }
 
 /// The file lines of the rows replay from free entries to the report's.
 pub fn replay(alloc: Global, script: &Script, report: &Report) -> Result<bool, AllocError> {
-    let mut places = Vec::new(alloc);
-    places.push(first_place(alloc, script, report.rows.len())?)?;
-    for _ in 0..MOST_PLACES {
-        let Some(place) = places.pop() else {
+    let mut nodes = Vec::new(alloc);
+    nodes.push(first_node(alloc, script, report.rows.len())?)?;
+    for _ in 0..MOST_NODES {
+        let Some(node) = nodes.pop() else {
             return Ok(false);
         };
-        if is_last(report, &place) {
+        if is_last(report, &node) {
             return Ok(true);
         }
-        add_next(alloc, report.rows.as_slice(), &place, &mut places)?;
+        add_next(alloc, report.rows.as_slice(), &node, &mut nodes)?;
     }
     Ok(false)
 }
 
-fn first_place(alloc: Global, script: &Script, rows: usize) -> Result<Place, AllocError> {
+fn first_node(alloc: Global, script: &Script, rows: usize) -> Result<SearchNode, AllocError> {
     let made = vec![in alloc; 0; rows]?;
     let entries = vec![in alloc; FREE; script.files() as usize]?;
-    Ok(Place { made, entries })
+    Ok(SearchNode { made, entries })
 }
 
 /// All lines are made, and the table is the report's.
-fn is_last(report: &Report, place: &Place) -> bool {
+fn is_last(report: &Report, node: &SearchNode) -> bool {
     let rows = report.rows.as_slice();
-    (0..rows.len()).all(|row| next_line(rows, place, row).is_none())
-        && place.entries.as_slice() == report.entries.as_slice()
+    (0..rows.len()).all(|row| next_line(rows, node, row).is_none())
+        && node.entries.as_slice() == report.entries.as_slice()
 }
 
-/// The places that one line more leads to. A line that changes nothing can come at once, whatever comes later.
+/// The nodes that one line more leads to. A line that changes nothing can come at once, whatever comes later.
 fn add_next(
     alloc: Global,
     rows: &[ProcessRow],
-    place: &Place,
-    places: &mut Vec<Place>,
+    node: &SearchNode,
+    nodes: &mut Vec<SearchNode>,
 ) -> Result<(), AllocError> {
     for row in 0..rows.len() {
-        let Some(next) = place_after(alloc, rows, place, row)? else {
+        let Some(next) = node_after(alloc, rows, node, row)? else {
             continue;
         };
-        let is_same = next.entries.as_slice() == place.entries.as_slice();
-        places.push(next)?;
+        let is_same = next.entries.as_slice() == node.entries.as_slice();
+        nodes.push(next)?;
         if is_same {
             return Ok(());
         }
@@ -80,29 +80,29 @@ fn add_next(
     Ok(())
 }
 
-/// The place after the next line of this row, where that could give what it gave.
-fn place_after(
+/// The node after the next line of this row, where that could give what it gave.
+fn node_after(
     alloc: Global,
     rows: &[ProcessRow],
-    place: &Place,
+    node: &SearchNode,
     row: usize,
-) -> Result<Option<Place>, AllocError> {
-    let Some(line) = next_line(rows, place, row) else {
+) -> Result<Option<SearchNode>, AllocError> {
+    let Some(line) = next_line(rows, node, row) else {
         return Ok(None);
     };
-    let mut entries = place.entries.as_slice().to_vec(alloc)?;
+    let mut entries = node.entries.as_slice().to_vec(alloc)?;
     if made(entries.as_mut_slice(), line) != line.gave {
         return Ok(None);
     }
-    let mut made = place.made.as_slice().to_vec(alloc)?;
+    let mut made = node.made.as_slice().to_vec(alloc)?;
     if let Some(count) = made.get_mut(row) {
         *count = count.saturating_add(1);
     }
-    Ok(Some(Place { made, entries }))
+    Ok(Some(SearchNode { made, entries }))
 }
 
-fn next_line(rows: &[ProcessRow], place: &Place, row: usize) -> Option<Line> {
-    let made = place.made.get(row)?;
+fn next_line(rows: &[ProcessRow], node: &SearchNode, row: usize) -> Option<Line> {
+    let made = node.made.get(row)?;
     let row = rows.get(row)?;
     row.journal.iter().filter_map(line_of).nth(*made)
 }

@@ -10,4 +10,4 @@ loop-preserved g c =
     let x = c.in-Some.buffer in
     let room = c.make_room.ensures.moves (search (rules, c.if-not-make_room.false)) in
     let once = moves_then nothing (λ w. w x) nothing nothing nothing (λ w. w x) c.in-Some.ensures.moves room (λ w. refl) (λ w. omega arith) in
-    (c.make_room.ensures.port, moves_then nothing (λ w. sum_by w c.loop.into.items) nothing (λ w. w x) nothing (λ w. sum_by w c.push.new.self.items) c.loop.invariant.1 once (λ w. refl) (λ w. ap (sum_by w) c.in-Ok.ensures.items ∙ sum_by_push w c.loop.into.items x))
+    (c.make_room.ensures.ends, moves_then nothing (λ w. sum_by w c.loop.into.items) nothing (λ w. w x) nothing (λ w. sum_by w c.push.new.self.items) c.loop.invariant.1 once (λ w. refl) (λ w. ap (sum_by w) c.in-Ok.ensures.items ∙ sum_by_push w c.loop.into.items x))

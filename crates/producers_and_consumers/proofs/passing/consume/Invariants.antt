@@ -1,7 +1,7 @@
 use Rattle.std.specs.List.{sum_by}
-use Rattle.producers_and_consumers.specs.Passing.{IsPort, Moves, nothing}
+use Rattle.producers_and_consumers.specs.Passing.{AreEnds, Moves, nothing}
 use Rattle.producers_and_consumers.proofs.passing.consume.Given as goal
 
--- the port has received the buffers of the list
+-- the ends have received the buffers of the list
 abbrev pub invariant-loop : goal.invariant-loop
-invariant-loop g l = IsPort l.channel.queue.object l.channel.gate.object l.port × Moves nothing (λ w. sum_by w l.into.items) l.fn.port l.port
+invariant-loop g l = AreEnds l.channel.queue.object l.channel.gate.object l.ends × Moves nothing (λ w. sum_by w l.into.items) l.fn.ends l.ends

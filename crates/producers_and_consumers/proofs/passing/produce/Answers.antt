@@ -12,4 +12,4 @@ loop-buffer-preserved g c =
     let sent = was.1.0 in
     let x = c.in-Some.buffer in
     let more = moves_then (λ w. sum_by w sent) nothing (λ w. w x) nothing (λ w. sum_by w (sent ++ x ∷ [])) nothing was.1.2 (c.send.ensures.moves (search (rules, c.if-not-send.false))) (λ w. sum_by_push w sent x) (λ w. refl) in
-    (c.send.ensures.port, (sent ++ x ∷ [], append_assoc sent (x ∷ []) _ ∙ (ap (λ (l : List Buffer). sent ++ l) (sym c.in-Some.ensures.steps.0) ∙ was.1.1), more))
+    (c.send.ensures.ends, (sent ++ x ∷ [], append_assoc sent (x ∷ []) _ ∙ (ap (λ (l : List Buffer). sent ++ l) (sym c.in-Some.ensures.steps.0) ∙ was.1.1), more))

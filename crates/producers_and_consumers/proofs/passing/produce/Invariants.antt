@@ -2,11 +2,11 @@ use Rattle.std.proofs.Common.{◌≡◌, List, ◌++◌}
 use Rattle.std.specs.List.{sum_by}
 use Rattle.std.specs.Vec.Iter.{into_iter_items}
 use Rattle.producers_and_consumers.specs.declared.channel.Buffer.{Buffer}
-use Rattle.producers_and_consumers.specs.Passing.{IsPort, Moves, nothing}
+use Rattle.producers_and_consumers.specs.Passing.{AreEnds, Moves, nothing}
 use Rattle.producers_and_consumers.proofs.passing.produce.Given as goal
 
--- the port has sent the buffers that are no more to come
+-- the ends have sent the buffers that are no more to come
 abbrev pub invariant-loop-buffer : goal.invariant-loop-buffer
 invariant-loop-buffer g l =
-    IsPort l.channel.queue.object l.channel.gate.object l.port
-    × ((sent : List Buffer) × (sent ++ into_iter_items l.buffer-iterator ≡ l.fn.buffers.items) × Moves (λ w. sum_by w sent) nothing l.fn.port l.port)
+    AreEnds l.channel.queue.object l.channel.gate.object l.ends
+    × ((sent : List Buffer) × (sent ++ into_iter_items l.buffer-iterator ≡ l.fn.buffers.items) × Moves (λ w. sum_by w sent) nothing l.fn.ends l.ends)

@@ -1,7 +1,7 @@
 use Rattle.std.proofs.Common.{refl, subst}
 use Rattle.fak_sem.specs.Semaphores.{Ups}
 use Rattle.producers_and_consumers.proofs.Counting.{lets_through, wakes_nobody}
-use Rattle.producers_and_consumers.proofs.channel.Port.make_room.Goals as goal
+use Rattle.producers_and_consumers.proofs.channel.Ends.make_room.Goals as goal
 
 pub returns-in-Ok-Some-clause-moves : goal.returns-in-Ok-Some-clause-moves
 returns-in-Ok-Some-clause-moves g c = λ yes.

@@ -1,7 +1,7 @@
 use Rattle.std.proofs.Common.{rules, refl}
 use Rattle.producers_and_consumers.proofs.Counting.{inserts}
-use Rattle.producers_and_consumers.proofs.channel.Port.put.Goals as goal
-use Rattle.producers_and_consumers.proofs.channel.Port.put.Goals.{in-Ok, in-Err}
+use Rattle.producers_and_consumers.proofs.channel.Ends.put.Goals as goal
+use Rattle.producers_and_consumers.proofs.channel.Ends.put.Goals.{in-Ok, in-Err}
 
 pub returns-clause-moves : goal.returns-clause-moves
 returns-clause-moves g c = elim c.match-wait_insert.branch [

@@ -1,14 +1,14 @@
 use Rattle.std.proofs.Common.{ap, arith, refl, subst}
 use Rattle.fak_sem.specs.Semaphores.{Downs}
-use Rattle.producers_and_consumers.specs.declared.channel.Port.{Port}
+use Rattle.producers_and_consumers.specs.declared.channel.Ends.{Ends}
 use Rattle.producers_and_consumers.specs.Passing.{nothing}
 use Rattle.producers_and_consumers.proofs.Counting.{held_back, moves_then, passes_gate}
-use Rattle.producers_and_consumers.proofs.channel.Port.send.Goals as goal
+use Rattle.producers_and_consumers.proofs.channel.Ends.send.Goals as goal
 
 pub returns-in-Ok-Some-clause-moves : goal.returns-in-Ok-Some-clause-moves
 returns-in-Ok-Some-clause-moves g c = λ yes.
     let call = subst (Downs c.args.channel.now.gate c.args.buffer c.args.self.now.gate c.down.new.seat) c.in-Ok-Some.field-0-is c.in-Ok-Some.ensures.call in
-    let mid : Port = record { queue = c.args.self.now.queue; gate = c.down.new.seat } in
+    let mid : Ends = record { queue = c.args.self.now.queue; gate = c.down.new.seat } in
     moves_then nothing nothing (λ w. w c.in-Ok-Some.buffer) nothing (λ w. w c.args.buffer) nothing (passes_gate c.args.self.now mid c.in-Ok-Some.buffer call refl) (c.put.ensures.moves yes)
     (λ w. omega (arith, ap w call.passes.0)) (λ w. refl)
 
