@@ -4,9 +4,12 @@ ghost use Rattle.std.specs.Prelude.{◌≡◌, ℕ, ◌+◌, ◌<◌, ◌≤◌,
 ghost use Rattle.fak_text.specs.Script.{ScriptOf, StepOf, IsStepInRange, limits_of, say};
 ghost use Rattle.fak_text.specs.Journal.{Process, FitsScript, StandsAt, new_process, after_note, Allows, births_of, child_count, said};
 ghost use Rattle.fak_text.specs.Views.{step_of, note_of};
-ghost use Rattle.std.specs.List.{list_any};
+ghost use Rattle.std.specs.List.{list_any, sum_by};
+ghost use Rattle.fak_run.specs.Contexts.{IsAsleep, unnoted};
 ghost use Rattle.fak_run.specs.Ledger.{shuts_of};
 ghost use Rattle.fak_run.specs.ListScheduler.{next_step};
+ghost use Rattle.fak_run.specs.Told.{told_row};
+ghost use Rattle.fak_run.specs.Views.{row_of};
 
 use crate::fault::Fault;
 use crate::report::{Outcome, ProcessRow};
@@ -176,10 +179,6 @@ impl<K: Run> Context<K> {
         self.position += 1;
         Ok(())
     }
-}
-
-impl<K: Run> Context<K> {
-    ghost use Rattle.fak_run.specs.Contexts.{IsAsleep, unnoted};
 
     /// The process before its last step, a down that is not done yet.
     pub(crate) fn without_down(mut self) -> Context<K>
@@ -192,11 +191,6 @@ impl<K: Run> Context<K> {
         self.position -= 1;
         self
     }
-}
-
-impl<K: Run> Context<K> {
-    ghost use Rattle.fak_run.specs.Told.{told_row};
-    ghost use Rattle.fak_run.specs.Views.{row_of};
 
     /// The row of a process that was left so, with its said texts left out.
     pub fn into_row(self, outcome: Outcome) -> ProcessRow
@@ -221,10 +215,6 @@ impl<K: Run> Context<K> {
             journal,
         }
     }
-}
-
-impl<K: Run> Context<K> {
-    ghost use Rattle.std.specs.List.{sum_by};
 
     /// One of its steps was a shutdown.
     pub fn has_shutdown(&self) -> bool
