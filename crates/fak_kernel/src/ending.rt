@@ -1,6 +1,6 @@
 //! How a run ends: the seats of all processors are joined, the objects are closed, and what is left is reported.
 
-ghost use Rattle.std.specs.Prelude.{◌≡◌, ◌<◌, ◌≤◌, [], ℕ, vec_len, slice_index_or, IfOk, IfErr};
+ghost use Rattle.std.specs.Prelude.{◌≡◌, ◌<◌, ◌≤◌, [], ℕ, vec_len, slice_index_or, IfOk};
 ghost use Rattle.fak_run.specs.ListScheduler.{turn_over};
 ghost use Rattle.fak_run.specs.Report.{ListSchedulerReports};
 ghost use Rattle.fak_run.specs.RunReports.{RunReports};
@@ -17,24 +17,20 @@ pub mod reporting;
 
 use closing::close;
 use fak_processor::{Objects, Processor};
-use fak_run::{Fault, Report, Run};
+use fak_run::{Report, Run};
 use fak_text::Script;
 use gathering::gather;
 use reporting::{report_with, rows_of};
-use std::alloc::Global;
+use std::alloc::{AllocError, Global};
 
 /// The report of a run that all processors have left, in the order of their numbers, with its said texts left out. One
 /// processor leaves the list scheduler's report.
-///
-/// # Errors
-///
-/// `Memory` alone.
 pub(crate) fn report_of_run<K: Run>(
     alloc: Global,
     script: &Script,
     objects: Objects<K>,
     left: Vec<Processor<K>>,
-) -> Result<Report, Fault>
+) -> Result<Report, AllocError>
     requires script { script.now ≡ K.script }
     requires made { AreFor K.script objects }
     requires seated { AreSeated (vec_len left) objects }
@@ -47,7 +43,6 @@ pub(crate) fn report_of_run<K: Run>(
         (turn_over (lists_of K.script (slice_index_or left.items 0 d)))
         × ((lists_of K.script (slice_index_or left.items 0 d)).ready ≡ [])) → (d : ProcessorOf)
         → IfOk result (λ report. ListSchedulerReports K.script (told_report K.script (report_of report))) }
-    ensures memory { IfErr result (λ fault. fault ≡ Fault.Memory) }
 {
     let all = gather(alloc, &objects, left)?;
     let remains = close(alloc, objects, all.tallies, script.files())?;

@@ -115,7 +115,7 @@ fn run_as<K: Run + Send + Sync, G: Gate + Sync, R: Threads + Wait + Sync>(
     let opened = open_run::<K, R>(rt, alloc, script, processors)?;
     let all = opened.processors;
     let left = work_all(rt, alloc, script, &opened.objects, gate, processors, all)?;
-    report_of_run(alloc, script, opened.objects, left)
+    Ok(report_of_run(alloc, script, opened.objects, left)?)
 }
 
 /// All processors work, each in a thread of its own, until they leave.

@@ -57,7 +57,7 @@ fn run_alone<K: Run, R: Wait>(rt: &R, alloc: Global, script: &Script) -> Result<
     let opened = open_run::<K, R>(rt, alloc, script, 1)?;
     let only = opened.processors;
     let left = leave_alone(rt, alloc, script, &opened.objects, only)?;
-    report_of_run(alloc, script, opened.objects, left)
+    Ok(report_of_run(alloc, script, opened.objects, left)?)
 }
 
 /// The only processor works until it leaves.

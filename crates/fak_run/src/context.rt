@@ -1,6 +1,6 @@
 //! A process of a run, with its journal.
 
-ghost use Rattle.std.specs.Prelude.{◌≡◌, ℕ, ◌+◌, ◌<◌, ◌≤◌, nat_lt, List, [], ◌∷◌, ◌++◌, length, map, Option, None, IfOk, IfErr, IfSome, IfNone};
+ghost use Rattle.std.specs.Prelude.{◌≡◌, ℕ, ◌+◌, ◌<◌, ◌≤◌, nat_lt, List, [], ◌∷◌, ◌++◌, length, map, Option, None, IfOk, IfSome, IfNone};
 ghost use Rattle.fak_text.specs.Script.{ScriptOf, StepOf, IsStepInRange, limits_of, say};
 ghost use Rattle.fak_text.specs.Journal.{Process, FitsScript, StandsAt, new_process, after_note, Allows, births_of, child_count, said};
 ghost use Rattle.fak_text.specs.Views.{step_of, note_of};
@@ -11,7 +11,6 @@ ghost use Rattle.fak_run.specs.ListScheduler.{next_step};
 ghost use Rattle.fak_run.specs.Told.{told_row};
 ghost use Rattle.fak_run.specs.Views.{row_of};
 
-use crate::fault::Fault;
 use crate::report::{Outcome, ProcessRow};
 use fak_text::{Note, Script, Step};
 use std::alloc::{AllocError, Global};
@@ -134,9 +133,8 @@ impl<K: Run> Context<K> {
     }
 
     /// The name of the next child.
-    pub fn child_name(&self, alloc: Global) -> Result<Vec<u64>, Fault>
+    pub fn child_name(&self, alloc: Global) -> Result<Vec<u64>, AllocError>
         ensures name { IfOk result (λ name. name.items ≡ self.now.name ++ child_count self.now.journal ∷ []) }
-        ensures memory { IfErr result (λ fault. fault ≡ Fault.Memory) }
     {
         let mut name = Vec::new(alloc);
         name.extend_from_slice(self.name.as_slice())?;
@@ -145,12 +143,10 @@ impl<K: Run> Context<K> {
     }
 
     /// Asks for the memory of one note more.
-    pub fn reserve_note(&mut self) -> Result<(), Fault>
+    pub fn reserve_note(&mut self) -> Result<(), AllocError>
         ensures same { self.new ≡ self.old }
-        ensures memory { IfErr result (λ fault. fault ≡ Fault.Memory) }
     {
-        self.journal.reserve(1)?;
-        Ok(())
+        self.journal.reserve(1)
     }
 
     /// Goes on behind the step at the position, which was made with this note.

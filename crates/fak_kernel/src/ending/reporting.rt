@@ -1,6 +1,6 @@
 //! The report of what all processors have left, with its said texts left out.
 
-ghost use Rattle.std.specs.Prelude.{◌≡◌, ◌≤◌, ◌-◌, nat_lt, length, map, IfOk, IfErr};
+ghost use Rattle.std.specs.Prelude.{◌≡◌, ◌≤◌, ◌-◌, nat_lt, length, map, IfOk};
 ghost use Rattle.std.specs.List.Sorted.{IsPermutation};
 ghost use Rattle.fak_run.specs.Report.{IsSortedByName, sleepers_outcome};
 ghost use Rattle.fak_run.specs.Ledger.{shuts_of};
@@ -10,9 +10,9 @@ ghost use Rattle.fak_run.specs.Told.{told_rows};
 ghost use Rattle.fak_run.specs.Views.{report_of, row_of};
 
 use fak_model::FileEntry;
-use fak_run::{Context, Fault, Outcome, ProcessRow, Report, Run, add_rows, sort_rows};
+use fak_run::{Context, Outcome, ProcessRow, Report, Run, add_rows, sort_rows};
 use fak_text::Script;
-use std::alloc::Global;
+use std::alloc::{AllocError, Global};
 
 /// One of the processes made a shutdown.
 fn has_shutdown<K: Run>(contexts: &[Context<K>]) -> bool
@@ -42,11 +42,10 @@ pub(crate) fn rows_of<K: Run>(
     ended: Vec<Context<K>>,
     halted: Vec<Context<K>>,
     asleep: Vec<Context<K>>,
-) -> Result<Vec<ProcessRow>, Fault>
+) -> Result<Vec<ProcessRow>, AllocError>
     ensures rows { IfOk result (λ rows. IsPermutation (rows_left ended.items halted.items asleep.items)
         (told_rows K.script (map row_of rows.items))) }
     ensures sorted { IfOk result (λ rows. IsSortedByName (told_rows K.script (map row_of rows.items))) }
-    ensures memory { IfErr result (λ fault. fault ≡ Fault.Memory) }
 {
     let outcome = outcome_of_sleepers(ended.as_slice(), halted.as_slice(), asleep.as_slice());
     let mut rows = Vec::new(alloc);

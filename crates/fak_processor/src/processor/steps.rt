@@ -14,7 +14,7 @@ use crate::processor::Processor;
 use crate::processor::turn::Turn;
 use fak_run::{Context, Fault, Run, Sleeper};
 use fak_text::Note;
-use std::alloc::Global;
+use std::alloc::{AllocError, Global};
 use std::sync::Wait;
 
 impl<K: Run> Processor<K> {
@@ -108,17 +108,20 @@ impl<K: Run> Processor<K> {
         turn.reserve_note()?;
         self.reserve_halted()?;
         if !self.claim_birth(objects)? {
-            return turn.note(Note::NoBirth, false);
+            turn.note(Note::NoBirth, false)?;
+            return Ok(());
         }
         let Some(slot) = self.take_slot(rt, objects)? else {
             self.give_birth_back(objects);
-            return turn.note(Note::NoSlot, false);
+            turn.note(Note::NoSlot, false)?;
+            return Ok(());
         };
         let number = turn.children();
         let child = Context::new(alloc, name, program, slot.number());
         self.credit(objects)?;
         self.enter_ready(rt, objects, child)?;
-        turn.note(Note::Spawned(number), false)
+        turn.note(Note::Spawned(number), false)?;
+        Ok(())
     }
 
     /// An open, in a hold of the file table.
@@ -144,7 +147,8 @@ impl<K: Run> Processor<K> {
         let entry = self
             .copy
             .open_shared(rt, &objects.files, &mut self.files, inode)?;
-        turn.note(Note::OpenFile(inode, entry), false)
+        turn.note(Note::OpenFile(inode, entry), false)?;
+        Ok(())
     }
 
     /// A close, in a hold of the file table.
@@ -170,7 +174,8 @@ impl<K: Run> Processor<K> {
         let entry = self
             .copy
             .close_shared(rt, &objects.files, &mut self.files, inode)?;
-        turn.note(Note::CloseFile(inode, entry), false)
+        turn.note(Note::CloseFile(inode, entry), false)?;
+        Ok(())
     }
 
     /// A stat, in a hold of the file table.
@@ -196,11 +201,16 @@ impl<K: Run> Processor<K> {
         let uses = self
             .copy
             .uses_shared(rt, &objects.files, &mut self.files, inode)?;
-        turn.note(Note::Stat(inode, uses), false)
+        turn.note(Note::Stat(inode, uses), false)?;
+        Ok(())
     }
 
     /// A shutdown: no process becomes ready any more.
-    pub(crate) fn shutdown(&mut self, objects: &Objects<K>, turn: &mut Turn<K>) -> Result<(), Fault>
+    pub(crate) fn shutdown(
+        &mut self,
+        objects: &Objects<K>,
+        turn: &mut Turn<K>,
+    ) -> Result<(), AllocError>
         requires objects { AreOf objects.now self.old }
         requires next { StandsAt K.script turn.old.process shutdown }
         requires left { HasStepsLeft K.script turn.old }
@@ -210,7 +220,6 @@ impl<K: Run> Processor<K> {
         ensures alone { IsAlone K.script self.old
             → IfOk result (λ _. GoesOn K.script self.new (Some turn.new)
             (lists.make K.script (lists_of K.script self.old) turn.old shutdown)) }
-        ensures memory { IfErr result (λ fault. fault ≡ Fault.Memory) }
     {
         turn.note(Note::Shutdown, false)?;
         self.shut_ready(objects);

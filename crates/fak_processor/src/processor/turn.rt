@@ -1,15 +1,15 @@
 //! The turn of the process that has the processor.
 
-ghost use Rattle.std.specs.Prelude.{◌≡◌, ℕ, List, [], ◌∷◌, ◌++◌, ◌+◌, ◌<◌, ◌≤◌, ◌==◌, ◌||◌, false, IfOk, IfErr};
+ghost use Rattle.std.specs.Prelude.{◌≡◌, ℕ, List, [], ◌∷◌, ◌++◌, ◌+◌, ◌<◌, ◌≤◌, ◌==◌, ◌||◌, false, IfOk};
 ghost use Rattle.fak_text.specs.Script.{StepOf, say};
 ghost use Rattle.fak_text.specs.Journal.{Allows, FitsScript, StandsAt, after_note, child_count, said};
 ghost use Rattle.fak_text.specs.Views.{note_of};
 ghost use Rattle.fak_run.specs.ListScheduler as lists;
 ghost use Rattle.fak_run.specs.Contexts.{HasStepsLeft};
 
-use fak_run::{Context, Fault, Run};
+use fak_run::{Context, Run};
 use fak_text::{Note, Script};
-use std::alloc::Global;
+use std::alloc::{AllocError, Global};
 use std::marker::Model;
 
 /// A process that has the processor: how many steps it made in this turn, and whether the last one was a yield.
@@ -44,18 +44,16 @@ impl<K: Run> Turn<K> {
     }
 
     /// Asks for the memory of one note more.
-    pub fn reserve_note(&mut self) -> Result<(), Fault>
+    pub fn reserve_note(&mut self) -> Result<(), AllocError>
         ensures same { self.new ≡ self.old }
-        ensures memory { IfErr result (λ fault. fault ≡ Fault.Memory) }
     {
         self.context.reserve_note()
     }
 
     /// The name of the process's next child.
-    pub fn child_name(&self, alloc: Global) -> Result<Vec<u64>, Fault>
+    pub fn child_name(&self, alloc: Global) -> Result<Vec<u64>, AllocError>
         ensures name { IfOk result (λ name. name.items ≡ self.now.process.name ++ child_count self.now.process.journal
             ∷ []) }
-        ensures memory { IfErr result (λ fault. fault ≡ Fault.Memory) }
     {
         self.context.child_name(alloc)
     }
@@ -90,7 +88,7 @@ impl<K: Run> Turn<K> {
     }
 
     /// Goes on after a step that was made with this note.
-    pub fn note(&mut self, note: Note, yields: bool) -> Result<(), Fault>
+    pub fn note(&mut self, note: Note, yields: bool) -> Result<(), AllocError>
         requires allowed { (step : StepOf) × StandsAt K.script self.old.process step
             × Allows K.script.files (child_count self.old.process.journal) step (note_of note) }
         requires left { HasStepsLeft K.script self.old }
@@ -100,7 +98,6 @@ impl<K: Run> Turn<K> {
           made = self.old.made + 1;
           has_yielded = yields;
         }) }
-        ensures memory { IfErr result (λ fault. fault ≡ Fault.Memory) }
         ensures fits { FitsScript K.script self.old.process }
     {
         // The slot is read for the proof alone: reading it tells that the context fits the script.
@@ -112,7 +109,7 @@ impl<K: Run> Turn<K> {
     }
 
     /// Goes on after a step that said its text.
-    pub fn note_said(&mut self, alloc: Global) -> Result<(), Fault>
+    pub fn note_said(&mut self, alloc: Global) -> Result<(), AllocError>
         requires said { (text : List ℕ) × StandsAt K.script self.old.process (say text) }
         requires left { HasStepsLeft K.script self.old }
         ensures noted { IfOk result (λ _. (text : List ℕ) → StandsAt K.script self.old.process (say text)
@@ -122,7 +119,6 @@ impl<K: Run> Turn<K> {
               made = self.old.made + 1;
               has_yielded = false;
             }) }
-        ensures memory { IfErr result (λ fault. fault ≡ Fault.Memory) }
         ensures fits { FitsScript K.script self.old.process }
     {
         let _slot = self.context.slot();

@@ -78,14 +78,23 @@ impl<K: Run> Processor<K> {
     {
         match step {
             Step::Down(_) => unreachable!(),
-            Step::Say(_) => return turn.note_said(alloc),
-            Step::Yield => return turn.note(Note::Yield, true),
+            Step::Say(_) => {
+                turn.note_said(alloc)?;
+                return Ok(());
+            }
+            Step::Yield => {
+                turn.note(Note::Yield, true)?;
+                return Ok(());
+            }
             Step::Up(n) => return self.up(rt, objects, turn, *n),
             Step::OpenFile(inode) => return self.open_file(rt, objects, turn, *inode),
             Step::CloseFile(inode) => return self.close_file(rt, objects, turn, *inode),
             Step::Stat(inode) => return self.stat(rt, objects, turn, *inode),
             Step::Spawn(program) => return self.spawn(rt, alloc, objects, turn, *program),
-            Step::Shutdown => return self.shutdown(objects, turn),
+            Step::Shutdown => {
+                self.shutdown(objects, turn)?;
+                return Ok(());
+            }
         }
     }
 

@@ -22,5 +22,5 @@ pub returns-clause-alone : goal.returns-clause-alone
 returns-clause-alone g c one =
     let left = c.in_ok-left.left in
     let long : length left.items ≡ c.args.processors = omega (arith, left.ok, c.in_ok-left.ensures.len, c.in_ok-opened.ensures.len) in
-    c.report_of_run.ensures.alone (omega (arith, one, long, left.ok))
+    c.in_ok-report_of_run.ensures.alone (omega (arith, one, long, left.ok))
     (left_alone left.items (λ j e below. c.in_ok-left.ensures.left j e (omega (arith, below, left.ok))) long one) (fresh_processor c.in_ok-opened.opened.objects 0 0)

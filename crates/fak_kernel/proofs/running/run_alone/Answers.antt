@@ -17,4 +17,4 @@ report_of_run-requires-clause-left g c i d low =
 pub returns-clause-report : goal.returns-clause-report
 returns-clause-report g c =
     let has = c.in_ok-left.ensures.left in
-    c.report_of_run.ensures.alone c.in_ok-left.ensures.one (λ d. let h = has d in (h.alone refl, h.still refl)) (fresh_processor c.in_ok-opened.opened.objects 0 0)
+    c.in_ok-report_of_run.ensures.alone c.in_ok-left.ensures.one (λ d. let h = has d in (h.alone refl, h.still refl)) (fresh_processor c.in_ok-opened.opened.objects 0 0)

@@ -1,5 +1,4 @@
 use Rattle.fak_processor.proofs.Common.{◌≡◌, ◌∙◌, ap, sym, subst, true, false, rules, [], ◌∷◌, ◌++◌, ℕ, None, spawn, Process, FitsScript, StandsAt, new_process, after_note, child_count, spawned, no_birth, no_slot, Moves}
-use Rattle.std.proofs.lemmas.Result.{IfOk-weaker}
 use Rattle.fak_run.specs.ListScheduler as lists
 use Rattle.fak_processor.proofs.Stepping.{moves_from, moves_to, moves_unborn, moves_slotless, moves_spawned, moves_enters}
 use Rattle.fak_processor.proofs.processor.Processor.spawn.Goals as goal
@@ -10,9 +9,9 @@ returns-then-not-branch-clause-general g c =
     let fits = subst (λ (t : lists.Turn). FitsScript g.K.Run.script t.process) same c.note.ensures.fits in
     let born : c.in_ok-claim_birth.field-0 ≡ false = search rules in
     let unborn = rw born at c.in_ok-claim_birth.ensures.gains in
-    IfOk-weaker c.note.result _ _ (λ _ noted. moves_from c.reserve_halted.ensures.same
-    (moves_to (after_note c.args.turn.now.process no_birth) (ap (λ (t : lists.Turn). t.process) noted ∙ ap (λ (t : lists.Turn). after_note t.process no_birth) same)
-    (moves_unborn unborn.0 c.args.turn.now.process c.args.program fits c.requires.next unborn.1))) c.note.ensures.noted
+    moves_from c.reserve_halted.ensures.same
+    (moves_to (after_note c.args.turn.now.process no_birth) (ap (λ (t : lists.Turn). t.process) c.in_ok-note.ensures.noted ∙ ap (λ (t : lists.Turn). after_note t.process no_birth) same)
+    (moves_unborn unborn.0 c.args.turn.now.process c.args.program fits c.requires.next unborn.1))
 
 pub note-requires-in_default-clause-allowed : goal.note-requires-in_default-clause-allowed
 note-requires-in_default-clause-allowed g c =
@@ -28,9 +27,9 @@ returns-in_default-clause-general g c =
     let claimed = rw born at c.in_ok-claim_birth.ensures.gains in
     let none : c.in_ok-slot.field-0 ≡ None = search rules in
     let slotless = rw none at c.in_ok-slot.ensures.gains in
-    IfOk-weaker c.note-in_default.result _ _ (λ _ noted. moves_from c.reserve_halted.ensures.same
-    (moves_to (after_note c.args.turn.now.process no_slot) (ap (λ (t : lists.Turn). t.process) noted ∙ ap (λ (t : lists.Turn). after_note t.process no_slot) same)
-    (moves_slotless slotless.0 c.args.turn.now.process c.args.program fits c.requires.next claimed slotless.1 c.give_birth_back.ensures.gains))) c.note-in_default.ensures.noted
+    moves_from c.reserve_halted.ensures.same
+    (moves_to (after_note c.args.turn.now.process no_slot) (ap (λ (t : lists.Turn). t.process) c.in_ok-note-2.ensures.noted ∙ ap (λ (t : lists.Turn). after_note t.process no_slot) same)
+    (moves_slotless slotless.0 c.args.turn.now.process c.args.program fits c.requires.next claimed slotless.1 c.give_birth_back.ensures.gains))
 
 pub note-requires-2-clause-allowed : goal.note-requires-2-clause-allowed
 note-requires-2-clause-allowed g c =
@@ -50,8 +49,8 @@ returns-clause-general g c =
     let child_is : c.new-child.result ≡ new_process (x.name ++ child_count x.journal ∷ []) c.args.program c.in-Some.slot =
     c.new-child.ensures ∙ (λ i. new_process (c.in_ok-name.ensures.name i) c.args.program (c.number.ensures.value i)) in
     let entered = subst (λ (q : Process). Moves g.K.Run.script (q ∷ []) [] c.credit.new.self c.enter_ready.new.self) child_is c.in_ok-enter_ready.ensures.general in
-    IfOk-weaker c.note-2.result _ _ (λ _ noted. moves_from c.reserve_halted.ensures.same
+    moves_from c.reserve_halted.ensures.same
     (moves_to (after_note x (spawned (child_count x.journal)))
-    (ap (λ (t : lists.Turn). t.process) noted ∙ (ap (λ (t : lists.Turn). after_note t.process (spawned c.children-number.result)) same ∙ ap (λ (n : ℕ). after_note x (spawned n)) number_is))
+    (ap (λ (t : lists.Turn). t.process) c.in_ok-note-3.ensures.noted ∙ (ap (λ (t : lists.Turn). after_note t.process (spawned c.children-number.result)) same ∙ ap (λ (n : ℕ). after_note x (spawned n)) number_is))
     (moves_enters (after_note x (spawned (child_count x.journal))) (new_process (x.name ++ child_count x.journal ∷ []) c.args.program c.in-Some.slot)
-    (moves_spawned got.0 x c.args.program c.in-Some.slot fits c.requires.next claimed got.1 c.in_ok-credit.ensures.gains) entered))) c.note-2.ensures.noted
+    (moves_spawned got.0 x c.args.program c.in-Some.slot fits c.requires.next claimed got.1 c.in_ok-credit.ensures.gains) entered))
