@@ -170,6 +170,7 @@ impl<K: Run> Context<K> {
         ensures noted { IfOk result (λ _. (text : List ℕ) → StandsAt K.script self.old (say text)
             → self.new ≡ after_note self.old (said text)) }
     {
+        // For the proof alone: a slice tells that the journal is not longer than memory.
         let _made = self.journal.as_slice();
         self.journal.push(Note::Say(String::new(alloc)))?;
         self.position += 1;

@@ -225,7 +225,7 @@ fn open_semaphore<K: Run>(
     }
 }
 
-/// A row with no seat for each processor.
+/// A row with no seat for each processor. The stint is for the proof alone.
 fn empty_rows<K: Run>(
     alloc: Global,
     _stint: u64,

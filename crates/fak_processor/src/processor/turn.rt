@@ -121,6 +121,7 @@ impl<K: Run> Turn<K> {
             }) }
         ensures fits { FitsScript K.script self.old.process }
     {
+        // The slot is read for the proof alone: reading it tells that the context fits the script.
         let _slot = self.context.slot();
         self.context.note_said(alloc)?;
         self.made += 1;
