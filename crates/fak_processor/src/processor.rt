@@ -70,6 +70,10 @@ impl<K: Run> Model for Processor<K> {
 
 impl<K: Run> Processor<K> {
     /// One process more is ready or runs.
+    ///
+    /// # Errors
+    ///
+    /// `Worn`, where the seat at the count has no calls left.
     pub fn credit(&mut self, objects: &Objects<K>) -> Result<(), Fault>
         requires objects { AreOf objects.now self.old }
         ensures objects { AreOf objects.now self.new }
@@ -87,6 +91,10 @@ impl<K: Run> Processor<K> {
     }
 
     /// One process fewer is ready or runs.
+    ///
+    /// # Errors
+    ///
+    /// `Worn`, where the seat at the count has no calls left.
     pub fn debit(&mut self, objects: &Objects<K>) -> Result<(), Fault>
         requires objects { AreOf objects.now self.old }
         ensures objects { AreOf objects.now self.new }

@@ -96,6 +96,10 @@ fn told_to_rows(
 }
 
 /// The report of a run of this script, whose said texts were left out.
+///
+/// # Errors
+///
+/// `Memory` alone.
 pub fn told_in_full(alloc: Global, script: &Script, brief: Report) -> Result<Report, Fault>
     ensures told { IfOk result (λ report. report_of report ≡ told_report script.now (report_of brief)) }
     ensures memory { IfErr result (λ fault. fault ≡ Fault.Memory) }

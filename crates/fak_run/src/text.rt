@@ -63,6 +63,10 @@ fn add_row(text: &mut String, row: &ProcessRow) -> Result<(), AllocError>
 }
 
 /// The text of a report whose said texts were left out: they are read in the script.
+///
+/// # Errors
+///
+/// `Memory` alone.
 pub fn print_brief(alloc: Global, script: &Script, brief: &Report) -> Result<Printed, Fault>
     ensures text { IfOk result (λ printed. printed.text.items ≡ text_of_report
         (told_report script.now (report_of brief.now))) }

@@ -14,7 +14,11 @@ use fak_count::TirFault;
 use fak_run::{Fault, Run};
 
 impl<K: Run> Processor<K> {
-    /// Claims a birth, if there is one left. `Worn` where the seat has no claims left.
+    /// Claims a birth, if there is one left.
+    ///
+    /// # Errors
+    ///
+    /// `Worn`, where the seat has no claims left.
     pub fn claim_birth(&mut self, objects: &Objects<K>) -> Result<bool, Fault>
         requires objects { AreOf objects.now self.old }
         ensures objects { AreOf objects.now self.new }

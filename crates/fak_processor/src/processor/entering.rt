@@ -17,6 +17,10 @@ use fak_run::Fault;
 use std::sync::Wait;
 
 /// Inserts the item, tried again where the queue is full. Where the queue is shut the item comes back.
+///
+/// # Errors
+///
+/// `Worn`, where the seat has no calls left.
 pub fn enter<T: Drop, R: Wait>(
     queue: &Queue<T>,
     rt: &R,
@@ -45,6 +49,10 @@ pub fn enter<T: Drop, R: Wait>(
 
 /// Inserts the item, tried again where the queue is full or shut. Nobody shuts the free queue, but what a seat knows of
 /// a queue is its own marks and what it has seen of the others', so no call can say it.
+///
+/// # Errors
+///
+/// `Worn`, where the seat has no calls left.
 pub fn put<T: Drop, R: Wait>(
     queue: &Queue<T>,
     rt: &R,
@@ -74,6 +82,10 @@ pub fn put<T: Drop, R: Wait>(
 }
 
 /// Deletes the oldest item, if there is one.
+///
+/// # Errors
+///
+/// `Worn`, where the seat has no calls left.
 pub fn take<T: Drop, R: Wait>(
     queue: &Queue<T>,
     rt: &R,

@@ -53,6 +53,10 @@ impl Files {
     }
 
     /// Opens an inode, in a writer's hold of its own.
+    ///
+    /// # Errors
+    ///
+    /// `Worn`, where the seat at the table has no holds left.
     pub fn open_shared<R: Wait>(
         &mut self,
         rt: &R,
@@ -85,6 +89,10 @@ impl Files {
     }
 
     /// Closes an inode, in a writer's hold of its own.
+    ///
+    /// # Errors
+    ///
+    /// `Worn`, where the seat at the table has no holds left.
     pub fn close_shared<R: Wait>(
         &mut self,
         rt: &R,
@@ -117,6 +125,10 @@ impl Files {
     }
 
     /// The uses of an inode, in a reader's hold of its own.
+    ///
+    /// # Errors
+    ///
+    /// `Worn`, where the seat at the table has no holds left.
     pub fn uses_shared<R: Wait>(
         &mut self,
         rt: &R,

@@ -20,7 +20,11 @@ use std::alloc::AllocError;
 use std::sync::Wait;
 
 impl<K: Run> Processor<K> {
-    /// The front of the ready queue gets the processor. `Worn` where the seat at the queue has no calls left.
+    /// The front of the ready queue gets the processor.
+    ///
+    /// # Errors
+    ///
+    /// `Worn`, where the seat at the queue has no calls left.
     pub fn take_front<R: Wait>(
         &mut self,
         rt: &R,
@@ -50,6 +54,10 @@ impl<K: Run> Processor<K> {
     }
 
     /// A process becomes ready, or halts where the ready queue is shut.
+    ///
+    /// # Errors
+    ///
+    /// `Memory` or `Worn`, in this order.
     pub fn enter_ready<R: Wait>(
         &mut self,
         rt: &R,
@@ -78,6 +86,10 @@ impl<K: Run> Processor<K> {
     }
 
     /// A process ends, and its slot goes to the back of the free ones.
+    ///
+    /// # Errors
+    ///
+    /// `Memory` or `Worn`, in this order.
     pub fn end<R: Wait>(
         &mut self,
         rt: &R,
@@ -100,7 +112,11 @@ impl<K: Run> Processor<K> {
         Ok(())
     }
 
-    /// The front of the free slots is taken. `Worn` where the seat at the slots has no calls left.
+    /// The front of the free slots is taken.
+    ///
+    /// # Errors
+    ///
+    /// `Worn`, where the seat at the slots has no calls left.
     pub fn take_slot<R: Wait>(
         &mut self,
         rt: &R,

@@ -15,6 +15,10 @@ use std::sync::Wait;
 
 impl<K: Run> Processor<K> {
     /// A down: the sleeper passes, or it is parked.
+    ///
+    /// # Errors
+    ///
+    /// `Worn`, where the seat at the semaphore has no calls left.
     pub fn pass_or_park<R: Wait>(
         &mut self,
         rt: &R,
@@ -44,6 +48,10 @@ impl<K: Run> Processor<K> {
     }
 
     /// An up: the first sleeper wakes, or the count rises.
+    ///
+    /// # Errors
+    ///
+    /// `Worn`, where the seat at the semaphore has no calls left.
     pub fn wake<R: Wait>(
         &mut self,
         rt: &R,
