@@ -1,8 +1,10 @@
 -- Each kind of event of a turn keeps what balances.
 use Rattle.fak_model.proofs.Leading.{sum_none}
-use Rattle.fak_processor.proofs.Common.{child_of, next_step, RowOf, MovesNoItem, ◌≡◌, ℕ, ◌+◌, ◌<◌, ◌==◌, Bool, true, false, cond, List, [], ◌∷◌, ◌++◌, length, refl, ap, sym, ◌∙◌, subst, arith, None, sum_by, All, nat_tests, sum_by-append, All-nil, All-cons, sum_below, debit_weight, credit_weight, up_amount, release_amount, put_of, got_of, close_of, closed_of, refusal_of, other_amount, Kind, Debit, Credit, cond_here, cond_else, kinds_in, kinds_out, ScriptOf, StepOf, down, up, spawn, shutdown, NoteOf, downed, upped, spawned, no_birth, no_slot, shut_down, Process, child_count, after_note, FitsScript, Ledger, Made, Balanced, IsMade, FitsRow, nothing, not_before, its_down, before_down}
+use Rattle.fak_processor.proofs.Common.{child_of, next_step, RowOf, MovesNoItem, ◌≡◌, ℕ, ◌+◌, ◌<◌, ◌==◌, Bool, true, false, cond, List, [], ◌∷◌, ◌++◌, length, refl, ap, sym, ◌∙◌, subst, arith, None, sum_by, All, nat_tests, sum_by-append, All-nil, All-cons, sum_below, debit_weight, credit_weight, up_amount, release_amount, put_of, got_of, close_of, closed_of, refusal_of, other_amount, Kind, CreditKind, Debit, Credit, cond_here, cond_else, kinds_in, kinds_out, ScriptOf, StepOf, down, up, spawn, shutdown, NoteOf, downed, upped, spawned, no_birth, no_slot, shut_down, Process, child_count, after_note, FitsScript, Ledger, Made, Balanced, IsMade, FitsRow, nothing, not_before, its_down, before_down}
 use Rattle.fak_processor.specs.Events.{made_of, IsPlain, fills, takes, puts, halts, steps, passes, parks, adds, wakes, spawns, lacks_birth, lacks_slot, ends, waits_refused, shuts, closed, refused_claim}
 use Rattle.fak_processor.proofs.Moving.{quiet_empty, idle_closed}
+use Rattle.fak_text.specs.Journal.{births_of}
+use Rattle.fak_run.specs.Ledger.{child, downs_of, ups_of, shuts_of, no_births_of, no_slots_of}
 use Rattle.fak_run.proofs.Sums.{sum_at}
 
 -- no wait queue
@@ -54,6 +56,14 @@ record RefusedClaimWeighs (late : Bool) : Type 0 where
 refused_claim_weighs : (late : Bool) → RefusedClaimWeighs late
 refused_claim_weighs true = record { ups = refl; releases = refl; refusals = refl; others = refl }
 refused_claim_weighs false = record { ups = refl; releases = refl; refusals = refl; others = refl }
+
+-- a note that counts at semaphores, if anywhere
+record CountsNowhereElse (step : StepOf) (note : NoteOf) : Type 0 where
+  pub childless : (name : List ℕ) → child name step note ≡ []
+  pub births : births_of note ≡ 0
+  pub no_births : no_births_of note ≡ 0
+  pub no_slots : no_slots_of note ≡ 0
+  pub shuts : shuts_of note ≡ 0
 
 module _ (script : ScriptOf) (n : ℕ) where
   -- nothing was done
@@ -134,39 +144,35 @@ module _ (script : ScriptOf) (n : ℕ) where
     rows = one_row _ (record { process = fits; stands = tt });
   }
 
-  -- a plain step
-  pub keeps_steps : (p : Process) (step : StepOf) (note : NoteOf) → IsMade script (made_of p step note) → IsPlain step note → Balanced script n (p ∷ []) (after_note p note ∷ []) (steps p step note)
-  keeps_steps p step note is plain = record {
+  -- a step of which only the counts of semaphores hear
+  by_credits : {p : Process} {step : StepOf} {note : NoteOf} (credits : ℕ → List CreditKind) → IsMade script (made_of p step note) → CountsNowhereElse step note
+      → ((s : ℕ) → downs_of s note ≡ sum_by debit_weight (credits s)) → ((s : ℕ) → ups_of s note ≡ sum_by credit_weight (credits s))
+      → Balanced script n (p ∷ []) (after_note p note ∷ []) (record nothing { credits = credits; made = made_of p step note ∷ [] })
+  by_credits {p = p} credits is rest downs ups = record {
     processes = λ f. omega (arith, none_waits n);
     slots = quiet.slots;
-    children = λ g. sym (ap (λ c. 0 + sum_by g c) (plain.childless p.name));
+    children = λ g. sym (ap (λ c. 0 + sum_by g c) (rest.childless p.name));
     new = quiet.new;
-    births = record { ups = omega (arith, plain.births, plain.no_slots); releases = omega (arith, plain.no_slots); refusals = omega (arith, plain.no_births); ones = quiet.births.ones };
+    births = record { ups = omega (arith, rest.births, rest.no_slots); releases = omega (arith, rest.no_slots); refusals = omega (arith, rest.no_births); ones = quiet.births.ones };
     busy = quiet.busy;
-    semaphores = record { downs = λ s below. omega (arith, plain.downs s, none_waits n); upped = λ s below. omega (arith, plain.ups s); parked = quiet.semaphores.parked };
-    shutdown = record { shuts = omega (arith, plain.shuts); halts = quiet.shutdown.halts; no_stuck = quiet.shutdown.no_stuck };
+    semaphores = record { downs = λ s below. omega (arith, downs s, none_waits n); upped = λ s below. omega (arith, ups s); parked = quiet.semaphores.parked };
+    shutdown = record { shuts = omega (arith, rest.shuts); halts = quiet.shutdown.halts; no_stuck = quiet.shutdown.no_stuck };
     made = one_made _ is;
     rows = quiet.rows;
   }
 
+  -- a plain step
+  pub keeps_steps : (p : Process) (step : StepOf) (note : NoteOf) → IsMade script (made_of p step note) → IsPlain step note → Balanced script n (p ∷ []) (after_note p note ∷ []) (steps p step note)
+  keeps_steps p step note is plain =
+      by_credits (λ s. []) is (record { childless = plain.childless; births = plain.births; no_births = plain.no_births; no_slots = plain.no_slots; shuts = plain.shuts }) plain.downs plain.ups
+
   -- a down passes
   pub keeps_passes : (s : ℕ) (p : Process) → IsMade script (made_of p (down s) (downed s)) → Balanced script n (p ∷ []) (after_note p (downed s) ∷ []) (passes s p)
-  keeps_passes s p is = record {
-    processes = λ f. omega (arith, none_waits n);
-    slots = quiet.slots;
-    children = λ g. refl;
-    new = quiet.new;
-    births = record { ups = omega arith; releases = omega arith; refusals = omega arith; ones = quiet.births.ones };
-    busy = quiet.busy;
-    semaphores = record { downs = λ t below. by_test (s == t); upped = λ t below. by_ups (s == t); parked = quiet.semaphores.parked };
-    shutdown = record { shuts = omega arith; halts = quiet.shutdown.halts; no_stuck = quiet.shutdown.no_stuck };
-    made = one_made _ is;
-    rows = quiet.rows;
-  }
+  keeps_passes s p is = by_credits (λ t. cond (s == t) (Debit ∷ []) []) is (record { childless = λ name. refl; births = refl; no_births = refl; no_slots = refl; shuts = refl }) (λ t. by_test (s == t)) (λ t. by_ups (s == t))
     where
-      by_test : (b : Bool) → 0 + cond b 1 0 + 0 ≡ sum_by debit_weight (cond b (Debit ∷ []) []) + sum_below (λ (u : ℕ). 0) n
-      by_test true = omega (arith, none_waits n)
-      by_test false = omega (arith, none_waits n)
+      by_test : (b : Bool) → cond b 1 0 ≡ sum_by debit_weight (cond b (Debit ∷ []) [])
+      by_test true = omega arith
+      by_test false = omega arith
 
       by_ups : (b : Bool) → ◌≡◌ {A = ℕ} 0 (sum_by credit_weight (cond b (Debit ∷ []) []))
       by_ups true = omega arith
@@ -201,24 +207,13 @@ module _ (script : ScriptOf) (n : ℕ) where
 
   -- an up wakes nobody
   pub keeps_adds : (s : ℕ) (p : Process) → IsMade script (made_of p (up s) (upped s)) → Balanced script n (p ∷ []) (after_note p (upped s) ∷ []) (adds s p)
-  keeps_adds s p is = record {
-    processes = λ f. omega (arith, none_waits n);
-    slots = quiet.slots;
-    children = λ g. refl;
-    new = quiet.new;
-    births = record { ups = omega arith; releases = omega arith; refusals = omega arith; ones = quiet.births.ones };
-    busy = quiet.busy;
-    semaphores = record { downs = λ t below. by_test (s == t); upped = λ t below. by_ups (s == t); parked = quiet.semaphores.parked };
-    shutdown = record { shuts = omega arith; halts = quiet.shutdown.halts; no_stuck = quiet.shutdown.no_stuck };
-    made = one_made _ is;
-    rows = quiet.rows;
-  }
+  keeps_adds s p is = by_credits (λ t. cond (s == t) (Credit ∷ []) []) is (record { childless = λ name. refl; births = refl; no_births = refl; no_slots = refl; shuts = refl }) (λ t. by_test (s == t)) (λ t. by_ups (s == t))
     where
-      by_test : (b : Bool) → ◌≡◌ {A = ℕ} 0 (sum_by debit_weight (cond b (Credit ∷ []) []) + sum_below (λ (u : ℕ). 0) n)
-      by_test true = omega (arith, none_waits n)
-      by_test false = omega (arith, none_waits n)
+      by_test : (b : Bool) → ◌≡◌ {A = ℕ} 0 (sum_by debit_weight (cond b (Credit ∷ []) []))
+      by_test true = omega arith
+      by_test false = omega arith
 
-      by_ups : (b : Bool) → 0 + cond b 1 0 ≡ sum_by credit_weight (cond b (Credit ∷ []) [])
+      by_ups : (b : Bool) → cond b 1 0 ≡ sum_by credit_weight (cond b (Credit ∷ []) [])
       by_ups true = omega arith
       by_ups false = omega arith
 
