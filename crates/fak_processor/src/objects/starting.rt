@@ -146,10 +146,8 @@ impl<K: Run> Processor<K> {
     {
         let backoff = Backoff::new();
         for _ in rt.forever() {
-            match self.take_slot(rt, objects) {
-                Ok(Some(slot)) => return Ok(slot),
-                Err(fault) => return Err(fault),
-                Ok(None) => {}
+            if let Some(slot) = self.take_slot(rt, objects)? {
+                return Ok(slot);
             }
             backoff.snooze();
         }

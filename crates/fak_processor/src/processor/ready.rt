@@ -134,11 +134,7 @@ impl<K: Run> Processor<K> {
         ensures worn { IfErr result (λ fault. fault ≡ Fault.Worn) }
         ensures spent { IfErr result (λ _. IsSpent self.new.free) }
     {
-        match take(&objects.free, rt, &mut self.free) {
-            Err(fault) => return Err(fault),
-            Ok(None) => return Ok(None),
-            Ok(Some(slot)) => return Ok(Some(slot)),
-        }
+        take(&objects.free, rt, &mut self.free)
     }
 
     /// The ready queue is shut.

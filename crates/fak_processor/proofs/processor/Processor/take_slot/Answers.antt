@@ -1,12 +1,7 @@
-use Rattle.fak_processor.proofs.Moving.{gains_free}
+use Rattle.std.proofs.lemmas.Result.{IfOk-weaker}
+use Rattle.fak_processor.proofs.Moving.{gains_taken}
 use Rattle.fak_processor.proofs.processor.Processor.take_slot.Goals as goal
 
-pub returns-in-Ok-None-clause-gains : goal.returns-in-Ok-None-clause-gains
-returns-in-Ok-None-clause-gains g c =
-    let e = rw c.in-Ok-None.field-0-is at c.in-Ok-None.ensures.grows in
-    rw (← c.self.view_is) (e.late, gains_free _ _ c.objects.invariant.1.free e.grows)
-
-pub returns-in-Ok-Some-clause-gains : goal.returns-in-Ok-Some-clause-gains
-returns-in-Ok-Some-clause-gains g c =
-    let e = rw c.in-Ok-Some.field-0-is at c.in-Ok-Some.ensures.grows in
-    rw (← c.self.view_is) (e.ticket, gains_free _ _ c.objects.invariant.1.free e.grows)
+pub returns-clause-gains : goal.returns-clause-gains
+returns-clause-gains g c =
+    rw (← c.self.view_is) (IfOk-weaker c.take.result _ _ (λ slot grows. gains_taken g.K.Run.script _ c.take.new.seat slot c.objects.invariant.1.free grows) c.take.ensures.grows)
