@@ -1,4 +1,6 @@
 -- What the calls of a queue core learn from its fields, and from the values that they read.
+use Rattle.std.proofs.lemmas.Grind.{common_steps}
+use Rattle.std.proofs.Common.{arith}
 use Rattle.std.proofs.lemmas.List.{append-nil, reverse-reverse}
 use Rattle.fak_model.proofs.Reversing.{reverse_cons}
 use Rattle.fak_model.proofs.QueueBackwards.{item_same, items_push}
@@ -23,10 +25,7 @@ item_at_is (x ∷ xs) (suc k) = item_at_is xs k
 
 -- the items put tell the item of the next deletion's ticket
 pub drawn_is : (f : QueueFields) (items : List ℕ) → IsSoundWith f items → slice_get items f.draws_out ≡ item_of f.past f.draws_out
-drawn_is f items h =
-    ap (λ xs. slice_get xs f.draws_out) h.put
-    ∙ (item_at_is (items_put (history_of f)) f.draws_out
-    ∙ (item_same f.draws_out (history_of f) ∙ ap (λ p. item_of p f.draws_out) (reverse-reverse f.past)))
+drawn_is f items h = grind (arith, common_steps, slice_get, item_at_is, items_put, history_of, item_same, item_of, reverse-reverse)
 
 -- a step depends on the words, and on no other seat
 words_tell : (f : QueueFields) (d : Option ℕ) (p : Phase ℕ) → move_by f.size (queue_state (record f { phases = []; past = [] })) d p ≡ move_by f.size (queue_state f) d p
@@ -36,9 +35,7 @@ words_tell f d _ = refl
 -- the step that the code finds
 pub step_found : (f : QueueFields) (items : List ℕ) (i : ℕ) (p : Phase ℕ) (d : Option ℕ) (o : Option (QueueMove ℕ)) → IsSoundWith f items → i < length f.phases → p ≡ get_or f.phases i p
     → d ≡ slice_get items f.draws_out → o ≡ move_by f.size (queue_state (record f { phases = []; past = [] })) d p → step_of f i ≡ or_idle o
-step_found f items i p d o h within at drawn is =
-    ap (phase_step f) (slice_get_read f.phases _ i p refl within at)
-    ∙ ap or_idle (ap (λ e. move_by f.size (queue_state f) e p) (sym (drawn ∙ drawn_is f items h)) ∙ (sym (words_tell f d p) ∙ sym is))
+step_found f items i p d o h within at drawn is = grind (arith, common_steps, phase_step, slice_get_read, or_idle, move_by, queue_state, drawn_is, words_tell)
 
 -- ---- what the code writes
 
@@ -61,10 +58,7 @@ written_same f _ phases past = refl
 -- the fields that the code leaves
 pub step_left : (f w : QueueFields) (i : ℕ) (m : QueueMove ℕ) (past : List (Mark ℕ)) → w ≡ written_fields (record f { phases = []; past = [] }) m.write → past ≡ past_after i m.mark f.past
     → record w { phases = slice_set f.phases i m.phase; past = past } ≡ moved_fields f i m
-step_left f w i m past is more =
-    let seats = slice_set f.phases i m.phase in
-    ap (λ (g : QueueFields). record g { phases = seats; past = past }) is
-    ∙ (written_same f m.write seats past ∙ ap (λ (h : List (Mark ℕ)). record (written_fields f m.write) { phases = seats; past = h }) more)
+step_left f w i m past is more = grind (arith, common_steps, slice_set, written_same, written_fields)
 
 pub step_sound : (f : QueueFields) (items items' : List ℕ) (i : ℕ) (m : QueueMove ℕ) → IsSoundWith f items → step_of f i ≡ Ok m → items' ≡ items ++ item_left m.mark → IsSoundWith (moved_fields f i m) items'
 step_sound f items items' i m h e is = record {

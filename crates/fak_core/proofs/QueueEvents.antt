@@ -1,8 +1,9 @@
 -- What an event changes of the cells' turns and of who holds them.
+use Rattle.std.proofs.lemmas.Grind.{common_steps}
 use Rattle.fak_core.specs.QueueProgress.{steps_left, steps_made, HoldsTicketOf, seat_of}
 use Rattle.fak_core.specs.QueueSchedule.{QueueEvent, Inserts, Deletes, Shuts, Advances, begun, happens, move_from, stepped}
 use Rattle.fak_core.proofs.Common.{Phase, Idle, TestUp, AddUp, TurnIn, StoreItem, SetFull, EndInsert, TestLow, SubLow, TicketOut, TurnOut, LoadItem, SetFree, EndDelete, SetShut, QueueMove, QueueState, with_at, moved, written, ticket_out, next_move, ◌≡◌, ◌≢◌, ◌⊎◌, ℕ, ◌+◌, ◌*◌, ◌/◌, ◌%◌, ◌<◌, ◌≤◌, ◌==◌, int_lt, pos, Option, None, Some, refl, sym, ap, ◌∙◌, subst, inl, inr, arith, same_or_not, item_of}
-use Rattle.fak_core.proofs.QueueKept.{IsReady, shown, IsKept}
+use Rattle.fak_core.proofs.QueueKept.{shown, IsKept}
 use Rattle.fak_core.proofs.QueueTurns.{at_here, at_same, at_else, by_place}
 use Rattle.fak_core.proofs.QueueOwners.{filling, emptying}
 use Rattle.fak_core.proofs.QueueSteps.{by_test}
@@ -47,12 +48,8 @@ out_stays n None = omega arith
 out_stays n (Some x) = omega arith
 
 never_rises : {A : Type 0} (size : ℕ) (st : QueueState A) (p : Phase A) → steps_left (after_phase p (next_move size st p)) ≤ steps_left p
-never_rises {A} size st (TestUp x) =
-    by_test (λ (m : QueueMove A). steps_left m.phase ≤ 7) st.shut _ _ (λ _. omega arith)
-    (λ _. by_test (λ (m : QueueMove A). steps_left m.phase ≤ 7) (int_lt st.upper (pos size)) _ _ (λ _. omega arith) (λ _. omega arith))
-never_rises {A} size st (AddUp x) =
-    by_test (λ (m : QueueMove A). steps_left m.phase ≤ 6) st.shut _ _ (λ _. omega arith)
-    (λ _. by_test (λ (m : QueueMove A). steps_left m.phase ≤ 6) (int_lt st.upper (pos size)) _ _ (λ _. omega arith) (λ _. omega arith))
+never_rises {A} size st (TestUp x) = grind (arith, common_steps, by_test, steps_left, int_lt, pos)
+never_rises {A} size st (AddUp x) = grind (arith, common_steps, by_test, steps_left, int_lt, pos)
 never_rises {A} size st (TurnIn k x) = by_test (λ (m : QueueMove A). steps_left m.phase ≤ 4) (st.turn (k % size) == 2 * (k / size)) _ _ (λ _. omega arith) (λ _. omega arith)
 never_rises {A} size st TestLow = by_test (λ (m : QueueMove A). steps_left m.phase ≤ 7) (int_lt (pos 0) st.lower) _ _ (λ _. omega arith) (λ _. omega arith)
 never_rises {A} size st SubLow = by_test (λ (m : QueueMove A). steps_left m.phase ≤ 6) (int_lt (pos 0) st.lower) _ _ (λ _. omega arith) (λ _. omega arith)
@@ -71,24 +68,15 @@ out_turn st n c (Some x) = omega arith
 
 turn_step : {A : Type 0} (size : ℕ) (st : QueueState A) (s c : ℕ) (p : Phase A) → 0 < size → IsKept size st → st.phase s ≡ p → st.turn c ≤ (move_from size st s p).turn c
 turn_step size st s c Idle z K e = omega arith
-turn_step {A} size st s c (TestUp x) z K e =
-    by_test (λ (m : QueueMove A). st.turn c ≤ (moved st s m).turn c) st.shut _ _ (λ _. omega arith)
-    (λ _. by_test (λ (m : QueueMove A). st.turn c ≤ (moved st s m).turn c) (int_lt st.upper (pos size)) _ _ (λ _. omega arith) (λ _. omega arith))
-turn_step {A} size st s c (AddUp x) z K e =
-    by_test (λ (m : QueueMove A). st.turn c ≤ (moved st s m).turn c) st.shut _ _ (λ _. omega arith)
-    (λ _. by_test (λ (m : QueueMove A). st.turn c ≤ (moved st s m).turn c) (int_lt st.upper (pos size)) _ _ (λ _. omega arith) (λ _. omega arith))
+turn_step {A} size st s c (TestUp x) z K e = grind (arith, common_steps, by_test, moved, int_lt, pos)
+turn_step {A} size st s c (AddUp x) z K e = grind (arith, common_steps, by_test, moved, int_lt, pos)
 turn_step {A} size st s c (TurnIn k x) z K e = by_test (λ (m : QueueMove A). st.turn c ≤ (moved st s m).turn c) (st.turn (k % size) == 2 * (k / size)) _ _ (λ _. omega arith) (λ _. omega arith)
 turn_step {A} size st s c TestLow z K e = by_test (λ (m : QueueMove A). st.turn c ≤ (moved st s m).turn c) (int_lt (pos 0) st.lower) _ _ (λ _. omega arith) (λ _. omega arith)
 turn_step {A} size st s c SubLow z K e = by_test (λ (m : QueueMove A). st.turn c ≤ (moved st s m).turn c) (int_lt (pos 0) st.lower) _ _ (λ _. omega arith) (λ _. omega arith)
 turn_step size st s c TicketOut z K e = out_turn st st.draws_out c (item_of st.past st.draws_out)
 turn_step {A} size st s c (TurnOut k) z K e = by_test (λ (m : QueueMove A). st.turn c ≤ (moved st s m).turn c) (st.turn (k % size) == 2 * (k / size) + 1) _ _ (λ _. omega arith) (λ _. omega arith)
-turn_step size st s c (SetFull k x) z K e =
-    let r : IsReady size st.past st.cell (SetFull k x) = subst (IsReady size st.past st.cell) e (K.ready s) in
-    let now = filling size st s k x z K (sym (K.phases s) ∙ ap shown e) r.0 in
-    by_place (λ n. st.turn c ≤ n) st.turn (k % size) c (2 * (k / size) + 1) (λ q. omega (arith, ap st.turn q)) (λ n. omega arith)
-turn_step size st s c (SetFree k) z K e =
-    let now = emptying size st s k K (sym (K.phases s) ∙ ap shown e) (subst (IsReady size st.past st.cell) e (K.ready s)) in
-    by_place (λ n. st.turn c ≤ n) st.turn (k % size) c (2 * (k / size) + 2) (λ q. omega (arith, ap st.turn q)) (λ n. omega arith)
+turn_step size st s c (SetFull k x) z K e = grind (arith, common_steps, filling, shown, by_place)
+turn_step size st s c (SetFree k) z K e = grind (arith, common_steps, emptying, shown, by_place)
 turn_step size st s c _ z K e = omega arith
 
 pub turn_event : {A : Type 0} (size : ℕ) (st : QueueState A) (e : QueueEvent A) (c : ℕ) → 0 < size → IsKept size st → st.turn c ≤ (happens size st e).turn c
@@ -128,10 +116,7 @@ pub own_or_same : {A : Type 0} (size : ℕ) (st : QueueState A) (e : QueueEvent 
 own_or_same size st (Inserts u x) t n = inr (begun_open st u t (TestUp x) (st.phase u) refl n)
 own_or_same size st (Deletes u) t n = inr (begun_open st u t TestLow (st.phase u) refl n)
 own_or_same size st (Shuts u) t n = inr (begun_open st u t SetShut (st.phase u) refl n)
-own_or_same size st (Advances u) t n = elim (same_or_not t u) [
-  | inl q ↦ inl (ap (λ i. Advances i) (sym q))
-  | inr ne ↦ inr (step_else st u t (next_move size st (st.phase u)) ne)
-]
+own_or_same size st (Advances u) t n = grind (arith, common_steps, same_or_not, step_else, next_move)
 
 -- another seat's event leaves it where it stands
 pub other_same : {A : Type 0} (size : ℕ) (st : QueueState A) (e : QueueEvent A) (t : ℕ) → t ≢ seat_of e → (happens size st e).phase t ≡ st.phase t
@@ -141,13 +126,7 @@ other_same size st (Shuts u) t n = begun_else st u t SetShut (st.phase u) n
 other_same size st (Advances u) t n = step_else st u t (next_move size st (st.phase u)) n
 
 pub goes_on_event : {A : Type 0} (size : ℕ) (st : QueueState A) (e : QueueEvent A) (t c v : ℕ) → 0 < size → IsKept size st → HoldsTurn size st t c v → GoesOn size (happens size st e) t c v
-goes_on_event size st e t c v z K h = elim (own_or_same size st e t (holds_open size (st.phase t) c h.0)) [
-  | inl own ↦ subst (λ d. GoesOn size (happens size st d) t c v) (sym own) (own_step size st t c v (st.phase t) z K refl h.0 h.1)
-  | inr same ↦ inl (holds_same size st (happens size st e) t c v same h)
-]
+goes_on_event size st e t c v z K h = grind (arith, common_steps, own_or_same, holds_open, happens, own_step, holds_same)
 
 pub no_more_event : {A : Type 0} (size : ℕ) (st : QueueState A) (e : QueueEvent A) (t : ℕ) → st.phase t ≢ Idle → steps_left ((happens size st e).phase t) ≤ steps_left (st.phase t)
-no_more_event size st e t n = elim (own_or_same size st e t n) [
-  | inl own ↦ subst (λ d. steps_left ((happens size st d).phase t) ≤ steps_left (st.phase t)) (sym own) (step_no_more size st t)
-  | inr same ↦ omega (arith, ap steps_left same)
-]
+no_more_event size st e t n = grind (arith, common_steps, own_or_same, steps_left, happens, step_no_more)

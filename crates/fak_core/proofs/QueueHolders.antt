@@ -1,4 +1,5 @@
 -- How many seats hold tickets at once, and so how many turns of a cell are still to come.
+use Rattle.std.proofs.lemmas.Grind.{common_steps}
 use Rattle.std.specs.Prelude.{min}
 use Rattle.fak_model.proofs.Leading.{sum_le}
 use Rattle.fak_model.proofs.QueueCounts.{seat_bound}
@@ -35,10 +36,7 @@ few_values w g n low m each = omega (arith, seats_for w g n low m each, sum_le (
 
 -- who holds a ticket is one of the seats
 pub below : {A : Type 0} (size seats : ℕ) (st : QueueState A) (s c : ℕ) → AreIdleFrom seats st → HoldsTicketOf size (st.phase s) c → s < seats
-below size seats st s c idle h = elim (le_or_lt seats s) [
-  | inl b ↦ absurd (holds_open size (st.phase s) c h (idle s b))
-  | inr l ↦ l
-]
+below size seats st s c idle h = grind (arith, common_steps, le_or_lt, holds_open)
 
 holds_drawn : {A : Type 0} (size : ℕ) (p : Phase A) (c : ℕ) → HoldsTicketOf size p c → in_drawn (shown p) ≡ 1
 holds_drawn size (TurnIn k x) c h = refl

@@ -1,5 +1,7 @@
 -- A deletion loads the item of the Put with its own ticket.
-use Rattle.fak_core.proofs.Common.{◌≡◌, ℕ, List, [], ◌∷◌, ◌++◌, Some, reverse, refl, sym, ap, ◌∙◌, subst, inl, inr, IsSome, reverse-reverse, gots, item_at, items_put, Drew, stage, item_of, MayFollow, IsLegalPast, Got, Mark, Getting, item_stays, LoadItem, TicketOut, LoadsItsItem}
+use Rattle.std.proofs.lemmas.Grind.{common_steps}
+use Rattle.std.proofs.Common.{arith}
+use Rattle.fak_core.proofs.Common.{◌≡◌, ℕ, List, [], ◌∷◌, ◌++◌, Some, reverse, sym, ap, ◌∙◌, subst, inl, inr, IsSome, reverse-reverse, gots, item_at, items_put, Drew, stage, item_of, MayFollow, IsLegalPast, Got, Mark, Getting, item_stays, LoadItem, TicketOut, LoadsItsItem}
 use Rattle.fak_model.proofs.QueueStages.{after_getting}
 use Rattle.fak_model.proofs.QueueBackwards.{item_same, last_of, drew}
 use Rattle.fak_core.specs.QueueMoves.{QueueState, history_of}
@@ -40,7 +42,4 @@ loads_own {A} size st s k K e =
 
 -- a deletion that is granted draws a ticket under which an item was put
 pub draws_item : {A : Type 0} (size : ℕ) (st : QueueState A) (s : ℕ) → IsKept size st → st.phase s ≡ TicketOut → IsSome (item_at (items_put (history_of st)) st.draws_out)
-draws_item size st s K e =
-    let it = draws_put size st s K e in
-    let same = item_same st.draws_out (history_of st) ∙ (ap (λ p. item_of p st.draws_out) (reverse-reverse st.past) ∙ it.1) in
-    subst (λ o. IsSome o) (sym same) refl
+draws_item size st s K e = grind (arith, common_steps, draws_put, item_same, history_of, item_of, reverse-reverse)

@@ -1,6 +1,7 @@
 -- Seats: each cell has one owner at most, and each seat goes on in its own place.
+use Rattle.std.proofs.lemmas.Grind.{common_steps}
 use Rattle.fak_model.proofs.QueueStages.{stage_here, stage_else}
-use Rattle.fak_core.proofs.Common.{Phase, StoreItem, SetFull, LoadItem, SetFree, QueueState, with_at, with_phase, InCell, ◌≡◌, ◌≢◌, ◌⊎◌, ℕ, ◌+◌, ◌-◌, ◌*◌, ◌/◌, ◌%◌, ◌<◌, Bool, List, ◌∷◌, Option, refl, sym, ap, ◌∙◌, subst, inl, inr, arith, ℤ, Kind, Fill, Take, Close, Mark, Putting, Getting, count, puts, gots, upper_count, lower_count, Has, after, stage, MayFollow, putting_one, putting_unfilled, getting_one, getting_untaken}
+use Rattle.fak_core.proofs.Common.{Phase, StoreItem, SetFull, LoadItem, SetFree, QueueState, with_at, with_phase, InCell, ◌≡◌, ◌≢◌, ◌⊎◌, ℕ, ◌+◌, ◌-◌, ◌*◌, ◌/◌, ◌%◌, ◌<◌, Bool, List, ◌∷◌, Option, refl, ◌∙◌, subst, inl, inr, arith, ℤ, Kind, Fill, Take, Close, Mark, Putting, Getting, count, puts, gots, upper_count, lower_count, Has, after, stage, MayFollow, putting_one, putting_unfilled, getting_one, getting_untaken}
 use Rattle.fak_core.proofs.QueueKept.{shown, TakenBefore, IsReady, Turns, Cells, TellsShut, IsKept}
 use Rattle.fak_core.proofs.QueueTurns.{at_else, by_place, one_ticket, fill_turn, take_turn, le_or_lt}
 
@@ -23,26 +24,7 @@ pub emptying : {A : Type 0} (size : ℕ) (st : QueueState A) (s k : ℕ) → IsK
 emptying size st s k K e b = take_turn size st.past st.turn k K.turns b (getting_untaken size st.past K.legal s k e)
 
 pub alone : {A : Type 0} (size : ℕ) (st : QueueState A) (s t c : ℕ) → 0 < size → IsKept size st → InCell size (st.phase s) c → InCell size (st.phase t) c → s ≡ t
-alone size st s t c z K i j = elim (in_cell size st.past st.cell (st.phase s) c (K.ready s) i) [
-  | inl u ↦ (let eu = sym (K.phases s) ∙ u.2 in let wu = filling size st s u.0 u.1 z K eu u.3 in
-      elim (in_cell size st.past st.cell (st.phase t) c (K.ready t) j) [
-        | inl v ↦ (let ev = sym (K.phases t) ∙ v.2 in let wv = filling size st t v.0 v.1 z K ev v.3 in
-            let cells = u.4 ∙ sym v.4 in let words = ap st.turn cells in
-            let same = one_ticket u.0 v.0 size cells (omega arith) in
-            putting_one st.past s t v.0 u.1 v.1 (eu ∙ ap (λ k. Putting k u.1) same) ev)
-        | inr v ↦ (let ev = sym (K.phases t) ∙ v.1 in let wv = emptying size st t v.0 K ev v.2 in
-            let words = ap st.turn (u.4 ∙ sym v.3) in absurd (omega arith))
-      ])
-  | inr u ↦ (let eu = sym (K.phases s) ∙ u.1 in let wu = emptying size st s u.0 K eu u.2 in
-      elim (in_cell size st.past st.cell (st.phase t) c (K.ready t) j) [
-        | inl v ↦ (let ev = sym (K.phases t) ∙ v.2 in let wv = filling size st t v.0 v.1 z K ev v.3 in
-            let words = ap st.turn (u.3 ∙ sym v.4) in absurd (omega arith))
-        | inr v ↦ (let ev = sym (K.phases t) ∙ v.1 in let wv = emptying size st t v.0 K ev v.2 in
-            let cells = u.3 ∙ sym v.3 in let words = ap st.turn cells in
-            let same = one_ticket u.0 v.0 size cells (omega arith) in
-            getting_one st.past s t v.0 (eu ∙ ap (λ k. Getting k) same) ev)
-      ])
-]
+alone size st s t c z K i j = grind (arith, common_steps, in_cell, filling, one_ticket, putting_one, emptying, getting_one)
 
 -- ---- what a seat knows stays so
 
@@ -60,18 +42,7 @@ ready_store size h cell c v _ r un = r
 -- ---- one seat goes on
 
 pub kept_goes : {A : Type 0} (size : ℕ) (st : QueueState A) (s : ℕ) (p : Phase A) → IsKept size st → shown p ≡ stage st.past s → IsReady size st.past st.cell p → IsKept size (with_phase st s p)
-kept_goes size st s p K e r = record {
-  legal = K.legal;
-  upper = K.upper;
-  lower = K.lower;
-  draws_in = K.draws_in;
-  draws_out = K.draws_out;
-  phases = λ t. by_place (λ q. shown q ≡ stage st.past t) st.phase s t p (λ q. e ∙ ap (stage st.past) (sym q)) (λ n. K.phases t);
-  ready = λ t. by_place (IsReady size st.past st.cell) st.phase s t p (λ q. r) (λ n. K.ready t);
-  turns = K.turns;
-  cells = K.cells;
-  closed = K.closed;
-}
+kept_goes size st s p K e r = grind (arith, common_steps, by_place, shown, stage)
 
 -- a mark that shuts nothing
 pub shuts_plain : {A : Type 0} (m : Mark A) (h : List (Mark A)) (b : Bool) → (m.kind ≡ Close → ⊥) → TellsShut h b → TellsShut (m ∷ h) b
@@ -85,22 +56,7 @@ pub kept_marks : {A : Type 0} (size : ℕ) (st : QueueState A) (s : ℕ) (p : Ph
     → Turns size ((record { seat = s; kind = κ }) ∷ st.past) turn → Cells size ((record { seat = s; kind = κ }) ∷ st.past) st.cell
     → TellsShut ((record { seat = s; kind = κ }) ∷ st.past) b
     → IsKept size (record { upper = U; lower = L; draws_in = I; draws_out = D; turn = turn; cell = st.cell; phase = with_at st.phase s p; past = (record { seat = s; kind = κ }) ∷ st.past; shut = b })
-kept_marks {A} size st s p κ U L I D turn b K may e r u l i d ts cs sh =
-    let m : Mark A = record { seat = s; kind = κ } in
-    record {
-      legal = (may, K.legal);
-      upper = u;
-      lower = l;
-      draws_in = i;
-      draws_out = d;
-      phases = λ t. by_place (λ q. shown q ≡ stage (m ∷ st.past) t) st.phase s t p
-          (λ q. e ∙ (sym (stage_here m st.past) ∙ ap (stage (m ∷ st.past)) (sym q)))
-          (λ n. K.phases t ∙ sym (stage_else m st.past t n));
-      ready = λ t. by_place (IsReady size (m ∷ st.past) st.cell) st.phase s t p (λ q. r) (λ n. ready_more size m st.past st.cell (st.phase t) (K.ready t));
-      turns = ts;
-      cells = cs;
-      closed = sh;
-    }
+kept_marks {A} size st s p κ U L I D turn b K may e r u l i d ts cs sh = grind (arith, common_steps, by_place, shown, stage, stage_here, stage_else, ready_more)
 
 -- ---- a seat that doesn't find its turn
 

@@ -1,9 +1,10 @@
 -- A queue core never locks up: while a call is open, some seat is unblocked, and its next step moves its call forward.
+use Rattle.std.proofs.lemmas.Grind.{common_steps}
 use Rattle.std.proofs.Math.Nat.{add-mod_right, add-div_right}
 use Rattle.fak_core.specs.QueueProgress.{MakesProgress, steps_left, steps_made, HoldsTicketOf}
 use Rattle.fak_core.specs.QueueSchedule.{after_step, stepped}
-use Rattle.fak_core.proofs.Common.{Phase, Idle, TestUp, AddUp, BackUp, EndInsert, BackLow, EndDelete, SetShut, TurnIn, StoreItem, SetFull, TestLow, SubLow, TicketOut, TurnOut, LoadItem, SetFree, QueueMove, QueueState, ticket_out, ◌≡◌, ◌≢◌, ◌⊎◌, ℕ, zero, suc, ◌+◌, ◌-◌, ◌*◌, ◌/◌, ◌%◌, ◌<◌, ◌≤◌, ◌==◌, int_lt, pos, List, Option, None, Some, refl, sym, ap, ◌∙◌, subst, inl, inr, arith, nat_tests, Kind, Fill, Take, Mark, Putting, Getting, Has, item_of, same_or_not, getting_below, putting_below, putting_unfilled, getting_untaken, contents_bounded, next_move, past_after}
-use Rattle.fak_core.proofs.QueueKept.{shown, TakenBefore, IsReady, IsKept}
+use Rattle.fak_core.proofs.Common.{Phase, Idle, TestUp, AddUp, BackUp, EndInsert, BackLow, EndDelete, SetShut, TurnIn, StoreItem, SetFull, TestLow, SubLow, TicketOut, TurnOut, LoadItem, SetFree, QueueMove, QueueState, ticket_out, ◌≡◌, ◌≢◌, ◌⊎◌, ℕ, zero, suc, ◌+◌, ◌-◌, ◌*◌, ◌/◌, ◌%◌, ◌<◌, ◌≤◌, int_lt, pos, List, Option, None, Some, refl, sym, ap, ◌∙◌, subst, inl, inr, arith, nat_tests, Kind, Fill, Take, Mark, Putting, Getting, Has, item_of, same_or_not, getting_below, putting_below, putting_unfilled, getting_untaken, contents_bounded, next_move, past_after}
+use Rattle.fak_core.proofs.QueueKept.{shown, TakenBefore, IsKept}
 use Rattle.fak_core.proofs.QueueTurns.{at_here, at_else, le_or_lt}
 use Rattle.fak_core.proofs.QueueOwners.{filling, emptying, waits_fill, waits_take}
 use Rattle.fak_core.proofs.QueueSteps.{by_test, found_fill, found_take}
@@ -56,27 +57,17 @@ out_falls n (Some y) x e = omega arith
 falls : {A : Type 0} (size : ℕ) (st : QueueState A) (s : ℕ) (p : Phase A) → 0 < size → IsKept size st → st.phase s ≡ p → IsUnblocked size st.past p
     → steps_left (after_phase p (next_move size st p)) < steps_left p
 falls size st s Idle z K e f = absurd f
-falls {A} size st s (TestUp x) z K e f =
-    by_test (λ (m : QueueMove A). steps_left m.phase < 7) st.shut _ _ (λ _. omega arith)
-    (λ _. by_test (λ (m : QueueMove A). steps_left m.phase < 7) (int_lt st.upper (pos size)) _ _ (λ _. omega arith) (λ _. omega arith))
-falls {A} size st s (AddUp x) z K e f =
-    by_test (λ (m : QueueMove A). steps_left m.phase < 6) st.shut _ _ (λ _. omega arith)
-    (λ _. by_test (λ (m : QueueMove A). steps_left m.phase < 6) (int_lt st.upper (pos size)) _ _ (λ _. omega arith) (λ _. omega arith))
-falls {A} size st s (TurnIn k x) z K e f =
-    let here = filling size st s k x z K (sym (K.phases s) ∙ ap shown e) f in
-    by_test (λ (m : QueueMove A). steps_left m.phase < 4) (st.turn (k % size) == 2 * (k / size)) _ _ (λ _. omega arith) (λ b. absurd (grind (arith, nat_tests)))
+falls {A} size st s (TestUp x) z K e f = grind (arith, common_steps, by_test, steps_left, int_lt, pos)
+falls {A} size st s (AddUp x) z K e f = grind (arith, common_steps, by_test, steps_left, int_lt, pos)
+falls {A} size st s (TurnIn k x) z K e f = grind (arith, common_steps, filling, shown, by_test, steps_left, nat_tests)
 falls {A} size st s TestLow z K e f = by_test (λ (m : QueueMove A). steps_left m.phase < 7) (int_lt (pos 0) st.lower) _ _ (λ _. omega arith) (λ _. omega arith)
 falls {A} size st s SubLow z K e f = by_test (λ (m : QueueMove A). steps_left m.phase < 6) (int_lt (pos 0) st.lower) _ _ (λ _. omega arith) (λ _. omega arith)
 falls size st s TicketOut z K e f = let d = draws_put size st s K e in out_falls st.draws_out (item_of st.past st.draws_out) d.0 d.1
-falls {A} size st s (TurnOut k) z K e f =
-    let here = emptying size st s k K (sym (K.phases s) ∙ ap shown e) f in
-    by_test (λ (m : QueueMove A). steps_left m.phase < 4) (st.turn (k % size) == 2 * (k / size) + 1) _ _ (λ _. omega arith) (λ b. absurd (grind (arith, nat_tests)))
+falls {A} size st s (TurnOut k) z K e f = grind (arith, common_steps, emptying, shown, by_test, steps_left, nat_tests)
 falls size st s _ z K e f = omega arith
 
 pub unblocked_falls : {A : Type 0} (size : ℕ) (st : QueueState A) (s : ℕ) → 0 < size → IsKept size st → IsUnblocked size st.past (st.phase s) → steps_left ((stepped size st s).phase s) < steps_left (st.phase s)
-unblocked_falls size st s z K f =
-    let here = ap steps_left (step_here st s (next_move size st (st.phase s))) in
-    let down = falls size st s (st.phase s) z K refl f in omega arith
+unblocked_falls size st s z K f = grind (arith, common_steps, steps_left, step_here, next_move, falls)
 
 -- the phase comes after one whose call has made this many steps, or ends the call
 abbrev Counts : {A : Type 0} → ℕ → Phase A → Type 0
@@ -90,21 +81,13 @@ out_counts n (Some y) x e = inr refl
 counts : {A : Type 0} (size : ℕ) (st : QueueState A) (s : ℕ) (p : Phase A) → 0 < size → IsKept size st → st.phase s ≡ p → IsUnblocked size st.past p
     → Counts (steps_made p) (after_phase p (next_move size st p))
 counts size st s Idle z K e f = absurd f
-counts {A} size st s (TestUp x) z K e f =
-    by_test (λ (m : QueueMove A). Counts 0 m.phase) st.shut _ _ (λ _. inl refl)
-    (λ _. by_test (λ (m : QueueMove A). Counts 0 m.phase) (int_lt st.upper (pos size)) _ _ (λ _. inr refl) (λ _. inl refl))
-counts {A} size st s (AddUp x) z K e f =
-    by_test (λ (m : QueueMove A). Counts 1 m.phase) st.shut _ _ (λ _. inr refl)
-    (λ _. by_test (λ (m : QueueMove A). Counts 1 m.phase) (int_lt st.upper (pos size)) _ _ (λ _. inr refl) (λ _. inr refl))
-counts {A} size st s (TurnIn k x) z K e f =
-    let here = filling size st s k x z K (sym (K.phases s) ∙ ap shown e) f in
-    by_test (λ (m : QueueMove A). Counts 3 m.phase) (st.turn (k % size) == 2 * (k / size)) _ _ (λ _. inr refl) (λ b. absurd (grind (arith, nat_tests)))
+counts {A} size st s (TestUp x) z K e f = grind (arith, common_steps, by_test, int_lt, pos)
+counts {A} size st s (AddUp x) z K e f = grind (arith, common_steps, by_test, int_lt, pos)
+counts {A} size st s (TurnIn k x) z K e f = grind (arith, common_steps, filling, shown, by_test, nat_tests)
 counts {A} size st s TestLow z K e f = by_test (λ (m : QueueMove A). Counts 0 m.phase) (int_lt (pos 0) st.lower) _ _ (λ _. inr refl) (λ _. inl refl)
 counts {A} size st s SubLow z K e f = by_test (λ (m : QueueMove A). Counts 1 m.phase) (int_lt (pos 0) st.lower) _ _ (λ _. inr refl) (λ _. inr refl)
 counts size st s TicketOut z K e f = let d = draws_put size st s K e in out_counts st.draws_out (item_of st.past st.draws_out) d.0 d.1
-counts {A} size st s (TurnOut k) z K e f =
-    let here = emptying size st s k K (sym (K.phases s) ∙ ap shown e) f in
-    by_test (λ (m : QueueMove A). Counts 3 m.phase) (st.turn (k % size) == 2 * (k / size) + 1) _ _ (λ _. inr refl) (λ b. absurd (grind (arith, nat_tests)))
+counts {A} size st s (TurnOut k) z K e f = grind (arith, common_steps, emptying, shown, by_test, nat_tests)
 counts size st s (BackUp x) z K e f = inl refl
 counts size st s (EndInsert k) z K e f = inl refl
 counts size st s BackLow z K e f = inl refl
@@ -156,18 +139,7 @@ holder size _ c h = absurd h
 
 -- the turn of who holds a ticket has not passed
 pub not_passed : {A : Type 0} (size : ℕ) (st : QueueState A) (s c : ℕ) → IsKept size st → HoldsTicketOf size (st.phase s) c → st.turn c ≤ due size (st.phase s)
-not_passed size st s c K h = elim (holder size (st.phase s) c h) [
-  | inl w ↦ (let words = ap st.turn w.3 in
-      elim (le_or_lt (2 * (w.0 / size) + 1) (st.turn (w.0 % size))) [
-        | inl over ↦ absurd (putting_unfilled size st.past K.legal s w.0 w.1 (sym (K.phases s) ∙ w.2) (K.turns.up_filled w.0 over))
-        | inr under ↦ omega (arith, words, w.4)
-      ])
-  | inr w ↦ (let words = ap st.turn w.2 in
-      elim (le_or_lt (2 * (w.0 / size) + 2) (st.turn (w.0 % size))) [
-        | inl over ↦ absurd (getting_untaken size st.past K.legal s w.0 (sym (K.phases s) ∙ w.1) (K.turns.up_taken w.0 over))
-        | inr under ↦ omega (arith, words, w.3)
-      ])
-]
+not_passed size st s c K h = grind (arith, common_steps, holder, le_or_lt, putting_unfilled, getting_untaken)
 
 -- a seat whose turn has come is unblocked
 pub turn_unblocks : {A : Type 0} (size : ℕ) (st : QueueState A) (c : ℕ) (p : Phase A) → 0 < size → IsKept size st → HoldsTicketOf size p c → st.turn c ≡ due size p → IsUnblocked size st.past p
@@ -181,23 +153,11 @@ turn_unblocks size st c _ z K h t = absurd h
 
 -- the insertion holds up the deletion of its ticket
 filler : {A : Type 0} (size : ℕ) (st : QueueState A) (s k : ℕ) → IsKept size st → st.phase s ≡ TurnOut k → (Has (Fill k) st.past → ⊥) → (t : ℕ) × (x : A) × (shown (st.phase t) ≡ Putting k x)
-filler size st s k K e un =
-    let drawn = getting_below st.past s k (sym (K.phases s) ∙ ap shown e) in
-    let fit = contents_bounded size st.past K.legal in
-    elim (filled_or_putting size st.past K.legal k (omega arith)) [
-      | inl f ↦ absurd (un f)
-      | inr w ↦ (w.0, w.1, K.phases w.0 ∙ w.2)
-    ]
+filler size st s k K e un = grind (arith, common_steps, getting_below, shown, contents_bounded, filled_or_putting)
 
 -- the deletion one round before holds up the insertion
 taker : {A : Type 0} (size : ℕ) (st : QueueState A) (s k j : ℕ) (x : A) → IsKept size st → st.phase s ≡ TurnIn k x → k ≡ j + size → (Has (Take j) st.past → ⊥) → (t : ℕ) × (shown (st.phase t) ≡ Getting j)
-taker size st s k j x K e is un =
-    let drawn = putting_below st.past s k x (sym (K.phases s) ∙ ap shown e) in
-    let fit = contents_bounded size st.past K.legal in
-    elim (taken_or_getting size st.past K.legal j (omega arith)) [
-      | inl f ↦ absurd (un f)
-      | inr w ↦ (w.0, K.phases w.0 ∙ w.1)
-    ]
+taker size st s k j x K e is un = grind (arith, common_steps, putting_below, shown, contents_bounded, taken_or_getting)
 
 -- the seat holds the ticket of this cell that has it at this turn
 abbrev pub HoldsTurn : {A : Type 0} → ℕ → QueueState A → ℕ → ℕ → ℕ → Type 0
@@ -215,25 +175,11 @@ before size st s c v (TurnIn k x) z K e h l is =
     let cell : w.0 % size ≡ c = sym (add-mod_right w.0 size) ∙ (ap (λ i. i % size) (sym w.1) ∙ h) in
     let round : k / size ≡ w.0 / size + 1 = ap (λ i. i / size) w.1 ∙ add-div_right w.0 z in
     (t.0, (subst (HoldsTicketOf size (st.phase t.0)) cell place.0, omega (arith, place.1)))
-before size st s c v (TurnOut k) z K e h l is =
-    let words = ap st.turn h in
-    let ne : st.turn (k % size) ≢ 2 * (k / size) + 1 = λ q. omega arith in
-    let t = filler size st s k K e (waits_take size st s k K (sym (K.phases s) ∙ ap shown e) ne) in
-    let place = putting_place size (st.phase t.0) k t.1 t.2 in
-    (t.0, (subst (HoldsTicketOf size (st.phase t.0)) h place.0, omega (arith, place.1)))
-before size st s c v (StoreItem k x) z K e h l is =
-    let now = filling size st s k x z K (sym (K.phases s) ∙ ap shown e) (subst (IsReady size st.past st.cell) e (K.ready s)) in
-    absurd (omega (arith, ap st.turn h))
-before size st s c v (SetFull k x) z K e h l is =
-    let r : IsReady size st.past st.cell (SetFull k x) = subst (IsReady size st.past st.cell) e (K.ready s) in
-    let now = filling size st s k x z K (sym (K.phases s) ∙ ap shown e) r.0 in
-    absurd (omega (arith, ap st.turn h))
-before size st s c v (LoadItem k) z K e h l is =
-    let now = emptying size st s k K (sym (K.phases s) ∙ ap shown e) (subst (IsReady size st.past st.cell) e (K.ready s)) in
-    absurd (omega (arith, ap st.turn h))
-before size st s c v (SetFree k) z K e h l is =
-    let now = emptying size st s k K (sym (K.phases s) ∙ ap shown e) (subst (IsReady size st.past st.cell) e (K.ready s)) in
-    absurd (omega (arith, ap st.turn h))
+before size st s c v (TurnOut k) z K e h l is = grind (arith, common_steps, filler, waits_take, shown, putting_place)
+before size st s c v (StoreItem k x) z K e h l is = grind (arith, common_steps, filling, shown)
+before size st s c v (SetFull k x) z K e h l is = grind (arith, common_steps, filling, shown)
+before size st s c v (LoadItem k) z K e h l is = grind (arith, common_steps, emptying, shown)
+before size st s c v (SetFree k) z K e h l is = grind (arith, common_steps, emptying, shown)
 before size st s c v _ z K e h l is = absurd h
 
 -- each turn from the cell's word up to a seat's own is held
@@ -265,30 +211,16 @@ someone_unblocked size st s z K n = someone size st s (st.phase s) z K refl n
 -- a seat is unblocked, or its step leaves it where it stands
 pub unblocked_or_stays : {A : Type 0} (size : ℕ) (st : QueueState A) (p : Phase A) → 0 < size → IsKept size st → IsUnblocked size st.past p ⊎ (after_phase p (next_move size st p) ≡ p)
 unblocked_or_stays size st Idle z K = inr refl
-unblocked_or_stays {A} size st (TurnIn k x) z K = elim (same_or_not (st.turn (k % size)) (2 * (k / size))) [
-  | inl q ↦ inl (found_fill size st.past st.turn k z K.turns q)
-  | inr n ↦ inr (by_test (λ (m : QueueMove A). m.phase ≡ TurnIn k x) (st.turn (k % size) == 2 * (k / size)) _ _ (λ b. absurd (n (grind (arith, nat_tests)))) (λ b. refl))
-]
-unblocked_or_stays {A} size st (TurnOut k) z K = elim (same_or_not (st.turn (k % size)) (2 * (k / size) + 1)) [
-  | inl q ↦ inl (found_take size st.past st.turn k K.turns q)
-  | inr n ↦ inr (by_test (λ (m : QueueMove A). m.phase ≡ TurnOut k) (st.turn (k % size) == 2 * (k / size) + 1) _ _ (λ b. absurd (n (grind (arith, nat_tests)))) (λ b. refl))
-]
+unblocked_or_stays {A} size st (TurnIn k x) z K = grind (arith, common_steps, same_or_not, found_fill, by_test, nat_tests)
+unblocked_or_stays {A} size st (TurnOut k) z K = grind (arith, common_steps, same_or_not, found_take, by_test, nat_tests)
 unblocked_or_stays size st _ z K = inl tt
 
 pub moves_unblocked : {A : Type 0} (size : ℕ) (st : QueueState A) (s : ℕ) → 0 < size → IsKept size st → MakesProgress size st s → IsUnblocked size st.past (st.phase s)
-moves_unblocked size st s z K g = elim (unblocked_or_stays size st (st.phase s) z K) [
-  | inl f ↦ f
-  | inr stays ↦ absurd (g (step_here st s (next_move size st (st.phase s)) ∙ stays))
-]
-
-pub unblocked_open : {A : Type 0} (size : ℕ) (h : List (Mark A)) (p : Phase A) → IsUnblocked size h p → p ≢ Idle
-unblocked_open size h p f e = subst (IsUnblocked size h) e f
+moves_unblocked size st s z K g = grind (arith, common_steps, unblocked_or_stays, step_here, next_move)
 
 -- a seat that is unblocked stays so while others step
 pub unblocked_stays : {A : Type 0} (size : ℕ) (st : QueueState A) (s u : ℕ) → s ≢ u → IsUnblocked size st.past (st.phase s) → IsUnblocked size (stepped size st u).past ((stepped size st u).phase s)
-unblocked_stays size st s u n f =
-    let o = next_move size st (st.phase u) in
-    subst (IsUnblocked size (after_step st u o).past) (sym (step_else st u s o n)) (unblocked_more size st.past (after_step st u o).past (st.phase s) (step_more st u o) f)
+unblocked_stays size st s u n f = grind (arith, common_steps, next_move, after_step, step_else, unblocked_more, step_more)
 
 -- a seat that holds no ticket waits for nobody
 pub ticketless_unblocked : {A : Type 0} (size : ℕ) (h : List (Mark A)) (p : Phase A) → p ≢ Idle → ((c : ℕ) → HoldsTicketOf size p c → ⊥) → IsUnblocked size h p

@@ -1,9 +1,11 @@
 -- A reached state: what holds of it, and which states one more event leads to.
+use Rattle.std.proofs.lemmas.Grind.{common_steps}
+use Rattle.std.proofs.Common.{arith}
 use Rattle.fak_model.proofs.QueueLiteral.{to_literal}
-use Rattle.fak_core.proofs.Common.{Phase, Idle, TestUp, TestLow, TicketOut, LoadItem, SetShut, QueueMove, ◌≡◌, ◌⊎◌, ℕ, ◌%◌, ◌<◌, ◌++◌, cond, Bool, true, false, List, [], ◌∷◌, Some, refl, sym, ap, ◌∙◌, subst, inl, inr, reverse-reverse, IsQueueHistory, count, gots, stage, item_of, IsLegalPast, Getting, getting_untaken, item_there, claimed_out_left}
+use Rattle.fak_core.proofs.Common.{Phase, Idle, TestUp, TestLow, TicketOut, LoadItem, SetShut, QueueMove, ◌≡◌, ◌⊎◌, ℕ, ◌%◌, ◌<◌, ◌++◌, cond, Bool, true, false, List, [], ◌∷◌, Some, refl, sym, ap, ◌∙◌, subst, inl, inr, reverse-reverse, IsQueueHistory, count, gots, stage, item_of, IsLegalPast, getting_untaken, item_there, claimed_out_left}
 use Rattle.fak_core.specs.QueueMoves.{QueueState, next_move, moved, with_phase, history_of}
 use Rattle.fak_core.specs.QueueSchedule.{QueueEvent, Inserts, Deletes, Shuts, Advances, opening, after_step, move_from, begun, happens, run, reached, IsReached}
-use Rattle.fak_core.proofs.QueueKept.{IsKept, IsReady, shown}
+use Rattle.fak_core.proofs.QueueKept.{IsKept, shown}
 use Rattle.fak_core.proofs.QueueSteps.{kept_opening, kept_run}
 
 -- ---- choices between two states
@@ -24,15 +26,11 @@ if_false P false x y e p = p
 
 -- what a deletion loads is the item that was put under its ticket
 pub loads_put : {A : Type 0} (size : ℕ) (st : QueueState A) (s k : ℕ) → IsKept size st → st.phase s ≡ LoadItem k → st.cell (k % size) ≡ item_of st.past k
-loads_put size st s k K e =
-    let at : stage st.past s ≡ Getting k = sym (K.phases s) ∙ ap shown e in
-    K.cells k (subst (IsReady size st.past st.cell) e (K.ready s)) (getting_untaken size st.past K.legal s k at)
+loads_put size st s k K e = grind (arith, common_steps, stage, shown, getting_untaken)
 
 -- a deletion that is granted finds the item of the ticket that it draws
 pub draws_put : {A : Type 0} (size : ℕ) (st : QueueState A) (s : ℕ) → IsKept size st → st.phase s ≡ TicketOut → (x : A) × (item_of st.past st.draws_out ≡ Some x)
-draws_put size st s K e =
-    let it = item_there st.past (count gots st.past) (claimed_out_left size st.past K.legal s (sym (K.phases s) ∙ ap shown e)) in
-    (it.0, ap (item_of st.past) K.draws_out ∙ it.1)
+draws_put size st s K e = grind (arith, common_steps, item_there, count, gots, claimed_out_left, shown, item_of)
 
 pub legal_history : {A : Type 0} (size : ℕ) (st : QueueState A) → IsKept size st → IsQueueHistory size (history_of st)
 legal_history size st K = to_literal size (history_of st) (subst (IsLegalPast size) (sym (reverse-reverse st.past)) K.legal)

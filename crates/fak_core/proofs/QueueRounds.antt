@@ -1,4 +1,5 @@
 -- Rounds of events: within few of them each call that is open ends.
+use Rattle.std.proofs.lemmas.Grind.{common_steps}
 use Rattle.std.proofs.lemmas.List.Elements.{All-cons, All-nil, All-replicate, All-weaker}
 use Rattle.std.proofs.Math.ListN.{length-replicate}
 use Rattle.std.specs.Prelude.{min}
@@ -108,19 +109,11 @@ Owes size st t c v r = (v < st.turn c) ⊎ (HoldsTurn size st t c v × (steps_le
 
 owes_event : {A : Type 0} (size : ℕ) (st : QueueState A) (e : QueueEvent A) (t c v r : ℕ) → 0 < size → IsKept size st → Owes size st t c v r → Owes size (happens size st e) t c v r
 owes_event size st e t c v r z K (inl l) = inl (omega (arith, turn_event size st e c z K))
-owes_event size st e t c v r z K (inr h) = elim (goes_on_event size st e t c v z K h.0) [
-  | inl on ↦ inr (on, omega (arith, no_more_event size st e t (holds_open size (st.phase t) c h.0.0), h.1))
-  | inr past ↦ inl past.0
-]
+owes_event size st e t c v r z K (inr h) = grind (arith, common_steps, goes_on_event, no_more_event, holds_open)
 
 owes_own : {A : Type 0} (size : ℕ) (st : QueueState A) (t c v r : ℕ) → 0 < size → IsKept size st → v ≤ st.turn c → Owes size st t c v (suc r) → Owes size (happens size st (Advances t)) t c v r
 owes_own size st t c v r z K b (inl l) = inl (omega (arith, turn_event size st (Advances t) c z K))
-owes_own size st t c v r z K b (inr h) = elim (goes_on_event size st (Advances t) t c v z K h.0) [
-  | inl on ↦ (let at = not_passed size st t c K h.0.0 in
-      let can = turn_unblocks size st c (st.phase t) z K h.0.0 (omega (arith, h.0.1)) in
-      inr (on, omega (arith, unblocked_falls size st t z K can, h.1)))
-  | inr past ↦ inl past.0
-]
+owes_own size st t c v r z K b (inr h) = grind (arith, common_steps, goes_on_event, not_passed, turn_unblocks, unblocked_falls)
 
 owes_stay : {A : Type 0} (size : ℕ) (es : List (QueueEvent A)) (st : QueueState A) (t c v r : ℕ) → 0 < size → IsKept size st → Owes size st t c v r → Owes size (run size es st) t c v r
 owes_stay size [] st t c v r z K o = o

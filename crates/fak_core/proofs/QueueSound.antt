@@ -1,7 +1,8 @@
 -- The fields of a queue core stay those of a reached state.
+use Rattle.std.proofs.lemmas.Grind.{common_steps}
 use Rattle.fak_core.specs.declared.call.QueueCall.{QueueCall}
 use Rattle.fak_core.specs.declared.call.QueueCall.TheVariants.{Insert, Delete, Shut}
-use Rattle.fak_core.proofs.Common.{Phase, Idle, TestUp, AddUp, TicketOut, TurnIn, StoreItem, SetFull, TestLow, SubLow, TurnOut, SetFree, QueueMove, ◌≡◌, ℕ, zero, suc, ◌+◌, ◌*◌, ◌/◌, ◌%◌, ◌<◌, ◌≤◌, ◌==◌, List, [], length, get_or, Option, Some, None, Ok, refl, sym, ap, ◌∙◌, subst, inl, inr, arith, pos, int_lt, mod-lt, slice_get, slice_set, replicate, ints, slice_get_within, get_or_from_slice_get, count, puts, gots, stage, item_of, SeatsBelow, length-set, length-replicate, get_or-set_same, get_or-set_other, Kind, Mark, same_or_not, a_put_bit, putting_below, getting_below, count_few, contents_bounded, upper_range, lower_range, QueueState, move_by, next_move, moved, written, past_after, with_at, with_phase, QueueFields, queue_state, opening_fields, written_fields, moved_fields, or_idle, phase_step, step_of, first_phase, phase_begin, begin_of, IsSound, IsSmall, HasTicketBelow, IsWithin}
+use Rattle.fak_core.proofs.Common.{Phase, Idle, TestUp, AddUp, TicketOut, TurnIn, StoreItem, SetFull, TestLow, SubLow, TurnOut, SetFree, QueueMove, ◌≡◌, ℕ, zero, suc, ◌+◌, ◌*◌, ◌/◌, ◌%◌, ◌<◌, ◌≤◌, ◌==◌, List, [], length, get_or, Option, Some, None, Ok, refl, sym, ap, ◌∙◌, subst, arith, pos, int_lt, mod-lt, slice_get, slice_set, replicate, ints, slice_get_within, get_or_from_slice_get, count, puts, gots, stage, item_of, SeatsBelow, length-set, length-replicate, get_or-set_same, get_or-set_other, Kind, Mark, same_or_not, a_put_bit, putting_below, getting_below, count_few, contents_bounded, upper_range, lower_range, QueueState, move_by, next_move, moved, written, past_after, with_at, with_phase, QueueFields, queue_state, opening_fields, written_fields, moved_fields, or_idle, phase_step, step_of, first_phase, phase_begin, begin_of, IsSound, IsSmall, HasTicketBelow, IsWithin}
 use Rattle.fak_core.specs.declared.queue.step.Write.{Write}
 use Rattle.fak_core.specs.declared.queue.step.Write.TheVariants as write
 use Rattle.fak_core.specs.QueueSchedule.{IsReached, opening}
@@ -17,10 +18,7 @@ everywhere f g p = λ i x. p x i
 
 -- a write into a list, read as a function
 pub written_at : {A : Type 0} (xs : List A) (n : ℕ) (x d : A) → n < length xs → (λ (i : ℕ). get_or (slice_set xs n x) i d) ≡ with_at (λ i. get_or xs i d) n x
-written_at xs n x d l = everywhere (λ i. get_or (slice_set xs n x) i d) (with_at (λ i. get_or xs i d) n x) (λ i. elim (same_or_not i n) [
-  | inl q ↦ ap (λ j. get_or (slice_set xs n x) j d) q ∙ (get_or-set_same xs n x d l ∙ sym (at_same (λ j. get_or xs j d) n i x q))
-  | inr ne ↦ get_or-set_other xs n i x d ne ∙ sym (at_else (λ j. get_or xs j d) n i x ne)
-])
+written_at xs n x d l = grind (arith, common_steps, everywhere, get_or, slice_set, with_at, same_or_not, get_or-set_same, at_same, get_or-set_other, at_else)
 
 written_is : (f : QueueFields) (w : Write ℕ) → length f.turns ≡ f.size → length f.cells ≡ f.size → IsWithin f.size w → queue_state (written_fields f w) ≡ written (queue_state f) w
 written_is f (write.Turn c n) t d within = ap (λ (g : ℕ → ℕ). record (queue_state f) { turn = g }) (written_at f.turns c n 0 (omega (arith, t, within)))
@@ -42,11 +40,7 @@ cells_same f _ = refl
 -- the fields after a step show the state after it
 pub moved_is : (f : QueueFields) (i : ℕ) (m : QueueMove ℕ) → length f.turns ≡ f.size → length f.cells ≡ f.size → i < length f.phases → IsWithin f.size m.write
     → queue_state (moved_fields f i m) ≡ moved (queue_state f) i m
-moved_is f i m t d l within =
-    let seats : ℕ → Phase ℕ = λ s. get_or (slice_set f.phases i m.phase) s Idle in
-    let past = past_after i m.mark f.past in
-    ap (λ (st : QueueState ℕ). record st { phase = seats; past = past }) (written_is f m.write t d within)
-    ∙ ap (λ (g : ℕ → Phase ℕ). record (written (queue_state f) m.write) { phase = g; past = past }) (written_at f.phases i m.phase Idle l)
+moved_is f i m t d l within = grind (arith, common_steps, get_or, slice_set, past_after, written_is, written, queue_state, written_at)
 
 -- ---- where a step writes
 
@@ -95,9 +89,7 @@ seats_after n i None past l b = b
 seats_after n i (Some κ) past l b = (l, b)
 
 pub moves_on : (f : QueueFields) (i : ℕ) (m : QueueMove ℕ) → IsSound f → step_of f i ≡ Ok m → queue_state (moved_fields f i m) ≡ moved (queue_state f) i m
-moves_on f i m h e =
-    let s = step_made f i m e in
-    moved_is f i m h.turns h.cells (slice_get_within f.phases i s.phase s.at) (within_of f i m h s)
+moves_on f i m h e = grind (arith, common_steps, step_made, moved_is, slice_get_within, within_of)
 
 pub sound_moved : (f : QueueFields) (i : ℕ) (m : QueueMove ℕ) → IsSound f → step_of f i ≡ Ok m → IsSound (moved_fields f i m)
 sound_moved f i m h e =
@@ -159,10 +151,7 @@ replicate_or (suc n) a zero = refl
 replicate_or (suc n) a (suc i) = replicate_or n a i
 
 pub opening_is : (size seats : ℕ) → queue_state (opening_fields size seats) ≡ opening
-opening_is size seats =
-    ap (λ (g : ℕ → ℕ). record (queue_state (opening_fields size seats)) { turn = g }) (everywhere (λ i. get_or (replicate size 0) i 0) (λ i. 0) (replicate_or size 0))
-    ∙ (ap (λ (g : ℕ → Option ℕ). record (queue_state (opening_fields size seats)) { turn = λ i. 0; cell = g }) (everywhere (λ i. get_or (replicate size None) i None) (λ i. None) (replicate_or size None))
-    ∙ ap (λ (g : ℕ → Phase ℕ). record (queue_state (opening_fields size seats)) { turn = λ i. 0; cell = λ i. None; phase = g }) (everywhere (λ i. get_or (replicate seats Idle) i Idle) (λ i. Idle) (replicate_or seats Idle)))
+opening_is size seats = grind (arith, common_steps, queue_state, opening_fields, everywhere, get_or, replicate, replicate_or)
 
 pub sound_opening : (size seats : ℕ) → 1 ≤ size → size ≤ 4096 → seats ≤ 64 → IsSound (opening_fields size seats)
 sound_opening size seats least most few = record {

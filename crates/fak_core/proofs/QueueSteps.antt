@@ -1,4 +1,5 @@
 -- Each of the moves keeps the invariant.
+use Rattle.std.proofs.lemmas.Grind.{common_steps}
 use Rattle.fak_model.specs.declared.queue.Stage.TheVariants as made
 use Rattle.fak_core.proofs.Common.{Phase, Idle, TestUp, AddUp, BackUp, TicketIn, TurnIn, StoreItem, SetFull, EndInsert, TestLow, SubLow, BackLow, TicketOut, TurnOut, LoadItem, SetFree, EndDelete, SetShut, QueueMove, ◌≡◌, ℕ, ◌+◌, ◌*◌, ◌/◌, ◌%◌, ◌<◌, ◌==◌, cond, Bool, List, [], ◌∷◌, Some, refl, sym, ap, ◌∙◌, subst, inl, arith, ℤ, pos, ◌+ℤ◌, ◌-ℤ◌, int_lt, true, false, ints, count, puts, gots, upper_count, lower_count, Has, after, stage, item_of, MayFollow, nat_tests, Kind, ClaimIn, OverIn, BackIn, NoRoom, Put, Fill, EndIn, ClaimOut, OverOut, BackOut, NoItem, Got, Take, EndOut, Close, Closed, LateIn, Mark, Withdrawing, Claimed, Putting, Filled, WithdrawingOut, ClaimedOut, Getting, Taken, item_there, putting_item, QueueState, with_at, with_phase, with_mark, claimed_out_left, moved, ticket_out}
 use Rattle.fak_core.proofs.QueueKept.{shown, TakenBefore, IsReady, Turns, IsKept}
@@ -26,10 +27,7 @@ kept_counts {A} size st s p κ U L K may e r u l i d nf nt nc =
 
 -- a seat that finds its turn may go on
 pub found_fill : {A : Type 0} (size : ℕ) (h : List (Mark A)) (turn : ℕ → ℕ) (k : ℕ) → 0 < size → Turns size h turn → turn (k % size) ≡ 2 * (k / size) → TakenBefore size h k
-found_fill size h turn k z ts e j is =
-    let cell : turn (k % size) ≡ turn (j % size) = ap turn (ap (λ i. i % size) is ∙ add-mod_right j size) in
-    let round : k / size ≡ j / size + 1 = ap (λ i. i / size) is ∙ add-div_right j z in
-    ts.up_taken j (omega arith)
+found_fill size h turn k z ts e j is = grind (arith, common_steps, add-mod_right, add-div_right)
 
 pub found_take : {A : Type 0} (size : ℕ) (h : List (Mark A)) (turn : ℕ → ℕ) (k : ℕ) → Turns size h turn → turn (k % size) ≡ 2 * (k / size) + 1 → Has (Fill k) h
 found_take size h turn k ts e = ts.up_filled k (omega arith)
@@ -163,18 +161,7 @@ kept_move {A} size st s SetShut z K e =
 -- ---- every schedule
 
 pub kept_opening : {A : Type 0} (size : ℕ) → 0 < size → IsKept {A = A} size opening
-kept_opening size z = record {
-  legal = tt;
-  upper = refl;
-  lower = refl;
-  draws_in = refl;
-  draws_out = refl;
-  phases = λ s. refl;
-  ready = λ s. tt;
-  turns = record { filled_up = λ k e. absurd e; up_filled = λ k l. absurd (omega arith); taken_up = λ k e. absurd e; up_taken = λ k l. absurd (omega arith) };
-  cells = λ k e un. absurd e;
-  closed = ((λ e. cc), λ e has. has);
-}
+kept_opening size z = grind (arith, common_steps)
 
 kept_begun : {A : Type 0} (size : ℕ) (st : QueueState A) (s : ℕ) (p q : Phase A) → IsKept size st → shown p ≡ made.Idle → IsReady size st.past st.cell p → st.phase s ≡ q → IsKept size (begun st s p q)
 kept_begun size st s p Idle K i r e = kept_goes size st s p K (i ∙ (sym (ap shown e) ∙ K.phases s)) r

@@ -1,11 +1,12 @@
 -- What the calls of a room core learn from its state, and from the values that they read.
+use Rattle.std.proofs.lemmas.Grind.{common_steps}
 use Rattle.std.specs.Int.{w128}
 use Rattle.std.proofs.Math.ListN.{length-replicate}
 use Rattle.fak_core.proofs.Common.{RoomCall, CoreSeat, RoomMove, ◌≡◌, ◌≤◌, ◌<◌, ◌∙◌, ◌++◌, ℕ, ℤ, List, length, refl, arith, Ok, Option, ap, sym, subst, slice_set, get_or, w64, to_z, of_z, pos, Result, ints, slice_get_read, RoomMark}
 use Rattle.fak_core.specs.declared.fault.CoreFault.{CoreFault}
 use Rattle.fak_core.specs.declared.line.LineMark.{LineMark}
 use Rattle.fak_core.specs.Room.{RoomState, opening, step_of, next_move, or_idle, moved, marks_left, line_of, line_mark, begin_of, begun, amount_of}
-use Rattle.fak_core.specs.RoomSchedule.{RoomEvent, Begins, Advances, IsEvent, IsReached, IsSound, after_step, after_begin, happens}
+use Rattle.fak_core.specs.RoomSchedule.{RoomEvent, Begins, Advances, IsEvent, IsSound, after_step, after_begin, happens}
 use Rattle.fak_core.proofs.RoomKept.{IsKept}
 use Rattle.fak_core.proofs.RoomReached.{event_shape, opening_reached, reached_next, reached_kept, reached_count, step_is}
 
@@ -21,23 +22,10 @@ sound_count s h =
     (v.0, v.1, omega (arith, v.2, h.bound, h.seats))
 
 sound_next : (s : RoomState) (e : RoomEvent) → IsEvent e → IsSound s → IsSound (happens s e)
-sound_next s e range h =
-    let shape = event_shape s e in
-    let more : IsReached s.bound (length s.seats) (happens s e) = reached_next s.bound (length s.seats) s e range h.reached in
-    record {
-      reached = subst (λ (w : ℕ). IsReached w (length (happens s e).seats) (happens s e)) (sym shape.0) (subst (λ (w : ℕ). IsReached s.bound w (happens s e)) (sym shape.1) more);
-      bound = omega (arith, shape.0, h.bound);
-      seats = omega (arith, shape.1, h.seats);
-    }
+sound_next s e range h = grind (arith, common_steps, event_shape, length, happens, reached_next)
 
 pub sound_opening : (bound seats : ℕ) → bound ≤ 4294967296 → seats ≤ 64 → IsSound (opening bound seats)
-sound_opening bound seats b n =
-    let size : length (opening bound seats).seats ≡ seats = length-replicate seats _ in
-    record {
-      reached = subst (λ (w : ℕ). IsReached bound w (opening bound seats)) (sym size) (opening_reached bound seats);
-      bound = b;
-      seats = omega (arith, size);
-    }
+sound_opening bound seats b n = grind (arith, common_steps, length, opening, length-replicate, opening_reached)
 
 pub sound_begun : (s : RoomState) (i : ℕ) (call : RoomCall) (x : CoreSeat) → (1 ≤ amount_of call) × (amount_of call ≤ 1024) → IsSound s → begin_of s i call ≡ Ok x → IsSound (begun s i x)
 sound_begun s i call x range h is = subst (λ (r : Result CoreSeat CoreFault). IsSound (after_begin s i r)) is (sound_next s (Begins i call) range h)

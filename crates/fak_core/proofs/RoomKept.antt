@@ -1,9 +1,10 @@
 -- What every step of a room core keeps.
+use Rattle.std.proofs.lemmas.Grind.{common_steps}
 use Rattle.fak_model.specs.declared.room.RoomKind.TheVariants.{Up, Over, Back, No, Release as GivenBack}
 use Rattle.fak_model.specs.Room.{Granted, Refused, Withdrawn, Released, kinds_of_call, up_amount, release_amount, value, amount_held, room_rules, IsFair, IsRoomHistory}
 use Rattle.fak_model.proofs.Appending.{seat_words-other, call_begins, history_none, history_owed}
 use Rattle.fak_model.proofs.Reversing.{reverse_cons}
-use Rattle.fak_core.proofs.Common.{RoomCall, CoreSeat, RoomMove, RoomEvent, Begins, Advances, IsEvent, after_step, after_begin, happens, run, ◌≡◌, ◌≢◌, ℕ, ◌+◌, ◌-◌, ◌<◌, ◌≤◌, Bool, true, false, cond, List, [], ◌∷◌, ◌++◌, length, reverse, Option, Some, None, Ok, Err, refl, ap, sym, ◌∙◌, subst, arith, inl, inr, slice_get, slice_set, ℤ, pos, ◌+ℤ◌, ◌-ℤ◌, ◌≤ℤ◌, ◌<ℤ◌, nat_lt, All, sum_by, nat_tests, ints, All-push, All-nil, All-head, All-tail, slice_get_within, AreNamed, RoomKind, RoomMark, same_or_not}
+use Rattle.fak_core.proofs.Common.{RoomCall, CoreSeat, RoomMove, RoomEvent, Begins, Advances, IsEvent, after_step, after_begin, happens, run, ◌≡◌, ◌≢◌, ℕ, ◌+◌, ◌-◌, ◌<◌, ◌≤◌, Bool, true, false, cond, List, [], ◌∷◌, ◌++◌, length, reverse, Option, Some, None, Ok, Err, refl, ap, sym, ◌∙◌, subst, arith, slice_get, slice_set, ℤ, pos, ◌+ℤ◌, ◌-ℤ◌, ◌≤ℤ◌, ◌<ℤ◌, nat_lt, All, sum_by, nat_tests, ints, All-push, All-head, All-tail, slice_get_within, AreNamed, RoomKind, RoomMark, same_or_not}
 use Rattle.fak_core.specs.declared.call.RoomCall.TheVariants.{Tir, Release}
 use Rattle.fak_core.specs.declared.fault.CoreFault.TheVariants.{NotHeld}
 use Rattle.fak_core.specs.declared.room.phase.RoomPhase.{RoomPhase}
@@ -42,13 +43,7 @@ IsKept s = IsTold s.bound (history_of s) s.count s.seats
 -- each seat is what the marks say, where the one that was written is, and the others were
 seats_written : (h : List RoomMark) (xs : List CoreSeat) (i : ℕ) (x : CoreSeat) → IsSeat h i x → ((j : ℕ) (y : CoreSeat) → j ≢ i → slice_get xs j ≡ Some y → IsSeat h j y)
     → (j : ℕ) (y : CoreSeat) → slice_get (slice_set xs i x) j ≡ Some y → IsSeat h j y
-seats_written h xs i x here others j y is = elim (same_or_not j i) [
-  | inl same ↦ (let within : i < length xs = omega (arith, slice_get_within (slice_set xs i x) j y is, length-slice_set xs i x) in
-      let at : slice_get (slice_set xs i x) i ≡ Some y = subst (λ (w : ℕ). slice_get (slice_set xs i x) w ≡ Some y) same is in
-      let it : x ≡ y = cc (written_here xs i x within, at) in
-      subst (λ (w : ℕ). IsSeat h w y) (sym same) (subst (λ (w : CoreSeat). IsSeat h i w) it here))
-  | inr other ↦ others j y other (written_elsewhere xs i j x y other is)
-]
+seats_written h xs i x here others j y is = grind (arith, common_steps, same_or_not, length, slice_get_within, slice_set, length-slice_set, slice_get, written_here, written_elsewhere)
 
 -- a seat goes on, with no mark
 phase_kept : (s : RoomState) (i : ℕ) (x : CoreSeat) → IsKept s → IsSeat (history_of s) i x → IsKept (begun s i x)
@@ -61,13 +56,7 @@ phase_kept s i x k here = record {
 
 -- a seat keeps what its marks say while others make marks
 other_seat : (h : List RoomMark) (m : RoomMark) (j : ℕ) (y : CoreSeat) → m.seat ≢ j → IsSeat h j y → IsSeat (h ++ m ∷ []) j y
-other_seat h m j y other k =
-    let same : kinds_by j (h ++ m ∷ []) ≡ kinds_by j h = seat_words-other (room_rules 0) j h m other in
-    record {
-      holds = k.holds ∙ ap (λ (w : List RoomKind). sum_by up_amount w - sum_by release_amount w) (sym same);
-      owes = subst (λ (w : List RoomKind). OwesKinds w (owed_in y.phase)) (sym same) k.owes;
-      range = k.range;
-    }
+other_seat h m j y other k = grind (arith, common_steps, kinds_by, seat_words-other, room_rules, sum_by, up_amount, release_amount)
 
 -- a seat goes on, with a mark that it owes and that is fair
 told_push : (s : RoomState) (i : ℕ) (kind : RoomKind) (x : CoreSeat) (n : ℤ) (h : List RoomMark) → IsTold s.bound h s.count s.seats → i < length s.seats
@@ -116,12 +105,8 @@ add_kept s i n d false k within at is =
 move_kept : (s : RoomState) (i n : ℕ) (phase : RoomPhase) (m : RoomMove) → IsKept s → i < length s.seats → IsSeat (history_of s) i (record { held = n; phase = phase })
     → next_move s.bound s.count n phase ≡ Some m → IsKept (moved s i m)
 move_kept s i n Idle m k within at is = absurd cc
-move_kept s i n (Testing d) m k within at is =
-    let it : test_move (fits s.bound s.count d) s.count n d ≡ m = cc in
-    subst (λ (w : RoomMove). IsKept (moved s i w)) it (test_kept s i n d (fits s.bound s.count d) k within at refl)
-move_kept s i n (Adding d) m k within at is =
-    let it : add_move (fits s.bound s.count d) s.count n d ≡ m = cc in
-    subst (λ (w : RoomMove). IsKept (moved s i w)) it (add_kept s i n d (fits s.bound s.count d) k within at refl)
+move_kept s i n (Testing d) m k within at is = grind (arith, common_steps, test_move, fits, moved, test_kept)
+move_kept s i n (Adding d) m k within at is = grind (arith, common_steps, add_move, fits, moved, add_kept)
 move_kept s i n (Backing d) m k within at is =
     let it : back_move s.count n d ≡ m = cc in
     subst (λ (w : RoomMove). IsKept (moved s i w)) it (mark_kept s i (Back d) (record { held = n; phase = Idle }) (s.count -ℤ pos d) k within at.owes tt (omega (arith, at.holds)) tt (omega (arith, ints)))
@@ -168,14 +153,7 @@ event_kept s (Begins seat call) range k = begin_kept s seat call (slice_get s.se
 event_kept s (Advances seat) range k = step_kept s seat (slice_get s.seats seat) k refl
 
 pub opening_kept : (bound seats : ℕ) → IsKept (opening bound seats)
-opening_kept bound seats = record {
-  history = history_none (room_rules bound);
-  named = All-nil (λ (m : RoomMark). m.seat < length (opening bound seats).seats);
-  counted = refl;
-  seats = λ i x is.
-      let it : x ≡ record { held = 0; phase = Idle } = slice_get-replicate seats i (record { held = 0; phase = Idle }) x is in
-      subst (λ (w : CoreSeat). IsSeat [] i w) (sym it) (record { holds = refl; owes = ([], refl); range = tt });
-}
+opening_kept bound seats = grind (arith, common_steps, history_none, room_rules, length, opening, seats, slice_get-replicate)
 
 run_kept : (es : List RoomEvent) (s : RoomState) → All IsEvent es → IsKept s → IsKept (run es s)
 run_kept [] s range k = k

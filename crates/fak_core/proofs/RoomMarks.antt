@@ -1,5 +1,6 @@
 -- What one more mark does to the value of a room's history, and to what its seat holds.
-use Rattle.fak_core.proofs.Common.{◌≡◌, ℕ, ◌+◌, ◌-◌, List, [], ◌∷◌, ◌++◌, refl, ap, arith, ℤ, pos, ◌+ℤ◌, ◌-ℤ◌, sum_by, ints, sum_by_push, words_by, Owes, RoomKind, RoomMark, total_push}
+use Rattle.std.proofs.lemmas.Grind.{common_steps}
+use Rattle.fak_core.proofs.Common.{◌≡◌, ℕ, ◌+◌, ◌-◌, List, [], ◌∷◌, ◌++◌, arith, ℤ, pos, ◌+ℤ◌, ◌-ℤ◌, sum_by, ints, sum_by_push, words_by, Owes, RoomKind, RoomMark, total_push}
 use Rattle.fak_model.specs.Room.{seat_of, kind_of, kinds_of_call, up_amount, over_amount, back_amount, release_amount, value, amount_held, room_rules, IsRoomHistory}
 use Rattle.fak_model.proofs.Appending.{seat_words-own}
 use Rattle.fak_model.proofs.RoomLaw.{releases_le}
@@ -20,9 +21,7 @@ abbrev pub count_after : ℤ → RoomKind → ℤ
 count_after n kind = n +ℤ pos (up_amount kind + over_amount kind) -ℤ pos (back_amount kind + release_amount kind)
 
 pub amount_held-own : (bound : ℕ) (h : List RoomMark) (m : RoomMark) → IsRoomHistory bound h → amount_held m.seat (h ++ m ∷ []) ≡ held_after (amount_held m.seat h) m.kind
-amount_held-own bound h m law =
-    let own : kinds_by m.seat (h ++ m ∷ []) ≡ kinds_by m.seat h ++ m.kind ∷ [] = seat_words-own (room_rules bound) m.seat h m refl in
-    omega (arith, ap (sum_by up_amount) own, ap (sum_by release_amount) own, sum_by_push up_amount (kinds_by m.seat h) m.kind, sum_by_push release_amount (kinds_by m.seat h) m.kind, releases_le bound m.seat h law)
+amount_held-own bound h m law = grind (arith, common_steps, seat_words-own, room_rules, sum_by, up_amount, release_amount, sum_by_push, releases_le)
 
 pub value-push : (h : List RoomMark) (m : RoomMark) → value (h ++ m ∷ []) ≡ count_after (value h) m.kind
 value-push h m = omega (arith, ints, total_push kind_of up_amount h m, total_push kind_of over_amount h m, total_push kind_of back_amount h m, total_push kind_of release_amount h m)

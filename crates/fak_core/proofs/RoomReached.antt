@@ -1,8 +1,9 @@
 -- The reached states of a room core: how they go on, and what holds of them.
+use Rattle.std.proofs.lemmas.Grind.{common_steps}
 use Rattle.std.proofs.Math.ListN.{length-replicate}
 use Rattle.fak_model.specs.declared.room.RoomKind.TheVariants.{Back}
 use Rattle.fak_model.proofs.RoomLaw.{backs_after, call_even, held_fits}
-use Rattle.fak_core.proofs.Common.{RoomCall, CoreSeat, RoomMove, ◌≡◌, ℕ, ◌+◌, ◌-◌, ◌*◌, ◌<◌, ◌≤◌, List, [], ◌∷◌, ◌++◌, length, Option, Some, Ok, Err, refl, ap, sym, ◌∙◌, subst, arith, slice_get, get_or, pos, Result, sum_by, ints, sum_by-cons, All-push, All-nil, slice_get_within, slice_get-get_or, sum_below, RoomKind, RoomMark, kinds_of_call, total, over_amount, back_amount, value, amount_held, room_rules, calls_lead, owes_even, sum_same, sum_parts, sum_plus, sum_most, sum_term}
+use Rattle.fak_core.proofs.Common.{RoomCall, CoreSeat, RoomMove, ◌≡◌, ℕ, ◌+◌, ◌-◌, ◌*◌, ◌<◌, ◌≤◌, List, [], ◌∷◌, ◌++◌, length, Option, Some, Ok, Err, refl, ap, ◌∙◌, subst, arith, slice_get, get_or, pos, Result, sum_by, ints, sum_by-cons, All-push, All-nil, slice_get_within, slice_get-get_or, sum_below, RoomKind, RoomMark, kinds_of_call, total, over_amount, back_amount, value, amount_held, room_rules, calls_lead, owes_even, sum_same, sum_parts, sum_plus, sum_most, sum_term}
 use Rattle.fak_core.specs.declared.fault.CoreFault.{CoreFault}
 use Rattle.fak_core.specs.declared.room.phase.RoomPhase.{RoomPhase}
 use Rattle.fak_core.specs.declared.room.phase.RoomPhase.TheVariants.{Idle, Testing, Adding, Backing, Releasing}
@@ -78,9 +79,7 @@ pub reached_kept : (bound seats : ℕ) (s : RoomState) → IsReached bound seats
 reached_kept bound seats s r = subst IsKept r.leads (schedule_kept bound seats r.schedule r.events)
 
 pub reached_shape : (bound seats : ℕ) (s : RoomState) → IsReached bound seats s → (s.bound ≡ bound) × (length s.seats ≡ seats)
-reached_shape bound seats s r =
-    let shape = run_shape r.schedule (opening bound seats) in
-    (ap (λ (w : RoomState). w.bound) (sym r.leads) ∙ shape.0, ap (λ (w : RoomState). length w.seats) (sym r.leads) ∙ (shape.1 ∙ length-replicate seats _))
+reached_shape bound seats s r = grind (arith, common_steps, run_shape, opening, length, length-replicate)
 
 -- how much of a seat's claims is not withdrawn yet
 overs_less : (kinds owed : List RoomKind) (d : ℕ) → OwesKinds kinds owed → sum_by back_amount owed ≤ sum_by over_amount owed + d → sum_by over_amount kinds ≤ sum_by back_amount kinds + d

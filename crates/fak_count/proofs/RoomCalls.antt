@@ -174,12 +174,6 @@ module _ {key : RoomLimits} {left seats name held : ℕ} {table mine : TableId} 
   pub own_token : IsSeatToken seat_of key.seats name Idle 0 m
   own_token = subst (λ (k : ℕ). IsSeatToken seat_of k name Idle 0 m) same_seats at.token
 
-  -- what is held is known to the seat
-  pub holds_seen : (d : ℕ) → d ≤ held_amount old → Holds m.0 d
-  holds_seen d enough other e =
-      let same : name ≡ other = cc (token_names at.token, e) in
-      subst (λ (n : ℕ). d ≤ amount_held n (reverse m.0.seen)) same (subst (λ (x : SeatInfo RoomMark). d ≤ held_amount x) (sym at.seat_is) enough)
-
   pub held_old : held ≡ held_amount old
   held_old = at.holds ∙ ap held_amount at.seat_is
 

@@ -1,4 +1,5 @@
 -- What a closed file table shows.
+use Rattle.std.proofs.lemmas.Grind.{common_steps}
 use Rattle.fak_model.specs.declared.file.FileEntry.{FileEntry}
 use Rattle.fak_model.proofs.RunningViews.{sees_whole}
 use Rattle.fak_files.proofs.Common.{FileLimits, word_of, entry_of, entries_after, entry_in, ◌≡◌, ◌≢◌, inl, inr, slice_set, ℕ, zero, suc, ◌+◌, ◌<◌, List, [], ◌∷◌, length, take, slice_get, slice_index, get_or, Some, None, refl, ap, sym, ◌∙◌, subst, arith, reverse, some, some-injective, some-ne-none, get_elem?, file_rules, IsWhole, State, Inode, Uses, FileMark, same_or_not, FileView, IsShownFile, FileHolder}
@@ -57,10 +58,7 @@ read_more row i e F within is each j low = elim (same_or_not j i) [
 
 -- an entry whose two words were read
 pub entry_read : (words : List ℕ) (entry i j inode uses : ℕ) → i ≡ word_of entry Inode → j ≡ word_of entry Uses → get_elem? words i ≡ some inode → get_elem? words j ≡ some uses → ◌≡◌ {A = FileEntry} (record { inode = inode; uses = uses }) (entry_in words entry)
-entry_read words entry i j inode uses ei ej one two = λ t. record {
-  inode = (sym (word_read words i inode one) ∙ ap (slice_index words) ei) t;
-  uses = (sym (word_read words j uses two) ∙ ap (slice_index words) ej) t;
-}
+entry_read words entry i j inode uses ei ej one two = grind (arith, common_steps, word_read, slice_index)
 
 -- the entries that were read of a table's last words
 pub closed_entries : (table : FileLimits) (s : State (Unit {0}) FileView) (id : ℕ) (m : FileHolder) → IsShownFile table s → get_elem? s.views id ≡ some m.0 → IsWhole table.seats m.0.names → (words : List ℕ) → s.words ≡ words

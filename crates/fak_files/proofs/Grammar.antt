@@ -1,4 +1,6 @@
 -- The kinds of a seat's marks as its calls go on.
+use Rattle.std.proofs.lemmas.Grind.{common_steps}
+use Rattle.std.proofs.Common.{arith}
 use Rattle.std.proofs.lemmas.List.{append-nil, map-append}
 use Rattle.fak_model.specs.File.{WholeCall, Setting, set_mark, Refused, Withdrawn, Held, kinds_of_call, seat_of, kind_of, hold_after, hold_from, amount_held, IsAmount, IsFair, file_rules, IsFileHistory}
 use Rattle.fak_files.proofs.Common.{Access, Read, Write, FilePhase, mark, ◌≡◌, ◌≢◌, ℕ, List, [], ◌∷◌, ◌++◌, refl, ap, sym, ◌∙◌, subst, inl, inr, append_assoc, map, flat_map, flat_map-append, Owes, words_by, FileKind, Take, Over, Back, No, Set, Give, FileMark, owes_more, owed_comes, seat_words-own, seat_words-other, history_push, history_begun, history_owed, Idle, Backing, Holding, amount_of, AreInHold, StandsIn}
@@ -16,11 +18,7 @@ held_owes n kinds sets hold =
 
 -- a hold in which one more field was set
 pub hold_more : (n : ℕ) (kinds : List FileKind) (sets : List Setting) (s : Setting) → AreInHold n kinds sets → AreInHold n (kinds ++ set_mark s ∷ []) (sets ++ s ∷ [])
-hold_more n kinds sets s hold = (
-  hold.0,
-  ap (λ l. l ++ set_mark s ∷ []) hold.1 ∙ (append_assoc (flat_map kinds_of_call hold.0) (Take n ∷ map set_mark sets) (set_mark s ∷ [])
-      ∙ ap (λ l. flat_map kinds_of_call hold.0 ++ Take n ∷ l) (sym (map-append set_mark sets (s ∷ [])))),
-)
+hold_more n kinds sets s hold = grind (arith, common_steps, set_mark, append_assoc, flat_map, kinds_of_call, map, map-append)
 
 hold_begun : (n : ℕ) (kinds : List FileKind) → Owes kinds_of_call kinds [] → AreInHold n (kinds ++ Take n ∷ []) []
 hold_begun n kinds o = (o.0, ap (λ l. l ++ Take n ∷ []) (sym (append-nil kinds) ∙ o.1))

@@ -1,6 +1,7 @@
 -- The words and seats of a new file table.
+use Rattle.std.proofs.lemmas.Grind.{common_steps}
 use Rattle.fak_model.proofs.RunningSeats.{starts}
-use Rattle.fak_files.proofs.Common.{Idle, Nothing, StandsIn, ◌≡◌, ℕ, ◌+◌, ◌<◌, ◌≤◌, List, [], ◌∷◌, ◌++◌, length, take, replicate, set, get_or, refl, ap, sym, ◌∙◌, subst, arith, reverse, ints, words_by, seat_of, kind_of, file_rules, IsFileHistory, sight, ObjectId, SeatInfo, seat_info, fresh_seats, bias, get_or-take, get_or-set_other, get_or-replicate, length-take-le, opening, FileField, FileMark, history_none, fresh_token, fresh_next, count_place, width, word_of, limits, ShowsHistory, file_object, IsShownFile, opened_file, FileHolder, FileSeatInfo, file_seat, idle_seats, seat_now, IsFileSeat}
+use Rattle.fak_files.proofs.Common.{Idle, Nothing, ◌≡◌, ℕ, ◌+◌, ◌<◌, ◌≤◌, List, [], ◌∷◌, ◌++◌, length, take, replicate, set, get_or, refl, ap, ◌∙◌, arith, reverse, ints, words_by, seat_of, kind_of, file_rules, sight, ObjectId, SeatInfo, seat_info, fresh_seats, bias, get_or-take, get_or-set_other, get_or-replicate, length-take-le, opening, FileField, FileMark, history_none, fresh_token, fresh_next, count_place, width, word_of, limits, ShowsHistory, file_object, IsShownFile, opened_file, FileHolder, FileSeatInfo, file_seat, idle_seats, seat_now, IsFileSeat}
 use Rattle.fak_files.proofs.WordPlaces.{word_of-low}
 
 -- ---- words
@@ -30,16 +31,10 @@ opens entries seats few some most =
 -- ---- seats
 
 pub fresh_file_seat : (seats name stint : ℕ) (m : FileHolder) → m ≡ (sight (name ∷ []) [] Idle 0, []) → name < seats → seats ≤ 64 → IsFileSeat name seats Nothing m
-fresh_file_seat seats name stint m is low few = record {
-  token = fresh_token seat_of seats Idle 0 name m is low few;
-  lawful = subst (λ (x : FileHolder). IsFileHistory seats (reverse x.0.seen)) (sym is) (history_none (file_rules seats));
-  stands = subst (λ (x : FileHolder). StandsIn seats (words_by seat_of kind_of name (reverse x.0.seen)) Idle) (sym is) ([], refl);
-}
+fresh_file_seat seats name stint m is low few = grind (arith, common_steps, fresh_token, seat_of, reverse, history_none, file_rules, words_by, kind_of)
 
 pub fresh_seat_is : (object : ObjectId) (name stint : ℕ) (m : FileHolder) → m ≡ (sight (name ∷ []) [] Idle 0, []) → seat_now object name stint Nothing m ≡ file_seat (seat_info object name stint []) Nothing
-fresh_seat_is object name stint m is =
-    let none : stint + 0 ≡ stint = omega arith in
-    ap (λ (x : FileHolder). seat_now object name stint Nothing x) is ∙ ap (λ (k : ℕ). file_seat (seat_info object name k []) Nothing) none
+fresh_seat_is object name stint m is = grind (arith, common_steps, seat_now, file_seat, seat_info)
 
 idle_seats-push : (seats : List (SeatInfo FileMark)) (s : SeatInfo FileMark) → idle_seats (seats ++ s ∷ []) ≡ idle_seats seats ++ file_seat s Nothing ∷ []
 idle_seats-push [] s = refl
@@ -48,7 +43,4 @@ idle_seats-push (x ∷ seats) s = ap (λ l. file_seat x Nothing ∷ l) (idle_sea
 -- one seat more was dealt
 pub idle_next : (object object' : ObjectId) → object' ≡ object → (stint name : ℕ) (m : FileHolder) → m ≡ (sight (name ∷ []) [] Idle 0, []) → (dealt : List FileSeatInfo) → dealt ≡ idle_seats (fresh_seats object stint 0 name)
     → dealt ++ seat_now object' name stint Nothing m ∷ [] ≡ idle_seats (fresh_seats object stint 0 (name + 1))
-idle_next object object' same stint name m is dealt before =
-    let plus : name ≡ 0 + name = omega arith in
-    (λ i. before i ++ (fresh_seat_is object' name stint m is ∙ (λ j. file_seat (seat_info (same j) (plus j) stint []) Nothing)) i ∷ [])
-    ∙ (sym (idle_seats-push (fresh_seats object stint 0 name) (seat_info object (0 + name) stint [])) ∙ ap idle_seats (sym (fresh_next object stint 0 name)))
+idle_next object object' same stint name m is dealt before = grind (arith, common_steps, fresh_seat_is, file_seat, seat_info, idle_seats-push, fresh_seats, idle_seats, fresh_next)

@@ -1,4 +1,5 @@
 -- From the steps of a seat's token to what the seat's call promises.
+use Rattle.std.proofs.lemmas.Grind.{common_steps}
 use Rattle.std.proofs.lemmas.List.{append-nil, map-append, reverse-reverse}
 use Rattle.fak_model.specs.declared.file.FileEntry.{FileEntry}
 use Rattle.fak_files.proofs.Common.{Access, Read, Write, FilePhase, Idle, Holding, FileLimits, entry_of, back_from_take, own_since_take, prefix_through_take, marks_since_take, ◌≡◌, ◌≢◌, ℕ, ◌+◌, ◌-◌, ◌<◌, ◌≤◌, List, [], ◌∷◌, ◌++◌, refl, ap, sym, ◌∙◌, subst, arith, inl, inr, reverse, map, ℤ, slice_index, sum_by, flat_map, sum_by-cons, sum_by-append, words_by, Owes, seat_of, kind_of, kinds_of_call, field, file_rules, In, marks_of, ObjectId, seat_info, Appends, IsSeatToken, FileKind, Take, Over, Back, No, Set, Give, FileField, Inode, Uses, FileMark, token_names, Nothing, Reading, Writing, amount_of, phase_of, hold_for, StandsIn, limits, FileHolder, mark, Steps, Got, FileSeatInfo, one_hold, holds_of, LeavesMarks, IsGranted, IsBusy, IsGot, IsSet, IsEnded, IsHoldOf, seat_now, IsFileSeat, Makes, Misses}
@@ -133,16 +134,11 @@ module _ (table : FileLimits) (name : ℕ) (access : Access) where
 
   -- it stays what it was as more is seen
   stays : {tells : List FileMark → Type 0} (m after : FileHolder) → In name m.0.names → Steps table name m [] (Holding access) tells after → version name after.0.seen ≡ version name m.0.seen
-  stays m after i step =
-      let l = step.leaves in
-      ap (λ (x : FileHolder). version name x.0.seen) l.after_is ∙ version-sees name m.0.names m.0.seen l.past i l.sees
+  stays m after i step = grind (arith, common_steps, version, version-sees)
 
 -- a reader has set nothing since
 nothing_set : (table : FileLimits) (name i : ℕ) (f : FileField) (found : ℕ) (m after : FileHolder) → Got table name Read i f m found after → own_since_take name after.0.seen ≡ []
-nothing_set table name i f found m after step =
-    let l = step.leaves in
-    let stands = l.told.stands in
-    ap (λ (x : FileHolder). own_since_take name x.0.seen) l.after_is ∙ own_since-take table.seats name 1 l.past (flat_map kinds_of_call stands.0) stands.1
+nothing_set table name i f found m after step = grind (arith, common_steps, own_since_take, own_since-take, flat_map, kinds_of_call)
 
 -- what a version says, in the words of contracts
 version_is : (name : ℕ) (past : List FileMark) → version name past ≡ prefix_through_take name (reverse past) ++ marks_since_take name (reverse past)

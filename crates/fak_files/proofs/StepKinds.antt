@@ -1,7 +1,8 @@
 -- Each kind of step of a seat keeps what a file table shows, and what it tells.
+use Rattle.std.proofs.lemmas.Grind.{common_steps}
 use Rattle.std.proofs.Math.Nat.{lt_of_not-le}
 use native.Mathlib.Decide.{dec_le}
-use Rattle.fak_model.specs.File.{seat_of, kind_of, field_after, amount_held, count, IsFileHistory}
+use Rattle.fak_model.specs.File.{seat_of, kind_of, field_after, amount_held, count}
 use Rattle.fak_model.proofs.RunningSteps.{Advances, stands_now, steps}
 use Rattle.fak_model.proofs.RunningSeats.{hears}
 use Rattle.fak_files.proofs.Common.{Access, Read, Write, FilePhase, FileLimits, amount_of, StandsIn, count_place, word_of, ◌≡◌, ℕ, ◌+◌, ◌-◌, ◌%◌, ◌^◌, ◌<◌, ◌≤◌, List, [], ◌∷◌, ◌++◌, refl, ap, sym, ◌∙◌, subst, arith, set, slice_index, Some, reverse, pos, ◌+ℤ◌, ◌-ℤ◌, ◌≤ℤ◌, ◌<ℤ◌, ints, some, get_elem?, words_by, sight, AreOwn, Leaves, IsSeatToken, bias, State, Act, keeps, stepped, carried_after, Valid, Allows, FileField, FileKind, Take, Over, Back, No, Set, Give, FileMark, reverse_cons, All-reverse, token_names, token_phase, token_slots, token_after, Idle, Taking, Backing, Holding, FileView, ShowsHistory, file_object, IsShownFile, FileHolder, mark, Steps, CountIs, Tested, Took, TellsNothing, Withdrew, Gave, FieldIs, Got, WasSet, HeardJoin}
@@ -26,22 +27,11 @@ module _ (table : FileLimits) (s : State (Unit {0}) FileView) (r : IsShownFile t
 
   -- a step with one mark
   advances : (kind : FileKind) (phase : FilePhase) → GoesOn table.seats h n kind phase → Advances (file_object table) r.core n (mark n kind ∷ r.core) (mark n kind ∷ []) phase
-  advances kind phase g =
-      let is : reverse (mark n kind ∷ r.core) ≡ h ++ mark n kind ∷ [] = reverse_cons (mark n kind) r.core in
-      record {
-        reached = subst (IsFileHistory table.seats) (sym is) g.lawful;
-        past = refl;
-        own = (refl, tt);
-        stands = subst (λ (x : List FileMark). StandsIn table.seats (words_by seat_of kind_of n x) phase) (sym is) g.stands;
-        others = λ j p ne stands. subst (λ (x : List FileMark). StandsIn table.seats (words_by seat_of kind_of j x) p) (sym is) (stands_other table.seats h (mark n kind) j p (λ e. ne (sym e)) stands);
-      }
+  advances kind phase g = grind (arith, common_steps, reverse, mark, reverse_cons, words_by, seat_of, kind_of, stands_other)
 
   -- what a step tells, where the seat has no slot
   says : {new : List FileMark} {phase : FilePhase} {tells : List FileMark → Type 0} (v : FileView) → AreOwn seat_of n new → Leaves (file_object table) m new phase 0 m.1 tells (v, m.1) → Steps table n m new phase tells (v, m.1)
-  says {new} {phase} {tells} v own l = record {
-    leaves = subst (λ (c : List (ℕ × Unit {0})). Leaves (file_object table) m new phase 0 c tells (v, m.1)) none l;
-    token = token_after l n one own token none;
-  }
+  says {new} {phase} {tells} v own l = grind (arith, common_steps, file_object, token_after)
 
   -- the table and the seat after a step on word i
   abbrev Step : ℕ → (ℕ → ℕ) → (ℕ → FileHolder → Type 0) → Type 0

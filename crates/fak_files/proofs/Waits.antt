@@ -1,6 +1,7 @@
 -- A hold that is tried until it is granted.
+use Rattle.std.proofs.lemmas.Grind.{common_steps}
 use Rattle.std.proofs.lemmas.List.{append-nil, map-append}
-use Rattle.fak_files.proofs.Common.{Access, amount_of, mark, ◌≡◌, ◌⊎◌, ℕ, ◌+◌, ◌<◌, List, [], ◌∷◌, ◌++◌, refl, ap, sym, ◌∙◌, subst, arith, inl, inr, map, ℤ, sum_by, flat_map, All-push, All-nil, sum_by-cons, sum_by-append, flat_map-append, WholeCall, Refused, Withdrawn, kinds_of_call, seat_of, file_rules, SeatInfo, mine_of, Appends, FileKind, Take, Over, Back, No, FileMark, appends_then, FileSeatInfo, one_hold, holds_had, LeavesMarks, amount_for, IsGranted, IsWorn, IsBusy, AreRefused, IsWaitedFor}
+use Rattle.fak_files.proofs.Common.{Access, amount_of, mark, ◌≡◌, ◌⊎◌, ℕ, ◌+◌, ◌<◌, List, [], ◌∷◌, ◌++◌, refl, ap, sym, ◌∙◌, subst, arith, inl, inr, map, ℤ, sum_by, flat_map, All-push, All-nil, sum_by-cons, sum_by-append, flat_map-append, WholeCall, Refused, Withdrawn, kinds_of_call, seat_of, file_rules, SeatInfo, mine_of, Appends, FileKind, Over, Back, No, FileMark, appends_then, FileSeatInfo, one_hold, holds_had, LeavesMarks, amount_for, IsGranted, IsWorn, IsBusy, AreRefused, IsWaitedFor}
 
 -- ---- marks of two calls
 
@@ -101,25 +102,10 @@ module _ (access : Access) (old now next : FileSeatInfo) where
 
   -- the try that is granted
   pub tries_granted : IsTrying access old now → IsGranted access now next → IsWaitedFor access old next
-  tries_granted (inl same) granted = subst (λ (x : FileSeatInfo). IsWaitedFor access x next) same record {
-    within = granted.within;
-    tries = [];
-    refused = All-nil (λ (c : WholeCall). (c ≡ Refused (amount_for access now.seat)) ⊎ (c ≡ Withdrawn (amount_for access now.seat)));
-    leaves = granted.leaves;
-    hold = granted.hold;
-  }
-  tries_granted (inr w) granted = record {
-    within = w.within;
-    tries = w.tries;
-    refused = w.refused;
-    leaves = subst (λ (n : ℕ). LeavesMarks (flat_map kinds_of_call w.tries ++ Take n ∷ []) old.seat next.seat) (amount_is w)
-        (leaves_then (flat_map kinds_of_call w.tries) (Take (amount_for access now.seat)) [] old.seat now.seat next.seat w.leaves granted.leaves);
-    hold = granted.hold;
-  }
+  tries_granted (inl same) granted = grind (arith, common_steps, amount_for)
+  tries_granted (inr w) granted = grind (arith, common_steps, flat_map, kinds_of_call, amount_is, leaves_then, amount_for)
 
   -- a seat that was refused for others isn't worn
   pub tries_worn : IsTrying access old now → IsWorn now next → IsWorn old next
   tries_worn (inl same) worn = subst (λ (x : FileSeatInfo). IsWorn x next) same worn
-  tries_worn (inr w) worn =
-      let stint : now.seat.stint ≡ old.seat.stint = ap (λ (s : SeatInfo FileMark). s.stint) w.leaves.same_seat in
-      absurd (omega (arith, w.within, w.holds, worn.spent, stint))
+  tries_worn (inr w) worn = grind (arith, common_steps)

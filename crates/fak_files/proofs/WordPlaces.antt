@@ -1,20 +1,16 @@
 -- The words of a file table after a step.
+use Rattle.std.proofs.lemmas.Grind.{common_steps}
 use Rattle.std.proofs.Math.Nat.{add-mod_left}
 use Rattle.fak_model.specs.File.{count, same_field, field_after, field_from, field}
-use Rattle.fak_files.proofs.Common.{FileLimits, ShowsHistory, mark, ◌≡◌, ◌≢◌, ℕ, ◌+◌, ◌-◌, ◌%◌, ◌^◌, ◌<◌, ◌≤◌, ◌==◌, Bool, true, false, cond, List, [], ◌∷◌, ◌++◌, refl, ap, sym, ◌∙◌, subst, arith, inl, inr, set, get_or, length, mod-eq_of_lt, ℤ, pos, ◌+ℤ◌, ◌-ℤ◌, ◌&&◌, nat_tests, ints, bias, get_or-set_same, get_or-set_other, length-set, set-get_or, FileField, Inode, Uses, Set, FileMark, same_or_not, count_place, width, word_of}
+use Rattle.fak_files.proofs.Common.{FileLimits, ShowsHistory, mark, ◌≡◌, ◌≢◌, ℕ, ◌+◌, ◌-◌, ◌%◌, ◌^◌, ◌<◌, ◌≤◌, ◌==◌, Bool, true, false, cond, List, [], ◌∷◌, ◌++◌, refl, sym, ◌∙◌, subst, arith, set, get_or, length, mod-eq_of_lt, ℤ, pos, ◌+ℤ◌, ◌-ℤ◌, ◌&&◌, nat_tests, ints, bias, get_or-set_same, get_or-set_other, length-set, set-get_or, FileField, Inode, Uses, Set, FileMark, same_or_not, count_place, width, word_of}
 
 -- ---- numbers
 
 pub sub_word : (w a k taken : ℕ) (u : ℤ) → pos w ≡ pos bias +ℤ u → u +ℤ pos taken ≡ pos k → taken ≤ 5000 → k ≤ 64 → a ≤ 64 → pos ((w + (2 ^ 64 - a)) % 2 ^ 64) ≡ pos bias +ℤ (u -ℤ pos a)
-sub_word w a k taken u e range low few small =
-    let fits : w - a < 2 ^ 64 = omega (arith, ints, e, range) in
-    let sum : w + (2 ^ 64 - a) ≡ 2 ^ 64 + (w - a) = omega (arith, ints, e, range) in
-    ap (λ x. pos (x % 2 ^ 64)) sum ∙ (ap pos (add-mod_left (2 ^ 64) (w - a) ∙ mod-eq_of_lt fits) ∙ omega (arith, ints, e, range))
+sub_word w a k taken u e range low few small = grind (arith, common_steps, pos, add-mod_left, mod-eq_of_lt)
 
 pub add_word : (w a k taken : ℕ) (u : ℤ) → pos w ≡ pos bias +ℤ u → u +ℤ pos taken ≡ pos k → taken ≤ 5000 → k ≤ 64 → a ≤ 64 → pos ((w + a) % 2 ^ 64) ≡ pos bias +ℤ (u +ℤ pos a)
-add_word w a k taken u e range low few small =
-    let fits : w + a < 2 ^ 64 = omega (arith, ints, e, range) in
-    ap pos (mod-eq_of_lt fits) ∙ omega (arith, ints, e)
+add_word w a k taken u e range low few small = grind (arith, common_steps, pos, mod-eq_of_lt)
 
 pub near_word : (w k taken : ℕ) (u : ℤ) → pos w ≡ pos bias +ℤ u → u +ℤ pos taken ≡ pos k → k ≤ 64 → w < 2 ^ 63
 near_word w k taken u e range few = omega (arith, ints, e, range)
@@ -53,14 +49,7 @@ module _ (table : FileLimits) (h : List FileMark) (words : List ℕ) (shows : Sh
 
   -- a step on the count that sets no field
   pub counts_next : (m : FileMark) (w : ℕ) → ((i : ℕ) (f : FileField) (v : ℕ) → field_after i f v m.kind ≡ v) → pos w ≡ pos bias +ℤ count table.seats (h ++ m ∷ []) → ShowsHistory table (h ++ m ∷ []) (set words count_place w)
-  counts_next m w none is = record {
-    few_entries = shows.few_entries;
-    few_seats = shows.few_seats;
-    some_seat = shows.some_seat;
-    wide = length-set words count_place w ∙ shows.wide;
-    counted = ap pos (get_or-set_same words count_place w 0 (omega (arith, shows.wide))) ∙ is;
-    fields = λ i f low. get_or-set_other words count_place (word_of i f) w 0 (λ e. omega (arith, e)) ∙ (shows.fields i f low ∙ sym (field-push h m i f ∙ none i f (field h i f)));
-  }
+  counts_next m w none is = grind (arith, common_steps, length-set, count_place, pos, get_or-set_same, get_or-set_other, word_of, field-push, field)
 
   within : (i : ℕ) (f : FileField) → i < table.entries → word_of i f < length words
   within i f low = omega (arith, word_of-low i table.entries f low, shows.wide)
@@ -80,18 +69,8 @@ module _ (table : FileLimits) (h : List FileMark) (words : List ℕ) (shows : Sh
 
   -- the fields of all entries
   each_entry : (i v : ℕ) (f : FileField) → i < table.entries → (j : ℕ) (g : FileField) → j < table.entries → get_or (set words (word_of i f) v) (word_of j g) 0 ≡ cond ((j == i) && same_field g f) v (field h j g)
-  each_entry i v f low j g near = elim (same_or_not j i) [
-    | inl e ↦ subst (λ (x : ℕ). get_or (set words (word_of i f) v) (word_of x g) 0 ≡ cond ((x == i) && same_field g f) v (field h x g)) (sym e) (one_entry i v f g low)
-    | inr ne ↦ get_or-set_other words (word_of i f) (word_of j g) v 0 (apart i j f g ne) ∙ (shows.fields j g near ∙ sym (field_elsewhere j i g f (field h j g) v ne))
-  ]
+  each_entry i v f low j g near = grind (arith, common_steps, same_or_not, get_or, set, word_of, cond, same_field, field, one_entry, get_or-set_other, apart)
 
   -- a field that is set
   pub fields_next : (name i : ℕ) (f : FileField) (v : ℕ) → i < table.entries → count table.seats (h ++ mark name (Set i f v) ∷ []) ≡ count table.seats h → ShowsHistory table (h ++ mark name (Set i f v) ∷ []) (set words (word_of i f) v)
-  fields_next name i f v low same = record {
-    few_entries = shows.few_entries;
-    few_seats = shows.few_seats;
-    some_seat = shows.some_seat;
-    wide = length-set words (word_of i f) v ∙ shows.wide;
-    counted = ap pos (get_or-set_other words (word_of i f) count_place v 0 (λ e. omega (arith, e))) ∙ (shows.counted ∙ ap (λ n. pos bias +ℤ n) (sym same));
-    fields = λ j g near. each_entry i v f low j g near ∙ sym (field-push h (mark name (Set i f v)) j g);
-  }
+  fields_next name i f v low same = grind (arith, common_steps, length-set, word_of, pos, get_or-set_other, count_place, bias, each_entry, field-push, mark)

@@ -1,5 +1,6 @@
 -- One mark more, and one mark less.
-use Rattle.fak_model.proofs.Common.{nat_tests, filter-append, flat_map-append, Rules, seat_words, Owes, AreCalls, IsHistory, ◌≡◌, ◌≢◌, ◌⊎◌, ℕ, ◌==◌, Bool, true, false, List, [], ◌∷◌, ◌++◌, refl, ap, sym, ◌∙◌, subst, arith, inl, inr, append_assoc, map, filter, flat_map}
+use Rattle.std.proofs.lemmas.Grind.{common_steps}
+use Rattle.fak_model.proofs.Common.{nat_tests, filter-append, flat_map-append, Rules, seat_words, Owes, AreCalls, IsHistory, ◌≡◌, ◌≢◌, ◌⊎◌, ℕ, List, [], ◌∷◌, ◌++◌, refl, ap, sym, ◌∙◌, subst, arith, inl, inr, append_assoc, map, filter, flat_map}
 use Rattle.std.proofs.lemmas.List.{append-nil, map-append}
 use Rattle.fak_model.proofs.Deciding.{same_or_not}
 
@@ -30,23 +31,10 @@ split_last (y ∷ p) m q (z ∷ h) x e =
 -- ---- what a seat's marks say
 
 pub seat_words-own : {M W C : Type 0} (rules : Rules M W C) (seat : ℕ) (h : List M) (m : M) → rules.seat_of m ≡ seat → seat_words rules seat (h ++ m ∷ []) ≡ seat_words rules seat h ++ rules.word_of m ∷ []
-seat_words-own {M} rules seat h m own =
-    let is : (rules.seat_of m == seat) ≡ true = grind (arith, nat_tests) in
-    let his : M → Bool = λ (w : M). rules.seat_of w == seat in
-    let last : map rules.word_of (filter his (m ∷ [])) ≡ rules.word_of m ∷ [] = rw is refl in
-    ap (map rules.word_of) (filter-append his h (m ∷ []))
-    ∙ map-append rules.word_of (filter his h) (filter his (m ∷ []))
-    ∙ ap (λ l. seat_words rules seat h ++ l) last
+seat_words-own {M} rules seat h m own = grind (arith, common_steps, nat_tests, map, filter, filter-append, map-append, seat_words)
 
 pub seat_words-other : {M W C : Type 0} (rules : Rules M W C) (seat : ℕ) (h : List M) (m : M) → rules.seat_of m ≢ seat → seat_words rules seat (h ++ m ∷ []) ≡ seat_words rules seat h
-seat_words-other {M} rules seat h m other =
-    let is : (rules.seat_of m == seat) ≡ false = grind (arith, nat_tests) in
-    let his : M → Bool = λ (w : M). rules.seat_of w == seat in
-    let last : map rules.word_of (filter his (m ∷ [])) ≡ [] = rw is refl in
-    ap (map rules.word_of) (filter-append his h (m ∷ []))
-    ∙ map-append rules.word_of (filter his h) (filter his (m ∷ []))
-    ∙ ap (λ l. seat_words rules seat h ++ l) last
-    ∙ append-nil (seat_words rules seat h)
+seat_words-other {M} rules seat h m other = grind (arith, common_steps, nat_tests, map, filter, filter-append, map-append, seat_words, append-nil)
 
 -- ---- calls
 
@@ -74,10 +62,7 @@ nothing_within [] m q e = cc
 nothing_within (x ∷ p) m q e = cc
 
 pub history_none : {M W C : Type 0} (rules : Rules M W C) → IsHistory rules []
-history_none rules = record {
-  calls = λ seat. ([], ([], refl));
-  fair = λ p m q e. absurd (nothing_within p m q e);
-}
+history_none rules = grind (arith, common_steps, nothing_within)
 
 pub history_push : {M W C : Type 0} (rules : Rules M W C) (h : List M) (m : M) → IsHistory rules h
     → AreCalls rules.words_of (seat_words rules (rules.seat_of m) h ++ rules.word_of m ∷ []) → rules.IsFair h m → IsHistory rules (h ++ m ∷ [])

@@ -1,16 +1,14 @@
 -- The checker's answers, in the words of the definition.
-use Rattle.fak_model.proofs.Common.{IsQueueHistory, Mark, ℕ, ◌+◌, ◌<◌, ◌≤◌, List, length, take, get_or, reverse, subst, take_all, FirstFault, IsLegalByStage, IsLegalPast, MayFollow}
+use Rattle.std.proofs.lemmas.Grind.{common_steps}
+use Rattle.std.proofs.Common.{arith}
+use Rattle.fak_model.proofs.Common.{IsQueueHistory, Mark, ℕ, ◌<◌, ◌≤◌, List, length, take, get_or, reverse, subst, take_all, FirstFault, IsLegalByStage, MayFollow}
 use Rattle.fak_model.proofs.CheckerPast.{past_more}
 use Rattle.fak_model.proofs.QueueLiteral.{to_past, to_literal}
 
 -- the first marks are legal, and the next one may not follow them
 pub fault_at : (size : ℕ) (h : List (Mark ℕ)) (i : ℕ) (d : Mark ℕ) → i < length h → IsLegalByStage size (take i h)
     → (MayFollow size (reverse (take i h)) (get_or h i d).seat (get_or h i d).kind → ⊥) → FirstFault size h i
-fault_at size h i d l legal not = record {
-  inside = l;
-  before = to_literal size (take i h) legal;
-  fault = λ law. not (subst (IsLegalPast size) (past_more h i d l) (to_past size (take (i + 1) h) law)).0;
-}
+fault_at size h i d l legal not = grind (arith, common_steps, to_literal, take, past_more, to_past)
 
 -- all marks are legal
 pub all_legal : (size : ℕ) (h : List (Mark ℕ)) (i : ℕ) → length h ≤ i → IsLegalByStage size (take i h) → IsQueueHistory size h

@@ -1,5 +1,6 @@
 -- What the checker finds in the marks that it has read.
-use Rattle.fak_model.proofs.Common.{count, Has, puts, gots, stage, after, item_of, HasCell, Kind, ClaimIn, OverIn, Put, Fill, ClaimOut, OverOut, Got, Take, LateIn, Mark, Stage, Putting, Getting, ◌≡◌, ℕ, ◌+◌, ◌-◌, ◌<◌, ◌≤◌, List, [], ◌∷◌, ◌++◌, length, take, drop, get_or, reverse, Option, Some, None, refl, ap, sym, ◌∙◌, subst, arith, inl, inr, reverse-append, take_more, take-append-drop, stage_with}
+use Rattle.std.proofs.lemmas.Grind.{common_steps}
+use Rattle.fak_model.proofs.Common.{count, Has, puts, gots, stage, after, item_of, HasCell, Kind, ClaimIn, OverIn, Put, Fill, ClaimOut, OverOut, Got, Take, LateIn, Mark, Stage, Putting, Getting, ◌≡◌, ℕ, ◌+◌, ◌-◌, ◌<◌, ◌≤◌, List, [], ◌∷◌, ◌++◌, length, take, drop, get_or, reverse, Some, None, refl, ap, sym, ◌∙◌, subst, arith, inl, inr, reverse-append, take_more, take-append-drop, stage_with}
 use Rattle.fak_model.proofs.Deciding.{cond_here}
 use Rattle.fak_model.proofs.QueueStages.{stage_here}
 use Rattle.fak_model.proofs.QueueTickets.{item_stays, item_below}
@@ -42,10 +43,7 @@ item_at_put h i k x d l is e = (
 
 -- no item bears the next ticket
 pub item_none : {A : Type 0} (h : List (Mark A)) (k : ℕ) → count puts h ≡ k → item_of h k ≡ None
-item_none {A} h k e = elim (item_of h k) as (λ (o : Option A). item_of h k ≡ o → o ≡ None) [
-  | None ↦ λ is. refl
-  | Some x ↦ λ is. absurd (omega (arith, item_below h k x is, e))
-] refl
+item_none {A} h k e = grind (arith, common_steps, item_of, item_below)
 
 -- ---- stages
 
@@ -65,20 +63,10 @@ stage_counted h p g _ e f = refl
 -- the stage that is read off the newest mark of a seat, with this many draws left before it
 pub stage_found : (past : List (Mark ℕ)) (i j s p g : ℕ) (d : Mark ℕ) (r : Stage ℕ) → j + 1 ≡ i → j < length past → (get_or past j d).seat ≡ s → stage (reverse past) s ≡ stage (reverse (take i past)) s
     → p ≡ count puts (reverse (take i past)) → g ≡ count gots (reverse (take i past)) → r ≡ stage_with (p - puts (get_or past j d).kind) (g - gots (get_or past j d).kind) (get_or past j d).kind → r ≡ stage (reverse past) s
-stage_found past i j s p g d r next l own stays ps gs is =
-    let m = get_or past j d in
-    let before = reverse (take j past) in
-    let more : reverse (take i past) ≡ m ∷ before = subst (λ n. reverse (take n past) ≡ m ∷ before) next (past_more past j d l) in
-    let drawn = ap (count puts) more in
-    let got = ap (count gots) more in
-    is ∙ (stage_counted before (p - puts m.kind) (g - gots m.kind) m.kind (omega (arith, ps, drawn)) (omega (arith, gs, got))
-    ∙ (sym (stage_here m before) ∙ (ap (stage (m ∷ before)) own ∙ (ap (λ q. stage q s) (sym more) ∙ sym stays))))
+stage_found past i j s p g d r next l own stays ps gs is = grind (arith, common_steps, get_or, reverse, take, past_more, count, puts, gots, stage_counted, stage_here, stage)
 
 -- ---- cells
 
 -- a cell may be filled from its second round on exactly where the round before was taken from it
 pub fill_decided : (size k : ℕ) (p : List (Mark ℕ)) (κ : Kind ℕ) (P : Type 0) → size ≤ k → κ ≡ Fill k → (P → Has (Take (k - size)) p) × (Has (Take (k - size)) p → P) → (P → HasCell size p κ) × (HasCell size p κ → P)
-fill_decided size k p κ P le e d = subst (λ t. (P → HasCell size p t) × (HasCell size p t → P)) (sym e) (
-  (λ x j is. let same : k - size ≡ j = omega arith in subst (λ i. Has (Take i) p) same (d.0 x)),
-  (λ f. d.1 (f (k - size) (omega arith))),
-)
+fill_decided size k p κ P le e d = grind (arith, common_steps)

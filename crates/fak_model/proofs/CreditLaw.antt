@@ -1,5 +1,6 @@
 -- The law of a credit.
-use Rattle.fak_model.proofs.Common.{ints, AreCalls, seat_words, ◌≡◌, ℕ, ◌+◌, min, true, false, cond, List, [], ◌∷◌, ◌++◌, refl, ap, sym, ◌∙◌, arith, append_assoc, pos, ◌-ℤ◌, int_lt, append-nil, flat_map}
+use Rattle.std.proofs.lemmas.Grind.{common_steps}
+use Rattle.fak_model.proofs.Common.{AreCalls, seat_words, ◌≡◌, ℕ, ◌+◌, min, cond, List, [], ◌∷◌, ◌++◌, refl, ap, sym, ◌∙◌, arith, append_assoc, pos, ◌-ℤ◌, int_lt, append-nil, flat_map}
 use Rattle.fak_model.specs.declared.credit.CreditKind.{CreditKind}
 use Rattle.fak_model.specs.declared.credit.CreditKind.TheVariants.{Debit, Credit}
 use Rattle.fak_model.specs.declared.credit.CreditMark.{CreditMark}
@@ -16,14 +17,8 @@ from_push start before (x ∷ h) m =
 
 -- a mark grants where the lesser of debits and credits grows
 one_more : (s d c g : ℕ) (k : CreditKind) → g ≡ min d (s + c) → g + grants (pos (s + c) -ℤ pos d) k ≡ min (d + debit_weight k) (s + (c + credit_weight k))
-one_more s d c g Debit e = elim (int_lt (pos 0) (pos (s + c) -ℤ pos d)) as (λ b. int_lt (pos 0) (pos (s + c) -ℤ pos d) ≡ b → g + cond b 1 0 ≡ min (d + 1) (s + (c + 0))) [
-  | true ↦ λ t. grind (arith, ints)
-  | false ↦ λ t. grind (arith, ints)
-] refl
-one_more s d c g Credit e = elim (int_lt (pos (s + c) -ℤ pos d) (pos 0)) as (λ b. int_lt (pos (s + c) -ℤ pos d) (pos 0) ≡ b → g + cond b 1 0 ≡ min (d + 0) (s + (c + 1))) [
-  | true ↦ λ t. grind (arith, ints)
-  | false ↦ λ t. grind (arith, ints)
-] refl
+one_more s d c g Debit e = grind (arith, common_steps, int_lt, pos, cond, min)
+one_more s d c g Credit e = grind (arith, common_steps, int_lt, pos, cond, min)
 
 pub granted_is : (start : ℕ) (h : List CreditMark) → grants_made start h ≡ min (debits h) (start + credits h)
 granted_is start = snoc_ind (λ (h : List CreditMark). grants_made start h ≡ min (debits h) (start + credits h)) (omega arith) (λ h m before.
@@ -43,7 +38,4 @@ each_is_a_call ks = ([], (ks, append-nil ks ∙ sym (flat_map_one ks)))
     flat_map_one (k ∷ ks) = ap (λ l. k ∷ l) (flat_map_one ks)
 
 pub every_history : (h : List CreditMark) → IsCreditHistory h
-every_history h = record {
-  calls = λ seat. each_is_a_call (seat_words credit_rules seat h);
-  fair = λ before m after e. tt;
-}
+every_history h = grind (arith, common_steps, each_is_a_call, seat_words, credit_rules)

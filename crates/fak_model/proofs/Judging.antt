@@ -1,5 +1,6 @@
 -- Whether a list of marks is a history, by a test of each mark: for grammars in which each word has one place in a call.
-use Rattle.fak_model.proofs.Common.{Decides-eqb, Decides-ltb, Decides-like, Decides-and, Rules, seat_words, AreCalls, IsHistory, ◌≡◌, ℕ, ◌+◌, ◌≤◌, ltb, ◌==◌, Bool, true, false, List, [], ◌∷◌, ◌++◌, Decides, refl, sym, subst, arith, inl, inr, append_assoc, ◌&&◌, append-nil}
+use Rattle.std.proofs.lemmas.Grind.{common_steps}
+use Rattle.fak_model.proofs.Common.{Decides-eqb, Decides-ltb, Decides-like, Decides-and, Rules, seat_words, AreCalls, IsHistory, ◌≡◌, ℕ, ◌+◌, ◌≤◌, ltb, ◌==◌, Bool, true, false, List, [], ◌∷◌, ◌++◌, Decides, refl, sym, subst, arith, append_assoc, ◌&&◌, append-nil}
 use Rattle.fak_model.proofs.Appending.{seat_words-own, seat_words-other, history_none, history_push, history_prefix, last_calls, last_fair}
 use Rattle.fak_model.proofs.Deciding.{same_or_not}
 use Rattle.fak_model.proofs.Places.{ends, ends_push, CallsRun, may_come}
@@ -38,17 +39,7 @@ module _ {M W C : Type 0} (rules : Rules M W C) (g : Grammar rules.words_of) (is
     pub stands : (seat : ℕ) → g.Stands (ends g.leads 0 (seat_words rules seat h)) (seat_words rules seat h)
 
   judged_more : (h : List M) (m : M) → Judged h → MayStand h m → Judged (h ++ m ∷ [])
-  judged_more h m j may =
-      let own = g.comes (seat_words rules (rules.seat_of m) h) (rules.word_of m) (subst (λ (p : ℕ). g.Stands p (seat_words rules (rules.seat_of m) h)) (sym may.0) (j.stands (rules.seat_of m))) in
-      record {
-        lawful = history_push rules h m j.lawful (g.are_calls (g.leads (rules.word_of m)) (seat_words rules (rules.seat_of m) h ++ rules.word_of m ∷ []) own) may.1;
-        stands = λ seat. elim (same_or_not (rules.seat_of m) seat) [
-          | inl his ↦ subst (λ (ws : List W). g.Stands (ends g.leads 0 ws) ws) (sym (seat_words-own rules seat h m his))
-              (subst (λ (p : ℕ). g.Stands p (seat_words rules seat h ++ rules.word_of m ∷ [])) (sym (ends_push g.leads 0 (seat_words rules seat h) (rules.word_of m)))
-              (subst (λ (s : ℕ). g.Stands (g.leads (rules.word_of m)) (seat_words rules s h ++ rules.word_of m ∷ [])) his own))
-          | inr other ↦ subst (λ (ws : List W). g.Stands (ends g.leads 0 ws) ws) (sym (seat_words-other rules seat h m other)) (j.stands seat)
-        ];
-      }
+  judged_more h m j may = grind (arith, common_steps, seat_words, history_push, same_or_not, ends, seat_words-own, ends_push, seat_words-other)
 
   sound : (before rest : List M) → Judged before → judged before rest ≡ true → IsHistory rules (before ++ rest)
   sound before [] j e = subst (IsHistory rules) (sym (append-nil before)) j.lawful

@@ -1,4 +1,5 @@
 -- What each call does first stays ahead in the marks of a seat, and of all seats.
+use Rattle.std.proofs.lemmas.Grind.{common_steps}
 use Rattle.fak_model.proofs.Common.{nat_tests, sum_by-cons, sum_by_push, sum_by-append, All-head, All-tail, Rules, seat_words, Owes, AreCalls, IsHistory, IsAtRest, AreNamed, sum_below, sym, ◌≡◌, ◌≢◌, ℕ, zero, suc, ◌+◌, ◌*◌, ◌<◌, ◌≤◌, ◌==◌, Bool, true, false, cond, List, [], ◌∷◌, ◌++◌, refl, ap, ◌∙◌, subst, arith, inl, inr, map, sum_by, flat_map}
 use Rattle.std.proofs.lemmas.List.{append-nil, map_push}
 use Rattle.fak_model.proofs.Deciding.{same_or_not}
@@ -18,10 +19,7 @@ leads_prefix f g a b (x ∷ xs) (y ∷ p) q h e =
     rw same (omega (arith, rest, sum_by-cons f x p, sum_by-cons g x p))
 
 leads_append : {K : Type 0} (f g : K → ℕ) (a b : ℕ) (xs ys : List K) → Leads f g a b xs → Leads f g (a + sum_by f xs) (b + sum_by g xs) ys → Leads f g a b (xs ++ ys)
-leads_append f g a b [] ys h k =
-    let ea : a + 0 ≡ a = omega arith in
-    let eb : b + 0 ≡ b = omega arith in
-    subst (λ (n : ℕ). Leads f g n b ys) ea (subst (λ (n : ℕ). Leads f g (a + 0) n ys) eb k)
+leads_append f g a b [] ys h k = grind (arith, common_steps)
 leads_append f g a b (x ∷ xs) ys h k =
     let ea : a + sum_by f (x ∷ xs) ≡ a + f x + sum_by f xs = omega (arith, sum_by-cons f x xs) in
     let eb : b + sum_by g (x ∷ xs) ≡ b + g x + sum_by g xs = omega (arith, sum_by-cons g x xs) in

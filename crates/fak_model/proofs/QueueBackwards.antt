@@ -1,6 +1,7 @@
 -- A history and its past: counts, marks and items are the same from either end.
+use Rattle.std.proofs.lemmas.Grind.{common_steps}
 use Rattle.std.proofs.lemmas.List.{append-nil, reverse-reverse}
-use Rattle.fak_model.proofs.Common.{All-cons, All-head, All-tail, flat_map-append, Kind, Put, Mark, count, puts, Has, Idle, items_put, item_in, item_at, Drew, ◌≡◌, ◌≢◌, ◌⊎◌, ℕ, zero, suc, ◌+◌, ◌==◌, cond, List, [], ◌∷◌, ◌++◌, length, length-append, reverse, Option, Some, refl, ap, sym, ◌∙◌, subst, arith, rules, inl, inr, All, after, stage, item_put, item_of}
+use Rattle.fak_model.proofs.Common.{All-cons, All-head, All-tail, flat_map-append, Kind, Put, Mark, count, puts, Has, Idle, items_put, item_in, item_at, Drew, ◌≡◌, ◌≢◌, ◌⊎◌, ℕ, zero, suc, ◌+◌, cond, List, [], ◌∷◌, ◌++◌, length, length-append, reverse, Option, Some, refl, ap, sym, ◌∙◌, subst, arith, rules, inl, inr, All, after, stage, item_put, item_of}
 use Rattle.fak_model.proofs.Appending.{snoc_ind}
 use Rattle.fak_model.proofs.Reversing.{reverse_cons, reverse_push, reverse_split, All-reverse}
 use Rattle.fak_model.proofs.Deciding.{cond_here, cond_else, same_or_not}
@@ -56,10 +57,7 @@ items_count {A} = snoc_ind (λ (h : List (Mark A)). length (items_put h) ≡ cou
 
 one_more : {A : Type 0} (xs : List A) (s : ℕ) (κ : Kind A) (n k : ℕ) (r : Option A) → length xs ≡ n → item_at xs k ≡ r
     → item_at (xs ++ item_in (record { seat = s; kind = κ })) k ≡ item_put k n κ r
-one_more xs s (Put x) n k r l e = elim (same_or_not k n) [
-  | inl q ↦ (ap (item_at (xs ++ x ∷ [])) (q ∙ sym l) ∙ (item_at_new xs x ∙ sym (ap (λ j. cond (k == j) (Some x) r) (sym q) ∙ cond_here k (Some x) r)))
-  | inr d ↦ (item_at_old xs x k (λ e. d (e ∙ l)) ∙ (e ∙ sym (cond_else k n (Some x) r d)))
-]
+one_more xs s (Put x) n k r l e = grind (arith, common_steps, same_or_not, item_at, item_at_new, cond, cond_here, item_at_old, cond_else)
 one_more xs s _ n k r l e = ap (λ t. item_at t k) (append-nil xs) ∙ e
 
 -- the item at place k is that of the Put with ticket k

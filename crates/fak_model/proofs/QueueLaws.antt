@@ -1,4 +1,5 @@
 -- The laws of legal histories, over the literal definition.
+use Rattle.std.proofs.lemmas.Grind.{common_steps}
 use Rattle.fak_model.proofs.Common.{ints, reverse-reverse, Kind, Fill, ClaimOut, Got, Take, Mark, seat_words, IsAtRest, count, puts, gots, upper_raise, upper_drop, lower_raise, lower_drop, Has, ClaimedOut, upper_count, lower_count, items_put, contents, words_of_call, queue_rules, IsQueueHistory, ◌≡◌, ◌≢◌, ◌⊎◌, ℕ, ◌<◌, ◌≤◌, List, [], ◌∷◌, ◌++◌, length, length-drop, reverse, refl, ap, sym, ◌∙◌, subst, arith, inl, inr, append_assoc, pos, All, after, stage, MayFollow, IsLegalPast, HasNoOpenCall}
 use Rattle.fak_model.specs.QueueOrder.{Deletion, KeepsCallOrder}
 use Rattle.fak_model.proofs.Appending.{history_prefix}
@@ -11,11 +12,7 @@ use Rattle.fak_model.proofs.QueueCounts.{contents_bounded, whole_counts}
 use Rattle.fak_model.proofs.QueueTickets.{fill_below, take_below}
 
 pub contents_fit : {T : Type 0} (size : ℕ) (h : List (Mark T)) → IsQueueHistory size h → (count gots h ≤ count puts h) × (length (contents h) ≤ size)
-contents_fit size h law =
-    let b = contents_bounded size (reverse h) (to_past size h law) in
-    let g = count_reverse gots h in
-    let p = count_reverse puts h in
-    (omega arith, omega (arith, length-drop (count gots h) (items_put h), items_count h))
+contents_fit size h law = grind (arith, common_steps, contents_bounded, reverse, to_past, count_reverse, gots, puts, length-drop, count, items_put, items_count)
 
 rest_idle : {T : Type 0} (size : ℕ) (h : List (Mark T)) → IsAtRest (queue_rules size) h → HasNoOpenCall (reverse h)
 rest_idle size h rest s = at_idle (stage (reverse h) s)

@@ -1,4 +1,5 @@
 -- The literal definition of a legal history and the one by stages are one.
+use Rattle.std.proofs.lemmas.Grind.{common_steps}
 use Rattle.fak_model.proofs.Common.{ints, Kind, ClaimIn, OverIn, BackIn, NoRoom, Put, Fill, EndIn, ClaimOut, OverOut, BackOut, NoItem, Got, Take, EndOut, Close, Closed, LateIn, Mark, seat_words, Owes, count, puts, gots, upper_raise, upper_drop, lower_raise, lower_drop, Putting, Getting, ◌≡◌, ℕ, List, [], ◌∷◌, ◌++◌, reverse, refl, ap, sym, ◌∙◌, subst, arith, inl, inr, word, words_of_call, IsFairAnswer, IsFirstOut, items_put, item_at, Drew, BearsTicket, HasItsCell, IsFairMark, queue_rules, IsQueueHistory}
 use Rattle.fak_model.specs.QueuePast.{after, stage, item_of, IsNext, IsFair, IsOldest, HasCell, MayFollow, IsLegalPast}
 use Rattle.fak_model.proofs.Appending.{snoc_ind, seat_words-own, seat_words-other, history_none, history_push, history_front, last_calls, last_fair}
@@ -32,16 +33,10 @@ next_of h s EndOut e b = at_taken (stage (reverse h) s) e
 next_of h s _ e b = at_idle (stage (reverse h) s) e
 
 putting_drew : {T : Type 0} (h : List (Mark T)) (s k : ℕ) (x : T) → stage (reverse h) s ≡ Putting k x → Drew h s (Put x) puts k
-putting_drew h s k x e = elim (last_of (reverse h) s) [
-  | inl none ↦ absurd (cc (none, e))
-  | inr l ↦ (let w = after_putting l.older l.m.kind k x (sym l.stands ∙ e) in drew h s l (Put x) puts k w.0 w.1)
-]
+putting_drew h s k x e = grind (arith, common_steps, last_of, reverse, after_putting, drew, puts)
 
 getting_drew : {T : Type 0} (h : List (Mark T)) (s k : ℕ) → stage (reverse h) s ≡ Getting k → (x : T) × Drew h s (Got x) gots k
-getting_drew {T} h s k e = elim (last_of (reverse h) s) [
-  | inl none ↦ absurd (cc (none, e))
-  | inr l ↦ (let w = after_getting l.older l.m.kind k (sym l.stands ∙ e) in (w.0.0, drew h s l (Got w.0.0) gots k w.0.1 w.1))
-]
+getting_drew {T} h s k e = grind (arith, common_steps, last_of, reverse, after_getting, drew, gots)
 
 ticket_of : {T : Type 0} (h : List (Mark T)) (s : ℕ) (κ : Kind T) → IsNext (stage (reverse h) s) κ → BearsTicket h s κ
 ticket_of h s (Fill k) n = (n.0, putting_drew h s k n.0 n.1)
@@ -106,12 +101,7 @@ follows size h m law =
     }
 
 pub fair_mark : {T : Type 0} (size : ℕ) (h : List (Mark T)) (m : Mark T) → MayFollow size (reverse h) m.seat m.kind → IsFairMark size h m
-fair_mark size h m f = record {
-  answer = answer_of size h m.kind f.fair;
-  first_out = first_of_items h m.kind f.oldest;
-  ticket = ticket_of h m.seat m.kind f.next;
-  cell = its_cell_of size h m.kind f.cell;
-}
+fair_mark size h m f = grind (arith, common_steps, answer_of, first_of_items, ticket_of, its_cell_of)
 
 -- what each seat owes is what its stage says
 pub owes : {T : Type 0} (size s : ℕ) (h : List (Mark T)) → IsLegalPast size (reverse h) → Owes words_of_call (seat_words (queue_rules size) s h) (owed_in (stage (reverse h) s))

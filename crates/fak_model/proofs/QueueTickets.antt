@@ -1,5 +1,6 @@
 -- Each ticket has one inserter and one deleter, and its cell is filled and emptied by them alone.
-use Rattle.fak_model.proofs.Common.{Kind, Put, Fill, Take, Mark, count, puts, gots, Has, Putting, Getting, ◌≡◌, ◌≢◌, ◌⊎◌, ℕ, ◌<◌, ◌≤◌, ◌==◌, cond, List, [], ◌∷◌, Option, Some, refl, sym, ap, ◌∙◌, subst, inl, inr, arith, stage, item_put, item_of, MayFollow, IsLegalPast}
+use Rattle.std.proofs.lemmas.Grind.{common_steps}
+use Rattle.fak_model.proofs.Common.{Kind, Put, Fill, Take, Mark, count, puts, gots, Has, Putting, Getting, ◌≡◌, ◌≢◌, ◌⊎◌, ℕ, ◌<◌, ◌≤◌, ◌==◌, cond, List, [], ◌∷◌, Option, Some, refl, sym, ap, ◌∙◌, inl, inr, arith, stage, item_put, item_of, IsLegalPast}
 use Rattle.fak_model.proofs.Deciding.{cond_here, cond_else, same_or_not}
 use Rattle.fak_model.proofs.QueueStages.{putting_back, getting_back}
 
@@ -75,18 +76,13 @@ putting_one (m ∷ h) s t k x y e f = elim (putting_back m h s k x e) [
 
 pub fill_below : {A : Type 0} (size : ℕ) (h : List (Mark A)) → IsLegalPast size h → (k : ℕ) → Has (Fill k) h → k < count puts h
 fill_below size [] l k e = absurd e
-fill_below {A} size (m ∷ h) l k (inl e) =
-    let f : MayFollow size h m.seat (Fill k) = subst (MayFollow size h m.seat) e l.0 in
-    let b = putting_below h m.seat k f.next.0 f.next.1 in omega arith
+fill_below {A} size (m ∷ h) l k (inl e) = grind (arith, common_steps, putting_below)
 fill_below size (m ∷ h) l k (inr e) = let b = fill_below size h l.1 k e in omega arith
 
 -- what a seat is to fill isn't filled
 pub putting_unfilled : {A : Type 0} (size : ℕ) (h : List (Mark A)) → IsLegalPast size h → (s k : ℕ) (x : A) → stage h s ≡ Putting k x → Has (Fill k) h → ⊥
 putting_unfilled size [] l s k x e f = f
-putting_unfilled size (m ∷ h) l s k x e (inl q) = elim (putting_back m h s k x e) [
-  | inl w ↦ cc (w.1, q)
-  | inr w ↦ let p : MayFollow size h m.seat (Fill k) = subst (MayFollow size h m.seat) q l.0 in w.0 (putting_one h s m.seat k x p.next.0 w.1 p.next.1)
-]
+putting_unfilled size (m ∷ h) l s k x e (inl q) = grind (arith, common_steps, putting_back, putting_one)
 putting_unfilled size (m ∷ h) l s k x e (inr g) = elim (putting_back m h s k x e) [
   | inl w ↦ let b = fill_below size h l.1 k g in omega arith
   | inr w ↦ putting_unfilled size h l.1 s k x w.1 g
@@ -116,17 +112,12 @@ getting_one (m ∷ h) s t k e f = elim (getting_back m h s k e) [
 
 pub take_below : {A : Type 0} (size : ℕ) (h : List (Mark A)) → IsLegalPast size h → (k : ℕ) → Has (Take k) h → k < count gots h
 take_below size [] l k e = absurd e
-take_below {A} size (m ∷ h) l k (inl e) =
-    let f : MayFollow size h m.seat (Take k) = subst (MayFollow size h m.seat) e l.0 in
-    let b = getting_below h m.seat k f.next in omega arith
+take_below {A} size (m ∷ h) l k (inl e) = grind (arith, common_steps, getting_below)
 take_below size (m ∷ h) l k (inr e) = let b = take_below size h l.1 k e in omega arith
 
 pub getting_untaken : {A : Type 0} (size : ℕ) (h : List (Mark A)) → IsLegalPast size h → (s k : ℕ) → stage h s ≡ Getting k → Has (Take k) h → ⊥
 getting_untaken size [] l s k e f = f
-getting_untaken size (m ∷ h) l s k e (inl q) = elim (getting_back m h s k e) [
-  | inl w ↦ cc (w.1.1, q)
-  | inr w ↦ let p : MayFollow size h m.seat (Take k) = subst (MayFollow size h m.seat) q l.0 in w.0 (getting_one h s m.seat k w.1 p.next)
-]
+getting_untaken size (m ∷ h) l s k e (inl q) = grind (arith, common_steps, getting_back, getting_one)
 getting_untaken size (m ∷ h) l s k e (inr g) = elim (getting_back m h s k e) [
   | inl w ↦ let b = take_below size h l.1 k g in omega arith
   | inr w ↦ getting_untaken size h l.1 s k w.1 g

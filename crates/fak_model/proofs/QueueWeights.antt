@@ -1,6 +1,7 @@
 -- What the marks of a legal history of a queue weigh.
+use Rattle.std.proofs.lemmas.Grind.{common_steps}
 use Rattle.std.proofs.lemmas.List.{append-nil, take-append-le, take_more, nil_from_length}
-use Rattle.fak_model.proofs.Common.{cases_lt, Kind, Put, Fill, Got, Take, Close, Closed, LateIn, Mark, put_of, got_of, close_of, closed_of, ◌≡◌, ℕ, zero, suc, ◌+◌, ◌<◌, ◌≤◌, List, [], ◌∷◌, ◌++◌, length, get_or, take, length-drop, reverse, Some, refl, ap, sym, ◌∙◌, subst, arith, inl, inr, sum_by, sum_by-append, sum_by_push, sum_by-take-drop, queue_rules, IsQueueHistory, IsFairMark, IsFirstOut, count, puts, gots, items_put, item_in, item_at, contents, Has, Drew, BearsTicket, HasItsCell}
+use Rattle.fak_model.proofs.Common.{cases_lt, Kind, Put, Fill, Got, Take, Close, Closed, LateIn, Mark, put_of, got_of, close_of, closed_of, ◌≡◌, ℕ, zero, suc, ◌+◌, ◌<◌, ◌≤◌, List, [], ◌∷◌, ◌++◌, length, get_or, take, length-drop, reverse, Some, refl, ap, sym, ◌∙◌, subst, arith, inl, inr, sum_by, sum_by-append, sum_by_push, sum_by-take-drop, queue_rules, IsQueueHistory, IsFairMark, IsFirstOut, count, puts, gots, items_put, item_in, item_at, contents, Has, Drew, BearsTicket}
 use Rattle.fak_model.specs.QueuePast.{IsFair, IsLegalPast}
 use Rattle.fak_model.proofs.Appending.{snoc_ind, history_front, last_fair}
 use Rattle.fak_model.proofs.QueueBackwards.{count_append, count_reverse, items_push, items_count}
@@ -32,13 +33,8 @@ got_next f h s (Got x) first le before =
     let w = at_place (items_put h) (count gots h) x first in
     let e : take (count gots h + 1) (items_put h) ≡ take (count gots h) (items_put h) ++ x ∷ [] = take_more (items_put h) (count gots h) x w.0 ∙ ap (λ y. take (count gots h) (items_put h) ++ y ∷ []) w.1 in
     ap (λ l. sum_by f (take (count gots h + 1) l)) (append-nil (items_put h)) ∙ (ap (sum_by f) e ∙ (sum_by_push f (take (count gots h) (items_put h)) x ∙ ap (λ n. n + f x) before))
-got_next f h s (Put x) first le before =
-    let within : count gots h + 0 ≤ length (items_put h) = omega (arith, le, items_count h) in
-    let zero_more : count gots h + 0 ≡ count gots h = omega arith in
-    ap (sum_by f) (take-append-le (count gots h + 0) (items_put h) (x ∷ []) within) ∙ (ap (λ n. sum_by f (take n (items_put h))) zero_more ∙ (before ∙ omega arith))
-got_next f h s _ first le before =
-    let zero_more : count gots h + 0 ≡ count gots h = omega arith in
-    ap (λ l. sum_by f (take (count gots h + 0) l)) (append-nil (items_put h)) ∙ (ap (λ n. sum_by f (take n (items_put h))) zero_more ∙ (before ∙ omega arith))
+got_next f h s (Put x) first le before = grind (arith, common_steps, count, gots, length, items_put, items_count, sum_by, take-append-le, take)
+got_next f h s _ first le before = grind (arith, common_steps, count, gots, sum_by, take, append-nil, items_put)
 
 pub gots_weigh : {A : Type 0} (size : ℕ) (f : A → ℕ) (h : List (Mark A)) → IsQueueHistory size h → sum_by f (take (count gots h) (items_put h)) ≡ count (got_of f) h
 gots_weigh {A} size f = snoc_ind (λ (h : List (Mark A)). IsQueueHistory size h → sum_by f (take (count gots h) (items_put h)) ≡ count (got_of f) h) (λ law. refl) (λ h m before law.
@@ -75,11 +71,7 @@ past_closed size (m ∷ h) legal more = elim (cases_lt 0 (closed_of m.kind)) [
 ]
 
 pub closed_after_close : {A : Type 0} (size : ℕ) (h : List (Mark A)) → IsQueueHistory size h → 0 < count closed_of h → 0 < count close_of h
-closed_after_close size h law more =
-    let e = count_reverse closed_of h in
-    let c = count_reverse close_of h in
-    let past = past_closed size (reverse h) (to_past size h law) (omega arith) in
-    omega arith
+closed_after_close size h law more = grind (arith, common_steps, count_reverse, closed_of, close_of, past_closed, reverse, to_past)
 
 count_same : {A : Type 0} (w v : Kind A → ℕ) → ((κ : Kind A) → w κ ≡ v κ) → (h : List (Mark A)) → count w h ≡ count v h
 count_same w v each [] = refl
@@ -106,11 +98,7 @@ contents_put h = omega (arith, length-drop (count gots h) (items_put h), items_c
 -- ---- the marks of one ticket
 
 pub drew_below : {A : Type 0} (before : List (Mark A)) (seat k : ℕ) (x : A) → Drew before seat (Put x) puts k → k < count puts before
-drew_below before seat k x d =
-    let split = ap (count puts) d.stands in
-    let parts = count_append puts d.earlier (d.m ∷ d.later) in
-    let one : puts d.m.kind ≡ 1 = ap puts d.is in
-    omega (arith, split, parts, one, d.number)
+drew_below before seat k x d = grind (arith, common_steps, count, puts, count_append)
 
 pub fill_after_put : {A : Type 0} (size : ℕ) (h before after : List (Mark A)) (m : Mark A) (k : ℕ) → IsQueueHistory size h → before ++ m ∷ after ≡ h → m.kind ≡ Fill k
     → ((x : A) × Drew before m.seat (Put x) puts k) × (k < count puts before)
@@ -120,6 +108,4 @@ fill_after_put size h before after m k law is kind =
     (own, drew_below before m.seat k own.0 own.1)
 
 pub take_after_fill : {A : Type 0} (size : ℕ) (h before after : List (Mark A)) (m : Mark A) (k : ℕ) → IsQueueHistory size h → before ++ m ∷ after ≡ h → m.kind ≡ Take k → Has (Fill k) before
-take_after_fill size h before after m k law is kind =
-    let fair : IsFairMark size before m = law.fair before m after is in
-    subst (HasItsCell size before) kind fair.cell
+take_after_fill size h before after m k law is kind = grind (arith, common_steps)

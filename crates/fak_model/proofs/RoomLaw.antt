@@ -1,5 +1,6 @@
 -- The law of a room.
-use Rattle.fak_model.proofs.Common.{ints, sum_by_push, All-pop, RoomKind, Up, Over, Back, No, Release, RoomMark, seat_words, IsAtRest, AreNamed, sum_below, ◌≡◌, ◌≢◌, ◌⊎◌, ℕ, ◌+◌, ◌-◌, ◌<◌, ◌≤◌, List, [], ◌∷◌, ◌++◌, Some, refl, ap, sym, ◌∙◌, subst, arith, inl, inr, pos, sum_by}
+use Rattle.std.proofs.lemmas.Grind.{common_steps}
+use Rattle.fak_model.proofs.Common.{ints, sum_by_push, All-pop, RoomKind, Up, Over, Back, No, Release, RoomMark, seat_words, IsAtRest, AreNamed, sum_below, ◌≡◌, ◌≢◌, ◌⊎◌, ℕ, ◌+◌, ◌-◌, ◌<◌, ◌≤◌, List, [], ◌∷◌, ◌++◌, Some, refl, ap, sym, subst, arith, inl, inr, pos, sum_by}
 use Rattle.fak_model.specs.Room.{WholeCall, Granted, Refused, Withdrawn, Released, kinds_of_call, kind_of, total, up_amount, over_amount, back_amount, release_amount, amount_held, IsFair, value, room_rules, IsRoomHistory}
 use Rattle.fak_model.proofs.Appending.{snoc_ind, seat_words-own, seat_words-other, history_front, last_fair}
 use Rattle.fak_model.proofs.Leading.{CallsLead, history_leads, rest_even, total_push, sum_one, sum_none}
@@ -37,12 +38,7 @@ releases_le bound k =
 
 held_own : (bound : ℕ) (h : List RoomMark) (m : RoomMark) → IsRoomHistory bound h → release_amount m.kind ≤ amount_held m.seat h
     → amount_held m.seat (h ++ m ∷ []) + release_amount m.kind ≡ amount_held m.seat h + up_amount m.kind
-held_own bound h m law le =
-    let is = seat_words-own (room_rules bound) m.seat h m refl in
-    let u = ap (sum_by up_amount) is ∙ sum_by_push up_amount (seat_words (room_rules bound) m.seat h) m.kind in
-    let r = ap (sum_by release_amount) is ∙ sum_by_push release_amount (seat_words (room_rules bound) m.seat h) m.kind in
-    let old = releases_le bound m.seat h law in
-    omega arith
+held_own bound h m law le = grind (arith, common_steps, seat_words-own, room_rules, sum_by, up_amount, sum_by_push, seat_words, release_amount, releases_le)
 
 -- what all seats hold and the Releases are the Ups, and fit
 pub held_fits : (bound seats : ℕ) (h : List RoomMark) → IsRoomHistory bound h → AreNamed (room_rules bound) seats h

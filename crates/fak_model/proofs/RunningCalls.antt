@@ -1,4 +1,5 @@
 -- From the steps of a seat to what its calls promise: histories with the oldest mark first.
+use Rattle.std.proofs.lemmas.Grind.{common_steps}
 use Rattle.fak_model.proofs.Common.{nat_tests, View, Rules, IsHistory, AreNamed, Begins, In, marks_of, Knows, Object, Leaves, ObjectId, SeatInfo, seat_info, mine_of, last_of, Appends, before_mark, IsSeatToken, ◌≡◌, ◌≢◌, ℕ, zero, suc, ◌==◌, Bool, true, false, cond, List, [], ◌∷◌, ◌++◌, length, refl, ap, sym, ◌∙◌, subst, arith, inl, append_assoc, Some, reverse, Me, sight, HasOneName, Foreign, AreOwn, Sees}
 use Rattle.std.proofs.lemmas.List.{append-nil, reverse-append}
 use Rattle.fak_model.proofs.Seats.{marks_of_append}
@@ -80,33 +81,11 @@ begins_trans f g h a b = (a.0 ++ b.0, sym (append_assoc f a.0 b.0) ∙ (ap (λ l
 module _ {M W C : Type 0} (rules : Rules M W C) where
   -- a call of one part, and then of another that leaves a mark
   pub appends_then : (f : List M) (m : M) (g : List M) (a b c : SeatInfo M) → Appends rules f a b → Appends rules (m ∷ g) b c → Appends rules (f ++ m ∷ g) a c
-  appends_then f m g a b c p q =
-      let name : b.name ≡ a.name = ap (λ (s : SeatInfo M). s.name) p.same_seat in
-      let stint : b.stint ≡ a.stint = ap (λ (s : SeatInfo M). s.stint) p.same_seat in
-      let object : b.object ≡ a.object = ap (λ (s : SeatInfo M). s.object) p.same_seat in
-      record {
-        same_seat = q.same_seat ∙ (λ i. seat_info (object i) (name i) (stint i) c.seen);
-        begins = begins_trans a.seen b.seen c.seen p.begins q.begins;
-        mine = q.mine ∙ (ap (λ l. l ++ m ∷ g) p.mine ∙ append_assoc (mine_of rules.seat_of a) f (m ∷ g));
-        last = λ n e. q.last n (sym (last_of-append f m g) ∙ e);
-        lawful = q.lawful;
-        named = q.named;
-      }
+  appends_then f m g a b c p q = grind (arith, common_steps, seat_info, begins_trans, append_assoc, mine_of, last_of-append)
 
   -- a part of a call that leaves no mark, and then another
   pub appends_none : (g : List M) (a b c : SeatInfo M) → Appends rules [] a b → Appends rules g b c → Appends rules g a c
-  appends_none g a b c p q =
-      let name : b.name ≡ a.name = ap (λ (s : SeatInfo M). s.name) p.same_seat in
-      let stint : b.stint ≡ a.stint = ap (λ (s : SeatInfo M). s.stint) p.same_seat in
-      let object : b.object ≡ a.object = ap (λ (s : SeatInfo M). s.object) p.same_seat in
-      record {
-        same_seat = q.same_seat ∙ (λ i. seat_info (object i) (name i) (stint i) c.seen);
-        begins = begins_trans a.seen b.seen c.seen p.begins q.begins;
-        mine = q.mine ∙ ap (λ l. l ++ g) (p.mine ∙ append-nil (mine_of rules.seat_of a));
-        last = q.last;
-        lawful = q.lawful;
-        named = q.named;
-      }
+  appends_none g a b c p q = grind (arith, common_steps, seat_info, begins_trans, append-nil, mine_of)
 
   -- what stands before an appended mark stays so as more is seen
   pub before_mark-begins : (name number : ℕ) (p : List M) (m : M) (q h : List M) → rules.seat_of m ≡ name → length (marks_of rules.seat_of name p) ≡ number → Begins (p ++ m ∷ q) h → before_mark rules.seat_of name number h ≡ p
@@ -163,30 +142,15 @@ module _ {M W C P S H : Type 0} {o : Object M W C P S H} {m : Me H (View M P)} {
 
   last_after : (h : List M) → h ≡ new → (x : M) → last_of (reverse h) ≡ Some x → last_of (reverse after.0.seen) ≡ Some x
   last_after [] e x is = absurd cc
-  last_after (y ∷ h) e x is =
-      let front : last_of (reverse (y ∷ h)) ≡ Some y = ap last_of (reverse-append (y ∷ []) h) ∙ last_of-push (reverse h) y in
-      let all : reverse after.0.seen ≡ (reverse l.past ++ reverse h) ++ y ∷ [] = history_after ∙ (ap (λ k. reverse l.past ++ reverse k) (sym e) ∙ (ap (λ k. reverse l.past ++ k) (reverse-append (y ∷ []) h) ∙ sym (append_assoc (reverse l.past) (reverse h) (y ∷ [])))) in
-      ap last_of all ∙ (last_of-push (reverse l.past ++ reverse h) y ∙ (sym front ∙ is))
+  last_after (y ∷ h) e x is = grind (arith, common_steps, last_of, reverse, reverse-append, last_of-push, history_after, append_assoc)
 
   -- a step appends its marks
   pub step_appends : (object : ObjectId) (stint : ℕ) → object.seats ≡ o.seats → Appends o.rules (reverse new) (seat_info object n stint (reverse m.0.seen)) (seat_info object n stint (reverse after.0.seen))
-  step_appends object stint seats = record {
-    same_seat = refl;
-    begins = begins_after;
-    mine = mine_after;
-    last = λ x is. last_after new refl x is;
-    lawful = lawful_after;
-    named = subst (λ (k : ℕ). AreNamed o.rules k (reverse after.0.seen)) (sym seats) named_after;
-  }
+  step_appends object stint seats = grind (arith, common_steps, begins_after, mine_after, last_after, lawful_after, reverse, named_after)
 
   -- the seat's token after the step
   pub token_after : {was : P} {had : ℕ} → IsSeatToken o.rules.seat_of o.seats n was had m → carried ≡ [] → IsSeatToken o.rules.seat_of o.seats n phase left after
-  token_after t none = record {
-    me_is = l.after_is ∙ (λ i. (sight (one i) (sym seen_after i) phase left, none i));
-    below = t.below;
-    few = t.few;
-    named = named_after;
-  }
+  token_after t none = grind (arith, common_steps, sight, seen_after, named_after)
 
 -- what stood before the one mark of a step, now and as more is seen
 pub step_before : {M W C P S H : Type 0} {o : Object M W C P S H} {m : Me H (View M P)} {x : M} {phase : P} {left : ℕ} {carried : List (ℕ × H)} {tells : List M → Type 0} {after : Me H (View M P)}

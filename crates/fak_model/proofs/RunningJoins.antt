@@ -1,5 +1,6 @@
 -- What a tally knows once a seat was joined, and how the seats of a new object are dealt.
-use Rattle.fak_model.proofs.Common.{length-reverse, View, IsHistory, AreNamed, Begins, In, IsWhole, Knows, longer_of, ObjectId, object_id, SeatInfo, seat_info, fresh_seats, TallyInfo, tally_info, IsJoined, ◌≡◌, ◌⊎◌, ℕ, zero, suc, ◌+◌, ◌-◌, ◌*◌, ◌/◌, ◌<◌, ◌≤◌, Bool, true, false, cond, nat_lt, List, [], ◌∷◌, ◌++◌, length, refl, ap, sym, ◌∙◌, subst, arith, inl, inr, Some, suc-mul, reverse, IsTrue, ◌↔◌, Me, Splits, Joins, sight, Sees, names_from, first_name, later_names, dealt, kept, joined, spent, settled, Object, IsShown, Hears, IsSeatToken, IsTallyToken}
+use Rattle.std.proofs.lemmas.Grind.{common_steps}
+use Rattle.fak_model.proofs.Common.{length-reverse, View, IsHistory, AreNamed, Begins, In, IsWhole, Knows, longer_of, ObjectId, object_id, SeatInfo, seat_info, fresh_seats, TallyInfo, tally_info, IsJoined, ◌≡◌, ◌⊎◌, ℕ, zero, suc, ◌+◌, ◌-◌, ◌*◌, ◌/◌, ◌<◌, ◌≤◌, Bool, true, false, cond, nat_lt, List, [], ◌∷◌, ◌++◌, length, refl, ap, sym, ◌∙◌, subst, arith, inl, inr, suc-mul, reverse, IsTrue, ◌↔◌, Me, Splits, Joins, sight, Sees, names_from, first_name, later_names, dealt, kept, joined, spent, settled, Object, IsShown, Hears, IsSeatToken, IsTallyToken}
 use Rattle.std.proofs.Math.Nat.{mul-div_cancel_left}
 use Rattle.atomic_table.specs.Seated.{TableId}
 use Rattle.fak_model.specs.declared.name_set.NameSet.{NameSet}
@@ -45,16 +46,7 @@ module _ {M W C P S H : Type 0} {o : Object M W C P S H} {v w u after : Me H (Vi
 
   -- the joined token is a tally's
   pub tally_after : IsTallyToken o.rules.seat_of o.seats phase after
-  tally_after =
-      let at : v.0.phase ≡ Some phase = ap (λ (x : Me H (View M P)). x.0.phase) tally.me_is in
-      let none : v.1 ≡ [] = ap (λ (x : Me H (View M P)). x.1) tally.me_is in
-      let names : v.0.names ++ w.0.names ≡ after.0.names = ap (λ (x : Me H (View M P)). x.0.names) (sym after_is) in
-      let kept : v.0.left ≡ after.0.left = ap (λ (x : Me H (View M P)). x.0.left) (sym after_is) in
-      record {
-        me_is = after_is ∙ (λ i. (record { names = names i; seen = sym seen_after i; phase = at i; left = kept i; told = []; told_names = [] }, none i));
-        few = tally.few;
-        named = subst (λ (h : List M). AreNamed o.rules o.seats (reverse h)) seen_before heard.named;
-      }
+  tally_after = grind (arith, common_steps, after_is, kept, left, seen_after, reverse, seen_before)
 
   told : Parts o.rules.seat_of v.0.names w.0.names v.0.seen w.0.seen (longer_of v.0.seen w.0.seen)
   told = parts o.rules.seat_of v.0.names w.0.names v.0.seen w.0.seen (nat_lt (length v.0.seen) (length w.0.seen)) (subst (λ (x : Me H (View M P)). Sees o.rules.seat_of x.0.told_names x.0.told x.0.seen) is heard.told)
@@ -78,11 +70,7 @@ module _ {M W C P S H : Type 0} {o : Object M W C P S H} {v w u after : Me H (Vi
 
 -- the tally of one seat
 pub tally_token : {M P H : Type 0} (seat_of : M → ℕ) (seats name left : ℕ) (phase : P) (m : Me H (View M P)) → IsSeatToken seat_of seats name phase left m → IsTallyToken seat_of seats phase m
-tally_token {M} {P} {H} seat_of seats name left phase m t = record {
-  me_is = t.me_is ∙ (λ i. (sight (ap (λ (x : Me H (View M P)). x.0.names) (sym t.me_is) i) m.0.seen phase (ap (λ (x : Me H (View M P)). x.0.left) (sym t.me_is) i), []));
-  few = t.few;
-  named = t.named;
-}
+tally_token {M} {P} {H} seat_of seats name left phase m t = grind (arith, common_steps, sight, left)
 
 -- ---- seats of a new object
 
@@ -117,12 +105,7 @@ module _ {M W C P S H : Type 0} (o : Object M W C P S H) (resting : P) (stint i 
 
 -- a seat's token as it is dealt
 pub fresh_token : {M P H : Type 0} (seat_of : M → ℕ) (seats : ℕ) (resting : P) (stint name : ℕ) (m : Me H (View M P)) → m ≡ (sight (name ∷ []) [] resting stint, []) → name < seats → seats ≤ 64 → IsSeatToken seat_of seats name resting stint m
-fresh_token {M} {P} {H} seat_of seats resting stint name m is low few = subst (λ (x : Me H (View M P)). IsSeatToken seat_of seats name resting stint x) (sym is) record {
-  me_is = refl;
-  below = low;
-  few = few;
-  named = λ k d lt. absurd (omega arith);
-}
+fresh_token {M} {P} {H} seat_of seats resting stint name m is low few = grind (arith, common_steps)
 
 pub fresh_next : {M : Type 0} (object : ObjectId) (stint a n : ℕ) → fresh_seats {M = M} object stint a (n + 1) ≡ fresh_seats object stint a n ++ seat_info object (a + n) stint [] ∷ []
 fresh_next object stint a zero = let same : a ≡ a + 0 = omega arith in ap (λ x. seat_info object x stint [] ∷ []) same
@@ -183,7 +166,4 @@ module _ {M W C P S H : Type 0} (o : Object M W C P S H) {phase : P} {tally_seat
 
 -- the set of a tally's names has all seats exactly where its names do
 pub whole_set : (set : NameSet) (names : List ℕ) (seats : ℕ) (b : Bool) → HasJust set names → (IsTrue b ↔ ((n : ℕ) → n < seats → Has set n)) → (IsTrue b ↔ IsWhole seats names)
-whole_set set names seats b just test = (
-  (λ h n low. (just n).0 (test.0 h n low)),
-  (λ whole. test.1 (λ n low. (just n).1 (whole n low))),
-)
+whole_set set names seats b just test = grind (arith, common_steps)

@@ -1,4 +1,5 @@
 -- How a running object begins, and how its seats are dealt, joined and told what they saw together.
+use Rattle.std.proofs.lemmas.Grind.{common_steps}
 use Rattle.std.proofs.Math.Nat.{div-le_self}
 use Rattle.fak_model.proofs.Common.{some, some-injective, some-ne-none, get_elem?, View, AreNamed, In, ◌≡◌, ◌≢◌, ◌⊎◌, ℕ, zero, suc, ◌+◌, ◌<◌, ◌≤◌, List, [], ◌∷◌, ◌++◌, length, set, map, refl, ap, sym, ◌∙◌, subst, arith, inl, inr, ⊎_elim, Some, Me, keeps, opening, Allows, Splits, Joins, Sees, opened, first_name, later_names, share_of, dealt, kept, joined, spent, settled}
 use Rattle.atomic_table.proofs.Lists.{set_else}
@@ -58,10 +59,7 @@ split_place : (First Later : Type 0) → (First → Later → ⊥) → (i j a b 
 split_place First Later apart i j a b id end same (inl p) (inl q) = sym p.0 ∙ (same ∙ q.0)
 split_place First Later apart i j a b id end same (inl p) (inr q) = absurd (p.1 (sym p.0 ∙ (same ∙ q.0)))
 split_place First Later apart i j a b id end same (inr p) (inl q) = absurd (q.1 (sym q.0 ∙ (sym same ∙ p.0)))
-split_place First Later apart i j a b id end same (inr p) (inr q) = elim p.1 [
-  | inl f ↦ elim q.1 [ inl g ↦ f.0 ∙ sym g.0 | inr g ↦ absurd (apart g.1 f.1) ]
-  | inr f ↦ elim q.1 [ inl g ↦ absurd (apart f.1 g.1) | inr g ↦ f.0 ∙ sym g.0 ]
-]
+split_place First Later apart i j a b id end same (inr p) (inr q) = grind (arith, common_steps)
 
 -- the name that stands at i now stood there before, or at `other`, which was joined to id
 abbrev JoinFrom : ℕ → ℕ → ℕ → ℕ → Type 0

@@ -1,4 +1,5 @@
 -- A step of one seat keeps what a running object shows, whatever the step is.
+use Rattle.std.proofs.lemmas.Grind.{common_steps}
 use Rattle.fak_model.proofs.Common.{All-cons, some, some-injective, some-ne-none, get_elem?, View, IsHistory, AreNamed, In, sight, AreOwn, Sees, ◌≡◌, ◌≢◌, ◌⊎◌, ℕ, zero, suc, ◌+◌, ◌<◌, ◌≤◌, List, [], ◌∷◌, ◌++◌, set, slice_index, refl, ap, sym, subst, arith, inl, ⊎_elim, Some, reverse, All, State, Me, Act, keeps, stepped, homes_after, carried_after}
 use Rattle.atomic_table.proofs.Lists.{at_set}
 use Rattle.fak_model.specs.Shown.{Object, total, IsShown, Leaves}
@@ -20,10 +21,7 @@ total_at f (x ∷ l) (suc i) a e = omega (arith, total_at f l i a e)
 -- a fact of the changed place and of the others is one of all
 pub each_set : {A : Type 0} (l : List A) (i : ℕ) (b : A) (F : ℕ → A → Type 0) → F i b → ((j : ℕ) (u : A) → j ≢ i → get_elem? l j ≡ some u → F j u)
     → (j : ℕ) (u : A) → get_elem? (set l i b) j ≡ some u → F j u
-each_set {A} l i b F here rest j u e = ⊎_elim
-    (λ (x : (j ≡ i) × (b ≡ u)). subst (λ (y : ℕ × A). F y.0 y.1) (λ k. (sym x.0 k, x.1 k)) here)
-    (λ (x : (j ≢ i) × (get_elem? l j ≡ some u)). rest j u x.0 x.1)
-    (at_set l i j b u e)
+each_set {A} l i b F here rest j u e = grind (arith, common_steps, some, at_set)
 
 -- a load leaves the words as they are
 pub set_found : (ws : List ℕ) (i : ℕ) → set ws i (slice_index ws i) ≡ ws

@@ -1,4 +1,5 @@
 -- What tallies know, name by name, and what an only seat knows.
+use Rattle.std.proofs.lemmas.Grind.{common_steps}
 use Rattle.fak_model.proofs.Common.{nat_tests, sum_by-cons, filter-append, All-head, All-tail, All-cons, All-nil, In, is_in, marks_of, mine, Knows, before_mark, ◌≡◌, ◌⊎◌, ℕ, suc, ◌+◌, ◌<◌, ◌≤◌, ◌==◌, Bool, true, false, cond, List, [], ◌∷◌, ◌++◌, length, refl, ap, sym, ◌∙◌, subst, arith, inl, inr, ◌||◌, All, sum_by, append-nil, false_from_ne_true}
 use Rattle.fak_model.proofs.Seats.{between_foreign}
 
@@ -20,10 +21,7 @@ is_in_push n k (m ∷ names) = let rest = is_in_push n k names in elim (k == m) 
 -- the marks of one name
 pub mine_one : {M : Type 0} (seat_of : M → ℕ) (n : ℕ) (h : List M) → mine seat_of (n ∷ []) h ≡ marks_of seat_of n h
 mine_one seat_of n [] = refl
-mine_one {M} seat_of n (m ∷ h) = let rest = mine_one seat_of n h in elim (seat_of m == n) as (λ b. cond (b || false) (m ∷ mine seat_of (n ∷ []) h) (mine seat_of (n ∷ []) h) ≡ cond b (m ∷ marks_of seat_of n h) (marks_of seat_of n h)) [
-  | true ↦ ap (λ l. m ∷ l) rest
-  | false ↦ rest
-]
+mine_one {M} seat_of n (m ∷ h) = grind (arith, common_steps, cond, mine, marks_of)
 
 -- one name more
 pub mine_push : {M : Type 0} (seat_of : M → ℕ) (v : M → ℕ) (names : List ℕ) (n : ℕ) → is_in n names ≡ false → (h : List M)
@@ -103,10 +101,7 @@ mine_same {M} seat_of names n (m ∷ h) none = by (seat_of m == n) refl (λ late
 
 pub named_more : {M : Type 0} (seat_of : M → ℕ) (seats more : ℕ) (h : List M) → All (λ (m : M). seat_of m < seats) h → seats ≤ more → All (λ (m : M). seat_of m < more) h
 named_more {M} seat_of seats more [] named le = All-nil (λ (m : M). seat_of m < more)
-named_more {M} seat_of seats more (m ∷ h) named le =
-    let Named : M → Type 0 = λ (w : M). seat_of w < seats in
-    let low : seat_of m < seats = All-head Named m h named in
-    All-cons (λ (w : M). seat_of w < more) m h (omega arith) (named_more seat_of seats more h (All-tail Named m h named) le)
+named_more {M} seat_of seats more (m ∷ h) named le = grind (arith, common_steps)
 
 -- a name beyond those of all seats has no mark
 pub none_beyond : {M : Type 0} (seat_of : M → ℕ) (seats n : ℕ) (h : List M) → All (λ (m : M). seat_of m < seats) h → seats ≤ n → marks_of seat_of n h ≡ []

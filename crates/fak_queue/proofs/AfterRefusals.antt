@@ -1,6 +1,7 @@
 -- Calls that follow refused ones.
+use Rattle.std.proofs.lemmas.Grind.{common_steps}
 use Rattle.std.proofs.lemmas.List.Concat.{flat_map-append}
-use Rattle.fak_queue.proofs.Common.{Idle, Makes, made_by, seat_of, drawn_by, state_of, Inserts, Deletes, RefusesFull, RefusesClosed, RefusesEmpty, ◌≡◌, ◌⊎◌, ℕ, ◌+◌, ◌<◌, arith, List, [], ◌∷◌, ◌++◌, length, length-append, refl, ap, sym, ◌∙◌, subst, inl, inr, append_assoc, All, flat_map, append-nil, All-append, All-push, queue_rules, count, puts, gots, ObjectId, SeatInfo, Appends, mine_of, before_mark, Kind, Mark, appends_then, RefusedInsertion, NotIn, WithdrawnIn, ClosedIn, WithdrawnLate, kinds_not_in, IsFull, IsClosed, RefusedDeletion, NotOut, WithdrawnOut, kinds_not_out, MakesAtLast, before_last, InsertsAfterFull, ClosesAfterFull, DeletesAfterEmpty}
+use Rattle.fak_queue.proofs.Common.{Idle, Makes, made_by, seat_of, drawn_by, state_of, Inserts, Deletes, RefusesFull, RefusesClosed, RefusesEmpty, ◌≡◌, ◌⊎◌, ℕ, ◌<◌, arith, List, [], ◌∷◌, ◌++◌, length, length-append, refl, ap, sym, ◌∙◌, subst, inl, inr, append_assoc, All, flat_map, append-nil, All-append, All-push, queue_rules, count, puts, gots, ObjectId, SeatInfo, Appends, mine_of, before_mark, Kind, Mark, appends_then, RefusedInsertion, NotIn, WithdrawnIn, ClosedIn, WithdrawnLate, kinds_not_in, IsFull, IsClosed, RefusedDeletion, NotOut, WithdrawnOut, kinds_not_out, MakesAtLast, before_last, InsertsAfterFull, ClosesAfterFull, DeletesAfterEmpty}
 
 pub made_by_append : {T : Type 0} (name : ℕ) (ks ls : List (Kind T)) → made_by name (ks ++ ls) ≡ made_by name ks ++ made_by name ls
 made_by_append name [] ls = refl
@@ -85,13 +86,7 @@ module _ {T R : Type 0} (kinds_of : R → List (Kind T)) (Was : R → Type 0) (s
 
   -- what stands before the last call's marks stays so, however many were refused before
   stood_same : {old mid : SeatInfo (Mark T)} (new : SeatInfo (Mark T)) (rs qs : List R) → Makes size (flat_map kinds_of rs) old mid → (number : ℕ) → before_last kinds_of (rs ++ qs) number old new ≡ before_last kinds_of qs number mid new
-  stood_same {old} {mid} new rs qs makes number =
-      let name : old.name ≡ mid.name = sym (ap (λ (s : SeatInfo (Mark T)). s.name) makes.same_seat) in
-      let mine : length (mine_of seat_of mid) ≡ length (mine_of seat_of old) + length (made_by old.name (flat_map kinds_of rs)) = ap length makes.mine ∙ length-append (mine_of seat_of old) (made_by old.name (flat_map kinds_of rs)) in
-      let marks = made_by_length old.name (flat_map kinds_of rs) in
-      let all : length (flat_map kinds_of (rs ++ qs)) ≡ length (flat_map kinds_of rs) + length (flat_map kinds_of qs) = ap length (flat_map-append kinds_of rs qs) ∙ length-append (flat_map kinds_of rs) (flat_map kinds_of qs) in
-      let place : length (mine_of seat_of old) + (length (flat_map kinds_of (rs ++ qs)) + number) ≡ length (mine_of seat_of mid) + (length (flat_map kinds_of qs) + number) = omega (arith, mine, marks, all) in
-      λ i. before_mark seat_of (name i) (place i) new.seen
+  stood_same {old} {mid} new rs qs makes number = grind (arith, common_steps, makes, length, mine_of, seat_of, made_by, flat_map, length-append, made_by_length, flat_map-append, before_mark)
 
   -- a call of these kinds at last, and what stood before its marks
   pub record IsAtLast {kinds : List (Kind T)} {mid new : SeatInfo (Mark T)} (old : SeatInfo (Mark T)) (t : MakesAtLast kinds_of size kinds mid new) : Type 0 where

@@ -1,4 +1,5 @@
 -- Division by a multiplication with an inverse.
+use Rattle.std.proofs.lemmas.Grind.{common_steps}
 use Rattle.fak_queue.proofs.Common.{◌≡◌, ℕ, ◌+◌, ◌-◌, ◌*◌, ◌/◌, ◌%◌, ◌^◌, ◌<◌, ◌≤◌, sym, ap, ◌∙◌, subst, arith, mod-lt, div-add-mod, div-le_self, div-mul-le_self, mod-eq-sub-div-mul, mul-le-mul, mul-le-mul_left, mul-le-mul_right, le_of_mul-le-mul_right}
 use Rattle.std.proofs.lemmas.Nat.{div-mul-add}
 
@@ -34,10 +35,7 @@ high_part w d n some fits =
 -- a ticket's round, and its cell
 module _ (size inverse ticket : ℕ) (some_cell : 0 < size) (few_cells : size ≤ 4096) (inverse_is : inverse ≡ (2 ^ 64 - 1) / size) (few : ticket < 2 ^ 46) where
   pub round_is : (ticket + 1) * inverse / 2 ^ 64 ≡ ticket / size
-  round_is =
-      let next : ticket + 1 ≤ 2 ^ 46 = omega (arith, few) in
-      let fits : (ticket + 1) * size ≤ 2 ^ 46 * 4096 = mul-le-mul next few_cells in
-      ap (λ m. (ticket + 1) * m / 2 ^ 64) inverse_is ∙ high_part (2 ^ 64) size ticket some_cell (omega (arith, fits))
+  round_is = grind (arith, common_steps, mul-le-mul, high_part)
 
   pub cell_is : ticket - (ticket + 1) * inverse / 2 ^ 64 * size ≡ ticket % size
   cell_is = ap (λ q. ticket - q * size) round_is ∙ sym (mod-eq-sub-div-mul ticket size)

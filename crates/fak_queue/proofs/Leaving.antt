@@ -1,7 +1,7 @@
 -- Taking the oldest item out of a closed queue.
+use Rattle.std.proofs.lemmas.Grind.{common_steps}
 use Rattle.fak_queue.proofs.Common.{◌≡◌, ◌≢◌, ℕ, zero, suc, ◌+◌, ◌-◌, ◌%◌, ◌<◌, ◌≤◌, Bool, true, false, List, ◌∷◌, ◌++◌, length, get_or, set, refl, sym, ap, ◌∙◌, subst, arith, length-append, length-set, get_or-set_same, get_or-set_other, Option, Some, None, some, none, some-injective, get_elem?}
 use mathlib.Core.Logic.{dite}
-use native.Mathlib.Decide.{ℕ_discrete}
 use mathlib.Core.Option as maybe
 use Rattle.atomic_table.proofs.Lists.{set_else, one_turn}
 use Rattle.fak_queue.specs.Left.{item_in, items_left}
@@ -25,10 +25,7 @@ module _ {T : Type 0} where
   -- where as many items are left as cells, the first cell has one
   pub first_left : (n : ℕ) (xs : List (Option T)) (k m : ℕ) → length (items_left n xs k (suc m)) ≡ suc m
       → ((x : T) × (get_elem? xs (k % n) ≡ some (Some x)) × (items_left n xs k (suc m) ≡ x ∷ items_left n xs (suc k) m)) × (length (items_left n xs (suc k) m) ≡ m)
-  first_left n xs k m full =
-      let o = get_elem? xs (k % n) in let a = item_short o in let b = left_short n xs (suc k) m in
-      let e : length (items_left n xs k (suc m)) ≡ length (item_in o) + length (items_left n xs (suc k) m) = length-append (item_in o) (items_left n xs (suc k) m) in
-      let i = one_item o (omega arith) in ((i.0, i.1, ap (λ z. item_in z ++ items_left n xs (suc k) m) i.1), omega arith)
+  first_left n xs k m full = grind (arith, common_steps, item_short, left_short, length, items_left, item_in, length-append, one_item)
 
   -- a cell that is not among the next m
   left_set : (n : ℕ) (xs : List (Option T)) (c : ℕ) (y : Option T) (k m : ℕ) → ((j : ℕ) → k ≤ j → j < k + m → j % n ≢ c) → items_left n (set xs c y) k m ≡ items_left n xs k m
@@ -58,9 +55,7 @@ module _ {T : Type 0} where
   none_or_some x y e f = subst IsAbsent (sym f ∙ e) tt
 
 pub refilled : (f : List Bool) (i n : ℕ) → i < length f → ((k : ℕ) → 0 ≤ k → k < n → get_or f k false ≡ true) → (k : ℕ) → 0 ≤ k → k < n → get_or (set (set f i false) i true) k false ≡ true
-refilled f i n near full k z less = dite (ℕ_discrete k i)
-    (λ e. subst (λ j. get_or (set (set f i false) i true) j false ≡ true) (sym e) (get_or-set_same (set f i false) i true false (subst (λ j. i < j) (sym (length-set f i false)) near)))
-    (λ ne. get_or-set_other (set f i false) i k true false ne ∙ get_or-set_other f i k false false ne ∙ full k z less)
+refilled f i n near full k z less = grind (arith, common_steps, dite, get_or, set, get_or-set_same, length-set, get_or-set_other)
 
 pub same_some : {A : Type 0} (x y : A) → Some x ≡ Some y → x ≡ y
 same_some x y e = cc

@@ -1,6 +1,7 @@
 -- From the atomic steps of a seat to the parts of its calls.
+use Rattle.std.proofs.lemmas.Grind.{common_steps}
 use Rattle.fak_model.specs.QueuePast.{after as after_kind, stage, item_of}
-use Rattle.fak_queue.proofs.Common.{QueueView, QueueHolder, queue_object, mark, seat_of, made_by, RestsAt, ◌≡◌, ℕ, ◌+◌, ◌==◌, true, List, [], ◌∷◌, ◌++◌, length, length-append, refl, sym, ap, ◌∙◌, subst, arith, Option, Some, reverse, append-nil, nat_tests, queue_rules, count, puts, items_put, item_at, marks_of, sight, Leaves, ObjectId, seat_info, Appends, Kind, Mark, Put, begins_self, count_reverse, stage_here, item_stays, step_appends, step_before, appends_then, appends_none, begins_after, mine_after, Phase, before_part, IsPart, TellsOfNeither}
+use Rattle.fak_queue.proofs.Common.{QueueView, QueueHolder, queue_object, mark, seat_of, made_by, RestsAt, ◌≡◌, ℕ, ◌+◌, List, [], ◌∷◌, ◌++◌, length, length-append, refl, sym, ap, ◌∙◌, subst, arith, Option, Some, reverse, append-nil, nat_tests, queue_rules, count, puts, items_put, item_at, marks_of, sight, Leaves, ObjectId, seat_info, Appends, Kind, Mark, Put, begins_self, count_reverse, stage_here, item_stays, step_appends, step_before, appends_then, appends_none, begins_after, mine_after, Phase, before_part, IsPart, TellsOfNeither}
 use Rattle.fak_queue.proofs.DeletionSteps.{item_past}
 
 -- ---- the seat after a step
@@ -130,7 +131,4 @@ put_there {w = w} {new = new} l k x e = item_past w.0.seen k ∙ (ap (λ h. item
 -- the item of a Put stands under the number of earlier Puts
 pub put_new : {T : Type 0} {size seats n : ℕ} {m w : QueueHolder T} {p : Phase T} {left : ℕ} {carried : List (ℕ × Option T)} {tells : List (Mark T) → Type 0} (k : ℕ) (x : T) (l : Leaves (queue_object size seats) m (mark n (Put x) ∷ []) p left carried tells w)
     → count puts (reverse l.past) ≡ k → item_at (items_put (reverse w.0.seen)) k ≡ Some x
-put_new {w = w} k x l e =
-    let number : count puts l.past ≡ k = sym (count_reverse puts l.past) ∙ e in
-    let here : (k == count puts l.past) ≡ true = grind (arith, nat_tests) in
-    item_past w.0.seen k ∙ (ap (λ h. item_of h k) (seen_is l) ∙ rw here refl)
+put_new {w = w} k x l e = grind (arith, common_steps, count, puts, count_reverse, nat_tests, item_past, item_of, seen_is)

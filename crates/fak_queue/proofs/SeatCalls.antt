@@ -1,11 +1,12 @@
 -- From the parts of a seat's calls to what the calls promise.
+use Rattle.std.proofs.lemmas.Grind.{common_steps}
 use Rattle.fak_model.specs.declared.queue.Kind.TheVariants as made
 use Rattle.fak_model.specs.declared.name_set.NameSet.{NameSet}
 use Rattle.fak_model.specs.Names.{Has as HasName, HasJust}
 use Rattle.fak_model.specs.Views.{HasOneName}
 use Rattle.fak_core.specs.declared.queue.phase.Phase.TheVariants as phase
 use Rattle.fak_queue.specs.declared.state.SeatState.{SeatState}
-use Rattle.fak_queue.proofs.Common.{Idle, Inserting, Deleting, QueueLimits, QueueHolder, RefusesInsertion, ◌≡◌, ℕ, ◌+◌, ◌-◌, ◌<◌, ℤ, List, [], ◌∷◌, ◌++◌, refl, ap, sym, ◌∙◌, subst, arith, inl, inr, ⊎_elim, Bool, true, false, ◌⊎◌, ◌↔◌, reverse, All, reverse-reverse, queue_rules, IsQueueHistory, puts, gots, Has, stage, In, marks_of, ObjectId, object_id, SeatInfo, seat_info, Appends, IsSeatToken, TableId, Kind, Mark, Stage, count_append, token_names, token_left, token_slots, Phase, mark, Marks, FitsTable, ShutAs, QueueInfo, queue_info, seat_of, tickets_in, drawn_by, state_at, state_of, IsQueue, queue_seat, RestsAt, idle, inserting, deleting, IsQueueSeat, made_by, Makes, before_own, ClaimsIn, RefusesFull, RefusesClosed, ClaimsOut, RefusesEmpty, WaitsToFill, Fills, WaitsToTake, Takes, ShutsAs, ShutsAfter, fault_of, IsPart, TellsOfNeither, ClaimedIn, RefusedIn, Filled, IsTurnedAwayIn, ClaimedOut, RefusedOut, Taken, IsTurnedAwayOut}
+use Rattle.fak_queue.proofs.Common.{Idle, Inserting, Deleting, QueueLimits, QueueHolder, RefusesInsertion, ◌≡◌, ℕ, ◌+◌, ◌-◌, ◌<◌, ℤ, List, [], ◌∷◌, ◌++◌, refl, ap, sym, ◌∙◌, subst, arith, inl, inr, ⊎_elim, Bool, true, false, ◌⊎◌, ◌↔◌, reverse, All, reverse-reverse, queue_rules, IsQueueHistory, puts, gots, Has, stage, marks_of, ObjectId, object_id, SeatInfo, seat_info, Appends, IsSeatToken, TableId, Kind, Mark, Stage, count_append, token_names, token_left, token_slots, Phase, mark, Marks, FitsTable, ShutAs, QueueInfo, queue_info, seat_of, tickets_in, drawn_by, state_at, state_of, IsQueue, queue_seat, RestsAt, idle, inserting, deleting, IsQueueSeat, made_by, Makes, before_own, ClaimsIn, RefusesFull, RefusesClosed, ClaimsOut, RefusesEmpty, WaitsToFill, Fills, WaitsToTake, Takes, ShutsAs, ShutsAfter, fault_of, IsPart, TellsOfNeither, ClaimedIn, RefusedIn, Filled, IsTurnedAwayIn, ClaimedOut, RefusedOut, Taken, IsTurnedAwayOut}
 use Rattle.fak_queue.specs.declared.found.NoRoom.{NoRoom}
 use Rattle.fak_queue.specs.declared.found.NoRoom.TheVariants as refused
 use Rattle.fak_queue.proofs.Admissions.{closing, closed}
@@ -55,9 +56,6 @@ module _ {T : Type 0} (key : QueueLimits) {size seats name left : ℕ} {p : Phas
 
   pub same_seats : seats ≡ key.seats
   same_seats = ap (λ (o : ObjectId). o.seats) same_object
-
-  pub fits_table : FitsTable mine table key key.seats
-  fits_table = record { same = same_table; few = refl; words = q.words }
 
   pub has_name : HasOneName m.0
   has_name = (name, token_names f.token)
@@ -217,13 +215,8 @@ module _ {T : Type 0} (key : QueueLimits) {size seats name left : ℕ} {p : Phas
 
 -- an idle seat's token
 pub idle_token : {T : Type 0} {size seats name left : ℕ} {p : Phase T} {m : QueueHolder T} {table : TableId} {seat : SeatInfo (Mark T)} → IsQueueSeat size seats name p left m → queue_seat (object_id table seats) name left m ≡ seat → state_of seat ≡ Idle → IsSeatToken seat_of seats name phase.Idle left m
-idle_token {T} {seats = seats} {name = name} {left = left} {p = p} {m = m} {table = table} f seat_is e =
-    let shown : state_of (queue_seat (object_id table seats) name left m) ≡ state_in p = state_shown (object_id table seats) name left m p f.rests in
-    subst (λ (z : Phase T). IsSeatToken seat_of seats name z left m) (idle_phase f.rests (sym shown ∙ (ap state_of seat_is ∙ e))) f.token
+idle_token {T} {seats = seats} {name = name} {left = left} {p = p} {m = m} {table = table} f seat_is e = grind (arith, common_steps, state_of, queue_seat, object_id, state_shown, seat_of, idle_phase)
 
 -- the set of one seat's name
 pub just_one : (set : NameSet) (names : List ℕ) (name : ℕ) → names ≡ name ∷ [] → ((n : ℕ) → HasName set n ↔ (n ≡ name)) → HasJust set names
-just_one set names name one is n = (
-  (λ h. subst (In n) (sym one) (inl ((is n).0 h))),
-  (λ i. (is n).1 (elim (subst (In n) one i) [ inl e ↦ e | inr z ↦ absurd z ])),
-)
+just_one set names name one is n = grind (arith, common_steps)

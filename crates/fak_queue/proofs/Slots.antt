@@ -1,4 +1,5 @@
 -- The slots of a queue's cells as a seat takes one and gives it back.
+use Rattle.std.proofs.lemmas.Grind.{common_steps}
 use Rattle.fak_queue.proofs.Common.{◌≡◌, ◌≢◌, ◌⊎◌, ◌↔◌, ℕ, ◌+◌, ◌*◌, ◌/◌, ◌%◌, ◌<◌, List, length, set, sym, ap, ◌∙◌, subst, inl, inr, arith, Option, None, some, none, get_elem?, QueueState, InCell, IsReached, alone, kept, le_or_lt, IsAtHome, HasSlot}
 use mathlib.Core.Option as maybe
 use Rattle.atomic_table.proofs.Lists.{set_here, set_else}
@@ -12,16 +13,7 @@ module _ {T : Type 0} (size n : ℕ) (b : QueueState T) (homes : Homes T) (wide 
     (c : QueueState T) (phases : (t : ℕ) → t ≢ n → c.phase t ≡ b.phase t) where
   -- a cell that the seat stands in neither before nor after
   passes_by : (i : ℕ) → c.turn i ≡ b.turn i → c.cell i ≡ b.cell i → (InCell size (b.phase n) i → ⊥) → (InCell size (c.phase n) i → ⊥) → HasSlot size b homes i → HasSlot size c homes i
-  passes_by i turn cell before after has = elim has [
-    | inl h ↦ inl (
-      subst (λ (x : ℕ × Option T). IsAtHome x.0 x.1 (get_elem? homes i)) (λ j. (sym turn j, sym cell j)) h.0,
-      λ t inside. elim (same_or_not t n) [
-        | inl q ↦ after (subst (λ x. InCell size (c.phase x) i) q inside)
-        | inr ne ↦ h.1 t (subst (λ p. InCell size p i) (phases t ne) inside)
-      ],
-    )
-    | inr o ↦ inr (o.0, subst (λ p. InCell size p i) (sym (phases o.0 (λ q. before (subst (λ x. InCell size (b.phase x) i) q o.1)))) o.1, o.2)
-  ]
+  passes_by i turn cell before after has = grind (arith, common_steps, same_or_not)
 
   -- the slot of another cell than that of the slot which was taken or given
   other_slot : (k : ℕ) (given : maybe.Option (Option T)) (i : ℕ) → i ≢ k → HasSlot size c homes i → HasSlot size c (set homes k given) i

@@ -45,11 +45,5 @@ whole_rests {T} {seats} size names h whole named idle n = elim (le_or_lt seats n
 
 -- what a tally tells over its own object, it tells over the queue
 module _ {T : Type 0} (queue : QueueInfo) (tally : TallyInfo (Mark T)) (fits : tally.object ≡ queue.object) where
-  same_size : size_of tally.object ≡ queue.size
-  same_size = ap size_of fits ∙ sym queue.cells
-
-  pub lawful_in : IsQueueHistory (size_of tally.object) tally.seen → IsQueueHistory queue.size tally.seen
-  lawful_in lawful = subst (λ k. IsQueueHistory k tally.seen) same_size lawful
-
   pub named_in : AreNamed (queue_rules 0) tally.object.seats tally.seen → AreNamed (queue_rules queue.size) queue.object.seats tally.seen
   named_in named = subst (λ o. AreNamed (queue_rules 0) o.seats tally.seen) fits named

@@ -51,9 +51,6 @@ module _ {T : Type 0} (slots seats n k cell : ℕ) (x : T) (m1 mid m2 m3 : Queue
   pub names_filled : m2.0.names ≡ n ∷ []
   names_filled = names_kept filled_cell ∙ names_in
 
-  pub phase_filled : m2.0.phase ≡ Some (EndInsert k)
-  phase_filled = phase_is filled_cell
-
   pub fills_slot : Named m2 (λ n. EndsIn slots seats n m2 m3) → FillsSlot slots seats n k x m1 m3
   fills_slot ends was was_one free look =
       let none : m2.1 ≡ [] = slots_are filled_cell ∙ (ap (λ (y : QueueHolder T). rest y.1) exchanged ∙ ap rest slot) in
@@ -93,9 +90,6 @@ module _ {T : Type 0} (slots seats n k cell : ℕ) (x : T) (m1 mid m2 m3 : Queue
 
   pub names_freed : m2.0.names ≡ n ∷ []
   names_freed = names_kept freed_cell ∙ names_out
-
-  pub phase_freed : m2.0.phase ≡ Some (EndDelete k)
-  phase_freed = phase_is freed_cell
 
   pub takes_slot : Named m2 (λ n. EndsOut slots seats n m2 m3) → TakesSlot slots seats n k x m1 m3
   takes_slot ends was was_one free look =

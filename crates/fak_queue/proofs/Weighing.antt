@@ -1,4 +1,5 @@
 -- What calls and joins add to the weights of the items that were put into a queue and got out of it.
+use Rattle.std.proofs.lemmas.Grind.{common_steps}
 use Rattle.fak_queue.proofs.Common.{◌≡◌, ◌≢◌, ℕ, ◌+◌, Bool, true, false, List, [], ◌∷◌, ◌++◌, refl, ap, sym, ◌∙◌, subst, inl, inr, arith, flat_map, sum_by, sum_by-cons, queue_rules, count, contents, In, mine, SeatInfo, TallyInfo, tally_of, mine_of, IsJoined, put_of, got_of, Kind, OverIn, BackIn, NoRoom, OverOut, BackOut, NoItem, Close, Closed, LateIn, Mark, count_append, IsWorn, ShutsAs, made_by, seat_of, RefusesDeletion, RefusedInsertion, NotIn, WithdrawnIn, ClosedIn, WithdrawnLate, kinds_not_in, RefusedDeletion, NotOut, WithdrawnOut, kinds_not_out, kinds_in, kinds_out, MakesAtLast}
 use Rattle.fak_model.proofs.SeatWeights.{mine_one, mine_joined}
 use Rattle.fak_queue.specs.declared.fault.DeleteFault.{DeleteFault}
@@ -85,12 +86,7 @@ module _ {A : Type 0} {old new : SeatInfo (Mark A)} where
 
   -- a call of a worn seat adds nothing
   pub worn_weighs : IsWorn old new → Weighs (λ w. 0) (λ w. 0) old new
-  worn_weighs worn = record {
-    name = ap (λ (s : SeatInfo (Mark A)). s.name) worn.unchanged;
-    stint = ap (λ (s : SeatInfo (Mark A)). s.stint) worn.unchanged;
-    put_is = λ w. ap (weight_of (put_of w)) worn.unchanged ∙ omega arith;
-    got_is = λ w. ap (weight_of (got_of w)) worn.unchanged ∙ omega arith;
-  }
+  worn_weighs worn = grind (arith, common_steps, put_of, got_of)
 
   -- nor does a shut
   pub shut_weighs : (size : ℕ) (first : Bool) → ShutsAs size first old new → Weighs (λ w. 0) (λ w. 0) old new
@@ -118,10 +114,7 @@ module _ {A : Type 0} (v : Kind A → ℕ) where
 
   -- a join of a seat with a new name adds what the seat's marks weigh
   pub join_weighs : {size : ℕ} {t both : TallyInfo (Mark A)} {s : SeatInfo (Mark A)} → IsJoined (queue_rules size) t s both → (In s.name t.names → ⊥) → weight_in v both ≡ weight_in v t + weight_of v s
-  join_weighs {t = t} {both = both} {s = s} j new =
-      let sums = mine_joined seat_of (λ (m : Mark A). v m.kind) t.names s.name t.seen s.seen both.seen new j.of_tally j.of_seat in
-      let names = ap (λ (ns : List ℕ). count v (mine seat_of ns both.seen)) j.names in
-      omega (arith, names, sums, count_sums (mine seat_of (t.names ++ s.name ∷ []) both.seen), count_sums (mine seat_of t.names t.seen), count_sums (mine_of seat_of s))
+  join_weighs {t = t} {both = both} {s = s} j new = grind (arith, common_steps, mine_joined, seat_of, count, mine, count_sums, mine_of)
 
   -- the tally of two seats
   pub pair_weighs : {size : ℕ} (a : SeatInfo (Mark A)) {b : SeatInfo (Mark A)} {t both : TallyInfo (Mark A)} → t ≡ tally_of a → IsJoined (queue_rules size) t b both → b.name ≢ a.name → weight_in v both ≡ weight_of v a + weight_of v b
@@ -136,6 +129,4 @@ module _ {A : Type 0} (w : A → ℕ) (t : TallyInfo (Mark A)) (whole : mine sea
 
   -- where nothing is left they got all of it out
   pub all_out : contents t.seen ≡ [] → weight_in (put_of w) t ≡ weight_in (got_of w) t
-  all_out none =
-      let left : sum_by w (contents t.seen) ≡ 0 = ap (sum_by w) none in
-      omega (arith, whole_weighs, left)
+  all_out none = grind (arith, common_steps, sum_by, contents, whole_weighs)

@@ -1,10 +1,11 @@
 -- One word of a queue's table changes.
+use Rattle.std.proofs.lemmas.Grind.{common_steps}
 use Rattle.std.proofs.lemmas.List.{set-get_or}
 use Rattle.std.specs.Int.{bit_at}
 use Rattle.std.specs.Int.Bits.{or_add_and}
 use Rattle.std.proofs.lemmas.Nat.Bits.{and_pow}
 use Rattle.fak_core.specs.QueueMoves.{with_at}
-use Rattle.fak_queue.proofs.Common.{UpperCount, LowerCount, ◌≡◌, ◌≢◌, ℕ, ◌+◌, ◌-◌, ◌*◌, ◌%◌, ◌^◌, ◌<◌, ◌≤◌, Bool, true, false, List, slice_index, set, sym, ap, ◌∙◌, subst, arith, length-set, get_or-set_other, get_or-set_same, mod-eq_of_lt, bit_or, bit_and, ℤ, pos, ◌+ℤ◌, ◌-ℤ◌, int_lt, ints, bias, add-mod_left, by_place, shut_bit, shut_part, AreWords, IsUpperCount, IsLowerCount}
+use Rattle.fak_queue.proofs.Common.{UpperCount, LowerCount, ◌≡◌, ◌≢◌, ℕ, ◌+◌, ◌-◌, ◌%◌, ◌^◌, ◌<◌, ◌≤◌, Bool, true, false, List, slice_index, set, sym, ap, ◌∙◌, subst, arith, length-set, get_or-set_other, get_or-set_same, mod-eq_of_lt, bit_or, bit_and, ℤ, pos, ◌+ℤ◌, ◌-ℤ◌, int_lt, ints, bias, add-mod_left, by_place, shut_bit, shut_part, AreWords, IsUpperCount, IsLowerCount}
 use Rattle.std.specs.Prelude.{Ok, Err}
 use Rattle.fak_queue.specs.declared.found.NoRoom.TheVariants.{Full, Shut}
 
@@ -14,31 +15,17 @@ shut_part-small false = omega arith
 
 -- a count's word grows by one, and shrinks by one
 pub grown : (base w : ℕ) (u : ℤ) (lo hi : ℕ) → base ≤ 9223372036854775808 → pos w ≡ pos (base + bias) +ℤ u → pos lo +ℤ u ≡ pos hi → lo ≤ 1000000 → hi ≤ 1000000 → pos ((w + 1) % 2 ^ 64) ≡ pos (base + bias) +ℤ (u +ℤ pos 1)
-grown base w u lo hi small e l a b =
-    let fits : w + 1 < 2 ^ 64 = omega (arith, ints, e, l) in
-    ap pos (mod-eq_of_lt fits) ∙ omega (arith, ints, e)
+grown base w u lo hi small e l a b = grind (arith, common_steps, pos, mod-eq_of_lt)
 
 pub shrunk : (base w : ℕ) (u : ℤ) (lo hi : ℕ) → base ≤ 9223372036854775808 → pos w ≡ pos (base + bias) +ℤ u → pos lo +ℤ u ≡ pos hi → lo ≤ 1000000 → hi ≤ 1000000 → pos ((w + (2 ^ 64 - 1)) % 2 ^ 64) ≡ pos (base + bias) +ℤ (u -ℤ pos 1)
-shrunk base w u lo hi small e l a b =
-    let above : 1 ≤ w = omega (arith, ints, e, l) in
-    let fits : w - 1 < 2 ^ 64 = omega (arith, ints, e, l) in
-    let sum : w + (2 ^ 64 - 1) ≡ 2 ^ 64 + (w - 1) = omega arith in
-    ap (λ x. pos (x % 2 ^ 64)) sum ∙ (ap pos (add-mod_left (2 ^ 64) (w - 1) ∙ mod-eq_of_lt fits) ∙ omega (arith, ints, e, above))
+shrunk base w u lo hi small e l a b = grind (arith, common_steps, pos, add-mod_left, mod-eq_of_lt)
 
 -- the shut_part bit joins a word
 or_low : (w : ℕ) → w < 9223372036854775808 → bit_or w 9223372036854775808 ≡ 9223372036854775808 + w
-or_low w low =
-    let bit : bit_at w 63 ≡ 0 = grind arith in
-    let both : bit_and w 9223372036854775808 ≡ 0 = and_pow w 63 ∙ ap (λ x. x * 9223372036854775808) bit in
-    let sum = or_add_and w 9223372036854775808 in
-    omega (arith, sum, both)
+or_low w low = grind (arith, common_steps, bit_at, bit_and, and_pow, or_add_and)
 
 or_high : (w : ℕ) → 9223372036854775808 ≤ w → w < 18446744073709551616 → bit_or w 9223372036854775808 ≡ w
-or_high w high fits =
-    let bit : bit_at w 63 ≡ 1 = grind arith in
-    let both : bit_and w 9223372036854775808 ≡ 9223372036854775808 = and_pow w 63 ∙ ap (λ x. x * 9223372036854775808) bit in
-    let sum = or_add_and w 9223372036854775808 in
-    omega (arith, sum, both)
+or_high w high fits = grind (arith, common_steps, bit_at, bit_and, and_pow, or_add_and)
 
 pub shut_word : (b : Bool) (w : ℕ) (u : ℤ) (lo hi : ℕ) → pos w ≡ pos (shut_part b + bias) +ℤ u → pos lo +ℤ u ≡ pos hi → lo ≤ 1000000 → hi ≤ 1000000 → pos (bit_or w 9223372036854775808) ≡ pos (shut_part true + bias) +ℤ u
 shut_word true w u lo hi e l a b = ap pos (or_high w (omega (arith, ints, e, l)) (omega (arith, ints, e, l))) ∙ e
@@ -103,53 +90,16 @@ module _ (size : ℕ) (u l : ℤ) (i d : ℕ) (turn : ℕ → ℕ) (b : Bool) (w
   here j n lt = get_or-set_same ws j n 0 (let w = W.wide in omega (arith, w, lt))
 
   pub words_upper : (n : ℕ) (v : ℤ) (c : Bool) → pos n ≡ pos (shut_part c + bias) +ℤ v → AreWords size v l i d turn c (set ws 16 n)
-  words_upper n v c e = record {
-    wide = length-set ws 16 n ∙ W.wide;
-    upper_is = ap pos (here 16 n (omega arith)) ∙ e;
-    lower_is = ap pos (else 16 32 n (λ q. omega (arith, q))) ∙ W.lower_is;
-    draws_in_is = else 16 48 n (λ q. omega (arith, q)) ∙ W.draws_in_is;
-    draws_out_is = else 16 64 n (λ q. omega (arith, q)) ∙ W.draws_out_is;
-    turns_are = λ c lt. else 16 (80 + c) n (λ q. omega (arith, q)) ∙ W.turns_are c lt;
-  }
+  words_upper n v c e = grind (arith, common_steps, length-set, pos, here, else)
 
   pub words_lower : (n : ℕ) (v : ℤ) → pos n ≡ pos bias +ℤ v → AreWords size u v i d turn b (set ws 32 n)
-  words_lower n v e = record {
-    wide = length-set ws 32 n ∙ W.wide;
-    upper_is = ap pos (else 32 16 n (λ q. omega (arith, q))) ∙ W.upper_is;
-    lower_is = ap pos (here 32 n (omega arith)) ∙ e;
-    draws_in_is = else 32 48 n (λ q. omega (arith, q)) ∙ W.draws_in_is;
-    draws_out_is = else 32 64 n (λ q. omega (arith, q)) ∙ W.draws_out_is;
-    turns_are = λ c lt. else 32 (80 + c) n (λ q. omega (arith, q)) ∙ W.turns_are c lt;
-  }
+  words_lower n v e = grind (arith, common_steps, length-set, pos, else, here)
 
   pub words_draws_in : (n : ℕ) → AreWords size u l n d turn b (set ws 48 n)
-  words_draws_in n = record {
-    wide = length-set ws 48 n ∙ W.wide;
-    upper_is = ap pos (else 48 16 n (λ q. omega (arith, q))) ∙ W.upper_is;
-    lower_is = ap pos (else 48 32 n (λ q. omega (arith, q))) ∙ W.lower_is;
-    draws_in_is = here 48 n (omega arith);
-    draws_out_is = else 48 64 n (λ q. omega (arith, q)) ∙ W.draws_out_is;
-    turns_are = λ c lt. else 48 (80 + c) n (λ q. omega (arith, q)) ∙ W.turns_are c lt;
-  }
+  words_draws_in n = grind (arith, common_steps, length-set, pos, else, here)
 
   pub words_draws_out : (n : ℕ) → AreWords size u l i n turn b (set ws 64 n)
-  words_draws_out n = record {
-    wide = length-set ws 64 n ∙ W.wide;
-    upper_is = ap pos (else 64 16 n (λ q. omega (arith, q))) ∙ W.upper_is;
-    lower_is = ap pos (else 64 32 n (λ q. omega (arith, q))) ∙ W.lower_is;
-    draws_in_is = else 64 48 n (λ q. omega (arith, q)) ∙ W.draws_in_is;
-    draws_out_is = here 64 n (omega arith);
-    turns_are = λ c lt. else 64 (80 + c) n (λ q. omega (arith, q)) ∙ W.turns_are c lt;
-  }
+  words_draws_out n = grind (arith, common_steps, length-set, pos, else, here)
 
   pub words_turn : (c n : ℕ) → c < size → AreWords size u l i d (with_at turn c n) b (set ws (80 + c) n)
-  words_turn c n near = record {
-    wide = length-set ws (80 + c) n ∙ W.wide;
-    upper_is = ap pos (else (80 + c) 16 n (λ q. omega (arith, q))) ∙ W.upper_is;
-    lower_is = ap pos (else (80 + c) 32 n (λ q. omega (arith, q))) ∙ W.lower_is;
-    draws_in_is = else (80 + c) 48 n (λ q. omega (arith, q)) ∙ W.draws_in_is;
-    draws_out_is = else (80 + c) 64 n (λ q. omega (arith, q)) ∙ W.draws_out_is;
-    turns_are = λ j lt. by_place (λ x. slice_index (set ws (80 + c) n) (80 + j) ≡ x) turn c j n
-        (λ q. ap (λ k. slice_index (set ws (80 + c) n) (80 + k)) q ∙ here (80 + c) n (omega (arith, near)))
-        (λ ne. else (80 + c) (80 + j) n (λ q. ne (omega (arith, q))) ∙ W.turns_are j lt);
-  }
+  words_turn c n near = grind (arith, common_steps, length-set, pos, else, by_place, slice_index, set, here)

@@ -1,4 +1,5 @@
 -- The children of all processes.
+use Rattle.std.proofs.lemmas.Grind.{common_steps}
 use Rattle.fak_run.proofs.Common.{RowOf, Ledger, Made, NameAndProgram, named, child, after_made, IsMade, notes, no_births_of, no_slots_of, Histories, Gathered, begun_names, asleep, ◌≡◌, ℕ, ◌+◌, ◌<◌, ◌≤◌, List, [], ◌∷◌, ◌++◌, length, slice_get, Some, refl, ap, sym, ◌∙◌, subst, arith, sum_by, append-nil, sum_by-append, up_amount, release_amount, refusal_of, other_amount, ScriptOf, StepOf, steps_of, spawn, NoteOf, spawned, Process, births_of, child_count, Allows, FitsFrom, children_from, children_of}
 use Rattle.fak_run.proofs.Sums.{sum_by-map, sum_by_plus, sum_by-zeros}
 use Rattle.fak_run.proofs.Conserved.{conserved, grown, fresh}
@@ -9,9 +10,7 @@ children_push : (g : NameAndProgram → ℕ) (files n : ℕ) (name : List ℕ) (
     → FitsFrom files n steps notes → slice_get steps (length notes) ≡ Some step
     → sum_by g (children_from name steps (notes ++ note ∷ [])) ≡ sum_by g (children_from name steps notes) + sum_by g (child name step note)
 children_push g files n name [] [] step note fits at = absurd (cc)
-children_push g files n name (s ∷ ss) [] step note fits at =
-    let same : s ≡ step = cc in
-    ap (sum_by g) (append-nil (child name s note)) ∙ (ap (λ t. sum_by g (child name t note)) same ∙ omega arith)
+children_push g files n name (s ∷ ss) [] step note fits at = grind (arith, common_steps, sum_by, append-nil, child)
 children_push g files n name [] (m ∷ ms) step note fits at = absurd fits
 children_push g files n name (s ∷ ss) (m ∷ ms) step note fits at =
     let rest = children_push g files (n + births_of m) name ss ms step note fits.1 at in
@@ -52,12 +51,7 @@ module _ {script : ScriptOf} {seats : ℕ} {h : Histories} {l : Ledger} (g : Gat
 
   -- a birth is refused only where as many were claimed as the bound says
   pub no_birth_at_bound : 0 < notes no_births_of l → script.births ≤ notes births_of l + notes no_slots_of l
-  no_birth_at_bound some =
-      let refusals = g.births refusal_of in
-      let others = g.births other_amount in
-      let ups = g.births up_amount in
-      let at = refused_at_bound script.births h.births g.births_lawful (omega (arith, others, g.balanced.births.ones)) (omega (arith, refusals, g.balanced.births.refusals, some)) in
-      omega (arith, at, ups, g.balanced.births.ups)
+  no_birth_at_bound some = grind (arith, common_steps, refusal_of, other_amount, up_amount, refused_at_bound)
 
   -- the spawned processes are as many as the notes that say so
   pub spawned_are : sum_by (λ (p : Process). 1) l.born ≡ notes births_of l

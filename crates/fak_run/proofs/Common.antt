@@ -24,7 +24,7 @@ pub use Rattle.fak_run.specs.declared.report.Outcome.{Outcome}
 pub use Rattle.fak_run.specs.declared.report.Outcome.TheVariants.{Ended, Halted, Stuck}
 pub use Rattle.fak_run.specs.declared.report.ProcessRow.{ProcessRow}
 pub use Rattle.fak_text.proofs.Common.{ScriptOf, StepOf, steps_of, spawn, NoteOf, spawned, Process, births_of, child_count, Allows, FitsFrom, say, downed, said, StandsAt, after_note, new_process, yield, down, up, open_file, close_file, stat, shutdown, yielded, upped, opened, closed, statted, no_birth, no_slot, shut_down, text_of_journal, note_of, steps_view}
-pub use Rattle.fak_text.proofs.Journals.{child_count-append, length-push, note_fits, step_of_script_is_in_range}
+pub use Rattle.fak_text.proofs.Journals.{child_count-append, length-push, note_fits}
 pub use Rattle.std.proofs.Common.{◌≡◌, ℕ, ◌+◌, nat_lt, Bool, true, false, List, [], ◌∷◌, refl, ap, sym, ◌∙◌, arith, map, ◌<◌, ◌≤◌, ◌++◌, length, slice_get, Some, subst, sum_by, append-nil, zero, suc, ◌⊎◌, inl, inr, ◌≢◌, ◌==◌, IsPermutation, cond, append_assoc, filter, flat_map, get_or, ◌&&◌, All, AllPairs, slice_set, reverse, slice_index_or, Option, None, MatchOption, remove, IfSome, ◌||◌, nat_cmp, IsSortedByKey, true≢false, ◌-◌, ◌*◌, slice_index, min, Ordering, Less, Equal, Greater, take, string_bytes, drop, if◌then◌else◌, rules, is_lt}
 pub use Rattle.std.proofs.lemmas.Bool.{and_parts, and_from}
 pub use Rattle.std.proofs.lemmas.List.{get_or_past, set_past, length_push}

@@ -1,5 +1,6 @@
 -- What the ledgers of all processors and the whole histories conserve.
-use Rattle.fak_run.proofs.Common.{RowOf, Ledger, Made, named, after_made, IsMade, waiting, notes, Histories, Gathered, begun_names, asleep, lines, lines_of, ◌≡◌, ℕ, zero, suc, ◌+◌, ◌≤◌, List, [], ◌∷◌, length, refl, ap, sym, ◌∙◌, arith, sum_by, ints, length-map, sum_by-append, sum_by_push, contents, debit_weight, credit_weight, put_of, got_of, ScriptOf, NoteOf, Process, queue_weighs, nothing_left, puts_weigh, gots_weigh_one}
+use Rattle.std.proofs.lemmas.Grind.{common_steps}
+use Rattle.fak_run.proofs.Common.{RowOf, Ledger, Made, named, after_made, IsMade, waiting, notes, Histories, Gathered, begun_names, asleep, lines, lines_of, ◌≡◌, ℕ, zero, suc, ◌+◌, ◌≤◌, List, [], ◌∷◌, length, refl, ap, sym, ◌∙◌, arith, sum_by, length-map, sum_by-append, sum_by_push, contents, debit_weight, credit_weight, put_of, got_of, ScriptOf, NoteOf, Process, queue_weighs, nothing_left, puts_weigh, gots_weigh_one}
 use Rattle.fak_run.proofs.Sums.{sum_by-ones, sum_by_nothing, sum_by_plus}
 
 pub length-begun : (i : ℕ) (programs : List ℕ) → length (begun_names i programs) ≡ length programs
@@ -12,17 +13,7 @@ module _ {script : ScriptOf} {seats : ℕ} {h : Histories} {l : Ledger} (g : Gat
 
   -- by counts alone: each processor's last value of busy is 0
   pub ready_is_empty : contents h.ready ≡ []
-  ready_is_empty =
-      let one : Process → ℕ = λ (p : Process). 1 in
-      let all = g.balanced.processes (λ (p : Process). 1) in
-      let put = g.ready (put_of (λ (p : Process). 1)) in
-      let got = g.ready (got_of (λ (p : Process). 1)) in
-      let puts_are = sym (puts_weigh h.ready) in
-      let gots_are = sym (gots_weigh_one h.ready) in
-      let credited = g.busy credit_weight in
-      let debited = g.busy debit_weight in
-      let begun = sum_by-ones l.begun in
-      nothing_left h.ready (omega (arith, ints, all, put, got, puts_are, gots_are, credited, debited, begun, started, g.idle, g.balanced.busy.credits, g.balanced.busy.debits))
+  ready_is_empty = grind (arith, common_steps, put_of, got_of, puts_weigh, gots_weigh_one, credit_weight, debit_weight, sum_by-ones, nothing_left, started)
 
   -- what is put in the wait queues is got, or sleeps
   pub asleep_weighs : (f : Process → ℕ) (k : ℕ) → k ≤ length script.semaphores → waiting (put_of f) k l ≡ waiting (got_of f) k l + sum_by f (asleep h.waits k)
@@ -52,10 +43,7 @@ module _ {script : ScriptOf} {seats : ℕ} {h : Histories} {l : Ledger} (g : Gat
 
   -- what weighs nothing where no step was made
   pub fresh : (f : Process → ℕ) → ((p : Process) → length p.journal ≡ 0 → f p ≡ 0) → (sum_by f l.begun ≡ 0) × (sum_by f l.born ≡ 0)
-  fresh f none = (
-    sum_by_nothing (λ (p : Process). length p.journal) f none l.begun (omega (arith, g.balanced.new)),
-    sum_by_nothing (λ (p : Process). length p.journal) f none l.born (omega (arith, g.balanced.new)),
-  )
+  fresh f none = grind (arith, common_steps, sum_by_nothing, length)
 
   -- each line that was made stands in a row, or with one who sleeps, once
   pub lines_are : (w : NoteOf → ℕ) → lines w l.rows + lines_of w (asleep h.waits (length script.semaphores)) ≡ notes w l

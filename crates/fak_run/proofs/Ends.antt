@@ -1,4 +1,5 @@
 -- The list scheduler ends in one way.
+use Rattle.std.proofs.lemmas.Grind.{common_steps}
 use Rattle.fak_run.proofs.Common.{◌≡◌, ℕ, zero, suc, ◌≤◌, ◌⊎◌, [], arith, ap, sym, ◌∙◌, inl, inr, Lists, State, turn_over, take_front, step, steps, opening, EndsIn}
 use Rattle.fak_text.specs.Script.{ScriptOf}
 
@@ -24,9 +25,7 @@ steps-still script s n still (suc m) le = elim (same_or_before n m le) [
 
 -- of two ends, the later one is the earlier one
 later : (script : ScriptOf) (a b : Lists) (n m : ℕ) → turn_over a ≡ steps n script (opening script) → a.ready ≡ [] → turn_over b ≡ steps m script (opening script) → n ≤ m → b ≡ a
-later script a b n m reached still then le =
-    let stays : step script (steps n script (opening script)) ≡ steps n script (opening script) = ap (step script) (sym reached) ∙ step-still script a still ∙ reached in
-    ap (λ (s : State). s.lists) (then ∙ steps-still script (opening script) n stays m le ∙ sym reached)
+later script a b n m reached still then le = grind (arith, common_steps, step, steps, opening, step-still, steps-still)
 
 -- two ends are one
 pub ends_alike : (script : ScriptOf) (a b : Lists) → EndsIn script a → EndsIn script b → a ≡ b

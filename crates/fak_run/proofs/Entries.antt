@@ -1,4 +1,5 @@
 -- The entries after one mark more.
+use Rattle.std.proofs.lemmas.Grind.{common_steps}
 use Rattle.fak_run.proofs.Common.{◌≡◌, ◌≢◌, ℕ, zero, suc, ◌+◌, ◌<◌, ◌==◌, true, false, List, [], ◌∷◌, ◌++◌, refl, ap, sym, ◌∙◌, subst, arith, nat_tests, field, field_after, FileEntry, FileField, Inode, Uses, Set, FileMark, with_field, set_in}
 use Rattle.fak_files.proofs.Common.{entry_of, entries_after}
 use Rattle.fak_files.proofs.WordPlaces.{field-push}
@@ -11,9 +12,7 @@ module _ (h : List FileMark) (m : FileMark) where
   -- a mark that sets no field
   pub entries-same : ((i : ℕ) (f : FileField) (v : ℕ) → field_after i f v m.kind ≡ v) → (first n : ℕ) → entries_after (h ++ m ∷ []) first n ≡ entries_after h first n
   entries-same none first zero = refl
-  entries-same none first (suc n) =
-      let one : entry_of (h ++ m ∷ []) first ≡ entry_of h first = entry_by _ _ _ _ (field-push h m first Inode ∙ none first Inode (field h first Inode)) (field-push h m first Uses ∙ none first Uses (field h first Uses)) in
-      λ t. one t ∷ entries-same none (suc first) n t
+  entries-same none first (suc n) = grind (arith, common_steps, entry_of, entry_by, field-push, field)
 
   module _ (i : ℕ) (f : FileField) (v : ℕ) (is : m.kind ≡ Set i f v) where
     after : (e : ℕ) (g : FileField) → field (h ++ m ∷ []) e g ≡ field_after e g (field h e g) (Set i f v)

@@ -1,4 +1,5 @@
 -- What is known of a process of a run, with one note more and with one less.
+use Rattle.std.proofs.lemmas.Grind.{common_steps}
 use Rattle.fak_run.proofs.Common.{◌≡◌, ℕ, ◌+◌, ◌≤◌, List, [], ◌∷◌, ◌++◌, length, arith, subst, ap, ◌∙◌, refl, ScriptOf, StepOf, say, steps_of, NoteOf, downed, said, spawned, Process, FitsFrom, StandsAt, Allows, after_note, births_of, child_count, child_count-append, length-push, note_fits}
 use Rattle.fak_run.specs.Contexts.{IsContext, IsAsleep, unnoted}
 
@@ -8,10 +9,7 @@ pub IsContext-after_note : (script : ScriptOf) (children : ℕ) (p : Process) (s
     → StandsAt script p step
     → Allows script.files (child_count p.journal) step note
     → IsContext script (children + births_of note) (after_note p note)
-IsContext-after_note script children p step note known at ok = record {
-  fits = note_fits script p step note known.fits at ok;
-  children_are = omega (arith, known.children_are, child_count-append p.journal (note ∷ []));
-}
+IsContext-after_note script children p step note known at ok = grind (arith, common_steps, note_fits, child_count-append)
 
 -- the same where a text was said
 pub IsContext-said : (script : ScriptOf) (children : ℕ) (p : Process) (text : List ℕ) → IsContext script children p → StandsAt script p (say text) → IsContext script children (after_note p (said text))

@@ -1,5 +1,6 @@
 -- What a seat knows of its hold: from the calls of one hold to its line.
-use Rattle.fak_run.proofs.Common.{◌≡◌, ◌⊎◌, ℕ, ◌<◌, ◌==◌, Bool, true, false, cond, List, [], ◌∷◌, ◌++◌, Some, refl, ap, sym, ◌∙◌, subst, arith, inl, inr, append_assoc, map, filter, flat_map, nat_tests, All-nil, All-head, All-tail, All-push, filter-append, flat_map-append, AreNamed, words_by, Setting, set_mark, WholeCall, Refused, Withdrawn, kinds_of_call, seat_of, kind_of, file_rules, IsFileHistory, ObjectId, SeatInfo, seat_info, last_of, Begins, marks_of, FileEntry, FileKind, Take, Over, Back, No, Give, FileMark, history_none, FileSeatInfo, LeavesMarks, amount_for, AreRefused, IsWaitedFor, IsGot, entries_after, set_all, IsFitHold, is_of_hold, held_kinds, kinds_of_hold, reads_from, reads_of, hold_line, read_of, AreHolds}
+use Rattle.std.proofs.lemmas.Grind.{common_steps}
+use Rattle.fak_run.proofs.Common.{◌≡◌, ◌⊎◌, ℕ, ◌==◌, Bool, true, false, cond, List, [], ◌∷◌, ◌++◌, Some, refl, ap, sym, ◌∙◌, subst, arith, inl, inr, append_assoc, map, filter, flat_map, nat_tests, All-head, All-tail, All-push, filter-append, flat_map-append, AreNamed, words_by, Setting, set_mark, WholeCall, Refused, Withdrawn, kinds_of_call, seat_of, kind_of, file_rules, IsFileHistory, ObjectId, SeatInfo, seat_info, last_of, Begins, marks_of, FileEntry, FileKind, Take, Over, Back, No, Give, FileMark, history_none, FileSeatInfo, LeavesMarks, amount_for, AreRefused, IsWaitedFor, IsGot, entries_after, set_all, IsFitHold, is_of_hold, held_kinds, kinds_of_hold, reads_from, reads_of, hold_line, read_of, AreHolds}
 use Rattle.std.proofs.lemmas.List.{append-nil, map-append}
 use Rattle.fak_model.proofs.Seats.{marks_of_append}
 use Rattle.fak_files.specs.declared.phase.Access.{Access}
@@ -90,27 +91,14 @@ reads-left n ks a b l none =
     ap (reads_of n a.name) (sym l.begins.1) ∙ (reads-append n a.name [] a.seen l.begins.0 ∙ (ap (λ r. reads_of n a.name a.seen ++ r) (reads-none n a.name a.seen l.begins.0 takes) ∙ append-nil (reads_of n a.name a.seen)))
 
 pub left_of : (ks : List FileKind) (a b : SeatInfo FileMark) → LeavesMarks ks a b → Left ks a b
-left_of ks a b l =
-    let name : b.name ≡ a.name = ap (λ (s : SeatInfo FileMark). s.name) l.same_seat in
-    record {
-      same_seat = l.same_seat;
-      begins = l.begins;
-      mine = subst (λ (w : ℕ). marks_of seat_of w b.seen ≡ marks_of seat_of a.name a.seen ++ map (mark a.name) ks) name l.mine;
-    }
+left_of ks a b l = grind (arith, common_steps, marks_of, seat_of, map, mark)
 
 pub begins_then : (f g h : List FileMark) → Begins f g → Begins g h → Begins f h
 begins_then f g h a b = (a.0 ++ b.0, sym (append_assoc f a.0 b.0) ∙ (ap (λ l. l ++ b.0) a.1 ∙ b.1))
 
 -- one part of a hold and then another
 pub left_then : (ks js : List FileKind) (a b c : SeatInfo FileMark) → Left ks a b → Left js b c → Left (ks ++ js) a c
-left_then ks js a b c x y =
-    let name : b.name ≡ a.name = ap (λ (s : SeatInfo FileMark). s.name) x.same_seat in
-    let mine : marks_of seat_of a.name c.seen ≡ marks_of seat_of a.name b.seen ++ map (mark a.name) js = subst (λ (w : ℕ). marks_of seat_of w c.seen ≡ marks_of seat_of w b.seen ++ map (mark w) js) name y.mine in
-    record {
-      same_seat = y.same_seat ∙ ap (λ (s : SeatInfo FileMark). record s { seen = c.seen }) x.same_seat;
-      begins = begins_then a.seen b.seen c.seen x.begins y.begins;
-      mine = mine ∙ (ap (λ l. l ++ map (mark a.name) js) x.mine ∙ (append_assoc (marks_of seat_of a.name a.seen) (map (mark a.name) ks) (map (mark a.name) js) ∙ ap (λ l. marks_of seat_of a.name a.seen ++ l) (sym (map-append (mark a.name) ks js))));
-    }
+left_then ks js a b c x y = grind (arith, common_steps, marks_of, seat_of, map, mark, begins_then, append_assoc, map-append)
 
 -- ---- a hold that was granted
 
@@ -261,10 +249,4 @@ lines_more n lines line a b x y =
 
 -- a new seat has no lines
 pub lines_none : (n : ℕ) (object : ObjectId) (name stint : ℕ) → AreLines n [] (seat_info object name stint [])
-lines_none n object name stint = record {
-  holds = [];
-  lines_are = refl;
-  are = record { kinds = refl; reads = refl; fit = All-nil (IsFitHold object.seats) };
-  lawful = history_none (file_rules object.seats);
-  named = All-nil (λ (m : FileMark). m.seat < object.seats);
-}
+lines_none n object name stint = grind (arith, common_steps, history_none, file_rules)

@@ -1,4 +1,5 @@
 -- Ledgers one after the other.
+use Rattle.std.proofs.lemmas.Grind.{common_steps}
 use Rattle.fak_run.proofs.Common.{◌≡◌, ℕ, ◌+◌, List, ◌++◌, length, ◌∙◌, arith, sum_by, sum_by-append, All-append, up_amount, release_amount, debit_weight, credit_weight, put_of, got_of, close_of, closed_of, refusal_of, other_amount, ScriptOf, NoteOf, Process, births_of, RowOf, Ledger, Made, Balanced, named, child, after_made, IsMade, FitsRow, joined, waiting, notes, downs_of, ups_of, shuts_of, no_births_of, no_slots_of, ended_slot, stuck_of, halted_of, not_before, before_down}
 use Rattle.fak_model.specs.declared.queue.Kind.{Kind}
 use Rattle.fak_model.proofs.Leading.{sum_same, sum_plus}
@@ -15,20 +16,7 @@ module _ (script : ScriptOf) (n : ℕ) (before between after : List Process) (a 
   processes_joined : (f : Process → ℕ) →
       sum_by (put_of f) (a.ready ++ b.ready) + waiting (put_of f) n (joined a b) + sum_by (λ (r : RowOf). f r.process) (a.rows ++ b.rows) + sum_by (λ (m : Made). f m.before) (a.made ++ b.made) + sum_by f after
       ≡ sum_by (got_of f) (a.ready ++ b.ready) + waiting (got_of f) n (joined a b) + sum_by f (a.begun ++ b.begun) + sum_by f (a.born ++ b.born) + sum_by (λ (m : Made). f (after_made m)) (a.made ++ b.made) + sum_by f before
-  processes_joined f = omega (
-    arith,
-    x.processes f,
-    y.processes f,
-    waiting-joined (put_of f) n a b,
-    waiting-joined (got_of f) n a b,
-    sum_by-append (put_of f) a.ready b.ready,
-    sum_by-append (got_of f) a.ready b.ready,
-    sum_by-append (λ (r : RowOf). f r.process) a.rows b.rows,
-    sum_by-append (λ (m : Made). f m.before) a.made b.made,
-    sum_by-append (λ (m : Made). f (after_made m)) a.made b.made,
-    sum_by-append f a.begun b.begun,
-    sum_by-append f a.born b.born,
-  )
+  processes_joined f = grind (arith, common_steps, waiting-joined, put_of, got_of, sum_by-append, after_made)
 
   -- what balances in each balances in both
   pub balanced-joined : Balanced script n before after (joined a b)

@@ -1,6 +1,5 @@
 pub mod Common
 pub mod Fitting
-pub mod Ranges
 pub mod Opening
 pub mod RowLemmas
 pub mod Told

@@ -1,5 +1,6 @@
 -- What calls leave to the only seat of an object.
-use Rattle.fak_run.proofs.Common.{◌≡◌, ℕ, ◌+◌, ◌<◌, ◌==◌, true, List, [], ◌∷◌, ◌++◌, refl, ap, sym, ◌∙◌, subst, arith, All, length, nat_tests, All-head, All-tail, Rules, IsHistory, AreNamed, marks_of, SeatInfo, mine_of, Appends, before_appended}
+use Rattle.std.proofs.lemmas.Grind.{common_steps}
+use Rattle.fak_run.proofs.Common.{◌≡◌, ℕ, ◌<◌, ◌==◌, true, List, [], ◌∷◌, ◌++◌, refl, ap, ◌∙◌, subst, arith, All, length, nat_tests, All-head, All-tail, Rules, IsHistory, AreNamed, marks_of, SeatInfo, mine_of, Appends, before_appended}
 use Rattle.fak_model.proofs.RunningCalls.{before_mark-append}
 use Rattle.fak_run.specs.Only.{IsOnly}
 
@@ -24,10 +25,7 @@ module _ {M W C : Type 0} {rules : Rules M W C} {marks : List M} {old new : Seat
 
   -- the seat has seen these marks more
   pub only_seen : new.seen ≡ old.seen ++ marks
-  only_seen =
-      sym (all_mine rules.seat_of new.seen only_named)
-      ∙ (ap (λ (n : ℕ). marks_of rules.seat_of n new.seen) (sym only_name)
-      ∙ (a.mine ∙ ap (λ l. l ++ marks) (ap (λ (n : ℕ). marks_of rules.seat_of n old.seen) o.name ∙ all_mine rules.seat_of old.seen o.named)))
+  only_seen = grind (arith, common_steps, all_mine, only_named, marks_of, only_name)
 
   pub only_still : IsOnly rules.seat_of new
   only_still = record { one = only_seats; name = only_name; named = only_named }
@@ -37,7 +35,4 @@ module _ {M W C : Type 0} {rules : Rules M W C} {marks : List M} {old new : Seat
 
 -- what stood before a call's first mark
 pub only_before : {M W C : Type 0} {rules : Rules M W C} {m : M} {rest : List M} {old new : SeatInfo M} → IsOnly rules.seat_of old → Appends rules (m ∷ rest) old new → rules.seat_of m ≡ old.name → before_appended rules.seat_of 0 old new ≡ old.seen
-only_before {M} {W} {C} {rules} {m} {rest} {old} {new} o a own =
-    let mine : mine_of rules.seat_of old ≡ old.seen = ap (λ (n : ℕ). marks_of rules.seat_of n old.seen) o.name ∙ all_mine rules.seat_of old.seen o.named in
-    ap (λ (h : List M). Rattle.fak_model.specs.Calls.before_mark rules.seat_of old.name (length (mine_of rules.seat_of old) + 0) h) (only_seen o a)
-    ∙ before_mark-append rules.seat_of old.name old.seen rest m (length (mine_of rules.seat_of old) + 0) (omega arith) own
+only_before {M} {W} {C} {rules} {m} {rest} {old} {new} o a own = grind (arith, common_steps, mine_of, marks_of, all_mine, length, only_seen, before_mark-append)

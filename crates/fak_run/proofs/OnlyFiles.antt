@@ -1,4 +1,5 @@
 -- What calls do to a file table that has one seat.
+use Rattle.std.proofs.lemmas.Grind.{common_steps}
 use Rattle.fak_run.proofs.Common.{◌≡◌, ◌≢◌, ◌⊎◌, ℕ, zero, suc, ◌+◌, ◌<◌, ◌==◌, ◌&&◌, Bool, true, false, cond, List, [], ◌∷◌, ◌++◌, Some, slice_set, length, refl, ap, sym, ◌∙◌, subst, arith, inl, inr, All, map, reverse, slice_get, slice_index_or, nat_lt, Option, None, MatchOption, flat_map, nat_tests, All-head, All-tail, SeatInfo, FileEntry, FileField, Inode, Uses, FileKind, Take, Set, Give, FileMark, FileSeatInfo, entries_after, LeavesMarks, AreRefused, IsWaitedFor, IsGot, IsSet, IsEnded, FileChange, most_uses, open_change, open_by, raise, raise_by, close_change, close_by, lower, lowered, first_entry}
 use Rattle.std.proofs.lemmas.List.{append-nil, reverse-append, reverse-reverse}
 use Rattle.fak_model.specs.File.{WholeCall, Refused, Withdrawn, kinds_of_call, same_field, field_after, field_from, field}
@@ -23,10 +24,7 @@ field_same : (h l : List FileMark) → SetNothing l → (i : ℕ) (f : FileField
 field_same h l none i f = field_from-more i f 0 h l ∙ none i f (field h i f)
 
 entry_same : (h l : List FileMark) → SetNothing l → (i : ℕ) → entry_of (h ++ l) i ≡ entry_of h i
-entry_same h l none i =
-    let a = field_same h l none i Inode in
-    let b = field_same h l none i Uses in
-    λ k. record { inode = a k; uses = b k }
+entry_same h l none i = grind (arith, common_steps, field_same)
 
 entries_same : (h l : List FileMark) → SetNothing l → (from count : ℕ) → entries_after (h ++ l) from count ≡ entries_after h from count
 entries_same h l none from zero = refl
@@ -121,20 +119,10 @@ set_here i v Inode old = let t : (i == i) ≡ true = grind (arith, nat_tests) in
 set_here i v Uses old = let t : (i == i) ≡ true = grind (arith, nat_tests) in rw t refl
 
 entry_here : (h : List FileMark) (name i : ℕ) (e : FileEntry) → entry_of (h ++ mark name (Set i Inode e.inode) ∷ mark name (Set i Uses e.uses) ∷ []) i ≡ e
-entry_here h name i e =
-    let t : (i == i) ≡ true = grind (arith, nat_tests) in
-    let l = mark name (Set i Inode e.inode) ∷ mark name (Set i Uses e.uses) ∷ [] in
-    let a : field (h ++ l) i Inode ≡ e.inode = field_from-more i Inode 0 h l ∙ rw t refl in
-    let b : field (h ++ l) i Uses ≡ e.uses = field_from-more i Uses 0 h l ∙ rw t refl in
-    λ k. record { inode = a k; uses = b k }
+entry_here h name i e = grind (arith, common_steps, nat_tests, mark, field, field_from-more)
 
 entry_there : (h : List FileMark) (name i : ℕ) (e : FileEntry) (j : ℕ) → j ≢ i → entry_of (h ++ mark name (Set i Inode e.inode) ∷ mark name (Set i Uses e.uses) ∷ []) j ≡ entry_of h j
-entry_there h name i e j other =
-    let t : (j == i) ≡ false = grind (arith, nat_tests) in
-    let l = mark name (Set i Inode e.inode) ∷ mark name (Set i Uses e.uses) ∷ [] in
-    let a : field (h ++ l) j Inode ≡ field h j Inode = field_from-more j Inode 0 h l ∙ rw t refl in
-    let b : field (h ++ l) j Uses ≡ field h j Uses = field_from-more j Uses 0 h l ∙ rw t refl in
-    λ k. record { inode = a k; uses = b k }
+entry_there h name i e j other = grind (arith, common_steps, nat_tests, mark, field, field_from-more)
 
 pub sets_entry : {i : ℕ} {e : FileEntry} {old mid new : FileSeatInfo} → IsOnlyFiles old → IsSet i Inode e.inode old mid → IsSet i Uses e.uses mid new → PutsEntry i e old new
 sets_entry {i} {e} {old} {mid} {new} o a b =
@@ -212,22 +200,8 @@ close_one xs inode = close_by_one xs (first_entry xs inode)
 pub changes_files : {count : ℕ} {a b c d : FileSeatInfo} (change_of : List FileEntry → FileChange) (xs ys : List FileEntry) (entry : Option ℕ) → KeepsFiles a b → xs ≡ entries_now count a
     → record { entry = entry; entries = ys } ≡ change_of xs → OneChange xs (change_of xs).entry (change_of xs).entries
     → MatchOption entry (KeepsFiles b c) (λ i. StoresEntry ys i b c) → KeepsFiles c d → ChangesFiles count entry (change_of (entries_now count a)) d
-changes_files {count} {a} {b} {c} {d} change_of xs ys None ab read changed one stored cd =
-    let same : ys ≡ xs = subst (λ (x : FileChange). OneChange xs x.entry x.entries) (sym changed) one in
-    let target : record { entry = None; entries = ys } ≡ change_of (entries_now count a) = changed ∙ ap change_of read in
-    record {
-      only = cd.only;
-      entry_is = ap (λ (x : FileChange). x.entry) target;
-      entries = cd.entries count ∙ (stored.entries count ∙ (ab.entries count ∙ (sym read ∙ (sym same ∙ ap (λ (x : FileChange). x.entries) target))));
-    }
-changes_files {count} {a} {b} {c} {d} change_of xs ys (Some i) ab read changed one stored cd =
-    let same : ys ≡ slice_set xs i stored.e = subst (λ (x : FileChange). OneChange xs x.entry x.entries) (sym changed) one stored.e stored.in_copy in
-    let target : record { entry = Some i; entries = ys } ≡ change_of (entries_now count a) = changed ∙ ap change_of read in
-    record {
-      only = cd.only;
-      entry_is = ap (λ (x : FileChange). x.entry) target;
-      entries = cd.entries count ∙ (stored.puts.entries count ∙ (ap (λ (l : List FileEntry). slice_set l i stored.e) (ab.entries count ∙ sym read) ∙ (sym same ∙ ap (λ (x : FileChange). x.entries) target)));
-    }
+changes_files {count} {a} {b} {c} {d} change_of xs ys None ab read changed one stored cd = grind (arith, common_steps, entries_now)
+changes_files {count} {a} {b} {c} {d} change_of xs ys (Some i) ab read changed one stored cd = grind (arith, common_steps, slice_set, entries_now)
 
 -- what an index finds
 pub found_at : (xs : List FileEntry) (i : ℕ) (x : FileEntry) → i < length xs → x ≡ slice_index_or xs i x → slice_get xs i ≡ Some x

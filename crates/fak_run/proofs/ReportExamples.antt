@@ -1,5 +1,6 @@
 -- Reports of small scripts, and what they contradict.
-use Rattle.fak_run.proofs.Common.{◌≡◌, ℕ, zero, suc, ◌+◌, ◌<◌, ◌≤◌, ◌==◌, Bool, true, false, cond, List, [], ◌∷◌, length, get_or, refl, ap, sym, ◌∙◌, subst, arith, true≢false, sum_by, sum_by-cons, All, AllPairs, All-nil, All-cons, IsPermutation-refl, is_lt, slice_cmp, nat_cmp, NoteOf, RowOf, IsSortedByName, is_ended}
+use Rattle.std.proofs.lemmas.Grind.{common_steps}
+use Rattle.fak_run.proofs.Common.{◌≡◌, ℕ, zero, suc, ◌==◌, Bool, true, false, cond, List, [], ◌∷◌, refl, ap, sym, ◌∙◌, subst, arith, true≢false, sum_by-cons, All, AllPairs, All-nil, All-cons, is_lt, slice_cmp, nat_cmp, NoteOf, RowOf, IsSortedByName, is_ended}
 use Rattle.std.proofs.lemmas.List.Kept.{AllPairs-cons}
 use Rattle.fak_run.specs.Reported.{AreAsOften}
 use Rattle.fak_run.proofs.SameRows.{same_note, same_note_is, same_note_self, same_number_self}
@@ -13,21 +14,11 @@ clash a b e differ = true≢false (sym (subst (λ (x : ℕ). (a == x) ≡ true) 
 pub all_one : {X : Type 0} (P : X → Type 0) (a : X) → P a → All P (a ∷ [])
 all_one P a x = All-cons P a [] x (All-nil P)
 
-pub all_two : {X : Type 0} (P : X → Type 0) (a b : X) → P a → P b → All P (a ∷ b ∷ [])
-all_two P a b x y = All-cons P a (b ∷ []) x (all_one P b y)
-
 pub one_pairs : {X : Type 0} (R : X → X → Type 0) (a : X) → AllPairs R (a ∷ [])
 one_pairs R a i j d lt below = absurd (omega (arith, lt, below))
 
-pub two_pairs : {X : Type 0} (R : X → X → Type 0) (a b : X) → R a b → AllPairs R (a ∷ b ∷ [])
-two_pairs R a b r = AllPairs-cons R a (b ∷ []) (all_one (R a) b r) (one_pairs R b)
-
 pub sorted_one : (a : RowOf) → IsSortedByName (a ∷ [])
 sorted_one a k d low high = absurd (omega (arith, high))
-
-pub sorted_two : (a b : RowOf) → is_lt (slice_cmp nat_cmp b.process.name a.process.name) ≡ false → IsSortedByName (a ∷ b ∷ [])
-sorted_two a b e zero d low high = e
-sorted_two a b e (suc k) d low high = absurd (omega (arith, high))
 
 -- names that differ, and slots of rows that haven't ended
 abbrev pub OtherName : RowOf → RowOf → Type 0
@@ -44,12 +35,7 @@ other x y = cond (same_note y x) 0 1
 
 only_by : (x y : NoteOf) (b : Bool) → same_note y x ≡ b → other x y ≡ other x x → y ≡ x
 only_by x y true is e = same_note_is y x is
-only_by x y false is e =
-    let one : ℕ = 1 in
-    let nought : ℕ = 0 in
-    let far : other x y ≡ one = ap (λ (b : Bool). cond b nought one) is in
-    let near : other x x ≡ nought = ap (λ (b : Bool). cond b nought one) (same_note_self x) in
-    absurd (clash 1 0 (sym far ∙ (e ∙ near)) refl)
+only_by x y false is e = grind (arith, common_steps, cond, same_note_self, clash)
 
 -- a list that has each line as often as a list of one line is that list
 pub only_line : (x : NoteOf) (list : List NoteOf) → AreAsOften list (x ∷ []) → list ≡ x ∷ []

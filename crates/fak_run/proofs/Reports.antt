@@ -1,4 +1,5 @@
 -- What the rows of all processes promise.
+use Rattle.std.proofs.lemmas.Grind.{common_steps}
 use Rattle.std.proofs.lemmas.Bool.{cases_lt, and_parts, and_from}
 use Rattle.std.proofs.lemmas.List.Sorted.{sum_by-IsPermutation, All-permutation}
 use Rattle.fak_run.proofs.Common.{numbers_from, Outcome, Ended, Stuck, Halted, ◌≡◌, ℕ, zero, suc, ◌+◌, ◌<◌, ◌≤◌, ◌==◌, nat_lt, Bool, true, false, cond, List, [], ◌∷◌, ◌++◌, length, get_or, refl, ap, sym, ◌∙◌, arith, inl, inr, map, ◌&&◌, sum_by, All, AllPairs, IsPermutation, nat_tests, sum_by-append, sum_by-cons, contents, put_of, got_of, close_of, closed_of, ScriptOf, NoteOf, Process, births_of, RowOf, rows_with, sleepers_outcome, is_ended, Ledger, NameAndProgram, named, notes, downs_of, ups_of, shuts_of, no_births_of, no_slots_of, ended_slot, stuck_of, halted_of, FitsRow, Histories, Gathered, begun_names, asleep, lines, lines_of, is_shut, rows_of, children_of, spawned_names, stuck_at, stuck_before, kept_slot, Promised, queue_weighs, closed_after_close}
@@ -58,10 +59,7 @@ numbers_le k i (suc n) =
 module _ {script : ScriptOf} {seats : ℕ} {h : Histories} {l : Ledger} (g : Gathered script seats h l) where
   rows_weigh : (f : RowOf → ℕ) → sum_by f (rows_of script h l)
       ≡ sum_by f l.rows + sum_by (λ (p : Process). f (record { process = p; outcome = sleepers_outcome (is_shut l.rows (asleep h.waits (length script.semaphores))) })) (asleep h.waits (length script.semaphores))
-  rows_weigh f =
-      let sleepers = asleep h.waits (length script.semaphores) in
-      let o = sleepers_outcome (is_shut l.rows sleepers) in
-      sum_by-append f l.rows (rows_with o sleepers) ∙ ap (λ n. sum_by f l.rows + n) (sum_by-map f (λ (p : Process). let r : RowOf = record { process = p; outcome = o } in r) sleepers)
+  rows_weigh f = grind (arith, common_steps, asleep, length, sleepers_outcome, is_shut, sum_by-append, rows_with, sum_by, sum_by-map)
 
   -- what weighs by the process alone
   all_weigh : (f : Process → ℕ) → sum_by (λ (r : RowOf). f r.process) (rows_of script h l) ≡ sum_by (λ (r : RowOf). f r.process) l.rows + sum_by f (asleep h.waits (length script.semaphores))
@@ -92,11 +90,7 @@ module _ {script : ScriptOf} {seats : ℕ} {h : Histories} {l : Ledger} (g : Gat
 
   -- a row is halted by a processor only where a shutdown line was made
   halts_after_shut : 0 < sum_by (λ (r : RowOf). halted_of r.outcome) l.rows → 0 < notes shuts_of l
-  halts_after_shut some =
-      let closed = g.ready closed_of in
-      let close = g.ready close_of in
-      let after = closed_after_close script.slots h.ready g.ready_legal (omega (arith, closed, g.balanced.shutdown.halts, some)) in
-      omega (arith, after, close, g.balanced.shutdown.shuts)
+  halts_after_shut some = grind (arith, common_steps, closed_of, close_of, closed_after_close)
 
   shut_lines : lines shuts_of l.rows + lines_of shuts_of (asleep h.waits (length script.semaphores)) ≡ notes shuts_of l
   shut_lines = lines_are g shuts_of

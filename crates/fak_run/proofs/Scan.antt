@@ -1,5 +1,6 @@
 -- A history is walked mark by mark, and each hold's line is taken at its Take.
-use Rattle.fak_run.proofs.Common.{◌≡◌, ◌≢◌, ◌⊎◌, ℕ, ◌<◌, ◌≤◌, ◌==◌, Bool, true, false, cond, List, [], ◌∷◌, ◌++◌, refl, ap, sym, ◌∙◌, subst, arith, inl, inr, append_assoc, true≢false, map, All, flat_map, IsPermutation, append-nil, nat_tests, All-nil, All-cons, All-head, All-tail, AreNamed, Setting, set_mark, amount_held, hold_after, field_after, IsFair, file_rules, IsFileHistory, IsPermutation-refl, IsPermutation-trans, IsPermutation-cons, FileEntry, FileField, FileKind, Take, Over, Back, No, Set, Give, FileMark, same_or_not, cond_here, cond_else, history_prefix, last_fair, set_in, set_all, FileHold, IsFitHold, is_of_hold, held_kinds, kinds_of_hold, reads_from, read_of, AreHolds, gather_from}
+use Rattle.std.proofs.lemmas.Grind.{common_steps}
+use Rattle.fak_run.proofs.Common.{◌≡◌, ◌≢◌, ◌⊎◌, ℕ, ◌<◌, ◌≤◌, ◌==◌, Bool, true, false, cond, List, [], ◌∷◌, ◌++◌, refl, ap, sym, ◌∙◌, subst, arith, inl, inr, append_assoc, true≢false, map, All, flat_map, append-nil, nat_tests, All-nil, All-cons, All-head, All-tail, AreNamed, Setting, set_mark, amount_held, hold_after, field_after, IsFair, file_rules, IsFileHistory, IsPermutation-trans, IsPermutation-cons, FileEntry, FileField, FileKind, Take, Over, Back, No, Set, Give, FileMark, same_or_not, cond_here, cond_else, history_prefix, last_fair, set_in, set_all, FileHold, IsFitHold, is_of_hold, held_kinds, kinds_of_hold, reads_from, read_of, AreHolds, gather_from}
 use Rattle.fak_files.proofs.Common.{is_take, entries_after}
 use Rattle.fak_files.proofs.HoldReads.{alone, held_own, held_other}
 use Rattle.fak_run.specs.Replays.{Steps}
@@ -48,16 +49,7 @@ next_take : (inside : Bool) (sets : List Setting) (holds : List FileHold) (a : �
 next_take true [] holds a ks e = absurd cc
 next_take true (s ∷ sets) holds a ks e = absurd cc
 next_take false sets [] a ks e = absurd cc
-next_take false sets (x ∷ later) a ks e =
-    let tail : ks ≡ (map set_mark x.sets ++ Give ∷ []) ++ flat_map kinds_of_hold later = cc in
-    record {
-      is_idle = refl;
-      hold = x;
-      later = later;
-      holds_are = refl;
-      amount = cc;
-      rest = tail ∙ append_assoc (map set_mark x.sets) (Give ∷ []) (flat_map kinds_of_hold later);
-    }
+next_take false sets (x ∷ later) a ks e = grind (arith, common_steps, map, set_mark, flat_map, kinds_of_hold, later, append_assoc)
 
 record NextSet (inside : Bool) (sets : List Setting) (holds : List FileHold) (i : ℕ) (f : FileField) (v : ℕ) (ks : List FileKind) : Type 0 where
   pub is_open : inside ≡ true
@@ -300,26 +292,7 @@ module _ (n k seats : ℕ) (some : 1 ≤ k) (p : List FileMark) (m : FileMark) (
   -- ---- a mark of a refused call
 
   at_refusal : is_of_hold m.kind ≡ false → is_take m.kind ≡ false → ((i : ℕ) (f : FileField) (v : ℕ) → field_after i f v m.kind ≡ v) → ((a : ℕ) → hold_after a m.kind ≡ a) → Stands n k seats (p ++ m ∷ []) r holds inside sets entries
-  at_refusal out no_take none same =
-      let kept : entries_after (p ++ m ∷ []) 0 n ≡ entries_after p 0 n = entries-same p m none 0 n in
-      goes holds inside sets entries (λ t ne. refl) (λ t ne. refl) (λ t ne. refl)
-      (sym (held-none m.seat m r refl out) ∙ st.kinds m.seat low)
-      (sym (reads-none m.seat m r n p refl no_take) ∙ st.reads m.seat low)
-      (st.fit m.seat low)
-      (elim st.now [
-        | inl q ↦ inl (record { none = q.none; entries_are = q.entries_are ∙ sym kept })
-        | inr w ↦ inr (record {
-          writer = w.writer;
-          below = w.below;
-          is_open = w.is_open;
-          all = elim (same_or_not m.seat w.writer) [
-            | inl e ↦ held_own k p m w.writer e ∙ (same (amount_held w.writer p) ∙ w.all)
-            | inr ne ↦ held_other k p m w.writer ne ∙ w.all
-          ];
-          others = w.others;
-          entries_are = w.entries_are ∙ ap (λ (l : List FileEntry). set_all l (sets w.writer)) (sym kept);
-        })
-      ])
+  at_refusal out no_take none same = grind (arith, common_steps, entries_after, entries-same, none, goes, held-none, same_or_not, held_own, amount_held, held_other, set_all)
 
   -- ---- each mark
 
@@ -340,14 +313,7 @@ all_front F (x ∷ l) k all = All-cons F x l (All-head F x (l ++ k) all) (all_fr
 
 walk : (n k seats : ℕ) → 1 ≤ k → (r p : List FileMark) → IsFileHistory k (p ++ r) → AreNamed (file_rules k) seats (p ++ r) → (holds : ℕ → List FileHold) (inside : ℕ → Bool) (sets : ℕ → List Setting) (entries : List FileEntry)
     → Stands n k seats p r holds inside sets entries → AreMerged seats holds entries (entries_after (p ++ r) 0 n)
-walk n k seats some [] p law named holds inside sets entries st = record {
-  list = [];
-  permutation = subst (λ (l : List FileHold). IsPermutation l []) (sym (gather_none holds 0 seats (λ s below. (next_none (inside s) (sets s) (holds s) (st.kinds s (omega (arith, below)))).none))) (IsPermutation-refl []);
-  replays = elim st.now [
-    | inl q ↦ ap (λ (h : List FileMark). entries_after h 0 n) (append-nil p) ∙ sym q.entries_are
-    | inr w ↦ absurd (true≢false (sym w.is_open ∙ (next_none (inside w.writer) (sets w.writer) (holds w.writer) (st.kinds w.writer w.below)).is_idle))
-  ];
-}
+walk n k seats some [] p law named holds inside sets entries st = grind (arith, common_steps, gather_none, next_none, entries_after, append-nil)
 walk n k seats some (m ∷ r) p law named holds inside sets entries st =
     let whole : (p ++ m ∷ []) ++ r ≡ p ++ m ∷ r = append_assoc p (m ∷ []) r in
     let law' : IsFileHistory k ((p ++ m ∷ []) ++ r) = subst (IsFileHistory k) (sym whole) law in

@@ -1,5 +1,6 @@
 -- The list scheduler ends every script: what is left to do falls with each small step.
-use Rattle.fak_run.proofs.Common.{◌≡◌, ◌⊎◌, ℕ, zero, suc, ◌+◌, ◌-◌, ◌*◌, ◌<◌, ◌≤◌, nat_lt, Bool, true, false, List, [], ◌∷◌, ◌++◌, length, refl, ap, sym, ◌∙◌, arith, inl, inr, Option, Some, None, ◌==◌, ◌||◌, slice_get, slice_set, slice_index, slice_index_or, sum_by, cases_lt, nat_tests, slice_get_within, get_or_past, set_past, length_push, open_change, close_change, uses_of, Turn, Lists, State, EndsIn, next_step, enter_by, go_on, turn_over, down_by, up_by, child_of, spawn_by, make, go_or_make, turn_by, take_front, step_by, steps, opening}
+use Rattle.std.proofs.lemmas.Grind.{common_steps}
+use Rattle.fak_run.proofs.Common.{◌≡◌, ◌⊎◌, ℕ, zero, suc, ◌+◌, ◌-◌, ◌*◌, ◌<◌, ◌≤◌, nat_lt, Bool, true, false, List, [], ◌∷◌, length, refl, ap, sym, ◌∙◌, arith, inl, inr, Option, Some, None, ◌==◌, ◌||◌, slice_get, slice_set, slice_index, slice_index_or, sum_by, cases_lt, nat_tests, slice_get_within, get_or_past, set_past, length_push, open_change, close_change, uses_of, Turn, Lists, State, EndsIn, next_step, enter_by, go_on, turn_over, down_by, up_by, child_of, spawn_by, make, go_or_make, turn_by, take_front, step_by, steps, opening}
 use Rattle.std.proofs.lemmas.List.Sums.{sum_by-cons, sum_by_push, sum_by-set}
 use Rattle.fak_text.specs.Script.{ScriptOf, StepOf, say, yield, down, up, open_file, close_file, stat, spawn, shutdown, steps_of, steps_or_none}
 use Rattle.fak_text.specs.Journal.{NoteOf, said, yielded, downed, upped, opened, closed, statted, spawned, no_birth, no_slot, shut_down, Process, after_note, child_count}
@@ -96,13 +97,7 @@ module _ (script : ScriptOf) where
   -- ---- semaphores
 
   sleeps : (s : Lists) (t : Turn) (n : ℕ) → is_over t ≡ false → remains (down_by s t n false) < remains (record { running = Some t; lists = s })
-  sleeps s t n goes =
-      let now : turn_phase (is_over t) ≡ 0 = ap turn_phase goes in
-      let waits = slice_index_or s.sleepers n [] ++ t.process ∷ [] in
-      elim (cases_lt n (length s.sleepers)) [
-        | inl below ↦ omega (arith, now, sum_by-set (sum_by left) s.sleepers n waits [] below, sum_by_push left (slice_index_or s.sleepers n []) t.process)
-        | inr past ↦ omega (arith, now, ap (sum_by (sum_by left)) (set_past s.sleepers n waits past))
-      ]
+  sleeps s t n goes = grind (arith, common_steps, slice_index_or, cases_lt, length, sum_by-set, sum_by, sum_by_push, set_past)
 
   wakes : (s : Lists) (t : Turn) (n : ℕ) (first : Process) (others : List Process) (next : StepOf) → next_step script t.process ≡ Some next → is_over t ≡ false
       → slice_index_or s.sleepers n [] ≡ first ∷ others → remains (up_by s t n (first ∷ others)) < remains (record { running = Some t; lists = s })
@@ -138,13 +133,7 @@ module _ (script : ScriptOf) where
       → nat_lt s.births script.births ≡ may → remains (spawn_by s t program may free) < remains (record { running = Some t; lists = s })
   spawns s t program false free next stands goes may_is = plain s s t no_birth false next stands goes refl refl
   spawns s t program true [] next stands goes may_is = plain s s t no_slot false next stands goes refl refl
-  spawns s t program true (slot ∷ free) next stands goes may_is =
-      let with : Lists = record s { births = s.births + 1; free_slots = free } in
-      let child = child_of t.process program slot in
-      let below : s.births < script.births = grind (arith, nat_tests) in
-      let short : left child ≤ most = omega (arith, part_of script.programs program) in
-      goes_on s (enter_by with child s.is_shut) t (spawned (child_count t.process.journal)) false next stands goes
-      (omega (arith, short, one_birth most script.births s.births below, enters_made with child s.is_shut, enters_ready with child s.is_shut))
+  spawns s t program true (slot ∷ free) next stands goes may_is = grind (arith, common_steps, child_of, nat_tests, part_of, goes_on, enter_by, spawned, child_count, one_birth, enters_made, enters_ready)
 
   -- ---- steps
 
@@ -160,9 +149,7 @@ module _ (script : ScriptOf) where
   makes s t shutdown stands goes = plain s (record s { is_shut = true }) t shut_down false shutdown stands goes refl refl
 
   goes_or_makes : (s : Lists) (t : Turn) (next : StepOf) (over : Bool) → next_step script t.process ≡ Some next → is_over t ≡ over → remains (go_or_make script s t next over) < remains (record { running = Some t; lists = s })
-  goes_or_makes s t next true stands is =
-      let now : turn_phase (is_over t) ≡ 2 = ap turn_phase is in
-      omega (arith, now, enters_made s t.process s.is_shut, enters_ready s t.process s.is_shut)
+  goes_or_makes s t next true stands is = grind (arith, common_steps, enters_made, enters_ready)
   goes_or_makes s t next false stands is = makes s t next stands is
 
   turns : (s : Lists) (t : Turn) (next : Option StepOf) → next_step script t.process ≡ next → remains (turn_by script s t next) < remains (record { running = Some t; lists = s })

@@ -1,5 +1,6 @@
 -- The names in the list scheduler's report: each once.
-use Rattle.fak_run.proofs.Common.{Turn, Lists, State, turn_over, child_of, begun_from, opening, Outcome, Ended, Halted, named, begun_names, ◌≡◌, ℕ, suc, ◌+◌, ◌≤◌, ◌==◌, nat_lt, Bool, true, false, cond, List, [], ◌∷◌, ◌++◌, refl, ap, sym, ◌∙◌, subst, arith, Option, Some, None, map, ◌&&◌, sum_by, flat_map, AllPairs, nat_tests, sum_by-append, sum_by-cons, sum_by-IsPermutation, snoc_ind, ScriptOf, spawned, Process, new_process, after_note, child_count, child_count-append, RowOf, ReportOf, rows_with, sleepers_outcome, rows_at, IsReportOf, ListSchedulerReports}
+use Rattle.std.proofs.lemmas.Grind.{common_steps}
+use Rattle.fak_run.proofs.Common.{Turn, Lists, State, turn_over, child_of, begun_from, opening, Outcome, named, begun_names, ◌≡◌, ℕ, suc, ◌+◌, ◌≤◌, ◌==◌, nat_lt, Bool, true, false, cond, List, [], ◌∷◌, ◌++◌, refl, ap, sym, ◌∙◌, subst, arith, Option, Some, None, map, ◌&&◌, sum_by, flat_map, AllPairs, nat_tests, sum_by-append, sum_by-cons, sum_by-IsPermutation, snoc_ind, ScriptOf, spawned, Process, new_process, after_note, child_count, child_count-append, RowOf, ReportOf, rows_with, sleepers_outcome, rows_at, IsReportOf, ListSchedulerReports}
 use Rattle.fak_run.proofs.Sums.{sum_by-map, sum_by-flat_map, sum_by_less, sum_by-zeros}
 use Rattle.fak_run.proofs.Ends.{ends_alike}
 use Rattle.fak_run.proofs.Names.{same_name, same_end, not_nameless, is_named, is_first, first_le, begun_le, first_is_short, differ}
@@ -25,24 +26,10 @@ had_once true j n = grind (arith, nat_tests)
 had_once false j n = omega arith
 
 children_pay : (x : List ℕ) (j : ℕ) → Pays (has_name (x ++ j ∷ [])) (had_child x j)
-children_pay x j = record {
-  kept = λ p note. refl;
-  plain = λ p note none. (let same : child_count (p.journal ++ note ∷ []) ≡ child_count p.journal = omega (arith, child_count-append p.journal (note ∷ []), none) in
-      ap (λ n. cond (same_name p.name x) (cond (nat_lt j n) 1 0) 0) same);
-  born = λ p program slot.
-      let n = child_count p.journal in
-      let more : child_count (p.journal ++ spawned n ∷ []) ≡ n + 1 = omega (arith, child_count-append p.journal (spawned n ∷ [])) in
-      let child : has_name (x ++ j ∷ []) (child_of p program slot) ≡ cond (same_name p.name x && (n == j)) 1 0 = ap (λ t. cond t 1 0) (same_end n j p.name x) in
-      let grown : had_child x j (after_note p (spawned n)) ≡ cond (same_name p.name x) (cond (nat_lt j (n + 1)) 1 0) 0 = ap (λ k. cond (same_name p.name x) (cond (nat_lt j k) 1 0) 0) more in
-      omega (arith, child, grown, had_more (same_name p.name x) j n);
-}
+children_pay x j = grind (arith, common_steps, child_count, child_count-append, cond, same_name, nat_lt, spawned, child_of, same_end, after_note, had_more)
 
 nameless_pay : Pays (has_name []) (λ p. 0)
-nameless_pay = record {
-  kept = λ p note. refl;
-  plain = λ p note none. refl;
-  born = λ p program slot. (let none : has_name [] (child_of p program slot) ≡ 0 = ap (λ t. cond t 1 0) (not_nameless (child_count p.journal) p.name) in omega (arith, none));
-}
+nameless_pay = grind (arith, common_steps, child_of, cond, not_nameless, child_count)
 
 -- ---- sums
 
@@ -108,14 +95,7 @@ left_so : (f : Process → ℕ) (outcome : Outcome) (ps : List Process) → sum_
 left_so f outcome ps = sum_by-map (λ (r : RowOf). f r.process) (λ (p : Process). let r : RowOf = record { process = p; outcome = outcome } in r) ps
 
 rows_weigh : (f : Process → ℕ) (s : Lists) → sum_by (λ (r : RowOf). f r.process) (rows_at s) ≡ sum_by f s.ended + (sum_by f s.halted + sum_by (sum_by f) s.sleepers)
-rows_weigh f s =
-    let sleepers = flat_map (λ waiting. waiting) s.sleepers in
-    let asleep = rows_with (sleepers_outcome s.is_shut) sleepers in
-    let all : sum_by (λ (r : RowOf). f r.process) (rows_at s) ≡ sum_by (λ (r : RowOf). f r.process) (rows_with Ended s.ended ++ rows_with Halted s.halted) + sum_by (λ (r : RowOf). f r.process) asleep =
-    sum_by-append (λ (r : RowOf). f r.process) (rows_with Ended s.ended ++ rows_with Halted s.halted) asleep in
-    let others = sum_by-append (λ (r : RowOf). f r.process) (rows_with Ended s.ended) (rows_with Halted s.halted) in
-    let slept = left_so f (sleepers_outcome s.is_shut) sleepers ∙ sum_by-flat_map f (λ waiting. waiting) s.sleepers in
-    omega (arith, all, others, left_so f Ended s.ended, left_so f Halted s.halted, slept)
+rows_weigh f s = grind (arith, common_steps, flat_map, rows_with, sleepers_outcome, sum_by, rows_at, sum_by-append, left_so, sum_by-flat_map)
 
 rows_once : (script : ScriptOf) (report : ReportOf) → ListSchedulerReports script report → (x : List ℕ) → sum_by (λ (r : RowOf). is_named x (named r.process)) report.rows ≤ 1
 rows_once script report reports x =

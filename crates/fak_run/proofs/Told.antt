@@ -1,4 +1,5 @@
 -- Notes and rows whose said texts are left out.
+use Rattle.std.proofs.lemmas.Grind.{common_steps}
 use Rattle.std.specs.List.{list_any, sum_by}
 use Rattle.fak_run.proofs.Common.{ProcessRow, shuts_of, row_of, ◌≡◌, ℕ, zero, suc, ◌+◌, ◌<◌, List, [], ◌∷◌, ◌++◌, length, map, take, get_or, slice_get, Some, refl, ap, sym, ◌∙◌, arith, get_or-map, length-map, sum_by-cons, ScriptOf, StepOf, say, yield, down, up, open_file, close_file, stat, spawn, shutdown, NoteOf, said, yielded, downed, upped, opened, closed, statted, spawned, no_birth, no_slot, shut_down, Allows, RowOf, IsSortedByName, is_stuck, told, told_notes, told_row, told_rows}
 
@@ -34,9 +35,7 @@ told-allowed files children step shut_down ok = refl
 -- one note more
 pub told-push : (steps : List StepOf) (notes : List NoteOf) (step : StepOf) (note : NoteOf) → slice_get steps (length notes) ≡ Some step → told_notes steps (notes ++ note ∷ []) ≡ told_notes steps notes ++ told step note ∷ []
 told-push [] [] step note at = absurd (cc)
-told-push (s ∷ ss) [] step note at =
-    let same : step ≡ s = cc in
-    ap (λ (x : StepOf). told x note ∷ []) (sym same)
+told-push (s ∷ ss) [] step note at = grind (arith, common_steps, told)
 told-push [] (m ∷ ms) step note at = absurd (cc)
 told-push (s ∷ ss) (m ∷ ms) step note at = ap (λ (l : List NoteOf). told s m ∷ l) (told-push ss ms step note at)
 

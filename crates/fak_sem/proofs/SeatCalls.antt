@@ -1,4 +1,5 @@
 -- What downs and ups leave of the invariant of a seat.
+use Rattle.std.proofs.lemmas.Grind.{common_steps}
 use Rattle.fak_sem.proofs.Common.{◌≡◌, ℕ, ◌+◌, ◌<◌, true, false, List, [], refl, ap, sym, ◌∙◌, subst, arith, ℤ, pos, int_lt, Option, CreditKind, CreditMark, Mark, QueueInfo, Makes, made_by, seat_of, drawn_by, state_of, kinds_not_in, kinds_not_out, kinds_in, kinds_out, InsertsAtLast, DeletesAtLast, weight_from, of_name, passes, parks, wakes, SemId, SemInfo, SemSeatInfo, IsSemSeat, sem_seat, sem_info, one_if_some, one_if_none, CountsDown, CountsUp}
 use Rattle.fak_model.specs.declared.credit.CreditKind.TheVariants.{Debit, Credit}
 use Rattle.fak_model.specs.declared.queue.Kind.{Kind}
@@ -33,30 +34,11 @@ module _ {T : Type 0} {start : ℕ} {credit credit' : SeatInfo CreditMark} {queu
 
   -- the seat's queue part has tickets left
   pub tickets_left : drawn_by queue < queue.stint
-  tickets_left =
-      let p = ap (λ (n : ℕ). count puts (marks_of seat_of n queue.seen)) s.name in
-      let g = ap (λ (n : ℕ). count gots (marks_of seat_of n queue.seen)) s.name in
-      let parked = s.matched.parked in
-      let woken = s.matched.woken in
-      let within = c.within in
-      let stint = s.stint in
-      let few = weights-calls credit.name start [] credit.seen in
-      omega (arith, p, g, parked, woken, within, stint, few)
+  tickets_left = grind (arith, common_steps, count, puts, marks_of, seat_of, gots, weights-calls)
 
   -- the wait queue is left alone
   pub seat_unqueued : parks kind found ≡ 0 → wakes kind found ≡ 0 → IsSemSeat start credit' queue
-  seat_unqueued none_parked none_woken = record {
-    seats = s.seats ∙ sym same_seats;
-    name = s.name ∙ sym same_name;
-    stint = s.stint ∙ sym same_stint;
-    idle = s.idle;
-    credit_named = c.appends.named;
-    queue_named = s.queue_named;
-    matched = record {
-      parked = (let e = ap (λ (n : ℕ). count puts (marks_of seat_of n queue.seen)) same_name in let was = s.matched.parked in let w = weighs parks in omega (arith, e, was, w, none_parked));
-      woken = (let e = ap (λ (n : ℕ). count gots (marks_of seat_of n queue.seen)) same_name in let was = s.matched.woken in let w = weighs wakes in omega (arith, e, was, w, none_woken));
-    };
-  }
+  seat_unqueued none_parked none_woken = grind (arith, common_steps, same_seats, same_name, same_stint, count, puts, marks_of, seat_of, weighs, parks, gots)
 
   -- the wait queue has seen these calls
   seat_queued : {size : ℕ} (kinds : List (Kind T)) {queue' : SeatInfo (Mark T)} → Makes size kinds queue queue' → state_of queue' ≡ Idle
@@ -82,17 +64,11 @@ module _ {T : Type 0} {start : ℕ} {credit credit' : SeatInfo CreditMark} {queu
 
   -- the wait queue has got an item
   pub seat_parked : {size : ℕ} {who : T} {queue' : SeatInfo (Mark T)} → InsertsAtLast size who queue queue' → state_of queue' ≡ Idle → parks kind found ≡ 1 → wakes kind found ≡ 0 → IsSemSeat start credit' queue'
-  seat_parked {size} {who} made idle one none =
-      seat_queued _ made.1.makes idle
-      (count_at_last puts kinds_not_in (none_in puts refl) queue.name made.1.refused (kinds_in made.0 who) ∙ omega (arith, one))
-      (count_at_last gots kinds_not_in (none_in gots refl) queue.name made.1.refused (kinds_in made.0 who) ∙ omega (arith, none))
+  seat_parked {size} {who} made idle one none = grind (arith, common_steps, seat_queued, count_at_last, puts, kinds_not_in, none_in, kinds_in, gots)
 
   -- an item was taken off the wait queue
   pub seat_woken : {size : ℕ} {who : T} {queue' : SeatInfo (Mark T)} → DeletesAtLast size who queue queue' → state_of queue' ≡ Idle → parks kind found ≡ 0 → wakes kind found ≡ 1 → IsSemSeat start credit' queue'
-  seat_woken {size} {who} made idle none one =
-      seat_queued _ made.1.makes idle
-      (count_at_last puts kinds_not_out (none_out puts refl) queue.name made.1.refused (kinds_out made.0 who) ∙ omega (arith, none))
-      (count_at_last gots kinds_not_out (none_out gots refl) queue.name made.1.refused (kinds_out made.0 who) ∙ omega (arith, one))
+  seat_woken {size} {who} made idle none one = grind (arith, common_steps, seat_queued, count_at_last, puts, kinds_not_out, none_out, kinds_out, gots)
 
 -- ---- the tests of downs and ups
 
@@ -118,20 +94,10 @@ passes_not {found} is t = let u : int_lt (pos 0) found ≡ false = ap (int_lt (p
 
 module _ {start : ℕ} {credit credit' : SeatInfo CreditMark} {info : CreditInfo} {kind : CreditKind} {found : ℤ} (at : info.start ≡ start) (c : MakesCall kind info credit credit' found) where
   grown : (weight : CreditKind → ℤ → ℕ) → weight_from (of_name credit'.name weight) start [] credit'.seen ≡ weight_from (of_name credit.name weight) start [] credit.seen + weight kind found
-  grown weight =
-      let name : credit'.name ≡ credit.name = ap (λ (x : SeatInfo CreditMark). x.name) c.appends.same_seat in
-      subst (λ (x : ℕ × ℕ). weight_from (of_name x.0 weight) x.1 [] credit'.seen ≡ weight_from (of_name credit.name weight) x.1 [] credit.seen + weight kind found) (λ i. (sym name i, at i)) (weight-call weight c)
+  grown weight = grind (arith, common_steps, weight_from, of_name, weight-call)
 
   pub counts_down : {T : Type 0} (queue queue' : SeatInfo (Mark T)) {old : SemSeatInfo T} {answer : Option T} → sem_seat start credit queue ≡ old → passes kind found ≡ one_if_some answer → parks kind found ≡ one_if_none answer → wakes kind found ≡ 0 → CountsDown old (sem_seat start credit' queue') answer
-  counts_down {T} queue queue' {old} {answer} is passed parked woken = subst (λ (s : SemSeatInfo T). CountsDown s (sem_seat start credit' queue') answer) is record {
-    passed = (let g = grown passes in omega (arith, g, passed));
-    parked = (let g = grown parks in omega (arith, g, parked));
-    woken = (let g = grown wakes in omega (arith, g, woken));
-  }
+  counts_down {T} queue queue' {old} {answer} is passed parked woken = grind (arith, common_steps, sem_seat, grown, passes, parks, wakes)
 
   pub counts_up : {T : Type 0} (queue queue' : SeatInfo (Mark T)) {old : SemSeatInfo T} {answer : Option T} → sem_seat start credit queue ≡ old → passes kind found ≡ 0 → parks kind found ≡ 0 → wakes kind found ≡ one_if_some answer → CountsUp old (sem_seat start credit' queue') answer
-  counts_up {T} queue queue' {old} {answer} is passed parked woken = subst (λ (s : SemSeatInfo T). CountsUp s (sem_seat start credit' queue') answer) is record {
-    passed = (let g = grown passes in omega (arith, g, passed));
-    parked = (let g = grown parks in omega (arith, g, parked));
-    woken = (let g = grown wakes in omega (arith, g, woken));
-  }
+  counts_up {T} queue queue' {old} {answer} is passed parked woken = grind (arith, common_steps, sem_seat, grown, passes, parks, wakes)

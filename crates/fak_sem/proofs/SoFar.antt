@@ -1,4 +1,6 @@
 -- Calls of the wait queue that are made by steps: what steps have made so far, and how they make whole calls.
+use Rattle.std.proofs.lemmas.Grind.{common_steps}
+use Rattle.std.proofs.Common.{arith}
 use Rattle.fak_sem.proofs.Common.{◌≡◌, ℕ, List, [], ◌∷◌, ◌++◌, refl, ap, sym, ◌∙◌, subst, append_assoc, append-nil, flat_map, Mark, SeatInfo, seat_info, seat_of, Makes, made_by, state_of, kinds_not_in, kinds_not_out, InsertsAtLast, DeletesAtLast}
 use Rattle.std.proofs.Common.{Some}
 use Rattle.std.proofs.lemmas.List.Concat.{flat_map-append}
@@ -28,30 +30,10 @@ module _ {T : Type 0} {size : ℕ} where
   made_first m = record { same_seat = m.same_seat; begins = m.begins; mine = m.mine; lawful = m.lawful; named = m.named }
 
   made_more : (ks ls : List (Kind T)) {old mid new : SeatInfo (Mark T)} → HasMade size ks old mid → Makes size ls mid new → HasMade size (ks ++ ls) old new
-  made_more ks ls {old} {mid} {new} a b =
-      let name : mid.name ≡ old.name = ap (λ (s : SeatInfo (Mark T)). s.name) a.same_seat in
-      let stint : mid.stint ≡ old.stint = ap (λ (s : SeatInfo (Mark T)). s.stint) a.same_seat in
-      let object : mid.object ≡ old.object = ap (λ (s : SeatInfo (Mark T)). s.object) a.same_seat in
-      record {
-        same_seat = b.same_seat ∙ (λ i. seat_info (object i) (name i) (stint i) new.seen);
-        begins = (a.begins.0 ++ b.begins.0, sym (append_assoc old.seen a.begins.0 b.begins.0) ∙ (ap (λ l. l ++ b.begins.0) a.begins.1 ∙ b.begins.1));
-        mine = b.mine ∙ ((λ i. a.mine i ++ made_by (name i) ls) ∙ (append_assoc (mine_of seat_of old) (made_by old.name ks) (made_by old.name ls) ∙ ap (λ l. mine_of seat_of old ++ l) (sym (made_by_append old.name ks ls))));
-        lawful = b.lawful;
-        named = b.named;
-      }
+  made_more ks ls {old} {mid} {new} a b = grind (arith, common_steps, seat_info, append_assoc, made_by, mine_of, seat_of, made_by_append)
 
   made_last : (ks : List (Kind T)) (κ : Kind T) (ls : List (Kind T)) {old mid new : SeatInfo (Mark T)} → HasMade size ks old mid → Makes size (κ ∷ ls) mid new → Makes size (ks ++ κ ∷ ls) old new
-  made_last ks κ ls {old} {mid} {new} a b =
-      let h = made_more ks (κ ∷ ls) a b in
-      let name : mid.name ≡ old.name = ap (λ (s : SeatInfo (Mark T)). s.name) a.same_seat in
-      record {
-        same_seat = h.same_seat;
-        begins = h.begins;
-        mine = h.mine;
-        last = λ m e. b.last m (ap (λ (n : ℕ). last_of (made_by n (κ ∷ ls))) name ∙ (sym (last_behind old.name ks κ ls) ∙ e));
-        lawful = h.lawful;
-        named = h.named;
-      }
+  made_last ks κ ls {old} {mid} {new} a b = grind (arith, common_steps, made_more, last_of, made_by, last_behind)
 
   -- ---- after refused claims
 
@@ -134,9 +116,7 @@ module _ {T : Type 0} (size : ℕ) (old : SeatInfo (Mark T)) where
   woken_claim Deleting mid new p c = record { ticket = c.ticket; item = c.item; state = c.state; put = c.put; made = then_made kinds_not_out (made.ClaimOut ∷ made.Got c.item ∷ []) p c.makes }
 
   pub woken_looks : (mid new : SeatInfo (Mark T)) → WokenSoFar size Deleting old mid → state_of new ≡ state_of mid → ((k : ℕ) → state_of mid ≡ state.Deleting k → WaitsToTake size k mid new) → WokenSoFar size Deleting old new
-  woken_looks mid new p same w =
-      let makes = (w p.ticket p.state).makes in
-      record { ticket = p.ticket; item = p.item; state = same ∙ p.state; put = item_kept mid.seen new.seen p.ticket p.item makes.begins p.put; made = looked kinds_not_out (made.ClaimOut ∷ made.Got p.item ∷ []) p.made makes }
+  woken_looks mid new p same w = grind (arith, common_steps, item_kept, kinds_not_out)
 
   pub woken_whole : (j : ℕ) (x : T) (mid new : SeatInfo (Mark T)) → WokenSoFar size Deleting old mid → ((k : ℕ) → state_of mid ≡ state.Deleting k → (j ≡ k) × Takes size k x mid new) → DeletesAtLast size x old new
   woken_whole j x mid new p t =

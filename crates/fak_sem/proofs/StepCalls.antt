@@ -1,4 +1,5 @@
 -- What the steps of downs and ups leave of the invariant of a seat, and what they promise.
+use Rattle.std.proofs.lemmas.Grind.{common_steps}
 use Rattle.fak_sem.proofs.Common.{◌≡◌, ℕ, ◌+◌, ◌<◌, List, [], ◌∷◌, length, refl, ap, sym, ◌∙◌, subst, arith, ℤ, pos, CreditKind, CreditMark, Mark, SeatInfo, seat_info, QueueInfo, Makes, made_by, seat_of, drawn_by, state_of, kinds_not_in, kinds_not_out, weight_from, of_name, passes, parks, wakes, SemId, SemInfo, SemSeatInfo, sem_seat, sem_info, InsertsAtLast, DeletesAtLast}
 use Rattle.std.proofs.Common.{length-append, Some, None, Bool, ◌<ℤ◌}
 use Rattle.fak_model.specs.Calls.{mine_of}
@@ -42,15 +43,7 @@ module _ {T : Type 0} {start : ℕ} {credit : SeatInfo CreditMark} {queue : Seat
 
   -- tickets are left for a call whose ticket is not drawn yet
   pub tickets_left : unput standing + ungot standing ≡ 1 → drawn_by queue < queue.stint
-  tickets_left one =
-      let p = ap (λ (n : ℕ). count puts (marks_of seat_of n queue.seen)) s.name in
-      let g = ap (λ (n : ℕ). count gots (marks_of seat_of n queue.seen)) s.name in
-      let parked = s.parked in
-      let woken = s.woken in
-      let within = s.within in
-      let stint = s.stint in
-      let few = weights-calls credit.name start [] credit.seen in
-      omega (arith, p, g, parked, woken, within, stint, few, one)
+  tickets_left one = grind (arith, common_steps, count, puts, marks_of, seat_of, gots, weights-calls)
 
   -- a call of the credit; the wait queue is left alone
   pub seat_credited : {credit' : SeatInfo CreditMark} {info : CreditInfo} {kind : CreditKind} {found : ℤ} → info.start ≡ start → MakesCall kind info credit credit' found
@@ -139,14 +132,7 @@ module _ {T : Type 0} {start : ℕ} {credit : SeatInfo CreditMark} {queue : Seat
 
   pub begins_down : {who : T} {found : ℤ} {credit' : SeatInfo CreditMark} {queue' : SeatInfo (Mark T)} {now : Standing T} → IsStepSeat start credit' queue' now → MakesCall Debit count_info credit credit' found → found <ℤ pos 1
       → ClaimsRoom queue_info.size who queue queue' now → ParksSince sem who seat.seat (step_seat start credit' queue' now)
-  begins_down {who} {found} {credit'} {queue'} {now} s' c short claim =
-      let p : ParksSince (sem_info count_info queue_info) who (sem_seat start credit queue) (step_seat start credit' queue' now) = record {
-        found = found;
-        debits = c;
-        short = short;
-        so_far = subst (λ (x : SeatInfo (Mark T) × SeatInfo (Mark T)). ParkedSoFar queue_info.size who now x.0 x.1) (λ i. (sym (part_is s) i, sym (part_is s') i)) (parked_first queue_info.size who queue now queue' claim);
-      } in
-      subst (λ (x : SemInfo × StepSeatInfo T). ParksSince x.0 who x.1.seat (step_seat start credit' queue' now)) (λ i. (sem_is i, seat_is i)) p
+  begins_down {who} {found} {credit'} {queue'} {now} s' c short claim = grind (arith, common_steps, sem_info, sem_seat, step_seat, part_is, parked_first)
 
   -- what is said of the seat as it shows, at its parts
   down_now : {so : Standing T} → standing ≡ so → {who : T} {began : SemSeatInfo T} → ParksSince sem who began seat → ParksSince (sem_info count_info queue_info) who began (step_seat start credit queue so)
@@ -154,29 +140,11 @@ module _ {T : Type 0} {start : ℕ} {credit : SeatInfo CreditMark} {queue : Seat
 
   pub parks_claim : {x : T} {queue' : SeatInfo (Mark T)} {now : Standing T} → standing ≡ Parking x → IsStepSeat start credit queue' now → ClaimsRoom queue_info.size x queue queue' now
       → (began : SemSeatInfo T) (who : T) → ParksSince sem who began seat → ParksSince sem who began (step_seat start credit queue' now)
-  parks_claim {x} {queue'} {now} e s' claim began who p =
-      let q = down_now e p in
-      let was : ParkedSoFar queue_info.size who (Parking x) (queue_part began) queue = subst (λ (y : SeatInfo (Mark T)). ParkedSoFar queue_info.size who (Parking x) (queue_part began) y) (part_is s) q.so_far in
-      let r : ParksSince (sem_info count_info queue_info) who began (step_seat start credit queue' now) = record {
-        found = q.found;
-        debits = q.debits;
-        short = q.short;
-        so_far = subst (λ (y : SeatInfo (Mark T)). ParkedSoFar queue_info.size who now (queue_part began) y) (sym (part_is s')) (parked_claim queue_info.size who (queue_part began) x now queue queue' was claim);
-      } in
-      subst (λ (m : SemInfo). ParksSince m who began (step_seat start credit queue' now)) sem_is r
+  parks_claim {x} {queue'} {now} e s' claim began who p = grind (arith, common_steps, down_now, queue_part, part_is, sem_info, step_seat, parked_claim)
 
   pub parks_look : {k : ℕ} {queue' : SeatInfo (Mark T)} → standing ≡ Inserting → IsStepSeat start credit queue' Inserting → WaitsToFill queue_info.size k queue queue'
       → (began : SemSeatInfo T) (who : T) → ParksSince sem who began seat → ParksSince sem who began (step_seat start credit queue' Inserting)
-  parks_look {k} {queue'} e s' w began who p =
-      let q = down_now e p in
-      let was : ParkedSoFar queue_info.size who Inserting (queue_part began) queue = subst (λ (y : SeatInfo (Mark T)). ParkedSoFar queue_info.size who Inserting (queue_part began) y) (part_is s) q.so_far in
-      let r : ParksSince (sem_info count_info queue_info) who began (step_seat start credit queue' Inserting) = record {
-        found = q.found;
-        debits = q.debits;
-        short = q.short;
-        so_far = subst (λ (y : SeatInfo (Mark T)). ParkedSoFar queue_info.size who Inserting (queue_part began) y) (sym (part_is s')) (parked_looks queue_info.size who (queue_part began) k queue queue' was w);
-      } in
-      subst (λ (m : SemInfo). ParksSince m who began (step_seat start credit queue' Inserting)) sem_is r
+  parks_look {k} {queue'} e s' w began who p = grind (arith, common_steps, down_now, queue_part, part_is, sem_info, step_seat, parked_looks)
 
   pub parks_whole : {k : ℕ} {queue' : SeatInfo (Mark T)} → standing ≡ Inserting → IsStepSeat start credit queue' Idle → Fills queue_info.size k queue queue'
       → (began : SemSeatInfo T) (who : T) → ParksSince sem who began seat → Downs sem who began (sem_seat start credit queue') None
@@ -194,30 +162,14 @@ module _ {T : Type 0} {start : ℕ} {credit : SeatInfo CreditMark} {queue : Seat
 
   pub begins_up : {found : ℤ} {credit' : SeatInfo CreditMark} {queue' : SeatInfo (Mark T)} {now : Standing T} → IsStepSeat start credit' queue' now → MakesCall Credit count_info credit credit' found → found <ℤ pos 0
       → ClaimsItem queue_info.size queue queue' now → WakesSince sem seat.seat (step_seat start credit' queue' now)
-  begins_up {found} {credit'} {queue'} {now} s' c owes claim =
-      let p : WakesSince (sem_info count_info queue_info) (sem_seat start credit queue) (step_seat start credit' queue' now) = record {
-        found = found;
-        credits = c;
-        owes = owes;
-        so_far = subst (λ (x : SeatInfo (Mark T) × SeatInfo (Mark T)). WokenSoFar queue_info.size now x.0 x.1) (λ i. (sym (part_is s) i, sym (part_is s') i)) (woken_first queue_info.size queue now queue' claim);
-      } in
-      subst (λ (x : SemInfo × StepSeatInfo T). WakesSince x.0 x.1.seat (step_seat start credit' queue' now)) (λ i. (sem_is i, seat_is i)) p
+  begins_up {found} {credit'} {queue'} {now} s' c owes claim = grind (arith, common_steps, sem_info, sem_seat, step_seat, part_is, woken_first)
 
   up_now : {so : Standing T} → standing ≡ so → {began : SemSeatInfo T} → WakesSince sem began seat → WakesSince (sem_info count_info queue_info) began (step_seat start credit queue so)
   up_now {so} e {began} p = subst (λ (x : SemInfo × StepSeatInfo T). WakesSince x.0 began x.1) (λ i. (sym sem_is i, (sym seat_is ∙ (λ j. step_seat start credit queue (e j))) i)) p
 
   pub wakes_claim : {queue' : SeatInfo (Mark T)} {now : Standing T} → standing ≡ Waking → IsStepSeat start credit queue' now → ClaimsItem queue_info.size queue queue' now
       → (began : SemSeatInfo T) → WakesSince sem began seat → WakesSince sem began (step_seat start credit queue' now)
-  wakes_claim {queue'} {now} e s' claim began p =
-      let q = up_now e p in
-      let was : WokenSoFar queue_info.size Waking (queue_part began) queue = subst (λ (y : SeatInfo (Mark T)). WokenSoFar queue_info.size Waking (queue_part began) y) (part_is s) q.so_far in
-      let r : WakesSince (sem_info count_info queue_info) began (step_seat start credit queue' now) = record {
-        found = q.found;
-        credits = q.credits;
-        owes = q.owes;
-        so_far = subst (λ (y : SeatInfo (Mark T)). WokenSoFar queue_info.size now (queue_part began) y) (sym (part_is s')) (woken_claim queue_info.size (queue_part began) now queue queue' was claim);
-      } in
-      subst (λ (m : SemInfo). WakesSince m began (step_seat start credit queue' now)) sem_is r
+  wakes_claim {queue'} {now} e s' claim began p = grind (arith, common_steps, up_now, queue_part, part_is, sem_info, step_seat, woken_claim)
 
   pub wakes_look : {queue' : SeatInfo (Mark T)} → standing ≡ Deleting → IsStepSeat start credit queue' Deleting → state_of queue' ≡ state_of queue → ((k : ℕ) → state_of queue ≡ state.Deleting k → WaitsToTake queue_info.size k queue queue')
       → (began : SemSeatInfo T) → WakesSince sem began seat → WakesSince sem began (step_seat start credit queue' Deleting)
@@ -248,13 +200,4 @@ module _ {T : Type 0} {start : ℕ} {credit : SeatInfo CreditMark} {queue : Seat
 
 pub counts_as_begun : {T : Type 0} {start : ℕ} {credit credit' : SeatInfo CreditMark} {info : CreditInfo} {found : ℤ} (queue queue' : SeatInfo (Mark T)) {standing : Standing T} {seat : StepSeatInfo T} → info.start ≡ start → MakesCall Credit info credit credit' found
     → step_seat start credit queue standing ≡ seat → (owes : Bool) → wakes Credit found ≡ one_if owes → CountsAsBegun seat.seat (sem_seat start credit' queue') owes
-counts_as_begun {T} {start} {credit} {credit'} {info} {found} queue queue' {standing} {seat} at c seat_is owes woken =
-    let name : credit'.name ≡ credit.name = ap (λ (x : SeatInfo CreditMark). x.name) c.appends.same_seat in
-    let grown : (weight : CreditKind → ℤ → ℕ) → weight_from (of_name credit'.name weight) start [] credit'.seen ≡ weight_from (of_name credit.name weight) start [] credit.seen + weight Credit found =
-    (λ weight. subst (λ (x : ℕ × ℕ). weight_from (of_name x.0 weight) x.1 [] credit'.seen ≡ weight_from (of_name credit.name weight) x.1 [] credit.seen + weight Credit found) (λ i. (sym name i, at i)) (weight-call weight c)) in
-    let counts : CountsAsBegun (sem_seat start credit queue) (sem_seat start credit' queue') owes = record {
-      passed = (let g = grown passes in omega (arith, g));
-      parked = (let g = grown parks in omega (arith, g));
-      woken = (let g = grown wakes in omega (arith, g, woken));
-    } in
-    subst (λ (x : StepSeatInfo T). CountsAsBegun x.seat (sem_seat start credit' queue') owes) seat_is counts
+counts_as_begun {T} {start} {credit} {credit'} {info} {found} queue queue' {standing} {seat} at c seat_is owes woken = grind (arith, common_steps, weight_from, of_name, weight-call, sem_seat, passes, parks, wakes)

@@ -1,4 +1,6 @@
 -- Reading the elements of an array one after the other, as a loop does.
+use Rattle.std.proofs.lemmas.Grind.{common_steps}
+use Rattle.std.proofs.Common.{arith}
 use Rattle.std.proofs.lemmas.List.{append-nil, drop_all}
 use Rattle.serde_json.specs.declared.value.Value.{Value}
 use Rattle.fak_text.proofs.Common.{running_from, TextFault, ◌≡◌, ℕ, suc, ◌+◌, ◌<◌, ◌≤◌, List, [], ◌∷◌, ◌++◌, length, drop, get_or, Result, Ok, Err, refl, sym, ap, ◌∙◌, append_assoc, add-one, drop-cons, Data, view, items_view, ◌>>=◌, Fails}
@@ -15,9 +17,7 @@ with_front-cons front a (Err e) = refl
 running_from-drop : {A : Type 0} (f : ℕ → Data → Result A TextFault) (next : ℕ → A → ℕ) (vs : List Value) (s i : ℕ) (v : Value) → i < length vs → v ≡ get_or vs i v
     → running_from f next s (items_view (drop i vs)) ≡ (f s (view v) >>= λ x. running_from f next (next s x) (items_view (drop (suc i) vs)) >>= λ xs. Ok (x ∷ xs))
 unfolding running_from
-running_from-drop f next vs s i v lt is =
-    let at_i : drop i vs ≡ v ∷ drop (suc i) vs = drop-cons vs i v lt ∙ ap (λ (x : Value). x ∷ drop (suc i) vs) (sym is) in
-    rw at_i refl
+running_from-drop f next vs s i v lt is = grind (arith, common_steps, drop, drop-cons)
 
 -- one element more was read
 pub goes_on : {A : Type 0} (f : ℕ → Data → Result A TextFault) (next : ℕ → A → ℕ) (front : List A) (vs : List Value) (s i : ℕ) (v : Value) (a : A) (total : Result (List A) TextFault)
@@ -43,7 +43,4 @@ ends f next (faults.UnknownOp k) front vs s i v total lt is fails so_far = sym s
 pub is_done : {A : Type 0} (f : ℕ → Data → Result A TextFault) (next : ℕ → A → ℕ) (front : List A) (vs : List Value) (s i : ℕ) (total : Result (List A) TextFault)
     → length vs ≤ i → with_front front (running_from f next s (items_view (drop i vs))) ≡ total → total ≡ Ok front
 unfolding running_from
-is_done f next front vs s i total le so_far =
-    let nothing : drop i vs ≡ [] = drop_all i vs le in
-    let one : with_front front (running_from f next s (items_view (drop i vs))) ≡ Ok front = rw nothing (ap Ok (append-nil front)) in
-    sym so_far ∙ one
+is_done f next front vs s i total le so_far = grind (arith, common_steps, drop, drop_all, running_from, items_view, append-nil)

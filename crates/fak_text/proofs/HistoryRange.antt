@@ -1,22 +1,15 @@
 -- The histories that are read are in range.
-use Rattle.fak_text.proofs.Common.{◌≡◌, ℕ, ◌≤◌, ◌&&◌, nat_le, unwrap_or, List, Ok, subst, arith, leb-true, Data, items_len, as_array}
+use Rattle.std.proofs.lemmas.Grind.{common_steps}
+use Rattle.fak_text.proofs.Common.{◌≡◌, ℕ, ◌≤◌, nat_le, unwrap_or, List, Ok, subst, arith, Data, as_array}
 use Rattle.fak_model.specs.declared.queue.Mark.{Mark}
 use Rattle.fak_text.specs.HistoryText.{HistoryOf, kind_named, is_complete, mark_from, most_marks, history_from, history_in, IsHistoryInRange}
-use Rattle.fak_text.specs.Names.{number_of}
 use Rattle.fak_text.specs.Values.{value_or, input_in, number_at, text_at, number_of_key, elements_of_key, each_from, next_index}
 use Rattle.fak_text.specs.declared.fault.Field.TheVariants as fields
-use Rattle.fak_text.proofs.ReadRange.{parts_of, passed, and-true, number_of_key_is_within, elements_of_key_are_few, All-running_from, length-running_from}
+use Rattle.fak_text.proofs.ReadRange.{parts_of, passed, number_of_key_is_within, elements_of_key_are_few, All-running_from, length-running_from}
 
 seat_is_in_range : (i : ℕ) (d : Data) (mark : Mark ℕ) → mark_from i d ≡ Ok mark → mark.seat ≤ 63
 unfolding mark_from
-seat_is_in_range i d mark e =
-    let found = parts_of (value_or _ (as_array d)) _ mark e in
-    let seat = parts_of (value_or _ (number_at 0 d)) _ mark found.2 in
-    let name = parts_of (value_or _ (text_at 1 d)) _ mark seat.2 in
-    let kind = parts_of (value_or _ (kind_named name.0 (unwrap_or (number_at 2 d) 0))) _ mark name.2 in
-    let test = passed (nat_le seat.0 63 && is_complete (number_of kind.0) (items_len found.0) (number_at 2 d)) (record { seat = seat.0; kind = kind.0 }) mark _ kind.2 in
-    let low = and-true (nat_le seat.0 63) (is_complete (number_of kind.0) (items_len found.0) (number_at 2 d)) test.0 in
-    subst (λ (m : Mark ℕ). m.seat ≤ 63) test.1 (leb-true seat.0 63 low.0)
+seat_is_in_range i d mark e = grind (arith, common_steps, parts_of, value_or, as_array, number_at, text_at, kind_named, unwrap_or, passed, nat_le, is_complete)
 
 pub history_is_in_range : (bytes : List ℕ) (history : HistoryOf) → history_in bytes ≡ Ok history → IsHistoryInRange history
 unfolding history_from

@@ -1,6 +1,8 @@
 -- The text of a journal, line by line.
+use Rattle.std.proofs.lemmas.Grind.{common_steps}
+use Rattle.std.proofs.Common.{arith}
 use Rattle.fak_text.specs.declared.steps.Note.{Note}
-use Rattle.fak_text.proofs.Common.{NoteOf, said, yielded, downed, upped, opened, closed, statted, spawned, no_birth, no_slot, shut_down, note_of, ◌≡◌, ℕ, ◌+◌, ◌<◌, List, [], ◌∷◌, ◌++◌, map, codes, take, get_or, length, decimal, refl, ap, sym, ◌∙◌, append_assoc, append-nil, flat_map, map-append, take_more, flat_map-append, text_of_name, child_prefix, text_of_note, journal_line, text_of_journal}
+use Rattle.fak_text.proofs.Common.{NoteOf, said, yielded, downed, upped, opened, closed, statted, spawned, no_birth, no_slot, shut_down, note_of, ◌≡◌, ℕ, ◌+◌, ◌<◌, List, [], ◌∷◌, ◌++◌, map, codes, take, get_or, length, decimal, refl, append_assoc, flat_map, map-append, take_more, flat_map-append, text_of_name, child_prefix, text_of_note, journal_line, text_of_journal}
 use Rattle.fak_text.proofs.NameText.{text_of_name_push}
 
 -- two ways to write a child's name that are the same give the same line
@@ -21,27 +23,11 @@ text_of_note-same f g same shut_down = refl
 pub text_of_journal-take : (name : List ℕ) (notes : List Note) (i : ℕ) (note : Note) (child_name : ℕ → List ℕ) → i < length notes → note ≡ get_or notes i note
     → ((j : ℕ) → child_name j ≡ text_of_name (name ++ j ∷ []))
     → text_of_journal name (map note_of (take (i + 1) notes)) ≡ text_of_journal name (map note_of (take i notes)) ++ (codes "  " ++ text_of_note child_name (note_of note) ++ codes "\n")
-text_of_journal-take name notes i note child_name lt is same =
-    let line : NoteOf → List ℕ = journal_line (λ j. text_of_name (name ++ j ∷ [])) in
-    let more : take (i + 1) notes ≡ take i notes ++ note ∷ [] = take_more notes i note lt ∙ ap (λ (x : Note). take i notes ++ x ∷ []) (sym is) in
-    let mapped : map note_of (take (i + 1) notes) ≡ map note_of (take i notes) ++ note_of note ∷ [] = ap (map note_of) more ∙ map-append note_of (take i notes) (note ∷ []) in
-    let split : flat_map line (map note_of (take (i + 1) notes)) ≡ flat_map line (map note_of (take i notes)) ++ (line (note_of note) ++ []) = ap (flat_map line) mapped ∙ flat_map-append line (map note_of (take i notes)) (note_of note ∷ []) in
-    let text = text_of_note-same child_name (λ j. text_of_name (name ++ j ∷ [])) same (note_of note) in
-    rw text (split ∙ simp append-nil)
-
-five_parts : (a b c d e : List ℕ) → (((a ++ b) ++ c) ++ d) ++ e ≡ a ++ (b ++ (c ++ (d ++ e)))
-five_parts a b c d e = simp append_assoc
+text_of_journal-take name notes i note child_name lt is same = grind (arith, common_steps, journal_line, text_of_name, take, take_more, map, note_of, map-append, flat_map, flat_map-append, text_of_note-same)
 
 -- a line is appended to a journal: two spaces, the note's text, and a newline
 pub line_appended : (name old : List ℕ) (notes : List Note) (i : ℕ) (note : Note) (before indented noted new : List ℕ) → i < length notes → note ≡ get_or notes i note
     → before ≡ old ++ text_of_journal name (map note_of (take i notes)) → indented ≡ before ++ codes "  "
     → noted ≡ indented ++ text_of_note (λ j. child_prefix name ++ decimal j) (note_of note) → new ≡ noted ++ codes "\n"
     → new ≡ old ++ text_of_journal name (map note_of (take (i + 1) notes))
-line_appended name old notes i note before indented noted new lt is so_far spaces text newline =
-    let child_name : ℕ → List ℕ = λ j. child_prefix name ++ decimal j in
-    let line : List ℕ = text_of_note child_name (note_of note) in
-    let journal : List ℕ = text_of_journal name (map note_of (take i notes)) in
-    let more = text_of_journal-take name notes i note child_name lt is (λ (j : ℕ). sym (text_of_name_push name j)) in
-    let whole : new ≡ (((old ++ journal) ++ codes "  ") ++ line) ++ codes "\n" =
-    newline ∙ ap (λ t. t ++ codes "\n") (text ∙ ap (λ t. t ++ line) (spaces ∙ ap (λ t. t ++ codes "  ") so_far)) in
-    whole ∙ five_parts old journal (codes "  ") line (codes "\n") ∙ sym (ap (λ t. old ++ t) more)
+line_appended name old notes i note before indented noted new lt is so_far spaces text newline = grind (arith, common_steps, child_prefix, decimal, text_of_note, note_of, text_of_journal, map, take, text_of_journal-take, text_of_name_push, codes)

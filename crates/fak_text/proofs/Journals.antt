@@ -13,19 +13,13 @@ births_first n note notes = omega arith
 pub FitsFrom-push : (files n : ℕ) (steps : List StepOf) (notes : List NoteOf) (step : StepOf) (note : NoteOf)
     → FitsFrom files n steps notes → slice_get steps (length notes) ≡ Some step → Allows files (n + child_count notes) step note → FitsFrom files n steps (notes ++ note ∷ [])
 FitsFrom-push files n [] [] step note fits at allowed = absurd (cc)
-FitsFrom-push files n (s ∷ ss) [] step note fits at allowed =
-    let same : step ≡ s = cc in
-    let none : n + 0 ≡ n = omega arith in
-    (subst (λ (k : ℕ). Allows files k s note) none (subst (λ (x : StepOf). Allows files (n + 0) x note) same allowed), tt)
+FitsFrom-push files n (s ∷ ss) [] step note fits at allowed = grind (arith, common_steps)
 FitsFrom-push files n [] (m ∷ ms) step note fits at allowed = fits
 FitsFrom-push files n (s ∷ ss) (m ∷ ms) step note fits at allowed =
     (fits.0, FitsFrom-push files (n + births_of m) ss ms step note fits.1 at (subst (λ (k : ℕ). Allows files k step note) (births_first n m ms) allowed))
 
 pub length-push : (notes : List NoteOf) (note : NoteOf) → length (notes ++ note ∷ []) ≡ length notes + 1
 length-push notes note = grind (arith, common_steps)
-
-pub new_process_fits : (script : ScriptOf) (name : List ℕ) (program slot : ℕ) → program < length script.programs → slot < script.slots → FitsScript script (new_process name program slot)
-new_process_fits script name program slot below fits = record { program = below; slot = fits; position = refl; fits = tt }
 
 -- a process that has made its next step still fits its script
 pub note_fits : (script : ScriptOf) (process : Process) (step : StepOf) (note : NoteOf)
@@ -45,14 +39,3 @@ FitsFrom-length files n (s ∷ ss) (m ∷ ms) fits = omega (arith, FitsFrom-leng
 -- a process that fits its script stands in its program, or at the end
 pub position_is_in_program : (script : ScriptOf) (process : Process) → FitsScript script process → process.position ≤ length (steps_of script process.program)
 position_is_in_program script process f = omega (arith, f.position, FitsFrom-length script.files 0 (steps_of script process.program) process.journal f.fits)
-
--- each step of a script is in range
-pub step_of_script_is_in_range : (script : ScriptOf) (program position : ℕ) (step : StepOf) → IsInRange script → slice_get (steps_of script program) position ≡ Some step → IsStepInRange (limits_of script) step
-step_of_script_is_in_range script program position step ranges at = by_program (slice_get script.programs program) refl at where
-  by_program : (o : Option (List StepOf)) → slice_get script.programs program ≡ o → slice_get (steps_or_none o) position ≡ Some step → IsStepInRange (limits_of script) step
-  by_program None is at = absurd (cc)
-  by_program (Some steps) is at =
-      let within = slice_get_within script.programs program steps is in
-      let here = get_or_from_slice_get script.programs program steps [] is in
-      let ranged : IsProgramInRange (limits_of script) steps = subst (λ (ss : List StepOf). IsProgramInRange (limits_of script) ss) here (ranges.programs program [] within) in
-      subst (λ (s : StepOf). IsStepInRange (limits_of script) s) (get_or_from_slice_get steps position step step at) (ranged.1 position step (slice_get_within steps position step at))

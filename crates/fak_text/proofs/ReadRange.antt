@@ -1,5 +1,6 @@
 -- What a reading gives is in range: numbers, and the elements of arrays.
-use Rattle.fak_text.proofs.Common.{◌≡◌, ℕ, ◌<◌, ◌≤◌, suc, Bool, true, false, List, [], ◌∷◌, length, Option, Some, None, Result, Ok, Err, refl, sym, ap, subst, ◌∙◌, nat_lt, nat_le, ◌&&◌, if◌then◌else◌, arith, IfOk, All, ltb-true, leb-true, All-nil, All-cons, Data, Items, no_items, item, items_len, as_array, ◌>>=◌, Gives, TextFault}
+use Rattle.std.proofs.lemmas.Grind.{common_steps}
+use Rattle.fak_text.proofs.Common.{◌≡◌, ℕ, ◌<◌, ◌≤◌, suc, Bool, true, false, List, ◌∷◌, length, Option, Some, None, Result, Ok, Err, refl, sym, ap, subst, ◌∙◌, nat_lt, nat_le, ◌&&◌, if◌then◌else◌, arith, IfOk, All, ltb-true, leb-true, All-cons, Data, Items, no_items, item, items_len, as_array, ◌>>=◌, Gives, TextFault}
 use Rattle.fak_text.specs.ScriptText.{number_from, numbers_of_key}
 use Rattle.fak_text.specs.Values.{value_or, value_of_key, number_of_key, whole_number, number_below, number_within, elements_within, elements_of_key, running_from, next_index}
 use Rattle.fak_text.specs.declared.fault.Field.{Field}
@@ -21,24 +22,17 @@ and-true false b e = absurd (cc)
 
 pub below_is_below : (f : Field) (bound : ℕ) (number : Option ℕ) (n : ℕ) → number_below f bound number ≡ Ok n → n < bound
 below_is_below f bound None n e = absurd (cc)
-below_is_below f bound (Some m) n e =
-    let p = passed (nat_lt m bound) m n _ e in
-    subst (λ (k : ℕ). k < bound) p.1 (ltb-true m bound p.0)
+below_is_below f bound (Some m) n e = grind (arith, common_steps, passed, nat_lt, ltb-true)
 
 pub within_is_within : (f : Field) (low high : ℕ) (number : Option ℕ) (n : ℕ) → number_within f low high number ≡ Ok n → (low ≤ n) × (n ≤ high)
 within_is_within f low high None n e = absurd (cc)
-within_is_within f low high (Some m) n e =
-    let p = passed (nat_le low m && nat_le m high) m n _ e in
-    let q = and-true (nat_le low m) (nat_le m high) p.0 in
-    subst (λ (k : ℕ). (low ≤ k) × (k ≤ high)) p.1 (leb-true low m q.0, leb-true m high q.1)
+within_is_within f low high (Some m) n e = grind (arith, common_steps, passed, nat_le, and-true, leb-true)
 
 -- what holds of each element that is read holds of all
 pub All-running_from : {A : Type 0} (P : A → Type 0) (f : ℕ → Data → Result A TextFault) (next : ℕ → A → ℕ) → ((i : ℕ) (d : Data) (x : A) → f i d ≡ Ok x → P x)
     → (i : ℕ) (ds : Items) (xs : List A) → running_from f next i ds ≡ Ok xs → All P xs
 unfolding running_from
-All-running_from P f next each i no_items xs e =
-    let nothing : [] ≡ xs = cc in
-    subst (λ ys. All P ys) nothing (All-nil P)
+All-running_from P f next each i no_items xs e = grind (arith, common_steps)
 All-running_from P f next each i (item d ds) xs e =
     let first = parts_of (f i d) (λ x. running_from f next (next i x) ds >>= λ ys. Ok (x ∷ ys)) xs e in
     let rest = parts_of (running_from f next (next i first.0) ds) (λ ys. Ok (first.0 ∷ ys)) xs first.2 in
@@ -48,9 +42,7 @@ All-running_from P f next each i (item d ds) xs e =
 -- as many are read as there are elements
 pub length-running_from : {A : Type 0} (f : ℕ → Data → Result A TextFault) (next : ℕ → A → ℕ) (i : ℕ) (ds : Items) (xs : List A) → running_from f next i ds ≡ Ok xs → length xs ≡ items_len ds
 unfolding running_from
-length-running_from f next i no_items xs e =
-    let nothing : [] ≡ xs = cc in
-    ap length (sym nothing)
+length-running_from f next i no_items xs e = grind (arith, common_steps, length)
 length-running_from f next i (item d ds) xs e =
     let first = parts_of (f i d) (λ x. running_from f next (next i x) ds >>= λ ys. Ok (x ∷ ys)) xs e in
     let rest = parts_of (running_from f next (next i first.0) ds) (λ ys. Ok (first.0 ∷ ys)) xs first.2 in
@@ -59,16 +51,11 @@ length-running_from f next i (item d ds) xs e =
 
 pub elements_are_few : (f : Field) (most : ℕ) (d : Data) (ds : Items) → elements_within f most d ≡ Ok ds → items_len ds ≤ most
 unfolding elements_within
-elements_are_few f most d ds e =
-    let found = parts_of (value_or _ (as_array d)) (λ es. if nat_le (items_len es) most then Ok es else Err _) ds e in
-    let p = passed (nat_le (items_len found.0) most) found.0 ds _ found.2 in
-    subst (λ (es : Items). items_len es ≤ most) p.1 (leb-true (items_len found.0) most p.0)
+elements_are_few f most d ds e = grind (arith, common_steps, parts_of, value_or, as_array, nat_le, items_len, passed, leb-true)
 
 pub elements_of_key_are_few : (f : Field) (most : ℕ) (d : Data) (ds : Items) → elements_of_key f most d ≡ Ok ds → items_len ds ≤ most
 unfolding elements_of_key
-elements_of_key_are_few f most d ds e =
-    let found = parts_of (value_of_key f d) (λ value. elements_within f most value) ds e in
-    elements_are_few f most found.0 ds found.2
+elements_of_key_are_few f most d ds e = grind (arith, common_steps, parts_of, value_of_key, elements_within, elements_are_few)
 
 pub numbers_are_few : (f : Field) (most bound : ℕ) (d : Data) (ns : List ℕ) → numbers_of_key f most bound d ≡ Ok ns → length ns ≤ most
 unfolding numbers_of_key
@@ -91,9 +78,7 @@ IfOk-from_Gives plain P (Err fault) reading gives holds = tt
 
 pub number_of_key_is_within : (f : Field) (low high : ℕ) (d : Data) (n : ℕ) → number_of_key f low high d ≡ Ok n → (low ≤ n) × (n ≤ high)
 unfolding number_of_key
-number_of_key_is_within f low high d n e =
-    let found = parts_of (value_of_key f d) (λ value. number_within f low high (whole_number value)) n e in
-    within_is_within f low high (whole_number found.0) n found.2
+number_of_key_is_within f low high d n e = grind (arith, common_steps, parts_of, value_of_key, number_within, whole_number, within_is_within)
 
 -- a value that stands under a test holds where both ways do
 pub either_way : {A : Type 0} (P : A → Type 0) (b : Bool) (left right : Result A TextFault) (x : A) → ((left ≡ Ok x) → P x) → ((right ≡ Ok x) → P x) → (if b then left else right) ≡ Ok x → P x
@@ -102,7 +87,4 @@ either_way P false left right x from_left from_right e = from_right e
 
 -- a value that is made of another holds where it does of what it is made
 pub made_of : {A B : Type 0} (P : B → Type 0) (r : Result A TextFault) (make : A → B) (y : B) → ((x : A) → r ≡ Ok x → P (make x)) → (r >>= λ x. Ok (make x)) ≡ Ok y → P y
-made_of P r make y holds e =
-    let p = parts_of r (λ x. Ok (make x)) y e in
-    let same : make p.0 ≡ y = cc p.2 in
-    subst P same (holds p.0 p.1)
+made_of P r make y holds e = grind (arith, common_steps, parts_of)

@@ -1,4 +1,5 @@
 -- The schedules that are read are in range.
+use Rattle.std.proofs.lemmas.Grind.{common_steps}
 use Rattle.std.proofs.lemmas.List.Elements.{All-weaker}
 use Rattle.fak_core.specs.declared.call.RoomCall.TheVariants as room_calls
 use Rattle.fak_core.specs.declared.call.QueueCall.TheVariants as queue_calls
@@ -27,31 +28,16 @@ IsOpOf _ _ = ⊥
 
 -- an operation that is named by one test after another
 named : (P : Op → Type 0) (b : Bool) (x op : Op) (rest : Option Op) → P x → (rest ≡ Some op → P op) → (if b then Some x else rest) ≡ Some op → P op
-named P true x op rest holds later e =
-    let same : x ≡ op = cc in
-    subst P same holds
+named P true x op rest holds later e = grind (arith, common_steps)
 named P false x op rest holds later e = later e
 
 room_op_is_of_rooms : (bound : ℕ) (name : List ℕ) (op : Op) → room_op name ≡ Some op → IsOpOf (objects.Room bound) op
 unfolding room_op IsOpOf
-room_op_is_of_rooms bound name op e =
-    let P = λ (x : Op). IsOpOf (objects.Room bound) x in
-    named P (bytes_eq name (codes "step")) ops.Step op _ tt (
-    named P (bytes_eq name (codes "tir")) ops.Tir op _ tt (
-    named P (bytes_eq name (codes "release")) ops.Release op None tt (λ h. absurd (cc)))) e
+room_op_is_of_rooms bound name op e = grind (arith, common_steps, named, bytes_eq, codes)
 
 queue_op_is_of_queues : (size : ℕ) (name : List ℕ) (op : Op) → queue_op name ≡ Some op → IsOpOf (objects.Queue size) op
 unfolding queue_op IsOpOf
-queue_op_is_of_queues size name op e =
-    let P = λ (x : Op). IsOpOf (objects.Queue size) x in
-    named P (bytes_eq name (codes "step")) ops.Step op _ tt (
-    named P (bytes_eq name (codes "insert")) ops.Insert op _ tt (
-    named P (bytes_eq name (codes "delete")) ops.Delete op _ tt (
-    named P (bytes_eq name (codes "shut")) ops.Shut op None tt (λ h. absurd (cc))))) e
-
-value_is_some : {A : Type 0} (fault : TextFault) (v : Option A) (x : A) → value_or fault v ≡ Ok x → v ≡ Some x
-value_is_some fault None x e = absurd (cc)
-value_is_some fault (Some y) x e = cc
+queue_op_is_of_queues size name op e = grind (arith, common_steps, named, bytes_eq, codes)
 
 op_is_of_object : (object : o.Object) (name : List ℕ) (op : Op) → op_named object name ≡ Some op → IsOpOf object op
 op_is_of_object (objects.Room bound) name op e = room_op_is_of_rooms bound name op e
@@ -67,10 +53,7 @@ third_is_within low high size number n e =
 
 steps_keep : (object : o.Object) (size : ℕ) (number : Option ℕ) (act : Act) → steps_act size number ≡ Ok act → Keeps object act
 unfolding steps_act Keeps
-steps_keep object size number act e =
-    either_way (λ (a : Act). IsActInRange a × IsActOf object a) (size == 2) (Ok (acts.Steps 1)) (third_within 1 64 size number >>= λ n. Ok (acts.Steps n)) act
-    (λ one. let same : acts.Steps 1 ≡ act = cc in subst (λ (a : Act). IsActInRange a × IsActOf object a) same ((omega arith, omega arith), tt))
-    (made_of (λ (a : Act). IsActInRange a × IsActOf object a) (third_within 1 64 size number) (λ n. acts.Steps n) act (λ n read. (third_is_within 1 64 size number n read, tt))) e
+steps_keep object size number act e = grind (arith, common_steps, either_way, third_within, made_of, third_is_within)
 
 act_keeps : (object : o.Object) (op : Op) (size : ℕ) (number : Option ℕ) (act : Act) → IsOpOf object op → act_from op size number ≡ Ok act → Keeps object act
 unfolding Keeps IsOpOf
@@ -81,12 +64,8 @@ act_keeps (objects.Room bound) ops.Release size number act of_object e =
     made_of (λ (a : Act). IsActInRange a × IsActOf (objects.Room bound) a) (third_within 1 most_amount size number) (λ d. acts.Room (room_calls.Release d)) act (λ d read. (third_is_within 1 most_amount size number d read, tt)) e
 act_keeps (objects.Queue n) ops.Insert size number act of_object e =
     made_of (λ (a : Act). IsActInRange a × IsActOf (objects.Queue n) a) (third size number) (λ x. acts.Queue (queue_calls.Insert x)) act (λ x read. (tt, tt)) e
-act_keeps (objects.Queue n) ops.Delete size number act of_object e =
-    either_way (λ (a : Act). IsActInRange a × IsActOf (objects.Queue n) a) (size == 2) (Ok (acts.Queue queue_calls.Delete)) (Err (Range fields.Events)) act
-    (λ one. let same : acts.Queue queue_calls.Delete ≡ act = cc in subst (λ (a : Act). IsActInRange a × IsActOf (objects.Queue n) a) same (tt, tt)) (λ h. absurd (cc)) e
-act_keeps (objects.Queue n) ops.Shut size number act of_object e =
-    either_way (λ (a : Act). IsActInRange a × IsActOf (objects.Queue n) a) (size == 2) (Ok (acts.Queue queue_calls.Shut)) (Err (Range fields.Events)) act
-    (λ one. let same : acts.Queue queue_calls.Shut ≡ act = cc in subst (λ (a : Act). IsActInRange a × IsActOf (objects.Queue n) a) same (tt, tt)) (λ h. absurd (cc)) e
+act_keeps (objects.Queue n) ops.Delete size number act of_object e = grind (arith, common_steps, either_way)
+act_keeps (objects.Queue n) ops.Shut size number act of_object e = grind (arith, common_steps, either_way)
 act_keeps (objects.Room bound) ops.Insert size number act of_object e = absurd of_object
 act_keeps (objects.Room bound) ops.Delete size number act of_object e = absurd of_object
 act_keeps (objects.Room bound) ops.Shut size number act of_object e = absurd of_object
@@ -95,14 +74,7 @@ act_keeps (objects.Queue n) ops.Release size number act of_object e = absurd of_
 
 event_keeps : (object : o.Object) (i : ℕ) (d : Data) (event : Event) → event_from object i d ≡ Ok event → Keeps object event.act
 unfolding event_from
-event_keeps object i d event e =
-    let found = parts_of (value_or _ (as_array d)) _ event e in
-    let seat = parts_of (value_or _ (number_at 0 d)) _ event found.2 in
-    let name = parts_of (value_or _ (text_at 1 d)) _ event seat.2 in
-    let op = parts_of (value_or _ (op_named object name.0)) _ event name.2 in
-    let act = parts_of (act_from op.0 (items_len found.0) (number_at 2 d)) (λ a. Ok (record { seat = seat.0; act = a })) event op.2 in
-    let same : record { seat = seat.0; act = act.0 } ≡ event = cc act.2 in
-    subst (λ (ev : Event). Keeps object ev.act) same (act_keeps object op.0 (items_len found.0) (number_at 2 d) act.0 (op_is_of_object object name.0 op.0 (value_is_some _ (op_named object name.0) op.0 op.1)) act.1)
+event_keeps object i d event e = grind (arith, common_steps, parts_of, value_or, as_array, number_at, text_at, op_named, act_from, items_len, act_keeps, op_is_of_object)
 
 object_is_in_range : (d : Data) (object : o.Object) → object_from d ≡ Ok object → IsObjectInRange object
 unfolding object_from object_named

@@ -1,8 +1,7 @@
 -- The steps that are read are in range.
+use Rattle.std.proofs.lemmas.Grind.{common_steps}
 use Rattle.std.specs.List.{All, list_all}
-use Rattle.std.proofs.lemmas.List.Elements.{All-weaker}
-use Rattle.std.proofs.lemmas.List.Sums.{AllPass-from_list_all}
-use Rattle.fak_text.proofs.Common.{◌>>=◌, TextFault, ◌≡◌, ℕ, ◌<◌, ◌≤◌, Bool, true, false, List, length, Option, Some, None, Result, Ok, Err, refl, sym, subst, nat_le, ◌&&◌, ◌==◌, if◌then◌else◌, arith, leb-true, eqb-true, Data, items_len, as_array, StepOf, say, yield, down, up, open_file, close_file, stat, spawn, shutdown, IsWithin, IsSayable, most_inode, IsStepInRange, IsProgramInRange, Range}
+use Rattle.fak_text.proofs.Common.{◌>>=◌, TextFault, ◌≡◌, ℕ, ◌<◌, ◌≤◌, Bool, true, false, List, length, Option, Some, None, Result, Ok, Err, refl, sym, subst, nat_le, ◌==◌, if◌then◌else◌, arith, leb-true, eqb-true, Data, items_len, as_array, StepOf, say, yield, down, up, open_file, close_file, stat, spawn, shutdown, IsWithin, IsSayable, most_inode, IsStepInRange, IsProgramInRange, Range}
 use Rattle.fak_text.specs.StepText.{any_op_named, has_op, op_of_version, step_op_named, is_printable, is_sayable, said_text, lone_step, inode_argument, argument_below, step_with, step_from, most_steps, program_from, index_after, programs_from, most_programs, programs_of_key}
 use Rattle.fak_text.specs.Values.{value_or, number_within, number_below, number_at, text_at, elements_within, elements_of_key, running_from, next_index}
 use Rattle.fak_text.specs.declared.fault.Field.TheVariants.{Programs}
@@ -12,21 +11,14 @@ use Rattle.fak_text.specs.declared.steps.StepLimits.{StepLimits}
 use Rattle.fak_text.proofs.ReadRange.{parts_of, passed, and-true, below_is_below, within_is_within, All-running_from, length-running_from, elements_are_few, elements_of_key_are_few, made_of, either_way}
 
 printable_is_within : (b : ℕ) → is_printable b ≡ true → IsWithin 32 126 b
-printable_is_within b e =
-    let p = and-true (nat_le 32 b) (nat_le b 126) e in
-    (leb-true 32 b p.0, leb-true b 126 p.1)
+printable_is_within b e = grind (arith, common_steps, and-true, nat_le, leb-true)
 
 sayable_may_be_said : (text : List ℕ) → is_sayable text ≡ true → IsSayable text
-sayable_may_be_said text e =
-    let p = and-true (nat_le (length text) 80) (list_all is_printable text) e in
-    (leb-true (length text) 80 p.0, All-weaker (λ (b : ℕ). is_printable b ≡ true) (λ (b : ℕ). IsWithin 32 126 b) printable_is_within text (AllPass-from_list_all is_printable text p.1))
+sayable_may_be_said text e = grind (arith, common_steps, and-true, nat_le, length, list_all, is_printable, leb-true, printable_is_within)
 
 said_may_be_said : (size : ℕ) (text : Option (List ℕ)) (t : List ℕ) → said_text size text ≡ Ok t → IsSayable t
 said_may_be_said size None t e = absurd (cc)
-said_may_be_said size (Some u) t e =
-    let p = passed ((size == 2) && is_sayable u) u t _ e in
-    let q = and-true (size == 2) (is_sayable u) p.0 in
-    subst (λ (v : List ℕ). IsSayable v) p.1 (sayable_may_be_said u q.1)
+said_may_be_said size (Some u) t e = grind (arith, common_steps, passed, is_sayable, and-true, sayable_may_be_said)
 
 inode_is_within : (size : ℕ) (number : Option ℕ) (n : ℕ) → inode_argument size number ≡ Ok n → IsWithin 1 most_inode n
 inode_is_within size number n e =
@@ -52,9 +44,7 @@ step_of_argument : {A : Type 0} (limits : StepLimits) (r : Result A TextFault) (
 step_of_argument limits r make step ranges e = made_of (λ s. IsStepInRange limits s) r make step ranges e
 
 lone_is_in_range : (limits : StepLimits) (lone step : StepOf) (size : ℕ) → IsStepInRange limits lone → lone_step lone size ≡ Ok step → IsStepInRange limits step
-lone_is_in_range limits lone step size ranges e =
-    let p = passed (size == 1) lone step _ e in
-    subst (λ (s : StepOf). IsStepInRange limits s) p.1 ranges
+lone_is_in_range limits lone step size ranges e = grind (arith, common_steps, passed)
 
 step_with_is_in_range : (limits : StepLimits) (op : StepOp) (size : ℕ) (text : Option (List ℕ)) (number : Option ℕ) (step : StepOf)
     → has_op limits.version op ≡ true → step_with limits op size text number ≡ Ok step → IsStepInRange limits step
@@ -70,11 +60,7 @@ step_with_is_in_range limits ops.Shutdown size text number step has e = lone_is_
 
 step_is_in_range : (limits : StepLimits) (i : ℕ) (d : Data) (step : StepOf) → step_from limits i d ≡ Ok step → IsStepInRange limits step
 unfolding step_from
-step_is_in_range limits i d step e =
-    let found = parts_of (value_or _ (as_array d)) _ step e in
-    let name = parts_of (value_or _ (text_at 0 d)) _ step found.2 in
-    let op = parts_of (value_or _ (step_op_named limits.version name.0)) _ step name.2 in
-    step_with_is_in_range limits op.0 (items_len found.0) (text_at 1 d) (number_at 1 d) step (op_is_in_version limits.version (any_op_named name.0) op.0 _ op.1) op.2
+step_is_in_range limits i d step e = grind (arith, common_steps, parts_of, value_or, as_array, text_at, step_op_named, step_with_is_in_range, items_len, number_at, op_is_in_version, any_op_named)
 
 program_is_in_range : (limits : StepLimits) (i : ℕ) (d : Data) (steps : List StepOf) → program_from limits i d ≡ Ok steps → IsProgramInRange limits steps
 unfolding program_from
@@ -86,12 +72,7 @@ program_is_in_range limits i d steps e =
 
 pub programs_are_few : (version semaphores : ℕ) (d : Data) (programs : List (List StepOf)) → programs_of_key version semaphores d ≡ Ok programs → length programs ≤ 64
 unfolding programs_of_key
-programs_are_few version semaphores d programs e =
-    let found = parts_of (elements_of_key Programs most_programs d) (λ ds. programs_from (record { version = version; semaphores = semaphores; programs = items_len ds }) 0 ds) programs e in
-    let limits : StepLimits = record { version = version; semaphores = semaphores; programs = items_len found.0 } in
-    let few = elements_of_key_are_few Programs most_programs d found.0 found.1 in
-    let count = length-running_from (program_from limits) index_after 0 found.0 programs found.2 in
-    omega (arith, few, count)
+programs_are_few version semaphores d programs e = grind (arith, common_steps, parts_of, elements_of_key, most_programs, programs_from, items_len, elements_of_key_are_few, length-running_from, program_from, index_after)
 
 pub programs_are_in_range : (version semaphores : ℕ) (d : Data) (programs : List (List StepOf)) → programs_of_key version semaphores d ≡ Ok programs
     → All (λ steps. IsProgramInRange (record { version = version; semaphores = semaphores; programs = length programs }) steps) programs

@@ -2,7 +2,6 @@
 use Rattle.std.specs.Prelude.{◌≡◌, ℕ, ℤ, List, [], ◌∷◌, ◌++◌, Option}
 use Rattle.fak_core.specs.declared.fault.CoreFault.{CoreFault}
 use Rattle.fak_core.specs.declared.line.CoreMove.{CoreMove}
-use Rattle.fak_core.specs.declared.line.Line.{Line}
 use Rattle.fak_core.specs.declared.line.LineMark.{LineMark}
 use Rattle.fak_text.specs.Journal.{NoteOf}
 use Rattle.fak_text.specs.JournalText.{journal_line, text_of_name}

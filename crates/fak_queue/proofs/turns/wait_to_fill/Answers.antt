@@ -1,15 +1,6 @@
 use Rattle.std.proofs.Common.{refl, inl}
-use Rattle.fak_queue.proofs.Looking.{then_part, still_named, still_free, still_at, waits_in, found_names_in, found_phase_in, found_slot_in, filled_at_last}
+use Rattle.fak_queue.proofs.Looking.{then_part, still_named, still_free, still_at, waits_in, filled_at_last}
 use Rattle.fak_queue.proofs.turns.wait_to_fill.Goals as goal
-
-pub fill_cell-requires-clause-seat : goal.fill_cell-requires-clause-seat
-fill_cell-requires-clause-seat g c = let s = c.requires.seat in (s.0.0, found_names_in (inl refl) s.0.1 s.1 c.requires.phase c.if-finds_room.ensures.told)
-
-pub fill_cell-requires-clause-phase : goal.fill_cell-requires-clause-phase
-fill_cell-requires-clause-phase g c = let s = c.requires.seat in found_phase_in (inl refl) s.0.1 s.1 c.requires.phase c.if-finds_room.ensures.told
-
-pub fill_cell-requires-clause-slot : goal.fill_cell-requires-clause-slot
-fill_cell-requires-clause-slot g c = let s = c.requires.seat in found_slot_in (inl refl) s.0.1 s.1 c.requires.phase c.if-finds_room.ensures.told c.args.place.cell c.requires.place.cell_is
 
 pub returns-then-finds_room-clause-told : goal.returns-then-finds_room-clause-told
 returns-then-finds_room-clause-told g c = λ n one. filled_at_last (inl refl) one c.requires.seat.1 c.requires.phase c.if-finds_room.ensures.told c.fill_cell.ensures.told

@@ -1,4 +1,5 @@
-use Rattle.fak_core.proofs.Common.{◌≡◌, ◌∙◌, arith, reverse, slice_set, subst, sym, Ok, QueueFields, IsSoundWith, IsStep, LoadsPut, moved_fields, step_of, fields_of}
+use Rattle.std.proofs.lemmas.Grind.{common_steps}
+use Rattle.fak_core.proofs.Common.{◌≡◌, ◌∙◌, arith, reverse, slice_set, subst, sym, Ok, QueueFields, IsSoundWith, LoadsPut, moved_fields, step_of, fields_of}
 use Rattle.std.proofs.lemmas.Option.{slice_get_within}
 use Rattle.fak_core.proofs.QueueSound.{step_made, within_of}
 use Rattle.fak_core.proofs.QueueCalls.{load_is, step_is, step_left, step_sound}
@@ -40,10 +41,7 @@ invariant_of-self-2 c =
     (step_sound (old c) c.self.inside.items.items c.keep_mark.new.items.items c.args.seat c.in_ok-step.step c.self.invariant (stepped c) c.in_default.ensures.items)
 
 pub returns-clause-ok : goal.returns-clause-ok
-returns-clause-ok c =
-    let is : IsStep (old c) c.args.seat c.line_of.result (new c) = subst (λ (f : QueueFields). IsStep (old c) c.args.seat c.line_of.result f) (sym (left c))
-    (step_is (old c) c.args.seat c.in_ok-step.step c.line_of.result c.self.invariant.sound (stepped c) c.line_of.ensures) in
-    subst (λ (f : QueueFields). IsStep f c.args.seat c.line_of.result (new c)) c.self.view_is is
+returns-clause-ok c = grind (arith, common_steps, left, step_is, stepped)
 
 pub returns-clause-loads : goal.returns-clause-loads
 returns-clause-loads c = λ loads. subst (λ (f : QueueFields). LoadsPut f c.args.seat c.line_of.result.found) c.self.view_is

@@ -1,16 +1,12 @@
-use Rattle.fak_core.proofs.Common.{Phase, Idle, ◌≡◌, ◌≤◌, ℕ, List, [], ◌∙◌, ap, arith, reverse, rules, sym, subst, replicate, Mark, QueueFields, IsSoundWith, opening_fields}
+use Rattle.std.proofs.lemmas.Grind.{common_steps}
+use Rattle.fak_core.proofs.Common.{Phase, Idle, ◌≡◌, ◌≤◌, ℕ, List, [], arith, reverse, rules, replicate, Mark, QueueFields, IsSoundWith, opening_fields}
 use Rattle.fak_core.proofs.QueueSound.{sound_opening}
 use Rattle.fak_core.proofs.queue.QueueCore.new.Goals as goal
 
 -- words to which nothing has happened, with idle seats and no mark, are a sound core
 opened : (w : QueueFields) (size seats : ℕ) (phases : List (Phase ℕ)) (marks : List (Mark ℕ)) (items : List ℕ) → w ≡ opening_fields size 0 → phases ≡ replicate seats Idle → marks ≡ [] → items ≡ []
     → 1 ≤ size → size ≤ 4096 → seats ≤ 64 → IsSoundWith (record w { phases = phases; past = reverse marks }) items
-opened w size seats phases marks items e p m n least most few =
-    let is : record w { phases = phases; past = reverse marks } ≡ opening_fields size seats =
-    ap (λ (f : QueueFields). record f { phases = phases; past = reverse marks }) e
-    ∙ (ap (λ (ps : List (Phase ℕ)). record (opening_fields size 0) { phases = ps; past = reverse marks }) p
-    ∙ ap (λ (ms : List (Mark ℕ)). record (opening_fields size seats) { past = reverse ms }) m) in
-    subst (λ (f : QueueFields). IsSoundWith f items) (sym is) (record { sound = sound_opening size seats least most few; put = n })
+opened w size seats phases marks items e p m n least most few = grind (arith, common_steps, reverse, opening_fields, sound_opening)
 
 pub invariant_of-result : goal.invariant_of-result
 invariant_of-result c = opened _ c.args.size c.args.seats c.in-Ok.phases.items c.new-3.result.items c.new-2.result.items c.in_ok-words.ensures.ok search rules c.new-3.ensures.items c.new-2.ensures.items (omega arith) (omega arith) (omega arith)

@@ -1,4 +1,5 @@
-use Rattle.fak_core.proofs.Common.{◌≡◌, ◌<◌, ◌∙◌, length, reverse, refl, arith, Ok, ap, subst, inl, inr, slice_get, slice_set, Some, w64, to_z, of_z, ints, slice_get_read}
+use Rattle.std.proofs.lemmas.Grind.{common_steps}
+use Rattle.fak_core.proofs.Common.{◌≡◌, ◌<◌, ◌∙◌, length, reverse, arith, Ok, ap, subst, inl, inr, slice_get, slice_set, Some, w64, to_z, of_z, ints, slice_get_read}
 use Rattle.std.specs.Int.{w128}
 use Rattle.fak_core.specs.Room.{RoomState, step_of, or_idle, IsStep}
 use Rattle.fak_core.proofs.RoomReached.{held_within}
@@ -10,9 +11,7 @@ abbrev state : goal.After-found-1 → RoomState
 state c = record { bound = c.self.inside.bound; count = c.self.inside.count; seats = c.self.inside.seats.items; past = reverse c.self.inside.marks.items }
 
 here : (c : goal.After-found-1) → slice_get (state c).seats c.args.seat ≡ Some c.index-at.result.now
-here c =
-    let within : c.args.seat < length c.self.inside.seats.items = omega (arith, c.len.ensures) in
-    slice_get_read c.self.inside.seats.items _ c.args.seat c.index-at.result.now refl within c.index-at.ensures
+here c = grind (arith, common_steps, length, slice_get_read)
 
 pub next_move-requires-clause-low : goal.next_move-requires-clause-low
 next_move-requires-clause-low c = let v = sound_count (state c) c.self.invariant in omega (arith, ints, v.1, v.2)

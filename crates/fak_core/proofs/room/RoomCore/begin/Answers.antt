@@ -1,4 +1,5 @@
-use Rattle.fak_core.proofs.Common.{◌≡◌, ◌<◌, ◌∙◌, length, reverse, refl, arith, Ok, sym, subst, CoreSeat}
+use Rattle.std.proofs.lemmas.Grind.{common_steps}
+use Rattle.fak_core.proofs.Common.{◌≡◌, length, reverse, refl, arith, Ok, subst, CoreSeat}
 use Rattle.std.proofs.lemmas.Option.{slice_get_read}
 use Rattle.fak_core.specs.Room.{RoomState, begin_of, IsBegun, begun}
 use Rattle.fak_core.proofs.RoomReached.{begin_is}
@@ -12,9 +13,7 @@ abbrev seat_now : goal.After-self-1 → CoreSeat
 seat_now c = record { held = c.index-at.result.now.held; phase = c.in_ok-phase.phase }
 
 begins : (c : goal.After-self-1) → begin_of (state c) c.args.seat c.args.call ≡ Ok (seat_now c)
-begins c =
-    let within : c.args.seat < length c.self.inside.seats.items = omega (arith, c.len.ensures) in
-    begin_is (state c) c.args.seat c.args.call c.index-at.result.now (Ok c.in_ok-phase.phase) (slice_get_read c.self.inside.seats.items _ c.args.seat c.index-at.result.now refl within c.index-at.ensures) (sym c.begun_phase.ensures ∙ c.in_ok-phase.was)
+begins c = grind (arith, common_steps, length, begin_is, slice_get_read)
 
 pub invariant_of-self : goal.invariant_of-self
 invariant_of-self c = sound_begun (state c) c.args.seat c.args.call (seat_now c) c.requires c.self.invariant (begins c)

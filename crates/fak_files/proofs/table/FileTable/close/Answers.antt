@@ -1,5 +1,5 @@
-use Rattle.fak_files.proofs.Common.{entries_after, entry_of, ◌≡◌, ℕ, length, slice_get, Some, ap, ◌∙◌, sym, subst, AreNamed, IsAtRest, IsFileHistory, file_rules, AreBetweenCalls, IsWhole, rest_whole}
-use Rattle.fak_files.proofs.Closing.{closed_entries, entries_after-get, entries_after-length}
+use Rattle.fak_files.proofs.Common.{entries_after, entry_of, ◌≡◌, ℕ, slice_get, Some, ap, ◌∙◌, sym, subst, AreNamed, IsAtRest, file_rules, AreBetweenCalls, IsWhole, rest_whole}
+use Rattle.fak_files.proofs.Closing.{closed_entries, entries_after-get}
 use Rattle.fak_files.proofs.table.FileTable.close.Goals as goal
 
 pub returns-clause-entries : goal.returns-clause-entries
@@ -15,19 +15,6 @@ returns-clause-entries c =
 
 pub returns-clause-each : goal.returns-clause-each
 returns-clause-each c = λ i low. subst (λ l. slice_get l i ≡ Some (entry_of c.args.tally.seen i)) (sym (returns-clause-entries c)) (entries_after-get c.args.tally.seen c.args.self.entries i low)
-
-pub returns-clause-number : goal.returns-clause-number
-returns-clause-number c = ap length (returns-clause-entries c) ∙ entries_after-length c.args.tally.seen 0 c.args.self.entries
-
-pub returns-clause-lawful : goal.returns-clause-lawful
-returns-clause-lawful c =
-    let lawful = subst (λ t. IsFileHistory t.object.seats t.seen) c.tally.view_is c.tally.invariant.2.lawful in
-    subst (λ o. IsFileHistory o.seats c.args.tally.seen) c.requires.object lawful
-
-pub returns-clause-named : goal.returns-clause-named
-returns-clause-named c =
-    let named = subst (λ t. AreNamed (file_rules t.object.seats) t.object.seats t.seen) c.tally.view_is c.tally.invariant.0.named in
-    subst (λ o. AreNamed (file_rules o.seats) o.seats c.args.tally.seen) c.requires.object named
 
 pub returns-clause-rest : goal.returns-clause-rest
 returns-clause-rest c =

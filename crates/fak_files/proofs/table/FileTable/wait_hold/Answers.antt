@@ -1,14 +1,9 @@
 use Rattle.fak_files.proofs.Common.{◌∙◌, subst, IsRefused}
-use Rattle.fak_files.proofs.Waits.{tries_more, tries_granted, tries_worn}
+use Rattle.fak_files.proofs.Waits.{tries_more, tries_granted}
 use Rattle.fak_files.proofs.table.FileTable.wait_hold.Goals as goal
 
 pub returns-in-Ok-clause-call : goal.returns-in-Ok-clause-call
 returns-in-Ok-clause-call g c = tries_granted c.args.access c.args.seat.now c.loop.seat c.try_hold.new.seat c.loop.invariant.0 c.in-Ok.ensures.call
-
-pub returns-in-Err-Worn-clause-call : goal.returns-in-Err-Worn-clause-call
-returns-in-Err-Worn-clause-call g c =
-    let worn = subst (λ e. IsRefused c.args.access c.loop.seat c.try_hold.new.seat e) c.in-Err-Worn.field-0-is c.in-Err-Worn.ensures.call in
-    tries_worn c.args.access c.args.seat.now c.loop.seat c.try_hold.new.seat c.loop.invariant.0 worn
 
 pub loop-preserved : goal.loop-preserved
 loop-preserved g c =

@@ -9,12 +9,6 @@ returns-clause-whole c = rw (← c.self.view_is) (whole_set c.self.inside.names 
 pub returns-clause-mine : goal.returns-clause-mine
 returns-clause-mine c = rw (← c.self.view_is) (λ h. whole_mine seat_of c.self.inside.seats _ _ ((whole_set c.self.inside.names _ c.self.inside.seats c.has_all.result c.self.invariant.1 c.has_all.ensures).0 h) c.self.invariant.0.named)
 
-pub returns-clause-lawful : goal.returns-clause-lawful
-returns-clause-lawful c = rw (← c.self.view_is) c.self.invariant.2.lawful
-
-pub returns-clause-named : goal.returns-clause-named
-returns-clause-named c = rw (← c.self.view_is) c.self.invariant.0.named
-
 pub returns-clause-rest : goal.returns-clause-rest
 returns-clause-rest c = rw (← c.self.view_is) (λ h.
     let whole = (whole_set c.self.inside.names _ c.self.inside.seats c.has_all.result c.self.invariant.1 c.has_all.ensures).0 h in

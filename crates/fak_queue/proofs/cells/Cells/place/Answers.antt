@@ -1,3 +1,4 @@
+use Rattle.std.proofs.lemmas.Grind.{common_steps}
 use Rattle.fak_queue.proofs.Inverse.{round_is, cell_is, round_fits, round_low, cell_near}
 use Rattle.std.proofs.Common.{arith}
 use Rattle.fak_queue.proofs.cells.Cells.place.Goals as goal
@@ -6,16 +7,7 @@ pub overflow_sub-result : goal.overflow_sub-result
 overflow_sub-result c = let s = c.args.self.now in round_fits s.size s.inverse c.args.ticket s.some_cell s.few_cells s.inverse_is c.requires
 
 pub invariant_of-result : goal.invariant_of-result
-invariant_of-result c =
-    let s = c.args.self.now in
-    let near = cell_near s.size s.inverse c.args.ticket s.some_cell s.few_cells s.inverse_is c.requires in
-    let few = s.few_cells in
-    record { few_tickets = c.requires; low_cell = omega (arith, near, few); low_round = round_low s.size s.inverse c.args.ticket s.some_cell s.few_cells s.inverse_is c.requires }
+invariant_of-result c = grind (arith, common_steps, cell_near, round_low)
 
 pub returns-clause-place : goal.returns-clause-place
-returns-clause-place c =
-    let s = c.args.self.now in record {
-      near = cell_near s.size s.inverse c.args.ticket s.some_cell s.few_cells s.inverse_is c.requires;
-      cell_is = cell_is s.size s.inverse c.args.ticket s.some_cell s.few_cells s.inverse_is c.requires;
-      round_is = round_is s.size s.inverse c.args.ticket s.some_cell s.few_cells s.inverse_is c.requires;
-    }
+returns-clause-place c = grind (arith, common_steps, cell_near, cell_is, round_is)

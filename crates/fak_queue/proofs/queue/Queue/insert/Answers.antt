@@ -1,7 +1,7 @@
 use Rattle.fak_model.specs.Calls.{object_id}
-use Rattle.fak_queue.proofs.Common.{Filled, Inserts, drawn_by, queue_seat, RefusesInsertion, ap, ◌≡◌, ◌+◌, ◌∙◌, MatchResult, Some, sym, subst, arith, token_names, TurnIn}
+use Rattle.fak_queue.proofs.Common.{Filled, Inserts, drawn_by, queue_seat, RefusesInsertion, ap, ◌≡◌, ◌+◌, MatchResult, sym, subst, arith, token_names}
 use Rattle.fak_queue.proofs.States.{rests_inserting}
-use Rattle.fak_queue.proofs.PartSteps.{names_then, phase_then, slots_then}
+use Rattle.fak_queue.proofs.PartSteps.{names_then, slots_then}
 use Rattle.fak_queue.proofs.SeatCalls.{idle_token, seat_refused_in, state_refused_in, drawn_refused_in, refuses_insertion}
 use Rattle.fak_queue.proofs.AtOnce.{seat_inserted, state_inserted, drawn_inserted, inserts}
 use Rattle.fak_queue.proofs.queue.Queue.insert.Goals as goal
@@ -11,9 +11,6 @@ admit_insertion-requires-clause-phase g c = ap (λ m. m.0.phase) (idle_token c.s
 
 pub place-place-requires : goal.place-place-requires
 place-place-requires g c = (rests_inserting (c.in-Ok.ensures.told c.seat.inside.name (token_names c.seat.invariant.token)).part.rests).1
-
-pub wait_to_fill-requires-clause-phase : goal.wait_to_fill-requires-clause-phase
-wait_to_fill-requires-clause-phase g c = phase_then (c.in-Ok.ensures.told c.seat.inside.name (token_names c.seat.invariant.token)).part ∙ ap (λ k. Some (TurnIn k c.args.item)) (sym c.place-place.ensures.ticket)
 
 pub wait_to_fill-requires-clause-seat : goal.wait_to_fill-requires-clause-seat
 wait_to_fill-requires-clause-seat g c = let part = (c.in-Ok.ensures.told c.seat.inside.name (token_names c.seat.invariant.token)).part in ((c.seat.inside.name, names_then part), slots_then part)

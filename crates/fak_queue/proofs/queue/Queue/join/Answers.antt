@@ -1,4 +1,4 @@
-use Rattle.fak_queue.proofs.Common.{queue_object, QueueInfo, AreIdle, rules, ap, refl, sym, ◌∙◌, subst, reverse, token_slots, tally_at, seat_at, may_join, token_joined, set_joined, call_joined, TableId, Mark, IsJoined, SeatInfo, TallyInfo, object_id, tally_info, IsQueueHistory, queue_rules}
+use Rattle.fak_queue.proofs.Common.{queue_object, QueueInfo, AreIdle, rules, ap, sym, ◌∙◌, subst, reverse, token_slots, tally_at, seat_at, may_join, token_joined, set_joined, call_joined, TableId, Mark, IsJoined, SeatInfo, TallyInfo, object_id, tally_info, IsQueueHistory, queue_rules}
 use Rattle.fak_queue.proofs.SeatCalls.{idle_token}
 use Rattle.fak_queue.proofs.Tallies.{HasEnded, seat_ended, idle_joined}
 use Rattle.fak_queue.proofs.queue.Queue.join.Goals as goal
@@ -14,19 +14,6 @@ join_seat-requires g c =
       search (rules, c.self.invariant.words),
       may_join o c.tally.invariant.token seat c.tally.view_is c.seat.view_is object c.requires.object.0 c.requires.object.1 _ _,
     )
-
-pub hear-requires : goal.hear-requires
-hear-requires g c =
-    let o = queue_object c.self.inside.table.shared.key.size c.self.inside.table.shared.key.seats in
-    let object = ap (λ (x : QueueInfo). x.object) c.self.view_is in
-    let seat = idle_token c.seat.invariant c.seat.view_is c.requires.idle in
-    record {
-      table = record {
-        same = c.join_seat.ensures.0 ∙ tally_at o c.tally.invariant.token seat c.tally.view_is c.seat.view_is object c.requires.object.0 c.requires.object.1;
-        few = refl;
-        words = c.self.invariant.words;
-      };
-    }
 
 pub invariant_of-result : goal.invariant_of-result
 invariant_of-result g c =

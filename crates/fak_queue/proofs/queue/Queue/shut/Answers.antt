@@ -1,15 +1,6 @@
-use Rattle.fak_queue.proofs.Common.{ap, token_names}
-use Rattle.fak_queue.proofs.SeatCalls.{fits_table, idle_token, seat_shut, state_shut, drawn_shut, shuts_as}
+use Rattle.fak_queue.proofs.Common.{token_names}
+use Rattle.fak_queue.proofs.SeatCalls.{seat_shut, state_shut, drawn_shut, shuts_as}
 use Rattle.fak_queue.proofs.queue.Queue.shut.Goals as goal
-
-pub shut-requires-clause-table : goal.shut-requires-clause-table
-shut-requires-clause-table g c = fits_table c.self.inside.table.shared.key c.seat.invariant c.self.invariant c.seat.view_is c.self.view_is c.requires.object
-
-pub shut-requires-clause-seat : goal.shut-requires-clause-seat
-shut-requires-clause-seat g c = (c.seat.inside.name, token_names c.seat.invariant.token)
-
-pub shut-requires-clause-phase : goal.shut-requires-clause-phase
-shut-requires-clause-phase g c = ap (λ m. m.0.phase) (idle_token c.seat.invariant c.seat.view_is c.requires.idle).me_is
 
 pub invariant_of-seat : goal.invariant_of-seat
 invariant_of-seat g c = seat_shut c.self.inside.table.shared.key c.seat.invariant c.self.invariant c.seat.view_is c.self.view_is c.requires.object c.shut.ensures.same c.shut.new.token.me _ (c.shut.ensures.told c.seat.inside.name (token_names c.seat.invariant.token)) c.requires.idle

@@ -1,10 +1,6 @@
-use Rattle.fak_queue.proofs.Common.{sym, ap, ◌∙◌, subst, stage, TurnIn, RestsAt}
-use Rattle.fak_queue.proofs.States.{rests_inserting}
+use Rattle.fak_queue.proofs.Common.{sym, ap, ◌∙◌, TurnIn}
 use Rattle.fak_queue.proofs.Trying.{seat_waits_in, state_waits_in, drawn_waits_in, waits_in, names_looked_in, phase_looked_in, slot_looked_in, seat_filled, state_filled, drawn_filled, fills_cell}
 use Rattle.fak_queue.proofs.queue.Queue.try_fill.Goals as goal
-
-pub place-place-requires : goal.place-place-requires
-place-place-requires g c = (rests_inserting (subst (λ q. RestsAt q (stage c.seat.inside.token.me.0.seen c.seat.inside.name)) c.in-TurnIn.is c.seat.invariant.rests)).1
 
 pub invariant_of-seat : goal.invariant_of-seat
 invariant_of-seat g c = seat_waits_in c.self.inside.table.shared.key c.seat.invariant c.self.invariant c.seat.view_is c.self.view_is c.requires.object c.finds_room.ensures.same c.finds_room.new.token.me (c.in-TurnIn.is ∙ ap (λ k. TurnIn k c.in-TurnIn.field-1) (sym c.place-place.ensures.ticket)) c.if-not-finds_room.ensures.told

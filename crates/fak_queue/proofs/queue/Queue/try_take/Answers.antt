@@ -1,10 +1,6 @@
-use Rattle.fak_queue.proofs.Common.{sym, ap, ◌∙◌, subst, stage, TurnOut, RestsAt}
-use Rattle.fak_queue.proofs.States.{rests_deleting}
+use Rattle.fak_queue.proofs.Common.{sym, ap, ◌∙◌, TurnOut}
 use Rattle.fak_queue.proofs.Trying.{seat_waits_out, state_waits_out, drawn_waits_out, waits_out, names_looked_out, phase_looked_out, slot_looked_out, seat_taken, state_taken, drawn_taken, takes_item}
 use Rattle.fak_queue.proofs.queue.Queue.try_take.Goals as goal
-
-pub place-place-requires : goal.place-place-requires
-place-place-requires g c = (rests_deleting (subst (λ q. RestsAt q (stage c.seat.inside.token.me.0.seen c.seat.inside.name)) c.in-TurnOut.is c.seat.invariant.rests)).1
 
 pub invariant_of-seat : goal.invariant_of-seat
 invariant_of-seat g c = seat_waits_out c.self.inside.table.shared.key c.seat.invariant c.self.invariant c.seat.view_is c.self.view_is c.requires.object c.finds_item.ensures.same c.finds_item.new.token.me (c.in-TurnOut.is ∙ ap (λ k. TurnOut k) (sym c.place-place.ensures.ticket)) c.if-not-finds_item.ensures.told

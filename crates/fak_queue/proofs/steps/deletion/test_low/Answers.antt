@@ -6,6 +6,3 @@ pub load-found-requires : goal.load-found-requires
 load-found-requires g c =
     let t = c.requires.table in
     (t.same, omega (arith, t.words), tests_low_allowed c.args.words.now.key _ _ _ c.requires.seat.0 _ t.few c.requires.seat.1 c.requires.phase)
-
-pub returns-clause-told : goal.returns-clause-told
-returns-clause-told g c = λ n one. c.load-found.ensures.2 n one c.read_lower.result c.read_lower.ensures

@@ -12,9 +12,3 @@ invariant_of-result g c =
       lawful = c.seat.invariant.lawful;
       idle = one_idle _ (token_names token) (seat_ended c.seat.invariant c.seat.view_is c.requires);
     }
-
-pub returns-clause-lawful : goal.returns-clause-lawful
-returns-clause-lawful g c = c.seat.invariant.lawful
-
-pub returns-clause-named : goal.returns-clause-named
-returns-clause-named g c = c.seat.invariant.token.named

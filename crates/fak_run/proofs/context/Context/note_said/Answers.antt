@@ -1,3 +1,4 @@
+use Rattle.std.proofs.lemmas.Grind.{common_steps}
 use Rattle.fak_run.proofs.Common.{ap, sym, ◌∙◌, ◌≡◌, ◌++◌, ◌∷◌, map, [], arith, length, slice_get, Some, refl, string_bytes, say, steps_of, said, note_of, told_notes}
 use Rattle.std.proofs.lemmas.List.{map-append, length-map}
 use Rattle.fak_run.proofs.Fitting.{IsContext-said}
@@ -5,10 +6,7 @@ use Rattle.fak_run.proofs.Told.{length-told, told-push}
 use Rattle.fak_run.proofs.context.Context.note_said.Goals as goal
 
 pub overflow_add-self : goal.overflow_add-self
-overflow_add-self g c =
-    let steps = steps_of g.K.Run.script c.self.inside.program in
-    let kept = map note_of c.self.inside.journal.items in
-    omega (arith, c.self.invariant.fits.position, length-told steps kept, length-map c.self.inside.journal.items note_of)
+overflow_add-self g c = grind (arith, common_steps, steps_of, map, note_of, length-told, length-map)
 
 pub invariant_of-self-2 : goal.invariant_of-self-2
 invariant_of-self-2 g c =

@@ -1,4 +1,4 @@
-use Rattle.fak_run.proofs.Common.{◌≡◌, ℕ, ◌<◌, ◌==◌, false, append-nil, append_assoc, refl, arith}
+use Rattle.fak_run.proofs.Common.{◌≡◌, ℕ, ◌<◌, ◌==◌, false, arith}
 use Rattle.std.proofs.lemmas.Fmt.{decimal_digit}
 use Rattle.fak_run.proofs.laws.reports.known_reports_have_known_texts.Goals as goal
 
@@ -20,14 +20,5 @@ returns-clause-stuck c =
 pub returns-clause-halted : goal.returns-clause-halted
 returns-clause-halted c = rw (decimal_digit 0 (omega arith), decimal_digit 1 (omega arith), decimal_digit 2 (omega arith), decimal_digit 3 (omega arith))
 
-pub returns-clause-row : goal.returns-clause-row
-returns-clause-row c name program slot = simp append_assoc
-
 is_used : (inode : ℕ) → 0 < inode → (inode == 0) ≡ false
 is_used inode some = grind arith
-
-pub returns-clause-entry : goal.returns-clause-entry
-returns-clause-entry c i inode uses some = rw (is_used inode some) (append-nil _)
-
-pub returns-clause-births : goal.returns-clause-births
-returns-clause-births c births bound = refl

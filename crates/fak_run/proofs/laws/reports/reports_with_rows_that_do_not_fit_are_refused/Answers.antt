@@ -1,4 +1,4 @@
-use Rattle.fak_run.proofs.Common.{◌≡◌, ◌<◌, refl, arith}
+use Rattle.fak_run.proofs.Common.{◌<◌, refl, arith}
 use Rattle.fak_run.specs.ReportExamples.{child_row}
 use Rattle.fak_run.proofs.ReportExamples.{clash}
 use Rattle.fak_run.proofs.laws.reports.reports_with_rows_that_do_not_fit_are_refused.Goals as goal
@@ -23,12 +23,3 @@ returns-clause-unended c r = let first = r.rows.fits 0 child_row (omega arith) i
 
 pub returns-clause-unstuck : goal.returns-clause-unstuck
 returns-clause-unstuck c r = let second = r.rows.fits 1 child_row (omega arith) in let stands = second.stands.1 in absurd (cc)
-
-pub returns-clause-halted : goal.returns-clause-halted
-returns-clause-halted c r =
-    let some : 0 < 1 = omega arith in
-    let shut : 0 < 0 = r.rows.halted some in
-    absurd (omega (arith, shut))
-
-pub returns-clause-stuck : goal.returns-clause-stuck
-returns-clause-stuck c r = let some : 0 < 1 = omega arith in clash 1 0 (r.rows.none_stuck some) refl

@@ -1,11 +1,11 @@
-use Rattle.std.proofs.Common.{refl, sym, ◌∙◌}
+use Rattle.std.proofs.lemmas.Grind.{common_steps}
+use Rattle.std.proofs.Common.{arith}
+use Rattle.std.proofs.Common.{sym, ◌∙◌}
 use Rattle.fak_sem.proofs.StepCalls.{at_standing, tickets_left, seat_claimed_in, seat_filled, seat_waits_in, parks_claim, parks_look, parks_whole}
 use Rattle.fak_sem.proofs.semaphore.Semaphore.try_park.Goals as goal
 
 pub claim_room-requires-clause-left : goal.claim_room-requires-clause-left
-claim_room-requires-clause-left g c =
-    let e = sym c.replace.ensures.value ∙ c.in-Parking.is in
-    tickets_left (at_standing e c.seat.invariant) refl
+claim_room-requires-clause-left g c = grind (arith, common_steps, tickets_left, at_standing)
 
 pub invariant_of-seat : goal.invariant_of-seat
 invariant_of-seat g c =

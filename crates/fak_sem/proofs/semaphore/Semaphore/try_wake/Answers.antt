@@ -1,11 +1,11 @@
-use Rattle.std.proofs.Common.{refl, sym, ◌∙◌}
+use Rattle.std.proofs.lemmas.Grind.{common_steps}
+use Rattle.std.proofs.Common.{arith}
+use Rattle.std.proofs.Common.{sym, ◌∙◌}
 use Rattle.fak_sem.proofs.StepCalls.{at_standing, tickets_left, seat_claimed_out, seat_taken, seat_waits_out, wakes_claim, wakes_look, wakes_whole}
 use Rattle.fak_sem.proofs.semaphore.Semaphore.try_wake.Goals as goal
 
 pub claim_item-requires-clause-left : goal.claim_item-requires-clause-left
-claim_item-requires-clause-left g c =
-    let e = sym c.replace.ensures.value ∙ c.in-Waking.is in
-    tickets_left (at_standing e c.seat.invariant) refl
+claim_item-requires-clause-left g c = grind (arith, common_steps, tickets_left, at_standing)
 
 pub invariant_of-seat : goal.invariant_of-seat
 invariant_of-seat g c = let e = sym c.replace.ensures.value ∙ c.in-Waking.is in seat_claimed_out c.self.inside.queue.size c.claim_item.new.seat (at_standing e c.seat.invariant) c.claim_item.result c.claim_item.ensures.call
@@ -32,9 +32,3 @@ returns-in-None-clause-call g c =
     let e = sym c.replace.ensures.value ∙ c.in-Deleting.is in
     let s = at_standing e c.seat.invariant in
     wakes_look c.seat.invariant c.self.view_is c.seat.view_is e (seat_waits_out s s.stands.1 (c.in-None.ensures.call s.stands.0 s.stands.1) c.in-None.ensures.state) c.in-None.ensures.state c.in-None.ensures.call
-
-pub invariant_of-seat-in-None : goal.invariant_of-seat-in-None
-invariant_of-seat-in-None g c =
-    let e = sym c.replace.ensures.value ∙ c.in-Deleting.is in
-    let s = at_standing e c.seat.invariant in
-    seat_waits_out s s.stands.1 (c.in-None.ensures.call s.stands.0 s.stands.1) c.in-None.ensures.state

@@ -1,4 +1,4 @@
-use Rattle.fak_sem.proofs.Common.{subst, ◌<◌, All, Mark, whole_mine, seat_of}
+use Rattle.fak_sem.proofs.Common.{whole_mine}
 use Rattle.fak_model.proofs.CreditLaw.{every_history}
 use Rattle.fak_count.specs.Credits.{seat_of as credit_name}
 use Rattle.fak_sem.proofs.Joining.{whole_credit, whole_queue, credit_rests}
@@ -10,11 +10,6 @@ returns-clause-whole g c = rw (← c.self.view_is) ((λ t. whole_credit c.self.i
 pub returns-clause-credit : goal.returns-clause-credit
 returns-clause-credit g c = rw (← c.self.view_is) (λ t.
     whole_mine credit_name c.self.inside.credit.object.seats c.self.inside.credit.names c.self.inside.credit.seen (whole_credit c.self.invariant (c.is_whole.ensures.whole.0 t)) c.self.invariant.credit_named)
-
-pub returns-clause-queue : goal.returns-clause-queue
-returns-clause-queue g c = rw (← c.self.view_is) (λ t.
-    whole_mine seat_of c.self.inside.credit.object.seats c.self.inside.credit.names c.self.inside.queue.seen (whole_credit c.self.invariant (c.is_whole.ensures.whole.0 t))
-    (subst (λ seats. All (λ (m : Mark g.row.T.Denot). m.seat < seats) c.self.inside.queue.seen) c.self.invariant.seats c.self.invariant.queue_named))
 
 pub returns-clause-lawful : goal.returns-clause-lawful
 returns-clause-lawful g c = rw (← c.self.view_is) (every_history c.self.inside.credit.seen, c.is_whole.ensures.lawful)

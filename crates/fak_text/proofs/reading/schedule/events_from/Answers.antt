@@ -1,12 +1,12 @@
+use Rattle.std.proofs.lemmas.Grind.{common_steps}
+use Rattle.std.proofs.Common.{arith}
 use Rattle.std.proofs.lemmas.Result.{err_from_is_err_and}
 use Rattle.fak_text.proofs.Common.{next_index, event_from}
 use Rattle.fak_text.proofs.Elements.{goes_on, ends, is_done}
 use Rattle.fak_text.proofs.reading.schedule.events_from.Goals as goal
 
 pub returns-in_err-event_from : goal.returns-in_err-event_from
-returns-in_err-event_from c =
-    let p = err_from_is_err_and c.from_residual.result c.from_residual.ensures.1 in
-    rw (p.1, p.2) (ends (event_from c.args.object) next_index c.in_err-event_from.field-0.0 c.loop-i.events.items c.args.values.now c.loop-i.i c.loop-i.i c.index-values-i.result _ c.loop-i-test.true c.index-values-i.is c.in_err-event_from.ensures c.loop-i.invariant)
+returns-in_err-event_from c = grind (arith, common_steps, err_from_is_err_and, ends, event_from, next_index)
 
 pub loop-i-preserved : goal.loop-i-preserved
 loop-i-preserved c =

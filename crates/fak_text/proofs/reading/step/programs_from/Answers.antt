@@ -1,12 +1,11 @@
+use Rattle.std.proofs.lemmas.Grind.{common_steps}
 use Rattle.fak_text.proofs.Common.{◌≡◌, ℕ, ◌+◌, ◌≤◌, ◌++◌, ◌∷◌, [], length, vec_len, rules, arith, ap, ◌∙◌, err_from_is_err_and, map_push, length-map, step_of, steps_view, programs_of}
 use Rattle.fak_text.specs.StepText.{program_from, index_after}
 use Rattle.fak_text.proofs.Elements.{goes_on, ends, is_done}
 use Rattle.fak_text.proofs.reading.step.programs_from.Goals as goal
 
 pub returns-in_err-program : goal.returns-in_err-program
-returns-in_err-program c =
-    let p = err_from_is_err_and c.from_residual.result c.from_residual.ensures.1 in
-    rw (p.1, p.2) (ends (program_from c.args.limits) index_after c.in_err-program.field-0.0 (programs_of c.loop-value.programs.items) c.args.values.now c.loop-value.index c.loop-value.value-index c.value-item.result _ c.loop-value-test.true c.value-item.is c.in_err-program.ensures.gives c.loop-value.invariant.so_far)
+returns-in_err-program c = grind (arith, common_steps, err_from_is_err_and, ends, program_from, index_after, programs_of)
 
 pub loop-value-preserved : goal.loop-value-preserved
 loop-value-preserved c =

@@ -1,11 +1,10 @@
+use Rattle.std.proofs.lemmas.Grind.{common_steps}
 use Rattle.fak_text.proofs.Common.{step_from, next_index, step_of, steps_view, ◌≡◌, ◌++◌, ◌∷◌, [], rules, arith, err_from_is_err_and, map_push}
 use Rattle.fak_text.proofs.Elements.{goes_on, ends, is_done}
 use Rattle.fak_text.proofs.reading.step.steps_from.Goals as goal
 
 pub returns-in_err-step-clause-gives : goal.returns-in_err-step-clause-gives
-returns-in_err-step-clause-gives c =
-    let p = err_from_is_err_and c.from_residual.result c.from_residual.ensures.1 in
-    rw (p.1, p.2) (ends (step_from c.args.limits) next_index c.in_err-step.field-0.0 (steps_view c.loop-value.steps.items) c.args.values.now c.loop-value.index c.loop-value.value-index c.value-item.result _ c.loop-value-test.true c.value-item.is c.in_err-step.ensures c.loop-value.invariant.so_far)
+returns-in_err-step-clause-gives c = grind (arith, common_steps, err_from_is_err_and, ends, step_from, next_index, steps_view)
 
 pub loop-value-preserved : goal.loop-value-preserved
 loop-value-preserved c =

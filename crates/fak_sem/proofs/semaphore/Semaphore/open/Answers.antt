@@ -1,5 +1,0 @@
-use Rattle.std.proofs.Common.{rules}
-use Rattle.fak_sem.proofs.semaphore.Semaphore.open.Goals as goal
-
-pub returns-in-Err : goal.returns-in-Err
-returns-in-Err g c = search rules

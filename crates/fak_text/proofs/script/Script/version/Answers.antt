@@ -1,5 +1,0 @@
-use Rattle.fak_text.proofs.Common.{ScriptOf, ap}
-use Rattle.fak_text.proofs.script.Script.version.Goals as goal
-
-pub returns-clause-value : goal.returns-clause-value
-returns-clause-value c = ap (λ (s : ScriptOf). s.version) c.self.view_is
