@@ -20,51 +20,51 @@ use Rattle.producers_and_consumers.specs.Passing.{Sum, Moves, nothing, IsFresh, 
 
 module _ (old new : Ends) where
   -- a call on the queue alone
-  on_queue : (put got : Sum) → Weighs put got old.queue new.queue → new.gate ≡ old.gate → Moves put got old new
+  on_queue : (put got : Sum) → Weighs put got old.queue new.queue → new.semaphore ≡ old.semaphore → Moves put got old new
   on_queue put got s same = record {
     name = s.name;
-    gate_name = ap (λ (g : SemSeatInfo Buffer). g.name) same;
+    semaphore_name = ap (λ (g : SemSeatInfo Buffer). g.name) same;
     sent_is = λ w. omega (arith, s.put_is w, ap (λ (g : SemSeatInfo Buffer). put_by w (queue_part g)) same, ap (λ (g : SemSeatInfo Buffer). got_by w (queue_part g)) same);
     received_is = s.got_is;
   }
 
-  pub inserts : {size k : ℕ} {x : Buffer} → InsertsAfterFull size k x old.queue new.queue → new.gate ≡ old.gate → Moves (λ w. w x) nothing old new
+  pub inserts : {size k : ℕ} {x : Buffer} → InsertsAfterFull size k x old.queue new.queue → new.semaphore ≡ old.semaphore → Moves (λ w. w x) nothing old new
   inserts {x = x} i same = on_queue (λ w. w x) nothing (insertion_weighs i.tries) same
 
-  pub deletes : {size k : ℕ} {x : Buffer} → DeletesAfterEmpty size k x old.queue new.queue → new.gate ≡ old.gate → Moves nothing (λ w. w x) old new
+  pub deletes : {size k : ℕ} {x : Buffer} → DeletesAfterEmpty size k x old.queue new.queue → new.semaphore ≡ old.semaphore → Moves nothing (λ w. w x) old new
   deletes {x = x} d same = on_queue nothing (λ w. w x) (deletion_weighs d.tries) same
 
   -- a down that holds its buffer back
-  pub held_back : {sem : SemInfo} {x : Buffer} → Downs sem x old.gate new.gate None → new.queue ≡ old.queue → Moves (λ w. w x) nothing old new
+  pub held_back : {sem : SemInfo} {x : Buffer} → Downs sem x old.semaphore new.semaphore None → new.queue ≡ old.queue → Moves (λ w. w x) nothing old new
   held_back {x = x} d same =
-      let s : Weighs (λ w. w x) nothing (queue_part old.gate) (queue_part new.gate) = insertion_weighs d.passes.inserts.1 in record {
+      let s : Weighs (λ w. w x) nothing (queue_part old.semaphore) (queue_part new.semaphore) = insertion_weighs d.passes.inserts.1 in record {
         name = ap (λ (q : SeatInfo (Mark Buffer)). q.name) same;
-        gate_name = s.name;
+        semaphore_name = s.name;
         sent_is = λ w. omega (arith, s.put_is w, s.got_is w, ap (put_by w) same);
         received_is = λ w. ap (got_by w) same ∙ omega arith;
       }
 
-  same_parts : queue_part new.gate ≡ queue_part old.gate → new.queue ≡ old.queue → Moves nothing nothing old new
+  same_parts : queue_part new.semaphore ≡ queue_part old.semaphore → new.queue ≡ old.queue → Moves nothing nothing old new
   same_parts part same = record {
     name = ap (λ (q : SeatInfo (Mark Buffer)). q.name) same;
-    gate_name = ap (λ (q : SeatInfo (Mark Buffer)). q.name) part;
+    semaphore_name = ap (λ (q : SeatInfo (Mark Buffer)). q.name) part;
     sent_is = λ w. omega (arith, ap (put_by w) part, ap (got_by w) part, ap (put_by w) same);
     received_is = λ w. ap (got_by w) same ∙ omega arith;
   }
 
   -- a down that passes, and an up that wakes nobody
-  pub passes_gate : {sem : SemInfo} {x : Buffer} (y : Buffer) → Downs sem x old.gate new.gate (Some y) → new.queue ≡ old.queue → Moves nothing nothing old new
-  passes_gate y d same = same_parts d.passes.1.same_queue same
+  pub passes_semaphore : {sem : SemInfo} {x : Buffer} (y : Buffer) → Downs sem x old.semaphore new.semaphore (Some y) → new.queue ≡ old.queue → Moves nothing nothing old new
+  passes_semaphore y d same = same_parts d.passes.1.same_queue same
 
-  pub wakes_nobody : {sem : SemInfo} → Ups sem old.gate new.gate None → new.queue ≡ old.queue → Moves nothing nothing old new
+  pub wakes_nobody : {sem : SemInfo} → Ups sem old.semaphore new.semaphore None → new.queue ≡ old.queue → Moves nothing nothing old new
   wakes_nobody u same = same_parts u.wakes.same_queue same
 
 -- an up that wakes a buffer, which then goes into the queue
-pub lets_through : (old mid new : Ends) {sem : SemInfo} (y : Buffer) → Ups sem old.gate mid.gate (Some y) → mid.queue ≡ old.queue → Moves (λ w. w y) nothing mid new → Moves nothing nothing old new
+pub lets_through : (old mid new : Ends) {sem : SemInfo} (y : Buffer) → Ups sem old.semaphore mid.semaphore (Some y) → mid.queue ≡ old.queue → Moves (λ w. w y) nothing mid new → Moves nothing nothing old new
 lets_through old mid new y u same m =
-    let s : Weighs nothing (λ w. w y) (queue_part old.gate) (queue_part mid.gate) = deletion_weighs u.wakes.deletes.1 in record {
+    let s : Weighs nothing (λ w. w y) (queue_part old.semaphore) (queue_part mid.semaphore) = deletion_weighs u.wakes.deletes.1 in record {
       name = m.name ∙ ap (λ (q : SeatInfo (Mark Buffer)). q.name) same;
-      gate_name = m.gate_name ∙ s.name;
+      semaphore_name = m.semaphore_name ∙ s.name;
       sent_is = λ w. omega (arith, m.sent_is w, s.put_is w, s.got_is w, ap (put_by w) same);
       received_is = λ w. omega (arith, m.received_is w, ap (got_by w) same);
     }
@@ -72,7 +72,7 @@ lets_through old mid new y u same m =
 pub moves_then : {a b c : Ends} (s r s' r' all got : Sum) → Moves s r a b → Moves s' r' b c → ((w : Buffer → ℕ) → all w ≡ s w + s' w) → ((w : Buffer → ℕ) → got w ≡ r w + r' w) → Moves all got a c
 moves_then s r s' r' all got m n sums gots = record {
   name = n.name ∙ m.name;
-  gate_name = n.gate_name ∙ m.gate_name;
+  semaphore_name = n.semaphore_name ∙ m.semaphore_name;
   sent_is = λ w. omega (arith, m.sent_is w, n.sent_is w, sums w);
   received_is = λ w. omega (arith, m.received_is w, n.received_is w, gots w);
 }
@@ -88,6 +88,6 @@ all_out a {both = both} one j apart whole weighs none w =
 -- ---- the whole run
 
 -- what fresh ends sent and received
-pub passed : (a b a' b' : Ends) (given got : Sum) → IsFresh 1 a → IsFresh 0 b → Moves given nothing a a' → Moves nothing got b b' → AllOut a'.queue b'.queue → AllOut (queue_part a'.gate) (queue_part b'.gate) → (w : Buffer → ℕ) → got w ≡ given w
+pub passed : (a b a' b' : Ends) (given got : Sum) → IsFresh 1 a → IsFresh 0 b → Moves given nothing a a' → Moves nothing got b b' → AllOut a'.queue b'.queue → AllOut (queue_part a'.semaphore) (queue_part b'.semaphore) → (w : Buffer → ℕ) → got w ≡ given w
 passed a b a' b' given got f g m n q h w =
     omega (arith, f.none_put w, f.none_let w, f.none_taken w, g.none_put w, g.none_let w, g.none_taken w, m.sent_is w, m.received_is w, n.sent_is w, n.received_is w, q w, h w)

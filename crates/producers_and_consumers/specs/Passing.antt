@@ -13,39 +13,39 @@ use Rattle.producers_and_consumers.specs.declared.channel.Ends.{Ends}
 abbrev pub Sum : Type 0
 Sum = (Buffer → ℕ) → ℕ
 
--- what one's ends put into the queue and held back at the gate; what they let through the gate; what they took out of the queue
+-- what one's ends put into the queue and held back at the semaphore; what they let through the semaphore; what they took out of the queue
 abbrev pub put_in : (Buffer → ℕ) → Ends → ℕ
-put_in w p = put_by w p.queue + put_by w (queue_part p.gate)
+put_in w p = put_by w p.queue + put_by w (queue_part p.semaphore)
 
 abbrev pub let_through : (Buffer → ℕ) → Ends → ℕ
-let_through w p = got_by w (queue_part p.gate)
+let_through w p = got_by w (queue_part p.semaphore)
 
 abbrev pub taken : (Buffer → ℕ) → Ends → ℕ
 taken w p = got_by w p.queue
 
 -- ends of this channel, between two calls
-pub record AreEnds (queue : ObjectId) (gate : SemId) (p : Ends) : Type 0 where
+pub record AreEnds (queue : ObjectId) (semaphore : SemId) (p : Ends) : Type 0 where
   pub idle : IsIdleSeat queue p.queue
-  pub gate_is : p.gate.object ≡ gate
+  pub semaphore_is : p.semaphore.object ≡ semaphore
 
 -- a call of the ends, which sent and received this much
 pub record Moves (sent received : Sum) (old new : Ends) : Type 0 where
   pub name : new.queue.name ≡ old.queue.name
-  pub gate_name : new.gate.name ≡ old.gate.name
+  pub semaphore_name : new.semaphore.name ≡ old.semaphore.name
   pub sent_is : (w : Buffer → ℕ) → put_in w new + let_through w old ≡ put_in w old + let_through w new + sent w
   pub received_is : (w : Buffer → ℕ) → taken w new ≡ taken w old + received w
 
 abbrev pub nothing : Sum
 nothing w = 0
 
--- the two seats of a gate that was just opened
-abbrev pub AreFreshGates : SemId → SemSeatInfo Buffer → SemSeatInfo Buffer → Type 0
-AreFreshGates gate a b = b ∷ a ∷ [] ≡ fresh_sem_seats gate (2 ^ 40) 0 2
+-- the two seats of a semaphore that was just opened
+abbrev pub AreFreshSemaphoreSeats : SemId → SemSeatInfo Buffer → SemSeatInfo Buffer → Type 0
+AreFreshSemaphoreSeats semaphore a b = b ∷ a ∷ [] ≡ fresh_sem_seats semaphore (2 ^ 40) 0 2
 
 -- ends that were just opened
 pub record IsFresh (name : ℕ) (p : Ends) : Type 0 where
   pub queue_name : p.queue.name ≡ name
-  pub gate_name : p.gate.name ≡ name
+  pub semaphore_name : p.semaphore.name ≡ name
   pub none_put : (w : Buffer → ℕ) → put_in w p ≡ 0
   pub none_let : (w : Buffer → ℕ) → let_through w p ≡ 0
   pub none_taken : (w : Buffer → ℕ) → taken w p ≡ 0

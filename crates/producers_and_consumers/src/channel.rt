@@ -1,4 +1,4 @@
-//! A channel: a queue of buffers behind a gate that holds back what the queue should not hold yet.
+//! A channel: a queue of buffers behind a semaphore that holds back what the queue should not hold yet.
 
 ghost use Rattle.std.specs.Prelude.{IfSome, IsTrue};
 ghost use Rattle.producers_and_consumers.specs.Passing.{AreEnds, Moves, nothing};
@@ -14,25 +14,25 @@ pub struct Buffer {
     pub bytes: Vec<u8>,
 }
 
-/// The queue, and the gate before it: a semaphore that begins at the number of buffers that may be on their way.
+/// The queue, and the semaphore before it: a semaphore that begins at the number of buffers that may be on their way.
 #[derive(Drop)]
 pub struct Channel {
     pub(crate) queue: Queue<Buffer>,
-    pub(crate) gate: Semaphore<Buffer>,
+    pub(crate) semaphore: Semaphore<Buffer>,
 }
 
-/// What one thread holds of the channel: a seat of the queue and a seat of the gate.
+/// What one thread holds of the channel: a seat of the queue and a seat of the semaphore.
 #[derive(Drop)]
 pub struct Ends {
     pub(crate) queue: Seat<Buffer>,
-    pub(crate) gate: SemSeat<Buffer>,
+    pub(crate) semaphore: SemSeat<Buffer>,
 }
 
 impl Ends {
     /// Puts a buffer into the queue. Tells whether the seat was neither worn nor the queue shut.
     fn put<R: Wait>(&mut self, rt: &R, channel: &Channel, buffer: Buffer) -> bool
-        requires { AreEnds channel.now.queue.object channel.now.gate.object self.old }
-        ensures ends { AreEnds channel.now.queue.object channel.now.gate.object self.new }
+        requires { AreEnds channel.now.queue.object channel.now.semaphore.object self.old }
+        ensures ends { AreEnds channel.now.queue.object channel.now.semaphore.object self.new }
         ensures moves { IsTrue result → Moves (λ w. w buffer) nothing self.old self.new }
     {
         match channel.queue.wait_insert(rt, &mut self.queue, buffer) {
@@ -41,13 +41,13 @@ impl Ends {
         }
     }
 
-    /// Sends a buffer: through the gate into the queue, or else it is held back at the gate. Tells whether it was not lost.
+    /// Sends a buffer: through the semaphore into the queue, or else it is held back at the semaphore. Tells whether it was not lost.
     pub fn send<R: Wait>(&mut self, rt: &R, channel: &Channel, buffer: Buffer) -> bool
-        requires { AreEnds channel.now.queue.object channel.now.gate.object self.old }
-        ensures ends { AreEnds channel.now.queue.object channel.now.gate.object self.new }
+        requires { AreEnds channel.now.queue.object channel.now.semaphore.object self.old }
+        ensures ends { AreEnds channel.now.queue.object channel.now.semaphore.object self.new }
         ensures moves { IsTrue result → Moves (λ w. w buffer) nothing self.old self.new }
     {
-        match channel.gate.down(rt, &mut self.gate, buffer) {
+        match channel.semaphore.down(rt, &mut self.semaphore, buffer) {
             Ok(Some(buffer)) => self.put(rt, channel, buffer),
             Ok(None) => true,
             Err(_) => false,
@@ -56,11 +56,11 @@ impl Ends {
 
     /// Makes room for one more buffer: one that was held back goes into the queue. Tells whether it was not lost.
     pub fn make_room<R: Wait>(&mut self, rt: &R, channel: &Channel) -> bool
-        requires { AreEnds channel.now.queue.object channel.now.gate.object self.old }
-        ensures ends { AreEnds channel.now.queue.object channel.now.gate.object self.new }
+        requires { AreEnds channel.now.queue.object channel.now.semaphore.object self.old }
+        ensures ends { AreEnds channel.now.queue.object channel.now.semaphore.object self.new }
         ensures moves { IsTrue result → Moves nothing nothing self.old self.new }
     {
-        match channel.gate.up(rt, &mut self.gate) {
+        match channel.semaphore.up(rt, &mut self.semaphore) {
             Ok(Some(buffer)) => self.put(rt, channel, buffer),
             Ok(None) => true,
             Err(_) => false,
@@ -69,8 +69,8 @@ impl Ends {
 
     /// Receives the oldest buffer. `make_room` has to follow.
     pub fn receive<R: Wait>(&mut self, rt: &R, channel: &Channel) -> Option<Buffer>
-        requires { AreEnds channel.now.queue.object channel.now.gate.object self.old }
-        ensures ends { AreEnds channel.now.queue.object channel.now.gate.object self.new }
+        requires { AreEnds channel.now.queue.object channel.now.semaphore.object self.old }
+        ensures ends { AreEnds channel.now.queue.object channel.now.semaphore.object self.new }
         ensures moves { IfSome result (λ buffer. Moves nothing (λ w. w buffer) self.old self.new) }
     {
         match channel.queue.wait_delete(rt, &mut self.queue) {

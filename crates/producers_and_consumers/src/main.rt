@@ -2,7 +2,7 @@
 //!
 //! Buffers go through a `fak_queue::Queue`, and a `fak_sem::Semaphore` before it is the back-pressure: it begins at the number
 //! of buffers that may be on their way, and holds back the others, each of which enters the queue once one was received.
-//! Nobody sleeps at the gate: the buffer does. Proved: what is received is what was sent (`pass`).
+//! Nobody sleeps at the semaphore: the buffer does. Proved: what is received is what was sent (`pass`).
 #![tactic(auto)]
 
 mod channel;

@@ -4,7 +4,7 @@ ghost use Rattle.std.specs.Prelude.{◌≡◌, ◌≢◌, ◌^◌, [], IfSome, I
 ghost use Rattle.fak_model.specs.Calls.{seat_info};
 ghost use Rattle.fak_queue.specs.Queues.{IsIdleSeat};
 ghost use Rattle.fak_sem.specs.Semaphores.{queue_part};
-ghost use Rattle.producers_and_consumers.specs.Passing.{AllOut, AreEnds, AreFreshGates, IsFresh};
+ghost use Rattle.producers_and_consumers.specs.Passing.{AllOut, AreEnds, AreFreshSemaphoreSeats, IsFresh};
 
 use crate::channel::{Buffer, Channel, Ends};
 use fak_model::laws::queue::a_queue_weighs_what_was_put;
@@ -12,7 +12,7 @@ use fak_queue::{LONGEST_STINT, Queue, Seat, Tally};
 use fak_sem::{SemSeat, SemTally, Semaphore};
 use std::alloc::Global;
 
-/// The cells of the queue, and those of the gate's wait queue.
+/// The cells of the queue, and those of the semaphore's wait queue.
 const CELLS: u64 = 64;
 
 /// An empty queue and its two seats.
@@ -28,39 +28,39 @@ fn open_queue(alloc: Global) -> Option<(Queue<Buffer>, Seat<Buffer>, Seat<Buffer
     Some((queue, a, b))
 }
 
-/// A gate that lets `room` buffers through, and its two seats.
-fn open_gate(
+/// A semaphore that lets `room` buffers through, and its two seats.
+fn open_semaphore(
     alloc: Global,
     room: u64,
 ) -> Option<(Semaphore<Buffer>, SemSeat<Buffer>, SemSeat<Buffer>)>
-    ensures { IfSome result (λ r. AreFreshGates r.0.object r.1 r.2) }
+    ensures { IfSome result (λ r. AreFreshSemaphoreSeats r.0.object r.1 r.2) }
 {
-    let Ok((gate, mut seats)) = Semaphore::open(alloc, room, CELLS, 2, LONGEST_STINT) else {
+    let Ok((semaphore, mut seats)) = Semaphore::open(alloc, room, CELLS, 2, LONGEST_STINT) else {
         return None;
     };
     let Some(a) = seats.pop() else { unreachable!() };
     let Some(b) = seats.pop() else { unreachable!() };
-    Some((gate, a, b))
+    Some((semaphore, a, b))
 }
 
 /// An empty channel, and its ends for two threads.
 pub fn open_channel(alloc: Global, room: u64) -> Option<(Channel, Ends, Ends)>
-    ensures ends { IfSome result (λ r. AreEnds r.0.queue.object r.0.gate.object r.1
-        × AreEnds r.0.queue.object r.0.gate.object r.2) }
+    ensures ends { IfSome result (λ r. AreEnds r.0.queue.object r.0.semaphore.object r.1
+        × AreEnds r.0.queue.object r.0.semaphore.object r.2) }
     ensures fresh { IfSome result (λ r. IsFresh 1 r.1 × IsFresh 0 r.2) }
 {
     let opened = open_queue(alloc)?;
-    let (gate, first, second) = open_gate(alloc, room)?;
+    let (semaphore, first, second) = open_semaphore(alloc, room)?;
     let (queue, a, b) = opened;
     let a = Ends {
         queue: a,
-        gate: first,
+        semaphore: first,
     };
     let b = Ends {
         queue: b,
-        gate: second,
+        semaphore: second,
     };
-    Some((Channel { queue, gate }, a, b))
+    Some((Channel { queue, semaphore }, a, b))
 }
 
 /// Closes the queue, and tells whether both seats are back and nothing is left in it.
@@ -78,29 +78,29 @@ fn queue_is_empty(queue: Queue<Buffer>, a: Seat<Buffer>, b: Seat<Buffer>) -> boo
     queue.close(tally).next().is_none()
 }
 
-/// Closes the gate, and tells whether both seats are back and nothing is held back.
-fn gate_is_empty(gate: Semaphore<Buffer>, a: SemSeat<Buffer>, b: SemSeat<Buffer>) -> bool
-    requires seats { (a.object ≡ gate.object) × (b.object ≡ gate.object) }
+/// Closes the semaphore, and tells whether both seats are back and nothing is held back.
+fn semaphore_is_empty(semaphore: Semaphore<Buffer>, a: SemSeat<Buffer>, b: SemSeat<Buffer>) -> bool
+    requires seats { (a.object ≡ semaphore.object) × (b.object ≡ semaphore.object) }
     requires apart { b.name ≢ a.name }
     ensures { IsTrue result → AllOut (queue_part a) (queue_part b) }
 {
     a_queue_weighs_what_was_put::<Buffer>();
-    let tally = gate.join(SemTally::of(a), b);
+    let tally = semaphore.join(SemTally::of(a), b);
     let whole = tally.is_whole();
     if !whole {
         return false;
     }
-    gate.close(tally).next().is_none()
+    semaphore.close(tally).next().is_none()
 }
 
 /// Closes the channel, and tells whether nothing is left in it.
 pub fn is_empty(channel: Channel, a: Ends, b: Ends) -> bool
-    requires ends { AreEnds channel.queue.object channel.gate.object a
-        × AreEnds channel.queue.object channel.gate.object b }
-    requires apart { (b.queue.name ≢ a.queue.name) × (b.gate.name ≢ a.gate.name) }
-    ensures { IsTrue result → AllOut a.queue b.queue × AllOut (queue_part a.gate) (queue_part b.gate) }
+    requires ends { AreEnds channel.queue.object channel.semaphore.object a
+        × AreEnds channel.queue.object channel.semaphore.object b }
+    requires apart { (b.queue.name ≢ a.queue.name) × (b.semaphore.name ≢ a.semaphore.name) }
+    ensures { IsTrue result → AllOut a.queue b.queue × AllOut (queue_part a.semaphore) (queue_part b.semaphore) }
 {
     let no_buffer_queued = queue_is_empty(channel.queue, a.queue, b.queue);
-    let none_held_back = gate_is_empty(channel.gate, a.gate, b.gate);
+    let none_held_back = semaphore_is_empty(channel.semaphore, a.semaphore, b.semaphore);
     no_buffer_queued && none_held_back
 }

@@ -12,8 +12,8 @@ use std::thread::{Threads, join};
 
 /// Sends all buffers. Tells whether none was lost.
 fn produce<R: Wait>(rt: &R, channel: &Channel, ends: &mut Ends, buffers: Vec<Buffer>) -> bool
-    requires { AreEnds channel.now.queue.object channel.now.gate.object ends.old }
-    ensures ends { AreEnds channel.now.queue.object channel.now.gate.object ends.new }
+    requires { AreEnds channel.now.queue.object channel.now.semaphore.object ends.old }
+    ensures ends { AreEnds channel.now.queue.object channel.now.semaphore.object ends.new }
     ensures sent { IsTrue result → Moves (λ w. sum_by w buffers.items) nothing ends.old ends.new }
 {
     for buffer in buffers {
@@ -32,9 +32,9 @@ fn consume<R: Wait>(
     count: usize,
     into: &mut Vec<Buffer>,
 ) -> bool
-    requires ends { AreEnds channel.now.queue.object channel.now.gate.object ends.old }
+    requires ends { AreEnds channel.now.queue.object channel.now.semaphore.object ends.old }
     requires empty { into.old.items ≡ [] }
-    ensures ends { AreEnds channel.now.queue.object channel.now.gate.object ends.new }
+    ensures ends { AreEnds channel.now.queue.object channel.now.semaphore.object ends.new }
     ensures received { IsTrue result → Moves nothing (λ w. sum_by w into.new.items) ends.old ends.new }
 {
     for _ in 0..count {
@@ -59,11 +59,11 @@ fn run_both<R: Threads + Wait + Sync>(
     buffers: Vec<Buffer>,
     mut into: Vec<Buffer>,
 ) -> ((Ends, bool), (Ends, Vec<Buffer>, bool))
-    requires first { AreEnds channel.now.queue.object channel.now.gate.object ends.0 }
-    requires second { AreEnds channel.now.queue.object channel.now.gate.object ends.1 }
+    requires first { AreEnds channel.now.queue.object channel.now.semaphore.object ends.0 }
+    requires second { AreEnds channel.now.queue.object channel.now.semaphore.object ends.1 }
     requires empty { into.items ≡ [] }
-    ensures first { AreEnds channel.now.queue.object channel.now.gate.object result.0.0 }
-    ensures second { AreEnds channel.now.queue.object channel.now.gate.object result.1.0 }
+    ensures first { AreEnds channel.now.queue.object channel.now.semaphore.object result.0.0 }
+    ensures second { AreEnds channel.now.queue.object channel.now.semaphore.object result.1.0 }
     ensures sent { IsTrue result.0.1 → Moves (λ w. sum_by w buffers.items) nothing ends.0 result.0.0 }
     ensures received { IsTrue result.1.2 → Moves nothing (λ w. sum_by w result.1.1.items) ends.1 result.1.0 }
 {
@@ -72,16 +72,16 @@ fn run_both<R: Threads + Wait + Sync>(
     join(
         rt,
         move || -> (Ends, bool)
-            requires { AreEnds channel.now.queue.object channel.now.gate.object a }
-            ensures ends { AreEnds channel.entry.now.queue.object channel.entry.now.gate.object result.0 }
+            requires { AreEnds channel.now.queue.object channel.now.semaphore.object a }
+            ensures ends { AreEnds channel.entry.now.queue.object channel.entry.now.semaphore.object result.0 }
             ensures sent { IsTrue result.1 → Moves (λ w. sum_by w buffers.items) nothing a result.0 }
         {
             let sent = produce(rt, channel, &mut a, buffers);
             (a, sent)
         },
         move || -> (Ends, Vec<Buffer>, bool)
-            requires { AreEnds channel.now.queue.object channel.now.gate.object b × (into.items ≡ []) }
-            ensures ends { AreEnds channel.entry.now.queue.object channel.entry.now.gate.object result.0 }
+            requires { AreEnds channel.now.queue.object channel.now.semaphore.object b × (into.items ≡ []) }
+            ensures ends { AreEnds channel.entry.now.queue.object channel.entry.now.semaphore.object result.0 }
             ensures received { IsTrue result.2 → Moves nothing (λ w. sum_by w result.1.items) b result.0 }
         {
             let all = consume(rt, channel, &mut b, count, &mut into);

@@ -8,5 +8,5 @@ use Rattle.producers_and_consumers.proofs.passing.produce.Given as goal
 -- the ends have sent the buffers that are no more to come
 abbrev pub invariant-loop-buffer : goal.invariant-loop-buffer
 invariant-loop-buffer g l =
-    AreEnds l.channel.queue.object l.channel.gate.object l.ends
+    AreEnds l.channel.queue.object l.channel.semaphore.object l.ends
     × ((sent : List Buffer) × (sent ++ into_iter_items l.buffer-iterator ≡ l.fn.buffers.items) × Moves (λ w. sum_by w sent) nothing l.fn.ends l.ends)

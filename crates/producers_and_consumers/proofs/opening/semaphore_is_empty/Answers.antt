@@ -4,7 +4,7 @@ use Rattle.fak_queue.specs.Queues.{size_of}
 use Rattle.fak_sem.specs.Semaphores.{SemId, queue_part, queue_tally, seats_of}
 use Rattle.producers_and_consumers.specs.declared.channel.Buffer.{Buffer}
 use Rattle.producers_and_consumers.proofs.Counting.{all_out}
-use Rattle.producers_and_consumers.proofs.opening.gate_is_empty.Goals as goal
+use Rattle.producers_and_consumers.proofs.opening.semaphore_is_empty.Goals as goal
 
 pub close-requires-clause-whole : goal.close-requires-clause-whole
 close-requires-clause-whole c =
