@@ -167,7 +167,7 @@ int main(int count, char **arguments) {
     items = count > 2 ? atol(arguments[2]) : 10000;
     if (rounds < 1 || rounds > MOST_ROUNDS || items < 1) return 2;
     for (size = 8; size <= 1024; size *= 128) {
-        printf("%-24s | %13s | %13s | %13s | %13s\n", size == 8 ? "8 cells" : "1,024 cells", "alone", "1 pair", "2 pairs", "4 pairs");
+        printf("%-24s | %20s | %20s | %20s | %20s\n", size == 8 ? "8 cells" : "1,024 cells", "alone", "1 pair", "2 pairs", "4 pairs");
         for (int p = 0; p < 4; p++)
             for (int r = 0; r < rounds; r++)
                 for (int k = 0; k < KINDS; k++) {
@@ -178,7 +178,7 @@ int main(int count, char **arguments) {
             printf("%-24s", kinds[k].name);
             for (int p = 0; p < 4; p++) {
                 qsort(times[p][k], rounds, sizeof(double), by_size);
-                printf(" | %6.0f %6.0f", times[p][k][0], times[p][k][rounds / 2]);
+                printf(" | %6.0f %6.0f %6.0f", times[p][k][0], times[p][k][rounds / 2], times[p][k][rounds - 1]);
             }
             printf("\n");
         }

@@ -35,12 +35,13 @@ static void *pause_often(void *number) {
 
 static void print_cost(const char *what, void *(*work)(void *), int threads, int times) {
     struct spread spread = time_of(open_line, work, threads);
-    printf("%-52s | %6.1f %6.1f\n", what, spread.best / threads / times, spread.median / threads / times);
+    double changes = (double)threads * times;
+    printf("%-52s | %6.1f %6.1f %6.1f\n", what, spread.best / changes, spread.median / changes, spread.worst / changes);
 }
 
 void calibrate(void) {
     long processors = sysconf(_SC_NPROCESSORS_ONLN);
-    printf("%-52s | %13s\n", "nanoseconds", "best, median");
+    printf("%-52s | %20s\n", "nanoseconds", "best, median, worst");
     print_cost("a pause", pause_often, 1, CHANGES);
     print_cost("a change of a line at hand", change_the_line, 1, CHANGES);
     if (processors < 2) return;
