@@ -34,7 +34,7 @@ fn fault_of<R: Abort + Threads + Wait + Sync, G: Gate + Sync>(
 
 #[test]
 fn the_others_leave_where_one_is_worn(rt: HostRuntime) {
-    for &processors in &[2u64, 4, 8] {
+    for processors in 2..9u64 {
         let gate = Late::new(NOBODY, MANY);
         let fault = fault_of(&rt, rt.alloc(), processors, &gate);
         assert!(rt; fault == Some(Fault::Worn), "{fault:?} on {processors}");
@@ -44,7 +44,7 @@ fn the_others_leave_where_one_is_worn(rt: HostRuntime) {
 
 #[test]
 fn the_others_leave_by_the_free_gate(rt: HostRuntime) {
-    for &processors in &[2u64, 4, 8] {
+    for processors in 2..9u64 {
         let fault = fault_of(&rt, rt.alloc(), processors, &FreeGate);
         assert!(rt; fault == Some(Fault::Worn), "{fault:?} on {processors}");
     }
@@ -71,7 +71,7 @@ fn the_fault_of_a_later_processor_is_answered(rt: HostRuntime) {
 
 #[test]
 fn whoever_is_worn_the_others_leave(rt: HostRuntime) {
-    for &processors in &[2u64, 3, 8] {
+    for processors in 2..9u64 {
         for chosen in 0..processors {
             let gate = Chosen::new(chosen, MANY);
             let fault = fault_of(&rt, rt.alloc(), processors, &gate);
@@ -101,7 +101,7 @@ fn many_turns(alloc: Global) -> Result<String, AllocError> {
 fn whoever_is_refused_the_others_leave(rt: HostRuntime) {
     let text = many_turns(rt.alloc()).expect(&rt, "a script");
     let script = script_of(&rt, rt.alloc(), &text);
-    for &processors in &[2u64, 3, 8] {
+    for processors in 2..9u64 {
         for refused in 0..processors {
             let gate = Slowing::new(refused, 900, MANY);
             let fault = run(&rt, rt.alloc(), &script, processors, &gate).err();

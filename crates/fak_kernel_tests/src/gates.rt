@@ -3,7 +3,7 @@
 
 use fak_kernel::{Gate, MOST_PROCESSORS};
 use std::hint::spin_loop;
-use std::sync::atomic::{AtomicBool, Ordering};
+use std::sync::atomic::{AtomicBool, AtomicU64, Ordering};
 
 /// The looks of a processor that are many more than a run needs where the others leave.
 const MOST_LOOKS: u64 = 1_000_000;
@@ -317,6 +317,51 @@ impl Gate for Slowing {
         }
         for _ in 0..100_000u64 {
             spin_loop();
+        }
+        true
+    }
+}
+
+/// Lets one processor do all the work, and counts its looks: holds the first pass of each other until that one comes to
+/// its look of number `last`.
+#[derive(Drop)]
+pub(super) struct Alone {
+    chosen: u64,
+    last: u64,
+    looks: AtomicU64,
+    is_done: Flag,
+}
+
+impl Alone {
+    pub(super) fn new(chosen: u64, last: u64, turns: u64) -> Alone {
+        Alone {
+            chosen,
+            last,
+            looks: AtomicU64::new(0),
+            is_done: Flag::new(turns),
+        }
+    }
+
+    /// How often the chosen one has asked.
+    pub(super) fn looks(&self) -> u64 {
+        self.looks.load(Ordering::SeqCst)
+    }
+}
+
+impl Gate for Alone {
+    fn may_refuse(&self) -> bool {
+        true
+    }
+
+    fn pass(&self, processor: u64, step: u64) -> bool {
+        if processor == self.chosen {
+            let looks = self.looks();
+            self.looks.store(looks.saturating_add(1), Ordering::SeqCst);
+            if step >= self.last {
+                self.is_done.set();
+            }
+        } else if step == 0 {
+            self.is_done.wait();
         }
         true
     }

@@ -1,7 +1,7 @@
 //! Stints that are used up, at each object of a run: with one call more in the stint the run ends.
 
 use super::examples::script_of;
-use fak_kernel::{Fault, FreeGate, run, run_one};
+use fak_kernel::{Fault, FreeGate, run, run_one, run_one_to_text, run_to_text};
 use std::alloc::{AllocError, Global};
 use std::fmt::Write;
 use std::process::Abort;
@@ -45,18 +45,44 @@ const IN_ONE_TURN: [Case; 7] = [
     ),
 ];
 
-/// One processor makes all calls. The ready queue is entered and left twice, and looked at once more. Busy is changed
-/// five times by processes that sleep, ten times by those that are woken after the shutdown, and once by the last to end.
-const ALONE: [Case; 2] = [
+/// One processor makes all calls, and each stint wears another one out. The first script enters and leaves the ready queue
+/// twice, and looks at it once more. The next ones give a slot back, take one for a child, and enter the child. The last
+/// ones change busy: five times by processes that sleep, ten times by those that are woken after the shutdown, and then by
+/// an end, by a sleep, or by a child that halts.
+const ALONE: [Case; 7] = [
     (
         r#"{"version":1,"slots":1,"births":0,"quantum":9,"semaphores":[],"files":1,"programs":[[["yield"],["yield"]]],"start":[0],"#,
         5,
+    ),
+    (
+        r#"{"version":1,"slots":1,"births":0,"quantum":9,"semaphores":[],"files":1,"programs":[[]],"start":[0],"#,
+        3,
+    ),
+    (
+        r#"{"version":1,"slots":2,"births":1,"quantum":9,"semaphores":[],"files":1,"programs":[[["spawn",1]],[]],"start":[0],"#,
+        6,
+    ),
+    (
+        r#"{"version":1,"slots":2,"births":1,"quantum":9,"semaphores":[],"files":1,"programs":[[["yield"],["spawn",1]],[]],"start":[0],"#,
+        7,
     ),
     (
         r#"{"version":2,"slots":6,"births":0,"quantum":9,"semaphores":[0,0,0,0,0],"files":1,"programs":[
 [["down",0]],[["down",1]],[["down",2]],[["down",3]],[["down",4]],
 [["shutdown"],["up",0],["up",1],["up",2],["up",3],["up",4]]],"start":[0,1,2,3,4,5],"#,
         16,
+    ),
+    (
+        r#"{"version":2,"slots":6,"births":0,"quantum":9,"semaphores":[0,0,0,0,0,0],"files":1,"programs":[
+[["down",0]],[["down",1]],[["down",2]],[["down",3]],[["down",4]],
+[["shutdown"],["up",0],["up",1],["up",2],["up",3],["up",4],["down",5]]],"start":[0,1,2,3,4,5],"#,
+        16,
+    ),
+    (
+        r#"{"version":2,"slots":7,"births":1,"quantum":9,"semaphores":[0,0,0,0,0],"files":1,"programs":[
+[["down",0]],[["down",1]],[["down",2]],[["down",3]],[["down",4]],
+[["shutdown"],["up",0],["up",1],["up",2],["up",3],["up",4],["spawn",0]]],"start":[0,1,2,3,4,5],"#,
+        18,
     ),
 ];
 
@@ -67,7 +93,7 @@ fn with_stint(alloc: Global, front: &str, stint: u64) -> Result<String, AllocErr
     Ok(text)
 }
 
-/// The fault of the script with this stint, on one processor where none are named.
+/// The fault of the script with this stint, the same as a report and as a text; without threads where no processor is named.
 fn fault_on<R: Abort + Threads + Wait + Sync>(
     rt: &R,
     alloc: Global,
@@ -77,10 +103,18 @@ fn fault_on<R: Abort + Threads + Wait + Sync>(
 ) -> Option<Fault> {
     let text = with_stint(alloc, front, stint).expect(rt, "a script");
     let script = script_of(rt, alloc, &text);
-    if processors == 0 {
-        return run_one(rt, alloc, &script).err();
-    }
-    run(rt, alloc, &script, processors, &FreeGate).err()
+    let (whole, printed) = match processors {
+        0 => (
+            run_one(rt, alloc, &script).err(),
+            run_one_to_text(rt, alloc, &script).err(),
+        ),
+        _ => (
+            run(rt, alloc, &script, processors, &FreeGate).err(),
+            run_to_text(rt, alloc, &script, processors, &FreeGate).err(),
+        ),
+    };
+    assert!(rt; whole == printed, "{whole:?}, {printed:?}: {front}");
+    whole
 }
 
 /// Finds that the script is worn with each stint below the least, and ends with the least.
@@ -111,7 +145,7 @@ fn a_seat_is_worn_in_one_turn(rt: HostRuntime) {
             is_worn_below(&rt, rt.alloc(), case, processors);
         }
         let (front, least) = case;
-        for &processors in &[2u64, 3, 8] {
+        for processors in 2..9u64 {
             let fault = fault_on(&rt, rt.alloc(), front, least - 1, processors);
             assert!(rt;
                 fault == Some(Fault::Worn),
