@@ -10,6 +10,8 @@ mod many_calls;
 #[cfg(test)]
 mod name_sets;
 #[cfg(test)]
+mod openings;
+#[cfg(test)]
 mod progress;
 #[cfg(test)]
 mod queues;

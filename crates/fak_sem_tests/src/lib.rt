@@ -4,6 +4,8 @@
 
 #[cfg(test)]
 mod bounded;
+#[cfg(test)]
+mod openings;
 mod rows;
 #[cfg(test)]
 mod steps;

@@ -1,0 +1,67 @@
+//! Cores of each size in range are opened, and each of their seats may begin a call.
+
+use crate::queues::{begins, opened};
+use fak_core::{QueueCall, RoomCall, RoomCore};
+use std::process::Abort;
+
+/// Opens the queue, and has each seat insert an item, but for its test.
+fn opens_queue(rt: &(impl AllocGlobal + Abort), size: u64, seats: u64) {
+    let mut core = opened(rt, size, seats);
+    for seat in 0..seats {
+        begins(rt, &mut core, seat, QueueCall::Insert(seat));
+        assert!(rt; core.advance(rt.alloc(), seat).is_ok(), "{size}, {seats}");
+    }
+}
+
+#[test]
+fn queues_of_each_size(rt: HostRuntime) {
+    for size in 1..4_097u64 {
+        opens_queue(&rt, size, size % 64 + 1);
+    }
+    for seats in 1..65u64 {
+        for size in [1u64, 2, 5, 64, 100, 4_096] {
+            opens_queue(&rt, size, seats);
+        }
+    }
+}
+
+/// Opens the room, and has each seat claim as much as one claim may where it fits.
+fn opens_room(rt: &(impl AllocGlobal + Abort), bound: u64, seats: u64) {
+    let mut core = RoomCore::new(rt.alloc(), bound, seats)
+        .ok()
+        .expect(rt, "a room");
+    let amount = bound.max(1).min(1_024);
+    for seat in 0..seats {
+        assert!(rt;
+            core.begin(seat, RoomCall::Tir(amount)).is_ok(),
+            "{bound}, {seats}"
+        );
+        assert!(rt; core.advance(rt.alloc(), seat).is_ok(), "{bound}, {seats}");
+    }
+    if bound > 0 {
+        assert!(rt; core.advance(rt.alloc(), 0).is_ok(), "{bound}, {seats}");
+        assert_eq!(rt; core.value(), amount as i64);
+    }
+}
+
+#[test]
+fn rooms_of_every_width(rt: HostRuntime) {
+    for bound in 0..1_100u64 {
+        opens_room(&rt, bound, bound % 64 + 1);
+    }
+    let mut drawn = 1u64;
+    for place in 10..33u32 {
+        drawn = drawn
+            .wrapping_mul(6_364_136_223_846_793_005)
+            .wrapping_add(1_442_695_040_888_963_407);
+        let power = 1u64 << place;
+        for bound in [power - 1, power, power + 1, (drawn >> 20) % power] {
+            opens_room(&rt, bound.min(1 << 32), place as u64 + 1);
+        }
+    }
+    for seats in 1..65u64 {
+        for bound in [0u64, 1, 5, 1_000_000] {
+            opens_room(&rt, bound, seats);
+        }
+    }
+}
