@@ -67,30 +67,35 @@ fn has_count(rt: &(impl Abort + AllocGlobal), row: &Row<'_>, count: usize) {
 
 #[test]
 fn each_count_of_short_lists(rt: HostRuntime) {
-    let semaphores = r#"{"version":1,"slots":1,"births":0,"quantum":1,"semaphores":["#;
-    let programs =
-        r#"{"version":1,"slots":1,"births":0,"quantum":1,"semaphores":[],"files":1,"programs":["#;
-    let rows: &[Row<'_>] = &[
-        (
-            Items::Semaphores,
-            semaphores,
-            "7",
-            r#"],"files":1,"programs":[],"start":[]}"#,
-            16,
-            Field::Semaphores,
-        ),
-        (
-            Items::Programs,
-            programs,
-            "[]",
-            r#"],"start":[]}"#,
-            64,
-            Field::Programs,
-        ),
-    ];
-    for row in rows {
-        for count in 0..100usize {
-            has_count(&rt, row, count);
+    for version in 1..3u64 {
+        let semaphores = format!(in rt.alloc();
+            r#"{{"version":{version},"slots":1,"births":0,"quantum":1,"semaphores":["#
+        ).expect(&rt, "memory");
+        let programs = format!(in rt.alloc(); r#"{semaphores}],"files":1,"programs":["#).expect(
+            &rt, "memory",
+        );
+        let rows: &[Row<'_>] = &[
+            (
+                Items::Semaphores,
+                semaphores.as_str(),
+                "7",
+                r#"],"files":1,"programs":[],"start":[]}"#,
+                16,
+                Field::Semaphores,
+            ),
+            (
+                Items::Programs,
+                programs.as_str(),
+                "[]",
+                r#"],"start":[]}"#,
+                64,
+                Field::Programs,
+            ),
+        ];
+        for row in rows {
+            for count in 0..100usize {
+                has_count(&rt, row, count);
+            }
         }
     }
 }
@@ -109,22 +114,32 @@ fn has_counts(rt: &(impl Abort + AllocGlobal), row: &Row<'_>) {
 }
 
 #[test]
-fn many_counts_of_steps_and_marks(rt: HostRuntime) {
-    let steps =
-        r#"{"version":1,"slots":1,"births":0,"quantum":1,"semaphores":[],"files":1,"programs":[["#;
-    let after = r#"]],"start":[]}"#;
-    let row = (
-        Items::Steps,
-        steps,
-        r#"["yield"]"#,
-        after,
-        1_000,
-        Field::Programs,
-    );
-    has_counts(&rt, &row);
-    for count in [500, 501, 700, 999] {
-        has_count(&rt, &row, count);
+fn many_counts_of_steps(rt: HostRuntime) {
+    for version in 1..3u64 {
+        let steps = format!(in rt.alloc();
+            r#"{{"version":{version},"slots":1,"births":0,"quantum":1,"semaphores":[],"files":1,"programs":[["#
+        ).expect(&rt, "memory");
+        let after = r#"]],"start":[]}"#;
+        let row = (
+            Items::Steps,
+            steps.as_str(),
+            r#"["yield"]"#,
+            after,
+            1_000,
+            Field::Programs,
+        );
+        has_counts(&rt, &row);
+        for count in 0..130usize {
+            has_count(&rt, &row, count);
+        }
+        for hundred in 2..11usize {
+            has_count(&rt, &row, 100 * hundred);
+        }
     }
+}
+
+#[test]
+fn many_counts_of_marks(rt: HostRuntime) {
     let marks = r#"{"size":1,"marks":["#;
     let row = (
         Items::Marks,
@@ -135,7 +150,12 @@ fn many_counts_of_steps_and_marks(rt: HostRuntime) {
         Field::Marks,
     );
     has_counts(&rt, &row);
-    has_count(&rt, &row, 3_000);
+    for count in 0..300usize {
+        has_count(&rt, &row, count);
+    }
+    for hundred in 3..41usize {
+        has_count(&rt, &row, 100 * hundred);
+    }
 }
 
 #[test]
@@ -150,7 +170,12 @@ fn many_counts_of_events(rt: HostRuntime) {
         Field::Events,
     );
     has_counts(&rt, &row);
-    has_count(&rt, &row, 3_000);
+    for count in 0..300usize {
+        has_count(&rt, &row, count);
+    }
+    for thousand in 1..17usize {
+        has_count(&rt, &row, 1_000 * thousand);
+    }
     let queue = r#"{"object":"queue","size":1,"seats":1,"events":["#;
     let row = (
         Items::Events,
@@ -161,7 +186,12 @@ fn many_counts_of_events(rt: HostRuntime) {
         Field::Events,
     );
     has_counts(&rt, &row);
-    has_count(&rt, &row, 10_000);
+    for count in 0..300usize {
+        has_count(&rt, &row, count);
+    }
+    for thousand in 1..17usize {
+        has_count(&rt, &row, 1_000 * thousand);
+    }
 }
 
 /// The script of this many slots that starts this many processes.

@@ -158,11 +158,9 @@ const MOST: u64 = u64::MAX;
 
 #[test]
 fn the_numbers_of_schedules(rt: HostRuntime) {
-    use OfSchedule::{Argument, Extent, Seat, Seats};
+    use OfSchedule::{Argument, Extent, Seats};
     let of = NumberAt::Schedule;
     let events = Field::Events;
-    let room = r#"{"object":"room","bound":1,"seats":1,"events":[["#;
-    let queue = r#"{"object":"queue","size":1,"seats":1,"events":[["#;
     let tir = r#"{"object":"room","bound":1,"seats":1,"events":[[0,"tir","#;
     let release = r#"{"object":"room","bound":1,"seats":1,"events":[[0,"release","#;
     let room_step = r#"{"object":"room","bound":1,"seats":1,"events":[[0,"step","#;
@@ -201,8 +199,6 @@ fn the_numbers_of_schedules(rt: HostRuntime) {
             64,
             Field::Seats,
         ),
-        (of(Seat), room, r#","step"]]}"#, 0, MOST, events),
-        (of(Seat), queue, r#","delete"]]}"#, 0, MOST, events),
         (of(Argument), tir, "]]}", 1, 1_024, events),
         (of(Argument), release, "]]}", 1, 1_024, events),
         (of(Argument), room_step, "]]}", 1, 64, events),
@@ -213,8 +209,58 @@ fn the_numbers_of_schedules(rt: HostRuntime) {
 }
 
 #[test]
+fn the_seats_of_schedules(rt: HostRuntime) {
+    let of = NumberAt::Schedule(OfSchedule::Seat);
+    let room = r#"{"object":"room","bound":1,"seats":1,"events":[["#;
+    let queue = r#"{"object":"queue","size":1,"seats":1,"events":[["#;
+    let rows = [
+        (room, r#","step"]]}"#),
+        (room, r#","step",7]]}"#),
+        (room, r#","tir",7]]}"#),
+        (room, r#","release",7]]}"#),
+        (queue, r#","step"]]}"#),
+        (queue, r#","step",7]]}"#),
+        (queue, r#","insert",7]]}"#),
+        (queue, r#","delete"]]}"#),
+        (queue, r#","shut"]]}"#),
+    ];
+    for (before, after) in rows {
+        have_ranges(&rt, &[(of, before, after, 0, MOST, Field::Events)]);
+    }
+}
+
+#[test]
+fn the_seats_of_histories(rt: HostRuntime) {
+    let of = NumberAt::History(OfHistory::Seat);
+    let before = r#"{"size":1,"marks":[["#;
+    let names = [
+        "claim-in",
+        "over-in",
+        "back-in",
+        "no-room",
+        "end-in",
+        "claim-out",
+        "over-out",
+        "back-out",
+        "no-item",
+        "end-out",
+        "close",
+        "closed",
+        "late-in",
+    ];
+    for name in names {
+        let after = format!(in rt.alloc(); r#","{name}"]]}}"#).expect(&rt, "memory");
+        have_ranges(&rt, &[(of, before, after.as_str(), 0, 63, Field::Marks)]);
+    }
+    for name in ["put", "fill", "got", "take"] {
+        let after = format!(in rt.alloc(); r#","{name}",7]]}}"#).expect(&rt, "memory");
+        have_ranges(&rt, &[(of, before, after.as_str(), 0, 63, Field::Marks)]);
+    }
+}
+
+#[test]
 fn the_numbers_of_histories(rt: HostRuntime) {
-    use OfHistory::{Argument, Seat, Size};
+    use OfHistory::{Argument, Size};
     let of = NumberAt::History;
     let marks = Field::Marks;
     let rows: &[Row<'_>] = &[
@@ -225,22 +271,6 @@ fn the_numbers_of_histories(rt: HostRuntime) {
             1,
             4_096,
             Field::Size,
-        ),
-        (
-            of(Seat),
-            r#"{"size":1,"marks":[["#,
-            r#","close"]]}"#,
-            0,
-            63,
-            marks,
-        ),
-        (
-            of(Seat),
-            r#"{"size":1,"marks":[["#,
-            r#","put",7]]}"#,
-            0,
-            63,
-            marks,
         ),
         (
             of(Argument),
@@ -278,107 +308,119 @@ fn the_numbers_of_histories(rt: HostRuntime) {
     have_ranges(&rt, rows);
 }
 
-#[test]
-fn the_numbers_of_scripts(rt: HostRuntime) {
-    use OfScript::{Births, Files, Quantum, Semaphore, Slots, Stint, Version};
+/// Finds that each number of a script of this version is read over its range.
+fn have_ranges_in_scripts(rt: &(impl Abort + AllocGlobal), version: u64) {
+    use OfScript::{Births, Files, Quantum, Semaphore, Slots, Stint};
     let of = NumberAt::Script;
-    let from_slots =
-        r#","slots":1,"births":0,"quantum":1,"semaphores":[],"files":1,"programs":[],"start":[]}"#;
+    let alloc = rt.alloc();
+    let slots = format!(in alloc; r#"{{"version":{version},"slots":"#).expect(rt, "memory");
+    let births = format!(in alloc; r#"{slots}1,"births":"#).expect(rt, "memory");
+    let quantum = format!(in alloc; r#"{births}0,"quantum":"#).expect(rt, "memory");
+    let stint = format!(in alloc; r#"{quantum}1,"stint":"#).expect(rt, "memory");
+    let semaphore = format!(in alloc; r#"{quantum}1,"semaphores":["#).expect(rt, "memory");
+    let files = format!(in alloc; r#"{semaphore}],"files":"#).expect(rt, "memory");
     let from_births =
         r#","births":0,"quantum":1,"semaphores":[],"files":1,"programs":[],"start":[]}"#;
     let from_quantum = r#","quantum":1,"semaphores":[],"files":1,"programs":[],"start":[]}"#;
     let from_semaphores = r#","semaphores":[],"files":1,"programs":[],"start":[]}"#;
     let from_files = r#"],"files":1,"programs":[],"start":[]}"#;
     let from_programs = r#","programs":[],"start":[]}"#;
-    let births = r#"{"version":1,"slots":1,"births":"#;
-    let quantum = r#"{"version":2,"slots":1,"births":0,"quantum":"#;
-    let stint = r#"{"version":1,"slots":1,"births":0,"quantum":1,"stint":"#;
-    let semaphore = r#"{"version":1,"slots":1,"births":0,"quantum":1,"semaphores":["#;
-    let files = r#"{"version":1,"slots":1,"births":0,"quantum":1,"semaphores":[],"files":"#;
     let rows: &[Row<'_>] = &[
+        (of(Slots), slots.as_str(), from_births, 1, 64, Field::Slots),
         (
-            of(Version),
-            r#"{"version":"#,
-            from_slots,
-            1,
-            2,
-            Field::Version,
+            of(Births),
+            births.as_str(),
+            from_quantum,
+            0,
+            1_000,
+            Field::Births,
         ),
-        (
-            of(Slots),
-            r#"{"version":1,"slots":"#,
-            from_births,
-            1,
-            64,
-            Field::Slots,
-        ),
-        (
-            of(Slots),
-            r#"{"version":2,"slots":"#,
-            from_births,
-            1,
-            64,
-            Field::Slots,
-        ),
-        (of(Births), births, from_quantum, 0, 1_000, Field::Births),
         (
             of(Quantum),
-            quantum,
+            quantum.as_str(),
             from_semaphores,
             1,
             1_000,
             Field::Quantum,
         ),
-        (of(Stint), stint, from_semaphores, 1, 1 << 40, Field::Stint),
+        (
+            of(Stint),
+            stint.as_str(),
+            from_semaphores,
+            1,
+            1 << 40,
+            Field::Stint,
+        ),
         (
             of(Semaphore),
-            semaphore,
+            semaphore.as_str(),
             from_files,
             0,
             1_000_000,
             Field::Semaphores,
         ),
-        (of(Files), files, from_programs, 1, 16, Field::Files),
+        (
+            of(Files),
+            files.as_str(),
+            from_programs,
+            1,
+            16,
+            Field::Files,
+        ),
     ];
-    have_ranges(&rt, rows);
+    have_ranges(rt, rows);
+}
+
+#[test]
+fn the_numbers_of_scripts(rt: HostRuntime) {
+    let from_slots =
+        r#","slots":1,"births":0,"quantum":1,"semaphores":[],"files":1,"programs":[],"start":[]}"#;
+    let version = NumberAt::Script(OfScript::Version);
+    have_ranges(
+        &rt,
+        &[(version, r#"{"version":"#, from_slots, 1, 2, Field::Version)],
+    );
+    for version in 1..3u64 {
+        have_ranges_in_scripts(&rt, version);
+    }
+}
+
+/// Finds that the number of each step of a script of this version is read over its range, and that of a started process.
+fn have_ranges_in_programs(rt: &(impl Abort + AllocGlobal), version: u64) {
+    use OfScript::{Argument, Start};
+    let of = NumberAt::Script;
+    let head = format!(in rt.alloc();
+        r#"{{"version":{version},"slots":1,"births":0,"quantum":1,"semaphores":[0,0,0],"files":1,"programs":["#
+    ).expect(rt, "memory");
+    let most = 1u64 << 32;
+    let steps = [
+        ("down", 0u64, 2u64),
+        ("up", 0, 2),
+        ("open", 1, most),
+        ("close", 1, most),
+        ("stat", 1, most),
+        ("spawn", 0, 2),
+    ];
+    let after = r#"]],[],[]],"start":[]}"#;
+    for (name, least, most) in steps {
+        let before = format!(in rt.alloc(); r#"{head}[["{name}","#).expect(rt, "memory");
+        let row = (
+            of(Argument),
+            before.as_str(),
+            after,
+            least,
+            most,
+            Field::Programs,
+        );
+        have_ranges(rt, &[row]);
+    }
+    let start = format!(in rt.alloc(); r#"{head}[],[],[]],"start":["#).expect(rt, "memory");
+    have_ranges(rt, &[(of(Start), start.as_str(), "]}", 0, 2, Field::Start)]);
 }
 
 #[test]
 fn the_numbers_of_steps(rt: HostRuntime) {
-    use OfScript::{Argument, Start};
-    let of = NumberAt::Script;
-    let programs = Field::Programs;
-    let most = 1 << 32;
-    let down =
-        r#"{"version":1,"slots":1,"births":0,"quantum":1,"semaphores":[0,0,0],"files":1,"programs":[[["down","#;
-    let up =
-        r#"{"version":1,"slots":1,"births":0,"quantum":1,"semaphores":[0,0,0],"files":1,"programs":[[["up","#;
-    let open =
-        r#"{"version":1,"slots":1,"births":0,"quantum":1,"semaphores":[],"files":1,"programs":[[["open","#;
-    let close =
-        r#"{"version":2,"slots":1,"births":0,"quantum":1,"semaphores":[],"files":1,"programs":[[["close","#;
-    let stat =
-        r#"{"version":1,"slots":1,"births":0,"quantum":1,"semaphores":[],"files":1,"programs":[[["stat","#;
-    let spawn =
-        r#"{"version":1,"slots":1,"births":0,"quantum":1,"semaphores":[],"files":1,"programs":[[["spawn","#;
-    let start =
-        r#"{"version":1,"slots":1,"births":0,"quantum":1,"semaphores":[],"files":1,"programs":[[],[],[]],"start":["#;
-    let after = r#"]]],"start":[]}"#;
-    let rows: &[Row<'_>] = &[
-        (of(Argument), down, after, 0, 2, programs),
-        (of(Argument), up, after, 0, 2, programs),
-        (of(Argument), open, after, 1, most, programs),
-        (of(Argument), close, after, 1, most, programs),
-        (of(Argument), stat, after, 1, most, programs),
-        (
-            of(Argument),
-            spawn,
-            r#"]],[],[]],"start":[]}"#,
-            0,
-            2,
-            programs,
-        ),
-        (of(Start), start, "]}", 0, 2, Field::Start),
-    ];
-    have_ranges(&rt, rows);
+    for version in 1..3u64 {
+        have_ranges_in_programs(&rt, version);
+    }
 }
