@@ -17,6 +17,8 @@ mod histories;
 #[cfg(test)]
 mod inputs;
 #[cfg(test)]
+mod numbers;
+#[cfg(test)]
 mod program;
 #[cfg(test)]
 mod schedules;

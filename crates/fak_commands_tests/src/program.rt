@@ -23,7 +23,7 @@ impl Read for Broken {
 }
 
 /// Whether the program with the words of a line ends with this status, and these texts in its output and that of faults.
-fn ends<R: Read>(
+pub(crate) fn ends<R: Read>(
     rt: &(impl Threads + Wait + Sync),
     alloc: Global,
     line: &str,

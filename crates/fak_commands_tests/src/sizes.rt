@@ -1,6 +1,7 @@
-//! Scripts of all sizes, on each number of processors.
+//! Scripts of all sizes, on each number of processors, by the words that ask for them.
 
 use crate::answers::list_of;
+use crate::program::ends;
 use fak_commands::run_script;
 use std::alloc::{AllocError, Global};
 use std::marker::Sync;
@@ -85,20 +86,26 @@ fn report_of(alloc: Global, sizes: &Sizes) -> Result<String, AllocError> {
     Ok(report)
 }
 
+/// Finds that the program writes this report of a script on this many processors, and ends with this status.
+pub(crate) fn is_reported_on(
+    rt: &(impl Abort + AllocGlobal + Threads + Wait + Sync),
+    processors: u64,
+    script: &str,
+    status: u8,
+    report: &str,
+) {
+    let line = format!(in rt.alloc(); "fak run --processors {processors}").expect(rt, "memory");
+    let want = (status, report, "");
+    let has_ended = ends(rt, rt.alloc(), &line, &mut script.as_bytes(), want);
+    assert!(rt; has_ended == Ok(true), "on {processors}: {script}");
+}
+
 /// Finds that the script has its report on each number of processors.
 fn have_report(rt: &(impl Abort + AllocGlobal + Threads + Wait + Sync), sizes: &Sizes) {
     let script = script_of(rt.alloc(), sizes).expect(rt, "memory");
     let report = report_of(rt.alloc(), sizes).expect(rt, "memory");
     for processors in 1..9u64 {
-        match run_script(rt, rt.alloc(), script.as_bytes(), processors) {
-            Ok(answer) => {
-                assert!(rt;
-                    answer.status == 0 && answer.text.as_slice() == report.as_bytes(),
-                    "{sizes:?} on {processors}"
-                )
-            }
-            Err(fault) => panic!(rt; "{fault:?} at {sizes:?} on {processors}"),
-        }
+        is_reported_on(rt, processors, &script, 0, &report);
     }
 }
 
@@ -110,7 +117,7 @@ fn have_reports(rt: &(impl Abort + AllocGlobal + Threads + Wait + Sync), sizes: 
 }
 
 /// Numbers up to 1,000: each up to 8, those about each power of two, and each hundred.
-fn up_to_1000(alloc: Global) -> Result<Vec<u64>, AllocError> {
+pub(crate) fn up_to_1000(alloc: Global) -> Result<Vec<u64>, AllocError> {
     let mut numbers = Vec::new(alloc);
     for n in 1..9u64 {
         numbers.push(n)?;
@@ -267,5 +274,47 @@ fn many_children_are_born(rt: HostRuntime) {
         for births in [1, 2, 32, 33, 64, 100, 499, 500, 501, 700, 1_000] {
             are_born(&rt, version, births);
         }
+    }
+}
+
+/// A number that looks drawn, not beyond the bound, and small more often than not (xorshift with 13, 7 and 17).
+fn drawn(state: &mut u64, bound: u64) -> u64 {
+    let a = *state ^ (*state << 13);
+    let b = a ^ (a >> 7);
+    *state = b ^ (b << 17);
+    let numbers = bound.saturating_add(1);
+    if numbers == 0 {
+        return 0;
+    }
+    (*state >> 11) % numbers >> (*state % 8)
+}
+
+/// Sizes that are drawn together.
+fn drawn_sizes(state: &mut u64) -> Sizes {
+    let slots = drawn(state, 64).max(1);
+    let programs = drawn(state, 64);
+    Sizes {
+        version: 1 + slots % 2,
+        slots,
+        births: drawn(state, 1_000),
+        quantum: drawn(state, 1_000).max(1),
+        stint: drawn(state, 1 << 40).max(100_000),
+        semaphores: drawn(state, 16),
+        files: drawn(state, 16).max(1),
+        programs,
+        yields: drawn(state, 60),
+        started: if programs == 0 {
+            0
+        } else {
+            drawn(state, slots)
+        },
+    }
+}
+
+#[test]
+fn sizes_that_are_drawn_together(rt: HostRuntime) {
+    let mut state = 88_172_645_463_325_252u64;
+    for _ in 0..100u32 {
+        have_report(&rt, &drawn_sizes(&mut state));
     }
 }
