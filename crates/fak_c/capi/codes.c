@@ -75,6 +75,33 @@ static void limits_are_tested(void) {
         CHECK(is_empty(&seats[i]));
 }
 
+/* Objects of each kind with this number are opened, each with this many seats. */
+static void opens(fak_c_seat *seats, size_t n, uint64_t number, uint64_t stint) {
+    uint64_t wide = number * (UINT64_C(1) << 20);
+    CHECK(fak_c_open(seats, n, number, stint) == FAK_C_OK);
+    for (size_t i = 0; i < n; i++)
+        stands(&seats[i], FAK_C_IDLE, 99, stint);
+    CHECK(fak_c_sem_open(seats, n, wide, number, stint) == FAK_C_OK);
+    CHECK(fak_c_sem_open(seats, n, number, 4097 - number, stint) == FAK_C_OK);
+    CHECK(fak_c_room_open(seats, n, wide, stint) == FAK_C_OK);
+    CHECK(fak_c_room_open(seats, n, number - 1, stint) == FAK_C_OK);
+    CHECK(fak_c_credit_open(seats, n, wide, stint) == FAK_C_OK);
+    CHECK(fak_c_credit_open(seats, n, number - 1, stint) == FAK_C_OK);
+    CHECK(fak_c_files_open(seats, n, number % 16 + 1, stint) == FAK_C_OK);
+    for (size_t i = 0; i < n; i++)
+        CHECK(fak_c_leave(&seats[i]) == FAK_C_OK);
+}
+
+/* No size, no number of seats and no width of a stint is refused. */
+static void each_size_is_opened(void) {
+    static const uint64_t sizes[] = {500, 511, 512, 513, 999, 1000, 1023, 1024, 1025, 2000, 2047, 2048, 2049, 3000, 4000, 4095, 4096};
+    fak_c_seat seats[MOST_SEATS] = {0};
+    for (uint64_t size = 1; size <= 260; size++)
+        opens(seats, size % MOST_SEATS + 1, size, UINT64_C(1) << size % 41);
+    for (size_t i = 0; i < sizeof sizes / sizeof sizes[0]; i++)
+        opens(seats, sizes[i] % MOST_SEATS + 1, sizes[i], LONG_STINT - i);
+}
+
 /* Calls that a seat does not stand for are refused, write nothing and leave it where it is. */
 static void states_are_tested(void) {
     fak_c_seat seats[2] = {0};
@@ -249,6 +276,7 @@ void each_code_is_answered(void) {
     a_seat_moves();
     an_empty_handle_is_refused(&seat);
     limits_are_tested();
+    each_size_is_opened();
     states_are_tested();
     turns_are_waited_for();
     a_stint_ends();
