@@ -164,6 +164,34 @@ alone_left = record {
   halted = [];
 }
 
+-- two semaphores start with the most units
+abbrev pub plenty : ScriptOf
+plenty = record {
+  version = 1;
+  slots = 1;
+  births = 0;
+  quantum = 2;
+  stint = longest_stint;
+  semaphores = 1000000 ∷ 1000000 ∷ [];
+  files = 1;
+  programs = (down 0 ∷ up 1 ∷ []) ∷ [];
+  start = 0 ∷ [];
+}
+
+-- how it is left
+abbrev pub plenty_left : Lists
+plenty_left = record {
+  ready = [];
+  free_slots = 0 ∷ [];
+  counts = 999999 ∷ 1000001 ∷ [];
+  sleepers = [] ∷ [] ∷ [];
+  entries = free_entry ∷ [];
+  births = 0;
+  is_shut = false;
+  ended = record { name = 0 ∷ []; program = 0; slot = 0; position = 2; journal = downed 0 ∷ upped 1 ∷ [] } ∷ [];
+  halted = [];
+}
+
 -- the ready list is shut in the first turn
 abbrev pub curfew : ScriptOf
 curfew = record {

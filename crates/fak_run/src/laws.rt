@@ -5,7 +5,7 @@ pub mod reports;
 ghost use Rattle.std.specs.Prelude.{◌≡◌, ◌≤◌, ℕ, List, [], ◌∷◌, Some, None};
 ghost use Rattle.fak_text.specs.Script.{ScriptOf};
 ghost use Rattle.fak_run.specs.ListScheduler.{EndsIn, Lists};
-ghost use Rattle.fak_run.specs.Examples.{ping_pong, ping_pong_left, family, family_left, crowd, crowd_left, heirs, heirs_left, alone, alone_left, curfew, curfew_left, late_child, late_child_left, reader, reader_left, refused, refused_left, unhurried, unhurried_left, latecomers, latecomers_left, changed, used};
+ghost use Rattle.fak_run.specs.Examples.{ping_pong, ping_pong_left, family, family_left, crowd, crowd_left, heirs, heirs_left, alone, alone_left, plenty, plenty_left, curfew, curfew_left, late_child, late_child_left, reader, reader_left, refused, refused_left, unhurried, unhurried_left, latecomers, latecomers_left, changed, used};
 ghost use Rattle.fak_run.specs.Files.{open_change, close_change, uses_of, free_entry};
 ghost use Rattle.std.specs.List.{All, AllPairs};
 ghost use Rattle.std.specs.List.Sorted.{IsPermutation};
@@ -22,6 +22,7 @@ pub fn the_list_scheduler_ends_known_scripts()
     ensures sleepers { EndsIn crowd crowd_left }
     ensures slots { EndsIn heirs heirs_left }
     ensures stuck { EndsIn alone alone_left }
+    ensures most_units { EndsIn plenty plenty_left }
     ensures shut { EndsIn curfew curfew_left }
     ensures halted_child { EndsIn late_child late_child_left }
     ensures files { EndsIn reader reader_left }

@@ -1,4 +1,4 @@
-use Rattle.std.proofs.Common.{refl}
+use Rattle.fak_run.proofs.Common.{refl}
 use Rattle.fak_run.proofs.laws.the_list_scheduler_ends_known_scripts.Goals as goal
 
 pub returns : goal.returns
@@ -8,6 +8,7 @@ returns c = record {
   sleepers = record { count = 62; reached = refl; still = refl };
   slots = record { count = 47; reached = refl; still = refl };
   stuck = record { count = 42; reached = refl; still = refl };
+  most_units = record { count = 40; reached = refl; still = refl };
   shut = record { count = 47; reached = refl; still = refl };
   halted_child = record { count = 44; reached = refl; still = refl };
   files = record { count = 49; reached = refl; still = refl };

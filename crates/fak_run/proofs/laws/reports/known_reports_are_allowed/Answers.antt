@@ -1,6 +1,4 @@
-use Rattle.fak_run.proofs.Common.{◌≡◌, ℕ, zero, suc, ◌+◌, ◌<◌, min, List, [], ◌∷◌, Some, refl, arith, slice_index, IsPermutation-refl, FitsRow, RowOf, Ended, Stuck, Halted, downed, shut_down, spawned, downs_of, ups_of, lines, opened, stuck_before}
-use Rattle.fak_run.specs.Examples.{used}
-use Rattle.fak_run.specs.ReportExamples.{left_row, opener, pair_at, parent_row}
+use Rattle.fak_run.proofs.Common.{◌≡◌, ℕ, zero, suc, ◌+◌, ◌<◌, min, List, [], ◌∷◌, Some, refl, arith, slice_index, IsPermutation-refl, FitsRow, RowOf, Ended, Stuck, Halted, downed, shut_down, spawned, downs_of, ups_of, lines, opened, stuck_before, used, left_row, opener, pair_at, parent_row}
 use Rattle.fak_run.proofs.ReportExamples.{all_one, one_pairs, sorted_one, OtherName, OtherSlot}
 use Rattle.fak_run.proofs.laws.reports.known_reports_are_allowed.Goals as goal
 

@@ -1,5 +1,4 @@
-use Rattle.fak_run.proofs.Common.{◌<◌, refl, arith}
-use Rattle.fak_run.specs.ReportExamples.{child_row}
+use Rattle.fak_run.proofs.Common.{◌<◌, refl, arith, child_row}
 use Rattle.fak_run.proofs.ReportExamples.{clash}
 use Rattle.fak_run.proofs.laws.reports.reports_with_rows_that_do_not_fit_are_refused.Goals as goal
 

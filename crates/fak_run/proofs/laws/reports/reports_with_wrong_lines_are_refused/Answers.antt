@@ -1,8 +1,4 @@
-use Rattle.std.proofs.lemmas.Grind.{common_steps}
-use Rattle.fak_run.proofs.Common.{◌≡◌, List, [], ◌∷◌, refl, subst, arith, sum_by, NoteOf, opened, free_entry}
-use Rattle.fak_run.specs.Examples.{used}
-use Rattle.fak_run.specs.Replays.{Replays}
-use Rattle.fak_run.specs.ReportExamples.{child_row}
+use Rattle.fak_run.proofs.Common.{◌≡◌, List, [], ◌∷◌, refl, subst, arith, sum_by, NoteOf, opened, free_entry, common_steps, used, Replays, child_row}
 use Rattle.fak_run.proofs.ReportExamples.{clash, only_line}
 use Rattle.fak_run.proofs.laws.reports.reports_with_wrong_lines_are_refused.Goals as goal
 

@@ -1,5 +1,4 @@
-use Rattle.fak_run.proofs.Common.{ℕ, true≢false, refl, arith, sum_by, sum_by-IsPermutation, NameAndProgram}
-use Rattle.fak_run.specs.ReportExamples.{child_row}
+use Rattle.fak_run.proofs.Common.{ℕ, true≢false, refl, arith, sum_by, sum_by-IsPermutation, NameAndProgram, child_row}
 use Rattle.fak_run.proofs.ReportExamples.{clash}
 use Rattle.fak_run.proofs.laws.reports.reports_with_wrong_names_are_refused.Goals as goal
 
