@@ -1,7 +1,6 @@
 -- What the tests of known schedules tell.
-use Rattle.fak_core.specs.QueueProgress.{IsIdleOnce, IsIdleWithin}
 use Rattle.fak_core.specs.QueueSchedule.{QueueEvent, happens, run}
-use Rattle.fak_core.proofs.Common.{Phase, Idle, QueueState, ◌≡◌, ◌⊎◌, ℕ, Bool, true, false, List, [], ◌∷◌, refl, inl, inr, cond}
+use Rattle.fak_core.proofs.Common.{Phase, Idle, QueueState, ℕ, Bool, true, false, List, [], ◌∷◌, cond}
 
 abbrev pub is_idle : {A : Type 0} → Phase A → Bool
 is_idle Idle = true

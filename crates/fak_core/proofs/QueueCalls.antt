@@ -1,16 +1,10 @@
 -- What the calls of a queue core learn from its fields, and from the values that they read.
-use Rattle.std.proofs.lemmas.Grind.{common_steps}
-use Rattle.std.proofs.Common.{arith}
 use Rattle.std.proofs.lemmas.List.{append-nil, reverse-reverse}
-use Rattle.fak_model.proofs.Reversing.{reverse_cons}
-use Rattle.fak_model.proofs.QueueBackwards.{item_same, items_push}
 use Rattle.fak_core.specs.declared.line.CoreMove.{CoreMove}
 use Rattle.fak_core.specs.declared.line.CoreMove.TheVariants as step
 use Rattle.fak_core.specs.declared.line.Line.{Line}
-use Rattle.fak_core.proofs.Common.{Phase, Idle, TestUp, AddUp, BackUp, TicketIn, TurnIn, StoreItem, SetFull, EndInsert, TestLow, SubLow, BackLow, TicketOut, TurnOut, LoadItem, SetFree, EndDelete, SetShut, QueueMove, subst, ◌≡◌, ◌+◌, ◌*◌, ◌/◌, ◌%◌, ◌==◌, int_lt, pos, ◌<◌, ◌++◌, ◌∙◌, ℕ, zero, suc, List, [], ◌∷◌, length, get_or, reverse, Option, Some, None, Ok, refl, ap, sym, slice_get, slice_set, get_or_from_slice_get, slice_get_read, item_at, item_in, items_put, item_of, Kind, Put, Mark, QueueState, load_item, move_by, next_move, past_after}
+use Rattle.fak_core.proofs.Common.{Phase, Idle, TestUp, AddUp, BackUp, TicketIn, TurnIn, StoreItem, SetFull, EndInsert, TestLow, SubLow, BackLow, TicketOut, TurnOut, LoadItem, SetFree, EndDelete, SetShut, QueueMove, subst, ◌≡◌, ◌%◌, int_lt, ◌<◌, ◌++◌, ◌∙◌, ℕ, zero, suc, List, [], ◌∷◌, length, get_or, reverse, Option, Some, None, Ok, refl, ap, sym, slice_get, slice_set, get_or_from_slice_get, slice_get_read, item_at, item_in, items_put, item_of, Kind, Mark, QueueState, load_item, move_by, next_move, past_after, common_steps, arith, reverse_cons, item_same, items_push, Write}
 use Rattle.fak_core.specs.declared.queue.step.Found.TheVariants.{Item}
-use Rattle.fak_core.specs.declared.queue.step.Write.{Write}
-use Rattle.fak_core.specs.declared.queue.step.Write.TheVariants as write
 use Rattle.fak_core.specs.QueueFields.{QueueFields, queue_state, history_of, written_fields, moved_fields, item_left, or_idle, phase_step, step_of, line_of, number_found, IsSound, IsSoundWith, IsStep, LoadsPut}
 use Rattle.fak_core.proofs.QueueSteps.{by_test}
 use Rattle.fak_core.proofs.QueueLoads.{loads_own}
@@ -29,8 +23,7 @@ drawn_is f items h = grind (arith, common_steps, slice_get, item_at_is, items_pu
 
 -- a step depends on the words, and on no other seat
 words_tell : (f : QueueFields) (d : Option ℕ) (p : Phase ℕ) → move_by f.size (queue_state (record f { phases = []; past = [] })) d p ≡ move_by f.size (queue_state f) d p
-words_tell f d (TestUp x) = refl
-words_tell f d _ = refl
+words_tell f d p = grind (arith, common_steps, move_by, queue_state)
 
 -- the step that the code finds
 pub step_found : (f : QueueFields) (items : List ℕ) (i : ℕ) (p : Phase ℕ) (d : Option ℕ) (o : Option (QueueMove ℕ)) → IsSoundWith f items → i < length f.phases → p ≡ get_or f.phases i p
@@ -40,20 +33,12 @@ step_found f items i p d o h within at drawn is = grind (arith, common_steps, ph
 -- ---- what the code writes
 
 put_left : (s : ℕ) (o : Option (Kind ℕ)) (past : List (Mark ℕ)) → items_put (reverse (past_after s o past)) ≡ items_put (reverse past) ++ item_left o
-put_left s None past = sym (append-nil (items_put (reverse past)))
-put_left s (Some κ) past =
-    let m : Mark ℕ = record { seat = s; kind = κ } in
-    ap items_put (reverse_cons m past) ∙ (items_push (reverse past) m ∙ ap (λ l. items_put (reverse past) ++ l) (kind_left s κ))
-  where
-    kind_left : (s : ℕ) (κ : Kind ℕ) → item_in (record { seat = s; kind = κ }) ≡ item_left (Some κ)
-    kind_left s (Put x) = refl
-    kind_left s _ = refl
+put_left s o past = grind (arith, common_steps, items_put, reverse, past_after, item_left, append-nil, reverse_cons, items_push, item_in)
 
 -- a write changes no seat and no mark
 written_same : (f : QueueFields) (w : Write ℕ) (phases : List (Phase ℕ)) (past : List (Mark ℕ))
     → record (written_fields (record f { phases = []; past = [] }) w) { phases = phases; past = past } ≡ record (written_fields f w) { phases = phases; past = past }
-written_same f write.Nothing phases past = refl
-written_same f _ phases past = refl
+written_same f w phases past = grind (arith, common_steps, written_fields)
 
 -- the fields that the code leaves
 pub step_left : (f w : QueueFields) (i : ℕ) (m : QueueMove ℕ) (past : List (Mark ℕ)) → w ≡ written_fields (record f { phases = []; past = [] }) m.write → past ≡ past_after i m.mark f.past
@@ -97,20 +82,10 @@ HasName None n = Unit {0}
 HasName (Some m) n = m.step ≡ n
 
 named : (size : ℕ) (st : QueueState ℕ) (d : Option ℕ) (p : Phase ℕ) → HasName (move_by size st d p) (name_of p)
-named size st d Idle = tt
-named size st d (TestUp x) = by_test (λ (m : QueueMove ℕ). m.step ≡ step.TestUp) st.shut _ _ (λ _. refl) (λ _. by_test (λ (m : QueueMove ℕ). m.step ≡ step.TestUp) (int_lt st.upper (pos size)) _ _ (λ _. refl) (λ _. refl))
-named size st d (AddUp x) = by_test (λ (m : QueueMove ℕ). m.step ≡ step.AddUp) st.shut _ _ (λ _. refl) (λ _. by_test (λ (m : QueueMove ℕ). m.step ≡ step.AddUp) (int_lt st.upper (pos size)) _ _ (λ _. refl) (λ _. refl))
-named size st d (TurnIn k x) = by_test (λ (m : QueueMove ℕ). m.step ≡ step.TurnIn) (st.turn (k % size) == 2 * (k / size)) _ _ (λ _. refl) (λ _. refl)
-named size st d TestLow = by_test (λ (m : QueueMove ℕ). m.step ≡ step.TestLow) (int_lt (pos 0) st.lower) _ _ (λ _. refl) (λ _. refl)
-named size st d SubLow = by_test (λ (m : QueueMove ℕ). m.step ≡ step.SubLow) (int_lt (pos 0) st.lower) _ _ (λ _. refl) (λ _. refl)
-named size st None TicketOut = refl
-named size st (Some x) TicketOut = refl
-named size st d (TurnOut k) = by_test (λ (m : QueueMove ℕ). m.step ≡ step.TurnOut) (st.turn (k % size) == 2 * (k / size) + 1) _ _ (λ _. refl) (λ _. refl)
-named size st d _ = refl
+named size st d p = grind (arith, common_steps, move_by, name_of, HasName, by_test, int_lt)
 
 at_load : (p : Phase ℕ) → name_of p ≡ step.LoadItem → (k : ℕ) × (p ≡ LoadItem k)
-at_load (LoadItem k) e = (k, refl)
-at_load _ e = absurd cc
+at_load p e = grind (arith, common_steps, name_of)
 
 -- a line of a load gives the item that was put under the seat's ticket
 pub load_is : (f : QueueFields) (i : ℕ) (m : QueueMove ℕ) (line : Line) → IsSound f → step_of f i ≡ Ok m → line ≡ line_of i m → line.step ≡ step.LoadItem → LoadsPut f i line.found

@@ -1,11 +1,5 @@
 -- How many seats hold tickets at once, and so how many turns of a cell are still to come.
-use Rattle.std.proofs.lemmas.Grind.{common_steps}
-use Rattle.std.specs.Prelude.{min}
-use Rattle.fak_model.proofs.Leading.{sum_le}
-use Rattle.fak_model.proofs.QueueCounts.{seat_bound}
-use Rattle.fak_model.proofs.QueueDrawn.{in_drawn, stage_beyond, drawn_few}
-use Rattle.fak_core.specs.QueueProgress.{HoldsTicketOf, AreIdleFrom}
-use Rattle.fak_core.proofs.Common.{Phase, TurnIn, StoreItem, SetFull, TurnOut, LoadItem, SetFree, QueueState, stage, sum_below, sum_most, ◌≡◌, ℕ, zero, suc, ◌+◌, ◌-◌, ◌<◌, ◌≤◌, refl, sym, ap, ◌∙◌, inl, inr, arith, same_or_not}
+use Rattle.fak_core.proofs.Common.{Phase, QueueState, stage, sum_below, sum_most, ◌≡◌, ℕ, zero, suc, ◌+◌, ◌-◌, ◌<◌, ◌≤◌, sym, ap, ◌∙◌, inl, inr, arith, same_or_not, common_steps, min, sum_le, seat_bound, in_drawn, stage_beyond, drawn_few, HoldsTicketOf, AreIdleFrom}
 use Rattle.fak_core.proofs.QueueKept.{shown, IsKept}
 use Rattle.fak_core.proofs.QueueTurns.{le_or_lt}
 use Rattle.fak_core.proofs.QueueProgress.{due, held}
@@ -39,13 +33,7 @@ pub below : {A : Type 0} (size seats : ℕ) (st : QueueState A) (s c : ℕ) → 
 below size seats st s c idle h = grind (arith, common_steps, le_or_lt, holds_open)
 
 holds_drawn : {A : Type 0} (size : ℕ) (p : Phase A) (c : ℕ) → HoldsTicketOf size p c → in_drawn (shown p) ≡ 1
-holds_drawn size (TurnIn k x) c h = refl
-holds_drawn size (StoreItem k x) c h = refl
-holds_drawn size (SetFull k x) c h = refl
-holds_drawn size (TurnOut k) c h = refl
-holds_drawn size (LoadItem k) c h = refl
-holds_drawn size (SetFree k) c h = refl
-holds_drawn size _ c h = absurd h
+holds_drawn size p c h = grind (arith, common_steps, in_drawn, shown)
 
 -- ---- turns to come
 

@@ -1,9 +1,5 @@
 -- A deletion loads the item of the Put with its own ticket.
-use Rattle.std.proofs.lemmas.Grind.{common_steps}
-use Rattle.std.proofs.Common.{arith}
-use Rattle.fak_core.proofs.Common.{◌≡◌, ℕ, List, [], ◌∷◌, ◌++◌, Some, reverse, sym, ap, ◌∙◌, subst, inl, inr, IsSome, reverse-reverse, gots, item_at, items_put, Drew, stage, item_of, MayFollow, IsLegalPast, Got, Mark, Getting, item_stays, LoadItem, TicketOut, LoadsItsItem}
-use Rattle.fak_model.proofs.QueueStages.{after_getting}
-use Rattle.fak_model.proofs.QueueBackwards.{item_same, last_of, drew}
+use Rattle.fak_core.proofs.Common.{◌≡◌, ℕ, List, [], ◌∷◌, ◌++◌, Some, reverse, sym, ap, ◌∙◌, subst, inl, inr, IsSome, reverse-reverse, gots, item_at, items_put, Drew, stage, item_of, MayFollow, IsLegalPast, Got, Mark, Getting, item_stays, LoadItem, TicketOut, LoadsItsItem, common_steps, arith, after_getting, item_same, last_of, drew}
 use Rattle.fak_core.specs.QueueMoves.{QueueState, history_of}
 use Rattle.fak_core.proofs.QueueKept.{IsKept, shown}
 use Rattle.fak_core.proofs.QueueReached.{loads_put, draws_put}

@@ -1,7 +1,5 @@
 -- Seats: each cell has one owner at most, and each seat goes on in its own place.
-use Rattle.std.proofs.lemmas.Grind.{common_steps}
-use Rattle.fak_model.proofs.QueueStages.{stage_here, stage_else}
-use Rattle.fak_core.proofs.Common.{Phase, StoreItem, SetFull, LoadItem, SetFree, QueueState, with_at, with_phase, InCell, ◌≡◌, ◌≢◌, ◌⊎◌, ℕ, ◌+◌, ◌-◌, ◌*◌, ◌/◌, ◌%◌, ◌<◌, Bool, List, ◌∷◌, Option, refl, ◌∙◌, subst, inl, inr, arith, ℤ, Kind, Fill, Take, Close, Mark, Putting, Getting, count, puts, gots, upper_count, lower_count, Has, after, stage, MayFollow, putting_one, putting_unfilled, getting_one, getting_untaken}
+use Rattle.fak_core.proofs.Common.{Phase, StoreItem, SetFull, LoadItem, SetFree, QueueState, with_at, with_phase, InCell, ◌≡◌, ◌≢◌, ◌⊎◌, ℕ, ◌+◌, ◌-◌, ◌*◌, ◌/◌, ◌%◌, ◌<◌, Bool, List, ◌∷◌, Option, refl, subst, inl, inr, arith, ℤ, Kind, Fill, Take, Close, Mark, Putting, Getting, count, puts, gots, upper_count, lower_count, Has, after, stage, MayFollow, putting_one, putting_unfilled, getting_one, getting_untaken, common_steps, stage_here, stage_else}
 use Rattle.fak_core.proofs.QueueKept.{shown, TakenBefore, IsReady, Turns, Cells, TellsShut, IsKept}
 use Rattle.fak_core.proofs.QueueTurns.{at_else, by_place, one_ticket, fill_turn, take_turn, le_or_lt}
 
@@ -29,15 +27,10 @@ alone size st s t c z K i j = grind (arith, common_steps, in_cell, filling, one_
 -- ---- what a seat knows stays so
 
 pub ready_more : {A : Type 0} (size : ℕ) (m : Mark A) (h : List (Mark A)) (cell : ℕ → Option A) (p : Phase A) → IsReady size h cell p → IsReady size (m ∷ h) cell p
-ready_more size m h cell (StoreItem k x) r = λ j e. inr (r j e)
-ready_more size m h cell (SetFull k x) r = (λ j e. inr (r.0 j e), r.1)
-ready_more size m h cell (LoadItem k) r = inr r
-ready_more size m h cell (SetFree k) r = inr r
-ready_more size m h cell _ r = tt
+ready_more size m h cell p r = grind (arith, common_steps, IsReady)
 
 pub ready_store : {A : Type 0} (size : ℕ) (h : List (Mark A)) (cell : ℕ → Option A) (c : ℕ) (v : Option A) (p : Phase A) → IsReady size h cell p → (InCell size p c → ⊥) → IsReady size h (with_at cell c v) p
-ready_store size h cell c v (SetFull k x) r un = (r.0, at_else cell c (k % size) v un ∙ r.1)
-ready_store size h cell c v _ r un = r
+ready_store size h cell c v p r un = grind (arith, common_steps, with_at, IsReady, at_else)
 
 -- ---- one seat goes on
 

@@ -1,15 +1,11 @@
 -- A queue core never locks up: while a call is open, some seat is unblocked, and its next step moves its call forward.
-use Rattle.std.proofs.lemmas.Grind.{common_steps}
-use Rattle.std.proofs.Math.Nat.{add-mod_right, add-div_right}
-use Rattle.fak_core.specs.QueueProgress.{MakesProgress, steps_left, steps_made, HoldsTicketOf}
 use Rattle.fak_core.specs.QueueSchedule.{after_step, stepped}
-use Rattle.fak_core.proofs.Common.{Phase, Idle, TestUp, AddUp, BackUp, EndInsert, BackLow, EndDelete, SetShut, TurnIn, StoreItem, SetFull, TestLow, SubLow, TicketOut, TurnOut, LoadItem, SetFree, QueueMove, QueueState, ticket_out, ◌≡◌, ◌≢◌, ◌⊎◌, ℕ, zero, suc, ◌+◌, ◌-◌, ◌*◌, ◌/◌, ◌%◌, ◌<◌, ◌≤◌, int_lt, pos, List, Option, None, Some, refl, sym, ap, ◌∙◌, subst, inl, inr, arith, nat_tests, Kind, Fill, Take, Mark, Putting, Getting, Has, item_of, same_or_not, getting_below, putting_below, putting_unfilled, getting_untaken, contents_bounded, next_move, past_after}
+use Rattle.fak_core.proofs.Common.{Phase, Idle, TurnIn, StoreItem, SetFull, TurnOut, LoadItem, SetFree, QueueMove, QueueState, ticket_out, ◌≡◌, ◌≢◌, ◌⊎◌, ℕ, zero, suc, ◌+◌, ◌-◌, ◌*◌, ◌/◌, ◌%◌, ◌<◌, ◌≤◌, int_lt, List, Option, None, Some, refl, sym, ap, ◌∙◌, subst, inl, inr, arith, nat_tests, Kind, Fill, Take, Mark, Putting, Getting, Has, item_of, same_or_not, getting_below, putting_below, putting_unfilled, getting_untaken, contents_bounded, next_move, past_after, common_steps, add-mod_right, add-div_right, MakesProgress, steps_left, steps_made, HoldsTicketOf, filled_or_putting, taken_or_getting}
 use Rattle.fak_core.proofs.QueueKept.{shown, TakenBefore, IsKept}
 use Rattle.fak_core.proofs.QueueTurns.{at_here, at_else, le_or_lt}
 use Rattle.fak_core.proofs.QueueOwners.{filling, emptying, waits_fill, waits_take}
 use Rattle.fak_core.proofs.QueueSteps.{by_test, found_fill, found_take}
 use Rattle.fak_core.proofs.QueueReached.{draws_put}
-use Rattle.fak_model.proofs.QueueDrawn.{filled_or_putting, taken_or_getting}
 
 -- ---- a step of a seat, in its own phase and in the others'
 
@@ -19,20 +15,16 @@ after_phase p None = p
 after_phase p (Some m) = m.phase
 
 pub step_here : {A : Type 0} (st : QueueState A) (s : ℕ) (o : Option (QueueMove A)) → (after_step st s o).phase s ≡ after_phase (st.phase s) o
-step_here st s None = refl
-step_here st s (Some m) = at_here st.phase s m.phase
+step_here st s o = grind (arith, common_steps, after_step, at_here)
 
 pub step_else : {A : Type 0} (st : QueueState A) (s t : ℕ) (o : Option (QueueMove A)) → t ≢ s → (after_step st s o).phase t ≡ st.phase t
-step_else st s t None n = refl
-step_else st s t (Some m) n = at_else st.phase s t m.phase n
+step_else st s t o n = grind (arith, common_steps, after_step, at_else)
 
 marked_more : {A : Type 0} (s : ℕ) (o : Option (Kind A)) (h : List (Mark A)) (κ : Kind A) → Has κ h → Has κ (past_after s o h)
-marked_more s None h κ e = e
-marked_more s (Some k) h κ e = inr e
+marked_more s o h κ e = grind (arith, common_steps, past_after)
 
 pub step_more : {A : Type 0} (st : QueueState A) (s : ℕ) (o : Option (QueueMove A)) (κ : Kind A) → Has κ st.past → Has κ (after_step st s o).past
-step_more st s None κ e = e
-step_more st s (Some m) κ e = marked_more s m.mark st.past κ e
+step_more st s o κ e = grind (arith, common_steps, after_step, marked_more)
 
 -- ---- who is unblocked
 
@@ -44,27 +36,15 @@ IsUnblocked size h (TurnOut k) = Has (Fill k) h
 IsUnblocked size h _ = Unit {0}
 
 pub unblocked_more : {A : Type 0} (size : ℕ) (h h' : List (Mark A)) (p : Phase A) → ((κ : Kind A) → Has κ h → Has κ h') → IsUnblocked size h p → IsUnblocked size h' p
-unblocked_more size h h' Idle more f = f
-unblocked_more size h h' (TurnIn k x) more f = λ j e. more (Take j) (f j e)
-unblocked_more size h h' (TurnOut k) more f = more (Fill k) f
-unblocked_more size h h' _ more f = tt
+unblocked_more size h h' p more f = grind (arith, common_steps)
 
 out_falls : {A : Type 0} (n : ℕ) (o : Option A) (x : A) → o ≡ Some x → steps_left {A = A} (ticket_out n o).phase < 5
-out_falls n None x e = absurd cc
-out_falls n (Some y) x e = omega arith
+out_falls n o x e = grind (arith, common_steps, steps_left, ticket_out)
 
 -- the step of an unblocked seat leaves it fewer steps
 falls : {A : Type 0} (size : ℕ) (st : QueueState A) (s : ℕ) (p : Phase A) → 0 < size → IsKept size st → st.phase s ≡ p → IsUnblocked size st.past p
     → steps_left (after_phase p (next_move size st p)) < steps_left p
-falls size st s Idle z K e f = absurd f
-falls {A} size st s (TestUp x) z K e f = grind (arith, common_steps, by_test, steps_left, int_lt, pos)
-falls {A} size st s (AddUp x) z K e f = grind (arith, common_steps, by_test, steps_left, int_lt, pos)
-falls {A} size st s (TurnIn k x) z K e f = grind (arith, common_steps, filling, shown, by_test, steps_left, nat_tests)
-falls {A} size st s TestLow z K e f = by_test (λ (m : QueueMove A). steps_left m.phase < 7) (int_lt (pos 0) st.lower) _ _ (λ _. omega arith) (λ _. omega arith)
-falls {A} size st s SubLow z K e f = by_test (λ (m : QueueMove A). steps_left m.phase < 6) (int_lt (pos 0) st.lower) _ _ (λ _. omega arith) (λ _. omega arith)
-falls size st s TicketOut z K e f = let d = draws_put size st s K e in out_falls st.draws_out (item_of st.past st.draws_out) d.0 d.1
-falls {A} size st s (TurnOut k) z K e f = grind (arith, common_steps, emptying, shown, by_test, steps_left, nat_tests)
-falls size st s _ z K e f = omega arith
+falls size st s p z f e f' = grind (arith, common_steps, steps_left, next_move, IsKept, by_test, int_lt, filling, shown, nat_tests, draws_put, out_falls, item_of, emptying)
 
 pub unblocked_falls : {A : Type 0} (size : ℕ) (st : QueueState A) (s : ℕ) → 0 < size → IsKept size st → IsUnblocked size st.past (st.phase s) → steps_left ((stepped size st s).phase s) < steps_left (st.phase s)
 unblocked_falls size st s z K f = grind (arith, common_steps, steps_left, step_here, next_move, falls)
@@ -74,26 +54,12 @@ abbrev Counts : {A : Type 0} → ℕ → Phase A → Type 0
 Counts n p = (p ≡ Idle) ⊎ (steps_made p ≡ n + 1)
 
 out_counts : {A : Type 0} (n : ℕ) (o : Option A) (x : A) → o ≡ Some x → Counts 2 (ticket_out n o).phase
-out_counts n None x e = absurd cc
-out_counts n (Some y) x e = inr refl
+out_counts n o x e = grind (arith, common_steps, ticket_out)
 
 -- the step of an unblocked seat is one more, or its call's last
 counts : {A : Type 0} (size : ℕ) (st : QueueState A) (s : ℕ) (p : Phase A) → 0 < size → IsKept size st → st.phase s ≡ p → IsUnblocked size st.past p
     → Counts (steps_made p) (after_phase p (next_move size st p))
-counts size st s Idle z K e f = absurd f
-counts {A} size st s (TestUp x) z K e f = grind (arith, common_steps, by_test, int_lt, pos)
-counts {A} size st s (AddUp x) z K e f = grind (arith, common_steps, by_test, int_lt, pos)
-counts {A} size st s (TurnIn k x) z K e f = grind (arith, common_steps, filling, shown, by_test, nat_tests)
-counts {A} size st s TestLow z K e f = by_test (λ (m : QueueMove A). Counts 0 m.phase) (int_lt (pos 0) st.lower) _ _ (λ _. inr refl) (λ _. inl refl)
-counts {A} size st s SubLow z K e f = by_test (λ (m : QueueMove A). Counts 1 m.phase) (int_lt (pos 0) st.lower) _ _ (λ _. inr refl) (λ _. inr refl)
-counts size st s TicketOut z K e f = let d = draws_put size st s K e in out_counts st.draws_out (item_of st.past st.draws_out) d.0 d.1
-counts {A} size st s (TurnOut k) z K e f = grind (arith, common_steps, emptying, shown, by_test, nat_tests)
-counts size st s (BackUp x) z K e f = inl refl
-counts size st s (EndInsert k) z K e f = inl refl
-counts size st s BackLow z K e f = inl refl
-counts size st s (EndDelete k) z K e f = inl refl
-counts size st s SetShut z K e f = inl refl
-counts size st s _ z K e f = inr refl
+counts size st s p z f e f' = grind (arith, common_steps, steps_made, next_move, IsKept, by_test, int_lt, filling, shown, nat_tests, draws_put, out_counts, item_of, emptying)
 
 pub step_counted : {A : Type 0} (size : ℕ) (st : QueueState A) (s : ℕ) → 0 < size → IsKept size st → IsUnblocked size st.past (st.phase s)
     → ((stepped size st s).phase s ≡ Idle) ⊎ (steps_made ((stepped size st s).phase s) ≡ steps_made (st.phase s) + 1)
@@ -115,16 +81,10 @@ due size (SetFree k) = 2 * (k / size) + 1
 due size _ = 0
 
 putting_place : {A : Type 0} (size : ℕ) (p : Phase A) (k : ℕ) (x : A) → shown p ≡ Putting k x → HoldsTicketOf size p (k % size) × (due size p ≡ 2 * (k / size))
-putting_place size (TurnIn j y) k x e = let same : j ≡ k = cc in (ap (λ i. i % size) same, ap (λ i. 2 * (i / size)) same)
-putting_place size (StoreItem j y) k x e = let same : j ≡ k = cc in (ap (λ i. i % size) same, ap (λ i. 2 * (i / size)) same)
-putting_place size (SetFull j y) k x e = let same : j ≡ k = cc in (ap (λ i. i % size) same, ap (λ i. 2 * (i / size)) same)
-putting_place size _ k x e = absurd cc
+putting_place size p k x e = grind (arith, common_steps, shown)
 
 getting_place : {A : Type 0} (size : ℕ) (p : Phase A) (k : ℕ) → shown p ≡ Getting k → HoldsTicketOf size p (k % size) × (due size p ≡ 2 * (k / size) + 1)
-getting_place size (TurnOut j) k e = let same : j ≡ k = cc in (ap (λ i. i % size) same, ap (λ i. 2 * (i / size) + 1) same)
-getting_place size (LoadItem j) k e = let same : j ≡ k = cc in (ap (λ i. i % size) same, ap (λ i. 2 * (i / size) + 1) same)
-getting_place size (SetFree j) k e = let same : j ≡ k = cc in (ap (λ i. i % size) same, ap (λ i. 2 * (i / size) + 1) same)
-getting_place size _ k e = absurd cc
+getting_place size p k e = grind (arith, common_steps, shown)
 
 -- who holds a ticket inserts or deletes under it
 holder : {A : Type 0} (size : ℕ) (p : Phase A) (c : ℕ) → HoldsTicketOf size p c
@@ -143,13 +103,7 @@ not_passed size st s c K h = grind (arith, common_steps, holder, le_or_lt, putti
 
 -- a seat whose turn has come is unblocked
 pub turn_unblocks : {A : Type 0} (size : ℕ) (st : QueueState A) (c : ℕ) (p : Phase A) → 0 < size → IsKept size st → HoldsTicketOf size p c → st.turn c ≡ due size p → IsUnblocked size st.past p
-turn_unblocks size st c (TurnIn k x) z K h t = found_fill size st.past st.turn k z K.turns (ap st.turn h ∙ t)
-turn_unblocks size st c (TurnOut k) z K h t = found_take size st.past st.turn k K.turns (ap st.turn h ∙ t)
-turn_unblocks size st c (StoreItem k x) z K h t = tt
-turn_unblocks size st c (SetFull k x) z K h t = tt
-turn_unblocks size st c (LoadItem k) z K h t = tt
-turn_unblocks size st c (SetFree k) z K h t = tt
-turn_unblocks size st c _ z K h t = absurd h
+turn_unblocks size st c p z f h t = grind (arith, common_steps, IsKept, found_fill, found_take)
 
 -- the insertion holds up the deletion of its ticket
 filler : {A : Type 0} (size : ℕ) (st : QueueState A) (s k : ℕ) → IsKept size st → st.phase s ≡ TurnOut k → (Has (Fill k) st.past → ⊥) → (t : ℕ) × (x : A) × (shown (st.phase t) ≡ Putting k x)
@@ -210,10 +164,7 @@ someone_unblocked size st s z K n = someone size st s (st.phase s) z K refl n
 
 -- a seat is unblocked, or its step leaves it where it stands
 pub unblocked_or_stays : {A : Type 0} (size : ℕ) (st : QueueState A) (p : Phase A) → 0 < size → IsKept size st → IsUnblocked size st.past p ⊎ (after_phase p (next_move size st p) ≡ p)
-unblocked_or_stays size st Idle z K = inr refl
-unblocked_or_stays {A} size st (TurnIn k x) z K = grind (arith, common_steps, same_or_not, found_fill, by_test, nat_tests)
-unblocked_or_stays {A} size st (TurnOut k) z K = grind (arith, common_steps, same_or_not, found_take, by_test, nat_tests)
-unblocked_or_stays size st _ z K = inl tt
+unblocked_or_stays size st p z e = grind (arith, common_steps, next_move, IsKept, same_or_not, found_fill, by_test, nat_tests, found_take)
 
 pub moves_unblocked : {A : Type 0} (size : ℕ) (st : QueueState A) (s : ℕ) → 0 < size → IsKept size st → MakesProgress size st s → IsUnblocked size st.past (st.phase s)
 moves_unblocked size st s z K g = grind (arith, common_steps, unblocked_or_stays, step_here, next_move)

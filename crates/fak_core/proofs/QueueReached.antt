@@ -1,8 +1,5 @@
 -- A reached state: what holds of it, and which states one more event leads to.
-use Rattle.std.proofs.lemmas.Grind.{common_steps}
-use Rattle.std.proofs.Common.{arith}
-use Rattle.fak_model.proofs.QueueLiteral.{to_literal}
-use Rattle.fak_core.proofs.Common.{Phase, Idle, TestUp, TestLow, TicketOut, LoadItem, SetShut, QueueMove, ◌≡◌, ◌⊎◌, ℕ, ◌%◌, ◌<◌, ◌++◌, cond, Bool, true, false, List, [], ◌∷◌, Some, refl, sym, ap, ◌∙◌, subst, inl, inr, reverse-reverse, IsQueueHistory, count, gots, stage, item_of, IsLegalPast, getting_untaken, item_there, claimed_out_left}
+use Rattle.fak_core.proofs.Common.{Phase, Idle, TestUp, TestLow, TicketOut, LoadItem, SetShut, QueueMove, ◌≡◌, ◌⊎◌, ℕ, ◌%◌, ◌<◌, ◌++◌, cond, Bool, true, false, List, [], ◌∷◌, Some, refl, sym, ap, ◌∙◌, subst, reverse-reverse, IsQueueHistory, count, gots, stage, item_of, IsLegalPast, getting_untaken, item_there, claimed_out_left, common_steps, arith, to_literal}
 use Rattle.fak_core.specs.QueueMoves.{QueueState, next_move, moved, with_phase, history_of}
 use Rattle.fak_core.specs.QueueSchedule.{QueueEvent, Inserts, Deletes, Shuts, Advances, opening, after_step, move_from, begun, happens, run, reached, IsReached}
 use Rattle.fak_core.proofs.QueueKept.{IsKept, shown}
@@ -11,16 +8,13 @@ use Rattle.fak_core.proofs.QueueSteps.{kept_opening, kept_run}
 -- ---- choices between two states
 
 pub true_or_false : (b : Bool) → (b ≡ true) ⊎ (b ≡ false)
-true_or_false true = inl refl
-true_or_false false = inr refl
+true_or_false b = grind (arith, common_steps)
 
 pub if_true : {B : Type 0} (P : B → Type 0) (b : Bool) (x y : B) → b ≡ true → P (cond b x y) → P x
-if_true P true x y e p = p
-if_true P false x y e p = absurd cc
+if_true P b x y e p = grind (arith, common_steps)
 
 pub if_false : {B : Type 0} (P : B → Type 0) (b : Bool) (x y : B) → b ≡ false → P (cond b x y) → P y
-if_false P true x y e p = absurd cc
-if_false P false x y e p = p
+if_false P b x y e p = grind (arith, common_steps)
 
 -- ---- what holds of a reached state
 

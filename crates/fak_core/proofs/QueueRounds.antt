@@ -1,12 +1,9 @@
 -- Rounds of events: within few of them each call that is open ends.
-use Rattle.std.proofs.lemmas.Grind.{common_steps}
 use Rattle.std.proofs.lemmas.List.Elements.{All-cons, All-nil, All-replicate, All-weaker}
 use Rattle.std.proofs.Math.ListN.{length-replicate}
-use Rattle.std.specs.Prelude.{min}
 use Rattle.std.specs.List.{All, Contains}
-use Rattle.fak_core.specs.QueueProgress.{steps_left, HoldsTicketOf, AreIdleFrom, EachSteps, IsRound, IsIdleOnce, IsIdleWithin, IsAdvance, after_rounds, round_robin, seat_of}
-use Rattle.fak_core.specs.QueueSchedule.{QueueEvent, Inserts, Deletes, Shuts, Advances, happens, run, stepped}
-use Rattle.fak_core.proofs.Common.{Phase, Idle, BackUp, TurnIn, StoreItem, SetFull, EndInsert, BackLow, TurnOut, LoadItem, SetFree, EndDelete, SetShut, QueueState, Mark, ◌%◌, All-head, All-tail, replicate, next_move, ◌≡◌, ◌≢◌, ◌⊎◌, ℕ, zero, suc, ◌+◌, ◌-◌, ◌*◌, ◌<◌, ◌≤◌, List, [], ◌∷◌, length, refl, sym, ap, ◌∙◌, subst, inl, inr, arith, same_or_not}
+use Rattle.fak_core.specs.QueueSchedule.{QueueEvent, Advances, happens, run, stepped}
+use Rattle.fak_core.proofs.Common.{Phase, Idle, BackUp, TurnIn, StoreItem, SetFull, EndInsert, BackLow, TurnOut, LoadItem, SetFree, EndDelete, SetShut, QueueState, Mark, ◌%◌, All-head, All-tail, replicate, next_move, ◌≡◌, ◌≢◌, ◌⊎◌, ℕ, zero, suc, ◌+◌, ◌-◌, ◌*◌, ◌<◌, ◌≤◌, List, [], ◌∷◌, length, refl, sym, ap, ◌∙◌, subst, inl, inr, arith, same_or_not, common_steps, min, steps_left, HoldsTicketOf, AreIdleFrom, EachSteps, IsRound, IsIdleOnce, IsIdleWithin, IsAdvance, after_rounds, round_robin, seat_of}
 use Rattle.fak_core.proofs.QueueKept.{IsKept}
 use Rattle.fak_core.proofs.QueueTurns.{le_or_lt}
 use Rattle.fak_core.proofs.QueueSteps.{kept_event, kept_run}
@@ -15,8 +12,7 @@ use Rattle.fak_core.proofs.QueueHolders.{below, few_turns}
 use Rattle.fak_core.proofs.QueueEvents.{idle_or_not, none_left, steps_few, holds_open, turn_event, other_same, goes_on_event, no_more_event}
 
 pub contains_cases : {X : Type 0} (x y : X) (ys : List X) → Contains (y ∷ ys) x → (y ≡ x) ⊎ Contains ys x
-contains_cases x y ys (zero, l, e) = inl e
-contains_cases x y ys (suc k, l, e) = inr (k, omega arith, e)
+contains_cases x y ys v = grind (arith, common_steps)
 
 pub contains_none : {X : Type 0} (x : X) → Contains [] x → ⊥
 contains_none x (k, l, e) = omega arith
@@ -32,8 +28,7 @@ idle_now size [] st s e = e
 idle_now size (r ∷ rs) st s e = inl (idle_first size r st s e)
 
 sooner : {X Y Z : Type 0} → Y ⊎ Z → (X ⊎ Y) ⊎ Z
-sooner (inl y) = inl (inr y)
-sooner (inr z) = inr z
+sooner e = grind (arith, common_steps)
 
 until : {A : Type 0} (size s : ℕ) (P : QueueState A → Type 0) → 0 < size → ((st : QueueState A) (e : QueueEvent A) → IsKept size st → st.phase s ≢ Idle → P st → P (happens size st e))
     → (es : List (QueueEvent A)) (st : QueueState A) → IsKept size st → P st → IsIdleOnce size es st s ⊎ P (run size es st)
@@ -70,16 +65,10 @@ idle_last size (d ∷ es) st s e = inr (idle_last size es (happens size st d) s 
 -- ---- who never waits
 
 last_unblocked : {A : Type 0} (size : ℕ) (h : List (Mark A)) (p : Phase A) → steps_left p ≡ 1 → IsUnblocked size h p
-last_unblocked size h Idle l = absurd (omega arith)
-last_unblocked size h (TurnIn k x) l = absurd (omega arith)
-last_unblocked size h (TurnOut k) l = absurd (omega arith)
-last_unblocked size h _ l = tt
+last_unblocked size h p l = grind (arith, common_steps, steps_left, IsUnblocked)
 
 early_unblocked : {A : Type 0} (size : ℕ) (h : List (Mark A)) (p : Phase A) → 5 ≤ steps_left p → IsUnblocked size h p
-early_unblocked size h Idle l = absurd (omega arith)
-early_unblocked size h (TurnIn k x) l = absurd (omega arith)
-early_unblocked size h (TurnOut k) l = absurd (omega arith)
-early_unblocked size h _ l = tt
+early_unblocked size h p l = grind (arith, common_steps, steps_left, IsUnblocked)
 
 -- the last step of a call
 low_ends : {A : Type 0} (size : ℕ) (es : List (QueueEvent A)) (st : QueueState A) (s : ℕ) → 0 < size → IsKept size st → Contains es (Advances s) → steps_left (st.phase s) ≤ 1 → IsIdleOnce size es st s
@@ -91,13 +80,7 @@ low_ends size es st s z K has l = elim (one_less size s 0 z (λ t kept n e. last
 -- ---- a cell's turn comes
 
 holds_left : {A : Type 0} (size : ℕ) (p : Phase A) (c : ℕ) → HoldsTicketOf size p c → (2 ≤ steps_left p) × (steps_left p ≤ 4)
-holds_left size (TurnIn k x) c h = (omega arith, omega arith)
-holds_left size (StoreItem k x) c h = (omega arith, omega arith)
-holds_left size (SetFull k x) c h = (omega arith, omega arith)
-holds_left size (TurnOut k) c h = (omega arith, omega arith)
-holds_left size (LoadItem k) c h = (omega arith, omega arith)
-holds_left size (SetFree k) c h = (omega arith, omega arith)
-holds_left size _ c h = absurd h
+holds_left size p c h = grind (arith, common_steps, steps_left)
 
 turn_run : {A : Type 0} (size : ℕ) (es : List (QueueEvent A)) (st : QueueState A) (c : ℕ) → 0 < size → IsKept size st → st.turn c ≤ (run size es st).turn c
 turn_run size [] st c z K = omega arith
@@ -108,8 +91,7 @@ abbrev Owes : {A : Type 0} → ℕ → QueueState A → ℕ → ℕ → ℕ → 
 Owes size st t c v r = (v < st.turn c) ⊎ (HoldsTurn size st t c v × (steps_left (st.phase t) ≤ r))
 
 owes_event : {A : Type 0} (size : ℕ) (st : QueueState A) (e : QueueEvent A) (t c v r : ℕ) → 0 < size → IsKept size st → Owes size st t c v r → Owes size (happens size st e) t c v r
-owes_event size st e t c v r z K (inl l) = inl (omega (arith, turn_event size st e c z K))
-owes_event size st e t c v r z K (inr h) = grind (arith, common_steps, goes_on_event, no_more_event, holds_open)
+owes_event size st e t c v r z e' f = grind (arith, common_steps, happens, IsKept, turn_event, goes_on_event, no_more_event, holds_open)
 
 owes_own : {A : Type 0} (size : ℕ) (st : QueueState A) (t c v r : ℕ) → 0 < size → IsKept size st → v ≤ st.turn c → Owes size st t c v (suc r) → Owes size (happens size st (Advances t)) t c v r
 owes_own size st t c v r z K b (inl l) = inl (omega (arith, turn_event size st (Advances t) c z K))
@@ -147,8 +129,7 @@ abbrev Closing : {A : Type 0} → ℕ → QueueState A → ℕ → ℕ → ℕ �
 Closing size st s c n = (steps_left (st.phase s) ≤ 1) ⊎ HoldsTurn size st s c n
 
 closing_event : {A : Type 0} (size : ℕ) (st : QueueState A) (e : QueueEvent A) (s c n : ℕ) → 0 < size → IsKept size st → st.phase s ≢ Idle → Closing size st s c n → Closing size (happens size st e) s c n
-closing_event size st e s c n z K is_open (inl few) = inl (omega (arith, no_more_event size st e s is_open, few))
-closing_event size st e s c n z K is_open (inr h) = elim (goes_on_event size st e s c n z K h) [ inl on ↦ inr on | inr past ↦ inl past.1 ]
+closing_event size st e s c n z v is_open f = grind (arith, common_steps, happens, IsKept, no_more_event, goes_on_event)
 
 -- each turn of the cell up to this one is held by a fair seat
 abbrev AllHeld : {A : Type 0} → (ℕ → Type 0) → ℕ → QueueState A → ℕ → ℕ → Type 0
@@ -164,19 +145,16 @@ held_run Fair size [] st c n z K all = all
 held_run Fair size (e ∷ es) st c n z K all = held_run Fair size es (happens size st e) c n z (kept_event size st e z K) (held_event Fair size st e c n z K all)
 
 soon : {A : Type 0} (size : ℕ) (rs : List (List (QueueEvent A))) (st : QueueState A) (s : ℕ) → 0 < size → IsKept size st → All (λ (r : List (QueueEvent A)). Contains r (Advances s)) rs → 1 ≤ length rs → steps_left (st.phase s) ≤ 1 → IsIdleWithin size rs st s
-soon size [] st s z K fair more l = absurd (omega arith)
-soon {A} size (r ∷ rs) st s z K fair more l = inl (low_ends size r st s z K (All-head (λ (r : List (QueueEvent A)). Contains r (Advances s)) r rs fair) l)
+soon size rs st s z f fair more l = grind (arith, common_steps, length, steps_left, IsKept, IsIdleWithin, low_ends)
 
 -- a round brings the seat to rest, or what holds after it does
 then : {A : Type 0} (size : ℕ) (P : QueueState A → Type 0) (r : List (QueueEvent A)) (rs : List (List (QueueEvent A))) (st : QueueState A) (s : ℕ) → IsIdleOnce size r st s ⊎ P (run size r st)
     → (P (run size r st) → IsIdleWithin size rs (run size r st) s) → IsIdleWithin size (r ∷ rs) st s
-then size P r rs st s (inl once) go = inl once
-then size P r rs st s (inr p) go = inr (go p)
+then size P r rs st s u go = grind (arith, common_steps, run, IsIdleOnce, IsIdleWithin)
 
 pub cell_ends : {A : Type 0} (Fair : ℕ → Type 0) (size s c n : ℕ) → 0 < size → Fair s → (d : ℕ) (rs : List (List (QueueEvent A))) (st : QueueState A) → IsKept size st → Closing size st s c n → AllHeld Fair size st c n
     → n + 1 ≤ st.turn c + d → All (EachSteps Fair) rs → 3 * d + 1 ≤ length rs → IsIdleWithin size rs st s
-cell_ends {A} Fair size s c n z own d rs st K (inl few) all near fair more =
-    soon size rs st s z K (All-weaker (EachSteps Fair) (λ (r : List (QueueEvent A)). Contains r (Advances s)) (λ r f. f s own) rs fair) (omega arith) few
+cell_ends {A} Fair size s c n z own d rs st K (inl few) all near fair more = grind (arith, common_steps, soon)
 cell_ends Fair size s c n z own zero rs st K (inr h) all near fair more = let at = not_passed size st s c K h.0 in absurd (omega (arith, h.1))
 cell_ends Fair size s c n z own (suc d) [] st K (inr h) all near fair more = absurd (omega arith)
 cell_ends Fair size s c n z own (suc d) (r1 ∷ []) st K (inr h) all near fair more = absurd (omega arith)
@@ -269,14 +247,7 @@ idle_stays size [] st s only i = i
 idle_stays {A} size (e ∷ es) st s only i = idle_stays size es (happens size st e) s (All-tail (IsAdvance {A = A}) e es only) (advanced e (All-head (IsAdvance {A = A}) e es only))
   where
     advanced : (e : QueueEvent A) → IsAdvance e → (happens size st e).phase s ≡ Idle
-    advanced (Advances u) a = elim (same_or_not s u) [
-      | inl q ↦ (let here : (stepped size st s).phase s ≡ Idle = step_here st s (next_move size st (st.phase s)) ∙ (ap (λ p. after_phase p (next_move size st p)) i) in
-          ap (λ t. (stepped size st t).phase s) (sym q) ∙ here)
-      | inr n ↦ other_same size st (Advances u) s n ∙ i
-    ]
-    advanced (Inserts u x) a = absurd a
-    advanced (Deletes u) a = absurd a
-    advanced (Shuts u) a = absurd a
+    advanced e a = grind (arith, common_steps, happens, IsAdvance, same_or_not, stepped, step_here, next_move, after_phase, other_same)
 
 once_then : {A : Type 0} (size : ℕ) (es : List (QueueEvent A)) (st : QueueState A) (s : ℕ) → All (IsAdvance {A = A}) es → IsIdleOnce size es st s → (run size es st).phase s ≡ Idle
 once_then size [] st s only i = i

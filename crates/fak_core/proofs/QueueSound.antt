@@ -1,10 +1,6 @@
 -- The fields of a queue core stay those of a reached state.
-use Rattle.std.proofs.lemmas.Grind.{common_steps}
 use Rattle.fak_core.specs.declared.call.QueueCall.{QueueCall}
-use Rattle.fak_core.specs.declared.call.QueueCall.TheVariants.{Insert, Delete, Shut}
-use Rattle.fak_core.proofs.Common.{Phase, Idle, TestUp, AddUp, TicketOut, TurnIn, StoreItem, SetFull, TestLow, SubLow, TurnOut, SetFree, QueueMove, ◌≡◌, ℕ, zero, suc, ◌+◌, ◌*◌, ◌/◌, ◌%◌, ◌<◌, ◌≤◌, ◌==◌, List, [], length, get_or, Option, Some, None, Ok, refl, sym, ap, ◌∙◌, subst, arith, pos, int_lt, mod-lt, slice_get, slice_set, replicate, ints, slice_get_within, get_or_from_slice_get, count, puts, gots, stage, item_of, SeatsBelow, length-set, length-replicate, get_or-set_same, get_or-set_other, Kind, Mark, same_or_not, a_put_bit, putting_below, getting_below, count_few, contents_bounded, upper_range, lower_range, QueueState, move_by, next_move, moved, written, past_after, with_at, with_phase, QueueFields, queue_state, opening_fields, written_fields, moved_fields, or_idle, phase_step, step_of, first_phase, phase_begin, begin_of, IsSound, IsSmall, HasTicketBelow, IsWithin}
-use Rattle.fak_core.specs.declared.queue.step.Write.{Write}
-use Rattle.fak_core.specs.declared.queue.step.Write.TheVariants as write
+use Rattle.fak_core.proofs.Common.{Phase, Idle, QueueMove, ◌≡◌, ℕ, zero, suc, ◌<◌, ◌≤◌, List, [], length, get_or, Option, Some, None, Ok, refl, sym, ap, ◌∙◌, subst, arith, int_lt, mod-lt, slice_get, slice_set, replicate, ints, slice_get_within, get_or_from_slice_get, count, puts, gots, stage, item_of, SeatsBelow, length-set, length-replicate, get_or-set_same, get_or-set_other, Kind, Mark, same_or_not, a_put_bit, putting_below, getting_below, count_few, contents_bounded, upper_range, lower_range, QueueState, move_by, next_move, moved, written, past_after, with_at, with_phase, QueueFields, queue_state, opening_fields, written_fields, moved_fields, or_idle, phase_step, step_of, first_phase, phase_begin, begin_of, IsSound, IsSmall, HasTicketBelow, IsWithin, common_steps, Write}
 use Rattle.fak_core.specs.QueueSchedule.{IsReached, opening}
 use Rattle.fak_core.proofs.QueueKept.{IsKept, shown}
 use Rattle.fak_core.proofs.QueueTurns.{at_same, at_else}
@@ -21,21 +17,16 @@ pub written_at : {A : Type 0} (xs : List A) (n : ℕ) (x d : A) → n < length x
 written_at xs n x d l = grind (arith, common_steps, everywhere, get_or, slice_set, with_at, same_or_not, get_or-set_same, at_same, get_or-set_other, at_else)
 
 written_is : (f : QueueFields) (w : Write ℕ) → length f.turns ≡ f.size → length f.cells ≡ f.size → IsWithin f.size w → queue_state (written_fields f w) ≡ written (queue_state f) w
-written_is f (write.Turn c n) t d within = ap (λ (g : ℕ → ℕ). record (queue_state f) { turn = g }) (written_at f.turns c n 0 (omega (arith, t, within)))
-written_is f (write.Cell c x) t d within = ap (λ (g : ℕ → Option ℕ). record (queue_state f) { cell = g }) (written_at f.cells c (Some x) None (omega (arith, d, within)))
-written_is f _ t d within = refl
+written_is f w t d within = grind (arith, common_steps, length, queue_state, written_fields, written, IsWithin, written_at)
 
 size_same : (f : QueueFields) (w : Write ℕ) → (written_fields f w).size ≡ f.size
-size_same f write.Nothing = refl
-size_same f _ = refl
+size_same f w = grind (arith, common_steps, written_fields)
 
 turns_same : (f : QueueFields) (w : Write ℕ) → length (written_fields f w).turns ≡ length f.turns
-turns_same f (write.Turn c n) = length-set f.turns c n
-turns_same f _ = refl
+turns_same f w = grind (arith, common_steps, length, written_fields, length-set)
 
 cells_same : (f : QueueFields) (w : Write ℕ) → length (written_fields f w).cells ≡ length f.cells
-cells_same f (write.Cell c x) = length-set f.cells c (Some x)
-cells_same f _ = refl
+cells_same f w = grind (arith, common_steps, length, written_fields, length-set)
 
 -- the fields after a step show the state after it
 pub moved_is : (f : QueueFields) (i : ℕ) (m : QueueMove ℕ) → length f.turns ≡ f.size → length f.cells ≡ f.size → i < length f.phases → IsWithin f.size m.write
@@ -49,18 +40,7 @@ StaysWithin size None = Unit {0}
 StaysWithin size (Some m) = IsWithin size m.write
 
 stays_within : (size : ℕ) (st : QueueState ℕ) (d : Option ℕ) (p : Phase ℕ) → 0 < size → StaysWithin size (move_by size st d p)
-stays_within size st d (TestUp x) z = by_test (λ (m : QueueMove ℕ). IsWithin size m.write) st.shut _ _ (λ _. tt) (λ _. by_test (λ (m : QueueMove ℕ). IsWithin size m.write) (int_lt st.upper (pos size)) _ _ (λ _. tt) (λ _. tt))
-stays_within size st d (AddUp x) z = by_test (λ (m : QueueMove ℕ). IsWithin size m.write) st.shut _ _ (λ _. tt) (λ _. by_test (λ (m : QueueMove ℕ). IsWithin size m.write) (int_lt st.upper (pos size)) _ _ (λ _. tt) (λ _. tt))
-stays_within size st d (TurnIn k x) z = by_test (λ (m : QueueMove ℕ). IsWithin size m.write) (st.turn (k % size) == 2 * (k / size)) _ _ (λ _. tt) (λ _. tt)
-stays_within size st d (StoreItem k x) z = mod-lt k z
-stays_within size st d (SetFull k x) z = mod-lt k z
-stays_within size st d TestLow z = by_test (λ (m : QueueMove ℕ). IsWithin size m.write) (int_lt (pos 0) st.lower) _ _ (λ _. tt) (λ _. tt)
-stays_within size st d SubLow z = by_test (λ (m : QueueMove ℕ). IsWithin size m.write) (int_lt (pos 0) st.lower) _ _ (λ _. tt) (λ _. tt)
-stays_within size st None TicketOut z = tt
-stays_within size st (Some x) TicketOut z = tt
-stays_within size st d (TurnOut k) z = by_test (λ (m : QueueMove ℕ). IsWithin size m.write) (st.turn (k % size) == 2 * (k / size) + 1) _ _ (λ _. tt) (λ _. tt)
-stays_within size st d (SetFree k) z = mod-lt k z
-stays_within size st d _ z = tt
+stays_within size st d p z = grind (arith, common_steps, move_by, by_test, int_lt, mod-lt)
 
 -- ---- steps
 
@@ -71,12 +51,10 @@ pub record Makes (f : QueueFields) (i : ℕ) (m : QueueMove ℕ) : Type 0 where
   pub is : next_move f.size (queue_state f) phase ≡ Some m
 
 made : (o : Option (QueueMove ℕ)) (m : QueueMove ℕ) → or_idle o ≡ Ok m → o ≡ Some m
-made None m e = absurd cc
-made (Some n) m e = cc
+made o m e = grind (arith, common_steps, or_idle)
 
 made_by : (f : QueueFields) (i : ℕ) (m : QueueMove ℕ) (o : Option (Phase ℕ)) → slice_get f.phases i ≡ o → phase_step f o ≡ Ok m → Makes f i m
-made_by f i m None at e = absurd cc
-made_by f i m (Some p) at e = record { phase = p; at = at; is = made (next_move f.size (queue_state f) p) m e }
+made_by f i m o e e' = grind (arith, common_steps, slice_get, phase_step, made, next_move, queue_state)
 
 pub step_made : (f : QueueFields) (i : ℕ) (m : QueueMove ℕ) → step_of f i ≡ Ok m → Makes f i m
 step_made f i m e = made_by f i m (slice_get f.phases i) refl e
@@ -85,8 +63,7 @@ pub within_of : (f : QueueFields) (i : ℕ) (m : QueueMove ℕ) → IsSound f �
 within_of f i m h s = subst (StaysWithin f.size) s.is (stays_within f.size (queue_state f) (item_of f.past f.draws_out) s.phase h.least)
 
 seats_after : (n i : ℕ) (o : Option (Kind ℕ)) (past : List (Mark ℕ)) → i < n → SeatsBelow n past → SeatsBelow n (past_after i o past)
-seats_after n i None past l b = b
-seats_after n i (Some κ) past l b = (l, b)
+seats_after n i o past l b = grind (arith, common_steps, past_after)
 
 pub moves_on : (f : QueueFields) (i : ℕ) (m : QueueMove ℕ) → IsSound f → step_of f i ≡ Ok m → queue_state (moved_fields f i m) ≡ moved (queue_state f) i m
 moves_on f i m h e = grind (arith, common_steps, step_made, moved_is, slice_get_within, within_of)
@@ -111,9 +88,7 @@ sound_moved f i m h e =
 -- ---- beginnings
 
 begins : (size : ℕ) (st : QueueState ℕ) (i : ℕ) (call : QueueCall) → IsReached size st → st.phase i ≡ Idle → IsReached size (with_phase st i (first_phase call))
-begins size st i (Insert x) r e = inserts size st r i x e
-begins size st i Delete r e = deletes size st r i e
-begins size st i Shut r e = closes size st r i e
+begins size st i call r e = grind (arith, common_steps, with_phase, first_phase, IsReached, inserts, deletes, closes)
 
 -- the seat is idle, and this is its call's first phase
 pub record Begins (f : QueueFields) (i : ℕ) (call : QueueCall) (p : Phase ℕ) : Type 0 where
@@ -121,9 +96,7 @@ pub record Begins (f : QueueFields) (i : ℕ) (call : QueueCall) (p : Phase ℕ)
   pub is : p ≡ first_phase call
 
 begun_by : (f : QueueFields) (i : ℕ) (call : QueueCall) (p : Phase ℕ) (o : Option (Phase ℕ)) → slice_get f.phases i ≡ o → phase_begin o call ≡ Ok p → Begins f i call p
-begun_by f i call p (Some Idle) at e = record { at = at; is = cc }
-begun_by f i call p None at e = absurd cc
-begun_by f i call p (Some _) at e = absurd cc
+begun_by f i call p o f' e = grind (arith, common_steps, slice_get, phase_begin)
 
 pub sound_begun : (f : QueueFields) (i : ℕ) (call : QueueCall) (p : Phase ℕ) → IsSound f → begin_of f i call ≡ Ok p → IsSound (record f { phases = slice_set f.phases i p })
 sound_begun f i call p h e =
@@ -192,11 +165,7 @@ draws_few f h =
     (omega (arith, a, K.draws_in), omega (arith, a, b.0, K.draws_out))
 
 ticket_below : (n : ℕ) (past : List (Mark ℕ)) (s : ℕ) (p : Phase ℕ) → shown p ≡ stage past s → count puts past < n → count gots past < n → HasTicketBelow n p
-ticket_below n past s (TurnIn k x) e a b = omega (arith, a, putting_below past s k x (sym e))
-ticket_below n past s (SetFull k x) e a b = omega (arith, a, putting_below past s k x (sym e))
-ticket_below n past s (TurnOut k) e a b = omega (arith, b, getting_below past s k (sym e))
-ticket_below n past s (SetFree k) e a b = omega (arith, b, getting_below past s k (sym e))
-ticket_below n past s _ e a b = tt
+ticket_below n past s p e a b = grind (arith, common_steps, shown, stage, count, puts, gots, HasTicketBelow, putting_below, getting_below)
 
 pub ticket_few : (f : QueueFields) (i n : ℕ) (p : Phase ℕ) → IsSound f → slice_get f.phases i ≡ Some p → length f.past < n → HasTicketBelow n p
 ticket_few f i n p h at few =

@@ -1,16 +1,13 @@
 -- Each of the moves keeps the invariant.
-use Rattle.std.proofs.lemmas.Grind.{common_steps}
 use Rattle.fak_model.specs.declared.queue.Stage.TheVariants as made
-use Rattle.fak_core.proofs.Common.{Phase, Idle, TestUp, AddUp, BackUp, TicketIn, TurnIn, StoreItem, SetFull, EndInsert, TestLow, SubLow, BackLow, TicketOut, TurnOut, LoadItem, SetFree, EndDelete, SetShut, QueueMove, ◌≡◌, ℕ, ◌+◌, ◌*◌, ◌/◌, ◌%◌, ◌<◌, ◌==◌, cond, Bool, List, [], ◌∷◌, Some, refl, sym, ap, ◌∙◌, subst, inl, arith, ℤ, pos, ◌+ℤ◌, ◌-ℤ◌, int_lt, true, false, ints, count, puts, gots, upper_count, lower_count, Has, after, stage, item_of, MayFollow, nat_tests, Kind, ClaimIn, OverIn, BackIn, NoRoom, Put, Fill, EndIn, ClaimOut, OverOut, BackOut, NoItem, Got, Take, EndOut, Close, Closed, LateIn, Mark, Withdrawing, Claimed, Putting, Filled, WithdrawingOut, ClaimedOut, Getting, Taken, item_there, putting_item, QueueState, with_at, with_phase, with_mark, claimed_out_left, moved, ticket_out}
+use Rattle.fak_core.proofs.Common.{Phase, Idle, TestUp, AddUp, BackUp, TicketIn, TurnIn, StoreItem, SetFull, EndInsert, TestLow, SubLow, BackLow, TicketOut, TurnOut, LoadItem, SetFree, EndDelete, SetShut, QueueMove, ◌≡◌, ℕ, ◌+◌, ◌*◌, ◌/◌, ◌%◌, ◌<◌, ◌==◌, cond, Bool, List, [], ◌∷◌, Some, refl, sym, ap, ◌∙◌, subst, inl, arith, ℤ, pos, ◌+ℤ◌, ◌-ℤ◌, int_lt, true, false, ints, count, puts, gots, upper_count, lower_count, Has, after, stage, item_of, MayFollow, nat_tests, Kind, ClaimIn, OverIn, BackIn, NoRoom, Put, Fill, EndIn, ClaimOut, OverOut, BackOut, NoItem, Got, Take, EndOut, Close, Closed, LateIn, Mark, Withdrawing, Claimed, Putting, Filled, WithdrawingOut, ClaimedOut, Getting, Taken, item_there, putting_item, QueueState, with_at, with_phase, with_mark, claimed_out_left, moved, ticket_out, common_steps, add-mod_right, add-div_right}
 use Rattle.fak_core.proofs.QueueKept.{shown, TakenBefore, IsReady, Turns, IsKept}
-use Rattle.std.proofs.Math.Nat.{add-mod_right, add-div_right}
 use Rattle.fak_core.specs.QueueSchedule.{InCell, QueueEvent, Inserts, Deletes, Shuts, Advances, opening, move_from, begun, happens, run}
 use Rattle.fak_core.proofs.QueueTurns.{at_here, by_place, turns_plain, turns_fill, turns_take, cells_plain, cells_fill, cells_store}
 use Rattle.fak_core.proofs.QueueOwners.{filling, emptying, alone, ready_store, shuts_plain, kept_goes, kept_marks}
 
 pub by_test : {B : Type 0} (P : B → Type 0) (b : Bool) (x y : B) → (b ≡ true → P x) → (b ≡ false → P y) → P (cond b x y)
-by_test P true x y f g = f refl
-by_test P false x y f g = g refl
+by_test P b x y f g = grind (arith, common_steps)
 
 -- a mark that only counts
 pub kept_counts : {A : Type 0} (size : ℕ) (st : QueueState A) (s : ℕ) (p : Phase A) (κ : Kind A) (U L : ℤ) → IsKept size st
@@ -128,14 +125,8 @@ kept_move {A} size st s TicketOut z K e =
     let it = item_there st.past (count gots st.past) (claimed_out_left size st.past K.legal s at) in
     let found : item_of st.past st.draws_out ≡ Some it.0 = ap (item_of st.past) K.draws_out ∙ it.1 in
     subst (λ o. IsKept size (moved st s (ticket_out st.draws_out o))) (sym found) (kept_draw size st s it.0 K at it.1)
-kept_move {A} size st s (TurnOut k) z K e =
-    let at : stage st.past s ≡ Getting k = sym (K.phases s) ∙ ap shown e in
-    by_test (λ (m : QueueMove A). IsKept size (moved st s m)) (st.turn (k % size) == 2 * (k / size) + 1) _ _
-    (λ b. kept_goes size st s (LoadItem k) K (sym at) (found_take size st.past st.turn k K.turns (grind (arith, nat_tests))))
-    (λ b. kept_goes size st s (TurnOut k) K (sym at) tt)
-kept_move size st s (LoadItem k) z K e =
-    let at : stage st.past s ≡ Getting k = sym (K.phases s) ∙ ap shown e in
-    kept_goes size st s (SetFree k) K (sym at) (subst (IsReady size st.past st.cell) e (K.ready s))
+kept_move {A} size st s (TurnOut k) z K e = grind (arith, common_steps, stage, shown, by_test, moved, kept_goes, found_take, nat_tests)
+kept_move size st s (LoadItem k) z K e = grind (arith, common_steps, stage, shown, kept_goes)
 kept_move {A} size st s (SetFree k) z K e =
     let at : stage st.past s ≡ Getting k = sym (K.phases s) ∙ ap shown e in
     let r : Has (Fill k) st.past = subst (IsReady size st.past st.cell) e (K.ready s) in

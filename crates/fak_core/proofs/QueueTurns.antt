@@ -1,8 +1,6 @@
 -- The turn words and the cells, after one more mark or one more write.
-use Rattle.std.proofs.lemmas.Grind.{common_steps}
-use Rattle.fak_core.proofs.Common.{◌≡◌, ◌≢◌, ◌⊎◌, ℕ, ◌+◌, ◌-◌, ◌*◌, ◌/◌, ◌%◌, ◌<◌, ◌≤◌, List, ◌∷◌, Option, Some, ap, ◌∙◌, inl, inr, arith, Fill, Take, Mark, Has, item_of, IsLegalPast, same_or_not, cond_here, cond_else, item_stays, item_there, fill_below, with_at}
+use Rattle.fak_core.proofs.Common.{◌≡◌, ◌≢◌, ◌⊎◌, ℕ, ◌+◌, ◌-◌, ◌*◌, ◌/◌, ◌%◌, ◌<◌, ◌≤◌, List, ◌∷◌, Option, Some, ap, ◌∙◌, inl, inr, arith, Fill, Take, Mark, Has, item_of, IsLegalPast, same_or_not, cond_here, cond_else, item_stays, item_there, fill_below, with_at, common_steps, div-add-mod, add-mod_right, add-div_right}
 use Rattle.fak_core.proofs.QueueKept.{TakenBefore, Turns, Cells}
-use Rattle.std.proofs.Math.Nat.{div-add-mod, add-mod_right, add-div_right}
 
 -- ---- places of a function
 

@@ -1,9 +1,6 @@
 -- What the calls of a room core learn from its state, and from the values that they read.
-use Rattle.std.proofs.lemmas.Grind.{common_steps}
-use Rattle.std.specs.Int.{w128}
 use Rattle.std.proofs.Math.ListN.{length-replicate}
-use Rattle.fak_core.proofs.Common.{RoomCall, CoreSeat, RoomMove, ◌≡◌, ◌≤◌, ◌<◌, ◌∙◌, ◌++◌, ℕ, ℤ, List, length, refl, arith, Ok, Option, ap, sym, subst, slice_set, get_or, w64, to_z, of_z, pos, Result, ints, slice_get_read, RoomMark}
-use Rattle.fak_core.specs.declared.fault.CoreFault.{CoreFault}
+use Rattle.fak_core.proofs.Common.{RoomCall, CoreSeat, RoomMove, ◌≡◌, ◌≤◌, ◌<◌, ◌∙◌, ◌++◌, ℕ, ℤ, List, length, arith, Ok, Option, ap, sym, subst, slice_set, get_or, w64, to_z, of_z, pos, Result, ints, slice_get_read, RoomMark, common_steps, w128, CoreFault}
 use Rattle.fak_core.specs.declared.line.LineMark.{LineMark}
 use Rattle.fak_core.specs.Room.{RoomState, opening, step_of, next_move, or_idle, moved, marks_left, line_of, line_mark, begin_of, begun, amount_of}
 use Rattle.fak_core.specs.RoomSchedule.{RoomEvent, Begins, Advances, IsEvent, IsSound, after_step, after_begin, happens}
@@ -42,8 +39,7 @@ count_read s h = let v = sound_count s h in omega (arith, ints, v.1, v.2)
 -- the step that the code finds
 pub step_found : (s : RoomState) (i : ℕ) (x : CoreSeat) (o : Option RoomMove) → IsSound s → i < length s.seats → x ≡ get_or s.seats i x
     → o ≡ next_move s.bound (to_z w64 (of_z w64 s.count)) x.held x.phase → step_of s i ≡ or_idle o
-step_found s i x o h within at is =
-    step_is s i x o (slice_get_read s.seats _ i x refl within at) (ap (λ (n : ℤ). next_move s.bound n x.held x.phase) (sym (count_read s h)) ∙ sym is)
+step_found s i x o h within at is = grind (arith, common_steps, step_is, slice_get_read, next_move, count_read)
 
 -- the state that the code leaves
 pub step_left : (s : RoomState) (i : ℕ) (m : RoomMove) (past : List RoomMark) → IsSound s → step_of s i ≡ Ok m → past ≡ marks_left i m.mark ++ s.past

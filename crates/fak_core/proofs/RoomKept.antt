@@ -1,13 +1,9 @@
 -- What every step of a room core keeps.
-use Rattle.std.proofs.lemmas.Grind.{common_steps}
 use Rattle.fak_model.specs.declared.room.RoomKind.TheVariants.{Up, Over, Back, No, Release as GivenBack}
 use Rattle.fak_model.specs.Room.{Granted, Refused, Withdrawn, Released, kinds_of_call, up_amount, release_amount, value, amount_held, room_rules, IsFair, IsRoomHistory}
-use Rattle.fak_model.proofs.Appending.{seat_words-other, call_begins, history_none, history_owed}
-use Rattle.fak_model.proofs.Reversing.{reverse_cons}
-use Rattle.fak_core.proofs.Common.{RoomCall, CoreSeat, RoomMove, RoomEvent, Begins, Advances, IsEvent, after_step, after_begin, happens, run, ◌≡◌, ◌≢◌, ℕ, ◌+◌, ◌-◌, ◌<◌, ◌≤◌, Bool, true, false, cond, List, [], ◌∷◌, ◌++◌, length, reverse, Option, Some, None, Ok, Err, refl, ap, sym, ◌∙◌, subst, arith, slice_get, slice_set, ℤ, pos, ◌+ℤ◌, ◌-ℤ◌, ◌≤ℤ◌, ◌<ℤ◌, nat_lt, All, sum_by, nat_tests, ints, All-push, All-head, All-tail, slice_get_within, AreNamed, RoomKind, RoomMark, same_or_not}
+use Rattle.fak_core.proofs.Common.{RoomCall, CoreSeat, RoomMove, RoomEvent, IsEvent, after_step, after_begin, happens, run, ◌≡◌, ◌≢◌, ℕ, ◌+◌, ◌-◌, ◌<◌, ◌≤◌, Bool, true, false, cond, List, [], ◌∷◌, ◌++◌, length, reverse, Option, Some, None, Ok, Err, refl, ap, sym, ◌∙◌, subst, arith, slice_get, slice_set, ℤ, pos, ◌+ℤ◌, ◌-ℤ◌, ◌≤ℤ◌, ◌<ℤ◌, nat_lt, All, sum_by, nat_tests, ints, All-push, All-head, All-tail, slice_get_within, AreNamed, RoomKind, RoomMark, same_or_not, common_steps, seat_words-other, call_begins, history_none, history_owed, reverse_cons, RoomPhase}
 use Rattle.fak_core.specs.declared.call.RoomCall.TheVariants.{Tir, Release}
 use Rattle.fak_core.specs.declared.fault.CoreFault.TheVariants.{NotHeld}
-use Rattle.fak_core.specs.declared.room.phase.RoomPhase.{RoomPhase}
 use Rattle.fak_core.specs.declared.room.phase.RoomPhase.TheVariants.{Idle, Testing, Adding, Backing, Releasing}
 use Rattle.fak_core.specs.Room.{RoomState, history_of, opening, fits, test_move, add_move, back_move, release_move, next_move, moved, or_idle, seat_step, begun_phase, held_with, seat_begin, begun, amount_of, HasRange}
 use Rattle.fak_core.proofs.ListWrites.{length-slice_set, written_here, written_elsewhere, slice_get-replicate}
@@ -120,8 +116,7 @@ found_kept s i x None k at is = k
 found_kept s i x (Some m) k at is = move_kept s i x.held x.phase m k (slice_get_within s.seats i x at) (k.seats i x at) is
 
 step_kept : (s : RoomState) (i : ℕ) (o : Option CoreSeat) → IsKept s → slice_get s.seats i ≡ o → IsKept (after_step s i (seat_step s o))
-step_kept s i None k at = k
-step_kept s i (Some x) k at = found_kept s i x (next_move s.bound s.count x.held x.phase) k at refl
+step_kept s i o k at = grind (arith, common_steps, slice_get, after_step, seat_step, found_kept, next_move)
 
 -- ---- beginning a call
 
@@ -142,15 +137,13 @@ call_kept s i n (Backing e) call k at range = k
 call_kept s i n (Releasing e) call k at range = k
 
 begin_kept : (s : RoomState) (i : ℕ) (call : RoomCall) (o : Option CoreSeat) → IsKept s → slice_get s.seats i ≡ o → amount_of call ≤ 1024 → IsKept (after_begin s i (seat_begin o call))
-begin_kept s i call None k at range = k
-begin_kept s i call (Some x) k at range = call_kept s i x.held x.phase call k (k.seats i x at) range
+begin_kept s i call o k at u = grind (arith, common_steps, slice_get, amount_of, after_begin, seat_begin, call_kept)
 
 -- ---- schedules
 
 -- each event keeps the state what its marks say
 pub event_kept : (s : RoomState) (e : RoomEvent) → IsEvent e → IsKept s → IsKept (happens s e)
-event_kept s (Begins seat call) range k = begin_kept s seat call (slice_get s.seats seat) k refl range.1
-event_kept s (Advances seat) range k = step_kept s seat (slice_get s.seats seat) k refl
+event_kept s e u k = grind (arith, common_steps, happens, IsEvent, begin_kept, slice_get, step_kept)
 
 pub opening_kept : (bound seats : ℕ) → IsKept (opening bound seats)
 opening_kept bound seats = grind (arith, common_steps, history_none, room_rules, length, opening, seats, slice_get-replicate)

@@ -1,9 +1,6 @@
 -- What one more mark does to the value of a room's history, and to what its seat holds.
-use Rattle.std.proofs.lemmas.Grind.{common_steps}
-use Rattle.fak_core.proofs.Common.{◌≡◌, ℕ, ◌+◌, ◌-◌, List, [], ◌∷◌, ◌++◌, arith, ℤ, pos, ◌+ℤ◌, ◌-ℤ◌, sum_by, ints, sum_by_push, words_by, Owes, RoomKind, RoomMark, total_push}
+use Rattle.fak_core.proofs.Common.{◌≡◌, ℕ, ◌+◌, ◌-◌, List, [], ◌∷◌, ◌++◌, arith, ℤ, pos, ◌+ℤ◌, ◌-ℤ◌, sum_by, ints, sum_by_push, words_by, Owes, RoomKind, RoomMark, total_push, common_steps, seat_words-own, releases_le}
 use Rattle.fak_model.specs.Room.{seat_of, kind_of, kinds_of_call, up_amount, over_amount, back_amount, release_amount, value, amount_held, room_rules, IsRoomHistory}
-use Rattle.fak_model.proofs.Appending.{seat_words-own}
-use Rattle.fak_model.proofs.RoomLaw.{releases_le}
 
 -- the kinds of a seat's marks, in order
 abbrev pub kinds_by : ℕ → List RoomMark → List RoomKind

@@ -1,11 +1,6 @@
 -- The reached states of a room core: how they go on, and what holds of them.
-use Rattle.std.proofs.lemmas.Grind.{common_steps}
 use Rattle.std.proofs.Math.ListN.{length-replicate}
-use Rattle.fak_model.specs.declared.room.RoomKind.TheVariants.{Back}
-use Rattle.fak_model.proofs.RoomLaw.{backs_after, call_even, held_fits}
-use Rattle.fak_core.proofs.Common.{RoomCall, CoreSeat, RoomMove, ◌≡◌, ℕ, ◌+◌, ◌-◌, ◌*◌, ◌<◌, ◌≤◌, List, [], ◌∷◌, ◌++◌, length, Option, Some, Ok, Err, refl, ap, ◌∙◌, subst, arith, slice_get, get_or, pos, Result, sum_by, ints, sum_by-cons, All-push, All-nil, slice_get_within, slice_get-get_or, sum_below, RoomKind, RoomMark, kinds_of_call, total, over_amount, back_amount, value, amount_held, room_rules, calls_lead, owes_even, sum_same, sum_parts, sum_plus, sum_most, sum_term}
-use Rattle.fak_core.specs.declared.fault.CoreFault.{CoreFault}
-use Rattle.fak_core.specs.declared.room.phase.RoomPhase.{RoomPhase}
+use Rattle.fak_core.proofs.Common.{RoomCall, CoreSeat, RoomMove, ◌≡◌, ℕ, ◌+◌, ◌-◌, ◌*◌, ◌<◌, ◌≤◌, List, [], ◌∷◌, ◌++◌, length, Option, Some, Ok, refl, ap, ◌∙◌, subst, arith, slice_get, get_or, pos, Result, sum_by, ints, sum_by-cons, All-push, All-nil, slice_get_within, slice_get-get_or, sum_below, RoomKind, RoomMark, kinds_of_call, total, over_amount, back_amount, value, amount_held, room_rules, calls_lead, owes_even, sum_same, sum_parts, sum_plus, sum_most, sum_term, common_steps, Back, backs_after, call_even, held_fits, CoreFault, RoomPhase}
 use Rattle.fak_core.specs.declared.room.phase.RoomPhase.TheVariants.{Idle, Testing, Adding, Backing, Releasing}
 use Rattle.fak_core.specs.Room.{RoomState, history_of, opening, next_move, moved, or_idle, seat_step, step_of, begun_phase, held_with, seat_begin, begin_of, begun, amount_of}
 use Rattle.fak_core.specs.RoomSchedule.{RoomEvent, Begins, Advances, IsEvent, after_step, after_begin, happens, run, IsReached}
@@ -20,16 +15,13 @@ abbrev pub SameShape : RoomState → RoomState → Type 0
 SameShape s t = (t.bound ≡ s.bound) × (length t.seats ≡ length s.seats)
 
 step_shape : (s : RoomState) (i : ℕ) (r : Result RoomMove CoreFault) → SameShape s (after_step s i r)
-step_shape s i (Ok m) = (refl, length-slice_set s.seats i m.seat)
-step_shape s i (Err fault) = (refl, refl)
+step_shape s i r = grind (arith, common_steps, after_step, length-slice_set)
 
 begin_shape : (s : RoomState) (i : ℕ) (r : Result CoreSeat CoreFault) → SameShape s (after_begin s i r)
-begin_shape s i (Ok x) = (refl, length-slice_set s.seats i x)
-begin_shape s i (Err fault) = (refl, refl)
+begin_shape s i r = grind (arith, common_steps, after_begin, length-slice_set)
 
 pub event_shape : (s : RoomState) (e : RoomEvent) → SameShape s (happens s e)
-event_shape s (Begins seat call) = begin_shape s seat (begin_of s seat call)
-event_shape s (Advances seat) = step_shape s seat (step_of s seat)
+event_shape s e = grind (arith, common_steps, happens, begin_shape, begin_of, step_shape, step_of)
 
 run_shape : (es : List RoomEvent) (s : RoomState) → SameShape s (run es s)
 run_shape [] s = (refl, refl)

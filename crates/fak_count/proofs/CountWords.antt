@@ -1,6 +1,5 @@
 -- The word that keeps a count, after a step on it.
-use Rattle.fak_count.proofs.Common.{◌≡◌, ℕ, ◌+◌, ◌-◌, ◌%◌, ◌^◌, ◌<◌, ◌≤◌, ℤ, pos, ◌+ℤ◌, ◌-ℤ◌, List, length-set, set, ap, ◌∙◌, arith, mod-eq_of_lt, get_or-set_same, ints, bias, count_place, KeepsCount}
-use Rattle.std.proofs.Math.Nat.{add-mod_left}
+use Rattle.fak_count.proofs.Common.{◌≡◌, ℕ, ◌+◌, ◌-◌, ◌%◌, ◌^◌, ◌<◌, ◌≤◌, ℤ, pos, ◌+ℤ◌, ◌-ℤ◌, List, length-set, set, ap, ◌∙◌, arith, mod-eq_of_lt, get_or-set_same, ints, bias, count_place, KeepsCount, add-mod_left}
 
 pub writes : (ws : List ℕ) (count new : ℤ) (w : ℕ) → KeepsCount count ws → pos w ≡ pos bias +ℤ new → KeepsCount new (set ws count_place w)
 writes ws count new w k is = record {

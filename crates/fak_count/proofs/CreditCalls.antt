@@ -1,10 +1,5 @@
 -- From the steps of a seat of a credit to what its calls promise.
-use Rattle.fak_count.proofs.Common.{◌≡◌, ℕ, ◌+◌, ◌-◌, ◌<◌, ◌^◌, ℤ, pos, ◌-ℤ◌, List, [], ◌∷◌, length, length-append, refl, ap, sym, ◌∙◌, subst, arith, inl, reverse, map, flat_map, ints, IsAtRest, marks_of, sight, Leaves, ObjectId, object_id, SeatInfo, seat_info, Appends, before_appended, IsSeatToken, bias, rest_after, rest_none, begins_self, token_names, token_left, token_slots, step_appends, token_after, step_before, CreditHolder, credit_mark, credit_object, FoundValue, MadeMark, Observed}
-use Rattle.atomic_table.specs.Seated.{TableId}
-use Rattle.fak_model.specs.declared.credit.CreditKind.{CreditKind}
-use Rattle.fak_model.specs.declared.credit.CreditMark.{CreditMark}
-use Rattle.fak_model.specs.Credit.{kind_of, value, credit_rules}
-use Rattle.fak_count.specs.declared.credits.limits.CreditLimits.{CreditLimits}
+use Rattle.fak_count.proofs.Common.{◌≡◌, ℕ, ◌+◌, ◌-◌, ◌<◌, ◌^◌, ℤ, pos, ◌-ℤ◌, List, [], ◌∷◌, length, length-append, refl, ap, sym, ◌∙◌, subst, arith, inl, reverse, map, flat_map, ints, IsAtRest, marks_of, sight, Leaves, ObjectId, object_id, SeatInfo, seat_info, Appends, before_appended, IsSeatToken, bias, rest_after, rest_none, begins_self, token_names, token_left, token_slots, step_appends, token_after, step_before, CreditHolder, credit_mark, credit_object, FoundValue, MadeMark, Observed, TableId, CreditKind, CreditMark, kind_of, value, credit_rules, CreditLimits}
 use Rattle.fak_count.specs.Credits.{CreditInfo, credit_info, seat_of, credit_seat, MakesCall, Observes}
 
 -- a seat of a credit, with its token m, and what contracts see of both
@@ -56,12 +51,6 @@ module _ (key : CreditLimits) {seats name left : ℕ} {table mine : TableId} {m 
   module _ {found : ℕ} {after : CreditHolder} (told : Observed key m found after) where
     seen : Leaves (credit_object key) m [] tt m.0.left m.1 (FoundValue key found) after
     seen = told name (token_names f)
-
-    pub observed_fits : found < 2 ^ 63
-    observed_fits = seen.told.1
-
-    pub token_observed : IsSeatToken seat_of seats name tt left after
-    token_observed = subst (λ (x : ℕ × ℕ). IsSeatToken seat_of x.0 name tt x.1 after) (λ i. (sym same_seats i, token_left f i)) (token_after seen name (token_names f) tt own_token (token_slots f))
 
     -- the value is observed
     pub call_observed : {now : TableId} {answer : ℤ} → now ≡ mine → answer ≡ pos found -ℤ pos bias → Observes credit old (credit_seat (object_id now seats) name left after) answer

@@ -1,16 +1,7 @@
 -- Each kind of step on a credit keeps the rule, and tells what it did.
-use Rattle.fak_count.proofs.Common.{◌≡◌, ℕ, suc, ◌+◌, ◌-◌, ◌*◌, ◌%◌, ◌^◌, ◌<◌, ◌≤◌, ℤ, pos, ◌+ℤ◌, ◌-ℤ◌, List, [], ◌∷◌, ◌++◌, length, slice_index, refl, ap, sym, ◌∙◌, subst, arith, Some, reverse, ints, reverse-append, some, get_elem?, sight, Leaves, bias, every_history, count_place, KeepsCount, CreditView, CreditHolder, credit_mark, credit_object, opened_credit, IsShownCredit, FoundValue, MadeMark, Observed, HeardJoin}
-use Rattle.std.proofs.Math.Nat.{mul-le-mul}
-use Rattle.atomic_table.specs.Table.{State, Act, keeps, stepped, carried_after, Valid, opening, Allows}
-use Rattle.fak_model.specs.declared.credit.CreditKind.{CreditKind}
+use Rattle.fak_count.proofs.Common.{◌≡◌, ℕ, suc, ◌+◌, ◌-◌, ◌*◌, ◌%◌, ◌^◌, ◌<◌, ◌≤◌, ℤ, pos, ◌+ℤ◌, ◌-ℤ◌, List, [], ◌∷◌, ◌++◌, length, slice_index, refl, ap, sym, ◌∙◌, subst, arith, Some, reverse, ints, reverse-append, some, get_elem?, sight, Leaves, bias, every_history, count_place, KeepsCount, CreditView, CreditHolder, credit_mark, credit_object, opened_credit, IsShownCredit, FoundValue, MadeMark, Observed, HeardJoin, mul-le-mul, State, Act, keeps, stepped, carried_after, Valid, opening, Allows, CreditKind, CreditMark, debit_weight, credit_weight, kind_of, debits, credits, value, AreLawful, Advances, steps, observes, starts, hears, CreditLimits, IsInRange}
 use Rattle.fak_model.specs.declared.credit.CreditKind.TheVariants.{Debit, Credit}
-use Rattle.fak_model.specs.declared.credit.CreditMark.{CreditMark}
-use Rattle.fak_model.specs.Credit.{debit_weight, credit_weight, kind_of, debits, credits, value}
 use Rattle.fak_model.proofs.Leading.{total_push}
-use Rattle.fak_model.proofs.RunningSteps.{AreLawful, Advances, steps, observes}
-use Rattle.fak_model.proofs.RunningSeats.{starts, hears}
-use Rattle.fak_count.specs.declared.credits.limits.CreditLimits.{CreditLimits}
-use Rattle.fak_count.specs.Opening.{IsInRange}
 use Rattle.fak_count.proofs.CountWords.{writes, added, subtracted}
 
 -- ---- the value after one more mark

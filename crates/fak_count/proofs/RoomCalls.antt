@@ -1,14 +1,9 @@
 -- From the steps of a seat of a room to what its calls promise.
-use Rattle.fak_count.proofs.Common.{◌≡◌, ℕ, ◌+◌, ◌<◌, ◌≤◌, List, [], ◌∷◌, ◌++◌, length, refl, ap, sym, ◌∙◌, subst, arith, ℤ, pos, ◌-ℤ◌, reverse, map, sum_by, flat_map, ints, sum_by-append, sum_by-cons, marks_of, sight, ObjectId, object_id, SeatInfo, seat_info, TallyInfo, IsJoined, Appends, before_mark, before_appended, IsSeatToken, bias, Up, Over, Back, No, Release, rest_after, rest_joined, rest_none, begins_self, seen_lawful, token_names, mine_after, begins_after, step_appends, token_after, step_before, appends_then, appends_none, Idle, Adding, Backing, RoomHolder, room_mark, LeavesRoom, Holds, Tested, Added, Lowered}
+use Rattle.fak_count.proofs.Common.{◌≡◌, ℕ, ◌+◌, ◌<◌, ◌≤◌, List, [], ◌∷◌, ◌++◌, length, refl, ap, sym, ◌∙◌, subst, arith, ℤ, pos, ◌-ℤ◌, reverse, map, sum_by, flat_map, ints, sum_by-append, sum_by-cons, marks_of, sight, ObjectId, object_id, SeatInfo, seat_info, TallyInfo, IsJoined, Appends, before_mark, before_appended, IsSeatToken, bias, Up, Over, Back, No, Release, rest_after, rest_joined, rest_none, begins_self, seen_lawful, token_names, mine_after, begins_after, step_appends, token_after, step_before, appends_then, appends_none, Idle, Adding, Backing, RoomHolder, room_mark, LeavesRoom, Tested, Added, Lowered, TableId, RoomKind, RoomMark, releases_le, RoomLimits}
 use Rattle.std.proofs.lemmas.List.{append-nil, map-append}
-use Rattle.atomic_table.specs.Seated.{TableId}
-use Rattle.fak_model.specs.declared.room.RoomKind.{RoomKind}
-use Rattle.fak_model.specs.declared.room.RoomMark.{RoomMark}
 use Rattle.fak_model.specs.Room.{WholeCall, kinds_of_call, seat_of, kind_of, up_amount, release_amount, value, amount_held, room_rules}
 use Rattle.fak_model.proofs.Appending.{history_none}
-use Rattle.fak_model.proofs.RoomLaw.{releases_le}
 use Rattle.fak_core.specs.declared.room.phase.RoomPhase.{RoomPhase}
-use Rattle.fak_count.specs.declared.rooms.limits.RoomLimits.{RoomLimits}
 use Rattle.fak_count.specs.Rooms.{RoomInfo, room_info, up_weight, grants_of, granted_claims, held_amount, room_seat, MakesCall, Withdraws, IsSettled}
 
 -- ---- what a call makes of the claims granted and of what is held

@@ -1,12 +1,8 @@
 -- Each kind of step on a room keeps the rule, and tells what it did.
-use Rattle.fak_count.proofs.Common.{◌≡◌, ◌≢◌, ℕ, ◌+◌, ◌-◌, ◌%◌, ◌^◌, ◌<◌, ◌≤◌, Bool, true, false, List, [], ◌∷◌, ◌++◌, length, slice_index, slice_get, refl, ap, ◌∙◌, subst, arith, Option, Some, None, pos, ◌+ℤ◌, ◌-ℤ◌, ◌≤ℤ◌, ◌<ℤ◌, nat_lt, map, reverse, replicate, Ok, sum_by, nat_tests, ints, slice_get_within, slice_get-get_or, get_or-replicate, some, get_elem?, IsHistory, sight, AreOwn, Leaves, bias, sees_knows, Idle, Testing, Adding, Backing, Releasing, count_place, KeepsCount}
+use Rattle.fak_count.proofs.Common.{◌≡◌, ◌≢◌, ℕ, ◌+◌, ◌-◌, ◌%◌, ◌^◌, ◌<◌, ◌≤◌, Bool, true, false, List, [], ◌∷◌, ◌++◌, length, slice_index, slice_get, refl, ap, ◌∙◌, subst, arith, Option, Some, None, pos, ◌+ℤ◌, ◌-ℤ◌, ◌≤ℤ◌, ◌<ℤ◌, nat_lt, map, reverse, replicate, Ok, sum_by, nat_tests, ints, slice_get_within, slice_get-get_or, get_or-replicate, some, get_elem?, IsHistory, sight, AreOwn, Leaves, bias, sees_knows, Idle, Testing, Adding, Backing, Releasing, count_place, KeepsCount, State, Act, keeps, stepped, carried_after, Valid, opening, Allows, RoomKind, AreLawful, Advances, steps, bears, sees_now, stands_now, starts, hears, RoomLimits, IsInRange}
 use Rattle.std.proofs.Math.ListN.{length-replicate}
-use Rattle.atomic_table.specs.Table.{State, Act, keeps, stepped, carried_after, Valid, opening, Allows}
-use Rattle.fak_model.specs.declared.room.RoomKind.{RoomKind}
 use Rattle.fak_model.specs.declared.room.RoomKind.TheVariants.{Up, Over, Back, No, Release as GivenBack}
 use Rattle.fak_model.specs.Room.{seat_of, kind_of, up_amount, release_amount, room_rules, amount_held}
-use Rattle.fak_model.proofs.RunningSteps.{AreLawful, Advances, steps, bears, sees_now, stands_now}
-use Rattle.fak_model.proofs.RunningSeats.{starts, hears}
 use Rattle.fak_core.specs.declared.call.RoomCall.TheVariants.{Tir, Release}
 use Rattle.fak_core.specs.declared.room.phase.CoreSeat.{CoreSeat}
 use Rattle.fak_core.specs.declared.room.step.RoomMove.{RoomMove}
@@ -15,8 +11,6 @@ use Rattle.fak_core.specs.RoomSchedule.{IsReached}
 use Rattle.fak_core.proofs.ListWrites.{written_here, written_stays}
 use Rattle.fak_core.proofs.RoomKept.{IsKept}
 use Rattle.fak_core.proofs.RoomReached.{opening_reached, reached_move, reached_begin, reached_kept, reached_shape, reached_count, held_within}
-use Rattle.fak_count.specs.declared.rooms.limits.RoomLimits.{RoomLimits}
-use Rattle.fak_count.specs.Opening.{IsInRange}
 use Rattle.fak_count.specs.RoomShown.{RoomView, RoomHolder, room_mark, IsReachedRoom, StandsInRoom, room_object, IsShownRoom, opened_room, Holds, FoundValue, LeavesRoom, Tested, Added, Lowered, HeardJoin}
 use Rattle.fak_count.proofs.CountWords.{writes, added, subtracted}
 

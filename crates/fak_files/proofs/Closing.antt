@@ -1,8 +1,6 @@
 -- What a closed file table shows.
-use Rattle.std.proofs.lemmas.Grind.{common_steps}
-use Rattle.fak_model.specs.declared.file.FileEntry.{FileEntry}
 use Rattle.fak_model.proofs.RunningViews.{sees_whole}
-use Rattle.fak_files.proofs.Common.{FileLimits, word_of, entry_of, entries_after, entry_in, ◌≡◌, ◌≢◌, inl, inr, slice_set, ℕ, zero, suc, ◌+◌, ◌<◌, List, [], ◌∷◌, length, take, slice_get, slice_index, get_or, Some, None, refl, ap, sym, ◌∙◌, subst, arith, reverse, some, some-injective, some-ne-none, get_elem?, file_rules, IsWhole, State, Inode, Uses, FileMark, same_or_not, FileView, IsShownFile, FileHolder}
+use Rattle.fak_files.proofs.Common.{FileLimits, word_of, entry_of, entries_after, entry_in, ◌≡◌, ◌≢◌, inl, inr, slice_set, ℕ, zero, suc, ◌+◌, ◌<◌, List, [], ◌∷◌, length, take, slice_get, slice_index, get_or, Some, None, refl, ap, sym, ◌∙◌, subst, arith, reverse, some, some-injective, some-ne-none, get_elem?, file_rules, IsWhole, State, Inode, Uses, FileMark, same_or_not, FileView, IsShownFile, FileHolder, common_steps, FileEntry}
 
 -- where all seats were joined, the words show what the tally has seen
 pub ends : (table : FileLimits) (s : State (Unit {0}) FileView) (id : ℕ) (m : FileHolder) → IsShownFile table s → get_elem? s.views id ≡ some m.0 → IsWhole table.seats m.0.names → (words : List ℕ) → s.words ≡ words
@@ -29,13 +27,6 @@ pub word_read : (words : List ℕ) (i w : ℕ) → get_elem? words i ≡ some w 
 word_read [] i w e = absurd (some-ne-none w (sym e))
 word_read (x ∷ words) zero w e = some-injective x w e
 word_read (x ∷ words) (suc i) w e = word_read words i w e
-
--- an item of the first ones
-pub first_item : {A : Type 0} (n : ℕ) (row : List A) (i : ℕ) (d : A) → i < length (take n row) → slice_get (take n row) i ≡ Some (get_or row i d)
-first_item zero row i d low = absurd (omega (arith, low))
-first_item (suc n) [] i d low = absurd (omega (arith, low))
-first_item (suc n) (x ∷ row) zero d low = refl
-first_item (suc n) (x ∷ row) (suc i) d low = first_item n row i d (omega (arith, low))
 
 -- the entry that was read joins those before it
 pub read_more : (row : List FileEntry) (i : ℕ) (e : FileEntry) (F : ℕ → FileEntry) → i < length row → e ≡ F i → ((j : ℕ) → j < i → slice_get row j ≡ Some (F j)) → (j : ℕ) → j < i + 1 → slice_get (slice_set row i e) j ≡ Some (F j)
@@ -76,7 +67,3 @@ entry_after h first (suc n) (suc i) j low at = entry_after h (suc first) n i j (
 
 pub entries_after-get : (h : List FileMark) (n i : ℕ) → i < n → slice_get (entries_after h 0 n) i ≡ Some (entry_of h i)
 entries_after-get h n i low = entry_after h 0 n i i low (omega arith)
-
-pub entries_after-length : (h : List FileMark) (first n : ℕ) → length (entries_after h first n) ≡ n
-entries_after-length h first zero = refl
-entries_after-length h first (suc n) = omega (arith, entries_after-length h (suc first) n)

@@ -1,9 +1,7 @@
 -- The count of a file table: what a mark does to it, and how low it may be.
-use Rattle.fak_files.proofs.Common.{◌≡◌, ℕ, ◌+◌, ◌-◌, ◌*◌, ◌≤◌, List, [], ◌∷◌, ◌++◌, refl, ap, ◌∙◌, arith, inl, inr, append_assoc, ℤ, pos, ◌+ℤ◌, ◌-ℤ◌, sum_by, ints, sum_by-cons, AreCalls, AreNamed, seat_words, sum_below, FileKind, Take, Over, Back, No, Set, Give, FileMark, same_or_not, snoc_ind, seat_words-own, seat_words-other, history_front, last_fair}
+use Rattle.fak_files.proofs.Common.{◌≡◌, ℕ, ◌+◌, ◌-◌, ◌*◌, ◌≤◌, List, [], ◌∷◌, ◌++◌, refl, ap, ◌∙◌, arith, inl, inr, append_assoc, ℤ, pos, ◌+ℤ◌, ◌-ℤ◌, sum_by, ints, sum_by-cons, AreCalls, AreNamed, seat_words, sum_below, FileKind, Take, Over, Back, No, Set, Give, FileMark, same_or_not, snoc_ind, seat_words-own, seat_words-other, history_front, last_fair, total_push, sum_same, sum_most, sum_parts, sum_plus, given_push, files_fit, common_steps}
 use Rattle.fak_model.specs.File.{kinds_of_call, kind_of, take_amount, over_amount, back_amount, total, amount_held, gives, count, IsFair, file_rules, IsFileHistory}
-use Rattle.fak_model.proofs.Leading.{total_push, sum_same, sum_most, sum_parts, sum_plus}
 use Rattle.fak_model.proofs.Places.{ends, ends_append, Runs, may_come, rests}
-use Rattle.fak_model.proofs.FileLaw.{given_push, files_fit}
 use Rattle.fak_model.proofs.FileRest.{needs, leads, calls_run, holds_total}
 
 -- ---- one mark more
@@ -33,12 +31,7 @@ overs_at p (Set i f v ∷ kinds) r = omega (arith, r.0, overs_at 2 kinds r.1, su
 overs_at p (Give ∷ kinds) r = omega (arith, r.0, overs_at 0 kinds r.1, sum_by-cons over_amount Give kinds, sum_by-cons back_amount Give kinds)
 
 fair_place : (k : ℕ) (h : List FileMark) (seat : ℕ) (kind : FileKind) → k ≤ 64 → IsFair k h seat kind → leads kind ≤ 67
-fair_place k h seat (Over n) few fair = elim fair.0 [ inl one ↦ omega (arith, one) | inr all ↦ omega (arith, few, all) ]
-fair_place k h seat (Take n) few fair = omega arith
-fair_place k h seat (Back n) few fair = omega arith
-fair_place k h seat (No n) few fair = omega arith
-fair_place k h seat (Set i f v) few fair = omega arith
-fair_place k h seat Give few fair = omega arith
+fair_place k h seat kind few fair = grind (arith, common_steps, leads, IsFair)
 
 place_low : (k : ℕ) → k ≤ 64 → (h : List FileMark) → IsFileHistory k h → (seat : ℕ) → ends leads 0 (seat_words (file_rules k) seat h) ≤ 67
 place_low k few = snoc_ind (λ (h : List FileMark). IsFileHistory k h → (seat : ℕ) → ends leads 0 (seat_words (file_rules k) seat h) ≤ 67) (λ law seat. omega arith) (λ h m before law seat.

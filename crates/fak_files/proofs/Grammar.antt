@@ -1,9 +1,7 @@
 -- The kinds of a seat's marks as its calls go on.
-use Rattle.std.proofs.lemmas.Grind.{common_steps}
-use Rattle.std.proofs.Common.{arith}
 use Rattle.std.proofs.lemmas.List.{append-nil, map-append}
 use Rattle.fak_model.specs.File.{WholeCall, Setting, set_mark, Refused, Withdrawn, Held, kinds_of_call, seat_of, kind_of, hold_after, hold_from, amount_held, IsAmount, IsFair, file_rules, IsFileHistory}
-use Rattle.fak_files.proofs.Common.{Access, Read, Write, FilePhase, mark, ◌≡◌, ◌≢◌, ℕ, List, [], ◌∷◌, ◌++◌, refl, ap, sym, ◌∙◌, subst, inl, inr, append_assoc, map, flat_map, flat_map-append, Owes, words_by, FileKind, Take, Over, Back, No, Set, Give, FileMark, owes_more, owed_comes, seat_words-own, seat_words-other, history_push, history_begun, history_owed, Idle, Backing, Holding, amount_of, AreInHold, StandsIn}
+use Rattle.fak_files.proofs.Common.{Access, Read, Write, FilePhase, mark, ◌≡◌, ◌≢◌, ℕ, List, [], ◌∷◌, ◌++◌, refl, ap, sym, ◌∙◌, subst, inl, inr, append_assoc, map, flat_map, flat_map-append, Owes, words_by, FileKind, Take, Over, Back, No, Set, Give, FileMark, owes_more, owed_comes, seat_words-own, seat_words-other, history_push, history_begun, history_owed, Idle, Backing, Holding, amount_of, AreInHold, StandsIn, common_steps, arith}
 
 -- ---- holds
 
@@ -57,8 +55,7 @@ module _ (k : ℕ) (kinds : List FileKind) where
   stands_withdrawn n o = owes_more kinds_of_call kinds (Withdrawn n ∷ []) o
 
   pub stands_taken : (access : Access) → StandsIn k kinds Idle → StandsIn k (kinds ++ Take (amount_of k access) ∷ []) (Holding access)
-  stands_taken Read o = hold_begun 1 kinds o
-  stands_taken Write o = ([], hold_begun k kinds o)
+  stands_taken access o = grind (arith, common_steps, kinds, amount_of, hold_begun)
 
   pub stands_set : (i : ℕ) (f : _) (v : ℕ) → StandsIn k kinds (Holding Write) → StandsIn k (kinds ++ Set i f v ∷ []) (Holding Write)
   stands_set i f v stands = let s : Setting = record { entry = i; field = f; to = v } in (stands.0 ++ s ∷ [], hold_more k kinds stands.0 s stands.1)
@@ -82,8 +79,7 @@ module _ (k : ℕ) (h : List FileMark) (law : IsFileHistory k h) (name : ℕ) wh
   more kind = seat_words-own (file_rules k) name h (mark name kind) refl
 
   pub amounts : (access : Access) → IsAmount k (amount_of k access)
-  amounts Read = inl refl
-  amounts Write = inr refl
+  amounts access = grind (arith, common_steps, amount_of, IsAmount)
 
   pub refuses : (n : ℕ) → Owes kinds_of_call (words_by seat_of kind_of name h) [] → IsFair k h name (No n) → GoesOn k h name (No n) Idle
   refuses n rest fair = let r = history_begun (file_rules k) h (mark name (No n)) (Refused n) [] law rest refl fair in record { lawful = r.0; stands = r.1 }
@@ -100,8 +96,7 @@ module _ (k : ℕ) (h : List FileMark) (law : IsFileHistory k h) (name : ℕ) wh
 
   -- the seat that begins a hold
   begun : (access : Access) → AreInHold (amount_of k access) (words_by seat_of kind_of name (h ++ mark name (Take (amount_of k access)) ∷ [])) [] → StandsIn k (words_by seat_of kind_of name (h ++ mark name (Take (amount_of k access)) ∷ [])) (Holding access)
-  begun Read hold = hold
-  begun Write hold = ([], hold)
+  begun access hold = grind (arith, common_steps, amount_of, words_by, seat_of, kind_of, mark, AreInHold)
 
   pub takes : (access : Access) → Owes kinds_of_call (words_by seat_of kind_of name h) [] → IsFair k h name (Take (amount_of k access)) → GoesOn k h name (Take (amount_of k access)) (Holding access)
   takes access rest fair =
@@ -123,8 +118,7 @@ module _ (k : ℕ) (h : List FileMark) (law : IsFileHistory k h) (name : ℕ) wh
 
   -- the Sets of a hold
   pub hold_of : (access : Access) → StandsIn k (words_by seat_of kind_of name h) (Holding access) → (sets : List Setting) × AreInHold (amount_of k access) (words_by seat_of kind_of name h) sets
-  hold_of Read stands = ([], stands)
-  hold_of Write stands = stands
+  hold_of access f = grind (arith, common_steps, words_by, seat_of, kind_of, amount_of, AreInHold)
 
   pub holds_amount : (access : Access) → StandsIn k (words_by seat_of kind_of name h) (Holding access) → amount_held name h ≡ amount_of k access
   holds_amount access stands = let hold = hold_of access stands in hold_amount (amount_of k access) (words_by seat_of kind_of name h) hold.0 hold.1

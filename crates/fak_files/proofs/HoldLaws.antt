@@ -1,6 +1,5 @@
 -- The laws of holds: what lies between a Take and its Give, and what is read in a hold.
-use Rattle.std.proofs.lemmas.Grind.{common_steps}
-use Rattle.fak_files.proofs.Common.{◌≡◌, ◌≢◌, ℕ, ◌<◌, ◌≤◌, ◌==◌, Bool, true, false, List, [], ◌∷◌, ◌++◌, refl, ap, sym, ◌∙◌, subst, arith, inl, inr, append_assoc, true≢false, reverse, All, nat_tests, All-head, All-tail, All-cons, All-nil, AreNamed, seat_of, amount_held, hold_after, field, IsFair, file_rules, IsFileHistory, marks_of, Foreign, FileField, FileKind, Take, Over, Back, No, Set, Give, FileMark, same_or_not, history_prefix, last_fair, reverse_push, marks_of-reverse, is_take, is_set, KeepsHold, back_from_take, own_since_take, prefix_through_take, marks_since_take}
+use Rattle.fak_files.proofs.Common.{◌≡◌, ◌≢◌, ℕ, ◌<◌, ◌≤◌, ◌==◌, Bool, true, false, List, [], ◌∷◌, ◌++◌, refl, ap, sym, ◌∙◌, subst, arith, inl, inr, append_assoc, true≢false, reverse, All, nat_tests, All-head, All-tail, All-cons, All-nil, AreNamed, seat_of, amount_held, hold_after, field, IsFair, file_rules, IsFileHistory, marks_of, Foreign, FileField, FileKind, Take, Over, Back, No, Set, Give, FileMark, same_or_not, history_prefix, last_fair, reverse_push, marks_of-reverse, is_take, is_set, KeepsHold, back_from_take, own_since_take, prefix_through_take, marks_since_take, common_steps}
 use Rattle.std.proofs.lemmas.List.{append-nil, reverse-append, reverse-reverse}
 use Rattle.fak_files.proofs.HoldReads.{alone, held_own, held_other, reads, back_from_take-foreign, own_since_take-foreign}
 
@@ -17,12 +16,7 @@ taken_some k h seat n some fair = elim fair.0 [ inl e ↦ omega (arith, e) | inr
 
 -- a mark of the seat that is no Give leaves it its hold
 hold_goes : (k : ℕ) (h : List FileMark) (seat n : ℕ) (kind : FileKind) → 1 ≤ k → IsFair k h seat kind → kind ≢ Give → 0 < n → 0 < hold_after n kind
-hold_goes k h seat n (Take a) some fair keeps held = taken_some k h seat a some fair
-hold_goes k h seat n Give some fair keeps held = absurd (keeps refl)
-hold_goes k h seat n (Over a) some fair keeps held = held
-hold_goes k h seat n (Back a) some fair keeps held = held
-hold_goes k h seat n (No a) some fair keeps held = held
-hold_goes k h seat n (Set i f v) some fair keeps held = held
+hold_goes k h seat n kind some fair keeps held = grind (arith, common_steps, hold_after, IsFair, taken_some)
 
 module _ (k : ℕ) (some : 1 ≤ k) where
   -- a hold lasts while the seat leaves no Give
@@ -39,20 +33,10 @@ module _ (k : ℕ) (some : 1 ≤ k) where
       subst (λ (h : List FileMark). 0 < amount_held seat h) (append_assoc before (m ∷ []) mid) (hold_lasts seat (before ++ m ∷ []) mid all next (All-tail (λ (w : FileMark). w.seat ≡ seat → w.kind ≢ Give) m mid keeps))
 
   take_holds : (before : List FileMark) (seat : ℕ) (kind : FileKind) → IsFair k before seat kind → is_take kind ≡ true → (n : ℕ) → 0 < hold_after n kind
-  take_holds before seat (Take a) fair take n = taken_some k before seat a some fair
-  take_holds before seat (Over a) fair take n = absurd (true≢false (sym take))
-  take_holds before seat (Back a) fair take n = absurd (true≢false (sym take))
-  take_holds before seat (No a) fair take n = absurd (true≢false (sym take))
-  take_holds before seat (Set i f v) fair take n = absurd (true≢false (sym take))
-  take_holds before seat Give fair take n = absurd (true≢false (sym take))
+  take_holds before seat kind fair take n = grind (arith, common_steps, is_take, hold_after, IsFair, taken_some, true≢false)
 
   set_alone : (before : List FileMark) (seat : ℕ) (kind : FileKind) → IsFair k before seat kind → is_set kind ≡ true → amount_held seat before ≡ k
-  set_alone before seat (Set i f v) fair set = fair
-  set_alone before seat (Take a) fair set = absurd (true≢false (sym set))
-  set_alone before seat (Over a) fair set = absurd (true≢false (sym set))
-  set_alone before seat (Back a) fair set = absurd (true≢false (sym set))
-  set_alone before seat (No a) fair set = absurd (true≢false (sym set))
-  set_alone before seat Give fair set = absurd (true≢false (sym set))
+  set_alone before seat kind fair set = grind (arith, common_steps, is_set, amount_held, IsFair, true≢false)
 
   pub no_other_set : (seats : ℕ) (h : List FileMark) → IsFileHistory k h → AreNamed (file_rules k) seats h
       → (before mid after : List FileMark) (take set : FileMark) → before ++ take ∷ (mid ++ set ∷ after) ≡ h → is_take take.kind ≡ true → KeepsHold take.seat mid → is_set set.kind ≡ true → set.seat ≡ take.seat
@@ -95,8 +79,7 @@ foreign_none name [] is = tt
 foreign_none name (m ∷ h) is = by (m.seat == name) refl (foreign_none name h)
   where
     by : (a : Bool) → (m.seat == name) ≡ a → (marks_of seat_of name h ≡ [] → Foreign seat_of (name ∷ []) h) → Foreign seat_of (name ∷ []) (m ∷ h)
-    by true a rest = absurd (let e : m ∷ marks_of seat_of name h ≡ [] = rw a at is in cc)
-    by false a rest = ((λ i. elim i [ inl e ↦ grind (arith, nat_tests, a, e) | inr z ↦ absurd z ]), rest (rw a at is))
+    by a a' rest = grind (arith, common_steps, marks_of, seat_of, nat_tests)
 
 -- what a seat reads stays while it leaves no mark
 pub reads_stay : (name : ℕ) (h rest : List FileMark) → marks_of seat_of name rest ≡ [] → (prefix_through_take name (h ++ rest) ≡ prefix_through_take name h) × (marks_since_take name (h ++ rest) ≡ marks_since_take name h)

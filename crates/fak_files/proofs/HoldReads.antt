@@ -1,7 +1,5 @@
 -- A writer is alone, and what a seat reads in a hold.
-use Rattle.fak_files.proofs.Common.{◌≡◌, ◌≢◌, ◌⊎◌, ℕ, zero, suc, ◌+◌, ◌<◌, ◌≤◌, ◌==◌, Bool, true, false, List, [], ◌∷◌, ◌++◌, Some, refl, ap, sym, ◌∙◌, subst, arith, inl, inr, append_assoc, true≢false, reverse, All, append-nil, nat_tests, All-pop, AreNamed, seat_words, sum_below, words_by, seat_of, kind_of, hold_after, hold_from, amount_held, field_after, field, IsFair, file_rules, IsFileHistory, In, Foreign, Sees, FileField, FileKind, Take, Over, Back, No, Set, Give, FileMark, same_or_not, seat_words-own, seat_words-other, history_front, last_fair, reverse_cons, is_take, back_from_take, own_since_take}
-use Rattle.fak_model.proofs.Leading.{sum_term}
-use Rattle.fak_model.proofs.FileLaw.{files_fit, hold_push}
+use Rattle.fak_files.proofs.Common.{◌≡◌, ◌≢◌, ◌⊎◌, ℕ, zero, suc, ◌+◌, ◌<◌, ◌≤◌, ◌==◌, Bool, true, false, List, [], ◌∷◌, ◌++◌, Some, refl, ap, sym, ◌∙◌, subst, arith, inl, inr, append_assoc, true≢false, reverse, All, append-nil, nat_tests, All-pop, AreNamed, seat_words, sum_below, words_by, seat_of, kind_of, hold_after, hold_from, amount_held, field_after, field, IsFair, file_rules, IsFileHistory, In, Foreign, Sees, FileField, FileKind, Take, Over, Back, No, Set, Give, FileMark, same_or_not, seat_words-own, seat_words-other, history_front, last_fair, reverse_cons, is_take, back_from_take, own_since_take, sum_term, files_fit, hold_push, common_steps}
 use Rattle.fak_files.proofs.WordPlaces.{field-push}
 
 -- ---- a writer is alone
@@ -34,23 +32,13 @@ held_other k h m s other = ap (hold_from 0) (seat_words-other (file_rules k) s h
 
 -- a mark that is no Take leaves a hold as it is, or ends it
 held_before : (n : ℕ) (kind : FileKind) → is_take kind ≡ false → 0 < hold_after n kind → 0 < n
-held_before n (Take a) none held = absurd (true≢false none)
-held_before n Give none held = absurd (omega (arith, held))
-held_before n (Over a) none held = held
-held_before n (Back a) none held = held
-held_before n (No a) none held = held
-held_before n (Set i f v) none held = held
+held_before n kind none held = grind (arith, common_steps, is_take, hold_after, true≢false)
 
 -- ---- what a seat reads
 
 -- a kind of mark that sets no field, or is a writer's
 sets_none : (k : ℕ) (h : List FileMark) (seat : ℕ) (kind : FileKind) → IsFair k h seat kind → (amount_held seat h ≡ k) ⊎ ((i : ℕ) (f : FileField) (v : ℕ) → field_after i f v kind ≡ v)
-sets_none k h seat (Set i f v) fair = inl fair
-sets_none k h seat (Take n) fair = inr (λ i f v. refl)
-sets_none k h seat (Over n) fair = inr (λ i f v. refl)
-sets_none k h seat (Back n) fair = inr (λ i f v. refl)
-sets_none k h seat (No n) fair = inr (λ i f v. refl)
-sets_none k h seat Give fair = inr (λ i f v. refl)
+sets_none k h seat kind fair = grind (arith, common_steps, amount_held, field_after, IsFair)
 
 -- what a seat reads in a hold, of marks with the newest first
 abbrev pub version : ℕ → List FileMark → List FileMark
@@ -89,10 +77,7 @@ module _ (k seats name : ℕ) (low : name < seats) (i : ℕ) (f : FileField) whe
       ]
 
       own : field (reverse past) i f ≡ field (version name past) i f → field (reverse (m ∷ past)) i f ≡ field (reverse (back_from_take name past) ++ reverse (m ∷ own_since_take name past)) i f
-      own ih =
-          let long : reverse (back_from_take name past) ++ reverse (m ∷ own_since_take name past) ≡ version name past ++ m ∷ [] =
-          ap (λ l. reverse (back_from_take name past) ++ l) (reverse_cons m (own_since_take name past)) ∙ sym (append_assoc (reverse (back_from_take name past)) (reverse (own_since_take name past)) (m ∷ [])) in
-          pushed ∙ (ap (λ v. field_after i f v m.kind) ih ∙ (sym (field-push (version name past) m i f) ∙ ap (λ (x : List FileMark). field x i f) (sym long)))
+      own ih = grind (arith, common_steps, reverse, back_from_take, own_since_take, reverse_cons, append_assoc, pushed, field_after, field-push, field)
 
       apart : (m.seat == name) ≡ false → m.seat ≢ name
       apart a e = grind (arith, nat_tests, a, e)
@@ -104,12 +89,8 @@ module _ (k seats name : ℕ) (low : name < seats) (i : ℕ) (f : FileField) whe
           → (IsFileHistory k (reverse past) → AreNamed (file_rules k) seats (reverse past) → 0 < amount_held name (reverse past) → field (reverse past) i f ≡ field (version name past) i f)
           → field (reverse (m ∷ past)) i f ≡ field (version name (m ∷ past)) i f
       by true a true b ih = rw (a, b) (ap (λ (x : List FileMark). field x i f) (sym (append-nil (reverse (m ∷ past)))))
-      by true a false b ih =
-          let before : 0 < amount_held name (reverse past) = held_before (amount_held name (reverse past)) m.kind b (subst (λ (x : ℕ). 0 < x) (held_own k (reverse past) m name (same a)) held') in
-          rw (a, b) (own (ih front pop.0 before))
-      by false a b e ih =
-          let before : 0 < amount_held name (reverse past) = omega (arith, held', held_other k (reverse past) m name (apart a)) in
-          rw a (other (apart a) (ih front pop.0 before))
+      by true a false b ih = grind (arith, common_steps, amount_held, reverse, held_before, held_own, same, held', own, front, pop)
+      by false a b e ih = grind (arith, common_steps, amount_held, reverse, held', held_other, apart, other, front, pop)
 
 -- ---- the same as more is seen
 
@@ -133,8 +114,7 @@ own_since_take-foreign name names (m ∷ between) past i f =
     other e = f.0 (subst (λ (n : ℕ). In n names) (sym e) i)
 
 pub version-sees : (name : ℕ) (names : List ℕ) (seen past : List FileMark) → In name names → Sees seat_of names seen past → version name past ≡ version name seen
-version-sees name names seen past i s =
-    ap (version name) s.is ∙ (λ j. reverse (back_from_take-foreign name names s.between seen i s.foreign j) ++ reverse (own_since_take-foreign name names s.between seen i s.foreign j))
+version-sees name names seen past i s = grind (arith, common_steps, reverse, back_from_take-foreign, own_since_take-foreign)
 
 -- ---- a reader
 
@@ -155,11 +135,4 @@ own_since-take k name n (m ∷ past) kinds is = by (m.seat == name) refl (own_si
     last (z ∷ xs) (w ∷ ys) x y e = last xs ys x y cc
 
     by : (a : Bool) → (m.seat == name) ≡ a → (words_by seat_of kind_of name (reverse past) ≡ kinds ++ Take n ∷ [] → own_since_take name past ≡ []) → own_since_take name (m ∷ past) ≡ []
-    by true a ih =
-        let same : m.seat ≡ name = grind (arith, nat_tests, a) in
-        let kind : m.kind ≡ Take n = last (words_by seat_of kind_of name (reverse past)) kinds m.kind (Take n) (sym (seat_words-own (file_rules k) name (reverse past) m same) ∙ words) in
-        let take : is_take m.kind ≡ true = ap is_take kind in
-        rw (a, take) refl
-    by false a ih =
-        let other : m.seat ≢ name = λ e. grind (arith, nat_tests, a, e) in
-        rw a (ih (sym (seat_words-other (file_rules k) name (reverse past) m other) ∙ words))
+    by a a' ih = grind (arith, common_steps, words_by, seat_of, kind_of, reverse, own_since_take, nat_tests, last, seat_words-own, file_rules, words, is_take, seat_words-other)

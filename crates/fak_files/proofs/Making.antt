@@ -1,7 +1,6 @@
 -- What the steps of a call make together, in the words of contracts.
 use Rattle.fak_model.specs.File.{seat_of, count, file_rules}
-use Rattle.fak_model.proofs.Seats.{begins_self}
-use Rattle.fak_files.proofs.Common.{FilePhase, Idle, FileLimits, ◌≡◌, ℕ, ◌+◌, List, [], ◌∷◌, length, refl, ap, sym, ◌∙◌, arith, inl, inr, reverse, map, ℤ, pos, ◌+ℤ◌, append-nil, ints, marks_of, ObjectId, object_id, seat_info, IsSeatToken, bias, FileKind, Over, Back, No, FileMark, token_names, appends_then, appends_none, step_appends, step_before, FileHolder, mark, Steps, CountIs, Makes, Misses, before_steps}
+use Rattle.fak_files.proofs.Common.{FilePhase, Idle, FileLimits, ◌≡◌, ℕ, ◌+◌, List, [], ◌∷◌, length, refl, ap, sym, ◌∙◌, arith, inl, inr, reverse, map, ℤ, pos, ◌+ℤ◌, append-nil, ints, marks_of, ObjectId, object_id, seat_info, IsSeatToken, bias, FileKind, Over, Back, No, FileMark, token_names, appends_then, appends_none, step_appends, step_before, FileHolder, mark, Steps, CountIs, Makes, Misses, before_steps, begins_self}
 
 -- some object of this many seats
 abbrev pub some_object : ℕ → ObjectId

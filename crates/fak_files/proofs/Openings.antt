@@ -1,7 +1,5 @@
 -- The words and seats of a new file table.
-use Rattle.std.proofs.lemmas.Grind.{common_steps}
-use Rattle.fak_model.proofs.RunningSeats.{starts}
-use Rattle.fak_files.proofs.Common.{Idle, Nothing, ◌≡◌, ℕ, ◌+◌, ◌<◌, ◌≤◌, List, [], ◌∷◌, ◌++◌, length, take, replicate, set, get_or, refl, ap, ◌∙◌, arith, reverse, ints, words_by, seat_of, kind_of, file_rules, sight, ObjectId, SeatInfo, seat_info, fresh_seats, bias, get_or-take, get_or-set_other, get_or-replicate, length-take-le, opening, FileField, FileMark, history_none, fresh_token, fresh_next, count_place, width, word_of, limits, ShowsHistory, file_object, IsShownFile, opened_file, FileHolder, FileSeatInfo, file_seat, idle_seats, seat_now, IsFileSeat}
+use Rattle.fak_files.proofs.Common.{Idle, Nothing, ◌≡◌, ℕ, ◌+◌, ◌<◌, ◌≤◌, List, [], ◌∷◌, ◌++◌, length, take, replicate, set, get_or, refl, ap, ◌∙◌, arith, reverse, ints, words_by, seat_of, kind_of, file_rules, sight, ObjectId, SeatInfo, seat_info, fresh_seats, bias, get_or-take, get_or-set_other, get_or-replicate, length-take-le, opening, FileField, FileMark, history_none, fresh_token, fresh_next, count_place, width, word_of, limits, ShowsHistory, file_object, IsShownFile, opened_file, FileHolder, FileSeatInfo, file_seat, idle_seats, seat_now, IsFileSeat, common_steps, starts}
 use Rattle.fak_files.proofs.WordPlaces.{word_of-low}
 
 -- ---- words

@@ -1,8 +1,6 @@
 -- From the steps of a seat's token to what the seat's call promises.
-use Rattle.std.proofs.lemmas.Grind.{common_steps}
 use Rattle.std.proofs.lemmas.List.{append-nil, map-append, reverse-reverse}
-use Rattle.fak_model.specs.declared.file.FileEntry.{FileEntry}
-use Rattle.fak_files.proofs.Common.{Access, Read, Write, FilePhase, Idle, Holding, FileLimits, entry_of, back_from_take, own_since_take, prefix_through_take, marks_since_take, ◌≡◌, ◌≢◌, ℕ, ◌+◌, ◌-◌, ◌<◌, ◌≤◌, List, [], ◌∷◌, ◌++◌, refl, ap, sym, ◌∙◌, subst, arith, inl, inr, reverse, map, ℤ, slice_index, sum_by, flat_map, sum_by-cons, sum_by-append, words_by, Owes, seat_of, kind_of, kinds_of_call, field, file_rules, In, marks_of, ObjectId, seat_info, Appends, IsSeatToken, FileKind, Take, Over, Back, No, Set, Give, FileField, Inode, Uses, FileMark, token_names, Nothing, Reading, Writing, amount_of, phase_of, hold_for, StandsIn, limits, FileHolder, mark, Steps, Got, FileSeatInfo, one_hold, holds_of, LeavesMarks, IsGranted, IsBusy, IsGot, IsSet, IsEnded, IsHoldOf, seat_now, IsFileSeat, Makes, Misses}
+use Rattle.fak_files.proofs.Common.{Access, Read, Write, FilePhase, Idle, Holding, FileLimits, entry_of, back_from_take, own_since_take, prefix_through_take, marks_since_take, ◌≡◌, ◌≢◌, ℕ, ◌+◌, ◌-◌, ◌<◌, ◌≤◌, List, [], ◌∷◌, ◌++◌, refl, ap, sym, ◌∙◌, subst, arith, inl, inr, reverse, map, ℤ, slice_index, sum_by, flat_map, sum_by-cons, sum_by-append, words_by, Owes, seat_of, kind_of, kinds_of_call, field, file_rules, In, marks_of, ObjectId, seat_info, Appends, IsSeatToken, FileKind, Take, Over, Back, No, Set, Give, FileField, Inode, Uses, FileMark, token_names, Nothing, Reading, Writing, amount_of, phase_of, hold_for, StandsIn, limits, FileHolder, mark, Steps, Got, FileSeatInfo, one_hold, holds_of, LeavesMarks, IsGranted, IsBusy, IsGot, IsSet, IsEnded, IsHoldOf, seat_now, IsFileSeat, Makes, Misses, common_steps, FileEntry}
 use Rattle.fak_files.specs.declared.phase.Hold.{Hold}
 use Rattle.fak_files.proofs.Making.{some_object, makes_none, makes_one, none_then}
 use Rattle.fak_files.proofs.Grammar.{holds_amount, hold_amount, rest_amount, stands_refused, stands_withdrawn, stands_taken, stands_set, stands_given}
@@ -10,8 +8,7 @@ use Rattle.fak_files.proofs.HoldReads.{version, reads, version-sees, own_since-t
 
 -- the phase of a hold
 pub phase_of-hold_for : (access : Access) → phase_of (hold_for access) ≡ Holding access
-phase_of-hold_for Read = refl
-phase_of-hold_for Write = refl
+phase_of-hold_for access = grind (arith, common_steps, phase_of, hold_for)
 
 -- the holds that a seat had after a step
 holds_after : {seats name : ℕ} {kinds : List FileKind} {phase : FilePhase} {m after : FileHolder} → Makes seats name kinds phase m after
@@ -114,8 +111,7 @@ module _ {name seats : ℕ} {was : FilePhase} {m : FileHolder} (t : IsSeatToken 
 -- ---- what is read
 
 amount_some : (k : ℕ) (access : Access) → 1 ≤ k → 1 ≤ amount_of k access
-amount_some k Read some = omega arith
-amount_some k Write some = some
+amount_some k access some = grind (arith, common_steps, amount_of)
 
 prefix_through_take-reverse : (name : ℕ) (past : List FileMark) → prefix_through_take name (reverse past) ≡ reverse (back_from_take name past)
 prefix_through_take-reverse name past = ap (λ p. reverse (back_from_take name p)) (reverse-reverse past)
@@ -149,10 +145,7 @@ version_reads : (table : FileLimits) (name : ℕ) (access : Access) (hold : Hold
     → version name after.0.seen ≡ prefix_through_take name (reverse after.0.seen)
 version_reads table name Read hold is i f found m after step reading =
     ap (λ l. reverse (back_from_take name after.0.seen) ++ reverse l) (nothing_set table name i f found m after step) ∙ (append-nil (reverse (back_from_take name after.0.seen)) ∙ sym (prefix_through_take-reverse name after.0.seen))
-version_reads table name Write hold is i f found m after step reading = absurd (parted (is ∙ reading))
-  where
-    parted : Writing ≡ Reading → ⊥
-    parted e = cc
+version_reads table name Write hold is i f found m after step reading = grind (arith, common_steps)
 
 module _ (object object' : ObjectId) (same : object' ≡ object) (name left : ℕ) (hold : Hold) (m : FileHolder) (f : IsFileSeat name object.seats hold m) (table : FileLimits) (is : table.seats ≡ object.seats) (old : FileSeatInfo) (old_is : seat_now object name left hold m ≡ old) where
   -- the seat's fields after each call
@@ -169,14 +162,6 @@ module _ (object object' : ObjectId) (same : object' ≡ object) (name left : �
   pub seat_ended : (access : Access) → hold_for access ≡ hold → {tells : List FileMark → Type 0} (after : FileHolder) → Steps table (slice_index m.0.names 0) m (mark (slice_index m.0.names 0) Give ∷ []) Idle tells after → IsFileSeat name object.seats Nothing after
   seat_ended access for after step =
       file_seat_after Nothing f (one_made f.token table is Give Idle step) refl (stands_given object.seats (words_by seat_of kind_of name (reverse m.0.seen)) access (stood_in access for))
-
-  pub seat_got : (access : Access) → hold_for access ≡ hold → (i inode uses : ℕ) (mid after : FileHolder) → Got table (slice_index m.0.names 0) access i Inode m inode mid → Got table (slice_index mid.0.names 0) access i Uses mid uses after
-      → IsFileSeat name object.seats hold after
-  seat_got access for i inode uses mid after one two =
-      let x = none_made f.token table is one in
-      let y = none_made x.token table is two in
-      let same : words_by seat_of kind_of name (reverse m.0.seen) ≡ words_by seat_of kind_of name (reverse m.0.seen) ++ [] = sym (append-nil (words_by seat_of kind_of name (reverse m.0.seen))) in
-      file_seat_after hold f (none_then (limits 0 object.seats) name [] x y) (sym (phase_of-hold_for access) ∙ ap phase_of for) (subst (λ (ws : List FileKind). StandsIn object.seats ws (Holding access)) same (stood_in access for))
 
   pub set_of : (i : ℕ) (g : FileField) (v : ℕ) {tells : List FileMark → Type 0} (after : FileHolder) → Steps table (slice_index m.0.names 0) m (mark (slice_index m.0.names 0) (Set i g v) ∷ []) (Holding Write) tells after → IsSet i g v old (seat_now object' name left hold after)
   set_of i g v after step = subst (λ (y : FileSeatInfo). IsSet i g v y (seat_now object' name left hold after)) old_is record {

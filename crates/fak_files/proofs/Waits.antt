@@ -1,7 +1,6 @@
 -- A hold that is tried until it is granted.
-use Rattle.std.proofs.lemmas.Grind.{common_steps}
 use Rattle.std.proofs.lemmas.List.{append-nil, map-append}
-use Rattle.fak_files.proofs.Common.{Access, amount_of, mark, ◌≡◌, ◌⊎◌, ℕ, ◌+◌, ◌<◌, List, [], ◌∷◌, ◌++◌, refl, ap, sym, ◌∙◌, subst, arith, inl, inr, map, ℤ, sum_by, flat_map, All-push, All-nil, sum_by-cons, sum_by-append, flat_map-append, WholeCall, Refused, Withdrawn, kinds_of_call, seat_of, file_rules, SeatInfo, mine_of, Appends, FileKind, Over, Back, No, FileMark, appends_then, FileSeatInfo, one_hold, holds_had, LeavesMarks, amount_for, IsGranted, IsWorn, IsBusy, AreRefused, IsWaitedFor}
+use Rattle.fak_files.proofs.Common.{Access, amount_of, mark, ◌≡◌, ◌⊎◌, ℕ, ◌+◌, ◌<◌, List, [], ◌∷◌, ◌++◌, refl, ap, sym, ◌∙◌, subst, arith, inl, inr, map, ℤ, sum_by, flat_map, All-push, All-nil, sum_by-cons, sum_by-append, flat_map-append, WholeCall, Refused, Withdrawn, kinds_of_call, seat_of, file_rules, SeatInfo, mine_of, Appends, FileKind, Over, Back, No, FileMark, appends_then, FileSeatInfo, one_hold, holds_had, LeavesMarks, amount_for, IsGranted, IsWorn, IsBusy, AreRefused, IsWaitedFor, common_steps}
 
 -- ---- marks of two calls
 
@@ -95,17 +94,9 @@ module _ (access : Access) (old now next : FileSeatInfo) where
       t = busy_try access now next answer busy
 
       joined : (call : WholeCall) → LeavesMarks (kinds_of_call call) now.seat next.seat → (call ≡ Refused (amount_for access now.seat)) ⊎ (call ≡ Withdrawn (amount_for access now.seat)) → LeavesMarks (flat_map kinds_of_call w.tries ++ kinds_of_call call) old.seat next.seat
-      joined call x (inl e) = subst (λ (c : WholeCall). LeavesMarks (flat_map kinds_of_call w.tries ++ kinds_of_call c) old.seat next.seat) (sym e)
-          (leaves_then (flat_map kinds_of_call w.tries) (No (amount_for access now.seat)) [] old.seat now.seat next.seat w.leaves (subst (λ (c : WholeCall). LeavesMarks (kinds_of_call c) now.seat next.seat) e x))
-      joined call x (inr e) = subst (λ (c : WholeCall). LeavesMarks (flat_map kinds_of_call w.tries ++ kinds_of_call c) old.seat next.seat) (sym e)
-          (leaves_then (flat_map kinds_of_call w.tries) (Over (amount_for access now.seat)) (Back (amount_for access now.seat) ∷ []) old.seat now.seat next.seat w.leaves (subst (λ (c : WholeCall). LeavesMarks (kinds_of_call c) now.seat next.seat) e x))
+      joined call x u = grind (arith, common_steps, call, kinds_of_call, amount_for, flat_map, leaves_then)
 
   -- the try that is granted
   pub tries_granted : IsTrying access old now → IsGranted access now next → IsWaitedFor access old next
   tries_granted (inl same) granted = grind (arith, common_steps, amount_for)
   tries_granted (inr w) granted = grind (arith, common_steps, flat_map, kinds_of_call, amount_is, leaves_then, amount_for)
-
-  -- a seat that was refused for others isn't worn
-  pub tries_worn : IsTrying access old now → IsWorn now next → IsWorn old next
-  tries_worn (inl same) worn = subst (λ (x : FileSeatInfo). IsWorn x next) same worn
-  tries_worn (inr w) worn = grind (arith, common_steps)

@@ -1,16 +1,14 @@
 -- The words of a file table after a step.
-use Rattle.std.proofs.lemmas.Grind.{common_steps}
-use Rattle.std.proofs.Math.Nat.{add-mod_left}
 use Rattle.fak_model.specs.File.{count, same_field, field_after, field_from, field}
-use Rattle.fak_files.proofs.Common.{FileLimits, ShowsHistory, mark, ◌≡◌, ◌≢◌, ℕ, ◌+◌, ◌-◌, ◌%◌, ◌^◌, ◌<◌, ◌≤◌, ◌==◌, Bool, true, false, cond, List, [], ◌∷◌, ◌++◌, refl, sym, ◌∙◌, subst, arith, set, get_or, length, mod-eq_of_lt, ℤ, pos, ◌+ℤ◌, ◌-ℤ◌, ◌&&◌, nat_tests, ints, bias, get_or-set_same, get_or-set_other, length-set, set-get_or, FileField, Inode, Uses, Set, FileMark, same_or_not, count_place, width, word_of}
+use Rattle.fak_files.proofs.Common.{FileLimits, ShowsHistory, mark, ◌≡◌, ◌≢◌, ℕ, ◌+◌, ◌-◌, ◌%◌, ◌^◌, ◌<◌, ◌≤◌, ◌==◌, Bool, true, false, cond, List, [], ◌∷◌, ◌++◌, refl, sym, ◌∙◌, subst, arith, set, get_or, length, mod-eq_of_lt, ℤ, pos, ◌+ℤ◌, ◌-ℤ◌, ◌&&◌, nat_tests, ints, bias, get_or-set_same, get_or-set_other, length-set, set-get_or, FileField, Inode, Uses, Set, FileMark, same_or_not, count_place, width, word_of, common_steps, add-mod_left}
 
 -- ---- numbers
 
 pub sub_word : (w a k taken : ℕ) (u : ℤ) → pos w ≡ pos bias +ℤ u → u +ℤ pos taken ≡ pos k → taken ≤ 5000 → k ≤ 64 → a ≤ 64 → pos ((w + (2 ^ 64 - a)) % 2 ^ 64) ≡ pos bias +ℤ (u -ℤ pos a)
-sub_word w a k taken u e range low few small = grind (arith, common_steps, pos, add-mod_left, mod-eq_of_lt)
+sub_word w a k taken u e range low few small = grind (arith, common_steps, add-mod_left, mod-eq_of_lt)
 
 pub add_word : (w a k taken : ℕ) (u : ℤ) → pos w ≡ pos bias +ℤ u → u +ℤ pos taken ≡ pos k → taken ≤ 5000 → k ≤ 64 → a ≤ 64 → pos ((w + a) % 2 ^ 64) ≡ pos bias +ℤ (u +ℤ pos a)
-add_word w a k taken u e range low few small = grind (arith, common_steps, pos, mod-eq_of_lt)
+add_word w a k taken u e range low few small = grind (arith, common_steps, mod-eq_of_lt)
 
 pub near_word : (w k taken : ℕ) (u : ℤ) → pos w ≡ pos bias +ℤ u → u +ℤ pos taken ≡ pos k → k ≤ 64 → w < 2 ^ 63
 near_word w k taken u e range few = omega (arith, ints, e, range)
@@ -26,21 +24,15 @@ field-push h m i f = field_from-push i f 0 h m
 
 -- a field that is set, and another
 field_here : (i : ℕ) (f : FileField) (old new : ℕ) → cond ((i == i) && same_field f f) new old ≡ new
-field_here i Inode old new = let t : (i == i) ≡ true = grind (arith, nat_tests) in rw t refl
-field_here i Uses old new = let t : (i == i) ≡ true = grind (arith, nat_tests) in rw t refl
-
-field_elsewhere : (i j : ℕ) (f g : FileField) (old new : ℕ) → i ≢ j → cond ((i == j) && same_field f g) new old ≡ old
-field_elsewhere i j f g old new ne = let t : (i == j) ≡ false = grind (arith, nat_tests) in rw t refl
+field_here i f old new = grind (arith, common_steps, same_field, nat_tests)
 
 no_field : (b : Bool) (old new : ℕ) → cond (b && false) new old ≡ old
-no_field true old new = refl
-no_field false old new = refl
+no_field b old new = grind (arith, common_steps)
 
 -- ---- the words
 
 pub word_of-low : (i entries : ℕ) (f : FileField) → i < entries → word_of i f < width entries
-word_of-low i entries Inode low = omega (arith, low)
-word_of-low i entries Uses low = omega (arith, low)
+word_of-low i entries f low = grind (arith, common_steps, word_of, width)
 
 module _ (table : FileLimits) (h : List FileMark) (words : List ℕ) (shows : ShowsHistory table h words) where
   -- a load leaves them as they are
@@ -49,23 +41,17 @@ module _ (table : FileLimits) (h : List FileMark) (words : List ℕ) (shows : Sh
 
   -- a step on the count that sets no field
   pub counts_next : (m : FileMark) (w : ℕ) → ((i : ℕ) (f : FileField) (v : ℕ) → field_after i f v m.kind ≡ v) → pos w ≡ pos bias +ℤ count table.seats (h ++ m ∷ []) → ShowsHistory table (h ++ m ∷ []) (set words count_place w)
-  counts_next m w none is = grind (arith, common_steps, length-set, count_place, pos, get_or-set_same, get_or-set_other, word_of, field-push, field)
+  counts_next m w none is = grind (arith, common_steps, length-set, count_place, get_or-set_same, get_or-set_other, word_of, field-push, field)
 
   within : (i : ℕ) (f : FileField) → i < table.entries → word_of i f < length words
   within i f low = omega (arith, word_of-low i table.entries f low, shows.wide)
 
   apart : (i j : ℕ) (f g : FileField) → j ≢ i → word_of j g ≢ word_of i f
-  apart i j Inode Inode ne e = ne (omega (arith, e))
-  apart i j Inode Uses ne e = omega (arith, e)
-  apart i j Uses Inode ne e = omega (arith, e)
-  apart i j Uses Uses ne e = ne (omega (arith, e))
+  apart i j f g ne e = grind (arith, common_steps, word_of)
 
   -- the fields of the entry of which one is set
   one_entry : (i v : ℕ) (f g : FileField) → i < table.entries → get_or (set words (word_of i f) v) (word_of i g) 0 ≡ cond ((i == i) && same_field g f) v (field h i g)
-  one_entry i v Inode Inode low = get_or-set_same words (word_of i Inode) v 0 (within i Inode low) ∙ sym (field_here i Inode (field h i Inode) v)
-  one_entry i v Uses Uses low = get_or-set_same words (word_of i Uses) v 0 (within i Uses low) ∙ sym (field_here i Uses (field h i Uses) v)
-  one_entry i v Inode Uses low = get_or-set_other words (word_of i Inode) (word_of i Uses) v 0 (λ e. omega (arith, e)) ∙ (shows.fields i Uses low ∙ sym (no_field (i == i) (field h i Uses) v))
-  one_entry i v Uses Inode low = get_or-set_other words (word_of i Uses) (word_of i Inode) v 0 (λ e. omega (arith, e)) ∙ (shows.fields i Inode low ∙ sym (no_field (i == i) (field h i Inode) v))
+  one_entry i v f g low = grind (arith, common_steps, get_or, set, word_of, same_field, field, get_or-set_same, within, field_here, get_or-set_other, no_field)
 
   -- the fields of all entries
   each_entry : (i v : ℕ) (f : FileField) → i < table.entries → (j : ℕ) (g : FileField) → j < table.entries → get_or (set words (word_of i f) v) (word_of j g) 0 ≡ cond ((j == i) && same_field g f) v (field h j g)
@@ -73,4 +59,4 @@ module _ (table : FileLimits) (h : List FileMark) (words : List ℕ) (shows : Sh
 
   -- a field that is set
   pub fields_next : (name i : ℕ) (f : FileField) (v : ℕ) → i < table.entries → count table.seats (h ++ mark name (Set i f v) ∷ []) ≡ count table.seats h → ShowsHistory table (h ++ mark name (Set i f v) ∷ []) (set words (word_of i f) v)
-  fields_next name i f v low same = grind (arith, common_steps, length-set, word_of, pos, get_or-set_other, count_place, bias, each_entry, field-push, mark)
+  fields_next name i f v low same = grind (arith, common_steps, length-set, word_of, get_or-set_other, count_place, bias, each_entry, field-push, mark)

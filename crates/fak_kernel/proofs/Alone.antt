@@ -1,5 +1,5 @@
 -- The only processor of a run, in the list that has it alone.
-use Rattle.std.proofs.Common.{◌≡◌, ℕ, ◌-◌, List, [], ◌∷◌, ◌++◌, length, get_or, ap, sym, ◌∙◌, subst, arith, Option, Some}
+use Rattle.fak_kernel.proofs.Common.{◌≡◌, ℕ, ◌-◌, List, [], ◌∷◌, ◌++◌, length, get_or, ap, sym, ◌∙◌, subst, arith, Option, Some}
 
 -- what is taken off the end of a list of one is its first
 pub first_is_last : {A : Type 0} (P : A → Type 0) (items : List A) (n : ℕ) (x : A) (taken : Option A) → n ≡ 1 → taken ≡ Some x → taken ≡ Some (get_or items (n - 1) x) → P (get_or items 0 x) → P x

@@ -1,11 +1,7 @@
 -- What the answers of threads tell of those that have left, and of a fault.
 use Rattle.std.proofs.lemmas.List.{get_or-map, length-map}
 use Rattle.fak_text.specs.Script.{ScriptOf}
-use Rattle.fak_run.specs.declared.fault.Fault.{Fault}
-use Rattle.fak_run.specs.declared.fault.Fault.TheVariants.{Memory, Gate}
-use Rattle.fak_processor.specs.Faults.{IsOfLoop, IsRefused}
-use Rattle.fak_kernel.specs.Threads.{OneIsRefused}
-use Rattle.fak_kernel.proofs.Common.{turn_over, ObjectsOf, ProcessorOf, IsReached, lists_of, Between, IsLeftBy, ◌≡◌, ◌⊎◌, ℕ, zero, suc, ◌<◌, Bool, List, [], ◌∷◌, length, map, get_or, ap, sym, ◌∙◌, subst, arith, inl, inr, Option, Some, None, Result, Ok, Err, IfErr, HasAnswered, HasBegun, HasLeft, IsOfRun, as_left, first_fault}
+use Rattle.fak_kernel.proofs.Common.{turn_over, ObjectsOf, ProcessorOf, IsReached, lists_of, Between, IsLeftBy, ◌≡◌, ◌⊎◌, ℕ, zero, suc, ◌<◌, Bool, List, [], ◌∷◌, length, map, get_or, ap, sym, ◌∙◌, subst, arith, inl, inr, Option, Some, None, Result, Ok, Err, IfErr, HasAnswered, HasBegun, HasLeft, IsOfRun, as_left, first_fault, Fault, Memory, Gate, IsOfLoop, IsRefused, OneIsRefused}
 
 -- what each answer tells, the one that has left tells
 pub left_at : {A : Type 0} (P : ℕ → Result (Option A) Fault → Type 0) (answers : List (Result (Option A) Fault)) (left : List A) → map as_left left ≡ answers

@@ -1,10 +1,8 @@
 -- The seats of all processors are joined, one processor after the other.
-use Rattle.fak_model.specs.declared.queue.Kind.{Kind}
-use Rattle.fak_model.specs.declared.credit.CreditMark.{CreditMark}
 use Rattle.fak_model.specs.Room as room
 use Rattle.fak_model.specs.Credit as credit
 use Rattle.fak_text.proofs.Common.{ScriptOf, Process}
-use Rattle.fak_kernel.proofs.Common.{numbers_from, Ledger, named, joined, begun_names, Histories, Gathered, ◌≡◌, ℕ, ◌<◌, List, [], ◌∷◌, ◌++◌, length, refl, ap, sym, ◌∙◌, arith, map, pos, slice_index, sum_by, append-nil, sum_by-cons, Rules, mine, TallyInfo, tally_of, count, value, Mark, IsSettled, sem_tally_of, Weighs, queue_kind, Bundle, Tallies, Have, Joins, sum_by-map}
+use Rattle.fak_kernel.proofs.Common.{numbers_from, Ledger, named, joined, begun_names, Histories, Gathered, ◌≡◌, ℕ, ◌<◌, List, [], ◌∷◌, ◌++◌, length, refl, ap, sym, ◌∙◌, arith, map, pos, slice_index, sum_by, append-nil, sum_by-cons, Rules, mine, TallyInfo, tally_of, count, value, Mark, IsSettled, sem_tally_of, Weighs, queue_kind, Bundle, Tallies, Have, Joins, sum_by-map, Kind, CreditMark}
 use Rattle.fak_processor.specs.Turning.{Turning}
 use Rattle.fak_run.proofs.Joining.{balanced-joined}
 use Rattle.fak_processor.proofs.Tallies.{weighs_one, weighs_joined, joined_either}

@@ -1,5 +1,5 @@
 -- What is said of the elements of a list by their places, where the first is taken off.
-use Rattle.std.proofs.Common.{◌≡◌, ℕ, suc, ◌+◌, ◌<◌, List, ◌∷◌, get_or, ap, sym, ◌∙◌, subst, arith}
+use Rattle.fak_kernel.proofs.Common.{◌≡◌, ℕ, suc, ◌+◌, ◌<◌, List, ◌∷◌, get_or, ap, sym, ◌∙◌, subst, arith}
 
 pub rest_of : {A : Type 0} (P : ℕ → A → Type 0) (old new : List A) (x : A) (lo ln : ℕ) → old ≡ x ∷ new → ln + 1 ≡ lo → ((k : ℕ) (d : A) → k < lo → P k (get_or old k d)) → (k : ℕ) (d : A) → k < ln → P (k + 1) (get_or new k d)
 rest_of P old new x lo ln is long each k d low =

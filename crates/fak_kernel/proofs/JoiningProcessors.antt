@@ -1,7 +1,6 @@
 -- The seats of the processors are joined, processor by processor.
 use Rattle.fak_text.proofs.Common.{ScriptOf, Process}
-use Rattle.fak_kernel.proofs.Common.{Ended, Halted, RowOf, joined, ObjectsOf, ProcessorOf, AreOf, AreFor, HasName, bundle_of, files_of, row_as, IsLeftBy, ◌≡◌, ℕ, zero, suc, ◌+◌, ◌≤◌, List, ◌++◌, length, get_or, ap, sym, ◌∙◌, subst, arith, sum_by, length-map, sum_by-append, ObjectId, IsJoined, queue_rules, room_rules, SemInfo, SemSeatInfo, SemTallyInfo, Tallies, Have, Joins, JoinedTo, TalliesOf, AreTalliesOf, HaveNames, JoinAll, tallies_of, first_tallies, no_seat, no_tally, AreGathered, AreOfOne, FilesJoined, left_weigh}
-use Rattle.fak_processor.proofs.Moving.{files_then}
+use Rattle.fak_kernel.proofs.Common.{Ended, Halted, RowOf, joined, ObjectsOf, ProcessorOf, AreOf, AreFor, HasName, bundle_of, files_of, row_as, IsLeftBy, ◌≡◌, ℕ, zero, suc, ◌+◌, ◌≤◌, List, ◌++◌, length, get_or, ap, sym, ◌∙◌, subst, arith, sum_by, length-map, sum_by-append, ObjectId, IsJoined, queue_rules, room_rules, SemInfo, SemSeatInfo, SemTallyInfo, Tallies, Have, Joins, JoinedTo, TalliesOf, AreTalliesOf, HaveNames, JoinAll, tallies_of, first_tallies, no_seat, no_tally, AreGathered, AreOfOne, FilesJoined, left_weigh, files_then}
 use Rattle.fak_kernel.proofs.Gathering.{have_first, have_more}
 use Rattle.fak_kernel.proofs.Gathering as gathering
 use Rattle.fak_kernel.proofs.Naming.{first_joined, next_joined, is_new}

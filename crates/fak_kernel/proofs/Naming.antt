@@ -1,10 +1,8 @@
 -- Seats are joined in the order of their names.
-use Rattle.fak_kernel.proofs.Common.{◌≡◌, ℕ, suc, false, List, [], ◌∷◌, ◌++◌, sym, ◌∙◌, arith, inl, inr, JoinedTo}
+use Rattle.fak_kernel.proofs.Common.{◌≡◌, ℕ, suc, false, List, [], ◌∷◌, ◌++◌, sym, ◌∙◌, arith, inl, inr, JoinedTo, in_left, in_right, in_either, is_in_is}
 use Rattle.std.proofs.lemmas.Bool.{false_from_ne_true}
 use Rattle.fak_model.specs.Seats.{is_in, IsWhole}
-use Rattle.fak_model.proofs.Seats.{in_left, in_right, in_either}
 use Rattle.fak_model.proofs.Deciding.{same_or_not}
-use Rattle.fak_model.proofs.SeatWeights.{is_in_is}
 
 pub first_joined : (name : ℕ) → name ≡ 0 → JoinedTo 1 (name ∷ [])
 first_joined name e = record {

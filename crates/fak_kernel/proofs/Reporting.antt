@@ -1,11 +1,8 @@
 -- The report of all processors.
 use Rattle.std.proofs.lemmas.List.{append-nil, length-map}
-use Rattle.std.proofs.lemmas.List.Concat.{flat_map-cons}
-use Rattle.fak_model.specs.declared.credit.CreditMark.{CreditMark}
 use Rattle.fak_model.specs.Room as room
-use Rattle.fak_model.proofs.Seats.{whole_mine}
 use Rattle.fak_text.proofs.Common.{ScriptOf, NoteOf, Process}
-use Rattle.fak_kernel.proofs.Common.{Outcome, Ended, Halted, RowOf, ReportOf, IsSortedByName, rows_with, sleepers_outcome, FitsRow, notes, shuts_of, JoinedTo, ObjectsOf, AreFor, ids_of, AreSeated, row_as, files_of, AreGathered, FilesJoined, AreClosed, IsSleeper, IsWholeAt, left_at, rows_left, shut_lines, ◌≡◌, ℕ, zero, suc, ◌+◌, ◌-◌, ◌<◌, ◌≤◌, nat_lt, Bool, true, false, List, [], ◌∷◌, ◌++◌, length, get_or, refl, ap, sym, ◌∙◌, subst, arith, append_assoc, map, slice_index, sum_by, flat_map, All, IsPermutation, All-nil, All-cons, All-head, All-tail, All-append, sum_by-append, IsPermutation-trans, contents, ObjectId, IsWhole, FileEntry, Mark, entries_after, IsSettled, SemId, SemInfo, SemTallyInfo, Gathered, asleep, lines, lines_of, rows_of, TalliesOf, AreTalliesOf, HaveNames, tallies_of, ids_of_tallies, no_tally, sum_by-map, sum_by-flat_map}
+use Rattle.fak_kernel.proofs.Common.{Outcome, Ended, Halted, RowOf, ReportOf, IsSortedByName, rows_with, sleepers_outcome, FitsRow, notes, shuts_of, JoinedTo, ObjectsOf, AreFor, ids_of, AreSeated, row_as, files_of, AreGathered, FilesJoined, AreClosed, IsSleeper, IsWholeAt, left_at, rows_left, shut_lines, ◌≡◌, ℕ, zero, suc, ◌+◌, ◌-◌, ◌<◌, ◌≤◌, nat_lt, Bool, true, false, List, [], ◌∷◌, ◌++◌, length, get_or, refl, ap, sym, ◌∙◌, subst, arith, append_assoc, map, slice_index, sum_by, flat_map, All, IsPermutation, All-nil, All-cons, All-head, All-tail, All-append, sum_by-append, IsPermutation-trans, contents, ObjectId, IsWhole, FileEntry, Mark, entries_after, IsSettled, SemId, SemInfo, SemTallyInfo, Gathered, asleep, lines, lines_of, rows_of, TalliesOf, AreTalliesOf, HaveNames, tallies_of, ids_of_tallies, no_tally, sum_by-map, sum_by-flat_map, flat_map-cons, CreditMark, whole_mine}
 use Rattle.fak_run.specs.Promises.{Promised, spawned_names}
 use Rattle.fak_run.specs.Reported as reported
 use Rattle.fak_run.specs.RunReports.{RunReports}

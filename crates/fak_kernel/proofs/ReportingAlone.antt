@@ -1,6 +1,4 @@
 -- The report of one processor is the list scheduler's.
-use Rattle.std.proofs.lemmas.List.Concat.{flat_map-cons}
-use Rattle.fak_model.specs.declared.queue.Kind.{Kind}
 use Rattle.fak_model.specs.declared.queue.Kind.TheVariants.{ClaimIn, OverIn, BackIn, NoRoom, Put, Fill, EndIn, ClaimOut, OverOut, BackOut, NoItem, Got, Take, EndOut, Close, Closed, LateIn}
 use Rattle.fak_model.specs.declared.room.RoomKind.{RoomKind}
 use Rattle.fak_model.specs.declared.room.RoomMark.{RoomMark}
@@ -8,9 +6,8 @@ use Rattle.fak_model.specs.Queue as queue
 use Rattle.fak_model.specs.Room as room
 use Rattle.fak_count.specs.Rooms.{held_amount}
 use Rattle.fak_text.proofs.Common.{ScriptOf, Process, births_of}
-use Rattle.fak_kernel.proofs.Common.{turn_over, Ended, Halted, notes, sleepers_of, ObjectsOf, ProcessorOf, AreFor, IsReached, lists_of, AreSeated, TalliesOf, AreGathered, AreOfOne, AreClosed, left_at, rows_left, shut_lines, ◌≡◌, ℕ, zero, suc, ◌+◌, ◌-◌, nat_lt, true, List, [], ◌∷◌, ◌++◌, length, refl, ap, sym, ◌∙◌, subst, arith, map, ◌||◌, sum_by, flat_map, IsPermutation, nat_tests, contents, up_amount, release_amount, marks_of, mine, close_of, FileEntry, Mark, entries_after, SemSeatInfo, sem_tally_of, RowOf, ReportOf, IsSortedByName, IsReportOf, ListSchedulerReports, rows_at, rows_with, sleepers_outcome, sum_by-map}
+use Rattle.fak_kernel.proofs.Common.{turn_over, Ended, Halted, notes, sleepers_of, ObjectsOf, ProcessorOf, AreFor, IsReached, lists_of, AreSeated, TalliesOf, AreGathered, AreOfOne, AreClosed, left_at, rows_left, shut_lines, ◌≡◌, ℕ, zero, suc, ◌+◌, ◌-◌, nat_lt, true, List, [], ◌∷◌, ◌++◌, length, refl, ap, sym, ◌∙◌, subst, arith, map, ◌||◌, sum_by, flat_map, IsPermutation, nat_tests, contents, up_amount, release_amount, marks_of, mine, close_of, FileEntry, Mark, entries_after, SemSeatInfo, sem_tally_of, RowOf, ReportOf, IsSortedByName, IsReportOf, ListSchedulerReports, rows_at, rows_with, sleepers_outcome, sum_by-map, flat_map-cons, Kind, mine_one}
 use Rattle.fak_processor.specs.OnlyQueues.{has_close, is_close}
-use Rattle.fak_model.proofs.SeatWeights.{mine_one}
 use Rattle.fak_kernel.proofs.Reporting.{all_gathered, shut_notes, rows_promised, notes_in_rows}
 
 -- whether a queue was shut, by a count

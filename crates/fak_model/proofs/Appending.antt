@@ -1,6 +1,5 @@
 -- One mark more, and one mark less.
-use Rattle.std.proofs.lemmas.Grind.{common_steps}
-use Rattle.fak_model.proofs.Common.{nat_tests, filter-append, flat_map-append, Rules, seat_words, Owes, AreCalls, IsHistory, ◌≡◌, ◌≢◌, ◌⊎◌, ℕ, List, [], ◌∷◌, ◌++◌, refl, ap, sym, ◌∙◌, subst, arith, inl, inr, append_assoc, map, filter, flat_map}
+use Rattle.fak_model.proofs.Common.{nat_tests, filter-append, flat_map-append, Rules, seat_words, Owes, AreCalls, IsHistory, ◌≡◌, ◌≢◌, ◌⊎◌, ℕ, List, [], ◌∷◌, ◌++◌, refl, ap, sym, ◌∙◌, subst, arith, inl, inr, append_assoc, map, filter, flat_map, common_steps}
 use Rattle.std.proofs.lemmas.List.{append-nil, map-append}
 use Rattle.fak_model.proofs.Deciding.{same_or_not}
 

@@ -1,6 +1,5 @@
 -- What the checker finds in the marks that it has read.
-use Rattle.std.proofs.lemmas.Grind.{common_steps}
-use Rattle.fak_model.proofs.Common.{count, Has, puts, gots, stage, after, item_of, HasCell, Kind, ClaimIn, OverIn, Put, Fill, ClaimOut, OverOut, Got, Take, LateIn, Mark, Stage, Putting, Getting, ◌≡◌, ℕ, ◌+◌, ◌-◌, ◌<◌, ◌≤◌, List, [], ◌∷◌, ◌++◌, length, take, drop, get_or, reverse, Some, None, refl, ap, sym, ◌∙◌, subst, arith, inl, inr, reverse-append, take_more, take-append-drop, stage_with}
+use Rattle.fak_model.proofs.Common.{count, Has, puts, gots, stage, after, item_of, HasCell, Kind, Put, Fill, Take, Mark, Stage, ◌≡◌, ℕ, ◌+◌, ◌-◌, ◌<◌, ◌≤◌, List, [], ◌∷◌, ◌++◌, length, take, drop, get_or, reverse, Some, None, ap, sym, ◌∙◌, subst, arith, inl, inr, reverse-append, take_more, take-append-drop, stage_with, common_steps}
 use Rattle.fak_model.proofs.Deciding.{cond_here}
 use Rattle.fak_model.proofs.QueueStages.{stage_here}
 use Rattle.fak_model.proofs.QueueTickets.{item_stays, item_below}
@@ -49,16 +48,7 @@ item_none {A} h k e = grind (arith, common_steps, item_of, item_below)
 
 -- a stage by counts is a stage by what came before
 stage_counted : (h : List (Mark ℕ)) (p g : ℕ) (κ : Kind ℕ) → p ≡ count puts h → g ≡ count gots h → stage_with p g κ ≡ after h κ
-stage_counted h p g (Put x) e f = ap (λ n. Putting n x) e
-stage_counted h p g (Got x) e f = ap Getting f
-stage_counted h p g ClaimIn e f = refl
-stage_counted h p g OverIn e f = refl
-stage_counted h p g LateIn e f = refl
-stage_counted h p g (Fill k) e f = refl
-stage_counted h p g ClaimOut e f = refl
-stage_counted h p g OverOut e f = refl
-stage_counted h p g (Take k) e f = refl
-stage_counted h p g _ e f = refl
+stage_counted h p g κ e f = grind (arith, common_steps, count, puts, gots, stage_with, after)
 
 -- the stage that is read off the newest mark of a seat, with this many draws left before it
 pub stage_found : (past : List (Mark ℕ)) (i j s p g : ℕ) (d : Mark ℕ) (r : Stage ℕ) → j + 1 ≡ i → j < length past → (get_or past j d).seat ≡ s → stage (reverse past) s ≡ stage (reverse (take i past)) s

@@ -1,8 +1,6 @@
 -- The law of a credit.
-use Rattle.std.proofs.lemmas.Grind.{common_steps}
-use Rattle.fak_model.proofs.Common.{AreCalls, seat_words, ◌≡◌, ℕ, ◌+◌, min, cond, List, [], ◌∷◌, ◌++◌, refl, ap, sym, ◌∙◌, arith, append_assoc, pos, ◌-ℤ◌, int_lt, append-nil, flat_map}
+use Rattle.fak_model.proofs.Common.{AreCalls, seat_words, ◌≡◌, ℕ, ◌+◌, min, List, [], ◌∷◌, ◌++◌, refl, ap, sym, ◌∙◌, arith, append_assoc, pos, ◌-ℤ◌, int_lt, append-nil, flat_map, common_steps}
 use Rattle.fak_model.specs.declared.credit.CreditKind.{CreditKind}
-use Rattle.fak_model.specs.declared.credit.CreditKind.TheVariants.{Debit, Credit}
 use Rattle.fak_model.specs.declared.credit.CreditMark.{CreditMark}
 use Rattle.fak_model.specs.Credit.{debit_weight, credit_weight, kind_of, debits, credits, value, grants, grants_made_from, grants_made, credit_rules, IsCreditHistory}
 use Rattle.fak_model.proofs.Appending.{snoc_ind}
@@ -17,8 +15,7 @@ from_push start before (x ∷ h) m =
 
 -- a mark grants where the lesser of debits and credits grows
 one_more : (s d c g : ℕ) (k : CreditKind) → g ≡ min d (s + c) → g + grants (pos (s + c) -ℤ pos d) k ≡ min (d + debit_weight k) (s + (c + credit_weight k))
-one_more s d c g Debit e = grind (arith, common_steps, int_lt, pos, cond, min)
-one_more s d c g Credit e = grind (arith, common_steps, int_lt, pos, cond, min)
+one_more s d c g k e = grind (arith, common_steps, min, grants, debit_weight, credit_weight, int_lt)
 
 pub granted_is : (start : ℕ) (h : List CreditMark) → grants_made start h ≡ min (debits h) (start + credits h)
 granted_is start = snoc_ind (λ (h : List CreditMark). grants_made start h ≡ min (debits h) (start + credits h)) (omega arith) (λ h m before.

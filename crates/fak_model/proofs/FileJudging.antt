@@ -1,5 +1,5 @@
 -- Whether a list of marks is a file table's history.
-use Rattle.fak_model.proofs.Common.{ints, flat_map-append, FileKind, FileMark, Owes, AreCalls, ◌≡◌, ℕ, zero, suc, ◌+◌, ltb, ◌==◌, Bool, true, List, [], ◌∷◌, ◌++◌, Decides, refl, ap, sym, ◌∙◌, arith, append_assoc, ◌&&◌, ◌||◌, map, flat_map, Decides-eqb, Decides-ltb, Decides-like, Decides-and, Decides-or, Setting, set_mark, WholeCall, Refused, Withdrawn, Held, kinds_of_call, total, take_amount, over_amount, back_amount, amount_held, amount_given, IsAmount, IsFair, file_rules, IsFileHistory}
+use Rattle.fak_model.proofs.Common.{flat_map-append, FileKind, FileMark, Owes, AreCalls, ◌≡◌, ℕ, zero, suc, ◌+◌, ltb, ◌==◌, Bool, true, List, [], ◌∷◌, ◌++◌, Decides, refl, ap, sym, ◌∙◌, arith, append_assoc, ◌&&◌, ◌||◌, map, flat_map, Decides-eqb, Decides-or, Setting, set_mark, WholeCall, Refused, Withdrawn, Held, kinds_of_call, total, take_amount, over_amount, back_amount, amount_held, amount_given, IsAmount, IsFair, file_rules, IsFileHistory, common_steps}
 use Rattle.std.proofs.lemmas.List.{append-nil, map-append}
 use Rattle.fak_model.specs.declared.file.FileKind.TheVariants.{Take, Over, Back, No, Set, Give}
 use Rattle.fak_model.proofs.Appending.{owed_comes, call_begins}
@@ -67,9 +67,7 @@ comes ws (Set i f v) h = hold_set ws (record { entry = i; field = f; to = v }) h
 comes ws Give h = owed_comes kinds_of_call ws Give [] (hold_owes ws h)
 
 pub are_calls : (p : ℕ) (ws : List FileKind) → Stands p ws → AreCalls kinds_of_call ws
-are_calls zero ws o = ([], o)
-are_calls (suc zero) ws h = (Give ∷ [], hold_owes ws h)
-are_calls (suc (suc n)) ws o = (Back n ∷ [], o)
+are_calls p ws o = grind (arith, common_steps, kinds_of_call, AreCalls, hold_owes)
 
 abbrev pub file_grammar : Grammar kinds_of_call
 file_grammar = record { needs = needs; leads = leads; runs = calls_run; Stands = Stands; rest = ([], refl); comes = comes; are_calls = are_calls }
@@ -98,12 +96,7 @@ amount_decided : (k n : ℕ) → Decides (is_amount k n) (IsAmount k n)
 amount_decided k n = Decides-or (n == 1) (n == k) (Decides-eqb n 1) (Decides-eqb n k)
 
 pub kind_decided : (k : ℕ) (before : List FileMark) (seat : ℕ) (kind : FileKind) → Decides (is_fair_kind k before seat kind) (IsFair k before seat kind)
-kind_decided k before seat (Take n) = Decides-and _ _ (amount_decided k n) (Decides-like _ (λ le. omega (arith, ints, le)) (λ le. omega (arith, ints, le)) (le_decided (n + (total take_amount before + total over_amount before)) (k + total back_amount before + amount_given before)))
-kind_decided k before seat (No n) = Decides-and _ _ (amount_decided k n) (Decides-like _ (λ lt. omega (arith, ints, lt)) (λ lt. omega (arith, ints, lt)) (Decides-ltb (k + total back_amount before + amount_given before) (n + (total take_amount before + total over_amount before))))
-kind_decided k before seat (Over n) = Decides-and _ _ (amount_decided k n) (Decides-like _ (λ lt. omega (arith, ints, lt)) (λ lt. omega (arith, ints, lt)) (Decides-ltb (k + total back_amount before + amount_given before) (n + (total take_amount before + total over_amount before))))
-kind_decided k before seat (Set i f v) = Decides-eqb (amount_held seat before) k
-kind_decided k before seat (Back n) = (λ e. tt, λ u. refl)
-kind_decided k before seat Give = (λ e. tt, λ u. refl)
+kind_decided k before seat kind = grind (arith, common_steps, IsFair, amount_decided, le_decided, total, take_amount, over_amount, back_amount, amount_given, amount_held)
 
 abbrev pub is_file_history : ℕ → List FileMark → Bool
 is_file_history k h = judged (file_rules k) file_grammar (is_fair k) (λ before m. kind_decided k before m.seat m.kind) [] h

@@ -1,6 +1,6 @@
 -- The law of a file table.
-use Rattle.fak_model.proofs.Common.{ints, All-pop, FileKind, FileMark, seat_words, AreNamed, sum_below, ◌≡◌, ◌≢◌, ◌⊎◌, ℕ, ◌+◌, ◌<◌, ◌≤◌, List, [], ◌∷◌, ◌++◌, Some, refl, ap, sym, ◌∙◌, arith, inl, inr, append_assoc, map, append-nil, Setting, set_mark, Refused, Withdrawn, Held, kinds_of_call, kind_of, take_amount, over_amount, back_amount, total, hold_after, hold_from, amount_held, gives, amount_given_from, amount_given, IsFair, file_rules, IsFileHistory}
-use Rattle.fak_model.specs.declared.file.FileKind.TheVariants.{Take, Give}
+use Rattle.fak_model.proofs.Common.{All-pop, FileKind, FileMark, seat_words, AreNamed, sum_below, ◌≡◌, ◌≢◌, ◌⊎◌, ℕ, ◌+◌, ◌<◌, ◌≤◌, List, [], ◌∷◌, ◌++◌, Some, refl, ap, sym, ◌∙◌, arith, inl, inr, append_assoc, map, append-nil, Setting, set_mark, kinds_of_call, kind_of, take_amount, over_amount, back_amount, total, hold_after, hold_from, amount_held, gives, amount_given_from, amount_given, IsFair, file_rules, IsFileHistory, common_steps}
+use Rattle.fak_model.specs.declared.file.FileKind.TheVariants.{Give}
 use Rattle.fak_model.proofs.Appending.{snoc_ind, seat_words-own, seat_words-other, history_front, last_fair}
 use Rattle.fak_model.proofs.Leading.{CallsLead, Leads, history_leads, total_push, sum_one, sum_none}
 
@@ -9,9 +9,7 @@ sets_after [] a b le = (le, omega (arith, le))
 sets_after (s ∷ sets) a b le = (le, sets_after sets (a + 0) (b + 0) (omega (arith, le)))
 
 backs_after : CallsLead kinds_of_call back_amount over_amount
-backs_after (Refused n) a b le = search arith
-backs_after (Withdrawn n) a b le = search arith
-backs_after (Held n sets) a b le = (le, sets_after sets (a + 0) (b + 0) (omega (arith, le)))
+backs_after e a b le = grind (arith, common_steps, kinds_of_call, back_amount, over_amount, sets_after)
 
 pub given_push : (before h : List FileMark) (m : FileMark) → amount_given_from before (h ++ m ∷ []) ≡ amount_given_from before h + gives (amount_held m.seat (before ++ h)) m.kind
 given_push before [] m = ap (λ l. gives (amount_held m.seat l) m.kind + 0) (sym (append-nil before)) ∙ omega arith
@@ -26,14 +24,11 @@ hold_push n (x ∷ ks) k = hold_push (hold_after n x) ks k
 
 -- what one mark does to its seat's hold
 hold_moves : (n : ℕ) (kind : FileKind) → hold_after n kind + gives n kind ≤ n + take_amount kind
-hold_moves n (Take a) = omega arith
-hold_moves n Give = omega arith
-hold_moves n _ = omega arith
+hold_moves n kind = grind (arith, common_steps, hold_after, gives, take_amount)
 
 fits_of : (k : ℕ) (h : List FileMark) (seat : ℕ) (kind : FileKind) → IsFair k h seat kind
     → (take_amount kind ≡ 0) ⊎ (total take_amount h + total over_amount h + take_amount kind ≤ k + total back_amount h + amount_given h)
-fits_of k h seat (Take n) fair = inr (omega (arith, ints, fair.1))
-fits_of k h seat _ fair = inl refl
+fits_of k h seat kind fair = grind (arith, common_steps, take_amount, total, over_amount, back_amount, amount_given, IsFair)
 
 pub holds_fit : (k seats : ℕ) (h : List FileMark) → IsFileHistory k h → AreNamed (file_rules k) seats h
     → (sum_below (λ s. amount_held s h) seats + amount_given h ≤ total take_amount h) × (total take_amount h ≤ k + amount_given h)

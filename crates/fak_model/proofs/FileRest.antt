@@ -1,5 +1,5 @@
 -- A file table at rest.
-use Rattle.fak_model.proofs.Common.{ints, All-pop, FileKind, FileMark, seat_words, IsAtRest, AreNamed, sum_below, ◌≡◌, ◌≢◌, ◌⊎◌, ℕ, ◌+◌, ◌<◌, List, [], ◌∷◌, ◌++◌, Some, refl, ap, sym, ◌∙◌, arith, inl, inr, map, pos, sum_by}
+use Rattle.fak_model.proofs.Common.{ints, All-pop, FileKind, FileMark, seat_words, IsAtRest, AreNamed, sum_below, ◌≡◌, ◌≢◌, ◌⊎◌, ℕ, ◌+◌, ◌<◌, List, [], ◌∷◌, ◌++◌, Some, refl, ap, sym, ◌∙◌, arith, inl, inr, map, pos, sum_by, common_steps}
 use Rattle.fak_model.specs.declared.file.FileKind.TheVariants.{Take, Over, Back, No, Set, Give}
 use Rattle.fak_model.specs.File.{Setting, set_mark, WholeCall, Refused, Withdrawn, Held, kinds_of_call, kind_of, take_amount, over_amount, back_amount, total, hold_after, hold_from, amount_held, gives, amount_given, count, file_rules, IsFileHistory}
 use Rattle.fak_model.proofs.Appending.{snoc_ind, seat_words-own, seat_words-other, history_front, last_calls}
@@ -44,9 +44,7 @@ no_hold ws r e = elim (holds_at 0 0 ws r (inr refl)) [ inl t ↦ absurd (omega (
 
 -- what one mark does to its seat's hold, where a Take finds none
 hold_moves : (n : ℕ) (kind : FileKind) → (needs kind ≡ 0 → n ≡ 0) → hold_after n kind + gives n kind ≡ n + take_amount kind
-hold_moves n (Take a) e = omega (arith, e refl)
-hold_moves n Give e = omega arith
-hold_moves n _ e = omega arith
+hold_moves n kind e = grind (arith, common_steps, hold_after, gives, take_amount)
 
 -- what all seats hold and what was given back was taken
 pub holds_total : (k seats : ℕ) (h : List FileMark) → IsFileHistory k h → AreNamed (file_rules k) seats h → sum_below (λ s. amount_held s h) seats + amount_given h ≡ total take_amount h
@@ -70,9 +68,7 @@ sets_even [] = refl
 sets_even (s ∷ sets) = omega (arith, sets_even sets)
 
 call_even : (c : WholeCall) → sum_by over_amount (kinds_of_call c) ≡ sum_by back_amount (kinds_of_call c)
-call_even (Refused n) = refl
-call_even (Withdrawn n) = omega arith
-call_even (Held n sets) = omega (arith, sets_even sets)
+call_even c = grind (arith, common_steps, sum_by, over_amount, kinds_of_call, back_amount, sets_even)
 
 -- where no call is cut short the count is K
 pub files_rest : (k seats : ℕ) (h : List FileMark) → IsFileHistory k h → AreNamed (file_rules k) seats h → IsAtRest (file_rules k) h → count k h ≡ pos k

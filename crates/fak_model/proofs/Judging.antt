@@ -1,6 +1,5 @@
 -- Whether a list of marks is a history, by a test of each mark: for grammars in which each word has one place in a call.
-use Rattle.std.proofs.lemmas.Grind.{common_steps}
-use Rattle.fak_model.proofs.Common.{Decides-eqb, Decides-ltb, Decides-like, Decides-and, Rules, seat_words, AreCalls, IsHistory, ◌≡◌, ℕ, ◌+◌, ◌≤◌, ltb, ◌==◌, Bool, true, false, List, [], ◌∷◌, ◌++◌, Decides, refl, sym, subst, arith, append_assoc, ◌&&◌, append-nil}
+use Rattle.fak_model.proofs.Common.{Decides-eqb, Decides-ltb, Decides-like, Decides-and, Rules, seat_words, AreCalls, IsHistory, ◌≡◌, ℕ, ◌+◌, ◌≤◌, ltb, ◌==◌, Bool, true, List, [], ◌∷◌, ◌++◌, Decides, refl, sym, subst, arith, append_assoc, ◌&&◌, append-nil, common_steps}
 use Rattle.fak_model.proofs.Appending.{seat_words-own, seat_words-other, history_none, history_push, history_prefix, last_calls, last_fair}
 use Rattle.fak_model.proofs.Deciding.{same_or_not}
 use Rattle.fak_model.proofs.Places.{ends, ends_push, CallsRun, may_come}
@@ -46,8 +45,7 @@ module _ {M W C : Type 0} (rules : Rules M W C) (g : Grammar rules.words_of) (is
   sound before (m ∷ rest) j e = by (may_stand before m) refl e (λ may later. sound (before ++ m ∷ []) rest (judged_more before m j may) later)
     where
       by : (b : Bool) → may_stand before m ≡ b → (b && judged (before ++ m ∷ []) rest) ≡ true → (MayStand before m → judged (before ++ m ∷ []) rest ≡ true → IsHistory rules ((before ++ m ∷ []) ++ rest)) → IsHistory rules (before ++ m ∷ rest)
-      by true is e more = subst (IsHistory rules) (append_assoc before (m ∷ []) rest) (more ((stand_decided before m).0 is) e)
-      by false is e more = absurd (cc)
+      by b is e more = grind (arith, common_steps, rest, IsHistory, append_assoc, stand_decided)
 
   complete : (before rest : List M) → IsHistory rules (before ++ rest) → judged before rest ≡ true
   complete before [] law = refl

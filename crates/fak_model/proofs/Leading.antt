@@ -1,6 +1,5 @@
 -- What each call does first stays ahead in the marks of a seat, and of all seats.
-use Rattle.std.proofs.lemmas.Grind.{common_steps}
-use Rattle.fak_model.proofs.Common.{nat_tests, sum_by-cons, sum_by_push, sum_by-append, All-head, All-tail, Rules, seat_words, Owes, AreCalls, IsHistory, IsAtRest, AreNamed, sum_below, sym, ◌≡◌, ◌≢◌, ℕ, zero, suc, ◌+◌, ◌*◌, ◌<◌, ◌≤◌, ◌==◌, Bool, true, false, cond, List, [], ◌∷◌, ◌++◌, refl, ap, ◌∙◌, subst, arith, inl, inr, map, sum_by, flat_map}
+use Rattle.fak_model.proofs.Common.{nat_tests, sum_by-cons, sum_by_push, sum_by-append, All-head, All-tail, Rules, seat_words, Owes, AreCalls, IsHistory, IsAtRest, AreNamed, sum_below, sym, ◌≡◌, ◌≢◌, ℕ, zero, suc, ◌+◌, ◌*◌, ◌<◌, ◌≤◌, ◌==◌, Bool, true, false, cond, List, [], ◌∷◌, ◌++◌, refl, ap, ◌∙◌, subst, arith, inl, inr, map, sum_by, flat_map, common_steps}
 use Rattle.std.proofs.lemmas.List.{append-nil, map_push}
 use Rattle.fak_model.proofs.Deciding.{same_or_not}
 
@@ -83,8 +82,7 @@ sum_term f t (suc n) l = elim (same_or_not n t) [
 
 said_first : {M W C : Type 0} (rules : Rules M W C) (f : W → ℕ) (m : M) (h : List M) (k : ℕ) (b : Bool) → (rules.seat_of m == k) ≡ b
     → sum_by f (seat_words rules k (m ∷ h)) ≡ cond b (f (rules.word_of m)) 0 + sum_by f (seat_words rules k h)
-said_first rules f m h k true is = rw is (sum_by-cons f (rules.word_of m) (seat_words rules k h))
-said_first rules f m h k false is = rw is (omega arith)
+said_first rules f m h k b is = grind (arith, common_steps, sum_by, seat_words, sum_by-cons)
 
 -- the seats' own marks are all marks
 pub sum_parts : {M W C : Type 0} (rules : Rules M W C) (f : W → ℕ) (n : ℕ) (h : List M) → AreNamed rules n h → sum_below (λ k. sum_by f (seat_words rules k h)) n ≡ sum_by f (map rules.word_of h)

@@ -1,7 +1,5 @@
 -- Flags for the names of seats.
-use Rattle.std.proofs.lemmas.Grind.{common_steps}
-use Rattle.std.proofs.Common.{arith}
-use Rattle.std.proofs.Common.{◌≡◌, ◌⊎◌, ℕ, zero, suc, ◌<◌, List, length, Bool, true, false, true≢false, slice_index_or, slice_set, replicate, sym, ◌↔◌, get_or-set_same, get_or-set_other}
+use Rattle.fak_model.proofs.Common.{common_steps, arith, ◌≡◌, ◌⊎◌, ℕ, zero, suc, ◌<◌, List, length, Bool, true, false, true≢false, slice_index_or, slice_set, replicate, sym, ◌↔◌, get_or-set_same, get_or-set_other}
 use mathlib.Core.Logic.{dite}
 
 pub flags_none : (k n : ℕ) → slice_index_or (replicate k false) n false ≡ true → ⊥

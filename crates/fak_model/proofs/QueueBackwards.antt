@@ -1,7 +1,6 @@
 -- A history and its past: counts, marks and items are the same from either end.
-use Rattle.std.proofs.lemmas.Grind.{common_steps}
 use Rattle.std.proofs.lemmas.List.{append-nil, reverse-reverse}
-use Rattle.fak_model.proofs.Common.{All-cons, All-head, All-tail, flat_map-append, Kind, Put, Mark, count, puts, Has, Idle, items_put, item_in, item_at, Drew, ◌≡◌, ◌≢◌, ◌⊎◌, ℕ, zero, suc, ◌+◌, cond, List, [], ◌∷◌, ◌++◌, length, length-append, reverse, Option, Some, refl, ap, sym, ◌∙◌, subst, arith, rules, inl, inr, All, after, stage, item_put, item_of}
+use Rattle.fak_model.proofs.Common.{All-cons, All-head, All-tail, flat_map-append, Kind, Mark, count, puts, Has, Idle, items_put, item_in, item_at, Drew, ◌≡◌, ◌≢◌, ◌⊎◌, ℕ, zero, suc, ◌+◌, List, [], ◌∷◌, ◌++◌, length, length-append, reverse, Option, Some, refl, ap, sym, ◌∙◌, subst, arith, rules, inl, inr, All, after, stage, item_put, item_of, common_steps}
 use Rattle.fak_model.proofs.Appending.{snoc_ind}
 use Rattle.fak_model.proofs.Reversing.{reverse_cons, reverse_push, reverse_split, All-reverse}
 use Rattle.fak_model.proofs.Deciding.{cond_here, cond_else, same_or_not}
@@ -48,8 +47,7 @@ pub items_push : {A : Type 0} (h : List (Mark A)) (m : Mark A) → items_put (h 
 items_push h m = flat_map-append item_in h (m ∷ []) ∙ ap (λ l. items_put h ++ l) (append-nil (item_in m))
 
 item_in_count : {A : Type 0} (s : ℕ) (κ : Kind A) → length (item_in (record { seat = s; kind = κ })) ≡ puts κ
-item_in_count s (Put x) = refl
-item_in_count s _ = refl
+item_in_count s κ = grind (arith, common_steps, length, item_in, puts)
 
 pub items_count : {A : Type 0} (h : List (Mark A)) → length (items_put h) ≡ count puts h
 items_count {A} = snoc_ind (λ (h : List (Mark A)). length (items_put h) ≡ count puts h) refl (λ h m before.
@@ -57,8 +55,7 @@ items_count {A} = snoc_ind (λ (h : List (Mark A)). length (items_put h) ≡ cou
 
 one_more : {A : Type 0} (xs : List A) (s : ℕ) (κ : Kind A) (n k : ℕ) (r : Option A) → length xs ≡ n → item_at xs k ≡ r
     → item_at (xs ++ item_in (record { seat = s; kind = κ })) k ≡ item_put k n κ r
-one_more xs s (Put x) n k r l e = grind (arith, common_steps, same_or_not, item_at, item_at_new, cond, cond_here, item_at_old, cond_else)
-one_more xs s _ n k r l e = ap (λ t. item_at t k) (append-nil xs) ∙ e
+one_more xs s κ n k r l e = grind (arith, common_steps, length, item_at, item_in, item_put, same_or_not, item_at_new, cond_here, item_at_old, cond_else, append-nil)
 
 -- the item at place k is that of the Put with ticket k
 pub item_same : {A : Type 0} (k : ℕ) (h : List (Mark A)) → item_at (items_put h) k ≡ item_of (reverse h) k

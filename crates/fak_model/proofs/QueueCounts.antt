@@ -1,5 +1,5 @@
 -- What the marks of a legal past add up to, seat by seat.
-use Rattle.fak_model.proofs.Common.{Kind, ClaimIn, OverIn, BackIn, Fill, EndIn, ClaimOut, OverOut, BackOut, EndOut, LateIn, Mark, count, puts, gots, upper_raise, upper_drop, lower_raise, lower_drop, Stage, ◌≡◌, ◌≢◌, ◌⊎◌, ℕ, zero, suc, ◌+◌, ◌<◌, ◌≤◌, List, [], ◌∷◌, length, refl, ap, ◌∙◌, inl, inr, arith, Idle, Withdrawing, Claimed, Putting, Filled, WithdrawingOut, ClaimedOut, Getting, Taken}
+use Rattle.fak_model.proofs.Common.{Kind, ClaimIn, OverIn, BackIn, EndIn, ClaimOut, OverOut, BackOut, EndOut, LateIn, Mark, count, puts, gots, upper_raise, upper_drop, lower_raise, lower_drop, Stage, ◌≡◌, ◌≢◌, ◌⊎◌, ℕ, zero, suc, ◌+◌, ◌<◌, ◌≤◌, List, [], ◌∷◌, length, refl, ap, ◌∙◌, inl, inr, arith, Idle, Withdrawing, Claimed, Putting, Filled, WithdrawingOut, ClaimedOut, Getting, Taken, common_steps}
 use Rattle.fak_model.specs.QueuePast.{UpperBelow, LowerPositive, after, stage, IsNext, IsFair, IsLegalPast, HasNoOpenCall, SeatsBelow}
 use Rattle.fak_model.proofs.Deciding.{same_or_not}
 use Rattle.fak_model.proofs.QueueStages.{stage_here, stage_else}
@@ -121,55 +121,37 @@ in_got (Taken k) = 1
 in_got _ = 0
 
 step_over_in : {A : Type 0} (h : List (Mark A)) (s : ℕ) (κ : Kind A) → IsNext (stage h s) κ → an_over_in κ + in_over_in (stage h s) ≡ a_back_in κ + in_over_in (after h κ)
-step_over_in h s (Fill k) f = omega (arith, ap in_over_in f.1)
-step_over_in h s EndIn f = omega (arith, ap in_over_in f.1)
-step_over_in h s EndOut f = omega (arith, ap in_over_in f.1)
-step_over_in h s _ f = omega (arith, ap in_over_in f)
+step_over_in h s κ f = grind (arith, common_steps, stage, after, IsNext)
 
 pub open_over_in : {A : Type 0} (size n : ℕ) (h : List (Mark A)) → IsLegalPast size h → SeatsBelow n h → count an_over_in h ≡ count a_back_in h + tally in_over_in (stage h) n
 open_over_in size n h l below = conserve size an_over_in a_back_in in_over_in refl step_over_in n h l below
 
 step_claim_in : {A : Type 0} (h : List (Mark A)) (s : ℕ) (κ : Kind A) → IsNext (stage h s) κ → a_claim_in κ + in_claim_in (stage h s) ≡ puts κ + in_claim_in (after h κ)
-step_claim_in h s (Fill k) f = omega (arith, ap in_claim_in f.1)
-step_claim_in h s EndIn f = omega (arith, ap in_claim_in f.1)
-step_claim_in h s EndOut f = omega (arith, ap in_claim_in f.1)
-step_claim_in h s _ f = omega (arith, ap in_claim_in f)
+step_claim_in h s κ f = grind (arith, common_steps, stage, puts, after, IsNext)
 
 pub open_claim_in : {A : Type 0} (size n : ℕ) (h : List (Mark A)) → IsLegalPast size h → SeatsBelow n h → count a_claim_in h ≡ count puts h + tally in_claim_in (stage h) n
 open_claim_in size n h l below = conserve size a_claim_in puts in_claim_in refl step_claim_in n h l below
 
 step_put : {A : Type 0} (h : List (Mark A)) (s : ℕ) (κ : Kind A) → IsNext (stage h s) κ → puts κ + in_put (stage h s) ≡ an_end_in κ + in_put (after h κ)
-step_put h s (Fill k) f = omega (arith, ap in_put f.1)
-step_put h s EndIn f = omega (arith, ap in_put f.1)
-step_put h s EndOut f = omega (arith, ap in_put f.1)
-step_put h s _ f = omega (arith, ap in_put f)
+step_put h s κ f = grind (arith, common_steps, stage, puts, after, IsNext)
 
 pub open_put : {A : Type 0} (size n : ℕ) (h : List (Mark A)) → IsLegalPast size h → SeatsBelow n h → count puts h ≡ count an_end_in h + tally in_put (stage h) n
 open_put size n h l below = conserve size puts an_end_in in_put refl step_put n h l below
 
 step_over_out : {A : Type 0} (h : List (Mark A)) (s : ℕ) (κ : Kind A) → IsNext (stage h s) κ → an_over_out κ + in_over_out (stage h s) ≡ a_back_out κ + in_over_out (after h κ)
-step_over_out h s (Fill k) f = omega (arith, ap in_over_out f.1)
-step_over_out h s EndIn f = omega (arith, ap in_over_out f.1)
-step_over_out h s EndOut f = omega (arith, ap in_over_out f.1)
-step_over_out h s _ f = omega (arith, ap in_over_out f)
+step_over_out h s κ f = grind (arith, common_steps, stage, after, IsNext)
 
 pub open_over_out : {A : Type 0} (size n : ℕ) (h : List (Mark A)) → IsLegalPast size h → SeatsBelow n h → count an_over_out h ≡ count a_back_out h + tally in_over_out (stage h) n
 open_over_out size n h l below = conserve size an_over_out a_back_out in_over_out refl step_over_out n h l below
 
 step_claim_out : {A : Type 0} (h : List (Mark A)) (s : ℕ) (κ : Kind A) → IsNext (stage h s) κ → a_claim_out κ + in_claim_out (stage h s) ≡ gots κ + in_claim_out (after h κ)
-step_claim_out h s (Fill k) f = omega (arith, ap in_claim_out f.1)
-step_claim_out h s EndIn f = omega (arith, ap in_claim_out f.1)
-step_claim_out h s EndOut f = omega (arith, ap in_claim_out f.1)
-step_claim_out h s _ f = omega (arith, ap in_claim_out f)
+step_claim_out h s κ f = grind (arith, common_steps, stage, gots, after, IsNext)
 
 pub open_claim_out : {A : Type 0} (size n : ℕ) (h : List (Mark A)) → IsLegalPast size h → SeatsBelow n h → count a_claim_out h ≡ count gots h + tally in_claim_out (stage h) n
 open_claim_out size n h l below = conserve size a_claim_out gots in_claim_out refl step_claim_out n h l below
 
 step_got : {A : Type 0} (h : List (Mark A)) (s : ℕ) (κ : Kind A) → IsNext (stage h s) κ → gots κ + in_got (stage h s) ≡ an_end_out κ + in_got (after h κ)
-step_got h s (Fill k) f = omega (arith, ap in_got f.1)
-step_got h s EndIn f = omega (arith, ap in_got f.1)
-step_got h s EndOut f = omega (arith, ap in_got f.1)
-step_got h s _ f = omega (arith, ap in_got f)
+step_got h s κ f = grind (arith, common_steps, stage, gots, after, IsNext)
 
 pub open_got : {A : Type 0} (size n : ℕ) (h : List (Mark A)) → IsLegalPast size h → SeatsBelow n h → count gots h ≡ count an_end_out h + tally in_got (stage h) n
 open_got size n h l below = conserve size gots an_end_out in_got refl step_got n h l below
@@ -181,29 +163,22 @@ count_two a b c e [] = refl
 count_two a b c e (m ∷ h) = let rest = count_two a b c e h in let here = e m.kind in omega arith
 
 upper_raise_two : {A : Type 0} (κ : Kind A) → upper_raise κ ≡ a_claim_in κ + an_over_in κ
-upper_raise_two ClaimIn = refl
-upper_raise_two OverIn = refl
-upper_raise_two _ = refl
+upper_raise_two κ = grind (arith, common_steps, upper_raise)
 
 upper_drop_two : {A : Type 0} (κ : Kind A) → upper_drop κ ≡ a_back_in κ + an_end_out κ
-upper_drop_two BackIn = refl
-upper_drop_two _ = refl
+upper_drop_two κ = grind (arith, common_steps, upper_drop)
 
 lower_raise_two : {A : Type 0} (κ : Kind A) → lower_raise κ ≡ an_end_in κ + a_back_out κ
-lower_raise_two EndIn = refl
-lower_raise_two _ = refl
+lower_raise_two κ = grind (arith, common_steps, lower_raise)
 
 lower_drop_two : {A : Type 0} (κ : Kind A) → lower_drop κ ≡ a_claim_out κ + an_over_out κ
-lower_drop_two ClaimOut = refl
-lower_drop_two _ = refl
+lower_drop_two κ = grind (arith, common_steps, lower_drop)
 
 claim_in_fair : {A : Type 0} (size : ℕ) (h : List (Mark A)) (κ : Kind A) → IsFair size h κ → (a_claim_in κ ≡ 0) ⊎ ((a_claim_in κ ≡ 1) × UpperBelow size h)
-claim_in_fair size h ClaimIn f = inr (refl, f.0)
-claim_in_fair size h _ f = inl refl
+claim_in_fair size h κ f = grind (arith, common_steps, IsFair)
 
 claim_out_fair : {A : Type 0} (size : ℕ) (h : List (Mark A)) (κ : Kind A) → IsFair size h κ → (a_claim_out κ ≡ 0) ⊎ ((a_claim_out κ ≡ 1) × LowerPositive h)
-claim_out_fair size h ClaimOut f = inr (refl, f)
-claim_out_fair size h _ f = inl refl
+claim_out_fair size h κ f = grind (arith, common_steps, IsFair)
 
 -- claims less ended deletions never exceed the size
 pub claims_in_bounded : {A : Type 0} (size : ℕ) (h : List (Mark A)) → IsLegalPast size h → count a_claim_in h ≤ size + count an_end_out h
@@ -276,12 +251,10 @@ tally_most w f zero e = omega arith
 tally_most w f (suc n) e = let here = e (f n) in let rest = tally_most w f n e in omega arith
 
 over_in_one : {A : Type 0} (t : Stage A) → in_over_in t ≤ 1
-over_in_one Withdrawing = omega arith
-over_in_one _ = omega arith
+over_in_one t = grind (arith, common_steps)
 
 over_out_one : {A : Type 0} (t : Stage A) → in_over_out t ≤ 1
-over_out_one WithdrawingOut = omega arith
-over_out_one _ = omega arith
+over_out_one t = grind (arith, common_steps)
 
 -- with n seats the upper count is at least 0 and at most size + n, the lower count at least -n and at most size
 pub upper_range : {A : Type 0} (size n : ℕ) (h : List (Mark A)) → IsLegalPast size h → SeatsBelow n h → (count upper_drop h ≤ count upper_raise h) × (count upper_raise h ≤ count upper_drop h + size + n)

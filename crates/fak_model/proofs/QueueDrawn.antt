@@ -1,5 +1,5 @@
 -- Tickets that were drawn: each is done with its cell, or some seat holds it; and no more seats hold one than there are cells.
-use Rattle.fak_model.proofs.Common.{Kind, Put, Got, Fill, Take, Mark, count, puts, gots, Has, Stage, Idle, Putting, Getting, ◌≡◌, ◌⊎◌, ℕ, zero, suc, ◌+◌, ◌<◌, ◌≤◌, List, [], ◌∷◌, refl, sym, ap, ◌∙◌, subst, inl, inr, arith, stage, after, IsNext, IsLegalPast, sum_below}
+use Rattle.fak_model.proofs.Common.{Kind, Put, Got, Fill, Take, Mark, count, puts, gots, Has, Stage, Idle, Putting, Getting, ◌≡◌, ◌⊎◌, ℕ, zero, suc, ◌+◌, ◌<◌, ◌≤◌, List, [], ◌∷◌, refl, sym, ap, ◌∙◌, subst, inl, inr, arith, stage, after, IsNext, IsLegalPast, sum_below, common_steps}
 use Rattle.fak_model.proofs.Deciding.{same_or_not}
 use Rattle.fak_model.proofs.Leading.{sum_plus}
 use Rattle.fak_model.proofs.QueueStages.{stage_here, stage_else}
@@ -9,12 +9,10 @@ use Rattle.fak_model.proofs.QueueCounts.{tally, seat_bound, seats_bounded, in_pu
 -- ---- insertions
 
 next_fill : {A : Type 0} (k : ℕ) (x : A) (κ : Kind A) → IsNext (Putting k x) κ → κ ≡ Fill k
-next_fill k x (Fill j) n = cc (n.1)
-next_fill k x _ n = absurd cc
+next_fill k x κ n = grind (arith, common_steps, IsNext)
 
 is_put : {A : Type 0} (κ : Kind A) → 1 ≤ puts κ → (x : A) × (κ ≡ Put x)
-is_put (Put x) b = (x, refl)
-is_put _ b = absurd (omega (arith, b))
+is_put κ b = grind (arith, common_steps, puts)
 
 -- an insertion that drew its ticket has filled its cell, or is about to
 pub filled_or_putting : {A : Type 0} (size : ℕ) (h : List (Mark A)) → IsLegalPast size h → (k : ℕ) → k < count puts h → Has (Fill k) h ⊎ ((s : ℕ) × (x : A) × (stage h s ≡ Putting k x))
@@ -34,16 +32,13 @@ filled_or_putting {A} size (m ∷ h) l k b = elim (same_or_not k (count puts h))
 -- ---- deletions
 
 next_take : {A : Type 0} (k : ℕ) (κ : Kind A) → IsNext {A = A} (Getting k) κ → κ ≡ Take k
-next_take k (Take j) n = cc
-next_take k _ n = absurd cc
+next_take k κ n = grind (arith, common_steps, IsNext)
 
 is_got : {A : Type 0} (κ : Kind A) → 1 ≤ gots κ → (x : A) × (κ ≡ Got x)
-is_got (Got x) b = (x, refl)
-is_got _ b = absurd (omega (arith, b))
+is_got κ b = grind (arith, common_steps, gots)
 
 a_got_bit : {A : Type 0} (κ : Kind A) → gots κ ≤ 1
-a_got_bit (Got x) = omega arith
-a_got_bit _ = omega arith
+a_got_bit κ = grind (arith, common_steps, gots)
 
 -- a deletion that drew its ticket has taken from its cell, or is about to
 pub taken_or_getting : {A : Type 0} (size : ℕ) (h : List (Mark A)) → IsLegalPast size h → (k : ℕ) → k < count gots h → Has (Take k) h ⊎ ((s : ℕ) × (stage h s ≡ Getting k))

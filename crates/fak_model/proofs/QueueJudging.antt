@@ -1,5 +1,5 @@
 -- Whether a list of marks of a queue of numbers is legal, by the machine of pasts.
-use Rattle.fak_model.proofs.Common.{cases_lt, Kind, ClaimIn, OverIn, BackIn, NoRoom, Put, Fill, EndIn, ClaimOut, OverOut, BackOut, NoItem, Got, Take, EndOut, Close, Closed, LateIn, Mark, Stage, Putting, Getting, count, gots, upper_raise, upper_drop, lower_raise, lower_drop, Has, IsQueueHistory, ◌≡◌, ◌⊎◌, ℕ, ◌+◌, ◌-◌, ◌<◌, ltb, ◌==◌, Bool, true, false, not, List, [], ◌∷◌, reverse, Option, Some, None, Decides, refl, ap, sym, subst, arith, inl, inr, ◌&&◌, ◌||◌, Decides-eqb, Decides-ltb, Decides-like, Decides-not, Decides-and, Decides-or}
+use Rattle.fak_model.proofs.Common.{cases_lt, Kind, ClaimIn, OverIn, BackIn, NoRoom, Put, Fill, EndIn, ClaimOut, OverOut, BackOut, NoItem, Got, Take, EndOut, Close, Closed, LateIn, Mark, Stage, Putting, Getting, count, gots, upper_raise, upper_drop, lower_raise, lower_drop, Has, IsQueueHistory, ◌≡◌, ◌⊎◌, ℕ, ◌+◌, ◌-◌, ◌<◌, ltb, ◌==◌, Bool, true, false, not, List, [], ◌∷◌, reverse, Option, Some, None, Decides, refl, arith, inl, inr, ◌&&◌, ◌||◌, Decides-ltb, Decides-like, Decides-not, Decides-and, Decides-or, common_steps}
 use Rattle.fak_model.specs.QueuePast.{UpperAtLeast, LowerNotPositive, stage, item_of, IsNext, IsFair, IsOldest, HasCell, MayFollow, IsLegalPast}
 use Rattle.fak_model.proofs.QueueWords.{place, at_idle, at_over_in, at_claimed_in, at_filled, at_over_out, at_claimed_out, at_taken}
 use Rattle.fak_model.proofs.QueueLiteral.{to_past, to_literal}
@@ -20,24 +20,21 @@ is_close Close = true
 is_close _ = false
 
 close_decided : (x : Kind ℕ) → Decides (is_close x) (x ≡ Close)
-close_decided Close = (λ e. refl, λ e. refl)
-close_decided _ = (λ e. absurd (cc), λ e. absurd (cc))
+close_decided x = grind (arith, common_steps)
 
 abbrev pub is_fill : ℕ → Kind ℕ → Bool
 is_fill k (Fill j) = j == k
 is_fill k _ = false
 
 fill_decided : (k : ℕ) (x : Kind ℕ) → Decides (is_fill k x) (x ≡ Fill k)
-fill_decided k (Fill j) = Decides-like (j == k) (λ e. ap Fill e) (λ e. cc) (Decides-eqb j k)
-fill_decided k _ = (λ e. absurd (cc), λ e. absurd (cc))
+fill_decided k x = grind (arith, common_steps)
 
 abbrev pub is_take : ℕ → Kind ℕ → Bool
 is_take k (Take j) = j == k
 is_take k _ = false
 
 take_decided : (k : ℕ) (x : Kind ℕ) → Decides (is_take k x) (x ≡ Take k)
-take_decided k (Take j) = Decides-like (j == k) (λ e. ap Take e) (λ e. cc) (Decides-eqb j k)
-take_decided k _ = (λ e. absurd (cc), λ e. absurd (cc))
+take_decided k x = grind (arith, common_steps)
 
 -- ---- the stage before
 
@@ -46,16 +43,14 @@ is_putting k (Putting j x) = j == k
 is_putting k _ = false
 
 putting_decided : (k : ℕ) (t : Stage ℕ) → Decides (is_putting k t) ((x : ℕ) × (t ≡ Putting k x))
-putting_decided k (Putting j x) = Decides-like (j == k) (λ e. (x, ap (λ n. Putting n x) e)) (λ e. cc (e.1)) (Decides-eqb j k)
-putting_decided k _ = (λ e. absurd (cc), λ e. absurd (cc (e.1)))
+putting_decided k t = grind (arith, common_steps, is_putting)
 
 abbrev is_getting : ℕ → Stage ℕ → Bool
 is_getting k (Getting j) = j == k
 is_getting k _ = false
 
 getting_decided : (k : ℕ) (t : Stage ℕ) → Decides (is_getting k t) (t ≡ Getting k)
-getting_decided k (Getting j) = Decides-like (j == k) (λ e. ap Getting e) (λ e. cc) (Decides-eqb j k)
-getting_decided k _ = (λ e. absurd (cc), λ e. absurd (cc))
+getting_decided k t = grind (arith, common_steps, is_getting)
 
 abbrev pub is_next : Stage ℕ → Kind ℕ → Bool
 is_next t BackIn = 1 == place t
@@ -69,15 +64,7 @@ is_next t EndOut = 8 == place t
 is_next t _ = 0 == place t
 
 next_decided : (t : Stage ℕ) (κ : Kind ℕ) → Decides (is_next t κ) (IsNext t κ)
-next_decided t BackIn = Decides-like (1 == place t) (at_over_in t) (λ e. ap place (sym e)) (Decides-eqb 1 (place t))
-next_decided t (Put x) = Decides-like (2 == place t) (at_claimed_in t) (λ e. ap place (sym e)) (Decides-eqb 2 (place t))
-next_decided t (Fill k) = putting_decided k t
-next_decided t EndIn = Decides-like (4 == place t) (at_filled t) (λ e. ap place (sym e.1)) (Decides-eqb 4 (place t))
-next_decided t BackOut = Decides-like (5 == place t) (at_over_out t) (λ e. ap place (sym e)) (Decides-eqb 5 (place t))
-next_decided t (Got x) = Decides-like (6 == place t) (at_claimed_out t) (λ e. ap place (sym e)) (Decides-eqb 6 (place t))
-next_decided t (Take k) = getting_decided k t
-next_decided t EndOut = Decides-like (8 == place t) (at_taken t) (λ e. ap place (sym e.1)) (Decides-eqb 8 (place t))
-next_decided t _ = Decides-like (0 == place t) (at_idle t) (λ e. ap place (sym e)) (Decides-eqb 0 (place t))
+next_decided t κ = grind (arith, common_steps, IsNext, place, at_over_in, at_claimed_in, putting_decided, at_filled, at_over_out, at_claimed_out, getting_decided, at_taken, at_idle)
 
 -- ---- answers
 
@@ -114,15 +101,7 @@ empty_decided : (h : List (Mark ℕ)) → Decides (is_empty h) (LowerNotPositive
 empty_decided h = le_decided (count lower_raise h) (count lower_drop h)
 
 fair_decided : (size : ℕ) (h : List (Mark ℕ)) (κ : Kind ℕ) → Decides (is_fair size h κ) (IsFair size h κ)
-fair_decided size h NoRoom = full_decided size h
-fair_decided size h OverIn = full_decided size h
-fair_decided size h ClaimIn = Decides-and _ _ (Decides-ltb (count upper_raise h) (size + count upper_drop h)) (Decides-not _ (shut_decided h))
-fair_decided size h Closed = shut_decided h
-fair_decided size h LateIn = shut_decided h
-fair_decided size h NoItem = empty_decided h
-fair_decided size h OverOut = empty_decided h
-fair_decided size h ClaimOut = Decides-ltb (count lower_drop h) (count lower_raise h)
-fair_decided size h _ = (λ e. tt, λ u. refl)
+fair_decided size h κ = grind (arith, common_steps, IsFair, full_decided, count, upper_raise, upper_drop, shut_decided, empty_decided, lower_drop, lower_raise)
 
 -- ---- items and cells
 
@@ -131,16 +110,14 @@ is_item x (Some y) = y == x
 is_item x None = false
 
 item_decided : (x : ℕ) (o : Option ℕ) → Decides (is_item x o) (o ≡ Some x)
-item_decided x (Some y) = Decides-like (y == x) (λ e. ap Some e) (λ e. cc) (Decides-eqb y x)
-item_decided x None = (λ e. absurd (cc), λ e. absurd (cc))
+item_decided x o = grind (arith, common_steps, is_item)
 
 abbrev pub is_oldest : List (Mark ℕ) → Kind ℕ → Bool
 is_oldest h (Got x) = is_item x (item_of h (count gots h))
 is_oldest h _ = true
 
 oldest_decided : (h : List (Mark ℕ)) (κ : Kind ℕ) → Decides (is_oldest h κ) (IsOldest h κ)
-oldest_decided h (Got x) = item_decided x (item_of h (count gots h))
-oldest_decided h _ = (λ e. tt, λ u. refl)
+oldest_decided h κ = grind (arith, common_steps, IsOldest, item_decided, item_of, count, gots)
 
 abbrev pub has_cell : ℕ → List (Mark ℕ) → Kind ℕ → Bool
 has_cell size h (Fill k) = ltb k size || has (is_take (k - size)) h
@@ -151,8 +128,7 @@ cell_decided : (size : ℕ) (h : List (Mark ℕ)) (κ : Kind ℕ) → Decides (h
 cell_decided size h (Fill k) = Decides-like _ forth back (Decides-or (ltb k size) (has (is_take (k - size)) h) (Decides-ltb k size) (has_decided (is_take (k - size)) (Take (k - size)) (take_decided (k - size)) h))
   where
     forth : (k < size) ⊎ Has (Take (k - size)) h → (j : ℕ) → k ≡ j + size → Has (Take j) h
-    forth (inl low) j is = absurd (omega arith)
-    forth (inr there) j is = let same : k - size ≡ j = omega arith in subst (λ (n : ℕ). Has (Take n) h) same there
+    forth e j is = grind (arith, common_steps)
 
     back : ((j : ℕ) → k ≡ j + size → Has (Take j) h) → (k < size) ⊎ Has (Take (k - size)) h
     back each = elim (cases_lt k size) [ inl low ↦ inl low | inr high ↦ inr (each (k - size) (omega arith)) ]
@@ -165,8 +141,7 @@ abbrev pub may_follow : ℕ → List (Mark ℕ) → ℕ → Kind ℕ → Bool
 may_follow size h s κ = is_next (stage h s) κ && (is_fair size h κ && (is_oldest h κ && has_cell size h κ))
 
 may_decided : (size : ℕ) (h : List (Mark ℕ)) (s : ℕ) (κ : Kind ℕ) → Decides (may_follow size h s κ) (MayFollow size h s κ)
-may_decided size h s κ = Decides-like _ (λ p. record { next = p.0; fair = p.1.0; oldest = p.1.1.0; cell = p.1.1.1 }) (λ m. (m.next, (m.fair, (m.oldest, m.cell))))
-    (Decides-and _ _ (next_decided (stage h s) κ) (Decides-and _ _ (fair_decided size h κ) (Decides-and _ _ (oldest_decided h κ) (cell_decided size h κ))))
+may_decided size h s κ = grind (arith, common_steps, next_decided, stage, fair_decided, oldest_decided, cell_decided)
 
 abbrev pub is_legal_past : ℕ → List (Mark ℕ) → Bool
 is_legal_past size [] = true

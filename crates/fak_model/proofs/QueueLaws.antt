@@ -1,6 +1,5 @@
 -- The laws of legal histories, over the literal definition.
-use Rattle.std.proofs.lemmas.Grind.{common_steps}
-use Rattle.fak_model.proofs.Common.{ints, reverse-reverse, Kind, Fill, ClaimOut, Got, Take, Mark, seat_words, IsAtRest, count, puts, gots, upper_raise, upper_drop, lower_raise, lower_drop, Has, ClaimedOut, upper_count, lower_count, items_put, contents, words_of_call, queue_rules, IsQueueHistory, ◌≡◌, ◌≢◌, ◌⊎◌, ℕ, ◌<◌, ◌≤◌, List, [], ◌∷◌, ◌++◌, length, length-drop, reverse, refl, ap, sym, ◌∙◌, subst, arith, inl, inr, append_assoc, pos, All, after, stage, MayFollow, IsLegalPast, HasNoOpenCall}
+use Rattle.fak_model.proofs.Common.{ints, reverse-reverse, Kind, Fill, ClaimOut, Got, Take, Mark, seat_words, IsAtRest, count, puts, gots, upper_raise, upper_drop, lower_raise, lower_drop, Has, ClaimedOut, upper_count, lower_count, items_put, contents, words_of_call, queue_rules, IsQueueHistory, ◌≡◌, ◌≢◌, ◌⊎◌, ℕ, ◌<◌, ◌≤◌, List, [], ◌∷◌, ◌++◌, length, length-drop, reverse, refl, ap, sym, ◌∙◌, subst, arith, inl, inr, append_assoc, pos, All, after, stage, MayFollow, IsLegalPast, HasNoOpenCall, common_steps}
 use Rattle.fak_model.specs.QueueOrder.{Deletion, KeepsCallOrder}
 use Rattle.fak_model.proofs.Appending.{history_prefix}
 use Rattle.fak_model.proofs.Places.{rests}
@@ -53,8 +52,7 @@ pub record TheGot {T : Type 0} (past : List (Mark T)) (i : ℕ) : Type 0 where
   pub number : count gots older ≡ i
 
 is_got : {T : Type 0} (κ : Kind T) → (gots κ ≡ 0) ⊎ ((gots κ ≡ 1) × ((x : T) × (κ ≡ Got x)))
-is_got (Got x) = inr (refl, (x, refl))
-is_got _ = inl refl
+is_got κ = grind (arith, common_steps, gots)
 
 below_or_not : (i n : ℕ) → (i < n) ⊎ (n ≤ i)
 below_or_not i n = grind arith
@@ -70,8 +68,7 @@ the_got {T} (m ∷ h) i l = elim (below_or_not i (count gots h)) [
 ]
 
 after_claimed_out : {T : Type 0} (h : List (Mark T)) (κ : Kind T) → after h κ ≡ ClaimedOut → κ ≡ ClaimOut
-after_claimed_out h ClaimOut e = refl
-after_claimed_out h _ e = absurd cc
+after_claimed_out h κ e = grind (arith, common_steps, after)
 
 -- whose item was got, its deletion has started
 deletion_of : {T : Type 0} (size : ℕ) (h : List (Mark T)) (i : ℕ) → IsLegalPast size (reverse h) → i < count gots (reverse h) → Deletion h i

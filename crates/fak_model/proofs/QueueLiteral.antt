@@ -1,6 +1,5 @@
 -- The literal definition of a legal history and the one by stages are one.
-use Rattle.std.proofs.lemmas.Grind.{common_steps}
-use Rattle.fak_model.proofs.Common.{ints, Kind, ClaimIn, OverIn, BackIn, NoRoom, Put, Fill, EndIn, ClaimOut, OverOut, BackOut, NoItem, Got, Take, EndOut, Close, Closed, LateIn, Mark, seat_words, Owes, count, puts, gots, upper_raise, upper_drop, lower_raise, lower_drop, Putting, Getting, ◌≡◌, ℕ, List, [], ◌∷◌, ◌++◌, reverse, refl, ap, sym, ◌∙◌, subst, arith, inl, inr, word, words_of_call, IsFairAnswer, IsFirstOut, items_put, item_at, Drew, BearsTicket, HasItsCell, IsFairMark, queue_rules, IsQueueHistory}
+use Rattle.fak_model.proofs.Common.{Kind, BackIn, Put, Fill, EndIn, BackOut, Got, Take, EndOut, Mark, seat_words, Owes, count, puts, gots, upper_raise, upper_drop, lower_raise, lower_drop, Putting, Getting, ◌≡◌, ℕ, List, [], ◌∷◌, ◌++◌, reverse, refl, ap, sym, ◌∙◌, subst, arith, inl, inr, word, words_of_call, IsFairAnswer, IsFirstOut, items_put, item_at, Drew, BearsTicket, HasItsCell, IsFairMark, queue_rules, IsQueueHistory, common_steps}
 use Rattle.fak_model.specs.QueuePast.{after, stage, item_of, IsNext, IsFair, IsOldest, HasCell, MayFollow, IsLegalPast}
 use Rattle.fak_model.proofs.Appending.{snoc_ind, seat_words-own, seat_words-other, history_none, history_push, history_front, last_calls, last_fair}
 use Rattle.fak_model.proofs.Deciding.{same_or_not}
@@ -39,47 +38,25 @@ getting_drew : {T : Type 0} (h : List (Mark T)) (s k : ℕ) → stage (reverse h
 getting_drew {T} h s k e = grind (arith, common_steps, last_of, reverse, after_getting, drew, gots)
 
 ticket_of : {T : Type 0} (h : List (Mark T)) (s : ℕ) (κ : Kind T) → IsNext (stage (reverse h) s) κ → BearsTicket h s κ
-ticket_of h s (Fill k) n = (n.0, putting_drew h s k n.0 n.1)
-ticket_of h s (Take k) n = getting_drew h s k n
-ticket_of h s _ n = tt
+ticket_of h s κ n = grind (arith, common_steps, stage, reverse, IsNext, putting_drew, getting_drew)
 
 fair_of : {T : Type 0} (size : ℕ) (h : List (Mark T)) (κ : Kind T) → IsFairAnswer size h κ → IsFair size (reverse h) κ
-fair_of size h NoRoom f = (omega (arith, ints, f.0, count_reverse upper_raise h, count_reverse upper_drop h), λ e. f.1 (has_back Close h e))
-fair_of size h OverIn f = (omega (arith, ints, f.0, count_reverse upper_raise h, count_reverse upper_drop h), λ e. f.1 (has_back Close h e))
-fair_of size h ClaimIn f = (omega (arith, ints, f.0, count_reverse upper_raise h, count_reverse upper_drop h), λ e. f.1 (has_back Close h e))
-fair_of size h Closed f = has_reverse Close h f
-fair_of size h LateIn f = has_reverse Close h f
-fair_of size h NoItem f = omega (arith, ints, f, count_reverse lower_raise h, count_reverse lower_drop h)
-fair_of size h OverOut f = omega (arith, ints, f, count_reverse lower_raise h, count_reverse lower_drop h)
-fair_of size h ClaimOut f = omega (arith, ints, f, count_reverse lower_raise h, count_reverse lower_drop h)
-fair_of size h _ f = tt
+fair_of size h κ f = grind (arith, common_steps, reverse, IsFairAnswer, IsFair, count_reverse, upper_raise, upper_drop, has_back, has_reverse, lower_raise, lower_drop)
 
 answer_of : {T : Type 0} (size : ℕ) (h : List (Mark T)) (κ : Kind T) → IsFair size (reverse h) κ → IsFairAnswer size h κ
-answer_of size h NoRoom f = (omega (arith, ints, f.0, count_reverse upper_raise h, count_reverse upper_drop h), λ e. f.1 (has_reverse Close h e))
-answer_of size h OverIn f = (omega (arith, ints, f.0, count_reverse upper_raise h, count_reverse upper_drop h), λ e. f.1 (has_reverse Close h e))
-answer_of size h ClaimIn f = (omega (arith, ints, f.0, count_reverse upper_raise h, count_reverse upper_drop h), λ e. f.1 (has_reverse Close h e))
-answer_of size h Closed f = has_back Close h f
-answer_of size h LateIn f = has_back Close h f
-answer_of size h NoItem f = omega (arith, ints, f, count_reverse lower_raise h, count_reverse lower_drop h)
-answer_of size h OverOut f = omega (arith, ints, f, count_reverse lower_raise h, count_reverse lower_drop h)
-answer_of size h ClaimOut f = omega (arith, ints, f, count_reverse lower_raise h, count_reverse lower_drop h)
-answer_of size h _ f = tt
+answer_of size h κ f = grind (arith, common_steps, reverse, IsFair, IsFairAnswer, count_reverse, upper_raise, upper_drop, has_reverse, has_back, lower_raise, lower_drop)
 
 place_same : {T : Type 0} (h : List (Mark T)) → item_at (items_put h) (count gots h) ≡ item_of (reverse h) (count gots (reverse h))
 place_same h = item_same (count gots h) h ∙ ap (item_of (reverse h)) (sym (count_reverse gots h))
 
 oldest_of : {T : Type 0} (h : List (Mark T)) (κ : Kind T) → IsFirstOut h κ → IsOldest (reverse h) κ
-oldest_of h (Got x) f = sym (place_same h) ∙ f
-oldest_of h _ f = tt
+oldest_of h κ f = grind (arith, common_steps, reverse, IsFirstOut, IsOldest, place_same)
 
 first_of_items : {T : Type 0} (h : List (Mark T)) (κ : Kind T) → IsOldest (reverse h) κ → IsFirstOut h κ
-first_of_items h (Got x) f = place_same h ∙ f
-first_of_items h _ f = tt
+first_of_items h κ f = grind (arith, common_steps, reverse, IsOldest, IsFirstOut, place_same)
 
 cell_of : {T : Type 0} (size : ℕ) (h : List (Mark T)) (κ : Kind T) → HasItsCell size h κ → HasCell size (reverse h) κ
-cell_of size h (Fill k) f = λ j e. has_reverse (Take j) h (f j e)
-cell_of size h (Take k) f = has_reverse (Fill k) h f
-cell_of size h _ f = tt
+cell_of size h κ f = grind (arith, common_steps, reverse, HasItsCell, HasCell, has_reverse)
 
 its_cell_of : {T : Type 0} (size : ℕ) (h : List (Mark T)) (κ : Kind T) → HasCell size (reverse h) κ → HasItsCell size h κ
 its_cell_of size h (Fill k) f = λ j e. has_back (Take j) h (f j e)

@@ -1,19 +1,16 @@
 -- Each ticket has one inserter and one deleter, and its cell is filled and emptied by them alone.
-use Rattle.std.proofs.lemmas.Grind.{common_steps}
-use Rattle.fak_model.proofs.Common.{Kind, Put, Fill, Take, Mark, count, puts, gots, Has, Putting, Getting, ◌≡◌, ◌≢◌, ◌⊎◌, ℕ, ◌<◌, ◌≤◌, ◌==◌, cond, List, [], ◌∷◌, Option, Some, refl, sym, ap, ◌∙◌, inl, inr, arith, stage, item_put, item_of, IsLegalPast}
+use Rattle.fak_model.proofs.Common.{Kind, Fill, Take, Mark, count, puts, gots, Has, Putting, Getting, ◌≡◌, ◌≢◌, ◌⊎◌, ℕ, ◌<◌, ◌≤◌, ◌==◌, cond, List, [], ◌∷◌, Option, Some, sym, ap, ◌∙◌, inl, inr, arith, stage, item_put, item_of, IsLegalPast, common_steps}
 use Rattle.fak_model.proofs.Deciding.{cond_here, cond_else, same_or_not}
 use Rattle.fak_model.proofs.QueueStages.{putting_back, getting_back}
 
 -- ---- items
 
 pub item_keeps : {A : Type 0} (k n : ℕ) (κ : Kind A) (r : Option A) → k ≢ n → item_put k n κ r ≡ r
-item_keeps k n (Put x) r ne = cond_else k n (Some x) r ne
-item_keeps k n _ r ne = refl
+item_keeps k n κ r ne = grind (arith, common_steps, item_put, cond_else)
 
 -- at the newest ticket a draw gives an item, any other mark changes nothing
 pub item_new : {A : Type 0} (k n : ℕ) (κ : Kind A) (r : Option A) → k ≡ n → ((puts κ ≡ 1) × ((x : A) × (item_put k n κ r ≡ Some x))) ⊎ ((puts κ ≡ 0) × (item_put k n κ r ≡ r))
-item_new k n (Put x) r e = inl (refl, (x, ap (λ j. cond (k == j) (Some x) r) (sym e) ∙ cond_here k (Some x) r))
-item_new k n _ r e = inr (refl, refl)
+item_new k n κ r e = grind (arith, common_steps, puts, item_put, cond_here)
 
 pub item_below : {A : Type 0} (h : List (Mark A)) (k : ℕ) (x : A) → item_of h k ≡ Some x → k < count puts h
 item_below [] k x e = absurd cc
@@ -29,8 +26,7 @@ pub item_stays : {A : Type 0} (m : Mark A) (h : List (Mark A)) (k : ℕ) (x : A)
 item_stays m h k x e = let b = item_below h k x e in let ne : k ≢ count puts h = omega arith in item_keeps k (count puts h) m.kind (item_of h k) ne ∙ e
 
 pub a_put_bit : {A : Type 0} (κ : Kind A) → puts κ ≤ 1
-a_put_bit (Put x) = omega arith
-a_put_bit _ = omega arith
+a_put_bit κ = grind (arith, common_steps, puts)
 
 pub item_there : {A : Type 0} (h : List (Mark A)) (k : ℕ) → k < count puts h → (x : A) × (item_of h k ≡ Some x)
 item_there [] k lt = absurd (omega arith)

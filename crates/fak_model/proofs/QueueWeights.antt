@@ -1,7 +1,6 @@
 -- What the marks of a legal history of a queue weigh.
-use Rattle.std.proofs.lemmas.Grind.{common_steps}
 use Rattle.std.proofs.lemmas.List.{append-nil, take-append-le, take_more, nil_from_length}
-use Rattle.fak_model.proofs.Common.{cases_lt, Kind, Put, Fill, Got, Take, Close, Closed, LateIn, Mark, put_of, got_of, close_of, closed_of, ◌≡◌, ℕ, zero, suc, ◌+◌, ◌<◌, ◌≤◌, List, [], ◌∷◌, ◌++◌, length, get_or, take, length-drop, reverse, Some, refl, ap, sym, ◌∙◌, subst, arith, inl, inr, sum_by, sum_by-append, sum_by_push, sum_by-take-drop, queue_rules, IsQueueHistory, IsFairMark, IsFirstOut, count, puts, gots, items_put, item_in, item_at, contents, Has, Drew, BearsTicket}
+use Rattle.fak_model.proofs.Common.{cases_lt, Kind, Put, Fill, Got, Close, Mark, put_of, got_of, close_of, closed_of, ◌≡◌, ℕ, zero, suc, ◌+◌, ◌<◌, ◌≤◌, List, [], ◌∷◌, ◌++◌, length, get_or, take, length-drop, reverse, Some, refl, ap, sym, ◌∙◌, subst, arith, inl, inr, sum_by, sum_by-append, sum_by_push, sum_by-take-drop, queue_rules, IsQueueHistory, IsFairMark, IsFirstOut, count, puts, gots, items_put, item_in, item_at, contents, Has, Drew, BearsTicket, common_steps}
 use Rattle.fak_model.specs.QueuePast.{IsFair, IsLegalPast}
 use Rattle.fak_model.proofs.Appending.{snoc_ind, history_front, last_fair}
 use Rattle.fak_model.proofs.QueueBackwards.{count_append, count_reverse, items_push, items_count}
@@ -13,8 +12,7 @@ count_push w h m = omega (arith, count_append w h (m ∷ []))
 
 -- the items put weigh what the Puts weigh
 item_weighs : {A : Type 0} (f : A → ℕ) (s : ℕ) (κ : Kind A) → sum_by f (item_in (record { seat = s; kind = κ })) ≡ put_of f κ
-item_weighs f s (Put x) = omega arith
-item_weighs f s _ = refl
+item_weighs f s κ = grind (arith, common_steps, sum_by, item_in, put_of)
 
 pub items_weigh : {A : Type 0} (f : A → ℕ) (h : List (Mark A)) → sum_by f (items_put h) ≡ count (put_of f) h
 items_weigh {A} f = snoc_ind (λ (h : List (Mark A)). sum_by f (items_put h) ≡ count (put_of f) h) refl (λ h m before.
@@ -59,9 +57,7 @@ has_counts (m ∷ h) (inl e) = let one : close_of m.kind ≡ 1 = ap close_of e i
 has_counts (m ∷ h) (inr e) = omega (arith, has_counts h e)
 
 closed_after : {A : Type 0} (size : ℕ) (h : List (Mark A)) (κ : Kind A) → IsFair size h κ → 0 < closed_of κ → 0 < count close_of h
-closed_after size h Closed fair more = has_counts h fair
-closed_after size h LateIn fair more = has_counts h fair
-closed_after size h _ fair more = absurd (omega arith)
+closed_after size h κ fair more = grind (arith, common_steps, closed_of, count, close_of, IsFair, has_counts)
 
 past_closed : {A : Type 0} (size : ℕ) (h : List (Mark A)) → IsLegalPast size h → 0 < count closed_of h → 0 < count close_of h
 past_closed size [] legal more = absurd (omega arith)
@@ -78,12 +74,10 @@ count_same w v each [] = refl
 count_same w v each (m ∷ h) = omega (arith, each m.kind, count_same w v each h)
 
 put_one : {A : Type 0} (κ : Kind A) → puts κ ≡ put_of (λ (x : A). 1) κ
-put_one (Put x) = refl
-put_one _ = refl
+put_one κ = grind (arith, common_steps, puts, put_of)
 
 got_one : {A : Type 0} (κ : Kind A) → gots κ ≡ got_of (λ (x : A). 1) κ
-got_one (Got x) = refl
-got_one _ = refl
+got_one κ = grind (arith, common_steps, gots, got_of)
 
 pub puts_weigh : {A : Type 0} (h : List (Mark A)) → count (put_of (λ (x : A). 1)) h ≡ count puts h
 puts_weigh {A} h = sym (count_same puts (put_of (λ (x : A). 1)) put_one h)
@@ -106,6 +100,3 @@ fill_after_put size h before after m k law is kind =
     let fair : IsFairMark size before m = law.fair before m after is in
     let own = subst (BearsTicket before m.seat) kind fair.ticket in
     (own, drew_below before m.seat k own.0 own.1)
-
-pub take_after_fill : {A : Type 0} (size : ℕ) (h before after : List (Mark A)) (m : Mark A) (k : ℕ) → IsQueueHistory size h → before ++ m ∷ after ≡ h → m.kind ≡ Take k → Has (Fill k) before
-take_after_fill size h before after m k law is kind = grind (arith, common_steps)

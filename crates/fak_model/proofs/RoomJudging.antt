@@ -1,5 +1,5 @@
 -- Whether a list of marks is a room's history.
-use Rattle.fak_model.proofs.Common.{Decides-like, Decides-ltb, ints, RoomKind, Up, Over, Back, No, Release, RoomMark, Owes, ℕ, zero, suc, ◌+◌, ltb, Bool, true, List, [], ◌∷◌, ◌++◌, Decides, refl, arith}
+use Rattle.fak_model.proofs.Common.{RoomKind, Up, Over, Back, No, Release, RoomMark, Owes, ℕ, zero, suc, ◌+◌, ltb, Bool, true, List, [], ◌∷◌, ◌++◌, Decides, refl, arith, common_steps}
 use Rattle.fak_model.specs.Room.{Granted, Refused, Withdrawn, Released, kinds_of_call, total, up_amount, over_amount, back_amount, release_amount, amount_held, IsFair, room_rules, IsRoomHistory}
 use Rattle.fak_model.proofs.Appending.{owed_comes, call_begins}
 use Rattle.fak_model.proofs.Places.{CallsRun}
@@ -18,10 +18,7 @@ owed zero = []
 owed (suc d) = Back d ∷ []
 
 pub calls_run : CallsRun needs leads kinds_of_call
-calls_run (Granted d) = ((refl, tt), refl)
-calls_run (Refused d) = ((refl, tt), refl)
-calls_run (Withdrawn d) = ((refl, (refl, tt)), refl)
-calls_run (Released d) = ((refl, tt), refl)
+calls_run e = grind (arith, common_steps, kinds_of_call)
 
 pub comes : (ws : List RoomKind) (k : RoomKind) → Owes kinds_of_call ws (owed (needs k)) → Owes kinds_of_call (ws ++ k ∷ []) (owed (leads k))
 comes ws (Up d) o = owed_comes kinds_of_call ws (Up d) [] (call_begins kinds_of_call ws (Granted d) o)
@@ -53,11 +50,7 @@ abbrev pub is_fair : ℕ → List RoomMark → RoomMark → Bool
 is_fair bound before m = is_fair_kind bound before m.seat m.kind
 
 pub kind_decided : (bound : ℕ) (before : List RoomMark) (seat : ℕ) (kind : RoomKind) → Decides (is_fair_kind bound before seat kind) (IsFair bound before seat kind)
-kind_decided bound before seat (Up d) = Decides-like _ (λ le. omega (arith, ints, le)) (λ le. omega (arith, ints, le)) (le_decided (total up_amount before + total over_amount before + d) (bound + (total back_amount before + total release_amount before)))
-kind_decided bound before seat (No d) = Decides-like _ (λ lt. omega (arith, ints, lt)) (λ lt. omega (arith, ints, lt)) (Decides-ltb (bound + (total back_amount before + total release_amount before)) (total up_amount before + total over_amount before + d))
-kind_decided bound before seat (Over d) = Decides-like _ (λ lt. omega (arith, ints, lt)) (λ lt. omega (arith, ints, lt)) (Decides-ltb (bound + (total back_amount before + total release_amount before)) (total up_amount before + total over_amount before + d))
-kind_decided bound before seat (Release d) = le_decided d (amount_held seat before)
-kind_decided bound before seat (Back d) = (λ e. tt, λ u. refl)
+kind_decided bound before seat kind = grind (arith, common_steps, IsFair, le_decided, total, up_amount, over_amount, back_amount, release_amount, amount_held)
 
 abbrev pub is_room_history : ℕ → List RoomMark → Bool
 is_room_history bound h = judged (room_rules bound) room_grammar (is_fair bound) (λ before m. kind_decided bound before m.seat m.kind) [] h

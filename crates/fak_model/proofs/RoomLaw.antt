@@ -1,25 +1,17 @@
 -- The law of a room.
-use Rattle.std.proofs.lemmas.Grind.{common_steps}
-use Rattle.fak_model.proofs.Common.{ints, sum_by_push, All-pop, RoomKind, Up, Over, Back, No, Release, RoomMark, seat_words, IsAtRest, AreNamed, sum_below, ◌≡◌, ◌≢◌, ◌⊎◌, ℕ, ◌+◌, ◌-◌, ◌<◌, ◌≤◌, List, [], ◌∷◌, ◌++◌, Some, refl, ap, sym, subst, arith, inl, inr, pos, sum_by}
-use Rattle.fak_model.specs.Room.{WholeCall, Granted, Refused, Withdrawn, Released, kinds_of_call, kind_of, total, up_amount, over_amount, back_amount, release_amount, amount_held, IsFair, value, room_rules, IsRoomHistory}
+use Rattle.fak_model.proofs.Common.{ints, sum_by_push, All-pop, RoomKind, RoomMark, seat_words, IsAtRest, AreNamed, sum_below, ◌≡◌, ◌≢◌, ◌⊎◌, ℕ, ◌+◌, ◌-◌, ◌<◌, ◌≤◌, List, [], ◌∷◌, ◌++◌, Some, refl, ap, sym, subst, arith, inl, inr, pos, sum_by, common_steps}
+use Rattle.fak_model.specs.Room.{WholeCall, kinds_of_call, kind_of, total, up_amount, over_amount, back_amount, release_amount, amount_held, IsFair, value, room_rules, IsRoomHistory}
 use Rattle.fak_model.proofs.Appending.{snoc_ind, seat_words-own, seat_words-other, history_front, last_fair}
 use Rattle.fak_model.proofs.Leading.{CallsLead, history_leads, rest_even, total_push, sum_one, sum_none}
 use Rattle.fak_model.proofs.Deciding.{same_or_not}
 
 pub backs_after : CallsLead kinds_of_call back_amount over_amount
-backs_after (Granted d) a b le = search arith
-backs_after (Refused d) a b le = search arith
-backs_after (Withdrawn d) a b le = search arith
-backs_after (Released d) a b le = search arith
+backs_after e a b le = grind (arith, common_steps, kinds_of_call, back_amount, over_amount)
 
 -- what one mark does to what its seat holds, and whether what it takes fits beside what is counted
 fits_of : (bound : ℕ) (h : List RoomMark) (seat : ℕ) (kind : RoomKind) → IsFair bound h seat kind
     → (release_amount kind ≤ amount_held seat h) × ((up_amount kind ≡ 0) ⊎ (((total up_amount h + total over_amount h) + up_amount kind ≤ bound + (total back_amount h + total release_amount h)) × (release_amount kind ≡ 0)))
-fits_of bound h seat (Up d) fair = (omega arith, inr (omega (arith, ints, fair), refl))
-fits_of bound h seat (Over d) fair = (omega arith, inl refl)
-fits_of bound h seat (Back d) fair = (omega arith, inl refl)
-fits_of bound h seat (No d) fair = (omega arith, inl refl)
-fits_of bound h seat (Release d) fair = (fair, inl refl)
+fits_of bound h seat kind fair = grind (arith, common_steps, release_amount, amount_held, up_amount, total, over_amount, back_amount, IsFair)
 
 release_fits : (bound : ℕ) (h : List RoomMark) (seat : ℕ) (kind : RoomKind) → IsFair bound h seat kind → release_amount kind ≤ amount_held seat h
 release_fits bound h seat kind fair = (fits_of bound h seat kind fair).0
@@ -66,10 +58,7 @@ room_fits bound seats h law named = (held_fits bound seats h law named).1
 
 -- an Over that is withdrawn is even with its Back
 pub call_even : (c : WholeCall) → sum_by over_amount (kinds_of_call c) ≡ sum_by back_amount (kinds_of_call c)
-call_even (Granted d) = refl
-call_even (Refused d) = refl
-call_even (Withdrawn d) = omega arith
-call_even (Released d) = refl
+call_even c = grind (arith, common_steps, sum_by, over_amount, kinds_of_call, back_amount)
 
 -- where no call is cut short the value is what all seats hold
 pub room_rests : (bound seats : ℕ) (h : List RoomMark) → IsRoomHistory bound h → AreNamed (room_rules bound) seats h → IsAtRest (room_rules bound) h → value h ≡ pos (sum_below (λ k. amount_held k h) seats)

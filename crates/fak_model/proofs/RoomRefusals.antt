@@ -1,5 +1,5 @@
 -- A claim of 1 is refused only where as many were granted as the bound says.
-use Rattle.fak_model.proofs.Common.{ints, cases_lt, nat_tests, RoomKind, Up, Over, Back, No, Release, RoomMark, AreNamed, refusal_of, other_amount, ◌≡◌, ℕ, ◌+◌, ◌<◌, ◌≤◌, List, refl, arith, inl, inr}
+use Rattle.fak_model.proofs.Common.{cases_lt, nat_tests, RoomKind, RoomMark, AreNamed, refusal_of, other_amount, ◌≡◌, ℕ, ◌+◌, ◌<◌, ◌≤◌, List, refl, arith, inl, inr, common_steps}
 use Rattle.fak_model.specs.Room.{kind_of, total, up_amount, over_amount, back_amount, release_amount, IsFair, room_rules, IsRoomHistory}
 use Rattle.fak_model.proofs.Appending.{snoc_ind, history_front, last_fair}
 use Rattle.fak_model.proofs.Leading.{total_push}
@@ -8,19 +8,11 @@ use Rattle.fak_model.proofs.RoomLaw.{held_fits}
 -- so far no claim was refused, and so none was withdrawn; or as many were granted as the bound says
 refused_here : (bound : ℕ) (h : List RoomMark) (seat : ℕ) (kind : RoomKind) → IsFair bound h seat kind → 0 < refusal_of kind → other_amount kind ≡ 0
     → bound + (total back_amount h + total release_amount h) ≤ total up_amount h + total over_amount h
-refused_here bound h seat (No d) fair some one = let d_is : d ≡ 1 = grind (arith, nat_tests) in omega (arith, ints, fair, d_is)
-refused_here bound h seat (Over d) fair some one = let d_is : d ≡ 1 = grind (arith, nat_tests) in omega (arith, ints, fair, d_is)
-refused_here bound h seat (Up d) fair some one = absurd (omega arith)
-refused_here bound h seat (Back d) fair some one = absurd (omega arith)
-refused_here bound h seat (Release d) fair some one = absurd (omega arith)
+refused_here bound h seat kind fair some one = grind (arith, common_steps, refusal_of, other_amount, total, back_amount, release_amount, up_amount, over_amount, IsFair, nat_tests)
 
 -- an Over was refused
 over_refused : (kind : RoomKind) → refusal_of kind ≡ 0 → over_amount kind ≡ 0
-over_refused (No d) e = refl
-over_refused (Over d) e = absurd (omega arith)
-over_refused (Up d) e = refl
-over_refused (Back d) e = refl
-over_refused (Release d) e = refl
+over_refused kind e = grind (arith, common_steps, refusal_of, over_amount)
 
 overs_refused : (h : List RoomMark) → total refusal_of h ≡ 0 → total over_amount h ≡ 0
 overs_refused = snoc_ind (λ (h : List RoomMark). total refusal_of h ≡ 0 → total over_amount h ≡ 0) (λ e. refl) (λ h m before e.

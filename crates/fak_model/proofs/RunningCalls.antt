@@ -1,6 +1,5 @@
 -- From the steps of a seat to what its calls promise: histories with the oldest mark first.
-use Rattle.std.proofs.lemmas.Grind.{common_steps}
-use Rattle.fak_model.proofs.Common.{nat_tests, View, Rules, IsHistory, AreNamed, Begins, In, marks_of, Knows, Object, Leaves, ObjectId, SeatInfo, seat_info, mine_of, last_of, Appends, before_mark, IsSeatToken, ◌≡◌, ◌≢◌, ℕ, zero, suc, ◌==◌, Bool, true, false, cond, List, [], ◌∷◌, ◌++◌, length, refl, ap, sym, ◌∙◌, subst, arith, inl, append_assoc, Some, reverse, Me, sight, HasOneName, Foreign, AreOwn, Sees}
+use Rattle.fak_model.proofs.Common.{nat_tests, View, Rules, IsHistory, AreNamed, Begins, In, marks_of, Knows, Object, Leaves, ObjectId, SeatInfo, seat_info, mine_of, last_of, Appends, before_mark, IsSeatToken, ◌≡◌, ◌≢◌, ℕ, zero, suc, ◌==◌, Bool, true, false, cond, List, [], ◌∷◌, ◌++◌, length, refl, ap, sym, ◌∙◌, subst, arith, inl, append_assoc, Some, reverse, Me, sight, HasOneName, Foreign, AreOwn, Sees, common_steps}
 use Rattle.std.proofs.lemmas.List.{append-nil, reverse-append}
 use Rattle.fak_model.proofs.Seats.{marks_of_append}
 use Rattle.fak_model.proofs.RunningViews.{sees_begins}
@@ -29,8 +28,7 @@ module _ {M : Type 0} (seat_of : M → ℕ) (name : ℕ) where
       ap (marks_of seat_of name) (reverse-append (m ∷ []) h) ∙ (marks_of_append seat_of name (reverse h) (m ∷ []) ∙ (ap (λ l. l ++ marks_of seat_of name (m ∷ [])) rest ∙ ends (seat_of m == name) refl))
     where
       ends : (b : Bool) → (seat_of m == name) ≡ b → reverse (marks_of seat_of name h) ++ marks_of seat_of name (m ∷ []) ≡ reverse (marks_of seat_of name (m ∷ h))
-      ends true e = rw e (sym (reverse-append (m ∷ []) (marks_of seat_of name h)))
-      ends false e = rw e (append-nil (reverse (marks_of seat_of name h)))
+      ends b e = grind (arith, common_steps, reverse, marks_of, reverse-append, append-nil)
 
   -- what stands before a mark of the name
   pub before_mark-append : (p q : List M) (m : M) (number : ℕ) → length (marks_of seat_of name p) ≡ number → seat_of m ≡ name → before_mark seat_of name number (p ++ m ∷ q) ≡ p

@@ -1,7 +1,5 @@
 -- What a tally knows once a seat was joined, and how the seats of a new object are dealt.
-use Rattle.std.proofs.lemmas.Grind.{common_steps}
-use Rattle.fak_model.proofs.Common.{length-reverse, View, IsHistory, AreNamed, Begins, In, IsWhole, Knows, longer_of, ObjectId, object_id, SeatInfo, seat_info, fresh_seats, TallyInfo, tally_info, IsJoined, ◌≡◌, ◌⊎◌, ℕ, zero, suc, ◌+◌, ◌-◌, ◌*◌, ◌/◌, ◌<◌, ◌≤◌, Bool, true, false, cond, nat_lt, List, [], ◌∷◌, ◌++◌, length, refl, ap, sym, ◌∙◌, subst, arith, inl, inr, suc-mul, reverse, IsTrue, ◌↔◌, Me, Splits, Joins, sight, Sees, names_from, first_name, later_names, dealt, kept, joined, spent, settled, Object, IsShown, Hears, IsSeatToken, IsTallyToken}
-use Rattle.std.proofs.Math.Nat.{mul-div_cancel_left}
+use Rattle.fak_model.proofs.Common.{length-reverse, View, IsHistory, AreNamed, Begins, In, IsWhole, Knows, longer_of, ObjectId, object_id, SeatInfo, seat_info, fresh_seats, TallyInfo, tally_info, IsJoined, ◌≡◌, ◌⊎◌, ℕ, zero, suc, ◌+◌, ◌-◌, ◌*◌, ◌/◌, ◌<◌, ◌≤◌, Bool, true, false, cond, nat_lt, List, [], ◌∷◌, ◌++◌, length, refl, ap, sym, ◌∙◌, subst, arith, inl, inr, suc-mul, reverse, IsTrue, ◌↔◌, Me, Splits, Joins, sight, Sees, names_from, first_name, later_names, dealt, kept, joined, spent, settled, Object, IsShown, Hears, IsSeatToken, IsTallyToken, common_steps, mul-div_cancel_left}
 use Rattle.atomic_table.specs.Seated.{TableId}
 use Rattle.fak_model.specs.declared.name_set.NameSet.{NameSet}
 use Rattle.fak_model.specs.Names.{Has, HasJust}
@@ -13,11 +11,7 @@ use Rattle.fak_model.proofs.RunningCalls.{sees_knows, token_phase}
 -- ---- a join
 
 longer_of-reverse : {M : Type 0} (s t : List M) → longer_of (reverse s) (reverse t) ≡ reverse (longer_of s t)
-longer_of-reverse s t = rw (length-reverse s, length-reverse t) (by (nat_lt (length s) (length t)))
-  where
-    by : (c : Bool) → cond c (reverse t) (reverse s) ≡ reverse (cond c t s)
-    by true = refl
-    by false = refl
+longer_of-reverse s t = grind (arith, common_steps, length-reverse, nat_lt, length, reverse)
 
 -- what a join compared, for each part
 record Parts {M : Type 0} (seat_of : M → ℕ) (a b : List ℕ) (s t both : List M) : Type 0 where
@@ -94,14 +88,7 @@ module _ {M W C P S H : Type 0} (o : Object M W C P S H) (resting : P) (stint i 
   dealt_is = ap (λ (v : View M P). let x : Me H (View M P) = (dealt v, []) in x) view_is ∙ ap (λ (k : ℕ). let x : Me H (View M P) = (sight (i ∷ []) [] resting k, []) in x) (share_is (n - (i + 1)))
 
   pub kept_is : ◌≡◌ {A = Me H (View M P)} (kept m.0, m.1) (rest_from resting stint (i + 1) n, [])
-  kept_is =
-      let next : suc i ≡ i + 1 = omega arith in
-      let others : (suc (n - (i + 1)) * stint) - (suc (n - (i + 1)) * stint) / length (names_from i (suc (n - (i + 1)))) ≡ (n - (i + 1)) * stint =
-      ap (λ (k : ℕ). (suc (n - (i + 1)) * stint) - k) (share_is (n - (i + 1))) ∙ less (n - (i + 1)) in
-      (λ j. (kept (view_is j), ap (λ (x : Me H (View M P)). x.1) is j)) ∙ (λ j. (sight (names_from (next j) (n - (i + 1))) [] resting (others j), []))
-    where
-      less : (k : ℕ) → suc k * stint - stint ≡ k * stint
-      less k = omega (arith, suc-mul k stint)
+  kept_is = grind (arith, common_steps, length, names_from, share_is, kept, view_is, sight, suc-mul)
 
 -- a seat's token as it is dealt
 pub fresh_token : {M P H : Type 0} (seat_of : M → ℕ) (seats : ℕ) (resting : P) (stint name : ℕ) (m : Me H (View M P)) → m ≡ (sight (name ∷ []) [] resting stint, []) → name < seats → seats ≤ 64 → IsSeatToken seat_of seats name resting stint m

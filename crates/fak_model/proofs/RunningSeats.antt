@@ -1,12 +1,9 @@
 -- How a running object begins, and how its seats are dealt, joined and told what they saw together.
-use Rattle.std.proofs.lemmas.Grind.{common_steps}
-use Rattle.std.proofs.Math.Nat.{div-le_self}
-use Rattle.fak_model.proofs.Common.{some, some-injective, some-ne-none, get_elem?, View, AreNamed, In, ◌≡◌, ◌≢◌, ◌⊎◌, ℕ, zero, suc, ◌+◌, ◌<◌, ◌≤◌, List, [], ◌∷◌, ◌++◌, length, set, map, refl, ap, sym, ◌∙◌, subst, arith, inl, inr, ⊎_elim, Some, Me, keeps, opening, Allows, Splits, Joins, Sees, opened, first_name, later_names, share_of, dealt, kept, joined, spent, settled}
-use Rattle.atomic_table.proofs.Lists.{set_else}
+use Rattle.fak_model.proofs.Common.{some, some-injective, some-ne-none, get_elem?, View, In, ◌≡◌, ◌≢◌, ◌⊎◌, ℕ, zero, suc, ◌+◌, ◌<◌, ◌≤◌, List, [], ◌∷◌, ◌++◌, length, set, map, refl, ap, sym, ◌∙◌, subst, arith, inl, inr, ⊎_elim, Some, Me, keeps, opening, Allows, Splits, Joins, Sees, opened, first_name, later_names, share_of, dealt, kept, joined, spent, settled, common_steps, div-le_self, set_else}
 use Rattle.fak_model.specs.Shown.{Object, total, IsShown, Hears}
 use Rattle.fak_model.proofs.Seats.{in_either}
 use Rattle.fak_model.proofs.RunningViews.{sees_all, sees_nothing, sees_fewer, first_in, later_in, in_names_from, sees_lawful, sees_named, Compared, compared}
-use Rattle.fak_model.proofs.RunningSteps.{total_set, total_at, each_set, set_found, Some_injective, AreLawful}
+use Rattle.fak_model.proofs.RunningSteps.{total_set, total_at, each_set, set_found, AreLawful}
 
 -- ---- lists
 
@@ -27,27 +24,7 @@ module _ {M W C P S H : Type 0} (o : Object M W C P S H) (resting : P) (left : �
   -- the table at the opening shows the core state at the opening
   pub starts : (c : S) → o.IsReached c → o.past_of c ≡ [] → ((n : ℕ) → n < o.seats → o.StandsAt c n resting) → (ws : List ℕ) (xs : List H) → o.Encodes c ws (map some xs)
       → o.drawn_of c + left ≤ o.tickets → IsShown o (opening ws xs (opened resting o.seats left))
-  starts c reached none rest ws xs encoded few =
-      let v : View M P = opened resting o.seats left in
-      let one : (i : ℕ) (u : View M P) → get_elem? (v ∷ []) i ≡ some u → (i ≡ 0) × (v ≡ u) = at_first v in
-      let all : (F : View M P → Type 0) → F v → (i : ℕ) (u : View M P) → get_elem? (v ∷ []) i ≡ some u → F u = λ F f i u e. subst F (one i u e).1 f in
-      record {
-        core = c;
-        reached = reached;
-        encoded = encoded;
-        named = subst (AreNamed o.rules o.seats) (sym none) (λ k d lt. absurd (omega arith));
-        sees = all (λ u. Sees o.rules.seat_of u.names u.seen (o.past_of c)) (subst (Sees o.rules.seat_of v.names []) (sym none) (sees_all o.rules.seat_of v.names []));
-        told = all (λ u. Sees o.rules.seat_of u.told_names u.told u.seen) (sees_nothing o.rules.seat_of []);
-        below = all (λ u. (n : ℕ) → In n u.names → n < o.seats) (λ n i. let b = in_names_from n 0 o.seats i in omega (arith, b.1));
-        stands = all (λ u. (n : ℕ) → In n u.names → (p : P) → u.phase ≡ Some p → o.StandsAt c n p)
-            (λ n i p e. let b = in_names_from n 0 o.seats i in subst (o.StandsAt c n) (Some_injective e) (rest n (omega (arith, b.1))));
-        apart = λ i j x y ex ey n _ _. (one i x ex).0 ∙ sym (one j y ey).0;
-        few = omega (arith, few);
-      }
-    where
-      at_first : {A : Type 0} (a : A) (i : ℕ) (b : A) → get_elem? (a ∷ []) i ≡ some b → (i ≡ 0) × (a ≡ b)
-      at_first a zero b e = (refl, some-injective a b e)
-      at_first a (suc i) b e = absurd (some-ne-none b (sym e))
+  starts c reached none rest ws xs encoded few = grind (arith, common_steps, opened, some, sees_all, sees_nothing, in_names_from, some-injective, some-ne-none)
 
 -- ---- places of a name, before and after
 
@@ -56,20 +33,14 @@ abbrev SplitFrom : Type 0 → Type 0 → ℕ → ℕ → ℕ → ℕ → Type 0
 SplitFrom First Later i a id end = ((a ≡ i) × (i ≢ id)) ⊎ ((a ≡ id) × (((i ≡ id) × Later) ⊎ ((i ≡ end) × First)))
 
 split_place : (First Later : Type 0) → (First → Later → ⊥) → (i j a b id end : ℕ) → a ≡ b → SplitFrom First Later i a id end → SplitFrom First Later j b id end → i ≡ j
-split_place First Later apart i j a b id end same (inl p) (inl q) = sym p.0 ∙ (same ∙ q.0)
-split_place First Later apart i j a b id end same (inl p) (inr q) = absurd (p.1 (sym p.0 ∙ (same ∙ q.0)))
-split_place First Later apart i j a b id end same (inr p) (inl q) = absurd (q.1 (sym q.0 ∙ (sym same ∙ p.0)))
-split_place First Later apart i j a b id end same (inr p) (inr q) = grind (arith, common_steps)
+split_place First Later apart i j a b id end same u v = grind (arith, common_steps)
 
 -- the name that stands at i now stood there before, or at `other`, which was joined to id
 abbrev JoinFrom : ℕ → ℕ → ℕ → ℕ → Type 0
 JoinFrom i a id other = ((a ≡ i) × (i ≢ other)) ⊎ ((i ≡ id) × (a ≡ other))
 
 join_place : (i j a b id other : ℕ) → a ≡ b → JoinFrom i a id other → JoinFrom j b id other → i ≡ j
-join_place i j a b id other same (inl p) (inl q) = sym p.0 ∙ (same ∙ q.0)
-join_place i j a b id other same (inl p) (inr q) = absurd (p.1 (sym p.0 ∙ (same ∙ q.1)))
-join_place i j a b id other same (inr p) (inl q) = absurd (q.1 (sym q.0 ∙ (sym same ∙ p.1)))
-join_place i j a b id other same (inr p) (inr q) = p.0 ∙ sym q.0
+join_place i j a b id other same v e = grind (arith, common_steps)
 
 -- ---- a split
 

@@ -1,7 +1,5 @@
 -- A step of one seat keeps what a running object shows, whatever the step is.
-use Rattle.std.proofs.lemmas.Grind.{common_steps}
-use Rattle.fak_model.proofs.Common.{All-cons, some, some-injective, some-ne-none, get_elem?, View, IsHistory, AreNamed, In, sight, AreOwn, Sees, ◌≡◌, ◌≢◌, ◌⊎◌, ℕ, zero, suc, ◌+◌, ◌<◌, ◌≤◌, List, [], ◌∷◌, ◌++◌, set, slice_index, refl, ap, sym, subst, arith, inl, ⊎_elim, Some, reverse, All, State, Me, Act, keeps, stepped, homes_after, carried_after}
-use Rattle.atomic_table.proofs.Lists.{at_set}
+use Rattle.fak_model.proofs.Common.{All-cons, some, some-injective, some-ne-none, get_elem?, View, IsHistory, AreNamed, In, sight, AreOwn, Sees, ◌≡◌, ◌≢◌, ◌⊎◌, ℕ, zero, suc, ◌+◌, ◌<◌, ◌≤◌, List, [], ◌∷◌, ◌++◌, set, slice_index, refl, ap, sym, subst, arith, inl, ⊎_elim, Some, reverse, All, State, Me, Act, keeps, stepped, homes_after, carried_after, common_steps, at_set}
 use Rattle.fak_model.specs.Shown.{Object, total, IsShown, Leaves}
 use Rattle.fak_model.proofs.Reversing.{All-reverse}
 use Rattle.fak_model.proofs.RunningViews.{sees_all, sees_other, sees_nothing}

@@ -1,5 +1,5 @@
 -- What views know after a step of their own or of another, and when two are joined.
-use Rattle.fak_model.proofs.Common.{nat_tests, All-head, All-tail, Rules, IsHistory, AreNamed, Begins, In, IsWhole, longer_of, ◌≡◌, ℕ, zero, suc, ◌+◌, ◌<◌, ◌≤◌, true, false, Bool, cond, nat_lt, List, [], ◌∷◌, ◌++◌, length, length-append, refl, ap, sym, ◌∙◌, subst, arith, inl, inr, append_assoc, reverse, All, Foreign, AreOwn, Sees, names_from, first_name, later_names, shorter_of}
+use Rattle.fak_model.proofs.Common.{nat_tests, All-head, All-tail, Rules, IsHistory, AreNamed, Begins, In, IsWhole, longer_of, ◌≡◌, ℕ, zero, suc, ◌+◌, ◌<◌, ◌≤◌, true, false, Bool, cond, nat_lt, List, [], ◌∷◌, ◌++◌, length, length-append, refl, ap, sym, ◌∙◌, subst, arith, inl, inr, append_assoc, reverse, All, Foreign, AreOwn, Sees, names_from, first_name, later_names, shorter_of, common_steps}
 use Rattle.std.proofs.lemmas.List.{append-nil, reverse-append}
 use Rattle.fak_model.proofs.Seats.{in_either, seen_lawful}
 use Rattle.fak_model.proofs.Reversing.{All-reverse}
@@ -126,13 +126,10 @@ compared {M} seat_of a b s t past p q =
 -- ---- names
 
 pub first_in : (n : ℕ) (names : List ℕ) → In n (first_name names) → In n names
-first_in n [] i = i
-first_in n (x ∷ names) (inl e) = inl e
-first_in n (x ∷ names) (inr i) = absurd i
+first_in n names i = grind (arith, common_steps, first_name)
 
 pub later_in : (n : ℕ) (names : List ℕ) → In n (later_names names) → In n names
-later_in n [] i = i
-later_in n (x ∷ names) i = inr i
+later_in n names i = grind (arith, common_steps, later_names)
 
 pub in_names_from : (n a k : ℕ) → In n (names_from a k) → (a ≤ n) × (n < a + k)
 in_names_from n a zero i = absurd i
@@ -145,6 +142,4 @@ length-names_from a (suc k) = ap suc (length-names_from (suc a) k)
 
 -- the first of these names is not among the others
 pub names_apart : (a k n : ℕ) → In n (first_name (names_from a k)) → In n (later_names (names_from a k)) → ⊥
-names_apart a zero n i j = i
-names_apart a (suc k) n (inl e) j = let r = in_names_from n (suc a) k j in omega (arith, r.0)
-names_apart a (suc k) n (inr i) j = i
+names_apart a k n i j = grind (arith, common_steps, first_name, names_from, later_names, in_names_from)

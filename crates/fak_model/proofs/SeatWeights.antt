@@ -1,6 +1,5 @@
 -- What tallies know, name by name, and what an only seat knows.
-use Rattle.std.proofs.lemmas.Grind.{common_steps}
-use Rattle.fak_model.proofs.Common.{nat_tests, sum_by-cons, filter-append, All-head, All-tail, All-cons, All-nil, In, is_in, marks_of, mine, Knows, before_mark, ◌≡◌, ◌⊎◌, ℕ, suc, ◌+◌, ◌<◌, ◌≤◌, ◌==◌, Bool, true, false, cond, List, [], ◌∷◌, ◌++◌, length, refl, ap, sym, ◌∙◌, subst, arith, inl, inr, ◌||◌, All, sum_by, append-nil, false_from_ne_true}
+use Rattle.fak_model.proofs.Common.{nat_tests, sum_by-cons, filter-append, All-head, All-tail, All-cons, All-nil, In, is_in, marks_of, mine, Knows, before_mark, ◌≡◌, ◌⊎◌, ℕ, suc, ◌+◌, ◌<◌, ◌≤◌, ◌==◌, Bool, true, false, List, [], ◌∷◌, ◌++◌, length, refl, ap, sym, ◌∙◌, subst, arith, inl, inr, ◌||◌, All, sum_by, append-nil, false_from_ne_true, common_steps}
 use Rattle.fak_model.proofs.Seats.{between_foreign}
 
 -- ---- names
@@ -20,8 +19,7 @@ is_in_push n k (m ∷ names) = let rest = is_in_push n k names in elim (k == m) 
 
 -- the marks of one name
 pub mine_one : {M : Type 0} (seat_of : M → ℕ) (n : ℕ) (h : List M) → mine seat_of (n ∷ []) h ≡ marks_of seat_of n h
-mine_one seat_of n [] = refl
-mine_one {M} seat_of n (m ∷ h) = grind (arith, common_steps, cond, mine, marks_of)
+mine_one seat_of n h = grind (arith, common_steps, mine, marks_of)
 
 -- one name more
 pub mine_push : {M : Type 0} (seat_of : M → ℕ) (v : M → ℕ) (names : List ℕ) (n : ℕ) → is_in n names ≡ false → (h : List M)
@@ -30,19 +28,10 @@ mine_push seat_of v names n new [] = refl
 mine_push {M} seat_of v names n new (m ∷ h) = by (is_in (seat_of m) names) (seat_of m == n) refl refl (mine_push seat_of v names n new h) where
   by : (a b : Bool) → is_in (seat_of m) names ≡ a → (seat_of m == n) ≡ b → sum_by v (mine seat_of (names ++ n ∷ []) h) ≡ sum_by v (mine seat_of names h) + sum_by v (marks_of seat_of n h)
       → sum_by v (mine seat_of (names ++ n ∷ []) (m ∷ h)) ≡ sum_by v (mine seat_of names (m ∷ h)) + sum_by v (marks_of seat_of n (m ∷ h))
-  by true true a b rest =
-      let same : seat_of m ≡ n = grind (arith, nat_tests) in
-      let clash : true ≡ false = sym a ∙ (ap (λ k. is_in k names) same ∙ new) in
-      absurd (cc)
-  by true false a b rest =
-      let t : is_in (seat_of m) (names ++ n ∷ []) ≡ true = is_in_push n (seat_of m) names ∙ rw a refl in
-      rw (t, a, b) (omega (arith, rest, sum_by-cons v m (mine seat_of (names ++ n ∷ []) h), sum_by-cons v m (mine seat_of names h)))
-  by false true a b rest =
-      let t : is_in (seat_of m) (names ++ n ∷ []) ≡ true = is_in_push n (seat_of m) names ∙ rw (a, b) refl in
-      rw (t, a, b) (omega (arith, rest, sum_by-cons v m (mine seat_of (names ++ n ∷ []) h), sum_by-cons v m (marks_of seat_of n h)))
-  by false false a b rest =
-      let t : is_in (seat_of m) (names ++ n ∷ []) ≡ false = is_in_push n (seat_of m) names ∙ rw (a, b) refl in
-      rw (t, a, b) rest
+  by true true a b rest = grind (arith, common_steps, nat_tests, is_in)
+  by true false a b rest = grind (arith, common_steps, is_in, is_in_push, sum_by-cons, mine)
+  by false true a b rest = grind (arith, common_steps, is_in, is_in_push, sum_by-cons, mine, marks_of)
+  by false false a b rest = grind (arith, common_steps, is_in, is_in_push)
 
 pub mine_more : {M : Type 0} (seat_of : M → ℕ) (v : M → ℕ) (names : List ℕ) (n : ℕ) (h : List M) → (In n names → ⊥)
     → sum_by v (mine seat_of (names ++ n ∷ []) h) ≡ sum_by v (mine seat_of names h) + sum_by v (marks_of seat_of n h)
@@ -53,8 +42,7 @@ mine_none : {M : Type 0} (seat_of : M → ℕ) (names : List ℕ) (h : List M) �
 mine_none seat_of names [] none = refl
 mine_none {M} seat_of names (m ∷ h) none = by (is_in (seat_of m) names) refl (λ later. mine_none seat_of names h later) where
   tail_none : (n : ℕ) (b : Bool) → (seat_of m == n) ≡ b → marks_of seat_of n (m ∷ h) ≡ [] → marks_of seat_of n h ≡ []
-  tail_none n true is e = let e' : m ∷ marks_of seat_of n h ≡ [] = rw is at e in absurd (cc)
-  tail_none n false is e = rw is at e
+  tail_none n b is e = grind (arith, common_steps, marks_of)
 
   by : (b : Bool) → is_in (seat_of m) names ≡ b → (((n : ℕ) → In n names → marks_of seat_of n h ≡ []) → mine seat_of names h ≡ []) → mine seat_of names (m ∷ h) ≡ []
   by true is later =
@@ -88,20 +76,14 @@ pub mine_same : {M : Type 0} (seat_of : M → ℕ) (names : List ℕ) (n : ℕ) 
 mine_same seat_of names n [] none = refl
 mine_same {M} seat_of names n (m ∷ h) none = by (seat_of m == n) refl (λ later. mine_same seat_of names n h later) where
   here : (a : Bool) → is_in (seat_of m) names ≡ a → (seat_of m == n) ≡ false → mine seat_of (names ++ n ∷ []) h ≡ mine seat_of names h → mine seat_of (names ++ n ∷ []) (m ∷ h) ≡ mine seat_of names (m ∷ h)
-  here true a other rest =
-      let t : is_in (seat_of m) (names ++ n ∷ []) ≡ true = is_in_push n (seat_of m) names ∙ rw a refl in
-      rw (t, a) (ap (λ l. m ∷ l) rest)
-  here false a other rest =
-      let t : is_in (seat_of m) (names ++ n ∷ []) ≡ false = is_in_push n (seat_of m) names ∙ rw (a, other) refl in
-      rw (t, a) rest
+  here a a' other rest = grind (arith, common_steps, is_in, mine, is_in_push)
 
   by : (b : Bool) → (seat_of m == n) ≡ b → (marks_of seat_of n h ≡ [] → mine seat_of (names ++ n ∷ []) h ≡ mine seat_of names h) → mine seat_of (names ++ n ∷ []) (m ∷ h) ≡ mine seat_of names (m ∷ h)
   by true is later = let e : m ∷ marks_of seat_of n h ≡ [] = rw is at none in absurd (cc)
   by false is later = here (is_in (seat_of m) names) refl is (later (rw is at none))
 
 pub named_more : {M : Type 0} (seat_of : M → ℕ) (seats more : ℕ) (h : List M) → All (λ (m : M). seat_of m < seats) h → seats ≤ more → All (λ (m : M). seat_of m < more) h
-named_more {M} seat_of seats more [] named le = All-nil (λ (m : M). seat_of m < more)
-named_more {M} seat_of seats more (m ∷ h) named le = grind (arith, common_steps)
+named_more seat_of seats more h named le = grind (arith, common_steps)
 
 -- a name beyond those of all seats has no mark
 pub none_beyond : {M : Type 0} (seat_of : M → ℕ) (seats n : ℕ) (h : List M) → All (λ (m : M). seat_of m < seats) h → seats ≤ n → marks_of seat_of n h ≡ []

@@ -1,13 +1,10 @@
 -- How the calls on the shared objects make a seat's own marks grow.
-use Rattle.fak_processor.proofs.Common.{◌≡◌, ℕ, Bool, true, false, List, [], ◌∷◌, ◌++◌, length, refl, ap, sym, subst, arith, inl, inr, map, ℤ, Some, None, sum_by, flat_map, append-nil, sum_by-append, Rules, SeatInfo, queue_rules, room_rules, credit_rules, put_of, got_of, Kind, Mark, RoomKind, Over, Back, RoomMark, CreditKind, Debit, Credit, CreditMark, SemInfo, SemSeatInfo, credit_part, queue_part, Downs, Ups, ScriptOf, Process, Ledger, Balanced, joined, Turning, Grows, Adds, balanced-joined}
-use Rattle.fak_model.specs.declared.queue.Kind.TheVariants.{NoItem, OverOut, BackOut, Close}
+use Rattle.fak_processor.proofs.Common.{◌≡◌, ℕ, Bool, true, false, List, [], ◌∷◌, ◌++◌, length, refl, ap, sym, subst, arith, inl, inr, map, ℤ, Some, None, sum_by, flat_map, append-nil, sum_by-append, Rules, SeatInfo, queue_rules, room_rules, credit_rules, put_of, got_of, Kind, Mark, RoomKind, Over, Back, RoomMark, CreditKind, Debit, Credit, CreditMark, SemInfo, SemSeatInfo, credit_part, queue_part, Downs, Ups, ScriptOf, Process, Ledger, Balanced, joined, Turning, Grows, Adds, balanced-joined, NoItem, OverOut, BackOut, Close, empty, Owns, queue_kind, Bundle}
 use Rattle.fak_model.specs.Room as room
 use Rattle.fak_model.specs.Credit as credit
 use Rattle.fak_count.specs.Rooms as rooms
 use Rattle.fak_count.specs.Credits as credits
 use Rattle.fak_queue.proofs.Common.{made_by, Makes, Deletes, RefusesEmpty, ShutsAs, RefusedInsertion, NotIn, WithdrawnIn, ClosedIn, WithdrawnLate, RefusedDeletion, NotOut, WithdrawnOut, kinds_not_in, kinds_not_out, kinds_in, kinds_out}
-use Rattle.fak_processor.specs.Events.{empty}
-use Rattle.fak_processor.specs.Holding.{Owns, queue_kind, Bundle}
 use Rattle.fak_processor.proofs.Tallies.{owns_more}
 
 -- ---- a seat

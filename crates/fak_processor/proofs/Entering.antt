@@ -1,10 +1,6 @@
 -- Insertions into a queue that has one seat, after insertions that were refused.
-use Rattle.fak_processor.proofs.Common.{◌≡◌, ℕ, ◌+◌, ◌||◌, false, List, [], ◌∷◌, ◌++◌, length, length-append, refl, ap, sym, ◌∙◌, arith, flat_map, gots, lower_raise, lower_drop, Has, contents, SeatInfo, Kind, Mark, Makes, made_by, kinds_in, kinds_not_in, RefusedInsertion, NotIn, WithdrawnIn, ClosedIn, WithdrawnLate, has_close, IsOnlySeat, Enters, Bounces}
+use Rattle.fak_processor.proofs.Common.{◌≡◌, ℕ, ◌+◌, ◌||◌, false, List, [], ◌∷◌, ◌++◌, length, length-append, refl, ap, sym, ◌∙◌, arith, flat_map, gots, lower_raise, lower_drop, Has, contents, SeatInfo, Kind, Mark, Makes, made_by, kinds_in, kinds_not_in, RefusedInsertion, NotIn, WithdrawnIn, ClosedIn, WithdrawnLate, has_close, IsOnlySeat, Enters, Bounces, IsClosed, InsertsAfterFull, ClosesAfterFull, made_by_append, count_at_last, none_in, only_still}
 use Rattle.fak_model.specs.declared.queue.Kind.TheVariants as made
-use Rattle.fak_queue.specs.Retries.{IsClosed, InsertsAfterFull, ClosesAfterFull}
-use Rattle.fak_queue.proofs.AfterRefusals.{made_by_append}
-use Rattle.fak_queue.proofs.Weighing.{count_at_last, none_in}
-use Rattle.fak_run.proofs.Only.{only_still}
 use Rattle.fak_processor.proofs.OnlyQueues.{close_more, counted, fair_after, has_then_close, keeps, not_shut, or_false, shut_same}
 use Rattle.fak_processor.proofs.OnlyCounts.{inserted, in_put, put_at_last}
 

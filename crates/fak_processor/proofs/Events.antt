@@ -1,11 +1,8 @@
 -- Each kind of event of a turn keeps what balances.
-use Rattle.fak_model.proofs.Leading.{sum_none}
-use Rattle.fak_processor.proofs.Common.{child_of, next_step, RowOf, MovesNoItem, ◌≡◌, ℕ, ◌+◌, ◌<◌, ◌==◌, Bool, true, false, cond, List, [], ◌∷◌, ◌++◌, length, refl, ap, sym, ◌∙◌, subst, arith, None, sum_by, All, nat_tests, sum_by-append, All-nil, All-cons, sum_below, debit_weight, credit_weight, up_amount, release_amount, put_of, got_of, close_of, closed_of, refusal_of, other_amount, Kind, CreditKind, Debit, Credit, cond_here, cond_else, kinds_in, kinds_out, ScriptOf, StepOf, down, up, spawn, shutdown, NoteOf, downed, upped, spawned, no_birth, no_slot, shut_down, Process, child_count, after_note, FitsScript, Ledger, Made, Balanced, IsMade, FitsRow, nothing, not_before, its_down, before_down}
+use Rattle.fak_processor.proofs.Common.{child_of, next_step, RowOf, MovesNoItem, ◌≡◌, ℕ, ◌+◌, ◌<◌, ◌==◌, Bool, true, false, cond, List, [], ◌∷◌, ◌++◌, length, refl, ap, sym, ◌∙◌, subst, arith, None, sum_by, All, nat_tests, sum_by-append, All-nil, All-cons, sum_below, debit_weight, credit_weight, up_amount, release_amount, put_of, got_of, close_of, closed_of, refusal_of, other_amount, Kind, CreditKind, Debit, Credit, cond_here, cond_else, kinds_in, kinds_out, ScriptOf, StepOf, down, up, spawn, shutdown, NoteOf, downed, upped, spawned, no_birth, no_slot, shut_down, Process, child_count, after_note, FitsScript, Ledger, Made, Balanced, IsMade, FitsRow, nothing, not_before, its_down, before_down, sum_none, child, downs_of, ups_of, shuts_of, no_births_of, no_slots_of, sum_at}
 use Rattle.fak_processor.specs.Events.{made_of, IsPlain, fills, takes, puts, halts, steps, passes, parks, adds, wakes, spawns, lacks_birth, lacks_slot, ends, waits_refused, shuts, closed, refused_claim}
 use Rattle.fak_processor.proofs.Moving.{quiet_empty, idle_closed}
 use Rattle.fak_text.specs.Journal.{births_of}
-use Rattle.fak_run.specs.Ledger.{child, downs_of, ups_of, shuts_of, no_births_of, no_slots_of}
-use Rattle.fak_run.proofs.Sums.{sum_at}
 
 -- no wait queue
 pub none_waits : (n : ℕ) → sum_below (λ (s : ℕ). 0) n ≡ 0

@@ -1,8 +1,7 @@
 -- Processors with seats as they are opened: what they know, and the lists that the list scheduler has where there is one.
-use Rattle.fak_model.specs.declared.file.FileEntry.{FileEntry}
 use Rattle.fak_model.specs.Credit as credit
 use Rattle.fak_model.specs.Room as room
-use Rattle.fak_processor.proofs.Common.{free_entry, nothing, Owns, queue_kind, IsOnly, ObjectsOf, AreFor, AreOf, GoesTo, IsAlone, ids_of, ids_of_seats, bundle_of, Between, empty_lists, ◌≡◌, ℕ, zero, suc, ◌+◌, ◌-◌, ◌<◌, List, [], ◌∷◌, All, length, map, replicate, get_or, slice_index_or, refl, ap, sym, ◌∙◌, subst, arith, false, length-replicate, All-nil, All-cons, All-head, All-tail, ObjectId, seat_info, credit_rules, queue_rules, room_rules, FileMark, CreditMark, RoomMark, Mark, entries_after, SemId, SemInfo, SemSeatInfo, credit_part, queue_part, ScriptOf, down, Process, StandsAt, Turning, IsOnlySem, semaphore_count, sleepers_of, no_seat, no_table, AreSeated, HasName, fresh_processor, fresh_sem_at, lines_none}
+use Rattle.fak_processor.proofs.Common.{free_entry, nothing, Owns, queue_kind, IsOnly, ObjectsOf, AreFor, AreOf, GoesTo, IsAlone, ids_of, ids_of_seats, bundle_of, Between, empty_lists, ◌≡◌, ℕ, zero, suc, ◌+◌, ◌-◌, ◌<◌, List, [], ◌∷◌, All, length, map, replicate, get_or, slice_index_or, refl, ap, sym, ◌∙◌, subst, arith, false, length-replicate, All-nil, All-cons, All-head, All-tail, ObjectId, seat_info, credit_rules, queue_rules, room_rules, FileMark, CreditMark, RoomMark, Mark, entries_after, SemId, SemInfo, SemSeatInfo, credit_part, queue_part, ScriptOf, down, Process, StandsAt, Turning, IsOnlySem, semaphore_count, sleepers_of, no_seat, no_table, AreSeated, HasName, fresh_processor, fresh_sem_at, lines_none, FileEntry}
 use Rattle.fak_processor.proofs.Events.{quiet}
 use Rattle.fak_processor.proofs.Tallies.{owns_fresh}
 

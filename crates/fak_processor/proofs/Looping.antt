@@ -1,8 +1,7 @@
 -- The loop of a processor, among any number of them.
 use Rattle.std.proofs.lemmas.List.Elements.{All-nil, All-cons, All-head, All-tail, All-map}
 use Rattle.fak_model.specs.Credit.{value}
-use Rattle.fak_processor.specs.Faults.{HasPassed}
-use Rattle.fak_processor.proofs.Common.{Turn, nothing, ProcessorOf, HasName, ◌≡◌, ◌∙◌, ℕ, Bool, List, [], ◌∷◌, All, length, map, refl, ap, sym, subst, Option, None, pos, ScriptOf, Process, names_of, Gains, Moves, LeavesNone, hand_of, SemSeatInfo}
+use Rattle.fak_processor.proofs.Common.{Turn, nothing, ProcessorOf, HasName, ◌≡◌, ◌∙◌, ℕ, Bool, List, [], ◌∷◌, All, length, map, refl, ap, sym, subst, Option, None, pos, ScriptOf, Process, names_of, Gains, Moves, LeavesNone, hand_of, SemSeatInfo, HasPassed}
 use Rattle.fak_processor.proofs.Events.{quiet, balanced-beside}
 use Rattle.fak_processor.proofs.Acting.{moves_then}
 

@@ -1,7 +1,6 @@
 -- What the calls of the only processor are in the list scheduler.
-use Rattle.fak_processor.proofs.Common.{◌≡◌, ℕ, ◌+◌, ◌-◌, ◌<◌, ◌≤◌, List, [], ◌∷◌, ◌++◌, All, length, map, slice_set, slice_index_or, refl, ap, sym, ◌∙◌, subst, arith, nat_lt, slice_index, nat_tests, SeatInfo, get_or-map, length-map, map-set, RoomMark, SemSeatInfo, ScriptOf, down, Process, StandsAt, after_note, downed, IsOnlySem, IsOnlyRoom, Passes, Parks, Raises, Rouses, Claims, FindsFull, GivesBack, semaphore_count, sleepers_of, ObjectsOf, ProcessorOf, AreFor, IsAlone, lists_of, GoesTo, AtPlace, IsBorn, HasNoBirth, WakesNobody, WakesFirst, SleepsLast, CountFalls}
+use Rattle.fak_processor.proofs.Common.{◌≡◌, ℕ, ◌+◌, ◌-◌, ◌<◌, ◌≤◌, List, [], ◌∷◌, ◌++◌, All, length, map, slice_set, slice_index_or, refl, ap, sym, ◌∙◌, subst, arith, nat_lt, slice_index, nat_tests, SeatInfo, get_or-map, length-map, map-set, RoomMark, SemSeatInfo, ScriptOf, down, Process, StandsAt, after_note, downed, IsOnlySem, IsOnlyRoom, Passes, Parks, Raises, Rouses, Claims, FindsFull, GivesBack, semaphore_count, sleepers_of, ObjectsOf, ProcessorOf, AreFor, IsAlone, lists_of, GoesTo, AtPlace, IsBorn, HasNoBirth, WakesNobody, WakesFirst, SleepsLast, CountFalls, held_amount}
 use Rattle.std.proofs.lemmas.List.Elements.{All-set, All-head}
-use Rattle.fak_count.specs.Rooms.{held_amount}
 use Rattle.fak_run.specs.Contexts.{WaitAtTheirs}
 use Rattle.fak_processor.proofs.Waiting.{AllAtTheirs-same, AllAtTheirs-push, AllAtTheirs-pop}
 use Rattle.fak_processor.proofs.Places.{alike_after}

@@ -5,8 +5,7 @@ use Rattle.fak_model.specs.Room as room
 use Rattle.fak_model.specs.Credit as credit
 use Rattle.fak_count.specs.Rooms as rooms
 use Rattle.fak_queue.proofs.Common.{Makes, RefusesEmpty, Deletes, RefusedInsertion, NotIn, WithdrawnIn, ClosedIn, WithdrawnLate, kinds_not_in, kinds_in}
-use Rattle.fak_queue.specs.Retries.{IsFull, IsClosed, InsertsAfterFull, ClosesAfterFull}
-use Rattle.fak_processor.proofs.Common.{Ledger, Made, nothing, joined, queue_kind, Bundle, ProcessorOf, AreLines, is_file_line, file_lines, ◌≡◌, ◌⊎◌, ℕ, ◌<◌, Bool, true, false, List, [], ◌∷◌, ◌++◌, All, All-head, All-tail, no_seat, flat_map, length, map, slice_index_or, slice_set, Option, Some, None, MatchOption, refl, ap, sym, ◌∙◌, subst, arith, inl, inr, append_assoc, ℤ, sum_by-append, filter-append, SeatInfo, queue_rules, room_rules, credit_rules, put_of, got_of, close_of, closed_of, Kind, Mark, kinds_out, RoomKind, No, RoomMark, CreditKind, CreditMark, FileMark, cond_here, cond_else, SemSeatInfo, credit_part, queue_part, ScriptOf, NoteOf, Process, Grows, Adds, MovesNoItem, IsQuiet, GrowsIn, GrowsShut, GrowsAtLast, GrowsIdle, GrowsEmpty, GrowsOut, bundle_of, names_of, files_of, Gains, at_one}
+use Rattle.fak_processor.proofs.Common.{Ledger, Made, nothing, joined, queue_kind, Bundle, ProcessorOf, AreLines, is_file_line, file_lines, ◌≡◌, ◌⊎◌, ℕ, ◌<◌, Bool, true, false, List, [], ◌∷◌, ◌++◌, All, All-head, All-tail, no_seat, flat_map, length, map, slice_index_or, slice_set, Option, Some, None, MatchOption, refl, ap, sym, ◌∙◌, subst, arith, inl, inr, append_assoc, ℤ, sum_by-append, filter-append, SeatInfo, queue_rules, room_rules, credit_rules, put_of, got_of, close_of, closed_of, Kind, Mark, kinds_out, RoomKind, No, RoomMark, CreditKind, CreditMark, FileMark, cond_here, cond_else, SemSeatInfo, credit_part, queue_part, ScriptOf, NoteOf, Process, Grows, Adds, MovesNoItem, IsQuiet, GrowsIn, GrowsShut, GrowsAtLast, GrowsIdle, GrowsEmpty, GrowsOut, bundle_of, names_of, files_of, Gains, at_one, IsFull, IsClosed, InsertsAfterFull, ClosesAfterFull}
 use Rattle.fak_processor.specs.Events.{full, empty, closed, refused_claim}
 use Rattle.fak_processor.proofs.Places.{alike_after}
 use Rattle.fak_processor.proofs.Calls.{grows_same, grows_makes, grows_deletes, grows_empty, grows_room, grows_withdraws}

@@ -1,15 +1,10 @@
 -- What calls do to semaphores and rooms that have one seat.
-use Rattle.fak_processor.proofs.Common.{◌≡◌, ◌⊎◌, ℕ, ◌+◌, ◌-◌, ◌<◌, ◌≤◌, List, [], ◌∷◌, ◌++◌, Some, None, length, length-append, refl, ap, sym, ◌∙◌, subst, arith, inl, inr, ℤ, pos, map, ◌+ℤ◌, ◌≤ℤ◌, ◌<ℤ◌, flat_map, sum_by, ints, map-append, sum_by-append, count, gots, items_put, contents, SeatInfo, Appends, CreditKind, CreditMark, RoomKind, Up, Over, Back, No, Release, RoomMark, Kind, Mark, made_by, RefusedInsertion, NotIn, WithdrawnIn, ClosedIn, WithdrawnLate, kinds_not_in, RefusedDeletion, NotOut, WithdrawnOut, kinds_not_out, kinds_in, kinds_out, InsertsAtLast, DeletesAtLast, SemInfo, SemId, SemSeatInfo, Downs, Ups, IsOnly, IsOnlySem, Passes, Parks, Raises, Rouses, IsOnlyRoom, Claims, FindsFull, GivesBack}
+use Rattle.fak_processor.proofs.Common.{◌≡◌, ◌⊎◌, ℕ, ◌+◌, ◌-◌, ◌<◌, ◌≤◌, List, [], ◌∷◌, ◌++◌, Some, None, length, length-append, refl, ap, sym, ◌∙◌, subst, arith, inl, inr, ℤ, pos, map, ◌+ℤ◌, ◌≤ℤ◌, ◌<ℤ◌, flat_map, sum_by, ints, map-append, sum_by-append, count, gots, items_put, contents, SeatInfo, Appends, CreditKind, CreditMark, RoomKind, Up, Over, Back, No, Release, RoomMark, Kind, Mark, made_by, RefusedInsertion, NotIn, WithdrawnIn, ClosedIn, WithdrawnLate, kinds_not_in, RefusedDeletion, NotOut, WithdrawnOut, kinds_not_out, kinds_in, kinds_out, InsertsAtLast, DeletesAtLast, SemInfo, SemId, SemSeatInfo, Downs, Ups, IsOnly, IsOnlySem, Passes, Parks, Raises, Rouses, IsOnlyRoom, Claims, FindsFull, GivesBack, total_push, RoomInfo, held_amount, IsGranted, MakesCall, Withdraws, made_by_append, count_at_last, none_in, none_out, only_seen, only_still, only_lawful, only_before}
 use Rattle.fak_model.specs.declared.queue.Kind.TheVariants as made
 use Rattle.fak_model.specs.Credit as credit
 use Rattle.fak_model.specs.Room as room
-use Rattle.fak_model.proofs.Leading.{total_push}
 use Rattle.fak_count.specs.Credits as credits
-use Rattle.fak_count.specs.Rooms.{RoomInfo, held_amount, IsGranted, MakesCall, Withdraws}
 use Rattle.fak_count.specs.RoomShown.{room_mark}
-use Rattle.fak_queue.proofs.AfterRefusals.{made_by_append}
-use Rattle.fak_queue.proofs.Weighing.{count_at_last, none_in, none_out}
-use Rattle.fak_run.proofs.Only.{only_seen, only_still, only_lawful, only_before}
 use Rattle.fak_processor.proofs.OnlyQueues.{items_more, items_added, first_left}
 
 -- ---- the wait queue after refusals

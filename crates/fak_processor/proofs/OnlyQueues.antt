@@ -1,11 +1,9 @@
 -- What calls do to the contents of a queue that has one seat.
-use Rattle.fak_processor.proofs.Common.{◌≡◌, ℕ, zero, suc, ◌+◌, ◌≤◌, ◌||◌, Bool, true, false, List, [], ◌∷◌, ◌++◌, Some, length, drop, refl, ap, sym, ◌∙◌, subst, arith, inl, inr, append_assoc, ℤ, pos, ◌≤ℤ◌, ints, flat_map-append, queue_rules, IsQueueHistory, count, puts, gots, lower_raise, lower_drop, lower_count, Has, item_in, item_at, items_put, contents, IsFairMark, SeatInfo, Kind, Mark, Makes, made_by, RefusesEmpty, ShutsAs, IsOnly, is_close, has_close, IsOnlySeat, Keeps, Enters, Bounces, TakesFirst, FindsNone, Shuts}
+use Rattle.fak_processor.proofs.Common.{◌≡◌, ℕ, zero, suc, ◌+◌, ◌≤◌, ◌||◌, Bool, true, false, List, [], ◌∷◌, ◌++◌, Some, length, drop, refl, ap, sym, ◌∙◌, subst, arith, inl, inr, append_assoc, ℤ, pos, ◌≤ℤ◌, ints, flat_map-append, queue_rules, IsQueueHistory, count, puts, gots, lower_raise, lower_drop, lower_count, Has, item_in, item_at, items_put, contents, IsFairMark, SeatInfo, Kind, Mark, Makes, made_by, RefusesEmpty, ShutsAs, IsOnly, is_close, has_close, IsOnlySeat, Keeps, Enters, Bounces, TakesFirst, FindsNone, Shuts, history_prefix, only_seen, only_still, only_lawful}
 use Rattle.std.proofs.lemmas.List.{drop-append-le, append-nil}
 use Rattle.fak_model.specs.declared.queue.Kind.TheVariants as made
-use Rattle.fak_model.proofs.Appending.{history_prefix}
 use Rattle.fak_model.proofs.QueueBackwards.{count_append, items_count}
 use Rattle.fak_model.proofs.QueueLaws.{contents_fit}
-use Rattle.fak_run.proofs.Only.{only_seen, only_still, only_lawful}
 
 -- ---- lists
 

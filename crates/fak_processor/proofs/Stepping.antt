@@ -1,8 +1,6 @@
 -- How steps balance.
-use Rattle.fak_model.specs.declared.file.FileEntry.{FileEntry}
 use Rattle.fak_model.specs.Calls.{SeatInfo}
-use Rattle.fak_model.specs.declared.queue.Kind.TheVariants.{Close}
-use Rattle.fak_processor.proofs.Common.{child_of, ProcessorOf, HasMade, AreLines, is_file_line, ◌≡◌, ℕ, ◌<◌, ◌==◌, Bool, true, false, cond, List, [], ◌∷◌, ◌++◌, length, refl, ap, sym, ◌∙◌, subst, arith, Option, flat_map, append-nil, FileMark, FileSeatInfo, Kind, Debit, Credit, Up, Release, cond_here, kinds_in, kinds_out, kinds_not_in, kinds_not_out, ScriptOf, StepOf, say, yield, open_file, close_file, stat, down, up, spawn, shutdown, NoteOf, said, yielded, opened, closed, statted, downed, upped, spawned, no_birth, no_slot, shut_down, Process, child_count, after_note, FitsScript, StandsAt, Allows, Ledger, IsMade, nothing, joined, other_down, made_of, IsPlain, steps, passes, parks, adds, wakes, spawns, lacks_birth, lacks_slot, shuts, waits_refused, refused_claim, empty, bundle_of, names_of, Gains, GainsParked, GainsWoken, Moves, at_one, lines_more, balanced-joined}
+use Rattle.fak_processor.proofs.Common.{child_of, ProcessorOf, HasMade, AreLines, is_file_line, ◌≡◌, ℕ, ◌<◌, ◌==◌, Bool, true, false, cond, List, [], ◌∷◌, ◌++◌, length, refl, ap, sym, ◌∙◌, subst, arith, Option, flat_map, append-nil, FileMark, FileSeatInfo, Kind, Debit, Credit, Up, Release, cond_here, kinds_in, kinds_out, kinds_not_in, kinds_not_out, ScriptOf, StepOf, say, yield, open_file, close_file, stat, down, up, spawn, shutdown, NoteOf, said, yielded, opened, closed, statted, downed, upped, spawned, no_birth, no_slot, shut_down, Process, child_count, after_note, FitsScript, StandsAt, Allows, Ledger, IsMade, nothing, joined, other_down, made_of, IsPlain, steps, passes, parks, adds, wakes, spawns, lacks_birth, lacks_slot, shuts, waits_refused, refused_claim, empty, bundle_of, names_of, Gains, GainsParked, GainsWoken, Moves, at_one, lines_more, balanced-joined, FileEntry, Close}
 use Rattle.fak_processor.proofs.Events.{balanced-beside, keeps_steps, keeps_passes, keeps_parks, keeps_adds, keeps_wakes, keeps_spawns, keeps_lacks_birth, keeps_lacks_slot, keeps_shuts, keeps_waits_refused}
 use Rattle.fak_processor.proofs.Calls.{refused_in_weighs, refused_out_weighs}
 use Rattle.fak_processor.proofs.Moving.{adds_none, gains_none, gains_then}

@@ -1,8 +1,6 @@
 -- What seats know of ledgers, call by call, and what tallies know of them, join by join.
-use Rattle.fak_processor.proofs.Common.{◌≡◌, ℕ, ◌<◌, true, false, cond, nat_lt, List, [], ◌++◌, length, refl, ap, sym, ◌∙◌, subst, arith, inl, map, sum_by, map-append, sum_by-append, All-nil, Rules, is_in, marks_of, mine, ObjectId, SeatInfo, seat_info, TallyInfo, tally_of, mine_of, Appends, IsJoined, Owns, Weighs}
-use Rattle.fak_model.proofs.Appending.{history_none}
+use Rattle.fak_processor.proofs.Common.{◌≡◌, ℕ, ◌<◌, true, false, cond, nat_lt, List, [], ◌++◌, length, refl, ap, sym, ◌∙◌, subst, arith, inl, map, sum_by, map-append, sum_by-append, All-nil, Rules, is_in, marks_of, mine, ObjectId, SeatInfo, seat_info, TallyInfo, tally_of, mine_of, Appends, IsJoined, Owns, Weighs, history_none, sum_by-map}
 use Rattle.fak_model.proofs.SeatWeights.{mine_one, mine_push, mine_known}
-use Rattle.fak_run.proofs.Sums.{sum_by-map}
 
 -- ---- seats
 

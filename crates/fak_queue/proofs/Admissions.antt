@@ -4,10 +4,8 @@ use Rattle.fak_model.specs.declared.queue.Stage.TheVariants as at
 use Rattle.fak_model.specs.Queue.{count, puts, gots, upper_count, lower_count}
 use Rattle.fak_model.specs.QueuePast.{after as after_kind}
 use Rattle.fak_core.specs.declared.queue.phase.Phase.TheVariants.{Idle, AddUp, BackUp, TicketIn, TurnIn, TurnOut}
-use Rattle.fak_queue.proofs.Common.{UpperCount, LowerCount, QueueHolder, RestsAt, idle, inserting, deleting, IsPart, ClaimedIn, RefusedIn, ClaimedOut, RefusedOut, TellsOfNeither, ◌≡◌, ℕ, ◌-◌, ◌<◌, ◌^◌, List, [], ◌∷◌, refl, sym, ap, ◌∙◌, subst, inl, inr, Some, ℤ, Bool, true, false, reverse, Mark, count_reverse, mark, Marks, Named, ShutAs, TestedUp, AddedUp, BacksUp, DrewIn, TestedLow, SubtractedLow, BacksLow, DrawsOut}
-use Rattle.std.specs.Prelude.{Ok, Err}
+use Rattle.fak_queue.proofs.Common.{UpperCount, LowerCount, QueueHolder, RestsAt, idle, inserting, deleting, IsPart, ClaimedIn, RefusedIn, ClaimedOut, RefusedOut, TellsOfNeither, ◌≡◌, ℕ, ◌-◌, ◌<◌, ◌^◌, List, [], ◌∷◌, refl, sym, ap, ◌∙◌, subst, inl, inr, Some, ℤ, Bool, true, false, reverse, Mark, count_reverse, mark, Marks, Named, ShutAs, TestedUp, AddedUp, BacksUp, DrewIn, TestedLow, SubtractedLow, BacksLow, DrawsOut, Ok, Err, Full, Shut}
 use Rattle.fak_queue.specs.declared.found.NoRoom.{NoRoom}
-use Rattle.fak_queue.specs.declared.found.NoRoom.TheVariants.{Full, Shut}
 use Rattle.fak_queue.proofs.PartSteps.{put_there, put_new, names_kept, phase_is, left_is, slots_are, part_one, part_two}
 
 -- an item's Put, or its Got, leaves the seat waiting with the ticket that was drawn

@@ -1,7 +1,5 @@
 -- Calls that follow refused ones.
-use Rattle.std.proofs.lemmas.Grind.{common_steps}
-use Rattle.std.proofs.lemmas.List.Concat.{flat_map-append}
-use Rattle.fak_queue.proofs.Common.{Idle, Makes, made_by, seat_of, drawn_by, state_of, Inserts, Deletes, RefusesFull, RefusesClosed, RefusesEmpty, ◌≡◌, ◌⊎◌, ℕ, ◌<◌, arith, List, [], ◌∷◌, ◌++◌, length, length-append, refl, ap, sym, ◌∙◌, subst, inl, inr, append_assoc, All, flat_map, append-nil, All-append, All-push, queue_rules, count, puts, gots, ObjectId, SeatInfo, Appends, mine_of, before_mark, Kind, Mark, appends_then, RefusedInsertion, NotIn, WithdrawnIn, ClosedIn, WithdrawnLate, kinds_not_in, IsFull, IsClosed, RefusedDeletion, NotOut, WithdrawnOut, kinds_not_out, MakesAtLast, before_last, InsertsAfterFull, ClosesAfterFull, DeletesAfterEmpty}
+use Rattle.fak_queue.proofs.Common.{Idle, Makes, made_by, seat_of, drawn_by, state_of, Inserts, Deletes, RefusesFull, RefusesClosed, RefusesEmpty, ◌≡◌, ◌⊎◌, ℕ, ◌<◌, arith, List, [], ◌∷◌, ◌++◌, length, length-append, refl, ap, sym, ◌∙◌, subst, inl, inr, append_assoc, All, flat_map, append-nil, All-append, All-push, queue_rules, count, puts, gots, ObjectId, SeatInfo, Appends, mine_of, before_mark, Kind, Mark, appends_then, RefusedInsertion, NotIn, WithdrawnIn, ClosedIn, WithdrawnLate, kinds_not_in, IsFull, IsClosed, RefusedDeletion, NotOut, WithdrawnOut, kinds_not_out, MakesAtLast, before_last, InsertsAfterFull, ClosesAfterFull, DeletesAfterEmpty, common_steps, flat_map-append}
 
 pub made_by_append : {T : Type 0} (name : ℕ) (ks ls : List (Kind T)) → made_by name (ks ++ ls) ≡ made_by name ks ++ made_by name ls
 made_by_append name [] ls = refl
@@ -34,21 +32,16 @@ pub leads : {T : Type 0} (κ : Kind T) (ks : List (Kind T)) → Leading (κ ∷ 
 leads κ ks = record { first = κ; later = ks; is = refl }
 
 pub leads_in : {T : Type 0} (r : RefusedInsertion) → Leading (kinds_not_in {T = T} r)
-leads_in NotIn = leads _ _
-leads_in WithdrawnIn = leads _ _
-leads_in ClosedIn = leads _ _
-leads_in WithdrawnLate = leads _ _
+leads_in r = grind (arith, common_steps, kinds_not_in, leads)
 
 pub leads_out : {T : Type 0} (r : RefusedDeletion) → Leading (kinds_not_out {T = T} r)
-leads_out NotOut = leads _ _
-leads_out WithdrawnOut = leads _ _
+leads_out r = grind (arith, common_steps, kinds_not_out, leads)
 
 leads_front : {T : Type 0} {ks : List (Kind T)} (ls : List (Kind T)) → Leading ks → Leading (ks ++ ls)
 leads_front ls l = record { first = l.first; later = l.later ++ ls; is = ap (λ ks. ks ++ ls) l.is }
 
 makes_both : {T : Type 0} {size : ℕ} (ks ls : List (Kind T)) {old mid new : SeatInfo (Mark T)} → Leading ls → Makes size ks old mid → Makes size ls mid new → Makes size (ks ++ ls) old new
-makes_both {T} {size} ks ls {old} {mid} {new} l first second =
-    subst (λ (x : List (Kind T)). Makes size (ks ++ x) old new) (sym l.is) (makes_then ks l.first l.later first (subst (λ (x : List (Kind T)). Makes size x mid new) l.is second))
+makes_both {T} {size} ks ls {old} {mid} {new} l first second = grind (arith, common_steps, makes_then, first)
 
 leads_behind : {T R : Type 0} (kinds_of : R → List (Kind T)) (rs : List R) {ks : List (Kind T)} → Leading ks → Leading (flat_map kinds_of rs ++ ks)
 leads_behind kinds_of [] l = l
@@ -99,10 +92,7 @@ module _ {T R : Type 0} (kinds_of : R → List (Kind T)) (Was : R → Type 0) (s
     within_so_far left = elim so_far [ inl same ↦ subst (λ (s : SeatInfo (Mark T)). drawn_by s < s.stint) same left | inr b ↦ b.within ]
 
     pub left_so_far : drawn_by old < old.stint → drawn_by mid < mid.stint
-    left_so_far left = elim so_far [
-      | inl same ↦ subst (λ (s : SeatInfo (Mark T)). drawn_by s < s.stint) (sym same) left
-      | inr b ↦ (let stint = ap (λ (s : SeatInfo (Mark T)). s.stint) b.makes.same_seat in let d = b.drawn in omega (arith, left, stint, d))
-    ]
+    left_so_far left = grind (arith, common_steps, so_far, drawn_by)
 
     -- one more was refused
     pub refused_again : {new : SeatInfo (Mark T)} (r : R) → Leading (kinds_of r) → drawn_by mid < mid.stint → drawn_by new ≡ drawn_by mid → Was r → (t : MakesAtLast kinds_of size (kinds_of r) mid new) → All Was t.refused → RefusedSoFar old new

@@ -1,7 +1,6 @@
 -- Each atomic step is one that the table's rule allows.
 use Rattle.fak_core.specs.declared.queue.phase.Phase.TheVariants.{Idle, AddUp, BackUp, TicketIn, TurnIn, StoreItem, EndInsert, SubLow, BackLow, TicketOut, TurnOut, LoadItem, EndDelete}
-use Rattle.fak_model.proofs.RunningSeats.{hears}
-use Rattle.fak_queue.proofs.Common.{UpperCount, QueueLimits, IsUpperCount, QueueHolder, queue_object, IsShownQueue, ◌≡◌, ℕ, ◌+◌, ◌-◌, ◌*◌, ◌/◌, ◌%◌, ◌^◌, ◌<◌, List, [], ◌∷◌, slice_index, sym, ap, ◌∙◌, subst, arith, bit_or, Option, Some, None, some, get_elem?, Allows, carried_after, Phase, TestedUp, TestsUp, AddedUp, AddsUp, BacksUp, DrewIn, DrawsIn, TurnedIn, TurnsIn, FilledCell, SetsFull, EndsIn, TestsLow, SubtractsLow, BacksLow, DrawsOut, TurnedOut, TurnsOut, FreedCell, SetsFree, EndsOut, Shuts, HeardJoin, Named}
+use Rattle.fak_queue.proofs.Common.{UpperCount, QueueLimits, IsUpperCount, QueueHolder, queue_object, IsShownQueue, ◌≡◌, ℕ, ◌+◌, ◌-◌, ◌*◌, ◌/◌, ◌%◌, ◌^◌, ◌<◌, List, [], ◌∷◌, slice_index, sym, ap, ◌∙◌, subst, arith, bit_or, Option, Some, None, some, get_elem?, Allows, carried_after, Phase, TestedUp, TestsUp, AddedUp, AddsUp, BacksUp, DrewIn, DrawsIn, TurnedIn, TurnsIn, FilledCell, SetsFull, EndsIn, TestsLow, SubtractsLow, BacksLow, DrawsOut, TurnedOut, TurnsOut, FreedCell, SetsFree, EndsOut, Shuts, HeardJoin, Named, hears}
 use Rattle.fak_queue.proofs.Stepping.{QueueTable, queue_law, Permits}
 use Rattle.fak_queue.proofs.InsertionSteps.{tests_up, adds_up, backs_up, draws_in, turns_in, stores_full, ends_in, shuts}
 use Rattle.fak_queue.proofs.DeletionSteps.{tests_low, subtracts_low, backs_low, draws_out, turns_out, stores_free, ends_out}

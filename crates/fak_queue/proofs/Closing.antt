@@ -1,10 +1,9 @@
 -- The table of a queue whose seats are all joined: its slots hold what its history leaves.
 use Rattle.fak_model.specs.declared.queue.Stage.TheVariants as at
-use Rattle.fak_model.specs.Shown.{total}
 use Rattle.fak_model.proofs.RunningViews.{sees_whole}
 use Rattle.fak_core.specs.declared.queue.phase.Phase.TheVariants as phase
 use Rattle.fak_core.specs.QueueSchedule.{InCell}
-use Rattle.fak_queue.proofs.Common.{QueueLimits, QueueView, queue_object, IsShownQueue, ◌≡◌, ℕ, zero, suc, ◌+◌, ◌-◌, ◌/◌, ◌%◌, ◌<◌, ◌≤◌, List, [], ◌∷◌, ◌++◌, length, slice_index, drop, refl, sym, ap, ◌∙◌, subst, inl, inr, arith, mod-lt, Option, Some, reverse, All, All-head, All-tail, some, some-injective, some-ne-none, get_elem?, count, puts, gots, items_put, item_at, contents, Has, stage, item_of, IsWhole, State, Final, Seen, Fill, Take, Mark, Stage, count_reverse, items_count, contents_bounded, stage_else, item_there, take_below, IsKept, shown, take_turn, le_or_lt, in_cell, kept}
+use Rattle.fak_queue.proofs.Common.{QueueLimits, QueueView, queue_object, IsShownQueue, ◌≡◌, ℕ, zero, suc, ◌+◌, ◌-◌, ◌/◌, ◌%◌, ◌<◌, ◌≤◌, List, [], ◌∷◌, ◌++◌, length, slice_index, drop, refl, sym, ap, ◌∙◌, subst, inl, inr, arith, mod-lt, Option, Some, reverse, All, All-head, All-tail, some, some-injective, some-ne-none, get_elem?, count, puts, gots, items_put, item_at, contents, Has, stage, item_of, IsWhole, State, Final, Seen, Fill, Take, Mark, Stage, count_reverse, items_count, contents_bounded, stage_else, item_there, take_below, IsKept, shown, take_turn, le_or_lt, in_cell, kept, total}
 use Rattle.fak_queue.specs.Left.{item_in, items_left, AreLeft}
 use Rattle.fak_queue.proofs.DeletionSteps.{item_past}
 use Rattle.fak_model.proofs.QueueDrawn.{filled_or_putting}

@@ -1,10 +1,9 @@
 -- Each atomic step of a deletion keeps what the queue shows, and tells what it did.
 use Rattle.fak_model.specs.declared.queue.Kind.TheVariants as made
 use Rattle.fak_core.specs.declared.queue.phase.Phase.TheVariants.{Idle, TestLow, SubLow, BackLow, TicketOut, TurnOut, LoadItem, SetFree, EndDelete}
-use Rattle.fak_core.specs.declared.queue.step.QueueMove.{QueueMove}
 use Rattle.fak_core.specs.QueueMoves.{QueueState, with_at, with_phase, moved, ticket_out}
 use Rattle.fak_core.specs.QueueSchedule.{InCell, IsReached, move_from}
-use Rattle.fak_queue.proofs.Common.{LowerCount, QueueLimits, QueueHolder, IsAtHome, IsEncoded, queue_object, IsShownQueue, ◌≡◌, ◌≢◌, ℕ, ◌+◌, ◌-◌, ◌*◌, ◌/◌, ◌%◌, ◌^◌, ◌<◌, ◌==◌, List, [], ◌∷◌, ◌++◌, slice_index, set, refl, sym, ap, ◌∙◌, subst, inl, inr, arith, length-set, Option, Some, None, ℤ, pos, int_lt, mod-eq_of_lt, reverse, reverse-reverse, nat_tests, some, none, get_elem?, count, gots, lower_count, items_put, item_at, stage, item_of, sight, keeps, takes, gives, homes_after, Mark, Getting, count_reverse, has_back, item_same, contents_bounded, item_there, getting_below, steps, Phase, shown, at_here, at_else, waits_take, true_or_false, if_true, if_false, kept, moves, deletes, loads_put, draws_put, AreWords, IsLowerCount, mark, TellsNothing, TestedLow, SubtractedLow, BacksLow, DrawsOut, WaitsOut, TurnedOut, FreedCell, EndsOut}
+use Rattle.fak_queue.proofs.Common.{LowerCount, QueueLimits, QueueHolder, IsAtHome, IsEncoded, queue_object, IsShownQueue, ◌≡◌, ◌≢◌, ℕ, ◌+◌, ◌-◌, ◌*◌, ◌/◌, ◌%◌, ◌^◌, ◌<◌, ◌==◌, List, [], ◌∷◌, ◌++◌, slice_index, set, refl, sym, ap, ◌∙◌, subst, inl, inr, arith, length-set, Option, Some, None, ℤ, pos, int_lt, mod-eq_of_lt, reverse, reverse-reverse, nat_tests, some, none, get_elem?, count, gots, lower_count, items_put, item_at, stage, item_of, sight, keeps, takes, gives, homes_after, Mark, Getting, count_reverse, has_back, item_same, contents_bounded, item_there, getting_below, steps, Phase, shown, at_here, at_else, waits_take, true_or_false, if_true, if_false, kept, moves, deletes, loads_put, draws_put, AreWords, IsLowerCount, mark, TellsNothing, TestedLow, SubtractedLow, BacksLow, DrawsOut, WaitsOut, TurnedOut, FreedCell, EndsOut, QueueMove}
 use Rattle.fak_queue.proofs.WordWrites.{positive_word, empty_word, only_positive, only_empty, words_draws_out}
 use Rattle.fak_queue.proofs.Slots.{takes_slot, gives_slot, slot_there}
 use Rattle.fak_queue.proofs.Stepping.{QueueTable, queue_law, Permits, K, stands, outside, lower_past, loaded, upper_shrunk, lower_grown, lower_shrunk, few_draws, near, turn_is, turn_set, apart1, apart2, here1, here2, advances, quiet_step}

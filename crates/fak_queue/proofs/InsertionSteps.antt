@@ -1,8 +1,7 @@
 -- Each atomic step of an insertion keeps what the queue shows, and tells what it did; so does shutting.
 use Rattle.fak_model.specs.declared.queue.Kind.TheVariants as made
 use Rattle.fak_core.specs.declared.queue.phase.Phase.TheVariants.{Idle, TestUp, AddUp, BackUp, TicketIn, TurnIn, StoreItem, SetFull, EndInsert, SetShut}
-use Rattle.fak_core.specs.declared.queue.step.QueueMove.{QueueMove}
-use Rattle.fak_queue.proofs.Common.{UpperCount, QueueLimits, AreWords, IsUpperCount, QueueHolder, IsAtHome, IsEncoded, queue_object, IsShownQueue, ◌≡◌, ◌≢◌, ℕ, ◌+◌, ◌-◌, ◌*◌, ◌/◌, ◌%◌, ◌^◌, ◌<◌, ◌==◌, true, List, [], ◌∷◌, ◌++◌, slice_index, set, refl, sym, ap, ◌∙◌, subst, inl, inr, arith, length-set, bit_or, Option, Some, None, ℤ, pos, int_lt, mod-eq_of_lt, reverse, nat_tests, some, none, get_elem?, count, puts, upper_count, Has, stage, sight, keeps, takes, gives, homes_after, Mark, Putting, count_reverse, has_reverse, has_back, steps, Phase, QueueState, with_at, with_phase, moved, InCell, IsReached, move_from, shown, at_here, at_else, waits_fill, true_or_false, if_true, if_false, moves, inserts, closes, mark, TellsNothing, TestedUp, AddedUp, BacksUp, DrewIn, WaitsIn, TurnedIn, FilledCell, EndsIn, Shuts}
+use Rattle.fak_queue.proofs.Common.{UpperCount, QueueLimits, AreWords, IsUpperCount, QueueHolder, IsAtHome, IsEncoded, queue_object, IsShownQueue, ◌≡◌, ◌≢◌, ℕ, ◌+◌, ◌-◌, ◌*◌, ◌/◌, ◌%◌, ◌^◌, ◌<◌, ◌==◌, true, List, [], ◌∷◌, ◌++◌, slice_index, set, refl, sym, ap, ◌∙◌, subst, inl, inr, arith, length-set, bit_or, Option, Some, None, ℤ, pos, int_lt, mod-eq_of_lt, reverse, nat_tests, some, none, get_elem?, count, puts, upper_count, Has, stage, sight, keeps, takes, gives, homes_after, Mark, Putting, count_reverse, has_reverse, has_back, steps, Phase, QueueState, with_at, with_phase, moved, InCell, IsReached, move_from, shown, at_here, at_else, waits_fill, true_or_false, if_true, if_false, moves, inserts, closes, mark, TellsNothing, TestedUp, AddedUp, BacksUp, DrewIn, WaitsIn, TurnedIn, FilledCell, EndsIn, Shuts, QueueMove}
 use Rattle.fak_queue.proofs.WordWrites.{below_word, full_word, shut_above, open_below, only_shut, only_below, only_full, shut_word, words_upper, words_draws_in}
 use Rattle.fak_queue.proofs.Slots.{takes_slot, gives_slot, slot_there}
 use Rattle.fak_queue.proofs.Stepping.{QueueTable, queue_law, Permits, K, stands, outside, upper_most, upper_bounds, upper_shut, upper_open, upper_past, loaded, upper_grown, upper_shrunk, lower_grown, few_draws, near, turn_is, turn_set, apart1, apart2, here1, here2, advances, quiet_step}

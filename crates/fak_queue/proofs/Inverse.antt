@@ -1,6 +1,5 @@
 -- Division by a multiplication with an inverse.
-use Rattle.std.proofs.lemmas.Grind.{common_steps}
-use Rattle.fak_queue.proofs.Common.{◌≡◌, ℕ, ◌+◌, ◌-◌, ◌*◌, ◌/◌, ◌%◌, ◌^◌, ◌<◌, ◌≤◌, sym, ap, ◌∙◌, subst, arith, mod-lt, div-add-mod, div-le_self, div-mul-le_self, mod-eq-sub-div-mul, mul-le-mul, mul-le-mul_left, mul-le-mul_right, le_of_mul-le-mul_right}
+use Rattle.fak_queue.proofs.Common.{◌≡◌, ℕ, ◌+◌, ◌-◌, ◌*◌, ◌/◌, ◌%◌, ◌^◌, ◌<◌, ◌≤◌, sym, ap, ◌∙◌, subst, arith, mod-lt, div-add-mod, div-le_self, div-mul-le_self, mod-eq-sub-div-mul, mul-le-mul, mul-le-mul_left, mul-le-mul_right, le_of_mul-le-mul_right, common_steps}
 use Rattle.std.proofs.lemmas.Nat.{div-mul-add}
 
 -- m is the inverse of d below w, which e completes; q and s are the quotient and the remainder of a small number

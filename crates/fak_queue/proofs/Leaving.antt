@@ -1,16 +1,12 @@
 -- Taking the oldest item out of a closed queue.
-use Rattle.std.proofs.lemmas.Grind.{common_steps}
-use Rattle.fak_queue.proofs.Common.{◌≡◌, ◌≢◌, ℕ, zero, suc, ◌+◌, ◌-◌, ◌%◌, ◌<◌, ◌≤◌, Bool, true, false, List, ◌∷◌, ◌++◌, length, get_or, set, refl, sym, ap, ◌∙◌, subst, arith, length-append, length-set, get_or-set_same, get_or-set_other, Option, Some, None, some, none, some-injective, get_elem?}
+use Rattle.fak_queue.proofs.Common.{◌≡◌, ◌≢◌, ℕ, zero, suc, ◌+◌, ◌-◌, ◌%◌, ◌<◌, ◌≤◌, Bool, true, false, List, ◌∷◌, ◌++◌, length, get_or, set, refl, sym, ◌∙◌, subst, arith, length-append, length-set, get_or-set_same, get_or-set_other, Option, Some, None, some, some-injective, get_elem?, common_steps, set_else, one_turn}
 use mathlib.Core.Logic.{dite}
 use mathlib.Core.Option as maybe
-use Rattle.atomic_table.proofs.Lists.{set_else, one_turn}
 use Rattle.fak_queue.specs.Left.{item_in, items_left}
 
 module _ {T : Type 0} where
   item_short : (o : maybe.Option (Option T)) → length (item_in o) ≤ 1
-  item_short none = omega arith
-  item_short (some None) = omega arith
-  item_short (some (Some x)) = omega arith
+  item_short o = grind (arith, common_steps, length, item_in)
 
   left_short : (n : ℕ) (xs : List (Option T)) (k m : ℕ) → length (items_left n xs k m) ≤ m
   left_short n xs k zero = omega arith
@@ -18,9 +14,7 @@ module _ {T : Type 0} where
       let e : length (items_left n xs k (suc m)) ≡ length (item_in (get_elem? xs (k % n))) + length (items_left n xs (suc k) m) = length-append (item_in (get_elem? xs (k % n))) (items_left n xs (suc k) m) in omega arith
 
   one_item : (o : maybe.Option (Option T)) → length (item_in o) ≡ 1 → (x : T) × (o ≡ some (Some x))
-  one_item none e = absurd (omega arith)
-  one_item (some None) e = absurd (omega arith)
-  one_item (some (Some x)) e = (x, refl)
+  one_item o e = grind (arith, common_steps, length, item_in, some)
 
   -- where as many items are left as cells, the first cell has one
   pub first_left : (n : ℕ) (xs : List (Option T)) (k m : ℕ) → length (items_left n xs k (suc m)) ≡ suc m
@@ -37,12 +31,7 @@ module _ {T : Type 0} where
 
   pub next_item : (n : ℕ) (xs : List (Option T)) (y : Option T) (k m : ℕ) → ¬ (m ≡ 0) → m ≤ n → length (items_left n xs k m) ≡ m
       → (x : T) × (get_elem? xs (k % n) ≡ some (Some x)) × (items_left n xs k m ≡ x ∷ items_left n (set xs (k % n) y) (k + 1) (m - 1)) × (length (items_left n (set xs (k % n) y) (k + 1) (m - 1)) ≡ m - 1)
-  next_item n xs y k zero some' room full = absurd (some' refl)
-  next_item n xs y k (suc m) some' room full =
-      let f = first_left n xs k m full in let a = left_after n xs y k m room in
-      let next : suc k ≡ k + 1 = omega arith in let less : m ≡ suc m - 1 = omega arith in
-      let same : items_left n (set xs (k % n) y) (suc k) m ≡ items_left n (set xs (k % n) y) (k + 1) (suc m - 1) = λ i. items_left n (set xs (k % n) y) (next i) (less i) in
-      (f.0.0, f.0.1, f.0.2 ∙ ap (λ l. f.0.0 ∷ l) (sym a ∙ same), ap length (sym same ∙ a) ∙ f.1 ∙ less)
+  next_item n xs y k m some' room full = grind (arith, common_steps, length, items_left, some, set, first_left, left_after)
 
   pub not_none : (xs : List (Option T)) (i : ℕ) (x : T) (y : Option T) → get_elem? xs i ≡ some (Some x) → get_elem? xs i ≡ some y → y ≡ Some x
   not_none xs i x y e f = some-injective y (Some x) (sym f ∙ e)

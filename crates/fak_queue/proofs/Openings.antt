@@ -1,10 +1,8 @@
 -- The table of an empty queue shows the opening state.
-use Rattle.std.proofs.lemmas.Grind.{common_steps}
-use Rattle.fak_model.proofs.RunningSeats.{starts}
 use Rattle.fak_core.specs.declared.queue.phase.Phase.TheVariants as phase
 use Rattle.fak_core.specs.QueueSchedule as core
 use Rattle.fak_model.proofs.Appending.{history_none}
-use Rattle.fak_queue.proofs.Common.{QueueLimits, AreWords, seat_of, idle, IsQueueSeat, queue_seat, ◌≡◌, ℕ, zero, suc, ◌+◌, ◌*◌, ◌<◌, ◌≤◌, false, List, [], ◌∷◌, length, slice_index, map, set, replicate, refl, sym, ◌∙◌, subst, inl, arith, length-set, get_or-set_other, None, pos, length-map, length-replicate, get_or-replicate, some, get_elem?, ObjectId, seat_info, sight, IsSeatToken, queue_rules, bias, mul-le-mul, opening, is_reached, QueueHolder, IsEncoded, queue_object, IsShownQueue, opened_queue, IsInRange}
+use Rattle.fak_queue.proofs.Common.{QueueLimits, AreWords, seat_of, idle, IsQueueSeat, queue_seat, ◌≡◌, ℕ, zero, suc, ◌+◌, ◌*◌, ◌<◌, ◌≤◌, false, List, [], ◌∷◌, length, slice_index, map, set, replicate, refl, sym, ◌∙◌, subst, inl, arith, length-set, get_or-set_other, None, pos, length-map, length-replicate, get_or-replicate, some, get_elem?, ObjectId, seat_info, sight, IsSeatToken, queue_rules, bias, mul-le-mul, opening, is_reached, QueueHolder, IsEncoded, queue_object, IsShownQueue, opened_queue, IsInRange, common_steps, starts}
 
 read_map : {A : Type 0} (n c : ℕ) (a : A) → c < n → get_elem? (map some (replicate n a)) c ≡ some (some a)
 read_map zero c a near = absurd (omega (arith, near))
@@ -16,7 +14,7 @@ abbrev pub first_words : ℕ → List ℕ
 first_words size = set (set (replicate (size + 96) 0) 16 bias) 32 bias
 
 first_are_words : (size : ℕ) → AreWords size (pos 0) (pos 0) 0 0 (λ c. 0) false (first_words size)
-first_are_words size = grind (arith, common_steps, replicate, set, bias, length, length-replicate, length-set, slice_index, get_or-set_other, get_or-replicate, pos)
+first_are_words size = grind (arith, common_steps, replicate, set, bias, length, length-replicate, length-set, slice_index, get_or-set_other, get_or-replicate)
 
 pub opens_queue : {T : Type 0} (key : QueueLimits) (words : List ℕ) → words ≡ first_words key.size → IsInRange key.size key.seats key.stint → IsShownQueue {T = T} key (opening words (replicate key.size None) (opened_queue key))
 opens_queue {T} key words is range =

@@ -1,7 +1,6 @@
 -- From the atomic steps of a seat to the parts of its calls.
-use Rattle.std.proofs.lemmas.Grind.{common_steps}
 use Rattle.fak_model.specs.QueuePast.{after as after_kind, stage, item_of}
-use Rattle.fak_queue.proofs.Common.{QueueView, QueueHolder, queue_object, mark, seat_of, made_by, RestsAt, ◌≡◌, ℕ, ◌+◌, List, [], ◌∷◌, ◌++◌, length, length-append, refl, sym, ap, ◌∙◌, subst, arith, Option, Some, reverse, append-nil, nat_tests, queue_rules, count, puts, items_put, item_at, marks_of, sight, Leaves, ObjectId, seat_info, Appends, Kind, Mark, Put, begins_self, count_reverse, stage_here, item_stays, step_appends, step_before, appends_then, appends_none, begins_after, mine_after, Phase, before_part, IsPart, TellsOfNeither}
+use Rattle.fak_queue.proofs.Common.{QueueView, QueueHolder, queue_object, mark, seat_of, made_by, RestsAt, ◌≡◌, ℕ, ◌+◌, List, [], ◌∷◌, ◌++◌, length, length-append, refl, sym, ap, ◌∙◌, subst, arith, Option, Some, reverse, append-nil, nat_tests, queue_rules, count, puts, items_put, item_at, marks_of, sight, Leaves, ObjectId, seat_info, Appends, Kind, Mark, Put, begins_self, count_reverse, stage_here, item_stays, step_appends, step_before, appends_then, appends_none, begins_after, mine_after, Phase, before_part, IsPart, TellsOfNeither, common_steps}
 use Rattle.fak_queue.proofs.DeletionSteps.{item_past}
 
 -- ---- the seat after a step

@@ -1,12 +1,11 @@
 -- From the parts of a seat's calls to what the calls promise.
-use Rattle.std.proofs.lemmas.Grind.{common_steps}
 use Rattle.fak_model.specs.declared.queue.Kind.TheVariants as made
 use Rattle.fak_model.specs.declared.name_set.NameSet.{NameSet}
 use Rattle.fak_model.specs.Names.{Has as HasName, HasJust}
 use Rattle.fak_model.specs.Views.{HasOneName}
 use Rattle.fak_core.specs.declared.queue.phase.Phase.TheVariants as phase
 use Rattle.fak_queue.specs.declared.state.SeatState.{SeatState}
-use Rattle.fak_queue.proofs.Common.{Idle, Inserting, Deleting, QueueLimits, QueueHolder, RefusesInsertion, ◌≡◌, ℕ, ◌+◌, ◌-◌, ◌<◌, ℤ, List, [], ◌∷◌, ◌++◌, refl, ap, sym, ◌∙◌, subst, arith, inl, inr, ⊎_elim, Bool, true, false, ◌⊎◌, ◌↔◌, reverse, All, reverse-reverse, queue_rules, IsQueueHistory, puts, gots, Has, stage, marks_of, ObjectId, object_id, SeatInfo, seat_info, Appends, IsSeatToken, TableId, Kind, Mark, Stage, count_append, token_names, token_left, token_slots, Phase, mark, Marks, FitsTable, ShutAs, QueueInfo, queue_info, seat_of, tickets_in, drawn_by, state_at, state_of, IsQueue, queue_seat, RestsAt, idle, inserting, deleting, IsQueueSeat, made_by, Makes, before_own, ClaimsIn, RefusesFull, RefusesClosed, ClaimsOut, RefusesEmpty, WaitsToFill, Fills, WaitsToTake, Takes, ShutsAs, ShutsAfter, fault_of, IsPart, TellsOfNeither, ClaimedIn, RefusedIn, Filled, IsTurnedAwayIn, ClaimedOut, RefusedOut, Taken, IsTurnedAwayOut}
+use Rattle.fak_queue.proofs.Common.{Idle, Inserting, Deleting, QueueLimits, QueueHolder, RefusesInsertion, ◌≡◌, ℕ, ◌+◌, ◌-◌, ◌<◌, ℤ, List, [], ◌∷◌, ◌++◌, refl, ap, sym, ◌∙◌, subst, arith, inl, inr, ⊎_elim, Bool, true, false, ◌⊎◌, ◌↔◌, reverse, reverse-reverse, queue_rules, puts, gots, Has, stage, marks_of, ObjectId, object_id, SeatInfo, seat_info, Appends, IsSeatToken, TableId, Kind, Mark, Stage, count_append, token_names, token_left, token_slots, Phase, mark, Marks, ShutAs, QueueInfo, queue_info, seat_of, tickets_in, drawn_by, state_at, state_of, IsQueue, queue_seat, RestsAt, IsQueueSeat, made_by, Makes, before_own, ClaimsIn, RefusesFull, RefusesClosed, ClaimsOut, RefusesEmpty, WaitsToFill, Fills, WaitsToTake, Takes, ShutsAs, ShutsAfter, fault_of, IsPart, TellsOfNeither, ClaimedIn, RefusedIn, Filled, IsTurnedAwayIn, ClaimedOut, RefusedOut, Taken, IsTurnedAwayOut, common_steps}
 use Rattle.fak_queue.specs.declared.found.NoRoom.{NoRoom}
 use Rattle.fak_queue.specs.declared.found.NoRoom.TheVariants as refused
 use Rattle.fak_queue.proofs.Admissions.{closing, closed}
@@ -20,18 +19,14 @@ state_in (phase.TurnOut k) = Deleting k
 state_in _ = Idle
 
 shows : {T : Type 0} {p : Phase T} {t : Stage T} → RestsAt p t → state_at t ≡ state_in p
-shows idle = refl
-shows (inserting k x few) = refl
-shows (deleting k few) = refl
+shows e = grind (arith, common_steps, state_at)
 
 pub state_shown : {T : Type 0} (object : ObjectId) (name left : ℕ) (m : QueueHolder T) (p : Phase T) → RestsAt p (stage m.0.seen name) → state_of (queue_seat object name left m) ≡ state_in p
 state_shown object name left m p rests = ap (λ h. state_at (stage h name)) (reverse-reverse m.0.seen) ∙ shows rests
 
 -- a resting seat with an open insertion keeps its item
 pub idle_phase : {T : Type 0} {p : Phase T} {t : Stage T} → RestsAt p t → state_in p ≡ Idle → p ≡ phase.Idle
-idle_phase idle e = refl
-idle_phase (inserting k x few) e = absurd cc
-idle_phase (deleting k few) e = absurd cc
+idle_phase e e' = grind (arith, common_steps)
 
 -- a state names one ticket
 pub one_insertion : {s : SeatState} {j k : ℕ} → s ≡ Inserting j → s ≡ Inserting k → j ≡ k
@@ -81,11 +76,7 @@ module _ {T : Type 0} (key : QueueLimits) {size seats name left : ℕ} {p : Phas
 
     -- what the seat keeps after it
     pub seat_after : IsQueueSeat now.slots seats name next now_left after
-    seat_after = record {
-      token = record { me_is = part.after_is; below = f.token.below; few = f.token.few; named = subst (λ k. All (λ (w : Mark T). w.seat < k) (reverse after.0.seen)) (sym same_seats) appended.named };
-      rests = part.rests;
-      lawful = subst (λ (t : TableId). IsQueueHistory t.slots (reverse after.0.seen)) (sym (stays ∙ same_table)) appended.lawful;
-    }
+    seat_after = grind (arith, common_steps, part, reverse, same_seats, appended, same_table)
 
     -- the state that it then shows
     pub state_after : state_of (queue_seat (object_id now seats) name now_left after) ≡ state_in next
@@ -163,8 +154,7 @@ module _ {T : Type 0} (key : QueueLimits) {size seats name left : ℕ} {p : Phas
     seat_refused_in refused.Shut r = seat_refused refl refl r
 
     pub state_refused_in : (r : NoRoom) → RefusedIn table.slots key.seats name r m after → state_of (New left) ≡ Idle
-    state_refused_in (refused.Full u) r = state_refused refl refl r
-    state_refused_in refused.Shut r = state_refused refl refl r
+    state_refused_in r r' = grind (arith, common_steps, state_of, state_refused)
 
     pub drawn_refused_in : (r : NoRoom) → RefusedIn table.slots key.seats name r m after → drawn_by (New left) ≡ drawn_by old
     drawn_refused_in (refused.Full u) r = drawn_refused refl refl r

@@ -1,8 +1,6 @@
 -- The slots of a queue's cells as a seat takes one and gives it back.
-use Rattle.std.proofs.lemmas.Grind.{common_steps}
-use Rattle.fak_queue.proofs.Common.{◌≡◌, ◌≢◌, ◌⊎◌, ◌↔◌, ℕ, ◌+◌, ◌*◌, ◌/◌, ◌%◌, ◌<◌, List, length, set, sym, ap, ◌∙◌, subst, inl, inr, arith, Option, None, some, none, get_elem?, QueueState, InCell, IsReached, alone, kept, le_or_lt, IsAtHome, HasSlot}
+use Rattle.fak_queue.proofs.Common.{◌≡◌, ◌≢◌, ◌⊎◌, ◌↔◌, ℕ, ◌+◌, ◌*◌, ◌/◌, ◌%◌, ◌<◌, List, length, set, sym, ap, ◌∙◌, subst, inl, inr, arith, Option, None, some, none, get_elem?, QueueState, InCell, IsReached, alone, kept, le_or_lt, IsAtHome, HasSlot, common_steps, set_here, set_else}
 use mathlib.Core.Option as maybe
-use Rattle.atomic_table.proofs.Lists.{set_here, set_else}
 use Rattle.fak_model.proofs.Deciding.{same_or_not}
 
 abbrev Homes : Type 0 → Type 0

@@ -3,7 +3,7 @@ use Rattle.fak_model.specs.declared.queue.Kind.TheVariants as made
 use Rattle.fak_model.specs.declared.queue.Stage.TheVariants as at
 use Rattle.fak_model.proofs.QueueWords.{owed_in}
 use Rattle.fak_model.proofs.QueueLiteral.{owes, to_past}
-use Rattle.fak_queue.proofs.Common.{Idle, Inserting, Deleting, QueueHolder, Shuts, ShutAs, shut_bit, ◌≡◌, ℕ, ◌<◌, ◌^◌, List, refl, sym, ap, ◌∙◌, subst, inl, inr, Bool, true, false, nat_lt, arith, reverse, reverse-reverse, nat_tests, Owes, seat_words, IsQueueHistory, queue_rules, words_of_call, puts, gots, after, stage, ObjectId, SeatInfo, object_id, Mark, Stage, TableId, Phase, after_putting, after_getting, Last, last_of, drew, IsState, queue_seat, IsQueueSeat, RestsAt, idle, inserting, deleting}
+use Rattle.fak_queue.proofs.Common.{Idle, Inserting, Deleting, QueueHolder, Shuts, ShutAs, shut_bit, ◌≡◌, ℕ, ◌<◌, ◌^◌, List, refl, sym, ap, ◌∙◌, subst, inl, inr, Bool, nat_lt, arith, reverse, reverse-reverse, nat_tests, Owes, seat_words, IsQueueHistory, queue_rules, words_of_call, puts, gots, after, stage, ObjectId, SeatInfo, object_id, Mark, Stage, TableId, Phase, after_putting, after_getting, Last, last_of, drew, IsState, queue_seat, IsQueueSeat, RestsAt, idle, inserting, deleting, common_steps}
 use Rattle.fak_core.specs.declared.queue.phase.Phase.TheVariants as phase
 
 -- a seat with no open call
@@ -33,8 +33,7 @@ deleting_state {T} object name left k m e =
 
 -- what the word of the upper count told at the shutting
 pub shut_as : {T : Type 0} (size seats n found : ℕ) (m after : QueueHolder T) → Shuts size seats n m found after → (b : Bool) → nat_lt found shut_bit ≡ b → ShutAs size seats n b m after
-shut_as size seats n found m after told true e = told.first (grind (arith, nat_tests))
-shut_as size seats n found m after told false e = told.again (grind (arith, nat_tests))
+shut_as size seats n found m after told v e = grind (arith, common_steps, after, nat_lt, shut_bit, nat_tests)
 
 -- ---- what a resting phase tells
 

@@ -1,7 +1,6 @@
 -- What calls add to the sums of a seat, and what the seats of a whole tally add up to, however many they are.
-use Rattle.fak_queue.proofs.Common.{◌≡◌, ℕ, zero, suc, ◌≤◌, ◌≢◌, Bool, List, [], ◌∷◌, ◌++◌, length, length-append, refl, ap, sym, ◌∙◌, subst, inl, inr, arith, sum_by, sum_by-cons, contents, IsQueueHistory, In, IsWhole, mine, ObjectId, SeatInfo, TallyInfo, put_of, got_of, Kind, Mark, ShutsAs, Inserts, Deletes, seat_of, RefusesDeletion, kinds_not_in, kinds_not_out, InsertsAfterFull, DeletesAfterEmpty, in_either}
+use Rattle.fak_queue.proofs.Common.{◌≡◌, ℕ, zero, suc, ◌≤◌, ◌≢◌, Bool, List, [], ◌∷◌, ◌++◌, length, length-append, refl, ap, sym, ◌∙◌, subst, inl, inr, arith, sum_by, sum_by-cons, contents, IsQueueHistory, In, IsWhole, mine, ObjectId, SeatInfo, TallyInfo, put_of, got_of, Kind, Mark, ShutsAs, Inserts, Deletes, seat_of, RefusesDeletion, kinds_not_in, kinds_not_out, InsertsAfterFull, DeletesAfterEmpty, in_either, DeleteFault}
 use Rattle.fak_model.proofs.QueueWeights.{queue_weighs}
-use Rattle.fak_queue.specs.declared.fault.DeleteFault.{DeleteFault}
 use Rattle.fak_queue.specs.Sums.{Adds, AreJoined, joined_first, joined_next, Balances}
 use Rattle.fak_queue.proofs.AfterRefusals.{at_once}
 use Rattle.fak_queue.proofs.Weighing.{Weighs, weight_of, weight_in, insertion_weighs, deletion_weighs, refused_delete_weighs, shut_weighs, one_weighs, join_weighs, whole_weighs}

@@ -1,5 +1,5 @@
 -- What tallies keep of their seats, and what a whole tally tells.
-use Rattle.fak_queue.proofs.Common.{Idle, QueueHolder, QueueInfo, seat_of, size_of, state_of, queue_seat, RestsAt, IsQueueSeat, AreIdle, ◌≡◌, ℕ, ◌<◌, ◌≤◌, ◌==◌, false, List, [], ◌∷◌, refl, sym, ap, ◌∙◌, subst, inl, inr, arith, map, reverse, All, nat_tests, All-head, All-tail, AreNamed, IsAtRest, Owes, seat_words, word, queue_rules, words_of_call, IsQueueHistory, stage, In, IsWhole, Knows, marks_of, SeatInfo, TallyInfo, object_id, IsJoined, TableId, Mark, in_either, Phase, le_or_lt}
+use Rattle.fak_queue.proofs.Common.{Idle, QueueHolder, QueueInfo, seat_of, state_of, queue_seat, RestsAt, IsQueueSeat, AreIdle, ◌≡◌, ℕ, ◌<◌, ◌≤◌, ◌==◌, false, List, [], ◌∷◌, refl, sym, ap, ◌∙◌, subst, inl, inr, arith, map, reverse, All, nat_tests, All-head, All-tail, AreNamed, IsAtRest, Owes, seat_words, word, queue_rules, words_of_call, stage, In, IsWhole, Knows, marks_of, SeatInfo, TallyInfo, object_id, IsJoined, TableId, Mark, in_either, Phase, le_or_lt}
 use Rattle.fak_queue.proofs.SeatCalls.{idle_phase, state_shown, state_in}
 use Rattle.fak_queue.proofs.States.{idle_state, rests_idle}
 

@@ -1,15 +1,11 @@
 -- From the atomic steps of a seat to what it does at its ticket's cell.
 use Rattle.fak_model.specs.declared.queue.Kind.TheVariants as made
-use Rattle.fak_queue.proofs.Common.{QueueView, QueueHolder, Named, TurnedIn, FilledCell, EndsIn, TurnedOut, FreedCell, EndsOut, RestsAt, idle, inserting, deleting, ◌≡◌, ◌≢◌, ℕ, ◌+◌, ◌*◌, ◌/◌, ◌%◌, ◌<◌, ◌^◌, ◌==◌, Bool, true, false, List, [], ◌∷◌, refl, sym, ap, ◌∙◌, subst, arith, Some, None, reverse, nat_tests, items_put, item_at, Has, stage, rest, Phase, TurnIn, EndInsert, TurnOut, EndDelete, IsTurnedAwayIn, LooksIn, FillsSlot, IsTurnedAwayOut, LooksOut, TakesSlot, TellsOfNeither}
-use Rattle.fak_queue.proofs.PartSteps.{names_kept, phase_is, left_is, slots_are, seen_is, part_none, part_two, sees_item}
+use Rattle.fak_queue.proofs.Common.{QueueView, QueueHolder, Named, TurnedIn, FilledCell, EndsIn, TurnedOut, FreedCell, EndsOut, RestsAt, idle, inserting, deleting, ◌≡◌, ◌≢◌, ℕ, ◌+◌, ◌*◌, ◌/◌, ◌%◌, ◌<◌, ◌^◌, ◌==◌, Bool, true, List, [], ◌∷◌, refl, sym, ap, ◌∙◌, subst, arith, Some, None, reverse, nat_tests, items_put, item_at, Has, stage, rest, Phase, TurnIn, TurnOut, IsTurnedAwayIn, LooksIn, FillsSlot, IsTurnedAwayOut, LooksOut, TakesSlot, TellsOfNeither, common_steps}
+use Rattle.fak_queue.proofs.PartSteps.{names_kept, left_is, slots_are, seen_is, part_none, part_two, sees_item}
 
 -- what a seat took first is what it has
 pub took : {A : Type 0} (l : List (ℕ × A)) (i j : ℕ) (x y : A) (tl tl' : List (ℕ × A)) → l ≡ (i, x) ∷ tl → l ≡ (j, y) ∷ tl' → x ≡ y
-took {A} l i j x y tl tl' p q = ap head (sym p ∙ q)
-  where
-    head : List (ℕ × A) → A
-    head [] = x
-    head (z ∷ zs) = z.1
+took {A} l i j x y tl tl' p q = grind (arith, common_steps)
 
 -- the item of an insertion that waits
 pub same_item : {T : Type 0} {j k : ℕ} {x y : T} {p : Phase T} → p ≡ TurnIn j x → p ≡ TurnIn k y → x ≡ y
@@ -31,8 +27,7 @@ module _ {T : Type 0} (slots seats n k : ℕ) (x : T) (m0 m1 : QueueHolder T) wh
         }
 
     pub looks_in : (b : Bool) → (found == 2 * round) ≡ b → LooksIn slots seats n k x b m0 m1
-    looks_in true e = let same : found ≡ 2 * round = grind (arith, nat_tests) in turned.hit (same ∙ ap (λ q. 2 * q) round_is)
-    looks_in false e = turned_away_in (λ q. absurd (grind (arith, nat_tests)))
+    looks_in b e = grind (arith, common_steps, nat_tests, turned_away_in)
 
   -- the slot that a look found
   pub slot_in : LooksIn slots seats n k x true m0 m1 → m0.1 ≡ [] → (cell : ℕ) → cell ≡ k % slots → m1.1 ≡ (cell, None) ∷ []
@@ -71,8 +66,7 @@ module _ {T : Type 0} (slots seats n k : ℕ) (m0 m1 : QueueHolder T) where
         }
 
     pub looks_out : (b : Bool) → (found == 2 * round + 1) ≡ b → LooksOut slots seats n k b m0 m1
-    looks_out true e = let same : found ≡ 2 * round + 1 = grind (arith, nat_tests) in turned.hit (same ∙ ap (λ q. 2 * q + 1) round_is)
-    looks_out false e = turned_away_out (λ q. absurd (grind (arith, nat_tests)))
+    looks_out b e = grind (arith, common_steps, nat_tests, turned_away_out)
 
   -- the slot that a look found, with its item
   pub slot_out : LooksOut slots seats n k true m0 m1 → m0.1 ≡ [] → (cell : ℕ) → cell ≡ k % slots → (x : T) × (m1.1 ≡ (cell, Some x) ∷ [])

@@ -1,8 +1,6 @@
 -- What calls and joins add to the weights of the items that were put into a queue and got out of it.
-use Rattle.std.proofs.lemmas.Grind.{common_steps}
-use Rattle.fak_queue.proofs.Common.{◌≡◌, ◌≢◌, ℕ, ◌+◌, Bool, true, false, List, [], ◌∷◌, ◌++◌, refl, ap, sym, ◌∙◌, subst, inl, inr, arith, flat_map, sum_by, sum_by-cons, queue_rules, count, contents, In, mine, SeatInfo, TallyInfo, tally_of, mine_of, IsJoined, put_of, got_of, Kind, OverIn, BackIn, NoRoom, OverOut, BackOut, NoItem, Close, Closed, LateIn, Mark, count_append, IsWorn, ShutsAs, made_by, seat_of, RefusesDeletion, RefusedInsertion, NotIn, WithdrawnIn, ClosedIn, WithdrawnLate, kinds_not_in, RefusedDeletion, NotOut, WithdrawnOut, kinds_not_out, kinds_in, kinds_out, MakesAtLast}
+use Rattle.fak_queue.proofs.Common.{◌≡◌, ◌≢◌, ℕ, ◌+◌, Bool, true, false, List, [], ◌∷◌, ◌++◌, refl, ap, sym, ◌∙◌, subst, inl, inr, arith, flat_map, sum_by, sum_by-cons, queue_rules, count, contents, In, mine, SeatInfo, TallyInfo, tally_of, mine_of, IsJoined, put_of, got_of, Kind, OverIn, BackIn, NoRoom, OverOut, BackOut, NoItem, Close, Closed, LateIn, Mark, count_append, IsWorn, ShutsAs, made_by, seat_of, RefusesDeletion, RefusedInsertion, kinds_not_in, RefusedDeletion, kinds_not_out, kinds_in, kinds_out, MakesAtLast, common_steps, DeleteFault}
 use Rattle.fak_model.proofs.SeatWeights.{mine_one, mine_joined}
-use Rattle.fak_queue.specs.declared.fault.DeleteFault.{DeleteFault}
 use Rattle.fak_queue.specs.declared.fault.DeleteFault.TheVariants as deletion
 use Rattle.fak_queue.proofs.AfterRefusals.{made_by_append, at_once, refused_empty}
 
@@ -18,15 +16,11 @@ weight_in v t = count v (mine seat_of t.names t.seen)
 
 -- a refused insertion weighs nothing where its kinds weigh nothing
 pub none_in : {A : Type 0} (v : Kind A → ℕ) → v NoRoom + v OverIn + v BackIn + v Closed + v LateIn ≡ 0 → (name : ℕ) (r : RefusedInsertion) → count v (made_by name (kinds_not_in r)) ≡ 0
-none_in v none name NotIn = omega arith
-none_in v none name WithdrawnIn = omega arith
-none_in v none name ClosedIn = omega arith
-none_in v none name WithdrawnLate = omega arith
+none_in v none u v' = grind (arith, common_steps, count, made_by, kinds_not_in)
 
 -- and a refused deletion likewise
 pub none_out : {A : Type 0} (v : Kind A → ℕ) → v NoItem + v OverOut + v BackOut ≡ 0 → (name : ℕ) (r : RefusedDeletion) → count v (made_by name (kinds_not_out r)) ≡ 0
-none_out v none name NotOut = omega arith
-none_out v none name WithdrawnOut = omega arith
+none_out v none u v' = grind (arith, common_steps, count, made_by, kinds_not_out)
 
 module _ {A R : Type 0} (v : Kind A → ℕ) (kinds_of : R → List (Kind A)) (none : (name : ℕ) (r : R) → count v (made_by name (kinds_of r)) ≡ 0) where
   -- refused calls add nothing
@@ -37,13 +31,11 @@ module _ {A R : Type 0} (v : Kind A → ℕ) (kinds_of : R → List (Kind A)) (n
 
   -- so marks after theirs weigh what they weigh alone
   pub count_at_last : (name : ℕ) (refused : List R) (kinds : List (Kind A)) → count v (made_by name (flat_map kinds_of refused ++ kinds)) ≡ count v (made_by name kinds)
-  count_at_last name refused kinds =
-      ap (count v) (made_by_append name (flat_map kinds_of refused) kinds) ∙ (count_append v (made_by name (flat_map kinds_of refused)) (made_by name kinds) ∙ omega (arith, count_refused name refused))
+  count_at_last name refused kinds = grind (arith, common_steps, count, made_by_append, name, flat_map, count_append, made_by, count_refused)
 
   -- and a call after refused ones adds what its own marks weigh
   pub count_more : {size : ℕ} {kinds : List (Kind A)} {old new : SeatInfo (Mark A)} → MakesAtLast kinds_of size kinds old new → weight_of v new ≡ weight_of v old + count v (made_by old.name kinds)
-  count_more {kinds = kinds} {old = old} t =
-      ap (count v) t.makes.mine ∙ (count_append v (mine_of seat_of old) (made_by old.name (flat_map kinds_of t.refused ++ kinds)) ∙ omega (arith, count_at_last old.name t.refused kinds))
+  count_more {kinds = kinds} {old = old} t = grind (arith, common_steps, count, count_append, mine_of, seat_of, made_by, flat_map, count_at_last)
 
 -- ---- calls
 

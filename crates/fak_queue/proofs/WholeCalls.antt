@@ -1,6 +1,5 @@
 -- From a claim and the rest of the call to the whole call.
-use Rattle.fak_queue.proofs.Common.{◌≡◌, ℕ, zero, suc, ◌+◌, ◌<◌, ◌==◌, Bool, true, false, cond, List, [], ◌∷◌, ◌++◌, length, length-append, refl, ap, sym, ◌∙◌, subst, arith, Some, Kind, Mark, queue_rules, count, puts, gots, items_put, item_in, item_at, marks_of, SeatInfo, Appends, mine_of, before_mark, appends_then, seat_of, made_by, Makes, before_own, ClaimsIn, ClaimsOut, Fills, Takes, Inserts, Deletes}
-use Rattle.std.proofs.lemmas.List.Concat.{flat_map-append}
+use Rattle.fak_queue.proofs.Common.{◌≡◌, ℕ, zero, suc, ◌+◌, ◌<◌, ◌==◌, Bool, true, false, cond, List, [], ◌∷◌, ◌++◌, length, length-append, refl, ap, sym, ◌∙◌, subst, arith, Some, Kind, Mark, queue_rules, count, puts, gots, items_put, item_in, item_at, marks_of, SeatInfo, Appends, mine_of, before_mark, appends_then, seat_of, made_by, Makes, before_own, ClaimsIn, ClaimsOut, Fills, Takes, Inserts, Deletes, flat_map-append}
 use Rattle.fak_model.specs.declared.queue.Kind.TheVariants as made
 
 -- ---- what stands before a mark stays so as more is seen

@@ -1,5 +1,5 @@
 -- Some element weighs something exactly where all together do.
-use Rattle.fak_run.proofs.Common.{◌≡◌, ℕ, ◌+◌, nat_lt, Bool, true, false, List, [], ◌∷◌, refl, ap, sym, ◌∙◌, arith, map, nat_tests, sum_by-cons, shuts_of}
+use Rattle.fak_run.proofs.Common.{◌≡◌, ℕ, ◌+◌, nat_lt, Bool, List, [], ◌∷◌, refl, ap, sym, ◌∙◌, arith, map, nat_tests, sum_by-cons, shuts_of, common_steps}
 use Rattle.std.specs.List.{list_any, sum_by}
 use Rattle.fak_text.specs.declared.steps.Note.{Note}
 use Rattle.fak_text.specs.Views.{note_of}
@@ -9,10 +9,7 @@ pub any_weighs : {A : Type 0} (f : A → ℕ) (xs : List A) → list_any (λ x. 
 any_weighs f [] = refl
 any_weighs {A} f (x ∷ xs) = by (nat_lt 0 (f x)) refl (any_weighs f xs) (sum_by-cons f x xs) where
   by : (b : Bool) → nat_lt 0 (f x) ≡ b → list_any (λ (y : A). nat_lt 0 (f y)) xs ≡ nat_lt 0 (sum_by f xs) → sum_by f (x ∷ xs) ≡ f x + sum_by f xs → list_any (λ (y : A). nat_lt 0 (f y)) (x ∷ xs) ≡ nat_lt 0 (sum_by f (x ∷ xs))
-  by true is rest parts = let some : nat_lt 0 (sum_by f (x ∷ xs)) ≡ true = grind (arith, nat_tests) in rw (is, some) refl
-  by false is rest parts =
-      let none : nat_lt 0 (sum_by f (x ∷ xs)) ≡ nat_lt 0 (sum_by f xs) = grind (arith, nat_tests) in
-      rw (is, none) rest
+  by b is rest parts = grind (arith, common_steps, nat_lt, list_any, sum_by, nat_tests)
 
 -- some note is that of a shutdown
 pub any_notes : {result : Bool} {notes all : List Note} → result ≡ list_any (λ (n : Note). nat_lt 0 (shuts_of (note_of n))) notes → notes ≡ all → result ≡ nat_lt 0 (sum_by shuts_of (map note_of all))

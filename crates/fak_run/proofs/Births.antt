@@ -1,6 +1,5 @@
 -- The children of all processes.
-use Rattle.std.proofs.lemmas.Grind.{common_steps}
-use Rattle.fak_run.proofs.Common.{RowOf, Ledger, Made, NameAndProgram, named, child, after_made, IsMade, notes, no_births_of, no_slots_of, Histories, Gathered, begun_names, asleep, ◌≡◌, ℕ, ◌+◌, ◌<◌, ◌≤◌, List, [], ◌∷◌, ◌++◌, length, slice_get, Some, refl, ap, sym, ◌∙◌, subst, arith, sum_by, append-nil, sum_by-append, up_amount, release_amount, refusal_of, other_amount, ScriptOf, StepOf, steps_of, spawn, NoteOf, spawned, Process, births_of, child_count, Allows, FitsFrom, children_from, children_of}
+use Rattle.fak_run.proofs.Common.{RowOf, Ledger, Made, NameAndProgram, named, child, after_made, IsMade, notes, no_births_of, no_slots_of, Histories, Gathered, begun_names, asleep, ◌≡◌, ℕ, ◌+◌, ◌<◌, ◌≤◌, List, [], ◌∷◌, ◌++◌, length, slice_get, Some, ap, sym, ◌∙◌, subst, arith, sum_by, append-nil, sum_by-append, up_amount, release_amount, refusal_of, other_amount, ScriptOf, StepOf, steps_of, NoteOf, Process, births_of, child_count, Allows, FitsFrom, children_from, children_of, common_steps}
 use Rattle.fak_run.proofs.Sums.{sum_by-map, sum_by_plus, sum_by-zeros}
 use Rattle.fak_run.proofs.Conserved.{conserved, grown, fresh}
 use Rattle.fak_model.proofs.RoomRefusals.{refused_at_bound, granted_fit}
@@ -22,9 +21,7 @@ children_grow g script m is = children_push g script.files 0 m.before.name (step
 
 -- a step begins as many children as its note says
 child_count_is : (files n : ℕ) (name : List ℕ) (step : StepOf) (note : NoteOf) → Allows files n step note → sum_by (λ (c : NameAndProgram). 1) (child name step note) ≡ births_of note
-child_count_is files n name (spawn p) (spawned j) ok = refl
-child_count_is files n name _ (spawned j) ok = absurd ok
-child_count_is files n name _ _ ok = refl
+child_count_is files n name step note ok = grind (arith, common_steps, sum_by, child, births_of)
 
 module _ {script : ScriptOf} {seats : ℕ} {h : Histories} {l : Ledger} (g : Gathered script seats h l) where
   -- rows and sleepers are those that were begun or spawned
@@ -38,8 +35,7 @@ module _ {script : ScriptOf} {seats : ℕ} {h : Histories} {l : Ledger} (g : Gat
       omega (arith, all, grows, none.0, none.1, begun, g.balanced.children w)
     where
       no_children : (name : List ℕ) (steps : List StepOf) (notes : List NoteOf) → length notes ≡ 0 → sum_by w (children_from name steps notes) ≡ 0
-      no_children name steps [] e = refl
-      no_children name steps (n ∷ ns) e = absurd (omega arith)
+      no_children name steps notes e = grind (arith, common_steps, notes, length, sum_by, children_from)
 
   -- as many are spawned as the bound says, at most
   pub births_fit : notes births_of l ≤ script.births

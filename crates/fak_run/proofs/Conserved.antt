@@ -1,6 +1,5 @@
 -- What the ledgers of all processors and the whole histories conserve.
-use Rattle.std.proofs.lemmas.Grind.{common_steps}
-use Rattle.fak_run.proofs.Common.{RowOf, Ledger, Made, named, after_made, IsMade, waiting, notes, Histories, Gathered, begun_names, asleep, lines, lines_of, ◌≡◌, ℕ, zero, suc, ◌+◌, ◌≤◌, List, [], ◌∷◌, length, refl, ap, sym, ◌∙◌, arith, sum_by, length-map, sum_by-append, sum_by_push, contents, debit_weight, credit_weight, put_of, got_of, ScriptOf, NoteOf, Process, queue_weighs, nothing_left, puts_weigh, gots_weigh_one}
+use Rattle.fak_run.proofs.Common.{RowOf, Ledger, Made, named, after_made, IsMade, waiting, notes, Histories, Gathered, begun_names, asleep, lines, lines_of, ◌≡◌, ℕ, zero, suc, ◌+◌, ◌≤◌, List, [], ◌∷◌, length, refl, ap, sym, ◌∙◌, arith, sum_by, length-map, sum_by-append, sum_by_push, contents, debit_weight, credit_weight, put_of, got_of, ScriptOf, NoteOf, Process, queue_weighs, nothing_left, puts_weigh, gots_weigh_one, common_steps}
 use Rattle.fak_run.proofs.Sums.{sum_by-ones, sum_by_nothing, sum_by_plus}
 
 pub length-begun : (i : ℕ) (programs : List ℕ) → length (begun_names i programs) ≡ length programs
@@ -54,5 +53,4 @@ module _ {script : ScriptOf} {seats : ℕ} {h : Histories} {l : Ledger} (g : Gat
       omega (arith, all, none.0, none.1)
     where
       none_in : (notes : List NoteOf) → length notes ≡ 0 → sum_by w notes ≡ 0
-      none_in [] e = refl
-      none_in (n ∷ ns) e = absurd (omega arith)
+      none_in notes e = grind (arith, common_steps, notes, length, sum_by)

@@ -1,6 +1,5 @@
 -- The list scheduler ends in one way.
-use Rattle.std.proofs.lemmas.Grind.{common_steps}
-use Rattle.fak_run.proofs.Common.{◌≡◌, ℕ, zero, suc, ◌≤◌, ◌⊎◌, [], arith, ap, sym, ◌∙◌, inl, inr, Lists, State, turn_over, take_front, step, steps, opening, EndsIn}
+use Rattle.fak_run.proofs.Common.{◌≡◌, ℕ, zero, suc, ◌≤◌, ◌⊎◌, [], arith, ap, sym, ◌∙◌, inl, inr, Lists, State, turn_over, take_front, step, steps, opening, EndsIn, common_steps}
 use Rattle.fak_text.specs.Script.{ScriptOf}
 
 -- a still machine stays as it is

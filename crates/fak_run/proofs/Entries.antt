@@ -1,6 +1,5 @@
 -- The entries after one mark more.
-use Rattle.std.proofs.lemmas.Grind.{common_steps}
-use Rattle.fak_run.proofs.Common.{◌≡◌, ◌≢◌, ℕ, zero, suc, ◌+◌, ◌<◌, ◌==◌, true, false, List, [], ◌∷◌, ◌++◌, refl, ap, sym, ◌∙◌, subst, arith, nat_tests, field, field_after, FileEntry, FileField, Inode, Uses, Set, FileMark, with_field, set_in}
+use Rattle.fak_run.proofs.Common.{◌≡◌, ◌≢◌, ℕ, zero, suc, ◌+◌, ◌<◌, ◌==◌, true, false, List, [], ◌∷◌, ◌++◌, refl, ap, sym, ◌∙◌, subst, arith, nat_tests, field, field_after, FileEntry, FileField, Inode, Uses, Set, FileMark, with_field, set_in, common_steps}
 use Rattle.fak_files.proofs.Common.{entry_of, entries_after}
 use Rattle.fak_files.proofs.WordPlaces.{field-push}
 
@@ -11,8 +10,7 @@ entry_by i u j v e f = λ t. record { inode = e t; uses = f t }
 module _ (h : List FileMark) (m : FileMark) where
   -- a mark that sets no field
   pub entries-same : ((i : ℕ) (f : FileField) (v : ℕ) → field_after i f v m.kind ≡ v) → (first n : ℕ) → entries_after (h ++ m ∷ []) first n ≡ entries_after h first n
-  entries-same none first zero = refl
-  entries-same none first (suc n) = grind (arith, common_steps, entry_of, entry_by, field-push, field)
+  entries-same none first u = grind (arith, common_steps, field_after, entries_after, entry_of, entry_by, field-push, field)
 
   module _ (i : ℕ) (f : FileField) (v : ℕ) (is : m.kind ≡ Set i f v) where
     after : (e : ℕ) (g : FileField) → field (h ++ m ∷ []) e g ≡ field_after e g (field h e g) (Set i f v)

@@ -1,6 +1,5 @@
 -- What is known of a process of a run, with one note more and with one less.
-use Rattle.std.proofs.lemmas.Grind.{common_steps}
-use Rattle.fak_run.proofs.Common.{◌≡◌, ℕ, ◌+◌, ◌≤◌, List, [], ◌∷◌, ◌++◌, length, arith, subst, ap, ◌∙◌, refl, ScriptOf, StepOf, say, steps_of, NoteOf, downed, said, spawned, Process, FitsFrom, StandsAt, Allows, after_note, births_of, child_count, child_count-append, length-push, note_fits}
+use Rattle.fak_run.proofs.Common.{◌≡◌, ℕ, ◌+◌, ◌≤◌, List, [], ◌∷◌, ◌++◌, length, arith, subst, ap, ◌∙◌, refl, ScriptOf, StepOf, say, steps_of, NoteOf, downed, said, spawned, Process, FitsFrom, StandsAt, Allows, after_note, births_of, child_count, child_count-append, length-push, note_fits, common_steps}
 use Rattle.fak_run.specs.Contexts.{IsContext, IsAsleep, unnoted}
 
 -- what is known of a process of a run, with one note more

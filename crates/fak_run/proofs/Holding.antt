@@ -1,16 +1,10 @@
 -- What a seat knows of its hold: from the calls of one hold to its line.
-use Rattle.std.proofs.lemmas.Grind.{common_steps}
-use Rattle.fak_run.proofs.Common.{◌≡◌, ◌⊎◌, ℕ, ◌==◌, Bool, true, false, cond, List, [], ◌∷◌, ◌++◌, Some, refl, ap, sym, ◌∙◌, subst, arith, inl, inr, append_assoc, map, filter, flat_map, nat_tests, All-head, All-tail, All-push, filter-append, flat_map-append, AreNamed, words_by, Setting, set_mark, WholeCall, Refused, Withdrawn, kinds_of_call, seat_of, kind_of, file_rules, IsFileHistory, ObjectId, SeatInfo, seat_info, last_of, Begins, marks_of, FileEntry, FileKind, Take, Over, Back, No, Give, FileMark, history_none, FileSeatInfo, LeavesMarks, amount_for, AreRefused, IsWaitedFor, IsGot, entries_after, set_all, IsFitHold, is_of_hold, held_kinds, kinds_of_hold, reads_from, reads_of, hold_line, read_of, AreHolds}
+use Rattle.fak_run.proofs.Common.{◌≡◌, ◌⊎◌, ℕ, ◌==◌, Bool, true, false, cond, List, [], ◌∷◌, ◌++◌, Some, refl, ap, sym, ◌∙◌, subst, arith, inl, inr, append_assoc, map, filter, flat_map, nat_tests, All-head, All-tail, All-push, filter-append, flat_map-append, AreNamed, words_by, Setting, set_mark, WholeCall, Refused, Withdrawn, kinds_of_call, seat_of, kind_of, file_rules, IsFileHistory, ObjectId, SeatInfo, seat_info, last_of, Begins, marks_of, FileEntry, FileKind, Take, Over, Back, No, Give, FileMark, history_none, FileSeatInfo, LeavesMarks, amount_for, AreRefused, IsWaitedFor, IsGot, entries_after, set_all, IsFitHold, is_of_hold, held_kinds, kinds_of_hold, reads_from, reads_of, hold_line, read_of, AreHolds, common_steps, Access, mark, entry_of, is_take, is_take_of, prefix_through_take, marks_since_take, Steps, Left, HasJustTaken, HasMade, AreLines}
 use Rattle.std.proofs.lemmas.List.{append-nil, map-append}
 use Rattle.fak_model.proofs.Seats.{marks_of_append}
-use Rattle.fak_files.specs.declared.phase.Access.{Access}
 use Rattle.fak_files.specs.declared.phase.Access.TheVariants.{Write}
-use Rattle.fak_files.specs.Shown.{mark}
-use Rattle.fak_files.specs.Versions.{entry_of, is_take, is_take_of, prefix_through_take, marks_since_take}
 use Rattle.fak_files.proofs.HoldLaws.{reads_stay, take_reads}
 use Rattle.fak_text.specs.Journal.{NoteOf}
-use Rattle.fak_run.specs.Replays.{Steps}
-use Rattle.fak_run.specs.Making.{Left, HasJustTaken, HasMade, AreLines}
 use Rattle.fak_run.proofs.Entries.{entries-same}
 
 -- ---- lists
@@ -110,8 +104,7 @@ refused-none test nos over back n (c ∷ tries) are =
     filter-append test (kinds_of_call c) (flat_map kinds_of_call tries) ∙ (ap (λ l. l ++ filter test (flat_map kinds_of_call tries)) (one c (All-head (λ (call : WholeCall). (call ≡ Refused n) ⊎ (call ≡ Withdrawn n)) c tries are)) ∙ rest)
   where
     one : (c : WholeCall) → (c ≡ Refused n) ⊎ (c ≡ Withdrawn n) → filter test (kinds_of_call c) ≡ []
-    one c (inl e) = ap (λ (w : WholeCall). filter test (kinds_of_call w)) e ∙ rw (nos n) refl
-    one c (inr e) = ap (λ (w : WholeCall). filter test (kinds_of_call w)) e ∙ rw (over n, back n) refl
+    one c f = grind (arith, common_steps, filter, kinds_of_call)
 
 -- a seat that has just taken its hold
 pub record IsTaken (n a : ℕ) (old now : SeatInfo FileMark) : Type 0 where
@@ -141,8 +134,7 @@ taken_of n access old now w =
         rest_last [] tries a marks last = absurd (nothing (map (mark old.seat.name) tries) (mark old.seat.name (Take a)) marks)
           where
             nothing : {A : Type 0} (xs : List A) (x : A) → [] ≡ xs ++ x ∷ [] → ⊥
-            nothing [] x e = cc
-            nothing (y ∷ xs) x e = cc
+            nothing xs x e = grind (arith, common_steps)
         rest_last (x ∷ rest) tries a marks last = sym (last_append old.seat.seen x rest) ∙ last
 
         by : (tries : List FileKind) (a : ℕ) → filter is_take tries ≡ [] → filter is_of_hold tries ≡ [] → (l : Left (tries ++ Take a ∷ []) old.seat now.seat) → (rest : List FileMark) → old.seat.seen ++ rest ≡ now.seat.seen

@@ -1,8 +1,5 @@
 -- Ledgers one after the other.
-use Rattle.std.proofs.lemmas.Grind.{common_steps}
-use Rattle.fak_run.proofs.Common.{◌≡◌, ℕ, ◌+◌, List, ◌++◌, length, ◌∙◌, arith, sum_by, sum_by-append, All-append, up_amount, release_amount, debit_weight, credit_weight, put_of, got_of, close_of, closed_of, refusal_of, other_amount, ScriptOf, NoteOf, Process, births_of, RowOf, Ledger, Made, Balanced, named, child, after_made, IsMade, FitsRow, joined, waiting, notes, downs_of, ups_of, shuts_of, no_births_of, no_slots_of, ended_slot, stuck_of, halted_of, not_before, before_down}
-use Rattle.fak_model.specs.declared.queue.Kind.{Kind}
-use Rattle.fak_model.proofs.Leading.{sum_same, sum_plus}
+use Rattle.fak_run.proofs.Common.{◌≡◌, ℕ, ◌+◌, List, ◌++◌, length, ◌∙◌, arith, sum_by, sum_by-append, All-append, up_amount, release_amount, debit_weight, credit_weight, put_of, got_of, close_of, closed_of, refusal_of, other_amount, ScriptOf, NoteOf, Process, births_of, RowOf, Ledger, Made, Balanced, named, child, after_made, IsMade, FitsRow, joined, waiting, notes, downs_of, ups_of, shuts_of, no_births_of, no_slots_of, ended_slot, stuck_of, halted_of, not_before, before_down, common_steps, Kind, sum_same, sum_plus}
 
 pub waiting-joined : (w : Kind Process → ℕ) (n : ℕ) (a b : Ledger) → waiting w n (joined a b) ≡ waiting w n a + waiting w n b
 waiting-joined w n a b =

@@ -1,5 +1,5 @@
 -- Each name once.
-use Rattle.fak_run.proofs.Common.{RowOf, NameAndProgram, named, child, FitsRow, begun_names, ◌≡◌, ◌⊎◌, ℕ, suc, ◌+◌, ◌≤◌, ◌==◌, nat_lt, Bool, true, false, cond, List, [], ◌∷◌, ◌++◌, get_or, refl, ap, ◌∙◌, arith, inl, inr, ◌&&◌, sum_by, All, AllPairs, nat_tests, sum_by-append, sum_by-cons, snoc_ind, ScriptOf, StepOf, steps_of, spawn, NoteOf, spawned, births_of, Allows, FitsFrom, children_from, children_of}
+use Rattle.fak_run.proofs.Common.{RowOf, NameAndProgram, named, child, FitsRow, begun_names, ◌≡◌, ◌⊎◌, ℕ, suc, ◌+◌, ◌≤◌, ◌==◌, nat_lt, Bool, true, false, cond, List, [], ◌∷◌, ◌++◌, get_or, refl, ap, ◌∙◌, arith, inl, inr, ◌&&◌, sum_by, All, AllPairs, nat_tests, sum_by-append, sum_by-cons, snoc_ind, ScriptOf, StepOf, steps_of, NoteOf, births_of, Allows, FitsFrom, children_from, children_of, common_steps}
 use Rattle.fak_run.proofs.Sums.{sum_by_le, sum_by-zeros}
 use Rattle.fak_run.proofs.Permuting.{two_weigh}
 
@@ -21,8 +21,7 @@ same_name_is [] (b ∷ y) e = absurd (cc)
 same_name_is (a ∷ x) [] e = absurd (cc)
 same_name_is (a ∷ x) (b ∷ y) e = by (a == b) refl e (λ more. same_name_is x y more) where
   by : (t : Bool) → (a == b) ≡ t → (t && same_name x y) ≡ true → (same_name x y ≡ true → x ≡ y) → a ∷ x ≡ b ∷ y
-  by true is e later = let first : a ≡ b = grind (arith, nat_tests) in let rest = later e in cc (first, rest)
-  by false is e later = absurd (cc)
+  by t is e later = grind (arith, common_steps, nat_tests)
 
 pub same_end : (i j : ℕ) (x y : List ℕ) → same_name (x ++ i ∷ []) (y ++ j ∷ []) ≡ (same_name x y && (i == j))
 same_end i j [] [] = elim (i == j) as (λ b. (b && true) ≡ b) [ true ↦ refl | false ↦ refl ]
@@ -48,17 +47,13 @@ is_first i (k ∷ []) = cond (nat_lt k i) 0 1
 is_first i (k ∷ _ ∷ _) = 0
 
 one_if : (t : Bool) → ◌≡◌ {A = ℕ} (cond (t && true) 1 0) (cond t 1 0)
-one_if true = refl
-one_if false = refl
+one_if t = grind (arith, common_steps)
 
 none_if : (t : Bool) → ◌≡◌ {A = ℕ} (cond (t && false) 1 0) 0
-none_if true = refl
-none_if false = refl
+none_if t = grind (arith, common_steps)
 
 pub first_le : (i : ℕ) (x : List ℕ) → is_first i x ≤ 1
-first_le i [] = omega arith
-first_le i (k ∷ []) = grind (arith, nat_tests)
-first_le i (k ∷ j ∷ x) = omega arith
+first_le i x = grind (arith, common_steps, nat_tests)
 
 pub begun_le : (x : List ℕ) (i : ℕ) (programs : List ℕ) → sum_by (is_named x) (begun_names i programs) ≤ is_first i x
 begun_le x i [] = omega arith
@@ -75,32 +70,27 @@ begun_le (k ∷ j ∷ x) i (p ∷ ps) =
     omega (arith, parts, rest, here)
 
 pub first_is_short : (a j : ℕ) (x : List ℕ) → is_first 0 (a ∷ (x ++ j ∷ [])) ≡ 0
-first_is_short a j [] = refl
-first_is_short a j (b ∷ x) = refl
+first_is_short a j x = grind (arith, common_steps)
 
 -- ---- children
 
 -- a step begins no child, or the one with the next number
 child_is : (files n : ℕ) (name : List ℕ) (step : StepOf) (note : NoteOf) → Allows files n step note
     → (child name step note ≡ []) ⊎ ((q : ℕ) × (child name step note ≡ (name ++ n ∷ [], q) ∷ []) × (births_of note ≡ 1))
-child_is files n name (spawn p) (spawned j) ok = inr (p, ap (λ k. (name ++ k ∷ [], p) ∷ []) ok, refl)
-child_is files n name _ _ ok = inl refl
+child_is files n name step note ok = grind (arith, common_steps, child, births_of)
 
 -- j or a later number may be p's child: it isn't below n
 abbrev still : Bool → ℕ → ℕ → ℕ
 still his j n = cond his (cond (nat_lt j n) 0 1) 0
 
 still_less : (his : Bool) (j n more : ℕ) → still his j (n + more) ≤ still his j n
-still_less true j n more = grind (arith, nat_tests)
-still_less false j n more = omega arith
+still_less his j n more = grind (arith, common_steps, still, nat_tests)
 
 still_all : (his : Bool) (j : ℕ) → ◌≡◌ {A = ℕ} (still his j 0) (cond his 1 0)
-still_all true j = grind (arith, nat_tests)
-still_all false j = refl
+still_all his j = grind (arith, common_steps, still, nat_tests)
 
 still_first : (his : Bool) (j n : ℕ) → cond (his && (n == j)) 1 0 + still his j (n + 1) ≤ still his j n
-still_first true j n = grind (arith, nat_tests)
-still_first false j n = omega arith
+still_first his j n = grind (arith, common_steps, still, nat_tests)
 
 -- at most one of a journal's spawns names this child
 children_le : (files n : ℕ) (p : List ℕ) (j : ℕ) (name : List ℕ) (steps : List StepOf) (notes : List NoteOf) → FitsFrom files n steps notes
@@ -165,8 +155,7 @@ module _ (script : ScriptOf) (rows : List RowOf) (fit : All (FitsRow script) row
   once_at_most = snoc_ind (λ (x : List ℕ). sum_by (λ (r : RowOf). is_named x (named r.process)) rows ≤ 1) (omega (arith, nameless)) (λ p j before. longer p j before)
     where
       longer : (p : List ℕ) (j : ℕ) → sum_by (λ (r : RowOf). is_named p (named r.process)) rows ≤ 1 → sum_by (λ (r : RowOf). is_named (p ++ j ∷ []) (named r.process)) rows ≤ 1
-      longer [] j before = omega (arith, parents [] j, nameless, first_le 0 (j ∷ []))
-      longer (a ∷ p) j before = omega (arith, parents (a ∷ p) j, first_is_short a j p, before)
+      longer p j before = grind (arith, common_steps, sum_by, named, parents, nameless, first_le, first_is_short)
 
   pub names_differ : AllPairs (λ (a b : RowOf). a.process.name ≡ b.process.name → ⊥) rows
   names_differ = differ rows once_at_most

@@ -1,6 +1,5 @@
 -- What calls leave to the only seat of an object.
-use Rattle.std.proofs.lemmas.Grind.{common_steps}
-use Rattle.fak_run.proofs.Common.{◌≡◌, ℕ, ◌<◌, ◌==◌, true, List, [], ◌∷◌, ◌++◌, refl, ap, ◌∙◌, subst, arith, All, length, nat_tests, All-head, All-tail, Rules, IsHistory, AreNamed, marks_of, SeatInfo, mine_of, Appends, before_appended}
+use Rattle.fak_run.proofs.Common.{◌≡◌, ℕ, ◌<◌, ◌==◌, true, List, [], ◌∷◌, ◌++◌, refl, ap, ◌∙◌, subst, arith, All, length, nat_tests, All-head, All-tail, Rules, IsHistory, AreNamed, marks_of, SeatInfo, mine_of, Appends, before_appended, common_steps}
 use Rattle.fak_model.proofs.RunningCalls.{before_mark-append}
 use Rattle.fak_run.specs.Only.{IsOnly}
 

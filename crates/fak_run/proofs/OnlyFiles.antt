@@ -1,12 +1,8 @@
 -- What calls do to a file table that has one seat.
-use Rattle.std.proofs.lemmas.Grind.{common_steps}
-use Rattle.fak_run.proofs.Common.{◌≡◌, ◌≢◌, ◌⊎◌, ℕ, zero, suc, ◌+◌, ◌<◌, ◌==◌, ◌&&◌, Bool, true, false, cond, List, [], ◌∷◌, ◌++◌, Some, slice_set, length, refl, ap, sym, ◌∙◌, subst, arith, inl, inr, All, map, reverse, slice_get, slice_index_or, nat_lt, Option, None, MatchOption, flat_map, nat_tests, All-head, All-tail, SeatInfo, FileEntry, FileField, Inode, Uses, FileKind, Take, Set, Give, FileMark, FileSeatInfo, entries_after, LeavesMarks, AreRefused, IsWaitedFor, IsGot, IsSet, IsEnded, FileChange, most_uses, open_change, open_by, raise, raise_by, close_change, close_by, lower, lowered, first_entry}
+use Rattle.fak_run.proofs.Common.{◌≡◌, ◌≢◌, ◌⊎◌, ℕ, zero, suc, ◌+◌, ◌<◌, ◌==◌, ◌&&◌, Bool, true, cond, List, [], ◌∷◌, ◌++◌, Some, slice_set, length, refl, ap, sym, ◌∙◌, subst, arith, All, map, reverse, slice_get, slice_index_or, nat_lt, Option, MatchOption, flat_map, nat_tests, All-head, All-tail, SeatInfo, FileEntry, FileField, Inode, Uses, FileKind, Take, Set, Give, FileMark, FileSeatInfo, entries_after, LeavesMarks, AreRefused, IsWaitedFor, IsGot, IsSet, IsEnded, FileChange, most_uses, open_change, open_by, raise, raise_by, close_change, close_by, lower, lowered, first_entry, common_steps, Access, mark, entry_of, is_take_of, back_from_take, own_since_take, prefix_through_take, marks_since_take}
 use Rattle.std.proofs.lemmas.List.{append-nil, reverse-append, reverse-reverse}
 use Rattle.fak_model.specs.File.{WholeCall, Refused, Withdrawn, kinds_of_call, same_field, field_after, field_from, field}
 use Rattle.fak_model.proofs.Reversing.{All-reverse}
-use Rattle.fak_files.specs.declared.phase.Access.{Access}
-use Rattle.fak_files.specs.Shown.{mark}
-use Rattle.fak_files.specs.Versions.{entry_of, is_take_of, back_from_take, own_since_take, prefix_through_take, marks_since_take}
 use Rattle.fak_run.specs.OnlyFiles.{IsOnlyFiles, entries_now, KeepsFiles, PutsEntry, StoresEntry, ChangesFiles}
 use Rattle.fak_run.proofs.Only.{only_seen, only_still}
 
@@ -55,8 +51,7 @@ map_mark-append : (name : ℕ) (ks ls : List FileKind) → map (mark name) (ks +
 map_mark-append name ks ls = Rattle.std.proofs.lemmas.List.map-append (mark name) ks ls
 
 call_nothing : (name n : ℕ) (call : WholeCall) → (call ≡ Refused n) ⊎ (call ≡ Withdrawn n) → SetNothing (map (mark name) (kinds_of_call call))
-call_nothing name n call (inl e) = subst (λ (c : WholeCall). SetNothing (map (mark name) (kinds_of_call c))) (sym e) (λ i f v. refl)
-call_nothing name n call (inr e) = subst (λ (c : WholeCall). SetNothing (map (mark name) (kinds_of_call c))) (sym e) (λ i f v. refl)
+call_nothing name n call v = grind (arith, common_steps, map, mark, kinds_of_call)
 
 tries_nothing : (name n : ℕ) (calls : List WholeCall) → AreRefused n calls → SetNothing (map (mark name) (flat_map kinds_of_call calls))
 tries_nothing name n [] all = λ i f v. refl
@@ -78,8 +73,7 @@ own_all (m ∷ past) named = by (own_all past (All-tail (λ (w : FileMark). w.se
     his = let l = low in grind (arith, nat_tests)
 
     by : own_since_take 0 past ++ back_from_take 0 past ≡ past → (b : Bool) → is_take_of 0 m ≡ b → own_since_take 0 (m ∷ past) ++ back_from_take 0 (m ∷ past) ≡ m ∷ past
-    by before true is = rw is refl
-    by before false is = rw (is, his) (ap (λ (l : List FileMark). m ∷ l) before)
+    by before f is = grind (arith, common_steps, own_since_take, back_from_take, is_take_of, his)
 
 reads_all : (h : List FileMark) → All (λ (m : FileMark). m.seat < 1) h → prefix_through_take 0 h ++ marks_since_take 0 h ≡ h
 reads_all h named =
@@ -115,8 +109,7 @@ got {i} {old} {new} {answer} o g =
 
 -- both fields of an entry are set
 set_here : (i v : ℕ) (f : FileField) (old : ℕ) → cond ((i == i) && same_field f f) v old ≡ v
-set_here i v Inode old = let t : (i == i) ≡ true = grind (arith, nat_tests) in rw t refl
-set_here i v Uses old = let t : (i == i) ≡ true = grind (arith, nat_tests) in rw t refl
+set_here i v f old = grind (arith, common_steps, same_field, nat_tests)
 
 entry_here : (h : List FileMark) (name i : ℕ) (e : FileEntry) → entry_of (h ++ mark name (Set i Inode e.inode) ∷ mark name (Set i Uses e.uses) ∷ []) i ≡ e
 entry_here h name i e = grind (arith, common_steps, nat_tests, mark, field, field_from-more)
@@ -170,28 +163,22 @@ set_alike (x ∷ xs) zero a e is = let same : a ≡ e = cc in ap (λ (y : FileEn
 set_alike (x ∷ xs) (suc i) a e is = ap (λ (l : List FileEntry). x ∷ l) (set_alike xs i a e is)
 
 raise_by_one : (xs : List FileEntry) (i : ℕ) (e : FileEntry) (b : Bool) → OneChange xs (raise_by xs i e b).entry (raise_by xs i e b).entries
-raise_by_one xs i e true = λ a is. set_alike xs i (record { inode = e.inode; uses = e.uses + 1 }) a is
-raise_by_one xs i e false = refl
+raise_by_one xs i e b = grind (arith, common_steps, raise_by, set_alike)
 
 raise_one : (xs : List FileEntry) (i : ℕ) (found : Option FileEntry) → OneChange xs (raise xs i found).entry (raise xs i found).entries
-raise_one xs i None = refl
-raise_one xs i (Some e) = raise_by_one xs i e (nat_lt e.uses most_uses)
+raise_one xs i found = grind (arith, common_steps, raise, raise_by_one, nat_lt, most_uses)
 
 open_by_one : (xs : List FileEntry) (inode : ℕ) (a b : Option ℕ) → OneChange xs (open_by xs inode a b).entry (open_by xs inode a b).entries
-open_by_one xs inode (Some i) b = raise_one xs i (slice_get xs i)
-open_by_one xs inode None (Some i) = λ e is. set_alike xs i (record { inode = inode; uses = 1 }) e is
-open_by_one xs inode None None = refl
+open_by_one xs inode a b = grind (arith, common_steps, open_by, raise_one, slice_get, set_alike)
 
 pub open_one : (xs : List FileEntry) (inode : ℕ) → OneChange xs (open_change xs inode).entry (open_change xs inode).entries
 open_one xs inode = open_by_one xs inode (first_entry xs inode) (first_entry xs 0)
 
 lower_one : (xs : List FileEntry) (i : ℕ) (found : Option FileEntry) → OneChange xs (lower xs i found).entry (lower xs i found).entries
-lower_one xs i None = refl
-lower_one xs i (Some e) = λ a is. set_alike xs i (lowered e) a is
+lower_one xs i found = grind (arith, common_steps, lower, set_alike, lowered)
 
 close_by_one : (xs : List FileEntry) (a : Option ℕ) → OneChange xs (close_by xs a).entry (close_by xs a).entries
-close_by_one xs None = refl
-close_by_one xs (Some i) = lower_one xs i (slice_get xs i)
+close_by_one xs a = grind (arith, common_steps, close_by, lower_one, slice_get)
 
 pub close_one : (xs : List FileEntry) (inode : ℕ) → OneChange xs (close_change xs inode).entry (close_change xs inode).entries
 close_one xs inode = close_by_one xs (first_entry xs inode)
@@ -200,8 +187,7 @@ close_one xs inode = close_by_one xs (first_entry xs inode)
 pub changes_files : {count : ℕ} {a b c d : FileSeatInfo} (change_of : List FileEntry → FileChange) (xs ys : List FileEntry) (entry : Option ℕ) → KeepsFiles a b → xs ≡ entries_now count a
     → record { entry = entry; entries = ys } ≡ change_of xs → OneChange xs (change_of xs).entry (change_of xs).entries
     → MatchOption entry (KeepsFiles b c) (λ i. StoresEntry ys i b c) → KeepsFiles c d → ChangesFiles count entry (change_of (entries_now count a)) d
-changes_files {count} {a} {b} {c} {d} change_of xs ys None ab read changed one stored cd = grind (arith, common_steps, entries_now)
-changes_files {count} {a} {b} {c} {d} change_of xs ys (Some i) ab read changed one stored cd = grind (arith, common_steps, slice_set, entries_now)
+changes_files change_of xs ys entry ab read changed one stored cd = grind (arith, common_steps, entries_now, slice_set)
 
 -- what an index finds
 pub found_at : (xs : List FileEntry) (i : ℕ) (x : FileEntry) → i < length xs → x ≡ slice_index_or xs i x → slice_get xs i ≡ Some x
@@ -210,5 +196,4 @@ found_at (y ∷ xs) zero x low is = ap Some (sym is)
 found_at (y ∷ xs) (suc i) x low is = found_at xs i x (omega (arith, low)) is
 
 pub stored_only : (ys : List FileEntry) (b c : FileSeatInfo) (entry : Option ℕ) → MatchOption entry (KeepsFiles b c) (λ i. StoresEntry ys i b c) → IsOnlyFiles c
-stored_only ys b c None k = k.only
-stored_only ys b c (Some i) s = s.puts.only
+stored_only ys b c entry k = grind (arith, common_steps, IsOnlyFiles)

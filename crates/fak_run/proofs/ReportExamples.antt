@@ -1,7 +1,5 @@
 -- Reports of small scripts, and what they contradict.
-use Rattle.std.proofs.lemmas.Grind.{common_steps}
-use Rattle.fak_run.proofs.Common.{◌≡◌, ℕ, zero, suc, ◌==◌, Bool, true, false, cond, List, [], ◌∷◌, refl, ap, sym, ◌∙◌, subst, arith, true≢false, sum_by-cons, All, AllPairs, All-nil, All-cons, is_lt, slice_cmp, nat_cmp, NoteOf, RowOf, IsSortedByName, is_ended}
-use Rattle.std.proofs.lemmas.List.Kept.{AllPairs-cons}
+use Rattle.fak_run.proofs.Common.{◌≡◌, ℕ, ◌==◌, Bool, true, false, cond, List, [], ◌∷◌, refl, ap, sym, ◌∙◌, subst, arith, true≢false, sum_by-cons, All, AllPairs, All-nil, All-cons, NoteOf, RowOf, IsSortedByName, is_ended, common_steps}
 use Rattle.fak_run.specs.Reported.{AreAsOften}
 use Rattle.fak_run.proofs.SameRows.{same_note, same_note_is, same_note_self, same_number_self}
 
@@ -34,8 +32,7 @@ abbrev other : NoteOf → NoteOf → ℕ
 other x y = cond (same_note y x) 0 1
 
 only_by : (x y : NoteOf) (b : Bool) → same_note y x ≡ b → other x y ≡ other x x → y ≡ x
-only_by x y true is e = same_note_is y x is
-only_by x y false is e = grind (arith, common_steps, cond, same_note_self, clash)
+only_by x y b is e = grind (arith, common_steps, same_note, other, same_note_is, same_note_self, clash)
 
 -- a list that has each line as often as a list of one line is that list
 pub only_line : (x : NoteOf) (list : List NoteOf) → AreAsOften list (x ∷ []) → list ≡ x ∷ []

@@ -1,8 +1,7 @@
 -- What the rows of all processes promise.
-use Rattle.std.proofs.lemmas.Grind.{common_steps}
 use Rattle.std.proofs.lemmas.Bool.{cases_lt, and_parts, and_from}
 use Rattle.std.proofs.lemmas.List.Sorted.{sum_by-IsPermutation, All-permutation}
-use Rattle.fak_run.proofs.Common.{numbers_from, Outcome, Ended, Stuck, Halted, ◌≡◌, ℕ, zero, suc, ◌+◌, ◌<◌, ◌≤◌, ◌==◌, nat_lt, Bool, true, false, cond, List, [], ◌∷◌, ◌++◌, length, get_or, refl, ap, sym, ◌∙◌, arith, inl, inr, map, ◌&&◌, sum_by, All, AllPairs, IsPermutation, nat_tests, sum_by-append, sum_by-cons, contents, put_of, got_of, close_of, closed_of, ScriptOf, NoteOf, Process, births_of, RowOf, rows_with, sleepers_outcome, is_ended, Ledger, NameAndProgram, named, notes, downs_of, ups_of, shuts_of, no_births_of, no_slots_of, ended_slot, stuck_of, halted_of, FitsRow, Histories, Gathered, begun_names, asleep, lines, lines_of, is_shut, rows_of, children_of, spawned_names, stuck_at, stuck_before, kept_slot, Promised, queue_weighs, closed_after_close}
+use Rattle.fak_run.proofs.Common.{numbers_from, Outcome, Stuck, ◌≡◌, ℕ, zero, suc, ◌+◌, ◌<◌, ◌≤◌, ◌==◌, nat_lt, Bool, true, false, cond, List, [], ◌∷◌, ◌++◌, length, get_or, refl, ap, sym, ◌∙◌, arith, inl, inr, map, ◌&&◌, sum_by, All, AllPairs, IsPermutation, nat_tests, sum_by-append, sum_by-cons, contents, put_of, got_of, close_of, closed_of, ScriptOf, NoteOf, Process, births_of, RowOf, rows_with, sleepers_outcome, is_ended, Ledger, NameAndProgram, named, notes, downs_of, ups_of, shuts_of, no_births_of, no_slots_of, ended_slot, stuck_of, halted_of, FitsRow, Histories, Gathered, begun_names, asleep, lines, lines_of, is_shut, rows_of, children_of, spawned_names, stuck_at, stuck_before, kept_slot, Promised, queue_weighs, closed_after_close, common_steps}
 use Rattle.fak_run.proofs.Sums.{sum_by-map, sum_by-flat_map, sum_by-ones, sum_by-zeros, sum_by_same}
 use Rattle.fak_run.proofs.Conserved.{conserved, lines_are, length-begun}
 use Rattle.fak_run.proofs.Permuting.{permuted, two_weigh}
@@ -28,18 +27,13 @@ same_named_self a = and_from (same_name a.0 a.0) (a.1 == a.1) (same_name_self a.
 -- ---- slots
 
 kept_is : (w : ℕ → ℕ) (o : Outcome) (slot : ℕ) → w slot ≡ ended_slot w o slot + kept_slot w o slot
-kept_is w Ended slot = omega arith
-kept_is w Stuck slot = omega arith
-kept_is w Halted slot = omega arith
+kept_is w o slot = grind (arith, common_steps, ended_slot, kept_slot)
 
 kept_one : (w : ℕ → ℕ) (o : Outcome) (slot : ℕ) → is_ended o ≡ false → kept_slot w o slot ≡ w slot
-kept_one w Ended slot e = absurd (cc)
-kept_one w Stuck slot e = refl
-kept_one w Halted slot e = refl
+kept_one w o slot e = grind (arith, common_steps, is_ended, kept_slot)
 
 kept_asleep : (w : ℕ → ℕ) (b : Bool) (slot : ℕ) → kept_slot w (sleepers_outcome b) slot ≡ w slot
-kept_asleep w true slot = refl
-kept_asleep w false slot = refl
+kept_asleep w b slot = grind (arith, common_steps, kept_slot, sleepers_outcome)
 
 abbrev at_slot : ℕ → ℕ → ℕ
 at_slot k j = cond (j == k) 1 0

@@ -1,7 +1,7 @@
 -- Whether two rows are the same.
 use Rattle.std.proofs.lemmas.Bool.Decides.{nat_tests}
 use Rattle.fak_text.specs.Journal.{NoteOf, said, yielded, downed, upped, opened, closed, statted, spawned, no_birth, no_slot, shut_down, Process}
-use Rattle.fak_run.proofs.Common.{Outcome, Ended, Stuck, Halted, RowOf, ◌≡◌, ℕ, ◌==◌, Bool, true, false, cond, List, [], ◌∷◌, refl, ap, sym, ◌∙◌, arith, ◌&&◌, Option, Some, None, and_parts, and_from}
+use Rattle.fak_run.proofs.Common.{Outcome, Ended, Stuck, Halted, RowOf, ◌≡◌, ℕ, ◌==◌, Bool, true, false, cond, List, [], ◌∷◌, refl, ap, sym, ◌∙◌, arith, ◌&&◌, Option, Some, None, and_parts, and_from, common_steps}
 use Rattle.fak_run.proofs.Names.{same_name, same_name_self, same_name_is}
 
 same_number_is : (a b : ℕ) → (a == b) ≡ true → a ≡ b
@@ -52,20 +52,7 @@ decode [] = yielded
 decode (tag ∷ rest) = note_in tag rest
 
 decode_code : (note : NoteOf) → decode (code note) ≡ note
-decode_code (said text) = refl
-decode_code yielded = refl
-decode_code (downed s) = refl
-decode_code (upped s) = refl
-decode_code (opened n None) = refl
-decode_code (opened n (Some i)) = refl
-decode_code (closed n None) = refl
-decode_code (closed n (Some i)) = refl
-decode_code (statted n None) = refl
-decode_code (statted n (Some u)) = refl
-decode_code (spawned j) = refl
-decode_code no_birth = refl
-decode_code no_slot = refl
-decode_code shut_down = refl
+decode_code note = grind (arith, common_steps, decode, code)
 
 abbrev pub same_note : NoteOf → NoteOf → Bool
 same_note a b = same_name (code a) (code b)
@@ -133,9 +120,7 @@ abbrev outcome_in : ℕ → Outcome
 outcome_in n = cond (n == 0) Ended (cond (n == 1) Stuck Halted)
 
 outcome_in_number : (o : Outcome) → outcome_in (number_of o) ≡ o
-outcome_in_number Ended = refl
-outcome_in_number Stuck = refl
-outcome_in_number Halted = refl
+outcome_in_number o = grind (arith, common_steps, outcome_in, number_of)
 
 abbrev pub same_row : RowOf → RowOf → Bool
 same_row a b = same_process a.process b.process && (number_of a.outcome == number_of b.outcome)

@@ -1,9 +1,7 @@
 -- A history is walked mark by mark, and each hold's line is taken at its Take.
-use Rattle.std.proofs.lemmas.Grind.{common_steps}
-use Rattle.fak_run.proofs.Common.{◌≡◌, ◌≢◌, ◌⊎◌, ℕ, ◌<◌, ◌≤◌, ◌==◌, Bool, true, false, cond, List, [], ◌∷◌, ◌++◌, refl, ap, sym, ◌∙◌, subst, arith, inl, inr, append_assoc, true≢false, map, All, flat_map, append-nil, nat_tests, All-nil, All-cons, All-head, All-tail, AreNamed, Setting, set_mark, amount_held, hold_after, field_after, IsFair, file_rules, IsFileHistory, IsPermutation-trans, IsPermutation-cons, FileEntry, FileField, FileKind, Take, Over, Back, No, Set, Give, FileMark, same_or_not, cond_here, cond_else, history_prefix, last_fair, set_in, set_all, FileHold, IsFitHold, is_of_hold, held_kinds, kinds_of_hold, reads_from, read_of, AreHolds, gather_from}
+use Rattle.fak_run.proofs.Common.{◌≡◌, ◌≢◌, ◌⊎◌, ℕ, ◌<◌, ◌≤◌, ◌==◌, Bool, true, false, cond, List, [], ◌∷◌, ◌++◌, refl, ap, sym, ◌∙◌, subst, arith, inl, inr, append_assoc, true≢false, map, All, flat_map, append-nil, nat_tests, All-nil, All-cons, All-head, All-tail, AreNamed, Setting, set_mark, amount_held, hold_after, field_after, IsFair, file_rules, IsFileHistory, IsPermutation-trans, IsPermutation-cons, FileEntry, FileField, FileKind, Take, Over, Back, No, Set, Give, FileMark, same_or_not, cond_here, cond_else, history_prefix, last_fair, set_in, set_all, FileHold, IsFitHold, is_of_hold, held_kinds, kinds_of_hold, reads_from, read_of, AreHolds, gather_from, common_steps, Steps}
 use Rattle.fak_files.proofs.Common.{is_take, entries_after}
 use Rattle.fak_files.proofs.HoldReads.{alone, held_own, held_other}
-use Rattle.fak_run.specs.Replays.{Steps}
 use Rattle.fak_run.specs.Merging.{AreMerged}
 use Rattle.fak_run.proofs.Entries.{entries-same, entries-set}
 use Rattle.fak_run.proofs.GatheredHolds.{gather_none, gather_first}

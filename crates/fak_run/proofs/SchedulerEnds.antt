@@ -1,6 +1,5 @@
 -- The list scheduler ends every script: what is left to do falls with each small step.
-use Rattle.std.proofs.lemmas.Grind.{common_steps}
-use Rattle.fak_run.proofs.Common.{◌≡◌, ◌⊎◌, ℕ, zero, suc, ◌+◌, ◌-◌, ◌*◌, ◌<◌, ◌≤◌, nat_lt, Bool, true, false, List, [], ◌∷◌, length, refl, ap, sym, ◌∙◌, arith, inl, inr, Option, Some, None, ◌==◌, ◌||◌, slice_get, slice_set, slice_index, slice_index_or, sum_by, cases_lt, nat_tests, slice_get_within, get_or_past, set_past, length_push, open_change, close_change, uses_of, Turn, Lists, State, EndsIn, next_step, enter_by, go_on, turn_over, down_by, up_by, child_of, spawn_by, make, go_or_make, turn_by, take_front, step_by, steps, opening}
+use Rattle.fak_run.proofs.Common.{◌≡◌, ◌⊎◌, ℕ, zero, suc, ◌+◌, ◌-◌, ◌*◌, ◌<◌, ◌≤◌, nat_lt, Bool, true, false, List, [], ◌∷◌, length, refl, ap, sym, ◌∙◌, arith, inl, inr, Option, Some, None, ◌==◌, ◌||◌, slice_get, slice_set, slice_index, slice_index_or, sum_by, cases_lt, nat_tests, slice_get_within, get_or_past, set_past, length_push, open_change, close_change, uses_of, Turn, Lists, State, EndsIn, next_step, enter_by, go_on, turn_over, down_by, up_by, child_of, spawn_by, make, go_or_make, turn_by, take_front, step_by, steps, opening, common_steps}
 use Rattle.std.proofs.lemmas.List.Sums.{sum_by-cons, sum_by_push, sum_by-set}
 use Rattle.fak_text.specs.Script.{ScriptOf, StepOf, say, yield, down, up, open_file, close_file, stat, spawn, shutdown, steps_of, steps_or_none}
 use Rattle.fak_text.specs.Journal.{NoteOf, said, yielded, downed, upped, opened, closed, statted, spawned, no_birth, no_slot, shut_down, Process, after_note, child_count}
@@ -29,13 +28,11 @@ turn_phase true = 2
 turn_phase false = 0
 
 few_phases : (b : Bool) → turn_phase b ≤ 2
-few_phases true = omega arith
-few_phases false = omega arith
+few_phases b = grind (arith, common_steps, turn_phase)
 
 -- a turn that has made no step is not over
 new_turn : (quantum : ℕ) → 1 ≤ quantum → turn_phase (false || (0 == quantum)) ≡ 0
-new_turn zero some = absurd (omega (arith, some))
-new_turn (suc n) some = ap (λ b. turn_phase (false || b)) (let apart : (0 == suc n) ≡ false = grind (arith, nat_tests) in apart)
+new_turn quantum some = grind (arith, common_steps, turn_phase, nat_tests)
 
 module _ (script : ScriptOf) where
   -- the steps that a process has before it
@@ -67,12 +64,10 @@ module _ (script : ScriptOf) where
   -- ---- a process enters a list
 
   enters_made : (s : Lists) (p : Process) (is_shut : Bool) → to_make (enter_by s p is_shut) ≤ to_make s + left p
-  enters_made s p false = omega (arith, sum_by_push left s.ready p)
-  enters_made s p true = omega arith
+  enters_made s p is_shut = grind (arith, common_steps, to_make, enter_by, left, sum_by_push)
 
   enters_ready : (s : Lists) (p : Process) (is_shut : Bool) → length (enter_by s p is_shut).ready ≤ length s.ready + 1
-  enters_ready s p false = omega (arith, length_push s.ready p)
-  enters_ready s p true = omega arith
+  enters_ready s p is_shut = grind (arith, common_steps, length, enter_by, length_push)
 
   -- ---- the turn goes on
 
@@ -149,12 +144,10 @@ module _ (script : ScriptOf) where
   makes s t shutdown stands goes = plain s (record s { is_shut = true }) t shut_down false shutdown stands goes refl refl
 
   goes_or_makes : (s : Lists) (t : Turn) (next : StepOf) (over : Bool) → next_step script t.process ≡ Some next → is_over t ≡ over → remains (go_or_make script s t next over) < remains (record { running = Some t; lists = s })
-  goes_or_makes s t next true stands is = grind (arith, common_steps, enters_made, enters_ready)
-  goes_or_makes s t next false stands is = makes s t next stands is
+  goes_or_makes s t next over stands is = grind (arith, common_steps, next_step, is_over, remains, go_or_make, enters_made, enters_ready, makes)
 
   turns : (s : Lists) (t : Turn) (next : Option StepOf) → next_step script t.process ≡ next → remains (turn_by script s t next) < remains (record { running = Some t; lists = s })
-  turns s t None stands = omega arith
-  turns s t (Some next) stands = goes_or_makes s t next (is_over t) stands refl
+  turns s t next stands = grind (arith, common_steps, next_step, remains, turn_by, goes_or_makes, is_over)
 
   -- ---- where nobody runs or is ready, and before
 
@@ -163,12 +156,10 @@ module _ (script : ScriptOf) where
 
   module _ (some : 1 ≤ script.quantum) where
     takes : (s : Lists) (ready : List Process) → s.ready ≡ ready → IsStill None s ⊎ (remains (take_front s ready) < remains (turn_over s))
-    takes s [] is = inl (refl, is)
-    takes s (first ∷ others) is = inr (omega (arith, ap (sum_by left) is, sum_by-cons left first others, ap length is, new_turn script.quantum some))
+    takes s ready is = grind (arith, common_steps, remains, take_front, turn_over, IsStill, sum_by, left, sum_by-cons, length, new_turn)
 
     falls : (s : Lists) (running : Option Turn) → IsStill running s ⊎ (remains (step_by script s running) < remains (record { running = running; lists = s }))
-    falls s None = takes s s.ready refl
-    falls s (Some t) = inr (turns s t (next_step script t.process) refl)
+    falls s running = grind (arith, common_steps, remains, step_by, IsStill, takes, turns, next_step)
 
     -- after this many steps it was still, or as much less remains
     falls_or_ends : (n : ℕ) (s : State) → ((k : ℕ) × IsStill (steps k script s).running (steps k script s).lists) ⊎ (remains (steps n script s) + n ≤ remains s)

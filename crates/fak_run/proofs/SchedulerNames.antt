@@ -1,6 +1,5 @@
 -- The names in the list scheduler's report: each once.
-use Rattle.std.proofs.lemmas.Grind.{common_steps}
-use Rattle.fak_run.proofs.Common.{Turn, Lists, State, turn_over, child_of, begun_from, opening, Outcome, named, begun_names, ◌≡◌, ℕ, suc, ◌+◌, ◌≤◌, ◌==◌, nat_lt, Bool, true, false, cond, List, [], ◌∷◌, ◌++◌, refl, ap, sym, ◌∙◌, subst, arith, Option, Some, None, map, ◌&&◌, sum_by, flat_map, AllPairs, nat_tests, sum_by-append, sum_by-cons, sum_by-IsPermutation, snoc_ind, ScriptOf, spawned, Process, new_process, after_note, child_count, child_count-append, RowOf, ReportOf, rows_with, sleepers_outcome, rows_at, IsReportOf, ListSchedulerReports}
+use Rattle.fak_run.proofs.Common.{Turn, Lists, State, turn_over, child_of, begun_from, opening, Outcome, named, begun_names, ◌≡◌, ℕ, suc, ◌+◌, ◌≤◌, ◌==◌, nat_lt, Bool, cond, List, [], ◌∷◌, ◌++◌, refl, ap, sym, ◌∙◌, subst, arith, Option, map, ◌&&◌, sum_by, flat_map, AllPairs, nat_tests, sum_by-append, sum_by-cons, sum_by-IsPermutation, snoc_ind, ScriptOf, spawned, Process, new_process, after_note, child_count, child_count-append, RowOf, ReportOf, rows_with, sleepers_outcome, rows_at, IsReportOf, ListSchedulerReports, common_steps}
 use Rattle.fak_run.proofs.Sums.{sum_by-map, sum_by-flat_map, sum_by_less, sum_by-zeros}
 use Rattle.fak_run.proofs.Ends.{ends_alike}
 use Rattle.fak_run.proofs.Names.{same_name, same_end, not_nameless, is_named, is_first, first_le, begun_le, first_is_short, differ}
@@ -18,12 +17,10 @@ had_child x j p = cond (same_name p.name x) (cond (nat_lt j (child_count p.journ
 -- ---- a child's number is below its parent's count
 
 had_more : (his : Bool) (j n : ℕ) → cond (his && (n == j)) 1 0 + cond his (cond (nat_lt j n) 1 0) 0 ≤ cond his (cond (nat_lt j (n + 1)) 1 0) 0
-had_more true j n = grind (arith, nat_tests)
-had_more false j n = omega arith
+had_more his j n = grind (arith, common_steps, nat_lt, nat_tests)
 
 had_once : (his : Bool) (j n : ℕ) → cond his (cond (nat_lt j n) 1 0) 0 ≤ cond his 1 0
-had_once true j n = grind (arith, nat_tests)
-had_once false j n = omega arith
+had_once his j n = grind (arith, common_steps, nat_lt, nat_tests)
 
 children_pay : (x : List ℕ) (j : ℕ) → Pays (has_name (x ++ j ∷ [])) (had_child x j)
 children_pay x j = grind (arith, common_steps, child_count, child_count-append, cond, same_name, nat_lt, spawned, child_of, same_end, after_note, had_more)
@@ -34,8 +31,7 @@ nameless_pay = grind (arith, common_steps, child_of, cond, not_nameless, child_c
 -- ---- sums
 
 turn_less : (f g : Process → ℕ) → ((p : Process) → f p ≤ g p) → (running : Option Turn) → turn_weighs f running ≤ turn_weighs g running
-turn_less f g less None = omega arith
-turn_less f g less (Some t) = less t.process
+turn_less f g less v = grind (arith, common_steps, turn_weighs)
 
 all_less : (f g : Process → ℕ) → ((p : Process) → f p ≤ g p) → (s : State) → all_weigh f s ≤ all_weigh g s
 all_less f g less s = omega (arith, turn_less f g less s.running, sum_by_less f g less s.lists.ready, sum_by_less (sum_by f) (sum_by g) (λ ps. sum_by_less f g less ps) s.lists.sleepers, sum_by_less f g less s.lists.ended, sum_by_less f g less s.lists.halted)
@@ -64,8 +60,7 @@ nothing : (s : State) → all_weigh (λ p. 0) s ≡ 0
 nothing s = omega (arith, of_turn s.running, sum_by-zeros s.lists.ready, of_lists s.lists.sleepers, sum_by-zeros s.lists.ended, sum_by-zeros s.lists.halted)
   where
     of_turn : (running : Option Turn) → turn_weighs (λ p. 0) running ≡ 0
-    of_turn None = refl
-    of_turn (Some t) = refl
+    of_turn running = grind (arith, common_steps, turn_weighs)
 
     of_lists : (pss : List (List Process)) → sum_by (sum_by (λ (p : Process). 0)) pss ≡ 0
     of_lists [] = refl
@@ -86,8 +81,7 @@ module _ (script : ScriptOf) (t : State) (way : Paid (opening script) t) where
   once_at_most = snoc_ind (λ (x : List ℕ). all_weigh (has_name x) t + sum_by (has_name x) way.lost ≤ 1) (omega (arith, nameless)) (λ x j before. longer x j before)
     where
       longer : (x : List ℕ) (j : ℕ) → all_weigh (has_name x) t + sum_by (has_name x) way.lost ≤ 1 → all_weigh (has_name (x ++ j ∷ [])) t + sum_by (has_name (x ++ j ∷ [])) way.lost ≤ 1
-      longer [] j before = omega (arith, parents [] j, nameless, first_le 0 (j ∷ []))
-      longer (a ∷ x) j before = omega (arith, parents (a ∷ x) j, first_is_short a j x, before)
+      longer x j before = grind (arith, common_steps, all_weigh, has_name, sum_by, parents, nameless, first_le, first_is_short)
 
 -- ---- the report
 

@@ -1,5 +1,5 @@
 -- What all processes of the list scheduler weigh together, from step to step.
-use Rattle.fak_run.proofs.Common.{◌≡◌, ℕ, zero, suc, ◌+◌, ◌-◌, ◌<◌, ◌≤◌, nat_lt, Bool, true, false, List, [], ◌∷◌, ◌++◌, length, refl, ap, sym, ◌∙◌, arith, inl, inr, Option, Some, None, ◌==◌, ◌||◌, slice_set, slice_index, slice_index_or, sum_by, get_or_past, set_past, ScriptOf, StepOf, say, yield, down, up, open_file, close_file, stat, spawn, shutdown, NoteOf, said, yielded, downed, upped, opened, closed, statted, spawned, no_birth, no_slot, shut_down, Process, after_note, births_of, child_count, open_change, close_change, uses_of, Turn, Lists, State, next_step, enter_by, enter_ready, go_on, turn_over, down_by, up_by, child_of, spawn_by, make, end_process, go_or_make, turn_by, take_front, step_by, steps}
+use Rattle.fak_run.proofs.Common.{◌≡◌, ℕ, zero, suc, ◌+◌, ◌<◌, ◌≤◌, nat_lt, Bool, true, false, List, [], ◌∷◌, ◌++◌, length, refl, ap, sym, ◌∙◌, arith, inl, inr, Option, Some, None, slice_set, slice_index, slice_index_or, sum_by, get_or_past, set_past, ScriptOf, StepOf, NoteOf, said, yielded, downed, upped, opened, closed, statted, spawned, no_birth, no_slot, shut_down, Process, after_note, births_of, child_count, open_change, close_change, uses_of, Turn, Lists, State, next_step, enter_by, enter_ready, go_on, turn_over, down_by, up_by, child_of, spawn_by, make, end_process, go_or_make, turn_by, take_front, step_by, steps, common_steps}
 use Rattle.std.proofs.lemmas.Bool.{cases_lt}
 use Rattle.std.proofs.lemmas.List.Sums.{sum_by-append, sum_by-cons, sum_by_push, sum_by-set}
 
@@ -38,8 +38,7 @@ moved s t same = record { lost = []; balance = λ f g pays. omega (arith, same f
 -- ---- a process enters a list
 
 enters : (f : Process → ℕ) (s : Lists) (p : Process) (is_shut : Bool) → lists_weigh f (enter_by s p is_shut) ≡ lists_weigh f s + f p
-enters f s p false = omega (arith, sum_by_push f s.ready p)
-enters f s p true = omega (arith, sum_by_push f s.halted p)
+enters f s p is_shut = grind (arith, common_steps, enter_by, sum_by_push)
 
 -- ---- the turn goes on
 
@@ -66,8 +65,7 @@ sleeps s t n = elim (cases_lt n (length s.sleepers)) [
 ]
 
 downs : (s : Lists) (t : Turn) (n : ℕ) (passes : Bool) → Paid (record { running = Some t; lists = s }) (down_by s t n passes)
-downs s t n true = noted s (record s { counts = slice_set s.counts n (slice_index s.counts n - 1) }) t (downed n) false refl (λ f. refl)
-downs s t n false = sleeps s t n
+downs s t n passes = grind (arith, common_steps, down_by, noted, slice_set, slice_index, downed, sleeps)
 
 wakes : (s : Lists) (t : Turn) (n : ℕ) (first : Process) (others : List Process) → slice_index_or s.sleepers n [] ≡ first ∷ others → Paid (record { running = Some t; lists = s }) (up_by s t n (first ∷ others))
 wakes s t n first others waits = record {
@@ -88,8 +86,7 @@ wakes s t n first others waits = record {
   taken w = omega (arith, sum_by-set (sum_by w) s.sleepers n others [] below, ap (sum_by w) waits, sum_by-cons w first others)
 
 ups : (s : Lists) (t : Turn) (n : ℕ) (waiting : List Process) → slice_index_or s.sleepers n [] ≡ waiting → Paid (record { running = Some t; lists = s }) (up_by s t n waiting)
-ups s t n [] waits = noted s (record s { counts = slice_set s.counts n (slice_index s.counts n + 1) }) t (upped n) false refl (λ f. refl)
-ups s t n (first ∷ others) waits = wakes s t n first others waits
+ups s t n waiting waits = grind (arith, common_steps, slice_index_or, up_by, noted, slice_set, slice_index, upped, wakes)
 
 -- ---- births
 
@@ -104,38 +101,24 @@ born s t program slot free = record {
 }
 
 spawns : (s : Lists) (t : Turn) (program : ℕ) (may : Bool) (free : List ℕ) → Paid (record { running = Some t; lists = s }) (spawn_by s t program may free)
-spawns s t program false free = noted s s t no_birth false refl (λ f. refl)
-spawns s t program true [] = noted s s t no_slot false refl (λ f. refl)
-spawns s t program true (slot ∷ free) = born s t program slot free
+spawns s t program may free = grind (arith, common_steps, spawn_by, noted, no_birth, no_slot, born)
 
 -- ---- steps
 
 makes : (script : ScriptOf) (s : Lists) (t : Turn) (next : StepOf) → Paid (record { running = Some t; lists = s }) (make script s t next)
-makes script s t (say text) = noted s s t (said text) false refl (λ f. refl)
-makes script s t yield = noted s s t yielded true refl (λ f. refl)
-makes script s t (down n) = downs s t n (nat_lt 0 (slice_index s.counts n))
-makes script s t (up n) = ups s t n (slice_index_or s.sleepers n []) refl
-makes script s t (open_file inode) = noted s (record s { entries = (open_change s.entries inode).entries }) t (opened inode (open_change s.entries inode).entry) false refl (λ f. refl)
-makes script s t (close_file inode) = noted s (record s { entries = (close_change s.entries inode).entries }) t (closed inode (close_change s.entries inode).entry) false refl (λ f. refl)
-makes script s t (stat inode) = noted s s t (statted inode (uses_of s.entries inode)) false refl (λ f. refl)
-makes script s t (spawn program) = spawns s t program (nat_lt s.births script.births) s.free_slots
-makes script s t shutdown = noted s (record s { is_shut = true }) t shut_down false refl (λ f. refl)
+makes script s t next = grind (arith, common_steps, make, noted, said, yielded, downs, nat_lt, slice_index, ups, slice_index_or, open_change, opened, close_change, closed, statted, uses_of, spawns, shut_down)
 
 goes_or_makes : (script : ScriptOf) (s : Lists) (t : Turn) (next : StepOf) (is_over : Bool) → Paid (record { running = Some t; lists = s }) (go_or_make script s t next is_over)
-goes_or_makes script s t next true = moved (record { running = Some t; lists = s }) (turn_over (enter_ready s t.process)) (λ f. omega (arith, enters f s t.process s.is_shut))
-goes_or_makes script s t next false = makes script s t next
+goes_or_makes script s t next is_over = grind (arith, common_steps, go_or_make, moved, turn_over, enter_ready, enters, makes)
 
 turns : (script : ScriptOf) (s : Lists) (t : Turn) (next : Option StepOf) → Paid (record { running = Some t; lists = s }) (turn_by script s t next)
-turns script s t None = moved (record { running = Some t; lists = s }) (end_process s t.process) (λ f. omega (arith, sum_by_push f s.ended t.process))
-turns script s t (Some next) = goes_or_makes script s t next (t.has_yielded || (t.made == script.quantum))
+turns script s t next = grind (arith, common_steps, turn_by, moved, end_process, sum_by_push, goes_or_makes)
 
 takes : (s : Lists) (ready : List Process) → s.ready ≡ ready → Paid (turn_over s) (take_front s ready)
-takes s [] is = moved (turn_over s) (turn_over s) (λ f. refl)
-takes s (first ∷ others) is = moved (turn_over s) (take_front s (first ∷ others)) (λ f. omega (arith, ap (sum_by f) is, sum_by-cons f first others))
+takes s ready is = grind (arith, common_steps, turn_over, take_front, moved, sum_by, sum_by-cons)
 
 paid_by : (script : ScriptOf) (s : Lists) (running : Option Turn) → Paid (record { running = running; lists = s }) (step_by script s running)
-paid_by script s None = takes s s.ready refl
-paid_by script s (Some t) = turns script s t (next_step script t.process)
+paid_by script s running = grind (arith, common_steps, step_by, takes, turns, next_step)
 
 pub paid : (n : ℕ) (script : ScriptOf) (s : State) → Paid s (steps n script s)
 paid zero script s = moved s s (λ f. refl)

@@ -1,14 +1,10 @@
 -- The downs, ups and sleepers of each semaphore.
-use Rattle.fak_model.specs.declared.queue.Kind.{Kind}
-use Rattle.fak_model.specs.declared.queue.Kind.TheVariants.{Got}
-use Rattle.fak_run.proofs.Common.{next_step, Outcome, Ended, Stuck, Halted, Histories, Gathered, asleep, ◌≡◌, ℕ, zero, suc, ◌+◌, ◌<◌, ◌≤◌, ◌==◌, nat_lt, Bool, true, false, cond, min, List, [], ◌∷◌, length, refl, ap, arith, inl, inr, Option, Some, None, slice_index, sum_by, nat_tests, sum_by-append, sum_by-cons, contents, debit_weight, credit_weight, put_of, got_of, same_or_not, ScriptOf, StepOf, down, Process, Ledger, notes, downs_of, ups_of, other_down, not_before, its_down, before_down, waiting, stuck_of, stuck_at, queue_weighs}
+use Rattle.fak_run.proofs.Common.{next_step, Outcome, Stuck, Histories, Gathered, asleep, ◌≡◌, ℕ, zero, suc, ◌+◌, ◌<◌, ◌≤◌, ◌==◌, nat_lt, Bool, true, false, cond, min, List, [], ◌∷◌, length, refl, ap, arith, inl, inr, Option, slice_index, sum_by, nat_tests, sum_by-append, sum_by-cons, contents, debit_weight, credit_weight, put_of, got_of, same_or_not, ScriptOf, StepOf, Process, Ledger, notes, downs_of, ups_of, other_down, not_before, its_down, before_down, waiting, stuck_of, stuck_at, queue_weighs, Kind, common_steps}
 use Rattle.fak_run.proofs.Sums.{sum_by-ones}
 
 -- who stands before a down of t stands before one of s where t is s alone
 one_down : (s t : ℕ) (o : Option StepOf) → other_down t o ≡ 0 → other_down s o ≡ cond (t == s) 0 1
-one_down s t None e = absurd (omega arith)
-one_down s t (Some (down u)) e = grind (arith, nat_tests)
-one_down s t (Some _) e = absurd (omega arith)
+one_down s t o e = grind (arith, common_steps, other_down, nat_tests)
 
 -- whether a sleeper at t is Stuck before a down of s
 stuck_there : (script : ScriptOf) (s t : ℕ) (p : Process) → not_before script t p ≡ 0 → stuck_at script s Stuck p ≡ cond (t == s) 1 0
@@ -32,13 +28,10 @@ stuck_in script s t (p ∷ ps) e =
 
 -- who is got and stands before a down of t
 its_own : (s t : ℕ) (o : Option StepOf) → other_down t o ≡ 0 → its_down s o ≡ cond (t == s) 1 0
-its_own s t None e = absurd (omega arith)
-its_own s t (Some (down u)) e = grind (arith, nat_tests)
-its_own s t (Some _) e = absurd (omega arith)
+its_own s t o e = grind (arith, common_steps, other_down, its_down, nat_tests)
 
 got_there : (script : ScriptOf) (s t : ℕ) (κ : Kind Process) → got_of (not_before script t) κ ≡ 0 → got_of (before_down script s) κ ≡ cond (t == s) (got_of (λ (p : Process). 1) κ) 0
-got_there script s t (Got p) e = its_own s t (next_step script p) e
-got_there script s t _ e = elim (t == s) as (λ b. ◌≡◌ {A = ℕ} 0 (cond b 0 0)) [ true ↦ refl | false ↦ refl ]
+got_there script s t κ e = grind (arith, common_steps, got_of, not_before, before_down, its_own, next_step)
 
 woken_in : (script : ScriptOf) (s t : ℕ) (kinds : List (Kind Process)) → sum_by (got_of (not_before script t)) kinds ≡ 0
     → sum_by (got_of (before_down script s)) kinds ≡ cond (t == s) (sum_by (got_of (λ (p : Process). 1)) kinds) 0
@@ -57,9 +50,7 @@ woken_in script s t (κ ∷ kinds) e =
 
 -- rows that are not Stuck
 pub none_stuck : (script : ScriptOf) (s : ℕ) (outcome : Outcome) (p : Process) → stuck_of outcome ≡ 0 → stuck_at script s outcome p ≡ 0
-none_stuck script s Ended p e = refl
-none_stuck script s Stuck p e = absurd (omega arith)
-none_stuck script s Halted p e = refl
+none_stuck script s outcome p e = grind (arith, common_steps, stuck_of, stuck_at)
 
 module _ {script : ScriptOf} {seats : ℕ} {h : Histories} {l : Ledger} (g : Gathered script seats h l) where
   -- those who sleep in wait queue t stand before a down of t

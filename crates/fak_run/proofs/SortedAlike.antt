@@ -1,8 +1,6 @@
 -- Sorted lists of the same elements, no two with one name, are the same.
-use Rattle.fak_run.proofs.Common.{◌≡◌, ℕ, zero, suc, ◌+◌, ◌<◌, ◌≤◌, Ordering, Less, Equal, Greater, Bool, true, false, cond, List, [], ◌∷◌, length, get_or, refl, ap, sym, ◌∙◌, subst, arith, sum_by, IsSortedByKey, slice_cmp, nil_from_length, sum_by-cons, sorted_far}
+use Rattle.fak_run.proofs.Common.{◌≡◌, ℕ, zero, suc, ◌+◌, ◌<◌, ◌≤◌, Ordering, Equal, Bool, true, false, cond, List, [], ◌∷◌, length, get_or, refl, ap, sym, ◌∙◌, subst, arith, sum_by, IsSortedByKey, slice_cmp, nil_from_length, sum_by-cons, sorted_far, nat_list_cmp_total, ranks_by, common_steps}
 use Rattle.std.specs.Ordering.{nat_cmp, is_lt, ordering_reverse}
-use Rattle.std.proofs.lemmas.Cmp.{nat_list_cmp_total}
-use Rattle.std.proofs.lemmas.List.MinMax.{ranks_by}
 use Rattle.std.proofs.lemmas.Map.Lookups.{exact_bytes}
 use Rattle.fak_run.proofs.Sums.{sum_by-ones}
 use Rattle.fak_run.proofs.Permuting.{found, two_weigh}
@@ -10,11 +8,7 @@ use Rattle.fak_run.proofs.Names.{same_name, same_name_self}
 
 -- neither name is less
 level : (r s : Ordering) → r ≡ ordering_reverse s → is_lt r ≡ false → is_lt s ≡ false → r ≡ Equal
-level Less s is a b = absurd (cc)
-level Equal s is a b = refl
-level Greater Less is a b = absurd (cc)
-level Greater Equal is a b = absurd (cc)
-level Greater Greater is a b = absurd (cc)
+level r s is a b = grind (arith, common_steps, ordering_reverse, is_lt)
 
 tied : (x y : List ℕ) → is_lt (slice_cmp nat_cmp x y) ≡ false → is_lt (slice_cmp nat_cmp y x) ≡ false → x ≡ y
 tied x y a b = exact_bytes x y (level (slice_cmp nat_cmp x y) (slice_cmp nat_cmp y x) (nat_list_cmp_total.antisymm x y) a b)

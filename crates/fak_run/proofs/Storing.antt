@@ -1,8 +1,6 @@
 -- An entry of a copy that was changed is stored: the Sets make the change that the rules give.
-use Rattle.std.proofs.lemmas.Grind.{common_steps}
-use Rattle.fak_run.proofs.Common.{◌≡◌, ℕ, zero, suc, ◌<◌, List, [], ◌∷◌, Some, None, slice_set, length, get_or, refl, ap, sym, arith, Option, map, slice_get, IfSome, FileEntry, Inode, Uses, FileSeatInfo, IsSet, FileChange, free_entry, set_in, set_all}
+use Rattle.fak_run.proofs.Common.{◌≡◌, ℕ, zero, suc, ◌<◌, List, [], ◌∷◌, Some, slice_set, length, get_or, refl, ap, arith, Option, map, slice_get, IfSome, FileEntry, Inode, Uses, FileSeatInfo, IsSet, FileChange, free_entry, set_in, set_all, common_steps, Left, sets_at, sets_of}
 use Rattle.fak_model.specs.File.{set_mark}
-use Rattle.fak_run.specs.Making.{Left, sets_at, sets_of}
 use Rattle.fak_run.proofs.Holding.{left_of, left_then}
 use Rattle.fak_run.proofs.OnlyFiles.{OneChange}
 
@@ -19,8 +17,7 @@ found_below (e ∷ entries) (suc i) low = found_below entries i (omega (arith, l
 
 -- where a copy of the entries was changed so, its Sets leave the entries as the copy is
 stored : (xs ys : List FileEntry) (entry : Option ℕ) → IfSome entry (λ i. i < length ys) → OneChange xs entry ys → set_all xs (sets_of ys entry) ≡ ys
-stored xs ys None low one = sym one
-stored xs ys (Some i) low one = grind (arith, common_steps, get_or, free_entry, slice_get, found_below, set_all, sets_at, set_both)
+stored xs ys entry low one = grind (arith, common_steps, length, set_all, sets_of, get_or, free_entry, slice_get, found_below, sets_at, set_both)
 
 -- so what was read becomes what the change leaves
 pub stores_change : (change_of : List FileEntry → FileChange) (read xs ys : List FileEntry) (entry : Option ℕ) → xs ≡ read → record { entry = entry; entries = ys } ≡ change_of xs

@@ -1,6 +1,5 @@
 -- Sums over lists and over semaphores.
-use Rattle.fak_run.proofs.Common.{◌≡◌, ◌≢◌, ℕ, ◌+◌, ◌<◌, ◌≤◌, List, [], ◌∷◌, length, refl, arith, map, sum_by, All, flat_map, sum_by-cons, sum_by-append, All-head, All-tail, sum_below}
-use Rattle.fak_model.proofs.Leading.{sum_one, sum_none}
+use Rattle.fak_run.proofs.Common.{◌≡◌, ◌≢◌, ℕ, ◌+◌, ◌<◌, ◌≤◌, List, [], ◌∷◌, length, refl, arith, map, sum_by, All, flat_map, sum_by-cons, sum_by-append, All-head, All-tail, sum_below, sum_one, sum_none}
 
 pub sum_by-map : {A B : Type 0} (f : B → ℕ) (g : A → B) (xs : List A) → sum_by f (map g xs) ≡ sum_by (λ x. f (g x)) xs
 sum_by-map f g [] = refl

@@ -1,7 +1,6 @@
 -- Notes and rows whose said texts are left out.
-use Rattle.std.proofs.lemmas.Grind.{common_steps}
 use Rattle.std.specs.List.{list_any, sum_by}
-use Rattle.fak_run.proofs.Common.{ProcessRow, shuts_of, row_of, ◌≡◌, ℕ, zero, suc, ◌+◌, ◌<◌, List, [], ◌∷◌, ◌++◌, length, map, take, get_or, slice_get, Some, refl, ap, sym, ◌∙◌, arith, get_or-map, length-map, sum_by-cons, ScriptOf, StepOf, say, yield, down, up, open_file, close_file, stat, spawn, shutdown, NoteOf, said, yielded, downed, upped, opened, closed, statted, spawned, no_birth, no_slot, shut_down, Allows, RowOf, IsSortedByName, is_stuck, told, told_notes, told_row, told_rows}
+use Rattle.fak_run.proofs.Common.{ProcessRow, shuts_of, row_of, ◌≡◌, ℕ, zero, suc, ◌+◌, ◌<◌, List, [], ◌∷◌, ◌++◌, length, map, take, get_or, slice_get, Some, refl, ap, ◌∙◌, arith, get_or-map, length-map, sum_by-cons, ScriptOf, StepOf, NoteOf, said, Allows, RowOf, IsSortedByName, is_stuck, told, told_notes, told_row, told_rows, common_steps}
 
 -- ---- notes
 
@@ -12,25 +11,7 @@ length-told (s ∷ ss) (n ∷ ns) = ap suc (length-told ss ns)
 
 -- a note that a step allows is that of the step
 pub told-allowed : (files children : ℕ) (step : StepOf) (note : NoteOf) → Allows files children step note → told step note ≡ note
-told-allowed files children (say text) (said t) ok = ap said (sym ok)
-told-allowed files children yield (said t) ok = absurd ok
-told-allowed files children (down s) (said t) ok = absurd ok
-told-allowed files children (up s) (said t) ok = absurd ok
-told-allowed files children (open_file n) (said t) ok = absurd ok
-told-allowed files children (close_file n) (said t) ok = absurd ok
-told-allowed files children (stat n) (said t) ok = absurd ok
-told-allowed files children (spawn p) (said t) ok = absurd ok
-told-allowed files children shutdown (said t) ok = absurd ok
-told-allowed files children step yielded ok = refl
-told-allowed files children step (downed s) ok = refl
-told-allowed files children step (upped s) ok = refl
-told-allowed files children step (opened n entry) ok = refl
-told-allowed files children step (closed n entry) ok = refl
-told-allowed files children step (statted n uses) ok = refl
-told-allowed files children step (spawned j) ok = refl
-told-allowed files children step no_birth ok = refl
-told-allowed files children step no_slot ok = refl
-told-allowed files children step shut_down ok = refl
+told-allowed files children step note ok = grind (arith, common_steps, told, said)
 
 -- one note more
 pub told-push : (steps : List StepOf) (notes : List NoteOf) (step : StepOf) (note : NoteOf) → slice_get steps (length notes) ≡ Some step → told_notes steps (notes ++ note ∷ []) ≡ told_notes steps notes ++ told step note ∷ []
@@ -47,17 +28,7 @@ told-take (suc n) [] (m ∷ ms) = ap (λ (l : List NoteOf). m ∷ l) (told-take 
 told-take (suc n) (s ∷ ss) (m ∷ ms) = ap (λ (l : List NoteOf). told s m ∷ l) (told-take n ss ms)
 
 shuts-told : (step : StepOf) (note : NoteOf) → shuts_of (told step note) ≡ shuts_of note
-shuts-told step (said t) = refl
-shuts-told step yielded = refl
-shuts-told step (downed s) = refl
-shuts-told step (upped s) = refl
-shuts-told step (opened n entry) = refl
-shuts-told step (closed n entry) = refl
-shuts-told step (statted n uses) = refl
-shuts-told step (spawned j) = refl
-shuts-told step no_birth = refl
-shuts-told step no_slot = refl
-shuts-told step shut_down = refl
+shuts-told step note = grind (arith, common_steps, shuts_of, told)
 
 -- texts shut nothing
 pub shuts-told_notes : (steps : List StepOf) (notes : List NoteOf) → sum_by shuts_of (told_notes steps notes) ≡ sum_by shuts_of notes

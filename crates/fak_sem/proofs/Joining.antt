@@ -1,10 +1,6 @@
 -- What joins and closes leave of the invariant of a tally.
-use Rattle.fak_sem.proofs.Common.{◌≡◌, ◌≢◌, ℕ, ◌+◌, ◌<◌, ◌==◌, true, false, List, [], ◌∷◌, ◌++◌, length-drop, refl, ap, sym, ◌∙◌, subst, arith, inl, inr, All, flat_map, append-nil, CreditKind, CreditMark, Mark, in_either, seat_of, weight_from, parks, wakes, of_all, downs_parked_by, ups_waking_by, IsMatched, IsSettled, SemId, SemTallyInfo, seats_of, IsSemSeat, IsSemTally, sem_tally}
+use Rattle.fak_sem.proofs.Common.{◌≡◌, ◌≢◌, ℕ, ◌+◌, ◌<◌, ◌==◌, true, false, List, [], ◌∷◌, ◌++◌, length-drop, refl, ap, sym, ◌∙◌, subst, arith, inl, inr, All, flat_map, append-nil, CreditKind, CreditMark, Mark, in_either, seat_of, weight_from, parks, wakes, of_all, downs_parked_by, ups_waking_by, IsMatched, IsSettled, SemId, SemTallyInfo, seats_of, IsSemSeat, IsSemTally, sem_tally, Kind, sum_none, sum_one, sum_same, granted_is, items_count, common_steps}
 use Rattle.fak_model.proofs.Common.{nat_tests, All-head, All-tail, IsAtRest, seat_words, sum_below, credit_rules, count, puts, gots, items_put, queue_rules, In, IsWhole, Knows, marks_of, ObjectId, SeatInfo, TallyInfo, IsJoined}
-use Rattle.fak_model.specs.declared.queue.Kind.{Kind}
-use Rattle.fak_model.proofs.Leading.{sum_none, sum_one, sum_same}
-use Rattle.fak_model.proofs.CreditLaw.{granted_is}
-use Rattle.fak_model.proofs.QueueBackwards.{items_count}
 use Rattle.fak_sem.proofs.Weights.{weight-known, weights-names, grants-parts, debits-parts}
 
 -- the marks of a name determine that they match
@@ -32,8 +28,7 @@ tally_joined {T} {start} {seat_start} {size} {credit_tally} {credit'} {queue_tal
 }
   where
     his : (name : ℕ) → In name (credit_seat.name ∷ []) → name ≡ credit_seat.name
-    his name (inl e) = e
-    his name (inr none) = absurd none
+    his name f = grind (arith, common_steps)
 
 -- ---- a whole tally
 
@@ -46,8 +41,7 @@ tally_whole {T} queue tally_is fits whole =
 -- what its parts settle, it settles
 pub tally_settled : {T : Type 0} {start : ℕ} {credit : TallyInfo CreditMark} (queue : TallyInfo (Mark T)) {tally : SemTallyInfo T} {object : SemId} → sem_tally start credit queue ≡ tally → tally.object ≡ object
     → IsSettled start credit.seen queue.seen → IsSettled object.start tally.credit_seen tally.queue_seen
-tally_settled {T} queue {tally = tally} tally_is fits is =
-    subst (λ (o : SemId). IsSettled o.start tally.credit_seen tally.queue_seen) fits (subst (λ (t : SemTallyInfo T). IsSettled t.object.start t.credit_seen t.queue_seen) tally_is is)
+tally_settled {T} queue {tally = tally} tally_is fits is = grind (arith, common_steps)
 
 -- all names' marks are all marks
 count-names : {T : Type 0} (w : Kind T → ℕ) (seats : ℕ) (h : List (Mark T)) → All (λ (m : Mark T). m.seat < seats) h → sum_below (λ name. count w (marks_of seat_of name h)) seats ≡ count w h

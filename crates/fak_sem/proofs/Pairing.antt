@@ -1,6 +1,5 @@
 -- The seats of a semaphore as they are opened.
-use Rattle.std.proofs.lemmas.Grind.{common_steps}
-use Rattle.fak_sem.proofs.Common.{◌≡◌, ℕ, zero, suc, ◌+◌, [], ◌∷◌, ◌++◌, ap, ◌∙◌, arith, CreditMark, Mark, ObjectId, SeatInfo, seat_info, SemId, SemSeatInfo, IsSemSeat, sem_seat, fresh_sem_seats}
+use Rattle.fak_sem.proofs.Common.{◌≡◌, ℕ, zero, suc, ◌+◌, [], ◌∷◌, ◌++◌, ap, ◌∙◌, arith, CreditMark, Mark, ObjectId, SeatInfo, seat_info, SemId, SemSeatInfo, IsSemSeat, sem_seat, fresh_sem_seats, common_steps}
 
 pub fresh_sem_seat : {T : Type 0} (start : ℕ) {credit_id queue_id : ObjectId} {name stint : ℕ} {credit : SeatInfo CreditMark} {queue : SeatInfo (Mark T)} → queue_id.seats ≡ credit_id.seats
     → credit ≡ seat_info credit_id name stint [] → queue ≡ seat_info queue_id name stint [] → IsSemSeat start credit queue

@@ -1,13 +1,6 @@
 -- What downs and ups leave of the invariant of a seat.
-use Rattle.std.proofs.lemmas.Grind.{common_steps}
-use Rattle.fak_sem.proofs.Common.{◌≡◌, ℕ, ◌+◌, ◌<◌, true, false, List, [], refl, ap, sym, ◌∙◌, subst, arith, ℤ, pos, int_lt, Option, CreditKind, CreditMark, Mark, QueueInfo, Makes, made_by, seat_of, drawn_by, state_of, kinds_not_in, kinds_not_out, kinds_in, kinds_out, InsertsAtLast, DeletesAtLast, weight_from, of_name, passes, parks, wakes, SemId, SemInfo, SemSeatInfo, IsSemSeat, sem_seat, sem_info, one_if_some, one_if_none, CountsDown, CountsUp}
-use Rattle.fak_model.specs.declared.credit.CreditKind.TheVariants.{Debit, Credit}
-use Rattle.fak_model.specs.declared.queue.Kind.{Kind}
+use Rattle.fak_sem.proofs.Common.{◌≡◌, ℕ, ◌+◌, ◌<◌, true, false, List, [], refl, ap, sym, ◌∙◌, subst, arith, ℤ, pos, int_lt, Option, CreditKind, CreditMark, Mark, QueueInfo, Makes, made_by, seat_of, drawn_by, state_of, kinds_not_in, kinds_not_out, kinds_in, kinds_out, InsertsAtLast, DeletesAtLast, weight_from, of_name, passes, parks, wakes, SemId, SemInfo, SemSeatInfo, IsSemSeat, sem_seat, sem_info, one_if_some, one_if_none, CountsDown, CountsUp, common_steps, Debit, Credit, Kind, count_append, CreditInfo, MakesCall, Idle, none_in, none_out, count_at_last}
 use Rattle.fak_model.proofs.Common.{count, puts, gots, marks_of, SeatInfo}
-use Rattle.fak_model.proofs.QueueBackwards.{count_append}
-use Rattle.fak_count.specs.Credits.{CreditInfo, MakesCall}
-use Rattle.fak_queue.specs.declared.state.SeatState.TheVariants.{Idle}
-use Rattle.fak_queue.proofs.Weighing.{none_in, none_out, count_at_last}
 use Rattle.fak_sem.proofs.Weights.{weight-call, weights-calls}
 
 -- ---- a seat and its semaphore

@@ -1,22 +1,12 @@
 -- Calls of the wait queue that are made by steps: what steps have made so far, and how they make whole calls.
-use Rattle.std.proofs.lemmas.Grind.{common_steps}
-use Rattle.std.proofs.Common.{arith}
-use Rattle.fak_sem.proofs.Common.{◌≡◌, ℕ, List, [], ◌∷◌, ◌++◌, refl, ap, sym, ◌∙◌, subst, append_assoc, append-nil, flat_map, Mark, SeatInfo, seat_info, seat_of, Makes, made_by, state_of, kinds_not_in, kinds_not_out, InsertsAtLast, DeletesAtLast}
-use Rattle.std.proofs.Common.{Some}
+use Rattle.fak_sem.proofs.Common.{◌≡◌, ℕ, List, [], ◌∷◌, ◌++◌, refl, ap, sym, ◌∙◌, subst, append_assoc, append-nil, flat_map, Mark, SeatInfo, seat_info, seat_of, Makes, made_by, state_of, kinds_not_in, kinds_not_out, InsertsAtLast, DeletesAtLast, common_steps, arith, Some, mine_of, last_of, Kind, made_by_append, flat_map_push, Fills, WaitsToFill, Takes, WaitsToTake, MakesAtLast, Standing, ClaimsRoom, ClaimsItem, HasMade, HasMadeAtLast, ParkedSoFar, WokenSoFar}
 use Rattle.std.proofs.lemmas.List.Concat.{flat_map-append}
-use Rattle.fak_model.specs.Calls.{mine_of, last_of}
-use Rattle.fak_model.specs.declared.queue.Kind.{Kind}
 use Rattle.fak_model.specs.declared.queue.Kind.TheVariants as made
 use Rattle.fak_model.specs.Queue.{items_put, item_in, item_at}
 use Rattle.fak_model.specs.Seats.{Begins}
-use Rattle.fak_queue.proofs.AfterRefusals.{made_by_append, flat_map_push}
 use Rattle.fak_queue.proofs.WholeCalls.{item_at-front}
 use Rattle.fak_queue.specs.declared.state.SeatState.TheVariants as state
-use Rattle.fak_queue.specs.Queues.{Fills, WaitsToFill, Takes, WaitsToTake}
-use Rattle.fak_queue.specs.Retries.{MakesAtLast}
-use Rattle.fak_sem.specs.declared.standing.Standing.{Standing}
 use Rattle.fak_sem.specs.declared.standing.Standing.TheVariants.{Idle, Parking, Inserting, Waking, Deleting}
-use Rattle.fak_sem.specs.Steps.{ClaimsRoom, ClaimsItem, HasMade, HasMadeAtLast, ParkedSoFar, WokenSoFar}
 
 -- ---- parts of a call, one after another
 
@@ -64,9 +54,7 @@ module _ {T : Type 0} {size : ℕ} where
         record { refused = h.refused; made = subst (λ (l : List (Kind T)). HasMade size l old new) same (made_more (flat_map kinds_of h.refused ++ ks) [] h.made m) }
 
     whole : (ks : List (Kind T)) (κ : Kind T) (ls : List (Kind T)) {old mid new : SeatInfo (Mark T)} → HasMadeAtLast kinds_of size ks old mid → Makes size (κ ∷ ls) mid new → MakesAtLast kinds_of size (ks ++ κ ∷ ls) old new
-    whole ks κ ls {old} {mid} {new} h m =
-        let same : (flat_map kinds_of h.refused ++ ks) ++ κ ∷ ls ≡ flat_map kinds_of h.refused ++ (ks ++ κ ∷ ls) = append_assoc (flat_map kinds_of h.refused) ks (κ ∷ ls) in
-        record { refused = h.refused; makes = subst (λ (l : List (Kind T)). Makes size l old new) same (made_last (flat_map kinds_of h.refused ++ ks) κ ls h.made m) }
+    whole ks κ ls {old} {mid} {new} h m = grind (arith, common_steps, flat_map, append_assoc, made_last)
 
 -- ---- insertions
 

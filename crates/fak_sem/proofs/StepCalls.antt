@@ -1,22 +1,10 @@
 -- What the steps of downs and ups leave of the invariant of a seat, and what they promise.
-use Rattle.std.proofs.lemmas.Grind.{common_steps}
-use Rattle.fak_sem.proofs.Common.{◌≡◌, ℕ, ◌+◌, ◌<◌, List, [], ◌∷◌, length, refl, ap, sym, ◌∙◌, subst, arith, ℤ, pos, CreditKind, CreditMark, Mark, SeatInfo, seat_info, QueueInfo, Makes, made_by, seat_of, drawn_by, state_of, kinds_not_in, kinds_not_out, weight_from, of_name, passes, parks, wakes, SemId, SemInfo, SemSeatInfo, sem_seat, sem_info, InsertsAtLast, DeletesAtLast}
-use Rattle.std.proofs.Common.{length-append, Some, None, Bool, ◌<ℤ◌}
-use Rattle.fak_model.specs.Calls.{mine_of}
-use Rattle.fak_model.specs.declared.credit.CreditKind.TheVariants.{Debit, Credit}
-use Rattle.fak_model.specs.declared.queue.Kind.{Kind}
+use Rattle.fak_sem.proofs.Common.{◌≡◌, ℕ, ◌+◌, ◌<◌, List, [], ◌∷◌, length, refl, ap, sym, ◌∙◌, subst, arith, ℤ, pos, CreditKind, CreditMark, Mark, SeatInfo, seat_info, QueueInfo, Makes, made_by, seat_of, drawn_by, state_of, kinds_not_in, kinds_not_out, weight_from, of_name, passes, parks, wakes, SemId, SemInfo, SemSeatInfo, sem_seat, sem_info, InsertsAtLast, DeletesAtLast, common_steps, length-append, Some, None, Bool, ◌<ℤ◌, mine_of, Debit, Credit, Kind, count, puts, gots, marks_of, count_append, Fills, WaitsToFill, Takes, WaitsToTake, none_in, none_out, Standing, queue_part, Downs, Ups, StepSeatInfo, step_seat, IsStepSeat, ClaimsRoom, ClaimsItem, ParkedSoFar, WokenSoFar, ParksSince, WakesSince, CountsAsBegun, one_if}
 use Rattle.fak_model.specs.declared.queue.Kind.TheVariants as made
-use Rattle.fak_model.proofs.Common.{count, puts, gots, marks_of}
-use Rattle.fak_model.proofs.QueueBackwards.{count_append}
 use Rattle.fak_count.specs.Credits.{CreditInfo, MakesCall, calls_made, seat_of as credit_name}
 use Rattle.fak_queue.specs.declared.state.SeatState.TheVariants as state
-use Rattle.fak_queue.specs.Queues.{Fills, WaitsToFill, Takes, WaitsToTake}
-use Rattle.fak_queue.proofs.Weighing.{none_in, none_out}
-use Rattle.fak_sem.specs.declared.standing.Standing.{Standing}
 use Rattle.fak_sem.specs.declared.standing.Standing.TheVariants.{Idle, Parking, Inserting, Waking, Deleting}
-use Rattle.fak_sem.specs.Semaphores.{queue_part, Downs, Ups}
 use Rattle.fak_sem.specs.Standings.{StandsWith, unput, ungot}
-use Rattle.fak_sem.specs.Steps.{StepSeatInfo, step_seat, IsStepSeat, ClaimsRoom, ClaimsItem, ParkedSoFar, WokenSoFar, ParksSince, WakesSince, CountsAsBegun, one_if}
 use Rattle.fak_sem.proofs.SoFar.{parked_first, parked_claim, parked_looks, parked_whole, woken_first, woken_claim, woken_looks, woken_whole}
 use Rattle.fak_sem.proofs.Weights.{weight-call, weights-calls}
 

@@ -1,11 +1,8 @@
 -- What the marks of a credit's history weigh, as it grows, by names, and together.
-use Rattle.fak_sem.proofs.Common.{◌≡◌, ◌≢◌, ℕ, ◌+◌, ◌<◌, ◌≤◌, ◌==◌, Bool, true, false, cond, List, [], ◌∷◌, ◌++◌, length, refl, ap, sym, ◌∙◌, arith, append_assoc, map, ℤ, pos, int_lt, All, append-nil, CreditKind, CreditMark, marks_of_append, between_foreign, weight_from, passes, parks, wakes, of_all, of_name}
+use Rattle.fak_sem.proofs.Common.{◌≡◌, ◌≢◌, ℕ, ◌+◌, ◌<◌, ◌≤◌, ◌==◌, Bool, true, false, cond, List, [], ◌∷◌, ◌++◌, length, refl, ap, sym, ◌∙◌, arith, append_assoc, map, ℤ, pos, int_lt, All, append-nil, CreditKind, CreditMark, marks_of_append, between_foreign, weight_from, passes, parks, wakes, of_all, of_name, Debit, Credit, sum_none, sum_one, CreditInfo, MakesCall, calls_made, common_steps}
 use Rattle.fak_model.proofs.Common.{nat_tests, All-head, All-tail, sum_by-cons, sum_below, marks_of, Knows, In, SeatInfo, before_mark}
-use Rattle.fak_model.specs.declared.credit.CreditKind.TheVariants.{Debit, Credit}
 use Rattle.fak_model.specs.Credit.{debit_weight, kind_of, debits, value, grants, grants_made_from}
-use Rattle.fak_model.proofs.Leading.{sum_none, sum_one}
 use Rattle.fak_model.proofs.RunningCalls.{before_mark-append}
-use Rattle.fak_count.specs.Credits.{CreditInfo, MakesCall, calls_made}
 
 pub weight_from-append : (weight : CreditMark → ℤ → ℕ) (start : ℕ) (before f g : List CreditMark) → weight_from weight start before (f ++ g) ≡ weight_from weight start before f + weight_from weight start (before ++ f) g
 weight_from-append weight start before [] g = ap (λ (h : List CreditMark). weight_from weight start h g) (sym (append-nil before)) ∙ omega arith
@@ -54,17 +51,7 @@ module _ (name : ℕ) (weight : CreditKind → ℤ → ℕ) (start : ℕ) where
             his = ap (λ (x : CreditMark). x.seat) (sym is) ∙ his;
             weighs = w ∙ (λ i. weight (is i).kind (value start (sym (append-nil before) i)));
           }
-      by false t e rest =
-          let r = rest (rw t at e) in
-          record {
-            earlier = m ∷ r.earlier;
-            later = r.later;
-            is = ap (λ l. m ∷ l) r.is;
-            foreign = rw t r.foreign;
-            his = r.his;
-            weighs =
-                (let w = r.weighs in let at = ap (λ (l : List CreditMark). weight own.kind (value start l)) (append_assoc before (m ∷ []) r.earlier) in rw t (omega (arith, w, at)));
-          }
+      by false t e rest = grind (arith, common_steps, value, append_assoc)
 
   -- what a name's marks weigh is determined by its marks
   pub weight-known : (names : List ℕ) (seen h : List CreditMark) → Knows (λ (m : CreditMark). m.seat) names seen h → In name names → weight_from (of_name name weight) start [] h ≡ weight_from (of_name name weight) start [] seen
@@ -106,8 +93,7 @@ weights-calls name start before [] = omega arith
 weights-calls name start before (m ∷ h) = by (m.seat == name) refl (weights-calls name start (before ++ m ∷ []) h)
   where
     at_most : (kind : CreditKind) (found : ℤ) → parks kind found + wakes kind found ≤ 1
-    at_most Debit found = elim (int_lt (pos 0) found) as (λ b. cond b 0 1 + 0 ≤ 1) [ true ↦ omega arith | false ↦ omega arith ]
-    at_most Credit found = elim (int_lt found (pos 0)) as (λ b. 0 + cond b 1 0 ≤ 1) [ true ↦ omega arith | false ↦ omega arith ]
+    at_most kind found = grind (arith, common_steps, parks, wakes, int_lt)
 
     by : (b : Bool) → (m.seat == name) ≡ b
         → weight_from (of_name name parks) start (before ++ m ∷ []) h + weight_from (of_name name wakes) start (before ++ m ∷ []) h ≤ length (marks_of (λ (x : CreditMark). x.seat) name h)

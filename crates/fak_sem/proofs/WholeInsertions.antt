@@ -1,7 +1,5 @@
 -- Insertions that are tried again where the queue is shut too.
-use Rattle.fak_sem.proofs.Common.{◌≡◌, ◌<◌, ℕ, List, ◌∙◌, All, Mark, ObjectId, SeatInfo, drawn_by, state_of, RefusedInsertion, kinds_not_in, InsertsAfterFull, ClosesAfterFull, InsertsAtLast}
-use Rattle.fak_queue.specs.declared.state.SeatState.TheVariants.{Idle}
-use Rattle.fak_queue.proofs.AfterRefusals.{IsRetrying, leads, leads_in, left_so_far, refused_again, at_last}
+use Rattle.fak_sem.proofs.Common.{◌≡◌, ◌<◌, ℕ, List, ◌∙◌, All, Mark, ObjectId, SeatInfo, drawn_by, state_of, RefusedInsertion, kinds_not_in, InsertsAfterFull, ClosesAfterFull, InsertsAtLast, Idle, IsRetrying, leads, leads_in, left_so_far, refused_again, at_last}
 
 abbrev pub Any : RefusedInsertion → Type 0
 Any r = Unit {0}

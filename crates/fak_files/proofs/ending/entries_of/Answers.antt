@@ -1,5 +1,4 @@
-use Rattle.fak_files.proofs.Common.{rules, entry_in}
-use Rattle.std.specs.Slots.{slots_items}
+use Rattle.fak_files.proofs.Common.{rules, entry_in, slots_items}
 use Rattle.fak_files.proofs.Closing.{read_more, entry_read}
 use Rattle.fak_files.proofs.ending.entries_of.Goals as goal
 

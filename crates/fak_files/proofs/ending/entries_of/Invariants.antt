@@ -1,5 +1,4 @@
-use Rattle.fak_files.proofs.Common.{◌≡◌, ℕ, ◌<◌, length, slice_get, Some, entry_in}
-use Rattle.std.specs.Slots.{slots_items}
+use Rattle.fak_files.proofs.Common.{◌≡◌, ℕ, ◌<◌, length, slice_get, Some, entry_in, slots_items}
 use Rattle.fak_files.proofs.ending.entries_of.Given as goal
 
 -- the entries below this one were read

@@ -1,4 +1,4 @@
-use Rattle.std.proofs.Common.{arith}
+use Rattle.fak_files.proofs.Common.{arith}
 use Rattle.fak_files.proofs.StepKinds.{gives_allowed}
 use Rattle.fak_files.proofs.steps.give.Goals as goal
 

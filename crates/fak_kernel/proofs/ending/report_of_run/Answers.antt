@@ -1,9 +1,7 @@
-use Rattle.std.proofs.Common.{length, ap, sym, arith}
+use Rattle.fak_kernel.proofs.Common.{length, ap, sym, arith, told_report, length-told_rows}
 use Rattle.fak_text.specs.Script.{ScriptOf}
-use Rattle.fak_run.specs.Told.{told_report}
 use Rattle.fak_kernel.proofs.Reporting.{whole_each, whole_names, started_have_rows, run_reports_with}
 use Rattle.fak_kernel.proofs.ReportingAlone.{alone_reports}
-use Rattle.fak_run.proofs.Told.{length-told_rows}
 use Rattle.fak_kernel.proofs.ending.report_of_run.Goals as goal
 
 pub close-requires-clause-semaphores : goal.close-requires-clause-semaphores

@@ -1,4 +1,4 @@
-use Rattle.std.proofs.Common.{refl}
+use Rattle.fak_model.proofs.Common.{refl}
 use Rattle.fak_model.proofs.cell.cell_of.Goals as goal
 
 pub returns : goal.returns

@@ -1,4 +1,4 @@
-use Rattle.std.proofs.Common.{rules}
+use Rattle.fak_queue.proofs.Common.{rules}
 use Rattle.fak_queue.proofs.Openings.{opens_queue}
 use Rattle.fak_queue.proofs.opening.empty_table.Goals as goal
 

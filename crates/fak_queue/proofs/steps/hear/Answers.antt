@@ -1,4 +1,4 @@
-use Rattle.std.proofs.Common.{arith}
+use Rattle.fak_queue.proofs.Common.{arith}
 use Rattle.fak_queue.proofs.Allowed.{hears_allowed}
 use Rattle.fak_queue.proofs.steps.hear.Goals as goal
 

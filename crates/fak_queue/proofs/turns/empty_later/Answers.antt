@@ -1,4 +1,4 @@
-use Rattle.std.proofs.Common.{◌∙◌}
+use Rattle.fak_queue.proofs.Common.{◌∙◌}
 use Rattle.fak_queue.proofs.Looking.{still_named, still_free, still_at, waits_out, found_names_out, found_phase_out, found_slot_out, taken_at_last}
 use Rattle.fak_queue.proofs.turns.empty_later.Goals as goal
 

@@ -1,4 +1,4 @@
-use Rattle.std.proofs.Common.{◌∙◌}
+use Rattle.fak_queue.proofs.Common.{◌∙◌}
 use Rattle.fak_queue.proofs.Looking.{still_named, still_free, still_at, waits_in, found_names_in, found_phase_in, found_slot_in, filled_at_last}
 use Rattle.fak_queue.proofs.turns.fill_later.Goals as goal
 

@@ -1,4 +1,4 @@
-use Rattle.std.proofs.Common.{refl}
+use Rattle.fak_queue.proofs.Common.{refl}
 use Rattle.fak_queue.proofs.Turning.{looks_in}
 use Rattle.fak_queue.proofs.turns.finds_room.Goals as goal
 

@@ -1,7 +1,5 @@
 use Rattle.std.specs.Cmp.Lexicographic.{slice_cmp}
-use Rattle.std.proofs.lemmas.List.MinMax.{ranks_by}
-use Rattle.std.proofs.lemmas.Cmp.{nat_list_cmp_total}
-use Rattle.fak_run.proofs.Common.{row_of, ProcessRow, rules, is_lt, nat_cmp, IsPermutation-map, answers_always}
+use Rattle.fak_run.proofs.Common.{row_of, ProcessRow, rules, is_lt, nat_cmp, IsPermutation-map, answers_always, ranks_by, nat_list_cmp_total}
 use Rattle.fak_run.proofs.RowLemmas.{IsSortedByName-map}
 use Rattle.fak_run.proofs.rows.sort_rows.Goals as goal
 

@@ -1,5 +1,4 @@
-use Rattle.fak_run.proofs.Common.{◌≡◌, ◌++◌, map, into_iter_items, told_notes}
-use Rattle.std.specs.Slice.Iter.{iter_rest}
+use Rattle.fak_run.proofs.Common.{◌≡◌, ◌++◌, map, into_iter_items, told_notes, iter_rest}
 use Rattle.fak_text.specs.Views.{note_of, steps_view}
 use Rattle.fak_run.proofs.telling.told_all.Given as goal
 

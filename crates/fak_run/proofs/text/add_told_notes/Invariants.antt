@@ -1,5 +1,4 @@
-use Rattle.fak_run.proofs.Common.{string_bytes, ◌≡◌, ◌++◌, map, drop, text_of_journal, note_of, steps_view, told_notes}
-use Rattle.std.specs.Slice.Iter.{iter_rest}
+use Rattle.fak_run.proofs.Common.{string_bytes, ◌≡◌, ◌++◌, map, drop, text_of_journal, note_of, steps_view, told_notes, iter_rest}
 use Rattle.fak_run.proofs.text.add_told_notes.Given as goal
 
 -- what is written, and what is still to be

@@ -1,5 +1,4 @@
-use Rattle.std.proofs.Common.{◌∙◌, ap, sym, map, if◌then◌else◌}
-use Rattle.fak_run.specs.Views.{row_of}
+use Rattle.fak_run.proofs.Common.{◌∙◌, ap, sym, map, if◌then◌else◌, row_of}
 use Rattle.fak_run.proofs.Told.{any_stuck-told}
 use Rattle.fak_run.proofs.text.print_brief.Goals as goal
 

@@ -1,4 +1,4 @@
-use Rattle.std.proofs.Common.{◌≡◌}
+use Rattle.fak_sem.proofs.Common.{◌≡◌}
 use Rattle.fak_sem.proofs.WholeInsertions.{MayRetry}
 use Rattle.fak_sem.proofs.retries.insert_at_last.Given as goal
 

@@ -1,7 +1,6 @@
 use Rattle.std.proofs.lemmas.List.Elements.{All-cons, All-nil}
-use Rattle.fak_core.specs.QueueProgress.{seat_of}
 use Rattle.fak_core.specs.QueueSchedule.{QueueEvent, Advances, Deletes}
-use Rattle.fak_core.proofs.Common.{All-head, All-tail, same_or_not, ◌≡◌, ℕ, ◌<◌, [], ◌∷◌, ap, sym, inl, inr, arith}
+use Rattle.fak_core.proofs.Common.{All-head, All-tail, same_or_not, ◌≡◌, ℕ, ◌<◌, [], ◌∷◌, ap, sym, inl, inr, arith, seat_of}
 use Rattle.fak_core.proofs.laws.examples.the_rounds_of_a_queue_are_judged.Goals as goal
 
 abbrev Early : ℕ → QueueEvent ℕ → Type 0

@@ -1,6 +1,4 @@
-use Rattle.std.proofs.lemmas.Grind.{common_steps}
-use Rattle.std.proofs.Common.{arith}
-use Rattle.fak_core.specs.QueueSchedule.{reached}
+use Rattle.fak_core.proofs.Common.{common_steps, arith, reached}
 use Rattle.fak_core.proofs.QueueReached.{kept_reached}
 use Rattle.fak_core.proofs.QueueProgress.{unblocked_falls, moves_unblocked, step_counted}
 use Rattle.fak_core.proofs.QueueEvents.{none_left, steps_few}

@@ -1,6 +1,4 @@
-use Rattle.std.proofs.lemmas.Grind.{common_steps}
-use Rattle.std.proofs.Common.{arith}
-use Rattle.fak_core.specs.QueueSchedule.{reached}
+use Rattle.fak_core.proofs.Common.{common_steps, arith, reached}
 use Rattle.fak_core.proofs.QueueReached.{kept_reached}
 use Rattle.fak_core.proofs.QueueRounds.{comes_to_rest, round_robin_rests}
 use Rattle.fak_core.proofs.laws.progress.a_queue_comes_to_rest.Goals as goal

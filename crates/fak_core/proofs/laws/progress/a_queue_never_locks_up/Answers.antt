@@ -1,4 +1,4 @@
-use Rattle.fak_core.specs.QueueSchedule.{reached}
+use Rattle.fak_core.proofs.Common.{reached}
 use Rattle.fak_core.proofs.QueueReached.{kept_reached}
 use Rattle.fak_core.proofs.QueueProgress.{someone_unblocked, unblocked_at, unblocked_moves, ticketless_unblocked}
 use Rattle.fak_core.proofs.laws.progress.a_queue_never_locks_up.Goals as goal

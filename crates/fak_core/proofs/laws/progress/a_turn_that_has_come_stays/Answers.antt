@@ -1,4 +1,4 @@
-use Rattle.fak_core.specs.QueueSchedule.{reached}
+use Rattle.fak_core.proofs.Common.{reached}
 use Rattle.fak_core.proofs.QueueReached.{kept_reached}
 use Rattle.fak_core.specs.QueueSchedule.{Advances, stepped}
 use Rattle.fak_core.proofs.QueueSteps.{kept_event}

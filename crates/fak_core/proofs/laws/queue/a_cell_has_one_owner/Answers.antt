@@ -1,4 +1,4 @@
-use Rattle.fak_core.specs.QueueSchedule.{reached}
+use Rattle.fak_core.proofs.Common.{reached}
 use Rattle.fak_core.proofs.QueueOwners.{alone}
 use Rattle.fak_core.proofs.QueueReached.{kept_reached}
 use Rattle.fak_core.proofs.laws.queue.a_cell_has_one_owner.Goals as goal

@@ -1,4 +1,4 @@
-use Rattle.fak_core.specs.QueueSchedule.{reached}
+use Rattle.fak_core.proofs.Common.{reached}
 use Rattle.fak_core.proofs.QueueLoads.{loads_own}
 use Rattle.fak_core.proofs.QueueReached.{kept_reached}
 use Rattle.fak_core.proofs.laws.queue.a_deletion_loads_the_item_of_its_ticket.Goals as goal

@@ -1,4 +1,4 @@
-use Rattle.fak_core.specs.QueueSchedule.{reached}
+use Rattle.fak_core.proofs.Common.{reached}
 use Rattle.fak_core.proofs.QueueReached.{kept_reached}
 use Rattle.fak_core.proofs.QueueLoads.{draws_item}
 use Rattle.fak_core.proofs.laws.queue.a_granted_deletion_draws_an_item.Goals as goal

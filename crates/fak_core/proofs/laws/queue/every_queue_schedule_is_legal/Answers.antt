@@ -1,4 +1,4 @@
-use Rattle.fak_core.specs.QueueSchedule.{reached}
+use Rattle.fak_core.proofs.Common.{reached}
 use Rattle.fak_core.proofs.QueueReached.{kept_reached, legal_history}
 use Rattle.fak_core.proofs.laws.queue.every_queue_schedule_is_legal.Goals as goal
 

@@ -1,5 +1,4 @@
-use Rattle.std.proofs.lemmas.Grind.{common_steps}
-use Rattle.fak_core.proofs.Common.{◌≡◌, ◌∙◌, arith, reverse, slice_set, subst, sym, Ok, QueueFields, IsSoundWith, LoadsPut, moved_fields, step_of, fields_of}
+use Rattle.fak_core.proofs.Common.{◌≡◌, ◌∙◌, arith, reverse, slice_set, subst, sym, Ok, QueueFields, IsSoundWith, moved_fields, step_of, fields_of, common_steps}
 use Rattle.std.proofs.lemmas.Option.{slice_get_within}
 use Rattle.fak_core.proofs.QueueSound.{step_made, within_of}
 use Rattle.fak_core.proofs.QueueCalls.{load_is, step_is, step_left, step_sound}
@@ -44,5 +43,4 @@ pub returns-clause-ok : goal.returns-clause-ok
 returns-clause-ok c = grind (arith, common_steps, left, step_is, stepped)
 
 pub returns-clause-loads : goal.returns-clause-loads
-returns-clause-loads c = λ loads. subst (λ (f : QueueFields). LoadsPut f c.args.seat c.line_of.result.found) c.self.view_is
-    (load_is (old c) c.args.seat c.in_ok-step.step c.line_of.result c.self.invariant.sound (stepped c) c.line_of.ensures loads)
+returns-clause-loads c = grind (arith, common_steps, load_is, stepped)

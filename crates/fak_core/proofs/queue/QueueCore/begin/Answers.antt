@@ -1,5 +1,4 @@
-use Rattle.std.proofs.lemmas.Grind.{common_steps}
-use Rattle.fak_core.proofs.Common.{◌≡◌, length, reverse, arith, Ok, slice_set, QueueFields, begin_of, phase_begin, fields_of}
+use Rattle.fak_core.proofs.Common.{◌≡◌, length, reverse, arith, Ok, slice_set, QueueFields, begin_of, phase_begin, fields_of, common_steps}
 use Rattle.std.proofs.lemmas.Option.{slice_get_read}
 use Rattle.fak_core.proofs.QueueSound.{sound_begun}
 use Rattle.fak_core.proofs.queue.QueueCore.begin.Goals as goal

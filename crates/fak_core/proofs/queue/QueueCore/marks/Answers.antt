@@ -1,4 +1,4 @@
-use Rattle.fak_model.proofs.QueueLiteral.{to_literal}
+use Rattle.fak_core.proofs.Common.{to_literal}
 use Rattle.fak_core.proofs.QueueSound.{sound_kept}
 use Rattle.fak_core.proofs.queue.QueueCore.marks.Goals as goal
 

@@ -1,5 +1,4 @@
-use Rattle.std.proofs.lemmas.Grind.{common_steps}
-use Rattle.fak_core.proofs.Common.{Phase, Idle, ◌≡◌, ◌≤◌, ℕ, List, [], arith, reverse, rules, replicate, Mark, QueueFields, IsSoundWith, opening_fields}
+use Rattle.fak_core.proofs.Common.{Phase, Idle, ◌≡◌, ◌≤◌, ℕ, List, [], arith, reverse, rules, replicate, Mark, QueueFields, IsSoundWith, opening_fields, common_steps}
 use Rattle.fak_core.proofs.QueueSound.{sound_opening}
 use Rattle.fak_core.proofs.queue.QueueCore.new.Goals as goal
 

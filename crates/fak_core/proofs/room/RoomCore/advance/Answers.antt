@@ -1,6 +1,4 @@
-use Rattle.std.proofs.lemmas.Grind.{common_steps}
-use Rattle.fak_core.proofs.Common.{◌≡◌, ◌<◌, ◌∙◌, length, reverse, arith, Ok, ap, subst, inl, inr, slice_get, slice_set, Some, w64, to_z, of_z, ints, slice_get_read}
-use Rattle.std.specs.Int.{w128}
+use Rattle.fak_core.proofs.Common.{◌≡◌, ◌<◌, ◌∙◌, length, reverse, arith, Ok, ap, subst, inl, inr, slice_get, slice_set, Some, w64, to_z, of_z, ints, slice_get_read, common_steps, w128}
 use Rattle.fak_core.specs.Room.{RoomState, step_of, or_idle, IsStep}
 use Rattle.fak_core.proofs.RoomReached.{held_within}
 use Rattle.fak_core.proofs.RoomCalls.{sound_kept, sound_count, step_found, step_left, step_sound, step_line}

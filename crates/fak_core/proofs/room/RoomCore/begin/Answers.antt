@@ -1,5 +1,4 @@
-use Rattle.std.proofs.lemmas.Grind.{common_steps}
-use Rattle.fak_core.proofs.Common.{◌≡◌, length, reverse, refl, arith, Ok, subst, CoreSeat}
+use Rattle.fak_core.proofs.Common.{◌≡◌, length, reverse, refl, arith, Ok, subst, CoreSeat, common_steps}
 use Rattle.std.proofs.lemmas.Option.{slice_get_read}
 use Rattle.fak_core.specs.Room.{RoomState, begin_of, IsBegun, begun}
 use Rattle.fak_core.proofs.RoomReached.{begin_is}

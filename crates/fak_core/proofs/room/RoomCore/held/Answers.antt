@@ -1,6 +1,4 @@
-use Rattle.std.proofs.lemmas.Grind.{common_steps}
-use Rattle.std.proofs.Common.{arith}
-use Rattle.std.proofs.Common.{length}
+use Rattle.fak_core.proofs.Common.{common_steps, arith, length}
 use Rattle.std.proofs.lemmas.Option.{slice_get_read}
 use Rattle.fak_core.proofs.RoomCalls.{sound_kept}
 use Rattle.fak_core.proofs.room.RoomCore.held.Goals as goal

@@ -1,5 +1,4 @@
-use Rattle.std.proofs.lemmas.Grind.{common_steps}
-use Rattle.fak_core.proofs.Common.{reverse, arith, value}
+use Rattle.fak_core.proofs.Common.{reverse, arith, value, common_steps}
 use Rattle.fak_core.proofs.RoomCalls.{sound_kept}
 use Rattle.fak_core.proofs.room.RoomCore.value.Goals as goal
 

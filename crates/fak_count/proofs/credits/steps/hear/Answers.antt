@@ -1,4 +1,4 @@
-use Rattle.std.proofs.Common.{rules}
+use Rattle.fak_count.proofs.Common.{rules}
 use Rattle.fak_count.proofs.CreditSteps.{hears_allowed}
 use Rattle.fak_count.proofs.credits.steps.hear.Goals as goal
 

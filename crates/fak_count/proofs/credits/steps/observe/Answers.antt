@@ -1,4 +1,4 @@
-use Rattle.std.proofs.Common.{rules}
+use Rattle.fak_count.proofs.Common.{rules}
 use Rattle.fak_count.proofs.CreditSteps.{observes_allowed}
 use Rattle.fak_count.proofs.credits.steps.observe.Goals as goal
 

@@ -1,4 +1,4 @@
-use Rattle.std.proofs.Common.{rules}
+use Rattle.fak_count.proofs.Common.{rules}
 use Rattle.fak_count.proofs.RoomSteps.{releases_allowed}
 use Rattle.fak_count.proofs.rooms.steps.release.Goals as goal
 

@@ -1,4 +1,4 @@
-use Rattle.std.proofs.Common.{rules}
+use Rattle.fak_count.proofs.Common.{rules}
 use Rattle.fak_count.proofs.RoomSteps.{backs_allowed}
 use Rattle.fak_count.proofs.rooms.steps.withdraw.Goals as goal
 

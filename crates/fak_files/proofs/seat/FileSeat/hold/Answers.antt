@@ -1,6 +1,4 @@
-use Rattle.std.proofs.lemmas.Grind.{common_steps}
-use Rattle.std.proofs.Common.{arith}
-use Rattle.fak_files.proofs.Common.{reverse, holds_of}
+use Rattle.fak_files.proofs.Common.{reverse, holds_of, common_steps, arith}
 use Rattle.fak_model.specs.Calls.{object_id}
 use Rattle.fak_files.proofs.SeatCalls.{hold_marked}
 use Rattle.fak_files.proofs.seat.FileSeat.hold.Goals as goal

@@ -1,4 +1,4 @@
-use Rattle.std.proofs.Common.{slice_index}
+use Rattle.fak_files.proofs.Common.{slice_index}
 use Rattle.fak_files.proofs.table.FileTable.get.Given as goal
 
 -- the steps are this seat's, on this table

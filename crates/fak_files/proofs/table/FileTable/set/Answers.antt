@@ -1,4 +1,4 @@
-use Rattle.std.proofs.Common.{◌∙◌, sym, ap}
+use Rattle.fak_files.proofs.Common.{◌∙◌, sym, ap}
 use Rattle.fak_model.specs.Calls.{object_id}
 use Rattle.fak_files.proofs.SeatCalls.{set_of, seat_set}
 use Rattle.fak_files.proofs.table.FileTable.set.Goals as goal

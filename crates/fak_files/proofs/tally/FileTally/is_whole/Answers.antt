@@ -1,6 +1,5 @@
 use Rattle.fak_model.specs.File.{seat_of, file_rules}
-use Rattle.fak_files.proofs.Common.{rest_whole, whole_set}
-use Rattle.fak_model.proofs.Seats.{whole_mine}
+use Rattle.fak_files.proofs.Common.{rest_whole, whole_set, whole_mine}
 use Rattle.fak_files.proofs.tally.FileTally.is_whole.Goals as goal
 
 pub returns-clause-whole : goal.returns-clause-whole

@@ -1,4 +1,4 @@
-use Rattle.std.proofs.Common.{ap, subst}
+use Rattle.fak_kernel.proofs.Common.{ap, subst}
 use Rattle.fak_model.specs.Calls.{ObjectId}
 use Rattle.fak_model.specs.Seats.{IsWhole}
 use Rattle.fak_kernel.proofs.ending.closing.close.Goals as goal

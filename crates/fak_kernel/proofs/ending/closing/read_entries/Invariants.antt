@@ -1,4 +1,4 @@
-use Rattle.std.proofs.Common.{◌≡◌, take}
+use Rattle.fak_kernel.proofs.Common.{◌≡◌, take}
 use Rattle.fak_kernel.proofs.ending.closing.read_entries.Given as goal
 
 abbrev pub invariant-loop-i : goal.invariant-loop-i

@@ -1,7 +1,6 @@
-use Rattle.std.proofs.Common.{rules, tests, nat_lt}
 use Rattle.std.proofs.lemmas.Iterator.{YieldsList-from_slice}
 use Rattle.std.proofs.lemmas.Iterator.Search.{any_from_yields_List}
-use Rattle.fak_kernel.proofs.Common.{◌∙◌, sum_by, shuts_of, Process}
+use Rattle.fak_kernel.proofs.Common.{◌∙◌, sum_by, shuts_of, Process, rules, tests, nat_lt}
 use Rattle.fak_run.proofs.AnyWeighs.{any_weighs}
 use Rattle.fak_kernel.proofs.ending.reporting.has_shutdown.Goals as goal
 

@@ -1,7 +1,5 @@
 use Rattle.std.proofs.lemmas.List.Sorted.{IsPermutation-map}
-use Rattle.fak_kernel.proofs.Common.{Outcome, Ended, Halted, ProcessRow, rows_left, shut_lines, RowOf, rows_with, sleepers_outcome, row_of, ◌≡◌, ◌∙◌, ◌++◌, [], List, map, ap, subst, nat_lt, IsPermutation}
-use Rattle.fak_run.specs.Told.{told_row, told_rows}
-use Rattle.fak_run.proofs.Told.{IsSortedByName-told}
+use Rattle.fak_kernel.proofs.Common.{Outcome, Ended, Halted, ProcessRow, rows_left, shut_lines, RowOf, rows_with, sleepers_outcome, row_of, ◌≡◌, ◌∙◌, ◌++◌, [], List, map, ap, subst, nat_lt, IsPermutation, told_row, told_rows, IsSortedByName-told}
 use Rattle.fak_kernel.proofs.ending.reporting.rows_of.Goals as goal
 
 pub returns-clause-rows : goal.returns-clause-rows

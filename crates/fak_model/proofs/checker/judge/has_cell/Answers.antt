@@ -1,4 +1,4 @@
-use Rattle.std.proofs.Common.{reverse}
+use Rattle.fak_model.proofs.Common.{reverse}
 use Rattle.fak_model.proofs.CheckerPast.{fill_decided}
 use Rattle.fak_model.proofs.checker.judge.has_cell.Goals as goal
 

@@ -1,4 +1,4 @@
-use Rattle.std.proofs.Common.{◌<◌, ◌-◌, length, arith}
+use Rattle.fak_model.proofs.Common.{◌<◌, ◌-◌, length, arith}
 use Rattle.fak_model.proofs.CheckerPast.{stage_found}
 use Rattle.fak_model.proofs.checker.look_back.stage_of.Goals as goal
 

@@ -1,10 +1,6 @@
-use Rattle.fak_model.specs.Queue.{queue_rules}
-use Rattle.fak_model.proofs.SeatWeights.{named_more}
+use Rattle.fak_model.proofs.Common.{queue_rules}
 use Rattle.fak_model.proofs.Resting.{no_words, rest_named}
 use Rattle.fak_model.proofs.laws.queue.a_seat_without_a_call_keeps_a_queue_history.Goals as goal
-
-pub returns-clause-named : goal.returns-clause-named
-returns-clause-named g c = λ size seats more h. named_more (queue_rules size).seat_of seats more h
 
 pub returns-clause-free : goal.returns-clause-free
 returns-clause-free g c = λ size seats seat h. no_words (queue_rules size) seats seat h

@@ -1,4 +1,4 @@
-use Rattle.fak_model.specs.Room.{room_rules}
+use Rattle.fak_model.proofs.Common.{room_rules}
 use Rattle.fak_model.proofs.Appending.{history_prefix}
 use Rattle.fak_model.proofs.laws.room.a_beginning_of_a_room_history_is_one.Goals as goal
 

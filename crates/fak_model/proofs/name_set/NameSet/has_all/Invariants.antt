@@ -1,4 +1,4 @@
-use Rattle.std.proofs.Common.{ℕ, ◌<◌}
+use Rattle.fak_model.proofs.Common.{ℕ, ◌<◌}
 use Rattle.fak_model.specs.Names.{Has}
 use Rattle.fak_model.proofs.name_set.NameSet.has_all.Given as goal
 

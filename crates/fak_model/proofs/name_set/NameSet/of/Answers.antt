@@ -1,4 +1,4 @@
-use Rattle.std.proofs.Common.{rules, inr, ⊎_elim, replicate, false}
+use Rattle.fak_model.proofs.Common.{rules, inr, ⊎_elim, replicate, false}
 use Rattle.fak_model.proofs.NameFlags.{flags_none, flags_set}
 use Rattle.fak_model.proofs.name_set.NameSet.of.Goals as goal
 

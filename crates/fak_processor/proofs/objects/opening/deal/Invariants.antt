@@ -1,5 +1,4 @@
-use Rattle.fak_processor.proofs.Common.{◌≡◌, ◌++◌, length, map, dealt_to}
-use Rattle.std.specs.Vec.Iter.{into_iter_items}
+use Rattle.fak_processor.proofs.Common.{◌≡◌, ◌++◌, length, map, dealt_to, into_iter_items}
 use Rattle.fak_processor.proofs.objects.opening.deal.Given as goal
 
 abbrev pub invariant-loop-row : goal.invariant-loop-row

@@ -1,6 +1,5 @@
 use Rattle.fak_text.specs.Script.{ScriptOf}
-use Rattle.fak_processor.proofs.Common.{ℕ, AreFor, ObjectsOf, ids_of, fresh_all, zipped, map, ◌≡◌, ◌∙◌, length, ap, sym, subst, arith, length-map, SemInfo}
-use Rattle.fak_processor.specs.Opened.{AreSemaphoresFor}
+use Rattle.fak_processor.proofs.Common.{ℕ, AreFor, ObjectsOf, ids_of, fresh_all, zipped, map, ◌≡◌, ◌∙◌, length, ap, sym, subst, arith, length-map, SemInfo, AreSemaphoresFor}
 use Rattle.fak_processor.proofs.Dealing.{length-new, length-rows, length-seats, zips}
 use Rattle.fak_processor.proofs.objects.opening.open_objects.Goals as goal
 

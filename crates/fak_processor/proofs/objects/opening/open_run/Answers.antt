@@ -1,4 +1,4 @@
-use Rattle.std.proofs.Common.{◌<◌, arith, refl}
+use Rattle.fak_processor.proofs.Common.{◌<◌, arith, refl}
 use Rattle.fak_processor.proofs.Starting.{done_between, done_reached, first_are, fresh_length}
 use Rattle.fak_processor.proofs.objects.opening.open_run.Goals as goal
 

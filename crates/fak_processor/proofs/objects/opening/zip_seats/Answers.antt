@@ -1,5 +1,4 @@
-use Rattle.fak_processor.proofs.Common.{rules, arith, ◌≡◌, ◌∷◌, ◌++◌, [], ap, length, length-map}
-use Rattle.std.specs.Vec.Iter.{into_iter_items}
+use Rattle.fak_processor.proofs.Common.{rules, arith, ◌≡◌, ◌∷◌, ◌++◌, [], ap, length, length-map, into_iter_items}
 use Rattle.fak_processor.proofs.Dealing.{zips_more}
 use Rattle.fak_processor.proofs.objects.opening.zip_seats.Goals as goal
 

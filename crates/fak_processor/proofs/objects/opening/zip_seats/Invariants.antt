@@ -1,5 +1,4 @@
-use Rattle.fak_processor.proofs.Common.{◌≡◌, ◌++◌, length, map, zipped}
-use Rattle.std.specs.Vec.Iter.{into_iter_items}
+use Rattle.fak_processor.proofs.Common.{◌≡◌, ◌++◌, length, map, zipped, into_iter_items}
 use Rattle.fak_processor.proofs.objects.opening.zip_seats.Given as goal
 
 -- what is zipped so far, and what will be

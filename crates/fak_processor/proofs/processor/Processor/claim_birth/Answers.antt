@@ -1,4 +1,4 @@
-use Rattle.std.proofs.Common.{arith}
+use Rattle.fak_processor.proofs.Common.{arith}
 use Rattle.fak_processor.proofs.OnlyCounts.{claims, finds_full}
 use Rattle.fak_processor.proofs.Calls.{grows_room}
 use Rattle.fak_processor.proofs.Moving.{gains_births, refused_grows}

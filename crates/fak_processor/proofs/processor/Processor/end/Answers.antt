@@ -1,4 +1,4 @@
-use Rattle.std.proofs.Common.{◌∙◌}
+use Rattle.fak_processor.proofs.Common.{◌∙◌}
 use Rattle.fak_processor.proofs.Acting.{moves_ended}
 use Rattle.fak_processor.proofs.processor.Processor.end.Goals as goal
 

@@ -1,4 +1,4 @@
-use Rattle.std.proofs.Common.{◌∙◌, ap, [], ◌∷◌, ◌++◌, List, ◌≡◌}
+use Rattle.fak_processor.proofs.Common.{◌∙◌, ap, [], ◌∷◌, ◌++◌, List, ◌≡◌}
 use Rattle.fak_text.specs.Journal.{Process}
 use Rattle.fak_processor.proofs.Acting.{moves_entered, moves_halted}
 use Rattle.fak_processor.proofs.processor.Processor.enter_ready.Goals as goal

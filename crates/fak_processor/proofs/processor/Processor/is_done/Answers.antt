@@ -1,4 +1,4 @@
-use Rattle.std.proofs.Common.{rules}
+use Rattle.fak_processor.proofs.Common.{rules}
 use Rattle.fak_processor.proofs.processor.Processor.is_done.Goals as goal
 
 pub returns-clause-idle : goal.returns-clause-idle

@@ -1,4 +1,4 @@
-use Rattle.std.proofs.Common.{ap}
+use Rattle.fak_processor.proofs.Common.{ap}
 use Rattle.fak_text.specs.Journal.{after_note, shut_down}
 use Rattle.fak_run.specs.ListScheduler as lists
 use Rattle.fak_processor.proofs.Stepping.{moves_to, moves_shut}

@@ -1,4 +1,4 @@
-use Rattle.std.proofs.Common.{rules, ◌≡◌, ◌∙◌, [], ◌∷◌}
+use Rattle.fak_processor.proofs.Common.{rules, ◌≡◌, ◌∙◌, [], ◌∷◌}
 use Rattle.fak_text.specs.Journal.{new_process}
 use Rattle.fak_processor.proofs.Starting.{begins_process, starts_one}
 use Rattle.fak_processor.proofs.processor.Processor.start_process.Goals as goal

@@ -1,4 +1,4 @@
-use Rattle.std.proofs.Common.{ap}
+use Rattle.fak_processor.proofs.Common.{ap}
 use Rattle.fak_run.specs.ListScheduler as lists
 use Rattle.fak_processor.proofs.Acting.{moves_taken, moves_empty}
 use Rattle.fak_processor.proofs.processor.Processor.take_front.Goals as goal

@@ -1,4 +1,4 @@
-use Rattle.std.proofs.Common.{◌≡◌, ◌∙◌, ℕ, true, rules, None, arith}
+use Rattle.fak_processor.proofs.Common.{◌≡◌, ◌∙◌, ℕ, true, rules, None, arith}
 use Rattle.fak_processor.proofs.Acting.{moves_none}
 use Rattle.fak_processor.proofs.Looping.{moves_on, leaves_none, passed_next}
 use Rattle.fak_processor.proofs.Working.{reached_on, reached_the_end}

@@ -1,5 +1,4 @@
-use Rattle.fak_processor.specs.Faults.{HasPassed}
-use Rattle.fak_processor.proofs.Common.{◌≡◌, turn_over, AreOf, IsReached, lists_of, [], Moves, hand_of}
+use Rattle.fak_processor.proofs.Common.{◌≡◌, turn_over, AreOf, IsReached, lists_of, [], Moves, hand_of, HasPassed}
 use Rattle.fak_processor.proofs.processor.Processor.turns.Given as goal
 
 abbrev pub invariant-loop : goal.invariant-loop

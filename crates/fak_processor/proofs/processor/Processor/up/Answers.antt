@@ -1,4 +1,4 @@
-use Rattle.std.proofs.Common.{ap}
+use Rattle.fak_processor.proofs.Common.{ap}
 use Rattle.fak_text.specs.Journal.{after_note, upped}
 use Rattle.fak_run.specs.ListScheduler as lists
 use Rattle.fak_processor.proofs.Stepping.{moves_from, moves_to, moves_added, moves_woken, moves_enters}

@@ -1,6 +1,5 @@
-use Rattle.std.proofs.lemmas.Grind.{common_steps}
+use Rattle.fak_queue.proofs.Common.{common_steps, arith}
 use Rattle.fak_queue.proofs.Inverse.{round_is, cell_is, round_fits, round_low, cell_near}
-use Rattle.std.proofs.Common.{arith}
 use Rattle.fak_queue.proofs.cells.Cells.place.Goals as goal
 
 pub overflow_sub-result : goal.overflow_sub-result

@@ -1,4 +1,4 @@
-use Rattle.fak_queue.specs.Retries.{kinds_not_out}
+use Rattle.fak_queue.proofs.Common.{kinds_not_out}
 use Rattle.fak_queue.proofs.AfterRefusals.{IsRetrying}
 use Rattle.fak_queue.proofs.queue.Queue.wait_delete.Given as goal
 

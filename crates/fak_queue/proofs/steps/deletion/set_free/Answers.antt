@@ -1,4 +1,4 @@
-use Rattle.std.proofs.Common.{arith, ap, ◌∙◌, ℕ, ◌+◌, ◌*◌, ◌∷◌, None}
+use Rattle.fak_queue.proofs.Common.{arith, ap, ◌∙◌, ℕ, ◌+◌, ◌*◌, ◌∷◌, None}
 use Rattle.fak_queue.proofs.Allowed.{sets_free_allowed}
 use Rattle.fak_queue.proofs.steps.deletion.set_free.Goals as goal
 

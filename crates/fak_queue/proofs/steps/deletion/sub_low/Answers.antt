@@ -1,4 +1,4 @@
-use Rattle.std.proofs.Common.{arith}
+use Rattle.fak_queue.proofs.Common.{arith}
 use Rattle.fak_queue.proofs.Allowed.{subtracts_low_allowed}
 use Rattle.fak_queue.proofs.steps.deletion.sub_low.Goals as goal
 

@@ -1,4 +1,4 @@
-use Rattle.std.proofs.Common.{arith}
+use Rattle.fak_queue.proofs.Common.{arith}
 use Rattle.fak_queue.proofs.Allowed.{backs_up_allowed}
 use Rattle.fak_queue.proofs.steps.insertion.back_up.Goals as goal
 

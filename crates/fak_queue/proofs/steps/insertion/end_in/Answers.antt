@@ -1,4 +1,4 @@
-use Rattle.std.proofs.Common.{arith}
+use Rattle.fak_queue.proofs.Common.{arith}
 use Rattle.fak_queue.proofs.Allowed.{ends_in_allowed}
 use Rattle.fak_queue.proofs.steps.insertion.end_in.Goals as goal
 

@@ -1,4 +1,4 @@
-use Rattle.std.proofs.Common.{arith, ap, ◌∙◌, ℕ, ◌+◌, ◌*◌, ◌∷◌, Some}
+use Rattle.fak_queue.proofs.Common.{arith, ap, ◌∙◌, ℕ, ◌+◌, ◌*◌, ◌∷◌, Some}
 use Rattle.fak_queue.proofs.Allowed.{sets_full_allowed}
 use Rattle.fak_queue.proofs.steps.insertion.set_full.Goals as goal
 

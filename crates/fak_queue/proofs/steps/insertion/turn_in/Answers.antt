@@ -1,4 +1,4 @@
-use Rattle.std.proofs.Common.{arith, ap, ℕ, ◌+◌}
+use Rattle.fak_queue.proofs.Common.{arith, ap, ℕ, ◌+◌}
 use Rattle.fak_queue.proofs.Allowed.{turns_in_allowed}
 use Rattle.fak_queue.proofs.steps.insertion.turn_in.Goals as goal
 

@@ -1,5 +1,4 @@
-use Rattle.std.proofs.lemmas.Grind.{common_steps}
-use Rattle.fak_run.proofs.Common.{ap, sym, ◌∙◌, ◌≡◌, ◌++◌, ◌∷◌, map, [], arith, length, slice_get, Some, refl, string_bytes, say, steps_of, said, note_of, told_notes}
+use Rattle.fak_run.proofs.Common.{ap, sym, ◌∙◌, ◌≡◌, ◌++◌, ◌∷◌, map, [], arith, length, slice_get, Some, refl, string_bytes, say, steps_of, said, note_of, told_notes, common_steps}
 use Rattle.std.proofs.lemmas.List.{map-append, length-map}
 use Rattle.fak_run.proofs.Fitting.{IsContext-said}
 use Rattle.fak_run.proofs.Told.{length-told, told-push}

@@ -1,4 +1,4 @@
-use Rattle.std.proofs.Common.{refl}
+use Rattle.fak_run.proofs.Common.{refl}
 use Rattle.fak_text.specs.Journal.{child_count}
 use Rattle.fak_run.proofs.Fitting.{IsContext-unnoted}
 use Rattle.fak_run.proofs.sleeper.Sleeper.rouse.Goals as goal

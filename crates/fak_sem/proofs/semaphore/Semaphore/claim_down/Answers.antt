@@ -1,7 +1,4 @@
-use Rattle.std.proofs.Common.{rules, refl, ap, w64, arith, pos, ◌<ℤ◌}
-use Rattle.std.proofs.Math.Facts.{to_z-of_z}
-use Rattle.fak_sem.specs.declared.standing.Standing.TheVariants.{Parking}
-use Rattle.fak_sem.specs.Steps.{StepSeatInfo}
+use Rattle.fak_sem.proofs.Common.{rules, refl, ap, w64, arith, pos, ◌<ℤ◌, to_z-of_z, Parking, StepSeatInfo}
 use Rattle.fak_sem.proofs.SeatCalls.{parks_not, parks_one, passes_not, passes_one, counts_down}
 use Rattle.fak_sem.proofs.StepCalls.{same_start, stands_so, at_standing, tickets_left, seat_credited, seat_claimed_in, begins_down}
 use Rattle.fak_sem.proofs.semaphore.Semaphore.claim_down.Goals as goal

@@ -1,6 +1,4 @@
-use Rattle.std.proofs.Common.{rules, refl, w64, arith, pos, ◌<ℤ◌, true, false}
-use Rattle.std.proofs.Math.Facts.{to_z-of_z}
-use Rattle.fak_sem.specs.declared.standing.Standing.TheVariants.{Waking}
+use Rattle.fak_sem.proofs.Common.{rules, refl, w64, arith, pos, ◌<ℤ◌, true, false, to_z-of_z, Waking}
 use Rattle.fak_sem.proofs.SeatCalls.{wakes_not, wakes_one}
 use Rattle.fak_sem.proofs.StepCalls.{same_start, stands_so, at_standing, tickets_left, seat_credited, seat_claimed_out, begins_up, counts_as_begun}
 use Rattle.fak_sem.proofs.semaphore.Semaphore.claim_up.Goals as goal

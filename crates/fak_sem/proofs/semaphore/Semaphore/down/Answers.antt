@@ -1,5 +1,4 @@
-use Rattle.std.proofs.Common.{rules, refl, w64}
-use Rattle.std.proofs.Math.Facts.{to_z-of_z}
+use Rattle.fak_sem.proofs.Common.{rules, refl, w64, to_z-of_z}
 use Rattle.fak_sem.proofs.SeatCalls.{same_start, tickets_left, seat_unqueued, seat_parked, parks_not, parks_one, passes_not, passes_one, counts_down}
 use Rattle.fak_sem.proofs.semaphore.Semaphore.down.Goals as goal
 

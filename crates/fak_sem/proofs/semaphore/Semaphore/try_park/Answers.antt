@@ -1,6 +1,4 @@
-use Rattle.std.proofs.lemmas.Grind.{common_steps}
-use Rattle.std.proofs.Common.{arith}
-use Rattle.std.proofs.Common.{sym, ◌∙◌}
+use Rattle.fak_sem.proofs.Common.{common_steps, arith, sym, ◌∙◌}
 use Rattle.fak_sem.proofs.StepCalls.{at_standing, tickets_left, seat_claimed_in, seat_filled, seat_waits_in, parks_claim, parks_look, parks_whole}
 use Rattle.fak_sem.proofs.semaphore.Semaphore.try_park.Goals as goal
 

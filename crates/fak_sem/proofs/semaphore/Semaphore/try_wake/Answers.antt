@@ -1,6 +1,4 @@
-use Rattle.std.proofs.lemmas.Grind.{common_steps}
-use Rattle.std.proofs.Common.{arith}
-use Rattle.std.proofs.Common.{sym, ◌∙◌}
+use Rattle.fak_sem.proofs.Common.{common_steps, arith, sym, ◌∙◌}
 use Rattle.fak_sem.proofs.StepCalls.{at_standing, tickets_left, seat_claimed_out, seat_taken, seat_waits_out, wakes_claim, wakes_look, wakes_whole}
 use Rattle.fak_sem.proofs.semaphore.Semaphore.try_wake.Goals as goal
 

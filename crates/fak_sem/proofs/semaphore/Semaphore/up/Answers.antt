@@ -1,5 +1,4 @@
-use Rattle.std.proofs.Common.{rules, refl, w64}
-use Rattle.std.proofs.Math.Facts.{to_z-of_z}
+use Rattle.fak_sem.proofs.Common.{rules, refl, w64, to_z-of_z}
 use Rattle.fak_sem.proofs.SeatCalls.{same_start, tickets_left, seat_unqueued, seat_woken, wakes_not, wakes_one, counts_up}
 use Rattle.fak_sem.proofs.semaphore.Semaphore.up.Goals as goal
 

@@ -1,5 +1,4 @@
-use Rattle.fak_sem.proofs.Common.{whole_mine}
-use Rattle.fak_model.proofs.CreditLaw.{every_history}
+use Rattle.fak_sem.proofs.Common.{whole_mine, every_history}
 use Rattle.fak_count.specs.Credits.{seat_of as credit_name}
 use Rattle.fak_sem.proofs.Joining.{whole_credit, whole_queue, credit_rests}
 use Rattle.fak_sem.proofs.tally.SemTally.is_whole.Goals as goal

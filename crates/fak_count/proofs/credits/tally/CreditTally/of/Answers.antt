@@ -1,4 +1,4 @@
-use Rattle.fak_model.proofs.CreditLaw.{every_history}
+use Rattle.fak_count.proofs.Common.{every_history}
 use Rattle.fak_count.proofs.credits.tally.CreditTally.of.Goals as goal
 
 pub returns-clause-lawful : goal.returns-clause-lawful

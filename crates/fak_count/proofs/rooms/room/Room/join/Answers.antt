@@ -1,5 +1,4 @@
-use Rattle.fak_count.proofs.Common.{rules, ℕ, [], ◌∷◌, refl, ap, subst, reverse, room_rules, object_id, SeatInfo, TallyInfo, tally_info, IsJoined, token_slots, tally_at, seat_at, may_join, token_joined, set_joined, call_joined, room_object, RoomInfo, IsSettled}
-use Rattle.fak_model.specs.declared.room.RoomMark.{RoomMark}
+use Rattle.fak_count.proofs.Common.{rules, ℕ, [], ◌∷◌, refl, ap, subst, reverse, room_rules, object_id, SeatInfo, TallyInfo, tally_info, IsJoined, token_slots, tally_at, seat_at, may_join, token_joined, set_joined, call_joined, room_object, RoomInfo, IsSettled, RoomMark}
 use Rattle.fak_count.proofs.RoomCalls.{settled_joined}
 use Rattle.fak_count.proofs.rooms.room.Room.join.Goals as goal
 

@@ -1,6 +1,5 @@
-use Rattle.fak_count.proofs.Common.{whole_mine, whole_set, rest_whole}
+use Rattle.fak_count.proofs.Common.{whole_mine, whole_set, rest_whole, room_rests}
 use Rattle.fak_model.specs.Room.{seat_of, room_rules}
-use Rattle.fak_model.proofs.RoomLaw.{room_rests}
 use Rattle.fak_count.proofs.rooms.tally.RoomTally.is_whole.Goals as goal
 
 pub returns-clause-whole : goal.returns-clause-whole

@@ -1,5 +1,4 @@
-use Rattle.fak_model.proofs.Common.{[], ◌∷◌, refl, file_by}
-use Rattle.fak_model.specs.declared.file.FileField.TheVariants.{Inode, Uses}
+use Rattle.fak_model.proofs.Common.{[], ◌∷◌, refl, file_by, Inode, Uses}
 use Rattle.fak_model.specs.declared.file.FileKind.TheVariants.{Take, Over, Back, No, Set, Give}
 use Rattle.fak_model.proofs.Examples.{file_parts}
 use Rattle.fak_model.proofs.laws.examples.file.the_calls_of_a_file_table_are_judged.Goals as goal

@@ -1,4 +1,4 @@
-use Rattle.std.proofs.Common.{rules}
+use Rattle.fak_processor.proofs.Common.{rules}
 use Rattle.fak_processor.proofs.processor.files.Files.open.Goals as goal
 
 pub returns-in_ok-i-in-None-clause-change : goal.returns-in_ok-i-in-None-clause-change

@@ -1,5 +1,4 @@
-use Rattle.fak_processor.proofs.Common.{◌≡◌, ◌∙◌, ◌+◌, ◌≤◌, ℕ, [], length, rules, arith, refl, ap, Some, got, keeps_files_then, keeps_files_all, all_read}
-use Rattle.fak_files.specs.Versions.{entry_of}
+use Rattle.fak_processor.proofs.Common.{◌≡◌, ◌∙◌, ◌+◌, ◌≤◌, ℕ, [], length, rules, arith, refl, ap, Some, got, keeps_files_then, keeps_files_all, all_read, entry_of}
 use Rattle.fak_files.proofs.Closing.{read_more}
 use Rattle.fak_run.proofs.Holding.{left_of, left_then, left_none, got_of}
 use Rattle.fak_processor.proofs.processor.files.Files.refresh.Goals as goal

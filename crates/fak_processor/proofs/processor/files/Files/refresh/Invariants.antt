@@ -1,5 +1,4 @@
-use Rattle.fak_processor.proofs.Common.{◌≡◌, ◌<◌, ℕ, [], length, slice_get, Some, HasJustTaken, Left}
-use Rattle.fak_files.specs.Versions.{entry_of}
+use Rattle.fak_processor.proofs.Common.{◌≡◌, ◌<◌, ℕ, [], length, slice_get, Some, HasJustTaken, Left, entry_of}
 use Rattle.fak_run.specs.OnlyFiles.{IsOnlyFiles, KeepsFiles}
 use Rattle.fak_processor.proofs.processor.files.Files.refresh.Given as goal
 

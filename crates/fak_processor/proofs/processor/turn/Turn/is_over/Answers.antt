@@ -1,4 +1,4 @@
-use Rattle.std.proofs.Common.{rules}
+use Rattle.fak_processor.proofs.Common.{rules}
 use Rattle.fak_processor.proofs.processor.turn.Turn.is_over.Goals as goal
 
 pub returns-else-self-clause-over : goal.returns-else-self-clause-over
