@@ -1,5 +1,5 @@
 -- How what a processor does balances.
-use Rattle.fak_processor.proofs.Common.{Ended, Halted, next_step, Ledger, Balanced, nothing, joined, ObjectsOf, ProcessorOf, AreFor, ◌≡◌, ℕ, List, [], ◌∷◌, ◌++◌, length, refl, ap, sym, ◌∙◌, subst, arith, None, sum_by, append-nil, sum_by-append, SeatInfo, Kind, Mark, Debit, kinds_in, kinds_out, ScriptOf, Process, FitsScript, MovesNoItem, IsQuiet, GrowsIn, GrowsShut, GrowsAtLast, GrowsOut, GrowsEmpty, BeginsNone, Gains, Moves, row_as, balanced-joined}
+use Rattle.fak_processor.proofs.Common.{Ended, Halted, next_step, Ledger, Balanced, nothing, joined, ObjectsOf, ProcessorOf, AreFor, ◌≡◌, ℕ, List, [], ◌∷◌, ◌++◌, length, refl, ap, sym, ◌∙◌, subst, arith, None, sum_by, append-nil, sum_by-append, SeatInfo, Kind, Mark, Debit, kinds_in, kinds_out, ScriptOf, Process, FitsScript, MovesNoItem, IsQuiet, GrowsIn, GrowsShut, GrowsAtLast, GrowsOut, GrowsEmpty, BeginsNone, Gains, Moves, row_as, balanced-joined, common_steps}
 use Rattle.fak_processor.specs.Events.{takes, puts, halts, ends, closed, empty}
 use Rattle.fak_processor.proofs.Events.{by_free, by_ready, quiet, in_other_hands, balanced-beside, keeps_takes, keeps_puts, keeps_halts, keeps_ends}
 use Rattle.fak_processor.proofs.Moving.{quiet_empty, gains_none, gains_then, gains_ready, gains_free}
@@ -101,9 +101,4 @@ module _ {script : ScriptOf} where
       freed = gains_free p (g.refused ++ kinds_in g.ticket slot) made.free g.grows
 
       with_row : Gains script p (record p { free = s; ended = e }) (record nothing { free = g.refused ++ kinds_in g.ticket slot; rows = row_as Ended x ∷ [] })
-      with_row = record {
-        adds = λ d. let a = freed.adds d in record { ready = a.ready; free = a.free; births = a.births; busy = a.busy; credits = a.credits; waits = a.waits };
-        names = freed.names;
-        lines = freed.lines;
-        rows = λ f. omega (arith, ap (sum_by (λ (q : Process). f (row_as Ended q))) e_is, sum_by-append (λ (q : Process). f (row_as Ended q)) p.ended (x ∷ []));
-      }
+      with_row = grind (arith, common_steps, freed, sum_by, row_as, sum_by-append)

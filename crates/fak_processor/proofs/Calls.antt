@@ -1,5 +1,5 @@
 -- How the calls on the shared objects make a seat's own marks grow.
-use Rattle.fak_processor.proofs.Common.{◌≡◌, ℕ, Bool, true, false, List, [], ◌∷◌, ◌++◌, length, refl, ap, sym, subst, arith, inl, inr, map, ℤ, Some, None, sum_by, flat_map, append-nil, sum_by-append, Rules, SeatInfo, queue_rules, room_rules, credit_rules, put_of, got_of, Kind, Mark, RoomKind, Over, Back, RoomMark, CreditKind, Debit, Credit, CreditMark, SemInfo, SemSeatInfo, credit_part, queue_part, Downs, Ups, ScriptOf, Process, Ledger, Balanced, joined, Turning, Grows, Adds, balanced-joined, NoItem, OverOut, BackOut, Close, empty, Owns, queue_kind, Bundle}
+use Rattle.fak_processor.proofs.Common.{◌≡◌, ℕ, Bool, true, false, List, [], ◌∷◌, ◌++◌, length, refl, ap, sym, subst, arith, inl, inr, map, ℤ, Some, None, sum_by, flat_map, append-nil, sum_by-append, Rules, SeatInfo, queue_rules, room_rules, credit_rules, put_of, got_of, Kind, Mark, RoomKind, Over, Back, RoomMark, CreditKind, Debit, Credit, CreditMark, SemInfo, SemSeatInfo, credit_part, queue_part, Downs, Ups, ScriptOf, Process, Ledger, Balanced, joined, Turning, Grows, Adds, balanced-joined, NoItem, OverOut, BackOut, Close, empty, Owns, queue_kind, Bundle, common_steps}
 use Rattle.fak_model.specs.Room as room
 use Rattle.fak_model.specs.Credit as credit
 use Rattle.fak_count.specs.Rooms as rooms
@@ -26,8 +26,7 @@ pub grows_empty : {T : Type 0} {size : ℕ} {lower : ℤ} {old new : SeatInfo (M
 grows_empty r = elim r.makes [ inl m ↦ (false, grows_makes (NoItem ∷ []) m) | inr m ↦ (true, grows_makes (OverOut ∷ BackOut ∷ []) m) ]
 
 pub grows_shuts : {T : Type 0} {size : ℕ} (b : Bool) (old new : SeatInfo (Mark T)) → ShutsAs size b old new → Grows (queue_rules size) queue_kind old new (Close ∷ [])
-grows_shuts true old new s = grows_makes (Close ∷ []) s.0
-grows_shuts false old new s = grows_makes (Close ∷ []) s.0
+grows_shuts b old new s = grind (arith, common_steps, queue_rules, queue_kind, grows_makes)
 
 pub grows_room : {kind : RoomKind} {room_is : rooms.RoomInfo} {old new : SeatInfo RoomMark} {answer : ℤ} → rooms.MakesCall kind room_is old new answer → Grows (room_rules room_is.bound) room.kind_of old new (kind ∷ [])
 grows_room {kind} c = record { name = ap (λ s. s.name) c.appends.same_seat; owns = λ before o. owns_more (kind ∷ []) c.appends refl o }
@@ -78,8 +77,7 @@ grows_parks {who = who} d =
 -- a down that passes: a debit alone
 pub grows_passes : {T : Type 0} {sem : SemInfo} {who passed : T} {old new : SemSeatInfo T} → Downs sem who old new (Some passed)
     → Grows credit_rules credit.kind_of (credit_part old) (credit_part new) (Debit ∷ []) × Grows (queue_rules sem.size) queue_kind (queue_part old) (queue_part new) [] × (passed ≡ who)
-grows_passes {sem = sem} {old = old} {new = new} d =
-    (grows_credit d.debits, subst (λ s. Grows (queue_rules sem.size) queue_kind (queue_part old) s []) (sym d.passes.1.same_queue) (grows_same (queue_rules sem.size) queue_kind (queue_part old)), d.passes.0)
+grows_passes {sem = sem} {old = old} {new = new} d = grind (arith, common_steps, grows_credit, queue_rules, queue_kind, queue_part, grows_same)
 
 pub grows_wakes : {T : Type 0} {sem : SemInfo} {woken : T} {old new : SemSeatInfo T} → Ups sem old new (Some woken)
     → Grows credit_rules credit.kind_of (credit_part old) (credit_part new) (Credit ∷ [])
@@ -90,8 +88,7 @@ grows_wakes {woken = woken} u =
 
 pub grows_adds : {T : Type 0} {sem : SemInfo} {old new : SemSeatInfo T} → Ups sem old new None
     → Grows credit_rules credit.kind_of (credit_part old) (credit_part new) (Credit ∷ []) × Grows (queue_rules sem.size) queue_kind (queue_part old) (queue_part new) []
-grows_adds {sem = sem} {old = old} {new = new} u =
-    (grows_credit u.credits, subst (λ s. Grows (queue_rules sem.size) queue_kind (queue_part old) s []) (sym u.wakes.same_queue) (grows_same (queue_rules sem.size) queue_kind (queue_part old)))
+grows_adds {sem = sem} {old = old} {new = new} u = grind (arith, common_steps, grows_credit, queue_rules, queue_kind, queue_part, grows_same)
 
 -- ---- a processor
 

@@ -51,6 +51,7 @@ pub use Rattle.fak_run.specs.declared.report.Outcome.TheVariants.{Ended, Halted}
 pub use Rattle.fak_sem.specs.Semaphores.{SemInfo, SemSeatInfo, credit_part, queue_part, Downs, Ups, SemId, fresh_sem_seats}
 pub use Rattle.fak_text.proofs.Common.{ScriptOf, Process, FitsScript, StepOf, down, up, spawn, shutdown, NoteOf, downed, upped, spawned, no_birth, no_slot, shut_down, child_count, after_note, StandsAt, new_process, say, yield, open_file, close_file, stat, said, yielded, opened, closed, statted, Allows}
 pub use Rattle.std.proofs.Common.{◌≡◌, ℕ, List, [], ◌∷◌, ◌++◌, length, refl, ap, sym, ◌∙◌, subst, arith, None, sum_by, append-nil, Bool, true, false, inl, inr, map, ℤ, pos, Some, flat_map, zero, suc, ◌+◌, ◌<◌, ◌≤◌, drop, get_or, All, ◌==◌, cond, ◌-◌, replicate, slice_index_or, append_assoc, Option, slice_set, nat_lt, slice_index, ◌⊎◌, length-append, ◌+ℤ◌, ◌≤ℤ◌, ◌<ℤ◌, ◌||◌, IfSome, MatchOption, take, option_to_list, rules, take_all, slice_get}
+pub use Rattle.std.proofs.lemmas.Grind.{common_steps}
 pub use Rattle.std.proofs.lemmas.List.Elements.{All-get_or, All-push, All-drop}
 pub use Rattle.std.proofs.lemmas.List.{length-map, get_or-map, map-set, get_or-set_same, get_or-set_other}
 pub use Rattle.std.specs.Vec.Iter.{into_iter_items}

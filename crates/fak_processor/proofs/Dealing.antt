@@ -1,5 +1,5 @@
 -- How the seats of new objects are dealt to the processors.
-use Rattle.fak_processor.proofs.Common.{FileSeatInfo, SemSeatInfo, RoomMark, CreditMark, Mark, free_entry, replicate, append_assoc, ◌≡◌, ℕ, zero, suc, ◌+◌, ◌<◌, ◌≤◌, List, [], ◌∷◌, ◌++◌, length, drop, get_or, refl, ap, sym, ◌∙◌, arith, map, All, map-append, ObjectId, SeatInfo, fresh_seats, idle_seats, SemId, SemInfo, fresh_sem_seats, ScriptOf, Process, ObjectsOf, ProcessorOf, ids_of, dealt_to, fresh_rows, fresh_sem_at, fresh_all, fresh_processor, zipped, IsSemaphoreFor}
+use Rattle.fak_processor.proofs.Common.{FileSeatInfo, SemSeatInfo, RoomMark, CreditMark, Mark, free_entry, replicate, append_assoc, ◌≡◌, ℕ, zero, suc, ◌+◌, ◌<◌, ◌≤◌, List, [], ◌∷◌, ◌++◌, length, drop, get_or, refl, ap, sym, ◌∙◌, arith, map, All, map-append, ObjectId, SeatInfo, fresh_seats, idle_seats, SemId, SemInfo, fresh_sem_seats, ScriptOf, Process, ObjectsOf, ProcessorOf, ids_of, dealt_to, fresh_rows, fresh_sem_at, fresh_all, fresh_processor, zipped, IsSemaphoreFor, common_steps}
 
 -- ---- lists
 
@@ -38,8 +38,7 @@ sems_more (x ∷ sems) s each one zero d below = each 0 x (omega arith)
 sems_more (x ∷ sems) s each one (suc k) d below = sems_more sems s (λ i e low. each (suc i) e (omega (arith, low))) one k d (omega (arith, below))
 
 pub starts_next : {A : Type 0} (f : A → ℕ) (sems new : List A) (s : A) (rest more all : List ℕ) → map f sems ++ rest ≡ all → rest ≡ f s ∷ more → new ≡ sems ++ s ∷ [] → map f new ++ more ≡ all
-starts_next {A} f sems new s rest more all was is pushed =
-    ap (λ (l : List A). map f l ++ more) pushed ∙ (ap (λ (l : List ℕ). l ++ more) (map-append f sems (s ∷ [])) ∙ (push_app (map f sems) (f s) more ∙ (ap (λ (l : List ℕ). map f sems ++ l) (sym is) ∙ was)))
+starts_next {A} f sems new s rest more all was is pushed = grind (arith, common_steps, map, map-append, push_app)
 
 -- ---- lengths
 

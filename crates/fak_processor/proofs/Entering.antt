@@ -1,5 +1,5 @@
 -- Insertions into a queue that has one seat, after insertions that were refused.
-use Rattle.fak_processor.proofs.Common.{◌≡◌, ℕ, ◌+◌, ◌||◌, false, List, [], ◌∷◌, ◌++◌, length, length-append, refl, ap, sym, ◌∙◌, arith, flat_map, gots, lower_raise, lower_drop, Has, contents, SeatInfo, Kind, Mark, Makes, made_by, kinds_in, kinds_not_in, RefusedInsertion, NotIn, WithdrawnIn, ClosedIn, WithdrawnLate, has_close, IsOnlySeat, Enters, Bounces, IsClosed, InsertsAfterFull, ClosesAfterFull, made_by_append, count_at_last, none_in, only_still}
+use Rattle.fak_processor.proofs.Common.{◌≡◌, ℕ, ◌+◌, ◌||◌, false, List, [], ◌∷◌, ◌++◌, length, length-append, refl, ap, sym, ◌∙◌, arith, flat_map, gots, lower_raise, lower_drop, Has, contents, SeatInfo, Kind, Mark, Makes, made_by, kinds_in, kinds_not_in, RefusedInsertion, NotIn, WithdrawnIn, ClosedIn, WithdrawnLate, has_close, IsOnlySeat, Enters, Bounces, IsClosed, InsertsAfterFull, ClosesAfterFull, made_by_append, count_at_last, none_in, only_still, common_steps}
 use Rattle.fak_model.specs.declared.queue.Kind.TheVariants as made
 use Rattle.fak_processor.proofs.OnlyQueues.{close_more, counted, fair_after, has_then_close, keeps, not_shut, or_false, shut_same}
 use Rattle.fak_processor.proofs.OnlyCounts.{inserted, in_put, put_at_last}
@@ -63,8 +63,4 @@ bounces {T} {size} {old} {new} o c = by c.closed c.is_closed c.tries.makes
         }
 
     by : (r : RefusedInsertion) → IsClosed r → Makes size (flat_map kinds_not_in rs ++ kinds_not_in r) old new → Bounces old new
-    by NotIn is a = absurd is
-    by WithdrawnIn is a = absurd is
-    by ClosedIn is a = bounced ClosedIn a refl (fair_after (flat_map kinds_not_in rs ++ made.Closed ∷ []) o.only a before (record { seat = old.name; kind = made.Closed }) [] (made_by_append old.name (flat_map kinds_not_in rs) (made.Closed ∷ []))).answer
-    by WithdrawnLate is a = bounced WithdrawnLate a refl
-        (fair_after (flat_map kinds_not_in rs ++ made.LateIn ∷ made.BackIn ∷ []) o.only a before (record { seat = old.name; kind = made.LateIn }) _ (made_by_append old.name (flat_map kinds_not_in rs) (made.LateIn ∷ made.BackIn ∷ []))).answer
+    by r is a = grind (arith, common_steps, flat_map, kinds_not_in, rs, IsClosed, bounced, fair_after, before, made_by_append)

@@ -1,5 +1,5 @@
 -- Each kind of event of a turn keeps what balances.
-use Rattle.fak_processor.proofs.Common.{child_of, next_step, RowOf, MovesNoItem, ◌≡◌, ℕ, ◌+◌, ◌<◌, ◌==◌, Bool, true, false, cond, List, [], ◌∷◌, ◌++◌, length, refl, ap, sym, ◌∙◌, subst, arith, None, sum_by, All, nat_tests, sum_by-append, All-nil, All-cons, sum_below, debit_weight, credit_weight, up_amount, release_amount, put_of, got_of, close_of, closed_of, refusal_of, other_amount, Kind, CreditKind, Debit, Credit, cond_here, cond_else, kinds_in, kinds_out, ScriptOf, StepOf, down, up, spawn, shutdown, NoteOf, downed, upped, spawned, no_birth, no_slot, shut_down, Process, child_count, after_note, FitsScript, Ledger, Made, Balanced, IsMade, FitsRow, nothing, not_before, its_down, before_down, sum_none, child, downs_of, ups_of, shuts_of, no_births_of, no_slots_of, sum_at}
+use Rattle.fak_processor.proofs.Common.{child_of, next_step, RowOf, MovesNoItem, ◌≡◌, ℕ, ◌+◌, ◌<◌, ◌==◌, Bool, true, false, cond, List, [], ◌∷◌, ◌++◌, length, refl, ap, sym, ◌∙◌, subst, arith, None, sum_by, All, nat_tests, sum_by-append, All-nil, All-cons, sum_below, debit_weight, credit_weight, up_amount, release_amount, put_of, got_of, close_of, closed_of, refusal_of, other_amount, Kind, CreditKind, Debit, Credit, cond_here, cond_else, kinds_in, kinds_out, ScriptOf, StepOf, down, up, spawn, shutdown, NoteOf, downed, upped, spawned, no_birth, no_slot, shut_down, Process, child_count, after_note, FitsScript, Ledger, Made, Balanced, IsMade, FitsRow, nothing, not_before, its_down, before_down, sum_none, child, downs_of, ups_of, shuts_of, no_births_of, no_slots_of, sum_at, common_steps}
 use Rattle.fak_processor.specs.Events.{made_of, IsPlain, fills, takes, puts, halts, steps, passes, parks, adds, wakes, spawns, lacks_birth, lacks_slot, ends, waits_refused, shuts, closed, refused_claim}
 use Rattle.fak_processor.proofs.Moving.{quiet_empty, idle_closed}
 use Rattle.fak_text.specs.Journal.{births_of}
@@ -16,18 +16,7 @@ waiting_at w kinds s n below =
 -- what is in hand may be told otherwise, as long as it weighs as much
 pub in_other_hands : {script : ScriptOf} {n : ℕ} {before after before' after' : List Process} {l : Ledger} → Balanced script n before after l
     → ((f : Process → ℕ) → sum_by f after' + sum_by f before ≡ sum_by f before' + sum_by f after) → Balanced script n before' after' l
-in_other_hands b weighs = record {
-  processes = λ f. omega (arith, b.processes f, weighs f);
-  slots = b.slots;
-  children = b.children;
-  new = b.new;
-  births = b.births;
-  busy = b.busy;
-  semaphores = b.semaphores;
-  shutdown = b.shutdown;
-  made = b.made;
-  rows = b.rows;
-}
+in_other_hands b weighs = grind (arith, common_steps, shutdown)
 
 -- who holds more processes still holds them
 pub balanced-beside : {script : ScriptOf} {n : ℕ} {before after : List Process} {l : Ledger} (others : List Process) → Balanced script n before after l → Balanced script n (before ++ others) (after ++ others) l
@@ -41,8 +30,7 @@ record ClosedWeighs (T : Type 0) (late : Bool) : Type 0 where
   pub closeds : sum_by closed_of (closed {A = T} late) ≡ 1
 
 closed_weighs : {T : Type 0} (late : Bool) → ClosedWeighs T late
-closed_weighs true = record { idle = idle_closed true; closes = refl; closeds = refl }
-closed_weighs false = record { idle = idle_closed false; closes = refl; closeds = refl }
+closed_weighs late = grind (arith, common_steps, idle_closed)
 
 record RefusedClaimWeighs (late : Bool) : Type 0 where
   pub ups : sum_by up_amount (refused_claim late) ≡ 0
@@ -51,8 +39,7 @@ record RefusedClaimWeighs (late : Bool) : Type 0 where
   pub others : sum_by other_amount (refused_claim late) ≡ 0
 
 refused_claim_weighs : (late : Bool) → RefusedClaimWeighs late
-refused_claim_weighs true = record { ups = refl; releases = refl; refusals = refl; others = refl }
-refused_claim_weighs false = record { ups = refl; releases = refl; refusals = refl; others = refl }
+refused_claim_weighs late = grind (arith, common_steps)
 
 -- a note that counts at semaphores, if anywhere
 record CountsNowhereElse (step : StepOf) (note : NoteOf) : Type 0 where
@@ -87,34 +74,12 @@ module _ (script : ScriptOf) (n : ℕ) where
   -- what only the free queue saw, and who was started with no line yet
   pub by_free : {after : List Process} (kinds : List (Kind ℕ)) (first : List ℕ) (begun : List Process) → ((g : ℕ → ℕ) → sum_by (put_of g) kinds + sum_by (λ p. g p.slot) begun ≡ sum_by (got_of g) kinds + sum_by g first)
       → ((f : Process → ℕ) → sum_by f begun ≡ sum_by f after) → sum_by (λ p. length p.journal) begun ≡ 0 → Balanced script n [] after (record nothing { free = kinds; first = first; begun = begun })
-  by_free kinds first begun slots hand new = record {
-    processes = λ f. omega (arith, none_waits n, hand f);
-    slots = λ g. omega (arith, slots g);
-    children = quiet.children;
-    new = omega (arith, new);
-    births = quiet.births;
-    busy = quiet.busy;
-    semaphores = quiet.semaphores;
-    shutdown = quiet.shutdown;
-    made = quiet.made;
-    rows = quiet.rows;
-  }
+  by_free kinds first begun slots hand new = grind (arith, common_steps, none_waits, quiet, shutdown)
 
   -- what only the ready queue saw
   pub by_ready : {before after : List Process} (kinds : List (Kind Process)) → ((f : Process → ℕ) → sum_by (put_of f) kinds + sum_by f after ≡ sum_by (got_of f) kinds + sum_by f before)
       → sum_by close_of kinds ≡ 0 → sum_by closed_of kinds ≡ 0 → Balanced script n before after (record nothing { ready = kinds })
-  by_ready kinds weighs closes closeds = record {
-    processes = λ f. omega (arith, none_waits n, weighs f);
-    slots = quiet.slots;
-    children = quiet.children;
-    new = quiet.new;
-    births = quiet.births;
-    busy = quiet.busy;
-    semaphores = quiet.semaphores;
-    shutdown = record { shuts = closes; halts = sym closeds; no_stuck = quiet.shutdown.no_stuck };
-    made = quiet.made;
-    rows = quiet.rows;
-  }
+  by_ready kinds weighs closes closeds = grind (arith, common_steps, none_waits, quiet, shutdown, shuts, closes, halts, closeds)
 
   -- a first slot; a process is taken, and put
   pub keeps_fills : (k slot : ℕ) → Balanced script n [] [] (fills k slot)
@@ -128,35 +93,13 @@ module _ (script : ScriptOf) (n : ℕ) where
 
   -- the ready queue is shut
   pub keeps_halts : (late : Bool) (p : Process) → FitsScript script p → Balanced script n (p ∷ []) [] (halts late p)
-  keeps_halts late p fits = let c = closed_weighs {T = Process} late in record {
-    processes = λ f. omega (arith, none_waits n, c.idle.puts f, c.idle.gots f);
-    slots = λ g. omega arith;
-    children = quiet.children;
-    new = quiet.new;
-    births = quiet.births;
-    busy = record { credits = quiet.busy.credits; debits = omega (arith, none_waits n) };
-    semaphores = quiet.semaphores;
-    shutdown = record { shuts = c.closes; halts = omega (arith, c.closeds); no_stuck = omega arith };
-    made = quiet.made;
-    rows = one_row _ (record { process = fits; stands = tt });
-  }
+  keeps_halts late p fits = grind (arith, common_steps, closed_weighs, none_waits, quiet, shutdown, shuts, halts, one_row)
 
   -- a step of which only the counts of semaphores hear
   by_credits : {p : Process} {step : StepOf} {note : NoteOf} (credits : ℕ → List CreditKind) → IsMade script (made_of p step note) → CountsNowhereElse step note
       → ((s : ℕ) → downs_of s note ≡ sum_by debit_weight (credits s)) → ((s : ℕ) → ups_of s note ≡ sum_by credit_weight (credits s))
       → Balanced script n (p ∷ []) (after_note p note ∷ []) (record nothing { credits = credits; made = made_of p step note ∷ [] })
-  by_credits {p = p} credits is rest downs ups = record {
-    processes = λ f. omega (arith, none_waits n);
-    slots = quiet.slots;
-    children = λ g. sym (ap (λ c. 0 + sum_by g c) (rest.childless p.name));
-    new = quiet.new;
-    births = record { ups = omega (arith, rest.births, rest.no_slots); releases = omega (arith, rest.no_slots); refusals = omega (arith, rest.no_births); ones = quiet.births.ones };
-    busy = quiet.busy;
-    semaphores = record { downs = λ s below. omega (arith, downs s, none_waits n); upped = λ s below. omega (arith, ups s); parked = quiet.semaphores.parked };
-    shutdown = record { shuts = omega (arith, rest.shuts); halts = quiet.shutdown.halts; no_stuck = quiet.shutdown.no_stuck };
-    made = one_made _ is;
-    rows = quiet.rows;
-  }
+  by_credits {p = p} credits is rest downs ups = grind (arith, common_steps, none_waits, quiet, sum_by, ups, upped, shutdown, shuts, halts, one_made)
 
   -- a plain step
   pub keeps_steps : (p : Process) (step : StepOf) (note : NoteOf) → IsMade script (made_of p step note) → IsPlain step note → Balanced script n (p ∷ []) (after_note p note ∷ []) (steps p step note)
@@ -247,78 +190,23 @@ module _ (script : ScriptOf) (n : ℕ) where
 
   -- a spawn
   pub keeps_spawns : (k : ℕ) (p : Process) (program slot : ℕ) → IsMade script (made_of p (spawn program) (spawned (child_count p.journal))) → Balanced script n (p ∷ []) (after_note p (spawned (child_count p.journal)) ∷ child_of p program slot ∷ []) (spawns k p program slot)
-  keeps_spawns k p program slot is = record {
-    processes = λ f. omega (arith, none_waits n);
-    slots = λ g. omega arith;
-    children = λ g. omega arith;
-    new = omega arith;
-    births = record { ups = omega arith; releases = omega arith; refusals = omega arith; ones = omega arith };
-    busy = record { credits = omega (arith, none_waits n); debits = quiet.busy.debits };
-    semaphores = record { downs = λ t below. omega (arith, none_waits n); upped = λ t below. omega arith; parked = quiet.semaphores.parked };
-    shutdown = record { shuts = omega arith; halts = quiet.shutdown.halts; no_stuck = quiet.shutdown.no_stuck };
-    made = one_made _ is;
-    rows = quiet.rows;
-  }
+  keeps_spawns k p program slot is = grind (arith, common_steps, none_waits, quiet, upped, shutdown, shuts, halts, one_made)
 
   -- a spawn that gets no birth
   pub keeps_lacks_birth : (late : Bool) (p : Process) (program : ℕ) → IsMade script (made_of p (spawn program) no_birth) → Balanced script n (p ∷ []) (after_note p no_birth ∷ []) (lacks_birth late p program)
-  keeps_lacks_birth late p program is = let r = refused_claim_weighs late in record {
-    processes = λ f. omega (arith, none_waits n);
-    slots = quiet.slots;
-    children = λ g. refl;
-    new = quiet.new;
-    births = record { ups = omega (arith, r.ups); releases = omega (arith, r.releases); refusals = omega (arith, r.refusals); ones = r.others };
-    busy = quiet.busy;
-    semaphores = record { downs = λ t below. omega (arith, none_waits n); upped = λ t below. omega arith; parked = quiet.semaphores.parked };
-    shutdown = record { shuts = omega arith; halts = quiet.shutdown.halts; no_stuck = quiet.shutdown.no_stuck };
-    made = one_made _ is;
-    rows = quiet.rows;
-  }
+  keeps_lacks_birth late p program is = grind (arith, common_steps, refused_claim_weighs, none_waits, quiet, upped, shutdown, shuts, halts, one_made)
 
   -- a spawn that gets no slot
   pub keeps_lacks_slot : (late : Bool) (p : Process) (program : ℕ) → IsMade script (made_of p (spawn program) no_slot) → Balanced script n (p ∷ []) (after_note p no_slot ∷ []) (lacks_slot late p program)
-  keeps_lacks_slot late p program is = let e = (quiet_empty {T = ℕ} late).idle in record {
-    processes = λ f. omega (arith, none_waits n);
-    slots = λ g. omega (arith, e.puts g, e.gots g);
-    children = λ g. refl;
-    new = quiet.new;
-    births = record { ups = omega arith; releases = omega arith; refusals = omega arith; ones = omega arith };
-    busy = quiet.busy;
-    semaphores = record { downs = λ t below. omega (arith, none_waits n); upped = λ t below. omega arith; parked = quiet.semaphores.parked };
-    shutdown = record { shuts = omega arith; halts = quiet.shutdown.halts; no_stuck = quiet.shutdown.no_stuck };
-    made = one_made _ is;
-    rows = quiet.rows;
-  }
+  keeps_lacks_slot late p program is = grind (arith, common_steps, quiet_empty, none_waits, quiet, upped, shutdown, shuts, halts, one_made)
 
   -- a process ends
   pub keeps_ends : (k : ℕ) (p : Process) → FitsScript script p → next_step script p ≡ None → Balanced script n (p ∷ []) [] (ends k p)
-  keeps_ends k p fits over = record {
-    processes = λ f. omega (arith, none_waits n);
-    slots = λ g. omega arith;
-    children = quiet.children;
-    new = quiet.new;
-    births = quiet.births;
-    busy = record { credits = quiet.busy.credits; debits = omega (arith, none_waits n) };
-    semaphores = quiet.semaphores;
-    shutdown = record { shuts = quiet.shutdown.shuts; halts = omega arith; no_stuck = omega arith };
-    made = quiet.made;
-    rows = one_row _ (record { process = fits; stands = over });
-  }
+  keeps_ends k p fits over = grind (arith, common_steps, none_waits, quiet, shutdown, shuts, halts, one_row)
 
   -- a shutdown
   pub keeps_shuts : (p : Process) → IsMade script (made_of p shutdown shut_down) → Balanced script n (p ∷ []) (after_note p shut_down ∷ []) (shuts p)
-  keeps_shuts p is = record {
-    processes = λ f. omega (arith, none_waits n);
-    slots = quiet.slots;
-    children = λ g. refl;
-    new = quiet.new;
-    births = record { ups = omega arith; releases = omega arith; refusals = omega arith; ones = quiet.births.ones };
-    busy = quiet.busy;
-    semaphores = record { downs = λ t below. omega (arith, none_waits n); upped = λ t below. omega arith; parked = quiet.semaphores.parked };
-    shutdown = record { shuts = omega arith; halts = omega arith; no_stuck = quiet.shutdown.no_stuck };
-    made = one_made _ is;
-    rows = quiet.rows;
-  }
+  keeps_shuts p is = grind (arith, common_steps, none_waits, quiet, upped, shutdown, shuts, halts, one_made)
 
   -- refused calls on a wait queue: kinds that put and get nothing
   pub keeps_waits_refused : (s : ℕ) (kinds : List (Kind Process)) → s < n → ((f : Process → ℕ) → (sum_by (put_of f) kinds ≡ 0) × (sum_by (got_of f) kinds ≡ 0)) → Balanced script n [] [] (waits_refused s kinds)

@@ -1,7 +1,7 @@
 -- Processors with seats as they are opened: what they know, and the lists that the list scheduler has where there is one.
 use Rattle.fak_model.specs.Credit as credit
 use Rattle.fak_model.specs.Room as room
-use Rattle.fak_processor.proofs.Common.{free_entry, nothing, Owns, queue_kind, IsOnly, ObjectsOf, AreFor, AreOf, GoesTo, IsAlone, ids_of, ids_of_seats, bundle_of, Between, empty_lists, ◌≡◌, ℕ, zero, suc, ◌+◌, ◌-◌, ◌<◌, List, [], ◌∷◌, All, length, map, replicate, get_or, slice_index_or, refl, ap, sym, ◌∙◌, subst, arith, false, length-replicate, All-nil, All-cons, All-head, All-tail, ObjectId, seat_info, credit_rules, queue_rules, room_rules, FileMark, CreditMark, RoomMark, Mark, entries_after, SemId, SemInfo, SemSeatInfo, credit_part, queue_part, ScriptOf, down, Process, StandsAt, Turning, IsOnlySem, semaphore_count, sleepers_of, no_seat, no_table, AreSeated, HasName, fresh_processor, fresh_sem_at, lines_none, FileEntry}
+use Rattle.fak_processor.proofs.Common.{free_entry, nothing, Owns, queue_kind, IsOnly, ObjectsOf, AreFor, AreOf, GoesTo, IsAlone, ids_of, ids_of_seats, bundle_of, Between, empty_lists, ◌≡◌, ℕ, zero, suc, ◌+◌, ◌-◌, ◌<◌, List, [], ◌∷◌, All, length, map, replicate, get_or, slice_index_or, refl, ap, ◌∙◌, arith, length-replicate, All-nil, All-cons, All-head, All-tail, ObjectId, seat_info, credit_rules, queue_rules, room_rules, entries_after, SemId, SemInfo, SemSeatInfo, credit_part, queue_part, ScriptOf, down, Process, Turning, IsOnlySem, semaphore_count, sleepers_of, no_seat, no_table, AreSeated, HasName, fresh_processor, fresh_sem_at, lines_none, FileEntry, common_steps}
 use Rattle.fak_processor.proofs.Events.{quiet}
 use Rattle.fak_processor.proofs.Tallies.{owns_fresh}
 
@@ -28,18 +28,7 @@ fresh_names stint name (o ∷ ids) (suc k) d below = fresh_names stint name ids 
 
 module _ (o : ObjectsOf) (stint name : ℕ) where
   pub fresh_are : AreOf o (fresh_processor o stint name)
-  fresh_are = record {
-    ready = refl;
-    ready_idle = refl;
-    free = refl;
-    free_idle = refl;
-    semaphores = fresh_ids stint name (ids_of o.semaphores);
-    births = refl;
-    busy = refl;
-    files = refl;
-    files_free = refl;
-    copy = length-replicate o.files.entries free_entry;
-  }
+  fresh_are = grind (arith, common_steps, fresh_ids, ids_of, length-replicate, free_entry)
 
   pub fresh_name : HasName name (fresh_processor o stint name)
   fresh_name = record { ready = refl; free = refl; births = refl; busy = refl; semaphores = fresh_names stint name (ids_of o.semaphores); files = refl }
@@ -73,11 +62,7 @@ only_fresh : {M : Type 0} (seat_of : M → ℕ) (o : ObjectId) (stint : ℕ) →
 only_fresh {M} seat_of o stint one = record { one = one; name = refl; named = All-nil (λ (m : M). seat_of m < 1) }
 
 sem_fresh : (stint : ℕ) (o : SemId) → o.credit.seats ≡ 1 → o.queue.seats ≡ 1 → IsOnlySem (fresh_sem_at stint 0 o)
-sem_fresh stint o credits waits = record {
-  credit = only_fresh (λ (m : CreditMark). m.seat) o.credit stint credits;
-  queue = only_fresh (λ (m : Mark Process). m.seat) o.queue stint waits;
-  owed = omega arith;
-}
+sem_fresh stint o credits waits = grind (arith, common_steps, only_fresh)
 
 sems_fresh : (stint : ℕ) (sems : List SemInfo) → All (λ (s : SemInfo). s.object.credit.seats ≡ 1) sems → All (λ (s : SemInfo). s.object.queue.seats ≡ 1) sems → All IsOnlySem (map (fresh_sem_at stint 0) (ids_of sems))
 sems_fresh stint [] credits waits = All-nil IsOnlySem
@@ -106,31 +91,8 @@ entries_fresh from (suc n) = ap (λ (l : List FileEntry). free_entry ∷ l) (ent
 
 module _ (script : ScriptOf) (o : ObjectsOf) (stint : ℕ) where
   fresh_alone : AreSeated 1 o → IsAlone script (fresh_processor o stint 0)
-  fresh_alone one = record {
-    ready = record { only = only_fresh (λ (m : Mark Process). m.seat) o.ready.object stint one.ready; rest = refl };
-    free = record { only = only_fresh (λ (m : Mark ℕ). m.seat) o.free.object stint one.free; rest = refl };
-    semaphores = sems_fresh stint o.semaphores one.credits one.waits;
-    asleep = λ n. subst (All (λ p. StandsAt script p (down n))) (sym (nobody_at stint (ids_of o.semaphores) n)) (All-nil (λ p. StandsAt script p (down n)));
-    births = record { only = only_fresh (λ (m : RoomMark). m.seat) o.births.object stint one.births; held = refl };
-    files = only_fresh (λ (m : FileMark). m.seat) o.files.object stint one.files;
-  }
+  fresh_alone one = grind (arith, common_steps, only_fresh, sems_fresh, down, nobody_at, ids_of)
 
   -- where there is one processor, it begins with the list scheduler's lists, but for who is ready and which slots are free
   pub fresh_goes : AreFor script o → AreSeated 1 o → GoesTo script (fresh_processor o stint 0) (empty_lists script)
-  fresh_goes made one =
-      let counts = counts_fresh stint o.semaphores ∙ made.starts in
-      let sleepers = sleepers_fresh stint o.semaphores ∙ ap (map (λ _. [])) made.starts in
-      record {
-        alone = fresh_alone one;
-        lists_are = λ i. record {
-          ready = [];
-          free_slots = [];
-          counts = counts i;
-          sleepers = sleepers i;
-          entries = entries_fresh 0 script.files i;
-          births = 0;
-          is_shut = false;
-          ended = [];
-          halted = [];
-        };
-      }
+  fresh_goes made one = grind (arith, common_steps, counts_fresh, sleepers_fresh, map, fresh_alone, entries_fresh)

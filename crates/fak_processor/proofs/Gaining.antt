@@ -1,5 +1,5 @@
 -- What calls on one semaphore add to a processor's seats.
-use Rattle.fak_processor.proofs.Common.{RowOf, Ledger, nothing, ObjectsOf, ProcessorOf, AreFor, AreOf, AreLines, ◌≡◌, ℕ, ◌+◌, ◌<◌, ◌==◌, Bool, true, false, cond, List, [], ◌∷◌, ◌++◌, length, slice_index_or, refl, ap, sym, ◌∙◌, subst, arith, Some, None, sum_by, flat_map, length-map, All-get_or, CreditKind, Debit, Credit, kinds_not_in, kinds_not_out, kinds_in, kinds_out, SemInfo, SemSeatInfo, ScriptOf, down, Process, FitsScript, StandsAt, after_note, downed, files_of, Gains, GainsParked, GainsWoken, at_one, DownsAt, UpsAt}
+use Rattle.fak_processor.proofs.Common.{RowOf, Ledger, nothing, ObjectsOf, ProcessorOf, AreFor, AreOf, AreLines, ◌≡◌, ℕ, ◌+◌, ◌<◌, ◌==◌, Bool, cond, List, [], ◌∷◌, ◌++◌, length, slice_index_or, refl, ap, sym, ◌∙◌, subst, arith, Some, None, sum_by, flat_map, length-map, All-get_or, CreditKind, Debit, Credit, kinds_not_in, kinds_not_out, kinds_in, kinds_out, SemInfo, SemSeatInfo, ScriptOf, down, Process, FitsScript, StandsAt, after_note, downed, files_of, Gains, GainsParked, GainsWoken, at_one, DownsAt, UpsAt, common_steps}
 use Rattle.fak_processor.proofs.Calls.{grows_parks, grows_passes, grows_wakes, grows_adds}
 use Rattle.fak_processor.proofs.Moving.{gains_semaphore}
 use Rattle.fak_processor.proofs.Places.{alike_at}
@@ -37,8 +37,7 @@ abbrev none_of : (A : Type 0) → List A
 none_of A = []
 
 cond_none : {A : Type 0} (b : Bool) → cond b (none_of A) (none_of A) ≡ none_of A
-cond_none true = refl
-cond_none false = refl
+cond_none b = grind (arith, common_steps, none_of)
 
 size_at : {script : ScriptOf} {o : ObjectsOf} (made : AreFor script o) (at : ℕ) → at < length o.semaphores → (sem : SemInfo) → sem ≡ slice_index_or o.semaphores at sem → sem.size ≡ script.slots
 size_at {script} {o} made at below sem is = subst (λ (s : SemInfo). s.size ≡ script.slots) (sym is) (All-get_or (λ (s : SemInfo). s.size ≡ script.slots) o.semaphores at sem below made.waits)
@@ -48,9 +47,7 @@ module _ {script : ScriptOf} {o : ObjectsOf} (p : ProcessorOf) (made : AreFor sc
   there = omega (arith, low, made.semaphores)
 
   pub seat_there : at < length p.semaphores
-  seat_there =
-      let lengths : length p.semaphores ≡ length o.semaphores = sym (length-map p.semaphores (λ (s : SemSeatInfo Process). s.object)) ∙ (ap length fits.semaphores ∙ length-map o.semaphores (λ (s : SemInfo). s.object)) in
-      omega (arith, lengths, there)
+  seat_there = grind (arith, common_steps, length, length-map, there)
 
   pub same_there : {seat : SemSeatInfo Process} {sem : SemInfo} → seat ≡ slice_index_or p.semaphores at seat → sem ≡ slice_index_or o.semaphores at sem → seat.object ≡ sem.object
   same_there {seat} {sem} = alike_at (λ (s : SemSeatInfo Process). s.object) (λ (s : SemInfo). s.object) p.semaphores o.semaphores at seat sem fits.semaphores seat_there

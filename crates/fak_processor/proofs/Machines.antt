@@ -1,5 +1,5 @@
 -- What the calls of the only processor are in the list scheduler.
-use Rattle.fak_processor.proofs.Common.{◌≡◌, ℕ, ◌+◌, ◌-◌, ◌<◌, ◌≤◌, List, [], ◌∷◌, ◌++◌, All, length, map, slice_set, slice_index_or, refl, ap, sym, ◌∙◌, subst, arith, nat_lt, slice_index, nat_tests, SeatInfo, get_or-map, length-map, map-set, RoomMark, SemSeatInfo, ScriptOf, down, Process, StandsAt, after_note, downed, IsOnlySem, IsOnlyRoom, Passes, Parks, Raises, Rouses, Claims, FindsFull, GivesBack, semaphore_count, sleepers_of, ObjectsOf, ProcessorOf, AreFor, IsAlone, lists_of, GoesTo, AtPlace, IsBorn, HasNoBirth, WakesNobody, WakesFirst, SleepsLast, CountFalls, held_amount}
+use Rattle.fak_processor.proofs.Common.{◌≡◌, ℕ, ◌+◌, ◌-◌, ◌<◌, List, [], ◌∷◌, ◌++◌, All, length, map, slice_set, slice_index_or, refl, ap, sym, ◌∙◌, subst, arith, nat_lt, slice_index, nat_tests, SeatInfo, get_or-map, length-map, map-set, RoomMark, SemSeatInfo, ScriptOf, down, Process, StandsAt, after_note, downed, IsOnlySem, IsOnlyRoom, Passes, Parks, Raises, Rouses, Claims, FindsFull, GivesBack, semaphore_count, sleepers_of, ObjectsOf, ProcessorOf, AreFor, IsAlone, lists_of, GoesTo, AtPlace, IsBorn, HasNoBirth, WakesNobody, WakesFirst, SleepsLast, CountFalls, held_amount, common_steps}
 use Rattle.std.proofs.lemmas.List.Elements.{All-set, All-head}
 use Rattle.fak_run.specs.Contexts.{WaitAtTheirs}
 use Rattle.fak_processor.proofs.Waiting.{AllAtTheirs-same, AllAtTheirs-push, AllAtTheirs-pop}
@@ -12,31 +12,13 @@ module _ {script : ScriptOf} {o : ObjectsOf} (p : ProcessorOf) (alone : IsAlone 
   alone_births only = record { ready = alone.ready; free = alone.free; semaphores = alone.semaphores; asleep = alone.asleep; births = only; files = alone.files }
 
   pub is_born : Claims o.births.bound p.births b → IsBorn script (lists_of script p) (record p { births = b })
-  is_born c =
-      let fits = c.fits in
-      let bound = made.births in
-      record {
-        may = (let low : held_amount p.births < script.births = omega (arith, fits, bound) in grind (arith, nat_tests));
-        goes = record { alone = alone_births c.only; lists_are = λ i. record (lists_of script p) { births = c.held i } };
-      }
+  is_born c = grind (arith, common_steps, held_amount, nat_tests, alone_births, lists_of)
 
   pub has_no_birth : FindsFull o.births.bound p.births b → HasNoBirth script (lists_of script p) (record p { births = b })
-  has_no_birth c =
-      let full = c.full in
-      let bound = made.births in
-      record {
-        may_not = (let high : script.births ≤ held_amount p.births = omega (arith, full, bound) in grind (arith, nat_tests));
-        goes = record { alone = alone_births c.only; lists_are = λ i. record (lists_of script p) { births = c.held i } };
-      }
+  has_no_birth c = grind (arith, common_steps, held_amount, nat_tests, alone_births, lists_of)
 
 pub birth_given : {script : ScriptOf} (p : ProcessorOf) → IsAlone script p → {b : SeatInfo RoomMark} → GivesBack p.births b → GoesTo script (record p { births = b }) (record (lists_of script p) { births = held_amount p.births - 1 })
-birth_given {script} p alone {b} g =
-    let held = g.held in
-    let less : held_amount b ≡ held_amount p.births - 1 = omega (arith, held) in
-    record {
-      alone = record { ready = alone.ready; free = alone.free; semaphores = alone.semaphores; asleep = alone.asleep; births = g.only; files = alone.files };
-      lists_are = λ i. record (lists_of script p) { births = less i };
-    }
+birth_given {script} p alone {b} g = grind (arith, common_steps, held_amount, lists_of)
 
 -- ---- semaphores
 

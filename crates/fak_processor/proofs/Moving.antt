@@ -5,7 +5,7 @@ use Rattle.fak_model.specs.Room as room
 use Rattle.fak_model.specs.Credit as credit
 use Rattle.fak_count.specs.Rooms as rooms
 use Rattle.fak_queue.proofs.Common.{Makes, RefusesEmpty, Deletes, RefusedInsertion, NotIn, WithdrawnIn, ClosedIn, WithdrawnLate, kinds_not_in, kinds_in}
-use Rattle.fak_processor.proofs.Common.{Ledger, Made, nothing, joined, queue_kind, Bundle, ProcessorOf, AreLines, is_file_line, file_lines, ◌≡◌, ◌⊎◌, ℕ, ◌<◌, Bool, true, false, List, [], ◌∷◌, ◌++◌, All, All-head, All-tail, no_seat, flat_map, length, map, slice_index_or, slice_set, Option, Some, None, MatchOption, refl, ap, sym, ◌∙◌, subst, arith, inl, inr, append_assoc, ℤ, sum_by-append, filter-append, SeatInfo, queue_rules, room_rules, credit_rules, put_of, got_of, close_of, closed_of, Kind, Mark, kinds_out, RoomKind, No, RoomMark, CreditKind, CreditMark, FileMark, cond_here, cond_else, SemSeatInfo, credit_part, queue_part, ScriptOf, NoteOf, Process, Grows, Adds, MovesNoItem, IsQuiet, GrowsIn, GrowsShut, GrowsAtLast, GrowsIdle, GrowsEmpty, GrowsOut, bundle_of, names_of, files_of, Gains, at_one, IsFull, IsClosed, InsertsAfterFull, ClosesAfterFull}
+use Rattle.fak_processor.proofs.Common.{Ledger, Made, nothing, joined, queue_kind, Bundle, ProcessorOf, AreLines, is_file_line, file_lines, ◌≡◌, ◌⊎◌, ℕ, ◌<◌, Bool, true, false, List, [], ◌∷◌, ◌++◌, All, All-head, All-tail, no_seat, flat_map, length, map, slice_index_or, slice_set, Option, MatchOption, refl, ap, sym, ◌∙◌, subst, arith, append_assoc, ℤ, sum_by-append, filter-append, SeatInfo, queue_rules, room_rules, credit_rules, put_of, got_of, close_of, closed_of, Kind, Mark, kinds_out, RoomKind, No, RoomMark, CreditKind, CreditMark, FileMark, cond_here, cond_else, SemSeatInfo, credit_part, queue_part, ScriptOf, NoteOf, Process, Grows, Adds, MovesNoItem, IsQuiet, GrowsIn, GrowsShut, GrowsAtLast, GrowsIdle, GrowsEmpty, GrowsOut, bundle_of, names_of, files_of, Gains, at_one, IsFull, IsClosed, InsertsAfterFull, ClosesAfterFull, common_steps}
 use Rattle.fak_processor.specs.Events.{full, empty, closed, refused_claim}
 use Rattle.fak_processor.proofs.Places.{alike_after}
 use Rattle.fak_processor.proofs.Calls.{grows_same, grows_makes, grows_deletes, grows_empty, grows_room, grows_withdraws}
@@ -26,34 +26,24 @@ pub quiet_none : {T : Type 0} → IsQuiet {T = T} []
 quiet_none = record { idle = idle_none; closes = refl; closeds = refl }
 
 pub quiet_then : {T : Type 0} {ks ms : List (Kind T)} → IsQuiet ks → IsQuiet ms → IsQuiet (ks ++ ms)
-quiet_then {ks = ks} {ms = ms} a b = record {
-  idle = idle_then a.idle b.idle;
-  closes = omega (arith, a.closes, b.closes, sum_by-append close_of ks ms);
-  closeds = omega (arith, a.closeds, b.closeds, sum_by-append closed_of ks ms);
-}
+quiet_then {ks = ks} {ms = ms} a b = grind (arith, common_steps, idle_then, sum_by-append, close_of, closed_of)
 
 pub quiet_full : {T : Type 0} (late : Bool) → IsQuiet {T = T} (full late)
-quiet_full true = record { idle = record { puts = λ f. refl; gots = λ f. refl }; closes = refl; closeds = refl }
-quiet_full false = record { idle = record { puts = λ f. refl; gots = λ f. refl }; closes = refl; closeds = refl }
+quiet_full late = grind (arith, common_steps, full, IsQuiet)
 
 -- insertions that were refused Full
 quiet_try : {T : Type 0} (r : RefusedInsertion) → IsFull r → IsQuiet {T = T} (kinds_not_in r)
-quiet_try NotIn is = quiet_full false
-quiet_try WithdrawnIn is = quiet_full true
-quiet_try ClosedIn is = absurd is
-quiet_try WithdrawnLate is = absurd is
+quiet_try r is = grind (arith, common_steps, kinds_not_in, IsFull, IsQuiet, quiet_full)
 
 pub quiet_tries : {T : Type 0} (rs : List RefusedInsertion) → All IsFull rs → IsQuiet {T = T} (flat_map kinds_not_in rs)
 quiet_tries [] full = quiet_none
 quiet_tries (r ∷ rs) full = quiet_then (quiet_try r (All-head IsFull r rs full)) (quiet_tries rs (All-tail IsFull r rs full))
 
 pub quiet_empty : {T : Type 0} (late : Bool) → IsQuiet {T = T} (empty late)
-quiet_empty true = record { idle = record { puts = λ f. refl; gots = λ f. refl }; closes = refl; closeds = refl }
-quiet_empty false = record { idle = record { puts = λ f. refl; gots = λ f. refl }; closes = refl; closeds = refl }
+quiet_empty late = grind (arith, common_steps, empty, IsQuiet)
 
 pub idle_closed : {T : Type 0} (late : Bool) → MovesNoItem {T = T} (closed late)
-idle_closed true = record { puts = λ f. refl; gots = λ f. refl }
-idle_closed false = record { puts = λ f. refl; gots = λ f. refl }
+idle_closed late = grind (arith, common_steps, closed)
 
 -- ---- calls on one queue
 
@@ -94,8 +84,7 @@ module _ {T : Type 0} {size : ℕ} where
   none_there r = let g = grows_empty r in record { late = g.0; grows = g.1 }
 
 pub refused_grows : {room_is : rooms.RoomInfo} {old new : SeatInfo RoomMark} {v : ℤ} → rooms.MakesCall (No 1) room_is old new v ⊎ rooms.Withdraws 1 room_is old new v → (late : Bool) × Grows (room_rules room_is.bound) room.kind_of old new (refused_claim late)
-refused_grows (inl m) = (false, grows_room m)
-refused_grows (inr w) = (true, grows_withdraws w)
+refused_grows e = grind (arith, common_steps, room_rules, refused_claim, grows_room, grows_withdraws)
 
 -- ---- a processor
 
@@ -109,14 +98,7 @@ files_then a b = ap file_lines (map-append (λ (m : Made). m.note) a.made b.made
 
 module _ {script : ScriptOf} where
   pub adds_none : (b : Bundle) → Adds script b b nothing
-  adds_none b = record {
-    ready = grows_same (queue_rules script.slots) queue_kind b.ready;
-    free = grows_same (queue_rules script.slots) queue_kind b.free;
-    births = grows_same (room_rules script.births) room.kind_of b.births;
-    busy = grows_same credit_rules credit.kind_of b.busy;
-    credits = λ s below. grows_same credit_rules credit.kind_of (credit_part (b.sems s));
-    waits = λ s below. grows_same (queue_rules script.slots) queue_kind (queue_part (b.sems s));
-  }
+  adds_none b = grind (arith, common_steps, grows_same, queue_rules, queue_kind, room_rules, credit_rules, credit_part, queue_part)
 
   pub gains_none : (p : ProcessorOf) → Gains script p p nothing
   gains_none p = record { names = refl; adds = λ d. adds_none (bundle_of d p); rows = λ f. omega arith; lines = no_lines script.files p.files.seat }
@@ -141,12 +123,7 @@ module _ {script : ScriptOf} where
   gains_single : (p : ProcessorOf) {r : SeatInfo (Mark Process)} {f : SeatInfo (Mark ℕ)} {b : SeatInfo RoomMark} {c : SeatInfo CreditMark} {ready : List (Kind Process)} {free : List (Kind ℕ)} {births : List RoomKind} {busy : List CreditKind}
       → Grows (queue_rules script.slots) queue_kind p.ready r ready → Grows (queue_rules script.slots) queue_kind p.free f free → Grows (room_rules script.births) room.kind_of p.births b births → Grows credit_rules credit.kind_of p.busy c busy
       → Gains script p (record p { ready = r; free = f; births = b; busy = c }) (record nothing { ready = ready; free = free; births = births; busy = busy })
-  gains_single p gr gf gb gc = record {
-    adds = λ d. let a = adds_none (bundle_of d p) in record { ready = gr; free = gf; births = gb; busy = gc; credits = a.credits; waits = a.waits };
-    rows = λ f. omega arith;
-    names = λ i. record (names_of p) { ready = gr.name i; free = gf.name i; births = gb.name i; busy = gc.name i };
-    lines = no_lines script.files p.files.seat;
-  }
+  gains_single p gr gf gb gc = grind (arith, common_steps, adds_none, bundle_of, names_of, no_lines)
 
   -- one of them
   module _ (p : ProcessorOf) where
@@ -170,38 +147,9 @@ module _ {script : ScriptOf} where
       → size ≡ script.slots → was ≡ slice_index_or p.semaphores at was → seats ≡ slice_set p.semaphores at is
       → Grows credit_rules credit.kind_of (credit_part was) (credit_part is) credits → Grows (queue_rules size) queue_kind (queue_part was) (queue_part is) waits
       → Gains script p (record p { semaphores = seats }) (record nothing { credits = at_one at credits; waits = at_one at waits })
-  gains_semaphore p {size} {at} was is seats credits waits below size_is stood stands g w = record {
-    adds = λ d. record {
-      ready = grows_same (queue_rules script.slots) queue_kind p.ready;
-      free = grows_same (queue_rules script.slots) queue_kind p.free;
-      births = grows_same (room_rules script.births) room.kind_of p.births;
-      busy = grows_same credit_rules credit.kind_of p.busy;
-      credits = λ s low. place (λ a b ks. Grows credit_rules credit.kind_of (credit_part a) (credit_part b) ks) credits d s (λ a. grows_same credit_rules credit.kind_of (credit_part a)) g;
-      waits = λ s low. place (λ a b ks. Grows (queue_rules script.slots) queue_kind (queue_part a) (queue_part b) ks) waits d s (λ a. grows_same (queue_rules script.slots) queue_kind (queue_part a))
-          (subst (λ n. Grows (queue_rules n) queue_kind (queue_part was) (queue_part is) waits) size_is w);
-    };
-    rows = λ f. omega arith;
-    names = ap (λ (ns : List ℕ). record (names_of p) { semaphores = ns }) (ap (map (λ (s : SemSeatInfo Process). s.name)) stands ∙ alike_after (λ (s : SemSeatInfo Process). s.name) p.semaphores at was is stood g.name);
-    lines = no_lines script.files p.files.seat;
-  }
-    where
-      old_at : (d : SemSeatInfo Process) → slice_index_or p.semaphores at d ≡ was
-      old_at d = get_or_default p.semaphores at d was below ∙ sym stood
-
-      new_at : (d : SemSeatInfo Process) → slice_index_or seats at d ≡ is
-      new_at d = ap (λ l. slice_index_or l at d) stands ∙ get_or-set_same p.semaphores at is d below
-
-      place : {K : Type 0} (P : SemSeatInfo Process → SemSeatInfo Process → List K → Type 0) (kinds : List K) (d : SemSeatInfo Process) (s : ℕ) → ((a : SemSeatInfo Process) → P a a []) → P was is kinds
-          → P (slice_index_or p.semaphores s d) (slice_index_or seats s d) (at_one at kinds s)
-      place P kinds d s same made = elim (cases_eq s at) [
-        | inl e ↦ subst (λ t. P (slice_index_or p.semaphores t d) (slice_index_or seats t d) (at_one at kinds t)) (sym e)
-            (subst (λ a. P a (slice_index_or seats at d) (at_one at kinds at)) (sym (old_at d)) (subst (λ b. P was b (at_one at kinds at)) (sym (new_at d)) (subst (P was is) (sym (cond_here at kinds [])) made)))
-        | inr n ↦ subst (λ b. P (slice_index_or p.semaphores s d) b (at_one at kinds s)) (sym (ap (λ l. slice_index_or l s d) stands ∙ get_or-set_other p.semaphores at s is d n))
-            (subst (P (slice_index_or p.semaphores s d) (slice_index_or p.semaphores s d)) (sym (cond_else at s kinds [] (λ e. n (sym e)))) (same (slice_index_or p.semaphores s d)))
-      ]
+  gains_semaphore p {size} {at} was is seats credits waits below size_is stood stands g w = grind (arith, common_steps, grows_same, queue_rules, queue_kind, room_rules, credit_rules, credit_part, queue_part, names_of, map, alike_after, no_lines, slice_index_or, get_or_default, get_or-set_same, at_one, cases_eq, cond_here, get_or-set_other, cond_else)
 
 -- a slot is taken, or there is none
 pub gains_taken : (script : ScriptOf) (p : ProcessorOf) {size : ℕ} (s : SeatInfo (Mark ℕ)) (slot : Option ℕ) → size ≡ script.slots → MatchOption slot (GrowsEmpty size p.free s) (λ n. GrowsOut size n p.free s)
     → MatchOption slot ((late : Bool) × Gains script p (record p { free = s }) (record nothing { free = empty late })) (λ n. (ticket : ℕ) × Gains script p (record p { free = s }) (record nothing { free = kinds_out ticket n }))
-gains_taken script p s None same e = (e.late, gains_free p _ same e.grows)
-gains_taken script p s (Some n) same e = (e.ticket, gains_free p _ same e.grows)
+gains_taken script p s slot same e = grind (arith, common_steps, nothing, empty, kinds_out, gains_free)

@@ -1,5 +1,5 @@
 -- What calls do to semaphores and rooms that have one seat.
-use Rattle.fak_processor.proofs.Common.{◌≡◌, ◌⊎◌, ℕ, ◌+◌, ◌-◌, ◌<◌, ◌≤◌, List, [], ◌∷◌, ◌++◌, Some, None, length, length-append, refl, ap, sym, ◌∙◌, subst, arith, inl, inr, ℤ, pos, map, ◌+ℤ◌, ◌≤ℤ◌, ◌<ℤ◌, flat_map, sum_by, ints, map-append, sum_by-append, count, gots, items_put, contents, SeatInfo, Appends, CreditKind, CreditMark, RoomKind, Up, Over, Back, No, Release, RoomMark, Kind, Mark, made_by, RefusedInsertion, NotIn, WithdrawnIn, ClosedIn, WithdrawnLate, kinds_not_in, RefusedDeletion, NotOut, WithdrawnOut, kinds_not_out, kinds_in, kinds_out, InsertsAtLast, DeletesAtLast, SemInfo, SemId, SemSeatInfo, Downs, Ups, IsOnly, IsOnlySem, Passes, Parks, Raises, Rouses, IsOnlyRoom, Claims, FindsFull, GivesBack, total_push, RoomInfo, held_amount, IsGranted, MakesCall, Withdraws, made_by_append, count_at_last, none_in, none_out, only_seen, only_still, only_lawful, only_before}
+use Rattle.fak_processor.proofs.Common.{◌≡◌, ◌⊎◌, ℕ, ◌+◌, List, [], ◌∷◌, ◌++◌, Some, None, length, length-append, refl, ap, sym, ◌∙◌, subst, arith, inl, inr, ℤ, pos, map, ◌+ℤ◌, ◌≤ℤ◌, ◌<ℤ◌, flat_map, sum_by, ints, map-append, sum_by-append, count, gots, items_put, contents, SeatInfo, Appends, CreditKind, CreditMark, RoomKind, Up, Over, Back, No, Release, RoomMark, Kind, Mark, made_by, RefusedInsertion, kinds_not_in, RefusedDeletion, kinds_not_out, kinds_in, kinds_out, InsertsAtLast, DeletesAtLast, SemInfo, SemId, SemSeatInfo, Downs, Ups, IsOnly, IsOnlySem, Passes, Parks, Raises, Rouses, IsOnlyRoom, Claims, FindsFull, GivesBack, total_push, RoomInfo, held_amount, IsGranted, MakesCall, Withdraws, made_by_append, count_at_last, none_in, none_out, only_seen, only_still, only_lawful, only_before, common_steps}
 use Rattle.fak_model.specs.declared.queue.Kind.TheVariants as made
 use Rattle.fak_model.specs.Credit as credit
 use Rattle.fak_model.specs.Room as room
@@ -18,19 +18,13 @@ module _ {T R : Type 0} (kinds_of : R → List (Kind T)) (name : ℕ) (no_puts :
       ∙ (items_more (made_by name (kinds_of r)) (made_by name (flat_map kinds_of rs)) ∙ (ap (λ l. l ++ items_put (made_by name (flat_map kinds_of rs))) (no_puts r) ∙ none_put rs))
 
   pub put_at_last : (refused : List R) (kinds : List (Kind T)) → items_put (made_by name (flat_map kinds_of refused ++ kinds)) ≡ items_put (made_by name kinds)
-  put_at_last refused kinds =
-      ap (λ (h : List (Mark T)). items_put h) (made_by_append name (flat_map kinds_of refused) kinds)
-      ∙ (items_more (made_by name (flat_map kinds_of refused)) (made_by name kinds) ∙ ap (λ l. l ++ items_put (made_by name kinds)) (none_put refused))
+  put_at_last refused kinds = grind (arith, common_steps, items_put, made_by_append, flat_map, items_more, made_by, none_put)
 
 pub in_put : (T : Type 0) (name : ℕ) (r : RefusedInsertion) → items_put (made_by name (kinds_not_in {T = T} r)) ≡ []
-in_put T name NotIn = refl
-in_put T name WithdrawnIn = refl
-in_put T name ClosedIn = refl
-in_put T name WithdrawnLate = refl
+in_put T name r = grind (arith, common_steps, items_put, made_by, kinds_not_in)
 
 out_put : (T : Type 0) (name : ℕ) (r : RefusedDeletion) → items_put (made_by name (kinds_not_out {T = T} r)) ≡ []
-out_put T name NotOut = refl
-out_put T name WithdrawnOut = refl
+out_put T name r = grind (arith, common_steps, items_put, made_by, kinds_not_out)
 
 module _ {T : Type 0} {size : ℕ} {x : T} {old new : SeatInfo (Mark T)} (o : IsOnly (λ (m : Mark T). m.seat) old) where
   pub inserted : InsertsAtLast size x old new → (contents new.seen ≡ contents old.seen ++ x ∷ []) × IsOnly (λ (m : Mark T). m.seat) new
@@ -144,10 +138,7 @@ module _ {bound : ℕ} {marks : List RoomMark} {old new : SeatInfo RoomMark} (o 
   amount_after amount = ap (room.total amount) (only_seen o.only a) ∙ total_more amount old.seen marks
 
   room_after : pos (held_amount new) ≡ pos (held_amount old) +ℤ room.value marks → IsOnlyRoom new
-  room_after held = record {
-    only = only_still o.only a;
-    held = omega (arith, ints, amount_after room.up_amount, amount_after room.over_amount, amount_after room.back_amount, amount_after room.release_amount, o.held, held);
-  }
+  room_after held = grind (arith, common_steps, only_still, amount_after)
 
 pub claims : {info : RoomInfo} {answer : ℤ} {old new : SeatInfo RoomMark} → IsOnlyRoom old → IsGranted 1 info old new answer → held_amount new ≡ held_amount old + 1 → Claims info.bound old new
 claims {info} {old = old} o g held =

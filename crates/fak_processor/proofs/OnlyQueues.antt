@@ -1,5 +1,5 @@
 -- What calls do to the contents of a queue that has one seat.
-use Rattle.fak_processor.proofs.Common.{◌≡◌, ℕ, zero, suc, ◌+◌, ◌≤◌, ◌||◌, Bool, true, false, List, [], ◌∷◌, ◌++◌, Some, length, drop, refl, ap, sym, ◌∙◌, subst, arith, inl, inr, append_assoc, ℤ, pos, ◌≤ℤ◌, ints, flat_map-append, queue_rules, IsQueueHistory, count, puts, gots, lower_raise, lower_drop, lower_count, Has, item_in, item_at, items_put, contents, IsFairMark, SeatInfo, Kind, Mark, Makes, made_by, RefusesEmpty, ShutsAs, IsOnly, is_close, has_close, IsOnlySeat, Keeps, Enters, Bounces, TakesFirst, FindsNone, Shuts, history_prefix, only_seen, only_still, only_lawful}
+use Rattle.fak_processor.proofs.Common.{◌≡◌, ℕ, zero, suc, ◌+◌, ◌≤◌, ◌||◌, Bool, true, false, List, [], ◌∷◌, ◌++◌, Some, length, drop, refl, ap, sym, ◌∙◌, subst, arith, inl, inr, append_assoc, ℤ, pos, ◌≤ℤ◌, ints, flat_map-append, queue_rules, IsQueueHistory, count, puts, gots, lower_raise, lower_drop, lower_count, Has, item_in, item_at, items_put, contents, IsFairMark, SeatInfo, Kind, Mark, Makes, made_by, RefusesEmpty, ShutsAs, IsOnly, is_close, has_close, IsOnlySeat, Keeps, Enters, TakesFirst, FindsNone, Shuts, history_prefix, only_seen, only_still, only_lawful, common_steps}
 use Rattle.std.proofs.lemmas.List.{drop-append-le, append-nil}
 use Rattle.fak_model.specs.declared.queue.Kind.TheVariants as made
 use Rattle.fak_model.proofs.QueueBackwards.{count_append, items_count}
@@ -18,31 +18,22 @@ module _ {T : Type 0} (h l : List (Mark T)) where
 
   -- marks that put items, and get none
   pub contents_more : count gots h ≤ count puts h → count gots l ≡ 0 → contents (h ++ l) ≡ contents h ++ items_put l
-  contents_more fit none =
-      let same : count gots (h ++ l) ≡ count gots h = count_append gots h l ∙ omega (arith, none) in
-      ap (λ n. drop n (items_put (h ++ l))) same
-      ∙ (ap (drop (count gots h)) items_more ∙ drop-append-le (count gots h) (items_put h) (items_put l) (omega (arith, items_count h, fit)))
+  contents_more fit none = grind (arith, common_steps, count, gots, count_append, drop, items_put, items_more, drop-append-le, items_count)
 
   -- marks that get one item, and put none
   pub contents_less : (x : T) → count gots l ≡ 1 → items_put l ≡ [] → item_at (items_put h) (count gots h) ≡ Some x → contents h ≡ x ∷ contents (h ++ l)
-  contents_less x one none first =
-      let more : count gots (h ++ l) ≡ suc (count gots h) = omega (arith, count_append gots h l, one) in
-      let same : items_put (h ++ l) ≡ items_put h = items_more ∙ (ap (λ l. items_put h ++ l) none ∙ append-nil (items_put h)) in
-      item_at-drop (items_put h) (count gots h) x first ∙ ap (λ l. x ∷ l) (sym (ap (λ n. drop n (items_put (h ++ l))) more ∙ ap (drop (suc (count gots h))) same))
+  contents_less x one none first = grind (arith, common_steps, count, gots, count_append, items_put, items_more, append-nil, item_at-drop, drop)
 
 -- ---- shut
 
 or_more : (a b c : Bool) → ((a || b) || c) ≡ (a || (b || c))
-or_more true b c = refl
-or_more false b c = refl
+or_more a b c = grind (arith, common_steps)
 
 pub or_false : (a : Bool) → (a || false) ≡ a
-or_false true = refl
-or_false false = refl
+or_false a = grind (arith, common_steps)
 
 or_true : (a : Bool) → (a || true) ≡ true
-or_true true = refl
-or_true false = refl
+or_true a = grind (arith, common_steps)
 
 pub close_more : {T : Type 0} (h l : List (Mark T)) → has_close (h ++ l) ≡ (has_close h || has_close l)
 close_more [] l = refl
@@ -52,23 +43,7 @@ closes : {T : Type 0} (κ : Kind T) → κ ≡ made.Close → is_close κ ≡ tr
 closes κ e = ap is_close e
 
 is_closed : {T : Type 0} (κ : Kind T) → is_close κ ≡ true → κ ≡ made.Close
-is_closed made.Close e = refl
-is_closed made.ClaimIn e = absurd cc
-is_closed made.OverIn e = absurd cc
-is_closed made.BackIn e = absurd cc
-is_closed made.NoRoom e = absurd cc
-is_closed (made.Put x) e = absurd cc
-is_closed (made.Fill k) e = absurd cc
-is_closed made.EndIn e = absurd cc
-is_closed made.ClaimOut e = absurd cc
-is_closed made.OverOut e = absurd cc
-is_closed made.BackOut e = absurd cc
-is_closed made.NoItem e = absurd cc
-is_closed (made.Got x) e = absurd cc
-is_closed (made.Take k) e = absurd cc
-is_closed made.EndOut e = absurd cc
-is_closed made.Closed e = absurd cc
-is_closed made.LateIn e = absurd cc
+is_closed κ e = grind (arith, common_steps, is_close)
 
 pub has_then_close : {T : Type 0} (h : List (Mark T)) → Has made.Close h → has_close h ≡ true
 has_then_close [] w = absurd w
@@ -84,17 +59,12 @@ close_then_has {T} (m ∷ h) e = by (λ t. close_then_has h t) (is_close m.kind)
     by rest false is t = inr (rest t)
 
 pub not_shut : {T : Type 0} (h : List (Mark T)) → (Has made.Close h → ⊥) → has_close h ≡ false
-not_shut h none = by (has_close h) refl
-  where
-    by : (b : Bool) → has_close h ≡ b → has_close h ≡ false
-    by true e = absurd (none (close_then_has h e))
-    by false e = e
+not_shut h none = grind (arith, common_steps, has_close, close_then_has)
 
 -- ---- calls of the only seat
 
 pub no_items : {T : Type 0} (xs : List T) → length xs ≡ 0 → xs ≡ []
-no_items [] e = refl
-no_items (x ∷ xs) e = absurd (omega (arith, e))
+no_items xs e = grind (arith, common_steps, length)
 
 module _ {T : Type 0} {size : ℕ} (kinds : List (Kind T)) {old new : SeatInfo (Mark T)} (o : IsOnly (λ (m : Mark T). m.seat) old) (a : Makes size kinds old new) where
   now_seen : new.seen ≡ old.seen ++ made_by old.name kinds
@@ -142,17 +112,7 @@ module _ {T : Type 0} {size : ℕ} {old new : SeatInfo (Mark T)} (o : IsOnlySeat
   -- marks that put nothing and get nothing, and change the lower count by nothing
   pub keeps : (kinds : List (Kind T)) → Makes size kinds old new → count gots (made_by old.name kinds) ≡ 0 → items_put (made_by old.name kinds) ≡ []
       → count lower_raise (made_by old.name kinds) ≡ count lower_drop (made_by old.name kinds) → has_close (made_by old.name kinds) ≡ false → Keeps old new
-  keeps kinds a none put even unshut =
-      let items : contents new.seen ≡ contents old.seen = items_same kinds o.only a none put in
-      let up = counted kinds o.only a lower_raise in
-      let down = counted kinds o.only a lower_drop in
-      let before = o.rest in
-      let len : length (contents new.seen) ≡ length (contents old.seen) = ap length items in
-      record {
-        only = record { only = only_still o.only a; rest = omega (arith, up, down, before, len, even) };
-        items = items;
-        shut = shut_same kinds o.only a unshut;
-      }
+  keeps kinds a none put even unshut = grind (arith, common_steps, contents, items_same, counted, lower_raise, lower_drop, length, only_still, shut_same)
 
   pub takes_first : (k : ℕ) (x : T) → Makes size (made.ClaimOut ∷ made.Got x ∷ made.Take k ∷ made.EndOut ∷ []) old new → TakesFirst x old new
   takes_first k x a =
@@ -180,8 +140,7 @@ module _ {T : Type 0} (size : ℕ) {old new : SeatInfo (Mark T)} (o : IsOnlySeat
   shuts first s = by (made_first first s)
     where
       made_first : (first : Bool) → ShutsAs size first old new → Makes size (made.Close ∷ []) old new
-      made_first true s = s.0
-      made_first false s = s.0
+      made_first first s = grind (arith, common_steps)
 
       by : Makes size (made.Close ∷ []) old new → Shuts old new
       by a =
@@ -203,6 +162,3 @@ keeps_then a b = record { only = b.only; items = b.items ∙ a.items; shut = b.s
 
 pub keeps_enters : {T : Type 0} {x : T} {old mid new : SeatInfo (Mark T)} → Keeps old mid → Enters x mid new → Enters x old new
 keeps_enters {T} {x} a b = record { only = b.only; items = b.items ∙ ap (λ l. l ++ x ∷ []) a.items; shut = b.shut ∙ a.shut; unshut = sym a.shut ∙ b.unshut }
-
-pub keeps_bounces : {T : Type 0} {old mid new : SeatInfo (Mark T)} → Keeps old mid → Bounces mid new → Bounces old new
-keeps_bounces a b = record { keeps = keeps_then a b.keeps; closed = sym a.shut ∙ b.closed }

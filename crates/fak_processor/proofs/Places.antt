@@ -1,5 +1,5 @@
 -- One of several seats makes a call.
-use Rattle.fak_processor.proofs.Common.{◌≡◌, ℕ, ◌<◌, List, All, length, map, slice_set, slice_index_or, get_or, ap, sym, ◌∙◌, subst, arith, Option, Some, None, IfSome, get_or-map, length-map, All-get_or, SemInfo, SemSeatInfo, Downs}
+use Rattle.fak_processor.proofs.Common.{◌≡◌, ℕ, ◌<◌, List, All, length, map, slice_set, slice_index_or, get_or, ap, sym, ◌∙◌, subst, arith, Option, IfSome, get_or-map, length-map, All-get_or, SemInfo, SemSeatInfo, Downs, common_steps}
 use Rattle.std.proofs.Math.Seq.{map-set_same}
 use Rattle.fak_text.specs.Journal.{Process}
 
@@ -19,5 +19,4 @@ pub only_at : {X : Type 0} (P : X → Type 0) (xs : List X) (i : ℕ) (x : X) �
 only_at P xs i x below xis all = subst P (sym xis) (All-get_or P xs i x below all)
 
 pub passed_same : {who : Process} {old new : SemSeatInfo Process} {sem : SemInfo} (answer : Option Process) → Downs sem who old new answer → IfSome answer (λ passed. passed ≡ who)
-passed_same None d = tt
-passed_same (Some passed) d = d.passes.0
+passed_same answer d = grind (arith, common_steps)

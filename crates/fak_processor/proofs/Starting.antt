@@ -1,7 +1,7 @@
 -- What processor 0 does before the threads start.
 use Rattle.std.proofs.lemmas.List.{length-take-le, map-append, get_or-set_same}
 use Rattle.fak_model.specs.Calls.{SeatInfo}
-use Rattle.fak_processor.proofs.Common.{AreLines, Balanced, NameAndProgram, joined, named, nothing, begun_names, Gains, GrowsAtLast, Moves, files_of, AreSeated, fresh_all, fresh_processor, no_seat, ◌≡◌, ℕ, zero, suc, ◌+◌, ◌-◌, ◌<◌, ◌≤◌, Bool, List, [], ◌∷◌, ◌++◌, length, map, take, drop, get_or, slice_index_or, slice_set, refl, ap, sym, ◌∙◌, subst, arith, Mark, kinds_in, kinds_out, ScriptOf, Process, new_process, Lists, begun_from, enter_ready, first_lists, numbers_from, turn_over, empty, fills, ObjectsOf, ProcessorOf, AreFor, AreOf, GoesTo, HasNoSlot, IsAlone, IsReached, TakesFreeSlot, lists_of, Begins, Between, FindsNoSlot, FindsSlot, StartsOne, begins, empty_lists, balanced-joined, lines_none}
+use Rattle.fak_processor.proofs.Common.{AreLines, Balanced, NameAndProgram, joined, named, nothing, begun_names, Gains, GrowsAtLast, Moves, files_of, AreSeated, fresh_all, fresh_processor, no_seat, ◌≡◌, ℕ, zero, suc, ◌+◌, ◌-◌, ◌<◌, ◌≤◌, Bool, List, [], ◌∷◌, ◌++◌, length, map, take, drop, get_or, slice_index_or, slice_set, refl, ap, sym, ◌∙◌, subst, arith, Mark, kinds_in, kinds_out, ScriptOf, Process, new_process, Lists, begun_from, enter_ready, first_lists, numbers_from, turn_over, empty, fills, ObjectsOf, ProcessorOf, AreFor, AreOf, GoesTo, HasNoSlot, IsAlone, IsReached, TakesFreeSlot, lists_of, Begins, Between, FindsNoSlot, FindsSlot, StartsOne, begins, empty_lists, balanced-joined, lines_none, common_steps}
 use Rattle.fak_processor.proofs.Events.{by_free, keeps_fills, quiet}
 use Rattle.fak_processor.proofs.Calls.{turning_more}
 use Rattle.fak_processor.proofs.Moving.{gains_free, gains_none, gains_then, idle_none, idle_then, quiet_empty}
@@ -133,16 +133,12 @@ take_next (x ∷ xs) zero d low = refl
 take_next (x ∷ xs) (suc n) d low = let up : suc n + 1 ≡ suc (n + 1) = omega arith in ap (λ k. take k (x ∷ xs)) up ∙ ap (λ l. x ∷ l) (take_next xs n d (omega (arith, low)))
 
 pub names_next : (xs : List ℕ) (i n d : ℕ) → n ≡ i → i < length xs → begun_names 0 (take i xs) ++ (n ∷ [], get_or xs i d) ∷ [] ≡ begun_names 0 (take (i + 1) xs)
-names_next xs i n d is low =
-    let at : n ≡ 0 + length (take i xs) = omega (arith, is, length-take-le i xs (omega (arith, low))) in
-    ap (λ k. begun_names 0 (take i xs) ++ (k ∷ [], get_or xs i d) ∷ []) at ∙ (sym (names_more 0 (take i xs) (get_or xs i d)) ∙ ap (begun_names 0) (sym (take_next xs i d low)))
+names_next xs i n d is low = grind (arith, common_steps, length, take, length-take-le, begun_names, get_or, names_more, take_next)
 
 -- ---- the only processor
 
 pub filled_alone : {script : ScriptOf} {q r : ProcessorOf} {s : Lists} (x : ℕ) → GoesTo script q s → (IsAlone script q → GoesTo script r (record (lists_of script q) { free_slots = (lists_of script q).free_slots ++ x ∷ [] })) → GoesTo script r (record s { free_slots = s.free_slots ++ x ∷ [] })
-filled_alone x was made =
-    let m = made was.alone in
-    record { alone = m.alone; lists_are = m.lists_are ∙ (λ i. record (was.lists_are i) { free_slots = (was.lists_are i).free_slots ++ x ∷ [] }) }
+filled_alone x was made = grind (arith, common_steps)
 
 pub no_slot_goes : {script : ScriptOf} {q r : ProcessorOf} {s : Lists} → GoesTo script q s → (IsAlone script q → HasNoSlot script (lists_of script q) r) → GoesTo script r s
 no_slot_goes was made = let m = made was.alone in record { alone = m.goes.alone; lists_are = m.goes.lists_are ∙ was.lists_are }
@@ -151,27 +147,12 @@ pub slot_taken : {script : ScriptOf} {q r : ProcessorOf} {s : Lists} {slot : ℕ
 slot_taken {script} {r = r} {slot = slot} was made = subst (λ (l : Lists). TakesFreeSlot script l slot r) was.lists_are (made was.alone)
 
 pub starts_one : {script : ScriptOf} {q r : ProcessorOf} {s : Lists} {slot : ℕ} (i program : ℕ) (x : Process) → x ≡ new_process (i ∷ []) program slot → TakesFreeSlot script s slot q → (IsAlone script q → GoesTo script r (enter_ready (lists_of script q) x)) → StartsOne script s i program r
-starts_one {slot = slot} i program x is took made = let m = made took.goes.alone in record {
-  slot = slot;
-  others = took.others;
-  free = took.free;
-  goes = record { alone = m.alone; lists_are = m.lists_are ∙ (λ k. enter_ready (took.goes.lists_are k) (is k)) };
-}
+starts_one {slot = slot} i program x is took made = grind (arith, common_steps, enter_ready)
 
 -- one process more is started
 pub started_alone : {script : ScriptOf} {q r : ProcessorOf} (xs : List ℕ) (x i : ℕ) → i ≡ length xs → i < script.slots → GoesTo script q (record (empty_lists script) { ready = begun_from 0 xs; free_slots = numbers_from i (script.slots - i) })
     → (IsAlone script q → StartsOne script (lists_of script q) i x r) → GoesTo script r (record (empty_lists script) { ready = begun_from 0 (xs ++ x ∷ []); free_slots = numbers_from (i + 1) (script.slots - (i + 1)) })
-started_alone {script} {q} {r} xs x i i_is below was made =
-    let m = made was.alone in
-    let next = numbers_from-next i (script.slots - i) (script.slots - (i + 1)) (i + 1) (omega (arith, below)) refl in
-    let free : i ∷ numbers_from (i + 1) (script.slots - (i + 1)) ≡ m.slot ∷ m.others = sym next ∙ (sym (ap (λ (l : Lists). l.free_slots) was.lists_are) ∙ m.free) in
-    let slot_is : m.slot ≡ i = sym (ap (λ l. get_or l 0 0) free) in
-    let others_are : m.others ≡ numbers_from (i + 1) (script.slots - (i + 1)) = sym (ap (λ l. drop 1 l) free) in
-    let zero_on : i ≡ 0 + length xs = omega (arith, i_is) in
-    let ready : begun_from 0 xs ++ new_process (i ∷ []) x i ∷ [] ≡ begun_from 0 (xs ++ x ∷ []) = ap (λ k. begun_from 0 xs ++ new_process (k ∷ []) x k ∷ []) zero_on ∙ sym (begun_more 0 xs x) in
-    let entered : lists_of script r ≡ record (empty_lists script) { ready = begun_from 0 xs ++ new_process (i ∷ []) x i ∷ []; free_slots = numbers_from (i + 1) (script.slots - (i + 1)) } =
-    m.goes.lists_are ∙ (λ k. enter_ready (record (was.lists_are k) { free_slots = others_are k }) (new_process (i ∷ []) x (slot_is k))) in
-    record { alone = m.goes.alone; lists_are = entered ∙ (λ k. record (empty_lists script) { ready = ready k; free_slots = numbers_from (i + 1) (script.slots - (i + 1)) }) }
+started_alone {script} {q} {r} xs x i i_is below was made = grind (arith, common_steps, numbers_from-next, numbers_from, get_or, drop, length, begun_from, new_process, begun_more, lists_of, empty_lists, enter_ready)
 
 -- nobody is started yet
 pub started_none : {script : ScriptOf} {q : ProcessorOf} → GoesTo script q (record (empty_lists script) { free_slots = numbers_from 0 script.slots }) → GoesTo script q (record (empty_lists script) { free_slots = numbers_from 0 (script.slots - 0) })
@@ -210,7 +191,4 @@ module _ {script : ScriptOf} (o : ObjectsOf) (stint n : ℕ) {items done : List 
       all_between script o stint n done p some (set ∙ ap (λ l. slice_set l 0 p) fresh) (begun_between o stint made are begun) i d low
 
   pub done_reached : n ≡ 1 → AreSeated n o → (GoesTo script was (empty_lists script) → IsReached script p (turn_over (lists_of script p))) → (d : ProcessorOf) → IsReached script (slice_index_or done 0 d) (turn_over (lists_of script (slice_index_or done 0 d)))
-  done_reached one seated begun d =
-      let goes : GoesTo script was (empty_lists script) = subst (λ q. GoesTo script q (empty_lists script)) (sym (first_fresh o stint n some fresh first)) (fresh_goes script o stint made (subst (λ k. AreSeated k o) one seated)) in
-      let at : slice_index_or done 0 d ≡ p = ap (λ l. slice_index_or l 0 d) set ∙ get_or-set_same items 0 p d (omega (arith, some, fresh_length o stint n fresh)) in
-      subst (λ q. IsReached script q (turn_over (lists_of script q))) (sym at) (begun goes)
+  done_reached one seated begun d = grind (arith, common_steps, empty_lists, first_fresh, fresh_goes, slice_index_or, get_or-set_same, fresh_length, turn_over, lists_of)

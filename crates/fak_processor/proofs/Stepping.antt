@@ -1,6 +1,5 @@
 -- How steps balance.
-use Rattle.fak_model.specs.Calls.{SeatInfo}
-use Rattle.fak_processor.proofs.Common.{child_of, ProcessorOf, HasMade, AreLines, is_file_line, ◌≡◌, ℕ, ◌<◌, ◌==◌, Bool, true, false, cond, List, [], ◌∷◌, ◌++◌, length, refl, ap, sym, ◌∙◌, subst, arith, Option, flat_map, append-nil, FileMark, FileSeatInfo, Kind, Debit, Credit, Up, Release, cond_here, kinds_in, kinds_out, kinds_not_in, kinds_not_out, ScriptOf, StepOf, say, yield, open_file, close_file, stat, down, up, spawn, shutdown, NoteOf, said, yielded, opened, closed, statted, downed, upped, spawned, no_birth, no_slot, shut_down, Process, child_count, after_note, FitsScript, StandsAt, Allows, Ledger, IsMade, nothing, joined, other_down, made_of, IsPlain, steps, passes, parks, adds, wakes, spawns, lacks_birth, lacks_slot, shuts, waits_refused, refused_claim, empty, bundle_of, names_of, Gains, GainsParked, GainsWoken, Moves, at_one, lines_more, balanced-joined, FileEntry, Close}
+use Rattle.fak_processor.proofs.Common.{child_of, ProcessorOf, HasMade, is_file_line, ◌≡◌, ℕ, ◌<◌, ◌==◌, Bool, true, false, cond, List, [], ◌∷◌, ◌++◌, length, refl, ap, sym, ◌∙◌, subst, arith, Option, flat_map, append-nil, FileSeatInfo, Kind, Debit, Credit, Up, Release, cond_here, kinds_in, kinds_out, kinds_not_in, kinds_not_out, ScriptOf, StepOf, say, yield, open_file, close_file, stat, down, up, spawn, shutdown, NoteOf, said, yielded, opened, closed, statted, downed, upped, spawned, no_birth, no_slot, shut_down, Process, child_count, after_note, FitsScript, StandsAt, Allows, Ledger, IsMade, nothing, joined, other_down, made_of, IsPlain, steps, passes, parks, adds, wakes, spawns, lacks_birth, lacks_slot, shuts, waits_refused, refused_claim, empty, bundle_of, names_of, Gains, GainsParked, GainsWoken, Moves, at_one, lines_more, balanced-joined, FileEntry, Close, common_steps}
 use Rattle.fak_processor.proofs.Events.{balanced-beside, keeps_steps, keeps_passes, keeps_parks, keeps_adds, keeps_wakes, keeps_spawns, keeps_lacks_birth, keeps_lacks_slot, keeps_shuts, keeps_waits_refused}
 use Rattle.fak_processor.proofs.Calls.{refused_in_weighs, refused_out_weighs}
 use Rattle.fak_processor.proofs.Moving.{adds_none, gains_none, gains_then}
@@ -8,8 +7,7 @@ use Rattle.fak_processor.proofs.Gaining.{gains_as}
 use Rattle.fak_processor.proofs.Acting.{moves_then, moves_behind}
 
 cond_both : {A : Type 0} (b : Bool) (x y : List A) → cond b (x ++ y) [] ≡ cond b x [] ++ cond b y []
-cond_both true x y = refl
-cond_both false x y = refl
+cond_both b x y = grind (arith, common_steps)
 
 pub plain_said : (t u : _) → IsPlain (say t) (said u)
 plain_said t u = record { childless = λ name. refl; births = refl; no_births = refl; no_slots = refl; downs = λ s. refl; ups = λ s. refl; shuts = refl }
@@ -39,12 +37,7 @@ module _ {script : ScriptOf} where
   -- a line of the file table
   pub gains_files : (p : ProcessorOf) {files : FileSeatInfo} {copy : List FileEntry} (x : Process) (step : StepOf) (note : NoteOf) → is_file_line note ≡ true → HasMade script.files note p.files.seat files.seat
       → Gains script p (record p { files = files; copy = copy }) (steps x step note)
-  gains_files p {files} x step note is made = record {
-    names = ap (λ (s : SeatInfo FileMark). record (names_of p) { files = s.name }) made.same_seat;
-    adds = λ d. let a = adds_none {script = script} (bundle_of d p) in record { ready = a.ready; free = a.free; births = a.births; busy = a.busy; credits = a.credits; waits = a.waits };
-    rows = λ f. omega arith;
-    lines = λ before are. subst (λ ls. AreLines script.files (before ++ ls) files.seat) (sym (ap (λ b. cond b (note ∷ []) []) is)) (lines_more script.files before note p.files.seat files.seat are made);
-  }
+  gains_files p {files} x step note is made = grind (arith, common_steps, names_of, adds, adds_none, bundle_of, lines_more)
 
   -- a line that no object saw
   pub gains_told : (p : ProcessorOf) (x : Process) (step : StepOf) (note : NoteOf) → is_file_line note ≡ false → Gains script p p (steps x step note)

@@ -1,5 +1,5 @@
 -- What seats know of ledgers, call by call, and what tallies know of them, join by join.
-use Rattle.fak_processor.proofs.Common.{◌≡◌, ℕ, ◌<◌, true, false, cond, nat_lt, List, [], ◌++◌, length, refl, ap, sym, ◌∙◌, subst, arith, inl, map, sum_by, map-append, sum_by-append, All-nil, Rules, is_in, marks_of, mine, ObjectId, SeatInfo, seat_info, TallyInfo, tally_of, mine_of, Appends, IsJoined, Owns, Weighs, history_none, sum_by-map}
+use Rattle.fak_processor.proofs.Common.{◌≡◌, ℕ, ◌<◌, true, false, cond, nat_lt, List, [], ◌++◌, length, refl, ap, sym, ◌∙◌, subst, arith, inl, map, sum_by, map-append, sum_by-append, All-nil, Rules, is_in, marks_of, mine, ObjectId, SeatInfo, seat_info, TallyInfo, tally_of, mine_of, Appends, IsJoined, Owns, Weighs, history_none, sum_by-map, common_steps}
 use Rattle.fak_model.proofs.SeatWeights.{mine_one, mine_push, mine_known}
 
 -- ---- seats
@@ -11,11 +11,7 @@ owns_fresh {M} rules kind_of object name stint = record { kinds_are = refl; lawf
 -- a call adds the kinds of its marks
 pub owns_more : {M W C K : Type 0} {rules : Rules M W C} {kind_of : M → K} {old new : SeatInfo M} {marks : List M} {before : List K} (kinds : List K)
     → Appends rules marks old new → map kind_of marks ≡ kinds → Owns rules kind_of old before → Owns rules kind_of new (before ++ kinds)
-owns_more {rules = rules} {kind_of = kind_of} {old = old} {marks = marks} {before = before} kinds a are o = record {
-  kinds_are = ap (map kind_of) a.mine ∙ (map-append kind_of (mine_of rules.seat_of old) marks ∙ (ap (λ l. l ++ map kind_of marks) o.kinds_are ∙ ap (λ l. before ++ l) are));
-  lawful = a.lawful;
-  named = a.named;
-}
+owns_more {rules = rules} {kind_of = kind_of} {old = old} {marks = marks} {before = before} kinds a are o = grind (arith, common_steps, map, map-append, mine_of)
 
 -- ---- tallies
 
@@ -23,11 +19,7 @@ owned_weighs : {M W C K : Type 0} {rules : Rules M W C} {kind_of : M → K} {s :
 owned_weighs {rules = rules} {kind_of = kind_of} {s = s} o w = sym (sum_by-map w kind_of (marks_of rules.seat_of s.name s.seen)) ∙ ap (sum_by w) o.kinds_are
 
 pub weighs_one : {M W C K : Type 0} {rules : Rules M W C} {kind_of : M → K} {s : SeatInfo M} {kinds : List K} → Owns rules kind_of s kinds → Weighs rules kind_of (tally_of s) kinds
-weighs_one {M} {rules = rules} {kind_of = kind_of} {s = s} o = record {
-  weigh = λ w. ap (sum_by (λ (m : M). w (kind_of m))) (mine_one rules.seat_of s.name s.seen) ∙ owned_weighs o w;
-  lawful = o.lawful;
-  named = o.named;
-}
+weighs_one {M} {rules = rules} {kind_of = kind_of} {s = s} o = grind (arith, common_steps, sum_by, mine_one, owned_weighs)
 
 pub weighs_joined : {M W C K : Type 0} {rules : Rules M W C} {kind_of : M → K} {t both : TallyInfo M} {s : SeatInfo M} (a b : List K)
     → IsJoined rules t s both → is_in s.name t.names ≡ false → Weighs rules kind_of t a → Owns rules kind_of s b → Weighs rules kind_of both (a ++ b)

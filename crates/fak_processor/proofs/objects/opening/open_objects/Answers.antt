@@ -1,5 +1,5 @@
 use Rattle.fak_text.specs.Script.{ScriptOf}
-use Rattle.fak_processor.proofs.Common.{ℕ, AreFor, ObjectsOf, ids_of, fresh_all, zipped, map, ◌≡◌, ◌∙◌, length, ap, sym, subst, arith, length-map, SemInfo, AreSemaphoresFor}
+use Rattle.fak_processor.proofs.Common.{ℕ, AreFor, ObjectsOf, ids_of, fresh_all, zipped, map, ◌≡◌, ◌∙◌, length, ap, sym, arith, length-map, AreSemaphoresFor, common_steps}
 use Rattle.fak_processor.proofs.Dealing.{length-new, length-rows, length-seats, zips}
 use Rattle.fak_processor.proofs.objects.opening.open_objects.Goals as goal
 
@@ -21,16 +21,7 @@ zip_seats-requires g c =
 -- new objects are for the script that they were opened by
 for_script : {script now : ScriptOf} {processors : ℕ} (o : ObjectsOf) → now ≡ script → o.ready.size ≡ now.slots → o.free.size ≡ now.slots → o.births.bound ≡ now.births → o.busy.start ≡ length now.start → o.files.entries ≡ now.files
     → AreSemaphoresFor now processors now.semaphores o.semaphores → AreFor script o
-for_script o same ready free births busy files s = subst (λ (script : ScriptOf). AreFor script o) same (record {
-  ready = ready;
-  free = free;
-  births = births;
-  busy = busy;
-  files = files;
-  semaphores = sym (length-map o.semaphores (λ (s : SemInfo). s.object.start)) ∙ ap length s.starts_are;
-  starts = s.starts_are;
-  waits = λ k d below. (s.each k d below).size;
-})
+for_script o same ready free births busy files s = grind (arith, common_steps, length-map, length)
 
 pub invariant_of-objects : goal.invariant_of-objects
 invariant_of-objects g c =

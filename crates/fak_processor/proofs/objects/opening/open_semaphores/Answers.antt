@@ -1,5 +1,5 @@
 use Rattle.std.proofs.lemmas.List.{append-nil, map-append, length-map}
-use Rattle.fak_processor.proofs.Common.{ids_of, IsSemaphoreFor, dealt_to, fresh_rows, ◌≡◌, ◌+◌, [], ◌∷◌, ◌++◌, List, length, drop, ap, sym, ◌∙◌, subst, arith, map, All, SemId, SemInfo}
+use Rattle.fak_processor.proofs.Common.{ids_of, IsSemaphoreFor, dealt_to, fresh_rows, ◌≡◌, ◌+◌, [], ◌∷◌, List, length, drop, ap, sym, ◌∙◌, subst, arith, map, All, SemId, SemInfo, common_steps}
 use Rattle.fak_processor.proofs.Dealing.{deals_more, drop_at, drop_past, length-fresh, length-rows, sems_more, starts_next}
 use Rattle.fak_processor.proofs.objects.opening.open_semaphores.Goals as goal
 
@@ -26,11 +26,4 @@ loop-start-preserved g c =
     }
 
 pub returns-clause-opened : goal.returns-clause-opened
-returns-clause-opened g c =
-    let was = c.loop-start.invariant in
-    let none : drop c.loop-start.start-index c.semaphores-starts.result.now ≡ [] = drop_past c.loop-start.start-index c.semaphores-starts.result.now (omega (arith, c.loop-start-test.false)) in
-    let starts = map (λ (s : SemInfo). s.object.start) c.loop-start.semaphores.items in
-    record {
-      starts_are = sym (append-nil starts) ∙ (ap (λ l. starts ++ l) (sym none) ∙ (was.starts_are ∙ c.semaphores-starts.ensures.value));
-      each = was.each;
-    }
+returns-clause-opened g c = grind (arith, common_steps, drop, drop_past, map, append-nil)

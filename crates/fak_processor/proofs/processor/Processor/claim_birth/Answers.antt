@@ -1,6 +1,5 @@
 use Rattle.fak_processor.proofs.Common.{arith}
 use Rattle.fak_processor.proofs.OnlyCounts.{claims, finds_full}
-use Rattle.fak_processor.proofs.Calls.{grows_room}
 use Rattle.fak_processor.proofs.Moving.{gains_births, refused_grows}
 use Rattle.fak_processor.proofs.Machines.{is_born, has_no_birth}
 use Rattle.fak_processor.proofs.processor.Processor.claim_birth.Goals as goal
@@ -14,10 +13,6 @@ returns-in-Err-AtBound-clause-alone g c =
     let call = rw c.in-Err-AtBound.field-0-is at c.in-Err-AtBound.ensures.call in
     let held = c.in-Err-AtBound.ensures.held in
     rw (← c.self.view_is) (λ alone. has_no_birth _ alone c.objects.invariant.1 (finds_full alone.births call.1 (omega (arith, held))))
-
-pub returns-in-Ok-clause-gains : goal.returns-in-Ok-clause-gains
-returns-in-Ok-clause-gains g c =
-    rw (← c.self.view_is) (gains_births _ _ c.objects.invariant.1.births (grows_room c.in-Ok.ensures.call.1))
 
 pub returns-in-Err-AtBound-clause-gains : goal.returns-in-Err-AtBound-clause-gains
 returns-in-Err-AtBound-clause-gains g c =

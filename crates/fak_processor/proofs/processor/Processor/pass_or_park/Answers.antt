@@ -1,4 +1,3 @@
-use Rattle.fak_processor.proofs.Places.{passed_same}
 use Rattle.fak_processor.proofs.Gaining.{same_there}
 use Rattle.fak_processor.proofs.Sleeping.{are_after, downs, downs_alone}
 use Rattle.fak_processor.proofs.processor.Processor.pass_or_park.Goals as goal
@@ -12,9 +11,6 @@ pub returns-clause-objects : goal.returns-clause-objects
 returns-clause-objects g c =
     let fits = rw (← c.self.view_is, ← c.objects.view_is) at c.requires.objects in
     rw (← c.objects.view_is) (are_after _ c.objects.invariant.1 fits c.args.at c.requires.at c.down.new.seat c.index_mut-seat.ensures.value c.index-semaphore.ensures c.in-Ok.ensures.object)
-
-pub returns-clause-same : goal.returns-clause-same
-returns-clause-same g c = passed_same c.in-Ok.passed c.in-Ok.ensures.call
 
 pub returns-clause-gains : goal.returns-clause-gains
 returns-clause-gains g c =

@@ -1,5 +1,5 @@
 use Rattle.fak_text.specs.Script.{ScriptOf}
-use Rattle.fak_processor.proofs.Common.{NameAndProgram, begun_names, Begins, ◌≡◌, ◌<◌, ◌∙◌, [], List, ℕ, length, take, ap, subst, refl, arith, take_all}
+use Rattle.fak_processor.proofs.Common.{NameAndProgram, begun_names, Begins, ◌<◌, [], List, length, take, ap, subst, refl, arith, take_all, common_steps}
 use Rattle.fak_processor.proofs.Starting.{all_started, begins_none, begins_then, names_next, started_next, started_none}
 use Rattle.fak_processor.proofs.processor.Processor.start_processes.Goals as goal
 
@@ -24,19 +24,7 @@ loop-program-preserved g c =
     )
 
 pub returns-clause-general : goal.returns-clause-general
-returns-clause-general g c =
-    let script = g.K.Run.script in
-    let was = c.loop-program.invariant in
-    let xs = c.start-program-items.result.now in
-    let all : take c.loop-program.program-index xs ≡ script.start = take_all c.loop-program.program-index xs (omega (arith, c.loop-program-test.false)) ∙ (c.start-program-items.ensures.value ∙ ap (λ (s : ScriptOf). s.start) c.requires.script) in
-    subst (λ (l : List ℕ). Begins script [] [] [] (begun_names 0 l) c.args.self.now c.loop-program.self) all was.3
+returns-clause-general g c = grind (arith, common_steps, take, take_all, begun_names)
 
 pub returns-clause-alone : goal.returns-clause-alone
-returns-clause-alone g c =
-    let script = g.K.Run.script in
-    let was = c.loop-program.invariant in
-    let xs = c.start-program-items.result.now in
-    let started : xs ≡ script.start = c.start-program-items.ensures.value ∙ ap (λ (s : ScriptOf). s.start) c.requires.script in
-    let all : take c.loop-program.program-index xs ≡ script.start = take_all c.loop-program.program-index xs (omega (arith, c.loop-program-test.false)) ∙ started in
-    let len : c.loop-program.number ≡ length script.start = omega (arith, was.0, was.1, c.loop-program-test.false, ap length started) in
-    λ a. all_started all len (was.4 a)
+returns-clause-alone g c = grind (arith, common_steps, take, take_all, length, all_started)

@@ -1,5 +1,5 @@
 use Rattle.fak_processor.proofs.Common.{◌≡◌, None, refl, rules}
-use Rattle.fak_processor.proofs.Starting.{no_slot_yet, no_slot_again, no_slot_goes, slot_at_last, slot_taken}
+use Rattle.fak_processor.proofs.Starting.{no_slot_yet, no_slot_again, no_slot_goes, slot_at_last}
 use Rattle.fak_processor.proofs.processor.Processor.take_first_slot.Goals as goal
 
 pub loop-init : goal.loop-init
@@ -17,8 +17,3 @@ pub returns-in-Some-2-clause-general : goal.returns-in-Some-2-clause-general
 returns-in-Some-2-clause-general g c =
     let some = rw c.in-Some-2.is at c.in_ok-slot.ensures.gains in
     slot_at_last c.loop.invariant.2 some
-
-pub returns-in-Some-2-clause-alone : goal.returns-in-Some-2-clause-alone
-returns-in-Some-2-clause-alone g c =
-    let alone = rw c.in-Some-2.is at c.in_ok-slot.ensures.alone in
-    λ a. slot_taken (c.loop.invariant.3 a) alone

@@ -1,14 +1,11 @@
-use Rattle.fak_processor.proofs.Common.{◌≡◌, ◌∙◌, ℕ, true, rules, None, arith}
+use Rattle.fak_processor.proofs.Common.{◌≡◌, ◌∙◌, true, rules, None, arith, common_steps}
 use Rattle.fak_processor.proofs.Acting.{moves_none}
 use Rattle.fak_processor.proofs.Looping.{moves_on, leaves_none, passed_next}
 use Rattle.fak_processor.proofs.Working.{reached_on, reached_the_end}
 use Rattle.fak_processor.proofs.processor.Processor.turns.Goals as goal
 
 pub loop-init : goal.loop-init
-loop-init g c =
-    let nought : ℕ = 0 in
-    let none : c.new-looks.result.made ≡ nought = (λ i. (c.new-looks.ensures i).made) in
-    ((tt, tt), c.requires.objects, moves_none c.args.self.now, λ r. r, (λ i. (c.new-looks.ensures i).processor), λ k low. absurd (omega (arith, low, none)))
+loop-init g c = grind (arith, common_steps, moves_none)
 
 pub loop-preserved : goal.loop-preserved
 loop-preserved g c =
@@ -16,9 +13,7 @@ loop-preserved g c =
     ((tt, tt), c.is_done.ensures.objects, moves_on c.loop.running c.in_ok-running.running c.loop.invariant.2 c.in_ok-running.ensures.general c.is_done.ensures.gains, λ r. reached_on c.loop.running c.in_ok-running.running (c.loop.invariant.3 r) c.in_ok-running.ensures.alone c.is_done.ensures.alone, c.pass_where.ensures.same ∙ same, passed_next (g.G.Gate.answers c.args.gate.now) same c.loop.invariant.5 c.in_ok-pass_where.ensures.passed)
 
 pub returns-then-is_done-clause-general : goal.returns-then-is_done-clause-general
-returns-then-is_done-clause-general g c =
-    let done : c.is_done.result ≡ true = search rules in
-    λ _. leaves_none c.loop.running c.in_ok-running.running c.loop.invariant.2 c.in_ok-running.ensures.general c.is_done.ensures.gains (c.is_done.ensures.done done).1 (c.is_done.ensures.idle done)
+returns-then-is_done-clause-general g c = grind (arith, common_steps, leaves_none)
 
 pub returns-then-is_done-clause-alone : goal.returns-then-is_done-clause-alone
 returns-then-is_done-clause-alone g c =

@@ -1,13 +1,7 @@
-use Rattle.fak_processor.proofs.Common.{Enters, GrowsAtLast, ◌∙◌, subst, refl}
+use Rattle.fak_processor.proofs.Common.{GrowsAtLast, ◌∙◌, subst, refl}
 use Rattle.fak_processor.proofs.Moving.{idle_yet, shut_again, put_at_last}
-use Rattle.fak_processor.proofs.OnlyQueues.{keeps_then, keeps_enters}
+use Rattle.fak_processor.proofs.OnlyQueues.{keeps_then}
 use Rattle.fak_processor.proofs.processor.entering.put.Goals as goal
-
-pub returns-in-Ok-None-clause-only : goal.returns-in-Ok-None-clause-only
-returns-in-Ok-None-clause-only g c = λ o.
-    let k = c.loop.invariant.6 o in
-    let e = rw c.in-Ok-None.field-0-is at c.in-Ok-None.ensures.only in
-    subst (λ (x : g.row.T.Denot). Enters x c.args.seat.now c.enter.new.seat) c.loop.invariant.4 (keeps_enters k (e k.only))
 
 pub loop-preserved : goal.loop-preserved
 loop-preserved g c =

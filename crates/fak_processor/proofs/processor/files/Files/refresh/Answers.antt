@@ -1,11 +1,7 @@
-use Rattle.fak_processor.proofs.Common.{◌≡◌, ◌∙◌, ◌+◌, ◌≤◌, ℕ, [], length, rules, arith, refl, ap, Some, got, keeps_files_then, keeps_files_all, all_read, entry_of}
+use Rattle.fak_processor.proofs.Common.{◌≡◌, ◌∙◌, ◌+◌, ◌≤◌, ℕ, [], length, rules, arith, ap, Some, got, keeps_files_then, all_read, entry_of}
 use Rattle.fak_files.proofs.Closing.{read_more}
-use Rattle.fak_run.proofs.Holding.{left_of, left_then, left_none, got_of}
+use Rattle.fak_run.proofs.Holding.{left_of, left_then, got_of}
 use Rattle.fak_processor.proofs.processor.files.Files.refresh.Goals as goal
-
-pub loop-i-init : goal.loop-i-init
-loop-i-init c =
-    (c.requires.object, refl, (rw (← c.self.view_is) at c.requires.len), left_none c.args.seat.now.seat, λ just j low. absurd (omega (arith, low)), λ o. (keeps_files_all o, λ j low. absurd (omega (arith, low))))
 
 pub loop-i-preserved : goal.loop-i-preserved
 loop-i-preserved c = (
