@@ -89,6 +89,19 @@ ended 0 stuck 1
 }
 
 #[test]
+fn semaphores_that_start_with_the_most_units(rt: HostRuntime) {
+    let script =
+        r#"{"version":1,"slots":1,"births":0,"quantum":2,"semaphores":[1000000,1000000],"files":1,"programs":[[["down",0],["up",1]]],"start":[0]}"#;
+    let report = "process 0 program 0 slot 0 ended
+  down 0
+  up 1
+births 0 of 0
+ended 1 stuck 0
+";
+    answers(&rt, rt.alloc(), script, report, 0);
+}
+
+#[test]
 fn an_empty_program(rt: HostRuntime) {
     let script =
         r#"{"version":1,"slots":1,"births":0,"quantum":4,"semaphores":[0],"files":1,"programs":[[]],"start":[0]}"#;
