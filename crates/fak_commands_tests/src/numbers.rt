@@ -60,7 +60,7 @@ fn script_of(
     )
 }
 
-/// The end of its report, where all births were claimed, and so many were left ended, stuck and halted.
+/// The end of its report, where all births were claimed, by the numbers of processes that ended, are stuck and were halted.
 fn end_of(
     alloc: Global,
     numbers: Numbers,
