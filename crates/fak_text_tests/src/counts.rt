@@ -65,39 +65,46 @@ fn has_count(rt: &(impl Abort + AllocGlobal), row: &Row<'_>, count: usize) {
     }
 }
 
+/// Finds that the row is read with each count of items up to its bound, and refused beyond it.
+fn has_each_count(rt: &(impl Abort + AllocGlobal), row: &Row<'_>) {
+    for count in 0..100usize {
+        has_count(rt, row, count);
+    }
+}
+
+/// Finds that the short lists of a script of this version are read with each count up to their bounds, and refused beyond.
+fn have_each_count(rt: &(impl Abort + AllocGlobal), version: u64) {
+    let alloc = rt.alloc();
+    let semaphores = format!(in alloc;
+        r#"{{"version":{version},"slots":1,"births":0,"quantum":1,"semaphores":["#
+    ).expect(rt, "memory");
+    let programs = format!(in alloc; r#"{semaphores}],"files":1,"programs":["#).expect(
+        rt, "memory",
+    );
+    let row = (
+        Items::Semaphores,
+        semaphores.as_str(),
+        "7",
+        r#"],"files":1,"programs":[],"start":[]}"#,
+        16,
+        Field::Semaphores,
+    );
+    has_each_count(rt, &row);
+    let row = (
+        Items::Programs,
+        programs.as_str(),
+        "[]",
+        r#"],"start":[]}"#,
+        64,
+        Field::Programs,
+    );
+    has_each_count(rt, &row);
+}
+
 #[test]
 fn each_count_of_short_lists(rt: HostRuntime) {
-    for version in 1..3u64 {
-        let semaphores = format!(in rt.alloc();
-            r#"{{"version":{version},"slots":1,"births":0,"quantum":1,"semaphores":["#
-        ).expect(&rt, "memory");
-        let programs = format!(in rt.alloc(); r#"{semaphores}],"files":1,"programs":["#).expect(
-            &rt, "memory",
-        );
-        let rows: &[Row<'_>] = &[
-            (
-                Items::Semaphores,
-                semaphores.as_str(),
-                "7",
-                r#"],"files":1,"programs":[],"start":[]}"#,
-                16,
-                Field::Semaphores,
-            ),
-            (
-                Items::Programs,
-                programs.as_str(),
-                "[]",
-                r#"],"start":[]}"#,
-                64,
-                Field::Programs,
-            ),
-        ];
-        for row in rows {
-            for count in 0..100usize {
-                has_count(&rt, row, count);
-            }
-        }
-    }
+    have_each_count(&rt, 1);
+    have_each_count(&rt, 2);
 }
 
 /// Finds that the row is read with as many items as each power of two, and refused beyond its bound.
