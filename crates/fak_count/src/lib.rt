@@ -1,3 +1,4 @@
+#![tactic(auto)]
 //! Counts that threads share, by fetch-and-add: rooms, which claims raise up to a bound by test, increment and retest (A.
 //! Gottlieb, B. D. Lubachevsky and L. Rudolph, ACM TOPLAS 5(2), 1983), and credits, which debits and credits move by 1 with no test.
 //!
@@ -10,7 +11,6 @@
 //!   `fak_model::laws::room` and `credit`.
 //!
 //! `docs/CALLING.md` is the guide for callers.
-#![tactic(auto)]
 
 mod credits;
 mod fault;

@@ -1,3 +1,4 @@
+#![tactic(auto)]
 //! A file table of a few entries that seats share as readers and writers, by one count and fetch-and-add with a test and a
 //! retest (A. Gottlieb, B. D. Lubachevsky and L. Rudolph, ACM TOPLAS 5(2), 1983): a reader lowers the count by 1, a writer by
 //! the number of seats, so that a writer is alone. Each call occurs once in one history.
@@ -10,7 +11,6 @@
 //! - To cite: `IsGranted`, `IsGot`, `IsSet`, `IsEnded` (`specs/Calls.antt`), and the laws, as `a_writer_is_alone`.
 //!
 //! `docs/CALLING.md` is the guide for callers.
-#![tactic(auto)]
 
 mod admission;
 mod ending;

@@ -1,3 +1,4 @@
+#![tactic(auto)]
 //! A bounded first-in-first-out queue that processors share without a lock, by fetch-and-add, after A. Gottlieb, B. D.
 //! Lubachevsky and L. Rudolph (ACM TOPLAS 5(2), 1983). Its cells own moved values.
 //!
@@ -11,7 +12,6 @@
 //! - To cite: `Inserts`, `Deletes` and their like (`specs/Queues.antt`, `specs/Retries.antt`), and the laws of `fak_model::laws`.
 //!
 //! `docs/CALLING.md` is the guide for callers; `crates/pool_of_workers` and `crates/page_frames` are programs to begin from.
-#![tactic(auto)]
 
 mod admission;
 mod cells;

@@ -1,3 +1,4 @@
+#![tactic(auto)]
 //! Counting semaphores whose waiting items are in a wait queue, by fetch-and-add over the queue of A. Gottlieb, B. D.
 //! Lubachevsky and L. Rudolph (ACM TOPLAS 5(2), 1983): a down subtracts 1 and passes where it found at least 1, else its item
 //! is parked; an up adds 1 and wakes one parked item where it found less than 0.
@@ -14,7 +15,6 @@
 //!   of a call `ParksSince` and `WakesSince` (`specs/Steps.antt`), from which the last step makes `Downs` or `Ups`.
 //!
 //! `docs/CALLING.md` is the guide for callers.
-#![tactic(auto)]
 
 mod claims;
 mod fault;
