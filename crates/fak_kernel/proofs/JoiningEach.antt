@@ -1,5 +1,6 @@
 -- Seats of all semaphores are joined.
-use Rattle.fak_kernel.proofs.Common.{JoinedTo, ids_of, ids_of_seats, JoinEach, ids_of_tallies, no_seat, no_tally, ◌≡◌, ℕ, zero, suc, ◌<◌, List, [], ◌∷◌, length, get_or, refl, ap, sym, subst, arith, map, SemInfo, SemSeatInfo, SemTallyInfo, JoinsSeat, sem_tally_of, Process}
+use Rattle.fak_kernel.proofs.Common.{JoinedTo, ids_of, ids_of_seats, JoinEach, ids_of_tallies, no_seat, no_tally, ◌≡◌, ℕ, zero, suc, ◌+◌, ◌<◌, ◌∙◌, drop, List, [], ◌∷◌, length, get_or, refl, ap, sym, subst, arith, map, SemInfo, SemSeatInfo, SemTallyInfo, JoinsSeat, sem_tally_of, Process}
+use Rattle.fak_processor.proofs.Dealing.{drop_at}
 use Rattle.fak_kernel.proofs.Naming.{first_joined, next_joined}
 
 pub join_none : (os : List SemInfo) (ts : List (SemTallyInfo Process)) (ss : List (SemSeatInfo Process)) → os ≡ [] → ids_of_tallies ts ≡ ids_of os → ids_of_seats ss ≡ ids_of os → JoinEach os ts ss []
@@ -7,6 +8,17 @@ join_none [] [] [] e a b = tt
 join_none [] (t ∷ ts) ss e a b = absurd (cc)
 join_none [] [] (s ∷ ss) e a b = absurd (cc)
 join_none (o ∷ os) ts ss e a b = absurd (cc)
+
+-- what is left when a seat of one more semaphore was joined, and what joins that semaphore and the rest
+pub join_next : (i : ℕ) (os : List SemInfo) {o : SemInfo} {ts ts' : List (SemTallyInfo Process)} {ss ss' : List (SemSeatInfo Process)} {t : SemTallyInfo Process} {s : SemSeatInfo Process} {b : SemTallyInfo Process}
+    → o ≡ get_or os i o → i < length os → ts ≡ t ∷ ts' → ss ≡ s ∷ ss' → ids_of_tallies ts ≡ ids_of (drop i os) → ids_of_seats ss ≡ ids_of (drop i os) → JoinsSeat o.size t s b → b.object ≡ o.object
+    → (ids_of_tallies ts' ≡ ids_of (drop (i + 1) os)) × (ids_of_seats ss' ≡ ids_of (drop (i + 1) os))
+        × ((more : List (SemTallyInfo Process)) → JoinEach (drop (i + 1) os) ts' ss' more → JoinEach (drop i os) ts ss (b ∷ more))
+join_next i os {o} {ts} {ts'} {ss} {ss'} {t} {s} {b} o_is below ts_is ss_is tallies seats joins same =
+    let os_is : drop i os ≡ o ∷ drop (i + 1) os = drop_at i os o below ∙ ap (λ (x : SemInfo). x ∷ drop (i + 1) os) (sym o_is) in
+    let tallies_are : t.object ∷ ids_of_tallies ts' ≡ o.object ∷ ids_of (drop (i + 1) os) = rw (os_is, ts_is) at tallies in
+    let seats_are : s.object ∷ ids_of_seats ss' ≡ o.object ∷ ids_of (drop (i + 1) os) = rw (os_is, ss_is) at seats in
+    (cc, cc, λ more rest. rw (os_is, ts_is, ss_is) (joins, same, rest))
 
 -- ---- what is joined
 
