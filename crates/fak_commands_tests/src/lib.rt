@@ -1,5 +1,5 @@
 //! The tests of `fak_commands` and `fak_replay`, in a crate of their own, so that their proofs are checked once: texts, statuses, command
-//! lines, scripts of many sizes, and devices that fail. It embeds the program as any other may: one line in crates.txt lists `fak_commands`.
+//! lines, and devices that fail. It embeds the program as any other may: one line in crates.txt lists `fak_commands`.
 #![tactic(auto)]
 
 mod embedding;
@@ -17,14 +17,10 @@ mod histories;
 #[cfg(test)]
 mod inputs;
 #[cfg(test)]
-mod numbers;
-#[cfg(test)]
 mod program;
 #[cfg(test)]
 mod schedules;
 #[cfg(test)]
 mod scripts;
-#[cfg(test)]
-mod sizes;
 #[cfg(test)]
 mod texts;
