@@ -1,0 +1,33 @@
+"""Runs the program on many inputs, for checks that read this file in."""
+import concurrent.futures
+import os
+import subprocess
+
+TOP = os.path.dirname(os.path.dirname(os.path.dirname(os.path.abspath(__file__))))
+
+
+def fault_of(program, case):
+    """What is wrong with the program's answer to a case, or None. A case is the words, the input, the status, the output, and whether
+    that is the whole output or its end."""
+    words, text, status, wanted, is_whole = case
+    ran = subprocess.run([program, *words], input=text.encode(), capture_output=True, check=False)
+    found = ran.stdout.decode(errors="replace")
+    if ran.returncode == status and not ran.stderr and (found == wanted if is_whole else found.endswith(wanted)):
+        return None
+    return f"differs: {' '.join(words)}, status {ran.returncode}: {text[:300]}\n{ran.stderr.decode(errors='replace')[:200]}"
+
+
+def run_all(cases):
+    """Runs all cases, as many side by side as there are processors. Prints the first faults and 'N passed, M failed', and answers the
+    exit status."""
+    program = subprocess.run([f"{TOP}/tools/build/program"], capture_output=True, text=True, check=True).stdout.strip()
+    passed, faults = 0, []
+    with concurrent.futures.ThreadPoolExecutor(os.cpu_count()) as pool:
+        for fault in pool.map(lambda case: fault_of(program, case), cases):
+            if fault:
+                faults.append(fault)
+            else:
+                passed += 1
+    print("".join(f"{it}\n" for it in faults[:20]), end="")
+    print(f"{passed} passed, {len(faults)} failed")
+    return 1 if faults else 0
