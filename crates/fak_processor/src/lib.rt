@@ -3,6 +3,7 @@
 
 mod alarm;
 mod gate;
+pub mod laws;
 mod objects;
 mod processor;
 
