@@ -1,5 +1,6 @@
 //! Callers of what the crates below promise: each is a small function that makes calls, names one public law, and
 //! concludes in public words. Half have no proof of their own, the others a line to a dozen; none imports another crate's proofs.
+//! The module `words` asks instead what the words of those laws say of known histories.
 #![tactic(auto)]
 
 pub mod cells;
@@ -11,3 +12,4 @@ pub mod rooms;
 pub mod semaphores;
 #[cfg(test)]
 mod tests;
+pub mod words;
