@@ -2,6 +2,8 @@
 #include "tests.h"
 
 #define MOST_SEATS 64
+#define LARGEST_SIZE 4096
+#define LARGEST_BOUND (UINT64_C(1) << 32)
 
 static bool is_empty(const fak_c_seat *seat) {
     return seat->at == NULL;
@@ -75,17 +77,17 @@ static void limits_are_tested(void) {
         CHECK(is_empty(&seats[i]));
 }
 
-/* Objects of each kind with this number are opened, each with this many seats. */
+/* Objects of each kind with this number are opened, each with this many seats, and with one seat where the number is wide. */
 static void opens(fak_c_seat *seats, size_t n, uint64_t number, uint64_t stint) {
     uint64_t wide = number * (UINT64_C(1) << 20);
     CHECK(fak_c_open(seats, n, number, stint) == FAK_C_OK);
     for (size_t i = 0; i < n; i++)
         stands(&seats[i], FAK_C_IDLE, 99, stint);
-    CHECK(fak_c_sem_open(seats, n, wide, number, stint) == FAK_C_OK);
+    CHECK(fak_c_sem_open(seats, 1, wide, number, stint) == FAK_C_OK);
     CHECK(fak_c_sem_open(seats, n, number, 4097 - number, stint) == FAK_C_OK);
-    CHECK(fak_c_room_open(seats, n, wide, stint) == FAK_C_OK);
+    CHECK(fak_c_room_open(seats, 1, wide, stint) == FAK_C_OK);
     CHECK(fak_c_room_open(seats, n, number - 1, stint) == FAK_C_OK);
-    CHECK(fak_c_credit_open(seats, n, wide, stint) == FAK_C_OK);
+    CHECK(fak_c_credit_open(seats, 1, wide, stint) == FAK_C_OK);
     CHECK(fak_c_credit_open(seats, n, number - 1, stint) == FAK_C_OK);
     CHECK(fak_c_files_open(seats, n, number % 16 + 1, stint) == FAK_C_OK);
     for (size_t i = 0; i < n; i++)
@@ -94,12 +96,35 @@ static void opens(fak_c_seat *seats, size_t n, uint64_t number, uint64_t stint) 
 
 /* No size, no number of seats and no width of a stint is refused. */
 static void each_size_is_opened(void) {
-    static const uint64_t sizes[] = {500, 511, 512, 513, 999, 1000, 1023, 1024, 1025, 2000, 2047, 2048, 2049, 3000, 4000, 4095, 4096};
     fak_c_seat seats[MOST_SEATS] = {0};
-    for (uint64_t size = 1; size <= 260; size++)
+    for (uint64_t size = 1; size <= LARGEST_SIZE; size++)
         opens(seats, size % MOST_SEATS + 1, size, UINT64_C(1) << size % 41);
-    for (size_t i = 0; i < sizeof sizes / sizeof sizes[0]; i++)
-        opens(seats, sizes[i] % MOST_SEATS + 1, sizes[i], LONG_STINT - i);
+}
+
+/* Objects of each kind are opened with this number, or the most there may be, as their bound or start and as their stint. */
+static void opens_wide(fak_c_seat *seats, size_t n, uint64_t number) {
+    uint64_t bound = number < LARGEST_BOUND ? number : LARGEST_BOUND;
+    uint64_t stint = number == 0 ? 1 : number < LONG_STINT ? number : LONG_STINT;
+    CHECK(fak_c_open(seats, n, 5, stint) == FAK_C_OK);
+    for (size_t i = 0; i < n; i++)
+        stands(&seats[i], FAK_C_IDLE, 99, stint);
+    CHECK(fak_c_sem_open(seats, n, bound, 5, stint) == FAK_C_OK);
+    CHECK(fak_c_room_open(seats, n, bound, stint) == FAK_C_OK);
+    CHECK(fak_c_credit_open(seats, n, bound, stint) == FAK_C_OK);
+    CHECK(fak_c_files_open(seats, n, 5, stint) == FAK_C_OK);
+    for (size_t i = 0; i < n; i++)
+        CHECK(fak_c_leave(&seats[i]) == FAK_C_OK);
+}
+
+/* No bound, no start and no stint is refused that is a power of two, stands beside one or lies halfway to the next. */
+static void each_width_is_opened(void) {
+    fak_c_seat seats[MOST_SEATS] = {0};
+    for (uint64_t power = 1, n = 1; power <= LONG_STINT; power *= 2, n++) {
+        opens_wide(seats, n, power - 1);
+        opens_wide(seats, n, power);
+        opens_wide(seats, n, power + 1);
+        opens_wide(seats, n, power + power / 2);
+    }
 }
 
 /* Calls that a seat does not stand for are refused, write nothing and leave it where it is. */
@@ -277,6 +302,7 @@ void each_code_is_answered(void) {
     an_empty_handle_is_refused(&seat);
     limits_are_tested();
     each_size_is_opened();
+    each_width_is_opened();
     states_are_tested();
     turns_are_waited_for();
     a_stint_ends();
