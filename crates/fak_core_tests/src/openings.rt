@@ -1,15 +1,35 @@
 //! Cores of each size in range are opened, and each of their seats may begin a call.
 
 use crate::queues::{begins, opened};
-use fak_core::{QueueCall, RoomCall, RoomCore};
+use fak_core::{CoreMove, Line, LineMark, QueueCall, QueueCore, RoomCall, RoomCore};
+use fak_model::Kind;
 use std::process::Abort;
 
-/// Opens the queue, and has each seat insert an item, but for its test.
+/// Opens the queue, and has each seat begin to insert an item: all test, then all add.
 fn opens_queue(rt: &(impl AllocGlobal + Abort), size: u64, seats: u64) {
     let mut core = opened(rt, size, seats);
     for seat in 0..seats {
         begins(rt, &mut core, seat, QueueCall::Insert(seat));
         assert!(rt; core.advance(rt.alloc(), seat).is_ok(), "{size}, {seats}");
+    }
+    adds_up(rt, &mut core, size, seats);
+}
+
+/// Has each seat add in its insertion: as many as fit are granted, and the others refused.
+fn adds_up(rt: &(impl AllocGlobal + Abort), core: &mut QueueCore, size: u64, seats: u64) {
+    for seat in 0..seats {
+        let kind = if seat < size {
+            Kind::ClaimIn
+        } else {
+            Kind::OverIn
+        };
+        let line = Line {
+            seat,
+            step: CoreMove::AddUp,
+            found: seat as i128,
+            mark: Some(LineMark::Queue(kind)),
+        };
+        assert_eq!(rt; core.advance(rt.alloc(), seat), Ok(line));
     }
 }
 

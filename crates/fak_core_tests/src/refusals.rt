@@ -1,7 +1,7 @@
 //! A refused call leaves a core as it was, and one that found no memory can be tried again.
 
 use crate::queues::{DELETED, INSERTED, begins, opened};
-use fak_core::{CoreFault, Line, LineMark, QueueCall, QueueCore, RoomCall, RoomCore};
+use fak_core::{CoreFault, CoreMove, Line, LineMark, QueueCall, QueueCore, RoomCall, RoomCore};
 use std::process::Abort;
 
 /// A queue with one item, in which seat 0 has claimed it, and seat 1 is idle.
@@ -90,6 +90,62 @@ fn a_room_seat_in_mid_call_begins_nothing(rt: HostRuntime) {
         for call in [RoomCall::Tir(1), RoomCall::Release(1), RoomCall::Release(4)] {
             assert_eq!(rt; core.begin(0, call), Err(CoreFault::MidCall));
         }
+    }
+}
+
+/// A queue of one cell with two seats in this call, and with one item where they delete.
+fn called_queue(rt: &(impl AllocGlobal + Abort), call: QueueCall) -> QueueCore {
+    let mut core = opened(rt, 1, 2);
+    if matches!(call, QueueCall::Delete) {
+        begins(rt, &mut core, 1, QueueCall::Insert(7));
+        for _ in INSERTED {
+            assert!(rt; core.advance(rt.alloc(), 1).is_ok());
+        }
+    }
+    begins(rt, &mut core, 0, call);
+    begins(rt, &mut core, 1, call);
+    core
+}
+
+/// Finds that seat 0 may begin no call, as it is in one.
+fn begins_nothing(rt: &impl Abort, core: &mut QueueCore) {
+    for call in [QueueCall::Insert(8), QueueCall::Delete, QueueCall::Shut] {
+        assert_eq!(rt; core.begin(0, call), Err(CoreFault::MidCall));
+    }
+}
+
+/// The call of seat 0 has come to each step that it can be at, and goes on with that step after what was refused.
+#[test]
+fn a_queue_seat_in_mid_call_begins_nothing(rt: HostRuntime) {
+    let insert = QueueCall::Insert(7);
+    let delete = QueueCall::Delete;
+    let cases: [(QueueCall, &[u64], CoreMove); 17] = [
+        (insert, &[], CoreMove::TestUp),
+        (insert, &[0], CoreMove::AddUp),
+        (insert, &[0, 1, 1, 0], CoreMove::BackUp),
+        (insert, &[0; 2], CoreMove::TicketIn),
+        (insert, &[0; 3], CoreMove::TurnIn),
+        (insert, &[0; 4], CoreMove::StoreItem),
+        (insert, &[0; 5], CoreMove::SetFull),
+        (insert, &[0; 6], CoreMove::EndIn),
+        (delete, &[], CoreMove::TestLow),
+        (delete, &[0], CoreMove::SubLow),
+        (delete, &[0, 1, 1, 0], CoreMove::BackLow),
+        (delete, &[0; 2], CoreMove::TicketOut),
+        (delete, &[0; 3], CoreMove::TurnOut),
+        (delete, &[0; 4], CoreMove::LoadItem),
+        (delete, &[0; 5], CoreMove::SetFree),
+        (delete, &[0; 6], CoreMove::EndOut),
+        (QueueCall::Shut, &[], CoreMove::Shut),
+    ];
+    for (call, seats, next) in cases {
+        let mut core = called_queue(&rt, call);
+        for &seat in seats {
+            assert!(rt; core.advance(rt.alloc(), seat).is_ok());
+        }
+        begins_nothing(&rt, &mut core);
+        let line = core.advance(rt.alloc(), 0).ok().expect(&rt, "a step");
+        assert_eq!(rt; line.step, next);
     }
 }
 
