@@ -1,13 +1,14 @@
 //! What a run may report, and what it may not: reports of small scripts, on either side of each promise; and their texts.
 
-ghost use Rattle.std.specs.Prelude.{◌≡◌, ℕ, ◌<◌, [], ◌∷◌, ◌++◌, codes, decimal, Some, None};
-ghost use Rattle.fak_text.specs.Journal.{downed, no_birth, opened, shut_down, spawned, yielded};
+ghost use Rattle.std.specs.Prelude.{◌≡◌, ℕ, ◌<◌, List, [], ◌∷◌, ◌++◌, codes, decimal, Some, None};
+ghost use Rattle.fak_text.specs.Journal.{downed, no_birth, opened, said, shut_down, spawned, statted, upped, yielded};
+ghost use Rattle.fak_text.specs.Script.{ScriptOf, down, say, stat, up};
 ghost use Rattle.fak_run.specs.Examples.{used};
 ghost use Rattle.fak_run.specs.Files.{free_entry};
 ghost use Rattle.fak_run.specs.declared.report.Outcome.TheVariants.{Ended, Halted, Stuck};
-ghost use Rattle.fak_run.specs.ReportExamples.{child_row, family_rows, halted_report, left_row, opener, pair_at, parent, parent_row, shutter, stuck_report, tells};
+ghost use Rattle.fak_run.specs.ReportExamples.{child_row, family_rows, halted_report, left_row, opener, pair_at, parent, parent_row, shutter, small, stuck_report, tells};
 ghost use Rattle.fak_run.specs.Report.{exit_status};
-ghost use Rattle.fak_run.specs.ReportText.{line_of_row, text_of_births, text_of_entries, text_of_report};
+ghost use Rattle.fak_run.specs.ReportText.{RunPrints, line_of_row, text_of_births, text_of_entries, text_of_report};
 ghost use Rattle.fak_run.specs.RunReports.{RunReports};
 
 /// What runs of known scripts may report: births that are named and counted, downs that pass and that sleep, a process
@@ -37,8 +38,8 @@ pub fn reports_with_wrong_names_are_refused()
     ensures no_birth { RunReports (parent 1) (tells 1 0 1 (parent_row (no_birth ∷ []) ∷ []) free_entry) → ⊥ }
 {}
 
-/// A slot out of range, a position that is not the journal's, a line of another step, a child of another number, and outcomes
-/// that do not fit the position of the process, or that need a shutdown.
+/// A slot out of range, a position that is not the journal's, a line of another step, a line of another text, semaphore or
+/// inode, a child of another number, and outcomes that do not fit the position of the process, or that need a shutdown.
 pub fn reports_with_rows_that_do_not_fit_are_refused()
     ensures slot { RunReports (parent 1)
         (tells 1 1 1 (parent_row (spawned 0 ∷ []) ∷ left_row (0 ∷ 0 ∷ []) 1 3 [] Ended ∷ []) free_entry) → ⊥ }
@@ -47,6 +48,11 @@ pub fn reports_with_rows_that_do_not_fit_are_refused()
           process = record (parent_row (no_birth ∷ [])).process { position = 2 };
         } ∷ []) free_entry) → ⊥ }
     ensures line { RunReports (parent 1) (tells 1 0 1 (parent_row (yielded ∷ []) ∷ []) free_entry) → ⊥ }
+    ensures text { RunReports (small 1 0 [] ((say (codes "a") ∷ []) ∷ []) (0 ∷ []))
+        (tells 1 0 0 (parent_row (said (codes "b") ∷ []) ∷ []) free_entry) → ⊥ }
+    ensures semaphore { RunReports (small 1 0 (0 ∷ 0 ∷ []) ((up 0 ∷ []) ∷ []) (0 ∷ []))
+        (tells 1 0 0 (parent_row (upped 1 ∷ []) ∷ []) free_entry) → ⊥ }
+    ensures inode { RunReports opener (tells 1 0 0 (parent_row (opened 8 (Some 0) ∷ []) ∷ []) (used 8 1)) → ⊥ }
     ensures number { RunReports (parent 1)
         (tells 1 1 1 (parent_row (spawned 1 ∷ []) ∷ left_row (0 ∷ 1 ∷ []) 1 1 [] Ended ∷ []) free_entry) → ⊥ }
     ensures unended { RunReports (parent 1) (tells 1 0 1 (parent_row [] ∷ []) free_entry) → ⊥ }
@@ -58,32 +64,47 @@ pub fn reports_with_rows_that_do_not_fit_are_refused()
         → ⊥ }
 {}
 
-/// Two sleepers in one slot, a down that passed though the count was 0, one that sleeps though it was 1, and a down of
-/// another semaphore; an entry that no line made, and a line that the entries do not give.
+/// Two sleepers or two halted processes in one slot, a down that passed though the count was 0, one that sleeps though it was
+/// 1 or an up made it 1, one that sleeps at the second semaphore though that was 1, and a down of another semaphore; an entry
+/// that no line made, and lines that the entries do not give.
 pub fn reports_with_wrong_lines_are_refused()
     ensures one_slot { RunReports (pair_at 0)
         (tells 1 0 0 (left_row (0 ∷ []) 0 0 [] Stuck ∷ left_row (1 ∷ []) 0 0 [] Stuck ∷ []) free_entry) → ⊥ }
+    ensures halted_slot { RunReports (record shutter { start = 0 ∷ 0 ∷ [] })
+        (tells 2 0 0 (left_row (0 ∷ []) 0 0 (shut_down ∷ []) Halted ∷ left_row (1 ∷ []) 0 0 (shut_down ∷ []) Halted ∷ [])
+        free_entry) → ⊥ }
     ensures passed { RunReports (pair_at 0)
         (tells 1 0 0 (left_row (0 ∷ []) 0 0 (downed 0 ∷ []) Ended ∷ left_row (1 ∷ []) 0 0 [] Stuck ∷ []) free_entry)
         → ⊥ }
     ensures asleep { RunReports (pair_at 1)
         (tells 1 0 0 (left_row (0 ∷ []) 0 0 [] Stuck ∷ left_row (1 ∷ []) 0 1 [] Stuck ∷ []) free_entry) → ⊥ }
+    ensures upped { RunReports (small 1 0 (0 ∷ []) ((down 0 ∷ []) ∷ (up 0 ∷ []) ∷ []) (0 ∷ 1 ∷ []))
+        (tells 1 0 0 (left_row (0 ∷ []) 0 0 [] Stuck ∷ left_row (1 ∷ []) 1 1 (upped 0 ∷ []) Ended ∷ []) free_entry)
+        → ⊥ }
+    ensures second { RunReports (small 1 0 (0 ∷ 1 ∷ []) ((down 1 ∷ []) ∷ []) (0 ∷ []))
+        (tells 1 0 0 (left_row (0 ∷ []) 0 0 [] Stuck ∷ []) free_entry) → ⊥ }
     ensures other { RunReports (pair_at 0)
         (tells 1 0 0 (left_row (0 ∷ []) 0 0 (downed 1 ∷ []) Ended ∷ left_row (1 ∷ []) 0 0 [] Stuck ∷ []) free_entry)
         → ⊥ }
     ensures entry { RunReports opener (tells 1 0 0 (parent_row (opened 7 (Some 0) ∷ []) ∷ []) free_entry) → ⊥ }
     ensures unopened { RunReports opener (tells 1 0 0 (parent_row (opened 7 None ∷ []) ∷ []) free_entry) → ⊥ }
+    ensures uses { RunReports (small 1 0 [] ((stat 7 ∷ []) ∷ []) (0 ∷ []))
+        (tells 1 0 0 (parent_row (statted 7 (Some 5) ∷ []) ∷ []) free_entry) → ⊥ }
 {}
 
-/// A stuck process makes the exit status 3, and no other outcome does.
+/// A stuck process makes the exit status 3, and no other outcome does; and no run prints a stuck report with the status 0.
 pub fn known_reports_have_known_statuses()
     ensures stuck { exit_status (tells 1 0 0 (left_row (0 ∷ []) 0 0 [] Ended ∷ left_row (1 ∷ []) 0 0 [] Stuck ∷ [])
         free_entry) ≡ 3 }
     ensures others { exit_status (tells 2 0 0 (left_row (0 ∷ []) 0 0 [] Ended ∷ left_row (1 ∷ []) 0 0 [] Halted ∷ [])
         free_entry) ≡ 0 }
+    ensures printed { (text : List ℕ) (run : RunPrints (pair_at 1) text 0) → run.report
+        ≡ tells 1 0 0 (left_row (0 ∷ []) 0 0 (downed 0 ∷ []) Ended ∷ left_row (1 ∷ []) 0 0 [] Stuck ∷ []) free_entry
+        → ⊥ }
 {}
 
-/// The whole texts of two reports, letter by letter; and a row, an entry and the births, whatever their numbers.
+/// The whole texts of two reports, letter by letter; and a row, an entry and the births, whatever their numbers. No run prints
+/// an empty text.
 pub fn known_reports_have_known_texts()
     ensures stuck { text_of_report stuck_report
         ≡ codes "process 0 program 1 slot 2 ended\n"
@@ -111,4 +132,5 @@ pub fn known_reports_have_known_texts()
         ++ codes "\n" }
     ensures births { (births bound : ℕ) → text_of_births (tells 1 births bound [] free_entry)
         ≡ codes "births " ++ decimal births ++ codes " of " ++ decimal bound ++ codes "\n" }
+    ensures empty { (script : ScriptOf) (status : ℕ) → RunPrints script [] status → ⊥ }
 {}

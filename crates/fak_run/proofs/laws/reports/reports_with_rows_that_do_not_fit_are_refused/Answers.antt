@@ -1,4 +1,4 @@
-use Rattle.fak_run.proofs.Common.{◌<◌, refl, arith, child_row}
+use Rattle.fak_run.proofs.Common.{ℕ, ◌<◌, List, refl, ap, arith, slice_index, child_row}
 use Rattle.fak_run.proofs.ReportExamples.{clash}
 use Rattle.fak_run.proofs.laws.reports.reports_with_rows_that_do_not_fit_are_refused.Goals as goal
 
@@ -13,6 +13,17 @@ returns-clause-position c r = let first = r.rows.fits 0 child_row (omega arith) 
 
 pub returns-clause-line : goal.returns-clause-line
 returns-clause-line c r = let first = r.rows.fits 0 child_row (omega arith) in first.process.fits.0
+
+pub returns-clause-text : goal.returns-clause-text
+returns-clause-text c r =
+    let first = r.rows.fits 0 child_row (omega arith) in
+    clash 98 97 (ap (λ (text : List ℕ). slice_index text 0) first.process.fits.0) refl
+
+pub returns-clause-semaphore : goal.returns-clause-semaphore
+returns-clause-semaphore c r = let first = r.rows.fits 0 child_row (omega arith) in clash 1 0 first.process.fits.0 refl
+
+pub returns-clause-inode : goal.returns-clause-inode
+returns-clause-inode c r = let first = r.rows.fits 0 child_row (omega arith) in clash 8 7 first.process.fits.0.0 refl
 
 pub returns-clause-number : goal.returns-clause-number
 returns-clause-number c r = let first = r.rows.fits 0 child_row (omega arith) in clash 1 0 first.process.fits.0 refl
