@@ -2,6 +2,8 @@
 
 use super::credits::is;
 use fak_count::{Credit, CreditTally, OpenFault, Room, RoomTally, TirFault, Worn};
+use std::fmt::Display;
+use std::process::Abort;
 use std::test::*;
 
 #[test]
@@ -46,18 +48,33 @@ fn credits_print_their_numbers(rt: HostRuntime) -> Result<(), Fail> {
     Ok(())
 }
 
+/// Finds that each fault is written so.
+fn have_texts<F: Display>(rt: &(impl Abort + AllocGlobal), rows: &[(F, &str)]) {
+    for (fault, text) in rows {
+        let written = fault.to_string(rt.alloc()).expect(rt, "memory");
+        assert!(rt; written.as_str() == *text, "{text}");
+    }
+}
+
 #[test]
-fn faults_say_what_is_the_matter(rt: HostRuntime) -> Result<(), Fail> {
-    let alloc = rt.alloc();
-    let text = format!(in alloc; "{}; {}; {Worn}", TirFault::AtBound(5), TirFault::Worn)?;
-    assert_eq!(rt;
-        text.as_str(),
-        "the room is at its bound: its value was 5; the stint is used up; the stint is used up"
-    );
-    let text = format!(in alloc; "{}; {}", OpenFault::BadSize, OpenFault::BadStint)?;
-    assert_eq!(rt;
-        text.as_str(),
-        "the bound or the start is above 4294967296; the stint is not 1 to 1099511627776"
-    );
-    Ok(())
+fn faults_say_what_is_the_matter(rt: HostRuntime) {
+    let opens = [
+        (
+            OpenFault::BadSize,
+            "the bound or the start is above 4294967296",
+        ),
+        (OpenFault::BadSeats, "the number of seats is not 1 to 64"),
+        (OpenFault::BadStint, "the stint is not 1 to 1099511627776"),
+        (OpenFault::Memory, "out of memory"),
+    ];
+    have_texts(&rt, &opens);
+    let claims = [
+        (TirFault::Worn, "the stint is used up"),
+        (
+            TirFault::AtBound(5),
+            "the room is at its bound: its value was 5",
+        ),
+    ];
+    have_texts(&rt, &claims);
+    have_texts(&rt, &[(Worn, "the stint is used up")]);
 }

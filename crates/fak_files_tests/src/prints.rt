@@ -1,6 +1,8 @@
 //! What tables, seats, tallies and faults print.
 
 use fak_files::{FileFault, FileField, FileTable, FileTally, Hold, OpenFault, Worn};
+use std::fmt::Display;
+use std::process::Abort;
 use std::test::*;
 
 #[test]
@@ -34,18 +36,27 @@ fn file_tables_print_their_numbers(rt: HostRuntime) -> Result<(), Fail> {
     Ok(())
 }
 
+/// Finds that each fault is written so.
+fn have_texts<F: Display>(rt: &(impl Abort + AllocGlobal), rows: &[(F, &str)]) {
+    for (fault, text) in rows {
+        let written = fault.to_string(rt.alloc()).expect(rt, "memory");
+        assert!(rt; written.as_str() == *text, "{text}");
+    }
+}
+
 #[test]
-fn faults_say_what_is_the_matter(rt: HostRuntime) -> Result<(), Fail> {
-    let alloc = rt.alloc();
-    let text = format!(in alloc; "{}; {}; {Worn}", FileFault::Busy(2), FileFault::Worn)?;
-    assert_eq!(rt;
-        text.as_str(),
-        "others hold the table: its count was 2; the stint is used up; the stint is used up"
-    );
-    let text = format!(in alloc; "{}; {}", OpenFault::BadSize, OpenFault::BadSeats)?;
-    assert_eq!(rt;
-        text.as_str(),
-        "the number of entries is not 1 to 16; the number of seats is not 1 to 64"
-    );
-    Ok(())
+fn faults_say_what_is_the_matter(rt: HostRuntime) {
+    let opens = [
+        (OpenFault::BadSize, "the number of entries is not 1 to 16"),
+        (OpenFault::BadSeats, "the number of seats is not 1 to 64"),
+        (OpenFault::BadStint, "the stint is not 1 to 1099511627776"),
+        (OpenFault::Memory, "out of memory"),
+    ];
+    have_texts(&rt, &opens);
+    let holds = [
+        (FileFault::Worn, "the stint is used up"),
+        (FileFault::Busy(2), "others hold the table: its count was 2"),
+    ];
+    have_texts(&rt, &holds);
+    have_texts(&rt, &[(Worn, "the stint is used up")]);
 }

@@ -2,6 +2,8 @@
 
 use super::steps::{close, open, take};
 use fak_queue::{DeleteFault, InsertFault, OpenFault, Port, Queue, SeatState, Tally};
+use std::fmt::Display;
+use std::process::Abort;
 use std::test::*;
 
 #[test]
@@ -58,21 +60,38 @@ fn ports_print_their_queue_and_their_seat(rt: HostRuntime) -> Result<(), Fail> {
     Ok(())
 }
 
+/// Finds that each fault is written so.
+fn have_texts<F: Display>(rt: &(impl Abort + AllocGlobal), rows: &[(F, &str)]) {
+    for (fault, text) in rows {
+        let written = fault.to_string(rt.alloc()).expect(rt, "memory");
+        assert!(rt; written.as_str() == *text, "{text}");
+    }
+}
+
 #[test]
-fn faults_say_what_is_the_matter(rt: HostRuntime) -> Result<(), Fail> {
-    let alloc = rt.alloc();
-    let full = InsertFault::Full { upper: 3, item: 7 };
-    let text = format!(in alloc; "{full}; {}", InsertFault::Closed { item: 7 })?;
-    assert_eq!(rt;
-        text.as_str(),
-        "the queue is full: its upper count was 3; the queue is shut"
-    );
-    let text = format!(in alloc; "{}; {}", DeleteFault::Empty(0), DeleteFault::Worn)?;
-    assert_eq!(rt;
-        text.as_str(),
-        "the queue is empty: its lower count was 0; the stint is used up"
-    );
-    let text = format!(in alloc; "{}; {}", OpenFault::BadSize, OpenFault::Memory)?;
-    assert_eq!(rt; text.as_str(), "the size is not 1 to 4096; out of memory");
-    Ok(())
+fn faults_say_what_is_the_matter(rt: HostRuntime) {
+    let opens = [
+        (OpenFault::BadSize, "the size is not 1 to 4096"),
+        (OpenFault::BadSeats, "the number of seats is not 1 to 64"),
+        (OpenFault::BadStint, "the stint is not 1 to 1099511627776"),
+        (OpenFault::Memory, "out of memory"),
+    ];
+    have_texts(&rt, &opens);
+    let insertions = [
+        (InsertFault::Worn { item: 7 }, "the stint is used up"),
+        (InsertFault::Closed { item: 7 }, "the queue is shut"),
+        (
+            InsertFault::Full { upper: 3, item: 7 },
+            "the queue is full: its upper count was 3",
+        ),
+    ];
+    have_texts(&rt, &insertions);
+    let deletions = [
+        (DeleteFault::Worn, "the stint is used up"),
+        (
+            DeleteFault::Empty(0),
+            "the queue is empty: its lower count was 0",
+        ),
+    ];
+    have_texts(&rt, &deletions);
 }

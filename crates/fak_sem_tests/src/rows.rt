@@ -9,6 +9,8 @@ use crate::steps::{A, B, Step, close, joined, leaves_nothing, open, take, walk};
 use fak_model::laws::queue::a_queue_at_rest_counts_its_items;
 use fak_sem::{OpenFault, SemSeat, SemTally, SemWorn, Semaphore, StepSeat, Worn};
 use std::alloc::Global;
+#[cfg(test)]
+use std::fmt::Display;
 use std::process::Abort;
 use std::sync::Wait;
 
@@ -176,14 +178,26 @@ fn what_debug_prints(rt: HostRuntime) {
     );
 }
 
+/// Finds that each fault is written so.
+#[cfg(test)]
+fn have_texts<F: Display>(rt: &(impl Abort + AllocGlobal), rows: &[(F, &str)]) {
+    for (fault, text) in rows {
+        let written = fault.to_string(rt.alloc()).expect(rt, "memory");
+        assert!(rt; written.as_str() == *text, "{text}");
+    }
+}
+
 #[test]
 fn what_faults_say(rt: HostRuntime) {
-    let text = format!(in rt.alloc(); "{}; {}", OpenFault::BadSize, SemWorn(7u64)).expect(
-        &rt, "memory",
-    );
-    assert!(rt;
-        text.as_str()
-            == "the start is above 4294967296, or the size is not 1 to 4096; the stint is used up",
-        "{text}"
-    );
+    let opens = [
+        (
+            OpenFault::BadSize,
+            "the start is above 4294967296, or the size is not 1 to 4096",
+        ),
+        (OpenFault::BadSeats, "the number of seats is not 1 to 64"),
+        (OpenFault::BadStint, "the stint is not 1 to 1099511627776"),
+        (OpenFault::Memory, "out of memory"),
+    ];
+    have_texts(&rt, &opens);
+    have_texts(&rt, &[(SemWorn(7u64), "the stint is used up")]);
 }
