@@ -1,5 +1,6 @@
 ghost use Rattle.fak_text.specs.Names.{IsRefusal};
 
+use crate::spread::spread;
 use LineMark::{Queue, Room};
 use fak_core::{CoreFault, CoreMove, Line, LineMark};
 use fak_model::{Kind, RoomKind};
@@ -269,6 +270,104 @@ fn names(rt: HostRuntime) {
     assert!(rt; is_named(rt.alloc(), &[], ""));
     assert!(rt; is_named(rt.alloc(), &[0], "0"));
     assert!(rt; is_named(rt.alloc(), &[12, 0, 1000], "12.0.1000"));
+}
+
+/// Adds a number to a name, and to the text of the name.
+fn add_to_name(
+    alloc: Global,
+    name: &mut Vec<u64>,
+    text: &mut String,
+    number: u64,
+) -> Result<(), AllocError> {
+    let dot = if name.is_empty() { "" } else { "." };
+    let part = format!(in alloc; "{dot}{number}")?;
+    name.push(number)?;
+    text.push_str(&part)
+}
+
+#[test]
+fn names_of_up_to_1001_numbers(rt: HostRuntime) {
+    let mut name = Vec::new(rt.alloc());
+    let mut text = String::new(rt.alloc());
+    assert!(rt; is_named(rt.alloc(), &name, &text));
+    for number in 0..1_001u64 {
+        add_to_name(rt.alloc(), &mut name, &mut text, number).expect(&rt, "memory");
+        assert!(rt; is_named(rt.alloc(), &name, &text), "at {number}");
+    }
+}
+
+/// Adds two notes of this number to those of process 3.0, and their lines to the text of its journal.
+fn add_to_journal(
+    alloc: Global,
+    notes: &mut Vec<Note>,
+    text: &mut String,
+    number: u64,
+) -> Result<(), AllocError> {
+    let lines = format!(in alloc; "  up {number}\n  spawn 3.0.{number}\n")?;
+    notes.push(Note::Up(number))?;
+    notes.push(Note::Spawned(number))?;
+    text.push_str(&lines)
+}
+
+#[test]
+fn journals_of_up_to_1000_notes(rt: HostRuntime) {
+    let mut notes = Vec::new(rt.alloc());
+    let mut text = String::new(rt.alloc());
+    for number in 0..500u64 {
+        add_to_journal(rt.alloc(), &mut notes, &mut text, number).expect(&rt, "memory");
+        assert!(rt;
+            is_text(journal_text(rt.alloc(), &[3, 0], &notes), &text),
+            "at {number}"
+        );
+    }
+}
+
+/// Whether a line with this number of a seat and of a mark, and with what it found, is written so.
+fn is_line_of(alloc: Global, number: u64, found: i128) -> Result<bool, AllocError> {
+    let line = Line {
+        seat: number,
+        step: CoreMove::TicketIn,
+        found,
+        mark: Some(Queue(Kind::Put(number))),
+    };
+    let want = format!(in alloc; "{number} ticket-in {found} put {number}")?;
+    Ok(is_text(line_text(alloc, &line), &want))
+}
+
+/// Whether a journal with this number wherever it has one is written so.
+fn is_journal_of(alloc: Global, n: u64) -> Result<bool, AllocError> {
+    let notes = [
+        Note::Down(n),
+        Note::Up(n),
+        Note::OpenFile(n, Some(n)),
+        Note::CloseFile(n, Some(n)),
+        Note::Stat(n, Some(n)),
+        Note::Spawned(n),
+    ];
+    let want = format!(in alloc;
+        "  down {n}\n  up {n}\n  open {n} entry {n}\n  close {n} entry {n}\n  stat {n} uses {n}\n  spawn {n}.{n}\n"
+    )?;
+    Ok(is_text(journal_text(alloc, &[n], &notes), &want))
+}
+
+#[test]
+fn lines_and_journals_of_numbers_of_each_length(rt: HostRuntime) {
+    let numbers = spread(rt.alloc()).expect(&rt, "memory");
+    for &number in &numbers {
+        let found = number as i128;
+        assert!(rt;
+            is_line_of(rt.alloc(), number, found) == Ok(true),
+            "at {number}"
+        );
+        assert!(rt;
+            is_line_of(rt.alloc(), number, -found) == Ok(true),
+            "at {number}"
+        );
+        assert!(rt;
+            is_journal_of(rt.alloc(), number) == Ok(true),
+            "at {number}"
+        );
+    }
 }
 
 /// Appends one of each, and a newline after each but the journal.
