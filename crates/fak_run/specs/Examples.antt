@@ -381,6 +381,36 @@ latecomers_left = record {
       record { name = 0 ∷ []; program = 1; slot = 0; position = 2; journal = yielded ∷ yielded ∷ [] } ∷ [];
 }
 
+-- a down that passes is the one step of its turn, so that the other process ends first
+abbrev pub counted : ScriptOf
+counted = record {
+  version = 1;
+  slots = 2;
+  births = 0;
+  quantum = 1;
+  stint = longest_stint;
+  semaphores = 1 ∷ [];
+  files = 1;
+  programs = (say [] ∷ say [] ∷ []) ∷ (down 0 ∷ say [] ∷ []) ∷ [];
+  start = 0 ∷ 1 ∷ [];
+}
+
+-- how it is left
+abbrev pub counted_left : Lists
+counted_left = record {
+  ready = [];
+  free_slots = 0 ∷ 1 ∷ [];
+  counts = 0 ∷ [];
+  sleepers = [] ∷ [];
+  entries = free_entry ∷ [];
+  births = 0;
+  is_shut = false;
+  ended =
+      record { name = 0 ∷ []; program = 0; slot = 0; position = 2; journal = said [] ∷ said [] ∷ [] } ∷
+      record { name = 1 ∷ []; program = 1; slot = 1; position = 2; journal = downed 0 ∷ said [] ∷ [] } ∷ [];
+  halted = [];
+}
+
 -- the change that an open or a close makes: the entry that it names, and the entries after it
 abbrev pub changed : Option ℕ → List FileEntry → FileChange
 changed entry entries = record { entry = entry; entries = entries }

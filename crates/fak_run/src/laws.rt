@@ -5,7 +5,7 @@ pub mod reports;
 ghost use Rattle.std.specs.Prelude.{◌≡◌, ◌≤◌, ℕ, List, [], ◌∷◌, Some, None};
 ghost use Rattle.fak_text.specs.Script.{ScriptOf};
 ghost use Rattle.fak_run.specs.ListScheduler.{EndsIn, Lists};
-ghost use Rattle.fak_run.specs.Examples.{ping_pong, ping_pong_left, family, family_left, crowd, crowd_left, heirs, heirs_left, alone, alone_left, plenty, plenty_left, curfew, curfew_left, late_child, late_child_left, reader, reader_left, refused, refused_left, unhurried, unhurried_left, latecomers, latecomers_left, changed, used};
+ghost use Rattle.fak_run.specs.Examples.{ping_pong, ping_pong_left, family, family_left, crowd, crowd_left, heirs, heirs_left, alone, alone_left, plenty, plenty_left, curfew, curfew_left, late_child, late_child_left, reader, reader_left, refused, refused_left, unhurried, unhurried_left, latecomers, latecomers_left, counted, counted_left, changed, used};
 ghost use Rattle.fak_run.specs.Files.{open_change, close_change, uses_of, free_entry};
 ghost use Rattle.std.specs.List.{All, AllPairs};
 ghost use Rattle.std.specs.List.Sorted.{IsPermutation};
@@ -30,6 +30,7 @@ pub fn the_list_scheduler_ends_known_scripts()
     ensures slotless { EndsIn (refused 1) (refused_left no_slot) }
     ensures long_turn { EndsIn unhurried unhurried_left }
     ensures late { EndsIn latecomers latecomers_left }
+    ensures counted { EndsIn counted counted_left }
 {}
 
 /// What opens, closes and stats of tables that are known find and change. An open takes the entry that bears the inode,

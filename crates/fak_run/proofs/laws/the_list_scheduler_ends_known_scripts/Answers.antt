@@ -16,4 +16,5 @@ returns c = record {
   slotless = record { count = 40; reached = refl; still = refl };
   long_turn = record { count = 50; reached = refl; still = refl };
   late = record { count = 40; reached = refl; still = refl };
+  counted = record { count = 40; reached = refl; still = refl };
 }
