@@ -1,7 +1,7 @@
 //! Faults among several processors: the others leave, and the fault of the first one is answered.
 
 use super::examples::script_of;
-use super::gates::{Chosen, Late, Slow, Slowing};
+use super::gates::{Chosen, Late, Second, Slow, Slowing};
 use fak_kernel::{Fault, FreeGate, Gate, run};
 use std::alloc::{AllocError, Global};
 use std::marker::Sync;
@@ -84,6 +84,36 @@ fn whoever_is_worn_the_others_leave(rt: HostRuntime) {
     }
 }
 
+/// Eight processes that end at once, and behind them one that wears a seat in its first turn.
+fn worn_behind_eight(alloc: Global) -> Result<String, AllocError> {
+    let mut text = String::new(alloc);
+    text.push_str(
+        r#"{"version":1,"slots":9,"births":0,"quantum":99,"stint":40,"semaphores":[0],"files":1,"programs":[[],["#,
+    )?;
+    for _ in 0..40 {
+        text.push_str(r#"["up",0],"#)?;
+    }
+    text.push_str(r#"["up",0]]],"start":[0,0,0,0,0,0,0,0,1]}"#)?;
+    Ok(text)
+}
+
+#[test]
+fn the_others_leave_where_each_has_seen_an_end(rt: HostRuntime) {
+    let text = worn_behind_eight(rt.alloc()).expect(&rt, "a script");
+    let script = script_of(&rt, rt.alloc(), &text);
+    for processors in 2..9u64 {
+        for chosen in 0..processors {
+            let gate = Second::new(chosen, processors, MANY);
+            let fault = run(&rt, rt.alloc(), &script, processors, &gate).err();
+            assert!(rt;
+                fault == Some(Fault::Worn),
+                "{fault:?} of {chosen} on {processors}"
+            );
+            assert!(rt; !gate.has_left_alone(), "{chosen} of {processors}");
+        }
+    }
+}
+
 /// Eight processes of 1,000 turns each, so that who has all of them to himself makes 8,000 looks.
 fn many_turns(alloc: Global) -> Result<String, AllocError> {
     let mut text = String::new(alloc);
@@ -103,7 +133,7 @@ fn whoever_is_refused_the_others_leave(rt: HostRuntime) {
     let script = script_of(&rt, rt.alloc(), &text);
     for processors in 2..9u64 {
         for refused in 0..processors {
-            let gate = Slowing::new(refused, 900, MANY);
+            let gate = Slowing::new(refused, 20, MANY);
             let fault = run(&rt, rt.alloc(), &script, processors, &gate).err();
             assert!(rt;
                 fault == Some(Fault::Gate),

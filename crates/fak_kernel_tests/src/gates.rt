@@ -275,6 +275,61 @@ impl Gate for Chosen {
     }
 }
 
+/// Lets each processor make one look, and one processor work alone from its second on, which waits for the others to come
+/// to theirs. From there they are held as `Chosen` holds them.
+#[derive(Drop)]
+pub(super) struct Second {
+    others: u64,
+    come: AtomicU64,
+    have_come: Flag,
+    chosen: Chosen,
+}
+
+impl Second {
+    /// Lets the processor of number `chosen` work, among this many.
+    pub(super) fn new(chosen: u64, processors: u64, turns: u64) -> Second {
+        Second {
+            others: processors.saturating_sub(1),
+            come: AtomicU64::new(0),
+            have_come: Flag::new(turns),
+            chosen: Chosen::new(chosen, turns),
+        }
+    }
+
+    /// Whether a processor went on looking where it should have left.
+    pub(super) fn has_left_alone(&self) -> bool {
+        self.chosen.has_left_alone()
+    }
+
+    /// The chosen one waits for the others, and the last of these lets it go on.
+    fn meet(&self, processor: u64) {
+        if processor == self.chosen.chosen {
+            self.have_come.wait();
+            return;
+        }
+        let before = self.come.fetch_add(1, Ordering::SeqCst);
+        if before.saturating_add(1) == self.others {
+            self.have_come.set();
+        }
+    }
+}
+
+impl Gate for Second {
+    fn may_refuse(&self) -> bool {
+        true
+    }
+
+    fn pass(&self, processor: u64, step: u64) -> bool {
+        if step == 0 {
+            return true;
+        }
+        if step == 1 {
+            self.meet(processor);
+        }
+        self.chosen.pass(processor, step.saturating_sub(1))
+    }
+}
+
 /// Refuses the first pass of one processor. Each other waits for that, and is slow from then on. One that comes to its
 /// look of number `most` must have been left alone.
 #[derive(Drop)]
@@ -315,7 +370,7 @@ impl Gate for Slowing {
         if step >= self.most {
             self.is_left_alone.set();
         }
-        for _ in 0..100_000u64 {
+        for _ in 0..500_000u64 {
             spin_loop();
         }
         true
