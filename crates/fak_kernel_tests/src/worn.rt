@@ -1,7 +1,9 @@
 //! Stints that are used up, at each object of a run: with one call more in the stint the run ends.
 
 use super::examples::script_of;
+use super::gates::Chosen;
 use fak_kernel::{Fault, FreeGate, run, run_one, run_one_to_text, run_to_text};
+use fak_text::Script;
 use std::alloc::{AllocError, Global};
 use std::fmt::Write;
 use std::process::Abort;
@@ -44,6 +46,13 @@ const IN_ONE_TURN: [Case; 7] = [
         5,
     ),
 ];
+
+/// A process of many turns: who has it wears the seat at the ready queue, by a look or by the end of a turn.
+const OF_TURNS: &str = r#"{"version":1,"slots":1,"births":0,"quantum":9,"semaphores":[],"files":1,
+"programs":[[["yield"],["yield"],["yield"],["yield"],["yield"],["yield"]]],"start":[0],"#;
+
+/// A processor is held this many turns at most.
+const MANY: u64 = 100_000_000;
 
 /// One processor makes all calls, and each stint wears another one out. The first script enters and leaves the ready queue
 /// twice, and looks at it once more. The next ones give a slot back, take one for a child, and enter the child. The last
@@ -160,6 +169,35 @@ fn a_seat_is_worn_by_many_turns(rt: HostRuntime) {
     for &case in &ALONE {
         for &processors in &[0u64, 1] {
             is_worn_below(&rt, rt.alloc(), case, processors);
+        }
+    }
+}
+
+/// Finds that the script is worn where one of these processors works alone.
+fn is_worn_by<R: Abort + Threads + Wait + Sync>(
+    rt: &R,
+    alloc: Global,
+    script: &Script,
+    processors: u64,
+    chosen: u64,
+) {
+    let gate = Chosen::new(chosen, MANY);
+    let fault = run(rt, alloc, script, processors, &gate).err();
+    assert!(rt;
+        fault == Some(Fault::Worn),
+        "{fault:?} of {chosen} on {processors}"
+    );
+}
+
+#[test]
+fn whoever_works_is_worn_by_many_turns(rt: HostRuntime) {
+    for &stint in &[4u64, 5] {
+        let text = with_stint(rt.alloc(), OF_TURNS, stint).expect(&rt, "a script");
+        let script = script_of(&rt, rt.alloc(), &text);
+        for processors in 2..9u64 {
+            for chosen in 0..processors {
+                is_worn_by(&rt, rt.alloc(), &script, processors, chosen);
+            }
         }
     }
 }
