@@ -120,6 +120,21 @@ fn very_many_turns(alloc: Global) -> Result<String, AllocError> {
     Ok(text)
 }
 
+/// A script of 63 turns: the first process shuts the ready queue, and each process halts after its turn, of which one half
+/// is longer by a step.
+fn many_halts(alloc: Global) -> Result<String, AllocError> {
+    let mut text = String::new(alloc);
+    text.push_str(
+        r#"{"version":2,"slots":64,"births":0,"quantum":9,"semaphores":[],"files":1,
+"programs":[[["shutdown"],["yield"],["yield"]],[["yield"],["yield"]],[["say",""],["yield"],["yield"]]],"start":[0"#,
+    )?;
+    for _ in 0..31 {
+        text.push_str(",1,2")?;
+    }
+    text.push_str("]}")?;
+    Ok(text)
+}
+
 /// Finds that one processor asks before each of its looks: one for each turn, and the last, which finds no process.
 fn asks_before_each<R: Abort + Threads + Wait + Sync>(
     rt: &R,
@@ -143,19 +158,36 @@ fn a_processor_asks_before_each_look(rt: HostRuntime) {
     }
     let text = very_many_turns(rt.alloc()).expect(&rt, "a script");
     asks_before_each(&rt, rt.alloc(), &text, 140_162);
+    let text = many_halts(rt.alloc()).expect(&rt, "a script");
+    asks_before_each(&rt, rt.alloc(), &text, 63);
+}
+
+/// Finds the same of each of 2 to 8 processors that works alone.
+fn asks_wherever_it_works<R: Abort + Threads + Wait + Sync>(
+    rt: &R,
+    alloc: Global,
+    text: &str,
+    turns: u64,
+) {
+    let script = script_of(rt, alloc, text);
+    for processors in 2..9u64 {
+        for chosen in 0..processors {
+            let gate = Alone::new(chosen, turns, MANY);
+            let report = run(rt, alloc, &script, processors, &gate);
+            assert!(rt; report.is_ok(), "{chosen} of {processors}");
+            let looks = gate.looks();
+            assert!(rt;
+                looks == turns.saturating_add(1),
+                "{looks} of {chosen} of {processors}, not {turns} and one"
+            );
+        }
+    }
 }
 
 #[test]
 fn whoever_works_asks_before_each_look(rt: HostRuntime) {
     let text = many_turns(rt.alloc(), 1).expect(&rt, "a script");
-    let script = script_of(&rt, rt.alloc(), &text);
-    for processors in 2..9u64 {
-        for chosen in 0..processors {
-            let gate = Alone::new(chosen, 1_000, MANY);
-            let report = run(&rt, rt.alloc(), &script, processors, &gate);
-            assert!(rt; report.is_ok(), "{chosen} of {processors}");
-            let looks = gate.looks();
-            assert!(rt; looks == 1_001, "{looks} of {chosen} of {processors}");
-        }
-    }
+    asks_wherever_it_works(&rt, rt.alloc(), &text, 1_000);
+    let text = many_halts(rt.alloc()).expect(&rt, "a script");
+    asks_wherever_it_works(&rt, rt.alloc(), &text, 63);
 }
