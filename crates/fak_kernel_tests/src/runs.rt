@@ -7,9 +7,11 @@ use super::gates::{Holding, Meeting, Refusing};
 use super::judge::broken_promise;
 use super::scripting::drawn_script;
 use crate::Draws;
-use fak_kernel::{Fault, FreeGate, Gate, Report, run, run_to_text};
+use fak_kernel::{
+    Fault, FreeGate, Gate, Report, report_text, run, run_one, run_one_to_text, run_to_text,
+};
 use fak_text::Script;
-use std::alloc::Global;
+use std::alloc::{AllocError, Global};
 use std::marker::Sync;
 use std::process::Abort;
 use std::sync::Wait;
@@ -194,4 +196,79 @@ fn a_thousand_children(rt: HostRuntime) {
 "programs":[[["spawn",0],["down",0],["spawn",0],["up",0],["spawn",0]]],"start":[0,0,0,0,0,0,0,0,0,0,0,0]}"#;
     let report = judged_report(&rt, rt.alloc(), script, 8);
     assert!(rt; report.births > 63);
+}
+
+/// 64 processes that say one text each.
+fn many_rows(alloc: Global) -> Result<String, AllocError> {
+    let mut text = String::new(alloc);
+    text.push_str(
+        r#"{"version":1,"slots":64,"births":0,"quantum":1,"semaphores":[],"files":1,"programs":[[["say","a"]]],"start":[0"#,
+    )?;
+    for _ in 0..63 {
+        text.push_str(",0")?;
+    }
+    text.push_str("]}")?;
+    Ok(text)
+}
+
+/// One process that says a text of each length from 0 to 80.
+fn long_texts(alloc: Global) -> Result<String, AllocError> {
+    let mut text = String::new(alloc);
+    text.push_str(
+        r#"{"version":1,"slots":1,"births":0,"quantum":9,"semaphores":[],"files":1,"programs":[[["say",""]"#,
+    )?;
+    let mut said = String::new(alloc);
+    for _ in 0..80 {
+        said.push_str("x")?;
+        text.push_str(r#",["say",""#)?;
+        text.push_str(&said)?;
+        text.push_str(r#""]"#)?;
+    }
+    text.push_str(r#"]],"start":[0]}"#)?;
+    Ok(text)
+}
+
+/// The text of the report of a run, and what a run that is asked for its text alone prints; without threads where no
+/// processor is named.
+fn both_texts<R: Abort + Threads + Wait + Sync>(
+    rt: &R,
+    alloc: Global,
+    script: &Script,
+    processors: u64,
+) -> Result<(Vec<u8>, Vec<u8>), Fault> {
+    let (report, printed) = match processors {
+        0 => (
+            run_one(rt, alloc, script)?,
+            run_one_to_text(rt, alloc, script)?,
+        ),
+        _ => (
+            run(rt, alloc, script, processors, &FreeGate)?,
+            run_to_text(rt, alloc, script, processors, &FreeGate)?,
+        ),
+    };
+    Ok((report_text(alloc, &report)?, printed.text))
+}
+
+/// Finds that both texts of the script are the same, and have this many lines.
+fn is_the_same_text<R: Abort + Threads + Wait + Sync>(
+    rt: &R,
+    alloc: Global,
+    text: &str,
+    lines: usize,
+) {
+    let script = script_of(rt, alloc, text);
+    for processors in 0..9u64 {
+        let (whole, printed) = both_texts(rt, alloc, &script, processors).expect(rt, "two texts");
+        assert!(rt; whole == printed, "on {processors}: {text}");
+        let found = whole.iter().filter(|byte| **byte == b'\n').count();
+        assert!(rt; found == lines, "{found} lines on {processors}: {text}");
+    }
+}
+
+#[test]
+fn a_report_has_the_text_that_is_printed(rt: HostRuntime) {
+    let text = many_rows(rt.alloc()).expect(&rt, "a script");
+    is_the_same_text(&rt, rt.alloc(), &text, 130);
+    let text = long_texts(rt.alloc()).expect(&rt, "a script");
+    is_the_same_text(&rt, rt.alloc(), &text, 84);
 }
