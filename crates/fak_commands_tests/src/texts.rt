@@ -53,7 +53,7 @@ fn talkers(alloc: Global, children: u64) -> Result<String, AllocError> {
 
 #[test]
 fn reports_of_up_to_87_megabytes(rt: HostRuntime) {
-    for children in [1u64, 10, 100, 250, 400, 500] {
+    for children in [1u64, 10, 100, 150, 400, 500] {
         let input = talkers(rt.alloc(), children).expect(&rt, "memory");
         let (status, taken) = served(&rt, Command::Run(1), &input);
         assert!(rt;
