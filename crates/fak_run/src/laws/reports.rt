@@ -38,8 +38,8 @@ pub fn reports_with_wrong_names_are_refused()
     ensures no_birth { RunReports (parent 1) (tells 1 0 1 (parent_row (no_birth ∷ []) ∷ []) free_entry) → ⊥ }
 {}
 
-/// A slot out of range, a position that is not the journal's, a line of another step, a line of another text, semaphore or
-/// inode, a child of another number, and outcomes that do not fit the position of the process, or that need a shutdown.
+/// A slot out of range, a position that is not the journal's, and outcomes that do not fit the position of the process, or that
+/// need a shutdown. A line of another step, text, semaphore or inode, and a child of another number.
 pub fn reports_with_rows_that_do_not_fit_are_refused()
     ensures slot { RunReports (parent 1)
         (tells 1 1 1 (parent_row (spawned 0 ∷ []) ∷ left_row (0 ∷ 0 ∷ []) 1 3 [] Ended ∷ []) free_entry) → ⊥ }
@@ -64,9 +64,9 @@ pub fn reports_with_rows_that_do_not_fit_are_refused()
         → ⊥ }
 {}
 
-/// Two sleepers or two halted processes in one slot, a down that passed though the count was 0, one that sleeps though it was
-/// 1 or an up made it 1, one that sleeps at the second semaphore though that was 1, and a down of another semaphore; an entry
-/// that no line made, and lines that the entries do not give.
+/// Two sleepers or two halted processes in one slot; an entry that no line made, and lines that the entries do not give. A down
+/// that passed though the count was 0, or of another semaphore; and one that sleeps though the count was 1, from the start or
+/// by an up.
 pub fn reports_with_wrong_lines_are_refused()
     ensures one_slot { RunReports (pair_at 0)
         (tells 1 0 0 (left_row (0 ∷ []) 0 0 [] Stuck ∷ left_row (1 ∷ []) 0 0 [] Stuck ∷ []) free_entry) → ⊥ }
