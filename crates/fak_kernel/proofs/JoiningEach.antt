@@ -13,7 +13,7 @@ join_none (o ∷ os) ts ss e a b = absurd (cc)
 pub join_next : (i : ℕ) (os : List SemInfo) {o : SemInfo} {ts ts' : List (SemTallyInfo Process)} {ss ss' : List (SemSeatInfo Process)} {t : SemTallyInfo Process} {s : SemSeatInfo Process} {b : SemTallyInfo Process}
     → o ≡ get_or os i o → i < length os → ts ≡ t ∷ ts' → ss ≡ s ∷ ss' → ids_of_tallies ts ≡ ids_of (drop i os) → ids_of_seats ss ≡ ids_of (drop i os) → JoinsSeat o.size t s b → b.object ≡ o.object
     → (ids_of_tallies ts' ≡ ids_of (drop (i + 1) os)) × (ids_of_seats ss' ≡ ids_of (drop (i + 1) os))
-        × ((more : List (SemTallyInfo Process)) → JoinEach (drop (i + 1) os) ts' ss' more → JoinEach (drop i os) ts ss (b ∷ more))
+    × ((more : List (SemTallyInfo Process)) → JoinEach (drop (i + 1) os) ts' ss' more → JoinEach (drop i os) ts ss (b ∷ more))
 join_next i os {o} {ts} {ts'} {ss} {ss'} {t} {s} {b} o_is below ts_is ss_is tallies seats joins same =
     let os_is : drop i os ≡ o ∷ drop (i + 1) os = drop_at i os o below ∙ ap (λ (x : SemInfo). x ∷ drop (i + 1) os) (sym o_is) in
     let tallies_are : t.object ∷ ids_of_tallies ts' ≡ o.object ∷ ids_of (drop (i + 1) os) = rw (os_is, ts_is) at tallies in
