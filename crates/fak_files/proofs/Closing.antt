@@ -1,6 +1,6 @@
 -- What a closed file table shows.
 use Rattle.fak_model.proofs.RunningViews.{sees_whole}
-use Rattle.fak_files.proofs.Common.{FileLimits, word_of, entry_of, entries_after, entry_in, ◌≡◌, ◌≢◌, inl, inr, slice_set, ℕ, zero, suc, ◌+◌, ◌<◌, List, [], ◌∷◌, length, take, slice_get, slice_index, get_or, Some, None, refl, ap, sym, ◌∙◌, subst, arith, reverse, some, some-injective, some-ne-none, get_elem?, file_rules, IsWhole, State, Inode, Uses, FileMark, same_or_not, FileView, IsShownFile, FileHolder, common_steps, FileEntry}
+use Rattle.fak_files.proofs.Common.{FileLimits, word_of, entry_of, entries_after, entry_in, ◌≡◌, ◌≢◌, inl, inr, slice_set, ℕ, zero, suc, ◌+◌, ◌<◌, List, [], ◌∷◌, length, take, slice_get, slice_index, Some, None, refl, ap, sym, ◌∙◌, subst, arith, reverse, some, some-injective, some-ne-none, get_elem?, file_rules, IsWhole, State, Inode, Uses, FileMark, same_or_not, FileView, IsShownFile, FileHolder, common_steps, FileEntry}
 
 -- where all seats were joined, the words show what the tally has seen
 pub ends : (table : FileLimits) (s : State (Unit {0}) FileView) (id : ℕ) (m : FileHolder) → IsShownFile table s → get_elem? s.views id ≡ some m.0 → IsWhole table.seats m.0.names → (words : List ℕ) → s.words ≡ words

@@ -1,7 +1,7 @@
 -- The kinds of a seat's marks as its calls go on.
 use Rattle.std.proofs.lemmas.List.{append-nil, map-append}
 use Rattle.fak_model.specs.File.{WholeCall, Setting, set_mark, Refused, Withdrawn, Held, kinds_of_call, seat_of, kind_of, hold_after, hold_from, amount_held, IsAmount, IsFair, file_rules, IsFileHistory}
-use Rattle.fak_files.proofs.Common.{Access, Read, Write, FilePhase, mark, ◌≡◌, ◌≢◌, ℕ, List, [], ◌∷◌, ◌++◌, refl, ap, sym, ◌∙◌, subst, inl, inr, append_assoc, map, flat_map, flat_map-append, Owes, words_by, FileKind, Take, Over, Back, No, Set, Give, FileMark, owes_more, owed_comes, seat_words-own, seat_words-other, history_push, history_begun, history_owed, Idle, Backing, Holding, amount_of, AreInHold, StandsIn, common_steps, arith}
+use Rattle.fak_files.proofs.Common.{Access, Read, Write, FilePhase, mark, ◌≡◌, ◌≢◌, ℕ, List, [], ◌∷◌, ◌++◌, refl, ap, sym, ◌∙◌, subst, append_assoc, map, flat_map, flat_map-append, Owes, words_by, FileKind, Take, Over, Back, No, Set, Give, FileMark, owes_more, owed_comes, seat_words-own, seat_words-other, history_push, history_begun, history_owed, Idle, Backing, Holding, amount_of, AreInHold, StandsIn, common_steps, arith}
 
 -- ---- holds
 

@@ -1,5 +1,5 @@
 -- The laws of holds: what lies between a Take and its Give, and what is read in a hold.
-use Rattle.fak_files.proofs.Common.{◌≡◌, ◌≢◌, ℕ, ◌<◌, ◌≤◌, ◌==◌, Bool, true, false, List, [], ◌∷◌, ◌++◌, refl, ap, sym, ◌∙◌, subst, arith, inl, inr, append_assoc, true≢false, reverse, All, nat_tests, All-head, All-tail, All-cons, All-nil, AreNamed, seat_of, amount_held, hold_after, field, IsFair, file_rules, IsFileHistory, marks_of, Foreign, FileField, FileKind, Take, Over, Back, No, Set, Give, FileMark, same_or_not, history_prefix, last_fair, reverse_push, marks_of-reverse, is_take, is_set, KeepsHold, back_from_take, own_since_take, prefix_through_take, marks_since_take, common_steps}
+use Rattle.fak_files.proofs.Common.{◌≡◌, ◌≢◌, ℕ, ◌<◌, ◌≤◌, ◌==◌, Bool, true, List, [], ◌∷◌, ◌++◌, refl, ap, sym, ◌∙◌, subst, arith, inl, inr, append_assoc, true≢false, reverse, All, nat_tests, All-head, All-tail, All-cons, All-nil, AreNamed, seat_of, amount_held, hold_after, field, IsFair, file_rules, IsFileHistory, marks_of, Foreign, FileField, FileKind, Take, Give, FileMark, same_or_not, history_prefix, last_fair, reverse_push, marks_of-reverse, is_take, is_set, KeepsHold, back_from_take, own_since_take, prefix_through_take, marks_since_take, common_steps}
 use Rattle.std.proofs.lemmas.List.{append-nil, reverse-append, reverse-reverse}
 use Rattle.fak_files.proofs.HoldReads.{alone, held_own, held_other, reads, back_from_take-foreign, own_since_take-foreign}
 

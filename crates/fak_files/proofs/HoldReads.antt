@@ -1,5 +1,5 @@
 -- A writer is alone, and what a seat reads in a hold.
-use Rattle.fak_files.proofs.Common.{◌≡◌, ◌≢◌, ◌⊎◌, ℕ, zero, suc, ◌+◌, ◌<◌, ◌≤◌, ◌==◌, Bool, true, false, List, [], ◌∷◌, ◌++◌, Some, refl, ap, sym, ◌∙◌, subst, arith, inl, inr, append_assoc, true≢false, reverse, All, append-nil, nat_tests, All-pop, AreNamed, seat_words, sum_below, words_by, seat_of, kind_of, hold_after, hold_from, amount_held, field_after, field, IsFair, file_rules, IsFileHistory, In, Foreign, Sees, FileField, FileKind, Take, Over, Back, No, Set, Give, FileMark, same_or_not, seat_words-own, seat_words-other, history_front, last_fair, reverse_cons, is_take, back_from_take, own_since_take, sum_term, files_fit, hold_push, common_steps}
+use Rattle.fak_files.proofs.Common.{◌≡◌, ◌≢◌, ◌⊎◌, ℕ, zero, suc, ◌+◌, ◌<◌, ◌≤◌, ◌==◌, Bool, true, false, List, [], ◌∷◌, ◌++◌, Some, refl, ap, sym, ◌∙◌, subst, arith, inl, inr, append_assoc, true≢false, reverse, All, append-nil, nat_tests, All-pop, AreNamed, seat_words, sum_below, words_by, seat_of, kind_of, hold_after, hold_from, amount_held, field_after, field, IsFair, file_rules, IsFileHistory, In, Foreign, Sees, FileField, FileKind, Take, FileMark, same_or_not, seat_words-own, seat_words-other, history_front, last_fair, reverse_cons, is_take, back_from_take, own_since_take, sum_term, files_fit, hold_push, common_steps}
 use Rattle.fak_files.proofs.WordPlaces.{field-push}
 
 -- ---- a writer is alone

@@ -2,7 +2,7 @@
 use native.Mathlib.Decide.{dec_le}
 use Rattle.fak_model.specs.File.{seat_of, kind_of, field_after, amount_held, count}
 use Rattle.fak_model.proofs.RunningSteps.{Advances, stands_now, steps}
-use Rattle.fak_files.proofs.Common.{Access, Read, Write, FilePhase, FileLimits, amount_of, StandsIn, count_place, word_of, ◌≡◌, ℕ, ◌+◌, ◌-◌, ◌%◌, ◌^◌, ◌<◌, ◌≤◌, List, [], ◌∷◌, ◌++◌, refl, ap, sym, ◌∙◌, subst, arith, set, slice_index, Some, reverse, pos, ◌+ℤ◌, ◌-ℤ◌, ◌≤ℤ◌, ◌<ℤ◌, ints, some, get_elem?, words_by, sight, AreOwn, Leaves, IsSeatToken, bias, State, Act, keeps, stepped, carried_after, Valid, Allows, FileField, FileKind, Take, Over, Back, No, Set, Give, FileMark, reverse_cons, All-reverse, token_names, token_phase, token_slots, token_after, Idle, Taking, Backing, Holding, FileView, ShowsHistory, file_object, IsShownFile, FileHolder, mark, Steps, CountIs, Tested, Took, TellsNothing, Withdrew, Gave, FieldIs, Got, WasSet, HeardJoin, common_steps, lt_of_not-le, hears}
+use Rattle.fak_files.proofs.Common.{Access, Write, FilePhase, FileLimits, amount_of, StandsIn, count_place, word_of, ◌≡◌, ℕ, ◌+◌, ◌-◌, ◌%◌, ◌^◌, ◌<◌, ◌≤◌, List, [], ◌∷◌, ◌++◌, refl, ap, sym, ◌∙◌, subst, arith, set, slice_index, Some, reverse, pos, ◌+ℤ◌, ◌-ℤ◌, ◌≤ℤ◌, ◌<ℤ◌, ints, some, get_elem?, words_by, sight, AreOwn, Leaves, IsSeatToken, bias, State, Act, keeps, stepped, carried_after, Valid, Allows, FileField, FileKind, Take, Over, Back, No, Set, Give, FileMark, reverse_cons, All-reverse, token_names, token_phase, token_slots, token_after, Idle, Taking, Backing, Holding, FileView, ShowsHistory, file_object, IsShownFile, FileHolder, mark, Steps, CountIs, Tested, Took, TellsNothing, Withdrew, Gave, FieldIs, Got, WasSet, HeardJoin, common_steps, lt_of_not-le, hears}
 use Rattle.fak_files.proofs.Counts.{count_after, count-push, count_within}
 use Rattle.fak_files.proofs.Grammar.{GoesOn, amounts, refuses, overdraws, withdraws, takes, sets_field, holds_amount, gives_back, stands_other}
 use Rattle.fak_files.proofs.WordPlaces.{sub_word, add_word, near_word, words_same, counts_next, fields_next}

@@ -1,6 +1,6 @@
 -- A hold that is tried until it is granted.
 use Rattle.std.proofs.lemmas.List.{append-nil, map-append}
-use Rattle.fak_files.proofs.Common.{Access, amount_of, mark, ◌≡◌, ◌⊎◌, ℕ, ◌+◌, ◌<◌, List, [], ◌∷◌, ◌++◌, refl, ap, sym, ◌∙◌, subst, arith, inl, inr, map, ℤ, sum_by, flat_map, All-push, All-nil, sum_by-cons, sum_by-append, flat_map-append, WholeCall, Refused, Withdrawn, kinds_of_call, seat_of, file_rules, SeatInfo, mine_of, Appends, FileKind, Over, Back, No, FileMark, appends_then, FileSeatInfo, one_hold, holds_had, LeavesMarks, amount_for, IsGranted, IsWorn, IsBusy, AreRefused, IsWaitedFor, common_steps}
+use Rattle.fak_files.proofs.Common.{Access, amount_of, mark, ◌≡◌, ◌⊎◌, ℕ, ◌+◌, ◌<◌, List, [], ◌∷◌, ◌++◌, refl, ap, sym, ◌∙◌, subst, arith, inl, inr, map, ℤ, sum_by, flat_map, All-push, All-nil, sum_by-cons, sum_by-append, flat_map-append, WholeCall, Refused, Withdrawn, kinds_of_call, seat_of, file_rules, SeatInfo, mine_of, Appends, FileKind, Over, Back, No, FileMark, appends_then, FileSeatInfo, one_hold, holds_had, LeavesMarks, amount_for, IsGranted, IsBusy, AreRefused, IsWaitedFor, common_steps}
 
 -- ---- marks of two calls
 

@@ -1,6 +1,6 @@
 -- The words of a file table after a step.
 use Rattle.fak_model.specs.File.{count, same_field, field_after, field_from, field}
-use Rattle.fak_files.proofs.Common.{FileLimits, ShowsHistory, mark, ◌≡◌, ◌≢◌, ℕ, ◌+◌, ◌-◌, ◌%◌, ◌^◌, ◌<◌, ◌≤◌, ◌==◌, Bool, true, false, cond, List, [], ◌∷◌, ◌++◌, refl, sym, ◌∙◌, subst, arith, set, get_or, length, mod-eq_of_lt, ℤ, pos, ◌+ℤ◌, ◌-ℤ◌, ◌&&◌, nat_tests, ints, bias, get_or-set_same, get_or-set_other, length-set, set-get_or, FileField, Inode, Uses, Set, FileMark, same_or_not, count_place, width, word_of, common_steps, add-mod_left}
+use Rattle.fak_files.proofs.Common.{FileLimits, ShowsHistory, mark, ◌≡◌, ◌≢◌, ℕ, ◌+◌, ◌-◌, ◌%◌, ◌^◌, ◌<◌, ◌≤◌, ◌==◌, Bool, false, cond, List, [], ◌∷◌, ◌++◌, refl, sym, subst, arith, set, get_or, length, mod-eq_of_lt, ℤ, pos, ◌+ℤ◌, ◌-ℤ◌, ◌&&◌, nat_tests, ints, bias, get_or-set_same, get_or-set_other, length-set, set-get_or, FileField, Set, FileMark, same_or_not, count_place, width, word_of, common_steps, add-mod_left}
 
 -- ---- numbers
 

@@ -2,7 +2,7 @@
 use Rattle.std.proofs.lemmas.Grind.{common_steps}
 use Rattle.std.proofs.Common.{arith}
 use Rattle.fak_text.specs.declared.steps.Note.{Note}
-use Rattle.fak_text.proofs.Common.{NoteOf, said, yielded, downed, upped, opened, closed, statted, spawned, no_birth, no_slot, shut_down, note_of, ◌≡◌, ℕ, ◌+◌, ◌<◌, List, [], ◌∷◌, ◌++◌, map, codes, take, get_or, length, decimal, refl, append_assoc, flat_map, map-append, take_more, flat_map-append, text_of_name, child_prefix, text_of_note, journal_line, text_of_journal}
+use Rattle.fak_text.proofs.Common.{NoteOf, said, yielded, downed, upped, opened, closed, statted, spawned, no_birth, no_slot, shut_down, note_of, ◌≡◌, ℕ, ◌+◌, ◌<◌, List, [], ◌∷◌, ◌++◌, map, codes, take, get_or, length, decimal, refl, flat_map, map-append, take_more, flat_map-append, text_of_name, child_prefix, text_of_note, journal_line, text_of_journal}
 use Rattle.fak_text.proofs.NameText.{text_of_name_push}
 
 -- two ways to write a child's name that are the same give the same line

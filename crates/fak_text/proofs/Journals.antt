@@ -1,6 +1,5 @@
 -- Journals that fit, note by note.
-use Rattle.fak_text.proofs.Common.{◌≡◌, ℕ, ◌+◌, ◌<◌, ◌≤◌, List, [], ◌∷◌, ◌++◌, length, slice_get, Option, Some, None, arith, refl, subst, StepOf, ScriptOf, steps_or_none, steps_of, limits_of, IsStepInRange, IsProgramInRange, IsInRange, NoteOf, Process, births_of, child_count, new_process, after_note, StandsAt, Allows, FitsFrom, FitsScript}
-use Rattle.std.proofs.lemmas.Option.{slice_get_within, get_or_from_slice_get}
+use Rattle.fak_text.proofs.Common.{◌≡◌, ℕ, ◌+◌, ◌≤◌, List, [], ◌∷◌, ◌++◌, length, slice_get, Some, arith, subst, StepOf, ScriptOf, steps_of, NoteOf, Process, births_of, child_count, after_note, StandsAt, Allows, FitsFrom, FitsScript}
 use Rattle.std.proofs.lemmas.Grind.{common_steps}
 
 pub child_count-append : (xs ys : List NoteOf) → child_count (xs ++ ys) ≡ child_count xs + child_count ys

@@ -3,7 +3,7 @@ use Rattle.std.proofs.lemmas.Grind.{common_steps}
 use Rattle.std.proofs.lemmas.List.Elements.{All-weaker}
 use Rattle.fak_core.specs.declared.call.RoomCall.TheVariants as room_calls
 use Rattle.fak_core.specs.declared.call.QueueCall.TheVariants as queue_calls
-use Rattle.fak_text.proofs.Common.{◌>>=◌, TextFault, ◌≡◌, ℕ, ◌≤◌, ◌==◌, Bool, true, false, List, codes, Option, Some, None, Ok, Err, subst, if◌then◌else◌, arith, All, bytes_eq, Data, items_len, as_array, as_str, Range}
+use Rattle.fak_text.proofs.Common.{◌>>=◌, ◌≡◌, ℕ, ◌≤◌, ◌==◌, Bool, true, false, List, codes, Option, Some, Ok, Err, subst, if◌then◌else◌, arith, All, bytes_eq, Data, items_len, as_array, as_str, Range}
 use Rattle.fak_text.specs.ScheduleText.{ScheduleOf, room_op, queue_op, op_named, third, third_within, steps_act, most_amount, act_from, event_from, object_named, object_from, most_events, schedule_from, schedule_in, IsObjectInRange, IsActInRange, IsActOf, IsScheduleInRange}
 use Rattle.fak_text.specs.Values.{value_or, input_in, number_within, number_at, text_at, value_of_key, number_of_key, elements_of_key, each_from, next_index}
 use Rattle.fak_text.specs.declared.fault.Field.TheVariants as fields
