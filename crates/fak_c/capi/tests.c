@@ -1,4 +1,5 @@
-/* Runs one group of the tests: `codes`, `kinds`, `memory`, `threads PAIRS ITEMS`, `drain ITEMS`, `objects ROUNDS` or `pointers ITEMS`. */
+/* Runs one group of the tests: `codes`, `kinds`, `pauses`, `memory`, `threads PAIRS ITEMS`, `drain ITEMS`, `objects ROUNDS` or
+ * `pointers ITEMS`. */
 #include "tests.h"
 
 #include <string.h>
@@ -8,6 +9,8 @@ int main(int count, char **words) {
         each_code_is_answered();
     else if (count == 2 && strcmp(words[1], "kinds") == 0)
         each_kind_is_answered();
+    else if (count == 2 && strcmp(words[1], "pauses") == 0)
+        pauses_are_short();
     else if (count == 2 && strcmp(words[1], "memory") == 0)
         want_of_memory_is_answered();
     else if (count == 4 && strcmp(words[1], "threads") == 0)

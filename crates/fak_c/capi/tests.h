@@ -25,6 +25,9 @@ void each_code_is_answered(void);
 /* The same of semaphores, rooms, credits and file tables; and what each kind of seat answers to the calls of the others. */
 void each_kind_is_answered(void);
 
+/* Seats of a queue of each size that call by turns pause, and not for long. */
+void pauses_are_short(void);
+
 /* Each allocation of an opening fails in turn. */
 void want_of_memory_is_answered(void);
 
