@@ -1,5 +1,6 @@
 """Runs the program on many inputs, for checks that read this file in."""
 import concurrent.futures
+import itertools
 import os
 import subprocess
 
@@ -21,13 +22,13 @@ def run_all(cases):
     """Runs all cases, as many side by side as there are processors. Prints the first faults and 'N passed, M failed', and answers the
     exit status."""
     program = subprocess.run([f"{TOP}/tools/build/program"], capture_output=True, text=True, check=True).stdout.strip()
-    passed, faults = 0, []
+    passed, faults, rest = 0, [], iter(cases)
     with concurrent.futures.ThreadPoolExecutor(os.cpu_count()) as pool:
-        for fault in pool.map(lambda case: fault_of(program, case), cases):
-            if fault:
-                faults.append(fault)
-            else:
-                passed += 1
+        # A part at a time, since all cases together are large.
+        while part := list(itertools.islice(rest, 500)):
+            found = [fault for fault in pool.map(lambda case: fault_of(program, case), part) if fault]
+            faults += found
+            passed += len(part) - len(found)
     print("".join(f"{it}\n" for it in faults[:20]), end="")
     print(f"{passed} passed, {len(faults)} failed")
     return 1 if faults else 0

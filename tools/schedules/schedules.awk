@@ -13,7 +13,7 @@ BEGIN {
 }
 
 function make_queue_schedule(name,    size) {
-    size = happens(75) ? 1 + draw(4) : happens(75) ? 1 + draw(16) : 1 + draw(4096)
+    size = happens(70) ? 1 + draw(4) : happens(60) ? 1 + draw(16) : happens(60) ? 1 + draw(200) : 1 + draw(4096)
     inserting = word_of("30 50 50 70")
     shutting = word_of("0 0 0 2 6")
     open_queue(size)
@@ -21,22 +21,31 @@ function make_queue_schedule(name,    size) {
 }
 
 function make_room_schedule(name,    bound) {
-    bound = happens(75) ? draw(9) : happens(75) ? draw(3000) : "4294967296"
+    bound = happens(60) ? draw(9) : happens(60) ? draw(200) : happens(70) ? draw(5000) : "4294967296"
     largest_amount = word_of("1 2 4 4 1024")
     open_room(bound)
     make_schedule(name, "room", "\"bound\":" bound)
 }
 
-# A schedule of up to 300 events; most seats of most schedules are few, so that they meet.
+# A schedule of up to 3,000 events; most seats of most schedules are few, so that they meet.
 function make_schedule(name, object, extent,    seats, length_of, events, i) {
     seats = happens(85) ? 1 + draw(6) : 1 + draw(64)
-    length_of = happens(5) ? 0 : happens(80) ? draw(80) : draw(300)
+    length_of = happens(5) ? 0 : happens(70) ? draw(80) : happens(80) ? draw(300) : draw(3000)
     wanted = ""
     for (i = 0; i < length_of; i++) {
         events = events (i ? "," : "") make_event(object, seats)
     }
     write_file(folder "/" name ".json", "{\"object\":\"" object "\"," extent ",\"seats\":" seats ",\"events\":[" events "]}\n")
     write_file(folder "/" name ".wanted", wanted "status 0\n")
+}
+
+# A number of 1 to 19 digits, as a text.
+function any_number(    digits, i) {
+    digits = 1 + draw(9)
+    for (i = draw(19); i > 0; i--) {
+        digits = digits draw(10)
+    }
+    return digits
 }
 
 function write_file(path, text) {
@@ -79,7 +88,7 @@ function make_steps(object, seat, is_seat,    steps, i, line) {
 
 function call_queue(seat,    call, item) {
     call = happens(shutting) ? "shut" : happens(inserting) ? "insert" : "delete"
-    item = happens(95) ? draw(100) : word_of(large)
+    item = happens(60) ? draw(100) : happens(80) ? any_number() : word_of(large)
     note_refusal(seat, begin_queue(seat, call, item))
     return "[" seat ",\"" call "\"" (call == "insert" ? "," item : "") "]"
 }
