@@ -8,12 +8,13 @@ TOP = os.path.dirname(os.path.dirname(os.path.dirname(os.path.abspath(__file__))
 
 
 def fault_of(program, case):
-    """What is wrong with the program's answer to a case, or None. A case is the words, the input, the status, the output, and whether
-    that is the whole output or its end."""
+    """What is wrong with the program's answer to a case, or None. A case is the words, the input, the status, the output (with status 1
+    that on standard error), and whether that is the whole output or its end."""
     words, text, status, wanted, is_whole = case
     ran = subprocess.run([program, *words], input=text.encode(), capture_output=True, check=False)
-    found = ran.stdout.decode(errors="replace")
-    if ran.returncode == status and not ran.stderr and (found == wanted if is_whole else found.endswith(wanted)):
+    said, silent = (ran.stderr, ran.stdout) if status == 1 else (ran.stdout, ran.stderr)
+    found = said.decode(errors="replace")
+    if ran.returncode == status and not silent and (found == wanted if is_whole else found.endswith(wanted)):
         return None
     return f"differs: {' '.join(words)}, status {ran.returncode}: {text[:300]}\n{ran.stderr.decode(errors='replace')[:200]}"
 

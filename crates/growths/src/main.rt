@@ -1,5 +1,5 @@
-//! Makes each public call that takes memory, and prints what it answers. A call that says that there was no memory is told of on the
-//! output of faults, and made once more: it must then answer as if nothing had been.
+//! Makes public calls that take memory, one by one, and prints what each answers. A call that says that there was no memory is told of
+//! on the output of faults, and made once more: it must then answer as if nothing had been.
 #![tactic(auto)]
 
 mod commands;
