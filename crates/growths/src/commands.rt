@@ -32,29 +32,52 @@ fn served(
 ) -> Result<Answer, MainFault> {
     let alloc = rt.alloc();
     let mut text = Vec::new(alloc);
-    let status = serve(rt, alloc, command, &mut input.as_bytes(), &mut text)?;
-    Ok(Answer { status, text })
+    match serve(rt, alloc, command, &mut input.as_bytes(), &mut text) {
+        Ok(status) => Ok(Answer { status, text }),
+        Err(fault) => {
+            drop(text);
+            Err(fault)
+        }
+    }
+}
+
+/// Prints an answer.
+fn print(rt: &impl Print, answer: &Answer) -> bool {
+    let _ = println!(rt; "status {}", answer.status);
+    put(rt, &answer.text);
+    true
+}
+
+/// Replays a schedule.
+fn replayed(rt: &(impl Print + Eprint + AllocGlobal)) -> bool {
+    let answer = again!(rt, "replay", replay(rt.alloc(), SCHEDULE.as_bytes()));
+    print(rt, &answer)
+}
+
+/// Judges a history.
+fn checked(rt: &(impl Print + Eprint + AllocGlobal)) -> bool {
+    let answer = again!(rt, "check", check(rt.alloc(), HISTORY.as_bytes()));
+    print(rt, &answer)
+}
+
+/// Runs a script.
+fn ran(rt: &(impl Print + Eprint + AllocGlobal + Threads + Wait + Sync)) -> bool {
+    let answer = again!(
+        rt,
+        "run_script",
+        run_script(rt, rt.alloc(), SCRIPT.as_bytes(), 1)
+    );
+    print(rt, &answer)
+}
+
+/// Reads a command line, and does what it asks for.
+fn commanded(rt: &(impl Print + Eprint + AllocGlobal + Threads + Wait + Sync)) -> bool {
+    let command = again!(rt, "command_of", asked(rt.alloc()));
+    let answer = again!(rt, "serve", served(rt, command, SCRIPT));
+    print(rt, &answer)
 }
 
 /// Makes each command.
 pub(crate) fn commands(rt: &(impl Print + Eprint + AllocGlobal + Threads + Wait + Sync)) -> bool {
-    let alloc = rt.alloc();
-    let answer = again!(rt, "replay", replay(alloc, SCHEDULE.as_bytes()));
-    let _ = println!(rt; "status {}", answer.status);
-    put(rt, &answer.text);
-    let answer = again!(rt, "check", check(alloc, HISTORY.as_bytes()));
-    let _ = println!(rt; "status {}", answer.status);
-    put(rt, &answer.text);
-    let answer = again!(
-        rt,
-        "run_script",
-        run_script(rt, alloc, SCRIPT.as_bytes(), 1)
-    );
-    let _ = println!(rt; "status {}", answer.status);
-    put(rt, &answer.text);
-    let command = again!(rt, "command_of", asked(alloc));
-    let answer = again!(rt, "serve", served(rt, command, SCRIPT));
-    let _ = println!(rt; "status {}", answer.status);
-    put(rt, &answer.text);
-    true
+    replayed(rt) && checked(rt) && ran(rt) && commanded(rt)
 }

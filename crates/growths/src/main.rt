@@ -8,6 +8,7 @@ mod opens;
 mod runs;
 mod texts;
 
+use std::fmt::Debug;
 use std::io;
 use std::io::Write;
 use std::process::ExitCode;
@@ -19,7 +20,7 @@ macro_rules! again {
         match $call {
             Ok(value) => value,
             Err(fault) => {
-                let _ = eprintln!($rt; "{}: {fault:?}", $name);
+                crate::tell($rt, $name, &fault);
                 match $call {
                     Ok(value) => value,
                     Err(_) => return false,
@@ -30,6 +31,16 @@ macro_rules! again {
 }
 
 pub(crate) use again;
+
+/// Tells on the output of faults what a call was refused for.
+pub(crate) fn tell<E: Debug>(rt: &impl Eprint, name: &str, fault: &E) {
+    let _ = eprintln!(rt; "{name}: {fault:?}");
+}
+
+/// Prints a value on a line.
+pub(crate) fn show<T: Debug>(rt: &impl Print, value: &T) {
+    let _ = println!(rt; "{value:?}");
+}
 
 /// Prints a text, and a newline.
 pub(crate) fn put(rt: &impl Print, text: &[u8]) {

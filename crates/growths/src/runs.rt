@@ -2,7 +2,9 @@
 
 use crate::texts::SCRIPT;
 use crate::{again, put};
-use fak_kernel::{FreeGate, report_text, run, run_one, run_one_to_text, run_to_text};
+use fak_kernel::{
+    FreeGate, Printed, Report, report_text, run, run_one, run_one_to_text, run_to_text,
+};
 use fak_text::read_script;
 use std::marker::Sync;
 use std::sync::Wait;
@@ -16,17 +18,30 @@ const ALONE: &str =
 const IDLE: &str =
     r#"{"version":1,"slots":1,"births":0,"quantum":1,"semaphores":[],"files":1,"programs":[],"start":[]}"#;
 
+/// Prints a report.
+fn print(rt: &(impl Print + Eprint + AllocGlobal), report: &Report) -> bool {
+    let text = again!(rt, "report_text", report_text(rt.alloc(), report));
+    put(rt, &text);
+    true
+}
+
+/// Prints what a run has printed.
+fn print_all(rt: &impl Print, printed: &Printed) -> bool {
+    let _ = println!(rt; "status {}", printed.status);
+    put(rt, &printed.text);
+    true
+}
+
 /// Runs a script on one processor.
 pub(crate) fn on_one(rt: &(impl Print + Eprint + AllocGlobal + Wait)) -> bool {
     let alloc = rt.alloc();
     let script = again!(rt, "read_script", read_script(alloc, SCRIPT.as_bytes()));
     let report = again!(rt, "run_one", run_one(rt, alloc, &script));
-    let text = again!(rt, "report_text", report_text(alloc, &report));
-    put(rt, &text);
+    if !print(rt, &report) {
+        return false;
+    }
     let printed = again!(rt, "run_one_to_text", run_one_to_text(rt, alloc, &script));
-    let _ = println!(rt; "status {}", printed.status);
-    put(rt, &printed.text);
-    true
+    print_all(rt, &printed)
 }
 
 /// Runs the script that has nothing to do on 1 to 8 processors. What a run is refused for names their number. It comes
@@ -54,14 +69,13 @@ pub(crate) fn on_two(rt: &(impl Print + Eprint + AllocGlobal + Threads + Wait + 
     let alloc = rt.alloc();
     let script = again!(rt, "read_script", read_script(alloc, ALONE.as_bytes()));
     let report = again!(rt, "run", run(rt, alloc, &script, 2, &FreeGate));
-    let text = again!(rt, "report_text", report_text(alloc, &report));
-    put(rt, &text);
+    if !print(rt, &report) {
+        return false;
+    }
     let printed = again!(
         rt,
         "run_to_text",
         run_to_text(rt, alloc, &script, 2, &FreeGate)
     );
-    let _ = println!(rt; "status {}", printed.status);
-    put(rt, &printed.text);
-    true
+    print_all(rt, &printed)
 }

@@ -1,3 +1,4 @@
+use Rattle.fak_files.proofs.Common.{rules}
 use Rattle.fak_files.proofs.Common.{◌∷◌, [], arith, Take, amount_of}
 use Rattle.std.proofs.lemmas.Int.{ints}
 use Rattle.fak_files.proofs.Making.{makes_none, makes_one, none_then, misses_test, misses_take}
@@ -28,3 +29,6 @@ returns-clause-made g c =
     let table = g.J.Call.key in
     let name = g.J.Call.name in
     none_then table name (Take (amount_of table.seats g.J.Call.access) ∷ []) (makes_none table name c.requires.seat test) (makes_one table name (Take (amount_of table.seats g.J.Call.access)) test.token step)
+
+pub withdraw-requires-clause-amount : goal.withdraw-requires-clause-amount
+withdraw-requires-clause-amount g c = search rules

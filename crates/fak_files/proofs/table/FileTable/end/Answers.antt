@@ -1,3 +1,4 @@
+use Rattle.fak_files.proofs.Common.{rules}
 use Rattle.fak_files.proofs.Common.{◌∙◌, sym, ap}
 use Rattle.fak_model.specs.Calls.{object_id}
 use Rattle.fak_files.proofs.SeatCalls.{ended_of, seat_ended}
@@ -14,3 +15,6 @@ returns-clause-call c =
     let object = ap (λ s. s.seat.object) c.seat.view_is ∙ (c.requires.object ∙ ap (λ t. t.object) (sym c.self.view_is)) in
     let same = ap (λ t. object_id t c.seat.inside.seats) c.give.ensures.same in
     ended_of _ _ same c.seat.inside.name c.seat.inside.left c.seat.inside.hold _ c.seat.invariant c.self.inside.table.shared.key (sym (ap (λ o. o.seats) object)) _ c.seat.view_is _ c.give.ensures.told
+
+pub give-requires-clause-amount : goal.give-requires-clause-amount
+give-requires-clause-amount c = search rules

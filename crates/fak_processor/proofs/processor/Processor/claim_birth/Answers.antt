@@ -1,3 +1,4 @@
+use Rattle.fak_processor.proofs.Common.{rules}
 use Rattle.fak_processor.proofs.Common.{arith}
 use Rattle.fak_processor.proofs.OnlyCounts.{claims, finds_full}
 use Rattle.fak_processor.proofs.Moving.{gains_births, refused_grows}
@@ -19,3 +20,6 @@ returns-in-Err-AtBound-clause-gains g c =
     let call = rw c.in-Err-AtBound.field-0-is at c.in-Err-AtBound.ensures.call in
     let grown = refused_grows call.1 in
     rw (← c.self.view_is) (grown.0, gains_births _ _ c.objects.invariant.1.births grown.1)
+
+pub returns-in-Err-Worn-clause-worn : goal.returns-in-Err-Worn-clause-worn
+returns-in-Err-Worn-clause-worn g c = search rules

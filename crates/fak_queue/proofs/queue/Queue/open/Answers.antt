@@ -26,3 +26,6 @@ loop-name-preserved g c =
       added ∙ ((λ i. c.loop-name.invariant.2 i ++ (fresh_queue_seat (object_id c.split_seat.result.table_id c.args.seats) c.loop-name.name c.args.stint c.split_seat.result.me dealt ∙ (λ j. seat_info (object_id (table j) c.args.seats) (plus j) c.args.stint [])) i ∷ [])
           ∙ sym (fresh_next (object_id c.in-Ok.table.shared.table_id c.args.seats) c.args.stint 0 c.loop-name.name)),
     )
+
+pub returns-in-Err : goal.returns-in-Err
+returns-in-Err g c = search rules

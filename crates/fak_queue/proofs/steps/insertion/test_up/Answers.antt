@@ -1,3 +1,4 @@
+use Rattle.fak_queue.proofs.Common.{rules}
 use Rattle.fak_queue.proofs.Common.{arith}
 use Rattle.fak_queue.proofs.Allowed.{tests_up_allowed}
 use Rattle.fak_queue.proofs.steps.insertion.test_up.Goals as goal
@@ -6,3 +7,6 @@ pub load-found-requires : goal.load-found-requires
 load-found-requires g c =
     let t = c.requires.table in
     (t.same, omega (arith, t.words), tests_up_allowed c.args.words.now.key _ _ _ c.requires.seat.0 _ t.few c.requires.seat.1 _ _ c.requires.item c.requires.phase)
+
+pub returns-clause-told : goal.returns-clause-told
+returns-clause-told g c = search rules

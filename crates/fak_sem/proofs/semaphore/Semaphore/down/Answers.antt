@@ -24,3 +24,6 @@ pub returns-clause-counts : goal.returns-clause-counts
 returns-clause-counts g c =
     let start = same_start c.seat.inside.queue c.self.inside.queue c.seat.view_is c.self.view_is c.requires in
     counts_down start c.in-Ok.ensures.call c.seat.inside.queue c.insert_at_last.new.seat c.seat.view_is (passes_not {found = c.in-Ok.found} (to_z-of_z {w = w64} (search rules)) c.if-passes.false) (parks_one {found = c.in-Ok.found} (to_z-of_z {w = w64} (search rules)) c.if-passes.false) refl
+
+pub invariant_of-seat : goal.invariant_of-seat
+invariant_of-seat g c = search rules

@@ -1,3 +1,4 @@
+use Rattle.fak_kernel.proofs.Common.{rules}
 use Rattle.std.proofs.iter.Serving.{serving}
 use Rattle.std.proofs.lemmas.Grind.{common_steps}
 use Rattle.fak_kernel.proofs.Common.{ProcessorOf, HasBegun, ◌≡◌, ℕ, ◌+◌, vec_len, get_or, arith, subst, into_iter_len, into_iter_items}
@@ -31,3 +32,6 @@ loop-processor-preserved g c =
           let rest = rest_of Begun (into_iter_items c.loop-processor.processor-iterator) (into_iter_items c.next.new.self) c.in-Some.processor (into_iter_len c.loop-processor.processor-iterator) (into_iter_len c.next.new.self) step.0 step.1 was.5 k d low in
           subst (λ (n : ℕ). HasBegun g.K.Run.script c.captures.objects.now c.captures.processors n (get_or (into_iter_items c.next.new.self) k d)) next rest,
     )
+
+pub returns-in-Err : goal.returns-in-Err
+returns-in-Err g c = search rules

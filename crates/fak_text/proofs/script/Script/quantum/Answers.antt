@@ -1,0 +1,5 @@
+use Rattle.fak_text.proofs.Common.{rules}
+use Rattle.fak_text.proofs.script.Script.quantum.Goals as goal
+
+pub returns-clause-value : goal.returns-clause-value
+returns-clause-value c = search rules
