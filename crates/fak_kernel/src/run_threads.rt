@@ -113,9 +113,15 @@ fn run_as<K: Run + Send + Sync, G: Gate + Sync, R: Threads + Wait + Sync>(
     ensures refused { IfErr result (λ fault. fault ≡ Fault.Gate → OneIsRefused processors (G.answers gate.now)) }
 {
     let opened = open_run::<K, R>(rt, alloc, script, processors)?;
+    let objects = opened.objects;
     let all = opened.processors;
-    let left = work_all(rt, alloc, script, &opened.objects, gate, processors, all)?;
-    Ok(report_of_run(alloc, script, opened.objects, left)?)
+    match work_all(rt, alloc, script, &objects, gate, processors, all) {
+        Ok(left) => Ok(report_of_run(alloc, script, objects, left)?),
+        Err(fault) => {
+            drop(objects);
+            Err(fault)
+        }
+    }
 }
 
 /// All processors work, each in a thread of its own, until they leave.

@@ -55,9 +55,15 @@ fn run_alone<K: Run, R: Wait>(rt: &R, alloc: Global, script: &Script) -> Result<
     ensures fault { IfErr result (λ fault. IsOfStep fault) }
 {
     let opened = open_run::<K, R>(rt, alloc, script, 1)?;
+    let objects = opened.objects;
     let only = opened.processors;
-    let left = leave_alone(rt, alloc, script, &opened.objects, only)?;
-    Ok(report_of_run(alloc, script, opened.objects, left)?)
+    match leave_alone(rt, alloc, script, &objects, only) {
+        Ok(left) => Ok(report_of_run(alloc, script, objects, left)?),
+        Err(fault) => {
+            drop(objects);
+            Err(fault)
+        }
+    }
 }
 
 /// The only processor works until it leaves.

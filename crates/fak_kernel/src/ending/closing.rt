@@ -77,6 +77,26 @@ fn read_entries(alloc: Global, rest: FileRest, count: u64) -> Result<Vec<FileEnt
     Ok(entries)
 }
 
+/// These sleepers, and the entries of a closed file table of this many.
+fn with_entries<K: Run>(
+    alloc: Global,
+    asleep: Vec<Context<K>>,
+    rest: FileRest,
+    count: u64,
+) -> Result<Remains<K>, AllocError>
+    requires count { length rest ≡ count }
+    ensures asleep { IfOk result (λ left. left.asleep.items ≡ asleep.items) }
+    ensures entries { IfOk result (λ left. left.entries.items ≡ rest) }
+{
+    match read_entries(alloc, rest, count) {
+        Ok(entries) => Ok(Remains { asleep, entries }),
+        Err(fault) => {
+            drop(asleep);
+            Err(fault)
+        }
+    }
+}
+
 /// Closes the objects, whose file table has this many entries, once all seats are joined. What the queues have left is
 /// dropped: no process is ready, and the slots are free. The births and the count of busy processes have nothing to close.
 #[tactic(auto, using(crate::proofs::Closing::length_entries))]
@@ -99,7 +119,8 @@ pub(crate) fn close<K: Run>(
     drop(objects.ready.close(tallies.ready));
     drop(objects.free.close(tallies.free));
     let rest = objects.files.close(tallies.files);
-    let entries = read_entries(alloc, rest, count)?;
-    let asleep = close_each(alloc, objects.semaphores, tallies.semaphores)?;
-    Ok(Remains { asleep, entries })
+    match close_each(alloc, objects.semaphores, tallies.semaphores) {
+        Ok(asleep) => with_entries(alloc, asleep, rest, count),
+        Err(fault) => Err(fault),
+    }
 }

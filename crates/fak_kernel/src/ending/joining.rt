@@ -103,16 +103,30 @@ impl<K: Run> Tallies<K> {
         requires seats { AreOf objects.now processor }
         ensures joined { IfOk result (λ both. JoinAll objects.now self processor both) }
     {
-        let semaphores = objects.semaphores.as_slice();
-        let semaphores = join_each(alloc, semaphores, self.semaphores, processor.semaphores)?;
-        Ok(Tallies {
-            ready: objects.ready.join(self.ready, processor.ready),
-            free: objects.free.join(self.free, processor.free),
-            births: objects.births.join(self.births, processor.births),
-            busy: objects.busy.join(self.busy, processor.busy),
-            semaphores,
-            files: objects.files.join(self.files, processor.files),
-        })
+        let ready = objects.ready.join(self.ready, processor.ready);
+        let free = objects.free.join(self.free, processor.free);
+        let births = objects.births.join(self.births, processor.births);
+        let busy = objects.busy.join(self.busy, processor.busy);
+        let files = objects.files.join(self.files, processor.files);
+        let each = objects.semaphores.as_slice();
+        match join_each(alloc, each, self.semaphores, processor.semaphores) {
+            Ok(semaphores) => Ok(Tallies {
+                ready,
+                free,
+                births,
+                busy,
+                semaphores,
+                files,
+            }),
+            Err(fault) => {
+                drop(ready);
+                drop(free);
+                drop(births);
+                drop(busy);
+                drop(files);
+                Err(fault)
+            }
+        }
     }
 }
 
@@ -125,19 +139,44 @@ impl<K: Run> Joined<K> {
         ensures ended { IfOk result (λ joined. joined.ended.items ≡ processor.ended) }
         ensures halted { IfOk result (λ joined. joined.halted.items ≡ processor.halted) }
     {
-        let tallies = Tallies {
-            semaphores: first_each(alloc, processor.semaphores)?,
-            ready: Tally::of(processor.ready),
-            free: Tally::of(processor.free),
-            births: RoomTally::of(processor.births),
-            busy: CreditTally::of(processor.busy),
-            files: FileTally::of(processor.files),
-        };
-        Ok(Joined {
-            tallies,
-            ended: processor.ended,
-            halted: processor.halted,
-        })
+        let ready = Tally::of(processor.ready);
+        let free = Tally::of(processor.free);
+        let births = RoomTally::of(processor.births);
+        let busy = CreditTally::of(processor.busy);
+        let files = FileTally::of(processor.files);
+        match first_each(alloc, processor.semaphores) {
+            Ok(semaphores) => Ok(Joined {
+                tallies: Tallies {
+                    ready,
+                    free,
+                    births,
+                    busy,
+                    semaphores,
+                    files,
+                },
+                ended: processor.ended,
+                halted: processor.halted,
+            }),
+            Err(fault) => {
+                drop(ready);
+                drop(free);
+                drop(births);
+                drop(busy);
+                drop(files);
+                Err(fault)
+            }
+        }
+    }
+
+    /// The processes that one processor more saw end and halt.
+    fn append(&mut self, processor: &mut Processor<K>) -> Result<(), AllocError>
+        ensures tallies { self.new.tallies ≡ self.old.tallies }
+        ensures ended { IfOk result (λ _. self.new.ended.items ≡ self.old.ended.items ++ processor.old.ended) }
+        ensures halted { IfOk result (λ _. self.new.halted.items ≡ self.old.halted.items ++ processor.old.halted) }
+        ensures rest { processor.new ≡ record processor.old { ended = processor.new.ended; halted = processor.new.halted } }
+    {
+        self.ended.append(&mut processor.ended)?;
+        self.halted.append(&mut processor.halted)
     }
 
     /// One processor more.
@@ -155,13 +194,27 @@ impl<K: Run> Joined<K> {
     {
         let mut all = self;
         let mut more = processor;
-        all.ended.append(&mut more.ended)?;
-        all.halted.append(&mut more.halted)?;
-        let tallies = all.tallies.join(alloc, objects, more)?;
-        Ok(Joined {
+        if let Err(fault) = all.append(&mut more) {
+            drop(all);
+            drop(more);
+            return Err(fault);
+        }
+        let Joined {
             tallies,
-            ended: all.ended,
-            halted: all.halted,
-        })
+            ended,
+            halted,
+        } = all;
+        match tallies.join(alloc, objects, more) {
+            Ok(tallies) => Ok(Joined {
+                tallies,
+                ended,
+                halted,
+            }),
+            Err(fault) => {
+                drop(ended);
+                drop(halted);
+                Err(fault)
+            }
+        }
     }
 }

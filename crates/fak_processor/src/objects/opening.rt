@@ -67,8 +67,13 @@ pub fn open_run<K: Run, R: Wait>(
 {
     let mut opened = open_objects(alloc, script, processors)?;
     let first = &mut opened.processors[0];
-    first.begin(rt, alloc, script, &opened.objects)?;
-    Ok(opened)
+    match first.begin(rt, alloc, script, &opened.objects) {
+        Ok(()) => Ok(opened),
+        Err(fault) => {
+            drop(opened);
+            Err(fault)
+        }
+    }
 }
 
 /// The objects of a run, and the processors with new seats.
@@ -328,7 +333,10 @@ fn zip_seats<K: Run>(
 {
     let mut all = Vec::with_capacity(alloc, ready.len())?;
     for ready in ready {
-        let copy = Files::new(alloc, entries)?;
+        let Ok(copy) = Files::new(alloc, entries) else {
+            drop(ready);
+            return Err(AllocError);
+        };
         all.push(left.next(alloc, ready, copy))?;
     }
     Ok(all)

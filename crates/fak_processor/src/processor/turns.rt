@@ -246,9 +246,13 @@ impl<K: Run> Processor<K> {
         let mut processor = self;
         match processor.turns(rt, alloc, script, objects, gate, number) {
             Ok(true) => Ok(Some(processor)),
-            Ok(false) => Ok(None),
+            Ok(false) => {
+                drop(processor);
+                Ok(None)
+            }
             Err(fault) => {
                 objects.alarm.ring();
+                drop(processor);
                 Err(fault)
             }
         }

@@ -10,17 +10,17 @@ work_all-requires-clause-begun g c κs within i d low =
 
 pub report_of_run-requires-clause-seated : goal.report_of_run-requires-clause-seated
 report_of_run-requires-clause-seated g c =
-    let long : vec_len c.in_ok-left.left ≡ c.args.processors = omega (arith, c.in_ok-left.ensures.len, c.in_ok-opened.ensures.len) in
+    let long : vec_len c.in-Ok.left ≡ c.args.processors = omega (arith, c.in-Ok.ensures.len, c.in_ok-opened.ensures.len) in
     subst (λ (n : ℕ). AreSeated n c.in_ok-opened.opened.objects) (sym long) c.in_ok-opened.ensures.made.1
 
 pub report_of_run-requires-clause-left : goal.report_of_run-requires-clause-left
 report_of_run-requires-clause-left g c i d low =
-    let left = c.in_ok-left.left in
-    left_each left.items (λ j e below. c.in_ok-left.ensures.left j e (omega (arith, below, left.ok))) i d (omega (arith, low, left.ok))
+    let left = c.in-Ok.left in
+    left_each left.items (λ j e below. c.in-Ok.ensures.left j e (omega (arith, below, left.ok))) i d (omega (arith, low, left.ok))
 
-pub returns-clause-alone : goal.returns-clause-alone
-returns-clause-alone g c one =
-    let left = c.in_ok-left.left in
-    let long : length left.items ≡ c.args.processors = omega (arith, left.ok, c.in_ok-left.ensures.len, c.in_ok-opened.ensures.len) in
-    c.in_ok-report_of_run.ensures.alone (omega (arith, one, long, left.ok))
-    (left_alone left.items (λ j e below. c.in_ok-left.ensures.left j e (omega (arith, below, left.ok))) long one) (fresh_processor c.in_ok-opened.opened.objects 0 0)
+pub returns-in_ok-report_of_run-in-Ok-clause-alone : goal.returns-in_ok-report_of_run-in-Ok-clause-alone
+returns-in_ok-report_of_run-in-Ok-clause-alone g c one =
+    let left = c.in-Ok.left in
+    let long : length left.items ≡ c.args.processors = omega (arith, left.ok, c.in-Ok.ensures.len, c.in_ok-opened.ensures.len) in
+    c.in_ok-report_of_run-in-Ok.ensures.alone (omega (arith, one, long, left.ok))
+    (left_alone left.items (λ j e below. c.in-Ok.ensures.left j e (omega (arith, below, left.ok))) long one) (fresh_processor c.in_ok-opened.opened.objects 0 0)

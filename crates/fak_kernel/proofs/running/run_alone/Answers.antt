@@ -9,12 +9,12 @@ leave_alone-requires-clause-begun g c d = record {
 
 pub report_of_run-requires-clause-left : goal.report_of_run-requires-clause-left
 report_of_run-requires-clause-left g c i d low =
-    let left = c.in_ok-left.left in
-    let first : i ≡ 0 = omega (arith, low, c.in_ok-left.ensures.one) in
-    let has = c.in_ok-left.ensures.left d in
+    let left = c.in-Ok.left in
+    let first : i ≡ 0 = omega (arith, low, c.in-Ok.ensures.one) in
+    let has = c.in-Ok.ensures.left d in
     subst (λ k. IsLeftBy g.K.Run.script c.in_ok-opened.opened.objects k (get_or left.items k d)) (sym first) has.left
 
-pub returns-clause-report : goal.returns-clause-report
-returns-clause-report g c =
-    let has = c.in_ok-left.ensures.left in
-    c.in_ok-report_of_run.ensures.alone c.in_ok-left.ensures.one (λ d. let h = has d in (h.alone refl, h.still refl)) (fresh_processor c.in_ok-opened.opened.objects 0 0)
+pub returns-in_ok-report_of_run-in-Ok-clause-report : goal.returns-in_ok-report_of_run-in-Ok-clause-report
+returns-in_ok-report_of_run-in-Ok-clause-report g c =
+    let has = c.in-Ok.ensures.left in
+    c.in_ok-report_of_run-in-Ok.ensures.alone c.in-Ok.ensures.one (λ d. let h = has d in (h.alone refl, h.still refl)) (fresh_processor c.in_ok-opened.opened.objects 0 0)
