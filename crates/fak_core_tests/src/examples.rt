@@ -2,6 +2,8 @@
 
 ghost use Rattle.std.specs.Prelude.{◌≤◌};
 
+#[cfg(test)]
+use super::assertions::assert_equal;
 use Part::{By, Deleted, Inserted};
 use fak_model::Kind::{
     BackIn, BackOut, ClaimIn, ClaimOut, Close, Closed, EndIn, EndOut, Fill, Got, LateIn, NoItem,
@@ -85,7 +87,7 @@ fn judged_otherwise(alloc: Global, examples: &[Example]) -> Result<Option<usize>
 /// Finds that each example is judged as it says.
 #[cfg(test)]
 fn are_judged(rt: &(impl Abort + AllocGlobal), examples: &[Example]) {
-    assert_eq!(rt; judged_otherwise(rt.alloc(), examples), Ok(None));
+    assert_equal(rt, judged_otherwise(rt.alloc(), examples), Ok(None));
 }
 
 #[test]

@@ -2,6 +2,8 @@
 //! each part of the checker's definition, and schedules on rooms and queues as plain data, step by step.
 #![tactic(auto)]
 
+#[cfg(test)]
+mod assertions;
 mod examples;
 #[cfg(test)]
 mod histories;

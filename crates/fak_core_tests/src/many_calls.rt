@@ -1,5 +1,6 @@
 //! Queues and rooms on which many calls are made, one after the other: none is refused for the number before it.
 
+use super::assertions::assert_equal;
 use crate::queues::{begins, opened};
 use fak_core::{CoreFault, QueueCall, QueueCore, RoomCall, RoomCore};
 use std::process::Abort;
@@ -22,7 +23,7 @@ fn makes(
         let line = core.advance(rt.alloc(), seat).ok().expect(rt, "a step");
         assert!(rt; step != 4 || line.found == i128::from(item));
     }
-    assert_eq!(rt; core.advance(rt.alloc(), seat), Err(CoreFault::IdleSeat));
+    assert_equal(rt, core.advance(rt.alloc(), seat), Err(CoreFault::IdleSeat));
 }
 
 /// Each seat inserts and deletes in its turn, and the queue stays full.
@@ -43,7 +44,7 @@ fn a_queue_takes_many_items(rt: HostRuntime) {
             let item = item_of(insertion);
             makes(&rt, &mut core, seat, QueueCall::Insert(item), item);
         }
-        assert_eq!(rt; core.marks().len(), marks);
+        assert_equal(&rt, core.marks().len(), marks);
     }
 }
 
@@ -60,11 +61,11 @@ fn a_room_takes_many_claims(rt: HostRuntime) {
             assert!(rt; core.begin(seat, RoomCall::Tir(amount)).is_ok());
             assert!(rt; core.advance(rt.alloc(), seat).is_ok());
             assert!(rt; core.advance(rt.alloc(), seat).is_ok());
-            assert_eq!(rt; core.value(), amount as i64);
+            assert_equal(&rt, core.value(), amount as i64);
             assert!(rt; core.begin(seat, RoomCall::Release(amount)).is_ok());
             assert!(rt; core.advance(rt.alloc(), seat).is_ok());
-            assert_eq!(rt; core.value(), 0);
+            assert_equal(&rt, core.value(), 0);
         }
-        assert_eq!(rt; core.marks().len(), marks);
+        assert_equal(&rt, core.marks().len(), marks);
     }
 }

@@ -1,5 +1,6 @@
 //! Cores of each size in range are opened, and each of their seats may begin a call.
 
+use super::assertions::assert_equal;
 use crate::queues::{begins, opened};
 use fak_core::{CoreMove, Line, LineMark, QueueCall, QueueCore, RoomCall, RoomCore};
 use fak_model::Kind;
@@ -29,7 +30,7 @@ fn adds_up(rt: &(impl AllocGlobal + Abort), core: &mut QueueCore, size: u64, sea
             found: seat as i128,
             mark: Some(LineMark::Queue(kind)),
         };
-        assert_eq!(rt; core.advance(rt.alloc(), seat), Ok(line));
+        assert_equal(rt, core.advance(rt.alloc(), seat), Ok(line));
     }
 }
 
@@ -60,7 +61,7 @@ fn opens_room(rt: &(impl AllocGlobal + Abort), bound: u64, seats: u64) {
     }
     if bound > 0 {
         assert!(rt; core.advance(rt.alloc(), 0).is_ok(), "{bound}, {seats}");
-        assert_eq!(rt; core.value(), amount as i64);
+        assert_equal(rt, core.value(), amount as i64);
     }
 }
 

@@ -1,5 +1,6 @@
 //! The longest schedules that a search over all reached states found, and rounds counted against the bounds of the laws.
 
+use super::assertions::assert_equal;
 use crate::queues::{begins, opened};
 use fak_core::{CoreFault, Line, LineMark, QueueCall, QueueCore};
 use fak_model::Kind;
@@ -33,7 +34,7 @@ fn step(rt: &(impl AllocGlobal + Abort), core: &mut QueueCore, seat: u64) -> Opt
     match core.advance(rt.alloc(), seat) {
         Ok(line) => Some(line),
         Err(fault) => {
-            assert_eq!(rt; fault, CoreFault::IdleSeat);
+            assert_equal(rt, fault, CoreFault::IdleSeat);
             None
         }
     }
@@ -86,7 +87,7 @@ fn stays_open(
                 }
             }
         }
-        assert_eq!(rt; core.begin(0, INSERT), Err(CoreFault::MidCall));
+        assert_equal(rt, core.begin(0, INSERT), Err(CoreFault::MidCall));
     }
 }
 
@@ -146,8 +147,8 @@ fn a_call_on_one_cell_ends_in_its_seventh_round(rt: HostRuntime) {
         &[(1, None), (0, None)],
     ];
     stays_open(&rt, &mut core, 2, rounds);
-    assert_eq!(rt; rounds_to_end(&rt, &mut core, 2, 0, 1), Some(1));
-    assert_eq!(rt; rounds.len() + 1, 7);
+    assert_equal(&rt, rounds_to_end(&rt, &mut core, 2, 0, 1), Some(1));
+    assert_equal(&rt, rounds.len() + 1, 7);
 }
 
 /// Two other seats overtake this call twice. With two cells the bound is 10 rounds; the search found none longer than 9.
@@ -194,8 +195,8 @@ fn a_call_that_others_overtake_ends_in_its_ninth_round(rt: HostRuntime) {
         &[(1, None), (0, None), (2, None)],
     ];
     stays_open(&rt, &mut core, 3, rounds);
-    assert_eq!(rt; rounds_to_end(&rt, &mut core, 3, 0, 1), Some(1));
-    assert_eq!(rt; rounds.len() + 1, 9);
+    assert_equal(&rt, rounds_to_end(&rt, &mut core, 3, 0, 1), Some(1));
+    assert_equal(&rt, rounds.len() + 1, 9);
 }
 
 /// A seat for each cell of the queue holds a ticket of cell 0, each for the turn after that of the seat before: where an
@@ -231,11 +232,12 @@ fn seats_of_one_cell_need_three_rounds_each(rt: HostRuntime) {
                 ),
             }
         }
-        assert_eq!(rt; seats.next(), None);
+        assert_equal(&rt, seats.next(), None);
         let last = (0..size).next_back().expect(&rt, "a seat");
-        assert_eq!(rt;
+        assert_equal(
+            &rt,
             rounds_to_end(&rt, &mut core, size, last, 100),
-            Some(rounds)
+            Some(rounds),
         );
     }
 }
@@ -250,10 +252,10 @@ fn a_stopped_seat_holds_up_its_cell_alone(rt: HostRuntime) {
     makes(&rt, &mut core, 2, INSERT);
     draws(&rt, &mut core, 3, QueueCall::Delete);
     draws(&rt, &mut core, 1, QueueCall::Delete);
-    assert_eq!(rt; rounds_to_end(&rt, &mut core, 2, 1, 13), Some(7));
-    assert_eq!(rt; rounds_to_end(&rt, &mut core, 4, 3, 1_000), None);
-    assert_eq!(rt; core.begin(3, INSERT), Err(CoreFault::MidCall));
-    assert_eq!(rt; rounds_to_end(&rt, &mut core, 5, 3, 13), Some(6));
+    assert_equal(&rt, rounds_to_end(&rt, &mut core, 2, 1, 13), Some(7));
+    assert_equal(&rt, rounds_to_end(&rt, &mut core, 4, 3, 1_000), None);
+    assert_equal(&rt, core.begin(3, INSERT), Err(CoreFault::MidCall));
+    assert_equal(&rt, rounds_to_end(&rt, &mut core, 5, 3, 13), Some(6));
 }
 
 /// All 64 seats pass their test before any adds: as many claims are granted as fit, and the others are withdrawn. Of the
@@ -273,11 +275,11 @@ fn a_queue_that_every_seat_claims_comes_to_rest(rt: HostRuntime) {
                 begins(&rt, &mut core, seat, call);
                 assert!(rt; step(&rt, &mut core, seat).is_some());
             }
-            assert_eq!(rt; rounds_to_rest(&rt, &mut core, 64, 100), Some(6));
+            assert_equal(&rt, rounds_to_rest(&rt, &mut core, 64, 100), Some(6));
         }
-        assert_eq!(rt; marks_of(&core, Kind::EndIn), granted);
-        assert_eq!(rt; marks_of(&core, Kind::BackIn), withdrawn);
-        assert_eq!(rt; marks_of(&core, Kind::EndOut), granted);
-        assert_eq!(rt; marks_of(&core, Kind::BackOut), withdrawn);
+        assert_equal(&rt, marks_of(&core, Kind::EndIn), granted);
+        assert_equal(&rt, marks_of(&core, Kind::BackIn), withdrawn);
+        assert_equal(&rt, marks_of(&core, Kind::EndOut), granted);
+        assert_equal(&rt, marks_of(&core, Kind::BackOut), withdrawn);
     }
 }

@@ -1,5 +1,6 @@
 //! Schedules on a queue, step by step, and each refusal.
 
+use super::assertions::assert_equal;
 use fak_core::{CoreFault, CoreMove, Line, LineMark, QueueCall, QueueCore};
 use fak_model::{Kind, Mark};
 use std::process::Abort;
@@ -16,7 +17,7 @@ fn steps(rt: &(impl AllocGlobal + Abort), core: &mut QueueCore, trace: &[Step]) 
             found,
             mark: kind.map(LineMark::Queue),
         };
-        assert_eq!(rt; core.advance(rt.alloc(), seat), Ok(line));
+        assert_equal(rt, core.advance(rt.alloc(), seat), Ok(line));
     }
 }
 
@@ -72,7 +73,7 @@ fn an_item_is_inserted_and_deleted(rt: HostRuntime) {
         Kind::EndOut,
     ];
     let marks = kinds.map(|kind| Mark { seat: 0, kind });
-    assert_eq!(rt; core.marks(), &marks[..]);
+    assert_equal(&rt, core.marks(), &marks[..]);
 }
 
 #[test]

@@ -1,5 +1,6 @@
 //! A refused call leaves a core as it was, and one that found no memory can be tried again.
 
+use super::assertions::assert_equal;
 use crate::queues::{DELETED, INSERTED, begins, opened};
 use fak_core::{CoreFault, CoreMove, Line, LineMark, QueueCall, QueueCore, RoomCall, RoomCore};
 use std::process::Abort;
@@ -24,15 +25,15 @@ fn a_refused_call_leaves_a_queue_as_it_was(rt: HostRuntime) {
     let mut core = claimed_queue(&rt);
     let calls = [QueueCall::Insert(8), QueueCall::Delete, QueueCall::Shut];
     for call in calls {
-        assert_eq!(rt; core.begin(2, call), Err(CoreFault::NoSuchSeat));
-        assert_eq!(rt; core, before);
-        assert_eq!(rt; core.begin(0, call), Err(CoreFault::MidCall));
-        assert_eq!(rt; core, before);
+        assert_equal(&rt, core.begin(2, call), Err(CoreFault::NoSuchSeat));
+        assert_equal(&rt, &core, &before);
+        assert_equal(&rt, core.begin(0, call), Err(CoreFault::MidCall));
+        assert_equal(&rt, &core, &before);
     }
-    assert_eq!(rt; core.advance(rt.alloc(), 2), Err(CoreFault::NoSuchSeat));
-    assert_eq!(rt; core, before);
-    assert_eq!(rt; core.advance(rt.alloc(), 1), Err(CoreFault::IdleSeat));
-    assert_eq!(rt; core, before);
+    assert_equal(&rt, core.advance(rt.alloc(), 2), Err(CoreFault::NoSuchSeat));
+    assert_equal(&rt, &core, &before);
+    assert_equal(&rt, core.advance(rt.alloc(), 1), Err(CoreFault::IdleSeat));
+    assert_equal(&rt, &core, &before);
     begins(&rt, &mut core, 1, QueueCall::Shut);
     assert_ne!(rt; core, before);
 }
@@ -52,20 +53,21 @@ fn a_refused_call_leaves_a_room_as_it_was(rt: HostRuntime) {
     let before = claimed_room(&rt);
     let mut core = claimed_room(&rt);
     for call in [RoomCall::Tir(1), RoomCall::Release(1), RoomCall::Release(4)] {
-        assert_eq!(rt; core.begin(2, call), Err(CoreFault::NoSuchSeat));
-        assert_eq!(rt; core, before);
+        assert_equal(&rt, core.begin(2, call), Err(CoreFault::NoSuchSeat));
+        assert_equal(&rt, &core, &before);
     }
     for (seat, amount) in [(0, 4), (0, 1024), (1, 1)] {
-        assert_eq!(rt;
+        assert_equal(
+            &rt,
             core.begin(seat, RoomCall::Release(amount)),
-            Err(CoreFault::NotHeld)
+            Err(CoreFault::NotHeld),
         );
-        assert_eq!(rt; core, before);
+        assert_equal(&rt, &core, &before);
     }
-    assert_eq!(rt; core.advance(rt.alloc(), 2), Err(CoreFault::NoSuchSeat));
-    assert_eq!(rt; core, before);
-    assert_eq!(rt; core.advance(rt.alloc(), 1), Err(CoreFault::IdleSeat));
-    assert_eq!(rt; core, before);
+    assert_equal(&rt, core.advance(rt.alloc(), 2), Err(CoreFault::NoSuchSeat));
+    assert_equal(&rt, &core, &before);
+    assert_equal(&rt, core.advance(rt.alloc(), 1), Err(CoreFault::IdleSeat));
+    assert_equal(&rt, &core, &before);
     assert!(rt; core.begin(0, RoomCall::Release(1)).is_ok());
     assert_ne!(rt; core, before);
 }
@@ -88,7 +90,7 @@ fn a_room_seat_in_mid_call_begins_nothing(rt: HostRuntime) {
             assert!(rt; core.advance(rt.alloc(), seat).is_ok());
         }
         for call in [RoomCall::Tir(1), RoomCall::Release(1), RoomCall::Release(4)] {
-            assert_eq!(rt; core.begin(0, call), Err(CoreFault::MidCall));
+            assert_equal(&rt, core.begin(0, call), Err(CoreFault::MidCall));
         }
     }
 }
@@ -110,7 +112,7 @@ fn called_queue(rt: &(impl AllocGlobal + Abort), call: QueueCall) -> QueueCore {
 /// Finds that seat 0 may begin no call, as it is in one.
 fn begins_nothing(rt: &impl Abort, core: &mut QueueCore) {
     for call in [QueueCall::Insert(8), QueueCall::Delete, QueueCall::Shut] {
-        assert_eq!(rt; core.begin(0, call), Err(CoreFault::MidCall));
+        assert_equal(rt, core.begin(0, call), Err(CoreFault::MidCall));
     }
 }
 
@@ -145,7 +147,7 @@ fn a_queue_seat_in_mid_call_begins_nothing(rt: HostRuntime) {
         }
         begins_nothing(&rt, &mut core);
         let line = core.advance(rt.alloc(), 0).ok().expect(&rt, "a step");
-        assert_eq!(rt; line.step, next);
+        assert_equal(&rt, line.step, next);
     }
 }
 
@@ -154,7 +156,7 @@ fn reopened(rt: &(impl AllocGlobal + Abort)) -> QueueCore {
     match QueueCore::new(rt.alloc(), 1, 1) {
         Ok(core) => core,
         Err(fault) => {
-            assert_eq!(rt; fault, CoreFault::Memory);
+            assert_equal(rt, fault, CoreFault::Memory);
             opened(rt, 1, 1)
         }
     }
@@ -171,7 +173,7 @@ fn insists(
     if first != Err(CoreFault::Memory) {
         return first;
     }
-    assert_eq!(rt; *core, *before);
+    assert_equal(rt, &*core, before);
     core.advance(rt.alloc(), seat)
 }
 
@@ -193,11 +195,11 @@ fn a_step_that_found_no_memory_is_made_at_the_next_try(rt: HostRuntime) {
                 found,
                 mark: kind.map(LineMark::Queue),
             };
-            assert_eq!(rt; insists(&rt, &mut core, &twin, seat), Ok(line));
+            assert_equal(&rt, insists(&rt, &mut core, &twin, seat), Ok(line));
             if twin.advance(rt.alloc(), seat) == Err(CoreFault::Memory) {
-                assert_eq!(rt; twin.advance(rt.alloc(), seat), Ok(line));
+                assert_equal(&rt, twin.advance(rt.alloc(), seat), Ok(line));
             }
-            assert_eq!(rt; core, twin);
+            assert_equal(&rt, &core, &twin);
         }
     }
 }

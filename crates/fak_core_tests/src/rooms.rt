@@ -1,5 +1,6 @@
 //! Schedules on a room, step by step, and each refusal.
 
+use super::assertions::assert_equal;
 use fak_core::{CoreFault, CoreMove, Line, LineMark, RoomCall, RoomCore};
 use fak_model::{RoomKind, RoomMark};
 use std::process::Abort;
@@ -20,9 +21,10 @@ type Step = (u64, CoreMove, i128, Option<RoomKind>);
 /// Makes the next steps, which are to be these.
 fn steps(rt: &(impl AllocGlobal + Abort), core: &mut RoomCore, trace: &[Step]) {
     for &(seat, step, found, kind) in trace {
-        assert_eq!(rt;
+        assert_equal(
+            rt,
             core.advance(rt.alloc(), seat),
-            line(seat, step, found, kind)
+            line(seat, step, found, kind),
         );
     }
 }
@@ -35,9 +37,9 @@ fn a_second_claim_is_refused_at_the_test(rt: HostRuntime) {
     assert!(rt; core.advance(rt.alloc(), 0) == line(0, CoreMove::Add, 0, Some(RoomKind::Up(1))));
     assert!(rt; core.begin(1, RoomCall::Tir(1)).is_ok());
     assert!(rt; core.advance(rt.alloc(), 1) == line(1, CoreMove::Test, 1, Some(RoomKind::No(1))));
-    assert_eq!(rt; core.value(), 1);
-    assert_eq!(rt; core.held(0), 1);
-    assert_eq!(rt; core.held(1), 0);
+    assert_equal(&rt, core.value(), 1);
+    assert_equal(&rt, core.held(0), 1);
+    assert_equal(&rt, core.held(1), 0);
     let marks = [
         RoomMark {
             seat: 0,
@@ -48,7 +50,7 @@ fn a_second_claim_is_refused_at_the_test(rt: HostRuntime) {
             kind: RoomKind::No(1),
         },
     ];
-    assert_eq!(rt; core.marks(), &marks[..]);
+    assert_equal(&rt, core.marks(), &marks[..]);
 }
 
 #[test]
@@ -67,7 +69,7 @@ fn a_claim_over_the_bound_is_withdrawn(rt: HostRuntime) {
             (1, CoreMove::Back, 2, Some(RoomKind::Back(1))),
         ],
     );
-    assert_eq!(rt; core.value(), 1);
+    assert_equal(&rt, core.value(), 1);
 }
 
 #[test]
@@ -108,7 +110,7 @@ fn refused_calls_leave_the_others_as_they_were(rt: HostRuntime) {
     );
     assert!(rt; core.advance(rt.alloc(), 2) == Err(CoreFault::NoSuchSeat));
     assert!(rt; core.begin(2, RoomCall::Release(1)) == Err(CoreFault::NoSuchSeat));
-    assert_eq!(rt; core.value(), 2);
+    assert_equal(&rt, core.value(), 2);
 }
 
 #[test]

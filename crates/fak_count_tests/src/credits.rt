@@ -4,31 +4,25 @@ ghost use Rattle.std.specs.Prelude.{◌≡◌, ◌+◌, ◌<◌, min};
 ghost use Rattle.std.specs.List.{All};
 ghost use Rattle.fak_model.specs.Credit.{credits as credits_in, debits as debits_in, grants_made};
 
+use super::assertions::assert_equal;
 use fak_count::{Credit, CreditSeat, CreditTally, OpenFault, Worn};
 use fak_model::laws::credit::a_credit_grants_what_it_can;
-use std::fmt::Debug;
-use std::process::Abort;
 use std::test::*;
 use std::thread::{Threads, join};
-
-/// An answer is as it should be.
-pub fn is<T: Debug + PartialEq + Drop>(rt: &impl Abort, found: T, wanted: T) {
-    assert_eq!(rt; found, wanted);
-}
 
 #[test]
 fn one_seat_debits_and_credits(rt: HostRuntime) {
     let (credit, mut seats) = Credit::open(rt.alloc(), 1, 1, 4).expect(&rt, "open");
     let mut a = seats.pop().expect(&rt, "one seat");
-    is(&rt, credit.debit(&mut a), Ok(1));
-    is(&rt, credit.debit(&mut a), Ok(0));
-    is(&rt, credit.credit(&mut a), Ok(-1));
-    is(&rt, credit.value(&mut a), 0);
-    is(&rt, a.left(), 1);
-    is(&rt, credit.credit(&mut a), Ok(0));
-    is(&rt, credit.credit(&mut a), Err(Worn));
-    is(&rt, credit.debit(&mut a), Err(Worn));
-    is(&rt, credit.value(&mut a), 1);
+    assert_equal(&rt, credit.debit(&mut a), Ok(1));
+    assert_equal(&rt, credit.debit(&mut a), Ok(0));
+    assert_equal(&rt, credit.credit(&mut a), Ok(-1));
+    assert_equal(&rt, credit.value(&mut a), 0);
+    assert_equal(&rt, a.left(), 1);
+    assert_equal(&rt, credit.credit(&mut a), Ok(0));
+    assert_equal(&rt, credit.credit(&mut a), Err(Worn));
+    assert_equal(&rt, credit.debit(&mut a), Err(Worn));
+    assert_equal(&rt, credit.value(&mut a), 1);
     assert!(rt; CreditTally::of(a).is_whole());
 }
 
@@ -37,10 +31,10 @@ fn a_value_is_what_all_seats_made(rt: HostRuntime) {
     let (credit, mut seats) = Credit::open(rt.alloc(), 1, 2, 4).expect(&rt, "open");
     let mut b = seats.pop().expect(&rt, "two seats");
     let mut a = seats.pop().expect(&rt, "two seats");
-    is(&rt, credit.debit(&mut a), Ok(1));
-    is(&rt, credit.value(&mut b), 0);
-    is(&rt, credit.credit(&mut b), Ok(0));
-    is(&rt, credit.value(&mut a), 1);
+    assert_equal(&rt, credit.debit(&mut a), Ok(1));
+    assert_equal(&rt, credit.value(&mut b), 0);
+    assert_equal(&rt, credit.credit(&mut b), Ok(0));
+    assert_equal(&rt, credit.value(&mut a), 1);
     let one = CreditTally::of(b);
     assert!(rt; !one.is_whole());
     let all = credit.join(one, a);
@@ -58,12 +52,12 @@ fn credits_out_of_range_are_not_opened(rt: HostRuntime) {
         (1, 1, 1_099_511_627_777, OpenFault::BadStint),
     ] {
         let found = Credit::open(rt.alloc(), start, seats, stint).expect_err(&rt, "opened");
-        is(&rt, found, fault);
+        assert_equal(&rt, found, fault);
     }
     let (_widest, seats) = Credit::open(rt.alloc(), 4_294_967_296, 64, 1_099_511_627_776).expect(
         &rt, "widest",
     );
-    assert_eq!(rt; seats.len(), 64);
+    assert_equal(&rt, seats.len(), 64);
 }
 
 /// Whether all seats are joined. What they have seen grants the lesser of debits, and start and credits.
@@ -115,8 +109,8 @@ fn debits_and_credits_of_two_threads_cancel(rt: HostRuntime) {
             ensures { result.object ≡ credit.entry.now.object }
         { credits(credit, b, 1000) },
     );
-    is(&rt, (a.left(), b.left()), (0, 0));
-    is(&rt, credit.value(&mut c), 7);
+    assert_equal(&rt, (a.left(), b.left()), (0, 0));
+    assert_equal(&rt, credit.value(&mut c), 7);
     let all = credit.join(credit.join(CreditTally::of(c), a), b);
     assert!(rt; is_granted(&all));
 }

@@ -2,6 +2,8 @@
 //! threads at once.
 #![tactic(auto)]
 
+#[cfg(test)]
+mod assertions;
 mod counted;
 #[cfg(test)]
 mod credits;

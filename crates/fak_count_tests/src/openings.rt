@@ -1,6 +1,6 @@
 //! Objects of each size in range are opened, with all their seats, and count as far as they say.
 
-use super::credits::is;
+use super::assertions::assert_equal;
 use fak_count::{Credit, Room, TirFault};
 use std::alloc::Global;
 use std::process::Abort;
@@ -39,14 +39,14 @@ fn stint_of(stints: &[u64], row: usize) -> u64 {
 /// Opens the room with this many seats, and with one, which claims as much as one claim may, and more.
 fn opens_room(rt: &impl Abort, alloc: Global, bound: u64, seats: u64, stint: u64) {
     let (_room, dealt) = Room::open(alloc, bound, seats, stint).expect(rt, "room");
-    is(rt, dealt.len() as u64, seats);
+    assert_equal(rt, dealt.len() as u64, seats);
     for seat in dealt {
-        is(rt, (seat.left(), seat.held()), (stint, 0));
+        assert_equal(rt, (seat.left(), seat.held()), (stint, 0));
     }
     let (room, mut one) = Room::open(alloc, bound, 1, stint).expect(rt, "room");
     let mut seat = one.pop().expect(rt, "one seat");
     if bound > 0 {
-        is(rt, room.tir(&mut seat, bound.min(1024)), Ok(0));
+        assert_equal(rt, room.tir(&mut seat, bound.min(1024)), Ok(0));
     }
     if bound < 1024 {
         let refusal = if bound > 0 && stint == 1 {
@@ -54,7 +54,7 @@ fn opens_room(rt: &impl Abort, alloc: Global, bound: u64, seats: u64, stint: u64
         } else {
             TirFault::AtBound(bound as i64)
         };
-        is(rt, room.tir(&mut seat, 1025 - bound.max(1)), Err(refusal));
+        assert_equal(rt, room.tir(&mut seat, 1025 - bound.max(1)), Err(refusal));
     }
 }
 
@@ -76,14 +76,14 @@ fn rooms_of_every_width(rt: HostRuntime) {
 /// Opens the credit with this many seats, and with one, which finds the start.
 fn opens_credit(rt: &impl Abort, alloc: Global, start: u64, seats: u64, stint: u64) {
     let (_credit, dealt) = Credit::open(alloc, start, seats, stint).expect(rt, "credit");
-    is(rt, dealt.len() as u64, seats);
+    assert_equal(rt, dealt.len() as u64, seats);
     for seat in dealt {
-        is(rt, seat.left(), stint);
+        assert_equal(rt, seat.left(), stint);
     }
     let (credit, mut one) = Credit::open(alloc, start, 1, stint).expect(rt, "credit");
     let mut seat = one.pop().expect(rt, "one seat");
-    is(rt, credit.value(&mut seat), start as i64);
-    is(rt, credit.debit(&mut seat), Ok(start as i64));
+    assert_equal(rt, credit.value(&mut seat), start as i64);
+    assert_equal(rt, credit.debit(&mut seat), Ok(start as i64));
 }
 
 #[test]

@@ -1,51 +1,39 @@
 //! What objects, seats and faults print.
 
-use super::credits::is;
+use super::assertions::{assert_equal, assert_written};
 use fak_count::{Credit, CreditTally, OpenFault, Room, RoomTally, TirFault, Worn};
 use std::fmt::Display;
 use std::process::Abort;
-use std::test::*;
 
 #[test]
-fn rooms_print_their_numbers(rt: HostRuntime) -> Result<(), Fail> {
-    let alloc = rt.alloc();
-    let (room, mut seats) = Room::open(alloc, 5, 2, 9).expect(&rt, "open");
+fn rooms_print_their_numbers(rt: HostRuntime) {
+    let (room, mut seats) = Room::open(rt.alloc(), 5, 2, 9).expect(&rt, "open");
+    assert_written(&rt, &room, "Room { bound: 5, .. }");
     let mut seat = seats.pop().expect(&rt, "two seats");
-    is(&rt, room.tir(&mut seat, 3), Ok(0));
-    let text = format!(in alloc; "{room:?}, {seat:?}")?;
-    assert_eq!(rt;
-        text.as_str(),
-        "Room { bound: 5, .. }, RoomSeat { name: 1, held: 3, left: 8, .. }"
-    );
-    let text = format!(in alloc; "{:?}", RoomTally::of(seat))?;
-    assert_eq!(rt;
-        text.as_str(),
-        "RoomTally { seats: 2, is_whole: false, .. }"
-    );
-    let refused = Room::open(alloc, 5, 0, 9).expect_err(&rt, "a room of no seats");
-    is(&rt, refused, OpenFault::BadSeats);
-    let text = format!(in alloc; "{refused:?}, {:?}", TirFault::AtBound(-1))?;
-    assert_eq!(rt; text.as_str(), "BadSeats, AtBound(-1)");
-    Ok(())
+    assert_equal(&rt, room.tir(&mut seat, 3), Ok(0));
+    assert_written(&rt, &seat, "RoomSeat { name: 1, held: 3, left: 8, .. }");
+    let tally = RoomTally::of(seat);
+    assert_written(&rt, &tally, "RoomTally { seats: 2, is_whole: false, .. }");
 }
 
 #[test]
-fn credits_print_their_numbers(rt: HostRuntime) -> Result<(), Fail> {
-    let alloc = rt.alloc();
-    let (credit, mut seats) = Credit::open(alloc, 5, 1, 9).expect(&rt, "open");
+fn refusals_of_rooms_print_their_names(rt: HostRuntime) {
+    let refused = Room::open(rt.alloc(), 5, 0, 9).expect_err(&rt, "a room of no seats");
+    assert_equal(&rt, refused, OpenFault::BadSeats);
+    assert_written(&rt, &refused, "BadSeats");
+    assert_written(&rt, &TirFault::AtBound(-1), "AtBound(-1)");
+}
+
+#[test]
+fn credits_print_their_numbers(rt: HostRuntime) {
+    let (credit, mut seats) = Credit::open(rt.alloc(), 5, 1, 9).expect(&rt, "open");
+    assert_written(&rt, &credit, "Credit { .. }");
     let mut seat = seats.pop().expect(&rt, "one seat");
-    is(&rt, credit.debit(&mut seat), Ok(5));
-    let text = format!(in alloc; "{credit:?}, {seat:?}, {Worn:?}")?;
-    assert_eq!(rt;
-        text.as_str(),
-        "Credit { .. }, CreditSeat { name: 0, left: 8, .. }, Worn"
-    );
-    let text = format!(in alloc; "{:?}", CreditTally::of(seat))?;
-    assert_eq!(rt;
-        text.as_str(),
-        "CreditTally { seats: 1, is_whole: true, .. }"
-    );
-    Ok(())
+    assert_equal(&rt, credit.debit(&mut seat), Ok(5));
+    assert_written(&rt, &seat, "CreditSeat { name: 0, left: 8, .. }");
+    assert_written(&rt, &Worn, "Worn");
+    let tally = CreditTally::of(seat);
+    assert_written(&rt, &tally, "CreditTally { seats: 1, is_whole: true, .. }");
 }
 
 /// Finds that each fault is written so.

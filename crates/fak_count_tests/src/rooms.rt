@@ -5,8 +5,8 @@ ghost use Rattle.fak_model.specs.Histories.{sum_below};
 ghost use Rattle.fak_model.specs.Room.{amount_held, value};
 ghost use Rattle.fak_count.specs.Seats.{IsSeatOf};
 
+use super::assertions::assert_equal;
 use super::counted::is_counted;
-use super::credits::is;
 use fak_count::{OpenFault, Room, RoomSeat, RoomTally, TirFault};
 use fak_model::laws::room::amounts_held_in_a_room_fit;
 use std::process::Abort;
@@ -18,18 +18,18 @@ fn claims_and_releases_in_turn(rt: HostRuntime) {
     let (room, mut seats) = Room::open(rt.alloc(), 5, 2, 2).expect(&rt, "open");
     let mut b = seats.pop().expect(&rt, "two seats");
     let mut a = seats.pop().expect(&rt, "two seats");
-    is(&rt, room.tir(&mut a, 3), Ok(0));
-    is(&rt, room.tir(&mut b, 3), Err(TirFault::AtBound(3)));
-    is(&rt, room.tir(&mut b, 2), Ok(3));
-    is(&rt, a.held(), 3);
+    assert_equal(&rt, room.tir(&mut a, 3), Ok(0));
+    assert_equal(&rt, room.tir(&mut b, 3), Err(TirFault::AtBound(3)));
+    assert_equal(&rt, room.tir(&mut b, 2), Ok(3));
+    assert_equal(&rt, a.held(), 3);
     if a.held() < 3 {
         panic!(rt; "held")
     }
-    is(&rt, room.release(&mut a, 3), 5);
-    is(&rt, a.left(), 1);
-    is(&rt, room.tir(&mut a, 1), Ok(2));
-    is(&rt, room.tir(&mut a, 1), Err(TirFault::Worn));
-    is(&rt, (a.left(), a.held()), (0, 1));
+    assert_equal(&rt, room.release(&mut a, 3), 5);
+    assert_equal(&rt, a.left(), 1);
+    assert_equal(&rt, room.tir(&mut a, 1), Ok(2));
+    assert_equal(&rt, room.tir(&mut a, 1), Err(TirFault::Worn));
+    assert_equal(&rt, (a.left(), a.held()), (0, 1));
     let one = RoomTally::of(a);
     assert!(rt; !one.is_whole());
     let all = room.join(one, b);
@@ -40,8 +40,8 @@ fn claims_and_releases_in_turn(rt: HostRuntime) {
 fn a_room_of_bound_0_is_full(rt: HostRuntime) {
     let (room, mut seats) = Room::open(rt.alloc(), 0, 1, 1).expect(&rt, "open");
     let mut a = seats.pop().expect(&rt, "one seat");
-    is(&rt, room.tir(&mut a, 1), Err(TirFault::AtBound(0)));
-    is(&rt, a.left(), 1);
+    assert_equal(&rt, room.tir(&mut a, 1), Err(TirFault::AtBound(0)));
+    assert_equal(&rt, a.left(), 1);
     assert!(rt; RoomTally::of(a).is_whole());
 }
 
@@ -50,11 +50,11 @@ fn a_worn_seat_is_told_so_in_a_full_room(rt: HostRuntime) {
     let (room, mut seats) = Room::open(rt.alloc(), 1, 2, 1).expect(&rt, "open");
     let mut b = seats.pop().expect(&rt, "two seats");
     let mut a = seats.pop().expect(&rt, "two seats");
-    is(&rt, room.tir(&mut a, 1), Ok(0));
-    is(&rt, room.tir(&mut b, 1), Err(TirFault::AtBound(1)));
-    is(&rt, room.tir(&mut a, 1), Err(TirFault::Worn));
-    is(&rt, room.tir(&mut a, 1024), Err(TirFault::Worn));
-    is(&rt, (a.left(), a.held()), (0, 1));
+    assert_equal(&rt, room.tir(&mut a, 1), Ok(0));
+    assert_equal(&rt, room.tir(&mut b, 1), Err(TirFault::AtBound(1)));
+    assert_equal(&rt, room.tir(&mut a, 1), Err(TirFault::Worn));
+    assert_equal(&rt, room.tir(&mut a, 1024), Err(TirFault::Worn));
+    assert_equal(&rt, (a.left(), a.held()), (0, 1));
 }
 
 /// Whether one seat may claim this amount of a room of 1,024 and give it back, while the other is refused one more than is left.
@@ -79,7 +79,7 @@ fn each_amount_fits(rt: &impl Abort, room: &Room, mut a: RoomSeat, mut b: RoomSe
     for d in 1..1025 {
         assert!(rt; fits(room, &mut a, &mut b, d), "{d}");
     }
-    is(
+    assert_equal(
         rt,
         (a.left(), a.held(), b.left(), b.held()),
         (0, 0, 1024, 0),
@@ -105,12 +105,12 @@ fn rooms_out_of_range_are_not_opened(rt: HostRuntime) {
         (1, 1, 1_099_511_627_777, OpenFault::BadStint),
     ] {
         let found = Room::open(rt.alloc(), bound, seats, stint).expect_err(&rt, "opened");
-        is(&rt, found, fault);
+        assert_equal(&rt, found, fault);
     }
     let (_widest, seats) = Room::open(rt.alloc(), 4_294_967_296, 64, 1_099_511_627_776).expect(
         &rt, "widest",
     );
-    assert_eq!(rt; seats.len(), 64);
+    assert_equal(&rt, seats.len(), 64);
 }
 
 /// Makes this many claims of 1, each with its release where it is granted.
@@ -144,7 +144,7 @@ fn two_threads_leave_a_room_empty(rt: HostRuntime) {
             ensures { result.object ≡ room.entry.now.object }
         { rounds(room, b, 1000) },
     );
-    is(&rt, room.tir(&mut c, 1), Ok(0));
+    assert_equal(&rt, room.tir(&mut c, 1), Ok(0));
     let all = room.join(room.join(RoomTally::of(c), a), b);
     assert!(rt; all.is_whole());
 }
@@ -167,7 +167,7 @@ fn a_whole_room_is_counted(rt: HostRuntime) {
     let (room, mut seats) = Room::open(rt.alloc(), 5, 2, 2).expect(&rt, "open");
     let mut b = seats.pop().expect(&rt, "two seats");
     let a = seats.pop().expect(&rt, "two seats");
-    is(&rt, room.tir(&mut b, 3), Ok(0));
+    assert_equal(&rt, room.tir(&mut b, 3), Ok(0));
     let (tally, whole) = fit_together(&room, a, b);
     assert!(rt; whole);
     assert!(rt; is_counted(&tally));

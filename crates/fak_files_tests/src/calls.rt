@@ -7,6 +7,8 @@ ghost use Rattle.fak_model.specs.declared.file.FileField.TheVariants.{Inode};
 ghost use Rattle.fak_files.specs.Calls.{IsFreeSeatOf};
 ghost use Rattle.fak_files.specs.declared.phase.Hold.TheVariants.{Nothing};
 
+#[cfg(test)]
+use super::assertions::assert_equal;
 use fak_files::{FileFault, FileField, FileSeat, FileTable, FileTally, Hold, OpenFault, Worn};
 use fak_model::laws::file::a_file_table_at_rest_is_free;
 use std::alloc::Global;
@@ -118,8 +120,8 @@ fn one_thread(rt: HostRuntime) {
     table.end(&mut b);
     makes(&rt, &table, &mut a, 6, &granted, Hold::Reading);
     let entry = table.get(&mut a, 0);
-    assert_eq!(rt; entry.inode, 7);
-    assert_eq!(rt; entry.uses, 1);
+    assert_equal(&rt, entry.inode, 7);
+    assert_equal(&rt, entry.uses, 1);
     table.end(&mut a);
     let tally = FileTally::of(b);
     assert!(rt; !tally.is_whole());
@@ -129,8 +131,8 @@ fn one_thread(rt: HostRuntime) {
     }
     let rest = table.close(tally);
     let entry = rest.get(0);
-    assert_eq!(rt; entry.inode, 7);
-    assert_eq!(rt; entry.uses, 1);
+    assert_equal(&rt, entry.inode, 7);
+    assert_equal(&rt, entry.uses, 1);
 }
 
 /// A seat that is dropped while it reads keeps what it took: writers are refused, readers are not, and no tally is whole.
@@ -253,7 +255,7 @@ fn what_callers_conclude(rt: HostRuntime) {
     table.end(&mut a);
     let tally = FileTally::of(a);
     assert!(rt; tally.is_whole());
-    assert_eq!(rt; last_file(table, tally, 1), 7);
+    assert_equal(&rt, last_file(table, tally, 1), 7);
 }
 
 fn fault_of(alloc: Global, entries: u64, seats: u64, stint: u64) -> Option<OpenFault> {

@@ -3,6 +3,7 @@
 ghost use Rattle.std.specs.Prelude.{◌≡◌, ◌≢◌};
 ghost use Rattle.fak_files.specs.declared.phase.Hold.TheVariants.{Nothing, Writing};
 
+use super::assertions::assert_equal;
 use fak_files::{FileEntry, FileField, FileSeat, FileTable, FileTally};
 use std::alloc::Global;
 use std::process::Abort;
@@ -53,7 +54,7 @@ fn shows_each(table: &FileTable, seat: &mut FileSeat, entries: u64) -> bool
 /// Opens the table with this many seats, and with one, which writes each entry and reads it. What is left when it is closed is the same.
 fn opens_table(rt: &impl Abort, alloc: Global, entries: u64, seats: u64, stint: u64) {
     let (_table, dealt) = FileTable::open(alloc, entries, seats, stint).expect(rt, "table");
-    assert_eq!(rt; dealt.len() as u64, seats);
+    assert_equal(rt, dealt.len() as u64, seats);
     let (table, mut one) = FileTable::open(alloc, entries, 1, stint).expect(rt, "table");
     let mut seat = one.pop().expect(rt, "one seat");
     let Ok(()) = table.try_write(&mut seat) else {
@@ -68,7 +69,7 @@ fn opens_table(rt: &impl Abort, alloc: Global, entries: u64, seats: u64, stint: 
     }
     let rest = table.close(tally);
     for i in 0..entries {
-        assert_eq!(rt; rest.get(i), entry_of(i));
+        assert_equal(rt, rest.get(i), entry_of(i));
     }
 }
 

@@ -1,39 +1,40 @@
 //! What tables, seats, tallies and faults print.
 
+use super::assertions::{assert_equal, assert_written};
 use fak_files::{FileFault, FileField, FileTable, FileTally, Hold, OpenFault, Worn};
 use std::fmt::Display;
 use std::process::Abort;
-use std::test::*;
 
 #[test]
-fn file_tables_print_their_numbers(rt: HostRuntime) -> Result<(), Fail> {
-    let alloc = rt.alloc();
-    let (table, mut seats) = FileTable::open(alloc, 2, 1, 9).expect(&rt, "open");
+fn file_tables_print_their_numbers(rt: HostRuntime) {
+    let (table, mut seats) = FileTable::open(rt.alloc(), 2, 1, 9).expect(&rt, "open");
+    assert_written(&rt, &table, "FileTable { entries: 2, .. }");
     let mut seat = seats.pop().expect(&rt, "one seat");
-    assert_eq!(rt; seat.hold(), Hold::Nothing);
-    assert_eq!(rt; table.try_write(&mut seat), Ok(()));
-    let text = format!(in alloc; "{table:?}, {seat:?}")?;
-    assert_eq!(rt;
-        text.as_str(),
-        "FileTable { entries: 2, .. }, FileSeat { name: 0, hold: Writing, left: 8, .. }"
-    );
-    if seat.hold() != Hold::Writing {
+    let Ok(()) = table.try_write(&mut seat) else {
         panic!(rt; "the hold")
-    }
+    };
+    assert_written(
+        &rt,
+        &seat,
+        "FileSeat { name: 0, hold: Writing, left: 8, .. }",
+    );
     table.set(&mut seat, 1, FileField::Uses, 3);
     table.end(&mut seat);
     let tally = FileTally::of(seat);
-    let text = format!(in alloc; "{tally:?}")?;
-    assert_eq!(rt; text.as_str(), "FileTally { seats: 1, is_whole: true, .. }");
+    assert_written(&rt, &tally, "FileTally { seats: 1, is_whole: true, .. }");
     if !tally.is_whole() {
         panic!(rt; "one seat")
     }
-    let text = format!(in alloc; "{:?}", table.close(tally))?;
-    assert_eq!(rt;
-        text.as_str(),
-        "FileRest { entries: [FileEntry { inode: 0, uses: 0 }, FileEntry { inode: 0, uses: 3 }] }"
-    );
-    Ok(())
+    let text =
+        "FileRest { entries: [FileEntry { inode: 0, uses: 0 }, FileEntry { inode: 0, uses: 3 }] }";
+    assert_written(&rt, &table.close(tally), text);
+}
+
+#[test]
+fn a_new_seat_holds_nothing(rt: HostRuntime) {
+    let (_table, mut seats) = FileTable::open(rt.alloc(), 2, 1, 9).expect(&rt, "open");
+    let seat = seats.pop().expect(&rt, "one seat");
+    assert_equal(&rt, seat.hold(), Hold::Nothing);
 }
 
 /// Finds that each fault is written so.

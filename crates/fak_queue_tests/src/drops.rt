@@ -2,6 +2,7 @@
 
 ghost use Rattle.fak_queue.specs.Queues.{IsIdleSeat};
 
+use super::assertions::assert_equal;
 use super::steps::{close, open, take};
 use fak_queue::{Queue, Seat, Tally};
 use std::process::Abort;
@@ -24,7 +25,7 @@ fn insert_two<R: Abort + Wait>(
 {
     for ticket in 0..2 {
         let inserted = queue.insert(rt, seat, held(rt, shared)).ok();
-        assert_eq!(rt; inserted, Some(ticket));
+        assert_equal(rt, inserted, Some(ticket));
     }
 }
 
@@ -37,11 +38,11 @@ fn values_are_dropped_once(rt: HostRuntime) {
     let Ok(2) = queue.claim_insert(&mut a, held(&rt, &shared)) else {
         panic!(rt; "claim")
     };
-    assert_eq!(rt; Arc::strong_count(&shared), 4);
+    assert_equal(&rt, Arc::strong_count(&shared), 4);
     drop(a);
-    assert_eq!(rt; Arc::strong_count(&shared), 3);
+    assert_equal(&rt, Arc::strong_count(&shared), 3);
     drop(queue);
-    assert_eq!(rt; Arc::strong_count(&shared), 1);
+    assert_equal(&rt, Arc::strong_count(&shared), 1);
     drop(seats);
 }
 
@@ -53,9 +54,9 @@ fn what_a_rest_hands_out_is_moved(rt: HostRuntime) {
     insert_two(&rt, &queue, &mut a, &shared);
     let mut rest = close(&rt, queue, Tally::of(a));
     let first = rest.next().expect(&rt, "first");
-    assert_eq!(rt; Arc::strong_count(&shared), 3);
+    assert_equal(&rt, Arc::strong_count(&shared), 3);
     drop(rest);
-    assert_eq!(rt; Arc::strong_count(&shared), 2);
+    assert_equal(&rt, Arc::strong_count(&shared), 2);
     drop(first);
-    assert_eq!(rt; Arc::strong_count(&shared), 1);
+    assert_equal(&rt, Arc::strong_count(&shared), 1);
 }

@@ -2,6 +2,7 @@
 
 ghost use Rattle.std.specs.Prelude.{◌≡◌, All};
 
+use super::assertions::assert_equal;
 use super::steps::{A, B, C, D, Step, close, joined, open, repeat, walk};
 use fak_queue::{InsertFault, Queue, Seat, SeatState};
 use std::process::Abort;
@@ -32,9 +33,9 @@ pub fn leaves_two(rt: &impl Abort, queue: Queue<u64>, seats: Vec<Seat<u64>>)
 {
     let tally = joined(rt, &queue, seats);
     let mut rest = close(rt, queue, tally);
-    assert_eq!(rt; rest.next(), Some(12));
-    assert_eq!(rt; rest.next(), Some(13));
-    assert_eq!(rt; rest.next(), None);
+    assert_equal(rt, rest.next(), Some(12));
+    assert_equal(rt, rest.next(), Some(13));
+    assert_equal(rt, rest.next(), None);
 }
 
 #[test]

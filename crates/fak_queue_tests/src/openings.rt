@@ -2,6 +2,7 @@
 
 ghost use Rattle.fak_queue.specs.Queues.{IsIdleSeat};
 
+use super::assertions::assert_equal;
 use super::steps::{open, take};
 use fak_queue::{DeleteFault, InsertFault, LARGEST_SIZE, LONGEST_STINT, MOST_SEATS, Queue, Seat};
 use std::alloc::Global;
@@ -25,9 +26,9 @@ fn stint_of(row: u64) -> u64 {
 /// Opens a queue of items of any type, each of whose seats may draw the whole stint.
 fn opens(rt: &impl Abort, alloc: Global, size: u64, seats: u64, stint: u64) {
     let (_queue, dealt) = open::<Vec<u8>>(rt, alloc, (size, seats, stint));
-    assert_eq!(rt; dealt.len() as u64, seats);
+    assert_equal(rt, dealt.len() as u64, seats);
     for seat in dealt {
-        assert_eq!(rt; seat.left(), stint);
+        assert_equal(rt, seat.left(), stint);
     }
 }
 

@@ -1,5 +1,6 @@
 //! Pauses, which leave answers and seats as they are. How long they are, a test cannot see.
 
+use super::assertions::assert_equal;
 use super::steps::{A, B, Step, close, open, open_and_walk, take};
 use fak_queue::{Port, SeatState, Tally};
 
@@ -30,13 +31,13 @@ fn ports_that_take_turns_pause(rt: HostRuntime) {
     let mut sender = Port::new(&queue, seat);
     let mut receiver = Port::new(&queue, take(&rt, &queue, &mut seats));
     for number in 0..400u64 {
-        assert_eq!(rt; sender.insert(&rt, number), Ok(number));
+        assert_equal(&rt, sender.insert(&rt, number), Ok(number));
         sender.pause();
-        assert_eq!(rt; receiver.delete(&rt), Ok((number, number)));
+        assert_equal(&rt, receiver.delete(&rt), Ok((number, number)));
         receiver.pause();
     }
-    assert_eq!(rt; sender.left(), 600);
-    assert_eq!(rt; receiver.left(), 600);
+    assert_equal(&rt, sender.left(), 600);
+    assert_equal(&rt, receiver.left(), 600);
 }
 
 #[test]
@@ -44,12 +45,12 @@ fn a_seat_whose_calls_do_not_pause_is_told_to_again(rt: HostRuntime) {
     let (queue, mut seats) = open::<u64>(&rt, rt.alloc(), (64, 1, 9));
     let mut seat = take(&rt, &queue, &mut seats);
     seat.set_pauses_in_calls(false);
-    assert_eq!(rt; queue.wait_insert(&rt, &mut seat, 7), Ok(0));
+    assert_equal(&rt, queue.wait_insert(&rt, &mut seat, 7), Ok(0));
     seat.set_pauses_in_calls(true);
-    assert_eq!(rt; queue.wait_insert(&rt, &mut seat, 8), Ok(1));
-    assert_eq!(rt; seat.left(), 7);
+    assert_equal(&rt, queue.wait_insert(&rt, &mut seat, 8), Ok(1));
+    assert_equal(&rt, seat.left(), 7);
     let mut rest = close(&rt, queue, Tally::of(seat));
-    assert_eq!(rt; rest.next(), Some(7));
-    assert_eq!(rt; rest.next(), Some(8));
-    assert_eq!(rt; rest.next(), None);
+    assert_equal(&rt, rest.next(), Some(7));
+    assert_equal(&rt, rest.next(), Some(8));
+    assert_equal(&rt, rest.next(), None);
 }

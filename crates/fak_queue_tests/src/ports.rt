@@ -1,5 +1,6 @@
 //! Ports: a queue and a seat of it as one value. No call of a port asks for anything, so that their callers state nothing.
 
+use super::assertions::assert_equal;
 use super::steps::{close, open, take};
 use fak_queue::{DeleteFault, InsertFault, Port, Tally};
 use std::process::Abort;
@@ -8,46 +9,46 @@ use std::thread::join;
 
 /// Makes single attempts over one cell.
 fn attempt<R: Abort + Wait>(rt: &R, port: &mut Port<'_, u64>) {
-    assert_eq!(rt; port.delete(rt), Err(DeleteFault::Empty(0)));
-    assert_eq!(rt; port.insert(rt, 7), Ok(0));
+    assert_equal(rt, port.delete(rt), Err(DeleteFault::Empty(0)));
+    assert_equal(rt, port.insert(rt, 7), Ok(0));
     let full = InsertFault::Full { upper: 1, item: 8 };
-    assert_eq!(rt; port.insert(rt, 8), Err(full));
-    assert_eq!(rt; port.delete(rt), Ok((0, 7)));
+    assert_equal(rt, port.insert(rt, 8), Err(full));
+    assert_equal(rt, port.delete(rt), Ok((0, 7)));
 }
 
 #[test]
 fn a_port_makes_single_attempts(rt: HostRuntime) {
     let (queue, mut seats) = open::<u64>(&rt, rt.alloc(), (1, 1, 3));
     let mut port = Port::new(&queue, take(&rt, &queue, &mut seats));
-    assert_eq!(rt; port.left(), 3);
+    assert_equal(&rt, port.left(), 3);
     attempt(&rt, &mut port);
-    assert_eq!(rt; port.left(), 1);
+    assert_equal(&rt, port.left(), 1);
 }
 
 #[test]
 fn a_port_shuts_its_queue(rt: HostRuntime) {
     let (queue, mut seats) = open::<u64>(&rt, rt.alloc(), (1, 1, 2));
     let mut port = Port::new(&queue, take(&rt, &queue, &mut seats));
-    assert_eq!(rt; port.wait_insert(&rt, 7), Ok(0));
+    assert_equal(&rt, port.wait_insert(&rt, 7), Ok(0));
     assert!(rt; port.shut());
     assert!(rt; !port.shut());
     let closed = InsertFault::Closed { item: 8 };
-    assert_eq!(rt; port.wait_insert(&rt, 8), Err(closed));
-    assert_eq!(rt; port.wait_delete(&rt), Ok((0, 7)));
-    assert_eq!(rt; port.wait_delete(&rt), Err(DeleteFault::Worn));
+    assert_equal(&rt, port.wait_insert(&rt, 8), Err(closed));
+    assert_equal(&rt, port.wait_delete(&rt), Ok((0, 7)));
+    assert_equal(&rt, port.wait_delete(&rt), Err(DeleteFault::Worn));
 }
 
 #[test]
 fn a_port_hands_back_its_seat(rt: HostRuntime) {
     let (queue, mut seats) = open::<u64>(&rt, rt.alloc(), (3, 1, 9));
     let mut port = Port::new(&queue, take(&rt, &queue, &mut seats));
-    assert_eq!(rt; port.wait_insert(&rt, 10), Ok(0));
-    assert_eq!(rt; port.insert(&rt, 11), Ok(1));
+    assert_equal(&rt, port.wait_insert(&rt, 10), Ok(0));
+    assert_equal(&rt, port.insert(&rt, 11), Ok(1));
     let seat = port.into_seat();
     let mut rest = close(&rt, queue, Tally::of(seat));
-    assert_eq!(rt; rest.next(), Some(10));
-    assert_eq!(rt; rest.next(), Some(11));
-    assert_eq!(rt; rest.next(), None);
+    assert_equal(&rt, rest.next(), Some(10));
+    assert_equal(&rt, rest.next(), Some(11));
+    assert_equal(&rt, rest.next(), None);
 }
 
 /// Inserts the numbers below `count`, and waits where the queue is full. False where the seat was worn or the queue shut.
@@ -84,5 +85,5 @@ fn ports_of_two_threads(rt: HostRuntime) {
         move || -> Option<u64> { receive(rt, receiver, 1000) },
     );
     assert!(rt; sent);
-    assert_eq!(rt; sum, Some(499_500));
+    assert_equal(&rt, sum, Some(499_500));
 }

@@ -1,63 +1,54 @@
 //! What queues, seats and faults print.
 
+use super::assertions::{assert_equal, assert_written};
 use super::steps::{close, open, take};
 use fak_queue::{DeleteFault, InsertFault, OpenFault, Port, Queue, SeatState, Tally};
 use std::fmt::Display;
 use std::process::Abort;
-use std::test::*;
 
 #[test]
-fn queues_print_their_numbers(rt: HostRuntime) -> Result<(), Fail> {
-    let alloc = rt.alloc();
-    let (queue, mut seats) = open::<u64>(&rt, alloc, (3, 1, 9));
+fn queues_print_their_numbers(rt: HostRuntime) {
+    let (queue, mut seats) = open::<u64>(&rt, rt.alloc(), (3, 1, 9));
     let mut seat = take(&rt, &queue, &mut seats);
-    assert_eq!(rt; queue.claim_delete(&mut seat), Err(DeleteFault::Empty(0)));
-    assert_eq!(rt; queue.claim_insert(&mut seat, 7), Ok(0));
-    let text = format!(in alloc; "{queue:?}, {seat:?}")?;
-    assert_eq!(rt;
-        text.as_str(),
-        "Queue { size: 3, .. }, Seat { name: 0, state: Inserting(0), left: 8, .. }"
+    let Err(DeleteFault::Empty(0)) = queue.claim_delete(&mut seat) else {
+        panic!(rt; "the deletion")
+    };
+    assert_equal(&rt, queue.claim_insert(&mut seat, 7), Ok(0));
+    assert_written(&rt, &queue, "Queue { size: 3, .. }");
+    assert_written(
+        &rt,
+        &seat,
+        "Seat { name: 0, state: Inserting(0), left: 8, .. }",
     );
     let SeatState::Inserting(_) = seat.state() else {
         panic!(rt; "the claim")
     };
-    assert_eq!(rt; queue.try_fill(&mut seat), Some(0));
+    assert_equal(&rt, queue.try_fill(&mut seat), Some(0));
     let SeatState::Idle = seat.state() else {
         panic!(rt; "the insertion")
     };
     let tally = Tally::of(seat);
-    let text = format!(in alloc; "{tally:?}")?;
-    assert_eq!(rt; text.as_str(), "Tally { seats: 1, is_whole: true, .. }");
-    let text = format!(in alloc; "{:?}", close(&rt, queue, tally))?;
-    assert_eq!(rt; text.as_str(), "Rest { left: 1, .. }");
-    Ok(())
+    assert_written(&rt, &tally, "Tally { seats: 1, is_whole: true, .. }");
+    assert_written(&rt, &close(&rt, queue, tally), "Rest { left: 1, .. }");
 }
 
 #[test]
-fn faults_print_what_they_hand_back(rt: HostRuntime) -> Result<(), Fail> {
-    let alloc = rt.alloc();
-    let fault = Queue::<u64>::open(alloc, 0, 1, 1).expect_err(&rt, "a queue of no cells");
-    assert_eq!(rt; fault, OpenFault::BadSize);
+fn faults_print_what_they_hand_back(rt: HostRuntime) {
+    let fault = Queue::<u64>::open(rt.alloc(), 0, 1, 1).expect_err(&rt, "a queue of no cells");
+    assert_equal(&rt, fault, OpenFault::BadSize);
+    assert_written(&rt, &fault, "BadSize");
     let full = InsertFault::Full { upper: 1, item: 7 };
-    let text = format!(in alloc; "{fault:?}, {full:?}, {:?}", DeleteFault::Empty(-1))?;
-    assert_eq!(rt;
-        text.as_str(),
-        "BadSize, Full { upper: 1, item: 7 }, Empty(-1)"
-    );
-    Ok(())
+    assert_written(&rt, &full, "Full { upper: 1, item: 7 }");
+    assert_written(&rt, &DeleteFault::Empty(-1), "Empty(-1)");
 }
 
 #[test]
-fn ports_print_their_queue_and_their_seat(rt: HostRuntime) -> Result<(), Fail> {
-    let alloc = rt.alloc();
-    let (queue, mut seats) = open::<u64>(&rt, alloc, (3, 1, 9));
+fn ports_print_their_queue_and_their_seat(rt: HostRuntime) {
+    let (queue, mut seats) = open::<u64>(&rt, rt.alloc(), (3, 1, 9));
     let port = Port::new(&queue, take(&rt, &queue, &mut seats));
-    let text = format!(in alloc; "{port:?}")?;
-    assert_eq!(rt;
-        text.as_str(),
-        "Port { queue: Queue { size: 3, .. }, seat: Seat { name: 0, state: Idle, left: 9, .. } }"
-    );
-    Ok(())
+    let text =
+        "Port { queue: Queue { size: 3, .. }, seat: Seat { name: 0, state: Idle, left: 9, .. } }";
+    assert_written(&rt, &port, text);
 }
 
 /// Finds that each fault is written so.

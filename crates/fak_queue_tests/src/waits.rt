@@ -5,6 +5,8 @@ ghost use Rattle.fak_model.specs.Queue.{contents, lower_count, upper_count};
 ghost use Rattle.fak_queue.specs.Queues.{IsIdleSeat, drawn_by};
 
 #[cfg(test)]
+use crate::assertions::assert_equal;
+#[cfg(test)]
 use crate::steps::{A, B, Step, open, open_and_walk, take};
 use fak_model::laws::queue::a_queue_at_rest_counts_its_items;
 use fak_queue::{DeleteFault, InsertFault, Queue, Rest, Seat, Tally};
@@ -81,12 +83,12 @@ fn items_that_were_inserted_and_left(rt: HostRuntime) {
     let Ok(()) = insert_below(&rt, &queue, &mut a, 3) else {
         panic!(rt; "insert")
     };
-    assert_eq!(rt; a.left(), 6);
+    assert_equal(&rt, a.left(), 6);
     assert!(rt; matches!(queue.wait_delete(&rt, &mut a), Ok((0, 0))));
     let tally = Tally::of(a);
     assert!(rt; counts_its_items(&tally));
     let mut rest = close_counted(queue, tally).expect(&rt, "whole");
-    assert_eq!(rt; rest.next(), Some(1));
-    assert_eq!(rt; rest.next(), Some(2));
-    assert_eq!(rt; rest.next(), None);
+    assert_equal(&rt, rest.next(), Some(1));
+    assert_equal(&rt, rest.next(), Some(2));
+    assert_equal(&rt, rest.next(), None);
 }

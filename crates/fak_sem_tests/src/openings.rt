@@ -1,7 +1,7 @@
 //! Semaphores of each size in range are opened, with all their seats, and of starts and stints of every width. The first down
 //! passes or parks by the start.
 
-use crate::steps::{open, take};
+use crate::steps::{Step, open, walk};
 use fak_sem::{LARGEST_BOUND, LARGEST_SIZE, LONGEST_STINT, MOST_SEATS};
 use std::alloc::Global;
 use std::process::Abort;
@@ -20,27 +20,25 @@ fn spread(row: u64, most: u64) -> u64 {
     number.min(most)
 }
 
-/// Opens the semaphore with these limits, and has a seat go down and up once.
+/// Opens the semaphore with this start, size, number of seats and stint. The last seat goes down and, where its stint lasts, up.
 fn opens<R: Abort + Wait>(rt: &R, alloc: Global, limits: (u64, u64, u64, u64)) {
-    let (start, size, seats, stint) = limits;
-    let (semaphore, mut dealt) = open::<u64>(rt, alloc, limits);
-    assert!(rt;
-        dealt.len() as u64 == seats,
-        "{start}, {size}, {seats}, {stint}"
-    );
-    let mut seat = take(rt, &semaphore, &mut dealt);
-    let passed = if start > 0 { Some(7) } else { None };
-    assert!(rt;
-        semaphore.down(rt, &mut seat, 7) == Ok(passed),
-        "{start}, {size}, {seats}, {stint}"
-    );
-    if stint > 1 {
-        let woken = if start > 0 { None } else { Some(7) };
-        assert!(rt;
-            semaphore.up(rt, &mut seat) == Ok(woken),
-            "{start}, {size}, {seats}, {stint}"
-        );
-    }
+    let (start, _size, many, stint) = limits;
+    let (semaphore, mut seats) = open::<u64>(rt, alloc, limits);
+    assert!(rt; seats.len() as u64 == many);
+    let last = seats.len().saturating_sub(1);
+    let steps = if start > 0 {
+        [
+            (last, Step::Down(7, Ok(Some(7)))),
+            (last, Step::Up(Ok(None))),
+        ]
+    } else {
+        [
+            (last, Step::Down(7, Ok(None))),
+            (last, Step::Up(Ok(Some(7)))),
+        ]
+    };
+    let made = if stint > 1 { 2 } else { 1 };
+    walk(rt, &semaphore, &mut seats, &steps[..made]);
 }
 
 #[test]

@@ -5,6 +5,8 @@ ghost use Rattle.fak_model.specs.Queue.{contents, lower_count};
 ghost use Rattle.fak_sem.specs.Semaphores.{IsIdleSemSeat, passed_by};
 
 #[cfg(test)]
+use crate::assertions::assert_written;
+#[cfg(test)]
 use crate::steps::{A, B, Step, close, joined, leaves_nothing, open, take, walk};
 use fak_model::laws::queue::a_queue_at_rest_counts_its_items;
 use fak_sem::{OpenFault, SemSeat, SemTally, SemWorn, Semaphore, StepSeat, Worn};
@@ -160,22 +162,23 @@ fn worn_seats_do_not_wait(rt: HostRuntime) {
 
 #[test]
 fn what_debug_prints(rt: HostRuntime) {
-    let alloc = rt.alloc();
-    let (semaphore, mut seats) = open::<u64>(&rt, alloc, (3, 4, 2, 10));
+    let (semaphore, mut seats) = open::<u64>(&rt, rt.alloc(), (3, 4, 2, 10));
     let mut a = StepSeat::of(take(&rt, &semaphore, &mut seats));
     assert!(rt; semaphore.claim_down(&mut a, 7) == Ok(Some(7)));
-    let text = format!(in alloc; "{semaphore:?}; {seats:?}; {a:?}").expect(&rt, "memory");
-    assert!(rt;
-        text.as_str()
-            == "Semaphore { .. }; [SemSeat { start: 3, left: 10, .. }]; StepSeat { start: 3, left: 9, state: Idle, .. }",
-        "{text}"
+    assert_written(&rt, &semaphore, "Semaphore { .. }");
+    assert_written(&rt, &seats, "[SemSeat { start: 3, left: 10, .. }]");
+    assert_written(&rt, &a, "StepSeat { start: 3, left: 9, state: Idle, .. }");
+}
+
+#[test]
+fn what_tallies_print(rt: HostRuntime) {
+    let (semaphore, seats) = open::<u64>(&rt, rt.alloc(), (3, 4, 2, 10));
+    assert_written(
+        &rt,
+        &joined(&rt, &semaphore, seats),
+        "SemTally { start: 3, .. }",
     );
-    let tally = joined(&rt, &semaphore, seats);
-    let text = format!(in alloc; "{tally:?}, {:?}", SemWorn(7u64)).expect(&rt, "memory");
-    assert!(rt;
-        text.as_str() == "SemTally { start: 3, .. }, SemWorn(7)",
-        "{text}"
-    );
+    assert_written(&rt, &SemWorn(7u64), "SemWorn(7)");
 }
 
 /// Finds that each fault is written so.
