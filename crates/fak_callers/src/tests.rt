@@ -1,5 +1,6 @@
 //! Each caller on its happy path.
 
+mod assertions;
 mod files;
 mod queues;
 mod rooms;

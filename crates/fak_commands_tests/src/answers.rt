@@ -35,18 +35,6 @@ pub(crate) fn words_of(alloc: Global, line: &str) -> Result<Vec<String>, AllocEr
     Ok(words)
 }
 
-/// This many items, with commas between them.
-pub(crate) fn list_of(alloc: Global, item: &str, count: u64) -> Result<String, AllocError> {
-    let mut text = String::new(alloc);
-    for made in 0..count {
-        if made > 0 {
-            text.push(',')?;
-        }
-        text.push_str(item)?;
-    }
-    Ok(text)
-}
-
 /// Whether the bytes are this text.
 pub(crate) fn is_text(bytes: &[u8], text: &str) -> bool {
     *bytes == *text.as_bytes()

@@ -22,5 +22,3 @@ mod program;
 mod schedules;
 #[cfg(test)]
 mod scripts;
-#[cfg(test)]
-mod texts;

@@ -121,16 +121,22 @@ fn a_read_fault_has_status_1(rt: HostRuntime) {
     assert!(rt; ends(&rt, rt.alloc(), "fak run", &mut Broken, want) == Ok(true));
 }
 
-/// Finds that each fault ends the program with its status and its text, and is written so.
+/// Whether the program ends with this status where it met the fault, and writes this text as a line.
+fn is_told(rt: &(impl Abort + AllocGlobal), fault: MainFault, status: u8, text: &str) -> bool {
+    let mut faults = Vec::new(rt.alloc());
+    let ended = conclude(Err(fault), &mut faults);
+    let written = fault.to_string(rt.alloc()).expect(rt, "memory");
+    let line = format!(in rt.alloc(); "{text}\n").expect(rt, "memory");
+    ended == status
+        && fault.status() == status
+        && written.as_str() == text
+        && is_text(&faults, &line)
+}
+
+/// Finds that each fault has this status and this text.
 fn have_texts(rt: &(impl Abort + AllocGlobal), rows: &[(MainFault, u8, &str)]) {
     for &(fault, status, text) in rows {
-        let mut faults = Vec::new(rt.alloc());
-        let ended = conclude(Err(fault), &mut faults);
-        let written = fault.to_string(rt.alloc()).expect(rt, "memory");
-        assert!(rt; ended == status && fault.status() == status, "{fault:?}");
-        assert!(rt; written.as_str() == text, "{fault:?}");
-        let line = format!(in rt.alloc(); "{text}\n").expect(rt, "memory");
-        assert!(rt; is_text(&faults, &line), "{fault:?}");
+        assert!(rt; is_told(rt, fault, status, text), "{fault:?}");
     }
 }
 

@@ -1,5 +1,6 @@
 //! File tables.
 
+use super::assertions::assert_equal;
 use crate::files::{
     close_with_holds_apart, end_lawfully, join_within_seats, read_all_seen, read_newest,
     read_twice, write_alone,
@@ -16,11 +17,11 @@ fn what_is_written_is_read_twice(rt: HostRuntime) {
     assert!(rt; !read_all_seen(&table, &mut b));
     end_lawfully(&table, &mut a);
     assert!(rt; read_all_seen(&table, &mut b));
-    assert_eq!(rt; read_newest(&table, &mut b, 0).inode, 7);
+    assert_equal(&rt, read_newest(&table, &mut b, 0).inode, 7);
     let (first, second) = read_twice(&table, &mut b, 0);
-    assert_eq!(rt; (first.inode, second.inode), (7, 7));
+    assert_equal(&rt, (first.inode, second.inode), (7, 7));
     end_lawfully(&table, &mut b);
     let tally = join_within_seats(&table, a, b);
     assert!(rt; tally.is_whole());
-    assert_eq!(rt; close_with_holds_apart(table, tally).get(0).inode, 7);
+    assert_equal(&rt, close_with_holds_apart(table, tally).get(0).inode, 7);
 }
