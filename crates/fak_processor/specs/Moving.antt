@@ -1,12 +1,13 @@
 -- What a call of a processor adds to its seats' own marks and to its rows, among any number of processors.
-use Rattle.std.specs.Prelude.{◌≡◌, ℕ, ◌+◌, ◌==◌, cond, Bool, List, [], ◌∷◌, ◌++◌, length, map, pos, slice_index_or, Option, Some, None}
+use Rattle.std.specs.Prelude.{◌≡◌, ◌⊎◌, ℕ, ◌+◌, ◌==◌, cond, Bool, List, [], ◌∷◌, ◌++◌, length, map, pos, slice_index_or, Option, Some, None}
 use Rattle.std.specs.List.{sum_by, flat_map}
 use Rattle.fak_model.specs.declared.queue.Kind.{Kind}
 use Rattle.fak_model.specs.declared.queue.Mark.{Mark}
 use Rattle.fak_model.specs.declared.credit.CreditKind.TheVariants.{Debit, Credit}
 use Rattle.fak_model.specs.Calls.{SeatInfo}
 use Rattle.fak_model.specs.Queue.{queue_rules}
-use Rattle.fak_model.specs.Credit.{value}
+use Rattle.fak_model.specs.Credit.{credit_rules, value}
+use Rattle.fak_model.specs.Credit as credit
 use Rattle.fak_sem.specs.Semaphores.{SemInfo, SemSeatInfo, Downs, Ups}
 use Rattle.fak_queue.specs.Queues.{kinds_in, kinds_out}
 use Rattle.fak_queue.specs.Retries.{RefusedInsertion, RefusedDeletion, kinds_not_in, kinds_not_out}
@@ -133,6 +134,22 @@ pub record Moves (script : ScriptOf) (before after : List Process) (old new : Pr
 abbrev pub hand_of : Option Turn → List Process
 hand_of None = []
 hand_of (Some turn) = turn.process ∷ []
+
+-- ---- busy counts a process from before it is ready until after it is not
+
+-- busy was credited
+abbrev pub IsCredited : ProcessorOf → ProcessorOf → Type 0
+IsCredited old new = Grows credit_rules credit.kind_of old.busy new.busy (Credit ∷ [])
+
+-- nobody has entered the ready queue, or busy was credited
+abbrev pub EntersCredited : ProcessorOf → ProcessorOf → Type 0
+EntersCredited old new = (new.ready ≡ old.ready) ⊎ IsCredited old new
+
+-- busy was credited, and then the process entered the ready queue
+pub record BecomesReady (script : ScriptOf) (who : Process) (old new : ProcessorOf) : Type 0 where
+  pub between : ProcessorOf
+  pub credited : Gains script old between (record nothing { busy = Credit ∷ [] })
+  pub entered : Moves script (who ∷ []) [] between new
 
 -- ---- what parts of steps add
 

@@ -1,10 +1,10 @@
 //! A processor of a run: its seats, and what it saw leave.
 
-ghost use Rattle.std.specs.Prelude.{◌≡◌, [], ◌∷◌, IfOk, IfErr};
+ghost use Rattle.std.specs.Prelude.{◌≡◌, [], ◌∷◌, IfOk, IfErr, OnErr};
 ghost use Rattle.fak_model.specs.declared.credit.CreditKind.TheVariants as made;
 ghost use Rattle.fak_count.specs.Credits.{calls_made};
 ghost use Rattle.fak_run.specs.Ledger.{nothing};
-ghost use Rattle.fak_processor.specs.Moving.{Gains};
+ghost use Rattle.fak_processor.specs.Moving.{Gains, IsCredited};
 ghost use Rattle.fak_processor.specs.Processors.{AreOf, GoesTo, IsAlone, ProcessorOf, lists_of};
 
 mod births;
@@ -80,6 +80,7 @@ impl<K: Run> Processor<K> {
         ensures same { self.new ≡ record self.old { busy = self.new.busy } }
         ensures gains { IfOk result (λ _. Gains K.script self.old self.new
             (record nothing { busy = made.Credit ∷ [] })) }
+        ensures credited { IfOk result (λ _. IsCredited self.old self.new) }
         ensures alone { IsAlone K.script self.old → GoesTo K.script self.new (lists_of K.script self.old) }
         ensures worn { IfErr result (λ fault. fault ≡ Fault.Worn) }
         ensures spent { IfErr result (λ _. calls_made self.new.busy ≡ self.new.busy.stint) }
@@ -101,6 +102,7 @@ impl<K: Run> Processor<K> {
         ensures same { self.new ≡ record self.old { busy = self.new.busy } }
         ensures gains { IfOk result (λ _. Gains K.script self.old self.new
             (record nothing { busy = made.Debit ∷ [] })) }
+        ensures kept { OnErr result (self.new ≡ self.old) }
         ensures alone { IsAlone K.script self.old → GoesTo K.script self.new (lists_of K.script self.old) }
         ensures worn { IfErr result (λ fault. fault ≡ Fault.Worn) }
         ensures spent { IfErr result (λ _. calls_made self.new.busy ≡ self.new.busy.stint) }

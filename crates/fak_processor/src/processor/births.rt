@@ -22,6 +22,7 @@ impl<K: Run> Processor<K> {
     pub fn claim_birth(&mut self, objects: &Objects<K>) -> Result<bool, Fault>
         requires objects { AreOf objects.now self.old }
         ensures objects { AreOf objects.now self.new }
+        ensures same { self.new ≡ record self.old { births = self.new.births } }
         ensures held { IfOk result (λ born. MatchBool born (1 ≤ held_amount self.new.births)
             (held_amount self.new.births ≡ held_amount self.old.births)) }
         ensures gains { IfOk result (λ born. MatchBool born
@@ -45,6 +46,7 @@ impl<K: Run> Processor<K> {
         requires objects { AreOf objects.now self.old }
         requires held { 1 ≤ held_amount self.old.births }
         ensures objects { AreOf objects.now self.new }
+        ensures same { self.new ≡ record self.old { births = self.new.births } }
         ensures gains { Gains K.script self.old self.new (record nothing { births = Release 1 ∷ [] }) }
         ensures alone { IsAlone K.script self.old
             → GoesTo K.script self.new (record (lists_of K.script self.old) {

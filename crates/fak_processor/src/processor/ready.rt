@@ -1,6 +1,6 @@
 //! Who enters and leaves the ready queue and the free queue.
 
-ghost use Rattle.std.specs.Prelude.{◌≡◌, [], ◌∷◌, Bool, ℕ, None, true, IfOk, IfErr, MatchOption};
+ghost use Rattle.std.specs.Prelude.{◌≡◌, [], ◌∷◌, Bool, ℕ, None, true, IfOk, IfErr, OnErr, MatchOption};
 ghost use Rattle.fak_model.specs.Queue.{contents};
 ghost use Rattle.fak_run.specs.ListScheduler as lists;
 ghost use Rattle.fak_processor.specs.Faults.{IsOfStep, IsSpent};
@@ -9,7 +9,7 @@ ghost use Rattle.fak_model.specs.declared.queue.Kind.TheVariants.{Close};
 ghost use Rattle.fak_queue.specs.Queues.{kinds_out};
 ghost use Rattle.fak_run.specs.Ledger.{nothing};
 ghost use Rattle.fak_processor.specs.Events.{empty};
-ghost use Rattle.fak_processor.specs.Moving.{Gains, Moves, hand_of};
+ghost use Rattle.fak_processor.specs.Moving.{BecomesReady, EntersCredited, Gains, Moves, hand_of};
 
 use crate::objects::Objects;
 use crate::processor::Processor;
@@ -69,6 +69,7 @@ impl<K: Run> Processor<K> {
         ensures general { IfOk result (λ _. Moves K.script (context ∷ []) [] self.old self.new) }
         ensures alone { IsAlone K.script self.old
             → IfOk result (λ _. GoesTo K.script self.new (lists.enter_ready (lists_of K.script self.old) context)) }
+        ensures busy { OnErr result (self.new.busy ≡ self.old.busy) }
         ensures fault { IfErr result (λ fault. IsOfStep fault) }
     {
         // The slot is read for the proof alone: reading it tells that the context fits the script.
@@ -83,6 +84,29 @@ impl<K: Run> Processor<K> {
                 return Ok(());
             }
         }
+    }
+
+    /// A process that slept or is new becomes ready. It is counted as busy before anyone can take it.
+    ///
+    /// # Errors
+    ///
+    /// `Memory` or `Worn`. Where the count has no calls left, the process has not entered the queue.
+    pub fn make_ready<R: Wait>(
+        &mut self,
+        rt: &R,
+        objects: &Objects<K>,
+        context: Context<K>,
+    ) -> Result<(), Fault>
+        requires objects { AreOf objects.now self.old }
+        ensures objects { AreOf objects.now self.new }
+        ensures general { IfOk result (λ _. BecomesReady K.script context self.old self.new) }
+        ensures alone { IsAlone K.script self.old
+            → IfOk result (λ _. GoesTo K.script self.new (lists.enter_ready (lists_of K.script self.old) context)) }
+        ensures credited { OnErr result (EntersCredited self.old self.new) }
+        ensures fault { IfErr result (λ fault. IsOfStep fault) }
+    {
+        self.credit(objects)?;
+        self.enter_ready(rt, objects, context)
     }
 
     /// A process ends, and its slot goes to the back of the free ones.
@@ -103,6 +127,7 @@ impl<K: Run> Processor<K> {
         ensures alone { IsAlone K.script self.old
             → IfOk result (λ _. GoesTo K.script self.new
             (lists.end_process (lists_of K.script self.old) context).lists) }
+        ensures busy { OnErr result (self.new.busy ≡ self.old.busy) }
         ensures fault { IfErr result (λ fault. IsOfStep fault) }
     {
         let slot = Slot::new(context.slot());
@@ -124,7 +149,7 @@ impl<K: Run> Processor<K> {
     ) -> Result<Option<Slot<K>>, Fault>
         requires objects { AreOf objects.now self.old }
         ensures objects { AreOf objects.now self.new }
-        ensures births { self.new.births ≡ self.old.births }
+        ensures same { self.new ≡ record self.old { free = self.new.free } }
         ensures gains { IfOk result (λ slot. MatchOption slot
             ((late : Bool) × Gains K.script self.old self.new (record nothing { free = empty late }))
             (λ n. (ticket : ℕ) × Gains K.script self.old self.new (record nothing { free = kinds_out ticket n }))) }

@@ -30,7 +30,8 @@ impl<K: Run> Processor<K> {
         requires at { at < length K.script.semaphores }
         requires before { StandsAt K.script sleeper (down at) }
         ensures objects { AreOf objects.now self.new }
-        ensures same { IfOk result (λ passed. IfSome passed (λ who. who ≡ sleeper)) }
+        ensures same { self.new ≡ record self.old { semaphores = self.new.semaphores } }
+        ensures passed { IfOk result (λ passed. IfSome passed (λ who. who ≡ sleeper)) }
         ensures gains { IfOk result (λ passed. MatchOption passed (GainsParked K.script at sleeper self.old self.new)
             (λ _. Gains K.script self.old self.new (record nothing { credits = at_one at (Debit ∷ []) }))) }
         ensures alone { IsAlone K.script self.old
@@ -61,6 +62,7 @@ impl<K: Run> Processor<K> {
         requires objects { AreOf objects.now self.old }
         requires at { at < length K.script.semaphores }
         ensures objects { AreOf objects.now self.new }
+        ensures same { self.new ≡ record self.old { semaphores = self.new.semaphores } }
         ensures gains { IfOk result (λ woken. MatchOption woken
             (Gains K.script self.old self.new (record nothing { credits = at_one at (Credit ∷ []) }))
             (λ q. GainsWoken K.script at q self.old self.new)) }

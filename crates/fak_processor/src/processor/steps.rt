@@ -1,13 +1,13 @@
 //! What each step does.
 
-ghost use Rattle.std.specs.Prelude.{◌≡◌, [], ◌∷◌, ◌<◌, false, length, Some, IfOk, IfErr};
+ghost use Rattle.std.specs.Prelude.{◌≡◌, [], ◌∷◌, ◌<◌, false, length, Some, IfOk, IfErr, OnErr};
 ghost use Rattle.fak_text.specs.Script.{down, up, open_file, close_file, stat, spawn, shutdown};
 ghost use Rattle.fak_text.specs.Journal.{StandsAt};
 ghost use Rattle.fak_run.specs.ListScheduler as lists;
 ghost use Rattle.fak_run.specs.Contexts.{HasStepsLeft};
 ghost use Rattle.fak_processor.specs.Faults.{IsOfStep};
 ghost use Rattle.fak_processor.specs.Processors.{AreOf, IsAlone, GoesOn, lists_of};
-ghost use Rattle.fak_processor.specs.Moving.{Moves, hand_of};
+ghost use Rattle.fak_processor.specs.Moving.{EntersCredited, Moves, hand_of};
 
 use crate::objects::Objects;
 use crate::processor::Processor;
@@ -36,6 +36,7 @@ impl<K: Run> Processor<K> {
         ensures alone { IsAlone K.script self.old
             → IfOk result (λ running. GoesOn K.script self.new running
             (lists.make_down (lists_of K.script self.old) turn n)) }
+        ensures busy { OnErr result (self.new.busy ≡ self.old.busy) }
         ensures fault { IfErr result (λ fault. IsOfStep fault) }
     {
         let made = turn.made();
@@ -68,6 +69,7 @@ impl<K: Run> Processor<K> {
         ensures alone { IsAlone K.script self.old
             → IfOk result (λ _. GoesOn K.script self.new (Some turn.new)
             (lists.make_up (lists_of K.script self.old) turn.old n)) }
+        ensures credited { OnErr result (EntersCredited self.old self.new) }
         ensures fault { IfErr result (λ fault. IsOfStep fault) }
     {
         turn.note(Note::Up(n), false)?;
@@ -75,11 +77,7 @@ impl<K: Run> Processor<K> {
         match self.wake(rt, objects, n as usize) {
             Err(fault) => return Err(fault),
             Ok(None) => return Ok(()),
-            Ok(Some(context)) => {
-                self.credit(objects)?;
-                self.enter_ready(rt, objects, context)?;
-                return Ok(());
-            }
+            Ok(Some(context)) => return self.make_ready(rt, objects, context),
         }
     }
 
@@ -102,6 +100,7 @@ impl<K: Run> Processor<K> {
         ensures alone { IsAlone K.script self.old
             → IfOk result (λ _. GoesOn K.script self.new (Some turn.new)
             (lists.make_spawn K.script (lists_of K.script self.old) turn.old program)) }
+        ensures credited { OnErr result (EntersCredited self.old self.new) }
         ensures fault { IfErr result (λ fault. IsOfStep fault) }
     {
         let name = turn.child_name(alloc)?;
@@ -118,10 +117,8 @@ impl<K: Run> Processor<K> {
         };
         let number = turn.children();
         let child = Context::new(alloc, name, program, slot.number());
-        self.credit(objects)?;
-        self.enter_ready(rt, objects, child)?;
         turn.note(Note::Spawned(number), false)?;
-        Ok(())
+        self.make_ready(rt, objects, child)
     }
 
     /// An open, in a hold of the file table.

@@ -11,7 +11,7 @@ returns-in-Ok-None-clause-general g c =
 
 pub returns-in-Ok-Some-clause-general : goal.returns-in-Ok-Some-clause-general
 returns-in-Ok-Some-clause-general g c =
-    let is_sleeper : c.in-Ok-Some.who ≡ c.in_ok-sleeper.sleeper = rw c.in-Ok-Some.field-0-is at c.in-Ok-Some.ensures.same in
+    let is_sleeper : c.in-Ok-Some.who ≡ c.in_ok-sleeper.sleeper = rw c.in-Ok-Some.field-0-is at c.in-Ok-Some.ensures.passed in
     let same : c.in-Ok-Some.who ≡ c.args.turn.process = is_sleeper ∙ (c.in_ok-sleeper.ensures.same ∙ c.into_context.ensures) in
     let passed = rw c.in-Ok-Some.field-0-is at c.in-Ok-Some.ensures.gains in
     let stands = subst (λ (x : Process). StandsAt g.K.Run.script x (down c.args.n)) (sym same) c.requires.next in

@@ -1,6 +1,7 @@
-use Rattle.fak_processor.proofs.Common.{◌≡◌, ◌∙◌, ap, sym, subst, true, false, rules, [], ◌∷◌, ◌++◌, ℕ, None, spawn, Process, FitsScript, StandsAt, new_process, after_note, child_count, spawned, no_birth, no_slot, Moves}
+use Rattle.std.proofs.lemmas.Result.{IfOk-weaker, on_err_weaker}
+use Rattle.fak_processor.proofs.Common.{ProcessorOf, ◌≡◌, ◌∙◌, ap, sym, subst, true, false, rules, [], ◌∷◌, ◌++◌, ℕ, None, spawn, Process, FitsScript, StandsAt, new_process, after_note, child_count, spawned, no_birth, no_slot, Moves}
 use Rattle.fak_run.specs.ListScheduler as lists
-use Rattle.fak_processor.proofs.Stepping.{moves_from, moves_to, moves_unborn, moves_slotless, moves_spawned, moves_enters}
+use Rattle.fak_processor.proofs.Stepping.{credited_behind, moves_from, moves_to, moves_unborn, moves_slotless, moves_spawned, moves_enters}
 use Rattle.fak_processor.proofs.processor.Processor.spawn.Goals as goal
 
 pub returns-then-not-branch-clause-general : goal.returns-then-not-branch-clause-general
@@ -48,9 +49,19 @@ returns-clause-general g c =
     let number_is : c.children-number.result ≡ child_count x.journal = c.children-number.ensures ∙ ap (λ (t : lists.Turn). child_count t.process.journal) same in
     let child_is : c.new-child.result ≡ new_process (x.name ++ child_count x.journal ∷ []) c.args.program c.in-Some.slot =
     c.new-child.ensures ∙ (λ i. new_process (c.in_ok-name.ensures.name i) c.args.program (c.number.ensures.value i)) in
-    let entered = subst (λ (q : Process). Moves g.K.Run.script (q ∷ []) [] c.credit.new.self c.enter_ready.new.self) child_is c.in_ok-enter_ready.ensures.general in
+    IfOk-weaker c.make_ready.result _ _ (λ _ ready.
     moves_from c.reserve_halted.ensures.same
     (moves_to (after_note x (spawned (child_count x.journal)))
     (ap (λ (t : lists.Turn). t.process) c.in_ok-note-3.ensures.noted ∙ (ap (λ (t : lists.Turn). after_note t.process (spawned c.children-number.result)) same ∙ ap (λ (n : ℕ). after_note x (spawned n)) number_is))
     (moves_enters (after_note x (spawned (child_count x.journal))) (new_process (x.name ++ child_count x.journal ∷ []) c.args.program c.in-Some.slot)
-    (moves_spawned got.0 x c.args.program c.in-Some.slot fits c.requires.next claimed got.1 c.in_ok-credit.ensures.gains) entered))
+    (moves_spawned got.0 x c.args.program c.in-Some.slot fits c.requires.next claimed got.1 ready.credited)
+    (subst (λ (q : Process). Moves g.K.Run.script (q ∷ []) [] ready.between c.make_ready.new.self) child_is ready.entered)))) c.make_ready.ensures.general
+
+pub returns-clause-credited : goal.returns-clause-credited
+returns-clause-credited g c =
+    let kept = c.reserve_halted.ensures.same in
+    let claimed = c.claim_birth.ensures.same in
+    let took = c.take_slot.ensures.same in
+    on_err_weaker c.make_ready.result (credited_behind c.args.self.now c.take_slot.new.self c.make_ready.new.self
+    (ap (λ (p : ProcessorOf). p.ready) took ∙ (ap (λ (p : ProcessorOf). p.ready) claimed ∙ ap (λ (p : ProcessorOf). p.ready) kept))
+    (ap (λ (p : ProcessorOf). p.busy) took ∙ (ap (λ (p : ProcessorOf). p.busy) claimed ∙ ap (λ (p : ProcessorOf). p.busy) kept))) c.make_ready.ensures.credited
