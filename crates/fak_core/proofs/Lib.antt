@@ -16,4 +16,3 @@ pub mod QueueProgress
 pub mod QueueEvents
 pub mod QueueHolders
 pub mod QueueRounds
-pub mod Examples

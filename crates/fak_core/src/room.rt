@@ -41,16 +41,14 @@ impl Model for RoomCore {
       bound = c.bound;
       count = c.count;
       seats = c.seats.items;
-      past = reverse
-          c.marks.items;
+      past = reverse c.marks.items;
     } };
 
     ghost invariant = { λ c. IsSound (record {
       bound = c.bound;
       count = c.count;
       seats = c.seats.items;
-      past = reverse
-          c.marks.items;
+      past = reverse c.marks.items;
     }) };
 }
 

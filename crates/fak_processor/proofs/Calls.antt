@@ -1,10 +1,10 @@
 -- How the calls on the shared objects make a seat's own marks grow.
-use Rattle.fak_processor.proofs.Common.{◌≡◌, ℕ, Bool, true, false, List, [], ◌∷◌, ◌++◌, length, refl, ap, sym, subst, arith, inl, inr, map, ℤ, Some, None, sum_by, flat_map, append-nil, sum_by-append, Rules, SeatInfo, queue_rules, room_rules, credit_rules, put_of, got_of, Kind, Mark, RoomKind, Over, Back, RoomMark, CreditKind, Debit, Credit, CreditMark, SemInfo, SemSeatInfo, credit_part, queue_part, Downs, Ups, ScriptOf, Process, Ledger, Balanced, joined, Turning, Grows, Adds, balanced-joined, NoItem, OverOut, BackOut, Close, empty, Owns, queue_kind, Bundle, common_steps}
+use Rattle.fak_processor.proofs.Common.{◌≡◌, ℕ, Bool, true, false, List, [], ◌∷◌, ◌++◌, length, refl, ap, sym, subst, arith, inl, inr, map, ℤ, Some, None, sum_by, flat_map, append-nil, sum_by-append, Rules, SeatInfo, queue_rules, room_rules, credit_rules, put_of, got_of, Kind, Mark, RoomKind, Over, Back, RoomMark, CreditKind, Debit, Credit, CreditMark, SemInfo, SemSeatInfo, credit_part, queue_part, Downs, Ups, ScriptOf, Process, Ledger, Balanced, joined, Turning, Grows, Adds, balanced-joined, NoItem, OverOut, BackOut, empty, Owns, queue_kind, Bundle, common_steps}
 use Rattle.fak_model.specs.Room as room
 use Rattle.fak_model.specs.Credit as credit
 use Rattle.fak_count.specs.Rooms as rooms
 use Rattle.fak_count.specs.Credits as credits
-use Rattle.fak_queue.proofs.Common.{made_by, Makes, Deletes, RefusesEmpty, ShutsAs, RefusedInsertion, NotIn, WithdrawnIn, ClosedIn, WithdrawnLate, RefusedDeletion, NotOut, WithdrawnOut, kinds_not_in, kinds_not_out, kinds_in, kinds_out}
+use Rattle.fak_queue.proofs.Common.{made_by, Makes, Deletes, RefusesEmpty, RefusedInsertion, NotIn, WithdrawnIn, ClosedIn, WithdrawnLate, RefusedDeletion, NotOut, WithdrawnOut, kinds_not_in, kinds_not_out, kinds_in, kinds_out}
 use Rattle.fak_processor.proofs.Tallies.{owns_more}
 
 -- ---- a seat
@@ -24,9 +24,6 @@ grows_deletes {k = k} {x = x} d = grows_makes (kinds_out k x) d.makes
 
 pub grows_empty : {T : Type 0} {size : ℕ} {lower : ℤ} {old new : SeatInfo (Mark T)} → RefusesEmpty size lower old new → (late : Bool) × Grows (queue_rules size) queue_kind old new (empty late)
 grows_empty r = elim r.makes [ inl m ↦ (false, grows_makes (NoItem ∷ []) m) | inr m ↦ (true, grows_makes (OverOut ∷ BackOut ∷ []) m) ]
-
-pub grows_shuts : {T : Type 0} {size : ℕ} (b : Bool) (old new : SeatInfo (Mark T)) → ShutsAs size b old new → Grows (queue_rules size) queue_kind old new (Close ∷ [])
-grows_shuts b old new s = grind (arith, common_steps, queue_rules, queue_kind, grows_makes)
 
 pub grows_room : {kind : RoomKind} {room_is : rooms.RoomInfo} {old new : SeatInfo RoomMark} {answer : ℤ} → rooms.MakesCall kind room_is old new answer → Grows (room_rules room_is.bound) room.kind_of old new (kind ∷ [])
 grows_room {kind} c = record { name = ap (λ s. s.name) c.appends.same_seat; owns = λ before o. owns_more (kind ∷ []) c.appends refl o }

@@ -4,11 +4,11 @@ use Rattle.std.proofs.lemmas.List.{append-nil, map-append, get_or_default, get_o
 use Rattle.fak_model.specs.Room as room
 use Rattle.fak_model.specs.Credit as credit
 use Rattle.fak_count.specs.Rooms as rooms
-use Rattle.fak_queue.proofs.Common.{Makes, RefusesEmpty, Deletes, RefusedInsertion, NotIn, WithdrawnIn, ClosedIn, WithdrawnLate, kinds_not_in, kinds_in}
+use Rattle.fak_queue.proofs.Common.{Makes, Deletes, RefusedInsertion, NotIn, WithdrawnIn, ClosedIn, WithdrawnLate, kinds_not_in, kinds_in}
 use Rattle.fak_processor.proofs.Common.{Ledger, Made, nothing, joined, queue_kind, Bundle, ProcessorOf, AreLines, is_file_line, file_lines, ◌≡◌, ◌⊎◌, ℕ, ◌<◌, Bool, true, false, List, [], ◌∷◌, ◌++◌, All, All-head, All-tail, no_seat, flat_map, length, map, slice_index_or, slice_set, Option, MatchOption, refl, ap, sym, ◌∙◌, subst, arith, append_assoc, ℤ, sum_by-append, filter-append, SeatInfo, queue_rules, room_rules, credit_rules, put_of, got_of, close_of, closed_of, Kind, Mark, kinds_out, RoomKind, No, RoomMark, CreditKind, CreditMark, FileMark, cond_here, cond_else, SemSeatInfo, credit_part, queue_part, ScriptOf, NoteOf, Process, Grows, Adds, MovesNoItem, IsQuiet, GrowsIn, GrowsShut, GrowsAtLast, GrowsIdle, GrowsEmpty, GrowsOut, bundle_of, names_of, files_of, Gains, at_one, IsFull, IsClosed, InsertsAfterFull, ClosesAfterFull, common_steps}
 use Rattle.fak_processor.specs.Events.{full, empty, closed, refused_claim}
 use Rattle.fak_processor.proofs.Places.{alike_after}
-use Rattle.fak_processor.proofs.Calls.{grows_same, grows_makes, grows_deletes, grows_empty, grows_room, grows_withdraws}
+use Rattle.fak_processor.proofs.Calls.{grows_same, grows_makes, grows_deletes, grows_room, grows_withdraws}
 use Rattle.fak_processor.proofs.Growing.{grows_then}
 
 -- ---- marks that weigh nothing
@@ -79,9 +79,6 @@ module _ {T : Type 0} {size : ℕ} where
 
   pub out_at_once : {a b : SeatInfo (Mark T)} {k : ℕ} {x : T} → Deletes size k x a b → GrowsOut size x a b
   out_at_once {k = k} d = record { ticket = k; grows = grows_deletes d }
-
-  pub none_there : {a b : SeatInfo (Mark T)} {lower : _} → RefusesEmpty size lower a b → GrowsEmpty size a b
-  none_there r = let g = grows_empty r in record { late = g.0; grows = g.1 }
 
 pub refused_grows : {room_is : rooms.RoomInfo} {old new : SeatInfo RoomMark} {v : ℤ} → rooms.MakesCall (No 1) room_is old new v ⊎ rooms.Withdraws 1 room_is old new v → (late : Bool) × Grows (room_rules room_is.bound) room.kind_of old new (refused_claim late)
 refused_grows e = grind (arith, common_steps, room_rules, refused_claim, grows_room, grows_withdraws)

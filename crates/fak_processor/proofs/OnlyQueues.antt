@@ -1,5 +1,5 @@
 -- What calls do to the contents of a queue that has one seat.
-use Rattle.fak_processor.proofs.Common.{◌≡◌, ℕ, zero, suc, ◌+◌, ◌≤◌, ◌||◌, Bool, true, false, List, [], ◌∷◌, ◌++◌, Some, length, drop, refl, ap, sym, ◌∙◌, subst, arith, inl, inr, append_assoc, ℤ, pos, ◌≤ℤ◌, ints, flat_map-append, queue_rules, IsQueueHistory, count, puts, gots, lower_raise, lower_drop, lower_count, Has, item_in, item_at, items_put, contents, IsFairMark, SeatInfo, Kind, Mark, Makes, made_by, RefusesEmpty, ShutsAs, IsOnly, is_close, has_close, IsOnlySeat, Keeps, Enters, TakesFirst, FindsNone, Shuts, history_prefix, only_seen, only_still, only_lawful, common_steps}
+use Rattle.fak_processor.proofs.Common.{◌≡◌, ℕ, zero, suc, ◌+◌, ◌≤◌, ◌||◌, Bool, true, false, List, [], ◌∷◌, ◌++◌, Some, length, drop, refl, ap, sym, ◌∙◌, subst, arith, inl, inr, append_assoc, ℤ, pos, ◌≤ℤ◌, ints, flat_map-append, queue_rules, IsQueueHistory, count, puts, gots, lower_raise, lower_drop, lower_count, Has, item_in, item_at, items_put, contents, IsFairMark, SeatInfo, Kind, Mark, Makes, made_by, RefusesEmpty, ShutsAs, IsOnly, is_close, has_close, IsOnlySeat, Keeps, TakesFirst, FindsNone, Shuts, history_prefix, only_seen, only_still, only_lawful, common_steps}
 use Rattle.std.proofs.lemmas.List.{drop-append-le, append-nil}
 use Rattle.fak_model.specs.declared.queue.Kind.TheVariants as made
 use Rattle.fak_model.proofs.QueueBackwards.{count_append, items_count}
@@ -159,6 +159,3 @@ module _ {T : Type 0} (size : ℕ) {old new : SeatInfo (Mark T)} (o : IsOnlySeat
 
 pub keeps_then : {T : Type 0} {old mid new : SeatInfo (Mark T)} → Keeps old mid → Keeps mid new → Keeps old new
 keeps_then a b = record { only = b.only; items = b.items ∙ a.items; shut = b.shut ∙ a.shut }
-
-pub keeps_enters : {T : Type 0} {x : T} {old mid new : SeatInfo (Mark T)} → Keeps old mid → Enters x mid new → Enters x old new
-keeps_enters {T} {x} a b = record { only = b.only; items = b.items ∙ ap (λ l. l ++ x ∷ []) a.items; shut = b.shut ∙ a.shut; unshut = sym a.shut ∙ b.unshut }

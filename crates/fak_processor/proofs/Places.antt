@@ -1,7 +1,6 @@
 -- One of several seats makes a call.
-use Rattle.fak_processor.proofs.Common.{◌≡◌, ℕ, ◌<◌, List, All, length, map, slice_set, slice_index_or, get_or, ap, sym, ◌∙◌, subst, arith, Option, IfSome, get_or-map, length-map, All-get_or, SemInfo, SemSeatInfo, Downs, common_steps}
+use Rattle.fak_processor.proofs.Common.{◌≡◌, ℕ, ◌<◌, List, All, length, map, slice_set, slice_index_or, get_or, ap, sym, ◌∙◌, subst, arith, get_or-map, length-map, All-get_or}
 use Rattle.std.proofs.Math.Seq.{map-set_same}
-use Rattle.fak_text.specs.Journal.{Process}
 
 -- what two lists have alike at a place
 pub alike_at : {X Y A : Type 0} (f : X → A) (g : Y → A) (xs : List X) (ys : List Y) (i : ℕ) (x : X) (y : Y) → map f xs ≡ map g ys → i < length xs → x ≡ slice_index_or xs i x → y ≡ slice_index_or ys i y → f x ≡ g y
@@ -17,6 +16,3 @@ alike_after f xs i x y xis same = map-set_same f xs i y x (same ∙ ap f xis)
 -- the seat at a place is the only one of its object
 pub only_at : {X : Type 0} (P : X → Type 0) (xs : List X) (i : ℕ) (x : X) → i < length xs → x ≡ slice_index_or xs i x → All P xs → P x
 only_at P xs i x below xis all = subst P (sym xis) (All-get_or P xs i x below all)
-
-pub passed_same : {who : Process} {old new : SemSeatInfo Process} {sem : SemInfo} (answer : Option Process) → Downs sem who old new answer → IfSome answer (λ passed. passed ≡ who)
-passed_same answer d = grind (arith, common_steps)

@@ -143,9 +143,6 @@ filled_alone x was made = grind (arith, common_steps)
 pub no_slot_goes : {script : ScriptOf} {q r : ProcessorOf} {s : Lists} → GoesTo script q s → (IsAlone script q → HasNoSlot script (lists_of script q) r) → GoesTo script r s
 no_slot_goes was made = let m = made was.alone in record { alone = m.goes.alone; lists_are = m.goes.lists_are ∙ was.lists_are }
 
-pub slot_taken : {script : ScriptOf} {q r : ProcessorOf} {s : Lists} {slot : ℕ} → GoesTo script q s → (IsAlone script q → TakesFreeSlot script (lists_of script q) slot r) → TakesFreeSlot script s slot r
-slot_taken {script} {r = r} {slot = slot} was made = subst (λ (l : Lists). TakesFreeSlot script l slot r) was.lists_are (made was.alone)
-
 pub starts_one : {script : ScriptOf} {q r : ProcessorOf} {s : Lists} {slot : ℕ} (i program : ℕ) (x : Process) → x ≡ new_process (i ∷ []) program slot → TakesFreeSlot script s slot q → (IsAlone script q → GoesTo script r (enter_ready (lists_of script q) x)) → StartsOne script s i program r
 starts_one {slot = slot} i program x is took made = grind (arith, common_steps, enter_ready)
 

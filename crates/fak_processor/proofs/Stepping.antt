@@ -1,8 +1,8 @@
 -- How steps balance.
 use Rattle.std.specs.Prelude.{◌⊎◌}
 use Rattle.fak_model.specs.Credit as credit
-use Rattle.fak_processor.specs.Moving.{EntersCredited, IsCredited}
-use Rattle.fak_processor.proofs.Common.{Grows, credit_rules, child_of, ProcessorOf, HasMade, is_file_line, ◌≡◌, ℕ, ◌<◌, ◌==◌, Bool, true, false, cond, List, [], ◌∷◌, ◌++◌, length, refl, ap, sym, ◌∙◌, subst, arith, Option, flat_map, append-nil, FileSeatInfo, Kind, Debit, Credit, Up, Release, cond_here, kinds_in, kinds_out, kinds_not_in, kinds_not_out, ScriptOf, StepOf, say, yield, open_file, close_file, stat, down, up, spawn, shutdown, NoteOf, said, yielded, opened, closed, statted, downed, upped, spawned, no_birth, no_slot, shut_down, Process, child_count, after_note, FitsScript, StandsAt, Allows, Ledger, IsMade, nothing, joined, other_down, made_of, IsPlain, steps, passes, parks, adds, wakes, spawns, lacks_birth, lacks_slot, shuts, waits_refused, refused_claim, empty, bundle_of, names_of, Gains, GainsParked, GainsWoken, Moves, at_one, lines_more, balanced-joined, FileEntry, Close, common_steps}
+use Rattle.fak_processor.specs.Moving.{EntersCredited}
+use Rattle.fak_processor.proofs.Common.{SeatInfo, Mark, CreditMark, Grows, credit_rules, child_of, ProcessorOf, HasMade, is_file_line, ◌≡◌, ℕ, ◌<◌, ◌==◌, Bool, true, false, cond, List, [], ◌∷◌, ◌++◌, length, refl, ap, sym, ◌∙◌, subst, arith, Option, flat_map, append-nil, FileSeatInfo, Kind, Debit, Credit, Up, Release, cond_here, kinds_in, kinds_out, kinds_not_in, kinds_not_out, ScriptOf, StepOf, say, yield, open_file, close_file, stat, down, up, spawn, shutdown, NoteOf, said, yielded, opened, closed, statted, downed, upped, spawned, no_birth, no_slot, shut_down, Process, child_count, after_note, FitsScript, StandsAt, Allows, Ledger, IsMade, nothing, joined, other_down, made_of, IsPlain, steps, passes, parks, adds, wakes, spawns, lacks_birth, lacks_slot, shuts, waits_refused, refused_claim, empty, bundle_of, names_of, Gains, GainsParked, GainsWoken, Moves, at_one, lines_more, balanced-joined, FileEntry, Close, common_steps}
 use Rattle.fak_processor.proofs.Events.{balanced-beside, keeps_steps, keeps_passes, keeps_parks, keeps_adds, keeps_wakes, keeps_spawns, keeps_lacks_birth, keeps_lacks_slot, keeps_shuts, keeps_waits_refused}
 use Rattle.fak_processor.proofs.Calls.{refused_in_weighs, refused_out_weighs}
 use Rattle.fak_processor.proofs.Moving.{adds_none, gains_none, gains_then}
@@ -27,10 +27,13 @@ plain_statted n e = record { childless = λ name. refl; births = refl; no_births
 pub plain_yielded : IsPlain yield yielded
 plain_yielded = record { childless = λ name. refl; births = refl; no_births = refl; no_slots = refl; downs = λ s. refl; ups = λ s. refl; shuts = refl }
 
--- what went before was a call of neither seat
-pub credited_behind : (p q r : ProcessorOf) → q.ready ≡ p.ready → q.busy ≡ p.busy → EntersCredited q r → EntersCredited p r
-credited_behind p q r ready busy e =
-    subst (λ s. (r.ready ≡ s) ⊎ IsCredited p r) ready (subst (λ s. (r.ready ≡ q.ready) ⊎ Grows credit_rules credit.kind_of s r.busy (Credit ∷ [])) busy e)
+-- the two seats by which a process becomes ready
+abbrev pub entry_of : ProcessorOf → SeatInfo (Mark Process) × SeatInfo CreditMark
+entry_of p = (p.ready, p.busy)
+
+-- what went before was a call of neither
+pub credited_behind : (p q r : ProcessorOf) → entry_of q ≡ entry_of p → EntersCredited q r → EntersCredited p r
+credited_behind p q r same e = subst (λ s. (r.ready ≡ s.0) ⊎ Grows credit_rules credit.kind_of s.1 r.busy (Credit ∷ [])) same e
 
 module _ {script : ScriptOf} where
   pub made_is : (p : Process) (step : StepOf) (note : NoteOf) → FitsScript script p → StandsAt script p step → Allows script.files (child_count p.journal) step note → IsMade script (made_of p step note)

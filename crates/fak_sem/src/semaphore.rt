@@ -56,10 +56,8 @@ impl<T: Drop> Semaphore<T> {
         stint: u64,
     ) -> Result<(Semaphore<T>, Vec<SemSeat<T>>), OpenFault>
         ensures { MatchResult result (λ r. IsInRange start size seats stint × (r.0.object.start ≡ start)
-            × (r.0.size ≡ size)
-            × (seats_of r.0.object ≡ seats) × (r.0.object.queue.seats ≡ seats)
-            × (r.1.items ≡ fresh_sem_seats r.0.object stint 0 seats))
-            (IsOpenFault start size seats stint) }
+            × (r.0.size ≡ size) × (seats_of r.0.object ≡ seats) × (r.0.object.queue.seats ≡ seats)
+            × (r.1.items ≡ fresh_sem_seats r.0.object stint 0 seats)) (IsOpenFault start size seats stint) }
     {
         let (credit, credit_seats) = match opened_credit(alloc, start, size, seats, stint) {
             Ok(opened) => opened,

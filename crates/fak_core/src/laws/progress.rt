@@ -11,8 +11,7 @@ ghost use Rattle.fak_core.specs.QueueSchedule.{QueueEvent, reached, stepped};
 /// ticket can wait, and then some seat that holds a ticket of the same cell can move forward.
 pub fn a_queue_never_locks_up<T>()
     ensures call { (size : ℕ) (schedule : List (QueueEvent T)) (s : ℕ) → 0 < size
-        → (reached size schedule).phase s ≢ Idle
-        → (t : ℕ) × MakesProgress size (reached size schedule) t }
+        → (reached size schedule).phase s ≢ Idle → (t : ℕ) × MakesProgress size (reached size schedule) t }
     ensures cell { (size : ℕ) (schedule : List (QueueEvent T)) (s c : ℕ) → 0 < size
         → HoldsTicketOf size ((reached size schedule).phase s) c
         → (t : ℕ) × HoldsTicketOf size ((reached size schedule).phase t) c
@@ -27,8 +26,7 @@ pub fn a_queue_never_locks_up<T>()
 /// step still does.
 pub fn a_turn_that_has_come_stays<T>()
     ensures { (size : ℕ) (schedule : List (QueueEvent T)) (s t : ℕ) → 0 < size → s ≢ t
-        → MakesProgress size (reached size schedule) s
-        → MakesProgress size (stepped size (reached size schedule) t) s }
+        → MakesProgress size (reached size schedule) s → MakesProgress size (stepped size (reached size schedule) t) s }
 {}
 
 /// A call makes at most seven steps, not counting loads of a turn that has not come. A refused call whose claim is
@@ -53,8 +51,7 @@ pub fn a_call_has_few_steps<T>()
 pub fn every_open_call_ends<T>()
     ensures { (size seats : ℕ) (schedule : List (QueueEvent T)) (rounds : List (List (QueueEvent T))) (s : ℕ) → 0 < size
         → AreIdleFrom seats (reached size schedule) → All (IsRound seats) rounds
-        → 3 * min size seats + 4 ≤ length rounds
-        → IsIdleWithin size rounds (reached size schedule) s }
+        → 3 * min size seats + 4 ≤ length rounds → IsIdleWithin size rounds (reached size schedule) s }
 {}
 
 /// A seat that stops for good holds up only the calls that share its cell. A call with a ticket ends within
@@ -75,7 +72,6 @@ pub fn a_queue_comes_to_rest<T>()
         → All (λ (r : List (QueueEvent T)). All (IsAdvance {A = T}) r) rounds
         → 3 * min size seats + 4 ≤ length rounds → AreIdleFrom 0 (after_rounds size rounds (reached size schedule)) }
     ensures in_turn { (size seats n : ℕ) (schedule : List (QueueEvent T)) → 0 < size
-        → AreIdleFrom seats (reached size schedule)
-        → 3 * min size seats + 4 ≤ n → AreIdleFrom 0
-        (after_rounds size (replicate n (round_robin seats)) (reached size schedule)) }
+        → AreIdleFrom seats (reached size schedule) → 3 * min size seats + 4 ≤ n
+        → AreIdleFrom 0 (after_rounds size (replicate n (round_robin seats)) (reached size schedule)) }
 {}

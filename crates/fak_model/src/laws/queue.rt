@@ -51,8 +51,7 @@ pub fn a_cell_is_put_then_filled_then_taken<T>()
         → before ++ m ∷ after ≡ h
         → m.kind ≡ Fill k → ((x : T) × Drew before m.seat (Put x) puts k) × (k < count puts before) }
     ensures taken { (size k : ℕ) (h before after : List (Mark T)) (m : Mark T) → IsQueueHistory size h
-        → before ++ m ∷ after ≡ h
-        → m.kind ≡ Take k → Has (Fill k) before }
+        → before ++ m ∷ after ≡ h → m.kind ≡ Take k → Has (Fill k) before }
 {}
 
 /// A seat that never began a call may be added: a history names no number of seats, it stays named by more, and it is

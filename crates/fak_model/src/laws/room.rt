@@ -23,11 +23,9 @@ pub fn a_room_at_rest_counts_what_is_held()
 /// granted than the bound and what is given back.
 pub fn a_room_refuses_at_its_bound()
     ensures refused { (bound : ℕ) (h : List RoomMark) → IsRoomHistory bound h → total other_amount h ≡ 0
-        → 0 < total refusal_of h
-        → bound ≤ total up_amount h }
+        → 0 < total refusal_of h → bound ≤ total up_amount h }
     ensures granted { (bound seats : ℕ) (h : List RoomMark) → IsRoomHistory bound h
-        → AreNamed (room_rules bound) seats h
-        → total up_amount h ≤ bound + total release_amount h }
+        → AreNamed (room_rules bound) seats h → total up_amount h ≤ bound + total release_amount h }
 {}
 
 /// Every prefix of a room's history is a history.

@@ -25,8 +25,7 @@ pub fn a_tally_knows_what_its_seats_know<M>()
     ensures known { (seat_of : M → ℕ) (names : List ℕ) (seen h : List M) → Knows seat_of names seen h
         → mine seat_of names h ≡ mine seat_of names seen }
     ensures joined { (seat_of weight : M → ℕ) (names : List ℕ) (name : ℕ) (of_tally of_seat both : List M)
-        → ¬ In name names
-        → Knows seat_of names of_tally both → Knows seat_of (name ∷ []) of_seat both
+        → ¬ In name names → Knows seat_of names of_tally both → Knows seat_of (name ∷ []) of_seat both
         → sum_by weight (mine seat_of (names ++ name ∷ []) both)
         ≡ sum_by weight (mine seat_of names of_tally) + sum_by weight (marks_of seat_of name of_seat) }
 {}

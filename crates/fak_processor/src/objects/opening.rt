@@ -219,8 +219,7 @@ fn open_semaphore<K: Run>(
     requires processors { AreProcessors processors }
     requires start { start ≤ 1000000 }
     ensures opened { IfOk result (λ r. (r.0.object.start ≡ start) × (r.0.size ≡ script.now.slots)
-        × (seats_of r.0.object ≡ processors)
-        × (r.0.object.queue.seats ≡ processors)) }
+        × (seats_of r.0.object ≡ processors) × (r.0.object.queue.seats ≡ processors)) }
     ensures seats { IfOk result (λ r. r.1.items ≡ fresh_sem_seats r.0.object script.now.stint 0 processors) }
 {
     match Semaphore::open(alloc, start, script.slots(), processors, script.stint()) {

@@ -33,8 +33,7 @@ impl<K: Run> Processor<K> {
         requires objects { AreOf objects.now self.old }
         ensures objects { AreOf objects.now self.new }
         ensures general { IfOk result (λ running. Moves K.script [] (hand_of running) self.old self.new) }
-        ensures alone { IsAlone K.script self.old
-            → IfOk result (λ running. GoesOn K.script self.new running
+        ensures alone { IsAlone K.script self.old → IfOk result (λ running. GoesOn K.script self.new running
             (lists.take_front (lists_of K.script self.old) (contents self.old.ready.seen))) }
         ensures worn { IfErr result (λ fault. fault ≡ Fault.Worn) }
         ensures spent { IfErr result (λ _. IsSpent self.new.ready) }
@@ -124,8 +123,7 @@ impl<K: Run> Processor<K> {
         requires over { lists.next_step K.script context ≡ None }
         ensures objects { AreOf objects.now self.new }
         ensures general { IfOk result (λ _. Moves K.script (context ∷ []) [] self.old self.new) }
-        ensures alone { IsAlone K.script self.old
-            → IfOk result (λ _. GoesTo K.script self.new
+        ensures alone { IsAlone K.script self.old → IfOk result (λ _. GoesTo K.script self.new
             (lists.end_process (lists_of K.script self.old) context).lists) }
         ensures busy { OnErr result (self.new.busy ≡ self.old.busy) }
         ensures fault { IfErr result (λ fault. IsOfStep fault) }

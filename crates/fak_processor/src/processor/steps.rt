@@ -33,8 +33,7 @@ impl<K: Run> Processor<K> {
         ensures objects { AreOf objects.now self.new }
         ensures general { IfOk result (λ running. Moves K.script (turn.process ∷ [])
             (hand_of running) self.old self.new) }
-        ensures alone { IsAlone K.script self.old
-            → IfOk result (λ running. GoesOn K.script self.new running
+        ensures alone { IsAlone K.script self.old → IfOk result (λ running. GoesOn K.script self.new running
             (lists.make_down (lists_of K.script self.old) turn n)) }
         ensures busy { OnErr result (self.new.busy ≡ self.old.busy) }
         ensures fault { IfErr result (λ fault. IsOfStep fault) }
@@ -66,8 +65,7 @@ impl<K: Run> Processor<K> {
         ensures objects { AreOf objects.now self.new }
         ensures general { IfOk result (λ _. Moves K.script (turn.old.process ∷ [])
             (turn.new.process ∷ []) self.old self.new) }
-        ensures alone { IsAlone K.script self.old
-            → IfOk result (λ _. GoesOn K.script self.new (Some turn.new)
+        ensures alone { IsAlone K.script self.old → IfOk result (λ _. GoesOn K.script self.new (Some turn.new)
             (lists.make_up (lists_of K.script self.old) turn.old n)) }
         ensures credited { OnErr result (EntersCredited self.old self.new) }
         ensures fault { IfErr result (λ fault. IsOfStep fault) }
@@ -97,8 +95,7 @@ impl<K: Run> Processor<K> {
         ensures objects { AreOf objects.now self.new }
         ensures general { IfOk result (λ _. Moves K.script (turn.old.process ∷ [])
             (turn.new.process ∷ []) self.old self.new) }
-        ensures alone { IsAlone K.script self.old
-            → IfOk result (λ _. GoesOn K.script self.new (Some turn.new)
+        ensures alone { IsAlone K.script self.old → IfOk result (λ _. GoesOn K.script self.new (Some turn.new)
             (lists.make_spawn K.script (lists_of K.script self.old) turn.old program)) }
         ensures credited { OnErr result (EntersCredited self.old self.new) }
         ensures fault { IfErr result (λ fault. IsOfStep fault) }
@@ -135,8 +132,7 @@ impl<K: Run> Processor<K> {
         ensures objects { AreOf objects.now self.new }
         ensures general { IfOk result (λ _. Moves K.script (turn.old.process ∷ [])
             (turn.new.process ∷ []) self.old self.new) }
-        ensures alone { IsAlone K.script self.old
-            → IfOk result (λ _. GoesOn K.script self.new (Some turn.new)
+        ensures alone { IsAlone K.script self.old → IfOk result (λ _. GoesOn K.script self.new (Some turn.new)
             (lists.make_open (lists_of K.script self.old) turn.old inode)) }
         ensures fault { IfErr result (λ fault. IsOfStep fault) }
     {
@@ -162,8 +158,7 @@ impl<K: Run> Processor<K> {
         ensures objects { AreOf objects.now self.new }
         ensures general { IfOk result (λ _. Moves K.script (turn.old.process ∷ [])
             (turn.new.process ∷ []) self.old self.new) }
-        ensures alone { IsAlone K.script self.old
-            → IfOk result (λ _. GoesOn K.script self.new (Some turn.new)
+        ensures alone { IsAlone K.script self.old → IfOk result (λ _. GoesOn K.script self.new (Some turn.new)
             (lists.make_close (lists_of K.script self.old) turn.old inode)) }
         ensures fault { IfErr result (λ fault. IsOfStep fault) }
     {
@@ -189,8 +184,7 @@ impl<K: Run> Processor<K> {
         ensures objects { AreOf objects.now self.new }
         ensures general { IfOk result (λ _. Moves K.script (turn.old.process ∷ [])
             (turn.new.process ∷ []) self.old self.new) }
-        ensures alone { IsAlone K.script self.old
-            → IfOk result (λ _. GoesOn K.script self.new (Some turn.new)
+        ensures alone { IsAlone K.script self.old → IfOk result (λ _. GoesOn K.script self.new (Some turn.new)
             (lists.make K.script (lists_of K.script self.old) turn.old (stat inode))) }
         ensures fault { IfErr result (λ fault. IsOfStep fault) }
     {
@@ -214,8 +208,7 @@ impl<K: Run> Processor<K> {
         ensures objects { AreOf objects.now self.new }
         ensures general { IfOk result (λ _. Moves K.script (turn.old.process ∷ [])
             (turn.new.process ∷ []) self.old self.new) }
-        ensures alone { IsAlone K.script self.old
-            → IfOk result (λ _. GoesOn K.script self.new (Some turn.new)
+        ensures alone { IsAlone K.script self.old → IfOk result (λ _. GoesOn K.script self.new (Some turn.new)
             (lists.make K.script (lists_of K.script self.old) turn.old shutdown)) }
     {
         turn.note(Note::Shutdown, false)?;

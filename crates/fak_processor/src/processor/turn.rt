@@ -93,8 +93,7 @@ impl<K: Run> Turn<K> {
             × Allows K.script.files (child_count self.old.process.journal) step (note_of note) }
         requires left { HasStepsLeft K.script self.old }
         ensures noted { IfOk result (λ _. self.new ≡ record {
-          process = after_note self.old.process
-              (note_of note);
+          process = after_note self.old.process (note_of note);
           made = self.old.made + 1;
           has_yielded = yields;
         }) }
@@ -114,8 +113,7 @@ impl<K: Run> Turn<K> {
         requires left { HasStepsLeft K.script self.old }
         ensures noted { IfOk result (λ _. (text : List ℕ) → StandsAt K.script self.old.process (say text)
             → self.new ≡ record {
-              process = after_note self.old.process
-                  (said text);
+              process = after_note self.old.process (said text);
               made = self.old.made + 1;
               has_yielded = false;
             }) }

@@ -39,8 +39,7 @@ impl<K: Run> Processor<K> {
         ensures objects { AreOf objects.now self.new }
         ensures general { IfOk result (λ running. Moves K.script (turn.process ∷ [])
             (hand_of running) self.old self.new) }
-        ensures alone { IsAlone K.script self.old
-            → IfOk result (λ running. GoesOn K.script self.new running
+        ensures alone { IsAlone K.script self.old → IfOk result (λ running. GoesOn K.script self.new running
             (lists.make K.script (lists_of K.script self.old) turn (step_of step.now))) }
         ensures fault { IfErr result (λ fault. IsOfStep fault) }
     {
@@ -71,8 +70,7 @@ impl<K: Run> Processor<K> {
         ensures objects { AreOf objects.now self.new }
         ensures general { IfOk result (λ _. Moves K.script (turn.old.process ∷ [])
             (turn.new.process ∷ []) self.old self.new) }
-        ensures alone { IsAlone K.script self.old
-            → IfOk result (λ _. GoesOn K.script self.new (Some turn.new)
+        ensures alone { IsAlone K.script self.old → IfOk result (λ _. GoesOn K.script self.new (Some turn.new)
             (lists.make K.script (lists_of K.script self.old) turn.old (step_of step.now))) }
         ensures fault { IfErr result (λ fault. IsOfStep fault) }
     {
@@ -112,8 +110,7 @@ impl<K: Run> Processor<K> {
         ensures objects { AreOf objects.now self.new }
         ensures general { IfOk result (λ running. Moves K.script (turn.process ∷ [])
             (hand_of running) self.old self.new) }
-        ensures alone { IsAlone K.script self.old
-            → IfOk result (λ running. GoesOn K.script self.new running
+        ensures alone { IsAlone K.script self.old → IfOk result (λ running. GoesOn K.script self.new running
             (lists.turn_by K.script (lists_of K.script self.old) turn (lists.next_step K.script turn.process))) }
         ensures fault { IfErr result (λ fault. IsOfStep fault) }
     {
@@ -145,8 +142,7 @@ impl<K: Run> Processor<K> {
         requires objects { AreOf objects.now self.old }
         ensures objects { AreOf objects.now self.new }
         ensures general { IfOk result (λ next. Moves K.script (hand_of running) (hand_of next) self.old self.new) }
-        ensures alone { IsAlone K.script self.old
-            → IfOk result (λ next. GoesOn K.script self.new next
+        ensures alone { IsAlone K.script self.old → IfOk result (λ next. GoesOn K.script self.new next
             (lists.step K.script (record { running = running; lists = lists_of K.script self.old }))) }
         ensures fault { IfErr result (λ fault. IsOfStep fault) }
     {

@@ -8,23 +8,19 @@ ghost use Rattle.fak_model.specs.Examples.{Parts, file_by};
 
 /// The marks of a seat are whole calls, the last perhaps cut short.
 pub fn the_calls_of_a_file_table_are_judged()
-    ensures back { Parts (IsFileHistory 2)
-        (file_by 0 (Take 2) ∷ [])
-        (file_by 1 (Over 1) ∷ file_by 1 (Back 1) ∷ []) (file_by 1 (Back 1) ∷ []) }
-    ensures back_amount { Parts (IsFileHistory 2)
-        (file_by 0 (Take 2) ∷ file_by 1 (Over 1) ∷ [])
+    ensures back { Parts (IsFileHistory 2) (file_by 0 (Take 2) ∷ []) (file_by 1 (Over 1) ∷ file_by 1 (Back 1) ∷ [])
+        (file_by 1 (Back 1) ∷ []) }
+    ensures back_amount { Parts (IsFileHistory 2) (file_by 0 (Take 2) ∷ file_by 1 (Over 1) ∷ [])
         (file_by 1 (Back 1) ∷ []) (file_by 1 (Back 2) ∷ []) }
     ensures give { Parts (IsFileHistory 2) [] (file_by 0 (Take 1) ∷ file_by 0 Give ∷ []) (file_by 0 Give ∷ []) }
-    ensures give_again { Parts (IsFileHistory 2)
-        (file_by 0 (Take 1) ∷ file_by 0 Give ∷ [])
+    ensures give_again { Parts (IsFileHistory 2) (file_by 0 (Take 1) ∷ file_by 0 Give ∷ [])
         (file_by 0 (Take 1) ∷ file_by 0 Give ∷ []) (file_by 0 Give ∷ []) }
     ensures take { Parts (IsFileHistory 2) (file_by 0 (Take 1) ∷ []) (file_by 1 (Take 1) ∷ [])
         (file_by 0 (Take 1) ∷ []) }
     ensures no { Parts (IsFileHistory 2) (file_by 0 (Take 2) ∷ []) (file_by 1 (No 1) ∷ []) (file_by 0 (No 1) ∷ []) }
     ensures set { Parts (IsFileHistory 0) [] (file_by 0 (Take 0) ∷ file_by 0 (Set 0 Inode 7) ∷ [])
         (file_by 0 (Set 0 Inode 7) ∷ []) }
-    ensures set_after_give { Parts (IsFileHistory 0)
-        (file_by 0 (Take 0) ∷ [])
+    ensures set_after_give { Parts (IsFileHistory 0) (file_by 0 (Take 0) ∷ [])
         (file_by 0 (Set 0 Uses 1) ∷ file_by 0 Give ∷ []) (file_by 0 Give ∷ file_by 0 (Set 0 Uses 1) ∷ []) }
 {}
 
@@ -41,13 +37,10 @@ pub fn the_answers_of_a_file_table_are_judged()
         (file_by 1 (Over 1) ∷ []) }
     ensures over_amount { Parts (IsFileHistory 3) (file_by 0 (Take 3) ∷ []) (file_by 1 (Over 3) ∷ [])
         (file_by 1 (Over 2) ∷ []) }
-    ensures set { Parts (IsFileHistory 2)
-        []
-        (file_by 0 (Take 2) ∷ file_by 0 (Set 0 Inode 7) ∷ []) (file_by 0 (Take 1) ∷ file_by 0 (Set 0 Inode 7) ∷ []) }
-    ensures count_over { Parts (IsFileHistory 2)
-        (file_by 0 (Take 1) ∷ file_by 1 (Over 2) ∷ file_by 0 Give ∷ [])
+    ensures set { Parts (IsFileHistory 2) [] (file_by 0 (Take 2) ∷ file_by 0 (Set 0 Inode 7) ∷ [])
+        (file_by 0 (Take 1) ∷ file_by 0 (Set 0 Inode 7) ∷ []) }
+    ensures count_over { Parts (IsFileHistory 2) (file_by 0 (Take 1) ∷ file_by 1 (Over 2) ∷ file_by 0 Give ∷ [])
         (file_by 0 (No 1) ∷ []) (file_by 1 (Back 2) ∷ file_by 0 (No 1) ∷ []) }
-    ensures count_give { Parts (IsFileHistory 2)
-        (file_by 0 (Take 2) ∷ [])
-        (file_by 1 (No 2) ∷ []) (file_by 0 Give ∷ file_by 1 (No 2) ∷ []) }
+    ensures count_give { Parts (IsFileHistory 2) (file_by 0 (Take 2) ∷ []) (file_by 1 (No 2) ∷ [])
+        (file_by 0 Give ∷ file_by 1 (No 2) ∷ []) }
 {}

@@ -10,18 +10,15 @@ ghost use Rattle.fak_model.specs.Examples.{Parts, by, deleted, inserted};
 pub fn the_calls_of_a_queue_are_judged()
     ensures back_in { Parts (IsQueueHistory 1) (inserted 0 7 0) (by 1 OverIn ∷ by 1 BackIn ∷ []) (by 1 BackIn ∷ []) }
     ensures put { Parts (IsQueueHistory 1) [] (by 0 ClaimIn ∷ by 0 (Put 7) ∷ []) (by 0 (Put 7) ∷ []) }
-    ensures fill { Parts (IsQueueHistory 2)
-        (by 0 ClaimIn ∷ by 0 (Put 7) ∷ [])
-        (by 0 (Fill 0) ∷ by 0 EndIn ∷ []) (by 0 (Fill 0) ∷ by 0 (Fill 0) ∷ []) }
+    ensures fill { Parts (IsQueueHistory 2) (by 0 ClaimIn ∷ by 0 (Put 7) ∷ []) (by 0 (Fill 0) ∷ by 0 EndIn ∷ [])
+        (by 0 (Fill 0) ∷ by 0 (Fill 0) ∷ []) }
     ensures end_in { Parts (IsQueueHistory 1) (by 0 ClaimIn ∷ by 0 (Put 7) ∷ []) (by 0 (Fill 0) ∷ by 0 EndIn ∷ [])
         (by 0 EndIn ∷ []) }
     ensures back_out { Parts (IsQueueHistory 1) [] (by 0 OverOut ∷ by 0 BackOut ∷ []) (by 0 BackOut ∷ []) }
     ensures got { Parts (IsQueueHistory 1) (inserted 0 7 0) (by 1 ClaimOut ∷ by 1 (Got 7) ∷ []) (by 1 (Got 7) ∷ []) }
-    ensures take { Parts (IsQueueHistory 1)
-        (inserted 0 7 0 ++ by 1 ClaimOut ∷ [])
-        (by 1 (Got 7) ∷ by 1 (Take 0) ∷ []) (by 1 (Take 0) ∷ []) }
-    ensures end_out { Parts (IsQueueHistory 1)
-        (inserted 0 7 0 ++ by 1 ClaimOut ∷ by 1 (Got 7) ∷ [])
+    ensures take { Parts (IsQueueHistory 1) (inserted 0 7 0 ++ by 1 ClaimOut ∷ []) (by 1 (Got 7) ∷ by 1 (Take 0) ∷ [])
+        (by 1 (Take 0) ∷ []) }
+    ensures end_out { Parts (IsQueueHistory 1) (inserted 0 7 0 ++ by 1 ClaimOut ∷ by 1 (Got 7) ∷ [])
         (by 1 (Take 0) ∷ by 1 EndOut ∷ []) (by 1 EndOut ∷ []) }
     ensures refusal { Parts (IsQueueHistory 1) (by 0 ClaimIn ∷ []) (by 1 NoItem ∷ []) (by 0 NoItem ∷ []) }
     ensures close { Parts (IsQueueHistory 1) (by 0 ClaimIn ∷ []) (by 1 Close ∷ []) (by 0 Close ∷ []) }
@@ -53,11 +50,9 @@ pub fn the_answers_of_a_queue_are_judged()
         (inserted 0 7 0 ++ by 1 NoItem ∷ []) }
     ensures over_out { Parts (IsQueueHistory 1) [] (by 1 OverOut ∷ [] ++ inserted 0 7 0)
         (inserted 0 7 0 ++ by 1 OverOut ∷ []) }
-    ensures claim_out { Parts (IsQueueHistory 1)
-        (by 0 ClaimIn ∷ by 0 (Put 7) ∷ by 0 (Fill 0) ∷ [])
+    ensures claim_out { Parts (IsQueueHistory 1) (by 0 ClaimIn ∷ by 0 (Put 7) ∷ by 0 (Fill 0) ∷ [])
         (by 0 EndIn ∷ by 1 ClaimOut ∷ []) (by 1 ClaimOut ∷ []) }
-    ensures claim_out_again { Parts (IsQueueHistory 2)
-        (inserted 0 7 0 ++ by 1 ClaimOut ∷ [])
+    ensures claim_out_again { Parts (IsQueueHistory 2) (inserted 0 7 0 ++ by 1 ClaimOut ∷ [])
         (inserted 0 8 1 ++ by 2 ClaimOut ∷ []) (by 2 ClaimOut ∷ []) }
     ensures claim_out_shut { Parts (IsQueueHistory 1) (by 0 Close ∷ []) (by 1 NoItem ∷ []) (by 1 ClaimOut ∷ []) }
 {}
@@ -65,23 +60,19 @@ pub fn the_answers_of_a_queue_are_judged()
 /// What raised a count does so until it is taken back: a claim, also one that was too much or came too late,
 /// until its withdrawal or the end of its deletion.
 pub fn the_counts_of_a_queue_are_judged()
-    ensures over_in { Parts (IsQueueHistory 1)
-        (inserted 0 7 0 ++ by 1 OverIn ∷ [] ++ deleted 2 7 0)
-        (by 3 NoRoom ∷ []) (by 1 BackIn ∷ by 3 NoRoom ∷ []) }
-    ensures end_out { Parts (IsQueueHistory 1)
-        (inserted 0 7 0 ++ by 1 ClaimOut ∷ by 1 (Got 7) ∷ by 1 (Take 0) ∷ [])
+    ensures over_in { Parts (IsQueueHistory 1) (inserted 0 7 0 ++ by 1 OverIn ∷ [] ++ deleted 2 7 0) (by 3 NoRoom ∷ [])
+        (by 1 BackIn ∷ by 3 NoRoom ∷ []) }
+    ensures end_out { Parts (IsQueueHistory 1) (inserted 0 7 0 ++ by 1 ClaimOut ∷ by 1 (Got 7) ∷ by 1 (Take 0) ∷ [])
         (by 2 NoRoom ∷ []) (by 1 EndOut ∷ by 2 NoRoom ∷ []) }
     ensures over_out { Parts (IsQueueHistory 1) (by 1 OverOut ∷ [] ++ inserted 0 7 0) (by 2 NoItem ∷ [])
         (by 1 BackOut ∷ by 2 NoItem ∷ []) }
-    ensures end_in { Parts (IsQueueHistory 1)
-        (by 0 ClaimIn ∷ by 0 (Put 7) ∷ by 0 (Fill 0) ∷ [])
-        (by 1 NoItem ∷ []) (by 0 EndIn ∷ by 1 NoItem ∷ []) }
+    ensures end_in { Parts (IsQueueHistory 1) (by 0 ClaimIn ∷ by 0 (Put 7) ∷ by 0 (Fill 0) ∷ []) (by 1 NoItem ∷ [])
+        (by 0 EndIn ∷ by 1 NoItem ∷ []) }
 {}
 
 /// The j-th item got is the j-th that was put.
 pub fn the_items_of_a_queue_are_judged()
-    ensures first { Parts (IsQueueHistory 2)
-        (inserted 0 7 0 ++ inserted 0 8 1 ++ by 1 ClaimOut ∷ [])
+    ensures first { Parts (IsQueueHistory 2) (inserted 0 7 0 ++ inserted 0 8 1 ++ by 1 ClaimOut ∷ [])
         (by 1 (Got 7) ∷ []) (by 1 (Got 8) ∷ []) }
     ensures second { Parts (IsQueueHistory 2)
         (inserted 0 7 0 ++ inserted 0 8 1 ++ by 1 ClaimOut ∷ by 2 ClaimOut ∷ by 1 (Got 7) ∷ [])
@@ -93,8 +84,7 @@ pub fn the_items_of_a_queue_are_judged()
 /// A fill and a take bear their call's ticket. A cell is filled once it was taken from in the round before, and
 /// taken from once it was filled.
 pub fn the_cells_of_a_queue_are_judged()
-    ensures fill_ticket { Parts (IsQueueHistory 2)
-        (by 0 ClaimIn ∷ by 1 ClaimIn ∷ by 0 (Put 7) ∷ by 1 (Put 8) ∷ [])
+    ensures fill_ticket { Parts (IsQueueHistory 2) (by 0 ClaimIn ∷ by 1 ClaimIn ∷ by 0 (Put 7) ∷ by 1 (Put 8) ∷ [])
         (by 1 (Fill 1) ∷ []) (by 1 (Fill 0) ∷ []) }
     ensures fill_ticket_ahead { Parts (IsQueueHistory 2) (by 0 ClaimIn ∷ by 0 (Put 7) ∷ []) (by 0 (Fill 0) ∷ [])
         (by 0 (Fill 1) ∷ []) }

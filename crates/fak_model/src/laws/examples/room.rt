@@ -7,18 +7,14 @@ ghost use Rattle.fak_model.specs.Examples.{Parts, room_by};
 
 /// The marks of a seat are whole calls, the last perhaps cut short.
 pub fn the_calls_of_a_room_are_judged()
-    ensures back { Parts (IsRoomHistory 2)
-        (room_by 0 (Up 2) ∷ [])
-        (room_by 1 (Over 1) ∷ room_by 1 (Back 1) ∷ []) (room_by 1 (Back 1) ∷ []) }
-    ensures back_amount { Parts (IsRoomHistory 2)
-        (room_by 0 (Up 2) ∷ room_by 1 (Over 1) ∷ [])
-        (room_by 1 (Back 1) ∷ []) (room_by 1 (Back 2) ∷ []) }
-    ensures begun_again { Parts (IsRoomHistory 2)
-        (room_by 0 (Up 2) ∷ room_by 1 (Over 1) ∷ [])
+    ensures back { Parts (IsRoomHistory 2) (room_by 0 (Up 2) ∷ []) (room_by 1 (Over 1) ∷ room_by 1 (Back 1) ∷ [])
+        (room_by 1 (Back 1) ∷ []) }
+    ensures back_amount { Parts (IsRoomHistory 2) (room_by 0 (Up 2) ∷ room_by 1 (Over 1) ∷ []) (room_by 1 (Back 1) ∷ [])
+        (room_by 1 (Back 2) ∷ []) }
+    ensures begun_again { Parts (IsRoomHistory 2) (room_by 0 (Up 2) ∷ room_by 1 (Over 1) ∷ [])
         (room_by 1 (Back 1) ∷ room_by 1 (No 1) ∷ []) (room_by 1 (No 1) ∷ []) }
-    ensures others { Parts (IsRoomHistory 2)
-        (room_by 0 (Up 2) ∷ room_by 1 (Over 1) ∷ [])
-        (room_by 0 (No 1) ∷ []) (room_by 1 (Over 1) ∷ []) }
+    ensures others { Parts (IsRoomHistory 2) (room_by 0 (Up 2) ∷ room_by 1 (Over 1) ∷ []) (room_by 0 (No 1) ∷ [])
+        (room_by 1 (Over 1) ∷ []) }
 {}
 
 /// A claim is granted where it fits beside the value, and refused where it does not; no seat gives back more
@@ -29,13 +25,10 @@ pub fn the_answers_of_a_room_are_judged()
     ensures over { Parts (IsRoomHistory 2) (room_by 0 (Up 1) ∷ []) (room_by 1 (Over 2) ∷ []) (room_by 1 (Over 1) ∷ []) }
     ensures release { Parts (IsRoomHistory 2) (room_by 0 (Up 1) ∷ []) (room_by 0 (Release 1) ∷ [])
         (room_by 0 (Release 2) ∷ []) }
-    ensures release_twice { Parts (IsRoomHistory 2)
-        (room_by 0 (Up 1) ∷ room_by 1 (Up 1) ∷ room_by 0 (Release 1) ∷ [])
+    ensures release_twice { Parts (IsRoomHistory 2) (room_by 0 (Up 1) ∷ room_by 1 (Up 1) ∷ room_by 0 (Release 1) ∷ [])
         (room_by 1 (Release 1) ∷ []) (room_by 0 (Release 1) ∷ []) }
-    ensures value_over { Parts (IsRoomHistory 2)
-        (room_by 0 (Up 2) ∷ room_by 1 (Over 1) ∷ room_by 0 (Release 2) ∷ [])
+    ensures value_over { Parts (IsRoomHistory 2) (room_by 0 (Up 2) ∷ room_by 1 (Over 1) ∷ room_by 0 (Release 2) ∷ [])
         (room_by 2 (No 2) ∷ []) (room_by 1 (Back 1) ∷ room_by 2 (No 2) ∷ []) }
-    ensures value_release { Parts (IsRoomHistory 2)
-        (room_by 0 (Up 2) ∷ [])
-        (room_by 1 (No 1) ∷ []) (room_by 0 (Release 1) ∷ room_by 1 (No 1) ∷ []) }
+    ensures value_release { Parts (IsRoomHistory 2) (room_by 0 (Up 2) ∷ []) (room_by 1 (No 1) ∷ [])
+        (room_by 0 (Release 1) ∷ room_by 1 (No 1) ∷ []) }
 {}

@@ -1,7 +1,7 @@
 use Rattle.std.proofs.lemmas.Result.{IfOk-weaker, on_err_weaker}
-use Rattle.fak_processor.proofs.Common.{ProcessorOf, ◌≡◌, ◌∙◌, ap, sym, subst, true, false, rules, [], ◌∷◌, ◌++◌, ℕ, None, spawn, Process, FitsScript, StandsAt, new_process, after_note, child_count, spawned, no_birth, no_slot, Moves}
+use Rattle.fak_processor.proofs.Common.{◌≡◌, ◌∙◌, ap, sym, subst, true, false, rules, [], ◌∷◌, ◌++◌, ℕ, None, spawn, Process, FitsScript, StandsAt, new_process, after_note, child_count, spawned, no_birth, no_slot, Moves}
 use Rattle.fak_run.specs.ListScheduler as lists
-use Rattle.fak_processor.proofs.Stepping.{credited_behind, moves_from, moves_to, moves_unborn, moves_slotless, moves_spawned, moves_enters}
+use Rattle.fak_processor.proofs.Stepping.{entry_of, credited_behind, moves_from, moves_to, moves_unborn, moves_slotless, moves_spawned, moves_enters}
 use Rattle.fak_processor.proofs.processor.Processor.spawn.Goals as goal
 
 pub returns-then-not-branch-clause-general : goal.returns-then-not-branch-clause-general
@@ -59,9 +59,5 @@ returns-clause-general g c =
 
 pub returns-clause-credited : goal.returns-clause-credited
 returns-clause-credited g c =
-    let kept = c.reserve_halted.ensures.same in
-    let claimed = c.claim_birth.ensures.same in
-    let took = c.take_slot.ensures.same in
     on_err_weaker c.make_ready.result (credited_behind c.args.self.now c.take_slot.new.self c.make_ready.new.self
-    (ap (λ (p : ProcessorOf). p.ready) took ∙ (ap (λ (p : ProcessorOf). p.ready) claimed ∙ ap (λ (p : ProcessorOf). p.ready) kept))
-    (ap (λ (p : ProcessorOf). p.busy) took ∙ (ap (λ (p : ProcessorOf). p.busy) claimed ∙ ap (λ (p : ProcessorOf). p.busy) kept))) c.make_ready.ensures.credited
+    (ap entry_of c.take_slot.ensures.same ∙ (ap entry_of c.claim_birth.ensures.same ∙ ap entry_of c.reserve_halted.ensures.same))) c.make_ready.ensures.credited

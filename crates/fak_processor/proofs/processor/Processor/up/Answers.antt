@@ -1,8 +1,8 @@
 use Rattle.std.proofs.lemmas.Result.{IfOk-weaker, on_err_weaker}
-use Rattle.fak_processor.proofs.Common.{◌∙◌, ap, ProcessorOf}
+use Rattle.fak_processor.proofs.Common.{◌∙◌, ap}
 use Rattle.fak_text.specs.Journal.{after_note, upped}
 use Rattle.fak_run.specs.ListScheduler as lists
-use Rattle.fak_processor.proofs.Stepping.{credited_behind, moves_from, moves_to, moves_added, moves_woken, moves_enters}
+use Rattle.fak_processor.proofs.Stepping.{entry_of, credited_behind, moves_from, moves_to, moves_added, moves_woken, moves_enters}
 use Rattle.fak_processor.proofs.processor.Processor.up.Goals as goal
 
 pub returns-in-Ok-None-clause-general : goal.returns-in-Ok-None-clause-general
@@ -21,6 +21,4 @@ returns-in-Ok-Some-clause-general g c =
 
 pub returns-in-Ok-Some-clause-credited : goal.returns-in-Ok-Some-clause-credited
 returns-in-Ok-Some-clause-credited g c =
-    let kept = c.reserve_halted.ensures.same in
-    let woke = c.wake.ensures.same in
-    on_err_weaker c.make_ready.result (credited_behind c.args.self.now c.wake.new.self c.make_ready.new.self (ap (λ (p : ProcessorOf). p.ready) woke ∙ ap (λ (p : ProcessorOf). p.ready) kept) (ap (λ (p : ProcessorOf). p.busy) woke ∙ ap (λ (p : ProcessorOf). p.busy) kept)) c.make_ready.ensures.credited
+    on_err_weaker c.make_ready.result (credited_behind c.args.self.now c.wake.new.self c.make_ready.new.self (ap entry_of c.wake.ensures.same ∙ ap entry_of c.reserve_halted.ensures.same)) c.make_ready.ensures.credited
