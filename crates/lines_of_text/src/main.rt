@@ -175,7 +175,8 @@ pub fn count_lines<R: Threads + Wait + Sync>(
     let ((a, sent), ((b, sent_too), (c, totals))) = run_all(
         rt, &queue, seats, first, second, count,
     );
-    if !sent || !sent_too || !is_empty(queue, a, b, c) {
+    let emptied = is_empty(queue, a, b, c);
+    if !sent || !sent_too || !emptied {
         return None;
     }
     totals
