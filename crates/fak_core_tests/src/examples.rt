@@ -21,12 +21,8 @@ enum Part {
     Deleted(u64, u64, u64),
 }
 
-fn push_all(
-    marks: &mut Vec<Mark<u64>>,
-    seat: u64,
-    kinds: [Kind<u64>; 4],
-) -> Result<(), AllocError> {
-    for kind in kinds {
+fn push_all(marks: &mut Vec<Mark<u64>>, seat: u64, kinds: &[Kind<u64>]) -> Result<(), AllocError> {
+    for &kind in kinds {
         marks.push(Mark { seat, kind })?;
     }
     Ok(())
@@ -35,10 +31,10 @@ fn push_all(
 fn push_parts(marks: &mut Vec<Mark<u64>>, parts: &[Part]) -> Result<(), AllocError> {
     for part in parts {
         match *part {
-            By(seat, kind) => marks.push(Mark { seat, kind })?,
-            Inserted(seat, x, k) => { push_all(marks, seat, [ClaimIn, Put(x), Fill(k), EndIn])? }
-            Deleted(seat, x, k) => { push_all(marks, seat, [ClaimOut, Got(x), Take(k), EndOut])? }
-        }
+            By(seat, kind) => push_all(marks, seat, &[kind]),
+            Inserted(seat, x, k) => push_all(marks, seat, &[ClaimIn, Put(x), Fill(k), EndIn]),
+            Deleted(seat, x, k) => push_all(marks, seat, &[ClaimOut, Got(x), Take(k), EndOut]),
+        }?;
     }
     Ok(())
 }
@@ -92,7 +88,7 @@ fn are_judged(rt: &(impl Abort + AllocGlobal), examples: &[Example]) {
 
 #[test]
 fn the_calls_of_a_queue_are_judged(rt: HostRuntime) {
-    let examples = &[
+    const EXAMPLES: &[Example] = &[
         Example {
             size: 1,
             before: &[Inserted(0, 7, 0)],
@@ -178,12 +174,12 @@ fn the_calls_of_a_queue_are_judged(rt: HostRuntime) {
             may_not: &[By(1, Put(8))],
         },
     ];
-    are_judged(&rt, examples);
+    are_judged(&rt, EXAMPLES);
 }
 
 #[test]
 fn the_answers_of_a_queue_are_judged(rt: HostRuntime) {
-    let examples = &[
+    const EXAMPLES: &[Example] = &[
         Example {
             size: 1,
             before: &[Inserted(0, 7, 0)],
@@ -263,12 +259,12 @@ fn the_answers_of_a_queue_are_judged(rt: HostRuntime) {
             may_not: &[By(1, ClaimOut)],
         },
     ];
-    are_judged(&rt, examples);
+    are_judged(&rt, EXAMPLES);
 }
 
 #[test]
 fn the_counts_of_a_queue_are_judged(rt: HostRuntime) {
-    let examples = &[
+    const EXAMPLES: &[Example] = &[
         Example {
             size: 1,
             before: &[Inserted(0, 7, 0), By(1, OverIn), Deleted(2, 7, 0)],
@@ -299,12 +295,12 @@ fn the_counts_of_a_queue_are_judged(rt: HostRuntime) {
             may_not: &[By(0, EndIn), By(1, NoItem)],
         },
     ];
-    are_judged(&rt, examples);
+    are_judged(&rt, EXAMPLES);
 }
 
 #[test]
 fn the_items_of_a_queue_are_judged(rt: HostRuntime) {
-    let examples = &[
+    const EXAMPLES: &[Example] = &[
         Example {
             size: 2,
             before: &[Inserted(0, 7, 0), Inserted(0, 8, 1), By(1, ClaimOut)],
@@ -330,12 +326,12 @@ fn the_items_of_a_queue_are_judged(rt: HostRuntime) {
             may_not: &[By(1, Got(9))],
         },
     ];
-    are_judged(&rt, examples);
+    are_judged(&rt, EXAMPLES);
 }
 
 #[test]
 fn the_cells_of_a_queue_are_judged(rt: HostRuntime) {
-    let examples = &[
+    const EXAMPLES: &[Example] = &[
         Example {
             size: 2,
             before: &[By(0, ClaimIn), By(1, ClaimIn), By(0, Put(7)), By(1, Put(8))],
@@ -386,5 +382,5 @@ fn the_cells_of_a_queue_are_judged(rt: HostRuntime) {
             may_not: &[By(2, Take(0))],
         },
     ];
-    are_judged(&rt, examples);
+    are_judged(&rt, EXAMPLES);
 }

@@ -1,7 +1,9 @@
 //! Queues and rooms on which many calls are made, one after the other: none is refused for the number before it.
 
+ghost use Rattle.std.specs.Prelude.{◌≤◌};
+
 use super::assertions::assert_equal;
-use crate::queues::{begins, opened};
+use crate::{queues, rooms};
 use fak_core::{CoreFault, QueueCall, QueueCore, RoomCall, RoomCore};
 use std::process::Abort;
 
@@ -18,12 +20,23 @@ fn makes(
     call: QueueCall,
     item: u64,
 ) {
-    begins(rt, core, seat, call);
-    for step in 0..7 {
-        let line = core.advance(rt.alloc(), seat).ok().expect(rt, "a step");
-        assert!(rt; step != 4 || line.found == i128::from(item));
-    }
+    queues::begins(rt, core, seat, call);
+    queues::advances(rt, core, &[seat; 4]);
+    let line = core.advance(rt.alloc(), seat).ok().expect(rt, "a step");
+    assert_equal(rt, line.found, i128::from(item));
+    queues::advances(rt, core, &[seat; 2]);
     assert_equal(rt, core.advance(rt.alloc(), seat), Err(CoreFault::IdleSeat));
+}
+
+/// Inserts the item of this insertion into a queue of this size, where it is full after a deletion.
+fn inserts(rt: &(impl AllocGlobal + Abort), core: &mut QueueCore, size: u64, insertion: u64) {
+    let seat = insertion % 64;
+    if insertion >= size {
+        let oldest = item_of(insertion - size);
+        makes(rt, core, seat, QueueCall::Delete, oldest);
+    }
+    let item = item_of(insertion);
+    makes(rt, core, seat, QueueCall::Insert(item), item);
 }
 
 /// Each seat inserts and deletes in its turn, and the queue stays full.
@@ -34,37 +47,33 @@ fn a_queue_takes_many_items(rt: HostRuntime) {
         (64, 20_000, 159_744),
         (4096, 5_000, 23_616),
     ] {
-        let mut core = opened(&rt, size, 64);
+        let mut core = queues::opened(&rt, size, 64);
         for insertion in 0..insertions {
-            let seat = insertion % 64;
-            if insertion >= size {
-                let oldest = item_of(insertion - size);
-                makes(&rt, &mut core, seat, QueueCall::Delete, oldest);
-            }
-            let item = item_of(insertion);
-            makes(&rt, &mut core, seat, QueueCall::Insert(item), item);
+            inserts(&rt, &mut core, size, insertion);
         }
         assert_equal(&rt, core.marks().len(), marks);
     }
+}
+
+/// Claims this amount and gives it back, with no other claim in the room.
+fn claims_and_releases(rt: &(impl AllocGlobal + Abort), core: &mut RoomCore, seat: u64, amount: u64)
+    requires { (1 ≤ amount) × (amount ≤ 1024) }
+{
+    rooms::begins(rt, core, seat, RoomCall::Tir(amount));
+    rooms::advances(rt, core, &[seat; 2]);
+    assert_equal(rt, core.value(), amount as i64);
+    rooms::begins(rt, core, seat, RoomCall::Release(amount));
+    rooms::advances(rt, core, &[seat]);
+    assert_equal(rt, core.value(), 0);
 }
 
 /// Each seat claims and gives back in its turn, all amounts that a call may have.
 #[test]
 fn a_room_takes_many_claims(rt: HostRuntime) {
     for (bound, claims, marks) in [(1024, 20_000, 40_000), (4_294_967_296, 5_000, 10_000)] {
-        let mut core = RoomCore::new(rt.alloc(), bound, 64)
-            .ok()
-            .expect(&rt, "a room");
+        let mut core = rooms::opened(&rt, bound, 64);
         for claim in 0..claims {
-            let seat = claim % 64;
-            let amount = claim % 1024 + 1;
-            assert!(rt; core.begin(seat, RoomCall::Tir(amount)).is_ok());
-            assert!(rt; core.advance(rt.alloc(), seat).is_ok());
-            assert!(rt; core.advance(rt.alloc(), seat).is_ok());
-            assert_equal(&rt, core.value(), amount as i64);
-            assert!(rt; core.begin(seat, RoomCall::Release(amount)).is_ok());
-            assert!(rt; core.advance(rt.alloc(), seat).is_ok());
-            assert_equal(&rt, core.value(), 0);
+            claims_and_releases(&rt, &mut core, claim % 64, claim % 1024 + 1);
         }
         assert_equal(&rt, core.marks().len(), marks);
     }

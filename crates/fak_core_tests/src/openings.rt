@@ -1,17 +1,22 @@
 //! Cores of each size in range are opened, and each of their seats may begin a call.
 
 use super::assertions::assert_equal;
-use crate::queues::{begins, opened};
-use fak_core::{CoreMove, Line, LineMark, QueueCall, QueueCore, RoomCall, RoomCore};
+use crate::{queues, rooms};
+use fak_core::{CoreMove, Line, LineMark, QueueCall, QueueCore, RoomCall};
 use fak_model::Kind;
 use std::process::Abort;
 
+/// Finds that a call or a step was not refused.
+fn assert_made(rt: &impl Abort, made: bool, size: u64, seats: u64) {
+    assert!(rt; made, "{size}, {seats}");
+}
+
 /// Opens the queue, and has each seat begin to insert an item: all test, then all add.
 fn opens_queue(rt: &(impl AllocGlobal + Abort), size: u64, seats: u64) {
-    let mut core = opened(rt, size, seats);
+    let mut core = queues::opened(rt, size, seats);
     for seat in 0..seats {
-        begins(rt, &mut core, seat, QueueCall::Insert(seat));
-        assert!(rt; core.advance(rt.alloc(), seat).is_ok(), "{size}, {seats}");
+        queues::begins(rt, &mut core, seat, QueueCall::Insert(seat));
+        assert_made(rt, core.advance(rt.alloc(), seat).is_ok(), size, seats);
     }
     adds_up(rt, &mut core, size, seats);
 }
@@ -48,19 +53,19 @@ fn queues_of_each_size(rt: HostRuntime) {
 
 /// Opens the room, and has each seat claim as much as one claim may where it fits.
 fn opens_room(rt: &(impl AllocGlobal + Abort), bound: u64, seats: u64) {
-    let mut core = RoomCore::new(rt.alloc(), bound, seats)
-        .ok()
-        .expect(rt, "a room");
+    let mut core = rooms::opened(rt, bound, seats);
     let amount = bound.max(1).min(1_024);
     for seat in 0..seats {
-        assert!(rt;
+        assert_made(
+            rt,
             core.begin(seat, RoomCall::Tir(amount)).is_ok(),
-            "{bound}, {seats}"
+            bound,
+            seats,
         );
-        assert!(rt; core.advance(rt.alloc(), seat).is_ok(), "{bound}, {seats}");
+        assert_made(rt, core.advance(rt.alloc(), seat).is_ok(), bound, seats);
     }
     if bound > 0 {
-        assert!(rt; core.advance(rt.alloc(), 0).is_ok(), "{bound}, {seats}");
+        assert_made(rt, core.advance(rt.alloc(), 0).is_ok(), bound, seats);
         assert_equal(rt, core.value(), amount as i64);
     }
 }

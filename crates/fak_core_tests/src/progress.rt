@@ -4,6 +4,7 @@ use super::assertions::assert_equal;
 use crate::queues::{begins, opened};
 use fak_core::{CoreFault, Line, LineMark, QueueCall, QueueCore};
 use fak_model::Kind;
+use std::ops::Range;
 use std::process::Abort;
 
 /// A seat with the call that it begins, or else with its next step.
@@ -40,21 +41,29 @@ fn step(rt: &(impl AllocGlobal + Abort), core: &mut QueueCore, seat: u64) -> Opt
     }
 }
 
+/// Begins a call, and makes this many steps, with which it does not end.
+fn goes_on(
+    rt: &(impl AllocGlobal + Abort),
+    core: &mut QueueCore,
+    seat: u64,
+    call: QueueCall,
+    steps: u64,
+) {
+    begins(rt, core, seat, call);
+    for _ in 0..steps {
+        assert_equal(rt, step(rt, core, seat).map(ends), Some(false));
+    }
+}
+
 /// Makes a whole call.
 fn makes(rt: &(impl AllocGlobal + Abort), core: &mut QueueCore, seat: u64, call: QueueCall) {
-    begins(rt, core, seat, call);
-    for _ in 0..6 {
-        assert!(rt; !ends(step(rt, core, seat).expect(rt, "a step")));
-    }
-    assert!(rt; ends(step(rt, core, seat).expect(rt, "a step")));
+    goes_on(rt, core, seat, call, 6);
+    assert_equal(rt, step(rt, core, seat).map(ends), Some(true));
 }
 
 /// Begins a call and goes on until it has drawn its ticket.
 fn draws(rt: &(impl AllocGlobal + Abort), core: &mut QueueCore, seat: u64, call: QueueCall) {
-    begins(rt, core, seat, call);
-    for _ in 0..3 {
-        assert!(rt; !ends(step(rt, core, seat).expect(rt, "a step")));
-    }
+    goes_on(rt, core, seat, call, 3);
 }
 
 /// Whether a seat steps among these events.
@@ -67,28 +76,21 @@ fn steps_in(events: &[Event], seat: u64) -> bool {
     false
 }
 
-/// Plays rounds in which each seat steps, but the call of seat 0 stays open.
-fn stays_open(
-    rt: &(impl AllocGlobal + Abort),
-    core: &mut QueueCore,
-    seats: u64,
-    rounds: &[&[Event]],
-) {
-    for &round in rounds {
-        for seat in 0..seats {
-            assert!(rt; steps_in(round, seat));
-        }
-        for &(seat, call) in round {
-            match call {
-                Some(call) => begins(rt, core, seat, call),
-                None => {
-                    let ended = step(rt, core, seat).is_some_and(ends);
-                    assert!(rt; seat != 0 || !ended);
-                }
+/// Plays a round in which each seat steps, but the call of seat 0 stays open.
+fn stays_open(rt: &(impl AllocGlobal + Abort), core: &mut QueueCore, seats: u64, round: &[Event]) {
+    for seat in 0..seats {
+        assert!(rt; steps_in(round, seat));
+    }
+    for &(seat, call) in round {
+        match call {
+            Some(call) => begins(rt, core, seat, call),
+            None => {
+                let ended = step(rt, core, seat).is_some_and(ends);
+                assert!(rt; seat != 0 || !ended);
             }
         }
-        assert_equal(rt, core.begin(0, INSERT), Err(CoreFault::MidCall));
     }
+    assert_equal(rt, core.begin(0, INSERT), Err(CoreFault::MidCall));
 }
 
 /// How many rounds, in each of which the first seats step once, the last of them first, the call of a seat needs to end.
@@ -107,6 +109,16 @@ fn rounds_to_end(
         }
     }
     None
+}
+
+/// Opens a queue, and plays rounds in which the first call of seat 0 stays open: it ends in the round after them.
+fn ends_after(rt: &(impl AllocGlobal + Abort), size: u64, seats: u64, rounds: &[&[Event]]) {
+    let mut core = opened(rt, size, seats);
+    begins(rt, &mut core, 0, INSERT);
+    for &round in rounds {
+        stays_open(rt, &mut core, seats, round);
+    }
+    assert_equal(rt, rounds_to_end(rt, &mut core, seats, 0, 1), Some(1));
 }
 
 /// How many such rounds all seats need to be idle.
@@ -136,9 +148,7 @@ fn marks_of(core: &QueueCore, kind: Kind<u64>) -> usize {
 /// With one cell the bound is 7 rounds, and this call needs them all.
 #[test]
 fn a_call_on_one_cell_ends_in_its_seventh_round(rt: HostRuntime) {
-    let mut core = opened(&rt, 1, 2);
-    begins(&rt, &mut core, 0, INSERT);
-    let rounds: &[&[Event]] = &[
+    const ROUNDS: &[&[Event]] = &[
         &[(1, None), (0, None)],
         &[(1, Some(INSERT)), (1, None), (0, None)],
         &[(0, None), (1, None)],
@@ -146,20 +156,17 @@ fn a_call_on_one_cell_ends_in_its_seventh_round(rt: HostRuntime) {
         &[(0, None), (1, None)],
         &[(1, None), (0, None)],
     ];
-    stays_open(&rt, &mut core, 2, rounds);
-    assert_equal(&rt, rounds_to_end(&rt, &mut core, 2, 0, 1), Some(1));
-    assert_equal(&rt, rounds.len() + 1, 7);
+    ends_after(&rt, 1, 2, ROUNDS);
+    assert_equal(&rt, ROUNDS.len() + 1, 7);
 }
 
 /// Two other seats overtake this call twice. With two cells the bound is 10 rounds; the search found none longer than 9.
 #[test]
 fn a_call_that_others_overtake_ends_in_its_ninth_round(rt: HostRuntime) {
-    let mut core = opened(&rt, 2, 3);
-    begins(&rt, &mut core, 0, INSERT);
-    let delete = Some(QueueCall::Delete);
-    let insert = Some(INSERT);
-    let rounds: &[&[Event]] = &[
-        &[(1, insert), (1, None), (2, insert), (2, None), (0, None)],
+    const DELETES: Option<QueueCall> = Some(QueueCall::Delete);
+    const INSERTS: Option<QueueCall> = Some(INSERT);
+    const ROUNDS: &[&[Event]] = &[
+        &[(1, INSERTS), (1, None), (2, INSERTS), (2, None), (0, None)],
         &[
             (1, None),
             (2, None),
@@ -173,9 +180,9 @@ fn a_call_that_others_overtake_ends_in_its_ninth_round(rt: HostRuntime) {
             (1, None),
             (2, None),
             (2, None),
-            (2, delete),
+            (2, DELETES),
             (2, None),
-            (1, delete),
+            (1, DELETES),
             (1, None),
             (2, None),
             (1, None),
@@ -191,55 +198,58 @@ fn a_call_that_others_overtake_ends_in_its_ninth_round(rt: HostRuntime) {
         &[(1, None), (0, None), (2, None)],
         &[(1, None), (0, None), (2, None)],
         &[(2, None), (0, None), (1, None)],
-        &[(0, None), (1, insert), (1, None), (2, insert), (2, None)],
+        &[(0, None), (1, INSERTS), (1, None), (2, INSERTS), (2, None)],
         &[(1, None), (0, None), (2, None)],
     ];
-    stays_open(&rt, &mut core, 3, rounds);
-    assert_equal(&rt, rounds_to_end(&rt, &mut core, 3, 0, 1), Some(1));
-    assert_equal(&rt, rounds.len() + 1, 9);
+    ends_after(&rt, 2, 3, ROUNDS);
+    assert_equal(&rt, ROUNDS.len() + 1, 9);
+}
+
+/// Makes a whole call of seat 63 at I and D; at i and d the next seat draws a ticket of cell 0.
+fn calls(
+    rt: &(impl AllocGlobal + Abort),
+    core: &mut QueueCore,
+    seats: &mut Range<u64>,
+    letter: u8,
+) {
+    let call = match letter {
+        b'I' | b'i' => INSERT,
+        _ => QueueCall::Delete,
+    };
+    match letter {
+        b'I' | b'D' => makes(rt, core, 63, call),
+        _ => draws(rt, core, seats.next().expect(rt, "a seat"), call),
+    }
+}
+
+/// Finds that the last seat with a ticket of cell 0 ends in this round, where an earlier seat steps later.
+fn last_ends_in(rt: &(impl AllocGlobal + Abort), size: u64, letters: &str, rounds: usize) {
+    let mut core = opened(rt, size, 64);
+    let mut seats = 0..size;
+    for letter in letters.bytes() {
+        calls(rt, &mut core, &mut seats, letter);
+    }
+    assert_equal(rt, seats.next(), None);
+    let last = (0..size).next_back().expect(rt, "a seat");
+    let found = rounds_to_end(rt, &mut core, size, last, 100);
+    assert_equal(rt, found, Some(rounds));
 }
 
 /// A seat for each cell of the queue holds a ticket of cell 0, each for the turn after that of the seat before: where an
 /// earlier seat steps later in each round, the last of them needs all of the 3 size + 1 rounds that the law allows.
 #[test]
 fn seats_of_one_cell_need_three_rounds_each(rt: HostRuntime) {
-    // Seat 63 makes whole calls at I and D; each i and d draws a ticket of cell 0 for the next seat.
-    let cases = [
-        (1, "i", 4),
-        (2, "iId", 7),
-        (3, "iIdIDi", 10),
-        (4, "iIdIIDiDIDId", 13),
-        (5, "iIdIIIDiDDIDIdIDIDi", 16),
-        (
-            8,
-            "iIdIIIIIIDiDDDDDIDIdIIIIDIDiDDDIDIDIdIIDIDIDiDIDIDIDId",
-            25,
-        ),
-    ];
-    for (size, calls, rounds) in cases {
-        let mut core = opened(&rt, size, 64);
-        let mut seats = 0..size;
-        for call in calls.bytes() {
-            match call {
-                b'I' => makes(&rt, &mut core, 63, INSERT),
-                b'D' => makes(&rt, &mut core, 63, QueueCall::Delete),
-                b'i' => draws(&rt, &mut core, seats.next().expect(&rt, "a seat"), INSERT),
-                _ => draws(
-                    &rt,
-                    &mut core,
-                    seats.next().expect(&rt, "a seat"),
-                    QueueCall::Delete,
-                ),
-            }
-        }
-        assert_equal(&rt, seats.next(), None);
-        let last = (0..size).next_back().expect(&rt, "a seat");
-        assert_equal(
-            &rt,
-            rounds_to_end(&rt, &mut core, size, last, 100),
-            Some(rounds),
-        );
-    }
+    last_ends_in(&rt, 1, "i", 4);
+    last_ends_in(&rt, 2, "iId", 7);
+    last_ends_in(&rt, 3, "iIdIDi", 10);
+    last_ends_in(&rt, 4, "iIdIIDiDIDId", 13);
+    last_ends_in(&rt, 5, "iIdIIIDiDDIDIdIDIDi", 16);
+    last_ends_in(
+        &rt,
+        8,
+        "iIdIIIIIIDiDDDDDIDIdIIIIDIDiDDDIDIDIdIIDIDIDiDIDIDIDId",
+        25,
+    );
 }
 
 /// Seat 4 stops with ticket 0, for whose item seat 3 waits. Seats 0 and 1 have ticket 1.
@@ -258,28 +268,33 @@ fn a_stopped_seat_holds_up_its_cell_alone(rt: HostRuntime) {
     assert_equal(&rt, rounds_to_end(&rt, &mut core, 5, 3, 13), Some(6));
 }
 
+/// Has all 64 seats begin this call and pass their test, and finds that the queue is at rest after six rounds.
+fn all_claim(rt: &(impl AllocGlobal + Abort), core: &mut QueueCore, call: QueueCall) {
+    for seat in 0..64 {
+        begins(rt, core, seat, call);
+        assert!(rt; step(rt, core, seat).is_some());
+    }
+    assert_equal(rt, rounds_to_rest(rt, core, 64, 100), Some(6));
+}
+
+/// Finds that of the insertions of all seats and of their deletions this many are granted and withdrawn.
+fn comes_to_rest(rt: &(impl AllocGlobal + Abort), size: u64, granted: usize, withdrawn: usize) {
+    let mut core = opened(rt, size, 64);
+    all_claim(rt, &mut core, INSERT);
+    all_claim(rt, &mut core, QueueCall::Delete);
+    assert_equal(rt, marks_of(&core, Kind::EndIn), granted);
+    assert_equal(rt, marks_of(&core, Kind::BackIn), withdrawn);
+    assert_equal(rt, marks_of(&core, Kind::EndOut), granted);
+    assert_equal(rt, marks_of(&core, Kind::BackOut), withdrawn);
+}
+
 /// All 64 seats pass their test before any adds: as many claims are granted as fit, and the others are withdrawn. Of the
 /// seven steps of a granted call six are left.
 #[test]
 fn a_queue_that_every_seat_claims_comes_to_rest(rt: HostRuntime) {
-    for (size, granted, withdrawn) in [
-        (1, 1, 63),
-        (2, 2, 62),
-        (63, 63, 1),
-        (64, 64, 0),
-        (4096, 64, 0),
-    ] {
-        let mut core = opened(&rt, size, 64);
-        for call in [INSERT, QueueCall::Delete] {
-            for seat in 0..64 {
-                begins(&rt, &mut core, seat, call);
-                assert!(rt; step(&rt, &mut core, seat).is_some());
-            }
-            assert_equal(&rt, rounds_to_rest(&rt, &mut core, 64, 100), Some(6));
-        }
-        assert_equal(&rt, marks_of(&core, Kind::EndIn), granted);
-        assert_equal(&rt, marks_of(&core, Kind::BackIn), withdrawn);
-        assert_equal(&rt, marks_of(&core, Kind::EndOut), granted);
-        assert_equal(&rt, marks_of(&core, Kind::BackOut), withdrawn);
-    }
+    comes_to_rest(&rt, 1, 1, 63);
+    comes_to_rest(&rt, 2, 2, 62);
+    comes_to_rest(&rt, 63, 63, 1);
+    comes_to_rest(&rt, 64, 64, 0);
+    comes_to_rest(&rt, 4096, 64, 0);
 }

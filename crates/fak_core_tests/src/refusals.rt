@@ -1,75 +1,97 @@
 //! A refused call leaves a core as it was, and one that found no memory can be tried again.
 
 use super::assertions::assert_equal;
-use crate::queues::{DELETED, INSERTED, begins, opened};
+use crate::queues::{DELETED, INSERTED, Step, advances, begins, opened};
+use crate::rooms;
 use fak_core::{CoreFault, CoreMove, Line, LineMark, QueueCall, QueueCore, RoomCall, RoomCore};
+use std::fmt::Debug;
 use std::process::Abort;
+
+/// Finds that a call or a step was refused so, and left the core as it was before.
+fn assert_refused<R: Drop, C: PartialEq + Debug>(
+    rt: &impl Abort,
+    found: Result<R, CoreFault>,
+    fault: CoreFault,
+    core: &C,
+    before: &C,
+) {
+    assert_equal(rt, found.err(), Some(fault));
+    assert_equal(rt, core, before);
+}
 
 /// A queue with one item, in which seat 0 has claimed it, and seat 1 is idle.
 fn claimed_queue(rt: &(impl AllocGlobal + Abort)) -> QueueCore {
     let mut core = opened(rt, 1, 2);
     begins(rt, &mut core, 0, QueueCall::Insert(7));
-    for _ in INSERTED {
-        assert!(rt; core.advance(rt.alloc(), 0).is_ok());
-    }
+    advances(rt, &mut core, &[0; 7]);
     begins(rt, &mut core, 0, QueueCall::Delete);
-    for _ in 0..2 {
-        assert!(rt; core.advance(rt.alloc(), 0).is_ok());
-    }
+    advances(rt, &mut core, &[0; 2]);
     core
+}
+
+/// Finds that a queue refuses what seats may not do, and stays as it was before.
+fn refuses_calls(rt: &(impl AllocGlobal + Abort), core: &mut QueueCore, before: &QueueCore) {
+    for call in [QueueCall::Insert(8), QueueCall::Delete, QueueCall::Shut] {
+        let found = core.begin(2, call);
+        assert_refused(rt, found, CoreFault::NoSuchSeat, &*core, before);
+        let found = core.begin(0, call);
+        assert_refused(rt, found, CoreFault::MidCall, &*core, before);
+    }
+    let found = core.advance(rt.alloc(), 2);
+    assert_refused(rt, found, CoreFault::NoSuchSeat, &*core, before);
+    let found = core.advance(rt.alloc(), 1);
+    assert_refused(rt, found, CoreFault::IdleSeat, &*core, before);
 }
 
 #[test]
 fn a_refused_call_leaves_a_queue_as_it_was(rt: HostRuntime) {
     let before = claimed_queue(&rt);
     let mut core = claimed_queue(&rt);
-    let calls = [QueueCall::Insert(8), QueueCall::Delete, QueueCall::Shut];
-    for call in calls {
-        assert_equal(&rt, core.begin(2, call), Err(CoreFault::NoSuchSeat));
-        assert_equal(&rt, &core, &before);
-        assert_equal(&rt, core.begin(0, call), Err(CoreFault::MidCall));
-        assert_equal(&rt, &core, &before);
-    }
-    assert_equal(&rt, core.advance(rt.alloc(), 2), Err(CoreFault::NoSuchSeat));
-    assert_equal(&rt, &core, &before);
-    assert_equal(&rt, core.advance(rt.alloc(), 1), Err(CoreFault::IdleSeat));
-    assert_equal(&rt, &core, &before);
+    refuses_calls(&rt, &mut core, &before);
     begins(&rt, &mut core, 1, QueueCall::Shut);
-    assert_ne!(rt; core, before);
+    assert_equal(&rt, core == before, false);
 }
 
 /// A room of 5 in which seat 0 holds 3 and seat 1 holds nothing.
 fn claimed_room(rt: &(impl AllocGlobal + Abort)) -> RoomCore {
-    let mut core = RoomCore::new(rt.alloc(), 5, 2).ok().expect(rt, "a room");
-    assert!(rt; core.begin(0, RoomCall::Tir(3)).is_ok());
-    for _ in 0..2 {
-        assert!(rt; core.advance(rt.alloc(), 0).is_ok());
-    }
+    let mut core = rooms::opened(rt, 5, 2);
+    rooms::begins(rt, &mut core, 0, RoomCall::Tir(3));
+    rooms::advances(rt, &mut core, &[0; 2]);
     core
+}
+
+/// Finds that a room refuses what seats may not do, and stays as it was before.
+fn refuses_claims(rt: &(impl AllocGlobal + Abort), core: &mut RoomCore, before: &RoomCore) {
+    for (seat, call, fault) in [
+        (2, RoomCall::Tir(1), CoreFault::NoSuchSeat),
+        (2, RoomCall::Release(1), CoreFault::NoSuchSeat),
+        (2, RoomCall::Release(4), CoreFault::NoSuchSeat),
+        (0, RoomCall::Release(4), CoreFault::NotHeld),
+        (0, RoomCall::Release(1024), CoreFault::NotHeld),
+        (1, RoomCall::Release(1), CoreFault::NotHeld),
+    ] {
+        assert_refused(rt, core.begin(seat, call), fault, &*core, before);
+    }
+    let found = core.advance(rt.alloc(), 2);
+    assert_refused(rt, found, CoreFault::NoSuchSeat, &*core, before);
+    let found = core.advance(rt.alloc(), 1);
+    assert_refused(rt, found, CoreFault::IdleSeat, &*core, before);
 }
 
 #[test]
 fn a_refused_call_leaves_a_room_as_it_was(rt: HostRuntime) {
     let before = claimed_room(&rt);
     let mut core = claimed_room(&rt);
+    refuses_claims(&rt, &mut core, &before);
+    rooms::begins(&rt, &mut core, 0, RoomCall::Release(1));
+    assert_equal(&rt, core == before, false);
+}
+
+/// Finds that seat 0 may neither claim nor give back, as it is in a call.
+fn claims_nothing(rt: &impl Abort, core: &mut RoomCore) {
     for call in [RoomCall::Tir(1), RoomCall::Release(1), RoomCall::Release(4)] {
-        assert_equal(&rt, core.begin(2, call), Err(CoreFault::NoSuchSeat));
-        assert_equal(&rt, &core, &before);
+        assert_equal(rt, core.begin(0, call), Err(CoreFault::MidCall));
     }
-    for (seat, amount) in [(0, 4), (0, 1024), (1, 1)] {
-        assert_equal(
-            &rt,
-            core.begin(seat, RoomCall::Release(amount)),
-            Err(CoreFault::NotHeld),
-        );
-        assert_equal(&rt, &core, &before);
-    }
-    assert_equal(&rt, core.advance(rt.alloc(), 2), Err(CoreFault::NoSuchSeat));
-    assert_equal(&rt, &core, &before);
-    assert_equal(&rt, core.advance(rt.alloc(), 1), Err(CoreFault::IdleSeat));
-    assert_equal(&rt, &core, &before);
-    assert!(rt; core.begin(0, RoomCall::Release(1)).is_ok());
-    assert_ne!(rt; core, before);
 }
 
 /// The call of seat 0 is still to test, to add, to withdraw or to give back, and it holds 3: whatever it asks for
@@ -84,14 +106,10 @@ fn a_room_seat_in_mid_call_begins_nothing(rt: HostRuntime) {
     ];
     for (call, seats) in cases {
         let mut core = claimed_room(&rt);
-        assert!(rt; core.begin(0, call).is_ok());
-        assert!(rt; core.begin(1, RoomCall::Tir(2)).is_ok());
-        for &seat in seats {
-            assert!(rt; core.advance(rt.alloc(), seat).is_ok());
-        }
-        for call in [RoomCall::Tir(1), RoomCall::Release(1), RoomCall::Release(4)] {
-            assert_equal(&rt, core.begin(0, call), Err(CoreFault::MidCall));
-        }
+        rooms::begins(&rt, &mut core, 0, call);
+        rooms::begins(&rt, &mut core, 1, RoomCall::Tir(2));
+        rooms::advances(&rt, &mut core, seats);
+        claims_nothing(&rt, &mut core);
     }
 }
 
@@ -100,9 +118,7 @@ fn called_queue(rt: &(impl AllocGlobal + Abort), call: QueueCall) -> QueueCore {
     let mut core = opened(rt, 1, 2);
     if matches!(call, QueueCall::Delete) {
         begins(rt, &mut core, 1, QueueCall::Insert(7));
-        for _ in INSERTED {
-            assert!(rt; core.advance(rt.alloc(), 1).is_ok());
-        }
+        advances(rt, &mut core, &[1; 7]);
     }
     begins(rt, &mut core, 0, call);
     begins(rt, &mut core, 1, call);
@@ -116,38 +132,41 @@ fn begins_nothing(rt: &impl Abort, core: &mut QueueCore) {
     }
 }
 
+/// Calls of two seats, the steps that they make, and the step that seat 0 is then at.
+const MID_CALLS: &[(QueueCall, &[u64], CoreMove)] = &[
+    (QueueCall::Insert(7), &[], CoreMove::TestUp),
+    (QueueCall::Insert(7), &[0], CoreMove::AddUp),
+    (QueueCall::Insert(7), &[0, 1, 1, 0], CoreMove::BackUp),
+    (QueueCall::Insert(7), &[0; 2], CoreMove::TicketIn),
+    (QueueCall::Insert(7), &[0; 3], CoreMove::TurnIn),
+    (QueueCall::Insert(7), &[0; 4], CoreMove::StoreItem),
+    (QueueCall::Insert(7), &[0; 5], CoreMove::SetFull),
+    (QueueCall::Insert(7), &[0; 6], CoreMove::EndIn),
+    (QueueCall::Delete, &[], CoreMove::TestLow),
+    (QueueCall::Delete, &[0], CoreMove::SubLow),
+    (QueueCall::Delete, &[0, 1, 1, 0], CoreMove::BackLow),
+    (QueueCall::Delete, &[0; 2], CoreMove::TicketOut),
+    (QueueCall::Delete, &[0; 3], CoreMove::TurnOut),
+    (QueueCall::Delete, &[0; 4], CoreMove::LoadItem),
+    (QueueCall::Delete, &[0; 5], CoreMove::SetFree),
+    (QueueCall::Delete, &[0; 6], CoreMove::EndOut),
+    (QueueCall::Shut, &[], CoreMove::Shut),
+];
+
+/// Finds that seat 0, after these steps of a call, may begin none, and that its next step is this one.
+fn stays_in_call(rt: &(impl AllocGlobal + Abort), call: QueueCall, seats: &[u64], next: CoreMove) {
+    let mut core = called_queue(rt, call);
+    advances(rt, &mut core, seats);
+    begins_nothing(rt, &mut core);
+    let step = core.advance(rt.alloc(), 0).map(|line| line.step);
+    assert_equal(rt, step, Ok(next));
+}
+
 /// The call of seat 0 has come to each step that it can be at, and goes on with that step after what was refused.
 #[test]
 fn a_queue_seat_in_mid_call_begins_nothing(rt: HostRuntime) {
-    let insert = QueueCall::Insert(7);
-    let delete = QueueCall::Delete;
-    let cases: [(QueueCall, &[u64], CoreMove); 17] = [
-        (insert, &[], CoreMove::TestUp),
-        (insert, &[0], CoreMove::AddUp),
-        (insert, &[0, 1, 1, 0], CoreMove::BackUp),
-        (insert, &[0; 2], CoreMove::TicketIn),
-        (insert, &[0; 3], CoreMove::TurnIn),
-        (insert, &[0; 4], CoreMove::StoreItem),
-        (insert, &[0; 5], CoreMove::SetFull),
-        (insert, &[0; 6], CoreMove::EndIn),
-        (delete, &[], CoreMove::TestLow),
-        (delete, &[0], CoreMove::SubLow),
-        (delete, &[0, 1, 1, 0], CoreMove::BackLow),
-        (delete, &[0; 2], CoreMove::TicketOut),
-        (delete, &[0; 3], CoreMove::TurnOut),
-        (delete, &[0; 4], CoreMove::LoadItem),
-        (delete, &[0; 5], CoreMove::SetFree),
-        (delete, &[0; 6], CoreMove::EndOut),
-        (QueueCall::Shut, &[], CoreMove::Shut),
-    ];
-    for (call, seats, next) in cases {
-        let mut core = called_queue(&rt, call);
-        for &seat in seats {
-            assert!(rt; core.advance(rt.alloc(), seat).is_ok());
-        }
-        begins_nothing(&rt, &mut core);
-        let line = core.advance(rt.alloc(), 0).ok().expect(&rt, "a step");
-        assert_equal(&rt, line.step, next);
+    for &(call, seats, next) in MID_CALLS {
+        stays_in_call(&rt, call, seats, next);
     }
 }
 
@@ -177,29 +196,46 @@ fn insists(
     core.advance(rt.alloc(), seat)
 }
 
+/// Makes this step on both cores, each of which tries it once more where there was no memory.
+fn makes_both(
+    rt: &(impl AllocGlobal + Abort),
+    core: &mut QueueCore,
+    twin: &mut QueueCore,
+    (seat, step, found, kind): Step,
+) {
+    let line = Line {
+        seat,
+        step,
+        found,
+        mark: kind.map(LineMark::Queue),
+    };
+    assert_equal(rt, insists(rt, core, twin, seat), Ok(line));
+    if twin.advance(rt.alloc(), seat) == Err(CoreFault::Memory) {
+        assert_equal(rt, twin.advance(rt.alloc(), seat), Ok(line));
+    }
+    assert_equal(rt, &*core, &*twin);
+}
+
+/// Begins a call of seat 0 on both cores, and makes these steps of it.
+fn plays_both(
+    rt: &(impl AllocGlobal + Abort),
+    core: &mut QueueCore,
+    twin: &mut QueueCore,
+    call: QueueCall,
+    trace: &[Step],
+) {
+    begins(rt, core, 0, call);
+    begins(rt, twin, 0, call);
+    for &step in trace {
+        makes_both(rt, core, twin, step);
+    }
+}
+
 /// With `rt try --test --fail-alloc N` the Nth allocation fails, here that of an opening or of a mark.
 #[test]
 fn a_step_that_found_no_memory_is_made_at_the_next_try(rt: HostRuntime) {
     let mut core = reopened(&rt);
     let mut twin = reopened(&rt);
-    for (call, trace) in [
-        (QueueCall::Insert(7), INSERTED),
-        (QueueCall::Delete, DELETED),
-    ] {
-        begins(&rt, &mut core, 0, call);
-        begins(&rt, &mut twin, 0, call);
-        for (seat, step, found, kind) in trace {
-            let line = Line {
-                seat,
-                step,
-                found,
-                mark: kind.map(LineMark::Queue),
-            };
-            assert_equal(&rt, insists(&rt, &mut core, &twin, seat), Ok(line));
-            if twin.advance(rt.alloc(), seat) == Err(CoreFault::Memory) {
-                assert_equal(&rt, twin.advance(rt.alloc(), seat), Ok(line));
-            }
-            assert_equal(&rt, &core, &twin);
-        }
-    }
+    plays_both(&rt, &mut core, &mut twin, QueueCall::Insert(7), &INSERTED);
+    plays_both(&rt, &mut core, &mut twin, QueueCall::Delete, &DELETED);
 }

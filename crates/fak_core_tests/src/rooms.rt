@@ -1,46 +1,65 @@
 //! Schedules on a room, step by step, and each refusal.
 
+ghost use Rattle.std.specs.Prelude.{◌≡◌, ◌≤◌, length};
+ghost use Rattle.fak_core.specs.Room.{amount_of};
+
 use super::assertions::assert_equal;
 use fak_core::{CoreFault, CoreMove, Line, LineMark, RoomCall, RoomCore};
 use fak_model::{RoomKind, RoomMark};
+use std::alloc::Global;
 use std::process::Abort;
 
-/// One atomic step.
-fn line(seat: u64, step: CoreMove, found: i128, kind: Option<RoomKind>) -> Result<Line, CoreFault> {
-    Ok(Line {
-        seat,
-        step,
-        found,
-        mark: kind.map(LineMark::Room),
-    })
+/// A room of this bound with this many seats.
+pub(crate) fn opened(rt: &(impl AllocGlobal + Abort), bound: u64, seats: u64) -> RoomCore
+    ensures { length result.seats ≡ seats }
+{
+    RoomCore::new(rt.alloc(), bound, seats)
+        .ok()
+        .expect(rt, "a room")
+}
+
+/// Begins a call, which is not refused.
+pub(crate) fn begins(rt: &impl Abort, core: &mut RoomCore, seat: u64, call: RoomCall)
+    requires { (1 ≤ amount_of call) × (amount_of call ≤ 1024) }
+    ensures { length core.new.seats ≡ length core.old.seats }
+{
+    assert!(rt; core.begin(seat, call).is_ok());
+}
+
+/// Makes the next steps of these seats, in this order, none of which is refused.
+pub(crate) fn advances(rt: &(impl AllocGlobal + Abort), core: &mut RoomCore, seats: &[u64]) {
+    for &seat in seats {
+        assert!(rt; core.advance(rt.alloc(), seat).is_ok());
+    }
 }
 
 /// A step of a seat: which it is, what it finds, and the mark that it leaves.
 type Step = (u64, CoreMove, i128, Option<RoomKind>);
 
+/// Makes the next step of a seat, which is to be this one.
+fn makes(rt: &(impl AllocGlobal + Abort), core: &mut RoomCore, next: Step)
+    ensures { length core.new.seats ≡ length core.old.seats }
+{
+    let (seat, step, found, kind) = next;
+    let line = Line {
+        seat,
+        step,
+        found,
+        mark: kind.map(LineMark::Room),
+    };
+    assert_equal(rt, core.advance(rt.alloc(), seat), Ok(line));
+}
+
 /// Makes the next steps, which are to be these.
 fn steps(rt: &(impl AllocGlobal + Abort), core: &mut RoomCore, trace: &[Step]) {
-    for &(seat, step, found, kind) in trace {
-        assert_equal(
-            rt,
-            core.advance(rt.alloc(), seat),
-            line(seat, step, found, kind),
-        );
+    for &step in trace {
+        makes(rt, core, step);
     }
 }
 
 #[test]
 fn a_second_claim_is_refused_at_the_test(rt: HostRuntime) {
-    let mut core = RoomCore::new(rt.alloc(), 1, 2).ok().expect(&rt, "a room");
-    assert!(rt; core.begin(0, RoomCall::Tir(1)).is_ok());
-    assert!(rt; core.advance(rt.alloc(), 0) == line(0, CoreMove::Test, 0, None));
-    assert!(rt; core.advance(rt.alloc(), 0) == line(0, CoreMove::Add, 0, Some(RoomKind::Up(1))));
-    assert!(rt; core.begin(1, RoomCall::Tir(1)).is_ok());
-    assert!(rt; core.advance(rt.alloc(), 1) == line(1, CoreMove::Test, 1, Some(RoomKind::No(1))));
-    assert_equal(&rt, core.value(), 1);
-    assert_equal(&rt, core.held(0), 1);
-    assert_equal(&rt, core.held(1), 0);
-    let marks = [
+    const MARKS: [RoomMark; 2] = [
         RoomMark {
             seat: 0,
             kind: RoomKind::Up(1),
@@ -50,14 +69,27 @@ fn a_second_claim_is_refused_at_the_test(rt: HostRuntime) {
             kind: RoomKind::No(1),
         },
     ];
-    assert_equal(&rt, core.marks(), &marks[..]);
+    let mut core = opened(&rt, 1, 2);
+    begins(&rt, &mut core, 0, RoomCall::Tir(1));
+    makes(&rt, &mut core, (0, CoreMove::Test, 0, None));
+    makes(&rt, &mut core, (0, CoreMove::Add, 0, Some(RoomKind::Up(1))));
+    begins(&rt, &mut core, 1, RoomCall::Tir(1));
+    makes(
+        &rt,
+        &mut core,
+        (1, CoreMove::Test, 1, Some(RoomKind::No(1))),
+    );
+    assert_equal(&rt, core.value(), 1);
+    assert_equal(&rt, core.held(0), 1);
+    assert_equal(&rt, core.held(1), 0);
+    assert_equal(&rt, core.marks(), &MARKS[..]);
 }
 
 #[test]
 fn a_claim_over_the_bound_is_withdrawn(rt: HostRuntime) {
-    let mut core = RoomCore::new(rt.alloc(), 1, 2).ok().expect(&rt, "a room");
-    assert!(rt; core.begin(0, RoomCall::Tir(1)).is_ok());
-    assert!(rt; core.begin(1, RoomCall::Tir(1)).is_ok());
+    let mut core = opened(&rt, 1, 2);
+    begins(&rt, &mut core, 0, RoomCall::Tir(1));
+    begins(&rt, &mut core, 1, RoomCall::Tir(1));
     steps(
         &rt,
         &mut core,
@@ -74,8 +106,8 @@ fn a_claim_over_the_bound_is_withdrawn(rt: HostRuntime) {
 
 #[test]
 fn refused_calls_leave_the_others_as_they_were(rt: HostRuntime) {
-    let mut core = RoomCore::new(rt.alloc(), 5, 2).ok().expect(&rt, "a room");
-    assert!(rt; core.begin(0, RoomCall::Tir(3)).is_ok());
+    let mut core = opened(&rt, 5, 2);
+    begins(&rt, &mut core, 0, RoomCall::Tir(3));
     steps(
         &rt,
         &mut core,
@@ -84,14 +116,18 @@ fn refused_calls_leave_the_others_as_they_were(rt: HostRuntime) {
             (0, CoreMove::Add, 0, Some(RoomKind::Up(3))),
         ],
     );
-    assert!(rt; core.begin(1, RoomCall::Tir(3)).is_ok());
+    begins(&rt, &mut core, 1, RoomCall::Tir(3));
     steps(
         &rt,
         &mut core,
         &[(1, CoreMove::Test, 3, Some(RoomKind::No(3)))],
     );
-    assert!(rt; core.begin(1, RoomCall::Tir(2)).is_ok());
-    assert!(rt; core.begin(1, RoomCall::Tir(2)) == Err(CoreFault::MidCall));
+    begins(&rt, &mut core, 1, RoomCall::Tir(2));
+    assert_equal(
+        &rt,
+        core.begin(1, RoomCall::Tir(2)),
+        Err(CoreFault::MidCall),
+    );
     steps(
         &rt,
         &mut core,
@@ -100,28 +136,40 @@ fn refused_calls_leave_the_others_as_they_were(rt: HostRuntime) {
             (1, CoreMove::Add, 3, Some(RoomKind::Up(2))),
         ],
     );
-    assert!(rt; core.advance(rt.alloc(), 1) == Err(CoreFault::IdleSeat));
-    assert!(rt; core.begin(0, RoomCall::Release(4)) == Err(CoreFault::NotHeld));
-    assert!(rt; core.begin(0, RoomCall::Release(3)).is_ok());
+    assert_equal(&rt, core.advance(rt.alloc(), 1), Err(CoreFault::IdleSeat));
+    assert_equal(
+        &rt,
+        core.begin(0, RoomCall::Release(4)),
+        Err(CoreFault::NotHeld),
+    );
+    begins(&rt, &mut core, 0, RoomCall::Release(3));
     steps(
         &rt,
         &mut core,
         &[(0, CoreMove::Release, 5, Some(RoomKind::Release(3)))],
     );
-    assert!(rt; core.advance(rt.alloc(), 2) == Err(CoreFault::NoSuchSeat));
-    assert!(rt; core.begin(2, RoomCall::Release(1)) == Err(CoreFault::NoSuchSeat));
+    assert_equal(&rt, core.advance(rt.alloc(), 2), Err(CoreFault::NoSuchSeat));
+    assert_equal(
+        &rt,
+        core.begin(2, RoomCall::Release(1)),
+        Err(CoreFault::NoSuchSeat),
+    );
     assert_equal(&rt, core.value(), 2);
+}
+
+/// The fault of an opening, if any.
+fn fault_of(alloc: Global, bound: u64, seats: u64) -> Option<CoreFault> {
+    RoomCore::new(alloc, bound, seats).err()
 }
 
 #[test]
 fn bounds_and_seats_out_of_range_are_refused(rt: HostRuntime) {
-    assert!(rt;
-        matches!(
-            RoomCore::new(rt.alloc(), 4_294_967_297, 0),
-            Err(CoreFault::BadSize)
-        )
+    assert_equal(
+        &rt,
+        fault_of(rt.alloc(), 4_294_967_297, 0),
+        Some(CoreFault::BadSize),
     );
-    assert!(rt; matches!(RoomCore::new(rt.alloc(), 0, 0), Err(CoreFault::BadSeats)));
-    assert!(rt; matches!(RoomCore::new(rt.alloc(), 0, 65), Err(CoreFault::BadSeats)));
-    assert!(rt; RoomCore::new(rt.alloc(), 4_294_967_296, 64).is_ok());
+    assert_equal(&rt, fault_of(rt.alloc(), 0, 0), Some(CoreFault::BadSeats));
+    assert_equal(&rt, fault_of(rt.alloc(), 0, 65), Some(CoreFault::BadSeats));
+    assert_equal(&rt, fault_of(rt.alloc(), 4_294_967_296, 64), None);
 }
