@@ -1,15 +1,16 @@
-use crate::inputs::Input;
+use crate::inputs::{Input, holds_at};
 use fak_text::{Field, TextFault};
 use std::alloc::{AllocError, Global};
 use std::fmt::Display;
 use std::process::Abort;
 
-/// Whether a value is written so.
-fn is_written<D: Display>(alloc: Global, value: &D, want: &str) -> bool {
-    match value.to_string(alloc) {
+/// Finds that a value is written so.
+fn is_written<D: Display>(rt: &(impl Abort + AllocGlobal), value: &D, want: &str) {
+    let is_so = match value.to_string(rt.alloc()) {
         Ok(text) => text.as_str() == want,
         Err(_) => false,
-    }
+    };
+    holds_at(rt, is_so, want);
 }
 
 #[test]
@@ -32,7 +33,7 @@ fn faults_are_one_line_each(rt: HostRuntime) {
         (TextFault::Memory, "fak: out of memory"),
     ];
     for (fault, want) in rows {
-        assert!(rt; is_written(rt.alloc(), fault, want), "at {want}");
+        is_written(&rt, fault, want);
     }
 }
 
@@ -57,8 +58,8 @@ fn fields_are_named_as_their_keys(rt: HostRuntime) {
         (Field::Start, "start"),
     ];
     for (field, want) in rows {
-        assert!(rt; is_written(rt.alloc(), field, want), "at {want}");
-        assert!(rt; field.name() == *want, "at {want}");
+        is_written(&rt, field, want);
+        holds_at(&rt, field.name() == *want, want);
     }
 }
 
@@ -109,8 +110,8 @@ fn values_that_are_no_object(rt: HostRuntime) {
 fn fault_of_nested(alloc: Global, depth: usize) -> Result<Option<TextFault>, AllocError> {
     let left = "[".repeat(alloc, depth)?;
     let right = "]".repeat(alloc, depth)?;
-    let text = [r#"{"size":1,"marks":[],"other":"#, &left, &right, "}"].concat(alloc)?;
-    Ok(Input::History.fault(alloc, text.as_bytes()))
+    let parts = [r#"{"size":1,"marks":[],"other":"#, &left, &right, "}"];
+    Input::History.fault_of_parts(alloc, &parts)
 }
 
 #[test]

@@ -1,6 +1,6 @@
 //! What is read from texts, and where the first fault of each is.
 
-use fak_text::{TextFault, read_history, read_schedule, read_script};
+use fak_text::{Script, Step, TextFault, read_history, read_schedule, read_script};
 use std::alloc::{AllocError, Global};
 use std::process::Abort;
 
@@ -22,17 +22,25 @@ impl Input {
         }
     }
 
-    /// The fault of what is between these two texts.
-    pub fn fault_between(
+    /// The fault of these parts of a text, one after another.
+    pub fn fault_of_parts(
         self,
         alloc: Global,
-        before: &str,
-        middle: &str,
-        after: &str,
+        parts: &[&str],
     ) -> Result<Option<TextFault>, AllocError> {
-        let text = [before, middle, after].concat(alloc)?;
+        let text = parts.concat(alloc)?;
         Ok(self.fault(alloc, text.as_bytes()))
     }
+}
+
+/// The first step of the first program.
+pub fn first_step(script: &Script) -> Option<&Step> {
+    script.programs().first()?.first()
+}
+
+/// Finds that this holds, at this text.
+pub fn holds_at(rt: &impl Abort, holds: bool, text: &str) {
+    assert!(rt; holds, "at {text}");
 }
 
 /// Finds that each of these, between the two texts, makes an input with this fault.
@@ -44,9 +52,7 @@ pub fn have_faults(
     rows: &[(&str, TextFault)],
 ) {
     for &(row, want) in rows {
-        let fault = input.fault_between(rt.alloc(), before, row, after);
-        if fault != Ok(Some(want)) {
-            panic!(rt; "at {row}")
-        }
+        let fault = input.fault_of_parts(rt.alloc(), &[before, row, after]);
+        holds_at(rt, fault == Ok(Some(want)), row);
     }
 }

@@ -1,8 +1,7 @@
+use crate::counts::{Items, has_count};
 use crate::inputs::{Input, have_faults};
-use crate::script::repeated;
 use fak_core::{QueueCall, RoomCall};
 use fak_text::{Act, Event, Field, Object, TextFault, read_schedule};
-use std::alloc::Global;
 use std::process::Abort;
 
 const EVENTS: TextFault = TextFault::Range(Field::Events);
@@ -214,17 +213,13 @@ fn the_first_fault_of_the_events(rt: HostRuntime) {
     have_faults(&rt, Input::Schedule, QUEUE, "]}", rows);
 }
 
-/// How many events there are, where these come after others.
-fn count_with(alloc: Global, before: &str, events: &str) -> Result<usize, TextFault> {
-    let text = [ROOM, before, events, "]}"].concat(alloc)?;
-    let schedule = read_schedule(alloc, text.as_bytes())?;
-    Ok(schedule.events.len())
-}
-
 #[test]
 fn a_schedule_has_at_most_16384_events(rt: HostRuntime) {
-    let events = repeated(&rt, r#"[0,"step"]"#, 16_384).expect(&rt, "memory");
-    assert!(rt; count_with(rt.alloc(), "", &events) == Ok(16_384));
+    let step = r#"[0,"step"]"#;
+    let row = (Items::Events, ROOM, step, "]}", 16_384, Field::Events);
+    has_count(&rt, &row, 16_384);
     // their number is tested before the first event is
-    assert!(rt; count_with(rt.alloc(), r#"[0,"jump"],"#, &events) == Err(EVENTS));
+    let jump = r#"{"object":"room","bound":1,"seats":1,"events":[[0,"jump"],"#;
+    let row = (Items::Events, jump, step, "]}", 16_383, Field::Events);
+    has_count(&rt, &row, 16_384);
 }

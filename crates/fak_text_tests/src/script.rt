@@ -1,7 +1,7 @@
 ghost use Rattle.std.specs.Prelude.{◌+◌, ◌≤◌, IfOk, length, string_bytes};
 
 #[cfg(test)]
-use crate::inputs::{Input, have_faults};
+use crate::inputs::{Input, have_faults, holds_at};
 use fak_text::{Field, Script, Step, TextFault, read_script};
 use std::alloc::{AllocError, Global};
 use std::process::Abort;
@@ -23,12 +23,13 @@ fn script_of(rt: &(impl Abort + AllocGlobal), text: &str) -> Script {
         .expect(rt, "a script")
 }
 
-/// Whether these are a step of each kind of version 1, with the first of them saying this.
+/// Whether these are a step of each kind of version 1.
 #[cfg(test)]
-fn are_of_each_kind(steps: &[Step], said: String, nothing: String) -> bool {
+fn are_of_version_1(rt: &(impl Abort + AllocGlobal), steps: &[Step]) -> bool {
+    let said = String::from_str(rt.alloc(), " ~").expect(rt, "memory");
     let kinds = [
         Step::Say(said),
-        Step::Say(nothing),
+        Step::Say(String::new(rt.alloc())),
         Step::Yield,
         Step::Down(0),
         Step::Up(1),
@@ -39,14 +40,41 @@ fn are_of_each_kind(steps: &[Step], said: String, nothing: String) -> bool {
     steps == kinds.as_slice()
 }
 
+/// Whether these are the steps that only version 2 has.
 #[cfg(test)]
-fn has_numbers(rt: &impl Abort, script: &Script) {
-    assert!(rt; script.version() == 2);
-    assert!(rt; script.slots() == 64);
-    assert!(rt; script.births() == 1000);
-    assert!(rt; script.quantum() == 1000);
-    assert!(rt; script.stint() == 7);
-    assert!(rt; script.files() == 16);
+fn are_of_version_2(steps: &[Step]) -> bool {
+    steps == [Step::Spawn(1), Step::Shutdown].as_slice()
+}
+
+/// Finds that the numbers are these.
+#[cfg(test)]
+fn are_equal(rt: &impl Abort, found: &[u64], wanted: &[u64]) {
+    assert!(rt; found == wanted);
+}
+
+/// The version, the slots, the births, the quantum, the stint and the files.
+#[cfg(test)]
+fn numbers(script: &Script) -> [u64; 6] {
+    [
+        script.version(),
+        script.slots(),
+        script.births(),
+        script.quantum(),
+        script.stint(),
+        script.files(),
+    ]
+}
+
+/// Finds that the script has the numbers, the lists and the programs of the input with each kind of step.
+#[cfg(test)]
+fn has_parts(rt: &(impl Abort + AllocGlobal), script: &Script) {
+    are_equal(rt, &numbers(script), &[2, 64, 1000, 1000, 7, 16]);
+    are_equal(rt, script.semaphores(), &[0, 1000000]);
+    are_equal(rt, script.start(), &[1, 0, 1]);
+    let programs = script.programs();
+    assert!(rt; programs.len() == 2);
+    holds_at(rt, are_of_version_1(rt, &programs[0]), "program 0");
+    holds_at(rt, are_of_version_2(&programs[1]), "program 1");
 }
 
 #[test]
@@ -54,15 +82,7 @@ fn a_script_of_each_kind_of_step(rt: HostRuntime) {
     let text =
         r#"{"version":2,"slots":64,"births":1000,"quantum":1000,"stint":7,"semaphores":[0,1000000],"files":16,"programs":[
         [["say"," ~"],["say",""],["yield"],["down",0],["up",1],["open",1],["close",4294967296],["stat",7]],[["spawn",1],["shutdown"]]],"start":[1,0,1]}"#;
-    let script = script_of(&rt, text);
-    has_numbers(&rt, &script);
-    assert!(rt; script.semaphores() == [0, 1000000].as_slice());
-    assert!(rt; script.start() == [1, 0, 1].as_slice());
-    let programs = script.programs();
-    assert!(rt; programs.len() == 2);
-    let said = String::from_str(rt.alloc(), " ~").expect(&rt, "memory");
-    assert!(rt; are_of_each_kind(&programs[0], said, String::new(rt.alloc())));
-    assert!(rt; programs[1].as_slice() == [Step::Spawn(1), Step::Shutdown].as_slice());
+    has_parts(&rt, &script_of(&rt, text));
 }
 
 /// The version, the stint, and how many semaphores, programs and processes at the start there are.
@@ -240,7 +260,8 @@ fn the_first_fault_of_the_programs(rt: HostRuntime) {
     ];
     have_faults(&rt, Input::Script, BEFORE_2, AFTER, rows);
     assert!(rt;
-        Input::Script.fault_between(rt.alloc(), BEFORE_2, r#"[["shutdown"]]"#, AFTER) == Ok(None)
+        Input::Script.fault_of_parts(rt.alloc(), &[BEFORE_2, r#"[["shutdown"]]"#, AFTER])
+            == Ok(None)
     );
 }
 
@@ -256,32 +277,45 @@ pub fn repeated(rt: &impl AllocGlobal, item: &str, count: usize) -> Result<Strin
     Ok(text)
 }
 
-/// The fault of a script with this many of an item between two texts.
+/// Many of an item: the text before them, the item, how many they are, the text behind them, and the fault.
 #[cfg(test)]
-fn fault_of_many(
-    rt: &impl AllocGlobal,
-    before: &str,
-    item: &str,
-    count: usize,
-    after: &str,
-) -> Result<Option<TextFault>, AllocError> {
-    let items = repeated(rt, item, count)?;
-    let text = [BEFORE, before, &items, after, r#"],"start":[]}"#].concat(rt.alloc())?;
-    Ok(Input::Script.fault(rt.alloc(), text.as_bytes()))
+type Many = (
+    &'static str,
+    &'static str,
+    usize,
+    &'static str,
+    Option<TextFault>,
+);
+
+/// The fault of a script with many of an item.
+#[cfg(test)]
+fn fault_of_many(rt: &impl AllocGlobal, many: &Many) -> Result<Option<TextFault>, AllocError> {
+    let items = repeated(rt, many.1, many.2)?;
+    let parts = [BEFORE, many.0, &items, many.3, r#"],"start":[]}"#];
+    Input::Script.fault_of_parts(rt.alloc(), &parts)
 }
 
 #[test]
 fn a_script_has_at_most_64_programs_of_1000_steps(rt: HostRuntime) {
-    let jump = Some(TextFault::UnknownOp(1000));
-    let rows = &[
+    let rows: &[Many] = &[
         ("", "[]", 64, "", None),
         ("", "[]", 65, "", Some(PROGRAMS)),
         ("[", r#"["yield"]"#, 1000, "]", None),
         ("[", r#"["jump"]"#, 1001, "]", Some(PROGRAMS)),
-        ("[", r#"["yield"]"#, 1000, r#"],[["jump"]]"#, jump),
+        (
+            "[",
+            r#"["yield"]"#,
+            1000,
+            r#"],[["jump"]]"#,
+            Some(TextFault::UnknownOp(1000)),
+        ),
     ];
-    for &(before, item, count, after, want) in rows {
-        let fault = fault_of_many(&rt, before, item, count, after);
-        assert!(rt; fault == Ok(want), "at {count} of {item} before {after}");
+    for row in rows {
+        assert!(rt;
+            fault_of_many(&rt, row) == Ok(row.4),
+            "at {} of {}",
+            row.2,
+            row.1
+        );
     }
 }

@@ -1,5 +1,6 @@
 ghost use Rattle.fak_text.specs.Names.{IsRefusal};
 
+use crate::inputs::holds_at;
 use crate::spread::spread;
 use LineMark::{Queue, Room};
 use fak_core::{CoreFault, CoreMove, Line, LineMark};
@@ -11,12 +12,13 @@ use fak_text::{
 use std::alloc::{AllocError, Global};
 use std::process::Abort;
 
-/// Whether a text was made, and is this one.
-fn is_text(made: Result<Vec<u8>, TextFault>, want: &str) -> bool {
-    match made {
+/// Finds that a text was made, and is this one.
+fn is_text(rt: &impl Abort, made: Result<Vec<u8>, TextFault>, want: &str) {
+    let is_so = match made {
         Ok(text) => text.as_slice() == want.as_bytes(),
         Err(_) => false,
-    }
+    };
+    holds_at(rt, is_so, want);
 }
 
 /// Finds that the lines of a seat have the texts beside them.
@@ -32,7 +34,7 @@ fn have_texts(
             found,
             mark,
         };
-        assert!(rt; is_text(line_text(rt.alloc(), &line), want), "at {want}");
+        is_text(rt, line_text(rt.alloc(), &line), want);
     }
 }
 
@@ -193,26 +195,23 @@ fn lines_of_queues(rt: HostRuntime) {
     have_texts(&rt, 2, rows);
 }
 
-/// Whether a refusal has this text.
-fn is_refused_as(alloc: Global, seat: u64, fault: &CoreFault, want: &str) -> bool
+/// Finds that a refusal has this text.
+fn is_refused_as(rt: &(impl Abort + AllocGlobal), seat: u64, fault: &CoreFault, want: &str)
     requires { IsRefusal fault.now }
 {
-    is_text(refused_text(alloc, seat, fault), want)
+    is_text(rt, refused_text(rt.alloc(), seat, fault), want);
 }
 
 #[test]
 fn refusals(rt: HostRuntime) {
-    let alloc = rt.alloc();
-    assert!(rt; is_refused_as(alloc, 2, &CoreFault::NoSuchSeat, "2 refused no-such-seat"));
-    assert!(rt; is_refused_as(alloc, 1, &CoreFault::MidCall, "1 refused mid-call"));
-    assert!(rt; is_refused_as(alloc, 1, &CoreFault::IdleSeat, "1 refused idle-seat"));
-    assert!(rt;
-        is_refused_as(
-            alloc,
-            18446744073709551615,
-            &CoreFault::NotHeld,
-            "18446744073709551615 refused not-held"
-        )
+    is_refused_as(&rt, 2, &CoreFault::NoSuchSeat, "2 refused no-such-seat");
+    is_refused_as(&rt, 1, &CoreFault::MidCall, "1 refused mid-call");
+    is_refused_as(&rt, 1, &CoreFault::IdleSeat, "1 refused idle-seat");
+    is_refused_as(
+        &rt,
+        18446744073709551615,
+        &CoreFault::NotHeld,
+        "18446744073709551615 refused not-held",
     );
 }
 
@@ -233,13 +232,11 @@ const JOURNAL: &str = "  say ping pong
   shutdown
 ";
 
-#[test]
-fn a_journal_of_each_kind_of_note(rt: HostRuntime) {
-    assert!(rt; is_text(journal_text(rt.alloc(), &[0], &[]), ""));
-    let ping = String::from_str(rt.alloc(), "ping pong").expect(&rt, "memory");
+/// The journal of process 3.0 with a note of each kind, the first of them saying this.
+fn journal_of_each_kind(alloc: Global, said: String) -> Result<Vec<u8>, TextFault> {
     let notes = [
-        Note::Say(ping),
-        Note::Say(String::new(rt.alloc())),
+        Note::Say(said),
+        Note::Say(String::new(alloc)),
         Note::Yield,
         Note::Down(0),
         Note::Up(1),
@@ -254,59 +251,70 @@ fn a_journal_of_each_kind_of_note(rt: HostRuntime) {
         Note::NoSlot,
         Note::Shutdown,
     ];
-    assert!(rt; is_text(journal_text(rt.alloc(), &[3, 0], &notes), JOURNAL));
+    journal_text(alloc, &[3, 0], &notes)
 }
 
-/// Whether a process of these numbers is named so.
-fn is_named(alloc: Global, name: &[u64], want: &str) -> bool {
-    match name_text(alloc, name) {
+#[test]
+fn a_journal_of_each_kind_of_note(rt: HostRuntime) {
+    is_text(&rt, journal_text(rt.alloc(), &[0], &[]), "");
+    let said = String::from_str(rt.alloc(), "ping pong").expect(&rt, "memory");
+    is_text(&rt, journal_of_each_kind(rt.alloc(), said), JOURNAL);
+}
+
+/// Finds that a process of these numbers is named so.
+fn is_named(rt: &(impl Abort + AllocGlobal), name: &[u64], want: &str) {
+    let is_so = match name_text(rt.alloc(), name) {
         Ok(text) => text.as_str() == want,
         Err(_) => false,
-    }
+    };
+    holds_at(rt, is_so, want);
 }
 
 #[test]
 fn names(rt: HostRuntime) {
-    assert!(rt; is_named(rt.alloc(), &[], ""));
-    assert!(rt; is_named(rt.alloc(), &[0], "0"));
-    assert!(rt; is_named(rt.alloc(), &[12, 0, 1000], "12.0.1000"));
+    is_named(&rt, &[], "");
+    is_named(&rt, &[0], "0");
+    is_named(&rt, &[12, 0, 1000], "12.0.1000");
 }
 
-/// Adds a number to a name, and to the text of the name.
-fn add_to_name(
-    alloc: Global,
+/// Finds that the name is written so, with this number added to both.
+fn is_named_with(
+    rt: &(impl Abort + AllocGlobal),
     name: &mut Vec<u64>,
     text: &mut String,
     number: u64,
-) -> Result<(), AllocError> {
+) {
     let dot = if name.is_empty() { "" } else { "." };
-    let part = format!(in alloc; "{dot}{number}")?;
-    name.push(number)?;
-    text.push_str(&part)
+    name.push(number).expect(rt, "memory");
+    let part = format!(in rt.alloc(); "{dot}{number}").expect(rt, "memory");
+    text.push_str(&part).expect(rt, "memory");
+    is_named(rt, name, text);
 }
 
 #[test]
 fn names_of_up_to_1001_numbers(rt: HostRuntime) {
     let mut name = Vec::new(rt.alloc());
     let mut text = String::new(rt.alloc());
-    assert!(rt; is_named(rt.alloc(), &name, &text));
+    is_named(&rt, &name, &text);
     for number in 0..1_001u64 {
-        add_to_name(rt.alloc(), &mut name, &mut text, number).expect(&rt, "memory");
-        assert!(rt; is_named(rt.alloc(), &name, &text), "at {number}");
+        is_named_with(&rt, &mut name, &mut text, number);
     }
 }
 
-/// Adds two notes of this number to those of process 3.0, and their lines to the text of its journal.
-fn add_to_journal(
-    alloc: Global,
+/// Finds that the journal of process 3.0 is written so, with two notes of this number added.
+fn is_journal_with(
+    rt: &(impl Abort + AllocGlobal),
     notes: &mut Vec<Note>,
     text: &mut String,
     number: u64,
-) -> Result<(), AllocError> {
-    let lines = format!(in alloc; "  up {number}\n  spawn 3.0.{number}\n")?;
-    notes.push(Note::Up(number))?;
-    notes.push(Note::Spawned(number))?;
-    text.push_str(&lines)
+) {
+    notes.push(Note::Up(number)).expect(rt, "memory");
+    notes.push(Note::Spawned(number)).expect(rt, "memory");
+    let lines = format!(in rt.alloc(); "  up {number}\n  spawn 3.0.{number}\n").expect(
+        rt, "memory",
+    );
+    text.push_str(&lines).expect(rt, "memory");
+    is_text(rt, journal_text(rt.alloc(), &[3, 0], notes), text);
 }
 
 #[test]
@@ -314,28 +322,26 @@ fn journals_of_up_to_1000_notes(rt: HostRuntime) {
     let mut notes = Vec::new(rt.alloc());
     let mut text = String::new(rt.alloc());
     for number in 0..500u64 {
-        add_to_journal(rt.alloc(), &mut notes, &mut text, number).expect(&rt, "memory");
-        assert!(rt;
-            is_text(journal_text(rt.alloc(), &[3, 0], &notes), &text),
-            "at {number}"
-        );
+        is_journal_with(&rt, &mut notes, &mut text, number);
     }
 }
 
-/// Whether a line with this number of a seat and of a mark, and with what it found, is written so.
-fn is_line_of(alloc: Global, number: u64, found: i128) -> Result<bool, AllocError> {
+/// Finds that a line with this number of a seat and of a mark, and with what it found, is written so.
+fn is_line_of(rt: &(impl Abort + AllocGlobal), number: u64, found: i128) {
     let line = Line {
         seat: number,
         step: CoreMove::TicketIn,
         found,
         mark: Some(Queue(Kind::Put(number))),
     };
-    let want = format!(in alloc; "{number} ticket-in {found} put {number}")?;
-    Ok(is_text(line_text(alloc, &line), &want))
+    let want = format!(in rt.alloc(); "{number} ticket-in {found} put {number}").expect(
+        rt, "memory",
+    );
+    is_text(rt, line_text(rt.alloc(), &line), &want);
 }
 
-/// Whether a journal with this number wherever it has one is written so.
-fn is_journal_of(alloc: Global, n: u64) -> Result<bool, AllocError> {
+/// The journal with this number wherever it has one.
+fn journal_of(alloc: Global, n: u64) -> Result<Vec<u8>, TextFault> {
     let notes = [
         Note::Down(n),
         Note::Up(n),
@@ -344,10 +350,20 @@ fn is_journal_of(alloc: Global, n: u64) -> Result<bool, AllocError> {
         Note::Stat(n, Some(n)),
         Note::Spawned(n),
     ];
-    let want = format!(in alloc;
+    journal_text(alloc, &[n], &notes)
+}
+
+/// The text of the journal with this number.
+fn text_of_journal(alloc: Global, n: u64) -> Result<String, AllocError> {
+    format!(in alloc;
         "  down {n}\n  up {n}\n  open {n} entry {n}\n  close {n} entry {n}\n  stat {n} uses {n}\n  spawn {n}.{n}\n"
-    )?;
-    Ok(is_text(journal_text(alloc, &[n], &notes), &want))
+    )
+}
+
+/// Finds that a journal with this number wherever it has one is written so.
+fn is_journal_of(rt: &(impl Abort + AllocGlobal), n: u64) {
+    let want = text_of_journal(rt.alloc(), n).expect(rt, "memory");
+    is_text(rt, journal_of(rt.alloc(), n), &want);
 }
 
 #[test]
@@ -355,18 +371,9 @@ fn lines_and_journals_of_numbers_of_each_length(rt: HostRuntime) {
     let numbers = spread(rt.alloc()).expect(&rt, "memory");
     for &number in &numbers {
         let found = number as i128;
-        assert!(rt;
-            is_line_of(rt.alloc(), number, found) == Ok(true),
-            "at {number}"
-        );
-        assert!(rt;
-            is_line_of(rt.alloc(), number, -found) == Ok(true),
-            "at {number}"
-        );
-        assert!(rt;
-            is_journal_of(rt.alloc(), number) == Ok(true),
-            "at {number}"
-        );
+        is_line_of(&rt, number, found);
+        is_line_of(&rt, number, -found);
+        is_journal_of(&rt, number);
     }
 }
 
