@@ -2,6 +2,7 @@
 
 ghost use Rattle.std.specs.Prelude.{◌≡◌, All};
 
+use super::assertions::assert_case;
 use super::joined::{CELLS_WAIT, leaves_two};
 use super::steps::open;
 use fak_queue::{Queue, Seat};
@@ -48,9 +49,7 @@ fn take_turns<R: Abort + Wait>(
     for (row, (of, step)) in CELLS_WAIT.iter().enumerate() {
         if *of == name {
             turns.wait_for(rt, row);
-            if !step.is_met(rt, queue, &mut seat) {
-                panic!(rt; "row {row}")
-            }
+            assert_case(rt, &row, step.is_met(rt, queue, &mut seat));
             turns.begin(rt, row.wrapping_add(1));
         }
     }
@@ -76,10 +75,7 @@ fn run_all<R: Abort + Threads + Wait + Sync>(
         requires { seat.object ≡ queue.now.object }
         ensures { result.object ≡ queue.entry.now.object }
     { take_turns(rt, here, queue, seat) };
-    let Ok(seats) = map_vec(rt, seats, &part) else {
-        panic!(rt; "memory for the threads")
-    };
-    seats
+    map_vec(rt, seats, &part).expect(rt, "memory for the threads")
 }
 
 #[test]

@@ -1,8 +1,8 @@
 //! Numbers and loads to insert, and what is asked of those that come out.
 
+use super::assertions::assert_equal;
 use std::alloc::Global;
 use std::process::Abort;
-use std::test::Fail;
 
 /// A value that is moved and never copied: its parts are three times its number.
 #[derive(Drop)]
@@ -11,37 +11,48 @@ pub struct Load {
     parts: Vec<u64>,
 }
 
+/// Adds the item to the list.
+pub fn add<T: Drop>(rt: &impl Abort, list: &mut Vec<T>, item: T) {
+    list.push(item).expect(rt, "memory for an item");
+}
+
 /// The numbers from `first` on, fifty of them, the last first.
 pub fn fifty<R: Abort>(rt: &R, alloc: Global, first: u64) -> Vec<u64> {
     let mut items = Vec::new(alloc);
     for i in 0..50u64 {
-        items
-            .push(first.wrapping_add(49 - i))
-            .expect(rt, "memory for an item");
+        add(rt, &mut items, first.wrapping_add(49 - i));
     }
     items
 }
 
+/// The load with this number.
+fn load_of(rt: &impl Abort, alloc: Global, id: u64) -> Load {
+    let parts = Vec::from_elem(alloc, id, 3).expect(rt, "memory for a load");
+    Load { id, parts }
+}
+
 /// Loads with these numbers.
-pub fn loads_of(alloc: Global, ids: Vec<u64>) -> Result<Vec<Load>, Fail> {
+pub fn loads_of(rt: &impl Abort, alloc: Global, ids: &[u64]) -> Vec<Load> {
     let mut loads = Vec::new(alloc);
     for id in ids {
-        let parts = Vec::from_elem(alloc, id, 3)?;
-        loads.push(Load { id, parts })?;
+        add(rt, &mut loads, load_of(rt, alloc, *id));
     }
-    Ok(loads)
+    loads
+}
+
+/// The number of a load that came out as it went in.
+fn id_of(rt: &impl Abort, load: &Load) -> u64 {
+    assert_equal(rt, load.parts.as_slice(), [load.id; 3].as_slice());
+    load.id
 }
 
 /// The numbers of loads that came out as they went in.
-pub fn ids_of(alloc: Global, loads: Vec<Load>) -> Result<Vec<u64>, Fail> {
+pub fn ids_of(rt: &impl Abort, alloc: Global, loads: &[Load]) -> Vec<u64> {
     let mut ids = Vec::new(alloc);
     for load in loads {
-        if load.parts.as_slice() != [load.id, load.id, load.id].as_slice() {
-            return Err(Fail::from("a load that was changed"));
-        }
-        ids.push(load.id)?;
+        add(rt, &mut ids, id_of(rt, load));
     }
-    Ok(ids)
+    ids
 }
 
 /// Whether those of the fifty numbers from `first` on that are in the list are in rising order.
@@ -61,6 +72,11 @@ pub fn rise(items: &[u64], first: u64) -> bool {
 /// Whether the list has the fifty numbers from each of these on, and nothing else.
 pub fn are_all<R: Abort>(rt: &R, mut list: Vec<u64>, firsts: &[u64]) -> bool {
     list.sort().expect(rt, "memory to sort");
+    are_fifty_each(list.as_slice(), firsts)
+}
+
+/// Whether the list has the fifty numbers from each of these on, in this order, and nothing else.
+fn are_fifty_each(list: &[u64], firsts: &[u64]) -> bool {
     let mut place = 0usize;
     for &first in firsts {
         for i in 0..50u64 {

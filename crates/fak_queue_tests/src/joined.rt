@@ -2,8 +2,8 @@
 
 ghost use Rattle.std.specs.Prelude.{◌≡◌, All};
 
-use super::assertions::assert_equal;
-use super::steps::{A, B, C, D, Step, close, joined, open, repeat, walk};
+use super::assertions::{assert_equal, assert_left};
+use super::steps::{A, B, C, D, Step, close_all, joined, open, repeat, walk};
 use fak_queue::{InsertFault, Queue, Seat, SeatState};
 use std::process::Abort;
 
@@ -31,11 +31,7 @@ pub const CELLS_WAIT: [(usize, Step<u64>); 16] = [
 pub fn leaves_two(rt: &impl Abort, queue: Queue<u64>, seats: Vec<Seat<u64>>)
     requires { All (λ s. s.object ≡ queue.object) seats.items }
 {
-    let tally = joined(rt, &queue, seats);
-    let mut rest = close(rt, queue, tally);
-    assert_equal(rt, rest.next(), Some(12));
-    assert_equal(rt, rest.next(), Some(13));
-    assert_equal(rt, rest.next(), None);
+    assert_left(rt, close_all(rt, queue, seats), &[12, 13]);
 }
 
 #[test]
@@ -58,15 +54,8 @@ fn cells_that_are_looked_at_a_hundred_times(rt: HostRuntime) {
 
 #[test]
 fn a_seat_that_was_dropped_in_its_insertion(rt: HostRuntime) {
-    let (queue, mut seats) = open(&rt, rt.alloc(), (2, 3, 10));
-    walk(
-        &rt,
-        &queue,
-        &mut seats,
-        [(C, Step::ClaimInsert(1, Ok(0)))].as_slice(),
-    );
-    drop(seats.pop());
-    let steps = [
+    const STEPS: [(usize, Step<u64>); 6] = [
+        (C, Step::ClaimInsert(1, Ok(0))),
         (A, Step::Insert(2, Ok(1))),
         (B, Step::ClaimDelete(Ok(0))),
         (B, Step::TryTake(None)),
@@ -76,7 +65,10 @@ fn a_seat_that_was_dropped_in_its_insertion(rt: HostRuntime) {
             Step::ClaimInsert(3, Err(InsertFault::Full { upper: 2, item: 3 })),
         ),
     ];
-    walk(&rt, &queue, &mut seats, steps.as_slice());
+    let (queue, mut seats) = open(&rt, rt.alloc(), (2, 3, 10));
+    walk(&rt, &queue, &mut seats, &STEPS[..1]);
     drop(seats.pop());
-    assert!(rt; !joined(&rt, &queue, seats).is_whole());
+    walk(&rt, &queue, &mut seats, &STEPS[1..]);
+    drop(seats.pop());
+    assert_equal(&rt, joined(&rt, &queue, seats).is_whole(), false);
 }

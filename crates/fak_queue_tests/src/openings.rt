@@ -2,8 +2,8 @@
 
 ghost use Rattle.fak_queue.specs.Queues.{IsIdleSeat};
 
-use super::assertions::assert_equal;
-use super::steps::{open, take};
+use super::assertions::{assert_case, assert_equal};
+use super::steps::{open, open_one};
 use fak_queue::{DeleteFault, InsertFault, LARGEST_SIZE, LONGEST_STINT, MOST_SEATS, Queue, Seat};
 use std::alloc::Global;
 use std::process::Abort;
@@ -27,7 +27,12 @@ fn stint_of(row: u64) -> u64 {
 fn opens(rt: &impl Abort, alloc: Global, size: u64, seats: u64, stint: u64) {
     let (_queue, dealt) = open::<Vec<u8>>(rt, alloc, (size, seats, stint));
     assert_equal(rt, dealt.len() as u64, seats);
-    for seat in dealt {
+    have_left(rt, dealt.as_slice(), stint);
+}
+
+/// Finds that each seat may draw so many tickets.
+fn have_left<T>(rt: &impl Abort, seats: &[Seat<T>], stint: u64) {
+    for seat in seats {
         assert_equal(rt, seat.left(), stint);
     }
 }
@@ -42,52 +47,40 @@ fn queues_of_each_size(rt: HostRuntime) {
     }
 }
 
-/// Whether this many items go in and no more, and come out in the same order.
-fn holds<R: Wait>(rt: &R, queue: &Queue<u64>, seat: &mut Seat<u64>, size: u64) -> bool
-    requires { IsIdleSeat queue.now.object seat.old }
-    ensures { IsIdleSeat queue.now.object seat.new }
-{
-    fills(rt, queue, seat, size) && empties(rt, queue, seat, size)
-}
-
-/// Whether the numbers below `size` go in, and no more.
-fn fills<R: Wait>(rt: &R, queue: &Queue<u64>, seat: &mut Seat<u64>, size: u64) -> bool
+/// Finds that the numbers below `size` go in, and no more.
+fn fills<R: Abort + Wait>(rt: &R, queue: &Queue<u64>, seat: &mut Seat<u64>, size: u64)
     requires { IsIdleSeat queue.now.object seat.old }
     ensures { IsIdleSeat queue.now.object seat.new }
 {
     for item in 0..size {
-        if queue.insert(rt, seat, item).is_err() {
-            return false;
-        }
+        assert_case(rt, &(size, item), queue.insert(rt, seat, item).is_ok());
     }
-    let Err(InsertFault::Full { upper, item }) = queue.insert(rt, seat, size) else {
-        return false;
+    let full = InsertFault::Full {
+        upper: i64::try_from(size).expect(rt, "a size"),
+        item: size,
     };
-    upper.unsigned_abs() == size && item == size
+    assert_equal(rt, queue.insert(rt, seat, size), Err(full));
 }
 
-/// Whether the numbers below `size` come out in their order, and no more.
-fn empties<R: Wait>(rt: &R, queue: &Queue<u64>, seat: &mut Seat<u64>, size: u64) -> bool
+/// Finds that the numbers below `size` come out in their order, and no more.
+fn empties<R: Abort + Wait>(rt: &R, queue: &Queue<u64>, seat: &mut Seat<u64>, size: u64)
     requires { IsIdleSeat queue.now.object seat.old }
     ensures { IsIdleSeat queue.now.object seat.new }
 {
     for wanted in 0..size {
-        let Ok((_, item)) = queue.delete(rt, seat) else {
-            return false;
-        };
-        if item != wanted {
-            return false;
-        }
+        let (_, item) = queue.delete(rt, seat).expect(rt, "an item");
+        assert_case(rt, &(size, wanted), item == wanted);
     }
-    queue.delete(rt, seat) == Err(DeleteFault::Empty(0))
+    assert_equal(rt, queue.delete(rt, seat), Err(DeleteFault::Empty(0)));
 }
 
 /// Opens a queue of this size, and fills and empties it twice.
 fn holds_twice<R: Abort + Wait>(rt: &R, alloc: Global, size: u64) {
-    let (queue, mut seats) = open::<u64>(rt, alloc, (size, 1, LONGEST_STINT));
-    let mut seat = take(rt, &queue, &mut seats);
-    assert!(rt; holds(rt, &queue, &mut seat, size), "{size}");
-    assert!(rt; holds(rt, &queue, &mut seat, size), "{size} again");
+    let (queue, mut seat) = open_one(rt, alloc, size, LONGEST_STINT);
+    fills(rt, &queue, &mut seat, size);
+    empties(rt, &queue, &mut seat, size);
+    fills(rt, &queue, &mut seat, size);
+    empties(rt, &queue, &mut seat, size);
 }
 
 #[test]

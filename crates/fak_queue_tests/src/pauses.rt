@@ -1,12 +1,14 @@
 //! Pauses, which leave answers and seats as they are. How long they are, a test cannot see.
 
-use super::assertions::assert_equal;
-use super::steps::{A, B, Step, close, open, open_and_walk, take};
+use super::assertions::{assert_equal, assert_left};
+use super::steps::{A, B, Step, close, open, open_and_walk, open_one, take};
 use fak_queue::{Port, SeatState, Tally};
+use std::process::Abort;
+use std::sync::Wait;
 
 #[test]
 fn a_seat_pauses_in_each_state(rt: HostRuntime) {
-    let steps = [
+    const STEPS: [(usize, Step<u64>); 12] = [
         (A, Step::Pause),
         (A, Step::ClaimInsert(7, Ok(0))),
         (A, Step::Pause),
@@ -20,7 +22,20 @@ fn a_seat_pauses_in_each_state(rt: HostRuntime) {
         (B, Step::State(SeatState::Idle)),
         (B, Step::Left(8)),
     ];
-    open_and_walk::<u64, HostRuntime>(&rt, rt.alloc(), (1, 2, 9), steps.as_slice());
+    open_and_walk(&rt, rt.alloc(), (1, 2, 9), STEPS.as_slice());
+}
+
+/// Passes the number from one port to the other, each of which then pauses.
+fn pass<R: Abort + Wait>(
+    rt: &R,
+    sender: &mut Port<'_, u64>,
+    receiver: &mut Port<'_, u64>,
+    number: u64,
+) {
+    assert_equal(rt, sender.insert(rt, number), Ok(number));
+    sender.pause();
+    assert_equal(rt, receiver.delete(rt), Ok((number, number)));
+    receiver.pause();
 }
 
 #[test]
@@ -31,26 +46,18 @@ fn ports_that_take_turns_pause(rt: HostRuntime) {
     let mut sender = Port::new(&queue, seat);
     let mut receiver = Port::new(&queue, take(&rt, &queue, &mut seats));
     for number in 0..400u64 {
-        assert_equal(&rt, sender.insert(&rt, number), Ok(number));
-        sender.pause();
-        assert_equal(&rt, receiver.delete(&rt), Ok((number, number)));
-        receiver.pause();
+        pass(&rt, &mut sender, &mut receiver, number);
     }
-    assert_equal(&rt, sender.left(), 600);
-    assert_equal(&rt, receiver.left(), 600);
+    assert_equal(&rt, [sender.left(), receiver.left()], [600, 600]);
 }
 
 #[test]
 fn a_seat_whose_calls_do_not_pause_is_told_to_again(rt: HostRuntime) {
-    let (queue, mut seats) = open::<u64>(&rt, rt.alloc(), (64, 1, 9));
-    let mut seat = take(&rt, &queue, &mut seats);
+    let (queue, mut seat) = open_one::<u64>(&rt, rt.alloc(), 64, 9);
     seat.set_pauses_in_calls(false);
     assert_equal(&rt, queue.wait_insert(&rt, &mut seat, 7), Ok(0));
     seat.set_pauses_in_calls(true);
     assert_equal(&rt, queue.wait_insert(&rt, &mut seat, 8), Ok(1));
     assert_equal(&rt, seat.left(), 7);
-    let mut rest = close(&rt, queue, Tally::of(seat));
-    assert_equal(&rt, rest.next(), Some(7));
-    assert_equal(&rt, rest.next(), Some(8));
-    assert_equal(&rt, rest.next(), None);
+    assert_left(&rt, close(&rt, queue, Tally::of(seat)), &[7, 8]);
 }

@@ -1,33 +1,30 @@
 //! What queues, seats and faults print.
 
 use super::assertions::{assert_equal, assert_written};
-use super::steps::{close, open, take};
-use fak_queue::{DeleteFault, InsertFault, OpenFault, Port, Queue, SeatState, Tally};
+use super::steps::{A, Step, close, joined, open, open_one, walk};
+use fak_queue::{DeleteFault, InsertFault, OpenFault, Port, Queue};
 use std::fmt::Display;
 use std::process::Abort;
 
+/// An insertion in two calls, after a deletion that is refused.
+const INSERTION: [(usize, Step<u64>); 3] = [
+    (A, Step::ClaimDelete(Err(DeleteFault::Empty(0)))),
+    (A, Step::ClaimInsert(7, Ok(0))),
+    (A, Step::TryFill(Some(0))),
+];
+
 #[test]
 fn queues_print_their_numbers(rt: HostRuntime) {
-    let (queue, mut seats) = open::<u64>(&rt, rt.alloc(), (3, 1, 9));
-    let mut seat = take(&rt, &queue, &mut seats);
-    let Err(DeleteFault::Empty(0)) = queue.claim_delete(&mut seat) else {
-        panic!(rt; "the deletion")
-    };
-    assert_equal(&rt, queue.claim_insert(&mut seat, 7), Ok(0));
+    let (queue, mut seats) = open(&rt, rt.alloc(), (3, 1, 9));
+    walk(&rt, &queue, &mut seats, &INSERTION[..2]);
     assert_written(&rt, &queue, "Queue { size: 3, .. }");
     assert_written(
         &rt,
-        &seat,
-        "Seat { name: 0, state: Inserting(0), left: 8, .. }",
+        &seats,
+        "[Seat { name: 0, state: Inserting(0), left: 8, .. }]",
     );
-    let SeatState::Inserting(_) = seat.state() else {
-        panic!(rt; "the claim")
-    };
-    assert_equal(&rt, queue.try_fill(&mut seat), Some(0));
-    let SeatState::Idle = seat.state() else {
-        panic!(rt; "the insertion")
-    };
-    let tally = Tally::of(seat);
+    walk(&rt, &queue, &mut seats, &INSERTION[2..]);
+    let tally = joined(&rt, &queue, seats);
     assert_written(&rt, &tally, "Tally { seats: 1, is_whole: true, .. }");
     assert_written(&rt, &close(&rt, queue, tally), "Rest { left: 1, .. }");
 }
@@ -44,8 +41,8 @@ fn faults_print_what_they_hand_back(rt: HostRuntime) {
 
 #[test]
 fn ports_print_their_queue_and_their_seat(rt: HostRuntime) {
-    let (queue, mut seats) = open::<u64>(&rt, rt.alloc(), (3, 1, 9));
-    let port = Port::new(&queue, take(&rt, &queue, &mut seats));
+    let (queue, seat) = open_one::<u64>(&rt, rt.alloc(), 3, 9);
+    let port = Port::new(&queue, seat);
     let text =
         "Port { queue: Queue { size: 3, .. }, seat: Seat { name: 0, state: Idle, left: 9, .. } }";
     assert_written(&rt, &port, text);
@@ -55,20 +52,19 @@ fn ports_print_their_queue_and_their_seat(rt: HostRuntime) {
 fn have_texts<F: Display>(rt: &(impl Abort + AllocGlobal), rows: &[(F, &str)]) {
     for (fault, text) in rows {
         let written = fault.to_string(rt.alloc()).expect(rt, "memory");
-        assert!(rt; written.as_str() == *text, "{text}");
+        assert_equal(rt, written.as_str(), *text);
     }
 }
 
 #[test]
 fn faults_say_what_is_the_matter(rt: HostRuntime) {
-    let opens = [
+    const OPENS: [(OpenFault, &str); 4] = [
         (OpenFault::BadSize, "the size is not 1 to 4096"),
         (OpenFault::BadSeats, "the number of seats is not 1 to 64"),
         (OpenFault::BadStint, "the stint is not 1 to 1099511627776"),
         (OpenFault::Memory, "out of memory"),
     ];
-    have_texts(&rt, &opens);
-    let insertions = [
+    const INSERTIONS: [(InsertFault<u64>, &str); 3] = [
         (InsertFault::Worn { item: 7 }, "the stint is used up"),
         (InsertFault::Closed { item: 7 }, "the queue is shut"),
         (
@@ -76,13 +72,14 @@ fn faults_say_what_is_the_matter(rt: HostRuntime) {
             "the queue is full: its upper count was 3",
         ),
     ];
-    have_texts(&rt, &insertions);
-    let deletions = [
+    const DELETIONS: [(DeleteFault, &str); 2] = [
         (DeleteFault::Worn, "the stint is used up"),
         (
             DeleteFault::Empty(0),
             "the queue is empty: its lower count was 0",
         ),
     ];
-    have_texts(&rt, &deletions);
+    have_texts(&rt, &OPENS);
+    have_texts(&rt, &INSERTIONS);
+    have_texts(&rt, &DELETIONS);
 }

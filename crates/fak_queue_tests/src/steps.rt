@@ -1,8 +1,9 @@
 //! Seats of a queue, and calls of theirs whose answers a test knows.
 
-ghost use Rattle.std.specs.Prelude.{◌≡◌, ◌<◌, All, vec_len};
+ghost use Rattle.std.specs.Prelude.{◌≡◌, All};
 ghost use Rattle.fak_queue.specs.Queues.{IsIdleSeat};
 
+use super::assertions::assert_case;
 use fak_queue::{DeleteFault, InsertFault, Queue, Rest, Seat, SeatState, Tally};
 use std::alloc::Global;
 use std::process::Abort;
@@ -34,6 +35,11 @@ pub enum Step<T> {
     Left(u64),
 }
 
+/// Whether the answer is the one that is wanted.
+fn is<A: PartialEq + Drop>(found: A, wanted: &A) -> bool {
+    found == *wanted
+}
+
 impl<T: Copy + PartialEq + Drop> Step<T> {
     /// Makes the call, and tells whether it was answered so.
     pub fn is_met<R: Wait>(&self, rt: &R, queue: &Queue<T>, seat: &mut Seat<T>) -> bool
@@ -41,21 +47,24 @@ impl<T: Copy + PartialEq + Drop> Step<T> {
         ensures { seat.new.object ≡ queue.now.object }
     {
         match (seat.state(), self) {
-            (SeatState::Idle, Step::Insert(item, answer)) => {
-                queue.insert(rt, seat, *item) == *answer
-            }
-            (SeatState::Idle, Step::WaitInsert(item, answer)) => {
-                queue.wait_insert(rt, seat, *item) == *answer
-            }
-            (SeatState::Idle, Step::ClaimInsert(item, answer)) => {
-                queue.claim_insert(seat, *item) == *answer
-            }
-            (SeatState::Inserting(_), Step::TryFill(answer)) => queue.try_fill(seat) == *answer,
-            (SeatState::Idle, Step::Delete(answer)) => queue.delete(rt, seat) == *answer,
-            (SeatState::Idle, Step::WaitDelete(answer)) => queue.wait_delete(rt, seat) == *answer,
-            (SeatState::Idle, Step::ClaimDelete(answer)) => queue.claim_delete(seat) == *answer,
-            (SeatState::Deleting(_), Step::TryTake(answer)) => queue.try_take(seat) == *answer,
-            (SeatState::Idle, Step::Shut(answer)) => queue.shut(seat) == *answer,
+            (SeatState::Idle, Step::Insert(item, answer)) => is(
+                queue.insert(rt, seat, *item),
+                answer,
+            ),
+            (SeatState::Idle, Step::WaitInsert(item, answer)) => is(
+                queue.wait_insert(rt, seat, *item),
+                answer,
+            ),
+            (SeatState::Idle, Step::ClaimInsert(item, answer)) => is(
+                queue.claim_insert(seat, *item),
+                answer,
+            ),
+            (SeatState::Inserting(_), Step::TryFill(answer)) => is(queue.try_fill(seat), answer),
+            (SeatState::Idle, Step::Delete(answer)) => is(queue.delete(rt, seat), answer),
+            (SeatState::Idle, Step::WaitDelete(answer)) => is(queue.wait_delete(rt, seat), answer),
+            (SeatState::Idle, Step::ClaimDelete(answer)) => is(queue.claim_delete(seat), answer),
+            (SeatState::Deleting(_), Step::TryTake(answer)) => is(queue.try_take(seat), answer),
+            (SeatState::Idle, Step::Shut(answer)) => is(queue.shut(seat), answer),
             (_, Step::Pause) => {
                 queue.pause(seat);
                 true
@@ -76,13 +85,24 @@ pub fn open<T: Drop>(
     ensures { All (λ s. s.object ≡ result.0.object) result.1.items }
 {
     let (size, seats, stint) = limits;
-    let Ok((queue, seats)) = Queue::<T>::open(alloc, size, seats, stint) else {
-        panic!(rt; "open")
-    };
-    (queue, seats)
+    Queue::<T>::open(alloc, size, seats, stint).expect(rt, "open")
 }
 
-/// Makes the step with the seat of this number.
+/// An open queue with its only seat.
+pub fn open_one<T: Drop>(
+    rt: &impl Abort,
+    alloc: Global,
+    size: u64,
+    stint: u64,
+) -> (Queue<T>, Seat<T>)
+    ensures { IsIdleSeat result.0.object result.1 }
+{
+    let (queue, mut seats) = open(rt, alloc, (size, 1, stint));
+    let seat = take(rt, &queue, &mut seats);
+    (queue, seat)
+}
+
+/// Makes the step with the seat of this number, and tells whether there is one and it was answered so.
 fn meets<T: Copy + PartialEq + Drop, R: Wait>(
     rt: &R,
     queue: &Queue<T>,
@@ -90,11 +110,10 @@ fn meets<T: Copy + PartialEq + Drop, R: Wait>(
     name: usize,
     step: &Step<T>,
 ) -> bool
-    requires name { name < vec_len seats.old }
-    requires old { All (λ s. s.object ≡ queue.now.object) seats.old.items }
+    requires { All (λ s. s.object ≡ queue.now.object) seats.old.items }
     ensures { All (λ s. s.object ≡ queue.now.object) seats.new.items }
 {
-    step.is_met(rt, queue, &mut seats[name])
+    name < seats.len() && step.is_met(rt, queue, &mut seats[name])
 }
 
 /// Walks the steps in their order, each with the seat of its number.
@@ -108,9 +127,7 @@ pub fn walk<T: Copy + PartialEq + Drop, R: Abort + Wait>(
     ensures { All (λ s. s.object ≡ queue.now.object) seats.new.items }
 {
     for (row, (name, step)) in steps.iter().enumerate() {
-        if *name >= seats.len() || !meets(rt, queue, seats, *name, step) {
-            panic!(rt; "row {row}")
-        }
+        assert_case(rt, &row, meets(rt, queue, seats, *name, step));
     }
 }
 
@@ -127,9 +144,7 @@ pub fn repeat<T: Copy + PartialEq + Drop, R: Abort + Wait>(
     ensures { All (λ s. s.object ≡ queue.now.object) seats.new.items }
 {
     for time in 0..times {
-        if name >= seats.len() || !meets(rt, queue, seats, name, step) {
-            panic!(rt; "time {time}")
-        }
+        assert_case(rt, &time, meets(rt, queue, seats, name, step));
     }
 }
 
@@ -150,13 +165,19 @@ pub fn take<T: Drop>(rt: &impl Abort, queue: &Queue<T>, seats: &mut Vec<Seat<T>>
     ensures seat { IsIdleSeat queue.now.object result }
     ensures others { All (λ s. s.object ≡ queue.now.object) seats.new.items }
 {
-    let Some(seat) = seats.pop() else {
-        panic!(rt; "no seat is left")
-    };
+    let seat = seats.pop().expect(rt, "no seat is left");
+    assert_idle(rt, queue, &seat);
+    seat
+}
+
+/// Stops where the seat is in mid-call.
+pub fn assert_idle<T: Drop>(rt: &impl Abort, queue: &Queue<T>, seat: &Seat<T>)
+    requires { seat.now.object ≡ queue.now.object }
+    ensures { IsIdleSeat queue.now.object seat.now }
+{
     let SeatState::Idle = seat.state() else {
         panic!(rt; "a seat in mid-call")
     };
-    seat
 }
 
 /// The tally of these seats.
@@ -179,4 +200,12 @@ pub fn close<T: Drop>(rt: &impl Abort, queue: Queue<T>, tally: Tally<T>) -> Rest
         panic!(rt; "a seat that is not in the tally")
     }
     queue.close(tally)
+}
+
+/// What is left where these are all the seats.
+pub fn close_all<T: Drop>(rt: &impl Abort, queue: Queue<T>, seats: Vec<Seat<T>>) -> Rest<T>
+    requires { All (λ s. s.object ≡ queue.object) seats.items }
+{
+    let tally = joined(rt, &queue, seats);
+    close(rt, queue, tally)
 }

@@ -3,14 +3,14 @@
 ghost use Rattle.std.specs.Prelude.{◌≡◌, All};
 ghost use Rattle.fak_queue.specs.Queues.{IsIdleSeat};
 
+use super::assertions::assert_case;
 use super::attempts::{delete_again, insert_again};
-use super::items::{are_all, fifty, ids_of, loads_of, rise};
-use super::steps::{close, joined, open};
-use fak_queue::{Queue, Seat, SeatState};
+use super::items::{Load, add, are_all, fifty, ids_of, loads_of, rise};
+use super::steps::{assert_idle, close_all, open};
+use fak_queue::{Queue, Seat};
 use std::alloc::Global;
 use std::process::Abort;
 use std::sync::{Mutex, Wait};
-use std::test::Fail;
 use std::thread::{Threads, map_vec};
 
 /// How the seats of a storm insert and delete: by calls that wait, or by attempts that are made again.
@@ -49,7 +49,7 @@ fn insert_all<T: Drop, R: Wait>(
 }
 
 /// Deletes this many items, into this list.
-fn delete_all<T: Drop, R: Wait>(
+fn delete_all<T: Drop, R: Abort + Wait>(
     rt: &R,
     queue: &Queue<T>,
     mut seat: Seat<T>,
@@ -66,16 +66,10 @@ fn delete_all<T: Drop, R: Wait>(
             Calls::Attempts => delete_again(rt, queue, &mut seat),
         };
         if let Ok((_, item)) = deleted {
-            let _ = into.push(item);
+            add(rt, into, item);
         }
     }
     seat
-}
-
-fn add_list<T: Drop>(rt: &impl Abort, lists: &mut Vec<Vec<T>>, list: Vec<T>) {
-    let Ok(()) = lists.push(list) else {
-        panic!(rt; "memory for a list")
-    };
 }
 
 /// Inserts one of the lists; where none is waiting, deletes this many items.
@@ -90,16 +84,29 @@ fn work<T: Drop, R: Abort + Wait>(
     requires { seat.object ≡ queue.now.object }
     ensures { result.object ≡ queue.now.object }
 {
-    let SeatState::Idle = seat.state() else {
-        panic!(rt; "a seat in mid-call")
-    };
+    assert_idle(rt, queue, &seat);
     let list = lists.waiting.lock(rt).pop();
-    if let Some(items) = list {
-        return insert_all(rt, queue, seat, lists.calls, items);
+    match list {
+        Some(items) => insert_all(rt, queue, seat, lists.calls, items),
+        None => delete_list(rt, alloc, queue, lists, deletions, seat),
     }
+}
+
+/// Deletes this many items, and adds the list of them to those that were deleted.
+fn delete_list<T: Drop, R: Abort + Wait>(
+    rt: &R,
+    alloc: Global,
+    queue: &Queue<T>,
+    lists: &Lists<T>,
+    deletions: usize,
+    seat: Seat<T>,
+) -> Seat<T>
+    requires { IsIdleSeat queue.now.object seat }
+    ensures { result.object ≡ queue.now.object }
+{
     let mut items = Vec::new(alloc);
     let seat = delete_all(rt, queue, seat, lists.calls, deletions, &mut items);
-    add_list(rt, &mut lists.deleted.lock(rt), items);
+    add(rt, &mut lists.deleted.lock(rt), items);
     seat
 }
 
@@ -119,13 +126,24 @@ fn work_all<T: Drop + Send, R: Abort + Threads + Wait + Sync>(
         requires { seat.object ≡ queue.now.object }
         ensures { result.object ≡ queue.entry.now.object }
     { work(rt, alloc, queue, lists, deletions, seat) };
-    let Ok(seats) = map_vec(rt, seats, &part) else {
-        panic!(rt; "memory for the threads")
-    };
-    seats
+    map_vec(rt, seats, &part).expect(rt, "memory for the threads")
 }
 
-/// What each seat deleted, where the lists are inserted by a seat each while as many others delete. Nothing is to be left.
+/// Has this many seats of a queue insert the lists and delete what they inserted. Nothing is to be left.
+fn work_through<T: Drop + Send, R: Abort + Threads + Wait + Sync>(
+    rt: &R,
+    alloc: Global,
+    lists: &Lists<T>,
+    seats: u64,
+    deletions: usize,
+) {
+    let (queue, seats) = open(rt, alloc, (8, seats, 100));
+    let seats = work_all(rt, alloc, &queue, lists, deletions, seats);
+    let left = close_all(rt, queue, seats).next();
+    assert!(rt; left.is_none(), "an item that was left");
+}
+
+/// What each seat deleted, where the lists are inserted by a seat each while as many others delete.
 fn storm<T: Drop + Send, R: Abort + Threads + Wait + Sync>(
     rt: &R,
     alloc: Global,
@@ -140,12 +158,7 @@ fn storm<T: Drop + Send, R: Abort + Threads + Wait + Sync>(
         waiting: Mutex::new(lists),
         deleted: Mutex::new(Vec::new(alloc)),
     };
-    let (queue, seats) = open(rt, alloc, (8, seats, 100));
-    let seats = work_all(rt, alloc, &queue, &lists, deletions, seats);
-    let tally = joined(rt, &queue, seats);
-    let None = close(rt, queue, tally).next() else {
-        panic!(rt; "an item that was left")
-    };
+    work_through(rt, alloc, &lists, seats, deletions);
     let Lists {
         calls: _,
         waiting: _,
@@ -155,24 +168,34 @@ fn storm<T: Drop + Send, R: Abort + Threads + Wait + Sync>(
 }
 
 /// Stops where the numbers that each seat deleted do not rise from each of these on, or are not all of them.
-fn check_all(rt: &impl Abort, alloc: Global, lists: Vec<Vec<u64>>, firsts: &[u64]) {
+fn check_all(rt: &impl Abort, alloc: Global, lists: &[Vec<u64>], firsts: &[u64]) {
     let mut all = Vec::new(alloc);
     for list in lists {
-        for &first in firsts {
-            assert!(rt; rise(list.as_slice(), first), "those from {first} on");
-        }
-        for item in list {
-            all.push(item).expect(rt, "memory for an item");
-        }
+        check_rise(rt, list.as_slice(), firsts);
+        add_all(rt, &mut all, list.as_slice());
     }
     assert!(rt; are_all(rt, all, firsts));
+}
+
+/// Stops where the numbers do not rise from each of these on.
+fn check_rise(rt: &impl Abort, list: &[u64], firsts: &[u64]) {
+    for &first in firsts {
+        assert_case(rt, &first, rise(list, first));
+    }
+}
+
+/// Adds the numbers to the list.
+fn add_all(rt: &impl Abort, list: &mut Vec<u64>, items: &[u64]) {
+    for &item in items {
+        add(rt, list, item);
+    }
 }
 
 /// Fifty numbers from each of these on.
 fn lists_of(rt: &impl Abort, alloc: Global, firsts: &[u64]) -> Vec<Vec<u64>> {
     let mut lists = Vec::new(alloc);
     for &first in firsts {
-        add_list(rt, &mut lists, fifty(rt, alloc, first));
+        add(rt, &mut lists, fifty(rt, alloc, first));
     }
     lists
 }
@@ -188,7 +211,7 @@ fn storm_of_numbers<R: Abort + Threads + Wait + Sync>(
 ) {
     let lists = lists_of(rt, alloc, firsts);
     let got = storm(rt, alloc, calls, lists, deleters, deletions);
-    check_all(rt, alloc, got, firsts);
+    check_all(rt, alloc, got.as_slice(), firsts);
 }
 
 #[test]
@@ -222,17 +245,30 @@ fn two_inserters_and_a_deleter_that_try_again(rt: HostRuntime) {
 }
 
 #[test]
-fn two_inserters_of_loads_and_a_deleter(rt: HostRuntime) -> Result<(), Fail> {
+fn two_inserters_of_loads_and_a_deleter(rt: HostRuntime) {
     let alloc = rt.alloc();
     let firsts = [1001, 2001];
-    let mut lists = Vec::new(alloc);
-    for ids in lists_of(&rt, alloc, firsts.as_slice()) {
-        lists.push(loads_of(alloc, ids)?)?;
+    let ids = lists_of(&rt, alloc, firsts.as_slice());
+    let loads = loads_of_all(&rt, alloc, ids.as_slice());
+    let got = storm(&rt, alloc, Calls::Waiting, loads, 1, 100);
+    let ids = ids_of_all(&rt, alloc, got.as_slice());
+    check_all(&rt, alloc, ids.as_slice(), firsts.as_slice());
+}
+
+/// Loads with the numbers of each list.
+fn loads_of_all(rt: &impl Abort, alloc: Global, lists: &[Vec<u64>]) -> Vec<Vec<Load>> {
+    let mut loads = Vec::new(alloc);
+    for ids in lists {
+        add(rt, &mut loads, loads_of(rt, alloc, ids.as_slice()));
     }
-    let mut got = Vec::new(alloc);
-    for loads in storm(&rt, alloc, Calls::Waiting, lists, 1, 100) {
-        got.push(ids_of(alloc, loads)?)?;
+    loads
+}
+
+/// The numbers of the loads of each list.
+fn ids_of_all(rt: &impl Abort, alloc: Global, lists: &[Vec<Load>]) -> Vec<Vec<u64>> {
+    let mut ids = Vec::new(alloc);
+    for loads in lists {
+        add(rt, &mut ids, ids_of(rt, alloc, loads.as_slice()));
     }
-    check_all(&rt, alloc, got, firsts.as_slice());
-    Ok(())
+    ids
 }

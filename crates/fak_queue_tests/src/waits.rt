@@ -5,9 +5,9 @@ ghost use Rattle.fak_model.specs.Queue.{contents, lower_count, upper_count};
 ghost use Rattle.fak_queue.specs.Queues.{IsIdleSeat, drawn_by};
 
 #[cfg(test)]
-use crate::assertions::assert_equal;
+use crate::assertions::{assert_equal, assert_left};
 #[cfg(test)]
-use crate::steps::{A, B, Step, open, open_and_walk, take};
+use crate::steps::{A, B, Step, open_and_walk, open_one};
 use fak_model::laws::queue::a_queue_at_rest_counts_its_items;
 use fak_queue::{DeleteFault, InsertFault, Queue, Rest, Seat, Tally};
 use std::sync::Wait;
@@ -55,40 +55,35 @@ fn close_counted(queue: Queue<u64>, tally: Tally<u64>) -> Option<Rest<u64>>
 
 #[test]
 fn worn_seats_do_not_wait(rt: HostRuntime) {
-    let steps = [
+    const STEPS: [(usize, Step<u64>); 5] = [
         (A, Step::WaitInsert(7, Ok(0))),
         (A, Step::WaitInsert(8, Err(InsertFault::Worn { item: 8 }))),
         (B, Step::WaitDelete(Ok((0, 7)))),
         (B, Step::WaitDelete(Err(DeleteFault::Worn))),
         (B, Step::Delete(Err(DeleteFault::Worn))),
     ];
-    open_and_walk::<u64, HostRuntime>(&rt, rt.alloc(), (1, 2, 1), steps.as_slice());
+    open_and_walk(&rt, rt.alloc(), (1, 2, 1), STEPS.as_slice());
 }
 
 #[test]
 fn a_shut_queue_does_not_keep_a_seat_waiting(rt: HostRuntime) {
-    let steps = [
+    const STEPS: [(usize, Step<u64>); 4] = [
         (A, Step::WaitInsert(7, Ok(0))),
         (A, Step::Shut(true)),
         (A, Step::WaitInsert(8, Err(InsertFault::Closed { item: 8 }))),
         (A, Step::WaitDelete(Ok((0, 7)))),
     ];
-    open_and_walk::<u64, HostRuntime>(&rt, rt.alloc(), (1, 1, 9), steps.as_slice());
+    open_and_walk(&rt, rt.alloc(), (1, 1, 9), STEPS.as_slice());
 }
 
 #[test]
 fn items_that_were_inserted_and_left(rt: HostRuntime) {
-    let (queue, mut seats) = open(&rt, rt.alloc(), (3, 1, 9));
-    let mut a = take(&rt, &queue, &mut seats);
-    let Ok(()) = insert_below(&rt, &queue, &mut a, 3) else {
-        panic!(rt; "insert")
-    };
+    let (queue, mut a) = open_one(&rt, rt.alloc(), 3, 9);
+    assert_equal(&rt, insert_below(&rt, &queue, &mut a, 3), Ok(()));
     assert_equal(&rt, a.left(), 6);
-    assert!(rt; matches!(queue.wait_delete(&rt, &mut a), Ok((0, 0))));
+    assert_equal(&rt, queue.wait_delete(&rt, &mut a), Ok((0, 0)));
     let tally = Tally::of(a);
-    assert!(rt; counts_its_items(&tally));
-    let mut rest = close_counted(queue, tally).expect(&rt, "whole");
-    assert_equal(&rt, rest.next(), Some(1));
-    assert_equal(&rt, rest.next(), Some(2));
-    assert_equal(&rt, rest.next(), None);
+    assert_equal(&rt, counts_its_items(&tally), true);
+    let rest = close_counted(queue, tally).expect(&rt, "whole");
+    assert_left(&rt, rest, &[1, 2]);
 }
