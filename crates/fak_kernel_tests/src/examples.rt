@@ -1,10 +1,14 @@
 //! Scripts that more than one test runs, and what is found of runs of them.
 
-use fak_kernel::{Fault, Printed, Report, report_text, run_one};
+use fak_kernel::{
+    Fault, FreeGate, Printed, Report, report_text, run, run_one, run_one_to_text, run_to_text,
+};
 use fak_text::{Script, read_script};
-use std::alloc::Global;
+use std::alloc::{AllocError, Global};
+use std::marker::Sync;
 use std::process::Abort;
 use std::sync::Wait;
+use std::thread::Threads;
 
 /// Two opens of one file, a close, and a child.
 pub const READER: &str =
@@ -50,6 +54,23 @@ pub const CURFEW: &str =
 "programs":[[["shutdown"],["say","last"],["say","never"]],[["say","a"],["say","b"]],[["down",0]]],
 "start":[0,1,2]}"#;
 
+/// Adds each part as often as the number beside it says.
+pub fn add_parts(text: &mut String, parts: &[(u64, &str)]) -> Result<(), AllocError> {
+    for &(times, part) in parts {
+        for _ in 0..times {
+            text.push_str(part)?;
+        }
+    }
+    Ok(())
+}
+
+/// The script of these parts.
+pub fn script_in_parts(rt: &impl Abort, alloc: Global, parts: &[(u64, &str)]) -> Script {
+    let mut text = String::new(alloc);
+    add_parts(&mut text, parts).expect(rt, "a text");
+    script_of(rt, alloc, &text)
+}
+
 pub fn script_of(rt: &impl Abort, alloc: Global, text: &str) -> Script {
     let Ok(script) = read_script(alloc, text.as_bytes()) else {
         panic!(rt; "no script: {text}")
@@ -66,23 +87,70 @@ pub fn report_of<R: Abort + Wait>(rt: &R, alloc: Global, script: &str) -> Report
     report
 }
 
-/// Whether this is the text of the report.
-pub fn is_text_of(rt: &impl Abort, alloc: Global, report: &Report, text: &str) -> bool {
-    let Ok(written) = report_text(alloc, report) else {
-        panic!(rt; "no text, where it is to be {text}")
-    };
-    written.as_slice() == text.as_bytes()
+/// The report of a script on so many processors; without threads where there is none.
+pub fn run_on<R: Abort + Threads + Wait + Sync>(
+    rt: &R,
+    alloc: Global,
+    script: &Script,
+    processors: u64,
+) -> Result<Report, Fault> {
+    match processors {
+        0 => run_one(rt, alloc, script),
+        _ => run(rt, alloc, script, processors, &FreeGate),
+    }
 }
 
-/// Whether this text was printed, with this exit status.
+/// What is printed where the text alone of such a run is asked for.
+pub fn run_on_to_text<R: Abort + Threads + Wait + Sync>(
+    rt: &R,
+    alloc: Global,
+    script: &Script,
+    processors: u64,
+) -> Result<Printed, Fault> {
+    match processors {
+        0 => run_one_to_text(rt, alloc, script),
+        _ => run_to_text(rt, alloc, script, processors, &FreeGate),
+    }
+}
+
+/// Finds that the run ended with this fault, and that no processor was left alone.
+pub fn is_left(
+    rt: &impl Abort,
+    found: Option<Fault>,
+    wanted: Fault,
+    is_left_alone: bool,
+    chosen: u64,
+    processors: u64,
+) {
+    assert!(rt;
+        found == Some(wanted) && !is_left_alone,
+        "{found:?} of {chosen} on {processors}, one left alone: {is_left_alone}"
+    );
+}
+
+/// Finds that this is the text of a report.
+pub fn has_text(rt: &impl Abort, alloc: Global, report: &Report, processors: u64, text: &str) {
+    let is_same = match report_text(alloc, report) {
+        Ok(written) => written.as_slice() == text.as_bytes(),
+        Err(_) => false,
+    };
+    assert!(rt; is_same, "not on {processors}: {text}");
+}
+
+/// Finds that this text was printed, with this exit status.
 pub fn is_printed(
     rt: &impl Abort,
     printed: Result<Printed, Fault>,
+    processors: u64,
     text: &str,
     status: u8,
-) -> bool {
-    let Ok(printed) = printed else {
-        panic!(rt; "nothing was printed, where it is to be {text}")
+) {
+    let is_same = match printed {
+        Ok(printed) => printed.text.as_slice() == text.as_bytes() && printed.status == status,
+        Err(_) => false,
     };
-    printed.text.as_slice() == text.as_bytes() && printed.status == status
+    assert!(rt;
+        is_same,
+        "not printed on {processors} with {status}: {text}"
+    );
 }

@@ -1,9 +1,9 @@
 //! Faults among several processors: the others leave, and the fault of the first one is answered.
 
-use super::examples::script_of;
+use super::examples::{is_left, script_in_parts, script_of};
 use super::gates::{Chosen, Late, Second, Slow, Slowing};
 use fak_kernel::{Fault, FreeGate, Gate, run};
-use std::alloc::{AllocError, Global};
+use std::alloc::Global;
 use std::marker::Sync;
 use std::process::Abort;
 use std::sync::Wait;
@@ -37,8 +37,14 @@ fn the_others_leave_where_one_is_worn(rt: HostRuntime) {
     for processors in 2..9u64 {
         let gate = Late::new(NOBODY, MANY);
         let fault = fault_of(&rt, rt.alloc(), processors, &gate);
-        assert!(rt; fault == Some(Fault::Worn), "{fault:?} on {processors}");
-        assert!(rt; !gate.has_left_alone(), "{processors}");
+        is_left(
+            &rt,
+            fault,
+            Fault::Worn,
+            gate.has_left_alone(),
+            NOBODY,
+            processors,
+        );
     }
 }
 
@@ -46,7 +52,7 @@ fn the_others_leave_where_one_is_worn(rt: HostRuntime) {
 fn the_others_leave_by_the_free_gate(rt: HostRuntime) {
     for processors in 2..9u64 {
         let fault = fault_of(&rt, rt.alloc(), processors, &FreeGate);
-        assert!(rt; fault == Some(Fault::Worn), "{fault:?} on {processors}");
+        is_left(&rt, fault, Fault::Worn, false, NOBODY, processors);
     }
 }
 
@@ -55,18 +61,14 @@ fn the_fault_of_the_first_processor_is_answered(rt: HostRuntime) {
     for &(refused, answered) in &[(1u64, Fault::Worn), (0, Fault::Gate)] {
         let gate = Late::new(refused, MANY);
         let fault = fault_of(&rt, rt.alloc(), 2, &gate);
-        assert!(rt;
-            fault == Some(answered),
-            "{fault:?} where {refused} is refused"
-        );
-        assert!(rt; !gate.has_left_alone(), "{refused}");
+        is_left(&rt, fault, answered, gate.has_left_alone(), refused, 2);
     }
 }
 
 #[test]
 fn the_fault_of_a_later_processor_is_answered(rt: HostRuntime) {
     let fault = fault_of(&rt, rt.alloc(), 2, &Slow::new(MANY));
-    assert!(rt; fault == Some(Fault::Worn), "{fault:?}");
+    is_left(&rt, fault, Fault::Worn, false, 0, 2);
 }
 
 #[test]
@@ -75,71 +77,72 @@ fn whoever_is_worn_the_others_leave(rt: HostRuntime) {
         for chosen in 0..processors {
             let gate = Chosen::new(chosen, MANY);
             let fault = fault_of(&rt, rt.alloc(), processors, &gate);
-            assert!(rt;
-                fault == Some(Fault::Worn),
-                "{fault:?} of {chosen} on {processors}"
+            is_left(
+                &rt,
+                fault,
+                Fault::Worn,
+                gate.has_left_alone(),
+                chosen,
+                processors,
             );
-            assert!(rt; !gate.has_left_alone(), "{chosen} of {processors}");
         }
     }
 }
 
 /// Eight processes that end at once, and behind them one that wears a seat in its first turn.
-fn worn_behind_eight(alloc: Global) -> Result<String, AllocError> {
-    let mut text = String::new(alloc);
-    text.push_str(
+const WORN_BEHIND_EIGHT: [(u64, &str); 3] = [
+    (
+        1,
         r#"{"version":1,"slots":9,"births":0,"quantum":99,"stint":40,"semaphores":[0],"files":1,"programs":[[],["#,
-    )?;
-    for _ in 0..40 {
-        text.push_str(r#"["up",0],"#)?;
-    }
-    text.push_str(r#"["up",0]]],"start":[0,0,0,0,0,0,0,0,1]}"#)?;
-    Ok(text)
-}
+    ),
+    (40, r#"["up",0],"#),
+    (1, r#"["up",0]]],"start":[0,0,0,0,0,0,0,0,1]}"#),
+];
 
 #[test]
 fn the_others_leave_where_each_has_seen_an_end(rt: HostRuntime) {
-    let text = worn_behind_eight(rt.alloc()).expect(&rt, "a script");
-    let script = script_of(&rt, rt.alloc(), &text);
+    let script = script_in_parts(&rt, rt.alloc(), &WORN_BEHIND_EIGHT);
     for processors in 2..9u64 {
         for chosen in 0..processors {
             let gate = Second::new(chosen, processors, MANY);
             let fault = run(&rt, rt.alloc(), &script, processors, &gate).err();
-            assert!(rt;
-                fault == Some(Fault::Worn),
-                "{fault:?} of {chosen} on {processors}"
+            is_left(
+                &rt,
+                fault,
+                Fault::Worn,
+                gate.has_left_alone(),
+                chosen,
+                processors,
             );
-            assert!(rt; !gate.has_left_alone(), "{chosen} of {processors}");
         }
     }
 }
 
 /// Eight processes of 1,000 turns each, so that who has all of them to himself makes 8,000 looks.
-fn many_turns(alloc: Global) -> Result<String, AllocError> {
-    let mut text = String::new(alloc);
-    text.push_str(
+const MANY_TURNS: [(u64, &str); 3] = [
+    (
+        1,
         r#"{"version":1,"slots":8,"births":0,"quantum":1,"semaphores":[],"files":1,"programs":[["#,
-    )?;
-    for _ in 0..999 {
-        text.push_str(r#"["yield"],"#)?;
-    }
-    text.push_str(r#"["yield"]]],"start":[0,0,0,0,0,0,0,0]}"#)?;
-    Ok(text)
-}
+    ),
+    (999, r#"["yield"],"#),
+    (1, r#"["yield"]]],"start":[0,0,0,0,0,0,0,0]}"#),
+];
 
 #[test]
 fn whoever_is_refused_the_others_leave(rt: HostRuntime) {
-    let text = many_turns(rt.alloc()).expect(&rt, "a script");
-    let script = script_of(&rt, rt.alloc(), &text);
+    let script = script_in_parts(&rt, rt.alloc(), &MANY_TURNS);
     for processors in 2..9u64 {
         for refused in 0..processors {
             let gate = Slowing::new(refused, 20, MANY);
             let fault = run(&rt, rt.alloc(), &script, processors, &gate).err();
-            assert!(rt;
-                fault == Some(Fault::Gate),
-                "{fault:?} where {refused} of {processors} is refused"
+            is_left(
+                &rt,
+                fault,
+                Fault::Gate,
+                gate.has_left_alone(),
+                refused,
+                processors,
             );
-            assert!(rt; !gate.has_left_alone(), "{refused} of {processors}");
         }
     }
 }

@@ -8,6 +8,20 @@ mod names;
 use fak_kernel::Report;
 use fak_text::Script;
 use std::alloc::{AllocError, Global};
+use std::process::Abort;
+
+/// Finds that the report of this script, by so many processors, breaks no promise.
+pub(super) fn keeps_promises(
+    rt: &impl Abort,
+    alloc: Global,
+    script: &Script,
+    report: &Report,
+    processors: u64,
+    text: &str,
+) {
+    let broken = broken_promise(alloc, script, report);
+    assert!(rt; broken == Ok(None), "{broken:?} on {processors}: {text}");
+}
 
 /// The promise that the report breaks.
 pub(super) fn broken_promise(

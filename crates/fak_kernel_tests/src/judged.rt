@@ -1,7 +1,7 @@
 //! The judge finds what is broken in reports that were changed.
 
 use super::examples::{READER, report_of, script_of};
-use super::judge::broken_promise;
+use super::judge::{broken_promise, keeps_promises};
 use fak_kernel::{Outcome, ProcessRow, Report};
 use fak_text::{Note, Script};
 use std::alloc::{AllocError, Global};
@@ -64,8 +64,7 @@ fn verdict_after(
     report: &mut Report,
     what: Change,
 ) -> Result<Option<&'static str>, AllocError> {
-    let kept = broken_promise(alloc, script, report);
-    assert!(rt; kept == Ok(None), "nothing was changed yet");
+    keeps_promises(rt, alloc, script, report, 0, "nothing was changed yet");
     assert!(rt; apply(report, what), "a change");
     broken_promise(alloc, script, report)
 }
@@ -82,21 +81,21 @@ fn verdict<R: Abort + Wait>(
     verdict_after(rt, alloc, &script, &mut report, what)
 }
 
+/// Each change, of the report of a script, and what it breaks.
+const CHANGES: [(&str, Change, &str); 7] = [
+    (READER, Change::Version, "version and bound"),
+    (READER, Change::Order, "names"),
+    (READER, Change::Row, "births"),
+    (READER, Change::Outcome, "rows that fit"),
+    (SLEEPERS, Change::Slot, "slots"),
+    (SLEEPERS, Change::Pass, "semaphores"),
+    (READER, Change::Entry, "files"),
+];
+
 #[test]
 fn each_promise_can_be_broken(rt: HostRuntime) {
-    let changes = [
-        (READER, Change::Version, "version and bound"),
-        (READER, Change::Order, "names"),
-        (READER, Change::Row, "births"),
-        (READER, Change::Outcome, "rows that fit"),
-        (SLEEPERS, Change::Slot, "slots"),
-        (SLEEPERS, Change::Pass, "semaphores"),
-        (READER, Change::Entry, "files"),
-    ];
-    for &(script, what, broken) in &changes {
-        assert!(rt;
-            verdict(&rt, rt.alloc(), script, what) == Ok(Some(broken)),
-            "{broken}"
-        );
+    for &(script, what, broken) in &CHANGES {
+        let found = verdict(&rt, rt.alloc(), script, what);
+        assert!(rt; found == Ok(Some(broken)), "{broken}");
     }
 }

@@ -1,15 +1,14 @@
 //! Runs on several processors: each report is judged, and gates show that the processors run at once.
 
 use super::examples::{
-    CURFEW, PING_PONG, PING_PONG_REPORT, READER, READER_REPORT, is_printed, is_text_of, script_of,
+    CURFEW, PING_PONG, PING_PONG_REPORT, READER, READER_REPORT, add_parts, has_text, is_printed,
+    run_on, run_on_to_text, script_in_parts, script_of,
 };
 use super::gates::{Holding, Meeting, Refusing};
-use super::judge::broken_promise;
+use super::judge::keeps_promises;
 use super::scripting::drawn_script;
 use crate::Draws;
-use fak_kernel::{
-    Fault, FreeGate, Gate, Report, report_text, run, run_one, run_one_to_text, run_to_text,
-};
+use fak_kernel::{Fault, FreeGate, Gate, Report, report_text, run, run_to_text};
 use fak_text::Script;
 use std::alloc::{AllocError, Global};
 use std::marker::Sync;
@@ -42,7 +41,7 @@ fn report_on<R: Abort + Threads + Wait + Sync, G: Gate + Sync>(
     report
 }
 
-/// Whether a run has this report.
+/// Finds that a run has this report.
 fn reports<R: Abort + Threads + Wait + Sync, G: Gate + Sync>(
     rt: &R,
     alloc: Global,
@@ -50,10 +49,10 @@ fn reports<R: Abort + Threads + Wait + Sync, G: Gate + Sync>(
     processors: u64,
     gate: &G,
     text: &str,
-) -> bool {
+) {
     let script = script_of(rt, alloc, script);
     let report = report_on(rt, alloc, &script, processors, gate);
-    is_text_of(rt, alloc, &report, text)
+    has_text(rt, alloc, &report, processors, text);
 }
 
 /// The fault of a run.
@@ -68,68 +67,90 @@ fn fault_of<R: Abort + Threads + Wait + Sync, G: Gate + Sync>(
     run(rt, alloc, &script, processors, gate).err()
 }
 
+/// Finds that a run ends with this fault.
+fn fails<R: Abort + Threads + Wait + Sync, G: Gate + Sync>(
+    rt: &R,
+    alloc: Global,
+    script: &str,
+    processors: u64,
+    gate: &G,
+    wanted: Fault,
+) {
+    let fault = fault_of(rt, alloc, script, processors, gate);
+    assert!(rt; fault == Some(wanted), "{fault:?} on {processors}");
+}
+
 #[test]
 fn two_processors_meet(rt: HostRuntime) {
     let gate = Meeting::new(2, MANY);
     assert!(rt; gate.may_refuse());
-    assert!(rt; reports(&rt, rt.alloc(), PING_PONG, 2, &gate, PING_PONG_REPORT));
-    let alone = fault_of(&rt, rt.alloc(), PING_PONG, 1, &Meeting::new(2, FEW));
-    assert!(rt; alone == Some(Fault::Gate));
+    reports(&rt, rt.alloc(), PING_PONG, 2, &gate, PING_PONG_REPORT);
+    fails(
+        &rt,
+        rt.alloc(),
+        PING_PONG,
+        1,
+        &Meeting::new(2, FEW),
+        Fault::Gate,
+    );
 }
 
 #[test]
 fn three_processors_meet(rt: HostRuntime) {
     let gate = Meeting::new(3, MANY);
-    assert!(rt; reports(&rt, rt.alloc(), PING_PONG, 3, &gate, PING_PONG_REPORT));
-    let two = fault_of(&rt, rt.alloc(), PING_PONG, 2, &Meeting::new(3, FEW));
-    assert!(rt; two == Some(Fault::Gate));
+    reports(&rt, rt.alloc(), PING_PONG, 3, &gate, PING_PONG_REPORT);
+    fails(
+        &rt,
+        rt.alloc(),
+        PING_PONG,
+        2,
+        &Meeting::new(3, FEW),
+        Fault::Gate,
+    );
 }
 
 #[test]
 fn one_processor_is_held_until_the_other_is_done(rt: HostRuntime) {
     for held in 0..2u64 {
         let gate = Holding::new(held, MANY);
-        assert!(rt;
-            reports(&rt, rt.alloc(), PING_PONG, 2, &gate, PING_PONG_REPORT),
-            "{held}"
-        );
+        reports(&rt, rt.alloc(), PING_PONG, 2, &gate, PING_PONG_REPORT);
     }
-    let alone = fault_of(&rt, rt.alloc(), PING_PONG, 1, &Holding::new(0, FEW));
-    assert!(rt; alone == Some(Fault::Gate));
+    fails(
+        &rt,
+        rt.alloc(),
+        PING_PONG,
+        1,
+        &Holding::new(0, FEW),
+        Fault::Gate,
+    );
 }
 
 #[test]
 fn known_reports_on_1_to_8(rt: HostRuntime) {
     for processors in 1..9u64 {
         for &(script, report) in &[(PING_PONG, PING_PONG_REPORT), (READER, READER_REPORT)] {
-            assert!(rt;
-                reports(&rt, rt.alloc(), script, processors, &FreeGate, report),
-                "on {processors}: {script}"
-            );
+            reports(&rt, rt.alloc(), script, processors, &FreeGate, report);
         }
     }
 }
 
-/// Whether a run that is asked for its text alone prints this, with status 0.
+/// Finds that a run that is asked for its text alone prints this, with status 0.
 fn prints<R: Abort + Threads + Wait + Sync>(
     rt: &R,
     alloc: Global,
     script: &str,
     processors: u64,
     text: &str,
-) -> bool {
+) {
     let script = script_of(rt, alloc, script);
     let printed = run_to_text(rt, alloc, &script, processors, &FreeGate);
-    is_printed(rt, printed, text, 0)
+    is_printed(rt, printed, processors, text, 0);
 }
 
 #[test]
 fn known_texts_on_1_to_8(rt: HostRuntime) {
     for processors in 1..9u64 {
-        assert!(rt;
-            prints(&rt, rt.alloc(), PING_PONG, processors, PING_PONG_REPORT),
-            "{processors}"
-        );
+        prints(&rt, rt.alloc(), PING_PONG, processors, PING_PONG_REPORT);
     }
     let script = script_of(&rt, rt.alloc(), PING_PONG);
     let refused = run_to_text(&rt, rt.alloc(), &script, 9, &FreeGate).err();
@@ -139,23 +160,34 @@ fn known_texts_on_1_to_8(rt: HostRuntime) {
 #[test]
 fn other_numbers_of_processors(rt: HostRuntime) {
     for &processors in &[0u64, 9, 18_446_744_073_709_551_615] {
-        let refused = fault_of(&rt, rt.alloc(), PING_PONG, processors, &FreeGate);
-        assert!(rt; refused == Some(Fault::BadProcessors), "{processors}");
+        fails(
+            &rt,
+            rt.alloc(),
+            PING_PONG,
+            processors,
+            &FreeGate,
+            Fault::BadProcessors,
+        );
     }
 }
 
 #[test]
 fn a_stint_of_one_call_is_worn(rt: HostRuntime) {
     for &processors in &[1u64, 3] {
-        let worn = fault_of(&rt, rt.alloc(), WORN, processors, &FreeGate);
-        assert!(rt; worn == Some(Fault::Worn), "{processors}");
+        fails(&rt, rt.alloc(), WORN, processors, &FreeGate, Fault::Worn);
     }
 }
 
 #[test]
 fn a_gate_refuses(rt: HostRuntime) {
-    let refused = fault_of(&rt, rt.alloc(), PING_PONG, 4, &Refusing::new(1));
-    assert!(rt; refused == Some(Fault::Gate));
+    fails(
+        &rt,
+        rt.alloc(),
+        PING_PONG,
+        4,
+        &Refusing::new(1),
+        Fault::Gate,
+    );
 }
 
 /// A report that keeps all promises.
@@ -168,8 +200,7 @@ fn judged_report<R: Abort + Threads + Wait + Sync>(
     let text = script;
     let script = script_of(rt, alloc, text);
     let report = report_on(rt, alloc, &script, processors, &FreeGate);
-    let broken = broken_promise(alloc, &script, &report);
-    assert!(rt; broken == Ok(None), "{broken:?} on {processors}: {text}");
+    keeps_promises(rt, alloc, &script, &report, processors, text);
     report
 }
 
@@ -199,76 +230,71 @@ fn a_thousand_children(rt: HostRuntime) {
 }
 
 /// 64 processes that say one text each.
-fn many_rows(alloc: Global) -> Result<String, AllocError> {
-    let mut text = String::new(alloc);
-    text.push_str(
+const MANY_ROWS: [(u64, &str); 3] = [
+    (
+        1,
         r#"{"version":1,"slots":64,"births":0,"quantum":1,"semaphores":[],"files":1,"programs":[[["say","a"]]],"start":[0"#,
-    )?;
-    for _ in 0..63 {
-        text.push_str(",0")?;
-    }
-    text.push_str("]}")?;
-    Ok(text)
-}
+    ),
+    (63, ",0"),
+    (1, "]}"),
+];
 
 /// One process that says a text of each length from 0 to 80.
-fn long_texts(alloc: Global) -> Result<String, AllocError> {
+fn long_texts(rt: &impl Abort, alloc: Global) -> Script {
     let mut text = String::new(alloc);
+    add_long_texts(&mut text).expect(rt, "a script");
+    script_of(rt, alloc, &text)
+}
+
+/// Adds this script.
+fn add_long_texts(text: &mut String) -> Result<(), AllocError> {
     text.push_str(
         r#"{"version":1,"slots":1,"births":0,"quantum":9,"semaphores":[],"files":1,"programs":[[["say",""]"#,
     )?;
-    let mut said = String::new(alloc);
-    for _ in 0..80 {
-        said.push_str("x")?;
-        text.push_str(r#",["say",""#)?;
-        text.push_str(&said)?;
-        text.push_str(r#""]"#)?;
+    for length in 1..81u64 {
+        add_parts(text, &[(1, r#",["say",""#), (length, "x"), (1, r#""]"#)])?;
     }
-    text.push_str(r#"]],"start":[0]}"#)?;
-    Ok(text)
+    text.push_str(r#"]],"start":[0]}"#)
 }
 
-/// The text of the report of a run, and what a run that is asked for its text alone prints; without threads where no
-/// processor is named.
-fn both_texts<R: Abort + Threads + Wait + Sync>(
+/// The text of the report of a run.
+fn whole_text<R: Abort + Threads + Wait + Sync>(
     rt: &R,
     alloc: Global,
     script: &Script,
     processors: u64,
-) -> Result<(Vec<u8>, Vec<u8>), Fault> {
-    let (report, printed) = match processors {
-        0 => (
-            run_one(rt, alloc, script)?,
-            run_one_to_text(rt, alloc, script)?,
-        ),
-        _ => (
-            run(rt, alloc, script, processors, &FreeGate)?,
-            run_to_text(rt, alloc, script, processors, &FreeGate)?,
-        ),
-    };
-    Ok((report_text(alloc, &report)?, printed.text))
+) -> Result<Vec<u8>, Fault> {
+    let report = run_on(rt, alloc, script, processors)?;
+    Ok(report_text(alloc, &report)?)
 }
 
-/// Finds that both texts of the script are the same, and have this many lines.
+/// Finds that both texts are the same, and have this many lines.
+fn are_same(rt: &impl Abort, whole: &[u8], printed: &[u8], lines: usize, processors: u64) {
+    let found = whole.iter().filter(|byte| **byte == b'\n').count();
+    assert!(rt;
+        whole == printed && found == lines,
+        "{found} of {lines} lines on {processors}, or another text"
+    );
+}
+
+/// Finds that this is the same text as a run prints that is asked for its text alone.
 fn is_the_same_text<R: Abort + Threads + Wait + Sync>(
     rt: &R,
     alloc: Global,
-    text: &str,
+    script: &Script,
     lines: usize,
 ) {
-    let script = script_of(rt, alloc, text);
     for processors in 0..9u64 {
-        let (whole, printed) = both_texts(rt, alloc, &script, processors).expect(rt, "two texts");
-        assert!(rt; whole == printed, "on {processors}: {text}");
-        let found = whole.iter().filter(|byte| **byte == b'\n').count();
-        assert!(rt; found == lines, "{found} lines on {processors}: {text}");
+        let whole = whole_text(rt, alloc, script, processors).expect(rt, "a text");
+        let printed = run_on_to_text(rt, alloc, script, processors).expect(rt, "a text");
+        are_same(rt, &whole, &printed.text, lines, processors);
     }
 }
 
 #[test]
 fn a_report_has_the_text_that_is_printed(rt: HostRuntime) {
-    let text = many_rows(rt.alloc()).expect(&rt, "a script");
-    is_the_same_text(&rt, rt.alloc(), &text, 130);
-    let text = long_texts(rt.alloc()).expect(&rt, "a script");
-    is_the_same_text(&rt, rt.alloc(), &text, 84);
+    let script = script_in_parts(&rt, rt.alloc(), &MANY_ROWS);
+    is_the_same_text(&rt, rt.alloc(), &script, 130);
+    let script = long_texts(&rt, rt.alloc());
+    is_the_same_text(&rt, rt.alloc(), &script, 84);
 }

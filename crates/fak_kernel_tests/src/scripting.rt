@@ -34,11 +34,7 @@ fn add_script(text: &mut String, draws: &mut Draws) -> Result<(), AllocError> {
     );
     write!(
         text,
-        "{{\"version\":{version},\"slots\":{slots},\"births\":{births},"
-    )?;
-    write!(
-        text,
-        "\"quantum\":{quantum},\"files\":{files},\"semaphores\":["
+        "{{\"version\":{version},\"slots\":{slots},\"births\":{births},\"quantum\":{quantum},\"files\":{files},\"semaphores\":["
     )?;
     add_numbers(text, draws, sizes.semaphores, 3)?;
     text.push_str("],\"programs\":[")?;

@@ -1,7 +1,7 @@
 //! Scripts whose reports are known.
 
 use super::examples::{
-    CURFEW, PING_PONG, PING_PONG_REPORT, READER, READER_REPORT, is_printed, is_text_of, report_of,
+    CURFEW, PING_PONG, PING_PONG_REPORT, READER, READER_REPORT, has_text, is_printed, report_of,
     script_of,
 };
 use fak_kernel::{Outcome, ProcessRow, run_one_to_text};
@@ -12,7 +12,7 @@ use std::sync::Wait;
 /// Finds that the report of a script on one processor has this text and exit status.
 fn is_reported<R: Abort + Wait>(rt: &R, alloc: Global, script: &str, text: &str, status: u8) {
     let report = report_of(rt, alloc, script);
-    assert!(rt; is_text_of(rt, alloc, &report, text), "not {text}");
+    has_text(rt, alloc, &report, 0, text);
     assert!(rt; report.exit_status() == status, "not {status} of {text}");
 }
 
@@ -27,10 +27,7 @@ pub(super) fn answers<R: Abort + Wait>(
     is_reported(rt, alloc, script, text, status);
     let script = script_of(rt, alloc, script);
     let printed = run_one_to_text(rt, alloc, &script);
-    assert!(rt;
-        is_printed(rt, printed, text, status),
-        "not printed: {text}"
-    );
+    is_printed(rt, printed, 0, text, status);
 }
 
 const FAMILY: &str = r#"{"version":1,"slots":3,"births":2,"quantum":1,"semaphores":[0,0],"files":2,

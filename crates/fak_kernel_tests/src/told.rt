@@ -1,9 +1,10 @@
 //! What a gate is told: the number of the processor, and the number of its look, counted from 0.
 
-use super::examples::script_of;
+use super::examples::script_in_parts;
 use super::gates::Alone;
 use fak_kernel::{Gate, run};
-use std::alloc::{AllocError, Global};
+use fak_text::Script;
+use std::alloc::Global;
 use std::marker::Sync;
 use std::process::Abort;
 use std::sync::Wait;
@@ -21,15 +22,15 @@ struct Counting {
 }
 
 impl Counting {
-    fn new(alloc: Global, processors: u64) -> Result<Counting, AllocError> {
+    fn new(rt: &impl Abort, alloc: Global, processors: u64) -> Counting {
         let mut made = Vec::new(alloc);
         for _ in 0..processors {
-            made.push(AtomicU64::new(0))?;
+            made.push(AtomicU64::new(0)).expect(rt, "a gate");
         }
-        Ok(Counting {
+        Counting {
             made,
             is_wrong: AtomicBool::new(false),
-        })
+        }
     }
 
     /// Each look came in its order, and each processor made some.
@@ -64,130 +65,137 @@ impl Gate for Counting {
     }
 }
 
+const YIELD: &str = r#"["yield"],"#;
+
 /// A script of this many processes, each of which takes 1,000 turns.
-fn many_turns(alloc: Global, processes: u64) -> Result<String, AllocError> {
-    let mut text = String::new(alloc);
-    text.push_str(
-        r#"{"version":1,"slots":64,"births":0,"quantum":1,"semaphores":[],"files":1,"programs":[["#,
-    )?;
-    for _ in 0..999 {
-        text.push_str(r#"["yield"],"#)?;
+fn many_turns(processes: u64) -> [(u64, &'static str); 5] {
+    [
+        (
+            1,
+            r#"{"version":1,"slots":64,"births":0,"quantum":1,"semaphores":[],"files":1,"programs":[["#,
+        ),
+        (999, YIELD),
+        (1, r#"["say",""]]],"start":[0"#),
+        (processes.saturating_sub(1), ",0"),
+        (1, "]}"),
+    ]
+}
+
+/// A script of 140,000 turns and 162: two processes start 40 children each, one after the other, and each child takes 1,000
+/// turns, as 60 processes more do.
+const VERY_MANY_TURNS: [(u64, &str); 9] = [
+    (
+        1,
+        r#"{"version":1,"slots":64,"births":80,"quantum":1,"semaphores":[0],"files":1,"programs":[["#,
+    ),
+    (40, r#"["spawn",1],["down",0],"#),
+    (1, r#"["say",""]],["#),
+    (999, YIELD),
+    (1, r#"["up",0]],["#),
+    (999, YIELD),
+    (1, r#"["yield"]]],"start":[0,0"#),
+    (60, ",2"),
+    (1, "]}"),
+];
+
+/// A script of 63 turns: the first process shuts the ready queue, and each process halts after its turn, of which one half
+/// is longer by a step.
+const MANY_HALTS: [(u64, &str); 3] = [
+    (
+        1,
+        r#"{"version":2,"slots":64,"births":0,"quantum":9,"semaphores":[],"files":1,
+"programs":[[["shutdown"],["yield"],["yield"]],[["yield"],["yield"]],[["say",""],["yield"],["yield"]]],"start":[0"#,
+    ),
+    (31, ",1,2"),
+    (1, "]}"),
+];
+
+/// The most looks of a processor; 0 where there is no report, or where the gate was told wrongly.
+fn most_looks<R: Abort + Threads + Wait + Sync>(
+    rt: &R,
+    alloc: Global,
+    script: &[(u64, &str)],
+    processors: u64,
+) -> u64 {
+    let script = script_in_parts(rt, alloc, script);
+    let gate = Counting::new(rt, alloc, processors);
+    let is_run = run::<Counting>(rt, alloc, &script, processors, &gate).is_ok();
+    if is_run && gate.is_right() {
+        gate.most()
+    } else {
+        0
     }
-    text.push_str(r#"["say",""]]],"start":[0"#)?;
-    for _ in 1..processes {
-        text.push_str(",0")?;
-    }
-    text.push_str("]}")?;
-    Ok(text)
 }
 
 #[test]
 fn each_processor_tells_its_own_number_and_its_looks(rt: HostRuntime) {
     for processors in 1..9u64 {
-        let text = many_turns(rt.alloc(), 2 * processors).expect(&rt, "a script");
-        let script = script_of(&rt, rt.alloc(), &text);
-        let gate = Counting::new(rt.alloc(), processors).expect(&rt, "a gate");
-        let report = run::<Counting>(&rt, rt.alloc(), &script, processors, &gate);
-        assert!(rt; report.is_ok(), "{processors}");
-        assert!(rt; gate.is_right(), "{processors}");
-        assert!(rt; gate.most() > 1_024, "{processors}");
+        let looks = most_looks(&rt, rt.alloc(), &many_turns(2 * processors), processors);
+        assert!(rt; looks > 1_024, "{processors}");
     }
 }
 
-/// A script of 140,000 turns and 162: two processes start 40 children each, one after the other, and each child takes 1,000
-/// turns, as 60 processes more do.
-fn very_many_turns(alloc: Global) -> Result<String, AllocError> {
-    let mut text = String::new(alloc);
-    text.push_str(
-        r#"{"version":1,"slots":64,"births":80,"quantum":1,"semaphores":[0],"files":1,"programs":[["#,
-    )?;
-    for _ in 0..40 {
-        text.push_str(r#"["spawn",1],["down",0],"#)?;
-    }
-    text.push_str(r#"["say",""]],["#)?;
-    for _ in 0..999 {
-        text.push_str(r#"["yield"],"#)?;
-    }
-    text.push_str(r#"["up",0]],["#)?;
-    for _ in 0..999 {
-        text.push_str(r#"["yield"],"#)?;
-    }
-    text.push_str(r#"["yield"]]],"start":[0,0"#)?;
-    for _ in 0..60 {
-        text.push_str(",2")?;
-    }
-    text.push_str("]}")?;
-    Ok(text)
+/// Finds the looks of the processor that did all the work: one for each turn, and the last, which finds no process.
+fn has_looked(rt: &impl Abort, looks: u64, turns: u64, chosen: u64, processors: u64) {
+    assert!(rt;
+        looks == turns.saturating_add(1),
+        "{looks} of {chosen} of {processors}, not {turns} and one"
+    );
 }
 
-/// A script of 63 turns: the first process shuts the ready queue, and each process halts after its turn, of which one half
-/// is longer by a step.
-fn many_halts(alloc: Global) -> Result<String, AllocError> {
-    let mut text = String::new(alloc);
-    text.push_str(
-        r#"{"version":2,"slots":64,"births":0,"quantum":9,"semaphores":[],"files":1,
-"programs":[[["shutdown"],["yield"],["yield"]],[["yield"],["yield"]],[["say",""],["yield"],["yield"]]],"start":[0"#,
-    )?;
-    for _ in 0..31 {
-        text.push_str(",1,2")?;
-    }
-    text.push_str("]}")?;
-    Ok(text)
-}
-
-/// Finds that one processor asks before each of its looks: one for each turn, and the last, which finds no process.
+/// Finds that one processor asks before each of its looks.
 fn asks_before_each<R: Abort + Threads + Wait + Sync>(
     rt: &R,
     alloc: Global,
-    text: &str,
+    script: &[(u64, &str)],
     turns: u64,
 ) {
-    let script = script_of(rt, alloc, text);
-    let gate = Counting::new(alloc, 1).expect(rt, "a gate");
-    let report = run::<Counting>(rt, alloc, &script, 1, &gate);
-    assert!(rt; report.is_ok() && gate.is_right(), "{turns}");
-    let looks = gate.most();
-    assert!(rt; looks == turns.saturating_add(1), "{looks} of {turns}");
+    let looks = most_looks(rt, alloc, script, 1);
+    has_looked(rt, looks, turns, 0, 1);
 }
 
 #[test]
 fn a_processor_asks_before_each_look(rt: HostRuntime) {
     for &processes in &[1u64, 2, 64] {
-        let text = many_turns(rt.alloc(), processes).expect(&rt, "a script");
-        asks_before_each(&rt, rt.alloc(), &text, processes.saturating_mul(1_000));
+        let turns = processes.saturating_mul(1_000);
+        asks_before_each(&rt, rt.alloc(), &many_turns(processes), turns);
     }
-    let text = very_many_turns(rt.alloc()).expect(&rt, "a script");
-    asks_before_each(&rt, rt.alloc(), &text, 140_162);
-    let text = many_halts(rt.alloc()).expect(&rt, "a script");
-    asks_before_each(&rt, rt.alloc(), &text, 63);
+    asks_before_each(&rt, rt.alloc(), &VERY_MANY_TURNS, 140_162);
+    asks_before_each(&rt, rt.alloc(), &MANY_HALTS, 63);
+}
+
+/// The looks of a processor that works alone among this many; 0 where there is no report.
+fn looks_alone<R: Abort + Threads + Wait + Sync>(
+    rt: &R,
+    alloc: Global,
+    script: &Script,
+    turns: u64,
+    chosen: u64,
+    processors: u64,
+) -> u64 {
+    let gate = Alone::new(chosen, turns, MANY);
+    let is_run = run(rt, alloc, script, processors, &gate).is_ok();
+    if is_run { gate.looks() } else { 0 }
 }
 
 /// Finds the same of each of 2 to 8 processors that works alone.
 fn asks_wherever_it_works<R: Abort + Threads + Wait + Sync>(
     rt: &R,
     alloc: Global,
-    text: &str,
+    script: &[(u64, &str)],
     turns: u64,
 ) {
-    let script = script_of(rt, alloc, text);
+    let script = script_in_parts(rt, alloc, script);
     for processors in 2..9u64 {
         for chosen in 0..processors {
-            let gate = Alone::new(chosen, turns, MANY);
-            let report = run(rt, alloc, &script, processors, &gate);
-            assert!(rt; report.is_ok(), "{chosen} of {processors}");
-            let looks = gate.looks();
-            assert!(rt;
-                looks == turns.saturating_add(1),
-                "{looks} of {chosen} of {processors}, not {turns} and one"
-            );
+            let looks = looks_alone(rt, alloc, &script, turns, chosen, processors);
+            has_looked(rt, looks, turns, chosen, processors);
         }
     }
 }
 
 #[test]
 fn whoever_works_asks_before_each_look(rt: HostRuntime) {
-    let text = many_turns(rt.alloc(), 1).expect(&rt, "a script");
-    asks_wherever_it_works(&rt, rt.alloc(), &text, 1_000);
-    let text = many_halts(rt.alloc()).expect(&rt, "a script");
-    asks_wherever_it_works(&rt, rt.alloc(), &text, 63);
+    asks_wherever_it_works(&rt, rt.alloc(), &many_turns(1), 1_000);
+    asks_wherever_it_works(&rt, rt.alloc(), &MANY_HALTS, 63);
 }

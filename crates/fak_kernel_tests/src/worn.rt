@@ -1,11 +1,10 @@
 //! Stints that are used up, at each object of a run: with one call more in the stint the run ends.
 
-use super::examples::script_of;
+use super::examples::{is_left, run_on, run_on_to_text, script_of};
 use super::gates::Chosen;
-use fak_kernel::{Fault, FreeGate, run, run_one, run_one_to_text, run_to_text};
+use fak_kernel::{Fault, run};
 use fak_text::Script;
-use std::alloc::{AllocError, Global};
-use std::fmt::Write;
+use std::alloc::Global;
 use std::process::Abort;
 use std::sync::Wait;
 use std::thread::Threads;
@@ -95,35 +94,39 @@ const ALONE: [Case; 7] = [
     ),
 ];
 
-fn with_stint(alloc: Global, front: &str, stint: u64) -> Result<String, AllocError> {
-    let mut text = String::new(alloc);
-    text.push_str(front)?;
-    write!(text, "\"stint\":{stint}}}")?;
-    Ok(text)
+fn with_stint(rt: &impl Abort, alloc: Global, front: &str, stint: u64) -> Script {
+    let text = format!(in alloc; "{front}\"stint\":{stint}}}").expect(rt, "a script");
+    script_of(rt, alloc, &text)
 }
 
-/// The fault of the script with this stint, the same as a report and as a text; without threads where no processor is named.
-fn fault_on<R: Abort + Threads + Wait + Sync>(
+/// The faults of the script with this stint, as a report and as a text; without threads where no processor is named.
+fn faults_on<R: Abort + Threads + Wait + Sync>(
     rt: &R,
     alloc: Global,
     front: &str,
     stint: u64,
     processors: u64,
-) -> Option<Fault> {
-    let text = with_stint(alloc, front, stint).expect(rt, "a script");
-    let script = script_of(rt, alloc, &text);
-    let (whole, printed) = match processors {
-        0 => (
-            run_one(rt, alloc, &script).err(),
-            run_one_to_text(rt, alloc, &script).err(),
-        ),
-        _ => (
-            run(rt, alloc, &script, processors, &FreeGate).err(),
-            run_to_text(rt, alloc, &script, processors, &FreeGate).err(),
-        ),
-    };
-    assert!(rt; whole == printed, "{whole:?}, {printed:?}: {front}");
-    whole
+) -> (Option<Fault>, Option<Fault>) {
+    let script = with_stint(rt, alloc, front, stint);
+    let whole = run_on(rt, alloc, &script, processors).err();
+    let printed = run_on_to_text(rt, alloc, &script, processors).err();
+    (whole, printed)
+}
+
+/// Finds that both are this fault, or that there is none.
+fn has_fault<R: Abort + Threads + Wait + Sync>(
+    rt: &R,
+    alloc: Global,
+    front: &str,
+    stint: u64,
+    processors: u64,
+    wanted: Option<Fault>,
+) {
+    let (whole, printed) = faults_on(rt, alloc, front, stint, processors);
+    assert!(rt;
+        whole == wanted && printed == wanted,
+        "{whole:?}, {printed:?} with {stint} on {processors}: {front}"
+    );
 }
 
 /// Finds that the script is worn with each stint below the least, and ends with the least.
@@ -134,17 +137,9 @@ fn is_worn_below<R: Abort + Threads + Wait + Sync>(
     processors: u64,
 ) {
     for stint in 1..least {
-        let fault = fault_on(rt, alloc, front, stint, processors);
-        assert!(rt;
-            fault == Some(Fault::Worn),
-            "{fault:?} with {stint} on {processors}: {front}"
-        );
+        has_fault(rt, alloc, front, stint, processors, Some(Fault::Worn));
     }
-    let fault = fault_on(rt, alloc, front, least, processors);
-    assert!(rt;
-        fault == None,
-        "{fault:?} with {least} on {processors}: {front}"
-    );
+    has_fault(rt, alloc, front, least, processors, None);
 }
 
 #[test]
@@ -155,10 +150,13 @@ fn a_seat_is_worn_in_one_turn(rt: HostRuntime) {
         }
         let (front, least) = case;
         for processors in 2..9u64 {
-            let fault = fault_on(&rt, rt.alloc(), front, least - 1, processors);
-            assert!(rt;
-                fault == Some(Fault::Worn),
-                "{fault:?} on {processors}: {front}"
+            has_fault(
+                &rt,
+                rt.alloc(),
+                front,
+                least - 1,
+                processors,
+                Some(Fault::Worn),
             );
         }
     }
@@ -181,19 +179,14 @@ fn is_worn_by<R: Abort + Threads + Wait + Sync>(
     processors: u64,
     chosen: u64,
 ) {
-    let gate = Chosen::new(chosen, MANY);
-    let fault = run(rt, alloc, script, processors, &gate).err();
-    assert!(rt;
-        fault == Some(Fault::Worn),
-        "{fault:?} of {chosen} on {processors}"
-    );
+    let fault = run(rt, alloc, script, processors, &Chosen::new(chosen, MANY)).err();
+    is_left(rt, fault, Fault::Worn, false, chosen, processors);
 }
 
 #[test]
 fn whoever_works_is_worn_by_many_turns(rt: HostRuntime) {
     for &stint in &[4u64, 5] {
-        let text = with_stint(rt.alloc(), OF_TURNS, stint).expect(&rt, "a script");
-        let script = script_of(&rt, rt.alloc(), &text);
+        let script = with_stint(&rt, rt.alloc(), OF_TURNS, stint);
         for processors in 2..9u64 {
             for chosen in 0..processors {
                 is_worn_by(&rt, rt.alloc(), &script, processors, chosen);
