@@ -31,15 +31,14 @@ fn are_refused(rt: &(impl Abort + AllocGlobal), lines: &[&str]) {
 
 #[test]
 fn command_lines(rt: HostRuntime) {
-    let rows = [
+    const ROWS: &[(&str, Command)] = &[
         ("fak replay", Command::Replay),
         ("other replay", Command::Replay),
         ("fak check", Command::Check),
         ("fak run", Command::Run(1)),
         ("fak replay --", Command::Replay),
     ];
-    ask_for(&rt, &rows);
-    let lines = [
+    const LINES: &[&str] = &[
         "fak run 2",
         "fak",
         "fak copy",
@@ -54,7 +53,8 @@ fn command_lines(rt: HostRuntime) {
         "fak --version",
         "fak -V",
     ];
-    are_refused(&rt, &lines);
+    ask_for(&rt, ROWS);
+    are_refused(&rt, LINES);
 }
 
 /// Finds what the option asks for in both of its spellings.
@@ -124,7 +124,7 @@ fn no_command_is_a_beginning_of_another(rt: HostRuntime) {
 
 #[test]
 fn words_that_are_like_others(rt: HostRuntime) {
-    let words = [
+    const WORDS: &[&str] = &[
         "--Processors",
         "--PROCESSORS",
         "--processorss",
@@ -167,21 +167,20 @@ fn words_that_are_like_others(rt: HostRuntime) {
         "--check",
         "--run",
     ];
-    for word in words {
+    for &word in WORDS {
         is_no_word(&rt, word);
     }
 }
 
 #[test]
 fn processors_of_a_run(rt: HostRuntime) {
-    let rows = [
+    const ROWS: &[(&str, Command)] = &[
         ("fak run --processors 1", Command::Run(1)),
         ("fak run --processors 2", Command::Run(2)),
         ("fak run --processors=7", Command::Run(7)),
         ("fak run --processors 8", Command::Run(8)),
     ];
-    ask_for(&rt, &rows);
-    let lines = [
+    const LINES: &[&str] = &[
         "fak run --processors=0",
         "fak run --processors 0",
         "fak run --processors 9",
@@ -198,5 +197,6 @@ fn processors_of_a_run(rt: HostRuntime) {
         "fak replay --processors 2",
         "fak check --processors=2",
     ];
-    are_refused(&rt, &lines);
+    ask_for(&rt, ROWS);
+    are_refused(&rt, LINES);
 }

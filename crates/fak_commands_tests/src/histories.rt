@@ -6,7 +6,7 @@ use fak_text::{Field, TextFault};
 
 #[test]
 fn verdicts(rt: HostRuntime) {
-    let rows = [
+    const ROWS: &[(&str, u8, &str)] = &[
         (r#"{"size":1,"marks":[]}"#, 0, "legal\n"),
         (
             r#"{"size":1,"marks":[[0,"claim-in"],[0,"put",7]]}"#,
@@ -26,14 +26,14 @@ fn verdicts(rt: HostRuntime) {
             "legal\n",
         ),
     ];
-    for &(input, status, text) in &rows {
+    for &(input, status, text) in ROWS {
         has_answer(&rt, Command::Check, input, status, text);
     }
 }
 
 #[test]
 fn faults_of_an_input(rt: HostRuntime) {
-    let rows = [
+    const ROWS: &[(&str, TextFault)] = &[
         (r#"{"size":0}"#, TextFault::Range(Field::Size)),
         (r#"{"size":1}"#, TextFault::Missing(Field::Marks)),
         (
@@ -49,5 +49,5 @@ fn faults_of_an_input(rt: HostRuntime) {
             TextFault::UnknownOp(0),
         ),
     ];
-    have_faults(&rt, Command::Check, &rows);
+    have_faults(&rt, Command::Check, ROWS);
 }

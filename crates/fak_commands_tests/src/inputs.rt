@@ -51,7 +51,7 @@ fn an_input_is_nested_at_most_127_deep(rt: HostRuntime) {
 
 #[test]
 fn versions_of_a_script(rt: HostRuntime) {
-    let rows = [
+    const ROWS: &[(&str, TextFault)] = &[
         (
             r#"{"slots":1,"births":0,"quantum":4,"semaphores":[0],"files":1,"programs":[[]],"start":[0]}"#,
             TextFault::Missing(Field::Version),
@@ -73,5 +73,5 @@ fn versions_of_a_script(rt: HostRuntime) {
             TextFault::Range(Field::Start),
         ),
     ];
-    have_faults(&rt, Command::Run(1), &rows);
+    have_faults(&rt, Command::Run(1), ROWS);
 }

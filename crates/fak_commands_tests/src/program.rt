@@ -53,7 +53,7 @@ fn have_ends(
 
 #[test]
 fn an_answer_goes_to_the_output(rt: HostRuntime) {
-    let rows = [
+    const ROWS: &[(&str, &str, (u8, &str, &str))] = &[
         ("fak check", r#"{"size":1,"marks":[]}"#, (0, "legal\n", "")),
         (
             "fak check",
@@ -84,12 +84,12 @@ fn an_answer_goes_to_the_output(rt: HostRuntime) {
             ),
         ),
     ];
-    have_ends(&rt, &rows);
+    have_ends(&rt, ROWS);
 }
 
 #[test]
 fn a_fault_goes_to_the_output_of_faults(rt: HostRuntime) {
-    let rows = [
+    const ROWS: &[(&str, &str, (u8, &str, &str))] = &[
         ("fak replay", "[", (2, "", "fak: input is not JSON\n")),
         ("fak check", "{}", (2, "", "fak: missing field size\n")),
         (
@@ -112,7 +112,7 @@ fn a_fault_goes_to_the_output_of_faults(rt: HostRuntime) {
             ),
         ),
     ];
-    have_ends(&rt, &rows);
+    have_ends(&rt, ROWS);
 }
 
 #[test]
@@ -142,7 +142,7 @@ fn have_texts(rt: &(impl Abort + AllocGlobal), rows: &[(MainFault, u8, &str)]) {
 
 #[test]
 fn the_text_and_status_of_each_fault(rt: HostRuntime) {
-    let rows = [
+    const ROWS: &[(MainFault, u8, &str)] = &[
         (
             MainFault::Usage,
             2,
@@ -177,12 +177,23 @@ fn the_text_and_status_of_each_fault(rt: HostRuntime) {
         (MainFault::Read, 1, "fak: input could not be read"),
         (MainFault::Write, 1, "fak: output could not be written"),
     ];
-    have_texts(&rt, &rows);
+    have_texts(&rt, ROWS);
+}
+
+/// Finds the texts of the faults of this key, which is missing or out of range.
+fn have_texts_of(rt: &(impl Abort + AllocGlobal), field: Field, name: &str) {
+    let missing = format!(in rt.alloc(); "fak: missing field {name}").expect(rt, "memory");
+    have_texts(
+        rt,
+        &[(MainFault::Text(TextFault::Missing(field)), 2, &missing)],
+    );
+    let range = format!(in rt.alloc(); "fak: field {name} out of range").expect(rt, "memory");
+    have_texts(rt, &[(MainFault::Text(TextFault::Range(field)), 2, &range)]);
 }
 
 #[test]
 fn the_text_of_the_fault_of_each_key(rt: HostRuntime) {
-    let fields = [
+    const FIELDS: &[(Field, &str)] = &[
         (Field::Input, "input"),
         (Field::Object, "object"),
         (Field::Bound, "bound"),
@@ -200,18 +211,8 @@ fn the_text_of_the_fault_of_each_key(rt: HostRuntime) {
         (Field::Programs, "programs"),
         (Field::Start, "start"),
     ];
-    for (field, name) in fields {
-        let missing = format!(in rt.alloc(); "fak: missing field {name}").expect(&rt, "memory");
-        let range = format!(in rt.alloc(); "fak: field {name} out of range").expect(&rt, "memory");
-        let rows = [
-            (
-                MainFault::Text(TextFault::Missing(field)),
-                2,
-                missing.as_str(),
-            ),
-            (MainFault::Text(TextFault::Range(field)), 2, range.as_str()),
-        ];
-        have_texts(&rt, &rows);
+    for &(field, name) in FIELDS {
+        have_texts_of(&rt, field, name);
     }
 }
 

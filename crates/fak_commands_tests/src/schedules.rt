@@ -33,7 +33,7 @@ fn an_item_goes_in_and_comes_out(rt: HostRuntime) {
 
 #[test]
 fn faults_of_an_input(rt: HostRuntime) {
-    let rows = [
+    const ROWS: &[(&str, TextFault)] = &[
         ("", TextFault::NotJson),
         (r#"{"object":"room","#, TextFault::NotJson),
         ("[1]", TextFault::Range(Field::Input)),
@@ -65,5 +65,5 @@ fn faults_of_an_input(rt: HostRuntime) {
             TextFault::Range(Field::Events),
         ),
     ];
-    have_faults(&rt, Command::Replay, &rows);
+    have_faults(&rt, Command::Replay, ROWS);
 }

@@ -7,7 +7,7 @@ use fak_text::{Field, TextFault};
 
 #[test]
 fn faults_of_a_script(rt: HostRuntime) {
-    let rows = [
+    const ROWS: &[(&str, TextFault)] = &[
         (r#"{"version":1,"#, TextFault::NotJson),
         (
             r#"{"version":1,"slots":1,"births":0,"semaphores":[0],"files":1,"programs":[[]],"start":[0]}"#,
@@ -34,7 +34,7 @@ fn faults_of_a_script(rt: HostRuntime) {
             TextFault::Range(Field::Start),
         ),
     ];
-    have_faults(&rt, Command::Run(1), &rows);
+    have_faults(&rt, Command::Run(1), ROWS);
 }
 
 #[test]

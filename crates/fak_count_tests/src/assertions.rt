@@ -11,5 +11,5 @@ pub(crate) fn assert_equal<T: PartialEq + Debug + Drop>(rt: &impl Abort, found: 
 /// Stops where the value is written otherwise.
 pub(crate) fn assert_written(rt: &(impl Abort + AllocGlobal), value: &impl Debug, text: &str) {
     let written = format!(in rt.alloc(); "{value:?}").expect(rt, "memory");
-    assert!(rt; written.as_str() == text, "{text}");
+    assert_equal(rt, written.as_str(), text);
 }

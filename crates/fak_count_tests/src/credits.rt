@@ -23,7 +23,7 @@ fn one_seat_debits_and_credits(rt: HostRuntime) {
     assert_equal(&rt, credit.credit(&mut a), Err(Worn));
     assert_equal(&rt, credit.debit(&mut a), Err(Worn));
     assert_equal(&rt, credit.value(&mut a), 1);
-    assert!(rt; CreditTally::of(a).is_whole());
+    assert_equal(&rt, CreditTally::of(a).is_whole(), true);
 }
 
 #[test]
@@ -36,14 +36,14 @@ fn a_value_is_what_all_seats_made(rt: HostRuntime) {
     assert_equal(&rt, credit.credit(&mut b), Ok(0));
     assert_equal(&rt, credit.value(&mut a), 1);
     let one = CreditTally::of(b);
-    assert!(rt; !one.is_whole());
+    assert_equal(&rt, one.is_whole(), false);
     let all = credit.join(one, a);
-    assert!(rt; all.is_whole());
+    assert_equal(&rt, all.is_whole(), true);
 }
 
 #[test]
 fn credits_out_of_range_are_not_opened(rt: HostRuntime) {
-    for (start, seats, stint, fault) in [
+    for &(start, seats, stint, fault) in &[
         (4_294_967_297, 1, 1, OpenFault::BadSize),
         (4_294_967_297, 0, 0, OpenFault::BadSize),
         (0, 0, 0, OpenFault::BadSeats),
@@ -112,5 +112,5 @@ fn debits_and_credits_of_two_threads_cancel(rt: HostRuntime) {
     assert_equal(&rt, (a.left(), b.left()), (0, 0));
     assert_equal(&rt, credit.value(&mut c), 7);
     let all = credit.join(credit.join(CreditTally::of(c), a), b);
-    assert!(rt; is_granted(&all));
+    assert_equal(&rt, is_granted(&all), true);
 }

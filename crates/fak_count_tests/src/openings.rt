@@ -36,13 +36,18 @@ fn stint_of(stints: &[u64], row: usize) -> u64 {
     (*stint).max(1)
 }
 
-/// Opens the room with this many seats, and with one, which claims as much as one claim may, and more.
-fn opens_room(rt: &impl Abort, alloc: Global, bound: u64, seats: u64, stint: u64) {
+/// Opens the room, which is to have this many seats, all of them new.
+fn room_has_seats(rt: &impl Abort, alloc: Global, bound: u64, seats: u64, stint: u64) {
     let (_room, dealt) = Room::open(alloc, bound, seats, stint).expect(rt, "room");
     assert_equal(rt, dealt.len() as u64, seats);
     for seat in dealt {
         assert_equal(rt, (seat.left(), seat.held()), (stint, 0));
     }
+}
+
+/// Opens the room with this many seats, and with one, which claims as much as one claim may, and more.
+fn opens_room(rt: &impl Abort, alloc: Global, bound: u64, seats: u64, stint: u64) {
+    room_has_seats(rt, alloc, bound, seats, stint);
     let (room, mut one) = Room::open(alloc, bound, 1, stint).expect(rt, "room");
     let mut seat = one.pop().expect(rt, "one seat");
     if bound > 0 {
@@ -73,13 +78,18 @@ fn rooms_of_every_width(rt: HostRuntime) {
     }
 }
 
-/// Opens the credit with this many seats, and with one, which finds the start.
-fn opens_credit(rt: &impl Abort, alloc: Global, start: u64, seats: u64, stint: u64) {
+/// Opens the credit, which is to have this many seats, all of them new.
+fn credit_has_seats(rt: &impl Abort, alloc: Global, start: u64, seats: u64, stint: u64) {
     let (_credit, dealt) = Credit::open(alloc, start, seats, stint).expect(rt, "credit");
     assert_equal(rt, dealt.len() as u64, seats);
     for seat in dealt {
         assert_equal(rt, seat.left(), stint);
     }
+}
+
+/// Opens the credit with this many seats, and with one, which finds the start.
+fn opens_credit(rt: &impl Abort, alloc: Global, start: u64, seats: u64, stint: u64) {
+    credit_has_seats(rt, alloc, start, seats, stint);
     let (credit, mut one) = Credit::open(alloc, start, 1, stint).expect(rt, "credit");
     let mut seat = one.pop().expect(rt, "one seat");
     assert_equal(rt, credit.value(&mut seat), start as i64);

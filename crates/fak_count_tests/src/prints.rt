@@ -40,13 +40,13 @@ fn credits_print_their_numbers(rt: HostRuntime) {
 fn have_texts<F: Display>(rt: &(impl Abort + AllocGlobal), rows: &[(F, &str)]) {
     for (fault, text) in rows {
         let written = fault.to_string(rt.alloc()).expect(rt, "memory");
-        assert!(rt; written.as_str() == *text, "{text}");
+        assert_equal(rt, written.as_str(), *text);
     }
 }
 
 #[test]
 fn faults_say_what_is_the_matter(rt: HostRuntime) {
-    let opens = [
+    const OPENS: &[(OpenFault, &str)] = &[
         (
             OpenFault::BadSize,
             "the bound or the start is above 4294967296",
@@ -55,14 +55,14 @@ fn faults_say_what_is_the_matter(rt: HostRuntime) {
         (OpenFault::BadStint, "the stint is not 1 to 1099511627776"),
         (OpenFault::Memory, "out of memory"),
     ];
-    have_texts(&rt, &opens);
-    let claims = [
+    const CLAIMS: &[(TirFault, &str)] = &[
         (TirFault::Worn, "the stint is used up"),
         (
             TirFault::AtBound(5),
             "the room is at its bound: its value was 5",
         ),
     ];
-    have_texts(&rt, &claims);
+    have_texts(&rt, OPENS);
+    have_texts(&rt, CLAIMS);
     have_texts(&rt, &[(Worn, "the stint is used up")]);
 }

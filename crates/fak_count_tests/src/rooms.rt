@@ -9,15 +9,25 @@ use super::assertions::assert_equal;
 use super::counted::is_counted;
 use fak_count::{OpenFault, Room, RoomSeat, RoomTally, TirFault};
 use fak_model::laws::room::amounts_held_in_a_room_fit;
+use std::alloc::Global;
 use std::process::Abort;
 use std::test::*;
 use std::thread::{Threads, join};
 
+/// A room with two seats.
+fn open_two(rt: &impl Abort, alloc: Global, bound: u64, stint: u64) -> (Room, RoomSeat, RoomSeat)
+    ensures first { IsSeatOf result.0.object result.1 }
+    ensures second { IsSeatOf result.0.object result.2 }
+{
+    let (room, mut seats) = Room::open(alloc, bound, 2, stint).expect(rt, "open");
+    let b = seats.pop().expect(rt, "two seats");
+    let a = seats.pop().expect(rt, "two seats");
+    (room, a, b)
+}
+
 #[test]
 fn claims_and_releases_in_turn(rt: HostRuntime) {
-    let (room, mut seats) = Room::open(rt.alloc(), 5, 2, 2).expect(&rt, "open");
-    let mut b = seats.pop().expect(&rt, "two seats");
-    let mut a = seats.pop().expect(&rt, "two seats");
+    let (room, mut a, mut b) = open_two(&rt, rt.alloc(), 5, 2);
     assert_equal(&rt, room.tir(&mut a, 3), Ok(0));
     assert_equal(&rt, room.tir(&mut b, 3), Err(TirFault::AtBound(3)));
     assert_equal(&rt, room.tir(&mut b, 2), Ok(3));
@@ -31,9 +41,9 @@ fn claims_and_releases_in_turn(rt: HostRuntime) {
     assert_equal(&rt, room.tir(&mut a, 1), Err(TirFault::Worn));
     assert_equal(&rt, (a.left(), a.held()), (0, 1));
     let one = RoomTally::of(a);
-    assert!(rt; !one.is_whole());
+    assert_equal(&rt, one.is_whole(), false);
     let all = room.join(one, b);
-    assert!(rt; all.is_whole());
+    assert_equal(&rt, all.is_whole(), true);
 }
 
 #[test]
@@ -42,14 +52,12 @@ fn a_room_of_bound_0_is_full(rt: HostRuntime) {
     let mut a = seats.pop().expect(&rt, "one seat");
     assert_equal(&rt, room.tir(&mut a, 1), Err(TirFault::AtBound(0)));
     assert_equal(&rt, a.left(), 1);
-    assert!(rt; RoomTally::of(a).is_whole());
+    assert_equal(&rt, RoomTally::of(a).is_whole(), true);
 }
 
 #[test]
 fn a_worn_seat_is_told_so_in_a_full_room(rt: HostRuntime) {
-    let (room, mut seats) = Room::open(rt.alloc(), 1, 2, 1).expect(&rt, "open");
-    let mut b = seats.pop().expect(&rt, "two seats");
-    let mut a = seats.pop().expect(&rt, "two seats");
+    let (room, mut a, mut b) = open_two(&rt, rt.alloc(), 1, 1);
     assert_equal(&rt, room.tir(&mut a, 1), Ok(0));
     assert_equal(&rt, room.tir(&mut b, 1), Err(TirFault::AtBound(1)));
     assert_equal(&rt, room.tir(&mut a, 1), Err(TirFault::Worn));
@@ -88,15 +96,13 @@ fn each_amount_fits(rt: &impl Abort, room: &Room, mut a: RoomSeat, mut b: RoomSe
 
 #[test]
 fn amounts_from_1_to_1_024(rt: HostRuntime) {
-    let (room, mut seats) = Room::open(rt.alloc(), 1024, 2, 1024).expect(&rt, "open");
-    let b = seats.pop().expect(&rt, "two seats");
-    let a = seats.pop().expect(&rt, "two seats");
+    let (room, a, b) = open_two(&rt, rt.alloc(), 1024, 1024);
     each_amount_fits(&rt, &room, a, b);
 }
 
 #[test]
 fn rooms_out_of_range_are_not_opened(rt: HostRuntime) {
-    for (bound, seats, stint, fault) in [
+    for &(bound, seats, stint, fault) in &[
         (4_294_967_297, 1, 1, OpenFault::BadSize),
         (4_294_967_297, 0, 0, OpenFault::BadSize),
         (0, 0, 0, OpenFault::BadSeats),
@@ -146,7 +152,7 @@ fn two_threads_leave_a_room_empty(rt: HostRuntime) {
     );
     assert_equal(&rt, room.tir(&mut c, 1), Ok(0));
     let all = room.join(room.join(RoomTally::of(c), a), b);
-    assert!(rt; all.is_whole());
+    assert_equal(&rt, all.is_whole(), true);
 }
 
 /// Whether these two seats are all of the room; what they hold together is within its bound, and the value then.
@@ -164,11 +170,9 @@ fn fit_together(room: &Room, a: RoomSeat, b: RoomSeat) -> (RoomTally, bool)
 
 #[test]
 fn a_whole_room_is_counted(rt: HostRuntime) {
-    let (room, mut seats) = Room::open(rt.alloc(), 5, 2, 2).expect(&rt, "open");
-    let mut b = seats.pop().expect(&rt, "two seats");
-    let a = seats.pop().expect(&rt, "two seats");
+    let (room, a, mut b) = open_two(&rt, rt.alloc(), 5, 2);
     assert_equal(&rt, room.tir(&mut b, 3), Ok(0));
     let (tally, whole) = fit_together(&room, a, b);
-    assert!(rt; whole);
-    assert!(rt; is_counted(&tally));
+    assert_equal(&rt, whole, true);
+    assert_equal(&rt, is_counted(&tally), true);
 }

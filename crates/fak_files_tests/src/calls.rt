@@ -20,6 +20,23 @@ use std::sync::atomic::{AtomicU64, Ordering};
 use std::test::*;
 use std::thread::{Threads, join};
 
+/// A table with one seat.
+#[cfg(test)]
+pub(crate) fn open_one(
+    rt: &impl Abort,
+    alloc: Global,
+    entries: u64,
+    stint: u64,
+) -> (FileTable, FileSeat)
+    ensures table { (result.0.entries ≡ entries) × (result.0.object.seats ≡ 1) }
+    ensures seat { IsFreeSeatOf result.0.object result.1 }
+{
+    let Ok((table, mut seats)) = FileTable::open(alloc, entries, 1, stint) else {
+        panic!(rt; "open")
+    };
+    (table, seats.pop().expect(rt, "one seat"))
+}
+
 /// A table with two seats.
 #[cfg(test)]
 fn open_two(
@@ -87,10 +104,10 @@ fn is_worn<R: Abort + Wait>(rt: &R, table: &FileTable, seat: &mut FileSeat)
     requires { seat.old.seat.object ≡ table.now.object }
     ensures { IsFreeSeatOf table.now.object seat.new }
 {
-    let try_read = Call::TryRead(Err(FileFault::Worn));
-    let try_write = Call::TryWrite(Err(FileFault::Worn));
-    makes(rt, table, seat, 11, &try_read, Hold::Nothing);
-    makes(rt, table, seat, 12, &try_write, Hold::Nothing);
+    const TRY_READ: &Call = &Call::TryRead(Err(FileFault::Worn));
+    const TRY_WRITE: &Call = &Call::TryWrite(Err(FileFault::Worn));
+    makes(rt, table, seat, 11, TRY_READ, Hold::Nothing);
+    makes(rt, table, seat, 12, TRY_WRITE, Hold::Nothing);
     makes(rt, table, seat, 13, &Call::Read(Err(Worn)), Hold::Nothing);
     makes(rt, table, seat, 14, &Call::Write(Err(Worn)), Hold::Nothing);
 }
@@ -98,11 +115,12 @@ fn is_worn<R: Abort + Wait>(rt: &R, table: &FileTable, seat: &mut FileSeat)
 /// A writer is refused beside a reader, and a reader beside a writer, whose Sets are read after its end.
 #[test]
 fn one_thread(rt: HostRuntime) {
+    const GRANTED: &Call = &Call::TryRead(Ok(()));
+    const WRITE_REFUSED: &Call = &Call::TryWrite(Err(FileFault::Busy(1)));
+    const READ_REFUSED: &Call = &Call::TryRead(Err(FileFault::Busy(0)));
     let (table, mut a, mut b) = open_two(&rt, rt.alloc(), 1, 10);
-    let granted = Call::TryRead(Ok(()));
-    makes(&rt, &table, &mut a, 1, &granted, Hold::Reading);
-    let refused = Call::TryWrite(Err(FileFault::Busy(1)));
-    makes(&rt, &table, &mut b, 2, &refused, Hold::Nothing);
+    makes(&rt, &table, &mut a, 1, GRANTED, Hold::Reading);
+    makes(&rt, &table, &mut b, 2, WRITE_REFUSED, Hold::Nothing);
     makes(&rt, &table, &mut a, 3, &Call::End, Hold::Nothing);
     makes(
         &rt,
@@ -112,19 +130,18 @@ fn one_thread(rt: HostRuntime) {
         &Call::TryWrite(Ok(())),
         Hold::Writing,
     );
-    let refused = Call::TryRead(Err(FileFault::Busy(0)));
-    makes(&rt, &table, &mut a, 5, &refused, Hold::Nothing);
+    makes(&rt, &table, &mut a, 5, READ_REFUSED, Hold::Nothing);
     table.set(&mut b, 0, FileField::Inode, 7);
     table.set(&mut b, 0, FileField::Uses, 1);
-    assert!(rt; table.get(&mut b, 0).inode == 7);
+    assert_equal(&rt, table.get(&mut b, 0).inode, 7);
     table.end(&mut b);
-    makes(&rt, &table, &mut a, 6, &granted, Hold::Reading);
+    makes(&rt, &table, &mut a, 6, GRANTED, Hold::Reading);
     let entry = table.get(&mut a, 0);
     assert_equal(&rt, entry.inode, 7);
     assert_equal(&rt, entry.uses, 1);
     table.end(&mut a);
     let tally = FileTally::of(b);
-    assert!(rt; !tally.is_whole());
+    assert_equal(&rt, tally.is_whole(), false);
     let tally = table.join(tally, a);
     if !tally.is_whole() {
         panic!(rt; "a tally of both seats")
@@ -138,29 +155,29 @@ fn one_thread(rt: HostRuntime) {
 /// A seat that is dropped while it reads keeps what it took: writers are refused, readers are not, and no tally is whole.
 #[test]
 fn a_reader_is_dropped(rt: HostRuntime) {
+    const GRANTED: &Call = &Call::TryRead(Ok(()));
+    const REFUSED: &Call = &Call::TryWrite(Err(FileFault::Busy(2)));
     let (table, mut seats) = FileTable::open(rt.alloc(), 1, 3, 10).expect(&rt, "open");
     let mut c = seats.pop().expect(&rt, "three seats");
     let mut b = seats.pop().expect(&rt, "three seats");
     let mut a = seats.pop().expect(&rt, "three seats");
-    let granted = Call::TryRead(Ok(()));
-    makes(&rt, &table, &mut a, 1, &granted, Hold::Reading);
+    makes(&rt, &table, &mut a, 1, GRANTED, Hold::Reading);
     drop(a);
-    let refused = Call::TryWrite(Err(FileFault::Busy(2)));
-    makes(&rt, &table, &mut b, 2, &refused, Hold::Nothing);
-    makes(&rt, &table, &mut b, 3, &granted, Hold::Reading);
+    makes(&rt, &table, &mut b, 2, REFUSED, Hold::Nothing);
+    makes(&rt, &table, &mut b, 3, GRANTED, Hold::Reading);
     table.end(&mut b);
-    assert!(rt; c.hold() == Hold::Nothing);
+    assert_equal(&rt, c.hold(), Hold::Nothing);
     let tally = table.join(FileTally::of(b), c);
-    assert!(rt; !tally.is_whole());
+    assert_equal(&rt, tally.is_whole(), false);
 }
 
 /// A seat has as many holds as its stint, by tries and by waiting; refused tries don't count.
 #[test]
 fn a_seat_is_worn(rt: HostRuntime) {
+    const REFUSED: &Call = &Call::TryWrite(Err(FileFault::Busy(1)));
     let (table, mut a, mut b) = open_two(&rt, rt.alloc(), 2, 2);
     makes(&rt, &table, &mut a, 1, &Call::Read(Ok(())), Hold::Reading);
-    let refused = Call::TryWrite(Err(FileFault::Busy(1)));
-    makes(&rt, &table, &mut b, 2, &refused, Hold::Nothing);
+    makes(&rt, &table, &mut b, 2, REFUSED, Hold::Nothing);
     makes(&rt, &table, &mut a, 3, &Call::End, Hold::Nothing);
     makes(&rt, &table, &mut a, 4, &Call::Write(Ok(())), Hold::Writing);
     makes(&rt, &table, &mut a, 5, &Call::End, Hold::Nothing);
@@ -174,8 +191,8 @@ fn a_seat_is_worn(rt: HostRuntime) {
         Hold::Writing,
     );
     table.set(&mut b, 1, FileField::Uses, 5);
-    assert!(rt; table.get(&mut b, 1).uses == 5);
-    assert!(rt; table.get(&mut b, 0).uses == 0);
+    assert_equal(&rt, table.get(&mut b, 1).uses, 5);
+    assert_equal(&rt, table.get(&mut b, 0).uses, 0);
     table.end(&mut b);
 }
 
@@ -187,10 +204,10 @@ fn a_worn_seat_does_not_wait(rt: HostRuntime) {
     makes(&rt, &table, &mut a, 2, &Call::End, Hold::Nothing);
     makes(&rt, &table, &mut b, 3, &Call::Write(Ok(())), Hold::Writing);
     is_worn(&rt, &table, &mut a);
-    assert!(rt; is_alone(&b, 2));
+    assert_equal(&rt, is_alone(&b, 2), true);
     table.end(&mut b);
     let tally = table.join(FileTally::of(b), a);
-    assert!(rt; is_free(&tally));
+    assert_equal(&rt, is_free(&tally), true);
     if tally.is_whole() {
         close_free(table, tally);
     }
@@ -245,8 +262,7 @@ fn hold_often(table: &FileTable, mut seat: FileSeat, holds: u64) -> FileSeat
 
 #[test]
 fn what_callers_conclude(rt: HostRuntime) {
-    let (table, mut seats) = FileTable::open(rt.alloc(), 2, 1, 10).expect(&rt, "open");
-    let a = seats.pop().expect(&rt, "one seat");
+    let (table, a) = open_one(&rt, rt.alloc(), 2, 10);
     let mut a = hold_often(&table, a, 3);
     let Ok(()) = table.try_write(&mut a) else {
         panic!(rt; "the write")
@@ -265,13 +281,17 @@ fn fault_of(alloc: Global, entries: u64, seats: u64, stint: u64) -> Option<OpenF
 /// The first value that is out of range is answered.
 #[test]
 fn ranges(rt: HostRuntime) {
-    assert!(rt; fault_of(rt.alloc(), 17, 0, 0) == Some(OpenFault::BadSize));
-    assert!(rt; fault_of(rt.alloc(), 0, 1, 1) == Some(OpenFault::BadSize));
-    assert!(rt; fault_of(rt.alloc(), 1, 0, 0) == Some(OpenFault::BadSeats));
-    assert!(rt; fault_of(rt.alloc(), 1, 65, 1) == Some(OpenFault::BadSeats));
-    assert!(rt; fault_of(rt.alloc(), 1, 1, 0) == Some(OpenFault::BadStint));
-    assert!(rt; fault_of(rt.alloc(), 1, 1, 1_099_511_627_777) == Some(OpenFault::BadStint));
-    assert!(rt; fault_of(rt.alloc(), 16, 64, 1_099_511_627_776).is_none());
+    for &(entries, seats, stint, fault) in &[
+        (17, 0, 0, Some(OpenFault::BadSize)),
+        (0, 1, 1, Some(OpenFault::BadSize)),
+        (1, 0, 0, Some(OpenFault::BadSeats)),
+        (1, 65, 1, Some(OpenFault::BadSeats)),
+        (1, 1, 0, Some(OpenFault::BadStint)),
+        (1, 1, 1_099_511_627_777, Some(OpenFault::BadStint)),
+        (16, 64, 1_099_511_627_776, None),
+    ] {
+        assert_equal(&rt, fault_of(rt.alloc(), entries, seats, stint), fault);
+    }
 }
 
 /// Waits until both threads are here, so that their holds meet; not for ever, since the other may have no thread.

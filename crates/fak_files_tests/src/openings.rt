@@ -4,6 +4,7 @@ ghost use Rattle.std.specs.Prelude.{◌≡◌, ◌≢◌};
 ghost use Rattle.fak_files.specs.declared.phase.Hold.TheVariants.{Nothing, Writing};
 
 use super::assertions::assert_equal;
+use super::calls::open_one;
 use fak_files::{FileEntry, FileField, FileSeat, FileTable, FileTally};
 use std::alloc::Global;
 use std::process::Abort;
@@ -51,12 +52,16 @@ fn shows_each(table: &FileTable, seat: &mut FileSeat, entries: u64) -> bool
     true
 }
 
-/// Opens the table with this many seats, and with one, which writes each entry and reads it. What is left when it is closed is the same.
-fn opens_table(rt: &impl Abort, alloc: Global, entries: u64, seats: u64, stint: u64) {
+/// Opens the table, which is to have this many seats.
+fn has_seats(rt: &impl Abort, alloc: Global, entries: u64, seats: u64, stint: u64) {
     let (_table, dealt) = FileTable::open(alloc, entries, seats, stint).expect(rt, "table");
     assert_equal(rt, dealt.len() as u64, seats);
-    let (table, mut one) = FileTable::open(alloc, entries, 1, stint).expect(rt, "table");
-    let mut seat = one.pop().expect(rt, "one seat");
+}
+
+/// Opens the table with this many seats, and with one, which writes each entry and reads it. What is left when it is closed is the same.
+fn opens_table(rt: &impl Abort, alloc: Global, entries: u64, seats: u64, stint: u64) {
+    has_seats(rt, alloc, entries, seats, stint);
+    let (table, mut seat) = open_one(rt, alloc, entries, stint);
     let Ok(()) = table.try_write(&mut seat) else {
         panic!(rt; "write")
     };

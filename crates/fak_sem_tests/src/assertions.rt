@@ -3,8 +3,13 @@
 use std::fmt::Debug;
 use std::process::Abort;
 
+/// Stops where something else was found than is wanted.
+pub(crate) fn assert_equal<T: PartialEq + Debug + Drop>(rt: &impl Abort, found: T, wanted: T) {
+    assert_eq!(rt; found, wanted);
+}
+
 /// Stops where the value is written otherwise.
 pub(crate) fn assert_written(rt: &(impl Abort + AllocGlobal), value: &impl Debug, text: &str) {
     let written = format!(in rt.alloc(); "{value:?}").expect(rt, "memory");
-    assert!(rt; written.as_str() == text, "{text}");
+    assert_equal(rt, written.as_str(), text);
 }

@@ -83,10 +83,8 @@ pub fn down_by_steps(
     ensures { result.0.object ≡ semaphore.now.object }
 {
     let mut steps = StepSeat::of(seat);
-    let passed = match try_down(semaphore, &mut steps, who, u64::MAX) {
-        Ok(Some(answer)) => answer,
-        Ok(None) => panic!(rt; "a down that never parked"),
-        Err(SemWorn(_)) => panic!(rt; "a seat that is worn"),
+    let Ok(Some(passed)) = try_down(semaphore, &mut steps, who, u64::MAX) else {
+        panic!(rt; "a down that never parked, or a seat that is worn")
     };
     (ended(rt, semaphore, steps), passed)
 }
@@ -101,10 +99,8 @@ pub fn up_by_steps(
     ensures { result.0.object ≡ semaphore.now.object }
 {
     let mut steps = StepSeat::of(seat);
-    let woken = match try_up(semaphore, &mut steps, u64::MAX) {
-        Ok(Some(answer)) => answer,
-        Ok(None) => panic!(rt; "an up that never woke"),
-        Err(Worn) => panic!(rt; "a seat that is worn"),
+    let Ok(Some(woken)) = try_up(semaphore, &mut steps, u64::MAX) else {
+        panic!(rt; "an up that never woke, or a seat that is worn")
     };
     (ended(rt, semaphore, steps), woken)
 }

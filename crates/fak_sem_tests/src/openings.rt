@@ -1,6 +1,7 @@
 //! Semaphores of each size in range are opened, with all their seats, and of starts and stints of every width. The first down
 //! passes or parks by the start.
 
+use crate::assertions::assert_equal;
 use crate::steps::{Step, open, walk};
 use fak_sem::{LARGEST_BOUND, LARGEST_SIZE, LONGEST_STINT, MOST_SEATS};
 use std::alloc::Global;
@@ -24,19 +25,17 @@ fn spread(row: u64, most: u64) -> u64 {
 fn opens<R: Abort + Wait>(rt: &R, alloc: Global, limits: (u64, u64, u64, u64)) {
     let (start, _size, many, stint) = limits;
     let (semaphore, mut seats) = open::<u64>(rt, alloc, limits);
-    assert!(rt; seats.len() as u64 == many);
+    assert_equal(rt, seats.len() as u64, many);
     let last = seats.len().saturating_sub(1);
-    let steps = if start > 0 {
-        [
-            (last, Step::Down(7, Ok(Some(7)))),
-            (last, Step::Up(Ok(None))),
-        ]
+    let (passed, woken) = if start > 0 {
+        (Some(7), None)
     } else {
-        [
-            (last, Step::Down(7, Ok(None))),
-            (last, Step::Up(Ok(Some(7)))),
-        ]
+        (None, Some(7))
     };
+    let steps = [
+        (last, Step::Down(7, Ok(passed))),
+        (last, Step::Up(Ok(woken))),
+    ];
     let made = if stint > 1 { 2 } else { 1 };
     walk(rt, &semaphore, &mut seats, &steps[..made]);
 }

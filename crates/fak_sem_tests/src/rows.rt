@@ -5,7 +5,7 @@ ghost use Rattle.fak_model.specs.Queue.{contents, lower_count};
 ghost use Rattle.fak_sem.specs.Semaphores.{IsIdleSemSeat, passed_by};
 
 #[cfg(test)]
-use crate::assertions::assert_written;
+use crate::assertions::{assert_equal, assert_written};
 #[cfg(test)]
 use crate::steps::{A, B, Step, close, joined, leaves_nothing, open, take, walk};
 use fak_model::laws::queue::a_queue_at_rest_counts_its_items;
@@ -18,13 +18,13 @@ use std::sync::Wait;
 
 #[test]
 fn a_down_that_passes_and_one_that_is_woken(rt: HostRuntime) {
-    let (semaphore, mut seats) = open(&rt, rt.alloc(), (1, 4, 2, 10));
-    let steps = [
+    const STEPS: &[(usize, Step)] = &[
         (A, Step::Down(100, Ok(Some(100)))),
         (B, Step::Down(101, Ok(None))),
         (A, Step::Up(Ok(Some(101)))),
     ];
-    walk(&rt, &semaphore, &mut seats, steps.as_slice());
+    let (semaphore, mut seats) = open(&rt, rt.alloc(), (1, 4, 2, 10));
+    walk(&rt, &semaphore, &mut seats, STEPS);
     let b = take(&rt, &semaphore, &mut seats);
     let first = joined(&rt, &semaphore, seats);
     assert!(rt; !first.is_whole());
@@ -34,20 +34,20 @@ fn a_down_that_passes_and_one_that_is_woken(rt: HostRuntime) {
 
 #[test]
 fn seats_with_one_call(rt: HostRuntime) {
-    let (semaphore, mut seats) = open(&rt, rt.alloc(), (0, 1, 2, 1));
-    let steps = [
+    const STEPS: &[(usize, Step)] = &[
         (A, Step::Down(5, Ok(None))),
         (A, Step::Up(Err(Worn))),
         (B, Step::Up(Ok(Some(5)))),
         (B, Step::Down(6, Err(SemWorn(6)))),
     ];
-    walk(&rt, &semaphore, &mut seats, steps.as_slice());
+    let (semaphore, mut seats) = open(&rt, rt.alloc(), (0, 1, 2, 1));
+    walk(&rt, &semaphore, &mut seats, STEPS);
     let tally = joined(&rt, &semaphore, seats);
     leaves_nothing(&rt, semaphore, tally);
 }
 
 /// A value that is moved and never copied.
-#[derive(PartialEq, Drop)]
+#[derive(Debug, PartialEq, Drop)]
 struct Load {
     id: u64,
 }
@@ -58,12 +58,16 @@ fn call_with_loads<R: Abort + Wait>(rt: &R, semaphore: &Semaphore<Load>, seat: &
     requires { seat.old.object ≡ semaphore.now.object }
     ensures { seat.new.object ≡ semaphore.now.object }
 {
-    assert!(rt; semaphore.up(rt, seat) == Ok(None));
-    assert!(rt; semaphore.down(rt, seat, Load { id: 1 }) == Ok(Some(Load { id: 1 })));
-    assert!(rt; semaphore.down(rt, seat, Load { id: 2 }) == Ok(None));
-    assert!(rt; semaphore.down(rt, seat, Load { id: 3 }) == Ok(None));
-    assert!(rt; semaphore.down(rt, seat, Load { id: 4 }) == Ok(None));
-    assert!(rt; semaphore.up(rt, seat) == Ok(Some(Load { id: 2 })));
+    assert_equal(rt, semaphore.up(rt, seat), Ok(None));
+    assert_equal(
+        rt,
+        semaphore.down(rt, seat, Load { id: 1 }),
+        Ok(Some(Load { id: 1 })),
+    );
+    assert_equal(rt, semaphore.down(rt, seat, Load { id: 2 }), Ok(None));
+    assert_equal(rt, semaphore.down(rt, seat, Load { id: 3 }), Ok(None));
+    assert_equal(rt, semaphore.down(rt, seat, Load { id: 4 }), Ok(None));
+    assert_equal(rt, semaphore.up(rt, seat), Ok(Some(Load { id: 2 })));
 }
 
 #[test]
@@ -72,38 +76,39 @@ fn items_that_nobody_woke(rt: HostRuntime) {
     let mut a = take(&rt, &semaphore, &mut seats);
     call_with_loads(&rt, &semaphore, &mut a);
     let mut rest = close(&rt, semaphore, SemTally::of(a));
-    assert!(rt; rest.next() == Some(Load { id: 3 }));
-    assert!(rt; rest.next() == Some(Load { id: 4 }));
-    assert!(rt; rest.next() == None);
+    assert_equal(&rt, rest.next(), Some(Load { id: 3 }));
+    assert_equal(&rt, rest.next(), Some(Load { id: 4 }));
+    assert_equal(&rt, rest.next(), None);
 }
 
-/// Why a semaphore is not opened with these.
+/// Stops where a semaphore is opened with these, or refused for another fault.
 #[cfg(test)]
-fn refusal(rt: &impl Abort, alloc: Global, limits: (u64, u64, u64, u64)) -> OpenFault {
+fn refuses(rt: &impl Abort, alloc: Global, limits: (u64, u64, u64, u64), fault: OpenFault) {
     let (start, size, seats, stint) = limits;
-    Semaphore::<u64>::open(alloc, start, size, seats, stint).expect_err(rt, "it opened")
+    let found = Semaphore::<u64>::open(alloc, start, size, seats, stint).expect_err(
+        rt,
+        "it opened",
+    );
+    assert!(rt; found == fault, "{limits:?}");
 }
 
 #[test]
 fn the_ranges_of_an_opening(rt: HostRuntime) {
+    const REFUSED: &[((u64, u64, u64, u64), OpenFault)] = &[
+        (((1 << 32) + 1, 1, 1, 1), OpenFault::BadSize),
+        ((0, 4097, 1, 1), OpenFault::BadSize),
+        ((0, 0, 0, 0), OpenFault::BadSize),
+        ((0, 1, 65, 0), OpenFault::BadSeats),
+        ((0, 1, 0, 1), OpenFault::BadSeats),
+        ((0, 1, 1, 0), OpenFault::BadStint),
+        ((0, 1, 1, (1 << 40) + 1), OpenFault::BadStint),
+    ];
     let alloc = rt.alloc();
     let (_, seats) = open::<u64>(&rt, alloc, (1 << 32, 4096, 64, 1 << 40));
-    assert!(rt; seats.len() == 64);
+    assert_equal(&rt, seats.len(), 64);
     drop(seats);
-    let refused = [
-        ((1 << 32) + 1, 1, 1, 1, OpenFault::BadSize),
-        (0, 4097, 1, 1, OpenFault::BadSize),
-        (0, 0, 0, 0, OpenFault::BadSize),
-        (0, 1, 65, 0, OpenFault::BadSeats),
-        (0, 1, 0, 1, OpenFault::BadSeats),
-        (0, 1, 1, 0, OpenFault::BadStint),
-        (0, 1, 1, (1 << 40) + 1, OpenFault::BadStint),
-    ];
-    for (start, size, seats, stint, fault) in refused {
-        assert!(rt;
-            refusal(&rt, alloc, (start, size, seats, stint)) == fault,
-            "{start}, {size}, {seats}, {stint}"
-        );
+    for &(limits, fault) in REFUSED {
+        refuses(&rt, alloc, limits, fault);
     }
 }
 
@@ -141,30 +146,30 @@ fn counts_the_parked(tally: &SemTally<u64>) -> bool
 fn downs_that_passed_are_counted(rt: HostRuntime) {
     let (semaphore, mut seats) = open(&rt, rt.alloc(), (2, 4, 1, 4));
     let mut a = take(&rt, &semaphore, &mut seats);
-    assert!(rt; down_below(&rt, &semaphore, &mut a, 3) == 2);
-    assert!(rt; semaphore.up(&rt, &mut a) == Ok(Some(2)));
+    assert_equal(&rt, down_below(&rt, &semaphore, &mut a, 3), 2);
+    assert_equal(&rt, semaphore.up(&rt, &mut a), Ok(Some(2)));
     assert!(rt; counts_the_parked(&SemTally::of(a)));
 }
 
 #[test]
 fn worn_seats_do_not_wait(rt: HostRuntime) {
-    let (semaphore, mut seats) = open(&rt, rt.alloc(), (0, 1, 2, 1));
     // the wait queue is full, and then empty
-    let steps = [
+    const STEPS: &[(usize, Step)] = &[
         (A, Step::Down(5, Ok(None))),
         (A, Step::Down(6, Err(SemWorn(6)))),
         (B, Step::Up(Ok(Some(5)))),
         (B, Step::Up(Err(Worn))),
         (A, Step::Up(Err(Worn))),
     ];
-    walk(&rt, &semaphore, &mut seats, steps.as_slice());
+    let (semaphore, mut seats) = open(&rt, rt.alloc(), (0, 1, 2, 1));
+    walk(&rt, &semaphore, &mut seats, STEPS);
 }
 
 #[test]
 fn what_debug_prints(rt: HostRuntime) {
     let (semaphore, mut seats) = open::<u64>(&rt, rt.alloc(), (3, 4, 2, 10));
     let mut a = StepSeat::of(take(&rt, &semaphore, &mut seats));
-    assert!(rt; semaphore.claim_down(&mut a, 7) == Ok(Some(7)));
+    assert_equal(&rt, semaphore.claim_down(&mut a, 7), Ok(Some(7)));
     assert_written(&rt, &semaphore, "Semaphore { .. }");
     assert_written(&rt, &seats, "[SemSeat { start: 3, left: 10, .. }]");
     assert_written(&rt, &a, "StepSeat { start: 3, left: 9, state: Idle, .. }");
@@ -186,13 +191,13 @@ fn what_tallies_print(rt: HostRuntime) {
 fn have_texts<F: Display>(rt: &(impl Abort + AllocGlobal), rows: &[(F, &str)]) {
     for (fault, text) in rows {
         let written = fault.to_string(rt.alloc()).expect(rt, "memory");
-        assert!(rt; written.as_str() == *text, "{text}");
+        assert_equal(rt, written.as_str(), *text);
     }
 }
 
 #[test]
 fn what_faults_say(rt: HostRuntime) {
-    let opens = [
+    const OPENS: &[(OpenFault, &str)] = &[
         (
             OpenFault::BadSize,
             "the start is above 4294967296, or the size is not 1 to 4096",
@@ -201,6 +206,6 @@ fn what_faults_say(rt: HostRuntime) {
         (OpenFault::BadStint, "the stint is not 1 to 1099511627776"),
         (OpenFault::Memory, "out of memory"),
     ];
-    have_texts(&rt, &opens);
+    have_texts(&rt, OPENS);
     have_texts(&rt, &[(SemWorn(7u64), "the stint is used up")]);
 }

@@ -2,6 +2,7 @@
 
 ghost use Rattle.std.specs.Prelude.{◌≡◌, ◌<◌, All, vec_len};
 
+use crate::assertions::assert_equal;
 use crate::bounded::ended;
 use crate::steps::{A, B, leaves_nothing, open, take};
 use fak_sem::{SemSeat, SemTally, SemWorn, Semaphore, StepSeat, StepState, Worn};
@@ -26,24 +27,14 @@ impl Call {
         requires { seat.old.seat.object ≡ semaphore.now.object }
         ensures { seat.new.seat.object ≡ semaphore.now.object }
     {
-        let stands = seat.state();
-        match self {
-            Call::Down(who, answer) => match stands {
-                StepState::Idle => semaphore.claim_down(seat, *who) == *answer,
-                StepState::Parking | StepState::Waking => false,
-            },
-            Call::Park(answer) => match stands {
-                StepState::Parking => semaphore.try_park(seat) == *answer,
-                StepState::Idle | StepState::Waking => false,
-            },
-            Call::Up(answer) => match stands {
-                StepState::Idle => semaphore.claim_up(seat) == *answer,
-                StepState::Parking | StepState::Waking => false,
-            },
-            Call::Wake(answer) => match stands {
-                StepState::Waking => semaphore.try_wake(seat) == *answer,
-                StepState::Idle | StepState::Parking => false,
-            },
+        match (self, seat.state()) {
+            (Call::Down(who, answer), StepState::Idle) => {
+                semaphore.claim_down(seat, *who) == *answer
+            }
+            (Call::Park(answer), StepState::Parking) => semaphore.try_park(seat) == *answer,
+            (Call::Up(answer), StepState::Idle) => semaphore.claim_up(seat) == *answer,
+            (Call::Wake(answer), StepState::Waking) => semaphore.try_wake(seat) == *answer,
+            _ => false,
         }
     }
 }
@@ -141,10 +132,7 @@ fn joined(
 fn each_step_leaves_the_seat_where_it_says(rt: HostRuntime) {
     use Call::{Down, Park, Up, Wake};
     use StepState::{Idle, Parking, Waking};
-    // the wait queue has one cell
-    let (semaphore, seats) = open(&rt, rt.alloc(), (1, 1, 3, 10));
-    let mut seats = by_steps(&rt, rt.alloc(), &semaphore, seats);
-    let rows = [
+    const ROWS: &[Row] = &[
         (A, Down(70, Ok(Some(70))), Idle, 9),
         // the claim has the cell, and the item is not in it yet
         (A, Down(71, Ok(None)), Parking, 8),
@@ -162,7 +150,10 @@ fn each_step_leaves_the_seat_where_it_says(rt: HostRuntime) {
         (A, Wake(Some(72)), Idle, 7),
         (A, Up(Ok(false)), Idle, 6),
     ];
-    walk(&rt, &semaphore, &mut seats, rows.as_slice());
+    // the wait queue has one cell
+    let (semaphore, seats) = open(&rt, rt.alloc(), (1, 1, 3, 10));
+    let mut seats = by_steps(&rt, rt.alloc(), &semaphore, seats);
+    walk(&rt, &semaphore, &mut seats, ROWS);
     let tally = joined(&rt, &semaphore, seats);
     leaves_nothing(&rt, semaphore, tally);
 }
@@ -171,9 +162,7 @@ fn each_step_leaves_the_seat_where_it_says(rt: HostRuntime) {
 fn an_up_that_finds_no_item_claims_again(rt: HostRuntime) {
     use Call::{Down, Park, Up, Wake};
     use StepState::{Idle, Parking, Waking};
-    let (semaphore, seats) = open(&rt, rt.alloc(), (0, 1, 3, 10));
-    let mut seats = by_steps(&rt, rt.alloc(), &semaphore, seats);
-    let rows = [
+    const ROWS: &[Row] = &[
         (A, Down(1, Ok(None)), Parking, 9),
         (B, Down(2, Ok(None)), Parking, 9),
         (C, Up(Ok(true)), Waking, 9),
@@ -189,22 +178,24 @@ fn an_up_that_finds_no_item_claims_again(rt: HostRuntime) {
         (C, Wake(None), Waking, 8),
         (C, Wake(Some(2)), Idle, 8),
     ];
-    walk(&rt, &semaphore, &mut seats, rows.as_slice());
+    let (semaphore, seats) = open(&rt, rt.alloc(), (0, 1, 3, 10));
+    let mut seats = by_steps(&rt, rt.alloc(), &semaphore, seats);
+    walk(&rt, &semaphore, &mut seats, ROWS);
 }
 
 #[test]
 fn a_step_seat_wears_out(rt: HostRuntime) {
     use Call::{Down, Up};
     use StepState::Idle;
-    let (semaphore, seats) = open(&rt, rt.alloc(), (1, 1, 1, 2));
-    let mut seats = by_steps(&rt, rt.alloc(), &semaphore, seats);
-    let rows = [
+    const ROWS: &[Row] = &[
         (A, Down(5, Ok(Some(5))), Idle, 1),
         (A, Up(Ok(false)), Idle, 0),
         (A, Down(6, Err(SemWorn(6))), Idle, 0),
         (A, Up(Err(Worn)), Idle, 0),
     ];
-    walk(&rt, &semaphore, &mut seats, rows.as_slice());
+    let (semaphore, seats) = open(&rt, rt.alloc(), (1, 1, 1, 2));
+    let mut seats = by_steps(&rt, rt.alloc(), &semaphore, seats);
+    walk(&rt, &semaphore, &mut seats, ROWS);
     let tally = joined(&rt, &semaphore, seats);
     leaves_nothing(&rt, semaphore, tally);
 }
@@ -213,8 +204,8 @@ fn a_step_seat_wears_out(rt: HostRuntime) {
 fn a_step_seat_is_the_seat_that_it_was(rt: HostRuntime) {
     let (semaphore, mut seats) = open(&rt, rt.alloc(), (1, 1, 1, 3));
     let mut steps = StepSeat::of(take(&rt, &semaphore, &mut seats));
-    assert!(rt; semaphore.claim_down(&mut steps, 5) == Ok(Some(5)));
+    assert_equal(&rt, semaphore.claim_down(&mut steps, 5), Ok(Some(5)));
     let mut waits = ended(&rt, &semaphore, steps);
-    assert!(rt; semaphore.up(&rt, &mut waits) == Ok(None));
-    assert!(rt; StepSeat::of(waits).left() == 1);
+    assert_equal(&rt, semaphore.up(&rt, &mut waits), Ok(None));
+    assert_equal(&rt, StepSeat::of(waits).left(), 1);
 }
