@@ -87,7 +87,7 @@ pub fn report_of<R: Abort + Wait>(rt: &R, alloc: Global, script: &str) -> Report
     report
 }
 
-/// The report of a script on so many processors; without threads where there is none.
+/// The report of a script on this number of processors; without threads where it is 0.
 pub fn run_on<R: Abort + Threads + Wait + Sync>(
     rt: &R,
     alloc: Global,

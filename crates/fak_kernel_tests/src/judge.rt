@@ -10,7 +10,7 @@ use fak_text::Script;
 use std::alloc::{AllocError, Global};
 use std::process::Abort;
 
-/// Finds that the report of this script, by so many processors, breaks no promise.
+/// Finds that the report of this script, by this number of processors, breaks no promise.
 pub(super) fn keeps_promises(
     rt: &impl Abort,
     alloc: Global,

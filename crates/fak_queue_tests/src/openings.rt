@@ -30,7 +30,7 @@ fn opens(rt: &impl Abort, alloc: Global, size: u64, seats: u64, stint: u64) {
     have_left(rt, dealt.as_slice(), stint);
 }
 
-/// Finds that each seat may draw so many tickets.
+/// Finds that each seat may draw this number of tickets.
 fn have_left<T>(rt: &impl Abort, seats: &[Seat<T>], stint: u64) {
     for seat in seats {
         assert_equal(rt, seat.left(), stint);

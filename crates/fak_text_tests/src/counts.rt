@@ -132,7 +132,7 @@ fn has_powers(rt: &(impl Abort + AllocGlobal), row: &Row<'_>) {
     has_count(rt, row, row.4.saturating_add(1));
 }
 
-/// Finds that the row is read with each count below the end, each power of two, and so many multiples of a step.
+/// Finds that the row is read with each count below the end, each power of two, and the first multiples of a step.
 fn has_counts(
     rt: &(impl Abort + AllocGlobal),
     row: &Row<'_>,
