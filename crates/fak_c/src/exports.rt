@@ -1,8 +1,8 @@
 //! The exported functions. Here those that open objects, move seats and give them up; the calls of each kind of seat are below.
 
 ghost use Rattle.std.specs.Prelude.{◌≡◌, length};
-ghost use Rattle.fak_c.specs.Kinds.{GivesUp, Moves};
-ghost use Rattle.fak_c.specs.Openings.{OpensCredit, OpensOrKeeps, OpensQueue, OpensRoom, OpensSem, OpensTable};
+ghost use Rattle.fak_handles.specs.Kinds.{GivesUp, Moves};
+ghost use Rattle.fak_handles.specs.Openings.{OpensCredit, OpensOrKeeps, OpensQueue, OpensRoom, OpensSem, OpensTable};
 
 mod credit;
 mod files;
@@ -10,9 +10,9 @@ mod queue;
 mod room;
 mod semaphore;
 
-use crate::code::{BAD_LIMIT, NO_SEAT, OK, WRONG_STATE};
-use crate::opening::is_number_of_seats;
-use crate::place::Place;
+use fak_handles::code::{BAD_LIMIT, NO_SEAT, OK, WRONG_STATE};
+use fak_handles::opening::is_number_of_seats;
+use fak_handles::place::Place;
 use std::alloc::Global;
 
 /// Opens a queue of `size` cells, and gives each of 1 to 64 handles a seat of it with this stint. What the handles held is
@@ -27,7 +27,7 @@ pub extern "C" fn fak_c_open(alloc: Global, seats: &mut [Place], size: u64, stin
     if !is_number_of_seats(seats.len()) {
         return BAD_LIMIT;
     }
-    crate::opening::open_queue(alloc, seats, size, stint)
+    fak_handles::opening::open_queue(alloc, seats, size, stint)
 }
 
 /// Gives up a seat at rest; its handle is empty then. The last seat of an object frees it.
@@ -58,7 +58,7 @@ pub extern "C" fn fak_c_room_open(alloc: Global, seats: &mut [Place], bound: u64
     if !is_number_of_seats(seats.len()) {
         return BAD_LIMIT;
     }
-    crate::opening::open_room(alloc, seats, bound, stint)
+    fak_handles::opening::open_room(alloc, seats, bound, stint)
 }
 
 /// Opens a credit that begins at `start`, and gives each handle a seat of it. As `fak_c_open`.
@@ -75,7 +75,7 @@ pub extern "C" fn fak_c_credit_open(
     if !is_number_of_seats(seats.len()) {
         return BAD_LIMIT;
     }
-    crate::opening::open_credit(alloc, seats, start, stint)
+    fak_handles::opening::open_credit(alloc, seats, start, stint)
 }
 
 /// Opens a file table of this many entries, and gives each handle a seat of it. As `fak_c_open`.
@@ -92,7 +92,7 @@ pub extern "C" fn fak_c_files_open(
     if !is_number_of_seats(seats.len()) {
         return BAD_LIMIT;
     }
-    crate::opening::open_table(alloc, seats, entries, stint)
+    fak_handles::opening::open_table(alloc, seats, entries, stint)
 }
 
 /// Opens a semaphore that begins at `start`, with a wait queue of `size` cells, and gives each handle a seat of it. As `fak_c_open`.
@@ -110,7 +110,7 @@ pub extern "C" fn fak_c_sem_open(
     if !is_number_of_seats(seats.len()) {
         return BAD_LIMIT;
     }
-    crate::opening::open_semaphore(alloc, seats, start, size, stint)
+    fak_handles::opening::open_semaphore(alloc, seats, start, size, stint)
 }
 
 /// Moves the seat of a handle to an empty one.

@@ -2,12 +2,12 @@
 
 ghost use Rattle.std.specs.Prelude.{◌≡◌};
 ghost use Rattle.fak_model.specs.declared.credit.CreditKind.TheVariants.{Credit as Credited, Debit};
-ghost use Rattle.fak_c.specs.Calls.{Called};
-ghost use Rattle.fak_c.specs.Counts.{LoadsCredit, MovesCredit, SameCredit};
-ghost use Rattle.fak_c.specs.Kinds.{Spares, credit_in};
+ghost use Rattle.fak_handles.specs.Calls.{Called};
+ghost use Rattle.fak_handles.specs.Counts.{LoadsCredit, MovesCredit, SameCredit};
+ghost use Rattle.fak_handles.specs.Kinds.{Spares, credit_in};
 
-use crate::code::NO_SEAT;
-use crate::place::Place;
+use fak_handles::code::NO_SEAT;
+use fak_handles::place::Place;
 use std::alloc::Global;
 
 /// Subtracts 1, and writes the value before.

@@ -3,12 +3,12 @@
 ghost use Rattle.std.specs.Prelude.{◌≡◌};
 ghost use Rattle.fak_model.specs.declared.file.FileField.TheVariants.{Inode, Uses};
 ghost use Rattle.fak_files.specs.declared.phase.Access.TheVariants.{Read, Write};
-ghost use Rattle.fak_c.specs.Calls.{Called};
-ghost use Rattle.fak_c.specs.Kinds.{Spares, files_in};
-ghost use Rattle.fak_c.specs.Tables.{Ends, Gets, LooksAtHold, SameTable, Sets, TriesHold};
+ghost use Rattle.fak_handles.specs.Calls.{Called};
+ghost use Rattle.fak_handles.specs.Kinds.{Spares, files_in};
+ghost use Rattle.fak_handles.specs.Tables.{Ends, Gets, LooksAtHold, SameTable, Sets, TriesHold};
 
-use crate::code::NO_SEAT;
-use crate::place::Place;
+use fak_handles::code::NO_SEAT;
+use fak_handles::place::Place;
 use std::alloc::Global;
 
 /// A reader's hold.

@@ -1,12 +1,12 @@
 //! The exported calls of seats of queues.
 
 ghost use Rattle.std.specs.Prelude.{◌≡◌};
-ghost use Rattle.fak_c.specs.Answers.{Deletes, DeletesOnce, Inserts, InsertsOnce, Looks, Pauses, SameQueue, Shuts, TriesToFill, TriesToTake};
-ghost use Rattle.fak_c.specs.Calls.{Called};
-ghost use Rattle.fak_c.specs.Kinds.{Spares, queue_in};
+ghost use Rattle.fak_handles.specs.Answers.{Deletes, DeletesOnce, Inserts, InsertsOnce, Looks, Pauses, SameQueue, Shuts, TriesToFill, TriesToTake};
+ghost use Rattle.fak_handles.specs.Calls.{Called};
+ghost use Rattle.fak_handles.specs.Kinds.{Spares, queue_in};
 
-use crate::code::NO_SEAT;
-use crate::place::Place;
+use fak_handles::code::NO_SEAT;
+use fak_handles::place::Place;
 use std::alloc::Global;
 
 /// Claims room for the item, and writes its ticket. `fak_c_try_fill` then moves the item in.

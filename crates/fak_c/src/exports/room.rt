@@ -1,12 +1,12 @@
 //! The exported calls of seats of rooms.
 
 ghost use Rattle.std.specs.Prelude.{◌≡◌};
-ghost use Rattle.fak_c.specs.Calls.{Called};
-ghost use Rattle.fak_c.specs.Counts.{LooksAtRoom, Releases, SameRoom, TriesRoom};
-ghost use Rattle.fak_c.specs.Kinds.{Spares, room_in};
+ghost use Rattle.fak_handles.specs.Calls.{Called};
+ghost use Rattle.fak_handles.specs.Counts.{LooksAtRoom, Releases, SameRoom, TriesRoom};
+ghost use Rattle.fak_handles.specs.Kinds.{Spares, room_in};
 
-use crate::code::NO_SEAT;
-use crate::place::Place;
+use fak_handles::code::NO_SEAT;
+use fak_handles::place::Place;
 use std::alloc::Global;
 
 /// Claims the amount, 1 to 1,024, and writes the value that was found.

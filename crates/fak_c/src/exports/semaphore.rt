@@ -1,12 +1,12 @@
 //! The exported calls of seats of semaphores.
 
 ghost use Rattle.std.specs.Prelude.{◌≡◌};
-ghost use Rattle.fak_c.specs.Calls.{Called};
-ghost use Rattle.fak_c.specs.Kinds.{Spares, semaphore_in};
-ghost use Rattle.fak_c.specs.Sems.{ClaimsDown, ClaimsUp, LooksAtSem, SameSemaphore, TriesToPark, TriesToWake};
+ghost use Rattle.fak_handles.specs.Calls.{Called};
+ghost use Rattle.fak_handles.specs.Kinds.{Spares, semaphore_in};
+ghost use Rattle.fak_handles.specs.Sems.{ClaimsDown, ClaimsUp, LooksAtSem, SameSemaphore, TriesToPark, TriesToWake};
 
-use crate::code::NO_SEAT;
-use crate::place::Place;
+use fak_handles::code::NO_SEAT;
+use fak_handles::place::Place;
 use std::alloc::Global;
 
 /// Begins a down of the item.

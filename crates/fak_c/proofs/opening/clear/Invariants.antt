@@ -1,6 +1,0 @@
-use Rattle.fak_c.proofs.Common.{◌≡◌, length, AreEmptyBelow}
-use Rattle.fak_c.proofs.opening.clear.Given as goal
-
--- as many handles as before, and those below this one are empty
-abbrev pub invariant-loop-i : goal.invariant-loop-i
-invariant-loop-i l = (length l.places ≡ l.i-end) × AreEmptyBelow l.i l.places

@@ -1,5 +1,0 @@
-use Rattle.std.proofs.Common.{rules}
-use Rattle.fak_c.proofs.opening.is_number_of_seats.Goals as goal
-
-pub returns-then-count-ge1 : goal.returns-then-count-ge1
-returns-then-count-ge1 c = search rules

@@ -1,0 +1,79 @@
+-- Which seat a handle has.
+use Rattle.std.specs.Prelude.{◌≡◌, ℤ, pos, Option, Some, None}
+use Rattle.fak_queue.specs.declared.state.SeatState.TheVariants as state
+use Rattle.fak_queue.specs.Queues.{state_of}
+use Rattle.fak_count.specs.Rooms.{held_amount}
+use Rattle.fak_files.specs.declared.phase.Hold.TheVariants as hold
+use Rattle.fak_sem.specs.declared.standing.Standing.TheVariants as standing
+use Rattle.fak_handles.specs.declared.desk.Desk.{Desk}
+use Rattle.fak_handles.specs.declared.desk.Desk.TheVariants.{Queue, Semaphore, Room, Credit, Files}
+use Rattle.fak_handles.specs.declared.queue.QueueDesk.{QueueDesk}
+use Rattle.fak_handles.specs.declared.semaphore.SemDesk.{SemDesk}
+use Rattle.fak_handles.specs.declared.room.RoomDesk.{RoomDesk}
+use Rattle.fak_handles.specs.declared.credit.CreditDesk.{CreditDesk}
+use Rattle.fak_handles.specs.declared.files.FileDesk.{FileDesk}
+
+abbrev pub queue_in : Option Desk → Option QueueDesk
+queue_in (Some (Queue d)) = Some d
+queue_in (Some (Semaphore d)) = None
+queue_in (Some (Room d)) = None
+queue_in (Some (Credit d)) = None
+queue_in (Some (Files d)) = None
+queue_in None = None
+
+abbrev pub semaphore_in : Option Desk → Option SemDesk
+semaphore_in (Some (Queue d)) = None
+semaphore_in (Some (Semaphore d)) = Some d
+semaphore_in (Some (Room d)) = None
+semaphore_in (Some (Credit d)) = None
+semaphore_in (Some (Files d)) = None
+semaphore_in None = None
+
+abbrev pub room_in : Option Desk → Option RoomDesk
+room_in (Some (Queue d)) = None
+room_in (Some (Semaphore d)) = None
+room_in (Some (Room d)) = Some d
+room_in (Some (Credit d)) = None
+room_in (Some (Files d)) = None
+room_in None = None
+
+abbrev pub credit_in : Option Desk → Option CreditDesk
+credit_in (Some (Queue d)) = None
+credit_in (Some (Semaphore d)) = None
+credit_in (Some (Room d)) = None
+credit_in (Some (Credit d)) = Some d
+credit_in (Some (Files d)) = None
+credit_in None = None
+
+abbrev pub files_in : Option Desk → Option FileDesk
+files_in (Some (Queue d)) = None
+files_in (Some (Semaphore d)) = None
+files_in (Some (Room d)) = None
+files_in (Some (Credit d)) = None
+files_in (Some (Files d)) = Some d
+files_in None = None
+
+-- a handle that has no seat of the kind keeps what it has
+abbrev pub Spares : {D : Type 0} → (Option Desk → Option D) → Option Desk → Option Desk → Type 0
+Spares kind old new = kind old ≡ None → new ≡ old
+
+-- no call of the seat is open, and it holds nothing
+abbrev pub IsAtRest : Desk → Type 0
+IsAtRest (Queue d) = state_of d.seat ≡ state.Idle
+IsAtRest (Semaphore d) = d.seat.standing ≡ standing.Idle
+IsAtRest (Room d) = held_amount d.seat ≡ 0
+IsAtRest (Credit d) = Unit {0}
+IsAtRest (Files d) = d.seat.hold ≡ hold.Nothing
+
+-- a seat at rest is given up, and any other is kept
+abbrev pub GivesUp : ℤ → Option Desk → Option Desk → Type 0
+GivesUp code None None = code ≡ pos 6
+GivesUp code None (Some e) = ⊥
+GivesUp code (Some d) None = (code ≡ pos 0) × IsAtRest d
+GivesUp code (Some d) (Some e) = (code ≡ pos 7) × (IsAtRest d → ⊥) × (e ≡ d)
+
+-- a seat goes to an empty handle; else nothing changes
+abbrev pub Moves : ℤ → Option Desk → Option Desk → Option Desk → Option Desk → Type 0
+Moves code None to seat' to' = (code ≡ pos 6) × (seat' ≡ None) × (to' ≡ to)
+Moves code (Some d) None seat' to' = (code ≡ pos 0) × (seat' ≡ None) × (to' ≡ Some d)
+Moves code (Some d) (Some e) seat' to' = (code ≡ pos 7) × (seat' ≡ Some d) × (to' ≡ Some e)

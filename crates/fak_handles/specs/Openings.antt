@@ -1,0 +1,134 @@
+-- What opening leaves in the handles.
+use Rattle.std.specs.Prelude.{◌≡◌, ◌⊎◌, ℕ, ◌<◌, ℤ, pos, List, [], length, Some, None, slice_index_or}
+use Rattle.std.specs.Arc.{arc_value}
+use Rattle.fak_model.specs.Calls.{seat_info}
+use Rattle.fak_model.specs.Limits.{IsNumberOfSeats}
+use Rattle.fak_queue.specs.Queues.{QueueInfo}
+use Rattle.fak_queue.specs.Refusals as queues
+use Rattle.fak_count.specs.Rooms.{RoomInfo}
+use Rattle.fak_count.specs.Credits.{CreditInfo}
+use Rattle.fak_count.specs.Opening as counts
+use Rattle.fak_files.specs.Calls.{FileTableInfo, file_seat}
+use Rattle.fak_files.specs.Opening as tables
+use Rattle.fak_files.specs.declared.phase.Hold.TheVariants.{Nothing}
+use Rattle.fak_sem.specs.Semaphores.{SemInfo, seats_of}
+use Rattle.fak_sem.specs.Opening as semaphores
+use Rattle.fak_sem.specs.declared.standing.Standing.TheVariants.{Idle}
+use Rattle.fak_handles.specs.declared.desk.Desk.{Desk}
+use Rattle.fak_handles.specs.declared.desk.Desk.TheVariants.{Queue, Semaphore, Room, Credit, Files}
+use Rattle.fak_handles.specs.declared.place.Place.{Place}
+
+-- the handles below this index are empty
+abbrev pub AreEmptyBelow : ℕ → List Place → Type 0
+AreEmptyBelow n places = (i : ℕ) (d : Place) → i < n → (slice_index_or places i d).handle.desk ≡ None
+
+abbrev pub AreEmpty : List Place → Type 0
+AreEmpty places = AreEmptyBelow (length places) places
+
+-- the handle has the seat of this name, as it was opened
+pub record HasSeat (IsFresh : ℕ → Desk → Type 0) (name : ℕ) (p : Place) : Type 0 where
+  pub desk : Desk
+  pub held : p.handle.desk ≡ Some desk
+  pub fresh : IsFresh name desk
+
+-- the handles below this index have the seats named by their indexes
+abbrev pub AreSeatedBelow : (ℕ → Desk → Type 0) → ℕ → List Place → Type 0
+AreSeatedBelow IsFresh n places = (name : ℕ) (d : Place) → name < n → HasSeat IsFresh name (slice_index_or places name d)
+
+-- the object was opened, or a number is out of range, or there was no memory; a failed call leaves all handles empty
+abbrev pub Opens : ℤ → Type 0 → Type 0 → List Place → Type 0
+Opens code InRange Opened places =
+    ((code ≡ pos 0) × InRange × Opened)
+    ⊎ ((code ≡ pos 8) × ¬ InRange × AreEmpty places)
+    ⊎ ((code ≡ pos 9) × InRange × AreEmpty places)
+
+-- ---- the seats of each kind, as they are opened
+
+abbrev pub IsFreshQueue : QueueInfo → ℕ → ℕ → Desk → Type 0
+IsFreshQueue queue stint name (Queue d) = (arc_value d.queue ≡ queue) × (d.seat ≡ seat_info queue.object name stint [])
+IsFreshQueue queue stint name (Semaphore d) = ⊥
+IsFreshQueue queue stint name (Room d) = ⊥
+IsFreshQueue queue stint name (Credit d) = ⊥
+IsFreshQueue queue stint name (Files d) = ⊥
+
+abbrev pub IsFreshRoom : RoomInfo → ℕ → ℕ → Desk → Type 0
+IsFreshRoom room stint name (Queue d) = ⊥
+IsFreshRoom room stint name (Semaphore d) = ⊥
+IsFreshRoom room stint name (Room d) = (arc_value d.room ≡ room) × (d.seat ≡ seat_info room.object name stint [])
+IsFreshRoom room stint name (Credit d) = ⊥
+IsFreshRoom room stint name (Files d) = ⊥
+
+abbrev pub IsFreshCredit : CreditInfo → ℕ → ℕ → Desk → Type 0
+IsFreshCredit credit stint name (Queue d) = ⊥
+IsFreshCredit credit stint name (Semaphore d) = ⊥
+IsFreshCredit credit stint name (Room d) = ⊥
+IsFreshCredit credit stint name (Credit d) = (arc_value d.credit ≡ credit) × (d.seat ≡ seat_info credit.object name stint [])
+IsFreshCredit credit stint name (Files d) = ⊥
+
+abbrev pub IsFreshFile : FileTableInfo → ℕ → ℕ → Desk → Type 0
+IsFreshFile table stint name (Queue d) = ⊥
+IsFreshFile table stint name (Semaphore d) = ⊥
+IsFreshFile table stint name (Room d) = ⊥
+IsFreshFile table stint name (Credit d) = ⊥
+IsFreshFile table stint name (Files d) = (arc_value d.table ≡ table) × (d.seat ≡ file_seat (seat_info table.object name stint []) Nothing)
+
+abbrev pub IsFreshSem : SemInfo → ℕ → ℕ → Desk → Type 0
+IsFreshSem sem stint name (Queue d) = ⊥
+IsFreshSem sem stint name (Semaphore d) =
+    (arc_value d.semaphore ≡ sem) × (d.seat.standing ≡ Idle) × (d.seat.seat ≡ record { object = sem.object; name = name; stint = stint; credit_seen = []; queue_seen = [] })
+IsFreshSem sem stint name (Room d) = ⊥
+IsFreshSem sem stint name (Credit d) = ⊥
+IsFreshSem sem stint name (Files d) = ⊥
+
+-- ---- each kind of object, as it is opened: each handle has a seat of one object
+
+pub record IsOpenedQueue (size stint : ℕ) (places : List Place) : Type 0 where
+  pub queue : QueueInfo
+  pub size_is : queue.size ≡ size
+  pub seats_are : queue.object.seats ≡ length places
+  pub seated : AreSeatedBelow (IsFreshQueue queue stint) (length places) places
+
+pub record IsOpenedRoom (bound stint : ℕ) (places : List Place) : Type 0 where
+  pub room : RoomInfo
+  pub bound_is : room.bound ≡ bound
+  pub seats_are : room.object.seats ≡ length places
+  pub seated : AreSeatedBelow (IsFreshRoom room stint) (length places) places
+
+pub record IsOpenedCredit (start stint : ℕ) (places : List Place) : Type 0 where
+  pub credit : CreditInfo
+  pub start_is : credit.start ≡ start
+  pub seats_are : credit.object.seats ≡ length places
+  pub seated : AreSeatedBelow (IsFreshCredit credit stint) (length places) places
+
+pub record IsOpenedTable (entries stint : ℕ) (places : List Place) : Type 0 where
+  pub table : FileTableInfo
+  pub entries_are : table.entries ≡ entries
+  pub seats_are : table.object.seats ≡ length places
+  pub seated : AreSeatedBelow (IsFreshFile table stint) (length places) places
+
+pub record IsOpenedSem (start size stint : ℕ) (places : List Place) : Type 0 where
+  pub sem : SemInfo
+  pub start_is : sem.object.start ≡ start
+  pub size_is : sem.size ≡ size
+  pub seats_are : seats_of sem.object ≡ length places
+  pub seated : AreSeatedBelow (IsFreshSem sem stint) (length places) places
+
+abbrev pub OpensQueue : ℤ → ℕ → ℕ → List Place → Type 0
+OpensQueue code size stint places = Opens code (queues.IsInRange size (length places) stint) (IsOpenedQueue size stint places) places
+
+abbrev pub OpensRoom : ℤ → ℕ → ℕ → List Place → Type 0
+OpensRoom code bound stint places = Opens code (counts.IsInRange bound (length places) stint) (IsOpenedRoom bound stint places) places
+
+abbrev pub OpensCredit : ℤ → ℕ → ℕ → List Place → Type 0
+OpensCredit code start stint places = Opens code (counts.IsInRange start (length places) stint) (IsOpenedCredit start stint places) places
+
+abbrev pub OpensTable : ℤ → ℕ → ℕ → List Place → Type 0
+OpensTable code entries stint places = Opens code (tables.IsInRange entries (length places) stint) (IsOpenedTable entries stint places) places
+
+abbrev pub OpensSem : ℤ → ℕ → ℕ → ℕ → List Place → Type 0
+OpensSem code start size stint places = Opens code (semaphores.IsInRange start size (length places) stint) (IsOpenedSem start size stint places) places
+
+-- an object may have this many handles, and the call opens them or says why not; or it may not, and the call keeps them
+abbrev pub OpensOrKeeps : ℤ → List Place → List Place → Type 0 → Type 0
+OpensOrKeeps code old new IsAnswered =
+    (IsNumberOfSeats (length old) → IsAnswered) × (¬ IsNumberOfSeats (length old) → (code ≡ pos 8) × (new ≡ old))

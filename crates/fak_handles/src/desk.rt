@@ -1,0 +1,35 @@
+//! What a handle owns: a seat of one kind, with a share of its object.
+
+use crate::credit::CreditDesk;
+use crate::files::FileDesk;
+use crate::queue::QueueDesk;
+use crate::room::RoomDesk;
+use crate::semaphore::SemDesk;
+
+/// A seat of one kind, with a share of its object.
+#[derive(Drop)]
+pub enum Desk {
+    Queue(QueueDesk),
+    Semaphore(SemDesk),
+    Room(RoomDesk),
+    Credit(CreditDesk),
+    Files(FileDesk),
+}
+
+impl Desk {
+    ghost use Rattle.std.specs.Prelude.{◌↔◌, IsTrue};
+    ghost use Rattle.fak_handles.specs.Kinds.{IsAtRest};
+
+    /// Whether no call of the seat is open, and it holds nothing.
+    pub fn is_at_rest(&self) -> bool
+        ensures { IsTrue result ↔ IsAtRest self.now }
+    {
+        match self {
+            Desk::Queue(desk) => desk.is_idle(),
+            Desk::Semaphore(desk) => desk.is_idle(),
+            Desk::Room(desk) => desk.holds_nothing(),
+            Desk::Credit(_) => true,
+            Desk::Files(desk) => desk.holds_nothing(),
+        }
+    }
+}
