@@ -1,10 +1,11 @@
 //! Scripts that more than one test runs, and what is found of runs of them.
 
 use fak_kernel::{
-    Fault, FreeGate, Printed, Report, report_text, run, run_one, run_one_to_text, run_to_text,
+    Fault, FreeGate, Gate, Printed, Report, report_text, run, run_one, run_one_to_text, run_to_text,
 };
 use fak_text::{Script, read_script};
-use std::alloc::{AllocError, Global};
+use std::alloc::Global;
+use std::fmt::Debug;
 use std::marker::Sync;
 use std::process::Abort;
 use std::sync::Wait;
@@ -54,37 +55,42 @@ pub const CURFEW: &str =
 "programs":[[["shutdown"],["say","last"],["say","never"]],[["say","a"],["say","b"]],[["down",0]]],
 "start":[0,1,2]}"#;
 
+/// Stops where this is not so, and tells what was found instead, and with which numbers.
+pub fn assert_with<T: Debug + Drop>(
+    rt: &impl Abort,
+    is_so: bool,
+    what: &str,
+    found: T,
+    number: u64,
+    processors: u64,
+) {
+    assert!(rt; is_so, "{found:?}, {number}, {processors}: {what}");
+}
+
 /// Adds each part as often as the number beside it says.
-pub fn add_parts(text: &mut String, parts: &[(u64, &str)]) -> Result<(), AllocError> {
+pub fn add_parts(rt: &impl Abort, text: &mut String, parts: &[(u64, &str)]) {
     for &(times, part) in parts {
         for _ in 0..times {
-            text.push_str(part)?;
+            text.push_str(part).expect(rt, "a script");
         }
     }
-    Ok(())
 }
 
 /// The script of these parts.
 pub fn script_in_parts(rt: &impl Abort, alloc: Global, parts: &[(u64, &str)]) -> Script {
     let mut text = String::new(alloc);
-    add_parts(&mut text, parts).expect(rt, "a text");
+    add_parts(rt, &mut text, parts);
     script_of(rt, alloc, &text)
 }
 
 pub fn script_of(rt: &impl Abort, alloc: Global, text: &str) -> Script {
-    let Ok(script) = read_script(alloc, text.as_bytes()) else {
-        panic!(rt; "no script: {text}")
-    };
-    script
+    read_script(alloc, text.as_bytes()).expect(rt, text)
 }
 
 /// The report of a script on one processor.
 pub fn report_of<R: Abort + Wait>(rt: &R, alloc: Global, script: &str) -> Report {
     let script = script_of(rt, alloc, script);
-    let Ok(report) = run_one(rt, alloc, &script) else {
-        panic!(rt; "a report")
-    };
-    report
+    run_one(rt, alloc, &script).expect(rt, "a report")
 }
 
 /// The report of a script on this number of processors; without threads where it is 0.
@@ -113,6 +119,29 @@ pub fn run_on_to_text<R: Abort + Threads + Wait + Sync>(
     }
 }
 
+/// The fault of a run with this gate.
+pub fn fault_of<R: Abort + Threads + Wait + Sync, G: Gate + Sync>(
+    rt: &R,
+    alloc: Global,
+    script: &str,
+    processors: u64,
+    gate: &G,
+) -> Option<Fault> {
+    let script = script_of(rt, alloc, script);
+    fault_with(rt, alloc, &script, processors, gate)
+}
+
+/// The same of a script that is read already.
+pub fn fault_with<R: Abort + Threads + Wait + Sync, G: Gate + Sync>(
+    rt: &R,
+    alloc: Global,
+    script: &Script,
+    processors: u64,
+    gate: &G,
+) -> Option<Fault> {
+    run(rt, alloc, script, processors, gate).err()
+}
+
 /// Finds that the run ended with this fault, and that no processor was left alone.
 pub fn is_left(
     rt: &impl Abort,
@@ -122,19 +151,20 @@ pub fn is_left(
     chosen: u64,
     processors: u64,
 ) {
-    assert!(rt;
-        found == Some(wanted) && !is_left_alone,
-        "{found:?} of {chosen} on {processors}, one left alone: {is_left_alone}"
-    );
+    let what = if is_left_alone {
+        "one left alone"
+    } else {
+        "the fault"
+    };
+    let is_so = found == Some(wanted) && !is_left_alone;
+    assert_with(rt, is_so, what, found, chosen, processors);
 }
 
 /// Finds that this is the text of a report.
 pub fn has_text(rt: &impl Abort, alloc: Global, report: &Report, processors: u64, text: &str) {
-    let is_same = match report_text(alloc, report) {
-        Ok(written) => written.as_slice() == text.as_bytes(),
-        Err(_) => false,
-    };
-    assert!(rt; is_same, "not on {processors}: {text}");
+    let written = report_text(alloc, report).expect(rt, "a text");
+    let is_same = written.as_slice() == text.as_bytes();
+    assert_with(rt, is_same, text, "another text", 0, processors);
 }
 
 /// Finds that this text was printed, with this exit status.
@@ -145,12 +175,7 @@ pub fn is_printed(
     text: &str,
     status: u8,
 ) {
-    let is_same = match printed {
-        Ok(printed) => printed.text.as_slice() == text.as_bytes() && printed.status == status,
-        Err(_) => false,
-    };
-    assert!(rt;
-        is_same,
-        "not printed on {processors} with {status}: {text}"
-    );
+    let printed = printed.expect(rt, text);
+    let is_same = printed.text.as_slice() == text.as_bytes() && printed.status == status;
+    assert_with(rt, is_same, text, printed.status, status as u64, processors);
 }

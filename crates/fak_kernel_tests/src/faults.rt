@@ -1,13 +1,8 @@
 //! Faults among several processors: the others leave, and the fault of the first one is answered.
 
-use super::examples::{is_left, script_in_parts, script_of};
+use super::examples::{fault_of, fault_with, is_left, script_in_parts};
 use super::gates::{Chosen, Late, Second, Slow, Slowing};
-use fak_kernel::{Fault, FreeGate, Gate, run};
-use std::alloc::Global;
-use std::marker::Sync;
-use std::process::Abort;
-use std::sync::Wait;
-use std::thread::Threads;
+use fak_kernel::{Fault, FreeGate};
 
 /// A processor is held this many turns at most.
 const MANY: u64 = 100_000_000;
@@ -21,22 +16,11 @@ const WORN: &str =
     r#"{"version":1,"slots":1,"births":0,"quantum":9,"stint":4,"semaphores":[0],"files":1,
 "programs":[[["up",0],["up",0],["up",0],["up",0],["up",0]]],"start":[0]}"#;
 
-/// The fault of a run of the worn process.
-fn fault_of<R: Abort + Threads + Wait + Sync, G: Gate + Sync>(
-    rt: &R,
-    alloc: Global,
-    processors: u64,
-    gate: &G,
-) -> Option<Fault> {
-    let script = script_of(rt, alloc, WORN);
-    run(rt, alloc, &script, processors, gate).err()
-}
-
 #[test]
 fn the_others_leave_where_one_is_worn(rt: HostRuntime) {
     for processors in 2..9u64 {
         let gate = Late::new(NOBODY, MANY);
-        let fault = fault_of(&rt, rt.alloc(), processors, &gate);
+        let fault = fault_of(&rt, rt.alloc(), WORN, processors, &gate);
         is_left(
             &rt,
             fault,
@@ -51,7 +35,7 @@ fn the_others_leave_where_one_is_worn(rt: HostRuntime) {
 #[test]
 fn the_others_leave_by_the_free_gate(rt: HostRuntime) {
     for processors in 2..9u64 {
-        let fault = fault_of(&rt, rt.alloc(), processors, &FreeGate);
+        let fault = fault_of(&rt, rt.alloc(), WORN, processors, &FreeGate);
         is_left(&rt, fault, Fault::Worn, false, NOBODY, processors);
     }
 }
@@ -60,14 +44,14 @@ fn the_others_leave_by_the_free_gate(rt: HostRuntime) {
 fn the_fault_of_the_first_processor_is_answered(rt: HostRuntime) {
     for &(refused, answered) in &[(1u64, Fault::Worn), (0, Fault::Gate)] {
         let gate = Late::new(refused, MANY);
-        let fault = fault_of(&rt, rt.alloc(), 2, &gate);
+        let fault = fault_of(&rt, rt.alloc(), WORN, 2, &gate);
         is_left(&rt, fault, answered, gate.has_left_alone(), refused, 2);
     }
 }
 
 #[test]
 fn the_fault_of_a_later_processor_is_answered(rt: HostRuntime) {
-    let fault = fault_of(&rt, rt.alloc(), 2, &Slow::new(MANY));
+    let fault = fault_of(&rt, rt.alloc(), WORN, 2, &Slow::new(MANY));
     is_left(&rt, fault, Fault::Worn, false, 0, 2);
 }
 
@@ -76,7 +60,7 @@ fn whoever_is_worn_the_others_leave(rt: HostRuntime) {
     for processors in 2..9u64 {
         for chosen in 0..processors {
             let gate = Chosen::new(chosen, MANY);
-            let fault = fault_of(&rt, rt.alloc(), processors, &gate);
+            let fault = fault_of(&rt, rt.alloc(), WORN, processors, &gate);
             is_left(
                 &rt,
                 fault,
@@ -105,7 +89,7 @@ fn the_others_leave_where_each_has_seen_an_end(rt: HostRuntime) {
     for processors in 2..9u64 {
         for chosen in 0..processors {
             let gate = Second::new(chosen, processors, MANY);
-            let fault = run(&rt, rt.alloc(), &script, processors, &gate).err();
+            let fault = fault_with(&rt, rt.alloc(), &script, processors, &gate);
             is_left(
                 &rt,
                 fault,
@@ -134,7 +118,7 @@ fn whoever_is_refused_the_others_leave(rt: HostRuntime) {
     for processors in 2..9u64 {
         for refused in 0..processors {
             let gate = Slowing::new(refused, 20, MANY);
-            let fault = run(&rt, rt.alloc(), &script, processors, &gate).err();
+            let fault = fault_with(&rt, rt.alloc(), &script, processors, &gate);
             is_left(
                 &rt,
                 fault,

@@ -5,9 +5,10 @@ mod fits;
 mod lines;
 mod names;
 
+use super::examples::assert_with;
 use fak_kernel::Report;
 use fak_text::Script;
-use std::alloc::{AllocError, Global};
+use std::alloc::Global;
 use std::process::Abort;
 
 /// Finds that the report of this script, by this number of processors, breaks no promise.
@@ -19,37 +20,44 @@ pub(super) fn keeps_promises(
     processors: u64,
     text: &str,
 ) {
-    let broken = broken_promise(alloc, script, report);
-    assert!(rt; broken == Ok(None), "{broken:?} on {processors}: {text}");
+    let broken = broken_promise(rt, alloc, script, report);
+    assert_with(rt, broken.is_none(), text, broken, processors, 0);
 }
 
 /// The promise that the report breaks.
 pub(super) fn broken_promise(
+    rt: &impl Abort,
     alloc: Global,
     script: &Script,
     report: &Report,
-) -> Result<Option<&'static str>, AllocError> {
+) -> Option<&'static str> {
+    let broken = broken_row(script, report);
+    if broken.is_some() || files::replay(rt, alloc, script, report) {
+        return broken;
+    }
+    Some("files")
+}
+
+/// The same, but for the files.
+fn broken_row(script: &Script, report: &Report) -> Option<&'static str> {
     let rows = report.rows.as_slice();
     if report.version != script.version() || report.bound != script.births() {
-        return Ok(Some("version and bound"));
+        return Some("version and bound");
     }
     if !names::rise(rows) || !names::have_origins(script, rows) {
-        return Ok(Some("names"));
+        return Some("names");
     }
     if !names::are_counted(script, report) {
-        return Ok(Some("births"));
+        return Some("births");
     }
     if !fits::all_fit(script, rows) {
-        return Ok(Some("rows that fit"));
+        return Some("rows that fit");
     }
     if !fits::have_own_slots(script, rows) {
-        return Ok(Some("slots"));
+        return Some("slots");
     }
     if !lines::are_granted(script, rows) {
-        return Ok(Some("semaphores"));
+        return Some("semaphores");
     }
-    if !files::replay(alloc, script, report)? {
-        return Ok(Some("files"));
-    }
-    Ok(None)
+    None
 }

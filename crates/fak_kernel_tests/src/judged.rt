@@ -4,7 +4,7 @@ use super::examples::{READER, report_of, script_of};
 use super::judge::{broken_promise, keeps_promises};
 use fak_kernel::{Outcome, ProcessRow, Report};
 use fak_text::{Note, Script};
-use std::alloc::{AllocError, Global};
+use std::alloc::Global;
 use std::process::Abort;
 use std::sync::Wait;
 
@@ -63,10 +63,10 @@ fn verdict_after(
     script: &Script,
     report: &mut Report,
     what: Change,
-) -> Result<Option<&'static str>, AllocError> {
+) -> Option<&'static str> {
     keeps_promises(rt, alloc, script, report, 0, "nothing was changed yet");
     assert!(rt; apply(report, what), "a change");
-    broken_promise(alloc, script, report)
+    broken_promise(rt, alloc, script, report)
 }
 
 /// The same of the report of a script on one processor.
@@ -75,7 +75,7 @@ fn verdict<R: Abort + Wait>(
     alloc: Global,
     script: &str,
     what: Change,
-) -> Result<Option<&'static str>, AllocError> {
+) -> Option<&'static str> {
     let mut report = report_of(rt, alloc, script);
     let script = script_of(rt, alloc, script);
     verdict_after(rt, alloc, &script, &mut report, what)
@@ -96,6 +96,6 @@ const CHANGES: [(&str, Change, &str); 7] = [
 fn each_promise_can_be_broken(rt: HostRuntime) {
     for &(script, what, broken) in &CHANGES {
         let found = verdict(&rt, rt.alloc(), script, what);
-        assert!(rt; found == Ok(Some(broken)), "{broken}");
+        assert!(rt; found == Some(broken), "{broken}");
     }
 }

@@ -1,16 +1,16 @@
 //! Runs on several processors: each report is judged, and gates show that the processors run at once.
 
 use super::examples::{
-    CURFEW, PING_PONG, PING_PONG_REPORT, READER, READER_REPORT, add_parts, has_text, is_printed,
-    run_on, run_on_to_text, script_in_parts, script_of,
+    CURFEW, PING_PONG, PING_PONG_REPORT, READER, READER_REPORT, add_parts, assert_with, fault_of,
+    has_text, is_left, is_printed, run_on, run_on_to_text, script_in_parts, script_of,
 };
 use super::gates::{Holding, Meeting, Refusing};
 use super::judge::keeps_promises;
 use super::scripting::drawn_script;
 use crate::Draws;
-use fak_kernel::{Fault, FreeGate, Gate, Report, report_text, run, run_to_text};
+use fak_kernel::{Fault, FreeGate, Gate, Printed, Report, report_text, run, run_to_text};
 use fak_text::Script;
-use std::alloc::{AllocError, Global};
+use std::alloc::Global;
 use std::marker::Sync;
 use std::process::Abort;
 use std::sync::Wait;
@@ -35,10 +35,7 @@ fn report_on<R: Abort + Threads + Wait + Sync, G: Gate + Sync>(
     processors: u64,
     gate: &G,
 ) -> Report {
-    let Ok(report) = run(rt, alloc, script, processors, gate) else {
-        panic!(rt; "a report on {processors}")
-    };
-    report
+    run(rt, alloc, script, processors, gate).expect(rt, "a report")
 }
 
 /// Finds that a run has this report.
@@ -55,18 +52,6 @@ fn reports<R: Abort + Threads + Wait + Sync, G: Gate + Sync>(
     has_text(rt, alloc, &report, processors, text);
 }
 
-/// The fault of a run.
-fn fault_of<R: Abort + Threads + Wait + Sync, G: Gate + Sync>(
-    rt: &R,
-    alloc: Global,
-    script: &str,
-    processors: u64,
-    gate: &G,
-) -> Option<Fault> {
-    let script = script_of(rt, alloc, script);
-    run(rt, alloc, &script, processors, gate).err()
-}
-
 /// Finds that a run ends with this fault.
 fn fails<R: Abort + Threads + Wait + Sync, G: Gate + Sync>(
     rt: &R,
@@ -77,36 +62,27 @@ fn fails<R: Abort + Threads + Wait + Sync, G: Gate + Sync>(
     wanted: Fault,
 ) {
     let fault = fault_of(rt, alloc, script, processors, gate);
-    assert!(rt; fault == Some(wanted), "{fault:?} on {processors}");
+    is_left(rt, fault, wanted, false, 0, processors);
+}
+
+/// Finds that this many processors meet, and that one less is refused.
+fn meet<R: Abort + Threads + Wait + Sync>(rt: &R, alloc: Global, processors: u64) {
+    let gate = Meeting::new(processors, MANY);
+    assert!(rt; gate.may_refuse());
+    reports(rt, alloc, PING_PONG, processors, &gate, PING_PONG_REPORT);
+    let gate = Meeting::new(processors, FEW);
+    let fewer = processors.saturating_sub(1);
+    fails(rt, alloc, PING_PONG, fewer, &gate, Fault::Gate);
 }
 
 #[test]
 fn two_processors_meet(rt: HostRuntime) {
-    let gate = Meeting::new(2, MANY);
-    assert!(rt; gate.may_refuse());
-    reports(&rt, rt.alloc(), PING_PONG, 2, &gate, PING_PONG_REPORT);
-    fails(
-        &rt,
-        rt.alloc(),
-        PING_PONG,
-        1,
-        &Meeting::new(2, FEW),
-        Fault::Gate,
-    );
+    meet(&rt, rt.alloc(), 2);
 }
 
 #[test]
 fn three_processors_meet(rt: HostRuntime) {
-    let gate = Meeting::new(3, MANY);
-    reports(&rt, rt.alloc(), PING_PONG, 3, &gate, PING_PONG_REPORT);
-    fails(
-        &rt,
-        rt.alloc(),
-        PING_PONG,
-        2,
-        &Meeting::new(3, FEW),
-        Fault::Gate,
-    );
+    meet(&rt, rt.alloc(), 3);
 }
 
 #[test]
@@ -125,16 +101,30 @@ fn one_processor_is_held_until_the_other_is_done(rt: HostRuntime) {
     );
 }
 
+/// Scripts, and their reports.
+const KNOWN: [(&str, &str); 2] = [(PING_PONG, PING_PONG_REPORT), (READER, READER_REPORT)];
+
 #[test]
 fn known_reports_on_1_to_8(rt: HostRuntime) {
     for processors in 1..9u64 {
-        for &(script, report) in &[(PING_PONG, PING_PONG_REPORT), (READER, READER_REPORT)] {
+        for &(script, report) in &KNOWN {
             reports(&rt, rt.alloc(), script, processors, &FreeGate, report);
         }
     }
 }
 
-/// Finds that a run that is asked for its text alone prints this, with status 0.
+/// What a run prints that is asked for its text alone.
+fn printed_on<R: Abort + Threads + Wait + Sync>(
+    rt: &R,
+    alloc: Global,
+    script: &str,
+    processors: u64,
+) -> Result<Printed, Fault> {
+    let script = script_of(rt, alloc, script);
+    run_to_text(rt, alloc, &script, processors, &FreeGate)
+}
+
+/// Finds that such a run prints this, with status 0.
 fn prints<R: Abort + Threads + Wait + Sync>(
     rt: &R,
     alloc: Global,
@@ -142,8 +132,7 @@ fn prints<R: Abort + Threads + Wait + Sync>(
     processors: u64,
     text: &str,
 ) {
-    let script = script_of(rt, alloc, script);
-    let printed = run_to_text(rt, alloc, &script, processors, &FreeGate);
+    let printed = printed_on(rt, alloc, script, processors);
     is_printed(rt, printed, processors, text, 0);
 }
 
@@ -152,9 +141,8 @@ fn known_texts_on_1_to_8(rt: HostRuntime) {
     for processors in 1..9u64 {
         prints(&rt, rt.alloc(), PING_PONG, processors, PING_PONG_REPORT);
     }
-    let script = script_of(&rt, rt.alloc(), PING_PONG);
-    let refused = run_to_text(&rt, rt.alloc(), &script, 9, &FreeGate).err();
-    assert!(rt; refused == Some(Fault::BadProcessors));
+    let refused = printed_on(&rt, rt.alloc(), PING_PONG, 9).err();
+    is_left(&rt, refused, Fault::BadProcessors, false, 0, 9);
 }
 
 #[test]
@@ -214,7 +202,7 @@ fn a_shutdown_on_two(rt: HostRuntime) {
 fn drawn_scripts_keep_their_promises(rt: HostRuntime) {
     let mut draws = Draws::new(88_172_645_463_325_252);
     for _ in 0..64 {
-        let script = drawn_script(rt.alloc(), &mut draws).expect(&rt, "a script");
+        let script = drawn_script(&rt, rt.alloc(), &mut draws);
         for &processors in &[2u64, 4, 8] {
             drop(judged_report(&rt, rt.alloc(), &script, processors));
         }
@@ -242,20 +230,22 @@ const MANY_ROWS: [(u64, &str); 3] = [
 /// One process that says a text of each length from 0 to 80.
 fn long_texts(rt: &impl Abort, alloc: Global) -> Script {
     let mut text = String::new(alloc);
-    add_long_texts(&mut text).expect(rt, "a script");
+    add_parts(rt, &mut text, &LONG_TEXTS_FRONT);
+    for length in 1..81u64 {
+        add_parts(
+            rt,
+            &mut text,
+            &[(1, r#",["say",""#), (length, "x"), (1, r#""]"#)],
+        );
+    }
+    add_parts(rt, &mut text, &[(1, r#"]],"start":[0]}"#)]);
     script_of(rt, alloc, &text)
 }
 
-/// Adds this script.
-fn add_long_texts(text: &mut String) -> Result<(), AllocError> {
-    text.push_str(
-        r#"{"version":1,"slots":1,"births":0,"quantum":9,"semaphores":[],"files":1,"programs":[[["say",""]"#,
-    )?;
-    for length in 1..81u64 {
-        add_parts(text, &[(1, r#",["say",""#), (length, "x"), (1, r#""]"#)])?;
-    }
-    text.push_str(r#"]],"start":[0]}"#)
-}
+const LONG_TEXTS_FRONT: [(u64, &str); 1] = [(
+    1,
+    r#"{"version":1,"slots":1,"births":0,"quantum":9,"semaphores":[],"files":1,"programs":[[["say",""]"#,
+)];
 
 /// The text of the report of a run.
 fn whole_text<R: Abort + Threads + Wait + Sync>(
@@ -263,17 +253,33 @@ fn whole_text<R: Abort + Threads + Wait + Sync>(
     alloc: Global,
     script: &Script,
     processors: u64,
-) -> Result<Vec<u8>, Fault> {
-    let report = run_on(rt, alloc, script, processors)?;
-    Ok(report_text(alloc, &report)?)
+) -> Vec<u8> {
+    let report = run_on(rt, alloc, script, processors).expect(rt, "a report");
+    report_text(alloc, &report).expect(rt, "a text")
+}
+
+/// How many lines are ended.
+fn lines_of(text: &[u8]) -> u64 {
+    let mut lines = 0u64;
+    for byte in text {
+        if *byte == b'\n' {
+            lines = lines.saturating_add(1);
+        }
+    }
+    lines
 }
 
 /// Finds that both texts are the same, and have this many lines.
-fn are_same(rt: &impl Abort, whole: &[u8], printed: &[u8], lines: usize, processors: u64) {
-    let found = whole.iter().filter(|byte| **byte == b'\n').count();
-    assert!(rt;
-        whole == printed && found == lines,
-        "{found} of {lines} lines on {processors}, or another text"
+fn are_same(rt: &impl Abort, whole: &[u8], printed: &[u8], lines: u64, processors: u64) {
+    let found = lines_of(whole);
+    let is_same = whole == printed && found == lines;
+    assert_with(
+        rt,
+        is_same,
+        "lines, or another text",
+        found,
+        lines,
+        processors,
     );
 }
 
@@ -282,10 +288,10 @@ fn is_the_same_text<R: Abort + Threads + Wait + Sync>(
     rt: &R,
     alloc: Global,
     script: &Script,
-    lines: usize,
+    lines: u64,
 ) {
     for processors in 0..9u64 {
-        let whole = whole_text(rt, alloc, script, processors).expect(rt, "a text");
+        let whole = whole_text(rt, alloc, script, processors);
         let printed = run_on_to_text(rt, alloc, script, processors).expect(rt, "a text");
         are_same(rt, &whole, &printed.text, lines, processors);
     }

@@ -1,8 +1,9 @@
 //! Small scripts that are drawn at random, by a fixed seed.
 
 use crate::Draws;
-use std::alloc::{AllocError, Global};
+use std::alloc::Global;
 use std::fmt::Write;
+use std::process::Abort;
 
 /// How much of each there is.
 #[derive(Clone, Copy, Drop)]
@@ -10,104 +11,113 @@ struct Sizes {
     version: u64,
     programs: u64,
     semaphores: u64,
+    slots: u64,
 }
+
+/// What else is drawn for a script: its name, a bound of the draw, and the least.
+const FIELDS: [(&str, u64, u64); 3] = [
+    (",\"births\":", 5, 0),
+    (",\"quantum\":", 3, 1),
+    (",\"files\":", 3, 1),
+];
 
 /// A script of a few short programs.
-pub(super) fn drawn_script(alloc: Global, draws: &mut Draws) -> Result<String, AllocError> {
+pub(super) fn drawn_script(rt: &impl Abort, alloc: Global, draws: &mut Draws) -> String {
     let mut text = String::new(alloc);
-    add_script(&mut text, draws)?;
-    Ok(text)
+    let sizes = drawn_sizes(draws);
+    add_head(rt, &mut text, draws, sizes);
+    add_lists(rt, &mut text, draws, sizes);
+    text
 }
 
-fn add_script(text: &mut String, draws: &mut Draws) -> Result<(), AllocError> {
-    let sizes = Sizes {
+fn drawn_sizes(draws: &mut Draws) -> Sizes {
+    Sizes {
         version: draws.below(2).saturating_add(1),
         programs: draws.below(3).saturating_add(1),
         semaphores: draws.below(2).saturating_add(1),
-    };
-    let version = sizes.version;
-    let slots = draws.below(6).saturating_add(2);
-    let (births, quantum, files) = (
-        draws.below(5),
-        draws.below(3).saturating_add(1),
-        draws.below(3).saturating_add(1),
-    );
-    write!(
-        text,
-        "{{\"version\":{version},\"slots\":{slots},\"births\":{births},\"quantum\":{quantum},\"files\":{files},\"semaphores\":["
-    )?;
-    add_numbers(text, draws, sizes.semaphores, 3)?;
-    text.push_str("],\"programs\":[")?;
-    add_programs(text, draws, sizes)?;
-    text.push_str("],\"start\":[")?;
-    let started = draws.below(slots).saturating_add(1);
-    add_numbers(text, draws, started, sizes.programs)?;
-    text.push_str("]}")
+        slots: draws.below(6).saturating_add(2),
+    }
+}
+
+fn add(rt: &impl Abort, text: &mut String, part: &str) {
+    text.push_str(part).expect(rt, "a script");
+}
+
+fn add_number(rt: &impl Abort, text: &mut String, front: &str, number: u64) {
+    write!(text, "{front}{number}").expect(rt, "a script");
+}
+
+fn add_head(rt: &impl Abort, text: &mut String, draws: &mut Draws, sizes: Sizes) {
+    add_number(rt, text, "{\"version\":", sizes.version);
+    add_number(rt, text, ",\"slots\":", sizes.slots);
+    for &(front, bound, least) in &FIELDS {
+        let number = draws.below(bound).saturating_add(least);
+        add_number(rt, text, front, number);
+    }
+}
+
+fn add_lists(rt: &impl Abort, text: &mut String, draws: &mut Draws, sizes: Sizes) {
+    add(rt, text, ",\"semaphores\":[");
+    add_numbers(rt, text, draws, sizes.semaphores, 3);
+    add(rt, text, "],\"programs\":[");
+    add_programs(rt, text, draws, sizes);
+    add(rt, text, "],\"start\":[");
+    let started = draws.below(sizes.slots).saturating_add(1);
+    add_numbers(rt, text, draws, started, sizes.programs);
+    add(rt, text, "]}");
 }
 
 /// A comma, but before the first.
-fn add_comma(text: &mut String, i: u64) -> Result<(), AllocError> {
-    if i > 0 {
-        text.push_str(",")?;
-    }
-    Ok(())
+fn comma(i: u64) -> &'static str {
+    if i > 0 { "," } else { "" }
 }
 
 /// This many numbers below the bound.
-fn add_numbers(
-    text: &mut String,
-    draws: &mut Draws,
-    count: u64,
-    bound: u64,
-) -> Result<(), AllocError> {
+fn add_numbers(rt: &impl Abort, text: &mut String, draws: &mut Draws, count: u64, bound: u64) {
     for i in 0..count {
-        add_comma(text, i)?;
-        let number = draws.below(bound);
-        write!(text, "{number}")?;
+        add_number(rt, text, comma(i), draws.below(bound));
     }
-    Ok(())
 }
 
-fn add_programs(text: &mut String, draws: &mut Draws, sizes: Sizes) -> Result<(), AllocError> {
+fn add_programs(rt: &impl Abort, text: &mut String, draws: &mut Draws, sizes: Sizes) {
     for i in 0..sizes.programs {
-        add_comma(text, i)?;
-        text.push_str("[")?;
-        add_program(text, draws, sizes)?;
-        text.push_str("]")?;
+        add(rt, text, comma(i));
+        add(rt, text, "[");
+        add_program(rt, text, draws, sizes);
+        add(rt, text, "]");
     }
-    Ok(())
 }
 
-fn add_program(text: &mut String, draws: &mut Draws, sizes: Sizes) -> Result<(), AllocError> {
+fn add_program(rt: &impl Abort, text: &mut String, draws: &mut Draws, sizes: Sizes) {
     for i in 0..draws.below(8) {
-        add_comma(text, i)?;
-        add_step(text, draws, sizes)?;
+        add(rt, text, comma(i));
+        add_step(rt, text, draws, sizes);
     }
-    Ok(())
 }
 
-fn add_step(text: &mut String, draws: &mut Draws, sizes: Sizes) -> Result<(), AllocError> {
+fn add_step(rt: &impl Abort, text: &mut String, draws: &mut Draws, sizes: Sizes) {
     let semaphore = draws.below(sizes.semaphores);
     let inode = draws.below(2).saturating_add(1);
     let program = draws.below(sizes.programs);
-    let (name, number) = match draws.below(16) {
-        0 | 1 => return text.push_str("[\"yield\"]"),
-        2 | 3 | 4 => ("down", semaphore),
-        5 | 6 | 7 => ("up", semaphore),
-        8 => ("open", inode),
-        9 => ("close", inode),
-        10 => ("stat", inode),
-        11 | 12 | 13 => ("spawn", program),
-        14 => return add_end(text, draws, sizes),
-        _ => return text.push_str("[\"say\",\"x\"]"),
+    let (front, number) = match draws.below(16) {
+        0 | 1 => return add(rt, text, "[\"yield\"]"),
+        2 | 3 | 4 => ("[\"down\",", semaphore),
+        5 | 6 | 7 => ("[\"up\",", semaphore),
+        8 => ("[\"open\",", inode),
+        9 => ("[\"close\",", inode),
+        10 => ("[\"stat\",", inode),
+        11 | 12 | 13 => ("[\"spawn\",", program),
+        14 => return add(rt, text, drawn_end(draws, sizes.version)),
+        _ => return add(rt, text, "[\"say\",\"x\"]"),
     };
-    write!(text, "[\"{name}\",{number}]")
+    add_number(rt, text, front, number);
+    add(rt, text, "]");
 }
 
 /// A shutdown, though seldom, and in version 2 alone.
-fn add_end(text: &mut String, draws: &mut Draws, sizes: Sizes) -> Result<(), AllocError> {
-    if sizes.version == 2 && draws.below(3) == 0 {
-        return text.push_str("[\"shutdown\"]");
+fn drawn_end(draws: &mut Draws, version: u64) -> &'static str {
+    if version == 2 && draws.below(3) == 0 {
+        return "[\"shutdown\"]";
     }
-    text.push_str("[\"say\",\"\"]")
+    "[\"say\",\"\"]"
 }

@@ -1,8 +1,8 @@
 //! Scripts whose reports are known.
 
 use super::examples::{
-    CURFEW, PING_PONG, PING_PONG_REPORT, READER, READER_REPORT, has_text, is_printed, report_of,
-    script_of,
+    CURFEW, PING_PONG, PING_PONG_REPORT, READER, READER_REPORT, assert_with, has_text, is_printed,
+    report_of, script_of,
 };
 use fak_kernel::{Outcome, ProcessRow, run_one_to_text};
 use std::alloc::Global;
@@ -13,7 +13,8 @@ use std::sync::Wait;
 fn is_reported<R: Abort + Wait>(rt: &R, alloc: Global, script: &str, text: &str, status: u8) {
     let report = report_of(rt, alloc, script);
     has_text(rt, alloc, &report, 0, text);
-    assert!(rt; report.exit_status() == status, "not {status} of {text}");
+    let found = report.exit_status();
+    assert_with(rt, found == status, text, found, status as u64, 0);
 }
 
 /// Finds the same of the report, and of what is printed where the text alone is asked for.
@@ -148,10 +149,20 @@ ended 1 stuck 0
 
 /// Whether the rows are of processes that were left so, after this many steps.
 fn are_left(rows: &[ProcessRow], wanted: &[(Outcome, u64)]) -> bool {
+    for (row, &(outcome, position)) in rows.iter().zip(wanted.iter()) {
+        if row.outcome != outcome || row.position != position {
+            return false;
+        }
+    }
     rows.len() == wanted.len()
-        && rows.iter().zip(wanted.iter()).all(|(row, (outcome, position))| row.outcome == *outcome
-            && row.position == *position)
 }
+
+/// What is left of the curfew.
+const LEFT: &[(Outcome, u64)] = &[
+    (Outcome::Halted, 2),
+    (Outcome::Ended, 2),
+    (Outcome::Halted, 0),
+];
 
 #[test]
 fn the_ready_queue_is_shut(rt: HostRuntime) {
@@ -166,14 +177,9 @@ births 0 of 0
 ended 1 stuck 0 halted 2
 ";
     answers(&rt, rt.alloc(), CURFEW, text, 0);
-    let left = &[
-        (Outcome::Halted, 2),
-        (Outcome::Ended, 2),
-        (Outcome::Halted, 0),
-    ];
     let report = report_of(&rt, rt.alloc(), CURFEW);
     assert!(rt; report.version == 2);
-    assert!(rt; are_left(&report.rows, left));
+    assert!(rt; are_left(&report.rows, LEFT));
 }
 
 #[test]
@@ -226,34 +232,36 @@ ended 1 stuck 0 halted 1
 
 /// Whether these are the names of the rows.
 fn are_named(rows: &[ProcessRow], names: &[&[u64]]) -> bool {
+    for (row, name) in rows.iter().zip(names.iter()) {
+        if row.name.as_slice() != *name {
+            return false;
+        }
+    }
     rows.len() == names.len()
-        && rows
-            .iter()
-            .zip(names.iter())
-            .all(|(row, name)| row.name.as_slice() == *name)
 }
+
+const NAMES: &[&[u64]] = &[
+    &[0],
+    &[1],
+    &[1, 0],
+    &[1, 0, 0],
+    &[2],
+    &[3],
+    &[4],
+    &[5],
+    &[6],
+    &[7],
+    &[8],
+    &[9],
+    &[10],
+];
 
 #[test]
 fn names_are_sorted_by_numbers(rt: HostRuntime) {
     let script = r#"{"version":1,"slots":12,"births":2,"quantum":9,"semaphores":[],"files":1,
 "programs":[[],[["spawn",2]],[["spawn",0]]],"start":[0,1,0,0,0,0,0,0,0,0,0]}"#;
-    let names: &[&[u64]] = &[
-        &[0],
-        &[1],
-        &[1, 0],
-        &[1, 0, 0],
-        &[2],
-        &[3],
-        &[4],
-        &[5],
-        &[6],
-        &[7],
-        &[8],
-        &[9],
-        &[10],
-    ];
     let report = report_of(&rt, rt.alloc(), script);
-    assert!(rt; are_named(&report.rows, names));
+    assert!(rt; are_named(&report.rows, NAMES));
     assert!(rt; report.births == 2);
 }
 

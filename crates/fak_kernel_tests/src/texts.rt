@@ -2,25 +2,25 @@
 
 use fak_kernel::Fault;
 use std::alloc::Global;
+use std::process::Abort;
 
-/// Whether the fault is written so.
-fn is_written(alloc: Global, fault: Fault, want: &str) -> bool {
-    match fault.to_string(alloc) {
-        Ok(text) => text.as_str() == want,
-        Err(_) => false,
-    }
+/// Finds that the fault is written so.
+fn is_written(rt: &impl Abort, alloc: Global, fault: Fault, want: &str) {
+    let text = fault.to_string(alloc).expect(rt, want);
+    assert!(rt; text.as_str() == want, "{want}");
 }
+
+const ROWS: &[(Fault, &str)] = &[
+    (Fault::Memory, "fak: out of memory"),
+    (Fault::Worn, "fak: a seat is worn"),
+    (Fault::Gate, "fak: the gate refused"),
+    (Fault::BadProcessors, "fak: processors out of range"),
+    (Fault::NoThread, "fak: no thread"),
+];
 
 #[test]
 fn faults(rt: HostRuntime) {
-    let rows = &[
-        (Fault::Memory, "fak: out of memory"),
-        (Fault::Worn, "fak: a seat is worn"),
-        (Fault::Gate, "fak: the gate refused"),
-        (Fault::BadProcessors, "fak: processors out of range"),
-        (Fault::NoThread, "fak: no thread"),
-    ];
-    for &(fault, want) in rows {
-        assert!(rt; is_written(rt.alloc(), fault, want), "{want}");
+    for &(fault, want) in ROWS {
+        is_written(&rt, rt.alloc(), fault, want);
     }
 }

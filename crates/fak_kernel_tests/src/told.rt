@@ -1,8 +1,8 @@
 //! What a gate is told: the number of the processor, and the number of its look, counted from 0.
 
-use super::examples::script_in_parts;
+use super::examples::{assert_with, fault_with, script_in_parts};
 use super::gates::Alone;
-use fak_kernel::{Gate, run};
+use fak_kernel::{Fault, Gate};
 use fak_text::Script;
 use std::alloc::Global;
 use std::marker::Sync;
@@ -35,8 +35,20 @@ impl Counting {
 
     /// Each look came in its order, and each processor made some.
     fn is_right(&self) -> bool {
+        for made in &self.made {
+            if made.load(Ordering::SeqCst) == 0 {
+                return false;
+            }
+        }
         !self.is_wrong.load(Ordering::SeqCst)
-            && self.made.iter().all(|made| made.load(Ordering::SeqCst) > 0)
+    }
+
+    /// The most looks of a processor; 0 where there is a fault, or where it was told wrongly.
+    fn answer(&self, fault: Option<Fault>) -> u64 {
+        if fault.is_none() && self.is_right() {
+            return self.most();
+        }
+        0
     }
 
     /// The most looks of a processor.
@@ -119,12 +131,8 @@ fn most_looks<R: Abort + Threads + Wait + Sync>(
 ) -> u64 {
     let script = script_in_parts(rt, alloc, script);
     let gate = Counting::new(rt, alloc, processors);
-    let is_run = run::<Counting>(rt, alloc, &script, processors, &gate).is_ok();
-    if is_run && gate.is_right() {
-        gate.most()
-    } else {
-        0
-    }
+    let fault = fault_with(rt, alloc, &script, processors, &gate);
+    gate.answer(fault)
 }
 
 #[test]
@@ -137,9 +145,14 @@ fn each_processor_tells_its_own_number_and_its_looks(rt: HostRuntime) {
 
 /// Finds the looks of the processor that did all the work: one for each turn, and the last, which finds no process.
 fn has_looked(rt: &impl Abort, looks: u64, turns: u64, chosen: u64, processors: u64) {
-    assert!(rt;
-        looks == turns.saturating_add(1),
-        "{looks} of {chosen} of {processors}, not {turns} and one"
+    let is_so = looks == turns.saturating_add(1);
+    assert_with(
+        rt,
+        is_so,
+        "a look for each turn and one",
+        looks,
+        chosen,
+        processors,
     );
 }
 
@@ -174,8 +187,10 @@ fn looks_alone<R: Abort + Threads + Wait + Sync>(
     processors: u64,
 ) -> u64 {
     let gate = Alone::new(chosen, turns, MANY);
-    let is_run = run(rt, alloc, script, processors, &gate).is_ok();
-    if is_run { gate.looks() } else { 0 }
+    match fault_with(rt, alloc, script, processors, &gate) {
+        None => gate.looks(),
+        Some(_) => 0,
+    }
 }
 
 /// Finds the same of each of 2 to 8 processors that works alone.

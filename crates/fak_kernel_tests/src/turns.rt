@@ -85,15 +85,17 @@ births 0 of 0
 ended 0 stuck 0 halted 3
 ";
 
+/// Each script, and its report.
+const ROWS: &[(&str, &str)] = &[
+    (REFUSED, REFUSED_REPORT),
+    (SLOTLESS, SLOTLESS_REPORT),
+    (UNHURRIED, UNHURRIED_REPORT),
+    (LATECOMERS, LATECOMERS_REPORT),
+];
+
 #[test]
 fn what_ends_a_turn(rt: HostRuntime) {
-    let rows = &[
-        (REFUSED, REFUSED_REPORT),
-        (SLOTLESS, SLOTLESS_REPORT),
-        (UNHURRIED, UNHURRIED_REPORT),
-        (LATECOMERS, LATECOMERS_REPORT),
-    ];
-    for &(script, report) in rows {
+    for &(script, report) in ROWS {
         answers(&rt, rt.alloc(), script, report, 0);
     }
 }

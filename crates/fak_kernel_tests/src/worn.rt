@@ -1,8 +1,8 @@
 //! Stints that are used up, at each object of a run: with one call more in the stint the run ends.
 
-use super::examples::{is_left, run_on, run_on_to_text, script_of};
+use super::examples::{assert_with, fault_with, is_left, run_on, run_on_to_text, script_of};
 use super::gates::Chosen;
-use fak_kernel::{Fault, run};
+use fak_kernel::Fault;
 use fak_text::Script;
 use std::alloc::Global;
 use std::process::Abort;
@@ -123,10 +123,8 @@ fn has_fault<R: Abort + Threads + Wait + Sync>(
     wanted: Option<Fault>,
 ) {
     let (whole, printed) = faults_on(rt, alloc, front, stint, processors);
-    assert!(rt;
-        whole == wanted && printed == wanted,
-        "{whole:?}, {printed:?} with {stint} on {processors}: {front}"
-    );
+    let is_so = whole == wanted && printed == wanted;
+    assert_with(rt, is_so, front, (whole, printed), stint, processors);
 }
 
 /// Finds that the script is worn with each stint below the least, and ends with the least.
@@ -179,7 +177,7 @@ fn is_worn_by<R: Abort + Threads + Wait + Sync>(
     processors: u64,
     chosen: u64,
 ) {
-    let fault = run(rt, alloc, script, processors, &Chosen::new(chosen, MANY)).err();
+    let fault = fault_with(rt, alloc, script, processors, &Chosen::new(chosen, MANY));
     is_left(rt, fault, Fault::Worn, false, chosen, processors);
 }
 

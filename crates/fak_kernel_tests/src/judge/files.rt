@@ -2,7 +2,8 @@
 
 use fak_kernel::{FileEntry, ProcessRow, Report};
 use fak_text::{Note, Script};
-use std::alloc::{AllocError, Global};
+use std::alloc::Global;
+use std::process::Abort;
 
 /// The most nodes that the search looks at.
 const MOST_NODES: u64 = 2_000_000;
@@ -32,73 +33,83 @@ struct SearchNode {
 }
 
 /// The file lines of the rows replay from free entries to the report's.
-pub fn replay(alloc: Global, script: &Script, report: &Report) -> Result<bool, AllocError> {
+pub fn replay(rt: &impl Abort, alloc: Global, script: &Script, report: &Report) -> bool {
     let mut nodes = Vec::new(alloc);
-    nodes.push(first_node(alloc, script, report.rows.len())?)?;
+    let node = first_node(rt, alloc, script, report.rows.len());
+    nodes.push(node).expect(rt, "a node");
     for _ in 0..MOST_NODES {
         let Some(node) = nodes.pop() else {
-            return Ok(false);
+            return false;
         };
         if is_last(report, &node) {
-            return Ok(true);
+            return true;
         }
-        add_next(alloc, report.rows.as_slice(), &node, &mut nodes)?;
+        add_next(rt, alloc, report.rows.as_slice(), &node, &mut nodes);
     }
-    Ok(false)
+    false
 }
 
-fn first_node(alloc: Global, script: &Script, rows: usize) -> Result<SearchNode, AllocError> {
-    let made = vec![in alloc; 0; rows]?;
-    let entries = vec![in alloc; FREE; script.files() as usize]?;
-    Ok(SearchNode { made, entries })
+fn first_node(rt: &impl Abort, alloc: Global, script: &Script, rows: usize) -> SearchNode {
+    SearchNode {
+        made: vec![in alloc; 0; rows].expect(rt, "the lines"),
+        entries: vec![in alloc; FREE; script.files() as usize].expect(rt, "a table"),
+    }
 }
 
 /// All lines are made, and the table is the report's.
 fn is_last(report: &Report, node: &SearchNode) -> bool {
     let rows = report.rows.as_slice();
-    (0..rows.len()).all(|row| next_line(rows, node, row).is_none())
-        && node.entries.as_slice() == report.entries.as_slice()
+    for row in 0..rows.len() {
+        if next_line(rows, node, row).is_some() {
+            return false;
+        }
+    }
+    node.entries.as_slice() == report.entries.as_slice()
 }
 
 /// The nodes that one line more leads to. A line that changes nothing can come at once, whatever comes later.
 fn add_next(
+    rt: &impl Abort,
     alloc: Global,
     rows: &[ProcessRow],
     node: &SearchNode,
     nodes: &mut Vec<SearchNode>,
-) -> Result<(), AllocError> {
+) {
     for row in 0..rows.len() {
-        let Some(next) = node_after(alloc, rows, node, row)? else {
-            continue;
-        };
-        let is_same = next.entries.as_slice() == node.entries.as_slice();
-        nodes.push(next)?;
-        if is_same {
-            return Ok(());
+        if let Some(line) = next_line(rows, node, row) {
+            if add_after(rt, alloc, node, row, line, nodes) {
+                return;
+            }
         }
     }
-    Ok(())
 }
 
-/// The node after the next line of this row, where that could give what it gave.
-fn node_after(
+/// Adds the node after this line of this row, where the line could give what it gave. Whether it changes nothing.
+fn add_after(
+    rt: &impl Abort,
     alloc: Global,
-    rows: &[ProcessRow],
     node: &SearchNode,
     row: usize,
-) -> Result<Option<SearchNode>, AllocError> {
-    let Some(line) = next_line(rows, node, row) else {
-        return Ok(None);
-    };
-    let mut entries = node.entries.as_slice().to_vec(alloc)?;
-    if made(entries.as_mut_slice(), line) != line.gave {
-        return Ok(None);
+    line: Line,
+    nodes: &mut Vec<SearchNode>,
+) -> bool {
+    let mut next = copy_of(rt, alloc, node);
+    if made(next.entries.as_mut_slice(), line) != line.gave {
+        return false;
     }
-    let mut made = node.made.as_slice().to_vec(alloc)?;
-    if let Some(count) = made.get_mut(row) {
+    if let Some(count) = next.made.get_mut(row) {
         *count = count.saturating_add(1);
     }
-    Ok(Some(SearchNode { made, entries }))
+    let is_same = next.entries.as_slice() == node.entries.as_slice();
+    nodes.push(next).expect(rt, "a node");
+    is_same
+}
+
+fn copy_of(rt: &impl Abort, alloc: Global, node: &SearchNode) -> SearchNode {
+    SearchNode {
+        made: node.made.as_slice().to_vec(alloc).expect(rt, "the lines"),
+        entries: node.entries.as_slice().to_vec(alloc).expect(rt, "a table"),
+    }
 }
 
 fn next_line(rows: &[ProcessRow], node: &SearchNode, row: usize) -> Option<Line> {
@@ -130,7 +141,14 @@ fn made(entries: &mut [FileEntry], line: Line) -> Option<u64> {
 }
 
 fn first(entries: &[FileEntry], inode: u64) -> Option<usize> {
-    entries.iter().position(|entry| entry.inode == inode)
+    let mut i = 0usize;
+    for entry in entries {
+        if entry.inode == inode {
+            return Some(i);
+        }
+        i = i.saturating_add(1);
+    }
+    None
 }
 
 fn open(entries: &mut [FileEntry], inode: u64) -> Option<u64> {

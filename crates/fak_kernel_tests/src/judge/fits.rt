@@ -7,7 +7,12 @@ use fak_text::{Note, Script, Step};
 /// Each journal goes with the first steps of its program, and each process is left where its outcome allows.
 pub fn all_fit(script: &Script, rows: &[ProcessRow]) -> bool {
     let is_shut = count(rows, &Note::Shutdown) > 0;
-    rows.iter().all(|row| fits(script, row, is_shut))
+    for row in rows {
+        if !fits(script, row, is_shut) {
+            return false;
+        }
+    }
+    true
 }
 
 fn fits(script: &Script, row: &ProcessRow, is_shut: bool) -> bool {
@@ -35,11 +40,11 @@ fn allows(step: &Step, note: &Note, children: &mut u64) -> bool {
         (Step::Say(text), Note::Say(said)) => text.as_str() == said.as_str(),
         (Step::Yield, Note::Yield) => true,
         (Step::Shutdown, Note::Shutdown) => true,
-        (Step::Down(semaphore), Note::Down(other)) => semaphore == other,
-        (Step::Up(semaphore), Note::Up(other)) => semaphore == other,
-        (Step::OpenFile(inode), Note::OpenFile(other, _)) => inode == other,
-        (Step::CloseFile(inode), Note::CloseFile(other, _)) => inode == other,
-        (Step::Stat(inode), Note::Stat(other, _)) => inode == other,
+        (Step::Down(semaphore), Note::Down(other)) => *semaphore == *other,
+        (Step::Up(semaphore), Note::Up(other)) => *semaphore == *other,
+        (Step::OpenFile(inode), Note::OpenFile(other, _)) => *inode == *other,
+        (Step::CloseFile(inode), Note::CloseFile(other, _)) => *inode == *other,
+        (Step::Stat(inode), Note::Stat(other, _)) => *inode == *other,
         (Step::Spawn(_), Note::Spawned(child)) => {
             let is_next = *child == *children;
             *children = children.saturating_add(1);
@@ -63,11 +68,20 @@ fn is_left(steps: &[Step], row: &ProcessRow, is_shut: bool) -> bool {
 /// Slots are in range, and rows that haven't ended have different ones.
 pub fn have_own_slots(script: &Script, rows: &[ProcessRow]) -> bool {
     let slots = script.slots();
-    rows.iter().all(|row| row.slot < slots) && (0..slots).all(|slot| holders(rows, slot) <= 1)
+    for row in rows {
+        if row.slot >= slots || holders(rows, row.slot) > 1 {
+            return false;
+        }
+    }
+    true
 }
 
-fn holders(rows: &[ProcessRow], slot: u64) -> usize {
-    rows.iter()
-        .filter(|row| row.slot == slot && row.outcome != Outcome::Ended)
-        .count()
+fn holders(rows: &[ProcessRow], slot: u64) -> u64 {
+    let mut total = 0u64;
+    for row in rows {
+        if row.slot == slot && row.outcome != Outcome::Ended {
+            total = total.saturating_add(1);
+        }
+    }
+    total
 }

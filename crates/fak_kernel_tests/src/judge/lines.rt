@@ -7,8 +7,11 @@ use fak_text::{Note, Script, Step};
 pub fn count(rows: &[ProcessRow], line: &Note) -> u64 {
     let mut total = 0u64;
     for row in rows {
-        let here = row.journal.iter().filter(|note| *note == line).count();
-        total = total.saturating_add(here as u64);
+        for note in &row.journal {
+            if *note == *line {
+                total = total.saturating_add(1);
+            }
+        }
     }
     total
 }
@@ -17,32 +20,34 @@ pub fn count(rows: &[ProcessRow], line: &Note) -> u64 {
 pub fn births(rows: &[ProcessRow]) -> u64 {
     let mut total = 0u64;
     for row in rows {
-        total = total.saturating_add(children(row));
+        for note in &row.journal {
+            if let Note::Spawned(_) = note {
+                total = total.saturating_add(1);
+            }
+        }
     }
     total
 }
 
-/// How many children the journal names.
-fn children(row: &ProcessRow) -> u64 {
-    row.journal
-        .iter()
-        .filter(|note| matches!(note, Note::Spawned(_)))
-        .count() as u64
-}
-
 /// How many rows are Stuck before a down of this semaphore.
 fn stuck(script: &Script, rows: &[ProcessRow], semaphore: u64) -> u64 {
-    rows.iter()
-        .filter(|row| is_stuck_at(script, row, semaphore))
-        .count() as u64
+    let mut total = 0u64;
+    for row in rows {
+        if is_stuck_at(script, row, semaphore) {
+            total = total.saturating_add(1);
+        }
+    }
+    total
 }
 
 fn is_stuck_at(script: &Script, row: &ProcessRow, semaphore: u64) -> bool {
     let Some(steps) = script.programs().get(row.program as usize) else {
         return false;
     };
-    row.outcome == Outcome::Stuck
-        && steps.get(row.position as usize) == Some(&Step::Down(semaphore))
+    match steps.get(row.position as usize) {
+        Some(Step::Down(other)) => *other == semaphore && row.outcome == Outcome::Stuck,
+        _ => false,
+    }
 }
 
 /// Without a shutdown, the downs of each semaphore are the lesser of those asked for, and its start and its ups.

@@ -6,15 +6,22 @@ use fak_text::{Note, Script, Step};
 
 /// Each name is above the one before.
 pub fn rise(rows: &[ProcessRow]) -> bool {
-    rows.iter()
-        .zip(rows.iter().skip(1))
-        .all(|(row, next)| row.name.as_slice() < next.name.as_slice())
+    for (row, next) in rows.iter().zip(rows.iter().skip(1)) {
+        if row.name.as_slice() >= next.name.as_slice() {
+            return false;
+        }
+    }
+    true
 }
 
 /// Each row is of a process that was started, or of a child that a row names, with its program.
 pub fn have_origins(script: &Script, rows: &[ProcessRow]) -> bool {
-    rows.iter()
-        .all(|row| program_of(script, rows, row) == Some(row.program))
+    for row in rows {
+        if program_of(script, rows, row) != Some(row.program) {
+            return false;
+        }
+    }
+    true
 }
 
 /// The program that the process of this name was to run.
@@ -23,21 +30,37 @@ fn program_of(script: &Script, rows: &[ProcessRow], row: &ProcessRow) -> Option<
     if parent.is_empty() {
         return script.start().get(*last as usize).copied();
     }
-    let parent = rows.iter().find(|other| other.name.as_slice() == parent)?;
-    child_program(script, parent, *last)
+    child_program(script, row_of(rows, parent)?, *last)
+}
+
+/// The row of this name.
+fn row_of<'a>(rows: &'a [ProcessRow], name: &[u64]) -> Option<&'a ProcessRow> {
+    for row in rows {
+        if row.name.as_slice() == name {
+            return Some(row);
+        }
+    }
+    None
 }
 
 /// The program of the child of this number.
 fn child_program(script: &Script, parent: &ProcessRow, number: u64) -> Option<u64> {
     let steps = script.programs().get(parent.program as usize)?;
     for (step, note) in steps.iter().zip(parent.journal.iter()) {
-        if let (Step::Spawn(program), Note::Spawned(child)) = (step, note) {
-            if *child == number {
-                return Some(*program);
-            }
+        let program = begun(step, note, number);
+        if program.is_some() {
+            return program;
         }
     }
     None
+}
+
+/// The program of the child of this number, where this step began it.
+fn begun(step: &Step, note: &Note, number: u64) -> Option<u64> {
+    match (step, note) {
+        (Step::Spawn(program), Note::Spawned(child)) if *child == number => Some(*program),
+        _ => None,
+    }
 }
 
 /// There is a row for each process that was started or spawned, births are counted, and were refused at the bound alone.
