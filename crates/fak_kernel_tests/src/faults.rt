@@ -25,7 +25,7 @@ fn the_others_leave_where_one_is_worn(rt: HostRuntime) {
             &rt,
             fault,
             Fault::Worn,
-            gate.has_left_alone(),
+            gate.is_left_alone.is_set(),
             NOBODY,
             processors,
         );
@@ -45,7 +45,14 @@ fn the_fault_of_the_first_processor_is_answered(rt: HostRuntime) {
     for &(refused, answered) in &[(1u64, Fault::Worn), (0, Fault::Gate)] {
         let gate = Late::new(refused, MANY);
         let fault = fault_of(&rt, rt.alloc(), WORN, 2, &gate);
-        is_left(&rt, fault, answered, gate.has_left_alone(), refused, 2);
+        is_left(
+            &rt,
+            fault,
+            answered,
+            gate.is_left_alone.is_set(),
+            refused,
+            2,
+        );
     }
 }
 
@@ -65,7 +72,7 @@ fn whoever_is_worn_the_others_leave(rt: HostRuntime) {
                 &rt,
                 fault,
                 Fault::Worn,
-                gate.has_left_alone(),
+                gate.is_left_alone.is_set(),
                 chosen,
                 processors,
             );
@@ -94,7 +101,7 @@ fn the_others_leave_where_each_has_seen_an_end(rt: HostRuntime) {
                 &rt,
                 fault,
                 Fault::Worn,
-                gate.has_left_alone(),
+                gate.chosen.is_left_alone.is_set(),
                 chosen,
                 processors,
             );
@@ -123,7 +130,7 @@ fn whoever_is_refused_the_others_leave(rt: HostRuntime) {
                 &rt,
                 fault,
                 Fault::Gate,
-                gate.has_left_alone(),
+                gate.is_left_alone.is_set(),
                 refused,
                 processors,
             );

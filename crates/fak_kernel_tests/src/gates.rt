@@ -10,7 +10,7 @@ const MOST_LOOKS: u64 = 1_000_000;
 
 /// A flag that one processor sets and another waits for, this many turns at most.
 #[derive(Drop)]
-struct Flag {
+pub(super) struct Flag {
     turns: u64,
     is_set: AtomicBool,
 }
@@ -27,7 +27,7 @@ impl Flag {
         self.is_set.store(true, Ordering::SeqCst);
     }
 
-    fn is_set(&self) -> bool {
+    pub(super) fn is_set(&self) -> bool {
         self.is_set.load(Ordering::SeqCst)
     }
 
@@ -143,7 +143,8 @@ pub(super) struct Late {
     refused: u64,
     has_come: Flag,
     has_begun: Flag,
-    is_left_alone: Flag,
+    /// Set where a processor went on looking where it should have left.
+    pub(super) is_left_alone: Flag,
 }
 
 impl Late {
@@ -155,11 +156,6 @@ impl Late {
             has_begun: Flag::new(turns),
             is_left_alone: Flag::new(0),
         }
-    }
-
-    /// Whether a processor went on looking where it should have left.
-    pub(super) fn has_left_alone(&self) -> bool {
-        self.is_left_alone.is_set()
     }
 }
 
@@ -228,7 +224,8 @@ pub(super) struct Chosen {
     chosen: u64,
     turns: u64,
     has_begun: Flag,
-    is_left_alone: Flag,
+    /// Set where a processor went on looking where it should have left.
+    pub(super) is_left_alone: Flag,
 }
 
 impl Chosen {
@@ -239,11 +236,6 @@ impl Chosen {
             has_begun: Flag::new(turns),
             is_left_alone: Flag::new(0),
         }
-    }
-
-    /// Whether a processor went on looking where it should have left.
-    pub(super) fn has_left_alone(&self) -> bool {
-        self.is_left_alone.is_set()
     }
 
     /// Waits until the chosen one has begun, and a while longer.
@@ -282,7 +274,7 @@ pub(super) struct Second {
     others: u64,
     come: AtomicU64,
     have_come: Flag,
-    chosen: Chosen,
+    pub(super) chosen: Chosen,
 }
 
 impl Second {
@@ -294,11 +286,6 @@ impl Second {
             have_come: Flag::new(turns),
             chosen: Chosen::new(chosen, turns),
         }
-    }
-
-    /// Whether a processor went on looking where it should have left.
-    pub(super) fn has_left_alone(&self) -> bool {
-        self.chosen.has_left_alone()
     }
 
     /// The chosen one waits for the others, and the last of these lets it go on.
@@ -337,7 +324,8 @@ pub(super) struct Slowing {
     refused: u64,
     most: u64,
     is_refused: Flag,
-    is_left_alone: Flag,
+    /// Set where a processor went on looking where it should have left.
+    pub(super) is_left_alone: Flag,
 }
 
 impl Slowing {
@@ -348,11 +336,6 @@ impl Slowing {
             is_refused: Flag::new(turns),
             is_left_alone: Flag::new(0),
         }
-    }
-
-    /// Whether a processor went on looking where it should have left.
-    pub(super) fn has_left_alone(&self) -> bool {
-        self.is_left_alone.is_set()
     }
 }
 

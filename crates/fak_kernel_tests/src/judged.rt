@@ -1,6 +1,6 @@
 //! The judge finds what is broken in reports that were changed.
 
-use super::examples::{READER, report_of, script_of};
+use super::examples::{READER, assert_with, report_of, script_of};
 use super::judge::{broken_promise, keeps_promises};
 use fak_kernel::{Outcome, ProcessRow, Report};
 use fak_text::{Note, Script};
@@ -96,6 +96,6 @@ const CHANGES: [(&str, Change, &str); 7] = [
 fn each_promise_can_be_broken(rt: HostRuntime) {
     for &(script, what, broken) in &CHANGES {
         let found = verdict(&rt, rt.alloc(), script, what);
-        assert!(rt; found == Some(broken), "{broken}");
+        assert_with(&rt, found == Some(broken), broken, found, 0, 0);
     }
 }

@@ -287,12 +287,12 @@ fn are_same(rt: &impl Abort, whole: &[u8], printed: &[u8], lines: u64, processor
 fn is_the_same_text<R: Abort + Threads + Wait + Sync>(
     rt: &R,
     alloc: Global,
-    script: &Script,
+    script: Script,
     lines: u64,
 ) {
     for processors in 0..9u64 {
-        let whole = whole_text(rt, alloc, script, processors);
-        let printed = run_on_to_text(rt, alloc, script, processors).expect(rt, "a text");
+        let whole = whole_text(rt, alloc, &script, processors);
+        let printed = run_on_to_text(rt, alloc, &script, processors).expect(rt, "a text");
         are_same(rt, &whole, &printed.text, lines, processors);
     }
 }
@@ -300,7 +300,7 @@ fn is_the_same_text<R: Abort + Threads + Wait + Sync>(
 #[test]
 fn a_report_has_the_text_that_is_printed(rt: HostRuntime) {
     let script = script_in_parts(&rt, rt.alloc(), &MANY_ROWS);
-    is_the_same_text(&rt, rt.alloc(), &script, 130);
+    is_the_same_text(&rt, rt.alloc(), script, 130);
     let script = long_texts(&rt, rt.alloc());
-    is_the_same_text(&rt, rt.alloc(), &script, 84);
+    is_the_same_text(&rt, rt.alloc(), script, 84);
 }

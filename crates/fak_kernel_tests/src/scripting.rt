@@ -95,29 +95,49 @@ fn add_program(rt: &impl Abort, text: &mut String, draws: &mut Draws, sizes: Siz
     }
 }
 
+/// Each step that is drawn, up to its number, and the place of that among the numbers: 3 of one that has none.
+const STEPS: [(&str, usize); 16] = [
+    ("[\"yield\"", 3),
+    ("[\"yield\"", 3),
+    ("[\"down\",", 0),
+    ("[\"down\",", 0),
+    ("[\"down\",", 0),
+    ("[\"up\",", 0),
+    ("[\"up\",", 0),
+    ("[\"up\",", 0),
+    ("[\"open\",", 1),
+    ("[\"close\",", 1),
+    ("[\"stat\",", 1),
+    ("[\"spawn\",", 2),
+    ("[\"spawn\",", 2),
+    ("[\"spawn\",", 2),
+    ("", 3),
+    ("[\"say\",\"x\"", 3),
+];
+
 fn add_step(rt: &impl Abort, text: &mut String, draws: &mut Draws, sizes: Sizes) {
-    let semaphore = draws.below(sizes.semaphores);
-    let inode = draws.below(2).saturating_add(1);
-    let program = draws.below(sizes.programs);
-    let (front, number) = match draws.below(16) {
-        0 | 1 => return add(rt, text, "[\"yield\"]"),
-        2 | 3 | 4 => ("[\"down\",", semaphore),
-        5 | 6 | 7 => ("[\"up\",", semaphore),
-        8 => ("[\"open\",", inode),
-        9 => ("[\"close\",", inode),
-        10 => ("[\"stat\",", inode),
-        11 | 12 | 13 => ("[\"spawn\",", program),
-        14 => return add(rt, text, drawn_end(draws, sizes.version)),
-        _ => return add(rt, text, "[\"say\",\"x\"]"),
-    };
-    add_number(rt, text, front, number);
+    let numbers = [
+        draws.below(sizes.semaphores),
+        draws.below(2).saturating_add(1),
+        draws.below(sizes.programs),
+    ];
+    let drawn = draws.below(16);
+    if let Some(&(front, place)) = STEPS.get(drawn as usize) {
+        add(rt, text, front);
+        if let Some(number) = numbers.get(place) {
+            add_number(rt, text, "", *number);
+        }
+    }
+    if drawn == 14 {
+        add(rt, text, drawn_end(draws, sizes.version));
+    }
     add(rt, text, "]");
 }
 
-/// A shutdown, though seldom, and in version 2 alone.
+/// A shutdown, but for the end of its text, though seldom, and in version 2 alone.
 fn drawn_end(draws: &mut Draws, version: u64) -> &'static str {
     if version == 2 && draws.below(3) == 0 {
-        return "[\"shutdown\"]";
+        return "[\"shutdown\"";
     }
-    "[\"say\",\"\"]"
+    "[\"say\",\"\""
 }

@@ -240,6 +240,7 @@ fn are_named(rows: &[ProcessRow], names: &[&[u64]]) -> bool {
     rows.len() == names.len()
 }
 
+/// The names of the rows, two of them of children.
 const NAMES: &[&[u64]] = &[
     &[0],
     &[1],

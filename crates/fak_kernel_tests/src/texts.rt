@@ -1,5 +1,6 @@
 //! The texts of faults.
 
+use super::examples::assert_with;
 use fak_kernel::Fault;
 use std::alloc::Global;
 use std::process::Abort;
@@ -7,7 +8,7 @@ use std::process::Abort;
 /// Finds that the fault is written so.
 fn is_written(rt: &impl Abort, alloc: Global, fault: Fault, want: &str) {
     let text = fault.to_string(alloc).expect(rt, want);
-    assert!(rt; text.as_str() == want, "{want}");
+    assert_with(rt, text.as_str() == want, want, fault, 0, 0);
 }
 
 const ROWS: &[(Fault, &str)] = &[

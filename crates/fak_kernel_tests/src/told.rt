@@ -139,7 +139,7 @@ fn most_looks<R: Abort + Threads + Wait + Sync>(
 fn each_processor_tells_its_own_number_and_its_looks(rt: HostRuntime) {
     for processors in 1..9u64 {
         let looks = most_looks(&rt, rt.alloc(), &many_turns(2 * processors), processors);
-        assert!(rt; looks > 1_024, "{processors}");
+        assert_with(&rt, looks > 1_024, "more looks", looks, 0, processors);
     }
 }
 

@@ -93,21 +93,23 @@ fn add_after(
     line: Line,
     nodes: &mut Vec<SearchNode>,
 ) -> bool {
-    let mut next = copy_of(rt, alloc, node);
+    let mut next = begun(rt, alloc, node, row);
     if made(next.entries.as_mut_slice(), line) != line.gave {
         return false;
-    }
-    if let Some(count) = next.made.get_mut(row) {
-        *count = count.saturating_add(1);
     }
     let is_same = next.entries.as_slice() == node.entries.as_slice();
     nodes.push(next).expect(rt, "a node");
     is_same
 }
 
-fn copy_of(rt: &impl Abort, alloc: Global, node: &SearchNode) -> SearchNode {
+/// A node with one line more of this row, and the entries as before.
+fn begun(rt: &impl Abort, alloc: Global, node: &SearchNode, row: usize) -> SearchNode {
+    let mut made = node.made.as_slice().to_vec(alloc).expect(rt, "the lines");
+    if let Some(count) = made.get_mut(row) {
+        *count = count.saturating_add(1);
+    }
     SearchNode {
-        made: node.made.as_slice().to_vec(alloc).expect(rt, "the lines"),
+        made,
         entries: node.entries.as_slice().to_vec(alloc).expect(rt, "a table"),
     }
 }

@@ -4,12 +4,15 @@ use super::lines::{births, count};
 use fak_kernel::{ProcessRow, Report};
 use fak_text::{Note, Script, Step};
 
-/// Each name is above the one before.
+/// Each name is above the one before, and the first is not empty.
 pub fn rise(rows: &[ProcessRow]) -> bool {
-    for (row, next) in rows.iter().zip(rows.iter().skip(1)) {
-        if row.name.as_slice() >= next.name.as_slice() {
+    let mut last: &[u64] = &[];
+    for row in rows {
+        let name = row.name.as_slice();
+        if name <= last {
             return false;
         }
+        last = name;
     }
     true
 }
@@ -47,20 +50,13 @@ fn row_of<'a>(rows: &'a [ProcessRow], name: &[u64]) -> Option<&'a ProcessRow> {
 fn child_program(script: &Script, parent: &ProcessRow, number: u64) -> Option<u64> {
     let steps = script.programs().get(parent.program as usize)?;
     for (step, note) in steps.iter().zip(parent.journal.iter()) {
-        let program = begun(step, note, number);
-        if program.is_some() {
-            return program;
+        if let (Step::Spawn(program), Note::Spawned(child)) = (step, note) {
+            if *child == number {
+                return Some(*program);
+            }
         }
     }
     None
-}
-
-/// The program of the child of this number, where this step began it.
-fn begun(step: &Step, note: &Note, number: u64) -> Option<u64> {
-    match (step, note) {
-        (Step::Spawn(program), Note::Spawned(child)) if *child == number => Some(*program),
-        _ => None,
-    }
 }
 
 /// There is a row for each process that was started or spawned, births are counted, and were refused at the bound alone.
