@@ -1,74 +1,29 @@
 //! Each list of each format, at each length or many of them, and texts of each length and character.
 
 use crate::inputs::{first_step, holds_at};
-use crate::script::repeated;
-use fak_text::{Field, Script, Step, TextFault, read_history, read_schedule, read_script};
+use crate::numbers::{EVENTS, MARKS, PROGRAMS, Place, SEMAPHORES, START, STEPS, has_number};
+use crate::script::with_many;
+use fak_text::{Field, Script, Step, TextFault, read_script};
 use std::alloc::{AllocError, Global};
 use std::process::Abort;
 
-/// A list of a format.
-#[derive(Clone, Copy)]
-pub(crate) enum Items {
-    Events,
-    Marks,
-    Semaphores,
-    Programs,
-    Steps,
-    Start,
-}
+/// A list: where its length stands, its text before, one item, its text behind, how many items it may have, and the key
+/// at fault where it has more.
+pub(crate) type Row<'a> = (Place, &'a str, &'a str, &'a str, usize, Field);
 
-fn count_in_script(items: Items, script: &Script) -> usize {
-    match items {
-        Items::Semaphores => script.semaphores().len(),
-        Items::Programs => script.programs().len(),
-        Items::Steps => match script.programs().first() {
-            Some(steps) => steps.len(),
-            None => 0,
-        },
-        Items::Start => script.start().len(),
-        _ => 0,
-    }
-}
-
-/// How many items a text has, as it is read.
-fn read(items: Items, alloc: Global, text: &str) -> Result<usize, TextFault> {
-    let bytes = text.as_bytes();
-    match items {
-        Items::Events => Ok(read_schedule(alloc, bytes)?.events.len()),
-        Items::Marks => Ok(read_history(alloc, bytes)?.marks.len()),
-        _ => Ok(count_in_script(items, &read_script(alloc, bytes)?)),
-    }
-}
-
-/// A list: its text before, one item, its text behind, how many items it may have, and the key at fault where it has
-/// more.
-pub(crate) type Row<'a> = (Items, &'a str, &'a str, &'a str, usize, Field);
-
-/// This many items, or none, between commas.
-fn items_of(rt: &impl AllocGlobal, item: &str, count: usize) -> Result<String, AllocError> {
-    match count {
-        0 => Ok(String::new(rt.alloc())),
-        _ => repeated(rt, item, count),
-    }
-}
-
-/// What is read where the row has this many items.
-fn read_at(rt: &impl AllocGlobal, row: &Row<'_>, count: usize) -> Result<usize, TextFault> {
-    let items = items_of(rt, row.2, count)?;
-    let text = [row.1, &items, row.3].concat(rt.alloc())?;
-    read(row.0, rt.alloc(), &text)
+/// The text of the row with this many items.
+pub(crate) fn text_of(
+    rt: &impl AllocGlobal,
+    row: &Row<'_>,
+    count: usize,
+) -> Result<String, AllocError> {
+    with_many(rt, row.1, row.2, count, row.3)
 }
 
 /// Finds that the row is read with this many items, or refused.
 pub(crate) fn has_count(rt: &(impl Abort + AllocGlobal), row: &Row<'_>, count: usize) {
-    let want = if count <= row.4 {
-        Ok(count)
-    } else {
-        Err(TextFault::Range(row.5))
-    };
-    if read_at(rt, row, count) != want {
-        panic!(rt; "{count} of {} behind {}", row.2, row.1)
-    }
+    let of = (row.0, 0, row.4 as u64, row.5);
+    has_number(rt, of, count as u64, text_of(rt, row, count), row.1);
 }
 
 /// Finds that the row is read with each count of items below this one, or refused.
@@ -80,9 +35,9 @@ fn has_each_count(rt: &(impl Abort + AllocGlobal), row: &Row<'_>, end: usize) {
 
 #[test]
 fn each_count_of_short_lists(rt: HostRuntime) {
-    let rows: &[Row<'_>] = &[
+    const ROWS: &[Row<'static>] = &[
         (
-            Items::Semaphores,
+            SEMAPHORES,
             r#"{"version":1,"slots":1,"births":0,"quantum":1,"semaphores":["#,
             "7",
             r#"],"files":1,"programs":[],"start":[]}"#,
@@ -90,7 +45,7 @@ fn each_count_of_short_lists(rt: HostRuntime) {
             Field::Semaphores,
         ),
         (
-            Items::Semaphores,
+            SEMAPHORES,
             r#"{"version":2,"slots":1,"births":0,"quantum":1,"semaphores":["#,
             "7",
             r#"],"files":1,"programs":[],"start":[]}"#,
@@ -98,7 +53,7 @@ fn each_count_of_short_lists(rt: HostRuntime) {
             Field::Semaphores,
         ),
         (
-            Items::Programs,
+            PROGRAMS,
             r#"{"version":1,"slots":1,"births":0,"quantum":1,"semaphores":[],"files":1,"programs":["#,
             "[]",
             r#"],"start":[]}"#,
@@ -106,7 +61,7 @@ fn each_count_of_short_lists(rt: HostRuntime) {
             Field::Programs,
         ),
         (
-            Items::Programs,
+            PROGRAMS,
             r#"{"version":2,"slots":1,"births":0,"quantum":1,"semaphores":[],"files":1,"programs":["#,
             "[]",
             r#"],"start":[]}"#,
@@ -114,7 +69,7 @@ fn each_count_of_short_lists(rt: HostRuntime) {
             Field::Programs,
         ),
     ];
-    for row in rows {
+    for row in ROWS {
         has_each_count(&rt, row, 100);
     }
 }
@@ -149,9 +104,9 @@ fn has_counts(
 
 #[test]
 fn many_counts_of_steps(rt: HostRuntime) {
-    let rows: &[Row<'_>] = &[
+    const ROWS: &[Row<'static>] = &[
         (
-            Items::Steps,
+            STEPS,
             r#"{"version":1,"slots":1,"births":0,"quantum":1,"semaphores":[],"files":1,"programs":[["#,
             r#"["yield"]"#,
             r#"]],"start":[]}"#,
@@ -159,7 +114,7 @@ fn many_counts_of_steps(rt: HostRuntime) {
             Field::Programs,
         ),
         (
-            Items::Steps,
+            STEPS,
             r#"{"version":2,"slots":1,"births":0,"quantum":1,"semaphores":[],"files":1,"programs":[["#,
             r#"["yield"]"#,
             r#"]],"start":[]}"#,
@@ -167,29 +122,29 @@ fn many_counts_of_steps(rt: HostRuntime) {
             Field::Programs,
         ),
     ];
-    for row in rows {
+    for row in ROWS {
         has_counts(&rt, row, 130, 100, 10);
     }
 }
 
 #[test]
 fn many_counts_of_marks(rt: HostRuntime) {
-    let row = (
-        Items::Marks,
+    const ROW: Row<'static> = (
+        MARKS,
         r#"{"size":1,"marks":["#,
         r#"[0,"put",7]"#,
         "]}",
         4_096,
         Field::Marks,
     );
-    has_counts(&rt, &row, 300, 100, 40);
+    has_counts(&rt, &ROW, 300, 100, 40);
 }
 
 #[test]
 fn many_counts_of_events(rt: HostRuntime) {
-    let rows: &[Row<'_>] = &[
+    const ROWS: &[Row<'static>] = &[
         (
-            Items::Events,
+            EVENTS,
             r#"{"object":"room","bound":1,"seats":1,"events":["#,
             r#"[0,"tir",1]"#,
             "]}",
@@ -197,7 +152,7 @@ fn many_counts_of_events(rt: HostRuntime) {
             Field::Events,
         ),
         (
-            Items::Events,
+            EVENTS,
             r#"{"object":"queue","size":1,"seats":1,"events":["#,
             r#"[0,"delete"]"#,
             "]}",
@@ -205,7 +160,7 @@ fn many_counts_of_events(rt: HostRuntime) {
             Field::Events,
         ),
     ];
-    for row in rows {
+    for row in ROWS {
         has_counts(&rt, row, 300, 1_000, 16);
     }
 }
@@ -221,14 +176,7 @@ fn before_start(alloc: Global, slots: usize) -> Result<String, AllocError> {
 fn as_many_processes_start_as_there_are_slots(rt: HostRuntime) {
     for slots in 1..65usize {
         let before = before_start(rt.alloc(), slots).expect(&rt, "memory");
-        let row = (
-            Items::Start,
-            before.as_str(),
-            "0",
-            "]}",
-            slots,
-            Field::Start,
-        );
+        let row = (START, before.as_str(), "0", "]}", slots, Field::Start);
         has_each_count(&rt, &row, 67);
     }
 }
@@ -241,14 +189,16 @@ fn says(script: &Script, text: &[u8]) -> bool {
     }
 }
 
-/// Whether this text is said where it is written so in the input.
-fn is_said(alloc: Global, written: &str, text: &[u8]) -> Result<bool, TextFault> {
-    let before =
-        r#"{"version":1,"slots":1,"births":0,"quantum":1,"semaphores":[],"files":1,"programs":[[["say",""#;
-    let input = [before, written, r#""]]],"start":[]}"#].concat(alloc)?;
-    let script = read_script(alloc, input.as_bytes())?;
-    Ok(says(&script, text))
+/// Whether this text is said where it is read as the first step.
+fn is_said(alloc: Global, input: &[u8], text: &[u8]) -> Result<bool, TextFault> {
+    match read_script(alloc, input) {
+        Ok(script) => Ok(says(&script, text)),
+        Err(fault) => Err(fault),
+    }
 }
+
+const BEFORE_SAID: &str =
+    r#"{"version":1,"slots":1,"births":0,"quantum":1,"semaphores":[],"files":1,"programs":[[["say",""#;
 
 /// Finds that this text is said where it is written so, or refused where it may not be said.
 fn has_said(rt: &(impl Abort + AllocGlobal), written: &str, text: &[u8], may: bool) {
@@ -257,7 +207,10 @@ fn has_said(rt: &(impl Abort + AllocGlobal), written: &str, text: &[u8], may: bo
     } else {
         Err(TextFault::Range(Field::Programs))
     };
-    holds_at(rt, is_said(rt.alloc(), written, text) == want, written);
+    let input = [BEFORE_SAID, written, r#""]]],"start":[]}"#].concat(rt.alloc());
+    let input = input.expect(rt, "memory");
+    let found = is_said(rt.alloc(), input.as_bytes(), text);
+    holds_at(rt, found == want, written);
 }
 
 #[test]

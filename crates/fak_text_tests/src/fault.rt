@@ -1,21 +1,11 @@
-use crate::inputs::{Input, holds_at};
+use crate::inputs::{Input, holds_at, is_made};
 use fak_text::{Field, TextFault};
 use std::alloc::{AllocError, Global};
-use std::fmt::Display;
 use std::process::Abort;
-
-/// Finds that a value is written so.
-fn is_written<D: Display>(rt: &(impl Abort + AllocGlobal), value: &D, want: &str) {
-    let is_so = match value.to_string(rt.alloc()) {
-        Ok(text) => text.as_str() == want,
-        Err(_) => false,
-    };
-    holds_at(rt, is_so, want);
-}
 
 #[test]
 fn faults_are_one_line_each(rt: HostRuntime) {
-    let rows = &[
+    const ROWS: &[(TextFault, &str)] = &[
         (TextFault::NotJson, "fak: input is not JSON"),
         (
             TextFault::Missing(Field::Quantum),
@@ -32,14 +22,14 @@ fn faults_are_one_line_each(rt: HostRuntime) {
         (TextFault::UnknownOp(17), "fak: unknown operation at 17"),
         (TextFault::Memory, "fak: out of memory"),
     ];
-    for (fault, want) in rows {
-        is_written(&rt, fault, want);
+    for (fault, want) in ROWS {
+        is_made(&rt, fault.to_string(rt.alloc()), want);
     }
 }
 
 #[test]
 fn fields_are_named_as_their_keys(rt: HostRuntime) {
-    let rows = &[
+    const ROWS: &[(Field, &str)] = &[
         (Field::Input, "input"),
         (Field::Object, "object"),
         (Field::Bound, "bound"),
@@ -57,8 +47,8 @@ fn fields_are_named_as_their_keys(rt: HostRuntime) {
         (Field::Programs, "programs"),
         (Field::Start, "start"),
     ];
-    for (field, want) in rows {
-        is_written(&rt, field, want);
+    for (field, want) in ROWS {
+        is_made(&rt, field.to_string(rt.alloc()), want);
         holds_at(&rt, field.name() == *want, want);
     }
 }
@@ -75,8 +65,11 @@ fn faults(alloc: Global, bytes: &[u8]) -> [Option<TextFault>; 3] {
 /// Finds that each text has this fault, whatever it is read as.
 fn have_fault(rt: &(impl Abort + AllocGlobal), texts: &[&str], fault: TextFault) {
     for &text in texts {
-        let found = faults(rt.alloc(), text.as_bytes());
-        assert!(rt; found == [Some(fault); 3], "{found:?} at {text}");
+        holds_at(
+            rt,
+            faults(rt.alloc(), text.as_bytes()) == [Some(fault); 3],
+            text,
+        );
     }
 }
 
@@ -85,8 +78,8 @@ fn bytes_that_are_no_json(rt: HostRuntime) {
     // not UTF-8, cut short, nothing, a number that fits no float, a lone surrogate, a byte order mark, two values, a
     // number that begins with 0
     let fault = Input::Schedule.fault(rt.alloc(), &[123, 34, 255, 34, 125]);
-    assert!(rt; fault == Some(TextFault::NotJson));
-    let texts = &[
+    holds_at(&rt, fault == Some(TextFault::NotJson), "no UTF-8");
+    const TEXTS: &[&str] = &[
         "{\"version\":1,",
         "",
         " ",
@@ -97,49 +90,46 @@ fn bytes_that_are_no_json(rt: HostRuntime) {
         "01",
         "{'a':1}",
     ];
-    have_fault(&rt, texts, TextFault::NotJson);
+    have_fault(&rt, TEXTS, TextFault::NotJson);
 }
 
 #[test]
 fn values_that_are_no_object(rt: HostRuntime) {
-    let texts = &["[]", "7", "null", "\"object\"", "true"];
-    have_fault(&rt, texts, TextFault::Range(Field::Input));
+    const TEXTS: &[&str] = &["[]", "7", "null", "\"object\"", "true"];
+    have_fault(&rt, TEXTS, TextFault::Range(Field::Input));
 }
 
-/// The fault of a history with a list so deep in the object.
-fn fault_of_nested(alloc: Global, depth: usize) -> Result<Option<TextFault>, AllocError> {
+/// A history with a list so deep in the object.
+fn nested(alloc: Global, depth: usize) -> Result<String, AllocError> {
     let left = "[".repeat(alloc, depth)?;
     let right = "]".repeat(alloc, depth)?;
-    let parts = [r#"{"size":1,"marks":[],"other":"#, &left, &right, "}"];
-    Input::History.fault_of_parts(alloc, &parts)
+    [r#"{"size":1,"marks":[],"other":"#, &left, &right, "}"].concat(alloc)
 }
 
 #[test]
 fn nesting_is_read_to_depth_127(rt: HostRuntime) {
-    assert!(rt; fault_of_nested(rt.alloc(), 126) == Ok(None));
-    assert!(rt; fault_of_nested(rt.alloc(), 127) == Ok(Some(TextFault::NotJson)));
+    let fault = Input::History.fault_of(rt.alloc(), nested(rt.alloc(), 126));
+    holds_at(&rt, fault == None, "126 lists");
+    let fault = Input::History.fault_of(rt.alloc(), nested(rt.alloc(), 127));
+    holds_at(&rt, fault == Some(TextFault::NotJson), "127 lists");
 }
 
-/// The faults of this many spaces and then this text.
-fn faults_behind(
-    alloc: Global,
-    spaces: usize,
-    text: &str,
-) -> Result<[Option<TextFault>; 3], AllocError> {
-    let mut input = " ".repeat(alloc, spaces)?;
-    input.push_str(text)?;
-    Ok(faults(alloc, input.as_bytes()))
+/// Finds that this text behind 1,048,574 spaces has these faults.
+fn have_faults_behind(rt: &(impl Abort + AllocGlobal), text: &str, wanted: [Option<TextFault>; 3]) {
+    let mut input = " ".repeat(rt.alloc(), 1_048_574).expect(rt, "memory");
+    input.push_str(text).expect(rt, "memory");
+    holds_at(rt, faults(rt.alloc(), input.as_bytes()) == wanted, text);
 }
+
+const MISSING: [Option<TextFault>; 3] = [
+    Some(TextFault::Missing(Field::Object)),
+    Some(TextFault::Missing(Field::Size)),
+    Some(TextFault::Missing(Field::Version)),
+];
 
 #[test]
 fn an_input_has_at_most_1048576_bytes(rt: HostRuntime) {
-    let missing = [
-        Some(TextFault::Missing(Field::Object)),
-        Some(TextFault::Missing(Field::Size)),
-        Some(TextFault::Missing(Field::Version)),
-    ];
-    assert!(rt; faults_behind(rt.alloc(), 1_048_574, "{}") == Ok(missing));
+    have_faults_behind(&rt, "{}", MISSING);
     // the length is tested before the JSON is read
-    let fault = Some(TextFault::Range(Field::Input));
-    assert!(rt; faults_behind(rt.alloc(), 1_048_574, "{}}") == Ok([fault; 3]));
+    have_faults_behind(&rt, "{}}", [Some(TextFault::Range(Field::Input)); 3]);
 }

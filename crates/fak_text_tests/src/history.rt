@@ -1,76 +1,116 @@
-use crate::inputs::{Input, have_faults};
-use crate::script::repeated;
+use crate::counts::{Row, has_count, text_of};
+use crate::inputs::{Input, have_faults, holds_at};
+use crate::numbers;
 use fak_model::{Kind, Mark};
 use fak_text::{Field, TextFault, read_history};
 use std::alloc::Global;
-use std::process::Abort;
 
 const MARKS: TextFault = TextFault::Range(Field::Marks);
 
-/// Finds that the marks are of these kinds, in this order.
-fn are_of_kinds(rt: &impl Abort, marks: &[Mark<u64>], kinds: &[Kind<u64>]) {
-    assert!(rt; marks.len() == kinds.len());
-    for (mark, kind) in marks.iter().zip(kinds.iter()) {
-        assert!(rt; mark.kind == *kind, "at {kind:?}");
+/// Whether the text is a history of this size with these marks.
+fn is_history(alloc: Global, text: &str, size: u64, marks: &[Mark<u64>]) -> bool {
+    match read_history(alloc, text.as_bytes()) {
+        Ok(history) => history.size == size && history.marks.as_slice() == marks,
+        Err(_) => false,
     }
 }
 
-/// The size, and how many marks there are.
-fn extent(alloc: Global, text: &str) -> Result<(u64, usize), TextFault> {
-    let history = read_history(alloc, text.as_bytes())?;
-    Ok((history.size, history.marks.len()))
-}
+/// A mark of each kind, as they are written.
+const EACH_KIND: &str =
+    r#"{"size":4096,"marks":[[0,"claim-in"],[63,"over-in"],[0,"back-in"],[0,"no-room"],[0,"put",18446744073709551615],[0,"fill",1],
+    [0,"end-in"],[0,"claim-out"],[0,"over-out"],[0,"back-out"],[0,"no-item"],[0,"got",0],[0,"take",2],[0,"end-out"],[0,"close"],[0,"closed"],[0,"late-in"]]}"#;
+
+/// The same marks.
+const OF_EACH_KIND: &[Mark<u64>] = &[
+    Mark {
+        seat: 0,
+        kind: Kind::ClaimIn,
+    },
+    Mark {
+        seat: 63,
+        kind: Kind::OverIn,
+    },
+    Mark {
+        seat: 0,
+        kind: Kind::BackIn,
+    },
+    Mark {
+        seat: 0,
+        kind: Kind::NoRoom,
+    },
+    Mark {
+        seat: 0,
+        kind: Kind::Put(18446744073709551615),
+    },
+    Mark {
+        seat: 0,
+        kind: Kind::Fill(1),
+    },
+    Mark {
+        seat: 0,
+        kind: Kind::EndIn,
+    },
+    Mark {
+        seat: 0,
+        kind: Kind::ClaimOut,
+    },
+    Mark {
+        seat: 0,
+        kind: Kind::OverOut,
+    },
+    Mark {
+        seat: 0,
+        kind: Kind::BackOut,
+    },
+    Mark {
+        seat: 0,
+        kind: Kind::NoItem,
+    },
+    Mark {
+        seat: 0,
+        kind: Kind::Got(0),
+    },
+    Mark {
+        seat: 0,
+        kind: Kind::Take(2),
+    },
+    Mark {
+        seat: 0,
+        kind: Kind::EndOut,
+    },
+    Mark {
+        seat: 0,
+        kind: Kind::Close,
+    },
+    Mark {
+        seat: 0,
+        kind: Kind::Closed,
+    },
+    Mark {
+        seat: 0,
+        kind: Kind::LateIn,
+    },
+];
 
 #[test]
 fn a_history_of_each_kind_of_mark(rt: HostRuntime) {
-    let text =
-        r#"{"size":4096,"marks":[[0,"claim-in"],[63,"over-in"],[0,"back-in"],[0,"no-room"],[0,"put",18446744073709551615],[0,"fill",1],
-        [0,"end-in"],[0,"claim-out"],[0,"over-out"],[0,"back-out"],[0,"no-item"],[0,"got",0],[0,"take",2],[0,"end-out"],[0,"close"],[0,"closed"],[0,"late-in"]]}"#;
-    let kinds = &[
-        Kind::ClaimIn,
-        Kind::OverIn,
-        Kind::BackIn,
-        Kind::NoRoom,
-        Kind::Put(18446744073709551615),
-        Kind::Fill(1),
-        Kind::EndIn,
-        Kind::ClaimOut,
-        Kind::OverOut,
-        Kind::BackOut,
-        Kind::NoItem,
-        Kind::Got(0),
-        Kind::Take(2),
-        Kind::EndOut,
-        Kind::Close,
-        Kind::Closed,
-        Kind::LateIn,
-    ];
-    assert!(rt; extent(rt.alloc(), r#"{"size":1,"marks":[]}"#) == Ok((1, 0)));
-    let history = read_history(rt.alloc(), text.as_bytes())
-        .ok()
-        .expect(&rt, "a history");
-    assert!(rt; history.size == 4096);
-    are_of_kinds(&rt, &history.marks, kinds);
-    assert!(rt;
-        history.marks.get(1).copied()
-            == Some(Mark {
-                seat: 63,
-                kind: Kind::OverIn
-            })
-    );
+    let empty = r#"{"size":1,"marks":[]}"#;
+    holds_at(&rt, is_history(rt.alloc(), empty, 1, &[]), empty);
+    let is_so = is_history(rt.alloc(), EACH_KIND, 4096, OF_EACH_KIND);
+    holds_at(&rt, is_so, EACH_KIND);
 }
 
 #[test]
 fn the_first_fault_of_a_history(rt: HostRuntime) {
-    let rows = &[
+    const ROWS: &[(&str, TextFault)] = &[
         (r#"{"marks":7}"#, TextFault::Missing(Field::Size)),
         (r#"{"size":0,"marks":7}"#, TextFault::Range(Field::Size)),
         (r#"{"size":4097}"#, TextFault::Range(Field::Size)),
         (r#"{"size":1}"#, TextFault::Missing(Field::Marks)),
         (r#"{"size":1,"marks":{}}"#, MARKS),
     ];
-    have_faults(&rt, Input::History, "", "", rows);
-    let rows = &[
+    have_faults(&rt, Input::History, "", "", ROWS);
+    const ROWS_2: &[(&str, TextFault)] = &[
         (r#"7"#, MARKS),
         (r#"[]"#, MARKS),
         (r#"[0]"#, MARKS),
@@ -90,18 +130,30 @@ fn the_first_fault_of_a_history(rt: HostRuntime) {
         (r#"[0,"claim-in",1]"#, MARKS),
         (r#"[0,"late-in",1]"#, MARKS),
     ];
-    have_faults(&rt, Input::History, r#"{"size":1,"marks":["#, "]}", rows);
-}
-
-/// The size, and how many marks there are, where these come after others.
-fn extent_with(alloc: Global, before: &str, marks: &str) -> Result<(u64, usize), TextFault> {
-    let text = [r#"{"size":1,"marks":["#, before, marks, "]}"].concat(alloc)?;
-    extent(alloc, text.as_str())
+    have_faults(&rt, Input::History, r#"{"size":1,"marks":["#, "]}", ROWS_2);
 }
 
 #[test]
 fn a_history_has_at_most_4096_marks(rt: HostRuntime) {
-    let marks = repeated(&rt, r#"[0,"no-room"]"#, 4_096).expect(&rt, "memory");
-    assert!(rt; extent_with(rt.alloc(), "", &marks) == Ok((1, 4_096)));
-    assert!(rt; extent_with(rt.alloc(), r#"[0,"jump"],"#, &marks) == Err(MARKS));
+    const MANY: &Row<'static> = &(
+        numbers::MARKS,
+        r#"{"size":1,"marks":["#,
+        r#"[0,"no-room"]"#,
+        "]}",
+        4_096,
+        Field::Marks,
+    );
+    has_count(&rt, MANY, 4_096);
+    let of = (numbers::SIZE, 1, 1, Field::Size);
+    numbers::has_number(&rt, of, 1, text_of(&rt, MANY, 4_096), MANY.1);
+    // their number is tested before the first mark is
+    const TOO_MANY: &Row<'static> = &(
+        numbers::MARKS,
+        r#"{"size":1,"marks":[[0,"jump"],"#,
+        r#"[0,"no-room"]"#,
+        "]}",
+        4_095,
+        Field::Marks,
+    );
+    has_count(&rt, TOO_MANY, 4_096);
 }

@@ -22,14 +22,12 @@ impl Input {
         }
     }
 
-    /// The fault of these parts of a text, one after another.
-    pub fn fault_of_parts(
-        self,
-        alloc: Global,
-        parts: &[&str],
-    ) -> Result<Option<TextFault>, AllocError> {
-        let text = parts.concat(alloc)?;
-        Ok(self.fault(alloc, text.as_bytes()))
+    /// The fault of a text, or that there was no memory to make it.
+    pub fn fault_of(self, alloc: Global, made: Result<String, AllocError>) -> Option<TextFault> {
+        match made {
+            Ok(text) => self.fault(alloc, text.as_bytes()),
+            Err(_) => Some(TextFault::Memory),
+        }
     }
 }
 
@@ -43,6 +41,15 @@ pub fn holds_at(rt: &impl Abort, holds: bool, text: &str) {
     assert!(rt; holds, "at {text}");
 }
 
+/// Finds that a text was made, and is this one.
+pub fn is_made(rt: &impl Abort, made: Result<String, AllocError>, want: &str) {
+    let is_so = match made {
+        Ok(text) => text.as_str() == want,
+        Err(_) => false,
+    };
+    holds_at(rt, is_so, want);
+}
+
 /// Finds that each of these, between the two texts, makes an input with this fault.
 pub fn have_faults(
     rt: &(impl Abort + AllocGlobal),
@@ -52,7 +59,7 @@ pub fn have_faults(
     rows: &[(&str, TextFault)],
 ) {
     for &(row, want) in rows {
-        let fault = input.fault_of_parts(rt.alloc(), &[before, row, after]);
-        holds_at(rt, fault == Ok(Some(want)), row);
+        let made = [before, row, after].concat(rt.alloc());
+        holds_at(rt, input.fault_of(rt.alloc(), made) == Some(want), row);
     }
 }

@@ -11,6 +11,8 @@ mod history;
 #[cfg(test)]
 mod inputs;
 #[cfg(test)]
+mod numbers;
+#[cfg(test)]
 mod ranges;
 #[cfg(test)]
 mod schedule;

@@ -1,140 +1,20 @@
 //! Each number of each format, on either side of both of its bounds and all over its range.
 
-use crate::inputs::first_step;
-use crate::spread::{add_about, spread};
-use fak_core::{QueueCall, RoomCall};
-use fak_model::Kind;
-use fak_text::{
-    Act, Field, History, Object, Schedule, Script, Step, TextFault, read_history, read_schedule,
-    read_script,
+use crate::numbers::{
+    BIRTHS, EXTENT, FILES, OF_ACT, OF_MARK, OF_START, OF_STEP, Place, QUANTUM, SEAT_OF_EVENT,
+    SEAT_OF_MARK, SEATS, SEMAPHORE, SIZE, SLOTS, STINT, VERSION, has_number,
 };
+use crate::spread::{add_about, add_spread};
+use fak_text::Field;
 use std::alloc::{AllocError, Global};
 use std::process::Abort;
 
-/// A number of a schedule.
-#[derive(Clone, Copy)]
-enum OfSchedule {
-    Extent,
-    Seats,
-    Seat,
-    Argument,
-}
-
-/// A number of a history.
-#[derive(Clone, Copy)]
-enum OfHistory {
-    Size,
-    Seat,
-    Argument,
-}
-
-/// A number of a script.
-#[derive(Clone, Copy)]
-enum OfScript {
-    Version,
-    Slots,
-    Births,
-    Quantum,
-    Stint,
-    Semaphore,
-    Files,
-    Argument,
-    Start,
-}
-
-fn argument_of_act(act: Act) -> Option<u64> {
-    match act {
-        Act::Steps(n) | Act::Room(RoomCall::Tir(n) | RoomCall::Release(n)) => Some(n),
-        Act::Queue(QueueCall::Insert(n)) => Some(n),
-        _ => None,
-    }
-}
-
-fn of_schedule(place: OfSchedule, schedule: &Schedule) -> Option<u64> {
-    match place {
-        OfSchedule::Extent => match schedule.object {
-            Object::Room(n) | Object::Queue(n) => Some(n),
-        },
-        OfSchedule::Seats => Some(schedule.seats),
-        OfSchedule::Seat => Some(schedule.events.first()?.seat),
-        OfSchedule::Argument => argument_of_act(schedule.events.first()?.act),
-    }
-}
-
-fn of_history(place: OfHistory, history: &History) -> Option<u64> {
-    match place {
-        OfHistory::Size => Some(history.size),
-        OfHistory::Seat => Some(history.marks.first()?.seat),
-        OfHistory::Argument => match history.marks.first()?.kind {
-            Kind::Put(n) | Kind::Fill(n) | Kind::Got(n) | Kind::Take(n) => Some(n),
-            _ => None,
-        },
-    }
-}
-
-fn argument_of_step(step: &Step) -> Option<u64> {
-    match step {
-        Step::Down(n) | Step::Up(n) | Step::Spawn(n) => Some(*n),
-        Step::OpenFile(n) | Step::CloseFile(n) | Step::Stat(n) => Some(*n),
-        _ => None,
-    }
-}
-
-fn of_script(place: OfScript, script: &Script) -> Option<u64> {
-    match place {
-        OfScript::Version => Some(script.version()),
-        OfScript::Slots => Some(script.slots()),
-        OfScript::Births => Some(script.births()),
-        OfScript::Quantum => Some(script.quantum()),
-        OfScript::Stint => Some(script.stint()),
-        OfScript::Semaphore => script.semaphores().first().copied(),
-        OfScript::Files => Some(script.files()),
-        OfScript::Argument => argument_of_step(first_step(script)?),
-        OfScript::Start => script.start().first().copied(),
-    }
-}
-
-/// Where a number stands.
-#[derive(Clone, Copy)]
-enum NumberAt {
-    Schedule(OfSchedule),
-    History(OfHistory),
-    Script(OfScript),
-}
-
-/// The number that a text has at a place, as it is read.
-fn read(place: NumberAt, alloc: Global, text: &str) -> Result<Option<u64>, TextFault> {
-    let bytes = text.as_bytes();
-    match place {
-        NumberAt::Schedule(place) => Ok(of_schedule(place, &read_schedule(alloc, bytes)?)),
-        NumberAt::History(place) => Ok(of_history(place, &read_history(alloc, bytes)?)),
-        NumberAt::Script(place) => Ok(of_script(place, &read_script(alloc, bytes)?)),
-    }
-}
-
 /// A number between two texts: where it stands, its least and its greatest, and the key at fault beyond them.
-type Row = (NumberAt, &'static str, &'static str, u64, u64, Field);
+type Row = (Place, &'static str, &'static str, u64, u64, Field);
 
-/// What is read behind this head where the row has this number.
-fn read_at(alloc: Global, head: &str, row: &Row, number: u64) -> Result<Option<u64>, TextFault> {
-    let text = format!(in alloc; "{head}{}{number}{}", row.1, row.2)?;
-    read(row.0, alloc, &text)
-}
-
-/// What ought to be read.
-fn want_at(row: &Row, number: u64) -> Result<Option<u64>, TextFault> {
-    if row.3 <= number && number <= row.4 {
-        Ok(Some(number))
-    } else {
-        Err(TextFault::Range(row.5))
-    }
-}
-
-/// Finds that the row reads this number behind the head if it is in range, and refuses it if not.
-fn has_number(rt: &(impl Abort + AllocGlobal), head: &str, row: &Row, number: u64) {
-    if read_at(rt.alloc(), head, row, number) != want_at(row, number) {
-        panic!(rt; "at {head}{}{number}", row.1)
-    }
+/// The text behind this head where the row has this number.
+fn text_with(alloc: Global, head: &str, row: &Row, number: u64) -> Result<String, AllocError> {
+    format!(in alloc; "{head}{}{number}{}", row.1, row.2)
 }
 
 /// Adds the whole range of a row where it is short, else its bounds, with what lies beside them.
@@ -149,10 +29,13 @@ fn add_range(numbers: &mut Vec<u64>, row: &Row) -> Result<(), AllocError> {
 
 /// Finds that the row reads its numbers in range behind the head, and refuses those beyond.
 fn has_range(rt: &(impl Abort + AllocGlobal), head: &str, row: &Row) {
-    let mut numbers = spread(rt.alloc()).expect(rt, "memory");
+    let of = (row.0, row.3, row.4, row.5);
+    let mut numbers = Vec::new(rt.alloc());
+    add_spread(&mut numbers).expect(rt, "memory");
     add_range(&mut numbers, row).expect(rt, "memory");
     for &number in &numbers {
-        has_number(rt, head, row, number);
+        let made = text_with(rt.alloc(), head, row, number);
+        has_number(rt, of, number, made, row.1);
     }
 }
 
@@ -173,23 +56,11 @@ const MARKS: Field = Field::Marks;
 
 const PROGRAMS: Field = Field::Programs;
 
-const OF_ACT: NumberAt = NumberAt::Schedule(OfSchedule::Argument);
-
-const OF_SIZE: NumberAt = NumberAt::History(OfHistory::Size);
-
-const OF_MARK: NumberAt = NumberAt::History(OfHistory::Argument);
-
-const OF_STEP: NumberAt = NumberAt::Script(OfScript::Argument);
-
-const OF_START: NumberAt = NumberAt::Script(OfScript::Start);
-
 #[test]
 fn the_numbers_of_schedules(rt: HostRuntime) {
-    use NumberAt::Schedule as At;
-    use OfSchedule::{Extent, Seats};
-    let rows: &[Row] = &[
+    const ROWS: &[Row] = &[
         (
-            At(Extent),
+            EXTENT,
             r#""bound":"#,
             r#","seats":1,"events":[]}"#,
             0,
@@ -197,7 +68,7 @@ fn the_numbers_of_schedules(rt: HostRuntime) {
             Field::Bound,
         ),
         (
-            At(Seats),
+            SEATS,
             r#""bound":1,"seats":"#,
             r#","events":[]}"#,
             1,
@@ -205,10 +76,10 @@ fn the_numbers_of_schedules(rt: HostRuntime) {
             Field::Seats,
         ),
     ];
-    have_ranges(&rt, r#"{"object":"room","#, rows);
-    let rows: &[Row] = &[
+    have_ranges(&rt, r#"{"object":"room","#, ROWS);
+    const ROWS_2: &[Row] = &[
         (
-            At(Extent),
+            EXTENT,
             r#""size":"#,
             r#","seats":1,"events":[]}"#,
             1,
@@ -216,7 +87,7 @@ fn the_numbers_of_schedules(rt: HostRuntime) {
             Field::Size,
         ),
         (
-            At(Seats),
+            SEATS,
             r#""size":1,"seats":"#,
             r#","events":[]}"#,
             1,
@@ -224,8 +95,8 @@ fn the_numbers_of_schedules(rt: HostRuntime) {
             Field::Seats,
         ),
     ];
-    have_ranges(&rt, r#"{"object":"queue","#, rows);
-    let rows: &[Row] = &[
+    have_ranges(&rt, r#"{"object":"queue","#, ROWS_2);
+    const ROWS_3: &[Row] = &[
         (OF_ACT, r#""tir","#, "]]}", 1, 1_024, EVENTS),
         (OF_ACT, r#""release","#, "]]}", 1, 1_024, EVENTS),
         (OF_ACT, r#""step","#, "]]}", 1, 64, EVENTS),
@@ -233,52 +104,50 @@ fn the_numbers_of_schedules(rt: HostRuntime) {
     have_ranges(
         &rt,
         r#"{"object":"room","bound":1,"seats":1,"events":[[0,"#,
-        rows,
+        ROWS_3,
     );
-    let rows: &[Row] = &[
+    const ROWS_4: &[Row] = &[
         (OF_ACT, r#""step","#, "]]}", 1, 64, EVENTS),
         (OF_ACT, r#""insert","#, "]]}", 0, MOST, EVENTS),
     ];
     have_ranges(
         &rt,
         r#"{"object":"queue","size":1,"seats":1,"events":[[0,"#,
-        rows,
+        ROWS_4,
     );
 }
 
 /// Finds that the seat of an event between the head and each of these texts is read over its range.
 fn have_seats_of_events(rt: &(impl Abort + AllocGlobal), head: &str, texts: &[&'static str]) {
-    let place = NumberAt::Schedule(OfSchedule::Seat);
     for text in texts {
-        has_range(rt, head, &(place, "", *text, 0, MOST, EVENTS));
+        has_range(rt, head, &(SEAT_OF_EVENT, "", *text, 0, MOST, EVENTS));
     }
 }
 
 #[test]
 fn the_seats_of_schedules(rt: HostRuntime) {
-    let room = r#"{"object":"room","bound":1,"seats":1,"events":[["#;
-    let texts = &[
+    const ROOM: &str = r#"{"object":"room","bound":1,"seats":1,"events":[["#;
+    const TEXTS: &[&'static str] = &[
         r#","step"]]}"#,
         r#","step",7]]}"#,
         r#","tir",7]]}"#,
         r#","release",7]]}"#,
     ];
-    have_seats_of_events(&rt, room, texts);
-    let queue = r#"{"object":"queue","size":1,"seats":1,"events":[["#;
-    let texts = &[
+    have_seats_of_events(&rt, ROOM, TEXTS);
+    const QUEUE: &str = r#"{"object":"queue","size":1,"seats":1,"events":[["#;
+    const TEXTS_2: &[&'static str] = &[
         r#","step"]]}"#,
         r#","step",7]]}"#,
         r#","insert",7]]}"#,
         r#","delete"]]}"#,
         r#","shut"]]}"#,
     ];
-    have_seats_of_events(&rt, queue, texts);
+    have_seats_of_events(&rt, QUEUE, TEXTS_2);
 }
 
 #[test]
 fn the_seats_of_histories(rt: HostRuntime) {
-    let place = NumberAt::History(OfHistory::Seat);
-    let texts = &[
+    const TEXTS: &[&'static str] = &[
         r#","claim-in"]]}"#,
         r#","over-in"]]}"#,
         r#","back-in"]]}"#,
@@ -297,41 +166,39 @@ fn the_seats_of_histories(rt: HostRuntime) {
         r#","got",7]]}"#,
         r#","take",7]]}"#,
     ];
-    for text in texts {
-        let row = (place, r#"{"size":1,"marks":[["#, *text, 0, 63, MARKS);
+    for text in TEXTS {
+        let row = (SEAT_OF_MARK, r#"{"size":1,"marks":[["#, *text, 0, 63, MARKS);
         has_range(&rt, "", &row);
     }
 }
 
 #[test]
 fn the_numbers_of_histories(rt: HostRuntime) {
-    let rows: &[Row] = &[(OF_SIZE, "", r#","marks":[]}"#, 1, 4_096, Field::Size)];
-    have_ranges(&rt, r#"{"size":"#, rows);
-    let rows: &[Row] = &[
+    const ROWS: &[Row] = &[(SIZE, "", r#","marks":[]}"#, 1, 4_096, Field::Size)];
+    have_ranges(&rt, r#"{"size":"#, ROWS);
+    const ROWS_2: &[Row] = &[
         (OF_MARK, r#""put","#, "]]}", 0, MOST, MARKS),
         (OF_MARK, r#""fill","#, "]]}", 0, MOST, MARKS),
         (OF_MARK, r#""got","#, "]]}", 0, MOST, MARKS),
         (OF_MARK, r#""take","#, "]]}", 0, MOST, MARKS),
     ];
-    have_ranges(&rt, r#"{"size":1,"marks":[[0,"#, rows);
+    have_ranges(&rt, r#"{"size":1,"marks":[[0,"#, ROWS_2);
 }
 
 #[test]
 fn the_numbers_of_scripts(rt: HostRuntime) {
-    use NumberAt::Script as At;
-    use OfScript::{Births, Files, Quantum, Semaphore, Slots, Stint, Version};
-    let rows: &[Row] = &[(
-        At(Version),
+    const ROWS: &[Row] = &[(
+        VERSION,
         "",
         r#","slots":1,"births":0,"quantum":1,"semaphores":[],"files":1,"programs":[],"start":[]}"#,
         1,
         2,
         Field::Version,
     )];
-    have_ranges(&rt, r#"{"version":"#, rows);
-    let rows: &[Row] = &[
+    have_ranges(&rt, r#"{"version":"#, ROWS);
+    const ROWS_2: &[Row] = &[
         (
-            At(Slots),
+            SLOTS,
             r#","slots":"#,
             r#","births":0,"quantum":1,"semaphores":[],"files":1,"programs":[],"start":[]}"#,
             1,
@@ -339,7 +206,7 @@ fn the_numbers_of_scripts(rt: HostRuntime) {
             Field::Slots,
         ),
         (
-            At(Births),
+            BIRTHS,
             r#","slots":1,"births":"#,
             r#","quantum":1,"semaphores":[],"files":1,"programs":[],"start":[]}"#,
             0,
@@ -347,7 +214,7 @@ fn the_numbers_of_scripts(rt: HostRuntime) {
             Field::Births,
         ),
         (
-            At(Quantum),
+            QUANTUM,
             r#","slots":1,"births":0,"quantum":"#,
             r#","semaphores":[],"files":1,"programs":[],"start":[]}"#,
             1,
@@ -355,7 +222,7 @@ fn the_numbers_of_scripts(rt: HostRuntime) {
             Field::Quantum,
         ),
         (
-            At(Stint),
+            STINT,
             r#","slots":1,"births":0,"quantum":1,"stint":"#,
             r#","semaphores":[],"files":1,"programs":[],"start":[]}"#,
             1,
@@ -363,7 +230,7 @@ fn the_numbers_of_scripts(rt: HostRuntime) {
             Field::Stint,
         ),
         (
-            At(Semaphore),
+            SEMAPHORE,
             r#","slots":1,"births":0,"quantum":1,"semaphores":["#,
             r#"],"files":1,"programs":[],"start":[]}"#,
             0,
@@ -371,7 +238,7 @@ fn the_numbers_of_scripts(rt: HostRuntime) {
             Field::Semaphores,
         ),
         (
-            At(Files),
+            FILES,
             r#","slots":1,"births":0,"quantum":1,"semaphores":[],"files":"#,
             r#","programs":[],"start":[]}"#,
             1,
@@ -379,15 +246,15 @@ fn the_numbers_of_scripts(rt: HostRuntime) {
             Field::Files,
         ),
     ];
-    have_ranges(&rt, r#"{"version":1"#, rows);
-    have_ranges(&rt, r#"{"version":2"#, rows);
+    have_ranges(&rt, r#"{"version":1"#, ROWS_2);
+    have_ranges(&rt, r#"{"version":2"#, ROWS_2);
 }
 
 const AFTER_STEP: &str = r#"]],[],[]],"start":[]}"#;
 
 #[test]
 fn the_numbers_of_steps(rt: HostRuntime) {
-    let rows: &[Row] = &[
+    const ROWS: &[Row] = &[
         (OF_STEP, r#"[["down","#, AFTER_STEP, 0, 2, PROGRAMS),
         (OF_STEP, r#"[["up","#, AFTER_STEP, 0, 2, PROGRAMS),
         (OF_STEP, r#"[["open","#, AFTER_STEP, 1, MOST_FILE, PROGRAMS),
@@ -398,8 +265,8 @@ fn the_numbers_of_steps(rt: HostRuntime) {
     ];
     let head_1 =
         r#"{"version":1,"slots":1,"births":0,"quantum":1,"semaphores":[0,0,0],"files":1,"programs":["#;
-    have_ranges(&rt, head_1, rows);
+    have_ranges(&rt, head_1, ROWS);
     let head_2 =
         r#"{"version":2,"slots":1,"births":0,"quantum":1,"semaphores":[0,0,0],"files":1,"programs":["#;
-    have_ranges(&rt, head_2, rows);
+    have_ranges(&rt, head_2, ROWS);
 }

@@ -1,8 +1,9 @@
-use crate::counts::{Items, has_count};
-use crate::inputs::{Input, have_faults};
+use crate::counts::{Row, has_count};
+use crate::inputs::{Input, have_faults, holds_at};
+use crate::numbers;
 use fak_core::{QueueCall, RoomCall};
 use fak_text::{Act, Event, Field, Object, TextFault, read_schedule};
-use std::process::Abort;
+use std::alloc::Global;
 
 const EVENTS: TextFault = TextFault::Range(Field::Events);
 
@@ -10,27 +11,23 @@ const ROOM: &str = r#"{"object":"room","bound":1,"seats":1,"events":["#;
 
 const QUEUE: &str = r#"{"object":"queue","size":1,"seats":1,"events":["#;
 
-/// Finds that the text is a schedule of these parts.
-fn has_parts(
-    rt: &(impl Abort + AllocGlobal),
-    text: &str,
-    object: Object,
-    seats: u64,
-    events: &[Event],
-) {
-    let schedule = read_schedule(rt.alloc(), text.as_bytes())
-        .ok()
-        .expect(rt, "a schedule");
-    assert!(rt; schedule.object == object);
-    assert!(rt; schedule.seats == seats);
-    assert!(rt; schedule.events.as_slice() == events);
+/// Whether the text is a schedule of these parts.
+fn has_parts(alloc: Global, text: &str, object: Object, seats: u64, events: &[Event]) -> bool {
+    match read_schedule(alloc, text.as_bytes()) {
+        Ok(schedule) => {
+            schedule.object == object
+                && schedule.seats == seats
+                && schedule.events.as_slice() == events
+        }
+        Err(_) => false,
+    }
 }
 
 #[test]
 fn a_schedule_of_a_room(rt: HostRuntime) {
-    let text =
+    const TEXT: &str =
         r#"{"object":"room","bound":4294967296,"seats":64,"events":[[0,"tir",1024],[1,"release",1],[2,"step"],[18446744073709551615,"step",64]]}"#;
-    let events = &[
+    const EVENTS: &[Event] = &[
         Event {
             seat: 0,
             act: Act::Room(RoomCall::Tir(1024)),
@@ -48,14 +45,15 @@ fn a_schedule_of_a_room(rt: HostRuntime) {
             act: Act::Steps(64),
         },
     ];
-    has_parts(&rt, text, Object::Room(4294967296), 64, events);
+    let is_so = has_parts(rt.alloc(), TEXT, Object::Room(4294967296), 64, EVENTS);
+    holds_at(&rt, is_so, TEXT);
 }
 
 #[test]
 fn a_schedule_of_a_queue(rt: HostRuntime) {
-    let text =
+    const TEXT: &str =
         r#"{"events":[[0,"insert",18446744073709551615],[1,"delete"],[1,"shut"],[1,"step",2]],"seats":1,"more":{},"size":4096,"object":"queue"}"#;
-    let events = &[
+    const EVENTS: &[Event] = &[
         Event {
             seat: 0,
             act: Act::Queue(QueueCall::Insert(18446744073709551615)),
@@ -73,12 +71,13 @@ fn a_schedule_of_a_queue(rt: HostRuntime) {
             act: Act::Steps(2),
         },
     ];
-    has_parts(&rt, text, Object::Queue(4096), 1, events);
+    let is_so = has_parts(rt.alloc(), TEXT, Object::Queue(4096), 1, EVENTS);
+    holds_at(&rt, is_so, TEXT);
 }
 
 #[test]
 fn the_first_fault_of_the_keys(rt: HostRuntime) {
-    let rows = &[
+    const ROWS: &[(&str, TextFault)] = &[
         (
             r#"{"seats":0,"events":7}"#,
             TextFault::Missing(Field::Object),
@@ -166,12 +165,12 @@ fn the_first_fault_of_the_keys(rt: HostRuntime) {
             TextFault::Range(Field::Seats),
         ),
     ];
-    have_faults(&rt, Input::Schedule, "", "", rows);
+    have_faults(&rt, Input::Schedule, "", "", ROWS);
 }
 
 #[test]
 fn the_first_fault_of_the_events(rt: HostRuntime) {
-    let rows = &[
+    const ROWS: &[(&str, TextFault)] = &[
         (r#"7"#, EVENTS),
         (r#"{}"#, EVENTS),
         (r#"[]"#, EVENTS),
@@ -198,8 +197,8 @@ fn the_first_fault_of_the_events(rt: HostRuntime) {
         (r#"[0,"release",0]"#, EVENTS),
         (r#"[0,"release",1025]"#, EVENTS),
     ];
-    have_faults(&rt, Input::Schedule, ROOM, "]}", rows);
-    let rows = &[
+    have_faults(&rt, Input::Schedule, ROOM, "]}", ROWS);
+    const ROWS_2: &[(&str, TextFault)] = &[
         (r#"[0,"tir",1]"#, TextFault::UnknownOp(0)),
         (r#"[0,"release",1]"#, TextFault::UnknownOp(0)),
         (r#"[0,"insert"]"#, EVENTS),
@@ -210,16 +209,28 @@ fn the_first_fault_of_the_events(rt: HostRuntime) {
         (r#"[0,"shut",1]"#, EVENTS),
         (r#"[0,"step",65]"#, EVENTS),
     ];
-    have_faults(&rt, Input::Schedule, QUEUE, "]}", rows);
+    have_faults(&rt, Input::Schedule, QUEUE, "]}", ROWS_2);
 }
 
 #[test]
 fn a_schedule_has_at_most_16384_events(rt: HostRuntime) {
-    let step = r#"[0,"step"]"#;
-    let row = (Items::Events, ROOM, step, "]}", 16_384, Field::Events);
-    has_count(&rt, &row, 16_384);
+    const MANY: &Row<'static> = &(
+        numbers::EVENTS,
+        ROOM,
+        r#"[0,"step"]"#,
+        "]}",
+        16_384,
+        Field::Events,
+    );
+    has_count(&rt, MANY, 16_384);
     // their number is tested before the first event is
-    let jump = r#"{"object":"room","bound":1,"seats":1,"events":[[0,"jump"],"#;
-    let row = (Items::Events, jump, step, "]}", 16_383, Field::Events);
-    has_count(&rt, &row, 16_384);
+    const TOO_MANY: &Row<'static> = &(
+        numbers::EVENTS,
+        r#"{"object":"room","bound":1,"seats":1,"events":[[0,"jump"],"#,
+        r#"[0,"step"]"#,
+        "]}",
+        16_383,
+        Field::Events,
+    );
+    has_count(&rt, TOO_MANY, 16_384);
 }

@@ -46,12 +46,6 @@ fn are_of_version_2(steps: &[Step]) -> bool {
     steps == [Step::Spawn(1), Step::Shutdown].as_slice()
 }
 
-/// Finds that the numbers are these.
-#[cfg(test)]
-fn are_equal(rt: &impl Abort, found: &[u64], wanted: &[u64]) {
-    assert!(rt; found == wanted);
-}
-
 /// The version, the slots, the births, the quantum, the stint and the files.
 #[cfg(test)]
 fn numbers(script: &Script) -> [u64; 6] {
@@ -65,16 +59,24 @@ fn numbers(script: &Script) -> [u64; 6] {
     ]
 }
 
+/// Whether these are two programs of a step of each kind.
+#[cfg(test)]
+fn are_of_each_kind(rt: &(impl Abort + AllocGlobal), programs: &[Vec<Step>]) -> bool {
+    match programs {
+        [first, second] => are_of_version_1(rt, first) && are_of_version_2(second),
+        _ => false,
+    }
+}
+
 /// Finds that the script has the numbers, the lists and the programs of the input with each kind of step.
 #[cfg(test)]
 fn has_parts(rt: &(impl Abort + AllocGlobal), script: &Script) {
-    are_equal(rt, &numbers(script), &[2, 64, 1000, 1000, 7, 16]);
-    are_equal(rt, script.semaphores(), &[0, 1000000]);
-    are_equal(rt, script.start(), &[1, 0, 1]);
-    let programs = script.programs();
-    assert!(rt; programs.len() == 2);
-    holds_at(rt, are_of_version_1(rt, &programs[0]), "program 0");
-    holds_at(rt, are_of_version_2(&programs[1]), "program 1");
+    const SEMAPHORES: &[u64] = &[0, 1000000];
+    const START: &[u64] = &[1, 0, 1];
+    holds_at(rt, numbers(script) == [2, 64, 1000, 1000, 7, 16], "numbers");
+    holds_at(rt, script.semaphores() == SEMAPHORES, "semaphores");
+    holds_at(rt, script.start() == START, "start");
+    holds_at(rt, are_of_each_kind(rt, script.programs()), "programs");
 }
 
 #[test]
@@ -101,17 +103,25 @@ fn extent(script: &Script) -> (u64, u64, [usize; 3]) {
 
 #[test]
 fn a_script_of_version_1(rt: HostRuntime) {
-    let text =
-        r#"{"version":1,"slots":1,"births":0,"quantum":4,"semaphores":[],"files":1,"programs":[[]],"start":[0],"other":{}}"#;
-    assert!(rt; extent(&script_of(&rt, text)) == (1, 1_099_511_627_776, [0, 1, 1]));
-    let text =
-        r#"{"version":1,"slots":1,"births":0,"quantum":4,"semaphores":[],"files":1,"programs":[],"start":[]}"#;
-    assert!(rt; extent(&script_of(&rt, text)) == (1, 1_099_511_627_776, [0, 0, 0]));
+    const ROWS: &[(&str, [usize; 3])] = &[
+        (
+            r#"{"version":1,"slots":1,"births":0,"quantum":4,"semaphores":[],"files":1,"programs":[[]],"start":[0],"other":{}}"#,
+            [0, 1, 1],
+        ),
+        (
+            r#"{"version":1,"slots":1,"births":0,"quantum":4,"semaphores":[],"files":1,"programs":[],"start":[]}"#,
+            [0, 0, 0],
+        ),
+    ];
+    for &(text, counts) in ROWS {
+        let is_so = extent(&script_of(&rt, text)) == (1, 1_099_511_627_776, counts);
+        holds_at(&rt, is_so, text);
+    }
 }
 
 #[test]
 fn the_first_fault_of_the_keys(rt: HostRuntime) {
-    let rows = &[
+    const ROWS: &[(&str, TextFault)] = &[
         (r#"{"slots":0}"#, TextFault::Missing(Field::Version)),
         (r#"{"version":0}"#, TextFault::Range(Field::Version)),
         (r#"{"version":3}"#, TextFault::Range(Field::Version)),
@@ -213,12 +223,12 @@ fn the_first_fault_of_the_keys(rt: HostRuntime) {
             TextFault::Range(Field::Start),
         ),
     ];
-    have_faults(&rt, Input::Script, "", "", rows);
+    have_faults(&rt, Input::Script, "", "", ROWS);
 }
 
 #[test]
 fn the_first_fault_of_the_programs(rt: HostRuntime) {
-    let rows = &[
+    const ROWS: &[(&str, TextFault)] = &[
         (r#"7"#, PROGRAMS),
         (r#"[7]"#, PROGRAMS),
         (r#"[[]]"#, PROGRAMS),
@@ -253,16 +263,15 @@ fn the_first_fault_of_the_programs(rt: HostRuntime) {
         (r#"[["spawn",1]]"#, PROGRAMS),
         (r#"[["spawn",2]],[]"#, PROGRAMS),
     ];
-    have_faults(&rt, Input::Script, BEFORE, AFTER, rows);
-    let rows = &[
+    have_faults(&rt, Input::Script, BEFORE, AFTER, ROWS);
+    const ROWS_2: &[(&str, TextFault)] = &[
         (r#"[["shutdown",1]]"#, PROGRAMS),
         (r#"[["shutdown"],["jump"]]"#, TextFault::UnknownOp(1)),
     ];
-    have_faults(&rt, Input::Script, BEFORE_2, AFTER, rows);
-    assert!(rt;
-        Input::Script.fault_of_parts(rt.alloc(), &[BEFORE_2, r#"[["shutdown"]]"#, AFTER])
-            == Ok(None)
-    );
+    have_faults(&rt, Input::Script, BEFORE_2, AFTER, ROWS_2);
+    let made = [BEFORE_2, r#"[["shutdown"]]"#, AFTER].concat(rt.alloc());
+    let fault = Input::Script.fault_of(rt.alloc(), made);
+    holds_at(&rt, fault == None, "shutdown");
 }
 
 /// This many items, between commas; none is left out.
@@ -277,6 +286,22 @@ pub fn repeated(rt: &impl AllocGlobal, item: &str, count: usize) -> Result<Strin
     Ok(text)
 }
 
+/// This many items, or none, between commas and between these texts.
+#[cfg(test)]
+pub fn with_many(
+    rt: &impl AllocGlobal,
+    before: &str,
+    item: &str,
+    count: usize,
+    after: &str,
+) -> Result<String, AllocError> {
+    if count == 0 {
+        return [before, after].concat(rt.alloc());
+    }
+    let items = repeated(rt, item, count)?;
+    [before, &items, after].concat(rt.alloc())
+}
+
 /// Many of an item: the text before them, the item, how many they are, the text behind them, and the fault.
 #[cfg(test)]
 type Many = (
@@ -287,35 +312,42 @@ type Many = (
     Option<TextFault>,
 );
 
-/// The fault of a script with many of an item.
 #[cfg(test)]
-fn fault_of_many(rt: &impl AllocGlobal, many: &Many) -> Result<Option<TextFault>, AllocError> {
-    let items = repeated(rt, many.1, many.2)?;
-    let parts = [BEFORE, many.0, &items, many.3, r#"],"start":[]}"#];
-    Input::Script.fault_of_parts(rt.alloc(), &parts)
+const BEFORE_STEPS: &str =
+    r#"{"version":1,"slots":2,"births":0,"quantum":1,"semaphores":[0,1000000],"files":1,"programs":[["#;
+
+/// Finds that a script with many of an item has its fault.
+#[cfg(test)]
+fn has_fault(rt: &(impl Abort + AllocGlobal), many: &Many) {
+    let made = with_many(rt, many.0, many.1, many.2, many.3);
+    let fault = Input::Script.fault_of(rt.alloc(), made);
+    holds_at(rt, fault == many.4, many.1);
 }
 
 #[test]
 fn a_script_has_at_most_64_programs_of_1000_steps(rt: HostRuntime) {
-    let rows: &[Many] = &[
-        ("", "[]", 64, "", None),
-        ("", "[]", 65, "", Some(PROGRAMS)),
-        ("[", r#"["yield"]"#, 1000, "]", None),
-        ("[", r#"["jump"]"#, 1001, "]", Some(PROGRAMS)),
+    const AFTER_PROGRAMS: &str = r#"],"start":[]}"#;
+    const AFTER_STEPS: &str = r#"]],"start":[]}"#;
+    const ROWS: &[Many] = &[
+        (BEFORE, "[]", 64, AFTER_PROGRAMS, None),
+        (BEFORE, "[]", 65, AFTER_PROGRAMS, Some(PROGRAMS)),
+        (BEFORE_STEPS, r#"["yield"]"#, 1000, AFTER_STEPS, None),
         (
-            "[",
+            BEFORE_STEPS,
+            r#"["jump"]"#,
+            1001,
+            AFTER_STEPS,
+            Some(PROGRAMS),
+        ),
+        (
+            BEFORE_STEPS,
             r#"["yield"]"#,
             1000,
-            r#"],[["jump"]]"#,
+            r#"],[["jump"]]],"start":[]}"#,
             Some(TextFault::UnknownOp(1000)),
         ),
     ];
-    for row in rows {
-        assert!(rt;
-            fault_of_many(&rt, row) == Ok(row.4),
-            "at {} of {}",
-            row.2,
-            row.1
-        );
+    for row in ROWS {
+        has_fault(&rt, row);
     }
 }

@@ -1,18 +1,18 @@
 //! Numbers on either side of many others.
 
-use std::alloc::{AllocError, Global};
+use std::alloc::AllocError;
 
-/// The numbers at and beside each power of two and each round number, and some of each length that look drawn.
-pub(crate) fn spread(alloc: Global) -> Result<Vec<u64>, AllocError> {
-    let mut numbers = Vec::new(alloc);
+const ROUND: &[u64] = &[100_000, 1_000_000, 1_000_000_000, u64::MAX];
+
+/// Adds the numbers at and beside each power of two and each round number, and some of each length that look drawn.
+pub(crate) fn add_spread(numbers: &mut Vec<u64>) -> Result<(), AllocError> {
     for place in 0..64u32 {
-        add_about(&mut numbers, 1u64 << place, 1)?;
+        add_about(numbers, 1u64 << place, 1)?;
     }
-    for n in [100_000, 1_000_000, 1_000_000_000, u64::MAX] {
-        add_about(&mut numbers, n, 1)?;
+    for &n in ROUND {
+        add_about(numbers, n, 1)?;
     }
-    add_drawn(&mut numbers)?;
-    Ok(numbers)
+    add_drawn(numbers)
 }
 
 /// Adds a number, and those that are up to this much less or more.

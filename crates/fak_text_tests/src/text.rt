@@ -1,7 +1,7 @@
 ghost use Rattle.fak_text.specs.Names.{IsRefusal};
 
-use crate::inputs::holds_at;
-use crate::spread::spread;
+use crate::inputs::{holds_at, is_made};
+use crate::spread::add_spread;
 use LineMark::{Queue, Room};
 use fak_core::{CoreFault, CoreMove, Line, LineMark};
 use fak_model::{Kind, RoomKind};
@@ -19,6 +19,12 @@ fn is_text(rt: &impl Abort, made: Result<Vec<u8>, TextFault>, want: &str) {
         Err(_) => false,
     };
     holds_at(rt, is_so, want);
+}
+
+/// Finds that a text was made, and is the one that was made for it.
+fn is_text_as(rt: &impl Abort, want: Result<String, AllocError>, made: Result<Vec<u8>, TextFault>) {
+    let want = want.expect(rt, "memory");
+    is_text(rt, made, &want);
 }
 
 /// Finds that the lines of a seat have the texts beside them.
@@ -40,7 +46,7 @@ fn have_texts(
 
 #[test]
 fn lines_of_rooms(rt: HostRuntime) {
-    let rows = &[
+    const ROWS: &[(CoreMove, i128, Option<LineMark>, &str)] = &[
         (CoreMove::Test, 0, None, "1 test 0 -"),
         (
             CoreMove::Test,
@@ -73,12 +79,12 @@ fn lines_of_rooms(rt: HostRuntime) {
             "1 release 5 release 3",
         ),
     ];
-    have_texts(&rt, 1, rows);
+    have_texts(&rt, 1, ROWS);
 }
 
 #[test]
 fn lines_of_queues(rt: HostRuntime) {
-    let rows = &[
+    const ROWS: &[(CoreMove, i128, Option<LineMark>, &str)] = &[
         (CoreMove::TestUp, 0, None, "2 test-up 0 -"),
         (
             CoreMove::TestUp,
@@ -192,7 +198,7 @@ fn lines_of_queues(rt: HostRuntime) {
             "2 shut 0 close",
         ),
     ];
-    have_texts(&rt, 2, rows);
+    have_texts(&rt, 2, ROWS);
 }
 
 /// Finds that a refusal has this text.
@@ -263,11 +269,7 @@ fn a_journal_of_each_kind_of_note(rt: HostRuntime) {
 
 /// Finds that a process of these numbers is named so.
 fn is_named(rt: &(impl Abort + AllocGlobal), name: &[u64], want: &str) {
-    let is_so = match name_text(rt.alloc(), name) {
-        Ok(text) => text.as_str() == want,
-        Err(_) => false,
-    };
-    holds_at(rt, is_so, want);
+    is_made(rt, name_text(rt.alloc(), name), want);
 }
 
 #[test]
@@ -286,8 +288,7 @@ fn is_named_with(
 ) {
     let dot = if name.is_empty() { "" } else { "." };
     name.push(number).expect(rt, "memory");
-    let part = format!(in rt.alloc(); "{dot}{number}").expect(rt, "memory");
-    text.push_str(&part).expect(rt, "memory");
+    write!(text, "{dot}{number}").expect(rt, "memory");
     is_named(rt, name, text);
 }
 
@@ -310,10 +311,7 @@ fn is_journal_with(
 ) {
     notes.push(Note::Up(number)).expect(rt, "memory");
     notes.push(Note::Spawned(number)).expect(rt, "memory");
-    let lines = format!(in rt.alloc(); "  up {number}\n  spawn 3.0.{number}\n").expect(
-        rt, "memory",
-    );
-    text.push_str(&lines).expect(rt, "memory");
+    write!(text, "  up {number}\n  spawn 3.0.{number}\n").expect(rt, "memory");
     is_text(rt, journal_text(rt.alloc(), &[3, 0], notes), text);
 }
 
@@ -334,10 +332,8 @@ fn is_line_of(rt: &(impl Abort + AllocGlobal), number: u64, found: i128) {
         found,
         mark: Some(Queue(Kind::Put(number))),
     };
-    let want = format!(in rt.alloc(); "{number} ticket-in {found} put {number}").expect(
-        rt, "memory",
-    );
-    is_text(rt, line_text(rt.alloc(), &line), &want);
+    let want = format!(in rt.alloc(); "{number} ticket-in {found} put {number}");
+    is_text_as(rt, want, line_text(rt.alloc(), &line));
 }
 
 /// The journal with this number wherever it has one.
@@ -353,53 +349,76 @@ fn journal_of(alloc: Global, n: u64) -> Result<Vec<u8>, TextFault> {
     journal_text(alloc, &[n], &notes)
 }
 
+/// What is written before, between and behind the numbers of that journal.
+const PARTS_OF_JOURNAL: &[&str] = &[
+    "  down ",
+    "\n  up ",
+    "\n  open ",
+    " entry ",
+    "\n  close ",
+    " entry ",
+    "\n  stat ",
+    " uses ",
+    "\n  spawn ",
+    ".",
+    "\n",
+];
+
 /// The text of the journal with this number.
 fn text_of_journal(alloc: Global, n: u64) -> Result<String, AllocError> {
-    format!(in alloc;
-        "  down {n}\n  up {n}\n  open {n} entry {n}\n  close {n} entry {n}\n  stat {n} uses {n}\n  spawn {n}.{n}\n"
-    )
+    PARTS_OF_JOURNAL.join(alloc, &n.to_string(alloc)?)
 }
 
 /// Finds that a journal with this number wherever it has one is written so.
 fn is_journal_of(rt: &(impl Abort + AllocGlobal), n: u64) {
-    let want = text_of_journal(rt.alloc(), n).expect(rt, "memory");
-    is_text(rt, journal_of(rt.alloc(), n), &want);
+    is_text_as(
+        rt,
+        text_of_journal(rt.alloc(), n),
+        journal_of(rt.alloc(), n),
+    );
+}
+
+/// Finds that lines and a journal with this number are written so.
+fn is_written_with(rt: &(impl Abort + AllocGlobal), number: u64) {
+    let found = number as i128;
+    is_line_of(rt, number, found);
+    is_line_of(rt, number, -found);
+    is_journal_of(rt, number);
 }
 
 #[test]
 fn lines_and_journals_of_numbers_of_each_length(rt: HostRuntime) {
-    let numbers = spread(rt.alloc()).expect(&rt, "memory");
+    let mut numbers = Vec::new(rt.alloc());
+    add_spread(&mut numbers).expect(&rt, "memory");
     for &number in &numbers {
-        let found = number as i128;
-        is_line_of(&rt, number, found);
-        is_line_of(&rt, number, -found);
-        is_journal_of(&rt, number);
+        is_written_with(&rt, number);
     }
 }
 
+const OVER: &Line = &Line {
+    seat: 63,
+    step: CoreMove::SubLow,
+    found: -4096,
+    mark: Some(Queue(Kind::OverOut)),
+};
+
 /// Appends one of each, and a newline after each but the journal.
-fn append_each(text: &mut String, line: &Line) -> Result<(), AllocError> {
-    append_line(text, line)?;
-    text.push_str("\n")?;
-    append_refusal(text, 100, &CoreFault::NotHeld)?;
-    text.push_str("\n")?;
-    append_name(text, &[3, 0, 1000])?;
-    text.push_str("\n")?;
-    append_journal(text, &[3, 0], &[Note::Spawned(7), Note::Yield])
+fn append_each(rt: &impl Abort, text: &mut String) {
+    append_line(text, OVER).expect(rt, "memory");
+    text.push_str("\n").expect(rt, "memory");
+    append_refusal(text, 100, &CoreFault::NotHeld).expect(rt, "memory");
+    text.push_str("\n").expect(rt, "memory");
+    append_name(text, &[3, 0, 1000]).expect(rt, "memory");
+    text.push_str("\n").expect(rt, "memory");
+    append_journal(text, &[3, 0], &[Note::Spawned(7), Note::Yield]).expect(rt, "memory");
 }
+
+const APPENDED: &str =
+    "begun\n63 sub-low -4096 over-out\n100 refused not-held\n3.0.1000\n  spawn 3.0.7\n  yield\n";
 
 #[test]
 fn texts_are_appended(rt: HostRuntime) {
-    let line = Line {
-        seat: 63,
-        step: CoreMove::SubLow,
-        found: -4096,
-        mark: Some(Queue(Kind::OverOut)),
-    };
     let mut text = String::from_str(rt.alloc(), "begun\n").expect(&rt, "memory");
-    append_each(&mut text, &line).expect(&rt, "memory");
-    assert!(rt;
-        text.as_str()
-            == "begun\n63 sub-low -4096 over-out\n100 refused not-held\n3.0.1000\n  spawn 3.0.7\n  yield\n"
-    );
+    append_each(&rt, &mut text);
+    holds_at(&rt, text.as_str() == APPENDED, APPENDED);
 }
