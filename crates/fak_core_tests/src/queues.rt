@@ -75,6 +75,42 @@ pub(crate) const DELETED: [Step; 7] = [
     (0, CoreMove::EndOut, 1, Some(Kind::EndOut)),
 ];
 
+/// The marks of both.
+const MARKED: &[Mark<u64>] = &[
+    Mark {
+        seat: 0,
+        kind: Kind::ClaimIn,
+    },
+    Mark {
+        seat: 0,
+        kind: Kind::Put(7),
+    },
+    Mark {
+        seat: 0,
+        kind: Kind::Fill(0),
+    },
+    Mark {
+        seat: 0,
+        kind: Kind::EndIn,
+    },
+    Mark {
+        seat: 0,
+        kind: Kind::ClaimOut,
+    },
+    Mark {
+        seat: 0,
+        kind: Kind::Got(7),
+    },
+    Mark {
+        seat: 0,
+        kind: Kind::Take(0),
+    },
+    Mark {
+        seat: 0,
+        kind: Kind::EndOut,
+    },
+];
+
 #[test]
 fn an_item_is_inserted_and_deleted(rt: HostRuntime) {
     let mut core = opened(&rt, 1, 1);
@@ -82,18 +118,7 @@ fn an_item_is_inserted_and_deleted(rt: HostRuntime) {
     steps(&rt, &mut core, &INSERTED);
     begins(&rt, &mut core, 0, QueueCall::Delete);
     steps(&rt, &mut core, &DELETED);
-    let kinds = [
-        Kind::ClaimIn,
-        Kind::Put(7),
-        Kind::Fill(0),
-        Kind::EndIn,
-        Kind::ClaimOut,
-        Kind::Got(7),
-        Kind::Take(0),
-        Kind::EndOut,
-    ];
-    let marks = kinds.map(|kind| Mark { seat: 0, kind });
-    assert_equal(&rt, core.marks(), &marks[..]);
+    assert_equal(&rt, core.marks(), MARKED);
 }
 
 #[test]
@@ -342,9 +367,14 @@ fn fault_of(alloc: Global, size: u64, seats: u64) -> Option<CoreFault> {
 
 #[test]
 fn sizes_and_seats_out_of_range_are_refused(rt: HostRuntime) {
-    assert_equal(&rt, fault_of(rt.alloc(), 0, 0), Some(CoreFault::BadSize));
-    assert_equal(&rt, fault_of(rt.alloc(), 4097, 1), Some(CoreFault::BadSize));
-    assert_equal(&rt, fault_of(rt.alloc(), 1, 0), Some(CoreFault::BadSeats));
-    assert_equal(&rt, fault_of(rt.alloc(), 1, 65), Some(CoreFault::BadSeats));
-    assert_equal(&rt, fault_of(rt.alloc(), 4096, 64), None);
+    const ROWS: &[(u64, u64, Option<CoreFault>)] = &[
+        (0, 0, Some(CoreFault::BadSize)),
+        (4097, 1, Some(CoreFault::BadSize)),
+        (1, 0, Some(CoreFault::BadSeats)),
+        (1, 65, Some(CoreFault::BadSeats)),
+        (4096, 64, None),
+    ];
+    for &(size, seats, fault) in ROWS {
+        assert_equal(&rt, fault_of(rt.alloc(), size, seats), fault);
+    }
 }

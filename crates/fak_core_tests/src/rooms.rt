@@ -59,7 +59,7 @@ fn steps(rt: &(impl AllocGlobal + Abort), core: &mut RoomCore, trace: &[Step]) {
 
 #[test]
 fn a_second_claim_is_refused_at_the_test(rt: HostRuntime) {
-    const MARKS: [RoomMark; 2] = [
+    const MARKS: &[RoomMark] = &[
         RoomMark {
             seat: 0,
             kind: RoomKind::Up(1),
@@ -82,7 +82,7 @@ fn a_second_claim_is_refused_at_the_test(rt: HostRuntime) {
     assert_equal(&rt, core.value(), 1);
     assert_equal(&rt, core.held(0), 1);
     assert_equal(&rt, core.held(1), 0);
-    assert_equal(&rt, core.marks(), &MARKS[..]);
+    assert_equal(&rt, core.marks(), MARKS);
 }
 
 #[test]
@@ -90,17 +90,14 @@ fn a_claim_over_the_bound_is_withdrawn(rt: HostRuntime) {
     let mut core = opened(&rt, 1, 2);
     begins(&rt, &mut core, 0, RoomCall::Tir(1));
     begins(&rt, &mut core, 1, RoomCall::Tir(1));
-    steps(
-        &rt,
-        &mut core,
-        &[
-            (0, CoreMove::Test, 0, None),
-            (1, CoreMove::Test, 0, None),
-            (0, CoreMove::Add, 0, Some(RoomKind::Up(1))),
-            (1, CoreMove::Add, 1, Some(RoomKind::Over(1))),
-            (1, CoreMove::Back, 2, Some(RoomKind::Back(1))),
-        ],
-    );
+    const WITHDRAWN: &[Step] = &[
+        (0, CoreMove::Test, 0, None),
+        (1, CoreMove::Test, 0, None),
+        (0, CoreMove::Add, 0, Some(RoomKind::Up(1))),
+        (1, CoreMove::Add, 1, Some(RoomKind::Over(1))),
+        (1, CoreMove::Back, 2, Some(RoomKind::Back(1))),
+    ];
+    steps(&rt, &mut core, WITHDRAWN);
     assert_equal(&rt, core.value(), 1);
 }
 
@@ -108,34 +105,25 @@ fn a_claim_over_the_bound_is_withdrawn(rt: HostRuntime) {
 fn refused_calls_leave_the_others_as_they_were(rt: HostRuntime) {
     let mut core = opened(&rt, 5, 2);
     begins(&rt, &mut core, 0, RoomCall::Tir(3));
-    steps(
-        &rt,
-        &mut core,
-        &[
-            (0, CoreMove::Test, 0, None),
-            (0, CoreMove::Add, 0, Some(RoomKind::Up(3))),
-        ],
-    );
+    const GRANTED: &[Step] = &[
+        (0, CoreMove::Test, 0, None),
+        (0, CoreMove::Add, 0, Some(RoomKind::Up(3))),
+    ];
+    steps(&rt, &mut core, GRANTED);
     begins(&rt, &mut core, 1, RoomCall::Tir(3));
-    steps(
-        &rt,
-        &mut core,
-        &[(1, CoreMove::Test, 3, Some(RoomKind::No(3)))],
-    );
+    const REFUSED: &[Step] = &[(1, CoreMove::Test, 3, Some(RoomKind::No(3)))];
+    steps(&rt, &mut core, REFUSED);
     begins(&rt, &mut core, 1, RoomCall::Tir(2));
     assert_equal(
         &rt,
         core.begin(1, RoomCall::Tir(2)),
         Err(CoreFault::MidCall),
     );
-    steps(
-        &rt,
-        &mut core,
-        &[
-            (1, CoreMove::Test, 3, None),
-            (1, CoreMove::Add, 3, Some(RoomKind::Up(2))),
-        ],
-    );
+    const GRANTED_TOO: &[Step] = &[
+        (1, CoreMove::Test, 3, None),
+        (1, CoreMove::Add, 3, Some(RoomKind::Up(2))),
+    ];
+    steps(&rt, &mut core, GRANTED_TOO);
     assert_equal(&rt, core.advance(rt.alloc(), 1), Err(CoreFault::IdleSeat));
     assert_equal(
         &rt,
@@ -143,11 +131,8 @@ fn refused_calls_leave_the_others_as_they_were(rt: HostRuntime) {
         Err(CoreFault::NotHeld),
     );
     begins(&rt, &mut core, 0, RoomCall::Release(3));
-    steps(
-        &rt,
-        &mut core,
-        &[(0, CoreMove::Release, 5, Some(RoomKind::Release(3)))],
-    );
+    const RELEASED: &[Step] = &[(0, CoreMove::Release, 5, Some(RoomKind::Release(3)))];
+    steps(&rt, &mut core, RELEASED);
     assert_equal(&rt, core.advance(rt.alloc(), 2), Err(CoreFault::NoSuchSeat));
     assert_equal(
         &rt,
@@ -164,12 +149,13 @@ fn fault_of(alloc: Global, bound: u64, seats: u64) -> Option<CoreFault> {
 
 #[test]
 fn bounds_and_seats_out_of_range_are_refused(rt: HostRuntime) {
-    assert_equal(
-        &rt,
-        fault_of(rt.alloc(), 4_294_967_297, 0),
-        Some(CoreFault::BadSize),
-    );
-    assert_equal(&rt, fault_of(rt.alloc(), 0, 0), Some(CoreFault::BadSeats));
-    assert_equal(&rt, fault_of(rt.alloc(), 0, 65), Some(CoreFault::BadSeats));
-    assert_equal(&rt, fault_of(rt.alloc(), 4_294_967_296, 64), None);
+    const ROWS: &[(u64, u64, Option<CoreFault>)] = &[
+        (4_294_967_297, 0, Some(CoreFault::BadSize)),
+        (0, 0, Some(CoreFault::BadSeats)),
+        (0, 65, Some(CoreFault::BadSeats)),
+        (4_294_967_296, 64, None),
+    ];
+    for &(bound, seats, fault) in ROWS {
+        assert_equal(&rt, fault_of(rt.alloc(), bound, seats), fault);
+    }
 }
