@@ -1,6 +1,6 @@
 //! A thread for each processor.
 
-ghost use Rattle.std.specs.Prelude.{◌≡◌, ◌<◌, ℕ, vec_len, slice_index_or, IfOk, IfErr};
+ghost use Rattle.std.specs.Prelude.{◌≡◌, ◌<◌, ◌++◌, ◌∷◌, [], ℕ, vec_len, slice_index_or, IfOk, IfErr, IsOkAnd};
 ghost use Rattle.fak_processor.specs.Processors.{AreFor};
 ghost use Rattle.fak_kernel.specs.Threads.{HasAnswered, HasBegun, IsOfStart};
 
@@ -47,6 +47,17 @@ fn leave<K: Run, R: Wait, G: Gate>(
     ensures { HasAnswered K.script objects.now processors (G.refuses gate.now) (G.answers gate.now) number result }
 {
     processor.work(rt, alloc, script, objects, gate, number)
+}
+
+/// The handle of a thread that has begun goes behind the others.
+fn keep<H: Drop, E: Drop>(handles: &mut Vec<H>, begun: Result<H, E>) -> Result<(), Fault>
+    ensures kept { IfOk result (λ _. IsOkAnd begun (λ h. handles.new.items ≡ handles.old.items ++ h ∷ [])) }
+    ensures fault { IfErr result IsOfStart }
+{
+    match begun {
+        Ok(handle) => Ok(handles.push(handle)?),
+        Err(_) => Err(Fault::NoThread),
+    }
 }
 
 /// Each processor works in a thread of its own; their answers, in the order of their numbers.
@@ -105,28 +116,17 @@ pub(crate) fn leave_all<K: Run + Send + Sync, R: Threads + Wait + Sync, G: Gate 
                         rt, alloc, script, objects, gate, processors, number, processor,
                     ),
                 );
-                match begun {
-                    Ok(handle) => {
-                        let Ok(()) = handles.push(handle) else {
-                            objects.alarm.ring();
-                            drop(handles);
-                            return Err(Fault::Memory);
-                        };
-                    }
-                    Err(_) => {
-                        objects.alarm.ring();
-                        drop(handles);
-                        return Err(Fault::NoThread);
-                    }
-                }
-            }
-            match thread::join_promised(rt, handles) {
-                Ok(answers) => Ok(answers),
-                Err(_) => {
+                if let Err(fault) = keep(&mut handles, begun) {
                     objects.alarm.ring();
-                    Err(Fault::Memory)
+                    drop(handles);
+                    return Err(fault);
                 }
             }
+            let Ok(answers) = thread::join_promised(rt, handles) else {
+                objects.alarm.ring();
+                return Err(Fault::Memory);
+            };
+            Ok(answers)
         },
     )
 }
