@@ -257,8 +257,7 @@ fn deal<K: Run>(
 {
     let mut dealt = Vec::with_capacity(alloc, rows.len())?;
     let mut seats = seats.into_iter();
-    for row in rows {
-        let mut row = row;
+    for mut row in rows {
         row.push(next_of(&mut seats))?;
         dealt.push(row)?;
     }

@@ -29,7 +29,7 @@ impl<K: Run> Processor<K> {
         rt: &R,
         alloc: Global,
         objects: &Objects<K>,
-        turn: Turn<K>,
+        mut turn: Turn<K>,
         step: &Step,
     ) -> Result<Option<Turn<K>>, Fault>
         requires objects { AreOf objects.now self.old }
@@ -46,7 +46,6 @@ impl<K: Run> Processor<K> {
         match step {
             Step::Down(n) => return self.down(rt, objects, turn, *n),
             _ => {
-                let mut turn = turn;
                 self.make_and_stay(rt, alloc, objects, &mut turn, step)?;
                 return Ok(Some(turn));
             }
@@ -199,11 +198,16 @@ impl<K: Run> Processor<K> {
         for _ in rt.forever() {
             let was_idle = running.is_none();
             if was_idle && objects.alarm.is_rung() {
+                drop(running);
                 return Ok(false);
             }
-            looks.pass_where(gate, was_idle)?;
+            if let Err(fault) = looks.pass_where(gate, was_idle) {
+                drop(running);
+                return Err(fault);
+            }
             running = self.step(rt, alloc, script, objects, running)?;
             if self.is_done(objects, was_idle, &running) {
+                drop(running);
                 return Ok(true);
             }
             rest(&pause, was_idle, running.is_some());
@@ -219,7 +223,7 @@ impl<K: Run> Processor<K> {
     /// `Memory`, `Worn`, and `Gate` where the gate may refuse and did: at one of this processor's looks, which are
     /// counted from 0, after it passed those before. The other processors are told of it.
     pub fn work<R: Wait, G: Gate>(
-        self,
+        mut self,
         rt: &R,
         alloc: Global,
         script: &Script,
@@ -239,16 +243,15 @@ impl<K: Run> Processor<K> {
         ensures fault { IfErr result (λ fault. IsOfLoop (G.refuses gate.now) fault) }
         ensures refused { IfErr result (λ fault. fault ≡ Fault.Gate → IsRefused (G.answers gate.now number)) }
     {
-        let mut processor = self;
-        match processor.turns(rt, alloc, script, objects, gate, number) {
-            Ok(true) => Ok(Some(processor)),
+        match self.turns(rt, alloc, script, objects, gate, number) {
+            Ok(true) => Ok(Some(self)),
             Ok(false) => {
-                drop(processor);
+                drop(self);
                 Ok(None)
             }
             Err(fault) => {
                 objects.alarm.ring();
-                drop(processor);
+                drop(self);
                 Err(fault)
             }
         }

@@ -10,7 +10,7 @@ loop-init g c = grind (arith, common_steps, moves_none)
 pub loop-preserved : goal.loop-preserved
 loop-preserved g c =
     let same = c.loop.invariant.4 in
-    ((tt, tt), c.is_done.ensures.objects, moves_on c.loop.running c.in_ok-running.running c.loop.invariant.2 c.in_ok-running.ensures.general c.is_done.ensures.gains, λ r. reached_on c.loop.running c.in_ok-running.running (c.loop.invariant.3 r) c.in_ok-running.ensures.alone c.is_done.ensures.alone, c.pass_where.ensures.same ∙ same, passed_next (g.G.Gate.answers c.args.gate.now) same c.loop.invariant.5 c.in_ok-pass_where.ensures.passed)
+    ((tt, tt), c.is_done.ensures.objects, moves_on c.loop.running c.in_ok-running.running c.loop.invariant.2 c.in_ok-running.ensures.general c.is_done.ensures.gains, λ r. reached_on c.loop.running c.in_ok-running.running (c.loop.invariant.3 r) c.in_ok-running.ensures.alone c.is_done.ensures.alone, c.pass_where.ensures.same ∙ same, passed_next (g.G.Gate.answers c.args.gate.now) same c.loop.invariant.5 c.in_default.ensures.passed)
 
 pub returns-then-is_done-clause-general : goal.returns-then-is_done-clause-general
 returns-then-is_done-clause-general g c = grind (arith, common_steps, leaves_none)
