@@ -95,11 +95,9 @@ pub fn join_open(queue: &Queue<u64>, a: Seat<u64>, b: Seat<u64>) -> Tally<u64>
 pub fn join_in_turn(queue: &Queue<u64>, a: Seat<u64>, b: Seat<u64>) -> Tally<u64>
     requires { IsIdleSeat queue.now.object a × IsIdleSeat queue.now.object b }
     ensures filled { (k : ℕ) (before after : List (Mark ℕ)) (m : Mark ℕ) → before ++ m ∷ after ≡ result.seen
-        → m.kind ≡ Fill k
-        → k < count puts before }
+        → m.kind ≡ Fill k → k < count puts before }
     ensures taken { (k : ℕ) (before after : List (Mark ℕ)) (m : Mark ℕ) → before ++ m ∷ after ≡ result.seen
-        → m.kind ≡ Take k
-        → Has (Fill k) before }
+        → m.kind ≡ Take k → Has (Fill k) before }
 {
     a_cell_is_put_then_filled_then_taken::<u64>();
     queue.join(Tally::of(a), b)

@@ -2,14 +2,12 @@
 use Rattle.fak_handles.proofs.Common.{◌≡◌, ℕ, suc, ◌+◌, ◌-◌, ◌<◌, List, [], ◌∷◌, length, slice_index_or, slice_set, ap, sym, subst, ◌∙◌, inl, inr, arith, get_or-set_same, get_or-set_other, HasSeat, AreSeatedBelow}
 use Rattle.std.proofs.lemmas.Bool.{cases_eq}
 use Rattle.fak_model.specs.Calls.{ObjectId, seat_info, fresh_seats}
-use Rattle.fak_files.specs.Calls.{FileSeatInfo, file_seat, idle_seats}
+use Rattle.fak_files.specs.Calls.{FileSeatInfo, file_seat, idle_seats, FileTableInfo}
 use Rattle.fak_files.specs.declared.phase.Hold.TheVariants.{Nothing}
-use Rattle.fak_sem.specs.Semaphores.{SemId, SemSeatInfo, fresh_sem_seats}
+use Rattle.fak_sem.specs.Semaphores.{SemId, SemSeatInfo, fresh_sem_seats, SemInfo, seats_of}
 use Rattle.fak_queue.specs.Queues.{QueueInfo}
 use Rattle.fak_count.specs.Rooms.{RoomInfo}
 use Rattle.fak_count.specs.Credits.{CreditInfo}
-use Rattle.fak_files.specs.Calls.{FileTableInfo}
-use Rattle.fak_sem.specs.Semaphores.{SemInfo, seats_of}
 use Rattle.fak_handles.specs.Openings.{IsFreshQueue, IsFreshRoom, IsFreshCredit, IsFreshFile, IsFreshSem, IsOpenedQueue, IsOpenedRoom, IsOpenedCredit, IsOpenedTable, IsOpenedSem}
 use Rattle.fak_handles.specs.declared.desk.Desk.{Desk}
 use Rattle.fak_handles.specs.declared.place.Place.{Place}

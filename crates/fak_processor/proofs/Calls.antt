@@ -1,10 +1,10 @@
 -- How the calls on the shared objects make a seat's own marks grow.
-use Rattle.fak_processor.proofs.Common.{◌≡◌, ℕ, Bool, true, false, List, [], ◌∷◌, ◌++◌, length, refl, ap, sym, subst, arith, inl, inr, map, ℤ, Some, None, sum_by, flat_map, append-nil, sum_by-append, Rules, SeatInfo, queue_rules, room_rules, credit_rules, put_of, got_of, Kind, Mark, RoomKind, Over, Back, RoomMark, CreditKind, Debit, Credit, CreditMark, SemInfo, SemSeatInfo, credit_part, queue_part, Downs, Ups, ScriptOf, Process, Ledger, Balanced, joined, Turning, Grows, Adds, balanced-joined, NoItem, OverOut, BackOut, empty, Owns, queue_kind, Bundle, common_steps}
+use Rattle.fak_processor.proofs.Common.{◌≡◌, ℕ, List, [], ◌∷◌, ◌++◌, length, refl, ap, sym, subst, arith, inl, inr, map, ℤ, Some, None, sum_by, flat_map, append-nil, sum_by-append, Rules, SeatInfo, queue_rules, room_rules, credit_rules, put_of, got_of, Kind, Mark, RoomKind, Over, Back, RoomMark, CreditKind, Debit, Credit, CreditMark, SemInfo, SemSeatInfo, credit_part, queue_part, Downs, Ups, ScriptOf, Process, Ledger, Balanced, joined, Turning, Grows, Adds, balanced-joined, Owns, queue_kind, Bundle, common_steps}
 use Rattle.fak_model.specs.Room as room
 use Rattle.fak_model.specs.Credit as credit
 use Rattle.fak_count.specs.Rooms as rooms
 use Rattle.fak_count.specs.Credits as credits
-use Rattle.fak_queue.proofs.Common.{made_by, Makes, Deletes, RefusesEmpty, RefusedInsertion, NotIn, WithdrawnIn, ClosedIn, WithdrawnLate, RefusedDeletion, NotOut, WithdrawnOut, kinds_not_in, kinds_not_out, kinds_in, kinds_out}
+use Rattle.fak_queue.proofs.Common.{made_by, Makes, Deletes, RefusedInsertion, NotIn, WithdrawnIn, ClosedIn, WithdrawnLate, RefusedDeletion, NotOut, WithdrawnOut, kinds_not_in, kinds_not_out, kinds_in, kinds_out}
 use Rattle.fak_processor.proofs.Tallies.{owns_more}
 
 -- ---- a seat
@@ -21,9 +21,6 @@ grows_makes {old = old} kinds m = record { name = ap (λ s. s.name) m.same_seat;
 
 pub grows_deletes : {T : Type 0} {size k : ℕ} {x : T} {old new : SeatInfo (Mark T)} → Deletes size k x old new → Grows (queue_rules size) queue_kind old new (kinds_out k x)
 grows_deletes {k = k} {x = x} d = grows_makes (kinds_out k x) d.makes
-
-pub grows_empty : {T : Type 0} {size : ℕ} {lower : ℤ} {old new : SeatInfo (Mark T)} → RefusesEmpty size lower old new → (late : Bool) × Grows (queue_rules size) queue_kind old new (empty late)
-grows_empty r = elim r.makes [ inl m ↦ (false, grows_makes (NoItem ∷ []) m) | inr m ↦ (true, grows_makes (OverOut ∷ BackOut ∷ []) m) ]
 
 pub grows_room : {kind : RoomKind} {room_is : rooms.RoomInfo} {old new : SeatInfo RoomMark} {answer : ℤ} → rooms.MakesCall kind room_is old new answer → Grows (room_rules room_is.bound) room.kind_of old new (kind ∷ [])
 grows_room {kind} c = record { name = ap (λ s. s.name) c.appends.same_seat; owns = λ before o. owns_more (kind ∷ []) c.appends refl o }

@@ -79,9 +79,8 @@ pub(crate) fn leave_all<K: Run + Send + Sync, R: Threads + Wait + Sync, G: Gate 
     requires begun { (i : ℕ) (d : _) → i < vec_len all
         → HasBegun K.script objects.now processors i (slice_index_or all.items i d) }
     ensures len { IfOk result (λ v. vec_len v ≡ vec_len all) }
-    ensures answered { IfOk result (λ v. (i : ℕ) (d : _) → i < vec_len v
-        → HasAnswered K.script objects.now processors (G.refuses gate.now) (G.answers gate.now) i
-        (slice_index_or v.items i d)) }
+    ensures answered { IfOk result (λ v. (i : ℕ) (d : _) → i < vec_len v → HasAnswered K.script objects.now processors
+        (G.refuses gate.now) (G.answers gate.now) i (slice_index_or v.items i d)) }
     ensures fault { IfErr result IsOfStart }
 {
     thread::scope(

@@ -51,8 +51,7 @@ impl<K: Run> Processor<K> {
         ensures objects { AreOf objects.now self.new }
         ensures general { IfOk result (λ _. Begins K.script [] []
             (lists.numbers_from 0 K.script.slots) [] self.old self.new) }
-        ensures alone { GoesTo K.script self.old (empty_lists K.script)
-            → IfOk result (λ _. GoesTo K.script self.new
+        ensures alone { GoesTo K.script self.old (empty_lists K.script) → IfOk result (λ _. GoesTo K.script self.new
             (record (empty_lists K.script) { free_slots = lists.numbers_from 0 K.script.slots })) }
         ensures worn { IfErr result (λ fault. fault ≡ Fault.Worn) }
     {

@@ -73,8 +73,7 @@ impl Files {
         ensures within { IfOk result (λ entry. IfSome entry (λ i. i < table.now.entries)) }
         ensures made { IfOk result (λ entry. HasMade table.now.entries
             (opened inode entry) seat.old.seat seat.new.seat) }
-        ensures only { IsOnlyFiles seat.old → IfOk result
-            (λ entry. ChangesFiles table.now.entries entry
+        ensures only { IsOnlyFiles seat.old → IfOk result (λ entry. ChangesFiles table.now.entries entry
             (open_change (entries_now table.now.entries seat.old) inode) seat.new) }
         ensures worn { IfErr result (λ fault. fault ≡ Fault.Worn) }
     {
@@ -109,8 +108,7 @@ impl Files {
         ensures within { IfOk result (λ entry. IfSome entry (λ i. i < table.now.entries)) }
         ensures made { IfOk result (λ entry. HasMade table.now.entries
             (closed inode entry) seat.old.seat seat.new.seat) }
-        ensures only { IsOnlyFiles seat.old → IfOk result
-            (λ entry. ChangesFiles table.now.entries entry
+        ensures only { IsOnlyFiles seat.old → IfOk result (λ entry. ChangesFiles table.now.entries entry
             (close_change (entries_now table.now.entries seat.old) inode) seat.new) }
         ensures worn { IfErr result (λ fault. fault ≡ Fault.Worn) }
     {

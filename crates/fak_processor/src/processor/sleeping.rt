@@ -34,8 +34,7 @@ impl<K: Run> Processor<K> {
         ensures passed { IfOk result (λ passed. IfSome passed (λ who. who ≡ sleeper)) }
         ensures gains { IfOk result (λ passed. MatchOption passed (GainsParked K.script at sleeper self.old self.new)
             (λ _. Gains K.script self.old self.new (record nothing { credits = at_one at (Debit ∷ []) }))) }
-        ensures alone { IsAlone K.script self.old
-            → IfOk result (λ passed. MatchOption passed
+        ensures alone { IsAlone K.script self.old → IfOk result (λ passed. MatchOption passed
             (SleepsLast K.script (lists_of K.script self.old) at sleeper self.new)
             (λ _. CountFalls K.script (lists_of K.script self.old) at self.new)) }
         ensures worn { IfErr result (λ fault. fault ≡ Fault.Worn) }

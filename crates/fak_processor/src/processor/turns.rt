@@ -186,8 +186,7 @@ impl<K: Run> Processor<K> {
         ensures stopped { IfOk result (λ done. done ≡ false → 1 < objects.now.ready.object.seats) }
         ensures alone { IsReached K.script self.old (lists.turn_over (lists_of K.script self.old))
             → IfOk result (λ done. done ≡ true → IsReached K.script self.new
-            (lists.turn_over (lists_of K.script self.new))
-            × ((lists_of K.script self.new).ready ≡ [])) }
+            (lists.turn_over (lists_of K.script self.new)) × ((lists_of K.script self.new).ready ≡ [])) }
         ensures passed { IfOk result (λ done. done ≡ true → G.answers gate.now number 0 true) }
         ensures fault { IfErr result (λ fault. IsOfLoop (G.refuses gate.now) fault) }
         ensures refused { IfErr result (λ fault. fault ≡ Fault.Gate → IsRefused (G.answers gate.now number)) }

@@ -1,5 +1,4 @@
-use Rattle.fak_files.proofs.Common.{rules}
-use Rattle.fak_files.proofs.Common.{◌∷◌, [], arith, Take, amount_of}
+use Rattle.fak_files.proofs.Common.{rules, ◌∷◌, [], arith, Take, amount_of}
 use Rattle.std.proofs.lemmas.Int.{ints}
 use Rattle.fak_files.proofs.Making.{makes_none, makes_one, none_then, misses_test, misses_take}
 use Rattle.fak_files.proofs.admission.admit.Goals as goal

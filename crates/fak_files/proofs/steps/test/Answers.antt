@@ -1,5 +1,4 @@
-use Rattle.fak_files.proofs.Common.{rules}
-use Rattle.fak_files.proofs.Common.{arith}
+use Rattle.fak_files.proofs.Common.{rules, arith}
 use Rattle.fak_files.proofs.StepKinds.{tests_allowed}
 use Rattle.fak_files.proofs.steps.test.Goals as goal
 

@@ -1,6 +1,5 @@
 use Rattle.std.proofs.lemmas.Grind.{common_steps}
-use Rattle.fak_run.proofs.Common.{arith}
-use Rattle.fak_run.proofs.Common.{◌∙◌, ap, sym, map, if◌then◌else◌, row_of}
+use Rattle.fak_run.proofs.Common.{arith, ◌∙◌, ap, sym, map, if◌then◌else◌, row_of}
 use Rattle.fak_run.proofs.Told.{any_stuck-told}
 use Rattle.fak_run.proofs.text.print_brief.Goals as goal
 

@@ -1,5 +1,4 @@
-use Rattle.fak_files.proofs.Common.{rules}
-use Rattle.fak_files.proofs.Common.{◌∙◌, sym, ap}
+use Rattle.fak_files.proofs.Common.{rules, ◌∙◌, sym, ap}
 use Rattle.fak_model.specs.Calls.{object_id}
 use Rattle.fak_files.proofs.SeatCalls.{ended_of, seat_ended}
 use Rattle.fak_files.proofs.table.FileTable.end.Goals as goal

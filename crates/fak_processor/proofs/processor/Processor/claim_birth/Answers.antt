@@ -1,5 +1,4 @@
-use Rattle.fak_processor.proofs.Common.{rules}
-use Rattle.fak_processor.proofs.Common.{arith}
+use Rattle.fak_processor.proofs.Common.{rules, arith}
 use Rattle.fak_processor.proofs.OnlyCounts.{claims, finds_full}
 use Rattle.fak_processor.proofs.Moving.{gains_births, refused_grows}
 use Rattle.fak_processor.proofs.Machines.{is_born, has_no_birth}

@@ -1,5 +1,4 @@
-use Rattle.fak_queue.proofs.Common.{rules}
-use Rattle.fak_queue.proofs.Common.{arith}
+use Rattle.fak_queue.proofs.Common.{rules, arith}
 use Rattle.fak_queue.proofs.Allowed.{tests_low_allowed}
 use Rattle.fak_queue.proofs.steps.deletion.test_low.Goals as goal
 

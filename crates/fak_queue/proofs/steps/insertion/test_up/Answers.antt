@@ -1,5 +1,4 @@
-use Rattle.fak_queue.proofs.Common.{rules}
-use Rattle.fak_queue.proofs.Common.{arith}
+use Rattle.fak_queue.proofs.Common.{rules, arith}
 use Rattle.fak_queue.proofs.Allowed.{tests_up_allowed}
 use Rattle.fak_queue.proofs.steps.insertion.test_up.Goals as goal
 
