@@ -102,15 +102,15 @@ fn a_history_of_each_kind_of_mark(rt: HostRuntime) {
 
 #[test]
 fn the_first_fault_of_a_history(rt: HostRuntime) {
-    const ROWS: &[(&str, TextFault)] = &[
+    const OF_HISTORY: &[(&str, TextFault)] = &[
         (r#"{"marks":7}"#, TextFault::Missing(Field::Size)),
         (r#"{"size":0,"marks":7}"#, TextFault::Range(Field::Size)),
         (r#"{"size":4097}"#, TextFault::Range(Field::Size)),
         (r#"{"size":1}"#, TextFault::Missing(Field::Marks)),
         (r#"{"size":1,"marks":{}}"#, MARKS),
     ];
-    have_faults(&rt, Input::History, "", "", ROWS);
-    const ROWS_2: &[(&str, TextFault)] = &[
+    have_faults(&rt, Input::History, "", "", OF_HISTORY);
+    const OF_MARKS: &[(&str, TextFault)] = &[
         (r#"7"#, MARKS),
         (r#"[]"#, MARKS),
         (r#"[0]"#, MARKS),
@@ -130,7 +130,13 @@ fn the_first_fault_of_a_history(rt: HostRuntime) {
         (r#"[0,"claim-in",1]"#, MARKS),
         (r#"[0,"late-in",1]"#, MARKS),
     ];
-    have_faults(&rt, Input::History, r#"{"size":1,"marks":["#, "]}", ROWS_2);
+    have_faults(
+        &rt,
+        Input::History,
+        r#"{"size":1,"marks":["#,
+        "]}",
+        OF_MARKS,
+    );
 }
 
 #[test]

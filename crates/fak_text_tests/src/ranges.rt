@@ -58,7 +58,7 @@ const PROGRAMS: Field = Field::Programs;
 
 #[test]
 fn the_numbers_of_schedules(rt: HostRuntime) {
-    const ROWS: &[Row] = &[
+    const OF_ROOM: &[Row] = &[
         (
             EXTENT,
             r#""bound":"#,
@@ -76,8 +76,8 @@ fn the_numbers_of_schedules(rt: HostRuntime) {
             Field::Seats,
         ),
     ];
-    have_ranges(&rt, r#"{"object":"room","#, ROWS);
-    const ROWS_2: &[Row] = &[
+    have_ranges(&rt, r#"{"object":"room","#, OF_ROOM);
+    const OF_QUEUE: &[Row] = &[
         (
             EXTENT,
             r#""size":"#,
@@ -95,8 +95,8 @@ fn the_numbers_of_schedules(rt: HostRuntime) {
             Field::Seats,
         ),
     ];
-    have_ranges(&rt, r#"{"object":"queue","#, ROWS_2);
-    const ROWS_3: &[Row] = &[
+    have_ranges(&rt, r#"{"object":"queue","#, OF_QUEUE);
+    const OF_ROOM_CALLS: &[Row] = &[
         (OF_ACT, r#""tir","#, "]]}", 1, 1_024, EVENTS),
         (OF_ACT, r#""release","#, "]]}", 1, 1_024, EVENTS),
         (OF_ACT, r#""step","#, "]]}", 1, 64, EVENTS),
@@ -104,16 +104,16 @@ fn the_numbers_of_schedules(rt: HostRuntime) {
     have_ranges(
         &rt,
         r#"{"object":"room","bound":1,"seats":1,"events":[[0,"#,
-        ROWS_3,
+        OF_ROOM_CALLS,
     );
-    const ROWS_4: &[Row] = &[
+    const OF_QUEUE_CALLS: &[Row] = &[
         (OF_ACT, r#""step","#, "]]}", 1, 64, EVENTS),
         (OF_ACT, r#""insert","#, "]]}", 0, MOST, EVENTS),
     ];
     have_ranges(
         &rt,
         r#"{"object":"queue","size":1,"seats":1,"events":[[0,"#,
-        ROWS_4,
+        OF_QUEUE_CALLS,
     );
 }
 
@@ -174,20 +174,20 @@ fn the_seats_of_histories(rt: HostRuntime) {
 
 #[test]
 fn the_numbers_of_histories(rt: HostRuntime) {
-    const ROWS: &[Row] = &[(SIZE, "", r#","marks":[]}"#, 1, 4_096, Field::Size)];
-    have_ranges(&rt, r#"{"size":"#, ROWS);
-    const ROWS_2: &[Row] = &[
+    const OF_HISTORY: &[Row] = &[(SIZE, "", r#","marks":[]}"#, 1, 4_096, Field::Size)];
+    have_ranges(&rt, r#"{"size":"#, OF_HISTORY);
+    const OF_MARKS: &[Row] = &[
         (OF_MARK, r#""put","#, "]]}", 0, MOST, MARKS),
         (OF_MARK, r#""fill","#, "]]}", 0, MOST, MARKS),
         (OF_MARK, r#""got","#, "]]}", 0, MOST, MARKS),
         (OF_MARK, r#""take","#, "]]}", 0, MOST, MARKS),
     ];
-    have_ranges(&rt, r#"{"size":1,"marks":[[0,"#, ROWS_2);
+    have_ranges(&rt, r#"{"size":1,"marks":[[0,"#, OF_MARKS);
 }
 
 #[test]
 fn the_numbers_of_scripts(rt: HostRuntime) {
-    const ROWS: &[Row] = &[(
+    const VERSIONS: &[Row] = &[(
         VERSION,
         "",
         r#","slots":1,"births":0,"quantum":1,"semaphores":[],"files":1,"programs":[],"start":[]}"#,
@@ -195,8 +195,8 @@ fn the_numbers_of_scripts(rt: HostRuntime) {
         2,
         Field::Version,
     )];
-    have_ranges(&rt, r#"{"version":"#, ROWS);
-    const ROWS_2: &[Row] = &[
+    have_ranges(&rt, r#"{"version":"#, VERSIONS);
+    const OF_EACH_VERSION: &[Row] = &[
         (
             SLOTS,
             r#","slots":"#,
@@ -246,8 +246,8 @@ fn the_numbers_of_scripts(rt: HostRuntime) {
             Field::Files,
         ),
     ];
-    have_ranges(&rt, r#"{"version":1"#, ROWS_2);
-    have_ranges(&rt, r#"{"version":2"#, ROWS_2);
+    have_ranges(&rt, r#"{"version":1"#, OF_EACH_VERSION);
+    have_ranges(&rt, r#"{"version":2"#, OF_EACH_VERSION);
 }
 
 const AFTER_STEP: &str = r#"]],[],[]],"start":[]}"#;

@@ -170,7 +170,7 @@ fn the_first_fault_of_the_keys(rt: HostRuntime) {
 
 #[test]
 fn the_first_fault_of_the_events(rt: HostRuntime) {
-    const ROWS: &[(&str, TextFault)] = &[
+    const OF_ROOM: &[(&str, TextFault)] = &[
         (r#"7"#, EVENTS),
         (r#"{}"#, EVENTS),
         (r#"[]"#, EVENTS),
@@ -197,8 +197,8 @@ fn the_first_fault_of_the_events(rt: HostRuntime) {
         (r#"[0,"release",0]"#, EVENTS),
         (r#"[0,"release",1025]"#, EVENTS),
     ];
-    have_faults(&rt, Input::Schedule, ROOM, "]}", ROWS);
-    const ROWS_2: &[(&str, TextFault)] = &[
+    have_faults(&rt, Input::Schedule, ROOM, "]}", OF_ROOM);
+    const OF_QUEUE: &[(&str, TextFault)] = &[
         (r#"[0,"tir",1]"#, TextFault::UnknownOp(0)),
         (r#"[0,"release",1]"#, TextFault::UnknownOp(0)),
         (r#"[0,"insert"]"#, EVENTS),
@@ -209,7 +209,7 @@ fn the_first_fault_of_the_events(rt: HostRuntime) {
         (r#"[0,"shut",1]"#, EVENTS),
         (r#"[0,"step",65]"#, EVENTS),
     ];
-    have_faults(&rt, Input::Schedule, QUEUE, "]}", ROWS_2);
+    have_faults(&rt, Input::Schedule, QUEUE, "]}", OF_QUEUE);
 }
 
 #[test]

@@ -228,7 +228,7 @@ fn the_first_fault_of_the_keys(rt: HostRuntime) {
 
 #[test]
 fn the_first_fault_of_the_programs(rt: HostRuntime) {
-    const ROWS: &[(&str, TextFault)] = &[
+    const OF_VERSION_1: &[(&str, TextFault)] = &[
         (r#"7"#, PROGRAMS),
         (r#"[7]"#, PROGRAMS),
         (r#"[[]]"#, PROGRAMS),
@@ -263,12 +263,12 @@ fn the_first_fault_of_the_programs(rt: HostRuntime) {
         (r#"[["spawn",1]]"#, PROGRAMS),
         (r#"[["spawn",2]],[]"#, PROGRAMS),
     ];
-    have_faults(&rt, Input::Script, BEFORE, AFTER, ROWS);
-    const ROWS_2: &[(&str, TextFault)] = &[
+    have_faults(&rt, Input::Script, BEFORE, AFTER, OF_VERSION_1);
+    const OF_VERSION_2: &[(&str, TextFault)] = &[
         (r#"[["shutdown",1]]"#, PROGRAMS),
         (r#"[["shutdown"],["jump"]]"#, TextFault::UnknownOp(1)),
     ];
-    have_faults(&rt, Input::Script, BEFORE_2, AFTER, ROWS_2);
+    have_faults(&rt, Input::Script, BEFORE_2, AFTER, OF_VERSION_2);
     let made = [BEFORE_2, r#"[["shutdown"]]"#, AFTER].concat(rt.alloc());
     let fault = Input::Script.fault_of(rt.alloc(), made);
     holds_at(&rt, fault == None, "shutdown");
