@@ -17,8 +17,7 @@ pub kept_counts : {A : Type 0} (size : ℕ) (st : QueueState A) (s : ℕ) (p : P
     → puts κ ≡ 0 → gots κ ≡ 0 → ((k : ℕ) → κ ≡ Fill k → ⊥) → ((k : ℕ) → κ ≡ Take k → ⊥) → (κ ≡ Close → ⊥)
     → IsKept size (record (with_mark st s p κ) { upper = U; lower = L })
 kept_counts {A} size st s p κ U L K may e r u l i d nf nt nc =
-    let m : Mark A = record { seat = s; kind = κ } in
-    let a = K.draws_in in let b = K.draws_out in
+    let m : Mark A = record { seat = s; kind = κ } in let a = K.draws_in in let b = K.draws_out in
     kept_marks size st s p κ U L st.draws_in st.draws_out st.turn st.shut K may e r u l (omega arith) (omega arith)
     (turns_plain size m st.past st.turn nf nt K.turns) (cells_plain size m st.past st.cell K.legal nf K.cells) (shuts_plain m st.past st.shut nc K.closed)
 
@@ -54,11 +53,9 @@ kept_store size st s k x z K e =
 kept_draw : {A : Type 0} (size : ℕ) (st : QueueState A) (s : ℕ) (x : A) → IsKept size st → stage st.past s ≡ ClaimedOut → item_of st.past (count gots st.past) ≡ Some x
     → IsKept size (moved st s (ticket_out st.draws_out (Some x)))
 kept_draw {A} size st s x K at it =
-    let m : Mark A = record { seat = s; kind = Got x } in
-    let u = K.upper in let l = K.lower in let a = K.draws_in in let b = K.draws_out in
+    let m : Mark A = record { seat = s; kind = Got x } in let u = K.upper in let l = K.lower in let a = K.draws_in in let b = K.draws_out in
     kept_marks size st s (TurnOut st.draws_out) (Got x) st.upper st.lower st.draws_in (st.draws_out + 1) st.turn st.shut K
-    (record { next = at; fair = tt; oldest = it; cell = tt }) (ap (λ n. Getting n) K.draws_out) tt
-    (omega (arith, ints)) (omega (arith, ints)) (omega arith) (omega arith)
+    (record { next = at; fair = tt; oldest = it; cell = tt }) (ap (λ n. Getting n) K.draws_out) tt (omega (arith, ints)) (omega (arith, ints)) (omega arith) (omega arith)
     (turns_plain size m st.past st.turn (λ k q. cc) (λ k q. cc) K.turns) (cells_plain size m st.past st.cell K.legal (λ k q. cc) K.cells) (shuts_plain m st.past st.shut (λ q. cc) K.closed)
 
 pub kept_move : {A : Type 0} (size : ℕ) (st : QueueState A) (s : ℕ) (p : Phase A) → 0 < size → IsKept size st → st.phase s ≡ p → IsKept size (move_from size st s p)
@@ -82,11 +79,9 @@ kept_move size st s (BackUp x) z K e =
     kept_counts size st s Idle BackIn (st.upper -ℤ pos 1) st.lower K (record { next = at; fair = tt; oldest = tt; cell = tt }) refl tt (omega (arith, ints)) (omega (arith, ints)) refl refl (λ k q. cc) (λ k q. cc) (λ q. cc)
 kept_move {A} size st s (TicketIn x) z K e =
     let at : stage st.past s ≡ Claimed = sym (K.phases s) ∙ ap shown e in
-    let m : Mark A = record { seat = s; kind = Put x } in
-    let u = K.upper in let l = K.lower in let a = K.draws_in in let b = K.draws_out in
+    let m : Mark A = record { seat = s; kind = Put x } in let u = K.upper in let l = K.lower in let a = K.draws_in in let b = K.draws_out in
     kept_marks size st s (TurnIn st.draws_in x) (Put x) st.upper st.lower (st.draws_in + 1) st.draws_out st.turn st.shut K
-    (record { next = at; fair = tt; oldest = tt; cell = tt }) (ap (λ n. Putting n x) K.draws_in) tt
-    (omega (arith, ints)) (omega (arith, ints)) (omega arith) (omega arith)
+    (record { next = at; fair = tt; oldest = tt; cell = tt }) (ap (λ n. Putting n x) K.draws_in) tt (omega (arith, ints)) (omega (arith, ints)) (omega arith) (omega arith)
     (turns_plain size m st.past st.turn (λ k q. cc) (λ k q. cc) K.turns) (cells_plain size m st.past st.cell K.legal (λ k q. cc) K.cells) (shuts_plain m st.past st.shut (λ q. cc) K.closed)
 kept_move {A} size st s (TurnIn k x) z K e =
     let at : stage st.past s ≡ Putting k x = sym (K.phases s) ∙ ap shown e in
@@ -97,11 +92,9 @@ kept_move size st s (StoreItem k x) z K e = kept_store size st s k x z K e
 kept_move {A} size st s (SetFull k x) z K e =
     let at : stage st.past s ≡ Putting k x = sym (K.phases s) ∙ ap shown e in
     let r : IsReady size st.past st.cell (SetFull k x) = subst (IsReady size st.past st.cell) e (K.ready s) in
-    let m : Mark A = record { seat = s; kind = Fill k } in
-    let u = K.upper in let l = K.lower in let a = K.draws_in in let b = K.draws_out in
+    let m : Mark A = record { seat = s; kind = Fill k } in let u = K.upper in let l = K.lower in let a = K.draws_in in let b = K.draws_out in
     kept_marks size st s (EndInsert k) (Fill k) st.upper st.lower st.draws_in st.draws_out (with_at st.turn (k % size) (2 * (k / size) + 1)) st.shut K
-    (record { next = (x, at); fair = tt; oldest = tt; cell = r.0 }) refl tt
-    (omega (arith, ints)) (omega (arith, ints)) (omega arith) (omega arith)
+    (record { next = (x, at); fair = tt; oldest = tt; cell = r.0 }) refl tt (omega (arith, ints)) (omega (arith, ints)) (omega arith) (omega arith)
     (turns_fill size m k st.past st.turn refl (filling size st s k x z K at r.0) K.turns)
     (cells_fill size m k x st.past st.cell K.legal refl (putting_item st.past s k x at) r.1 K.cells) (shuts_plain m st.past st.shut (λ q. cc) K.closed)
 kept_move size st s (EndInsert k) z K e =
@@ -125,16 +118,18 @@ kept_move {A} size st s TicketOut z K e =
     let it = item_there st.past (count gots st.past) (claimed_out_left size st.past K.legal s at) in
     let found : item_of st.past st.draws_out ≡ Some it.0 = ap (item_of st.past) K.draws_out ∙ it.1 in
     subst (λ o. IsKept size (moved st s (ticket_out st.draws_out o))) (sym found) (kept_draw size st s it.0 K at it.1)
-kept_move {A} size st s (TurnOut k) z K e = grind (arith, common_steps, stage, shown, by_test, moved, kept_goes, found_take, nat_tests)
-kept_move size st s (LoadItem k) z K e = grind (arith, common_steps, stage, shown, kept_goes)
+kept_move {A} size st s (TurnOut k) z K e =
+    let at : stage st.past s ≡ Getting k = sym (K.phases s) ∙ ap shown e in
+    by_test (λ (m : QueueMove A). IsKept size (moved st s m)) (st.turn (k % size) == 2 * (k / size) + 1) _ _
+    (λ b. kept_goes size st s (LoadItem k) K (sym at) (found_take size st.past st.turn k K.turns (grind (arith, nat_tests))))
+    (λ b. kept_goes size st s (TurnOut k) K (sym at) tt)
+kept_move size st s (LoadItem k) z K e = kept_goes size st s (SetFree k) K (ap shown (sym e) ∙ K.phases s) (subst (IsReady size st.past st.cell) e (K.ready s))
 kept_move {A} size st s (SetFree k) z K e =
     let at : stage st.past s ≡ Getting k = sym (K.phases s) ∙ ap shown e in
     let r : Has (Fill k) st.past = subst (IsReady size st.past st.cell) e (K.ready s) in
-    let m : Mark A = record { seat = s; kind = Take k } in
-    let u = K.upper in let l = K.lower in let a = K.draws_in in let b = K.draws_out in
+    let m : Mark A = record { seat = s; kind = Take k } in let u = K.upper in let l = K.lower in let a = K.draws_in in let b = K.draws_out in
     kept_marks size st s (EndDelete k) (Take k) st.upper st.lower st.draws_in st.draws_out (with_at st.turn (k % size) (2 * (k / size) + 2)) st.shut K
-    (record { next = at; fair = tt; oldest = tt; cell = r }) refl tt
-    (omega (arith, ints)) (omega (arith, ints)) (omega arith) (omega arith)
+    (record { next = at; fair = tt; oldest = tt; cell = r }) refl tt (omega (arith, ints)) (omega (arith, ints)) (omega arith) (omega arith)
     (turns_take size m k st.past st.turn refl (emptying size st s k K at r) K.turns)
     (cells_plain size m st.past st.cell K.legal (λ k q. cc) K.cells) (shuts_plain m st.past st.shut (λ q. cc) K.closed)
 kept_move size st s (EndDelete k) z K e =
@@ -142,11 +137,9 @@ kept_move size st s (EndDelete k) z K e =
     kept_counts size st s Idle EndOut (st.upper -ℤ pos 1) st.lower K (record { next = (k, at); fair = tt; oldest = tt; cell = tt }) refl tt (omega (arith, ints)) (omega (arith, ints)) refl refl (λ k q. cc) (λ k q. cc) (λ q. cc)
 kept_move {A} size st s SetShut z K e =
     let at : stage st.past s ≡ made.Idle = sym (K.phases s) ∙ ap shown e in
-    let m : Mark A = record { seat = s; kind = Close } in
-    let u = K.upper in let l = K.lower in let a = K.draws_in in let b = K.draws_out in
+    let m : Mark A = record { seat = s; kind = Close } in let u = K.upper in let l = K.lower in let a = K.draws_in in let b = K.draws_out in
     kept_marks size st s Idle Close st.upper st.lower st.draws_in st.draws_out st.turn true K
-    (record { next = at; fair = tt; oldest = tt; cell = tt }) refl tt
-    (omega (arith, ints)) (omega (arith, ints)) (omega arith) (omega arith)
+    (record { next = at; fair = tt; oldest = tt; cell = tt }) refl tt (omega (arith, ints)) (omega (arith, ints)) (omega arith) (omega arith)
     (turns_plain size m st.past st.turn (λ k q. cc) (λ k q. cc) K.turns) (cells_plain size m st.past st.cell K.legal (λ k q. cc) K.cells) ((λ _. inl refl), λ e. cc)
 
 -- ---- every schedule

@@ -9,3 +9,6 @@ opened w size seats phases marks items e p m n least most few = grind (arith, co
 
 pub invariant_of-result : goal.invariant_of-result
 invariant_of-result c = opened _ c.args.size c.args.seats c.in-Ok.phases.items c.new-3.result.items c.new-2.result.items c.in_ok-words.ensures.ok search rules c.new-3.ensures.items c.new-2.ensures.items (omega arith) (omega arith) (omega arith)
+
+pub returns-clause-opens : goal.returns-clause-opens
+returns-clause-opens c = grind (arith, common_steps)
