@@ -8,7 +8,7 @@ use fak_model::Kind;
 use std::alloc::AllocError;
 
 /// What a step found in its word; of a store of a turn or an item, the value stored.
-#[derive(Debug, PartialEq, Eq, Drop)]
+#[derive(Debug, Drop)]
 pub enum Found<T> {
     /// A count, or a ticket counter.
     Count(i64),
@@ -19,7 +19,7 @@ pub enum Found<T> {
 }
 
 /// What a step writes: the word, and its new value.
-#[derive(Debug, PartialEq, Eq, Drop)]
+#[derive(Debug, Drop)]
 pub enum Write<T> {
     /// The step only loads.
     Nothing,
@@ -52,7 +52,7 @@ impl<T: Copy> Clone for Write<T> {
 impl<T: Copy> Copy for Write<T> {}
 
 /// One atomic step of a seat.
-#[derive(Debug, PartialEq, Eq, Drop)]
+#[derive(Debug, Drop)]
 pub struct QueueMove<T> {
     /// Which step it is.
     pub step: CoreMove,

@@ -5,7 +5,7 @@ use crate::line::CoreMove;
 use fak_model::RoomKind;
 
 /// One atomic step of a seat: which it is, the mark that it leaves, and the count and the seat after it.
-#[derive(Clone, Copy, Debug, PartialEq, Eq)]
+#[derive(Clone, Copy, Debug)]
 pub struct RoomMove {
     pub step: CoreMove,
     pub mark: Option<RoomKind>,
