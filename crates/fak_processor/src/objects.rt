@@ -59,13 +59,9 @@ impl<K: Run> Model for Objects<K> {
 impl<K: Run> fmt::Debug for Objects<K> {
     fn fmt<W: fmt::Write>(&self, f: &mut fmt::Formatter<W>) -> fmt::Result {
         f.debug_struct("Objects")
-            .field("ready", &self.ready)
-            .field("free", &self.free)
-            .field("semaphores", &self.semaphores)
             .field("births", &self.births)
             .field("busy", &self.busy)
-            .field("files", &self.files)
             .field("alarm", &self.alarm)
-            .finish()
+            .finish_non_exhaustive()
     }
 }

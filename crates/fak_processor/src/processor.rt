@@ -117,12 +117,8 @@ impl<K: Run> Processor<K> {
 impl<K: Run> fmt::Debug for Processor<K> {
     fn fmt<W: fmt::Write>(&self, f: &mut fmt::Formatter<W>) -> fmt::Result {
         f.debug_struct("Processor")
-            .field("ready", &self.ready)
-            .field("free", &self.free)
-            .field("semaphores", &self.semaphores)
             .field("births", &self.births)
             .field("busy", &self.busy)
-            .field("files", &self.files)
             .field("ended", &self.ended)
             .field("halted", &self.halted)
             .finish_non_exhaustive()

@@ -10,14 +10,12 @@ returns-in-Ok-clause-alone g c =
 
 pub returns-in-Err-AtBound-clause-alone : goal.returns-in-Err-AtBound-clause-alone
 returns-in-Err-AtBound-clause-alone g c =
-    let call = rw c.in-Err-AtBound.field-0-is at c.in-Err-AtBound.ensures.call in
-    let held = c.in-Err-AtBound.ensures.held in
+    let call = rw c.in-Err-AtBound.field-0-is at c.in-Err-AtBound.ensures.call in let held = c.in-Err-AtBound.ensures.held in
     rw (← c.self.view_is) (λ alone. has_no_birth _ alone c.objects.invariant.1 (finds_full alone.births call.1 (omega (arith, held))))
 
 pub returns-in-Err-AtBound-clause-gains : goal.returns-in-Err-AtBound-clause-gains
 returns-in-Err-AtBound-clause-gains g c =
-    let call = rw c.in-Err-AtBound.field-0-is at c.in-Err-AtBound.ensures.call in
-    let grown = refused_grows call.1 in
+    let call = rw c.in-Err-AtBound.field-0-is at c.in-Err-AtBound.ensures.call in let grown = refused_grows call.1 in
     rw (← c.self.view_is) (grown.0, gains_births _ _ c.objects.invariant.1.births grown.1)
 
 pub returns-in-Err-Worn-clause-worn : goal.returns-in-Err-Worn-clause-worn
