@@ -3,7 +3,7 @@
 ghost use Rattle.std.specs.Prelude.{◌≡◌};
 ghost use Rattle.fak_queue.specs.Queues.{IsIdleSeat};
 
-use crate::queue_handle::{LockedQueue, QueueHandle, RingQueue, SeatQueue};
+use crate::queue_handle::{QueueHandle, SeatQueue, SharedHandle, SharedQueue};
 use crossbeam_utils::Backoff;
 use fak_queue::{Queue, Seat};
 use std::sync::Wait;
@@ -110,25 +110,13 @@ impl<'q> Attempts for SeatAttempts<'q> {
     }
 }
 
-impl<'q> Attempts for RingQueue<'q, u64> {
+impl<'q, Q: SharedQueue<Item = u64>> Attempts for SharedHandle<'q, Q> {
     fn try_put<R: Wait>(&mut self, rt: &R, number: u64) -> bool {
-        self.ring.push(rt, number).is_ok()
+        self.queue.try_push(rt, number).is_ok()
     }
 
     fn try_get<R: Wait>(&mut self, rt: &R) -> Option<u64> {
-        self.ring.pop(rt)
-    }
-
-    fn pause(&mut self) {}
-}
-
-impl<'q> Attempts for LockedQueue<'q, u64> {
-    fn try_put<R: Wait>(&mut self, rt: &R, number: u64) -> bool {
-        self.row.lock(rt).push(number).is_ok()
-    }
-
-    fn try_get<R: Wait>(&mut self, rt: &R) -> Option<u64> {
-        self.row.lock(rt).items.pop_front()
+        self.queue.try_pop(rt)
     }
 
     fn pause(&mut self) {}

@@ -3,13 +3,10 @@
 use crate::fault::Fault;
 use crate::handover::SemaphoreCase;
 use crate::queues::QueueCase;
+use crate::run::Machine;
 use crate::spread::{Spread, spread_of};
 use crate::visits::TableCase;
 use std::alloc::{AllocError, Global};
-use std::marker::Sync;
-use std::sync::Wait;
-use std::thread::Threads;
-use std::time::Clock;
 
 /// How much is measured.
 #[derive(Clone, Copy)]
@@ -31,69 +28,70 @@ pub enum Case {
 }
 
 impl Case {
-    /// Runs it once, and adds the nanoseconds for each item or call to the list; none where it is not measured at all.
-    fn once<R: Threads + Wait + Clock + Sync>(
-        &self,
-        rt: &R,
-        alloc: Global,
-        items: u64,
-        list: &mut Vec<u64>,
-    ) -> Result<(), Fault> {
-        let nanos = match self {
-            Case::Queue(case) => case.once(rt, alloc, items)?,
-            Case::Semaphore(case) => Some(case.once(rt, alloc, items)?),
-            Case::Table(case) => Some(case.once(rt, alloc, items)?),
-        };
-        if let Some(nanos) = nanos {
-            list.push(nanos)?;
+    /// Runs it once, and answers the nanoseconds for each item or call; none where it is not measured at all.
+    fn once<R: Machine>(&self, rt: &R, alloc: Global, items: u64) -> Result<Option<u64>, Fault> {
+        match self {
+            Case::Queue(case) => case.once(rt, alloc, items),
+            Case::Semaphore(case) => Ok(Some(case.once(rt, alloc, items)?)),
+            Case::Table(case) => Ok(Some(case.once(rt, alloc, items)?)),
         }
-        Ok(())
     }
 }
 
-/// Runs each case once, and adds its time to its list.
-fn round<R: Threads + Wait + Clock + Sync>(
+/// Runs each case once, and adds their times to the list.
+fn round<R: Machine>(
     rt: &R,
     alloc: Global,
     cases: &[Case],
     items: u64,
-    times: &mut [Vec<u64>],
+    times: &mut Vec<Option<u64>>,
 ) -> Result<(), Fault> {
-    for (case, list) in cases.iter().zip(times.iter_mut()) {
-        case.once(rt, alloc, items, list)?;
+    for case in cases {
+        times.push(case.once(rt, alloc, items)?)?;
     }
     Ok(())
 }
 
-/// An empty list for each case.
-fn lists_of(alloc: Global, cases: &[Case]) -> Result<Vec<Vec<u64>>, AllocError> {
-    let mut times = Vec::new(alloc);
-    for _ in cases {
-        times.push(Vec::new(alloc))?;
+/// The spread of the times at this place of each round, where a round has this many.
+fn spread_at(
+    alloc: Global,
+    times: &[Option<u64>],
+    place: usize,
+    width: usize,
+) -> Result<Option<Spread>, AllocError> {
+    let mut list = Vec::new(alloc);
+    for round in times.chunks(width.max(1)) {
+        if let Some(Some(nanos)) = round.get(place) {
+            list.push(*nanos)?;
+        }
     }
-    Ok(times)
+    spread_of(list)
 }
 
-/// The spread of each list.
-fn spreads_in(alloc: Global, times: Vec<Vec<u64>>) -> Result<Vec<Option<Spread>>, AllocError> {
+/// The spread of each place.
+fn spreads_in(
+    alloc: Global,
+    times: &[Option<u64>],
+    width: usize,
+) -> Result<Vec<Option<Spread>>, AllocError> {
     let mut spreads = Vec::new(alloc);
-    for list in times {
-        spreads.push(spread_of(list)?)?;
+    for place in 0..width {
+        spreads.push(spread_at(alloc, times, place, width)?)?;
     }
     Ok(spreads)
 }
 
 /// The times of all cases, in the same order. Each round has each case once, so that other load on the machine affects all of
 /// them alike.
-pub fn spreads_of<R: Threads + Wait + Clock + Sync>(
+pub fn spreads_of<R: Machine>(
     rt: &R,
     alloc: Global,
     cases: &[Case],
     plan: Plan,
 ) -> Result<Vec<Option<Spread>>, Fault> {
-    let mut times = lists_of(alloc, cases)?;
+    let mut times = Vec::new(alloc);
     for _ in 0..plan.rounds {
-        round(rt, alloc, cases, plan.items, times.as_mut_slice())?;
+        round(rt, alloc, cases, plan.items, &mut times)?;
     }
-    Ok(spreads_in(alloc, times)?)
+    Ok(spreads_in(alloc, times.as_slice(), cases.len())?)
 }

@@ -6,17 +6,14 @@ ghost use Rattle.throughput.specs.Plans.{IsInRange};
 use crate::case::Plan;
 use crate::fault::Fault;
 use crate::report::{measure, try_each};
+use crate::run::Machine;
 use crate::tail_table::measure_tails;
 use clap::error::ErrorKind;
 use clap::{Arg, ArgAction, ArgMatches, value_parser};
 use std::alloc::{AllocError, Global};
 use std::io::Write;
-use std::marker::Sync;
 use std::process::ExitCode;
 use std::rt::Env;
-use std::sync::Wait;
-use std::thread::Threads;
-use std::time::Clock;
 use std::{env, io};
 
 /// No more rounds than this.
@@ -24,6 +21,11 @@ const MOST_ROUNDS: u64 = 1000;
 
 /// No more items than this.
 const MOST_ITEMS: u64 = 10_000_000;
+
+/// An option without a value.
+fn flag<'a>(alloc: Global, name: &'static str) -> Arg<'a> {
+    Arg::new(alloc, name).long(name).action(ArgAction::SetTrue)
+}
 
 /// An option with a number.
 fn number<'a>(alloc: Global, name: &'static str, default: &'static str) -> Arg<'a> {
@@ -38,16 +40,8 @@ fn grammar<'a>(alloc: Global) -> Result<clap::Command<'a>, AllocError> {
     clap::Command::new(alloc, "throughput")
         .disable_help_flag(true)
         .disable_version_flag(true)
-        .arg(
-            Arg::new(alloc, "figures")
-                .long("figures")
-                .action(ArgAction::SetTrue),
-        )?
-        .arg(
-            Arg::new(alloc, "tails")
-                .long("tails")
-                .action(ArgAction::SetTrue),
-        )?
+        .arg(flag(alloc, "figures"))?
+        .arg(flag(alloc, "tails"))?
         .arg(number(alloc, "rounds", "9"))?
         .arg(number(alloc, "items", "100000"))
 }
@@ -76,6 +70,14 @@ fn plan_from(matches: &ArgMatches) -> Result<Option<Plan>, Fault>
     }
 }
 
+/// Why the words were not read.
+fn fault_of(error: &clap::Error) -> Fault {
+    match error.kind() {
+        ErrorKind::OutOfMemory => Fault::Memory,
+        _ => Fault::Usage,
+    }
+}
+
 /// What the words ask for; none where no figures are asked for. The first word is the program's name.
 pub fn plan_of(alloc: Global, words: Vec<String>) -> Result<Option<Plan>, Fault>
     ensures { IfOk result (λ asked. IfSome asked IsInRange) }
@@ -83,10 +85,7 @@ pub fn plan_of(alloc: Global, words: Vec<String>) -> Result<Option<Plan>, Fault>
     let grammar = grammar(alloc)?;
     match grammar.try_get_matches_from(words.as_slice()) {
         Ok(matches) => plan_from(&matches),
-        Err(error) => match error.kind() {
-            ErrorKind::OutOfMemory => Err(Fault::Memory),
-            _ => Err(Fault::Usage),
-        },
+        Err(error) => Err(fault_of(&error)),
     }
 }
 
@@ -100,7 +99,7 @@ fn words_of(rt: &(impl AllocGlobal + Env)) -> Result<Vec<String>, Fault> {
 }
 
 /// Prints the figures, or where none are asked for that each case was run.
-fn run<R: Print + AllocGlobal + Env + Clock + Threads + Wait + Sync>(rt: &R) -> Result<(), Fault> {
+fn run<R: Machine + Print + AllocGlobal + Env>(rt: &R) -> Result<(), Fault> {
     match plan_of(rt.alloc(), words_of(rt)?)? {
         Some(plan) if plan.tails => measure_tails(rt, rt.alloc(), plan),
         Some(plan) => measure(rt, rt.alloc(), plan),
@@ -115,7 +114,7 @@ fn run<R: Print + AllocGlobal + Env + Clock + Threads + Wait + Sync>(rt: &R) -> 
 }
 
 /// Runs the program, with its faults on `errors`.
-pub fn run_process<R: Print + AllocGlobal + Env + Clock + Threads + Wait + Sync>(
+pub fn run_process<R: Machine + Print + AllocGlobal + Env>(
     rt: &R,
     errors: &mut impl Write,
 ) -> ExitCode {

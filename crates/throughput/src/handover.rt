@@ -3,14 +3,13 @@
 ghost use Rattle.std.specs.Prelude.{◌≡◌, IfOk};
 
 use crate::fault::Fault;
-use crate::run::{Job, Passed, numbers_below, run_all};
+use crate::run::{Job, Machine, Passed, numbers_below, run_all, run_one};
 use crate::semaphore_handle::{LockedSemaphore, SeatSemaphore, SemaphoreHandle};
 use fak_queue::LONGEST_STINT;
 use fak_sem::{SemSeat, Semaphore};
 use std::alloc::Global;
-use std::marker::Sync;
 use std::sync::{Condvar, Mutex, Wait};
-use std::thread::{Parker, Threads};
+use std::thread::Parker;
 use std::time::Clock;
 
 /// A thread that goes down and up with its handle, this many times.
@@ -20,11 +19,10 @@ struct Alone<G> {
     count: u64,
 }
 
-/// One of two threads that let each other through, this many times.
+/// One of two threads that let each other through, this many times, with its own semaphore and the other's.
 #[derive(Drop)]
 struct InTurn<G> {
-    ours: G,
-    theirs: G,
+    handles: (G, G),
     count: u64,
     begins: bool,
 }
@@ -64,10 +62,11 @@ fn answer<R: Wait, G: SemaphoreHandle>(rt: &R, ours: &mut G, theirs: &mut G, cou
 impl<G: SemaphoreHandle + Send> Job for InTurn<G> {
     /// Who begins counts.
     fn work<R: Wait + Clock>(&mut self, rt: &R) -> Passed {
+        let (ours, theirs) = (&mut self.handles.0, &mut self.handles.1);
         if self.begins {
-            return serve(rt, &mut self.ours, &mut self.theirs, self.count);
+            return serve(rt, ours, theirs, self.count);
         }
-        answer(rt, &mut self.ours, &mut self.theirs, self.count);
+        answer(rt, ours, theirs, self.count);
         Passed::NONE
     }
 }
@@ -92,10 +91,7 @@ pub struct SemaphoreCase {
 type Opened = (Semaphore<()>, SemSeat<()>, SemSeat<()>);
 
 /// The semaphore with its two seats.
-fn open_semaphore(
-    alloc: Global,
-    start: u64,
-) -> Result<(Semaphore<()>, SemSeat<()>, SemSeat<()>), Fault>
+fn open_semaphore(alloc: Global, start: u64) -> Result<Opened, Fault>
     ensures { IfOk result (λ r. (r.1.object ≡ r.0.object) × (r.2.object ≡ r.0.object)) }
 {
     let Ok((semaphore, mut seats)) = Semaphore::<()>::open(alloc, start, 2, 2, LONGEST_STINT) else {
@@ -122,23 +118,23 @@ fn seat_handle<'s>(
     }
 }
 
-/// One thread with one handle.
-fn run_alone<R: Threads + Wait + Clock + Sync, G: SemaphoreHandle + Send>(
+/// One thread with one handle; a time for each down and up.
+fn run_alone<R: Machine, G: SemaphoreHandle + Send>(
     rt: &R,
     alloc: Global,
     handle: G,
     items: u64,
 ) -> Result<u64, Fault> {
-    let mut jobs = Vec::new(alloc);
-    jobs.push(Alone {
+    let job = Alone {
         handle,
         count: items,
-    })?;
-    run_all(rt, jobs, numbers_below(items))
+    };
+    let nanos = run_one(rt, alloc, job, numbers_below(items))?;
+    Ok(nanos / items.max(1))
 }
 
 /// Two threads with two handles; a time for each time that one lets the other through.
-fn run_both<R: Threads + Wait + Clock + Sync, G: SemaphoreHandle + Send>(
+fn run_both<R: Machine, G: SemaphoreHandle + Send>(
     rt: &R,
     alloc: Global,
     first: (G, G),
@@ -147,33 +143,28 @@ fn run_both<R: Threads + Wait + Clock + Sync, G: SemaphoreHandle + Send>(
 ) -> Result<u64, Fault> {
     let mut jobs = Vec::new(alloc);
     jobs.push(InTurn {
-        ours: first.0,
-        theirs: first.1,
+        handles: first,
         count: items,
         begins: true,
     })?;
     jobs.push(InTurn {
-        ours: second.0,
-        theirs: second.1,
+        handles: second,
         count: items,
         begins: false,
     })?;
-    Ok(run_all(rt, jobs, numbers_below(items))? / 2)
+    let nanos = run_all(rt, jobs, numbers_below(items))?;
+    Ok(nanos / 2 / items.max(1))
 }
 
 /// One thread at one semaphore of two seats.
-fn alone_by_seats<R: Threads + Wait + Clock + Sync>(
-    rt: &R,
-    alloc: Global,
-    items: u64,
-) -> Result<u64, Fault> {
+fn alone_by_seats<R: Machine>(rt: &R, alloc: Global, items: u64) -> Result<u64, Fault> {
     let (semaphore, seat, _other) = open_semaphore(alloc, 1)?;
     let bell = Parker::new();
     run_alone(rt, alloc, seat_handle(&semaphore, &bell, seat), items)
 }
 
 /// Two threads at these two semaphores, a seat of each for each thread.
-fn both_at<R: Threads + Wait + Clock + Sync>(
+fn both_at<R: Machine>(
     rt: &R,
     alloc: Global,
     left: Opened,
@@ -198,52 +189,46 @@ fn both_at<R: Threads + Wait + Clock + Sync>(
 }
 
 /// Two threads at two semaphores of two seats.
-fn both_by_seats<R: Threads + Wait + Clock + Sync>(
-    rt: &R,
-    alloc: Global,
-    items: u64,
-) -> Result<u64, Fault> {
+fn both_by_seats<R: Machine>(rt: &R, alloc: Global, items: u64) -> Result<u64, Fault> {
     let left = open_semaphore(alloc, 0)?;
     let right = open_semaphore(alloc, 0)?;
     both_at(rt, alloc, left, right, items)
 }
 
-impl SemaphoreCase {
-    fn by_lock<R: Threads + Wait + Clock + Sync>(
-        &self,
-        rt: &R,
-        alloc: Global,
-        items: u64,
-    ) -> Result<u64, Fault> {
-        let start = if self.is_shared { 0u64 } else { 1 };
-        let counts = (Mutex::new(start), Mutex::new(start));
-        let signals = (Condvar::new(), Condvar::new());
-        let left = || LockedSemaphore {
-            count: &counts.0,
-            risen: &signals.0,
-        };
-        let right = || LockedSemaphore {
-            count: &counts.1,
-            risen: &signals.1,
-        };
-        if !self.is_shared {
-            return run_alone(rt, alloc, left(), items);
-        }
-        run_both(rt, alloc, (left(), right()), (right(), left()), items)
-    }
+/// One thread at one count under a lock.
+fn alone_by_lock<R: Machine>(rt: &R, alloc: Global, items: u64) -> Result<u64, Fault> {
+    let count = Mutex::new(1u64);
+    let risen = Condvar::new();
+    let handle = LockedSemaphore {
+        count: &count,
+        risen: &risen,
+    };
+    run_alone(rt, alloc, handle, items)
+}
 
+/// Two threads at two counts under locks.
+fn both_by_lock<R: Machine>(rt: &R, alloc: Global, items: u64) -> Result<u64, Fault> {
+    let counts = (Mutex::new(0u64), Mutex::new(0u64));
+    let signals = (Condvar::new(), Condvar::new());
+    let left = LockedSemaphore {
+        count: &counts.0,
+        risen: &signals.0,
+    };
+    let right = LockedSemaphore {
+        count: &counts.1,
+        risen: &signals.1,
+    };
+    run_both(rt, alloc, (left, right), (right, left), items)
+}
+
+impl SemaphoreCase {
     /// Runs it once, and answers the nanoseconds for a down and an up, or for each time that one lets the other through.
-    pub fn once<R: Threads + Wait + Clock + Sync>(
-        &self,
-        rt: &R,
-        alloc: Global,
-        items: u64,
-    ) -> Result<u64, Fault> {
-        let nanos = match self.semaphore_kind {
-            SemaphoreKind::Seats if self.is_shared => both_by_seats(rt, alloc, items)?,
-            SemaphoreKind::Seats => alone_by_seats(rt, alloc, items)?,
-            SemaphoreKind::Lock => self.by_lock(rt, alloc, items)?,
-        };
-        Ok(nanos / items.max(1))
+    pub fn once<R: Machine>(&self, rt: &R, alloc: Global, items: u64) -> Result<u64, Fault> {
+        match (self.semaphore_kind, self.is_shared) {
+            (SemaphoreKind::Seats, false) => alone_by_seats(rt, alloc, items),
+            (SemaphoreKind::Seats, true) => both_by_seats(rt, alloc, items),
+            (SemaphoreKind::Lock, false) => alone_by_lock(rt, alloc, items),
+            (SemaphoreKind::Lock, true) => both_by_lock(rt, alloc, items),
+        }
     }
 }

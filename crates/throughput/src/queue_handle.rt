@@ -1,13 +1,15 @@
 //! The queues that are measured, each as one thread has it: puts and gets that wait.
 
+ghost use Rattle.std.specs.Prelude.{◌<◌};
 ghost use Rattle.fak_queue.specs.Queues.{IsIdleSeat};
 
 use crate::item::Item;
 use crossbeam_queue::ArrayQueue;
 use crossbeam_utils::Backoff;
 use fak_queue::{Queue, Seat};
-use std::alloc::Global;
+use std::alloc::{AllocError, Global};
 use std::collections::VecDeque;
+use std::marker::Sync;
 use std::sync::{Mutex, Wait};
 
 /// A queue in the hands of one thread.
@@ -42,49 +44,48 @@ impl<'q, T: Item> QueueHandle for SeatQueue<'q, T> {
     }
 }
 
-/// The kit's queue by compare-and-swap.
-#[derive(Drop)]
-pub struct RingQueue<'q, T> {
-    pub alloc: Global,
-    pub ring: &'q ArrayQueue<T>,
+/// A queue without seats, whose calls are refused where there is no room, or no item.
+pub trait SharedQueue: Sync + Drop {
+    type Item: Item;
+
+    /// An empty queue with room for this many items.
+    fn open(alloc: Global, size: usize) -> Result<Self, AllocError>
+        requires { 0 < size };
+
+    /// Puts the item in; it comes back where there is no room.
+    fn try_push<R: Wait>(&self, rt: &R, item: Self::Item) -> Result<(), Self::Item>;
+
+    /// Takes the oldest item out.
+    fn try_pop<R: Wait>(&self, rt: &R) -> Option<Self::Item>;
 }
 
-impl<'q, T: Item> QueueHandle for RingQueue<'q, T> {
-    fn put<R: Wait>(&mut self, rt: &R, number: u64) -> bool {
-        let backoff = Backoff::new();
-        let mut waiting = T::of(self.alloc, number);
-        for _ in rt.forever() {
-            match self.ring.push(rt, waiting) {
-                Ok(()) => return true,
-                Err(back) => waiting = back,
-            }
-            backoff.snooze();
-        }
-        unreachable!()
+/// The kit's queue by compare-and-swap.
+impl<T: Item + Send> SharedQueue for ArrayQueue<T> {
+    type Item = T;
+
+    fn open(alloc: Global, size: usize) -> Result<ArrayQueue<T>, AllocError> {
+        ArrayQueue::new(alloc, size)
     }
 
-    fn get<R: Wait>(&mut self, rt: &R) -> Option<u64> {
-        let backoff = Backoff::new();
-        for _ in rt.forever() {
-            if let Some(item) = self.ring.pop(rt) {
-                return Some(item.number());
-            }
-            backoff.snooze();
-        }
-        unreachable!()
+    fn try_push<R: Wait>(&self, rt: &R, item: T) -> Result<(), T> {
+        self.push(rt, item)
+    }
+
+    fn try_pop<R: Wait>(&self, rt: &R) -> Option<T> {
+        self.pop(rt)
     }
 }
 
 /// A bounded row of items.
 #[derive(Drop)]
 pub struct Row<T> {
-    pub items: VecDeque<T>,
-    pub size: usize,
+    items: VecDeque<T>,
+    size: usize,
 }
 
 impl<T: Drop> Row<T> {
     /// Puts the item in; it comes back where there is no room.
-    pub fn push(&mut self, item: T) -> Result<(), T> {
+    fn push(&mut self, item: T) -> Result<(), T> {
         if self.items.len() >= self.size {
             return Err(item);
         }
@@ -96,18 +97,36 @@ impl<T: Drop> Row<T> {
 }
 
 /// Such a row under a lock.
-#[derive(Drop)]
-pub struct LockedQueue<'q, T> {
-    pub alloc: Global,
-    pub row: &'q Mutex<Row<T>>,
+impl<T: Item + Send> SharedQueue for Mutex<Row<T>> {
+    type Item = T;
+
+    fn open(alloc: Global, size: usize) -> Result<Mutex<Row<T>>, AllocError> {
+        let items = VecDeque::with_capacity(alloc, size)?;
+        Ok(Mutex::new(Row { items, size }))
+    }
+
+    fn try_push<R: Wait>(&self, rt: &R, item: T) -> Result<(), T> {
+        self.lock(rt).push(item)
+    }
+
+    fn try_pop<R: Wait>(&self, rt: &R) -> Option<T> {
+        self.lock(rt).items.pop_front()
+    }
 }
 
-impl<'q, T: Item> QueueHandle for LockedQueue<'q, T> {
+/// A user of a queue without seats.
+#[derive(Drop)]
+pub struct SharedHandle<'q, Q> {
+    pub alloc: Global,
+    pub queue: &'q Q,
+}
+
+impl<'q, Q: SharedQueue> QueueHandle for SharedHandle<'q, Q> {
     fn put<R: Wait>(&mut self, rt: &R, number: u64) -> bool {
         let backoff = Backoff::new();
-        let mut waiting = T::of(self.alloc, number);
+        let mut waiting = Q::Item::of(self.alloc, number);
         for _ in rt.forever() {
-            match self.row.lock(rt).push(waiting) {
+            match self.queue.try_push(rt, waiting) {
                 Ok(()) => return true,
                 Err(back) => waiting = back,
             }
@@ -119,11 +138,24 @@ impl<'q, T: Item> QueueHandle for LockedQueue<'q, T> {
     fn get<R: Wait>(&mut self, rt: &R) -> Option<u64> {
         let backoff = Backoff::new();
         for _ in rt.forever() {
-            if let Some(item) = self.row.lock(rt).items.pop_front() {
+            if let Some(item) = self.queue.try_pop(rt) {
                 return Some(item.number());
             }
             backoff.snooze();
         }
         unreachable!()
     }
+}
+
+/// This many users of the queue.
+pub fn shared_handles<'q, Q: SharedQueue>(
+    alloc: Global,
+    queue: &'q Q,
+    count: u64,
+) -> Result<Vec<SharedHandle<'q, Q>>, AllocError> {
+    let mut handles = Vec::new(alloc);
+    for _ in 0..count {
+        handles.push(SharedHandle { alloc, queue })?;
+    }
+    Ok(handles)
 }

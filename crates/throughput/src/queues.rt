@@ -6,17 +6,13 @@ ghost use Rattle.throughput.specs.Seats.{AreIdleSeats};
 use crate::fault::Fault;
 use crate::item::{Item, OwnedItem};
 use crate::passing::{Passing, Workload};
-use crate::queue_handle::{LockedQueue, QueueHandle, RingQueue, Row, SeatQueue};
-use crate::run::{numbers_below, run_all};
+use crate::queue_handle::{QueueHandle, Row, SeatQueue, SharedQueue, shared_handles};
+use crate::run::{Machine, numbers_below, run_all};
 use crate::steps::time_steps;
 use crossbeam_queue::ArrayQueue;
 use fak_queue::{LONGEST_STINT, Queue, Seat};
 use std::alloc::{AllocError, Global};
-use std::collections::VecDeque;
-use std::marker::Sync;
-use std::sync::{Mutex, Wait};
-use std::thread::Threads;
-use std::time::Clock;
+use std::sync::Mutex;
 
 /// Which queue.
 #[derive(Clone, Copy)]
@@ -107,25 +103,25 @@ impl QueueCase {
     }
 
     /// One run over these handles, in nanoseconds for each item.
-    fn over<R: Threads + Wait + Clock + Sync, P: QueueHandle + Send>(
+    fn over<R: Machine, P: QueueHandle + Send>(
         &self,
         rt: &R,
         alloc: Global,
         handles: Vec<P>,
         items: u64,
-    ) -> Result<u64, Fault> {
+    ) -> Result<Option<u64>, Fault> {
         let total = self.total(items);
         let jobs = jobs_of(alloc, handles, self.pairs, items)?;
         let nanos = run_all(rt, jobs, numbers_below(total))?;
-        Ok(nanos / total.max(1))
+        Ok(Some(nanos / total.max(1)))
     }
 
-    fn by_seats<T: Item + Send, R: Threads + Wait + Clock + Sync>(
+    fn by_seats<T: Item + Send, R: Machine>(
         &self,
         rt: &R,
         alloc: Global,
         items: u64,
-    ) -> Result<u64, Fault> {
+    ) -> Result<Option<u64>, Fault> {
         let Ok((queue, seats)) = Queue::<T>::open(alloc, self.size, self.threads(), LONGEST_STINT)
         else {
             return Err(Fault::Memory);
@@ -134,57 +130,57 @@ impl QueueCase {
         self.over(rt, alloc, handles, items)
     }
 
-    fn by_ring<T: Item + Send, R: Threads + Wait + Clock + Sync>(
+    fn by_ring<T: Item + Send, R: Machine>(
         &self,
         rt: &R,
         alloc: Global,
         items: u64,
-    ) -> Result<u64, Fault> {
-        let ring = ArrayQueue::<T>::new(alloc, self.size as usize)?;
-        let mut handles = Vec::new(alloc);
-        for _ in 0..self.threads() {
-            handles.push(RingQueue { alloc, ring: &ring })?;
-        }
+    ) -> Result<Option<u64>, Fault> {
+        let ring = ArrayQueue::<T>::open(alloc, self.size as usize)?;
+        let handles = shared_handles(alloc, &ring, self.threads())?;
         self.over(rt, alloc, handles, items)
     }
 
-    fn by_lock<T: Item + Send, R: Threads + Wait + Clock + Sync>(
+    fn by_lock<T: Item + Send, R: Machine>(
         &self,
         rt: &R,
         alloc: Global,
         items: u64,
-    ) -> Result<u64, Fault> {
-        let size = self.size as usize;
-        let row = Mutex::new(Row::<T> {
-            items: VecDeque::with_capacity(alloc, size)?,
-            size,
-        });
-        let mut handles = Vec::new(alloc);
-        for _ in 0..self.threads() {
-            handles.push(LockedQueue { alloc, row: &row })?;
-        }
+    ) -> Result<Option<u64>, Fault> {
+        let row = Mutex::<Row<T>>::open(alloc, self.size as usize)?;
+        let handles = shared_handles(alloc, &row, self.threads())?;
         self.over(rt, alloc, handles, items)
     }
 
-    fn with_items<T: Item + Send, R: Threads + Wait + Clock + Sync>(
+    fn by_steps<R: Machine>(
+        &self,
+        rt: &R,
+        alloc: Global,
+        items: u64,
+    ) -> Result<Option<u64>, Fault> {
+        if self.pairs != 0 {
+            return Ok(None);
+        }
+        let nanos = time_steps(rt, alloc, self.size as usize, items)?;
+        Ok(Some(nanos / items.max(1)))
+    }
+
+    fn with_items<T: Item + Send, R: Machine>(
         &self,
         rt: &R,
         alloc: Global,
         items: u64,
     ) -> Result<Option<u64>, Fault> {
         match self.implementation {
-            Implementation::Seats => self.by_seats::<T, R>(rt, alloc, items).map(Some),
-            Implementation::Ring => self.by_ring::<T, R>(rt, alloc, items).map(Some),
-            Implementation::Lock => self.by_lock::<T, R>(rt, alloc, items).map(Some),
-            Implementation::Steps if self.pairs == 0 => {
-                Ok(Some(time_steps(rt, alloc, self.size as usize, items)? / items.max(1)))
-            }
-            Implementation::Steps => Ok(None),
+            Implementation::Seats => self.by_seats::<T, R>(rt, alloc, items),
+            Implementation::Ring => self.by_ring::<T, R>(rt, alloc, items),
+            Implementation::Lock => self.by_lock::<T, R>(rt, alloc, items),
+            Implementation::Steps => self.by_steps(rt, alloc, items),
         }
     }
 
     /// Runs it once, and answers the nanoseconds for each item; none for the steps of several threads.
-    pub fn once<R: Threads + Wait + Clock + Sync>(
+    pub fn once<R: Machine>(
         &self,
         rt: &R,
         alloc: Global,

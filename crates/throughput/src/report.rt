@@ -6,13 +6,10 @@ use crate::case::{Case, Plan, spreads_of};
 use crate::fault::Fault;
 use crate::handover::{SemaphoreCase, SemaphoreKind};
 use crate::queues::{Implementation, ItemKind, QueueCase};
+use crate::run::Machine;
 use crate::table::Table;
 use crate::visits::{TableCase, TableKind};
 use std::alloc::{AllocError, Global};
-use std::marker::Sync;
-use std::sync::Wait;
-use std::thread::Threads;
-use std::time::Clock;
 
 /// How much a run without figures does.
 const SHORT: Plan = Plan {
@@ -149,11 +146,7 @@ fn print_head<R: Print>(rt: &R, plan: Plan) -> Result<(), Fault> {
 }
 
 /// Measures everything and prints the tables.
-pub fn measure<R: Threads + Wait + Clock + Print + Sync>(
-    rt: &R,
-    alloc: Global,
-    plan: Plan,
-) -> Result<(), Fault> {
+pub fn measure<R: Machine + Print>(rt: &R, alloc: Global, plan: Plan) -> Result<(), Fault> {
     print_head(rt, plan)?;
     for &(title, subject) in TABLES {
         table_of(alloc, title, subject)?.print(rt, alloc, plan)?;
@@ -162,17 +155,13 @@ pub fn measure<R: Threads + Wait + Clock + Print + Sync>(
 }
 
 /// Makes one short run of each of these cases. Answers how many there were.
-fn runs_of<R: Threads + Wait + Clock + Sync>(
-    rt: &R,
-    alloc: Global,
-    cases: &[Case],
-) -> Result<usize, Fault> {
+fn runs_of<R: Machine>(rt: &R, alloc: Global, cases: &[Case]) -> Result<usize, Fault> {
     let spreads = spreads_of(rt, alloc, cases, SHORT)?;
     Ok(spreads.iter().flatten().count())
 }
 
 /// Makes one short run of each case. Answers how many there were.
-pub fn try_each<R: Threads + Wait + Clock + Sync>(rt: &R, alloc: Global) -> Result<usize, Fault> {
+pub fn try_each<R: Machine>(rt: &R, alloc: Global) -> Result<usize, Fault> {
     let mut runs = 0usize;
     for &(title, subject) in TABLES {
         let table = table_of(alloc, title, subject)?;

@@ -3,7 +3,7 @@
 ghost use Rattle.std.specs.Prelude.{◌≡◌, ◌-◌, ◌*◌, ◌/◌, ◌^◌, ◌<◌, IfOk};
 
 use crate::fault::Fault;
-use std::marker::Sync;
+use std::alloc::Global;
 use std::sync::Wait;
 use std::sync::atomic::{AtomicU64, Ordering};
 use std::thread;
@@ -48,6 +48,11 @@ pub fn numbers_below(end: u64) -> Passed
         sum: end.saturating_mul(end.saturating_sub(1)) / 2,
     }
 }
+
+/// What a run takes: threads that may wait, and a clock that they share.
+pub trait Machine: Threads + Wait + Clock + Sync {}
+
+impl<R: Threads + Wait + Clock + Sync> Machine for R {}
 
 /// What one thread does in a run.
 pub trait Job: Send + Drop {
@@ -142,15 +147,23 @@ fn nanos_of(lap: Lap, expected: Passed) -> Result<u64, Fault>
 
 /// Does all jobs, each in a thread of its own, and answers the nanoseconds that they took together. `Lost` where another
 /// count or sum than expected comes out.
-pub fn run_all<R: Threads + Wait + Clock + Sync, J: Job>(
-    rt: &R,
-    jobs: Vec<J>,
-    expected: Passed,
-) -> Result<u64, Fault> {
+pub fn run_all<R: Machine, J: Job>(rt: &R, jobs: Vec<J>, expected: Passed) -> Result<u64, Fault> {
     let threads = jobs.len() as u64;
     let come = AtomicU64::new(0);
     let here = &come;
     let part = move |mut job: J| -> Result<Lap, Fault> { timed(rt, here, threads, &mut job) };
     let laps = map_vec(rt, jobs, &part)?;
     nanos_of(whole(laps.as_slice())?, expected)
+}
+
+/// Does this job in a thread of its own, and answers as `run_all` does.
+pub fn run_one<R: Machine, J: Job>(
+    rt: &R,
+    alloc: Global,
+    job: J,
+    expected: Passed,
+) -> Result<u64, Fault> {
+    let mut jobs = Vec::new(alloc);
+    jobs.push(job)?;
+    run_all(rt, jobs, expected)
 }

@@ -50,7 +50,7 @@ impl<'s> SemaphoreHandle for SeatSemaphore<'s> {
 }
 
 /// A count under a lock, and those that wait for it to rise.
-#[derive(Drop)]
+#[derive(Clone, Copy, Drop)]
 pub struct LockedSemaphore<'s> {
     pub count: &'s Mutex<u64>,
     pub risen: &'s Condvar,

@@ -1,13 +1,11 @@
 //! The atomic steps of the queue by themselves: what one insertion and one deletion of one thread take, without the item.
 
 use crate::fault::Fault;
-use crate::run::{Job, Passed, numbers_below, run_all};
+use crate::run::{Job, Machine, Passed, numbers_below, run_one};
 use crossbeam_utils::CachePadded;
-use std::alloc::Global;
-use std::marker::Sync;
+use std::alloc::{AllocError, Global};
 use std::sync::Wait;
 use std::sync::atomic::{AtomicU64, Ordering};
-use std::thread::Threads;
 use std::time::Clock;
 
 /// The words of a queue, as far from one another as there.
@@ -18,6 +16,23 @@ struct Words {
     draws_in: CachePadded<AtomicU64>,
     draws_out: CachePadded<AtomicU64>,
     turns: Vec<AtomicU64>,
+}
+
+impl Words {
+    /// The words of a queue of this many cells.
+    fn new(alloc: Global, cells: usize) -> Result<Words, AllocError> {
+        let mut turns = Vec::new(alloc);
+        for _ in 0..cells {
+            turns.push(AtomicU64::new(0))?;
+        }
+        Ok(Words {
+            upper: CachePadded::new(AtomicU64::new(0)),
+            lower: CachePadded::new(AtomicU64::new(0)),
+            draws_in: CachePadded::new(AtomicU64::new(0)),
+            draws_out: CachePadded::new(AtomicU64::new(0)),
+            turns,
+        })
+    }
 }
 
 /// One thread that makes the steps this many times.
@@ -72,27 +87,16 @@ impl<'w> Job for Walk<'w> {
 }
 
 /// The nanoseconds of the steps of this many items, at this many cells.
-pub fn time_steps<R: Threads + Wait + Clock + Sync>(
+pub fn time_steps<R: Machine>(
     rt: &R,
     alloc: Global,
     cells: usize,
     items: u64,
 ) -> Result<u64, Fault> {
-    let mut turns = Vec::new(alloc);
-    for _ in 0..cells {
-        turns.push(AtomicU64::new(0))?;
-    }
-    let words = Words {
-        upper: CachePadded::new(AtomicU64::new(0)),
-        lower: CachePadded::new(AtomicU64::new(0)),
-        draws_in: CachePadded::new(AtomicU64::new(0)),
-        draws_out: CachePadded::new(AtomicU64::new(0)),
-        turns,
-    };
-    let mut jobs = Vec::new(alloc);
-    jobs.push(Walk {
+    let words = Words::new(alloc, cells)?;
+    let walk = Walk {
         words: &words,
         count: items,
-    })?;
-    run_all(rt, jobs, numbers_below(items))
+    };
+    run_one(rt, alloc, walk, numbers_below(items))
 }

@@ -2,12 +2,9 @@
 
 use crate::case::{Case, Plan, spreads_of};
 use crate::fault::Fault;
+use crate::run::Machine;
 use crate::spread::Spread;
 use std::alloc::{AllocError, Global};
-use std::marker::Sync;
-use std::sync::Wait;
-use std::thread::Threads;
-use std::time::Clock;
 
 /// A table: its title, the heads of its columns and its rows, each with the cases of its columns.
 #[derive(Drop)]
@@ -22,7 +19,7 @@ pub struct Table {
 fn add_figures(line: &mut String, spread: &Option<Spread>) -> Result<(), AllocError> {
     match spread {
         Some(s) => write!(line, " |{:>6} {:>6} {:>6}", s.best, s.median, s.worst),
-        None => write!(line, " |{:>6} {:>6} {:>6}", "-", "-", "-"),
+        None => line.push_str(" |     -      -      -"),
     }
 }
 
@@ -49,7 +46,7 @@ fn heads_of(alloc: Global, table: &Table) -> Result<String, AllocError> {
 }
 
 /// Prints this text and the end of a line.
-fn print_line<R: Print>(rt: &R, line: Result<String, AllocError>) -> Result<(), Fault> {
+pub fn print_line<R: Print>(rt: &R, line: Result<String, AllocError>) -> Result<(), Fault> {
     println!(rt; "{}", line?)?;
     Ok(())
 }
@@ -70,7 +67,7 @@ impl Table {
     }
 
     /// Measures all cases and prints the table.
-    pub fn print<R: Threads + Wait + Clock + Print + Sync>(
+    pub fn print<R: Machine + Print>(
         &self,
         rt: &R,
         alloc: Global,

@@ -33,29 +33,35 @@ pub fn tail_of(mut times: Vec<u64>) -> Result<Option<Tail>, AllocError>
     }))
 }
 
-/// The middle one of these numbers, in rising order; none of none.
-fn middle_of(mut numbers: Vec<u64>) -> Result<Option<u64>, AllocError> {
-    numbers.sort()?;
-    Ok(numbers.get(numbers.len() / 2).copied())
+impl Tail {
+    /// The figure at this place.
+    fn figure(&self, place: u64) -> u64 {
+        match place {
+            0 => self.median,
+            1 => self.hundredth,
+            2 => self.thousandth,
+            _ => self.worst,
+        }
+    }
+}
+
+/// The middle one of the figures at this place, in rising order; none of none.
+fn middle_of(alloc: Global, tails: &[Tail], place: u64) -> Result<Option<u64>, AllocError> {
+    let mut figures = Vec::new(alloc);
+    for tail in tails {
+        figures.push(tail.figure(place))?;
+    }
+    figures.sort()?;
+    Ok(figures.get(figures.len() / 2).copied())
 }
 
 /// The middle ones of these tails, each figure by itself; none of none.
 pub fn middle_tail(alloc: Global, tails: &[Tail]) -> Result<Option<Tail>, AllocError> {
-    let mut medians = Vec::new(alloc);
-    let mut hundredths = Vec::new(alloc);
-    let mut thousandths = Vec::new(alloc);
-    let mut worsts = Vec::new(alloc);
-    for tail in tails {
-        medians.push(tail.median)?;
-        hundredths.push(tail.hundredth)?;
-        thousandths.push(tail.thousandth)?;
-        worsts.push(tail.worst)?;
-    }
     let found = (
-        middle_of(medians)?,
-        middle_of(hundredths)?,
-        middle_of(thousandths)?,
-        middle_of(worsts)?,
+        middle_of(alloc, tails, 0)?,
+        middle_of(alloc, tails, 1)?,
+        middle_of(alloc, tails, 2)?,
+        middle_of(alloc, tails, 3)?,
     );
     match found {
         (Some(median), Some(hundredth), Some(thousandth), Some(worst)) => Ok(Some(Tail {

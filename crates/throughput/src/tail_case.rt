@@ -5,19 +5,15 @@ ghost use Rattle.throughput.specs.Seats.{AreIdleSeats};
 
 use crate::attempts::{Attempts, Manner, NoQueue, SeatAttempts};
 use crate::fault::Fault;
-use crate::queue_handle::{LockedQueue, RingQueue, Row, SeatQueue};
+use crate::queue_handle::{Row, SeatQueue, SharedQueue, shared_handles};
 use crate::queues::part_of;
-use crate::run::{numbers_below, run_all};
+use crate::run::{Machine, numbers_below, run_all};
 use crate::tail::{Tail, tail_of};
 use crate::timing::Timing;
 use crossbeam_queue::ArrayQueue;
 use fak_queue::{LONGEST_STINT, Queue, Seat};
 use std::alloc::{AllocError, Global};
-use std::collections::VecDeque;
-use std::marker::Sync;
-use std::sync::{Mutex, Wait};
-use std::thread::Threads;
-use std::time::Clock;
+use std::sync::Mutex;
 
 /// Whose calls are timed.
 #[derive(Clone, Copy)]
@@ -89,7 +85,7 @@ impl TailCase {
     }
 
     /// One run over these handles: the tail of the times of all calls.
-    fn over<R: Threads + Wait + Clock + Sync, P: Attempts + Send>(
+    fn over<R: Machine, P: Attempts + Send>(
         &self,
         rt: &R,
         alloc: Global,
@@ -107,7 +103,7 @@ impl TailCase {
         Ok(tail_of(times)?)
     }
 
-    fn by_seats<R: Threads + Wait + Clock + Sync>(
+    fn by_seats<R: Machine>(
         &self,
         rt: &R,
         alloc: Global,
@@ -123,39 +119,18 @@ impl TailCase {
         self.over(rt, alloc, handles, items)
     }
 
-    fn by_ring<R: Threads + Wait + Clock + Sync>(
+    fn by_shared<Q: SharedQueue<Item = u64>, R: Machine>(
         &self,
         rt: &R,
         alloc: Global,
         items: u64,
     ) -> Result<Option<Tail>, Fault> {
-        let ring = ArrayQueue::<u64>::new(alloc, self.size as usize)?;
-        let mut handles = Vec::new(alloc);
-        for _ in 0..self.threads() {
-            handles.push(RingQueue { alloc, ring: &ring })?;
-        }
+        let queue = Q::open(alloc, self.size as usize)?;
+        let handles = shared_handles(alloc, &queue, self.threads())?;
         self.over(rt, alloc, handles, items)
     }
 
-    fn by_lock<R: Threads + Wait + Clock + Sync>(
-        &self,
-        rt: &R,
-        alloc: Global,
-        items: u64,
-    ) -> Result<Option<Tail>, Fault> {
-        let size = self.size as usize;
-        let row = Mutex::new(Row::<u64> {
-            items: VecDeque::with_capacity(alloc, size)?,
-            size,
-        });
-        let mut handles = Vec::new(alloc);
-        for _ in 0..self.threads() {
-            handles.push(LockedQueue { alloc, row: &row })?;
-        }
-        self.over(rt, alloc, handles, items)
-    }
-
-    fn by_clock<R: Threads + Wait + Clock + Sync>(
+    fn by_clock<R: Machine>(
         &self,
         rt: &R,
         alloc: Global,
@@ -172,7 +147,7 @@ impl TailCase {
     }
 
     /// Runs it once, and answers the tail of the times of all calls; none for the clock of several pairs.
-    pub fn once<R: Threads + Wait + Clock + Sync>(
+    pub fn once<R: Machine>(
         &self,
         rt: &R,
         alloc: Global,
@@ -180,8 +155,8 @@ impl TailCase {
     ) -> Result<Option<Tail>, Fault> {
         match self.caller {
             Caller::Seat { manner, pauses } => self.by_seats(rt, alloc, items, manner, pauses),
-            Caller::Ring => self.by_ring(rt, alloc, items),
-            Caller::Lock => self.by_lock(rt, alloc, items),
+            Caller::Ring => self.by_shared::<ArrayQueue<u64>, R>(rt, alloc, items),
+            Caller::Lock => self.by_shared::<Mutex<Row<u64>>, R>(rt, alloc, items),
             Caller::Clock => self.by_clock(rt, alloc, items),
         }
     }

@@ -5,13 +5,12 @@ ghost use Rattle.std.specs.Prelude.{◌<◌};
 use crate::attempts::Manner;
 use crate::case::Plan;
 use crate::fault::Fault;
+use crate::run::Machine;
+use crate::table::print_line;
 use crate::tail::{Tail, middle_tail};
 use crate::tail_case::{Caller, TailCase};
 use std::alloc::{AllocError, Global};
-use std::marker::Sync;
 use std::sync::Wait;
-use std::thread::Threads;
-use std::time::Clock;
 
 /// The rows of each table.
 const ROWS: &[(&str, Caller)] = &[
@@ -69,7 +68,7 @@ const TABLES: &[(&str, u64)] = &[("8 cells", 8), ("1,024 cells", 1024)];
 const COLUMNS: &[(&str, u64)] = &[("1 pair", 1), ("2 pairs", 2), ("4 pairs", 4)];
 
 /// The middle figures of all rounds of a case.
-fn tail_in_rounds<R: Threads + Wait + Clock + Sync>(
+fn tail_in_rounds<R: Machine>(
     rt: &R,
     alloc: Global,
     case: &TailCase,
@@ -92,27 +91,27 @@ fn add_figures(line: &mut String, found: Option<Tail>) -> Result<(), AllocError>
             " |{:>6} {:>7} {:>8} {:>9}",
             tail.median, tail.hundredth, tail.thousandth, tail.worst
         ),
-        None => write!(line, " |{:>6} {:>7} {:>8} {:>9}", "-", "-", "-", "-"),
+        None => line.push_str(" |     -       -        -         -"),
     }
 }
 
-/// The line over the others: the title, and the heads of the columns.
+/// The lines over the others: an empty one, the title, and the heads of the columns.
 fn heads_of(alloc: Global, title: &str) -> Result<String, AllocError> {
-    let mut line = format!(in alloc; "{title:<25}")?;
+    let mut line = format!(in alloc; "\n{title:<25}")?;
     for (column, _) in COLUMNS {
         write!(line, " |{column:>33}")?;
     }
     Ok(line)
 }
 
-/// The line of this row, in a table of queues of this many cells.
-fn line_of<R: Threads + Wait + Clock + Sync>(
+/// Measures this row of a table of queues of this many cells, and prints it.
+fn print_row<R: Machine + Print>(
     rt: &R,
     alloc: Global,
     row: &(&str, Caller),
     size: u64,
     plan: Plan,
-) -> Result<String, Fault>
+) -> Result<(), Fault>
     requires { 0 < size }
 {
     let mut line = format!(in alloc; "{:<25}", row.0)?;
@@ -124,38 +123,33 @@ fn line_of<R: Threads + Wait + Clock + Sync>(
         };
         add_figures(&mut line, tail_in_rounds(rt, alloc, &case, plan)?)?;
     }
-    Ok(line)
+    print_line(rt, Ok(line))
 }
 
-/// Measures the rows of a table of queues of this many cells, and prints them.
-fn print_rows<R: Threads + Wait + Clock + Print + Sync>(
-    rt: &R,
-    alloc: Global,
-    size: u64,
-    plan: Plan,
-) -> Result<(), Fault>
+/// Measures the rows of such a table, and prints them.
+fn print_rows<R: Machine + Print>(rt: &R, alloc: Global, size: u64, plan: Plan) -> Result<(), Fault>
     requires { 0 < size }
 {
     for row in ROWS {
-        let line = line_of(rt, alloc, row, size, plan)?;
-        println!(rt; "{line}")?;
+        print_row(rt, alloc, row, size, plan)?;
     }
     Ok(())
 }
 
-/// Measures all cases and prints the tables. A queue has one cell at least.
-pub fn measure_tails<R: Threads + Wait + Clock + Print + Sync>(
-    rt: &R,
-    alloc: Global,
-    plan: Plan,
-) -> Result<(), Fault> {
+/// Prints the line over all tables.
+fn print_head<R: Print>(rt: &R, plan: Plan) -> Result<(), Fault> {
     println!(rt;
         "Nanoseconds for a single call that is not refused: median, 99 %, 99.9 % and worst; of each the middle of {} rounds, with {} items of each producer",
         plan.rounds, plan.items
     )?;
+    Ok(())
+}
+
+/// Measures all cases and prints the tables. A queue has one cell at least.
+pub fn measure_tails<R: Machine + Print>(rt: &R, alloc: Global, plan: Plan) -> Result<(), Fault> {
+    print_head(rt, plan)?;
     for (title, size) in TABLES {
-        let heads = heads_of(alloc, title)?;
-        println!(rt; "\n{heads}")?;
+        print_line(rt, heads_of(alloc, title))?;
         print_rows(rt, alloc, (*size).max(1), plan)?;
     }
     Ok(())

@@ -5,13 +5,11 @@ ghost use Rattle.throughput.specs.Seats.{AreFree};
 
 use crate::entry_handle::{EntryHandle, LockedEntry, ReadersEntry, SeatEntry};
 use crate::fault::Fault;
-use crate::run::{Job, Passed, run_all};
+use crate::run::{Job, Machine, Passed, run_all};
 use fak_files::{FileEntry, FileSeat, FileTable};
 use fak_queue::LONGEST_STINT;
 use std::alloc::{AllocError, Global};
-use std::marker::Sync;
 use std::sync::{Mutex, RwLock, Wait};
-use std::thread::Threads;
 use std::time::Clock;
 
 /// An entry that nobody has written.
@@ -98,7 +96,7 @@ impl TableCase {
     }
 
     /// One run over these handles and one more, by which the entry is read at the end.
-    fn over<R: Threads + Wait + Clock + Sync, S: EntryHandle + Send>(
+    fn over<R: Machine, S: EntryHandle + Send>(
         &self,
         rt: &R,
         alloc: Global,
@@ -125,12 +123,7 @@ impl TableCase {
         }
     }
 
-    fn by_seats<R: Threads + Wait + Clock + Sync>(
-        &self,
-        rt: &R,
-        alloc: Global,
-        items: u64,
-    ) -> Result<u64, Fault> {
+    fn by_seats<R: Machine>(&self, rt: &R, alloc: Global, items: u64) -> Result<u64, Fault> {
         let seats = self.threads.saturating_add(1);
         let Ok((table, seats)) = FileTable::open(alloc, 1, seats, LONGEST_STINT) else {
             return Err(Fault::Memory);
@@ -139,24 +132,14 @@ impl TableCase {
         self.over(rt, alloc, handles, items)
     }
 
-    fn by_readers<R: Threads + Wait + Clock + Sync>(
-        &self,
-        rt: &R,
-        alloc: Global,
-        items: u64,
-    ) -> Result<u64, Fault> {
+    fn by_readers<R: Machine>(&self, rt: &R, alloc: Global, items: u64) -> Result<u64, Fault> {
         let entry = RwLock::new(BLANK);
         let seats = self.threads.saturating_add(1);
         let handles = copies_of(alloc, ReadersEntry { entry: &entry }, seats)?;
         self.over(rt, alloc, handles, items)
     }
 
-    fn by_lock<R: Threads + Wait + Clock + Sync>(
-        &self,
-        rt: &R,
-        alloc: Global,
-        items: u64,
-    ) -> Result<u64, Fault> {
+    fn by_lock<R: Machine>(&self, rt: &R, alloc: Global, items: u64) -> Result<u64, Fault> {
         let entry = Mutex::new(BLANK);
         let seats = self.threads.saturating_add(1);
         let handles = copies_of(alloc, LockedEntry { entry: &entry }, seats)?;
@@ -164,12 +147,7 @@ impl TableCase {
     }
 
     /// Runs it once, and answers the nanoseconds for each call.
-    pub fn once<R: Threads + Wait + Clock + Sync>(
-        &self,
-        rt: &R,
-        alloc: Global,
-        items: u64,
-    ) -> Result<u64, Fault> {
+    pub fn once<R: Machine>(&self, rt: &R, alloc: Global, items: u64) -> Result<u64, Fault> {
         match self.table_kind {
             TableKind::Seats => self.by_seats(rt, alloc, items),
             TableKind::Readers => self.by_readers(rt, alloc, items),
