@@ -37,7 +37,7 @@ fn insert_two<R: Abort + Wait>(
 #[test]
 fn values_are_dropped_once(rt: HostRuntime) {
     let shared = Arc::new(rt.alloc(), 7u8).expect(&rt, "memory");
-    let (queue, mut seats) = open::<Arc<u8>>(&rt, rt.alloc(), (4, 2, 100));
+    let (queue, mut seats) = open::<Arc<u8>>(&rt, (4, 2, 100));
     let mut a = take(&rt, &queue, &mut seats);
     insert_two(&rt, &queue, &mut a, &shared);
     let claimed = queue.claim_insert(&mut a, held(&rt, &shared)).ok();
@@ -53,7 +53,7 @@ fn values_are_dropped_once(rt: HostRuntime) {
 #[test]
 fn what_a_rest_hands_out_is_moved(rt: HostRuntime) {
     let shared = Arc::new(rt.alloc(), 7u8).expect(&rt, "memory");
-    let (queue, mut a) = open_one::<Arc<u8>>(&rt, rt.alloc(), 4, 100);
+    let (queue, mut a) = open_one::<Arc<u8>>(&rt, 4, 100);
     insert_two(&rt, &queue, &mut a, &shared);
     let mut rest = close(&rt, queue, Tally::of(a));
     let first = rest.next();

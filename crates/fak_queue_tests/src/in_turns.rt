@@ -80,7 +80,7 @@ fn run_all<R: Abort + Threads + Wait + Sync>(
 
 #[test]
 fn four_threads_that_take_turns(rt: HostRuntime) {
-    let (queue, seats) = open(&rt, rt.alloc(), (3, 4, 100));
+    let (queue, seats) = open(&rt, (3, 4, 100));
     let seats = run_all(&rt, &queue, seats);
     leaves_two(&rt, queue, seats);
 }

@@ -1,7 +1,6 @@
 //! Numbers and loads to insert, and what is asked of those that come out.
 
 use super::assertions::assert_equal;
-use std::alloc::Global;
 use std::process::Abort;
 
 /// A value that is moved and never copied: its parts are three times its number.
@@ -17,8 +16,8 @@ pub fn add<T: Drop>(rt: &impl Abort, list: &mut Vec<T>, item: T) {
 }
 
 /// The numbers from `first` on, fifty of them, the last first.
-pub fn fifty<R: Abort>(rt: &R, alloc: Global, first: u64) -> Vec<u64> {
-    let mut items = Vec::new(alloc);
+pub fn fifty<R: Abort + AllocGlobal>(rt: &R, first: u64) -> Vec<u64> {
+    let mut items = Vec::new(rt.alloc());
     for i in 0..50u64 {
         add(rt, &mut items, first.wrapping_add(49 - i));
     }
@@ -26,16 +25,16 @@ pub fn fifty<R: Abort>(rt: &R, alloc: Global, first: u64) -> Vec<u64> {
 }
 
 /// The load with this number.
-fn load_of(rt: &impl Abort, alloc: Global, id: u64) -> Load {
-    let parts = Vec::from_elem(alloc, id, 3).expect(rt, "memory for a load");
+fn load_of(rt: &(impl Abort + AllocGlobal), id: u64) -> Load {
+    let parts = Vec::from_elem(rt.alloc(), id, 3).expect(rt, "memory for a load");
     Load { id, parts }
 }
 
 /// Loads with these numbers.
-pub fn loads_of(rt: &impl Abort, alloc: Global, ids: &[u64]) -> Vec<Load> {
-    let mut loads = Vec::new(alloc);
+pub fn loads_of(rt: &(impl Abort + AllocGlobal), ids: &[u64]) -> Vec<Load> {
+    let mut loads = Vec::new(rt.alloc());
     for id in ids {
-        add(rt, &mut loads, load_of(rt, alloc, *id));
+        add(rt, &mut loads, load_of(rt, *id));
     }
     loads
 }
@@ -47,8 +46,8 @@ fn id_of(rt: &impl Abort, load: &Load) -> u64 {
 }
 
 /// The numbers of loads that came out as they went in.
-pub fn ids_of(rt: &impl Abort, alloc: Global, loads: &[Load]) -> Vec<u64> {
-    let mut ids = Vec::new(alloc);
+pub fn ids_of(rt: &(impl Abort + AllocGlobal), loads: &[Load]) -> Vec<u64> {
+    let mut ids = Vec::new(rt.alloc());
     for load in loads {
         add(rt, &mut ids, id_of(rt, load));
     }

@@ -3,12 +3,12 @@
 ghost use Rattle.std.specs.Prelude.{◌≡◌, All};
 
 use super::assertions::{assert_equal, assert_left};
-use super::steps::{A, B, C, D, Step, close_all, joined, open, repeat, walk};
+use super::steps::{A, B, C, D, Step, close_all, joined, open, take_any, walk};
 use fak_queue::{InsertFault, Queue, Seat, SeatState};
 use std::process::Abort;
 
 /// Cells wait for their turns: the second item is out before the first is in.
-pub const CELLS_WAIT: [(usize, Step<u64>); 16] = [
+pub const CELLS_WAIT: &[(usize, Step<u64>)] = &[
     (A, Step::ClaimInsert(10, Ok(0))),
     (A, Step::State(SeatState::Inserting(0))),
     (B, Step::ClaimInsert(11, Ok(1))),
@@ -36,25 +36,27 @@ pub fn leaves_two(rt: &impl Abort, queue: Queue<u64>, seats: Vec<Seat<u64>>)
 
 #[test]
 fn four_seats_over_three_cells(rt: HostRuntime) {
-    let (queue, mut seats) = open(&rt, rt.alloc(), (3, 4, 100));
-    walk(&rt, &queue, &mut seats, CELLS_WAIT.as_slice());
+    let (queue, mut seats) = open(&rt, (3, 4, 100));
+    walk(&rt, &queue, &mut seats, CELLS_WAIT);
     leaves_two(&rt, queue, seats);
 }
 
 #[test]
 fn cells_that_are_looked_at_a_hundred_times(rt: HostRuntime) {
-    let (queue, mut seats) = open(&rt, rt.alloc(), (3, 4, 100));
+    const LOOK_FOR_ITEM: (usize, Step<u64>) = (C, Step::TryTake(None));
+    const LOOK_FOR_ROOM: (usize, Step<u64>) = (B, Step::TryFill(None));
+    let (queue, mut seats) = open(&rt, (3, 4, 100));
     walk(&rt, &queue, &mut seats, &CELLS_WAIT[..5]);
-    repeat(&rt, &queue, &mut seats, C, &Step::TryTake(None), 100);
+    walk(&rt, &queue, &mut seats, &[LOOK_FOR_ITEM; 100]);
     walk(&rt, &queue, &mut seats, &CELLS_WAIT[7..12]);
-    repeat(&rt, &queue, &mut seats, B, &Step::TryFill(None), 100);
+    walk(&rt, &queue, &mut seats, &[LOOK_FOR_ROOM; 100]);
     walk(&rt, &queue, &mut seats, &CELLS_WAIT[13..]);
     leaves_two(&rt, queue, seats);
 }
 
 #[test]
 fn a_seat_that_was_dropped_in_its_insertion(rt: HostRuntime) {
-    const STEPS: [(usize, Step<u64>); 6] = [
+    const STEPS: &[(usize, Step<u64>)] = &[
         (C, Step::ClaimInsert(1, Ok(0))),
         (A, Step::Insert(2, Ok(1))),
         (B, Step::ClaimDelete(Ok(0))),
@@ -65,10 +67,10 @@ fn a_seat_that_was_dropped_in_its_insertion(rt: HostRuntime) {
             Step::ClaimInsert(3, Err(InsertFault::Full { upper: 2, item: 3 })),
         ),
     ];
-    let (queue, mut seats) = open(&rt, rt.alloc(), (2, 3, 10));
+    let (queue, mut seats) = open(&rt, (2, 3, 10));
     walk(&rt, &queue, &mut seats, &STEPS[..1]);
-    drop(seats.pop());
+    drop(take_any(&rt, &queue, &mut seats));
     walk(&rt, &queue, &mut seats, &STEPS[1..]);
-    drop(seats.pop());
+    drop(take_any(&rt, &queue, &mut seats));
     assert_equal(&rt, joined(&rt, &queue, seats).is_whole(), false);
 }

@@ -5,7 +5,6 @@ ghost use Rattle.fak_queue.specs.Queues.{IsIdleSeat};
 use super::assertions::{assert_case, assert_equal};
 use super::steps::{open, open_one};
 use fak_queue::{DeleteFault, InsertFault, LARGEST_SIZE, LONGEST_STINT, MOST_SEATS, Queue, Seat};
-use std::alloc::Global;
 use std::process::Abort;
 use std::sync::Wait;
 use std::test::*;
@@ -24,8 +23,8 @@ fn stint_of(row: u64) -> u64 {
 }
 
 /// Opens a queue of items of any type, each of whose seats may draw the whole stint.
-fn opens(rt: &impl Abort, alloc: Global, size: u64, seats: u64, stint: u64) {
-    let (_queue, dealt) = open::<Vec<u8>>(rt, alloc, (size, seats, stint));
+fn opens(rt: &(impl Abort + AllocGlobal), size: u64, seats: u64, stint: u64) {
+    let (_queue, dealt) = open::<Vec<u8>>(rt, (size, seats, stint));
     assert_equal(rt, dealt.len() as u64, seats);
     have_left(rt, dealt.as_slice(), stint);
 }
@@ -40,10 +39,10 @@ fn have_left<T>(rt: &impl Abort, seats: &[Seat<T>], stint: u64) {
 #[test]
 fn queues_of_each_size(rt: HostRuntime) {
     for size in 1..LARGEST_SIZE + 1 {
-        opens(&rt, rt.alloc(), size, size % MOST_SEATS + 1, stint_of(size));
+        opens(&rt, size, size % MOST_SEATS + 1, stint_of(size));
     }
     for seats in 1..MOST_SEATS + 1 {
-        opens(&rt, rt.alloc(), 5, seats, 9);
+        opens(&rt, 5, seats, 9);
     }
 }
 
@@ -75,8 +74,8 @@ fn empties<R: Abort + Wait>(rt: &R, queue: &Queue<u64>, seat: &mut Seat<u64>, si
 }
 
 /// Opens a queue of this size, and fills and empties it twice.
-fn holds_twice<R: Abort + Wait>(rt: &R, alloc: Global, size: u64) {
-    let (queue, mut seat) = open_one(rt, alloc, size, LONGEST_STINT);
+fn holds_twice<R: Abort + AllocGlobal + Wait>(rt: &R, size: u64) {
+    let (queue, mut seat) = open_one(rt, size, LONGEST_STINT);
     fills(rt, &queue, &mut seat, size);
     empties(rt, &queue, &mut seat, size);
     fills(rt, &queue, &mut seat, size);
@@ -86,12 +85,12 @@ fn holds_twice<R: Abort + Wait>(rt: &R, alloc: Global, size: u64) {
 #[test]
 fn queues_hold_as_many_items_as_they_say(rt: HostRuntime) {
     for size in 1..129 {
-        holds_twice(&rt, rt.alloc(), size);
+        holds_twice(&rt, size);
     }
     for width in 7..12u32 {
         let power = 1u64 << width;
         for size in [power - 1, power + 1, power + power / 3, 2 * power] {
-            holds_twice(&rt, rt.alloc(), size);
+            holds_twice(&rt, size);
         }
     }
 }

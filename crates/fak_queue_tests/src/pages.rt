@@ -16,7 +16,7 @@ const TWELVE: Page = Page { words: [12; 512] };
 
 #[test]
 fn a_page_waits_for_its_cell(rt: HostRuntime) {
-    const STEPS: [(usize, Step<Page>); 10] = [
+    const STEPS: &[(usize, Step<Page>)] = &[
         (A, Step::Insert(TEN, Ok(0))),
         (B, Step::Insert(ELEVEN, Ok(1))),
         (C, Step::ClaimDelete(Ok(0))),
@@ -28,5 +28,5 @@ fn a_page_waits_for_its_cell(rt: HostRuntime) {
         (B, Step::TryFill(Some(2))),
         (A, Step::Delete(Ok((2, TWELVE)))),
     ];
-    open_and_walk(&rt, rt.alloc(), (2, 3, 9), STEPS.as_slice());
+    open_and_walk(&rt, (2, 3, 9), STEPS);
 }

@@ -8,7 +8,7 @@ use std::sync::Wait;
 
 #[test]
 fn a_seat_pauses_in_each_state(rt: HostRuntime) {
-    const STEPS: [(usize, Step<u64>); 12] = [
+    const STEPS: &[(usize, Step<u64>)] = &[
         (A, Step::Pause),
         (A, Step::ClaimInsert(7, Ok(0))),
         (A, Step::Pause),
@@ -22,38 +22,32 @@ fn a_seat_pauses_in_each_state(rt: HostRuntime) {
         (B, Step::State(SeatState::Idle)),
         (B, Step::Left(8)),
     ];
-    open_and_walk(&rt, rt.alloc(), (1, 2, 9), STEPS.as_slice());
+    open_and_walk(&rt, (1, 2, 9), STEPS);
 }
 
-/// Passes the number from one port to the other, each of which then pauses.
-fn pass<R: Abort + Wait>(
-    rt: &R,
-    sender: &mut Port<'_, u64>,
-    receiver: &mut Port<'_, u64>,
-    number: u64,
-) {
-    assert_equal(rt, sender.insert(rt, number), Ok(number));
-    sender.pause();
-    assert_equal(rt, receiver.delete(rt), Ok((number, number)));
-    receiver.pause();
+/// Passes 400 numbers from one port to the other, each of which pauses after each call.
+fn pass_all<R: Abort + Wait>(rt: &R, mut sender: Port<'_, u64>, mut receiver: Port<'_, u64>) {
+    for number in 0..400u64 {
+        assert_equal(rt, sender.insert(rt, number), Ok(number));
+        sender.pause();
+        assert_equal(rt, receiver.delete(rt), Ok((number, number)));
+        receiver.pause();
+    }
+    assert_equal(rt, [sender.left(), receiver.left()], [600, 600]);
 }
 
 #[test]
 fn ports_that_take_turns_pause(rt: HostRuntime) {
-    let (queue, mut seats) = open::<u64>(&rt, rt.alloc(), (64, 2, 1000));
+    let (queue, mut seats) = open::<u64>(&rt, (64, 2, 1000));
     let mut seat = take(&rt, &queue, &mut seats);
     seat.set_pauses_in_calls(false);
-    let mut sender = Port::new(&queue, seat);
-    let mut receiver = Port::new(&queue, take(&rt, &queue, &mut seats));
-    for number in 0..400u64 {
-        pass(&rt, &mut sender, &mut receiver, number);
-    }
-    assert_equal(&rt, [sender.left(), receiver.left()], [600, 600]);
+    let receiver = Port::new(&queue, take(&rt, &queue, &mut seats));
+    pass_all(&rt, Port::new(&queue, seat), receiver);
 }
 
 #[test]
 fn a_seat_whose_calls_do_not_pause_is_told_to_again(rt: HostRuntime) {
-    let (queue, mut seat) = open_one::<u64>(&rt, rt.alloc(), 64, 9);
+    let (queue, mut seat) = open_one::<u64>(&rt, 64, 9);
     seat.set_pauses_in_calls(false);
     assert_equal(&rt, queue.wait_insert(&rt, &mut seat, 7), Ok(0));
     seat.set_pauses_in_calls(true);

@@ -1,45 +1,63 @@
 //! Ports: a queue and a seat of it as one value. No call of a port asks for anything, so that their callers state nothing.
 
-use super::assertions::{assert_equal, assert_left};
-use super::steps::{close, open, open_one, take};
+use super::assertions::{assert_case, assert_equal, assert_left};
+use super::steps::{Step, close, open, open_one, take};
 use fak_queue::{DeleteFault, InsertFault, Port, Tally};
 use std::process::Abort;
 use std::sync::Wait;
 use std::thread::join;
 
-/// Makes single attempts over one cell.
-fn attempt<R: Abort + Wait>(rt: &R, port: &mut Port<'_, u64>) {
-    assert_equal(rt, port.delete(rt), Err(DeleteFault::Empty(0)));
-    assert_equal(rt, port.insert(rt, 7), Ok(0));
-    let full = InsertFault::Full { upper: 1, item: 8 };
-    assert_equal(rt, port.insert(rt, 8), Err(full));
-    assert_equal(rt, port.delete(rt), Ok((0, 7)));
+/// Makes the step, and tells whether it was answered so.
+fn meets<R: Wait>(rt: &R, port: &mut Port<'_, u64>, step: &Step<u64>) -> bool {
+    match step {
+        Step::Insert(item, answer) => port.insert(rt, *item) == *answer,
+        Step::WaitInsert(item, answer) => port.wait_insert(rt, *item) == *answer,
+        Step::Delete(answer) => port.delete(rt) == *answer,
+        Step::WaitDelete(answer) => port.wait_delete(rt) == *answer,
+        Step::Shut(answer) => port.shut() == *answer,
+        Step::Left(answer) => port.left() == *answer,
+        _ => false,
+    }
+}
+
+/// Walks the steps, in their order, with a port of the only seat of a queue with one cell.
+fn walk<R: Abort + AllocGlobal + Wait>(rt: &R, stint: u64, steps: &[Step<u64>]) {
+    let (queue, seat) = open_one(rt, 1, stint);
+    let mut port = Port::new(&queue, seat);
+    for (row, step) in steps.iter().enumerate() {
+        assert_case(rt, &row, meets(rt, &mut port, step));
+    }
 }
 
 #[test]
 fn a_port_makes_single_attempts(rt: HostRuntime) {
-    let (queue, seat) = open_one(&rt, rt.alloc(), 1, 3);
-    let mut port = Port::new(&queue, seat);
-    assert_equal(&rt, port.left(), 3);
-    attempt(&rt, &mut port);
-    assert_equal(&rt, port.left(), 1);
+    const STEPS: &[Step<u64>] = &[
+        Step::Left(3),
+        Step::Delete(Err(DeleteFault::Empty(0))),
+        Step::Insert(7, Ok(0)),
+        Step::Insert(8, Err(InsertFault::Full { upper: 1, item: 8 })),
+        Step::Delete(Ok((0, 7))),
+        Step::Left(1),
+    ];
+    walk(&rt, 3, STEPS);
 }
 
 #[test]
 fn a_port_shuts_its_queue(rt: HostRuntime) {
-    let (queue, seat) = open_one(&rt, rt.alloc(), 1, 2);
-    let mut port = Port::new(&queue, seat);
-    assert_equal(&rt, port.wait_insert(&rt, 7), Ok(0));
-    assert_equal(&rt, [port.shut(), port.shut()], [true, false]);
-    let closed = InsertFault::Closed { item: 8 };
-    assert_equal(&rt, port.wait_insert(&rt, 8), Err(closed));
-    assert_equal(&rt, port.wait_delete(&rt), Ok((0, 7)));
-    assert_equal(&rt, port.wait_delete(&rt), Err(DeleteFault::Worn));
+    const STEPS: &[Step<u64>] = &[
+        Step::WaitInsert(7, Ok(0)),
+        Step::Shut(true),
+        Step::Shut(false),
+        Step::WaitInsert(8, Err(InsertFault::Closed { item: 8 })),
+        Step::WaitDelete(Ok((0, 7))),
+        Step::WaitDelete(Err(DeleteFault::Worn)),
+    ];
+    walk(&rt, 2, STEPS);
 }
 
 #[test]
 fn a_port_hands_back_its_seat(rt: HostRuntime) {
-    let (queue, seat) = open_one(&rt, rt.alloc(), 3, 9);
+    let (queue, seat) = open_one(&rt, 3, 9);
     let mut port = Port::new(&queue, seat);
     assert_equal(&rt, port.wait_insert(&rt, 10), Ok(0));
     assert_equal(&rt, port.insert(&rt, 11), Ok(1));
@@ -68,7 +86,7 @@ fn receive<R: Abort + Wait>(rt: &R, mut port: Port<'_, u64>, count: u64) -> u64 
 
 #[test]
 fn ports_of_two_threads(rt: HostRuntime) {
-    let (queue, mut seats) = open::<u64>(&rt, rt.alloc(), (2, 2, 1000));
+    let (queue, mut seats) = open::<u64>(&rt, (2, 2, 1000));
     let sender = Port::new(&queue, take(&rt, &queue, &mut seats));
     let receiver = Port::new(&queue, take(&rt, &queue, &mut seats));
     let rt = &rt;

@@ -7,7 +7,7 @@ use std::fmt::Display;
 use std::process::Abort;
 
 /// An insertion in two calls, after a deletion that is refused.
-const INSERTION: [(usize, Step<u64>); 3] = [
+const INSERTION: &[(usize, Step<u64>)] = &[
     (A, Step::ClaimDelete(Err(DeleteFault::Empty(0)))),
     (A, Step::ClaimInsert(7, Ok(0))),
     (A, Step::TryFill(Some(0))),
@@ -15,7 +15,7 @@ const INSERTION: [(usize, Step<u64>); 3] = [
 
 #[test]
 fn queues_print_their_numbers(rt: HostRuntime) {
-    let (queue, mut seats) = open(&rt, rt.alloc(), (3, 1, 9));
+    let (queue, mut seats) = open(&rt, (3, 1, 9));
     walk(&rt, &queue, &mut seats, &INSERTION[..2]);
     assert_written(&rt, &queue, "Queue { size: 3, .. }");
     assert_written(
@@ -41,7 +41,7 @@ fn faults_print_what_they_hand_back(rt: HostRuntime) {
 
 #[test]
 fn ports_print_their_queue_and_their_seat(rt: HostRuntime) {
-    let (queue, seat) = open_one::<u64>(&rt, rt.alloc(), 3, 9);
+    let (queue, seat) = open_one::<u64>(&rt, 3, 9);
     let port = Port::new(&queue, seat);
     let text =
         "Port { queue: Queue { size: 3, .. }, seat: Seat { name: 0, state: Idle, left: 9, .. } }";

@@ -3,12 +3,11 @@
 use super::assertions::{assert_case, assert_equal};
 use super::steps::{A, B, Step, open, open_and_walk};
 use fak_queue::{DeleteFault, InsertFault, OpenFault, Queue, SeatState};
-use std::alloc::Global;
 use std::process::Abort;
 
 #[test]
 fn a_cell_that_is_full_and_one_that_is_not(rt: HostRuntime) {
-    const STEPS: [(usize, Step<u64>); 6] = [
+    const STEPS: &[(usize, Step<u64>)] = &[
         (A, Step::ClaimInsert(7, Ok(0))),
         (B, Step::ClaimDelete(Err(DeleteFault::Empty(0)))),
         (A, Step::TryFill(Some(0))),
@@ -19,12 +18,12 @@ fn a_cell_that_is_full_and_one_that_is_not(rt: HostRuntime) {
         (A, Step::State(SeatState::Idle)),
         (A, Step::Left(9)),
     ];
-    open_and_walk(&rt, rt.alloc(), (1, 2, 10), STEPS.as_slice());
+    open_and_walk(&rt, (1, 2, 10), STEPS);
 }
 
 #[test]
 fn a_seat_that_drew_its_stint(rt: HostRuntime) {
-    const STEPS: [(usize, Step<u64>); 7] = [
+    const STEPS: &[(usize, Step<u64>)] = &[
         (A, Step::Insert(5, Ok(0))),
         (A, Step::Insert(6, Ok(1))),
         (A, Step::Insert(7, Err(InsertFault::Worn { item: 7 }))),
@@ -33,24 +32,24 @@ fn a_seat_that_drew_its_stint(rt: HostRuntime) {
         (A, Step::State(SeatState::Idle)),
         (B, Step::Delete(Ok((0, 5)))),
     ];
-    open_and_walk(&rt, rt.alloc(), (4, 2, 2), STEPS.as_slice());
+    open_and_walk(&rt, (4, 2, 2), STEPS);
 }
 
 #[test]
 fn a_seat_with_one_ticket(rt: HostRuntime) {
-    const STEPS: [(usize, Step<u64>); 5] = [
+    const STEPS: &[(usize, Step<u64>)] = &[
         (A, Step::Insert(7, Ok(0))),
         (A, Step::Left(0)),
         (A, Step::Insert(8, Err(InsertFault::Worn { item: 8 }))),
         (B, Step::Delete(Ok((0, 7)))),
         (B, Step::Delete(Err(DeleteFault::Worn))),
     ];
-    open_and_walk(&rt, rt.alloc(), (1, 2, 1), STEPS.as_slice());
+    open_and_walk(&rt, (1, 2, 1), STEPS);
 }
 
 #[test]
 fn a_queue_that_was_shut(rt: HostRuntime) {
-    const STEPS: [(usize, Step<u64>); 6] = [
+    const STEPS: &[(usize, Step<u64>)] = &[
         (A, Step::Insert(5, Ok(0))),
         (B, Step::Shut(true)),
         (B, Step::Shut(false)),
@@ -58,12 +57,12 @@ fn a_queue_that_was_shut(rt: HostRuntime) {
         (B, Step::Delete(Ok((0, 5)))),
         (B, Step::Delete(Err(DeleteFault::Empty(0)))),
     ];
-    open_and_walk(&rt, rt.alloc(), (2, 2, 10), STEPS.as_slice());
+    open_and_walk(&rt, (2, 2, 10), STEPS);
 }
 
 #[test]
 fn a_worn_seat_is_told_so_of_a_shut_queue(rt: HostRuntime) {
-    const STEPS: [(usize, Step<u64>); 10] = [
+    const STEPS: &[(usize, Step<u64>)] = &[
         (A, Step::Insert(5, Ok(0))),
         (B, Step::Shut(true)),
         (A, Step::Insert(6, Err(InsertFault::Worn { item: 6 }))),
@@ -78,30 +77,29 @@ fn a_worn_seat_is_told_so_of_a_shut_queue(rt: HostRuntime) {
         (B, Step::ClaimInsert(9, Err(InsertFault::Worn { item: 9 }))),
         (B, Step::ClaimDelete(Err(DeleteFault::Worn))),
     ];
-    open_and_walk(&rt, rt.alloc(), (1, 2, 1), STEPS.as_slice());
+    open_and_walk(&rt, (1, 2, 1), STEPS);
 }
 
 /// Finds that no queue is opened, for this reason.
-fn refuses(rt: &impl Abort, alloc: Global, limits: (u64, u64, u64), fault: OpenFault) {
+fn refuses(rt: &(impl Abort + AllocGlobal), limits: (u64, u64, u64), fault: OpenFault) {
     let (size, seats, stint) = limits;
-    let refusal = Queue::<u64>::open(alloc, size, seats, stint).err();
+    let refusal = Queue::<u64>::open(rt.alloc(), size, seats, stint).err();
     assert_case(rt, &limits, refusal == Some(fault));
 }
 
 #[test]
 fn the_ranges_of_an_opening(rt: HostRuntime) {
-    let alloc = rt.alloc();
-    let (_, seats) = open::<u64>(&rt, alloc, (4096, 64, 1 << 40));
+    let (_, seats) = open::<u64>(&rt, (4096, 64, 1 << 40));
     assert_equal(&rt, seats.len(), 64);
     drop(seats);
-    const REFUSED: [((u64, u64, u64), OpenFault); 5] = [
+    const REFUSED: &[((u64, u64, u64), OpenFault)] = &[
         ((4097, 1, 1), OpenFault::BadSize),
         ((0, 0, 0), OpenFault::BadSize),
         ((1, 65, 1), OpenFault::BadSeats),
         ((1, 1, 0), OpenFault::BadStint),
         ((1, 1, (1 << 40) + 1), OpenFault::BadStint),
     ];
-    for (limits, fault) in REFUSED.iter() {
-        refuses(&rt, alloc, *limits, *fault);
+    for &(limits, fault) in REFUSED {
+        refuses(&rt, limits, fault);
     }
 }

@@ -5,7 +5,6 @@ ghost use Rattle.fak_queue.specs.Queues.{IsIdleSeat};
 
 use super::assertions::assert_case;
 use fak_queue::{DeleteFault, InsertFault, Queue, Rest, Seat, SeatState, Tally};
-use std::alloc::Global;
 use std::process::Abort;
 use std::sync::Wait;
 
@@ -78,26 +77,24 @@ impl<T: Copy + PartialEq + Drop> Step<T> {
 
 /// An open queue with all its seats.
 pub fn open<T: Drop>(
-    rt: &impl Abort,
-    alloc: Global,
+    rt: &(impl Abort + AllocGlobal),
     limits: (u64, u64, u64),
 ) -> (Queue<T>, Vec<Seat<T>>)
     ensures { All (λ s. s.object ≡ result.0.object) result.1.items }
 {
     let (size, seats, stint) = limits;
-    Queue::<T>::open(alloc, size, seats, stint).expect(rt, "open")
+    Queue::<T>::open(rt.alloc(), size, seats, stint).expect(rt, "open")
 }
 
 /// An open queue with its only seat.
 pub fn open_one<T: Drop>(
-    rt: &impl Abort,
-    alloc: Global,
+    rt: &(impl Abort + AllocGlobal),
     size: u64,
     stint: u64,
 ) -> (Queue<T>, Seat<T>)
     ensures { IsIdleSeat result.0.object result.1 }
 {
-    let (queue, mut seats) = open(rt, alloc, (size, 1, stint));
+    let (queue, mut seats) = open(rt, (size, 1, stint));
     let seat = take(rt, &queue, &mut seats);
     (queue, seat)
 }
@@ -131,32 +128,23 @@ pub fn walk<T: Copy + PartialEq + Drop, R: Abort + Wait>(
     }
 }
 
-/// Makes the same step this many times.
-pub fn repeat<T: Copy + PartialEq + Drop, R: Abort + Wait>(
-    rt: &R,
-    queue: &Queue<T>,
-    seats: &mut Vec<Seat<T>>,
-    name: usize,
-    step: &Step<T>,
-    times: u64,
-)
-    requires { All (λ s. s.object ≡ queue.now.object) seats.old.items }
-    ensures { All (λ s. s.object ≡ queue.now.object) seats.new.items }
-{
-    for time in 0..times {
-        assert_case(rt, &time, meets(rt, queue, seats, name, step));
-    }
-}
-
 /// Opens a queue and walks the steps.
-pub fn open_and_walk<T: Copy + PartialEq + Drop, R: Abort + Wait>(
+pub fn open_and_walk<T: Copy + PartialEq + Drop, R: Abort + AllocGlobal + Wait>(
     rt: &R,
-    alloc: Global,
     limits: (u64, u64, u64),
     steps: &[(usize, Step<T>)],
 ) {
-    let (queue, mut seats) = open(rt, alloc, limits);
+    let (queue, mut seats) = open(rt, limits);
     walk(rt, &queue, &mut seats, steps);
+}
+
+/// Takes out the last of the seats.
+pub fn take_any<T: Drop>(rt: &impl Abort, queue: &Queue<T>, seats: &mut Vec<Seat<T>>) -> Seat<T>
+    requires { All (λ s. s.object ≡ queue.now.object) seats.old.items }
+    ensures seat { result.object ≡ queue.now.object }
+    ensures others { All (λ s. s.object ≡ queue.now.object) seats.new.items }
+{
+    seats.pop().expect(rt, "no seat is left")
 }
 
 /// Takes out the last of the seats, which is to be between two calls.
@@ -165,7 +153,7 @@ pub fn take<T: Drop>(rt: &impl Abort, queue: &Queue<T>, seats: &mut Vec<Seat<T>>
     ensures seat { IsIdleSeat queue.now.object result }
     ensures others { All (λ s. s.object ≡ queue.now.object) seats.new.items }
 {
-    let seat = seats.pop().expect(rt, "no seat is left");
+    let seat = take_any(rt, queue, seats);
     assert_idle(rt, queue, &seat);
     seat
 }

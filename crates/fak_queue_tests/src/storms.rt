@@ -8,7 +8,6 @@ use super::attempts::{delete_again, insert_again};
 use super::items::{Load, add, are_all, fifty, ids_of, loads_of, rise};
 use super::steps::{assert_idle, close_all, open};
 use fak_queue::{Queue, Seat};
-use std::alloc::Global;
 use std::process::Abort;
 use std::sync::{Mutex, Wait};
 use std::thread::{Threads, map_vec};
@@ -73,9 +72,8 @@ fn delete_all<T: Drop, R: Abort + Wait>(
 }
 
 /// Inserts one of the lists; where none is waiting, deletes this many items.
-fn work<T: Drop, R: Abort + Wait>(
+fn work<T: Drop, R: Abort + AllocGlobal + Wait>(
     rt: &R,
-    alloc: Global,
     queue: &Queue<T>,
     lists: &Lists<T>,
     deletions: usize,
@@ -88,14 +86,13 @@ fn work<T: Drop, R: Abort + Wait>(
     let list = lists.waiting.lock(rt).pop();
     match list {
         Some(items) => insert_all(rt, queue, seat, lists.calls, items),
-        None => delete_list(rt, alloc, queue, lists, deletions, seat),
+        None => delete_list(rt, queue, lists, deletions, seat),
     }
 }
 
 /// Deletes this many items, and adds the list of them to those that were deleted.
-fn delete_list<T: Drop, R: Abort + Wait>(
+fn delete_list<T: Drop, R: Abort + AllocGlobal + Wait>(
     rt: &R,
-    alloc: Global,
     queue: &Queue<T>,
     lists: &Lists<T>,
     deletions: usize,
@@ -104,16 +101,15 @@ fn delete_list<T: Drop, R: Abort + Wait>(
     requires { IsIdleSeat queue.now.object seat }
     ensures { result.object ≡ queue.now.object }
 {
-    let mut items = Vec::new(alloc);
+    let mut items = Vec::new(rt.alloc());
     let seat = delete_all(rt, queue, seat, lists.calls, deletions, &mut items);
     add(rt, &mut lists.deleted.lock(rt), items);
     seat
 }
 
 /// Has all seats work at once.
-fn work_all<T: Drop + Send, R: Abort + Threads + Wait + Sync>(
+fn work_all<T: Drop + Send, R: Abort + AllocGlobal + Threads + Wait + Sync>(
     rt: &R,
-    alloc: Global,
     queue: &Queue<T>,
     lists: &Lists<T>,
     deletions: usize,
@@ -125,28 +121,26 @@ fn work_all<T: Drop + Send, R: Abort + Threads + Wait + Sync>(
     let part = move |seat: Seat<T>| -> Seat<T>
         requires { seat.object ≡ queue.now.object }
         ensures { result.object ≡ queue.entry.now.object }
-    { work(rt, alloc, queue, lists, deletions, seat) };
+    { work(rt, queue, lists, deletions, seat) };
     map_vec(rt, seats, &part).expect(rt, "memory for the threads")
 }
 
 /// Has this many seats of a queue insert the lists and delete what they inserted. Nothing is to be left.
-fn work_through<T: Drop + Send, R: Abort + Threads + Wait + Sync>(
+fn work_through<T: Drop + Send, R: Abort + AllocGlobal + Threads + Wait + Sync>(
     rt: &R,
-    alloc: Global,
     lists: &Lists<T>,
     seats: u64,
     deletions: usize,
 ) {
-    let (queue, seats) = open(rt, alloc, (8, seats, 100));
-    let seats = work_all(rt, alloc, &queue, lists, deletions, seats);
+    let (queue, seats) = open(rt, (8, seats, 100));
+    let seats = work_all(rt, &queue, lists, deletions, seats);
     let left = close_all(rt, queue, seats).next();
     assert!(rt; left.is_none(), "an item that was left");
 }
 
 /// What each seat deleted, where the lists are inserted by a seat each while as many others delete.
-fn storm<T: Drop + Send, R: Abort + Threads + Wait + Sync>(
+fn storm<T: Drop + Send, R: Abort + AllocGlobal + Threads + Wait + Sync>(
     rt: &R,
-    alloc: Global,
     calls: Calls,
     lists: Vec<Vec<T>>,
     deleters: u64,
@@ -156,9 +150,9 @@ fn storm<T: Drop + Send, R: Abort + Threads + Wait + Sync>(
     let lists = Lists {
         calls,
         waiting: Mutex::new(lists),
-        deleted: Mutex::new(Vec::new(alloc)),
+        deleted: Mutex::new(Vec::new(rt.alloc())),
     };
-    work_through(rt, alloc, &lists, seats, deletions);
+    work_through(rt, &lists, seats, deletions);
     let Lists {
         calls: _,
         waiting: _,
@@ -168,8 +162,8 @@ fn storm<T: Drop + Send, R: Abort + Threads + Wait + Sync>(
 }
 
 /// Stops where the numbers that each seat deleted do not rise from each of these on, or are not all of them.
-fn check_all(rt: &impl Abort, alloc: Global, lists: &[Vec<u64>], firsts: &[u64]) {
-    let mut all = Vec::new(alloc);
+fn check_all(rt: &(impl Abort + AllocGlobal), lists: &[Vec<u64>], firsts: &[u64]) {
+    let mut all = Vec::new(rt.alloc());
     for list in lists {
         check_rise(rt, list.as_slice(), firsts);
         add_all(rt, &mut all, list.as_slice());
@@ -192,83 +186,76 @@ fn add_all(rt: &impl Abort, list: &mut Vec<u64>, items: &[u64]) {
 }
 
 /// Fifty numbers from each of these on.
-fn lists_of(rt: &impl Abort, alloc: Global, firsts: &[u64]) -> Vec<Vec<u64>> {
-    let mut lists = Vec::new(alloc);
+fn lists_of(rt: &(impl Abort + AllocGlobal), firsts: &[u64]) -> Vec<Vec<u64>> {
+    let mut lists = Vec::new(rt.alloc());
     for &first in firsts {
-        add(rt, &mut lists, fifty(rt, alloc, first));
+        add(rt, &mut lists, fifty(rt, first));
     }
     lists
 }
 
 /// Fifty numbers from each of these on go in by a seat each, and come out by as many others.
-fn storm_of_numbers<R: Abort + Threads + Wait + Sync>(
+fn storm_of_numbers<R: Abort + AllocGlobal + Threads + Wait + Sync>(
     rt: &R,
-    alloc: Global,
     calls: Calls,
     firsts: &[u64],
     deleters: u64,
     deletions: usize,
 ) {
-    let lists = lists_of(rt, alloc, firsts);
-    let got = storm(rt, alloc, calls, lists, deleters, deletions);
-    check_all(rt, alloc, got.as_slice(), firsts);
+    let lists = lists_of(rt, firsts);
+    let got = storm(rt, calls, lists, deleters, deletions);
+    check_all(rt, got.as_slice(), firsts);
 }
 
 #[test]
 fn a_storm_of_one_pair(rt: HostRuntime) {
-    let firsts = [1001];
-    storm_of_numbers(&rt, rt.alloc(), Calls::Waiting, firsts.as_slice(), 1, 50);
+    storm_of_numbers(&rt, Calls::Waiting, &[1001], 1, 50);
 }
 
 #[test]
 fn a_storm_of_two_pairs(rt: HostRuntime) {
-    let firsts = [1001, 2001];
-    storm_of_numbers(&rt, rt.alloc(), Calls::Waiting, firsts.as_slice(), 2, 50);
+    storm_of_numbers(&rt, Calls::Waiting, &[1001, 2001], 2, 50);
 }
 
 #[test]
 fn a_storm_of_four_pairs(rt: HostRuntime) {
-    let firsts = [1001, 2001, 3001, 4001];
-    storm_of_numbers(&rt, rt.alloc(), Calls::Waiting, firsts.as_slice(), 4, 50);
+    storm_of_numbers(&rt, Calls::Waiting, &[1001, 2001, 3001, 4001], 4, 50);
 }
 
 #[test]
 fn two_inserters_and_a_deleter(rt: HostRuntime) {
-    let firsts = [1001, 2001];
-    storm_of_numbers(&rt, rt.alloc(), Calls::Waiting, firsts.as_slice(), 1, 100);
+    storm_of_numbers(&rt, Calls::Waiting, &[1001, 2001], 1, 100);
 }
 
 #[test]
 fn two_inserters_and_a_deleter_that_try_again(rt: HostRuntime) {
-    let firsts = [1001, 2001];
-    storm_of_numbers(&rt, rt.alloc(), Calls::Attempts, firsts.as_slice(), 1, 100);
+    storm_of_numbers(&rt, Calls::Attempts, &[1001, 2001], 1, 100);
 }
 
 #[test]
 fn two_inserters_of_loads_and_a_deleter(rt: HostRuntime) {
-    let alloc = rt.alloc();
-    let firsts = [1001, 2001];
-    let ids = lists_of(&rt, alloc, firsts.as_slice());
-    let loads = loads_of_all(&rt, alloc, ids.as_slice());
-    let got = storm(&rt, alloc, Calls::Waiting, loads, 1, 100);
-    let ids = ids_of_all(&rt, alloc, got.as_slice());
-    check_all(&rt, alloc, ids.as_slice(), firsts.as_slice());
+    const FIRSTS: &[u64] = &[1001, 2001];
+    let ids = lists_of(&rt, FIRSTS);
+    let loads = loads_of_all(&rt, ids.as_slice());
+    let got = storm(&rt, Calls::Waiting, loads, 1, 100);
+    let ids = ids_of_all(&rt, got.as_slice());
+    check_all(&rt, ids.as_slice(), FIRSTS);
 }
 
 /// Loads with the numbers of each list.
-fn loads_of_all(rt: &impl Abort, alloc: Global, lists: &[Vec<u64>]) -> Vec<Vec<Load>> {
-    let mut loads = Vec::new(alloc);
+fn loads_of_all(rt: &(impl Abort + AllocGlobal), lists: &[Vec<u64>]) -> Vec<Vec<Load>> {
+    let mut loads = Vec::new(rt.alloc());
     for ids in lists {
-        add(rt, &mut loads, loads_of(rt, alloc, ids.as_slice()));
+        add(rt, &mut loads, loads_of(rt, ids.as_slice()));
     }
     loads
 }
 
 /// The numbers of the loads of each list.
-fn ids_of_all(rt: &impl Abort, alloc: Global, lists: &[Vec<Load>]) -> Vec<Vec<u64>> {
-    let mut ids = Vec::new(alloc);
+fn ids_of_all(rt: &(impl Abort + AllocGlobal), lists: &[Vec<Load>]) -> Vec<Vec<u64>> {
+    let mut ids = Vec::new(rt.alloc());
     for loads in lists {
-        add(rt, &mut ids, ids_of(rt, alloc, loads.as_slice()));
+        add(rt, &mut ids, ids_of(rt, loads.as_slice()));
     }
     ids
 }

@@ -55,30 +55,30 @@ fn close_counted(queue: Queue<u64>, tally: Tally<u64>) -> Option<Rest<u64>>
 
 #[test]
 fn worn_seats_do_not_wait(rt: HostRuntime) {
-    const STEPS: [(usize, Step<u64>); 5] = [
+    const STEPS: &[(usize, Step<u64>)] = &[
         (A, Step::WaitInsert(7, Ok(0))),
         (A, Step::WaitInsert(8, Err(InsertFault::Worn { item: 8 }))),
         (B, Step::WaitDelete(Ok((0, 7)))),
         (B, Step::WaitDelete(Err(DeleteFault::Worn))),
         (B, Step::Delete(Err(DeleteFault::Worn))),
     ];
-    open_and_walk(&rt, rt.alloc(), (1, 2, 1), STEPS.as_slice());
+    open_and_walk(&rt, (1, 2, 1), STEPS);
 }
 
 #[test]
 fn a_shut_queue_does_not_keep_a_seat_waiting(rt: HostRuntime) {
-    const STEPS: [(usize, Step<u64>); 4] = [
+    const STEPS: &[(usize, Step<u64>)] = &[
         (A, Step::WaitInsert(7, Ok(0))),
         (A, Step::Shut(true)),
         (A, Step::WaitInsert(8, Err(InsertFault::Closed { item: 8 }))),
         (A, Step::WaitDelete(Ok((0, 7)))),
     ];
-    open_and_walk(&rt, rt.alloc(), (1, 1, 9), STEPS.as_slice());
+    open_and_walk(&rt, (1, 1, 9), STEPS);
 }
 
 #[test]
 fn items_that_were_inserted_and_left(rt: HostRuntime) {
-    let (queue, mut a) = open_one(&rt, rt.alloc(), 3, 9);
+    let (queue, mut a) = open_one(&rt, 3, 9);
     assert_equal(&rt, insert_below(&rt, &queue, &mut a, 3), Ok(()));
     assert_equal(&rt, a.left(), 6);
     assert_equal(&rt, queue.wait_delete(&rt, &mut a), Ok((0, 0)));
