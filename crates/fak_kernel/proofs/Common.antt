@@ -11,18 +11,19 @@ pub use Rattle.fak_model.specs.declared.file.FileEntry.{FileEntry}
 pub use Rattle.fak_model.specs.declared.file.FileMark.{FileMark}
 pub use Rattle.fak_model.specs.declared.queue.Kind.{Kind}
 pub use Rattle.fak_model.specs.declared.queue.Mark.{Mark}
+pub use Rattle.fak_opening.specs.Opened.{fresh_processor, AreSeated}
 pub use Rattle.fak_processor.proofs.Moving.{files_then}
 pub use Rattle.fak_processor.specs.Begun.{Between, IsLeftBy, IsFirst}
-pub use Rattle.fak_processor.specs.Faults.{IsOfLoop, IsRefused}
+pub use Rattle.fak_processor.specs.Faults.{IsOfLoop}
 pub use Rattle.fak_processor.specs.Holding.{JoinedTo, Weighs, queue_kind, Bundle, Tallies, Have, Joins}
 pub use Rattle.fak_processor.specs.Joined.{ids_of_tallies, no_seat, JoinEach, no_tally, TalliesOf, AreTalliesOf, HaveNames, JoinAll, tallies_of, first_tallies}
 pub use Rattle.fak_processor.specs.Moving.{row_as, bundle_of, files_of, BeginsNone, LeavesNone}
 pub use Rattle.fak_processor.specs.OnlyCounts.{sleepers_of}
-pub use Rattle.fak_processor.specs.Opened.{fresh_processor, AreSeated, HasName}
-pub use Rattle.fak_processor.specs.Processors.{ObjectsOf, ProcessorOf, AreFor, IsReached, lists_of, ids_of, AreOf, ids_of_seats}
+pub use Rattle.fak_processor.specs.Processors.{HasName, ObjectsOf, ProcessorOf, AreFor, IsReached, lists_of, ids_of, AreOf, ids_of_seats}
 pub use Rattle.fak_run.proofs.Sums.{sum_by-map, sum_by-flat_map}
 pub use Rattle.fak_run.proofs.Told.{length-told_rows, IsSortedByName-told}
 pub use Rattle.fak_run.specs.Files.{free_entry}
+pub use Rattle.fak_run.specs.Gates.{IsRefused}
 pub use Rattle.fak_run.specs.Holds.{gather_from, held_kinds, hold_line, AreHolds, FileHold}
 pub use Rattle.fak_run.specs.Ledger.{Ledger, joined, shuts_of, named, notes, FitsRow}
 pub use Rattle.fak_run.specs.ListScheduler.{turn_over, numbers_from}

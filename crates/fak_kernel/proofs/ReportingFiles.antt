@@ -4,7 +4,7 @@ use Rattle.fak_run.specs.Replays.{Replays}
 use Rattle.fak_run.specs.Merging.{AreMerged}
 use Rattle.fak_run.specs.Reported.{is_file_line, file_lines, lines_of, FilesReplay}
 use Rattle.fak_run.proofs.Scan.{holds_replay}
-use Rattle.fak_processor.proofs.Fresh.{entries_fresh}
+use Rattle.fak_opening.proofs.Fresh.{entries_fresh}
 
 -- what file lines weigh among all lines
 abbrev pub file_weight : (NoteOf → ℕ) → NoteOf → ℕ

@@ -3,7 +3,8 @@ use Rattle.std.specs.Prelude.{◌≡◌, ◌⊎◌, ℕ, ◌<◌, Bool, true, Li
 use Rattle.fak_text.specs.Script.{ScriptOf}
 use Rattle.fak_run.specs.declared.fault.Fault.{Fault}
 use Rattle.fak_run.specs.declared.fault.Fault.TheVariants.{Memory, NoThread, Gate}
-use Rattle.fak_processor.specs.Faults.{IsOfLoop, IsRefused}
+use Rattle.fak_processor.specs.Faults.{IsOfLoop}
+use Rattle.fak_run.specs.Gates.{IsRefused}
 use Rattle.fak_run.specs.ListScheduler.{turn_over}
 use Rattle.fak_processor.specs.Processors.{ObjectsOf, ProcessorOf, IsReached, lists_of}
 use Rattle.fak_processor.specs.Begun.{Between, IsLeftBy}

@@ -5,7 +5,7 @@ ghost use Rattle.fak_run.specs.ListScheduler.{turn_over};
 ghost use Rattle.fak_run.specs.Report.{ListSchedulerReports};
 ghost use Rattle.fak_run.specs.RunReports.{RunReports};
 ghost use Rattle.fak_processor.specs.Processors.{AreFor, IsReached, ProcessorOf, lists_of};
-ghost use Rattle.fak_processor.specs.Opened.{AreSeated};
+ghost use Rattle.fak_opening.specs.Opened.{AreSeated};
 ghost use Rattle.fak_processor.specs.Begun.{IsLeftBy};
 ghost use Rattle.fak_run.specs.Told.{told_report};
 ghost use Rattle.fak_run.specs.Views.{report_of};

@@ -6,7 +6,6 @@ mod run_threads;
 mod running;
 
 pub use fak_model::FileEntry;
-pub use fak_processor::{FreeGate, Gate};
-pub use fak_run::{Fault, Outcome, Printed, ProcessRow, Report, laws, report_text};
+pub use fak_run::{Fault, FreeGate, Gate, Outcome, Printed, ProcessRow, Report, laws, report_text};
 pub use run_threads::{MOST_PROCESSORS, run, run_to_text};
 pub use running::{run_one, run_one_to_text};

@@ -1,7 +1,7 @@
 //! Runs on several processors, a thread for each.
 
 ghost use Rattle.std.specs.Prelude.{◌≡◌, ◌<◌, ℕ, Err, vec_len, slice_index_or, IfOk, IfErr};
-ghost use Rattle.fak_processor.specs.Opened.{AreProcessors};
+ghost use Rattle.fak_opening.specs.Opened.{AreProcessors};
 ghost use Rattle.fak_run.specs.Report.{ListSchedulerReports};
 ghost use Rattle.fak_run.specs.ReportText.{ListSchedulerPrints, RunPrints};
 ghost use Rattle.fak_run.specs.RunReports.{RunReports};
@@ -15,8 +15,9 @@ mod leaving;
 
 use crate::ending::report_of_run;
 use answering::all_left;
-use fak_processor::{Gate, Objects, Processor, open_run};
-use fak_run::{Fault, Printed, Report, Run, print_brief, told_in_full};
+use fak_opening::open_run;
+use fak_processor::{Objects, Processor};
+use fak_run::{Fault, Gate, Printed, Report, Run, print_brief, told_in_full};
 use fak_text::Script;
 use leaving::leave_all;
 use std::alloc::Global;

@@ -20,14 +20,12 @@ pub use Rattle.fak_model.specs.declared.room.RoomKind.{RoomKind}
 pub use Rattle.fak_model.specs.declared.room.RoomMark.{RoomMark}
 pub use Rattle.fak_processor.specs.Begun.{Between, empty_lists, Begins, FindsNoSlot, FindsSlot, StartsOne, begins}
 pub use Rattle.fak_processor.specs.Events.{empty, made_of, IsPlain, fills, steps, passes, parks, adds, wakes, spawns, lacks_birth, lacks_slot, waits_refused, shuts, refused_claim}
-pub use Rattle.fak_processor.specs.Faults.{HasPassed}
 pub use Rattle.fak_processor.specs.Holding.{Owns, queue_kind, Bundle, Weighs}
 pub use Rattle.fak_processor.specs.Joined.{no_seat, no_table}
 pub use Rattle.fak_processor.specs.Moving.{MovesNoItem, GrowsIn, GrowsAtLast, Gains, Moves, bundle_of, files_of, IsQuiet, GrowsShut, GrowsOut, GrowsEmpty, BeginsNone, row_as, GainsParked, GainsWoken, at_one, DownsAt, UpsAt, names_of, LeavesNone, hand_of, GrowsIdle}
 pub use Rattle.fak_processor.specs.OnlyCounts.{IsOnlySem, semaphore_count, sleepers_of, IsOnlyRoom, Passes, Parks, Raises, Rouses, Claims, FindsFull, GivesBack}
 pub use Rattle.fak_processor.specs.OnlyQueues.{Enters, is_close, has_close, IsOnlySeat, Keeps, Bounces, TakesFirst, FindsNone, Shuts}
-pub use Rattle.fak_processor.specs.Opened.{dealt_to, fresh_rows, fresh_all, fresh_processor, zipped, IsSemaphoreFor, AreSeated, HasName, fresh_sem_at, AreSemaphoresFor}
-pub use Rattle.fak_processor.specs.Processors.{ObjectsOf, ProcessorOf, AreFor, IsReached, lists_of, ids_of, AreOf, GoesTo, IsAlone, ids_of_seats, AtPlace, IsBorn, HasNoBirth, WakesNobody, WakesFirst, SleepsLast, CountFalls, HasNoSlot, TakesFreeSlot, GoesOn}
+pub use Rattle.fak_processor.specs.Processors.{HasName, ObjectsOf, ProcessorOf, AreFor, IsReached, lists_of, ids_of, AreOf, GoesTo, IsAlone, ids_of_seats, AtPlace, IsBorn, HasNoBirth, WakesNobody, WakesFirst, SleepsLast, CountFalls, HasNoSlot, TakesFreeSlot, GoesOn}
 pub use Rattle.fak_processor.specs.Turning.{Grows, Turning, Adds}
 pub use Rattle.fak_queue.proofs.AfterRefusals.{made_by_append}
 pub use Rattle.fak_queue.proofs.Weighing.{count_at_last, none_in, none_out}
@@ -40,6 +38,7 @@ pub use Rattle.fak_run.proofs.OnlyFiles.{got, keeps_files_then, keeps_files_all,
 pub use Rattle.fak_run.proofs.Storing.{stores_change, left_sets}
 pub use Rattle.fak_run.proofs.Sums.{sum_at, sum_by-map}
 pub use Rattle.fak_run.specs.Files.{free_entry, open_change, close_change, uses_of}
+pub use Rattle.fak_run.specs.Gates.{HasPassed}
 pub use Rattle.fak_run.specs.Ledger.{Ledger, Balanced, nothing, joined, Made, NameAndProgram, named, IsMade, FitsRow, not_before, its_down, before_down, other_down, child, downs_of, ups_of, shuts_of, no_births_of, no_slots_of}
 pub use Rattle.fak_run.specs.ListScheduler.{next_step, turn_over, child_of, numbers_from, Turn, begun_from, Lists, enter_ready, first_lists, State, step, take_front}
 pub use Rattle.fak_run.specs.Making.{AreLines, HasMade, sets_of, HasJustTaken, Left}

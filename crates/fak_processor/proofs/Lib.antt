@@ -5,13 +5,10 @@ pub mod OnlyCounts
 pub mod Places
 pub mod Machines
 pub mod Working
-pub mod Fresh
-pub mod Dealing
 pub mod Starting
 pub mod Events
 pub mod Tallies
 pub mod Calls
-pub mod Growing
 pub mod Moving
 pub mod Gaining
 pub mod Sleeping

@@ -5,11 +5,19 @@ use Rattle.fak_model.specs.Room as room
 use Rattle.fak_model.specs.Credit as credit
 use Rattle.fak_count.specs.Rooms as rooms
 use Rattle.fak_queue.proofs.Common.{Makes, Deletes, RefusedInsertion, NotIn, WithdrawnIn, ClosedIn, WithdrawnLate, kinds_not_in, kinds_in}
-use Rattle.fak_processor.proofs.Common.{Ledger, Made, nothing, joined, queue_kind, Bundle, ProcessorOf, AreLines, is_file_line, file_lines, ◌≡◌, ◌⊎◌, ℕ, ◌<◌, Bool, true, false, List, [], ◌∷◌, ◌++◌, All, All-head, All-tail, no_seat, flat_map, length, map, slice_index_or, slice_set, Option, MatchOption, refl, ap, sym, ◌∙◌, subst, arith, append_assoc, ℤ, sum_by-append, filter-append, SeatInfo, queue_rules, room_rules, credit_rules, put_of, got_of, close_of, closed_of, Kind, Mark, kinds_out, RoomKind, No, RoomMark, CreditKind, CreditMark, FileMark, cond_here, cond_else, SemSeatInfo, credit_part, queue_part, ScriptOf, NoteOf, Process, Grows, Adds, MovesNoItem, IsQuiet, GrowsIn, GrowsShut, GrowsAtLast, GrowsIdle, GrowsEmpty, GrowsOut, bundle_of, names_of, files_of, Gains, at_one, IsFull, IsClosed, InsertsAfterFull, ClosesAfterFull, common_steps}
+use Rattle.fak_processor.proofs.Common.{Owns, Rules, Ledger, Made, nothing, joined, queue_kind, Bundle, ProcessorOf, AreLines, is_file_line, file_lines, ◌≡◌, ◌⊎◌, ℕ, ◌<◌, Bool, true, false, List, [], ◌∷◌, ◌++◌, All, All-head, All-tail, no_seat, flat_map, length, map, slice_index_or, slice_set, Option, MatchOption, refl, ap, sym, ◌∙◌, subst, arith, append_assoc, ℤ, sum_by-append, filter-append, SeatInfo, queue_rules, room_rules, credit_rules, put_of, got_of, close_of, closed_of, Kind, Mark, kinds_out, RoomKind, No, RoomMark, CreditKind, CreditMark, FileMark, cond_here, cond_else, SemSeatInfo, credit_part, queue_part, ScriptOf, NoteOf, Process, Grows, Adds, MovesNoItem, IsQuiet, GrowsIn, GrowsShut, GrowsAtLast, GrowsIdle, GrowsEmpty, GrowsOut, bundle_of, names_of, files_of, Gains, at_one, IsFull, IsClosed, InsertsAfterFull, ClosesAfterFull, common_steps}
 use Rattle.fak_processor.specs.Events.{full, empty, closed, refused_claim}
 use Rattle.fak_processor.proofs.Places.{alike_after}
 use Rattle.fak_processor.proofs.Calls.{grows_same, grows_makes, grows_deletes, grows_room, grows_withdraws}
-use Rattle.fak_processor.proofs.Growing.{grows_then}
+
+-- ---- marks
+
+-- a seat's own marks grow twice
+grows_then : {M W C K : Type 0} {rules : Rules M W C} {kind_of : M → K} {a b c : SeatInfo M} (ks ms : List K) → Grows rules kind_of a b ks → Grows rules kind_of b c ms → Grows rules kind_of a c (ks ++ ms)
+grows_then {rules = rules} {kind_of = kind_of} {c = c} ks ms x y = record {
+  name = y.name ∙ x.name;
+  owns = λ before o. subst (Owns rules kind_of c) (append_assoc before ks ms) (y.owns (before ++ ks) (x.owns before o));
+}
 
 -- ---- marks that weigh nothing
 

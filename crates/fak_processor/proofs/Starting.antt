@@ -1,16 +1,12 @@
 -- What processor 0 does before the threads start.
-use Rattle.std.proofs.lemmas.List.{length-take-le, map-append, get_or-set_same}
+use Rattle.std.proofs.lemmas.List.{length-take-le, map-append}
 use Rattle.fak_model.specs.Calls.{SeatInfo}
-use Rattle.fak_processor.proofs.Common.{AreLines, Balanced, NameAndProgram, joined, named, nothing, begun_names, Gains, GrowsAtLast, Moves, files_of, AreSeated, fresh_all, fresh_processor, no_seat, ◌≡◌, ℕ, zero, suc, ◌+◌, ◌-◌, ◌<◌, ◌≤◌, Bool, List, [], ◌∷◌, ◌++◌, length, map, take, drop, get_or, slice_index_or, slice_set, refl, ap, sym, ◌∙◌, subst, arith, Mark, kinds_in, kinds_out, ScriptOf, Process, new_process, Lists, begun_from, enter_ready, first_lists, numbers_from, turn_over, empty, fills, ObjectsOf, ProcessorOf, AreFor, AreOf, GoesTo, HasNoSlot, IsAlone, IsReached, TakesFreeSlot, lists_of, Begins, Between, FindsNoSlot, FindsSlot, StartsOne, begins, empty_lists, balanced-joined, lines_none, common_steps}
+use Rattle.fak_processor.proofs.Common.{Balanced, NameAndProgram, joined, named, nothing, begun_names, Gains, GrowsAtLast, Moves, ◌≡◌, ℕ, zero, suc, ◌+◌, ◌-◌, ◌<◌, Bool, List, [], ◌∷◌, ◌++◌, length, map, take, drop, get_or, refl, ap, sym, ◌∙◌, subst, arith, Mark, kinds_in, kinds_out, ScriptOf, Process, new_process, Lists, begun_from, enter_ready, first_lists, numbers_from, turn_over, empty, fills, ObjectsOf, ProcessorOf, AreFor, GoesTo, HasNoSlot, IsAlone, IsReached, TakesFreeSlot, lists_of, Begins, FindsNoSlot, FindsSlot, StartsOne, begins, empty_lists, balanced-joined, common_steps}
 use Rattle.fak_processor.proofs.Events.{by_free, keeps_fills, quiet}
-use Rattle.fak_processor.proofs.Calls.{turning_more}
 use Rattle.fak_processor.proofs.Moving.{gains_free, gains_none, gains_then, idle_none, idle_then, quiet_empty}
 use Rattle.fak_processor.proofs.Gaining.{gains_as}
 use Rattle.fak_processor.proofs.Acting.{keeps_idle}
 use Rattle.fak_run.proofs.Opening.{numbers_from-next}
-use Rattle.fak_processor.proofs.Looping.{keeps_name}
-use Rattle.fak_processor.proofs.Fresh.{fresh_are, fresh_between, fresh_goes, fresh_name, fresh_turning}
-use Rattle.fak_processor.proofs.Dealing.{fresh_at, length-all}
 
 -- ---- among any number of processors
 
@@ -82,28 +78,6 @@ module _ {script : ScriptOf} where
       } in
       begins_then got (subst (λ (y : Process). Begins script (y ∷ []) [] [] [] q r) is (begins_moved entered))
 
-  -- processor 0 between two turns, where it was new
-  pub begun_between : (o : ObjectsOf) (stint : ℕ) (made : AreFor script o) {p : ProcessorOf} → AreOf o p → Begins script [] [] (numbers_from 0 script.slots) (begun_names 0 script.start) (fresh_processor o stint 0) p → Between script o 0 p
-  begun_between o stint made {p} are b = record {
-    are = are;
-    is = keeps_name b.gains.names (fresh_name o stint 0);
-    ledger = b.ledger;
-    first = (b.begun_are, b.first_are);
-    turning = turning_more b.ledger (fresh_turning o stint 0 script) (b.gains.adds no_seat) b.balanced;
-    rows = λ f. omega (arith, b.gains.rows f);
-    lines = subst (λ n. AreLines n (files_of b.ledger) p.files.seat) (sym made.files) (b.gains.lines [] (lines_none script.files o.files.object 0 stint));
-  }
-
--- all processors, where the first was new and began
-pub all_between : (script : ScriptOf) (o : ObjectsOf) (stint n : ℕ) (items : List ProcessorOf) (p : ProcessorOf) → 1 ≤ n → items ≡ slice_set (fresh_all o stint 0 n) 0 p → Between script o 0 p
-    → (i : ℕ) (d : ProcessorOf) → i < n → Between script o i (slice_index_or items i d)
-all_between script o stint zero items p some is first i d low = absurd (omega (arith, low))
-all_between script o stint (suc n) items p some is first zero d low = subst (Between script o 0) (sym (ap (λ l. slice_index_or l 0 d) is)) first
-all_between script o stint (suc n) items p some is first (suc i) d low =
-    let up : 1 + i ≡ suc i = omega arith in
-    let at : slice_index_or items (suc i) d ≡ fresh_processor o stint (suc i) = ap (λ l. slice_index_or l (suc i) d) is ∙ (fresh_at o stint 1 n i d (omega (arith, low)) ∙ ap (fresh_processor o stint) up) in
-    subst (Between script o (suc i)) (sym at) (fresh_between script o stint i)
-
 -- ---- numbers and names
 
 pub numbers_more : (a k : ℕ) → numbers_from a (k + 1) ≡ numbers_from a k ++ (a + k) ∷ []
@@ -168,24 +142,3 @@ all_started {script} all len g = record { alone = g.alone; lists_are = g.lists_a
 -- the list scheduler's first state is reached
 pub reached_first : {script : ScriptOf} {p : ProcessorOf} → GoesTo script p (first_lists script) → IsReached script p (turn_over (lists_of script p))
 reached_first g = record { alone = g.alone; count = 0; reached = ap turn_over g.lists_are }
-
--- ---- all processors, of which the first began
-
-pub fresh_length : (o : ObjectsOf) (stint n : ℕ) {items : List ProcessorOf} → items ≡ fresh_all o stint 0 n → length items ≡ n
-fresh_length o stint n fresh = ap length fresh ∙ length-all o stint 0 n
-
-module _ (o : ObjectsOf) (stint n : ℕ) {items : List ProcessorOf} {was : ProcessorOf} (some : 1 ≤ n) (fresh : items ≡ fresh_all o stint 0 n) (first : was ≡ get_or items 0 was) where
-  first_fresh : was ≡ fresh_processor o stint 0
-  first_fresh = first ∙ (ap (λ l. get_or l 0 was) fresh ∙ fresh_at o stint 0 n 0 was (omega (arith, some)))
-
-  pub first_are : AreOf o was
-  first_are = subst (AreOf o) (sym first_fresh) (fresh_are o stint 0)
-
-module _ {script : ScriptOf} (o : ObjectsOf) (stint n : ℕ) {items done : List ProcessorOf} {was : ProcessorOf} (p : ProcessorOf) (made : AreFor script o) (some : 1 ≤ n) (fresh : items ≡ fresh_all o stint 0 n) (first : was ≡ get_or items 0 was) (set : done ≡ slice_set items 0 p) where
-  pub done_between : AreOf o p → Begins script [] [] (numbers_from 0 script.slots) (begun_names 0 script.start) was p → (i : ℕ) (d : ProcessorOf) → i < n → Between script o i (slice_index_or done i d)
-  done_between are b i d low =
-      let begun = subst (λ q. Begins script [] [] (numbers_from 0 script.slots) (begun_names 0 script.start) q p) (first_fresh o stint n some fresh first) b in
-      all_between script o stint n done p some (set ∙ ap (λ l. slice_set l 0 p) fresh) (begun_between o stint made are begun) i d low
-
-  pub done_reached : n ≡ 1 → AreSeated n o → (GoesTo script was (empty_lists script) → IsReached script p (turn_over (lists_of script p))) → (d : ProcessorOf) → IsReached script (slice_index_or done 0 d) (turn_over (lists_of script (slice_index_or done 0 d)))
-  done_reached one seated begun d = grind (arith, common_steps, empty_lists, first_fresh, fresh_goes, slice_index_or, get_or-set_same, fresh_length, turn_over, lists_of)

@@ -12,10 +12,9 @@ use Rattle.fak_run.specs.Making.{AreLines}
 use Rattle.fak_run.specs.Ledger.{Balanced, Ledger, NameAndProgram, named, nothing}
 use Rattle.fak_run.specs.Whole.{begun_names}
 use Rattle.fak_processor.specs.Turning.{Turning}
-use Rattle.fak_processor.specs.Processors.{ObjectsOf, ProcessorOf, AreOf, GoesTo}
+use Rattle.fak_processor.specs.Processors.{ObjectsOf, ProcessorOf, AreOf, GoesTo, HasName}
 use Rattle.fak_processor.specs.Moving.{Gains, MovesNoItem, bundle_of, files_of, rows_weigh}
 use Rattle.fak_processor.specs.Joined.{no_seat}
-use Rattle.fak_processor.specs.Opened.{HasName}
 
 -- processor 0 puts the slots in and starts the processes
 abbrev pub IsFirst : ScriptOf → ℕ → Ledger → Type 0

@@ -6,6 +6,5 @@ pub mod Events
 pub mod Holding
 pub mod Turning
 pub mod Moving
-pub mod Opened
 pub mod Joined
 pub mod Begun

@@ -62,6 +62,15 @@ pub record AreOf (o : ObjectsOf) (p : ProcessorOf) : Type 0 where
   pub files_free : p.files.hold ≡ Nothing
   pub copy : length p.copy ≡ o.files.entries
 
+-- the seats are those of this processor
+pub record HasName (name : ℕ) (p : ProcessorOf) : Type 0 where
+  pub ready : p.ready.name ≡ name
+  pub free : p.free.name ≡ name
+  pub births : p.births.name ≡ name
+  pub busy : p.busy.name ≡ name
+  pub semaphores : All (λ (s : SemSeatInfo Process). s.name ≡ name) p.semaphores
+  pub files : p.files.seat.name ≡ name
+
 -- the objects were opened for this script
 pub record AreFor (script : ScriptOf) (o : ObjectsOf) : Type 0 where
   pub ready : o.ready.size ≡ script.slots

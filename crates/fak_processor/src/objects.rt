@@ -1,6 +1,5 @@
 //! What the processors of a run share.
 
-pub(crate) mod opening;
 pub(crate) mod starting;
 
 use crate::alarm::Alarm;

@@ -18,3 +18,4 @@ pub mod Merging
 pub mod Making
 pub mod Reported
 pub mod RunReports
+pub mod Gates

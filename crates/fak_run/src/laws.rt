@@ -1,5 +1,6 @@
 //! Laws of the list scheduler, and of what the processors of a run leave together.
 
+pub mod gates;
 pub mod reports;
 
 ghost use Rattle.std.specs.Prelude.{◌≡◌, ◌≤◌, ℕ, List, [], ◌∷◌, Some, None};

@@ -1,8 +1,9 @@
-//! The processes of a script, the list scheduler that says what becomes of them, and the report of a run with its text.
+//! The processes of a script, the list scheduler that says what becomes of them, the gate of a run, and its report with its text.
 #![tactic(auto)]
 
 mod context;
 mod fault;
+mod gate;
 pub mod laws;
 mod report;
 mod rows;
@@ -13,6 +14,7 @@ mod text;
 
 pub use context::{Context, Run};
 pub use fault::Fault;
+pub use gate::{FreeGate, Gate, Looks};
 pub use report::{Outcome, ProcessRow, Report};
 pub use rows::{add_rows, sort_rows};
 pub use sleeper::Sleeper;

@@ -4,8 +4,8 @@ ghost use Rattle.std.specs.Prelude.{◌≡◌, ◌<◌, ◌++◌, ◌∷◌, [],
 ghost use Rattle.fak_processor.specs.Processors.{AreFor};
 ghost use Rattle.fak_kernel.specs.Threads.{HasAnswered, HasBegun, IsOfStart};
 
-use fak_processor::{Gate, Objects, Processor};
-use fak_run::{Fault, Run};
+use fak_processor::{Objects, Processor};
+use fak_run::{Fault, Gate, Run};
 use fak_text::Script;
 use std::alloc::Global;
 use std::marker::{Send, Sync};

@@ -18,7 +18,7 @@ use std::sync::Wait;
 
 impl<K: Run> Processor<K> {
     /// All slots become free and the started processes become ready, in order.
-    pub(crate) fn begin<R: Wait>(
+    pub fn begin<R: Wait>(
         &mut self,
         rt: &R,
         alloc: Global,

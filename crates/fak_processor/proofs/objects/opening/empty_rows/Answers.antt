@@ -1,7 +1,0 @@
-use Rattle.fak_processor.proofs.Common.{arith, map, fresh_rows, common_steps}
-use Rattle.std.proofs.lemmas.List.{map-append}
-use Rattle.fak_processor.proofs.Dealing.{rows_next}
-use Rattle.fak_processor.proofs.objects.opening.empty_rows.Goals as goal
-
-pub loop-name-preserved : goal.loop-name-preserved
-loop-name-preserved g c = grind (arith, common_steps, rows_next, map-append, map, fresh_rows)

@@ -1,0 +1,97 @@
+//! What lets processors look at the ready queue.
+
+ghost use Rattle.std.specs.Prelude.{◌≡◌, ◌≤◌, ℕ, Bool, true, false, IfOk, IfErr};
+ghost use Rattle.fak_run.specs.Gates.{HasPassed, IsOfGate, look_behind};
+
+use crate::fault::Fault;
+
+/// What a processor passes before each look at the ready queue. A gate is its two methods. The ghost members, which
+/// proofs alone see, have defaults: a gate that may refuse, and that may answer anything.
+pub trait Gate {
+    /// Whether the gate may ever refuse a processor. A gate that never does names this member, as `FreeGate`.
+    ghost refuses: { Self → Bool } = { λ _. true };
+
+    /// What `pass` may answer the processor of this number at its look of this number.
+    ghost answers: { Self → ℕ → ℕ → Bool → Type 0 } = { λ _ _ _ _. Unit {0} };
+
+    /// Whether `pass` may answer false.
+    fn may_refuse(&self) -> bool
+        ensures { result ≡ refuses self.now };
+
+    /// Lets the processor of this number make the look of this number, counted from 0; after 2^64 - 1 looks the
+    /// number stays there. False is a refusal, and ends the run.
+    fn pass(&self, processor: u64, step: u64) -> bool
+        ensures free { refuses self.now ≡ false → result ≡ true }
+        ensures answer { answers self.now processor step result };
+}
+
+/// A gate that never refuses.
+#[derive(Clone, Copy, Debug, PartialEq, Eq, Drop)]
+pub struct FreeGate;
+
+impl Gate for FreeGate {
+    ghost refuses = { λ _. false };
+
+    fn may_refuse(&self) -> bool {
+        false
+    }
+
+    fn pass(&self, _processor: u64, _step: u64) -> bool {
+        true
+    }
+}
+
+/// The looks of a processor at the ready queue.
+#[derive(Debug, Drop)]
+pub struct Looks {
+    processor: u64,
+    made: u64,
+}
+
+impl Looks {
+    /// Those of the processor of this number, before the first.
+    pub fn new(processor: u64) -> Looks
+        ensures { result ≡ record { processor = processor; made = 0 } }
+    {
+        Looks { processor, made: 0 }
+    }
+
+    /// Passes the gate before the next look.
+    ///
+    /// # Errors
+    ///
+    /// `Gate`, where the gate may refuse and did.
+    pub fn pass<G: Gate>(&mut self, gate: &G) -> Result<(), Fault>
+        ensures next { self.new ≡ record self.old { made = look_behind self.old.made } }
+        ensures passed { IfOk result (λ _. G.answers gate.now self.old.processor self.old.made true) }
+        ensures gate { IfErr result (λ fault. IsOfGate (G.refuses gate.now) fault) }
+        ensures refused { IfErr result (λ _. G.answers gate.now self.old.processor self.old.made false) }
+    {
+        let step = self.made;
+        self.made = step.saturating_add(1);
+        if gate.pass(self.processor, step) {
+            return Ok(());
+        }
+        Err(Fault::Gate)
+    }
+
+    /// Passes the gate before the next look, where the processor makes one.
+    ///
+    /// # Errors
+    ///
+    /// `Gate`, where the gate may refuse and did.
+    pub fn pass_where<G: Gate>(&mut self, gate: &G, looks: bool) -> Result<(), Fault>
+        ensures same { self.new.processor ≡ self.old.processor }
+        ensures passed { IfOk result (λ _. HasPassed (G.answers gate.now self.old.processor) self.old.made
+            → HasPassed (G.answers gate.now self.old.processor) self.new.made) }
+        ensures next { looks ≡ true → self.new.made ≡ look_behind self.old.made }
+        ensures looked { looks ≡ true → 1 ≤ self.new.made }
+        ensures gate { IfErr result (λ fault. IsOfGate (G.refuses gate.now) fault) }
+        ensures refused { IfErr result (λ _. G.answers gate.now self.old.processor self.old.made false) }
+    {
+        if looks {
+            return self.pass(gate);
+        }
+        Ok(())
+    }
+}
