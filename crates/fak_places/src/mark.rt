@@ -22,23 +22,10 @@ fn bears(name: &str) -> Option<bool>
     ensures { result ≡ bears_named name.now }
 {
     match name {
-        "claim-in" => Some(false),
-        "over-in" => Some(false),
-        "back-in" => Some(false),
-        "no-room" => Some(false),
-        "put" => Some(true),
-        "fill" => Some(true),
-        "end-in" => Some(false),
-        "claim-out" => Some(false),
-        "over-out" => Some(false),
-        "back-out" => Some(false),
-        "no-item" => Some(false),
-        "got" => Some(true),
-        "take" => Some(true),
-        "end-out" => Some(false),
-        "close" => Some(false),
-        "closed" => Some(false),
-        "late-in" => Some(false),
+        "put" | "fill" | "got" | "take" => Some(true),
+        "claim-in" | "over-in" | "back-in" | "no-room" | "end-in" | "late-in" => Some(false),
+        "claim-out" | "over-out" | "back-out" | "no-item" | "end-out" => Some(false),
+        "close" | "closed" => Some(false),
         _ => None,
     }
 }

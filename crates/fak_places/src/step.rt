@@ -139,11 +139,8 @@ fn wrong_named(
     match name {
         "say" => wrong_text(size, text),
         "yield" => wrong_lone(size),
-        "down" => wrong_semaphore(semaphores, size, number),
-        "up" => wrong_semaphore(semaphores, size, number),
-        "open" => wrong_inode(size, number),
-        "close" => wrong_inode(size, number),
-        "stat" => wrong_inode(size, number),
+        "down" | "up" => wrong_semaphore(semaphores, size, number),
+        "open" | "close" | "stat" => wrong_inode(size, number),
         "spawn" => wrong_index(
             "a program",
             "no program, since the script has none",

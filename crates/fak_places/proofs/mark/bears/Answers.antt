@@ -2,6 +2,6 @@ use Rattle.std.proofs.Common.{rules}
 use Rattle.fak_places.specs.Named.{bears_named}
 use Rattle.fak_places.proofs.mark.bears.Goals as goal
 
-pub returns-in-got : goal.returns-in-got
+pub returns-in_default : goal.returns-in_default
 unfolding bears_named
-returns-in-got c = search rules
+returns-in_default c = search rules
