@@ -1,4 +1,4 @@
-use Rattle.fak_processor.proofs.Common.{rules, arith}
+use Rattle.fak_processor.proofs.Common.{rules, arith, common_steps}
 use Rattle.fak_processor.proofs.OnlyCounts.{claims, finds_full}
 use Rattle.fak_processor.proofs.Moving.{gains_births, refused_grows}
 use Rattle.fak_processor.proofs.Machines.{is_born, has_no_birth}
@@ -20,3 +20,6 @@ returns-in-Err-AtBound-clause-gains g c =
 
 pub returns-in-Err-Worn-clause-worn : goal.returns-in-Err-Worn-clause-worn
 returns-in-Err-Worn-clause-worn g c = search rules
+
+pub returns-in-Ok-clause-gains : goal.returns-in-Ok-clause-gains
+returns-in-Ok-clause-gains g c = grind (arith, common_steps)
