@@ -19,7 +19,8 @@ pub fn try_down<T: Drop>(
     requires idle { seat.old.standing ≡ Idle }
     ensures object { seat.new.seat.object ≡ seat.old.seat.object }
     ensures call { MatchResult result
-        (λ r. MatchOption r (ParksSince semaphore.now who seat.old.seat seat.new) (Downs semaphore.now who seat.old.seat seat.new.seat))
+        (λ r. MatchOption r (ParksSince semaphore.now who seat.old.seat seat.new)
+        (Downs semaphore.now who seat.old.seat seat.new.seat))
         (λ worn. (worn.0 ≡ who) × IsWornStep seat.old seat.new) }
 {
     match semaphore.claim_down(seat, who) {
@@ -45,7 +46,8 @@ pub fn try_up<T: Drop>(
     requires idle { seat.old.standing ≡ Idle }
     ensures object { seat.new.seat.object ≡ seat.old.seat.object }
     ensures call { MatchResult result
-        (λ r. MatchOption r (WakesSince semaphore.now seat.old.seat seat.new) (Ups semaphore.now seat.old.seat seat.new.seat))
+        (λ r. MatchOption r (WakesSince semaphore.now seat.old.seat seat.new)
+        (Ups semaphore.now seat.old.seat seat.new.seat))
         (λ _. IsWornStep seat.old seat.new) }
 {
     match semaphore.claim_up(seat) {

@@ -173,7 +173,8 @@ impl<K: Run> Joined<K> {
         ensures tallies { self.new.tallies ≡ self.old.tallies }
         ensures ended { IfOk result (λ _. self.new.ended.items ≡ self.old.ended.items ++ processor.old.ended) }
         ensures halted { IfOk result (λ _. self.new.halted.items ≡ self.old.halted.items ++ processor.old.halted) }
-        ensures rest { processor.new ≡ record processor.old { ended = processor.new.ended; halted = processor.new.halted } }
+        ensures rest { processor.new
+            ≡ record processor.old { ended = processor.new.ended; halted = processor.new.halted } }
     {
         self.ended.append(&mut processor.ended)?;
         self.halted.append(&mut processor.halted)

@@ -71,8 +71,8 @@ impl<K: Run> Processor<K> {
         requires objects { AreOf objects.now self.old }
         ensures objects { AreOf objects.now self.new }
         ensures general { IfOk result (λ _. Begins K.script [] [] (slot ∷ []) [] self.old self.new) }
-        ensures alone { IsAlone K.script self.old → IfOk result (λ _. GoesTo K.script self.new
-            (record (lists_of K.script self.old) { free_slots = (lists_of K.script self.old).free_slots ++ slot ∷ [] })) }
+        ensures alone { IsAlone K.script self.old → IfOk result (λ _. GoesTo K.script self.new (record
+            (lists_of K.script self.old) { free_slots = (lists_of K.script self.old).free_slots ++ slot ∷ [] })) }
         ensures worn { IfErr result (λ fault. fault ≡ Fault.Worn) }
     {
         put(&objects.free, rt, &mut self.free, slot)?;

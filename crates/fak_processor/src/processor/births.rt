@@ -48,8 +48,8 @@ impl<K: Run> Processor<K> {
         ensures objects { AreOf objects.now self.new }
         ensures same { self.new ≡ record self.old { births = self.new.births } }
         ensures gains { Gains K.script self.old self.new (record nothing { births = Release 1 ∷ [] }) }
-        ensures alone { IsAlone K.script self.old
-            → GoesTo K.script self.new (record (lists_of K.script self.old) { births = held_amount self.old.births - 1 }) }
+        ensures alone { IsAlone K.script self.old → GoesTo K.script self.new (record
+            (lists_of K.script self.old) { births = held_amount self.old.births - 1 }) }
     {
         objects.births.release(&mut self.births, 1);
     }
