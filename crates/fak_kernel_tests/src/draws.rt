@@ -4,7 +4,7 @@ ghost use Rattle.std.specs.Prelude.{◌<◌};
 
 /// Numbers that look drawn at random, always the same after the same seed (xorshift with 13, 7 and 17, after
 /// G. Marsaglia, Journal of Statistical Software 8(14), 2003).
-#[derive(Drop)]
+#[derive(Debug, Drop)]
 pub struct Draws {
     state: u64,
 }
