@@ -3,6 +3,7 @@ pub mod ListWrites
 pub mod RoomMarks
 pub mod RoomKept
 pub mod RoomReached
+pub mod RoomProgress
 pub mod RoomCalls
 pub mod QueueKept
 pub mod QueueTurns

@@ -1,5 +1,5 @@
 -- How many seats hold tickets at once, and so how many turns of a cell are still to come.
-use Rattle.fak_core.proofs.Common.{Phase, QueueState, stage, sum_below, sum_most, ◌≡◌, ℕ, zero, suc, ◌+◌, ◌-◌, ◌<◌, ◌≤◌, sym, ap, ◌∙◌, inl, inr, arith, same_or_not, common_steps, min, sum_le, seat_bound, in_drawn, stage_beyond, drawn_few, HoldsTicketOf, AreIdleFrom}
+use Rattle.fak_core.proofs.Common.{Phase, QueueState, stage, sum_below, sum_most, ◌≡◌, ℕ, zero, suc, ◌+◌, ◌-◌, ◌<◌, ◌≤◌, sym, ap, ◌∙◌, inl, inr, arith, same_or_not, common_steps, min, sum_le, seat_bound, in_drawn, stage_beyond, drawn_few, HoldsTicketOf, AreIdleFrom, has_drawn, drawn_seats, refl}
 use Rattle.fak_core.proofs.QueueKept.{shown, IsKept}
 use Rattle.fak_core.proofs.QueueTurns.{le_or_lt}
 use Rattle.fak_core.proofs.QueueProgress.{due, held}
@@ -26,6 +26,22 @@ seats_for w g n low (suc m) each =
 few_values : (w g : ℕ → ℕ) (n low m : ℕ) → ((v : ℕ) → low ≤ v → v < low + m → (t : ℕ) × (t < n) × (g t ≡ v) × (1 ≤ w t)) → m ≤ sum_below w n
 few_values w g n low m each = omega (arith, seats_for w g n low m each, sum_le (λ s. w s - ((g s + 1) - (low + m))) w n (λ s. omega arith))
 
+sum_more : (f : ℕ → ℕ) (n m : ℕ) → n ≤ m → sum_below f n ≤ sum_below f m
+sum_more f zero m l = omega arith
+sum_more f (suc n) zero l = absurd (omega arith)
+sum_more f (suc n) (suc m) l = elim (same_or_not n m) [
+  | inl q ↦ (let a = ap (sum_below f) q in let b = ap f q in omega arith)
+  | inr ne ↦ (let rest = sum_more f (suc n) m (omega arith) in omega arith)
+]
+
+-- seats of no weight add nothing
+sum_within : (f : ℕ → ℕ) (m n : ℕ) → ((s : ℕ) → m ≤ s → f s ≡ 0) → sum_below f n ≤ sum_below f m
+sum_within f m zero none = omega arith
+sum_within f m (suc n) none = elim (le_or_lt m n) [
+  | inl out ↦ (let here = none n out in let rest = sum_within f m n none in omega arith)
+  | inr l ↦ sum_more f (suc n) m (omega arith)
+]
+
 -- ---- who holds a ticket
 
 -- who holds a ticket is one of the seats
@@ -34,6 +50,18 @@ below size seats st s c idle h = grind (arith, common_steps, le_or_lt, holds_ope
 
 holds_drawn : {A : Type 0} (size : ℕ) (p : Phase A) (c : ℕ) → HoldsTicketOf size p c → in_drawn (shown p) ≡ 1
 holds_drawn size p c h = grind (arith, common_steps, in_drawn, shown)
+
+drawn_shown : {A : Type 0} (p : Phase A) → has_drawn p ≡ in_drawn (shown p)
+drawn_shown p = grind (arith, common_steps, has_drawn, in_drawn, shown)
+
+drawn_is : {A : Type 0} (size : ℕ) (st : QueueState A) (n : ℕ) → IsKept size st → drawn_seats st n ≡ sum_below (λ s. in_drawn (stage st.past s)) n
+drawn_is size st zero K = refl
+drawn_is size st (suc n) K = omega (arith, drawn_shown (st.phase n), ap in_drawn (K.phases n), drawn_is size st n K)
+
+-- no more seats are between the draw of a ticket and the end of their call than the queue has cells
+pub few_drawn : {A : Type 0} (size n : ℕ) (st : QueueState A) → IsKept size st → drawn_seats st n ≤ size
+few_drawn size n st K =
+    omega (arith, drawn_is size st n K, drawn_few size st.past K.legal, sum_within (λ s. in_drawn (stage st.past s)) (seat_bound st.past) n (λ s out. ap in_drawn (stage_beyond st.past s out)))
 
 -- ---- turns to come
 

@@ -1,6 +1,6 @@
 -- A queue core never locks up: while a call is open, some seat is unblocked, and its next step moves its call forward.
 use Rattle.fak_core.specs.QueueSchedule.{after_step, stepped}
-use Rattle.fak_core.proofs.Common.{Phase, Idle, TurnIn, StoreItem, SetFull, TurnOut, LoadItem, SetFree, QueueMove, QueueState, ticket_out, ◌≡◌, ◌≢◌, ◌⊎◌, ℕ, zero, suc, ◌+◌, ◌-◌, ◌*◌, ◌/◌, ◌%◌, ◌<◌, ◌≤◌, int_lt, List, Option, None, Some, refl, sym, ap, ◌∙◌, subst, inl, inr, arith, nat_tests, Kind, Fill, Take, Mark, Putting, Getting, Has, item_of, same_or_not, getting_below, putting_below, putting_unfilled, getting_untaken, contents_bounded, next_move, past_after, common_steps, add-mod_right, add-div_right, MakesProgress, steps_left, steps_made, HoldsTicketOf, filled_or_putting, taken_or_getting}
+use Rattle.fak_core.proofs.Common.{Phase, Idle, TurnIn, StoreItem, SetFull, TurnOut, LoadItem, SetFree, QueueMove, QueueState, ticket_out, ◌≡◌, ◌≢◌, ◌⊎◌, ℕ, zero, suc, ◌+◌, ◌-◌, ◌*◌, ◌/◌, ◌%◌, ◌<◌, ◌≤◌, int_lt, List, Option, None, Some, refl, sym, ap, ◌∙◌, subst, inl, inr, arith, nat_tests, Kind, Fill, Take, Mark, Putting, Getting, Has, item_of, same_or_not, getting_below, putting_below, putting_unfilled, getting_untaken, contents_bounded, next_move, past_after, common_steps, add-mod_right, add-div_right, MakesProgress, SomeSeatMoves, SomeHolderMoves, AreIdleFrom, steps_left, steps_made, HoldsTicketOf, filled_or_putting, taken_or_getting}
 use Rattle.fak_core.proofs.QueueKept.{shown, TakenBefore, IsKept}
 use Rattle.fak_core.proofs.QueueTurns.{at_here, at_else, le_or_lt}
 use Rattle.fak_core.proofs.QueueOwners.{filling, emptying, waits_fill, waits_take}
@@ -159,6 +159,19 @@ someone size st s _ z K e n = (s, subst (IsUnblocked size st.past) (sym e) tt)
 
 pub someone_unblocked : {A : Type 0} (size : ℕ) (st : QueueState A) (s : ℕ) → 0 < size → IsKept size st → st.phase s ≢ Idle → (t : ℕ) × IsUnblocked size st.past (st.phase t)
 someone_unblocked size st s z K n = someone size st s (st.phase s) z K refl n
+
+-- a seat that is unblocked is one of the seats with calls
+unblocked_below : {A : Type 0} (size seats : ℕ) (st : QueueState A) (s : ℕ) → AreIdleFrom seats st → IsUnblocked size st.past (st.phase s) → s < seats
+unblocked_below size seats st s idle u = elim (le_or_lt seats s) [
+  | inl out ↦ absurd (subst (IsUnblocked size st.past) (idle s out) u)
+  | inr l ↦ l
+]
+
+pub some_moves : {A : Type 0} (size seats : ℕ) (st : QueueState A) (s : ℕ) → 0 < size → IsKept size st → AreIdleFrom seats st → st.phase s ≢ Idle → SomeSeatMoves size seats st
+some_moves size seats st s z K idle n = let t = someone_unblocked size st s z K n in (t.0, unblocked_below size seats st t.0 idle t.1, unblocked_moves size st t.0 z K t.1)
+
+pub some_holder_moves : {A : Type 0} (size seats : ℕ) (st : QueueState A) (s c : ℕ) → 0 < size → IsKept size st → AreIdleFrom seats st → HoldsTicketOf size (st.phase s) c → SomeHolderMoves size seats st c
+some_holder_moves size seats st s c z K idle h = let t = unblocked_at size st s c z K h in (t.0, unblocked_below size seats st t.0 idle t.1, t.2, unblocked_moves size st t.0 z K t.1)
 
 -- ---- a step that changes nothing
 

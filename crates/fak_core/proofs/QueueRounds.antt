@@ -3,7 +3,7 @@ use Rattle.std.proofs.lemmas.List.Elements.{All-cons, All-nil, All-replicate, Al
 use Rattle.std.proofs.Math.ListN.{length-replicate}
 use Rattle.std.specs.List.{All, Contains}
 use Rattle.fak_core.specs.QueueSchedule.{QueueEvent, Advances, happens, run, stepped}
-use Rattle.fak_core.proofs.Common.{Phase, Idle, BackUp, TurnIn, StoreItem, SetFull, EndInsert, BackLow, TurnOut, LoadItem, SetFree, EndDelete, SetShut, QueueState, Mark, ◌%◌, All-head, All-tail, replicate, next_move, ◌≡◌, ◌≢◌, ◌⊎◌, ℕ, zero, suc, ◌+◌, ◌-◌, ◌*◌, ◌<◌, ◌≤◌, List, [], ◌∷◌, length, refl, sym, ap, ◌∙◌, subst, inl, inr, arith, same_or_not, common_steps, min, steps_left, HoldsTicketOf, AreIdleFrom, EachSteps, IsRound, IsIdleOnce, IsIdleWithin, IsAdvance, after_rounds, round_robin, seat_of}
+use Rattle.fak_core.proofs.Common.{Phase, Idle, BackUp, TurnIn, StoreItem, SetFull, EndInsert, BackLow, TurnOut, LoadItem, SetFree, EndDelete, SetShut, QueueState, Mark, ◌%◌, All-head, All-tail, replicate, next_move, ◌≡◌, ◌≢◌, ◌⊎◌, ℕ, zero, suc, ◌+◌, ◌-◌, ◌*◌, ◌<◌, ◌≤◌, List, [], ◌∷◌, length, refl, sym, ap, ◌∙◌, subst, inl, inr, arith, same_or_not, common_steps, min, steps_left, HoldsTicketOf, AreIdleFrom, EachSteps, IsRound, IsIdleOnce, IsIdleWithin, IsAdvance, after_rounds, round_robin, seat_of, Some, slice_get}
 use Rattle.fak_core.proofs.QueueKept.{IsKept}
 use Rattle.fak_core.proofs.QueueTurns.{le_or_lt}
 use Rattle.fak_core.proofs.QueueSteps.{kept_event, kept_run}
@@ -296,3 +296,14 @@ round_robin_rests {A} size seats n st z K idle more =
     (All-replicate (IsRound {A = A} seats) n (round_robin seats) (record { each = round_robin_each {A = A} seats; within = round_robin_within seats seats (omega arith) }))
     (All-replicate (λ (r : List (QueueEvent A)). All (IsAdvance {A = A}) r) n (round_robin seats) (round_robin_only seats))
     (omega (arith, more, length-replicate n (round_robin {A = A} seats)))
+
+pub round_robin_long : (A : Type 0) (n : ℕ) → length (round_robin {A = A} n) ≡ n
+round_robin_long A zero = refl
+round_robin_long A (suc n) = omega (arith, round_robin_long A n)
+
+pub round_robin_at : {A : Type 0} (n s : ℕ) → s < n → slice_get (round_robin {A = A} n) (n - 1 - s) ≡ Some (Advances s)
+round_robin_at zero s l = absurd (omega arith)
+round_robin_at {A} (suc n) s l = elim (same_or_not s n) [
+  | inl q ↦ (let first : suc n - 1 - s ≡ 0 = omega arith in ap (slice_get (round_robin {A = A} (suc n))) first ∙ ap (λ i. Some (Advances i)) (sym q))
+  | inr ne ↦ (let later : suc n - 1 - s ≡ suc (n - 1 - s) = omega arith in ap (slice_get (round_robin {A = A} (suc n))) later ∙ round_robin_at {A = A} n s (omega arith))
+]

@@ -1,5 +1,6 @@
 pub mod Room
 pub mod RoomSchedule
+pub mod RoomProgress
 pub mod QueueMoves
 pub mod QueueSchedule
 pub mod QueueFields

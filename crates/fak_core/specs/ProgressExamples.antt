@@ -12,6 +12,10 @@ steps_of seat n = replicate n (Advances seat)
 abbrev pub waiting : QueueState ℕ
 waiting = reached 2 (Inserts 0 10 ∷ steps_of 0 3 ++ Inserts 1 11 ∷ steps_of 1 7 ++ Deletes 2 ∷ steps_of 2 3)
 
+-- a queue of two cells in which seat 0 waits with deletion 0 for seat 1, which has drawn insertion 0
+abbrev pub held_up : QueueState ℕ
+held_up = reached 2 (Inserts 1 10 ∷ steps_of 1 3 ++ Inserts 2 11 ∷ steps_of 2 7 ++ Deletes 0 ∷ steps_of 0 3)
+
 -- a queue of one cell in which seat 0 has begun an insertion
 abbrev pub begun : QueueState ℕ
 begun = reached 1 (Inserts 0 10 ∷ [])

@@ -1,5 +1,5 @@
 -- Progress of a queue core: the steps that move a call forward, and rounds in which each seat makes a step.
-use Rattle.std.specs.Prelude.{ℕ, zero, suc, ◌≡◌, ◌≢◌, ◌⊎◌, ◌%◌, ◌<◌, ◌≤◌, List, [], ◌∷◌}
+use Rattle.std.specs.Prelude.{ℕ, zero, suc, ◌≡◌, ◌≢◌, ◌⊎◌, ◌+◌, ◌%◌, ◌<◌, ◌≤◌, List, [], ◌∷◌}
 use Rattle.std.specs.List.{All, Contains}
 use Rattle.fak_core.specs.declared.queue.phase.Phase.{Phase}
 use Rattle.fak_core.specs.declared.queue.phase.Phase.TheVariants.{Idle, TestUp, AddUp, BackUp, TicketIn, TurnIn, StoreItem, SetFull, EndInsert, TestLow, SubLow, BackLow, TicketOut, TurnOut, LoadItem, SetFree, EndDelete, SetShut}
@@ -61,6 +61,31 @@ HoldsTicketOf size (TurnOut k) c = k % size ≡ c
 HoldsTicketOf size (LoadItem k) c = k % size ≡ c
 HoldsTicketOf size (SetFree k) c = k % size ≡ c
 HoldsTicketOf size _ c = ⊥
+
+-- the next step of one of this many seats moves its call forward
+abbrev pub SomeSeatMoves : {A : Type 0} → ℕ → ℕ → QueueState A → Type 0
+SomeSeatMoves size seats st = (s : ℕ) × (s < seats) × MakesProgress size st s
+
+-- so does that of one of them that holds a ticket of this cell
+abbrev pub SomeHolderMoves : {A : Type 0} → ℕ → ℕ → QueueState A → ℕ → Type 0
+SomeHolderMoves size seats st c = (s : ℕ) × (s < seats) × HoldsTicketOf size (st.phase s) c × MakesProgress size st s
+
+-- 1 between the draw of a ticket and the end of the call, else 0
+abbrev pub has_drawn : {A : Type 0} → Phase A → ℕ
+has_drawn (TurnIn k x) = 1
+has_drawn (StoreItem k x) = 1
+has_drawn (SetFull k x) = 1
+has_drawn (EndInsert k) = 1
+has_drawn (TurnOut k) = 1
+has_drawn (LoadItem k) = 1
+has_drawn (SetFree k) = 1
+has_drawn (EndDelete k) = 1
+has_drawn _ = 0
+
+-- how many of the first n seats are between the two
+abbrev pub drawn_seats : {A : Type 0} → QueueState A → ℕ → ℕ
+drawn_seats st zero = 0
+drawn_seats st (suc n) = has_drawn (st.phase n) + drawn_seats st n
 
 -- ---- rounds
 

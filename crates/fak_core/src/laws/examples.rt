@@ -1,9 +1,11 @@
 //! Known cases on either side of the definitions of progress.
 
+pub mod room;
+
 ghost use Rattle.std.specs.Prelude.{◌≡◌, ◌<◌, ℕ, [], ◌∷◌};
-ghost use Rattle.fak_core.specs.declared.queue.phase.Phase.TheVariants.{EndDelete, EndInsert, SetFree, SetFull};
-ghost use Rattle.fak_core.specs.ProgressExamples.{begun, rounds_of_two, waiting};
-ghost use Rattle.fak_core.specs.QueueProgress.{AreIdleFrom, HoldsTicketOf, IsAdvance, IsIdleWithin, IsRound, MakesProgress, after_rounds, round_robin};
+ghost use Rattle.fak_core.specs.declared.queue.phase.Phase.TheVariants.{EndDelete, EndInsert, SetFree, SetFull, TicketIn, TicketOut};
+ghost use Rattle.fak_core.specs.ProgressExamples.{begun, held_up, rounds_of_two, waiting};
+ghost use Rattle.fak_core.specs.QueueProgress.{AreIdleFrom, HoldsTicketOf, IsAdvance, IsIdleWithin, IsRound, MakesProgress, SomeHolderMoves, SomeSeatMoves, after_rounds, drawn_seats, has_drawn, round_robin};
 ghost use Rattle.fak_core.specs.QueueSchedule.{Advances, Deletes};
 
 /// A deletion waits for the insertion of its ticket, which does not wait and holds a ticket of the same cell. Once a cell is
@@ -15,6 +17,19 @@ pub fn the_seats_that_wait_are_judged()
     ensures not_held { HoldsTicketOf 2 (waiting.phase 2) 1 → ⊥ }
     ensures full { HoldsTicketOf {A = ℕ} 2 (SetFull 5 10) 1 × (HoldsTicketOf {A = ℕ} 2 (EndInsert 5) 1 → ⊥) }
     ensures free { HoldsTicketOf {A = ℕ} 2 (SetFree 5) 1 × (HoldsTicketOf {A = ℕ} 2 (EndDelete 5) 1 → ⊥) }
+{}
+
+/// Where a seat waits for the second, the first seat does not move, and one of the first two does. The two have drawn
+/// tickets: as many as the queue has cells. So has each call up to its end, and none before its draw.
+pub fn the_seats_that_move_are_judged()
+    ensures beyond { SomeSeatMoves 2 1 held_up → ⊥ }
+    ensures among { SomeSeatMoves 2 2 held_up }
+    ensures holder_beyond { SomeHolderMoves 2 1 held_up 0 → ⊥ }
+    ensures holder { SomeHolderMoves 2 2 held_up 0 }
+    ensures no_holder { SomeHolderMoves 2 2 held_up 1 → ⊥ }
+    ensures drawn { (drawn_seats held_up 3 ≡ 2) × (drawn_seats held_up 1 ≡ 1) }
+    ensures ends { (has_drawn {A = ℕ} (EndInsert 5) ≡ 1) × (has_drawn {A = ℕ} (EndDelete 5) ≡ 1) }
+    ensures draws { (has_drawn {A = ℕ} (TicketIn 10) ≡ 0) × (has_drawn {A = ℕ} TicketOut ≡ 0) }
 {}
 
 /// In a round each seat steps, and no other seat does anything. On a queue of one cell a call may need all of the seven

@@ -1,14 +1,15 @@
 //! That the calls of a queue core move forward and end, for every size above 0, every schedule and items of any type.
 
-ghost use Rattle.std.specs.Prelude.{◌≡◌, ◌≢◌, ◌⊎◌, ℕ, ◌+◌, ◌*◌, ◌<◌, ◌≤◌, List, length, min, replicate};
+ghost use Rattle.std.specs.Prelude.{◌≡◌, ◌≢◌, ◌⊎◌, ℕ, ◌+◌, ◌-◌, ◌*◌, ◌<◌, ◌≤◌, List, Some, length, min, replicate, slice_get};
 ghost use Rattle.std.specs.List.{All};
 ghost use Rattle.fak_core.specs.declared.queue.phase.Phase.{Phase};
 ghost use Rattle.fak_core.specs.declared.queue.phase.Phase.TheVariants.{BackLow, BackUp, Idle};
-ghost use Rattle.fak_core.specs.QueueProgress.{AreIdleFrom, EachSteps, HoldsTicketOf, IsAdvance, IsIdleWithin, IsRound, MakesProgress, after_rounds, round_robin, steps_left, steps_made};
-ghost use Rattle.fak_core.specs.QueueSchedule.{QueueEvent, reached, stepped};
+ghost use Rattle.fak_core.specs.QueueProgress.{AreIdleFrom, EachSteps, HoldsTicketOf, IsAdvance, IsIdleWithin, IsRound, MakesProgress, SomeHolderMoves, SomeSeatMoves, after_rounds, drawn_seats, round_robin, steps_left, steps_made};
+ghost use Rattle.fak_core.specs.QueueSchedule.{Advances, QueueEvent, reached, stepped};
 
 /// A queue never locks up: while a call is open, some seat's next step moves its call forward. Only a call that holds a
-/// ticket can wait, and then some seat that holds a ticket of the same cell can move forward.
+/// ticket can wait, and then some seat that holds a ticket of the same cell can move forward. Where only the first seats
+/// have calls, it is one of these.
 pub fn a_queue_never_locks_up<T>()
     ensures call { (size : ℕ) (schedule : List (QueueEvent T)) (s : ℕ) → 0 < size
         → (reached size schedule).phase s ≢ Idle → (t : ℕ) × MakesProgress size (reached size schedule) t }
@@ -20,6 +21,18 @@ pub fn a_queue_never_locks_up<T>()
         → (reached size schedule).phase s ≢ Idle
         → ((c : ℕ) → HoldsTicketOf size ((reached size schedule).phase s) c → ⊥)
         → MakesProgress size (reached size schedule) s }
+    ensures among { (size seats : ℕ) (schedule : List (QueueEvent T)) (s : ℕ) → 0 < size
+        → AreIdleFrom seats (reached size schedule) → (reached size schedule).phase s ≢ Idle
+        → SomeSeatMoves size seats (reached size schedule) }
+    ensures holders { (size seats : ℕ) (schedule : List (QueueEvent T)) (s c : ℕ) → 0 < size
+        → AreIdleFrom seats (reached size schedule) → HoldsTicketOf size ((reached size schedule).phase s) c
+        → SomeHolderMoves size seats (reached size schedule) c }
+{}
+
+/// However many seats there are, at most as many of them as the queue has cells are between the draw of a ticket and the
+/// end of their call.
+pub fn few_seats_have_drawn<T>()
+    ensures { (size n : ℕ) (schedule : List (QueueEvent T)) → 0 < size → drawn_seats (reached size schedule) n ≤ size }
 {}
 
 /// A seat whose next step would move its call forward keeps that chance: whatever step another seat makes, its own next
@@ -74,4 +87,10 @@ pub fn a_queue_comes_to_rest<T>()
     ensures in_turn { (size seats n : ℕ) (schedule : List (QueueEvent T)) → 0 < size
         → AreIdleFrom seats (reached size schedule) → 3 * min size seats + 4 ≤ n
         → AreIdleFrom 0 (after_rounds size (replicate n (round_robin seats)) (reached size schedule)) }
+{}
+
+/// A round of a round-robin scheduler of n seats has n events, and the one at n - 1 - s is the step of seat s.
+pub fn a_round_robin_steps_each_seat_once<T>()
+    ensures long { (n : ℕ) → length (round_robin {A = T} n) ≡ n }
+    ensures each { (n s : ℕ) → s < n → slice_get (round_robin {A = T} n) (n - 1 - s) ≡ Some (Advances s) }
 {}

@@ -1,8 +1,10 @@
 //! The laws of the room core, for every bound, number of seats and schedule with amounts 1 to 1,024.
 
-ghost use Rattle.std.specs.Prelude.{ℕ, ◌≡◌, List, All, Some, slice_get};
+ghost use Rattle.std.specs.Prelude.{ℕ, ◌≡◌, ◌⊎◌, ◌≤◌, List, All, Some, slice_get};
 ghost use Rattle.fak_core.specs.declared.room.phase.CoreSeat.{CoreSeat};
-ghost use Rattle.fak_core.specs.Room.{history_of, opening};
+ghost use Rattle.fak_core.specs.declared.room.phase.RoomPhase.TheVariants.{Backing, Releasing};
+ghost use Rattle.fak_core.specs.Room.{RoomState, history_of, opening};
+ghost use Rattle.fak_core.specs.RoomProgress.{IsIdleOnce, own_steps};
 ghost use Rattle.fak_core.specs.RoomSchedule.{IsEvent, RoomEvent, run};
 ghost use Rattle.fak_model.specs.Room.{IsRoomHistory, amount_held, value};
 
@@ -23,4 +25,14 @@ pub fn every_room_schedule_keeps_what_is_held()
     ensures { (bound seats : ℕ) (schedule : List RoomEvent) (i : ℕ) (seat : CoreSeat) → All IsEvent schedule
         → slice_get (run schedule (opening bound seats)).seats i ≡ Some seat
         → seat.held ≡ amount_held i (history_of (run schedule (opening bound seats))) }
+{}
+
+/// A room's claim ends in three steps of its own seat, and a release in one, whatever the other seats do between them. A
+/// claim whose add found no room ends in one more.
+pub fn a_room_call_ends_in_three_steps()
+    ensures claim { (s : RoomState) (events : List RoomEvent) (i : ℕ) (seat : CoreSeat) → slice_get s.seats i ≡ Some seat
+        → 3 ≤ own_steps i events → IsIdleOnce events s i }
+    ensures release { (s : RoomState) (events : List RoomEvent) (i : ℕ) (seat : CoreSeat) (d : ℕ)
+        → slice_get s.seats i ≡ Some seat → (seat.phase ≡ Releasing d) ⊎ (seat.phase ≡ Backing d)
+        → 1 ≤ own_steps i events → IsIdleOnce events s i }
 {}

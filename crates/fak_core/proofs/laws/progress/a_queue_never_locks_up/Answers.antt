@@ -1,6 +1,6 @@
 use Rattle.fak_core.proofs.Common.{reached}
 use Rattle.fak_core.proofs.QueueReached.{kept_reached}
-use Rattle.fak_core.proofs.QueueProgress.{someone_unblocked, unblocked_at, unblocked_moves, ticketless_unblocked}
+use Rattle.fak_core.proofs.QueueProgress.{someone_unblocked, unblocked_at, unblocked_moves, ticketless_unblocked, some_moves, some_holder_moves}
 use Rattle.fak_core.proofs.laws.progress.a_queue_never_locks_up.Goals as goal
 
 pub returns : goal.returns
@@ -18,4 +18,6 @@ returns g c = record {
   ticketless = λ size schedule s z n un.
       let st = reached size schedule in
       unblocked_moves size st s z (kept_reached size schedule z) (ticketless_unblocked size st.past (st.phase s) n un);
+  among = λ size seats schedule s z idle n. some_moves size seats (reached size schedule) s z (kept_reached size schedule z) idle n;
+  holders = λ size seats schedule s c z idle h. some_holder_moves size seats (reached size schedule) s c z (kept_reached size schedule z) idle h;
 }
