@@ -34,7 +34,7 @@ read_at (x ∷ l) (suc i) n e = read_at l i n e
 
 module _ {T : Type 0} (key : QueueLimits) (s : State (Option T) (QueueView T)) (r : IsShownQueue key s) (id : ℕ) (v : QueueView T) (there : get_elem? s.views id ≡ some v) (idle : v.phase ≡ Some phase.Idle) (whole : IsWhole key.seats v.names) where
   K : IsKept key.size r.core
-  K = kept key.size r.core r.reached r.encoded.some_cell
+  K = kept key.size r.core r.reached.reached r.encoded.some_cell
 
   -- no call of any seat is open
   at_rest : (n : ℕ) → stage r.core.past n ≡ at.Idle

@@ -2,7 +2,7 @@
 pub use Rattle.atomic_table.proofs.Lists.{set_else, one_turn, set_here}
 pub use Rattle.atomic_table.specs.Seated.{TableId}
 pub use Rattle.atomic_table.specs.Table.{Allows, carried_after, State, Final, Seen, keeps, takes, gives, homes_after, opening, Act, stepped, Valid, rest}
-pub use Rattle.fak_core.proofs.Common.{QueueState, with_at, with_phase, moved, InCell, IsReached, move_from}
+pub use Rattle.fak_core.proofs.Common.{QueueState, with_at, with_phase, moved, InCell, IsReached, AreIdleFrom, move_from}
 pub use Rattle.fak_core.proofs.QueueKept.{IsKept, shown}
 pub use Rattle.fak_core.proofs.QueueOwners.{in_cell, waits_take, waits_fill, alone}
 pub use Rattle.fak_core.proofs.QueueReached.{kept, true_or_false, if_true, if_false, moves, deletes, loads_put, draws_put, inserts, closes, is_reached, legal_history}

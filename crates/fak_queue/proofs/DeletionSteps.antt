@@ -27,7 +27,7 @@ module _ {T : Type 0} (key : QueueLimits) (s : QueueTable T) (r : IsShownQueue k
   pub tests_low : m.0.phase ≡ Some Idle → Step 32 (λ w. w) (λ found after. (l : LowerCount) → IsLowerCount found l → TestedLow key.size key.seats n l m after)
   tests_low e =
       let c = with_phase r.core n TestLow in
-      let reached_begun = deletes key.size r.core r.reached n (stands key s r id n m at one Idle e) in
+      let reached_begun = deletes key.size r.core r.reached.reached n (stands key s r id n m at one Idle e) in
       let reached_next = moves key.size c reached_begun n TestLow (here1 key s r id n m at one TestLow) in
       let w = slice_index s.words 32 in
       let word = r.encoded.words_are.lower_is in
@@ -50,7 +50,7 @@ module _ {T : Type 0} (key : QueueLimits) (s : QueueTable T) (r : IsShownQueue k
 
   pub subtracts_low : m.0.phase ≡ Some SubLow → Step 32 (λ w. (w + (2 ^ 64 - 1)) % 2 ^ 64) (λ found after. (l : LowerCount) → IsLowerCount found l → SubtractedLow key.size key.seats n l m after)
   subtracts_low e =
-      let reached_next = moves key.size r.core r.reached n SubLow (stands key s r id n m at one SubLow e) in
+      let reached_next = moves key.size r.core r.reached.reached n SubLow (stands key s r id n m at one SubLow e) in
       let w = slice_index s.words 32 in
       let w' = (w + (2 ^ 64 - 1)) % 2 ^ 64 in
       let word = r.encoded.words_are.lower_is in
@@ -73,7 +73,7 @@ module _ {T : Type 0} (key : QueueLimits) (s : QueueTable T) (r : IsShownQueue k
 
   pub backs_low : m.0.phase ≡ Some BackLow → Step 32 (λ w. (w + 1) % 2 ^ 64) (λ found after. BacksLow key.size key.seats n m after)
   backs_low e =
-      let R = moves key.size r.core r.reached n BackLow (stands key s r id n m at one BackLow e) in
+      let R = moves key.size r.core r.reached.reached n BackLow (stands key s r id n m at one BackLow e) in
       let new : List (Mark T) = mark n made.BackOut ∷ [] in
       let q = quiet_step key s r id n m at one _ R new refl (refl, tt) (apart1 key s r id n m at one Idle) refl refl (outside key s r id n m at one BackLow e (λ i j. j)) 32 _ (lower_grown key s r id n m at one) Idle (here1 key s r id n m at one Idle) (λ i j. j) m.0.left (omega arith) TellsNothing tt in
       (sight m.0.names (new ++ r.core.past) Idle m.0.left, keeps, tt, q.0, q.1)
@@ -84,7 +84,7 @@ module _ {T : Type 0} (key : QueueLimits) (s : QueueTable T) (r : IsShownQueue k
       let is : w ≡ r.core.draws_out = r.encoded.words_are.draws_out_is in
       let few = (few_draws key s r id n m at one left).1 in
       let next : (w + 1) % 2 ^ 64 ≡ r.core.draws_out + 1 = mod-eq_of_lt (omega (arith, is, few)) ∙ omega (arith, is) in
-      let R = moves key.size r.core r.reached n TicketOut (stands key s r id n m at one TicketOut e) in
+      let R = moves key.size r.core r.reached.reached n TicketOut (stands key s r id n m at one TicketOut e) in
       let it = draws_put key.size r.core n (K key s r id n m at one) (stands key s r id n m at one TicketOut e) in
       let reached_here = subst (λ o. Leads r.core (ticket_out r.core.draws_out o)) it.1 R in
       let words = subst (λ i. AreWords key.size r.core.upper r.core.lower r.core.draws_in i r.core.turn r.core.shut (set s.words 64 ((w + 1) % 2 ^ 64))) next
@@ -100,7 +100,7 @@ module _ {T : Type 0} (key : QueueLimits) (s : QueueTable T) (r : IsShownQueue k
       let i = k % key.size in
       let w = slice_index s.words (80 + i) in
       let is = turn_is key s r id n m at one k in
-      let reached_next = moves key.size r.core r.reached n (TurnOut k) (stands key s r id n m at one (TurnOut k) e) in
+      let reached_next = moves key.size r.core r.reached.reached n (TurnOut k) (stands key s r id n m at one (TurnOut k) e) in
       let out = outside key s r id n m at one (TurnOut k) e (λ i j. j) in
       let gets : stage r.core.past n ≡ Getting k = sym ((K key s r id n m at one).phases n) ∙ ap shown (stands key s r id n m at one (TurnOut k) e) in
       elim (true_or_false (r.core.turn i == 2 * (k / key.size) + 1)) [
@@ -148,7 +148,7 @@ module _ {T : Type 0} (key : QueueLimits) (s : QueueTable T) (r : IsShownQueue k
   stores_free k v tl e held v_is =
       let i = k % key.size in
       let at_load = stands key s r id n m at one (LoadItem k) e in
-      let reached_begun = moves key.size r.core r.reached n (LoadItem k) at_load in
+      let reached_begun = moves key.size r.core r.reached.reached n (LoadItem k) at_load in
       let c = with_phase r.core n (SetFree k) in
       let reached_next = moves key.size c reached_begun n (SetFree k) (here1 key s r id n m at one (SetFree k)) in
       let d : QueueState T = move_from key.size c n (SetFree k) in
@@ -171,7 +171,7 @@ module _ {T : Type 0} (key : QueueLimits) (s : QueueTable T) (r : IsShownQueue k
         few_seats = r.encoded.few_seats;
         words_are = words;
         wide = length-set s.homes i (some None) ∙ r.encoded.wide;
-        slots_are = gives_slot key.size n r.core s.homes r.encoded.wide r.encoded.slots_are d others r.encoded.some_cell r.reached i (near key s r id n m at one k) (λ j ne. (at_else r.core.turn i j (2 * (k / key.size) + 2) ne, refl)) inside mine nowhere None home;
+        slots_are = gives_slot key.size n r.core s.homes r.encoded.wide r.encoded.slots_are d others r.encoded.some_cell r.reached.reached i (near key s r id n m at one k) (λ j ne. (at_else r.core.turn i j (2 * (k / key.size) + 2) ne, refl)) inside mine nowhere None home;
       } in
       let gives_back : IsEncoded key.size key.seats d (set s.words (80 + i) v) (homes_after s.homes m.1 gives) = subst (λ l. IsEncoded key.size key.seats d (set s.words (80 + i) v) (homes_after s.homes l gives)) (sym held) shows in
       let q = steps (queue_object key.size key.seats) s r id n m at one (queue_law key.size key.seats r.encoded.some_cell) d new p step (80 + i) v gives gives_back m.0.left (omega arith) TellsNothing tt in
@@ -179,7 +179,7 @@ module _ {T : Type 0} (key : QueueLimits) (s : QueueTable T) (r : IsShownQueue k
 
   pub ends_out : (k : ℕ) → m.0.phase ≡ Some (EndDelete k) → Step 16 (λ w. (w + (2 ^ 64 - 1)) % 2 ^ 64) (λ found after. EndsOut key.size key.seats n m after)
   ends_out k e =
-      let R = moves key.size r.core r.reached n (EndDelete k) (stands key s r id n m at one (EndDelete k) e) in
+      let R = moves key.size r.core r.reached.reached n (EndDelete k) (stands key s r id n m at one (EndDelete k) e) in
       let new : List (Mark T) = mark n made.EndOut ∷ [] in
       let q = quiet_step key s r id n m at one _ R new refl (refl, tt) (apart1 key s r id n m at one Idle) refl refl (outside key s r id n m at one (EndDelete k) e (λ i j. j)) 16 _ (upper_shrunk key s r id n m at one) Idle (here1 key s r id n m at one Idle) (λ i j. j) m.0.left (omega arith) TellsNothing tt in
       (sight m.0.names (new ++ r.core.past) Idle m.0.left, keeps, tt, q.0, q.1)

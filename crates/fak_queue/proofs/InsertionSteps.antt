@@ -21,7 +21,7 @@ module _ {T : Type 0} (key : QueueLimits) (s : QueueTable T) (r : IsShownQueue k
   pub tests_up : (x : T) → m.0.phase ≡ Some Idle → Step 16 (λ w. w) (λ found after. (u : UpperCount) → IsUpperCount key.size found u → TestedUp key.size key.seats n x u m after)
   tests_up x e =
       let c = with_phase r.core n (TestUp x) in
-      let reached_begun = inserts key.size r.core r.reached n x (stands key s r id n m at one Idle e) in
+      let reached_begun = inserts key.size r.core r.reached.reached n x (stands key s r id n m at one Idle e) in
       let reached_next = moves key.size c reached_begun n (TestUp x) (here1 key s r id n m at one (TestUp x)) in
       let w = slice_index s.words 16 in
       let b = upper_bounds key s r id n m at one in
@@ -60,7 +60,7 @@ module _ {T : Type 0} (key : QueueLimits) (s : QueueTable T) (r : IsShownQueue k
 
   pub adds_up : (x : T) → m.0.phase ≡ Some (AddUp x) → Step 16 (λ w. (w + 1) % 2 ^ 64) (λ found after. (u : UpperCount) → IsUpperCount key.size found u → AddedUp key.size key.seats n x u m after)
   adds_up x e =
-      let reached_next = moves key.size r.core r.reached n (AddUp x) (stands key s r id n m at one (AddUp x) e) in
+      let reached_next = moves key.size r.core r.reached.reached n (AddUp x) (stands key s r id n m at one (AddUp x) e) in
       let w = slice_index s.words 16 in
       let w' = (w + 1) % 2 ^ 64 in
       let b = upper_bounds key s r id n m at one in
@@ -98,7 +98,7 @@ module _ {T : Type 0} (key : QueueLimits) (s : QueueTable T) (r : IsShownQueue k
 
   pub backs_up : (x : T) → m.0.phase ≡ Some (BackUp x) → Step 16 (λ w. (w + (2 ^ 64 - 1)) % 2 ^ 64) (λ found after. BacksUp key.size key.seats n m after)
   backs_up x e =
-      let R = moves key.size r.core r.reached n (BackUp x) (stands key s r id n m at one (BackUp x) e) in
+      let R = moves key.size r.core r.reached.reached n (BackUp x) (stands key s r id n m at one (BackUp x) e) in
       let new : List (Mark T) = mark n made.BackIn ∷ [] in
       let q = quiet_step key s r id n m at one _ R new refl (refl, tt) (apart1 key s r id n m at one Idle) refl refl (outside key s r id n m at one (BackUp x) e (λ i j. j)) 16 _ (upper_shrunk key s r id n m at one) Idle (here1 key s r id n m at one Idle) (λ i j. j) m.0.left (omega arith) TellsNothing tt in
       (sight m.0.names (new ++ r.core.past) Idle m.0.left, keeps, tt, q.0, q.1)
@@ -109,7 +109,7 @@ module _ {T : Type 0} (key : QueueLimits) (s : QueueTable T) (r : IsShownQueue k
       let is : w ≡ r.core.draws_in = r.encoded.words_are.draws_in_is in
       let few = (few_draws key s r id n m at one left).0 in
       let next : (w + 1) % 2 ^ 64 ≡ r.core.draws_in + 1 = mod-eq_of_lt (omega (arith, is, few)) ∙ omega (arith, is) in
-      let R = moves key.size r.core r.reached n (TicketIn x) (stands key s r id n m at one (TicketIn x) e) in
+      let R = moves key.size r.core r.reached.reached n (TicketIn x) (stands key s r id n m at one (TicketIn x) e) in
       let words = subst (λ i. AreWords key.size r.core.upper r.core.lower i r.core.draws_out r.core.turn r.core.shut (set s.words 48 ((w + 1) % 2 ^ 64))) next
       (words_draws_in key.size r.core.upper r.core.lower r.core.draws_in r.core.draws_out r.core.turn r.core.shut s.words r.encoded.words_are ((w + 1) % 2 ^ 64)) in
       let p : Phase T = TurnIn r.core.draws_in x in
@@ -123,7 +123,7 @@ module _ {T : Type 0} (key : QueueLimits) (s : QueueTable T) (r : IsShownQueue k
       let i = k % key.size in
       let w = slice_index s.words (80 + i) in
       let is = turn_is key s r id n m at one k in
-      let reached_next = moves key.size r.core r.reached n (TurnIn k x) (stands key s r id n m at one (TurnIn k x) e) in
+      let reached_next = moves key.size r.core r.reached.reached n (TurnIn k x) (stands key s r id n m at one (TurnIn k x) e) in
       let out = outside key s r id n m at one (TurnIn k x) e (λ i j. j) in
       elim (true_or_false (r.core.turn i == 2 * (k / key.size))) [
         | inl hit ↦ (
@@ -161,7 +161,7 @@ module _ {T : Type 0} (key : QueueLimits) (s : QueueTable T) (r : IsShownQueue k
   stores_full k v x tl e held v_is =
       let i = k % key.size in
       let at_store = stands key s r id n m at one (StoreItem k x) e in
-      let reached_begun = moves key.size r.core r.reached n (StoreItem k x) at_store in
+      let reached_begun = moves key.size r.core r.reached.reached n (StoreItem k x) at_store in
       let c = record (with_phase r.core n (SetFull k x)) { cell = with_at r.core.cell i (Some x) } in
       let reached_next = moves key.size c reached_begun n (SetFull k x) (here1 key s r id n m at one (SetFull k x)) in
       let d : QueueState T = move_from key.size c n (SetFull k x) in
@@ -185,7 +185,7 @@ module _ {T : Type 0} (key : QueueLimits) (s : QueueTable T) (r : IsShownQueue k
         few_seats = r.encoded.few_seats;
         words_are = words;
         wide = length-set s.homes i (some (Some x)) ∙ r.encoded.wide;
-        slots_are = gives_slot key.size n r.core s.homes r.encoded.wide r.encoded.slots_are d others r.encoded.some_cell r.reached i (near key s r id n m at one k)
+        slots_are = gives_slot key.size n r.core s.homes r.encoded.wide r.encoded.slots_are d others r.encoded.some_cell r.reached.reached i (near key s r id n m at one k)
             (λ j ne. (at_else r.core.turn i j (2 * (k / key.size) + 1) ne, at_else r.core.cell i j (Some x) ne)) inside mine nowhere (Some x) home;
       } in
       let gives_back : IsEncoded key.size key.seats d (set s.words (80 + i) v) (homes_after s.homes m.1 gives) = subst (λ l. IsEncoded key.size key.seats d (set s.words (80 + i) v) (homes_after s.homes l gives)) (sym held) shows in
@@ -194,7 +194,7 @@ module _ {T : Type 0} (key : QueueLimits) (s : QueueTable T) (r : IsShownQueue k
 
   pub ends_in : (k : ℕ) → m.0.phase ≡ Some (EndInsert k) → Step 32 (λ w. (w + 1) % 2 ^ 64) (λ found after. EndsIn key.size key.seats n m after)
   ends_in k e =
-      let R = moves key.size r.core r.reached n (EndInsert k) (stands key s r id n m at one (EndInsert k) e) in
+      let R = moves key.size r.core r.reached.reached n (EndInsert k) (stands key s r id n m at one (EndInsert k) e) in
       let new : List (Mark T) = mark n made.EndIn ∷ [] in
       let q = quiet_step key s r id n m at one _ R new refl (refl, tt) (apart1 key s r id n m at one Idle) refl refl (outside key s r id n m at one (EndInsert k) e (λ i j. j)) 32 _ (lower_grown key s r id n m at one) Idle (here1 key s r id n m at one Idle) (λ i j. j) m.0.left (omega arith) TellsNothing tt in
       (sight m.0.names (new ++ r.core.past) Idle m.0.left, keeps, tt, q.0, q.1)
@@ -207,7 +207,7 @@ module _ {T : Type 0} (key : QueueLimits) (s : QueueTable T) (r : IsShownQueue k
       let b = upper_bounds key s r id n m at one in
       let most = upper_most key s r id n m at one in
       let c = with_phase r.core n SetShut in
-      let reached_begun = closes key.size r.core r.reached n (stands key s r id n m at one Idle e) in
+      let reached_begun = closes key.size r.core r.reached.reached n (stands key s r id n m at one Idle e) in
       let reached_next = moves key.size c reached_begun n SetShut (here1 key s r id n m at one SetShut) in
       let new : List (Mark T) = mark n made.Close ∷ [] in
       let words = words_upper key.size r.core.upper r.core.lower r.core.draws_in r.core.draws_out r.core.turn r.core.shut s.words r.encoded.words_are _ r.core.upper true

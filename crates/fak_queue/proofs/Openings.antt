@@ -28,7 +28,7 @@ opens_queue {T} key words is range =
     } in
     let tickets : ℕ = key.seats * key.stint in
     let few : tickets ≤ 64 * 1099511627776 = mul-le-mul range.1.1 range.2.1 in
-    starts (queue_object key.size key.seats) phase.Idle (key.seats * key.stint) core.opening (is_reached key.size []) refl (λ n low. refl) words (replicate key.size None) shows (omega (arith, few))
+    starts (queue_object key.size key.seats) phase.Idle (key.seats * key.stint) core.opening (record { reached = is_reached key.size []; beyond = λ n far. refl }) refl (λ n low. refl) words (replicate key.size None) shows (omega (arith, few))
 
 -- a seat as it is dealt
 pub fresh_queue_seat : {T : Type 0} (object : ObjectId) (name stint : ℕ) (m : QueueHolder T) → m ≡ (sight (name ∷ []) [] phase.Idle stint, []) → queue_seat object name stint m ≡ seat_info object name stint []

@@ -6,7 +6,7 @@ use Rattle.fak_queue.proofs.WordWrites.{shut_above, open_below}
 pub shut_exactly : {T : Type 0} (key : QueueLimits) (s : State (Option T) (QueueView T)) (shown : IsShownQueue key s) → (shut_bit ≤ slice_index s.words 16) ↔ Has Close shown.core.past
 shut_exactly key s shown =
     let core = shown.core in
-    let K = kept key.size core shown.reached shown.encoded.some_cell in
+    let K = kept key.size core shown.reached.reached shown.encoded.some_cell in
     let g = upper_range key.size key.seats core.past K.legal (below_of key.seats core.past shown.named) in
     let most = count upper_raise core.past - count upper_drop core.past in
     let is : pos 0 +ℤ core.upper ≡ pos most = omega (arith, ints, K.upper, g.0) in

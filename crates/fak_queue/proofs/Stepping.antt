@@ -1,5 +1,5 @@
 -- What a seat knows as it makes an atomic step, and the steps that take and give no slot.
-use Rattle.fak_queue.proofs.Common.{QueueLimits, shut_part, AreWords, QueueView, QueueHolder, queue_object, IsShownQueue, ◌≡◌, ◌≢◌, ℕ, ◌+◌, ◌-◌, ◌%◌, ◌^◌, ◌<◌, ◌≤◌, List, [], ◌∷◌, ◌++◌, slice_index, set, refl, sym, ap, ◌∙◌, subst, inl, arith, mod-lt, Option, Some, true, false, ℤ, pos, ◌+ℤ◌, ◌-ℤ◌, reverse, All, All-head, All-tail, ints, some, get_elem?, count, puts, gots, upper_raise, upper_drop, lower_raise, lower_drop, upper_count, lower_count, SeatsBelow, In, sight, AreOwn, Leaves, bias, State, Act, keeps, stepped, carried_after, Valid, Mark, count_reverse, upper_range, lower_range, AreLawful, Advances, steps, total_at, Phase, QueueState, with_at, InCell, IsReached, IsKept, at_here, at_else, kept, legal_history}
+use Rattle.fak_queue.proofs.Common.{QueueLimits, shut_part, AreWords, QueueView, QueueHolder, queue_object, IsShownQueue, ◌≡◌, ◌≢◌, ℕ, ◌+◌, ◌-◌, ◌%◌, ◌^◌, ◌<◌, ◌≤◌, List, [], ◌∷◌, ◌++◌, slice_index, set, refl, sym, ap, ◌∙◌, subst, inl, arith, mod-lt, Option, Some, true, false, ℤ, pos, ◌+ℤ◌, ◌-ℤ◌, reverse, All, All-head, All-tail, ints, some, get_elem?, count, puts, gots, upper_raise, upper_drop, lower_raise, lower_drop, upper_count, lower_count, SeatsBelow, In, sight, AreOwn, Leaves, bias, State, Act, keeps, stepped, carried_after, Valid, Mark, count_reverse, upper_range, lower_range, AreLawful, Advances, steps, total_at, Phase, QueueState, with_at, InCell, IsReached, AreIdleFrom, IsKept, at_here, at_else, kept, legal_history}
 use Rattle.fak_queue.proofs.WordWrites.{grown, shrunk, shut_part-small, words_same, words_upper, words_lower, words_turn}
 use Rattle.fak_queue.proofs.Slots.{stays_home}
 
@@ -8,7 +8,7 @@ QueueTable T = State (Option T) (QueueView T)
 
 -- reached states have legal histories
 pub queue_law : {T : Type 0} (size seats : ℕ) → 0 < size → AreLawful (queue_object {T = T} size seats)
-queue_law size seats some_cell c reached = legal_history size c (kept size c reached some_cell)
+queue_law size seats some_cell c reached = legal_history size c (kept size c reached.reached some_cell)
 
 pub below_of : {T : Type 0} (seats : ℕ) (h : List (Mark T)) → All (λ (m : Mark T). m.seat < seats) h → SeatsBelow seats h
 below_of seats [] all = tt
@@ -26,7 +26,7 @@ module _ {T : Type 0} (key : QueueLimits) (s : QueueTable T) (r : IsShownQueue k
   Permits i f then = (w : QueueView T) × (a : Act (Option T)) × Valid s.homes m.1 a × IsShownQueue key (stepped s i (f (slice_index s.words i)) id m.1 w a) × then (slice_index s.words i) (w, carried_after m.1 a)
 
   pub K : IsKept key.size r.core
-  K = kept key.size r.core r.reached r.encoded.some_cell
+  K = kept key.size r.core r.reached.reached r.encoded.some_cell
 
   -- the seat stands at p
   pub stands : (p : Phase T) → m.0.phase ≡ Some p → r.core.phase n ≡ p
@@ -34,6 +34,10 @@ module _ {T : Type 0} (key : QueueLimits) (s : QueueTable T) (r : IsShownQueue k
 
   pub outside : (p : Phase T) → m.0.phase ≡ Some p → ((i : ℕ) → InCell key.size p i → ⊥) → (i : ℕ) → InCell key.size (r.core.phase n) i → ⊥
   outside p e out i j = out i (subst (λ q. InCell key.size q i) (stands p e) j)
+
+  -- its name is one of the queue's seats
+  pub one_of : n < key.seats
+  one_of = r.below id m.0 at n (subst (λ (names : List ℕ). In n names) (sym one) (inl refl))
 
   -- ---- the counts
 
@@ -128,10 +132,14 @@ module _ {T : Type 0} (key : QueueLimits) (s : QueueTable T) (r : IsShownQueue k
 
   -- ---- steps
 
+  -- a name that is none of the queue's seats keeps no call, since only this seat has moved
+  beyond : (c : QueueState T) → ((t : ℕ) → t ≢ n → c.phase t ≡ r.core.phase t) → AreIdleFrom key.seats c
+  beyond c others t far = others t (λ q. omega (arith, one_of, far, q)) ∙ r.reached.beyond t far
+
   -- the seat's step led to this state and left these marks, newest first
   pub advances : (c : QueueState T) → IsReached key.size c → (new : List (Mark T)) → c.past ≡ new ++ r.core.past → AreOwn (λ (w : Mark T). w.seat) n new → (p : Phase T) → c.phase n ≡ p
       → ((t : ℕ) → t ≢ n → c.phase t ≡ r.core.phase t) → Advances (queue_object key.size key.seats) r.core n c new p
-  advances c reached new past own p here others = record { reached = reached; past = past; own = own; stands = here; others = λ t q ne e. others t ne ∙ e }
+  advances c reached new past own p here others = record { reached = record { reached = reached; beyond = beyond c others }; past = past; own = own; stands = here; others = λ t q ne e. others t ne ∙ e }
 
   -- a step on a word that takes and gives no slot
   pub quiet_step : (c : QueueState T) → IsReached key.size c → (new : List (Mark T)) → c.past ≡ new ++ r.core.past → AreOwn (λ (w : Mark T). w.seat) n new

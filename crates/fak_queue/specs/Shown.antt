@@ -12,6 +12,7 @@ use Rattle.fak_model.specs.Shown.{Object, IsShown}
 use Rattle.fak_core.specs.declared.queue.phase.Phase.{Phase}
 use Rattle.fak_core.specs.declared.queue.phase.Phase.TheVariants.{Idle}
 use Rattle.fak_core.specs.QueueMoves.{QueueState}
+use Rattle.fak_core.specs.QueueProgress.{AreIdleFrom}
 use Rattle.fak_core.specs.QueueSchedule.{InCell, IsReached}
 use Rattle.fak_queue.specs.declared.limits.QueueLimits.{QueueLimits}
 use Rattle.fak_queue.specs.Words.{AreWords}
@@ -43,6 +44,11 @@ pub record IsEncoded {T : Type 0} (size seats : ℕ) (core : QueueState T) (word
   pub wide : length homes ≡ size
   pub slots_are : (cell : ℕ) → cell < size → HasSlot size core homes cell
 
+-- some schedule leads to this state, in which no name from the number of seats on has a call
+pub record IsReachedBy {T : Type 0} (size seats : ℕ) (core : QueueState T) : Type 0 where
+  pub reached : IsReached size core
+  pub beyond : AreIdleFrom seats core
+
 -- a queue of this size with these seats; at most 2^46 tickets are ever drawn
 abbrev pub queue_object : {T : Type 0} → ℕ → ℕ → Object (Mark T) Word WholeCall (Phase T) (QueueState T) (Option T)
 queue_object {T} size seats = record {
@@ -51,7 +57,7 @@ queue_object {T} size seats = record {
   tickets = 70368744177664;
   drawn_of = λ (core : QueueState T). count puts core.past + count gots core.past;
   past_of = λ (core : QueueState T). core.past;
-  IsReached = IsReached size;
+  IsReached = IsReachedBy size seats;
   StandsAt = λ (core : QueueState T) (seat : ℕ) (p : Phase T). core.phase seat ≡ p;
   Encodes = IsEncoded size seats;
 }

@@ -1,10 +1,12 @@
 //! What the rule of a running queue says of its cells and its words, between any two atomic steps of its seats.
 
+pub mod examples;
+
 ghost use Rattle.std.specs.Prelude.{◌≡◌, ◌≢◌, ℕ, ◌<◌, ◌≤◌, ◌↔◌, Option, slice_index};
 ghost use mathlib.Core.Option.{some, none};
 ghost use lib.ListN.{get_elem?};
 ghost use Rattle.atomic_table.specs.Table.{State};
-ghost use Rattle.fak_core.specs.QueueProgress.{HoldsTicketOf, MakesProgress};
+ghost use Rattle.fak_core.specs.QueueProgress.{HoldsTicketOf, MakesProgress, SomeHolderMoves, SomeSeatMoves};
 ghost use Rattle.fak_core.specs.QueueSchedule.{InCell};
 ghost use Rattle.fak_core.specs.declared.queue.phase.Phase.TheVariants.{Idle};
 ghost use Rattle.fak_queue.specs.declared.limits.QueueLimits.{QueueLimits};
@@ -33,12 +35,21 @@ pub fn the_shut_bit_tells_of_a_close<T>()
         → (shut_bit ≤ slice_index s.words upper_word) ↔ Has Close shown.core.past }
 {}
 
-/// A running queue never locks up: while a call is open, some seat's next atomic step moves its call forward. Where the
-/// call holds a ticket, so does some seat that holds a ticket of the same cell.
+/// No name from the number of seats on has a call.
+pub fn names_beyond_the_seats_are_idle<T>()
+    ensures { (key : QueueLimits) (s : State (Option T) (QueueView T)) (shown : IsShownQueue key s) → (a : ℕ)
+        → key.seats ≤ a → shown.core.phase a ≡ Idle }
+{}
+
+/// A running queue never locks up: while a call is open, the next atomic step of one of the queue's seats moves its call
+/// forward. Where the call holds a ticket, so does that of one that holds a ticket of the same cell; where it holds none, its
+/// own does.
 pub fn a_running_queue_never_locks_up<T>()
     ensures call { (key : QueueLimits) (s : State (Option T) (QueueView T)) (shown : IsShownQueue key s) → (a : ℕ)
-        → shown.core.phase a ≢ Idle → (b : ℕ) × MakesProgress key.size shown.core b }
+        → shown.core.phase a ≢ Idle → SomeSeatMoves key.size key.seats shown.core }
     ensures cell { (key : QueueLimits) (s : State (Option T) (QueueView T)) (shown : IsShownQueue key s) → (a cell : ℕ)
-        → HoldsTicketOf key.size (shown.core.phase a) cell
-        → (b : ℕ) × HoldsTicketOf key.size (shown.core.phase b) cell × MakesProgress key.size shown.core b }
+        → HoldsTicketOf key.size (shown.core.phase a) cell → SomeHolderMoves key.size key.seats shown.core cell }
+    ensures ticketless { (key : QueueLimits) (s : State (Option T) (QueueView T)) (shown : IsShownQueue key s) → (a : ℕ)
+        → shown.core.phase a ≢ Idle → ((cell : ℕ) → HoldsTicketOf key.size (shown.core.phase a) cell → ⊥)
+        → MakesProgress key.size shown.core a }
 {}

@@ -1,4 +1,4 @@
-use Rattle.fak_core.proofs.QueueProgress.{someone_unblocked, unblocked_at, unblocked_moves}
+use Rattle.fak_core.proofs.QueueProgress.{some_moves, some_holder_moves, ticketless_unblocked, unblocked_moves}
 use Rattle.fak_queue.proofs.Common.{kept}
 use Rattle.fak_queue.proofs.laws.a_running_queue_never_locks_up.Goals as goal
 
@@ -6,12 +6,11 @@ pub returns : goal.returns
 returns g c = record {
   call = λ key s shown a n.
       let z = shown.encoded.some_cell in
-      let K = kept key.size shown.core shown.reached z in
-      let t = someone_unblocked key.size shown.core a z K n in
-      (t.0, unblocked_moves key.size shown.core t.0 z K t.1);
+      some_moves key.size key.seats shown.core a z (kept key.size shown.core shown.reached.reached z) shown.reached.beyond n;
   cell = λ key s shown a k h.
       let z = shown.encoded.some_cell in
-      let K = kept key.size shown.core shown.reached z in
-      let t = unblocked_at key.size shown.core a k z K h in
-      (t.0, t.2, unblocked_moves key.size shown.core t.0 z K t.1);
+      some_holder_moves key.size key.seats shown.core a k z (kept key.size shown.core shown.reached.reached z) shown.reached.beyond h;
+  ticketless = λ key s shown a n un.
+      let z = shown.encoded.some_cell in
+      unblocked_moves key.size shown.core a z (kept key.size shown.core shown.reached.reached z) (ticketless_unblocked key.size shown.core.past (shown.core.phase a) n un);
 }
