@@ -24,5 +24,8 @@ pub mod SameRows
 pub mod SortedAlike
 pub mod SchedulerWeights
 pub mod SchedulerEnds
+pub mod FileTables
+pub mod FirstLists
+pub mod Unending
 pub mod SchedulerNames
 pub mod ReportExamples

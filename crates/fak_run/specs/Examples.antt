@@ -418,3 +418,17 @@ changed entry entries = record { entry = entry; entries = entries }
 -- an entry with this inode and this many uses
 abbrev pub used : ℕ → ℕ → FileEntry
 used inode uses = record { inode = inode; uses = uses }
+
+-- one process that yields, in turns of no step
+abbrev pub unending : ScriptOf
+unending = record {
+  version = 1;
+  slots = 1;
+  births = 0;
+  quantum = 0;
+  stint = longest_stint;
+  semaphores = [];
+  files = 1;
+  programs = (yield ∷ []) ∷ [];
+  start = 0 ∷ [];
+}

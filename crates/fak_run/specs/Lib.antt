@@ -1,5 +1,6 @@
 pub mod Files
 pub mod ListScheduler
+pub mod SmallSteps
 pub mod Contexts
 pub mod Report
 pub mod Views

@@ -1,12 +1,14 @@
 //! Laws of the list scheduler, and of what the processors of a run leave together.
 
+pub mod file_tables;
 pub mod gates;
 pub mod reports;
+pub mod small_steps;
 
 ghost use Rattle.std.specs.Prelude.{◌≡◌, ◌≤◌, ℕ, List, [], ◌∷◌, Some, None};
 ghost use Rattle.fak_text.specs.Script.{ScriptOf};
 ghost use Rattle.fak_run.specs.ListScheduler.{EndsIn, Lists};
-ghost use Rattle.fak_run.specs.Examples.{ping_pong, ping_pong_left, family, family_left, crowd, crowd_left, heirs, heirs_left, alone, alone_left, plenty, plenty_left, curfew, curfew_left, late_child, late_child_left, reader, reader_left, refused, refused_left, unhurried, unhurried_left, latecomers, latecomers_left, counted, counted_left, changed, used};
+ghost use Rattle.fak_run.specs.Examples.{ping_pong, ping_pong_left, family, family_left, crowd, crowd_left, heirs, heirs_left, alone, alone_left, plenty, plenty_left, curfew, curfew_left, late_child, late_child_left, reader, reader_left, refused, refused_left, unending, unhurried, unhurried_left, latecomers, latecomers_left, counted, counted_left, changed, used};
 ghost use Rattle.fak_run.specs.Files.{open_change, close_change, uses_of, free_entry};
 ghost use Rattle.std.specs.List.{All, AllPairs};
 ghost use Rattle.std.specs.List.Sorted.{IsPermutation};
@@ -60,6 +62,11 @@ pub fn the_list_scheduler_ends_in_one_way()
 /// The list scheduler ends every script whose turns have at least one step.
 pub fn the_list_scheduler_ends_every_script()
     ensures { (script : ScriptOf) → 1 ≤ script.quantum → (lists : Lists) × EndsIn script lists }
+{}
+
+/// With turns of no step it does not end a script of one step.
+pub fn turns_without_steps_never_end()
+    ensures { (lists : Lists) → EndsIn unending lists → ⊥ }
 {}
 
 /// The names in the list scheduler's report are distinct, so a script has one report.
