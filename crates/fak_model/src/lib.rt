@@ -5,6 +5,7 @@ pub mod cell;
 pub mod checker;
 pub mod credit;
 pub mod file;
+pub mod large_fault;
 pub mod laws;
 pub mod limits;
 pub mod name_set;
@@ -18,7 +19,11 @@ pub use cell::{cell_of, round_of};
 pub use checker::first_fault;
 pub use credit::{CreditKind, CreditMark};
 pub use file::{FileEntry, FileField, FileKind, FileMark};
-pub use limits::{LARGEST_BOUND, LARGEST_SIZE, LONGEST_STINT, MOST_SEATS};
+pub use large_fault::LargeFault;
+pub use limits::{
+    LARGE_SEATS, LARGE_SIZE, LARGE_TICKETS, LARGEST_BOUND, LARGEST_SIZE, LONGEST_STINT, MOST_SEATS,
+    tested_large_seats,
+};
 pub use name_set::NameSet;
 pub use queue::{Kind, Mark, Stage};
 pub use room::{RoomKind, RoomMark};
