@@ -4,7 +4,8 @@ pub use Rattle.atomic_table.specs.Table.{State, Act, keeps, stepped, carried_aft
 pub use Rattle.fak_core.specs.declared.room.phase.RoomPhase.TheVariants.{Idle, Adding, Backing, Testing, Releasing}
 pub use Rattle.fak_count.specs.CreditShown.{CreditHolder, credit_mark, credit_object, FoundValue, MadeMark, Observed, CreditView, opened_credit, IsShownCredit, HeardJoin}
 pub use Rattle.fak_count.specs.Credits.{CreditInfo}
-pub use Rattle.fak_count.specs.Opening.{IsInRange}
+pub use Rattle.fak_count.specs.Opening.{IsCount}
+pub use Rattle.fak_model.specs.Limits.{IsInLargeRange}
 pub use Rattle.fak_count.specs.RoomShown.{RoomHolder, room_mark, LeavesRoom, Holds, Tested, Added, Lowered, room_object}
 pub use Rattle.fak_count.specs.Rooms.{RoomInfo, room_seat, IsSettled}
 pub use Rattle.fak_count.specs.Words.{count_place, KeepsCount}

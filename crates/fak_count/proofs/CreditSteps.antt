@@ -1,5 +1,5 @@
 -- Each kind of step on a credit keeps the rule, and tells what it did.
-use Rattle.fak_count.proofs.Common.{◌≡◌, ℕ, suc, ◌+◌, ◌-◌, ◌*◌, ◌%◌, ◌^◌, ◌<◌, ◌≤◌, ℤ, pos, ◌+ℤ◌, ◌-ℤ◌, List, [], ◌∷◌, ◌++◌, length, slice_index, refl, ap, sym, ◌∙◌, subst, arith, Some, reverse, ints, reverse-append, some, get_elem?, sight, Leaves, bias, every_history, count_place, KeepsCount, CreditView, CreditHolder, credit_mark, credit_object, opened_credit, IsShownCredit, FoundValue, MadeMark, Observed, HeardJoin, mul-le-mul, State, Act, keeps, stepped, carried_after, Valid, opening, Allows, CreditKind, CreditMark, debit_weight, credit_weight, kind_of, debits, credits, value, AreLawful, Advances, steps, observes, starts, hears, CreditLimits, IsInRange}
+use Rattle.fak_count.proofs.Common.{◌≡◌, ℕ, suc, ◌+◌, ◌-◌, ◌*◌, ◌%◌, ◌^◌, ◌<◌, ◌≤◌, ℤ, pos, ◌+ℤ◌, ◌-ℤ◌, List, [], ◌∷◌, ◌++◌, length, slice_index, refl, ap, sym, ◌∙◌, subst, arith, Some, reverse, ints, reverse-append, some, get_elem?, sight, Leaves, bias, every_history, count_place, KeepsCount, CreditView, CreditHolder, credit_mark, credit_object, opened_credit, IsShownCredit, FoundValue, MadeMark, Observed, HeardJoin, mul-le-mul, State, Act, keeps, stepped, carried_after, Valid, opening, Allows, CreditKind, CreditMark, debit_weight, credit_weight, kind_of, debits, credits, value, AreLawful, Advances, steps, observes, starts, hears, CreditLimits, IsCount, IsInLargeRange}
 use Rattle.fak_model.specs.declared.credit.CreditKind.TheVariants.{Debit, Credit}
 use Rattle.fak_model.proofs.Leading.{total_push}
 use Rattle.fak_count.proofs.CountWords.{writes, added, subtracted}
@@ -100,11 +100,8 @@ hears_allowed key slots id m = hears (credit_object key) (lawful key) slots id m
 
 -- ---- opening
 
-pub tickets_fit : (seats stint : ℕ) → seats ≤ 64 → stint ≤ 1099511627776 → seats * stint ≤ 70368744177664
-tickets_fit seats stint few short = mul-le-mul few short
-
 -- the table at the opening shows a credit at its start
-pub opens_credit : (key : CreditLimits) → IsInRange key.start key.seats key.stint → (ws : List ℕ) → KeepsCount (pos key.start) ws → IsShownCredit key (opening ws [] (opened_credit key))
+pub opens_credit : (key : CreditLimits) → IsInLargeRange (IsCount key.start) key.seats key.stint → (ws : List ℕ) → KeepsCount (pos key.start) ws → IsShownCredit key (opening ws [] (opened_credit key))
 opens_credit key range ws keeps_start =
-    starts (credit_object key) tt (key.seats * key.stint) [] (range.0, tickets_fit key.seats key.stint range.1.1 range.2.1) refl (λ n low. tt) ws []
+    starts (credit_object key) tt (key.seats * key.stint) [] (range.0, range.2.1) refl (λ n low. tt) ws []
     (subst (λ (v : ℤ). KeepsCount v ws) (omega (arith, ints)) keeps_start) (omega arith)

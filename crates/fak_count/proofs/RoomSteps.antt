@@ -1,5 +1,5 @@
 -- Each kind of step on a room keeps the rule, and tells what it did.
-use Rattle.fak_count.proofs.Common.{◌≡◌, ◌≢◌, ℕ, ◌+◌, ◌-◌, ◌%◌, ◌^◌, ◌<◌, ◌≤◌, Bool, true, false, List, [], ◌∷◌, ◌++◌, length, slice_index, slice_get, refl, ap, ◌∙◌, subst, arith, Option, Some, None, pos, ◌+ℤ◌, ◌-ℤ◌, ◌≤ℤ◌, ◌<ℤ◌, nat_lt, map, reverse, replicate, Ok, sum_by, nat_tests, ints, slice_get_within, slice_get-get_or, get_or-replicate, some, get_elem?, IsHistory, sight, AreOwn, Leaves, bias, sees_knows, Idle, Testing, Adding, Backing, Releasing, count_place, KeepsCount, State, Act, keeps, stepped, carried_after, Valid, opening, Allows, RoomKind, AreLawful, Advances, steps, bears, sees_now, stands_now, starts, hears, RoomLimits, IsInRange}
+use Rattle.fak_count.proofs.Common.{◌≡◌, ◌≢◌, ℕ, ◌+◌, ◌-◌, ◌%◌, ◌^◌, ◌<◌, ◌≤◌, Bool, true, false, List, [], ◌∷◌, ◌++◌, length, slice_index, slice_get, refl, ap, ◌∙◌, subst, arith, Option, Some, None, pos, ◌+ℤ◌, ◌-ℤ◌, ◌≤ℤ◌, ◌<ℤ◌, nat_lt, map, reverse, replicate, Ok, sum_by, nat_tests, ints, slice_get_within, slice_get-get_or, get_or-replicate, some, get_elem?, IsHistory, sight, AreOwn, Leaves, bias, sees_knows, Idle, Testing, Adding, Backing, Releasing, count_place, KeepsCount, State, Act, keeps, stepped, carried_after, Valid, opening, Allows, RoomKind, AreLawful, Advances, steps, bears, sees_now, stands_now, starts, hears, RoomLimits, IsCount, IsInLargeRange}
 use Rattle.std.proofs.Math.ListN.{length-replicate}
 use Rattle.fak_model.specs.declared.room.RoomKind.TheVariants.{Up, Over, Back, No, Release as GivenBack}
 use Rattle.fak_model.specs.Room.{seat_of, kind_of, up_amount, release_amount, room_rules, amount_held}
@@ -264,7 +264,7 @@ hears_allowed key slots id m = hears (room_object key) (lawful key) slots id m c
 -- ---- opening
 
 -- the table at the opening shows an empty room
-pub opens_room : (key : RoomLimits) (stint : ℕ) → IsInRange key.bound key.seats stint → (ws : List ℕ) → KeepsCount (pos 0) ws → IsShownRoom key (opening ws [] (opened_room key))
+pub opens_room : (key : RoomLimits) (stint : ℕ) → IsInLargeRange (IsCount key.bound) key.seats stint → (ws : List ℕ) → KeepsCount (pos 0) ws → IsShownRoom key (opening ws [] (opened_room key))
 opens_room key stint range ws keeps_none =
     starts (room_object key) Idle 0 (core_opening key.bound key.seats) (record { reached = opening_reached key.bound key.seats; low = range.0; few = range.1.1 }) refl
     (λ n low. record { holding = 0; seat = slice_get-get_or (replicate key.seats resting) n resting (let long = length-replicate key.seats resting in omega (arith, long, low)) ∙ ap Some (get_or-replicate key.seats n resting resting low) })

@@ -29,7 +29,7 @@ credit_object key = record {
   tickets = key.seats * key.stint;
   drawn_of = λ past. length past;
   past_of = λ past. past;
-  IsReached = λ past. IsCount key.start × (key.seats * key.stint ≤ 70368744177664);
+  IsReached = λ past. IsCount key.start × (key.seats * key.stint ≤ 1125899906842624);
   StandsAt = λ past name phase. Unit {0};
   Encodes = λ past words homes. KeepsCount (value key.start (reverse past)) words;
 }

@@ -30,7 +30,7 @@ room_mark name kind = record { seat = name; kind = kind }
 pub record IsReachedRoom (key : RoomLimits) (s : RoomState) : Type 0 where
   pub reached : core.IsReached key.bound key.seats s
   pub low : IsCount key.bound
-  pub few : key.seats ≤ 64
+  pub few : key.seats ≤ 1024
 
 -- whatever it holds, the seat stands at this phase
 pub record StandsInRoom (s : RoomState) (name : ℕ) (phase : RoomPhase) : Type 0 where

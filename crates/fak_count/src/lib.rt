@@ -3,6 +3,7 @@
 //! Gottlieb, B. D. Lubachevsky and L. Rudolph, ACM TOPLAS 5(2), 1983), and credits, which debits and credits move by 1 with no test.
 //!
 //! - `Room::open(alloc, bound, seats, stint)` and `Credit::open(alloc, start, seats, stint)` answer the count and its seats.
+//!   `open_large` of each opens a count of more seats.
 //! - `Room::tir(&mut seat, d)` claims `d`, 1 to 1,024, or is refused with the value that it found; `release` gives back.
 //! - `Credit::debit` and `credit` answer the value before; `Credit::value` loads it.
 //! - No call waits. `RoomTally` and `CreditTally` bring seats back together; a room at rest counts what its seats hold.
@@ -19,6 +20,8 @@ mod rooms;
 mod words;
 
 pub use credits::{Credit, CreditSeat, CreditTally};
-pub use fak_model::{LARGEST_BOUND, LONGEST_STINT, MOST_SEATS};
+pub use fak_model::{
+    LARGE_SEATS, LARGE_TICKETS, LARGEST_BOUND, LONGEST_STINT, LargeFault, MOST_SEATS,
+};
 pub use fault::{OpenFault, TirFault, Worn};
 pub use rooms::{Room, RoomSeat, RoomTally};

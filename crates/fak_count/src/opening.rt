@@ -1,10 +1,11 @@
 //! The ranges of what an object is opened with.
 
 ghost use Rattle.std.specs.Prelude.{MatchResult};
-ghost use Rattle.fak_count.specs.Opening.{IsInRange, IsRangeFault};
+ghost use Rattle.fak_count.specs.Opening.{IsCount, IsInRange, IsRangeFault};
+ghost use Rattle.fak_model.specs.Limits.{IsInLargeRange, IsLargeFault};
 
 use crate::fault::OpenFault;
-use fak_model::{LARGEST_BOUND, LONGEST_STINT, MOST_SEATS};
+use fak_model::{LARGEST_BOUND, LONGEST_STINT, LargeFault, MOST_SEATS, tested_large_seats};
 
 /// Tests the bound or start, the number of seats and the stint of an object, in this order.
 pub(crate) fn tested_limits(count: u64, seats: u64, stint: u64) -> Result<(), OpenFault>
@@ -20,4 +21,15 @@ pub(crate) fn tested_limits(count: u64, seats: u64, stint: u64) -> Result<(), Op
         return Err(OpenFault::BadStint);
     }
     Ok(())
+}
+
+/// Tests the same of a large object, in the same order.
+pub(crate) fn tested_large_limits(count: u64, seats: u64, stint: u64) -> Result<(), LargeFault>
+    ensures { MatchResult result (λ _. IsInLargeRange (IsCount count) seats stint)
+        (IsLargeFault (IsCount count) seats stint) }
+{
+    if count > LARGEST_BOUND {
+        return Err(LargeFault::BadSize);
+    }
+    tested_large_seats(seats, stint)
 }

@@ -30,11 +30,11 @@ overs_at p (No n ∷ kinds) r = omega (arith, r.0, overs_at 0 kinds r.1, sum_by-
 overs_at p (Set i f v ∷ kinds) r = omega (arith, r.0, overs_at 2 kinds r.1, sum_by-cons over_amount (Set i f v) kinds, sum_by-cons back_amount (Set i f v) kinds)
 overs_at p (Give ∷ kinds) r = omega (arith, r.0, overs_at 0 kinds r.1, sum_by-cons over_amount Give kinds, sum_by-cons back_amount Give kinds)
 
-fair_place : (k : ℕ) (h : List FileMark) (seat : ℕ) (kind : FileKind) → k ≤ 64 → IsFair k h seat kind → leads kind ≤ 67
+fair_place : (k : ℕ) (h : List FileMark) (seat : ℕ) (kind : FileKind) → k ≤ 1024 → IsFair k h seat kind → leads kind ≤ 1027
 fair_place k h seat kind few fair = grind (arith, common_steps, leads, IsFair)
 
-place_low : (k : ℕ) → k ≤ 64 → (h : List FileMark) → IsFileHistory k h → (seat : ℕ) → ends leads 0 (seat_words (file_rules k) seat h) ≤ 67
-place_low k few = snoc_ind (λ (h : List FileMark). IsFileHistory k h → (seat : ℕ) → ends leads 0 (seat_words (file_rules k) seat h) ≤ 67) (λ law seat. omega arith) (λ h m before law seat.
+place_low : (k : ℕ) → k ≤ 1024 → (h : List FileMark) → IsFileHistory k h → (seat : ℕ) → ends leads 0 (seat_words (file_rules k) seat h) ≤ 1027
+place_low k few = snoc_ind (λ (h : List FileMark). IsFileHistory k h → (seat : ℕ) → ends leads 0 (seat_words (file_rules k) seat h) ≤ 1027) (λ law seat. omega arith) (λ h m before law seat.
     let old = before (history_front (file_rules k) h m law) seat in
     elim (same_or_not m.seat seat) [
       | inl own ↦ (let is = ap (ends leads 0) (seat_words-own (file_rules k) seat h m own) ∙ ends_append leads 0 (seat_words (file_rules k) seat h) (m.kind ∷ []) in
@@ -45,14 +45,14 @@ place_low k few = snoc_ind (λ (h : List FileMark). IsFileHistory k h → (seat 
 -- ---- the range of the count
 
 -- the count is the number of seats less what is held and what is not withdrawn yet
-pub count_within : (k : ℕ) (h : List FileMark) → k ≤ 64 → IsFileHistory k h → AreNamed (file_rules k) k h → (taken : ℕ) × (count k h +ℤ pos taken ≡ pos k) × (taken ≤ 5000)
+pub count_within : (k : ℕ) (h : List FileMark) → k ≤ 1024 → IsFileHistory k h → AreNamed (file_rules k) k h → (taken : ℕ) × (count k h +ℤ pos taken ≡ pos k) × (taken ≤ 2000000)
 count_within k h few law named =
     let over : ℕ → ℕ = λ (i : ℕ). sum_by over_amount (seat_words (file_rules k) i h) in
     let back : ℕ → ℕ = λ (i : ℕ). sum_by back_amount (seat_words (file_rules k) i h) in
     let more : ℕ → ℕ = λ (i : ℕ). ends leads 0 (seat_words (file_rules k) i h) - 3 in
     let each : (i : ℕ) → over i ≡ back i + more i = λ i. omega (arith, overs_at 0 (seat_words (file_rules k) i h) (runs_of (seat_words (file_rules k) i h) (law.calls i))) in
     let split : sum_below over k ≡ sum_below back k + sum_below more k = sum_same over (λ (i : ℕ). back i + more i) k (λ i l. each i) ∙ sum_plus back more k in
-    let most : sum_below more k ≤ k * 64 = sum_most more 64 k (λ i l. omega (arith, place_low k few h law i)) in
+    let most : sum_below more k ≤ k * 1024 = sum_most more 1024 k (λ i l. omega (arith, place_low k few h law i)) in
     let overs : sum_below over k ≡ total over_amount h = sum_parts (file_rules k) over_amount k h named in
     let backs : sum_below back k ≡ total back_amount h = sum_parts (file_rules k) back_amount k h named in
     let held = holds_total k k h law named in

@@ -14,7 +14,7 @@ field_zero w n entry f low few =
     ∙ (get_or-set_other (replicate (width 16) 0) count_place (word_of entry f) w 0 (λ e. omega (arith, e)) ∙ get_or-replicate (width 16) (word_of entry f) 0 0 (omega (arith, low, few)))
 
 -- a table with a count of its seats, and with all entries free
-pub opens : (entries seats : ℕ) → entries ≤ 16 → 1 ≤ seats → seats ≤ 64 → IsShownFile (limits entries seats) (opening (take (width entries) (row (bias + seats))) [] (opened_file (limits entries seats)))
+pub opens : (entries seats : ℕ) → entries ≤ 16 → 1 ≤ seats → seats ≤ 1024 → IsShownFile (limits entries seats) (opening (take (width entries) (row (bias + seats))) [] (opened_file (limits entries seats)))
 opens entries seats few some most =
     let shows : ShowsHistory (limits entries seats) [] (take (width entries) (row (bias + seats))) = record {
       few_entries = few;
@@ -28,7 +28,7 @@ opens entries seats few some most =
 
 -- ---- seats
 
-pub fresh_file_seat : (seats name stint : ℕ) (m : FileHolder) → m ≡ (sight (name ∷ []) [] Idle 0, []) → name < seats → seats ≤ 64 → IsFileSeat name seats Nothing m
+pub fresh_file_seat : (seats name stint : ℕ) (m : FileHolder) → m ≡ (sight (name ∷ []) [] Idle 0, []) → name < seats → seats ≤ 1024 → IsFileSeat name seats Nothing m
 fresh_file_seat seats name stint m is low few = grind (arith, common_steps, fresh_token, seat_of, reverse, history_none, file_rules, words_by, kind_of)
 
 pub fresh_seat_is : (object : ObjectId) (name stint : ℕ) (m : FileHolder) → m ≡ (sight (name ∷ []) [] Idle 0, []) → seat_now object name stint Nothing m ≡ file_seat (seat_info object name stint []) Nothing

@@ -12,13 +12,13 @@ module _ (table : FileLimits) (s : State (Unit {0}) FileView) (r : IsShownFile t
   abbrev h : List FileMark
   h = reverse r.core
 
-  within : (taken : ℕ) × (count table.seats h +ℤ pos taken ≡ pos table.seats) × (taken ≤ 5000)
+  within : (taken : ℕ) × (count table.seats h +ℤ pos taken ≡ pos table.seats) × (taken ≤ 2000000)
   within = count_within table.seats h r.encoded.few_seats r.reached (All-reverse (λ (x : FileMark). x.seat < table.seats) r.core r.named)
 
   counts : CountIs table.seats (slice_index s.words count_place) r.core
   counts = (r.encoded.counted, near_word (slice_index s.words count_place) table.seats within.0 (count table.seats h) r.encoded.counted within.1 r.encoded.few_seats)
 
-  small : (access : Access) → amount_of table.seats access ≤ 64
+  small : (access : Access) → amount_of table.seats access ≤ 1024
   small access = grind (arith, common_steps, amount_of)
 
   -- a step with one mark

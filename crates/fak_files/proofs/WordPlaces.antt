@@ -4,13 +4,13 @@ use Rattle.fak_files.proofs.Common.{FileLimits, ShowsHistory, mark, ◌≡◌, �
 
 -- ---- numbers
 
-pub sub_word : (w a k taken : ℕ) (u : ℤ) → pos w ≡ pos bias +ℤ u → u +ℤ pos taken ≡ pos k → taken ≤ 5000 → k ≤ 64 → a ≤ 64 → pos ((w + (2 ^ 64 - a)) % 2 ^ 64) ≡ pos bias +ℤ (u -ℤ pos a)
+pub sub_word : (w a k taken : ℕ) (u : ℤ) → pos w ≡ pos bias +ℤ u → u +ℤ pos taken ≡ pos k → taken ≤ 2000000 → k ≤ 1024 → a ≤ 1024 → pos ((w + (2 ^ 64 - a)) % 2 ^ 64) ≡ pos bias +ℤ (u -ℤ pos a)
 sub_word w a k taken u e range low few small = grind (arith, common_steps, add-mod_left, mod-eq_of_lt)
 
-pub add_word : (w a k taken : ℕ) (u : ℤ) → pos w ≡ pos bias +ℤ u → u +ℤ pos taken ≡ pos k → taken ≤ 5000 → k ≤ 64 → a ≤ 64 → pos ((w + a) % 2 ^ 64) ≡ pos bias +ℤ (u +ℤ pos a)
+pub add_word : (w a k taken : ℕ) (u : ℤ) → pos w ≡ pos bias +ℤ u → u +ℤ pos taken ≡ pos k → taken ≤ 2000000 → k ≤ 1024 → a ≤ 1024 → pos ((w + a) % 2 ^ 64) ≡ pos bias +ℤ (u +ℤ pos a)
 add_word w a k taken u e range low few small = grind (arith, common_steps, mod-eq_of_lt)
 
-pub near_word : (w k taken : ℕ) (u : ℤ) → pos w ≡ pos bias +ℤ u → u +ℤ pos taken ≡ pos k → k ≤ 64 → w < 2 ^ 63
+pub near_word : (w k taken : ℕ) (u : ℤ) → pos w ≡ pos bias +ℤ u → u +ℤ pos taken ≡ pos k → k ≤ 1024 → w < 2 ^ 63
 near_word w k taken u e range few = omega (arith, ints, e, range)
 
 -- ---- fields

@@ -33,7 +33,7 @@ limits entries seats = record { entries = entries; seats = seats }
 -- the words after a history show its count and its fields
 pub record ShowsHistory (table : FileLimits) (h : List FileMark) (words : List ℕ) : Type 0 where
   pub few_entries : table.entries ≤ 16
-  pub few_seats : table.seats ≤ 64
+  pub few_seats : table.seats ≤ 1024
   pub some_seat : 1 ≤ table.seats
   pub wide : length words ≡ width table.entries
   pub counted : pos (slice_index_or words count_place 0) ≡ pos bias +ℤ count table.seats h

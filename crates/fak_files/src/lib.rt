@@ -3,7 +3,8 @@
 //! retest (A. Gottlieb, B. D. Lubachevsky and L. Rudolph, ACM TOPLAS 5(2), 1983): a reader lowers the count by 1, a writer by
 //! the number of seats, so that a writer is alone. Each call occurs once in one history.
 //!
-//! - `FileTable::open(alloc, entries, seats, stint)` answers the table and its seats.
+//! - `FileTable::open(alloc, entries, seats, stint)` answers the table and its seats. `open_large` opens a table of more
+//!   seats.
 //! - `try_read` and `try_write` take a hold or are refused; `read` and `write` wait for it. `end` gives it back.
 //! - In a hold `get` reads an entry; in a writer's hold `set` sets a field. A hold reads one version.
 //! - `FileTally::of`, `join`, `close`: bring the seats back together; the fields at the end come out as a `FileRest`.
@@ -28,7 +29,9 @@ mod table;
 mod tally;
 mod words;
 
-pub use fak_model::{FileEntry, FileField, LONGEST_STINT, MOST_SEATS};
+pub use fak_model::{
+    FileEntry, FileField, LARGE_SEATS, LARGE_TICKETS, LONGEST_STINT, LargeFault, MOST_SEATS,
+};
 pub use fault::{FileFault, OpenFault, Worn};
 pub use phase::Hold;
 pub use rest::FileRest;

@@ -1,11 +1,12 @@
 //! The ranges of what a file table is opened with.
 
 ghost use Rattle.std.specs.Prelude.{MatchResult};
-ghost use Rattle.fak_files.specs.Opening.{IsInRange, IsRangeFault};
+ghost use Rattle.fak_files.specs.Opening.{IsInRange, IsNumberOfEntries, IsRangeFault};
+ghost use Rattle.fak_model.specs.Limits.{IsInLargeRange, IsLargeFault};
 
 use crate::fault::OpenFault;
 use crate::words::{FIELDS, MOST_ENTRIES};
-use fak_model::{LONGEST_STINT, MOST_SEATS};
+use fak_model::{LONGEST_STINT, LargeFault, MOST_SEATS, tested_large_seats};
 
 /// How many words there are for the most entries.
 pub(crate) const WORDS: usize = FIELDS + 2 * MOST_ENTRIES;
@@ -24,4 +25,15 @@ pub(crate) fn tested_limits(entries: u64, seats: u64, stint: u64) -> Result<(), 
         return Err(OpenFault::BadStint);
     }
     Ok(())
+}
+
+/// Tests the same of a large table, in the same order.
+pub(crate) fn tested_large_limits(entries: u64, seats: u64, stint: u64) -> Result<(), LargeFault>
+    ensures { MatchResult result (λ _. IsInLargeRange (IsNumberOfEntries entries) seats stint)
+        (IsLargeFault (IsNumberOfEntries entries) seats stint) }
+{
+    if entries == 0 || entries > MOST_ENTRIES as u64 {
+        return Err(LargeFault::BadSize);
+    }
+    tested_large_seats(seats, stint)
 }

@@ -1,12 +1,13 @@
 //! A file table that threads share.
 
-ghost use Rattle.std.specs.Prelude.{◌≡◌, ◌≢◌, ◌<◌, MatchResult, is_ok, if◌then◌else◌, ◌≤◌, ℕ, length, slice_get, Some};
+ghost use Rattle.std.specs.Prelude.{◌≡◌, ◌≢◌, ◌<◌, IfOk, MatchResult, is_ok, if◌then◌else◌, ◌≤◌, ℕ, length, slice_get, Some};
 ghost use Rattle.fak_files.specs.Calls.{IsFileSeatOf, IsGranted, IsRefused, IsGot, IsSet, IsEnded, idle_seats, IsWaitedFor, IsWorn, entries_after};
 ghost use Rattle.fak_files.specs.Phases.{hold_for};
 ghost use Rattle.fak_files.specs.declared.phase.Access.TheVariants.{Read, Write};
 ghost use Rattle.fak_files.specs.declared.phase.Hold.TheVariants.{Nothing, Reading, Writing};
 ghost use Rattle.fak_model.specs.Calls.{fresh_seats, IsJoined};
-ghost use Rattle.fak_files.specs.Opening.{IsInRange, IsOpenFault};
+ghost use Rattle.fak_files.specs.Opening.{IsInRange, IsNumberOfEntries, IsOpenFault};
+ghost use Rattle.fak_model.specs.Limits.{IsInLargeRange, IsLargeFault};
 ghost use Rattle.fak_model.specs.Histories.{AreNamed, IsAtRest};
 ghost use Rattle.fak_model.specs.File.{IsFileHistory, file_rules};
 ghost use Rattle.fak_model.specs.Seats.{IsWhole};
@@ -17,7 +18,7 @@ use crate::admission::admit;
 use crate::ending::entries_of;
 use crate::fault::{FileFault, OpenFault, Worn};
 use crate::limits::FileLimits;
-use crate::opening::{WORDS, tested_limits};
+use crate::opening::{WORDS, tested_large_limits, tested_limits};
 use crate::phase::{Access, Hold};
 use crate::rest::FileRest;
 use crate::rule::{FileRule, FileView};
@@ -27,8 +28,8 @@ use crate::tally::FileTally;
 use crate::words::{COUNT, FIELDS};
 use atomic_table::Table;
 use crossbeam_utils::Backoff;
-use fak_model::{BIAS, Both, Deal, FileEntry, FileField};
-use std::alloc::Global;
+use fak_model::{BIAS, Both, Deal, FileEntry, FileField, LargeFault};
+use std::alloc::{AllocError, Global};
 use std::fmt;
 use std::marker::{Brand, Model};
 use std::sync::Wait;
@@ -76,15 +77,59 @@ impl FileTable {
         if let Err(fault) = tested_limits(entries, seats, stint) {
             return Err(fault);
         }
+        match FileTable::with_limits(alloc, entries, seats, stint) {
+            Ok(opened) => Ok(opened),
+            Err(AllocError) => Err(OpenFault::Memory),
+        }
+    }
+
+    /// A large table: the same table, with the same calls, of more seats.
+    ///
+    /// `entries` is 1 to 16, and `seats` 1 to `LARGE_SEATS`. `stint` is at least 1, and `seats` times `stint` at most
+    /// `LARGE_TICKETS`.
+    ///
+    /// # Errors
+    ///
+    /// `BadSize`, `BadSeats`, `BadStint` or `Memory`, in this order.
+    pub fn open_large(
+        alloc: Global,
+        entries: u64,
+        seats: u64,
+        stint: u64,
+    ) -> Result<(FileTable, Vec<FileSeat>), LargeFault>
+        ensures { MatchResult result (λ r. IsInLargeRange (IsNumberOfEntries entries) seats stint × (r.0.entries ≡ entries)
+            × (r.0.object.seats ≡ seats)
+            × (r.1.items ≡ idle_seats (fresh_seats r.0.object stint 0 seats))) (IsLargeFault (IsNumberOfEntries entries) seats stint) }
+    {
+        if let Err(fault) = tested_large_limits(entries, seats, stint) {
+            return Err(fault);
+        }
+        match FileTable::with_limits(alloc, entries, seats, stint) {
+            Ok(opened) => Ok(opened),
+            Err(AllocError) => Err(LargeFault::Memory),
+        }
+    }
+
+    /// A table of free entries with its seats, whose limits have been tested.
+    fn with_limits(
+        alloc: Global,
+        entries: u64,
+        seats: u64,
+        stint: u64,
+    ) -> Result<(FileTable, Vec<FileSeat>), AllocError>
+        requires { IsInLargeRange (IsNumberOfEntries entries) seats stint }
+        ensures { IfOk result (λ r. (r.0.entries ≡ entries) × (r.0.object.seats ≡ seats)
+            × (r.1.items ≡ idle_seats (fresh_seats r.0.object stint 0 seats))) }
+    {
         let mut words = [0; WORDS];
         words[COUNT] = BIAS + seats;
         let limits = FileLimits { entries, seats };
         let words = &words[..FIELDS + 2 * entries as usize];
         let Ok((table, mut rest)) = Table::of_words(alloc, words, &limits) else {
-            return Err(OpenFault::Memory);
+            return Err(AllocError);
         };
         let Ok(mut dealt) = Vec::with_capacity(alloc, seats as usize) else {
-            return Err(OpenFault::Memory);
+            return Err(AllocError);
         };
         for name in 0..seats {
             let seat = FileSeat {
@@ -95,7 +140,7 @@ impl FileTable {
                 hold: Hold::Nothing,
             };
             if dealt.push(seat).is_err() {
-                return Err(OpenFault::Memory);
+                return Err(AllocError);
             }
         }
         Ok((FileTable { table, entries }, dealt))

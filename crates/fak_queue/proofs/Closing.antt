@@ -94,7 +94,7 @@ module _ {T : Type 0} (key : QueueLimits) (s : State (Option T) (QueueView T)) (
         let bounds = contents_bounded key.size r.core.past K.legal in
         let b0 = bounds.0 in
         let b1 = bounds.1 in
-        let few : count puts r.core.past + count gots r.core.past + total (λ (w : QueueView T). w.left) s.views ≤ 70368744177664 = r.few in
+        let few : count puts r.core.past + count gots r.core.past + total (λ (w : QueueView T). w.left) s.views ≤ 1125899906842624 = r.few in
         let all = left_from (put - got) got (omega (arith, p, q, b0)) (omega (arith, q)) in
         record {
           more = omega (arith, p, q, b0);

@@ -26,10 +26,11 @@ pub use Rattle.fak_model.specs.declared.queue.Kind.{Kind}
 pub use Rattle.fak_model.specs.declared.queue.Mark.{Mark}
 pub use Rattle.fak_model.specs.declared.queue.Stage.TheVariants.{Getting, Putting}
 pub use Rattle.fak_model.specs.declared.queue.Stage.{Stage}
+pub use Rattle.fak_model.specs.Limits.{IsInLargeRange}
 pub use Rattle.fak_queue.specs.Left.{items_left}
 pub use Rattle.fak_queue.specs.Parts.{IsPart, ClaimedIn, RefusedIn, ClaimedOut, RefusedOut, TellsOfNeither, Filled, Taken, LooksIn, FillsSlot, LooksOut, TakesSlot, before_part, fault_of, IsTurnedAwayIn, IsTurnedAwayOut}
 pub use Rattle.fak_queue.specs.Queues.{QueueInfo, size_of, made_by, Makes, Inserts, Deletes, RefusesFull, RefusesEmpty, RefusesClosed, ShutsAs, state_of, RestsAt, idle, inserting, deleting, seat_of, drawn_by, queue_info, IsQueue, queue_seat, IsQueueSeat, ClaimsIn, AreIdle, tickets_in, state_at, before_own, ClaimsOut, WaitsToFill, Fills, WaitsToTake, Takes, ShutsAfter, IsState, IsWorn, kinds_in, kinds_out}
-pub use Rattle.fak_queue.specs.Refusals.{RefusesInsertion, IsInRange, RefusesDeletion}
+pub use Rattle.fak_queue.specs.Refusals.{RefusesInsertion, IsInRange, IsLargeSize, RefusesDeletion}
 pub use Rattle.fak_queue.specs.Retries.{RefusedInsertion, NotIn, WithdrawnIn, ClosedIn, WithdrawnLate, RefusedDeletion, NotOut, WithdrawnOut, kinds_not_in, kinds_not_out, InsertsAfterFull, IsFull, IsClosed, MakesAtLast, before_last, ClosesAfterFull, DeletesAfterEmpty}
 pub use Rattle.fak_queue.specs.Shown.{QueueHolder, queue_object, IsShownQueue, QueueView, IsAtHome, IsEncoded, opened_queue, HasSlot}
 pub use Rattle.fak_queue.specs.Steps.{mark, Named, ShutAs, TurnedIn, FilledCell, EndsIn, TurnedOut, FreedCell, EndsOut, Shuts, Marks, TestedUp, AddedUp, BacksUp, DrewIn, TestedLow, SubtractedLow, BacksLow, DrawsOut, TestsUp, AddsUp, DrawsIn, TurnsIn, SetsFull, TestsLow, SubtractsLow, TurnsOut, SetsFree, HeardJoin, WaitsOut, WaitsIn, FitsTable}

@@ -2,7 +2,7 @@
 use Rattle.fak_core.specs.declared.queue.phase.Phase.TheVariants as phase
 use Rattle.fak_core.specs.QueueSchedule as core
 use Rattle.fak_model.proofs.Appending.{history_none}
-use Rattle.fak_queue.proofs.Common.{QueueLimits, AreWords, seat_of, idle, IsQueueSeat, queue_seat, ◌≡◌, ℕ, zero, suc, ◌+◌, ◌*◌, ◌<◌, ◌≤◌, false, List, [], ◌∷◌, length, slice_index, map, set, replicate, refl, sym, ◌∙◌, subst, inl, arith, length-set, get_or-set_other, None, pos, length-map, length-replicate, get_or-replicate, some, get_elem?, ObjectId, seat_info, sight, IsSeatToken, queue_rules, bias, mul-le-mul, opening, is_reached, QueueHolder, IsEncoded, queue_object, IsShownQueue, opened_queue, IsInRange, common_steps, starts}
+use Rattle.fak_queue.proofs.Common.{QueueLimits, AreWords, seat_of, idle, IsQueueSeat, queue_seat, ◌≡◌, ℕ, zero, suc, ◌+◌, ◌*◌, ◌<◌, ◌≤◌, false, List, [], ◌∷◌, length, slice_index, map, set, replicate, refl, sym, ◌∙◌, subst, inl, arith, length-set, get_or-set_other, None, pos, length-map, length-replicate, get_or-replicate, some, get_elem?, ObjectId, seat_info, sight, IsSeatToken, queue_rules, bias, opening, is_reached, QueueHolder, IsEncoded, queue_object, IsShownQueue, opened_queue, IsInLargeRange, IsLargeSize, common_steps, starts}
 
 read_map : {A : Type 0} (n c : ℕ) (a : A) → c < n → get_elem? (map some (replicate n a)) c ≡ some (some a)
 read_map zero c a near = absurd (omega (arith, near))
@@ -16,7 +16,7 @@ first_words size = set (set (replicate (size + 96) 0) 16 bias) 32 bias
 first_are_words : (size : ℕ) → AreWords size (pos 0) (pos 0) 0 0 (λ c. 0) false (first_words size)
 first_are_words size = grind (arith, common_steps, replicate, set, bias, length, length-replicate, length-set, slice_index, get_or-set_other, get_or-replicate)
 
-pub opens_queue : {T : Type 0} (key : QueueLimits) (words : List ℕ) → words ≡ first_words key.size → IsInRange key.size key.seats key.stint → IsShownQueue {T = T} key (opening words (replicate key.size None) (opened_queue key))
+pub opens_queue : {T : Type 0} (key : QueueLimits) (words : List ℕ) → words ≡ first_words key.size → IsInLargeRange (IsLargeSize key.size) key.seats key.stint → IsShownQueue {T = T} key (opening words (replicate key.size None) (opened_queue key))
 opens_queue {T} key words is range =
     let shows : IsEncoded key.size key.seats (core.opening {A = T}) words (map some (replicate key.size None)) = record {
       some_cell = (let low = range.0.0 in omega (arith, low));
@@ -26,8 +26,7 @@ opens_queue {T} key words is range =
       wide = length-map (replicate key.size None) some ∙ length-replicate key.size None;
       slots_are = λ i lt. inl (record { odd = λ q f. absurd (omega (arith, f)); even = λ q f. read_map key.size i None lt }, λ t inside. inside);
     } in
-    let tickets : ℕ = key.seats * key.stint in
-    let few : tickets ≤ 64 * 1099511627776 = mul-le-mul range.1.1 range.2.1 in
+    let few = range.2.1 in
     starts (queue_object key.size key.seats) phase.Idle (key.seats * key.stint) core.opening (record { reached = is_reached key.size []; beyond = λ n far. refl }) refl (λ n low. refl) words (replicate key.size None) shows (omega (arith, few))
 
 -- a seat as it is dealt

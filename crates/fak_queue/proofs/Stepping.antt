@@ -44,16 +44,16 @@ module _ {T : Type 0} (key : QueueLimits) (s : QueueTable T) (r : IsShownQueue k
   pub upper_most : ℕ
   upper_most = count upper_raise r.core.past - count upper_drop r.core.past
 
-  pub upper_bounds : (pos 0 +ℤ r.core.upper ≡ pos upper_most) × (upper_most ≤ 1000000)
+  pub upper_bounds : (pos 0 +ℤ r.core.upper ≡ pos upper_most) × (upper_most ≤ 100000000)
   unfolding upper_most
   upper_bounds =
       let g = upper_range key.size key.seats r.core.past K.legal (below_of key.seats r.core.past r.named) in
       (omega (arith, ints, K.upper, g.0), omega (arith, g.0, g.1, r.encoded.few_seats, r.encoded.few_cells))
 
   pub lower_most : ℕ
-  lower_most = count lower_raise r.core.past + 64 - count lower_drop r.core.past
+  lower_most = count lower_raise r.core.past + 1024 - count lower_drop r.core.past
 
-  pub lower_bounds : (pos 64 +ℤ r.core.lower ≡ pos lower_most) × (lower_most ≤ 1000000)
+  pub lower_bounds : (pos 1024 +ℤ r.core.lower ≡ pos lower_most) × (lower_most ≤ 100000000)
   unfolding lower_most
   lower_bounds =
       let g = lower_range key.size key.seats r.core.past K.legal (below_of key.seats r.core.past r.named) in
@@ -92,16 +92,16 @@ module _ {T : Type 0} (key : QueueLimits) (s : QueueTable T) (r : IsShownQueue k
   pub lower_grown : WordsOf r.core.upper (r.core.lower +ℤ pos 1) (set s.words 32 ((slice_index s.words 32 + 1) % 2 ^ 64))
   lower_grown = let b = lower_bounds in
       words_lower key.size r.core.upper r.core.lower r.core.draws_in r.core.draws_out r.core.turn r.core.shut s.words r.encoded.words_are _ (r.core.lower +ℤ pos 1)
-      (grown 0 (slice_index s.words 32) r.core.lower 64 lower_most (omega arith) r.encoded.words_are.lower_is b.0 (omega arith) b.1)
+      (grown 0 (slice_index s.words 32) r.core.lower 1024 lower_most (omega arith) r.encoded.words_are.lower_is b.0 (omega arith) b.1)
 
   pub lower_shrunk : WordsOf r.core.upper (r.core.lower -ℤ pos 1) (set s.words 32 ((slice_index s.words 32 + (2 ^ 64 - 1)) % 2 ^ 64))
   lower_shrunk = let b = lower_bounds in
       words_lower key.size r.core.upper r.core.lower r.core.draws_in r.core.draws_out r.core.turn r.core.shut s.words r.encoded.words_are _ (r.core.lower -ℤ pos 1)
-      (shrunk 0 (slice_index s.words 32) r.core.lower 64 lower_most (omega arith) r.encoded.words_are.lower_is b.0 (omega arith) b.1)
+      (shrunk 0 (slice_index s.words 32) r.core.lower 1024 lower_most (omega arith) r.encoded.words_are.lower_is b.0 (omega arith) b.1)
 
   -- ---- tickets and turns
 
-  pub few_draws : 0 < m.0.left → (r.core.draws_in < 2 ^ 46) × (r.core.draws_out < 2 ^ 46)
+  pub few_draws : 0 < m.0.left → (r.core.draws_in < 2 ^ 50) × (r.core.draws_out < 2 ^ 50)
   few_draws left =
       let l = total_at (λ (v : QueueView T). v.left) s.views id m.0 at in
       (omega (arith, r.few, l, K.draws_in, left), omega (arith, r.few, l, K.draws_out, left))

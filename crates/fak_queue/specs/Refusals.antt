@@ -40,3 +40,8 @@ IsRangeFault size seats stint Memory = ⊥
 abbrev pub IsOpenFault : ℕ → ℕ → ℕ → OpenFault → Type 0
 IsOpenFault size seats stint Memory = IsInRange size seats stint
 IsOpenFault size seats stint fault = IsRangeFault size seats stint fault
+
+-- ---- opening a large queue
+
+abbrev pub IsLargeSize : ℕ → Type 0
+IsLargeSize size = (1 ≤ size) × (size ≤ 16777216)

@@ -38,8 +38,8 @@ HasSlot size core homes cell =
 -- the words and the slots show this state of a queue of this size
 pub record IsEncoded {T : Type 0} (size seats : ℕ) (core : QueueState T) (words : List ℕ) (homes : List (maybe.Option (Option T))) : Type 0 where
   pub some_cell : 0 < size
-  pub few_cells : size ≤ 4096
-  pub few_seats : seats ≤ 64
+  pub few_cells : size ≤ 16777216
+  pub few_seats : seats ≤ 1024
   pub words_are : AreWords size core.upper core.lower core.draws_in core.draws_out core.turn core.shut words
   pub wide : length homes ≡ size
   pub slots_are : (cell : ℕ) → cell < size → HasSlot size core homes cell
@@ -49,12 +49,12 @@ pub record IsReachedBy {T : Type 0} (size seats : ℕ) (core : QueueState T) : T
   pub reached : IsReached size core
   pub beyond : AreIdleFrom seats core
 
--- a queue of this size with these seats; at most 2^46 tickets are ever drawn
+-- a queue of this size with these seats; at most 2^50 tickets are ever drawn
 abbrev pub queue_object : {T : Type 0} → ℕ → ℕ → Object (Mark T) Word WholeCall (Phase T) (QueueState T) (Option T)
 queue_object {T} size seats = record {
   rules = queue_rules size;
   seats = seats;
-  tickets = 70368744177664;
+  tickets = 1125899906842624;
   drawn_of = λ (core : QueueState T). count puts core.past + count gots core.past;
   past_of = λ (core : QueueState T). core.past;
   IsReached = IsReachedBy size seats;

@@ -3,6 +3,7 @@
 //! Lubachevsky and L. Rudolph (ACM TOPLAS 5(2), 1983). Its cells own moved values.
 //!
 //! - `Queue::<T>::open(alloc, size, seats, stint)` answers the queue and all its seats. A thread calls with a seat of its own.
+//!   `open_large` opens a queue of more cells and seats.
 //! - `Port::new(&queue, seat)` is a queue and its seat as one value, whose calls have no condition: the way to begin.
 //! - `insert` and `delete` make one attempt; `wait_insert` and `wait_delete` wait while the queue is full or empty;
 //!   `claim_insert` with `try_fill`, and `claim_delete` with `try_take`, never wait.
@@ -34,7 +35,9 @@ mod tally;
 mod turns;
 mod words;
 
-pub use fak_model::{LARGEST_SIZE, LONGEST_STINT, MOST_SEATS};
+pub use fak_model::{
+    LARGE_SEATS, LARGE_SIZE, LARGE_TICKETS, LARGEST_SIZE, LONGEST_STINT, LargeFault, MOST_SEATS,
+};
 pub use fault::{DeleteFault, InsertFault, OpenFault};
 pub use port::Port;
 pub use queue::Queue;

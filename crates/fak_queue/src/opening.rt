@@ -1,7 +1,8 @@
 //! How a queue's limits are tested, and its table made.
 
 ghost use Rattle.std.specs.Prelude.{◌≡◌, ◌+◌, [], IfOk, MatchResult};
-ghost use Rattle.fak_queue.specs.Refusals.{IsInRange, IsRangeFault};
+ghost use Rattle.fak_model.specs.Limits.{IsInLargeRange, IsLargeFault};
+ghost use Rattle.fak_queue.specs.Refusals.{IsInRange, IsLargeSize, IsRangeFault};
 ghost use Rattle.fak_queue.specs.Shown.{opened_queue};
 
 use crate::fault::OpenFault;
@@ -11,7 +12,10 @@ use crate::steps::QueueToken;
 use crate::words::{LOWER, MARGIN, TURNS, UPPER};
 use atomic_table::Table;
 use fak_core::Phase;
-use fak_model::{BIAS, LARGEST_SIZE, LONGEST_STINT, MOST_SEATS, Mark, View};
+use fak_model::{
+    BIAS, LARGE_SIZE, LARGEST_SIZE, LONGEST_STINT, LargeFault, MOST_SEATS, Mark, View,
+    tested_large_seats,
+};
 use std::alloc::{AllocError, Global};
 
 /// Tests the size, the number of seats and the stint, in this order.
@@ -30,6 +34,17 @@ pub(crate) fn tested_limits(size: u64, seats: u64, stint: u64) -> Result<(), Ope
     Ok(())
 }
 
+/// Tests the same of a large queue, in the same order.
+pub(crate) fn tested_large_limits(size: u64, seats: u64, stint: u64) -> Result<(), LargeFault>
+    ensures { MatchResult result (λ _. IsInLargeRange (IsLargeSize size) seats stint)
+        (IsLargeFault (IsLargeSize size) seats stint) }
+{
+    if size == 0 || size > LARGE_SIZE {
+        return Err(LargeFault::BadSize);
+    }
+    tested_large_seats(seats, stint)
+}
+
 /// The table of a queue of such items.
 pub(crate) type QueueTable<T> = Table<
     Option<T>,
@@ -44,7 +59,7 @@ pub(crate) fn empty_table<T>(
     alloc: Global,
     key: &QueueLimits,
 ) -> Result<(QueueTable<T>, QueueToken<T>), AllocError>
-    requires { IsInRange key.now.size key.now.seats key.now.stint }
+    requires { IsInLargeRange (IsLargeSize key.now.size) key.now.seats key.now.stint }
     ensures { IfOk result (λ r. (r.0.shared.table_id.words ≡ 96 + key.now.size)
         × (r.0.shared.table_id.slots ≡ key.now.size)
         × (r.0.shared.key ≡ key.now) × (r.1.table_id ≡ r.0.shared.table_id) × (r.1.me ≡ (opened_queue key.now, []))) }

@@ -1,14 +1,15 @@
 //! The queue that its seats share, with all its calls: open, insert, delete, wait, claim and try, shut, join and close.
 
-ghost use Rattle.std.specs.Prelude.{◌≡◌, ℕ, MatchOption, MatchResult};
+ghost use Rattle.std.specs.Prelude.{◌≡◌, ℕ, IfOk, MatchOption, MatchResult};
 ghost use Rattle.fak_model.specs.Calls.{IsJoined, fresh_seats};
 ghost use Rattle.fak_model.specs.Histories.{AreNamed, IsAtRest};
+ghost use Rattle.fak_model.specs.Limits.{IsInLargeRange, IsLargeFault};
 ghost use Rattle.fak_model.specs.Queue.{IsQueueHistory, contents, queue_rules};
 ghost use Rattle.fak_model.specs.Seats.{IsWhole};
 ghost use Rattle.fak_queue.specs.declared.state.SeatState.TheVariants.{Deleting, Idle, Inserting};
 ghost use Rattle.fak_queue.specs.Queues.{ClaimsIn, ClaimsOut, Deletes, DrawsIfGranted, Fills, Inserts, ShutsAs, Takes};
 ghost use Rattle.fak_queue.specs.Queues.{WaitsToFill, WaitsToTake, drawn_by, state_of};
-ghost use Rattle.fak_queue.specs.Refusals.{IsInRange, IsOpenFault, RefusesDeletion, RefusesInsertion};
+ghost use Rattle.fak_queue.specs.Refusals.{IsInRange, IsLargeSize, IsOpenFault, RefusesDeletion, RefusesInsertion};
 ghost use Rattle.fak_queue.specs.Retries.{DeletesAfterEmpty, InsertsAfterFull};
 ghost use Rattle.fak_queue.specs.Retries.{RefusesWaitingDeletion, RefusesWaitingInsertion};
 
@@ -18,7 +19,7 @@ use crate::contention::SharedCounts;
 use crate::fault::{DeleteFault, InsertFault, OpenFault};
 use crate::found::refuse_worn;
 use crate::limits::QueueLimits;
-use crate::opening::{empty_table, tested_limits};
+use crate::opening::{empty_table, tested_large_limits, tested_limits};
 use crate::rest::Rest;
 use crate::rule::QueueRule;
 use crate::seat::Seat;
@@ -31,8 +32,8 @@ use crate::words::{DRAWS_IN, DRAWS_OUT};
 use atomic_table::Table;
 use crossbeam_utils::Backoff;
 use fak_core::Phase;
-use fak_model::{Both, Deal, Mark, View};
-use std::alloc::Global;
+use fak_model::{Both, Deal, LargeFault, Mark, View};
+use std::alloc::{AllocError, Global};
 use std::fmt;
 use std::marker::{Brand, Model};
 use std::sync::Wait;
@@ -77,12 +78,56 @@ impl<T: Drop> Queue<T> {
         if let Err(fault) = tested_limits(size, seats, stint) {
             return Err(fault);
         }
+        match Queue::with_limits(alloc, size, seats, stint) {
+            Ok(opened) => Ok(opened),
+            Err(AllocError) => Err(OpenFault::Memory),
+        }
+    }
+
+    /// A large queue: the same queue, with the same calls, of more cells and seats.
+    ///
+    /// `size` is 1 to `LARGE_SIZE`, and `seats` 1 to `LARGE_SEATS`. `stint` is at least 1, and `seats` times `stint` at most
+    /// `LARGE_TICKETS`.
+    ///
+    /// # Errors
+    ///
+    /// `BadSize`, `BadSeats`, `BadStint` or `Memory`, in this order.
+    pub fn open_large(
+        alloc: Global,
+        size: u64,
+        seats: u64,
+        stint: u64,
+    ) -> Result<(Queue<T>, Vec<Seat<T>>), LargeFault>
+        ensures { MatchResult result (λ r. IsInLargeRange (IsLargeSize size) seats stint × (r.0.size ≡ size)
+            × (r.0.object.seats ≡ seats)
+            × (r.1.items ≡ fresh_seats r.0.object stint 0 seats)) (IsLargeFault (IsLargeSize size) seats stint) }
+    {
+        if let Err(fault) = tested_large_limits(size, seats, stint) {
+            return Err(fault);
+        }
+        match Queue::with_limits(alloc, size, seats, stint) {
+            Ok(opened) => Ok(opened),
+            Err(AllocError) => Err(LargeFault::Memory),
+        }
+    }
+
+    /// An empty queue with its seats, whose limits have been tested.
+    fn with_limits(
+        alloc: Global,
+        size: u64,
+        seats: u64,
+        stint: u64,
+    ) -> Result<(Queue<T>, Vec<Seat<T>>), AllocError>
+        requires { IsInLargeRange (IsLargeSize size) seats stint }
+        ensures { IfOk result (λ r. (r.0.size ≡ size) × (r.0.object.seats ≡ seats)
+            × (r.1.items ≡ fresh_seats r.0.object stint 0 seats)) }
+    {
         let key = QueueLimits { size, seats, stint };
         let Ok((table, mut rest)) = empty_table(alloc, &key) else {
-            return Err(OpenFault::Memory);
+            return Err(AllocError);
         };
         let Ok(mut dealt) = Vec::with_capacity(alloc, seats as usize) else {
-            return Err(OpenFault::Memory);
+            return Err(AllocError);
         };
         for name in 0..seats {
             let seat = Seat {
@@ -94,7 +139,7 @@ impl<T: Drop> Queue<T> {
                 counts: SharedCounts::new(stint),
             };
             if dealt.push(seat).is_err() {
-                return Err(OpenFault::Memory);
+                return Err(AllocError);
             }
         }
         let cells = Cells::new(size);

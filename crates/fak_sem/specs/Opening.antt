@@ -2,7 +2,7 @@
 use Rattle.std.specs.Prelude.{ℕ}
 use Rattle.fak_model.specs.Limits.{IsNumberOfSeats, IsStint}
 use Rattle.fak_count.specs.Opening.{IsCount}
-use Rattle.fak_queue.specs.Refusals.{IsSize}
+use Rattle.fak_queue.specs.Refusals.{IsSize, IsLargeSize}
 use Rattle.fak_sem.specs.declared.fault.OpenFault.{OpenFault}
 use Rattle.fak_sem.specs.declared.fault.OpenFault.TheVariants.{BadSize, BadSeats, BadStint, Memory}
 
@@ -18,3 +18,8 @@ IsOpenFault start size seats stint BadSize = ¬ AreSizes start size
 IsOpenFault start size seats stint BadSeats = AreSizes start size × ¬ IsNumberOfSeats seats
 IsOpenFault start size seats stint BadStint = AreSizes start size × IsNumberOfSeats seats × ¬ IsStint stint
 IsOpenFault start size seats stint Memory = IsInRange start size seats stint
+
+-- ---- a large semaphore
+
+abbrev pub AreLargeSizes : ℕ → ℕ → Type 0
+AreLargeSizes start size = IsCount start × IsLargeSize size

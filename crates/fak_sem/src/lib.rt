@@ -29,7 +29,10 @@ mod steps;
 mod tally;
 
 pub use fak_count::Worn;
-pub use fak_model::{LARGEST_BOUND, LARGEST_SIZE, LONGEST_STINT, MOST_SEATS};
+pub use fak_model::{
+    LARGE_SEATS, LARGE_SIZE, LARGE_TICKETS, LARGEST_BOUND, LARGEST_SIZE, LONGEST_STINT, LargeFault,
+    MOST_SEATS,
+};
 pub use fak_queue::Rest;
 pub use fault::{OpenFault, SemWorn};
 pub use seat::SemSeat;

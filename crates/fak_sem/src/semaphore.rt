@@ -3,17 +3,19 @@
 ghost use Rattle.std.specs.Prelude.{◌≡◌, IfOk, MatchResult};
 ghost use Rattle.fak_sem.specs.Semaphores.{CountsDown, CountsUp, Downs, IsWornSeat, Ups, fresh_sem_seats, seats_of, JoinsSeat};
 ghost use Rattle.fak_model.specs.Calls.{fresh_seats};
-ghost use Rattle.fak_sem.specs.Opening.{IsInRange, IsOpenFault};
+ghost use Rattle.fak_model.specs.Limits.{IsInLargeRange, IsLargeFault};
+ghost use Rattle.fak_sem.specs.Opening.{AreLargeSizes, IsInRange, IsOpenFault};
 ghost use Rattle.fak_model.specs.Queue.{contents};
 ghost use Rattle.fak_model.specs.Seats.{IsWhole};
 ghost use Rattle.fak_sem.specs.Grants.{IsSettled};
 
 use crate::fault::{OpenFault, SemWorn};
-use crate::opening::opened_credit;
+use crate::opening::{opened_credit, opened_large_credit};
 use crate::retries::{delete_at_last, insert_at_last};
 use crate::seat::SemSeat;
 use crate::tally::SemTally;
 use fak_count::{Credit, CreditSeat, Worn};
+use fak_model::LargeFault;
 use fak_queue::{Queue, Rest, Seat};
 use std::alloc::{AllocError, Global};
 use std::fmt;
@@ -70,6 +72,41 @@ impl<T: Drop> Semaphore<T> {
         match semaphore.paired(alloc, start, seats, stint, credit_seats, queue_seats) {
             Ok(paired) => Ok((semaphore, paired)),
             Err(_) => Err(OpenFault::Memory),
+        }
+    }
+
+    /// A large semaphore: the same semaphore, with the same calls, of a larger wait queue and more seats.
+    ///
+    /// `start` is 0 to 4,294,967,296, `size` 1 to `LARGE_SIZE`, and `seats` 1 to `LARGE_SEATS`. `stint` is at least 1, and
+    /// `seats` times `stint` at most `LARGE_TICKETS`.
+    ///
+    /// # Errors
+    ///
+    /// `BadSize`, `BadSeats`, `BadStint` or `Memory`, in this order.
+    pub fn open_large(
+        alloc: Global,
+        start: u64,
+        size: u64,
+        seats: u64,
+        stint: u64,
+    ) -> Result<(Semaphore<T>, Vec<SemSeat<T>>), LargeFault>
+        ensures { MatchResult result (λ r. IsInLargeRange (AreLargeSizes start size) seats stint
+            × (r.0.object.start ≡ start) × (r.0.size ≡ size)
+            × (seats_of r.0.object ≡ seats) × (r.0.object.queue.seats ≡ seats)
+            × (r.1.items ≡ fresh_sem_seats r.0.object stint 0 seats))
+            (IsLargeFault (AreLargeSizes start size) seats stint) }
+    {
+        let (credit, credit_seats) = match opened_large_credit(alloc, start, size, seats, stint) {
+            Ok(opened) => opened,
+            Err(fault) => return Err(fault),
+        };
+        let Ok((queue, queue_seats)) = Queue::open_large(alloc, size, seats, stint) else {
+            return Err(LargeFault::Memory);
+        };
+        let semaphore = Semaphore { credit, queue };
+        match semaphore.paired(alloc, start, seats, stint, credit_seats, queue_seats) {
+            Ok(paired) => Ok((semaphore, paired)),
+            Err(_) => Err(LargeFault::Memory),
         }
     }
 

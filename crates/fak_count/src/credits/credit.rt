@@ -1,12 +1,13 @@
 //! A credit that threads share.
 
-ghost use Rattle.std.specs.Prelude.{◌≡◌, MatchResult};
+ghost use Rattle.std.specs.Prelude.{◌≡◌, IfOk, MatchResult};
 ghost use Rattle.fak_model.specs.declared.credit.CreditKind.TheVariants.{Debit, Credit as Credited};
 ghost use Rattle.fak_count.specs.Credits.{MakesCall, IsWorn, Observes};
 ghost use Rattle.fak_count.specs.Seats.{IsSeatOf};
 ghost use Rattle.fak_model.specs.Calls.{fresh_seats, IsJoined};
-ghost use Rattle.fak_count.specs.Opening.{IsInRange, IsOpenFault};
+ghost use Rattle.fak_count.specs.Opening.{IsCount, IsInRange, IsOpenFault};
 ghost use Rattle.fak_model.specs.Credit.{credit_rules};
+ghost use Rattle.fak_model.specs.Limits.{IsInLargeRange, IsLargeFault};
 
 use crate::credits::limits::CreditLimits;
 use crate::credits::rule::{CreditRule, CreditView};
@@ -14,11 +15,11 @@ use crate::credits::seat::CreditSeat;
 use crate::credits::steps::{credit, debit, hear, observe};
 use crate::credits::tally::CreditTally;
 use crate::fault::{OpenFault, Worn};
-use crate::opening::tested_limits;
+use crate::opening::{tested_large_limits, tested_limits};
 use crate::words::{COUNT, WORDS};
 use atomic_table::Table;
-use fak_model::{BIAS, Both, Deal, count_of};
-use std::alloc::Global;
+use fak_model::{BIAS, Both, Deal, LargeFault, count_of};
+use std::alloc::{AllocError, Global};
 use std::fmt;
 use std::marker::{Brand, Model};
 
@@ -63,6 +64,50 @@ impl Credit {
         if let Err(fault) = tested_limits(start, seats, stint) {
             return Err(fault);
         }
+        match Credit::with_limits(alloc, start, seats, stint) {
+            Ok(opened) => Ok(opened),
+            Err(AllocError) => Err(OpenFault::Memory),
+        }
+    }
+
+    /// A large credit: the same credit, with the same calls, of more seats.
+    ///
+    /// `start` is 0 to 4,294,967,296, and `seats` 1 to `LARGE_SEATS`. `stint` is at least 1, and `seats` times `stint` at most
+    /// `LARGE_TICKETS`.
+    ///
+    /// # Errors
+    ///
+    /// `BadSize`, `BadSeats`, `BadStint` or `Memory`, in this order.
+    pub fn open_large(
+        alloc: Global,
+        start: u64,
+        seats: u64,
+        stint: u64,
+    ) -> Result<(Credit, Vec<CreditSeat>), LargeFault>
+        ensures { MatchResult result (λ r. IsInLargeRange (IsCount start) seats stint × (r.0.start ≡ start)
+            × (r.0.object.seats ≡ seats)
+            × (r.1.items ≡ fresh_seats r.0.object stint 0 seats)) (IsLargeFault (IsCount start) seats stint) }
+    {
+        if let Err(fault) = tested_large_limits(start, seats, stint) {
+            return Err(fault);
+        }
+        match Credit::with_limits(alloc, start, seats, stint) {
+            Ok(opened) => Ok(opened),
+            Err(AllocError) => Err(LargeFault::Memory),
+        }
+    }
+
+    /// A credit with its seats, whose limits have been tested.
+    fn with_limits(
+        alloc: Global,
+        start: u64,
+        seats: u64,
+        stint: u64,
+    ) -> Result<(Credit, Vec<CreditSeat>), AllocError>
+        requires { IsInLargeRange (IsCount start) seats stint }
+        ensures { IfOk result (λ r. (r.0.start ≡ start) × (r.0.object.seats ≡ seats)
+            × (r.1.items ≡ fresh_seats r.0.object stint 0 seats)) }
+    {
         let mut words = [0; WORDS];
         words[COUNT] = BIAS + start;
         let key = CreditLimits {
@@ -71,10 +116,10 @@ impl Credit {
             stint,
         };
         let Ok((table, mut rest)) = Table::of_words(alloc, &words, &key) else {
-            return Err(OpenFault::Memory);
+            return Err(AllocError);
         };
         let Ok(mut dealt) = Vec::with_capacity(alloc, seats as usize) else {
-            return Err(OpenFault::Memory);
+            return Err(AllocError);
         };
         for name in 0..seats {
             let seat = CreditSeat {
@@ -84,7 +129,7 @@ impl Credit {
                 left: stint,
             };
             if dealt.push(seat).is_err() {
-                return Err(OpenFault::Memory);
+                return Err(AllocError);
             }
         }
         Ok((Credit { table }, dealt))

@@ -1,15 +1,16 @@
 //! A room that threads share.
 
-ghost use Rattle.std.specs.Prelude.{◌≡◌, ◌+◌, ◌≤◌, MatchResult, if◌then◌else◌, is_ok};
+ghost use Rattle.std.specs.Prelude.{◌≡◌, ◌+◌, ◌≤◌, IfOk, MatchResult, if◌then◌else◌, is_ok};
 ghost use Rattle.fak_model.specs.declared.room.RoomKind.TheVariants.{Release};
 ghost use Rattle.fak_count.specs.Rooms.{held_amount, IsGranted, IsRefused, MakesCall};
 ghost use Rattle.fak_count.specs.Seats.{IsSeatOf};
 ghost use Rattle.fak_model.specs.Calls.{fresh_seats, IsJoined};
-ghost use Rattle.fak_count.specs.Opening.{IsInRange, IsOpenFault};
+ghost use Rattle.fak_count.specs.Opening.{IsCount, IsInRange, IsOpenFault};
+ghost use Rattle.fak_model.specs.Limits.{IsInLargeRange, IsLargeFault};
 ghost use Rattle.fak_model.specs.Room.{room_rules};
 
 use crate::fault::{OpenFault, TirFault};
-use crate::opening::tested_limits;
+use crate::opening::{tested_large_limits, tested_limits};
 use crate::rooms::limits::RoomLimits;
 use crate::rooms::rule::{RoomRule, RoomView};
 use crate::rooms::seat::RoomSeat;
@@ -17,8 +18,8 @@ use crate::rooms::steps::{add, hear, release, test, withdraw};
 use crate::rooms::tally::RoomTally;
 use crate::words::{COUNT, WORDS};
 use atomic_table::Table;
-use fak_model::{BIAS, Both, Deal, count_of};
-use std::alloc::Global;
+use fak_model::{BIAS, Both, Deal, LargeFault, count_of};
+use std::alloc::{AllocError, Global};
 use std::fmt;
 use std::marker::{Brand, Model};
 
@@ -67,14 +68,58 @@ impl Room {
         if let Err(fault) = tested_limits(bound, seats, stint) {
             return Err(fault);
         }
+        match Room::with_limits(alloc, bound, seats, stint) {
+            Ok(opened) => Ok(opened),
+            Err(AllocError) => Err(OpenFault::Memory),
+        }
+    }
+
+    /// A large room: the same room, with the same calls, of more seats.
+    ///
+    /// `bound` is 0 to 4,294,967,296, and `seats` 1 to `LARGE_SEATS`. `stint` is at least 1, and `seats` times `stint` at most
+    /// `LARGE_TICKETS`.
+    ///
+    /// # Errors
+    ///
+    /// `BadSize`, `BadSeats`, `BadStint` or `Memory`, in this order.
+    pub fn open_large(
+        alloc: Global,
+        bound: u64,
+        seats: u64,
+        stint: u64,
+    ) -> Result<(Room, Vec<RoomSeat>), LargeFault>
+        ensures { MatchResult result (λ r. IsInLargeRange (IsCount bound) seats stint × (r.0.bound ≡ bound)
+            × (r.0.object.seats ≡ seats)
+            × (r.1.items ≡ fresh_seats r.0.object stint 0 seats)) (IsLargeFault (IsCount bound) seats stint) }
+    {
+        if let Err(fault) = tested_large_limits(bound, seats, stint) {
+            return Err(fault);
+        }
+        match Room::with_limits(alloc, bound, seats, stint) {
+            Ok(opened) => Ok(opened),
+            Err(AllocError) => Err(LargeFault::Memory),
+        }
+    }
+
+    /// A room with its seats, whose limits have been tested.
+    fn with_limits(
+        alloc: Global,
+        bound: u64,
+        seats: u64,
+        stint: u64,
+    ) -> Result<(Room, Vec<RoomSeat>), AllocError>
+        requires { IsInLargeRange (IsCount bound) seats stint }
+        ensures { IfOk result (λ r. (r.0.bound ≡ bound) × (r.0.object.seats ≡ seats)
+            × (r.1.items ≡ fresh_seats r.0.object stint 0 seats)) }
+    {
         let mut words = [0; WORDS];
         words[COUNT] = BIAS;
         let Ok((table, mut rest)) = Table::of_words(alloc, &words, &RoomLimits { bound, seats })
         else {
-            return Err(OpenFault::Memory);
+            return Err(AllocError);
         };
         let Ok(mut dealt) = Vec::with_capacity(alloc, seats as usize) else {
-            return Err(OpenFault::Memory);
+            return Err(AllocError);
         };
         for name in 0..seats {
             let seat = RoomSeat {
@@ -85,7 +130,7 @@ impl Room {
                 held: 0,
             };
             if dealt.push(seat).is_err() {
-                return Err(OpenFault::Memory);
+                return Err(AllocError);
             }
         }
         Ok((Room { table, bound }, dealt))

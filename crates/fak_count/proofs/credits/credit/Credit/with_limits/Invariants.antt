@@ -1,9 +1,9 @@
-use Rattle.fak_count.proofs.Common.{◌≡◌, [], Idle, rest_from}
+use Rattle.fak_count.proofs.Common.{◌≡◌, [], rest_from}
 use Rattle.fak_model.specs.Calls.{object_id, fresh_seats}
-use Rattle.fak_count.proofs.rooms.room.Room.open.Given as goal
+use Rattle.fak_count.proofs.credits.credit.Credit.with_limits.Given as goal
 
 -- the seats below this one were dealt
 abbrev pub invariant-loop-name : goal.invariant-loop-name
 invariant-loop-name l =
-    (l.rest.table_id ≡ l.table.shared.table_id) × (l.rest.me ≡ (rest_from Idle 0 l.name l.seats, []))
+    (l.rest.table_id ≡ l.table.shared.table_id) × (l.rest.me ≡ (rest_from tt l.stint l.name l.seats, []))
     × (l.dealt.items ≡ fresh_seats (object_id l.table.shared.table_id l.seats) l.stint 0 l.name)

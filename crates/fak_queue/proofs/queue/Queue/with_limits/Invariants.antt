@@ -1,7 +1,7 @@
 use Rattle.fak_queue.proofs.Common.{◌≡◌, [], rest_from}
 use Rattle.fak_core.specs.declared.queue.phase.Phase.TheVariants.{Idle}
 use Rattle.fak_model.specs.Calls.{object_id, fresh_seats}
-use Rattle.fak_queue.proofs.queue.Queue.open.Given as goal
+use Rattle.fak_queue.proofs.queue.Queue.with_limits.Given as goal
 
 -- the seats below this one were dealt
 abbrev pub invariant-loop-name : goal.invariant-loop-name

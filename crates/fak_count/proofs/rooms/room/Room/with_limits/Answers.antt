@@ -2,7 +2,7 @@ use Rattle.fak_count.proofs.Common.{rules, ◌≡◌, ◌+◌, ◌++◌, [], ◌
 use Rattle.fak_model.specs.Calls.{object_id, seat_info}
 use Rattle.fak_count.proofs.RoomSteps.{opens_room}
 use Rattle.fak_count.proofs.RoomCalls.{fresh_room_seat, settled_none}
-use Rattle.fak_count.proofs.rooms.room.Room.open.Goals as goal
+use Rattle.fak_count.proofs.rooms.room.Room.with_limits.Goals as goal
 
 pub of_words-requires : goal.of_words-requires
 of_words-requires c = opens_room _ c.args.stint (search rules) _ record { wide = refl; count_is = refl }

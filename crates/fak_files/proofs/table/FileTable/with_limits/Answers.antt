@@ -1,7 +1,7 @@
 use Rattle.fak_model.specs.Calls.{object_id}
 use Rattle.fak_files.proofs.Common.{Idle, Nothing, file_object, seat_now, rules, ◌≡◌, ◌++◌, [], ◌∷◌, ap, not, true, is_ok, ◌∙◌, deals, dealt_is, kept_is}
 use Rattle.fak_files.proofs.Openings.{opens, fresh_file_seat, idle_next}
-use Rattle.fak_files.proofs.table.FileTable.open.Goals as goal
+use Rattle.fak_files.proofs.table.FileTable.with_limits.Goals as goal
 
 pub of_words-requires : goal.of_words-requires
 of_words-requires c = opens c.args.entries c.args.seats (search rules) (search rules) (search rules)

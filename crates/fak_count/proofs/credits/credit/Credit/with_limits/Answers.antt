@@ -3,7 +3,7 @@ use Rattle.fak_model.specs.Calls.{object_id, seat_info}
 use Rattle.fak_count.specs.Credits.{seat_of, credit_seat}
 use Rattle.fak_count.proofs.CreditSteps.{opens_credit}
 use Rattle.fak_count.proofs.CreditCalls.{fresh_credit_seat}
-use Rattle.fak_count.proofs.credits.credit.Credit.open.Goals as goal
+use Rattle.fak_count.proofs.credits.credit.Credit.with_limits.Goals as goal
 
 pub of_words-requires : goal.of_words-requires
 of_words-requires c = opens_credit _ (search rules) _ record { wide = refl; count_is = refl }

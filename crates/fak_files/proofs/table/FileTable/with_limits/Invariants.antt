@@ -1,0 +1,9 @@
+use Rattle.fak_model.specs.Calls.{object_id, fresh_seats}
+use Rattle.fak_files.proofs.Common.{Idle, idle_seats, ◌≡◌, [], rest_from}
+use Rattle.fak_files.proofs.table.FileTable.with_limits.Given as goal
+
+-- the seats below this one were dealt
+abbrev pub invariant-loop-name : goal.invariant-loop-name
+invariant-loop-name l =
+    (l.rest.table_id ≡ l.table.shared.table_id) × (l.rest.me ≡ (rest_from Idle 0 l.name l.seats, []))
+    × (l.dealt.items ≡ idle_seats (fresh_seats (object_id l.table.shared.table_id l.seats) l.stint 0 l.name))
