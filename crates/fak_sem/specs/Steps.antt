@@ -12,7 +12,7 @@ use Rattle.fak_model.specs.Seats.{Begins, marks_of}
 use Rattle.fak_model.specs.Calls.{SeatInfo, mine_of}
 use Rattle.fak_count.specs.Credits.{MakesCall, calls_made}
 use Rattle.fak_queue.specs.declared.state.SeatState.TheVariants as state
-use Rattle.fak_queue.specs.Queues.{Makes, made_by, seat_of, state_of}
+use Rattle.fak_queue.specs.Queues.{Makes, made_by, seat_of, state_of, Fills, WaitsToFill, Takes, WaitsToTake}
 use Rattle.fak_queue.specs.Retries.{RefusedInsertion, RefusedDeletion, kinds_not_in, kinds_not_out}
 use Rattle.fak_sem.specs.declared.standing.Standing.{Standing}
 use Rattle.fak_sem.specs.declared.standing.Standing.TheVariants.{Idle, Parking, Inserting, Waking, Deleting}
@@ -62,6 +62,24 @@ abbrev pub ClaimsItem : {T : Type 0} → ℕ → SeatInfo (Mark T) → SeatInfo 
 ClaimsItem size old new Waking = (state_of new ≡ state.Idle) × ((r : RefusedDeletion) × Makes size (kinds_not_out r) old new)
 ClaimsItem size old new Deleting = DrawsItem size old new
 ClaimsItem size old new _ = ⊥
+
+-- ---- what one step does in the wait queue
+
+-- from where a seat stood to where it stands, with a down that parks: it claimed room for its item; or it filled the cell of
+-- its ticket, and the down is done; or it looked at that cell, and the round before was not taken from it
+abbrev pub StepsToParkFrom : {T : Type 0} → ℕ → Standing T → Standing T → Bool → SeatInfo (Mark T) → SeatInfo (Mark T) → Type 0
+StepsToParkFrom size (Parking item) now false old new = ClaimsRoom size item old new now
+StepsToParkFrom size Inserting now true old new = (k : ℕ) × (state_of old ≡ state.Inserting k) × Fills size k old new
+StepsToParkFrom size Inserting now false old new = (k : ℕ) × (state_of old ≡ state.Inserting k) × (now ≡ Inserting) × WaitsToFill size k old new
+StepsToParkFrom size _ now _ old new = ⊥
+
+-- the same with an up that owes a wake: it claimed an item; or it took the item of its ticket, and the up is done; or it looked
+-- at the cell, which was not filled
+abbrev pub StepsToWakeFrom : {T : Type 0} → ℕ → Standing T → Standing T → Option T → SeatInfo (Mark T) → SeatInfo (Mark T) → Type 0
+StepsToWakeFrom size Waking now None old new = ClaimsItem size old new now
+StepsToWakeFrom size Deleting now (Some item) old new = (k : ℕ) × (state_of old ≡ state.Deleting k) × Takes size k item old new
+StepsToWakeFrom size Deleting now None old new = (k : ℕ) × (state_of old ≡ state.Deleting k) × (now ≡ Deleting) × WaitsToTake size k old new
+StepsToWakeFrom size _ now _ old new = ⊥
 
 -- ---- what steps have made together
 
@@ -147,6 +165,22 @@ StandsAfter standing false = IsParking standing
 abbrev pub StandsOwing : {T : Type 0} → Standing T → Bool → Type 0
 StandsOwing standing true = IsWaking standing
 StandsOwing standing false = standing ≡ Idle
+
+-- where a first step leaves a call open, it claimed room for the item, or an item, once
+abbrev pub ClaimsRoomOnce : {T : Type 0} → SemInfo → T → StepSeatInfo T → StepSeatInfo T → Option T → Type 0
+ClaimsRoomOnce sem who old new None = ClaimsRoom sem.size who (queue_part old.seat) (queue_part new.seat) new.standing
+ClaimsRoomOnce sem who old new (Some passed) = Unit {0}
+
+abbrev pub ClaimsItemOnce : {T : Type 0} → SemInfo → StepSeatInfo T → StepSeatInfo T → Bool → Type 0
+ClaimsItemOnce sem old new true = ClaimsItem sem.size (queue_part old.seat) (queue_part new.seat) new.standing
+ClaimsItemOnce sem old new false = Unit {0}
+
+-- what a step after the first did in the wait queue: a step that does nothing is none of these
+abbrev pub StepsToPark : {T : Type 0} → SemInfo → StepSeatInfo T → StepSeatInfo T → Bool → Type 0
+StepsToPark sem old new done = StepsToParkFrom sem.size old.standing new.standing done (queue_part old.seat) (queue_part new.seat)
+
+abbrev pub StepsToWake : {T : Type 0} → SemInfo → StepSeatInfo T → StepSeatInfo T → Option T → Type 0
+StepsToWake sem old new woken = StepsToWakeFrom sem.size old.standing new.standing woken (queue_part old.seat) (queue_part new.seat)
 
 -- a step after the first leaves the credit alone
 abbrev pub SameCredit : {T : Type 0} → StepSeatInfo T → StepSeatInfo T → Type 0

@@ -1,10 +1,12 @@
 //! Downs and ups by steps, none of which waits.
 
-ghost use Rattle.std.specs.Prelude.{◌≡◌, IfOk, MatchResult, MatchOption};
+ghost use Rattle.std.specs.Prelude.{◌≡◌, IfOk, MatchOption, MatchResult};
 ghost use Rattle.fak_sem.specs.declared.standing.Standing.TheVariants.{Idle};
 ghost use Rattle.fak_sem.specs.Semaphores.{CountsDown, CountsUp, Downs, SemSeatInfo, Ups};
 ghost use Rattle.fak_sem.specs.Standings.{IsParking, IsWaking};
-ghost use Rattle.fak_sem.specs.Steps.{BeginsDown, BeginsUp, CountsAsBegun, IsWornStep, ParksOn, ParksSince, SameCredit, StandsAfter, StandsOwing, WakesSince};
+ghost use Rattle.fak_sem.specs.Steps.{BeginsDown, BeginsUp, ClaimsItemOnce, ClaimsRoomOnce, CountsAsBegun, IsWornStep};
+ghost use Rattle.fak_sem.specs.Steps.{ParksOn, ParksSince, SameCredit, StandsAfter, StandsOwing, StepsToPark, StepsToWake};
+ghost use Rattle.fak_sem.specs.Steps.{WakesSince};
 
 use crate::claims::{claim_item, claim_room};
 use crate::fault::SemWorn;
@@ -29,6 +31,7 @@ impl<T: Drop> Semaphore<T> {
             (λ _. seat.new.standing ≡ Idle)) }
         ensures call { MatchResult result (BeginsDown self.now who seat.old seat.new)
             (λ worn. (worn.0 ≡ who) × IsWornStep seat.old seat.new) }
+        ensures claims { IfOk result (ClaimsRoomOnce self.now who seat.old seat.new) }
         ensures counts { IfOk result (CountsDown seat.old.seat seat.new.seat) }
     {
         let Ok(found) = self.credit.debit(&mut seat.credit) else {
@@ -50,6 +53,7 @@ impl<T: Drop> Semaphore<T> {
         ensures object { seat.new.seat.object ≡ seat.old.seat.object }
         ensures state { StandsAfter seat.new.standing result }
         ensures credit { SameCredit seat.old seat.new }
+        ensures step { StepsToPark self.now seat.old seat.new result }
         ensures call { (began : SemSeatInfo T) (who : T) → ParksSince self.now who began seat.old
             → ParksOn self.now who began seat.new result }
     {
@@ -81,6 +85,7 @@ impl<T: Drop> Semaphore<T> {
         ensures object { seat.new.seat.object ≡ seat.old.seat.object }
         ensures state { IfOk result (StandsOwing seat.new.standing) }
         ensures call { MatchResult result (BeginsUp self.now seat.old seat.new) (λ _. IsWornStep seat.old seat.new) }
+        ensures claims { IfOk result (ClaimsItemOnce self.now seat.old seat.new) }
         ensures counts { IfOk result (CountsAsBegun seat.old.seat seat.new.seat) }
     {
         let Ok(found) = self.credit.credit(&mut seat.credit) else {
@@ -102,6 +107,7 @@ impl<T: Drop> Semaphore<T> {
         ensures object { seat.new.seat.object ≡ seat.old.seat.object }
         ensures state { MatchOption result (IsWaking seat.new.standing) (λ _. seat.new.standing ≡ Idle) }
         ensures credit { SameCredit seat.old seat.new }
+        ensures step { StepsToWake self.now seat.old seat.new result }
         ensures call { (began : SemSeatInfo T) → WakesSince self.now began seat.old
             → MatchOption result (WakesSince self.now began seat.new)
             (λ woken. Ups self.now began seat.new.seat (Some woken)) }

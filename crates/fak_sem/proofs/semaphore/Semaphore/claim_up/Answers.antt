@@ -1,6 +1,7 @@
 use Rattle.fak_sem.proofs.Common.{rules, refl, w64, arith, pos, ◌<ℤ◌, true, false, to_z-of_z, Waking}
 use Rattle.fak_sem.proofs.SeatCalls.{wakes_not, wakes_one}
 use Rattle.fak_sem.proofs.StepCalls.{same_start, stands_so, at_standing, tickets_left, seat_credited, seat_claimed_out, begins_up, counts_as_begun}
+use Rattle.fak_sem.proofs.OneStep.{item_claimed}
 use Rattle.fak_sem.proofs.semaphore.Semaphore.claim_up.Goals as goal
 
 pub invariant_of-seat-then-not-owes : goal.invariant_of-seat-then-not-owes
@@ -37,3 +38,6 @@ pub returns-clause-counts : goal.returns-clause-counts
 returns-clause-counts g c =
     let start = same_start c.seat.inside.queue c.self.inside.queue c.seat.view_is c.self.view_is c.requires.object in
     counts_as_begun c.seat.inside.queue c.claim_item.new.seat start c.in-Ok.ensures.call c.seat.view_is true (wakes_one {found = c.in-Ok.found} (to_z-of_z {w = w64} (search rules)) c.if-not-owes.false)
+
+pub returns-clause-claims : goal.returns-clause-claims
+returns-clause-claims g c = item_claimed c.seat.invariant c.self.view_is c.seat.view_is c.claim_item.result (invariant_of-seat-2 g c) c.claim_item.ensures.call
