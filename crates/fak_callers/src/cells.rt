@@ -15,7 +15,8 @@ ghost use Rattle.fak_queue.specs.Words.{shut_bit};
 
 use fak_queue::laws::{
     a_running_cell_has_one_owner, a_running_queue_never_locks_up,
-    a_slot_is_out_while_its_cell_has_an_owner, the_shut_bit_tells_of_a_close,
+    a_slot_is_out_while_its_cell_has_an_owner, names_beyond_the_seats_are_idle,
+    the_shut_bit_tells_of_a_close,
 };
 
 /// Two seats are never in one cell.
@@ -42,16 +43,27 @@ pub fn a_set_bit_has_its_close<T>()
     the_shut_bit_tells_of_a_close::<T>();
 }
 
-/// While a call is open, the next steps of all seats do not all leave their seats where they stand; nor, where the call holds
-/// a ticket, do those of the seats that hold a ticket of the same cell.
+/// A seat whose call is open is one of the queue's seats.
+pub fn who_calls_is_a_seat<T>()
+    ensures { (key : QueueLimits) (s : State (Option T) (QueueView T)) (shown : IsShownQueue key s) (a : ℕ)
+        → shown.core.phase a ≢ Idle → a < key.seats }
+{
+    names_beyond_the_seats_are_idle::<T>();
+}
+
+/// While a call is open, the next steps of the queue's seats do not all leave their seats where they stand. Nor do those of the
+/// seats that hold a ticket of its cell, nor, where it holds none, does its own.
 pub fn never_all_stuck<T>()
     ensures call { (key : QueueLimits) (s : State (Option T) (QueueView T)) (shown : IsShownQueue key s) (a : ℕ)
         → shown.core.phase a ≢ Idle
-        → ((b : ℕ) → (stepped key.size shown.core b).phase b ≡ shown.core.phase b) → ⊥ }
+        → ((b : ℕ) → b < key.seats → (stepped key.size shown.core b).phase b ≡ shown.core.phase b) → ⊥ }
     ensures cell { (key : QueueLimits) (s : State (Option T) (QueueView T)) (shown : IsShownQueue key s) (a cell : ℕ)
         → HoldsTicketOf key.size (shown.core.phase a) cell
-        → ((b : ℕ) → HoldsTicketOf key.size (shown.core.phase b) cell
+        → ((b : ℕ) → b < key.seats → HoldsTicketOf key.size (shown.core.phase b) cell
         → (stepped key.size shown.core b).phase b ≡ shown.core.phase b) → ⊥ }
+    ensures own { (key : QueueLimits) (s : State (Option T) (QueueView T)) (shown : IsShownQueue key s) (a : ℕ)
+        → shown.core.phase a ≢ Idle → (stepped key.size shown.core a).phase a ≡ shown.core.phase a
+        → (((cell : ℕ) → HoldsTicketOf key.size (shown.core.phase a) cell → ⊥) → ⊥) }
 {
     a_running_queue_never_locks_up::<T>();
 }

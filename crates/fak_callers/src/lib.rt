@@ -1,5 +1,5 @@
 //! Callers of what the crates below promise: each is a small function that makes calls, names one public law, and
-//! concludes in public words. Half have no proof of their own, the others a line to a dozen; none imports another crate's proofs.
+//! concludes in public words. Some have no proof of their own, most a line to a dozen; none imports another crate's proofs.
 //! The module `words` asks instead what the words of those laws say of known histories.
 #![tactic(auto)]
 
@@ -7,8 +7,10 @@ pub mod cells;
 pub mod credits;
 pub mod files;
 pub mod joins;
+pub mod progress;
 pub mod queues;
 pub mod rooms;
+pub mod schedules;
 pub mod semaphores;
 #[cfg(test)]
 mod tests;

@@ -1,6 +1,7 @@
 //! Each caller on its happy path.
 
 mod assertions;
+mod cores;
 mod files;
 mod queues;
 mod rooms;

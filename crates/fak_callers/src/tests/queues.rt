@@ -2,6 +2,7 @@
 
 use crate::cells::{
     a_set_bit_has_its_close, a_slot_that_is_out_has_an_owner, never_all_stuck, owners_are_apart,
+    who_calls_is_a_seat,
 };
 use crate::queues::{
     join_among_more, join_in_order, join_in_turn, join_mark_by_mark, join_open, join_within_size,
@@ -61,5 +62,6 @@ fn cells_of_any_items() {
     owners_are_apart::<u64>();
     a_slot_that_is_out_has_an_owner::<u64>();
     a_set_bit_has_its_close::<u64>();
+    who_calls_is_a_seat::<u64>();
     never_all_stuck::<u64>();
 }

@@ -4,8 +4,9 @@ pub returns : goal.returns
 returns g c = record {
   call = λ key s shown a is_open stuck.
       let moves = c.a_running_queue_never_locks_up.ensures.call key s shown a is_open in
-      moves.1 (stuck moves.0);
+      moves.2 (stuck moves.0 moves.1);
   cell = λ key s shown a cell holds stuck.
       let moves = c.a_running_queue_never_locks_up.ensures.cell key s shown a cell holds in
-      moves.2 (stuck moves.0 moves.1);
+      moves.3 (stuck moves.0 moves.1 moves.2);
+  own = λ key s shown a is_open stuck none. c.a_running_queue_never_locks_up.ensures.ticketless key s shown a is_open none stuck;
 }
