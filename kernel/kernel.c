@@ -20,11 +20,57 @@ static uint64_t free_page_count(void) {
     return count;
 }
 
-/* Takes each semaphore's tokens: there are as many as at the start. */
+/* The semaphore's count is 0: one more down parks, and what it parked is the only item that waits. */
+static void is_down(fak_c_seat *seat, const char *what) {
+    uint64_t woken = 0;
+    if (fak_c_sem_claim_down(seat, THREADS) != FAK_C_PARKS)
+        fail(what, 0);
+    must(fak_c_sem_try_park(seat), "try_park at the end");
+    if (fak_c_sem_claim_up(seat) != FAK_C_WAKES)
+        fail("an up that wakes nobody at the end", 0);
+    must(fak_c_sem_try_wake(seat, &woken), "try_wake at the end");
+    if (woken != THREADS)
+        fail("another was woken at the end:", woken);
+}
+
+/* Takes each semaphore's tokens: there are as many as at the start, and no more. */
 static void tokens_are_back(void) {
-    for (int i = 0; i < SEMAPHORES; i++)
+    for (int i = 0; i < SEMAPHORES; i++) {
         for (int token = 0; token < TOKENS; token++)
             must(fak_c_sem_claim_down(&ring[i][0], 0), "a token is lost");
+        is_down(&ring[i][0], "there is a token too many");
+    }
+    all_tokens_were_given();
+}
+
+/* The alarm was raised as often as it was asked for, and each raise was waited for. */
+static void alarm_is_over(void) {
+    if (alarms_left() != 0)
+        fail("alarms that were not raised:", alarms_left());
+    is_down(&alarm_clock.threads[0], "the alarm was raised too often");
+}
+
+/* Each thread has stopped as often as its work says, and each stop was of one kind. */
+static void all_work_was_done(void) {
+    processor_state sum = {0};
+    for (uint32_t i = 0; i < in_use; i++) {
+        const processor_state *s = &processor_states[i];
+        sum.ran += s->ran;
+        sum.yields += s->yields;
+        sum.parks += s->parks;
+        sum.sleeps += s->sleeps;
+        sum.ended += s->ended;
+        sum.no_page += s->no_page;
+        sum.raised += s->raised;
+    }
+    if (sum.ran != sum.yields + sum.parks + sum.sleeps + sum.ended)
+        fail("turns that ended in no way:", sum.ran);
+    if (sum.yields != THREADS * ROUNDS / 2 + sum.no_page)
+        fail("yields are missing, or too many:", sum.yields);
+    if (sum.sleeps != THREADS * ROUNDS / 4)
+        fail("sleeps are missing, or too many:", sum.sleeps);
+    if (sum.raised != THREADS * ROUNDS / 4)
+        fail("alarms are missing, or too many:", sum.raised);
 }
 
 static void say_what_was_done(uint32_t number) {
@@ -44,6 +90,8 @@ static _Noreturn void report(void) {
     if (get(&ready.threads[0]) != NULL || get(&sleeping.threads[0]) != NULL)
         fail("a thread that was left", 0);
     tokens_are_back();
+    alarm_is_over();
+    all_work_was_done();
     leave_objects(in_use);
     say("all %u threads ended, pages %u of %u free\n", ended, pages, (uint64_t)PAGES);
     leave(ended == THREADS && pages == PAGES);

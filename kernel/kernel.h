@@ -7,7 +7,7 @@
 
 enum {
     THREADS = 64,
-    ROUNDS = 500,     /* of each thread's work */
+    ROUNDS = 500,     /* of each thread's work; in one of 4 it sleeps, in one it waits for the alarm */
     PAGES = 24,
     PAGE = 4096,
     SEMAPHORES = 16,  /* in the ring of the workload */
@@ -77,11 +77,13 @@ void up(fak_c_seat *of_processors);
 
 /* ---- The timer (timer.c) ---- */
 
-void ask_for_alarm(void); /* some tick raises the alarm once */
+void ask_for_alarm(void);   /* some tick raises the alarm once */
+uint64_t alarms_left(void); /* asked for, and not yet raised */
 
 /* ---- Work (work.c): the threads' program. ---- */
 
 void work(thread *me);
+void all_tokens_were_given(void);
 
 /* ---- The two ways of interrupts ----
  *

@@ -25,6 +25,10 @@ void ask_for_alarm(void) {
     atomic_fetch_add(&alarms, 1);
 }
 
+uint64_t alarms_left(void) {
+    return atomic_load(&alarms);
+}
+
 static bool takes_alarm(void) {
     uint64_t asked = atomic_load(&alarms);
     while (asked > 0)

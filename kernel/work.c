@@ -1,6 +1,28 @@
 /* The threads' program: tokens go round a ring of semaphores. With a token a thread takes a page and marks it, lets others run, and
- * finds its marks: so no two threads have one page, and none runs on two processors. */
+ * finds its marks: so no two threads have one page, and none runs on two processors. How many tokens are out of each semaphore is
+ * counted beside it: so no down passes without a token. */
 #include "kernel.h"
+
+static _Atomic int64_t out[SEMAPHORES]; /* tokens that were taken from each semaphore, less those that were given to it */
+
+/* A token is counted after its down and before its up, so a count above TOKENS is of a down that found none. */
+static void take_token(thread *me, uint64_t semaphore) {
+    down(ring[semaphore], me);
+    if (atomic_fetch_add(&out[semaphore], 1) >= TOKENS)
+        fail("a token too many was taken from semaphore", semaphore);
+}
+
+static void give_token(uint64_t semaphore) {
+    atomic_fetch_sub(&out[semaphore], 1);
+    up(ring[semaphore]);
+}
+
+/* Each semaphore was given as many tokens as were taken from it. */
+void all_tokens_were_given(void) {
+    for (uint64_t i = 0; i < SEMAPHORES; i++)
+        if (atomic_load(&out[i]) != 0)
+            fail("not as many tokens were given as taken, semaphore", i);
+}
 
 static uint64_t *take_page(thread *me) {
     uint64_t *page;
@@ -14,7 +36,7 @@ static uint64_t *take_page(thread *me) {
 void work(thread *me) {
     for (uint64_t round = 0; round < ROUNDS; round++) {
         uint64_t mark = me->number << 32 | round;
-        down(ring[me->number % SEMAPHORES], me);
+        take_token(me, me->number % SEMAPHORES);
         uint64_t *page = take_page(me);
         for (unsigned i = 0; i < PAGE / 8; i++)
             page[i] = mark;
@@ -35,6 +57,6 @@ void work(thread *me) {
             if (page[i] != mark)
                 fail("page not its own of thread", me->number);
         put(&free_pages[processor()], page);
-        up(ring[(me->number + 1) % SEMAPHORES]);
+        give_token((me->number + 1) % SEMAPHORES);
     }
 }
