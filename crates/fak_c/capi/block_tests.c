@@ -1,12 +1,19 @@
-/* Objects in memory of the caller: each kind at the size that block.h says, and refused in less. The program has no other heap for
- * the library. */
+/* Objects in memory of the caller: each kind at the size that block.h says, and refused in less; the parts of a block; and threads
+ * that leave objects of one block at once. The program has no other heap for the library. */
 #include "block.h"
 #include "tests.h"
+
+#include <pthread.h>
+#include <sched.h>
+#include <stdatomic.h>
+#include <string.h>
 
 enum { MOST_SEATS = 64, QUEUE = 0, SEMAPHORE, ROOM, CREDIT, FILES, KINDS };
 
 static _Alignas(16) unsigned char memory[1 << 20];
 static fak_c_seat seats[MOST_SEATS];
+
+/* ---- Sizes ---- */
 
 static size_t bytes_of(int kind, size_t n, uint64_t size) {
     switch (kind) {
@@ -56,20 +63,24 @@ static void all_leave(size_t n) {
     CHECK(fak_c_block_is_free(memory));
 }
 
-/* Sizes below what was used are refused, and leave nothing in use. */
+/* What was used is enough. Sizes below it are refused, and leave nothing in use. */
 static void less_is_refused(int kind, size_t n, uint64_t size, size_t used) {
-    size_t unused, step = used > 20000 ? used / 50 : 16;
+    size_t again = 0, step = used > 20000 ? used / 50 : 16;
+    CHECK(opened_within(kind, n, size, used, &again) == FAK_C_OK && again == used);
+    all_leave(n);
     for (size_t bytes = 64; bytes < used; bytes += step) {
-        CHECK(opened_within(kind, n, size, bytes, &unused) == FAK_C_MEMORY);
+        CHECK(opened_within(kind, n, size, bytes, &again) == FAK_C_MEMORY);
         CHECK(fak_c_block_is_free(memory));
     }
+    CHECK(opened_within(kind, n, size, used - 1, &again) == FAK_C_MEMORY);
+    CHECK(fak_c_block_is_free(memory));
 }
 
-int main(void) {
+/* Opens each kind at many sizes. Returns how much the largest object took. */
+static size_t each_size_is_opened(void) {
     static const size_t numbers[] = {1, 2, 3, 8, MOST_SEATS};
     static const uint64_t sizes[] = {1, 2, 7, 64, 1000, 4096};
     size_t used = 0, most = 0;
-    CHECK(opened(QUEUE, 1, 1) == FAK_C_MEMORY);
     for (int kind = 0; kind < KINDS; kind++) {
         for (size_t i = 0; i < sizeof numbers / sizeof *numbers; i++) {
             for (size_t j = 0; j < sizeof sizes / sizeof *sizes; j++) {
@@ -81,6 +92,106 @@ int main(void) {
             }
         }
     }
-    printf("the largest object took %zu bytes\n", most);
+    return most;
+}
+
+/* ---- Parts: what the library asks for ---- */
+
+struct answer {
+    bool found;
+    void *at;
+};
+
+struct answer rattle_alloc(size_t size, size_t align);
+struct answer rattle_realloc(void *part, size_t kept, size_t size, size_t align);
+void rattle_dealloc(void *part);
+
+static void is_refused(size_t size, size_t align) {
+    struct answer answer = rattle_alloc(size, align);
+    CHECK(!answer.found && answer.at != NULL);
+}
+
+/* Parts of each size lie in the block, aligned to 16, and none overlaps another or a head. What does not fit is refused. */
+static void parts_are_disjoint(void) {
+    enum { PARTS = 100, BYTES = 16384, HEAD = 32 };
+    unsigned char *parts[PARTS];
+    fak_c_block_begin(memory, BYTES);
+    for (size_t i = 0; i < PARTS; i++) {
+        struct answer answer = rattle_alloc(i, i % 2 == 0 ? 8 : 16);
+        CHECK(answer.found);
+        parts[i] = answer.at;
+        CHECK((uintptr_t)parts[i] % 16 == 0 && parts[i] >= memory + HEAD && parts[i] + i <= memory + BYTES);
+        memset(parts[i], (int)i, i);
+    }
+    is_refused(16, 32);
+    is_refused(BYTES, 16);
+    for (size_t less = 0; less <= 64; less++)
+        is_refused(SIZE_MAX - less, 16);
+    CHECK(!rattle_realloc(parts[1], 1, 2, 16).found);
+    CHECK(fak_c_block_end() <= BYTES);
+    is_refused(16, 16);
+    for (size_t i = 0; i < PARTS; i++) {
+        for (size_t byte = 0; byte < i; byte++)
+            CHECK(parts[i][byte] == i);
+        CHECK(!fak_c_block_is_free(memory));
+        rattle_dealloc(parts[i]);
+    }
+    CHECK(fak_c_block_is_free(memory));
+}
+
+/* ---- Threads that leave at once ---- */
+
+enum { OBJECTS = 40, LEAVERS = 2, ROUNDS = 100 };
+
+static fak_c_seat shared[OBJECTS][MOST_SEATS];
+static atomic_int left_to; /* the objects that the threads may leave */
+
+/* Leaves every second seat of each object but its first, as soon as it may. */
+static void *leave_half(void *first) {
+    for (int i = 0; i < OBJECTS; i++) {
+        while (atomic_load(&left_to) <= i)
+            sched_yield();
+        for (size_t seat = *(const size_t *)first; seat < MOST_SEATS; seat += LEAVERS)
+            CHECK(fak_c_leave(&shared[i][seat]) == FAK_C_OK);
+    }
+    return NULL;
+}
+
+/* Opens credits in one block. The threads leave each as soon as it is open, or all of them at the end. */
+static void open_all(bool one_by_one) {
+    fak_c_block_begin(memory, sizeof memory);
+    for (int i = 0; i < OBJECTS; i++) {
+        CHECK(fak_c_credit_open(shared[i], MOST_SEATS, 0, 1) == FAK_C_OK);
+        if (one_by_one)
+            atomic_store(&left_to, i + 1);
+    }
+    CHECK(fak_c_block_end() <= sizeof memory);
+    atomic_store(&left_to, OBJECTS);
+}
+
+/* Parts are given back by two threads at once, and while others are taken. The block is free when the last seat has left: no sooner
+ * and no later, so that each part was counted once. */
+static void each_part_is_counted_once(bool one_by_one) {
+    static const size_t firsts[LEAVERS] = {1, 2};
+    pthread_t leavers[LEAVERS];
+    atomic_store(&left_to, 0);
+    for (int i = 0; i < LEAVERS; i++)
+        CHECK(pthread_create(&leavers[i], NULL, leave_half, (void *)(uintptr_t)&firsts[i]) == 0);
+    open_all(one_by_one);
+    for (int i = 0; i < LEAVERS; i++)
+        CHECK(pthread_join(leavers[i], NULL) == 0);
+    for (int i = 0; i < OBJECTS; i++) {
+        CHECK(!fak_c_block_is_free(memory));
+        CHECK(fak_c_leave(&shared[i][0]) == FAK_C_OK);
+    }
+    CHECK(fak_c_block_is_free(memory));
+}
+
+int main(void) {
+    CHECK(opened(QUEUE, 1, 1) == FAK_C_MEMORY);
+    printf("the largest object took %zu bytes\n", each_size_is_opened());
+    parts_are_disjoint();
+    for (int round = 0; round < ROUNDS; round++)
+        each_part_is_counted_once(round % 2 == 0);
     return 0;
 }
