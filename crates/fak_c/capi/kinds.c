@@ -164,28 +164,50 @@ static void a_table_answers(void) {
 
 enum { QUEUE, SEMAPHORE, ROOM, CREDIT, FILES, KINDS };
 
-/* How many of the calls of each kind the seat refuses as none of theirs. Out-pointers stay as they are. */
-static void refused(fak_c_seat *seat, int counts[KINDS]) {
-    uint64_t a = 99, b = 99;
-    uint32_t c = 99;
-    int64_t d = 99;
-    bool e = true;
-    counts[QUEUE] = (fak_c_claim_insert(seat, 1, &a) == FAK_C_NO_SEAT) + (fak_c_try_fill(seat) == FAK_C_NO_SEAT)
-        + (fak_c_claim_delete(seat, &a) == FAK_C_NO_SEAT) + (fak_c_try_take(seat, &a) == FAK_C_NO_SEAT)
-        + (fak_c_insert(seat, 1, &a) == FAK_C_NO_SEAT) + (fak_c_delete(seat, &a, &b) == FAK_C_NO_SEAT)
-        + (fak_c_shut(seat, &e) == FAK_C_NO_SEAT) + (fak_c_pause(seat) == FAK_C_NO_SEAT)
-        + (fak_c_state(seat, &c, &a, &b) == FAK_C_NO_SEAT);
-    counts[SEMAPHORE] = (fak_c_sem_claim_down(seat, 1) == FAK_C_NO_SEAT) + (fak_c_sem_try_park(seat) == FAK_C_NO_SEAT)
-        + (fak_c_sem_claim_up(seat) == FAK_C_NO_SEAT) + (fak_c_sem_try_wake(seat, &a) == FAK_C_NO_SEAT)
-        + (fak_c_sem_state(seat, &c, &a) == FAK_C_NO_SEAT);
-    counts[ROOM] = (fak_c_room_tir(seat, 1, &d) == FAK_C_NO_SEAT) + (fak_c_room_release(seat, 1, &d) == FAK_C_NO_SEAT)
-        + (fak_c_room_state(seat, &a, &b) == FAK_C_NO_SEAT);
-    counts[CREDIT] = (fak_c_credit_debit(seat, &d) == FAK_C_NO_SEAT) + (fak_c_credit_credit(seat, &d) == FAK_C_NO_SEAT)
-        + (fak_c_credit_value(seat, &d, &a) == FAK_C_NO_SEAT);
-    counts[FILES] = (fak_c_files_try_read(seat, &d) == FAK_C_NO_SEAT) + (fak_c_files_try_write(seat, &d) == FAK_C_NO_SEAT)
-        + (fak_c_files_get(seat, 0, &a, &b) == FAK_C_NO_SEAT) + (fak_c_files_set_inode(seat, 0, 1) == FAK_C_NO_SEAT)
+enum { QUEUE_CALLS = 9, SEMAPHORE_CALLS = 5, ROOM_CALLS = 3, CREDIT_CALLS = 3, FILES_CALLS = 7 };
+
+/* What calls write by their out-pointers. */
+typedef struct {
+    uint64_t first, second;
+    uint32_t small;
+    int64_t count;
+    bool truth;
+} outs;
+
+static bool are_as_before(const outs *at) {
+    return at->first == 99 && at->second == 99 && at->small == 99 && at->count == 99 && at->truth;
+}
+
+/* How many of the calls of each kind the seat refuses as none of theirs. */
+static int refused_by_queues(fak_c_seat *seat, outs *at) {
+    return (fak_c_claim_insert(seat, 1, &at->first) == FAK_C_NO_SEAT) + (fak_c_try_fill(seat) == FAK_C_NO_SEAT)
+        + (fak_c_claim_delete(seat, &at->first) == FAK_C_NO_SEAT) + (fak_c_try_take(seat, &at->first) == FAK_C_NO_SEAT)
+        + (fak_c_insert(seat, 1, &at->first) == FAK_C_NO_SEAT) + (fak_c_delete(seat, &at->first, &at->second) == FAK_C_NO_SEAT)
+        + (fak_c_shut(seat, &at->truth) == FAK_C_NO_SEAT) + (fak_c_pause(seat) == FAK_C_NO_SEAT)
+        + (fak_c_state(seat, &at->small, &at->first, &at->second) == FAK_C_NO_SEAT);
+}
+
+static int refused_by_semaphores(fak_c_seat *seat, outs *at) {
+    return (fak_c_sem_claim_down(seat, 1) == FAK_C_NO_SEAT) + (fak_c_sem_try_park(seat) == FAK_C_NO_SEAT)
+        + (fak_c_sem_claim_up(seat) == FAK_C_NO_SEAT) + (fak_c_sem_try_wake(seat, &at->first) == FAK_C_NO_SEAT)
+        + (fak_c_sem_state(seat, &at->small, &at->first) == FAK_C_NO_SEAT);
+}
+
+static int refused_by_rooms(fak_c_seat *seat, outs *at) {
+    return (fak_c_room_tir(seat, 1, &at->count) == FAK_C_NO_SEAT) + (fak_c_room_release(seat, 1, &at->count) == FAK_C_NO_SEAT)
+        + (fak_c_room_state(seat, &at->first, &at->second) == FAK_C_NO_SEAT);
+}
+
+static int refused_by_credits(fak_c_seat *seat, outs *at) {
+    return (fak_c_credit_debit(seat, &at->count) == FAK_C_NO_SEAT) + (fak_c_credit_credit(seat, &at->count) == FAK_C_NO_SEAT)
+        + (fak_c_credit_value(seat, &at->count, &at->first) == FAK_C_NO_SEAT);
+}
+
+static int refused_by_tables(fak_c_seat *seat, outs *at) {
+    return (fak_c_files_try_read(seat, &at->count) == FAK_C_NO_SEAT) + (fak_c_files_try_write(seat, &at->count) == FAK_C_NO_SEAT)
+        + (fak_c_files_get(seat, 0, &at->first, &at->second) == FAK_C_NO_SEAT) + (fak_c_files_set_inode(seat, 0, 1) == FAK_C_NO_SEAT)
         + (fak_c_files_set_uses(seat, 0, 1) == FAK_C_NO_SEAT) + (fak_c_files_end(seat) == FAK_C_NO_SEAT)
-        + (fak_c_files_hold(seat, &c) == FAK_C_NO_SEAT);
+        + (fak_c_files_hold(seat, &at->small) == FAK_C_NO_SEAT);
 }
 
 static int32_t opened(fak_c_seat *seat, int kind) {
@@ -203,16 +225,19 @@ static int32_t opened(fak_c_seat *seat, int kind) {
     }
 }
 
-/* A seat answers the calls of its own kind alone. An empty handle answers none. */
+/* A seat answers the calls of its own kind alone, and the others write nothing. An empty handle answers none. */
 static void a_seat_has_one_kind(void) {
-    static const int all[KINDS] = {9, 5, 3, 3, 7};
+    static const int all[KINDS] = {QUEUE_CALLS, SEMAPHORE_CALLS, ROOM_CALLS, CREDIT_CALLS, FILES_CALLS};
+    static int (*const refused[KINDS])(fak_c_seat *, outs *) = {refused_by_queues, refused_by_semaphores, refused_by_rooms,
+        refused_by_credits, refused_by_tables};
     fak_c_seat seat = {0};
-    int counts[KINDS];
     for (int kind = 0; kind <= KINDS; kind++) {
         CHECK(kind == KINDS || opened(&seat, kind) == FAK_C_OK);
-        refused(&seat, counts);
-        for (int other = 0; other < KINDS; other++)
-            CHECK(counts[other] == (other == kind ? 0 : all[other]));
+        for (int other = 0; other < KINDS; other++) {
+            outs at = {99, 99, 99, 99, true};
+            CHECK(refused[other](&seat, &at) == (other == kind ? 0 : all[other]));
+            CHECK(other == kind || are_as_before(&at));
+        }
         CHECK(opened(&seat, QUEUE) == FAK_C_OK && fak_c_leave(&seat) == FAK_C_OK);
     }
 }

@@ -84,10 +84,22 @@ static void *share(void *argument) {
     return NULL;
 }
 
+/* The semaphore is as it began: the downs up to its start pass, and one more parks, as the only one that waits. */
+static void all_was_raised(fak_c_seat *seat) {
+    uint64_t woken = 0;
+    for (int i = 0; i < START; i++)
+        CHECK(fak_c_sem_claim_down(seat, THREADS) == FAK_C_OK);
+    CHECK(fak_c_sem_claim_down(seat, THREADS) == FAK_C_PARKS && fak_c_sem_try_park(seat) == FAK_C_OK);
+    CHECK(fak_c_sem_claim_up(seat) == FAK_C_WAKES && fak_c_sem_try_wake(seat, &woken) == FAK_C_OK && woken == THREADS);
+}
+
 /* What the objects say once the threads have ended. */
 static void all_was_counted(uint64_t total) {
-    int64_t value = 0, count = 0;
+    int64_t value = 0, count = 0, found = 99;
     uint64_t left = 0, inode = 0, uses = 0, held = 99;
+    all_was_raised(&semaphore[0]);
+    CHECK(fak_c_room_tir(&room[0], BOUND, &found) == FAK_C_OK && found == 0);
+    CHECK(fak_c_room_release(&room[0], BOUND, &found) == FAK_C_OK && found == BOUND);
     CHECK(fak_c_credit_value(&credit[0], &value, &left) == FAK_C_OK && value == (int64_t)total);
     CHECK(fak_c_files_try_read(&files[0], &count) == FAK_C_OK);
     CHECK(fak_c_files_get(&files[0], 1, &inode, &uses) == FAK_C_OK && uses == total && inode == total);

@@ -19,6 +19,7 @@ typedef struct {
 } worker;
 
 static atomic_bool is_over;
+static uint64_t tickets; /* how many may be drawn */
 
 /* An item tells its producer, and how many came before it. */
 static uint64_t item_of(const worker *self) {
@@ -54,7 +55,7 @@ static bool take_one(worker *self) {
     int32_t answer = fak_c_claim_delete(self->seat, &ticket);
     if (answer == FAK_C_EMPTY)
         return false;
-    CHECK(answer == FAK_C_OK);
+    CHECK(answer == FAK_C_OK && ticket < tickets);
     while ((answer = fak_c_try_take(self->seat, &item)) == FAK_C_NOT_YET)
         sched_yield();
     CHECK(answer == FAK_C_OK);
@@ -113,6 +114,7 @@ void threads_share_a_queue(int pairs, uint64_t items) {
     worker producers[MOST_PAIRS], consumers[MOST_PAIRS];
     uint64_t total = (uint64_t)pairs * items;
     uint64_t *taken = calloc(total, sizeof *taken);
+    tickets = total;
     CHECK(pairs >= 1 && pairs <= MOST_PAIRS && taken != NULL);
     CHECK(fak_c_open(seats, 2 * (size_t)pairs, CELLS, LONG_STINT) == FAK_C_OK);
     atomic_store(&is_over, false);
@@ -134,6 +136,7 @@ void a_shut_queue_is_drained(uint64_t items) {
     uint64_t put, ticket = 0, misses = 0;
     bool was_open = false;
     uint64_t *taken = calloc(PAIRS * items, sizeof *taken);
+    tickets = PAIRS * items;
     CHECK(taken != NULL && fak_c_open(seats, 2 * PAIRS + 1, CELLS, LONG_STINT) == FAK_C_OK);
     atomic_store(&is_over, false);
     for (int i = 0; i < PAIRS; i++) {
