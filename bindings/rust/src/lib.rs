@@ -131,7 +131,7 @@ impl Seat {
     }
 
     /// Leaves the queue to others for a while, where the seat has found that they use it too. It spins for some tens of microseconds,
-    /// at most once in some 100 calls. Not for an interrupt or signal handler.
+    /// at most once in some 100 calls; with the archive by `--backend rattle` it does nothing. Not for an interrupt or signal handler.
     pub fn pause(&mut self) {
         // A seat of a queue is not refused.
         unsafe { raw::fak_c_pause(&mut self.0) };

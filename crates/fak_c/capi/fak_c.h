@@ -186,8 +186,8 @@ static inline int32_t fak_c_get(fak_c_seat *seat, uint64_t *ticket, uint64_t *it
 /* Leaves the queue to others for a while, where since its last pause the seat has found that others use the queue too. Threads that
  * call by turns fetch each cache line from one another; while one pauses, another has them at hand. So call it between two calls
  * where the rate counts for more than the longest time of a call, and not in a handler. It spins, at most once in some 100 tickets
- * and for some tens of microseconds, and waits for nobody. In queues of fewer than 64 cells it does nothing. No other call
- * pauses. The seat may be in any state.
+ * and for some tens of microseconds, and waits for nobody. In queues of fewer than 64 cells it does nothing, and in the archive by
+ * `--backend rattle` in no queue: that compiler makes no code for a spin. No other call pauses. The seat may be in any state.
  *
  * FAK_C_OK or FAK_C_NO_SEAT. */
 int32_t fak_c_pause(fak_c_seat *seat);

@@ -1,5 +1,5 @@
-/* Runs one group of the tests: `codes`, `kinds`, `pauses`, `memory`, `threads PAIRS ITEMS`, `drain ITEMS`, `objects ROUNDS` or
- * `pointers ITEMS`. */
+/* Runs one group of the tests: `codes`, `kinds`, `pauses llvm` or `pauses rattle` by which the archive was built, `memory`,
+ * `threads PAIRS ITEMS`, `drain ITEMS`, `objects ROUNDS` or `pointers ITEMS`. */
 #include "tests.h"
 
 #include <string.h>
@@ -9,8 +9,10 @@ int main(int count, char **words) {
         each_code_is_answered();
     else if (count == 2 && strcmp(words[1], "kinds") == 0)
         each_kind_is_answered();
-    else if (count == 2 && strcmp(words[1], "pauses") == 0)
-        pauses_are_short();
+    else if (count == 3 && strcmp(words[1], "pauses") == 0 && strcmp(words[2], "llvm") == 0)
+        pauses_have_their_length(true);
+    else if (count == 3 && strcmp(words[1], "pauses") == 0 && strcmp(words[2], "rattle") == 0)
+        pauses_have_their_length(false);
     else if (count == 2 && strcmp(words[1], "memory") == 0)
         want_of_memory_is_answered();
     else if (count == 4 && strcmp(words[1], "threads") == 0)

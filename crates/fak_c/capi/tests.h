@@ -25,8 +25,8 @@ void each_code_is_answered(void);
 /* The same of semaphores, rooms, credits and file tables; and what each kind of seat answers to the calls of the others. */
 void each_kind_is_answered(void);
 
-/* Seats of a queue of each size that call by turns pause, and not for long. */
-void pauses_are_short(void);
+/* Seats of a queue of each size that call by turns pause as long as they should; or not at all, where it has few cells or nothing spins. */
+void pauses_have_their_length(bool spins);
 
 /* Each allocation of an opening fails in turn. */
 void want_of_memory_is_answered(void);
