@@ -1,7 +1,7 @@
 -- Where a file table has the entry of an inode.
-use Rattle.fak_run.proofs.Common.{◌≡◌, ◌≢◌, ℕ, ◌+◌, ◌-◌, ◌<◌, ◌==◌, Bool, true, false, nat_lt, List, [], ◌∷◌, ◌++◌, length, refl, arith, All, All-head, All-tail, slice_get, slice_set, Some, None, nat_tests, FileEntry, used, free_entry, first_entry, open_change, close_change, lowered, uses_of}
+use Rattle.fak_run.proofs.Common.{◌≡◌, ◌≢◌, ℕ, ◌+◌, ◌-◌, ◌<◌, ◌==◌, true, false, nat_lt, List, [], ◌∷◌, ◌++◌, length, refl, arith, All, All-head, All-tail, slice_get, slice_set, Some, None, nat_tests, FileEntry, used, free_entry, first_entry, open_change, close_change, lowered, uses_of}
 use Rattle.std.specs.Prelude.{not}
-use Rattle.std.specs.List.{find, prefix_len}
+use Rattle.std.specs.List.{prefix_len}
 use Rattle.std.proofs.lemmas.List.{length-append, set_at}
 use Rattle.fak_run.specs.Examples.{changed}
 

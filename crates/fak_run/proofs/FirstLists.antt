@@ -1,5 +1,5 @@
 -- What stands where in the first lists.
-use Rattle.fak_run.proofs.Common.{◌≡◌, ℕ, zero, suc, ◌+◌, ◌<◌, List, [], ◌∷◌, length, map, refl, ap, sym, ◌∙◌, arith, subst, slice_get, slice_index_or, Option, Some, None, Process, new_process, begun_from, numbers_from, FileEntry, common_steps}
+use Rattle.fak_run.proofs.Common.{◌≡◌, ℕ, zero, suc, ◌+◌, ◌<◌, List, [], ◌∷◌, length, map, refl, ap, arith, slice_get, slice_index_or, Option, Some, Process, new_process, begun_from, numbers_from, FileEntry, common_steps}
 use Rattle.std.specs.Prelude.{replicate}
 
 pub begun_at : (i k n : ℕ) (programs : List ℕ) (program : ℕ) → n ≡ i + k → slice_get programs k ≡ Some program → slice_get (begun_from i programs) k ≡ Some (new_process (n ∷ []) program n)

@@ -1,5 +1,5 @@
 -- Turns of no step go round: the process gets the processor, and is ready again.
-use Rattle.fak_run.proofs.Common.{◌≡◌, ◌⊎◌, ℕ, zero, suc, length, refl, ap, sym, ◌∙◌, arith, inl, inr, Option, Some, None, Lists, State, Turn, EndsIn, opening, step, steps, turn_over}
+use Rattle.fak_run.proofs.Common.{◌≡◌, ◌⊎◌, ℕ, zero, suc, length, refl, ap, ◌∙◌, arith, inl, inr, Option, Some, None, Lists, State, Turn, EndsIn, opening, step, steps}
 use Rattle.fak_run.specs.Examples.{unending}
 
 abbrev ready : State
