@@ -1,3 +1,4 @@
+# finds: is not position independent
     .text
     .globl fak_c_state
 fak_c_state:

@@ -1,3 +1,4 @@
+# finds: wants malloc
     .text
     .globl fak_c_open
 fak_c_open:

@@ -1,3 +1,4 @@
+# finds: writes below the stack
     .text
     .globl fak_c_state
 fak_c_state:

@@ -1,3 +1,4 @@
+# finds: writes SSE registers: fak_c_try_fill
     .text
     .globl fak_c_try_fill
 fak_c_try_fill:

@@ -1,3 +1,4 @@
+# finds: enters the system: called at
     .text
     .globl fak_c_state
 fak_c_state:

@@ -1,3 +1,4 @@
+# finds: uses thread-local storage
     .text
     .globl fak_c_state
 fak_c_state:
