@@ -2,6 +2,6 @@
 
 # Whether this file or folder stands, and no source of a crate and no line of crates.txt was changed after it was made.
 is_current() {
-    [ -e "$1" ] && [ -z "$(find "$root/crates.txt" "$root/crates" -name out -prune -o -type f \
-        \( -name crates.txt -o -name '*.rt' -o -name '*.antt' \) -newer "$1" -print)" ]
+    [ -e "$1" ] && newer=$(find "$root/crates.txt" "$root/crates" -name out -prune -o -type f \
+        \( -name crates.txt -o -name '*.rt' -o -name '*.antt' \) -newer "$1" -print) && [ -z "$newer" ]
 }

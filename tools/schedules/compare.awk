@@ -1,5 +1,5 @@
 # Compares FOLDER/KIND.I.found with FOLDER/KIND.I.wanted for I from 1 to count. What was tried goes to FOLDER/KIND.counts,
-# the first difference to FOLDER/KIND.difference; prints how many are the same, and how many differ.
+# the first difference to FOLDER/KIND.difference; prints how many are the same, and how many differ. What has no wanted line differs.
 # Variables: seed, count, folder, kind, title.
 
 BEGIN {
@@ -24,7 +24,7 @@ function compare(path,    wanted, found, wanted_more, found_more, line, differs)
         line++
         wanted = wanted_more ? wanted "" : "the end"
         found = found_more ? found "" : "the end"
-        differs = wanted != found
+        differs = wanted != found || line == 1 && !wanted_more
         count_line(wanted)
     } while (!differs && wanted_more)
     close(path ".wanted")
