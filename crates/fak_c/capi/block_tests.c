@@ -113,77 +113,113 @@ static void is_refused(size_t size, size_t align) {
 
 /* Parts of each size lie in the block, aligned to 16, and none overlaps another or a head. What does not fit is refused. */
 static void parts_are_disjoint(void) {
-    enum { PARTS = 100, BYTES = 16384, HEAD = 32 };
-    unsigned char *parts[PARTS];
+    enum { SIZES = 100, BYTES = 16384, HEAD = 32 };
+    unsigned char *made[SIZES];
     fak_c_block_begin(memory, BYTES);
-    for (size_t i = 0; i < PARTS; i++) {
+    for (size_t i = 0; i < SIZES; i++) {
         struct answer answer = rattle_alloc(i, i % 2 == 0 ? 8 : 16);
         CHECK(answer.found);
-        parts[i] = answer.at;
-        CHECK((uintptr_t)parts[i] % 16 == 0 && parts[i] >= memory + HEAD && parts[i] + i <= memory + BYTES);
-        memset(parts[i], (int)i, i);
+        made[i] = answer.at;
+        CHECK((uintptr_t)made[i] % 16 == 0 && made[i] >= memory + HEAD && made[i] + i <= memory + BYTES);
+        memset(made[i], (int)i, i);
     }
     is_refused(16, 32);
     is_refused(BYTES, 16);
     for (size_t less = 0; less <= 64; less++)
         is_refused(SIZE_MAX - less, 16);
-    CHECK(!rattle_realloc(parts[1], 1, 2, 16).found);
+    CHECK(!rattle_realloc(made[1], 1, 2, 16).found);
     CHECK(fak_c_block_end() <= BYTES);
     is_refused(16, 16);
-    for (size_t i = 0; i < PARTS; i++) {
+    for (size_t i = 0; i < SIZES; i++) {
         for (size_t byte = 0; byte < i; byte++)
-            CHECK(parts[i][byte] == i);
+            CHECK(made[i][byte] == i);
         CHECK(!fak_c_block_is_free(memory));
-        rattle_dealloc(parts[i]);
+        rattle_dealloc(made[i]);
     }
     CHECK(fak_c_block_is_free(memory));
 }
 
-/* ---- Threads that leave at once ---- */
+/* ---- Parts that threads give back at once ---- */
 
-enum { OBJECTS = 40, LEAVERS = 2, ROUNDS = 100 };
+enum { OBJECTS = 40, PARTS = 20000, GIVERS = 2, ROUNDS = 100, MOST_SPINS = 100000 };
 
 static fak_c_seat shared[OBJECTS][MOST_SEATS];
-static atomic_int left_to; /* the objects that the threads may leave */
+static void *parts[PARTS];
+static atomic_int given_away; /* how many objects, or lists of parts, the threads may begin with */
+
+/* Both threads are to begin at the same moment, so they don't leave their processors soon. */
+static void wait_for(int number) {
+    for (int spins = 1; atomic_load(&given_away) < number; spins++)
+        if (spins % MOST_SPINS == 0)
+            sched_yield();
+}
 
 /* Leaves every second seat of each object but its first, as soon as it may. */
 static void *leave_half(void *first) {
     for (int i = 0; i < OBJECTS; i++) {
-        while (atomic_load(&left_to) <= i)
-            sched_yield();
-        for (size_t seat = *(const size_t *)first; seat < MOST_SEATS; seat += LEAVERS)
+        wait_for(i + 1);
+        for (size_t seat = *(const size_t *)first; seat < MOST_SEATS; seat += GIVERS)
             CHECK(fak_c_leave(&shared[i][seat]) == FAK_C_OK);
     }
     return NULL;
 }
 
-/* Opens credits in one block. The threads leave each as soon as it is open, or all of them at the end. */
+/* Gives back every second part but the first. */
+static void *give_half(void *first) {
+    wait_for(1);
+    for (size_t part = *(const size_t *)first; part < PARTS; part += GIVERS)
+        rattle_dealloc(parts[part]);
+    return NULL;
+}
+
+/* Opens credits. The threads leave each as soon as it is open, or all of them at the end. */
 static void open_all(bool one_by_one) {
-    fak_c_block_begin(memory, sizeof memory);
     for (int i = 0; i < OBJECTS; i++) {
         CHECK(fak_c_credit_open(shared[i], MOST_SEATS, 0, 1) == FAK_C_OK);
         if (one_by_one)
-            atomic_store(&left_to, i + 1);
+            atomic_store(&given_away, i + 1);
     }
-    CHECK(fak_c_block_end() <= sizeof memory);
-    atomic_store(&left_to, OBJECTS);
+    atomic_store(&given_away, OBJECTS);
 }
 
-/* Parts are given back by two threads at once, and while others are taken. The block is free when the last seat has left: no sooner
- * and no later, so that each part was counted once. */
-static void each_part_is_counted_once(bool one_by_one) {
-    static const size_t firsts[LEAVERS] = {1, 2};
-    pthread_t leavers[LEAVERS];
-    atomic_store(&left_to, 0);
-    for (int i = 0; i < LEAVERS; i++)
-        CHECK(pthread_create(&leavers[i], NULL, leave_half, (void *)(uintptr_t)&firsts[i]) == 0);
-    open_all(one_by_one);
-    for (int i = 0; i < LEAVERS; i++)
-        CHECK(pthread_join(leavers[i], NULL) == 0);
+static void open_one_by_one(void) { open_all(true); }
+static void open_at_first(void) { open_all(false); }
+
+static void take_parts(void) {
+    for (int i = 0; i < PARTS; i++) {
+        struct answer answer = rattle_alloc(16, 16);
+        CHECK(answer.found);
+        parts[i] = answer.at;
+    }
+    atomic_store(&given_away, 1);
+}
+
+static void leave_the_first_seats(void) {
     for (int i = 0; i < OBJECTS; i++) {
         CHECK(!fak_c_block_is_free(memory));
         CHECK(fak_c_leave(&shared[i][0]) == FAK_C_OK);
     }
+}
+
+static void give_the_first_part(void) {
+    CHECK(!fak_c_block_is_free(memory));
+    rattle_dealloc(parts[0]);
+}
+
+/* Two threads give back at once what this one takes. The block is free once the last part was given back, no sooner and no later: so
+ * each part was counted once. */
+static void each_part_is_counted_once(void (*take)(void), void *(*give)(void *), void (*give_the_rest)(void)) {
+    static const size_t firsts[GIVERS] = {1, 2};
+    pthread_t givers[GIVERS];
+    atomic_store(&given_away, 0);
+    for (int i = 0; i < GIVERS; i++)
+        CHECK(pthread_create(&givers[i], NULL, give, (void *)(uintptr_t)&firsts[i]) == 0);
+    fak_c_block_begin(memory, sizeof memory);
+    take();
+    CHECK(fak_c_block_end() <= sizeof memory);
+    for (int i = 0; i < GIVERS; i++)
+        CHECK(pthread_join(givers[i], NULL) == 0);
+    give_the_rest();
     CHECK(fak_c_block_is_free(memory));
 }
 
@@ -191,7 +227,10 @@ int main(void) {
     CHECK(opened(QUEUE, 1, 1) == FAK_C_MEMORY);
     printf("the largest object took %zu bytes\n", each_size_is_opened());
     parts_are_disjoint();
-    for (int round = 0; round < ROUNDS; round++)
-        each_part_is_counted_once(round % 2 == 0);
+    for (int round = 0; round < ROUNDS; round++) {
+        each_part_is_counted_once(open_one_by_one, leave_half, leave_the_first_seats);
+        each_part_is_counted_once(open_at_first, leave_half, leave_the_first_seats);
+        each_part_is_counted_once(take_parts, give_half, give_the_first_part);
+    }
     return 0;
 }

@@ -16,8 +16,14 @@
 /* The four pauses take a tenth of a millisecond, and some tenths where a processor waits longer in each spin. */
 #define MOST_SECONDS 0.005
 #define MOST_TRIALS 20
-/* A call that does not pause takes less, unless the machine stops it. */
-#define MICROSECOND 1000.0
+/* A call that does not pause takes less, and less than so many readings of the clock, unless the machine stops it. The thread sanitizer
+ * takes some microseconds of its own now and then. */
+#ifdef FAK_C_THREAD_SANITIZER
+#define QUICK_NANOSECONDS 20000.0
+#else
+#define QUICK_NANOSECONDS 1000.0
+#endif
+#define READINGS 20
 
 /* What some calls by turns took. */
 typedef struct {
@@ -31,13 +37,13 @@ static double nanoseconds(void) {
     return (double)now.tv_sec * 1e9 + (double)now.tv_nsec;
 }
 
-/* What one spin takes: the best of many runs, so that no stop of the machine counts. */
-static double nanoseconds_of_a_spin(void) {
-    enum { RUNS = 1000, SPINS = 64 };
+/* What so many spins take: the best of many runs, so that no stop of the machine counts. */
+static double nanoseconds_of_spins(int spins) {
+    enum { RUNS = 1000 };
     double best = 1e9;
     for (int run = 0; run < RUNS; run++) {
         double start = nanoseconds(), took;
-        for (int i = 0; i < SPINS; i++)
+        for (int i = 0; i < spins; i++)
 #ifdef __x86_64__
             __asm__ volatile("pause");
 #else
@@ -46,7 +52,7 @@ static double nanoseconds_of_a_spin(void) {
         took = nanoseconds() - start;
         best = took < best ? took : best;
     }
-    return best / SPINS;
+    return best;
 }
 
 /* Two seats call by turns, so that each finds the counts changed, and pause after each call. Counts the pauses that take so many
@@ -75,22 +81,29 @@ static double least_of(uint64_t size, double spin) {
     return (double)(cells * SPINS_FOR_A_CELL) * spin / 4;
 }
 
-/* With each size each trial has its pauses, and at least one trial of a few is short: the machine may have stopped the others. */
+/* Each trial has its pauses, and at least one of a few is short: the machine may have stopped the others. Pauses are only counted
+ * where they take longer than calls that do not pause. */
+static void size_has_its_pauses(fak_c_seat *seats, bool pauses, double least, double quick) {
+    double wanted = !pauses && least < quick ? quick : least;
+    bool is_short = false;
+    for (int trial = 0; !is_short; trial++) {
+        turns made;
+        CHECK(trial < MOST_TRIALS);
+        made = turns_of(seats, wanted);
+        CHECK(!pauses || made.long_pauses >= FEWEST_PAUSES);
+        is_short = made.seconds < MOST_SECONDS && (wanted < quick || made.long_pauses <= (pauses ? MOST_PAUSES : 0));
+    }
+}
+
 void pauses_have_their_length(bool spins) {
-    double spin = nanoseconds_of_a_spin();
+    enum { SPINS = 64 };
+    double spin = nanoseconds_of_spins(SPINS) / SPINS, quick = READINGS * nanoseconds_of_spins(0);
+    if (quick < QUICK_NANOSECONDS)
+        quick = QUICK_NANOSECONDS;
     for (uint64_t size = 1; size <= LARGEST_SIZE; size++) {
-        double wanted = least_of(size, spin);
-        bool pauses = spins && size >= FEWEST_CELLS, is_short = false;
         fak_c_seat seats[2] = {0};
         CHECK(fak_c_open(seats, 2, size, size % 2 == 0 ? LONG_STINT : MOST_TRIALS * PAIRS) == FAK_C_OK);
-        if (!pauses && wanted < MICROSECOND)
-            wanted = MICROSECOND;
-        for (int trial = 0; !is_short; trial++) {
-            turns made = turns_of(seats, wanted);
-            CHECK(trial < MOST_TRIALS && (!pauses || made.long_pauses >= FEWEST_PAUSES));
-            is_short = made.seconds < MOST_SECONDS
-                && (wanted < MICROSECOND || made.long_pauses <= (pauses ? MOST_PAUSES : 0));
-        }
+        size_has_its_pauses(seats, spins && size >= FEWEST_CELLS, least_of(size, spin), quick);
         for (int i = 0; i < 2; i++)
             CHECK(fak_c_leave(&seats[i]) == FAK_C_OK);
     }
