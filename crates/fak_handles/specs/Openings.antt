@@ -2,17 +2,17 @@
 use Rattle.std.specs.Prelude.{◌≡◌, ◌⊎◌, ℕ, ◌<◌, ℤ, pos, List, [], length, Some, None, slice_index_or}
 use Rattle.std.specs.Arc.{arc_value}
 use Rattle.fak_model.specs.Calls.{seat_info}
-use Rattle.fak_model.specs.Limits.{IsNumberOfSeats}
+use Rattle.fak_model.specs.Limits.{IsLargeNumberOfSeats, IsInLargeRange}
 use Rattle.fak_queue.specs.Queues.{QueueInfo}
-use Rattle.fak_queue.specs.Refusals as queues
+use Rattle.fak_queue.specs.Refusals.{IsLargeSize}
 use Rattle.fak_count.specs.Rooms.{RoomInfo}
 use Rattle.fak_count.specs.Credits.{CreditInfo}
-use Rattle.fak_count.specs.Opening as counts
+use Rattle.fak_count.specs.Opening.{IsCount}
 use Rattle.fak_files.specs.Calls.{FileTableInfo, file_seat}
-use Rattle.fak_files.specs.Opening as tables
+use Rattle.fak_files.specs.Opening.{IsNumberOfEntries}
 use Rattle.fak_files.specs.declared.phase.Hold.TheVariants.{Nothing}
 use Rattle.fak_sem.specs.Semaphores.{SemInfo, seats_of}
-use Rattle.fak_sem.specs.Opening as semaphores
+use Rattle.fak_sem.specs.Opening.{AreLargeSizes}
 use Rattle.fak_sem.specs.declared.standing.Standing.TheVariants.{Idle}
 use Rattle.fak_handles.specs.declared.desk.Desk.{Desk}
 use Rattle.fak_handles.specs.declared.desk.Desk.TheVariants.{Queue, Semaphore, Room, Credit, Files}
@@ -114,21 +114,21 @@ pub record IsOpenedSem (start size stint : ℕ) (places : List Place) : Type 0 w
   pub seated : AreSeatedBelow (IsFreshSem sem stint) (length places) places
 
 abbrev pub OpensQueue : ℤ → ℕ → ℕ → List Place → Type 0
-OpensQueue code size stint places = Opens code (queues.IsInRange size (length places) stint) (IsOpenedQueue size stint places) places
+OpensQueue code size stint places = Opens code (IsInLargeRange (IsLargeSize size) (length places) stint) (IsOpenedQueue size stint places) places
 
 abbrev pub OpensRoom : ℤ → ℕ → ℕ → List Place → Type 0
-OpensRoom code bound stint places = Opens code (counts.IsInRange bound (length places) stint) (IsOpenedRoom bound stint places) places
+OpensRoom code bound stint places = Opens code (IsInLargeRange (IsCount bound) (length places) stint) (IsOpenedRoom bound stint places) places
 
 abbrev pub OpensCredit : ℤ → ℕ → ℕ → List Place → Type 0
-OpensCredit code start stint places = Opens code (counts.IsInRange start (length places) stint) (IsOpenedCredit start stint places) places
+OpensCredit code start stint places = Opens code (IsInLargeRange (IsCount start) (length places) stint) (IsOpenedCredit start stint places) places
 
 abbrev pub OpensTable : ℤ → ℕ → ℕ → List Place → Type 0
-OpensTable code entries stint places = Opens code (tables.IsInRange entries (length places) stint) (IsOpenedTable entries stint places) places
+OpensTable code entries stint places = Opens code (IsInLargeRange (IsNumberOfEntries entries) (length places) stint) (IsOpenedTable entries stint places) places
 
 abbrev pub OpensSem : ℤ → ℕ → ℕ → ℕ → List Place → Type 0
-OpensSem code start size stint places = Opens code (semaphores.IsInRange start size (length places) stint) (IsOpenedSem start size stint places) places
+OpensSem code start size stint places = Opens code (IsInLargeRange (AreLargeSizes start size) (length places) stint) (IsOpenedSem start size stint places) places
 
 -- an object may have this many handles, and the call opens them or says why not; or it may not, and the call keeps them
 abbrev pub OpensOrKeeps : ℤ → List Place → List Place → Type 0 → Type 0
 OpensOrKeeps code old new IsAnswered =
-    (IsNumberOfSeats (length old) → IsAnswered) × (¬ IsNumberOfSeats (length old) → (code ≡ pos 8) × (new ≡ old))
+    (IsLargeNumberOfSeats (length old) → IsAnswered) × (¬ IsLargeNumberOfSeats (length old) → (code ≡ pos 8) × (new ≡ old))

@@ -1,7 +1,7 @@
 //! How objects are opened for C: each handle gets a seat.
 
 ghost use Rattle.std.specs.Prelude.{◌≡◌, IsTrue, length, MatchBool};
-ghost use Rattle.fak_model.specs.Limits.{IsNumberOfSeats};
+ghost use Rattle.fak_model.specs.Limits.{IsLargeNumberOfSeats};
 ghost use Rattle.std.specs.Arc.{arc_value};
 ghost use Rattle.fak_model.specs.Calls.{fresh_seats};
 ghost use Rattle.fak_files.specs.Calls.{idle_seats};
@@ -18,7 +18,7 @@ use crate::room::RoomDesk;
 use crate::semaphore::SemDesk;
 use fak_count::{Credit, CreditSeat, Room, RoomSeat};
 use fak_files::{FileSeat, FileTable};
-use fak_model::MOST_SEATS;
+use fak_model::{LARGE_SEATS, LargeFault};
 use fak_queue::{Queue, Seat};
 use fak_sem::{SemSeat, Semaphore, StepSeat};
 use std::alloc::Global;
@@ -26,9 +26,9 @@ use std::sync::Arc;
 
 /// Whether an object may have this many seats.
 pub fn is_number_of_seats(count: usize) -> bool
-    ensures { MatchBool result (IsNumberOfSeats count) (¬ IsNumberOfSeats count) }
+    ensures { MatchBool result (IsLargeNumberOfSeats count) (¬ IsLargeNumberOfSeats count) }
 {
-    count >= 1 && count as u64 <= MOST_SEATS
+    count >= 1 && count as u64 <= LARGE_SEATS
 }
 
 /// Empties all handles.
@@ -77,7 +77,7 @@ pub fn open_queue(alloc: Global, places: &mut [Place], size: u64, stint: u64) ->
     ensures opens { OpensQueue result size stint places.new }
 {
     clear(alloc, places);
-    match Queue::<u64>::open(alloc, size, places.len() as u64, stint) {
+    match Queue::<u64>::open_large(alloc, size, places.len() as u64, stint) {
         Ok((queue, seats)) => {
             let Ok(queue) = Arc::new(alloc, queue) else {
                 return MEMORY;
@@ -89,12 +89,8 @@ pub fn open_queue(alloc: Global, places: &mut [Place], size: u64, stint: u64) ->
                 MEMORY
             }
         }
-        Err(fak_queue::OpenFault::Memory) => MEMORY,
-        Err(
-            fak_queue::OpenFault::BadSize
-            | fak_queue::OpenFault::BadSeats
-            | fak_queue::OpenFault::BadStint,
-        ) => BAD_LIMIT,
+        Err(LargeFault::Memory) => MEMORY,
+        Err(LargeFault::BadSize | LargeFault::BadSeats | LargeFault::BadStint) => BAD_LIMIT,
     }
 }
 
@@ -134,7 +130,7 @@ pub fn open_room(alloc: Global, places: &mut [Place], bound: u64, stint: u64) ->
     ensures opens { OpensRoom result bound stint places.new }
 {
     clear(alloc, places);
-    match Room::open(alloc, bound, places.len() as u64, stint) {
+    match Room::open_large(alloc, bound, places.len() as u64, stint) {
         Ok((room, seats)) => {
             let Ok(room) = Arc::new(alloc, room) else {
                 return MEMORY;
@@ -146,12 +142,8 @@ pub fn open_room(alloc: Global, places: &mut [Place], bound: u64, stint: u64) ->
                 MEMORY
             }
         }
-        Err(fak_count::OpenFault::Memory) => MEMORY,
-        Err(
-            fak_count::OpenFault::BadSize
-            | fak_count::OpenFault::BadSeats
-            | fak_count::OpenFault::BadStint,
-        ) => BAD_LIMIT,
+        Err(LargeFault::Memory) => MEMORY,
+        Err(LargeFault::BadSize | LargeFault::BadSeats | LargeFault::BadStint) => BAD_LIMIT,
     }
 }
 
@@ -191,7 +183,7 @@ pub fn open_credit(alloc: Global, places: &mut [Place], start: u64, stint: u64) 
     ensures opens { OpensCredit result start stint places.new }
 {
     clear(alloc, places);
-    match Credit::open(alloc, start, places.len() as u64, stint) {
+    match Credit::open_large(alloc, start, places.len() as u64, stint) {
         Ok((credit, seats)) => {
             let Ok(credit) = Arc::new(alloc, credit) else {
                 return MEMORY;
@@ -203,12 +195,8 @@ pub fn open_credit(alloc: Global, places: &mut [Place], start: u64, stint: u64) 
                 MEMORY
             }
         }
-        Err(fak_count::OpenFault::Memory) => MEMORY,
-        Err(
-            fak_count::OpenFault::BadSize
-            | fak_count::OpenFault::BadSeats
-            | fak_count::OpenFault::BadStint,
-        ) => BAD_LIMIT,
+        Err(LargeFault::Memory) => MEMORY,
+        Err(LargeFault::BadSize | LargeFault::BadSeats | LargeFault::BadStint) => BAD_LIMIT,
     }
 }
 
@@ -250,7 +238,7 @@ pub fn open_table(alloc: Global, places: &mut [Place], entries: u64, stint: u64)
     ensures opens { OpensTable result entries stint places.new }
 {
     clear(alloc, places);
-    match FileTable::open(alloc, entries, places.len() as u64, stint) {
+    match FileTable::open_large(alloc, entries, places.len() as u64, stint) {
         Ok((table, seats)) => {
             let Ok(table) = Arc::new(alloc, table) else {
                 return MEMORY;
@@ -262,12 +250,8 @@ pub fn open_table(alloc: Global, places: &mut [Place], entries: u64, stint: u64)
                 MEMORY
             }
         }
-        Err(fak_files::OpenFault::Memory) => MEMORY,
-        Err(
-            fak_files::OpenFault::BadSize
-            | fak_files::OpenFault::BadSeats
-            | fak_files::OpenFault::BadStint,
-        ) => BAD_LIMIT,
+        Err(LargeFault::Memory) => MEMORY,
+        Err(LargeFault::BadSize | LargeFault::BadSeats | LargeFault::BadStint) => BAD_LIMIT,
     }
 }
 
@@ -307,7 +291,7 @@ pub fn open_semaphore(alloc: Global, places: &mut [Place], start: u64, size: u64
     ensures opens { OpensSem result start size stint places.new }
 {
     clear(alloc, places);
-    match Semaphore::<u64>::open(alloc, start, size, places.len() as u64, stint) {
+    match Semaphore::<u64>::open_large(alloc, start, size, places.len() as u64, stint) {
         Ok((semaphore, seats)) => {
             let Ok(semaphore) = Arc::new(alloc, semaphore) else {
                 return MEMORY;
@@ -319,11 +303,7 @@ pub fn open_semaphore(alloc: Global, places: &mut [Place], start: u64, size: u64
                 MEMORY
             }
         }
-        Err(fak_sem::OpenFault::Memory) => MEMORY,
-        Err(
-            fak_sem::OpenFault::BadSize
-            | fak_sem::OpenFault::BadSeats
-            | fak_sem::OpenFault::BadStint,
-        ) => BAD_LIMIT,
+        Err(LargeFault::Memory) => MEMORY,
+        Err(LargeFault::BadSize | LargeFault::BadSeats | LargeFault::BadStint) => BAD_LIMIT,
     }
 }
