@@ -118,7 +118,8 @@ seats! {
 // SAFETY of the calls below: each handle is the seat's own, and out-pointers are locals that were written.
 
 impl Seat {
-    /// A queue of `size` cells, 1 to 4,096, as its N seats, 1 to 64, each of which may make `stint` calls.
+    /// A queue of `size` cells, 1 to 2^24, as its N seats, 1 to 1,024, each of which may make `stint` calls: at least 1, and N times the
+    /// stint is at most 2^50. So it is for seats of every kind. The array lies on the stack: 128 bytes a seat, some times over.
     pub fn open<const N: usize>(size: u64, stint: u64) -> Result<[Seat; N], Fault> {
         opened::<N>(|seats| unsafe { raw::fak_c_open(seats, N, size, stint) }).map(|all| all.map(Seat))
     }
@@ -165,7 +166,7 @@ impl Seat {
 }
 
 impl SemSeat {
-    /// A semaphore that begins at `start`, 0 to 2^32, with a wait queue of `size` cells, as its N seats.
+    /// A semaphore that begins at `start`, 0 to 2^32, with a wait queue of `size` cells, 1 to 2^24, as its N seats.
     pub fn open<const N: usize>(start: u64, size: u64, stint: u64) -> Result<[SemSeat; N], Fault> {
         opened::<N>(|seats| unsafe { raw::fak_c_sem_open(seats, N, start, size, stint) }).map(|all| all.map(SemSeat))
     }

@@ -145,6 +145,6 @@ fn a_refused_opening_takes_nothing() {
     let _alone = ALONE.lock().unwrap();
     let before = LIVE.load(SeqCst);
     assert_eq!(opened(0, || Seat::open::<2>(0, 9)).err(), Some(Fault::BadLimit));
-    assert_eq!(opened(0, || Seat::open::<65>(1, 9)).err(), Some(Fault::BadLimit));
+    assert_eq!(opened(0, || Seat::open::<1025>(1, 9)).err(), Some(Fault::BadLimit));
     assert_eq!(LIVE.load(SeqCst), before);
 }

@@ -151,9 +151,9 @@ fn add_one(seat: &mut FileSeat) {
 #[test]
 fn openings_have_limits() {
     assert_eq!(Seat::open::<0>(1, 1).err(), Some(Fault::BadLimit));
-    assert_eq!(Seat::open::<65>(1, 1).err(), Some(Fault::BadLimit));
+    assert_eq!(Seat::open::<1025>(1, 1).err(), Some(Fault::BadLimit));
     assert_eq!(Seat::open::<1>(0, 1).err(), Some(Fault::BadLimit));
-    assert_eq!(SemSeat::open::<1>(0, 4097, 1).err(), Some(Fault::BadLimit));
+    assert_eq!(SemSeat::open::<1>(0, (1 << 24) + 1, 1).err(), Some(Fault::BadLimit));
     assert_eq!(SemSeat::open::<1>((1 << 32) + 1, 1, 1).err(), Some(Fault::BadLimit));
     assert_eq!(RoomSeat::open::<1>((1 << 32) + 1, 1).err(), Some(Fault::BadLimit));
     assert_eq!(CreditSeat::open::<1>((1 << 32) + 1, 1).err(), Some(Fault::BadLimit));

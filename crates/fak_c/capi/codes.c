@@ -1,8 +1,9 @@
 /* Each code of each call of a queue, on one thread, and seats that move. */
 #include "tests.h"
 
-#define MOST_SEATS 64
-#define LARGEST_SIZE 4096
+/* Each number of seats and each size up to these is opened; large_tests.c has larger ones. */
+#define SEATS 64
+#define SIZES 4096
 #define LARGEST_BOUND (UINT64_C(1) << 32)
 
 static bool is_empty(const fak_c_seat *seat) {
@@ -53,27 +54,42 @@ static void an_empty_handle_is_refused(fak_c_seat *seat) {
     CHECK(state == 99 && number == 99 && left == 99 && was_open && is_empty(seat));
 }
 
-static void limits_are_tested(void) {
-    fak_c_seat seats[MOST_SEATS + 1] = {0};
-    CHECK(sizeof seats[0] == 128 && offsetof(fak_c_seat, at) == 64);
+/* Numbers on either side of each limit of a queue. */
+static void a_queue_has_limits(fak_c_seat *seats) {
     CHECK(fak_c_open(seats, 0, 4, 4) == FAK_C_BAD_LIMIT);
-    CHECK(fak_c_open(seats, MOST_SEATS + 1, 4, 4) == FAK_C_BAD_LIMIT);
+    CHECK(fak_c_open(seats, LARGE_SEATS + 1, 4, 4) == FAK_C_BAD_LIMIT);
     CHECK(fak_c_open(seats, 2, 0, 4) == FAK_C_BAD_LIMIT);
-    CHECK(fak_c_open(seats, 2, 4097, 4) == FAK_C_BAD_LIMIT);
+    CHECK(fak_c_open(seats, 2, LARGE_SIZE + 1, 4) == FAK_C_BAD_LIMIT);
+    CHECK(fak_c_open(seats, 2, UINT64_MAX, 4) == FAK_C_BAD_LIMIT);
     CHECK(fak_c_open(seats, 2, 4, 0) == FAK_C_BAD_LIMIT);
-    CHECK(fak_c_open(seats, 2, 4, LONG_STINT + 1) == FAK_C_BAD_LIMIT);
-    CHECK(fak_c_open(seats, MOST_SEATS, 4096, LONG_STINT) == FAK_C_OK);
-    for (int i = 0; i < MOST_SEATS; i++)
+    CHECK(fak_c_open(seats, 1, 4, LARGE_CALLS + 1) == FAK_C_BAD_LIMIT);
+    CHECK(fak_c_open(seats, 3, 4, LARGE_CALLS / 3 + 1) == FAK_C_BAD_LIMIT);
+    CHECK(fak_c_open(seats, LARGE_SEATS, 4, LONG_STINT + 1) == FAK_C_BAD_LIMIT);
+    /* The calls of all seats together are counted without a wrap. */
+    CHECK(fak_c_open(seats, LARGE_SEATS, 4, UINT64_C(1) << 54) == FAK_C_BAD_LIMIT);
+    CHECK(fak_c_open(seats, 3, 4, UINT64_MAX) == FAK_C_BAD_LIMIT);
+    CHECK(fak_c_open(seats, 1, 4, LARGE_CALLS) == FAK_C_OK);
+    stands(&seats[0], FAK_C_IDLE, 99, LARGE_CALLS);
+    CHECK(fak_c_open(seats, 3, 4, LARGE_CALLS / 3) == FAK_C_OK);
+    stands(&seats[2], FAK_C_IDLE, 99, LARGE_CALLS / 3);
+}
+
+static void limits_are_tested(void) {
+    static fak_c_seat seats[LARGE_SEATS + 1];
+    CHECK(sizeof seats[0] == 128 && offsetof(fak_c_seat, at) == 64);
+    a_queue_has_limits(seats);
+    CHECK(fak_c_open(seats, LARGE_SEATS, 4096, LONG_STINT) == FAK_C_OK);
+    for (int i = 0; i < LARGE_SEATS; i++)
         stands(&seats[i], FAK_C_IDLE, 99, LONG_STINT);
-    /* Where the number of handles is out of range, none is read or given up. */
+    /* If the number of handles is out of range, none is read or given up. */
     CHECK(fak_c_open(seats, 0, 4, 4) == FAK_C_BAD_LIMIT);
-    CHECK(fak_c_open(seats, MOST_SEATS + 1, 4, 4) == FAK_C_BAD_LIMIT);
-    for (int i = 0; i < MOST_SEATS; i++)
+    CHECK(fak_c_open(seats, LARGE_SEATS + 1, 4, 4) == FAK_C_BAD_LIMIT);
+    for (int i = 0; i < LARGE_SEATS; i++)
         stands(&seats[i], FAK_C_IDLE, 99, LONG_STINT);
     /* What the handles held is given up, also by an opening that fails. */
-    CHECK(fak_c_open(seats, MOST_SEATS, 1, 1) == FAK_C_OK);
-    CHECK(fak_c_open(seats, MOST_SEATS, 0, 1) == FAK_C_BAD_LIMIT);
-    for (int i = 0; i <= MOST_SEATS; i++)
+    CHECK(fak_c_open(seats, LARGE_SEATS, 1, 1) == FAK_C_OK);
+    CHECK(fak_c_open(seats, LARGE_SEATS, 0, 1) == FAK_C_BAD_LIMIT);
+    for (int i = 0; i <= LARGE_SEATS; i++)
         CHECK(is_empty(&seats[i]));
 }
 
@@ -96,15 +112,15 @@ static void opens(fak_c_seat *seats, size_t n, uint64_t number, uint64_t stint) 
 
 /* No size, no number of seats and no width of a stint is refused. */
 static void each_size_is_opened(void) {
-    fak_c_seat seats[MOST_SEATS] = {0};
-    for (uint64_t size = 1; size <= LARGEST_SIZE; size++)
-        opens(seats, size % MOST_SEATS + 1, size, UINT64_C(1) << size % 41);
+    fak_c_seat seats[SEATS] = {0};
+    for (uint64_t size = 1; size <= SIZES; size++)
+        opens(seats, size % SEATS + 1, size, UINT64_C(1) << size % 41);
 }
 
 /* Objects of each kind are opened with this number, or the most there may be, as their bound or start and as their stint. */
 static void opens_wide(fak_c_seat *seats, size_t n, uint64_t number) {
     uint64_t bound = number < LARGEST_BOUND ? number : LARGEST_BOUND;
-    uint64_t stint = number == 0 ? 1 : number < LONG_STINT ? number : LONG_STINT;
+    uint64_t stint = number == 0 ? 1 : number < LARGE_CALLS / n ? number : LARGE_CALLS / n;
     CHECK(fak_c_open(seats, n, 5, stint) == FAK_C_OK);
     for (size_t i = 0; i < n; i++)
         stands(&seats[i], FAK_C_IDLE, 99, stint);
@@ -118,8 +134,8 @@ static void opens_wide(fak_c_seat *seats, size_t n, uint64_t number) {
 
 /* No bound, no start and no stint is refused that is a power of two, stands beside one or lies halfway to the next. */
 static void each_width_is_opened(void) {
-    fak_c_seat seats[MOST_SEATS] = {0};
-    for (uint64_t power = 1, n = 1; power <= LONG_STINT; power *= 2, n++) {
+    fak_c_seat seats[SEATS] = {0};
+    for (uint64_t power = 1, n = 1; power <= LARGE_CALLS; power *= 2, n++) {
         opens_wide(seats, n, power - 1);
         opens_wide(seats, n, power);
         opens_wide(seats, n, power + 1);

@@ -98,11 +98,12 @@ enum {
 
 /* ---- Every kind of seat ----
  *
- * Each kind has a call that opens an object with a seat for each of the n handles that `seats` points to (1 to 64). A seat may
- * make `stint` calls (1 to 2^40); a refused call does not count. No call renews a stint: after FAK_C_WORN go on with another seat, or
- * with a new object. A call that opens answers FAK_C_OK, FAK_C_BAD_LIMIT or FAK_C_MEMORY. Where n is out of range it neither reads
- * nor clears a handle. Else, where it is not FAK_C_OK, all n handles are empty. A seat that a handle held before is given up in
- * any case, in mid-call too, and then its cell is never used again: pass handles that are empty. */
+ * Each kind has a call that opens an object with a seat for each of the n handles that `seats` points to (1 to 1,024). A seat may
+ * make `stint` calls (at least 1, and n times the stint is at most 2^50); a refused call does not count. No call renews a stint: after
+ * FAK_C_WORN go on with another seat, or with a new object. A call that opens answers FAK_C_OK, FAK_C_BAD_LIMIT or FAK_C_MEMORY.
+ * Where n is out of range it neither reads nor clears a handle. Else, where it is not FAK_C_OK, all n handles are empty. A seat
+ * that a handle held before is given up in any case, in mid-call too, and then its cell is never used again: pass handles that are
+ * empty. */
 
 /* Gives up the seat, of which no call is open, and which holds nothing of a room or a file table. The handle is empty then. The last
  * seat to leave frees the object, with the items that are still in it: these are numbers, so what they may point to is the caller's
@@ -132,7 +133,7 @@ enum {
     FAK_C_DELETING = 2   /* a deletion was claimed: fak_c_try_take is next */
 };
 
-/* Opens an empty queue of `size` cells (1 to 4,096). The stint is of insertions and deletions together. */
+/* Opens an empty queue of `size` cells (1 to 2^24). The stint is of insertions and deletions together. */
 int32_t fak_c_open(fak_c_seat *seats, size_t n, uint64_t size, uint64_t stint);
 
 /* Claims room for the item, and writes the insertion's ticket: the number of insertions granted before. The seat keeps the
@@ -220,7 +221,7 @@ enum {
     FAK_C_SEM_WAKING = 2   /* an up owes a wake: fak_c_sem_try_wake is next */
 };
 
-/* Opens a semaphore that begins at `start` (0 to 2^32), with an empty wait queue of `size` cells (1 to 4,096): no fewer than items
+/* Opens a semaphore that begins at `start` (0 to 2^32), with an empty wait queue of `size` cells (1 to 2^24): no fewer than items
  * may wait at once. With fewer a down tries to park until an up makes room, for ever where the callers of the ups are parking
  * too. The stint is of downs and ups together. */
 int32_t fak_c_sem_open(fak_c_seat *seats, size_t n, uint64_t start, uint64_t size, uint64_t stint);

@@ -51,9 +51,9 @@ static void a_semaphore_has_limits(void) {
     fak_c_seat seats[1] = {0};
     CHECK(fak_c_sem_open(seats, 1, (UINT64_C(1) << 32) + 1, 1, 1) == FAK_C_BAD_LIMIT);
     CHECK(fak_c_sem_open(seats, 1, 0, 0, 1) == FAK_C_BAD_LIMIT);
-    CHECK(fak_c_sem_open(seats, 1, 0, 4097, 1) == FAK_C_BAD_LIMIT);
+    CHECK(fak_c_sem_open(seats, 1, 0, LARGE_SIZE + 1, 1) == FAK_C_BAD_LIMIT);
     CHECK(fak_c_sem_open(seats, 0, 0, 1, 1) == FAK_C_BAD_LIMIT);
-    CHECK(fak_c_sem_open(seats, 1, 0, 1, LONG_STINT + 1) == FAK_C_BAD_LIMIT && seats[0].at == NULL);
+    CHECK(fak_c_sem_open(seats, 1, 0, 1, LARGE_CALLS + 1) == FAK_C_BAD_LIMIT && seats[0].at == NULL);
     CHECK(fak_c_sem_open(seats, 1, UINT64_C(1) << 32, 4096, 1) == FAK_C_OK);
     CHECK(fak_c_sem_claim_down(&seats[0], 1) == FAK_C_OK);
     CHECK(fak_c_sem_claim_down(&seats[0], 1) == FAK_C_WORN && fak_c_sem_claim_up(&seats[0]) == FAK_C_WORN);

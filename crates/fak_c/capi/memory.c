@@ -27,32 +27,32 @@ void __wrap_free(void *block) {
     __real_free(block);
 }
 
-static int32_t open_kind(fak_c_seat *seats, int kind) {
+static int32_t open_kind(fak_c_seat *seats, size_t n, int kind) {
     switch (kind) {
     case 0:
-        return fak_c_open(seats, SEATS, 5, 10);
+        return fak_c_open(seats, n, 5, 10);
     case 1:
-        return fak_c_sem_open(seats, SEATS, 0, 5, 10);
+        return fak_c_sem_open(seats, n, 0, 5, 10);
     case 2:
-        return fak_c_room_open(seats, SEATS, 5, 10);
+        return fak_c_room_open(seats, n, 5, 10);
     case 3:
-        return fak_c_credit_open(seats, SEATS, 5, 10);
+        return fak_c_credit_open(seats, n, 5, 10);
     default:
-        return fak_c_files_open(seats, SEATS, 5, 10);
+        return fak_c_files_open(seats, n, 5, 10);
     }
 }
 
 /* Opens an object while the allocation of this number fails. True where the opening succeeded. */
-static bool opens(fak_c_seat *seats, int kind, long number) {
+static bool opens(fak_c_seat *seats, size_t n, int kind, long number) {
     int32_t answer;
     made = 0;
     failing = number;
-    answer = open_kind(seats, kind);
+    answer = open_kind(seats, n, kind);
     failing = 0;
     if (answer == FAK_C_OK)
         return true;
     CHECK(answer == FAK_C_MEMORY);
-    for (int i = 0; i < SEATS; i++)
+    for (size_t i = 0; i < n; i++)
         CHECK(seats[i].at == NULL);
     CHECK(live == 0);
     return false;
@@ -116,18 +116,27 @@ static void use(fak_c_seat *seats, int kind) {
     CHECK(made == 0 && live == 0);
 }
 
+/* Opens an object with n seats, once each of its allocations has failed. */
+static void each_allocation_fails(fak_c_seat *seats, size_t n, int kind) {
+    long number = 1, desks = (long)n;
+    live = 0;
+    while (!opens(seats, n, kind, number)) {
+        /* The next one finds its handles full. */
+        CHECK(number % 2 == 0 || opens(seats, n, kind, 0));
+        number++;
+    }
+    /* There is a desk for each seat, and the object. */
+    CHECK(number > desks + 1 && made < number && live > desks);
+}
+
 void want_of_memory_is_answered(void) {
+    static fak_c_seat seats[LARGE_SEATS];
     for (int kind = 0; kind < KINDS; kind++) {
-        fak_c_seat seats[SEATS] = {0};
-        long number = 1;
-        live = 0;
-        while (!opens(seats, kind, number)) {
-            /* The next one finds its handles full. */
-            CHECK(number % 2 == 0 || opens(seats, kind, 0));
-            number++;
-        }
-        /* There is a desk for each seat, and the object. */
-        CHECK(number > SEATS + 1 && made < number && live > SEATS);
+        each_allocation_fails(seats, SEATS, kind);
         use(seats, kind);
+        each_allocation_fails(seats, LARGE_SEATS, kind);
+        for (int i = 0; i < LARGE_SEATS; i++)
+            CHECK(fak_c_leave(&seats[i]) == FAK_C_OK);
+        CHECK(live == 0);
     }
 }

@@ -16,8 +16,13 @@
         } \
     } while (0)
 
-/* The longest stint. */
+/* A long stint, which each of 1,024 seats may have. */
 #define LONG_STINT (UINT64_C(1) << 40)
+
+/* What an object may be opened with, at most: its seats, the cells of its queue, and the calls of all its seats together. */
+#define LARGE_SEATS 1024
+#define LARGE_SIZE (UINT64_C(1) << 24)
+#define LARGE_CALLS (UINT64_C(1) << 50)
 
 /* Each code of each call of a queue, on one thread, and seats that move. */
 void each_code_is_answered(void);

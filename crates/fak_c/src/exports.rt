@@ -15,7 +15,7 @@ use fak_handles::opening::is_number_of_seats;
 use fak_handles::place::Place;
 use std::alloc::Global;
 
-/// Opens a queue of `size` cells, and gives each of 1 to 64 handles a seat of it with this stint. What the handles held is
+/// Opens a queue of `size` cells, and gives each of 1 to 1,024 handles a seat of it with this stint. What the handles held is
 /// given up. A failed call leaves them empty, but keeps them where their number is out of range.
 ///
 /// `OK`, `BAD_LIMIT` or `MEMORY`.
