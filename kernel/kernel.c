@@ -93,6 +93,7 @@ static _Noreturn void report(void) {
     alarm_is_over();
     all_work_was_done();
     leave_objects(in_use);
+    say("all %u page frames are free\n", leave_frames(in_use));
     say("all %u threads ended, pages %u of %u free\n", ended, pages, (uint64_t)PAGES);
     leave(ended == THREADS && pages == PAGES);
 }
@@ -105,6 +106,7 @@ void enter(uint32_t number) {
         if (in_use > PROCESSORS)
             fail("too many processors:", in_use);
         open_objects(in_use);
+        open_frames(in_use);
         make_threads();
         atomic_store(&opened, true);
         start_others();

@@ -34,6 +34,13 @@ extern unsigned char page_frames[PAGES][PAGE];
 void open_objects(uint32_t processors);
 void leave_objects(uint32_t processors);
 
+/* ---- Page frames (frames.c): all memory that nothing else uses, one seat a processor. ---- */
+
+extern fak_c_seat frames[PROCESSORS];
+
+void open_frames(uint32_t processors);
+uint64_t leave_frames(uint32_t processors); /* how many there are; each is in the list */
+
 /* ---- Threads (threads.c) ---- */
 
 enum wish { YIELDS, SLEEPS, PARKS, ENDS };

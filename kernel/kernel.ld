@@ -13,5 +13,6 @@ SECTIONS
     .rodata : { *(.rodata .rodata.*) }
     .data : { *(.data .data.*) }
     .bss : { *(.bss .bss.*) *(COMMON) }
+    image_end = .;
     /DISCARD/ : { *(.comment) *(.note*) *(.eh_frame*) *(.debug_frame*) *(.llvm_addrsig) }
 }

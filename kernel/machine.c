@@ -139,12 +139,17 @@ void set_up(uint32_t n) {
     apic[APIC_SPURIOUS] = 0x100 | SPURIOUS;
 }
 
-/* QEMU's fw_cfg tells how many processors there are. */
-uint32_t processors(void) {
-    out16(0x510, 5);
-    uint32_t n = in8(0x511);
-    return n | (uint32_t)in8(0x511) << 8;
+/* QEMU's fw_cfg has numbers under keys, each byte by byte. */
+static uint64_t told(uint16_t key, unsigned bytes) {
+    uint64_t n = 0;
+    out16(0x510, key);
+    for (unsigned i = 0; i < bytes; i++)
+        n |= (uint64_t)in8(0x511) << 8 * i;
+    return n;
 }
+
+uint32_t processors(void) { return (uint32_t)told(5, 2); }
+uint64_t memory_bytes(void) { return told(3, 8); }
 
 static void wait_microseconds(unsigned n) {
     while (n-- > 0)

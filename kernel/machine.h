@@ -35,6 +35,7 @@ static inline uint32_t processor(void) {
 }
 
 uint32_t processors(void);    /* how many the machine has */
+uint64_t memory_bytes(void);  /* how much memory it has */
 void start_others(void);      /* makes each call enter */
 void set_up(uint32_t number); /* descriptors, interrupt table and local APIC of this processor */
 void timer_on(uint32_t nanoseconds);

@@ -33,13 +33,32 @@ static uint64_t *take_page(thread *me) {
     return page;
 }
 
+static void mark_page(uint64_t *page, uint64_t mark) {
+    for (unsigned i = 0; i < PAGE / 8; i++)
+        page[i] = mark;
+}
+
+static void has_marks(const uint64_t *page, uint64_t mark, const char *what, uint64_t thread) {
+    for (unsigned i = 0; i < PAGE / 8; i++)
+        if (page[i] != mark)
+            fail(what, thread);
+}
+
+/* There are more frames than threads, so the list is never empty. */
+static uint64_t *take_frame(void) {
+    uint64_t *frame = get(&frames[processor()]);
+    if (frame == NULL)
+        fail("no page frame", 0);
+    return frame;
+}
+
 void work(thread *me) {
     for (uint64_t round = 0; round < ROUNDS; round++) {
         uint64_t mark = me->number << 32 | round;
         take_token(me, me->number % SEMAPHORES);
-        uint64_t *page = take_page(me);
-        for (unsigned i = 0; i < PAGE / 8; i++)
-            page[i] = mark;
+        uint64_t *page = take_page(me), *frame = take_frame();
+        mark_page(page, mark);
+        mark_page(frame, mark);
         switch ((round + me->number) % 4) {
         case 0:
             stop(me, SLEEPS);
@@ -53,9 +72,9 @@ void work(thread *me) {
         }
         if (!keeps_sse(mark, 2000))
             fail("SSE register lost by thread", me->number);
-        for (unsigned i = 0; i < PAGE / 8; i++)
-            if (page[i] != mark)
-                fail("page not its own of thread", me->number);
+        has_marks(page, mark, "page not its own of thread", me->number);
+        has_marks(frame, mark, "page frame not its own of thread", me->number);
+        put(&frames[processor()], frame);
         put(&free_pages[processor()], page);
         give_token((me->number + 1) % SEMAPHORES);
     }

@@ -1,0 +1,54 @@
+/* All memory that nothing else uses, as one list of page frames: a queue with a cell for each of them. The queue lies behind the
+ * kernel's image, and the frames behind the queue. */
+#include "kernel.h"
+
+#include "block.h"
+
+/* Memory up to 3 GB lies in one piece from 1 MB on. */
+enum { MOST_FRAMES = 3 * (1 << 18) };
+
+extern unsigned char image_end[]; /* kernel.ld */
+
+static const uint64_t stint = UINT64_C(1) << 40;
+
+fak_c_seat frames[PROCESSORS];
+static unsigned char *block, *first_frame;
+static uint64_t frame_count;
+
+/* The next multiple of PAGE. */
+static uint64_t whole_pages(uint64_t bytes) {
+    return (bytes + PAGE - 1) / PAGE * PAGE;
+}
+
+void open_frames(uint32_t n) {
+    uint64_t start = whole_pages((uint64_t)image_end), end = memory_bytes();
+    if (end > (uint64_t)MOST_FRAMES * PAGE)
+        end = (uint64_t)MOST_FRAMES * PAGE;
+    uint64_t bytes = whole_pages(FAK_C_QUEUE_BYTES(n, (end - start) / PAGE));
+    block = (unsigned char *)start;
+    first_frame = block + bytes;
+    frame_count = (end - start - bytes) / PAGE;
+    fak_c_block_begin(block, bytes);
+    must(fak_c_open(frames, n, frame_count, stint), "open the page frames");
+    say("%u page frames of %u kB of memory in a list in %u bytes\n", frame_count, memory_bytes() / 1024, (uint64_t)fak_c_block_end());
+    for (uint64_t i = 0; i < frame_count; i++)
+        put(&frames[0], first_frame + i * PAGE);
+}
+
+/* All frames are in the list, each once, and its memory is free when its seats have left. */
+uint64_t leave_frames(uint32_t n) {
+    static unsigned char seen[MOST_FRAMES];
+    uint64_t count = 0;
+    for (unsigned char *frame; (frame = get(&frames[0])) != NULL; count++) {
+        uint64_t i = (uint64_t)(frame - first_frame) / PAGE;
+        if (i >= frame_count || seen[i]++ != 0)
+            fail("a frame that is none, or is free twice:", i);
+    }
+    if (count != frame_count)
+        fail("frames are lost, of which there are", count);
+    for (uint32_t i = 0; i < n; i++)
+        must(fak_c_leave(&frames[i]), "leave the frames");
+    if (!fak_c_block_is_free(block))
+        fail("memory of the frames in use at the end", 0);
+    return count;
+}
