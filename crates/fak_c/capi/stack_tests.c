@@ -180,9 +180,9 @@ static size_t depth_of_calls(void (*calls)(void)) {
 
 /* ---- What an object takes of the heap ---- */
 
-enum { MOST_SEATS = 64, MOST_ENTRIES = 16 };
+enum { FEW_SEATS = 64, MOST_ENTRIES = 16 };
 
-static fak_c_seat many[MOST_SEATS];
+static fak_c_seat many[LARGE_SEATS];
 
 /* The opened object takes so much beside its seats, which give all of it back. */
 static void takes(int32_t opened, size_t n, size_t bytes) {
@@ -192,18 +192,16 @@ static void takes(int32_t opened, size_t n, size_t bytes) {
     CHECK(live == 0);
 }
 
-static void each_kind_takes_its_heap(void) {
-    static const uint64_t sizes[] = {1, 2, 7, 64, 1000, 4096};
-    for (size_t n = 1; n <= MOST_SEATS; n++) {
-        for (size_t i = 0; i < sizeof sizes / sizeof *sizes; i++) {
-            takes(fak_c_open(many, n, sizes[i], 1000), n, 856 + 24 * sizes[i]);
-            takes(fak_c_sem_open(many, n, 0, sizes[i], 1000), n, 1184 + 24 * sizes[i]);
-            takes(fak_c_room_open(many, n, sizes[i], 1000), n, 344);
-            takes(fak_c_credit_open(many, n, sizes[i], 1000), n, 336);
-        }
-        for (uint64_t entries = 1; entries <= MOST_ENTRIES; entries++)
-            takes(fak_c_files_open(many, n, entries, 1000), n, 336 + 16 * entries);
+static void each_kind_takes_its_heap(size_t n) {
+    static const uint64_t sizes[] = {1, 2, 7, 64, 1000, 4096, 65537};
+    for (size_t i = 0; i < sizeof sizes / sizeof *sizes; i++) {
+        takes(fak_c_open(many, n, sizes[i], 1000), n, 880 + 24 * sizes[i]);
+        takes(fak_c_sem_open(many, n, 0, sizes[i], 1000), n, 1208 + 24 * sizes[i]);
+        takes(fak_c_room_open(many, n, sizes[i], 1000), n, 344);
+        takes(fak_c_credit_open(many, n, sizes[i], 1000), n, 336);
     }
+    for (uint64_t entries = 1; entries <= MOST_ENTRIES; entries++)
+        takes(fak_c_files_open(many, n, entries, 1000), n, 336 + 16 * entries);
 }
 
 int main(void) {
@@ -220,7 +218,9 @@ int main(void) {
         leaving = depth > leaving ? depth : leaving;
         CHECK(live == 0);
     }
-    each_kind_takes_its_heap();
+    for (size_t n = 1; n <= FEW_SEATS; n++)
+        each_kind_takes_its_heap(n);
+    each_kind_takes_its_heap(LARGE_SEATS);
     printf("stack: %zu bytes in a call that opens, %zu in fak_c_leave, %zu in others\n", opening, leaving, other);
     CHECK(opening < 6144 && leaving < 1536 && other < 256);
     return 0;
