@@ -30,7 +30,7 @@ pub fn the_first_lists_are_known()
 {}
 
 /// Who has the processor. The front of the ready list gets it; a process ends at the end of its program; a turn is over after a
-/// yield and after quantum steps, and else makes the next step. Whoever becomes ready goes to the back, or halts.
+/// yield and after quantum steps, and else makes the next step. A process that becomes ready goes to the back, or halts.
 pub fn each_turn_is_known()
     ensures still { (script : ScriptOf) (s : Lists) → s.ready ≡ [] → step script (turn_over s) ≡ turn_over s }
     ensures front { (script : ScriptOf) (s : Lists) (p : Process) (others : List Process) → s.ready ≡ p ∷ others
