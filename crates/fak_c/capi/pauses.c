@@ -75,10 +75,10 @@ static turns turns_of(fak_c_seat *seats, double wanted) {
     return made;
 }
 
-/* How long a pause takes at least: a quarter of what its spins took when they were measured. */
+/* How long a pause takes at least: a tenth of what its spins took when they were measured, maybe on a slower processor. */
 static double least_of(uint64_t size, double spin) {
     uint64_t cells = size < FEWEST_CELLS ? FEWEST_CELLS : size < MOST_CELLS ? size : MOST_CELLS;
-    return (double)(cells * SPINS_FOR_A_CELL) * spin / 4;
+    return (double)(cells * SPINS_FOR_A_CELL) * spin / 10;
 }
 
 /* Each trial has its pauses, and at least one of a few is short: the machine may have stopped the others. Pauses are only counted
