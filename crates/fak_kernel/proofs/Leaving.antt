@@ -1,7 +1,7 @@
 -- A processor that was between its turns has left its loop.
 use Rattle.std.proofs.lemmas.List.Sums.{sum_by-append}
 use Rattle.fak_text.specs.Script.{ScriptOf}
-use Rattle.fak_kernel.proofs.Common.{turn_over, Ledger, named, joined, AreLines, ObjectsOf, ProcessorOf, AreFor, AreOf, IsReached, lists_of, no_seat, ◌≡◌, ℕ, zero, suc, [], ◌++◌, ap, sym, ◌∙◌, subst, arith, map, Bool, true, Option, Some, None, Result, Ok, Err, IfOk, IfErr, IfSome, append-nil, BeginsNone, LeavesNone, files_of, IsFirst, Between, IsLeftBy, HasBegun, HasAnswered, Fault, Gate, IsOfLoop, IsRefused, files_then}
+use Rattle.fak_kernel.proofs.Common.{turn_over, Ledger, named, joined, AreLines, ObjectsOf, ProcessorOf, AreFor, AreOf, IsReached, lists_of, no_seat, ◌≡◌, ℕ, zero, suc, [], ◌++◌, ap, sym, ◌∙◌, subst, arith, map, Bool, true, Option, Some, None, Result, Ok, Err, IfOk, IfErr, IfSome, append-nil, BeginsNone, LeavesNone, files_of, IsFirst, Between, IsLeftBy, HasBegun, HasLeft, files_then}
 use Rattle.fak_processor.proofs.Calls.{turning_more}
 use Rattle.fak_processor.proofs.Looping.{keeps_name}
 
@@ -29,24 +29,12 @@ module _ {script : ScriptOf} {o : ObjectsOf} where
         idle = x.idle;
       }
 
-  -- what the loop of a processor answers, in a thread of its own
-  pub answered : {processors name : ℕ} {refuses : Bool} {says : ℕ → ℕ → Bool → Type 0} {p : ProcessorOf} → AreFor script o → HasBegun script o processors name p → (r : Result (Option ProcessorOf) Fault)
-      → IfOk r (λ left. IfSome left (λ q. AreOf o q))
-      → IfOk r (λ left. IfSome left (λ q. LeavesNone script p q))
-      → (IsReached script p (turn_over (lists_of script p)) → IfOk r (λ left. IfSome left (λ q. IsReached script q (turn_over (lists_of script q)) × ((lists_of script q).ready ≡ []))))
-      → IfOk r (λ left. IfSome left (λ _. says name 0 true))
-      → IfErr r (λ fault. IsOfLoop refuses fault)
-      → IfErr r (λ fault. fault ≡ Gate → IsRefused (says name))
-      → HasAnswered script o processors refuses says name r
-  answered made begun (Err fault) fits general alone passed met refused = record { left = tt; passed = tt; fault = met; refused = refused }
-  answered made begun (Ok None) fits general alone passed met refused = record { left = tt; passed = tt; fault = tt; refused = tt }
-  answered made begun (Ok (Some q)) fits general alone passed met refused = record {
-    left = record {
-      left = left_by made begun.between fits general;
-      alone = λ one. (alone (begun.alone one)).0;
-      still = λ one. (alone (begun.alone one)).1;
-    };
-    passed = passed;
-    fault = tt;
-    refused = tt;
+  -- the loop of a processor was its last
+  pub has_left : {processors name : ℕ} {p q : ProcessorOf} → AreFor script o → HasBegun script o processors name p → AreOf o q → LeavesNone script p q
+      → (IsReached script p (turn_over (lists_of script p)) → IsReached script q (turn_over (lists_of script q)) × ((lists_of script q).ready ≡ []))
+      → HasLeft script o processors name q
+  has_left made begun fits general alone = record {
+    left = left_by made begun.between fits general;
+    alone = λ one. (alone (begun.alone one)).0;
+    still = λ one. (alone (begun.alone one)).1;
   }

@@ -11,4 +11,3 @@ pub mod ReportingAlone
 pub mod Indexing
 pub mod Leaving
 pub mod Answering
-pub mod Alone

@@ -86,15 +86,12 @@ fn leave_alone<K: Run, R: Wait>(
     ensures fault { IfErr result (λ fault. IsOfStep fault) }
 {
     let mut only = only;
-    let Some(processor) = only.pop() else {
-        unreachable!()
-    };
-    match processor.work(rt, alloc, script, objects, &FreeGate, 0) {
-        Err(fault) => return Err(fault),
-        Ok(None) => unreachable!(),
-        Ok(Some(left)) => {
-            only.push(left)?;
-            return Ok(only);
+    match only[0].work(rt, alloc, script, objects, &FreeGate, 0) {
+        Ok(true) => Ok(only),
+        Ok(false) => unreachable!(),
+        Err(fault) => {
+            drop(only);
+            Err(fault)
         }
     }
 }

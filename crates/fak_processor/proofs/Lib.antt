@@ -16,3 +16,4 @@ pub mod Entering
 pub mod Acting
 pub mod Stepping
 pub mod Looping
+pub mod Spent

@@ -39,14 +39,24 @@ fn leave<K: Run, R: Wait, G: Gate>(
     gate: &G,
     processors: u64,
     number: u64,
-    processor: Processor<K>,
+    mut processor: Processor<K>,
 ) -> Answer<K>
     requires script { script.now ≡ K.script }
     requires made { AreFor K.script objects.now }
     requires begun { HasBegun K.script objects.now processors number processor }
     ensures { HasAnswered K.script objects.now processors (G.refuses gate.now) (G.answers gate.now) number result }
 {
-    processor.work(rt, alloc, script, objects, gate, number)
+    match processor.work(rt, alloc, script, objects, gate, number) {
+        Ok(true) => Ok(Some(processor)),
+        Ok(false) => {
+            drop(processor);
+            Ok(None)
+        }
+        Err(fault) => {
+            drop(processor);
+            Err(fault)
+        }
+    }
 }
 
 /// The handle of a thread that has begun goes behind the others.

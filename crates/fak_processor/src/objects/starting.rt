@@ -1,7 +1,7 @@
 //! What processor 0 does before the threads start: all slots become free, and the started processes become ready.
 
 ghost use Rattle.std.specs.Prelude.{◌≡◌, ◌<◌, [], ◌∷◌, ◌++◌, length, IfOk, IfErr};
-ghost use Rattle.fak_processor.specs.Faults.{IsOfStep, IsSpent};
+ghost use Rattle.fak_processor.specs.Faults.{HasSpentSeat, IsOfStep, IsSpent};
 ghost use Rattle.fak_run.specs.ListScheduler as lists;
 ghost use Rattle.fak_run.specs.Whole.{begun_names};
 ghost use Rattle.fak_processor.specs.Processors.{AreOf, GoesTo, IsAlone, IsReached, TakesFreeSlot, lists_of};
@@ -33,6 +33,7 @@ impl<K: Run> Processor<K> {
         ensures alone { GoesTo K.script self.old (empty_lists K.script)
             → IfOk result (λ _. IsReached K.script self.new (lists.turn_over (lists_of K.script self.new))) }
         ensures fault { IfErr result (λ fault. IsOfStep fault) }
+        ensures spent { IfErr result (λ fault. fault ≡ Fault.Worn → HasSpentSeat self.new) }
     {
         self.free_slots(rt, script, objects)?;
         self.start_processes(rt, alloc, script, objects)?;
@@ -54,6 +55,7 @@ impl<K: Run> Processor<K> {
         ensures alone { GoesTo K.script self.old (empty_lists K.script) → IfOk result (λ _. GoesTo K.script self.new
             (record (empty_lists K.script) { free_slots = lists.numbers_from 0 K.script.slots })) }
         ensures worn { IfErr result (λ fault. fault ≡ Fault.Worn) }
+        ensures spent { IfErr result (λ _. IsSpent self.new.free) }
     {
         for number in 0..script.slots() {
             self.free_slot(rt, objects, Slot::new(number))?;
@@ -74,6 +76,7 @@ impl<K: Run> Processor<K> {
         ensures alone { IsAlone K.script self.old → IfOk result (λ _. GoesTo K.script self.new (record
             (lists_of K.script self.old) { free_slots = (lists_of K.script self.old).free_slots ++ slot ∷ [] })) }
         ensures worn { IfErr result (λ fault. fault ≡ Fault.Worn) }
+        ensures spent { IfErr result (λ _. IsSpent self.new.free) }
     {
         put(&objects.free, rt, &mut self.free, slot)?;
         Ok(())
@@ -95,6 +98,7 @@ impl<K: Run> Processor<K> {
             (empty_lists K.script) { free_slots = lists.numbers_from 0 K.script.slots })
             → IfOk result (λ _. GoesTo K.script self.new (lists.first_lists K.script)) }
         ensures fault { IfErr result (λ fault. IsOfStep fault) }
+        ensures spent { IfErr result (λ fault. fault ≡ Fault.Worn → HasSpentSeat self.new) }
     {
         let mut number = 0;
         for program in script.start() {
@@ -120,6 +124,7 @@ impl<K: Run> Processor<K> {
         ensures alone { IsAlone K.script self.old
             → IfOk result (λ _. StartsOne K.script (lists_of K.script self.old) number program self.new) }
         ensures fault { IfErr result (λ fault. IsOfStep fault) }
+        ensures spent { IfErr result (λ fault. fault ≡ Fault.Worn → HasSpentSeat self.new) }
     {
         let mut name = Vec::new(alloc);
         name.push(number)?;

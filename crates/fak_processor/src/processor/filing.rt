@@ -7,6 +7,7 @@ ghost use Rattle.fak_model.specs.File.{set_mark};
 ghost use Rattle.fak_text.specs.Journal.{opened, closed, statted};
 ghost use Rattle.fak_run.specs.Making.{HasJustTaken, HasMade, Left, sets_of};
 ghost use Rattle.fak_run.specs.OnlyFiles.{IsOnlyFiles, KeepsFiles, StoresEntry, ChangesFiles, entries_now};
+ghost use Rattle.fak_processor.specs.Faults.{IsSpentFile};
 
 use crate::processor::files::Files;
 use fak_files::{FileField, FileSeat, FileTable};
@@ -76,6 +77,7 @@ impl Files {
         ensures only { IsOnlyFiles seat.old → IfOk result (λ entry. ChangesFiles table.now.entries entry
             (open_change (entries_now table.now.entries seat.old) inode) seat.new) }
         ensures worn { IfErr result (λ fault. fault ≡ Fault.Worn) }
+        ensures spent { IfErr result (λ _. IsSpentFile seat.new) }
     {
         let Ok(()) = table.write(rt, seat) else {
             return Err(Fault::Worn);
@@ -111,6 +113,7 @@ impl Files {
         ensures only { IsOnlyFiles seat.old → IfOk result (λ entry. ChangesFiles table.now.entries entry
             (close_change (entries_now table.now.entries seat.old) inode) seat.new) }
         ensures worn { IfErr result (λ fault. fault ≡ Fault.Worn) }
+        ensures spent { IfErr result (λ _. IsSpentFile seat.new) }
     {
         let Ok(()) = table.write(rt, seat) else {
             return Err(Fault::Worn);
@@ -145,6 +148,7 @@ impl Files {
         ensures only { IsOnlyFiles seat.old → IfOk result
             (λ uses. KeepsFiles seat.old seat.new × (uses ≡ uses_of (entries_now table.now.entries seat.old) inode)) }
         ensures worn { IfErr result (λ fault. fault ≡ Fault.Worn) }
+        ensures spent { IfErr result (λ _. IsSpentFile seat.new) }
     {
         let Ok(()) = table.read(rt, seat) else {
             return Err(Fault::Worn);

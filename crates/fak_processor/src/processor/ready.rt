@@ -3,7 +3,7 @@
 ghost use Rattle.std.specs.Prelude.{◌≡◌, [], ◌∷◌, Bool, ℕ, None, true, IfOk, IfErr, OnErr, MatchOption};
 ghost use Rattle.fak_model.specs.Queue.{contents};
 ghost use Rattle.fak_run.specs.ListScheduler as lists;
-ghost use Rattle.fak_processor.specs.Faults.{IsOfStep, IsSpent};
+ghost use Rattle.fak_processor.specs.Faults.{HasSpentSeat, IsOfStep, IsSpent};
 ghost use Rattle.fak_processor.specs.Processors.{AreOf, IsAlone, GoesOn, GoesTo, HasNoSlot, TakesFreeSlot, lists_of};
 ghost use Rattle.fak_model.specs.declared.queue.Kind.TheVariants.{Close};
 ghost use Rattle.fak_queue.specs.Queues.{kinds_out};
@@ -70,6 +70,7 @@ impl<K: Run> Processor<K> {
             → IfOk result (λ _. GoesTo K.script self.new (lists.enter_ready (lists_of K.script self.old) context)) }
         ensures busy { OnErr result (self.new.busy ≡ self.old.busy) }
         ensures fault { IfErr result (λ fault. IsOfStep fault) }
+        ensures spent { IfErr result (λ fault. fault ≡ Fault.Worn → HasSpentSeat self.new) }
     {
         // The slot is read for the proof alone: reading it tells that the context fits the script.
         let _slot = context.slot();
@@ -103,6 +104,7 @@ impl<K: Run> Processor<K> {
             → IfOk result (λ _. GoesTo K.script self.new (lists.enter_ready (lists_of K.script self.old) context)) }
         ensures credited { OnErr result (EntersCredited self.old self.new) }
         ensures fault { IfErr result (λ fault. IsOfStep fault) }
+        ensures spent { IfErr result (λ fault. fault ≡ Fault.Worn → HasSpentSeat self.new) }
     {
         self.credit(objects)?;
         self.enter_ready(rt, objects, context)
@@ -127,6 +129,7 @@ impl<K: Run> Processor<K> {
             (lists.end_process (lists_of K.script self.old) context).lists) }
         ensures busy { OnErr result (self.new.busy ≡ self.old.busy) }
         ensures fault { IfErr result (λ fault. IsOfStep fault) }
+        ensures spent { IfErr result (λ fault. fault ≡ Fault.Worn → HasSpentSeat self.new) }
     {
         let slot = Slot::new(context.slot());
         self.ended.push(context)?;

@@ -1,8 +1,10 @@
 //! Downs and ups of a processor.
 
 ghost use Rattle.std.specs.Prelude.{◌≡◌, ◌<◌, [], ◌∷◌, length, IfOk, IfErr, IfSome, MatchOption};
+ghost use Rattle.std.specs.List.{Any};
 ghost use Rattle.fak_text.specs.Script.{down};
 ghost use Rattle.fak_text.specs.Journal.{StandsAt};
+ghost use Rattle.fak_processor.specs.Faults.{IsSpentSem};
 ghost use Rattle.fak_processor.specs.Processors.{AreOf, IsAlone, CountFalls, SleepsLast, WakesFirst, WakesNobody, lists_of};
 ghost use Rattle.fak_model.specs.declared.credit.CreditKind.TheVariants.{Debit, Credit};
 ghost use Rattle.fak_run.specs.Ledger.{nothing};
@@ -38,6 +40,7 @@ impl<K: Run> Processor<K> {
             (SleepsLast K.script (lists_of K.script self.old) at sleeper self.new)
             (λ _. CountFalls K.script (lists_of K.script self.old) at self.new)) }
         ensures worn { IfErr result (λ fault. fault ≡ Fault.Worn) }
+        ensures spent { IfErr result (λ _. Any IsSpentSem self.new.semaphores) }
     {
         let semaphore = &objects.semaphores[at];
         let seat = &mut self.semaphores[at];
@@ -69,6 +72,7 @@ impl<K: Run> Processor<K> {
             → IfOk result (λ woken. MatchOption woken (WakesNobody K.script (lists_of K.script self.old) at self.new)
             (λ q. WakesFirst K.script (lists_of K.script self.old) at q self.new)) }
         ensures worn { IfErr result (λ fault. fault ≡ Fault.Worn) }
+        ensures spent { IfErr result (λ _. Any IsSpentSem self.new.semaphores) }
     {
         let semaphore = &objects.semaphores[at];
         let seat = &mut self.semaphores[at];

@@ -5,7 +5,7 @@ ghost use Rattle.fak_text.specs.Script.{down, up, open_file, close_file, stat, s
 ghost use Rattle.fak_text.specs.Journal.{StandsAt};
 ghost use Rattle.fak_run.specs.ListScheduler as lists;
 ghost use Rattle.fak_run.specs.Contexts.{HasStepsLeft};
-ghost use Rattle.fak_processor.specs.Faults.{IsOfStep};
+ghost use Rattle.fak_processor.specs.Faults.{HasSpentSeat, IsOfStep};
 ghost use Rattle.fak_processor.specs.Processors.{AreOf, IsAlone, GoesOn, lists_of};
 ghost use Rattle.fak_processor.specs.Moving.{EntersCredited, Moves, hand_of};
 
@@ -37,6 +37,7 @@ impl<K: Run> Processor<K> {
             (lists.make_down (lists_of K.script self.old) turn n)) }
         ensures busy { OnErr result (self.new.busy ≡ self.old.busy) }
         ensures fault { IfErr result (λ fault. IsOfStep fault) }
+        ensures spent { IfErr result (λ fault. fault ≡ Fault.Worn → HasSpentSeat self.new) }
     {
         let made = turn.made();
         let sleeper = Sleeper::new(turn.into_context(), n)?;
@@ -69,6 +70,7 @@ impl<K: Run> Processor<K> {
             (lists.make_up (lists_of K.script self.old) turn.old n)) }
         ensures credited { OnErr result (EntersCredited self.old self.new) }
         ensures fault { IfErr result (λ fault. IsOfStep fault) }
+        ensures spent { IfErr result (λ fault. fault ≡ Fault.Worn → HasSpentSeat self.new) }
     {
         turn.note(Note::Up(n), false)?;
         self.reserve_halted()?;
@@ -99,6 +101,7 @@ impl<K: Run> Processor<K> {
             (lists.make_spawn K.script (lists_of K.script self.old) turn.old program)) }
         ensures credited { OnErr result (EntersCredited self.old self.new) }
         ensures fault { IfErr result (λ fault. IsOfStep fault) }
+        ensures spent { IfErr result (λ fault. fault ≡ Fault.Worn → HasSpentSeat self.new) }
     {
         let name = turn.child_name(alloc)?;
         turn.reserve_note()?;
@@ -135,6 +138,7 @@ impl<K: Run> Processor<K> {
         ensures alone { IsAlone K.script self.old → IfOk result (λ _. GoesOn K.script self.new (Some turn.new)
             (lists.make_open (lists_of K.script self.old) turn.old inode)) }
         ensures fault { IfErr result (λ fault. IsOfStep fault) }
+        ensures spent { IfErr result (λ fault. fault ≡ Fault.Worn → HasSpentSeat self.new) }
     {
         turn.reserve_note()?;
         let entry = self
@@ -161,6 +165,7 @@ impl<K: Run> Processor<K> {
         ensures alone { IsAlone K.script self.old → IfOk result (λ _. GoesOn K.script self.new (Some turn.new)
             (lists.make_close (lists_of K.script self.old) turn.old inode)) }
         ensures fault { IfErr result (λ fault. IsOfStep fault) }
+        ensures spent { IfErr result (λ fault. fault ≡ Fault.Worn → HasSpentSeat self.new) }
     {
         turn.reserve_note()?;
         let entry = self
@@ -187,6 +192,7 @@ impl<K: Run> Processor<K> {
         ensures alone { IsAlone K.script self.old → IfOk result (λ _. GoesOn K.script self.new (Some turn.new)
             (lists.make K.script (lists_of K.script self.old) turn.old (stat inode))) }
         ensures fault { IfErr result (λ fault. IsOfStep fault) }
+        ensures spent { IfErr result (λ fault. fault ≡ Fault.Worn → HasSpentSeat self.new) }
     {
         turn.reserve_note()?;
         let uses = self

@@ -1,11 +1,11 @@
 //! The loop of a processor.
 
-ghost use Rattle.std.specs.Prelude.{◌≡◌, ◌≢◌, ℕ, [], ◌∷◌, ◌<◌, pos, length, true, false, Some, None, IfOk, IfErr, IfSome, IfNone};
+ghost use Rattle.std.specs.Prelude.{◌≡◌, ◌≢◌, ℕ, [], ◌∷◌, ◌<◌, pos, length, true, false, Some, None, IfOk, IfErr};
 ghost use Rattle.fak_text.specs.Script.{IsStepInRange, limits_of};
 ghost use Rattle.fak_text.specs.Journal.{StandsAt};
 ghost use Rattle.fak_text.specs.Views.{step_of};
 ghost use Rattle.fak_run.specs.ListScheduler as lists;
-ghost use Rattle.fak_processor.specs.Faults.{IsOfLoop, IsOfStep};
+ghost use Rattle.fak_processor.specs.Faults.{HasSpentSeat, IsOfLoop, IsOfStep};
 ghost use Rattle.fak_run.specs.Gates.{IsRefused};
 ghost use Rattle.fak_run.specs.Contexts.{HasStepsLeft};
 ghost use Rattle.fak_processor.specs.Processors.{AreOf, IsAlone, GoesOn, GoesTo, IsReached, lists_of};
@@ -42,6 +42,7 @@ impl<K: Run> Processor<K> {
         ensures alone { IsAlone K.script self.old → IfOk result (λ running. GoesOn K.script self.new running
             (lists.make K.script (lists_of K.script self.old) turn (step_of step.now))) }
         ensures fault { IfErr result (λ fault. IsOfStep fault) }
+        ensures spent { IfErr result (λ fault. fault ≡ Fault.Worn → HasSpentSeat self.new) }
     {
         match step {
             Step::Down(n) => return self.down(rt, objects, turn, *n),
@@ -72,6 +73,7 @@ impl<K: Run> Processor<K> {
         ensures alone { IsAlone K.script self.old → IfOk result (λ _. GoesOn K.script self.new (Some turn.new)
             (lists.make K.script (lists_of K.script self.old) turn.old (step_of step.now))) }
         ensures fault { IfErr result (λ fault. IsOfStep fault) }
+        ensures spent { IfErr result (λ fault. fault ≡ Fault.Worn → HasSpentSeat self.new) }
     {
         match step {
             Step::Down(_) => unreachable!(),
@@ -112,6 +114,7 @@ impl<K: Run> Processor<K> {
         ensures alone { IsAlone K.script self.old → IfOk result (λ running. GoesOn K.script self.new running
             (lists.turn_by K.script (lists_of K.script self.old) turn (lists.next_step K.script turn.process))) }
         ensures fault { IfErr result (λ fault. IsOfStep fault) }
+        ensures spent { IfErr result (λ fault. fault ≡ Fault.Worn → HasSpentSeat self.new) }
     {
         match turn.context.next(script) {
             None => {
@@ -144,6 +147,7 @@ impl<K: Run> Processor<K> {
         ensures alone { IsAlone K.script self.old → IfOk result (λ next. GoesOn K.script self.new next
             (lists.step K.script (record { running = running; lists = lists_of K.script self.old }))) }
         ensures fault { IfErr result (λ fault. IsOfStep fault) }
+        ensures spent { IfErr result (λ fault. fault ≡ Fault.Worn → HasSpentSeat self.new) }
     {
         match running {
             None => return self.take_front(rt, objects),
@@ -190,6 +194,7 @@ impl<K: Run> Processor<K> {
         ensures passed { IfOk result (λ done. done ≡ true → G.answers gate.now number 0 true) }
         ensures fault { IfErr result (λ fault. IsOfLoop (G.refuses gate.now) fault) }
         ensures refused { IfErr result (λ fault. fault ≡ Fault.Gate → IsRefused (G.answers gate.now number)) }
+        ensures spent { IfErr result (λ fault. fault ≡ Fault.Worn → HasSpentSeat self.new) }
     {
         let mut running = None;
         let mut looks = Looks::new(number);
@@ -214,43 +219,40 @@ impl<K: Run> Processor<K> {
         unreachable!()
     }
 
-    /// What the processor of this number does in a run: turns of ready processes, until no process is ready or runs. None
+    /// What the processor of this number does in a run: turns of ready processes, until no process is ready or runs. False
     /// where another processor has met a fault.
     ///
     /// # Errors
     ///
-    /// `Memory`, `Worn`, and `Gate` where the gate may refuse and did: at one of this processor's looks, which are
-    /// counted from 0, after it passed those before. The other processors are told of it.
+    /// `Memory`, `Worn` only if a seat of the processor has used up its stint, and `Gate` where the gate may refuse and
+    /// did: at one of this processor's looks, which are counted from 0, after it passed those before. The other
+    /// processors are told of it.
     pub fn work<R: Wait, G: Gate>(
-        mut self,
+        &mut self,
         rt: &R,
         alloc: Global,
         script: &Script,
         objects: &Objects<K>,
         gate: &G,
         number: u64,
-    ) -> Result<Option<Processor<K>>, Fault>
+    ) -> Result<bool, Fault>
         requires script { script.now ≡ K.script }
-        requires objects { AreOf objects.now self }
-        ensures objects { IfOk result (λ left. IfSome left (λ p. AreOf objects.now p)) }
-        ensures general { IfOk result (λ left. IfSome left (λ p. LeavesNone K.script self p)) }
-        ensures stopped { IfOk result (λ left. IfNone left (1 < objects.now.ready.object.seats)) }
-        ensures alone { IsReached K.script self (lists.turn_over (lists_of K.script self))
-            → IfOk result (λ left. IfSome left (λ p. IsReached K.script p (lists.turn_over (lists_of K.script p))
-            × ((lists_of K.script p).ready ≡ []))) }
-        ensures passed { IfOk result (λ left. IfSome left (λ _. G.answers gate.now number 0 true)) }
+        requires objects { AreOf objects.now self.old }
+        ensures objects { AreOf objects.now self.new }
+        ensures general { IfOk result (λ done. done ≡ true → LeavesNone K.script self.old self.new) }
+        ensures stopped { IfOk result (λ done. done ≡ false → 1 < objects.now.ready.object.seats) }
+        ensures alone { IsReached K.script self.old (lists.turn_over (lists_of K.script self.old))
+            → IfOk result (λ done. done ≡ true → IsReached K.script self.new
+            (lists.turn_over (lists_of K.script self.new)) × ((lists_of K.script self.new).ready ≡ [])) }
+        ensures passed { IfOk result (λ done. done ≡ true → G.answers gate.now number 0 true) }
         ensures fault { IfErr result (λ fault. IsOfLoop (G.refuses gate.now) fault) }
         ensures refused { IfErr result (λ fault. fault ≡ Fault.Gate → IsRefused (G.answers gate.now number)) }
+        ensures spent { IfErr result (λ fault. fault ≡ Fault.Worn → HasSpentSeat self.new) }
     {
         match self.turns(rt, alloc, script, objects, gate, number) {
-            Ok(true) => Ok(Some(self)),
-            Ok(false) => {
-                drop(self);
-                Ok(None)
-            }
+            Ok(done) => Ok(done),
             Err(fault) => {
                 objects.alarm.ring();
-                drop(self);
                 Err(fault)
             }
         }

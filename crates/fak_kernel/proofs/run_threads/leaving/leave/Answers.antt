@@ -1,5 +1,12 @@
-use Rattle.fak_kernel.proofs.Leaving.{answered}
+use Rattle.fak_kernel.proofs.Leaving.{has_left}
 use Rattle.fak_kernel.proofs.run_threads.leaving.leave.Goals as goal
 
-pub returns : goal.returns
-returns g c = answered c.requires.made c.requires.begun c.work.result c.work.ensures.objects c.work.ensures.general c.work.ensures.alone c.work.ensures.passed c.work.ensures.fault c.work.ensures.refused
+pub returns-in-Ok-true : goal.returns-in-Ok-true
+returns-in-Ok-true g c =
+    let done = c.in-Ok-true.field-0-test in
+    record {
+      left = has_left c.requires.made c.requires.begun c.work.ensures.objects (c.in-Ok-true.ensures.general done) (λ begun. c.in-Ok-true.ensures.alone begun done);
+      passed = c.in-Ok-true.ensures.passed done;
+      fault = tt;
+      refused = tt;
+    }

@@ -1,5 +1,6 @@
 use Rattle.fak_processor.proofs.Gaining.{same_there}
 use Rattle.fak_processor.proofs.Sleeping.{are_after, downs, downs_alone}
+use Rattle.fak_processor.proofs.Spent.{spent_there}
 use Rattle.fak_processor.proofs.processor.Processor.pass_or_park.Goals as goal
 
 pub down-requires : goal.down-requires
@@ -21,3 +22,8 @@ pub returns-clause-alone : goal.returns-clause-alone
 returns-clause-alone g c =
     let fits = rw (← c.self.view_is, ← c.objects.view_is) at c.requires.objects in
     rw (← c.self.view_is) (λ alone. downs_alone _ c.objects.invariant.1 fits c.args.at c.requires.at c.down.new.seat c.index_mut-seat.ensures.value c.index-semaphore.ensures c.in-Ok.ensures.object c.requires.before alone c.in-Ok.passed c.in-Ok.ensures.call)
+
+pub returns-in_default-clause-spent : goal.returns-in_default-clause-spent
+returns-in_default-clause-spent g c =
+    let fits = rw (← c.self.view_is, ← c.objects.view_is) at c.requires.objects in
+    spent_there _ c.objects.invariant.1 fits c.args.at c.requires.at c.down.new.seat c.in_default.ensures.call.1

@@ -1,5 +1,6 @@
 use Rattle.fak_processor.proofs.Gaining.{same_there}
 use Rattle.fak_processor.proofs.Sleeping.{are_after, raises, raises_alone, wakes, wakes_alone}
+use Rattle.fak_processor.proofs.Spent.{spent_there}
 use Rattle.fak_processor.proofs.processor.Processor.wake.Goals as goal
 
 pub up-requires : goal.up-requires
@@ -40,3 +41,8 @@ returns-in-Ok-Some-clause-alone g c =
     let fits = rw (← c.self.view_is, ← c.objects.view_is) at c.requires.objects in
     let up = rw c.in-Ok-Some.field-0-is at c.in-Ok-Some.ensures.call in
     rw (← c.self.view_is) (λ alone. wakes_alone _ c.objects.invariant.1 fits c.args.at c.requires.at c.up.new.seat c.index_mut-seat.ensures.value c.index-semaphore.ensures c.in-Ok-Some.ensures.object alone up c.rouse.ensures.done)
+
+pub returns-in-Err-clause-spent : goal.returns-in-Err-clause-spent
+returns-in-Err-clause-spent g c =
+    let fits = rw (← c.self.view_is, ← c.objects.view_is) at c.requires.objects in
+    spent_there _ c.objects.invariant.1 fits c.args.at c.requires.at c.up.new.seat c.in-Err.ensures.call

@@ -1,5 +1,6 @@
 use Rattle.fak_text.specs.Journal.{closed}
 use Rattle.fak_processor.proofs.Common.{close_change, sets_of, ◌∙◌, refl, inr, rules, Write, taken_of, made_by_sets, stores_change, waited_for, ended, changes_files, close_one, keeps_files_then, stored_only}
+use Rattle.fak_processor.proofs.Spent.{worn_file}
 use Rattle.fak_processor.proofs.processor.files.Files.close_shared.Goals as goal
 
 pub returns-clause-only : goal.returns-clause-only
@@ -15,3 +16,6 @@ returns-clause-made g c =
     let taken = taken_of n Write c.args.seat.now c.write.new.seat c.in-Ok.ensures.call in
     made_by_sets n Write (closed c.args.inode c.close-entry.result) (sets_of c.close-entry.new.self c.close-entry.result) _ _ _ _ _ taken c.refresh.ensures.left c.store.ensures.left c.end.ensures.call.leaves
     (stores_change (λ xs. close_change xs c.args.inode) _ c.refresh.new.self c.close-entry.new.self c.close-entry.result (c.refresh.ensures.read taken.just) c.close-entry.ensures.change (close_one c.refresh.new.self c.args.inode) (search rules)) (inr refl)
+
+pub returns-in_default-clause-spent : goal.returns-in_default-clause-spent
+returns-in_default-clause-spent g c = worn_file c.in_default.ensures.call

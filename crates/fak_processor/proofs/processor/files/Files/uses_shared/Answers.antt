@@ -1,5 +1,6 @@
 use Rattle.fak_processor.proofs.Common.{◌∙◌, [], ap, inl, refl, sym, Read, uses_of, taken_of, made_by_sets, left_none, waited_for, ended, keeps_files_then}
 use Rattle.fak_text.specs.Journal.{statted}
+use Rattle.fak_processor.proofs.Spent.{worn_file}
 use Rattle.fak_processor.proofs.processor.files.Files.uses_shared.Goals as goal
 
 pub returns-clause-only : goal.returns-clause-only
@@ -15,3 +16,6 @@ returns-clause-made g c =
     let taken = taken_of n Read c.args.seat.now c.read.new.seat c.in-Ok.ensures.call in
     made_by_sets n Read (statted c.args.inode c.uses-uses.result) [] _ _ _ _ _ taken c.refresh.ensures.left (left_none c.refresh.new.seat.seat) c.end.ensures.call.leaves
     (ap (λ xs. uses_of xs c.args.inode) (sym (c.refresh.ensures.read taken.just)) ∙ sym c.uses-uses.ensures, refl) (inl refl)
+
+pub returns-in_default-clause-spent : goal.returns-in_default-clause-spent
+returns-in_default-clause-spent g c = worn_file c.in_default.ensures.call
