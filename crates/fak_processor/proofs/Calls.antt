@@ -1,5 +1,5 @@
 -- How the calls on the shared objects make a seat's own marks grow.
-use Rattle.fak_processor.proofs.Common.{◌≡◌, ℕ, List, [], ◌∷◌, ◌++◌, length, refl, ap, sym, subst, arith, inl, inr, map, ℤ, Some, None, sum_by, flat_map, append-nil, sum_by-append, Rules, SeatInfo, queue_rules, room_rules, credit_rules, put_of, got_of, Kind, Mark, RoomKind, Over, Back, RoomMark, CreditKind, Debit, Credit, CreditMark, SemInfo, SemSeatInfo, credit_part, queue_part, Downs, Ups, ScriptOf, Process, Ledger, Balanced, joined, Turning, Grows, Adds, balanced-joined, Owns, queue_kind, Bundle, common_steps}
+use Rattle.fak_processor.proofs.Common.{◌≡◌, ℕ, List, [], ◌∷◌, ◌++◌, length, refl, ap, sym, subst, arith, map, ℤ, Some, None, sum_by, flat_map, append-nil, sum_by-append, Rules, SeatInfo, queue_rules, room_rules, credit_rules, put_of, got_of, Kind, Mark, RoomKind, Over, Back, RoomMark, CreditKind, Debit, Credit, CreditMark, SemInfo, SemSeatInfo, credit_part, queue_part, Downs, Ups, ScriptOf, Process, Ledger, Balanced, joined, Turning, Grows, Adds, balanced-joined, Owns, queue_kind, Bundle, common_steps}
 use Rattle.fak_model.specs.Room as room
 use Rattle.fak_model.specs.Credit as credit
 use Rattle.fak_count.specs.Rooms as rooms

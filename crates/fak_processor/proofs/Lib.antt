@@ -17,3 +17,4 @@ pub mod Acting
 pub mod Stepping
 pub mod Looping
 pub mod Spent
+pub mod Asking

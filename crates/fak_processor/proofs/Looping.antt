@@ -1,7 +1,7 @@
 -- The loop of a processor, among any number of them.
 use Rattle.std.proofs.lemmas.List.Elements.{All-nil, All-cons, All-head, All-tail, All-map}
 use Rattle.fak_model.specs.Credit.{value}
-use Rattle.fak_processor.proofs.Common.{Turn, nothing, ProcessorOf, HasName, ◌≡◌, ◌∙◌, ℕ, Bool, List, [], ◌∷◌, All, length, map, refl, ap, sym, subst, Option, None, pos, ScriptOf, Process, names_of, Gains, Moves, LeavesNone, hand_of, SemSeatInfo, HasPassed}
+use Rattle.fak_processor.proofs.Common.{Turn, nothing, ProcessorOf, HasName, ◌≡◌, ◌∙◌, ℕ, List, [], ◌∷◌, All, length, map, refl, ap, sym, subst, Option, None, pos, ScriptOf, Process, names_of, Gains, Moves, LeavesNone, hand_of, SemSeatInfo}
 use Rattle.fak_processor.proofs.Events.{quiet, balanced-beside}
 use Rattle.fak_processor.proofs.Acting.{moves_then}
 
@@ -23,12 +23,6 @@ keeps_name {n} {p} {q} same h =
       semaphores = all_of_map (λ m. m ≡ n) name_of q.semaphores (subst (All (λ m. m ≡ n)) (sym (ap (λ x. x.semaphores) same)) (All-map (λ m. m ≡ n) name_of p.semaphores h.semaphores));
       files = ap (λ x. x.files) same ∙ h.files;
     }
-
--- ---- the gate
-
--- one more look was passed, by a processor of this number
-pub passed_next : (answers : ℕ → ℕ → Bool → Type 0) {name number made next : ℕ} → name ≡ number → HasPassed (answers number) made → (HasPassed (answers name) made → HasPassed (answers name) next) → HasPassed (answers number) next
-passed_next answers {made = made} {next = next} same was more = subst (λ (n : ℕ). HasPassed (answers n) next) same (more (subst (λ (n : ℕ). HasPassed (answers n) made) (sym same) was))
 
 -- ---- the loop
 

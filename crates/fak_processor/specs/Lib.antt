@@ -8,3 +8,4 @@ pub mod Turning
 pub mod Moving
 pub mod Joined
 pub mod Begun
+pub mod Asking

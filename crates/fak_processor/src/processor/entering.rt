@@ -1,6 +1,6 @@
 //! Insertions and deletions of a processor.
 
-ghost use Rattle.std.specs.Prelude.{◌≡◌, [], ◌∷◌, MatchOption, IfOk, IfErr, IfSome};
+ghost use Rattle.std.specs.Prelude.{◌≡◌, ◌+◌, [], ◌∷◌, MatchOption, IfOk, IfErr, IfSome};
 ghost use Rattle.fak_queue.specs.declared.state.SeatState.TheVariants.{Idle};
 ghost use Rattle.fak_queue.specs.Queues.{state_of};
 ghost use Rattle.fak_processor.specs.OnlyQueues.{IsOnlySeat, Enters, Bounces, TakesFirst, FindsNone, Shuts};
@@ -8,6 +8,7 @@ ghost use Rattle.fak_model.specs.declared.queue.Kind.TheVariants.{Close};
 ghost use Rattle.fak_model.specs.Queue.{queue_rules};
 ghost use Rattle.fak_processor.specs.Holding.{queue_kind};
 ghost use Rattle.fak_processor.specs.Turning.{Grows};
+ghost use Rattle.fak_processor.specs.Asking.{looks_of};
 ghost use Rattle.fak_processor.specs.Faults.{IsSpent};
 ghost use Rattle.fak_processor.specs.Moving.{GrowsAtLast, GrowsEmpty, GrowsIn, GrowsOut, GrowsShut};
 
@@ -36,6 +37,7 @@ pub fn enter<T: Drop, R: Wait>(
         (λ _. GrowsShut queue.now.size seat.old seat.new)) }
     ensures only { IsOnlySeat seat.old → IfOk result
         (λ back. MatchOption back (Enters item seat.old seat.new) (λ x. (x ≡ item) × Bounces seat.old seat.new)) }
+    ensures looks { IfOk result (λ _. looks_of seat.new ≡ looks_of seat.old) }
     ensures worn { IfErr result (λ fault. fault ≡ Fault.Worn) }
     ensures spent { IfErr result (λ _. IsSpent seat.new) }
 {
@@ -99,6 +101,7 @@ pub fn take<T: Drop, R: Wait>(
         (GrowsEmpty queue.now.size seat.old seat.new) (λ x. GrowsOut queue.now.size x seat.old seat.new)) }
     ensures only { IsOnlySeat seat.old → IfOk result
         (λ found. MatchOption found (FindsNone seat.old seat.new) (λ x. TakesFirst x seat.old seat.new)) }
+    ensures looks { IfOk result (λ _. looks_of seat.new ≡ looks_of seat.old + 1) }
     ensures worn { IfErr result (λ fault. fault ≡ Fault.Worn) }
     ensures spent { IfErr result (λ _. IsSpent seat.new) }
 {
@@ -116,6 +119,7 @@ pub fn shut<T: Drop>(queue: &Queue<T>, seat: &mut Seat<T>)
     ensures object { seat.new.object ≡ seat.old.object }
     ensures idle { state_of seat.new ≡ Idle }
     ensures grows { Grows (queue_rules queue.now.size) queue_kind seat.old seat.new (Close ∷ []) }
+    ensures looks { looks_of seat.new ≡ looks_of seat.old }
     ensures only { IsOnlySeat seat.old → Shuts seat.old seat.new }
 {
     queue.shut(seat);

@@ -1,8 +1,9 @@
 //! Who enters and leaves the ready queue and the free queue.
 
-ghost use Rattle.std.specs.Prelude.{◌≡◌, [], ◌∷◌, Bool, ℕ, None, true, IfOk, IfErr, OnErr, MatchOption};
+ghost use Rattle.std.specs.Prelude.{◌≡◌, ◌+◌, [], ◌∷◌, Bool, ℕ, None, true, IfOk, IfErr, OnErr, MatchOption};
 ghost use Rattle.fak_model.specs.Queue.{contents};
 ghost use Rattle.fak_run.specs.ListScheduler as lists;
+ghost use Rattle.fak_processor.specs.Asking.{looks_of};
 ghost use Rattle.fak_processor.specs.Faults.{HasSpentSeat, IsOfStep, IsSpent};
 ghost use Rattle.fak_processor.specs.Processors.{AreOf, IsAlone, GoesOn, GoesTo, HasNoSlot, TakesFreeSlot, lists_of};
 ghost use Rattle.fak_model.specs.declared.queue.Kind.TheVariants.{Close};
@@ -35,6 +36,7 @@ impl<K: Run> Processor<K> {
         ensures general { IfOk result (λ running. Moves K.script [] (hand_of running) self.old self.new) }
         ensures alone { IsAlone K.script self.old → IfOk result (λ running. GoesOn K.script self.new running
             (lists.take_front (lists_of K.script self.old) (contents self.old.ready.seen))) }
+        ensures looks { IfOk result (λ _. looks_of self.new.ready ≡ looks_of self.old.ready + 1) }
         ensures worn { IfErr result (λ fault. fault ≡ Fault.Worn) }
         ensures spent { IfErr result (λ _. IsSpent self.new.ready) }
     {
@@ -68,6 +70,7 @@ impl<K: Run> Processor<K> {
         ensures general { IfOk result (λ _. Moves K.script (context ∷ []) [] self.old self.new) }
         ensures alone { IsAlone K.script self.old
             → IfOk result (λ _. GoesTo K.script self.new (lists.enter_ready (lists_of K.script self.old) context)) }
+        ensures looks { IfOk result (λ _. looks_of self.new.ready ≡ looks_of self.old.ready) }
         ensures busy { OnErr result (self.new.busy ≡ self.old.busy) }
         ensures fault { IfErr result (λ fault. IsOfStep fault) }
         ensures spent { IfErr result (λ fault. fault ≡ Fault.Worn → HasSpentSeat self.new) }
@@ -102,6 +105,7 @@ impl<K: Run> Processor<K> {
         ensures general { IfOk result (λ _. BecomesReady K.script context self.old self.new) }
         ensures alone { IsAlone K.script self.old
             → IfOk result (λ _. GoesTo K.script self.new (lists.enter_ready (lists_of K.script self.old) context)) }
+        ensures looks { IfOk result (λ _. looks_of self.new.ready ≡ looks_of self.old.ready) }
         ensures credited { OnErr result (EntersCredited self.old self.new) }
         ensures fault { IfErr result (λ fault. IsOfStep fault) }
         ensures spent { IfErr result (λ fault. fault ≡ Fault.Worn → HasSpentSeat self.new) }
@@ -127,6 +131,7 @@ impl<K: Run> Processor<K> {
         ensures general { IfOk result (λ _. Moves K.script (context ∷ []) [] self.old self.new) }
         ensures alone { IsAlone K.script self.old → IfOk result (λ _. GoesTo K.script self.new
             (lists.end_process (lists_of K.script self.old) context).lists) }
+        ensures looks { IfOk result (λ _. looks_of self.new.ready ≡ looks_of self.old.ready) }
         ensures busy { OnErr result (self.new.busy ≡ self.old.busy) }
         ensures fault { IfErr result (λ fault. IsOfStep fault) }
         ensures spent { IfErr result (λ fault. fault ≡ Fault.Worn → HasSpentSeat self.new) }
@@ -168,6 +173,7 @@ impl<K: Run> Processor<K> {
         requires objects { AreOf objects.now self.old }
         ensures objects { AreOf objects.now self.new }
         ensures gains { Gains K.script self.old self.new (record nothing { ready = Close ∷ [] }) }
+        ensures looks { looks_of self.new.ready ≡ looks_of self.old.ready }
         ensures alone { IsAlone K.script self.old → GoesTo K.script self.new
             (record (lists_of K.script self.old) { is_shut = true }) }
     {

@@ -5,6 +5,7 @@ ghost use Rattle.fak_text.specs.Script.{down, up, open_file, close_file, stat, s
 ghost use Rattle.fak_text.specs.Journal.{StandsAt};
 ghost use Rattle.fak_run.specs.ListScheduler as lists;
 ghost use Rattle.fak_run.specs.Contexts.{HasStepsLeft};
+ghost use Rattle.fak_processor.specs.Asking.{looks_of};
 ghost use Rattle.fak_processor.specs.Faults.{HasSpentSeat, IsOfStep};
 ghost use Rattle.fak_processor.specs.Processors.{AreOf, IsAlone, GoesOn, lists_of};
 ghost use Rattle.fak_processor.specs.Moving.{EntersCredited, Moves, hand_of};
@@ -35,6 +36,7 @@ impl<K: Run> Processor<K> {
             (hand_of running) self.old self.new) }
         ensures alone { IsAlone K.script self.old → IfOk result (λ running. GoesOn K.script self.new running
             (lists.make_down (lists_of K.script self.old) turn n)) }
+        ensures looks { IfOk result (λ _. looks_of self.new.ready ≡ looks_of self.old.ready) }
         ensures busy { OnErr result (self.new.busy ≡ self.old.busy) }
         ensures fault { IfErr result (λ fault. IsOfStep fault) }
         ensures spent { IfErr result (λ fault. fault ≡ Fault.Worn → HasSpentSeat self.new) }
@@ -68,6 +70,7 @@ impl<K: Run> Processor<K> {
             (turn.new.process ∷ []) self.old self.new) }
         ensures alone { IsAlone K.script self.old → IfOk result (λ _. GoesOn K.script self.new (Some turn.new)
             (lists.make_up (lists_of K.script self.old) turn.old n)) }
+        ensures looks { IfOk result (λ _. looks_of self.new.ready ≡ looks_of self.old.ready) }
         ensures credited { OnErr result (EntersCredited self.old self.new) }
         ensures fault { IfErr result (λ fault. IsOfStep fault) }
         ensures spent { IfErr result (λ fault. fault ≡ Fault.Worn → HasSpentSeat self.new) }
@@ -99,6 +102,7 @@ impl<K: Run> Processor<K> {
             (turn.new.process ∷ []) self.old self.new) }
         ensures alone { IsAlone K.script self.old → IfOk result (λ _. GoesOn K.script self.new (Some turn.new)
             (lists.make_spawn K.script (lists_of K.script self.old) turn.old program)) }
+        ensures looks { IfOk result (λ _. looks_of self.new.ready ≡ looks_of self.old.ready) }
         ensures credited { OnErr result (EntersCredited self.old self.new) }
         ensures fault { IfErr result (λ fault. IsOfStep fault) }
         ensures spent { IfErr result (λ fault. fault ≡ Fault.Worn → HasSpentSeat self.new) }
@@ -137,6 +141,7 @@ impl<K: Run> Processor<K> {
             (turn.new.process ∷ []) self.old self.new) }
         ensures alone { IsAlone K.script self.old → IfOk result (λ _. GoesOn K.script self.new (Some turn.new)
             (lists.make_open (lists_of K.script self.old) turn.old inode)) }
+        ensures looks { IfOk result (λ _. looks_of self.new.ready ≡ looks_of self.old.ready) }
         ensures fault { IfErr result (λ fault. IsOfStep fault) }
         ensures spent { IfErr result (λ fault. fault ≡ Fault.Worn → HasSpentSeat self.new) }
     {
@@ -164,6 +169,7 @@ impl<K: Run> Processor<K> {
             (turn.new.process ∷ []) self.old self.new) }
         ensures alone { IsAlone K.script self.old → IfOk result (λ _. GoesOn K.script self.new (Some turn.new)
             (lists.make_close (lists_of K.script self.old) turn.old inode)) }
+        ensures looks { IfOk result (λ _. looks_of self.new.ready ≡ looks_of self.old.ready) }
         ensures fault { IfErr result (λ fault. IsOfStep fault) }
         ensures spent { IfErr result (λ fault. fault ≡ Fault.Worn → HasSpentSeat self.new) }
     {
@@ -191,6 +197,7 @@ impl<K: Run> Processor<K> {
             (turn.new.process ∷ []) self.old self.new) }
         ensures alone { IsAlone K.script self.old → IfOk result (λ _. GoesOn K.script self.new (Some turn.new)
             (lists.make K.script (lists_of K.script self.old) turn.old (stat inode))) }
+        ensures looks { IfOk result (λ _. looks_of self.new.ready ≡ looks_of self.old.ready) }
         ensures fault { IfErr result (λ fault. IsOfStep fault) }
         ensures spent { IfErr result (λ fault. fault ≡ Fault.Worn → HasSpentSeat self.new) }
     {
@@ -216,6 +223,7 @@ impl<K: Run> Processor<K> {
             (turn.new.process ∷ []) self.old self.new) }
         ensures alone { IsAlone K.script self.old → IfOk result (λ _. GoesOn K.script self.new (Some turn.new)
             (lists.make K.script (lists_of K.script self.old) turn.old shutdown)) }
+        ensures looks { IfOk result (λ _. looks_of self.new.ready ≡ looks_of self.old.ready) }
     {
         turn.note(Note::Shutdown, false)?;
         self.shut_ready(objects);

@@ -1,15 +1,17 @@
 //! The loop of a processor.
 
-ghost use Rattle.std.specs.Prelude.{◌≡◌, ◌≢◌, ℕ, [], ◌∷◌, ◌<◌, pos, length, true, false, Some, None, IfOk, IfErr};
+ghost use Rattle.std.specs.Prelude.{◌≡◌, ◌≢◌, ℕ, [], ◌∷◌, ◌<◌, ◌≤◌, pos, length, true, false, Some, None, IfOk, IfErr};
 ghost use Rattle.fak_text.specs.Script.{IsStepInRange, limits_of};
 ghost use Rattle.fak_text.specs.Journal.{StandsAt};
 ghost use Rattle.fak_text.specs.Views.{step_of};
 ghost use Rattle.fak_run.specs.ListScheduler as lists;
+ghost use Rattle.fak_processor.specs.Asking.{AreAsked, HasAsked, looks_of};
 ghost use Rattle.fak_processor.specs.Faults.{HasSpentSeat, IsOfLoop, IsOfStep};
 ghost use Rattle.fak_run.specs.Gates.{IsRefused};
 ghost use Rattle.fak_run.specs.Contexts.{HasStepsLeft};
 ghost use Rattle.fak_processor.specs.Processors.{AreOf, IsAlone, GoesOn, GoesTo, IsReached, lists_of};
 ghost use Rattle.fak_model.specs.Credit.{value};
+ghost use Rattle.fak_model.specs.Queue.{contents};
 ghost use Rattle.fak_run.specs.Ledger.{nothing};
 ghost use Rattle.fak_processor.specs.Moving.{Gains, LeavesNone, Moves, hand_of};
 
@@ -41,6 +43,7 @@ impl<K: Run> Processor<K> {
             (hand_of running) self.old self.new) }
         ensures alone { IsAlone K.script self.old → IfOk result (λ running. GoesOn K.script self.new running
             (lists.make K.script (lists_of K.script self.old) turn (step_of step.now))) }
+        ensures looks { IfOk result (λ _. looks_of self.new.ready ≡ looks_of self.old.ready) }
         ensures fault { IfErr result (λ fault. IsOfStep fault) }
         ensures spent { IfErr result (λ fault. fault ≡ Fault.Worn → HasSpentSeat self.new) }
     {
@@ -72,6 +75,7 @@ impl<K: Run> Processor<K> {
             (turn.new.process ∷ []) self.old self.new) }
         ensures alone { IsAlone K.script self.old → IfOk result (λ _. GoesOn K.script self.new (Some turn.new)
             (lists.make K.script (lists_of K.script self.old) turn.old (step_of step.now))) }
+        ensures looks { IfOk result (λ _. looks_of self.new.ready ≡ looks_of self.old.ready) }
         ensures fault { IfErr result (λ fault. IsOfStep fault) }
         ensures spent { IfErr result (λ fault. fault ≡ Fault.Worn → HasSpentSeat self.new) }
     {
@@ -113,6 +117,7 @@ impl<K: Run> Processor<K> {
             (hand_of running) self.old self.new) }
         ensures alone { IsAlone K.script self.old → IfOk result (λ running. GoesOn K.script self.new running
             (lists.turn_by K.script (lists_of K.script self.old) turn (lists.next_step K.script turn.process))) }
+        ensures looks { IfOk result (λ _. looks_of self.new.ready ≡ looks_of self.old.ready) }
         ensures fault { IfErr result (λ fault. IsOfStep fault) }
         ensures spent { IfErr result (λ fault. fault ≡ Fault.Worn → HasSpentSeat self.new) }
     {
@@ -131,13 +136,43 @@ impl<K: Run> Processor<K> {
         }
     }
 
+    /// Looks at the ready queue, after the gate has let the processor pass: the front gets the processor.
+    fn look<R: Wait, G: Gate>(
+        &mut self,
+        rt: &R,
+        objects: &Objects<K>,
+        gate: &G,
+        looks: &mut Looks,
+    ) -> Result<Option<Turn<K>>, Fault>
+        requires objects { AreOf objects.now self.old }
+        ensures objects { AreOf objects.now self.new }
+        ensures general { IfOk result (λ running. Moves K.script [] (hand_of running) self.old self.new) }
+        ensures alone { IsAlone K.script self.old → IfOk result (λ running. GoesOn K.script self.new running
+            (lists.take_front (lists_of K.script self.old) (contents self.old.ready.seen))) }
+        ensures number { looks.new.processor ≡ looks.old.processor }
+        ensures asked { (before : ℕ)
+            → AreAsked (G.answers gate.now looks.old.processor) before self.old.ready looks.old.made
+            → IfOk result (λ _. AreAsked (G.answers gate.now looks.old.processor) before self.new.ready
+            looks.new.made) }
+        ensures looked { 1 ≤ looks.new.made }
+        ensures fault { IfErr result (λ fault. IsOfLoop (G.refuses gate.now) fault) }
+        ensures refused { IfErr result (λ fault. fault ≡ Fault.Gate
+            → G.answers gate.now looks.old.processor looks.old.made false) }
+        ensures spent { IfErr result (λ fault. fault ≡ Fault.Worn → HasSpentSeat self.new) }
+    {
+        looks.pass(gate)?;
+        self.take_front(rt, objects)
+    }
+
     /// One small step of the processor.
-    fn step<R: Wait>(
+    fn step<R: Wait, G: Gate>(
         &mut self,
         rt: &R,
         alloc: Global,
         script: &Script,
         objects: &Objects<K>,
+        gate: &G,
+        looks: &mut Looks,
         running: Option<Turn<K>>,
     ) -> Result<Option<Turn<K>>, Fault>
         requires script { script.now ≡ K.script }
@@ -146,11 +181,19 @@ impl<K: Run> Processor<K> {
         ensures general { IfOk result (λ next. Moves K.script (hand_of running) (hand_of next) self.old self.new) }
         ensures alone { IsAlone K.script self.old → IfOk result (λ next. GoesOn K.script self.new next
             (lists.step K.script (record { running = running; lists = lists_of K.script self.old }))) }
-        ensures fault { IfErr result (λ fault. IsOfStep fault) }
+        ensures number { looks.new.processor ≡ looks.old.processor }
+        ensures asked { (before : ℕ)
+            → AreAsked (G.answers gate.now looks.old.processor) before self.old.ready looks.old.made
+            → IfOk result (λ _. AreAsked (G.answers gate.now looks.old.processor) before self.new.ready
+            looks.new.made) }
+        ensures looked { running ≡ None → 1 ≤ looks.new.made }
+        ensures fault { IfErr result (λ fault. IsOfLoop (G.refuses gate.now) fault) }
+        ensures refused { IfErr result (λ fault. fault ≡ Fault.Gate
+            → G.answers gate.now looks.old.processor looks.old.made false) }
         ensures spent { IfErr result (λ fault. fault ≡ Fault.Worn → HasSpentSeat self.new) }
     {
         match running {
-            None => return self.take_front(rt, objects),
+            None => return self.look(rt, objects, gate, looks),
             Some(turn) => return self.continue_turn(rt, alloc, script, objects, turn),
         }
     }
@@ -160,6 +203,7 @@ impl<K: Run> Processor<K> {
     fn is_done(&mut self, objects: &Objects<K>, was_idle: bool, running: &Option<Turn<K>>) -> bool
         requires objects { AreOf objects.now self.old }
         ensures objects { AreOf objects.now self.new }
+        ensures ready { self.new.ready ≡ self.old.ready }
         ensures gains { Gains K.script self.old self.new nothing }
         ensures alone { IsAlone K.script self.old → GoesTo K.script self.new (lists_of K.script self.old) }
         ensures done { result ≡ true → (was_idle ≡ true) × (running.now ≡ None) }
@@ -192,6 +236,7 @@ impl<K: Run> Processor<K> {
             → IfOk result (λ done. done ≡ true → IsReached K.script self.new
             (lists.turn_over (lists_of K.script self.new)) × ((lists_of K.script self.new).ready ≡ [])) }
         ensures passed { IfOk result (λ done. done ≡ true → G.answers gate.now number 0 true) }
+        ensures asked { IfOk result (λ _. HasAsked (G.answers gate.now number) self.old.ready self.new.ready) }
         ensures fault { IfErr result (λ fault. IsOfLoop (G.refuses gate.now) fault) }
         ensures refused { IfErr result (λ fault. fault ≡ Fault.Gate → IsRefused (G.answers gate.now number)) }
         ensures spent { IfErr result (λ fault. fault ≡ Fault.Worn → HasSpentSeat self.new) }
@@ -205,11 +250,7 @@ impl<K: Run> Processor<K> {
                 drop(running);
                 return Ok(false);
             }
-            if let Err(fault) = looks.pass_where(gate, was_idle) {
-                drop(running);
-                return Err(fault);
-            }
-            running = self.step(rt, alloc, script, objects, running)?;
+            running = self.step(rt, alloc, script, objects, gate, &mut looks, running)?;
             if self.is_done(objects, was_idle, &running) {
                 drop(running);
                 return Ok(true);
@@ -245,6 +286,7 @@ impl<K: Run> Processor<K> {
             → IfOk result (λ done. done ≡ true → IsReached K.script self.new
             (lists.turn_over (lists_of K.script self.new)) × ((lists_of K.script self.new).ready ≡ [])) }
         ensures passed { IfOk result (λ done. done ≡ true → G.answers gate.now number 0 true) }
+        ensures asked { IfOk result (λ _. HasAsked (G.answers gate.now number) self.old.ready self.new.ready) }
         ensures fault { IfErr result (λ fault. IsOfLoop (G.refuses gate.now) fault) }
         ensures refused { IfErr result (λ fault. fault ≡ Fault.Gate → IsRefused (G.answers gate.now number)) }
         ensures spent { IfErr result (λ fault. fault ≡ Fault.Worn → HasSpentSeat self.new) }

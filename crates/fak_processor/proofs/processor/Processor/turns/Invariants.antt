@@ -1,4 +1,5 @@
-use Rattle.fak_processor.proofs.Common.{◌≡◌, turn_over, AreOf, IsReached, lists_of, [], Moves, hand_of, HasPassed}
+use Rattle.fak_processor.proofs.Common.{◌≡◌, turn_over, AreOf, IsReached, lists_of, [], Moves, hand_of}
+use Rattle.fak_processor.specs.Asking.{AreAsked, looks_of}
 use Rattle.fak_processor.proofs.processor.Processor.turns.Given as goal
 
 abbrev pub invariant-loop : goal.invariant-loop
@@ -8,4 +9,4 @@ invariant-loop g l =
     × Moves g.K.Run.script [] (hand_of l.running) l.initial.self l.self
     × (IsReached g.K.Run.script l.initial.self (turn_over (lists_of g.K.Run.script l.initial.self)) → IsReached g.K.Run.script l.self (record { running = l.running; lists = lists_of g.K.Run.script l.self }))
     × (l.looks.processor ≡ l.number)
-    × HasPassed (g.G.Gate.answers l.gate l.number) l.looks.made
+    × AreAsked (g.G.Gate.answers l.gate l.number) (looks_of l.initial.self.ready) l.self.ready l.looks.made
