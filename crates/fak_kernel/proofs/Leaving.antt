@@ -1,7 +1,7 @@
 -- A processor that was between its turns has left its loop.
 use Rattle.std.proofs.lemmas.List.Sums.{sum_by-append}
 use Rattle.fak_text.specs.Script.{ScriptOf}
-use Rattle.fak_kernel.proofs.Common.{turn_over, Ledger, named, joined, AreLines, ObjectsOf, ProcessorOf, AreFor, AreOf, IsReached, lists_of, no_seat, ◌≡◌, ℕ, zero, suc, [], ◌++◌, ap, sym, ◌∙◌, subst, arith, map, Bool, true, Option, Some, None, Result, Ok, Err, IfOk, IfErr, IfSome, append-nil, BeginsNone, LeavesNone, files_of, IsFirst, Between, IsLeftBy, HasBegun, HasLeft, files_then}
+use Rattle.fak_kernel.proofs.Common.{turn_over, Ledger, named, joined, AreLines, ObjectsOf, ProcessorOf, AreFor, AreOf, IsReached, lists_of, no_seat, ◌≡◌, ℕ, zero, suc, [], ◌++◌, ap, sym, ◌∙◌, subst, arith, map, append-nil, BeginsNone, LeavesNone, files_of, IsFirst, Between, IsLeftBy, HasBegun, HasLeft, files_then}
 use Rattle.fak_processor.proofs.Calls.{turning_more}
 use Rattle.fak_processor.proofs.Looping.{keeps_name}
 
