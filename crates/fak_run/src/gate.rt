@@ -74,24 +74,4 @@ impl Looks {
         }
         Err(Fault::Gate)
     }
-
-    /// Passes the gate before the next look, where the processor makes one.
-    ///
-    /// # Errors
-    ///
-    /// `Gate`, where the gate may refuse and did.
-    pub fn pass_where<G: Gate>(&mut self, gate: &G, looks: bool) -> Result<(), Fault>
-        ensures same { self.new.processor ≡ self.old.processor }
-        ensures passed { IfOk result (λ _. HasPassed (G.answers gate.now self.old.processor) self.old.made
-            → HasPassed (G.answers gate.now self.old.processor) self.new.made) }
-        ensures next { looks ≡ true → self.new.made ≡ look_behind self.old.made }
-        ensures looked { looks ≡ true → 1 ≤ self.new.made }
-        ensures gate { IfErr result (λ fault. IsOfGate (G.refuses gate.now) fault) }
-        ensures refused { IfErr result (λ _. G.answers gate.now self.old.processor self.old.made false) }
-    {
-        if looks {
-            return self.pass(gate);
-        }
-        Ok(())
-    }
 }
