@@ -1,7 +1,7 @@
 //! What lets processors look at the ready queue.
 
-ghost use Rattle.std.specs.Prelude.{◌≡◌, ◌≤◌, ℕ, Bool, true, false, IfOk, IfErr};
-ghost use Rattle.fak_run.specs.Gates.{HasPassed, IsOfGate, look_behind};
+ghost use Rattle.std.specs.Prelude.{◌≡◌, ℕ, Bool, true, false, IfOk, IfErr};
+ghost use Rattle.fak_run.specs.Gates.{IsOfGate, look_behind};
 
 use crate::fault::Fault;
 
