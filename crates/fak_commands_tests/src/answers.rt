@@ -1,5 +1,7 @@
 //! What the commands answer to an input, compared with what is wanted.
 
+use crate::rows::Row;
+use crate::rows::schedules::ROOM_REFUSED_AT_ITS_TEST;
 use fak_commands::{Answer, Command, MainFault, check, replay, run_script};
 use fak_text::TextFault;
 use std::alloc::{AllocError, Global};
@@ -9,11 +11,7 @@ use std::sync::Wait;
 use std::thread::Threads;
 
 /// A schedule in which a room has no place for the second claim.
-pub(crate) const ROOM: &str =
-    r#"{"object":"room","bound":1,"seats":2,"events":[[0,"tir",1],[0,"step",2],[1,"tir",1],[1,"step"]]}"#;
-
-/// The rows of its replay.
-pub(crate) const ROWS: &str = "0 test 0 -\n0 add 0 up 1\n1 test 1 no 1\n";
+pub(crate) const ROOM: Row = ROOM_REFUSED_AT_ITS_TEST;
 
 /// Adds a word.
 pub(crate) fn add_word(

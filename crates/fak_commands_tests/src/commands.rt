@@ -6,7 +6,7 @@ use std::alloc::{AllocError, Global};
 use std::process::Abort;
 
 /// What the words of a line ask for.
-fn asked(alloc: Global, line: &str) -> Result<Result<Command, MainFault>, AllocError> {
+pub(crate) fn asked(alloc: Global, line: &str) -> Result<Result<Command, MainFault>, AllocError> {
     let words = words_of(alloc, line)?;
     Ok(command_of(alloc, words))
 }

@@ -1,6 +1,6 @@
 //! Readers and writers that fail, or never end.
 
-use crate::answers::{ROOM, ROWS, is_text};
+use crate::answers::{ROOM, is_text};
 use fak_commands::{Command, MainFault, serve};
 use fak_text::{Field, TextFault};
 use std::alloc::Global;
@@ -150,21 +150,29 @@ fn have_fault(
 
 #[test]
 fn serves_what_is_read(rt: HostRuntime) {
-    assert!(rt; is_served(&rt, rt.alloc(), &mut ROOM.as_bytes(), Ok(0), ROWS));
+    assert!(rt;
+        is_served(
+            &rt,
+            rt.alloc(),
+            &mut ROOM.input.as_bytes(),
+            Ok(0),
+            ROOM.output
+        )
+    );
 }
 
 #[test]
 fn a_failing_reader_is_a_read_fault(rt: HostRuntime) {
     for reads in [0, 1, 2, 20] {
-        let mut reader = Uneven::faltering(ROOM.as_bytes(), reads);
+        let mut reader = Uneven::faltering(ROOM.input.as_bytes(), reads);
         let want = Err(MainFault::Read);
         assert!(rt;
             is_served(&rt, rt.alloc(), &mut reader, want, ""),
             "{reads}"
         );
     }
-    let mut reader = Uneven::faltering(ROOM.as_bytes(), 2000);
-    assert!(rt; is_served(&rt, rt.alloc(), &mut reader, Ok(0), ROWS));
+    let mut reader = Uneven::faltering(ROOM.input.as_bytes(), 2000);
+    assert!(rt; is_served(&rt, rt.alloc(), &mut reader, Ok(0), ROOM.output));
 }
 
 #[test]
@@ -191,14 +199,14 @@ fn an_input_is_at_most_1_048_576_bytes(rt: HostRuntime) {
 fn a_read_may_give_one_byte(rt: HostRuntime) {
     for short_read in 0..20 {
         let mut reader = Uneven {
-            rest: ROOM.as_bytes(),
+            rest: ROOM.input.as_bytes(),
             most: 7,
             reads: 0,
             short_read,
             failing_read: u32::MAX,
         };
         assert!(rt;
-            is_served(&rt, rt.alloc(), &mut reader, Ok(0), ROWS),
+            is_served(&rt, rt.alloc(), &mut reader, Ok(0), ROOM.output),
             "at {short_read}"
         );
     }
@@ -208,7 +216,7 @@ fn a_read_may_give_one_byte(rt: HostRuntime) {
 fn a_failing_writer_is_a_write_fault(rt: HostRuntime) {
     for room in [0, 1] {
         let mut full = Full::new(room, false);
-        let fault = fault_into(&rt, rt.alloc(), ROOM, &mut full);
+        let fault = fault_into(&rt, rt.alloc(), ROOM.input, &mut full);
         assert!(rt; fault == Some(MainFault::Write), "{room}");
     }
     let mut unused = Full::new(1, false);
@@ -219,8 +227,8 @@ fn a_failing_writer_is_a_write_fault(rt: HostRuntime) {
 
 #[test]
 fn a_writer_that_fails_at_its_flush_is_a_write_fault(rt: HostRuntime) {
-    let mut unflushed = Full::new(ROWS.len() + 1, true);
-    let fault = fault_into(&rt, rt.alloc(), ROOM, &mut unflushed);
+    let mut unflushed = Full::new(ROOM.output.len() + 1, true);
+    let fault = fault_into(&rt, rt.alloc(), ROOM.input, &mut unflushed);
     assert!(rt; fault == Some(MainFault::Write));
     assert!(rt; unflushed.room == 1);
 }

@@ -1,6 +1,7 @@
-//! Verdicts on short histories; longer ones are examples of the program.
+//! Verdicts on histories, and their faults.
 
 use crate::answers::{has_answer, have_faults};
+use crate::rows::{are_answered, histories};
 use fak_commands::Command;
 use fak_text::{Field, TextFault};
 
@@ -29,6 +30,11 @@ fn verdicts(rt: HostRuntime) {
     for &(input, status, text) in ROWS {
         has_answer(&rt, Command::Check, input, status, text);
     }
+}
+
+#[test]
+fn examples(rt: HostRuntime) {
+    are_answered(&rt, histories::ROWS);
 }
 
 #[test]

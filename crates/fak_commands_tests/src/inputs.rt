@@ -1,6 +1,6 @@
 //! Inputs that are too long, too deep, or cut off.
 
-use crate::answers::{ROOM, ROWS, fault_at, has_answer, have_faults};
+use crate::answers::{ROOM, fault_at, has_answer, have_faults};
 use fak_commands::{Command, MainFault};
 use fak_text::{Field, TextFault};
 use std::alloc::AllocError;
@@ -10,14 +10,15 @@ use std::thread::Threads;
 
 #[test]
 fn each_beginning_of_an_input_is_not_json(rt: HostRuntime) {
-    for end in 0..ROOM.len() {
-        let fault = fault_at(&rt, Command::Replay, &ROOM.as_bytes()[..end]);
+    let input = ROOM.input.trim_end();
+    for end in 0..input.len() {
+        let fault = fault_at(&rt, Command::Replay, &input.as_bytes()[..end]);
         assert!(rt;
             fault == Some(MainFault::Text(TextFault::NotJson)),
             "at {end}"
         );
     }
-    has_answer(&rt, Command::Replay, ROOM, 0, ROWS);
+    has_answer(&rt, Command::Replay, input, 0, ROOM.output);
 }
 
 /// The fault of a replay of this many pieces, and then of as many others.

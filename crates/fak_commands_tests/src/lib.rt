@@ -19,6 +19,8 @@ mod inputs;
 #[cfg(test)]
 mod program;
 #[cfg(test)]
+mod rows;
+#[cfg(test)]
 mod schedules;
 #[cfg(test)]
 mod scripts;

@@ -1,6 +1,7 @@
 //! Statuses, and which of the two outputs a text goes to.
 
 use crate::answers::{is_text, words_of};
+use crate::rows::{are_answered, faults};
 use fak_commands::{MainFault, conclude, run_words};
 use fak_kernel::Fault;
 use fak_text::{Field, TextFault};
@@ -113,6 +114,11 @@ fn a_fault_goes_to_the_output_of_faults(rt: HostRuntime) {
         ),
     ];
     have_ends(&rt, ROWS);
+}
+
+#[test]
+fn examples_of_faults(rt: HostRuntime) {
+    are_answered(&rt, faults::ROWS);
 }
 
 #[test]

@@ -1,26 +1,25 @@
-//! Runs of scripts, and their faults. Scripts of every kind of step are examples of the program.
+//! Runs of scripts, and their faults.
 
 use crate::answers::{has_answer, has_fault, have_faults};
+use crate::rows::faults::{
+    FAULT_NO_QUANTUM, FAULT_QUANTUM_OUT_OF_RANGE, FAULT_SCRIPT_CUT_OFF, FAULT_UNKNOWN_STEP,
+    FAULT_WORN_SEAT,
+};
+use crate::rows::scripts::{SCRIPT_EMPTY_PROGRAM, SCRIPT_FILE_AND_CHILD};
+use crate::rows::{Row, are_answered, scripts};
 use fak_commands::{Command, MainFault};
 use fak_kernel::Fault;
 use fak_text::{Field, TextFault};
 
 #[test]
 fn faults_of_a_script(rt: HostRuntime) {
+    const EXAMPLES: &[(Row, TextFault)] = &[
+        (FAULT_SCRIPT_CUT_OFF, TextFault::NotJson),
+        (FAULT_NO_QUANTUM, TextFault::Missing(Field::Quantum)),
+        (FAULT_QUANTUM_OUT_OF_RANGE, TextFault::Range(Field::Quantum)),
+        (FAULT_UNKNOWN_STEP, TextFault::UnknownOp(1)),
+    ];
     const ROWS: &[(&str, TextFault)] = &[
-        (r#"{"version":1,"#, TextFault::NotJson),
-        (
-            r#"{"version":1,"slots":1,"births":0,"semaphores":[0],"files":1,"programs":[[]],"start":[0]}"#,
-            TextFault::Missing(Field::Quantum),
-        ),
-        (
-            r#"{"version":1,"slots":1,"births":0,"quantum":0,"semaphores":[0],"files":1,"programs":[[]],"start":[0]}"#,
-            TextFault::Range(Field::Quantum),
-        ),
-        (
-            r#"{"version":1,"slots":1,"births":0,"quantum":4,"semaphores":[0],"files":1,"programs":[[["say","a"],["jump",1]]],"start":[0]}"#,
-            TextFault::UnknownOp(1),
-        ),
         (
             r#"{"version":1,"slots":1,"births":0,"quantum":4,"semaphores":[0],"files":1,"programs":[[["shutdown"]]],"start":[0]}"#,
             TextFault::UnknownOp(0),
@@ -34,35 +33,34 @@ fn faults_of_a_script(rt: HostRuntime) {
             TextFault::Range(Field::Start),
         ),
     ];
+    for &(row, fault) in EXAMPLES {
+        has_fault(&rt, Command::Run(1), row.input, MainFault::Text(fault));
+    }
     have_faults(&rt, Command::Run(1), ROWS);
 }
 
 #[test]
+fn examples(rt: HostRuntime) {
+    are_answered(&rt, scripts::ROWS);
+}
+
+#[test]
 fn the_same_report_on_1_to_8_processors(rt: HostRuntime) {
-    let script = r#"
-{"version":1,"slots":2,"births":1,"quantum":4,"semaphores":[0],"files":1,
-"programs":[[["open",7],["open",7],["close",7],["stat",7],["spawn",1]],[["say","hi"]]],"start":[0]}"#;
-    let report = r"process 0 program 0 slot 0 ended
-  open 7 entry 0
-  open 7 entry 0
-  close 7 entry 0
-  stat 7 uses 1
-  spawn 0.0
-process 0.0 program 1 slot 1 ended
-  say hi
-file 0 inode 7 uses 1
-births 1 of 1
-ended 2 stuck 0
-";
+    let row = SCRIPT_FILE_AND_CHILD;
     for processors in 1..9u64 {
-        has_answer(&rt, Command::Run(processors), script, 0, report);
+        has_answer(
+            &rt,
+            Command::Run(processors),
+            row.input,
+            row.status,
+            row.output,
+        );
     }
 }
 
 #[test]
 fn no_other_number_of_processors(rt: HostRuntime) {
-    let script =
-        r#"{"version":1,"slots":1,"births":0,"quantum":4,"semaphores":[0],"files":1,"programs":[[]],"start":[0]}"#;
+    let script = SCRIPT_EMPTY_PROGRAM.input;
     let fault = MainFault::Kernel(Fault::BadProcessors);
     for processors in [0, 9, u64::MAX] {
         has_fault(&rt, Command::Run(processors), script, fault);
@@ -74,13 +72,11 @@ fn no_other_number_of_processors(rt: HostRuntime) {
 
 #[test]
 fn a_seat_is_worn(rt: HostRuntime) {
-    let script =
-        r#"{"version":1,"slots":1,"births":0,"quantum":4,"stint":1,"semaphores":[0],"files":1,"programs":[[]],"start":[0]}"#;
     for processors in 1..3u64 {
         has_fault(
             &rt,
             Command::Run(processors),
-            script,
+            FAULT_WORN_SEAT.input,
             MainFault::Kernel(Fault::Worn),
         );
     }
