@@ -1,5 +1,8 @@
 //! What is asked of a value, and where in its key's array the value is.
 
+ghost use Rattle.std.specs.Prelude.{◌≡◌};
+ghost use Rattle.fak_places.specs.Spots.{spot_in_item, spot_in_step};
+
 use std::fmt;
 use thiserror::Error;
 
@@ -80,7 +83,9 @@ pub(crate) fn outside(index: usize, what: &'static str, low: u64, high: u64) -> 
 }
 
 /// What is wrong with the element of this index of a key's array.
-pub(crate) fn in_item(index: usize, wrong: Wrong) -> Hint {
+pub(crate) fn in_item(index: usize, wrong: Wrong) -> Hint
+    ensures { result.spot ≡ spot_in_item index wrong.element }
+{
     let spot = match wrong.element {
         None => Spot::One(index),
         Some(element) => Spot::Two(index, element),
@@ -92,7 +97,9 @@ pub(crate) fn in_item(index: usize, wrong: Wrong) -> Hint {
 }
 
 /// What is wrong with a step of a program.
-pub(crate) fn in_step(program: usize, step: usize, wrong: Wrong) -> Hint {
+pub(crate) fn in_step(program: usize, step: usize, wrong: Wrong) -> Hint
+    ensures { result.spot ≡ spot_in_step program step wrong.element }
+{
     let spot = match wrong.element {
         None => Spot::Two(program, step),
         Some(element) => Spot::Three(program, step, element),

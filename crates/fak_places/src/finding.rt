@@ -1,8 +1,14 @@
 //! The place of an input's first fault.
 
-ghost use Rattle.std.specs.Prelude.{◌≡◌, ◌≢◌, IfOk, IfSome, IsOk, MatchOption, Err, option_map};
+ghost use Rattle.std.specs.Prelude.{◌≡◌, ◌≢◌, IfOk, IfSome, IsOk, MatchOption, Err, is_ok, not, option_map};
+ghost use Rattle.serde_json.specs.View.{view};
+ghost use Rattle.fak_text.specs.HistoryText.{mark_from};
+ghost use Rattle.fak_text.specs.ScheduleText.{event_from};
+ghost use Rattle.fak_text.specs.declared.fault.Field.TheVariants.{Events, Marks};
 ghost use Rattle.fak_text.specs.declared.fault.TextFault.TheVariants.{Memory};
+ghost use Rattle.fak_text.specs.declared.schedule.Object as o;
 ghost use Rattle.fak_places.specs.Places.{fault_in, key_of, list_of};
+ghost use Rattle.fak_places.specs.Spots.{IsInFirst, array_of};
 
 use crate::asked::{Asked, Hint, in_item, of_key};
 use crate::event::{first_wrong_event, wrong_event};
@@ -107,16 +113,22 @@ fn object_of(schedule: &Value) -> Object {
     }
 }
 
-/// What is wrong in the events of a schedule.
-fn hint_in_events(schedule: &Value) -> Option<Hint> {
+/// What is wrong in the events of a schedule: the first that is wrong.
+fn hint_in_events(schedule: &Value) -> Option<Hint>
+    ensures { IfSome result (λ hint. (object : o.Object) × IsInFirst (λ d. not (is_ok (event_from object 0 d)))
+        (array_of Events (view schedule.now)) hint.spot) }
+{
     let object = object_of(schedule);
     let events = elements_of_key(schedule, Field::Events);
     let index = first_wrong_event(object, events)?;
     Some(in_item(index, wrong_event(object, events.get(index)?)?))
 }
 
-/// What is wrong in the marks of a history.
-fn hint_in_marks(history: &Value) -> Option<Hint> {
+/// What is wrong in the marks of a history: the first that is wrong.
+fn hint_in_marks(history: &Value) -> Option<Hint>
+    ensures { IfSome result (λ hint. IsInFirst (λ d. not (is_ok (mark_from 0 d))) (array_of Marks (view history.now))
+        hint.spot) }
+{
     let marks = elements_of_key(history, Field::Marks);
     let index = first_wrong_mark(marks)?;
     Some(in_item(index, wrong_mark(marks.get(index)?)?))

@@ -1,9 +1,15 @@
 //! What is wrong with the arrays of a script.
 
-ghost use Rattle.std.specs.Prelude.{◌≡◌, is_ok, not};
+ghost use Rattle.std.specs.Prelude.{◌≡◌, ◌⊎◌, ℕ, IfSome, is_ok, not, unwrap_or};
 ghost use Rattle.std.specs.List.{position};
+ghost use Rattle.serde_json.specs.Data.{no_items};
+ghost use Rattle.serde_json.specs.Find.{as_array};
 ghost use Rattle.serde_json.specs.View.{view};
 ghost use Rattle.fak_text.specs.ScriptText.{number_from};
+ghost use Rattle.fak_text.specs.declared.fault.Field.TheVariants.{Semaphores, Start};
+ghost use Rattle.fak_places.specs.Named.{step_in};
+ghost use Rattle.fak_places.specs.Spots.{IsInFirst, IsInFirstStep, array_of};
+ghost use Rattle.fak_places.specs.declared.asked.Spot.TheVariants.{Key, One};
 
 use crate::asked::{Asked, Hint, Spot, in_step};
 use crate::step::{Limits, first_wrong_step, wrong_step};
@@ -35,8 +41,11 @@ fn first_wrong_number(field: Field, bound: u64, values: &[Value]) -> Option<usiz
         .position(|value| !matches!(value.as_u64(), Some(n) if n < bound))
 }
 
-/// What is wrong with a program, if anything.
-fn hint_in_program(limits: Limits, index: usize, program: &Value) -> Option<Hint> {
+/// What is wrong with a program, if anything: all of it, or its first step that is wrong.
+fn hint_in_program(limits: Limits, index: usize, program: &Value) -> Option<Hint>
+    ensures { IfSome result (λ hint. (hint.spot ≡ One index) ⊎ IsInFirstStep (λ d. not (is_ok (step_in limits d))) index
+        (unwrap_or (as_array (view program.now)) no_items) hint.spot) }
+{
     let steps = match program.as_array() {
         Some(steps) if steps.len() <= MOST_STEPS => steps.as_slice(),
         _ => {
@@ -68,7 +77,10 @@ pub(crate) fn hint_in_programs(script: &Value) -> Option<Hint> {
 }
 
 /// What is wrong in the values that the semaphores of a script begin at.
-pub(crate) fn hint_in_semaphores(script: &Value) -> Option<Hint> {
+pub(crate) fn hint_in_semaphores(script: &Value) -> Option<Hint>
+    ensures { IfSome result (λ hint. IsInFirst (λ d. not (is_ok (number_from Semaphores 1000001 0 d)))
+        (array_of Semaphores (view script.now)) hint.spot) }
+{
     let values = elements_of_key(script, Field::Semaphores);
     let index = first_wrong_number(Field::Semaphores, MOST_START + 1, values)?;
     Some(Hint {
@@ -78,7 +90,10 @@ pub(crate) fn hint_in_semaphores(script: &Value) -> Option<Hint> {
 }
 
 /// What is wrong in the programs that the first processes of a script run.
-pub(crate) fn hint_in_start(script: &Value) -> Option<Hint> {
+pub(crate) fn hint_in_start(script: &Value) -> Option<Hint>
+    ensures { IfSome result (λ hint. (hint.spot ≡ Key) ⊎ ((programs : ℕ) × IsInFirst (λ d. not (is_ok
+        (number_from Start programs 0 d))) (array_of Start (view script.now)) hint.spot)) }
+{
     let values = elements_of_key(script, Field::Start);
     let slots = number_of_key(script, Field::Slots);
     if values.len() as u64 > slots {

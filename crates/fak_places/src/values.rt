@@ -2,7 +2,8 @@
 
 ghost use Rattle.std.specs.Prelude.{◌≡◌};
 ghost use Rattle.serde_json.specs.Events.{items_len};
-ghost use Rattle.serde_json.specs.View.{items_view};
+ghost use Rattle.serde_json.specs.View.{items_view, view};
+ghost use Rattle.fak_places.specs.Spots.{array_of};
 
 use fak_text::Field;
 use serde_json::Value;
@@ -16,7 +17,9 @@ pub(crate) fn count(values: &[Value]) -> usize
 }
 
 /// The elements of the array of a key; none where it is no array.
-pub(crate) fn elements_of_key(value: &Value, field: Field) -> &[Value] {
+pub(crate) fn elements_of_key(value: &Value, field: Field) -> &[Value]
+    ensures { items_view result.now ≡ array_of field (view value.now) }
+{
     match value.get(field.name()).and_then(Value::as_array) {
         Some(values) => values.as_slice(),
         None => &[],

@@ -1,0 +1,42 @@
+-- Where in a key's array the first wrong value is.
+use Rattle.std.specs.Prelude.{◌≡◌, ℕ, Bool, List, Option, Some, None, unwrap_or, option_and_then}
+use Rattle.std.specs.List.{position}
+use Rattle.serde_json.specs.Data.{Data, Items, no_items}
+use Rattle.serde_json.specs.Find.{get, as_array}
+use Rattle.serde_json.specs.View.{items_of}
+use Rattle.fak_text.specs.Fields.{name_of}
+use Rattle.fak_text.specs.declared.fault.Field.{Field}
+use Rattle.fak_places.specs.declared.asked.Spot.{Spot}
+use Rattle.fak_places.specs.declared.asked.Spot.TheVariants.{One, Two, Three}
+
+-- the elements of the array of a key; none where it is no array
+abbrev pub array_of : Field → Data → Items
+array_of f d = unwrap_or (option_and_then as_array (get (name_of f) d)) no_items
+
+-- the spot of an item, or of one of its elements
+abbrev pub spot_in_item : ℕ → Option ℕ → Spot
+spot_in_item i None = One i
+spot_in_item i (Some j) = Two i j
+
+-- the spot of a step of a program, or of one of its elements
+abbrev pub spot_in_step : ℕ → ℕ → Option ℕ → Spot
+spot_in_step program i None = Two program i
+spot_in_step program i (Some j) = Three program i j
+
+-- the spot is in the first of these items that is wrong
+pub record IsInFirst (wrong : Data → Bool) (items : Items) (spot : Spot) : Type 0 where
+  pub elements : List Data
+  pub are : items_of elements ≡ items
+  pub index : ℕ
+  pub first : position wrong elements ≡ Some index
+  pub element : Option ℕ
+  pub spot_is : spot ≡ spot_in_item index element
+
+-- the spot is in the first wrong one of the steps of this program
+pub record IsInFirstStep (wrong : Data → Bool) (program : ℕ) (steps : Items) (spot : Spot) : Type 0 where
+  pub elements : List Data
+  pub are : items_of elements ≡ steps
+  pub index : ℕ
+  pub first : position wrong elements ≡ Some index
+  pub element : Option ℕ
+  pub spot_is : spot ≡ spot_in_step program index element
