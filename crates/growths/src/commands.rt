@@ -1,26 +1,30 @@
 //! The commands, from words and bytes.
 
-use crate::texts::{HISTORY, SCHEDULE, SCRIPT};
-use crate::{again, put};
-use fak_commands::{Answer, Command, MainFault, check, command_of, replay, run_script, serve};
+use crate::texts::{HISTORY, IDLE, SCHEDULE, SCRIPT};
+use crate::{again, again_on, put};
+use fak_commands::{
+    Answer, Command, MainFault, check, command_of, replay, run_script, run_words, serve,
+};
 use std::alloc::{AllocError, Global};
 use std::marker::Sync;
 use std::sync::Wait;
 use std::thread::Threads;
 
-/// The words of a command line.
-fn words_of(alloc: Global) -> Result<Vec<String>, AllocError> {
+/// The words for a run on this many processors.
+fn words_of(alloc: Global, processors: u64) -> Result<Vec<String>, AllocError> {
     let mut words = Vec::new(alloc);
-    for word in ["fak", "run", "--processors", "1"] {
+    for word in ["fak", "run", "--processors"] {
         let word = String::from_str(alloc, word)?;
         words.push(word)?;
     }
+    let number = processors.to_string(alloc)?;
+    words.push(number)?;
     Ok(words)
 }
 
 /// The command that they ask for.
 fn asked(alloc: Global) -> Result<Command, MainFault> {
-    let words = words_of(alloc)?;
+    let words = words_of(alloc, 1)?;
     command_of(alloc, words)
 }
 
@@ -68,6 +72,50 @@ fn ran(rt: &(impl Print + Eprint + AllocGlobal + Threads + Wait + Sync)) -> bool
         run_script(rt, rt.alloc(), SCRIPT.as_bytes(), 1)
     );
     print(rt, &answer)
+}
+
+/// Runs the script that has nothing to do by the words for this many processors. Tells of a fault, and is then false.
+fn worded(
+    rt: &(impl Print + Eprint + AllocGlobal + Threads + Wait + Sync),
+    processors: u64,
+) -> bool {
+    let alloc = rt.alloc();
+    let words = again!(rt, "words_of", words_of(alloc, processors));
+    let mut text = Vec::new(alloc);
+    let mut faults = Vec::new(alloc);
+    let status = run_words(
+        rt,
+        alloc,
+        words,
+        &mut IDLE.as_bytes(),
+        &mut text,
+        &mut faults,
+    );
+    if status != 0 {
+        let fault = str::from_utf8(&faults).unwrap_or("no text");
+        let _ = eprint!(rt; "run_words on {processors}: {fault}");
+        return false;
+    }
+    put(rt, &text);
+    true
+}
+
+/// Runs the script that has nothing to do on 1 to 8 processors, as `runs::on_each` does: from its bytes, and from words.
+pub(crate) fn on_each(rt: &(impl Print + Eprint + AllocGlobal + Threads + Wait + Sync)) -> bool {
+    for processors in 1..9u64 {
+        let answer = again_on!(
+            rt,
+            "run_script",
+            processors,
+            run_script(rt, rt.alloc(), IDLE.as_bytes(), processors)
+        );
+        print(rt, &answer);
+        // It is made once more, where it was refused.
+        if !worded(rt, processors) && !worded(rt, processors) {
+            return false;
+        }
+    }
+    true
 }
 
 /// Reads a command line, and does what it asks for.

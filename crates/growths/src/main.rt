@@ -30,7 +30,25 @@ macro_rules! again {
     };
 }
 
+/// The value of a call on this many processors, which is made once more as by `again`. What it was refused for names their
+/// number.
+macro_rules! again_on {
+    ($rt:expr, $name:expr, $processors:expr, $call:expr) => {
+        match $call {
+            Ok(value) => value,
+            Err(fault) => {
+                let _ = eprintln!($rt; "{} on {}: {fault:?}", $name, $processors);
+                match $call {
+                    Ok(value) => value,
+                    Err(_) => return false,
+                }
+            }
+        }
+    };
+}
+
 pub(crate) use again;
+pub(crate) use again_on;
 
 /// Tells on the output of faults what a call was refused for.
 pub(crate) fn tell<E: Debug>(rt: &impl Eprint, name: &str, fault: &E) {
@@ -59,6 +77,7 @@ fn main(rt: HostRuntime) -> ExitCode {
         texts::texts(&rt),
         runs::on_one(&rt),
         runs::on_each(&rt),
+        commands::on_each(&rt),
         runs::on_two(&rt),
         commands::commands(&rt),
     ];

@@ -1,7 +1,7 @@
 //! The runs of scripts, and the texts of their reports.
 
-use crate::texts::SCRIPT;
-use crate::{again, put};
+use crate::texts::{IDLE, SCRIPT};
+use crate::{again, again_on, put};
 use fak_kernel::{
     FreeGate, Printed, Report, report_text, run, run_one, run_one_to_text, run_to_text,
 };
@@ -13,10 +13,6 @@ use std::thread::Threads;
 /// A script that has the same report on any number of processors.
 const ALONE: &str =
     r#"{"version":2,"slots":2,"births":0,"quantum":3,"semaphores":[9],"files":2,"programs":[[["say","a text that is said"],["down",0],["open",7],["yield"],["up",0],["yield"]]],"start":[0]}"#;
-
-/// A script with nothing to do: its processors take no memory once their threads have begun.
-const IDLE: &str =
-    r#"{"version":1,"slots":1,"births":0,"quantum":1,"semaphores":[],"files":1,"programs":[],"start":[]}"#;
 
 /// Prints a report.
 fn print(rt: &(impl Print + Eprint + AllocGlobal), report: &Report) -> bool {
@@ -44,22 +40,19 @@ pub(crate) fn on_one(rt: &(impl Print + Eprint + AllocGlobal + Wait)) -> bool {
     print_all(rt, &printed)
 }
 
-/// Runs the script that has nothing to do on 1 to 8 processors. What a run is refused for names their number. It comes
-/// before other runs on several processors, whose allocations are not as many each time.
+/// Runs the script that has nothing to do on 1 to 8 processors. It comes before other runs on several processors, whose
+/// allocations are not as many each time.
 pub(crate) fn on_each(rt: &(impl Print + Eprint + AllocGlobal + Threads + Wait + Sync)) -> bool {
     let alloc = rt.alloc();
     let script = again!(rt, "read_script", read_script(alloc, IDLE.as_bytes()));
     for processors in 1..9u64 {
-        let _ = match run(rt, alloc, &script, processors, &FreeGate) {
-            Ok(report) => println!(rt; "{processors}: {} rows", report.rows.len()),
-            Err(fault) => {
-                let _ = eprintln!(rt; "run on {processors}: {fault:?}");
-                let Ok(report) = run(rt, alloc, &script, processors, &FreeGate) else {
-                    return false;
-                };
-                println!(rt; "{processors}: {} rows", report.rows.len())
-            }
-        };
+        let report = again_on!(
+            rt,
+            "run",
+            processors,
+            run(rt, alloc, &script, processors, &FreeGate)
+        );
+        let _ = println!(rt; "{processors}: {} rows", report.rows.len());
     }
     true
 }

@@ -17,6 +17,10 @@ pub(crate) const HISTORY: &str =
 pub(crate) const SCRIPT: &str =
     r#"{"version":2,"slots":3,"births":2,"quantum":1,"semaphores":[0,0],"files":2,"programs":[[["say","ping"],["up",1],["down",0],["spawn",2],["spawn",2],["yield"],["spawn",2]],[["down",1],["say","pong"],["open",7],["up",0],["stat",7],["close",7],["open",8]],[["say","child"],["yield"]]],"start":[0,1]}"#;
 
+/// A script with nothing to do: its processors take no memory once their threads have begun.
+pub(crate) const IDLE: &str =
+    r#"{"version":1,"slots":1,"births":0,"quantum":1,"semaphores":[],"files":1,"programs":[],"start":[]}"#;
+
 /// Reads a schedule.
 fn schedule(rt: &(impl Print + Eprint + AllocGlobal)) -> bool {
     let schedule = again!(
