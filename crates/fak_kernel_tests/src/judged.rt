@@ -20,6 +20,8 @@ enum Change {
     Outcome,
     Slot,
     Pass,
+    Program,
+    Parent,
     Entry,
 }
 
@@ -46,6 +48,8 @@ fn apply(report: &mut Report, what: Change) -> bool {
 fn apply_to_row(row: &mut ProcessRow, what: Change) -> bool {
     match what {
         Change::Slot => row.slot = 1,
+        Change::Program => row.program = row.program.wrapping_add(1),
+        Change::Parent => return row.name.push(0).is_ok(),
         Change::Pass => {
             row.position = 1;
             row.outcome = Outcome::Ended;
@@ -82,9 +86,11 @@ fn verdict<R: Abort + Wait>(
 }
 
 /// Each change, of the report of a script, and what it breaks.
-const CHANGES: [(&str, Change, &str); 7] = [
+const CHANGES: [(&str, Change, &str); 9] = [
     (READER, Change::Version, "version and bound"),
     (READER, Change::Order, "names"),
+    (READER, Change::Program, "names"),
+    (SLEEPERS, Change::Parent, "names"),
     (READER, Change::Row, "births"),
     (READER, Change::Outcome, "rows that fit"),
     (SLEEPERS, Change::Slot, "slots"),

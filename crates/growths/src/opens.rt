@@ -45,7 +45,68 @@ fn table(rt: &(impl Print + Eprint + AllocGlobal)) -> bool {
     true
 }
 
-/// Opens one of each object.
+/// Opens a large room and a large credit, with more seats than others may have.
+fn large_counts(rt: &(impl Print + Eprint + AllocGlobal)) -> bool {
+    let (_room, rooms) = again!(
+        rt,
+        "Room::open_large",
+        Room::open_large(rt.alloc(), 5, 1024, 2)
+    );
+    let (_credit, credits) = again!(
+        rt,
+        "Credit::open_large",
+        Credit::open_large(rt.alloc(), 5, 1024, 2)
+    );
+    let _ = println!(rt;
+        "a large room of {}, a large credit of {}",
+        rooms.len(),
+        credits.len()
+    );
+    true
+}
+
+/// Opens a large queue, with more cells and seats than others may have.
+fn large_queue(rt: &(impl Print + Eprint + AllocGlobal)) -> bool {
+    let (_queue, seats) = again!(
+        rt,
+        "Queue::open_large",
+        Queue::<u64>::open_large(rt.alloc(), 5000, 1024, 2)
+    );
+    let _ = println!(rt; "a large queue of {}", seats.len());
+    true
+}
+
+/// Opens a large semaphore, with a larger wait queue and more seats than others may have.
+fn large_semaphore(rt: &(impl Print + Eprint + AllocGlobal)) -> bool {
+    let (_semaphore, seats) = again!(
+        rt,
+        "Semaphore::open_large",
+        Semaphore::<u64>::open_large(rt.alloc(), 1, 5000, 1024, 2)
+    );
+    let _ = println!(rt; "a large semaphore of {}", seats.len());
+    true
+}
+
+/// Opens a large file table, with more seats than others may have.
+fn large_table(rt: &(impl Print + Eprint + AllocGlobal)) -> bool {
+    let (_table, seats) = again!(
+        rt,
+        "FileTable::open_large",
+        FileTable::open_large(rt.alloc(), 16, 1024, 2)
+    );
+    let _ = println!(rt; "a large file table of {}", seats.len());
+    true
+}
+
+/// Opens one of each object, and a large one of each.
 pub(crate) fn opens(rt: &(impl Print + Eprint + AllocGlobal)) -> bool {
-    room(rt) && credit(rt) && queue(rt) && semaphore(rt) && table(rt)
+    room(rt)
+        && credit(rt)
+        && queue(rt)
+        && semaphore(rt)
+        && table(rt)
+        && large_counts(rt)
+        && large_queue(rt)
+        && large_semaphore(rt)
+        && large_table(rt)
 }
