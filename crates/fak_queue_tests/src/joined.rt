@@ -56,12 +56,11 @@ fn cells_that_are_looked_at_a_hundred_times(rt: HostRuntime) {
 
 #[test]
 fn a_seat_that_was_dropped_in_its_insertion(rt: HostRuntime) {
+    const LOOK_FOR_ITEM: (usize, Step<u64>) = (B, Step::TryTake(None));
     const STEPS: &[(usize, Step<u64>)] = &[
         (C, Step::ClaimInsert(1, Ok(0))),
         (A, Step::Insert(2, Ok(1))),
         (B, Step::ClaimDelete(Ok(0))),
-        (B, Step::TryTake(None)),
-        (B, Step::TryTake(None)),
         (
             A,
             Step::ClaimInsert(3, Err(InsertFault::Full { upper: 2, item: 3 })),
@@ -70,7 +69,9 @@ fn a_seat_that_was_dropped_in_its_insertion(rt: HostRuntime) {
     let (queue, mut seats) = open(&rt, (2, 3, 10));
     walk(&rt, &queue, &mut seats, &STEPS[..1]);
     drop(take_any(&rt, &queue, &mut seats));
-    walk(&rt, &queue, &mut seats, &STEPS[1..]);
+    walk(&rt, &queue, &mut seats, &STEPS[1..3]);
+    walk(&rt, &queue, &mut seats, &[LOOK_FOR_ITEM; 100]);
+    walk(&rt, &queue, &mut seats, &STEPS[3..]);
     drop(take_any(&rt, &queue, &mut seats));
     assert_equal(&rt, joined(&rt, &queue, seats).is_whole(), false);
 }
