@@ -1,0 +1,10 @@
+use Rattle.std.proofs.Common.{vec_len}
+use Rattle.soak.specs.Seats.{AreCountsOf}
+use Rattle.soak.proofs.counts.spenders.Given as goal
+
+-- what is left to deal is of the same object
+abbrev pub invariant-loop-seat : goal.invariant-loop-seat
+invariant-loop-seat l = AreCountsOf l.account.object l.seats.items
+
+abbrev pub decreases-loop-seat : goal.decreases-loop-seat
+decreases-loop-seat l = vec_len l.seats

@@ -1,0 +1,31 @@
+//! Makes calls of all kinds on small shared objects, by four threads at once, and tells whether all came out as it should.
+//!
+//! A part is one object with its threads. Each number that goes into a queue or a semaphore comes out once, and those of one
+//! thread in their order. No room lets more in than its bound, a credit ends at its sum, and nobody sees half of a write to a
+//! file table. Each item that is dropped is dropped once.
+//!
+//! Without words each part is short. With `--millions N` a part makes up to N million calls, and prints a line.
+#![tactic(auto)]
+
+mod command;
+mod counts;
+mod crew;
+mod fault;
+mod files;
+mod forms;
+mod items;
+mod parts;
+mod ports;
+mod queues;
+mod seats;
+mod semaphores;
+mod shuts;
+mod stepwise;
+
+pub use fault::Fault;
+pub use parts::run_parts;
+use std::process::ExitCode;
+
+fn main(rt: HostRuntime) -> ExitCode {
+    command::run_process(&rt, &mut rt.stderr())
+}
