@@ -87,6 +87,13 @@ fn has_powers(rt: &(impl Abort + AllocGlobal), row: &Row<'_>) {
     has_count(rt, row, row.4.saturating_add(1));
 }
 
+/// Finds that the row is read with the first multiples of a step, or refused.
+fn has_multiples(rt: &(impl Abort + AllocGlobal), row: &Row<'_>, step: usize, multiples: usize) {
+    for multiple in 1..=multiples {
+        has_count(rt, row, step.saturating_mul(multiple));
+    }
+}
+
 /// Finds that the row is read with each count below the end, each power of two, and the first multiples of a step.
 fn has_counts(
     rt: &(impl Abort + AllocGlobal),
@@ -97,9 +104,7 @@ fn has_counts(
 ) {
     has_powers(rt, row);
     has_each_count(rt, row, end);
-    for multiple in 1..=multiples {
-        has_count(rt, row, step.saturating_mul(multiple));
-    }
+    has_multiples(rt, row, step, multiples);
 }
 
 #[test]
@@ -140,29 +145,44 @@ fn many_counts_of_marks(rt: HostRuntime) {
     has_counts(&rt, &ROW, 300, 100, 40);
 }
 
+const ROOM_EVENTS: Row<'static> = (
+    EVENTS,
+    r#"{"object":"room","bound":1,"seats":1,"events":["#,
+    r#"[0,"tir",1]"#,
+    "]}",
+    16_384,
+    Field::Events,
+);
+
 #[test]
-fn many_counts_of_events(rt: HostRuntime) {
-    const ROWS: &[Row<'static>] = &[
-        (
-            EVENTS,
-            r#"{"object":"room","bound":1,"seats":1,"events":["#,
-            r#"[0,"tir",1]"#,
-            "]}",
-            16_384,
-            Field::Events,
-        ),
-        (
-            EVENTS,
-            r#"{"object":"queue","size":1,"seats":1,"events":["#,
-            r#"[0,"delete"]"#,
-            "]}",
-            16_384,
-            Field::Events,
-        ),
-    ];
-    for row in ROWS {
-        has_counts(&rt, row, 300, 1_000, 16);
-    }
+fn many_counts_of_events_of_a_room(rt: HostRuntime) {
+    has_powers(&rt, &ROOM_EVENTS);
+    has_each_count(&rt, &ROOM_EVENTS, 300);
+}
+
+#[test]
+fn thousands_of_events_of_a_room(rt: HostRuntime) {
+    has_multiples(&rt, &ROOM_EVENTS, 1_000, 16);
+}
+
+const QUEUE_EVENTS: Row<'static> = (
+    EVENTS,
+    r#"{"object":"queue","size":1,"seats":1,"events":["#,
+    r#"[0,"delete"]"#,
+    "]}",
+    16_384,
+    Field::Events,
+);
+
+#[test]
+fn many_counts_of_events_of_a_queue(rt: HostRuntime) {
+    has_powers(&rt, &QUEUE_EVENTS);
+    has_each_count(&rt, &QUEUE_EVENTS, 300);
+}
+
+#[test]
+fn thousands_of_events_of_a_queue(rt: HostRuntime) {
+    has_multiples(&rt, &QUEUE_EVENTS, 1_000, 16);
 }
 
 /// The text before the processes at the start, in a script of this many slots.
