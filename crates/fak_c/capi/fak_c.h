@@ -100,10 +100,10 @@ enum {
  *
  * Each kind has a call that opens an object with a seat for each of the n handles that `seats` points to (1 to 1,024). A seat may
  * make `stint` calls (at least 1, and n times the stint is at most 2^50); a refused call does not count. No call renews a stint: after
- * FAK_C_WORN go on with another seat, or with a new object. A call that opens answers FAK_C_OK, FAK_C_BAD_LIMIT or FAK_C_MEMORY.
- * Where n is out of range it neither reads nor clears a handle. Else, where it is not FAK_C_OK, all n handles are empty. A seat
- * that a handle held before is given up in any case, in mid-call too, and then its cell is never used again: pass handles that are
- * empty. */
+ * FAK_C_WORN go on with another seat, or with a new object. A call that opens returns FAK_C_OK, FAK_C_BAD_LIMIT or FAK_C_MEMORY.
+ * If n is out of range it neither reads nor clears a handle. If it returns another code than FAK_C_OK for an n in range, all n
+ * handles are empty. A seat that a handle held before is given up, also during a call, and then its cell is never used again: pass
+ * empty handles. */
 
 /* Gives up the seat, of which no call is open, and which holds nothing of a room or a file table. The handle is empty then. The last
  * seat to leave frees the object, with the items that are still in it: these are numbers, so what they may point to is the caller's

@@ -225,7 +225,7 @@ static int32_t opened(fak_c_seat *seat, int kind) {
     }
 }
 
-/* A seat answers the calls of its own kind alone, and the others write nothing. An empty handle answers none. */
+/* A seat accepts only the calls of its own kind, and the others write nothing. An empty handle accepts none. */
 static void a_seat_has_one_kind(void) {
     static const int all[KINDS] = {QUEUE_CALLS, SEMAPHORE_CALLS, ROOM_CALLS, CREDIT_CALLS, FILES_CALLS};
     static int (*const refused[KINDS])(fak_c_seat *, outs *) = {refused_by_queues, refused_by_semaphores, refused_by_rooms,

@@ -1,6 +1,6 @@
 /* Large objects, in memory of the caller: each kind with up to 1,024 seats, queues of many cells, and 128 threads whose seats come
- * after the first 64. The word after the program's name is N, where the largest queue has 2^N cells. The program has no other heap
- * for the library. */
+ * after the first 64. The largest queue has 2^N cells; N is the word after the program's name. The
+ * program has no other heap for the library. */
 #include "block.h"
 #include "tests.h"
 

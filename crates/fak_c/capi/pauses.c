@@ -81,8 +81,8 @@ static double least_of(uint64_t size, double spin) {
     return (double)(cells * SPINS_FOR_A_CELL) * spin / 10;
 }
 
-/* Each trial has its pauses, and at least one of a few is short: the machine may have stopped the others. Pauses are only counted
- * where they take longer than calls that do not pause. */
+/* Each trial has its pauses, and at least one of a few is short: the machine may have stopped the others. A pause is only counted
+ * if it takes longer than a call that does not pause. */
 static void size_has_its_pauses(fak_c_seat *seats, bool pauses, double least, double quick) {
     double wanted = !pauses && least < quick ? quick : least;
     bool is_short = false;

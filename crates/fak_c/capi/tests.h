@@ -30,7 +30,8 @@ void each_code_is_answered(void);
 /* The same of semaphores, rooms, credits and file tables; and what each kind of seat answers to the calls of the others. */
 void each_kind_is_answered(void);
 
-/* Seats of a queue of each size that call by turns pause as long as they should; or not at all, where it has few cells or nothing spins. */
+/* Seats that call by turns pause as long as they should, at each size of a queue. They do not pause if the queue has few cells, or if
+ * nothing spins. */
 void pauses_have_their_length(bool spins);
 
 /* Each allocation of an opening fails in turn. */

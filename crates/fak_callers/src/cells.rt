@@ -52,7 +52,7 @@ pub fn who_calls_is_a_seat<T>()
 }
 
 /// While a call is open, the next steps of the queue's seats do not all leave their seats where they stand. Nor do those of the
-/// seats that hold a ticket of its cell, nor, where it holds none, does its own.
+/// seats that hold a ticket of its cell, nor does its own if it holds none.
 pub fn never_all_stuck<T>()
     ensures call { (key : QueueLimits) (s : State (Option T) (QueueView T)) (shown : IsShownQueue key s) (a : ℕ)
         → shown.core.phase a ≢ Idle

@@ -20,7 +20,7 @@ use fak_core::laws::progress::{
 use fak_core::laws::room::a_room_call_ends_in_three_steps;
 
 /// While a call is open, the next steps of all seats do not all leave their seats where they stand. Nor do those of the
-/// seats that hold a ticket of its cell, nor, where it holds none, does its own.
+/// seats that hold a ticket of its cell, nor does its own if it holds none.
 pub fn never_all_wait<T>()
     ensures call { (size : ℕ) (schedule : List (QueueEvent T)) (s : ℕ) → 0 < size
         → (reached size schedule).phase s ≢ Idle
