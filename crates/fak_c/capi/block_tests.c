@@ -1,6 +1,6 @@
 /* Objects in memory of the caller: each kind at the size that block.h says, and refused in less; the parts of a block; and threads
  * that leave objects of one block at once. The program has no other heap for the library. */
-#include "block.h"
+#include "objects.h"
 #include "tests.h"
 
 #include <pthread.h>
@@ -8,47 +8,19 @@
 #include <stdatomic.h>
 #include <string.h>
 
-enum { MOST_SEATS = 64, QUEUE = 0, SEMAPHORE, ROOM, CREDIT, FILES, KINDS };
+enum { MOST_SEATS = 64 };
 
 static _Alignas(16) unsigned char memory[1 << 20];
 static fak_c_seat seats[MOST_SEATS];
 
 /* ---- Sizes ---- */
 
-static size_t bytes_of(int kind, size_t n, uint64_t size) {
-    switch (kind) {
-    case QUEUE:
-        return FAK_C_QUEUE_BYTES(n, size);
-    case SEMAPHORE:
-        return FAK_C_SEM_BYTES(n, size);
-    case FILES:
-        return FAK_C_FILES_BYTES(n);
-    default:
-        return FAK_C_COUNT_BYTES(n);
-    }
-}
-
-static int32_t opened(int kind, size_t n, uint64_t size) {
-    switch (kind) {
-    case QUEUE:
-        return fak_c_open(seats, n, size, 1000);
-    case SEMAPHORE:
-        return fak_c_sem_open(seats, n, 0, size, 1000);
-    case ROOM:
-        return fak_c_room_open(seats, n, size, 1000);
-    case CREDIT:
-        return fak_c_credit_open(seats, n, size, 1000);
-    default:
-        return fak_c_files_open(seats, n, 16, 1000);
-    }
-}
-
 /* Opens within so many bytes; `used` is how many of them. */
 static int32_t opened_within(int kind, size_t n, uint64_t size, size_t bytes, size_t *used) {
     int32_t answer;
     fak_c_block_begin(memory, bytes);
     CHECK(fak_c_block_is_free(memory));
-    answer = opened(kind, n, size);
+    answer = opened(kind, seats, n, size, 1000);
     *used = fak_c_block_end();
     CHECK(*used <= bytes);
     return answer;
@@ -224,7 +196,7 @@ static void each_part_is_counted_once(void (*take)(void), void *(*give)(void *),
 }
 
 int main(void) {
-    CHECK(opened(QUEUE, 1, 1) == FAK_C_MEMORY);
+    CHECK(opened(QUEUE, seats, 1, 1, 1000) == FAK_C_MEMORY);
     printf("the largest object took %zu bytes\n", each_size_is_opened());
     parts_are_disjoint();
     for (int round = 0; round < ROUNDS; round++) {

@@ -42,7 +42,7 @@
  * first archive also memcpy and memset.
  *
  * What the calls take. Stack: below 256 bytes; below 1,536 in fak_c_leave; below 6,144 in a call that opens. Heap: 280 bytes a
- * seat, and beside its seats a queue 864 bytes and 24 a cell, a semaphore 1,192 bytes and 24 a cell of its wait queue, a room
+ * seat, and beside its seats a queue 856 bytes and 24 a cell, a semaphore 1,184 bytes and 24 a cell of its wait queue, a room
  * 344 bytes, a credit 336, and a file table 336 and 16 an entry; more while an object is opened (block.h). */
 #ifndef FAK_C_H
 #define FAK_C_H

@@ -1,46 +1,16 @@
 /* Large objects, in memory of the caller: each kind with up to 1,024 seats, queues of many cells, and 128 threads whose seats come
  * after the first 64. The largest queue has 2^N cells; N is the word after the program's name. The
  * program has no other heap for the library. */
-#include "block.h"
+#include "objects.h"
 #include "tests.h"
 
 #include <pthread.h>
 #include <sched.h>
 #include <stdatomic.h>
 
-enum { QUEUE, SEMAPHORE, ROOM, CREDIT, FILES, KINDS };
-
 static fak_c_seat seats[KINDS][LARGE_SEATS];
 
 /* ---- Openings ---- */
-
-static size_t bytes_of(int kind, size_t n, uint64_t size) {
-    switch (kind) {
-    case QUEUE:
-        return FAK_C_QUEUE_BYTES(n, size);
-    case SEMAPHORE:
-        return FAK_C_SEM_BYTES(n, size);
-    case FILES:
-        return FAK_C_FILES_BYTES(n);
-    default:
-        return FAK_C_COUNT_BYTES(n);
-    }
-}
-
-static int32_t opened(int kind, size_t n, uint64_t size, uint64_t stint) {
-    switch (kind) {
-    case QUEUE:
-        return fak_c_open(seats[kind], n, size, stint);
-    case SEMAPHORE:
-        return fak_c_sem_open(seats[kind], n, 0, size, stint);
-    case ROOM:
-        return fak_c_room_open(seats[kind], n, size, stint);
-    case CREDIT:
-        return fak_c_credit_open(seats[kind], n, size, stint);
-    default:
-        return fak_c_files_open(seats[kind], n, size % 16 + 1, stint);
-    }
-}
 
 static size_t used; /* of the last block */
 
@@ -48,7 +18,7 @@ static size_t used; /* of the last block */
 static int32_t opened_in(void *block, size_t bytes, int kind, size_t n, uint64_t size, uint64_t stint) {
     int32_t answer;
     fak_c_block_begin(block, bytes);
-    answer = opened(kind, n, size, stint);
+    answer = opened(kind, seats[kind], n, size, stint);
     used = fak_c_block_end();
     CHECK(used <= bytes);
     return answer;

@@ -195,8 +195,8 @@ static void takes(int32_t opened, size_t n, size_t bytes) {
 static void each_kind_takes_its_heap(size_t n) {
     static const uint64_t sizes[] = {1, 2, 7, 64, 1000, 4096, 65537};
     for (size_t i = 0; i < sizeof sizes / sizeof *sizes; i++) {
-        takes(fak_c_open(many, n, sizes[i], 1000), n, 864 + 24 * sizes[i]);
-        takes(fak_c_sem_open(many, n, 0, sizes[i], 1000), n, 1192 + 24 * sizes[i]);
+        takes(fak_c_open(many, n, sizes[i], 1000), n, 856 + 24 * sizes[i]);
+        takes(fak_c_sem_open(many, n, 0, sizes[i], 1000), n, 1184 + 24 * sizes[i]);
         takes(fak_c_room_open(many, n, sizes[i], 1000), n, 344);
         takes(fak_c_credit_open(many, n, sizes[i], 1000), n, 336);
     }

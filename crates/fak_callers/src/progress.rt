@@ -2,7 +2,6 @@
 
 ghost use Rattle.std.specs.Prelude.{◌≡◌, ◌≢◌, ℕ, ◌+◌, ◌*◌, ◌<◌, ◌≤◌, List, Some, length, min, replicate, slice_get};
 ghost use Rattle.std.specs.List.{All};
-ghost use Rattle.fak_core.specs.declared.queue.phase.Phase.{Phase};
 ghost use Rattle.fak_core.specs.declared.queue.phase.Phase.TheVariants.{BackLow, BackUp, Idle};
 ghost use Rattle.fak_core.specs.declared.room.phase.CoreSeat.{CoreSeat};
 ghost use Rattle.fak_core.specs.declared.room.phase.RoomPhase.TheVariants.{Backing, Releasing};

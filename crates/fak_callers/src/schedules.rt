@@ -1,6 +1,6 @@
 //! What follows of the marks that schedules of a queue core and of a room core leave.
 
-ghost use Rattle.std.specs.Prelude.{◌≡◌, ◌≢◌, ℕ, ◌+◌, ◌%◌, ◌<◌, ◌≤◌, List, All, None, Some, length, slice_get};
+ghost use Rattle.std.specs.Prelude.{◌≡◌, ◌≢◌, ℕ, ◌%◌, ◌<◌, ◌≤◌, List, All, None, Some, length, slice_get};
 ghost use Rattle.fak_core.specs.declared.queue.phase.Phase.TheVariants.{LoadItem, TicketOut};
 ghost use Rattle.fak_core.specs.declared.room.phase.CoreSeat.{CoreSeat};
 ghost use Rattle.fak_core.specs.QueueMoves as queue;

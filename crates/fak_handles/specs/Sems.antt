@@ -1,5 +1,5 @@
 -- Seats of semaphores: what is asked of the library, and what the exported functions answer.
-use Rattle.std.specs.Prelude.{◌≡◌, ◌≢◌, ◌+◌, ℕ, ℤ, pos, Bool, true, false, Option, Some, None, Result, Ok, Err, MatchOption, MatchResult}
+use Rattle.std.specs.Prelude.{◌≡◌, ◌≢◌, ◌+◌, ℕ, ℤ, pos, Bool, true, false, Option, Some, None, Result, Ok, Err, IfOk, MatchOption, MatchResult}
 use Rattle.std.specs.Arc.{arc_value}
 use Rattle.fak_count.specs.Credits.{calls_made}
 use Rattle.fak_count.specs.declared.fault.Worn.{Worn}
@@ -7,9 +7,9 @@ use Rattle.fak_sem.specs.declared.fault.SemWorn.{SemWorn}
 use Rattle.fak_sem.specs.declared.standing.Standing.TheVariants.{Idle}
 use Rattle.fak_sem.specs.declared.standing.StepState.{StepState}
 use Rattle.fak_sem.specs.declared.standing.StepState.TheVariants as step
-use Rattle.fak_sem.specs.Semaphores.{SemSeatInfo, Ups, credit_part}
+use Rattle.fak_sem.specs.Semaphores.{CountsDown, SemSeatInfo, Ups, credit_part}
 use Rattle.fak_sem.specs.Standings.{state_in, IsParking, IsWaking}
-use Rattle.fak_sem.specs.Steps.{BeginsDown, BeginsUp, IsWornStep, ParksOn, ParksSince, SameCredit, StandsAfter, WakesSince}
+use Rattle.fak_sem.specs.Steps.{BeginsDown, BeginsUp, ClaimsItemOnce, ClaimsRoomOnce, CountsAsBegun, IsWornStep, ParksOn, ParksSince, SameCredit, StandsAfter, StepsToPark, StepsToWake, WakesSince}
 use Rattle.fak_handles.specs.declared.semaphore.SemDesk.{SemDesk}
 
 abbrev pub SameSemaphore : SemDesk → SemDesk → Type 0
@@ -29,21 +29,27 @@ IsNotWaking d e = (IsWaking d.seat.standing → ⊥) × (e ≡ d)
 pub record AsksDown (who : ℕ) (answer : Result (Option ℕ) (SemWorn ℕ)) (d e : SemDesk) : Type 0 where
   pub idle : d.seat.standing ≡ Idle
   pub call : MatchResult answer (BeginsDown (arc_value d.semaphore) who d.seat e.seat) (λ worn. (worn.0 ≡ who) × IsWornStep d.seat e.seat)
+  pub claims : IfOk answer (ClaimsRoomOnce (arc_value d.semaphore) who d.seat e.seat)
+  pub counts : IfOk answer (CountsDown d.seat.seat e.seat.seat)
 
 pub record AsksUp (answer : Result Bool Worn) (d e : SemDesk) : Type 0 where
   pub idle : d.seat.standing ≡ Idle
   pub call : MatchResult answer (BeginsUp (arc_value d.semaphore) d.seat e.seat) (λ _. IsWornStep d.seat e.seat)
+  pub claims : IfOk answer (ClaimsItemOnce (arc_value d.semaphore) d.seat e.seat)
+  pub counts : IfOk answer (CountsAsBegun d.seat.seat e.seat.seat)
 
 pub record AsksToPark (done : Bool) (d e : SemDesk) : Type 0 where
   pub parking : IsParking d.seat.standing
   pub stands : StandsAfter e.seat.standing done
   pub credit : SameCredit d.seat e.seat
+  pub step : StepsToPark (arc_value d.semaphore) d.seat e.seat done
   pub call : (began : SemSeatInfo ℕ) (who : ℕ) → ParksSince (arc_value d.semaphore) who began d.seat → ParksOn (arc_value d.semaphore) who began e.seat done
 
 pub record AsksToWake (answer : Option ℕ) (d e : SemDesk) : Type 0 where
   pub waking : IsWaking d.seat.standing
   pub stands : MatchOption answer (IsWaking e.seat.standing) (λ _. e.seat.standing ≡ Idle)
   pub credit : SameCredit d.seat e.seat
+  pub step : StepsToWake (arc_value d.semaphore) d.seat e.seat answer
   pub call : (began : SemSeatInfo ℕ) → WakesSince (arc_value d.semaphore) began d.seat
       → MatchOption answer (WakesSince (arc_value d.semaphore) began e.seat) (λ woken. Ups (arc_value d.semaphore) began e.seat.seat (Some woken))
 

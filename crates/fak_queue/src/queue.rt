@@ -387,7 +387,7 @@ impl<T: Drop> Queue<T> {
     }
 
     /// Leaves the queue to others for a while, where since the seat's last pause a call has found that others use it too. It
-    /// spins, for some 40 microseconds at most, and waits for nobody.
+    /// spins, for some 40 microseconds at most in code that LLVM builds, and waits for nobody.
     ///
     /// `insert`, `delete` and the calls that wait begin so by themselves, unless `Seat::set_pauses_in_calls` says that they
     /// don't. Claims never pause. No contract sees a pause.

@@ -4,7 +4,6 @@ ghost use Rattle.std.specs.Prelude.{◌≡◌, ◌≢◌, ℕ, ◌≤◌, List, 
 ghost use Rattle.std.specs.List.{All};
 ghost use Rattle.std.specs.List.Sorted.{IsPermutation};
 ghost use Rattle.fak_model.specs.declared.file.FileEntry.{FileEntry};
-ghost use Rattle.fak_text.specs.Journal.{Process};
 ghost use Rattle.fak_text.specs.Script.{IsInRange, ScriptOf};
 ghost use Rattle.fak_run.specs.Examples.{ping_pong};
 ghost use Rattle.fak_run.specs.Ledger.{Balanced, FitsRow, Ledger, joined};

@@ -1,9 +1,9 @@
 //! What callers conclude of turns.
 
-ghost use Rattle.std.specs.Prelude.{◌≡◌, ◌≢◌, ℕ, false, true, List, [], ◌++◌, ◌∷◌, slice_index, slice_index_or, Some};
+ghost use Rattle.std.specs.Prelude.{◌≡◌, ◌≢◌, ℕ, false, true, List, [], ◌++◌, ◌∷◌, slice_index_or, Some};
 ghost use Rattle.fak_text.specs.Journal.{StandsAt, downed, no_birth, upped};
 ghost use Rattle.fak_text.specs.Script.{ScriptOf, StepOf, down, say, spawn, up, yield};
-ghost use Rattle.fak_run.specs.ListScheduler.{Lists, Turn, enter_ready, make, step, turn_over};
+ghost use Rattle.fak_run.specs.ListScheduler.{Lists, Turn, make, step, turn_over};
 ghost use Rattle.fak_run.specs.SmallSteps.{on_turn, turn_after};
 
 use fak_run::laws::small_steps::{

@@ -1,6 +1,5 @@
 //! What a thread does with a port of a queue.
 
-ghost use Rattle.std.specs.Prelude.{◌≡◌};
 ghost use Rattle.fak_queue.specs.Queues.{IsIdleSeat};
 
 use crate::crew::Seen;

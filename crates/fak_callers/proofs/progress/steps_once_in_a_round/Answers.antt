@@ -1,5 +1,5 @@
-use Rattle.std.proofs.Common.{◌≡◌, ◌+◌, ◌-◌, ℕ, Option, Some, ap, sym, ◌∙◌, subst, arith, slice_get}
-use Rattle.fak_core.specs.QueueProgress.{round_robin, seat_of}
+use Rattle.std.proofs.Common.{◌≡◌, ◌-◌, ℕ, Option, Some, ap, sym, ◌∙◌, arith, slice_get}
+use Rattle.fak_core.specs.QueueProgress.{round_robin}
 use Rattle.fak_core.specs.QueueSchedule.{QueueEvent, Advances}
 use Rattle.fak_callers.proofs.progress.steps_once_in_a_round.Goals as goal
 

@@ -1,0 +1,40 @@
+/* Objects of each kind, for the tests that open all of them in memory of the caller. */
+#ifndef FAK_C_OBJECTS_H
+#define FAK_C_OBJECTS_H
+
+#include "block.h"
+
+enum { QUEUE, SEMAPHORE, ROOM, CREDIT, FILES, KINDS };
+
+/* The bytes that block.h says for an object of n seats. The size is the cells of a queue, or of a semaphore's wait queue. */
+static inline size_t bytes_of(int kind, size_t n, uint64_t size) {
+    switch (kind) {
+    case QUEUE:
+        return FAK_C_QUEUE_BYTES(n, size);
+    case SEMAPHORE:
+        return FAK_C_SEM_BYTES(n, size);
+    case FILES:
+        return FAK_C_FILES_BYTES(n);
+    default:
+        return FAK_C_COUNT_BYTES(n);
+    }
+}
+
+/* Opens an object with these n seats. A room is opened with the size as its bound, a credit as its count, and a file table has 16
+ * entries. */
+static inline int32_t opened(int kind, fak_c_seat *seats, size_t n, uint64_t size, uint64_t stint) {
+    switch (kind) {
+    case QUEUE:
+        return fak_c_open(seats, n, size, stint);
+    case SEMAPHORE:
+        return fak_c_sem_open(seats, n, 0, size, stint);
+    case ROOM:
+        return fak_c_room_open(seats, n, size, stint);
+    case CREDIT:
+        return fak_c_credit_open(seats, n, size, stint);
+    default:
+        return fak_c_files_open(seats, n, 16, stint);
+    }
+}
+
+#endif
