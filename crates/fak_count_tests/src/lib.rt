@@ -8,6 +8,8 @@ mod counted;
 #[cfg(test)]
 mod credits;
 #[cfg(test)]
+mod large;
+#[cfg(test)]
 mod openings;
 #[cfg(test)]
 mod prints;

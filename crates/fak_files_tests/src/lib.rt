@@ -6,6 +6,8 @@
 mod assertions;
 mod calls;
 #[cfg(test)]
+mod large;
+#[cfg(test)]
 mod openings;
 #[cfg(test)]
 mod prints;

@@ -7,6 +7,8 @@ mod assertions;
 #[cfg(test)]
 mod bounded;
 #[cfg(test)]
+mod large;
+#[cfg(test)]
 mod openings;
 mod rows;
 #[cfg(test)]
