@@ -30,6 +30,7 @@ pub mod CheckerPast
 pub mod CheckerCounts
 pub mod CheckerFaults
 pub mod RunningViews
+pub mod RunningBlocks
 pub mod RunningSteps
 pub mod RunningSeats
 pub mod RunningCalls

@@ -3,7 +3,8 @@ use Rattle.fak_model.proofs.Common.{some, some-injective, some-ne-none, get_elem
 use Rattle.fak_model.specs.Shown.{Object, total, IsShown, Hears}
 use Rattle.fak_model.proofs.Seats.{in_either}
 use Rattle.fak_model.proofs.RunningViews.{sees_all, sees_nothing, sees_fewer, first_in, later_in, in_names_from, sees_lawful, sees_named, Compared, compared}
-use Rattle.fak_model.proofs.RunningSteps.{total_set, total_at, each_set, set_found, AreLawful}
+use Rattle.fak_model.proofs.RunningBlocks.{total_set, total_at, each_set, AreLawful}
+use Rattle.fak_model.proofs.RunningSteps.{set_found}
 
 -- ---- lists
 

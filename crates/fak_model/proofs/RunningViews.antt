@@ -28,11 +28,6 @@ module _ {M : Type 0} (seat_of : M → ℕ) where
   foreign_both a b [] f g = tt
   foreign_both a b (m ∷ h) f g = ((λ i. elim (in_either (seat_of m) a b i) [ inl x ↦ f.0 x | inr x ↦ g.0 x ]), foreign_both a b h f.1 g.1)
 
-  -- the marks of a name that is not among these
-  pub foreign_own : (names : List ℕ) (n : ℕ) (new : List M) → (In n names → ⊥) → AreOwn seat_of n new → Foreign seat_of names new
-  foreign_own names n [] apart own = tt
-  foreign_own names n (m ∷ new) apart own = ((λ i. apart (subst (λ (k : ℕ). In k names) own.0 i)), foreign_own names n new apart own.1)
-
   -- ---- a step
 
   pub sees_all : (names : List ℕ) (past : List M) → Sees seat_of names past past
@@ -44,14 +39,6 @@ module _ {M : Type 0} (seat_of : M → ℕ) where
 
   pub sees_nothing : (past : List M) → Sees seat_of [] [] past
   sees_nothing past = record { between = past; is = sym (append-nil past); foreign = foreign_none past }
-
-  -- what another's step adds has no mark of these names
-  pub sees_other : (names : List ℕ) (seen past : List M) (n : ℕ) (new : List M) → (In n names → ⊥) → AreOwn seat_of n new → Sees seat_of names seen past → Sees seat_of names seen (new ++ past)
-  sees_other names seen past n new apart own s = record {
-    between = new ++ s.between;
-    is = ap (λ h. new ++ h) s.is ∙ sym (append_assoc new s.between seen);
-    foreign = foreign_append names new s.between (foreign_own names n new apart own) s.foreign;
-  }
 
   pub sees_fewer : (few names : List ℕ) (seen past : List M) → ((n : ℕ) → In n few → In n names) → Sees seat_of names seen past → Sees seat_of few seen past
   sees_fewer few names seen past among s = record { between = s.between; is = s.is; foreign = foreign_fewer few names s.between among s.foreign }

@@ -1,5 +1,5 @@
 -- What the views of a running object know, and how they are cut and joined. Pasts have the newest mark first.
-use Rattle.std.specs.Prelude.{ℕ, zero, suc, ◌-◌, ◌/◌, ◌≡◌, List, [], ◌∷◌, ◌++◌, cond, length, nat_lt, Some, None}
+use Rattle.std.specs.Prelude.{ℕ, zero, suc, ◌+◌, ◌-◌, ◌/◌, ◌≡◌, List, [], ◌∷◌, ◌++◌, cond, length, nat_lt, Some, None}
 use Rattle.fak_model.specs.declared.view.View.{View}
 use Rattle.fak_model.specs.Seats.{In, longer_of}
 
@@ -63,13 +63,13 @@ shorter_of s t = cond (nat_lt (length s) (length t)) s t
 abbrev pub shorter_names : {M P : Type 0} → View M P → View M P → List ℕ
 shorter_names v w = cond (nat_lt (length v.seen) (length w.seen)) v.names w.names
 
--- a join keeps both views' names, and what it compared
+-- a join keeps the names and the tickets of both views, and what it compared
 abbrev pub joined : {M P : Type 0} → View M P → View M P → View M P
 joined v w = record {
   names = v.names ++ w.names;
   seen = longer_of v.seen w.seen;
   phase = v.phase;
-  left = v.left;
+  left = v.left + w.left;
   told = shorter_of v.seen w.seen;
   told_names = shorter_names v w;
 }
