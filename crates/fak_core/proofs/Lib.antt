@@ -10,6 +10,9 @@ pub mod QueueTurns
 pub mod QueueOwners
 pub mod QueueSteps
 pub mod QueueReached
+pub mod QueueBlocks
+pub mod InsertionBlocks
+pub mod DeletionBlocks
 pub mod QueueLoads
 pub mod QueueSound
 pub mod QueueCalls

@@ -3,6 +3,7 @@ pub mod RoomSchedule
 pub mod RoomProgress
 pub mod QueueMoves
 pub mod QueueSchedule
+pub mod QueueBlocks
 pub mod QueueFields
 pub mod QueueWords
 pub mod QueueProgress
