@@ -8,4 +8,5 @@ pub mod QueueFields
 pub mod QueueWords
 pub mod QueueProgress
 pub mod ProgressExamples
+pub mod BlockExamples
 pub mod Equality

@@ -1,5 +1,6 @@
-//! Known cases on either side of the definitions of progress.
+//! Known cases on either side of the definitions of progress and of blocks.
 
+pub mod blocks;
 pub mod room;
 
 ghost use Rattle.std.specs.Prelude.{◌≡◌, ◌<◌, ℕ, [], ◌∷◌};
