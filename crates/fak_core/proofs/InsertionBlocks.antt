@@ -3,7 +3,7 @@ use Rattle.fak_model.specs.declared.queue.Kind.TheVariants as made
 use Rattle.fak_model.specs.Seats.{In}
 use Rattle.std.proofs.lemmas.List.{length-append, length-take, length-drop, take-append-drop}
 use Rattle.std.specs.Prelude.{take, drop}
-use Rattle.fak_core.proofs.Common.{Phase, Idle, TestUp, AddUp, BackUp, TicketIn, TurnIn, EndInsert, QueueState, QueueMove, Kind, Mark, ◌≡◌, ◌⊎◌, ℕ, ◌+◌, ◌-◌, Bool, true, false, List, [], ◌∷◌, ◌++◌, length, refl, sym, ap, ◌∙◌, subst, inl, inr, arith, ℤ, pos, ◌+ℤ◌, ◌-ℤ◌, ◌≤ℤ◌, int_lt, ints, min, moved, move_from, with_phase, common_steps}
+use Rattle.fak_core.proofs.Common.{Phase, Idle, TestUp, AddUp, BackUp, TicketIn, TurnIn, EndInsert, QueueState, QueueMove, Kind, Mark, ◌≡◌, ◌⊎◌, ℕ, ◌+◌, ◌-◌, true, false, List, [], ◌∷◌, ◌++◌, length, refl, sym, ap, ◌∙◌, subst, inl, inr, arith, ℤ, pos, ◌+ℤ◌, ◌-ℤ◌, ◌≤ℤ◌, int_lt, ints, min, moved, move_from, with_phase, common_steps}
 use Rattle.fak_core.proofs.QueueSteps.{by_test}
 use Rattle.fak_core.proofs.QueueBlocks.{names-append, names-at, names-turns, apart_left, apart_right, apart_both, first_apart, block-append, at-append, no_more, one_more, both_more, no_less, one_less, changes_then, changes_none, counts_as, one_step, one_test, no_items, not_both}
 use Rattle.fak_core.specs.QueueBlocks.{names_of, AreApart, block, all_at, turns_from, marks_back, Changes, tested, AreTested, Grants, after_adds, AreAdded, AreLate, AreWithdrawn, AreDrawn, AreEnded}

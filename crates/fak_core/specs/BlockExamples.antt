@@ -2,7 +2,7 @@
 use Rattle.std.specs.Prelude.{ℕ, pos, List, [], ◌∷◌}
 use Rattle.fak_core.specs.QueueMoves.{QueueState}
 use Rattle.fak_core.specs.QueueSchedule.{opening}
-use Rattle.fak_core.specs.QueueBlocks.{after_adds, after_backs, after_draws, block, tested}
+use Rattle.fak_core.specs.QueueBlocks.{after_adds, after_backs, after_draws, tested}
 
 -- seats 0, 1 and 2 with an item each, and parts of them
 abbrev pub three : List (ℕ × ℕ)

@@ -1,5 +1,5 @@
 -- What views know after a step of their own or of another, and when two are joined.
-use Rattle.fak_model.proofs.Common.{nat_tests, All-head, All-tail, Rules, IsHistory, AreNamed, Begins, In, IsWhole, longer_of, ◌≡◌, ℕ, zero, suc, ◌+◌, ◌<◌, ◌≤◌, true, false, Bool, cond, nat_lt, List, [], ◌∷◌, ◌++◌, length, length-append, refl, ap, sym, ◌∙◌, subst, arith, inl, inr, append_assoc, reverse, All, Foreign, AreOwn, Sees, names_from, first_name, later_names, shorter_of, common_steps}
+use Rattle.fak_model.proofs.Common.{nat_tests, All-head, All-tail, Rules, IsHistory, AreNamed, Begins, In, IsWhole, longer_of, ◌≡◌, ℕ, zero, suc, ◌+◌, ◌<◌, ◌≤◌, true, false, Bool, cond, nat_lt, List, [], ◌∷◌, ◌++◌, length, length-append, refl, ap, sym, ◌∙◌, subst, arith, inl, inr, reverse, All, Foreign, Sees, names_from, first_name, later_names, shorter_of, common_steps}
 use Rattle.std.proofs.lemmas.List.{append-nil, reverse-append}
 use Rattle.fak_model.proofs.Seats.{in_either, seen_lawful}
 use Rattle.fak_model.proofs.Reversing.{All-reverse}
