@@ -7,7 +7,7 @@ use Rattle.fak_core.proofs.QueueTurns.{at_here, at_else}
 use Rattle.fak_core.proofs.QueueReached.{goes_on}
 use Rattle.fak_core.specs.QueueSchedule.{QueueEvent, after_step, begun, happens, run, stepped}
 use Rattle.fak_core.specs.QueueMoves.{next_move, with_phase}
-use Rattle.fak_core.specs.QueueBlocks.{Posts, names_of, AreApart, Stand, block, tested, tested_low, steps_of, insertions_tested, deletions_tested, LeadTo, all_at, turns_from, turns_out_from, Changes}
+use Rattle.fak_core.specs.QueueBlocks.{Posts, names_of, AreApart, Stand, block, tested, tested_low, next_steps, insertion_tests, deletion_tests, LeadTo, all_at, turns_from, turns_out_from, Changes}
 
 -- ---- names
 
@@ -67,15 +67,15 @@ leads_on : {A : Type 0} (size : ℕ) (st : QueueState A) (events : List (QueueEv
 leads_on size st events after is = record { leads = is; reached = λ R. subst (IsReached size) is (reached_run size st events R) }
 
 module _ {A : Type 0} (size : ℕ) where
-  runs_block : (st : QueueState A) (ss : Posts A) → AreApart (names_of ss) → Stand st ss → run size (steps_of (names_of ss)) st ≡ block size st ss
+  runs_block : (st : QueueState A) (ss : Posts A) → AreApart (names_of ss) → Stand st ss → run size (next_steps (names_of ss)) st ≡ block size st ss
   runs_block st [] apart all = refl
   runs_block st (s ∷ ss) apart all =
       let c = move_from size st s.0 s.1 in
       let still : Stand c ss = stand_else st c s.0 ss (λ k ne. stays_after st s.0 k (next_move size st s.1) ne) apart.0 all.1 in
-      ap (λ p. run size (steps_of (names_of ss)) (move_from size st s.0 p)) all.0 ∙ runs_block c ss apart.1 still
+      ap (λ p. run size (next_steps (names_of ss)) (move_from size st s.0 p)) all.0 ∙ runs_block c ss apart.1 still
 
-  pub block_leads : (st : QueueState A) (ss : Posts A) → AreApart (names_of ss) → Stand st ss → LeadTo size st (steps_of (names_of ss)) (block size st ss)
-  block_leads st ss apart all = leads_on size st (steps_of (names_of ss)) (block size st ss) (runs_block st ss apart all)
+  pub block_leads : (st : QueueState A) (ss : Posts A) → AreApart (names_of ss) → Stand st ss → LeadTo size st (next_steps (names_of ss)) (block size st ss)
+  block_leads st ss apart all = leads_on size st (next_steps (names_of ss)) (block size st ss) (runs_block st ss apart all)
 
   pub reached_block : (st : QueueState A) (ss : Posts A) → IsReached size st → AreApart (names_of ss) → Stand st ss → IsReached size (block size st ss)
   reached_block st ss R apart all = (block_leads st ss apart all).reached R
@@ -91,25 +91,25 @@ module _ {A : Type 0} (size : ℕ) where
       stand_else st (move_from size b n p) n (all_at (λ (x : B). Idle) ss) (λ k ne. stays_after b n k (next_move size b p) ne ∙ at_else st.phase n k p ne)
       (λ i. out (subst (In n) (names-at {A = A} (λ (x : B). Idle) ss) i)) all
 
-  runs_tests : (st : QueueState A) (ss : List (ℕ × A)) → AreApart (names_of ss) → Stand st (all_at (λ x. Idle) ss) → run size (insertions_tested ss) st ≡ tested size st ss
+  runs_tests : (st : QueueState A) (ss : List (ℕ × A)) → AreApart (names_of ss) → Stand st (all_at (λ x. Idle) ss) → run size (insertion_tests ss) st ≡ tested size st ss
   runs_tests st [] apart all = refl
   runs_tests st (s ∷ ss) apart all =
       let p = TestUp s.1 in
-      ap (run size (insertions_tested ss)) (begins_and_steps st s.0 p all.0) ∙ runs_tests (move_from size (with_phase st s.0 p) s.0 p) ss apart.1 (idle_still st s.0 p ss apart.0 all.1)
+      ap (run size (insertion_tests ss)) (begins_and_steps st s.0 p all.0) ∙ runs_tests (move_from size (with_phase st s.0 p) s.0 p) ss apart.1 (idle_still st s.0 p ss apart.0 all.1)
 
-  pub tests_lead : (st : QueueState A) (ss : List (ℕ × A)) → AreApart (names_of ss) → Stand st (all_at (λ x. Idle) ss) → LeadTo size st (insertions_tested ss) (tested size st ss)
-  tests_lead st ss apart all = leads_on size st (insertions_tested ss) (tested size st ss) (runs_tests st ss apart all)
+  pub tests_lead : (st : QueueState A) (ss : List (ℕ × A)) → AreApart (names_of ss) → Stand st (all_at (λ x. Idle) ss) → LeadTo size st (insertion_tests ss) (tested size st ss)
+  tests_lead st ss apart all = leads_on size st (insertion_tests ss) (tested size st ss) (runs_tests st ss apart all)
 
   pub reached_tests : (st : QueueState A) (ss : List (ℕ × A)) → IsReached size st → AreApart (names_of ss) → Stand st (all_at (λ x. Idle) ss) → IsReached size (tested size st ss)
   reached_tests st ss R apart all = (tests_lead st ss apart all).reached R
 
-  runs_tests_low : {B : Type 0} (st : QueueState A) (ss : List (ℕ × B)) → AreApart (names_of ss) → Stand st (all_at (λ x. Idle) ss) → run size (deletions_tested (names_of ss)) st ≡ tested_low size st ss
+  runs_tests_low : {B : Type 0} (st : QueueState A) (ss : List (ℕ × B)) → AreApart (names_of ss) → Stand st (all_at (λ x. Idle) ss) → run size (deletion_tests (names_of ss)) st ≡ tested_low size st ss
   runs_tests_low st [] apart all = refl
   runs_tests_low st (s ∷ ss) apart all =
-      ap (run size (deletions_tested (names_of ss))) (begins_and_steps st s.0 TestLow all.0) ∙ runs_tests_low (move_from size (with_phase st s.0 TestLow) s.0 TestLow) ss apart.1 (idle_still st s.0 TestLow ss apart.0 all.1)
+      ap (run size (deletion_tests (names_of ss))) (begins_and_steps st s.0 TestLow all.0) ∙ runs_tests_low (move_from size (with_phase st s.0 TestLow) s.0 TestLow) ss apart.1 (idle_still st s.0 TestLow ss apart.0 all.1)
 
-  pub tests_low_lead : {B : Type 0} (st : QueueState A) (ss : List (ℕ × B)) → AreApart (names_of ss) → Stand st (all_at (λ x. Idle) ss) → LeadTo size st (deletions_tested (names_of ss)) (tested_low size st ss)
-  tests_low_lead st ss apart all = leads_on size st (deletions_tested (names_of ss)) (tested_low size st ss) (runs_tests_low st ss apart all)
+  pub tests_low_lead : {B : Type 0} (st : QueueState A) (ss : List (ℕ × B)) → AreApart (names_of ss) → Stand st (all_at (λ x. Idle) ss) → LeadTo size st (deletion_tests (names_of ss)) (tested_low size st ss)
+  tests_low_lead st ss apart all = leads_on size st (deletion_tests (names_of ss)) (tested_low size st ss) (runs_tests_low st ss apart all)
 
   pub reached_tests_low : {B : Type 0} (st : QueueState A) (ss : List (ℕ × B)) → IsReached size st → AreApart (names_of ss) → Stand st (all_at (λ x. Idle) ss) → IsReached size (tested_low size st ss)
   reached_tests_low st ss R apart all = (tests_low_lead st ss apart all).reached R

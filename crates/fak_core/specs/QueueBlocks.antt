@@ -69,17 +69,17 @@ tested_low size st [] = st
 tested_low size st (s ∷ seats) = tested_low size (move_from size (with_phase st s.0 TestLow) s.0 TestLow) seats
 
 -- the events of these blocks
-abbrev pub steps_of : {A : Type 0} → List ℕ → List (QueueEvent A)
-steps_of [] = []
-steps_of (n ∷ names) = Advances n ∷ steps_of names
+abbrev pub next_steps : {A : Type 0} → List ℕ → List (QueueEvent A)
+next_steps [] = []
+next_steps (n ∷ names) = Advances n ∷ next_steps names
 
-abbrev pub insertions_tested : {A : Type 0} → List (ℕ × A) → List (QueueEvent A)
-insertions_tested [] = []
-insertions_tested (s ∷ seats) = Inserts s.0 s.1 ∷ Advances s.0 ∷ insertions_tested seats
+abbrev pub insertion_tests : {A : Type 0} → List (ℕ × A) → List (QueueEvent A)
+insertion_tests [] = []
+insertion_tests (s ∷ seats) = Inserts s.0 s.1 ∷ Advances s.0 ∷ insertion_tests seats
 
-abbrev pub deletions_tested : {A : Type 0} → List ℕ → List (QueueEvent A)
-deletions_tested [] = []
-deletions_tested (n ∷ names) = Deletes n ∷ Advances n ∷ deletions_tested names
+abbrev pub deletion_tests : {A : Type 0} → List ℕ → List (QueueEvent A)
+deletion_tests [] = []
+deletion_tests (n ∷ names) = Deletes n ∷ Advances n ∷ deletion_tests names
 
 -- these events lead from one state to another, which is a reached state if the first is
 pub record LeadTo {A : Type 0} (size : ℕ) (st : QueueState A) (events : List (QueueEvent A)) (after : QueueState A) : Type 0 where

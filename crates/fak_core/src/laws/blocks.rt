@@ -3,7 +3,7 @@
 
 ghost use Rattle.std.specs.Prelude.{◌≡◌, ℕ, ◌-◌, ◌<◌, ◌≤ℤ◌, ◌++◌, List, [], drop, false, int_lt, pos, take, true};
 ghost use Rattle.fak_core.specs.declared.queue.phase.Phase.TheVariants.{AddUp, Idle, SubLow, TicketOut};
-ghost use Rattle.fak_core.specs.QueueBlocks.{AreAdded, AreApart, AreDrawn, AreDrawnOut, AreEnded, AreEndedOut, AreLate, AreSubtracted, AreTested, AreTestedLow, AreWithdrawn, AreWithdrawnOut, Grants, GrantsLow, LeadTo, Posts, Stand, all_at, block, deletions_tested, insertions_tested, marks_back, names_of, steps_of, tested, tested_low};
+ghost use Rattle.fak_core.specs.QueueBlocks.{AreAdded, AreApart, AreDrawn, AreDrawnOut, AreEnded, AreEndedOut, AreLate, AreSubtracted, AreTested, AreTestedLow, AreWithdrawn, AreWithdrawnOut, Grants, GrantsLow, LeadTo, Posts, Stand, all_at, block, deletion_tests, insertion_tests, marks_back, names_of, next_steps, tested, tested_low};
 ghost use Rattle.fak_core.specs.QueueMoves.{QueueState};
 ghost use Rattle.fak_core.specs.QueueSchedule.{IsReached};
 ghost use Rattle.fak_model.specs.declared.queue.Kind.TheVariants.{Closed, NoItem, NoRoom};
@@ -12,12 +12,12 @@ ghost use Rattle.fak_model.specs.declared.queue.Kind.TheVariants.{Closed, NoItem
 /// and the first step of each. So a block leads from a reached state to a reached state.
 pub fn a_block_is_part_of_a_schedule<T, B>()
     ensures steps { (size : ℕ) (st : QueueState T) (seats : Posts T) → AreApart (names_of seats) → Stand st seats
-        → LeadTo size st (steps_of (names_of seats)) (block size st seats) }
+        → LeadTo size st (next_steps (names_of seats)) (block size st seats) }
     ensures insertions { (size : ℕ) (st : QueueState T) (seats : List (ℕ × T)) → AreApart (names_of seats)
-        → Stand st (all_at (λ x. Idle) seats) → LeadTo size st (insertions_tested seats) (tested size st seats) }
+        → Stand st (all_at (λ x. Idle) seats) → LeadTo size st (insertion_tests seats) (tested size st seats) }
     ensures deletions { (size : ℕ) (st : QueueState T) (seats : List (ℕ × B)) → AreApart (names_of seats)
         → Stand st (all_at (λ x. Idle) seats)
-        → LeadTo size st (deletions_tested (names_of seats)) (tested_low size st seats) }
+        → LeadTo size st (deletion_tests (names_of seats)) (tested_low size st seats) }
 {}
 
 /// One load of the upper count tests for several insertions: all go on where there is room, and else all are refused.

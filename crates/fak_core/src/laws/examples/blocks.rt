@@ -3,14 +3,14 @@
 ghost use Rattle.std.specs.Prelude.{◌≡◌, ℕ, pos, Some, true, [], ◌∷◌};
 ghost use Rattle.fak_core.specs.BlockExamples.{added, drawn, first_two, last_one, one_left, three, to_add};
 ghost use Rattle.fak_core.specs.declared.queue.phase.Phase.TheVariants.{AddUp, Idle, TurnIn, TurnOut};
-ghost use Rattle.fak_core.specs.QueueBlocks.{AreApart, ArePut, Changes, Grants, GrantsLow, LeadTo, Stand, all_at, deletions_tested, insertions_tested, marks_back, names_of, steps_of, tested_low, turns_from, turns_out_from};
+ghost use Rattle.fak_core.specs.QueueBlocks.{AreApart, AreDrawnOut, ArePut, Changes, Grants, GrantsLow, LeadTo, Stand, all_at, deletion_tests, insertion_tests, marks_back, names_of, next_steps, tested_low, turns_from, turns_out_from};
 ghost use Rattle.fak_core.specs.QueueMoves.{history_of, with_at};
 ghost use Rattle.fak_core.specs.QueueSchedule.{Advances, Deletes, Inserts, opening};
 ghost use Rattle.fak_model.specs.Examples.{by};
 ghost use Rattle.fak_model.specs.declared.queue.Kind.TheVariants.{BackIn, ClaimIn, NoItem, OverIn, Put};
 
 /// Three seats with an item each: where they stand, which tickets they draw from 4 on, and their marks, the newest first. A
-/// name that stands twice is not apart.
+/// name that stands twice is not apart. After 10 and 11 were put, the first two deletions get 10 and 11.
 pub fn the_seats_of_a_block_are_judged()
     ensures names { names_of three ≡ 0 ∷ 1 ∷ 2 ∷ [] }
     ensures apart { AreApart (0 ∷ 1 ∷ 2 ∷ []) × (AreApart (0 ∷ 1 ∷ 0 ∷ []) → ⊥) × (AreApart (0 ∷ 1 ∷ 1 ∷ []) → ⊥) }
@@ -24,6 +24,7 @@ pub fn the_seats_of_a_block_are_judged()
     ensures put { ArePut drawn.past 0 first_two }
     ensures next { ArePut drawn.past 1 first_two → ⊥ }
     ensures beyond { ArePut drawn.past 0 three → ⊥ }
+    ensures got { (both : AreDrawnOut {B = ℕ} 2 drawn ((4, 0) ∷ (5, 0) ∷ [])) → both.items ≡ (4, 10) ∷ (5, 11) ∷ [] }
 {}
 
 /// One load for three, one add of 3 for two cells, the withdrawal of the third and the draws of the others: the counts and
@@ -34,11 +35,11 @@ pub fn the_steps_of_a_block_are_judged()
     ensures draws { (drawn.upper ≡ pos 2) × (drawn.draws_in ≡ 2) × (history_of drawn ≡
         by 0 ClaimIn ∷ by 1 ClaimIn ∷ by 2 OverIn ∷ by 2 BackIn ∷ by 0 (Put 10) ∷ by 1 (Put 11) ∷ []) }
     ensures tests_low { history_of (tested_low 2 opening three) ≡ by 0 NoItem ∷ by 1 NoItem ∷ by 2 NoItem ∷ [] }
-    ensures steps { steps_of {A = ℕ} (0 ∷ 1 ∷ []) ≡ Advances 0 ∷ Advances 1 ∷ [] }
-    ensures insertions { insertions_tested first_two ≡ Inserts 0 10 ∷ Advances 0 ∷ Inserts 1 11 ∷ Advances 1 ∷ [] }
-    ensures deletions { deletions_tested {A = ℕ} (0 ∷ 1 ∷ []) ≡ Deletes 0 ∷ Advances 0 ∷ Deletes 1 ∷ Advances 1 ∷ [] }
-    ensures lead { LeadTo 2 opening (insertions_tested three) to_add }
-    ensures astray { LeadTo 2 opening (insertions_tested first_two) to_add → ⊥ }
+    ensures steps { next_steps {A = ℕ} (0 ∷ 1 ∷ []) ≡ Advances 0 ∷ Advances 1 ∷ [] }
+    ensures insertions { insertion_tests first_two ≡ Inserts 0 10 ∷ Advances 0 ∷ Inserts 1 11 ∷ Advances 1 ∷ [] }
+    ensures deletions { deletion_tests {A = ℕ} (0 ∷ 1 ∷ []) ≡ Deletes 0 ∷ Advances 0 ∷ Deletes 1 ∷ Advances 1 ∷ [] }
+    ensures lead { LeadTo 2 opening (insertion_tests three) to_add }
+    ensures astray { LeadTo 2 opening (insertion_tests first_two) to_add → ⊥ }
 {}
 
 /// In an empty queue of two cells the first two of three adds are granted: no more, no fewer, and none where it is shut. With
