@@ -3,6 +3,7 @@
 //! The module `words` asks instead what the words of those laws say of known histories.
 #![tactic(auto)]
 
+pub mod blocks;
 pub mod cells;
 pub mod credits;
 pub mod files;
