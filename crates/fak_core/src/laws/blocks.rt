@@ -1,15 +1,15 @@
-//! Blocks: steps that several seats make in a row, one of each seat, for every size and state and items of any type. What one
-//! fetch-and-add of d to a count does, d such steps of d seats do.
+//! Blocks: steps that several seats make in a row, one of each seat, for every size and state and items of any type. A block of d
+//! seats changes a count as one fetch-and-add of d does.
 
-ghost use Rattle.std.specs.Prelude.{◌≡◌, ℕ, ◌-◌, ◌<◌, ◌≤ℤ◌, ◌++◌, List, [], drop, false, int_lt, pos, take, true};
+ghost use Rattle.std.specs.Prelude.{◌≡◌, ℕ, ◌-◌, ◌<◌, ◌<ℤ◌, ◌≤ℤ◌, ◌++◌, List, [], drop, false, pos, take, true};
 ghost use Rattle.fak_core.specs.declared.queue.phase.Phase.TheVariants.{AddUp, Idle, SubLow, TicketOut};
 ghost use Rattle.fak_core.specs.QueueBlocks.{AreAdded, AreApart, AreDrawn, AreDrawnOut, AreEnded, AreEndedOut, AreLate, AreSubtracted, AreTested, AreTestedLow, AreWithdrawn, AreWithdrawnOut, Grants, GrantsLow, LeadTo, Posts, Stand, all_at, block, deletion_tests, insertion_tests, marks_back, names_of, next_steps, tested, tested_low};
 ghost use Rattle.fak_core.specs.QueueMoves.{QueueState};
 ghost use Rattle.fak_core.specs.QueueSchedule.{IsReached};
 ghost use Rattle.fak_model.specs.declared.queue.Kind.TheVariants.{Closed, NoItem, NoRoom};
 
-/// A block is a part of a schedule: the next steps of its seats, in their order. Where seats are tested together, it is the begin
-/// and the first step of each. So a block leads from a reached state to a reached state.
+/// A block is part of a schedule: the next steps of its seats, in their order. Where seats are tested together, these are the
+/// begin and the first step of each. So a block leads from a reached state to a reached state.
 pub fn a_block_is_part_of_a_schedule<T, B>()
     ensures steps { (size : ℕ) (st : QueueState T) (seats : Posts T) → AreApart (names_of seats) → Stand st seats
         → LeadTo size st (next_steps (names_of seats)) (block size st seats) }
@@ -23,9 +23,9 @@ pub fn a_block_is_part_of_a_schedule<T, B>()
 /// One load of the upper count tests for several insertions: all go on where there is room, and else all are refused.
 pub fn one_load_tests_several_insertions<T>()
     ensures room { (size : ℕ) (st : QueueState T) (seats : List (ℕ × T)) → AreApart (names_of seats) → st.shut ≡ false
-        → int_lt st.upper (pos size) ≡ true → AreTested size st seats [] (λ x. AddUp x) }
+        → st.upper <ℤ pos size → AreTested size st seats [] (λ x. AddUp x) }
     ensures full { (size : ℕ) (st : QueueState T) (seats : List (ℕ × T)) → AreApart (names_of seats) → st.shut ≡ false
-        → int_lt st.upper (pos size) ≡ false → AreTested size st seats (marks_back (λ x. NoRoom) seats) (λ x. Idle) }
+        → pos size ≤ℤ st.upper → AreTested size st seats (marks_back (λ x. NoRoom) seats) (λ x. Idle) }
     ensures shut { (size : ℕ) (st : QueueState T) (seats : List (ℕ × T)) → AreApart (names_of seats) → st.shut ≡ true
         → AreTested size st seats (marks_back (λ x. Closed) seats) (λ x. Idle) }
 {}
@@ -55,9 +55,9 @@ pub fn one_add_moves_several_insertions_on<T>()
 /// One load of the lower count tests for several deletions: all go on where there is an item, and else all are refused.
 pub fn one_load_tests_several_deletions<T, B>()
     ensures stock { (size : ℕ) (st : QueueState T) (seats : List (ℕ × B)) → AreApart (names_of seats)
-        → int_lt (pos 0) st.lower ≡ true → AreTestedLow size st seats [] (λ x. SubLow) }
+        → pos 1 ≤ℤ st.lower → AreTestedLow size st seats [] (λ x. SubLow) }
     ensures empty { (size : ℕ) (st : QueueState T) (seats : List (ℕ × B)) → AreApart (names_of seats)
-        → int_lt (pos 0) st.lower ≡ false
+        → st.lower ≤ℤ pos 0
         → AreTestedLow size st seats (marks_back (λ x. NoItem) seats) (λ x. Idle) }
 {}
 
