@@ -4,6 +4,8 @@
 
 #[cfg(test)]
 mod assertions;
+#[cfg(test)]
+mod blocks;
 mod examples;
 #[cfg(test)]
 mod histories;

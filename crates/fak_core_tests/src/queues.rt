@@ -42,10 +42,10 @@ pub(crate) fn opened(rt: &(impl AllocGlobal + Abort), size: u64, seats: u64) -> 
 }
 
 /// A call that a seat begins, and the steps that are made after it.
-type Stretch<'a> = (u64, QueueCall, &'a [Step]);
+pub(crate) type Stretch<'a> = (u64, QueueCall, &'a [Step]);
 
 /// Opens a queue and plays a schedule on it, whose steps are to be these.
-fn plays(rt: &(impl AllocGlobal + Abort), size: u64, seats: u64, schedule: &[Stretch]) {
+pub(crate) fn plays(rt: &(impl AllocGlobal + Abort), size: u64, seats: u64, schedule: &[Stretch]) {
     let mut core = opened(rt, size, seats);
     for &(seat, call, trace) in schedule {
         begins(rt, &mut core, seat, call);
