@@ -1,6 +1,10 @@
 -- Each atomic step is one that the table's rule allows.
 use Rattle.fak_core.specs.declared.queue.phase.Phase.TheVariants.{Idle, AddUp, BackUp, TicketIn, TurnIn, StoreItem, EndInsert, SubLow, BackLow, TicketOut, TurnOut, LoadItem, EndDelete}
-use Rattle.fak_queue.proofs.Common.{UpperCount, QueueLimits, IsUpperCount, QueueHolder, queue_object, IsShownQueue, ◌≡◌, ℕ, ◌+◌, ◌-◌, ◌*◌, ◌/◌, ◌%◌, ◌^◌, ◌<◌, List, [], ◌∷◌, slice_index, sym, ap, ◌∙◌, subst, arith, bit_or, Option, Some, None, some, get_elem?, Allows, carried_after, Phase, TestedUp, TestsUp, AddedUp, AddsUp, BacksUp, DrewIn, DrawsIn, TurnedIn, TurnsIn, FilledCell, SetsFull, EndsIn, TestsLow, SubtractsLow, BacksLow, DrawsOut, TurnedOut, TurnsOut, FreedCell, SetsFree, EndsOut, Shuts, HeardJoin, Named, hears}
+use Rattle.fak_queue.proofs.Common.{UpperCount, QueueLimits, IsUpperCount, QueueHolder, queue_object, IsShownQueue, ◌≡◌, ℕ, ◌+◌, ◌-◌, ◌*◌, ◌/◌, ◌%◌, ◌^◌, ◌<◌, List, [], ◌∷◌, slice_index, sym, ap, ◌∙◌, subst, arith, bit_or, bias, ℤ, pos, ◌+ℤ◌, Option, Some, None, some, get_elem?, Allows, carried_after, Phase, TestedUp, TestsUp, AddedUp, AddsUp, BacksUp, DrewIn, DrawsIn, TurnedIn, TurnsIn, FilledCell, SetsFull, EndsIn, TestsLow, SubtractsLow, BacksLow, DrawsOut, TurnedOut, TurnsOut, FreedCell, SetsFree, EndsOut, Shuts, HeardJoin, Named, hears}
+use Rattle.fak_queue.specs.declared.in_use.InUse.{InUse}
+use Rattle.fak_queue.specs.Steps.{ObservedUp, ObservesUp, ObservedLow, ObservesLow}
+use Rattle.fak_queue.specs.Words.{IsInUse}
+use Rattle.fak_queue.proofs.Observations.{observes_up, observes_low, few_low}
 use Rattle.fak_queue.proofs.Stepping.{QueueTable, queue_law, Permits}
 use Rattle.fak_queue.proofs.InsertionSteps.{tests_up, adds_up, backs_up, draws_in, turns_in, stores_full, ends_in, shuts}
 use Rattle.fak_queue.proofs.DeletionSteps.{tests_low, subtracts_low, backs_low, draws_out, turns_out, stores_free, ends_out}
@@ -122,6 +126,24 @@ module _ {T : Type 0} (key : QueueLimits) (slots seats id n : ℕ) (m : QueueHol
 
   pub shuts_allowed : m.0.phase ≡ Some Idle → Allows (IsShownQueue key) slots id m 16 (λ w. bit_or w 9223372036854775808) (λ found after. Named m (λ k. Shuts slots seats k m found after))
   shuts_allowed e = named 16 (λ w. bit_or w 9223372036854775808) (λ k. Shuts slots seats k m) (of_step 16 (λ w. bit_or w 9223372036854775808) (λ z q. Shuts z q n m) (λ s r at size. shuts key s r id n m at one e))
+
+  pub observes_up_allowed : (p : Phase T) → m.0.phase ≡ Some p → Allows (IsShownQueue key) slots id m 16 (λ w. w) (λ found after. ObservesUp slots seats m found after)
+  observes_up_allowed p e = weaker 16 (λ w. w) (λ found after. (u : InUse) → IsInUse found u → ObservedUp slots seats p u m after) (ObservesUp slots seats m)
+      (λ found after told y it. subst (λ z. (u : InUse) → IsInUse found u → ObservedUp slots seats z u m after) (Some_same (sym e ∙ it)) told)
+      (of_step 16 (λ w. w) (λ z k found after. (u : InUse) → IsInUse found u → ObservedUp z k p u m after) (λ s r at size. observes_up key s r id n m at one p e))
+
+  pub observes_low_allowed : (p : Phase T) → m.0.phase ≡ Some p → Allows (IsShownQueue key) slots id m 32 (λ w. w) (λ found after. ObservesLow slots seats m found after)
+  observes_low_allowed p e s r wide at small =
+      let told = of_step 32 (λ w. w) (λ z k found after. (j : ℤ) → pos found ≡ pos bias +ℤ j → ObservedLow z k p j m after) (λ s r at size. observes_low key s r id n m at one p e) s r wide at small in (
+        told.0,
+        told.1,
+        told.2,
+        told.3,
+        record {
+          low = few_low key s r id n m at one;
+          observed = λ q it. subst (λ z. (j : ℤ) → pos (slice_index s.words 32) ≡ pos bias +ℤ j → ObservedLow slots seats z j m (told.0, carried_after m.1 told.1)) (Some_same (sym e ∙ it)) told.4;
+        },
+      )
 
 -- the load after a join
 pub hears_allowed : {T : Type 0} (key : QueueLimits) (slots seats id : ℕ) (m : QueueHolder T) (i : ℕ) → key.seats ≡ seats → Allows (IsShownQueue key) slots id m i (λ w. w) (λ _ after. HeardJoin slots seats m after)

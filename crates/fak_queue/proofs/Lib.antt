@@ -23,3 +23,5 @@ pub mod Tallies
 pub mod Shutting
 pub mod Leaving
 pub mod Closing
+pub mod Observations
+pub mod Draining

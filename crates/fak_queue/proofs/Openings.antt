@@ -2,7 +2,7 @@
 use Rattle.fak_core.specs.declared.queue.phase.Phase.TheVariants as phase
 use Rattle.fak_core.specs.QueueSchedule as core
 use Rattle.fak_model.proofs.Appending.{history_none}
-use Rattle.fak_queue.proofs.Common.{QueueLimits, AreWords, seat_of, idle, IsQueueSeat, queue_seat, ◌≡◌, ℕ, zero, suc, ◌+◌, ◌*◌, ◌<◌, ◌≤◌, false, List, [], ◌∷◌, length, slice_index, map, set, replicate, refl, sym, ◌∙◌, subst, inl, arith, length-set, get_or-set_other, None, pos, length-map, length-replicate, get_or-replicate, some, get_elem?, ObjectId, seat_info, sight, IsSeatToken, queue_rules, bias, opening, is_reached, QueueHolder, IsEncoded, queue_object, IsShownQueue, opened_queue, IsInLargeRange, IsLargeSize, common_steps, starts}
+use Rattle.fak_queue.proofs.Common.{QueueLimits, AreWords, seat_of, idle, IsQueueSeat, queue_seat, ◌≡◌, ℕ, zero, suc, ◌+◌, ◌*◌, ◌<◌, false, List, [], ◌∷◌, length, slice_index, map, set, replicate, refl, sym, ◌∙◌, subst, inl, arith, length-set, get_or-set_other, None, pos, length-map, length-replicate, get_or-replicate, some, get_elem?, ObjectId, seat_info, sight, IsSeatToken, queue_rules, bias, opening, is_reached, QueueHolder, IsEncoded, queue_object, IsShownQueue, opened_queue, IsInLargeRange, IsLargeSize, common_steps, starts}
 
 read_map : {A : Type 0} (n c : ℕ) (a : A) → c < n → get_elem? (map some (replicate n a)) c ≡ some (some a)
 read_map zero c a near = absurd (omega (arith, near))

@@ -8,3 +8,4 @@ pub mod Parts
 pub mod Left
 pub mod Rests
 pub mod Sums
+pub mod Drained

@@ -1,8 +1,9 @@
 -- The words of a queue's table.
-use Rattle.std.specs.Prelude.{◌≡◌, ℕ, ◌+◌, ◌<◌, ◌≤◌, Bool, true, false, List, length, slice_index, ℤ, pos, ◌+ℤ◌, Result, Ok, Err}
+use Rattle.std.specs.Prelude.{◌≡◌, ◌↔◌, ℕ, ◌+◌, ◌<◌, ◌≤◌, IsTrue, Bool, true, false, List, length, slice_index, ℤ, pos, ◌+ℤ◌, Result, Ok, Err}
 use Rattle.fak_model.specs.Words.{bias}
 use Rattle.fak_queue.specs.declared.found.NoRoom.{NoRoom}
 use Rattle.fak_queue.specs.declared.found.NoRoom.TheVariants.{Full, Shut}
+use Rattle.fak_queue.specs.declared.in_use.InUse.{InUse}
 
 -- the bit that a shut queue has in the word of its upper count: 2^63
 abbrev pub shut_bit : ℕ
@@ -55,3 +56,8 @@ IsUpperCount size found (Err Shut) = shut_bit ≤ found
 abbrev pub IsLowerCount : ℕ → LowerCount → Type 0
 IsLowerCount found (Ok stock) = bias < found
 IsLowerCount found (Err n) = (found ≤ bias) × (pos found ≡ pos bias +ℤ n)
+
+-- what a word of the upper count says to an observer
+pub record IsInUse (found : ℕ) (u : InUse) : Type 0 where
+  pub shut : IsTrue u.is_shut ↔ (shut_bit ≤ found)
+  pub count : pos found ≡ pos (shut_part u.is_shut + bias) +ℤ u.count

@@ -2,7 +2,7 @@
 
 pub mod examples;
 
-ghost use Rattle.std.specs.Prelude.{◌≡◌, ◌≢◌, ℕ, ◌<◌, ◌≤◌, ◌↔◌, Option, slice_index};
+ghost use Rattle.std.specs.Prelude.{◌≡◌, ◌≢◌, ℕ, ◌<◌, ◌≤◌, ◌↔◌, List, [], Option, slice_index};
 ghost use mathlib.Core.Option.{some, none};
 ghost use lib.ListN.{get_elem?};
 ghost use Rattle.atomic_table.specs.Table.{State};
@@ -11,7 +11,10 @@ ghost use Rattle.fak_core.specs.QueueSchedule.{InCell};
 ghost use Rattle.fak_core.specs.declared.queue.phase.Phase.TheVariants.{Idle};
 ghost use Rattle.fak_queue.specs.declared.limits.QueueLimits.{QueueLimits};
 ghost use Rattle.fak_model.specs.declared.queue.Kind.TheVariants.{Close};
-ghost use Rattle.fak_model.specs.Queue.{Has};
+ghost use Rattle.fak_model.specs.declared.queue.Mark.{Mark};
+ghost use Rattle.fak_model.specs.Queue.{Has, IsQueueHistory, contents, count, gots, puts};
+ghost use Rattle.fak_model.specs.Seats.{Begins};
+ghost use Rattle.fak_queue.specs.Drained.{IsDrained, claim_in_of, claim_out_of};
 ghost use Rattle.fak_queue.specs.Shown.{IsShownQueue, QueueView};
 ghost use Rattle.fak_queue.specs.Words.{shut_bit, upper_word};
 
@@ -52,4 +55,16 @@ pub fn a_running_queue_never_locks_up<T>()
     ensures ticketless { (key : QueueLimits) (s : State (Option T) (QueueView T)) (shown : IsShownQueue key s) → (a : ℕ)
         → shown.core.phase a ≢ Idle → ((cell : ℕ) → HoldsTicketOf key.size (shown.core.phase a) cell → ⊥)
         → MakesProgress key.size shown.core a }
+{}
+
+/// A drained queue stays empty: each claim of an insertion was matched by one of a deletion and each item that was put was got,
+/// and in every history that goes on from there no more is claimed, put or got.
+pub fn a_drained_queue_stays_empty<T>()
+    ensures claims { (size : ℕ) (h : List (Mark T)) → IsQueueHistory size h → IsDrained h
+        → count claim_in_of h ≡ count claim_out_of h }
+    ensures gone { (size : ℕ) (h : List (Mark T)) → IsQueueHistory size h → IsDrained h
+        → (count puts h ≡ count gots h) × (contents h ≡ []) }
+    ensures later { (size : ℕ) (h later : List (Mark T)) → IsQueueHistory size later → Begins h later → IsDrained h
+        → (count claim_in_of later ≡ count claim_in_of h) × (count claim_out_of later ≡ count claim_out_of h)
+        × (count puts later ≡ count puts h) × (count gots later ≡ count gots h) × (contents later ≡ []) }
 {}

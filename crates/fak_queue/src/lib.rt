@@ -7,7 +7,7 @@
 //! - `Port::new(&queue, seat)` is a queue and its seat as one value, whose calls have no condition: the way to begin.
 //! - `insert` and `delete` make one attempt; `wait_insert` and `wait_delete` wait while the queue is full or empty;
 //!   `claim_insert` with `try_fill`, and `claim_delete` with `try_take`, never wait.
-//! - `shut` refuses later insertions; deletions go on.
+//! - `shut` refuses later insertions; deletions go on. `cells_in_use`, `items_ready` and `is_drained` observe the counts.
 //! - `Tally::of(seat)` and `Queue::join` bring the seats back together; with all of them `Queue::close` answers a `Rest`, what is left.
 //! - Callers owe that a seat is of this queue and idle: `IsIdleSeat queue.now.object seat`.
 //! - To cite: `Inserts`, `Deletes` and their like (`specs/Queues.antt`, `specs/Retries.antt`), and the laws of `fak_model::laws`.
@@ -19,8 +19,10 @@ mod cells;
 mod contention;
 mod fault;
 mod found;
+mod in_use;
 pub mod laws;
 mod limits;
+mod observing;
 mod opening;
 mod place;
 mod plays;
@@ -39,6 +41,7 @@ pub use fak_model::{
     LARGE_SEATS, LARGE_SIZE, LARGE_TICKETS, LARGEST_SIZE, LONGEST_STINT, LargeFault, MOST_SEATS,
 };
 pub use fault::{DeleteFault, InsertFault, OpenFault};
+pub use in_use::InUse;
 pub use port::Port;
 pub use queue::Queue;
 pub use rest::Rest;

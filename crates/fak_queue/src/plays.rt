@@ -11,6 +11,8 @@ ghost use Rattle.fak_queue.specs.Steps.{
   EndsOut,
   HeardJoin,
   Named,
+  ObservesLow,
+  ObservesUp,
   SetsFree,
   SetsFull,
   Shuts,
@@ -172,6 +174,24 @@ pub struct ShutPlay<J> {
 
 impl<T, J: Call<T>> Play<Option<T>, View<Mark<T>, Phase<T>>> for ShutPlay<J> {
     ghost then = { λ s m found after. Named m (λ n. Shuts s.slots J.seats n m found after) };
+}
+
+/// The load of the upper count that observes it.
+pub struct ObserveUpPlay<J> {
+    call: PhantomData<J>,
+}
+
+impl<T, J: Call<T>> Play<Option<T>, View<Mark<T>, Phase<T>>> for ObserveUpPlay<J> {
+    ghost then = { λ s m found after. ObservesUp s.slots J.seats m found after };
+}
+
+/// The load of the lower count that observes it.
+pub struct ObserveLowPlay<J> {
+    call: PhantomData<J>,
+}
+
+impl<T, J: Call<T>> Play<Option<T>, View<Mark<T>, Phase<T>>> for ObserveLowPlay<J> {
+    ghost then = { λ s m found after. ObservesLow s.slots J.seats m found after };
 }
 
 /// The load after a join.

@@ -1,12 +1,16 @@
 //! A queue and a seat of it as one value, whose calls have no condition.
 
-ghost use Rattle.std.specs.Prelude.{◌≡◌, ◌+◌, MatchResult};
-ghost use Rattle.fak_queue.specs.Queues.{Deletes, DrawsIfGranted, Inserts, IsIdleSeat, ShutsAs, drawn_by};
+ghost use Rattle.std.specs.Prelude.{◌≡◌, ◌↔◌, ◌+◌, [], IsTrue, MatchResult};
+ghost use Rattle.fak_model.specs.declared.queue.Kind.TheVariants.{Close};
+ghost use Rattle.fak_model.specs.Queue.{Has, lower_count, upper_count};
+ghost use Rattle.fak_queue.specs.Drained.{IsDrained};
+ghost use Rattle.fak_queue.specs.Queues.{Deletes, DrawsIfGranted, Inserts, IsIdleSeat, Makes, ShutsAs, drawn_by};
 ghost use Rattle.fak_queue.specs.Refusals.{RefusesDeletion, RefusesInsertion};
 ghost use Rattle.fak_queue.specs.Retries.{DeletesAfterEmpty, InsertsAfterFull};
 ghost use Rattle.fak_queue.specs.Retries.{RefusesWaitingDeletion, RefusesWaitingInsertion};
 
 use crate::fault::{DeleteFault, InsertFault};
+use crate::in_use::InUse;
 use crate::queue::Queue;
 use crate::seat::Seat;
 use std::fmt;
@@ -98,6 +102,37 @@ impl<'q, T: Drop> Port<'q, T> {
         ensures call { ShutsAs self.old.queue.now.size result self.old.seat self.new.seat }
     {
         self.queue.shut(&mut self.seat)
+    }
+
+    /// How many cells are in use, and whether the queue is shut, by one load (`Queue::cells_in_use`).
+    pub fn cells_in_use(&mut self) -> InUse
+        ensures queue { self.new.queue ≡ self.old.queue }
+        ensures left { drawn_by self.new.seat ≡ drawn_by self.old.seat }
+        ensures makes { Makes self.old.queue.now.size [] self.old.seat self.new.seat }
+        ensures count { result.count ≡ upper_count self.new.seat.seen }
+        ensures shut { IsTrue result.is_shut ↔ Has Close self.new.seat.seen }
+    {
+        self.queue.cells_in_use(&mut self.seat)
+    }
+
+    /// How many items are ready, by one load (`Queue::items_ready`).
+    pub fn items_ready(&mut self) -> i64
+        ensures queue { self.new.queue ≡ self.old.queue }
+        ensures left { drawn_by self.new.seat ≡ drawn_by self.old.seat }
+        ensures makes { Makes self.old.queue.now.size [] self.old.seat self.new.seat }
+        ensures count { result ≡ lower_count self.new.seat.seen }
+    {
+        self.queue.items_ready(&mut self.seat)
+    }
+
+    /// Whether the queue is shut with no cell in use, so that no deletion finds an item from now on.
+    pub fn is_drained(&mut self) -> bool
+        ensures queue { self.new.queue ≡ self.old.queue }
+        ensures left { drawn_by self.new.seat ≡ drawn_by self.old.seat }
+        ensures makes { Makes self.old.queue.now.size [] self.old.seat self.new.seat }
+        ensures drained { IsTrue result ↔ IsDrained self.new.seat.seen }
+    {
+        self.queue.is_drained(&mut self.seat)
     }
 
     /// Leaves the queue to others for a while, where since the last pause a call has found that others use it too

@@ -2,6 +2,7 @@
 
 pub(crate) mod deletion;
 pub(crate) mod insertion;
+pub(crate) mod observation;
 
 ghost use Rattle.std.specs.Prelude.{◌≡◌, Some};
 ghost use Rattle.fak_model.specs.Views.{HasOneName};

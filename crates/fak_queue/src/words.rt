@@ -16,9 +16,10 @@
 //! them shares a cache line with another, or with anything else in memory.
 
 ghost use Rattle.std.specs.Prelude.{◌+◌, ◌<◌, ◌^◌};
-ghost use Rattle.fak_queue.specs.Words.{IsLowerCount, IsUpperCount};
+ghost use Rattle.fak_queue.specs.Words.{IsInUse, IsLowerCount, IsUpperCount};
 
 use crate::found::NoRoom;
+use crate::in_use::InUse;
 use fak_model::{BIAS, count_of};
 
 /// The number of unused words before the first counter, and behind the last turn.
@@ -64,5 +65,22 @@ pub(crate) fn read_lower(found: u64) -> Result<(), i64>
         Ok(())
     } else {
         Err(count_of(found))
+    }
+}
+
+/// The upper count that this word says, and whether the queue is shut.
+pub(crate) fn read_in_use(found: u64) -> InUse
+    ensures { IsInUse found result }
+{
+    if found >= SHUT {
+        InUse {
+            count: count_of(found - SHUT),
+            is_shut: true,
+        }
+    } else {
+        InUse {
+            count: count_of(found),
+            is_shut: false,
+        }
     }
 }

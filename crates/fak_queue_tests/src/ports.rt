@@ -1,7 +1,7 @@
 //! Ports: a queue and a seat of it as one value. No call of a port asks for anything, so that their callers state nothing.
 
 use super::assertions::{assert_case, assert_equal, assert_left};
-use super::steps::{Step, close, open, open_one, take};
+use super::steps::{Step, close, in_use, open, open_one, take};
 use fak_queue::{DeleteFault, InsertFault, Port, Tally};
 use std::process::Abort;
 use std::sync::Wait;
@@ -15,6 +15,10 @@ fn meets<R: Wait>(rt: &R, port: &mut Port<'_, u64>, step: &Step<u64>) -> bool {
         Step::Delete(answer) => port.delete(rt) == *answer,
         Step::WaitDelete(answer) => port.wait_delete(rt) == *answer,
         Step::Shut(answer) => port.shut() == *answer,
+        Step::OpenWith(count) => port.cells_in_use() == in_use(*count, false),
+        Step::ShutWith(count) => port.cells_in_use() == in_use(*count, true),
+        Step::ItemsReady(answer) => port.items_ready() == *answer,
+        Step::IsDrained(answer) => port.is_drained() == *answer,
         Step::Left(answer) => port.left() == *answer,
         _ => false,
     }
@@ -51,6 +55,24 @@ fn a_port_shuts_its_queue(rt: HostRuntime) {
         Step::WaitInsert(8, Err(InsertFault::Closed { item: 8 })),
         Step::WaitDelete(Ok((0, 7))),
         Step::WaitDelete(Err(DeleteFault::Worn)),
+    ];
+    walk(&rt, 2, STEPS);
+}
+
+#[test]
+fn a_port_observes_its_queue(rt: HostRuntime) {
+    const STEPS: &[Step<u64>] = &[
+        Step::ItemsReady(0),
+        Step::WaitInsert(7, Ok(0)),
+        Step::OpenWith(1),
+        Step::ItemsReady(1),
+        Step::Shut(true),
+        Step::ShutWith(1),
+        Step::IsDrained(false),
+        Step::WaitDelete(Ok((0, 7))),
+        Step::IsDrained(true),
+        Step::ItemsReady(0),
+        Step::Left(0),
     ];
     walk(&rt, 2, STEPS);
 }

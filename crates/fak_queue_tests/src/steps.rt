@@ -4,7 +4,7 @@ ghost use Rattle.std.specs.Prelude.{◌≡◌, All};
 ghost use Rattle.fak_queue.specs.Queues.{IsIdleSeat};
 
 use super::assertions::assert_case;
-use fak_queue::{DeleteFault, InsertFault, Queue, Rest, Seat, SeatState, Tally};
+use fak_queue::{DeleteFault, InUse, InsertFault, Queue, Rest, Seat, SeatState, Tally};
 use std::process::Abort;
 use std::sync::Wait;
 
@@ -29,9 +29,20 @@ pub enum Step<T> {
     ClaimDelete(Result<u64, DeleteFault>),
     TryTake(Option<(u64, T)>),
     Shut(bool),
+    /// So many cells in use, the queue open.
+    OpenWith(i64),
+    /// So many cells in use, the queue shut.
+    ShutWith(i64),
+    ItemsReady(i64),
+    IsDrained(bool),
     Pause,
     State(SeatState),
     Left(u64),
+}
+
+/// What is observed of a queue with so many cells in use.
+pub fn in_use(count: i64, is_shut: bool) -> InUse {
+    InUse { count, is_shut }
 }
 
 /// Whether the answer is the one that is wanted.
@@ -64,6 +75,10 @@ impl<T: Copy + PartialEq + Drop> Step<T> {
             (SeatState::Idle, Step::ClaimDelete(answer)) => is(queue.claim_delete(seat), answer),
             (SeatState::Deleting(_), Step::TryTake(answer)) => is(queue.try_take(seat), answer),
             (SeatState::Idle, Step::Shut(answer)) => is(queue.shut(seat), answer),
+            (_, Step::OpenWith(count)) => queue.cells_in_use(seat) == in_use(*count, false),
+            (_, Step::ShutWith(count)) => queue.cells_in_use(seat) == in_use(*count, true),
+            (_, Step::ItemsReady(answer)) => queue.items_ready(seat) == *answer,
+            (_, Step::IsDrained(answer)) => queue.is_drained(seat) == *answer,
             (_, Step::Pause) => {
                 queue.pause(seat);
                 true

@@ -1,0 +1,36 @@
+//! The atomic steps that observe a count and leave no mark.
+
+ghost use Rattle.std.specs.Prelude.{◌≡◌, Some};
+ghost use Rattle.fak_model.specs.Views.{HasOneName};
+ghost use Rattle.fak_core.specs.declared.queue.phase.Phase.{Phase};
+ghost use Rattle.fak_queue.specs.Steps.{FitsTable, ObservedLow, ObservedUp};
+
+use crate::in_use::InUse;
+use crate::plays::{Call, ObserveLowPlay, ObserveUpPlay};
+use crate::steps::{QueueToken, QueueWords};
+use crate::words::{LOWER, UPPER, read_in_use};
+use fak_model::count_of;
+
+/// Loads the upper count: the cells in use, and whether the queue is shut.
+pub(crate) fn observe_up<T, J: Call<T>>(words: &QueueWords<T>, token: &mut QueueToken<T>) -> InUse
+    requires table { FitsTable token.old.table_id words.now.table_id words.now.key J.seats }
+    requires seat { HasOneName token.old.me.0 }
+    requires phase { (p : Phase T) × (token.old.me.0.phase ≡ Some p) }
+    ensures same { token.new.table_id ≡ token.old.table_id }
+    ensures told { (p : Phase T) → token.old.me.0.phase ≡ Some p
+        → ObservedUp words.now.table_id.slots J.seats p result token.old.me token.new.me }
+{
+    read_in_use(words.load::<ObserveUpPlay<J>>(token, UPPER))
+}
+
+/// Loads the lower count.
+pub(crate) fn observe_low<T, J: Call<T>>(words: &QueueWords<T>, token: &mut QueueToken<T>) -> i64
+    requires table { FitsTable token.old.table_id words.now.table_id words.now.key J.seats }
+    requires seat { HasOneName token.old.me.0 }
+    requires phase { (p : Phase T) × (token.old.me.0.phase ≡ Some p) }
+    ensures same { token.new.table_id ≡ token.old.table_id }
+    ensures told { (p : Phase T) → token.old.me.0.phase ≡ Some p
+        → ObservedLow words.now.table_id.slots J.seats p result token.old.me token.new.me }
+{
+    count_of(words.load::<ObserveLowPlay<J>>(token, LOWER))
+}
