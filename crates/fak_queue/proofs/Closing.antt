@@ -3,7 +3,7 @@ use Rattle.fak_model.specs.declared.queue.Stage.TheVariants as at
 use Rattle.fak_model.proofs.RunningViews.{sees_whole}
 use Rattle.fak_core.specs.declared.queue.phase.Phase.TheVariants as phase
 use Rattle.fak_core.specs.QueueSchedule.{InCell}
-use Rattle.fak_queue.proofs.Common.{QueueLimits, QueueView, queue_object, IsShownQueue, ◌≡◌, ℕ, zero, suc, ◌+◌, ◌-◌, ◌/◌, ◌%◌, ◌<◌, ◌≤◌, List, [], ◌∷◌, ◌++◌, length, slice_index, drop, refl, sym, ap, ◌∙◌, subst, inl, inr, arith, mod-lt, Option, Some, reverse, All, All-head, All-tail, some, some-injective, some-ne-none, get_elem?, count, puts, gots, items_put, item_at, contents, Has, stage, item_of, IsWhole, State, Final, Seen, Fill, Take, Mark, Stage, count_reverse, items_count, contents_bounded, stage_else, item_there, take_below, IsKept, shown, take_turn, le_or_lt, in_cell, kept, total}
+use Rattle.fak_queue.proofs.Common.{Alike, QueueLimits, QueueView, queue_object, IsShownQueue, ◌≡◌, ℕ, zero, suc, ◌+◌, ◌-◌, ◌/◌, ◌%◌, ◌<◌, ◌≤◌, List, [], ◌∷◌, ◌++◌, length, slice_index, drop, refl, sym, ap, ◌∙◌, subst, inl, inr, arith, mod-lt, Option, Some, reverse, All, All-head, All-tail, some, some-injective, some-ne-none, get_elem?, count, puts, gots, items_put, item_at, contents, Has, stage, item_of, IsWhole, State, Final, Seen, Fill, Take, Mark, Stage, count_reverse, items_count, contents_bounded, stage_else, item_there, take_below, IsKept, shown, take_turn, le_or_lt, in_cell, kept, total}
 use Rattle.fak_queue.specs.Left.{item_in, items_left, AreLeft}
 use Rattle.fak_queue.proofs.DeletionSteps.{item_past}
 use Rattle.fak_model.proofs.QueueDrawn.{filled_or_putting}
@@ -32,7 +32,7 @@ read_at [] i n e = absurd (some-ne-none n (sym e))
 read_at (x ∷ l) zero n e = some-injective x n e
 read_at (x ∷ l) (suc i) n e = read_at l i n e
 
-module _ {T : Type 0} (key : QueueLimits) (s : State (Option T) (QueueView T)) (r : IsShownQueue key s) (id : ℕ) (v : QueueView T) (there : get_elem? s.views id ≡ some v) (idle : v.phase ≡ Some phase.Idle) (whole : IsWhole key.seats v.names) where
+module _ {T : Type 0} (key : QueueLimits) (s : State (Option T) (QueueView T)) (r : IsShownQueue key s) (id : ℕ) (v : QueueView T) (there : get_elem? s.views id ≡ some v) (idle : v.phase ≡ Some (Alike phase.Idle)) (whole : IsWhole key.seats v.names) where
   K : IsKept key.size r.core
   K = kept key.size r.core r.reached.reached r.encoded.some_cell
 
@@ -40,7 +40,7 @@ module _ {T : Type 0} (key : QueueLimits) (s : State (Option T) (QueueView T)) (
   at_rest : (n : ℕ) → stage r.core.past n ≡ at.Idle
   at_rest n = elim (le_or_lt key.seats n) [
     | inl far ↦ unnamed key.seats r.core.past n r.named far
-    | inr low ↦ sym (K.phases n) ∙ ap shown (r.stands id v there n (whole n low) phase.Idle idle)
+    | inr low ↦ sym (K.phases n) ∙ ap shown (r.stands id v there n (whole n low) (Alike phase.Idle) idle)
   ]
 
   nobody : (n c : ℕ) → InCell key.size (r.core.phase n) c → ⊥
@@ -108,7 +108,7 @@ pub record Closes {T : Type 0} (size : ℕ) (seen : List (Mark T)) (cells : List
   pub left : AreLeft size cells got (put - got)
   pub are : items_left size cells got (put - got) ≡ contents seen
 
-pub closes : {T : Type 0} (key : QueueLimits) (size id : ℕ) (v : QueueView T) (ws : List ℕ) (cells : List (Option T)) (put got : ℕ) → Final (Seen (IsShownQueue key) id v) ws cells → length cells ≡ size → v.phase ≡ Some phase.Idle → IsWhole key.seats v.names
+pub closes : {T : Type 0} (key : QueueLimits) (size id : ℕ) (v : QueueView T) (ws : List ℕ) (cells : List (Option T)) (put got : ℕ) → Final (Seen (IsShownQueue key) id v) ws cells → length cells ≡ size → v.phase ≡ Some (Alike phase.Idle) → IsWhole key.seats v.names
     → get_elem? ws 48 ≡ some put → get_elem? ws 64 ≡ some got → Closes size (reverse v.seen) cells put got
 closes {T} key size id v ws cells put got f long idle whole at_put at_got =
     let s = f.0 in

@@ -10,7 +10,7 @@ pub use Rattle.fak_core.proofs.QueueTurns.{take_turn, le_or_lt, at_here, at_else
 pub use Rattle.fak_core.specs.declared.queue.phase.Phase.TheVariants.{TurnIn, TurnOut, StoreItem, EndInsert, LoadItem, EndDelete}
 pub use Rattle.fak_core.specs.declared.queue.phase.Phase.{Phase}
 pub use Rattle.fak_core.specs.declared.queue.step.QueueMove.{QueueMove}
-pub use Rattle.fak_model.proofs.Common.{All-append, All-push, queue_rules, count, puts, gots, ObjectId, SeatInfo, Appends, mine_of, before_mark, some, get_elem?, All-head, All-tail, some-injective, some-ne-none, items_put, item_at, contents, Has, stage, item_of, IsWhole, reverse-reverse, nat_tests, none, lower_count, sight, upper_count, length-map, length-replicate, get_or-replicate, seat_info, IsSeatToken, bias, marks_of, Leaves, IsQueueHistory, In, object_id, ints, upper_raise, upper_drop, Owes, seat_words, words_of_call, after, lower_raise, lower_drop, SeatsBelow, AreOwn, AreNamed, IsAtRest, word, Knows, TallyInfo, IsJoined, sum_by-cons, mine, tally_of, put_of, got_of, item_in, IsNext, IsLegalPast, tally_info}
+pub use Rattle.fak_model.proofs.Common.{All-append, All-push, queue_rules, count, puts, gots, ObjectId, SeatInfo, Appends, mine_of, before_mark, some, get_elem?, All-head, All-tail, some-injective, some-ne-none, items_put, item_at, contents, Has, stage, item_of, IsWhole, reverse-reverse, nat_tests, none, lower_count, upper_count, length-map, length-replicate, get_or-replicate, seat_info, IsSeatToken, bias, marks_of, IsQueueHistory, In, object_id, ints, upper_raise, upper_drop, Owes, seat_words, words_of_call, after, lower_raise, lower_drop, SeatsBelow, AreOwn, AreNamed, IsAtRest, word, Knows, TallyInfo, IsJoined, sum_by-cons, mine, tally_of, put_of, got_of, item_in, IsNext, IsLegalPast, tally_info}
 pub use Rattle.fak_model.proofs.QueueBackwards.{count_reverse, items_count, has_back, item_same, has_reverse, count_append, Last, last_of, drew}
 pub use Rattle.fak_model.proofs.QueueCounts.{contents_bounded, upper_range, lower_range}
 pub use Rattle.fak_model.proofs.QueueStages.{stage_else, stage_here, after_putting, after_getting}
@@ -32,7 +32,9 @@ pub use Rattle.fak_queue.specs.Parts.{IsPart, ClaimedIn, RefusedIn, ClaimedOut, 
 pub use Rattle.fak_queue.specs.Queues.{QueueInfo, size_of, made_by, Makes, Inserts, Deletes, RefusesFull, RefusesEmpty, RefusesClosed, ShutsAs, state_of, RestsAt, idle, inserting, deleting, seat_of, drawn_by, queue_info, IsQueue, queue_seat, IsQueueSeat, ClaimsIn, AreIdle, tickets_in, state_at, before_own, ClaimsOut, WaitsToFill, Fills, WaitsToTake, Takes, ShutsAfter, IsState, IsWorn, kinds_in, kinds_out}
 pub use Rattle.fak_queue.specs.Refusals.{RefusesInsertion, IsInRange, IsLargeSize, RefusesDeletion}
 pub use Rattle.fak_queue.specs.Retries.{RefusedInsertion, NotIn, WithdrawnIn, ClosedIn, WithdrawnLate, RefusedDeletion, NotOut, WithdrawnOut, kinds_not_in, kinds_not_out, InsertsAfterFull, IsFull, IsClosed, MakesAtLast, before_last, ClosesAfterFull, DeletesAfterEmpty}
-pub use Rattle.fak_queue.specs.Shown.{QueueHolder, queue_object, IsShownQueue, QueueView, IsAtHome, IsEncoded, opened_queue, HasSlot}
+pub use Rattle.fak_queue.specs.declared.standing.Standing.{Standing}
+pub use Rattle.fak_queue.specs.declared.standing.Standing.TheVariants.{Alike, Each}
+pub use Rattle.fak_queue.specs.Shown.{sight, Leaves, IsPost, StandsIn, QueueHolder, queue_object, IsShownQueue, QueueView, IsAtHome, IsEncoded, opened_queue, HasSlot}
 pub use Rattle.fak_queue.specs.Steps.{mark, Named, ShutAs, TurnedIn, FilledCell, EndsIn, TurnedOut, FreedCell, EndsOut, Shuts, Marks, TestedUp, AddedUp, BacksUp, DrewIn, TestedLow, SubtractedLow, BacksLow, DrawsOut, TestsUp, AddsUp, DrawsIn, TurnsIn, SetsFull, TestsLow, SubtractsLow, TurnsOut, SetsFree, HeardJoin, WaitsOut, WaitsIn, FitsTable}
 pub use Rattle.fak_queue.specs.Words.{UpperCount, LowerCount, IsUpperCount, AreWords, shut_bit, shut_part, IsLowerCount}
 pub use Rattle.fak_queue.specs.declared.fault.DeleteFault.{DeleteFault}

@@ -3,7 +3,7 @@ use Rattle.fak_model.specs.declared.queue.Kind.TheVariants as made
 use Rattle.fak_core.specs.declared.queue.phase.Phase.TheVariants.{Idle, TestLow, SubLow, BackLow, TicketOut, TurnOut, LoadItem, SetFree, EndDelete}
 use Rattle.fak_core.specs.QueueMoves.{QueueState, with_at, with_phase, moved, ticket_out}
 use Rattle.fak_core.specs.QueueSchedule.{InCell, IsReached, move_from}
-use Rattle.fak_queue.proofs.Common.{LowerCount, QueueLimits, QueueHolder, IsAtHome, IsEncoded, queue_object, IsShownQueue, ◌≡◌, ◌≢◌, ℕ, ◌+◌, ◌-◌, ◌*◌, ◌/◌, ◌%◌, ◌^◌, ◌<◌, ◌==◌, List, [], ◌∷◌, ◌++◌, slice_index, set, refl, sym, ap, ◌∙◌, subst, inl, inr, arith, length-set, Option, Some, None, ℤ, pos, int_lt, mod-eq_of_lt, reverse, reverse-reverse, nat_tests, some, none, get_elem?, count, gots, lower_count, items_put, item_at, stage, item_of, sight, keeps, takes, gives, homes_after, Mark, Getting, count_reverse, has_back, item_same, contents_bounded, item_there, getting_below, steps, Phase, shown, at_here, at_else, waits_take, true_or_false, if_true, if_false, kept, moves, deletes, loads_put, draws_put, AreWords, IsLowerCount, mark, TellsNothing, TestedLow, SubtractedLow, BacksLow, DrawsOut, WaitsOut, TurnedOut, FreedCell, EndsOut, QueueMove}
+use Rattle.fak_queue.proofs.Common.{Alike, LowerCount, QueueLimits, QueueHolder, IsAtHome, IsEncoded, queue_object, IsShownQueue, ◌≡◌, ◌≢◌, ℕ, ◌+◌, ◌-◌, ◌*◌, ◌/◌, ◌%◌, ◌^◌, ◌<◌, ◌==◌, List, [], ◌∷◌, ◌++◌, slice_index, set, refl, sym, ap, ◌∙◌, subst, inl, inr, arith, length-set, Option, Some, None, ℤ, pos, int_lt, mod-eq_of_lt, reverse, reverse-reverse, nat_tests, some, none, get_elem?, count, gots, lower_count, items_put, item_at, stage, item_of, sight, keeps, takes, gives, homes_after, Mark, Getting, count_reverse, has_back, item_same, contents_bounded, item_there, getting_below, steps, Phase, shown, at_here, at_else, waits_take, true_or_false, if_true, if_false, kept, moves, deletes, loads_put, draws_put, AreWords, IsLowerCount, mark, TellsNothing, TestedLow, SubtractedLow, BacksLow, DrawsOut, WaitsOut, TurnedOut, FreedCell, EndsOut, QueueMove}
 use Rattle.fak_queue.proofs.WordWrites.{positive_word, empty_word, only_positive, only_empty, words_draws_out}
 use Rattle.fak_queue.proofs.Slots.{takes_slot, gives_slot, slot_there}
 use Rattle.fak_queue.proofs.Stepping.{QueueTable, queue_law, Permits, K, stands, outside, lower_past, loaded, upper_shrunk, lower_grown, lower_shrunk, few_draws, near, turn_is, turn_set, apart1, apart2, here1, here2, advances, quiet_step}
@@ -24,7 +24,7 @@ module _ {T : Type 0} (key : QueueLimits) (s : QueueTable T) (r : IsShownQueue k
   abbrev After : List (Mark T) → Phase T → QueueHolder T
   After new p = (sight m.0.names (new ++ r.core.past) p m.0.left, m.1)
 
-  pub tests_low : m.0.phase ≡ Some Idle → Step 32 (λ w. w) (λ found after. (l : LowerCount) → IsLowerCount found l → TestedLow key.size key.seats n l m after)
+  pub tests_low : m.0.phase ≡ Some (Alike Idle) → Step 32 (λ w. w) (λ found after. (l : LowerCount) → IsLowerCount found l → TestedLow key.size key.seats n l m after)
   tests_low e =
       let c = with_phase r.core n TestLow in
       let reached_begun = deletes key.size r.core r.reached.reached n (stands key s r id n m at one Idle e) in
@@ -48,7 +48,7 @@ module _ {T : Type 0} (key : QueueLimits) (s : QueueTable T) (r : IsShownQueue k
             (sight m.0.names (new ++ r.core.past) Idle m.0.left, keeps, tt, (q r.core.lower refl).0, only_empty (Then (After new Idle)) w r.core.lower (empty_word w r.core.lower word ge) word (λ v f. (q v f).1)))
       ]
 
-  pub subtracts_low : m.0.phase ≡ Some SubLow → Step 32 (λ w. (w + (2 ^ 64 - 1)) % 2 ^ 64) (λ found after. (l : LowerCount) → IsLowerCount found l → SubtractedLow key.size key.seats n l m after)
+  pub subtracts_low : m.0.phase ≡ Some (Alike SubLow) → Step 32 (λ w. (w + (2 ^ 64 - 1)) % 2 ^ 64) (λ found after. (l : LowerCount) → IsLowerCount found l → SubtractedLow key.size key.seats n l m after)
   subtracts_low e =
       let reached_next = moves key.size r.core r.reached.reached n SubLow (stands key s r id n m at one SubLow e) in
       let w = slice_index s.words 32 in
@@ -71,14 +71,14 @@ module _ {T : Type 0} (key : QueueLimits) (s : QueueTable T) (r : IsShownQueue k
             (sight m.0.names (new ++ r.core.past) BackLow m.0.left, keeps, tt, (q r.core.lower refl).0, only_empty (Then (After new BackLow)) w r.core.lower (empty_word w r.core.lower word ge) word (λ v f. (q v f).1)))
       ]
 
-  pub backs_low : m.0.phase ≡ Some BackLow → Step 32 (λ w. (w + 1) % 2 ^ 64) (λ found after. BacksLow key.size key.seats n m after)
+  pub backs_low : m.0.phase ≡ Some (Alike BackLow) → Step 32 (λ w. (w + 1) % 2 ^ 64) (λ found after. BacksLow key.size key.seats n m after)
   backs_low e =
       let R = moves key.size r.core r.reached.reached n BackLow (stands key s r id n m at one BackLow e) in
       let new : List (Mark T) = mark n made.BackOut ∷ [] in
       let q = quiet_step key s r id n m at one _ R new refl (refl, tt) (apart1 key s r id n m at one Idle) refl refl (outside key s r id n m at one BackLow e (λ i j. j)) 32 _ (lower_grown key s r id n m at one) Idle (here1 key s r id n m at one Idle) (λ i j. j) m.0.left (omega arith) TellsNothing tt in
       (sight m.0.names (new ++ r.core.past) Idle m.0.left, keeps, tt, q.0, q.1)
 
-  pub draws_out : m.0.phase ≡ Some TicketOut → 0 < m.0.left → Step 64 (λ w. (w + 1) % 2 ^ 64) (DrawsOut key.size key.seats n m)
+  pub draws_out : m.0.phase ≡ Some (Alike TicketOut) → 0 < m.0.left → Step 64 (λ w. (w + 1) % 2 ^ 64) (DrawsOut key.size key.seats n m)
   draws_out e left =
       let w = slice_index s.words 64 in
       let is : w ≡ r.core.draws_out = r.encoded.words_are.draws_out_is in
@@ -95,7 +95,7 @@ module _ {T : Type 0} (key : QueueLimits) (s : QueueTable T) (r : IsShownQueue k
       (TurnOut w) (here1 key s r id n m at one p ∙ ap (λ k. TurnOut k) (sym is)) (λ i j. j) (m.0.left - 1) (omega (arith, left)) (λ past. (count gots (reverse past) ≡ w) × (item_at (items_put (reverse past)) w ≡ Some it.0)) (count_reverse gots r.core.past ∙ (sym (K key s r id n m at one).draws_out ∙ sym is), item_past r.core.past w ∙ (ap (item_of r.core.past) is ∙ it.1)) in
       (sight m.0.names (new ++ r.core.past) (TurnOut w) (m.0.left - 1), keeps, tt, q.0, record { item = it.0; leaves = q.1; few = omega (arith, is, few) })
 
-  pub turns_out : (k : ℕ) → m.0.phase ≡ Some (TurnOut k) → Step (80 + k % key.size) (λ w. w) (TurnedOut key.size key.seats n k m)
+  pub turns_out : (k : ℕ) → m.0.phase ≡ Some (Alike (TurnOut k)) → Step (80 + k % key.size) (λ w. w) (TurnedOut key.size key.seats n k m)
   turns_out k e =
       let i = k % key.size in
       let w = slice_index s.words (80 + i) in
@@ -125,7 +125,7 @@ module _ {T : Type 0} (key : QueueLimits) (s : QueueTable T) (r : IsShownQueue k
               wide = length-set s.homes i none ∙ r.encoded.wide;
               slots_are = takes_slot key.size n r.core s.homes r.encoded.wide r.encoded.slots_are c others refl refl out i (near key s r id n m at one k) inside stands_here;
             } in
-            let q = steps (queue_object key.size key.seats) s r id n m at one (queue_law key.size key.seats r.encoded.some_cell) c [] (LoadItem k) step (80 + i) w (takes i (Some it.0)) shows m.0.left (omega arith)
+            let q = steps (queue_object key.size key.seats) s r id n m at one (queue_law key.size key.seats r.encoded.some_cell) c [] (Alike (LoadItem k)) step (80 + i) w (takes i (Some it.0)) shows m.0.left (omega arith)
             (λ past. item_at (items_put (reverse past)) k ≡ Some it.0) (item_past r.core.past k ∙ it.1) in (
               sight m.0.names r.core.past (LoadItem k) m.0.left,
               takes i (Some it.0),
@@ -143,7 +143,7 @@ module _ {T : Type 0} (key : QueueLimits) (s : QueueTable T) (r : IsShownQueue k
       ]
 
   -- a store that gives the slot back, by two moves of the core
-  pub stores_free : (k v : ℕ) (tl : List (ℕ × Option T)) → m.0.phase ≡ Some (LoadItem k) → m.1 ≡ (k % key.size, None) ∷ tl → v ≡ 2 * (k / key.size) + 2
+  pub stores_free : (k v : ℕ) (tl : List (ℕ × Option T)) → m.0.phase ≡ Some (Alike (LoadItem k)) → m.1 ≡ (k % key.size, None) ∷ tl → v ≡ 2 * (k / key.size) + 2
       → Step (80 + k % key.size) (λ _. v) (λ found after. FreedCell key.size key.seats n k m after)
   stores_free k v tl e held v_is =
       let i = k % key.size in
@@ -174,10 +174,10 @@ module _ {T : Type 0} (key : QueueLimits) (s : QueueTable T) (r : IsShownQueue k
         slots_are = gives_slot key.size n r.core s.homes r.encoded.wide r.encoded.slots_are d others r.encoded.some_cell r.reached.reached i (near key s r id n m at one k) (λ j ne. (at_else r.core.turn i j (2 * (k / key.size) + 2) ne, refl)) inside mine nowhere None home;
       } in
       let gives_back : IsEncoded key.size key.seats d (set s.words (80 + i) v) (homes_after s.homes m.1 gives) = subst (λ l. IsEncoded key.size key.seats d (set s.words (80 + i) v) (homes_after s.homes l gives)) (sym held) shows in
-      let q = steps (queue_object key.size key.seats) s r id n m at one (queue_law key.size key.seats r.encoded.some_cell) d new p step (80 + i) v gives gives_back m.0.left (omega arith) TellsNothing tt in
+      let q = steps (queue_object key.size key.seats) s r id n m at one (queue_law key.size key.seats r.encoded.some_cell) d new (Alike p) step (80 + i) v gives gives_back m.0.left (omega arith) TellsNothing tt in
       (sight m.0.names (new ++ r.core.past) p m.0.left, gives, tt, q.0, q.1)
 
-  pub ends_out : (k : ℕ) → m.0.phase ≡ Some (EndDelete k) → Step 16 (λ w. (w + (2 ^ 64 - 1)) % 2 ^ 64) (λ found after. EndsOut key.size key.seats n m after)
+  pub ends_out : (k : ℕ) → m.0.phase ≡ Some (Alike (EndDelete k)) → Step 16 (λ w. (w + (2 ^ 64 - 1)) % 2 ^ 64) (λ found after. EndsOut key.size key.seats n m after)
   ends_out k e =
       let R = moves key.size r.core r.reached.reached n (EndDelete k) (stands key s r id n m at one (EndDelete k) e) in
       let new : List (Mark T) = mark n made.EndOut ∷ [] in

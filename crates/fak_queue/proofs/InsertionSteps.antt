@@ -1,7 +1,7 @@
 -- Each atomic step of an insertion keeps what the queue shows, and tells what it did; so does shutting.
 use Rattle.fak_model.specs.declared.queue.Kind.TheVariants as made
 use Rattle.fak_core.specs.declared.queue.phase.Phase.TheVariants.{Idle, TestUp, AddUp, BackUp, TicketIn, TurnIn, StoreItem, SetFull, EndInsert, SetShut}
-use Rattle.fak_queue.proofs.Common.{UpperCount, QueueLimits, AreWords, IsUpperCount, QueueHolder, IsAtHome, IsEncoded, queue_object, IsShownQueue, ◌≡◌, ◌≢◌, ℕ, ◌+◌, ◌-◌, ◌*◌, ◌/◌, ◌%◌, ◌^◌, ◌<◌, ◌==◌, true, List, [], ◌∷◌, ◌++◌, slice_index, set, refl, sym, ap, ◌∙◌, subst, inl, inr, arith, length-set, bit_or, Option, Some, None, ℤ, pos, int_lt, mod-eq_of_lt, reverse, nat_tests, some, none, get_elem?, count, puts, upper_count, Has, stage, sight, keeps, takes, gives, homes_after, Mark, Putting, count_reverse, has_reverse, has_back, steps, Phase, QueueState, with_at, with_phase, moved, InCell, IsReached, move_from, shown, at_here, at_else, waits_fill, true_or_false, if_true, if_false, moves, inserts, closes, mark, TellsNothing, TestedUp, AddedUp, BacksUp, DrewIn, WaitsIn, TurnedIn, FilledCell, EndsIn, Shuts, QueueMove}
+use Rattle.fak_queue.proofs.Common.{Alike, UpperCount, QueueLimits, AreWords, IsUpperCount, QueueHolder, IsAtHome, IsEncoded, queue_object, IsShownQueue, ◌≡◌, ◌≢◌, ℕ, ◌+◌, ◌-◌, ◌*◌, ◌/◌, ◌%◌, ◌^◌, ◌<◌, ◌==◌, true, List, [], ◌∷◌, ◌++◌, slice_index, set, refl, sym, ap, ◌∙◌, subst, inl, inr, arith, length-set, bit_or, Option, Some, None, ℤ, pos, int_lt, mod-eq_of_lt, reverse, nat_tests, some, none, get_elem?, count, puts, upper_count, Has, stage, sight, keeps, takes, gives, homes_after, Mark, Putting, count_reverse, has_reverse, has_back, steps, Phase, QueueState, with_at, with_phase, moved, InCell, IsReached, move_from, shown, at_here, at_else, waits_fill, true_or_false, if_true, if_false, moves, inserts, closes, mark, TellsNothing, TestedUp, AddedUp, BacksUp, DrewIn, WaitsIn, TurnedIn, FilledCell, EndsIn, Shuts, QueueMove}
 use Rattle.fak_queue.proofs.WordWrites.{below_word, full_word, shut_above, open_below, only_shut, only_below, only_full, shut_word, words_upper, words_draws_in}
 use Rattle.fak_queue.proofs.Slots.{takes_slot, gives_slot, slot_there}
 use Rattle.fak_queue.proofs.Stepping.{QueueTable, queue_law, Permits, K, stands, outside, upper_most, upper_bounds, upper_shut, upper_open, upper_past, loaded, upper_grown, upper_shrunk, lower_grown, few_draws, near, turn_is, turn_set, apart1, apart2, here1, here2, advances, quiet_step}
@@ -18,7 +18,7 @@ module _ {T : Type 0} (key : QueueLimits) (s : QueueTable T) (r : IsShownQueue k
   abbrev After : List (Mark T) → Phase T → QueueHolder T
   After new p = (sight m.0.names (new ++ r.core.past) p m.0.left, m.1)
 
-  pub tests_up : (x : T) → m.0.phase ≡ Some Idle → Step 16 (λ w. w) (λ found after. (u : UpperCount) → IsUpperCount key.size found u → TestedUp key.size key.seats n x u m after)
+  pub tests_up : (x : T) → m.0.phase ≡ Some (Alike Idle) → Step 16 (λ w. w) (λ found after. (u : UpperCount) → IsUpperCount key.size found u → TestedUp key.size key.seats n x u m after)
   tests_up x e =
       let c = with_phase r.core n (TestUp x) in
       let reached_begun = inserts key.size r.core r.reached.reached n x (stands key s r id n m at one Idle e) in
@@ -58,7 +58,7 @@ module _ {T : Type 0} (key : QueueLimits) (s : QueueTable T) (r : IsShownQueue k
             ])
       ]
 
-  pub adds_up : (x : T) → m.0.phase ≡ Some (AddUp x) → Step 16 (λ w. (w + 1) % 2 ^ 64) (λ found after. (u : UpperCount) → IsUpperCount key.size found u → AddedUp key.size key.seats n x u m after)
+  pub adds_up : (x : T) → m.0.phase ≡ Some (Alike (AddUp x)) → Step 16 (λ w. (w + 1) % 2 ^ 64) (λ found after. (u : UpperCount) → IsUpperCount key.size found u → AddedUp key.size key.seats n x u m after)
   adds_up x e =
       let reached_next = moves key.size r.core r.reached.reached n (AddUp x) (stands key s r id n m at one (AddUp x) e) in
       let w = slice_index s.words 16 in
@@ -96,14 +96,14 @@ module _ {T : Type 0} (key : QueueLimits) (s : QueueTable T) (r : IsShownQueue k
             ])
       ]
 
-  pub backs_up : (x : T) → m.0.phase ≡ Some (BackUp x) → Step 16 (λ w. (w + (2 ^ 64 - 1)) % 2 ^ 64) (λ found after. BacksUp key.size key.seats n m after)
+  pub backs_up : (x : T) → m.0.phase ≡ Some (Alike (BackUp x)) → Step 16 (λ w. (w + (2 ^ 64 - 1)) % 2 ^ 64) (λ found after. BacksUp key.size key.seats n m after)
   backs_up x e =
       let R = moves key.size r.core r.reached.reached n (BackUp x) (stands key s r id n m at one (BackUp x) e) in
       let new : List (Mark T) = mark n made.BackIn ∷ [] in
       let q = quiet_step key s r id n m at one _ R new refl (refl, tt) (apart1 key s r id n m at one Idle) refl refl (outside key s r id n m at one (BackUp x) e (λ i j. j)) 16 _ (upper_shrunk key s r id n m at one) Idle (here1 key s r id n m at one Idle) (λ i j. j) m.0.left (omega arith) TellsNothing tt in
       (sight m.0.names (new ++ r.core.past) Idle m.0.left, keeps, tt, q.0, q.1)
 
-  pub draws_in : (x : T) → m.0.phase ≡ Some (TicketIn x) → 0 < m.0.left → Step 48 (λ w. (w + 1) % 2 ^ 64) (DrewIn key.size key.seats n x m)
+  pub draws_in : (x : T) → m.0.phase ≡ Some (Alike (TicketIn x)) → 0 < m.0.left → Step 48 (λ w. (w + 1) % 2 ^ 64) (DrewIn key.size key.seats n x m)
   draws_in x e left =
       let w = slice_index s.words 48 in
       let is : w ≡ r.core.draws_in = r.encoded.words_are.draws_in_is in
@@ -118,7 +118,7 @@ module _ {T : Type 0} (key : QueueLimits) (s : QueueTable T) (r : IsShownQueue k
       (TurnIn w x) (here1 key s r id n m at one p ∙ ap (λ k. TurnIn k x) (sym is)) (λ i j. j) (m.0.left - 1) (omega (arith, left)) (λ past. count puts (reverse past) ≡ w) (count_reverse puts r.core.past ∙ (sym (K key s r id n m at one).draws_in ∙ sym is)) in
       (sight m.0.names (new ++ r.core.past) (TurnIn w x) (m.0.left - 1), keeps, tt, q.0, record { leaves = q.1; few = omega (arith, is, few) })
 
-  pub turns_in : (k : ℕ) (x : T) → m.0.phase ≡ Some (TurnIn k x) → Step (80 + k % key.size) (λ w. w) (TurnedIn key.size key.seats n k x m)
+  pub turns_in : (k : ℕ) (x : T) → m.0.phase ≡ Some (Alike (TurnIn k x)) → Step (80 + k % key.size) (λ w. w) (TurnedIn key.size key.seats n k x m)
   turns_in k x e =
       let i = k % key.size in
       let w = slice_index s.words (80 + i) in
@@ -143,7 +143,7 @@ module _ {T : Type 0} (key : QueueLimits) (s : QueueTable T) (r : IsShownQueue k
               wide = length-set s.homes i none ∙ r.encoded.wide;
               slots_are = takes_slot key.size n r.core s.homes r.encoded.wide r.encoded.slots_are c others refl refl out i (near key s r id n m at one k) inside stands_here;
             } in
-            let q = steps (queue_object key.size key.seats) s r id n m at one (queue_law key.size key.seats r.encoded.some_cell) c [] (StoreItem k x) step (80 + i) w (takes i None) shows m.0.left (omega arith) TellsNothing tt in
+            let q = steps (queue_object key.size key.seats) s r id n m at one (queue_law key.size key.seats r.encoded.some_cell) c [] (Alike (StoreItem k x)) step (80 + i) w (takes i None) shows m.0.left (omega arith) TellsNothing tt in
             (sight m.0.names r.core.past (StoreItem k x) m.0.left, takes i None, home.even (k / key.size) turn, q.0, record { hit = λ _. q.1; miss = λ ne. absurd (ne (is ∙ turn)) }))
         | inr far ↦ (
             let turn : r.core.turn i ≢ 2 * (k / key.size) = λ q. absurd (grind (arith, nat_tests)) in
@@ -156,7 +156,7 @@ module _ {T : Type 0} (key : QueueLimits) (s : QueueTable T) (r : IsShownQueue k
       ]
 
   -- a store that gives the slot back, by two moves of the core
-  pub stores_full : (k v : ℕ) (x : T) (tl : List (ℕ × Option T)) → m.0.phase ≡ Some (StoreItem k x) → m.1 ≡ (k % key.size, Some x) ∷ tl → v ≡ 2 * (k / key.size) + 1
+  pub stores_full : (k v : ℕ) (x : T) (tl : List (ℕ × Option T)) → m.0.phase ≡ Some (Alike (StoreItem k x)) → m.1 ≡ (k % key.size, Some x) ∷ tl → v ≡ 2 * (k / key.size) + 1
       → Step (80 + k % key.size) (λ _. v) (λ found after. FilledCell key.size key.seats n k m after)
   stores_full k v x tl e held v_is =
       let i = k % key.size in
@@ -189,10 +189,10 @@ module _ {T : Type 0} (key : QueueLimits) (s : QueueTable T) (r : IsShownQueue k
             (λ j ne. (at_else r.core.turn i j (2 * (k / key.size) + 1) ne, at_else r.core.cell i j (Some x) ne)) inside mine nowhere (Some x) home;
       } in
       let gives_back : IsEncoded key.size key.seats d (set s.words (80 + i) v) (homes_after s.homes m.1 gives) = subst (λ l. IsEncoded key.size key.seats d (set s.words (80 + i) v) (homes_after s.homes l gives)) (sym held) shows in
-      let q = steps (queue_object key.size key.seats) s r id n m at one (queue_law key.size key.seats r.encoded.some_cell) d new p step (80 + i) v gives gives_back m.0.left (omega arith) TellsNothing tt in
+      let q = steps (queue_object key.size key.seats) s r id n m at one (queue_law key.size key.seats r.encoded.some_cell) d new (Alike p) step (80 + i) v gives gives_back m.0.left (omega arith) TellsNothing tt in
       (sight m.0.names (new ++ r.core.past) p m.0.left, gives, tt, q.0, q.1)
 
-  pub ends_in : (k : ℕ) → m.0.phase ≡ Some (EndInsert k) → Step 32 (λ w. (w + 1) % 2 ^ 64) (λ found after. EndsIn key.size key.seats n m after)
+  pub ends_in : (k : ℕ) → m.0.phase ≡ Some (Alike (EndInsert k)) → Step 32 (λ w. (w + 1) % 2 ^ 64) (λ found after. EndsIn key.size key.seats n m after)
   ends_in k e =
       let R = moves key.size r.core r.reached.reached n (EndInsert k) (stands key s r id n m at one (EndInsert k) e) in
       let new : List (Mark T) = mark n made.EndIn ∷ [] in
@@ -201,7 +201,7 @@ module _ {T : Type 0} (key : QueueLimits) (s : QueueTable T) (r : IsShownQueue k
 
   -- ---- shutting
 
-  pub shuts : m.0.phase ≡ Some Idle → Step 16 (λ w. bit_or w 9223372036854775808) (Shuts key.size key.seats n m)
+  pub shuts : m.0.phase ≡ Some (Alike Idle) → Step 16 (λ w. bit_or w 9223372036854775808) (Shuts key.size key.seats n m)
   shuts e =
       let w = slice_index s.words 16 in
       let b = upper_bounds key s r id n m at one in

@@ -5,7 +5,7 @@ use Rattle.fak_queue.specs.declared.in_use.InUse.{InUse}
 use Rattle.fak_queue.specs.Steps.{ObservedUp, ObservedLow}
 use Rattle.fak_queue.specs.Words.{IsInUse}
 use Rattle.fak_model.proofs.RunningSteps.{observes}
-use Rattle.fak_queue.proofs.Common.{◌≡◌, ◌↔◌, ℕ, ◌+◌, ◌<◌, List, [], ◌∷◌, ◌++◌, Bool, true, false, ℤ, pos, ◌+ℤ◌, refl, sym, ap, ◌∙◌, subst, inl, arith, ints, common_steps, reverse, Some, some, get_elem?, slice_index, bias, In, Has, Close, has_reverse, has_back, stage, stage_else, upper_count, lower_count, keeps, Mark, Phase, QueueHolder, QueueLimits, queue_object, IsShownQueue, Leaves, sight, kept, shut_part, shut_bit, TellsNothing, IsPart, TellsOfNeither, RestsAt, TableId, object_id, SeatInfo, QueueInfo, queue_info, queue_seat, IsQueue, IsQueueSeat, Makes, state_of, drawn_by, token_names, token_slots}
+use Rattle.fak_queue.proofs.Common.{Alike, ◌≡◌, ◌↔◌, ℕ, ◌+◌, ◌<◌, List, [], ◌∷◌, ◌++◌, Bool, true, false, ℤ, pos, ◌+ℤ◌, refl, sym, ap, ◌∙◌, subst, inl, arith, ints, common_steps, reverse, Some, some, get_elem?, slice_index, bias, In, Has, Close, has_reverse, has_back, stage, stage_else, upper_count, lower_count, keeps, Mark, Phase, QueueHolder, QueueLimits, queue_object, IsShownQueue, Leaves, sight, kept, shut_part, shut_bit, TellsNothing, IsPart, TellsOfNeither, RestsAt, TableId, object_id, SeatInfo, QueueInfo, queue_info, queue_seat, IsQueue, IsQueueSeat, Makes, state_of, drawn_by, token_names, token_slots}
 use Rattle.fak_queue.proofs.Shutting.{shut_exactly}
 use Rattle.fak_queue.proofs.WordWrites.{open_below}
 use Rattle.fak_queue.proofs.Stepping.{QueueTable, queue_law, Permits, lower_most, lower_bounds, lower_past, upper_past}
@@ -34,21 +34,21 @@ module _ {T : Type 0} (key : QueueLimits) (s : QueueTable T) (r : IsShownQueue k
         ((λ t. has_reverse Close r.core.past (exact.0 (is.shut.0 t))), (λ h. is.shut.1 (exact.1 (has_back Close r.core.past h)))),
       )
 
-  pub observes_up : (p : Phase T) → m.0.phase ≡ Some p → Permits key s r id n m at one 16 (λ w. w) (λ found after. (u : InUse) → IsInUse found u → ObservedUp key.size key.seats p u m after)
+  pub observes_up : (p : Phase T) → m.0.phase ≡ Some (Alike p) → Permits key s r id n m at one 16 (λ w. w) (λ found after. (u : InUse) → IsInUse found u → ObservedUp key.size key.seats p u m after)
   observes_up p e =
       let o = queue_object key.size key.seats in
       let law = queue_law key.size key.seats r.encoded.some_cell in
-      let quiet : (tells : List (Mark T) → Type 0) → tells r.core.past → _ = λ tells told. observes o s r id n m at one law p e 16 tells told in
+      let quiet : (tells : List (Mark T) → Type 0) → tells r.core.past → _ = λ tells told. observes o s r id n m at one law (Alike p) e 16 tells told in
       (sight m.0.names r.core.past p m.0.left, keeps, tt, (quiet TellsNothing tt).0, λ u is. (quiet (λ past. (u.count ≡ upper_count (reverse past)) × (IsTrue u.is_shut ↔ Has Close (reverse past))) (tells_up u is)).1)
 
   pub few_low : slice_index s.words 32 < shut_bit
   few_low = let b = lower_bounds key s r id n m at one in open_below (slice_index s.words 32) 1024 (lower_most key s r id n m at one) r.core.lower r.encoded.words_are.lower_is b.0 b.1
 
-  pub observes_low : (p : Phase T) → m.0.phase ≡ Some p → Permits key s r id n m at one 32 (λ w. w) (λ found after. (k : ℤ) → pos found ≡ pos bias +ℤ k → ObservedLow key.size key.seats p k m after)
+  pub observes_low : (p : Phase T) → m.0.phase ≡ Some (Alike p) → Permits key s r id n m at one 32 (λ w. w) (λ found after. (k : ℤ) → pos found ≡ pos bias +ℤ k → ObservedLow key.size key.seats p k m after)
   observes_low p e =
       let o = queue_object key.size key.seats in
       let law = queue_law key.size key.seats r.encoded.some_cell in
-      let quiet : (tells : List (Mark T) → Type 0) → tells r.core.past → _ = λ tells told. observes o s r id n m at one law p e 32 tells told in (
+      let quiet : (tells : List (Mark T) → Type 0) → tells r.core.past → _ = λ tells told. observes o s r id n m at one law (Alike p) e 32 tells told in (
         sight m.0.names r.core.past p m.0.left,
         keeps,
         tt,

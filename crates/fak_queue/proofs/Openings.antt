@@ -2,7 +2,7 @@
 use Rattle.fak_core.specs.declared.queue.phase.Phase.TheVariants as phase
 use Rattle.fak_core.specs.QueueSchedule as core
 use Rattle.fak_model.proofs.Appending.{history_none}
-use Rattle.fak_queue.proofs.Common.{QueueLimits, AreWords, seat_of, idle, IsQueueSeat, queue_seat, ◌≡◌, ℕ, zero, suc, ◌+◌, ◌*◌, ◌<◌, false, List, [], ◌∷◌, length, slice_index, map, set, replicate, refl, sym, ◌∙◌, subst, inl, arith, length-set, get_or-set_other, None, pos, length-map, length-replicate, get_or-replicate, some, get_elem?, ObjectId, seat_info, sight, IsSeatToken, queue_rules, bias, opening, is_reached, QueueHolder, IsEncoded, queue_object, IsShownQueue, opened_queue, IsInLargeRange, IsLargeSize, common_steps, starts}
+use Rattle.fak_queue.proofs.Common.{Alike, QueueLimits, AreWords, seat_of, idle, IsQueueSeat, queue_seat, ◌≡◌, ℕ, zero, suc, ◌+◌, ◌*◌, ◌<◌, false, List, [], ◌∷◌, length, slice_index, map, set, replicate, refl, sym, ◌∙◌, subst, inl, arith, length-set, get_or-set_other, None, pos, length-map, length-replicate, get_or-replicate, some, get_elem?, ObjectId, seat_info, sight, IsSeatToken, queue_rules, bias, opening, is_reached, QueueHolder, IsEncoded, queue_object, IsShownQueue, opened_queue, IsInLargeRange, IsLargeSize, common_steps, starts}
 
 read_map : {A : Type 0} (n c : ℕ) (a : A) → c < n → get_elem? (map some (replicate n a)) c ≡ some (some a)
 read_map zero c a near = absurd (omega (arith, near))
@@ -27,11 +27,11 @@ opens_queue {T} key words is range =
       slots_are = λ i lt. inl (record { odd = λ q f. absurd (omega (arith, f)); even = λ q f. read_map key.size i None lt }, λ t inside. inside);
     } in
     let few = range.2.1 in
-    starts (queue_object key.size key.seats) phase.Idle (key.seats * key.stint) core.opening (record { reached = is_reached key.size []; beyond = λ n far. refl }) refl (λ n low. refl) words (replicate key.size None) shows (omega (arith, few))
+    starts (queue_object key.size key.seats) (Alike phase.Idle) (key.seats * key.stint) core.opening (record { reached = is_reached key.size []; beyond = λ n far. refl }) refl (λ n low. refl) words (replicate key.size None) shows (omega (arith, few))
 
 -- a seat as it is dealt
 pub fresh_queue_seat : {T : Type 0} (object : ObjectId) (name stint : ℕ) (m : QueueHolder T) → m ≡ (sight (name ∷ []) [] phase.Idle stint, []) → queue_seat object name stint m ≡ seat_info object name stint []
 fresh_queue_seat {T} object name stint m is = grind (arith, common_steps, queue_seat, seat_info)
 
-pub fresh_keeps : {T : Type 0} (size seats name stint : ℕ) (m : QueueHolder T) → m ≡ (sight (name ∷ []) [] phase.Idle stint, []) → IsSeatToken seat_of seats name phase.Idle stint m → IsQueueSeat size seats name phase.Idle stint m
-fresh_keeps {T} size seats name stint m is token = subst (λ (x : QueueHolder T). IsSeatToken seat_of seats name phase.Idle stint x → IsQueueSeat size seats name phase.Idle stint x) (sym is) (λ t. record { token = t; rests = idle; lawful = history_none (queue_rules size) }) token
+pub fresh_keeps : {T : Type 0} (size seats name stint : ℕ) (m : QueueHolder T) → m ≡ (sight (name ∷ []) [] phase.Idle stint, []) → IsSeatToken seat_of seats name (Alike phase.Idle) stint m → IsQueueSeat size seats name phase.Idle stint m
+fresh_keeps {T} size seats name stint m is token = subst (λ (x : QueueHolder T). IsSeatToken seat_of seats name (Alike phase.Idle) stint x → IsQueueSeat size seats name phase.Idle stint x) (sym is) (λ t. record { token = t; rests = idle; lawful = history_none (queue_rules size) }) token

@@ -1,7 +1,11 @@
 -- What a seat knows as it makes an atomic step, and the steps that take and give no slot.
-use Rattle.fak_queue.proofs.Common.{QueueLimits, shut_part, AreWords, QueueView, QueueHolder, queue_object, IsShownQueue, ◌≡◌, ◌≢◌, ℕ, ◌+◌, ◌-◌, ◌%◌, ◌^◌, ◌<◌, ◌≤◌, List, [], ◌∷◌, ◌++◌, slice_index, set, refl, sym, ap, ◌∙◌, subst, inl, arith, mod-lt, Option, Some, true, false, ℤ, pos, ◌+ℤ◌, ◌-ℤ◌, reverse, All, All-head, All-tail, ints, some, get_elem?, count, puts, gots, upper_raise, upper_drop, lower_raise, lower_drop, upper_count, lower_count, SeatsBelow, In, sight, AreOwn, Leaves, bias, State, Act, keeps, stepped, carried_after, Valid, Mark, count_reverse, upper_range, lower_range, AreLawful, Advances, steps, total_at, Phase, QueueState, with_at, InCell, IsReached, AreIdleFrom, IsKept, at_here, at_else, kept, legal_history}
+use Rattle.fak_queue.proofs.Common.{Alike, Each, Standing, StandsIn, QueueLimits, shut_part, AreWords, QueueView, QueueHolder, queue_object, IsShownQueue, ◌≡◌, ◌≢◌, ℕ, ◌+◌, ◌-◌, ◌%◌, ◌^◌, ◌<◌, ◌≤◌, List, [], ◌∷◌, ◌++◌, slice_index, set, refl, sym, ap, ◌∙◌, subst, inl, arith, mod-lt, Option, Some, true, false, ℤ, pos, ◌+ℤ◌, ◌-ℤ◌, reverse, All, All-head, All-tail, ints, some, get_elem?, count, puts, gots, upper_raise, upper_drop, lower_raise, lower_drop, upper_count, lower_count, SeatsBelow, In, sight, AreOwn, Leaves, bias, State, Act, keeps, stepped, carried_after, Valid, Mark, count_reverse, upper_range, lower_range, AreLawful, Advances, steps, total_at, Phase, QueueState, with_at, InCell, IsReached, AreIdleFrom, IsKept, at_here, at_else, kept, legal_history}
 use Rattle.fak_queue.proofs.WordWrites.{grown, shrunk, shut_part-small, words_same, words_upper, words_lower, words_turn}
 use Rattle.fak_queue.proofs.Slots.{stays_home}
+
+pub stands_else : {T : Type 0} (b c : QueueState T) (n : ℕ) → c.phase n ≡ b.phase n → (q : Standing T) → StandsIn b n q → StandsIn c n q
+stands_else b c n e (Alike p) at = e ∙ at
+stands_else b c n e (Each ps) at = λ p i. e ∙ at p i
 
 abbrev pub QueueTable : Type 0 → Type 0
 QueueTable T = State (Option T) (QueueView T)
@@ -29,10 +33,10 @@ module _ {T : Type 0} (key : QueueLimits) (s : QueueTable T) (r : IsShownQueue k
   K = kept key.size r.core r.reached.reached r.encoded.some_cell
 
   -- the seat stands at p
-  pub stands : (p : Phase T) → m.0.phase ≡ Some p → r.core.phase n ≡ p
-  stands p e = r.stands id m.0 at n (subst (λ (names : List ℕ). In n names) (sym one) (inl refl)) p e
+  pub stands : (p : Phase T) → m.0.phase ≡ Some (Alike p) → r.core.phase n ≡ p
+  stands p e = r.stands id m.0 at n (subst (λ (names : List ℕ). In n names) (sym one) (inl refl)) (Alike p) e
 
-  pub outside : (p : Phase T) → m.0.phase ≡ Some p → ((i : ℕ) → InCell key.size p i → ⊥) → (i : ℕ) → InCell key.size (r.core.phase n) i → ⊥
+  pub outside : (p : Phase T) → m.0.phase ≡ Some (Alike p) → ((i : ℕ) → InCell key.size p i → ⊥) → (i : ℕ) → InCell key.size (r.core.phase n) i → ⊥
   outside p e out i j = out i (subst (λ q. InCell key.size q i) (stands p e) j)
 
   -- its name is one of the queue's seats
@@ -138,8 +142,8 @@ module _ {T : Type 0} (key : QueueLimits) (s : QueueTable T) (r : IsShownQueue k
 
   -- the seat's step led to this state and left these marks, newest first
   pub advances : (c : QueueState T) → IsReached key.size c → (new : List (Mark T)) → c.past ≡ new ++ r.core.past → AreOwn (λ (w : Mark T). w.seat) n new → (p : Phase T) → c.phase n ≡ p
-      → ((t : ℕ) → t ≢ n → c.phase t ≡ r.core.phase t) → Advances (queue_object key.size key.seats) r.core n c new p
-  advances c reached new past own p here others = record { reached = record { reached = reached; beyond = beyond c others }; past = past; own = own; stands = here; others = λ t q ne e. others t ne ∙ e }
+      → ((t : ℕ) → t ≢ n → c.phase t ≡ r.core.phase t) → Advances (queue_object key.size key.seats) r.core n c new (Alike p)
+  advances c reached new past own p here others = record { reached = record { reached = reached; beyond = beyond c others }; past = past; own = own; stands = here; others = λ t q ne e. stands_else r.core c t (others t ne) q e }
 
   -- a step on a word that takes and gives no slot
   pub quiet_step : (c : QueueState T) → IsReached key.size c → (new : List (Mark T)) → c.past ≡ new ++ r.core.past → AreOwn (λ (w : Mark T). w.seat) n new
@@ -149,7 +153,7 @@ module _ {T : Type 0} (key : QueueLimits) (s : QueueTable T) (r : IsShownQueue k
       → let v = sight m.0.names (new ++ r.core.past) p left in
       IsShownQueue key (stepped s i w id m.1 v keeps) × Leaves (queue_object key.size key.seats) m new p left m.1 tells (v, m.1)
   quiet_step c reached new past own phases turn cell out i w words p here nowhere left few tells told =
-      steps (queue_object key.size key.seats) s r id n m at one (queue_law key.size key.seats r.encoded.some_cell) c new p (advances c reached new past own p here phases) i w keeps
+      steps (queue_object key.size key.seats) s r id n m at one (queue_law key.size key.seats r.encoded.some_cell) c new (Alike p) (advances c reached new past own p here phases) i w keeps
       record {
         some_cell = r.encoded.some_cell;
         few_cells = r.encoded.few_cells;

@@ -1,5 +1,5 @@
 -- How a table of words and slots shows a queue.
-use Rattle.std.specs.Prelude.{◌≡◌, ◌⊎◌, ℕ, ◌+◌, ◌*◌, ◌<◌, ◌≤◌, List, length, Option, None}
+use Rattle.std.specs.Prelude.{◌≡◌, ◌⊎◌, ℕ, ◌+◌, ◌*◌, ◌<◌, ◌≤◌, List, [], ◌∷◌, length, Option, None}
 use mathlib.Core.Option.{some, none}
 use mathlib.Core.Option as maybe
 use lib.ListN.{get_elem?}
@@ -7,22 +7,39 @@ use Rattle.atomic_table.specs.Table.{State, Me}
 use Rattle.fak_model.specs.declared.queue.Mark.{Mark}
 use Rattle.fak_model.specs.declared.view.View.{View}
 use Rattle.fak_model.specs.Queue.{Word, WholeCall, count, puts, gots, queue_rules}
-use Rattle.fak_model.specs.Views.{opened}
-use Rattle.fak_model.specs.Shown.{Object, IsShown}
+use Rattle.fak_model.specs.Views.{opened, sight as view}
+use Rattle.fak_model.specs.Shown.{Object, IsShown, Leaves as Left}
 use Rattle.fak_core.specs.declared.queue.phase.Phase.{Phase}
 use Rattle.fak_core.specs.declared.queue.phase.Phase.TheVariants.{Idle}
 use Rattle.fak_core.specs.QueueMoves.{QueueState}
 use Rattle.fak_core.specs.QueueProgress.{AreIdleFrom}
 use Rattle.fak_core.specs.QueueSchedule.{InCell, IsReached}
+use Rattle.fak_core.specs.QueueBlocks.{Posts}
+use Rattle.fak_queue.specs.declared.standing.Standing.{Standing}
+use Rattle.fak_queue.specs.declared.standing.Standing.TheVariants.{Alike, Each}
 use Rattle.fak_queue.specs.declared.limits.QueueLimits.{QueueLimits}
 use Rattle.fak_queue.specs.Words.{AreWords}
 
 -- what a seat of a queue knows, with the slots that it holds
 abbrev pub QueueView : Type 0 → Type 0
-QueueView T = View (Mark T) (Phase T)
+QueueView T = View (Mark T) (Standing T)
 
 abbrev pub QueueHolder : Type 0 → Type 0
 QueueHolder T = Me (Option T) (QueueView T)
+
+-- the name is said to stand at this phase
+abbrev pub IsPost : {T : Type 0} → ℕ → Phase T → Posts T → Type 0
+IsPost n p [] = ⊥
+IsPost n p (s ∷ ss) = ((s.0 ≡ n) × (s.1 ≡ p)) ⊎ IsPost n p ss
+
+-- where the name stands, as this standing says
+abbrev pub StandsIn : {T : Type 0} → QueueState T → ℕ → Standing T → Type 0
+StandsIn core n (Alike p) = core.phase n ≡ p
+StandsIn {T} core n (Each ps) = (p : Phase T) → IsPost n p ps → core.phase n ≡ p
+
+-- a view whose names all stand at this phase, which has compared nothing
+abbrev pub sight : {T : Type 0} → List ℕ → List (Mark T) → Phase T → ℕ → QueueView T
+sight names seen p left = view names seen (Alike p) left
 
 -- a slot at home has its cell's content where the turn is odd, and nothing where it is even
 pub record IsAtHome {T : Type 0} (turn : ℕ) (content : Option T) (home : maybe.Option (maybe.Option (Option T))) : Type 0 where
@@ -50,7 +67,7 @@ pub record IsReachedBy {T : Type 0} (size seats : ℕ) (core : QueueState T) : T
   pub beyond : AreIdleFrom seats core
 
 -- a queue of this size with these seats; at most 2^50 tickets are ever drawn
-abbrev pub queue_object : {T : Type 0} → ℕ → ℕ → Object (Mark T) Word WholeCall (Phase T) (QueueState T) (Option T)
+abbrev pub queue_object : {T : Type 0} → ℕ → ℕ → Object (Mark T) Word WholeCall (Standing T) (QueueState T) (Option T)
 queue_object {T} size seats = record {
   rules = queue_rules size;
   seats = seats;
@@ -58,7 +75,7 @@ queue_object {T} size seats = record {
   drawn_of = λ (core : QueueState T). count puts core.past + count gots core.past;
   past_of = λ (core : QueueState T). core.past;
   IsReached = IsReachedBy size seats;
-  StandsAt = λ (core : QueueState T) (seat : ℕ) (p : Phase T). core.phase seat ≡ p;
+  StandsAt = StandsIn;
   Encodes = IsEncoded size seats;
 }
 
@@ -66,4 +83,8 @@ abbrev pub IsShownQueue : {T : Type 0} → QueueLimits → State (Option T) (Que
 IsShownQueue key s = IsShown (queue_object key.size key.seats) s
 
 abbrev pub opened_queue : {T : Type 0} → QueueLimits → QueueView T
-opened_queue key = opened Idle key.seats (key.seats * key.stint)
+opened_queue key = opened (Alike Idle) key.seats (key.seats * key.stint)
+
+-- a step after which all names of the view stand at this phase
+abbrev pub Leaves : {T : Type 0} → Object (Mark T) Word WholeCall (Standing T) (QueueState T) (Option T) → QueueHolder T → List (Mark T) → Phase T → ℕ → List (ℕ × Option T) → (List (Mark T) → Type 0) → QueueHolder T → Type 0
+Leaves object m new p left carried tells after = Left object m new (Alike p) left carried tells after

@@ -31,6 +31,7 @@ mod queue;
 mod rest;
 mod rule;
 mod seat;
+mod standing;
 mod state;
 mod steps;
 mod tally;

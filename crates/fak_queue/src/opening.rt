@@ -8,10 +8,10 @@ ghost use Rattle.fak_queue.specs.Shown.{opened_queue};
 use crate::fault::OpenFault;
 use crate::limits::QueueLimits;
 use crate::rule::QueueRule;
+use crate::standing::Standing;
 use crate::steps::QueueToken;
 use crate::words::{LOWER, MARGIN, TURNS, UPPER};
 use atomic_table::Table;
-use fak_core::Phase;
 use fak_model::{
     BIAS, LARGE_SIZE, LARGEST_SIZE, LONGEST_STINT, LargeFault, MOST_SEATS, Mark, View,
     tested_large_seats,
@@ -48,7 +48,7 @@ pub(crate) fn tested_large_limits(size: u64, seats: u64, stint: u64) -> Result<(
 /// The table of a queue of such items.
 pub(crate) type QueueTable<T> = Table<
     Option<T>,
-    View<Mark<T>, Phase<T>>,
+    View<Mark<T>, Standing<T>>,
     QueueLimits,
     QueueRule,
     Global,

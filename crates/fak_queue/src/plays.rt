@@ -23,8 +23,8 @@ ghost use Rattle.fak_queue.specs.Steps.{
   TurnsOut,
 };
 
+use crate::standing::Standing;
 use atomic_table::Play;
-use fak_core::Phase;
 use fak_model::{Mark, View};
 use std::marker::{Brand, PhantomData};
 
@@ -46,7 +46,7 @@ pub struct TestUpPlay<J> {
     call: PhantomData<J>,
 }
 
-impl<T, J: Call<T>> Play<Option<T>, View<Mark<T>, Phase<T>>> for TestUpPlay<J> {
+impl<T, J: Call<T>> Play<Option<T>, View<Mark<T>, Standing<T>>> for TestUpPlay<J> {
     ghost then = { λ s m found after. Named m (λ n. TestsUp s.slots J.seats n J.item m found after) };
 }
 
@@ -55,7 +55,7 @@ pub struct AddUpPlay<J> {
     call: PhantomData<J>,
 }
 
-impl<T, J: Call<T>> Play<Option<T>, View<Mark<T>, Phase<T>>> for AddUpPlay<J> {
+impl<T, J: Call<T>> Play<Option<T>, View<Mark<T>, Standing<T>>> for AddUpPlay<J> {
     ghost then = { λ s m found after. Named m (λ n. AddsUp s.slots J.seats n m found after) };
 }
 
@@ -64,7 +64,7 @@ pub struct BackUpPlay<J> {
     call: PhantomData<J>,
 }
 
-impl<T, J: Call<T>> Play<Option<T>, View<Mark<T>, Phase<T>>> for BackUpPlay<J> {
+impl<T, J: Call<T>> Play<Option<T>, View<Mark<T>, Standing<T>>> for BackUpPlay<J> {
     ghost then = { λ s m _ after. Named m (λ n. BacksUp s.slots J.seats n m after) };
 }
 
@@ -73,7 +73,7 @@ pub struct TicketInPlay<J> {
     call: PhantomData<J>,
 }
 
-impl<T, J: Call<T>> Play<Option<T>, View<Mark<T>, Phase<T>>> for TicketInPlay<J> {
+impl<T, J: Call<T>> Play<Option<T>, View<Mark<T>, Standing<T>>> for TicketInPlay<J> {
     ghost then = { λ s m found after. Named m (λ n. DrawsIn s.slots J.seats n m found after) };
 }
 
@@ -82,7 +82,7 @@ pub struct TurnInPlay<J> {
     call: PhantomData<J>,
 }
 
-impl<T, J: Call<T>> Play<Option<T>, View<Mark<T>, Phase<T>>> for TurnInPlay<J> {
+impl<T, J: Call<T>> Play<Option<T>, View<Mark<T>, Standing<T>>> for TurnInPlay<J> {
     ghost then = { λ s m found after. Named m (λ n. TurnsIn s.slots J.seats n m found after) };
 }
 
@@ -91,7 +91,7 @@ pub struct SetFullPlay<J> {
     call: PhantomData<J>,
 }
 
-impl<T, J: Call<T>> Play<Option<T>, View<Mark<T>, Phase<T>>> for SetFullPlay<J> {
+impl<T, J: Call<T>> Play<Option<T>, View<Mark<T>, Standing<T>>> for SetFullPlay<J> {
     ghost then = { λ s m _ after. Named m (λ n. SetsFull s.slots J.seats n m after) };
 }
 
@@ -100,7 +100,7 @@ pub struct EndInPlay<J> {
     call: PhantomData<J>,
 }
 
-impl<T, J: Call<T>> Play<Option<T>, View<Mark<T>, Phase<T>>> for EndInPlay<J> {
+impl<T, J: Call<T>> Play<Option<T>, View<Mark<T>, Standing<T>>> for EndInPlay<J> {
     ghost then = { λ s m _ after. Named m (λ n. EndsIn s.slots J.seats n m after) };
 }
 
@@ -109,7 +109,7 @@ pub struct TestLowPlay<J> {
     call: PhantomData<J>,
 }
 
-impl<T, J: Call<T>> Play<Option<T>, View<Mark<T>, Phase<T>>> for TestLowPlay<J> {
+impl<T, J: Call<T>> Play<Option<T>, View<Mark<T>, Standing<T>>> for TestLowPlay<J> {
     ghost then = { λ s m found after. Named m (λ n. TestsLow s.slots J.seats n m found after) };
 }
 
@@ -118,7 +118,7 @@ pub struct SubLowPlay<J> {
     call: PhantomData<J>,
 }
 
-impl<T, J: Call<T>> Play<Option<T>, View<Mark<T>, Phase<T>>> for SubLowPlay<J> {
+impl<T, J: Call<T>> Play<Option<T>, View<Mark<T>, Standing<T>>> for SubLowPlay<J> {
     ghost then = { λ s m found after. Named m (λ n. SubtractsLow s.slots J.seats n m found after) };
 }
 
@@ -127,7 +127,7 @@ pub struct BackLowPlay<J> {
     call: PhantomData<J>,
 }
 
-impl<T, J: Call<T>> Play<Option<T>, View<Mark<T>, Phase<T>>> for BackLowPlay<J> {
+impl<T, J: Call<T>> Play<Option<T>, View<Mark<T>, Standing<T>>> for BackLowPlay<J> {
     ghost then = { λ s m _ after. Named m (λ n. BacksLow s.slots J.seats n m after) };
 }
 
@@ -136,7 +136,7 @@ pub struct TicketOutPlay<J> {
     call: PhantomData<J>,
 }
 
-impl<T, J: Call<T>> Play<Option<T>, View<Mark<T>, Phase<T>>> for TicketOutPlay<J> {
+impl<T, J: Call<T>> Play<Option<T>, View<Mark<T>, Standing<T>>> for TicketOutPlay<J> {
     ghost then = { λ s m found after. Named m (λ n. DrawsOut s.slots J.seats n m found after) };
 }
 
@@ -145,7 +145,7 @@ pub struct TurnOutPlay<J> {
     call: PhantomData<J>,
 }
 
-impl<T, J: Call<T>> Play<Option<T>, View<Mark<T>, Phase<T>>> for TurnOutPlay<J> {
+impl<T, J: Call<T>> Play<Option<T>, View<Mark<T>, Standing<T>>> for TurnOutPlay<J> {
     ghost then = { λ s m found after. Named m (λ n. TurnsOut s.slots J.seats n m found after) };
 }
 
@@ -154,7 +154,7 @@ pub struct SetFreePlay<J> {
     call: PhantomData<J>,
 }
 
-impl<T, J: Call<T>> Play<Option<T>, View<Mark<T>, Phase<T>>> for SetFreePlay<J> {
+impl<T, J: Call<T>> Play<Option<T>, View<Mark<T>, Standing<T>>> for SetFreePlay<J> {
     ghost then = { λ s m _ after. Named m (λ n. SetsFree s.slots J.seats n m after) };
 }
 
@@ -163,7 +163,7 @@ pub struct EndOutPlay<J> {
     call: PhantomData<J>,
 }
 
-impl<T, J: Call<T>> Play<Option<T>, View<Mark<T>, Phase<T>>> for EndOutPlay<J> {
+impl<T, J: Call<T>> Play<Option<T>, View<Mark<T>, Standing<T>>> for EndOutPlay<J> {
     ghost then = { λ s m _ after. Named m (λ n. EndsOut s.slots J.seats n m after) };
 }
 
@@ -172,7 +172,7 @@ pub struct ShutPlay<J> {
     call: PhantomData<J>,
 }
 
-impl<T, J: Call<T>> Play<Option<T>, View<Mark<T>, Phase<T>>> for ShutPlay<J> {
+impl<T, J: Call<T>> Play<Option<T>, View<Mark<T>, Standing<T>>> for ShutPlay<J> {
     ghost then = { λ s m found after. Named m (λ n. Shuts s.slots J.seats n m found after) };
 }
 
@@ -181,7 +181,7 @@ pub struct ObserveUpPlay<J> {
     call: PhantomData<J>,
 }
 
-impl<T, J: Call<T>> Play<Option<T>, View<Mark<T>, Phase<T>>> for ObserveUpPlay<J> {
+impl<T, J: Call<T>> Play<Option<T>, View<Mark<T>, Standing<T>>> for ObserveUpPlay<J> {
     ghost then = { λ s m found after. ObservesUp s.slots J.seats m found after };
 }
 
@@ -190,7 +190,7 @@ pub struct ObserveLowPlay<J> {
     call: PhantomData<J>,
 }
 
-impl<T, J: Call<T>> Play<Option<T>, View<Mark<T>, Phase<T>>> for ObserveLowPlay<J> {
+impl<T, J: Call<T>> Play<Option<T>, View<Mark<T>, Standing<T>>> for ObserveLowPlay<J> {
     ghost then = { λ s m found after. ObservesLow s.slots J.seats m found after };
 }
 
@@ -199,6 +199,6 @@ pub struct HearPlay<J> {
     call: PhantomData<J>,
 }
 
-impl<T, J: Call<T>> Play<Option<T>, View<Mark<T>, Phase<T>>> for HearPlay<J> {
+impl<T, J: Call<T>> Play<Option<T>, View<Mark<T>, Standing<T>>> for HearPlay<J> {
     ghost then = { λ s m _ after. HeardJoin s.slots J.seats m after };
 }

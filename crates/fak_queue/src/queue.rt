@@ -23,6 +23,7 @@ use crate::opening::{empty_table, tested_large_limits, tested_limits};
 use crate::rest::Rest;
 use crate::rule::QueueRule;
 use crate::seat::Seat;
+use crate::standing::Standing;
 use crate::steps::{hear, shut};
 use crate::tally::Tally;
 use crate::turns::{
@@ -42,7 +43,7 @@ use std::sync::Wait;
 /// no lock. Contracts see which object it is and its size.
 #[derive(Drop)]
 pub struct Queue<T> {
-    pub(crate) table: Table<Option<T>, View<Mark<T>, Phase<T>>, QueueLimits, QueueRule, Global>,
+    pub(crate) table: Table<Option<T>, View<Mark<T>, Standing<T>>, QueueLimits, QueueRule, Global>,
     pub(crate) cells: Cells,
 }
 

@@ -7,27 +7,33 @@ pub(crate) mod observation;
 ghost use Rattle.std.specs.Prelude.{◌≡◌, Some};
 ghost use Rattle.fak_model.specs.Views.{HasOneName};
 ghost use Rattle.fak_core.specs.declared.queue.phase.Phase.TheVariants.{Idle};
+ghost use Rattle.fak_queue.specs.declared.standing.Standing.TheVariants.{Alike};
 ghost use Rattle.fak_queue.specs.Steps.{FitsTable, HeardJoin, Named, ShutAs};
 
 use crate::limits::QueueLimits;
 use crate::plays::{Call, HearPlay, ShutPlay};
 use crate::rule::QueueRule;
+use crate::standing::Standing;
 use crate::words::{SHUT, UPPER};
 use atomic_table::Shared;
-use fak_core::Phase;
 use fak_model::{Mark, View};
 
 /// A seat at a queue's table.
-pub(crate) type QueueToken<T> = atomic_table::Seat<Option<T>, View<Mark<T>, Phase<T>>>;
+pub(crate) type QueueToken<T> = atomic_table::Seat<Option<T>, View<Mark<T>, Standing<T>>>;
 
 /// The words and the slots of a queue.
-pub(crate) type QueueWords<T> = Shared<Option<T>, View<Mark<T>, Phase<T>>, QueueLimits, QueueRule>;
+pub(crate) type QueueWords<T> = Shared<
+    Option<T>,
+    View<Mark<T>, Standing<T>>,
+    QueueLimits,
+    QueueRule,
+>;
 
 /// Sets the shut bit, and tells whether it was not set before.
 pub(crate) fn shut<T, J: Call<T>>(words: &QueueWords<T>, token: &mut QueueToken<T>) -> bool
     requires table { FitsTable token.old.table_id words.now.table_id words.now.key J.seats }
     requires seat { HasOneName token.old.me.0 }
-    requires phase { token.old.me.0.phase ≡ Some Idle }
+    requires phase { token.old.me.0.phase ≡ Some (Alike Idle) }
     ensures same { token.new.table_id ≡ token.old.table_id }
     ensures told { Named token.old.me
         (λ n. ShutAs words.now.table_id.slots J.seats n result token.old.me token.new.me) }

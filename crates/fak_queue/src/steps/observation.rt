@@ -3,6 +3,7 @@
 ghost use Rattle.std.specs.Prelude.{◌≡◌, Some};
 ghost use Rattle.fak_model.specs.Views.{HasOneName};
 ghost use Rattle.fak_core.specs.declared.queue.phase.Phase.{Phase};
+ghost use Rattle.fak_queue.specs.declared.standing.Standing.TheVariants.{Alike};
 ghost use Rattle.fak_queue.specs.Steps.{FitsTable, ObservedLow, ObservedUp};
 
 use crate::in_use::InUse;
@@ -15,9 +16,9 @@ use fak_model::count_of;
 pub(crate) fn observe_up<T, J: Call<T>>(words: &QueueWords<T>, token: &mut QueueToken<T>) -> InUse
     requires table { FitsTable token.old.table_id words.now.table_id words.now.key J.seats }
     requires seat { HasOneName token.old.me.0 }
-    requires phase { (p : Phase T) × (token.old.me.0.phase ≡ Some p) }
+    requires phase { (p : Phase T) × (token.old.me.0.phase ≡ Some (Alike p)) }
     ensures same { token.new.table_id ≡ token.old.table_id }
-    ensures told { (p : Phase T) → token.old.me.0.phase ≡ Some p
+    ensures told { (p : Phase T) → token.old.me.0.phase ≡ Some (Alike p)
         → ObservedUp words.now.table_id.slots J.seats p result token.old.me token.new.me }
 {
     read_in_use(words.load::<ObserveUpPlay<J>>(token, UPPER))
@@ -27,9 +28,9 @@ pub(crate) fn observe_up<T, J: Call<T>>(words: &QueueWords<T>, token: &mut Queue
 pub(crate) fn observe_low<T, J: Call<T>>(words: &QueueWords<T>, token: &mut QueueToken<T>) -> i64
     requires table { FitsTable token.old.table_id words.now.table_id words.now.key J.seats }
     requires seat { HasOneName token.old.me.0 }
-    requires phase { (p : Phase T) × (token.old.me.0.phase ≡ Some p) }
+    requires phase { (p : Phase T) × (token.old.me.0.phase ≡ Some (Alike p)) }
     ensures same { token.new.table_id ≡ token.old.table_id }
-    ensures told { (p : Phase T) → token.old.me.0.phase ≡ Some p
+    ensures told { (p : Phase T) → token.old.me.0.phase ≡ Some (Alike p)
         → ObservedLow words.now.table_id.slots J.seats p result token.old.me token.new.me }
 {
     count_of(words.load::<ObserveLowPlay<J>>(token, LOWER))
