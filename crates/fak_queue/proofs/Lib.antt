@@ -25,3 +25,11 @@ pub mod Leaving
 pub mod Closing
 pub mod Observations
 pub mod Draining
+pub mod BurstPosts
+pub mod BurstWords
+pub mod BurstBlocks
+pub mod BurstInsertions
+pub mod BurstDeletions
+pub mod BurstTurns
+pub mod BurstAllowed
+pub mod BurstClaims

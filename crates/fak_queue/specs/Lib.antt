@@ -9,3 +9,4 @@ pub mod Left
 pub mod Rests
 pub mod Sums
 pub mod Drained
+pub mod Bursts

@@ -15,6 +15,7 @@
 //! `docs/CALLING.md` is the guide for callers; `crates/pool_of_workers` and `crates/page_frames` are programs to begin from.
 
 mod admission;
+mod bursts;
 mod cells;
 mod contention;
 mod fault;

@@ -1,0 +1,22 @@
+use Rattle.fak_queue.proofs.BurstClaims.{draw_count, draw_names, draw_left, claims_burst}
+use Rattle.fak_queue.proofs.bursts.admission.admit_burst.Goals as goal
+
+pub draw_burst-requires-clause-count : goal.draw_burst-requires-clause-count
+draw_burst-requires-clause-count g c =
+    let n = c.requires.names in
+    draw_count c.args.words.now.table_id.slots c.args.words.now.key.seats c.args.names.now c.args.items.now n.0 n.2 c.args.token.now.me c.claim_room.new.token.me n.1 c.in-Ok.granted c.in-Ok.ensures.told c.requires.some.1
+
+pub draw_burst-requires-clause-names : goal.draw_burst-requires-clause-names
+draw_burst-requires-clause-names g c =
+    let n = c.requires.names in
+    draw_names c.args.words.now.table_id.slots c.args.words.now.key.seats c.args.names.now c.args.items.now n.0 n.2 c.args.token.now.me c.claim_room.new.token.me n.1 c.in-Ok.granted c.in-Ok.ensures.told
+
+pub draw_burst-requires-clause-left : goal.draw_burst-requires-clause-left
+draw_burst-requires-clause-left g c =
+    let n = c.requires.names in
+    draw_left c.args.words.now.table_id.slots c.args.words.now.key.seats c.args.names.now c.args.items.now n.0 n.2 c.args.token.now.me c.claim_room.new.token.me n.1 c.in-Ok.granted c.in-Ok.ensures.told c.requires.left
+
+pub returns-in-Ok-clause-told : goal.returns-in-Ok-clause-told
+returns-in-Ok-clause-told g c =
+    let n = c.requires.names in
+    claims_burst c.args.words.now.table_id.slots c.args.words.now.key.seats c.args.names.now c.args.items.now n.0 n.2 c.args.token.now.me c.claim_room.new.token.me n.1 c.in-Ok.granted c.in-Ok.ensures.told _ c.draw_burst.new.token.me c.draw_burst.ensures.told

@@ -1,0 +1,39 @@
+use Rattle.fak_queue.proofs.Common.{arith, ◌≡◌, ℕ, ◌-◌, ◌≤◌, ◌∙◌, length, sym, nat_tests}
+use Rattle.fak_core.specs.declared.queue.phase.Phase.TheVariants.{TicketIn}
+use Rattle.fak_queue.proofs.BurstClaims.{over_length, none_over, once_over, over_apart, over_in, backed_phase, backed_makes, backed_from, rests_so}
+use Rattle.fak_queue.proofs.bursts.admission.back_over.Goals as goal
+
+-- the names that are granted, as the step counts them
+counted : (d n j : ℕ) → d ≡ n → j ≤ d → n - (d - j) ≡ j
+counted d n j e le = omega (arith, e, le)
+
+pub back_burst-requires-clause-count : goal.back_burst-requires-clause-count
+back_burst-requires-clause-count g c =
+    let k = c.requires.count in
+    let names = c.requires.names in
+    let xs = c.args.items.now in
+    let l = over_length c.args.names.now xs names.2 (length xs - (c.args.count - c.args.granted)) in
+    (omega (arith, k.0, k.2) ∙ sym l, omega (arith, k.1))
+
+pub back_burst-requires-clause-names : goal.back_burst-requires-clause-names
+back_burst-requires-clause-names g c =
+    let names = c.requires.names in
+    let ns = c.args.names.now in
+    let xs = c.args.items.now in
+    let j = length xs - (c.args.count - c.args.granted) in
+    (once_over ns xs names.0 names.2 j, over_apart ns xs names.0 names.2 j (λ x. TicketIn x), over_in ns xs names.0 names.2 j (λ x. TicketIn x) _ names.1)
+
+pub back_burst-requires-clause-phase : goal.back_burst-requires-clause-phase
+back_burst-requires-clause-phase g c = let k = c.requires.count in backed_from _ _ c.args.token.now.me _ c.args.granted (counted c.args.count (length c.args.items.now) c.args.granted k.0 k.2) c.requires.phase
+
+pub returns-then-granted-count-clause-phase : goal.returns-then-granted-count-clause-phase
+returns-then-granted-count-clause-phase g c = let k = c.requires.count in backed_phase _ _ _ _ _ _ _ c.args.granted (counted c.args.count (length c.args.items.now) c.args.granted k.0 k.2) c.back_burst.ensures.told
+
+pub returns-then-granted-count-clause-makes : goal.returns-then-granted-count-clause-makes
+returns-then-granted-count-clause-makes g c = let k = c.requires.count in λ _. backed_makes _ _ _ _ _ _ _ c.args.granted (counted c.args.count (length c.args.items.now) c.args.granted k.0 k.2) c.back_burst.ensures.told
+
+pub returns-else-granted-count-clause-phase : goal.returns-else-granted-count-clause-phase
+returns-else-granted-count-clause-phase g c =
+    let k = c.requires.count in
+    let none = c.if-granted-count.false in
+    rests_so _ _ c.args.token.now.me c.args.granted (none_over c.args.names.now c.args.items.now c.requires.names.2 c.args.granted (grind (arith, nat_tests, none, k))) c.requires.phase

@@ -1,0 +1,144 @@
+//! The atomic steps of a burst of deletions, on the token of a bundle.
+
+ghost use Rattle.std.specs.Prelude.{◌≡◌, ◌≤◌, ◌++◌, ◌∷◌, ℕ, List, None, Option, Some, length};
+ghost use Rattle.fak_core.specs.declared.queue.phase.Phase.TheVariants.{BackLow, EndDelete, Idle, LoadItem, SubLow, TicketOut, TurnOut};
+ghost use Rattle.fak_core.specs.QueueBlocks.{AreApart, Posts, all_at, names_of};
+ghost use Rattle.fak_queue.specs.Steps.{FitsTable, IsPlace};
+ghost use Rattle.fak_queue.specs.declared.standing.Standing.TheVariants.{Alike, Each};
+ghost use Rattle.fak_queue.specs.Bursts.{AllIn, AreDisjoint, AreIdle, BackLowBurst, DrewOutBurst, EndedOutBurst};
+ghost use Rattle.fak_queue.specs.Bursts.{FreesBurst, Says, SaysAfter, SubbedBurst, TestedLowBurst, TurnsOutBurst};
+ghost use Rattle.fak_queue.specs.Shown.{IsPost};
+ghost use Rattle.fak_model.specs.Seats.{In};
+
+use crate::bursts::plays::{
+    BackLowBurstPlay, DrawOutBurstPlay, EndOutBurstPlay, Ends, FreeBurstPlay, OneName,
+    SubBurstPlay, Takers, TestLowBurstPlay, TurnOutBurstPlay,
+};
+use crate::place::Place;
+use crate::steps::{QueueToken, QueueWords};
+use crate::words::{DRAWS_OUT, LOWER, TURNS, UPPER};
+
+/// Tests the lower count for the burst's names, and answers its word.
+pub(crate) fn test_low_burst<T, J: Takers<T>>(
+    words: &QueueWords<T>,
+    token: &mut QueueToken<T>,
+) -> u64
+    requires table { FitsTable token.old.table_id words.now.table_id words.now.key J.seats }
+    requires names { AreApart (names_of J.items) × AreDisjoint (names_of J.items) (names_of J.others)
+        × AllIn (names_of J.items ++ names_of J.others) token.old.me.0.names
+        × AllIn token.old.me.0.names (names_of J.items ++ names_of J.others) }
+    requires idle { AreIdle J.others }
+    requires phase { token.old.me.0.phase ≡ Some (Alike Idle) }
+    ensures same { token.new.table_id ≡ token.old.table_id }
+    ensures told { TestedLowBurst words.now.table_id.slots J.seats J.items J.others token.old.me result token.new.me }
+{
+    words.load::<TestLowBurstPlay<J>>(token, LOWER)
+}
+
+/// Subtracts the number of the burst's names from the lower count, and answers what it was before.
+pub(crate) fn sub_burst<T, J: Takers<T>>(
+    words: &QueueWords<T>,
+    token: &mut QueueToken<T>,
+    count: u64,
+) -> u64
+    requires table { FitsTable token.old.table_id words.now.table_id words.now.key J.seats }
+    requires count { (count ≡ length J.items) × (count ≤ 1024) }
+    requires names { AreApart (names_of J.items) × AreDisjoint (names_of J.items) (names_of J.others)
+        × AllIn (names_of J.items ++ names_of J.others) token.old.me.0.names }
+    requires phase { Says token.old.me.0 (all_at (λ x. SubLow) J.items ++ J.others) }
+    ensures same { token.new.table_id ≡ token.old.table_id }
+    ensures told { SubbedBurst words.now.table_id.slots J.seats J.items J.others token.old.me result token.new.me }
+{
+    words.fetch_sub::<SubBurstPlay<J>>(token, LOWER, count)
+}
+
+/// Gives back what was subtracted for the burst's names.
+pub(crate) fn back_low_burst<T, J: Takers<T>>(
+    words: &QueueWords<T>,
+    token: &mut QueueToken<T>,
+    count: u64,
+)
+    requires table { FitsTable token.old.table_id words.now.table_id words.now.key J.seats }
+    requires count { (count ≡ length J.items) × (count ≤ 1024) }
+    requires names { AreApart (names_of J.items) × AreDisjoint (names_of J.items) (names_of J.others)
+        × AllIn (names_of J.items ++ names_of J.others) token.old.me.0.names }
+    requires phase { Says token.old.me.0 (all_at (λ x. BackLow) J.items ++ J.others) }
+    requires then { SaysAfter token.old.me.0.names (all_at (λ x. Idle) J.items ++ J.others) J.then }
+    ensures same { token.new.table_id ≡ token.old.table_id }
+    ensures told { BackLowBurst words.now.table_id.slots J.seats J.items J.others J.then token.old.me token.new.me }
+{
+    words.fetch_add::<BackLowBurstPlay<J>>(token, LOWER, count);
+}
+
+/// Draws a deletion's ticket for each of the burst's names, and answers the first.
+pub(crate) fn draw_out_burst<T, J: Takers<T>>(
+    words: &QueueWords<T>,
+    token: &mut QueueToken<T>,
+    count: u64,
+) -> u64
+    requires table { FitsTable token.old.table_id words.now.table_id words.now.key J.seats }
+    requires count { (count ≡ length J.items) × (count ≤ 1024) }
+    requires names { AreApart (names_of J.items) × AreDisjoint (names_of J.items) (names_of J.others)
+        × AllIn (names_of J.items ++ names_of J.others) token.old.me.0.names }
+    requires phase { Says token.old.me.0 (all_at (λ x. TicketOut) J.items ++ J.others) }
+    requires left { count ≤ token.old.me.0.left }
+    ensures same { token.new.table_id ≡ token.old.table_id }
+    ensures told { DrewOutBurst words.now.table_id.slots J.seats J.items J.others token.old.me result token.new.me }
+{
+    words.fetch_add::<DrawOutBurstPlay<J>>(token, DRAWS_OUT, count)
+}
+
+/// Loads the turn of the cell of one name's ticket. The name is for the proof alone.
+pub(crate) fn turn_out_burst<T, J: OneName>(
+    words: &QueueWords<T>,
+    token: &mut QueueToken<T>,
+    place: Place,
+    _name: u64,
+) -> u64
+    requires table { FitsTable token.old.table_id words.now.table_id words.now.key J.seats }
+    requires place { IsPlace words.now.table_id.slots place }
+    requires name { In J.name token.old.me.0.names }
+    requires phase { (all : Posts T) × (token.old.me.0.phase ≡ Some (Each all))
+        × IsPost J.name (TurnOut place.ticket) all }
+    ensures same { token.new.table_id ≡ token.old.table_id }
+    ensures told { TurnsOutBurst words.now.table_id.slots J.seats J.name token.old.me result token.new.me }
+{
+    words.load::<TurnOutBurstPlay<J>>(token, place.cell + TURNS)
+}
+
+/// Gives one name's slot back empty, and makes its cell free for the next round.
+pub(crate) fn free_burst<T, J: OneName>(
+    words: &QueueWords<T>,
+    token: &mut QueueToken<T>,
+    place: Place,
+    _name: u64,
+)
+    requires table { FitsTable token.old.table_id words.now.table_id words.now.key J.seats }
+    requires place { IsPlace words.now.table_id.slots place }
+    requires name { In J.name token.old.me.0.names }
+    requires phase { (all : Posts T) × (token.old.me.0.phase ≡ Some (Each all))
+        × IsPost J.name (LoadItem place.ticket) all }
+    requires slot { (others : List (ℕ × Option T)) × (token.old.me.1 ≡ (place.cell, None) ∷ others) }
+    ensures same { token.new.table_id ≡ token.old.table_id }
+    ensures told { FreesBurst words.now.table_id.slots J.seats J.name token.old.me token.new.me }
+{
+    words.store::<FreeBurstPlay<J>>(token, place.cell + TURNS, 2 * place.round + 2);
+}
+
+/// Subtracts the number of these names from the upper count, which ends their deletions.
+pub(crate) fn end_out_burst<T, J: Ends<T>>(
+    words: &QueueWords<T>,
+    token: &mut QueueToken<T>,
+    count: u64,
+)
+    requires table { FitsTable token.old.table_id words.now.table_id words.now.key J.seats }
+    requires count { (count ≡ length J.items) × (count ≤ 1024) }
+    requires names { AreApart (names_of J.items) × AreDisjoint (names_of J.items) (names_of J.others)
+        × AllIn (names_of J.items ++ names_of J.others) token.old.me.0.names }
+    requires phase { Says token.old.me.0 (all_at (λ k. EndDelete k) J.items ++ J.others) }
+    requires then { SaysAfter token.old.me.0.names (all_at (λ k. Idle) J.items ++ J.others) J.then }
+    ensures same { token.new.table_id ≡ token.old.table_id }
+    ensures told { EndedOutBurst words.now.table_id.slots J.seats J.items J.then token.old.me token.new.me }
+{
+    words.fetch_sub::<EndOutBurstPlay<J>>(token, UPPER, count);
+}
