@@ -1,185 +1,17 @@
--- From the atomic steps of a burst to its claim.
+-- From the atomic steps of a burst of insertions to its claim.
 use Rattle.std.specs.Prelude.{take, drop, min}
-use Rattle.std.proofs.lemmas.List.{append-nil, length-take-le, length-drop, take-append-drop, reverse-append, append_assoc}
+use Rattle.std.proofs.lemmas.List.{append-nil, length-take-le, append_assoc}
 use Rattle.fak_model.specs.declared.queue.Kind.TheVariants as made
-use Rattle.fak_model.specs.Histories.{AreNamed, IsHistory}
-use Rattle.fak_model.specs.Seats.{Begins, marks_of}
 use Rattle.fak_model.specs.Shown.{Leaves}
-use Rattle.fak_model.proofs.RunningCalls.{sees_knows}
-use Rattle.fak_model.proofs.RunningViews.{sees_begins}
-use Rattle.fak_model.proofs.Seats.{in_either, in_left, in_right, marks_of_append}
+use Rattle.fak_model.proofs.Seats.{in_either}
 use Rattle.fak_core.specs.declared.queue.phase.Phase.TheVariants.{Idle, AddUp, BackUp, TicketIn}
-use Rattle.fak_core.specs.QueueBlocks.{Posts, names_of, AreApart, all_at, marks_back}
-use Rattle.fak_core.proofs.QueueBlocks.{names-append, names-at, apart_left, apart_right, apart_both}
+use Rattle.fak_core.specs.QueueBlocks.{names_of, AreApart, all_at, marks_back}
+use Rattle.fak_core.proofs.QueueBlocks.{names-append, names-at}
 use Rattle.fak_queue.specs.declared.found.NoRoom.{NoRoom}
-use Rattle.fak_queue.specs.Bursts.{AllIn, AreDisjoint, AreIdle, Says, SaysAfter, Makes, TestedBurst, AddedBurst, AddedSome, TellsUpper, DrewBurst, ClaimedBurst, RoomBurst, NoneBurst, RefusedBurst, granted_of, BackBurst, pair_up, idle_posts, claims_at}
-use Rattle.fak_core.proofs.QueueBlocks.{no_items}
-use Rattle.fak_queue.proofs.BurstPosts.{idle_all, idle_both, post_left, post_right}
-use Rattle.fak_queue.proofs.Common.{IsPost, QueueView, QueueHolder, queue_object, queue_rules, Alike, Each, Standing, IsUpperCount, Ok, Err, Full, Shut, upper_count, bias, ints, common_steps, le_or_lt, ℤ, pos, ◌+ℤ◌, ◌<◌, ◌^◌, ◌≡◌, ◌⊎◌, ℕ, suc, ◌+◌, ◌-◌, ◌≤◌, List, [], ◌∷◌, ◌++◌, length, refl, sym, ap, ◌∙◌, subst, inl, inr, arith, reverse, In, Mark, Phase}
-
--- ---- names
-
-pub pair_names : {T : Type 0} (ns : List ℕ) (xs : List T) → length xs ≤ length ns → names_of (pair_up ns xs) ≡ take (length xs) ns
-pair_names [] [] fit = refl
-pair_names [] (x ∷ xs) fit = absurd (omega (arith, fit))
-pair_names (n ∷ ns) [] fit = refl
-pair_names (n ∷ ns) (x ∷ xs) fit = ap (λ l. n ∷ l) (pair_names ns xs (omega (arith, fit)))
-
-pub idle_names : (T : Type 0) (ns : List ℕ) → names_of (idle_posts {T = T} ns) ≡ ns
-idle_names T [] = refl
-idle_names T (n ∷ ns) = ap (λ l. n ∷ l) (idle_names T ns)
-
-pub idle_rest : (T : Type 0) (ns : List ℕ) → AreIdle (idle_posts {T = T} ns)
-idle_rest T [] = tt
-idle_rest T (n ∷ ns) = (refl, idle_rest T ns)
-
-all_of : (a names : List ℕ) → ((n : ℕ) → In n a → In n names) → AllIn a names
-all_of [] names among = tt
-all_of (n ∷ a) names among = (among n (inl refl), all_of a names (λ k i. among k (inr i)))
-
-post_either : {T : Type 0} (a b : Posts T) (n : ℕ) (p : Phase T) → IsPost n p (a ++ b) → IsPost n p a ⊎ IsPost n p b
-post_either [] b n p i = inr i
-post_either (s ∷ a) b n p (inl e) = inl (inl e)
-post_either (s ∷ a) b n p (inr i) = elim (post_either a b n p i) [ inl x ↦ inl (inr x) | inr y ↦ inr y ]
-
--- the first two parts change places
-pub post_swap : {T : Type 0} (a b c : Posts T) (n : ℕ) (p : Phase T) → IsPost n p (a ++ (b ++ c)) → IsPost n p (b ++ (a ++ c))
-post_swap a b c n p i = elim (post_either a (b ++ c) n p i) [
-  | inl x ↦ post_right b (a ++ c) n p (post_left a c n p x)
-  | inr y ↦ elim (post_either b c n p y) [
-    | inl z ↦ post_left b (a ++ c) n p z
-    | inr z ↦ post_right b (a ++ c) n p (post_right a c n p z)
-  ]
-]
-
-pub says_swap : {T : Type 0} (v : QueueView T) (a b c : Posts T) → Says v (a ++ (b ++ c)) → Says v (b ++ (a ++ c))
-says_swap v a b c e = (e.0, e.1, λ n p i. e.2 n p (post_swap b a c n p i))
-
--- ---- the names that take part, of which the first j are granted
-
-module _ {T : Type 0} (ns : List ℕ) (xs : List T) (apart : AreApart ns) (fit : length xs ≤ length ns) where
-  zs : List (ℕ × T)
-  zs = pair_up ns xs
-
-  rest : Posts T
-  rest = idle_posts (drop (length xs) ns)
-
-  pub whole : names_of (pair_up ns xs) ++ names_of (idle_posts {T = T} (drop (length xs) ns)) ≡ ns
-  whole = (λ i. pair_names ns xs fit i ++ idle_names T (drop (length xs) ns) i) ∙ take-append-drop (length xs) ns
-
-  cut : AreApart (names_of (pair_up ns xs) ++ names_of (idle_posts {T = T} (drop (length xs) ns)))
-  cut = subst AreApart (sym whole) apart
-
-  pub once : AreApart (names_of (pair_up ns xs))
-  once = apart_left (names_of (pair_up ns xs)) (names_of (idle_posts {T = T} (drop (length xs) ns))) cut
-
-  pub from_rest : AreDisjoint (names_of (pair_up ns xs)) (names_of (idle_posts {T = T} (drop (length xs) ns)))
-  from_rest = apart_both (names_of (pair_up ns xs)) (names_of (idle_posts {T = T} (drop (length xs) ns))) cut
-
-  in_zs : (n : ℕ) → In n (names_of (pair_up ns xs)) → In n ns
-  in_zs n i = subst (In n) whole (in_left n (names_of (pair_up ns xs)) (names_of (idle_posts {T = T} (drop (length xs) ns))) i)
-
-  in_rest : (n : ℕ) → In n (names_of (idle_posts {T = T} (drop (length xs) ns))) → In n ns
-  in_rest n i = subst (In n) whole (in_right n (names_of (pair_up ns xs)) (names_of (idle_posts {T = T} (drop (length xs) ns))) i)
-
-  module _ (j : ℕ) where
-    parts : names_of (take j (pair_up ns xs)) ++ names_of (drop j (pair_up ns xs)) ≡ names_of (pair_up ns xs)
-    parts = sym (names-append (take j (pair_up ns xs)) (drop j (pair_up ns xs))) ∙ ap (λ l. names_of l) (take-append-drop j (pair_up ns xs))
-
-    split : AreApart (names_of (take j (pair_up ns xs)) ++ names_of (drop j (pair_up ns xs)))
-    split = subst AreApart (sym parts) once
-
-    pub once_granted : AreApart (names_of (take j (pair_up ns xs)))
-    once_granted = apart_left (names_of (take j (pair_up ns xs))) (names_of (drop j (pair_up ns xs))) split
-
-    pub once_over : AreApart (names_of (drop j (pair_up ns xs)))
-    once_over = apart_right (names_of (take j (pair_up ns xs))) (names_of (drop j (pair_up ns xs))) split
-
-    in_granted : (n : ℕ) → In n (names_of (take j (pair_up ns xs))) → In n (names_of (pair_up ns xs))
-    in_granted n i = subst (In n) parts (in_left n (names_of (take j (pair_up ns xs))) (names_of (drop j (pair_up ns xs))) i)
-
-    in_over : (n : ℕ) → In n (names_of (drop j (pair_up ns xs))) → In n (names_of (pair_up ns xs))
-    in_over n i = subst (In n) parts (in_right n (names_of (take j (pair_up ns xs))) (names_of (drop j (pair_up ns xs))) i)
-
-    not_both : AreDisjoint (names_of (take j (pair_up ns xs))) (names_of (drop j (pair_up ns xs)))
-    not_both = apart_both (names_of (take j (pair_up ns xs))) (names_of (drop j (pair_up ns xs))) split
-
-    -- the names that are over, beside the granted ones and those at rest
-    module _ (f : T → Phase T) where
-      over_others : (n : ℕ) → In n (names_of (all_at f (take j (pair_up ns xs)) ++ idle_posts (drop (length xs) ns))) → In n (names_of (take j (pair_up ns xs))) ⊎ In n (names_of (idle_posts {T = T} (drop (length xs) ns)))
-      over_others n i =
-          let at = all_at f (take j (pair_up ns xs)) in
-          elim (in_either n (names_of at) (names_of (idle_posts {T = T} (drop (length xs) ns))) (subst (In n) (names-append at (idle_posts (drop (length xs) ns))) i)) [
-            | inl a ↦ inl (subst (In n) (names-at f (take j (pair_up ns xs))) a)
-            | inr b ↦ inr b
-          ]
-
-      pub over_apart : AreDisjoint (names_of (drop j (pair_up ns xs))) (names_of (all_at f (take j (pair_up ns xs)) ++ idle_posts (drop (length xs) ns)))
-      over_apart n i k = elim (over_others n k) [ inl a ↦ not_both n a i | inr b ↦ from_rest n (in_over n i) b ]
-
-      pub over_in : (names : List ℕ) → names ≡ ns → AllIn (names_of (drop j (pair_up ns xs)) ++ names_of (all_at f (take j (pair_up ns xs)) ++ idle_posts (drop (length xs) ns))) names
-      over_in names is = all_of _ names (λ n i. subst (In n) (sym is) (elim (in_either n (names_of (drop j (pair_up ns xs))) (names_of (all_at f (take j (pair_up ns xs)) ++ idle_posts (drop (length xs) ns))) i) [
-        | inl a ↦ in_zs n (in_over n a)
-        | inr b ↦ elim (over_others n b) [ inl c ↦ in_zs n (in_granted n c) | inr d ↦ in_rest n d ]
-      ]))
-
--- ---- marks
-
-begins_trans : {M : Type 0} (f g h : List M) → Begins f g → Begins g h → Begins f h
-begins_trans f g h a b = (a.0 ++ b.0, sym (append_assoc f a.0 b.0) ∙ (ap (λ l. l ++ b.0) a.1 ∙ b.1))
-
-mark_name : {T : Type 0} → Mark T → ℕ
-mark_name m = m.seat
-
--- a step's marks
-pub makes_step : {T : Type 0} {size seats : ℕ} {m after : QueueHolder T} {new : List (Mark T)} {then : Standing T} {left : ℕ} {tells : List (Mark T) → Type 0} → Leaves (queue_object size seats) m new then left m.1 tells after → Makes size seats new m after
-makes_step {T} {size} {seats} {m} {after} {new} l =
-    let seat : Mark T → ℕ = λ (x : Mark T). x.seat in
-    let seen : after.0.seen ≡ new ++ l.past = ap (λ (x : QueueHolder T). x.0.seen) l.after_is in
-    let history : reverse after.0.seen ≡ reverse l.past ++ reverse new = ap reverse seen ∙ reverse-append new l.past in
-    let knows = sees_knows seat m.0.names m.0.seen l.past l.sees in
-    record {
-      names = ap (λ (x : QueueHolder T). x.0.names) l.after_is;
-      slots = ap (λ (x : QueueHolder T). x.1) l.after_is;
-      begins = begins_trans (reverse m.0.seen) (reverse l.past) (reverse after.0.seen) (sees_begins seat m.0.names m.0.seen l.past l.sees) (reverse new, sym history);
-      mine = λ n i. ap (marks_of seat n) history ∙ (marks_of_append seat n (reverse l.past) (reverse new) ∙ ap (λ h. h ++ marks_of seat n (reverse new)) (knows.own n i));
-      lawful = subst (λ h. IsHistory (queue_rules size) (reverse h)) (sym seen) l.lawful;
-      named = subst (λ h. AreNamed (queue_rules size) seats (reverse h)) (sym seen) l.named;
-    }
-
--- steps one after another
-pub makes_then : {T : Type 0} {size seats : ℕ} {a b c : QueueHolder T} {f g : List (Mark T)} → Makes size seats f a b → Makes size seats g b c → Makes size seats (g ++ f) a c
-makes_then {T} {a = a} {b = b} {c = c} {f = f} {g = g} x y =
-    let seat : Mark T → ℕ = λ (x : Mark T). x.seat in
-    record {
-      names = y.names ∙ x.names;
-      slots = y.slots ∙ x.slots;
-      begins = begins_trans (reverse a.0.seen) (reverse b.0.seen) (reverse c.0.seen) x.begins y.begins;
-      mine = λ n i.
-          let there = y.mine n (subst (In n) (sym x.names) i) in
-          there ∙ (ap (λ h. h ++ marks_of seat n (reverse g)) (x.mine n i) ∙ (append_assoc (marks_of seat n (reverse a.0.seen)) (marks_of seat n (reverse f)) (marks_of seat n (reverse g))
-          ∙ ap (λ h. marks_of seat n (reverse a.0.seen) ++ h) (sym (ap (marks_of seat n) (reverse-append g f) ∙ marks_of_append seat n (reverse f) (reverse g)))));
-      lawful = y.lawful;
-      named = y.named;
-    }
-
--- a step with no mark, and another
-pub makes_then_first : {T : Type 0} {size seats : ℕ} {a b c : QueueHolder T} {g : List (Mark T)} → Makes size seats [] a b → Makes size seats g b c → Makes size seats g a c
-makes_then_first {size = size} {seats = seats} {a = a} {c = c} {g = g} x y = subst (λ l. Makes size seats l a c) (append-nil g) (makes_then x y)
-
--- ---- those that are over
-
-pub pair_length : {T : Type 0} (ns : List ℕ) (xs : List T) → length xs ≤ length ns → length (pair_up ns xs) ≡ length xs
-pair_length [] [] fit = refl
-pair_length [] (x ∷ xs) fit = absurd (omega (arith, fit))
-pair_length (n ∷ ns) [] fit = refl
-pair_length (n ∷ ns) (x ∷ xs) fit = ap suc (pair_length ns xs (omega (arith, fit)))
-
-pub over_length : {T : Type 0} (ns : List ℕ) (xs : List T) → length xs ≤ length ns → (j : ℕ) → length (drop j (pair_up ns xs)) ≡ length xs - j
-over_length ns xs fit j = length-drop j (pair_up ns xs) ∙ ap (λ n. n - j) (pair_length ns xs fit)
-
-pub none_over : {T : Type 0} (ns : List ℕ) (xs : List T) → length xs ≤ length ns → (j : ℕ) → length xs ≤ j → drop j (pair_up ns xs) ≡ []
-none_over ns xs fit j all = no_items (drop j (pair_up ns xs)) (over_length ns xs fit j ∙ omega (arith, all))
+use Rattle.fak_queue.specs.Bursts.{AllIn, AreDisjoint, AreIdle, Says, SaysAfter, StandAfter, Makes, TestedBurst, AddedBurst, AddedSome, TellsUpper, DrewBurst, ClaimedBurst, RoomBurst, NoneBurst, RefusedBurst, granted_of, BackBurst, pair_up, idle_posts, claims_at}
+use Rattle.fak_queue.proofs.BurstPosts.{idle_all, idle_both}
+use Rattle.fak_queue.proofs.Common.{QueueHolder, queue_object, Alike, Each, IsUpperCount, Ok, Err, Full, Shut, upper_count, bias, ints, common_steps, le_or_lt, ℤ, pos, ◌+ℤ◌, ◌<◌, ◌^◌, ◌≡◌, ◌⊎◌, ℕ, ◌+◌, ◌-◌, ◌≤◌, List, [], ◌++◌, length, refl, sym, ap, ◌∙◌, subst, inl, inr, arith, reverse, In, Mark}
+use Rattle.fak_queue.proofs.BurstNames.{stands_now, stands_more, idle_rest, all_of, post_swap, says_swap, whole, once, from_rest, in_zs, in_rest, once_granted, in_granted, in_over, not_both, makes_step, makes_then, makes_then_first, pair_length, none_over}
 
 module _ {T : Type 0} (size seats : ℕ) (ns : List ℕ) (xs : List T) (m after : QueueHolder T) where
   abbrev Backed : ℕ → Type 0
@@ -217,24 +49,24 @@ some_granted size f d low some = (grind (arith, common_steps, min), grind (arith
 
 module _ {T : Type 0} (size seats : ℕ) (ns : List ℕ) (xs : List T) (apart : AreApart ns) (fit : length xs ≤ length ns) (m0 : QueueHolder T) (own : m0.0.names ≡ ns) where
   all_in : (names : List ℕ) → names ≡ ns → AllIn (names_of (pair_up ns xs) ++ names_of (idle_posts {T = T} (drop (length xs) ns))) names
-  all_in names is = all_of _ names (λ n i. subst (In n) (sym is) (subst (In n) (whole ns xs apart fit) i))
+  all_in names is = all_of _ names (λ n i. subst (In n) (sym is) (subst (In n) (whole T ns xs apart fit) i))
 
   in_all : AllIn m0.0.names (names_of (pair_up ns xs) ++ names_of (idle_posts {T = T} (drop (length xs) ns)))
-  in_all = all_of m0.0.names _ (λ n i. subst (In n) (sym (whole ns xs apart fit)) (subst (In n) own i))
+  in_all = all_of m0.0.names _ (λ n i. subst (In n) (sym (whole T ns xs apart fit)) (subst (In n) own i))
 
   pub test_names : AreApart (names_of (pair_up ns xs)) × AreDisjoint (names_of (pair_up ns xs)) (names_of (idle_posts {T = T} (drop (length xs) ns)))
       × AllIn (names_of (pair_up ns xs) ++ names_of (idle_posts {T = T} (drop (length xs) ns))) m0.0.names × AllIn m0.0.names (names_of (pair_up ns xs) ++ names_of (idle_posts {T = T} (drop (length xs) ns)))
-  test_names = (once ns xs apart fit, from_rest ns xs apart fit, all_in m0.0.names own, in_all)
+  test_names = (once T ns xs apart fit, from_rest T ns xs apart fit, all_in m0.0.names own, in_all)
 
   pub test_rest : AreIdle (idle_posts {T = T} (drop (length xs) ns))
   test_rest = idle_rest T (drop (length xs) ns)
 
   module _ (f : ℕ) (m1 : QueueHolder T) (tested : TestedBurst size seats (pair_up ns xs) (idle_posts (drop (length xs) ns)) m0 f m1) where
-    refused_by : {new : List (Mark T)} {tells : List (Mark T) → Type 0} → Leaves (queue_object size seats) m0 new (Alike Idle) m0.0.left m0.1 tells m1 → NoneBurst size seats ns xs new m0 m1
+    refused_by : {new : List (Mark T)} {tells : List (Mark T) → Type 0} → Leaves (queue_object size seats) m0 new (Alike Idle) m0.0.left m0.1 tells m1 → NoneBurst size seats new m0 m1
     refused_by l = record { phase = ap (λ (x : QueueHolder T). x.0.phase) l.after_is; left = ap (λ (x : QueueHolder T). x.0.left) l.after_is; makes = makes_step l }
 
     pub refused_at_test : (why : NoRoom) → IsUpperCount size f (Err why) → RefusedBurst size seats ns xs why m0 m1
-    refused_at_test (Full u) is = let l = tested.full is.0 is.1 in ((l.past, same_count f u (upper_count (reverse l.past)) is.2 l.told), inl (refused_by l))
+    refused_at_test (Full u) is = let l = tested.full is.0 is.1 in (l.past, same_count f u (upper_count (reverse l.past)) is.2 l.told, inl (refused_by l, stands_now l))
     refused_at_test Shut is = inl (refused_by (tested.late is))
 
     module _ (room : IsUpperCount size f (Ok tt)) where
@@ -249,7 +81,7 @@ module _ {T : Type 0} (size seats : ℕ) (ns : List ℕ) (xs : List T) (apart : 
 
       pub add_names : AreApart (names_of (pair_up ns xs)) × AreDisjoint (names_of (pair_up ns xs)) (names_of (idle_posts {T = T} (drop (length xs) ns)))
           × AllIn (names_of (pair_up ns xs) ++ names_of (idle_posts {T = T} (drop (length xs) ns))) m1.0.names
-      add_names = (once ns xs apart fit, from_rest ns xs apart fit, all_in m1.0.names names1)
+      add_names = (once T ns xs apart fit, from_rest T ns xs apart fit, all_in m1.0.names names1)
 
       pub add_says : Says m1.0 (all_at (λ x. AddUp x) (pair_up ns xs) ++ idle_posts (drop (length xs) ns))
       add_says = (all_at (λ x. AddUp x) (pair_up ns xs) ++ idle_posts (drop (length xs) ns), ap (λ (x : QueueHolder T). x.0.phase) first.after_is, λ n p i. i)
@@ -278,17 +110,17 @@ module _ {T : Type 0} (size seats : ℕ) (ns : List ℕ) (xs : List T) (apart : 
 
         pub back_names : (why : NoRoom) → IsUpperCount size v (Err why) → AreApart (names_of (pair_up ns xs)) × AreDisjoint (names_of (pair_up ns xs)) (names_of (idle_posts {T = T} (drop (length xs) ns)))
             × AllIn (names_of (pair_up ns xs) ++ names_of (idle_posts {T = T} (drop (length xs) ns))) m2.0.names
-        back_names why is = (once ns xs apart fit, from_rest ns xs apart fit, all_in m2.0.names (back_own why is))
+        back_names why is = (once T ns xs apart fit, from_rest T ns xs apart fit, all_in m2.0.names (back_own why is))
 
         pub back_then : (why : NoRoom) → IsUpperCount size v (Err why) → SaysAfter {T = T} m2.0.names (all_at (λ (x : T). Idle) (pair_up ns xs) ++ idle_posts (drop (length xs) ns)) (Alike Idle)
         back_then why is = inr (
           refl,
           idle_both {T = T} (all_at (λ (x : T). Idle) (pair_up ns xs)) (idle_posts (drop (length xs) ns)) (idle_all T (pair_up ns xs)) test_rest,
-          all_of m2.0.names _ (λ n i. subst (In n) (sym (names-append (all_at {A = T} (λ (x : T). Idle) (pair_up ns xs)) (idle_posts (drop (length xs) ns)) ∙ ((λ j. names-at {A = T} (λ (x : T). Idle) (pair_up ns xs) j ++ names_of (idle_posts {T = T} (drop (length xs) ns))) ∙ whole ns xs apart fit))) (subst (In n) (back_own why is) i)),
+          all_of m2.0.names _ (λ n i. subst (In n) (sym (names-append (all_at {A = T} (λ (x : T). Idle) (pair_up ns xs)) (idle_posts (drop (length xs) ns)) ∙ ((λ j. names-at {A = T} (λ (x : T). Idle) (pair_up ns xs) j ++ names_of (idle_posts {T = T} (drop (length xs) ns))) ∙ whole T ns xs apart fit))) (subst (In n) (back_own why is) i)),
         )
 
         none_back : {new : List (Mark T)} {tells : List (Mark T) → Type 0} (m3 : QueueHolder T) → Over new tells → BackBurst size seats (pair_up ns xs) (idle_posts (drop (length xs) ns)) (Alike Idle) m2 m3
-            → NoneBurst size seats ns xs (marks_back (λ x. made.BackIn) (pair_up ns xs) ++ new) m0 m3
+            → NoneBurst size seats (marks_back (λ x. made.BackIn) (pair_up ns xs) ++ new) m0 m3
         none_back m3 l b = record {
           phase = ap (λ (x : QueueHolder T). x.0.phase) b.after_is;
           left = ap (λ (x : QueueHolder T). x.0.left) b.after_is ∙ (ap (λ (x : QueueHolder T). x.0.left) l.after_is ∙ left1);
@@ -298,8 +130,11 @@ module _ {T : Type 0} (size seats : ℕ) (ns : List ℕ) (xs : List T) (apart : 
         pub refused_at_add : (why : NoRoom) → IsUpperCount size v (Err why) → (m3 : QueueHolder T) → BackBurst size seats (pair_up ns xs) (idle_posts (drop (length xs) ns)) (Alike Idle) m2 m3 → RefusedBurst size seats ns xs why m0 m3
         refused_at_add (Full u) is m3 b =
             let l = over_full u is in
-            let same : marks_back {A = T} (λ x. made.OverIn) (pair_up ns xs) ++ [] ≡ marks_back (λ x. made.OverIn) (pair_up ns xs) = append-nil (marks_back (λ x. made.OverIn) (pair_up ns xs)) in
-            ((l.past, same_count v u (upper_count (reverse l.past)) is.2 l.told), inr (subst (λ h. NoneBurst size seats ns xs (marks_back (λ x. made.BackIn) (pair_up ns xs) ++ h) m0 m3) same (none_back m3 l b)))
+            let same : marks_back {A = T} (λ x. made.OverIn) (pair_up ns xs) ++ [] ≡ marks_back (λ x. made.OverIn) (pair_up ns xs) = append-nil (marks_back (λ x. made.OverIn) (pair_up ns xs)) in (
+              l.past,
+              same_count v u (upper_count (reverse l.past)) is.2 l.told,
+              inr (subst (λ h. NoneBurst size seats (marks_back (λ x. made.BackIn) (pair_up ns xs) ++ h) m0 m3 × StandAfter l.past h m3) same (none_back m3 l b, stands_more l.past (marks_back (λ x. made.OverIn) (pair_up ns xs) ++ []) (stands_now l) (makes_step b))),
+            )
         refused_at_add Shut is m3 b = inr (none_back m3 (added.late is) b)
 
         -- granted, all or some
@@ -342,6 +177,10 @@ module _ {T : Type 0} (size seats : ℕ) (ns : List ℕ) (xs : List T) (apart : 
                 granted = j_is;
                 past = some_added.past;
                 upper = some_added.told;
+                stands = elim (le_or_lt (length xs) j) [
+                  | inl full ↦ subst (λ (w : QueueHolder T). StandAfter some_added.past (marks_back (λ x. made.OverIn) (drop j (pair_up ns xs)) ++ marks_back (λ x. made.ClaimIn) (take j (pair_up ns xs))) w) (sym (all (omega (arith, full, most)))) (stands_now some_added)
+                  | inr part ↦ stands_more some_added.past (marks_back (λ x. made.OverIn) (drop j (pair_up ns xs)) ++ marks_back (λ x. made.ClaimIn) (take j (pair_up ns xs))) (stands_now some_added) (back part)
+                ];
               }
 
 -- ---- the draw
@@ -364,11 +203,11 @@ module _ {T : Type 0} (size seats : ℕ) (ns : List ℕ) (xs : List T) (apart : 
   pub draw_names : AreApart (names_of (take j (pair_up ns xs))) × AreDisjoint (names_of (take j (pair_up ns xs))) (names_of (all_at {A = T} (λ (x : T). Idle) (drop j (pair_up ns xs)) ++ idle_posts (drop (length xs) ns)))
       × AllIn (names_of (take j (pair_up ns xs)) ++ names_of (all_at {A = T} (λ (x : T). Idle) (drop j (pair_up ns xs)) ++ idle_posts (drop (length xs) ns))) m1.0.names
   draw_names = (
-    once_granted ns xs apart fit j,
-    (λ n i k. elim (draw_others n k) [ inl a ↦ not_both ns xs apart fit j n i a | inr b ↦ from_rest ns xs apart fit n (in_granted ns xs apart fit j n i) b ]),
+    once_granted T ns xs apart fit j,
+    (λ n i k. elim (draw_others n k) [ inl a ↦ not_both T ns xs apart fit j n i a | inr b ↦ from_rest T ns xs apart fit n (in_granted T ns xs apart fit j n i) b ]),
     all_of _ m1.0.names (λ n i. subst (In n) (sym (room.makes.names ∙ own)) (elim (in_either n (names_of (take j (pair_up ns xs))) (names_of (all_at {A = T} (λ (x : T). Idle) (drop j (pair_up ns xs)) ++ idle_posts (drop (length xs) ns))) i) [
-      | inl a ↦ in_zs ns xs apart fit n (in_granted ns xs apart fit j n a)
-      | inr b ↦ elim (draw_others n b) [ inl c ↦ in_zs ns xs apart fit n (in_over ns xs apart fit j n c) | inr d ↦ in_rest ns xs apart fit n d ]
+      | inl a ↦ in_zs T ns xs apart fit n (in_granted T ns xs apart fit j n a)
+      | inr b ↦ elim (draw_others n b) [ inl c ↦ in_zs T ns xs apart fit n (in_over T ns xs apart fit j n c) | inr d ↦ in_rest T ns xs apart fit n d ]
     ])),
   )
 
@@ -393,4 +232,5 @@ module _ {T : Type 0} (size seats : ℕ) (ns : List ℕ) (xs : List T) (apart : 
         granted = room.granted;
         earlier = room.past;
         upper = room.upper;
+        stands = stands_more room.past (marks_back (λ x. made.OverIn) (drop j (pair_up ns xs)) ++ marks_back (λ x. made.ClaimIn) (take j (pair_up ns xs))) room.stands (makes_step l);
       }

@@ -32,4 +32,6 @@ pub mod BurstInsertions
 pub mod BurstDeletions
 pub mod BurstTurns
 pub mod BurstAllowed
+pub mod BurstNames
 pub mod BurstClaims
+pub mod BurstClaimsOut

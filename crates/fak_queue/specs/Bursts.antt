@@ -1,6 +1,6 @@
 -- How a table of words and slots shows a queue where a token may bear many names, each at a phase of its own; and what each
 -- atomic step of a burst tells.
-use Rattle.std.specs.Prelude.{◌≡◌, ◌==◌, cond, ◌⊎◌, ℕ, ◌+◌, ◌-◌, ◌*◌, ◌/◌, ◌%◌, ◌≢◌, ◌<◌, ◌≤◌, ◌^◌, None, Some, pos, ◌+ℤ◌, List, [], ◌∷◌, ◌++◌, length, take, drop, min, reverse}
+use Rattle.std.specs.Prelude.{◌≡◌, ◌==◌, cond, zero, suc, ℤ, ◌⊎◌, ℕ, ◌+◌, ◌-◌, ◌*◌, ◌/◌, ◌%◌, ◌≢◌, ◌<◌, ◌≤◌, ◌^◌, None, Some, pos, ◌+ℤ◌, List, [], ◌∷◌, ◌++◌, length, take, drop, min, reverse}
 use Rattle.atomic_table.specs.Table.{rest}
 use Rattle.fak_model.specs.declared.queue.Kind.TheVariants as made
 use Rattle.fak_model.specs.declared.queue.Mark.{Mark}
@@ -126,6 +126,16 @@ pub record Makes {T : Type 0} (size seats : ℕ) (new : List (Mark T)) (m after 
   pub lawful : IsHistory (queue_rules size) (reverse after.0.seen)
   pub named : AreNamed (queue_rules size) seats (reverse after.0.seen)
 
+-- these marks, newest first, stand in what was seen, with this past before them
+abbrev pub StandAfter : {T : Type 0} → List (Mark T) → List (Mark T) → QueueHolder T → Type 0
+StandAfter past new after = Begins (reverse (new ++ past)) (reverse after.0.seen)
+
+-- all were refused with these marks, and rest again
+pub record NoneBurst {T : Type 0} (size seats : ℕ) (new : List (Mark T)) (m after : QueueHolder T) : Type 0 where
+  pub phase : after.0.phase ≡ Some (Alike Idle)
+  pub left : after.0.left ≡ m.0.left
+  pub makes : Makes size seats new m after
+
 -- the first j of the names with an item are to draw, the others stand at phases of this kind, and the names without an item rest
 abbrev pub claims_at : {T : Type 0} → (T → Phase T) → List ℕ → List T → ℕ → Posts T
 claims_at at ns xs j = all_at (λ x. TicketIn x) (take j (pair_up ns xs)) ++ (all_at at (drop j (pair_up ns xs)) ++ idle_posts (drop (length xs) ns))
@@ -143,17 +153,13 @@ module _ {T : Type 0} (size seats : ℕ) (ns : List ℕ) (xs : List T) where
     pub granted : j ≡ granted_of size found (length xs)
     pub past : List (Mark T)
     pub upper : TellsUpper found past
-
-  -- all were refused, at the test or at the add, and rest again
-  pub record NoneBurst (new : List (Mark T)) (m after : QueueHolder T) : Type 0 where
-    pub phase : after.0.phase ≡ Some (Alike Idle)
-    pub left : after.0.left ≡ m.0.left
-    pub makes : Makes size seats new m after
+    pub stands : StandAfter past (marks_back (λ x. made.OverIn) (drop j (pair_up ns xs)) ++ marks_back (λ x. made.ClaimIn) (take j (pair_up ns xs))) after
 
   abbrev pub RefusedBurst : NoRoom → QueueHolder T → QueueHolder T → Type 0
-  RefusedBurst (Full u) m after = ((past : List (Mark T)) × (u ≡ upper_count (reverse past)))
-      × (NoneBurst (marks_back (λ x. made.NoRoom) (pair_up ns xs)) m after ⊎ NoneBurst (marks_back (λ x. made.BackIn) (pair_up ns xs) ++ marks_back (λ x. made.OverIn) (pair_up ns xs)) m after)
-  RefusedBurst Shut m after = NoneBurst (marks_back (λ x. made.Closed) (pair_up ns xs)) m after ⊎ NoneBurst (marks_back (λ x. made.BackIn) (pair_up ns xs) ++ marks_back (λ x. made.LateIn) (pair_up ns xs)) m after
+  RefusedBurst (Full u) m after = (past : List (Mark T)) × (u ≡ upper_count (reverse past))
+      × ((NoneBurst size seats (marks_back (λ x. made.NoRoom) (pair_up ns xs)) m after × StandAfter past (marks_back (λ x. made.NoRoom) (pair_up ns xs)) after)
+      ⊎ (NoneBurst size seats (marks_back (λ x. made.BackIn) (pair_up ns xs) ++ marks_back (λ x. made.OverIn) (pair_up ns xs)) m after × StandAfter past (marks_back (λ x. made.OverIn) (pair_up ns xs)) after))
+  RefusedBurst Shut m after = NoneBurst size seats (marks_back (λ x. made.Closed) (pair_up ns xs)) m after ⊎ NoneBurst size seats (marks_back (λ x. made.BackIn) (pair_up ns xs) ++ marks_back (λ x. made.LateIn) (pair_up ns xs)) m after
 
   -- the first j were granted and drew the tickets from k on, and their Puts stand in a row after k others; the others withdrew
   pub record ClaimedBurst (k j : ℕ) (m after : QueueHolder T) : Type 0 where
@@ -172,6 +178,7 @@ module _ {T : Type 0} (size seats : ℕ) (ns : List ℕ) (xs : List T) where
     pub granted : j ≡ granted_of size found (length xs)
     pub earlier : List (Mark T)
     pub upper : TellsUpper found earlier
+    pub stands : StandAfter earlier (marks_back (λ x. made.OverIn) (drop j (pair_up ns xs)) ++ marks_back (λ x. made.ClaimIn) (take j (pair_up ns xs))) after
 
 -- ---- deletions
 
@@ -222,3 +229,57 @@ TurnsOutBurst {T} size seats n m found after = (k : ℕ) (all : Posts T) → m.0
 
 abbrev pub FreesBurst : {T : Type 0} → ℕ → ℕ → ℕ → QueueHolder T → QueueHolder T → Type 0
 FreesBurst {T} size seats n m after = (k : ℕ) (all : Posts T) → m.0.phase ≡ Some (Each all) → IsPost n (LoadItem k) all → FreedBurst size seats n k all m after
+
+-- ---- parts of a burst of deletions, with something for each name that takes part
+
+-- something for each of so many names
+abbrev pub units : ℕ → List (Unit {0})
+units zero = []
+units (suc n) = tt ∷ units n
+
+-- the first j of the names that take part are to draw, the others stand at this phase, and those that take no part rest
+abbrev pub claims_out_at : {T : Type 0} → Phase T → List ℕ → List (Unit {0}) → ℕ → Posts T
+claims_out_at p ns us j = all_at (λ x. TicketOut) (take j (pair_up ns us)) ++ (all_at (λ x. p) (drop j (pair_up ns us)) ++ idle_posts (drop (length us) ns))
+
+module _ {T : Type 0} (size seats : ℕ) (ns : List ℕ) (us : List (Unit {0})) where
+  -- the first j were granted and are to draw, as many as found an item; the others withdrew
+  pub record StockBurst (j : ℕ) (m after : QueueHolder T) : Type 0 where
+    pub some : 0 < j
+    pub most : j ≤ length us
+    pub phase : Says after.0 (claims_out_at Idle ns us j)
+    pub left : after.0.left ≡ m.0.left
+    pub makes : Makes size seats (marks_back (λ x. made.BackOut) (drop j (pair_up ns us)) ++ (marks_back (λ x. made.OverOut) (drop j (pair_up ns us)) ++ marks_back (λ x. made.ClaimOut) (take j (pair_up ns us)))) m after
+    -- the count that the first subtraction found, in the past before it
+    pub found : ℕ
+    pub granted : j ≡ granted_low found (length us)
+    pub past : List (Mark T)
+    pub lower : TellsLower found past
+    pub stands : StandAfter past (marks_back (λ x. made.OverOut) (drop j (pair_up ns us)) ++ marks_back (λ x. made.ClaimOut) (take j (pair_up ns us))) after
+
+  -- all were refused, at the test or at the subtraction, and rest again
+  abbrev pub RefusedOutBurst : ℤ → QueueHolder T → QueueHolder T → Type 0
+  RefusedOutBurst l m after = (past : List (Mark T)) × (l ≡ lower_count (reverse past))
+      × ((NoneBurst size seats (marks_back (λ x. made.NoItem) (pair_up ns us)) m after × StandAfter past (marks_back (λ x. made.NoItem) (pair_up ns us)) after)
+      ⊎ (NoneBurst size seats (marks_back (λ x. made.BackOut) (pair_up ns us) ++ marks_back (λ x. made.OverOut) (pair_up ns us)) m after × StandAfter past (marks_back (λ x. made.OverOut) (pair_up ns us)) after))
+
+  -- the first j were granted and drew the tickets from k on, each with the item that was put under its ticket; the others withdrew
+  pub record ClaimedOutBurst (k j : ℕ) (m after : QueueHolder T) : Type 0 where
+    pub some : 0 < j
+    pub most : j ≤ length us
+    pub drawn : List (ℕ × T)
+    pub names : names_of drawn ≡ names_of (take j (pair_up ns us))
+    pub phase : after.0.phase ≡ Some (Each (turns_out_from k (take j (pair_up ns us)) ++ (all_at (λ x. Idle) (drop j (pair_up ns us)) ++ idle_posts (drop (length us) ns))))
+    pub left : after.0.left ≡ m.0.left - j
+    pub makes : Makes size seats (marks_back (λ x. made.Got x) drawn ++ (marks_back (λ x. made.BackOut) (drop j (pair_up ns us))
+        ++ (marks_back (λ x. made.OverOut) (drop j (pair_up ns us)) ++ marks_back (λ x. made.ClaimOut) (take j (pair_up ns us))))) m after
+    pub past : List (Mark T)
+    pub gots_last : after.0.seen ≡ marks_back (λ x. made.Got x) drawn ++ past
+    pub ticket : count gots (reverse past) ≡ k
+    pub put : ArePut past k drawn
+    pub few : k + j ≤ 2 ^ 50
+    -- the count that the first subtraction found, in the past before it
+    pub found : ℕ
+    pub granted : j ≡ granted_low found (length us)
+    pub earlier : List (Mark T)
+    pub lower : TellsLower found earlier
+    pub stands : StandAfter earlier (marks_back (λ x. made.OverOut) (drop j (pair_up ns us)) ++ marks_back (λ x. made.ClaimOut) (take j (pair_up ns us))) after

@@ -4,6 +4,7 @@
 //! a run of single calls, in which each name makes its own.
 
 pub(crate) mod admission;
+pub(crate) mod admission_out;
 pub(crate) mod deletion;
 pub(crate) mod insertion;
 pub(crate) mod plays;

@@ -18,10 +18,13 @@ use crate::place::Place;
 use crate::steps::{QueueToken, QueueWords};
 use crate::words::{DRAWS_OUT, LOWER, TURNS, UPPER};
 
-/// Tests the lower count for the burst's names, and answers its word.
+/// Tests the lower count for the burst's names, and answers its word. The names and the number of those that take part are for the
+/// proof alone.
 pub(crate) fn test_low_burst<T, J: Takers<T>>(
     words: &QueueWords<T>,
     token: &mut QueueToken<T>,
+    _names: &[u64],
+    _part: u64,
 ) -> u64
     requires table { FitsTable token.old.table_id words.now.table_id words.now.key J.seats }
     requires names { AreApart (names_of J.items) × AreDisjoint (names_of J.items) (names_of J.others)
@@ -40,6 +43,8 @@ pub(crate) fn sub_burst<T, J: Takers<T>>(
     words: &QueueWords<T>,
     token: &mut QueueToken<T>,
     count: u64,
+    _names: &[u64],
+    _part: u64,
 ) -> u64
     requires table { FitsTable token.old.table_id words.now.table_id words.now.key J.seats }
     requires count { (count ≡ length J.items) × (count ≤ 1024) }
@@ -57,6 +62,8 @@ pub(crate) fn back_low_burst<T, J: Takers<T>>(
     words: &QueueWords<T>,
     token: &mut QueueToken<T>,
     count: u64,
+    _names: &[u64],
+    _part: u64,
 )
     requires table { FitsTable token.old.table_id words.now.table_id words.now.key J.seats }
     requires count { (count ≡ length J.items) × (count ≤ 1024) }
@@ -75,6 +82,8 @@ pub(crate) fn draw_out_burst<T, J: Takers<T>>(
     words: &QueueWords<T>,
     token: &mut QueueToken<T>,
     count: u64,
+    _names: &[u64],
+    _part: u64,
 ) -> u64
     requires table { FitsTable token.old.table_id words.now.table_id words.now.key J.seats }
     requires count { (count ≡ length J.items) × (count ≤ 1024) }

@@ -1,6 +1,7 @@
 use Rattle.fak_queue.proofs.Common.{arith, ◌≡◌, ℕ, ◌-◌, ◌≤◌, ◌∙◌, length, sym, nat_tests}
 use Rattle.fak_core.specs.declared.queue.phase.Phase.TheVariants.{TicketIn}
-use Rattle.fak_queue.proofs.BurstClaims.{over_length, none_over, once_over, over_apart, over_in, backed_phase, backed_makes, backed_from, rests_so}
+use Rattle.fak_queue.proofs.BurstNames.{over_length, none_over, once_over, over_apart, over_in}
+use Rattle.fak_queue.proofs.BurstClaims.{backed_phase, backed_makes, backed_from, rests_so}
 use Rattle.fak_queue.proofs.bursts.admission.back_over.Goals as goal
 
 -- the names that are granted, as the step counts them
@@ -21,7 +22,7 @@ back_burst-requires-clause-names g c =
     let ns = c.args.names.now in
     let xs = c.args.items.now in
     let j = length xs - (c.args.count - c.args.granted) in
-    (once_over ns xs names.0 names.2 j, over_apart ns xs names.0 names.2 j (λ x. TicketIn x), over_in ns xs names.0 names.2 j (λ x. TicketIn x) _ names.1)
+    (once_over (Unit {0}) ns xs names.0 names.2 j, over_apart _ ns xs names.0 names.2 j (λ x. TicketIn x), over_in _ ns xs names.0 names.2 j (λ x. TicketIn x) _ names.1)
 
 pub back_burst-requires-clause-phase : goal.back_burst-requires-clause-phase
 back_burst-requires-clause-phase g c = let k = c.requires.count in backed_from _ _ c.args.token.now.me _ c.args.granted (counted c.args.count (length c.args.items.now) c.args.granted k.0 k.2) c.requires.phase

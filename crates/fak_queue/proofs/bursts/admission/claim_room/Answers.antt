@@ -1,6 +1,7 @@
 use Rattle.fak_queue.proofs.Common.{◌≡◌, ℕ, ◌∙◌, length, sym, ap, subst, arith, UpperCount, IsUpperCount}
 use Rattle.fak_queue.specs.Bursts.{granted_of}
-use Rattle.fak_queue.proofs.BurstClaims.{pair_length, test_names, test_rest, refused_at_test, add_names, add_says, back_names, back_says, back_then, refused_at_add, room_says, names2, claims_room}
+use Rattle.fak_queue.proofs.BurstNames.{pair_length}
+use Rattle.fak_queue.proofs.BurstClaims.{test_names, test_rest, refused_at_test, add_names, add_says, back_names, back_says, back_then, refused_at_add, room_says, names2, claims_room}
 use Rattle.fak_queue.proofs.bursts.admission.claim_room.Goals as goal
 
 -- what a word says, of the queue's size

@@ -1,0 +1,33 @@
+use Rattle.fak_queue.proofs.Common.{arith, ℕ, ◌≤◌, length}
+use Rattle.fak_queue.specs.Bursts.{units}
+use Rattle.fak_queue.proofs.BurstNames.{units_length}
+use Rattle.fak_queue.proofs.BurstClaimsOut.{draw_count, draw_names, draw_left, claims_burst}
+use Rattle.fak_queue.proofs.bursts.admission_out.admit_burst_out.Goals as goal
+
+-- so many names have something
+fits : (count n : ℕ) → count ≤ n → length (units count) ≤ n
+fits count n few = let l = units_length count in omega (arith, l, few)
+
+-- they are few, and within the stint
+few_units : (count k : ℕ) → count ≤ k → length (units count) ≤ k
+few_units count k few = let l = units_length count in omega (arith, l, few)
+
+pub draw_out_burst-requires-clause-count : goal.draw_out_burst-requires-clause-count
+draw_out_burst-requires-clause-count g c =
+    let n = c.requires.names in
+    draw_count c.args.words.now.table_id.slots c.args.words.now.key.seats c.args.names.now (units c.args.count) n.0 (fits _ _ n.2) c.args.token.now.me c.claim_stock.new.token.me n.1 c.in-Ok.granted c.in-Ok.ensures.told (few_units _ _ c.requires.some.1)
+
+pub draw_out_burst-requires-clause-names : goal.draw_out_burst-requires-clause-names
+draw_out_burst-requires-clause-names g c =
+    let n = c.requires.names in
+    draw_names c.args.words.now.table_id.slots c.args.words.now.key.seats c.args.names.now (units c.args.count) n.0 (fits _ _ n.2) c.args.token.now.me c.claim_stock.new.token.me n.1 c.in-Ok.granted c.in-Ok.ensures.told
+
+pub draw_out_burst-requires-clause-left : goal.draw_out_burst-requires-clause-left
+draw_out_burst-requires-clause-left g c =
+    let n = c.requires.names in
+    draw_left c.args.words.now.table_id.slots c.args.words.now.key.seats c.args.names.now (units c.args.count) n.0 (fits _ _ n.2) c.args.token.now.me c.claim_stock.new.token.me n.1 c.in-Ok.granted c.in-Ok.ensures.told (few_units _ _ c.requires.left)
+
+pub returns-in-Ok-clause-told : goal.returns-in-Ok-clause-told
+returns-in-Ok-clause-told g c =
+    let n = c.requires.names in
+    claims_burst c.args.words.now.table_id.slots c.args.words.now.key.seats c.args.names.now (units c.args.count) n.0 (fits _ _ n.2) c.args.token.now.me c.claim_stock.new.token.me n.1 c.in-Ok.granted c.in-Ok.ensures.told _ c.draw_out_burst.new.token.me c.draw_out_burst.ensures.told

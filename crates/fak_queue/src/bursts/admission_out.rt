@@ -1,0 +1,106 @@
+//! The claim of a burst of deletions: from the test to the draw.
+
+ghost use Rattle.std.specs.Prelude.{◌≡◌, ◌<◌, ◌≤◌, MatchResult, Some, drop, length};
+ghost use Rattle.fak_model.specs.declared.queue.Kind.TheVariants.{BackOut};
+ghost use Rattle.fak_core.specs.declared.queue.phase.Phase.TheVariants.{BackLow, Idle};
+ghost use Rattle.fak_core.specs.QueueBlocks.{AreApart, marks_back};
+ghost use Rattle.fak_queue.specs.Steps.{FitsTable};
+ghost use Rattle.fak_queue.specs.declared.standing.Standing.TheVariants.{Alike};
+ghost use Rattle.fak_queue.specs.Bursts.{ClaimedOutBurst, Makes, RefusedOutBurst, Says, StockBurst, claims_out_at, pair_up, units};
+
+use crate::bursts::deletion::{back_low_burst, draw_out_burst, sub_burst, test_low_burst};
+use crate::steps::{QueueToken, QueueWords};
+use crate::words::read_lower;
+use fak_model::BIAS;
+use std::marker::Brand;
+
+/// Gives back what was subtracted for the names that are over. The names are for the proof alone.
+fn back_over_low<T>(
+    words: &QueueWords<T>,
+    token: &mut QueueToken<T>,
+    count: u64,
+    granted: u64,
+    names: &[u64],
+)
+    requires table { FitsTable token.old.table_id words.now.table_id words.now.key words.now.key.seats }
+    requires names { AreApart names.now × (token.old.me.0.names ≡ names.now) × (count ≤ length names.now) }
+    requires count { (count ≤ 1024) × (granted ≤ count) }
+    requires phase { Says token.old.me.0 (claims_out_at BackLow names.now (units count) granted) }
+    ensures same { token.new.table_id ≡ token.old.table_id }
+    ensures phase { Says token.new.me.0 (claims_out_at Idle names.now (units count) granted) }
+    ensures left { token.new.me.0.left ≡ token.old.me.0.left }
+    ensures none { granted ≡ count → token.new.me ≡ token.old.me }
+    ensures makes { granted < count → Makes words.now.table_id.slots words.now.key.seats
+        (marks_back (λ x. BackOut) (drop granted (pair_up names.now (units count)))) token.old.me
+        token.new.me }
+{
+    if granted < count {
+        back_low_burst::<T, Brand>(words, token, count - granted, names, count);
+    }
+}
+
+/// Claims this many items, or as many as there are, and answers their number. The names are for the proof alone.
+pub(crate) fn claim_stock<T>(
+    words: &QueueWords<T>,
+    token: &mut QueueToken<T>,
+    count: u64,
+    names: &[u64],
+) -> Result<u64, i64>
+    requires table { FitsTable token.old.table_id words.now.table_id words.now.key words.now.key.seats }
+    requires names { AreApart names.now × (token.old.me.0.names ≡ names.now) × (count ≤ length names.now) }
+    requires some { (0 < count) × (count ≤ 1024) }
+    requires phase { token.old.me.0.phase ≡ Some (Alike Idle) }
+    ensures same { token.new.table_id ≡ token.old.table_id }
+    ensures told { MatchResult result
+        (λ j. StockBurst words.now.table_id.slots words.now.key.seats names.now (units count) j token.old.me
+        token.new.me)
+        (λ l. RefusedOutBurst words.now.table_id.slots words.now.key.seats names.now (units count) l
+        token.old.me token.new.me) }
+{
+    let tested = test_low_burst::<T, Brand>(words, token, names, count);
+    match read_lower(tested) {
+        Ok(()) => {}
+        Err(lower) => return Err(lower),
+    }
+    let found = sub_burst::<T, Brand>(words, token, count, names, count);
+    match read_lower(found) {
+        Ok(()) => {
+            let granted = count.min(found - BIAS);
+            back_over_low(words, token, count, granted, names);
+            Ok(granted)
+        }
+        Err(lower) => {
+            back_low_burst::<T, Brand>(words, token, count, names, count);
+            Err(lower)
+        }
+    }
+}
+
+/// Claims this many items, or as many as there are, and draws their tickets: answers the first, and their number. The names are for
+/// the proof alone.
+pub(crate) fn admit_burst_out<T>(
+    words: &QueueWords<T>,
+    token: &mut QueueToken<T>,
+    count: u64,
+    names: &[u64],
+) -> Result<(u64, u64), i64>
+    requires table { FitsTable token.old.table_id words.now.table_id words.now.key words.now.key.seats }
+    requires names { AreApart names.now × (token.old.me.0.names ≡ names.now) × (count ≤ length names.now) }
+    requires some { (0 < count) × (count ≤ 1024) }
+    requires phase { token.old.me.0.phase ≡ Some (Alike Idle) }
+    requires left { count ≤ token.old.me.0.left }
+    ensures same { token.new.table_id ≡ token.old.table_id }
+    ensures told { MatchResult result
+        (λ r. ClaimedOutBurst words.now.table_id.slots words.now.key.seats names.now (units count) r.0 r.1
+        token.old.me token.new.me)
+        (λ l. RefusedOutBurst words.now.table_id.slots words.now.key.seats names.now (units count) l
+        token.old.me token.new.me) }
+{
+    match claim_stock(words, token, count, names) {
+        Ok(granted) => Ok((
+            draw_out_burst::<T, Brand>(words, token, granted, names, count),
+            granted,
+        )),
+        Err(lower) => Err(lower),
+    }
+}
