@@ -35,3 +35,4 @@ pub mod BurstAllowed
 pub mod BurstNames
 pub mod BurstClaims
 pub mod BurstClaimsOut
+pub mod BundleTurns

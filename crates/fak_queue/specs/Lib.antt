@@ -10,3 +10,4 @@ pub mod Rests
 pub mod Sums
 pub mod Drained
 pub mod Bursts
+pub mod Bundles

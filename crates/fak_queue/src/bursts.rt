@@ -8,3 +8,4 @@ pub(crate) mod admission_out;
 pub(crate) mod deletion;
 pub(crate) mod insertion;
 pub(crate) mod plays;
+pub(crate) mod turns;
