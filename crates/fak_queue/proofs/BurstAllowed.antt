@@ -5,8 +5,8 @@ use Rattle.fak_queue.specs.Bursts.{AllIn, AreDisjoint, AreIdle, Says, SaysAfter,
 use Rattle.fak_queue.proofs.Common.{QueueHolder, IsPost, IsShownQueue, QueueLimits, ◌≡◌, ℕ, ◌+◌, ◌-◌, ◌%◌, ◌^◌, ◌≤◌, List, ◌∷◌, ◌++◌, length, slice_index, sym, ap, ◌∙◌, subst, arith, Option, Some, ◌*◌, ◌/◌, None, Standing, Alike, Each, some, get_elem?, In, Allows, carried_after}
 use Rattle.fak_queue.proofs.Stepping.{QueueTable}
 use Rattle.fak_queue.proofs.BurstBlocks.{Permits}
-use Rattle.fak_queue.proofs.BurstInsertions.{adds_burst, backs_burst, draws_burst, ends_burst, tests_burst}
-use Rattle.fak_queue.proofs.BurstDeletions.{backs_low_burst, draws_out_burst, ends_out_burst, subs_burst, tests_low_burst}
+use Rattle.fak_queue.proofs.BurstInsertions.{adds_burst, backs_burst, draws_burst, tests_burst}
+use Rattle.fak_queue.proofs.BurstDeletions.{backs_low_burst, draws_out_burst, subs_burst, tests_low_burst}
 use Rattle.fak_queue.proofs.BurstTurns.{turns_burst, fills_burst, turns_out_burst, frees_burst, same_turn_in, same_store, same_turn_out, same_load}
 
 -- the step is one that the rule allows
@@ -31,13 +31,6 @@ tests_burst_allowed {T} key slots seats id m few items others e once apart inn w
     let size : key.size ≡ slots = sym r.encoded.wide ∙ wide in
     let q = tests_burst key s r id m at items others e once apart inn whole idle in
     (q.0, q.1, q.2, q.3, subst (λ (z : ℕ × ℕ). TestedBurst z.0 z.1 items others m (slice_index s.words 16) (q.0, carried_after m.1 q.1)) (λ j. (size j, few j)) q.4)
-
-pub ends_burst_allowed : {T : Type 0} (key : QueueLimits) (slots seats id : ℕ) (m : QueueHolder T) → key.seats ≡ seats → (items : List (ℕ × ℕ)) (others : Posts T) → Says m.0 (all_at (λ k. EndInsert k) items ++ others) → AreApart (names_of items) → AreDisjoint (names_of items) (names_of others) → AllIn (names_of items ++ names_of others) m.0.names → (then : Standing T) → SaysAfter m.0.names (all_at (λ k. Idle) items ++ others) then → (d : ℕ) → d ≡ length items → d ≤ 1024
-    → Allows (IsShownQueue key) slots id m 32 (λ w. (w + d) % 2 ^ 64) (λ found after. EndedBurst slots seats items then m after)
-ends_burst_allowed {T} key slots seats id m few items others e once apart inn then says d d_is small' s r wide at small =
-    let size : key.size ≡ slots = sym r.encoded.wide ∙ wide in
-    let q = ends_burst key s r id m at items others e once apart inn then says d d_is small' in
-    (q.0, q.1, q.2, q.3, subst (λ (z : ℕ × ℕ). EndedBurst z.0 z.1 items then m (q.0, carried_after m.1 q.1)) (λ j. (size j, few j)) q.4)
 
 pub backs_burst_allowed : {T : Type 0} (key : QueueLimits) (slots seats id : ℕ) (m : QueueHolder T) → key.seats ≡ seats → (items : List (ℕ × T)) (others : Posts T) → Says m.0 (all_at (λ x. BackUp x) items ++ others) → AreApart (names_of items) → AreDisjoint (names_of items) (names_of others) → AllIn (names_of items ++ names_of others) m.0.names → (then : Standing T) → SaysAfter m.0.names (all_at (λ x. Idle) items ++ others) then → (d : ℕ) → d ≡ length items → d ≤ 1024
     → Allows (IsShownQueue key) slots id m 16 (λ w. (w + (2 ^ 64 - d)) % 2 ^ 64) (λ found after. BackBurst slots seats items others then m after)
@@ -77,14 +70,6 @@ backs_low_burst_allowed {T} key slots seats id m few items others e once apart i
     let size : key.size ≡ slots = sym r.encoded.wide ∙ wide in
     let q = backs_low_burst key s r id m at items others e once apart inn then says d d_is small' in
     (q.0, q.1, q.2, q.3, subst (λ (z : ℕ × ℕ). BackLowBurst z.0 z.1 items others then m (q.0, carried_after m.1 q.1)) (λ j. (size j, few j)) q.4)
-
-pub ends_out_burst_allowed : {T : Type 0} (key : QueueLimits) (slots seats id : ℕ) (m : QueueHolder T) → key.seats ≡ seats → (items : List (ℕ × ℕ)) (others : Posts T) → Says m.0 (all_at (λ k. EndDelete k) items ++ others)
-    → AreApart (names_of items) → AreDisjoint (names_of items) (names_of others) → AllIn (names_of items ++ names_of others) m.0.names → (then : Standing T) → SaysAfter m.0.names (all_at (λ k. Idle) items ++ others) then → (d : ℕ) → d ≡ length items → d ≤ 1024
-    → Allows (IsShownQueue key) slots id m 16 (λ w. (w + (2 ^ 64 - d)) % 2 ^ 64) (λ found after. EndedOutBurst slots seats items then m after)
-ends_out_burst_allowed {T} key slots seats id m few items others e once apart inn then says d d_is small' s r wide at small =
-    let size : key.size ≡ slots = sym r.encoded.wide ∙ wide in
-    let q = ends_out_burst key s r id m at items others e once apart inn then says d d_is small' in
-    (q.0, q.1, q.2, q.3, subst (λ (z : ℕ × ℕ). EndedOutBurst z.0 z.1 items then m (q.0, carried_after m.1 q.1)) (λ j. (size j, few j)) q.4)
 
 -- a view says one thing of its names
 each_same : {T : Type 0} {a b : Posts T} → Some (Each a) ≡ Some (Each b) → a ≡ b

@@ -6,7 +6,7 @@ use Rattle.fak_model.proofs.RunningBlocks.{AreAmong, BlockAdvances, block_steps}
 use Rattle.fak_core.specs.QueueBlocks.{Posts, names_of, AreApart, Stand, block, all_at, Changes}
 use Rattle.fak_core.proofs.QueueBlocks.{reached_block, names-at, stand_on, stand_both}
 use Rattle.fak_queue.specs.Bursts.{AllIn, AreDisjoint, Says, SaysAfter, TellsLower}
-use Rattle.fak_queue.proofs.Common.{QueueView, QueueHolder, IsPost, queue_object, IsShownQueue, QueueLimits, AreWords, IsEncoded, ◌≡◌, ℕ, ◌+◌, ◌-◌, ◌%◌, ◌^◌, ◌<◌, ◌≤◌, List, [], ◌∷◌, ◌++◌, slice_index, set, refl, sym, ap, ◌∙◌, subst, inl, inr, arith, Option, Some, Bool, ℤ, pos, ◌+ℤ◌, ints, bias, shut_part, upper_raise, upper_drop, upper_range, lower_raise, lower_drop, lower_range, ◌-ℤ◌, Standing, Each, some, get_elem?, count, In, Act, keeps, stepped, carried_after, Valid, Mark, total_at, Phase, QueueState, InCell, IsReached, IsKept, kept}
+use Rattle.fak_queue.proofs.Common.{StandsIn, QueueView, QueueHolder, IsPost, queue_object, IsShownQueue, QueueLimits, AreWords, IsEncoded, ◌≡◌, ℕ, ◌+◌, ◌-◌, ◌%◌, ◌^◌, ◌<◌, ◌≤◌, List, [], ◌∷◌, ◌++◌, slice_index, set, refl, sym, ap, ◌∙◌, subst, inl, inr, arith, Option, Some, Bool, ℤ, pos, ◌+ℤ◌, ints, bias, shut_part, upper_raise, upper_drop, upper_range, lower_raise, lower_drop, lower_range, ◌-ℤ◌, Standing, Each, some, get_elem?, count, In, Act, keeps, stepped, carried_after, Valid, Mark, total_at, Phase, QueueState, InCell, IsReached, IsKept, kept}
 use Rattle.fak_queue.proofs.WordWrites.{shut_part-small, words_upper, words_lower}
 use Rattle.fak_queue.proofs.Stepping.{QueueTable, queue_law, stands_else, below_of, lower_count-reverse}
 use Rattle.fak_queue.proofs.BurstPosts.{AreOut, all_left, all_right, in_all, nowhere, out_at, post_left, post_right, says_of}
@@ -24,23 +24,21 @@ module _ {T : Type 0} (key : QueueLimits) (s : QueueTable T) (r : IsShownQueue k
   posted all [] e among inn = tt
   posted all (q ∷ ps) e among inn = (r.stands id m.0 at q.0 inn.0 (Each all) e q.1 (among q.0 q.1 (inl (refl, refl))), posted all ps e (λ n p i. among n p (inr i)) inn.1)
 
-  -- a block of steps that takes and gives no slot: these names stood at `was` and then stand at `now`, the others stand still
-  pub quiet_block : (was now rest : Posts T) → names_of was ≡ names_of now → AreDisjoint (names_of now) (names_of rest) → AllIn (names_of now) m.0.names → Stand r.core was → Stand r.core rest → AreOut key.size was → AreOut key.size now
+  -- a block of steps that takes and gives no slot: these names stood at `was` and then stand at `now`; the view says `then`
+  pub wide_block : (was now : Posts T) → names_of was ≡ names_of now → AllIn (names_of now) m.0.names → Stand r.core was → AreOut key.size was → AreOut key.size now
       → (c : QueueState T) (new : List (Mark T)) (u l : ℤ) (i d : ℕ) → IsReached key.size c → Changes r.core c new u l i d now → AreAmong (λ (x : Mark T). x.seat) m.0.names new
       → (j w : ℕ) → AreWords key.size u l i d r.core.turn r.core.shut (set s.words j w) → (left : ℕ) → i + d + left ≤ r.core.draws_in + r.core.draws_out + m.0.left
-      → (then : Standing T) → SaysAfter m.0.names (now ++ rest) then → (tells : List (Mark T) → Type 0) → tells r.core.past
+      → (then : Standing T) → ((n : ℕ) → In n m.0.names → StandsIn c n then) → (tells : List (Mark T) → Type 0) → tells r.core.past
       → let v = sees m.0.names (new ++ r.core.past) then left in
       IsShownQueue key (stepped s j w id m.1 v keeps) × Leaves (queue_object key.size key.seats) m new then left m.1 tells (v, m.1)
-  quiet_block was now rest names apart inn stood stay out_was out_now c new u l i d reached x own j w words left few then says tells told =
+  wide_block was now names inn stood out_was out_now c new u l i d reached x own j w words left few then says tells told =
       let Kc = kept key.size c reached r.encoded.some_cell in
-      let still : Stand c rest = stand_on r.core c rest (λ n i. x.others n (λ k. apart n k i)) stay in
-      let both : Stand c (now ++ rest) = stand_both c now rest x.stand still in
       let low : (n : ℕ) → In n (names_of now) → n < key.seats = λ n i. r.below id m.0 at n (in_all (names_of now) m.0.names inn n i) in
       let step : BlockAdvances (queue_object key.size key.seats) r.core m.0.names c new then = record {
         reached = record { reached = reached; beyond = λ n far. x.others n (λ i. let near = low n i in omega (arith, near, far)) ∙ r.reached.beyond n far };
         past = x.past_is;
         own = own;
-        stands = λ n k. says_of c (now ++ rest) m.0.names then says both n k;
+        stands = says;
         others = λ k p out at. stands_else r.core c k (x.others k (λ i. out (in_all (names_of now) m.0.names inn k i))) p at;
       } in
       let shows : IsEncoded key.size key.seats c (set s.words j w) s.homes = record {
@@ -55,6 +53,18 @@ module _ {T : Type 0} (key : QueueLimits) (s : QueueTable T) (r : IsShownQueue k
       } in
       let a = K.draws_in in let b = K.draws_out in let a' = Kc.draws_in in let b' = Kc.draws_out in let e = x.draws_in_is in let f = x.draws_out_is in
       block_steps (queue_object key.size key.seats) s r id m at (queue_law key.size key.seats r.encoded.some_cell) c new then step j w keeps shows left (omega (arith, few, a, b, a', b', e, f)) tells told
+
+  -- the other names stand still
+  pub quiet_block : (was now rest : Posts T) → names_of was ≡ names_of now → AreDisjoint (names_of now) (names_of rest) → AllIn (names_of now) m.0.names → Stand r.core was → Stand r.core rest → AreOut key.size was → AreOut key.size now
+      → (c : QueueState T) (new : List (Mark T)) (u l : ℤ) (i d : ℕ) → IsReached key.size c → Changes r.core c new u l i d now → AreAmong (λ (x : Mark T). x.seat) m.0.names new
+      → (j w : ℕ) → AreWords key.size u l i d r.core.turn r.core.shut (set s.words j w) → (left : ℕ) → i + d + left ≤ r.core.draws_in + r.core.draws_out + m.0.left
+      → (then : Standing T) → SaysAfter m.0.names (now ++ rest) then → (tells : List (Mark T) → Type 0) → tells r.core.past
+      → let v = sees m.0.names (new ++ r.core.past) then left in
+      IsShownQueue key (stepped s j w id m.1 v keeps) × Leaves (queue_object key.size key.seats) m new then left m.1 tells (v, m.1)
+  quiet_block was now rest names apart inn stood stay out_was out_now c new u l i d reached x own j w words left few then says tells told =
+      let still : Stand c rest = stand_on r.core c rest (λ n i. x.others n (λ k. apart n k i)) stay in
+      let both : Stand c (now ++ rest) = stand_both c now rest x.stand still in
+      wide_block was now names inn stood out_was out_now c new u l i d reached x own j w words left few then (λ n k. says_of c (now ++ rest) m.0.names then says both n k) tells told
 
   pub few_draws : (r.core.draws_in + r.core.draws_out + m.0.left ≤ 2 ^ 50)
   few_draws =

@@ -28,16 +28,6 @@ module _ {T : Type 0} (key : QueueLimits) (s : QueueTable T) (r : IsShownQueue k
       r.core.upper (r.core.lower +ℤ pos (length items)) r.core.draws_in r.core.draws_out (backs_low key.size r.core items once) 32 ((w + d) % 2 ^ 64) words m.0.left (omega arith) then says (λ past. Unit {0}) tt in
       (sees m.0.names (new ++ r.core.past) then m.0.left, keeps, tt, q.0, q.1)
 
-  pub ends_out_burst : (items : List (ℕ × ℕ)) (others : Posts T) → Says m.0 (all_at (λ k. EndDelete k) items ++ others) → AreApart (names_of items) → AreDisjoint (names_of items) (names_of others) → AllIn (names_of items ++ names_of others) m.0.names
-      → (then : Standing T) → SaysAfter m.0.names (all_at (λ k. Idle) items ++ others) then → (d : ℕ) → d ≡ length items → d ≤ 1024 → Permits key s r id m at 16 (λ w. (w + (2 ^ 64 - d)) % 2 ^ 64) (λ found after. EndedOutBurst key.size key.seats items then m after)
-  ends_out_burst items others e once apart inn then says d d_is small =
-      let w = slice_index s.words 16 in
-      let words = subst (λ k. AreWords key.size (r.core.upper -ℤ pos k) r.core.lower r.core.draws_in r.core.draws_out r.core.turn r.core.shut (set s.words 16 ((w + (2 ^ 64 - d)) % 2 ^ 64))) d_is (upper_less key s r id m at d small) in
-      let new = marks_back (λ k. made.EndOut) items in
-      let q = wide_step key s r id m at (λ k. EndDelete k) items others e once apart inn (λ k. Idle) (λ x i j. j) (λ x i j. j) new (among_back (λ k. made.EndOut) items m.0.names (all_left (names_of items) (names_of others) m.0.names inn))
-      (r.core.upper -ℤ pos (length items)) r.core.lower r.core.draws_in r.core.draws_out (ends_out key.size r.core items once) 16 ((w + (2 ^ 64 - d)) % 2 ^ 64) words m.0.left (omega arith) then says (λ past. Unit {0}) tt in
-      (sees m.0.names (new ++ r.core.past) then m.0.left, keeps, tt, q.0, q.1)
-
   pub draws_out_burst : (items : List (ℕ × Unit {0})) (others : Posts T) → Says m.0 (all_at (λ x. TicketOut) items ++ others) → AreApart (names_of items) → AreDisjoint (names_of items) (names_of others) → AllIn (names_of items ++ names_of others) m.0.names
       → (d : ℕ) → d ≡ length items → d ≤ m.0.left → Permits key s r id m at 64 (λ w. (w + d) % 2 ^ 64) (DrewOutBurst key.size key.seats items others m)
   draws_out_burst items others e once apart inn d d_is left =

@@ -107,18 +107,6 @@ module _ {T : Type 0} (key : QueueLimits) (s : QueueTable T) (r : IsShownQueue k
     pub adds_burst : Permits key s r id m at 16 (λ w. (w + d) % 2 ^ 64) (AddedBurst key.size key.seats items others m)
     adds_burst = elim (true_or_false r.core.shut) [ inl shut ↦ added_late shut | inr opn ↦ added_some opn ]
 
-  pub ends_burst : (items : List (ℕ × ℕ)) (others : Posts T) → Says m.0 (all_at (λ k. EndInsert k) items ++ others) → AreApart (names_of items) → AreDisjoint (names_of items) (names_of others) → AllIn (names_of items ++ names_of others) m.0.names
-      → (then : Standing T) → SaysAfter m.0.names (all_at (λ k. Idle) items ++ others) then → (d : ℕ) → d ≡ length items → d ≤ 1024 → Permits key s r id m at 32 (λ w. (w + d) % 2 ^ 64) (λ found after. EndedBurst key.size key.seats items then m after)
-  ends_burst items others e once apart inn then says d d_is small =
-      let w = slice_index s.words 32 in
-      let b = (lower_bounds key s r id m at) in
-      let words = subst (λ k. AreWords key.size r.core.upper (r.core.lower +ℤ pos k) r.core.draws_in r.core.draws_out r.core.turn r.core.shut (set s.words 32 ((w + d) % 2 ^ 64))) d_is
-      (words_lower key.size r.core.upper r.core.lower r.core.draws_in r.core.draws_out r.core.turn r.core.shut s.words r.encoded.words_are _ (r.core.lower +ℤ pos d) (grown_low w r.core.lower (lower_most key s r id m at) d r.encoded.words_are.lower_is b.0 b.1 small)) in
-      let new = marks_back (λ k. made.EndIn) items in
-      let q = wide_step key s r id m at (λ k. EndInsert k) items others e once apart inn (λ k. Idle) (λ x i j. j) (λ x i j. j) new (among_back (λ k. made.EndIn) items m.0.names (all_left (names_of items) (names_of others) m.0.names inn))
-      r.core.upper (r.core.lower +ℤ pos (length items)) r.core.draws_in r.core.draws_out (ends key.size r.core items once) 32 ((w + d) % 2 ^ 64) words m.0.left (omega arith) then says (λ past. Unit {0}) tt in
-      (sees m.0.names (new ++ r.core.past) then m.0.left, keeps, tt, q.0, q.1)
-
   pub backs_burst : (items : List (ℕ × T)) (others : Posts T) → Says m.0 (all_at (λ x. BackUp x) items ++ others) → AreApart (names_of items) → AreDisjoint (names_of items) (names_of others) → AllIn (names_of items ++ names_of others) m.0.names
       → (then : Standing T) → SaysAfter m.0.names (all_at (λ x. Idle) items ++ others) then → (d : ℕ) → d ≡ length items → d ≤ 1024 → Permits key s r id m at 16 (λ w. (w + (2 ^ 64 - d)) % 2 ^ 64) (λ found after. BackBurst key.size key.seats items others then m after)
   backs_burst items others e once apart inn then says d d_is small =

@@ -4,7 +4,7 @@ use Rattle.fak_model.proofs.Deciding.{same_or_not}
 use Rattle.fak_model.proofs.RunningBlocks.{AreAmong, among_append}
 use Rattle.fak_core.specs.declared.queue.phase.Phase.TheVariants.{Idle}
 use Rattle.fak_core.specs.QueueBlocks.{Posts, names_of, Stand, all_at, turns_from, marks_back, turns_out_from}
-use Rattle.fak_queue.specs.Bursts.{AllIn, AreIdle, SaysAfter, post_to}
+use Rattle.fak_queue.specs.Bursts.{AllIn, AreIdle, SaysAfter, post_to, posts_to}
 use Rattle.std.specs.Prelude.{cond}
 use Rattle.fak_queue.proofs.Common.{IsPost, StandsIn, ◌≡◌, ◌≢◌, ◌⊎◌, ℕ, ◌+◌, List, [], ◌∷◌, ◌++◌, refl, sym, ap, ◌∙◌, subst, inl, inr, arith, Bool, true, false, ◌==◌, nat_tests, Standing, In, Mark, Phase, QueueState, InCell}
 
@@ -121,3 +121,32 @@ pub post_else : {T : Type 0} (n : ℕ) (q : Phase T) (all : Posts T) (t : ℕ) (
 post_else n q [] t w ne o = absurd o
 post_else n q (s ∷ all) t w ne (inl e) = inl (e.0, cond_so (s.0 == n) false q s.1 (let z = e.0 in let b : (s.0 == n) ≡ false = grind (arith, nat_tests) in b) ∙ e.1)
 post_else n q (s ∷ all) t w ne (inr o) = inr (post_else n q all t w ne o)
+
+-- ---- several names move
+
+pub moved_posts : {T : Type 0} (ns : List ℕ) (q : Phase T) (all : Posts T) (t : ℕ) (w : Phase T) → IsPost t w (posts_to ns q all) → (In t ns × (w ≡ q)) ⊎ ((In t ns → ⊥) × IsPost t w all)
+moved_posts [] q all t w o = inr ((λ i. i), o)
+moved_posts (n ∷ ns) q all t w o = elim (moved_posts ns q (post_to n q all) t w o) [
+  | inl e ↦ inl (inr e.0, e.1)
+  | inr e ↦ elim (moved_post n q all t w e.1) [
+    | inl f ↦ inl (inl f.0, f.1)
+    | inr f ↦ inr ((λ i. elim i [ inl z ↦ f.0 z | inr z ↦ e.0 z ]), f.1)
+  ]
+]
+
+pub posts_else : {T : Type 0} (ns : List ℕ) (q : Phase T) (all : Posts T) (t : ℕ) (w : Phase T) → (In t ns → ⊥) → IsPost t w all → IsPost t w (posts_to ns q all)
+posts_else [] q all t w out o = o
+posts_else (n ∷ ns) q all t w out o = posts_else ns q (post_to n q all) t w (λ i. out (inr i)) (post_else n q all t w (λ e. out (inl e)) o)
+
+pub posts_here : {T : Type 0} (ns : List ℕ) (p q : Phase T) (all : Posts T) (t : ℕ) → In t ns → IsPost t p all → IsPost t q (posts_to ns q all)
+posts_here [] p q all t i o = absurd i
+posts_here (n ∷ ns) p q all t i o = elim (in_or_not t ns) [
+  | inl k ↦ elim (same_or_not t n) [
+    | inl e ↦ posts_here ns q q (post_to n q all) t k (subst (λ z. IsPost z q (post_to n q all)) (sym e) (post_here n p q all (subst (λ z. IsPost z p all) e o)))
+    | inr ne ↦ posts_here ns p q (post_to n q all) t k (post_else n q all t p ne o)
+  ]
+  | inr out ↦ elim i [
+    | inl e ↦ posts_else ns q (post_to n q all) t q out (subst (λ z. IsPost z q (post_to n q all)) (sym e) (post_here n p q all (subst (λ z. IsPost z p all) e o)))
+    | inr k ↦ absurd (out k)
+  ]
+]

@@ -32,6 +32,7 @@ pub mod BurstInsertions
 pub mod BurstDeletions
 pub mod BurstTurns
 pub mod BurstAllowed
+pub mod BurstEnds
 pub mod BurstNames
 pub mod BurstClaims
 pub mod BurstClaimsOut

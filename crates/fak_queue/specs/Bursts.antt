@@ -1,6 +1,6 @@
 -- How a table of words and slots shows a queue where a token may bear many names, each at a phase of its own; and what each
 -- atomic step of a burst tells.
-use Rattle.std.specs.Prelude.{◌≡◌, ◌==◌, cond, zero, suc, ℤ, ◌⊎◌, ℕ, ◌+◌, ◌-◌, ◌*◌, ◌/◌, ◌%◌, ◌≢◌, ◌<◌, ◌≤◌, ◌^◌, None, Some, pos, ◌+ℤ◌, List, [], ◌∷◌, ◌++◌, length, take, drop, min, reverse}
+use Rattle.std.specs.Prelude.{◌≡◌, Bool, true, false, ◌==◌, cond, zero, suc, ℤ, ◌⊎◌, ℕ, ◌+◌, ◌-◌, ◌*◌, ◌/◌, ◌%◌, ◌≢◌, ◌<◌, ◌≤◌, ◌^◌, None, Some, pos, ◌+ℤ◌, List, [], ◌∷◌, ◌++◌, length, take, drop, min, reverse}
 use Rattle.atomic_table.specs.Table.{rest}
 use Rattle.fak_model.specs.declared.queue.Kind.TheVariants as made
 use Rattle.fak_model.specs.declared.queue.Mark.{Mark}
@@ -79,14 +79,30 @@ module _ {T : Type 0} (size seats : ℕ) (items : List (ℕ × T)) (others : Pos
   abbrev pub BackBurst : Standing T → QueueHolder T → QueueHolder T → Type 0
   BackBurst then m after = Leaves (queue_object size seats) m (marks_back (λ x. made.BackIn) items) then m.0.left m.1 (λ past. Unit {0}) after
 
--- these names, each with its ticket, ended their insertions
-abbrev pub EndedBurst : {T : Type 0} → ℕ → ℕ → List (ℕ × ℕ) → Standing T → QueueHolder T → QueueHolder T → Type 0
-EndedBurst size seats items then m after = Leaves (queue_object size seats) m (marks_back (λ k. made.EndIn) items) then m.0.left m.1 (λ past. Unit {0}) after
-
 -- the same posts, except that this name stands at p
 abbrev pub post_to : {T : Type 0} → ℕ → Phase T → Posts T → Posts T
 post_to n p [] = []
 post_to n p (s ∷ posts) = (s.0, cond (s.0 == n) p s.1) ∷ post_to n p posts
+
+-- the same posts, except that these names stand at p
+abbrev pub posts_to : {T : Type 0} → List ℕ → Phase T → Posts T → Posts T
+posts_to [] p all = all
+posts_to (n ∷ names) p all = posts_to names p (post_to n p all)
+
+-- what the view says once these names rest, and all others may rest too
+abbrev pub once_rest : {T : Type 0} → Bool → List ℕ → Posts T → Standing T
+once_rest true names all = Alike Idle
+once_rest false names all = Each (posts_to names Idle all)
+
+-- these names, each with its ticket, ended their insertions; the others stand still
+abbrev pub EndedBurst : {T : Type 0} → ℕ → ℕ → List (ℕ × ℕ) → Bool → QueueHolder T → QueueHolder T → Type 0
+EndedBurst {T} size seats items rests m after = (all : Posts T) → m.0.phase ≡ Some (Each all)
+    → Leaves (queue_object size seats) m (marks_back (λ k. made.EndIn) items) (once_rest rests (names_of items) all) m.0.left m.1 (λ past. Unit {0}) after
+
+-- these names, each with its ticket, ended their deletions; the others stand still
+abbrev pub EndedOutBurst : {T : Type 0} → ℕ → ℕ → List (ℕ × ℕ) → Bool → QueueHolder T → QueueHolder T → Type 0
+EndedOutBurst {T} size seats items rests m after = (all : Posts T) → m.0.phase ≡ Some (Each all)
+    → Leaves (queue_object size seats) m (marks_back (λ k. made.EndOut) items) (once_rest rests (names_of items) all) m.0.left m.1 (λ past. Unit {0}) after
 
 -- one name's load of the turn of ticket k; the other names stand still
 module _ {T : Type 0} (size seats n k : ℕ) where
@@ -210,9 +226,6 @@ module _ {T : Type 0} (size seats : ℕ) (items : List (ℕ × Unit {0})) (other
   pub record TestedLowBurst (m : QueueHolder T) (found : ℕ) (after : QueueHolder T) : Type 0 where
     pub stock : bias < found → Leaves (queue_object size seats) m [] (Each (all_at (λ x. SubLow) items ++ others)) m.0.left m.1 (TellsLower found) after
     pub empty : found ≤ bias → Leaves (queue_object size seats) m (marks_back (λ x. made.NoItem) items) (Alike Idle) m.0.left m.1 (TellsLower found) after
-
-abbrev pub EndedOutBurst : {T : Type 0} → ℕ → ℕ → List (ℕ × ℕ) → Standing T → QueueHolder T → QueueHolder T → Type 0
-EndedOutBurst size seats items then m after = Leaves (queue_object size seats) m (marks_back (λ k. made.EndOut) items) then m.0.left m.1 (λ past. Unit {0}) after
 
 -- one name's load of the turn of ticket k; the other names stand still
 module _ {T : Type 0} (size seats n k : ℕ) where

@@ -1,6 +1,6 @@
 //! The atomic steps of a burst of deletions, on the token of a bundle.
 
-ghost use Rattle.std.specs.Prelude.{◌≡◌, ◌≤◌, ◌++◌, ◌∷◌, ℕ, List, None, Option, Some, length};
+ghost use Rattle.std.specs.Prelude.{◌≡◌, ◌⊎◌, true, ◌≤◌, ◌++◌, ◌∷◌, ℕ, List, None, Option, Some, length};
 ghost use Rattle.fak_core.specs.declared.queue.phase.Phase.TheVariants.{BackLow, EndDelete, Idle, LoadItem, SubLow, TicketOut, TurnOut};
 ghost use Rattle.fak_core.specs.QueueBlocks.{AreApart, Posts, all_at, names_of};
 ghost use Rattle.fak_queue.specs.Steps.{FitsTable, IsPlace};
@@ -9,6 +9,8 @@ ghost use Rattle.fak_queue.specs.Bursts.{AllIn, AreDisjoint, AreIdle, BackLowBur
 ghost use Rattle.fak_queue.specs.Bursts.{FreesBurst, Says, SaysAfter, SubbedBurst, TestedLowBurst, TurnsOutBurst};
 ghost use Rattle.fak_queue.specs.Shown.{IsPost};
 ghost use Rattle.fak_model.specs.Seats.{In};
+ghost use Rattle.fak_core.specs.declared.queue.phase.Phase.{Phase};
+ghost use Rattle.fak_queue.specs.Bundles.{SaysOf};
 
 use crate::bursts::plays::{
     BackLowBurstPlay, DrawOutBurstPlay, EndOutBurstPlay, Ends, FreeBurstPlay, OneName,
@@ -135,19 +137,22 @@ pub(crate) fn free_burst<T, J: OneName>(
 }
 
 /// Subtracts the number of these names from the upper count, which ends their deletions.
-pub(crate) fn end_out_burst<T, J: Ends<T>>(
+pub(crate) fn end_out_burst<T, J: Ends>(
     words: &QueueWords<T>,
     token: &mut QueueToken<T>,
     count: u64,
+    _names: &[u64],
+    _first: u64,
 )
     requires table { FitsTable token.old.table_id words.now.table_id words.now.key J.seats }
     requires count { (count ≡ length J.items) × (count ≤ 1024) }
-    requires names { AreApart (names_of J.items) × AreDisjoint (names_of J.items) (names_of J.others)
-        × AllIn (names_of J.items ++ names_of J.others) token.old.me.0.names }
-    requires phase { Says token.old.me.0 (all_at (λ k. EndDelete k) J.items ++ J.others) }
-    requires then { SaysAfter token.old.me.0.names (all_at (λ k. Idle) J.items ++ J.others) J.then }
+    requires names { AreApart (names_of J.items) × AllIn (names_of J.items) token.old.me.0.names }
+    requires phase { (all : Posts T) × (token.old.me.0.phase ≡ Some (Each all)) }
+    requires ends { (n : ℕ) (p : Phase T) → IsPost n p (all_at (λ k. EndDelete k) J.items) → SaysOf token.old.me.0 n p }
+    requires rest { J.rests ≡ true → (n : ℕ) → In n token.old.me.0.names
+        → In n (names_of J.items) ⊎ SaysOf token.old.me.0 n Idle }
     ensures same { token.new.table_id ≡ token.old.table_id }
-    ensures told { EndedOutBurst words.now.table_id.slots J.seats J.items J.then token.old.me token.new.me }
+    ensures told { EndedOutBurst words.now.table_id.slots J.seats J.items J.rests token.old.me token.new.me }
 {
     words.fetch_sub::<EndOutBurstPlay<J>>(token, UPPER, count);
 }

@@ -1,6 +1,6 @@
 //! The atomic steps of a burst of insertions, on the token of a bundle.
 
-ghost use Rattle.std.specs.Prelude.{◌≡◌, ◌≤◌, ◌++◌, ◌∷◌, ℕ, List, Option, Some, length};
+ghost use Rattle.std.specs.Prelude.{◌≡◌, ◌⊎◌, true, ◌≤◌, ◌++◌, ◌∷◌, ℕ, List, Option, Some, length};
 ghost use Rattle.fak_core.specs.declared.queue.phase.Phase.TheVariants.{AddUp, BackUp, EndInsert, Idle, StoreItem, TicketIn, TurnIn};
 ghost use Rattle.fak_core.specs.QueueBlocks.{AreApart, Posts, all_at, names_of};
 ghost use Rattle.fak_queue.specs.Steps.{FitsTable, IsPlace};
@@ -9,6 +9,8 @@ ghost use Rattle.fak_queue.specs.Bursts.{AddedBurst, AllIn, AreDisjoint, AreIdle
 ghost use Rattle.fak_queue.specs.Bursts.{FillsBurst, Says, SaysAfter, TestedBurst, TurnsBurst};
 ghost use Rattle.fak_queue.specs.Shown.{IsPost};
 ghost use Rattle.fak_model.specs.Seats.{In};
+ghost use Rattle.fak_core.specs.declared.queue.phase.Phase.{Phase};
+ghost use Rattle.fak_queue.specs.Bundles.{SaysOf};
 
 use crate::bursts::plays::{
     AddBurstPlay, BackBurstPlay, Burst, DrawBurstPlay, EndBurstPlay, Ends, FillBurstPlay, OneName,
@@ -134,15 +136,22 @@ pub(crate) fn fill_burst<T, J: OneName>(
 }
 
 /// Adds the number of these names to the lower count, which ends their insertions.
-pub(crate) fn end_burst<T, J: Ends<T>>(words: &QueueWords<T>, token: &mut QueueToken<T>, count: u64)
+pub(crate) fn end_burst<T, J: Ends>(
+    words: &QueueWords<T>,
+    token: &mut QueueToken<T>,
+    count: u64,
+    _names: &[u64],
+    _first: u64,
+)
     requires table { FitsTable token.old.table_id words.now.table_id words.now.key J.seats }
     requires count { (count ≡ length J.items) × (count ≤ 1024) }
-    requires names { AreApart (names_of J.items) × AreDisjoint (names_of J.items) (names_of J.others)
-        × AllIn (names_of J.items ++ names_of J.others) token.old.me.0.names }
-    requires phase { Says token.old.me.0 (all_at (λ k. EndInsert k) J.items ++ J.others) }
-    requires then { SaysAfter token.old.me.0.names (all_at (λ k. Idle) J.items ++ J.others) J.then }
+    requires names { AreApart (names_of J.items) × AllIn (names_of J.items) token.old.me.0.names }
+    requires phase { (all : Posts T) × (token.old.me.0.phase ≡ Some (Each all)) }
+    requires ends { (n : ℕ) (p : Phase T) → IsPost n p (all_at (λ k. EndInsert k) J.items) → SaysOf token.old.me.0 n p }
+    requires rest { J.rests ≡ true → (n : ℕ) → In n token.old.me.0.names
+        → In n (names_of J.items) ⊎ SaysOf token.old.me.0 n Idle }
     ensures same { token.new.table_id ≡ token.old.table_id }
-    ensures told { EndedBurst words.now.table_id.slots J.seats J.items J.then token.old.me token.new.me }
+    ensures told { EndedBurst words.now.table_id.slots J.seats J.items J.rests token.old.me token.new.me }
 {
     words.fetch_add::<EndBurstPlay<J>>(token, LOWER, count);
 }

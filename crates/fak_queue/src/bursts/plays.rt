@@ -1,6 +1,6 @@
 //! What each atomic step of a burst tells the bundle. These types are for the proofs alone.
 
-ghost use Rattle.std.specs.Prelude.{ℕ, List, []};
+ghost use Rattle.std.specs.Prelude.{ℕ, Bool, false, List, []};
 ghost use Rattle.fak_queue.specs.declared.standing.Standing.TheVariants.{Each};
 ghost use Rattle.fak_queue.specs.Bursts.{AddedBurst, BackBurst, BackLowBurst, DrewBurst, DrewOutBurst, EndedBurst};
 ghost use Rattle.fak_queue.specs.Bursts.{EndedOutBurst, FillsBurst, FreesBurst, SubbedBurst, TestedBurst};
@@ -27,18 +27,13 @@ pub trait Burst<T> {
     ghost then: { Standing T };
 }
 
-/// The names that end their insertions, each with its ticket.
-pub trait Ends<T> {
-    ghost use Rattle.fak_core.specs.QueueBlocks.{Posts};
-    ghost use Rattle.fak_queue.specs.declared.standing.Standing.{Standing};
-
+/// The names that end their insertions or deletions, each with its ticket, and whether all names rest then.
+pub trait Ends {
     ghost seats: { ℕ };
 
     ghost items: { List (ℕ × ℕ) };
 
-    ghost others: { Posts T };
-
-    ghost then: { Standing T };
+    ghost rests: { Bool };
 }
 
 /// The name that is at its cell.
@@ -72,14 +67,12 @@ impl<T> Burst<T> for Brand {
     ghost then = { Each [] };
 }
 
-impl<T> Ends<T> for Brand {
+impl Ends for Brand {
     ghost seats = { 0 };
 
     ghost items = { [] };
 
-    ghost others = { [] };
-
-    ghost then = { Each [] };
+    ghost rests = { false };
 }
 
 impl OneName for Brand {
@@ -157,8 +150,8 @@ pub struct EndBurstPlay<J> {
     call: PhantomData<J>,
 }
 
-impl<T, J: Ends<T>> Play<Option<T>, View<Mark<T>, Standing<T>>> for EndBurstPlay<J> {
-    ghost then = { λ s m _ after. EndedBurst s.slots J.seats J.items J.then m after };
+impl<T, J: Ends> Play<Option<T>, View<Mark<T>, Standing<T>>> for EndBurstPlay<J> {
+    ghost then = { λ s m _ after. EndedBurst s.slots J.seats J.items J.rests m after };
 }
 
 /// The test of the lower count for several names at once.
@@ -220,6 +213,6 @@ pub struct EndOutBurstPlay<J> {
     call: PhantomData<J>,
 }
 
-impl<T, J: Ends<T>> Play<Option<T>, View<Mark<T>, Standing<T>>> for EndOutBurstPlay<J> {
-    ghost then = { λ s m _ after. EndedOutBurst s.slots J.seats J.items J.then m after };
+impl<T, J: Ends> Play<Option<T>, View<Mark<T>, Standing<T>>> for EndOutBurstPlay<J> {
+    ghost then = { λ s m _ after. EndedOutBurst s.slots J.seats J.items J.rests m after };
 }
