@@ -126,7 +126,7 @@ module _ (T : Type 0) {B : Type 0} (ns : List ℕ) (xs : List B) (apart : AreApa
 
 -- ---- marks
 
-begins_trans : {M : Type 0} (f g h : List M) → Begins f g → Begins g h → Begins f h
+pub begins_trans : {M : Type 0} (f g h : List M) → Begins f g → Begins g h → Begins f h
 begins_trans f g h a b = (a.0 ++ b.0, sym (append_assoc f a.0 b.0) ∙ (ap (λ l. l ++ b.0) a.1 ∙ b.1))
 
 mark_name : {T : Type 0} → Mark T → ℕ

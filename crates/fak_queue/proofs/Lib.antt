@@ -37,3 +37,5 @@ pub mod BurstNames
 pub mod BurstClaims
 pub mod BurstClaimsOut
 pub mod BundleTurns
+pub mod BundleLists
+pub mod BundleFilling

@@ -1,15 +1,19 @@
 -- What the parts of a burst's calls leave at the token of a bundle, name by name.
-use Rattle.std.specs.Prelude.{◌≡◌, ◌≢◌, ℕ, ◌+◌, ◌%◌, Bool, true, false, List, [], ◌∷◌, reverse, Option, Some, None}
+use Rattle.std.specs.Prelude.{◌≡◌, ◌≢◌, ◌⊎◌, ℕ, ◌+◌, ◌-◌, ◌%◌, ◌<◌, ◌≤◌, Bool, true, false, List, [], ◌∷◌, ◌++◌, drop, length, reverse, Option, Some, None}
 use Rattle.fak_model.specs.declared.queue.Kind.TheVariants as made
 use Rattle.fak_model.specs.declared.queue.Mark.{Mark}
-use Rattle.fak_model.specs.Queue.{items_put, item_at, Has}
+use Rattle.fak_model.specs.declared.queue.Kind.{Kind}
+use Rattle.fak_model.specs.Histories.{AreNamed, IsHistory}
+use Rattle.fak_model.specs.Seats.{Begins, marks_of}
+use Rattle.fak_model.specs.Queue.{items_put, item_at, Has, queue_rules}
 use Rattle.fak_core.specs.declared.queue.phase.Phase.{Phase}
-use Rattle.fak_core.specs.declared.queue.phase.Phase.TheVariants.{TurnIn, StoreItem, EndInsert, TurnOut, LoadItem, EndDelete}
+use Rattle.fak_core.specs.declared.queue.phase.Phase.TheVariants.{Idle, TurnIn, StoreItem, EndInsert, TurnOut, LoadItem, EndDelete}
 use Rattle.fak_core.specs.QueueBlocks.{Posts}
-use Rattle.fak_queue.specs.declared.standing.Standing.TheVariants.{Each}
+use Rattle.fak_queue.specs.declared.standing.Standing.TheVariants.{Alike, Each}
 use Rattle.fak_queue.specs.Shown.{QueueView, QueueHolder, IsPost}
 use Rattle.fak_queue.specs.Steps.{mark}
 use Rattle.fak_queue.specs.Bursts.{Makes}
+use Rattle.fak_queue.specs.Queues.{seat_of, made_by}
 
 -- the view says of this name that it stands at p
 abbrev pub SaysOf : {T : Type 0} → QueueView T → ℕ → Phase T → Type 0
@@ -59,3 +63,66 @@ module _ {T : Type 0} (size seats n k : ℕ) where
   -- the item was moved out of the cell
   abbrev pub TakesIt : QueueHolder T → QueueHolder T → Type 0
   TakesIt m after = StepsOn size seats n (EndDelete k) (mark n (made.Take k) ∷ []) [] m after
+
+-- ---- the names of a bundle, counted from 0 in the order in which they take tickets
+
+-- what the view has seen is lawful, and its marks are of the object's seats
+pub record IsLawful {T : Type 0} (size seats : ℕ) (v : QueueView T) : Type 0 where
+  pub lawful : IsHistory (queue_rules size) (reverse v.seen)
+  pub named : AreNamed (queue_rules size) seats (reverse v.seen)
+
+-- between two states of a token the names from lo to hi made marks of these kinds each, and the others none
+pub record MadeFrom {T : Type 0} (size seats : ℕ) (names : List ℕ) (lo hi : ℕ) (kinds_at : ℕ → List (Kind T)) (m after : QueueHolder T) : Type 0 where
+  pub names_are : after.0.names ≡ m.0.names
+  pub left : after.0.left ≡ m.0.left
+  pub begins : Begins (reverse m.0.seen) (reverse after.0.seen)
+  pub inside : (i n : ℕ) → item_at names i ≡ Some n → lo ≤ i → i < hi → marks_of seat_of n (reverse after.0.seen) ≡ marks_of seat_of n (reverse m.0.seen) ++ made_by n (kinds_at i)
+  pub outside : (i n : ℕ) → item_at names i ≡ Some n → (i < lo) ⊎ (hi ≤ i) → marks_of seat_of n (reverse after.0.seen) ≡ marks_of seat_of n (reverse m.0.seen)
+  pub lawful : IsLawful size seats after.0
+
+-- where the names stand while a burst of insertions fills its cells: of those that were granted the first rest, the next have
+-- filled their cells, and the others wait with the items that are kept; all other names rest
+pub record Filling {T : Type 0} (names : List ℕ) (k ended filled granted : ℕ) (kept : List T) (v : QueueView T) : Type 0 where
+  pub all_are : v.names ≡ names
+  pub done : (i n : ℕ) → item_at names i ≡ Some n → i < ended → SaysOf v n Idle
+  pub full : (i n : ℕ) → item_at names i ≡ Some n → ended ≤ i → i < filled → SaysOf v n (EndInsert (k + i))
+  pub waits : (i n : ℕ) (x : T) → item_at names i ≡ Some n → filled ≤ i → i < granted → item_at kept (i - filled) ≡ Some x → SaysOf v n (TurnIn (k + i) x)
+  pub rests : (i n : ℕ) → item_at names i ≡ Some n → granted ≤ i → SaysOf v n Idle
+  pub some : length kept ≡ granted - filled
+  pub order : (ended ≤ filled) × (filled ≤ granted) × (granted ≤ length names)
+
+-- the same while a burst of deletions empties its cells
+pub record Emptying {T : Type 0} (names : List ℕ) (k ended taken granted : ℕ) (v : QueueView T) : Type 0 where
+  pub all_are : v.names ≡ names
+  pub done : (i n : ℕ) → item_at names i ≡ Some n → i < ended → SaysOf v n Idle
+  pub free : (i n : ℕ) → item_at names i ≡ Some n → ended ≤ i → i < taken → SaysOf v n (EndDelete (k + i))
+  pub waits : (i n : ℕ) → item_at names i ≡ Some n → taken ≤ i → i < granted → SaysOf v n (TurnOut (k + i))
+  pub rests : (i n : ℕ) → item_at names i ≡ Some n → granted ≤ i → SaysOf v n Idle
+  pub order : (ended ≤ taken) × (taken ≤ granted) × (granted ≤ length names)
+
+-- what a name makes at its cell
+abbrev pub fills_at : {T : Type 0} → ℕ → ℕ → List (Kind T)
+fills_at k i = made.Fill (k + i) ∷ []
+
+abbrev pub takes_at : {T : Type 0} → ℕ → ℕ → List (Kind T)
+takes_at k i = made.Take (k + i) ∷ []
+
+-- the cells of the names from lo on were filled, until one's turn had not come
+pub record FillsOn {T : Type 0} (size seats : ℕ) (names : List ℕ) (k lo filled granted : ℕ) (was kept : List T) (m after : QueueHolder T) : Type 0 where
+  pub marks : MadeFrom size seats names lo filled (fills_at k) m after
+  pub stands : Filling names k lo filled granted kept after.0
+  pub slots : after.1 ≡ []
+  pub kept_are : kept ≡ drop (filled - lo) was
+
+-- the turn of ticket t had not come: the round before was not taken from its cell
+abbrev pub IsEarly : {T : Type 0} → ℕ → ℕ → QueueHolder T → Type 0
+IsEarly size t after = (earlier : ℕ) × (t ≡ earlier + size) × (Has (made.Take earlier) (reverse after.0.seen) → ⊥)
+
+-- the cells of the names from lo on were emptied into `got`, until one's turn had not come
+pub record EmptiesOn {T : Type 0} (size seats : ℕ) (names : List ℕ) (k lo taken granted : ℕ) (got : List T) (m after : QueueHolder T) : Type 0 where
+  pub marks : MadeFrom size seats names lo taken (takes_at k) m after
+  pub stands : Emptying names k lo taken granted after.0
+  pub slots : after.1 ≡ []
+  pub many : length got ≡ taken - lo
+  -- the items are those that were put under these tickets
+  pub put : (i : ℕ) (x : T) → item_at got i ≡ Some x → item_at (items_put (reverse after.0.seen)) (k + lo + i) ≡ Some x

@@ -89,6 +89,11 @@ abbrev pub posts_to : {T : Type 0} → List ℕ → Phase T → Posts T → Post
 posts_to [] p all = all
 posts_to (n ∷ names) p all = posts_to names p (post_to n p all)
 
+-- these names with the tickets from k on
+abbrev pub tickets_of : List ℕ → ℕ → List (ℕ × ℕ)
+tickets_of [] k = []
+tickets_of (n ∷ names) k = (n, k) ∷ tickets_of names (k + 1)
+
 -- what the view says once these names rest, and all others may rest too
 abbrev pub once_rest : {T : Type 0} → Bool → List ℕ → Posts T → Standing T
 once_rest true names all = Alike Idle

@@ -6,6 +6,8 @@
 pub(crate) mod admission;
 pub(crate) mod admission_out;
 pub(crate) mod deletion;
+pub(crate) mod filling;
 pub(crate) mod insertion;
 pub(crate) mod plays;
+pub(crate) mod progress;
 pub(crate) mod turns;

@@ -142,6 +142,7 @@ pub(crate) fn end_burst<T, J: Ends>(
     count: u64,
     _names: &[u64],
     _first: u64,
+    _rests: bool,
 )
     requires table { FitsTable token.old.table_id words.now.table_id words.now.key J.seats }
     requires count { (count ≡ length J.items) × (count ≤ 1024) }
