@@ -49,6 +49,11 @@ class Copy:
         """Each check gets this program in place of a built one."""
         self.script("tools/build/program", f"echo '{program}'\n")
 
+    def takes_programs(self, *names):
+        """Each check gets these programs as they are built."""
+        cases = "".join(f"{name}) echo '{built('program', name)}' ;;\n" for name in names)
+        self.script("tools/build/program", f"case ${{1:-fak}} in\n{cases}*) exit 1 ;;\nesac\n")
+
     def departs(self, output="", faults="", status=0):
         """Each check gets a program that changes what fak writes: commands of sed for both outputs, and what its status is raised by."""
         said = self.path("departs.$$")

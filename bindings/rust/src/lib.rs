@@ -5,33 +5,23 @@
 //! handle. What is left to the program that links it: the heap, and no opening or drop of a seat in an interrupt or signal handler.
 #![no_std]
 
+#[cfg(feature = "alloc")]
+extern crate alloc;
+
+#[cfg(feature = "alloc")]
+mod boxes;
+mod fault;
+pub mod limits;
 mod raw;
 
+#[cfg(feature = "alloc")]
+pub use boxes::{BoxSeat, Refused};
+pub use fault::Fault;
+
+#[cfg(feature = "alloc")]
+use alloc::vec::Vec;
 use core::mem::MaybeUninit;
 use raw::Handle;
-
-/// Why a call was not made. A refused item is not taken.
-#[derive(Clone, Copy, Debug, PartialEq, Eq)]
-pub enum Fault {
-    /// The queue had no room.
-    Full,
-    /// The queue had no item.
-    Empty,
-    /// The queue is shut.
-    Closed,
-    /// The claim did not fit beside this count of the room.
-    AtBound(i64),
-    /// Others hold the file table, or try to; this is the count that was found.
-    Busy(i64),
-    /// The seat has made all the calls of its stint.
-    Worn,
-    /// The seat is in another state than this call needs, or there is no such entry.
-    WrongState,
-    /// A number is out of range.
-    BadLimit,
-    /// There was no memory.
-    Memory,
-}
 
 /// How far a call has come.
 #[derive(Clone, Copy, Debug, PartialEq, Eq)]
@@ -42,24 +32,54 @@ pub enum Step<T> {
     NotYet,
 }
 
-// The fault of a code, where the call is refused.
-fn fault(code: i32) -> Fault {
-    match code {
-        raw::FULL => Fault::Full,
-        raw::EMPTY => Fault::Empty,
-        raw::CLOSED => Fault::Closed,
-        raw::WORN => Fault::Worn,
-        raw::BAD_LIMIT => Fault::BadLimit,
-        raw::MEMORY => Fault::Memory,
-        _ => Fault::WrongState,
+impl<T> Step<T> {
+    /// The same, with what it is done with changed.
+    pub fn map<U>(self, change: impl FnOnce(T) -> U) -> Step<U> {
+        match self {
+            Step::Done(value) => Step::Done(change(value)),
+            Step::NotYet => Step::NotYet,
+        }
     }
+}
+
+/// Whether a call of a queue's seat is open, and its ticket.
+#[derive(Clone, Copy, Debug, PartialEq, Eq)]
+pub enum State {
+    /// No call is open.
+    Idle,
+    /// An insertion was claimed: `try_fill` is next.
+    Inserting(u64),
+    /// A deletion was claimed: `try_take` is next.
+    Deleting(u64),
+}
+
+/// Whether a call of a semaphore's seat is open.
+#[derive(Clone, Copy, Debug, PartialEq, Eq)]
+pub enum SemState {
+    /// No call is open.
+    Idle,
+    /// A down parks its item: `try_park` is next.
+    Parking,
+    /// An up owes a wake: `try_wake` is next.
+    Waking,
+}
+
+/// What a seat of a file table holds.
+#[derive(Clone, Copy, Debug, PartialEq, Eq)]
+pub enum Hold {
+    /// Nothing.
+    Nothing,
+    /// A reader's hold: others may read.
+    Reading,
+    /// A writer's hold: no other seat holds the table.
+    Writing,
 }
 
 fn made<T>(code: i32, value: T) -> Result<T, Fault> {
     if code == raw::OK {
         Ok(value)
     } else {
-        Err(fault(code))
+        Err(Fault::of(code))
     }
 }
 
@@ -67,7 +87,7 @@ fn step<T>(code: i32, value: T) -> Result<Step<T>, Fault> {
     match code {
         raw::OK => Ok(Step::Done(value)),
         raw::NOT_YET | raw::PARKS | raw::WAKES => Ok(Step::NotYet),
-        _ => Err(fault(code)),
+        _ => Err(Fault::of(code)),
     }
 }
 
@@ -81,6 +101,18 @@ fn opened<const N: usize>(open: impl FnOnce(*mut Handle) -> i32) -> Result<[Hand
     }
     // SAFETY: all N places were written.
     made(open(first), ()).map(|()| unsafe { seats.assume_init() })
+}
+
+// n handles, filled by `open`.
+#[cfg(feature = "alloc")]
+fn opened_vec(n: usize, open: impl FnOnce(*mut Handle) -> i32) -> Result<Vec<Handle>, Fault> {
+    if !limits::is_seats(n) {
+        return Err(Fault::BadLimit);
+    }
+    let mut seats = Vec::new();
+    seats.try_reserve_exact(n).map_err(|_| Fault::Memory)?;
+    seats.resize_with(n, || Handle::EMPTY);
+    made(open(seats.as_mut_ptr()), seats)
 }
 
 macro_rules! seats {
@@ -124,6 +156,19 @@ impl Seat {
         opened::<N>(|seats| unsafe { raw::fak_c_open(seats, N, size, stint) }).map(|all| all.map(Seat))
     }
 
+    /// As `open`, with a number of seats that is known at run time.
+    #[cfg(feature = "alloc")]
+    pub fn open_vec(n: usize, size: u64, stint: u64) -> Result<Vec<Seat>, Fault> {
+        Ok(opened_vec(n, |seats| unsafe { raw::fak_c_open(seats, n, size, stint) })?.into_iter().map(Seat).collect())
+    }
+
+    /// A claim of room: the ticket, which is the number of insertions granted before. The seat keeps the item, and `try_fill` is next.
+    pub fn claim_insert(&mut self, item: u64) -> Result<u64, Fault> {
+        let mut ticket = 0;
+        let code = unsafe { raw::fak_c_claim_insert(&mut self.0, item, &mut ticket) };
+        made(code, ticket)
+    }
+
     /// A claim of room and one try: the ticket. Where it stays open, the seat keeps the item.
     pub fn insert(&mut self, item: u64) -> Result<Step<u64>, Fault> {
         let mut ticket = 0;
@@ -143,11 +188,23 @@ impl Seat {
         step(unsafe { raw::fak_c_try_fill(&mut self.0) }, ())
     }
 
+    /// A claim of an item: the ticket, under which the item was inserted. `try_take` is next.
+    pub fn claim_delete(&mut self) -> Result<u64, Fault> {
+        let mut ticket = 0;
+        let code = unsafe { raw::fak_c_claim_delete(&mut self.0, &mut ticket) };
+        made(code, ticket)
+    }
+
     /// A claim of an item and one try: the item.
     pub fn delete(&mut self) -> Result<Step<u64>, Fault> {
+        Ok(self.delete_with_ticket()?.map(|(_, item)| item))
+    }
+
+    /// A claim of an item and one try: the ticket, and the item. Where it stays open, `state` has the ticket.
+    pub fn delete_with_ticket(&mut self) -> Result<Step<(u64, u64)>, Fault> {
         let (mut ticket, mut item) = (0, 0);
         let code = unsafe { raw::fak_c_delete(&mut self.0, &mut ticket, &mut item) };
-        step(code, item)
+        step(code, (ticket, item))
     }
 
     /// One try more of a deletion.
@@ -163,12 +220,40 @@ impl Seat {
         let code = unsafe { raw::fak_c_shut(&mut self.0, &mut was_open) };
         made(code, was_open)
     }
+
+    /// Whether a call is open, and its ticket.
+    pub fn state(&mut self) -> State {
+        let (state, ticket, _) = self.look();
+        match state {
+            raw::INSERTING => State::Inserting(ticket),
+            raw::DELETING => State::Deleting(ticket),
+            _ => State::Idle,
+        }
+    }
+
+    /// How many calls are left of the stint.
+    pub fn left(&mut self) -> u64 {
+        self.look().2
+    }
+
+    fn look(&mut self) -> (u32, u64, u64) {
+        let (mut state, mut ticket, mut left) = (0, 0, 0);
+        // A seat of a queue is not refused.
+        unsafe { raw::fak_c_state(&mut self.0, &mut state, &mut ticket, &mut left) };
+        (state, ticket, left)
+    }
 }
 
 impl SemSeat {
     /// A semaphore that begins at `start`, 0 to 2^32, with a wait queue of `size` cells, 1 to 2^24, as its N seats.
     pub fn open<const N: usize>(start: u64, size: u64, stint: u64) -> Result<[SemSeat; N], Fault> {
         opened::<N>(|seats| unsafe { raw::fak_c_sem_open(seats, N, start, size, stint) }).map(|all| all.map(SemSeat))
+    }
+
+    /// As `open`, with a number of seats that is known at run time.
+    #[cfg(feature = "alloc")]
+    pub fn open_vec(n: usize, start: u64, size: u64, stint: u64) -> Result<Vec<SemSeat>, Fault> {
+        Ok(opened_vec(n, |seats| unsafe { raw::fak_c_sem_open(seats, n, start, size, stint) })?.into_iter().map(SemSeat).collect())
     }
 
     /// A down of the item: `Done` where it passes, `NotYet` where `try_park` is next.
@@ -192,12 +277,38 @@ impl SemSeat {
         let code = unsafe { raw::fak_c_sem_try_wake(&mut self.0, &mut item) };
         step(code, item)
     }
+
+    /// Whether a call is open.
+    pub fn state(&mut self) -> SemState {
+        match self.look().0 {
+            raw::PARKING => SemState::Parking,
+            raw::WAKING => SemState::Waking,
+            _ => SemState::Idle,
+        }
+    }
+
+    /// How many calls are left of the stint.
+    pub fn left(&mut self) -> u64 {
+        self.look().1
+    }
+
+    fn look(&mut self) -> (u32, u64) {
+        let (mut state, mut left) = (0, 0);
+        unsafe { raw::fak_c_sem_state(&mut self.0, &mut state, &mut left) };
+        (state, left)
+    }
 }
 
 impl RoomSeat {
     /// A room whose count is 0, with this bound, 0 to 2^32, as its N seats.
     pub fn open<const N: usize>(bound: u64, stint: u64) -> Result<[RoomSeat; N], Fault> {
         opened::<N>(|seats| unsafe { raw::fak_c_room_open(seats, N, bound, stint) }).map(|all| all.map(RoomSeat))
+    }
+
+    /// As `open`, with a number of seats that is known at run time.
+    #[cfg(feature = "alloc")]
+    pub fn open_vec(n: usize, bound: u64, stint: u64) -> Result<Vec<RoomSeat>, Fault> {
+        Ok(opened_vec(n, |seats| unsafe { raw::fak_c_room_open(seats, n, bound, stint) })?.into_iter().map(RoomSeat).collect())
     }
 
     /// Claims the amount, 1 to 1,024: the count that it found.
@@ -218,9 +329,18 @@ impl RoomSeat {
 
     /// How much the seat holds.
     pub fn held(&mut self) -> u64 {
+        self.look().0
+    }
+
+    /// How many claims are left of the stint.
+    pub fn left(&mut self) -> u64 {
+        self.look().1
+    }
+
+    fn look(&mut self) -> (u64, u64) {
         let (mut held, mut left) = (0, 0);
         unsafe { raw::fak_c_room_state(&mut self.0, &mut held, &mut left) };
-        held
+        (held, left)
     }
 }
 
@@ -228,6 +348,12 @@ impl CreditSeat {
     /// A credit that begins at `start`, 0 to 2^32, as its N seats.
     pub fn open<const N: usize>(start: u64, stint: u64) -> Result<[CreditSeat; N], Fault> {
         opened::<N>(|seats| unsafe { raw::fak_c_credit_open(seats, N, start, stint) }).map(|all| all.map(CreditSeat))
+    }
+
+    /// As `open`, with a number of seats that is known at run time.
+    #[cfg(feature = "alloc")]
+    pub fn open_vec(n: usize, start: u64, stint: u64) -> Result<Vec<CreditSeat>, Fault> {
+        Ok(opened_vec(n, |seats| unsafe { raw::fak_c_credit_open(seats, n, start, stint) })?.into_iter().map(CreditSeat).collect())
     }
 
     /// Subtracts 1: the count before.
@@ -246,9 +372,18 @@ impl CreditSeat {
 
     /// The count.
     pub fn value(&mut self) -> i64 {
+        self.look().0
+    }
+
+    /// How many calls are left of the stint.
+    pub fn left(&mut self) -> u64 {
+        self.look().1
+    }
+
+    fn look(&mut self) -> (i64, u64) {
         let (mut value, mut left) = (0, 0);
         unsafe { raw::fak_c_credit_value(&mut self.0, &mut value, &mut left) };
-        value
+        (value, left)
     }
 }
 
@@ -256,6 +391,12 @@ impl FileSeat {
     /// A table of this many entries, 1 to 16, as its N seats.
     pub fn open<const N: usize>(entries: u64, stint: u64) -> Result<[FileSeat; N], Fault> {
         opened::<N>(|seats| unsafe { raw::fak_c_files_open(seats, N, entries, stint) }).map(|all| all.map(FileSeat))
+    }
+
+    /// As `open`, with a number of seats that is known at run time.
+    #[cfg(feature = "alloc")]
+    pub fn open_vec(n: usize, entries: u64, stint: u64) -> Result<Vec<FileSeat>, Fault> {
+        Ok(opened_vec(n, |seats| unsafe { raw::fak_c_files_open(seats, n, entries, stint) })?.into_iter().map(FileSeat).collect())
     }
 
     /// A reader's hold.
@@ -296,5 +437,16 @@ impl FileSeat {
     /// Gives the hold back.
     pub fn end(&mut self) -> Result<(), Fault> {
         made(unsafe { raw::fak_c_files_end(&mut self.0) }, ())
+    }
+
+    /// What the seat holds.
+    pub fn hold(&mut self) -> Hold {
+        let mut hold = 0;
+        unsafe { raw::fak_c_files_hold(&mut self.0, &mut hold) };
+        match hold {
+            raw::READING => Hold::Reading,
+            raw::WRITING => Hold::Writing,
+            _ => Hold::Nothing,
+        }
     }
 }

@@ -30,22 +30,35 @@ pub const PARKS: i32 = 10;
 pub const WAKES: i32 = 11;
 pub const BUSY: i32 = 12;
 
+pub const INSERTING: u32 = 1;
+pub const DELETING: u32 = 2;
+
+pub const PARKING: u32 = 1;
+pub const WAKING: u32 = 2;
+
+pub const READING: u32 = 1;
+pub const WRITING: u32 = 2;
+
 extern "C" {
     pub fn fak_c_leave(seat: *mut Handle) -> i32;
 
     pub fn fak_c_open(seats: *mut Handle, n: usize, size: u64, stint: u64) -> i32;
+    pub fn fak_c_claim_insert(seat: *mut Handle, item: u64, ticket: *mut u64) -> i32;
     pub fn fak_c_insert(seat: *mut Handle, item: u64, ticket: *mut u64) -> i32;
     pub fn fak_c_try_fill(seat: *mut Handle) -> i32;
+    pub fn fak_c_claim_delete(seat: *mut Handle, ticket: *mut u64) -> i32;
     pub fn fak_c_delete(seat: *mut Handle, ticket: *mut u64, item: *mut u64) -> i32;
     pub fn fak_c_try_take(seat: *mut Handle, item: *mut u64) -> i32;
     pub fn fak_c_pause(seat: *mut Handle) -> i32;
     pub fn fak_c_shut(seat: *mut Handle, was_open: *mut bool) -> i32;
+    pub fn fak_c_state(seat: *mut Handle, state: *mut u32, ticket: *mut u64, left: *mut u64) -> i32;
 
     pub fn fak_c_sem_open(seats: *mut Handle, n: usize, start: u64, size: u64, stint: u64) -> i32;
     pub fn fak_c_sem_claim_down(seat: *mut Handle, item: u64) -> i32;
     pub fn fak_c_sem_try_park(seat: *mut Handle) -> i32;
     pub fn fak_c_sem_claim_up(seat: *mut Handle) -> i32;
     pub fn fak_c_sem_try_wake(seat: *mut Handle, item: *mut u64) -> i32;
+    pub fn fak_c_sem_state(seat: *mut Handle, state: *mut u32, left: *mut u64) -> i32;
 
     pub fn fak_c_room_open(seats: *mut Handle, n: usize, bound: u64, stint: u64) -> i32;
     pub fn fak_c_room_tir(seat: *mut Handle, amount: u64, found: *mut i64) -> i32;
@@ -64,4 +77,5 @@ extern "C" {
     pub fn fak_c_files_set_inode(seat: *mut Handle, entry: u64, to: u64) -> i32;
     pub fn fak_c_files_set_uses(seat: *mut Handle, entry: u64, to: u64) -> i32;
     pub fn fak_c_files_end(seat: *mut Handle) -> i32;
+    pub fn fak_c_files_hold(seat: *mut Handle, hold: *mut u32) -> i32;
 }

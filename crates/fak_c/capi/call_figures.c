@@ -1,13 +1,13 @@
 /* Prints what each pair of calls costs in nanoseconds, by one thread with nobody beside it: the median, the best and the worst of
- * several runs. */
+ * several runs. Then what it costs to open an object and leave it with all seats. */
 #include "tests.h"
 
 #include <stdlib.h>
 #include <time.h>
 
-enum { SEATS = 1, RUNS = 200, TURNS = 20000 };
+enum { SEATS = 1, RUNS = 200, TURNS = 20000, OPENINGS = 20 };
 
-static fak_c_seat seats[SEATS];
+static fak_c_seat seats[LARGE_SEATS];
 
 static double nanoseconds(void) {
     struct timespec now;
@@ -55,6 +55,12 @@ static int order(const void *a, const void *b) {
     return (*(const double *)a > *(const double *)b) - (*(const double *)a < *(const double *)b);
 }
 
+/* Sorts the runs, and prints the median, the best and the worst. */
+static void print_runs(const char *name, double *runs) {
+    qsort(runs, RUNS, sizeof *runs, order);
+    printf("%-48s %4.0f (%.0f to %.0f)\n", name, runs[RUNS / 2], runs[0], runs[RUNS - 1]);
+}
+
 /* Prints the time of one turn, and gives the seat up. */
 static void measure(const char *name, int32_t opened, void (*turn)(void)) {
     double runs[RUNS];
@@ -65,9 +71,23 @@ static void measure(const char *name, int32_t opened, void (*turn)(void)) {
             turn();
         runs[run] = (nanoseconds() - start) / TURNS;
     }
-    qsort(runs, RUNS, sizeof *runs, order);
-    printf("%-48s %4.0f (%.0f to %.0f)\n", name, runs[RUNS / 2], runs[0], runs[RUNS - 1]);
+    print_runs(name, runs);
     CHECK(fak_c_leave(seats) == FAK_C_OK);
+}
+
+/* Prints the time of a queue's opening and of all its seats' leaving. */
+static void measure_opening(const char *name, size_t n, uint64_t size) {
+    double runs[RUNS];
+    for (int run = 0; run < RUNS; run++) {
+        double start = nanoseconds();
+        for (int i = 0; i < OPENINGS; i++) {
+            CHECK(fak_c_open(seats, n, size, LONG_STINT) == FAK_C_OK);
+            for (size_t seat = 0; seat < n; seat++)
+                CHECK(fak_c_leave(&seats[seat]) == FAK_C_OK);
+        }
+        runs[run] = (nanoseconds() - start) / OPENINGS;
+    }
+    print_runs(name, runs);
 }
 
 int main(void) {
@@ -78,5 +98,8 @@ int main(void) {
     measure("room_tir, room_release", fak_c_room_open(seats, SEATS, 8, LONG_STINT), claim_and_release);
     measure("credit_debit, credit_credit", fak_c_credit_open(seats, SEATS, 8, LONG_STINT), debit_and_credit);
     measure("files_try_read, files_end", fak_c_files_open(seats, SEATS, 2, LONG_STINT), read_and_end);
+    measure_opening("a queue of 16 cells and 2 seats", 2, 16);
+    measure_opening("a queue of 64 cells and 64 seats", 64, 64);
+    measure_opening("a queue of 1,024 cells and 1,024 seats", LARGE_SEATS, 1024);
     return 0;
 }

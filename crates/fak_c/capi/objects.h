@@ -3,6 +3,7 @@
 #define FAK_C_OBJECTS_H
 
 #include "block.h"
+#include "fak_c.h"
 
 enum { QUEUE, SEMAPHORE, ROOM, CREDIT, FILES, KINDS };
 

@@ -178,30 +178,30 @@ static size_t depth_of_calls(void (*calls)(void)) {
     return depth > moving ? depth : moving;
 }
 
-/* ---- What an object takes of the heap ---- */
+/* ---- What an object keeps of the heap ---- */
 
 enum { FEW_SEATS = 64, MOST_ENTRIES = 16 };
 
 static fak_c_seat many[LARGE_SEATS];
 
-/* The opened object takes so much beside its seats, which give all of it back. */
-static void takes(int32_t opened, size_t n, size_t bytes) {
-    CHECK(opened == FAK_C_OK && live == bytes + DESK * n);
+/* The opened object keeps as many bytes, and its seats give all of them back. */
+static void keeps(int32_t opened, size_t n, size_t bytes) {
+    CHECK(opened == FAK_C_OK && live == bytes);
     for (size_t i = 0; i < n; i++)
         CHECK(fak_c_leave(&many[i]) == FAK_C_OK);
     CHECK(live == 0);
 }
 
-static void each_kind_takes_its_heap(size_t n) {
+static void each_kind_keeps_its_heap(size_t n) {
     static const uint64_t sizes[] = {1, 2, 7, 64, 1000, 4096, 65537};
     for (size_t i = 0; i < sizeof sizes / sizeof *sizes; i++) {
-        takes(fak_c_open(many, n, sizes[i], 1000), n, 856 + 24 * sizes[i]);
-        takes(fak_c_sem_open(many, n, 0, sizes[i], 1000), n, 1184 + 24 * sizes[i]);
-        takes(fak_c_room_open(many, n, sizes[i], 1000), n, 344);
-        takes(fak_c_credit_open(many, n, sizes[i], 1000), n, 336);
+        keeps(fak_c_open(many, n, sizes[i], 1000), n, FAK_C_QUEUE_KEEPS(n, sizes[i]));
+        keeps(fak_c_sem_open(many, n, 0, sizes[i], 1000), n, FAK_C_SEM_KEEPS(n, sizes[i]));
+        keeps(fak_c_room_open(many, n, sizes[i], 1000), n, FAK_C_ROOM_KEEPS(n));
+        keeps(fak_c_credit_open(many, n, sizes[i], 1000), n, FAK_C_CREDIT_KEEPS(n));
     }
     for (uint64_t entries = 1; entries <= MOST_ENTRIES; entries++)
-        takes(fak_c_files_open(many, n, entries, 1000), n, 336 + 16 * entries);
+        keeps(fak_c_files_open(many, n, entries, 1000), n, FAK_C_FILES_KEEPS(n, entries));
 }
 
 int main(void) {
@@ -219,8 +219,8 @@ int main(void) {
         CHECK(live == 0);
     }
     for (size_t n = 1; n <= FEW_SEATS; n++)
-        each_kind_takes_its_heap(n);
-    each_kind_takes_its_heap(LARGE_SEATS);
+        each_kind_keeps_its_heap(n);
+    each_kind_keeps_its_heap(LARGE_SEATS);
     printf("stack: %zu bytes in a call that opens, %zu in fak_c_leave, %zu in others\n", opening, leaving, other);
     CHECK(opening < 6144 && leaving < 1536 && other < 256);
     return 0;

@@ -1,4 +1,4 @@
-/* Runs one group of the tests: `codes`, `kinds`, `pauses llvm` or `pauses rattle` by which the archive was built, `memory`,
+/* Runs one group of the tests: `codes`, `kinds`, `limits`, `pauses llvm` or `pauses rattle` by which the archive was built, `memory`,
  * `threads PAIRS ITEMS`, `drain ITEMS`, `objects ROUNDS` or `pointers ITEMS`. */
 #include "tests.h"
 
@@ -9,6 +9,8 @@ int main(int count, char **words) {
         each_code_is_answered();
     else if (count == 2 && strcmp(words[1], "kinds") == 0)
         each_kind_is_answered();
+    else if (count == 2 && strcmp(words[1], "limits") == 0)
+        each_limit_is_named();
     else if (count == 3 && strcmp(words[1], "pauses") == 0 && strcmp(words[2], "llvm") == 0)
         pauses_have_their_length(true);
     else if (count == 3 && strcmp(words[1], "pauses") == 0 && strcmp(words[2], "rattle") == 0)

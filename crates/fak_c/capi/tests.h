@@ -30,6 +30,9 @@ void each_code_is_answered(void);
 /* The same of semaphores, rooms, credits and file tables; and what each kind of seat answers to the calls of the others. */
 void each_kind_is_answered(void);
 
+/* On either side of each limit the code is FAK_C_BAD_LIMIT exactly if FAK_C_IS_.. says that a number is out of range. */
+void each_limit_is_named(void);
+
 /* Seats that call by turns pause as long as they should, at each size of a queue. They do not pause if the queue has few cells, or if
  * nothing spins. */
 void pauses_have_their_length(bool spins);

@@ -1,0 +1,259 @@
+//! A bounded queue of boxes: owned items of any type, none of which is lost.
+
+use crate::limits::{MOST_CALLS, MOST_SEATS};
+use crate::{Fault, Seat, State, Step};
+use alloc::boxed::Box;
+use alloc::sync::Arc;
+use alloc::vec::Vec;
+use core::cell::Cell;
+use core::error::Error;
+use core::fmt::{self, Debug, Display, Formatter};
+use core::marker::PhantomData;
+use core::mem::ManuallyDrop;
+use core::ptr::null_mut;
+use core::sync::atomic::{AtomicPtr, Ordering::SeqCst};
+
+/// An insertion that was refused: why, and the item.
+pub struct Refused<T> {
+    /// Why.
+    pub fault: Fault,
+    /// The item, for another try.
+    pub item: Box<T>,
+}
+
+impl<T> Debug for Refused<T> {
+    fn fmt(&self, f: &mut Formatter<'_>) -> fmt::Result {
+        f.debug_struct("Refused").field("fault", &self.fault).finish_non_exhaustive()
+    }
+}
+
+impl<T> Display for Refused<T> {
+    fn fmt(&self, f: &mut Formatter<'_>) -> fmt::Result {
+        Display::fmt(&self.fault, f)
+    }
+}
+
+impl<T> Error for Refused<T> {}
+
+/// A seat of a bounded queue of boxes, first in first out.
+///
+/// A dropped seat ends its open call if one try does; else the drop of the queue's last seat ends it. That drop also drops the items
+/// that are still in the queue, on its thread. A seat that is forgotten keeps the queue and its items.
+///
+/// ```compile_fail
+/// // What one seat puts in lives as long as what another takes out.
+/// fn shorten<'a>(seat: fak::BoxSeat<&'static str>) -> fak::BoxSeat<&'a str> {
+///     seat
+/// }
+/// ```
+pub struct BoxSeat<T: Send> {
+    own: ManuallyDrop<Box<Node>>,
+    queue: Arc<Queue<T>>,
+}
+
+// What all seats of a queue share.
+struct Queue<T> {
+    // A seat that makes no call before the last of the others was dropped, so it can still delete all that may be in the queue.
+    keeper: Seat,
+    // The seats that were dropped in mid-call.
+    open: AtomicPtr<Node>,
+    // One seat puts in what another takes out, so the items of all seats have one type, and one lifetime.
+    items: PhantomData<Cell<T>>,
+}
+
+// A seat in a list.
+struct Node {
+    seat: Seat,
+    next: *mut Node,
+}
+
+// SAFETY: a seat may go to another thread, and so may the boxes. Of what seats share, `open` is atomic, and only the drop of the last seat
+// uses the rest.
+unsafe impl<T: Send> Send for BoxSeat<T> {}
+
+// The word of a box, which owns it.
+fn word_of<T>(item: Box<T>) -> u64 {
+    Box::into_raw(item) as usize as u64
+}
+
+// SAFETY, of the caller: the word is of a `Box<T>`, and owns it.
+unsafe fn box_of<T>(word: u64) -> Box<T> {
+    // SAFETY: the word came from `Box::into_raw`, on this machine.
+    unsafe { Box::from_raw(word as usize as *mut T) }
+}
+
+// SAFETY of the calls of `box_of` below: only `insert` and `claim_insert` of a `BoxSeat<T>` put words in, each of a box that it gave up.
+// The queue hands each word out once.
+
+impl<T: Send> BoxSeat<T> {
+    /// A queue of `size` cells, 1 to 2^24, as its n seats, 1 to 1,023. Each may make an equal share of 2^50 calls, of which the queue
+    /// itself keeps one.
+    pub fn open(n: usize, size: u64) -> Result<Vec<BoxSeat<T>>, Fault> {
+        if n == 0 || n >= MOST_SEATS {
+            return Err(Fault::BadLimit);
+        }
+        let mut seats = Seat::open_vec(n + 1, size, MOST_CALLS / (n as u64 + 1))?;
+        let Some(keeper) = seats.pop() else {
+            return Err(Fault::Memory);
+        };
+        let queue = Arc::new(Queue {
+            keeper,
+            open: AtomicPtr::new(null_mut()),
+            items: PhantomData,
+        });
+        let of_queue = |seat| BoxSeat {
+            own: ManuallyDrop::new(Box::new(Node { seat, next: null_mut() })),
+            queue: Arc::clone(&queue),
+        };
+        Ok(seats.into_iter().map(of_queue).collect())
+    }
+
+    fn seat(&mut self) -> &mut Seat {
+        &mut self.own.seat
+    }
+
+    /// A claim of room and one try: the ticket. Where it stays open, the seat keeps the item, and `try_fill` is next.
+    pub fn insert(&mut self, item: Box<T>) -> Result<Step<u64>, Refused<T>> {
+        self.hand_in(item, |seat, word| seat.insert(word))
+    }
+
+    /// A claim of room: the ticket. The seat keeps the item, and `try_fill` is next.
+    pub fn claim_insert(&mut self, item: Box<T>) -> Result<u64, Refused<T>> {
+        self.hand_in(item, |seat, word| seat.claim_insert(word))
+    }
+
+    // A call that takes the item, or refuses it.
+    fn hand_in<A>(&mut self, item: Box<T>, call: impl FnOnce(&mut Seat, u64) -> Result<A, Fault>) -> Result<A, Refused<T>> {
+        let word = word_of(item);
+        call(self.seat(), word).map_err(|fault| Refused {
+            fault,
+            // SAFETY: the word was refused, so it still owns its box.
+            item: unsafe { box_of(word) },
+        })
+    }
+
+    /// One try more of an insertion.
+    pub fn try_fill(&mut self) -> Result<Step<()>, Fault> {
+        self.seat().try_fill()
+    }
+
+    /// A claim of an item and one try: the item. Where it stays open, `try_take` is next.
+    pub fn delete(&mut self) -> Result<Step<Box<T>>, Fault> {
+        let taken = self.seat().delete()?;
+        // SAFETY: above.
+        Ok(taken.map(|word| unsafe { box_of(word) }))
+    }
+
+    /// As `delete`, with the ticket.
+    pub fn delete_with_ticket(&mut self) -> Result<Step<(u64, Box<T>)>, Fault> {
+        let taken = self.seat().delete_with_ticket()?;
+        // SAFETY: above.
+        Ok(taken.map(|(ticket, word)| (ticket, unsafe { box_of(word) })))
+    }
+
+    /// A claim of an item: its ticket. `try_take` is next.
+    pub fn claim_delete(&mut self) -> Result<u64, Fault> {
+        self.seat().claim_delete()
+    }
+
+    /// One try more of a deletion.
+    pub fn try_take(&mut self) -> Result<Step<Box<T>>, Fault> {
+        let taken = self.seat().try_take()?;
+        // SAFETY: above.
+        Ok(taken.map(|word| unsafe { box_of(word) }))
+    }
+
+    /// Shuts the queue, and tells whether it was open.
+    pub fn shut(&mut self) -> Result<bool, Fault> {
+        self.seat().shut()
+    }
+
+    /// As `Seat::pause`.
+    pub fn pause(&mut self) {
+        self.seat().pause();
+    }
+
+    /// Whether a call is open, and its ticket.
+    pub fn state(&mut self) -> State {
+        self.seat().state()
+    }
+
+    /// How many calls are left of the seat's share.
+    pub fn left(&mut self) -> u64 {
+        self.seat().left()
+    }
+}
+
+// Tries once to end the open call of a seat: true if no call is open then. An item that the call takes out is dropped.
+//
+// SAFETY, of the caller: the seat is of a queue of words that own a `Box<T>` each.
+unsafe fn ends<T>(seat: &mut Seat) -> bool {
+    match seat.state() {
+        State::Idle => true,
+        State::Inserting(_) => seat.try_fill() == Ok(Step::Done(())),
+        State::Deleting(_) => match seat.try_take() {
+            Ok(Step::Done(word)) => {
+                // SAFETY: the queue hands the word out once.
+                drop(unsafe { box_of::<T>(word) });
+                true
+            }
+            _ => false,
+        },
+    }
+}
+
+impl<T: Send> Drop for BoxSeat<T> {
+    fn drop(&mut self) {
+        // SAFETY: it is not used again.
+        let mut own = unsafe { ManuallyDrop::take(&mut self.own) };
+        // SAFETY: the seat is of such a queue.
+        if !unsafe { ends::<T>(&mut own.seat) } {
+            self.queue.keep_open(own);
+        }
+    }
+}
+
+impl<T> Queue<T> {
+    // Puts a seat in mid-call before the others.
+    fn keep_open(&self, own: Box<Node>) {
+        let own = Box::into_raw(own);
+        let mut first = self.open.load(SeqCst);
+        loop {
+            // SAFETY: the node is this call's own until the exchange succeeds.
+            unsafe { (*own).next = first };
+            match self.open.compare_exchange_weak(first, own, SeqCst, SeqCst) {
+                Ok(_) => return,
+                Err(found) => first = found,
+            }
+        }
+    }
+
+    // Tries once to end each open call, and keeps the seats whose calls stay open: true if there is none.
+    fn ends_all(&mut self) -> bool {
+        let mut next = core::mem::replace(self.open.get_mut(), null_mut());
+        while !next.is_null() {
+            // SAFETY: the list owns its nodes, each once.
+            let mut node = unsafe { Box::from_raw(next) };
+            next = node.next;
+            // SAFETY: the seat is of such a queue.
+            if !unsafe { ends::<T>(&mut node.seat) } {
+                self.keep_open(node);
+            }
+        }
+        self.open.get_mut().is_null()
+    }
+}
+
+// No other thread has a seat, so some open call can go on in each round, until all have ended and the queue is empty.
+impl<T> Drop for Queue<T> {
+    fn drop(&mut self) {
+        loop {
+            let ended = self.ends_all();
+            // SAFETY: the seat is of such a queue.
+            let idle = unsafe { ends::<T>(&mut self.keeper) };
+            if idle && self.keeper.claim_delete().is_err() && ended {
+                return;
+            }
+        }
+    }
+}

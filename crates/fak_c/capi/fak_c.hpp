@@ -1,0 +1,384 @@
+/* The objects of fak_c.h for C++17: handles that own their seat, and calls with types. Nothing here throws, takes memory or waits.
+ *
+ * A handle is movable, in mid-call too, and cannot be copied. Its destructor leaves the object. While a call is open, or the seat
+ * holds something of a room or a file table, leaving is refused; then the object is never freed. So end the call first.
+ *
+ * Each call is that of fak_c.h, whose comment says which codes it returns; what C owes there is owed here, except that no handle is
+ * copied or written by hand. Never sleep on Code::Full, Code::Empty or Code::Busy: fak_c.h says why.
+ *
+ * An item is any trivially copyable type of at most 8 bytes: a number, an enum, a pointer, a small struct. What a pointer points
+ * to stays the program's; pointers that are in an object when its last seat leaves are not followed. */
+#ifndef FAK_C_HPP
+#define FAK_C_HPP
+
+#include "fak_c.h"
+
+#include <cstddef>
+#include <cstdint>
+#include <cstring>
+#include <iterator>
+#include <type_traits>
+
+namespace fak {
+
+/* What a call returned. */
+enum class Code : std::int32_t {
+    Ok = FAK_C_OK,
+    NotYet = FAK_C_NOT_YET,
+    Full = FAK_C_FULL,
+    Empty = FAK_C_EMPTY,
+    Closed = FAK_C_CLOSED,
+    Worn = FAK_C_WORN,
+    NoSeat = FAK_C_NO_SEAT,
+    WrongState = FAK_C_WRONG_STATE,
+    BadLimit = FAK_C_BAD_LIMIT,
+    Memory = FAK_C_MEMORY,
+    Parks = FAK_C_PARKS,
+    Wakes = FAK_C_WAKES,
+    Busy = FAK_C_BUSY
+};
+
+/* The meaning of a code, in a few words. */
+constexpr const char *text_of(Code code) noexcept {
+    switch (code) {
+    case Code::Ok:
+        return "the call was made";
+    case Code::NotYet:
+        return "the call stays open";
+    case Code::Full:
+        return "the queue or the room is full";
+    case Code::Empty:
+        return "the queue is empty";
+    case Code::Closed:
+        return "the queue is shut";
+    case Code::Worn:
+        return "the stint is used up";
+    case Code::NoSeat:
+        return "the handle has no seat";
+    case Code::WrongState:
+        return "the seat is in another state";
+    case Code::BadLimit:
+        return "a number is out of range";
+    case Code::Memory:
+        return "out of memory";
+    case Code::Parks:
+        return "the down parks its item";
+    case Code::Wakes:
+        return "the up owes a wake";
+    case Code::Busy:
+        return "others hold the file table";
+    }
+    return "no code";
+}
+
+/* A code, with a value that the call has written if its comment says so, and which is zero if not. */
+template <class T> struct [[nodiscard]] Answer {
+    Code code;
+    T value;
+
+    /* Whether the call was made. */
+    explicit operator bool() const noexcept { return code == Code::Ok; }
+};
+
+namespace details {
+
+template <class T> std::uint64_t word_of(T item) noexcept {
+    static_assert(std::is_trivially_copyable_v<T> && sizeof(T) <= 8, "an item is at most 8 bytes, which are copied");
+    std::uint64_t word = 0;
+    std::memcpy(&word, &item, sizeof item);
+    return word;
+}
+
+template <class T> T item_of(std::uint64_t word) noexcept {
+    static_assert(std::is_default_constructible_v<T>, "an item is written to a new one");
+    T item{};
+    std::memcpy(&item, &word, sizeof item);
+    return item;
+}
+
+/* Tells ThreadSanitizer what a pointer hands over. */
+template <class T> void gives([[maybe_unused]] T item) noexcept {
+    if constexpr (std::is_pointer_v<T> && !std::is_function_v<std::remove_pointer_t<T>>)
+        FAK_C_GIVES(const_cast<void *>(static_cast<const volatile void *>(item)));
+}
+
+template <class T> T gets(T item) noexcept {
+    if constexpr (std::is_pointer_v<T> && !std::is_function_v<std::remove_pointer_t<T>>)
+        FAK_C_GETS(const_cast<void *>(static_cast<const volatile void *>(item)));
+    return item;
+}
+
+} // namespace details
+
+/* A handle of any kind. It owns a seat, or nothing. */
+class Handle {
+public:
+    Handle() noexcept = default;
+    Handle(const Handle &) = delete;
+    Handle &operator=(const Handle &) = delete;
+    Handle(Handle &&other) noexcept { fak_c_move(&other.seat, &seat); }
+    Handle &operator=(Handle &&other) noexcept {
+        if (this != &other) {
+            give_up();
+            fak_c_move(&other.seat, &seat);
+        }
+        return *this;
+    }
+    ~Handle() { fak_c_leave(&seat); }
+
+    /* Leaves the object: Ok, NoSeat, or WrongState if the seat is in mid-call or holds something. */
+    Code leave() noexcept { return Code{fak_c_leave(&seat)}; }
+
+    /* Whether it owns a seat. */
+    explicit operator bool() const noexcept { return seat.at != nullptr; }
+
+    /* The handle as C sees it. */
+    fak_c_seat *get_handle() noexcept { return &seat; }
+
+protected:
+    /* Opens an object over these handles, which all have to be empty, else WrongState. */
+    template <class Seats, class Open> static Code open_all(Seats &seats, Open open) noexcept {
+        auto *first = std::data(seats);
+        using Seat = std::remove_pointer_t<decltype(first)>;
+        static_assert(sizeof(Seat) == sizeof(fak_c_seat) && std::is_standard_layout_v<Seat>, "an array of seats is one of handles");
+        for (std::size_t i = 0; i < std::size(seats); i++)
+            if (first[i])
+                return Code::WrongState;
+        return Code{open(reinterpret_cast<fak_c_seat *>(first), std::size(seats))};
+    }
+
+    fak_c_seat seat{};
+
+private:
+    /* A seat that can't leave is abandoned, and its object with it. */
+    void give_up() noexcept {
+        if (fak_c_leave(&seat) == FAK_C_WRONG_STATE)
+            seat = fak_c_seat{};
+    }
+};
+
+/* A seat of a bounded queue, first in first out. */
+template <class T> class QueueSeat : public Handle {
+public:
+    enum class State : std::uint32_t { Idle = FAK_C_IDLE, Inserting = FAK_C_INSERTING, Deleting = FAK_C_DELETING };
+
+    /* The state, the ticket of the open call, and how many calls are left of the stint. */
+    struct Standing {
+        State state;
+        std::uint64_t ticket;
+        std::uint64_t left;
+    };
+
+    /* An item with its ticket. */
+    struct Taken {
+        std::uint64_t ticket;
+        T item;
+    };
+
+    /* Opens a queue of `size` cells with a seat for each handle of an array, a std::array or a std::vector. */
+    template <class Seats> static Code open(Seats &seats, std::uint64_t size, std::uint64_t stint) noexcept {
+        return open_all(seats, [=](fak_c_seat *first, std::size_t n) { return fak_c_open(first, n, size, stint); });
+    }
+
+    /* A claim and the first try. The ticket is written if the answer is Ok or NotYet; after NotYet `try_put` is next. */
+    Answer<std::uint64_t> put(T item) noexcept {
+        std::uint64_t ticket = 0;
+        details::gives(item);
+        Code code{fak_c_insert(&seat, details::word_of(item), &ticket)};
+        return {code, ticket};
+    }
+    Answer<std::uint64_t> claim_put(T item) noexcept {
+        std::uint64_t ticket = 0;
+        details::gives(item);
+        Code code{fak_c_claim_insert(&seat, details::word_of(item), &ticket)};
+        return {code, ticket};
+    }
+    Code try_put() noexcept { return Code{fak_c_try_fill(&seat)}; }
+
+    /* A claim and the first try. The ticket is written if the answer is Ok or NotYet, the item if it is Ok; after NotYet `try_get`
+     * is next. */
+    Answer<Taken> get() noexcept {
+        std::uint64_t ticket = 0, word = 0;
+        Code code{fak_c_delete(&seat, &ticket, &word)};
+        return {code, {ticket, taken(code, word)}};
+    }
+    Answer<std::uint64_t> claim_get() noexcept {
+        std::uint64_t ticket = 0;
+        Code code{fak_c_claim_delete(&seat, &ticket)};
+        return {code, ticket};
+    }
+    Answer<T> try_get() noexcept {
+        std::uint64_t word = 0;
+        Code code{fak_c_try_take(&seat, &word)};
+        return {code, taken(code, word)};
+    }
+
+    /* Shuts the queue: whether it was open. */
+    Answer<bool> shut() noexcept {
+        bool was_open = false;
+        Code code{fak_c_shut(&seat, &was_open)};
+        return {code, was_open};
+    }
+
+    Code pause() noexcept { return Code{fak_c_pause(&seat)}; }
+
+    Answer<Standing> state() noexcept {
+        std::uint32_t state = 0;
+        std::uint64_t ticket = 0, left = 0;
+        Code code{fak_c_state(&seat, &state, &ticket, &left)};
+        return {code, {State{state}, ticket, left}};
+    }
+
+private:
+    static T taken(Code code, std::uint64_t word) noexcept {
+        return code == Code::Ok ? details::gets(details::item_of<T>(word)) : T{};
+    }
+};
+
+/* A seat of a semaphore. Its items are what waits, as the threads of a kernel. */
+template <class T> class SemSeat : public Handle {
+public:
+    enum class State : std::uint32_t { Idle = FAK_C_SEM_IDLE, Parking = FAK_C_SEM_PARKING, Waking = FAK_C_SEM_WAKING };
+
+    struct Standing {
+        State state;
+        std::uint64_t left;
+    };
+
+    template <class Seats> static Code open(Seats &seats, std::uint64_t start, std::uint64_t size, std::uint64_t stint) noexcept {
+        return open_all(seats, [=](fak_c_seat *first, std::size_t n) { return fak_c_sem_open(first, n, start, size, stint); });
+    }
+
+    /* Ok if the down passed; Parks if `try_park` is next. */
+    Code claim_down(T item) noexcept {
+        details::gives(item);
+        return Code{fak_c_sem_claim_down(&seat, details::word_of(item))};
+    }
+    Code try_park() noexcept { return Code{fak_c_sem_try_park(&seat)}; }
+
+    /* Ok if the up woke no item; Wakes if `try_wake` is next. */
+    Code claim_up() noexcept { return Code{fak_c_sem_claim_up(&seat)}; }
+    Answer<T> try_wake() noexcept {
+        std::uint64_t word = 0;
+        Code code{fak_c_sem_try_wake(&seat, &word)};
+        return {code, code == Code::Ok ? details::gets(details::item_of<T>(word)) : T{}};
+    }
+
+    Answer<Standing> state() noexcept {
+        std::uint32_t state = 0;
+        std::uint64_t left = 0;
+        Code code{fak_c_sem_state(&seat, &state, &left)};
+        return {code, {State{state}, left}};
+    }
+};
+
+/* A seat of a room: a count from 0 to a bound. */
+class RoomSeat : public Handle {
+public:
+    struct Standing {
+        std::uint64_t held;
+        std::uint64_t left;
+    };
+
+    template <class Seats> static Code open(Seats &seats, std::uint64_t bound, std::uint64_t stint) noexcept {
+        return open_all(seats, [=](fak_c_seat *first, std::size_t n) { return fak_c_room_open(first, n, bound, stint); });
+    }
+
+    /* The count before, also if the answer is Full. */
+    Answer<std::int64_t> claim(std::uint64_t amount) noexcept {
+        std::int64_t found = 0;
+        Code code{fak_c_room_tir(&seat, amount, &found)};
+        return {code, found};
+    }
+    Answer<std::int64_t> release(std::uint64_t amount) noexcept {
+        std::int64_t found = 0;
+        Code code{fak_c_room_release(&seat, amount, &found)};
+        return {code, found};
+    }
+
+    Answer<Standing> state() noexcept {
+        std::uint64_t held = 0, left = 0;
+        Code code{fak_c_room_state(&seat, &held, &left)};
+        return {code, {held, left}};
+    }
+};
+
+/* A seat of a credit: a count that moves by 1. */
+class CreditSeat : public Handle {
+public:
+    struct Standing {
+        std::int64_t value;
+        std::uint64_t left;
+    };
+
+    template <class Seats> static Code open(Seats &seats, std::uint64_t start, std::uint64_t stint) noexcept {
+        return open_all(seats, [=](fak_c_seat *first, std::size_t n) { return fak_c_credit_open(first, n, start, stint); });
+    }
+
+    /* The count before. */
+    Answer<std::int64_t> debit() noexcept {
+        std::int64_t found = 0;
+        Code code{fak_c_credit_debit(&seat, &found)};
+        return {code, found};
+    }
+    Answer<std::int64_t> credit() noexcept {
+        std::int64_t found = 0;
+        Code code{fak_c_credit_credit(&seat, &found)};
+        return {code, found};
+    }
+
+    Answer<Standing> state() noexcept {
+        std::int64_t value = 0;
+        std::uint64_t left = 0;
+        Code code{fak_c_credit_value(&seat, &value, &left)};
+        return {code, {value, left}};
+    }
+};
+
+/* A seat of a file table. */
+class FileSeat : public Handle {
+public:
+    enum class Hold : std::uint32_t { Nothing = FAK_C_FILES_NOTHING, Reading = FAK_C_FILES_READING, Writing = FAK_C_FILES_WRITING };
+
+    struct Entry {
+        std::uint64_t inode;
+        std::uint64_t uses;
+    };
+
+    template <class Seats> static Code open(Seats &seats, std::uint64_t entries, std::uint64_t stint) noexcept {
+        return open_all(seats, [=](fak_c_seat *first, std::size_t n) { return fak_c_files_open(first, n, entries, stint); });
+    }
+
+    /* What was left of the number of seats, if the answer is Busy. */
+    Answer<std::int64_t> try_read() noexcept {
+        std::int64_t count = 0;
+        Code code{fak_c_files_try_read(&seat, &count)};
+        return {code, count};
+    }
+    Answer<std::int64_t> try_write() noexcept {
+        std::int64_t count = 0;
+        Code code{fak_c_files_try_write(&seat, &count)};
+        return {code, count};
+    }
+
+    Answer<Entry> get(std::uint64_t entry) noexcept {
+        std::uint64_t inode = 0, uses = 0;
+        Code code{fak_c_files_get(&seat, entry, &inode, &uses)};
+        return {code, {inode, uses}};
+    }
+    Code set_inode(std::uint64_t entry, std::uint64_t to) noexcept { return Code{fak_c_files_set_inode(&seat, entry, to)}; }
+    Code set_uses(std::uint64_t entry, std::uint64_t to) noexcept { return Code{fak_c_files_set_uses(&seat, entry, to)}; }
+
+    /* Gives the hold back. */
+    Code end() noexcept { return Code{fak_c_files_end(&seat)}; }
+
+    Answer<Hold> hold() noexcept {
+        std::uint32_t hold = 0;
+        Code code{fak_c_files_hold(&seat, &hold)};
+        return {code, Hold{hold}};
+    }
+};
+
+} // namespace fak
+
+#endif

@@ -1,0 +1,271 @@
+/* Tests of fak_c.hpp: each call of each kind of handle, handles that move and end, and typed items that threads share. The heap
+ * counts, so that an object which is not given up is found. */
+#include "fak_c.hpp"
+
+#include <array>
+#include <atomic>
+#include <cstdio>
+#include <cstdlib>
+#include <string_view>
+#include <thread>
+#include <utility>
+#include <vector>
+
+using fak::Code;
+using Queue = fak::QueueSeat<int>;
+
+/* Ends the program if the condition does not hold. */
+#define CHECK(condition) \
+    do { \
+        if (!(condition)) { \
+            std::fprintf(stderr, "%s:%d: not so: %s\n", __FILE__, __LINE__, #condition); \
+            std::exit(1); \
+        } \
+    } while (0)
+
+/* ---- The heap, which counts ---- */
+
+static std::atomic<long> live;
+
+struct Memory {
+    bool found;
+    void *at;
+};
+
+extern "C" Memory rattle_alloc(std::size_t size, std::size_t align);
+extern "C" Memory rattle_realloc(void *part, std::size_t kept, std::size_t size, std::size_t align);
+extern "C" void rattle_dealloc(void *part);
+
+extern "C" Memory rattle_alloc(std::size_t size, std::size_t align) {
+    void *part = align <= 16 ? std::malloc(size) : nullptr;
+    live += part != nullptr;
+    return part != nullptr ? Memory{true, part} : Memory{false, &live};
+}
+
+extern "C" Memory rattle_realloc(void *, std::size_t, std::size_t, std::size_t) { return {false, &live}; }
+
+extern "C" void rattle_dealloc(void *part) {
+    live--;
+    std::free(part);
+}
+
+/* ---- Items ---- */
+
+enum class Color : unsigned char { Red, Green };
+
+struct Point {
+    std::int32_t x;
+    std::int32_t y;
+};
+
+/* An item comes out as it went in. */
+template <class T, class Same> static void passes(T item, Same same) {
+    fak::QueueSeat<T> seats[2];
+    CHECK(fak::QueueSeat<T>::open(seats, 4, 100) == Code::Ok);
+    auto put = seats[0].put(item);
+    CHECK(put && put.value == 0);
+    auto got = seats[1].get();
+    CHECK(got && got.value.ticket == 0 && same(got.value.item));
+}
+
+static void items_have_types() {
+    int number = 7;
+    passes<int>(-5, [](int item) { return item == -5; });
+    passes<std::uint64_t>(UINT64_MAX, [](std::uint64_t item) { return item == UINT64_MAX; });
+    passes<double>(-0.5, [](double item) { return item == -0.5; });
+    passes<bool>(true, [](bool item) { return item; });
+    passes<Color>(Color::Green, [](Color item) { return item == Color::Green; });
+    passes<Point>({-1, 2}, [](Point item) { return item.x == -1 && item.y == 2; });
+    passes<const int *>(&number, [&](const int *item) { return item == &number; });
+    passes<void (*)()>(items_have_types, [](void (*item)()) { return item == items_have_types; });
+}
+
+/* ---- Handles ---- */
+
+static void handles_own_their_seats() {
+    std::array<Queue, 3> seats;
+    CHECK(!seats[0] && seats[0].leave() == Code::NoSeat && seats[0].put(1).code == Code::NoSeat);
+    CHECK(Queue::open(seats, 0, 9) == Code::BadLimit && live == 0);
+    CHECK(Queue::open(seats, 4, 9) == Code::Ok && seats[2] && live > 3);
+    CHECK(Queue::open(seats, 4, 9) == Code::WrongState);
+    {
+        Queue moved = std::move(seats[0]);
+        CHECK(moved && !seats[0] && moved.put(5));
+        seats[0] = std::move(moved);
+        CHECK(seats[0] && !moved);
+        Queue &same = seats[0];
+        seats[0] = std::move(same);
+        CHECK(seats[0] && seats[0].get().value.item == 5);
+    }
+    CHECK(seats[1].leave() == Code::Ok && !seats[1]);
+    seats[0] = std::move(seats[2]); /* the seat of the first handle leaves */
+    CHECK(seats[0] && seats[0].state().value.left == 9 && live > 0);
+    CHECK(fak_c_leave(seats[0].get_handle()) == FAK_C_OK && !seats[0] && live == 0);
+}
+
+static void a_vector_of_seats_is_opened() {
+    std::vector<fak::CreditSeat> seats(1024);
+    CHECK(fak::CreditSeat::open(seats, 3, UINT64_C(1) << 40) == Code::Ok);
+    for (auto &seat : seats)
+        CHECK(seat.credit());
+    CHECK(seats[0].state().value.value == 3 + 1024);
+    seats.clear();
+    CHECK(live == 0);
+    seats.resize(1025);
+    CHECK(fak::CreditSeat::open(seats, 3, 1) == Code::BadLimit && !seats[0]);
+}
+
+/* A seat in mid-call moves, and goes on; its handle cannot leave. */
+static void a_seat_moves_in_mid_call() {
+    Queue seats[2];
+    CHECK(Queue::open(seats, 4, 9) == Code::Ok);
+    CHECK(seats[0].claim_put(8).value == 0 && seats[0].leave() == Code::WrongState);
+    Queue moved = std::move(seats[0]);
+    auto standing = moved.state();
+    CHECK(standing && standing.value.state == Queue::State::Inserting && standing.value.ticket == 0);
+    CHECK(standing.value.left == 8 && seats[1].get().code == Code::Empty);
+    CHECK(moved.try_put() == Code::Ok && seats[1].get().value.item == 8);
+}
+
+/* A seat that is given up in mid-call is abandoned: its object stays, for ever. */
+static void *volatile abandoned; /* since it is known here, the address sanitizer finds no leak */
+
+static void a_seat_in_mid_call_is_abandoned() {
+    long before = live;
+    Queue other;
+    {
+        Queue seats[2];
+        CHECK(Queue::open(seats, 4, 9) == Code::Ok && seats[0].claim_put(8));
+        other = std::move(seats[1]);
+        abandoned = seats[0].get_handle()->at;
+        seats[0] = Queue();
+        CHECK(!seats[0]);
+    }
+    CHECK(other.leave() == Code::Ok && live > before);
+}
+
+/* ---- The calls of each kind ---- */
+
+static void queues_answer() {
+    Queue seats[3];
+    CHECK(Queue::open(seats, 2, 9) == Code::Ok);
+    CHECK(seats[0].claim_put(1).value == 0 && seats[1].put(2).value == 1 && seats[2].put(3).code == Code::Full);
+    auto got = seats[2].get();
+    CHECK(got.code == Code::NotYet && got.value.ticket == 0 && seats[2].try_get().code == Code::NotYet);
+    CHECK(seats[2].state().value.state == Queue::State::Deleting);
+    CHECK(seats[0].try_put() == Code::Ok && seats[0].try_put() == Code::WrongState);
+    auto taken = seats[2].try_get();
+    CHECK(taken && taken.value == 1 && seats[1].pause() == Code::Ok);
+    auto shut = seats[1].shut();
+    CHECK(shut && shut.value && !seats[1].shut().value && seats[1].put(4).code == Code::Closed);
+    CHECK(seats[1].claim_get().value == 1 && seats[1].try_get().value == 2 && seats[1].claim_get().code == Code::Empty);
+}
+
+static void semaphores_answer() {
+    fak::SemSeat<Color> seats[2];
+    CHECK(fak::SemSeat<Color>::open(seats, 1, 4, 9) == Code::Ok && seats[0].claim_down(Color::Red) == Code::Ok);
+    CHECK(seats[0].claim_down(Color::Green) == Code::Parks && seats[1].claim_up() == Code::Wakes);
+    CHECK(seats[0].state().value.state == fak::SemSeat<Color>::State::Parking && seats[1].try_wake().code == Code::NotYet);
+    CHECK(seats[0].try_park() == Code::Ok);
+    auto woken = seats[1].try_wake();
+    while (woken.code == Code::NotYet)
+        woken = seats[1].try_wake();
+    CHECK(woken && woken.value == Color::Green && seats[1].claim_up() == Code::Ok && seats[1].state().value.left == 7);
+}
+
+static void counts_answer() {
+    fak::RoomSeat rooms[2];
+    CHECK(fak::RoomSeat::open(rooms, 5, 9) == Code::Ok && rooms[0].claim(3).value == 0);
+    auto refused = rooms[1].claim(3);
+    CHECK(refused.code == Code::Full && refused.value == 3 && rooms[0].claim(0).code == Code::BadLimit);
+    CHECK(rooms[0].state().value.held == 3 && rooms[0].state().value.left == 8 && rooms[0].leave() == Code::WrongState);
+    CHECK(rooms[0].release(4).code == Code::BadLimit && rooms[0].release(3).value == 3 && rooms[0].leave() == Code::Ok);
+    fak::CreditSeat credits[1];
+    CHECK(fak::CreditSeat::open(credits, 1, 3) == Code::Ok && credits[0].debit().value == 1 && credits[0].debit().value == 0);
+    CHECK(credits[0].credit().value == -1 && credits[0].credit().code == Code::Worn && credits[0].state().value.value == 0);
+}
+
+static void files_answer() {
+    fak::FileSeat seats[2];
+    CHECK(fak::FileSeat::open(seats, 2, 9) == Code::Ok && seats[0].try_write());
+    auto busy = seats[1].try_read();
+    CHECK(busy.code == Code::Busy && busy.value == 0 && seats[0].hold().value == fak::FileSeat::Hold::Writing);
+    CHECK(seats[0].set_inode(1, 7) == Code::Ok && seats[0].set_uses(1, 8) == Code::Ok && seats[0].set_uses(2, 8) == Code::WrongState);
+    CHECK(seats[0].end() == Code::Ok && seats[1].try_read() && seats[0].try_write().value == 1);
+    auto entry = seats[1].get(1);
+    CHECK(entry && entry.value.inode == 7 && entry.value.uses == 8 && seats[1].end() == Code::Ok);
+}
+
+static void codes_have_texts() {
+    for (std::int32_t a = FAK_C_OK; a <= FAK_C_BUSY; a++)
+        for (std::int32_t b = FAK_C_OK; b <= FAK_C_BUSY + 1; b++)
+            CHECK((std::string_view(fak::text_of(Code{a})) == fak::text_of(Code{b})) == (a == b));
+}
+
+/* ---- Threads ---- */
+
+static void put_all(fak::QueueSeat<const Point *> seat, const std::vector<Point> &points) {
+    for (const Point &point : points) {
+        Code code;
+        while ((code = seat.put(&point).code) == Code::Full)
+            std::this_thread::yield();
+        while (code == Code::NotYet) {
+            std::this_thread::yield();
+            code = seat.try_put();
+        }
+        CHECK(code == Code::Ok);
+    }
+}
+
+static const Point *get_one(fak::QueueSeat<const Point *> &seat) {
+    auto got = seat.get();
+    const Point *item = got.value.item;
+    while (got.code == Code::NotYet) {
+        std::this_thread::yield();
+        auto taken = seat.try_get();
+        got.code = taken.code;
+        item = taken.value;
+    }
+    CHECK(got.code == Code::Ok || got.code == Code::Empty);
+    return item;
+}
+
+/* Each producer has its points, whose x is its number. Each point comes out once, in the order of its producer. */
+static void threads_share_a_queue(int items) {
+    std::array<fak::QueueSeat<const Point *>, 3> seats;
+    std::array<std::vector<Point>, 2> points;
+    std::array<int, 2> taken{};
+    CHECK(decltype(seats)::value_type::open(seats, 16, UINT64_C(1) << 40) == Code::Ok);
+    auto produce = [&](int producer, fak::QueueSeat<const Point *> seat) {
+        for (int item = 0; item < items; item++)
+            points[producer].push_back({producer, item});
+        put_all(std::move(seat), points[producer]);
+    };
+    std::thread first(produce, 0, std::move(seats[0]));
+    std::thread second(produce, 1, std::move(seats[1]));
+    while (taken[0] + taken[1] < 2 * items) {
+        if (const Point *point = get_one(seats[2]))
+            CHECK(point->y == taken[point->x]++);
+        else
+            std::this_thread::yield();
+    }
+    first.join();
+    second.join();
+    CHECK(taken[0] == items && taken[1] == items && seats[2].get().code == Code::Empty);
+}
+
+int main(int count, char **words) {
+    items_have_types();
+    handles_own_their_seats();
+    a_vector_of_seats_is_opened();
+    a_seat_moves_in_mid_call();
+    queues_answer();
+    semaphores_answer();
+    counts_answer();
+    files_answer();
+    codes_have_texts();
+    threads_share_a_queue(count > 1 ? std::atoi(words[1]) : 20000);
+    CHECK(live == 0);
+    a_seat_in_mid_call_is_abandoned();
+    return 0;
+}

@@ -1,0 +1,20 @@
+# Targets, each with the headers:
+#   fak_c::fak_c     the archive that LLVM compiled, with the heap over malloc
+#   fak_c::rattle    the archive that Rattle's own compiler compiled, with the same heap
+#   fak_c::no_heap   the first archive alone; the program brings rattle_alloc, rattle_realloc and rattle_dealloc, as block.c does
+# and FAK_C_BLOCK, the path of block.c.
+get_filename_component(_fak_c_prefix "${CMAKE_CURRENT_LIST_DIR}/../../.." ABSOLUTE)
+
+function(_fak_c_add name)
+    add_library(fak_c::${name} INTERFACE IMPORTED)
+    set_target_properties(fak_c::${name} PROPERTIES
+        INTERFACE_INCLUDE_DIRECTORIES "${_fak_c_prefix}/include/fak_c"
+        INTERFACE_LINK_LIBRARIES "${ARGN}")
+endfunction()
+
+if(NOT TARGET fak_c::fak_c)
+    _fak_c_add(fak_c "${_fak_c_prefix}/lib/libfak_c.a" "${_fak_c_prefix}/lib/libfak_c_heap.a")
+    _fak_c_add(rattle "${_fak_c_prefix}/lib/libfak_c_rattle.a" "${_fak_c_prefix}/lib/libfak_c_heap.a")
+    _fak_c_add(no_heap "${_fak_c_prefix}/lib/libfak_c.a")
+endif()
+set(FAK_C_BLOCK "${_fak_c_prefix}/share/fak_c/block.c")
