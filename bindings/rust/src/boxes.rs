@@ -1,7 +1,7 @@
 //! A bounded queue of boxes: owned items of any type, none of which is lost.
 
 use crate::limits::{MOST_CALLS, MOST_SEATS};
-use crate::{Fault, Seat, State, Step};
+use crate::{Fault, InUse, Seat, State, Step};
 use alloc::boxed::Box;
 use alloc::sync::Arc;
 use alloc::vec::Vec;
@@ -166,6 +166,21 @@ impl<T: Send> BoxSeat<T> {
     /// Shuts the queue, and tells whether it was open.
     pub fn shut(&mut self) -> Result<bool, Fault> {
         self.seat().shut()
+    }
+
+    /// As `Seat::count`.
+    pub fn count(&mut self) -> i64 {
+        self.seat().count()
+    }
+
+    /// As `Seat::in_use`.
+    pub fn in_use(&mut self) -> InUse {
+        self.seat().in_use()
+    }
+
+    /// As `Seat::is_drained`.
+    pub fn is_drained(&mut self) -> bool {
+        self.seat().is_drained()
     }
 
     /// As `Seat::pause`.

@@ -53,6 +53,15 @@ pub enum State {
     Deleting(u64),
 }
 
+/// The cells of a queue that are in use, and whether the queue is shut, as one load found them.
+#[derive(Clone, Copy, Debug, PartialEq, Eq)]
+pub struct InUse {
+    /// Insertions begun and not withdrawn, less deletions that have ended: at least 0, and above the size while insertions are refused.
+    pub cells: i64,
+    /// Whether the queue is shut.
+    pub is_shut: bool,
+}
+
 /// Whether a call of a semaphore's seat is open.
 #[derive(Clone, Copy, Debug, PartialEq, Eq)]
 pub enum SemState {
@@ -219,6 +228,30 @@ impl Seat {
         let mut was_open = false;
         let code = unsafe { raw::fak_c_shut(&mut self.0, &mut was_open) };
         made(code, was_open)
+    }
+
+    /// How many items are ready: insertions that have ended, less the deletions begun and not withdrawn. While no other seat is in a call it
+    /// is the number of items. It is below 0 while deletions are refused.
+    pub fn count(&mut self) -> i64 {
+        let mut items = 0;
+        // A seat of a queue is not refused.
+        unsafe { raw::fak_c_count(&mut self.0, &mut items) };
+        items
+    }
+
+    /// The cells in use, and whether the queue is shut.
+    pub fn in_use(&mut self) -> InUse {
+        let (mut cells, mut is_shut) = (0, false);
+        unsafe { raw::fak_c_in_use(&mut self.0, &mut cells, &mut is_shut) };
+        InUse { cells, is_shut }
+    }
+
+    /// Whether the queue is shut and has no cell in use: then no deletion finds an item from now on. A consumer that has read `Empty`
+    /// stops there.
+    pub fn is_drained(&mut self) -> bool {
+        let mut is_drained = false;
+        unsafe { raw::fak_c_drained(&mut self.0, &mut is_drained) };
+        is_drained
     }
 
     /// Whether a call is open, and its ticket.

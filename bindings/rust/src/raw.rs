@@ -51,6 +51,9 @@ extern "C" {
     pub fn fak_c_try_take(seat: *mut Handle, item: *mut u64) -> i32;
     pub fn fak_c_pause(seat: *mut Handle) -> i32;
     pub fn fak_c_shut(seat: *mut Handle, was_open: *mut bool) -> i32;
+    pub fn fak_c_count(seat: *mut Handle, items: *mut i64) -> i32;
+    pub fn fak_c_in_use(seat: *mut Handle, cells: *mut i64, is_shut: *mut bool) -> i32;
+    pub fn fak_c_drained(seat: *mut Handle, is_drained: *mut bool) -> i32;
     pub fn fak_c_state(seat: *mut Handle, state: *mut u32, ticket: *mut u64, left: *mut u64) -> i32;
 
     pub fn fak_c_sem_open(seats: *mut Handle, n: usize, start: u64, size: u64, stint: u64) -> i32;

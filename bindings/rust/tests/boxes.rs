@@ -73,9 +73,11 @@ fn texts_go_from_thread_to_thread() {
         assert_eq!(sender.insert(Box::new(String::new())).unwrap_err().fault, Fault::Closed);
     });
     for number in 0..20_000 {
+        assert!(!seats[0].is_drained());
         assert_eq!(*get(&mut seats[0]), format!("line {number}"));
     }
     thread.join().unwrap();
+    assert_eq!((seats[0].count(), seats[0].in_use().is_shut, seats[0].is_drained()), (0, true, true));
 }
 
 // Items may borrow what lives as long as their seats.

@@ -1,6 +1,6 @@
 //! What seats tell of themselves, claims and tries one by one, and the texts and limits.
 
-use fak::{limits, CreditSeat, Fault, FileSeat, Hold, RoomSeat, Seat, SemSeat, SemState, State, Step};
+use fak::{limits, CreditSeat, Fault, FileSeat, Hold, InUse, RoomSeat, Seat, SemSeat, SemState, State, Step};
 use std::error::Error;
 
 #[test]
@@ -14,6 +14,20 @@ fn a_queue_is_called_by_steps() {
     assert_eq!((a.delete_with_ticket(), a.state()), (Ok(Step::Done((1, 9))), State::Idle));
     assert_eq!((a.shut(), a.claim_insert(1)), (Ok(true), Err(Fault::Closed)));
     assert_eq!(Step::Done(2).map(|two| two + 1), Step::Done(3));
+}
+
+#[test]
+fn a_queue_counts_what_is_in_it() {
+    let [mut a, mut b] = Seat::open::<2>(2, 9).unwrap();
+    let in_use = |cells, is_shut| InUse { cells, is_shut };
+    assert_eq!((a.count(), a.in_use(), a.is_drained()), (0, in_use(0, false), false));
+    assert_eq!((a.claim_insert(7), b.count(), b.in_use(), a.in_use()), (Ok(0), 0, in_use(1, false), in_use(1, false)));
+    assert_eq!((a.try_fill(), b.count(), a.insert(8)), (Ok(Step::Done(())), 1, Ok(Step::Done(1))));
+    assert_eq!((b.claim_delete(), a.count(), a.in_use(), b.count()), (Ok(0), 1, in_use(2, false), 1));
+    assert_eq!((a.shut(), a.in_use(), a.is_drained()), (Ok(true), in_use(2, true), false));
+    assert_eq!((b.try_take(), b.delete(), b.count()), (Ok(Step::Done(7)), Ok(Step::Done(8)), 0));
+    assert_eq!((a.in_use(), a.is_drained(), b.is_drained()), (in_use(0, true), true, true));
+    assert_eq!((a.left(), b.left()), (7, 7));
 }
 
 #[test]

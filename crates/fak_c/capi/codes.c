@@ -40,6 +40,7 @@ static void stands(fak_c_seat *seat, uint32_t wanted, uint64_t wanted_ticket, ui
 static void an_empty_handle_is_refused(fak_c_seat *seat) {
     uint32_t state = 99;
     uint64_t number = 99, left = 99;
+    int64_t count = 99;
     bool was_open = true;
     CHECK(fak_c_claim_insert(seat, 1, &number) == FAK_C_NO_SEAT);
     CHECK(fak_c_try_fill(seat) == FAK_C_NO_SEAT);
@@ -50,6 +51,8 @@ static void an_empty_handle_is_refused(fak_c_seat *seat) {
     CHECK(fak_c_shut(seat, &was_open) == FAK_C_NO_SEAT);
     CHECK(fak_c_pause(seat) == FAK_C_NO_SEAT);
     CHECK(fak_c_state(seat, &state, &number, &left) == FAK_C_NO_SEAT);
+    CHECK(fak_c_count(seat, &count) == FAK_C_NO_SEAT && fak_c_in_use(seat, &count, &was_open) == FAK_C_NO_SEAT);
+    CHECK(fak_c_drained(seat, &was_open) == FAK_C_NO_SEAT && count == 99);
     CHECK(fak_c_leave(seat) == FAK_C_NO_SEAT);
     CHECK(state == 99 && number == 99 && left == 99 && was_open && is_empty(seat));
 }
@@ -226,6 +229,45 @@ static void a_stint_ends(void) {
     CHECK(fak_c_leave(&seats[1]) == FAK_C_OK);
 }
 
+/* What each of two seats finds in the queue, whether or not they are in a call. */
+static void counts(fak_c_seat *seats, int64_t wanted_items, int64_t wanted_cells, bool wanted_shut) {
+    for (int i = 0; i < 2; i++) {
+        int64_t items = 99, cells = 99;
+        bool is_shut = !wanted_shut, is_drained = true;
+        CHECK(fak_c_count(&seats[i], &items) == FAK_C_OK && items == wanted_items);
+        CHECK(fak_c_in_use(&seats[i], &cells, &is_shut) == FAK_C_OK && cells == wanted_cells && is_shut == wanted_shut);
+        CHECK(fak_c_drained(&seats[i], &is_drained) == FAK_C_OK && is_drained == (wanted_shut && wanted_cells == 0));
+    }
+}
+
+/* An insertion counts as a cell in use from its claim on and as an item from its end on, a deletion likewise the other way round. */
+static void a_queue_counts_its_items(void) {
+    fak_c_seat seats[2] = {0};
+    uint64_t ticket = 99;
+    bool was_open = false;
+    CHECK(fak_c_open(seats, 2, 2, 6) == FAK_C_OK);
+    counts(seats, 0, 0, false);
+    CHECK(fak_c_claim_insert(&seats[0], 5, &ticket) == FAK_C_OK);
+    counts(seats, 0, 1, false);
+    CHECK(fak_c_try_fill(&seats[0]) == FAK_C_OK);
+    insert(&seats[1], 6, 1);
+    counts(seats, 2, 2, false);
+    claim_delete(&seats[1], 0);
+    counts(seats, 1, 2, false);
+    CHECK(fak_c_shut(&seats[0], &was_open) == FAK_C_OK);
+    counts(seats, 1, 2, true);
+    take(&seats[1], 5);
+    counts(seats, 1, 1, true);
+    claim_delete(&seats[0], 1);
+    counts(seats, 0, 1, true);
+    take(&seats[0], 6);
+    counts(seats, 0, 0, true);
+    CHECK(fak_c_claim_delete(&seats[0], &ticket) == FAK_C_EMPTY);
+    stands(&seats[0], FAK_C_IDLE, 99, 4);
+    stands(&seats[1], FAK_C_IDLE, 99, 4);
+    CHECK(fak_c_leave(&seats[0]) == FAK_C_OK && fak_c_leave(&seats[1]) == FAK_C_OK);
+}
+
 /* An insertion that was claimed before the queue was shut ends as ever. */
 static void a_shut_queue_refuses_insertions(void) {
     fak_c_seat seats[2] = {0};
@@ -322,5 +364,6 @@ void each_code_is_answered(void) {
     states_are_tested();
     turns_are_waited_for();
     a_stint_ends();
+    a_queue_counts_its_items();
     a_shut_queue_refuses_insertions();
 }

@@ -239,8 +239,8 @@ static inline int32_t fak_c_get(fak_c_seat *seat, uint64_t *ticket, uint64_t *it
 int32_t fak_c_pause(fak_c_seat *seat);
 
 /* Shuts the queue: insertions are refused as FAK_C_CLOSED from now on, and deletions go on. Writes whether the queue was open
- * before. The seat must be idle. Insertions that were claimed before end as ever. To drain a queue: shut it, let every seat end
- * its call, and delete until FAK_C_EMPTY.
+ * before. The seat must be idle. Insertions that were claimed before end as ever. To drain a queue: shut it, and delete until
+ * fak_c_drained says so.
  *
  * FAK_C_OK; FAK_C_NO_SEAT or FAK_C_WRONG_STATE. */
 int32_t fak_c_shut(fak_c_seat *seat, bool *was_open);
@@ -250,6 +250,22 @@ int32_t fak_c_shut(fak_c_seat *seat, bool *was_open);
  *
  * FAK_C_OK or FAK_C_NO_SEAT. */
 int32_t fak_c_state(fak_c_seat *seat, uint32_t *state, uint64_t *ticket, uint64_t *left);
+
+/* How many there are of what. Each of these loads one count, so it tells what was so at one moment of the call; others may have
+ * changed it since. None waits, or makes a mark, or counts against the stint. The seat may be in any state. FAK_C_OK or
+ * FAK_C_NO_SEAT, where nothing is written.
+ *
+ * fak_c_count writes the items that are ready: insertions that have ended, less the deletions begun and not withdrawn. While no other
+ * seat is in a call it is the number of items. It is below 0 while deletions are refused, so take 0 for less.
+ *
+ * fak_c_in_use writes the cells in use, insertions begun and not withdrawn, less deletions that have ended, and whether the queue
+ * is shut. It is at least 0, and above the size while insertions are refused.
+ *
+ * fak_c_drained writes whether the queue is shut and has no cell in use. That never changes again, and no deletion finds an item then:
+ * a consumer that has read FAK_C_EMPTY stops there. While it is false an item may still come. */
+int32_t fak_c_count(fak_c_seat *seat, int64_t *items);
+int32_t fak_c_in_use(fak_c_seat *seat, int64_t *cells, bool *is_shut);
+int32_t fak_c_drained(fak_c_seat *seat, bool *is_drained);
 
 /* ---- Semaphores: a count, and a queue of the items that wait ----
  *

@@ -169,6 +169,12 @@ public:
         std::uint64_t left;
     };
 
+    /* What a load of the cells in use tells. */
+    struct InUse {
+        std::int64_t cells;
+        bool is_shut;
+    };
+
     /* An item with its ticket. */
     struct Taken {
         std::uint64_t ticket;
@@ -221,6 +227,28 @@ public:
     }
 
     Code pause() noexcept { return Code{fak_c_pause(&seat)}; }
+
+    /* The items that are ready, below 0 while deletions are refused. */
+    Answer<std::int64_t> count() noexcept {
+        std::int64_t items = 0;
+        Code code{fak_c_count(&seat, &items)};
+        return {code, items};
+    }
+
+    /* The cells in use, and whether the queue is shut. */
+    Answer<InUse> in_use() noexcept {
+        std::int64_t cells = 0;
+        bool is_shut = false;
+        Code code{fak_c_in_use(&seat, &cells, &is_shut)};
+        return {code, {cells, is_shut}};
+    }
+
+    /* Whether the queue is shut and has no cell in use: no deletion finds an item from then on. */
+    Answer<bool> drained() noexcept {
+        bool is_drained = false;
+        Code code{fak_c_drained(&seat, &is_drained)};
+        return {code, is_drained};
+    }
 
     Answer<Standing> state() noexcept {
         std::uint32_t state = 0;

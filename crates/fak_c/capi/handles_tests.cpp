@@ -156,9 +156,12 @@ static void queues_answer() {
     CHECK(seats[0].try_put() == Code::Ok && seats[0].try_put() == Code::WrongState);
     auto taken = seats[2].try_get();
     CHECK(taken && taken.value == 1 && seats[1].pause() == Code::Ok);
+    CHECK(seats[0].count().value == 1 && seats[0].in_use().value.cells == 1 && !seats[0].in_use().value.is_shut);
     auto shut = seats[1].shut();
     CHECK(shut && shut.value && !seats[1].shut().value && seats[1].put(4).code == Code::Closed);
+    CHECK(seats[0].drained() && !seats[0].drained().value);
     CHECK(seats[1].claim_get().value == 1 && seats[1].try_get().value == 2 && seats[1].claim_get().code == Code::Empty);
+    CHECK(seats[0].drained() && seats[0].drained().value && seats[0].in_use().value.is_shut && Queue().count().code == Code::NoSeat);
 }
 
 static void semaphores_answer() {

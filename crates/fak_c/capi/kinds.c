@@ -164,7 +164,7 @@ static void a_table_answers(void) {
 
 enum { QUEUE, SEMAPHORE, ROOM, CREDIT, FILES, KINDS };
 
-enum { QUEUE_CALLS = 9, SEMAPHORE_CALLS = 5, ROOM_CALLS = 3, CREDIT_CALLS = 3, FILES_CALLS = 7 };
+enum { QUEUE_CALLS = 12, SEMAPHORE_CALLS = 5, ROOM_CALLS = 3, CREDIT_CALLS = 3, FILES_CALLS = 7 };
 
 /* What calls write by their out-pointers. */
 typedef struct {
@@ -184,6 +184,8 @@ static int refused_by_queues(fak_c_seat *seat, outs *at) {
         + (fak_c_claim_delete(seat, &at->first) == FAK_C_NO_SEAT) + (fak_c_try_take(seat, &at->first) == FAK_C_NO_SEAT)
         + (fak_c_insert(seat, 1, &at->first) == FAK_C_NO_SEAT) + (fak_c_delete(seat, &at->first, &at->second) == FAK_C_NO_SEAT)
         + (fak_c_shut(seat, &at->truth) == FAK_C_NO_SEAT) + (fak_c_pause(seat) == FAK_C_NO_SEAT)
+        + (fak_c_count(seat, &at->count) == FAK_C_NO_SEAT) + (fak_c_in_use(seat, &at->count, &at->truth) == FAK_C_NO_SEAT)
+        + (fak_c_drained(seat, &at->truth) == FAK_C_NO_SEAT)
         + (fak_c_state(seat, &at->small, &at->first, &at->second) == FAK_C_NO_SEAT);
 }
 

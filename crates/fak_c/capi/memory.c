@@ -60,12 +60,14 @@ static bool opens(fak_c_seat *seats, size_t n, int kind, long number) {
 
 static void use_a_queue(fak_c_seat *seats) {
     uint64_t ticket = 0, item = 0, left = 0;
+    int64_t count = 0;
     uint32_t state = 0;
     bool was_open = false;
     CHECK(fak_c_claim_insert(&seats[0], 7, &ticket) == FAK_C_OK && fak_c_try_fill(&seats[0]) == FAK_C_OK);
     CHECK(fak_c_claim_delete(&seats[1], &ticket) == FAK_C_OK && fak_c_try_take(&seats[1], &item) == FAK_C_OK && item == 7);
     CHECK(fak_c_insert(&seats[0], 8, &ticket) == FAK_C_OK && fak_c_delete(&seats[1], &ticket, &item) == FAK_C_OK && item == 8);
-    CHECK(fak_c_pause(&seats[1]) == FAK_C_OK);
+    CHECK(fak_c_pause(&seats[1]) == FAK_C_OK && fak_c_count(&seats[1], &count) == FAK_C_OK);
+    CHECK(fak_c_in_use(&seats[1], &count, &was_open) == FAK_C_OK && fak_c_drained(&seats[1], &was_open) == FAK_C_OK);
     CHECK(fak_c_state(&seats[2], &state, &ticket, &left) == FAK_C_OK && fak_c_shut(&seats[2], &was_open) == FAK_C_OK);
 }
 

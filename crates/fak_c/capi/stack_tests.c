@@ -92,6 +92,7 @@ static void leave_all(void) {
 /* Two seats that call by turns, often enough that one pauses. */
 static void use_queue(void) {
     uint64_t ticket = 0, item = 0;
+    int64_t count = 0;
     uint32_t state = 0;
     bool was_open = false;
     for (int round = 0; round < ROUNDS; round++) {
@@ -106,7 +107,8 @@ static void use_queue(void) {
     CHECK(fak_c_try_take(seats, &item) == FAK_C_OK);
     CHECK(fak_c_delete(seats, &ticket, &item) == FAK_C_OK);
     CHECK(fak_c_delete(seats, &ticket, &item) == FAK_C_EMPTY);
-    CHECK(fak_c_state(seats, &state, &ticket, &item) == FAK_C_OK);
+    CHECK(fak_c_state(seats, &state, &ticket, &item) == FAK_C_OK && fak_c_count(seats, &count) == FAK_C_OK);
+    CHECK(fak_c_in_use(seats, &count, &was_open) == FAK_C_OK && fak_c_drained(seats, &was_open) == FAK_C_OK);
     CHECK(fak_c_shut(seats, &was_open) == FAK_C_OK);
     CHECK(fak_c_insert(seats, 3, &ticket) == FAK_C_CLOSED);
 }

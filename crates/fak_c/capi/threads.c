@@ -4,7 +4,6 @@
 
 #include <pthread.h>
 #include <sched.h>
-#include <stdatomic.h>
 
 enum { MOST_PAIRS = 4, CELLS = 256 };
 
@@ -18,7 +17,6 @@ typedef struct {
     uint64_t *taken; /* what was taken, by ticket */
 } worker;
 
-static atomic_bool is_over;
 static uint64_t tickets; /* how many may be drawn */
 
 /* An item tells its producer, and how many came before it. */
@@ -65,15 +63,14 @@ static bool take_one(worker *self) {
     return true;
 }
 
-/* Deletes up to the limit, or until all is over and the queue empty. */
+/* Deletes up to the limit, or until the queue is shut and drained. */
 static void *consume(void *argument) {
     worker *self = argument;
-    while (self->count < self->limit) {
-        bool ends = atomic_load(&is_over);
+    bool is_drained = false;
+    while (self->count < self->limit && !is_drained) {
         if (take_one(self))
             continue;
-        if (ends)
-            break;
+        CHECK(fak_c_drained(self->seat, &is_drained) == FAK_C_OK);
         sched_yield();
     }
     return NULL;
@@ -117,7 +114,6 @@ void threads_share_a_queue(int pairs, uint64_t items) {
     tickets = total;
     CHECK(pairs >= 1 && pairs <= MOST_PAIRS && taken != NULL);
     CHECK(fak_c_open(seats, 2 * (size_t)pairs, CELLS, LONG_STINT) == FAK_C_OK);
-    atomic_store(&is_over, false);
     for (int i = 0; i < pairs; i++) {
         start(&producers[i], produce, &seats[i], (uint64_t)i, items, NULL);
         start(&consumers[i], consume, &seats[pairs + i], 0, items, taken);
@@ -138,7 +134,6 @@ void a_shut_queue_is_drained(uint64_t items) {
     uint64_t *taken = calloc(PAIRS * items, sizeof *taken);
     tickets = PAIRS * items;
     CHECK(taken != NULL && fak_c_open(seats, 2 * PAIRS + 1, CELLS, LONG_STINT) == FAK_C_OK);
-    atomic_store(&is_over, false);
     for (int i = 0; i < PAIRS; i++) {
         start(&producers[i], produce, &seats[i], (uint64_t)i, items, NULL);
         start(&consumers[i], consume, &seats[PAIRS + i], 0, UINT64_MAX, taken);
@@ -155,7 +150,6 @@ void a_shut_queue_is_drained(uint64_t items) {
     }
     CHECK(fak_c_shut(self.seat, &was_open) == FAK_C_OK && was_open);
     put = joined(producers, PAIRS);
-    atomic_store(&is_over, true);
     CHECK(joined(consumers, PAIRS) + self.count == put);
     CHECK(fak_c_claim_delete(self.seat, &ticket) == FAK_C_EMPTY);
     CHECK(fak_c_claim_insert(self.seat, 1, &ticket) == FAK_C_CLOSED);

@@ -1,13 +1,17 @@
 //! The calls of a seat. Each tests the state of the seat, so none has a condition.
 
 ghost use Rattle.std.specs.Prelude.{◌≡◌, ◌↔◌, IsTrue, MatchOption};
+ghost use Rattle.fak_model.specs.declared.queue.Kind.TheVariants.{Close};
+ghost use Rattle.fak_model.specs.Queue.{Has, lower_count, upper_count};
 ghost use Rattle.fak_queue.specs.declared.state.SeatState.TheVariants.{Idle};
+ghost use Rattle.fak_queue.specs.Drained.{IsDrained};
 ghost use Rattle.fak_queue.specs.Queues.{state_of};
 ghost use Rattle.std.specs.Arc.{arc_value};
 ghost use Rattle.fak_handles.specs.Answers.{AsksToDelete, AsksToDeleteOnce, AsksToFill, AsksToInsert, AsksToInsertOnce, AsksToShut, AsksToTake, IsBusy, IsNotDeleting, IsNotInserting};
+ghost use Rattle.fak_handles.specs.Observing.{Observes};
 
 use crate::queue::QueueDesk;
-use fak_queue::{DeleteFault, InsertFault, SeatState};
+use fak_queue::{DeleteFault, InUse, InsertFault, SeatState};
 
 impl QueueDesk {
     /// `Queue::claim_insert`; `None` where the seat is not idle.
@@ -105,6 +109,34 @@ impl QueueDesk {
                 Some(Some((_, item))) => Some(Ok((ticket, Some(item)))),
             },
         }
+    }
+
+    /// `Queue::items_ready`.
+    pub fn items_ready(&mut self) -> i64
+        ensures queue { arc_value self.new.queue ≡ arc_value self.old.queue }
+        ensures call { Observes self.old self.new }
+        ensures count { result ≡ lower_count self.new.seat.seen }
+    {
+        self.queue.items_ready(&mut self.seat)
+    }
+
+    /// `Queue::cells_in_use`.
+    pub fn cells_in_use(&mut self) -> InUse
+        ensures queue { arc_value self.new.queue ≡ arc_value self.old.queue }
+        ensures call { Observes self.old self.new }
+        ensures count { result.count ≡ upper_count self.new.seat.seen }
+        ensures shut { IsTrue result.is_shut ↔ Has Close self.new.seat.seen }
+    {
+        self.queue.cells_in_use(&mut self.seat)
+    }
+
+    /// `Queue::is_drained`.
+    pub fn is_drained(&mut self) -> bool
+        ensures queue { arc_value self.new.queue ≡ arc_value self.old.queue }
+        ensures call { Observes self.old self.new }
+        ensures drained { IsTrue result ↔ IsDrained self.new.seat.seen }
+    {
+        self.queue.is_drained(&mut self.seat)
     }
 
     pub(crate) fn is_idle(&self) -> bool

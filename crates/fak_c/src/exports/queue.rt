@@ -4,6 +4,7 @@ ghost use Rattle.std.specs.Prelude.{◌≡◌};
 ghost use Rattle.fak_handles.specs.Answers.{Deletes, DeletesOnce, Inserts, InsertsOnce, Looks, Pauses, SameQueue, Shuts, TriesToFill, TriesToTake};
 ghost use Rattle.fak_handles.specs.Calls.{Called};
 ghost use Rattle.fak_handles.specs.Kinds.{Spares, queue_in};
+ghost use Rattle.fak_handles.specs.Observing.{Counts, CountsCells, TellsDrained};
 
 use fak_handles::code::NO_SEAT;
 use fak_handles::place::Place;
@@ -176,6 +177,62 @@ pub extern "C" fn fak_c_state(
         return NO_SEAT;
     };
     let code = desk.state(state, ticket, left);
+    seat.put(desk);
+    code
+}
+
+/// Writes how many items are ready: insertions that have ended, less the deletions begun and not withdrawn.
+///
+/// `OK` or `NO_SEAT`.
+#[unsafe(no_mangle)]
+pub extern "C" fn fak_c_count(alloc: Global, seat: &mut Place, items: &mut i64) -> i32
+    ensures call { Called result (items.new ≡ items.old) SameQueue (Counts result items.new)
+        (queue_in seat.old.handle.desk) (queue_in seat.new.handle.desk) }
+    ensures spares { Spares queue_in seat.old.handle.desk seat.new.handle.desk }
+{
+    let Some(mut desk) = seat.take(alloc) else {
+        return NO_SEAT;
+    };
+    let code = desk.count(items);
+    seat.put(desk);
+    code
+}
+
+/// Writes how many cells are in use, insertions begun and not withdrawn, less deletions that have ended, and whether the queue is shut.
+///
+/// `OK` or `NO_SEAT`.
+#[unsafe(no_mangle)]
+pub extern "C" fn fak_c_in_use(
+    alloc: Global,
+    seat: &mut Place,
+    cells: &mut i64,
+    is_shut: &mut bool,
+) -> i32
+    ensures call { Called result ((cells.new ≡ cells.old) × (is_shut.new ≡ is_shut.old)) SameQueue
+        (CountsCells result cells.new is_shut.new) (queue_in seat.old.handle.desk) (queue_in seat.new.handle.desk) }
+    ensures spares { Spares queue_in seat.old.handle.desk seat.new.handle.desk }
+{
+    let Some(mut desk) = seat.take(alloc) else {
+        return NO_SEAT;
+    };
+    let code = desk.in_use(cells, is_shut);
+    seat.put(desk);
+    code
+}
+
+/// Writes whether the queue is shut with no cell in use: then no deletion finds an item from now on.
+///
+/// `OK` or `NO_SEAT`.
+#[unsafe(no_mangle)]
+pub extern "C" fn fak_c_drained(alloc: Global, seat: &mut Place, is_drained: &mut bool) -> i32
+    ensures call { Called result (is_drained.new ≡ is_drained.old) SameQueue (TellsDrained result is_drained.new)
+        (queue_in seat.old.handle.desk) (queue_in seat.new.handle.desk) }
+    ensures spares { Spares queue_in seat.old.handle.desk seat.new.handle.desk }
+{
+    let Some(mut desk) = seat.take(alloc) else {
+        return NO_SEAT;
+    };
+    let code = desk.drained(is_drained);
     seat.put(desk);
     code
 }

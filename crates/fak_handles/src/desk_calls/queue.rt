@@ -4,6 +4,7 @@ ghost use Rattle.std.specs.Prelude.{◌≡◌, Some};
 ghost use Rattle.fak_handles.specs.Answers.{Deletes, DeletesOnce, Inserts, InsertsOnce, Looks, Pauses, SameQueue, Shuts, TriesToFill, TriesToTake};
 ghost use Rattle.fak_handles.specs.Calls.{Called};
 ghost use Rattle.fak_handles.specs.Kinds.{Spares, queue_in};
+ghost use Rattle.fak_handles.specs.Observing.{Counts, CountsCells, TellsDrained};
 
 use crate::answers::{
     of_delete, of_delete_once, of_fill, of_insert, of_insert_once, of_shut, of_state, of_take,
@@ -144,6 +145,53 @@ impl Desk {
             Desk::Queue(desk) => {
                 of_state(desk.seat.state(), state, ticket);
                 *left = desk.seat.left();
+                OK
+            }
+            Desk::Semaphore(_) | Desk::Room(_) | Desk::Credit(_) | Desk::Files(_) => NO_SEAT,
+        }
+    }
+
+    /// Writes how many items are ready: insertions that have ended, less the deletions begun and not withdrawn.
+    pub fn count(&mut self, items: &mut i64) -> i32
+        ensures call { Called result (items.new ≡ items.old) SameQueue (Counts result items.new)
+            (queue_in (Some self.old)) (queue_in (Some self.new)) }
+        ensures spares { Spares queue_in (Some self.old) (Some self.new) }
+    {
+        match self {
+            Desk::Queue(desk) => {
+                *items = desk.items_ready();
+                OK
+            }
+            Desk::Semaphore(_) | Desk::Room(_) | Desk::Credit(_) | Desk::Files(_) => NO_SEAT,
+        }
+    }
+
+    /// Writes how many cells are in use, and whether the queue is shut.
+    pub fn in_use(&mut self, cells: &mut i64, is_shut: &mut bool) -> i32
+        ensures call { Called result ((cells.new ≡ cells.old) × (is_shut.new ≡ is_shut.old)) SameQueue
+            (CountsCells result cells.new is_shut.new) (queue_in (Some self.old)) (queue_in (Some self.new)) }
+        ensures spares { Spares queue_in (Some self.old) (Some self.new) }
+    {
+        match self {
+            Desk::Queue(desk) => {
+                let in_use = desk.cells_in_use();
+                *cells = in_use.count;
+                *is_shut = in_use.is_shut;
+                OK
+            }
+            Desk::Semaphore(_) | Desk::Room(_) | Desk::Credit(_) | Desk::Files(_) => NO_SEAT,
+        }
+    }
+
+    /// Writes whether the queue is shut with no cell in use.
+    pub fn drained(&mut self, is_drained: &mut bool) -> i32
+        ensures call { Called result (is_drained.new ≡ is_drained.old) SameQueue (TellsDrained result is_drained.new)
+            (queue_in (Some self.old)) (queue_in (Some self.new)) }
+        ensures spares { Spares queue_in (Some self.old) (Some self.new) }
+    {
+        match self {
+            Desk::Queue(desk) => {
+                *is_drained = desk.is_drained();
                 OK
             }
             Desk::Semaphore(_) | Desk::Room(_) | Desk::Credit(_) | Desk::Files(_) => NO_SEAT,
