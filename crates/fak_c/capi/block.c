@@ -4,6 +4,13 @@
 
 #include <stdatomic.h>
 
+#ifdef FAK_C_BLOCK_AND_HEAP
+#include <stdlib.h>
+#define OF_THREAD _Thread_local
+#else
+#define OF_THREAD
+#endif
+
 /* The answer of the library's heap: whether there was memory, and where. A refusal's pointer is not null. */
 struct answer {
     bool found;
@@ -18,7 +25,7 @@ struct block {
     size_t unused;
 };
 
-/* The head of each part. */
+/* The head of each part. Of a part of the heap it names no block. */
 struct part {
     struct block *of;
     size_t unused;
@@ -26,11 +33,11 @@ struct part {
 
 _Static_assert(sizeof(struct block) % 16 == 0 && sizeof(struct part) % 16 == 0, "parts are aligned to 16");
 
-static struct block *open_block;
+static OF_THREAD struct block *open_block;
 
 struct answer rattle_alloc(size_t size, size_t align);
 struct answer rattle_realloc(void *part, size_t kept, size_t size, size_t align);
-void rattle_dealloc(void *part);
+void rattle_dealloc(void *at);
 
 void fak_c_block_begin(void *block, size_t bytes) {
     open_block = (struct block *)block;
@@ -49,16 +56,51 @@ bool fak_c_block_is_free(const void *block) {
     return atomic_load(&((struct block *)(uintptr_t)block)->out) == 0;
 }
 
+#ifdef FAK_C_BLOCK_AND_HEAP
+
+/* A part of the heap, or none if there is no memory. */
+static struct part *part_of_heap(size_t bytes) {
+    struct part *part = malloc(bytes);
+    if (part != NULL)
+        part->of = NULL;
+    return part;
+}
+
+static void free_part(struct part *part) {
+    free(part);
+}
+
+#else
+
+static struct part *part_of_heap(size_t bytes) {
+    (void)bytes;
+    return NULL;
+}
+
+static void free_part(struct part *part) {
+    (void)part;
+}
+
+#endif
+
+/* A part of the open block, or none if it does not fit. */
+static struct part *part_of_block(size_t bytes) {
+    if (open_block->bytes - open_block->used < bytes)
+        return NULL;
+    struct part *part = (struct part *)((unsigned char *)open_block + open_block->used);
+    part->of = open_block;
+    open_block->used += bytes;
+    atomic_fetch_add(&open_block->out, 1);
+    return part;
+}
+
 struct answer rattle_alloc(size_t size, size_t align) {
     struct answer refusal = {false, &open_block};
     size_t wanted = sizeof(struct part) + ((size + 15) & ~(size_t)15);
-    if (open_block == NULL || align > 16 || wanted < size || open_block->bytes - open_block->used < wanted)
+    if (align > 16 || wanted < size)
         return refusal;
-    struct part *part = (struct part *)((unsigned char *)open_block + open_block->used);
-    part->of = open_block;
-    open_block->used += wanted;
-    atomic_fetch_add(&open_block->out, 1);
-    return (struct answer){true, part + 1};
+    struct part *part = open_block != NULL ? part_of_block(wanted) : part_of_heap(wanted);
+    return part != NULL ? (struct answer){true, part + 1} : refusal;
 }
 
 /* No call of the library makes a part larger. */
@@ -67,6 +109,10 @@ struct answer rattle_realloc(void *part, size_t kept, size_t size, size_t align)
     return (struct answer){false, &open_block};
 }
 
-void rattle_dealloc(void *part) {
-    atomic_fetch_sub(&((struct part *)part - 1)->of->out, 1);
+void rattle_dealloc(void *at) {
+    struct part *part = (struct part *)at - 1;
+    if (part->of == NULL)
+        free_part(part);
+    else
+        atomic_fetch_sub(&part->of->out, 1);
 }

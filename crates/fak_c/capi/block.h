@@ -1,9 +1,12 @@
-/* Memory of the caller in place of a heap, for objects that are opened before there is one: link block.c in place of the toolchain's
- * liblibc_c.a and of malloc. It is C, and tested, not proved.
+/* Memory of the caller for objects: link block.c in place of the toolchain's liblibc_c.a. It is C, and tested, not proved.
  *
  * Between fak_c_block_begin and fak_c_block_end all that the opening calls take lies in the caller's block; a block may have several
- * objects. The block is the caller's again when fak_c_block_is_free: when the last seat of each of its objects has left. One
- * thread opens at a time; seats may leave on any. */
+ * objects. The block is the caller's again when fak_c_block_is_free: when the last seat of each of its objects has left. Seats may
+ * leave on any thread.
+ *
+ * As it is, block.c needs no heap: what is opened without a block is refused as FAK_C_MEMORY, and one thread opens at a time. A kernel
+ * takes it so. Compiled with FAK_C_BLOCK_AND_HEAP it stands next to malloc: each thread has an open block of its own, so threads may
+ * open at once, and what a thread opens without a block lies in the heap. */
 #ifndef FAK_C_BLOCK_H
 #define FAK_C_BLOCK_H
 
@@ -25,7 +28,7 @@ extern "C" {
 /* What is opened from now on lies in this block, of at least 64 bytes. */
 void fak_c_block_begin(void *block, size_t bytes);
 
-/* How many bytes of the block are used. Until the next beginning there is no memory. */
+/* How many bytes of the block are used. It has no more objects then, until it begins anew. */
 size_t fak_c_block_end(void);
 
 /* Whether nothing in the block is in use. */

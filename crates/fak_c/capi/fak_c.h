@@ -17,7 +17,8 @@
  * - Pointers are distinct: nothing that one argument of a call points to overlaps what another does. They are aligned and not
  *   null (fak_c_put and fak_c_get take null for the ticket, and no other call takes null), and what they point to is
  *   initialised, out-pointers too (a bool is true or false).
- * - The heap (below) is one heap that many threads may call, and aligns to 16 bytes. With block.c one thread opens at a time.
+ * - The heap (below) is one heap that many threads may call, and aligns to 16 bytes. With block.c one thread opens at a time, unless
+ *   it stands next to a heap (block.h).
  *
  * What C can't prove is tested by each call: that the handle has a seat of the kind of object that the call is for (else
  * FAK_C_NO_SEAT), that the seat is in the state that the call needs, that its stint lasts. A call writes through an out-pointer
