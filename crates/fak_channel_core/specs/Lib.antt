@@ -1,0 +1,2 @@
+pub mod SleepMoves
+pub mod SleepSchedule
