@@ -1,6 +1,14 @@
+pub mod MarkWeights
 pub mod SleepKept
 pub mod SleepPlaces
 pub mod SleepTokens
 pub mod SleepSteps
 pub mod SleepQueueSteps
 pub mod SleepReached
+pub mod ChannelKept
+pub mod ChannelCounts
+pub mod ChannelPlaces
+pub mod ChannelQueueSteps
+pub mod SleepMoved
+pub mod ChannelSteps
+pub mod ChannelReached

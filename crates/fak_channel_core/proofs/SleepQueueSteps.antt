@@ -1,8 +1,7 @@
 -- The steps on the wait queue, and the marking of a word, keep the invariant.
 use Rattle.std.specs.Prelude.{◌≡◌, ◌≢◌, ℕ, ◌+◌, ◌*◌, ◌/◌, ◌%◌, ◌<◌, ◌==◌, pos, ◌+ℤ◌, ◌-ℤ◌, int_lt, Bool, true, false, Option, Some, None}
-use Rattle.fak_model.specs.declared.queue.Kind.{Kind}
 use Rattle.fak_model.specs.declared.queue.Kind.TheVariants as mark
-use Rattle.fak_model.specs.Queue.{count, puts, gots}
+use Rattle.fak_model.specs.Queue.{puts, gots}
 use Rattle.fak_model.specs.Weights.{put_of, got_of}
 use Rattle.fak_core.specs.declared.queue.phase.Phase.{Phase}
 use Rattle.fak_core.specs.declared.queue.phase.Phase.TheVariants as queue
@@ -10,22 +9,18 @@ use Rattle.fak_core.specs.declared.line.CoreMove.TheVariants as step
 use Rattle.fak_core.specs.declared.queue.step.Found.TheVariants.{Count, Word}
 use Rattle.fak_core.specs.declared.queue.step.Write.TheVariants as write
 use Rattle.fak_core.specs.declared.queue.step.QueueMove.{QueueMove}
-use Rattle.fak_core.specs.QueueMoves.{next_move, moved, with_phase, past_after, quiet, marked, back_up, ticket_in, store_item, set_full, end_in, back_low, ticket_out, load_item, set_free, end_out}
+use Rattle.fak_core.specs.QueueMoves.{next_move, moved, with_phase, quiet, marked, back_up, ticket_in, store_item, set_full, end_in, back_low, ticket_out, load_item, set_free, end_out}
 use Rattle.fak_core.specs.QueueSchedule.{Inserts, Deletes, begun}
-use Rattle.fak_core.proofs.Common.{QueueState, with_at, arith, common_steps, refl, sym, subst}
+use Rattle.fak_core.proofs.Common.{with_at, arith, common_steps, refl, sym, subst}
 use Rattle.fak_core.proofs.QueueKept.{IsKept}
 use Rattle.fak_core.proofs.QueueTurns.{at_here, at_else, by_place}
 use Rattle.fak_core.proofs.QueueSteps.{by_test, kept_move, kept_event}
 use Rattle.fak_core.proofs.QueueReached.{draws_put}
 use Rattle.fak_channel_core.specs.SleepMoves.{Idle, Parking, Sleeping, Waking, Marking, SleepEnd, SleepState, park, wake}
 use Rattle.fak_channel_core.proofs.SleepKept.{parks, owes, credit, holds, live, is, StandsIn, Stands, SleepKept}
+use Rattle.fak_channel_core.proofs.MarkWeights.{mark_weight, count_after}
 use Rattle.fak_channel_core.proofs.SleepPlaces.{kept_end}
 use Rattle.fak_channel_core.proofs.SleepSteps.{an_end, due_unwoken}
-
--- what the mark of a step weighs
-abbrev pub mark_weight : (Kind ℕ → ℕ) → Option (Kind ℕ) → ℕ
-mark_weight w None = 0
-mark_weight w (Some κ) = w κ
 
 is_else : (k x e : ℕ) → x ≡ e → k ≢ e → is k x ≡ 0
 is_else k x e q ne = grind (arith, common_steps)
@@ -35,10 +30,6 @@ is_here x e q = grind (arith, common_steps)
 
 pub live_unwoken : (out woken : Bool) → out ≡ true → woken ≡ false → live out woken ≡ 1
 live_unwoken out woken a b = grind (arith, common_steps)
-
-count_after : (w : Kind ℕ → ℕ) (e : ℕ) (o : Option (Kind ℕ)) (w' : QueueState ℕ) → count w (past_after e o w'.past) ≡ mark_weight w o + count w w'.past
-count_after w e None q = omega arith
-count_after w e (Some κ) q = refl
 
 module _ (n room start : ℕ) (s : SleepState) (e : ℕ) (l : e < n) (K : SleepKept n room start s) where
   -- a step of the wait queue
@@ -115,10 +106,10 @@ module _ (n room start : ℕ) (s : SleepState) (e : ℕ) (l : e < n) (K : SleepK
   kept_park z true w c t is_x (queue.SetFull k x) is_p st =
       park_same _ (set_full room k) is_x refl refl (λ j. refl) (λ j. refl) (st.0, tt) (kept_move room s.waits e (queue.SetFull k x) z K.waits is_p)
   kept_park z true w true t is_x (queue.EndInsert k) is_p st =
-      kept_moved _ (an_end Idle true w true t) (end_in s.waits.lower) is_x (kept_move room s.waits e (queue.EndInsert k) z K.waits is_p)
+      kept_moved _ (an_end Idle true w true false) (end_in s.waits.lower) is_x (kept_move room s.waits e (queue.EndInsert k) z K.waits is_p)
       refl refl (λ j ne. refl) refl (λ q. refl, refl)
   kept_park z true w false t is_x (queue.EndInsert k) is_p st =
-      kept_moved _ (an_end Sleeping true w false t) (end_in s.waits.lower) is_x (kept_move room s.waits e (queue.EndInsert k) z K.waits is_p)
+      kept_moved _ (an_end Sleeping true w false false) (end_in s.waits.lower) is_x (kept_move room s.waits e (queue.EndInsert k) z K.waits is_p)
       refl refl (λ j ne. refl) refl (refl, refl, refl)
   kept_park z o w c t is_x p is_p st = absurd st.1
 

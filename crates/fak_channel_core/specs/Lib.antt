@@ -1,2 +1,4 @@
 pub mod SleepMoves
 pub mod SleepSchedule
+pub mod ChannelMoves
+pub mod ChannelSchedule

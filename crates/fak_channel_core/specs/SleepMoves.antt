@@ -76,7 +76,7 @@ down s e x stays =
 -- the end after a step of its insertion of the token that left this mark
 abbrev pub parked : SleepEnd → Option (Kind ℕ) → SleepEnd
 parked x (Some (mark.Put t)) = record x { out = true }
-parked x (Some mark.EndIn) = record x { at = if x.cancelled then Idle else Sleeping }
+parked x (Some mark.EndIn) = record x { at = if x.cancelled then Idle else Sleeping; through = false }
 parked x _ = x
 
 -- a step of the insertion of its token: a call of the wait queue begins, or makes its next step; a refused one begins again

@@ -1,0 +1,125 @@
+-- What the marks of a channel's queue add up to.
+use Rattle.std.specs.Prelude.{◌≡◌, ◌≢◌, ℕ, ◌+◌, ◌<◌, ◌≤◌, ℤ, pos, ◌+ℤ◌, ◌-ℤ◌, int_lt, not, true, false, [], length}
+use Rattle.fak_model.specs.declared.queue.Kind.{Kind}
+use Rattle.fak_model.specs.Queue.{count, puts, gots, contents, items_put, upper_raise, upper_drop, lower_raise, lower_drop}
+use Rattle.fak_model.specs.QueuePast.{stage}
+use Rattle.fak_model.specs.declared.queue.Stage.{Stage}
+use Rattle.fak_model.specs.declared.queue.Stage.TheVariants as made
+use Rattle.fak_model.proofs.QueueCounts.{a_claim_in, an_end_in, a_claim_out, an_end_out, an_over_in, a_back_in, an_over_out, a_back_out, in_over_in, in_claim_in, in_put, in_over_out, in_claim_out, in_got, open_over_in, open_claim_in, open_put, open_over_out, open_claim_out, open_got, count_two, seat_bound, seats_bounded, tally, tally_none}
+use Rattle.fak_core.specs.declared.queue.phase.Phase.{Phase}
+use Rattle.fak_core.specs.declared.queue.phase.Phase.TheVariants as queue
+use Rattle.fak_model.proofs.QueueBackwards.{count_reverse, items_count}
+use Rattle.fak_model.proofs.QueueWeights.{nothing_left}
+use Rattle.std.proofs.Common.{length-drop}
+use Rattle.fak_core.specs.QueueMoves.{QueueState, history_of}
+use Rattle.fak_core.proofs.Common.{arith, ints, common_steps, refl, sym, ap, ◌∙◌}
+use Rattle.fak_core.proofs.QueueKept.{IsKept, shown}
+use Rattle.fak_channel_core.specs.ChannelMoves.{is_void}
+use Rattle.fak_channel_core.proofs.ChannelKept.{IsDrained}
+
+upper_raise_two : {A : Type 0} (κ : Kind A) → upper_raise κ ≡ a_claim_in κ + an_over_in κ
+upper_raise_two κ = grind (arith, common_steps)
+
+upper_drop_two : {A : Type 0} (κ : Kind A) → upper_drop κ ≡ a_back_in κ + an_end_out κ
+upper_drop_two κ = grind (arith, common_steps)
+
+lower_raise_two : {A : Type 0} (κ : Kind A) → lower_raise κ ≡ an_end_in κ + a_back_out κ
+lower_raise_two κ = grind (arith, common_steps)
+
+lower_drop_two : {A : Type 0} (κ : Kind A) → lower_drop κ ≡ a_claim_out κ + an_over_out κ
+lower_drop_two κ = grind (arith, common_steps)
+
+-- each count leads the next
+pub counts_lead : {A : Type 0} (size : ℕ) (q : QueueState A) → IsKept size q
+    → (count an_end_in q.past ≤ count a_claim_in q.past) × (count an_end_out q.past ≤ count a_claim_out q.past)
+counts_lead size q K =
+    let below = seats_bounded q.past in
+    let a = open_claim_in size (seat_bound q.past) q.past K.legal below in
+    let b = open_put size (seat_bound q.past) q.past K.legal below in
+    let c = open_claim_out size (seat_bound q.past) q.past K.legal below in
+    let d = open_got size (seat_bound q.past) q.past K.legal below in (omega arith, omega arith)
+
+-- of a drained queue each insertion that has ended was claimed by a deletion
+pub drained_claimed : {A : Type 0} (size : ℕ) (q : QueueState A) → IsKept size q → IsDrained q → count an_end_in q.past ≤ count a_claim_out q.past
+drained_claimed size q K D = let l = counts_lead size q K in let none = D.none in omega arith
+
+-- an upper count of at most 0 leaves no granted insertion
+pub void_none : {A : Type 0} (size : ℕ) (q : QueueState A) → IsKept size q → is_void q ≡ true → count a_claim_in q.past ≤ count an_end_out q.past
+void_none size q K v =
+    let o = open_over_in size (seat_bound q.past) q.past K.legal (seats_bounded q.past) in
+    let ur = count_two upper_raise a_claim_in an_over_in upper_raise_two q.past in
+    let ud = count_two upper_drop a_back_in an_end_out upper_drop_two q.past in
+    let is = K.upper in
+    let low : count upper_raise q.past ≤ count upper_drop q.past = at_most (count upper_raise q.past) (count upper_drop q.past) (ap (λ u. not (int_lt (pos 0) u)) (sym is) ∙ v) in omega arith
+  where
+    at_most : (r d : ℕ) → not (int_lt (pos 0) (pos r -ℤ pos d)) ≡ true → r ≤ d
+    at_most r d v = grind (arith, ints, common_steps)
+
+shown_low : {A : Type 0} (p : Phase A) → p ≢ queue.BackLow → in_over_out (shown p) ≡ 0
+shown_low queue.BackLow ne = absurd (ne refl)
+shown_low _ ne = refl
+
+-- where nobody withdraws a deletion, the lower count is what was inserted and not claimed
+pub lower_is : {A : Type 0} (size : ℕ) (q : QueueState A) → IsKept size q → ((e : ℕ) → q.phase e ≢ queue.BackLow) → q.lower ≡ pos (count an_end_in q.past) -ℤ pos (count a_claim_out q.past)
+lower_is size q K none =
+    let o = open_over_out size (seat_bound q.past) q.past K.legal (seats_bounded q.past) in
+    let no_over = tally_none in_over_out (stage q.past) (seat_bound q.past) (λ e. ap in_over_out (sym (K.phases e)) ∙ shown_low (q.phase e) (none e)) in
+    let lr = count_two lower_raise an_end_in a_back_out lower_raise_two q.past in
+    let ld = count_two lower_drop a_claim_out an_over_out lower_drop_two q.past in
+    let is = K.lower in omega (arith, ints)
+
+pub lower_none : (l : ℤ) (r d : ℕ) → l ≡ pos r -ℤ pos d → int_lt (pos 0) l ≡ false → r ≤ d
+lower_none l r d e f = let g = ap (int_lt (pos 0)) (sym e) ∙ f in grind (arith, ints, common_steps)
+
+pub lower_some : (l : ℤ) (r d : ℕ) → l ≡ pos r -ℤ pos d → int_lt (pos 0) l ≡ true → d < r
+lower_some l r d e f = let g = ap (int_lt (pos 0)) (sym e) ∙ f in grind (arith, ints, common_steps)
+
+-- a count that was the last is void once it has dropped by 1, and the other way round
+pub last_void : (u : ℤ) → not (int_lt (pos 1) u) ≡ not (int_lt (pos 0) (u -ℤ pos 1))
+last_void u = grind (arith, ints, common_steps)
+
+pub void_before : (u : ℤ) → not (int_lt (pos 0) (u +ℤ pos 1)) ≡ true → not (int_lt (pos 0) u) ≡ true
+void_before u e = grind (arith, ints, common_steps)
+
+-- ---- a queue whose seats are all idle
+
+idle_tally : {A : Type 0} (size : ℕ) (q : QueueState A) (w : Stage A → ℕ) → IsKept size q → ((e : ℕ) → q.phase e ≡ queue.Idle) → w made.Idle ≡ 0 → tally w (stage q.past) (seat_bound q.past) ≡ 0
+idle_tally size q w K idle none = tally_none w (stage q.past) (seat_bound q.past) (λ e. ap w (sym (K.phases e) ∙ ap shown (idle e)) ∙ none)
+
+-- all that was claimed was inserted, or deleted
+pub record Rested {A : Type 0} (q : QueueState A) : Type 0 where
+  pub inserted : count an_end_in q.past ≡ count puts q.past
+  pub deleted : count a_claim_out q.past ≡ count gots q.past
+  pub claimed : count a_claim_in q.past ≡ count puts q.past
+  pub ended : count an_end_out q.past ≡ count gots q.past
+  pub upper : q.upper ≡ pos (count puts q.past) -ℤ pos (count gots q.past)
+
+pub rested : {A : Type 0} (size : ℕ) (q : QueueState A) → IsKept size q → ((e : ℕ) → q.phase e ≡ queue.Idle) → Rested q
+rested size q K idle =
+    let below = seats_bounded q.past in
+    let a = open_claim_in size (seat_bound q.past) q.past K.legal below in let a0 = idle_tally size q in_claim_in K idle refl in
+    let b = open_put size (seat_bound q.past) q.past K.legal below in let b0 = idle_tally size q in_put K idle refl in
+    let c = open_claim_out size (seat_bound q.past) q.past K.legal below in let c0 = idle_tally size q in_claim_out K idle refl in
+    let d = open_got size (seat_bound q.past) q.past K.legal below in let d0 = idle_tally size q in_got K idle refl in
+    let o = open_over_in size (seat_bound q.past) q.past K.legal below in let o0 = idle_tally size q in_over_in K idle refl in
+    let ur = count_two upper_raise a_claim_in an_over_in upper_raise_two q.past in
+    let ud = count_two upper_drop a_back_in an_end_out upper_drop_two q.past in
+    let is = K.upper in
+    record { inserted = omega arith; deleted = omega arith; claimed = omega arith; ended = omega arith; upper = omega (arith, ints) }
+
+-- what the queue holds
+pub holds_none : {A : Type 0} (q : QueueState A) → count puts q.past ≤ count gots q.past → contents (history_of q) ≡ []
+holds_none q few =
+    let p = count_reverse puts q.past in let g = count_reverse gots q.past in nothing_left (history_of q) (omega arith)
+
+pub holds_many : {A : Type 0} (q : QueueState A) → count gots q.past ≤ count puts q.past → count gots q.past + length (contents (history_of q)) ≡ count puts q.past
+holds_many q few =
+    let p = count_reverse puts q.past in let g = count_reverse gots q.past in
+    let all = items_count (history_of q) in
+    let left = length-drop (count gots (history_of q)) (items_put (history_of q)) in omega arith
+
+pub void_from : (u : ℤ) (p g : ℕ) → u ≡ pos p -ℤ pos g → p ≤ g → not (int_lt (pos 0) u) ≡ true
+void_from u p g e le = ap (λ v. not (int_lt (pos 0) v)) e ∙ few p g le
+  where
+    few : (p g : ℕ) → p ≤ g → not (int_lt (pos 0) (pos p -ℤ pos g)) ≡ true
+    few p g le = grind (arith, ints, common_steps)

@@ -1,0 +1,58 @@
+-- Schedules of a channel whose threads sleep, and the states that they reach.
+use Rattle.std.specs.Prelude.{ℕ, ◌≡◌, ◌⊎◌, Bool, if◌then◌else◌, nat_lt, List, [], ◌∷◌}
+use Rattle.fak_core.specs.QueueSchedule.{opening as empty_queue}
+use Rattle.fak_channel_core.specs.SleepSchedule.{sleep_opening, IsAsleep}
+use Rattle.fak_channel_core.specs.ChannelMoves.{Idle, TakeCell, TakeItem, Shutting, ChannelState, channel_step, begin_call, expire_in}
+
+-- the queue is empty, all cells are free, and nothing has happened
+abbrev pub channel_opening : {A : Type 0} → ℕ → ChannelState A
+channel_opening size = record { queue = empty_queue; items = sleep_opening 0; cells = sleep_opening size; at = λ e. Idle }
+
+-- what a schedule asks for: an end begins to send an item, to receive or to close, its deadline comes, or it makes its next
+-- step; `stays` is false for a try
+pub data ChannelEvent (A : Type 0) : Type 0 where
+  Sends : (e : ℕ) → (stays : Bool) → (x : A) → ChannelEvent A
+  Receives : (e : ℕ) → (stays : Bool) → ChannelEvent A
+  Closes : (e : ℕ) → ChannelEvent A
+  Expires : (e : ℕ) → ChannelEvent A
+  Steps : (e : ℕ) → ChannelEvent A
+
+-- the end of an event
+abbrev pub end_of : {A : Type 0} → ChannelEvent A → ℕ
+end_of (Sends e stays x) = e
+end_of (Receives e stays) = e
+end_of (Closes e) = e
+end_of (Expires e) = e
+end_of (Steps e) = e
+
+-- the state after an event; an end that isn't idle begins nothing, and one that isn't asleep has no deadline
+abbrev pub channel_event : {A : Type 0} → ℕ → ℕ → ChannelState A → ChannelEvent A → ChannelState A
+channel_event size room s (Sends e stays x) = begin_call s e (TakeCell stays x) (s.at e)
+channel_event size room s (Receives e stays) = begin_call s e (TakeItem stays) (s.at e)
+channel_event size room s (Closes e) = begin_call s e Shutting (s.at e)
+channel_event size room s (Expires e) = expire_in s e (s.at e)
+channel_event size room s (Steps e) = channel_step size room s e
+
+-- only the first n ends have events
+abbrev pub channel_happens : {A : Type 0} → ℕ → ℕ → ℕ → ChannelState A → ChannelEvent A → ChannelState A
+channel_happens n size room s v = if nat_lt (end_of v) n then channel_event size room s v else s
+
+-- the state after a schedule
+abbrev pub channel_run : {A : Type 0} → ℕ → ℕ → ℕ → List (ChannelEvent A) → ChannelState A → ChannelState A
+channel_run n size room [] s = s
+channel_run n size room (v ∷ vs) s = channel_run n size room vs (channel_happens n size room s v)
+
+-- where a schedule leads: n ends, this many cells, and wait queues with this room
+abbrev pub channel_reached : {A : Type 0} → ℕ → ℕ → ℕ → List (ChannelEvent A) → ChannelState A
+channel_reached n size room vs = channel_run n size room vs (channel_opening size)
+
+-- the end sleeps in a send, or in a receive, and nobody has woken it
+abbrev pub SendSleeps : {A : Type 0} → ChannelState A → ℕ → Type 0
+SendSleeps {A} s e = (stays : Bool) × (x : A) × (s.at e ≡ TakeCell stays x) × IsAsleep (s.cells.ends e)
+
+abbrev pub ReceiveSleeps : {A : Type 0} → ChannelState A → ℕ → Type 0
+ReceiveSleeps s e = (stays : Bool) × (s.at e ≡ TakeItem stays) × IsAsleep (s.items.ends e)
+
+-- only ends that sleep have open calls
+abbrev pub OnlySleepersAreIn : {A : Type 0} → ChannelState A → Type 0
+OnlySleepersAreIn s = (e : ℕ) → (s.at e ≡ Idle) ⊎ (SendSleeps s e ⊎ ReceiveSleeps s e)
