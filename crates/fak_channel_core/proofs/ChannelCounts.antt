@@ -1,19 +1,23 @@
 -- What the marks of a channel's queue add up to.
-use Rattle.std.specs.Prelude.{◌≡◌, ◌≢◌, ℕ, ◌+◌, ◌<◌, ◌≤◌, ℤ, pos, ◌+ℤ◌, ◌-ℤ◌, int_lt, not, true, false, [], length}
+use Rattle.std.specs.Prelude.{◌≡◌, ◌≢◌, ℕ, ◌+◌, ◌<◌, ◌≤◌, ℤ, pos, ◌+ℤ◌, ◌-ℤ◌, ◌≤ℤ◌, int_lt, not, true, false, List, [], ◌∷◌, length}
 use Rattle.fak_model.specs.declared.queue.Kind.{Kind}
-use Rattle.fak_model.specs.Queue.{count, puts, gots, contents, items_put, upper_raise, upper_drop, lower_raise, lower_drop}
+use Rattle.fak_model.specs.Queue.{count, Has, puts, gots, contents, items_put, upper_raise, upper_drop, lower_raise, lower_drop}
 use Rattle.fak_model.specs.QueuePast.{stage}
 use Rattle.fak_model.specs.declared.queue.Stage.{Stage}
 use Rattle.fak_model.specs.declared.queue.Stage.TheVariants as made
-use Rattle.fak_model.proofs.QueueCounts.{a_claim_in, an_end_in, a_claim_out, an_end_out, an_over_in, a_back_in, an_over_out, a_back_out, in_over_in, in_claim_in, in_put, in_over_out, in_claim_out, in_got, open_over_in, open_claim_in, open_put, open_over_out, open_claim_out, open_got, count_two, seat_bound, seats_bounded, tally, tally_none}
+use Rattle.fak_model.proofs.QueueCounts.{tally_at, claims_out_bounded, a_claim_in, an_end_in, a_claim_out, an_end_out, an_over_in, a_back_in, an_over_out, a_back_out, in_over_in, in_claim_in, in_put, in_over_out, in_claim_out, in_got, open_over_in, open_claim_in, open_put, open_over_out, open_claim_out, open_got, count_two, seat_bound, seats_bounded, tally, tally_none}
 use Rattle.fak_core.specs.declared.queue.phase.Phase.{Phase}
 use Rattle.fak_core.specs.declared.queue.phase.Phase.TheVariants as queue
 use Rattle.fak_model.proofs.QueueBackwards.{count_reverse, items_count}
 use Rattle.fak_model.proofs.QueueWeights.{nothing_left}
 use Rattle.std.proofs.Common.{length-drop}
 use Rattle.fak_core.specs.QueueMoves.{QueueState, history_of}
-use Rattle.fak_core.proofs.Common.{arith, ints, common_steps, refl, sym, ap, ◌∙◌}
+use Rattle.fak_core.proofs.Common.{arith, ints, common_steps, refl, sym, ap, ◌∙◌, subst, inl, inr}
 use Rattle.fak_core.proofs.QueueKept.{IsKept, shown}
+use Rattle.fak_model.specs.declared.queue.Mark.{Mark}
+use Rattle.fak_model.proofs.QueueDrawn.{stage_beyond}
+use Rattle.fak_core.proofs.QueueTurns.{le_or_lt}
+use Rattle.fak_channel_core.specs.ChannelSchedule.{IsGranted}
 use Rattle.fak_channel_core.specs.ChannelMoves.{is_void}
 use Rattle.fak_channel_core.proofs.ChannelKept.{IsDrained}
 
@@ -74,6 +78,16 @@ lower_none l r d e f = let g = ap (int_lt (pos 0)) (sym e) ∙ f in grind (arith
 pub lower_some : (l : ℤ) (r d : ℕ) → l ≡ pos r -ℤ pos d → int_lt (pos 0) l ≡ true → d < r
 lower_some l r d e f = let g = ap (int_lt (pos 0)) (sym e) ∙ f in grind (arith, ints, common_steps)
 
+-- where no insertion has come too late or too many, the upper count is at most what was claimed and has not ended
+pub upper_most : {A : Type 0} (size : ℕ) (q : QueueState A) → IsKept size q → count an_over_in q.past ≡ 0 → q.upper ≤ℤ (pos (count a_claim_in q.past) -ℤ pos (count an_end_out q.past))
+upper_most size q K none =
+    let ur = count_two upper_raise a_claim_in an_over_in upper_raise_two q.past in
+    let ud = count_two upper_drop a_back_in an_end_out upper_drop_two q.past in
+    let is = K.upper in omega (arith, ints)
+
+pub not_full : (u : ℤ) (c o size : ℕ) → u ≤ℤ (pos c -ℤ pos o) → int_lt u (pos size) ≡ false → c < size + o → ⊥
+not_full u c o size most full few = grind (arith, ints, common_steps)
+
 -- a count that was the last is void once it has dropped by 1, and the other way round
 pub last_void : (u : ℤ) → not (int_lt (pos 1) u) ≡ not (int_lt (pos 0) (u -ℤ pos 1))
 last_void u = grind (arith, ints, common_steps)
@@ -123,3 +137,45 @@ void_from u p g e le = ap (λ v. not (int_lt (pos 0) v)) e ∙ few p g le
   where
     few : (p g : ℕ) → p ≤ g → not (int_lt (pos 0) (pos p -ℤ pos g)) ≡ true
     few p g le = grind (arith, ints, common_steps)
+
+-- ---- what marks and phases say of a count
+
+pub has_counts : {A : Type 0} (w : Kind A → ℕ) (κ : Kind A) (h : List (Mark A)) → w κ ≡ 1 → Has κ h → 0 < count w h
+has_counts w κ [] one has = absurd has
+has_counts w κ (m ∷ h) one (inl is) = omega (arith, ap w is)
+has_counts w κ (m ∷ h) one (inr more) = omega (arith, has_counts w κ h one more)
+
+granted_stage : {A : Type 0} (p : Phase A) → IsGranted p → 0 < in_claim_in (shown p) + in_put (shown p) + in_claim_out (shown p) + in_got (shown p)
+granted_stage p g = grind (arith, common_steps)
+
+stage_used : {A : Type 0} (h : List (Mark A)) (s : ℕ) (w : Stage A → ℕ) → w made.Idle ≡ 0 → 0 < w (stage h s) → s < seat_bound h
+stage_used h s w none some = elim (le_or_lt (seat_bound h) s) [
+  | inl b ↦ (let idle = ap w (stage_beyond h s b) in absurd (omega arith))
+  | inr l ↦ l
+]
+
+-- an open granted call keeps an insertion from being ended by a deletion
+pub drained_quiet : {A : Type 0} (size : ℕ) (q : QueueState A) (e : ℕ) → IsKept size q → IsDrained q → IsGranted (q.phase e) → ⊥
+drained_quiet {A} size q e K D g =
+    let below = seats_bounded q.past in
+    let a = open_claim_in size (seat_bound q.past) q.past K.legal below in
+    let b = open_put size (seat_bound q.past) q.past K.legal below in
+    let c = open_claim_out size (seat_bound q.past) q.past K.legal below in
+    let d = open_got size (seat_bound q.past) q.past K.legal below in
+    let bounded = claims_out_bounded size q.past K.legal in
+    let none = D.none in
+    let all : Stage A → ℕ = λ t. in_claim_in t + in_put t + in_claim_out t + in_got t in
+    let some : 0 < all (stage q.past e) = subst (λ t. 0 < all t) (K.phases e) (granted_stage (q.phase e) g) in
+    let used = stage_used q.past e all refl some in
+    let t1 = tally_at in_claim_in (stage q.past) e (seat_bound q.past) used in
+    let t2 = tally_at in_put (stage q.past) e (seat_bound q.past) used in
+    let t3 = tally_at in_claim_out (stage q.past) e (seat_bound q.past) used in
+    let t4 = tally_at in_got (stage q.past) e (seat_bound q.past) used in
+    omega arith
+
+pub drained_empty : {A : Type 0} (size : ℕ) (q : QueueState A) → IsKept size q → IsDrained q → count puts q.past ≤ count gots q.past
+drained_empty size q K D =
+    let below = seats_bounded q.past in
+    let a = open_claim_in size (seat_bound q.past) q.past K.legal below in
+    let d = open_got size (seat_bound q.past) q.past K.legal below in
+    let none = D.none in omega arith

@@ -1,8 +1,10 @@
 -- What holds of a channel whose threads sleep between any two steps.
 use Rattle.std.specs.Prelude.{◌≡◌, ◌≢◌, ℕ, ◌+◌, ◌<◌, ◌≤◌, Bool, true, false}
+use Rattle.fak_model.specs.declared.queue.Kind.{Kind}
+use Rattle.fak_model.specs.declared.queue.Kind.TheVariants as mark
 use Rattle.fak_model.specs.Queue.{count}
 use Rattle.fak_model.specs.Histories.{sum_below}
-use Rattle.fak_model.proofs.QueueCounts.{a_claim_in, an_end_in, a_claim_out, an_end_out}
+use Rattle.fak_model.proofs.QueueCounts.{a_claim_in, an_end_in, a_claim_out, an_end_out, an_over_in}
 use Rattle.fak_core.specs.declared.queue.phase.Phase.{Phase}
 use Rattle.fak_core.specs.declared.queue.phase.Phase.TheVariants as inner
 use Rattle.fak_core.specs.QueueMoves.{QueueState}
@@ -113,6 +115,13 @@ Fits Shutting p i c = IsShutting p × (i ≡ sleep.Idle) × (c ≡ sleep.Idle)
 
 -- ---- the invariant
 
+-- an insertion that found no room, or a deletion that claimed too much
+abbrev pub a_refusal : {A : Type 0} → Kind A → ℕ
+a_refusal mark.NoRoom = 1
+a_refusal mark.OverIn = 1
+a_refusal mark.OverOut = 1
+a_refusal _ = 0
+
 -- the queue is shut, and each granted insertion's item was deleted
 pub record IsDrained {A : Type 0} (q : QueueState A) : Type 0 where
   pub shut : q.shut ≡ true
@@ -148,6 +157,9 @@ pub record ChannelKept {A : Type 0} (n size room : ℕ) (s : ChannelState A) : T
   pub extra : items_used s < items_held n s → IsDrained s.queue
   pub drained : s.queue.shut ≡ true → is_void s.queue ≡ true → items_used s < items_held n s
   pub shut : s.queue.shut ≡ true → cells_used s < cells_held n s
+  pub open_cells : s.queue.shut ≡ false → cells_used s ≡ cells_held n s
+  pub no_refusal : count a_refusal s.queue.past ≡ 0
+  pub no_over : s.queue.shut ≡ false → count an_over_in s.queue.past ≡ 0
   pub looks : (e : ℕ) (stays : Bool) → s.at e ≡ Look stays → IsDrained s.queue
   pub fits : (e : ℕ) → Fits (s.at e) (s.queue.phase e) (s.items.ends e).at (s.cells.ends e).at
   pub no_low : (e : ℕ) → s.queue.phase e ≢ inner.BackLow

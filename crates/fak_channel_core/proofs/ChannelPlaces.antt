@@ -1,9 +1,9 @@
 -- The invariant of a channel after a step of one end.
-use Rattle.std.specs.Prelude.{◌≡◌, ◌≢◌, ◌⊎◌, ℕ, ◌+◌, ◌<◌, ◌≤◌, Bool, true}
+use Rattle.std.specs.Prelude.{◌≡◌, ◌≢◌, ◌⊎◌, ℕ, ◌+◌, ◌<◌, ◌≤◌, Bool, true, false}
 use Rattle.fak_model.specs.Queue.{count}
 use Rattle.fak_model.specs.Histories.{sum_below}
 use Rattle.fak_model.proofs.Leading.{sum_one, sum_term}
-use Rattle.fak_model.proofs.QueueCounts.{a_claim_in, a_claim_out}
+use Rattle.fak_model.proofs.QueueCounts.{a_claim_in, a_claim_out, an_over_in}
 use Rattle.fak_core.specs.declared.queue.phase.Phase.{Phase}
 use Rattle.fak_core.specs.declared.queue.phase.Phase.TheVariants as inner
 use Rattle.fak_core.proofs.Common.{arith, common_steps, sym, ap, ◌∙◌, subst, inl, inr, same_or_not}
@@ -13,7 +13,7 @@ use Rattle.fak_channel_core.specs.SleepMoves.{SleepPhase}
 use Rattle.fak_channel_core.specs.ChannelMoves.{ChannelPhase, Delete, Look, ChannelState, is_void}
 use Rattle.fak_channel_core.proofs.SleepKept.{SleepKept}
 use Rattle.fak_channel_core.proofs.ChannelCounts.{drained_claimed}
-use Rattle.fak_channel_core.proofs.ChannelKept.{item_of_end, Fits, IsDrained, item_at_end, cell_at_end, items_used, items_held, cells_used, ChannelKept}
+use Rattle.fak_channel_core.proofs.ChannelKept.{a_refusal, item_of_end, Fits, IsDrained, item_at_end, cell_at_end, items_used, items_held, cells_used, ChannelKept}
 
 -- all ends but e stand as before
 pub record Alike {A : Type 0} (s s' : ChannelState A) (e : ℕ) : Type 0 where
@@ -33,6 +33,9 @@ pub record Paid {A : Type 0} (s s' : ChannelState A) (e gain more loss : ℕ) : 
   pub stays : IsDrained s.queue → IsDrained s'.queue
   pub void : s'.queue.shut ≡ true → is_void s'.queue ≡ true → (0 < gain) ⊎ ((s.queue.shut ≡ true) × (is_void s.queue ≡ true))
   pub shut : s'.queue.shut ≡ true → (0 < more) ⊎ (s.queue.shut ≡ true)
+  pub opened : s'.queue.shut ≡ false → (s.queue.shut ≡ false) × (more ≡ 0)
+  pub refused : count a_refusal s'.queue.past ≡ 0
+  pub over : s'.queue.shut ≡ false → count an_over_in s'.queue.past ≡ 0
   pub look : (stays : Bool) → s'.at e ≡ Look stays → IsDrained s'.queue
   pub low : s'.queue.phase e ≢ inner.BackLow
   pub sub : IsDrained s'.queue → s'.queue.phase e ≢ inner.SubLow
@@ -116,6 +119,9 @@ module _ {A : Type 0} (n size room : ℕ) (s s' : ChannelState A) (e : ℕ) (l :
           | inl some ↦ omega arith
           | inr before ↦ (let strict = K.shut before in omega arith)
         ];
+        open_cells = λ is. let before = P.opened is in let even = K.open_cells before.0 in let none = before.1 in omega arith;
+        no_refusal = P.refused;
+        no_over = P.over;
         looks = λ k b q. elim (same_or_not k e) [
           | inl here ↦ P.look b (subst (λ j. s'.at j ≡ Look b) here q)
           | inr ne ↦ P.stays (K.looks k b (sym (like.at k ne) ∙ q))

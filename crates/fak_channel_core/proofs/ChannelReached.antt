@@ -1,5 +1,7 @@
 -- What holds of a channel in every reached state, and where only sleepers have open calls.
-use Rattle.std.specs.Prelude.{◌≡◌, ◌⊎◌, ℕ, ◌<◌, ◌≤◌, nat_lt, false, List, [], ◌∷◌, length}
+use Rattle.std.specs.Prelude.{Bool, ◌≡◌, ◌⊎◌, ℕ, ◌<◌, ◌≤◌, nat_lt, false, List, [], ◌∷◌, length}
+use Rattle.fak_model.specs.declared.queue.Kind.TheVariants as mark
+use Rattle.fak_model.proofs.QueueBackwards.{count_reverse}
 use Rattle.fak_model.specs.Queue.{count, puts, gots, contents}
 use Rattle.fak_model.specs.Histories.{sum_below}
 use Rattle.fak_model.proofs.Leading.{sum_none}
@@ -9,14 +11,14 @@ use Rattle.fak_core.proofs.Common.{arith, nat_tests, refl, ap, subst, inl, inr}
 use Rattle.fak_model.proofs.QueueCounts.{contents_bounded}
 use Rattle.fak_core.proofs.QueueSteps.{by_test, kept_opening}
 use Rattle.fak_core.proofs.QueueReached.{true_or_false}
-use Rattle.fak_channel_core.proofs.ChannelCounts.{Rested, rested, holds_none, holds_many, void_from}
+use Rattle.fak_channel_core.proofs.ChannelCounts.{has_counts, drained_empty, drained_quiet, Rested, rested, holds_none, holds_many, void_from}
 use Rattle.fak_channel_core.specs.SleepMoves.{SleepPhase, SleepEnd}
 use Rattle.fak_channel_core.specs.SleepMoves as sleep
 use Rattle.fak_channel_core.specs.SleepSchedule.{IsAsleep}
-use Rattle.fak_channel_core.specs.ChannelMoves.{ChannelPhase, Idle, TakeCell, TakeItem, ChannelState}
-use Rattle.fak_channel_core.specs.ChannelSchedule.{ChannelEvent, Sends, Receives, Closes, Expires, Steps, end_of, channel_opening, channel_event, channel_happens, channel_run, channel_reached, SendSleeps, ReceiveSleeps, OnlySleepersAreIn}
+use Rattle.fak_channel_core.specs.ChannelMoves.{Look, ChannelPhase, Idle, TakeCell, TakeItem, ChannelState}
+use Rattle.fak_channel_core.specs.ChannelSchedule.{HasNoOverClaim, IsClosedAndDrained, ChannelEvent, Sends, Receives, Closes, Expires, Steps, end_of, channel_opening, channel_event, channel_happens, channel_run, channel_reached, SendSleeps, ReceiveSleeps, OnlySleepersAreIn}
 use Rattle.fak_channel_core.proofs.SleepReached.{kept_sleep_opening, all_taken}
-use Rattle.fak_channel_core.proofs.ChannelKept.{item_of_end, cell_of_end, Fits, item_at_end, cell_at_end, ChannelKept}
+use Rattle.fak_channel_core.proofs.ChannelKept.{a_refusal, item_of_end, cell_of_end, Fits, item_at_end, cell_at_end, ChannelKept}
 use Rattle.fak_channel_core.proofs.ChannelSteps.{kept_channel_step, kept_sends, kept_receives, kept_closes, kept_expires}
 
 -- ---- every schedule
@@ -48,6 +50,9 @@ kept_channel_opening n size room z r =
       extra = λ more. absurd (omega arith);
       drained = λ is v. cc;
       shut = λ is. cc;
+      open_cells = λ is. omega arith;
+      no_refusal = refl;
+      no_over = λ is. refl;
       looks = λ e b q. cc;
       fits = λ e. (refl, refl, refl);
       no_low = λ e q. cc;
@@ -128,3 +133,25 @@ module _ {A : Type 0} (n size room : ℕ) (s : ChannelState A) (K : ChannelKept 
             | inr not_shut ↦ not_shut
           ],
         )
+
+-- ---- what the queue says
+
+module _ {A : Type 0} (n size room : ℕ) (s : ChannelState A) (K : ChannelKept n size room s) where
+  pub good_credits : HasNoOverClaim (history_of s.queue)
+  good_credits =
+      let back = count_reverse a_refusal s.queue.past in
+      let none = K.no_refusal in
+      record {
+        full = λ has. let some = has_counts a_refusal mark.NoRoom (history_of s.queue) refl has in omega arith;
+        over_in = λ has. let some = has_counts a_refusal mark.OverIn (history_of s.queue) refl has in omega arith;
+        over_out = λ has. let some = has_counts a_refusal mark.OverOut (history_of s.queue) refl has in omega arith;
+      }
+
+  pub looks_drained : (e : ℕ) (stays : Bool) → s.at e ≡ Look stays → IsClosedAndDrained s.queue
+  looks_drained e stays is_at =
+      let D = K.looks e stays is_at in
+      record {
+        closed = D.shut;
+        empty = holds_none s.queue (drained_empty size s.queue K.queue D);
+        quiet = λ k g. drained_quiet size s.queue k K.queue D g;
+      }

@@ -66,6 +66,9 @@ module _ {A : Type 0} (n size room : ℕ) (s : ChannelState A) (e : ℕ) (l : e 
         stays = λ D. D;
         void = λ is v. inr (is, v);
         shut = λ is. inr is;
+        opened = λ is. (is, refl);
+        refused = K.no_refusal;
+        over = K.no_over;
         look = λ b is. absurd (not_look b (sym y_is ∙ is));
         low = K.no_low e;
         sub = λ D. K.no_sub D e;
@@ -94,6 +97,9 @@ module _ {A : Type 0} (n size room : ℕ) (s : ChannelState A) (e : ℕ) (l : e 
         stays = λ D. D;
         void = λ is v. inr (is, v);
         shut = λ is. inr is;
+        opened = λ is. (is, refl);
+        refused = K.no_refusal;
+        over = K.no_over;
         look = λ b is. absurd (not_look b (sym y_is ∙ is));
         low = K.no_low e;
         sub = λ D. K.no_sub D e;
@@ -124,6 +130,9 @@ module _ {A : Type 0} (n size room : ℕ) (s : ChannelState A) (e : ℕ) (l : e 
         stays = λ D. D;
         void = λ is v. inr (is, v);
         shut = λ is. inr is;
+        opened = λ is. (is, refl);
+        refused = K.no_refusal;
+        over = K.no_over;
         look = λ b is. absurd (not_look b (sym y_is ∙ is));
         low = K.no_low e;
         sub = λ D. K.no_sub D e;

@@ -1,14 +1,18 @@
 -- Each event keeps the invariant, and so it holds of every reached state.
-use Rattle.std.specs.Prelude.{◌≡◌, ◌≢◌, ◌⊎◌, ℕ, ℤ, ◌+◌, ◌<◌, nat_lt, Bool, true, false, if◌then◌else◌, List, [], ◌∷◌}
+use Rattle.std.specs.Prelude.{pos, ◌≤◌, None, ◌≤ℤ◌, ◌-ℤ◌, ◌≡◌, ◌≢◌, ◌⊎◌, ℕ, ℤ, ◌+◌, ◌<◌, nat_lt, Bool, true, false, if◌then◌else◌, List, [], ◌∷◌}
+use Rattle.fak_model.specs.Queue.{count, puts, gots, lower_raise, lower_drop}
+use Rattle.fak_model.proofs.QueueCounts.{whole_counts}
+use Rattle.fak_model.specs.declared.queue.Stage.TheVariants as made
+use Rattle.fak_core.proofs.QueueKept.{shown}
 use Rattle.fak_model.specs.Histories.{sum_below}
-use Rattle.fak_model.proofs.Leading.{sum_none}
+use Rattle.fak_model.proofs.Leading.{sum_none, sum_term}
 use Rattle.fak_core.specs.declared.queue.phase.Phase.{Phase}
-use Rattle.fak_core.proofs.Common.{with_at, arith, nat_tests, common_steps, refl, sym, ap, ◌∙◌, subst, inl, inr}
+use Rattle.fak_core.proofs.Common.{ints, with_at, arith, nat_tests, common_steps, refl, sym, ap, ◌∙◌, subst, inl, inr}
 use Rattle.fak_core.proofs.QueueTurns.{by_place, le_or_lt}
 use Rattle.fak_core.proofs.QueueSteps.{by_test, kept_opening}
 use Rattle.fak_channel_core.specs.SleepMoves.{SleepPhase, Idle, TestDown, Down, Parking, Sleeping, TakeBack, GiveUp, Up, Waking, Marking, SleepEnd, SleepState, wake_end, woken_end, step_at, sleep_step, begin_pass, begin_give, expire}
-use Rattle.fak_channel_core.specs.SleepSchedule.{SleepEvent, Passes, Tries, Gives, Expires, Steps, end_of, sleep_opening, sleep_event, sleep_happens, sleep_run, sleep_reached, IsAsleep, OnlySleepers}
-use Rattle.fak_channel_core.proofs.SleepKept.{available, lacking, parks, owes, gives, credit, due, holds, live, StandsIn, Stands, IsUnused, SleepKept}
+use Rattle.fak_channel_core.specs.SleepSchedule.{OwesUnclaimed, IsUnclaimed, OnlySleepersAndGivers, SleepEvent, Passes, Tries, Gives, Expires, Steps, end_of, sleep_opening, sleep_event, sleep_happens, sleep_run, sleep_reached, IsAsleep, OnlySleepers}
+use Rattle.fak_channel_core.proofs.SleepKept.{Deleting, available, lacking, parks, owes, gives, credit, due, holds, live, StandsIn, Stands, IsUnused, SleepKept}
 use Rattle.fak_channel_core.proofs.SleepPlaces.{sum_end}
 use Rattle.fak_channel_core.proofs.SleepTokens.{held_waits, tokens_left, tokens_among}
 use Rattle.fak_channel_core.proofs.SleepSteps.{an_end, stands_of, due_unwoken, kept_test_down, kept_down, kept_sleep, kept_take_back, kept_give_up, kept_up, kept_begin_pass, kept_begin_give}
@@ -248,3 +252,53 @@ all_taken n room start s e K only sleeps =
     let c = K.credits in
     let short : 0 < lacking s.count = omega arith in
     let none = lacks_all s.count short in omega arith
+
+-- ---- where all others wait
+
+pub few_passes : (n room start : ℕ) (s : SleepState) → SleepKept n room start s → s.passed ≤ start + s.given
+few_passes n room start s K = let c = K.credits in omega arith
+
+giver_parks : (s : SleepState) (e : ℕ) → (Rests (s.ends e) ⊎ OwesUnclaimed s e) → parks (s.ends e).at (s.ends e).out ≡ 0
+giver_parks s e (inl r) = idle_parks (s.ends e) r
+giver_parks s e (inr o) = ap (λ p. parks p (s.ends e).out) o.0
+
+rests_or_owes : (s : SleepState) (e : ℕ) → ((s.ends e).at ≡ Idle) ⊎ (IsAsleep (s.ends e) ⊎ OwesUnclaimed s e) → Rests (s.ends e) ⊎ OwesUnclaimed s e
+rests_or_owes s e (inl i) = inl (inl i)
+rests_or_owes s e (inr (inl i)) = inl (inr i)
+rests_or_owes s e (inr (inr o)) = inr o
+
+-- the wait queue has no granted call there
+unclaimed_shown : (e : ℕ) (p : Phase ℕ) → Deleting None p → IsUnclaimed p → shown p ≡ made.Idle
+unclaimed_shown e p d u = grind (arith, common_steps)
+
+rests_shown : (e : ℕ) (x : SleepEnd) (p : Phase ℕ) → StandsIn e x p → Rests x → shown p ≡ made.Idle
+rests_shown e x p st (inl i) = let known = subst (λ q. Stands e q x.out x.woken x.cancelled p) i st in ap shown known.1
+rests_shown e x p st (inr i) = let known = subst (λ q. Stands e q x.out x.woken x.cancelled p) i.0 st in ap shown known.2
+
+shown_idle : (n room start : ℕ) (s : SleepState) (e : ℕ) → SleepKept n room start s → (Rests (s.ends e) ⊎ OwesUnclaimed s e) → shown (s.waits.phase e) ≡ made.Idle
+shown_idle n room start s e K (inl r) = rests_shown e (s.ends e) (s.waits.phase e) (K.stands e) r
+shown_idle n room start s e K (inr o) =
+    let x = s.ends e in
+    let known = subst (λ q. Stands e q x.out x.woken x.cancelled (s.waits.phase e)) o.0 (K.stands e) in unclaimed_shown e (s.waits.phase e) known.1 o.1
+
+at_least_one : (l : ℤ) (r d p g : ℕ) → l ≡ pos r -ℤ pos d → r + g ≡ d + p → g < p → pos 1 ≤ℤ l
+at_least_one l r d p g is even more = omega (arith, ints)
+
+not_waking : (p : SleepPhase) → p ≡ Waking None → p ≡ Idle → ⊥
+not_waking p is is' = cc
+
+owes_used : (n room start : ℕ) (s : SleepState) (t : ℕ) → SleepKept n room start s → (s.ends t).at ≡ Waking None → t < n
+owes_used n room start s t K is = elim (le_or_lt n t) [
+  | inl b ↦ (let unused = K.beyond t b in absurd (not_waking (s.ends t).at is unused.0))
+  | inr l ↦ l
+]
+
+pub token_there : (n room start : ℕ) (s : SleepState) (e : ℕ) → SleepKept n room start s → OnlySleepersAndGivers s → OwesUnclaimed s e → pos 1 ≤ℤ s.waits.lower
+token_there n room start s e K only owed =
+    let none_parks : sum_below (λ k. parks (s.ends k).at (s.ends k).out) n ≡ 0 = sum_none (λ k. parks (s.ends k).at (s.ends k).out) n (λ k. giver_parks s k (rests_or_owes s k (only k))) in
+    let in_use : e < n = owes_used n room start s e K owed.0 in
+    let one : owes (s.ends e).at ≡ 1 = ap owes owed.0 in
+    let term = sum_term (λ k. owes (s.ends k).at) e n in_use in
+    let b = K.balance in
+    let whole = whole_counts room s.waits.past K.waits.legal (λ k. sym (K.waits.phases k) ∙ shown_idle n room start s k K (rests_or_owes s k (only k))) in
+    at_least_one s.waits.lower (count lower_raise s.waits.past) (count lower_drop s.waits.past) (count puts s.waits.past) (count gots s.waits.past) K.waits.lower whole.1 (omega arith)

@@ -1,5 +1,11 @@
 -- Schedules of a channel whose threads sleep, and the states that they reach.
-use Rattle.std.specs.Prelude.{ℕ, ◌≡◌, ◌⊎◌, Bool, if◌then◌else◌, nat_lt, List, [], ◌∷◌}
+use Rattle.std.specs.Prelude.{ℕ, ◌≡◌, ◌⊎◌, Bool, true, if◌then◌else◌, nat_lt, List, [], ◌∷◌}
+use Rattle.fak_model.specs.declared.queue.Kind.TheVariants.{NoRoom, OverIn, OverOut}
+use Rattle.fak_model.specs.declared.queue.Mark.{Mark}
+use Rattle.fak_model.specs.Queue.{Has, contents}
+use Rattle.fak_core.specs.declared.queue.phase.Phase.{Phase}
+use Rattle.fak_core.specs.declared.queue.phase.Phase.TheVariants.{TicketIn, TurnIn, StoreItem, SetFull, EndInsert, TicketOut, TurnOut, LoadItem, SetFree, EndDelete}
+use Rattle.fak_core.specs.QueueMoves.{QueueState, history_of}
 use Rattle.fak_core.specs.QueueSchedule.{opening as empty_queue}
 use Rattle.fak_channel_core.specs.SleepSchedule.{sleep_opening, IsAsleep}
 use Rattle.fak_channel_core.specs.ChannelMoves.{Idle, TakeCell, TakeItem, Shutting, ChannelState, channel_step, begin_call, expire_in}
@@ -56,3 +62,31 @@ ReceiveSleeps s e = (stays : Bool) × (s.at e ≡ TakeItem stays) × IsAsleep (s
 -- only ends that sleep have open calls
 abbrev pub OnlySleepersAreIn : {A : Type 0} → ChannelState A → Type 0
 OnlySleepersAreIn s = (e : ℕ) → (s.at e ≡ Idle) ⊎ (SendSleeps s e ⊎ ReceiveSleeps s e)
+
+-- ---- what a channel's queue says
+
+-- the end's insertion or deletion is granted, and has not ended
+abbrev pub IsGranted : {A : Type 0} → Phase A → Type 0
+IsGranted (TicketIn x) = Unit {0}
+IsGranted (TurnIn k x) = Unit {0}
+IsGranted (StoreItem k x) = Unit {0}
+IsGranted (SetFull k x) = Unit {0}
+IsGranted (EndInsert k) = Unit {0}
+IsGranted TicketOut = Unit {0}
+IsGranted (TurnOut k) = Unit {0}
+IsGranted (LoadItem k) = Unit {0}
+IsGranted (SetFree k) = Unit {0}
+IsGranted (EndDelete k) = Unit {0}
+IsGranted _ = ⊥
+
+-- the queue is shut and empty, and no granted call is open
+pub record IsClosedAndDrained {A : Type 0} (q : QueueState A) : Type 0 where
+  pub closed : q.shut ≡ true
+  pub empty : contents (history_of q) ≡ []
+  pub quiet : (e : ℕ) → IsGranted (q.phase e) → ⊥
+
+-- the history has no insertion that found the queue full, and none that claimed too much; nor has it such a deletion
+pub record HasNoOverClaim {A : Type 0} (h : List (Mark A)) : Type 0 where
+  pub full : Has NoRoom h → ⊥
+  pub over_in : Has OverIn h → ⊥
+  pub over_out : Has OverOut h → ⊥

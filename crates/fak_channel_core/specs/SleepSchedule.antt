@@ -1,7 +1,9 @@
 -- Schedules of a semaphore whose threads sleep, and the states that they reach.
-use Rattle.std.specs.Prelude.{ℕ, ◌≡◌, ◌⊎◌, pos, true, false, if◌then◌else◌, nat_lt, List, [], ◌∷◌}
+use Rattle.std.specs.Prelude.{ℕ, ◌≡◌, ◌⊎◌, pos, true, false, if◌then◌else◌, nat_lt, None, List, [], ◌∷◌}
+use Rattle.fak_core.specs.declared.queue.phase.Phase.{Phase}
+use Rattle.fak_core.specs.declared.queue.phase.Phase.TheVariants as queue
 use Rattle.fak_core.specs.QueueSchedule.{opening as empty_queue}
-use Rattle.fak_channel_core.specs.SleepMoves.{Idle, Sleeping, SleepEnd, SleepState, sleep_step, begin_pass, begin_give, expire}
+use Rattle.fak_channel_core.specs.SleepMoves.{Waking, Idle, Sleeping, SleepEnd, SleepState, sleep_step, begin_pass, begin_give, expire}
 
 -- no call is open, and no token is out
 abbrev pub fresh_end : SleepEnd
@@ -56,3 +58,18 @@ IsAsleep x = (x.at ≡ Sleeping) × (x.woken ≡ false)
 -- only ends that are asleep have open calls
 abbrev pub OnlySleepers : SleepState → Type 0
 OnlySleepers s = (e : ℕ) → ((s.ends e).at ≡ Idle) ⊎ IsAsleep (s.ends e)
+
+-- a deletion that is not granted yet, or nothing
+abbrev pub IsUnclaimed : Phase ℕ → Type 0
+IsUnclaimed queue.Idle = Unit {0}
+IsUnclaimed queue.TestLow = Unit {0}
+IsUnclaimed queue.SubLow = Unit {0}
+IsUnclaimed _ = ⊥
+
+-- the end owes a wake, and has claimed no token yet
+abbrev pub OwesUnclaimed : SleepState → ℕ → Type 0
+OwesUnclaimed s e = ((s.ends e).at ≡ Waking None) × IsUnclaimed (s.waits.phase e)
+
+-- each end is idle, asleep, or owes a wake
+abbrev pub OnlySleepersAndGivers : SleepState → Type 0
+OnlySleepersAndGivers s = (e : ℕ) → ((s.ends e).at ≡ Idle) ⊎ (IsAsleep (s.ends e) ⊎ OwesUnclaimed s e)

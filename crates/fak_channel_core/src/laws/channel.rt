@@ -1,9 +1,11 @@
 //! The laws of a channel whose threads sleep, for every number of ends, every size and every schedule.
 
-ghost use Rattle.std.specs.Prelude.{◌≡◌, ℕ, ◌<◌, List, [], length, false};
-ghost use Rattle.fak_model.specs.Queue.{contents};
+ghost use Rattle.std.specs.Prelude.{◌≡◌, ℕ, ◌<◌, List, [], length, false, true, Bool};
+ghost use Rattle.fak_model.specs.Queue.{IsQueueHistory, contents};
 ghost use Rattle.fak_core.specs.QueueMoves.{history_of};
-ghost use Rattle.fak_channel_core.specs.ChannelSchedule.{ChannelEvent, OnlySleepersAreIn, ReceiveSleeps, SendSleeps, channel_reached};
+ghost use Rattle.fak_channel_core.specs.ChannelMoves.{ChannelState, Delete, Insert, Look, TakeCell, TakeItem, channel_step};
+ghost use Rattle.fak_channel_core.specs.ChannelSchedule.{ChannelEvent, HasNoOverClaim, IsClosedAndDrained, OnlySleepersAreIn, ReceiveSleeps, SendSleeps, channel_reached};
+ghost use Rattle.fak_channel_core.specs.SleepMoves.{Sleeping};
 
 /// No wake-up is lost. Where only sleepers have open calls, a receiver sleeps only if the queue is empty and not shut, and
 /// a sender only if the queue is full and not shut.
@@ -16,4 +18,35 @@ pub fn nobody_sleeps_beside_work<T>()
         → OnlySleepersAreIn (channel_reached n size room schedule) → SendSleeps (channel_reached n size room schedule) e
         → (length (contents (history_of (channel_reached n size room schedule).queue)) ≡ size)
         × ((channel_reached n size room schedule).queue.shut ≡ false) }
+{}
+
+/// The marks of a channel's queue are a legal history of a queue of that size, whatever the schedule.
+pub fn every_channel_schedule_is_legal<T>()
+    ensures { (n size room : ℕ) (schedule : List (ChannelEvent T)) → 0 < size → 0 < room
+        → IsQueueHistory size (history_of (channel_reached n size room schedule).queue) }
+{}
+
+/// Who has passed is not refused by an over-claim: no insertion finds the queue full, and no insertion or deletion claims
+/// too much.
+pub fn a_credit_is_good<T>()
+    ensures { (n size room : ℕ) (schedule : List (ChannelEvent T)) → 0 < size → 0 < room
+        → HasNoOverClaim (history_of (channel_reached n size room schedule).queue) }
+{}
+
+/// A receive that has passed and finds no item finds the channel closed and drained: the queue is shut and empty, and no
+/// granted insertion or deletion is open.
+pub fn only_a_drained_channel_has_no_item<T>()
+    ensures { (n size room e : ℕ) (stays : Bool) (schedule : List (ChannelEvent T)) → 0 < size → 0 < room
+        → (channel_reached n size room schedule).at e ≡ Look stays
+        → IsClosedAndDrained (channel_reached n size room schedule).queue }
+{}
+
+/// An end that was woken goes on at its next step, in any state.
+pub fn a_woken_end_goes_on<T>()
+    ensures sender { (size room e : ℕ) (s : ChannelState T) (stays : Bool) (x : T) → s.at e ≡ TakeCell stays x
+        → (s.cells.ends e).at ≡ Sleeping → (s.cells.ends e).woken ≡ true
+        → (channel_step size room s e).at e ≡ Insert stays x }
+    ensures receiver { (size room e : ℕ) (s : ChannelState T) (stays : Bool) → s.at e ≡ TakeItem stays
+        → (s.items.ends e).at ≡ Sleeping → (s.items.ends e).woken ≡ true
+        → (channel_step size room s e).at e ≡ Delete stays }
 {}
