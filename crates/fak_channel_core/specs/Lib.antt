@@ -2,3 +2,4 @@ pub mod SleepMoves
 pub mod SleepSchedule
 pub mod ChannelMoves
 pub mod ChannelSchedule
+pub mod ChannelExamples

@@ -2,4 +2,5 @@
 //! definitions alone.
 
 pub mod channel;
+pub mod examples;
 pub mod semaphore;

@@ -1,0 +1,93 @@
+-- Known schedules of channels with one cell and three ends, on either side of the definitions.
+use Rattle.std.specs.Prelude.{ℕ, true, false, List, [], ◌∷◌, ◌++◌, replicate}
+use Rattle.fak_channel_core.specs.ChannelMoves.{ChannelState}
+use Rattle.fak_channel_core.specs.ChannelSchedule.{ChannelEvent, Sends, Receives, Closes, Expires, Steps, channel_reached}
+
+-- this many steps of an end
+abbrev pub steps_of : ℕ → ℕ → List (ChannelEvent ℕ)
+steps_of e n = replicate n (Steps e)
+
+-- where a schedule of such a channel leads
+abbrev pub after : List (ChannelEvent ℕ) → ChannelState ℕ
+after events = channel_reached 3 1 3 events
+
+-- end 0 receives, and sleeps
+abbrev pub receiver_sleeps : List (ChannelEvent ℕ)
+receiver_sleeps = Receives 0 true ∷ steps_of 0 10
+
+-- end 1 sends 7, and wakes end 0
+abbrev pub sender_wakes : List (ChannelEvent ℕ)
+sender_wakes = receiver_sleeps ++ Sends 1 true 7 ∷ steps_of 1 21
+
+-- the last step of that send, which marks the word of end 0, is left
+abbrev pub sender_owes : List (ChannelEvent ℕ)
+sender_owes = receiver_sleeps ++ Sends 1 true 7 ∷ steps_of 1 20
+
+-- end 0 has the item
+abbrev pub receiver_ends : List (ChannelEvent ℕ)
+receiver_ends = sender_wakes ++ steps_of 0 11
+
+-- end 1 fills the channel, and end 2 sleeps with its item
+abbrev pub sender_sleeps : List (ChannelEvent ℕ)
+sender_sleeps = Sends 1 true 7 ∷ steps_of 1 12 ++ Sends 2 true 9 ∷ steps_of 2 10
+
+-- end 0 receives 7, and wakes end 2
+abbrev pub receiver_wakes : List (ChannelEvent ℕ)
+receiver_wakes = sender_sleeps ++ Receives 0 true ∷ steps_of 0 21
+
+-- end 1 closes the empty channel beside the sleeping receiver, which ends
+abbrev pub close_wakes_receiver : List (ChannelEvent ℕ)
+close_wakes_receiver = receiver_sleeps ++ Closes 1 ∷ steps_of 1 15
+
+abbrev pub receiver_is_told : List (ChannelEvent ℕ)
+receiver_is_told = close_wakes_receiver ++ steps_of 0 3
+
+-- end 0 closes the full channel beside the sleeping sender
+abbrev pub close_wakes_sender : List (ChannelEvent ℕ)
+close_wakes_sender = sender_sleeps ++ Closes 0 ∷ steps_of 0 13
+
+-- the deadline of end 0 comes, and its token stays; end 2 sleeps behind it
+abbrev pub deadline_comes : List (ChannelEvent ℕ)
+deadline_comes = receiver_sleeps ++ Expires 0 ∷ Receives 2 true ∷ steps_of 2 10
+
+-- end 1 sends 7: it takes the token of end 0, and then that of end 2
+abbrev pub give_is_repeated : List (ChannelEvent ℕ)
+give_is_repeated = deadline_comes ++ Sends 1 true 7 ∷ steps_of 1 31
+
+-- the deadline of end 0 comes after its wake
+abbrev pub deadline_is_late : List (ChannelEvent ℕ)
+deadline_is_late = sender_wakes ++ Expires 0 ∷ []
+
+-- end 0 tries to receive from the empty channel
+abbrev pub try_is_refused : List (ChannelEvent ℕ)
+try_is_refused = Receives 0 false ∷ steps_of 0 2
+
+-- end 0 receives again by a token that was taken meanwhile
+abbrev pub token_is_gone : List (ChannelEvent ℕ)
+token_is_gone = give_is_repeated ++ Receives 0 true ∷ steps_of 0 2
+
+-- end 1 closes the channel while end 0 has the credit of the last item and end 2 sleeps; end 0 takes the item
+abbrev pub last_item_waits : List (ChannelEvent ℕ)
+last_item_waits = Sends 1 true 7 ∷ steps_of 1 12 ++ Receives 0 true ∷ steps_of 0 2 ++ Receives 2 true ∷ steps_of 2 10 ++ Closes 1 ∷ steps_of 1 4
+
+abbrev pub last_item_wakes : List (ChannelEvent ℕ)
+last_item_wakes = last_item_waits ++ steps_of 0 21
+
+-- end 1 has found room and end 0 closes the channel; end 1 claims too late, end 2 finds the channel not drained and sleeps;
+-- end 1 withdraws its claim
+abbrev pub late_claim_waits : List (ChannelEvent ℕ)
+late_claim_waits = Sends 1 true 7 ∷ steps_of 1 4 ++ Closes 0 ∷ steps_of 0 6 ++ steps_of 1 1 ++ Receives 2 true ∷ steps_of 2 15
+
+abbrev pub late_claim_wakes : List (ChannelEvent ℕ)
+late_claim_wakes = late_claim_waits ++ steps_of 1 14
+
+-- ends 0 and 2 sleep; end 1 closes the channel and wakes end 0, which wakes end 2
+abbrev pub second_receiver_wakes : List (ChannelEvent ℕ)
+second_receiver_wakes = receiver_sleeps ++ Receives 2 true ∷ steps_of 2 10 ++ Closes 1 ∷ steps_of 1 15 ++ steps_of 0 15
+
+-- ends 2 and 0 sleep beside the full channel; end 1 closes it and wakes end 2, which wakes end 0
+abbrev pub second_sender_waits : List (ChannelEvent ℕ)
+second_sender_waits = sender_sleeps ++ Sends 0 true 5 ∷ steps_of 0 10 ++ Closes 1 ∷ steps_of 1 13
+
+abbrev pub second_sender_wakes : List (ChannelEvent ℕ)
+second_sender_wakes = second_sender_waits ++ steps_of 2 14

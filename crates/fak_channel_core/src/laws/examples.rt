@@ -1,0 +1,70 @@
+//! Known schedules on either side of the definitions.
+
+ghost use Rattle.std.specs.Prelude.{◌≡◌, ◌∷◌, [], ◌++◌, true, false, negsuc, pos};
+ghost use Rattle.fak_model.specs.Queue.{contents};
+ghost use Rattle.fak_core.specs.QueueMoves.{history_of};
+ghost use Rattle.fak_channel_core.specs.ChannelExamples.{after, close_wakes_receiver, close_wakes_sender, deadline_comes, deadline_is_late, give_is_repeated, last_item_waits, last_item_wakes, late_claim_waits, late_claim_wakes, receiver_ends, receiver_is_told, receiver_sleeps, receiver_wakes, second_receiver_wakes, second_sender_waits, second_sender_wakes, sender_owes, sender_sleeps, sender_wakes, token_is_gone, try_is_refused};
+ghost use Rattle.fak_channel_core.specs.ChannelMoves.{Delete, Idle, Look, TakeCell, TakeItem};
+ghost use Rattle.fak_channel_core.specs.ChannelSchedule.{OnlySleepersAreIn, ReceiveSleeps, SendSleeps};
+ghost use Rattle.fak_channel_core.specs.SleepMoves.{Down};
+
+/// A receiver sleeps on the empty channel, and only sleepers have open calls. A send wakes it, and it takes the item. Before
+/// the last step of that send the receiver is asleep beside the item, but the sender's call is open.
+pub fn a_send_wakes_a_receiver()
+    ensures sleeps { ReceiveSleeps (after receiver_sleeps) 0 }
+    ensures rest { OnlySleepersAreIn (after receiver_sleeps) }
+    ensures beside { ReceiveSleeps (after sender_owes) 0
+        × (contents (history_of (after sender_owes).queue) ≡ 7 ∷ []) }
+    ensures open { OnlySleepersAreIn (after sender_owes) → ⊥ }
+    ensures owed { (after receiver_sleeps).items.count ≡ negsuc 0 }
+    ensures woken { ReceiveSleeps (after sender_wakes) 0 → ⊥ }
+    ensures sent { ((after sender_wakes).at 1 ≡ Idle) × (contents (history_of (after sender_wakes).queue) ≡ 7 ∷ []) }
+    ensures ends { ((after receiver_ends).at 0 ≡ Idle) × (contents (history_of (after receiver_ends).queue) ≡ []) }
+{}
+
+/// A sender sleeps beside the full channel, and a receive wakes it.
+pub fn a_receive_wakes_a_sender()
+    ensures sleeps { SendSleeps (after sender_sleeps) 2 }
+    ensures full { contents (history_of (after sender_sleeps).queue) ≡ 7 ∷ [] }
+    ensures woken { ((after receiver_wakes).cells.ends 2).woken ≡ true }
+    ensures awake { SendSleeps (after receiver_wakes) 2 → ⊥ }
+{}
+
+/// A close wakes a receiver of an empty channel, which finds it drained, and a sender beside a full one.
+pub fn a_close_wakes_either_side()
+    ensures receiver { ReceiveSleeps (after close_wakes_receiver) 0 → ⊥ }
+    ensures closer { ((after close_wakes_receiver).at 1 ≡ Idle) × ((after close_wakes_receiver).queue.shut ≡ true) }
+    ensures told { (after receiver_is_told).at 0 ≡ Look true }
+    ensures sender { SendSleeps (after close_wakes_sender) 2 → ⊥ }
+{}
+
+/// A deadline ends a receive and leaves its token. A send that takes this token wakes the receiver behind it. A deadline
+/// that comes after the wake changes nothing: the receive goes on.
+pub fn a_deadline_loses_no_wake_up()
+    ensures out { ((after deadline_comes).at 0 ≡ Idle) × (((after deadline_comes).items.ends 0).out ≡ true) }
+    ensures sleeps { ReceiveSleeps (after deadline_comes) 2 }
+    ensures woken { ReceiveSleeps (after give_is_repeated) 2 → ⊥ }
+    ensures sent { (after give_is_repeated).at 1 ≡ Idle }
+    ensures gone { ((after token_is_gone).items.ends 0).at ≡ Down true }
+    ensures late { (after deadline_is_late).at 0 ≡ Delete true }
+    ensures refused { ((after try_is_refused).at 0 ≡ Idle) × ((after try_is_refused).items.count ≡ pos 0) }
+{}
+
+/// Where a shut queue is drained later, by the last deletion or by the withdrawal of a claim that came too late, this wakes
+/// a receiver.
+pub fn whoever_drains_the_queue_wakes_a_receiver()
+    ensures waits { ReceiveSleeps (after last_item_waits) 2 }
+    ensures wakes { ((after last_item_wakes).at 0 ≡ Idle) × (((after last_item_wakes).items.ends 2).woken ≡ true) }
+    ensures late { ReceiveSleeps (after late_claim_waits) 2 }
+    ensures withdrawn { ((after late_claim_wakes).at 1 ≡ Idle)
+        × (((after late_claim_wakes).items.ends 2).woken ≡ true) }
+{}
+
+/// Of several sleepers a close wakes the first, and each wakes the next.
+pub fn each_that_is_told_wakes_the_next()
+    ensures receivers { ((after second_receiver_wakes).at 0 ≡ Idle)
+        × (((after second_receiver_wakes).items.ends 2).woken ≡ true) }
+    ensures sleeps { SendSleeps (after second_sender_waits) 0 }
+    ensures senders { ((after second_sender_wakes).at 2 ≡ Idle)
+        × (((after second_sender_wakes).cells.ends 0).woken ≡ true) }
+{}
