@@ -12,3 +12,5 @@ pub mod ChannelQueueSteps
 pub mod SleepMoved
 pub mod ChannelSteps
 pub mod ChannelReached
+pub mod SleepProgress
+pub mod ChannelProgress

@@ -281,7 +281,7 @@ shown_idle n room start s e K (inr o) =
     let x = s.ends e in
     let known = subst (λ q. Stands e q x.out x.woken x.cancelled (s.waits.phase e)) o.0 (K.stands e) in unclaimed_shown e (s.waits.phase e) known.1 o.1
 
-at_least_one : (l : ℤ) (r d p g : ℕ) → l ≡ pos r -ℤ pos d → r + g ≡ d + p → g < p → pos 1 ≤ℤ l
+pub at_least_one : (l : ℤ) (r d p g : ℕ) → l ≡ pos r -ℤ pos d → r + g ≡ d + p → g < p → pos 1 ≤ℤ l
 at_least_one l r d p g is even more = omega (arith, ints)
 
 not_waking : (p : SleepPhase) → p ≡ Waking None → p ≡ Idle → ⊥

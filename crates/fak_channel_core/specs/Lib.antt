@@ -3,3 +3,4 @@ pub mod SleepSchedule
 pub mod ChannelMoves
 pub mod ChannelSchedule
 pub mod ChannelExamples
+pub mod ChannelProgress

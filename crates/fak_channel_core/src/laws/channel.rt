@@ -3,7 +3,8 @@
 ghost use Rattle.std.specs.Prelude.{◌≡◌, ℕ, ◌<◌, List, [], length, false, true, Bool};
 ghost use Rattle.fak_model.specs.Queue.{IsQueueHistory, contents};
 ghost use Rattle.fak_core.specs.QueueMoves.{history_of};
-ghost use Rattle.fak_channel_core.specs.ChannelMoves.{ChannelState, Delete, Insert, Look, TakeCell, TakeItem, channel_step};
+ghost use Rattle.fak_channel_core.specs.ChannelMoves.{ChannelState, Delete, Idle, Insert, Look, TakeCell, TakeItem, channel_step};
+ghost use Rattle.fak_channel_core.specs.ChannelProgress.{SomeEndMoves, WaitsHaveRoom};
 ghost use Rattle.fak_channel_core.specs.ChannelSchedule.{ChannelEvent, HasNoOverClaim, IsClosedAndDrained, OnlySleepersAreIn, ReceiveSleeps, SendSleeps, channel_reached};
 ghost use Rattle.fak_channel_core.specs.SleepMoves.{Sleeping};
 
@@ -49,4 +50,15 @@ pub fn a_woken_end_goes_on<T>()
     ensures receiver { (size room e : ℕ) (s : ChannelState T) (stays : Bool) → s.at e ≡ TakeItem stays
         → (s.items.ends e).at ≡ Sleeping → (s.items.ends e).woken ≡ true
         → (channel_step size room s e).at e ≡ Delete stays }
+{}
+
+/// A channel never locks up: while an end's call is open and it is not asleep, some end's next step moves its own call
+/// forward, where the wait queues have room.
+pub fn a_channel_never_locks_up<T>()
+    ensures { (n size room e : ℕ) (schedule : List (ChannelEvent T)) → 0 < size → 0 < room
+        → WaitsHaveRoom room (channel_reached n size room schedule)
+        → ((channel_reached n size room schedule).at e ≡ Idle → ⊥)
+        → (SendSleeps (channel_reached n size room schedule) e → ⊥)
+        → (ReceiveSleeps (channel_reached n size room schedule) e → ⊥)
+        → SomeEndMoves n size room (channel_reached n size room schedule) }
 {}

@@ -18,6 +18,7 @@ pub fn a_send_wakes_a_receiver()
     ensures open { OnlySleepersAreIn (after sender_owes) → ⊥ }
     ensures owed { (after receiver_sleeps).items.count ≡ negsuc 0 }
     ensures woken { ReceiveSleeps (after sender_wakes) 0 → ⊥ }
+    ensures paid { (after sender_wakes).items.count ≡ pos 0 }
     ensures sent { ((after sender_wakes).at 1 ≡ Idle) × (contents (history_of (after sender_wakes).queue) ≡ 7 ∷ []) }
     ensures ends { ((after receiver_ends).at 0 ≡ Idle) × (contents (history_of (after receiver_ends).queue) ≡ []) }
 {}
@@ -52,7 +53,7 @@ pub fn a_deadline_loses_no_wake_up()
 
 /// Where a shut queue is drained later, by the last deletion or by the withdrawal of a claim that came too late, this wakes
 /// a receiver.
-pub fn whoever_drains_the_queue_wakes_a_receiver()
+pub fn a_drained_queue_wakes_a_receiver()
     ensures waits { ReceiveSleeps (after last_item_waits) 2 }
     ensures wakes { ((after last_item_wakes).at 0 ≡ Idle) × (((after last_item_wakes).items.ends 2).woken ≡ true) }
     ensures late { ReceiveSleeps (after late_claim_waits) 2 }
