@@ -39,3 +39,4 @@ pub mod BurstClaimsOut
 pub mod BundleTurns
 pub mod BundleLists
 pub mod BundleFilling
+pub mod BundleEnding

@@ -118,6 +118,21 @@ pub record FillsOn {T : Type 0} (size seats : ℕ) (names : List ℕ) (k lo fill
 abbrev pub IsEarly : {T : Type 0} → ℕ → ℕ → QueueHolder T → Type 0
 IsEarly size t after = (earlier : ℕ) × (t ≡ earlier + size) × (Has (made.Take earlier) (reverse after.0.seen) → ⊥)
 
+-- what a name makes from its cell on
+abbrev pub filled_at : {T : Type 0} → ℕ → ℕ → List (Kind T)
+filled_at k i = made.Fill (k + i) ∷ made.EndIn ∷ []
+
+abbrev pub taken_at : {T : Type 0} → ℕ → ℕ → List (Kind T)
+taken_at k i = made.Take (k + i) ∷ made.EndOut ∷ []
+
+-- the names from lo on filled their cells and ended their insertions, until one's turn had not come
+pub record FilledOn {T : Type 0} (size seats : ℕ) (names : List ℕ) (k lo filled granted : ℕ) (was kept : List T) (m after : QueueHolder T) : Type 0 where
+  pub marks : MadeFrom size seats names lo filled (filled_at k) m after
+  pub stands : filled < granted → Filling names k filled filled granted kept after.0
+  pub rests : granted ≤ filled → after.0.phase ≡ Some (Alike Idle)
+  pub slots : after.1 ≡ []
+  pub kept_are : kept ≡ drop (filled - lo) was
+
 -- the cells of the names from lo on were emptied into `got`, until one's turn had not come
 pub record EmptiesOn {T : Type 0} (size seats : ℕ) (names : List ℕ) (k lo taken granted : ℕ) (got : List T) (m after : QueueHolder T) : Type 0 where
   pub marks : MadeFrom size seats names lo taken (takes_at k) m after
