@@ -1,18 +1,17 @@
 -- The names of a bundle from one number to another end their calls together.
-use Rattle.std.specs.Prelude.{zero, suc, take, drop, slice_range, slice_index_or, min}
+use Rattle.std.specs.Prelude.{take, drop, slice_range, slice_index_or, min}
 use Rattle.std.proofs.lemmas.List.{append-nil, length-take, length-drop, take-append-drop}
 use Rattle.fak_model.specs.declared.queue.Kind.TheVariants as made
 use Rattle.fak_model.specs.Shown.{Leaves}
-use Rattle.fak_model.proofs.Deciding.{same_or_not}
-use Rattle.fak_core.specs.declared.queue.phase.Phase.TheVariants.{Idle, TurnIn, EndInsert, TurnOut, EndDelete}
+use Rattle.fak_core.specs.declared.queue.phase.Phase.TheVariants.{Idle, TurnIn, EndInsert}
 use Rattle.fak_core.specs.QueueBlocks.{Posts, names_of, AreApart, all_at, marks_back}
 use Rattle.fak_core.proofs.QueueBlocks.{apart_left, apart_right}
-use Rattle.fak_queue.specs.Bursts.{AllIn, Makes, EndedBurst, EndedOutBurst, once_rest, posts_to, tickets_of}
-use Rattle.fak_queue.specs.Bundles.{SaysOf, IsLawful, MadeFrom, Filling, FillsOn, FilledOn, fills_at, filled_at}
+use Rattle.fak_queue.specs.Bursts.{AllIn, Makes, EndedBurst, once_rest, posts_to, tickets_of}
+use Rattle.fak_queue.specs.Bundles.{SaysOf, MadeFrom, Filling, FillsOn, FilledOn, fills_at, filled_at}
 use Rattle.fak_queue.proofs.BurstNames.{all_of, makes_step, begins_trans}
-use Rattle.fak_queue.proofs.BurstPosts.{in_or_not, posts_here, posts_else}
+use Rattle.fak_queue.proofs.BurstPosts.{posts_here, posts_else}
 use Rattle.fak_queue.proofs.BundleLists.{item_in, item_is, item_low, item_drop, item_take, number_of, one_number, tickets_names, tickets_length, in_tickets, marks_on, marks_turned, no_marks, ticket_mark}
-use Rattle.fak_queue.proofs.Common.{Standing, Alike, Each, QueueView, QueueHolder, queue_object, Kind, Mark, Phase, IsPost, mark, seat_of, made_by, marks_of, item_at, In, ◌≡◌, ◌≢◌, ◌⊎◌, ℕ, ◌+◌, ◌-◌, ◌<◌, ◌≤◌, Bool, true, false, List, [], ◌∷◌, ◌++◌, length, reverse, refl, sym, ap, ◌∙◌, subst, inl, inr, arith, Some, Option, le_or_lt, true_or_false, append_assoc, common_steps}
+use Rattle.fak_queue.proofs.Common.{Each, QueueHolder, queue_object, Kind, Phase, IsPost, mark, seat_of, made_by, marks_of, item_at, In, ◌≡◌, ◌⊎◌, ℕ, ◌+◌, ◌-◌, ◌<◌, ◌≤◌, Bool, true, false, List, [], ◌∷◌, ◌++◌, length, reverse, refl, sym, ap, ◌∙◌, subst, inl, inr, arith, Some, le_or_lt, true_or_false, append_assoc, common_steps}
 
 each_same : {T : Type 0} {a b : Posts T} → Some (Each a) ≡ Some (Each b) → a ≡ b
 each_same e = cc
@@ -33,7 +32,7 @@ module _ (names : List ℕ) (lo hi : ℕ) (apart : AreApart names) (order : lo �
       let back : AreApart (drop lo names) = apart_right (take lo names) (drop lo names) (subst AreApart (sym (take-append-drop lo names)) apart) in
       apart_left (take (hi - lo) (drop lo names)) (drop (hi - lo) (drop lo names)) (subst AreApart (sym (take-append-drop (hi - lo) (drop lo names))) back)
 
-  part_item : (i : ℕ) → i < hi - lo → item_at (slice_range names lo hi) i ≡ item_at names (lo + i)
+  pub part_item : (i : ℕ) → i < hi - lo → item_at (slice_range names lo hi) i ≡ item_at names (lo + i)
   part_item i low = item_take (drop lo names) (hi - lo) i low ∙ item_drop names lo i
 
   pub number_in_part : (n : ℕ) → In n (slice_range names lo hi) → (i : ℕ) × (lo ≤ i) × (i < hi) × (item_at names i ≡ Some n)

@@ -1,13 +1,13 @@
 -- A bundle fills its cells, one name after another.
-use Rattle.std.specs.Prelude.{zero, suc, drop, slice_index_or}
+use Rattle.std.specs.Prelude.{suc, drop, slice_index_or}
 use Rattle.fak_model.specs.declared.queue.Kind.TheVariants as made
 use Rattle.fak_model.proofs.Deciding.{same_or_not}
 use Rattle.fak_core.specs.declared.queue.phase.Phase.TheVariants.{Idle, TurnIn, StoreItem, EndInsert}
 use Rattle.fak_core.specs.QueueBlocks.{AreApart}
-use Rattle.fak_queue.specs.Bundles.{SaysOf, StepsOn, StaysIn, LooksAtIn, FillsIt, IsLawful, MadeFrom, Filling, FillsOn, IsEarly, fills_at}
+use Rattle.fak_queue.specs.Bundles.{SaysOf, StaysIn, LooksAtIn, FillsIt, IsLawful, Filling, FillsOn, IsEarly, fills_at}
 use Rattle.fak_queue.proofs.BurstNames.{makes_then}
 use Rattle.fak_queue.proofs.BundleLists.{item_in, item_is, first_of, one_number, drop_next, made_none, made_still, made_next}
-use Rattle.fak_queue.proofs.Common.{QueueHolder, Kind, Mark, Phase, mark, item_at, In, ◌≡◌, ◌≢◌, ◌⊎◌, ℕ, ◌+◌, ◌-◌, ◌%◌, ◌<◌, ◌≤◌, true, false, List, [], ◌∷◌, length, reverse, refl, sym, ap, ◌∙◌, subst, inl, inr, arith, Some, None}
+use Rattle.fak_queue.proofs.Common.{QueueHolder, Phase, item_at, In, ◌≡◌, ◌≢◌, ℕ, ◌+◌, ◌-◌, ◌%◌, ◌<◌, true, false, List, [], ◌∷◌, length, refl, sym, ap, ◌∙◌, subst, inl, inr, arith, Some, None}
 
 -- the item that is kept first
 kept_first : {A : Type 0} (kept : List A) (x y : A) (rest : List A) (d : ℕ) → kept ≡ x ∷ rest → d ≡ 0 → item_at kept d ≡ Some y → x ≡ y

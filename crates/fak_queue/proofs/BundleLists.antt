@@ -2,12 +2,15 @@
 use Rattle.std.specs.Prelude.{zero, suc, take, drop, slice_index_or}
 use Rattle.std.proofs.lemmas.List.{append-nil, reverse-append}
 use Rattle.fak_model.proofs.Deciding.{same_or_not}
+use Rattle.fak_model.specs.Queue.{item_in as put_in}
+use Rattle.fak_model.specs.Seats.{Begins}
+use Rattle.fak_model.proofs.QueueBackwards.{item_at_new, item_at_old}
 use Rattle.fak_model.proofs.Seats.{begins_self}
 use Rattle.fak_queue.proofs.BurstNames.{begins_trans}
-use Rattle.fak_core.specs.QueueBlocks.{Posts, names_of, AreApart, all_at, marks_back}
-use Rattle.fak_queue.specs.Bursts.{AllIn, Makes, tickets_of}
+use Rattle.fak_core.specs.QueueBlocks.{names_of, AreApart, all_at, marks_back}
+use Rattle.fak_queue.specs.Bursts.{Makes, tickets_of}
 use Rattle.fak_queue.specs.Bundles.{IsLawful, MadeFrom}
-use Rattle.fak_queue.proofs.Common.{QueueHolder, Kind, Mark, Phase, IsPost, mark, seat_of, made_by, marks_of, item_at, In, ◌≡◌, ◌≢◌, ◌⊎◌, ℕ, ◌+◌, ◌-◌, ◌<◌, ◌≤◌, ◌==◌, cond, true, false, List, [], ◌∷◌, ◌++◌, length, slice_index, reverse, refl, sym, ap, ◌∙◌, subst, inl, inr, arith, nat_tests, common_steps, Some, None, Option, le_or_lt}
+use Rattle.fak_queue.proofs.Common.{items_put, flat_map-append, QueueHolder, Kind, Mark, Phase, IsPost, mark, seat_of, made_by, marks_of, item_at, In, ◌≡◌, ◌≢◌, ℕ, ◌+◌, ◌<◌, ◌≤◌, ◌==◌, true, false, List, [], ◌∷◌, ◌++◌, length, reverse, refl, sym, ap, ◌∙◌, subst, inl, inr, arith, nat_tests, Some}
 
 -- ---- numbers
 
@@ -159,3 +162,26 @@ module _ {T : Type 0} {size seats : ℕ} {names : List ℕ} {lo f : ℕ} {kinds_
         outside = λ i t e o. other i t e (λ z. elim o [ inl x ↦ absurd (omega (arith, x, z, low)) | inr x ↦ absurd (omega (arith, x, z)) ]) ∙ so.outside i t e (elim o [ inl x ↦ inl x | inr x ↦ inr (omega (arith, x)) ]);
         lawful = record { lawful = k.lawful; named = k.named };
       }
+
+-- ---- items
+
+pub item_push : {A : Type 0} (l : List A) (x : A) (i : ℕ) → i < length l → item_at (l ++ x ∷ []) i ≡ item_at l i
+item_push l x i low = item_at_old l x i (λ e. omega (arith, low, e))
+
+pub item_last : {A : Type 0} (l : List A) (x : A) → item_at (l ++ x ∷ []) (length l) ≡ Some x
+item_last l x = item_at_new l x
+
+items_append : {T : Type 0} (h g : List (Mark T)) → items_put (h ++ g) ≡ items_put h ++ items_put g
+items_append h g = flat_map-append put_in h g
+
+items_more : {T : Type 0} (h g : List (Mark T)) (k : ℕ) (x : T) → item_at (items_put h) k ≡ Some x → item_at (items_put (h ++ g)) k ≡ Some x
+items_more h g k x e = ap (λ l. item_at l k) (items_append h g) ∙ (item_before (items_put h) (items_put g) k x e)
+  where
+    item_before : {A : Type 0} (f g : List A) (k : ℕ) (x : A) → item_at f k ≡ Some x → item_at (f ++ g) k ≡ Some x
+    item_before [] g k x e = absurd cc
+    item_before (y ∷ f) g zero x e = e
+    item_before (y ∷ f) g (suc k) x e = item_before f g k x e
+
+-- what was put stays put as more is seen
+pub put_more : {T : Type 0} (h g : List (Mark T)) (k : ℕ) (x : T) → Begins h g → item_at (items_put h) k ≡ Some x → item_at (items_put g) k ≡ Some x
+put_more h g k x b e = subst (λ z. item_at (items_put z) k ≡ Some x) b.1 (items_more h b.0 k x e)

@@ -2,14 +2,13 @@
 use Rattle.atomic_table.specs.Table.{rest}
 use Rattle.fak_model.specs.declared.queue.Kind.TheVariants as made
 use Rattle.fak_model.specs.Shown.{Leaves}
-use Rattle.fak_model.specs.Views.{sight as sees}
 use Rattle.fak_core.specs.declared.queue.phase.Phase.TheVariants.{TurnIn, StoreItem, EndInsert, TurnOut, LoadItem, EndDelete}
 use Rattle.fak_core.specs.QueueBlocks.{Posts}
 use Rattle.fak_queue.specs.Bursts.{Makes, TurnsBurst, FillsBurst, TurnsOutBurst, FreesBurst, post_to}
-use Rattle.fak_queue.specs.Bundles.{SaysOf, StepsOn, StaysIn, LooksAtIn, FillsIt, StaysOut, FindsItem, LooksAtOut, TakesIt}
+use Rattle.fak_queue.specs.Bundles.{SaysOf, StepsOn, LooksAtIn, FillsIt, LooksAtOut, TakesIt}
 use Rattle.fak_queue.proofs.BurstPosts.{post_here, post_else}
 use Rattle.fak_queue.proofs.BurstNames.{makes_step}
-use Rattle.fak_queue.proofs.Common.{Standing, Each, IsPost, QueueView, QueueHolder, queue_object, mark, ◌≡◌, ◌≢◌, ℕ, ◌+◌, ◌*◌, ◌/◌, ◌%◌, Bool, true, false, ◌==◌, List, [], ◌∷◌, ◌++◌, refl, sym, ap, ◌∙◌, subst, arith, nat_tests, reverse, Option, Some, None, Has, item_at, items_put, Mark, Phase}
+use Rattle.fak_queue.proofs.Common.{Standing, Each, IsPost, QueueView, QueueHolder, queue_object, mark, ◌≡◌, ℕ, ◌+◌, ◌*◌, ◌/◌, Bool, true, false, ◌==◌, List, [], ◌∷◌, ◌++◌, sym, ap, ◌∙◌, subst, arith, nat_tests, reverse, Option, Some, None, Has, item_at, items_put, Mark, Phase}
 
 each_same : {T : Type 0} {a b : Posts T} → Some (Each a) ≡ Some (Each b) → a ≡ b
 each_same e = cc

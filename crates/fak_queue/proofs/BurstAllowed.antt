@@ -1,7 +1,7 @@
 -- Each atomic step of a burst is one that the table's rule allows.
-use Rattle.fak_core.specs.declared.queue.phase.Phase.TheVariants.{Idle, AddUp, BackUp, TicketIn, TurnIn, StoreItem, EndInsert, SubLow, BackLow, TicketOut, TurnOut, LoadItem, EndDelete}
+use Rattle.fak_core.specs.declared.queue.phase.Phase.TheVariants.{Idle, AddUp, BackUp, TicketIn, TurnIn, StoreItem, SubLow, BackLow, TicketOut, TurnOut, LoadItem}
 use Rattle.fak_core.specs.QueueBlocks.{Posts, names_of, AreApart, all_at}
-use Rattle.fak_queue.specs.Bursts.{AllIn, AreDisjoint, AreIdle, Says, SaysAfter, TestedBurst, BackBurst, EndedBurst, SubbedBurst, BackLowBurst, DrewOutBurst, TestedLowBurst, EndedOutBurst, TurnedOutBurst, FreedBurst, TurnsOutBurst, FreesBurst, TurnedBurst, FilledBurst, TurnsBurst, FillsBurst, DrewBurst, AddedBurst}
+use Rattle.fak_queue.specs.Bursts.{AllIn, AreDisjoint, AreIdle, Says, SaysAfter, TestedBurst, BackBurst, SubbedBurst, BackLowBurst, DrewOutBurst, TestedLowBurst, TurnedOutBurst, FreedBurst, TurnsOutBurst, FreesBurst, TurnedBurst, FilledBurst, TurnsBurst, FillsBurst, DrewBurst, AddedBurst}
 use Rattle.fak_queue.proofs.Common.{QueueHolder, IsPost, IsShownQueue, QueueLimits, ◌≡◌, ℕ, ◌+◌, ◌-◌, ◌%◌, ◌^◌, ◌≤◌, List, ◌∷◌, ◌++◌, length, slice_index, sym, ap, ◌∙◌, subst, arith, Option, Some, ◌*◌, ◌/◌, None, Standing, Alike, Each, some, get_elem?, In, Allows, carried_after}
 use Rattle.fak_queue.proofs.Stepping.{QueueTable}
 use Rattle.fak_queue.proofs.BurstBlocks.{Permits}

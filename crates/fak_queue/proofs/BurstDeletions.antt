@@ -3,11 +3,11 @@ use Rattle.fak_model.specs.declared.queue.Kind.TheVariants as made
 use Rattle.fak_model.specs.Views.{sight as sees}
 use Rattle.fak_model.specs.Shown.{Leaves}
 use Rattle.fak_model.proofs.RunningBlocks.{AreAmong, among_append}
-use Rattle.fak_core.specs.declared.queue.phase.Phase.TheVariants.{Idle, SubLow, BackLow, TicketOut, EndDelete}
+use Rattle.fak_core.specs.declared.queue.phase.Phase.TheVariants.{Idle, SubLow, BackLow, TicketOut}
 use Rattle.fak_core.specs.QueueBlocks.{Posts, names_of, AreApart, Stand, block, all_at, marks_back, Changes, turns_out_from, ArePut, tested_low}
 use Rattle.fak_core.proofs.QueueBlocks.{reached_block, reached_tests_low, names-turns_out, names-at, names-append}
-use Rattle.fak_core.proofs.DeletionBlocks.{tests_stock, tests_empty, subs, backs_low, ends_out, draws_out}
-use Rattle.fak_queue.specs.Bursts.{AllIn, AreDisjoint, AreIdle, Says, SaysAfter, granted_low, TellsLower, SubbedBurst, BackLowBurst, DrewOutBurst, TestedLowBurst, EndedOutBurst}
+use Rattle.fak_core.proofs.DeletionBlocks.{tests_stock, tests_empty, subs, backs_low, draws_out}
+use Rattle.fak_queue.specs.Bursts.{AllIn, AreDisjoint, AreIdle, Says, SaysAfter, granted_low, TellsLower, SubbedBurst, BackLowBurst, DrewOutBurst, TestedLowBurst}
 use Rattle.fak_queue.proofs.Common.{QueueHolder, queue_object, IsShownQueue, QueueLimits, AreWords, ◌≡◌, ℕ, ◌+◌, ◌-◌, ◌%◌, ◌^◌, ◌≤◌, List, [], ◌∷◌, ◌++◌, length, slice_index, set, refl, sym, ap, ◌∙◌, subst, inl, inr, arith, Some, pos, ◌+ℤ◌, mod-eq_of_lt, reverse, true_or_false, int_lt, ◌-ℤ◌, Standing, Alike, Each, some, get_elem?, count, gots, count_reverse, keeps, stepped, Mark, Phase, InCell}
 use Rattle.std.specs.Prelude.{take, drop}
 use Rattle.std.proofs.lemmas.List.{take-append-drop}
@@ -15,7 +15,7 @@ use Rattle.fak_queue.proofs.WordWrites.{words_same, positive_word, empty_word, w
 use Rattle.fak_queue.proofs.Stepping.{QueueTable}
 use Rattle.fak_queue.proofs.BurstPosts.{all_left, all_right, among_back, idle_all, idle_both, out_at, out_both, out_turns_out, post_left, post_right}
 use Rattle.fak_queue.proofs.BurstWords.{grants_low}
-use Rattle.fak_queue.proofs.BurstBlocks.{K, Permits, few_draws, lower_less, lower_more, lower_tells, posted, quiet_block, upper_less, wide_step}
+use Rattle.fak_queue.proofs.BurstBlocks.{K, Permits, few_draws, lower_less, lower_more, lower_tells, posted, quiet_block, wide_step}
 
 module _ {T : Type 0} (key : QueueLimits) (s : QueueTable T) (r : IsShownQueue key s) (id : ℕ) (m : QueueHolder T) (at : get_elem? s.views id ≡ some m.0) where
   pub backs_low_burst : (items : List (ℕ × Unit {0})) (others : Posts T) → Says m.0 (all_at (λ x. BackLow) items ++ others) → AreApart (names_of items) → AreDisjoint (names_of items) (names_of others) → AllIn (names_of items ++ names_of others) m.0.names

@@ -1,28 +1,23 @@
 -- The blocks that end insertions and deletions of a bundle, and that the table's rule allows them.
-use Rattle.fak_queue.proofs.Common.{QueueView, QueueHolder, IsPost, StandsIn, queue_object, IsShownQueue, QueueLimits, AreWords, HasSlot, IsEncoded, ◌≡◌, ◌≢◌, ◌⊎◌, ℕ, ◌+◌, ◌-◌, ◌%◌, ◌^◌, ◌<◌, ◌≤◌, List, [], ◌∷◌, ◌++◌, length, slice_index, set, refl, sym, ap, ◌∙◌, subst, inl, inr, arith, Option, Some, Bool, ℤ, pos, ◌+ℤ◌, ints, bias, shut_bit, shut_part, mod-eq_of_lt, common_steps, reverse, true, false, true_or_false, upper_count, upper_raise, upper_drop, upper_range, lower_raise, lower_drop, lower_range, int_lt, add-mod_left, ◌-ℤ◌, ◌*◌, ◌/◌, ◌==◌, takes, gives, homes_after, length-set, mod-lt, None, Has, has_back, stage, Putting, shown, waits_fill, nat_tests, IsAtHome, at_here, at_else, with_at, with_phase, moved, move_from, moves, if_true, if_false, Standing, Alike, Each, WaitsIn, WaitsOut, mark, QueueMove, Getting, waits_take, loads_put, item_of, item_at, items_put, item_there, getting_below, contents_bounded, some, none, get_elem?, count, puts, gots, count_reverse, In, State, Act, Allows, keeps, stepped, carried_after, Valid, Mark, AreLawful, total_at, Phase, QueueState, InCell, IsReached, IsKept, kept, legal_history}
+use Rattle.fak_queue.proofs.Common.{QueueHolder, IsPost, StandsIn, queue_object, IsShownQueue, QueueLimits, AreWords, ◌≡◌, ◌⊎◌, ℕ, ◌+◌, ◌-◌, ◌%◌, ◌^◌, ◌≤◌, List, ◌++◌, length, slice_index, set, refl, sym, ◌∙◌, subst, inl, inr, arith, Some, Bool, pos, ◌+ℤ◌, true, false, ◌-ℤ◌, Each, some, get_elem?, In, Allows, keeps, carried_after, Phase, QueueState}
 use Rattle.fak_model.specs.declared.queue.Kind.TheVariants as made
 use Rattle.fak_model.specs.Views.{sight as sees}
 use Rattle.fak_model.specs.Shown.{Leaves}
-use Rattle.fak_model.proofs.RunningBlocks.{AreAmong, among_append}
-use Rattle.fak_core.specs.declared.queue.phase.Phase.TheVariants.{EndDelete, Idle, AddUp, BackUp, TicketIn, EndInsert}
-use Rattle.fak_core.specs.QueueBlocks.{Posts, names_of, AreApart, Stand, all_at, turns_from, marks_back, Changes, AreAdded, after_adds, after_draws, tested}
-use Rattle.fak_core.proofs.QueueBlocks.{reached_block, reached_tests, names-at, names-turns, names-append}
-use Rattle.fak_core.proofs.InsertionBlocks.{tests_room, tests_full, tests_shut, adds, adds_late, draws, ends, backs}
-use Rattle.fak_queue.specs.Bursts.{AllIn, AreDisjoint, AreIdle, Says, SaysAfter, TestedBurst, BackBurst, EndedBurst, DrewBurst, granted_of, TellsUpper, AddedBurst}
-use Rattle.std.specs.Prelude.{take, drop}
-use Rattle.std.proofs.lemmas.List.{take-append-drop}
-use Rattle.fak_queue.proofs.WordWrites.{shut_part-small, shut_above, open_below, below_word, full_word, words_same, words_draws_in, words_upper, words_lower}
-use Rattle.fak_queue.proofs.Stepping.{QueueTable, upper_count-reverse}
-use Rattle.fak_queue.proofs.BurstPosts.{AreOut, all_left, all_right, among_back, idle_all, idle_both, out_at, out_both, out_turns, post_left, post_right}
-use Rattle.fak_queue.proofs.BurstWords.{grants, grown_low, shrunk_by}
-use Rattle.fak_queue.proofs.BurstBlocks.{K, Permits, few_draws, lower_bounds, lower_most, posted, quiet_block, upper_bounds, upper_most, upper_word, wide_step}
+use Rattle.fak_core.specs.declared.queue.phase.Phase.TheVariants.{EndDelete, Idle, EndInsert}
+use Rattle.fak_core.specs.QueueBlocks.{Posts, names_of, AreApart, Stand, all_at, marks_back}
+use Rattle.fak_core.proofs.QueueBlocks.{reached_block, names-at}
+use Rattle.fak_core.proofs.InsertionBlocks.{ends}
+use Rattle.fak_queue.specs.Bursts.{AllIn, EndedBurst}
+use Rattle.fak_queue.proofs.Stepping.{QueueTable}
+use Rattle.fak_queue.proofs.BurstPosts.{among_back, idle_all, out_at}
+use Rattle.fak_queue.proofs.BurstBlocks.{Permits, posted}
 use Rattle.fak_core.proofs.DeletionBlocks.{ends_out}
 use Rattle.fak_core.specs.QueueBlocks.{Stand, block}
 use Rattle.fak_core.proofs.QueueBlocks.{reached_block}
 use Rattle.fak_core.proofs.InsertionBlocks.{ends}
 use Rattle.fak_queue.specs.Bundles.{SaysOf}
-use Rattle.fak_queue.specs.Bursts.{posts_to, once_rest, EndedBurst, EndedOutBurst}
-use Rattle.fak_queue.proofs.BurstPosts.{in_or_not, moved_posts, idle_at, idle_all, out_at, among_back, in_all}
+use Rattle.fak_queue.specs.Bursts.{once_rest, EndedBurst, EndedOutBurst}
+use Rattle.fak_queue.proofs.BurstPosts.{in_or_not, moved_posts, idle_at, idle_all, out_at, among_back}
 use Rattle.fak_queue.proofs.BurstBlocks.{wide_block, lower_more, upper_less, posted, Permits}
 
 each_same : {T : Type 0} {a b : Posts T} → Some (Each a) ≡ Some (Each b) → a ≡ b

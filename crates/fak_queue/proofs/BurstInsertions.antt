@@ -3,19 +3,19 @@ use Rattle.fak_model.specs.declared.queue.Kind.TheVariants as made
 use Rattle.fak_model.specs.Views.{sight as sees}
 use Rattle.fak_model.specs.Shown.{Leaves}
 use Rattle.fak_model.proofs.RunningBlocks.{AreAmong, among_append}
-use Rattle.fak_core.specs.declared.queue.phase.Phase.TheVariants.{Idle, AddUp, BackUp, TicketIn, EndInsert}
+use Rattle.fak_core.specs.declared.queue.phase.Phase.TheVariants.{Idle, AddUp, BackUp, TicketIn}
 use Rattle.fak_core.specs.QueueBlocks.{Posts, names_of, AreApart, Stand, all_at, turns_from, marks_back, Changes, AreAdded, after_adds, after_draws, tested}
 use Rattle.fak_core.proofs.QueueBlocks.{reached_block, reached_tests, names-at, names-turns, names-append}
-use Rattle.fak_core.proofs.InsertionBlocks.{tests_room, tests_full, tests_shut, adds, adds_late, draws, ends, backs}
-use Rattle.fak_queue.specs.Bursts.{AllIn, AreDisjoint, AreIdle, Says, SaysAfter, TestedBurst, BackBurst, EndedBurst, DrewBurst, granted_of, TellsUpper, AddedBurst}
+use Rattle.fak_core.proofs.InsertionBlocks.{tests_room, tests_full, tests_shut, adds, adds_late, draws, backs}
+use Rattle.fak_queue.specs.Bursts.{AllIn, AreDisjoint, AreIdle, Says, SaysAfter, TestedBurst, BackBurst, DrewBurst, granted_of, TellsUpper, AddedBurst}
 use Rattle.fak_queue.proofs.Common.{QueueHolder, queue_object, IsShownQueue, QueueLimits, AreWords, ◌≡◌, ℕ, ◌+◌, ◌-◌, ◌%◌, ◌^◌, ◌≤◌, List, [], ◌∷◌, ◌++◌, length, slice_index, set, refl, sym, ap, ◌∙◌, subst, inl, inr, arith, Some, pos, ◌+ℤ◌, bias, shut_part, mod-eq_of_lt, reverse, true, false, true_or_false, int_lt, ◌-ℤ◌, Standing, Alike, Each, some, get_elem?, count, puts, count_reverse, keeps, stepped, Mark, Phase, InCell}
 use Rattle.std.specs.Prelude.{take, drop}
 use Rattle.std.proofs.lemmas.List.{take-append-drop}
-use Rattle.fak_queue.proofs.WordWrites.{shut_part-small, shut_above, open_below, below_word, full_word, words_same, words_draws_in, words_upper, words_lower}
+use Rattle.fak_queue.proofs.WordWrites.{shut_part-small, shut_above, open_below, below_word, full_word, words_same, words_draws_in, words_upper}
 use Rattle.fak_queue.proofs.Stepping.{QueueTable, upper_count-reverse}
 use Rattle.fak_queue.proofs.BurstPosts.{AreOut, all_left, all_right, among_back, idle_all, idle_both, out_at, out_both, out_turns, post_left, post_right}
-use Rattle.fak_queue.proofs.BurstWords.{grants, grown_low, shrunk_by}
-use Rattle.fak_queue.proofs.BurstBlocks.{K, Permits, few_draws, lower_bounds, lower_most, posted, quiet_block, upper_bounds, upper_most, upper_word, wide_step}
+use Rattle.fak_queue.proofs.BurstWords.{grants, shrunk_by}
+use Rattle.fak_queue.proofs.BurstBlocks.{K, Permits, few_draws, posted, quiet_block, upper_bounds, upper_most, upper_word, wide_step}
 
 module _ {T : Type 0} (key : QueueLimits) (s : QueueTable T) (r : IsShownQueue key s) (id : ℕ) (m : QueueHolder T) (at : get_elem? s.views id ≡ some m.0) where
   pub draws_burst : (items : List (ℕ × T)) (others : Posts T) → Says m.0 (all_at (λ x. TicketIn x) items ++ others) → AreApart (names_of items) → AreDisjoint (names_of items) (names_of others) → AllIn (names_of items ++ names_of others) m.0.names

@@ -40,3 +40,5 @@ pub mod BundleTurns
 pub mod BundleLists
 pub mod BundleFilling
 pub mod BundleEnding
+pub mod BundleEmptying
+pub mod BundleEndingOut

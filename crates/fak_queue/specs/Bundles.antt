@@ -134,10 +134,21 @@ pub record FilledOn {T : Type 0} (size seats : ℕ) (names : List ℕ) (k lo fil
   pub kept_are : kept ≡ drop (filled - lo) was
 
 -- the cells of the names from lo on were emptied into `got`, until one's turn had not come
-pub record EmptiesOn {T : Type 0} (size seats : ℕ) (names : List ℕ) (k lo taken granted : ℕ) (got : List T) (m after : QueueHolder T) : Type 0 where
+pub record EmptiesOn {T : Type 0} (size seats : ℕ) (names : List ℕ) (k lo taken granted : ℕ) (was got : List T) (m after : QueueHolder T) : Type 0 where
   pub marks : MadeFrom size seats names lo taken (takes_at k) m after
   pub stands : Emptying names k lo taken granted after.0
   pub slots : after.1 ≡ []
-  pub many : length got ≡ taken - lo
-  -- the items are those that were put under these tickets
-  pub put : (i : ℕ) (x : T) → item_at got i ≡ Some x → item_at (items_put (reverse after.0.seen)) (k + lo + i) ≡ Some x
+  pub many : length got ≡ length was + (taken - lo)
+  pub same : (i : ℕ) → i < length was → item_at got i ≡ item_at was i
+  -- the new items are those that were put under these tickets
+  pub put : (i : ℕ) (x : T) → lo ≤ i → i < taken → item_at got (length was + (i - lo)) ≡ Some x → item_at (items_put (reverse after.0.seen)) (k + i) ≡ Some x
+
+-- the names from lo on emptied their cells and ended their deletions, until one's turn had not come
+pub record EmptiedOn {T : Type 0} (size seats : ℕ) (names : List ℕ) (k lo taken granted : ℕ) (was got : List T) (m after : QueueHolder T) : Type 0 where
+  pub marks : MadeFrom size seats names lo taken (taken_at k) m after
+  pub stands : taken < granted → Emptying names k taken taken granted after.0
+  pub rests : granted ≤ taken → after.0.phase ≡ Some (Alike Idle)
+  pub slots : after.1 ≡ []
+  pub many : length got ≡ length was + (taken - lo)
+  pub same : (i : ℕ) → i < length was → item_at got i ≡ item_at was i
+  pub put : (i : ℕ) (x : T) → lo ≤ i → i < taken → item_at got (length was + (i - lo)) ≡ Some x → item_at (items_put (reverse after.0.seen)) (k + i) ≡ Some x

@@ -6,6 +6,7 @@
 pub(crate) mod admission;
 pub(crate) mod admission_out;
 pub(crate) mod deletion;
+pub(crate) mod emptying;
 pub(crate) mod filling;
 pub(crate) mod insertion;
 pub(crate) mod plays;

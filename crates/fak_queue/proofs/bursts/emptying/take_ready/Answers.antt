@@ -1,0 +1,15 @@
+use Rattle.fak_queue.proofs.Common.{arith, nat_tests}
+use Rattle.fak_queue.proofs.BundleEndingOut.{emptied_none}
+use Rattle.fak_queue.proofs.bursts.emptying.take_ready.Goals as goal
+
+pub end_taken-requires-clause-stands : goal.end_taken-requires-clause-stands
+end_taken-requires-clause-stands g c = (c.args.out.now.items, c.take_while_ready-taken.new.out.items, c.args.token.now.me, c.take_while_ready-taken.ensures.told)
+
+pub returns-then-taken-at-clause-told : goal.returns-then-taken-at-clause-told
+returns-then-taken-at-clause-told g c = c.end_taken.ensures.told c.args.out.now.items c.take_while_ready-taken.new.out.items c.args.token.now.me c.take_while_ready-taken.ensures.told
+
+pub returns-else-taken-at-clause-told : goal.returns-else-taken-at-clause-told
+returns-else-taken-at-clause-told g c =
+    let r = c.take_while_ready-taken.ensures.range in
+    let none = c.if-taken-at.false in
+    emptied_none c.args.names.now c.args.at.ticket c.args.at.done c.take_while_ready-taken.result c.args.at.granted c.args.out.now.items c.take_while_ready-taken.new.out.items c.args.token.now.me c.take_while_ready-taken.new.token.me c.take_while_ready-taken.ensures.told (grind (arith, nat_tests, none, r)) c.requires.some
