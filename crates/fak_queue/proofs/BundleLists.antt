@@ -82,10 +82,10 @@ pub marks_turned : {A B : Type 0} (f : B → Kind A) (ss : List (ℕ × B)) → 
 marks_turned f [] = refl
 marks_turned f (s ∷ ss) = reverse-append (marks_back f ss) (mark s.0 (f s.1) ∷ []) ∙ ap (λ l. mark s.0 (f s.1) ∷ l) (marks_turned f ss)
 
-own_first : {A : Type 0} (n : ℕ) (κ : Kind A) (h : List (Mark A)) → marks_of seat_of n (mark n κ ∷ h) ≡ mark n κ ∷ marks_of seat_of n h
+pub own_first : {A : Type 0} (n : ℕ) (κ : Kind A) (h : List (Mark A)) → marks_of seat_of n (mark n κ ∷ h) ≡ mark n κ ∷ marks_of seat_of n h
 own_first n κ h = let t : (n == n) ≡ true = grind (arith, nat_tests) in rw t refl
 
-other_first : {A : Type 0} (n t : ℕ) (κ : Kind A) (h : List (Mark A)) → n ≢ t → marks_of seat_of n (mark t κ ∷ h) ≡ marks_of seat_of n h
+pub other_first : {A : Type 0} (n t : ℕ) (κ : Kind A) (h : List (Mark A)) → n ≢ t → marks_of seat_of n (mark t κ ∷ h) ≡ marks_of seat_of n h
 other_first n t κ h ne = let b : (t == n) ≡ false = grind (arith, nat_tests) in rw b refl
 
 pub no_marks : {A B : Type 0} (f : B → Kind A) (ss : List (ℕ × B)) (n : ℕ) → (In n (names_of ss) → ⊥) → marks_of seat_of n (marks_on f ss) ≡ []

@@ -42,3 +42,4 @@ pub mod BundleFilling
 pub mod BundleEnding
 pub mod BundleEmptying
 pub mod BundleEndingOut
+pub mod BundleClaims

@@ -1,5 +1,5 @@
 -- What the parts of a burst's calls leave at the token of a bundle, name by name.
-use Rattle.std.specs.Prelude.{◌≡◌, ◌≢◌, ◌⊎◌, ℕ, ◌+◌, ◌-◌, ◌%◌, ◌<◌, ◌≤◌, Bool, true, false, List, [], ◌∷◌, ◌++◌, drop, length, reverse, Option, Some, None}
+use Rattle.std.specs.Prelude.{◌≡◌, ◌^◌, take, ◌≢◌, ◌⊎◌, ℕ, ◌+◌, ◌-◌, ◌%◌, ◌<◌, ◌≤◌, Bool, true, false, List, [], ◌∷◌, ◌++◌, drop, length, reverse, Option, Some, None}
 use Rattle.fak_model.specs.declared.queue.Kind.TheVariants as made
 use Rattle.fak_model.specs.declared.queue.Mark.{Mark}
 use Rattle.fak_model.specs.declared.queue.Kind.{Kind}
@@ -152,3 +152,25 @@ pub record EmptiedOn {T : Type 0} (size seats : ℕ) (names : List ℕ) (k lo ta
   pub many : length got ≡ length was + (taken - lo)
   pub same : (i : ℕ) → i < length was → item_at got i ≡ item_at was i
   pub put : (i : ℕ) (x : T) → lo ≤ i → i < taken → item_at got (length was + (i - lo)) ≡ Some x → item_at (items_put (reverse after.0.seen)) (k + i) ≡ Some x
+
+-- ---- claims, name by name
+
+-- between two states of a token this name made marks of these kinds
+abbrev pub MadeBy : {T : Type 0} → ℕ → List (Kind T) → QueueHolder T → QueueHolder T → Type 0
+MadeBy n kinds m after = marks_of seat_of n (reverse after.0.seen) ≡ marks_of seat_of n (reverse m.0.seen) ++ made_by n kinds
+
+-- the first j of the names with an item claimed room and drew the tickets from k on, in the order of the items; the others were
+-- over; and what was seen before them. The names without an item made no mark.
+pub record ClaimsOn {T : Type 0} (size seats : ℕ) (names : List ℕ) (xs : List T) (k j : ℕ) (m after : QueueHolder T) : Type 0 where
+  pub some : 0 < j
+  pub most : j ≤ length xs
+  pub stands : Filling names k 0 0 j (take j xs) after.0
+  pub left : after.0.left ≡ m.0.left - j
+  pub slots : after.1 ≡ m.1
+  pub begins : Begins (reverse m.0.seen) (reverse after.0.seen)
+  pub lawful : IsLawful size seats after.0
+  pub granted : (i n : ℕ) (x : T) → item_at names i ≡ Some n → i < j → item_at xs i ≡ Some x → MadeBy n (made.ClaimIn ∷ made.Put x ∷ []) m after
+  pub over : (i n : ℕ) → item_at names i ≡ Some n → j ≤ i → i < length xs → MadeBy n (made.OverIn ∷ made.BackIn ∷ []) m after
+  pub others : (i n : ℕ) → item_at names i ≡ Some n → length xs ≤ i → MadeBy n [] m after
+  pub put : (i : ℕ) (x : T) → i < j → item_at xs i ≡ Some x → item_at (items_put (reverse after.0.seen)) (k + i) ≡ Some x
+  pub few : k + j ≤ 2 ^ 50
