@@ -31,23 +31,23 @@ pair_in [] i n x e = absurd cc
 pair_in (s ∷ ss) zero n x e = inl (let g : Some s ≡ Some (n, x) = e in let h : s ≡ (n, x) = cc in sym (ap (λ (z : ℕ × _). z.0) h))
 pair_in (s ∷ ss) (suc i) n x e = inr (pair_in ss i n x e)
 
-turns_post : {T : Type 0} (ss : List (ℕ × T)) (k i n : ℕ) (x : T) → item_at ss i ≡ Some (n, x) → IsPost n (TurnIn (k + i) x) (turns_from k ss)
+pub turns_post : {T : Type 0} (ss : List (ℕ × T)) (k i n : ℕ) (x : T) → item_at ss i ≡ Some (n, x) → IsPost n (TurnIn (k + i) x) (turns_from k ss)
 turns_post [] k i n x e = absurd cc
 turns_post (s ∷ ss) k zero n x e = inl (let g : Some s ≡ Some (n, x) = e in let h : s ≡ (n, x) = cc in let z : k ≡ k + 0 = omega arith in (ap (λ (y : ℕ × _). y.0) h, λ j. TurnIn (z j) (h j).1))
 turns_post (s ∷ ss) k (suc i) n x e = inr (let z : k + 1 + i ≡ k + suc i = omega arith in subst (λ t. IsPost n (TurnIn t x) (turns_from (k + 1) ss)) z (turns_post ss (k + 1) i n x e))
 
-idle_post : (T : Type 0) {B : Type 0} (ss : List (ℕ × B)) (n : ℕ) → In n (names_of ss) → IsPost {T = T} n Idle (all_at (λ x. Idle) ss)
+pub idle_post : (T : Type 0) {B : Type 0} (ss : List (ℕ × B)) (n : ℕ) → In n (names_of ss) → IsPost {T = T} n Idle (all_at (λ x. Idle) ss)
 idle_post T [] n i = absurd i
 idle_post T (s ∷ ss) n (inl e) = inl (sym e, refl)
 idle_post T (s ∷ ss) n (inr i) = inr (idle_post T ss n i)
 
-rest_post : (T : Type 0) (ns : List ℕ) (n : ℕ) → In n ns → IsPost {T = T} n Idle (idle_posts ns)
+pub rest_post : (T : Type 0) (ns : List ℕ) (n : ℕ) → In n ns → IsPost {T = T} n Idle (idle_posts ns)
 rest_post T [] n i = absurd i
 rest_post T (m ∷ ns) n (inl e) = inl (sym e, refl)
 rest_post T (m ∷ ns) n (inr i) = inr (rest_post T ns n i)
 
 -- a name with one item makes one mark
-own_mark : {A B : Type 0} (f : B → Kind A) (ss : List (ℕ × B)) (i n : ℕ) (x : B) → AreApart (names_of ss) → item_at ss i ≡ Some (n, x) → marks_of seat_of n (marks_on f ss) ≡ mark n (f x) ∷ []
+pub own_mark : {A B : Type 0} (f : B → Kind A) (ss : List (ℕ × B)) (i n : ℕ) (x : B) → AreApart (names_of ss) → item_at ss i ≡ Some (n, x) → marks_of seat_of n (marks_on f ss) ≡ mark n (f x) ∷ []
 own_mark f [] i n x apart e = absurd cc
 own_mark {A} f (s ∷ ss) zero n x apart e =
     let same : s ≡ (n, x) = (let g : Some s ≡ Some (n, x) = e in cc) in
@@ -56,12 +56,12 @@ own_mark {A} f (s ∷ ss) zero n x apart e =
 own_mark f (s ∷ ss) (suc i) n x apart e = other_first n s.0 (f s.1) (marks_on f ss) (λ z. apart.0 (subst (λ y. In y (names_of ss)) z (pair_in ss i n x e))) ∙ own_mark f ss i n x apart.1 e
 
 -- the items of names that put one each
-puts_on : {T : Type 0} (ss : List (ℕ × T)) (i n : ℕ) (x : T) → item_at ss i ≡ Some (n, x) → item_at (items_put (marks_on (λ x. made.Put x) ss)) i ≡ Some x
+pub puts_on : {T : Type 0} (ss : List (ℕ × T)) (i n : ℕ) (x : T) → item_at ss i ≡ Some (n, x) → item_at (items_put (marks_on (λ x. made.Put x) ss)) i ≡ Some x
 puts_on [] i n x e = absurd cc
 puts_on (s ∷ ss) zero n x e = let g : Some s ≡ Some (n, x) = e in let h : s ≡ (n, x) = cc in ap (λ (z : ℕ × _). Some z.1) h
 puts_on (s ∷ ss) (suc i) n x e = puts_on ss i n x e
 
-item_behind : {A : Type 0} (f g : List A) (i : ℕ) → item_at (f ++ g) (length f + i) ≡ item_at g i
+pub item_behind : {A : Type 0} (f g : List A) (i : ℕ) → item_at (f ++ g) (length f + i) ≡ item_at g i
 item_behind [] g i = ap (item_at g) (zero_first i)
   where
     zero_first : (i : ℕ) → 0 + i ≡ i

@@ -43,3 +43,4 @@ pub mod BundleEnding
 pub mod BundleEmptying
 pub mod BundleEndingOut
 pub mod BundleClaims
+pub mod BundleClaimsOut

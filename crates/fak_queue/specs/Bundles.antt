@@ -174,3 +174,18 @@ pub record ClaimsOn {T : Type 0} (size seats : ℕ) (names : List ℕ) (xs : Lis
   pub others : (i n : ℕ) → item_at names i ≡ Some n → length xs ≤ i → MadeBy n [] m after
   pub put : (i : ℕ) (x : T) → i < j → item_at xs i ≡ Some x → item_at (items_put (reverse after.0.seen)) (k + i) ≡ Some x
   pub few : k + j ≤ 2 ^ 50
+
+-- the first j of d names claimed an item each and drew the tickets from k on, with the items that were put under them; the others
+-- of the d were over. The names from d on made no mark.
+pub record ClaimsOutOn {T : Type 0} (size seats : ℕ) (names : List ℕ) (d k j : ℕ) (m after : QueueHolder T) : Type 0 where
+  pub some : 0 < j
+  pub most : j ≤ d
+  pub stands : Emptying names k 0 0 j after.0
+  pub left : after.0.left ≡ m.0.left - j
+  pub slots : after.1 ≡ m.1
+  pub begins : Begins (reverse m.0.seen) (reverse after.0.seen)
+  pub lawful : IsLawful size seats after.0
+  pub granted : (i n : ℕ) → item_at names i ≡ Some n → i < j → (x : T) × MadeBy n (made.ClaimOut ∷ made.Got x ∷ []) m after × (item_at (items_put (reverse after.0.seen)) (k + i) ≡ Some x)
+  pub over : (i n : ℕ) → item_at names i ≡ Some n → j ≤ i → i < d → MadeBy n (made.OverOut ∷ made.BackOut ∷ []) m after
+  pub others : (i n : ℕ) → item_at names i ≡ Some n → d ≤ i → MadeBy n [] m after
+  pub few : k + j ≤ 2 ^ 50
