@@ -1,17 +1,17 @@
 -- The claim of a burst of insertions, name by name.
 use Rattle.std.specs.Prelude.{zero, suc, take, drop}
-use Rattle.std.proofs.lemmas.List.{append-nil, reverse-append, length-take-le}
+use Rattle.std.proofs.lemmas.List.{reverse-append, length-take-le}
 use Rattle.fak_model.specs.declared.queue.Kind.TheVariants as made
 use Rattle.fak_model.proofs.Seats.{marks_of_append}
 use Rattle.fak_core.specs.declared.queue.phase.Phase.TheVariants.{Idle, TurnIn}
-use Rattle.fak_core.specs.QueueBlocks.{Posts, names_of, AreApart, all_at, turns_from, marks_back}
+use Rattle.fak_core.specs.QueueBlocks.{names_of, AreApart, all_at, turns_from, marks_back}
 use Rattle.fak_queue.specs.Bursts.{ClaimedBurst, idle_posts, pair_up}
-use Rattle.fak_queue.specs.Bundles.{SaysOf, Filling, ClaimsOn, MadeBy}
+use Rattle.fak_queue.specs.Bundles.{Filling, ClaimsOn, MadeBy}
 use Rattle.fak_queue.proofs.BurstPosts.{post_left, post_right}
 use Rattle.fak_queue.proofs.BurstNames.{idle_names, from_rest, in_granted, in_over, once_granted, once_over, not_both}
 use Rattle.fak_model.specs.Queue.{item_in as put_in}
-use Rattle.fak_queue.proofs.BundleLists.{item_in, item_low, item_drop, item_take, marks_on, marks_turned, no_marks, own_first, other_first}
-use Rattle.fak_queue.proofs.Common.{Each, IsPost, items_count, flat_map-append, QueueHolder, Kind, Mark, Phase, mark, seat_of, made_by, marks_of, item_at, items_put, count, puts, In, ◌≡◌, ◌≢◌, ◌⊎◌, ℕ, ◌+◌, ◌-◌, ◌<◌, ◌≤◌, List, [], ◌∷◌, ◌++◌, length, reverse, refl, sym, ap, ◌∙◌, subst, inl, inr, arith, append_assoc, Some, le_or_lt}
+use Rattle.fak_queue.proofs.BundleLists.{item_in, item_drop, item_take, marks_on, marks_turned, no_marks, own_first, other_first}
+use Rattle.fak_queue.proofs.Common.{IsPost, items_count, flat_map-append, QueueHolder, Kind, mark, seat_of, marks_of, item_at, items_put, In, ◌≡◌, ℕ, ◌+◌, ◌-◌, ◌<◌, ◌≤◌, List, [], ◌∷◌, ◌++◌, length, reverse, refl, sym, ap, ◌∙◌, subst, inl, inr, arith, append_assoc, Some, le_or_lt}
 
 -- ---- names with their items
 

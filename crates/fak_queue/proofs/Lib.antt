@@ -44,3 +44,4 @@ pub mod BundleEmptying
 pub mod BundleEndingOut
 pub mod BundleClaims
 pub mod BundleClaimsOut
+pub mod BundleWaiting

@@ -12,3 +12,4 @@ pub(crate) mod insertion;
 pub(crate) mod plays;
 pub(crate) mod progress;
 pub(crate) mod turns;
+pub(crate) mod waiting;

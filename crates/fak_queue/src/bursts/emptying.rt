@@ -38,6 +38,7 @@ fn take_while_ready<T: Drop>(
     ensures told { EmptiesOn words.now.table_id.slots words.now.key.seats names.now at.ticket at.done result at.granted
         out.old.items out.new.items token.old.me token.new.me }
     ensures capacity { deque_capacity out.new ≡ deque_capacity out.old }
+    ensures len { deque_len out.new ≡ deque_len out.old + (result - at.done) }
 {
     for index in at.done..at.granted {
         let name = names[index as usize];
@@ -107,6 +108,7 @@ pub(crate) fn take_ready<T: Drop>(
     ensures told { EmptiedOn words.now.table_id.slots words.now.key.seats names.now at.ticket at.done result at.granted
         out.old.items out.new.items token.old.me token.new.me }
     ensures capacity { deque_capacity out.new ≡ deque_capacity out.old }
+    ensures len { deque_len out.new ≡ deque_len out.old + (result - at.done) }
 {
     let taken = take_while_ready(words, token, cells, at, names, out);
     if taken > at.done {

@@ -24,7 +24,7 @@ take-requires-clause-slot g c = slot_now c.args.names.now c.args.at.ticket c.arg
 pub loop-index-init : goal.loop-index-init
 loop-index-init g c =
     let o = c.requires.stands.order in
-    (refl, omega arith, o.1, empties_none c.args.names.now c.args.at.ticket c.args.at.done c.args.at.granted c.args.out.now.items c.args.token.now.me c.requires.lawful c.requires.stands c.requires.slots, c.requires.room, refl)
+    (refl, omega arith, o.1, empties_none c.args.names.now c.args.at.ticket c.args.at.done c.args.at.granted c.args.out.now.items c.args.token.now.me c.requires.lawful c.requires.stands c.requires.slots, c.requires.room, refl, omega arith)
 
 pub loop-index-preserved : goal.loop-index-preserved
 loop-index-preserved g c =
@@ -40,4 +40,5 @@ loop-index-preserved g c =
           (next_told c.args.names.now c.args.at.ticket c.args.at.done c.loop-index.index c.args.at.granted c.args.out.now.items c.loop-index.out.items c.args.token.now.me c.loop-index.token.me c.requires.names c.loop-index.invariant.3 c.loop-index-test.true c.place-place.result.ticket c.place-place.ensures.ticket c.has_item.new.token.me c.if-not-has_item.ensures.told c.take.new.token.me c.place-place.result.cell (c.place-place.ensures.place.cell_is ∙ ap (λ (z : ℕ). c.place-place.result.ticket % z) c.requires.cells) c.take.result c.take.ensures.item c.take.ensures.told),
       omega (arith, low, more, room, cap),
       cap ∙ i.5,
+      omega (arith, more, i.6, i.1),
     )
