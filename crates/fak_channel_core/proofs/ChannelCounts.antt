@@ -21,10 +21,10 @@ use Rattle.fak_channel_core.specs.ChannelSchedule.{IsGranted}
 use Rattle.fak_channel_core.specs.ChannelMoves.{is_void}
 use Rattle.fak_channel_core.proofs.ChannelKept.{IsDrained}
 
-upper_raise_two : {A : Type 0} (κ : Kind A) → upper_raise κ ≡ a_claim_in κ + an_over_in κ
+pub upper_raise_two : {A : Type 0} (κ : Kind A) → upper_raise κ ≡ a_claim_in κ + an_over_in κ
 upper_raise_two κ = grind (arith, common_steps)
 
-upper_drop_two : {A : Type 0} (κ : Kind A) → upper_drop κ ≡ a_back_in κ + an_end_out κ
+pub upper_drop_two : {A : Type 0} (κ : Kind A) → upper_drop κ ≡ a_back_in κ + an_end_out κ
 upper_drop_two κ = grind (arith, common_steps)
 
 lower_raise_two : {A : Type 0} (κ : Kind A) → lower_raise κ ≡ an_end_in κ + a_back_out κ

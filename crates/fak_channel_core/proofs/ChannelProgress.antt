@@ -1,5 +1,5 @@
 -- A channel never locks up: while a call is open that does not sleep, some end's next step moves its call forward.
-use Rattle.std.specs.Prelude.{◌≡◌, ◌≢◌, ◌⊎◌, ℕ, ◌<◌}
+use Rattle.std.specs.Prelude.{◌≤◌, ◌≡◌, ◌≢◌, ◌⊎◌, ℕ, ◌<◌}
 use Rattle.fak_core.specs.declared.queue.phase.Phase.TheVariants as inner
 use Rattle.fak_core.specs.QueueProgress.{MakesProgress, AreIdleFrom}
 use Rattle.fak_core.proofs.Common.{refl, sym, ◌∙◌, subst, inl, inr}
@@ -12,7 +12,7 @@ use Rattle.fak_channel_core.specs.SleepMoves as sleep
 use Rattle.fak_channel_core.specs.SleepSchedule.{IsAsleep}
 use Rattle.fak_channel_core.specs.ChannelMoves.{ChannelPhase, Idle, TakeCell, Insert, TakeItem, Delete, Look, GiveCell, GiveItem, Shutting, ChannelState}
 use Rattle.fak_channel_core.specs.ChannelSchedule.{SendSleeps, ReceiveSleeps}
-use Rattle.fak_channel_core.specs.ChannelProgress.{SemaphoreMoves, QueueCallMoves, CallMoves, SomeEndMoves, WaitsHaveRoom}
+use Rattle.fak_channel_core.specs.ChannelProgress.{SemaphoreMoves, QueueCallMoves, CallMoves, SomeEndMoves}
 use Rattle.fak_channel_core.proofs.ChannelKept.{IsPassing, IsGiving, Fits, ChannelKept}
 use Rattle.fak_channel_core.proofs.SleepProgress.{IsWaiting, SomeWaiterMoves, waiter_moves}
 
@@ -43,17 +43,17 @@ item_call size room s t (Look stays) f w m = absurd (subst IsWaiting f.1 w)
 item_call size room s t (GiveCell both) f w m = absurd (subst IsWaiting f.1 w)
 item_call size room s t Shutting f w m = absurd (subst IsWaiting f.1 w)
 
-module _ {A : Type 0} (n size room : ℕ) (s : ChannelState A) (z : 0 < size) (r : 0 < room) (K : ChannelKept n size room s) (roomy : WaitsHaveRoom room s) where
+module _ {A : Type 0} (n size room : ℕ) (s : ChannelState A) (z : 0 < size) (r : 0 < room) (K : ChannelKept n size room s) (enough : n ≤ room) where
   fits_at : (t : ℕ) (y : ChannelPhase A) → s.at t ≡ y → Fits y (s.queue.phase t) (s.items.ends t).at (s.cells.ends t).at
   fits_at t y is = subst (λ x. Fits x (s.queue.phase t) (s.items.ends t).at (s.cells.ends t).at) is (K.fits t)
 
   moves_at : (t : ℕ) (y : ChannelPhase A) → t < n → s.at t ≡ y → CallMoves size room s t y → SomeEndMoves n size room s
   moves_at t y l is m = (t, l, subst (CallMoves size room s t) (sym is) m)
 
-  by_cell : SomeWaiterMoves n room size s.cells r K.cells roomy.cells → SomeEndMoves n size room s
+  by_cell : SomeWaiterMoves n room size s.cells r K.cells enough → SomeEndMoves n size room s
   by_cell w = (w.0, w.1, cell_call size room s w.0 (s.at w.0) (K.fits w.0) w.2 w.3)
 
-  by_item : SomeWaiterMoves n room 0 s.items r K.items roomy.items → SomeEndMoves n size room s
+  by_item : SomeWaiterMoves n room 0 s.items r K.items enough → SomeEndMoves n size room s
   by_item w = (w.0, w.1, item_call size room s w.0 (s.at w.0) (K.fits w.0) w.2 w.3)
 
   -- a step of the queue is that of a call on the queue
@@ -105,12 +105,12 @@ module _ {A : Type 0} (n size room : ℕ) (s : ChannelState A) (z : 0 < size) (r
   open_moves e Idle l is some send receive = absurd (some refl)
   open_moves e (TakeCell stays x) l is some send receive =
       elim (passing_moves s.cells e (s.cells.ends e).at refl (fits_at e (TakeCell stays x) is).2 (λ a. send (stays, x, is, a))) [
-        | inl w ↦ by_cell (waiter_moves n room size s.cells r K.cells roomy.cells e (s.cells.ends e).at l refl w)
+        | inl w ↦ by_cell (waiter_moves n room size s.cells r K.cells enough e (s.cells.ends e).at l refl w)
         | inr m ↦ moves_at e (TakeCell stays x) l is m
       ]
   open_moves e (TakeItem stays) l is some send receive =
       elim (passing_moves s.items e (s.items.ends e).at refl (fits_at e (TakeItem stays) is).1 (λ a. receive (stays, is, a))) [
-        | inl w ↦ by_item (waiter_moves n room 0 s.items r K.items roomy.items e (s.items.ends e).at l refl w)
+        | inl w ↦ by_item (waiter_moves n room 0 s.items r K.items enough e (s.items.ends e).at l refl w)
         | inr m ↦ moves_at e (TakeItem stays) l is m
       ]
   open_moves e (Insert stays x) l is some send receive = on_queue e (Insert stays x) l is (λ m. m)
@@ -119,12 +119,12 @@ module _ {A : Type 0} (n size room : ℕ) (s : ChannelState A) (z : 0 < size) (r
   open_moves e (Look stays) l is some send receive = moves_at e (Look stays) l is tt
   open_moves e (GiveCell both) l is some send receive =
       elim (giving_moves s.cells e (s.cells.ends e).at (fits_at e (GiveCell both) is).2) [
-        | inl w ↦ by_cell (waiter_moves n room size s.cells r K.cells roomy.cells e (s.cells.ends e).at l refl w)
+        | inl w ↦ by_cell (waiter_moves n room size s.cells r K.cells enough e (s.cells.ends e).at l refl w)
         | inr m ↦ moves_at e (GiveCell both) l is m
       ]
   open_moves e GiveItem l is some send receive =
       elim (giving_moves s.items e (s.items.ends e).at (fits_at e GiveItem is).1) [
-        | inl w ↦ by_item (waiter_moves n room 0 s.items r K.items roomy.items e (s.items.ends e).at l refl w)
+        | inl w ↦ by_item (waiter_moves n room 0 s.items r K.items enough e (s.items.ends e).at l refl w)
         | inr m ↦ moves_at e GiveItem l is m
       ]
 

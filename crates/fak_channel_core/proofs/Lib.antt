@@ -12,5 +12,6 @@ pub mod ChannelQueueSteps
 pub mod SleepMoved
 pub mod ChannelSteps
 pub mod ChannelReached
+pub mod SleepRoom
 pub mod SleepProgress
 pub mod ChannelProgress

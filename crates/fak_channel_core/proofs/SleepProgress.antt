@@ -1,5 +1,5 @@
 -- While an end of a semaphore parks a token or takes one, some such end's next step moves its call forward.
-use Rattle.std.specs.Prelude.{◌≡◌, ◌⊎◌, ℕ, zero, suc, ◌%◌, ◌<◌, ◌≤ℤ◌, ◌<ℤ◌, pos, Bool, true, false, Option, Some, None}
+use Rattle.std.specs.Prelude.{◌≤◌, ◌≡◌, ◌⊎◌, ℕ, zero, suc, ◌%◌, ◌<◌, ◌≤ℤ◌, ◌<ℤ◌, pos, Bool, true, false, Option, Some, None}
 use Rattle.fak_model.specs.Queue.{count, puts, gots, lower_raise, lower_drop}
 use Rattle.fak_model.specs.Histories.{sum_below}
 use Rattle.fak_model.specs.declared.queue.Stage.TheVariants as made
@@ -16,6 +16,8 @@ use Rattle.fak_core.proofs.QueueProgress.{IsUnblocked, unblocked_moves, some_hol
 use Rattle.fak_channel_core.specs.SleepMoves.{SleepPhase, Idle, TestDown, Down, Parking, Sleeping, TakeBack, GiveUp, Up, Waking, Marking, SleepState}
 use Rattle.fak_channel_core.specs.ChannelProgress.{ParkMoves, WakeMoves, SemaphoreMoves}
 use Rattle.fak_channel_core.proofs.SleepKept.{parks, owes, Inserting, Deleting, Stands, SleepKept}
+use Rattle.fak_model.proofs.QueueCounts.{in_claim_in, in_over_in}
+use Rattle.fak_channel_core.proofs.SleepRoom.{room_left, live_unset}
 use Rattle.fak_channel_core.proofs.SleepReached.{at_least_one}
 
 -- ---- a search
@@ -120,7 +122,7 @@ waking_unclaimed (Some t) (queue.SetFree k) f b = absurd cc
 waking_unclaimed (Some t) (queue.EndDelete k) f b = absurd cc
 waking_unclaimed u p f b = absurd f
 
-module _ (n room start : ℕ) (s : SleepState) (z : 0 < room) (K : SleepKept n room start s) (roomy : s.waits.upper <ℤ pos room) where
+module _ (n room start : ℕ) (s : SleepState) (z : 0 < room) (K : SleepKept n room start s) (enough : n ≤ room) where
   -- some end that waits can move
   abbrev pub SomeWaiterMoves : Type 0
   SomeWaiterMoves = (t : ℕ) × (t < n) × IsWaiting (s.ends t).at × SemaphoreMoves room s t (s.ends t).at
@@ -160,18 +162,25 @@ module _ (n room start : ℕ) (s : SleepState) (z : 0 < room) (K : SleepKept n r
   here_parks t p l is is_p m =
       (t, l, subst IsWaiting (sym is) tt, subst (SemaphoreMoves room s t) (sym is) (subst (ParkMoves room s.waits t) (sym is_p) m))
 
-  parking_moves : (t : ℕ) (p : Phase ℕ) → t < n → (s.ends t).at ≡ Parking → s.waits.phase t ≡ p → (o : Bool) → Inserting t o p → SomeWaiterMoves
-  parking_moves t queue.Idle l is is_p false f = here_parks t queue.Idle l is is_p tt
-  parking_moves t (queue.TestUp x) l is is_p false f = here_parks t (queue.TestUp x) l is is_p roomy
-  parking_moves t (queue.AddUp x) l is is_p false f = here_parks t (queue.AddUp x) l is is_p roomy
-  parking_moves t (queue.BackUp x) l is is_p false f = here_parks t (queue.BackUp x) l is is_p (alone_moves t (queue.BackUp x) is_p tt)
-  parking_moves t (queue.TicketIn x) l is is_p false f = here_parks t (queue.TicketIn x) l is is_p (alone_moves t (queue.TicketIn x) is_p tt)
-  parking_moves t (queue.TurnIn k x) l is is_p true f = ticket_at t (k % room) (queue.TurnIn k x) is_p refl
-  parking_moves t (queue.StoreItem k x) l is is_p true f = ticket_at t (k % room) (queue.StoreItem k x) is_p refl
-  parking_moves t (queue.SetFull k x) l is is_p true f = ticket_at t (k % room) (queue.SetFull k x) is_p refl
-  parking_moves t (queue.EndInsert k) l is is_p true f = here_parks t (queue.EndInsert k) l is is_p (alone_moves t (queue.EndInsert k) is_p tt)
-  parking_moves t p l is is_p false f = absurd f
-  parking_moves t p l is is_p true f = absurd f
+  -- one that has claimed no cell finds room
+  unclaimed_room : (t : ℕ) (p : Phase ℕ) → t < n → s.waits.phase t ≡ p → (s.ends t).out ≡ false → in_claim_in (shown p) ≡ 0 → in_over_in (shown p) ≡ 0 → s.waits.upper <ℤ pos room
+  unclaimed_room t p l is_p home a b =
+      let dead = live_unset (s.ends t).out (s.ends t).woken home in
+      let x = ap (λ q. in_claim_in (shown q)) is_p in let y = ap (λ q. in_over_in (shown q)) is_p in
+      room_left n room start s K t l enough (omega arith)
+
+  parking_moves : (t : ℕ) (p : Phase ℕ) → t < n → (s.ends t).at ≡ Parking → s.waits.phase t ≡ p → (o : Bool) → (s.ends t).out ≡ o → Inserting t o p → SomeWaiterMoves
+  parking_moves t queue.Idle l is is_p false is_o f = here_parks t queue.Idle l is is_p tt
+  parking_moves t (queue.TestUp x) l is is_p false is_o f = here_parks t (queue.TestUp x) l is is_p (unclaimed_room t (queue.TestUp x) l is_p is_o refl refl)
+  parking_moves t (queue.AddUp x) l is is_p false is_o f = here_parks t (queue.AddUp x) l is is_p (unclaimed_room t (queue.AddUp x) l is_p is_o refl refl)
+  parking_moves t (queue.BackUp x) l is is_p false is_o f = here_parks t (queue.BackUp x) l is is_p (alone_moves t (queue.BackUp x) is_p tt)
+  parking_moves t (queue.TicketIn x) l is is_p false is_o f = here_parks t (queue.TicketIn x) l is is_p (alone_moves t (queue.TicketIn x) is_p tt)
+  parking_moves t (queue.TurnIn k x) l is is_p true is_o f = ticket_at t (k % room) (queue.TurnIn k x) is_p refl
+  parking_moves t (queue.StoreItem k x) l is is_p true is_o f = ticket_at t (k % room) (queue.StoreItem k x) is_p refl
+  parking_moves t (queue.SetFull k x) l is is_p true is_o f = ticket_at t (k % room) (queue.SetFull k x) is_p refl
+  parking_moves t (queue.EndInsert k) l is is_p true is_o f = here_parks t (queue.EndInsert k) l is is_p (alone_moves t (queue.EndInsert k) is_p tt)
+  parking_moves t p l is is_p false is_o f = absurd f
+  parking_moves t p l is is_p true is_o f = absurd f
 
   -- an end that takes a token
   here_wakes : (t : ℕ) (u : Option ℕ) (p : Phase ℕ) → t < n → (s.ends t).at ≡ Waking u → s.waits.phase t ≡ p → WakeMoves room s.waits t p → SomeWaiterMoves
@@ -191,7 +200,7 @@ module _ (n room start : ℕ) (s : SleepState) (z : 0 < room) (K : SleepKept n r
   waking_moves t u p l is is_p f b = absurd f
 
   busy_moves : (t : ℕ) (a : SleepPhase) → t < n → (s.ends t).at ≡ a → busy a (s.waits.phase t) ≡ true → SomeWaiterMoves
-  busy_moves t Parking l is b = parking_moves t (s.waits.phase t) l is refl (s.ends t).out (stand_at t Parking is).1
+  busy_moves t Parking l is b = parking_moves t (s.waits.phase t) l is refl (s.ends t).out refl (stand_at t Parking is).1
   busy_moves t (Waking u) l is b = waking_moves t u (s.waits.phase t) l is refl (stand_at t (Waking u) is).1 b
   busy_moves t _ l is b = absurd cc
 

@@ -68,7 +68,7 @@ is_self : (t : ℕ) → holds t (Marking t) ≡ 1
 is_self t = grind (arith, common_steps)
 
 -- an end whose token is out is in use
-used_below : (n room start : ℕ) (s : SleepState) (t : ℕ) → SleepKept n room start s → (s.ends t).out ≡ true → t < n
+pub used_below : (n room start : ℕ) (s : SleepState) (t : ℕ) → SleepKept n room start s → (s.ends t).out ≡ true → t < n
 used_below n room start s t K is_out = elim (le_or_lt n t) [
   | inl b ↦ (let unused = K.beyond t b in absurd (true_not_false (s.ends t).out is_out unused.1))
   | inr l ↦ l

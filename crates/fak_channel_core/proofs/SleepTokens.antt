@@ -1,6 +1,6 @@
 -- Tokens in the wait queue, in hands, and of ends that wait.
 use Rattle.std.specs.Prelude.{◌≡◌, ℕ, ◌+◌, ◌<◌, ◌≤◌, Bool, true, false}
-use Rattle.fak_core.proofs.Common.{QueueState, arith, common_steps, sum_by}
+use Rattle.fak_core.proofs.Common.{refl, QueueState, arith, common_steps, sum_by}
 use Rattle.std.proofs.lemmas.List.Sums.{sum_by-le-sum_by}
 use Rattle.fak_model.specs.Queue.{count, puts, gots, contents}
 use Rattle.fak_model.specs.Weights.{put_of, got_of}
@@ -16,6 +16,10 @@ use Rattle.fak_channel_core.proofs.SleepKept.{holds, live, is, SleepKept}
 -- how many tokens of end t the wait queue has
 pub tokens_in : QueueState ℕ → ℕ → ℕ
 tokens_in w t = sum_by (is t) (contents (history_of w))
+
+pub tokens_is : (w : QueueState ℕ) (t : ℕ) → tokens_in w t ≡ sum_by (is t) (contents (history_of w))
+unfolding tokens_in
+tokens_is w t = refl
 
 is_one : (t x : ℕ) → is t x ≤ 1
 is_one t x = grind (arith, common_steps)

@@ -48,8 +48,3 @@ CallMoves size room s e Shutting = QueueCallMoves size s.queue e
 -- the next step of one of the first n ends moves its call forward
 abbrev pub SomeEndMoves : {A : Type 0} → ℕ → ℕ → ℕ → ChannelState A → Type 0
 SomeEndMoves n size room s = (t : ℕ) × (t < n) × CallMoves size room s t (s.at t)
-
--- neither wait queue is full of tokens and of claims
-pub record WaitsHaveRoom {A : Type 0} (room : ℕ) (s : ChannelState A) : Type 0 where
-  pub items : s.items.waits.upper <ℤ pos room
-  pub cells : s.cells.waits.upper <ℤ pos room

@@ -1,10 +1,10 @@
 //! The laws of a channel whose threads sleep, for every number of ends, every size and every schedule.
 
-ghost use Rattle.std.specs.Prelude.{◌≡◌, ℕ, ◌<◌, List, [], length, false, true, Bool};
+ghost use Rattle.std.specs.Prelude.{◌≤◌, ◌≡◌, ℕ, ◌<◌, List, [], length, false, true, Bool};
 ghost use Rattle.fak_model.specs.Queue.{IsQueueHistory, contents};
 ghost use Rattle.fak_core.specs.QueueMoves.{history_of};
 ghost use Rattle.fak_channel_core.specs.ChannelMoves.{ChannelState, Delete, Idle, Insert, Look, TakeCell, TakeItem, channel_step};
-ghost use Rattle.fak_channel_core.specs.ChannelProgress.{SomeEndMoves, WaitsHaveRoom};
+ghost use Rattle.fak_channel_core.specs.ChannelProgress.{SomeEndMoves};
 ghost use Rattle.fak_channel_core.specs.ChannelSchedule.{ChannelEvent, HasNoOverClaim, IsClosedAndDrained, OnlySleepersAreIn, ReceiveSleeps, SendSleeps, channel_reached};
 ghost use Rattle.fak_channel_core.specs.SleepMoves.{Sleeping};
 
@@ -53,10 +53,9 @@ pub fn a_woken_end_goes_on<T>()
 {}
 
 /// A channel never locks up: while an end's call is open and it is not asleep, some end's next step moves its own call
-/// forward, where the wait queues have room.
+/// forward. The wait queues need a cell for each end: then no token finds its wait queue full.
 pub fn a_channel_never_locks_up<T>()
-    ensures { (n size room e : ℕ) (schedule : List (ChannelEvent T)) → 0 < size → 0 < room
-        → WaitsHaveRoom room (channel_reached n size room schedule)
+    ensures { (n size room e : ℕ) (schedule : List (ChannelEvent T)) → 0 < size → 0 < room → n ≤ room
         → ((channel_reached n size room schedule).at e ≡ Idle → ⊥)
         → (SendSleeps (channel_reached n size room schedule) e → ⊥)
         → (ReceiveSleeps (channel_reached n size room schedule) e → ⊥)
