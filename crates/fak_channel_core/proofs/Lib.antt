@@ -15,3 +15,4 @@ pub mod ChannelReached
 pub mod SleepRoom
 pub mod SleepProgress
 pub mod ChannelProgress
+pub mod Projections

@@ -6,7 +6,7 @@ use Rattle.fak_model.specs.Queue.{Has, contents}
 use Rattle.fak_core.specs.declared.queue.phase.Phase.{Phase}
 use Rattle.fak_core.specs.declared.queue.phase.Phase.TheVariants.{TicketIn, TurnIn, StoreItem, SetFull, EndInsert, TicketOut, TurnOut, LoadItem, SetFree, EndDelete}
 use Rattle.fak_core.specs.QueueMoves.{QueueState, history_of}
-use Rattle.fak_core.specs.QueueSchedule.{opening as empty_queue}
+use Rattle.fak_core.specs.QueueSchedule.{IsReached, opening as empty_queue}
 use Rattle.fak_channel_core.specs.SleepSchedule.{sleep_opening, IsAsleep}
 use Rattle.fak_channel_core.specs.ChannelMoves.{Idle, TakeCell, TakeItem, Shutting, ChannelState, channel_step, begin_call, expire_in}
 
@@ -90,3 +90,9 @@ pub record HasNoOverClaim {A : Type 0} (h : List (Mark A)) : Type 0 where
   pub full : Has NoRoom h → ⊥
   pub over_in : Has OverIn h → ⊥
   pub over_out : Has OverOut h → ⊥
+
+-- the queue and both wait queues are reached states of queues of these sizes
+pub record AreReached {A : Type 0} (size room : ℕ) (s : ChannelState A) : Type 0 where
+  pub queue : IsReached size s.queue
+  pub items : IsReached room s.items.waits
+  pub cells : IsReached room s.cells.waits

@@ -5,7 +5,7 @@ ghost use Rattle.fak_model.specs.Queue.{IsQueueHistory, contents};
 ghost use Rattle.fak_core.specs.QueueMoves.{history_of};
 ghost use Rattle.fak_channel_core.specs.ChannelMoves.{ChannelState, Delete, Idle, Insert, Look, TakeCell, TakeItem, channel_step};
 ghost use Rattle.fak_channel_core.specs.ChannelProgress.{SomeEndMoves};
-ghost use Rattle.fak_channel_core.specs.ChannelSchedule.{ChannelEvent, HasNoOverClaim, IsClosedAndDrained, OnlySleepersAreIn, ReceiveSleeps, SendSleeps, channel_reached};
+ghost use Rattle.fak_channel_core.specs.ChannelSchedule.{AreReached, ChannelEvent, HasNoOverClaim, IsClosedAndDrained, OnlySleepersAreIn, ReceiveSleeps, SendSleeps, channel_reached};
 ghost use Rattle.fak_channel_core.specs.SleepMoves.{Sleeping};
 
 /// No wake-up is lost. Where only sleepers have open calls, a receiver sleeps only if the queue is empty and not shut, and
@@ -19,6 +19,12 @@ pub fn nobody_sleeps_beside_work<T>()
         → OnlySleepersAreIn (channel_reached n size room schedule) → SendSleeps (channel_reached n size room schedule) e
         → (length (contents (history_of (channel_reached n size room schedule).queue)) ≡ size)
         × ((channel_reached n size room schedule).queue.shut ≡ false) }
+{}
+
+/// The queue and both wait queues are reached states of the queue core, so its laws hold of them.
+pub fn each_queue_of_a_channel_is_reached<T>()
+    ensures { (n size room : ℕ) (schedule : List (ChannelEvent T))
+        → AreReached size room (channel_reached n size room schedule) }
 {}
 
 /// The marks of a channel's queue are a legal history of a queue of that size, whatever the schedule.
