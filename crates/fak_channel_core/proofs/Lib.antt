@@ -16,3 +16,4 @@ pub mod SleepRoom
 pub mod SleepProgress
 pub mod ChannelProgress
 pub mod Projections
+pub mod ChannelRounds

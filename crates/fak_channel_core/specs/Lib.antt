@@ -4,3 +4,4 @@ pub mod ChannelMoves
 pub mod ChannelSchedule
 pub mod ChannelExamples
 pub mod ChannelProgress
+pub mod ChannelRounds

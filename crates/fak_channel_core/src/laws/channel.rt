@@ -1,10 +1,12 @@
 //! The laws of a channel whose threads sleep, for every number of ends, every size and every schedule.
 
-ghost use Rattle.std.specs.Prelude.{◌≤◌, ◌≡◌, ℕ, ◌<◌, List, [], length, false, true, Bool};
+ghost use Rattle.std.specs.Prelude.{◌*◌, ◌+◌, min, ◌≤◌, ◌≡◌, ℕ, ◌<◌, List, [], length, false, true, Bool};
+ghost use Rattle.std.specs.List.{All};
 ghost use Rattle.fak_model.specs.Queue.{IsQueueHistory, contents};
 ghost use Rattle.fak_core.specs.QueueMoves.{history_of};
 ghost use Rattle.fak_channel_core.specs.ChannelMoves.{ChannelState, Delete, Idle, Insert, Look, TakeCell, TakeItem, channel_step};
 ghost use Rattle.fak_channel_core.specs.ChannelProgress.{SomeEndMoves};
+ghost use Rattle.fak_channel_core.specs.ChannelRounds.{HasEndedWithin, IsChannelRound};
 ghost use Rattle.fak_channel_core.specs.ChannelSchedule.{AreReached, ChannelEvent, HasNoOverClaim, IsClosedAndDrained, OnlySleepersAreIn, ReceiveSleeps, SendSleeps, channel_reached};
 ghost use Rattle.fak_channel_core.specs.SleepMoves.{Sleeping};
 
@@ -66,4 +68,12 @@ pub fn a_channel_never_locks_up<T>()
         → (SendSleeps (channel_reached n size room schedule) e → ⊥)
         → (ReceiveSleeps (channel_reached n size room schedule) e → ⊥)
         → SomeEndMoves n size room (channel_reached n size room schedule) }
+{}
+
+/// Each call of the queue by an end ends, even while new calls keep beginning. In a round each of the n ends steps at least
+/// once, in any order: after 3 min(size, n) + 4 such rounds each insertion or deletion that was open has ended.
+pub fn every_call_of_the_queue_ends<T>()
+    ensures { (n size room e : ℕ) (schedule : List (ChannelEvent T)) (rounds : List (List (ChannelEvent T))) → 0 < size
+        → 0 < room → All (IsChannelRound n) rounds → 3 * min size n + 4 ≤ length rounds
+        → HasEndedWithin n size room rounds (channel_reached n size room schedule) e }
 {}

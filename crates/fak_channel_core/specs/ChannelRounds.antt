@@ -1,0 +1,21 @@
+-- Rounds of a channel, in which each end makes a step.
+use Rattle.std.specs.Prelude.{ℕ, ◌≡◌, ◌⊎◌, ◌<◌, List, [], ◌∷◌}
+use Rattle.std.specs.List.{All, Contains}
+use Rattle.fak_core.specs.declared.queue.phase.Phase.TheVariants as queue
+use Rattle.fak_channel_core.specs.ChannelMoves.{ChannelState}
+use Rattle.fak_channel_core.specs.ChannelSchedule.{ChannelEvent, Steps, end_of, channel_happens, channel_run}
+
+-- only the first n ends have events, and each of them makes a step at least once
+pub record IsChannelRound {A : Type 0} (n : ℕ) (vs : List (ChannelEvent A)) : Type 0 where
+  pub each : (e : ℕ) → e < n → Contains vs (Steps e)
+  pub within : All (λ (v : ChannelEvent A). end_of v < n) vs
+
+-- the end has no call of the queue before one of these events, or after the last
+abbrev pub HasEndedOnce : {A : Type 0} → ℕ → ℕ → ℕ → List (ChannelEvent A) → ChannelState A → ℕ → Type 0
+HasEndedOnce n size room [] s e = s.queue.phase e ≡ queue.Idle
+HasEndedOnce n size room (v ∷ vs) s e = (s.queue.phase e ≡ queue.Idle) ⊎ HasEndedOnce n size room vs (channel_happens n size room s v) e
+
+-- the end has none at some time within these rounds
+abbrev pub HasEndedWithin : {A : Type 0} → ℕ → ℕ → ℕ → List (List (ChannelEvent A)) → ChannelState A → ℕ → Type 0
+HasEndedWithin n size room [] s e = s.queue.phase e ≡ queue.Idle
+HasEndedWithin n size room (r ∷ rs) s e = HasEndedOnce n size room r s e ⊎ HasEndedWithin n size room rs (channel_run n size room r s) e
