@@ -148,7 +148,7 @@ has_counts w κ (m ∷ h) one (inr more) = omega (arith, has_counts w κ h one m
 granted_stage : {A : Type 0} (p : Phase A) → IsGranted p → 0 < in_claim_in (shown p) + in_put (shown p) + in_claim_out (shown p) + in_got (shown p)
 granted_stage p g = grind (arith, common_steps)
 
-stage_used : {A : Type 0} (h : List (Mark A)) (s : ℕ) (w : Stage A → ℕ) → w made.Idle ≡ 0 → 0 < w (stage h s) → s < seat_bound h
+pub stage_used : {A : Type 0} (h : List (Mark A)) (s : ℕ) (w : Stage A → ℕ) → w made.Idle ≡ 0 → 0 < w (stage h s) → s < seat_bound h
 stage_used h s w none some = elim (le_or_lt (seat_bound h) s) [
   | inl b ↦ (let idle = ap w (stage_beyond h s b) in absurd (omega arith))
   | inr l ↦ l

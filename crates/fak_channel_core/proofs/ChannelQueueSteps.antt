@@ -162,7 +162,7 @@ module _ {A : Type 0} (n size room : ℕ) (s : ChannelState A) (e : ℕ) (l : e 
   InsertKept stays x m = IsKept size (moved s.queue e m) → ChannelKept n size room (insert s e stays x (Some m))
 
   -- while the queue is not shut, the credit of a cell means that there is room
-  room_left : (stays : Bool) (x : A) (p : Phase A) → s.at e ≡ Insert stays x → s.queue.phase e ≡ p → unclaimed_in p ≡ 1 → s.queue.shut ≡ false → int_lt s.queue.upper (pos size) ≡ false → ⊥
+  pub room_left : (stays : Bool) (x : A) (p : Phase A) → s.at e ≡ Insert stays x → s.queue.phase e ≡ p → unclaimed_in p ≡ 1 → s.queue.shut ≡ false → int_lt s.queue.upper (pos size) ≡ false → ⊥
   room_left stays x p is_at is_p one is_open full =
       let held : cell_at_end s e ≡ unclaimed_in p = cc in
       let term = sum_term (cell_at_end s) e n l in

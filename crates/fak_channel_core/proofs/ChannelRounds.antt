@@ -44,11 +44,11 @@ run_append size (e ∷ es) fs q = run_append size es fs (happens size q e)
 -- ---- one step
 
 module _ {A : Type 0} (size room : ℕ) (s : ChannelState A) (e : ℕ) where
-  cell_same : (stays : Bool) (x : A) (p : SleepPhase) → (take_cell room s e stays x p).queue ≡ s.queue
+  pub cell_same : (stays : Bool) (x : A) (p : SleepPhase) → (take_cell room s e stays x p).queue ≡ s.queue
   cell_same stays x sleep.Idle = refl
   cell_same stays x _ = refl
 
-  item_same : (stays : Bool) (p : SleepPhase) → (take_item room s e stays p).queue ≡ s.queue
+  pub item_same : (stays : Bool) (p : SleepPhase) → (take_item room s e stays p).queue ≡ s.queue
   item_same stays sleep.Idle = refl
   item_same stays _ = refl
 
@@ -99,7 +99,7 @@ module _ {A : Type 0} (size room : ℕ) (s : ChannelState A) (e : ℕ) where
   expire_item_same stays sleep.Sleeping = refl
   expire_item_same stays _ = refl
 
-  expire_same : (y : ChannelPhase A) → (expire_in s e y).queue ≡ s.queue
+  pub expire_same : (y : ChannelPhase A) → (expire_in s e y).queue ≡ s.queue
   expire_same (TakeCell stays x) = expire_cell_same stays x (s.cells.ends e).at
   expire_same (TakeItem stays) = expire_item_same stays (s.items.ends e).at
   expire_same _ = refl
@@ -118,7 +118,7 @@ happens_run {A} n size room s v l K =
 
 -- ---- a schedule
 
-abbrev Early : {A : Type 0} → ℕ → ChannelEvent A → Type 0
+abbrev pub Early : {A : Type 0} → ℕ → ChannelEvent A → Type 0
 Early n v = end_of v < n
 
 schedule_run : {A : Type 0} (n size room : ℕ) (vs : List (ChannelEvent A)) (s : ChannelState A) → 0 < size → 0 < room → All (Early {A = A} n) vs → ChannelKept n size room s

@@ -18,7 +18,7 @@ use Rattle.fak_channel_core.proofs.ChannelQueueSteps.{both_whole, true_not_false
 after_refused : {A : Type 0} (still next : ChannelPhase A) (q : SleepPhase) (t : Bool) → q ≡ sleep.Idle → t ≡ false → after_pass still next q t ≡ Idle
 after_refused still next q t is none = ap (λ r. after_pass still next r t) is ∙ ap (after_pass still next sleep.Idle) none
 
-after_through : {A : Type 0} (still next : ChannelPhase A) (q : SleepPhase) (t : Bool) → q ≡ sleep.Idle → t ≡ true → after_pass still next q t ≡ next
+pub after_through : {A : Type 0} (still next : ChannelPhase A) (q : SleepPhase) (t : Bool) → q ≡ sleep.Idle → t ≡ true → after_pass still next q t ≡ next
 after_through still next q t is some = ap (λ r. after_pass still next r t) is ∙ ap (after_pass still next sleep.Idle) some
 
 after_open : {A : Type 0} (still next : ChannelPhase A) (q : SleepPhase) (t : Bool) → q ≢ sleep.Idle → after_pass still next q t ≡ still

@@ -17,3 +17,5 @@ pub mod SleepProgress
 pub mod ChannelProgress
 pub mod Projections
 pub mod ChannelRounds
+pub mod ChannelOthers
+pub mod ChannelServed

@@ -1,8 +1,9 @@
 -- Rounds of a channel, in which each end makes a step.
-use Rattle.std.specs.Prelude.{ℕ, ◌≡◌, ◌⊎◌, ◌<◌, List, [], ◌∷◌}
+use Rattle.std.specs.Prelude.{ℕ, ◌≡◌, ◌⊎◌, ◌<◌, Bool, true, List, [], ◌∷◌}
 use Rattle.std.specs.List.{All, Contains}
 use Rattle.fak_core.specs.declared.queue.phase.Phase.TheVariants as queue
-use Rattle.fak_channel_core.specs.ChannelMoves.{ChannelState}
+use Rattle.fak_channel_core.specs.SleepMoves.{Sleeping}
+use Rattle.fak_channel_core.specs.ChannelMoves.{ChannelPhase, TakeCell, TakeItem, Look, GiveCell, GiveItem, ChannelState}
 use Rattle.fak_channel_core.specs.ChannelSchedule.{ChannelEvent, Steps, end_of, channel_happens, channel_run}
 
 -- only the first n ends have events, and each of them makes a step at least once
@@ -19,3 +20,27 @@ HasEndedOnce n size room (v ∷ vs) s e = (s.queue.phase e ≡ queue.Idle) ⊎ H
 abbrev pub HasEndedWithin : {A : Type 0} → ℕ → ℕ → ℕ → List (List (ChannelEvent A)) → ChannelState A → ℕ → Type 0
 HasEndedWithin n size room [] s e = s.queue.phase e ≡ queue.Idle
 HasEndedWithin n size room (r ∷ rs) s e = HasEndedOnce n size room r s e ⊎ HasEndedWithin n size room rs (channel_run n size room r s) e
+
+-- ---- a woken call
+
+-- a send or a receive sleeps, and was woken
+abbrev pub WasWoken : {A : Type 0} → ChannelState A → ℕ → Type 0
+WasWoken {A} s e = ((stays : Bool) × (x : A) × (s.at e ≡ TakeCell stays x) × ((s.cells.ends e).at ≡ Sleeping) × ((s.cells.ends e).woken ≡ true))
+    ⊎ ((stays : Bool) × (s.at e ≡ TakeItem stays) × ((s.items.ends e).at ≡ Sleeping) × ((s.items.ends e).woken ≡ true))
+
+-- the end has inserted its item or was refused as closed, or it has deleted an item or found the channel drained
+abbrev pub IsServed : {A : Type 0} → ChannelPhase A → Type 0
+IsServed (Look stays) = Unit {0}
+IsServed (GiveCell both) = Unit {0}
+IsServed GiveItem = Unit {0}
+IsServed _ = ⊥
+
+-- the end stands so before one of these events, or after the last
+abbrev pub IsServedOnce : {A : Type 0} → ℕ → ℕ → ℕ → List (ChannelEvent A) → ChannelState A → ℕ → Type 0
+IsServedOnce n size room [] s e = IsServed (s.at e)
+IsServedOnce n size room (v ∷ vs) s e = IsServed (s.at e) ⊎ IsServedOnce n size room vs (channel_happens n size room s v) e
+
+-- it stands so at some time within these rounds
+abbrev pub IsServedWithin : {A : Type 0} → ℕ → ℕ → ℕ → List (List (ChannelEvent A)) → ChannelState A → ℕ → Type 0
+IsServedWithin n size room [] s e = IsServed (s.at e)
+IsServedWithin n size room (r ∷ rs) s e = IsServedOnce n size room r s e ⊎ IsServedWithin n size room rs (channel_run n size room r s) e

@@ -6,7 +6,7 @@ ghost use Rattle.fak_model.specs.Queue.{IsQueueHistory, contents};
 ghost use Rattle.fak_core.specs.QueueMoves.{history_of};
 ghost use Rattle.fak_channel_core.specs.ChannelMoves.{ChannelState, Delete, Idle, Insert, Look, TakeCell, TakeItem, channel_step};
 ghost use Rattle.fak_channel_core.specs.ChannelProgress.{SomeEndMoves};
-ghost use Rattle.fak_channel_core.specs.ChannelRounds.{HasEndedWithin, IsChannelRound};
+ghost use Rattle.fak_channel_core.specs.ChannelRounds.{HasEndedWithin, IsChannelRound, IsServedWithin, WasWoken};
 ghost use Rattle.fak_channel_core.specs.ChannelSchedule.{AreReached, ChannelEvent, HasNoOverClaim, IsClosedAndDrained, OnlySleepersAreIn, ReceiveSleeps, SendSleeps, channel_reached};
 ghost use Rattle.fak_channel_core.specs.SleepMoves.{Sleeping};
 
@@ -76,4 +76,14 @@ pub fn every_call_of_the_queue_ends<T>()
     ensures { (n size room e : ℕ) (schedule : List (ChannelEvent T)) (rounds : List (List (ChannelEvent T))) → 0 < size
         → 0 < room → All (IsChannelRound n) rounds → 3 * min size n + 4 ≤ length rounds
         → HasEndedWithin n size room rounds (channel_reached n size room schedule) e }
+{}
+
+/// A call that was woken is soon served, even while new calls keep beginning: after 3 min(size, n) + 6 rounds in which each
+/// of the n ends steps, a send has inserted its item or was refused as closed, and a receive has deleted an item or found
+/// the channel drained.
+pub fn a_woken_call_is_served<T>()
+    ensures { (n size room e : ℕ) (schedule : List (ChannelEvent T)) (rounds : List (List (ChannelEvent T))) → 0 < size
+        → 0 < room → WasWoken (channel_reached n size room schedule) e → All (IsChannelRound n) rounds
+        → 3 * min size n + 6 ≤ length rounds
+        → IsServedWithin n size room rounds (channel_reached n size room schedule) e }
 {}
