@@ -91,3 +91,10 @@ second_sender_waits = sender_sleeps ++ Sends 0 true 5 ∷ steps_of 0 10 ++ Close
 
 abbrev pub second_sender_wakes : List (ChannelEvent ℕ)
 second_sender_wakes = second_sender_waits ++ steps_of 2 14
+
+-- a round in which each of the three ends makes one step, and this many such rounds
+abbrev pub round_of_three : List (ChannelEvent ℕ)
+round_of_three = Steps 0 ∷ Steps 1 ∷ Steps 2 ∷ []
+
+abbrev pub rounds_of_three : ℕ → List (List (ChannelEvent ℕ))
+rounds_of_three n = replicate n round_of_three

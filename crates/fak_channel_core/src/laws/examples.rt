@@ -1,11 +1,13 @@
 //! Known schedules on either side of the definitions.
 
-ghost use Rattle.std.specs.Prelude.{◌≡◌, ◌∷◌, [], ◌++◌, true, false, negsuc, pos};
+ghost use Rattle.std.specs.Prelude.{ℕ, ◌≡◌, ◌∷◌, [], ◌++◌, true, false, negsuc, pos};
 ghost use Rattle.fak_model.specs.Queue.{contents};
 ghost use Rattle.fak_core.specs.QueueMoves.{history_of};
-ghost use Rattle.fak_channel_core.specs.ChannelExamples.{after, close_wakes_receiver, close_wakes_sender, deadline_comes, deadline_is_late, give_is_repeated, last_item_waits, last_item_wakes, late_claim_waits, late_claim_wakes, receiver_ends, receiver_is_told, receiver_sleeps, receiver_wakes, second_receiver_wakes, second_sender_waits, second_sender_wakes, sender_owes, sender_sleeps, sender_wakes, token_is_gone, try_is_refused};
+ghost use Rattle.fak_channel_core.specs.ChannelExamples.{after, close_wakes_receiver, close_wakes_sender, deadline_comes, deadline_is_late, give_is_repeated, last_item_waits, last_item_wakes, late_claim_waits, late_claim_wakes, receiver_ends, receiver_is_told, receiver_sleeps, receiver_wakes, rounds_of_three, second_receiver_wakes, second_sender_waits, second_sender_wakes, sender_owes, sender_sleeps, sender_wakes, token_is_gone, try_is_refused};
 ghost use Rattle.fak_channel_core.specs.ChannelMoves.{Delete, Idle, Look, TakeCell, TakeItem};
-ghost use Rattle.fak_channel_core.specs.ChannelSchedule.{OnlySleepersAreIn, ReceiveSleeps, SendSleeps};
+ghost use Rattle.fak_channel_core.specs.ChannelProgress.{CallMoves, SomeEndMoves};
+ghost use Rattle.fak_channel_core.specs.ChannelRounds.{IsChannelRound, IsServedWithin, WasWoken};
+ghost use Rattle.fak_channel_core.specs.ChannelSchedule.{Closes, OnlySleepersAreIn, ReceiveSleeps, Receives, SendSleeps, Steps};
 ghost use Rattle.fak_channel_core.specs.SleepMoves.{Down};
 
 /// A receiver sleeps on the empty channel, and only sleepers have open calls. A send wakes it, and it takes the item. Before
@@ -68,4 +70,27 @@ pub fn each_that_is_told_wakes_the_next()
     ensures sleeps { SendSleeps (after second_sender_waits) 0 }
     ensures senders { ((after second_sender_wakes).at 2 ≡ Idle)
         × (((after second_sender_wakes).cells.ends 0).woken ≡ true) }
+{}
+
+/// A sleeper's step moves nothing until it is woken, and nothing does that of an end without a call. While the sender owes
+/// a wake its step moves its call.
+pub fn the_ends_that_move_are_judged()
+    ensures asleep { CallMoves 1 3 (after receiver_sleeps) 0 ((after receiver_sleeps).at 0) → ⊥ }
+    ensures idle { CallMoves 1 3 (after receiver_sleeps) 1 ((after receiver_sleeps).at 1) → ⊥ }
+    ensures owes { CallMoves 1 3 (after sender_owes) 1 ((after sender_owes).at 1) }
+    ensures awake { CallMoves 1 3 (after sender_wakes) 0 ((after sender_wakes).at 0) }
+    ensures beyond { SomeEndMoves 1 1 3 (after sender_owes) → ⊥ }
+    ensures among { SomeEndMoves 2 1 3 (after sender_owes) }
+{}
+
+/// In a round each end steps, and no other end does anything. A woken receive of a channel with one cell may need all of
+/// the nine rounds that the law allows: after eight it is not served.
+pub fn the_rounds_of_a_channel_are_judged()
+    ensures round { IsChannelRound {A = ℕ} 2 (Steps 1 ∷ Receives 0 true ∷ Steps 0 ∷ []) }
+    ensures each { IsChannelRound {A = ℕ} 2 (Steps 0 ∷ []) → ⊥ }
+    ensures within { IsChannelRound {A = ℕ} 2 (Steps 0 ∷ Steps 1 ∷ Closes 2 ∷ []) → ⊥ }
+    ensures woken { WasWoken (after sender_wakes) 0 }
+    ensures not_woken { WasWoken (after receiver_sleeps) 0 → ⊥ }
+    ensures eight { IsServedWithin 3 1 3 (rounds_of_three 8) (after sender_wakes) 0 → ⊥ }
+    ensures nine { IsServedWithin 3 1 3 (rounds_of_three 9) (after sender_wakes) 0 }
 {}
