@@ -1,0 +1,5 @@
+pub mod Counting
+pub mod Dealing
+pub mod Trying
+pub mod Receipts
+pub mod Borrowing

@@ -1,0 +1,40 @@
+-- What calls by a borrowed end do. Which end it is, and what it has seen, is not known: some end made the call.
+use Rattle.std.specs.Prelude.{◌≡◌, Bool}
+use Rattle.fak_channel.specs.declared.channel.Channel.{Channel}
+use Rattle.fak_channel.specs.declared.seat.ChannelSeat.{ChannelSeat}
+use Rattle.fak_channel.specs.declared.fault.SendFault.{SendFault}
+use Rattle.fak_channel.specs.declared.fault.ReceiveFault.{ReceiveFault}
+use Rattle.fak_channel.specs.Channels.{Sends, SendsAfterLook, RefusesSend, RefusesTrySend, Receives, RefusesReceive, RefusesTryReceive, ClosesAs, IsSpent}
+
+-- a seat before and after a call of an end of some channel
+pub record Call (T : Type 0) : Type 0 where
+  pub channel : Channel T
+  pub old : ChannelSeat T
+  pub new : ChannelSeat T
+
+abbrev pub SomeEndSends : {T : Type 0} → T → Type 0
+SomeEndSends {T} x = (c : Call T) × Sends c.channel.queue.size x c.old c.new
+
+abbrev pub SomeEndRefusesSend : {T : Type 0} → T → SendFault T → Type 0
+SomeEndRefusesSend {T} x fault = (c : Call T) × RefusesSend c.channel.queue.size x c.old c.new fault
+
+abbrev pub SomeEndSendsAfterLook : {T : Type 0} → T → Type 0
+SomeEndSendsAfterLook {T} x = (c : Call T) × SendsAfterLook c.channel.queue.size x c.old c.new
+
+abbrev pub SomeEndRefusesTrySend : {T : Type 0} → T → SendFault T → Type 0
+SomeEndRefusesTrySend {T} x fault = (c : Call T) × RefusesTrySend c.channel.queue.size x c.old c.new fault
+
+abbrev pub SomeEndReceives : {T : Type 0} → T → Type 0
+SomeEndReceives {T} x = (c : Call T) × Receives c.channel.queue.size x c.old c.new
+
+abbrev pub SomeEndRefusesReceive : (T : Type 0) → ReceiveFault → Type 0
+SomeEndRefusesReceive T fault = (c : Call T) × RefusesReceive c.channel.queue.size c.old c.new fault
+
+abbrev pub SomeEndRefusesTryReceive : (T : Type 0) → ReceiveFault → Type 0
+SomeEndRefusesTryReceive T fault = (c : Call T) × RefusesTryReceive c.channel.queue.size c.old c.new fault
+
+abbrev pub SomeEndCloses : (T : Type 0) → Bool → Type 0
+SomeEndCloses T was_open = (c : Call T) × ClosesAs c.channel.queue.size was_open c.old c.new
+
+abbrev pub SomeEndIsSpent : (T : Type 0) → Type 0
+SomeEndIsSpent T = (c : Call T) × IsSpent c.old × (c.new ≡ c.old)

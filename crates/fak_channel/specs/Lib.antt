@@ -1,0 +1,4 @@
+pub mod Permits
+pub mod Channels
+pub mod Parts
+pub mod Lending

@@ -1,0 +1,112 @@
+//! How a thread acquires a permit.
+
+ghost use Rattle.std.specs.Prelude.{◌≡◌, ◌+◌, ◌<◌, ◌≤◌, false};
+ghost use Rattle.fak_channel.specs.Permits.{Acquires, AcquiresIf, calls_by};
+
+use crate::parking::park_at_last;
+use crate::permit_seat::PermitSeat;
+use crate::permits::Permits;
+use crate::sleeper::{Revived, Sleeper};
+use std::sync::Wait;
+use std::time::{Clock, Instant};
+
+impl Permits {
+    /// Acquires a permit; sleeps until there is one.
+    pub(crate) fn acquire<R: Wait>(&self, rt: &R, seat: &mut PermitSeat)
+        requires object { seat.old.object ≡ self.now }
+        requires left { calls_by seat.old < seat.old.stint }
+        ensures few { calls_by seat.new ≤ calls_by seat.old + 1 }
+        ensures acquires { Acquires seat.old seat.new }
+    {
+        if self.passes(rt, seat) {
+            return;
+        }
+        self.sleeper(seat).sleep(rt);
+        seat.is_parked = false;
+    }
+
+    /// Acquires a permit; sleeps until there is one, or until the deadline. True where it has one.
+    pub(crate) fn acquire_until<R: Wait + Clock>(
+        &self,
+        rt: &R,
+        seat: &mut PermitSeat,
+        deadline: Instant,
+    ) -> bool
+        requires object { seat.old.object ≡ self.now }
+        requires left { calls_by seat.old < seat.old.stint }
+        ensures few { calls_by seat.new ≤ calls_by seat.old + 1 }
+        ensures acquires { AcquiresIf result seat.old seat.new }
+    {
+        if self.passes(rt, seat) {
+            return true;
+        }
+        let is_woken = self.sleeper(seat).sleep_until(rt, deadline);
+        seat.is_parked = !is_woken;
+        is_woken
+    }
+
+    /// Acquires a permit where there is one, and does not sleep. True where it has one.
+    pub(crate) fn try_acquire<R: Wait>(&self, rt: &R, seat: &mut PermitSeat) -> bool
+        requires object { seat.old.object ≡ self.now }
+        requires left { calls_by seat.old < seat.old.stint }
+        ensures few { calls_by seat.new ≤ calls_by seat.old + 1 }
+        ensures acquires { AcquiresIf result seat.old seat.new }
+    {
+        if self.passes(rt, seat) {
+            return true;
+        }
+        let is_woken = self.sleeper(seat).give_up();
+        seat.is_parked = !is_woken;
+        is_woken
+    }
+
+    /// The seat's own sleeper.
+    fn sleeper(&self, seat: &PermitSeat) -> &Sleeper
+        requires { seat.now.object ≡ self.now }
+    {
+        &self.sleepers[seat.number as usize]
+    }
+
+    /// Whether the seat has a permit at once. Where it has none, its sleeper is in the wait queue.
+    fn passes<R: Wait>(&self, rt: &R, seat: &mut PermitSeat) -> bool
+        requires object { seat.old.object ≡ self.now }
+        requires left { calls_by seat.old < seat.old.stint }
+        ensures few { calls_by seat.new ≤ calls_by seat.old + 1 }
+        ensures acquires { AcquiresIf result seat.old seat.new }
+    {
+        if !seat.is_parked {
+            return self.goes_down(rt, seat);
+        }
+        match self.sleeper(seat).revive() {
+            Revived::Waits => false,
+            Revived::Woken => {
+                seat.is_parked = false;
+                true
+            }
+            Revived::Skipped => {
+                seat.is_parked = false;
+                self.goes_down(rt, seat)
+            }
+        }
+    }
+
+    /// A down of a seat whose sleeper is not parked: true where it passed, false where the sleeper is parked now.
+    fn goes_down<R: Wait>(&self, rt: &R, seat: &mut PermitSeat) -> bool
+        requires object { seat.old.object ≡ self.now }
+        requires left { calls_by seat.old < seat.old.stint }
+        requires fresh { seat.old.is_parked ≡ false }
+        ensures few { calls_by seat.new ≤ calls_by seat.old + 1 }
+        ensures acquires { AcquiresIf result seat.old seat.new }
+    {
+        match self.count.claim_down(&mut seat.count, seat.number) {
+            Ok(Some(_)) => true,
+            Ok(None) => {
+                self.sleepers[seat.number as usize].begin();
+                seat.is_parked = true;
+                park_at_last(&self.count, rt, &mut seat.count);
+                false
+            }
+            Err(_) => unreachable!(),
+        }
+    }
+}

@@ -1,0 +1,164 @@
+//! A lender of ends, for threads that hold none.
+
+ghost use Rattle.std.specs.Prelude.{◌≡◌, MatchResult};
+ghost use Rattle.fak_channel.specs.Lending.{SomeEndCloses, SomeEndIsSpent, SomeEndReceives, SomeEndRefusesReceive};
+ghost use Rattle.fak_channel.specs.Lending.{SomeEndRefusesSend, SomeEndRefusesTryReceive, SomeEndRefusesTrySend};
+ghost use Rattle.fak_channel.specs.Lending.{SomeEndSends, SomeEndSendsAfterLook};
+
+use crate::end::End;
+use crate::fault::{ChannelWorn, ReceiveFault, SendFault};
+use crate::shelf::Shelf;
+use std::alloc::{AllocError, Global};
+use std::fmt;
+use std::sync::{Condvar, Mutex, Wait};
+
+/// Lends ends of channels, each to one borrower at a time. A borrower sleeps while all ends are lent.
+///
+/// A call that sleeps keeps its end. So lend the ends of senders and those of receivers by two lenders: else receivers that
+/// sleep may have all ends, and no sender gets one.
+#[derive(Drop)]
+pub struct Lender<'c, T> {
+    idle: Mutex<Option<Box<Shelf<'c, T>>>>,
+    given_back: Condvar,
+}
+
+/// An end that was lent. It cannot be dropped, only given back (`Lender::take_back`).
+pub struct Loan<'c, T> {
+    shelf: Box<Shelf<'c, T>>,
+}
+
+impl<'c, T: Drop> Lender<'c, T> {
+    /// A lender that has no end yet.
+    pub fn new() -> Lender<'c, T> {
+        Lender {
+            idle: Mutex::new(None),
+            given_back: Condvar::new(),
+        }
+    }
+
+    /// Gives the lender an end.
+    ///
+    /// # Errors
+    ///
+    /// `AllocError`, where there was no memory; the end is dropped.
+    pub fn add<R: Wait>(&self, rt: &R, alloc: Global, end: End<'c, T>) -> Result<(), AllocError> {
+        let shelf = Box::new(alloc, Shelf { end, below: None })?;
+        self.take_back(rt, Loan { shelf });
+        Ok(())
+    }
+
+    /// Lends an end. The thread sleeps while all are lent.
+    pub fn lend<R: Wait>(&self, rt: &R) -> Loan<'c, T> {
+        for _ in rt.forever() {
+            let mut idle = self
+                .given_back
+                .wait_while(rt, self.idle.lock(rt), |idle| idle.is_none());
+            if let Some(mut shelf) = idle.take() {
+                *idle = shelf.below.take();
+                return Loan { shelf };
+            }
+        }
+        unreachable!()
+    }
+
+    /// Takes an end back that was lent, and wakes a borrower that waits for one.
+    pub fn take_back<R: Wait>(&self, rt: &R, loan: Loan<'c, T>) {
+        let Loan { mut shelf } = loan;
+        let mut idle = self.idle.lock(rt);
+        shelf.below = idle.take();
+        *idle = Some(shelf);
+        drop(idle);
+        self.given_back.notify_one();
+    }
+
+    /// Sends the item by an end that it borrows.
+    ///
+    /// # Errors
+    ///
+    /// As `End::send`; the item comes back.
+    pub fn send<R: Wait>(&self, rt: &R, item: T) -> Result<(), SendFault<T>>
+        ensures { MatchResult result (λ _. SomeEndSends item) (SomeEndRefusesSend item) }
+    {
+        let mut loan = self.lend(rt);
+        let sent = loan.end().send(rt, item);
+        self.take_back(rt, loan);
+        sent
+    }
+
+    /// Sends the item by an end that it borrows, where there is a free cell.
+    ///
+    /// # Errors
+    ///
+    /// As `End::try_send`; the item comes back.
+    pub fn try_send<R: Wait>(&self, rt: &R, item: T) -> Result<(), SendFault<T>>
+        ensures { MatchResult result (λ _. SomeEndSendsAfterLook item) (SomeEndRefusesTrySend item) }
+    {
+        let mut loan = self.lend(rt);
+        let sent = loan.end().try_send(rt, item);
+        self.take_back(rt, loan);
+        sent
+    }
+
+    /// Receives the oldest item by an end that it borrows.
+    ///
+    /// # Errors
+    ///
+    /// As `End::receive`.
+    pub fn receive<R: Wait>(&self, rt: &R) -> Result<T, ReceiveFault>
+        ensures { MatchResult result SomeEndReceives (SomeEndRefusesReceive T) }
+    {
+        let mut loan = self.lend(rt);
+        let received = loan.end().receive(rt);
+        self.take_back(rt, loan);
+        received
+    }
+
+    /// Receives the oldest item by an end that it borrows, where there is one.
+    ///
+    /// # Errors
+    ///
+    /// As `End::try_receive`.
+    pub fn try_receive<R: Wait>(&self, rt: &R) -> Result<T, ReceiveFault>
+        ensures { MatchResult result SomeEndReceives (SomeEndRefusesTryReceive T) }
+    {
+        let mut loan = self.lend(rt);
+        let received = loan.end().try_receive(rt);
+        self.take_back(rt, loan);
+        received
+    }
+
+    /// Closes the channel by an end that it borrows. Tells whether the channel was open before.
+    ///
+    /// # Errors
+    ///
+    /// As `End::close`.
+    pub fn close<R: Wait>(&self, rt: &R) -> Result<bool, ChannelWorn>
+        ensures { MatchResult result (SomeEndCloses T) (λ _. SomeEndIsSpent T) }
+    {
+        let mut loan = self.lend(rt);
+        let closed = loan.end().close(rt);
+        self.take_back(rt, loan);
+        closed
+    }
+}
+
+impl<'c, T: Drop> Loan<'c, T> {
+    /// The end that is lent.
+    pub fn end(&mut self) -> &mut End<'c, T> {
+        &mut self.shelf.end
+    }
+}
+
+impl<'c, T> fmt::Debug for Lender<'c, T> {
+    fn fmt<W: fmt::Write>(&self, f: &mut fmt::Formatter<W>) -> fmt::Result {
+        f.debug_struct("Lender").finish_non_exhaustive()
+    }
+}
+
+impl<'c, T> fmt::Debug for Loan<'c, T> {
+    fn fmt<W: fmt::Write>(&self, f: &mut fmt::Formatter<W>) -> fmt::Result {
+        f.debug_struct("Loan")
+            .field("end", &self.shelf.end)
+            .finish()
+    }
+}

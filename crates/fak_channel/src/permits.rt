@@ -1,0 +1,24 @@
+//! Permits that threads acquire and release, and for which they sleep.
+
+use crate::sleeper::Sleeper;
+use fak_sem::Semaphore;
+use std::marker::Model;
+
+/// A count of permits. In its wait queue are the numbers of sleepers, of which each seat has one. Contracts see which
+/// semaphore counts.
+#[derive(Drop)]
+pub(crate) struct Permits {
+    pub(crate) count: Semaphore<u64>,
+    pub(crate) sleepers: Vec<Sleeper>,
+}
+
+impl Model for Permits {
+    ghost use Rattle.std.specs.Prelude.{◌≡◌, vec_len};
+    ghost use Rattle.fak_sem.specs.Semaphores.{SemId, seats_of};
+
+    ghost Value = { SemId };
+
+    ghost view = { λ p. p.count.object };
+
+    ghost invariant = { λ p. vec_len p.sleepers ≡ seats_of p.count.object };
+}

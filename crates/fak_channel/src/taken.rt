@@ -1,0 +1,11 @@
+//! What a receiver gets for a permit.
+
+/// What a receiver gets for a permit.
+pub(crate) enum Taken<T> {
+    /// The oldest item.
+    Item(T),
+    /// The channel is closed and drained.
+    Drained,
+    /// Neither: the permit was not of an item.
+    Nothing,
+}
