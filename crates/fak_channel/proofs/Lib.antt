@@ -1,5 +1,6 @@
 pub mod Counting
-pub mod Dealing
+pub mod Deals
 pub mod Trying
 pub mod Receipts
 pub mod Borrowing
+pub mod Opened

@@ -5,6 +5,7 @@ mod acquiring;
 mod announcing;
 mod channel;
 mod closing;
+mod dealing;
 mod end;
 mod fault;
 mod leaving;

@@ -1,10 +1,10 @@
 //! How a channel is opened.
 
-ghost use Rattle.std.specs.Prelude.{◌≡◌, IfOk, MatchResult};
+ghost use Rattle.std.specs.Prelude.{◌≡◌, All, IfOk, MatchResult};
 ghost use Rattle.fak_model.specs.Calls.{fresh_seats};
 ghost use Rattle.fak_model.specs.Limits.{IsInLargeRange, IsLargeFault};
 ghost use Rattle.fak_queue.specs.Refusals.{IsLargeSize};
-ghost use Rattle.fak_channel.specs.Channels.{fresh_channel_seats};
+ghost use Rattle.fak_channel.specs.Channels.{IsSeatOf, fresh_channel_seats};
 ghost use Rattle.fak_channel.specs.Permits.{fresh_permits};
 
 use crate::channel::Channel;
@@ -32,8 +32,8 @@ impl<T: Drop> Channel<T> {
         stint: u64,
     ) -> Result<(Channel<T>, Vec<ChannelSeat<T>>), LargeFault>
         ensures { MatchResult result (λ r. IsInLargeRange (IsLargeSize size) ends stint × (r.0.queue.size ≡ size)
-            × (r.0.queue.object.seats ≡ ends)
-            × (r.1.items ≡ fresh_channel_seats r.0 stint 0 ends)) (IsLargeFault (IsLargeSize size) ends stint) }
+            × (r.0.queue.object.seats ≡ ends) × (r.1.items ≡ fresh_channel_seats r.0 stint 0 ends)
+            × All (λ s. IsSeatOf r.0 s) r.1.items) (IsLargeFault (IsLargeSize size) ends stint) }
     {
         let (queue, queue_seats) = match Queue::open_large(alloc, size, ends, stint) {
             Ok(opened) => opened,

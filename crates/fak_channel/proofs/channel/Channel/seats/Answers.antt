@@ -3,7 +3,7 @@ use Rattle.fak_model.specs.declared.queue.Mark.{Mark}
 use Rattle.fak_channel.specs.Channels.{fresh_channel_seat, fresh_channel_seats}
 use Rattle.fak_channel.specs.Permits.{dealt, fresh_permit}
 use Rattle.fak_channel.specs.declared.seat.ChannelSeat.{ChannelSeat}
-use Rattle.fak_channel.proofs.Dealing.{fresh_seat, seats_dealt, length-dealt, next_dealt, dealt_next}
+use Rattle.fak_channel.proofs.Deals.{fresh_seat, seats_dealt, length-dealt, next_dealt, dealt_next}
 use Rattle.fak_channel.proofs.channel.Channel.seats.Goals as goal
 
 pub loop-name-init : goal.loop-name-init

@@ -1,7 +1,7 @@
 use Rattle.std.proofs.Common.{◌≡◌, ◌-◌}
 use Rattle.fak_channel.specs.Channels.{fresh_channel_seats}
 use Rattle.fak_channel.specs.Permits.{dealt, fresh_permit}
-use Rattle.fak_channel.proofs.Dealing.{fresh_seat}
+use Rattle.fak_channel.proofs.Deals.{fresh_seat}
 use Rattle.fak_channel.proofs.channel.Channel.seats.Given as goal
 
 -- the seats below this name are made, and the others are to come

@@ -1,7 +1,7 @@
 use Rattle.std.proofs.Common.{rules, ◌≡◌, ◌+◌, ◌-◌, ◌<◌, ◌++◌, [], ◌∷◌, ap, sym, ◌∙◌, length, arith, false, subst}
 use Rattle.fak_sem.specs.Semaphores.{SemSeatInfo}
 use Rattle.fak_channel.specs.Permits.{dealt, permit_info, fresh_permit}
-use Rattle.fak_channel.proofs.Dealing.{fresh_sem_seat, sem_dealt, length-dealt, next_dealt, dealt_next}
+use Rattle.fak_channel.proofs.Deals.{fresh_sem_seat, sem_dealt, length-dealt, next_dealt, dealt_next}
 use Rattle.fak_channel.proofs.permits.Permits.seats.Goals as goal
 
 pub loop-number-init : goal.loop-number-init

@@ -1,6 +1,6 @@
 use Rattle.std.proofs.Common.{◌≡◌, ◌-◌}
 use Rattle.fak_channel.specs.Permits.{dealt, fresh_permits}
-use Rattle.fak_channel.proofs.Dealing.{fresh_sem_seat}
+use Rattle.fak_channel.proofs.Deals.{fresh_sem_seat}
 use Rattle.fak_channel.proofs.permits.Permits.seats.Given as goal
 
 -- the seats below this number are made, and the others are to come
