@@ -70,7 +70,7 @@ module _ {T : Type 0} {c : Channel T} {old was : ChannelSeat T} (so_far : SoFar 
     nothing_more t = record { tries = then_looks (then_refused t.refused so_far.tries t.refuses) t.looks; same_cells = t.same_cells ∙ so_far.cells }
 
     pub over : TakesNone c.queue.size (record was { items = has }) new → IsDrained new.queue.seen → Releases has new.items → IsOver c.queue.size old new × HandsOn old.items new.items
-    over t drained releases = (record { nothing = nothing_more t; drained = drained }, record { has = has; acquires = seeks_then_acquires so_far.items acquires; releases = releases })
+    over t drained releases = (record { nothing = nothing_more t; lawful = t.looks.lawful; drained = drained }, record { has = has; acquires = seeks_then_acquires so_far.items acquires; releases = releases })
 
     pub goes_on : IsSeatOf c new → TakesNone c.queue.size (record was { items = has }) new → new.items ≡ has → SoFar c old new
     goes_on of t same = record {

@@ -2,7 +2,7 @@
 use Rattle.std.specs.Prelude.{◌≡◌, ◌⊎◌, ℕ, ◌+◌, ◌≤◌, Bool, true, false, List, [], pos, ◌≤ℤ◌}
 use Rattle.fak_model.specs.declared.queue.Kind.TheVariants.{Close}
 use Rattle.fak_model.specs.declared.queue.Mark.{Mark}
-use Rattle.fak_model.specs.Queue.{Has, lower_count}
+use Rattle.fak_model.specs.Queue.{Has, IsQueueHistory, lower_count}
 use Rattle.fak_model.specs.Calls.{SeatInfo, seat_info}
 use Rattle.fak_queue.specs.Drained.{IsDrained}
 use Rattle.fak_queue.specs.Queues.{Makes, Deletes, ShutsAs, IsIdleSeat, drawn_by}
@@ -137,6 +137,7 @@ pub record NothingReceived {T : Type 0} (size : ℕ) (old new : ChannelSeat T) :
 -- the channel is shut and drained
 pub record IsOver {T : Type 0} (size : ℕ) (old new : ChannelSeat T) : Type 0 where
   pub nothing : NothingReceived size old new
+  pub lawful : IsQueueHistory size new.queue.seen
   pub drained : IsDrained new.queue.seen
 
 abbrev pub RefusesReceive : {T : Type 0} → ℕ → ChannelSeat T → ChannelSeat T → ReceiveFault → Type 0

@@ -46,8 +46,13 @@ pub enum ReceiveFault {
 pub struct ChannelWorn;
 
 impl<T> SendFault<T> {
+    ghost use Rattle.std.specs.Prelude.{◌≡◌};
+    ghost use Rattle.fak_channel.specs.Faults.{item_in};
+
     /// The item that was not sent.
-    pub fn into_item(self) -> T {
+    pub fn into_item(self) -> T
+        ensures { result ≡ item_in self }
+    {
         match self {
             SendFault::Worn { item }
             | SendFault::Closed { item }

@@ -32,7 +32,8 @@ impl<T: Drop> Channel<T> {
         stint: u64,
     ) -> Result<(Channel<T>, Vec<ChannelSeat<T>>), LargeFault>
         ensures { MatchResult result (λ r. IsInLargeRange (IsLargeSize size) ends stint × (r.0.queue.size ≡ size)
-            × (r.0.queue.object.seats ≡ ends) × (r.1.items ≡ fresh_channel_seats r.0 stint 0 ends)
+            × (r.0.queue.object.seats ≡ ends) × (r.0.items.start ≡ 0) × (r.0.cells.start ≡ size)
+            × (r.1.items ≡ fresh_channel_seats r.0 stint 0 ends)
             × All (λ s. IsSeatOf r.0 s) r.1.items) (IsLargeFault (IsLargeSize size) ends stint) }
     {
         let (queue, queue_seats) = match Queue::open_large(alloc, size, ends, stint) {

@@ -19,7 +19,7 @@ pub(crate) fn open_permits(
     ends: u64,
     stint: u64,
 ) -> Result<(Permits, Vec<PermitSeat>), AllocError>
-    ensures { IfOk result (λ r. (seats_of r.0 ≡ ends) × (r.1.items ≡ fresh_permits r.0 stint 0 ends)) }
+    ensures { IfOk result (λ r. (r.0.start ≡ start) × (seats_of r.0 ≡ ends) × (r.1.items ≡ fresh_permits r.0 stint 0 ends)) }
 {
     let Ok((count, count_seats)) = Semaphore::open_large(alloc, start, ends, ends, stint) else {
         return Err(AllocError);
