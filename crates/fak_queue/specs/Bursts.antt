@@ -250,7 +250,7 @@ FreesBurst {T} size seats n m after = (k : ℕ) (all : Posts T) → m.0.phase �
 
 -- ---- parts of a burst of deletions, with something for each name that takes part
 
--- something for each of so many names
+-- something for each of n names
 abbrev pub units : ℕ → List (Unit {0})
 units zero = []
 units (suc n) = tt ∷ units n

@@ -29,9 +29,9 @@ pub enum Step<T> {
     ClaimDelete(Result<u64, DeleteFault>),
     TryTake(Option<(u64, T)>),
     Shut(bool),
-    /// So many cells in use, the queue open.
+    /// The number of cells in use, the queue open.
     OpenWith(i64),
-    /// So many cells in use, the queue shut.
+    /// The number of cells in use, the queue shut.
     ShutWith(i64),
     ItemsReady(i64),
     IsDrained(bool),
@@ -40,7 +40,7 @@ pub enum Step<T> {
     Left(u64),
 }
 
-/// What is observed of a queue with so many cells in use.
+/// What is observed of a queue with this number of cells in use.
 pub fn in_use(count: i64, is_shut: bool) -> InUse {
     InUse { count, is_shut }
 }

@@ -6,7 +6,7 @@ use Rattle.fak_queue.proofs.BurstNames.{units_length}
 use Rattle.fak_queue.proofs.BurstClaimsOut.{draw_count, draw_names, draw_left, claims_burst}
 use Rattle.fak_queue.proofs.bursts.admission_out.admit_burst_out.Goals as goal
 
--- so many names have something
+-- a count within the names is that of the things they have
 fits : (count n : ℕ) → count ≤ n → length (units count) ≤ n
 fits count n few = let l = units_length count in omega (arith, l, few)
 

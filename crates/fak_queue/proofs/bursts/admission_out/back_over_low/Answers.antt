@@ -5,7 +5,7 @@ use Rattle.fak_queue.proofs.BurstNames.{over_length, none_over, once_over, over_
 use Rattle.fak_queue.proofs.BurstClaimsOut.{backed_phase, backed_makes, backed_from, rests_so}
 use Rattle.fak_queue.proofs.bursts.admission_out.back_over_low.Goals as goal
 
--- so many names have something
+-- a count within the names is that of the things they have
 fits : (count n : ℕ) → count ≤ n → length (units count) ≤ n
 fits count n few = let l = units_length count in omega (arith, l, few)
 

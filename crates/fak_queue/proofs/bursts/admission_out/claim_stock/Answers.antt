@@ -8,7 +8,7 @@ use Rattle.fak_queue.proofs.bursts.admission_out.claim_stock.Goals as goal
 reading : (f : ℕ) (r s : LowerCount) → r ≡ s → IsLowerCount f r → IsLowerCount f s
 reading f r s is told = subst (IsLowerCount f) is told
 
--- so many names have something
+-- a count within the names is that of the things they have
 fits : (count n : ℕ) → count ≤ n → length (units count) ≤ n
 fits count n few = let l = units_length count in omega (arith, l, few)
 

@@ -4,7 +4,7 @@ use Rattle.fak_queue.specs.declared.standing.Standing.TheVariants.{Alike}
 use Rattle.fak_queue.specs.Bursts.{idle_posts, pair_up, units}
 use Rattle.fak_queue.proofs.bursts.admission_out.claim_stock.Given as goal
 
--- so many names take part, and the others rest
+-- as many names as are counted take part, and the others rest
 abbrev pub ghosts-test_low_burst : goal.ghosts-test_low_burst
 ghosts-test_low_burst g a = record { seats = a.words.now.key.seats; items = pair_up a._names.now (units a._part); others = idle_posts (drop (length (units a._part)) a._names.now); then = Alike Idle }
 
