@@ -88,10 +88,7 @@ upper_most size q K none =
 pub not_full : (u : ℤ) (c o size : ℕ) → u ≤ℤ (pos c -ℤ pos o) → int_lt u (pos size) ≡ false → c < size + o → ⊥
 not_full u c o size most full few = grind (arith, ints, common_steps)
 
--- a count that was the last is void once it has dropped by 1, and the other way round
-pub last_void : (u : ℤ) → not (int_lt (pos 1) u) ≡ not (int_lt (pos 0) (u -ℤ pos 1))
-last_void u = grind (arith, ints, common_steps)
-
+-- a count that is void one higher is void
 pub void_before : (u : ℤ) → not (int_lt (pos 0) (u +ℤ pos 1)) ≡ true → not (int_lt (pos 0) u) ≡ true
 void_before u e = grind (arith, ints, common_steps)
 

@@ -1,5 +1,5 @@
 -- What holds of a channel whose threads sleep between any two steps.
-use Rattle.std.specs.Prelude.{◌≡◌, ◌≢◌, ℕ, ◌+◌, ◌<◌, ◌≤◌, Bool, true, false}
+use Rattle.std.specs.Prelude.{◌⊎◌, ◌≡◌, ◌≢◌, ℕ, ◌+◌, ◌<◌, ◌≤◌, Bool, true, false}
 use Rattle.fak_model.specs.declared.queue.Kind.{Kind}
 use Rattle.fak_model.specs.declared.queue.Kind.TheVariants as mark
 use Rattle.fak_model.specs.Queue.{count}
@@ -11,7 +11,7 @@ use Rattle.fak_core.specs.QueueMoves.{QueueState}
 use Rattle.fak_core.proofs.QueueKept.{IsKept}
 use Rattle.fak_channel_core.specs.SleepMoves.{SleepPhase}
 use Rattle.fak_channel_core.specs.SleepMoves as sleep
-use Rattle.fak_channel_core.specs.ChannelMoves.{ChannelPhase, Idle, TakeCell, Insert, TakeItem, Delete, Look, GiveCell, GiveItem, Shutting, ChannelState, is_void}
+use Rattle.fak_channel_core.specs.ChannelMoves.{ChannelPhase, Idle, TakeCell, Insert, TakeItem, Delete, Look, GiveCell, Announce, GiveItem, Shutting, ChannelState, is_void}
 use Rattle.fak_channel_core.proofs.SleepKept.{SleepKept}
 
 -- ---- what an end weighs
@@ -36,23 +36,17 @@ abbrev pub ungiven : SleepPhase → ℕ
 ungiven sleep.Idle = 1
 ungiven _ = 0
 
--- 1 where both are to be given
-abbrev pub both_weight : Bool → ℕ
-both_weight true = 1
-both_weight false = 0
-
 -- 1 where the end has the credit of an item
 abbrev pub item_of_end : {A : Type 0} → ChannelPhase A → Phase A → SleepPhase → ℕ
 item_of_end (Delete stays) p i = unclaimed_out p
 item_of_end (Look stays) p i = 1
-item_of_end (GiveCell both) p i = both_weight both
 item_of_end GiveItem p i = ungiven i
 item_of_end _ p i = 0
 
 -- 1 where it has the credit of a cell
 abbrev pub cell_of_end : {A : Type 0} → ChannelPhase A → Phase A → SleepPhase → ℕ
 cell_of_end (Insert stays x) p c = unclaimed_in p
-cell_of_end (GiveCell both) p c = ungiven c
+cell_of_end GiveCell p c = ungiven c
 cell_of_end _ p c = 0
 
 -- ---- how an end stands
@@ -109,7 +103,8 @@ Fits (Insert stays x) p i c = IsInserting p × (i ≡ sleep.Idle) × (c ≡ slee
 Fits (TakeItem stays) p i c = (p ≡ inner.Idle) × IsPassing i × (c ≡ sleep.Idle)
 Fits (Delete stays) p i c = IsDeleting p × (i ≡ sleep.Idle) × (c ≡ sleep.Idle)
 Fits (Look stays) p i c = (p ≡ inner.Idle) × (i ≡ sleep.Idle) × (c ≡ sleep.Idle)
-Fits (GiveCell both) p i c = (p ≡ inner.Idle) × (i ≡ sleep.Idle) × IsGiving c
+Fits GiveCell p i c = (p ≡ inner.Idle) × (i ≡ sleep.Idle) × IsGiving c
+Fits Announce p i c = (p ≡ inner.Idle) × (i ≡ sleep.Idle) × (c ≡ sleep.Idle)
 Fits GiveItem p i c = (p ≡ inner.Idle) × IsGiving i × (c ≡ sleep.Idle)
 Fits Shutting p i c = IsShutting p × (i ≡ sleep.Idle) × (c ≡ sleep.Idle)
 
@@ -133,6 +128,12 @@ item_at_end s e = item_of_end (s.at e) (s.queue.phase e) (s.items.ends e).at
 abbrev pub cell_at_end : {A : Type 0} → ChannelState A → ℕ → ℕ
 cell_at_end s e = cell_of_end (s.at e) (s.queue.phase e) (s.cells.ends e).at
 
+-- an end that will load the upper count
+abbrev pub IsAnnouncing : {A : Type 0} → ChannelPhase A → Type 0
+IsAnnouncing GiveCell = Unit {0}
+IsAnnouncing Announce = Unit {0}
+IsAnnouncing _ = ⊥
+
 -- the credits of items that were used, with the items inserted, and those that were given and are held
 abbrev pub items_used : {A : Type 0} → ChannelState A → ℕ
 items_used s = count an_end_in s.queue.past + s.items.passed
@@ -155,7 +156,7 @@ pub record ChannelKept {A : Type 0} (n size room : ℕ) (s : ChannelState A) : T
   pub item_credits : items_used s ≤ items_held n s
   pub cell_credits : cells_used s ≤ cells_held n s
   pub extra : items_used s < items_held n s → IsDrained s.queue
-  pub drained : s.queue.shut ≡ true → is_void s.queue ≡ true → items_used s < items_held n s
+  pub drained : s.queue.shut ≡ true → is_void s.queue ≡ true → (items_used s < items_held n s) ⊎ ((t : ℕ) × IsAnnouncing (s.at t))
   pub shut : s.queue.shut ≡ true → cells_used s < cells_held n s
   pub open_cells : s.queue.shut ≡ false → cells_used s ≡ cells_held n s
   pub no_refusal : count a_refusal s.queue.past ≡ 0

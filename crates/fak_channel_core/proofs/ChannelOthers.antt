@@ -6,7 +6,7 @@ use Rattle.fak_core.proofs.Common.{refl, sym, ap, ◌∙◌}
 use Rattle.fak_core.proofs.QueueTurns.{at_else, by_place}
 use Rattle.fak_core.proofs.QueueSteps.{by_test}
 use Rattle.fak_channel_core.specs.SleepMoves.{SleepPhase, Idle, TestDown, Down, Parking, Sleeping, TakeBack, GiveUp, Up, Waking, Marking, SleepEnd, SleepState, with_end, through_end, park, wake, wake_end, woken_end, give_up, step_at, begin_pass, begin_give, expire}
-use Rattle.fak_channel_core.specs.ChannelMoves.{ChannelPhase, TakeCell, Insert, TakeItem, Delete, Look, GiveCell, GiveItem, Shutting, ChannelState, insert, delete, shut, take_cell, take_item, give_cell, give_item, begin_call, expire_cell, expire_item, expire_in, step_in}
+use Rattle.fak_channel_core.specs.ChannelMoves.{ChannelPhase, TakeCell, Insert, TakeItem, Delete, Look, GiveCell, Announce, GiveItem, Shutting, ChannelState, insert, delete, shut, take_cell, take_item, give_cell, give_item, begin_call, expire_cell, expire_item, expire_in, step_in}
 use Rattle.fak_channel_core.specs.ChannelMoves as channel
 use Rattle.fak_channel_core.specs.ChannelSchedule.{ChannelEvent, Sends, Receives, Closes, Expires, Steps, end_of, channel_event}
 
@@ -112,9 +112,9 @@ module _ {A : Type 0} (size room : ℕ) (s : ChannelState A) (u k : ℕ) (ne : k
   take_item_else stays Idle = by_items _ _ (passes_else room s.items u k ne (s.items.ends u) stays (s.items.ends u).at)
   take_item_else stays _ = by_items _ _ (steps_else room s.items u k ne (s.items.ends u) (s.items.ends u).at)
 
-  give_cell_else : (both : Bool) (p : SleepPhase) → Stays s (give_cell room s u both p) k
-  give_cell_else both Idle = by_cells _ _ (gives_else room s.cells u k ne (s.cells.ends u) (s.cells.ends u).at)
-  give_cell_else both _ = by_cells _ _ (steps_else room s.cells u k ne (s.cells.ends u) (s.cells.ends u).at)
+  give_cell_else : (p : SleepPhase) → Stays s (give_cell room s u p) k
+  give_cell_else Idle = by_cells _ _ (gives_else room s.cells u k ne (s.cells.ends u) (s.cells.ends u).at)
+  give_cell_else _ = by_cells _ _ (steps_else room s.cells u k ne (s.cells.ends u) (s.cells.ends u).at)
 
   give_item_else : (p : SleepPhase) → Stays s (give_item room s u p) k
   give_item_else Idle = by_items _ _ (gives_else room s.items u k ne (s.items.ends u) (s.items.ends u).at)
@@ -127,7 +127,8 @@ module _ {A : Type 0} (size room : ℕ) (s : ChannelState A) (u k : ℕ) (ne : k
   step_else (TakeItem stays) = take_item_else stays (s.items.ends u).at
   step_else (Delete stays) = deletes_else stays (next_move size s.queue (s.queue.phase u))
   step_else (Look stays) = record { at = stand _; phase = refl; items = still s.items k; cells = still s.cells k }
-  step_else (GiveCell both) = give_cell_else both (s.cells.ends u).at
+  step_else GiveCell = give_cell_else (s.cells.ends u).at
+  step_else Announce = record { at = stand _; phase = refl; items = still s.items k; cells = still s.cells k }
   step_else GiveItem = give_item_else (s.items.ends u).at
   step_else Shutting = shuts_else (next_move size s.queue (s.queue.phase u))
 
@@ -141,6 +142,7 @@ module _ {A : Type 0} (size room : ℕ) (s : ChannelState A) (u k : ℕ) (ne : k
 
   expire_item_else : (stays : Bool) (p : SleepPhase) → Stays s (expire_item s u stays p) k
   expire_item_else stays Sleeping = by_items _ _ (expires_else room s.items u k ne (s.items.ends u) (s.items.ends u).at)
+  expire_item_else stays Idle = record { at = stand _; phase = refl; items = still s.items k; cells = still s.cells k }
   expire_item_else stays _ = stays_still s k
 
   expire_else : (y : ChannelPhase A) → Stays s (expire_in s u y) k

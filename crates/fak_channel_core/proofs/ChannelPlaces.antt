@@ -13,7 +13,7 @@ use Rattle.fak_channel_core.specs.SleepMoves.{SleepPhase}
 use Rattle.fak_channel_core.specs.ChannelMoves.{ChannelPhase, Delete, Look, ChannelState, is_void}
 use Rattle.fak_channel_core.proofs.SleepKept.{SleepKept}
 use Rattle.fak_channel_core.proofs.ChannelCounts.{drained_claimed}
-use Rattle.fak_channel_core.proofs.ChannelKept.{a_refusal, item_of_end, Fits, IsDrained, item_at_end, cell_at_end, items_used, items_held, cells_used, ChannelKept}
+use Rattle.fak_channel_core.proofs.ChannelKept.{IsAnnouncing, a_refusal, item_of_end, Fits, IsDrained, item_at_end, cell_at_end, items_used, items_held, cells_used, ChannelKept}
 
 -- all ends but e stand as before
 pub record Alike {A : Type 0} (s s' : ChannelState A) (e : ℕ) : Type 0 where
@@ -31,7 +31,7 @@ pub record Paid {A : Type 0} (s s' : ChannelState A) (e gain more loss : ℕ) : 
   pub drains : 0 < gain → IsDrained s'.queue
   pub lost : 0 < loss → IsDrained s.queue × (s'.queue.shut ≡ true → is_void s'.queue ≡ true → ⊥)
   pub stays : IsDrained s.queue → IsDrained s'.queue
-  pub void : s'.queue.shut ≡ true → is_void s'.queue ≡ true → (0 < gain) ⊎ ((s.queue.shut ≡ true) × (is_void s.queue ≡ true))
+  pub void : s'.queue.shut ≡ true → is_void s'.queue ≡ true → (0 < gain) ⊎ (IsAnnouncing (s'.at e) ⊎ ((s.queue.shut ≡ true) × (is_void s.queue ≡ true) × (IsAnnouncing (s.at e) → ⊥)))
   pub shut : s'.queue.shut ≡ true → (0 < more) ⊎ (s.queue.shut ≡ true)
   pub opened : s'.queue.shut ≡ false → (s.queue.shut ≡ false) × (more ≡ 0)
   pub refused : count a_refusal s'.queue.past ≡ 0
@@ -110,8 +110,14 @@ module _ {A : Type 0} (n size room : ℕ) (s s' : ChannelState A) (e : ℕ) (l :
         ];
         drained = λ sh v. elim (le_or_lt loss 0) [
           | inl kept ↦ elim (P.void sh v) [
-            | inl some ↦ omega arith
-            | inr before ↦ (let strict = K.drained before.0 before.1 in omega arith)
+            | inl some ↦ inl (omega arith)
+            | inr looks ↦ elim looks [
+              | inl now ↦ inr (e, now)
+              | inr before ↦ elim (K.drained before.0 before.1) [
+                | inl strict ↦ inl (omega arith)
+                | inr other ↦ inr (other.0, subst IsAnnouncing (sym (like.at other.0 (λ q. before.2 (subst (λ k. IsAnnouncing (s.at k)) q other.1)))) other.1)
+              ]
+            ]
           ]
           | inr some ↦ absurd ((P.lost some).1 sh v)
         ];

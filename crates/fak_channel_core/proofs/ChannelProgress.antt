@@ -10,7 +10,7 @@ use Rattle.fak_core.proofs.QueueProgress.{IsUnblocked, moves_unblocked, some_mov
 use Rattle.fak_channel_core.specs.SleepMoves.{SleepPhase, SleepState}
 use Rattle.fak_channel_core.specs.SleepMoves as sleep
 use Rattle.fak_channel_core.specs.SleepSchedule.{IsAsleep}
-use Rattle.fak_channel_core.specs.ChannelMoves.{ChannelPhase, Idle, TakeCell, Insert, TakeItem, Delete, Look, GiveCell, GiveItem, Shutting, ChannelState}
+use Rattle.fak_channel_core.specs.ChannelMoves.{ChannelPhase, Idle, TakeCell, Insert, TakeItem, Delete, Look, GiveCell, Announce, GiveItem, Shutting, ChannelState}
 use Rattle.fak_channel_core.specs.ChannelSchedule.{SendSleeps, ReceiveSleeps}
 use Rattle.fak_channel_core.specs.ChannelProgress.{SemaphoreMoves, QueueCallMoves, CallMoves, SomeEndMoves}
 use Rattle.fak_channel_core.proofs.ChannelKept.{IsPassing, IsGiving, Fits, ChannelKept}
@@ -22,13 +22,14 @@ use Rattle.fak_channel_core.proofs.SleepProgress.{IsWaiting, SomeWaiterMoves, wa
 cell_call : {A : Type 0} (size room : ℕ) (s : ChannelState A) (t : ℕ) (y : ChannelPhase A) → Fits y (s.queue.phase t) (s.items.ends t).at (s.cells.ends t).at
     → IsWaiting (s.cells.ends t).at → SemaphoreMoves room s.cells t (s.cells.ends t).at → CallMoves size room s t y
 cell_call size room s t (TakeCell stays x) f w m = m
-cell_call size room s t (GiveCell both) f w m = m
+cell_call size room s t GiveCell f w m = m
 cell_call size room s t Idle f w m = absurd (subst IsWaiting f.2 w)
 cell_call size room s t (Insert stays x) f w m = absurd (subst IsWaiting f.2 w)
 cell_call size room s t (TakeItem stays) f w m = absurd (subst IsWaiting f.2 w)
 cell_call size room s t (Delete stays) f w m = absurd (subst IsWaiting f.2 w)
 cell_call size room s t (Look stays) f w m = absurd (subst IsWaiting f.2 w)
 cell_call size room s t GiveItem f w m = absurd (subst IsWaiting f.2 w)
+cell_call size room s t Announce f w m = absurd (subst IsWaiting f.2 w)
 cell_call size room s t Shutting f w m = absurd (subst IsWaiting f.2 w)
 
 item_call : {A : Type 0} (size room : ℕ) (s : ChannelState A) (t : ℕ) (y : ChannelPhase A) → Fits y (s.queue.phase t) (s.items.ends t).at (s.cells.ends t).at
@@ -40,7 +41,8 @@ item_call size room s t (TakeCell stays x) f w m = absurd (subst IsWaiting f.1 w
 item_call size room s t (Insert stays x) f w m = absurd (subst IsWaiting f.1 w)
 item_call size room s t (Delete stays) f w m = absurd (subst IsWaiting f.1 w)
 item_call size room s t (Look stays) f w m = absurd (subst IsWaiting f.1 w)
-item_call size room s t (GiveCell both) f w m = absurd (subst IsWaiting f.1 w)
+item_call size room s t GiveCell f w m = absurd (subst IsWaiting f.1 w)
+item_call size room s t Announce f w m = absurd (subst IsWaiting f.1 w)
 item_call size room s t Shutting f w m = absurd (subst IsWaiting f.1 w)
 
 module _ {A : Type 0} (n size room : ℕ) (s : ChannelState A) (z : 0 < size) (r : 0 < room) (K : ChannelKept n size room s) (enough : n ≤ room) where
@@ -68,7 +70,8 @@ module _ {A : Type 0} (n size room : ℕ) (s : ChannelState A) (z : 0 < size) (r
   queue_call t (TakeCell stays x) is m = absurd (not_idle t (fits_at t (TakeCell stays x) is).0 m)
   queue_call t (TakeItem stays) is m = absurd (not_idle t (fits_at t (TakeItem stays) is).0 m)
   queue_call t (Look stays) is m = absurd (not_idle t (fits_at t (Look stays) is).0 m)
-  queue_call t (GiveCell both) is m = absurd (not_idle t (fits_at t (GiveCell both) is).0 m)
+  queue_call t GiveCell is m = absurd (not_idle t (fits_at t GiveCell is).0 m)
+  queue_call t Announce is m = absurd (not_idle t (fits_at t Announce is).0 m)
   queue_call t GiveItem is m = absurd (not_idle t (fits_at t GiveItem is).0 m)
 
   queue_idle : (t : ℕ) (y : ChannelPhase A) → y ≡ Idle → s.at t ≡ y → s.queue.phase t ≡ inner.Idle
@@ -117,10 +120,11 @@ module _ {A : Type 0} (n size room : ℕ) (s : ChannelState A) (z : 0 < size) (r
   open_moves e (Delete stays) l is some send receive = on_queue e (Delete stays) l is (λ m. m)
   open_moves e Shutting l is some send receive = on_queue e Shutting l is (λ m. m)
   open_moves e (Look stays) l is some send receive = moves_at e (Look stays) l is tt
-  open_moves e (GiveCell both) l is some send receive =
-      elim (giving_moves s.cells e (s.cells.ends e).at (fits_at e (GiveCell both) is).2) [
+  open_moves e Announce l is some send receive = moves_at e Announce l is tt
+  open_moves e GiveCell l is some send receive =
+      elim (giving_moves s.cells e (s.cells.ends e).at (fits_at e GiveCell is).2) [
         | inl w ↦ by_cell (waiter_moves n room size s.cells r K.cells enough e (s.cells.ends e).at l refl w)
-        | inr m ↦ moves_at e (GiveCell both) l is m
+        | inr m ↦ moves_at e GiveCell l is m
       ]
   open_moves e GiveItem l is some send receive =
       elim (giving_moves s.items e (s.items.ends e).at (fits_at e GiveItem is).1) [

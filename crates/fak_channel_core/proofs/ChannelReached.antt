@@ -18,7 +18,7 @@ use Rattle.fak_channel_core.specs.SleepSchedule.{IsAsleep}
 use Rattle.fak_channel_core.specs.ChannelMoves.{Look, ChannelPhase, Idle, TakeCell, TakeItem, ChannelState}
 use Rattle.fak_channel_core.specs.ChannelSchedule.{HasNoOverClaim, IsClosedAndDrained, ChannelEvent, Sends, Receives, Closes, Expires, Steps, end_of, channel_opening, channel_event, channel_happens, channel_run, channel_reached, SendSleeps, ReceiveSleeps, OnlySleepersAreIn}
 use Rattle.fak_channel_core.proofs.SleepReached.{kept_sleep_opening, all_taken}
-use Rattle.fak_channel_core.proofs.ChannelKept.{a_refusal, item_of_end, cell_of_end, Fits, item_at_end, cell_at_end, ChannelKept}
+use Rattle.fak_channel_core.proofs.ChannelKept.{IsAnnouncing, a_refusal, item_of_end, cell_of_end, Fits, item_at_end, cell_at_end, ChannelKept}
 use Rattle.fak_channel_core.proofs.ChannelSteps.{kept_channel_step, kept_sends, kept_receives, kept_closes, kept_expires}
 
 -- ---- every schedule
@@ -94,6 +94,12 @@ module _ {A : Type 0} (n size room : ℕ) (s : ChannelState A) (K : ChannelKept 
       let f = fits_at e (TakeItem stays) is_at in
       record { queue = f.0; item = item_by e (TakeItem stays) is_at; cell = cell_by e (TakeItem stays) is_at; items = inr asleep; cells = inl f.2 }
 
+  -- an end that is idle or asleep will not load the upper count
+  announces_not : (e : ℕ) → (s.at e ≡ Idle) ⊎ (SendSleeps s e ⊎ ReceiveSleeps s e) → IsAnnouncing (s.at e) → ⊥
+  announces_not e (inl idle) a = subst IsAnnouncing idle a
+  announces_not e (inr (inl (stays, x, is_at, asleep))) a = subst IsAnnouncing is_at a
+  announces_not e (inr (inr (stays, is_at, asleep))) a = subst IsAnnouncing is_at a
+
   module _ (only : OnlySleepersAreIn s) where
     rest : Rested s.queue
     rest = rested size s.queue K.queue (λ e. (resting e (only e)).queue)
@@ -114,7 +120,7 @@ module _ {A : Type 0} (n size room : ℕ) (s : ChannelState A) (K : ChannelKept 
         let bounded = contents_bounded size s.queue.past K.queue.legal in (
           holds_none s.queue few,
           elim (true_or_false s.queue.shut) [
-            | inl is_shut ↦ (let strict = K.drained is_shut (void_from s.queue.upper (count puts s.queue.past) (count gots s.queue.past) r.upper few) in absurd (omega arith))
+            | inl is_shut ↦ (elim (K.drained is_shut (void_from s.queue.upper (count puts s.queue.past) (count gots s.queue.past) r.upper few)) [ inl strict ↦ absurd (omega arith) | inr looks ↦ absurd (announces_not looks.0 (only looks.0) looks.1) ])
             | inr not_shut ↦ not_shut
           ],
         )

@@ -12,7 +12,7 @@ use Rattle.fak_core.proofs.QueueSteps.{by_test}
 use Rattle.fak_core.proofs.QueueRounds.{contains_cases, contains_none, call_ends}
 use Rattle.fak_channel_core.specs.SleepMoves.{SleepPhase}
 use Rattle.fak_channel_core.specs.SleepMoves as sleep
-use Rattle.fak_channel_core.specs.ChannelMoves.{ChannelPhase, Idle, TakeCell, Insert, TakeItem, Delete, Look, GiveCell, GiveItem, Shutting, ChannelState, take_cell, take_item, give_cell, give_item, insert, delete, shut, begin_call, expire_in, expire_cell, expire_item, step_in}
+use Rattle.fak_channel_core.specs.ChannelMoves.{ChannelPhase, Idle, TakeCell, Insert, TakeItem, Delete, Look, GiveCell, Announce, GiveItem, Shutting, ChannelState, take_cell, take_item, give_cell, give_item, insert, delete, shut, begin_call, expire_in, expire_cell, expire_item, step_in}
 use Rattle.fak_channel_core.specs.ChannelSchedule.{ChannelEvent, Sends, Receives, Closes, Expires, Steps, end_of, channel_event, channel_happens, channel_run}
 use Rattle.fak_channel_core.specs.ChannelRounds.{IsChannelRound, HasEndedOnce, HasEndedWithin}
 use Rattle.fak_channel_core.proofs.ChannelKept.{Fits, ChannelKept}
@@ -52,9 +52,9 @@ module _ {A : Type 0} (size room : ℕ) (s : ChannelState A) (e : ℕ) where
   item_same stays sleep.Idle = refl
   item_same stays _ = refl
 
-  give_cell_same : (both : Bool) (p : SleepPhase) → (give_cell room s e both p).queue ≡ s.queue
-  give_cell_same both sleep.Idle = refl
-  give_cell_same both _ = refl
+  give_cell_same : (p : SleepPhase) → (give_cell room s e p).queue ≡ s.queue
+  give_cell_same sleep.Idle = refl
+  give_cell_same _ = refl
 
   give_item_same : (p : SleepPhase) → (give_item room s e p).queue ≡ s.queue
   give_item_same sleep.Idle = refl
@@ -83,7 +83,8 @@ module _ {A : Type 0} (size room : ℕ) (s : ChannelState A) (e : ℕ) where
   step_run (TakeItem stays) f = idle_step f.0 ∙ sym (item_same stays (s.items.ends e).at)
   step_run (Delete stays) f = delete_run stays (s.queue.phase e) refl
   step_run (Look stays) f = idle_step f.0
-  step_run (GiveCell both) f = idle_step f.0 ∙ sym (give_cell_same both (s.cells.ends e).at)
+  step_run GiveCell f = idle_step f.0 ∙ sym (give_cell_same (s.cells.ends e).at)
+  step_run Announce f = idle_step f.0
   step_run GiveItem f = idle_step f.0 ∙ sym (give_item_same (s.items.ends e).at)
   step_run Shutting f = shut_run (s.queue.phase e) refl
 
@@ -97,6 +98,7 @@ module _ {A : Type 0} (size room : ℕ) (s : ChannelState A) (e : ℕ) where
 
   expire_item_same : (stays : Bool) (p : SleepPhase) → (expire_item s e stays p).queue ≡ s.queue
   expire_item_same stays sleep.Sleeping = refl
+  expire_item_same stays sleep.Idle = refl
   expire_item_same stays _ = refl
 
   pub expire_same : (y : ChannelPhase A) → (expire_in s e y).queue ≡ s.queue

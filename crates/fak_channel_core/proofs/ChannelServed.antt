@@ -15,7 +15,7 @@ use Rattle.fak_core.proofs.QueueSteps.{by_test}
 use Rattle.fak_core.proofs.QueueRounds.{contains_cases, contains_none}
 use Rattle.fak_channel_core.specs.SleepMoves.{SleepPhase, SleepEnd, SleepState, through_end, with_end, step_at, sleep_step, expire}
 use Rattle.fak_channel_core.specs.SleepMoves as sleep
-use Rattle.fak_channel_core.specs.ChannelMoves.{ChannelPhase, Idle, TakeCell, Insert, TakeItem, Delete, GiveCell, Shutting, ChannelState, with_queue, insert, inserted, delete, deleted, is_last, begin_call, after_pass, expire_in, expire_cell, expire_item, take_cell, take_item, step_in, channel_step}
+use Rattle.fak_channel_core.specs.ChannelMoves.{ChannelPhase, Idle, TakeCell, Insert, TakeItem, Delete, GiveCell, Shutting, ChannelState, with_queue, insert, inserted, delete, deleted, begin_call, after_pass, expire_in, expire_cell, expire_item, take_cell, take_item, step_in, channel_step}
 use Rattle.fak_channel_core.specs.ChannelSchedule.{ChannelEvent, Sends, Receives, Closes, Expires, Steps, end_of, channel_event, channel_happens, channel_run}
 use Rattle.fak_channel_core.specs.ChannelRounds.{IsChannelRound, HasEndedOnce, HasEndedWithin, WasWoken, IsServed, IsServedOnce, IsServedWithin}
 use Rattle.fak_channel_core.proofs.ChannelKept.{Fits, ChannelKept}
@@ -101,7 +101,7 @@ module _ {A : Type 0} (n size room : ℕ) (s : ChannelState A) (e : ℕ) (l : e 
       (λ b. inl (tt, λ q. cc))
       (λ b. inl (tt, λ q. cc)))
   insert_goes stays x is_at (inner.BackUp z) is_p ne f =
-      by_test (λ (y : ChannelPhase A). (IsWorking y × ((back_up {A = A} s.queue.upper).phase ≢ inner.Idle)) ⊎ IsServed y) s.queue.shut (GiveCell (is_last s.queue)) (Insert stays x)
+      by_test (λ (y : ChannelPhase A). (IsWorking y × ((back_up {A = A} s.queue.upper).phase ≢ inner.Idle)) ⊎ IsServed y) s.queue.shut GiveCell (Insert stays x)
       (λ b. inr tt)
       (λ o. absurd (backs_shut n size room s e z K is_p o))
   insert_goes stays x is_at (inner.TicketIn z) is_p ne f = inl (tt, λ q. cc)

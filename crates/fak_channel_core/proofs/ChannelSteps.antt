@@ -1,15 +1,16 @@
 -- Each step of an end of a channel keeps the invariant.
-use Rattle.std.specs.Prelude.{◌≡◌, ◌≢◌, ◌⊎◌, ℕ, ◌+◌, ◌<◌, ◌&&◌, Bool, true, false, if◌then◌else◌}
-use Rattle.fak_core.proofs.Common.{arith, refl, sym, ap, ◌∙◌, subst, inl, inr}
+use Rattle.std.specs.Prelude.{◌≤◌, ◌≡◌, ◌≢◌, ◌⊎◌, ℕ, ◌+◌, ◌<◌, ◌&&◌, Bool, true, false}
+use Rattle.fak_core.proofs.Common.{common_steps, arith, refl, sym, ap, ◌∙◌, subst, inl, inr}
 use Rattle.fak_core.proofs.QueueTurns.{at_here, at_else}
 use Rattle.fak_core.proofs.QueueSteps.{by_test}
 use Rattle.fak_channel_core.specs.SleepMoves.{SleepPhase, SleepState, begin_pass, begin_give, expire, sleep_step}
 use Rattle.fak_channel_core.specs.SleepMoves as sleep
-use Rattle.fak_channel_core.specs.ChannelMoves.{ChannelPhase, Idle, TakeCell, Insert, TakeItem, Delete, Look, GiveCell, GiveItem, Shutting, ChannelState, with_stand, with_cells, with_items, is_void, after_pass, after_give, take_cell, take_item, give_cell, give_item, look, begin_call, expire_cell, expire_item, expire_in, step_in, channel_step}
+use Rattle.fak_channel_core.specs.ChannelMoves.{ChannelPhase, Idle, TakeCell, Insert, TakeItem, Delete, Look, GiveCell, Announce, GiveItem, Shutting, ChannelState, with_stand, with_cells, with_items, is_void, after_pass, after_give, take_cell, take_item, give_cell, give_item, look, announce, begin_call, expire_cell, expire_item, expire_in, step_in, channel_step}
 use Rattle.fak_channel_core.proofs.SleepKept.{SleepKept}
 use Rattle.fak_channel_core.proofs.SleepReached.{kept_step, kept_pass, kept_give, kept_expire}
 use Rattle.fak_channel_core.proofs.SleepMoved.{OthersStand, PassMoved, Refused, Through, Open, pass_step, give_step, begin_step, begin_give_step, expire_step}
-use Rattle.fak_channel_core.proofs.ChannelKept.{unclaimed_in, unclaimed_out, ungiven, item_of_end, cell_of_end, IsPassing, IsGiving, IsInserting, IsDeleting, IsShutting, Fits, IsDrained, ChannelKept}
+use Rattle.fak_channel_core.proofs.ChannelKept.{IsAnnouncing, unclaimed_in, unclaimed_out, ungiven, item_of_end, cell_of_end, IsPassing, IsGiving, IsInserting, IsDeleting, IsShutting, Fits, IsDrained, ChannelKept}
+use Rattle.fak_channel_core.proofs.ChannelCounts.{void_none}
 use Rattle.fak_channel_core.proofs.ChannelPlaces.{Alike, Paid, changes}
 use Rattle.fak_channel_core.proofs.ChannelQueueSteps.{both_whole, true_not_false, kept_insert, kept_delete, kept_shut}
 
@@ -37,6 +38,14 @@ given_none : (q : SleepPhase) → q ≢ sleep.Idle → ungiven q ≡ 0
 given_none sleep.Idle ne = absurd (ne refl)
 given_none _ ne = refl
 
+both_parts : (a b : Bool) → (a && b) ≡ true → (a ≡ true) × (b ≡ true)
+both_parts a b is = grind (arith, common_steps)
+
+announcing_or_not : {A : Type 0} (x : ChannelPhase A) → IsAnnouncing x ⊎ (IsAnnouncing x → ⊥)
+announcing_or_not GiveCell = inl tt
+announcing_or_not Announce = inl tt
+announcing_or_not _ = inr (λ a. a)
+
 module _ {A : Type 0} (n size room : ℕ) (s : ChannelState A) (e : ℕ) (l : e < n) (K : ChannelKept n size room s) where
   -- how the end stands
   fits_at : (x : ChannelPhase A) → s.at e ≡ x → Fits x (s.queue.phase e) (s.items.ends e).at (s.cells.ends e).at
@@ -44,13 +53,21 @@ module _ {A : Type 0} (n size room : ℕ) (s : ChannelState A) (e : ℕ) (l : e 
 
   -- ---- a step that leaves the queue alone
 
+  -- who will load the upper count goes on to, or never would
+  still_announces : (x y a b : ChannelPhase A) → a ≡ x → b ≡ y → (IsAnnouncing x → IsAnnouncing y) → s.queue.shut ≡ true → is_void s.queue ≡ true
+      → IsAnnouncing b ⊎ ((s.queue.shut ≡ true) × (is_void s.queue ≡ true) × (IsAnnouncing a → ⊥))
+  still_announces x y a b is_a is_b goes sh v = elim (announcing_or_not x) [
+    | inl yes_x ↦ inl (subst IsAnnouncing (sym is_b) (goes yes_x))
+    | inr never ↦ inr (sh, v, λ q. never (subst IsAnnouncing is_a q))
+  ]
+
   cells_step : (x y : ChannelPhase A) (c : SleepState) → s.at e ≡ x → SleepKept n room size c → OthersStand s.cells c e
       → c.passed + s.cells.given + cell_of_end x (s.queue.phase e) (s.cells.ends e).at ≡ s.cells.passed + c.given + cell_of_end y (s.queue.phase e) (c.ends e).at
       → item_of_end x (s.queue.phase e) (s.items.ends e).at ≡ item_of_end y (s.queue.phase e) (s.items.ends e).at
-      → ((b : Bool) → y ≡ Look b → ⊥)
+      → ((b : Bool) → y ≡ Look b → ⊥) → (IsAnnouncing x → IsAnnouncing y)
       → Fits y (s.queue.phase e) (s.items.ends e).at (c.ends e).at
       → ChannelKept n size room (with_cells s e c y)
-  cells_step x y c is_at kc others cell item not_look f =
+  cells_step x y c is_at kc others cell item not_look announces f =
       let s' = with_cells s e c y in
       let like : Alike s s' e = record { at = λ k ne. at_else s.at e k y ne; phase = λ k ne. refl; items = λ k ne. refl; cells = others } in
       let y_is : s'.at e ≡ y = at_here s.at e y in
@@ -64,7 +81,7 @@ module _ {A : Type 0} (n size room : ℕ) (s : ChannelState A) (e : ℕ) (l : e 
         drains = λ some. absurd (omega arith);
         lost = λ some. absurd (omega arith);
         stays = λ D. D;
-        void = λ is v. inr (is, v);
+        void = λ is v. inr (still_announces x y (s.at e) (s'.at e) is_at y_is announces is v);
         shut = λ is. inr is;
         opened = λ is. (is, refl);
         refused = K.no_refusal;
@@ -78,10 +95,10 @@ module _ {A : Type 0} (n size room : ℕ) (s : ChannelState A) (e : ℕ) (l : e 
   items_step : (x y : ChannelPhase A) (c : SleepState) → s.at e ≡ x → SleepKept n room 0 c → OthersStand s.items c e
       → c.passed + s.items.given + item_of_end x (s.queue.phase e) (s.items.ends e).at ≡ s.items.passed + c.given + item_of_end y (s.queue.phase e) (c.ends e).at
       → cell_of_end x (s.queue.phase e) (s.cells.ends e).at ≡ cell_of_end y (s.queue.phase e) (s.cells.ends e).at
-      → ((b : Bool) → y ≡ Look b → ⊥)
+      → ((b : Bool) → y ≡ Look b → ⊥) → (IsAnnouncing x → IsAnnouncing y)
       → Fits y (s.queue.phase e) (c.ends e).at (s.cells.ends e).at
       → ChannelKept n size room (with_items s e c y)
-  items_step x y c is_at kc others item cell not_look f =
+  items_step x y c is_at kc others item cell not_look announces f =
       let s' = with_items s e c y in
       let like : Alike s s' e = record { at = λ k ne. at_else s.at e k y ne; phase = λ k ne. refl; items = others; cells = λ k ne. refl } in
       let y_is : s'.at e ≡ y = at_here s.at e y in
@@ -95,7 +112,7 @@ module _ {A : Type 0} (n size room : ℕ) (s : ChannelState A) (e : ℕ) (l : e 
         drains = λ some. absurd (omega arith);
         lost = λ some. absurd (omega arith);
         stays = λ D. D;
-        void = λ is v. inr (is, v);
+        void = λ is v. inr (still_announces x y (s.at e) (s'.at e) is_at y_is announces is v);
         shut = λ is. inr is;
         opened = λ is. (is, refl);
         refused = K.no_refusal;
@@ -107,28 +124,33 @@ module _ {A : Type 0} (n size room : ℕ) (s : ChannelState A) (e : ℕ) (l : e 
       changes n size room s s' e l K K.queue kc K.cells like 0 0 0 paid (subst (λ z. Fits z p (c.ends e).at q) (sym y_is) f)
 
   -- one that touches nothing shared; it may drop the credit of an item where the queue was drained
-  stand_step : (x y : ChannelPhase A) (loss : ℕ) → s.at e ≡ x
-      → item_of_end x (s.queue.phase e) (s.items.ends e).at ≡ item_of_end y (s.queue.phase e) (s.items.ends e).at + loss
+  stand_step : (x y : ChannelPhase A) (gain loss : ℕ) → s.at e ≡ x
+      → item_of_end x (s.queue.phase e) (s.items.ends e).at + gain ≡ item_of_end y (s.queue.phase e) (s.items.ends e).at + loss
       → cell_of_end x (s.queue.phase e) (s.cells.ends e).at ≡ cell_of_end y (s.queue.phase e) (s.cells.ends e).at
       → (0 < loss → IsDrained s.queue × (s.queue.shut ≡ true → is_void s.queue ≡ true → ⊥))
+      → (0 < gain → IsDrained s.queue × (item_of_end x (s.queue.phase e) (s.items.ends e).at + gain ≤ item_of_end y (s.queue.phase e) (s.items.ends e).at))
+      → (s.queue.shut ≡ true → is_void s.queue ≡ true → (0 < gain) ⊎ (IsAnnouncing x → IsAnnouncing y))
       → ((b : Bool) → y ≡ Look b → ⊥)
       → Fits y (s.queue.phase e) (s.items.ends e).at (s.cells.ends e).at
       → ChannelKept n size room (with_stand s e y)
-  stand_step x y loss is_at item cell lost not_look f =
+  stand_step x y gain loss is_at item cell lost drains announces not_look f =
       let s' = with_stand s e y in
       let like : Alike s s' e = record { at = λ k ne. at_else s.at e k y ne; phase = λ k ne. refl; items = λ k ne. refl; cells = λ k ne. refl } in
       let y_is : s'.at e ≡ y = at_here s.at e y in
       let p = s.queue.phase e in let i = (s.items.ends e).at in let q = (s.cells.ends e).at in
       let old_item = ap (λ z. item_of_end z p i) is_at in let new_item = ap (λ z. item_of_end z p i) y_is in
       let old_cell = ap (λ z. cell_of_end z p q) is_at in let new_cell = ap (λ z. cell_of_end z p q) y_is in
-      let paid : Paid s s' e 0 0 loss = record {
+      let paid : Paid s s' e gain 0 loss = record {
         item = omega arith;
         cell = omega arith;
-        gained = λ some. absurd (omega arith);
-        drains = λ some. absurd (omega arith);
+        gained = λ some. let up = (drains some).1 in omega arith;
+        drains = λ some. (drains some).0;
         lost = lost;
         stays = λ D. D;
-        void = λ is v. inr (is, v);
+        void = λ is v. elim (announces is v) [
+          | inl some ↦ inl some
+          | inr goes ↦ inr (still_announces x y (s.at e) (s'.at e) is_at y_is goes is v)
+        ];
         shut = λ is. inr is;
         opened = λ is. (is, refl);
         refused = K.no_refusal;
@@ -137,7 +159,7 @@ module _ {A : Type 0} (n size room : ℕ) (s : ChannelState A) (e : ℕ) (l : e 
         low = K.no_low e;
         sub = λ D. K.no_sub D e;
       } in
-      changes n size room s s' e l K K.queue K.items K.cells like 0 0 loss paid (subst (λ z. Fits z p i q) (sym y_is) f)
+      changes n size room s s' e l K K.queue K.items K.cells like gain 0 loss paid (subst (λ z. Fits z p i q) (sym y_is) f)
 
   -- ---- passes
 
@@ -150,11 +172,11 @@ module _ {A : Type 0} (n size room : ℕ) (s : ChannelState A) (e : ℕ) (l : e 
       let fresh = ap unclaimed_in f.0 in
       elim moved.outcome [
         | Refused passed idle none ↦ subst P (sym (after_refused (TakeCell stays x) (Insert stays x) (c.ends e).at (c.ends e).through idle none))
-            (cells_step (TakeCell stays x) Idle c is_at kc moved.others (omega arith) refl (λ b q. cc) (f.0, f.1, idle))
+            (cells_step (TakeCell stays x) Idle c is_at kc moved.others (omega arith) refl (λ b q. cc) (λ a. absurd a) (f.0, f.1, idle))
         | Through passed idle some ↦ subst P (sym (after_through (TakeCell stays x) (Insert stays x) (c.ends e).at (c.ends e).through idle some))
-            (cells_step (TakeCell stays x) (Insert stays x) c is_at kc moved.others (omega arith) refl (λ b q. cc) (subst IsInserting (sym f.0) tt, f.1, idle))
+            (cells_step (TakeCell stays x) (Insert stays x) c is_at kc moved.others (omega arith) refl (λ b q. cc) (λ a. absurd a) (subst IsInserting (sym f.0) tt, f.1, idle))
         | Open passed passing ne ↦ subst P (sym (after_open (TakeCell stays x) (Insert stays x) (c.ends e).at (c.ends e).through ne))
-            (cells_step (TakeCell stays x) (TakeCell stays x) c is_at kc moved.others (omega arith) refl (λ b q. cc) (f.0, f.1, passing))
+            (cells_step (TakeCell stays x) (TakeCell stays x) c is_at kc moved.others (omega arith) refl (λ b q. cc) (λ a. absurd a) (f.0, f.1, passing))
       ]
 
   item_passed : (stays : Bool) (c : SleepState) → s.at e ≡ TakeItem stays → SleepKept n room 0 c → PassMoved s.items c e
@@ -166,11 +188,11 @@ module _ {A : Type 0} (n size room : ℕ) (s : ChannelState A) (e : ℕ) (l : e 
       let fresh = ap unclaimed_out f.0 in
       elim moved.outcome [
         | Refused passed idle none ↦ subst P (sym (after_refused (TakeItem stays) (Delete stays) (c.ends e).at (c.ends e).through idle none))
-            (items_step (TakeItem stays) Idle c is_at kc moved.others (omega arith) refl (λ b q. cc) (f.0, idle, f.2))
+            (items_step (TakeItem stays) Idle c is_at kc moved.others (omega arith) refl (λ b q. cc) (λ a. absurd a) (f.0, idle, f.2))
         | Through passed idle some ↦ subst P (sym (after_through (TakeItem stays) (Delete stays) (c.ends e).at (c.ends e).through idle some))
-            (items_step (TakeItem stays) (Delete stays) c is_at kc moved.others (omega arith) refl (λ b q. cc) (subst IsDeleting (sym f.0) tt, idle, f.2))
+            (items_step (TakeItem stays) (Delete stays) c is_at kc moved.others (omega arith) refl (λ b q. cc) (λ a. absurd a) (subst IsDeleting (sym f.0) tt, idle, f.2))
         | Open passed passing ne ↦ subst P (sym (after_open (TakeItem stays) (Delete stays) (c.ends e).at (c.ends e).through ne))
-            (items_step (TakeItem stays) (TakeItem stays) c is_at kc moved.others (omega arith) refl (λ b q. cc) (f.0, passing, f.2))
+            (items_step (TakeItem stays) (TakeItem stays) c is_at kc moved.others (omega arith) refl (λ b q. cc) (λ a. absurd a) (f.0, passing, f.2))
       ]
 
   kept_take_cell : 0 < room → (stays : Bool) (x : A) → s.at e ≡ TakeCell stays x → (q : SleepPhase) → (s.cells.ends e).at ≡ q → ChannelKept n size room (take_cell room s e stays x q)
@@ -178,7 +200,7 @@ module _ {A : Type 0} (n size room : ℕ) (s : ChannelState A) (e : ℕ) (l : e 
       let f = fits_at (TakeCell stays x) is_at in
       let B = begin_step room s.cells e stays is in
       let given = B.given in let passed = B.passed in
-      cells_step (TakeCell stays x) (TakeCell stays x) _ is_at (kept_pass n room size s.cells e l K.cells stays) B.others (omega arith) refl (λ b q. cc) (f.0, f.1, B.stands)
+      cells_step (TakeCell stays x) (TakeCell stays x) _ is_at (kept_pass n room size s.cells e l K.cells stays) B.others (omega arith) refl (λ b q. cc) (λ a. absurd a) (f.0, f.1, B.stands)
   kept_take_cell z stays x is_at _ is =
       let f = fits_at (TakeCell stays x) is_at in
       cell_passed stays x (sleep_step room s.cells e) is_at (kept_step n room size s.cells e l K.cells z) (pass_step room s.cells e f.2 (λ q. cc))
@@ -188,50 +210,39 @@ module _ {A : Type 0} (n size room : ℕ) (s : ChannelState A) (e : ℕ) (l : e 
       let f = fits_at (TakeItem stays) is_at in
       let B = begin_step room s.items e stays is in
       let given = B.given in let passed = B.passed in
-      items_step (TakeItem stays) (TakeItem stays) _ is_at (kept_pass n room 0 s.items e l K.items stays) B.others (omega arith) refl (λ b q. cc) (f.0, B.stands, f.2)
+      items_step (TakeItem stays) (TakeItem stays) _ is_at (kept_pass n room 0 s.items e l K.items stays) B.others (omega arith) refl (λ b q. cc) (λ a. absurd a) (f.0, B.stands, f.2)
   kept_take_item z stays is_at _ is =
       let f = fits_at (TakeItem stays) is_at in
       item_passed stays (sleep_step room s.items e) is_at (kept_step n room 0 s.items e l K.items z) (pass_step room s.items e f.1 (λ q. cc))
 
   -- ---- gives
 
-  -- what a give of a cell goes on to
-  goes_on : (both : Bool) (c : SleepState) → s.at e ≡ GiveCell both → SleepKept n room size c → OthersStand s.cells c e → c.given ≡ s.cells.given → c.passed ≡ s.cells.passed
-      → (s.cells.ends e).at ≢ sleep.Idle → (c.ends e).at ≡ sleep.Idle → ChannelKept n size room (with_cells s e c (if both then GiveItem else Idle))
-  goes_on true c is_at kc others given passed ne idle =
-      let f = fits_at (GiveCell true) is_at in
-      let fresh = ap ungiven f.1 in let none = given_none (s.cells.ends e).at ne in
-      cells_step (GiveCell true) GiveItem c is_at kc others (omega arith) (omega arith) (λ b q. cc) (f.0, subst IsGiving (sym f.1) tt, idle)
-  goes_on false c is_at kc others given passed ne idle =
-      let f = fits_at (GiveCell false) is_at in
-      let none = given_none (s.cells.ends e).at ne in
-      cells_step (GiveCell false) Idle c is_at kc others (omega arith) refl (λ b q. cc) (f.0, f.1, idle)
-
-  cell_given : 0 < room → (both : Bool) → s.at e ≡ GiveCell both → (s.cells.ends e).at ≢ sleep.Idle
-      → ChannelKept n size room (with_cells s e (sleep_step room s.cells e) (after_give (GiveCell both) (if both then GiveItem else Idle) ((sleep_step room s.cells e).ends e).at))
-  cell_given z both is_at ne =
-      let f = fits_at (GiveCell both) is_at in
+  cell_given : 0 < room → s.at e ≡ GiveCell → (s.cells.ends e).at ≢ sleep.Idle
+      → ChannelKept n size room (with_cells s e (sleep_step room s.cells e) (after_give GiveCell Announce ((sleep_step room s.cells e).ends e).at))
+  cell_given z is_at ne =
+      let f = fits_at GiveCell is_at in
       let c = sleep_step room s.cells e in
       let kc = kept_step n room size s.cells e l K.cells z in
       let G = give_step room s.cells e f.2 ne in
       let given = G.given in let passed = G.passed in
+      let none = given_none (s.cells.ends e).at ne in
       let P : ChannelPhase A → Type 0 = λ y. ChannelKept n size room (with_cells s e c y) in
-      let next : ChannelPhase A = if both then GiveItem else Idle in
       elim (idle_or_open (c.ends e).at) [
-        | inl idle ↦ subst P (sym (ap (after_give (GiveCell both) next) idle)) (goes_on both c is_at kc G.others given passed ne idle)
-        | inr more ↦ subst P (sym (after_given (GiveCell both) next (c.ends e).at more))
-            (let none = given_none (s.cells.ends e).at ne in let still = given_none (c.ends e).at more in
-            cells_step (GiveCell both) (GiveCell both) c is_at kc G.others (omega arith) refl (λ b q. cc) (f.0, f.1, G.stands))
+        | inl idle ↦ subst P (sym (ap (after_give {A = A} GiveCell Announce) idle))
+            (cells_step GiveCell Announce c is_at kc G.others (omega arith) refl (λ b q. cc) (λ a. tt) (f.0, f.1, idle))
+        | inr more ↦ subst P (sym (after_given {A = A} GiveCell Announce (c.ends e).at more))
+            (let still = given_none (c.ends e).at more in
+            cells_step GiveCell GiveCell c is_at kc G.others (omega arith) refl (λ b q. cc) (λ a. tt) (f.0, f.1, G.stands))
       ]
 
-  kept_give_cell : 0 < room → (both : Bool) → s.at e ≡ GiveCell both → (q : SleepPhase) → (s.cells.ends e).at ≡ q → ChannelKept n size room (give_cell room s e both q)
-  kept_give_cell z both is_at sleep.Idle is =
-      let f = fits_at (GiveCell both) is_at in
+  kept_give_cell : 0 < room → s.at e ≡ GiveCell → (q : SleepPhase) → (s.cells.ends e).at ≡ q → ChannelKept n size room (give_cell room s e q)
+  kept_give_cell z is_at sleep.Idle is =
+      let f = fits_at GiveCell is_at in
       let B = begin_give_step room s.cells e is in
       let given = B.given in let passed = B.passed in
       let old = ap ungiven is in let new = ap ungiven B.stands in
-      cells_step (GiveCell both) (GiveCell both) _ is_at (kept_give n room size s.cells e l K.cells) B.others (omega arith) refl (λ b q. cc) (f.0, f.1, subst IsGiving (sym B.stands) tt)
-  kept_give_cell z both is_at _ is = cell_given z both is_at (λ q. cc)
+      cells_step GiveCell GiveCell _ is_at (kept_give n room size s.cells e l K.cells) B.others (omega arith) refl (λ b q. cc) (λ a. tt) (f.0, f.1, subst IsGiving (sym B.stands) tt)
+  kept_give_cell z is_at _ is = cell_given z is_at (λ q. cc)
 
   item_given : 0 < room → s.at e ≡ GiveItem → (s.items.ends e).at ≢ sleep.Idle
       → ChannelKept n size room (with_items s e (sleep_step room s.items e) (after_give GiveItem Idle ((sleep_step room s.items e).ends e).at))
@@ -245,10 +256,10 @@ module _ {A : Type 0} (n size room : ℕ) (s : ChannelState A) (e : ℕ) (l : e 
       let P : ChannelPhase A → Type 0 = λ y. ChannelKept n size room (with_items s e c y) in
       elim (idle_or_open (c.ends e).at) [
         | inl idle ↦ subst P (sym (ap (after_give {A = A} GiveItem Idle) idle))
-            (items_step GiveItem Idle c is_at kc G.others (omega arith) refl (λ b q. cc) (f.0, idle, f.2))
+            (items_step GiveItem Idle c is_at kc G.others (omega arith) refl (λ b q. cc) (λ a. absurd a) (f.0, idle, f.2))
         | inr more ↦ subst P (sym (after_given {A = A} GiveItem Idle (c.ends e).at more))
             (let still = given_none (c.ends e).at more in
-            items_step GiveItem GiveItem c is_at kc G.others (omega arith) refl (λ b q. cc) (f.0, G.stands, f.2))
+            items_step GiveItem GiveItem c is_at kc G.others (omega arith) refl (λ b q. cc) (λ a. absurd a) (f.0, G.stands, f.2))
       ]
 
   kept_give_item : 0 < room → s.at e ≡ GiveItem → (q : SleepPhase) → (s.items.ends e).at ≡ q → ChannelKept n size room (give_item room s e q)
@@ -257,20 +268,33 @@ module _ {A : Type 0} (n size room : ℕ) (s : ChannelState A) (e : ℕ) (l : e 
       let B = begin_give_step room s.items e is in
       let given = B.given in let passed = B.passed in
       let old = ap ungiven is in let new = ap ungiven B.stands in
-      items_step GiveItem GiveItem _ is_at (kept_give n room 0 s.items e l K.items) B.others (omega arith) refl (λ b q. cc) (f.0, subst IsGiving (sym B.stands) tt, f.2)
+      items_step GiveItem GiveItem _ is_at (kept_give n room 0 s.items e l K.items) B.others (omega arith) refl (λ b q. cc) (λ a. absurd a) (f.0, subst IsGiving (sym B.stands) tt, f.2)
   kept_give_item z is_at _ is = item_given z is_at (λ q. cc)
 
-  -- ---- the load of the upper count
+  -- ---- the loads of the upper count
 
   kept_look : (stays : Bool) → s.at e ≡ Look stays → ChannelKept n size room (look s e stays)
   kept_look stays is_at =
       let f = fits_at (Look stays) is_at in
       let fresh = ap ungiven f.1 in
       by_test (λ y. ChannelKept n size room (with_stand s e y)) (s.queue.shut && is_void s.queue) GiveItem (TakeItem stays)
-      (λ b. stand_step (Look stays) GiveItem 0 is_at (omega arith) refl (λ some. absurd (omega arith)) (λ w q. cc) (f.0, subst IsGiving (sym f.1) tt, f.2))
-      (λ b. stand_step (Look stays) (TakeItem stays) 1 is_at (omega arith) refl
+      (λ b. stand_step (Look stays) GiveItem 0 0 is_at (omega arith) refl (λ some. absurd (omega arith)) (λ some. absurd (omega arith)) (λ sh v. inr (λ a. absurd a)) (λ w q. cc) (f.0, subst IsGiving (sym f.1) tt, f.2))
+      (λ b. stand_step (Look stays) (TakeItem stays) 0 1 is_at (omega arith) refl
       (λ some. (K.looks e stays is_at, λ sh v. true_not_false (s.queue.shut && is_void s.queue) (both_whole s.queue.shut (is_void s.queue) sh v) b))
-      (λ w q. cc) (f.0, subst IsPassing (sym f.1) tt, f.2))
+      (λ some. absurd (omega arith)) (λ sh v. inr (λ a. absurd a)) (λ w q. cc) (f.0, subst IsPassing (sym f.1) tt, f.2))
+
+  kept_announce : s.at e ≡ Announce → ChannelKept n size room (announce s e)
+  kept_announce is_at =
+      let f = fits_at Announce is_at in
+      let fresh = ap ungiven f.1 in
+      by_test (λ y. ChannelKept n size room (with_stand s e y)) (s.queue.shut && is_void s.queue) GiveItem Idle
+      (λ b. let parts = both_parts s.queue.shut (is_void s.queue) b in
+      stand_step Announce GiveItem 1 0 is_at (omega arith) refl (λ some. absurd (omega arith))
+      (λ some. (record { shut = parts.0; none = void_none size s.queue K.queue parts.1 }, omega arith))
+      (λ sh v. inl (omega arith)) (λ w q. cc) (f.0, subst IsGiving (sym f.1) tt, f.2))
+      (λ b. stand_step Announce Idle 0 0 is_at refl refl (λ some. absurd (omega arith)) (λ some. absurd (omega arith))
+      (λ sh v. absurd (true_not_false (s.queue.shut && is_void s.queue) (both_whole s.queue.shut (is_void s.queue) sh v) b))
+      (λ w q. cc) f)
 
   -- ---- every event
 
@@ -281,7 +305,8 @@ module _ {A : Type 0} (n size room : ℕ) (s : ChannelState A) (e : ℕ) (l : e 
   kept_in z r (TakeItem stays) is_at = kept_take_item r stays is_at (s.items.ends e).at refl
   kept_in z r (Delete stays) is_at = kept_delete n size room s e l K z stays is_at (s.queue.phase e) refl (fits_at (Delete stays) is_at)
   kept_in z r (Look stays) is_at = kept_look stays is_at
-  kept_in z r (GiveCell both) is_at = kept_give_cell r both is_at (s.cells.ends e).at refl
+  kept_in z r GiveCell is_at = kept_give_cell r is_at (s.cells.ends e).at refl
+  kept_in z r Announce is_at = kept_announce is_at
   kept_in z r GiveItem is_at = kept_give_item r is_at (s.items.ends e).at refl
   kept_in z r Shutting is_at = kept_shut n size room s e l K z is_at (s.queue.phase e) refl (fits_at Shutting is_at)
 
@@ -290,7 +315,8 @@ module _ {A : Type 0} (n size room : ℕ) (s : ChannelState A) (e : ℕ) (l : e 
 
   begins : (y p : ChannelPhase A) → s.at e ≡ p → item_of_end y (s.queue.phase e) (s.items.ends e).at ≡ 0 → cell_of_end y (s.queue.phase e) (s.cells.ends e).at ≡ 0 → ((b : Bool) → y ≡ Look b → ⊥)
       → (s.at e ≡ Idle → Fits y (s.queue.phase e) (s.items.ends e).at (s.cells.ends e).at) → ChannelKept n size room (begin_call s e y p)
-  begins y Idle is_at item cell not_look f = stand_step Idle y 0 is_at (omega arith) (omega arith) (λ some. absurd (omega arith)) not_look (f is_at)
+  begins y Idle is_at item cell not_look f =
+      stand_step Idle y 0 0 is_at (omega arith) (omega arith) (λ some. absurd (omega arith)) (λ some. absurd (omega arith)) (λ sh v. inr (λ a. absurd a)) not_look (f is_at)
   begins y _ is_at item cell not_look f = K
 
   pub kept_sends : (stays : Bool) (x : A) → ChannelKept n size room (begin_call s e (TakeCell stays x) (s.at e))
@@ -308,6 +334,9 @@ module _ {A : Type 0} (n size room : ℕ) (s : ChannelState A) (e : ℕ) (l : e 
 
   expires_item : (stays : Bool) → s.at e ≡ TakeItem stays → (q : SleepPhase) → (s.items.ends e).at ≡ q → ChannelKept n size room (expire_item s e stays q)
   expires_item stays is_at sleep.Sleeping is = item_passed stays _ is_at (kept_expire n room 0 s.items e l K.items) (expire_step room s.items e is)
+  expires_item stays is_at sleep.Idle is =
+      let f = fits_at (TakeItem stays) is_at in
+      stand_step (TakeItem stays) Idle 0 0 is_at refl refl (λ some. absurd (omega arith)) (λ some. absurd (omega arith)) (λ sh v. inr (λ a. absurd a)) (λ w q. cc) (f.0, is, f.2)
   expires_item stays is_at _ is = K
 
   expires_in : (y : ChannelPhase A) → s.at e ≡ y → ChannelKept n size room (expire_in s e y)

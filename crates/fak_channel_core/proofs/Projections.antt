@@ -8,7 +8,7 @@ use Rattle.fak_core.proofs.Common.{refl}
 use Rattle.fak_core.proofs.QueueSteps.{by_test}
 use Rattle.fak_core.proofs.QueueReached.{is_reached, moves, inserts, deletes, closes}
 use Rattle.fak_channel_core.specs.SleepMoves.{SleepPhase, Idle, TestDown, Down, Parking, Sleeping, TakeBack, GiveUp, Up, Waking, Marking, SleepEnd, SleepState, with_end, through_end, park, wake, give_up, step_at, begin_pass, begin_give, expire}
-use Rattle.fak_channel_core.specs.ChannelMoves.{ChannelPhase, TakeCell, Insert, TakeItem, Delete, Look, GiveCell, GiveItem, Shutting, ChannelState, insert, delete, shut, take_cell, take_item, give_cell, give_item, begin_call, expire_cell, expire_item, expire_in, step_in, channel_step}
+use Rattle.fak_channel_core.specs.ChannelMoves.{ChannelPhase, TakeCell, Insert, TakeItem, Delete, Look, GiveCell, Announce, GiveItem, Shutting, ChannelState, insert, delete, shut, take_cell, take_item, give_cell, give_item, begin_call, expire_cell, expire_item, expire_in, step_in, channel_step}
 use Rattle.fak_channel_core.specs.ChannelMoves as channel
 use Rattle.fak_channel_core.specs.ChannelSchedule.{ChannelEvent, Sends, Receives, Closes, Expires, Steps, end_of, channel_opening, channel_event, channel_happens, channel_run, channel_reached, AreReached}
 
@@ -86,9 +86,9 @@ module _ {A : Type 0} (size room : ℕ) (s : ChannelState A) (R : AreReached siz
   item_taken stays Idle = record { queue = R.queue; items = passes_on room s.items R.items e (s.items.ends e) stays (s.items.ends e).at; cells = R.cells }
   item_taken stays _ = record { queue = R.queue; items = steps_on room s.items R.items e (s.items.ends e) (s.items.ends e).at; cells = R.cells }
 
-  cell_given : (both : Bool) (p : SleepPhase) → AreReached size room (give_cell room s e both p)
-  cell_given both Idle = record { queue = R.queue; items = R.items; cells = gives_on room s.cells R.cells e (s.cells.ends e) (s.cells.ends e).at }
-  cell_given both _ = record { queue = R.queue; items = R.items; cells = steps_on room s.cells R.cells e (s.cells.ends e) (s.cells.ends e).at }
+  cell_given : (p : SleepPhase) → AreReached size room (give_cell room s e p)
+  cell_given Idle = record { queue = R.queue; items = R.items; cells = gives_on room s.cells R.cells e (s.cells.ends e) (s.cells.ends e).at }
+  cell_given _ = record { queue = R.queue; items = R.items; cells = steps_on room s.cells R.cells e (s.cells.ends e) (s.cells.ends e).at }
 
   item_given : (p : SleepPhase) → AreReached size room (give_item room s e p)
   item_given Idle = record { queue = R.queue; items = gives_on room s.items R.items e (s.items.ends e) (s.items.ends e).at; cells = R.cells }
@@ -101,7 +101,8 @@ module _ {A : Type 0} (size room : ℕ) (s : ChannelState A) (R : AreReached siz
   steps_in (TakeItem stays) = item_taken stays (s.items.ends e).at
   steps_in (Delete stays) = delete_stays stays (s.queue.phase e) refl
   steps_in (Look stays) = record { queue = R.queue; items = R.items; cells = R.cells }
-  steps_in (GiveCell both) = cell_given both (s.cells.ends e).at
+  steps_in GiveCell = cell_given (s.cells.ends e).at
+  steps_in Announce = record { queue = R.queue; items = R.items; cells = R.cells }
   steps_in GiveItem = item_given (s.items.ends e).at
   steps_in Shutting = shut_stays (s.queue.phase e) refl
 
@@ -115,6 +116,7 @@ module _ {A : Type 0} (size room : ℕ) (s : ChannelState A) (R : AreReached siz
 
   item_expires : (stays : Bool) (p : SleepPhase) → AreReached size room (expire_item s e stays p)
   item_expires stays Sleeping = record { queue = R.queue; items = expires_on room s.items R.items e (s.items.ends e) (s.items.ends e).at; cells = R.cells }
+  item_expires stays Idle = record { queue = R.queue; items = R.items; cells = R.cells }
   item_expires stays _ = R
 
   expires_in : (y : ChannelPhase A) → AreReached size room (expire_in s e y)

@@ -26,8 +26,10 @@ pub data ChannelPhase (A : Type 0) : Type 0 where
   Delete : (stays : Bool) → ChannelPhase A
   -- the load of the upper count, after a deletion that found no item
   Look : (stays : Bool) → ChannelPhase A
-  -- a give of a free cell, and then one of an item where `both`
-  GiveCell : (both : Bool) → ChannelPhase A
+  -- a give of a free cell
+  GiveCell : ChannelPhase A
+  -- the load of the upper count, after a step that may have drained the queue, and the give that follows it
+  Announce : ChannelPhase A
   -- a give of an item
   GiveItem : ChannelPhase A
   -- a close's shut of the queue
@@ -46,10 +48,7 @@ pub record ChannelState (A : Type 0) : Type 0 where
 abbrev pub with_stand : {A : Type 0} → ChannelState A → ℕ → ChannelPhase A → ChannelState A
 with_stand s e y = record s { at = with_at s.at e y }
 
--- the upper count is at most 1, or at most 0
-abbrev pub is_last : {A : Type 0} → QueueState A → Bool
-is_last q = not (int_lt (pos 1) q.upper)
-
+-- the upper count is at most 0
 abbrev pub is_void : {A : Type 0} → QueueState A → Bool
 is_void q = not (int_lt (pos 0) q.upper)
 
@@ -86,11 +85,10 @@ take_item room s e stays sleep.Idle = with_items s e (begin_pass s.items e (s.it
 take_item room s e stays _ =
     let i = sleep_step room s.items e in with_items s e i (after_pass (TakeItem stays) (Delete stays) (i.ends e).at (i.ends e).through)
 
--- after a step of an insertion that left this mark: a send that the shut queue refuses gives its cell back; where its
--- withdrawal drains the queue it gives an item, too
+-- after a step of an insertion that left this mark: a send that the shut queue refuses gives its cell back
 abbrev pub inserted : {A : Type 0} → QueueState A → Bool → A → Option (Kind A) → ChannelPhase A
-inserted q stays x (Some mark.Closed) = GiveCell false
-inserted q stays x (Some mark.BackIn) = if q.shut then GiveCell (is_last q) else Insert stays x
+inserted q stays x (Some mark.Closed) = GiveCell
+inserted q stays x (Some mark.BackIn) = if q.shut then GiveCell else Insert stays x
 inserted q stays x (Some mark.EndIn) = GiveItem
 inserted q stays x _ = Insert stays x
 
@@ -99,10 +97,10 @@ abbrev pub insert : {A : Type 0} → ChannelState A → ℕ → Bool → A → O
 insert s e stays x None = with_queue s e (with_phase s.queue e (TestUp x)) (Insert stays x)
 insert s e stays x (Some m) = with_queue s e (moved s.queue e m) (inserted s.queue stays x m.mark)
 
--- after a step of a deletion that left this mark: it gives its cell, and where it drained the shut queue an item
+-- after a step of a deletion that left this mark: it gives its cell
 abbrev pub deleted : {A : Type 0} → QueueState A → Bool → Option (Kind A) → ChannelPhase A
 deleted q stays (Some mark.NoItem) = Look stays
-deleted q stays (Some mark.EndOut) = GiveCell (q.shut && is_last q)
+deleted q stays (Some mark.EndOut) = GiveCell
 deleted q stays _ = Delete stays
 
 abbrev pub delete : {A : Type 0} → ChannelState A → ℕ → Bool → Option (QueueMove A) → ChannelState A
@@ -114,19 +112,23 @@ abbrev pub look : {A : Type 0} → ChannelState A → ℕ → Bool → ChannelSt
 look s e stays = with_stand s e (if s.queue.shut && is_void s.queue then GiveItem else TakeItem stays)
 
 -- a step of a give: it begins, or makes its next step
-abbrev pub give_cell : {A : Type 0} → ℕ → ChannelState A → ℕ → Bool → SleepPhase → ChannelState A
-give_cell room s e both sleep.Idle = with_cells s e (begin_give s.cells e (s.cells.ends e) (s.cells.ends e).at) (GiveCell both)
-give_cell room s e both _ =
-    let c = sleep_step room s.cells e in with_cells s e c (after_give (GiveCell both) (if both then GiveItem else Idle) (c.ends e).at)
+abbrev pub give_cell : {A : Type 0} → ℕ → ChannelState A → ℕ → SleepPhase → ChannelState A
+give_cell room s e sleep.Idle = with_cells s e (begin_give s.cells e (s.cells.ends e) (s.cells.ends e).at) GiveCell
+give_cell room s e _ =
+    let c = sleep_step room s.cells e in with_cells s e c (after_give GiveCell Announce (c.ends e).at)
 
 abbrev pub give_item : {A : Type 0} → ℕ → ChannelState A → ℕ → SleepPhase → ChannelState A
 give_item room s e sleep.Idle = with_items s e (begin_give s.items e (s.items.ends e) (s.items.ends e).at) GiveItem
 give_item room s e _ =
     let i = sleep_step room s.items e in with_items s e i (after_give GiveItem Idle (i.ends e).at)
 
--- after a step of a close that left this mark: it gives a cell, and where it drained the queue an item
+-- the load of the upper count and its bit: where the queue is drained, the end gives an item
+abbrev pub announce : {A : Type 0} → ChannelState A → ℕ → ChannelState A
+announce s e = with_stand s e (if s.queue.shut && is_void s.queue then GiveItem else Idle)
+
+-- after a step of a close that left this mark: the first close gives a cell
 abbrev pub closed : {A : Type 0} → QueueState A → Option (Kind A) → ChannelPhase A
-closed q (Some mark.Close) = GiveCell (is_void q)
+closed q (Some mark.Close) = if q.shut then Idle else GiveCell
 closed q _ = Shutting
 
 abbrev pub shut : {A : Type 0} → ChannelState A → ℕ → Option (QueueMove A) → ChannelState A
@@ -141,7 +143,8 @@ step_in size room s e (Insert stays x) = insert s e stays x (next_move size s.qu
 step_in size room s e (TakeItem stays) = take_item room s e stays (s.items.ends e).at
 step_in size room s e (Delete stays) = delete s e stays (next_move size s.queue (s.queue.phase e))
 step_in size room s e (Look stays) = look s e stays
-step_in size room s e (GiveCell both) = give_cell room s e both (s.cells.ends e).at
+step_in size room s e GiveCell = give_cell room s e (s.cells.ends e).at
+step_in size room s e Announce = announce s e
 step_in size room s e GiveItem = give_item room s e (s.items.ends e).at
 step_in size room s e Shutting = shut s e (next_move size s.queue (s.queue.phase e))
 
@@ -156,7 +159,7 @@ abbrev pub begin_call : {A : Type 0} → ChannelState A → ℕ → ChannelPhase
 begin_call s e y Idle = with_stand s e y
 begin_call s e y _ = s
 
--- the deadline of a send, or of a receive, that sleeps
+-- the deadline of a send, or of a receive, that sleeps; that of a receive may also come before it passes again
 abbrev pub expire_cell : {A : Type 0} → ChannelState A → ℕ → Bool → A → SleepPhase → ChannelState A
 expire_cell s e stays x sleep.Sleeping =
     let c = expire s.cells e (s.cells.ends e) (s.cells.ends e).at in with_cells s e c (after_pass (TakeCell stays x) (Insert stays x) (c.ends e).at (c.ends e).through)
@@ -165,6 +168,7 @@ expire_cell s e stays x _ = s
 abbrev pub expire_item : {A : Type 0} → ChannelState A → ℕ → Bool → SleepPhase → ChannelState A
 expire_item s e stays sleep.Sleeping =
     let i = expire s.items e (s.items.ends e) (s.items.ends e).at in with_items s e i (after_pass (TakeItem stays) (Delete stays) (i.ends e).at (i.ends e).through)
+expire_item s e stays sleep.Idle = with_stand s e Idle
 expire_item s e stays _ = s
 
 -- the deadline of an end that stands here

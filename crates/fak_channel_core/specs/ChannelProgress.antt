@@ -5,7 +5,7 @@ use Rattle.fak_core.specs.declared.queue.phase.Phase.TheVariants as queue
 use Rattle.fak_core.specs.QueueMoves.{QueueState}
 use Rattle.fak_core.specs.QueueProgress.{MakesProgress}
 use Rattle.fak_channel_core.specs.SleepMoves.{SleepPhase, Parking, Sleeping, Waking, SleepState}
-use Rattle.fak_channel_core.specs.ChannelMoves.{ChannelPhase, Idle, TakeCell, Insert, TakeItem, Delete, Look, GiveCell, GiveItem, Shutting, ChannelState}
+use Rattle.fak_channel_core.specs.ChannelMoves.{ChannelPhase, Idle, TakeCell, Insert, TakeItem, Delete, Look, GiveCell, Announce, GiveItem, Shutting, ChannelState}
 
 -- the next step of a token's insertion moves it forward: a claim is granted, and a step that waits for no turn changes the
 -- phase
@@ -41,7 +41,8 @@ CallMoves size room s e (Insert stays x) = QueueCallMoves size s.queue e
 CallMoves size room s e (TakeItem stays) = SemaphoreMoves room s.items e (s.items.ends e).at
 CallMoves size room s e (Delete stays) = QueueCallMoves size s.queue e
 CallMoves size room s e (Look stays) = Unit {0}
-CallMoves size room s e (GiveCell both) = SemaphoreMoves room s.cells e (s.cells.ends e).at
+CallMoves size room s e GiveCell = SemaphoreMoves room s.cells e (s.cells.ends e).at
+CallMoves size room s e Announce = Unit {0}
 CallMoves size room s e GiveItem = SemaphoreMoves room s.items e (s.items.ends e).at
 CallMoves size room s e Shutting = QueueCallMoves size s.queue e
 

@@ -31,7 +31,7 @@ WasWoken {A} s e = ((stays : Bool) × (x : A) × (s.at e ≡ TakeCell stays x) �
 -- the end has inserted its item or was refused as closed, or it has deleted an item or found the channel drained
 abbrev pub IsServed : {A : Type 0} → ChannelPhase A → Type 0
 IsServed (Look stays) = Unit {0}
-IsServed (GiveCell both) = Unit {0}
+IsServed GiveCell = Unit {0}
 IsServed GiveItem = Unit {0}
 IsServed _ = ⊥
 

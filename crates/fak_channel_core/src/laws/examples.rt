@@ -3,7 +3,7 @@
 ghost use Rattle.std.specs.Prelude.{ℕ, ◌≡◌, ◌∷◌, [], ◌++◌, true, false, negsuc, pos};
 ghost use Rattle.fak_model.specs.Queue.{contents};
 ghost use Rattle.fak_core.specs.QueueMoves.{history_of};
-ghost use Rattle.fak_channel_core.specs.ChannelExamples.{after, close_wakes_receiver, close_wakes_sender, deadline_comes, deadline_is_late, give_is_repeated, last_item_waits, last_item_wakes, late_claim_waits, late_claim_wakes, receiver_ends, receiver_is_told, receiver_sleeps, receiver_wakes, rounds_of_three, second_receiver_wakes, second_sender_waits, second_sender_wakes, sender_owes, sender_sleeps, sender_wakes, token_is_gone, try_is_refused};
+ghost use Rattle.fak_channel_core.specs.ChannelExamples.{after, close_wakes_receiver, close_wakes_sender, closed_twice, deadline_comes, deadline_is_late, give_is_repeated, last_item_waits, last_item_wakes, late_claim_waits, late_claim_wakes, receive_is_over, receiver_ends, receiver_is_told, receiver_sleeps, receiver_wakes, rounds_of_three, second_receiver_wakes, second_sender_waits, second_sender_wakes, sender_owes, sender_sleeps, sender_wakes, token_is_gone, try_is_refused};
 ghost use Rattle.fak_channel_core.specs.ChannelMoves.{Delete, Idle, Look, TakeCell, TakeItem};
 ghost use Rattle.fak_channel_core.specs.ChannelProgress.{CallMoves, SomeEndMoves};
 ghost use Rattle.fak_channel_core.specs.ChannelRounds.{IsChannelRound, IsServedWithin, WasWoken};
@@ -38,6 +38,9 @@ pub fn a_close_wakes_either_side()
     ensures receiver { ReceiveSleeps (after close_wakes_receiver) 0 → ⊥ }
     ensures closer { ((after close_wakes_receiver).at 1 ≡ Idle) × ((after close_wakes_receiver).queue.shut ≡ true) }
     ensures told { (after receiver_is_told).at 0 ≡ Look true }
+    ensures twice { ((after closed_twice).at 1 ≡ Idle) × ((after closed_twice).at 2 ≡ Idle) }
+    ensures once { ((after closed_twice).items.count ≡ pos 1) × ((after closed_twice).cells.count ≡ pos 2) }
+    ensures over { (after receive_is_over).at 2 ≡ Idle }
     ensures sender { SendSleeps (after close_wakes_sender) 2 → ⊥ }
 {}
 
