@@ -1,0 +1,24 @@
+//! The tests of `fak_channel`, in a crate of their own, so that it is proved once: calls of one thread, threads that sleep,
+//! storms of threads, and lent ends.
+#![tactic(auto)]
+
+#[cfg(test)]
+mod assertions;
+#[cfg(test)]
+mod callers;
+#[cfg(test)]
+mod lenders;
+#[cfg(test)]
+mod openings;
+#[cfg(test)]
+mod owned;
+#[cfg(test)]
+mod prints;
+#[cfg(test)]
+mod rows;
+#[cfg(test)]
+mod sleeping;
+#[cfg(test)]
+mod steps;
+#[cfg(test)]
+mod storms;
