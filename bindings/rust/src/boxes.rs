@@ -55,7 +55,7 @@ pub struct BoxSeat<T: Send> {
 struct Queue<T> {
     // A seat that makes no call before the last of the others was dropped, so it can still delete all that may be in the queue.
     keeper: Seat,
-    // The seats that were dropped in mid-call.
+    // The seats that were dropped during a call.
     open: AtomicPtr<Node>,
     // One seat puts in what another takes out, so the items of all seats have one type, and one lifetime.
     items: PhantomData<Cell<T>>,
@@ -229,7 +229,7 @@ impl<T: Send> Drop for BoxSeat<T> {
 }
 
 impl<T> Queue<T> {
-    // Puts a seat in mid-call before the others.
+    // Puts a seat that is in a call before the others.
     fn keep_open(&self, own: Box<Node>) {
         let own = Box::into_raw(own);
         let mut first = self.open.load(SeqCst);

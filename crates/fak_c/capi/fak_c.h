@@ -163,7 +163,7 @@ int32_t fak_c_move(fak_c_seat *seat, fak_c_seat *to);
  *
  * Never sleep on a refusal. A seat that claims an item where there is none takes its claim back by a second step. Between the two its
  * claim hides one item: a thread that inserts an item and then deletes may read FAK_C_EMPTY beside that item, and so may every other
- * thread. So a thread that tries, announces that it will sleep, tries once more and sleeps may sleep beside an item for ever: the
+ * thread. So a thread that tries, announces that it will sleep, tries once more and sleeps may sleep beside an item forever: the
  * insertion that would wake it is over. The same holds for FAK_C_FULL, of a queue and of a room, and for FAK_C_BUSY. refusals.c counts
  * how often it happens: beside one thread that polled, up to 60 of 100,000 deletions were refused beside their item, and none in other
  * runs. There are two right ways:
@@ -254,7 +254,7 @@ int32_t fak_c_state(fak_c_seat *seat, uint32_t *state, uint64_t *ticket, uint64_
 
 /* How many there are of what. Each of these loads one count, so it tells what was so at one moment of the call; others may have
  * changed it since. None waits, or makes a mark, or counts against the stint. The seat may be in any state. FAK_C_OK or
- * FAK_C_NO_SEAT, where nothing is written.
+ * FAK_C_NO_SEAT, which writes nothing.
  *
  * fak_c_count writes the items that are ready: insertions that have ended, less the deletions begun and not withdrawn. While no other
  * seat is in a call it is the number of items. It is below 0 while deletions are refused, so take 0 for less.

@@ -1,6 +1,6 @@
 /* The objects of fak_c.h for C++17: handles that own their seat, and calls with types. Nothing here throws, takes memory or waits.
  *
- * A handle is movable, in mid-call too, and cannot be copied. Its destructor leaves the object. While a call is open, or the seat
+ * A handle is movable, also during a call, and cannot be copied. Its destructor leaves the object. While a call is open, or the seat
  * holds something of a room or a file table, leaving is refused; then the object is never freed. So end the call first.
  *
  * Each call is that of fak_c.h, whose comment says which codes it returns; what C owes there is owed here, except that no handle is
@@ -126,7 +126,7 @@ public:
     }
     ~Handle() { fak_c_leave(&seat); }
 
-    /* Leaves the object: Ok, NoSeat, or WrongState if the seat is in mid-call or holds something. */
+    /* Leaves the object: Ok, NoSeat, or WrongState if the seat is in a call or holds something. */
     Code leave() noexcept { return Code{fak_c_leave(&seat)}; }
 
     /* Whether it owns a seat. */

@@ -115,7 +115,7 @@ static void a_vector_of_seats_is_opened() {
     CHECK(fak::CreditSeat::open(seats, 3, 1) == Code::BadLimit && !seats[0]);
 }
 
-/* A seat in mid-call moves, and goes on; its handle cannot leave. */
+/* A seat moves during a call, and goes on; its handle cannot leave. */
 static void a_seat_moves_in_mid_call() {
     Queue seats[2];
     CHECK(Queue::open(seats, 4, 9) == Code::Ok);
@@ -127,7 +127,7 @@ static void a_seat_moves_in_mid_call() {
     CHECK(moved.try_put() == Code::Ok && seats[1].get().value.item == 8);
 }
 
-/* A seat that is given up in mid-call is abandoned: its object stays, for ever. */
+/* A seat that is given up during a call is abandoned: its object stays forever. */
 static void *volatile abandoned; /* since it is known here, the address sanitizer finds no leak */
 
 static void a_seat_in_mid_call_is_abandoned() {

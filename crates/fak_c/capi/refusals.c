@@ -6,7 +6,7 @@
  * in the queue from before the refused call until after it. The second half does the same with a full queue, and pollers that
  * insert.
  *
- * usage: refusals [ROUNDS [POLLERS [CELLS]]]; 100,000 rounds beside 1 poller, and 4 cells, where the words leave them out.
+ * usage: refusals [ROUNDS [POLLERS [CELLS]]]; 100,000 rounds beside 1 poller, and 4 cells, if the words leave them out.
  *
  * It prints what it counted. It fails only where an item is lost or doubled, never because of how often something happened. */
 #include "tests.h"
