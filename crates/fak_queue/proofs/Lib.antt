@@ -36,6 +36,7 @@ pub mod BurstEnds
 pub mod BurstNames
 pub mod BurstClaims
 pub mod BurstClaimsOut
+pub mod BundleRefusals
 pub mod BundleTurns
 pub mod BundleLists
 pub mod BundleFilling

@@ -12,6 +12,8 @@ use Rattle.fak_core.specs.QueueBlocks.{Posts}
 use Rattle.fak_queue.specs.declared.standing.Standing.TheVariants.{Alike, Each}
 use Rattle.fak_queue.specs.Shown.{QueueView, QueueHolder, IsPost}
 use Rattle.fak_queue.specs.Steps.{mark}
+use Rattle.fak_queue.specs.declared.found.NoRoom.{NoRoom}
+use Rattle.fak_queue.specs.declared.found.NoRoom.TheVariants.{Full, Shut}
 use Rattle.fak_queue.specs.Bursts.{Makes}
 use Rattle.fak_queue.specs.Queues.{seat_of, made_by}
 
@@ -189,3 +191,23 @@ pub record ClaimsOutOn {T : Type 0} (size seats : ℕ) (names : List ℕ) (d k j
   pub over : (i n : ℕ) → item_at names i ≡ Some n → j ≤ i → i < d → MadeBy n (made.OverOut ∷ made.BackOut ∷ []) m after
   pub others : (i n : ℕ) → item_at names i ≡ Some n → d ≤ i → MadeBy n [] m after
   pub few : k + j ≤ 2 ^ 50
+
+-- ---- refusals, name by name
+
+-- the first d names made marks of these kinds, the others none, and all rest as before
+pub record AllMade {T : Type 0} (size seats : ℕ) (names : List ℕ) (d : ℕ) (kinds : List (Kind T)) (m after : QueueHolder T) : Type 0 where
+  pub phase : after.0.phase ≡ Some (Alike Idle)
+  pub left : after.0.left ≡ m.0.left
+  pub slots : after.1 ≡ m.1
+  pub begins : Begins (reverse m.0.seen) (reverse after.0.seen)
+  pub lawful : IsLawful size seats after.0
+  pub each : (i n : ℕ) → item_at names i ≡ Some n → i < d → MadeBy n kinds m after
+  pub others : (i n : ℕ) → item_at names i ≡ Some n → d ≤ i → MadeBy n [] m after
+
+-- all of the first d names were refused: at the first test, or after their add
+abbrev pub RefusesOn : {T : Type 0} → ℕ → ℕ → List ℕ → ℕ → NoRoom → QueueHolder T → QueueHolder T → Type 0
+RefusesOn size seats names d (Full u) m after = AllMade size seats names d (made.NoRoom ∷ []) m after ⊎ AllMade size seats names d (made.OverIn ∷ made.BackIn ∷ []) m after
+RefusesOn size seats names d Shut m after = AllMade size seats names d (made.Closed ∷ []) m after ⊎ AllMade size seats names d (made.LateIn ∷ made.BackIn ∷ []) m after
+
+abbrev pub RefusesOutOn : {T : Type 0} → ℕ → ℕ → List ℕ → ℕ → QueueHolder T → QueueHolder T → Type 0
+RefusesOutOn size seats names d m after = AllMade size seats names d (made.NoItem ∷ []) m after ⊎ AllMade size seats names d (made.OverOut ∷ made.BackOut ∷ []) m after

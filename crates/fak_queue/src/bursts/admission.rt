@@ -1,12 +1,12 @@
 //! The claims of bursts: from the test to the draw.
 
-ghost use Rattle.std.specs.Prelude.{◌≡◌, ◌<◌, ◌≤◌, IfOk, MatchResult, Some, drop, length};
+ghost use Rattle.std.specs.Prelude.{◌≡◌, ◌<◌, ◌≤◌, IfErr, IfOk, MatchResult, Some, drop, length};
 ghost use Rattle.fak_model.specs.declared.queue.Kind.TheVariants.{BackIn};
 ghost use Rattle.fak_core.specs.declared.queue.phase.Phase.TheVariants.{BackUp, Idle};
 ghost use Rattle.fak_core.specs.QueueBlocks.{AreApart, marks_back};
 ghost use Rattle.fak_queue.specs.Steps.{FitsTable};
 ghost use Rattle.fak_queue.specs.declared.standing.Standing.TheVariants.{Alike};
-ghost use Rattle.fak_queue.specs.Bundles.{ClaimsOn};
+ghost use Rattle.fak_queue.specs.Bundles.{ClaimsOn, RefusesOn};
 ghost use Rattle.fak_queue.specs.Bursts.{ClaimedBurst, Makes, RefusedBurst, RoomBurst, Says, claims_at, pair_up};
 
 use crate::bursts::insertion::{add_burst, back_burst, draw_burst, test_burst};
@@ -103,6 +103,9 @@ pub(crate) fn admit_burst<T>(
         token.new.me) }
     ensures claims { IfOk result
         (λ r. ClaimsOn words.now.table_id.slots words.now.key.seats names.now items.now r.0 r.1 token.old.me
+        token.new.me) }
+    ensures refuses { IfErr result
+        (λ r. RefusesOn words.now.table_id.slots words.now.key.seats names.now (length items.now) r token.old.me
         token.new.me) }
 {
     match claim_room(words, token, size, names, items) {

@@ -1,12 +1,12 @@
 //! The claim of a burst of deletions: from the test to the draw.
 
-ghost use Rattle.std.specs.Prelude.{◌≡◌, ◌<◌, ◌≤◌, IfOk, MatchResult, Some, drop, length};
+ghost use Rattle.std.specs.Prelude.{◌≡◌, ◌<◌, ◌≤◌, IfErr, IfOk, MatchResult, Some, drop, length};
 ghost use Rattle.fak_model.specs.declared.queue.Kind.TheVariants.{BackOut};
 ghost use Rattle.fak_core.specs.declared.queue.phase.Phase.TheVariants.{BackLow, Idle};
 ghost use Rattle.fak_core.specs.QueueBlocks.{AreApart, marks_back};
 ghost use Rattle.fak_queue.specs.Steps.{FitsTable};
 ghost use Rattle.fak_queue.specs.declared.standing.Standing.TheVariants.{Alike};
-ghost use Rattle.fak_queue.specs.Bundles.{ClaimsOutOn};
+ghost use Rattle.fak_queue.specs.Bundles.{ClaimsOutOn, RefusesOutOn};
 ghost use Rattle.fak_queue.specs.Bursts.{ClaimedOutBurst, Makes, RefusedOutBurst, Says, StockBurst, claims_out_at, pair_up, units};
 
 use crate::bursts::deletion::{back_low_burst, draw_out_burst, sub_burst, test_low_burst};
@@ -99,6 +99,8 @@ pub(crate) fn admit_burst_out<T>(
     ensures claims { IfOk result
         (λ r. ClaimsOutOn words.now.table_id.slots words.now.key.seats names.now count r.0 r.1 token.old.me
         token.new.me) }
+    ensures refuses { IfErr result
+        (λ r. RefusesOutOn words.now.table_id.slots words.now.key.seats names.now count token.old.me token.new.me) }
 {
     match claim_stock(words, token, count, names) {
         Ok(granted) => Ok((

@@ -1,3 +1,4 @@
+use Rattle.fak_queue.proofs.BundleRefusals.{refuses_on}
 use Rattle.fak_queue.proofs.BundleClaims.{claims_on}
 use Rattle.fak_queue.proofs.BurstClaims.{draw_count, draw_names, draw_left, claims_burst}
 use Rattle.fak_queue.proofs.bursts.admission.admit_burst.Goals as goal
@@ -27,3 +28,8 @@ returns-in-Ok-clause-claims g c =
     let n = c.requires.names in
     claims_on c.args.names.now c.args.items.now n.0 n.2 c.draw_burst.result c.in-Ok.granted c.args.token.now.me c.draw_burst.new.token.me n.1
     (claims_burst c.args.words.now.table_id.slots c.args.words.now.key.seats c.args.names.now c.args.items.now n.0 n.2 c.args.token.now.me c.claim_room.new.token.me n.1 c.in-Ok.granted c.in-Ok.ensures.told _ c.draw_burst.new.token.me c.draw_burst.ensures.told)
+
+pub returns-in-Err-clause-refuses : goal.returns-in-Err-clause-refuses
+returns-in-Err-clause-refuses g c =
+    let n = c.requires.names in
+    refuses_on c.args.words.now.table_id.slots c.args.words.now.key.seats c.args.names.now c.args.items.now n.0 n.2 c.args.token.now.me c.claim_room.new.token.me n.1 c.in-Err.reason c.in-Err.ensures.told

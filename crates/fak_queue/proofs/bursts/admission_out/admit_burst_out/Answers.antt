@@ -1,7 +1,8 @@
-use Rattle.fak_queue.specs.Bundles.{ClaimsOutOn}
+use Rattle.fak_queue.specs.Bundles.{ClaimsOutOn, RefusesOutOn}
 use Rattle.fak_queue.proofs.BundleClaimsOut.{claims_out_on}
 use Rattle.fak_queue.proofs.Common.{subst, arith, ℕ, ◌≤◌, length}
 use Rattle.fak_queue.specs.Bursts.{units}
+use Rattle.fak_queue.proofs.BundleRefusals.{refuses_out_on}
 use Rattle.fak_queue.proofs.BurstNames.{units_length}
 use Rattle.fak_queue.proofs.BurstClaimsOut.{draw_count, draw_names, draw_left, claims_burst}
 use Rattle.fak_queue.proofs.bursts.admission_out.admit_burst_out.Goals as goal
@@ -40,3 +41,9 @@ returns-in-Ok-clause-claims g c =
     subst (λ d. ClaimsOutOn c.args.words.now.table_id.slots c.args.words.now.key.seats c.args.names.now d c.draw_out_burst.result c.in-Ok.granted c.args.token.now.me c.draw_out_burst.new.token.me) (units_length c.args.count)
     (claims_out_on c.args.names.now (units c.args.count) n.0 (fits _ _ n.2) c.draw_out_burst.result c.in-Ok.granted c.args.token.now.me c.draw_out_burst.new.token.me n.1
     (claims_burst c.args.words.now.table_id.slots c.args.words.now.key.seats c.args.names.now (units c.args.count) n.0 (fits _ _ n.2) c.args.token.now.me c.claim_stock.new.token.me n.1 c.in-Ok.granted c.in-Ok.ensures.told _ c.draw_out_burst.new.token.me c.draw_out_burst.ensures.told))
+
+pub returns-in-Err-clause-refuses : goal.returns-in-Err-clause-refuses
+returns-in-Err-clause-refuses g c =
+    let n = c.requires.names in
+    subst (λ d. RefusesOutOn c.args.words.now.table_id.slots c.args.words.now.key.seats c.args.names.now d c.args.token.now.me c.claim_stock.new.token.me) (units_length c.args.count)
+    (refuses_out_on c.args.words.now.table_id.slots c.args.words.now.key.seats c.args.names.now (units c.args.count) n.0 (fits _ _ n.2) c.args.token.now.me c.claim_stock.new.token.me n.1 c.in-Err.lower c.in-Err.ensures.told)
