@@ -1,9 +1,8 @@
 -- The seats of a channel as they are opened are of the channel.
-use Rattle.std.proofs.Common.{◌≡◌, ℕ, zero, suc, List, [], refl, subst, sym}
+use Rattle.std.proofs.Common.{◌≡◌, ℕ, zero, suc, List, refl, subst, sym}
 use Rattle.std.specs.List.{All}
 use Rattle.std.proofs.lemmas.List.Elements.{All-nil, All-cons}
 use Rattle.fak_channel.specs.Channels.{IsSeatOf, fresh_channel_seat, fresh_channel_seats}
-use Rattle.fak_channel.specs.Permits.{dealt}
 use Rattle.fak_channel.specs.declared.channel.Channel.{Channel}
 use Rattle.fak_channel.specs.declared.seat.ChannelSeat.{ChannelSeat}
 

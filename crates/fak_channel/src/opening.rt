@@ -16,8 +16,8 @@ use fak_queue::{Queue, Seat};
 use std::alloc::{AllocError, Global};
 
 impl<T: Drop> Channel<T> {
-    /// An empty channel of `size` cells, with a seat for each of its ends. A seat may make about `stint` calls, one less than
-    /// the permits that its calls acquire and release of either kind.
+    /// An empty channel of `size` cells, with a seat for each of its ends. A seat makes `stint - 1` sends and receives where no
+    /// call gives up or is refused, and fewer otherwise.
     ///
     /// `size` is 1 to `LARGE_SIZE`, and `ends` 1 to `LARGE_SEATS`. `stint` is at least 1, and `ends` times `stint` at most
     /// `LARGE_TICKETS`.
