@@ -3,14 +3,16 @@
 ghost use Rattle.std.specs.Prelude.{◌≡◌, ℕ, [], Some, IfErr, IfOk};
 ghost use Rattle.fak_model.specs.Queue.{contents, item_at, items_put};
 
+#[cfg(test)]
 use super::assertions::assert_equal;
+#[cfg(test)]
 use super::steps::open;
 use fak_channel::{End, ReceiveFault};
 use fak_queue::laws::a_drained_queue_stays_empty;
 use std::sync::Wait;
 
-/// Receives an item. Where the channel is over, nothing is left in it, as far as the end has seen.
-fn next<R: Wait>(rt: &R, end: &mut End<'_, u64>) -> Result<u64, ReceiveFault>
+/// Receives an item. If the channel is closed and drained, nothing is left in it, as far as the end has seen.
+pub fn next<R: Wait>(rt: &R, end: &mut End<'_, u64>) -> Result<u64, ReceiveFault>
     ensures { result ≡ Err ReceiveFault.Closed → contents end.new.seat.queue.seen ≡ [] }
 {
     a_drained_queue_stays_empty::<u64>();
@@ -18,7 +20,7 @@ fn next<R: Wait>(rt: &R, end: &mut End<'_, u64>) -> Result<u64, ReceiveFault>
 }
 
 /// Sends the item, or gives it back.
-fn offer<R: Wait>(rt: &R, end: &mut End<'_, u64>, item: u64) -> Result<(), u64>
+pub fn offer<R: Wait>(rt: &R, end: &mut End<'_, u64>, item: u64) -> Result<(), u64>
     ensures sent { IfOk result (λ _. (k : ℕ) × (item_at (items_put end.new.seat.queue.seen) k ≡ Some item)) }
     ensures back { IfErr result (λ x. x ≡ item) }
 {

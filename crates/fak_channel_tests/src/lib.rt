@@ -4,7 +4,6 @@
 
 #[cfg(test)]
 mod assertions;
-#[cfg(test)]
 mod callers;
 #[cfg(test)]
 mod lenders;
