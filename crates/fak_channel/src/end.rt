@@ -69,7 +69,7 @@ impl<'c, T: Drop> End<'c, T> {
             .send_deadline(rt, &mut self.seat, item, deadline)
     }
 
-    /// Sends the item where there is a free cell. The thread does not sleep.
+    /// Sends the item if there is a free cell. The thread does not sleep.
     ///
     /// # Errors
     ///
@@ -113,7 +113,7 @@ impl<'c, T: Drop> End<'c, T> {
         self.channel.receive_deadline(rt, &mut self.seat, deadline)
     }
 
-    /// Receives the oldest item where there is one. The thread does not sleep.
+    /// Receives the oldest item if there is one. The thread does not sleep.
     ///
     /// # Errors
     ///
@@ -131,7 +131,7 @@ impl<'c, T: Drop> End<'c, T> {
     ///
     /// # Errors
     ///
-    /// `ChannelWorn`, where the stint is used up; the channel is as it was.
+    /// `ChannelWorn`, if the stint is used up; the channel is as it was.
     pub fn close<R: Wait>(&mut self, rt: &R) -> Result<bool, ChannelWorn>
         ensures channel { self.new.channel ≡ self.old.channel }
         ensures call { MatchResult result (λ was_open. ClosesAs self.old.channel.now.queue.size was_open self.old.seat self.new.seat)

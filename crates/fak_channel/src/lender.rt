@@ -40,7 +40,7 @@ impl<'c, T: Drop> Lender<'c, T> {
     ///
     /// # Errors
     ///
-    /// `AllocError`, where there was no memory; the end is dropped.
+    /// `AllocError`, if there is no memory; the end is dropped.
     pub fn add<R: Wait>(&self, rt: &R, alloc: Global, end: End<'c, T>) -> Result<(), AllocError> {
         let shelf = Box::new(alloc, Shelf { end, below: None })?;
         self.take_back(rt, Loan { shelf });
@@ -85,7 +85,7 @@ impl<'c, T: Drop> Lender<'c, T> {
         sent
     }
 
-    /// Sends the item by an end that it borrows, where there is a free cell.
+    /// Sends the item by an end that it borrows, if there is a free cell.
     ///
     /// # Errors
     ///
@@ -113,7 +113,7 @@ impl<'c, T: Drop> Lender<'c, T> {
         received
     }
 
-    /// Receives the oldest item by an end that it borrows, where there is one.
+    /// Receives the oldest item by an end that it borrows, if there is one.
     ///
     /// # Errors
     ///

@@ -61,7 +61,7 @@ impl<T: Drop> Channel<T> {
         }
     }
 
-    /// Sends the item where there is a free cell, and does not sleep.
+    /// Sends the item if there is a free cell, and does not sleep.
     pub(crate) fn try_send<R: Wait>(
         &self,
         rt: &R,

@@ -1,4 +1,4 @@
-//! Where a lender keeps an end.
+//! The place in which a lender keeps an end.
 
 use crate::end::End;
 
