@@ -5,6 +5,7 @@ use Rattle.fak_model.specs.declared.queue.Kind.{Kind}
 use Rattle.fak_model.specs.declared.queue.Kind.TheVariants as made
 use Rattle.fak_model.specs.declared.queue.Mark.{Mark}
 use Rattle.fak_model.specs.Queue.{item_at, items_put}
+pub use Rattle.fak_model.specs.Seats.{AreApart}
 use Rattle.fak_model.specs.Seats.{In}
 use Rattle.fak_core.specs.declared.queue.phase.Phase.{Phase}
 use Rattle.fak_core.specs.declared.queue.phase.Phase.TheVariants.{Idle, TestUp, AddUp, BackUp, TicketIn, TurnIn, EndInsert, TestLow, SubLow, BackLow, TicketOut, TurnOut, EndDelete}
@@ -20,11 +21,6 @@ Posts A = List (ℕ × Phase A)
 abbrev pub names_of : {B : Type 0} → List (ℕ × B) → List ℕ
 names_of [] = []
 names_of (s ∷ seats) = s.0 ∷ names_of seats
-
--- no name stands twice
-abbrev pub AreApart : List ℕ → Type 0
-AreApart [] = Unit {0}
-AreApart (n ∷ names) = (In n names → ⊥) × AreApart names
 
 -- each seat stands in its phase
 abbrev pub Stand : {A : Type 0} → QueueState A → Posts A → Type 0

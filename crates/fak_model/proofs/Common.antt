@@ -1,7 +1,7 @@
 -- The names that proofs cite most, passed on from one place. Declares nothing.
 pub use Rattle.atomic_table.proofs.Lists.{set_else, at_set}
 pub use Rattle.atomic_table.specs.Table.{Me, Splits, Joins, keeps, opening, Allows, State, Act, stepped, homes_after, carried_after}
-pub use Rattle.fak_model.specs.Calls.{fresh_seats, last_of, SeatInfo, ObjectId, object_id, seat_info, Appends, before_appended, TallyInfo, IsJoined, before_mark, tally_info, mine_of, tally_of}
+pub use Rattle.fak_model.specs.Calls.{fresh_seats, last_of, SeatInfo, ObjectId, object_id, seat_info, Appends, before_appended, TallyInfo, IsJoined, IsJoinOf, before_mark, tally_info, mine_of, tally_of}
 pub use Rattle.fak_model.specs.Checker.{AreBelow, AreCounts, counts_with, FirstFault, stage_with}
 pub use Rattle.fak_model.specs.Credit.{value, credit_rules, debit_weight, credit_weight}
 pub use Rattle.fak_model.specs.Examples.{by, deleted, inserted, Parts, file_by, room_by}
@@ -11,7 +11,7 @@ pub use Rattle.fak_model.specs.Queue.{queue_rules, words_of_call, item_at, item_
 pub use Rattle.fak_model.specs.QueuePast.{item_of, stage, IsLegalPast, MayFollow, after, SeatsBelow, HasCell, IsNext, IsLegalByStage, item_put, HasNoOpenCall}
 pub use Rattle.fak_model.specs.Resting.{AreBetweenCalls}
 pub use Rattle.fak_model.specs.Room.{up_amount, release_amount, room_rules, IsRoomHistory}
-pub use Rattle.fak_model.specs.Seats.{marks_of, Begins, IsWhole, In, mine, Knows, is_in, longer_of}
+pub use Rattle.fak_model.specs.Seats.{marks_of, Begins, IsWhole, In, AreApart, mine, Knows, is_in, longer_of}
 pub use Rattle.fak_model.specs.Shown.{Leaves, Object, IsShown, Hears}
 pub use Rattle.fak_model.specs.Tokens.{IsSeatToken, IsTallyToken}
 pub use Rattle.fak_model.specs.Views.{sight, AreOwn, Foreign, Sees, HasOneName, names_from, first_name, later_names, dealt, kept, joined, spent, settled, opened, share_of, shorter_of}

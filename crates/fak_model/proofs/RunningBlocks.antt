@@ -1,5 +1,5 @@
 -- A block of steps of several names of one view keeps what a running object shows, whatever the steps are.
-use Rattle.fak_model.proofs.Common.{All-cons, some, some-injective, some-ne-none, get_elem?, View, IsHistory, AreNamed, In, sight, Foreign, Sees, ◌≡◌, ◌≢◌, ℕ, zero, suc, ◌+◌, ◌<◌, ◌≤◌, List, [], ◌∷◌, ◌++◌, set, append_assoc, refl, ap, sym, ◌∙◌, subst, arith, Some, reverse, All, State, Me, Act, stepped, homes_after, carried_after, common_steps, at_set}
+use Rattle.fak_model.proofs.Common.{All-cons, some, some-injective, some-ne-none, get_elem?, View, IsHistory, AreNamed, In, AreApart, sight, Foreign, Sees, ◌≡◌, ◌≢◌, ℕ, zero, suc, ◌+◌, ◌<◌, ◌≤◌, List, [], ◌∷◌, ◌++◌, set, append_assoc, refl, ap, sym, ◌∙◌, subst, arith, Some, reverse, All, State, Me, Act, stepped, homes_after, carried_after, common_steps, at_set}
 use Rattle.fak_model.specs.Shown.{Object, total, IsShown, Leaves}
 use Rattle.fak_model.proofs.Reversing.{All-reverse}
 use Rattle.fak_model.proofs.RunningViews.{sees_all, sees_nothing, foreign_append}
@@ -96,6 +96,7 @@ module _ {M W C P S H : Type 0} (o : Object M W C P S H) (s : State H (View M P)
         stands = each (λ _ u. Stands u)
             (λ k i p e. subst (o.StandsAt c k) (Some_injective e) (step.stands k i))
             (λ j u ne e k i p is. step.others k p (λ q. other j u ne e k i q) (r.stands j u e k i p is));
+        once = each (λ _ u. AreApart u.names) (r.once id m.0 at) (λ j u _ e. r.once j u e);
         apart = λ i j x y ex ey k isx isy.
             let same_as : (i : ℕ) (x : View M P) → get_elem? t.views i ≡ some x → In k x.names → (v : View M P) × (get_elem? s.views i ≡ some v) × In k v.names =
             each (λ i x. In k x.names → (v : View M P) × (get_elem? s.views i ≡ some v) × In k v.names) (λ is. (m.0, at, is)) (λ j u _ e is. (u, e, is)) in

@@ -1,8 +1,8 @@
 -- How a running object begins, and how its seats are dealt, joined and told what they saw together.
-use Rattle.fak_model.proofs.Common.{some, some-injective, some-ne-none, get_elem?, View, In, ◌≡◌, ◌≢◌, ◌⊎◌, ℕ, zero, suc, ◌+◌, ◌<◌, ◌≤◌, List, [], ◌∷◌, ◌++◌, length, set, map, refl, ap, sym, ◌∙◌, subst, arith, inl, inr, ⊎_elim, Some, Me, keeps, opening, Allows, Splits, Joins, Sees, opened, first_name, later_names, share_of, dealt, kept, joined, spent, settled, common_steps, div-le_self, set_else}
+use Rattle.fak_model.proofs.Common.{some, some-injective, some-ne-none, get_elem?, View, In, AreApart, ◌≡◌, ◌≢◌, ◌⊎◌, ℕ, zero, suc, ◌+◌, ◌<◌, ◌≤◌, List, [], ◌∷◌, ◌++◌, length, set, map, refl, ap, sym, ◌∙◌, subst, arith, inl, inr, ⊎_elim, Some, Me, keeps, opening, Allows, Splits, Joins, Sees, opened, first_name, later_names, share_of, dealt, kept, joined, spent, settled, common_steps, div-le_self, set_else}
 use Rattle.fak_model.specs.Shown.{Object, total, IsShown, Hears}
 use Rattle.fak_model.proofs.Seats.{in_either}
-use Rattle.fak_model.proofs.RunningViews.{sees_all, sees_nothing, sees_fewer, first_in, later_in, in_names_from, sees_lawful, sees_named, Compared, compared}
+use Rattle.fak_model.proofs.RunningViews.{sees_all, sees_nothing, sees_fewer, first_in, later_in, in_names_from, apart_from, apart_first, apart_later, apart_append, names_apart, sees_lawful, sees_named, Compared, compared}
 use Rattle.fak_model.proofs.RunningBlocks.{total_set, total_at, each_set, AreLawful}
 use Rattle.fak_model.proofs.RunningSteps.{set_found}
 
@@ -25,7 +25,7 @@ module _ {M W C P S H : Type 0} (o : Object M W C P S H) (resting : P) (left : �
   -- the table at the opening shows the core state at the opening
   pub starts : (c : S) → o.IsReached c → o.past_of c ≡ [] → ((n : ℕ) → n < o.seats → o.StandsAt c n resting) → (ws : List ℕ) (xs : List H) → o.Encodes c ws (map some xs)
       → o.drawn_of c + left ≤ o.tickets → IsShown o (opening ws xs (opened resting o.seats left))
-  starts c reached none rest ws xs encoded few = grind (arith, common_steps, opened, some, sees_all, sees_nothing, in_names_from, some-injective, some-ne-none)
+  starts c reached none rest ws xs encoded few = grind (arith, common_steps, opened, some, sees_all, sees_nothing, in_names_from, apart_from, some-injective, some-ne-none)
 
 -- ---- places of a name, before and after
 
@@ -47,8 +47,8 @@ join_place i j a b id other same v e = grind (arith, common_steps)
 
 module _ {M W C P S H : Type 0} (o : Object M W C P S H) (id : ℕ) (v : View M P) where
   -- a seat for the first name is dealt
-  pub splits : ((n : ℕ) → In n (first_name v.names) → In n (later_names v.names) → ⊥) → Splits (IsShown o) id v (kept v) (dealt v)
-  splits distinct s r at =
+  pub splits : Splits (IsShown o) id v (kept v) (dealt v)
+  splits s r at =
       let views : List (View M P) = set s.views id (kept v) ++ dealt v ∷ [] in
       let C' : ℕ → View M P → Type 0 = λ j u. ((get_elem? s.views j ≡ some u) × (j ≢ id)) ⊎ (((j ≡ id) × (kept v ≡ u)) ⊎ ((j ≡ length (set s.views id (kept v))) × (dealt v ≡ u))) in
       let which : (j : ℕ) (u : View M P) → get_elem? views j ≡ some u → C' j u =
@@ -79,11 +79,12 @@ module _ {M W C P S H : Type 0} (o : Object M W C P S H) (id : ℕ) (v : View M 
         told = each (λ u. Sees o.rules.seat_of u.told_names u.told u.seen) r.told (sees_nothing o.rules.seat_of v.seen) (sees_nothing o.rules.seat_of v.seen);
         below = each Below r.below (λ n i. r.below id v at n (later_in n v.names i)) (λ n i. r.below id v at n (first_in n v.names i));
         stands = each Stands r.stands (λ n i. r.stands id v at n (later_in n v.names i)) (λ n i. r.stands id v at n (first_in n v.names i));
+        once = each (λ u. AreApart u.names) r.once (apart_later v.names (r.once id v at)) (apart_first v.names);
         apart = λ i j x y ex ey n isx isy.
             let a = from i x n (which i x ex) isx in
             let b = from j y n (which j y ey) isy in
             let same : a.0 ≡ b.0 = r.apart a.0 b.0 a.1 b.1 a.2 b.2 n a.3 b.3 in
-            split_place (In n (first_name v.names)) (In n (later_names v.names)) (distinct n) i j a.0 b.0 id (length (set s.views id (kept v))) same a.4 b.4;
+            split_place (In n (first_name v.names)) (In n (later_names v.names)) (names_apart v.names (r.once id v at) n) i j a.0 b.0 id (length (set s.views id (kept v))) same a.4 b.4;
         few = omega (arith, total_append Left (set s.views id (kept v)) (dealt v ∷ []), total_set Left s.views id v (kept v) at, total_at Left s.views id v at, share, r.few);
       }
 
@@ -125,6 +126,7 @@ module _ {M W C P S H : Type 0} (o : Object M W C P S H) (id : ℕ) (v : View M 
             (λ n i. elim (in_either n v.names w.names i) [ inl left ↦ r.below id v at n left | inr right ↦ r.below other w there' n right ]) r.below;
         stands = each (λ u. (n : ℕ) → In n u.names → (p : P) → u.phase ≡ Some p → o.StandsAt r.core n p) (λ n i. absurd i)
             (λ n i p e. elim (in_either n v.names w.names i) [ inl left ↦ r.stands id v at n left p e | inr right ↦ r.stands other w there' n right p (phases ∙ e) ]) r.stands;
+        once = each (λ u. AreApart u.names) tt (apart_append v.names w.names (r.once id v at) (r.once other w there') (λ n i j. ne (r.apart other id w v there' at n j i))) r.once;
         apart = λ i j x y ex ey n isx isy.
             let a = from i x n (which i x ex) isx in
             let b = from j y n (which j y ey) isy in
@@ -158,6 +160,7 @@ module _ {M W C P S H : Type 0} (o : Object M W C P S H) (law : AreLawful o) whe
           told = each (λ _ x. Sees o.rules.seat_of x.told_names x.told x.seen) (sees_nothing o.rules.seat_of m.0.seen) r.told;
           below = each (λ _ x. (n : ℕ) → In n x.names → n < o.seats) (r.below id m.0 at) r.below;
           stands = each (λ _ x. (n : ℕ) → In n x.names → (p : P) → x.phase ≡ Some p → o.StandsAt r.core n p) (r.stands id m.0 at) r.stands;
+          once = each (λ _ x. AreApart x.names) (r.once id m.0 at) r.once;
           apart = λ j k x y ex ey n isx isy.
               let a = was j x ex in
               let b = was k y ey in

@@ -1,5 +1,5 @@
 -- What views know after a step of their own or of another, and when two are joined.
-use Rattle.fak_model.proofs.Common.{nat_tests, All-head, All-tail, Rules, IsHistory, AreNamed, Begins, In, IsWhole, longer_of, ◌≡◌, ℕ, zero, suc, ◌+◌, ◌<◌, ◌≤◌, true, false, Bool, cond, nat_lt, List, [], ◌∷◌, ◌++◌, length, length-append, refl, ap, sym, ◌∙◌, subst, arith, inl, inr, reverse, All, Foreign, Sees, names_from, first_name, later_names, shorter_of, common_steps}
+use Rattle.fak_model.proofs.Common.{nat_tests, All-head, All-tail, Rules, IsHistory, AreNamed, Begins, In, AreApart, IsWhole, longer_of, ◌≡◌, ℕ, zero, suc, ◌+◌, ◌<◌, ◌≤◌, true, false, Bool, cond, nat_lt, List, [], ◌∷◌, ◌++◌, length, length-append, refl, ap, sym, ◌∙◌, subst, arith, inl, inr, reverse, All, Foreign, Sees, names_from, first_name, later_names, shorter_of, common_steps}
 use Rattle.std.proofs.lemmas.List.{append-nil, reverse-append}
 use Rattle.fak_model.proofs.Seats.{in_either, seen_lawful}
 use Rattle.fak_model.proofs.Reversing.{All-reverse}
@@ -127,6 +127,26 @@ pub length-names_from : (a k : ℕ) → length (names_from a k) ≡ k
 length-names_from a zero = refl
 length-names_from a (suc k) = ap suc (length-names_from (suc a) k)
 
--- the first of these names is not among the others
-pub names_apart : (a k n : ℕ) → In n (first_name (names_from a k)) → In n (later_names (names_from a k)) → ⊥
-names_apart a k n i j = grind (arith, common_steps, first_name, names_from, later_names, in_names_from)
+-- no name stands twice among these, nor among some of names that are apart, nor in two lists that have none in common
+pub apart_from : (a k : ℕ) → AreApart (names_from a k)
+apart_from a zero = tt
+apart_from a (suc k) = ((λ i. let high = (in_names_from a (suc a) k i).0 in omega (arith, high)), apart_from (suc a) k)
+
+pub apart_first : (names : List ℕ) → AreApart (first_name names)
+apart_first [] = tt
+apart_first (n ∷ names) = ((λ i. i), tt)
+
+pub apart_later : (names : List ℕ) → AreApart names → AreApart (later_names names)
+apart_later [] apart = tt
+apart_later (n ∷ names) apart = apart.1
+
+pub apart_append : (a b : List ℕ) → AreApart a → AreApart b → ((n : ℕ) → In n a → In n b → ⊥) → AreApart (a ++ b)
+apart_append [] b one two none = two
+apart_append (n ∷ a) b one two none =
+    ((λ i. elim (in_either n a b i) [ inl left ↦ one.0 left | inr right ↦ none n (inl refl) right ]), apart_append a b one.1 two (λ k i j. none k (inr i) j))
+
+-- the first of names that are apart is not among the others
+pub names_apart : (names : List ℕ) → AreApart names → (n : ℕ) → In n (first_name names) → In n (later_names names) → ⊥
+names_apart [] apart n i j = i
+names_apart (m ∷ names) apart n (inl e) j = apart.0 (subst (λ (k : ℕ). In k names) e j)
+names_apart (m ∷ names) apart n (inr z) j = z

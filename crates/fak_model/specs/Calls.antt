@@ -79,3 +79,15 @@ pub record IsJoined {M W C : Type 0} (rules : Rules M W C) (tally : TallyInfo M)
   pub of_seat : Knows rules.seat_of (seat.name ∷ []) seat.seen both.seen
   pub lawful : IsHistory rules both.seen
   pub named : AreNamed rules both.object.seats both.seen
+
+-- a join of two tallies, or of a tally and what else has names: of what both have seen one begins the other, and under the
+-- names of both stands the longer, in which each name has the marks of its own seat alone
+pub record IsJoinOf {M W C : Type 0} (rules : Rules M W C) (first second both : TallyInfo M) : Type 0 where
+  pub object : both.object ≡ first.object
+  pub names : both.names ≡ first.names ++ second.names
+  pub one_history : Begins first.seen second.seen ⊎ Begins second.seen first.seen
+  pub seen : both.seen ≡ longer_of first.seen second.seen
+  pub of_first : Knows rules.seat_of first.names first.seen both.seen
+  pub of_second : Knows rules.seat_of second.names second.seen both.seen
+  pub lawful : IsHistory rules both.seen
+  pub named : AreNamed rules both.object.seats both.seen

@@ -11,6 +11,11 @@ abbrev pub In : ℕ → List ℕ → Type 0
 In n [] = ⊥
 In n (m ∷ names) = (n ≡ m) ⊎ In n names
 
+-- no name stands twice
+abbrev pub AreApart : List ℕ → Type 0
+AreApart [] = Unit {0}
+AreApart (n ∷ names) = (In n names → ⊥) × AreApart names
+
 abbrev pub is_in : ℕ → List ℕ → Bool
 is_in n [] = false
 is_in n (m ∷ names) = (n == m) || is_in n names

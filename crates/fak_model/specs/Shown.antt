@@ -5,7 +5,7 @@ use lib.ListN.{get_elem?}
 use Rattle.atomic_table.specs.Table.{State, Me}
 use Rattle.fak_model.specs.declared.view.View.{View}
 use Rattle.fak_model.specs.Histories.{Rules, IsHistory, AreNamed}
-use Rattle.fak_model.specs.Seats.{In}
+use Rattle.fak_model.specs.Seats.{In, AreApart}
 use Rattle.fak_model.specs.Views.{sight, settled, Sees}
 
 -- an object of these seats: the rules of its histories, its core states S with the phase P of each seat, and how a
@@ -37,6 +37,7 @@ pub record IsShown {M W C P S H : Type 0} (object : Object M W C P S H) (s : Sta
   pub told : (id : ℕ) (v : View M P) → get_elem? s.views id ≡ some v → Sees object.rules.seat_of v.told_names v.told v.seen
   pub below : (id : ℕ) (v : View M P) → get_elem? s.views id ≡ some v → (n : ℕ) → In n v.names → n < object.seats
   pub stands : (id : ℕ) (v : View M P) → get_elem? s.views id ≡ some v → (n : ℕ) → In n v.names → (p : P) → v.phase ≡ Some p → object.StandsAt core n p
+  pub once : (id : ℕ) (v : View M P) → get_elem? s.views id ≡ some v → AreApart v.names
   pub apart : (i j : ℕ) (v w : View M P) → get_elem? s.views i ≡ some v → get_elem? s.views j ≡ some w → (n : ℕ) → In n v.names → In n w.names → i ≡ j
   pub few : object.drawn_of core + total (λ (v : View M P). v.left) s.views ≤ object.tickets
 
