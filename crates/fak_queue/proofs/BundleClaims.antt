@@ -10,8 +10,9 @@ use Rattle.fak_queue.specs.Bundles.{Filling, ClaimsOn, MadeBy}
 use Rattle.fak_queue.proofs.BurstPosts.{post_left, post_right}
 use Rattle.fak_queue.proofs.BurstNames.{idle_names, from_rest, in_granted, in_over, once_granted, once_over, not_both}
 use Rattle.fak_model.specs.Queue.{item_in as put_in}
-use Rattle.fak_queue.proofs.BundleLists.{item_in, item_drop, item_take, marks_on, marks_turned, no_marks, own_first, other_first}
-use Rattle.fak_queue.proofs.Common.{IsPost, items_count, flat_map-append, QueueHolder, Kind, mark, seat_of, marks_of, item_at, items_put, In, ◌≡◌, ℕ, ◌+◌, ◌-◌, ◌<◌, ◌≤◌, List, [], ◌∷◌, ◌++◌, length, reverse, refl, sym, ap, ◌∙◌, subst, inl, inr, arith, append_assoc, Some, le_or_lt}
+use Rattle.fak_queue.proofs.BundleLists.{item_in, item_drop, item_take, marks_on, marks_turned, no_marks}
+use Rattle.fak_queue.proofs.BundlePlaces.{own_mark, pair_in, before_block}
+use Rattle.fak_queue.proofs.Common.{before_part, count, length-append, made_by, puts, IsPost, items_count, flat_map-append, QueueHolder, seat_of, marks_of, item_at, items_put, In, ◌≡◌, ℕ, ◌+◌, ◌-◌, ◌<◌, ◌≤◌, List, [], ◌∷◌, ◌++◌, length, reverse, refl, sym, ap, ◌∙◌, subst, inl, inr, arith, append_assoc, Some, le_or_lt}
 
 -- ---- names with their items
 
@@ -25,11 +26,6 @@ pub item_there : {B : Type 0} (xs : List B) (i : ℕ) → i < length xs → (x :
 item_there [] i low = absurd (omega (arith, low))
 item_there (x ∷ xs) zero low = (x, refl)
 item_there (x ∷ xs) (suc i) low = item_there xs i (omega (arith, low))
-
-pub pair_in : {B : Type 0} (ss : List (ℕ × B)) (i n : ℕ) (x : B) → item_at ss i ≡ Some (n, x) → In n (names_of ss)
-pair_in [] i n x e = absurd cc
-pair_in (s ∷ ss) zero n x e = inl (let g : Some s ≡ Some (n, x) = e in let h : s ≡ (n, x) = cc in sym (ap (λ (z : ℕ × _). z.0) h))
-pair_in (s ∷ ss) (suc i) n x e = inr (pair_in ss i n x e)
 
 pub turns_post : {T : Type 0} (ss : List (ℕ × T)) (k i n : ℕ) (x : T) → item_at ss i ≡ Some (n, x) → IsPost n (TurnIn (k + i) x) (turns_from k ss)
 turns_post [] k i n x e = absurd cc
@@ -45,15 +41,6 @@ pub rest_post : (T : Type 0) (ns : List ℕ) (n : ℕ) → In n ns → IsPost {T
 rest_post T [] n i = absurd i
 rest_post T (m ∷ ns) n (inl e) = inl (sym e, refl)
 rest_post T (m ∷ ns) n (inr i) = inr (rest_post T ns n i)
-
--- a name with one item makes one mark
-pub own_mark : {A B : Type 0} (f : B → Kind A) (ss : List (ℕ × B)) (i n : ℕ) (x : B) → AreApart (names_of ss) → item_at ss i ≡ Some (n, x) → marks_of seat_of n (marks_on f ss) ≡ mark n (f x) ∷ []
-own_mark f [] i n x apart e = absurd cc
-own_mark {A} f (s ∷ ss) zero n x apart e =
-    let same : s ≡ (n, x) = (let g : Some s ≡ Some (n, x) = e in cc) in
-    let none : marks_of seat_of s.0 (marks_on f ss) ≡ [] = no_marks f ss s.0 apart.0 in
-    subst (λ (z : ℕ × _). marks_of seat_of z.0 (marks_on f (s ∷ ss)) ≡ mark z.0 (f z.1) ∷ []) same (own_first s.0 (f s.1) (marks_on f ss) ∙ ap (λ h. mark s.0 (f s.1) ∷ h) none)
-own_mark f (s ∷ ss) (suc i) n x apart e = other_first n s.0 (f s.1) (marks_on f ss) (λ z. apart.0 (subst (λ y. In y (names_of ss)) z (pair_in ss i n x e))) ∙ own_mark f ss i n x apart.1 e
 
 -- the items of names that put one each
 pub puts_on : {T : Type 0} (ss : List (ℕ × T)) (i n : ℕ) (x : T) → item_at ss i ≡ Some (n, x) → item_at (items_put (marks_on (λ x. made.Put x) ss)) i ≡ Some x
@@ -163,6 +150,14 @@ module _ {T : Type 0} {size seats : ℕ} (ns : List ℕ) (xs : List T) (apart : 
       ap (λ h. item_at (items_put h) (k + i)) seen ∙ (ap (λ l. item_at l (k + i)) (flat_map-append put_in (reverse c.past) on)
       ∙ (ap (λ t. item_at (items_put (reverse c.past) ++ items_put on) (t + i)) (sym long) ∙ (item_behind (items_put (reverse c.past)) (items_put on) i ∙ puts_on (take j (pair_up ns xs)) i named.0 x it)))
 
+  pub claim_ticket : (i n : ℕ) (x : T) → item_at ns i ≡ Some n → i < j → item_at xs i ≡ Some x → count puts (before_part n 1 m after) ≡ k + i
+  claim_ticket i n x e low f =
+      let ss = take j (pair_up ns xs) in
+      let seen : reverse after.0.seen ≡ reverse c.past ++ marks_on (λ x. made.Put x) ss = ap reverse c.puts_last ∙ (reverse-append (marks_back (λ x. made.Put x) ss) c.past ∙ ap (λ h. reverse c.past ++ h) (marks_turned (λ x. made.Put x) ss)) in
+      let many : length (marks_of seat_of n (reverse after.0.seen)) ≡ suc (length (marks_of seat_of n (reverse m.0.seen)) + 1) =
+      (let a = ap length (claim_granted i n x e low f) ∙ length-append (marks_of seat_of n (reverse m.0.seen)) (made_by n (made.ClaimIn ∷ made.Put x ∷ [])) in omega (arith, a)) in
+      before_block puts (λ x. made.Put x) (λ y. refl) ss i n x (once_granted T ns xs apart fit j) (first_item i n x e low f) (reverse c.past) (reverse after.0.seen) k (length (marks_of seat_of n (reverse m.0.seen)) + 1) seen many c.ticket
+
   pub claims_on : ClaimsOn size seats ns xs k j m after
   claims_on = record {
     some = c.some;
@@ -175,6 +170,7 @@ module _ {T : Type 0} {size seats : ℕ} (ns : List ℕ) (xs : List T) (apart : 
     granted = claim_granted;
     over = claim_over;
     others = claim_others;
+    ticket = claim_ticket;
     put = claim_put;
     few = c.few;
   }

@@ -10,8 +10,9 @@ use Rattle.fak_queue.specs.Bundles.{Emptying, ClaimsOutOn, MadeBy}
 use Rattle.fak_queue.proofs.BurstPosts.{post_left, post_right}
 use Rattle.fak_queue.proofs.BurstNames.{idle_names, from_rest, in_granted, in_over, once_granted, once_over, not_both}
 use Rattle.fak_queue.proofs.BundleLists.{item_in, item_drop, item_take, marks_on, marks_turned, no_marks}
-use Rattle.fak_queue.proofs.Common.{IsPost, QueueHolder, Mark, seat_of, marks_of, item_at, items_put, In, ◌≡◌, ℕ, ◌+◌, ◌-◌, ◌<◌, ◌≤◌, List, [], ◌∷◌, ◌++◌, length, reverse, sym, ap, ◌∙◌, subst, inl, inr, arith, append_assoc, Some, le_or_lt}
-use Rattle.fak_queue.proofs.BundleClaims.{pair_item, item_there, pair_in, idle_post, rest_post, own_mark}
+use Rattle.fak_queue.proofs.Common.{before_part, count, gots, length-append, made_by, refl, IsPost, QueueHolder, Mark, seat_of, marks_of, item_at, items_put, In, ◌≡◌, ℕ, ◌+◌, ◌-◌, ◌<◌, ◌≤◌, List, [], ◌∷◌, ◌++◌, length, reverse, sym, ap, ◌∙◌, subst, inl, inr, arith, append_assoc, Some, le_or_lt}
+use Rattle.fak_queue.proofs.BundleClaims.{pair_item, item_there, idle_post, rest_post}
+use Rattle.fak_queue.proofs.BundlePlaces.{pair_in, own_mark, before_block}
 use Rattle.fak_queue.proofs.BundleLists.{put_more}
 
 turns_out_post : (T : Type 0) {B : Type 0} (ss : List (ℕ × B)) (k i n : ℕ) (x : B) → item_at ss i ≡ Some (n, x) → IsPost {T = T} n (TurnOut (k + i)) (turns_out_from k ss)
@@ -101,7 +102,7 @@ module _ {T : Type 0} {size seats : ℕ} (ns : List ℕ) (us : List (Unit {0})) 
       marks_of_append seat_of n (e ++ d) (b ++ a) ∙ (λ q. marks_of_append seat_of n e d q ++ marks_of_append seat_of n b a q) in
       c.makes.mine n i ∙ ap (λ h. marks_of seat_of n (reverse m.0.seen) ++ h) (ap (marks_of seat_of n) (turn ∙ each) ∙ split)
 
-  pub claim_granted : (i n : ℕ) → item_at ns i ≡ Some n → i < j → (x : T) × MadeBy n (made.ClaimOut ∷ made.Got x ∷ []) m after × (item_at (items_put (reverse after.0.seen)) (k + i) ≡ Some x)
+  pub claim_granted : (i n : ℕ) → item_at ns i ≡ Some n → i < j → (x : T) × MadeBy n (made.ClaimOut ∷ made.Got x ∷ []) m after × (item_at (items_put (reverse after.0.seen)) (k + i) ≡ Some x) × (count gots (before_part n 1 m after) ≡ k + i)
   claim_granted i n e low =
       let most = c.most in
       let u = item_there us i (omega (arith, low, most)) in
@@ -110,11 +111,15 @@ module _ {T : Type 0} {size seats : ℕ} (ns : List ℕ) (us : List (Unit {0})) 
       let once' = once_granted T ns us apart fit j in
       let once'' = subst AreApart (sym c.names) once' in
       let out : In n (names_of (drop j (pair_up ns us))) → ⊥ = λ z. not_both T ns us apart fit j n (pair_in (take j (pair_up ns us)) i n u.0 it) z in
-      let seen : reverse after.0.seen ≡ reverse c.past ++ reverse (marks_back (λ x. made.Got x) c.drawn) = ap reverse c.gots_last ∙ reverse-append (marks_back (λ x. made.Got x) c.drawn) c.past in (
+      let seen : reverse after.0.seen ≡ reverse c.past ++ reverse (marks_back (λ x. made.Got x) c.drawn) = ap reverse c.gots_last ∙ reverse-append (marks_back (λ x. made.Got x) c.drawn) c.past in
+      let by : MadeBy n (made.ClaimOut ∷ made.Got d.0 ∷ []) m after =
+      in_blocks n (among i n e) ∙ ap (λ h. marks_of seat_of n (reverse m.0.seen) ++ h)
+      (λ q. (own_mark (λ (x : Unit {0}). made.ClaimOut) (take j (pair_up ns us)) i n u.0 once' it q ++ no_marks (λ (x : Unit {0}). made.OverOut) (drop j (pair_up ns us)) n out q) ++ (no_marks (λ (x : Unit {0}). made.BackOut) (drop j (pair_up ns us)) n out q ++ own_mark (λ x. made.Got x) c.drawn i n d.0 once'' d.1 q)) in (
         d.0,
-        in_blocks n (among i n e) ∙ ap (λ h. marks_of seat_of n (reverse m.0.seen) ++ h)
-            (λ q. (own_mark (λ (x : Unit {0}). made.ClaimOut) (take j (pair_up ns us)) i n u.0 once' it q ++ no_marks (λ (x : Unit {0}). made.OverOut) (drop j (pair_up ns us)) n out q) ++ (no_marks (λ (x : Unit {0}). made.BackOut) (drop j (pair_up ns us)) n out q ++ own_mark (λ x. made.Got x) c.drawn i n d.0 once'' d.1 q)),
+        by,
         put_more (reverse c.past) (reverse after.0.seen) (k + i) d.0 (reverse (marks_back (λ x. made.Got x) c.drawn), sym seen) (put_at c.past c.drawn k i n d.0 c.put d.1),
+        before_block gots (λ x. made.Got x) (λ y. refl) c.drawn i n d.0 once'' d.1 (reverse c.past) (reverse after.0.seen) k (length (marks_of seat_of n (reverse m.0.seen)) + 1) (seen ∙ ap (λ h. reverse c.past ++ h) (marks_turned (λ x. made.Got x) c.drawn))
+            (let a = ap length by ∙ length-append (marks_of seat_of n (reverse m.0.seen)) (made_by n (made.ClaimOut ∷ made.Got d.0 ∷ [])) in omega (arith, a)) c.ticket,
       )
 
   pub claim_over : (i n : ℕ) → item_at ns i ≡ Some n → j ≤ i → i < length us → MadeBy n (made.OverOut ∷ made.BackOut ∷ []) m after

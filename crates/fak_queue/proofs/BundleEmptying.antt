@@ -8,7 +8,7 @@ use Rattle.fak_queue.specs.Bundles.{SaysOf, StepsOn, StaysOut, FindsItem, LooksA
 use Rattle.fak_queue.proofs.BurstNames.{makes_then}
 use Rattle.fak_queue.proofs.Turning.{took}
 use Rattle.fak_queue.proofs.BundleLists.{item_in, item_is, one_number, made_none, made_still, made_next, item_push, item_last, put_more}
-use Rattle.fak_queue.proofs.Common.{QueueHolder, Phase, item_at, items_put, In, ◌≡◌, ◌≢◌, ℕ, ◌+◌, ◌-◌, ◌%◌, ◌<◌, true, false, List, [], ◌∷◌, ◌++◌, length, length-append, reverse, refl, sym, ap, ◌∙◌, subst, inl, inr, arith, Some}
+use Rattle.fak_queue.proofs.Common.{Has, QueueHolder, Phase, item_at, items_put, In, ◌≡◌, ◌≢◌, ℕ, ◌+◌, ◌-◌, ◌%◌, ◌<◌, true, false, List, [], ◌∷◌, ◌++◌, length, length-append, reverse, refl, sym, ap, ◌∙◌, subst, inl, inr, arith, Some}
 
 pub empties_none : {T : Type 0} {size seats : ℕ} (names : List ℕ) (k f granted : ℕ) (was : List T) (m : QueueHolder T) → IsLawful size seats m.0 → Emptying names k f f granted m.0 → m.1 ≡ [] → EmptiesOn size seats names k f f granted was was m m
 empties_none names k f granted was m law stands slots = record {
@@ -112,6 +112,10 @@ module _ {T : Type 0} {size seats : ℕ} (names : List ℕ) (k lo f granted : �
 
   pub stays_told : (b : QueueHolder T) → LooksAtOut size seats (slice_index_or names f 0) t false a b → EmptiesOn size seats names k lo f granted was got m b
   stays_told b told = empties_stay names k lo f granted was got m a apart so (slice_index_or names f 0) name_here more b (subst (λ z. StaysOut size seats (slice_index_or names f 0) z a b) t_is told)
+
+  -- the cell was not filled
+  pub early_told : (b : QueueHolder T) → LooksAtOut size seats (slice_index_or names f 0) t false a b → Has (made.Fill (k + f)) (reverse b.0.seen) → ⊥
+  early_told b told = (subst (λ z. StaysOut size seats (slice_index_or names f 0) z a b) t_is told).unfilled
 
   module _ (b : QueueHolder T) (told : LooksAtOut size seats (slice_index_or names f 0) t true a b) where
     pub named_then : In (slice_index_or names f 0) b.0.names

@@ -2,6 +2,7 @@
 use Rattle.std.specs.Prelude.{take, drop, slice_range, slice_index_or, min}
 use Rattle.std.proofs.lemmas.List.{append-nil, length-take, length-drop, take-append-drop}
 use Rattle.fak_model.specs.declared.queue.Kind.TheVariants as made
+use Rattle.fak_model.specs.Seats.{Begins}
 use Rattle.fak_model.specs.Shown.{Leaves}
 use Rattle.fak_core.specs.declared.queue.phase.Phase.TheVariants.{Idle, TurnIn, EndInsert}
 use Rattle.fak_core.specs.QueueBlocks.{Posts, names_of, AreApart, all_at, marks_back}
@@ -163,6 +164,9 @@ module _ {T : Type 0} {size seats : ℕ} (names : List ℕ) (k lo f granted : �
           some = w.some;
           order = (omega arith, w.order.1, w.order.2);
         }
+
+    pub end_begins : Begins (reverse a.0.seen) (reverse c.0.seen)
+    end_begins = (makes_step leaves).begins
 
     pub filled_on : FilledOn size seats names k lo f granted was kept m c
     filled_on = record {

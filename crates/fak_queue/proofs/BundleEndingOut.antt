@@ -5,6 +5,7 @@ use Rattle.fak_model.specs.Shown.{Leaves}
 use Rattle.fak_core.specs.declared.queue.phase.Phase.TheVariants.{Idle, TurnOut, EndDelete}
 use Rattle.fak_core.specs.QueueBlocks.{Posts, names_of, AreApart, all_at, marks_back}
 use Rattle.fak_queue.specs.Bursts.{AllIn, EndedOutBurst, once_rest, posts_to, tickets_of}
+use Rattle.fak_model.specs.Seats.{Begins}
 use Rattle.fak_queue.specs.Bundles.{SaysOf, Emptying, EmptiesOn, EmptiedOn, takes_at, taken_at}
 use Rattle.fak_queue.proofs.BurstNames.{makes_step}
 use Rattle.fak_queue.proofs.BurstPosts.{posts_here, posts_else}
@@ -91,6 +92,9 @@ module _ {T : Type 0} {size seats : ℕ} (names : List ℕ) (k lo f granted : �
           rests = λ i n it above. let o = w.order in other i n Idle it (inr (omega (arith, above, o.1))) (w.rests i n it above);
           order = (omega arith, w.order.1, w.order.2);
         }
+
+    pub end_begins : Begins (reverse a.0.seen) (reverse c.0.seen)
+    end_begins = (makes_step leaves).begins
 
     pub emptied_on : EmptiedOn size seats names k lo f granted was got m c
     emptied_on = record {

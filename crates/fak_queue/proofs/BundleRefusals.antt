@@ -6,12 +6,15 @@ use Rattle.fak_model.proofs.Seats.{marks_of_append}
 use Rattle.fak_core.specs.QueueBlocks.{names_of, AreApart, marks_back}
 use Rattle.fak_queue.specs.declared.found.NoRoom.{NoRoom}
 use Rattle.fak_queue.specs.declared.found.NoRoom.TheVariants.{Full, Shut}
-use Rattle.fak_queue.specs.Bursts.{NoneBurst, RefusedBurst, RefusedOutBurst, pair_up}
+use Rattle.fak_model.specs.Seats.{Begins}
+use Rattle.fak_model.proofs.RunningCalls.{before_mark-begins}
+use Rattle.fak_queue.specs.Bursts.{NoneOwn, StandAfter, NoneBurst, RefusedBurst, RefusedOutBurst, pair_up}
 use Rattle.fak_queue.specs.Bundles.{AllMade, RefusesOn, RefusesOutOn}
 use Rattle.fak_queue.proofs.BurstNames.{idle_names, from_rest, once}
 use Rattle.fak_queue.proofs.BundleLists.{item_in, item_drop, marks_on, marks_turned, no_marks}
-use Rattle.fak_queue.proofs.Common.{QueueHolder, Kind, mark, seat_of, marks_of, item_at, In, ◌≡◌, ℤ, ℕ, ◌+◌, ◌-◌, ◌<◌, ◌≤◌, List, [], ◌∷◌, ◌++◌, length, reverse, sym, ap, ◌∙◌, subst, inl, inr, arith, Some}
-use Rattle.fak_queue.proofs.BundleClaims.{pair_item, item_there, own_mark}
+use Rattle.fak_queue.proofs.Common.{Mark, before_part, lower_count, queue_rules, refl, upper_count, QueueHolder, Kind, mark, seat_of, marks_of, item_at, In, ◌≡◌, ℤ, ℕ, ◌+◌, ◌-◌, ◌<◌, ◌≤◌, List, [], ◌∷◌, ◌++◌, length, reverse, sym, ap, ◌∙◌, subst, inl, inr, arith, Some}
+use Rattle.fak_queue.proofs.BundleClaims.{pair_item, item_there}
+use Rattle.fak_queue.proofs.BundlePlaces.{own_mark}
 
 module _ (T : Type 0) {B : Type 0} (ns : List ℕ) (xs : List B) (apart : AreApart ns) (fit : length xs ≤ length ns) where
   outside : (i n : ℕ) → item_at ns i ≡ Some n → length xs ≤ i → In n (names_of (pair_up ns xs)) → ⊥
@@ -32,6 +35,20 @@ module _ (T : Type 0) {B : Type 0} (ns : List ℕ) (xs : List B) (apart : AreApa
 among : {T : Type 0} (ns : List ℕ) (m : QueueHolder T) → m.0.names ≡ ns → (i n : ℕ) → item_at ns i ≡ Some n → In n m.0.names
 among ns m own i n e = subst (In n) (sym own) (item_in ns i n e)
 
+-- what stood before the first mark of the first name
+first_on : {T B : Type 0} (f : B → Kind T) (ss : List (ℕ × B)) (n : ℕ) (x : B) → item_at ss 0 ≡ Some (n, x) → (later : List (Mark T)) × (marks_on f ss ≡ mark n (f x) ∷ later)
+first_on f [] n x e = absurd cc
+first_on f (s ∷ ss) n x e = let g : Some s ≡ Some (n, x) = e in let h : s ≡ (n, x) = cc in (marks_on f ss, λ j. mark (h j).0 (f (h j).1) ∷ marks_on f ss)
+
+before_first : {T B : Type 0} (ns : List ℕ) (xs : List B) (m after : QueueHolder T) → m.0.names ≡ ns → (f : B → Kind T) (past : List (Mark T)) (n : ℕ) → item_at ns 0 ≡ Some n → 0 < length xs → NoneOwn past m
+    → StandAfter past (marks_back f (pair_up ns xs)) after → before_part n 0 m after ≡ reverse past
+before_first {T} {B} ns xs m after own f past n e some none stands =
+    let x = item_there xs 0 some in
+    let first = first_on f (pair_up ns xs) n x.0 (pair_item ns xs 0 n x.0 e x.1) in
+    let turned : reverse (marks_back f (pair_up ns xs) ++ past) ≡ reverse past ++ (mark n (f x.0) ∷ first.0) = reverse-append (marks_back f (pair_up ns xs)) past ∙ ap (λ l. reverse past ++ l) (marks_turned f (pair_up ns xs) ∙ first.1) in
+    let same : length (marks_of seat_of n (reverse past)) ≡ length (marks_of seat_of n (reverse m.0.seen)) + 0 = (let a = ap length (none n (among ns m own 0 n e)) in omega (arith, a)) in
+    before_mark-begins (queue_rules 0) n (length (marks_of seat_of n (reverse m.0.seen)) + 0) (reverse past) (mark n (f x.0)) first.0 (reverse after.0.seen) refl same (subst (λ h. Begins h (reverse after.0.seen)) turned stands)
+
 module _ {T B : Type 0} (size seats : ℕ) (ns : List ℕ) (xs : List B) (apart : AreApart ns) (fit : length xs ≤ length ns) (m after : QueueHolder T) (own : m.0.names ≡ ns) where
   pub all_one : (f : Kind T) → NoneBurst size seats (marks_back (λ (x : B). f) (pair_up ns xs)) m after → AllMade size seats ns (length xs) (f ∷ []) m after
   all_one f c =
@@ -39,6 +56,7 @@ module _ {T B : Type 0} (size seats : ℕ) (ns : List ℕ) (xs : List B) (apart 
       let mine : (i n : ℕ) → item_at ns i ≡ Some n → marks_of seat_of n (reverse after.0.seen) ≡ marks_of seat_of n (reverse m.0.seen) ++ marks_of seat_of n (marks_on (λ (x : B). f) (pair_up ns xs)) =
       (λ i n e. c.makes.mine n (among ns m own i n e) ∙ ap (λ h. marks_of seat_of n (reverse m.0.seen) ++ marks_of seat_of n h) turned) in
       record {
+        names_are = c.makes.names;
         phase = c.phase;
         left = c.left;
         slots = c.makes.slots;
@@ -58,6 +76,7 @@ module _ {T B : Type 0} (size seats : ℕ) (ns : List ℕ) (xs : List B) (apart 
       let mine : (i n : ℕ) → item_at ns i ≡ Some n → marks_of seat_of n (reverse after.0.seen) ≡ marks_of seat_of n (reverse m.0.seen) ++ (marks_of seat_of n G ++ marks_of seat_of n F) =
       (λ i n e. c.makes.mine n (among ns m own i n e) ∙ ap (λ h. marks_of seat_of n (reverse m.0.seen) ++ h) (ap (marks_of seat_of n) turned ∙ marks_of_append seat_of n G F)) in
       record {
+        names_are = c.makes.names;
         phase = c.phase;
         left = c.left;
         slots = c.makes.slots;
@@ -67,12 +86,12 @@ module _ {T B : Type 0} (size seats : ℕ) (ns : List ℕ) (xs : List B) (apart 
         others = λ i n e high. mine i n e ∙ ap (λ h. marks_of seat_of n (reverse m.0.seen) ++ h) (λ q. mark_none T ns xs apart fit g i n e high q ++ mark_none T ns xs apart fit f i n e high q);
       }
 
-pub refuses_on : {T : Type 0} (size seats : ℕ) (ns : List ℕ) (xs : List T) → AreApart ns → length xs ≤ length ns → (m after : QueueHolder T) → m.0.names ≡ ns → (r : NoRoom) → RefusedBurst size seats ns xs r m after → RefusesOn size seats ns (length xs) r m after
-refuses_on size seats ns xs apart fit m after own (Full u) (past, is, inl c) = inl (all_one size seats ns xs apart fit m after own made.NoRoom c.0)
-refuses_on size seats ns xs apart fit m after own (Full u) (past, is, inr c) = inr (all_two size seats ns xs apart fit m after own made.BackIn made.OverIn c.0)
-refuses_on size seats ns xs apart fit m after own Shut (inl c) = inl (all_one size seats ns xs apart fit m after own made.Closed c)
-refuses_on size seats ns xs apart fit m after own Shut (inr c) = inr (all_two size seats ns xs apart fit m after own made.BackIn made.LateIn c)
+pub refuses_on : {T : Type 0} (size seats : ℕ) (ns : List ℕ) (xs : List T) → AreApart ns → length xs ≤ length ns → 0 < length xs → (m after : QueueHolder T) → m.0.names ≡ ns → (r : NoRoom) → RefusedBurst size seats ns xs r m after → RefusesOn size seats ns (length xs) r m after
+refuses_on size seats ns xs apart fit some m after own (Full u) (past, is, none, inl c) = (inl (all_one size seats ns xs apart fit m after own made.NoRoom c.0), λ n e. is ∙ ap upper_count (sym (before_first ns xs m after own (λ x. made.NoRoom) past n e some none c.1)))
+refuses_on size seats ns xs apart fit some m after own (Full u) (past, is, none, inr c) = (inr (all_two size seats ns xs apart fit m after own made.BackIn made.OverIn c.0), λ n e. is ∙ ap upper_count (sym (before_first ns xs m after own (λ x. made.OverIn) past n e some none c.1)))
+refuses_on size seats ns xs apart fit some m after own Shut (inl c) = inl (all_one size seats ns xs apart fit m after own made.Closed c)
+refuses_on size seats ns xs apart fit some m after own Shut (inr c) = inr (all_two size seats ns xs apart fit m after own made.BackIn made.LateIn c)
 
-pub refuses_out_on : {T : Type 0} (size seats : ℕ) (ns : List ℕ) (us : List (Unit {0})) → AreApart ns → length us ≤ length ns → (m after : QueueHolder T) → m.0.names ≡ ns → (l : ℤ) → RefusedOutBurst size seats ns us l m after → RefusesOutOn size seats ns (length us) m after
-refuses_out_on size seats ns us apart fit m after own l (past, is, inl c) = inl (all_one size seats ns us apart fit m after own made.NoItem c.0)
-refuses_out_on size seats ns us apart fit m after own l (past, is, inr c) = inr (all_two size seats ns us apart fit m after own made.BackOut made.OverOut c.0)
+pub refuses_out_on : {T : Type 0} (size seats : ℕ) (ns : List ℕ) (us : List (Unit {0})) → AreApart ns → length us ≤ length ns → 0 < length us → (m after : QueueHolder T) → m.0.names ≡ ns → (l : ℤ) → RefusedOutBurst size seats ns us l m after → RefusesOutOn size seats ns (length us) l m after
+refuses_out_on size seats ns us apart fit some m after own l (past, is, none, inl c) = (inl (all_one size seats ns us apart fit m after own made.NoItem c.0), λ n e. is ∙ ap lower_count (sym (before_first ns us m after own (λ x. made.NoItem) past n e some none c.1)))
+refuses_out_on size seats ns us apart fit some m after own l (past, is, none, inr c) = (inr (all_two size seats ns us apart fit m after own made.BackOut made.OverOut c.0), λ n e. is ∙ ap lower_count (sym (before_first ns us m after own (λ x. made.OverOut) past n e some none c.1)))

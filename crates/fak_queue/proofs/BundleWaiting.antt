@@ -2,10 +2,11 @@
 use Rattle.std.specs.Prelude.{zero, suc, drop}
 use Rattle.fak_model.specs.declared.queue.Kind.{Kind}
 use Rattle.fak_model.specs.Queue.{item_at}
-use Rattle.fak_queue.specs.Bundles.{IsLawful, MadeFrom, Filling, FilledOn, Emptying, EmptiedOn, filled_at, taken_at}
+use Rattle.fak_model.specs.Seats.{Begins}
+use Rattle.fak_queue.specs.Bundles.{FoundEmpty, FoundFull, IsLawful, MadeFrom, Filling, FilledOn, Emptying, EmptiedOn, filled_at, taken_at}
 use Rattle.fak_queue.proofs.BurstNames.{begins_trans}
 use Rattle.fak_queue.proofs.BundleLists.{made_none, put_more}
-use Rattle.fak_queue.proofs.Common.{QueueHolder, made_by, ◌≡◌, ℕ, ◌+◌, ◌-◌, ◌<◌, ◌≤◌, List, [], ◌∷◌, ◌++◌, length, reverse, refl, sym, ap, ◌∙◌, inl, inr, arith, le_or_lt}
+use Rattle.fak_queue.proofs.Common.{Fill, Has, Mark, QueueHolder, Take, made_by, ◌≡◌, ℕ, ◌+◌, ◌-◌, ◌<◌, ◌≤◌, List, [], ◌∷◌, ◌++◌, length, reverse, refl, sym, ap, ◌∙◌, inl, inr, arith, le_or_lt}
 
 made_then : {T : Type 0} {size seats : ℕ} (names : List ℕ) (lo f h : ℕ) (kinds_at : ℕ → List (Kind T)) (m a b : QueueHolder T) → lo ≤ f → f ≤ h → MadeFrom size seats names lo f kinds_at m a → MadeFrom size seats names f h kinds_at a b → MadeFrom size seats names lo h kinds_at m b
 made_then names lo f h kinds_at m a b below above x y = record {
@@ -27,10 +28,18 @@ drop_none : (A : Type 0) (n : ℕ) → drop n (let l : List A = [] in l) ≡ []
 drop_none A zero = refl
 drop_none A (suc n) = refl
 
-drop_more : {A : Type 0} (l : List A) (a b : ℕ) → drop b (drop a l) ≡ drop (a + b) l
+pub drop_more : {A : Type 0} (l : List A) (a b : ℕ) → drop b (drop a l) ≡ drop (a + b) l
 drop_more l zero b = let z : b ≡ 0 + b = omega arith in ap (λ n. drop n l) z
 drop_more {A} [] (suc a) b = drop_none A b ∙ sym (drop_none A (suc a + b))
 drop_more (x ∷ l) (suc a) b = let z : suc (a + b) ≡ suc a + b = omega arith in drop_more l a b ∙ ap (λ n. drop n (x ∷ l)) z
+
+-- ---- looks
+
+pub found_full : {T : Type 0} {size ticket : ℕ} (before look then : List (Mark T)) → Begins before look → Begins look then → (earlier : ℕ) × (ticket ≡ earlier + size) × (Has (Take earlier) look → ⊥) → FoundFull size ticket before then
+found_full before look then a b early = record { earlier = early.0; round = early.1; look = look; after_before = a; by_then = b; untaken = early.2 }
+
+pub found_empty : {T : Type 0} {ticket : ℕ} (before look then : List (Mark T)) → Begins before look → Begins look then → (Has (Fill ticket) look → ⊥) → FoundEmpty ticket before then
+found_empty before look then a b early = record { look = look; after_before = a; by_then = b; unfilled = early }
 
 -- ---- insertions
 

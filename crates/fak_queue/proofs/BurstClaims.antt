@@ -11,7 +11,7 @@ use Rattle.fak_queue.specs.declared.found.NoRoom.{NoRoom}
 use Rattle.fak_queue.specs.Bursts.{AllIn, AreDisjoint, AreIdle, Says, SaysAfter, StandAfter, Makes, TestedBurst, AddedBurst, AddedSome, TellsUpper, DrewBurst, ClaimedBurst, RoomBurst, NoneBurst, RefusedBurst, granted_of, BackBurst, pair_up, idle_posts, claims_at}
 use Rattle.fak_queue.proofs.BurstPosts.{idle_all, idle_both}
 use Rattle.fak_queue.proofs.Common.{QueueHolder, queue_object, Alike, Each, IsUpperCount, Ok, Err, Full, Shut, upper_count, bias, ints, common_steps, le_or_lt, ℤ, pos, ◌+ℤ◌, ◌<◌, ◌^◌, ◌≡◌, ◌⊎◌, ℕ, ◌+◌, ◌-◌, ◌≤◌, List, [], ◌++◌, length, refl, sym, ap, ◌∙◌, subst, inl, inr, arith, reverse, In, Mark}
-use Rattle.fak_queue.proofs.BurstNames.{stands_now, stands_more, idle_rest, all_of, post_swap, says_swap, whole, once, from_rest, in_zs, in_rest, once_granted, in_granted, in_over, not_both, makes_step, makes_then, makes_then_first, pair_length, none_over}
+use Rattle.fak_queue.proofs.BurstNames.{own_past, own_past_first, stands_now, stands_more, idle_rest, all_of, post_swap, says_swap, whole, once, from_rest, in_zs, in_rest, once_granted, in_granted, in_over, not_both, makes_step, makes_then, makes_then_first, pair_length, none_over}
 
 module _ {T : Type 0} (size seats : ℕ) (ns : List ℕ) (xs : List T) (m after : QueueHolder T) where
   abbrev Backed : ℕ → Type 0
@@ -66,7 +66,7 @@ module _ {T : Type 0} (size seats : ℕ) (ns : List ℕ) (xs : List T) (apart : 
     refused_by l = record { phase = ap (λ (x : QueueHolder T). x.0.phase) l.after_is; left = ap (λ (x : QueueHolder T). x.0.left) l.after_is; makes = makes_step l }
 
     pub refused_at_test : (why : NoRoom) → IsUpperCount size f (Err why) → RefusedBurst size seats ns xs why m0 m1
-    refused_at_test (Full u) is = let l = tested.full is.0 is.1 in (l.past, same_count f u (upper_count (reverse l.past)) is.2 l.told, inl (refused_by l, stands_now l))
+    refused_at_test (Full u) is = let l = tested.full is.0 is.1 in (l.past, same_count f u (upper_count (reverse l.past)) is.2 l.told, own_past l, inl (refused_by l, stands_now l))
     refused_at_test Shut is = inl (refused_by (tested.late is))
 
     module _ (room : IsUpperCount size f (Ok tt)) where
@@ -133,6 +133,7 @@ module _ {T : Type 0} (size seats : ℕ) (ns : List ℕ) (xs : List T) (apart : 
             let same : marks_back {A = T} (λ x. made.OverIn) (pair_up ns xs) ++ [] ≡ marks_back (λ x. made.OverIn) (pair_up ns xs) = append-nil (marks_back (λ x. made.OverIn) (pair_up ns xs)) in (
               l.past,
               same_count v u (upper_count (reverse l.past)) is.2 l.told,
+              own_past_first l.past (makes_step first) (own_past l),
               inr (subst (λ h. NoneBurst size seats (marks_back (λ x. made.BackIn) (pair_up ns xs) ++ h) m0 m3 × StandAfter l.past h m3) same (none_back m3 l b, stands_more l.past (marks_back (λ x. made.OverIn) (pair_up ns xs) ++ []) (stands_now l) (makes_step b))),
             )
         refused_at_add Shut is m3 b = inr (none_back m3 (added.late is) b)

@@ -10,7 +10,7 @@ use Rattle.fak_core.proofs.QueueBlocks.{names-append, names-at}
 use Rattle.fak_queue.specs.Bursts.{AllIn, AreDisjoint, AreIdle, Says, SaysAfter, StandAfter, Makes, TestedLowBurst, SubbedBurst, SubbedSome, TellsLower, DrewOutBurst, ClaimedOutBurst, StockBurst, NoneBurst, RefusedOutBurst, granted_low, BackLowBurst, pair_up, idle_posts, claims_out_at}
 use Rattle.fak_queue.proofs.BurstPosts.{idle_all, idle_both}
 use Rattle.fak_queue.proofs.Common.{QueueHolder, queue_object, Alike, Each, IsLowerCount, Ok, Err, lower_count, bias, ints, common_steps, le_or_lt, ℤ, pos, ◌+ℤ◌, ◌<◌, ◌^◌, ◌≡◌, ◌⊎◌, ℕ, ◌+◌, ◌-◌, ◌≤◌, List, [], ◌++◌, length, refl, sym, ap, ◌∙◌, subst, inl, inr, arith, reverse, In, Mark}
-use Rattle.fak_queue.proofs.BurstNames.{stands_now, stands_more, idle_rest, all_of, post_swap, says_swap, whole, once, from_rest, in_zs, in_rest, once_granted, in_granted, in_over, not_both, makes_step, makes_then, makes_then_first, pair_length, none_over}
+use Rattle.fak_queue.proofs.BurstNames.{own_past, own_past_first, stands_now, stands_more, idle_rest, all_of, post_swap, says_swap, whole, once, from_rest, in_zs, in_rest, once_granted, in_granted, in_over, not_both, makes_step, makes_then, makes_then_first, pair_length, none_over}
 
 module _ {T : Type 0} (size seats : ℕ) (ns : List ℕ) (us : List (Unit {0})) (m after : QueueHolder T) where
   abbrev Backed : ℕ → Type 0
@@ -65,7 +65,7 @@ module _ {T : Type 0} (size seats : ℕ) (ns : List ℕ) (us : List (Unit {0})) 
     refused_by l = record { phase = ap (λ (x : QueueHolder T). x.0.phase) l.after_is; left = ap (λ (x : QueueHolder T). x.0.left) l.after_is; makes = makes_step l }
 
     pub refused_at_test : (u : ℤ) → IsLowerCount f (Err u) → RefusedOutBurst size seats ns us u m0 m1
-    refused_at_test u is = let l = tested.empty is.0 in (l.past, same_count f u (lower_count (reverse l.past)) is.1 l.told, inl (refused_by l, stands_now l))
+    refused_at_test u is = let l = tested.empty is.0 in (l.past, same_count f u (lower_count (reverse l.past)) is.1 l.told, own_past l, inl (refused_by l, stands_now l))
 
     module _ (stock : IsLowerCount f (Ok tt)) where
       first : Leaves (queue_object size seats) m0 [] (Each (all_at (λ x. SubLow) (pair_up ns us) ++ idle_posts (drop (length us) ns))) m0.0.left m0.1 (TellsLower f) m1
@@ -129,6 +129,7 @@ module _ {T : Type 0} (size seats : ℕ) (ns : List ℕ) (us : List (Unit {0})) 
             let same : marks_back {A = T} (λ x. made.OverOut) (pair_up ns us) ++ [] ≡ marks_back (λ x. made.OverOut) (pair_up ns us) = append-nil (marks_back (λ x. made.OverOut) (pair_up ns us)) in (
               l.past,
               same_count v u (lower_count (reverse l.past)) is.1 l.told,
+              own_past_first l.past (makes_step first) (own_past l),
               inr (subst (λ h. NoneBurst size seats (marks_back (λ x. made.BackOut) (pair_up ns us) ++ h) m0 m3 × StandAfter l.past h m3) same (none_back m3 l b, stands_more l.past (marks_back (λ x. made.OverOut) (pair_up ns us) ++ []) (stands_now l) (makes_step b))),
             )
 

@@ -39,6 +39,8 @@ pub mod BurstClaimsOut
 pub mod BundleRefusals
 pub mod BundleTurns
 pub mod BundleLists
+pub mod BundlePlaces
+pub mod BundleWords
 pub mod BundleFilling
 pub mod BundleEnding
 pub mod BundleEmptying
@@ -46,3 +48,15 @@ pub mod BundleEndingOut
 pub mod BundleClaims
 pub mod BundleClaimsOut
 pub mod BundleWaiting
+pub mod BundleStates
+pub mod BundleCalls
+pub mod BundleObjects
+pub mod BundleRefused
+pub mod BundleCallsOut
+pub mod BundleSums
+pub mod BundleShares
+pub mod BundleRetries
+pub mod Settling
+pub mod Gathering
+pub mod BundleMaking
+pub mod BundleSharing

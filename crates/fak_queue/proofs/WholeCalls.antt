@@ -4,7 +4,7 @@ use Rattle.fak_model.specs.declared.queue.Kind.TheVariants as made
 
 -- ---- what stands before a mark stays so as more is seen
 
-before_mark-stays : {M : Type 0} (seat_of : M → ℕ) (name : ℕ) (h rest : List M) (i : ℕ) → i < length (marks_of seat_of name h) → before_mark seat_of name i (h ++ rest) ≡ before_mark seat_of name i h
+pub before_mark-stays : {M : Type 0} (seat_of : M → ℕ) (name : ℕ) (h rest : List M) (i : ℕ) → i < length (marks_of seat_of name h) → before_mark seat_of name i (h ++ rest) ≡ before_mark seat_of name i h
 before_mark-stays seat_of name [] rest i lt = absurd (omega (arith, lt))
 before_mark-stays seat_of name (m ∷ h) rest zero lt = by (seat_of m == name) refl lt (λ low. before_mark-stays seat_of name h rest zero low)
   where
@@ -25,7 +25,7 @@ item_at-front (y ∷ xs) ys zero x e = e
 item_at-front (y ∷ xs) ys (suc k) x e = item_at-front xs ys k x e
 
 -- the item of a ticket stays as more is seen
-item_stays : {T : Type 0} (h rest : List (Mark T)) (k : ℕ) (x : T) → item_at (items_put h) k ≡ Some x → item_at (items_put (h ++ rest)) k ≡ Some x
+pub item_stays : {T : Type 0} (h rest : List (Mark T)) (k : ℕ) (x : T) → item_at (items_put h) k ≡ Some x → item_at (items_put (h ++ rest)) k ≡ Some x
 item_stays h rest k x e = ap (λ l. item_at l k) (flat_map-append item_in h rest) ∙ item_at-front (items_put h) (items_put rest) k x e
 
 -- ---- parts of a call, one after another

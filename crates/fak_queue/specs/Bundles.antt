@@ -1,11 +1,11 @@
 -- What the parts of a burst's calls leave at the token of a bundle, name by name.
-use Rattle.std.specs.Prelude.{◌≡◌, ◌^◌, take, ◌≢◌, ◌⊎◌, ℕ, ◌+◌, ◌-◌, ◌%◌, ◌<◌, ◌≤◌, Bool, true, false, List, [], ◌∷◌, ◌++◌, drop, length, reverse, Option, Some, None}
+use Rattle.std.specs.Prelude.{◌≡◌, ◌^◌, take, ℤ, ◌≢◌, ◌⊎◌, ℕ, ◌+◌, ◌-◌, ◌%◌, ◌<◌, ◌≤◌, Bool, true, false, List, [], ◌∷◌, ◌++◌, drop, length, reverse, Option, Some, None}
 use Rattle.fak_model.specs.declared.queue.Kind.TheVariants as made
 use Rattle.fak_model.specs.declared.queue.Mark.{Mark}
 use Rattle.fak_model.specs.declared.queue.Kind.{Kind}
 use Rattle.fak_model.specs.Histories.{AreNamed, IsHistory}
 use Rattle.fak_model.specs.Seats.{Begins, marks_of}
-use Rattle.fak_model.specs.Queue.{items_put, item_at, Has, queue_rules}
+use Rattle.fak_model.specs.Queue.{items_put, item_at, Has, queue_rules, count, puts, gots, upper_count, lower_count}
 use Rattle.fak_core.specs.declared.queue.phase.Phase.{Phase}
 use Rattle.fak_core.specs.declared.queue.phase.Phase.TheVariants.{Idle, TurnIn, StoreItem, EndInsert, TurnOut, LoadItem, EndDelete}
 use Rattle.fak_core.specs.QueueBlocks.{Posts}
@@ -16,6 +16,7 @@ use Rattle.fak_queue.specs.declared.found.NoRoom.{NoRoom}
 use Rattle.fak_queue.specs.declared.found.NoRoom.TheVariants.{Full, Shut}
 use Rattle.fak_queue.specs.Bursts.{Makes}
 use Rattle.fak_queue.specs.Queues.{seat_of, made_by}
+use Rattle.fak_queue.specs.Parts.{before_part}
 
 -- the view says of this name that it stands at p
 abbrev pub SaysOf : {T : Type 0} → QueueView T → ℕ → Phase T → Type 0
@@ -120,6 +121,22 @@ pub record FillsOn {T : Type 0} (size seats : ℕ) (names : List ℕ) (k lo fill
 abbrev pub IsEarly : {T : Type 0} → ℕ → ℕ → QueueHolder T → Type 0
 IsEarly size t after = (earlier : ℕ) × (t ≡ earlier + size) × (Has (made.Take earlier) (reverse after.0.seen) → ⊥)
 
+-- at a look between what was seen before and what was seen then, the round before was not taken from this ticket's cell
+pub record FoundFull {T : Type 0} (size ticket : ℕ) (before then : List (Mark T)) : Type 0 where
+  pub earlier : ℕ
+  pub round : ticket ≡ earlier + size
+  pub look : List (Mark T)
+  pub after_before : Begins before look
+  pub by_then : Begins look then
+  pub untaken : Has (made.Take earlier) look → ⊥
+
+-- at such a look this ticket's cell was not filled
+pub record FoundEmpty {T : Type 0} (ticket : ℕ) (before then : List (Mark T)) : Type 0 where
+  pub look : List (Mark T)
+  pub after_before : Begins before look
+  pub by_then : Begins look then
+  pub unfilled : Has (made.Fill ticket) look → ⊥
+
 -- what a name makes from its cell on
 abbrev pub filled_at : {T : Type 0} → ℕ → ℕ → List (Kind T)
 filled_at k i = made.Fill (k + i) ∷ made.EndIn ∷ []
@@ -174,6 +191,7 @@ pub record ClaimsOn {T : Type 0} (size seats : ℕ) (names : List ℕ) (xs : Lis
   pub granted : (i n : ℕ) (x : T) → item_at names i ≡ Some n → i < j → item_at xs i ≡ Some x → MadeBy n (made.ClaimIn ∷ made.Put x ∷ []) m after
   pub over : (i n : ℕ) → item_at names i ≡ Some n → j ≤ i → i < length xs → MadeBy n (made.OverIn ∷ made.BackIn ∷ []) m after
   pub others : (i n : ℕ) → item_at names i ≡ Some n → length xs ≤ i → MadeBy n [] m after
+  pub ticket : (i n : ℕ) (x : T) → item_at names i ≡ Some n → i < j → item_at xs i ≡ Some x → count puts (before_part n 1 m after) ≡ k + i
   pub put : (i : ℕ) (x : T) → i < j → item_at xs i ≡ Some x → item_at (items_put (reverse after.0.seen)) (k + i) ≡ Some x
   pub few : k + j ≤ 2 ^ 50
 
@@ -187,7 +205,7 @@ pub record ClaimsOutOn {T : Type 0} (size seats : ℕ) (names : List ℕ) (d k j
   pub slots : after.1 ≡ m.1
   pub begins : Begins (reverse m.0.seen) (reverse after.0.seen)
   pub lawful : IsLawful size seats after.0
-  pub granted : (i n : ℕ) → item_at names i ≡ Some n → i < j → (x : T) × MadeBy n (made.ClaimOut ∷ made.Got x ∷ []) m after × (item_at (items_put (reverse after.0.seen)) (k + i) ≡ Some x)
+  pub granted : (i n : ℕ) → item_at names i ≡ Some n → i < j → (x : T) × MadeBy n (made.ClaimOut ∷ made.Got x ∷ []) m after × (item_at (items_put (reverse after.0.seen)) (k + i) ≡ Some x) × (count gots (before_part n 1 m after) ≡ k + i)
   pub over : (i n : ℕ) → item_at names i ≡ Some n → j ≤ i → i < d → MadeBy n (made.OverOut ∷ made.BackOut ∷ []) m after
   pub others : (i n : ℕ) → item_at names i ≡ Some n → d ≤ i → MadeBy n [] m after
   pub few : k + j ≤ 2 ^ 50
@@ -196,6 +214,7 @@ pub record ClaimsOutOn {T : Type 0} (size seats : ℕ) (names : List ℕ) (d k j
 
 -- the first d names made marks of these kinds, the others none, and all rest as before
 pub record AllMade {T : Type 0} (size seats : ℕ) (names : List ℕ) (d : ℕ) (kinds : List (Kind T)) (m after : QueueHolder T) : Type 0 where
+  pub names_are : after.0.names ≡ m.0.names
   pub phase : after.0.phase ≡ Some (Alike Idle)
   pub left : after.0.left ≡ m.0.left
   pub slots : after.1 ≡ m.1
@@ -204,10 +223,12 @@ pub record AllMade {T : Type 0} (size seats : ℕ) (names : List ℕ) (d : ℕ) 
   pub each : (i n : ℕ) → item_at names i ≡ Some n → i < d → MadeBy n kinds m after
   pub others : (i n : ℕ) → item_at names i ≡ Some n → d ≤ i → MadeBy n [] m after
 
--- all of the first d names were refused: at the first test, or after their add
+-- all of the first d names were refused: at the first test, or after their add; and the count before the first name's first mark
 abbrev pub RefusesOn : {T : Type 0} → ℕ → ℕ → List ℕ → ℕ → NoRoom → QueueHolder T → QueueHolder T → Type 0
-RefusesOn size seats names d (Full u) m after = AllMade size seats names d (made.NoRoom ∷ []) m after ⊎ AllMade size seats names d (made.OverIn ∷ made.BackIn ∷ []) m after
+RefusesOn size seats names d (Full u) m after = (AllMade size seats names d (made.NoRoom ∷ []) m after ⊎ AllMade size seats names d (made.OverIn ∷ made.BackIn ∷ []) m after)
+    × ((n : ℕ) → item_at names 0 ≡ Some n → u ≡ upper_count (before_part n 0 m after))
 RefusesOn size seats names d Shut m after = AllMade size seats names d (made.Closed ∷ []) m after ⊎ AllMade size seats names d (made.LateIn ∷ made.BackIn ∷ []) m after
 
-abbrev pub RefusesOutOn : {T : Type 0} → ℕ → ℕ → List ℕ → ℕ → QueueHolder T → QueueHolder T → Type 0
-RefusesOutOn size seats names d m after = AllMade size seats names d (made.NoItem ∷ []) m after ⊎ AllMade size seats names d (made.OverOut ∷ made.BackOut ∷ []) m after
+abbrev pub RefusesOutOn : {T : Type 0} → ℕ → ℕ → List ℕ → ℕ → ℤ → QueueHolder T → QueueHolder T → Type 0
+RefusesOutOn size seats names d l m after = (AllMade size seats names d (made.NoItem ∷ []) m after ⊎ AllMade size seats names d (made.OverOut ∷ made.BackOut ∷ []) m after)
+    × ((n : ℕ) → item_at names 0 ≡ Some n → l ≡ lower_count (before_part n 0 m after))

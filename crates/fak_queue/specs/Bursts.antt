@@ -151,6 +151,10 @@ pub record Makes {T : Type 0} (size seats : ℕ) (new : List (Mark T)) (m after 
 abbrev pub StandAfter : {T : Type 0} → List (Mark T) → List (Mark T) → QueueHolder T → Type 0
 StandAfter past new after = Begins (reverse (new ++ past)) (reverse after.0.seen)
 
+-- of the names of m none made a mark between what m had seen and this past
+abbrev pub NoneOwn : {T : Type 0} → List (Mark T) → QueueHolder T → Type 0
+NoneOwn {T} past m = (n : ℕ) → In n m.0.names → marks_of (λ (x : Mark T). x.seat) n (reverse past) ≡ marks_of (λ (x : Mark T). x.seat) n (reverse m.0.seen)
+
 -- all were refused with these marks, and rest again
 pub record NoneBurst {T : Type 0} (size seats : ℕ) (new : List (Mark T)) (m after : QueueHolder T) : Type 0 where
   pub phase : after.0.phase ≡ Some (Alike Idle)
@@ -177,7 +181,7 @@ module _ {T : Type 0} (size seats : ℕ) (ns : List ℕ) (xs : List T) where
     pub stands : StandAfter past (marks_back (λ x. made.OverIn) (drop j (pair_up ns xs)) ++ marks_back (λ x. made.ClaimIn) (take j (pair_up ns xs))) after
 
   abbrev pub RefusedBurst : NoRoom → QueueHolder T → QueueHolder T → Type 0
-  RefusedBurst (Full u) m after = (past : List (Mark T)) × (u ≡ upper_count (reverse past))
+  RefusedBurst (Full u) m after = (past : List (Mark T)) × (u ≡ upper_count (reverse past)) × NoneOwn past m
       × ((NoneBurst size seats (marks_back (λ x. made.NoRoom) (pair_up ns xs)) m after × StandAfter past (marks_back (λ x. made.NoRoom) (pair_up ns xs)) after)
       ⊎ (NoneBurst size seats (marks_back (λ x. made.BackIn) (pair_up ns xs) ++ marks_back (λ x. made.OverIn) (pair_up ns xs)) m after × StandAfter past (marks_back (λ x. made.OverIn) (pair_up ns xs)) after))
   RefusedBurst Shut m after = NoneBurst size seats (marks_back (λ x. made.Closed) (pair_up ns xs)) m after ⊎ NoneBurst size seats (marks_back (λ x. made.BackIn) (pair_up ns xs) ++ marks_back (λ x. made.LateIn) (pair_up ns xs)) m after
@@ -276,7 +280,7 @@ module _ {T : Type 0} (size seats : ℕ) (ns : List ℕ) (us : List (Unit {0})) 
 
   -- all were refused, at the test or at the subtraction, and rest again
   abbrev pub RefusedOutBurst : ℤ → QueueHolder T → QueueHolder T → Type 0
-  RefusedOutBurst l m after = (past : List (Mark T)) × (l ≡ lower_count (reverse past))
+  RefusedOutBurst l m after = (past : List (Mark T)) × (l ≡ lower_count (reverse past)) × NoneOwn past m
       × ((NoneBurst size seats (marks_back (λ x. made.NoItem) (pair_up ns us)) m after × StandAfter past (marks_back (λ x. made.NoItem) (pair_up ns us)) after)
       ⊎ (NoneBurst size seats (marks_back (λ x. made.BackOut) (pair_up ns us) ++ marks_back (λ x. made.OverOut) (pair_up ns us)) m after × StandAfter past (marks_back (λ x. made.OverOut) (pair_up ns us)) after))
 

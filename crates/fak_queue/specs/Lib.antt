@@ -11,3 +11,6 @@ pub mod Sums
 pub mod Drained
 pub mod Bursts
 pub mod Bundles
+pub mod BundleCalls
+pub mod BurstCalls
+pub mod Bundling

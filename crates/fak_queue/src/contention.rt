@@ -87,6 +87,18 @@ impl SharedCounts {
         self.lower = self.lower.wrapping_add(1);
     }
 
+    /// The seats of a bundle insert this many items.
+    pub(crate) fn expect_insertions(&mut self, count: u64) {
+        self.upper = self.upper.wrapping_add(count);
+        self.lower = self.lower.wrapping_add(count);
+    }
+
+    /// The seats of a bundle delete this many items.
+    pub(crate) fn expect_deletions(&mut self, count: u64) {
+        self.upper = self.upper.wrapping_sub(count);
+        self.lower = self.lower.wrapping_sub(count);
+    }
+
     /// The seat deletes an item, which subtracts 1 from both counts.
     pub(crate) fn expect_deletion(&mut self) {
         self.upper = self.upper.wrapping_sub(1);

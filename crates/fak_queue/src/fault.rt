@@ -1,5 +1,6 @@
 //! Why a queue was not opened, or a call on it was refused.
 
+use crate::seat::Seat;
 use std::error::Error;
 use std::fmt;
 
@@ -38,6 +39,32 @@ pub enum InsertFault<T> {
     },
 }
 
+/// Why a burst of insertions was refused. All its items stay with the caller. Of several refusals the first is returned.
+#[derive(Clone, Copy, Debug, PartialEq, Eq, Drop)]
+pub enum BurstFault {
+    /// The bundle's seats have drawn all the tickets of their stint.
+    Worn,
+    /// The queue was shut.
+    Closed,
+    /// The queue had no room.
+    Full {
+        /// The upper count that the test or the add found.
+        upper: i64,
+    },
+}
+
+/// Why no bundle was made. Of several faults the first is answered.
+#[derive(Drop)]
+pub enum BundleFault<T> {
+    /// There was no seat.
+    NoSeats,
+    /// There was no memory. The seats come back.
+    Memory {
+        /// The seats that stay as they were.
+        seats: Vec<Seat<T>>,
+    },
+}
+
 /// Why a deletion was refused. Of several refusals the first is answered.
 #[derive(Clone, Copy, Debug, PartialEq, Eq, Drop)]
 pub enum DeleteFault {
@@ -72,6 +99,20 @@ impl<T> fmt::Display for InsertFault<T> {
     }
 }
 
+impl fmt::Display for BurstFault {
+    fn fmt<W: fmt::Write>(&self, f: &mut fmt::Formatter<W>) -> fmt::Result {
+        match self {
+            BurstFault::Worn => f.write_str("the stint is used up"),
+            BurstFault::Closed => f.write_str("the queue is shut"),
+            BurstFault::Full { upper } => {
+                write!(f, "the queue is full: its upper count was {upper}")
+            }
+        }
+    }
+}
+
+impl Error for BurstFault {}
+
 impl fmt::Display for DeleteFault {
     fn fmt<W: fmt::Write>(&self, f: &mut fmt::Formatter<W>) -> fmt::Result {
         match self {
@@ -84,3 +125,26 @@ impl fmt::Display for DeleteFault {
 }
 
 impl Error for DeleteFault {}
+
+impl<T: Drop> Error for BundleFault<T> {}
+
+impl<T> fmt::Debug for BundleFault<T> {
+    fn fmt<W: fmt::Write>(&self, f: &mut fmt::Formatter<W>) -> fmt::Result {
+        match self {
+            BundleFault::NoSeats => f.write_str("NoSeats"),
+            BundleFault::Memory { seats } => f
+                .debug_struct("Memory")
+                .field("seats", seats)
+                .finish(),
+        }
+    }
+}
+
+impl<T> fmt::Display for BundleFault<T> {
+    fn fmt<W: fmt::Write>(&self, f: &mut fmt::Formatter<W>) -> fmt::Result {
+        f.write_str(match self {
+            BundleFault::NoSeats => "there is no seat",
+            BundleFault::Memory { seats: _ } => "out of memory",
+        })
+    }
+}

@@ -2,9 +2,9 @@
 
 ghost use Rattle.std.specs.Prelude.{◌≡◌, Err};
 ghost use Rattle.fak_queue.specs.declared.fault.InsertFault.TheVariants.{Worn};
-ghost use Rattle.fak_queue.specs.Parts.{fault_of};
+ghost use Rattle.fak_queue.specs.Parts.{burst_fault_of, fault_of};
 
-use crate::fault::InsertFault;
+use crate::fault::{BurstFault, InsertFault};
 
 /// Why a load of the upper count's word, or an add to it, found no room for an insertion.
 #[derive(Clone, Copy, Drop)]
@@ -23,6 +23,16 @@ impl NoRoom {
         match self {
             NoRoom::Full(upper) => Err(InsertFault::Full { upper, item }),
             NoRoom::Shut => Err(InsertFault::Closed { item }),
+        }
+    }
+
+    /// Refuses a burst of insertions.
+    pub(crate) fn refuse_burst(self) -> BurstFault
+        ensures { result ≡ burst_fault_of self }
+    {
+        match self {
+            NoRoom::Full(upper) => BurstFault::Full { upper },
+            NoRoom::Shut => BurstFault::Closed,
         }
     }
 }

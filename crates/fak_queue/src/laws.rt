@@ -1,5 +1,6 @@
 //! What the rule of a running queue says of its cells and its words, between any two atomic steps of its seats.
 
+pub mod bundles;
 pub mod examples;
 
 ghost use Rattle.std.specs.Prelude.{◌≡◌, ◌≢◌, ℕ, ◌<◌, ◌≤◌, ◌↔◌, List, [], Option, slice_index};
@@ -12,6 +13,9 @@ ghost use Rattle.fak_core.specs.declared.queue.phase.Phase.TheVariants.{Idle};
 ghost use Rattle.fak_queue.specs.declared.limits.QueueLimits.{QueueLimits};
 ghost use Rattle.fak_model.specs.declared.queue.Kind.TheVariants.{Close};
 ghost use Rattle.fak_model.specs.declared.queue.Mark.{Mark};
+ghost use Rattle.std.specs.List.{All};
+ghost use Rattle.fak_model.specs.Calls.{ObjectId, fresh_seats};
+ghost use Rattle.fak_queue.specs.Queues.{IsIdleSeat};
 ghost use Rattle.fak_model.specs.Queue.{Has, IsQueueHistory, contents, count, gots, puts};
 ghost use Rattle.fak_model.specs.Seats.{Begins};
 ghost use Rattle.fak_queue.specs.Drained.{IsDrained, claim_in_of, claim_out_of};
@@ -55,6 +59,12 @@ pub fn a_running_queue_never_locks_up<T>()
     ensures ticketless { (key : QueueLimits) (s : State (Option T) (QueueView T)) (shown : IsShownQueue key s) → (a : ℕ)
         → shown.core.phase a ≢ Idle → ((cell : ℕ) → HoldsTicketOf key.size (shown.core.phase a) cell → ⊥)
         → MakesProgress key.size shown.core a }
+{}
+
+/// The seats that an opening deals are idle, and of its queue. So they can be made a bundle.
+pub fn new_seats_are_idle<T>()
+    ensures { (object : ObjectId) (stint name count : ℕ)
+        → All (IsIdleSeat object) (fresh_seats {M = Mark T} object stint name count) }
 {}
 
 /// A drained queue stays empty: each claim of an insertion was matched by one of a deletion and each item that was put was got,

@@ -7,6 +7,8 @@
 //! - `Port::new(&queue, seat)` is a queue and its seat as one value, whose calls have no condition: the way to begin.
 //! - `insert` and `delete` make one attempt; `wait_insert` and `wait_delete` wait while the queue is full or empty;
 //!   `claim_insert` with `try_fill`, and `claim_delete` with `try_take`, never wait.
+//! - `Bundle::of(alloc, &queue, seats)` is several seats that call together: `insert_burst` and `delete_burst` claim for several
+//!   items at once, and have forms that wait, and forms that never do.
 //! - `shut` refuses later insertions; deletions go on. `cells_in_use`, `items_ready` and `is_drained` observe the counts.
 //! - `Tally::of(seat)` and `Queue::join` bring the seats back together; with all of them `Queue::close` answers a `Rest`, what is left.
 //! - Callers owe that a seat is of this queue and idle: `IsIdleSeat queue.now.object seat`.
@@ -15,6 +17,11 @@
 //! `docs/CALLING.md` is the guide for callers; `crates/pool_of_workers` and `crates/page_frames` are programs to begin from.
 
 mod admission;
+mod bundle;
+mod bundle_deletions;
+mod bundle_insertions;
+mod bundling;
+mod burst;
 mod bursts;
 mod cells;
 mod contention;
@@ -30,6 +37,7 @@ mod plays;
 mod port;
 mod queue;
 mod rest;
+mod resting;
 mod rule;
 mod seat;
 mod standing;
@@ -39,10 +47,12 @@ mod tally;
 mod turns;
 mod words;
 
+pub use bundle::{Bundle, BundleState};
+pub use burst::Burst;
 pub use fak_model::{
     LARGE_SEATS, LARGE_SIZE, LARGE_TICKETS, LARGEST_SIZE, LONGEST_STINT, LargeFault, MOST_SEATS,
 };
-pub use fault::{DeleteFault, InsertFault, OpenFault};
+pub use fault::{BundleFault, BurstFault, DeleteFault, InsertFault, OpenFault};
 pub use in_use::InUse;
 pub use port::Port;
 pub use queue::Queue;

@@ -22,6 +22,7 @@ ghost use Rattle.fak_queue.specs.Steps.{
   TurnsIn,
   TurnsOut,
 };
+ghost use Rattle.fak_queue.specs.Bundling.{Settles};
 
 use crate::standing::Standing;
 use atomic_table::Play;
@@ -192,6 +193,15 @@ pub struct ObserveLowPlay<J> {
 
 impl<T, J: Call<T>> Play<Option<T>, View<Mark<T>, Standing<T>>> for ObserveLowPlay<J> {
     ghost then = { λ s m found after. ObservesLow s.slots J.seats m found after };
+}
+
+/// The load of a token whose names all rest.
+pub struct SettlePlay<J> {
+    call: PhantomData<J>,
+}
+
+impl<T, J: Call<T>> Play<Option<T>, View<Mark<T>, Standing<T>>> for SettlePlay<J> {
+    ghost then = { λ s m _ after. Settles s.slots J.seats m after };
 }
 
 /// The load after a join.

@@ -1,5 +1,7 @@
 //! Numbers and loads to insert, and what is asked of those that come out.
 
+ghost use Rattle.std.specs.Prelude.{◌≡◌, ◌++◌, ◌∷◌, []};
+
 use super::assertions::assert_equal;
 use std::process::Abort;
 
@@ -11,7 +13,9 @@ pub struct Load {
 }
 
 /// Adds the item to the list.
-pub fn add<T: Drop>(rt: &impl Abort, list: &mut Vec<T>, item: T) {
+pub fn add<T: Drop>(rt: &impl Abort, list: &mut Vec<T>, item: T)
+    ensures { list.new.items ≡ list.old.items ++ item ∷ [] }
+{
     list.push(item).expect(rt, "memory for an item");
 }
 

@@ -15,7 +15,7 @@ use std::test::*;
 use std::thread::{Threads, map_vec};
 
 /// An open large queue with all its seats.
-fn open<T: Drop>(
+pub fn open<T: Drop>(
     rt: &(impl Abort + AllocGlobal),
     limits: (u64, u64, u64),
 ) -> (Queue<T>, Vec<Seat<T>>)

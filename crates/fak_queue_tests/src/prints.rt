@@ -1,8 +1,9 @@
 //! What queues, seats and faults print.
 
 use super::assertions::{assert_equal, assert_written};
+use super::bundle_steps::open_bundle;
 use super::steps::{A, Step, close, joined, open, open_one, walk};
-use fak_queue::{DeleteFault, InsertFault, OpenFault, Port, Queue};
+use fak_queue::{BurstFault, DeleteFault, InsertFault, OpenFault, Port, Queue};
 use std::fmt::Display;
 use std::process::Abort;
 
@@ -48,6 +49,16 @@ fn ports_print_their_queue_and_their_seat(rt: HostRuntime) {
     assert_written(&rt, &port, text);
 }
 
+#[test]
+fn bundles_print_their_seats(rt: HostRuntime) {
+    let (_, bundle, _) = open_bundle(&rt, 3, 2, 0, 9);
+    assert_written(
+        &rt,
+        &bundle,
+        "Bundle { names: [1, 0], state: Idle, left: 18, .. }",
+    );
+}
+
 /// Finds that each fault is written so.
 fn have_texts<F: Display>(rt: &(impl Abort + AllocGlobal), rows: &[(F, &str)]) {
     for (fault, text) in rows {
@@ -79,6 +90,15 @@ fn faults_say_what_is_the_matter(rt: HostRuntime) {
             "the queue is empty: its lower count was 0",
         ),
     ];
+    const BURSTS: [(BurstFault, &str); 3] = [
+        (BurstFault::Worn, "the stint is used up"),
+        (BurstFault::Closed, "the queue is shut"),
+        (
+            BurstFault::Full { upper: 3 },
+            "the queue is full: its upper count was 3",
+        ),
+    ];
+    have_texts(&rt, &BURSTS);
     have_texts(&rt, &OPENS);
     have_texts(&rt, &INSERTIONS);
     have_texts(&rt, &DELETIONS);

@@ -115,7 +115,7 @@ pub fn open_one<T: Drop>(
 }
 
 /// Makes the step with the seat of this number, and tells whether there is one and it was answered so.
-fn meets<T: Copy + PartialEq + Drop, R: Wait>(
+pub fn meets<T: Copy + PartialEq + Drop, R: Wait>(
     rt: &R,
     queue: &Queue<T>,
     seats: &mut Vec<Seat<T>>,

@@ -9,7 +9,9 @@ ghost use Rattle.fak_queue.specs.declared.standing.Standing.TheVariants.{Alike};
 ghost use Rattle.fak_queue.specs.Bundles.{ClaimsOn, RefusesOn};
 ghost use Rattle.fak_queue.specs.Bursts.{ClaimedBurst, Makes, RefusedBurst, RoomBurst, Says, claims_at, pair_up};
 
+use crate::bursts::first_items::FirstItems;
 use crate::bursts::insertion::{add_burst, back_burst, draw_burst, test_burst};
+use crate::contention::SharedCounts;
 use crate::found::NoRoom;
 use crate::steps::{QueueToken, QueueWords};
 use crate::words::read_upper;
@@ -23,7 +25,7 @@ fn back_over<T>(
     count: u64,
     granted: u64,
     names: &[u64],
-    items: &[T],
+    items: &FirstItems<T>,
 )
     requires table { FitsTable token.old.table_id words.now.table_id words.now.key words.now.key.seats }
     requires names { AreApart names.now × (token.old.me.0.names ≡ names.now) × (length items.now ≤ length names.now) }
@@ -46,8 +48,9 @@ pub(crate) fn claim_room<T>(
     words: &QueueWords<T>,
     token: &mut QueueToken<T>,
     size: u64,
+    counts: &mut SharedCounts,
     names: &[u64],
-    items: &[T],
+    items: &FirstItems<T>,
 ) -> Result<u64, NoRoom>
     requires table { FitsTable token.old.table_id words.now.table_id words.now.key words.now.key.seats }
     requires size { (size ≡ words.now.table_id.slots) × (size ≤ 16777216) }
@@ -60,8 +63,9 @@ pub(crate) fn claim_room<T>(
         (λ r. RefusedBurst words.now.table_id.slots words.now.key.seats names.now items.now r token.old.me
         token.new.me) }
 {
-    let count = items.len() as u64;
+    let count = items.len();
     let tested = test_burst::<T, Brand>(words, token, names, items);
+    counts.found_upper(tested);
     match read_upper(tested, size) {
         Ok(()) => {}
         Err(reason) => return Err(reason),
@@ -86,8 +90,9 @@ pub(crate) fn admit_burst<T>(
     words: &QueueWords<T>,
     token: &mut QueueToken<T>,
     size: u64,
+    counts: &mut SharedCounts,
     names: &[u64],
-    items: &[T],
+    items: &FirstItems<T>,
 ) -> Result<(u64, u64), NoRoom>
     requires table { FitsTable token.old.table_id words.now.table_id words.now.key words.now.key.seats }
     requires size { (size ≡ words.now.table_id.slots) × (size ≤ 16777216) }
@@ -108,7 +113,7 @@ pub(crate) fn admit_burst<T>(
         (λ r. RefusesOn words.now.table_id.slots words.now.key.seats names.now (length items.now) r token.old.me
         token.new.me) }
 {
-    match claim_room(words, token, size, names, items) {
+    match claim_room(words, token, size, counts, names, items) {
         Ok(granted) => Ok((
             draw_burst::<T, Brand>(words, token, granted, names, items),
             granted,

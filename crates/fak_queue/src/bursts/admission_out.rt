@@ -10,6 +10,7 @@ ghost use Rattle.fak_queue.specs.Bundles.{ClaimsOutOn, RefusesOutOn};
 ghost use Rattle.fak_queue.specs.Bursts.{ClaimedOutBurst, Makes, RefusedOutBurst, Says, StockBurst, claims_out_at, pair_up, units};
 
 use crate::bursts::deletion::{back_low_burst, draw_out_burst, sub_burst, test_low_burst};
+use crate::contention::SharedCounts;
 use crate::steps::{QueueToken, QueueWords};
 use crate::words::read_lower;
 use fak_model::BIAS;
@@ -44,6 +45,7 @@ fn back_over_low<T>(
 pub(crate) fn claim_stock<T>(
     words: &QueueWords<T>,
     token: &mut QueueToken<T>,
+    counts: &mut SharedCounts,
     count: u64,
     names: &[u64],
 ) -> Result<u64, i64>
@@ -59,6 +61,7 @@ pub(crate) fn claim_stock<T>(
         token.old.me token.new.me) }
 {
     let tested = test_low_burst::<T, Brand>(words, token, names, count);
+    counts.found_lower(tested);
     match read_lower(tested) {
         Ok(()) => {}
         Err(lower) => return Err(lower),
@@ -82,6 +85,7 @@ pub(crate) fn claim_stock<T>(
 pub(crate) fn admit_burst_out<T>(
     words: &QueueWords<T>,
     token: &mut QueueToken<T>,
+    counts: &mut SharedCounts,
     count: u64,
     names: &[u64],
 ) -> Result<(u64, u64), i64>
@@ -100,9 +104,9 @@ pub(crate) fn admit_burst_out<T>(
         (λ r. ClaimsOutOn words.now.table_id.slots words.now.key.seats names.now count r.0 r.1 token.old.me
         token.new.me) }
     ensures refuses { IfErr result
-        (λ r. RefusesOutOn words.now.table_id.slots words.now.key.seats names.now count token.old.me token.new.me) }
+        (λ l. RefusesOutOn words.now.table_id.slots words.now.key.seats names.now count l token.old.me token.new.me) }
 {
-    match claim_stock(words, token, count, names) {
+    match claim_stock(words, token, counts, count, names) {
         Ok(granted) => Ok((
             draw_out_burst::<T, Brand>(words, token, granted, names, count),
             granted,

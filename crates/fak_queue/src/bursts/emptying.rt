@@ -1,10 +1,13 @@
 //! A bundle empties the cells of its tickets.
 
-ghost use Rattle.std.specs.Prelude.{◌≡◌, List, ◌+◌, ◌-◌, ◌<◌, ◌≤◌, ◌^◌, [], length};
+ghost use Rattle.std.specs.Prelude.{◌≡◌, List, ◌+◌, ◌-◌, ◌<◌, ◌≤◌, ◌^◌, [], length, reverse};
 ghost use Rattle.std.specs.VecDeque.{deque_capacity, deque_len};
 ghost use Rattle.fak_core.specs.QueueBlocks.{AreApart};
 ghost use Rattle.fak_queue.specs.Steps.{FitsTable};
-ghost use Rattle.fak_queue.specs.Bundles.{EmptiedOn, EmptiesOn, Emptying, IsLawful};
+ghost use Rattle.fak_model.specs.declared.queue.Kind.TheVariants.{Fill};
+ghost use Rattle.fak_model.specs.Queue.{Has};
+ghost use Rattle.fak_model.specs.Seats.{Begins};
+ghost use Rattle.fak_queue.specs.Bundles.{EmptiedOn, EmptiesOn, Emptying, FoundEmpty, IsLawful};
 ghost use Rattle.fak_queue.specs.Shown.{QueueHolder};
 
 use crate::bursts::deletion::end_out_burst;
@@ -39,6 +42,7 @@ fn take_while_ready<T: Drop>(
         out.old.items out.new.items token.old.me token.new.me }
     ensures capacity { deque_capacity out.new ≡ deque_capacity out.old }
     ensures len { deque_len out.new ≡ deque_len out.old + (result - at.done) }
+    ensures early { result < at.granted → Has (Fill (at.ticket + result)) (reverse token.new.me.0.seen) → ⊥ }
 {
     for index in at.done..at.granted {
         let name = names[index as usize];
@@ -72,6 +76,7 @@ fn end_taken<T>(
         m token.old.me
         → EmptiedOn words.now.table_id.slots words.now.key.seats names.now at.ticket at.done taken at.granted was got
         m token.new.me }
+    ensures begins { Begins (reverse token.old.me.0.seen) (reverse token.new.me.0.seen) }
 {
     let part = &names[at.done as usize..taken as usize];
     end_out_burst::<T, Brand>(
@@ -109,6 +114,8 @@ pub(crate) fn take_ready<T: Drop>(
         out.old.items out.new.items token.old.me token.new.me }
     ensures capacity { deque_capacity out.new ≡ deque_capacity out.old }
     ensures len { deque_len out.new ≡ deque_len out.old + (result - at.done) }
+    ensures early { result < at.granted → FoundEmpty (at.ticket + result) (reverse token.old.me.0.seen)
+        (reverse token.new.me.0.seen) }
 {
     let taken = take_while_ready(words, token, cells, at, names, out);
     if taken > at.done {

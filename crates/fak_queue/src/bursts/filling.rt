@@ -1,9 +1,11 @@
 //! A bundle fills the cells of its tickets.
 
-ghost use Rattle.std.specs.Prelude.{◌≡◌, List, ◌+◌, ◌<◌, ◌≤◌, ◌^◌, [], length};
+ghost use Rattle.std.specs.Prelude.{◌≡◌, List, ◌+◌, ◌<◌, ◌≤◌, ◌^◌, [], length, reverse};
+ghost use Rattle.std.specs.VecDeque.{deque_capacity};
+ghost use Rattle.fak_model.specs.Seats.{Begins};
 ghost use Rattle.fak_core.specs.QueueBlocks.{AreApart};
 ghost use Rattle.fak_queue.specs.Steps.{FitsTable};
-ghost use Rattle.fak_queue.specs.Bundles.{FilledOn, Filling, FillsOn, IsEarly, IsLawful};
+ghost use Rattle.fak_queue.specs.Bundles.{FilledOn, Filling, FillsOn, FoundFull, IsEarly, IsLawful};
 ghost use Rattle.fak_queue.specs.Shown.{QueueHolder};
 
 use crate::bursts::insertion::end_burst;
@@ -36,6 +38,7 @@ fn fill_while_ready<T: Drop>(
     ensures told { FillsOn words.now.table_id.slots words.now.key.seats names.now at.ticket at.done result at.granted
         kept.old.items kept.new.items token.old.me token.new.me }
     ensures early { result < at.granted → IsEarly words.now.table_id.slots (at.ticket + result) token.new.me }
+    ensures capacity { deque_capacity kept.new ≡ deque_capacity kept.old }
 {
     for index in at.done..at.granted {
         let name = names[index as usize];
@@ -69,6 +72,7 @@ fn end_filled<T>(
     ensures told { (was kept : List T) (m : QueueHolder T)
         → FillsOn words.now.table_id.slots words.now.key.seats names.now at.ticket at.done filled at.granted was kept m token.old.me
         → FilledOn words.now.table_id.slots words.now.key.seats names.now at.ticket at.done filled at.granted was kept m token.new.me }
+    ensures begins { Begins (reverse token.old.me.0.seen) (reverse token.new.me.0.seen) }
 {
     let part = &names[at.done as usize..filled as usize];
     end_burst::<T, Brand>(
@@ -103,6 +107,9 @@ pub(crate) fn fill_ready<T: Drop>(
     ensures range { (at.done ≤ result) × (result ≤ at.granted) }
     ensures told { FilledOn words.now.table_id.slots words.now.key.seats names.now at.ticket at.done result at.granted
         kept.old.items kept.new.items token.old.me token.new.me }
+    ensures early { result < at.granted → FoundFull words.now.table_id.slots (at.ticket + result)
+        (reverse token.old.me.0.seen) (reverse token.new.me.0.seen) }
+    ensures capacity { deque_capacity kept.new ≡ deque_capacity kept.old }
 {
     let filled = fill_while_ready(words, token, cells, at, names, kept);
     if filled > at.done {

@@ -12,6 +12,7 @@ ghost use Rattle.fak_model.specs.Seats.{In};
 ghost use Rattle.fak_core.specs.declared.queue.phase.Phase.{Phase};
 ghost use Rattle.fak_queue.specs.Bundles.{SaysOf};
 
+use crate::bursts::first_items::FirstItems;
 use crate::bursts::plays::{
     AddBurstPlay, BackBurstPlay, Burst, DrawBurstPlay, EndBurstPlay, Ends, FillBurstPlay, OneName,
     TestBurstPlay, TurnBurstPlay,
@@ -25,7 +26,7 @@ pub(crate) fn test_burst<T, J: Burst<T>>(
     words: &QueueWords<T>,
     token: &mut QueueToken<T>,
     _names: &[u64],
-    _items: &[T],
+    _items: &FirstItems<T>,
 ) -> u64
     requires table { FitsTable token.old.table_id words.now.table_id words.now.key J.seats }
     requires names { AreApart (names_of J.items) × AreDisjoint (names_of J.items) (names_of J.others)
@@ -45,7 +46,7 @@ pub(crate) fn add_burst<T, J: Burst<T>>(
     token: &mut QueueToken<T>,
     count: u64,
     _names: &[u64],
-    _items: &[T],
+    _items: &FirstItems<T>,
 ) -> u64
     requires table { FitsTable token.old.table_id words.now.table_id words.now.key J.seats }
     requires count { (count ≡ length J.items) × (count ≤ 1024) }
@@ -64,7 +65,7 @@ pub(crate) fn back_burst<T, J: Burst<T>>(
     token: &mut QueueToken<T>,
     count: u64,
     _names: &[u64],
-    _items: &[T],
+    _items: &FirstItems<T>,
 )
     requires table { FitsTable token.old.table_id words.now.table_id words.now.key J.seats }
     requires count { (count ≡ length J.items) × (count ≤ 1024) }
@@ -84,7 +85,7 @@ pub(crate) fn draw_burst<T, J: Burst<T>>(
     token: &mut QueueToken<T>,
     count: u64,
     _names: &[u64],
-    _items: &[T],
+    _items: &FirstItems<T>,
 ) -> u64
     requires table { FitsTable token.old.table_id words.now.table_id words.now.key J.seats }
     requires count { (count ≡ length J.items) × (count ≤ 1024) }

@@ -37,6 +37,7 @@ pub(crate) fn fill_all<T: Drop, R: Wait>(
     ensures same { token.new.table_id ≡ token.old.table_id }
     ensures told { FilledOn words.now.table_id.slots words.now.key.seats names.now at.ticket at.done at.granted
         at.granted kept.old.items kept.new.items token.old.me token.new.me }
+    ensures capacity { deque_capacity kept.new ≡ deque_capacity kept.old }
 {
     let backoff = Backoff::new();
     let mut now = at;

@@ -32,4 +32,4 @@ returns-in-Ok-clause-claims g c =
 pub returns-in-Err-clause-refuses : goal.returns-in-Err-clause-refuses
 returns-in-Err-clause-refuses g c =
     let n = c.requires.names in
-    refuses_on c.args.words.now.table_id.slots c.args.words.now.key.seats c.args.names.now c.args.items.now n.0 n.2 c.args.token.now.me c.claim_room.new.token.me n.1 c.in-Err.reason c.in-Err.ensures.told
+    refuses_on c.args.words.now.table_id.slots c.args.words.now.key.seats c.args.names.now c.args.items.now n.0 n.2 c.requires.some.0 c.args.token.now.me c.claim_room.new.token.me n.1 c.in-Err.reason c.in-Err.ensures.told

@@ -1,4 +1,4 @@
-use Rattle.fak_queue.proofs.Common.{◌≡◌, ℕ, ◌∙◌, length, sym, ap, subst, arith, UpperCount, IsUpperCount}
+use Rattle.fak_queue.proofs.Common.{◌≡◌, ◌<◌, ◌≤◌, ℕ, ◌∙◌, length, sym, ap, subst, arith, UpperCount, IsUpperCount}
 use Rattle.fak_queue.specs.Bursts.{granted_of}
 use Rattle.fak_queue.proofs.BurstNames.{pair_length}
 use Rattle.fak_queue.proofs.BurstClaims.{test_names, test_rest, refused_at_test, add_names, add_says, back_names, back_says, back_then, refused_at_add, room_says, names2, claims_room}
@@ -21,7 +21,7 @@ returns-in-Err-clause-told g c =
     c.in-Err.reason (reading _ _ c.test_burst-tested.result _ _ c.requires.size.0 c.in-Err.is c.read_upper.ensures)
 
 pub add_burst-found-requires-clause-count : goal.add_burst-found-requires-clause-count
-add_burst-found-requires-clause-count g c = let n = c.requires.names in (sym (pair_length c.args.names.now c.args.items.now n.2), c.requires.some.1)
+add_burst-found-requires-clause-count g c = let n = c.requires.names in (c.len-count.ensures ∙ sym (pair_length c.args.names.now c.args.items.now n.2), subst (λ d. d ≤ 1024) (sym c.len-count.ensures) c.requires.some.1)
 
 pub add_burst-found-requires-clause-names : goal.add_burst-found-requires-clause-names
 add_burst-found-requires-clause-names g c =
@@ -42,7 +42,7 @@ back_over-requires-clause-names g c =
       n.0,
       names2 c.args.words.now.table_id.slots c.args.words.now.key.seats c.args.names.now c.args.items.now n.0 n.2 c.args.token.now.me n.1 c.test_burst-tested.result c.test_burst-tested.new.token.me c.test_burst-tested.ensures.told
           (reading _ _ c.test_burst-tested.result _ _ c.requires.size.0 c.in-Ok.is c.read_upper.ensures) c.add_burst-found.result c.add_burst-found.new.token.me c.add_burst-found.ensures.told (omega (arith, size.0, size.1)) (reading _ _ c.add_burst-found.result _ _ c.requires.size.0 c.in-Ok-read_upper.is c.read_upper-2.ensures)
-          c.min-granted.result (c.min-granted.ensures ∙ ap (λ (s : ℕ). granted_of s c.add_burst-found.result (length c.args.items.now)) size.0),
+          c.min-granted.result (c.min-granted.ensures ∙ (ap (λ (d : ℕ). granted_of c.args.size c.add_burst-found.result d) c.len-count.ensures ∙ ap (λ (s : ℕ). granted_of s c.add_burst-found.result (length c.args.items.now)) size.0)),
       n.2,
     )
 
@@ -52,7 +52,7 @@ back_over-requires-clause-phase g c =
     let size = c.requires.size in
     room_says c.args.words.now.table_id.slots c.args.words.now.key.seats c.args.names.now c.args.items.now n.0 n.2 c.args.token.now.me n.1 c.test_burst-tested.result c.test_burst-tested.new.token.me c.test_burst-tested.ensures.told
     (reading _ _ c.test_burst-tested.result _ _ c.requires.size.0 c.in-Ok.is c.read_upper.ensures) c.add_burst-found.result c.add_burst-found.new.token.me c.add_burst-found.ensures.told (omega (arith, size.0, size.1)) (reading _ _ c.add_burst-found.result _ _ c.requires.size.0 c.in-Ok-read_upper.is c.read_upper-2.ensures)
-    c.min-granted.result (c.min-granted.ensures ∙ ap (λ (s : ℕ). granted_of s c.add_burst-found.result (length c.args.items.now)) size.0)
+    c.min-granted.result (c.min-granted.ensures ∙ (ap (λ (d : ℕ). granted_of c.args.size c.add_burst-found.result d) c.len-count.ensures ∙ ap (λ (s : ℕ). granted_of s c.add_burst-found.result (length c.args.items.now)) size.0))
 
 pub returns-in-Ok-read_upper-clause-told : goal.returns-in-Ok-read_upper-clause-told
 returns-in-Ok-read_upper-clause-told g c =
@@ -60,10 +60,10 @@ returns-in-Ok-read_upper-clause-told g c =
     let size = c.requires.size in
     claims_room c.args.words.now.table_id.slots c.args.words.now.key.seats c.args.names.now c.args.items.now n.0 n.2 c.args.token.now.me n.1 c.test_burst-tested.result c.test_burst-tested.new.token.me c.test_burst-tested.ensures.told
     (reading _ _ c.test_burst-tested.result _ _ c.requires.size.0 c.in-Ok.is c.read_upper.ensures) c.add_burst-found.result c.add_burst-found.new.token.me c.add_burst-found.ensures.told (omega (arith, size.0, size.1)) (reading _ _ c.add_burst-found.result _ _ c.requires.size.0 c.in-Ok-read_upper.is c.read_upper-2.ensures)
-    c.min-granted.result (c.min-granted.ensures ∙ ap (λ (s : ℕ). granted_of s c.add_burst-found.result (length c.args.items.now)) size.0) c.requires.some.0 c.back_over.new.token.me c.back_over.ensures.phase c.back_over.ensures.left c.back_over.ensures.none c.back_over.ensures.makes
+    c.min-granted.result (c.min-granted.ensures ∙ (ap (λ (d : ℕ). granted_of c.args.size c.add_burst-found.result d) c.len-count.ensures ∙ ap (λ (s : ℕ). granted_of s c.add_burst-found.result (length c.args.items.now)) size.0)) c.requires.some.0 c.back_over.new.token.me c.back_over.ensures.phase c.back_over.ensures.left (λ e. c.back_over.ensures.none (e ∙ sym c.len-count.ensures)) (λ less. c.back_over.ensures.makes (subst (λ d. c.min-granted.result < d) (sym c.len-count.ensures) less))
 
 pub back_burst-requires-clause-count : goal.back_burst-requires-clause-count
-back_burst-requires-clause-count g c = let n = c.requires.names in (sym (pair_length c.args.names.now c.args.items.now n.2), c.requires.some.1)
+back_burst-requires-clause-count g c = let n = c.requires.names in (c.len-count.ensures ∙ sym (pair_length c.args.names.now c.args.items.now n.2), subst (λ d. d ≤ 1024) (sym c.len-count.ensures) c.requires.some.1)
 
 pub back_burst-requires-clause-names : goal.back_burst-requires-clause-names
 back_burst-requires-clause-names g c =

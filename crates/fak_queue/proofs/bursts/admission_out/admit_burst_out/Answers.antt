@@ -1,6 +1,6 @@
 use Rattle.fak_queue.specs.Bundles.{ClaimsOutOn, RefusesOutOn}
 use Rattle.fak_queue.proofs.BundleClaimsOut.{claims_out_on}
-use Rattle.fak_queue.proofs.Common.{subst, arith, ℕ, ◌≤◌, length}
+use Rattle.fak_queue.proofs.Common.{subst, arith, ℕ, ◌<◌, ◌≤◌, length, rules, sym, to_z-of_z, w64}
 use Rattle.fak_queue.specs.Bursts.{units}
 use Rattle.fak_queue.proofs.BundleRefusals.{refuses_out_on}
 use Rattle.fak_queue.proofs.BurstNames.{units_length}
@@ -14,6 +14,9 @@ fits count n few = let l = units_length count in omega (arith, l, few)
 -- they are few, and within the stint
 few_units : (count k : ℕ) → count ≤ k → length (units count) ≤ k
 few_units count k few = let l = units_length count in omega (arith, l, few)
+
+some_units : (count : ℕ) → 0 < count → 0 < length (units count)
+some_units count some = let l = units_length count in omega (arith, l, some)
 
 pub draw_out_burst-requires-clause-count : goal.draw_out_burst-requires-clause-count
 draw_out_burst-requires-clause-count g c =
@@ -45,5 +48,6 @@ returns-in-Ok-clause-claims g c =
 pub returns-in-Err-clause-refuses : goal.returns-in-Err-clause-refuses
 returns-in-Err-clause-refuses g c =
     let n = c.requires.names in
-    subst (λ d. RefusesOutOn c.args.words.now.table_id.slots c.args.words.now.key.seats c.args.names.now d c.args.token.now.me c.claim_stock.new.token.me) (units_length c.args.count)
-    (refuses_out_on c.args.words.now.table_id.slots c.args.words.now.key.seats c.args.names.now (units c.args.count) n.0 (fits _ _ n.2) c.args.token.now.me c.claim_stock.new.token.me n.1 c.in-Err.lower c.in-Err.ensures.told)
+    subst (λ l. RefusesOutOn c.args.words.now.table_id.slots c.args.words.now.key.seats c.args.names.now c.args.count l c.args.token.now.me c.claim_stock.new.token.me) (sym (to_z-of_z {w = w64} (search rules)))
+    (subst (λ d. RefusesOutOn c.args.words.now.table_id.slots c.args.words.now.key.seats c.args.names.now d c.in-Err.lower c.args.token.now.me c.claim_stock.new.token.me) (units_length c.args.count)
+    (refuses_out_on c.args.words.now.table_id.slots c.args.words.now.key.seats c.args.names.now (units c.args.count) n.0 (fits _ _ n.2) (some_units _ c.requires.some.0) c.args.token.now.me c.claim_stock.new.token.me n.1 c.in-Err.lower c.in-Err.ensures.told))

@@ -1,5 +1,5 @@
 use Rattle.fak_queue.proofs.Common.{arith, nat_tests, ◌+◌, ◌≤◌, ◌^◌}
-use Rattle.fak_queue.proofs.BundleEndingOut.{end_count, end_few, end_names, end_says, end_stands, end_rest, emptied_on}
+use Rattle.fak_queue.proofs.BundleEndingOut.{end_begins, end_count, end_few, end_names, end_says, end_stands, end_rest, emptied_on}
 use Rattle.fak_queue.proofs.bursts.emptying.end_taken.Goals as goal
 
 pub overflow_add-at : goal.overflow_add-at
@@ -22,3 +22,6 @@ end_out_burst-requires-clause-rest g c = let s = c.requires.stands in end_rest c
 
 pub returns-clause-told : goal.returns-clause-told
 returns-clause-told g c = λ was got m so. emptied_on c.args.names.now c.args.at.ticket c.args.at.done c.args.taken c.args.at.granted was got m c.args.token.now.me c.requires.names.0 so c.requires.some _ c.end_out_burst.new.token.me c.end_out_burst.ensures.told (λ e. grind (arith, nat_tests)) (λ le. grind (arith, nat_tests))
+
+pub returns-clause-begins : goal.returns-clause-begins
+returns-clause-begins g c = let s = c.requires.stands in end_begins c.args.names.now c.args.at.ticket c.args.at.done c.args.taken c.args.at.granted s.0 s.1 s.2 c.args.token.now.me c.requires.names.0 s.3 c.requires.some _ c.end_out_burst.new.token.me c.end_out_burst.ensures.told (λ e. grind (arith, nat_tests)) (λ le. grind (arith, nat_tests))

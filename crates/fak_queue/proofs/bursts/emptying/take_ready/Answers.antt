@@ -1,5 +1,6 @@
-use Rattle.fak_queue.proofs.Common.{arith, nat_tests}
+use Rattle.fak_queue.proofs.Common.{arith, nat_tests, begins_self, reverse}
 use Rattle.fak_queue.proofs.BundleEndingOut.{emptied_none}
+use Rattle.fak_queue.proofs.BundleWaiting.{found_empty}
 use Rattle.fak_queue.proofs.bursts.emptying.take_ready.Goals as goal
 
 pub end_taken-requires-clause-stands : goal.end_taken-requires-clause-stands
@@ -13,3 +14,9 @@ returns-else-taken-at-clause-told g c =
     let r = c.take_while_ready-taken.ensures.range in
     let none = c.if-taken-at.false in
     emptied_none c.args.names.now c.args.at.ticket c.args.at.done c.take_while_ready-taken.result c.args.at.granted c.args.out.now.items c.take_while_ready-taken.new.out.items c.args.token.now.me c.take_while_ready-taken.new.token.me c.take_while_ready-taken.ensures.told (grind (arith, nat_tests, none, r)) c.requires.some
+
+pub returns-then-taken-at-clause-early : goal.returns-then-taken-at-clause-early
+returns-then-taken-at-clause-early g c = λ less. found_empty (reverse c.args.token.now.me.0.seen) (reverse c.take_while_ready-taken.new.token.me.0.seen) (reverse c.end_taken.new.token.me.0.seen) c.take_while_ready-taken.ensures.told.marks.begins c.end_taken.ensures.begins (c.take_while_ready-taken.ensures.early less)
+
+pub returns-else-taken-at-clause-early : goal.returns-else-taken-at-clause-early
+returns-else-taken-at-clause-early g c = λ less. found_empty (reverse c.args.token.now.me.0.seen) (reverse c.take_while_ready-taken.new.token.me.0.seen) (reverse c.take_while_ready-taken.new.token.me.0.seen) c.take_while_ready-taken.ensures.told.marks.begins (begins_self (reverse c.take_while_ready-taken.new.token.me.0.seen)) (c.take_while_ready-taken.ensures.early less)

@@ -1,6 +1,6 @@
 use Rattle.fak_queue.proofs.Common.{arith, ◌∙◌, ap, refl, sym, subst, ℕ, ◌+◌, ◌%◌}
 use Rattle.fak_queue.specs.Bundles.{EmptiesOn}
-use Rattle.fak_queue.proofs.BundleEmptying.{empties_none, named_now, waits_now, stays_told, named_then, loads_now, slot_now, next_told}
+use Rattle.fak_queue.proofs.BundleEmptying.{empties_none, named_now, waits_now, stays_told, early_told, named_then, loads_now, slot_now, next_told}
 use Rattle.fak_queue.proofs.bursts.emptying.take_while_ready.Goals as goal
 
 pub has_item-requires-clause-name : goal.has_item-requires-clause-name
@@ -42,3 +42,6 @@ loop-index-preserved g c =
       cap ∙ i.5,
       omega (arith, more, i.6, i.1),
     )
+
+pub returns-then-not-has_item-clause-early : goal.returns-then-not-has_item-clause-early
+returns-then-not-has_item-clause-early g c = λ _. early_told c.args.names.now c.args.at.ticket c.args.at.done c.loop-index.index c.args.at.granted c.args.out.now.items c.loop-index.out.items c.args.token.now.me c.loop-index.token.me c.requires.names c.loop-index.invariant.3 c.loop-index-test.true c.place-place.result.ticket c.place-place.ensures.ticket c.has_item.new.token.me c.if-not-has_item.ensures.told

@@ -1,5 +1,5 @@
 use Rattle.fak_queue.proofs.Common.{arith, nat_tests, ◌+◌, ◌≤◌, ◌^◌}
-use Rattle.fak_queue.proofs.BundleEnding.{end_count, end_few, end_names, end_says, end_stands, end_rest, filled_on}
+use Rattle.fak_queue.proofs.BundleEnding.{end_begins, end_count, end_few, end_names, end_says, end_stands, end_rest, filled_on}
 use Rattle.fak_queue.proofs.bursts.filling.end_filled.Goals as goal
 
 pub overflow_add-at : goal.overflow_add-at
@@ -22,3 +22,6 @@ end_burst-requires-clause-rest g c = let s = c.requires.stands in end_rest c.arg
 
 pub returns-clause-told : goal.returns-clause-told
 returns-clause-told g c = λ was kept m so. filled_on c.args.names.now c.args.at.ticket c.args.at.done c.args.filled c.args.at.granted was kept m c.args.token.now.me c.requires.names.0 so c.requires.some _ c.end_burst.new.token.me c.end_burst.ensures.told (λ e. grind (arith, nat_tests)) (λ le. grind (arith, nat_tests))
+
+pub returns-clause-begins : goal.returns-clause-begins
+returns-clause-begins g c = let s = c.requires.stands in end_begins c.args.names.now c.args.at.ticket c.args.at.done c.args.filled c.args.at.granted s.0 s.1 s.2 c.args.token.now.me c.requires.names.0 s.3 c.requires.some _ c.end_burst.new.token.me c.end_burst.ensures.told (λ e. grind (arith, nat_tests)) (λ le. grind (arith, nat_tests))

@@ -31,9 +31,10 @@ loop-index-preserved g c =
       omega (arith, i.1),
       omega (arith, low),
       next_told c.args.names.now c.args.at.ticket c.args.at.done c.loop-index.index c.args.at.granted c.args.kept.now.items c.loop-index.kept.items c.args.token.now.me c.loop-index.token.me c.requires.names c.loop-index.invariant.3 c.loop-index-test.true c.place-place.result.ticket c.place-place.ensures.ticket c.has_room.new.token.me c.if-not-has_room.ensures.told c.in-Some.item c.pop_front.new.self.items c.in-Some.ensures.items c.fill.new.token.me c.fill.ensures.told,
+      c.in-Some.ensures.capacity ∙ i.4,
     )
 
 pub loop-index-init : goal.loop-index-init
 loop-index-init g c =
     let o = c.requires.stands.order in
-    (refl, omega arith, o.1, fills_none c.args.names.now c.args.at.ticket c.args.at.done c.args.at.granted c.args.kept.now.items c.args.token.now.me c.requires.lawful c.requires.stands c.requires.slots)
+    (refl, omega arith, o.1, fills_none c.args.names.now c.args.at.ticket c.args.at.done c.args.at.granted c.args.kept.now.items c.args.token.now.me c.requires.lawful c.requires.stands c.requires.slots, refl)

@@ -1,0 +1,6 @@
+use Rattle.std.specs.Prelude.{None}
+use Rattle.fak_queue.proofs.resting.join_rested.Given as goal
+
+-- the load is made on this queue
+abbrev pub ghosts-settle : goal.ghosts-settle
+ghosts-settle g a = record { seats = a.words.now.key.seats; item = None }
