@@ -1,5 +1,5 @@
 -- Each kind of step on a credit keeps the rule, and tells what it did.
-use Rattle.fak_count.proofs.Common.{◌≡◌, ℕ, suc, ◌+◌, ◌-◌, ◌*◌, ◌%◌, ◌^◌, ◌<◌, ◌≤◌, ℤ, pos, ◌+ℤ◌, ◌-ℤ◌, List, [], ◌∷◌, ◌++◌, length, slice_index, refl, ap, sym, ◌∙◌, subst, arith, Some, reverse, ints, reverse-append, some, get_elem?, sight, Leaves, bias, every_history, count_place, KeepsCount, CreditView, CreditHolder, credit_mark, credit_object, opened_credit, IsShownCredit, FoundValue, MadeMark, Observed, HeardJoin, mul-le-mul, State, Act, keeps, stepped, carried_after, Valid, opening, Allows, CreditKind, CreditMark, debit_weight, credit_weight, kind_of, debits, credits, value, AreLawful, Advances, steps, observes, starts, hears, CreditLimits, IsCount, IsInLargeRange}
+use Rattle.fak_count.proofs.Common.{◌≡◌, ℕ, suc, ◌+◌, ◌-◌, ◌*◌, ◌%◌, ◌^◌, ◌<◌, ◌≤◌, ℤ, pos, ◌+ℤ◌, ◌-ℤ◌, List, [], ◌∷◌, ◌++◌, length, slice_index, refl, ap, sym, ◌∙◌, subst, arith, Some, reverse, ints, reverse-append, some, get_elem?, sight, Leaves, bias, every_history, count_place, KeepsCount, CreditView, CreditHolder, credit_mark, credit_object, opened_credit, IsShownCredit, FoundValue, MadeMark, Observed, HeardJoin, State, Act, keeps, stepped, carried_after, Valid, opening, Allows, CreditKind, CreditMark, debit_weight, credit_weight, kind_of, debits, credits, value, AreLawful, Advances, steps, observes, starts, hears, CreditLimits, IsCount, IsInLargeRange}
 use Rattle.fak_model.specs.declared.credit.CreditKind.TheVariants.{Debit, Credit}
 use Rattle.fak_model.proofs.Leading.{total_push}
 use Rattle.fak_count.proofs.CountWords.{writes, added, subtracted}

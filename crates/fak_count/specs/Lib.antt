@@ -1,7 +1,9 @@
 pub mod Opening
 pub mod Seats
 pub mod Words
+pub mod StepTokens
 pub mod CreditShown
 pub mod Credits
 pub mod RoomShown
 pub mod Rooms
+pub mod Ports

@@ -25,6 +25,17 @@ pub enum TirFault {
     AtBound(i64),
 }
 
+/// Why a claim by a port was refused. Of several refusals the first is returned.
+#[derive(Clone, Copy, Debug, PartialEq, Eq)]
+pub enum ClaimFault {
+    /// The amount isn't 1 to 1,024.
+    BadAmount,
+    /// The seat's granted claims are its stint.
+    Worn,
+    /// The claim did not fit beside this value, which the test or the failed add found.
+    AtBound(i64),
+}
+
 /// The seat has made all the calls of its stint.
 #[derive(Clone, Copy, Debug, PartialEq, Eq)]
 pub struct Worn;
@@ -54,6 +65,20 @@ impl fmt::Display for TirFault {
 }
 
 impl Error for TirFault {}
+
+impl fmt::Display for ClaimFault {
+    fn fmt<W: fmt::Write>(&self, f: &mut fmt::Formatter<W>) -> fmt::Result {
+        match self {
+            ClaimFault::BadAmount => f.write_str("the amount is not 1 to 1024"),
+            ClaimFault::Worn => f.write_str("the stint is used up"),
+            ClaimFault::AtBound(value) => {
+                write!(f, "the room is at its bound: its value was {value}")
+            }
+        }
+    }
+}
+
+impl Error for ClaimFault {}
 
 impl fmt::Display for Worn {
     fn fmt<W: fmt::Write>(&self, f: &mut fmt::Formatter<W>) -> fmt::Result {

@@ -7,7 +7,8 @@
 //! - `Room::tir(&mut seat, d)` claims `d`, 1 to 1,024, or is refused with the value that it found; `release` gives back.
 //! - `Credit::debit` and `credit` answer the value before; `Credit::value` loads it.
 //! - No call waits. `RoomTally` and `CreditTally` bring seats back together; a room at rest counts what its seats hold.
-//! - Callers owe that a seat is of this count (`IsSeatOf`), and that no more is released than is held.
+//! - `RoomPort::new(&room, seat)` and `CreditPort::new` are the count with a seat as one value, whose calls require nothing.
+//! - Callers without a port owe that a seat is of this count (`IsSeatOf`), and that no more is released than is held.
 //! - To cite: `IsGranted`, `IsRefused`, `MakesCall` (`specs/Rooms.antt`, `specs/Credits.antt`), and the laws of
 //!   `fak_model::laws::room` and `credit`.
 //!
@@ -19,9 +20,9 @@ mod opening;
 mod rooms;
 mod words;
 
-pub use credits::{Credit, CreditSeat, CreditTally};
+pub use credits::{Credit, CreditPort, CreditSeat, CreditTally};
 pub use fak_model::{
     LARGE_SEATS, LARGE_TICKETS, LARGEST_BOUND, LONGEST_STINT, LargeFault, MOST_SEATS,
 };
-pub use fault::{OpenFault, TirFault, Worn};
-pub use rooms::{Room, RoomSeat, RoomTally};
+pub use fault::{ClaimFault, OpenFault, TirFault, Worn};
+pub use rooms::{Room, RoomPort, RoomSeat, RoomTally};

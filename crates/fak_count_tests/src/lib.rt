@@ -12,6 +12,8 @@ mod large;
 #[cfg(test)]
 mod openings;
 #[cfg(test)]
+mod ports;
+#[cfg(test)]
 mod prints;
 #[cfg(test)]
 mod rooms;

@@ -1,7 +1,7 @@
 //! What objects, seats and faults print.
 
 use super::assertions::{assert_equal, assert_written};
-use fak_count::{Credit, CreditTally, OpenFault, Room, RoomTally, TirFault, Worn};
+use fak_count::{ClaimFault, Credit, CreditTally, OpenFault, Room, RoomTally, TirFault, Worn};
 use std::fmt::Display;
 use std::process::Abort;
 
@@ -62,7 +62,16 @@ fn faults_say_what_is_the_matter(rt: HostRuntime) {
             "the room is at its bound: its value was 5",
         ),
     ];
+    const PORTS: &[(ClaimFault, &str)] = &[
+        (ClaimFault::BadAmount, "the amount is not 1 to 1024"),
+        (ClaimFault::Worn, "the stint is used up"),
+        (
+            ClaimFault::AtBound(5),
+            "the room is at its bound: its value was 5",
+        ),
+    ];
     have_texts(&rt, OPENS);
     have_texts(&rt, CLAIMS);
+    have_texts(&rt, PORTS);
     have_texts(&rt, &[(Worn, "the stint is used up")]);
 }

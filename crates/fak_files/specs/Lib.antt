@@ -4,5 +4,7 @@ pub mod Shown
 pub mod Versions
 pub mod Calls
 pub mod SeatTokens
+pub mod StepTokens
 pub mod Opening
 pub mod Closing
+pub mod Ports

@@ -25,6 +25,26 @@ pub enum FileFault {
     Busy(i64),
 }
 
+/// Why a hold by one attempt of a port was refused. Of several refusals the first is returned.
+#[derive(Clone, Copy, Debug, PartialEq, Eq)]
+pub enum HoldFault {
+    /// The seat has a hold.
+    Holding,
+    /// The seat had as many holds as its stint.
+    Worn,
+    /// Others hold too much: the count that was found.
+    Busy(i64),
+}
+
+/// Why a hold that a port waits for was refused. Of several refusals the first is returned.
+#[derive(Clone, Copy, Debug, PartialEq, Eq)]
+pub enum WaitFault {
+    /// The seat has a hold.
+    Holding,
+    /// The seat had as many holds as its stint.
+    Worn,
+}
+
 /// The seat's stint is used up.
 #[derive(Clone, Copy, Debug, PartialEq, Eq)]
 pub struct Worn;
@@ -52,6 +72,29 @@ impl fmt::Display for FileFault {
 }
 
 impl Error for FileFault {}
+
+impl fmt::Display for HoldFault {
+    fn fmt<W: fmt::Write>(&self, f: &mut fmt::Formatter<W>) -> fmt::Result {
+        match self {
+            HoldFault::Holding => f.write_str("the seat has a hold"),
+            HoldFault::Worn => f.write_str("the stint is used up"),
+            HoldFault::Busy(count) => write!(f, "others hold the table: its count was {count}"),
+        }
+    }
+}
+
+impl Error for HoldFault {}
+
+impl fmt::Display for WaitFault {
+    fn fmt<W: fmt::Write>(&self, f: &mut fmt::Formatter<W>) -> fmt::Result {
+        f.write_str(match self {
+            WaitFault::Holding => "the seat has a hold",
+            WaitFault::Worn => "the stint is used up",
+        })
+    }
+}
+
+impl Error for WaitFault {}
 
 impl fmt::Display for Worn {
     fn fmt<W: fmt::Write>(&self, f: &mut fmt::Formatter<W>) -> fmt::Result {

@@ -8,7 +8,8 @@
 //! - `try_read` and `try_write` take a hold or are refused; `read` and `write` wait for it. `end` gives it back.
 //! - In a hold `get` reads an entry; in a writer's hold `set` sets a field. A hold reads one version.
 //! - `FileTally::of`, `join`, `close`: bring the seats back together; the fields at the end come out as a `FileRest`.
-//! - Callers owe that a seat is of this table (`IsFileSeatOf`), and that it holds nothing, something, or as a writer.
+//! - `FilePort::new(&table, seat)` is the table with a seat as one value, whose calls require nothing.
+//! - Callers without a port owe that a seat is of this table (`IsFileSeatOf`), and that it holds nothing, something, or as a writer.
 //! - To cite: `IsGranted`, `IsGot`, `IsSet`, `IsEnded` (`specs/Calls.antt`), and the laws, as `a_writer_is_alone`.
 //!
 //! `docs/CALLING.md` is the guide for callers.
@@ -21,6 +22,7 @@ mod limits;
 mod opening;
 mod phase;
 mod plays;
+mod port;
 mod rest;
 mod rule;
 mod seat;
@@ -32,8 +34,9 @@ mod words;
 pub use fak_model::{
     FileEntry, FileField, LARGE_SEATS, LARGE_TICKETS, LONGEST_STINT, LargeFault, MOST_SEATS,
 };
-pub use fault::{FileFault, OpenFault, Worn};
+pub use fault::{FileFault, HoldFault, OpenFault, WaitFault, Worn};
 pub use phase::Hold;
+pub use port::FilePort;
 pub use rest::FileRest;
 pub use seat::FileSeat;
 pub use table::FileTable;

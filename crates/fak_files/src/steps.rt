@@ -1,10 +1,9 @@
 //! Each atomic step of a seat on the words of a file table. What the hold is for (`_access`) is a parameter for the proofs alone.
 
 ghost use Rattle.std.specs.Prelude.{◌≡◌, ◌<◌, ◌≤◌};
-ghost use Rattle.fak_model.specs.Tokens.{IsSeatToken};
-ghost use Rattle.fak_model.specs.File.{seat_of};
 ghost use Rattle.fak_files.specs.Phases.{amount_of};
 ghost use Rattle.fak_files.specs.Shown.{Tested, Took, Withdrew, Gave, Got, WasSet, HeardJoin};
+ghost use Rattle.fak_files.specs.StepTokens.{IsTokenOf, Tells};
 ghost use Rattle.fak_files.specs.Words.{FitsTable};
 ghost use Rattle.fak_files.specs.declared.phase.Access.TheVariants.{Write};
 ghost use Rattle.fak_files.specs.declared.phase.FilePhase.TheVariants.{Idle, Taking, Backing, Holding};
@@ -30,11 +29,9 @@ pub(crate) fn test<J: Call>(
     amount: u64,
     _access: Access,
 ) -> u64
-    requires table { FitsTable token.old.table_id words.now.table_id words.now.key J.key }
+    requires token { IsTokenOf words.now.table_id words.now.key J.key J.name Idle token.old }
     requires amount { (amount ≡ amount_of J.key.seats J.access) × (_access ≡ J.access) }
-    requires seat { IsSeatToken seat_of J.key.seats J.name Idle 0 token.old.me }
-    ensures same { token.new.table_id ≡ token.old.table_id }
-    ensures told { Tested J.key J.name J.access token.old.me result token.new.me }
+    ensures told { Tells token.old token.new (Tested J.key J.name J.access token.old.me result) }
 {
     words.load::<TestPlay<J>>(token, COUNT)
 }
@@ -46,11 +43,9 @@ pub(crate) fn take<J: Call>(
     amount: u64,
     _access: Access,
 ) -> u64
-    requires table { FitsTable token.old.table_id words.now.table_id words.now.key J.key }
+    requires token { IsTokenOf words.now.table_id words.now.key J.key J.name (Taking J.access) token.old }
     requires amount { (amount ≡ amount_of J.key.seats J.access) × (_access ≡ J.access) }
-    requires seat { IsSeatToken seat_of J.key.seats J.name (Taking J.access) 0 token.old.me }
-    ensures same { token.new.table_id ≡ token.old.table_id }
-    ensures told { Took J.key J.name J.access token.old.me result token.new.me }
+    ensures told { Tells token.old token.new (Took J.key J.name J.access token.old.me result) }
 {
     words.fetch_sub::<TakePlay<J>>(token, COUNT, amount)
 }
@@ -62,22 +57,18 @@ pub(crate) fn withdraw<J: Call>(
     amount: u64,
     _access: Access,
 )
-    requires table { FitsTable token.old.table_id words.now.table_id words.now.key J.key }
+    requires token { IsTokenOf words.now.table_id words.now.key J.key J.name (Backing J.access) token.old }
     requires amount { (amount ≡ amount_of J.key.seats J.access) × (_access ≡ J.access) }
-    requires seat { IsSeatToken seat_of J.key.seats J.name (Backing J.access) 0 token.old.me }
-    ensures same { token.new.table_id ≡ token.old.table_id }
-    ensures told { Withdrew J.key J.name J.access token.old.me token.new.me }
+    ensures told { Tells token.old token.new (Withdrew J.key J.name J.access token.old.me) }
 {
     words.fetch_add::<WithdrawPlay<J>>(token, COUNT, amount);
 }
 
 /// Adds the amount of a hold that ends.
 pub(crate) fn give<J: Call>(words: &FileWords, token: &mut FileToken, amount: u64, _access: Access)
-    requires table { FitsTable token.old.table_id words.now.table_id words.now.key J.key }
+    requires token { IsTokenOf words.now.table_id words.now.key J.key J.name (Holding J.access) token.old }
     requires amount { (amount ≡ amount_of J.key.seats J.access) × (_access ≡ J.access) }
-    requires seat { IsSeatToken seat_of J.key.seats J.name (Holding J.access) 0 token.old.me }
-    ensures same { token.new.table_id ≡ token.old.table_id }
-    ensures told { Gave J.key J.name token.old.me token.new.me }
+    ensures told { Tells token.old token.new (Gave J.key J.name token.old.me) }
 {
     words.fetch_add::<GivePlay<J>>(token, COUNT, amount);
 }
@@ -90,12 +81,10 @@ pub(crate) fn get_field<J: Call>(
     entry: u64,
     field: FileField,
 ) -> u64
-    requires table { FitsTable token.old.table_id words.now.table_id words.now.key J.key }
+    requires token { IsTokenOf words.now.table_id words.now.key J.key J.name (Holding J.access) token.old }
     requires field { (entry ≡ J.entry) × (field ≡ J.field) × (entry < J.key.entries) × (J.key.entries ≤ 16) }
     requires access { _access ≡ J.access }
-    requires seat { IsSeatToken seat_of J.key.seats J.name (Holding J.access) 0 token.old.me }
-    ensures same { token.new.table_id ≡ token.old.table_id }
-    ensures told { Got J.key J.name J.access J.entry J.field token.old.me result token.new.me }
+    ensures told { Tells token.old token.new (Got J.key J.name J.access J.entry J.field token.old.me result) }
 {
     words.load::<GetPlay<J>>(token, place_of(entry, field))
 }
@@ -108,12 +97,10 @@ pub(crate) fn set_field<J: Call>(
     field: FileField,
     to: u64,
 )
-    requires table { FitsTable token.old.table_id words.now.table_id words.now.key J.key }
+    requires token { IsTokenOf words.now.table_id words.now.key J.key J.name (Holding Write) token.old }
     requires field { (entry ≡ J.entry) × (field ≡ J.field) × (to ≡ J.to) × (entry < J.key.entries)
         × (J.key.entries ≤ 16) }
-    requires seat { IsSeatToken seat_of J.key.seats J.name (Holding Write) 0 token.old.me }
-    ensures same { token.new.table_id ≡ token.old.table_id }
-    ensures told { WasSet J.key J.name J.entry J.field J.to token.old.me token.new.me }
+    ensures told { Tells token.old token.new (WasSet J.key J.name J.entry J.field J.to token.old.me) }
 {
     words.store::<SetPlay<J>>(token, place_of(entry, field), to);
 }

@@ -1,7 +1,7 @@
 //! A file table that threads share.
 
 ghost use Rattle.std.specs.Prelude.{◌≡◌, ◌≢◌, ◌<◌, IfOk, MatchResult, is_ok, if◌then◌else◌, ◌≤◌, ℕ, length, slice_get, Some};
-ghost use Rattle.fak_files.specs.Calls.{IsFileSeatOf, IsGranted, IsRefused, IsGot, IsSet, IsEnded, idle_seats, IsWaitedFor, IsWorn, entries_after};
+ghost use Rattle.fak_files.specs.Calls.{IsFileSeatOf, IsFreeSeatOf, IsGranted, IsRefused, IsGot, IsSet, IsEnded, idle_seats, IsWaitedFor, IsWorn, entries_after};
 ghost use Rattle.fak_files.specs.Phases.{hold_for};
 ghost use Rattle.fak_files.specs.declared.phase.Access.TheVariants.{Read, Write};
 ghost use Rattle.fak_files.specs.declared.phase.Hold.TheVariants.{Nothing, Reading, Writing};
@@ -148,8 +148,7 @@ impl FileTable {
 
     /// A hold for this access, or why it is refused.
     pub(crate) fn try_hold(&self, seat: &mut FileSeat, access: Access) -> Result<(), FileFault>
-        requires object { IsFileSeatOf self.now.object seat.old }
-        requires idle { seat.old.hold ≡ Nothing }
+        requires { IsFreeSeatOf self.now.object seat.old }
         ensures call { MatchResult result (λ _. IsGranted access seat.old seat.new)
             (λ fault. IsRefused access seat.old seat.new fault) }
         ensures hold { seat.new.hold ≡ (if is_ok result then hold_for access else Nothing) }
@@ -244,9 +243,13 @@ impl FileTable {
     }
 
     /// A hold for this access, tried until it is granted.
-    fn wait_hold<R: Wait>(&self, rt: &R, seat: &mut FileSeat, access: Access) -> Result<(), Worn>
-        requires object { IsFileSeatOf self.now.object seat.old }
-        requires idle { seat.old.hold ≡ Nothing }
+    pub(crate) fn wait_hold<R: Wait>(
+        &self,
+        rt: &R,
+        seat: &mut FileSeat,
+        access: Access,
+    ) -> Result<(), Worn>
+        requires { IsFreeSeatOf self.now.object seat.old }
         ensures call { MatchResult result (λ _. IsWaitedFor access seat.old seat.new) (λ _. IsWorn seat.old seat.new) }
         ensures hold { seat.new.hold ≡ (if is_ok result then hold_for access else Nothing) }
         ensures object { seat.new.seat.object ≡ self.now.object }

@@ -10,4 +10,6 @@ mod large;
 #[cfg(test)]
 mod openings;
 #[cfg(test)]
+mod ports;
+#[cfg(test)]
 mod prints;

@@ -2,7 +2,7 @@
 
 use super::assertions::{assert_equal, assert_written};
 use super::calls::open_one;
-use fak_files::{FileFault, FileField, FileTally, Hold, OpenFault, Worn};
+use fak_files::{FileFault, FileField, FileTally, Hold, HoldFault, OpenFault, WaitFault, Worn};
 use std::fmt::Display;
 use std::process::Abort;
 
@@ -56,7 +56,18 @@ fn faults_say_what_is_the_matter(rt: HostRuntime) {
         (FileFault::Worn, "the stint is used up"),
         (FileFault::Busy(2), "others hold the table: its count was 2"),
     ];
+    const ATTEMPTS: &[(HoldFault, &str)] = &[
+        (HoldFault::Holding, "the seat has a hold"),
+        (HoldFault::Worn, "the stint is used up"),
+        (HoldFault::Busy(2), "others hold the table: its count was 2"),
+    ];
+    const WAITS: &[(WaitFault, &str)] = &[
+        (WaitFault::Holding, "the seat has a hold"),
+        (WaitFault::Worn, "the stint is used up"),
+    ];
     have_texts(&rt, OPENS);
     have_texts(&rt, HOLDS);
+    have_texts(&rt, ATTEMPTS);
+    have_texts(&rt, WAITS);
     have_texts(&rt, &[(Worn, "the stint is used up")]);
 }

@@ -16,13 +16,13 @@ last_behind name (x ∷ []) κ ls = refl
 last_behind name (x ∷ y ∷ ks) κ ls = last_behind name (y ∷ ks) κ ls
 
 module _ {T : Type 0} {size : ℕ} where
-  made_first : {ks : List (Kind T)} {old new : SeatInfo (Mark T)} → Makes size ks old new → HasMade size ks old new
+  pub made_first : {ks : List (Kind T)} {old new : SeatInfo (Mark T)} → Makes size ks old new → HasMade size ks old new
   made_first m = record { same_seat = m.same_seat; begins = m.begins; mine = m.mine; lawful = m.lawful; named = m.named }
 
-  made_more : (ks ls : List (Kind T)) {old mid new : SeatInfo (Mark T)} → HasMade size ks old mid → Makes size ls mid new → HasMade size (ks ++ ls) old new
+  pub made_more : (ks ls : List (Kind T)) {old mid new : SeatInfo (Mark T)} → HasMade size ks old mid → Makes size ls mid new → HasMade size (ks ++ ls) old new
   made_more ks ls {old} {mid} {new} a b = grind (arith, common_steps, seat_info, append_assoc, made_by, mine_of, seat_of, made_by_append)
 
-  made_last : (ks : List (Kind T)) (κ : Kind T) (ls : List (Kind T)) {old mid new : SeatInfo (Mark T)} → HasMade size ks old mid → Makes size (κ ∷ ls) mid new → Makes size (ks ++ κ ∷ ls) old new
+  pub made_last : (ks : List (Kind T)) (κ : Kind T) (ls : List (Kind T)) {old mid new : SeatInfo (Mark T)} → HasMade size ks old mid → Makes size (κ ∷ ls) mid new → Makes size (ks ++ κ ∷ ls) old new
   made_last ks κ ls {old} {mid} {new} a b = grind (arith, common_steps, made_more, last_of, made_by, last_behind)
 
   -- ---- after refused claims

@@ -1,19 +1,16 @@
 //! One claim in the wait queue, within a seat's stint.
 
-ghost use Rattle.std.specs.Prelude.{◌≡◌, ◌<◌};
-ghost use Rattle.fak_queue.specs.declared.state.SeatState.TheVariants.{Idle};
-ghost use Rattle.fak_queue.specs.Queues.{drawn_by, state_of};
+ghost use Rattle.std.specs.Prelude.{◌≡◌};
 ghost use Rattle.fak_sem.specs.Standings.{IsParking, IsWaking};
 ghost use Rattle.fak_sem.specs.Steps.{ClaimsItem, ClaimsRoom};
+ghost use Rattle.fak_sem.specs.Tickets.{HasTicket};
 
 use crate::standing::Standing;
 use fak_queue::{DeleteFault, InsertFault, Queue, Seat};
 
 /// One claim of room for the item; where the queue is full or shut the item is to be claimed for again.
 pub(crate) fn claim_room<T: Drop>(queue: &Queue<T>, seat: &mut Seat<T>, item: T) -> Standing<T>
-    requires object { seat.old.object ≡ queue.now.object }
-    requires idle { state_of seat.old ≡ Idle }
-    requires left { drawn_by seat.old < seat.old.stint }
+    requires { HasTicket queue.now.object seat.old }
     ensures object { seat.new.object ≡ seat.old.object }
     ensures stands { IsParking result }
     ensures call { ClaimsRoom queue.now.size item seat.old seat.new result }
@@ -28,9 +25,7 @@ pub(crate) fn claim_room<T: Drop>(queue: &Queue<T>, seat: &mut Seat<T>, item: T)
 
 /// One claim of an item; where the queue is empty it is to be claimed again.
 pub(crate) fn claim_item<T: Drop>(queue: &Queue<T>, seat: &mut Seat<T>) -> Standing<T>
-    requires object { seat.old.object ≡ queue.now.object }
-    requires idle { state_of seat.old ≡ Idle }
-    requires left { drawn_by seat.old < seat.old.stint }
+    requires { HasTicket queue.now.object seat.old }
     ensures object { seat.new.object ≡ seat.old.object }
     ensures stands { IsWaking result }
     ensures call { ClaimsItem queue.now.size seat.old seat.new result }

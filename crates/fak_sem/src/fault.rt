@@ -20,6 +20,30 @@ pub enum OpenFault {
 #[derive(Clone, Copy, Debug, PartialEq, Eq, Drop)]
 pub struct SemWorn<T>(pub T);
 
+/// Why a down by steps was not begun. The item comes back. Of several refusals the first is returned.
+#[derive(Clone, Copy, Debug, PartialEq, Eq, Drop)]
+pub enum DownFault<T> {
+    /// A call of the seat is open.
+    InCall {
+        /// The item of the down.
+        item: T,
+    },
+    /// The seat has made all the downs and ups of its stint.
+    Worn {
+        /// The item of the down.
+        item: T,
+    },
+}
+
+/// Why an up by steps was not begun. Of several refusals the first is returned.
+#[derive(Clone, Copy, Debug, PartialEq, Eq, Drop)]
+pub enum UpFault {
+    /// A call of the seat is open.
+    InCall,
+    /// The seat has made all the downs and ups of its stint.
+    Worn,
+}
+
 impl fmt::Display for OpenFault {
     fn fmt<W: fmt::Write>(&self, f: &mut fmt::Formatter<W>) -> fmt::Result {
         f.write_str(match self {
@@ -38,3 +62,23 @@ impl<T> fmt::Display for SemWorn<T> {
         f.write_str("the stint is used up")
     }
 }
+
+impl<T> fmt::Display for DownFault<T> {
+    fn fmt<W: fmt::Write>(&self, f: &mut fmt::Formatter<W>) -> fmt::Result {
+        f.write_str(match self {
+            DownFault::InCall { item: _ } => "a call of the seat is open",
+            DownFault::Worn { item: _ } => "the stint is used up",
+        })
+    }
+}
+
+impl fmt::Display for UpFault {
+    fn fmt<W: fmt::Write>(&self, f: &mut fmt::Formatter<W>) -> fmt::Result {
+        f.write_str(match self {
+            UpFault::InCall => "a call of the seat is open",
+            UpFault::Worn => "the stint is used up",
+        })
+    }
+}
+
+impl Error for UpFault {}

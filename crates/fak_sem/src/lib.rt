@@ -9,8 +9,9 @@
 //! - `up(rt, &mut seat)` answers the item that it woke, which is then the caller's to go on with.
 //! - `StepSeat::of(seat)` goes by steps, none of which waits: `claim_down` and `try_park`, `claim_up` and `try_wake`. `into_seat`
 //!   answers the seat that it is between two calls.
+//! - `SemPort::new(&semaphore, seat)` and `StepPort::new` are the semaphore with a seat as one value, whose calls require nothing.
 //! - `SemTally::of`, `join`, `close`: as a queue's; what is left is the items that nobody woke, oldest first.
-//! - Callers owe that a seat is of this semaphore: `seat.old.object ≡ semaphore.now.object`.
+//! - Callers without a port owe that a seat is of this semaphore: `seat.old.object ≡ semaphore.now.object`.
 //! - To cite: `Downs`, `Ups`, `CountsDown`, `CountsUp` (`specs/Semaphores.antt`), and `IsSettled` at the close. Between the steps
 //!   of a call `ParksSince` and `WakesSince` (`specs/Steps.antt`), from which the last step makes `Downs` or `Ups`.
 //!
@@ -20,10 +21,12 @@ mod claims;
 mod fault;
 pub mod laws;
 mod opening;
+mod port;
 mod retries;
 mod seat;
 mod semaphore;
 mod standing;
+mod step_port;
 mod step_seat;
 mod steps;
 mod tally;
@@ -34,9 +37,11 @@ pub use fak_model::{
     MOST_SEATS,
 };
 pub use fak_queue::Rest;
-pub use fault::{OpenFault, SemWorn};
+pub use fault::{DownFault, OpenFault, SemWorn, UpFault};
+pub use port::SemPort;
 pub use seat::SemSeat;
 pub use semaphore::Semaphore;
 pub use standing::StepState;
+pub use step_port::StepPort;
 pub use step_seat::StepSeat;
 pub use tally::SemTally;

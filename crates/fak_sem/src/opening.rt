@@ -10,6 +10,14 @@ use fak_count::{Credit, CreditSeat};
 use fak_model::{LARGE_SIZE, LARGEST_SIZE, LargeFault};
 use std::alloc::Global;
 
+/// What the seats of a semaphore are opened with.
+#[derive(Drop)]
+pub(crate) struct SeatLimits {
+    pub(crate) start: u64,
+    pub(crate) seats: u64,
+    pub(crate) stint: u64,
+}
+
 /// The credit of a semaphore, with its seats.
 pub(crate) fn opened_credit(
     alloc: Global,

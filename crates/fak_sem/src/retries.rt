@@ -1,9 +1,10 @@
 //! Insertions and deletions within a seat's stint, which are tried again until they are granted.
 
-ghost use Rattle.std.specs.Prelude.{◌≡◌, ◌<◌, MatchOption};
+ghost use Rattle.std.specs.Prelude.{◌≡◌, MatchOption};
 ghost use Rattle.fak_queue.specs.declared.state.SeatState.TheVariants.{Idle};
 ghost use Rattle.fak_queue.specs.Queues.{drawn_by, state_of};
 ghost use Rattle.fak_queue.specs.Retries.{ClosesAfterFull, DeletesAtLast, InsertsAfterFull, InsertsAtLast};
+ghost use Rattle.fak_sem.specs.Tickets.{HasTicket};
 
 use crossbeam_utils::Backoff;
 use fak_queue::{DeleteFault, InsertFault, Queue, Seat};
@@ -16,9 +17,7 @@ fn insert_unless_shut<T: Drop, R: Wait>(
     seat: &mut Seat<T>,
     item: T,
 ) -> Option<T>
-    requires object { seat.old.object ≡ queue.now.object }
-    requires idle { state_of seat.old ≡ Idle }
-    requires left { drawn_by seat.old < seat.old.stint }
+    requires { HasTicket queue.now.object seat.old }
     ensures object { seat.new.object ≡ seat.old.object }
     ensures idle { state_of seat.new ≡ Idle }
     ensures call { MatchOption result ((k : _) × InsertsAfterFull queue.now.size k item seat.old seat.new)
@@ -39,9 +38,7 @@ pub(crate) fn insert_at_last<T: Drop, R: Wait>(
     seat: &mut Seat<T>,
     item: T,
 )
-    requires object { seat.old.object ≡ queue.now.object }
-    requires idle { state_of seat.old ≡ Idle }
-    requires left { drawn_by seat.old < seat.old.stint }
+    requires { HasTicket queue.now.object seat.old }
     ensures object { seat.new.object ≡ seat.old.object }
     ensures idle { state_of seat.new ≡ Idle }
     ensures call { InsertsAtLast queue.now.size item seat.old seat.new }
@@ -60,9 +57,7 @@ pub(crate) fn insert_at_last<T: Drop, R: Wait>(
 
 /// Deletes an item, and tries again where the queue is empty.
 pub(crate) fn delete_at_last<T: Drop, R: Wait>(queue: &Queue<T>, rt: &R, seat: &mut Seat<T>) -> T
-    requires object { seat.old.object ≡ queue.now.object }
-    requires idle { state_of seat.old ≡ Idle }
-    requires left { drawn_by seat.old < seat.old.stint }
+    requires { HasTicket queue.now.object seat.old }
     ensures object { seat.new.object ≡ seat.old.object }
     ensures idle { state_of seat.new ≡ Idle }
     ensures call { DeletesAtLast queue.now.size result seat.old seat.new }

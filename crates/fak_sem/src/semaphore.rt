@@ -10,7 +10,7 @@ ghost use Rattle.fak_model.specs.Seats.{IsWhole};
 ghost use Rattle.fak_sem.specs.Grants.{IsSettled};
 
 use crate::fault::{OpenFault, SemWorn};
-use crate::opening::{opened_credit, opened_large_credit};
+use crate::opening::{SeatLimits, opened_credit, opened_large_credit};
 use crate::retries::{delete_at_last, insert_at_last};
 use crate::seat::SemSeat;
 use crate::tally::SemTally;
@@ -69,7 +69,12 @@ impl<T: Drop> Semaphore<T> {
             return Err(OpenFault::Memory);
         };
         let semaphore = Semaphore { credit, queue };
-        match semaphore.paired(alloc, start, seats, stint, credit_seats, queue_seats) {
+        let limits = SeatLimits {
+            start,
+            seats,
+            stint,
+        };
+        match semaphore.paired(alloc, limits, credit_seats, queue_seats) {
             Ok(paired) => Ok((semaphore, paired)),
             Err(_) => Err(OpenFault::Memory),
         }
@@ -104,7 +109,12 @@ impl<T: Drop> Semaphore<T> {
             return Err(LargeFault::Memory);
         };
         let semaphore = Semaphore { credit, queue };
-        match semaphore.paired(alloc, start, seats, stint, credit_seats, queue_seats) {
+        let limits = SeatLimits {
+            start,
+            seats,
+            stint,
+        };
+        match semaphore.paired(alloc, limits, credit_seats, queue_seats) {
             Ok(paired) => Ok((semaphore, paired)),
             Err(_) => Err(LargeFault::Memory),
         }
@@ -114,22 +124,20 @@ impl<T: Drop> Semaphore<T> {
     fn paired(
         &self,
         alloc: Global,
-        start: u64,
-        seats: u64,
-        stint: u64,
+        limits: SeatLimits,
         credit_seats: Vec<CreditSeat>,
         queue_seats: Vec<Seat<T>>,
     ) -> Result<Vec<SemSeat<T>>, AllocError>
-        requires start { self.now.object.start ≡ start }
-        requires seats { (self.now.object.credit.seats ≡ seats) × (self.now.object.queue.seats ≡ seats) }
-        requires credit { credit_seats.items ≡ fresh_seats self.now.object.credit stint 0 seats }
-        requires queue { queue_seats.items ≡ fresh_seats self.now.object.queue stint 0 seats }
-        ensures { IfOk result (λ r. r.items ≡ fresh_sem_seats self.now.object stint 0 seats) }
+        requires start { self.now.object.start ≡ limits.start }
+        requires seats { (self.now.object.credit.seats ≡ limits.seats) × (self.now.object.queue.seats ≡ limits.seats) }
+        requires credit { credit_seats.items ≡ fresh_seats self.now.object.credit limits.stint 0 limits.seats }
+        requires queue { queue_seats.items ≡ fresh_seats self.now.object.queue limits.stint 0 limits.seats }
+        ensures { IfOk result (λ r. r.items ≡ fresh_sem_seats self.now.object limits.stint 0 limits.seats) }
     {
-        let mut paired = Vec::with_capacity(alloc, seats as usize)?;
+        let mut paired = Vec::with_capacity(alloc, limits.seats as usize)?;
         let mut credits = credit_seats.into_iter();
         let mut queues = queue_seats.into_iter();
-        for _name in 0..seats {
+        for _name in 0..limits.seats {
             let Some(credit) = credits.next() else {
                 unreachable!()
             };
@@ -137,7 +145,7 @@ impl<T: Drop> Semaphore<T> {
                 unreachable!()
             };
             paired.push(SemSeat {
-                start,
+                start: limits.start,
                 credit,
                 queue,
             })?;

@@ -10,6 +10,8 @@ mod bounded;
 mod large;
 #[cfg(test)]
 mod openings;
+#[cfg(test)]
+mod ports;
 mod rows;
 #[cfg(test)]
 mod steps;

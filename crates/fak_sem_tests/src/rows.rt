@@ -9,6 +9,8 @@ use crate::assertions::{assert_equal, assert_written};
 #[cfg(test)]
 use crate::steps::{A, B, Step, close, joined, leaves_nothing, open, take, walk};
 use fak_model::laws::queue::a_queue_at_rest_counts_its_items;
+#[cfg(test)]
+use fak_sem::{DownFault, UpFault};
 use fak_sem::{OpenFault, SemSeat, SemTally, SemWorn, Semaphore, StepSeat, Worn};
 use std::alloc::Global;
 #[cfg(test)]
@@ -206,6 +208,16 @@ fn what_faults_say(rt: HostRuntime) {
         (OpenFault::BadStint, "the stint is not 1 to 1099511627776"),
         (OpenFault::Memory, "out of memory"),
     ];
+    const DOWNS: &[(DownFault<u64>, &str)] = &[
+        (DownFault::InCall { item: 7 }, "a call of the seat is open"),
+        (DownFault::Worn { item: 7 }, "the stint is used up"),
+    ];
+    const UPS: &[(UpFault, &str)] = &[
+        (UpFault::InCall, "a call of the seat is open"),
+        (UpFault::Worn, "the stint is used up"),
+    ];
     have_texts(&rt, OPENS);
+    have_texts(&rt, DOWNS);
+    have_texts(&rt, UPS);
     have_texts(&rt, &[(SemWorn(7u64), "the stint is used up")]);
 }

@@ -1,9 +1,9 @@
 //! The atomic steps of a seat on a credit's word.
 
-ghost use Rattle.std.specs.Prelude.{◌≡◌, ◌<◌, Some};
+ghost use Rattle.std.specs.Prelude.{◌≡◌, ◌<◌};
 ghost use Rattle.fak_model.specs.declared.credit.CreditKind.TheVariants.{Debit, Credit};
-ghost use Rattle.fak_model.specs.Views.{HasOneName};
 ghost use Rattle.fak_count.specs.CreditShown.{MadeMark, Observed, HeardJoin};
+ghost use Rattle.fak_count.specs.StepTokens.{IsTokenOf, Tells};
 ghost use Rattle.fak_count.specs.Words.{FitsTable};
 
 use crate::credits::limits::CreditLimits;
@@ -20,33 +20,26 @@ pub(crate) type CreditToken = Seat<(), CreditView>;
 
 /// Subtracts 1.
 pub(crate) fn debit<J: Call>(words: &CreditWords, token: &mut CreditToken) -> u64
-    requires table { FitsTable token.old.table_id words.now.table_id words.now.key J.key }
-    requires seat { HasOneName token.old.me.0 }
+    requires token { IsTokenOf words.now.table_id words.now.key J.key tt token.old }
     requires left { 0 < token.old.me.0.left }
-    ensures same { token.new.table_id ≡ token.old.table_id }
-    ensures told { MadeMark words.now.key Debit token.old.me result token.new.me }
+    ensures told { Tells token.old token.new (MadeMark words.now.key Debit token.old.me result) }
 {
     words.fetch_sub::<DebitPlay<J>>(token, COUNT, 1)
 }
 
 /// Adds 1.
 pub(crate) fn credit<J: Call>(words: &CreditWords, token: &mut CreditToken) -> u64
-    requires table { FitsTable token.old.table_id words.now.table_id words.now.key J.key }
-    requires seat { HasOneName token.old.me.0 }
+    requires token { IsTokenOf words.now.table_id words.now.key J.key tt token.old }
     requires left { 0 < token.old.me.0.left }
-    ensures same { token.new.table_id ≡ token.old.table_id }
-    ensures told { MadeMark words.now.key Credit token.old.me result token.new.me }
+    ensures told { Tells token.old token.new (MadeMark words.now.key Credit token.old.me result) }
 {
     words.fetch_add::<CreditPlay<J>>(token, COUNT, 1)
 }
 
 /// Loads the count.
 pub(crate) fn observe<J: Call>(words: &CreditWords, token: &mut CreditToken) -> u64
-    requires table { FitsTable token.old.table_id words.now.table_id words.now.key J.key }
-    requires seat { HasOneName token.old.me.0 }
-    requires phase { token.old.me.0.phase ≡ Some tt }
-    ensures same { token.new.table_id ≡ token.old.table_id }
-    ensures told { Observed words.now.key token.old.me result token.new.me }
+    requires token { IsTokenOf words.now.table_id words.now.key J.key tt token.old }
+    ensures told { Tells token.old token.new (Observed words.now.key token.old.me result) }
 {
     words.load::<ObservePlay<J>>(token, COUNT)
 }

@@ -4,7 +4,7 @@ use Rattle.fak_count.proofs.rooms.steps.withdraw.Goals as goal
 
 pub fetch_sub-requires : goal.fetch_sub-requires
 fetch_sub-requires g c = (
-  c.requires.table.0,
-  search (rules, c.requires.table.1),
-  rw (← c.requires.table.2, ← c.requires.amount.2) (backs_allowed _ _ _ c.requires.seat.0 _ _ c.requires.seat.1 (c.requires.amount.0, c.requires.amount.1) c.requires.phase),
+  c.requires.token.table_is.0,
+  search (rules, c.requires.token.table_is.1),
+  rw (← c.requires.token.table_is.2, ← c.requires.amount.2) (backs_allowed _ _ _ c.requires.token.seat.0 _ _ c.requires.token.seat.1 (c.requires.amount.0, c.requires.amount.1) c.requires.token.stands),
 )

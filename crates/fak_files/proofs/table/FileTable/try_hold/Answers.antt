@@ -6,23 +6,23 @@ use Rattle.fak_files.proofs.table.FileTable.try_hold.Goals as goal
 
 pub invariant_of-seat : goal.invariant_of-seat
 invariant_of-seat c =
-    let object = ap (λ s. s.seat.object) c.seat.view_is ∙ (c.requires.object ∙ ap (λ t. t.object) (sym c.self.view_is)) in
+    let object = ap (λ s. s.seat.object) c.seat.view_is ∙ (c.requires.0 ∙ ap (λ t. t.object) (sym c.self.view_is)) in
     let seats = sym (ap (λ o. o.seats) object) in
     let name = ap (λ x. slice_index x.0.names 0) c.seat.invariant.token.me_is in
     let missed = subst (λ (x : ℕ × ℕ). Misses x.0 x.1 (amount_of x.0 c.args.access) c.seat.inside.token.me c.admit.new.token.me c.in-Err.count) (λ i. (seats i, name i)) c.in-Err.ensures.made in
-    file_seat_missed c.seat.invariant missed (ap phase_of (sym (ap (λ s. s.hold) c.seat.view_is ∙ c.requires.idle)))
+    file_seat_missed c.seat.invariant missed (ap phase_of (sym (ap (λ s. s.hold) c.seat.view_is ∙ c.requires.1)))
 
 pub invariant_of-seat-in-Ok : goal.invariant_of-seat-in-Ok
 invariant_of-seat-in-Ok c =
-    let object = ap (λ s. s.seat.object) c.seat.view_is ∙ (c.requires.object ∙ ap (λ t. t.object) (sym c.self.view_is)) in
+    let object = ap (λ s. s.seat.object) c.seat.view_is ∙ (c.requires.0 ∙ ap (λ t. t.object) (sym c.self.view_is)) in
     let seats = sym (ap (λ o. o.seats) object) in
     let name = ap (λ x. slice_index x.0.names 0) c.seat.invariant.token.me_is in
     let made = subst (λ (x : ℕ × ℕ). Makes x.0 x.1 (Take (amount_of x.0 c.args.access) ∷ []) (Holding c.args.access) c.seat.inside.token.me c.admit.new.token.me) (λ i. (seats i, name i)) c.in-Ok.ensures.made in
-    file_seat_granted c.args.access c.hold-seat-inside.result c.seat.invariant made (ap (λ s. s.hold) c.seat.view_is ∙ c.requires.idle) (sym (ap phase_of c.hold-seat-inside.ensures ∙ phase_of-hold_for c.args.access))
+    file_seat_granted c.args.access c.hold-seat-inside.result c.seat.invariant made (ap (λ s. s.hold) c.seat.view_is ∙ c.requires.1) (sym (ap phase_of c.hold-seat-inside.ensures ∙ phase_of-hold_for c.args.access))
 
 pub returns-in-Err-clause-call : goal.returns-in-Err-clause-call
 returns-in-Err-clause-call c =
-    let object = ap (λ s. s.seat.object) c.seat.view_is ∙ (c.requires.object ∙ ap (λ t. t.object) (sym c.self.view_is)) in
+    let object = ap (λ s. s.seat.object) c.seat.view_is ∙ (c.requires.0 ∙ ap (λ t. t.object) (sym c.self.view_is)) in
     let seats = sym (ap (λ o. o.seats) object) in
     let name = ap (λ x. slice_index x.0.names 0) c.seat.invariant.token.me_is in
     let missed = subst (λ (x : ℕ × ℕ). Misses x.0 x.1 (amount_of x.0 c.args.access) c.seat.inside.token.me c.admit.new.token.me c.in-Err.count) (λ i. (seats i, name i)) c.in-Err.ensures.made in
@@ -31,7 +31,7 @@ returns-in-Err-clause-call c =
 
 pub returns-in-Ok-clause-call : goal.returns-in-Ok-clause-call
 returns-in-Ok-clause-call c =
-    let object = ap (λ s. s.seat.object) c.seat.view_is ∙ (c.requires.object ∙ ap (λ t. t.object) (sym c.self.view_is)) in
+    let object = ap (λ s. s.seat.object) c.seat.view_is ∙ (c.requires.0 ∙ ap (λ t. t.object) (sym c.self.view_is)) in
     let seats = sym (ap (λ o. o.seats) object) in
     let name = ap (λ x. slice_index x.0.names 0) c.seat.invariant.token.me_is in
     let made = subst (λ (x : ℕ × ℕ). Makes x.0 x.1 (Take (amount_of x.0 c.args.access) ∷ []) (Holding c.args.access) c.seat.inside.token.me c.admit.new.token.me) (λ i. (seats i, name i)) c.in-Ok.ensures.made in

@@ -15,12 +15,12 @@ returns-then-passes-clause-counts g c =
     let start = same_start c.seat.inside.queue c.self.inside.queue c.seat.view_is c.self.view_is c.requires.object in
     counts_down start c.in-Ok.ensures.call c.seat.inside.queue c.seat.inside.queue (ap (λ (x : StepSeatInfo g.row.T.Denot). x.seat) c.seat.view_is) (passes_one {found = c.in-Ok.found} (to_z-of_z {w = w64} (search rules)) c.if-passes.true) (parks_not {found = c.in-Ok.found} (to_z-of_z {w = w64} (search rules)) c.if-passes.true) refl
 
-pub claim_room-requires-clause-left : goal.claim_room-requires-clause-left
-claim_room-requires-clause-left g c =
+pub claim_room-requires : goal.claim_room-requires
+claim_room-requires g c =
     let start = same_start c.seat.inside.queue c.self.inside.queue c.seat.view_is c.self.view_is c.requires.object in
     let one = parks_one {found = c.in-Ok.found} (to_z-of_z {w = w64} (search rules)) c.if-passes.false in
     let s = at_standing (stands_so c.seat.inside.queue c.seat.view_is c.requires.idle) c.seat.invariant in
-    tickets_left (seat_credited s start c.in-Ok.ensures.call (Parking c.args.who) s.stands (omega (arith, one)) (omega arith)) refl
+    record { idle = search rules; left = tickets_left (seat_credited s start c.in-Ok.ensures.call (Parking c.args.who) s.stands (omega (arith, one)) (omega arith)) refl }
 
 pub invariant_of-seat-2 : goal.invariant_of-seat-2
 invariant_of-seat-2 g c =

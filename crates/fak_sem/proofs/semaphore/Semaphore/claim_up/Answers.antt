@@ -15,12 +15,12 @@ returns-then-not-owes-clause-counts g c =
     let start = same_start c.seat.inside.queue c.self.inside.queue c.seat.view_is c.self.view_is c.requires.object in
     counts_as_begun c.seat.inside.queue c.seat.inside.queue start c.in-Ok.ensures.call c.seat.view_is false (wakes_not {found = c.in-Ok.found} (to_z-of_z {w = w64} (search rules)) c.if-not-owes.true)
 
-pub claim_item-requires-clause-left : goal.claim_item-requires-clause-left
-claim_item-requires-clause-left g c =
+pub claim_item-requires : goal.claim_item-requires
+claim_item-requires g c =
     let start = same_start c.seat.inside.queue c.self.inside.queue c.seat.view_is c.self.view_is c.requires.object in
     let one = wakes_one {found = c.in-Ok.found} (to_z-of_z {w = w64} (search rules)) c.if-not-owes.false in
     let s = at_standing (stands_so c.seat.inside.queue c.seat.view_is c.requires.idle) c.seat.invariant in
-    tickets_left (seat_credited s start c.in-Ok.ensures.call Waking s.stands (omega arith) (omega (arith, one))) refl
+    record { idle = search rules; left = tickets_left (seat_credited s start c.in-Ok.ensures.call Waking s.stands (omega arith) (omega (arith, one))) refl }
 
 pub invariant_of-seat-2 : goal.invariant_of-seat-2
 invariant_of-seat-2 g c =

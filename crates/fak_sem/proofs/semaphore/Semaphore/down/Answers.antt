@@ -7,8 +7,8 @@ invariant_of-seat-then-passes g c =
     let start = same_start c.seat.inside.queue c.self.inside.queue c.seat.view_is c.self.view_is c.requires in
     seat_unqueued c.seat.invariant start c.in-Ok.ensures.call (parks_not {found = c.in-Ok.found} (to_z-of_z {w = w64} (search rules)) c.if-passes.true) refl
 
-pub insert_at_last-requires-clause-left : goal.insert_at_last-requires-clause-left
-insert_at_last-requires-clause-left g c = tickets_left c.seat.invariant (same_start c.seat.inside.queue c.self.inside.queue c.seat.view_is c.self.view_is c.requires) c.in-Ok.ensures.call
+pub insert_at_last-requires : goal.insert_at_last-requires
+insert_at_last-requires g c = record { idle = search rules; left = tickets_left c.seat.invariant (same_start c.seat.inside.queue c.self.inside.queue c.seat.view_is c.self.view_is c.requires) c.in-Ok.ensures.call }
 
 pub invariant_of-seat-2 : goal.invariant_of-seat-2
 invariant_of-seat-2 g c =

@@ -1,10 +1,10 @@
-use Rattle.fak_sem.proofs.Common.{common_steps, arith, sym, ◌∙◌}
+use Rattle.fak_sem.proofs.Common.{rules, common_steps, arith, sym, ◌∙◌}
 use Rattle.fak_sem.proofs.StepCalls.{at_standing, tickets_left, seat_claimed_in, seat_filled, seat_waits_in, parks_claim, parks_look, parks_whole}
 use Rattle.fak_sem.proofs.OneStep.{park_claims, park_fills, park_looks}
 use Rattle.fak_sem.proofs.semaphore.Semaphore.try_park.Goals as goal
 
-pub claim_room-requires-clause-left : goal.claim_room-requires-clause-left
-claim_room-requires-clause-left g c = grind (arith, common_steps, tickets_left, at_standing)
+pub claim_room-requires : goal.claim_room-requires
+claim_room-requires g c = record { idle = search rules; left = grind (arith, common_steps, tickets_left, at_standing) }
 
 pub invariant_of-seat : goal.invariant_of-seat
 invariant_of-seat g c =

@@ -1,10 +1,10 @@
-use Rattle.fak_sem.proofs.Common.{common_steps, arith, sym, ◌∙◌}
+use Rattle.fak_sem.proofs.Common.{rules, common_steps, arith, sym, ◌∙◌}
 use Rattle.fak_sem.proofs.StepCalls.{at_standing, tickets_left, seat_claimed_out, seat_taken, seat_waits_out, wakes_claim, wakes_look, wakes_whole}
 use Rattle.fak_sem.proofs.OneStep.{wake_claims, wake_looks, wake_takes}
 use Rattle.fak_sem.proofs.semaphore.Semaphore.try_wake.Goals as goal
 
-pub claim_item-requires-clause-left : goal.claim_item-requires-clause-left
-claim_item-requires-clause-left g c = grind (arith, common_steps, tickets_left, at_standing)
+pub claim_item-requires : goal.claim_item-requires
+claim_item-requires g c = record { idle = search rules; left = grind (arith, common_steps, tickets_left, at_standing) }
 
 pub invariant_of-seat : goal.invariant_of-seat
 invariant_of-seat g c = let e = sym c.replace.ensures.value ∙ c.in-Waking.is in seat_claimed_out c.self.inside.queue.size c.claim_item.new.seat (at_standing e c.seat.invariant) c.claim_item.result c.claim_item.ensures.call

@@ -7,8 +7,8 @@ invariant_of-seat-then-not-owes g c =
     let start = same_start c.seat.inside.queue c.self.inside.queue c.seat.view_is c.self.view_is c.requires in
     seat_unqueued c.seat.invariant start c.in-Ok.ensures.call refl (wakes_not {found = c.in-Ok.found} (to_z-of_z {w = w64} (search rules)) c.if-not-owes.true)
 
-pub delete_at_last-requires-clause-left : goal.delete_at_last-requires-clause-left
-delete_at_last-requires-clause-left g c = tickets_left c.seat.invariant (same_start c.seat.inside.queue c.self.inside.queue c.seat.view_is c.self.view_is c.requires) c.in-Ok.ensures.call
+pub delete_at_last-requires : goal.delete_at_last-requires
+delete_at_last-requires g c = record { idle = search rules; left = tickets_left c.seat.invariant (same_start c.seat.inside.queue c.self.inside.queue c.seat.view_is c.self.view_is c.requires) c.in-Ok.ensures.call }
 
 pub invariant_of-seat-2 : goal.invariant_of-seat-2
 invariant_of-seat-2 g c =

@@ -1,0 +1,5 @@
+use Rattle.fak_count.proofs.Common.{rules}
+use Rattle.fak_count.proofs.credits.port.CreditPort.credit.Goals as goal
+
+pub returns-clause-call : goal.returns-clause-call
+returns-clause-call c = search rules

@@ -1,0 +1,5 @@
+use Rattle.fak_count.proofs.Common.{rules}
+use Rattle.fak_count.proofs.rooms.port.RoomPort.left.Goals as goal
+
+pub returns : goal.returns
+returns c = search rules

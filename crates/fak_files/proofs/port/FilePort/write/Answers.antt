@@ -1,0 +1,5 @@
+use Rattle.fak_files.proofs.Common.{rules}
+use Rattle.fak_files.proofs.port.FilePort.write.Goals as goal
+
+pub returns-clause-call : goal.returns-clause-call
+returns-clause-call g c = search rules

@@ -1,0 +1,5 @@
+use Rattle.fak_sem.proofs.Common.{rules}
+use Rattle.fak_sem.proofs.port.SemPort.into_seat.Goals as goal
+
+pub returns-clause-seat : goal.returns-clause-seat
+returns-clause-seat g c = search rules

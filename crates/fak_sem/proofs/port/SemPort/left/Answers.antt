@@ -1,0 +1,5 @@
+use Rattle.fak_sem.proofs.Common.{rules}
+use Rattle.fak_sem.proofs.port.SemPort.left.Goals as goal
+
+pub returns : goal.returns
+returns g c = search rules
