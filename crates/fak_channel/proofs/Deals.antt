@@ -44,3 +44,21 @@ dealt_next f a (suc n) x is =
     let same : a + suc n ≡ suc a + n = omega arith in
     let up : suc (n + 1) ≡ suc n + 1 = omega arith in
     ap (λ l. f a ∷ l) (dealt_next f (suc a) n x (is ∙ ap f same)) ∙ ap (dealt f a) up
+
+-- the first of those that are left, and the others
+pub record IsFirst {A : Type 0} (f : ℕ → A) (name left : ℕ) (x : A) (rest : List A) : Type 0 where
+  pub some : 0 < left
+  pub first : x ≡ f name
+  pub others : rest ≡ dealt f (name + 1) (left - 1)
+
+pub first_dealt : {A : Type 0} (f : ℕ → A) (name left : ℕ) {items rest : List A} {x : A} → items ≡ dealt f name left → items ≡ x ∷ rest → IsFirst f name left x rest
+first_dealt {A} f name zero {items} {rest} {x} are is = absurd (let e : [] ≡ x ∷ rest = sym are ∙ is in cc)
+first_dealt {A} f name (suc n) {items} {rest} {x} are is =
+    let all : x ∷ rest ≡ f name ∷ dealt f (suc name) n = sym is ∙ are in
+    let up : suc name ≡ name + 1 = omega arith in
+    let down : n ≡ suc n - 1 = omega arith in
+    record {
+      some = omega arith;
+      first = cc;
+      others = (let r : rest ≡ dealt f (suc name) n = cc in r ∙ (ap (λ k. dealt f k n) up ∙ ap (dealt f (name + 1)) down));
+    }

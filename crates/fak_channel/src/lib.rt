@@ -16,6 +16,7 @@
 
 mod acquiring;
 mod announcing;
+mod beginning;
 mod channel;
 mod closing;
 mod dealing;
@@ -28,6 +29,7 @@ mod opening;
 mod parking;
 mod permit_opening;
 mod permit_seat;
+mod permit_steps;
 mod permits;
 mod receiving;
 mod releasing;
@@ -36,7 +38,17 @@ mod sending;
 mod shelf;
 mod sleeper;
 mod spending;
+mod standing;
+mod step_looking;
+mod step_permits;
+mod step_queue;
+mod step_releasing;
+mod step_seat;
+mod step_seeking;
+mod step_trying;
+mod stepping;
 mod taken;
+mod undealt;
 
 pub use channel::Channel;
 pub use end::End;
@@ -44,3 +56,7 @@ pub use fak_queue::{LARGE_SEATS, LARGE_SIZE, LARGE_TICKETS, LargeFault, Rest, Ta
 pub use fault::{ChannelWorn, ReceiveFault, SendFault};
 pub use lender::{Lender, Loan};
 pub use seat::ChannelSeat;
+pub use standing::{ChannelState, ChannelStep, Outcome, Wish};
+pub use step_seat::ChannelStepSeat;
+pub use stepping::STEPS_AT_ONCE;
+pub use undealt::UndealtSeats;

@@ -6,11 +6,13 @@ ghost use Rattle.fak_model.specs.Limits.{IsInLargeRange, IsLargeFault};
 ghost use Rattle.fak_queue.specs.Refusals.{IsLargeSize};
 ghost use Rattle.fak_channel.specs.Channels.{IsSeatOf, fresh_channel_seats};
 ghost use Rattle.fak_channel.specs.Permits.{fresh_permits};
+ghost use Rattle.fak_channel.specs.Undealt.{AreUndealt};
 
 use crate::channel::Channel;
 use crate::permit_opening::open_permits;
 use crate::permit_seat::PermitSeat;
 use crate::seat::ChannelSeat;
+use crate::undealt::UndealtSeats;
 use fak_model::LargeFault;
 use fak_queue::{Queue, Seat};
 use std::alloc::{AllocError, Global};
@@ -36,6 +38,31 @@ impl<T: Drop> Channel<T> {
             × (r.1.items ≡ fresh_channel_seats r.0 stint 0 ends)
             × All (λ s. IsSeatOf r.0 s) r.1.items) (IsLargeFault (IsLargeSize size) ends stint) }
     {
+        let (channel, undealt) = match Channel::open_undealt(alloc, size, ends, stint) {
+            Ok(opened) => opened,
+            Err(fault) => return Err(fault),
+        };
+        match channel.seats(alloc, ends, stint, undealt) {
+            Ok(seats) => Ok((channel, seats)),
+            Err(_) => Err(LargeFault::Memory),
+        }
+    }
+
+    /// As `open`, but with the seats still to be dealt, so that no list of them is made.
+    ///
+    /// # Errors
+    ///
+    /// As `open`.
+    pub fn open_undealt(
+        alloc: Global,
+        size: u64,
+        ends: u64,
+        stint: u64,
+    ) -> Result<(Channel<T>, UndealtSeats<T>), LargeFault>
+        ensures { MatchResult result (λ r. IsInLargeRange (IsLargeSize size) ends stint × (r.0.queue.size ≡ size)
+            × (r.0.queue.object.seats ≡ ends) × (r.0.items.start ≡ 0) × (r.0.cells.start ≡ size)
+            × AreUndealt r.0 stint 0 ends r.1) (IsLargeFault (IsLargeSize size) ends stint) }
+    {
         let (queue, queue_seats) = match Queue::open_large(alloc, size, ends, stint) {
             Ok(opened) => opened,
             Err(fault) => return Err(fault),
@@ -52,46 +79,50 @@ impl<T: Drop> Channel<T> {
             cells,
             size: size as i64,
         };
-        match channel.seats(alloc, ends, stint, queue_seats, item_seats, cell_seats) {
-            Ok(seats) => Ok((channel, seats)),
-            Err(_) => Err(LargeFault::Memory),
+        let undealt = channel.undealt(ends, stint, queue_seats, item_seats, cell_seats);
+        Ok((channel, undealt))
+    }
+
+    /// The seats whose parts these are.
+    fn undealt(
+        &self,
+        _ends: u64,
+        _stint: u64,
+        queues: Vec<Seat<T>>,
+        items: Vec<PermitSeat>,
+        cells: Vec<PermitSeat>,
+    ) -> UndealtSeats<T>
+        requires queues { queues.items ≡ fresh_seats self.now.queue.object _stint 0 _ends }
+        requires items { items.items ≡ fresh_permits self.now.items _stint 0 _ends }
+        requires cells { cells.items ≡ fresh_permits self.now.cells _stint 0 _ends }
+        ensures { AreUndealt self.now _stint 0 _ends result }
+    {
+        UndealtSeats {
+            queues: queues.into_iter(),
+            items: items.into_iter(),
+            cells: cells.into_iter(),
         }
     }
 
-    /// A seat for each seat of the queue, with the seats of permits that have its name.
+    /// The seats, in a list.
     fn seats(
         &self,
         alloc: Global,
         ends: u64,
         stint: u64,
-        queue_seats: Vec<Seat<T>>,
-        item_seats: Vec<PermitSeat>,
-        cell_seats: Vec<PermitSeat>,
+        undealt: UndealtSeats<T>,
     ) -> Result<Vec<ChannelSeat<T>>, AllocError>
-        requires queue { queue_seats.items ≡ fresh_seats self.now.queue.object stint 0 ends }
-        requires items { item_seats.items ≡ fresh_permits self.now.items stint 0 ends }
-        requires cells { cell_seats.items ≡ fresh_permits self.now.cells stint 0 ends }
+        requires { AreUndealt self.now stint 0 ends undealt }
         ensures { IfOk result (λ r. r.items ≡ fresh_channel_seats self.now stint 0 ends) }
     {
+        let _stint = stint;
+        let mut rest = undealt;
         let mut seats = Vec::with_capacity(alloc, ends as usize)?;
-        let mut queues = queue_seats.into_iter();
-        let mut items = item_seats.into_iter();
-        let mut cells = cell_seats.into_iter();
         for _name in 0..ends {
-            let Some(queue) = queues.next() else {
-                unreachable!()
-            };
-            let Some(items) = items.next() else {
-                unreachable!()
-            };
-            let Some(cells) = cells.next() else {
-                unreachable!()
-            };
-            seats.push(ChannelSeat {
-                queue,
-                items,
-                cells,
-            })?;
+            match rest.next() {
+                Some(seat) => seats.push(seat)?,
+                None => unreachable!(),
+            }
         }
         Ok(seats)
     }

@@ -40,18 +40,31 @@ impl Permits {
         }
     }
 
-    /// Wakes the thread of this sleeper: false where it had given up, and there may be another up. Where there may be none, the
-    /// permit stays with a thread that had given up, until its next call.
+    /// Gives a permit to this sleeper, and wakes its thread: false where it had given up, and there may be another up.
     fn wakes(&self, number: u64, may_go_on: bool) -> bool
+        ensures { result ≡ false → may_go_on ≡ true }
+    {
+        if !self.marks(number, may_go_on) {
+            return false;
+        }
+        if let Some(sleeper) = self.sleepers.get(number as usize) {
+            sleeper.wake();
+        }
+        true
+    }
+
+    /// Gives a permit to this sleeper: false where its thread had given up, and there may be another up. Where there may be none, the
+    /// permit stays with a thread that had given up, until its next call.
+    pub(crate) fn marks(&self, number: u64, may_go_on: bool) -> bool
         ensures { result ≡ false → may_go_on ≡ true }
     {
         let Some(sleeper) = self.sleepers.get(number as usize) else {
             return true;
         };
         if may_go_on {
-            return sleeper.wake();
+            return sleeper.mark();
         }
-        sleeper.keep_or_wake();
+        sleeper.keep();
         true
     }
 }

@@ -43,7 +43,8 @@ impl Sleeper {
         self.word.store(WAITS, Ordering::SeqCst);
     }
 
-    fn is_woken(&self) -> bool {
+    /// Whether a permit was given to it.
+    pub(crate) fn is_woken(&self) -> bool {
         self.word.load(Ordering::SeqCst) & WOKEN != 0
     }
 
@@ -90,18 +91,18 @@ impl Sleeper {
         }
     }
 
-    /// Wakes the thread; false where it had given up, so that the permit is to go to another.
-    pub(crate) fn wake(&self) -> bool {
-        if self.word.fetch_or(WOKEN, Ordering::SeqCst) & GAVE_UP != 0 {
-            return false;
-        }
-        self.word.wake_one();
-        true
+    /// Gives it a permit; false where the thread had given up, so that the permit is to go to another.
+    pub(crate) fn mark(&self) -> bool {
+        self.word.fetch_or(WOKEN, Ordering::SeqCst) & GAVE_UP == 0
     }
 
-    /// Wakes the thread, or keeps the permit for the next call of a thread that had given up.
-    pub(crate) fn keep_or_wake(&self) {
+    /// Gives it a permit, which it keeps for the next call of a thread that had given up.
+    pub(crate) fn keep(&self) {
         self.word.store(WOKEN, Ordering::SeqCst);
+    }
+
+    /// Wakes the thread.
+    pub(crate) fn wake(&self) {
         self.word.wake_one();
     }
 }

@@ -4,6 +4,8 @@
 
 #[cfg(test)]
 mod assertions;
+#[cfg(test)]
+mod by_steps;
 mod callers;
 #[cfg(test)]
 mod lenders;
@@ -17,6 +19,8 @@ mod prints;
 mod rows;
 #[cfg(test)]
 mod sleeping;
+#[cfg(test)]
+mod stepper;
 #[cfg(test)]
 mod steps;
 #[cfg(test)]

@@ -1,0 +1,155 @@
+//! Permits that are acquired and released by steps, none of which waits.
+
+ghost use Rattle.std.specs.Prelude.{◌≡◌, true, false};
+ghost use Rattle.fak_queue.specs.Queues.{size_of};
+ghost use Rattle.fak_sem.specs.Standings.{IsParking, IsWaking};
+ghost use Rattle.fak_sem.specs.Steps.{StandsAfter, StandsOwing};
+ghost use Rattle.fak_channel.specs.Permits.{Releases};
+ghost use Rattle.fak_channel.specs.StepPermits.{HasOne, HasTwo, IsFree, RousesAs, SeeksAs, WakesUpIf};
+
+use crate::permits::Permits;
+use crate::sleeper::{Revived, Sleeper};
+use crate::step_permits::StepPermitSeat;
+
+/// What a step that seeks a permit finds.
+pub(crate) enum Sought {
+    /// The seat has a permit.
+    Has,
+    /// There was none: the sleeper is to be parked.
+    Parks,
+    /// The sleeper is in the wait queue.
+    Sleeps,
+    /// The sleeper was taken out, and its permit went to another thread: the seat seeks again.
+    Again,
+}
+
+/// What a step does that owes a wake.
+pub(crate) enum Roused {
+    /// It owes it still.
+    NotYet,
+    /// It met a thread that had given up: another up is to be made.
+    Again,
+    /// The thread of this sleeper is to be woken.
+    Wakes(u64),
+}
+
+impl Permits {
+    /// The seat's own sleeper.
+    fn sleeper_of(&self, seat: &StepPermitSeat) -> &Sleeper
+        requires { seat.now.permit.object ≡ self.now }
+    {
+        &self.sleepers[seat.number as usize]
+    }
+
+    /// Seeks a permit.
+    pub(crate) fn seek(&self, seat: &mut StepPermitSeat) -> Sought
+        requires object { seat.old.permit.object ≡ self.now }
+        requires free { IsFree seat.old }
+        requires left { HasTwo seat.old }
+        ensures object { seat.new.permit.object ≡ seat.old.permit.object }
+        ensures seeks { SeeksAs seat.old seat.new result }
+    {
+        if !seat.is_parked {
+            return self.begin_down(seat);
+        }
+        match self.sleeper_of(seat).revive() {
+            Revived::Waits => Sought::Sleeps,
+            Revived::Woken => {
+                seat.is_parked = false;
+                Sought::Has
+            }
+            Revived::Skipped => {
+                seat.is_parked = false;
+                Sought::Again
+            }
+        }
+    }
+
+    /// Begins a down of a seat whose sleeper is not parked.
+    fn begin_down(&self, seat: &mut StepPermitSeat) -> Sought
+        requires object { seat.old.permit.object ≡ self.now }
+        requires free { IsFree seat.old }
+        requires fresh { seat.old.permit.is_parked ≡ false }
+        requires left { HasTwo seat.old }
+        ensures object { seat.new.permit.object ≡ seat.old.permit.object }
+        ensures seeks { SeeksAs seat.old seat.new result }
+    {
+        match self.count.claim_down(&mut seat.count, seat.number) {
+            Ok(Some(_)) => Sought::Has,
+            Ok(None) => {
+                self.sleepers[seat.number as usize].begin();
+                seat.is_parked = true;
+                Sought::Parks
+            }
+            Err(_) => unreachable!(),
+        }
+    }
+
+    /// One step more of a down that parks its sleeper. True where it is parked.
+    pub(crate) fn park(&self, seat: &mut StepPermitSeat) -> bool
+        requires object { seat.old.permit.object ≡ self.now }
+        requires parking { IsParking seat.old.count.standing }
+        ensures permit { seat.new.permit ≡ seat.old.permit }
+        ensures stands { StandsAfter seat.new.count.standing result }
+    {
+        self.count.try_park(&mut seat.count)
+    }
+
+    /// Whether a thread has woken the sleeper of this seat, which waits. The seat has a permit then.
+    pub(crate) fn finds_wake(&self, seat: &mut StepPermitSeat) -> bool
+        requires object { seat.old.permit.object ≡ self.now }
+        ensures { WakesUpIf result seat.old seat.new }
+    {
+        let is_woken = self.sleeper_of(seat).is_woken();
+        if is_woken {
+            seat.is_parked = false;
+        }
+        is_woken
+    }
+
+    /// Gives up a down whose sleeper is parked. True where a thread had woken the sleeper before: the seat has a permit then.
+    pub(crate) fn gives_up(&self, seat: &mut StepPermitSeat) -> bool
+        requires object { seat.old.permit.object ≡ self.now }
+        ensures { WakesUpIf result seat.old seat.new }
+    {
+        let is_woken = self.sleeper_of(seat).give_up();
+        if is_woken {
+            seat.is_parked = false;
+        }
+        is_woken
+    }
+
+    /// Begins an up, which releases a permit. True where it owes a wake.
+    pub(crate) fn begin_up(&self, seat: &mut StepPermitSeat) -> bool
+        requires object { seat.old.permit.object ≡ self.now }
+        requires free { IsFree seat.old }
+        requires left { HasOne seat.old }
+        ensures releases { Releases seat.old.permit seat.new.permit }
+        ensures stands { StandsOwing seat.new.count.standing result }
+    {
+        match self.count.claim_up(&mut seat.count) {
+            Ok(owes) => owes,
+            Err(_) => unreachable!(),
+        }
+    }
+
+    /// One step more of an up that owes a wake.
+    pub(crate) fn rouse(&self, seat: &mut StepPermitSeat) -> Roused
+        requires object { seat.old.permit.object ≡ self.now }
+        requires waking { IsWaking seat.old.count.standing }
+        ensures permit { seat.new.permit ≡ seat.old.permit }
+        ensures rouses { RousesAs (size_of self.now.queue) seat.old seat.new result }
+    {
+        match self.count.try_wake(&mut seat.count) {
+            None => Roused::NotYet,
+            Some(number) => {
+                let may_go_on = seat.left() > 0;
+                if self.marks(number, may_go_on) {
+                    Roused::Wakes(number)
+                } else {
+                    Roused::Again
+                }
+            }
+        }
+    }
+}

@@ -1,0 +1,35 @@
+//! The seats of a channel that are still to be dealt.
+
+ghost use Rattle.std.specs.Prelude.{◌≡◌, ℕ};
+ghost use Rattle.fak_channel.specs.declared.channel.Channel.{Channel};
+ghost use Rattle.fak_channel.specs.Undealt.{AreUndealt, DealsNext};
+
+use crate::permit_seat::PermitSeat;
+use crate::seat::ChannelSeat;
+use fak_queue::Seat;
+use std::vec::IntoIter;
+
+/// The seats of a channel that are still to be dealt, in the order of their numbers.
+#[derive(Drop)]
+pub struct UndealtSeats<T> {
+    pub(crate) queues: IntoIter<Seat<T>>,
+    pub(crate) items: IntoIter<PermitSeat>,
+    pub(crate) cells: IntoIter<PermitSeat>,
+}
+
+impl<T: Drop> UndealtSeats<T> {
+    /// The next seat; `None` once all are dealt.
+    pub fn next(&mut self) -> Option<ChannelSeat<T>>
+        ensures { (c : Channel T) (stint name left : ℕ) → AreUndealt c stint name left self.old
+            → DealsNext c stint name left self.new result }
+    {
+        let queue = self.queues.next()?;
+        let items = self.items.next()?;
+        let cells = self.cells.next()?;
+        Some(ChannelSeat {
+            queue,
+            items,
+            cells,
+        })
+    }
+}
