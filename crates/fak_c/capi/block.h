@@ -18,9 +18,11 @@
 extern "C" {
 #endif
 
-/* How many bytes a block needs for one object with n seats: a queue, or a semaphore, with `size` cells; a room or a credit; a file
- * table. Align the block to 16. The test of block.c opens each at these sizes. */
+/* How many bytes a block needs for one object with n seats: a queue, or a semaphore, with `size` cells; a queue that has m bundles
+ * of `width` seats each besides; a room or a credit; a file table. Align the block to 16. The test of block.c opens each at these sizes. */
 #define FAK_C_QUEUE_BYTES(n, size) (1920 + 432 * (size_t)(n) + 48 * (size_t)(size))
+#define FAK_C_BUNDLES_BYTES(n, m, width, size) \
+    (1792 + 496 * (size_t)(n) + 832 * (size_t)(m) + 208 * (size_t)(m) * (size_t)(width) + 48 * (size_t)(size))
 #define FAK_C_SEM_BYTES(n, size) (2368 + 608 * (size_t)(n) + 48 * (size_t)(size))
 #define FAK_C_COUNT_BYTES(n) (512 + 360 * (size_t)(n))
 #define FAK_C_FILES_BYTES(n) (1088 + 360 * (size_t)(n))

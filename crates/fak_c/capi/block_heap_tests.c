@@ -13,7 +13,7 @@ typedef struct {
     unsigned long rounds;
     fak_c_seat inside[KINDS][SEATS];
     fak_c_seat outside[KINDS][SEATS];
-    _Alignas(16) unsigned char block[16384];
+    _Alignas(16) unsigned char block[65536];
 } opener;
 
 static opener openers[THREADS];

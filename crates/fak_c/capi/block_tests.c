@@ -67,6 +67,51 @@ static size_t each_size_is_opened(void) {
     return most;
 }
 
+/* ---- Bundles ---- */
+
+enum { MOST_BUNDLES = 8 };
+
+static fak_c_seat bundles[MOST_BUNDLES];
+
+/* Opens n seats and m bundles within this number of bytes; `used` is how many of them. */
+static int32_t bundles_within(size_t n, size_t m, uint64_t width, uint64_t size, size_t bytes, size_t *used) {
+    int32_t code;
+    fak_c_block_begin(memory, bytes);
+    code = fak_c_open_bundles(seats, n, bundles, m, width, size, 1000);
+    *used = fak_c_block_end();
+    CHECK(*used <= bytes);
+    return code;
+}
+
+static void all_bundles_leave(size_t n, size_t m) {
+    for (size_t i = 0; i < m; i++) {
+        CHECK(!fak_c_block_is_free(memory));
+        CHECK(fak_c_leave(&bundles[i]) == FAK_C_OK);
+    }
+    if (n > 0)
+        all_leave(n);
+    CHECK(fak_c_block_is_free(memory));
+}
+
+/* Opens bundles of many widths at the size that block.h says. Less than what they used is refused, and leaves nothing in use. */
+static void each_width_is_opened(void) {
+    static const size_t numbers[] = {0, 1, 3}, bundle_numbers[] = {1, 2, MOST_BUNDLES};
+    static const uint64_t widths[] = {1, 2, 7, 16, 64}, sizes[] = {1, 64, 1000};
+    size_t used = 0, again = 0;
+    for (size_t at = 0; at < 3 * 3 * 5 * 3; at++) {
+        size_t n = numbers[at % 3], m = bundle_numbers[at / 3 % 3], bytes;
+        uint64_t width = widths[at / 9 % 5], size = sizes[at / 45];
+        bytes = FAK_C_BUNDLES_BYTES(n, m, width, size);
+        CHECK(bytes <= sizeof memory && bundles_within(n, m, width, size, bytes, &used) == FAK_C_OK);
+        all_bundles_leave(n, m);
+        CHECK(bundles_within(n, m, width, size, used, &again) == FAK_C_OK && again == used);
+        all_bundles_leave(n, m);
+        for (bytes = 64; bytes < used; bytes += used / 50 + 1)
+            CHECK(bundles_within(n, m, width, size, bytes, &again) == FAK_C_MEMORY && fak_c_block_is_free(memory));
+        CHECK(bundles_within(n, m, width, size, used - 1, &again) == FAK_C_MEMORY && fak_c_block_is_free(memory));
+    }
+}
+
 /* ---- Parts: what the library asks for ---- */
 
 struct answer {
@@ -198,6 +243,7 @@ static void each_part_is_counted_once(void (*take)(void), void *(*give)(void *),
 int main(void) {
     CHECK(opened(QUEUE, seats, 1, 1, 1000) == FAK_C_MEMORY);
     printf("the largest object took %zu bytes\n", each_size_is_opened());
+    each_width_is_opened();
     parts_are_disjoint();
     for (int round = 0; round < ROUNDS; round++) {
         each_part_is_counted_once(open_one_by_one, leave_half, leave_the_first_seats);

@@ -5,7 +5,7 @@
 #include <stdlib.h>
 #include <time.h>
 
-enum { SEATS = 1, RUNS = 200, TURNS = 20000, OPENINGS = 20 };
+enum { SEATS = 1, WIDTH = 8, RUNS = 200, TURNS = 20000, OPENINGS = 20 };
 
 static fak_c_seat seats[LARGE_SEATS];
 
@@ -24,6 +24,12 @@ static void claim_and_try(void) {
 static void insert_and_delete(void) {
     uint64_t ticket = 0, item = 0;
     CHECK(fak_c_insert(seats, 1, &ticket) == FAK_C_OK && fak_c_delete(seats, &ticket, &item) == FAK_C_OK);
+}
+
+static void burst_and_burst(void) {
+    uint64_t items[WIDTH] = {0}, ticket = 0, count = 0, taken = 0;
+    CHECK(fak_c_insert_burst(seats, items, WIDTH, &ticket, &count) == FAK_C_OK && count == WIDTH);
+    CHECK(fak_c_delete_burst(seats, items, WIDTH, &ticket, &count, &taken) == FAK_C_OK && taken == WIDTH);
 }
 
 static void pass_and_raise(void) {
@@ -91,8 +97,10 @@ static void measure_opening(const char *name, size_t n, uint64_t size) {
 }
 
 int main(void) {
+    fak_c_seat none = {0};
     measure("claim_insert, try_fill, claim_delete, try_take", fak_c_open(seats, SEATS, 1024, LONG_STINT), claim_and_try);
     measure("insert, delete", fak_c_open(seats, SEATS, 1024, LONG_STINT), insert_and_delete);
+    measure("insert_burst, delete_burst of 8 items", fak_c_open_bundles(&none, 0, seats, SEATS, WIDTH, 1024, LONG_STINT), burst_and_burst);
     measure("a down that passes, an up that wakes no item", fak_c_sem_open(seats, SEATS, 1, 64, LONG_STINT), pass_and_raise);
     measure("a down that parks, an up that wakes", fak_c_sem_open(seats, SEATS, 0, 64, LONG_STINT), park_and_wake);
     measure("room_tir, room_release", fak_c_room_open(seats, SEATS, 8, LONG_STINT), claim_and_release);

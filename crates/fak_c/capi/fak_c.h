@@ -46,10 +46,10 @@
  * rattle_dealloc, of the toolchain's liblibc_c.a over malloc, realloc and free, or of block.c over memory of your own; the
  * first archive also memcpy and memset.
  *
- * What the calls take. Stack: below 256 bytes; below 1,536 in fak_c_leave; below 6,144 in a call that opens. Heap: what "Sizes"
- * below says, and more while an object is opened (block.h). Time: to open a queue of 64 cells with 64 seats, and to leave it with all,
- * took 35 microseconds on memory that nobody had touched, and 5 on memory from before; with 1,024 of each, 400 and 200. So open an
- * object once, and not for each job. */
+ * What the calls take, except those of a channel (fak_channel.h). Stack: below 256 bytes; below 768 in a burst; below 4,608 in
+ * fak_c_leave; below 6,144 in a call that opens. Heap: what "Sizes" below says, and more while an object is opened (block.h). Time: to
+ * open a queue of 64 cells with 64 seats, and to leave it with all, took 35 microseconds on memory that nobody had touched, and 5 on
+ * memory from before; with 1,024 of each, 400 and 200. So open an object once, and not for each job. */
 #ifndef FAK_C_H
 #define FAK_C_H
 
@@ -99,7 +99,9 @@ enum {
     FAK_C_MEMORY = 9,      /* there was no memory */
     FAK_C_PARKS = 10,      /* the down parks its item: fak_c_sem_try_park is next */
     FAK_C_WAKES = 11,      /* the up owes a wake: fak_c_sem_try_wake is next */
-    FAK_C_BUSY = 12        /* others hold the file table, or try to */
+    FAK_C_BUSY = 12,       /* others hold the file table, or try to; or all ends of a shared channel are lent */
+    FAK_C_SLEEPS = 13,     /* the call of a channel's end stays open, and sleeps (fak_channel.h) */
+    FAK_C_GAVE_UP = 14     /* the call of a channel's end was given up */
 };
 
 /* ---- Limits ----
@@ -120,12 +122,18 @@ enum {
 #define FAK_C_IS_START(start) ((start) <= FAK_C_MOST_START)
 #define FAK_C_IS_ENTRIES(entries) ((entries) >= 1 && (entries) <= FAK_C_MOST_ENTRIES)
 #define FAK_C_IS_AMOUNT(amount) ((amount) >= 1 && (amount) <= FAK_C_MOST_AMOUNT)
+/* n seats and m bundles of `width` seats each; their stint is one that FAK_C_IS_STINT(n + m * width, stint) allows. */
+#define FAK_C_IS_BUNDLES(n, m, width) \
+    ((n) <= FAK_C_MOST_SEATS && (m) >= 1 && (width) >= 1 && (width) <= (FAK_C_MOST_SEATS - (n)) / (m))
 
 /* ---- Sizes ----
  *
  * The bytes that an object with n seats keeps of the heap: 280 a seat, and beside them what its kind takes. The size is the cells of a
  * queue, or of the wait queue of a semaphore. block.h has the bytes that each takes while it opens, in memory of your own. */
 #define FAK_C_QUEUE_KEEPS(n, size) (856 + 280 * (size_t)(n) + 24 * (size_t)(size))
+/* A queue with n seats and m bundles of `width` seats each. A bundle takes 368 bytes beside those of a seat, and 32 for each of its own. */
+#define FAK_C_BUNDLES_KEEPS(n, m, width, size) \
+    (FAK_C_QUEUE_KEEPS((size_t)(n) + (size_t)(m), size) + (size_t)(m) * (368 + 32 * (size_t)(width)))
 #define FAK_C_SEM_KEEPS(n, size) (1184 + 280 * (size_t)(n) + 24 * (size_t)(size))
 #define FAK_C_ROOM_KEEPS(n) (344 + 280 * (size_t)(n))
 #define FAK_C_CREDIT_KEEPS(n) (336 + 280 * (size_t)(n))
@@ -166,7 +174,8 @@ int32_t fak_c_move(fak_c_seat *seat, fak_c_seat *to);
  * thread. So a thread that tries, announces that it will sleep, tries once more and sleeps may sleep beside an item forever: the
  * insertion that would wake it is over. The same holds for FAK_C_FULL, of a queue and of a room, and for FAK_C_BUSY. refusals.c counts
  * how often it happens: beside one thread that polled, up to 60 of 100,000 deletions were refused beside their item, and none in other
- * runs. There are two right ways:
+ * runs. There are three right ways:
+ * - Take the channel of fak_channel.h, whose threads sleep.
  * - Spin or yield, and try again.
  * - Sleep on a semaphore that counts the items: an up after each insertion, a down before each deletion. What it parks are the threads,
  *   so an up hands out the thread to wake. A thread whose down has passed, or that was woken, is owed an item: it tries again until
@@ -267,6 +276,74 @@ int32_t fak_c_state(fak_c_seat *seat, uint32_t *state, uint64_t *ticket, uint64_
 int32_t fak_c_count(fak_c_seat *seat, int64_t *items);
 int32_t fak_c_in_use(fak_c_seat *seat, int64_t *cells, bool *is_shut);
 int32_t fak_c_drained(fak_c_seat *seat, bool *is_drained);
+
+/* ---- Bursts: several insertions or deletions by one claim ----
+ *
+ * A bundle is a handle that owns several seats of one queue, which call together. A burst inserts or deletes several items by one claim.
+ * A single insertion or deletion that does not wait makes 6 atomic steps. A burst makes 4, and 2 for each item. Use bursts if a thread
+ * has several items at a time, as a processor that fills or drains a cache of pages, packets or buffers.
+ *
+ * - A burst claims what it finds: as many of its items as there is room for, or as many items as there are, but at most one for each seat
+ *   of the bundle. The call writes how many these are. Of an insertion the first items are taken. The others stay with the caller.
+ * - The tickets of a burst are consecutive, in the order of its items. Insertions of others come before all of it or after all of it.
+ * - In all else a burst is not atomic. Others may take its first items out while its last ones are not yet filled.
+ * - Items that a burst has filled can be taken out, at the latest, once it is done or has returned FAK_C_NOT_YET. Cells that it has
+ *   emptied have room again at the same time.
+ * - A burst fills and empties its cells in the order of its tickets. At a cell whose turn has not come it stays open, with the rest
+ *   of its items. Until it is done, others wait for these items and cells, as they do for a claim of a single call.
+ * - A burst that claims more than there is takes the rest back by a second step. Between the two it hides as many items, or cells, from
+ *   others. They are refused, or find fewer than there are. So never sleep on a refusal here either.
+ * - Each thread or processor has a bundle of its own. For handlers a bundle is as a seat: one that has its own must not try again until
+ *   FAK_C_OK. Or interrupts are off from each claim until the burst is done.
+ * - For ThreadSanitizer, FAK_C_GIVES of each item comes before the call that inserts it. FAK_C_GETS comes after the call that took it out.
+ *
+ * fak_c_leave and fak_c_move take bundles as they take seats. All other calls of a queue return FAK_C_NO_SEAT for a bundle, and the calls
+ * below return it for a seat. So open one seat besides to shut the queue, or to count what is in it. */
+
+/* Opens an empty queue of `size` cells (1 to 2^24) with n seats for single calls and m bundles of `width` seats each. n may be 0, and then
+ * `seats` is not read, and not null all the same. m and `width` are at least 1, and n + m * width is at most 1,024. A seat may make
+ * `stint` calls, and a bundle width * stint, which its seats share. (n + m * width) * stint is at most 2^50.
+ *
+ * FAK_C_OK, FAK_C_BAD_LIMIT or FAK_C_MEMORY. If n, m or `width` is out of range, no handle is read or cleared. If another code than
+ * FAK_C_OK is returned for numbers in range, all n + m handles are empty. */
+int32_t fak_c_open_bundles(fak_c_seat *seats, size_t n, fak_c_seat *bundles, size_t m, uint64_t width, uint64_t size, uint64_t stint);
+
+/* Claims room for the first of n items: as many as find it, at most the seats of the bundle, and at most the tickets that are left. Then
+ * fills the cells whose turn has come, in the order of the tickets. Writes the first ticket and how many were claimed: items[0] to
+ * items[count - 1] are taken. n must be at least 1, and the bundle idle.
+ *
+ * FAK_C_OK; FAK_C_NOT_YET if the bundle keeps the rest of the items for fak_c_try_fill_burst, and both numbers are written; FAK_C_WORN,
+ * FAK_C_CLOSED or FAK_C_FULL, the first of them that applies, and no item is taken; FAK_C_BAD_LIMIT if n is 0; FAK_C_NO_SEAT or
+ * FAK_C_WRONG_STATE; FAK_C_MEMORY if there is no room for the items on their way, and no item is taken. The opening makes that room, and
+ * no burst allocates. */
+int32_t fak_c_insert_burst(fak_c_seat *bundle, const uint64_t *items, size_t n, uint64_t *ticket, uint64_t *count);
+
+/* Goes on with a burst of insertions: fills the cells whose turn has come. Writes how many items the bundle still keeps. It must be
+ * inserting, and is idle after FAK_C_OK.
+ *
+ * FAK_C_OK if all are filled, and 0 is written; FAK_C_NOT_YET; FAK_C_NO_SEAT or FAK_C_WRONG_STATE. */
+int32_t fak_c_try_fill_burst(fak_c_seat *bundle, uint64_t *left);
+
+/* Claims the oldest items: at most n, the seats of the bundle, and the tickets that are left. Then takes out those whose turn has come, in
+ * the order of the tickets. Writes the first ticket, how many were claimed, and how many were taken out, to items[0] to items[taken - 1].
+ * The others of the n items are not written; all of them must be initialised. n must be at least 1, and the bundle idle.
+ *
+ * FAK_C_OK if all that were claimed were taken out; FAK_C_NOT_YET if fak_c_try_take_burst is next, and all three numbers are written;
+ * FAK_C_WORN or FAK_C_EMPTY, the first of them that applies; FAK_C_BAD_LIMIT if n is 0; FAK_C_NO_SEAT or FAK_C_WRONG_STATE. */
+int32_t fak_c_delete_burst(fak_c_seat *bundle, uint64_t *items, size_t n, uint64_t *ticket, uint64_t *count, uint64_t *taken);
+
+/* Goes on with a burst of deletions: takes out further items whose turn has come. Writes how many it took out, to items[0] to
+ * items[taken - 1], and how many are still claimed. n must be at least as many as were still claimed before, and the n items initialised.
+ * The bundle must be deleting, and is idle after FAK_C_OK.
+ *
+ * FAK_C_OK if none is left; FAK_C_NOT_YET; FAK_C_NO_SEAT or FAK_C_WRONG_STATE; FAK_C_BAD_LIMIT if n is less. Then it takes nothing out. */
+int32_t fak_c_try_take_burst(fak_c_seat *bundle, uint64_t *items, size_t n, uint64_t *taken, uint64_t *left);
+
+/* Writes the state of the bundle (FAK_C_IDLE, FAK_C_INSERTING or FAK_C_DELETING), how many seats it has, and how many tickets are left.
+ * Unless it is idle, also the first ticket of its burst that has not ended, and how many have not. Changes nothing.
+ *
+ * FAK_C_OK or FAK_C_NO_SEAT. */
+int32_t fak_c_bundle_state(fak_c_seat *bundle, uint32_t *state, uint64_t *ticket, uint64_t *open, uint64_t *width, uint64_t *left);
 
 /* ---- Semaphores: a count, and a queue of the items that wait ----
  *

@@ -35,7 +35,9 @@ enum class Code : std::int32_t {
     Memory = FAK_C_MEMORY,
     Parks = FAK_C_PARKS,
     Wakes = FAK_C_WAKES,
-    Busy = FAK_C_BUSY
+    Busy = FAK_C_BUSY,
+    Sleeps = FAK_C_SLEEPS,
+    GaveUp = FAK_C_GAVE_UP
 };
 
 /* The meaning of a code, in a few words. */
@@ -67,6 +69,10 @@ constexpr const char *text_of(Code code) noexcept {
         return "the up owes a wake";
     case Code::Busy:
         return "others hold the file table";
+    case Code::Sleeps:
+        return "the call sleeps";
+    case Code::GaveUp:
+        return "the call was given up";
     }
     return "no code";
 }
@@ -138,13 +144,22 @@ public:
 protected:
     /* Opens an object over these handles, which all have to be empty, else WrongState. */
     template <class Seats, class Open> static Code open_all(Seats &seats, Open open) noexcept {
+        return are_empty(seats) ? Code{open(handles_of(seats), std::size(seats))} : Code::WrongState;
+    }
+
+    template <class Seats> static bool are_empty(const Seats &seats) noexcept {
+        for (const auto &one : seats)
+            if (one)
+                return false;
+        return true;
+    }
+
+    /* An array of seats as C sees it. */
+    template <class Seats> static fak_c_seat *handles_of(Seats &seats) noexcept {
         auto *first = std::data(seats);
         using Seat = std::remove_pointer_t<decltype(first)>;
         static_assert(sizeof(Seat) == sizeof(fak_c_seat) && std::is_standard_layout_v<Seat>, "an array of seats is one of handles");
-        for (std::size_t i = 0; i < std::size(seats); i++)
-            if (first[i])
-                return Code::WrongState;
-        return Code{open(reinterpret_cast<fak_c_seat *>(first), std::size(seats))};
+        return reinterpret_cast<fak_c_seat *>(first);
     }
 
     fak_c_seat seat{};
@@ -260,6 +275,120 @@ public:
 private:
     static T taken(Code code, std::uint64_t word) noexcept {
         return code == Code::Ok ? details::gets(details::item_of<T>(word)) : T{};
+    }
+};
+
+/* A bundle: several seats of one queue, which insert and delete together by bursts. At most `most` items go in one burst, since a call
+ * keeps their words on its stack: 8 bytes each. */
+template <class T, std::size_t most = 64> class Bundle : public Handle {
+public:
+    using State = typename QueueSeat<T>::State;
+
+    /* The state, the first ticket of the burst that has not ended and how many have not, the seats of the bundle, and the tickets that
+     * are left. */
+    struct Standing {
+        State state;
+        std::uint64_t ticket;
+        std::uint64_t open;
+        std::uint64_t width;
+        std::uint64_t left;
+    };
+
+    /* The items that were claimed have `count` tickets from the first on. */
+    struct Burst {
+        std::uint64_t ticket;
+        std::size_t count;
+    };
+
+    /* The same, and how many were taken out. */
+    struct TakenBurst {
+        std::uint64_t ticket;
+        std::size_t count;
+        std::size_t taken;
+    };
+
+    /* How many were taken out now, and how many are still claimed. */
+    struct Rest {
+        std::size_t taken;
+        std::size_t left;
+    };
+
+    /* Opens a queue of `size` cells with a seat for each handle of the first array and a bundle of `width` seats for each of the second. */
+    template <class Seats, class Bundles>
+    static Code open(Seats &seats, Bundles &bundles, std::uint64_t width, std::uint64_t size, std::uint64_t stint) noexcept {
+        if (!are_empty(seats) || !are_empty(bundles))
+            return Code::WrongState;
+        return Code{fak_c_open_bundles(handles_of(seats), std::size(seats), handles_of(bundles), std::size(bundles), width, size, stint)};
+    }
+
+    /* The same with bundles only. */
+    template <class Bundles>
+    static Code open(Bundles &bundles, std::uint64_t width, std::uint64_t size, std::uint64_t stint) noexcept {
+        fak_c_seat none{};
+        return open_all(bundles, [&](fak_c_seat *first, std::size_t m) {
+            return fak_c_open_bundles(&none, 0, first, m, width, size, stint);
+        });
+    }
+
+    /* A claim for the first of n items, and the first tries. The burst is written if the answer is Ok or NotYet, and its items are taken
+     * then; after NotYet `try_put_burst` is next. Memory says that there is no room for the items on their way, which the opening made. */
+    Answer<Burst> put_burst(const T *items, std::size_t n) noexcept {
+        std::uint64_t words[most], ticket = 0, count = 0;
+        n = n < most ? n : most;
+        for (std::size_t i = 0; i < n; i++) {
+            details::gives(items[i]);
+            words[i] = details::word_of(items[i]);
+        }
+        Code code{fak_c_insert_burst(&seat, words, n, &ticket, &count)};
+        return {code, {ticket, static_cast<std::size_t>(count)}};
+    }
+
+    /* How many items are still kept. */
+    Answer<std::size_t> try_put_burst() noexcept {
+        std::uint64_t left = 0;
+        Code code{fak_c_try_fill_burst(&seat, &left)};
+        return {code, static_cast<std::size_t>(left)};
+    }
+
+    /* A claim of at most n items, and the first tries. The burst is written if the answer is Ok or NotYet, and those that were taken out
+     * to the first items; after NotYet `try_get_burst` is next. */
+    Answer<TakenBurst> get_burst(T *items, std::size_t n) noexcept {
+        std::uint64_t words[most], ticket = 0, count = 0, taken = 0;
+        n = prepare(words, n);
+        Code code{fak_c_delete_burst(&seat, words, n, &ticket, &count, &taken)};
+        write(items, words, taken);
+        return {code, {ticket, static_cast<std::size_t>(count), static_cast<std::size_t>(taken)}};
+    }
+
+    /* Takes out further items. There is a place for each that is still claimed, else BadLimit. */
+    Answer<Rest> try_get_burst(T *items, std::size_t n) noexcept {
+        std::uint64_t words[most], taken = 0, left = 0;
+        n = prepare(words, n);
+        Code code{fak_c_try_take_burst(&seat, words, n, &taken, &left)};
+        write(items, words, taken);
+        return {code, {static_cast<std::size_t>(taken), static_cast<std::size_t>(left)}};
+    }
+
+    Answer<Standing> state() noexcept {
+        std::uint32_t state = 0;
+        std::uint64_t ticket = 0, open = 0, width = 0, left = 0;
+        Code code{fak_c_bundle_state(&seat, &state, &ticket, &open, &width, &left)};
+        return {code, {State{state}, ticket, open, width, left}};
+    }
+
+private:
+    static_assert(most >= 1, "a burst has an item");
+
+    /* C writes words that are initialised. At most n of them, and no more than there are. */
+    static std::size_t prepare(std::uint64_t *words, std::size_t n) noexcept {
+        n = n < most ? n : most;
+        std::memset(words, 0, n * sizeof *words);
+        return n;
+    }
+
+    static void write(T *items, const std::uint64_t *words, std::uint64_t taken) noexcept {
+        for (std::uint64_t i = 0; i < taken; i++)
+            items[i] = details::gets(details::item_of<T>(words[i]));
     }
 };
 

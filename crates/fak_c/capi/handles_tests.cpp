@@ -164,6 +164,52 @@ static void queues_answer() {
     CHECK(seats[0].drained() && seats[0].drained().value && seats[0].in_use().value.is_shut && Queue().count().code == Code::NoSeat);
 }
 
+/* Bursts of each call's form, in part and by steps, and single calls among them. */
+static void bundles_answer() {
+    using Bundle = fak::Bundle<int, 4>;
+    Queue seats[2];
+    Bundle bundles[2];
+    int out[6] = {}, in[6] = {1, 2, 3, 4, 5, 6};
+    CHECK(Bundle::open(seats, bundles, 5, 0, 9) == Code::BadLimit && Bundle::open(seats, bundles, 5, 6, 9) == Code::Ok);
+    Bundle others[1];
+    CHECK(Bundle::open(seats, others, 5, 6, 9) == Code::WrongState && !others[0]);
+    CHECK(bundles[0].state().value.width == 5 && bundles[0].state().value.left == 45 && bundles[0].leave() == Code::Ok);
+    auto put = bundles[1].put_burst(in, 6);
+    CHECK(put && put.value.ticket == 0 && put.value.count == 4);
+    CHECK(seats[0].claim_put(5).value == 4 && seats[1].put(6).value == 5 && bundles[1].put_burst(in, 1).code == Code::Full);
+    auto got = bundles[1].get_burst(out, 3);
+    CHECK(got && got.value.ticket == 0 && got.value.count == 3 && got.value.taken == 3 && out[0] == 1 && out[2] == 3 && out[3] == 0);
+    got = bundles[1].get_burst(out, 6);
+    CHECK(got.code == Code::NotYet && got.value.ticket == 3 && got.value.count == 2 && got.value.taken == 1 && out[0] == 4 && out[1] == 2);
+    auto standing = bundles[1].state().value;
+    CHECK(standing.state == Bundle::State::Deleting && standing.ticket == 4 && standing.open == 1 && standing.left == 36);
+    Bundle moved = std::move(bundles[1]);
+    CHECK(!bundles[1] && moved.leave() == Code::WrongState && moved.try_put_burst().code == Code::WrongState);
+    CHECK(seats[0].try_put() == Code::Ok);
+    auto rest = moved.try_get_burst(out, 6);
+    CHECK(rest && rest.value.taken == 1 && rest.value.left == 0 && out[0] == 5 && moved.get_burst(out, 6).value.taken == 1);
+    CHECK(moved.get_burst(out, 6).code == Code::Empty && moved.get_burst(out, 0).code == Code::BadLimit);
+    CHECK(seats[0].shut() && moved.put_burst(in, 2).code == Code::Closed && bundles[0].put_burst(in, 1).code == Code::NoSeat);
+}
+
+/* An insertion that waits for a cell, and items of another type; bundles only. */
+static void a_burst_waits_for_a_cell() {
+    using Bundle = fak::Bundle<Point>;
+    std::vector<Bundle> bundles(3);
+    Point in[3] = {{1, -1}, {2, -2}, {3, -3}}, out[4] = {};
+    CHECK(Bundle::open(bundles, 3, 3, 9) == Code::Ok && bundles[0].put_burst(in, 3) && bundles[1].put_burst(in, 1).code == Code::Full);
+    fak::QueueSeat<Point> seats[1];
+    CHECK(Bundle::open(seats, bundles, 3, 3, 9) == Code::WrongState);
+    bundles.clear();
+    bundles.resize(2);
+    CHECK(Bundle::open(seats, bundles, 3, 3, 9) == Code::Ok && bundles[0].put_burst(in, 3) && seats[0].claim_get());
+    CHECK(bundles[1].get_burst(out, 2).value.taken == 2 && out[1].x == 3 && out[1].y == -3);
+    auto put = bundles[0].put_burst(in, 3);
+    CHECK(put.code == Code::NotYet && put.value.ticket == 3 && put.value.count == 2 && bundles[0].try_put_burst().value == 2);
+    CHECK(seats[0].try_get().value.x == 1 && bundles[0].try_put_burst() && bundles[1].get_burst(out, 4).value.count == 2);
+    CHECK(out[0].x == 1 && out[1].x == 2 && bundles[0].state().value.state == Bundle::State::Idle);
+}
+
 static void semaphores_answer() {
     fak::SemSeat<Color> seats[2];
     CHECK(fak::SemSeat<Color>::open(seats, 1, 4, 9) == Code::Ok && seats[0].claim_down(Color::Red) == Code::Ok);
@@ -200,8 +246,8 @@ static void files_answer() {
 }
 
 static void codes_have_texts() {
-    for (std::int32_t a = FAK_C_OK; a <= FAK_C_BUSY; a++)
-        for (std::int32_t b = FAK_C_OK; b <= FAK_C_BUSY + 1; b++)
+    for (std::int32_t a = FAK_C_OK; a <= FAK_C_GAVE_UP; a++)
+        for (std::int32_t b = FAK_C_OK; b <= FAK_C_GAVE_UP + 1; b++)
             CHECK((std::string_view(fak::text_of(Code{a})) == fak::text_of(Code{b})) == (a == b));
 }
 
@@ -257,17 +303,58 @@ static void threads_share_a_queue(int items) {
     CHECK(taken[0] == items && taken[1] == items && seats[2].get().code == Code::Empty);
 }
 
+/* Points go by bursts from one thread to another, which gets each in its order. */
+static void threads_pass_bursts(int items) {
+    using Bundle = fak::Bundle<const Point *, 8>;
+    std::array<Bundle, 2> bundles;
+    std::vector<Point> points;
+    for (int item = 0; item < items; item++)
+        points.push_back({item, -item});
+    CHECK(Bundle::open(bundles, 8, 20, UINT64_C(1) << 40) == Code::Ok);
+    std::thread producer([&points, bundle = std::move(bundles[0])]() mutable {
+        for (std::size_t put = 0; put < points.size();) {
+            const Point *lot[8];
+            std::size_t n = 0;
+            for (; n < 1 + put % 8 && put + n < points.size(); n++)
+                lot[n] = &points[put + n];
+            auto burst = bundle.put_burst(lot, n);
+            for (Code code = burst.code; code == Code::NotYet; code = bundle.try_put_burst().code)
+                std::this_thread::yield();
+            put += burst.value.count;
+            if (burst.code == Code::Full)
+                std::this_thread::yield();
+        }
+    });
+    for (int taken = 0; taken < items;) {
+        const Point *lot[8];
+        auto burst = bundles[1].get_burst(lot, 8);
+        std::size_t count = burst.value.taken;
+        while (count < burst.value.count) {
+            std::this_thread::yield();
+            count += bundles[1].try_get_burst(lot + count, 8 - count).value.taken;
+        }
+        for (std::size_t i = 0; i < count; i++, taken++)
+            CHECK(lot[i]->x == taken && lot[i]->y == -taken);
+        if (count == 0)
+            std::this_thread::yield();
+    }
+    producer.join();
+}
+
 int main(int count, char **words) {
     items_have_types();
     handles_own_their_seats();
     a_vector_of_seats_is_opened();
     a_seat_moves_in_mid_call();
     queues_answer();
+    bundles_answer();
+    a_burst_waits_for_a_cell();
     semaphores_answer();
     counts_answer();
     files_answer();
     codes_have_texts();
     threads_share_a_queue(count > 1 ? std::atoi(words[1]) : 20000);
+    threads_pass_bursts(count > 1 ? std::atoi(words[1]) : 20000);
     CHECK(live == 0);
     a_seat_in_mid_call_is_abandoned();
     return 0;

@@ -162,20 +162,20 @@ static void a_table_answers(void) {
 
 /* ---- Kinds ---- */
 
-enum { QUEUE, SEMAPHORE, ROOM, CREDIT, FILES, KINDS };
+enum { QUEUE, SEMAPHORE, ROOM, CREDIT, FILES, BUNDLE, KINDS };
 
-enum { QUEUE_CALLS = 12, SEMAPHORE_CALLS = 5, ROOM_CALLS = 3, CREDIT_CALLS = 3, FILES_CALLS = 7 };
+enum { QUEUE_CALLS = 12, SEMAPHORE_CALLS = 5, ROOM_CALLS = 3, CREDIT_CALLS = 3, FILES_CALLS = 7, BUNDLE_CALLS = 5 };
 
 /* What calls write by their out-pointers. */
 typedef struct {
-    uint64_t first, second;
+    uint64_t first, second, third, fourth;
     uint32_t small;
     int64_t count;
     bool truth;
 } outs;
 
 static bool are_as_before(const outs *at) {
-    return at->first == 99 && at->second == 99 && at->small == 99 && at->count == 99 && at->truth;
+    return at->first == 99 && at->second == 99 && at->third == 99 && at->fourth == 99 && at->small == 99 && at->count == 99 && at->truth;
 }
 
 /* How many of the calls of each kind the seat refuses as none of theirs. */
@@ -212,7 +212,17 @@ static int refused_by_tables(fak_c_seat *seat, outs *at) {
         + (fak_c_files_hold(seat, &at->small) == FAK_C_NO_SEAT);
 }
 
+static int refused_by_bundles(fak_c_seat *seat, outs *at) {
+    uint64_t item = 1;
+    return (fak_c_insert_burst(seat, &item, 1, &at->first, &at->second) == FAK_C_NO_SEAT)
+        + (fak_c_try_fill_burst(seat, &at->first) == FAK_C_NO_SEAT)
+        + (fak_c_delete_burst(seat, &at->first, 1, &at->second, &at->third, &at->fourth) == FAK_C_NO_SEAT)
+        + (fak_c_try_take_burst(seat, &at->first, 1, &at->second, &at->third) == FAK_C_NO_SEAT)
+        + (fak_c_bundle_state(seat, &at->small, &at->first, &at->second, &at->third, &at->fourth) == FAK_C_NO_SEAT);
+}
+
 static int32_t opened(fak_c_seat *seat, int kind) {
+    fak_c_seat none = {0};
     switch (kind) {
     case QUEUE:
         return fak_c_open(seat, 1, 4, 10);
@@ -222,21 +232,23 @@ static int32_t opened(fak_c_seat *seat, int kind) {
         return fak_c_room_open(seat, 1, 4, 10);
     case CREDIT:
         return fak_c_credit_open(seat, 1, 0, 10);
-    default:
+    case FILES:
         return fak_c_files_open(seat, 1, 4, 10);
+    default:
+        return fak_c_open_bundles(&none, 0, seat, 1, 2, 4, 10);
     }
 }
 
 /* A seat accepts only the calls of its own kind, and the others write nothing. An empty handle accepts none. */
 static void a_seat_has_one_kind(void) {
-    static const int all[KINDS] = {QUEUE_CALLS, SEMAPHORE_CALLS, ROOM_CALLS, CREDIT_CALLS, FILES_CALLS};
+    static const int all[KINDS] = {QUEUE_CALLS, SEMAPHORE_CALLS, ROOM_CALLS, CREDIT_CALLS, FILES_CALLS, BUNDLE_CALLS};
     static int (*const refused[KINDS])(fak_c_seat *, outs *) = {refused_by_queues, refused_by_semaphores, refused_by_rooms,
-        refused_by_credits, refused_by_tables};
+        refused_by_credits, refused_by_tables, refused_by_bundles};
     fak_c_seat seat = {0};
     for (int kind = 0; kind <= KINDS; kind++) {
         CHECK(kind == KINDS || opened(&seat, kind) == FAK_C_OK);
         for (int other = 0; other < KINDS; other++) {
-            outs at = {99, 99, 99, 99, true};
+            outs at = {99, 99, 99, 99, 99, 99, true};
             CHECK(refused[other](&seat, &at) == (other == kind ? 0 : all[other]));
             CHECK(other == kind || are_as_before(&at));
         }

@@ -42,6 +42,26 @@ static void all_leave(void *block, int kind, size_t n) {
     free(block);
 }
 
+/* Steps until the call is done. */
+static void end_call(fak_c_seat *end, fak_channel_item *item) {
+    uint64_t number = 0;
+    int32_t code;
+    while ((code = fak_channel_step(end, item, &number)) == FAK_C_NOT_YET)
+        continue;
+    CHECK(code == FAK_C_OK);
+}
+
+/* Sends an item, and receives it. */
+static void pass_one(fak_c_seat *end) {
+    fak_channel_item item = fak_channel_of_word(7);
+    CHECK(fak_channel_begin_send(end, &item) == FAK_C_OK);
+    end_call(end, &item);
+    item.word[0] = 0;
+    CHECK(fak_channel_begin_receive(end) == FAK_C_OK);
+    end_call(end, &item);
+    CHECK(item.word[0] == 7);
+}
+
 /* The seat makes a call of its kind, and another that undoes it. */
 static void use(fak_c_seat *seat, int kind) {
     uint64_t item = 0;
@@ -59,6 +79,9 @@ static void use(fak_c_seat *seat, int kind) {
         break;
     case CREDIT:
         CHECK(fak_c_credit_credit(seat, &found) == FAK_C_OK && fak_c_credit_debit(seat, &found) == FAK_C_OK);
+        break;
+    case CHANNEL:
+        pass_one(seat);
         break;
     default:
         CHECK(fak_c_files_try_write(seat, &found) == FAK_C_OK && fak_c_files_end(seat) == FAK_C_OK);
@@ -214,7 +237,7 @@ static void all_was_counted(void) {
 }
 
 static void threads_share_each_kind(void) {
-    static const uint64_t sizes[KINDS] = {CELLS, THREADS, BOUND, BOUND, 1};
+    static const uint64_t sizes[KINDS] = {CELLS, THREADS, BOUND, BOUND, 1, CELLS};
     enum { SEATS = FIRST + THREADS };
     static pthread_t threads[THREADS];
     static uint64_t numbers[THREADS];

@@ -4,7 +4,7 @@
 
 #include <stdatomic.h>
 
-enum { SEATS = 3, KINDS = 5 };
+enum { SEATS = 3, KINDS = 6 };
 
 static atomic_long made, failing, live;
 
@@ -27,6 +27,12 @@ void __wrap_free(void *block) {
     __real_free(block);
 }
 
+/* The second half of the handles are bundles: of three seats each where there are few of them. */
+static int32_t open_bundles(fak_c_seat *handles, size_t n) {
+    size_t bundles = n / 2, seats = n - bundles;
+    return fak_c_open_bundles(handles, seats, handles + seats, bundles, n == SEATS ? 3 : 1, 5, 10);
+}
+
 static int32_t open_kind(fak_c_seat *seats, size_t n, int kind) {
     switch (kind) {
     case 0:
@@ -37,8 +43,10 @@ static int32_t open_kind(fak_c_seat *seats, size_t n, int kind) {
         return fak_c_room_open(seats, n, 5, 10);
     case 3:
         return fak_c_credit_open(seats, n, 5, 10);
-    default:
+    case 4:
         return fak_c_files_open(seats, n, 5, 10);
+    default:
+        return open_bundles(seats, n);
     }
 }
 
@@ -104,14 +112,35 @@ static void use_a_table(fak_c_seat *seats) {
     CHECK(fak_c_files_hold(&seats[1], &hold) == FAK_C_OK);
 }
 
+/* Two seats and a bundle of three. A burst of each kind waits for the first seat's call, and goes on. */
+static void use_bundles(fak_c_seat *handles) {
+    fak_c_seat *bundle = &handles[2];
+    uint64_t items[3] = {7, 8, 9}, ticket = 0, item = 0, count = 0, taken = 0, open = 0, width = 0, left = 0;
+    uint32_t state = 0;
+    CHECK(fak_c_insert_burst(bundle, items, 3, &ticket, &count) == FAK_C_OK && count == 3);
+    CHECK(fak_c_delete_burst(bundle, items, 2, &ticket, &count, &taken) == FAK_C_OK && taken == 2);
+    CHECK(fak_c_claim_insert(&handles[0], 10, &ticket) == FAK_C_OK);
+    CHECK(fak_c_insert_burst(bundle, items, 1, &ticket, &count) == FAK_C_OK && count == 1);
+    CHECK(fak_c_delete_burst(bundle, items, 2, &ticket, &count, &taken) == FAK_C_NOT_YET && taken == 1 && items[0] == 9);
+    CHECK(fak_c_bundle_state(bundle, &state, &ticket, &open, &width, &left) == FAK_C_OK && open == 1);
+    CHECK(fak_c_try_fill(&handles[0]) == FAK_C_OK);
+    CHECK(fak_c_try_take_burst(bundle, items, 1, &taken, &left) == FAK_C_OK && items[0] == 10);
+    CHECK(fak_c_insert_burst(bundle, items, 3, &ticket, &count) == FAK_C_OK && count == 3);
+    CHECK(fak_c_claim_delete(&handles[0], &ticket) == FAK_C_OK);
+    CHECK(fak_c_delete_burst(bundle, items, 3, &ticket, &count, &taken) == FAK_C_OK && taken == 3);
+    CHECK(fak_c_insert_burst(bundle, items, 3, &ticket, &count) == FAK_C_NOT_YET && count == 3);
+    CHECK(fak_c_try_take(&handles[0], &item) == FAK_C_OK && fak_c_try_fill_burst(bundle, &left) == FAK_C_OK);
+}
+
 /* Each call of this kind; none takes memory. */
 static void use(fak_c_seat *seats, int kind) {
-    static void (*const uses[KINDS])(fak_c_seat *) = {use_a_queue, use_a_semaphore, use_a_room, use_a_credit, use_a_table};
+    static void (*const uses[KINDS])(fak_c_seat *) = {use_a_queue, use_a_semaphore, use_a_room, use_a_credit, use_a_table, use_bundles};
     fak_c_seat home = {0};
     long before = live;
     made = 0;
     uses[kind](seats);
-    CHECK(fak_c_move(&seats[0], &home) == FAK_C_OK && fak_c_move(&home, &seats[0]) == FAK_C_OK);
+    for (int i = 0; i < SEATS; i++)
+        CHECK(fak_c_move(&seats[i], &home) == FAK_C_OK && fak_c_move(&home, &seats[i]) == FAK_C_OK);
     CHECK(live == before);
     for (int i = 0; i < SEATS; i++)
         CHECK(fak_c_leave(&seats[i]) == FAK_C_OK);

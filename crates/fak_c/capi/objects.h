@@ -3,11 +3,12 @@
 #define FAK_C_OBJECTS_H
 
 #include "block.h"
-#include "fak_c.h"
+#include "fak_channel.h"
 
-enum { QUEUE, SEMAPHORE, ROOM, CREDIT, FILES, KINDS };
+enum { QUEUE, SEMAPHORE, ROOM, CREDIT, FILES, CHANNEL, KINDS };
 
-/* The bytes that block.h says for an object of n seats. The size is the cells of a queue, or of a semaphore's wait queue. */
+/* The bytes that block.h, or fak_channel.h, says for an object of n seats. The size is the cells of a queue or a channel, or of a
+ * semaphore's wait queue. */
 static inline size_t bytes_of(int kind, size_t n, uint64_t size) {
     switch (kind) {
     case QUEUE:
@@ -16,6 +17,8 @@ static inline size_t bytes_of(int kind, size_t n, uint64_t size) {
         return FAK_C_SEM_BYTES(n, size);
     case FILES:
         return FAK_C_FILES_BYTES(n);
+    case CHANNEL:
+        return FAK_CHANNEL_BYTES(n, size);
     default:
         return FAK_C_COUNT_BYTES(n);
     }
@@ -33,6 +36,8 @@ static inline int32_t opened(int kind, fak_c_seat *seats, size_t n, uint64_t siz
         return fak_c_room_open(seats, n, size, stint);
     case CREDIT:
         return fak_c_credit_open(seats, n, size, stint);
+    case CHANNEL:
+        return fak_channel_open(seats, n, size, stint);
     default:
         return fak_c_files_open(seats, n, 16, stint);
     }

@@ -1,5 +1,6 @@
 /* Runs one group of the tests: `codes`, `kinds`, `limits`, `pauses llvm` or `pauses rattle` by which the archive was built, `memory`,
- * `threads PAIRS ITEMS`, `drain ITEMS`, `objects ROUNDS` or `pointers ITEMS`. */
+ * `threads PAIRS ITEMS`, `drain ITEMS`, `objects ROUNDS` or `pointers ITEMS`; of bundles `bursts`, `burst-threads PAIRS ITEMS`,
+ * `burst-drain ITEMS`, `burst-stops` or `burst-pointers ITEMS`. */
 #include "tests.h"
 
 #include <string.h>
@@ -25,6 +26,16 @@ int main(int count, char **words) {
         threads_share_objects(strtoull(words[2], NULL, 10));
     else if (count == 3 && strcmp(words[1], "pointers") == 0)
         memory_is_handed_over(strtoull(words[2], NULL, 10));
+    else if (count == 2 && strcmp(words[1], "bursts") == 0)
+        each_burst_is_answered();
+    else if (count == 4 && strcmp(words[1], "burst-threads") == 0)
+        threads_share_a_queue_by_bursts(atoi(words[2]), strtoull(words[3], NULL, 10));
+    else if (count == 3 && strcmp(words[1], "burst-drain") == 0)
+        a_shut_queue_is_drained_by_bursts(strtoull(words[2], NULL, 10));
+    else if (count == 2 && strcmp(words[1], "burst-stops") == 0)
+        a_burst_that_stands_stops_nobody();
+    else if (count == 3 && strcmp(words[1], "burst-pointers") == 0)
+        memory_is_handed_over_by_bursts(strtoull(words[2], NULL, 10));
     else
         return 2;
     return 0;

@@ -52,4 +52,19 @@ void memory_is_handed_over(uint64_t items);
 /* A queue is shut while threads insert into it, and drained. */
 void a_shut_queue_is_drained(uint64_t items);
 
+/* Each code of each call of a bundle, on one thread, and random bursts beside a plain list. */
+void each_burst_is_answered(void);
+
+/* This many producers and as many consumers share a queue, half of them by bursts. */
+void threads_share_a_queue_by_bursts(int pairs, uint64_t items);
+
+/* The same of a queue that is shut, and drained by bursts. */
+void a_shut_queue_is_drained_by_bursts(uint64_t items);
+
+/* Other threads insert and delete while a claimed burst waits. */
+void a_burst_that_stands_stops_nobody(void);
+
+/* Memory that one thread fills and another reads, behind pointers that go through a queue by bursts. */
+void memory_is_handed_over_by_bursts(uint64_t items);
+
 #endif

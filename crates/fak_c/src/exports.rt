@@ -2,8 +2,10 @@
 
 ghost use Rattle.std.specs.Prelude.{◌≡◌, length};
 ghost use Rattle.fak_handles.specs.Kinds.{GivesUp, Moves};
-ghost use Rattle.fak_handles.specs.Openings.{OpensCredit, OpensOrKeeps, OpensQueue, OpensRoom, OpensSem, OpensTable};
+ghost use Rattle.fak_handles.specs.Openings.{OpensChannel, OpensCredit, OpensOrKeeps, OpensQueue, OpensRoom, OpensSem, OpensTable};
 
+mod bundle;
+mod channel;
 mod credit;
 mod files;
 mod queue;
@@ -111,6 +113,18 @@ pub extern "C" fn fak_c_sem_open(
         return BAD_LIMIT;
     }
     fak_handles::opening::open_semaphore(alloc, seats, start, size, stint)
+}
+
+/// Opens an empty channel of `size` cells, and gives each handle an end of it, numbered by its place. As `fak_c_open`.
+#[unsafe(no_mangle)]
+pub extern "C" fn fak_channel_open(alloc: Global, ends: &mut [Place], size: u64, stint: u64) -> i32
+    ensures len { length ends.new ≡ length ends.old }
+    ensures opens { OpensOrKeeps result ends.old ends.new (OpensChannel result size stint ends.new) }
+{
+    if !is_number_of_seats(ends.len()) {
+        return BAD_LIMIT;
+    }
+    fak_handles::opening::open_channel(alloc, ends, size, stint)
 }
 
 /// Moves the seat of a handle to an empty one.

@@ -1,4 +1,4 @@
-//! Queues, semaphores, rooms, credits and file tables for programs and kernels in C: each handle owns a seat and a share of its
+//! Queues, channels, semaphores, rooms, credits and file tables for programs and kernels in C: each handle owns a seat and a share of its
 //! object. No call waits.
 #![tactic(auto)]
 

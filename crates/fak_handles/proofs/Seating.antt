@@ -8,7 +8,9 @@ use Rattle.fak_sem.specs.Semaphores.{SemId, SemSeatInfo, fresh_sem_seats, SemInf
 use Rattle.fak_queue.specs.Queues.{QueueInfo}
 use Rattle.fak_count.specs.Rooms.{RoomInfo}
 use Rattle.fak_count.specs.Credits.{CreditInfo}
-use Rattle.fak_handles.specs.Openings.{IsFreshQueue, IsFreshRoom, IsFreshCredit, IsFreshFile, IsFreshSem, IsOpenedQueue, IsOpenedRoom, IsOpenedCredit, IsOpenedTable, IsOpenedSem}
+use Rattle.fak_handles.specs.Openings.{IsFreshQueue, IsFreshRoom, IsFreshCredit, IsFreshFile, IsFreshSem, IsFreshChannel, IsOpenedQueue, IsOpenedRoom, IsOpenedCredit, IsOpenedTable, IsOpenedSem, IsOpenedChannel}
+use Rattle.fak_channel.specs.declared.channel.Channel.{Channel}
+use Rattle.fak_handles.specs.declared.channel.Item.{Item}
 use Rattle.fak_handles.specs.declared.desk.Desk.{Desk}
 use Rattle.fak_handles.specs.declared.place.Place.{Place}
 
@@ -94,4 +96,14 @@ module _ {stint n : ℕ} {places : List Place} (len : length places ≡ n) where
     size_is = ap (λ q. q.size) is ∙ size;
     seats_are = ap (λ q. seats_of q.object) is ∙ (seats ∙ sym len);
     seated = subst (λ k. AreSeatedBelow (IsFreshSem shared stint) k places) (sym len) seated;
+  }
+
+  pub opened_channel : {size : ℕ} (made shared : Channel Item) → shared ≡ made → made.queue.size ≡ size → made.queue.object.seats ≡ n → made.items.start ≡ 0 → made.cells.start ≡ size → AreSeatedBelow (IsFreshChannel shared stint) n places → IsOpenedChannel size stint places
+  opened_channel made shared is size seats none all seated = record {
+    channel = shared;
+    size_is = ap (λ (c : Channel Item). c.queue.size) is ∙ size;
+    seats_are = ap (λ (c : Channel Item). c.queue.object.seats) is ∙ (seats ∙ sym len);
+    no_item = ap (λ (c : Channel Item). c.items.start) is ∙ none;
+    all_cells = ap (λ (c : Channel Item). c.cells.start) is ∙ all;
+    seated = subst (λ k. AreSeatedBelow (IsFreshChannel shared stint) k places) (sym len) seated;
   }

@@ -1,17 +1,21 @@
 -- Which seat a handle has.
 use Rattle.std.specs.Prelude.{◌≡◌, ℤ, pos, Option, Some, None}
+use Rattle.fak_queue.specs.declared.bundle.BundleState.TheVariants as bundle
 use Rattle.fak_queue.specs.declared.state.SeatState.TheVariants as state
 use Rattle.fak_queue.specs.Queues.{state_of}
 use Rattle.fak_count.specs.Rooms.{held_amount}
 use Rattle.fak_files.specs.declared.phase.Hold.TheVariants as hold
 use Rattle.fak_sem.specs.declared.standing.Standing.TheVariants as standing
+use Rattle.fak_channel.specs.declared.standing.CallStanding.TheVariants as channel
 use Rattle.fak_handles.specs.declared.desk.Desk.{Desk}
-use Rattle.fak_handles.specs.declared.desk.Desk.TheVariants.{Queue, Semaphore, Room, Credit, Files}
+use Rattle.fak_handles.specs.declared.desk.Desk.TheVariants.{Queue, Semaphore, Room, Credit, Files, Channel, Bundle}
 use Rattle.fak_handles.specs.declared.queue.QueueDesk.{QueueDesk}
 use Rattle.fak_handles.specs.declared.semaphore.SemDesk.{SemDesk}
 use Rattle.fak_handles.specs.declared.room.RoomDesk.{RoomDesk}
 use Rattle.fak_handles.specs.declared.credit.CreditDesk.{CreditDesk}
 use Rattle.fak_handles.specs.declared.files.FileDesk.{FileDesk}
+use Rattle.fak_handles.specs.declared.channel.ChannelDesk.{ChannelDesk}
+use Rattle.fak_handles.specs.declared.bundle.BundleDesk.{BundleDesk}
 
 abbrev pub queue_in : Option Desk → Option QueueDesk
 queue_in (Some (Queue d)) = Some d
@@ -19,6 +23,8 @@ queue_in (Some (Semaphore d)) = None
 queue_in (Some (Room d)) = None
 queue_in (Some (Credit d)) = None
 queue_in (Some (Files d)) = None
+queue_in (Some (Channel d)) = None
+queue_in (Some (Bundle d)) = None
 queue_in None = None
 
 abbrev pub semaphore_in : Option Desk → Option SemDesk
@@ -27,6 +33,8 @@ semaphore_in (Some (Semaphore d)) = Some d
 semaphore_in (Some (Room d)) = None
 semaphore_in (Some (Credit d)) = None
 semaphore_in (Some (Files d)) = None
+semaphore_in (Some (Channel d)) = None
+semaphore_in (Some (Bundle d)) = None
 semaphore_in None = None
 
 abbrev pub room_in : Option Desk → Option RoomDesk
@@ -35,6 +43,8 @@ room_in (Some (Semaphore d)) = None
 room_in (Some (Room d)) = Some d
 room_in (Some (Credit d)) = None
 room_in (Some (Files d)) = None
+room_in (Some (Channel d)) = None
+room_in (Some (Bundle d)) = None
 room_in None = None
 
 abbrev pub credit_in : Option Desk → Option CreditDesk
@@ -43,6 +53,8 @@ credit_in (Some (Semaphore d)) = None
 credit_in (Some (Room d)) = None
 credit_in (Some (Credit d)) = Some d
 credit_in (Some (Files d)) = None
+credit_in (Some (Channel d)) = None
+credit_in (Some (Bundle d)) = None
 credit_in None = None
 
 abbrev pub files_in : Option Desk → Option FileDesk
@@ -51,7 +63,29 @@ files_in (Some (Semaphore d)) = None
 files_in (Some (Room d)) = None
 files_in (Some (Credit d)) = None
 files_in (Some (Files d)) = Some d
+files_in (Some (Channel d)) = None
+files_in (Some (Bundle d)) = None
 files_in None = None
+
+abbrev pub channel_in : Option Desk → Option ChannelDesk
+channel_in (Some (Queue d)) = None
+channel_in (Some (Semaphore d)) = None
+channel_in (Some (Room d)) = None
+channel_in (Some (Credit d)) = None
+channel_in (Some (Files d)) = None
+channel_in (Some (Channel d)) = Some d.value
+channel_in (Some (Bundle d)) = None
+channel_in None = None
+
+abbrev pub bundle_in : Option Desk → Option BundleDesk
+bundle_in (Some (Queue d)) = None
+bundle_in (Some (Semaphore d)) = None
+bundle_in (Some (Room d)) = None
+bundle_in (Some (Credit d)) = None
+bundle_in (Some (Files d)) = None
+bundle_in (Some (Channel d)) = None
+bundle_in (Some (Bundle d)) = Some d.value
+bundle_in None = None
 
 -- a handle that has no seat of the kind keeps what it has
 abbrev pub Spares : {D : Type 0} → (Option Desk → Option D) → Option Desk → Option Desk → Type 0
@@ -64,6 +98,8 @@ IsAtRest (Semaphore d) = d.seat.standing ≡ standing.Idle
 IsAtRest (Room d) = held_amount d.seat ≡ 0
 IsAtRest (Credit d) = Unit {0}
 IsAtRest (Files d) = d.seat.hold ≡ hold.Nothing
+IsAtRest (Channel d) = d.value.seat.standing ≡ channel.Idle
+IsAtRest (Bundle d) = d.value.bundle.state ≡ bundle.Idle
 
 -- a seat at rest is given up, and any other is kept
 abbrev pub GivesUp : ℤ → Option Desk → Option Desk → Type 0

@@ -14,8 +14,13 @@ use Rattle.fak_files.specs.declared.phase.Hold.TheVariants.{Nothing}
 use Rattle.fak_sem.specs.Semaphores.{SemInfo, seats_of}
 use Rattle.fak_sem.specs.Opening.{AreLargeSizes}
 use Rattle.fak_sem.specs.declared.standing.Standing.TheVariants.{Idle}
+use Rattle.fak_channel.specs.Channels.{fresh_channel_seat}
+use Rattle.fak_channel.specs.ChannelSteps.{rest_of}
+use Rattle.fak_channel.specs.declared.channel.Channel.{Channel as ChannelInfo}
+use Rattle.fak_channel.specs.declared.standing.CallStanding.TheVariants as standing
+use Rattle.fak_handles.specs.declared.channel.Item.{Item}
 use Rattle.fak_handles.specs.declared.desk.Desk.{Desk}
-use Rattle.fak_handles.specs.declared.desk.Desk.TheVariants.{Queue, Semaphore, Room, Credit, Files}
+use Rattle.fak_handles.specs.declared.desk.Desk.TheVariants.{Queue, Semaphore, Room, Credit, Files, Channel, Bundle}
 use Rattle.fak_handles.specs.declared.place.Place.{Place}
 
 -- the handles below this index are empty
@@ -50,6 +55,8 @@ IsFreshQueue queue stint name (Semaphore d) = ⊥
 IsFreshQueue queue stint name (Room d) = ⊥
 IsFreshQueue queue stint name (Credit d) = ⊥
 IsFreshQueue queue stint name (Files d) = ⊥
+IsFreshQueue queue stint name (Channel d) = ⊥
+IsFreshQueue queue stint name (Bundle d) = ⊥
 
 abbrev pub IsFreshRoom : RoomInfo → ℕ → ℕ → Desk → Type 0
 IsFreshRoom room stint name (Queue d) = ⊥
@@ -57,6 +64,8 @@ IsFreshRoom room stint name (Semaphore d) = ⊥
 IsFreshRoom room stint name (Room d) = (arc_value d.room ≡ room) × (d.seat ≡ seat_info room.object name stint [])
 IsFreshRoom room stint name (Credit d) = ⊥
 IsFreshRoom room stint name (Files d) = ⊥
+IsFreshRoom room stint name (Channel d) = ⊥
+IsFreshRoom room stint name (Bundle d) = ⊥
 
 abbrev pub IsFreshCredit : CreditInfo → ℕ → ℕ → Desk → Type 0
 IsFreshCredit credit stint name (Queue d) = ⊥
@@ -64,6 +73,8 @@ IsFreshCredit credit stint name (Semaphore d) = ⊥
 IsFreshCredit credit stint name (Room d) = ⊥
 IsFreshCredit credit stint name (Credit d) = (arc_value d.credit ≡ credit) × (d.seat ≡ seat_info credit.object name stint [])
 IsFreshCredit credit stint name (Files d) = ⊥
+IsFreshCredit credit stint name (Channel d) = ⊥
+IsFreshCredit credit stint name (Bundle d) = ⊥
 
 abbrev pub IsFreshFile : FileTableInfo → ℕ → ℕ → Desk → Type 0
 IsFreshFile table stint name (Queue d) = ⊥
@@ -71,6 +82,8 @@ IsFreshFile table stint name (Semaphore d) = ⊥
 IsFreshFile table stint name (Room d) = ⊥
 IsFreshFile table stint name (Credit d) = ⊥
 IsFreshFile table stint name (Files d) = (arc_value d.table ≡ table) × (d.seat ≡ file_seat (seat_info table.object name stint []) Nothing)
+IsFreshFile table stint name (Channel d) = ⊥
+IsFreshFile table stint name (Bundle d) = ⊥
 
 abbrev pub IsFreshSem : SemInfo → ℕ → ℕ → Desk → Type 0
 IsFreshSem sem stint name (Queue d) = ⊥
@@ -79,6 +92,17 @@ IsFreshSem sem stint name (Semaphore d) =
 IsFreshSem sem stint name (Room d) = ⊥
 IsFreshSem sem stint name (Credit d) = ⊥
 IsFreshSem sem stint name (Files d) = ⊥
+IsFreshSem sem stint name (Channel d) = ⊥
+IsFreshSem sem stint name (Bundle d) = ⊥
+
+abbrev pub IsFreshChannel : ChannelInfo Item → ℕ → ℕ → Desk → Type 0
+IsFreshChannel channel stint name (Queue d) = ⊥
+IsFreshChannel channel stint name (Semaphore d) = ⊥
+IsFreshChannel channel stint name (Room d) = ⊥
+IsFreshChannel channel stint name (Credit d) = ⊥
+IsFreshChannel channel stint name (Files d) = ⊥
+IsFreshChannel channel stint name (Channel d) = (arc_value d.value.channel ≡ channel) × (d.value.seat.standing ≡ standing.Idle) × (rest_of d.value.seat ≡ fresh_channel_seat channel stint name)
+IsFreshChannel channel stint name (Bundle d) = ⊥
 
 -- ---- each kind of object, as it is opened: each handle has a seat of one object
 
@@ -113,6 +137,14 @@ pub record IsOpenedSem (start size stint : ℕ) (places : List Place) : Type 0 w
   pub seats_are : seats_of sem.object ≡ length places
   pub seated : AreSeatedBelow (IsFreshSem sem stint) (length places) places
 
+pub record IsOpenedChannel (size stint : ℕ) (places : List Place) : Type 0 where
+  pub channel : ChannelInfo Item
+  pub size_is : channel.queue.size ≡ size
+  pub seats_are : channel.queue.object.seats ≡ length places
+  pub no_item : channel.items.start ≡ 0
+  pub all_cells : channel.cells.start ≡ size
+  pub seated : AreSeatedBelow (IsFreshChannel channel stint) (length places) places
+
 abbrev pub OpensQueue : ℤ → ℕ → ℕ → List Place → Type 0
 OpensQueue code size stint places = Opens code (IsInLargeRange (IsLargeSize size) (length places) stint) (IsOpenedQueue size stint places) places
 
@@ -127,6 +159,9 @@ OpensTable code entries stint places = Opens code (IsInLargeRange (IsNumberOfEnt
 
 abbrev pub OpensSem : ℤ → ℕ → ℕ → ℕ → List Place → Type 0
 OpensSem code start size stint places = Opens code (IsInLargeRange (AreLargeSizes start size) (length places) stint) (IsOpenedSem start size stint places) places
+
+abbrev pub OpensChannel : ℤ → ℕ → ℕ → List Place → Type 0
+OpensChannel code size stint places = Opens code (IsInLargeRange (IsLargeSize size) (length places) stint) (IsOpenedChannel size stint places) places
 
 -- an object may have this many handles, and the call opens them or says why not; or it may not, and the call keeps them
 abbrev pub OpensOrKeeps : ℤ → List Place → List Place → Type 0 → Type 0

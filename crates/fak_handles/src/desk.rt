@@ -1,10 +1,13 @@
 //! What a handle owns: a seat of one kind, with a share of its object.
 
+use crate::bundle::BundleDesk;
+use crate::channel::ChannelDesk;
 use crate::credit::CreditDesk;
 use crate::files::FileDesk;
 use crate::queue::QueueDesk;
 use crate::room::RoomDesk;
 use crate::semaphore::SemDesk;
+use std::alloc::Global;
 
 /// A seat of one kind, with a share of its object.
 #[derive(Drop)]
@@ -14,6 +17,10 @@ pub enum Desk {
     Room(RoomDesk),
     Credit(CreditDesk),
     Files(FileDesk),
+    /// An end of a channel, which takes more room than any other seat, and so lies by itself.
+    Channel(Box<ChannelDesk, Global>),
+    /// A bundle of seats of a queue, which lies by itself too.
+    Bundle(Box<BundleDesk, Global>),
 }
 
 impl Desk {
@@ -30,6 +37,8 @@ impl Desk {
             Desk::Room(desk) => desk.holds_nothing(),
             Desk::Credit(_) => true,
             Desk::Files(desk) => desk.holds_nothing(),
+            Desk::Channel(desk) => desk.is_idle(),
+            Desk::Bundle(desk) => desk.is_idle(),
         }
     }
 }

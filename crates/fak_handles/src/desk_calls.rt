@@ -1,5 +1,7 @@
 //! The exported calls on a desk: those of its kind, and else a refusal.
 
+mod bundle;
+mod channel;
 mod credit;
 mod files;
 mod queue;

@@ -3,8 +3,15 @@
 #![tactic(auto)]
 
 mod answers;
+mod bundle;
+mod bundle_answers;
+mod bundle_calls;
+pub mod bundle_opening;
 mod calls;
+pub mod channel;
+mod channel_calls;
 pub mod code;
+mod copying;
 mod count_calls;
 mod credit;
 pub mod desk;

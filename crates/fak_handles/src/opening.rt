@@ -4,10 +4,12 @@ ghost use Rattle.std.specs.Prelude.{◌≡◌, IsTrue, length, MatchBool};
 ghost use Rattle.fak_model.specs.Limits.{IsLargeNumberOfSeats};
 ghost use Rattle.std.specs.Arc.{arc_value};
 ghost use Rattle.fak_model.specs.Calls.{fresh_seats};
+ghost use Rattle.fak_channel.specs.Undealt.{AreUndealt};
 ghost use Rattle.fak_files.specs.Calls.{idle_seats};
 ghost use Rattle.fak_sem.specs.Semaphores.{fresh_sem_seats};
-ghost use Rattle.fak_handles.specs.Openings.{AreEmpty, AreSeatedBelow, IsFreshCredit, IsFreshFile, IsFreshQueue, IsFreshRoom, IsFreshSem, OpensCredit, OpensQueue, OpensRoom, OpensSem, OpensTable};
+ghost use Rattle.fak_handles.specs.Openings.{AreEmpty, AreSeatedBelow, IsFreshChannel, IsFreshCredit, IsFreshFile, IsFreshQueue, IsFreshRoom, IsFreshSem, OpensChannel, OpensCredit, OpensQueue, OpensRoom, OpensSem, OpensTable};
 
+use crate::channel::{ChannelDesk, Item};
 use crate::code::{BAD_LIMIT, MEMORY, OK};
 use crate::credit::CreditDesk;
 use crate::desk::Desk;
@@ -16,6 +18,7 @@ use crate::place::Place;
 use crate::queue::QueueDesk;
 use crate::room::RoomDesk;
 use crate::semaphore::SemDesk;
+use fak_channel::{Channel, UndealtSeats};
 use fak_count::{Credit, CreditSeat, Room, RoomSeat};
 use fak_files::{FileSeat, FileTable};
 use fak_model::{LARGE_SEATS, LargeFault};
@@ -32,7 +35,7 @@ pub fn is_number_of_seats(count: usize) -> bool
 }
 
 /// Empties all handles.
-fn clear(alloc: Global, places: &mut [Place])
+pub(crate) fn clear(alloc: Global, places: &mut [Place])
     ensures len { length places.new ≡ length places.old }
     ensures empty { AreEmpty places.new }
 {
@@ -42,7 +45,7 @@ fn clear(alloc: Global, places: &mut [Place])
 }
 
 /// Gives each handle one of the seats, with a share of the object. False where memory ran out.
-fn seat_queue(
+pub(crate) fn seat_queue(
     alloc: Global,
     queue: &Arc<Queue<u64>, Global>,
     stint: u64,
@@ -297,6 +300,63 @@ pub fn open_semaphore(alloc: Global, places: &mut [Place], start: u64, size: u64
                 return MEMORY;
             };
             if seat_semaphore(alloc, &semaphore, stint, seats, places) {
+                OK
+            } else {
+                clear(alloc, places);
+                MEMORY
+            }
+        }
+        Err(LargeFault::Memory) => MEMORY,
+        Err(LargeFault::BadSize | LargeFault::BadSeats | LargeFault::BadStint) => BAD_LIMIT,
+    }
+}
+
+/// Gives each handle one of the ends, with a share of the channel. False where memory ran out.
+fn seat_channel(
+    alloc: Global,
+    channel: &Arc<Channel<Item>, Global>,
+    stint: u64,
+    undealt: UndealtSeats<Item>,
+    places: &mut [Place],
+) -> bool
+    requires { AreUndealt (arc_value channel.now) stint 0 (length places.old) undealt }
+    ensures len { length places.new ≡ length places.old }
+    ensures seated { IsTrue result → AreSeatedBelow (IsFreshChannel (arc_value channel.now) stint)
+        (length places.old) places.new }
+{
+    let _stint = stint;
+    let mut rest = undealt;
+    for i in 0..places.len() {
+        let Some(seat) = rest.next() else {
+            return false;
+        };
+        let Ok(share) = Arc::try_clone(channel) else {
+            return false;
+        };
+        let end = ChannelDesk::of(share, channel.step_seat(seat));
+        let Ok(inner) = Box::new(alloc, end) else {
+            return false;
+        };
+        let Ok(desk) = Box::new(alloc, Desk::Channel(inner)) else {
+            return false;
+        };
+        places[i].put(desk);
+    }
+    true
+}
+
+/// Opens the channel with an end for each handle. What the handles held is given up.
+pub fn open_channel(alloc: Global, places: &mut [Place], size: u64, stint: u64) -> i32
+    ensures len { length places.new ≡ length places.old }
+    ensures opens { OpensChannel result size stint places.new }
+{
+    clear(alloc, places);
+    match Channel::<Item>::open_undealt(alloc, size, places.len() as u64, stint) {
+        Ok((channel, undealt)) => {
+            let Ok(channel) = Arc::new(alloc, channel) else {
+                return MEMORY;
+            };
+            if seat_channel(alloc, &channel, stint, undealt, places) {
                 OK
             } else {
                 clear(alloc, places);

@@ -22,7 +22,12 @@ impl Desk {
                 let moved = desk.debit();
                 of_credit(&moved, found)
             }
-            Desk::Queue(_) | Desk::Semaphore(_) | Desk::Room(_) | Desk::Files(_) => NO_SEAT,
+            Desk::Queue(_)
+            | Desk::Semaphore(_)
+            | Desk::Room(_)
+            | Desk::Files(_)
+            | Desk::Channel(_)
+            | Desk::Bundle(_) => NO_SEAT,
         }
     }
 
@@ -37,7 +42,12 @@ impl Desk {
                 let moved = desk.credit();
                 of_credit(&moved, found)
             }
-            Desk::Queue(_) | Desk::Semaphore(_) | Desk::Room(_) | Desk::Files(_) => NO_SEAT,
+            Desk::Queue(_)
+            | Desk::Semaphore(_)
+            | Desk::Room(_)
+            | Desk::Files(_)
+            | Desk::Channel(_)
+            | Desk::Bundle(_) => NO_SEAT,
         }
     }
 
@@ -53,7 +63,12 @@ impl Desk {
                 *left = desk.seat.left();
                 OK
             }
-            Desk::Queue(_) | Desk::Semaphore(_) | Desk::Room(_) | Desk::Files(_) => NO_SEAT,
+            Desk::Queue(_)
+            | Desk::Semaphore(_)
+            | Desk::Room(_)
+            | Desk::Files(_)
+            | Desk::Channel(_)
+            | Desk::Bundle(_) => NO_SEAT,
         }
     }
 }

@@ -24,7 +24,12 @@ impl Desk {
                 let tried = desk.try_read();
                 of_hold(&tried, count)
             }
-            Desk::Queue(_) | Desk::Semaphore(_) | Desk::Room(_) | Desk::Credit(_) => NO_SEAT,
+            Desk::Queue(_)
+            | Desk::Semaphore(_)
+            | Desk::Room(_)
+            | Desk::Credit(_)
+            | Desk::Channel(_)
+            | Desk::Bundle(_) => NO_SEAT,
         }
     }
 
@@ -39,7 +44,12 @@ impl Desk {
                 let tried = desk.try_write();
                 of_hold(&tried, count)
             }
-            Desk::Queue(_) | Desk::Semaphore(_) | Desk::Room(_) | Desk::Credit(_) => NO_SEAT,
+            Desk::Queue(_)
+            | Desk::Semaphore(_)
+            | Desk::Room(_)
+            | Desk::Credit(_)
+            | Desk::Channel(_)
+            | Desk::Bundle(_) => NO_SEAT,
         }
     }
 
@@ -55,7 +65,12 @@ impl Desk {
                 let got = desk.get(entry);
                 of_get(&got, inode, uses)
             }
-            Desk::Queue(_) | Desk::Semaphore(_) | Desk::Room(_) | Desk::Credit(_) => NO_SEAT,
+            Desk::Queue(_)
+            | Desk::Semaphore(_)
+            | Desk::Room(_)
+            | Desk::Credit(_)
+            | Desk::Channel(_)
+            | Desk::Bundle(_) => NO_SEAT,
         }
     }
 
@@ -67,7 +82,12 @@ impl Desk {
     {
         match self {
             Desk::Files(desk) => { of_done(desk.set(entry, FileField::Inode, to)) }
-            Desk::Queue(_) | Desk::Semaphore(_) | Desk::Room(_) | Desk::Credit(_) => NO_SEAT,
+            Desk::Queue(_)
+            | Desk::Semaphore(_)
+            | Desk::Room(_)
+            | Desk::Credit(_)
+            | Desk::Channel(_)
+            | Desk::Bundle(_) => NO_SEAT,
         }
     }
 
@@ -79,7 +99,12 @@ impl Desk {
     {
         match self {
             Desk::Files(desk) => { of_done(desk.set(entry, FileField::Uses, to)) }
-            Desk::Queue(_) | Desk::Semaphore(_) | Desk::Room(_) | Desk::Credit(_) => NO_SEAT,
+            Desk::Queue(_)
+            | Desk::Semaphore(_)
+            | Desk::Room(_)
+            | Desk::Credit(_)
+            | Desk::Channel(_)
+            | Desk::Bundle(_) => NO_SEAT,
         }
     }
 
@@ -91,7 +116,12 @@ impl Desk {
     {
         match self {
             Desk::Files(desk) => { of_done(desk.end()) }
-            Desk::Queue(_) | Desk::Semaphore(_) | Desk::Room(_) | Desk::Credit(_) => NO_SEAT,
+            Desk::Queue(_)
+            | Desk::Semaphore(_)
+            | Desk::Room(_)
+            | Desk::Credit(_)
+            | Desk::Channel(_)
+            | Desk::Bundle(_) => NO_SEAT,
         }
     }
 
@@ -106,7 +136,12 @@ impl Desk {
                 *hold = of_held(desk.seat.hold());
                 OK
             }
-            Desk::Queue(_) | Desk::Semaphore(_) | Desk::Room(_) | Desk::Credit(_) => NO_SEAT,
+            Desk::Queue(_)
+            | Desk::Semaphore(_)
+            | Desk::Room(_)
+            | Desk::Credit(_)
+            | Desk::Channel(_)
+            | Desk::Bundle(_) => NO_SEAT,
         }
     }
 }

@@ -24,7 +24,12 @@ impl Desk {
                 let claimed = desk.claim_insert(item);
                 of_insert(&claimed, ticket)
             }
-            Desk::Semaphore(_) | Desk::Room(_) | Desk::Credit(_) | Desk::Files(_) => NO_SEAT,
+            Desk::Semaphore(_)
+            | Desk::Room(_)
+            | Desk::Credit(_)
+            | Desk::Files(_)
+            | Desk::Channel(_)
+            | Desk::Bundle(_) => NO_SEAT,
         }
     }
 
@@ -39,7 +44,12 @@ impl Desk {
                 let tried = desk.try_fill();
                 of_fill(&tried)
             }
-            Desk::Semaphore(_) | Desk::Room(_) | Desk::Credit(_) | Desk::Files(_) => NO_SEAT,
+            Desk::Semaphore(_)
+            | Desk::Room(_)
+            | Desk::Credit(_)
+            | Desk::Files(_)
+            | Desk::Channel(_)
+            | Desk::Bundle(_) => NO_SEAT,
         }
     }
 
@@ -54,7 +64,12 @@ impl Desk {
                 let claimed = desk.claim_delete();
                 of_delete(&claimed, ticket)
             }
-            Desk::Semaphore(_) | Desk::Room(_) | Desk::Credit(_) | Desk::Files(_) => NO_SEAT,
+            Desk::Semaphore(_)
+            | Desk::Room(_)
+            | Desk::Credit(_)
+            | Desk::Files(_)
+            | Desk::Channel(_)
+            | Desk::Bundle(_) => NO_SEAT,
         }
     }
 
@@ -69,7 +84,12 @@ impl Desk {
                 let tried = desk.try_take();
                 of_take(&tried, item)
             }
-            Desk::Semaphore(_) | Desk::Room(_) | Desk::Credit(_) | Desk::Files(_) => NO_SEAT,
+            Desk::Semaphore(_)
+            | Desk::Room(_)
+            | Desk::Credit(_)
+            | Desk::Files(_)
+            | Desk::Channel(_)
+            | Desk::Bundle(_) => NO_SEAT,
         }
     }
 
@@ -84,7 +104,12 @@ impl Desk {
                 let made = desk.insert(item);
                 of_insert_once(&made, ticket)
             }
-            Desk::Semaphore(_) | Desk::Room(_) | Desk::Credit(_) | Desk::Files(_) => NO_SEAT,
+            Desk::Semaphore(_)
+            | Desk::Room(_)
+            | Desk::Credit(_)
+            | Desk::Files(_)
+            | Desk::Channel(_)
+            | Desk::Bundle(_) => NO_SEAT,
         }
     }
 
@@ -100,7 +125,12 @@ impl Desk {
                 let made = desk.delete();
                 of_delete_once(&made, ticket, item)
             }
-            Desk::Semaphore(_) | Desk::Room(_) | Desk::Credit(_) | Desk::Files(_) => NO_SEAT,
+            Desk::Semaphore(_)
+            | Desk::Room(_)
+            | Desk::Credit(_)
+            | Desk::Files(_)
+            | Desk::Channel(_)
+            | Desk::Bundle(_) => NO_SEAT,
         }
     }
 
@@ -115,7 +145,12 @@ impl Desk {
                 let shut = desk.shut();
                 of_shut(shut, was_open)
             }
-            Desk::Semaphore(_) | Desk::Room(_) | Desk::Credit(_) | Desk::Files(_) => NO_SEAT,
+            Desk::Semaphore(_)
+            | Desk::Room(_)
+            | Desk::Credit(_)
+            | Desk::Files(_)
+            | Desk::Channel(_)
+            | Desk::Bundle(_) => NO_SEAT,
         }
     }
 
@@ -130,7 +165,12 @@ impl Desk {
                 desk.pause();
                 OK
             }
-            Desk::Semaphore(_) | Desk::Room(_) | Desk::Credit(_) | Desk::Files(_) => NO_SEAT,
+            Desk::Semaphore(_)
+            | Desk::Room(_)
+            | Desk::Credit(_)
+            | Desk::Files(_)
+            | Desk::Channel(_)
+            | Desk::Bundle(_) => NO_SEAT,
         }
     }
 
@@ -147,7 +187,12 @@ impl Desk {
                 *left = desk.seat.left();
                 OK
             }
-            Desk::Semaphore(_) | Desk::Room(_) | Desk::Credit(_) | Desk::Files(_) => NO_SEAT,
+            Desk::Semaphore(_)
+            | Desk::Room(_)
+            | Desk::Credit(_)
+            | Desk::Files(_)
+            | Desk::Channel(_)
+            | Desk::Bundle(_) => NO_SEAT,
         }
     }
 
@@ -162,7 +207,12 @@ impl Desk {
                 *items = desk.items_ready();
                 OK
             }
-            Desk::Semaphore(_) | Desk::Room(_) | Desk::Credit(_) | Desk::Files(_) => NO_SEAT,
+            Desk::Semaphore(_)
+            | Desk::Room(_)
+            | Desk::Credit(_)
+            | Desk::Files(_)
+            | Desk::Channel(_)
+            | Desk::Bundle(_) => NO_SEAT,
         }
     }
 
@@ -179,7 +229,12 @@ impl Desk {
                 *is_shut = in_use.is_shut;
                 OK
             }
-            Desk::Semaphore(_) | Desk::Room(_) | Desk::Credit(_) | Desk::Files(_) => NO_SEAT,
+            Desk::Semaphore(_)
+            | Desk::Room(_)
+            | Desk::Credit(_)
+            | Desk::Files(_)
+            | Desk::Channel(_)
+            | Desk::Bundle(_) => NO_SEAT,
         }
     }
 
@@ -194,7 +249,12 @@ impl Desk {
                 *is_drained = desk.is_drained();
                 OK
             }
-            Desk::Semaphore(_) | Desk::Room(_) | Desk::Credit(_) | Desk::Files(_) => NO_SEAT,
+            Desk::Semaphore(_)
+            | Desk::Room(_)
+            | Desk::Credit(_)
+            | Desk::Files(_)
+            | Desk::Channel(_)
+            | Desk::Bundle(_) => NO_SEAT,
         }
     }
 }

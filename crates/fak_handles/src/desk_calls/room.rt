@@ -21,7 +21,12 @@ impl Desk {
                 let claimed = desk.tir(amount);
                 of_tir(&claimed, found)
             }
-            Desk::Queue(_) | Desk::Semaphore(_) | Desk::Credit(_) | Desk::Files(_) => NO_SEAT,
+            Desk::Queue(_)
+            | Desk::Semaphore(_)
+            | Desk::Credit(_)
+            | Desk::Files(_)
+            | Desk::Channel(_)
+            | Desk::Bundle(_) => NO_SEAT,
         }
     }
 
@@ -36,7 +41,12 @@ impl Desk {
                 let released = desk.release(amount);
                 of_release(released, found)
             }
-            Desk::Queue(_) | Desk::Semaphore(_) | Desk::Credit(_) | Desk::Files(_) => NO_SEAT,
+            Desk::Queue(_)
+            | Desk::Semaphore(_)
+            | Desk::Credit(_)
+            | Desk::Files(_)
+            | Desk::Channel(_)
+            | Desk::Bundle(_) => NO_SEAT,
         }
     }
 
@@ -52,7 +62,12 @@ impl Desk {
                 *left = desk.seat.left();
                 OK
             }
-            Desk::Queue(_) | Desk::Semaphore(_) | Desk::Credit(_) | Desk::Files(_) => NO_SEAT,
+            Desk::Queue(_)
+            | Desk::Semaphore(_)
+            | Desk::Credit(_)
+            | Desk::Files(_)
+            | Desk::Channel(_)
+            | Desk::Bundle(_) => NO_SEAT,
         }
     }
 }

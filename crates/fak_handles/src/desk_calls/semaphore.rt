@@ -21,7 +21,12 @@ impl Desk {
                 let claimed = desk.claim_down(item);
                 of_down(&claimed)
             }
-            Desk::Queue(_) | Desk::Room(_) | Desk::Credit(_) | Desk::Files(_) => NO_SEAT,
+            Desk::Queue(_)
+            | Desk::Room(_)
+            | Desk::Credit(_)
+            | Desk::Files(_)
+            | Desk::Channel(_)
+            | Desk::Bundle(_) => NO_SEAT,
         }
     }
 
@@ -36,7 +41,12 @@ impl Desk {
                 let tried = desk.try_park();
                 of_park(tried)
             }
-            Desk::Queue(_) | Desk::Room(_) | Desk::Credit(_) | Desk::Files(_) => NO_SEAT,
+            Desk::Queue(_)
+            | Desk::Room(_)
+            | Desk::Credit(_)
+            | Desk::Files(_)
+            | Desk::Channel(_)
+            | Desk::Bundle(_) => NO_SEAT,
         }
     }
 
@@ -51,7 +61,12 @@ impl Desk {
                 let claimed = desk.claim_up();
                 of_up(&claimed)
             }
-            Desk::Queue(_) | Desk::Room(_) | Desk::Credit(_) | Desk::Files(_) => NO_SEAT,
+            Desk::Queue(_)
+            | Desk::Room(_)
+            | Desk::Credit(_)
+            | Desk::Files(_)
+            | Desk::Channel(_)
+            | Desk::Bundle(_) => NO_SEAT,
         }
     }
 
@@ -66,7 +81,12 @@ impl Desk {
                 let tried = desk.try_wake();
                 of_wake(&tried, item)
             }
-            Desk::Queue(_) | Desk::Room(_) | Desk::Credit(_) | Desk::Files(_) => NO_SEAT,
+            Desk::Queue(_)
+            | Desk::Room(_)
+            | Desk::Credit(_)
+            | Desk::Files(_)
+            | Desk::Channel(_)
+            | Desk::Bundle(_) => NO_SEAT,
         }
     }
 
@@ -82,7 +102,12 @@ impl Desk {
                 *left = desk.seat.left();
                 OK
             }
-            Desk::Queue(_) | Desk::Room(_) | Desk::Credit(_) | Desk::Files(_) => NO_SEAT,
+            Desk::Queue(_)
+            | Desk::Room(_)
+            | Desk::Credit(_)
+            | Desk::Files(_)
+            | Desk::Channel(_)
+            | Desk::Bundle(_) => NO_SEAT,
         }
     }
 }

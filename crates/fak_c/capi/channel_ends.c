@@ -1,0 +1,387 @@
+/* Each code of each call of an end and of a shared channel, on one thread; and the memory that an opening takes. The linker's --wrap sends
+ * each allocation here. */
+#include "channel_tests.h"
+
+#include <string.h>
+
+enum { N = 4, STINT = 60 };
+
+static const fak_channel_item seven = {{7, 8, 9, 10}};
+
+static bool are_equal(const fak_channel_item *one, const fak_channel_item *other) {
+    return memcmp(one, other, sizeof *one) == 0;
+}
+
+/* ---- Ends ---- */
+
+static void leave_ends(fak_channel_end *ends, size_t n) {
+    for (size_t i = 0; i < n; i++)
+        CHECK(fak_channel_leave(&ends[i]) == FAK_C_OK && ends[i].seat.at == NULL && fak_channel_leave(&ends[i]) == FAK_C_NO_SEAT);
+}
+
+static void openings_are_refused(void) {
+    static fak_channel_end ends[FAK_C_MOST_SEATS];
+    CHECK(fak_channel_open_ends(ends, 0, 1, 1) == FAK_C_BAD_LIMIT && fak_channel_open_ends(ends, 1025, 1, 1) == FAK_C_BAD_LIMIT);
+    CHECK(fak_channel_open_ends(ends, 1, 0, 1) == FAK_C_BAD_LIMIT && fak_channel_open_ends(ends, 1, 1, 0) == FAK_C_BAD_LIMIT);
+    CHECK(fak_channel_open_ends(ends, 1, FAK_C_MOST_CELLS + 1, 1) == FAK_C_BAD_LIMIT);
+    CHECK(fak_channel_open_ends(ends, 2, 1, FAK_C_MOST_CALLS / 2 + 1) == FAK_C_BAD_LIMIT && ends[0].seat.at == NULL);
+    CHECK(fak_channel_open_ends(ends, 1024, 3, FAK_C_MOST_CALLS / 1024) == FAK_C_OK);
+    CHECK(fak_channel_open_ends(ends, 1, 1, 1) == FAK_C_WRONG_STATE && ends[1023].number == 1023);
+    leave_ends(ends, 1024);
+}
+
+static void ends_pass_items(void) {
+    fak_channel_end ends[N] = {0};
+    fak_channel_item item = {{0}};
+    uint64_t items = 99, before = fak_channel_deadline(0);
+    CHECK(fak_channel_open_ends(ends, N, 2, STINT) == FAK_C_OK);
+    CHECK(fak_channel_send(&ends[0], &seven) == FAK_C_OK && fak_channel_try_send(&ends[1], &seven) == FAK_C_OK);
+    CHECK(fak_channel_try_send(&ends[1], &seven) == FAK_C_FULL);
+    CHECK(fak_channel_send_until(&ends[1], &seven, fak_channel_deadline(A_WHILE)) == FAK_C_GAVE_UP);
+    CHECK(fak_channel_deadline(0) - before >= A_WHILE && fak_channel_deadline(UINT64_MAX) == FAK_CHANNEL_NEVER);
+    CHECK(fak_channel_send_until(&ends[2], &seven, 0) == FAK_C_GAVE_UP);
+    CHECK(fak_channel_len(&ends[0].seat, &items) == FAK_C_OK && items == 2);
+    CHECK(fak_channel_receive(&ends[3], &item) == FAK_C_OK && are_equal(&item, &seven));
+    CHECK(fak_channel_send_until(&ends[2], &item, 0) == FAK_C_OK && fak_channel_receive_until(&ends[0], &item, 0) == FAK_C_OK);
+    CHECK(fak_channel_try_receive(&ends[0], &item) == FAK_C_OK && are_equal(&item, &seven));
+    item.word[0] = 1;
+    before = fak_channel_deadline(0);
+    CHECK(fak_channel_try_receive(&ends[0], &item) == FAK_C_EMPTY && fak_channel_receive_until(&ends[0], &item, 1) == FAK_C_GAVE_UP);
+    CHECK(fak_channel_receive_until(&ends[0], &item, fak_channel_deadline(A_WHILE)) == FAK_C_GAVE_UP && item.word[0] == 1);
+    CHECK(fak_channel_deadline(0) - before >= A_WHILE);
+    leave_ends(ends, N);
+}
+
+static void closed_ends_drain(void) {
+    fak_channel_end ends[N] = {0};
+    fak_channel_item item = {{0}};
+    bool is_closed = true;
+    CHECK(fak_channel_open_ends(ends, N, 2, STINT) == FAK_C_OK && fak_channel_send(&ends[0], &seven) == FAK_C_OK);
+    CHECK(fak_channel_is_closed(&ends[0].seat, &is_closed) == FAK_C_OK && !is_closed);
+    CHECK(fak_channel_close(&ends[1]) == FAK_C_OK && fak_channel_close(&ends[2]) == FAK_C_CLOSED);
+    CHECK(fak_channel_is_closed(&ends[0].seat, &is_closed) == FAK_C_OK && is_closed);
+    CHECK(fak_channel_send(&ends[0], &seven) == FAK_C_CLOSED && fak_channel_try_send(&ends[0], &seven) == FAK_C_CLOSED);
+    CHECK(fak_channel_send_until(&ends[0], &seven, FAK_CHANNEL_NEVER) == FAK_C_CLOSED);
+    CHECK(fak_channel_receive(&ends[3], &item) == FAK_C_OK && are_equal(&item, &seven));
+    CHECK(fak_channel_receive(&ends[3], &item) == FAK_C_CLOSED && fak_channel_try_receive(&ends[3], &item) == FAK_C_CLOSED);
+    CHECK(fak_channel_receive_until(&ends[0], &item, FAK_CHANNEL_NEVER) == FAK_C_CLOSED);
+    leave_ends(ends, N);
+}
+
+/* An end with no seat, one whose seat has an open call, and one whose stint is used up. */
+static void ends_are_refused(void) {
+    fak_channel_end ends[2] = {0}, other = {0};
+    fak_channel_item item = {{0}};
+    uint64_t number = 0;
+    int sent = 0;
+    CHECK(fak_channel_send(&other, &seven) == FAK_C_NO_SEAT && fak_channel_receive(&other, &item) == FAK_C_NO_SEAT);
+    CHECK(fak_channel_try_send(&other, &seven) == FAK_C_NO_SEAT && fak_channel_try_receive(&other, &item) == FAK_C_NO_SEAT);
+    CHECK(fak_channel_send_until(&other, &seven, 0) == FAK_C_NO_SEAT && fak_channel_receive_until(&other, &item, 0) == FAK_C_NO_SEAT);
+    CHECK(fak_channel_close(&other) == FAK_C_NO_SEAT && fak_channel_move(&other, &ends[0]) == FAK_C_NO_SEAT);
+    CHECK(fak_channel_open_ends(ends, 2, 9, 5) == FAK_C_OK && fak_channel_begin_send(&ends[0].seat, &seven) == FAK_C_OK);
+    CHECK(fak_channel_send(&ends[0], &seven) == FAK_C_WRONG_STATE && fak_channel_receive(&ends[0], &item) == FAK_C_WRONG_STATE);
+    CHECK(fak_channel_close(&ends[0]) == FAK_C_WRONG_STATE && fak_channel_leave(&ends[0]) == FAK_C_WRONG_STATE);
+    CHECK(fak_channel_move(&ends[0], &ends[1]) == FAK_C_WRONG_STATE && fak_channel_move(&ends[0], &other) == FAK_C_OK);
+    CHECK(other.number == 0 && ends[0].seat.at == NULL);
+    while (fak_channel_step(&other.seat, &item, &number) != FAK_C_OK)
+        CHECK(number == 0);
+    while (fak_channel_try_send(&other, &seven) == FAK_C_OK)
+        sent++;
+    CHECK(sent < 5 && fak_channel_send(&other, &seven) == FAK_C_WORN && fak_channel_send_until(&other, &seven, 0) == FAK_C_WORN);
+    leave_ends(&other, 1);
+    leave_ends(&ends[1], 1);
+}
+
+/* Adds up what is left. */
+static void add(void *sum, const fak_channel_item *item) {
+    *(uint64_t *)sum = 10 * *(uint64_t *)sum + item->word[0];
+}
+
+static void the_last_end_drops_what_is_left(void) {
+    fak_channel_end ends[2] = {0};
+    uint64_t sum = 0;
+    CHECK(fak_channel_open_ends(ends, 2, 9, STINT) == FAK_C_OK);
+    for (uint64_t word = 1; word <= 3; word++) {
+        fak_channel_item item = fak_channel_of_word(word);
+        CHECK(fak_channel_send(&ends[0], &item) == FAK_C_OK);
+    }
+    CHECK(fak_channel_leave_with(&ends[1], add, &sum) == FAK_C_OK && sum == 0);
+    CHECK(fak_channel_leave_with(&ends[0], add, &sum) == FAK_C_OK && sum == 123);
+}
+
+static void pointers_pass(void) {
+    fak_channel_end ends[1] = {0};
+    fak_channel_item item = fak_channel_of_pointer(ends), got = {{0}};
+    CHECK(fak_channel_open_ends(ends, 1, 1, 9) == FAK_C_OK && fak_channel_send(ends, &item) == FAK_C_OK);
+    CHECK(fak_channel_receive(ends, &got) == FAK_C_OK && fak_channel_pointer_of(&got) == (void *)ends && got.word[3] == 0);
+    leave_ends(ends, 1);
+}
+
+/* ---- The caller's own functions ---- */
+
+static uint64_t parked_at, parked_until, woken, parks, wakes;
+
+static bool never_parks(void *context, uint64_t number, uint64_t deadline) {
+    CHECK(context == &parks);
+    parked_at = number;
+    parked_until = deadline;
+    return ++parks % 3 != 0; /* two of three times for no reason */
+}
+
+static void notes(void *context, uint64_t number) {
+    CHECK(context == &parks);
+    woken = number;
+    wakes++;
+}
+
+/* Begins a call by steps, which sleeps. */
+static void sleep_by_steps(fak_c_seat *seat, const fak_channel_item *sent) {
+    fak_channel_item item = {{0}};
+    uint64_t number = 99;
+    CHECK((sent != NULL ? fak_channel_begin_send(seat, sent) : fak_channel_begin_receive(seat)) == FAK_C_OK);
+    while (fak_channel_step(seat, &item, &number) != FAK_C_SLEEPS)
+        CHECK(number == 99);
+}
+
+/* Ends it, since it was woken. */
+static void wake_by_steps(fak_c_seat *seat, int32_t code) {
+    fak_channel_item item = {{0}};
+    uint64_t number = 99;
+    CHECK(woken == 0);
+    woken = 99;
+    while (fak_channel_step(seat, &item, &number) != code)
+        CHECK(number == 99);
+}
+
+static void own_functions_are_called(void) {
+    fak_channel_waiting waiting = {never_parks, notes, NULL, &parks, 0};
+    fak_c_seat seats[3] = {0};
+    fak_channel_end ends[3] = {0};
+    fak_channel_item item = {{0}};
+    CHECK(fak_channel_end_of(&seats[0], &waiting, &ends[0]) == FAK_C_NO_SEAT && fak_channel_open(seats, 3, 1, STINT) == FAK_C_OK);
+    sleep_by_steps(&seats[2], NULL);
+    CHECK(fak_channel_end_of(&seats[2], &waiting, &ends[2]) == FAK_C_WRONG_STATE && waiting.ends == 0);
+    CHECK(fak_channel_give_up(&seats[2], &item) == FAK_C_GAVE_UP && fak_channel_end_of(&seats[2], &waiting, &ends[2]) == FAK_C_OK);
+    CHECK(fak_channel_end_of(&seats[1], &waiting, &ends[2]) == FAK_C_WRONG_STATE);
+    CHECK(fak_channel_end_of(&seats[1], &waiting, &ends[0]) == FAK_C_OK && ends[0].number == 1 && waiting.ends == 2);
+    CHECK(fak_channel_receive_until(&ends[0], &item, 77) == FAK_C_GAVE_UP && parks == 3 && parked_at == 1 && parked_until == 77);
+    CHECK(fak_channel_receive_until(&ends[2], &item, 0) == FAK_C_GAVE_UP && parks == 3);
+    woken = 99;
+    sleep_by_steps(&seats[0], NULL);
+    CHECK(fak_channel_send(&ends[2], &seven) == FAK_C_OK && wakes == 1);
+    wake_by_steps(&seats[0], FAK_C_OK);
+    CHECK(fak_channel_send(&ends[2], &seven) == FAK_C_OK);
+    sleep_by_steps(&seats[0], &seven);
+    CHECK(fak_channel_receive(&ends[2], &item) == FAK_C_OK && wakes == 2);
+    wake_by_steps(&seats[0], FAK_C_OK);
+    CHECK(fak_channel_leave(&ends[0]) == FAK_C_OK && fak_channel_leave(&ends[2]) == FAK_C_OK && waiting.ends == 0);
+    CHECK(fak_c_leave(&seats[0]) == FAK_C_OK);
+}
+
+/* A close wakes who sleeps: a receiver, or a sender. */
+static void a_close_wakes_each_side(void) {
+    for (int sends = 0; sends < 2; sends++) {
+        fak_channel_waiting waiting = {never_parks, notes, NULL, &parks, 0};
+        fak_c_seat seats[2] = {0};
+        fak_channel_end end = {0};
+        CHECK(fak_channel_open(seats, 2, 1, STINT) == FAK_C_OK && fak_channel_end_of(&seats[1], &waiting, &end) == FAK_C_OK);
+        CHECK(sends == 0 || fak_channel_send(&end, &seven) == FAK_C_OK);
+        sleep_by_steps(&seats[0], sends == 0 ? NULL : &seven);
+        CHECK(fak_channel_close(&end) == FAK_C_OK);
+        wake_by_steps(&seats[0], FAK_C_CLOSED);
+        CHECK(fak_channel_leave(&end) == FAK_C_OK && fak_c_leave(&seats[0]) == FAK_C_OK);
+    }
+}
+
+void each_end_is_answered(void) {
+    openings_are_refused();
+    ends_pass_items();
+    closed_ends_drain();
+    ends_are_refused();
+    the_last_end_drops_what_is_left();
+    pointers_pass();
+    own_functions_are_called();
+    a_close_wakes_each_side();
+}
+
+/* ---- A shared channel ---- */
+
+enum { SENDERS = 2, RECEIVERS = 1, SHARED = FAK_CHANNEL_SHARED_ENDS(SENDERS, RECEIVERS) };
+
+static void shared_openings_are_refused(void) {
+    static fak_channel_end ends[FAK_C_MOST_SEATS];
+    fak_channel_shared shared = {0};
+    CHECK(fak_channel_shared_open(&shared, ends, 0, 1, 1, 1) == FAK_C_BAD_LIMIT);
+    CHECK(fak_channel_shared_open(&shared, ends, 1, 0, 1, 1) == FAK_C_BAD_LIMIT);
+    CHECK(fak_channel_shared_open(&shared, ends, 1000, 23, 1, 1) == FAK_C_BAD_LIMIT);
+    CHECK(fak_channel_shared_open(&shared, ends, SIZE_MAX, 2, 1, 1) == FAK_C_BAD_LIMIT);
+    CHECK(fak_channel_shared_open(&shared, ends, 1, 1, 0, 1) == FAK_C_BAD_LIMIT);
+    CHECK(fak_channel_shared_over(&shared, ends, 0, 1) == FAK_C_BAD_LIMIT);
+    CHECK(fak_channel_shared_over(&shared, ends, 1, 1) == FAK_C_NO_SEAT);
+    CHECK(fak_channel_shared_open(&shared, ends, 1000, 22, 1, 1) == FAK_C_OK && fak_channel_shared_leave(&shared) == FAK_C_OK);
+    CHECK(ends[0].seat.at == NULL && ends[1023].seat.at == NULL);
+}
+
+static void shared_calls_pass_items(void) {
+    fak_channel_end ends[SHARED] = {0};
+    fak_channel_shared shared = {0};
+    fak_channel_item item = {{0}};
+    uint64_t items = 99, sum = 0;
+    bool is_closed = true;
+    CHECK(fak_channel_shared_open(&shared, ends, SENDERS, RECEIVERS, 2, STINT) == FAK_C_OK);
+    CHECK(fak_channel_shared_try_receive(&shared, &item) == FAK_C_EMPTY);
+    CHECK(fak_channel_shared_receive_until(&shared, &item, fak_channel_deadline(A_WHILE)) == FAK_C_GAVE_UP);
+    CHECK(fak_channel_shared_send(&shared, &seven) == FAK_C_OK && fak_channel_shared_try_send(&shared, &seven) == FAK_C_OK);
+    CHECK(fak_channel_shared_try_send(&shared, &seven) == FAK_C_FULL);
+    CHECK(fak_channel_shared_send_until(&shared, &seven, 0) == FAK_C_GAVE_UP);
+    CHECK(fak_channel_shared_receive(&shared, &item) == FAK_C_OK && are_equal(&item, &seven));
+    CHECK(fak_channel_shared_send_until(&shared, &seven, 0) == FAK_C_OK);
+    CHECK(fak_channel_shared_len(&shared, &items) == FAK_C_OK && items == 2);
+    CHECK(fak_channel_shared_receive_until(&shared, &item, 0) == FAK_C_OK && fak_channel_shared_try_receive(&shared, &item) == FAK_C_OK);
+    CHECK(fak_channel_shared_send(&shared, &seven) == FAK_C_OK && fak_channel_shared_send(&shared, &seven) == FAK_C_OK);
+    CHECK(fak_channel_shared_is_closed(&shared, &is_closed) == FAK_C_OK && !is_closed);
+    CHECK(fak_channel_shared_close(&shared) == FAK_C_OK && fak_channel_shared_close(&shared) == FAK_C_CLOSED);
+    CHECK(fak_channel_shared_is_closed(&shared, &is_closed) == FAK_C_OK && is_closed);
+    CHECK(fak_channel_shared_send(&shared, &seven) == FAK_C_CLOSED && fak_channel_shared_try_send(&shared, &seven) == FAK_C_CLOSED);
+    CHECK(fak_channel_shared_receive(&shared, &item) == FAK_C_OK);
+    CHECK(fak_channel_shared_leave_with(&shared, add, &sum) == FAK_C_OK && sum == 7);
+}
+
+/* Ends that are lent are not lent twice, and not given up. */
+static void ends_are_lent_once(void) {
+    fak_channel_end ends[SHARED] = {0};
+    fak_channel_shared shared = {0};
+    fak_channel_item item = {{0}};
+    CHECK(fak_channel_open_ends(ends, SHARED, 2, STINT) == FAK_C_OK);
+    CHECK(fak_channel_shared_over(&shared, ends, SENDERS, RECEIVERS) == FAK_C_OK);
+    shared.receivers.idle[0] = 0; /* as if a thread had the only end */
+    CHECK(fak_channel_shared_try_receive(&shared, &item) == FAK_C_BUSY && fak_channel_shared_try_send(&shared, &seven) == FAK_C_OK);
+    CHECK(fak_channel_shared_receive_until(&shared, &item, fak_channel_deadline(A_WHILE)) == FAK_C_GAVE_UP);
+    CHECK(fak_channel_shared_leave(&shared) == FAK_C_WRONG_STATE && ends[0].seat.at != NULL);
+    shared.receivers.idle[0] = 1;
+    CHECK(fak_channel_shared_receive(&shared, &item) == FAK_C_OK && fak_channel_shared_leave(&shared) == FAK_C_OK);
+}
+
+static fak_channel_shared *lending;
+
+/* While a caller waits for the only end of receivers, it comes back. While a receive sleeps, nobody else has its end. */
+static bool gives_back(void *context, uint64_t number, uint64_t deadline) {
+    CHECK(context == &parks && deadline != 0 && lending->receivers.idle[0] == 0 && lending->receivers.sleepers == (number == 1));
+    parked_at = number;
+    if (number == 1)
+        lending->receivers.idle[0] = 1;
+    return number == 1;
+}
+
+/* Who waits for an end parks at the first two numbers, and is woken when one comes back, and when there is another. */
+static void lenders_call_own_functions(void) {
+    fak_channel_waiting waiting = {gives_back, notes, NULL, &parks, 0};
+    fak_c_seat seats[SHARED] = {0};
+    fak_channel_end ends[SHARED] = {0};
+    fak_channel_shared shared = {0};
+    fak_channel_item item = {{0}};
+    CHECK(fak_channel_open(seats, SHARED, 2, STINT) == FAK_C_OK);
+    for (int i = 0; i < SHARED; i++)
+        CHECK(fak_channel_end_of(&seats[i], &waiting, &ends[i]) == FAK_C_OK);
+    CHECK(fak_channel_shared_over(&shared, ends, SENDERS, RECEIVERS) == FAK_C_OK);
+    lending = &shared;
+    wakes = 0;
+    CHECK(fak_channel_shared_receive_until(&shared, &item, 5) == FAK_C_GAVE_UP && parked_at == SHARED - 1);
+    CHECK(fak_channel_shared_send(&shared, &seven) == FAK_C_OK && wakes == 0);
+    shared.receivers.idle[0] = 0;
+    CHECK(fak_channel_shared_receive(&shared, &item) == FAK_C_OK && parked_at == 1 && wakes == 0);
+    shared.receivers.sleepers = 1; /* as if another thread waited */
+    CHECK(fak_channel_shared_try_receive(&shared, &item) == FAK_C_EMPTY && wakes == 1 && woken == 1);
+    CHECK(fak_channel_shared_leave(&shared) == FAK_C_WRONG_STATE);
+    shared.receivers.sleepers = 0;
+    shared.senders.sleepers = 1;
+    CHECK(fak_channel_shared_try_send(&shared, &seven) == FAK_C_OK && wakes == 3 && woken == 0);
+    shared.senders.sleepers = 0;
+    CHECK(fak_channel_shared_leave(&shared) == FAK_C_OK);
+}
+
+/* An end whose stint is used up is not lent again. */
+static void worn_ends_are_put_aside(void) {
+    enum { FEW = 4 };
+    fak_channel_end ends[SHARED] = {0};
+    fak_channel_shared shared = {0};
+    fak_channel_item item = {{0}};
+    int sent = 0, received = 0;
+    CHECK(fak_channel_shared_open(&shared, ends, SENDERS, RECEIVERS, 99, FEW) == FAK_C_OK);
+    while (fak_channel_shared_send(&shared, &seven) == FAK_C_OK)
+        sent++;
+    while (fak_channel_shared_receive(&shared, &item) == FAK_C_OK)
+        received++;
+    CHECK(sent >= FEW && sent <= SENDERS * FEW && received >= 1 && received <= FEW && sent > received);
+    CHECK(fak_channel_shared_try_send(&shared, &seven) == FAK_C_WORN && fak_channel_shared_receive(&shared, &item) == FAK_C_WORN);
+    CHECK(fak_channel_shared_leave(&shared) == FAK_C_OK);
+}
+
+void each_shared_call_is_answered(void) {
+    shared_openings_are_refused();
+    shared_calls_pass_items();
+    ends_are_lent_once();
+    lenders_call_own_functions();
+    worn_ends_are_put_aside();
+}
+
+/* ---- Memory ---- */
+
+static long made, failing, live;
+
+void *__real_malloc(size_t size);
+void *__wrap_malloc(size_t size);
+void *__real_calloc(size_t count, size_t size);
+void *__wrap_calloc(size_t count, size_t size);
+void *__real_aligned_alloc(size_t align, size_t size);
+void *__wrap_aligned_alloc(size_t align, size_t size);
+void __real_free(void *block);
+void __wrap_free(void *block);
+
+/* Whether this allocation is one that is made. */
+static bool is_made(void) {
+    return __atomic_add_fetch(&made, 1, __ATOMIC_RELAXED) != failing;
+}
+
+static void *counted(void *block) {
+    __atomic_fetch_add(&live, block != NULL, __ATOMIC_RELAXED);
+    return block;
+}
+
+void *__wrap_malloc(size_t size) {
+    return is_made() ? counted(__real_malloc(size)) : NULL;
+}
+
+void *__wrap_calloc(size_t count, size_t size) {
+    return is_made() ? counted(__real_calloc(count, size)) : NULL;
+}
+
+void *__wrap_aligned_alloc(size_t align, size_t size) {
+    return is_made() ? counted(__real_aligned_alloc(align, size)) : NULL;
+}
+
+void __wrap_free(void *block) {
+    __atomic_fetch_sub(&live, block != NULL, __ATOMIC_RELAXED);
+    __real_free(block);
+}
+
+void want_of_channel_memory_is_answered(void) {
+    fak_channel_end ends[SHARED] = {0};
+    fak_channel_shared shared = {0};
+    fak_channel_item item = {{0}};
+    int32_t code;
+    long before;
+    failing = 0;
+    do {
+        made = 0;
+        failing++;
+        code = fak_channel_shared_open(&shared, ends, SENDERS, RECEIVERS, 3, STINT);
+        CHECK(code == FAK_C_OK || (code == FAK_C_MEMORY && live == 0 && ends[0].seat.at == NULL && ends[SHARED - 1].seat.at == NULL));
+    } while (code != FAK_C_OK);
+    CHECK(failing > 3);
+    failing = 0;
+    before = made;
+    CHECK(fak_channel_shared_send(&shared, &seven) == FAK_C_OK && fak_channel_shared_receive(&shared, &item) == FAK_C_OK);
+    CHECK(fak_channel_shared_receive_until(&shared, &item, 1) == FAK_C_GAVE_UP && fak_channel_shared_close(&shared) == FAK_C_OK);
+    CHECK(made == before && fak_channel_shared_leave(&shared) == FAK_C_OK && live == 0);
+}

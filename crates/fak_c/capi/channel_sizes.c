@@ -1,0 +1,135 @@
+/* How much stack the calls of a channel by steps take, and how many bytes a channel keeps of the heap, and takes while it opens: what
+ * fak_channel.h says of each. The heap counts. */
+#include "fak_channel.h"
+#include "tests.h"
+
+#include <string.h>
+#include <ucontext.h>
+
+enum { STACK = 65536, PAINT = 0xA5, ENDS = 4, CELLS = 2 };
+
+static unsigned char stack[STACK];
+static ucontext_t here, there;
+static void (*runs)(void);
+static fak_c_seat ends[ENDS];
+
+/* ---- The heap, which counts as block.c does: 16 bytes in front of each part ---- */
+
+struct answer {
+    bool found;
+    void *at;
+};
+
+static size_t live, taken;
+
+struct answer rattle_alloc(size_t size, size_t align);
+struct answer rattle_realloc(void *part, size_t kept, size_t size, size_t align);
+void rattle_dealloc(void *part);
+
+struct answer rattle_alloc(size_t size, size_t align) {
+    size_t *part = malloc(size + 16);
+    CHECK(part != NULL && align <= 16);
+    part[0] = size;
+    live += size;
+    taken += 16 + ((size + 15) & ~(size_t)15);
+    return (struct answer){true, (unsigned char *)part + 16};
+}
+
+struct answer rattle_realloc(void *part, size_t kept, size_t size, size_t align) {
+    (void)part, (void)kept, (void)size, (void)align;
+    return (struct answer){false, &live};
+}
+
+void rattle_dealloc(void *part) {
+    live -= *(const size_t *)(const void *)((const unsigned char *)part - 16);
+    free((unsigned char *)part - 16);
+}
+
+/* ---- Stack ---- */
+
+static void run(void) { runs(); }
+
+/* How much of its stack the job writes. */
+static size_t depth_of(void (*job)(void)) {
+    size_t unused = 0;
+    memset(stack, PAINT, STACK);
+    runs = job;
+    CHECK(getcontext(&there) == 0);
+    there.uc_stack.ss_sp = stack;
+    there.uc_stack.ss_size = STACK;
+    there.uc_link = &here;
+    makecontext(&there, run, 0);
+    CHECK(swapcontext(&here, &there) == 0);
+    while (unused < STACK && stack[unused] == PAINT)
+        unused++;
+    return STACK - unused;
+}
+
+static void nothing(void) {}
+
+static void open_all(void) { CHECK(fak_channel_open(ends, ENDS, CELLS, 1000) == FAK_C_OK); }
+
+static void leave_all(void) {
+    for (int i = 0; i < ENDS; i++)
+        CHECK(fak_c_leave(&ends[i]) == FAK_C_OK);
+}
+
+/* Kept off the stack, which is measured. */
+static fak_channel_item item;
+static uint64_t number, left;
+static uint32_t state;
+static bool is_closed;
+
+/* The open call, until it is done or sleeps. */
+static int32_t run_steps(fak_c_seat *end) {
+    int32_t code;
+    do
+        code = fak_channel_step(end, &item, &number);
+    while (code == FAK_C_NOT_YET || code == FAK_C_WAKES);
+    return code;
+}
+
+/* Sends and receives that pass, sleep, wake, give up, and find the channel closed. */
+static void use_all(void) {
+    for (int i = 0; i < CELLS; i++)
+        CHECK(fak_channel_begin_send(&ends[0], &item) == FAK_C_OK && run_steps(&ends[0]) == FAK_C_OK);
+    CHECK(fak_channel_begin_send(&ends[0], &item) == FAK_C_OK && run_steps(&ends[0]) == FAK_C_SLEEPS);
+    CHECK(fak_channel_begin_send(&ends[1], &item) == FAK_C_OK && run_steps(&ends[1]) == FAK_C_SLEEPS);
+    CHECK(fak_channel_give_up(&ends[1], &item) == FAK_C_GAVE_UP && fak_channel_begin_try_send(&ends[1], &item) == FAK_C_FULL);
+    CHECK(fak_channel_begin_receive(&ends[2]) == FAK_C_OK && run_steps(&ends[2]) == FAK_C_OK && run_steps(&ends[0]) == FAK_C_OK);
+    for (int i = 0; i < CELLS; i++)
+        CHECK(fak_channel_begin_try_receive(&ends[2]) == FAK_C_OK && run_steps(&ends[2]) == FAK_C_OK);
+    CHECK(fak_channel_begin_try_receive(&ends[2]) == FAK_C_EMPTY);
+    CHECK(fak_channel_begin_receive(&ends[2]) == FAK_C_OK && run_steps(&ends[2]) == FAK_C_SLEEPS);
+    CHECK(fak_channel_len(&ends[2], &left) == FAK_C_OK && fak_channel_is_closed(&ends[2], &is_closed) == FAK_C_OK);
+    CHECK(fak_channel_state(&ends[2], &number, &state, &left) == FAK_C_OK);
+    CHECK(fak_channel_begin_close(&ends[3]) == FAK_C_OK && run_steps(&ends[3]) == FAK_C_OK && run_steps(&ends[2]) == FAK_C_CLOSED);
+    CHECK(fak_channel_begin_send(&ends[0], &item) == FAK_C_OK && run_steps(&ends[0]) == FAK_C_CLOSED);
+}
+
+/* ---- Heap ---- */
+
+static fak_c_seat many[LARGE_SEATS];
+
+/* A channel keeps what the header says, takes no more than it says, a head of 32 bytes with it, and gives all of it back. */
+static void keeps(size_t n, uint64_t size) {
+    taken = 32;
+    CHECK(fak_channel_open(many, n, size, 1000) == FAK_C_OK);
+    CHECK(live == FAK_CHANNEL_KEEPS(n, size) && taken <= FAK_CHANNEL_BYTES(n, size) && taken + 256 >= FAK_CHANNEL_BYTES(n, size));
+    for (size_t i = 0; i < n; i++)
+        CHECK(fak_c_leave(&many[i]) == FAK_C_OK);
+    CHECK(live == 0);
+}
+
+int main(void) {
+    static const uint64_t sizes[] = {1, 2, 7, 64, 1000, 4096, 65537};
+    size_t base = depth_of(nothing), opening = depth_of(open_all) - base, other = depth_of(use_all) - base;
+    size_t leaving = depth_of(leave_all) - base;
+    CHECK(live == 0);
+    for (size_t i = 0; i < sizeof sizes / sizeof *sizes; i++)
+        for (size_t n = 1; n <= LARGE_SEATS; n += n < 70 ? 1 : 159)
+            keeps(n, sizes[i]);
+    printf("stack: %zu bytes in a call that opens, %zu in fak_c_leave, %zu in others\n", opening, leaving, other);
+    CHECK(opening < 8192 && leaving < 4608 && other < 512);
+    return 0;
+}

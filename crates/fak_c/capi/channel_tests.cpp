@@ -1,0 +1,193 @@
+/* Tests of fak_channel.hpp: items of each kind, handles that move and end, each call and its codes, and owned items that threads share. */
+#include "fak_channel.hpp"
+
+#include <array>
+#include <cstdio>
+#include <cstdlib>
+#include <thread>
+#include <vector>
+
+using fak::Code;
+
+/* Ends the program if the condition does not hold. */
+#define CHECK(condition) \
+    do { \
+        if (!(condition)) { \
+            std::fprintf(stderr, "%s:%d: not so: %s\n", __FILE__, __LINE__, #condition); \
+            std::exit(1); \
+        } \
+    } while (0)
+
+/* ---- Items ---- */
+
+/* An item that counts how many of it there are. */
+struct Counted {
+    static inline std::atomic<long> live{0};
+    int sender, number;
+    Counted(int sender, int number) : sender(sender), number(number) { live++; }
+    Counted(const Counted &) = delete;
+    ~Counted() { live--; }
+};
+
+using Owned = std::unique_ptr<Counted>;
+
+struct Large {
+    std::uint64_t words[4];
+};
+
+/* An item comes out as it went in, by an end and by a sender and a receiver. */
+template <class T, class Same> static void passes(const T &item, Same same) {
+    fak::ChannelEnd<T> ends[2];
+    CHECK(fak::ChannelEnd<T>::open(ends, 4, 100) == Code::Ok && ends[0].send(item) == Code::Ok);
+    auto got = ends[1].receive();
+    CHECK(got && same(got.value));
+    auto channel = fak::Channel<T>::open(4);
+    CHECK(channel && channel.value.sender.send(item) == Code::Ok && channel.value.sender.try_send(item) == Code::Ok);
+    CHECK(channel.value.sender.send_for(item, std::chrono::seconds(9)) == Code::Ok);
+    for (int i = 0; i < 3; i++) {
+        auto received = channel.value.receiver.receive();
+        CHECK(received && same(received.value));
+    }
+}
+
+static void items_have_types() {
+    static const int place = 0;
+    passes<int>(-7, [](int item) { return item == -7; });
+    passes<char>('x', [](char item) { return item == 'x'; });
+    passes<const int *>(&place, [](const int *item) { return item == &place; });
+    passes<Large>({{1, 2, 3, 4}}, [](const Large &item) { return item.words[0] == 1 && item.words[3] == 4; });
+}
+
+/* ---- Handles ---- */
+
+static void ends_own_their_items() {
+    {
+        std::array<fak::ChannelEnd<Owned>, 3> ends;
+        CHECK(fak::ChannelEnd<Owned>::open(ends, 2, 100) == Code::Ok && ends[0]);
+        CHECK(fak::ChannelEnd<Owned>::open(ends, 2, 100) == Code::WrongState);
+        Owned item = std::make_unique<Counted>(1, 2);
+        CHECK(ends[0].send(std::move(item)) == Code::Ok && item == nullptr && Counted::live == 1);
+        CHECK(ends[0].try_send(std::make_unique<Counted>(1, 3)) == Code::Ok);
+        item = std::make_unique<Counted>(1, 4);
+        CHECK(ends[0].try_send(std::move(item)) == Code::Full && item != nullptr);
+        CHECK(ends[0].send_until(std::move(item), fak::Clock::now()) == Code::GaveUp && item != nullptr && Counted::live == 3);
+        auto got = ends[1].receive();
+        CHECK(got && got.value->number == 2);
+        fak::ChannelEnd<Owned> moved = std::move(ends[0]);
+        CHECK(moved && !ends[0] && ends[0].send(std::move(item)) == Code::NoSeat && item != nullptr);
+        CHECK(moved.send(std::move(item)) == Code::Ok && moved.len().value == 2 && !moved.is_closed().value);
+        ends[0] = std::move(moved);
+        fak::ChannelEnd<Owned> &same = ends[0];
+        ends[0] = std::move(same);
+        CHECK(ends[0].close() == Code::Ok && ends[1].close() == Code::Closed && ends[2].is_closed().value);
+        CHECK(ends[0].try_send(std::move(got.value)) == Code::Closed && got.value != nullptr);
+        CHECK(ends[1].try_receive().value->number == 3 && ends[2].leave() == Code::Ok && !ends[2] && ends[2].leave() == Code::NoSeat);
+        CHECK(Counted::live == 2 && ends[0].get_end()->seat.at != nullptr);
+    }
+    CHECK(Counted::live == 0);
+}
+
+static void ends_wait_until_a_time() {
+    std::vector<fak::ChannelEnd<int>> ends(1);
+    auto time = fak::Clock::now() + std::chrono::milliseconds(20);
+    CHECK(fak::ChannelEnd<int>::open(ends, 1, 100) == Code::Ok && ends[0].try_receive().code == Code::Empty);
+    CHECK(ends[0].receive_until(time).code == Code::GaveUp && fak::Clock::now() >= time);
+    CHECK(ends[0].receive_until(fak::Clock::time_point()).code == Code::GaveUp);
+    CHECK(ends[0].send_until(5, fak::Clock::time_point::max()) == Code::Ok && ends[0].receive_until(time).value == 5);
+    CHECK(ends[0].close() == Code::Ok && ends[0].receive().code == Code::Closed);
+}
+
+static void parties_own_the_channel() {
+    CHECK(fak::Channel<int>::open(0).code == Code::BadLimit && fak::Channel<int>::open(1, 0).code == Code::BadLimit);
+    CHECK(fak::Channel<int>::open(1, SIZE_MAX).code == Code::BadLimit && fak::Channel<int>::open(1, 1022, 1).code == Code::BadLimit);
+    fak::Sender<Owned> empty;
+    Owned item = std::make_unique<Counted>(0, 1);
+    CHECK(!empty && empty.send(std::move(item)) == Code::NoSeat && item != nullptr);
+    CHECK(empty.close() == Code::NoSeat && empty.len().code == Code::NoSeat);
+    CHECK(!fak::Receiver<int>() && fak::Receiver<int>().receive().code == Code::NoSeat && empty.is_closed().code == Code::NoSeat);
+    auto made = fak::Channel<Owned>::open(2, 1, 1);
+    CHECK(made);
+    {
+        auto [sender, receiver] = std::move(made.value);
+        fak::Sender<Owned> copy = sender;
+        CHECK(sender.send_for(std::move(item), std::chrono::hours::max()) == Code::Ok && copy.len().value == 1);
+        CHECK(copy.try_send(std::make_unique<Counted>(0, 2)) == Code::Ok);
+        item = std::make_unique<Counted>(0, 3);
+        CHECK(copy.try_send(std::move(item)) == Code::Full && copy.send_for(std::move(item), std::chrono::milliseconds(5)) == Code::GaveUp);
+        sender = fak::Sender<Owned>();
+        CHECK(!receiver.is_closed().value);
+        copy = sender;
+        CHECK(receiver.is_closed().value && receiver.receive().value->number == 1);
+        CHECK(Counted::live == 2);
+        fak::Receiver<Owned> other = std::move(receiver);
+        CHECK(!receiver && other.try_receive().value->number == 2 && other.try_receive().code == Code::Closed);
+        CHECK(other.receive_for(std::chrono::seconds(9)).code == Code::Closed);
+    }
+    made = fak::Channel<Owned>::open(2, 1, 1);
+    CHECK(made.value.sender.send(std::move(item)) == Code::Ok && made.value.receiver.receive_for(std::chrono::seconds(9)));
+    made.value.receiver = fak::Receiver<Owned>();
+    item = std::make_unique<Counted>(0, 4);
+    CHECK(made.value.sender.send(std::move(item)) == Code::Closed && item != nullptr);
+    made = fak::Channel<Owned>::open(2, 1, 1);
+    CHECK(made.value.sender.send(std::move(item)) == Code::Ok && Counted::live == 1);
+    made = {Code::Ok, {}};
+    CHECK(Counted::live == 0);
+}
+
+/* ---- Threads ---- */
+
+/* More threads than ends send and receive owned items: each comes once. The channel closes when the last sender goes. */
+static void threads_share_a_channel(int items) {
+    constexpr int threads = 6;
+    auto made = fak::Channel<Owned>::open(3, 2, 2);
+    std::array<std::vector<std::atomic<int>>, threads> taken;
+    std::vector<std::thread> running;
+    for (auto &of_sender : taken)
+        of_sender = std::vector<std::atomic<int>>(static_cast<std::size_t>(items));
+    CHECK(made);
+    for (int number = 0; number < threads; number++) {
+        running.emplace_back([=, sender = made.value.sender]() mutable {
+            for (int item = 0; item < items; item++)
+                CHECK(sender.send(std::make_unique<Counted>(number, item)) == Code::Ok);
+        });
+        running.emplace_back([&taken, receiver = made.value.receiver]() mutable {
+            while (auto got = receiver.receive())
+                CHECK(taken[static_cast<std::size_t>(got.value->sender)][static_cast<std::size_t>(got.value->number)]++ == 0);
+            CHECK(receiver.receive().code == Code::Closed);
+        });
+    }
+    made.value.sender = fak::Sender<Owned>();
+    for (auto &thread : running)
+        thread.join();
+    for (auto &of_sender : taken)
+        for (auto &count : of_sender)
+            CHECK(count == 1);
+    CHECK(Counted::live == 0 && made.value.receiver.len().value == 0);
+}
+
+/* Two threads with an end each. */
+static void ends_pass_items_between_threads(int items) {
+    std::array<fak::ChannelEnd<Owned>, 2> ends;
+    CHECK(fak::ChannelEnd<Owned>::open(ends, 4, UINT64_C(1) << 40) == Code::Ok);
+    std::thread sender([=, end = std::move(ends[0])]() mutable {
+        for (int item = 0; item < items; item++)
+            CHECK(end.send(std::make_unique<Counted>(0, item)) == Code::Ok);
+        CHECK(end.close() == Code::Ok);
+    });
+    for (int item = 0; item < items; item++)
+        CHECK(ends[1].receive().value->number == item);
+    CHECK(ends[1].receive().code == Code::Closed);
+    sender.join();
+}
+
+int main(int count, char **words) {
+    int items = count > 1 ? std::atoi(words[1]) : 20000;
+    items_have_types();
+    ends_own_their_items();
+    ends_wait_until_a_time();
+    parties_own_the_channel();
+    threads_share_a_channel(items);
+    ends_pass_items_between_threads(items);
+    CHECK(Counted::live == 0);
+    return 0;
+}

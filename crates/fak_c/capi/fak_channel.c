@@ -1,0 +1,511 @@
+/* The channel for threads (fak_channel.h), over its calls by steps: the ends, the shared channel, and how threads sleep on Linux. In a
+ * freestanding build only the last part is missing. */
+#ifndef _GNU_SOURCE
+#define _GNU_SOURCE
+#endif
+#include "fak_channel.h"
+
+/* How a tried call sleeps: not at all. */
+#define NO_TIME 0
+
+/* ---- Ends ---- */
+
+/* Waits a moment for a step of another thread. */
+static void pause_once(const fak_channel_waiting *waiting, uint64_t rounds) {
+    if (waiting->pause != NULL)
+        waiting->pause(waiting->context, rounds);
+}
+
+/* Takes the open call of an end to its last step. It sleeps until the deadline at most. */
+static int32_t go_on(fak_channel_end *end, fak_channel_item *item, uint64_t deadline) {
+    const fak_channel_waiting *waiting = end->waiting;
+    uint64_t rounds = 0, number = 0;
+    for (;;) {
+        int32_t code = fak_channel_step(&end->seat, item, &number);
+        if (code == FAK_C_NOT_YET) {
+            pause_once(waiting, rounds++);
+            continue;
+        }
+        rounds = 0;
+        if (code == FAK_C_WAKES) {
+            waiting->unpark(waiting->context, number);
+        } else if (code != FAK_C_SLEEPS) {
+            return code;
+        } else if (deadline == NO_TIME || !waiting->park(waiting->context, end->number, deadline)) {
+            code = fak_channel_give_up(&end->seat, item);
+            if (code != FAK_C_NOT_YET)
+                return code;
+        }
+    }
+}
+
+/* Takes a send that was begun with this code to its last step. */
+static int32_t end_send(fak_channel_end *end, fak_channel_item *item, uint64_t deadline, int32_t begun) {
+    if (begun == FAK_C_OK) {
+        FAK_C_GIVES(end->waiting);
+        begun = go_on(end, item, deadline);
+    }
+    if (begun == FAK_C_CLOSED)
+        FAK_C_GETS(end->waiting);
+    return begun;
+}
+
+/* The same of a receive. */
+static int32_t end_receive(fak_channel_end *end, fak_channel_item *item, uint64_t deadline, int32_t begun) {
+    fak_channel_item received = {{0, 0, 0, 0}};
+    if (begun == FAK_C_OK)
+        begun = go_on(end, &received, deadline);
+    if (begun == FAK_C_OK)
+        *item = received;
+    if (begun == FAK_C_OK || begun == FAK_C_CLOSED)
+        FAK_C_GETS(end->waiting);
+    return begun;
+}
+
+int32_t fak_channel_send_until(fak_channel_end *end, const fak_channel_item *item, uint64_t deadline) {
+    fak_channel_item sent = *item;
+    return end_send(end, &sent, deadline, fak_channel_begin_send(&end->seat, &sent));
+}
+
+int32_t fak_channel_receive_until(fak_channel_end *end, fak_channel_item *item, uint64_t deadline) {
+    return end_receive(end, item, deadline, fak_channel_begin_receive(&end->seat));
+}
+
+int32_t fak_channel_send(fak_channel_end *end, const fak_channel_item *item) {
+    return fak_channel_send_until(end, item, FAK_CHANNEL_NEVER);
+}
+
+int32_t fak_channel_receive(fak_channel_end *end, fak_channel_item *item) {
+    return fak_channel_receive_until(end, item, FAK_CHANNEL_NEVER);
+}
+
+int32_t fak_channel_try_send(fak_channel_end *end, const fak_channel_item *item) {
+    fak_channel_item sent = *item;
+    int32_t code = end_send(end, &sent, NO_TIME, fak_channel_begin_try_send(&end->seat, &sent));
+    return code == FAK_C_GAVE_UP ? FAK_C_FULL : code;
+}
+
+int32_t fak_channel_try_receive(fak_channel_end *end, fak_channel_item *item) {
+    int32_t code = end_receive(end, item, NO_TIME, fak_channel_begin_try_receive(&end->seat));
+    return code == FAK_C_GAVE_UP ? FAK_C_EMPTY : code;
+}
+
+int32_t fak_channel_close(fak_channel_end *end) {
+    fak_channel_item unused = {{0, 0, 0, 0}};
+    int32_t code = fak_channel_begin_close(&end->seat);
+    if (code != FAK_C_OK)
+        return code;
+    FAK_C_GIVES(end->waiting);
+    return go_on(end, &unused, FAK_CHANNEL_NEVER);
+}
+
+/* The code of a call that needs an idle end, and the end's number. */
+static int32_t number_of_idle(fak_c_seat *seat, uint64_t *number) {
+    uint32_t state = FAK_CHANNEL_IDLE;
+    uint64_t left = 0;
+    int32_t code = fak_channel_state(seat, number, &state, &left);
+    return code == FAK_C_OK && state != FAK_CHANNEL_IDLE ? FAK_C_WRONG_STATE : code;
+}
+
+int32_t fak_channel_end_of(fak_c_seat *seat, fak_channel_waiting *waiting, fak_channel_end *end) {
+    uint64_t number = 0;
+    int32_t code = number_of_idle(seat, &number);
+    if (code == FAK_C_OK)
+        code = fak_c_move(seat, &end->seat);
+    if (code != FAK_C_OK)
+        return code;
+    end->waiting = waiting;
+    end->number = number;
+    __atomic_fetch_add(&waiting->ends, 1, __ATOMIC_RELAXED);
+    return FAK_C_OK;
+}
+
+int32_t fak_channel_move(fak_channel_end *end, fak_channel_end *to) {
+    int32_t code = fak_c_move(&end->seat, &to->seat);
+    if (code != FAK_C_OK)
+        return code;
+    to->waiting = end->waiting;
+    to->number = end->number;
+    end->waiting = NULL;
+    end->number = 0;
+    return FAK_C_OK;
+}
+
+/* Frees what fak_channel_open_ends has made for a channel. */
+static void free_waiting(fak_channel_waiting *waiting);
+
+int32_t fak_channel_leave_with(fak_channel_end *end, void (*drop)(void *context, const fak_channel_item *item), void *context) {
+    fak_channel_waiting *waiting = end->waiting;
+    fak_channel_item item = {{0, 0, 0, 0}};
+    uint64_t number = 0;
+    bool is_last;
+    int32_t code = number_of_idle(&end->seat, &number);
+    if (code != FAK_C_OK)
+        return code;
+    is_last = __atomic_sub_fetch(&waiting->ends, 1, __ATOMIC_ACQ_REL) == 0;
+    while (is_last && drop != NULL && fak_channel_try_receive(end, &item) == FAK_C_OK)
+        drop(context, &item);
+    code = fak_c_leave(&end->seat);
+    end->waiting = NULL;
+    end->number = 0;
+    if (is_last)
+        free_waiting(waiting);
+    return code;
+}
+
+int32_t fak_channel_leave(fak_channel_end *end) {
+    return fak_channel_leave_with(end, NULL, NULL);
+}
+
+/* ---- Lenders ---- */
+
+/* The end where callers park that wait for one of this lender's. It never sleeps in the channel itself. */
+static const fak_channel_end *place_of(const fak_channel_lender *lender, const fak_channel_shared *shared) {
+    return &shared->ends[lender == &shared->senders ? 0 : 1];
+}
+
+/* Wakes a caller that waits for an end, if there is one. */
+static void wake_sleeper(fak_channel_shared *shared, fak_channel_lender *lender) {
+    const fak_channel_end *place = place_of(lender, shared);
+    if (__atomic_load_n(&lender->sleepers, __ATOMIC_SEQ_CST) != 0)
+        place->waiting->unpark(place->waiting->context, place->number);
+}
+
+static bool has_idle(fak_channel_lender *lender) {
+    for (size_t i = 0; i <= (lender->count - 1) / 64; i++)
+        if (__atomic_load_n(&lender->idle[i], __ATOMIC_SEQ_CST) != 0)
+            return true;
+    return false;
+}
+
+/* Takes an idle end, or none. */
+static fak_channel_end *take_idle(fak_channel_lender *lender) {
+    for (size_t i = 0; i <= (lender->count - 1) / 64; i++) {
+        uint64_t idle = __atomic_load_n(&lender->idle[i], __ATOMIC_SEQ_CST);
+        while (idle != 0) {
+            uint64_t bit = idle & (~idle + 1);
+            idle = __atomic_fetch_and(&lender->idle[i], ~bit, __ATOMIC_SEQ_CST);
+            if ((idle & bit) != 0)
+                return &lender->ends[64 * i + (size_t)__builtin_ctzll(bit)];
+        }
+    }
+    return NULL;
+}
+
+static bool is_worn(const fak_channel_lender *lender) {
+    return __atomic_load_n(&lender->worn, __ATOMIC_SEQ_CST) == lender->count;
+}
+
+/* Sleeps until an end may be idle. False if the deadline has passed. */
+static bool wait_for_end(fak_channel_shared *shared, fak_channel_lender *lender, uint64_t deadline) {
+    const fak_channel_end *place = place_of(lender, shared);
+    bool is_in_time;
+    __atomic_fetch_add(&lender->sleepers, 1, __ATOMIC_SEQ_CST);
+    is_in_time = has_idle(lender) || is_worn(lender) || place->waiting->park(place->waiting->context, place->number, deadline);
+    __atomic_fetch_sub(&lender->sleepers, 1, __ATOMIC_SEQ_CST);
+    return is_in_time;
+}
+
+/* Lends an end. A wake-up is for one sleeper, and two ends may come back before it wakes. So a caller that has
+ * found an end wakes the next sleeper if there is another end. A caller that finds that no end will come back wakes the next one, too. */
+static int32_t lend(fak_channel_shared *shared, fak_channel_lender *lender, uint64_t deadline, fak_channel_end **end) {
+    while ((*end = take_idle(lender)) == NULL) {
+        if (is_worn(lender)) {
+            wake_sleeper(shared, lender);
+            return FAK_C_WORN;
+        }
+        if (deadline == NO_TIME || !wait_for_end(shared, lender, deadline))
+            return FAK_C_GAVE_UP;
+    }
+    if (has_idle(lender))
+        wake_sleeper(shared, lender);
+    return FAK_C_OK;
+}
+
+static void take_back(fak_channel_shared *shared, fak_channel_lender *lender, const fak_channel_end *end) {
+    size_t index = (size_t)(end - lender->ends);
+    __atomic_fetch_or(&lender->idle[index / 64], UINT64_C(1) << index % 64, __ATOMIC_SEQ_CST);
+    wake_sleeper(shared, lender);
+}
+
+/* Keeps an end that has used up its stint from being lent again. */
+static void retire(fak_channel_shared *shared, fak_channel_lender *lender) {
+    __atomic_fetch_add(&lender->worn, 1, __ATOMIC_SEQ_CST);
+    wake_sleeper(shared, lender);
+}
+
+/* ---- The shared channel ---- */
+
+/* Lends ends for a send, until one is not worn. */
+static int32_t send_by_lent(fak_channel_shared *shared, const fak_channel_item *item, uint64_t deadline, bool tries) {
+    fak_channel_lender *lender = &shared->senders;
+    for (;;) {
+        fak_channel_end *end = NULL;
+        int32_t code = lend(shared, lender, deadline, &end);
+        if (code != FAK_C_OK)
+            return code == FAK_C_GAVE_UP && tries ? FAK_C_BUSY : code;
+        code = tries ? fak_channel_try_send(end, item) : fak_channel_send_until(end, item, deadline);
+        if (code != FAK_C_WORN) {
+            take_back(shared, lender, end);
+            return code;
+        }
+        retire(shared, lender);
+    }
+}
+
+/* The same for a receive. */
+static int32_t receive_by_lent(fak_channel_shared *shared, fak_channel_item *item, uint64_t deadline, bool tries) {
+    fak_channel_lender *lender = &shared->receivers;
+    for (;;) {
+        fak_channel_end *end = NULL;
+        int32_t code = lend(shared, lender, deadline, &end);
+        if (code != FAK_C_OK)
+            return code == FAK_C_GAVE_UP && tries ? FAK_C_BUSY : code;
+        code = tries ? fak_channel_try_receive(end, item) : fak_channel_receive_until(end, item, deadline);
+        if (code != FAK_C_WORN) {
+            take_back(shared, lender, end);
+            return code;
+        }
+        retire(shared, lender);
+    }
+}
+
+int32_t fak_channel_shared_send(fak_channel_shared *shared, const fak_channel_item *item) {
+    return send_by_lent(shared, item, FAK_CHANNEL_NEVER, false);
+}
+
+int32_t fak_channel_shared_receive(fak_channel_shared *shared, fak_channel_item *item) {
+    return receive_by_lent(shared, item, FAK_CHANNEL_NEVER, false);
+}
+
+int32_t fak_channel_shared_try_send(fak_channel_shared *shared, const fak_channel_item *item) {
+    return send_by_lent(shared, item, NO_TIME, true);
+}
+
+int32_t fak_channel_shared_try_receive(fak_channel_shared *shared, fak_channel_item *item) {
+    return receive_by_lent(shared, item, NO_TIME, true);
+}
+
+int32_t fak_channel_shared_send_until(fak_channel_shared *shared, const fak_channel_item *item, uint64_t deadline) {
+    return send_by_lent(shared, item, deadline, false);
+}
+
+int32_t fak_channel_shared_receive_until(fak_channel_shared *shared, fak_channel_item *item, uint64_t deadline) {
+    return receive_by_lent(shared, item, deadline, false);
+}
+
+/* Takes one of the first two ends for a moment, in which nobody sleeps. */
+static fak_channel_end *take_own(fak_channel_shared *shared, uint64_t *flag) {
+    fak_channel_end *end = &shared->ends[flag == &shared->closes ? 0 : 1];
+    for (uint64_t rounds = 0; __atomic_exchange_n(flag, 1, __ATOMIC_ACQUIRE) != 0; rounds++)
+        pause_once(end->waiting, rounds);
+    return end;
+}
+
+static int32_t give_own(uint64_t *flag, int32_t code) {
+    __atomic_store_n(flag, 0, __ATOMIC_RELEASE);
+    return code;
+}
+
+int32_t fak_channel_shared_close(fak_channel_shared *shared) {
+    return give_own(&shared->closes, fak_channel_close(take_own(shared, &shared->closes)));
+}
+
+int32_t fak_channel_shared_len(fak_channel_shared *shared, uint64_t *items) {
+    return give_own(&shared->looks, fak_channel_len(&take_own(shared, &shared->looks)->seat, items));
+}
+
+int32_t fak_channel_shared_is_closed(fak_channel_shared *shared, bool *is_closed) {
+    return give_own(&shared->looks, fak_channel_is_closed(&take_own(shared, &shared->looks)->seat, is_closed));
+}
+
+static void make_lender(fak_channel_lender *lender, fak_channel_end *ends, size_t count) {
+    lender->ends = ends;
+    lender->count = count;
+    lender->worn = 0;
+    lender->sleepers = 0;
+    for (size_t i = 0; i < FAK_C_MOST_SEATS / 64; i++) {
+        size_t left = count > 64 * i ? count - 64 * i : 0;
+        lender->idle[i] = left >= 64 ? UINT64_MAX : (UINT64_C(1) << left) - 1;
+    }
+}
+
+static bool is_number_of_ends(size_t senders, size_t receivers) {
+    return senders >= 1 && receivers >= 1 && senders < FAK_C_MOST_SEATS && receivers < FAK_C_MOST_SEATS
+        && FAK_CHANNEL_SHARED_ENDS(senders, receivers) <= FAK_C_MOST_SEATS;
+}
+
+int32_t fak_channel_shared_over(fak_channel_shared *shared, fak_channel_end *ends, size_t senders, size_t receivers) {
+    if (!is_number_of_ends(senders, receivers))
+        return FAK_C_BAD_LIMIT;
+    for (size_t i = 0; i < FAK_CHANNEL_SHARED_ENDS(senders, receivers); i++)
+        if (ends[i].seat.at == NULL)
+            return FAK_C_NO_SEAT;
+    shared->ends = ends;
+    shared->closes = 0;
+    shared->looks = 0;
+    make_lender(&shared->senders, ends + 2, senders);
+    make_lender(&shared->receivers, ends + 2 + senders, receivers);
+    return FAK_C_OK;
+}
+
+/* Whether nobody has borrowed an end, or waits for one. */
+static bool is_at_rest(fak_channel_lender *lender) {
+    uint64_t idle = __atomic_load_n(&lender->worn, __ATOMIC_SEQ_CST);
+    for (size_t i = 0; i < lender->count; i++)
+        idle += __atomic_load_n(&lender->idle[i / 64], __ATOMIC_SEQ_CST) >> i % 64 & 1;
+    return idle == lender->count && __atomic_load_n(&lender->sleepers, __ATOMIC_SEQ_CST) == 0;
+}
+
+int32_t fak_channel_shared_leave_with(
+    fak_channel_shared *shared, void (*drop)(void *context, const fak_channel_item *item), void *context) {
+    size_t n = FAK_CHANNEL_SHARED_ENDS(shared->senders.count, shared->receivers.count);
+    int32_t code = FAK_C_OK;
+    if (!is_at_rest(&shared->senders) || !is_at_rest(&shared->receivers))
+        return FAK_C_WRONG_STATE;
+    /* The first two ends have made the fewest calls, so one of them drops what is left. */
+    for (size_t i = n; i-- > 0 && code == FAK_C_OK;)
+        code = fak_channel_leave_with(&shared->ends[i], drop, context);
+    return code;
+}
+
+int32_t fak_channel_shared_leave(fak_channel_shared *shared) {
+    return fak_channel_shared_leave_with(shared, NULL, NULL);
+}
+
+/* ---- Sleeping on Linux ---- */
+
+#if __STDC_HOSTED__ && defined(__linux__)
+
+#include <errno.h>
+#include <linux/futex.h>
+#include <sched.h>
+#include <stdlib.h>
+#include <sys/syscall.h>
+#include <time.h>
+#include <unistd.h>
+
+/* The token of an end: 1 if it is set. On a cache line of its own. */
+struct token {
+    _Alignas(64) uint32_t is_set;
+};
+
+/* What the ends of a channel share. */
+struct channel {
+    fak_channel_waiting waiting;
+    _Alignas(64) struct token tokens[];
+};
+
+static uint64_t now(void) {
+    struct timespec time;
+    clock_gettime(CLOCK_MONOTONIC, &time);
+    return (uint64_t)time.tv_sec * 1000000000 + (uint64_t)time.tv_nsec;
+}
+
+uint64_t fak_channel_deadline(uint64_t nanoseconds) {
+    uint64_t deadline = now() + nanoseconds;
+    return deadline < nanoseconds ? FAK_CHANNEL_NEVER : deadline;
+}
+
+/* Sleeps while the token is not set, until the deadline, a signal, or no reason. */
+static void sleep_on(uint32_t *is_set, uint64_t deadline) {
+    struct timespec time = {(time_t)(deadline / 1000000000), (long)(deadline % 1000000000)};
+    struct timespec *until = deadline == FAK_CHANNEL_NEVER ? NULL : &time;
+    long status = syscall(SYS_futex, is_set, FUTEX_WAIT_BITSET_PRIVATE, 0, until, NULL, FUTEX_BITSET_MATCH_ANY);
+    if (status != 0 && errno != EAGAIN && errno != EINTR && errno != ETIMEDOUT)
+        sched_yield();
+}
+
+static bool park(void *context, uint64_t number, uint64_t deadline) {
+    uint32_t *is_set = &((struct channel *)context)->tokens[number].is_set;
+    for (;;) {
+        if (__atomic_exchange_n(is_set, 0, __ATOMIC_SEQ_CST) != 0)
+            return true;
+        if (deadline != FAK_CHANNEL_NEVER && now() >= deadline)
+            return false;
+        sleep_on(is_set, deadline);
+    }
+}
+
+static void unpark(void *context, uint64_t number) {
+    uint32_t *is_set = &((struct channel *)context)->tokens[number].is_set;
+    if (__atomic_exchange_n(is_set, 1, __ATOMIC_SEQ_CST) == 0)
+        syscall(SYS_futex, is_set, FUTEX_WAKE_PRIVATE, 1, NULL, NULL, 0);
+}
+
+/* Spins for less than a microsecond, and yields from the eighth time on. */
+static void pause_or_yield(void *context, uint64_t rounds) {
+    (void)context;
+    if (rounds >= 7) {
+        sched_yield();
+        return;
+    }
+    for (int i = 0; i < 8; i++) {
+#if defined(__x86_64__)
+        __builtin_ia32_pause();
+#else
+        __atomic_signal_fence(__ATOMIC_SEQ_CST);
+#endif
+    }
+}
+
+static struct channel *make_channel(size_t n) {
+    size_t bytes = sizeof(struct channel) + n * sizeof(struct token);
+    struct channel *channel = aligned_alloc(64, bytes);
+    if (channel == NULL)
+        return NULL;
+    channel->waiting = (fak_channel_waiting){park, unpark, pause_or_yield, channel, 0};
+    for (size_t i = 0; i < n; i++)
+        channel->tokens[i].is_set = 0;
+    return channel;
+}
+
+/* Opens the channel over seats that are moved to the ends then. */
+static int32_t open_over(fak_c_seat *seats, struct channel *channel, fak_channel_end *ends, size_t n, uint64_t size, uint64_t stint) {
+    int32_t code;
+    if (seats == NULL || channel == NULL)
+        return FAK_C_MEMORY;
+    code = fak_channel_open(seats, n, size, stint);
+    for (size_t i = 0; code == FAK_C_OK && i < n; i++)
+        code = fak_channel_end_of(&seats[i], &channel->waiting, &ends[i]);
+    return code;
+}
+
+int32_t fak_channel_open_ends(fak_channel_end *ends, size_t n, uint64_t size, uint64_t stint) {
+    fak_c_seat *seats;
+    struct channel *channel;
+    int32_t code;
+    if (!FAK_C_IS_SEATS(n) || !FAK_C_IS_SIZE(size) || !FAK_C_IS_STINT(n, stint))
+        return FAK_C_BAD_LIMIT;
+    for (size_t i = 0; i < n; i++)
+        if (ends[i].seat.at != NULL)
+            return FAK_C_WRONG_STATE;
+    seats = calloc(n, sizeof *seats);
+    channel = make_channel(n);
+    code = open_over(seats, channel, ends, n, size, stint);
+    if (code != FAK_C_OK)
+        free(channel);
+    free(seats);
+    return code;
+}
+
+int32_t fak_channel_shared_open(
+    fak_channel_shared *shared, fak_channel_end *ends, size_t senders, size_t receivers, uint64_t size, uint64_t stint) {
+    int32_t code = FAK_C_BAD_LIMIT;
+    if (is_number_of_ends(senders, receivers))
+        code = fak_channel_open_ends(ends, FAK_CHANNEL_SHARED_ENDS(senders, receivers), size, stint);
+    return code == FAK_C_OK ? fak_channel_shared_over(shared, ends, senders, receivers) : code;
+}
+
+static void free_waiting(fak_channel_waiting *waiting) {
+    if (waiting->park == park)
+        free(waiting->context);
+}
+
+#else
+
+static void free_waiting(fak_channel_waiting *waiting) {
+    (void)waiting;
+}
+
+#endif

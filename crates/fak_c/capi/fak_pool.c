@@ -1,0 +1,306 @@
+/* The pool of fak_pool.h. Jobs wait in a channel. Workers sleep while it is empty, and callers while it is full.
+ *
+ * Without a queue there is a second channel, of permits: who adds a job takes one first, and the worker gives it back when the job is
+ * done. So the channel of jobs has a cell for each, and as many for what a resize sends.
+ *
+ * Workers and permits are counted next to their limit in one word, so that a count and a limit that change at once never disagree. */
+#include "fak_pool.h"
+
+#include "fak_channel.h"
+
+#include <pthread.h>
+#include <stdatomic.h>
+#include <stdint.h>
+#include <stdlib.h>
+
+/* How many callers may be adding at the same time without waiting for one another, and how many workers may sleep in the channel itself. */
+enum { CALLERS = 4, SLEEPERS = 64 };
+
+/* A worker, whose thread is joined once it has ended. */
+struct worker {
+    pthread_t thread;
+    fak_pool *of;
+    atomic_bool has_ended;
+    struct worker *next;
+};
+
+/* A channel that callers share, with one end more, by which a resize wakes workers. */
+struct channel {
+    fak_channel_shared shared;
+    fak_channel_end *ends;
+    size_t count;
+};
+
+struct fak_pool {
+    struct channel jobs, permits;
+    bool has_queue;
+    atomic_ullong worker_count, permit_count; /* the limit in the upper half, the count in the lower */
+    atomic_size_t unfinished;                 /* jobs that were added and are not done */
+    pthread_mutex_t lock;                     /* for those that join */
+    pthread_cond_t is_done;
+    pthread_mutex_t resizing;                 /* whoever has it changes the list of workers */
+    struct worker *workers;
+};
+
+/* ---- Counts with a limit ---- */
+
+static size_t limit_of(unsigned long long word) {
+    return (size_t)(word >> 32);
+}
+
+static size_t count_of(unsigned long long word) {
+    return (size_t)(word & UINT32_MAX);
+}
+
+static void set_limit(atomic_ullong *word, size_t limit) {
+    unsigned long long now = atomic_load(word);
+    while (!atomic_compare_exchange_weak(word, &now, (unsigned long long)limit << 32 | count_of(now)))
+        continue;
+}
+
+/* Counts one more, if the limit allows it. */
+static bool counts_up(atomic_ullong *word) {
+    unsigned long long now = atomic_load(word);
+    while (count_of(now) < limit_of(now))
+        if (atomic_compare_exchange_weak(word, &now, now + 1))
+            return true;
+    return false;
+}
+
+/* Counts one less, if there are more than the limit. */
+static bool counts_down(atomic_ullong *word) {
+    unsigned long long now = atomic_load(word);
+    while (count_of(now) > limit_of(now))
+        if (atomic_compare_exchange_weak(word, &now, now - 1))
+            return true;
+    return false;
+}
+
+/* ---- Workers ---- */
+
+static fak_channel_item item_of(fak_pool_function *run, void *argument) {
+    fak_channel_item item = {{(uintptr_t)run, (uintptr_t)argument, 0, 0}};
+    return item;
+}
+
+/* A job is done, or was not added after all. */
+static void finish(fak_pool *self) {
+    if (atomic_fetch_sub(&self->unfinished, 1) != 1)
+        return;
+    pthread_mutex_lock(&self->lock);
+    pthread_cond_broadcast(&self->is_done);
+    pthread_mutex_unlock(&self->lock);
+}
+
+/* Gives a permit back, unless there are too many. The channel has a cell for each. */
+static void give_permit(fak_pool *self) {
+    fak_channel_item item = item_of(NULL, NULL);
+    if (!counts_down(&self->permit_count))
+        fak_channel_shared_send(&self->permits.shared, &item);
+}
+
+static void run_job(fak_pool *self, const fak_channel_item *item) {
+    fak_pool_function *run = (fak_pool_function *)(uintptr_t)item->word[0];
+    if (run == NULL) /* sent by a resize, to wake a worker that has to stop */
+        return;
+    run((void *)(uintptr_t)item->word[1]);
+    if (!self->has_queue)
+        give_permit(self);
+    finish(self);
+}
+
+/* Runs jobs until there are too many workers, or the channel is closed and has no job left. */
+static void *work(void *argument) {
+    struct worker *me = argument;
+    fak_pool *self = me->of;
+    fak_channel_item item;
+    while (!counts_down(&self->worker_count) && fak_channel_shared_receive(&self->jobs.shared, &item) == FAK_C_OK)
+        run_job(self, &item);
+    atomic_store(&me->has_ended, true);
+    return NULL;
+}
+
+/* Starts a worker, which was counted. */
+static bool start(fak_pool *self) {
+    struct worker *worker = malloc(sizeof *worker);
+    if (worker == NULL)
+        return false;
+    worker->of = self;
+    atomic_init(&worker->has_ended, false);
+    if (pthread_create(&worker->thread, NULL, work, worker) != 0) {
+        free(worker);
+        return false;
+    }
+    worker->next = self->workers;
+    self->workers = worker;
+    return true;
+}
+
+/* Joins the workers that have ended, or all. */
+static void join_workers(fak_pool *self, bool all) {
+    struct worker **at = &self->workers;
+    while (*at != NULL) {
+        struct worker *worker = *at;
+        if (all || atomic_load(&worker->has_ended)) {
+            pthread_join(worker->thread, NULL);
+            *at = worker->next;
+            free(worker);
+        } else {
+            at = &worker->next;
+        }
+    }
+}
+
+/* ---- Opening ---- */
+
+static bool open_channel(struct channel *channel, size_t senders, size_t receivers, size_t size) {
+    size_t count = FAK_CHANNEL_SHARED_ENDS(senders, receivers) + 1;
+    channel->ends = calloc(count, sizeof *channel->ends);
+    if (channel->ends == NULL)
+        return false;
+    if (fak_channel_open_ends(channel->ends, count, size, FAK_C_MOST_CALLS / count) != FAK_C_OK) {
+        free(channel->ends);
+        return false;
+    }
+    channel->count = count;
+    return fak_channel_shared_over(&channel->shared, channel->ends, senders, receivers) == FAK_C_OK;
+}
+
+static void leave_channel(struct channel *channel) {
+    if (channel->count == 0)
+        return;
+    fak_channel_leave(&channel->ends[channel->count - 1]);
+    fak_channel_shared_leave(&channel->shared);
+    free(channel->ends);
+}
+
+static bool open_channels(fak_pool *self, size_t workers, size_t waiting) {
+    size_t receivers = workers < SLEEPERS ? workers : SLEEPERS;
+    if (!open_channel(&self->jobs, CALLERS, receivers, self->has_queue ? waiting : 2 * FAK_POOL_MOST_WORKERS))
+        return false;
+    return self->has_queue || open_channel(&self->permits, receivers, CALLERS, FAK_POOL_MOST_WORKERS);
+}
+
+static void free_all(fak_pool *self) {
+    leave_channel(&self->jobs);
+    leave_channel(&self->permits);
+    pthread_mutex_destroy(&self->lock);
+    pthread_mutex_destroy(&self->resizing);
+    pthread_cond_destroy(&self->is_done);
+    free(self);
+}
+
+fak_pool *fak_pool_create(size_t workers, size_t waiting) {
+    fak_pool *self;
+    if (workers < 1 || workers > FAK_POOL_MOST_WORKERS || waiting > FAK_POOL_MOST_WAITING)
+        return NULL;
+    self = calloc(1, sizeof *self);
+    if (self == NULL)
+        return NULL;
+    self->has_queue = waiting != 0;
+    pthread_mutex_init(&self->lock, NULL);
+    pthread_mutex_init(&self->resizing, NULL);
+    pthread_cond_init(&self->is_done, NULL);
+    if (!open_channels(self, workers, waiting)) {
+        free_all(self);
+        return NULL;
+    }
+    if (!fak_pool_resize(self, workers)) {
+        fak_pool_free(self);
+        return NULL;
+    }
+    return self;
+}
+
+void fak_pool_free(fak_pool *self) {
+    if (self == NULL)
+        return;
+    fak_pool_join(self);
+    fak_channel_shared_close(&self->jobs.shared);
+    join_workers(self, true);
+    free_all(self);
+}
+
+/* ---- Calls ---- */
+
+/* Sends the job, which is counted before it may be done. */
+static bool send_job(fak_pool *self, fak_pool_function *run, void *argument, bool tries) {
+    fak_channel_item item = item_of(run, argument);
+    int32_t code;
+    atomic_fetch_add(&self->unfinished, 1);
+    code = tries ? fak_channel_shared_try_send(&self->jobs.shared, &item) : fak_channel_shared_send(&self->jobs.shared, &item);
+    if (code != FAK_C_OK)
+        finish(self);
+    return code == FAK_C_OK;
+}
+
+bool fak_pool_add(fak_pool *self, fak_pool_function *run, void *argument) {
+    fak_channel_item permit;
+    if (!self->has_queue && fak_channel_shared_receive(&self->permits.shared, &permit) != FAK_C_OK)
+        return false;
+    return send_job(self, run, argument, false);
+}
+
+bool fak_pool_try_add(fak_pool *self, fak_pool_function *run, void *argument) {
+    fak_channel_item permit;
+    if (self->has_queue)
+        return send_job(self, run, argument, true);
+    return fak_channel_shared_try_receive(&self->permits.shared, &permit) == FAK_C_OK && send_job(self, run, argument, false);
+}
+
+void fak_pool_join(fak_pool *self) {
+    pthread_mutex_lock(&self->lock);
+    while (atomic_load(&self->unfinished) != 0)
+        pthread_cond_wait(&self->is_done, &self->lock);
+    pthread_mutex_unlock(&self->lock);
+}
+
+/* As many permits as workers. Those that are with jobs are taken away when they are given back. */
+static void resize_permits(fak_pool *self, size_t workers) {
+    fak_channel_item item = item_of(NULL, NULL);
+    set_limit(&self->permit_count, workers);
+    while (counts_up(&self->permit_count))
+        fak_channel_shared_send(&self->permits.shared, &item);
+    while (count_of(atomic_load(&self->permit_count)) > workers && fak_channel_shared_try_receive(&self->permits.shared, &item) == FAK_C_OK)
+        give_permit(self);
+}
+
+/* Wakes workers that sleep although they have to stop. While the channel is full none sleeps. */
+static void wake_surplus(fak_pool *self, size_t workers) {
+    fak_channel_item item = item_of(NULL, NULL);
+    size_t count = count_of(atomic_load(&self->worker_count));
+    while (count-- > workers && fak_channel_try_send(&self->jobs.ends[self->jobs.count - 1], &item) == FAK_C_OK)
+        continue;
+}
+
+/* Starts workers up to the limit. If one can't be started, those that run are the limit. */
+static bool start_workers(fak_pool *self) {
+    while (counts_up(&self->worker_count)) {
+        if (!start(self)) {
+            unsigned long long now = atomic_fetch_sub(&self->worker_count, 1) - 1;
+            set_limit(&self->worker_count, count_of(now) > 0 ? count_of(now) : 1);
+            return false;
+        }
+    }
+    return true;
+}
+
+bool fak_pool_resize(fak_pool *self, size_t workers) {
+    bool is_done;
+    if (workers < 1 || workers > FAK_POOL_MOST_WORKERS)
+        return false;
+    pthread_mutex_lock(&self->resizing);
+    join_workers(self, false);
+    set_limit(&self->worker_count, workers);
+    is_done = start_workers(self);
+    wake_surplus(self, workers);
+    if (!self->has_queue)
+        resize_permits(self, is_done ? workers : limit_of(atomic_load(&self->worker_count)));
+    pthread_mutex_unlock(&self->resizing);
+    return is_done;
+}
+
+size_t fak_pool_bytes(const fak_pool *self) {
+    size_t ends = self->jobs.count + self->permits.count;
+    return sizeof *self + ends * sizeof *self->jobs.ends + limit_of(atomic_load(&self->worker_count)) * sizeof(struct worker);
+}

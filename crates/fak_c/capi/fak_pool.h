@@ -1,0 +1,48 @@
+/* A pool of threads that run jobs: an example of a program over the channel (fak_channel.h), to be copied and changed. Any thread calls
+ * it, and a job may, except that it neither joins nor frees its own pool. A job that adds to a full queue of its own pool sleeps until
+ * another worker takes a job. Each job runs once, and jobs start in the order in which they were added. */
+#ifndef FAK_POOL_H
+#define FAK_POOL_H
+
+#include <stdbool.h>
+#include <stddef.h>
+
+#ifdef __cplusplus
+extern "C" {
+#endif
+
+#define FAK_POOL_MOST_WORKERS 256
+#define FAK_POOL_MOST_WAITING 16777216 /* 2^24 */
+
+typedef struct fak_pool fak_pool;
+typedef void fak_pool_function(void *argument);
+
+/* A pool with so many workers (1 to FAK_POOL_MOST_WORKERS) and a queue for so many waiting jobs (at most FAK_POOL_MOST_WAITING). With a
+ * queue of 0 no job waits: it is added when a worker is free for it. NULL if a number is out of range, or there is no memory or no
+ * thread. */
+fak_pool *fak_pool_create(size_t workers, size_t waiting);
+
+/* Adds a job, and sleeps while the queue is full. False if the pool has used up its stint, which is above 10^12 jobs. */
+bool fak_pool_add(fak_pool *self, fak_pool_function *run, void *argument);
+
+/* Adds a job without sleeping. False if the queue was full, or other callers had all ends of its channel at this moment. */
+bool fak_pool_try_add(fak_pool *self, fak_pool_function *run, void *argument);
+
+/* Sleeps until each job that was added is done. */
+void fak_pool_join(fak_pool *self);
+
+/* From now on so many workers run jobs. It doesn't wait for those that have to stop: they end their jobs first. False if the number is out
+ * of range, or there is no memory or no thread: then there are at least as many workers as before, and at most as many as were wanted. */
+bool fak_pool_resize(fak_pool *self, size_t workers);
+
+/* Frees the pool once each job that was added is done. Only its jobs call it meanwhile, and nobody afterwards. NULL is freed, too. */
+void fak_pool_free(fak_pool *self);
+
+/* The bytes of the pool itself, without the channels' own (fak_channel.h). */
+size_t fak_pool_bytes(const fak_pool *self);
+
+#ifdef __cplusplus
+}
+#endif
+
+#endif

@@ -1,0 +1,217 @@
+/* Tests of the pool: each job runs once, whatever is added, tried and resized at once. Runs `calls`, or `stress JOBS`. */
+#include "fak_pool.h"
+#include "tests.h"
+
+#include <pthread.h>
+#include <sched.h>
+#include <stdatomic.h>
+#include <string.h>
+#include <time.h>
+#include <unistd.h>
+
+/* ---- Calls ---- */
+
+static atomic_ulong done;
+static atomic_bool may_go;
+static unsigned long order[100];
+
+static void count_one(void *argument) {
+    (void)argument;
+    atomic_fetch_add(&done, 1);
+}
+
+static void note(void *argument) {
+    order[atomic_fetch_add(&done, 1)] = (unsigned long)(size_t)argument;
+}
+
+static void rest(void) {
+    CHECK(nanosleep(&(struct timespec){0, 1000000}, NULL) == 0);
+}
+
+/* Runs until it may go. */
+static void stay(void *argument) {
+    (void)argument;
+    atomic_fetch_add(&done, 1);
+    while (!atomic_load(&may_go))
+        rest();
+}
+
+static void wait_for(unsigned long jobs) {
+    while (atomic_load(&done) != jobs)
+        rest();
+}
+
+static fak_pool *fresh(size_t workers, size_t waiting) {
+    fak_pool *made = fak_pool_create(workers, waiting);
+    CHECK(made != NULL);
+    atomic_store(&done, 0);
+    atomic_store(&may_go, false);
+    return made;
+}
+
+static void numbers_are_refused(void) {
+    fak_pool *made = fresh(1, 1);
+    CHECK(fak_pool_create(0, 1) == NULL && fak_pool_create(FAK_POOL_MOST_WORKERS + 1, 1) == NULL);
+    CHECK(fak_pool_create(1, (size_t)FAK_POOL_MOST_WAITING + 1) == NULL);
+    CHECK(!fak_pool_resize(made, 0) && !fak_pool_resize(made, FAK_POOL_MOST_WORKERS + 1) && fak_pool_bytes(made) > 0);
+    fak_pool_free(made);
+    fak_pool_free(NULL);
+    fak_pool_free(fresh(FAK_POOL_MOST_WORKERS, 0));
+}
+
+/* One worker runs jobs in the order in which they were added. */
+static void jobs_run_in_order(void) {
+    fak_pool *made = fresh(1, 3);
+    for (size_t i = 0; i < 100; i++)
+        CHECK(fak_pool_add(made, note, (void *)i));
+    fak_pool_join(made);
+    for (size_t i = 0; i < 100; i++)
+        CHECK(order[i] == i);
+    fak_pool_free(made);
+}
+
+/* Jobs beyond the workers and the queue are refused, until a worker is free. With a queue and without one. */
+static void a_full_queue_refuses(size_t workers, size_t waiting) {
+    fak_pool *made = fresh(workers, waiting);
+    for (size_t i = 0; i < workers; i++)
+        CHECK(fak_pool_add(made, stay, NULL));
+    wait_for(workers);
+    for (size_t i = 0; i < waiting; i++)
+        CHECK(fak_pool_try_add(made, count_one, NULL));
+    CHECK(!fak_pool_try_add(made, count_one, NULL) && !fak_pool_try_add(made, count_one, NULL));
+    atomic_store(&may_go, true);
+    CHECK(fak_pool_add(made, count_one, NULL));
+    fak_pool_join(made);
+    CHECK(atomic_load(&done) == workers + waiting + 1);
+    fak_pool_free(made);
+}
+
+/* More workers run more jobs at once; fewer leave the jobs that run. */
+static void resizes_take_effect(size_t waiting) {
+    fak_pool *made = fresh(1, waiting);
+    CHECK(fak_pool_resize(made, 4));
+    for (int i = 0; i < 4; i++)
+        CHECK(fak_pool_add(made, stay, NULL));
+    wait_for(4);
+    CHECK(fak_pool_resize(made, 2) && fak_pool_resize(made, 3) && fak_pool_resize(made, 1));
+    atomic_store(&may_go, true);
+    fak_pool_join(made);
+    rest();
+    atomic_store(&may_go, false);
+    CHECK(fak_pool_add(made, stay, NULL));
+    wait_for(5);
+    CHECK(waiting != 0 || !fak_pool_try_add(made, count_one, NULL));
+    CHECK(waiting == 0 || fak_pool_try_add(made, count_one, NULL));
+    for (int i = 0; i < 20; i++)
+        rest();
+    CHECK(atomic_load(&done) == 5);
+    atomic_store(&may_go, true);
+    fak_pool_free(made);
+    CHECK(atomic_load(&done) == (waiting == 0 ? 5 : 6));
+}
+
+static void add_and_resize(void *argument) {
+    CHECK(fak_pool_add(argument, count_one, NULL) && fak_pool_resize(argument, 5));
+}
+
+static void jobs_may_call(void) {
+    fak_pool *made = fresh(3, 9);
+    for (int i = 0; i < 4; i++)
+        CHECK(fak_pool_add(made, add_and_resize, made));
+    fak_pool_free(made);
+    CHECK(atomic_load(&done) == 4);
+}
+
+static void each_call_is_made(void) {
+    numbers_are_refused();
+    jobs_run_in_order();
+    a_full_queue_refuses(2, 2);
+    a_full_queue_refuses(2, 0);
+    resizes_take_effect(2);
+    resizes_take_effect(0);
+    jobs_may_call();
+}
+
+/* ---- Stress ---- */
+
+enum { ADDERS = 6, MOST_WORKERS = 40 };
+
+typedef struct {
+    pthread_t thread;
+    fak_pool *of;
+    unsigned long jobs;
+    unsigned random;
+    atomic_uchar *runs;
+} adder;
+
+static atomic_bool ends;
+static atomic_ulong refused;
+
+static void run_once(void *argument) {
+    CHECK(atomic_fetch_add((atomic_uchar *)argument, 1) == 0);
+}
+
+static unsigned random_of(unsigned *seed) {
+    *seed = *seed * 1103515245u + 12345u;
+    return *seed >> 16;
+}
+
+static void *add_all(void *argument) {
+    adder *self = argument;
+    for (unsigned long i = 0; i < self->jobs; i++) {
+        if (random_of(&self->random) % 2 == 0)
+            CHECK(fak_pool_add(self->of, run_once, &self->runs[i]));
+        else
+            while (!fak_pool_try_add(self->of, run_once, &self->runs[i])) {
+                atomic_fetch_add(&refused, 1);
+                CHECK(sched_yield() == 0);
+            }
+    }
+    return NULL;
+}
+
+static void *resize_often(void *argument) {
+    unsigned seed = 7;
+    while (!atomic_load(&ends)) {
+        CHECK(fak_pool_resize(argument, 1 + random_of(&seed) % MOST_WORKERS));
+        rest();
+    }
+    return NULL;
+}
+
+static void stress(size_t waiting, unsigned long jobs) {
+    adder adders[ADDERS];
+    pthread_t resizer;
+    fak_pool *made = fresh(2, waiting);
+    atomic_store(&ends, false);
+    CHECK(pthread_create(&resizer, NULL, resize_often, made) == 0);
+    for (unsigned i = 0; i < ADDERS; i++) {
+        adders[i] = (adder){.of = made, .jobs = jobs, .random = i, .runs = calloc(jobs, 1)};
+        CHECK(adders[i].runs != NULL && pthread_create(&adders[i].thread, NULL, add_all, &adders[i]) == 0);
+    }
+    for (int i = 0; i < ADDERS; i++)
+        CHECK(pthread_join(adders[i].thread, NULL) == 0);
+    fak_pool_join(made);
+    for (int i = 0; i < ADDERS; i++)
+        for (unsigned long job = 0; job < jobs; job++)
+            CHECK(atomic_load(&adders[i].runs[job]) == 1);
+    atomic_store(&ends, true);
+    CHECK(pthread_join(resizer, NULL) == 0);
+    fak_pool_free(made);
+    for (int i = 0; i < ADDERS; i++)
+        free(adders[i].runs);
+}
+
+int main(int count, char **words) {
+    alarm(280); /* what hangs fails */
+    if (count == 2 && strcmp(words[1], "calls") == 0) {
+        each_call_is_made();
+    } else if (count == 3 && strcmp(words[1], "stress") == 0) {
+        stress(0, strtoul(words[2], NULL, 10));
+        stress(1, strtoul(words[2], NULL, 10));
+        stress(64, strtoul(words[2], NULL, 10));
+    } else {
+        return 2;
+    }
+    return 0;
+}

@@ -1,0 +1,162 @@
+//! The exported calls of bundles.
+
+ghost use Rattle.std.specs.Prelude.{◌≡◌, length};
+ghost use Rattle.fak_handles.specs.Bundled.{OpensBundles, OpensOrKeepsBundles};
+ghost use Rattle.fak_handles.specs.Bundles.{DeletesBurstTo, FillsOpenBurst, InsertsBurstOf, LooksAtBundle, SameQueueOf, TakesOpenBurst};
+ghost use Rattle.fak_handles.specs.Calls.{Called};
+ghost use Rattle.fak_handles.specs.Kinds.{Spares, bundle_in};
+
+use fak_handles::bundle_opening::are_numbers_of_seats;
+use fak_handles::code::{BAD_LIMIT, NO_SEAT};
+use fak_handles::place::Place;
+use std::alloc::Global;
+
+/// Opens a queue of `size` cells, gives each handle of the first array a seat of it with this stint, and each of the second a bundle of
+/// `width` seats, which share `width` stints. There may be no seats. There is at least one bundle, `width` is at least 1, and there are at
+/// most 1,024 seats in all. What the handles held is given up. A failed call leaves them empty, but keeps them if these numbers are out of
+/// range.
+///
+/// `OK`, `BAD_LIMIT` or `MEMORY`.
+#[unsafe(no_mangle)]
+pub extern "C" fn fak_c_open_bundles(
+    alloc: Global,
+    seats: &mut [Place],
+    bundles: &mut [Place],
+    width: u64,
+    size: u64,
+    stint: u64,
+) -> i32
+    ensures len { length seats.new ≡ length seats.old }
+    ensures len_bundles { length bundles.new ≡ length bundles.old }
+    ensures opens { OpensOrKeepsBundles result width seats.old seats.new bundles.old bundles.new
+        (OpensBundles result size stint width seats.new bundles.new) }
+{
+    if !are_numbers_of_seats(seats.len(), bundles.len(), width) {
+        return BAD_LIMIT;
+    }
+    fak_handles::bundle_opening::open_bundles(alloc, seats, bundles, width, size, stint)
+}
+
+/// Claims room for the first items by one claim, as many as find it, writes the first ticket and how many were claimed, and tries once
+/// to move these items in. `BAD_LIMIT` if there are no items.
+///
+/// `OK`, `NOT_YET` if the rest of the claimed items is kept for `fak_c_try_fill_burst`, `WORN`, `CLOSED`, `FULL`, `BAD_LIMIT`, `NO_SEAT`,
+/// `WRONG_STATE`, or `MEMORY` if there is no room for the items on their way, which the opening made.
+#[unsafe(no_mangle)]
+pub extern "C" fn fak_c_insert_burst(
+    alloc: Global,
+    bundle: &mut Place,
+    items: &[u64],
+    ticket: &mut u64,
+    count: &mut u64,
+) -> i32
+    ensures call { Called result ((ticket.new ≡ ticket.old) × (count.new ≡ count.old)) SameQueueOf
+        (InsertsBurstOf result items.now ticket.old ticket.new count.old count.new)
+        (bundle_in bundle.old.handle.desk) (bundle_in bundle.new.handle.desk) }
+    ensures spares { Spares bundle_in bundle.old.handle.desk bundle.new.handle.desk }
+{
+    let Some(mut desk) = bundle.take(alloc) else {
+        return NO_SEAT;
+    };
+    let code = desk.insert_burst(items, ticket, count);
+    bundle.put(desk);
+    code
+}
+
+/// Moves items of a claimed burst into their cells, until one's turn has not come, and writes how many are left.
+///
+/// `OK`, `NOT_YET`, `NO_SEAT` or `WRONG_STATE`.
+#[unsafe(no_mangle)]
+pub extern "C" fn fak_c_try_fill_burst(alloc: Global, bundle: &mut Place, left: &mut u64) -> i32
+    ensures call { Called result (left.new ≡ left.old) SameQueueOf (FillsOpenBurst result left.old left.new)
+        (bundle_in bundle.old.handle.desk) (bundle_in bundle.new.handle.desk) }
+    ensures spares { Spares bundle_in bundle.old.handle.desk bundle.new.handle.desk }
+{
+    let Some(mut desk) = bundle.take(alloc) else {
+        return NO_SEAT;
+    };
+    let code = desk.try_fill_burst(left);
+    bundle.put(desk);
+    code
+}
+
+/// Claims the oldest items by one claim, at most one for each place, writes the first ticket and how many were claimed, and tries once
+/// to hand these items out to the first places. Writes how many came. The other places stay as they were.
+///
+/// `OK`, `NOT_YET` if the rest is claimed for `fak_c_try_take_burst`, `WORN`, `EMPTY`, `BAD_LIMIT` if there is no place, `NO_SEAT` or
+/// `WRONG_STATE`.
+#[unsafe(no_mangle)]
+pub extern "C" fn fak_c_delete_burst(
+    alloc: Global,
+    bundle: &mut Place,
+    items: &mut [u64],
+    ticket: &mut u64,
+    count: &mut u64,
+    taken: &mut u64,
+) -> i32
+    ensures len { length items.new ≡ length items.old }
+    ensures call { Called result ((items.new ≡ items.old) × (ticket.new ≡ ticket.old) × (count.new ≡ count.old) × (taken.new ≡ taken.old)) SameQueueOf
+        (DeletesBurstTo result items.old items.new ticket.old ticket.new count.old count.new taken.old taken.new)
+        (bundle_in bundle.old.handle.desk) (bundle_in bundle.new.handle.desk) }
+    ensures spares { Spares bundle_in bundle.old.handle.desk bundle.new.handle.desk }
+{
+    let Some(mut desk) = bundle.take(alloc) else {
+        return NO_SEAT;
+    };
+    let code = desk.delete_burst(items, ticket, count, taken);
+    bundle.put(desk);
+    code
+}
+
+/// Hands out items of a claimed burst to the first places, until the turn of one has not come. Writes how many came, and how many are
+/// left. There must be a place for each item that is left.
+///
+/// `OK`, `NOT_YET`, `BAD_LIMIT` if there are fewer places than items left, which changes nothing, `NO_SEAT` or `WRONG_STATE`.
+#[unsafe(no_mangle)]
+pub extern "C" fn fak_c_try_take_burst(
+    alloc: Global,
+    bundle: &mut Place,
+    items: &mut [u64],
+    taken: &mut u64,
+    left: &mut u64,
+) -> i32
+    ensures len { length items.new ≡ length items.old }
+    ensures call { Called result ((items.new ≡ items.old) × (taken.new ≡ taken.old) × (left.new ≡ left.old)) SameQueueOf
+        (TakesOpenBurst result items.old items.new taken.old taken.new left.old left.new)
+        (bundle_in bundle.old.handle.desk) (bundle_in bundle.new.handle.desk) }
+    ensures spares { Spares bundle_in bundle.old.handle.desk bundle.new.handle.desk }
+{
+    let Some(mut desk) = bundle.take(alloc) else {
+        return NO_SEAT;
+    };
+    let code = desk.try_take_burst(items, taken, left);
+    bundle.put(desk);
+    code
+}
+
+/// Writes the state of the bundle, 0 idle, 1 inserting, 2 deleting, with the next ticket of the open burst and how many of its calls have
+/// not ended, how many seats the bundle has, and how many tickets are left.
+///
+/// `OK` or `NO_SEAT`.
+#[unsafe(no_mangle)]
+pub extern "C" fn fak_c_bundle_state(
+    alloc: Global,
+    bundle: &mut Place,
+    state: &mut u32,
+    ticket: &mut u64,
+    waiting: &mut u64,
+    width: &mut u64,
+    left: &mut u64,
+) -> i32
+    ensures call { Called result ((state.new ≡ state.old) × (ticket.new ≡ ticket.old) × (waiting.new ≡ waiting.old) × (width.new ≡ width.old) × (left.new ≡ left.old)) SameQueueOf
+        (LooksAtBundle result state.new ticket.old ticket.new waiting.old waiting.new width.new left.new)
+        (bundle_in bundle.old.handle.desk) (bundle_in bundle.new.handle.desk) }
+    ensures spares { Spares bundle_in bundle.old.handle.desk bundle.new.handle.desk }
+{
+    let Some(mut desk) = bundle.take(alloc) else {
+        return NO_SEAT;
+    };
+    let code = desk.bundle_state(state, ticket, waiting, width, left);
+    bundle.put(desk);
+    code
+}

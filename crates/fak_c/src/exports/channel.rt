@@ -1,0 +1,192 @@
+//! The exported calls of ends of channels. None of them waits: an end whose call sleeps is woken by its thread's caller.
+
+ghost use Rattle.std.specs.Prelude.{◌≡◌};
+ghost use Rattle.fak_handles.specs.Calls.{Called};
+ghost use Rattle.fak_handles.specs.ChannelCalls.{BeginsClose, BeginsReceive, BeginsSend, BeginsTryReceive, BeginsTrySend, CountsItems, GivesUpCall, LooksAtEnd, SameChannel, StepsOn, TellsClosed};
+ghost use Rattle.fak_handles.specs.Kinds.{Spares, channel_in};
+
+use fak_handles::channel::Item;
+use fak_handles::code::NO_SEAT;
+use fak_handles::place::Place;
+use std::alloc::Global;
+
+/// Begins to send the item.
+///
+/// `OK` where `fak_channel_step` is next; `WORN`, `NO_SEAT` or `WRONG_STATE`.
+#[unsafe(no_mangle)]
+pub extern "C" fn fak_channel_begin_send(alloc: Global, end: &mut Place, item: &Item) -> i32
+    ensures call { Called result Unit SameChannel (BeginsSend result item.now)
+        (channel_in end.old.handle.desk) (channel_in end.new.handle.desk) }
+    ensures spares { Spares channel_in end.old.handle.desk end.new.handle.desk }
+{
+    let Some(mut desk) = end.take(alloc) else {
+        return NO_SEAT;
+    };
+    let code = desk.channel_begin_send(item);
+    end.put(desk);
+    code
+}
+
+/// Begins to receive an item.
+///
+/// `OK` where `fak_channel_step` is next; `WORN`, `NO_SEAT` or `WRONG_STATE`.
+#[unsafe(no_mangle)]
+pub extern "C" fn fak_channel_begin_receive(alloc: Global, end: &mut Place) -> i32
+    ensures call { Called result Unit SameChannel (BeginsReceive result)
+        (channel_in end.old.handle.desk) (channel_in end.new.handle.desk) }
+    ensures spares { Spares channel_in end.old.handle.desk end.new.handle.desk }
+{
+    let Some(mut desk) = end.take(alloc) else {
+        return NO_SEAT;
+    };
+    let code = desk.channel_begin_receive();
+    end.put(desk);
+    code
+}
+
+/// Looks whether there is a free cell, and begins to send the item.
+///
+/// `OK` where `fak_channel_step` is next; `WORN`, `CLOSED`, `FULL`, `NO_SEAT` or `WRONG_STATE`.
+#[unsafe(no_mangle)]
+pub extern "C" fn fak_channel_begin_try_send(alloc: Global, end: &mut Place, item: &Item) -> i32
+    ensures call { Called result Unit SameChannel (BeginsTrySend result item.now)
+        (channel_in end.old.handle.desk) (channel_in end.new.handle.desk) }
+    ensures spares { Spares channel_in end.old.handle.desk end.new.handle.desk }
+{
+    let Some(mut desk) = end.take(alloc) else {
+        return NO_SEAT;
+    };
+    let code = desk.channel_begin_try_send(item);
+    end.put(desk);
+    code
+}
+
+/// Looks whether there is an item, and begins to receive one.
+///
+/// `OK` where `fak_channel_step` is next; `WORN`, `CLOSED`, `EMPTY`, `NO_SEAT` or `WRONG_STATE`.
+#[unsafe(no_mangle)]
+pub extern "C" fn fak_channel_begin_try_receive(alloc: Global, end: &mut Place) -> i32
+    ensures call { Called result Unit SameChannel (BeginsTryReceive result)
+        (channel_in end.old.handle.desk) (channel_in end.new.handle.desk) }
+    ensures spares { Spares channel_in end.old.handle.desk end.new.handle.desk }
+{
+    let Some(mut desk) = end.take(alloc) else {
+        return NO_SEAT;
+    };
+    let code = desk.channel_begin_try_receive();
+    end.put(desk);
+    code
+}
+
+/// Begins to close the channel.
+///
+/// `OK` where `fak_channel_step` is next; `WORN`, `NO_SEAT` or `WRONG_STATE`.
+#[unsafe(no_mangle)]
+pub extern "C" fn fak_channel_begin_close(alloc: Global, end: &mut Place) -> i32
+    ensures call { Called result Unit SameChannel (BeginsClose result)
+        (channel_in end.old.handle.desk) (channel_in end.new.handle.desk) }
+    ensures spares { Spares channel_in end.old.handle.desk end.new.handle.desk }
+{
+    let Some(mut desk) = end.take(alloc) else {
+        return NO_SEAT;
+    };
+    let code = desk.channel_begin_close();
+    end.put(desk);
+    code
+}
+
+/// Goes on with the open call, by some steps. Writes the item that came out or back, and the number of the end that is to be woken.
+///
+/// `OK`, `CLOSED` or `WORN` where the call is done; `NOT_YET`, `WAKES` or `SLEEPS` where it stays open; `NO_SEAT` or `WRONG_STATE`.
+#[unsafe(no_mangle)]
+pub extern "C" fn fak_channel_step(
+    alloc: Global,
+    end: &mut Place,
+    item: &mut Item,
+    number: &mut u64,
+) -> i32
+    ensures call { Called result ((item.new ≡ item.old) × (number.new ≡ number.old)) SameChannel (StepsOn result item.old item.new number.old number.new)
+        (channel_in end.old.handle.desk) (channel_in end.new.handle.desk) }
+    ensures spares { Spares channel_in end.old.handle.desk end.new.handle.desk }
+{
+    let Some(mut desk) = end.take(alloc) else {
+        return NO_SEAT;
+    };
+    let code = desk.channel_step(item, number);
+    end.put(desk);
+    code
+}
+
+/// Gives up the open call if it sleeps. Writes the item of a send.
+///
+/// `GAVE_UP` where the call is done; `NOT_YET` where it was woken before and stays open; `NO_SEAT` or `WRONG_STATE`.
+#[unsafe(no_mangle)]
+pub extern "C" fn fak_channel_give_up(alloc: Global, end: &mut Place, item: &mut Item) -> i32
+    ensures call { Called result (item.new ≡ item.old) SameChannel (GivesUpCall result item.old item.new)
+        (channel_in end.old.handle.desk) (channel_in end.new.handle.desk) }
+    ensures spares { Spares channel_in end.old.handle.desk end.new.handle.desk }
+{
+    let Some(mut desk) = end.take(alloc) else {
+        return NO_SEAT;
+    };
+    let code = desk.channel_give_up(item);
+    end.put(desk);
+    code
+}
+
+/// Writes how many items no receiver has claimed.
+///
+/// `OK` or `NO_SEAT`.
+#[unsafe(no_mangle)]
+pub extern "C" fn fak_channel_len(alloc: Global, end: &mut Place, items: &mut u64) -> i32
+    ensures call { Called result (items.new ≡ items.old) SameChannel (CountsItems result items.new)
+        (channel_in end.old.handle.desk) (channel_in end.new.handle.desk) }
+    ensures spares { Spares channel_in end.old.handle.desk end.new.handle.desk }
+{
+    let Some(mut desk) = end.take(alloc) else {
+        return NO_SEAT;
+    };
+    let code = desk.channel_len(items);
+    end.put(desk);
+    code
+}
+
+/// Writes whether the channel was closed.
+///
+/// `OK` or `NO_SEAT`.
+#[unsafe(no_mangle)]
+pub extern "C" fn fak_channel_is_closed(alloc: Global, end: &mut Place, is_closed: &mut bool) -> i32
+    ensures call { Called result (is_closed.new ≡ is_closed.old) SameChannel (TellsClosed result is_closed.new)
+        (channel_in end.old.handle.desk) (channel_in end.new.handle.desk) }
+    ensures spares { Spares channel_in end.old.handle.desk end.new.handle.desk }
+{
+    let Some(mut desk) = end.take(alloc) else {
+        return NO_SEAT;
+    };
+    let code = desk.channel_is_closed(is_closed);
+    end.put(desk);
+    code
+}
+
+/// Writes the number of the end, its state, 0 idle, 1 in a call, 2 in a call that sleeps, and how many calls are left of its stint.
+///
+/// `OK` or `NO_SEAT`.
+#[unsafe(no_mangle)]
+pub extern "C" fn fak_channel_state(
+    alloc: Global,
+    end: &mut Place,
+    number: &mut u64,
+    state: &mut u32,
+    left: &mut u64,
+) -> i32
+    ensures call { Called result ((number.new ≡ number.old) × (state.new ≡ state.old) × (left.new ≡ left.old)) SameChannel (LooksAtEnd result number.new state.new left.new)
+        (channel_in end.old.handle.desk) (channel_in end.new.handle.desk) }
+    ensures spares { Spares channel_in end.old.handle.desk end.new.handle.desk }
+{
+    let Some(mut desk) = end.take(alloc) else {
+        return NO_SEAT;
+    };
+    let code = desk.channel_state(number, state, left);
+    end.put(desk);
+    code
+}
