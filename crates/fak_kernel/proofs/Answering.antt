@@ -1,17 +1,18 @@
 -- What the answers of threads tell of those that have left, and of a fault.
 use Rattle.std.proofs.lemmas.List.{get_or-map, length-map}
 use Rattle.fak_text.specs.Script.{ScriptOf}
-use Rattle.fak_kernel.proofs.Common.{turn_over, ObjectsOf, ProcessorOf, IsReached, lists_of, Between, IsLeftBy, ◌≡◌, ◌⊎◌, ℕ, zero, suc, ◌<◌, Bool, List, [], ◌∷◌, length, map, get_or, ap, sym, ◌∙◌, subst, arith, inl, inr, Option, Some, None, Result, Ok, Err, IfErr, HasAnswered, HasBegun, HasLeft, IsOfRun, as_left, first_fault, Fault, Memory, Gate, IsOfLoop, IsRefused, OneIsRefused}
+use Rattle.fak_kernel.specs.declared.fault.RunFault.TheVariants.{Loop}
+use Rattle.fak_kernel.proofs.Common.{turn_over, ObjectsOf, ProcessorOf, IsReached, lists_of, Between, IsLeftBy, ◌≡◌, ◌⊎◌, ℕ, zero, suc, ◌<◌, Bool, List, [], ◌∷◌, length, map, get_or, ap, sym, ◌∙◌, subst, arith, inl, inr, Option, Some, None, Result, Ok, Err, IfErr, HasAnswered, HasBegun, HasLeft, as_left, first_fault, LoopFault, Step, Gate, Memory, true, IsRefused, OneIsRefused}
 
 -- what each answer tells, the one that has left tells
-pub left_at : {A : Type 0} (P : ℕ → Result (Option A) Fault → Type 0) (answers : List (Result (Option A) Fault)) (left : List A) → map as_left left ≡ answers
-    → ((i : ℕ) (d : Result (Option A) Fault) → i < length answers → P i (get_or answers i d)) → (i : ℕ) (d : A) → i < length left → P i (as_left (get_or left i d))
+pub left_at : {A : Type 0} (P : ℕ → Result (Option A) LoopFault → Type 0) (answers : List (Result (Option A) LoopFault)) (left : List A) → map as_left left ≡ answers
+    → ((i : ℕ) (d : Result (Option A) LoopFault) → i < length answers → P i (get_or answers i d)) → (i : ℕ) (d : A) → i < length left → P i (as_left (get_or left i d))
 left_at P answers left is each i d low =
     let long : i < length answers = omega (arith, low, length-map left as_left, ap length is) in
     subst (P i) (ap (λ l. get_or l i (as_left d)) (sym is) ∙ get_or-map as_left left i d (as_left d) low) (each i (as_left d) long)
 
 -- what each fault is, the first is, of the one that answers it
-pub met_first : {A : Type 0} (Q : ℕ → Fault → Type 0) (answers : List (Result A Fault)) (fault : Fault) → ((i : ℕ) (d : Result A Fault) → i < length answers → IfErr (get_or answers i d) (Q i)) → first_fault answers ≡ Some fault
+pub met_first : {A : Type 0} (Q : ℕ → LoopFault → Type 0) (answers : List (Result A LoopFault)) (fault : LoopFault) → ((i : ℕ) (d : Result A LoopFault) → i < length answers → IfErr (get_or answers i d) (Q i)) → first_fault answers ≡ Some fault
     → (i : ℕ) × (i < length answers) × Q i fault
 met_first Q [] fault each is = search Rattle.std.proofs.Common.rules
 met_first Q (Ok x ∷ others) fault each is =
@@ -22,23 +23,22 @@ met_first Q (Err f ∷ others) fault each is =
     (0, omega arith, subst (Q 0) same (each zero (Err f) (omega arith)))
 
 -- all have left
-pub have_left : {script : ScriptOf} {o : ObjectsOf} {processors : ℕ} {refuses : Bool} {says : ℕ → ℕ → Bool → Type 0} (answers : List (Result (Option ProcessorOf) Fault)) (left : List ProcessorOf) → map as_left left ≡ answers
-    → ((i : ℕ) (d : Result (Option ProcessorOf) Fault) → i < length answers → HasAnswered script o processors refuses says i (get_or answers i d)) → (i : ℕ) (d : ProcessorOf) → i < length left → HasLeft script o processors i (get_or left i d)
+pub have_left : {script : ScriptOf} {o : ObjectsOf} {processors : ℕ} {refuses : Bool} {says : ℕ → ℕ → Bool → Type 0} (answers : List (Result (Option ProcessorOf) LoopFault)) (left : List ProcessorOf) → map as_left left ≡ answers
+    → ((i : ℕ) (d : Result (Option ProcessorOf) LoopFault) → i < length answers → HasAnswered script o processors refuses says i (get_or answers i d)) → (i : ℕ) (d : ProcessorOf) → i < length left → HasLeft script o processors i (get_or left i d)
 have_left {script} {o} {processors} {refuses} {says} answers left is each i d low = let a = left_at (HasAnswered script o processors refuses says) answers left is each i d low in a.left
 
--- the fault that is answered is one of a run
-pub run_fault : {script : ScriptOf} {o : ObjectsOf} {processors : ℕ} {refuses : Bool} {says : ℕ → ℕ → Bool → Type 0} (answers : List (Result (Option ProcessorOf) Fault)) (fault : Fault)
-    → ((i : ℕ) (d : Result (Option ProcessorOf) Fault) → i < length answers → HasAnswered script o processors refuses says i (get_or answers i d)) → (first_fault answers ≡ Some fault) ⊎ ((first_fault answers ≡ None) × (fault ≡ Memory)) → IsOfRun refuses fault
-run_fault {refuses = refuses} answers fault each (inl is) = inl (met_first (λ (i : ℕ). IsOfLoop refuses) answers fault (λ i d low. let a = each i d low in a.fault) is).2
-run_fault answers fault each (inr is) = inl (inl (inl is.1))
+-- a run's fault of a loop is the loop's
+pub of_loop : {a b : LoopFault} → Loop a ≡ Loop b → a ≡ b
+of_loop is = cc
 
--- where it is that of the gate, one processor was refused
-pub run_refused : {script : ScriptOf} {o : ObjectsOf} {processors : ℕ} {refuses : Bool} {says : ℕ → ℕ → Bool → Type 0} (answers : List (Result (Option ProcessorOf) Fault)) (fault : Fault) → length answers ≡ processors
-    → ((i : ℕ) (d : Result (Option ProcessorOf) Fault) → i < length answers → HasAnswered script o processors refuses says i (get_or answers i d)) → (first_fault answers ≡ Some fault) ⊎ ((first_fault answers ≡ None) × (fault ≡ Memory)) → fault ≡ Gate → OneIsRefused processors says
-run_refused {says = says} answers fault long each (inl is) gate =
-    let met = met_first (λ (i : ℕ) (f : Fault). f ≡ Gate → IsRefused (says i)) answers fault (λ i d low. let a = each i d low in a.refused) is in
-    record { processor = met.0; below = omega (arith, long, met.1); refused = met.2 gate }
-run_refused answers fault long each (inr is) gate = let clash : Memory ≡ Gate = sym is.1 ∙ gate in absurd (cc)
+-- where the fault that is answered is that of the gate, one processor was refused
+pub run_refused : {script : ScriptOf} {o : ObjectsOf} {processors : ℕ} {refuses : Bool} {says : ℕ → ℕ → Bool → Type 0} (answers : List (Result (Option ProcessorOf) LoopFault)) (fault : LoopFault) → length answers ≡ processors
+    → ((i : ℕ) (d : Result (Option ProcessorOf) LoopFault) → i < length answers → HasAnswered script o processors refuses says i (get_or answers i d)) → (first_fault answers ≡ Some fault) ⊎ ((first_fault answers ≡ None) × (fault ≡ Step Memory)) → fault ≡ Gate → (refuses ≡ true) × OneIsRefused processors says
+run_refused {refuses = refuses} {says = says} answers fault long each (inl is) gate =
+    let met = met_first (λ (i : ℕ) (f : LoopFault). f ≡ Gate → (refuses ≡ true) × IsRefused (says i)) answers fault (λ i d low. let a = each i d low in a.refused) is in
+    let refused = met.2 gate in
+    (refused.0, record { processor = met.0; below = omega (arith, long, met.1); refused = refused.1 })
+run_refused answers fault long each (inr is) gate = let clash : Step Memory ≡ Gate = sym is.1 ∙ gate in absurd (cc)
 
 -- each processor has begun
 pub begun_each : {script : ScriptOf} {o : ObjectsOf} (processors : ℕ) (all : List ProcessorOf) → length all ≡ processors → ((i : ℕ) (d : ProcessorOf) → i < length all → Between script o i (get_or all i d))

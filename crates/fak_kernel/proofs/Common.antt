@@ -14,7 +14,11 @@ pub use Rattle.fak_model.specs.declared.queue.Mark.{Mark}
 pub use Rattle.fak_opening.specs.Opened.{fresh_processor, AreSeated}
 pub use Rattle.fak_processor.proofs.Moving.{files_then}
 pub use Rattle.fak_processor.specs.Begun.{Between, IsLeftBy, IsFirst}
-pub use Rattle.fak_processor.specs.Faults.{IsOfLoop}
+pub use Rattle.fak_processor.specs.Faults.{IsOfLoop, IsOfStep}
+pub use Rattle.fak_processor.specs.declared.fault.LoopFault.TheVariants.{Step, Gate}
+pub use Rattle.fak_processor.specs.declared.fault.LoopFault.{LoopFault}
+pub use Rattle.fak_processor.specs.declared.fault.StepFault.TheVariants.{Memory, Worn}
+pub use Rattle.fak_processor.specs.declared.fault.StepFault.{StepFault}
 pub use Rattle.fak_processor.specs.Holding.{JoinedTo, Weighs, queue_kind, Bundle, Tallies, Have, Joins}
 pub use Rattle.fak_processor.specs.Joined.{ids_of_tallies, no_seat, JoinEach, no_tally, TalliesOf, AreTalliesOf, HaveNames, JoinAll, tallies_of, first_tallies}
 pub use Rattle.fak_processor.specs.Moving.{row_as, bundle_of, files_of, BeginsNone, LeavesNone}
@@ -32,7 +36,6 @@ pub use Rattle.fak_run.specs.Report.{RowOf, ReportOf, IsSortedByName, rows_with,
 pub use Rattle.fak_run.specs.Told.{told_report, told_row, told_rows}
 pub use Rattle.fak_run.specs.Views.{row_of}
 pub use Rattle.fak_run.specs.Whole.{Histories, Gathered, begun_names, asleep, lines, lines_of, rows_of}
-pub use Rattle.fak_run.specs.declared.fault.Fault.TheVariants.{Memory, Gate}
 pub use Rattle.fak_run.specs.declared.fault.Fault.{Fault}
 pub use Rattle.fak_run.specs.declared.report.Outcome.TheVariants.{Ended, Halted}
 pub use Rattle.fak_run.specs.declared.report.Outcome.{Outcome}

@@ -1,3 +1,4 @@
 pub mod Threads
 pub mod Gathered
 pub mod Closing
+pub mod Layers

@@ -2,8 +2,10 @@
 use Rattle.std.specs.Prelude.{◌≡◌, ◌⊎◌, ℕ, ◌<◌, Bool, true, List, [], ◌∷◌, Option, Some, None, Result, Ok, Err, IfOk, IfErr, IfSome}
 use Rattle.fak_text.specs.Script.{ScriptOf}
 use Rattle.fak_run.specs.declared.fault.Fault.{Fault}
-use Rattle.fak_run.specs.declared.fault.Fault.TheVariants.{Memory, NoThread, Gate}
+use Rattle.fak_run.specs.declared.fault.Fault.TheVariants.{NoThread}
 use Rattle.fak_processor.specs.Faults.{IsOfLoop}
+use Rattle.fak_processor.specs.declared.fault.LoopFault.{LoopFault}
+use Rattle.fak_processor.specs.declared.fault.LoopFault.TheVariants.{Gate}
 use Rattle.fak_run.specs.Gates.{IsRefused}
 use Rattle.fak_run.specs.ListScheduler.{turn_over}
 use Rattle.fak_processor.specs.Processors.{ObjectsOf, ProcessorOf, IsReached, lists_of}
@@ -19,18 +21,14 @@ pub record OneIsRefused (processors : ℕ) (answers : ℕ → ℕ → Bool → T
   pub below : processor < processors
   pub refused : IsRefused (answers processor)
 
--- a thread could not be begun, or there was no memory for what is kept of it
-abbrev pub IsOfStart : Fault → Type 0
-IsOfStart fault = (fault ≡ Memory) ⊎ (fault ≡ NoThread)
-
 -- the first fault that a processor answers, in the order of their numbers
-abbrev pub first_fault : {A : Type 0} → List (Result A Fault) → Option Fault
+abbrev pub first_fault : {A : Type 0} → List (Result A LoopFault) → Option LoopFault
 first_fault [] = None
 first_fault (Ok _ ∷ others) = first_fault others
 first_fault (Err fault ∷ others) = Some fault
 
 -- the answer of a thread whose processor has left
-abbrev pub as_left : {A : Type 0} → A → Result (Option A) Fault
+abbrev pub as_left : {A : Type 0} → A → Result (Option A) LoopFault
 as_left x = Ok (Some x)
 
 -- one of this many processors, before its thread begins
@@ -45,8 +43,7 @@ pub record HasLeft (script : ScriptOf) (o : ObjectsOf) (processors name : ℕ) (
   pub still : processors ≡ 1 → (lists_of script p).ready ≡ []
 
 -- what its thread answers
-pub record HasAnswered (script : ScriptOf) (o : ObjectsOf) (processors : ℕ) (refuses : Bool) (answers : ℕ → ℕ → Bool → Type 0) (name : ℕ) (r : Result (Option ProcessorOf) Fault) : Type 0 where
+pub record HasAnswered (script : ScriptOf) (o : ObjectsOf) (processors : ℕ) (refuses : Bool) (answers : ℕ → ℕ → Bool → Type 0) (name : ℕ) (r : Result (Option ProcessorOf) LoopFault) : Type 0 where
   pub left : IfOk r (λ left. IfSome left (HasLeft script o processors name))
   pub passed : IfOk r (λ left. IfSome left (λ _. answers name 0 true))
-  pub fault : IfErr r (IsOfLoop refuses)
-  pub refused : IfErr r (λ fault. fault ≡ Gate → IsRefused (answers name))
+  pub refused : IfErr r (λ fault. fault ≡ Gate → (refuses ≡ true) × IsRefused (answers name))

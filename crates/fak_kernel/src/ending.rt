@@ -4,7 +4,7 @@ ghost use Rattle.std.specs.Prelude.{◌≡◌, ◌<◌, ◌≤◌, [], ℕ, vec_
 ghost use Rattle.fak_run.specs.ListScheduler.{turn_over};
 ghost use Rattle.fak_run.specs.Report.{ListSchedulerReports};
 ghost use Rattle.fak_run.specs.RunReports.{RunReports};
-ghost use Rattle.fak_processor.specs.Processors.{AreFor, IsReached, ProcessorOf, lists_of};
+ghost use Rattle.fak_processor.specs.Processors.{IsReached, ProcessorOf, lists_of};
 ghost use Rattle.fak_opening.specs.Opened.{AreSeated};
 ghost use Rattle.fak_processor.specs.Begun.{IsLeftBy};
 ghost use Rattle.fak_run.specs.Told.{told_report};
@@ -16,7 +16,7 @@ pub mod joining;
 pub mod reporting;
 
 use closing::close;
-use fak_processor::{Objects, Processor};
+use fak_processor::{Objects, Seats};
 use fak_run::{Report, Run};
 use fak_text::Script;
 use gathering::gather;
@@ -29,10 +29,9 @@ pub(crate) fn report_of_run<K: Run>(
     alloc: Global,
     script: &Script,
     objects: Objects<K>,
-    left: Vec<Processor<K>>,
+    left: Vec<Seats<K>>,
 ) -> Result<Report, AllocError>
     requires script { script.now ≡ K.script }
-    requires made { AreFor K.script objects }
     requires seated { AreSeated (vec_len left) objects }
     requires some { 1 ≤ vec_len left }
     requires left { (i : ℕ) (d : ProcessorOf) → i < vec_len left
@@ -44,6 +43,8 @@ pub(crate) fn report_of_run<K: Run>(
         × ((lists_of K.script (slice_index_or left.items 0 d)).ready ≡ [])) → (d : ProcessorOf)
         → IfOk result (λ report. ListSchedulerReports K.script (told_report K.script (report_of report))) }
 {
+    // A field is named for the proof alone: that tells that the objects were opened for this script.
+    let _ready = &objects.ready;
     let all = gather(alloc, &objects, left)?;
     let remains = close(alloc, objects, all.tallies, script.files())?;
     let rows = rows_of(alloc, all.ended, all.halted, remains.asleep)?;

@@ -2,6 +2,7 @@
 #![tactic(auto)]
 
 mod ending;
+mod fault;
 mod run_threads;
 mod running;
 

@@ -1,11 +1,11 @@
 //! Runs on several processors, a thread for each.
 
-ghost use Rattle.std.specs.Prelude.{◌≡◌, ◌<◌, ℕ, Err, vec_len, slice_index_or, IfOk, IfErr};
+ghost use Rattle.std.specs.Prelude.{◌≡◌, ◌<◌, ℕ, Err, true, vec_len, slice_index_or, IfOk, IfErr};
 ghost use Rattle.fak_opening.specs.Opened.{AreProcessors};
 ghost use Rattle.fak_run.specs.Report.{ListSchedulerReports};
 ghost use Rattle.fak_run.specs.ReportText.{ListSchedulerPrints, RunPrints};
 ghost use Rattle.fak_run.specs.RunReports.{RunReports};
-ghost use Rattle.fak_processor.specs.Processors.{AreFor, ProcessorOf};
+ghost use Rattle.fak_processor.specs.Processors.{ProcessorOf};
 ghost use Rattle.fak_kernel.specs.Threads.{HasBegun, HasLeft, IsOfRun, OneIsRefused};
 ghost use Rattle.fak_run.specs.Told.{told_report};
 ghost use Rattle.fak_run.specs.Views.{report_of};
@@ -14,9 +14,10 @@ mod answering;
 mod leaving;
 
 use crate::ending::report_of_run;
+use crate::fault::RunFault;
 use answering::all_left;
 use fak_opening::open_run;
-use fak_processor::{Objects, Processor};
+use fak_processor::{LoopFault, Objects, Seats};
 use fak_run::{Fault, Gate, Printed, Report, Run, print_brief, told_in_full};
 use fak_text::Script;
 use leaving::leave_all;
@@ -94,7 +95,7 @@ fn run_briefly<G: Gate + Sync, R: Threads + Wait + Sync>(
     if processors < 1 || processors > MOST_PROCESSORS {
         return Err(Fault::BadProcessors);
     }
-    run_as::<Brand, G, R>(rt, alloc, script, processors, gate)
+    Ok(run_as::<Brand, G, R>(rt, alloc, script, processors, gate)?)
 }
 
 /// The same, where the number of processors is in range.
@@ -104,14 +105,14 @@ fn run_as<K: Run + Send + Sync, G: Gate + Sync, R: Threads + Wait + Sync>(
     script: &Script,
     processors: u64,
     gate: &G,
-) -> Result<Report, Fault>
+) -> Result<Report, RunFault>
     requires script { script.now ≡ K.script }
     requires processors { AreProcessors processors }
     ensures report { IfOk result (λ report. RunReports K.script (told_report K.script (report_of report))) }
     ensures alone { processors ≡ 1 → IfOk result (λ report. ListSchedulerReports K.script
         (told_report K.script (report_of report))) }
-    ensures fault { IfErr result (λ fault. IsOfRun (G.refuses gate.now) fault) }
-    ensures refused { IfErr result (λ fault. fault ≡ Fault.Gate → OneIsRefused processors (G.answers gate.now)) }
+    ensures refused { IfErr result (λ fault. fault ≡ RunFault.Loop LoopFault.Gate
+        → (G.refuses gate.now ≡ true) × OneIsRefused processors (G.answers gate.now)) }
 {
     let opened = open_run::<K, R>(rt, alloc, script, processors)?;
     let objects = opened.objects;
@@ -133,19 +134,21 @@ fn work_all<K: Run + Send + Sync, G: Gate + Sync, R: Threads + Wait + Sync>(
     objects: &Objects<K>,
     gate: &G,
     processors: u64,
-    all: Vec<Processor<K>>,
-) -> Result<Vec<Processor<K>>, Fault>
+    all: Vec<Seats<K>>,
+) -> Result<Vec<Seats<K>>, RunFault>
     requires script { script.now ≡ K.script }
-    requires made { AreFor K.script objects.now }
     requires len { vec_len all ≡ processors }
     requires begun { (i : ℕ) (d : _) → i < vec_len all
         → HasBegun K.script objects.now processors i (slice_index_or all.items i d) }
     ensures len { IfOk result (λ left. vec_len left ≡ vec_len all) }
     ensures left { IfOk result (λ left. (i : ℕ) (d : ProcessorOf) → i < vec_len left
         → HasLeft K.script objects.now processors i (slice_index_or left.items i d)) }
-    ensures fault { IfErr result (λ fault. IsOfRun (G.refuses gate.now) fault) }
-    ensures refused { IfErr result (λ fault. fault ≡ Fault.Gate → OneIsRefused processors (G.answers gate.now)) }
+    ensures refused { IfErr result (λ fault. fault ≡ RunFault.Loop LoopFault.Gate
+        → (G.refuses gate.now ≡ true) × OneIsRefused processors (G.answers gate.now)) }
 {
     let answers = leave_all(rt, alloc, script, objects, gate, processors, all)?;
-    all_left(alloc, answers)
+    match all_left(alloc, answers) {
+        Ok(left) => Ok(left),
+        Err(fault) => Err(RunFault::Loop(fault)),
+    }
 }

@@ -3,7 +3,7 @@
 ghost use Rattle.std.specs.Prelude.{◌≡◌, ◌<◌, vec_len, slice_index_or, IfOk, IfErr};
 ghost use Rattle.fak_processor.specs.Faults.{IsOfStep};
 ghost use Rattle.fak_opening.specs.Opened.{AreSeated};
-ghost use Rattle.fak_processor.specs.Processors.{AreFor, ProcessorOf};
+ghost use Rattle.fak_processor.specs.Processors.{ProcessorOf};
 ghost use Rattle.fak_run.specs.Report.{ListSchedulerReports};
 ghost use Rattle.fak_run.specs.ReportText.{ListSchedulerPrints, RunPrints};
 ghost use Rattle.fak_run.specs.RunReports.{RunReports};
@@ -13,7 +13,7 @@ ghost use Rattle.fak_run.specs.Views.{report_of};
 
 use crate::ending::report_of_run;
 use fak_opening::open_run;
-use fak_processor::{Objects, Processor};
+use fak_processor::{LoopFault, Objects, Processor, Seats, StepFault};
 use fak_run::{Fault, FreeGate, Printed, Report, Run, print_brief, told_in_full};
 use fak_text::Script;
 use std::alloc::Global;
@@ -49,11 +49,10 @@ pub fn run_one_to_text(rt: &impl Wait, alloc: Global, script: &Script) -> Result
 }
 
 /// The report, with its said texts left out.
-fn run_alone<K: Run, R: Wait>(rt: &R, alloc: Global, script: &Script) -> Result<Report, Fault>
+fn run_alone<K: Run, R: Wait>(rt: &R, alloc: Global, script: &Script) -> Result<Report, StepFault>
     requires { script.now ≡ K.script }
     ensures report { IfOk result (λ report. ListSchedulerReports K.script (told_report K.script (report_of report))) }
     ensures conserved { IfOk result (λ report. RunReports K.script (told_report K.script (report_of report))) }
-    ensures fault { IfErr result (λ fault. IsOfStep fault) }
 {
     let opened = open_run::<K, R>(rt, alloc, script, 1)?;
     let objects = opened.objects;
@@ -73,23 +72,28 @@ fn leave_alone<K: Run, R: Wait>(
     alloc: Global,
     script: &Script,
     objects: &Objects<K>,
-    only: Vec<Processor<K>>,
-) -> Result<Vec<Processor<K>>, Fault>
+    only: Vec<Seats<K>>,
+) -> Result<Vec<Seats<K>>, StepFault>
     requires script { script.now ≡ K.script }
-    requires made { AreFor K.script objects.now }
     requires seated { AreSeated 1 objects.now }
     requires one { vec_len only ≡ 1 }
     requires begun { (d : ProcessorOf) → HasBegun K.script objects.now 1 0 (slice_index_or only.items 0 d) }
     ensures one { IfOk result (λ left. vec_len left ≡ 1) }
     ensures left { IfOk result (λ left. (d : ProcessorOf)
         → HasLeft K.script objects.now 1 0 (slice_index_or left.items 0 d)) }
-    ensures fault { IfErr result (λ fault. IsOfStep fault) }
 {
     let mut only = only;
-    match only[0].work(rt, alloc, script, objects, &FreeGate, 0) {
-        Ok(true) => Ok(only),
+    let processor = Processor::new(objects, script, alloc, 0, only.remove(0));
+    let (seats, done) = processor.work(rt, &FreeGate);
+    match done {
+        Ok(true) => {
+            only.push(seats)?;
+            Ok(only)
+        }
         Ok(false) => unreachable!(),
-        Err(fault) => {
+        Err(LoopFault::Gate) => unreachable!(),
+        Err(LoopFault::Step(fault)) => {
+            drop(seats);
             drop(only);
             Err(fault)
         }

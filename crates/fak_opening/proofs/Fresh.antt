@@ -1,5 +1,6 @@
 -- Processors with seats as they are opened: what they know, the lists that the list scheduler has where there is one, and
 -- what all are where the first began.
+use Rattle.std.specs.List.{insert, remove}
 use Rattle.fak_model.specs.Credit as credit
 use Rattle.fak_model.specs.Room as room
 use Rattle.fak_processor.proofs.Common.{AreLines, files_of, begun_names, ◌≤◌, slice_set, sym, subst, numbers_from, turn_over, ProcessorOf, IsReached, lists_of, Begins, free_entry, nothing, Owns, queue_kind, IsOnly, ObjectsOf, AreFor, AreOf, GoesTo, IsAlone, ids_of, ids_of_seats, bundle_of, Between, empty_lists, ◌≡◌, ℕ, zero, suc, ◌+◌, ◌-◌, ◌<◌, List, [], ◌∷◌, All, length, map, replicate, get_or, slice_index_or, refl, ap, ◌∙◌, arith, length-replicate, All-nil, All-cons, All-head, All-tail, ObjectId, seat_info, credit_rules, queue_rules, room_rules, entries_after, SemId, SemInfo, SemSeatInfo, credit_part, queue_part, ScriptOf, down, Process, Turning, IsOnlySem, semaphore_count, sleepers_of, no_seat, no_table, HasName, lines_none, FileEntry, common_steps, get_or-set_same}
@@ -129,6 +130,11 @@ all_between script o stint (suc n) items p some is first (suc i) d low =
 
 pub fresh_length : (o : ObjectsOf) (stint n : ℕ) {items : List ProcessorOf} → items ≡ fresh_all o stint 0 n → length items ≡ n
 fresh_length o stint n fresh = ap length fresh ∙ length-all o stint 0 n
+
+-- the first was taken out, began, and was put in again
+pub first_again : (items rest done : List ProcessorOf) (p : ProcessorOf) → 0 < length items → rest ≡ remove items 0 → done ≡ insert rest 0 p → done ≡ slice_set items 0 p
+first_again [] rest done p some taken put = absurd (omega (arith, some))
+first_again (x ∷ xs) rest done p some taken put = put ∙ ap (λ l. insert l 0 p) taken
 
 module _ (o : ObjectsOf) (stint n : ℕ) {items : List ProcessorOf} {was : ProcessorOf} (some : 1 ≤ n) (fresh : items ≡ fresh_all o stint 0 n) (first : was ≡ get_or items 0 was) where
   first_fresh : was ≡ fresh_processor o stint 0

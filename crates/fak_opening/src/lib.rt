@@ -1,11 +1,10 @@
 //! How the objects of a run are opened, and their seats dealt to the processors.
 #![tactic(auto)]
 
-ghost use Rattle.std.specs.Prelude.{◌≡◌, ℕ, ◌<◌, ◌≤◌, ◌∷◌, [], length, map, slice_index_or, vec_len, IfOk, IfErr};
+ghost use Rattle.std.specs.Prelude.{◌≡◌, ℕ, ◌<◌, ◌≤◌, ◌∷◌, [], length, map, slice_index_or, vec_len, IfOk};
 ghost use Rattle.fak_model.specs.Calls.{fresh_seats};
 ghost use Rattle.fak_sem.specs.Semaphores.{fresh_sem_seats, seats_of};
 ghost use Rattle.fak_files.specs.Calls.{idle_seats};
-ghost use Rattle.fak_processor.specs.Faults.{IsOfStep};
 ghost use Rattle.fak_run.specs.ListScheduler as lists;
 ghost use Rattle.fak_processor.specs.Processors.{AreFor, IsReached, ids_of, lists_of};
 ghost use Rattle.fak_opening.specs.Opened.{AreProcessors, AreSeated, AreSemaphoresFor, dealt_to, fresh_all, fresh_rows, zipped};
@@ -13,9 +12,9 @@ ghost use Rattle.fak_processor.specs.Begun.{Between};
 
 use fak_count::{Credit, CreditSeat, Room, RoomSeat};
 use fak_files::{FileSeat, FileTable};
-use fak_processor::{Alarm, Files, Objects, Processor};
+use fak_processor::{Alarm, Files, Objects, Processor, Seats, StepFault};
 use fak_queue::{Queue, Seat};
-use fak_run::{Context, Fault, Run, Sleeper, Slot};
+use fak_run::{Context, Run, Sleeper, Slot};
 use fak_sem::{SemSeat, Semaphore};
 use fak_text::Script;
 use std::alloc::{AllocError, Global};
@@ -23,13 +22,13 @@ use std::fmt;
 use std::sync::Wait;
 use std::vec::IntoIter;
 
-/// The objects of a run that begins, and its processors, each with a seat of every object.
+/// The objects of a run that begins, and the seats of its processors, for each a seat of every object.
 #[derive(Drop)]
 pub struct Opened<K: Run> {
     /// What all processors share.
     pub objects: Objects<K>,
-    /// The processors, in the order of their numbers.
-    pub processors: Vec<Processor<K>>,
+    /// The seats of the processors, in the order of their numbers.
+    pub processors: Vec<Seats<K>>,
 }
 
 impl<K: Run> fmt::Debug for Opened<K> {
@@ -51,7 +50,7 @@ pub fn open_run<K: Run, R: Wait>(
     alloc: Global,
     script: &Script,
     processors: u64,
-) -> Result<Opened<K>, Fault>
+) -> Result<Opened<K>, StepFault>
     requires script { script.now ≡ K.script }
     requires processors { AreProcessors processors }
     ensures made { IfOk result (λ o. AreFor K.script o.objects × AreSeated processors o.objects) }
@@ -61,20 +60,31 @@ pub fn open_run<K: Run, R: Wait>(
     ensures alone { processors ≡ 1 → IfOk result
         (λ o. (d : _) → IsReached K.script (slice_index_or o.processors.items 0 d)
         (lists.turn_over (lists_of K.script (slice_index_or o.processors.items 0 d)))) }
-    ensures fault { IfErr result (λ fault. IsOfStep fault) }
 {
-    let mut opened = open_objects(alloc, script, processors)?;
-    let first = &mut opened.processors[0];
-    match first.begin(rt, alloc, script, &opened.objects) {
-        Ok(()) => Ok(opened),
+    let Opened {
+        objects,
+        processors: mut dealt,
+    } = open_objects(alloc, script, processors)?;
+    let first = Processor::new(&objects, script, alloc, 0, dealt.remove(0));
+    let (first, begun) = first.begin(rt);
+    match begun {
+        Ok(()) => {
+            dealt.insert(0, first)?;
+            Ok(Opened {
+                objects,
+                processors: dealt,
+            })
+        }
         Err(fault) => {
-            drop(opened);
+            drop(objects);
+            drop(first);
+            drop(dealt);
             Err(fault)
         }
     }
 }
 
-/// The objects of a run, and the processors with new seats.
+/// The objects of a run, and new seats for its processors.
 fn open_objects<K: Run>(
     alloc: Global,
     script: &Script,
@@ -284,8 +294,8 @@ struct Undealt<K: Run> {
 }
 
 impl<K: Run> Undealt<K> {
-    /// The next processor.
-    fn next(&mut self, alloc: Global, ready: Seat<Context<K>>, copy: Files) -> Processor<K>
+    /// The seats of the next processor.
+    fn next(&mut self, alloc: Global, ready: Seat<Context<K>>, copy: Files) -> Seats<K>
         requires left { (0 < length self.old.free.rest.items) × (0 < length self.old.births.rest.items)
             × (0 < length self.old.busy.rest.items)
             × (0 < length self.old.rows.rest.items) × (0 < length self.old.files.rest.items) }
@@ -297,7 +307,7 @@ impl<K: Run> Undealt<K> {
         ensures files { self.old.files.rest.items ≡ result.files ∷ self.new.files.rest.items }
         ensures others { result ≡ record result { ready = ready; ended = []; halted = []; copy = copy } }
     {
-        Processor {
+        Seats {
             ready,
             free: next_of(&mut self.free),
             semaphores: next_of(&mut self.rows),
@@ -311,13 +321,13 @@ impl<K: Run> Undealt<K> {
     }
 }
 
-/// The processors: of each object a seat for each.
+/// The seats of the processors: of each object a seat for each.
 fn zip_seats<K: Run>(
     alloc: Global,
     entries: u64,
     ready: Vec<Seat<Context<K>>>,
     left: &mut Undealt<K>,
-) -> Result<Vec<Processor<K>>, AllocError>
+) -> Result<Vec<Seats<K>>, AllocError>
     requires len { (length left.old.free.rest.items ≡ length ready.items)
         × (length left.old.births.rest.items ≡ length ready.items)
         × (length left.old.busy.rest.items ≡ length ready.items)

@@ -1,16 +1,12 @@
 -- What calls add to the looks of a seat, and how each look comes to be asked of the gate.
-use Rattle.std.specs.Prelude.{Result, Ok, Err, IfErr}
 use Rattle.fak_model.specs.Queue.{count}
 use Rattle.fak_model.specs.declared.queue.Kind.TheVariants as made
 use Rattle.fak_queue.proofs.AfterRefusals.{at_once}
 use Rattle.fak_queue.proofs.Weighing.{count_more}
 use Rattle.fak_queue.specs.Queues.{Deletes}
 use Rattle.fak_run.specs.Gates.{look_behind}
-use Rattle.fak_run.specs.declared.fault.Fault.{Fault}
-use Rattle.fak_run.specs.declared.fault.Fault.TheVariants.{Gate}
 use Rattle.fak_processor.proofs.Common.{◌≡◌, ◌⊎◌, ◌∙◌, ℕ, ◌+◌, ◌-◌, Bool, true, false, List, [], ◌∷◌, refl, ap, sym, subst, arith, inl, inr, common_steps, nat_tests, SeatInfo, Kind, Mark, Makes, made_by, RefusesEmpty, ShutsAs, kinds_out, kinds_not_in, InsertsAfterFull, ClosesAfterFull, none_in, HasPassed}
 use Rattle.fak_processor.specs.Asking.{look_of, looks_of, counted, AreAsked, HasAsked}
-use Rattle.fak_processor.specs.Faults.{IsOfStep, IsOfLoop}
 
 -- ---- calls on a queue
 
@@ -83,14 +79,3 @@ pub asked_on : (answers : ℕ → ℕ → Bool → Type 0) {name number before m
 asked_on answers {number = number} {before} {made} {next} {a = a} {b} {c} same was more is =
     let asked : AreAsked (answers number) before b next = subst (λ (n : ℕ). AreAsked (answers n) before b next) same (more (subst (λ (n : ℕ). AreAsked (answers n) before a made) (sym same) was)) in
     asked_still (answers number) asked (ap looks_of is)
-
--- a step that is no look meets no gate
-module _ {A : Type 0} where
-  pub of_step : (refuses : Bool) (r : Result A Fault) → IfErr r (λ fault. IsOfStep fault) → IfErr r (λ fault. IsOfLoop refuses fault)
-  of_step refuses (Ok x) e = tt
-  of_step refuses (Err fault) e = inl e
-
-  pub no_gate : (P : Type 0) (r : Result A Fault) → IfErr r (λ fault. IsOfStep fault) → IfErr r (λ fault. fault ≡ Gate → P)
-  no_gate P (Ok x) e = tt
-  no_gate P (Err fault) (inl memory) = λ gate. absurd cc
-  no_gate P (Err fault) (inr worn) = λ gate. absurd cc

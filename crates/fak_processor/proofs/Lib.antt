@@ -18,3 +18,4 @@ pub mod Stepping
 pub mod Looping
 pub mod Spent
 pub mod Asking
+pub mod Seated

@@ -9,3 +9,5 @@ pub mod Moving
 pub mod Joined
 pub mod Begun
 pub mod Asking
+pub mod Layers
+pub mod Stations

@@ -12,6 +12,7 @@ use Rattle.fak_queue.specs.declared.state.SeatState.TheVariants.{Idle}
 use Rattle.fak_queue.specs.Queues.{QueueInfo, state_of}
 use Rattle.fak_sem.specs.Semaphores.{SemInfo, SemId, SemSeatInfo}
 use Rattle.fak_files.specs.Calls.{FileTableInfo, FileSeatInfo}
+use Rattle.fak_files.specs.declared.phase.Hold.{Hold}
 use Rattle.fak_files.specs.declared.phase.Hold.TheVariants.{Nothing}
 use Rattle.fak_text.specs.Script.{ScriptOf}
 use Rattle.fak_text.specs.Journal.{Process, downed, after_note}
@@ -48,6 +49,10 @@ ids_of_seats seats = map (λ s. s.object) seats
 
 abbrev pub ids_of : List SemInfo → List SemId
 ids_of semaphores = map (λ s. s.object) semaphores
+
+-- the seat is of this table and has this hold, and the copy has an entry for each of the table's
+abbrev pub HoldsTable : FileTableInfo → Hold → FileSeatInfo → List FileEntry → Type 0
+HoldsTable table hold s copy = (s.seat.object ≡ table.object) × (s.hold ≡ hold) × (length copy ≡ table.entries)
 
 -- the seats are of these objects, and stand between two calls
 pub record AreOf (o : ObjectsOf) (p : ProcessorOf) : Type 0 where

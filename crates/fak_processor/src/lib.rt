@@ -2,10 +2,16 @@
 #![tactic(auto)]
 
 mod alarm;
+mod fault;
 mod objects;
 mod processor;
+mod seats;
+mod station;
+mod worker;
 
 pub use alarm::Alarm;
+pub use fault::{LoopFault, StepFault};
 pub use objects::Objects;
 pub use processor::Processor;
-pub use processor::files::Files;
+pub use seats::Seats;
+pub use seats::files::Files;

@@ -1,7 +1,5 @@
 //! What the processors of a run share.
 
-pub(crate) mod starting;
-
 use crate::alarm::Alarm;
 use fak_count::{Credit, Room};
 use fak_files::FileTable;

@@ -1,126 +1,118 @@
-//! A processor of a run: its seats, and what it saw leave.
+//! A processor of a run: what it shares with the others, and its seats.
 
-ghost use Rattle.std.specs.Prelude.{◌≡◌, [], ◌∷◌, IfOk, IfErr, OnErr};
-ghost use Rattle.fak_model.specs.declared.credit.CreditKind.TheVariants as made;
-ghost use Rattle.fak_count.specs.Credits.{calls_made};
-ghost use Rattle.fak_run.specs.Ledger.{nothing};
-ghost use Rattle.fak_processor.specs.Moving.{Gains, IsCredited};
-ghost use Rattle.fak_processor.specs.Processors.{AreOf, GoesTo, IsAlone, ProcessorOf, lists_of};
+ghost use Rattle.std.specs.Prelude.{◌≡◌, ◌<◌, [], true, false, IfOk, IfErr};
+ghost use Rattle.fak_run.specs.Gates.{IsRefused};
+ghost use Rattle.fak_run.specs.ListScheduler as lists;
+ghost use Rattle.fak_run.specs.Whole.{begun_names};
+ghost use Rattle.fak_processor.specs.Asking.{HasAsked};
+ghost use Rattle.fak_processor.specs.Begun.{Begins, empty_lists};
+ghost use Rattle.fak_processor.specs.Faults.{HasSpentSeat};
+ghost use Rattle.fak_processor.specs.Moving.{LeavesNone};
+ghost use Rattle.fak_processor.specs.Processors.{AreFor, AreOf, GoesTo, IsReached, lists_of};
 
-mod births;
-pub(crate) mod entering;
-pub(crate) mod files;
-mod filing;
-mod ready;
-mod sleeping;
-mod steps;
-mod turn;
-mod turns;
-
+use crate::fault::{LoopFault, StepFault};
 use crate::objects::Objects;
-use fak_count::{CreditSeat, RoomSeat};
-use fak_files::FileSeat;
-use fak_queue::Seat;
-use fak_run::{Context, Fault, Run, Sleeper, Slot};
-use fak_sem::SemSeat;
-use files::Files;
+use crate::seats::Seats;
+use crate::worker::{begin_at, work_at};
+use fak_run::{Gate, Run};
+use fak_text::Script;
+use std::alloc::Global;
 use std::fmt;
-use std::marker::Model;
+use std::marker::Brand;
+use std::sync::Wait;
 
-/// A seat of each object, and the processes that the processor has seen end or halt.
+/// A processor of this number, with the script and the objects of its run and its seats there. The type keeps what
+/// belongs together, so that its calls require nothing.
 #[derive(Drop)]
-pub struct Processor<K: Run> {
-    /// Its seat at the ready queue.
-    pub ready: Seat<Context<K>>,
-    /// Its seat at the free slots.
-    pub free: Seat<Slot<K>>,
-    /// Its seats at the semaphores, in the order of the script.
-    pub semaphores: Vec<SemSeat<Sleeper<K>>>,
-    /// Its seat at the births.
-    pub births: RoomSeat,
-    /// Its seat at the count of the processes that are ready or run.
-    pub busy: CreditSeat,
-    /// Its seat at the file table.
-    pub files: FileSeat,
-    /// The processes that it saw end.
-    pub ended: Vec<Context<K>>,
-    /// The processes that it saw halt.
-    pub halted: Vec<Context<K>>,
-    /// Where the entries of the file table are read to.
-    pub copy: Files,
+pub struct Processor<'r, K: Run> {
+    /// What all processors of the run share.
+    pub objects: &'r Objects<K>,
+    /// The script of the run.
+    pub script: &'r Script,
+    /// What its contexts are allocated with.
+    pub alloc: Global,
+    /// Its number.
+    pub number: u64,
+    /// Its seats, each of one of the objects and idle.
+    pub seats: Seats<K>,
+    pub ghost made: { AreFor K.script objects.now },
+    pub ghost are: { AreOf objects.now seats },
+    pub ghost script_is: { script.now ≡ K.script },
 }
 
-impl<K: Run> Model for Processor<K> {
-    ghost use Rattle.fak_processor.specs.Processors.{ProcessorOf};
+impl<'r, K: Run> Processor<'r, K> {
+    /// The processor of this number with these seats, in the run of this script with these objects.
+    pub fn new(
+        objects: &'r Objects<K>,
+        script: &'r Script,
+        alloc: Global,
+        number: u64,
+        seats: Seats<K>,
+    ) -> Processor<'r, K>
+        requires script { script.now ≡ K.script }
+        requires seats { AreOf objects.now seats }
+        ensures objects { result.objects.now ≡ objects.now }
+        ensures number { result.number ≡ number }
+        ensures seats { result.seats ≡ seats }
+    {
+        // A field is named for the proof alone: that tells that the objects were opened for this script.
+        let _ready = &objects.ready;
+        Processor {
+            objects,
+            script,
+            alloc,
+            number,
+            seats,
+        }
+    }
 
-    ghost Value = { ProcessorOf };
-
-    ghost view = { λ p. record {
-      ready = p.ready;
-      free = p.free;
-      semaphores = p.semaphores.items;
-      births = p.births;
-      busy = p.busy;
-      files = p.files;
-      ended = p.ended.items;
-      halted = p.halted.items;
-      copy = p.copy;
-    } };
-}
-
-impl<K: Run> Processor<K> {
-    /// One process more is ready or runs.
+    /// All slots of the script become free and its started processes become ready, in order. Returns the seats.
     ///
     /// # Errors
     ///
-    /// `Worn`, where the seat at the count has no calls left.
-    pub fn credit(&mut self, objects: &Objects<K>) -> Result<(), Fault>
-        requires objects { AreOf objects.now self.old }
-        ensures objects { AreOf objects.now self.new }
-        ensures same { self.new ≡ record self.old { busy = self.new.busy } }
-        ensures gains { IfOk result (λ _. Gains K.script self.old self.new
-            (record nothing { busy = made.Credit ∷ [] })) }
-        ensures credited { IfOk result (λ _. IsCredited self.old self.new) }
-        ensures alone { IsAlone K.script self.old → GoesTo K.script self.new (lists_of K.script self.old) }
-        ensures worn { IfErr result (λ fault. fault ≡ Fault.Worn) }
-        ensures spent { IfErr result (λ _. calls_made self.new.busy ≡ self.new.busy.stint) }
+    /// `Memory`, and `Worn` only if a seat of the processor has used up its stint.
+    pub fn begin<R: Wait>(self, rt: &R) -> (Seats<K>, Result<(), StepFault>)
+        ensures seats { AreOf self.entry.objects.now result.0 }
+        ensures general { IfOk result.1 (λ _. Begins K.script [] [] (lists.numbers_from 0 K.script.slots)
+            (begun_names 0 K.script.start) self.entry.seats result.0) }
+        ensures alone { GoesTo K.script self.entry.seats (empty_lists K.script)
+            → IfOk result.1 (λ _. IsReached K.script result.0 (lists.turn_over (lists_of K.script result.0))) }
+        ensures spent { IfErr result.1 (λ fault. fault ≡ StepFault.Worn → HasSpentSeat result.0) }
     {
-        let Ok(_) = objects.busy.credit(&mut self.busy) else {
-            return Err(Fault::Worn);
-        };
-        Ok(())
+        begin_at::<K, Brand, R>(rt, self)
     }
 
-    /// One process fewer is ready or runs.
+    /// What the processor does in a run: turns of ready processes, until no process is ready or runs. Returns the seats,
+    /// and false where another processor has met a fault.
     ///
     /// # Errors
     ///
-    /// `Worn`, where the seat at the count has no calls left.
-    pub fn debit(&mut self, objects: &Objects<K>) -> Result<(), Fault>
-        requires objects { AreOf objects.now self.old }
-        ensures objects { AreOf objects.now self.new }
-        ensures same { self.new ≡ record self.old { busy = self.new.busy } }
-        ensures gains { IfOk result (λ _. Gains K.script self.old self.new
-            (record nothing { busy = made.Debit ∷ [] })) }
-        ensures kept { OnErr result (self.new ≡ self.old) }
-        ensures alone { IsAlone K.script self.old → GoesTo K.script self.new (lists_of K.script self.old) }
-        ensures worn { IfErr result (λ fault. fault ≡ Fault.Worn) }
-        ensures spent { IfErr result (λ _. calls_made self.new.busy ≡ self.new.busy.stint) }
+    /// `Memory`, `Worn` only if a seat of the processor has used up its stint, and `Gate` where the gate may refuse and
+    /// did: at one of this processor's looks, which are counted from 0, after it passed those before. The other
+    /// processors are told of it.
+    pub fn work<R: Wait, G: Gate>(self, rt: &R, gate: &G) -> (Seats<K>, Result<bool, LoopFault>)
+        ensures seats { AreOf self.entry.objects.now result.0 }
+        ensures general { IfOk result.1 (λ done. done ≡ true → LeavesNone K.script self.entry.seats result.0) }
+        ensures stopped { IfOk result.1 (λ done. done ≡ false → 1 < self.entry.objects.now.ready.object.seats) }
+        ensures alone { IsReached K.script self.entry.seats (lists.turn_over (lists_of K.script self.entry.seats))
+            → IfOk result.1 (λ done. done ≡ true → IsReached K.script result.0
+            (lists.turn_over (lists_of K.script result.0)) × ((lists_of K.script result.0).ready ≡ [])) }
+        ensures passed { IfOk result.1 (λ done. done ≡ true → G.answers gate.now self.entry.number 0 true) }
+        ensures asked { IfOk result.1 (λ _. HasAsked (G.answers gate.now self.entry.number) self.entry.seats.ready
+            result.0.ready) }
+        ensures refused { IfErr result.1 (λ fault. fault ≡ LoopFault.Gate
+            → (G.refuses gate.now ≡ true) × IsRefused (G.answers gate.now self.entry.number)) }
+        ensures spent { IfErr result.1 (λ fault. fault ≡ LoopFault.Step StepFault.Worn → HasSpentSeat result.0) }
     {
-        let Ok(_) = objects.busy.debit(&mut self.busy) else {
-            return Err(Fault::Worn);
-        };
-        Ok(())
+        work_at::<K, Brand, R, G>(rt, gate, self)
     }
 }
 
-impl<K: Run> fmt::Debug for Processor<K> {
+impl<'r, K: Run> fmt::Debug for Processor<'r, K> {
     fn fmt<W: fmt::Write>(&self, f: &mut fmt::Formatter<W>) -> fmt::Result {
         f.debug_struct("Processor")
-            .field("births", &self.births)
-            .field("busy", &self.busy)
-            .field("ended", &self.ended)
-            .field("halted", &self.halted)
+            .field("number", &self.number)
+            .field("seats", &self.seats)
             .finish_non_exhaustive()
     }
 }

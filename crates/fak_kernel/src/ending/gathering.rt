@@ -1,12 +1,12 @@
 //! How the seats of all processors are gathered.
 
 ghost use Rattle.std.specs.Prelude.{◌≡◌, ◌<◌, ◌≤◌, ℕ, vec_len, slice_index_or, IfOk};
-ghost use Rattle.fak_processor.specs.Processors.{AreFor, ProcessorOf};
+ghost use Rattle.fak_processor.specs.Processors.{ProcessorOf};
 ghost use Rattle.fak_processor.specs.Begun.{IsLeftBy};
 ghost use Rattle.fak_kernel.specs.Gathered.{AreGathered, AreOfOne};
 
 use crate::ending::joining::Joined;
-use fak_processor::{Objects, Processor};
+use fak_processor::{Objects, Seats};
 use fak_run::Run;
 use std::alloc::{AllocError, Global};
 
@@ -14,9 +14,8 @@ use std::alloc::{AllocError, Global};
 pub(crate) fn gather<K: Run>(
     alloc: Global,
     objects: &Objects<K>,
-    left: Vec<Processor<K>>,
+    left: Vec<Seats<K>>,
 ) -> Result<Joined<K>, AllocError>
-    requires made { AreFor K.script objects.now }
     requires some { 1 ≤ vec_len left }
     requires left { (i : ℕ) (d : ProcessorOf) → i < vec_len left
         → IsLeftBy K.script objects.now i (slice_index_or left.items i d) }
@@ -25,6 +24,8 @@ pub(crate) fn gather<K: Run>(
     ensures alone { vec_len left ≡ 1 → (d : ProcessorOf)
         → IfOk result (λ all. AreOfOne (slice_index_or left.items 0 d) all.tallies all.ended.items all.halted.items) }
 {
+    // A field is named for the proof alone: that tells that the objects were opened for this script.
+    let _ready = &objects.ready;
     let count = left.len();
     let mut processors = left.into_iter();
     let Some(first) = processors.next() else {

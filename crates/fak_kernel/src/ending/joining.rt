@@ -10,7 +10,7 @@ ghost use Rattle.fak_processor.specs.Joined.{AreTalliesOf, JoinAll, JoinEach, fi
 
 use fak_count::{CreditTally, RoomTally};
 use fak_files::FileTally;
-use fak_processor::{Objects, Processor};
+use fak_processor::{Objects, Seats};
 use fak_queue::Tally;
 use fak_run::{Context, Run, Sleeper, Slot};
 use fak_sem::{SemSeat, SemTally, Semaphore};
@@ -97,7 +97,7 @@ impl<K: Run> Tallies<K> {
         self,
         alloc: Global,
         objects: &Objects<K>,
-        processor: Processor<K>,
+        processor: Seats<K>,
     ) -> Result<Tallies<K>, AllocError>
         requires tallies { AreTalliesOf objects.now self }
         requires seats { AreOf objects.now processor }
@@ -132,7 +132,7 @@ impl<K: Run> Tallies<K> {
 
 impl<K: Run> Joined<K> {
     /// One processor, the first.
-    pub(crate) fn of(alloc: Global, processor: Processor<K>) -> Result<Joined<K>, AllocError>
+    pub(crate) fn of(alloc: Global, processor: Seats<K>) -> Result<Joined<K>, AllocError>
         requires idle { (state_of processor.ready ≡ Idle) × (state_of processor.free ≡ Idle)
             × (processor.files.hold ≡ Nothing) }
         ensures tallies { IfOk result (λ joined. joined.tallies ≡ first_tallies processor) }
@@ -169,7 +169,7 @@ impl<K: Run> Joined<K> {
     }
 
     /// The processes that one processor more saw end and halt.
-    fn append(&mut self, processor: &mut Processor<K>) -> Result<(), AllocError>
+    fn append(&mut self, processor: &mut Seats<K>) -> Result<(), AllocError>
         ensures tallies { self.new.tallies ≡ self.old.tallies }
         ensures ended { IfOk result (λ _. self.new.ended.items ≡ self.old.ended.items ++ processor.old.ended) }
         ensures halted { IfOk result (λ _. self.new.halted.items ≡ self.old.halted.items ++ processor.old.halted) }
@@ -185,7 +185,7 @@ impl<K: Run> Joined<K> {
         self,
         alloc: Global,
         objects: &Objects<K>,
-        processor: Processor<K>,
+        processor: Seats<K>,
     ) -> Result<Joined<K>, AllocError>
         requires tallies { AreTalliesOf objects.now self.tallies }
         requires seats { AreOf objects.now processor }

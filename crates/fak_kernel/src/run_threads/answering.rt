@@ -3,8 +3,8 @@
 ghost use Rattle.std.specs.Prelude.{◌≡◌, ◌⊎◌, Some, None, map, IfOk, IfErr};
 ghost use Rattle.fak_kernel.specs.Threads.{as_left, first_fault};
 
-use fak_run::Fault;
-use std::alloc::Global;
+use fak_processor::{LoopFault, StepFault};
+use std::alloc::{AllocError, Global};
 
 /// What the threads answered, where all of them have left.
 ///
@@ -14,20 +14,20 @@ use std::alloc::Global;
 /// the list, or a processor stopped for a fault that none answers, which no run comes to.
 pub(crate) fn all_left<A: Drop>(
     alloc: Global,
-    answers: Vec<Result<Option<A>, Fault>>,
-) -> Result<Vec<A>, Fault>
+    answers: Vec<Result<Option<A>, LoopFault>>,
+) -> Result<Vec<A>, LoopFault>
     ensures left { IfOk result (λ left. map as_left left.items ≡ answers.items) }
     ensures fault { IfErr result (λ fault. (first_fault answers.items ≡ Some fault)
-        ⊎ ((first_fault answers.items ≡ None) × (fault ≡ Fault.Memory))) }
+        ⊎ ((first_fault answers.items ≡ None) × (fault ≡ LoopFault.Step StepFault.Memory))) }
 {
     if let Some(fault) = first_fault(answers.as_slice()) {
         return Err(fault);
     }
-    those_left(alloc, answers)
+    Ok(those_left(alloc, answers)?)
 }
 
 /// The fault of the first that met one.
-fn first_fault<A>(answers: &[Result<Option<A>, Fault>]) -> Option<Fault>
+fn first_fault<A>(answers: &[Result<Option<A>, LoopFault>]) -> Option<LoopFault>
     ensures { result ≡ first_fault answers.now }
 {
     for answer in answers {
@@ -38,20 +38,19 @@ fn first_fault<A>(answers: &[Result<Option<A>, Fault>]) -> Option<Fault>
     None
 }
 
-/// What the threads answered, where all of them have left. Else, and without memory for the list, `Memory`.
+/// What the threads answered, where all of them have left. Else, and without memory for the list, `AllocError`.
 fn those_left<A: Drop>(
     alloc: Global,
-    answers: Vec<Result<Option<A>, Fault>>,
-) -> Result<Vec<A>, Fault>
+    answers: Vec<Result<Option<A>, LoopFault>>,
+) -> Result<Vec<A>, AllocError>
     ensures left { IfOk result (λ left. map as_left left.items ≡ answers.items) }
-    ensures memory { IfErr result (λ fault. fault ≡ Fault.Memory) }
 {
     let mut left = Vec::new(alloc);
     for answer in answers {
-        let Ok(Some(processor)) = answer else {
-            return Err(Fault::Memory);
+        let Ok(Some(seats)) = answer else {
+            return Err(AllocError);
         };
-        left.push(processor)?;
+        left.push(seats)?;
     }
     Ok(left)
 }

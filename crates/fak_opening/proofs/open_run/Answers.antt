@@ -1,22 +1,44 @@
-use Rattle.fak_processor.proofs.Common.{◌<◌, arith, refl}
-use Rattle.fak_opening.proofs.Fresh.{done_between, done_reached, first_are, fresh_length}
+use Rattle.fak_processor.proofs.Common.{◌<◌, arith, length}
+use Rattle.fak_opening.proofs.Fresh.{done_between, done_reached, first_again, first_are, fresh_length}
 use Rattle.fak_opening.proofs.open_run.Goals as goal
 
-pub index_mut-first-requires : goal.index_mut-first-requires
-index_mut-first-requires g c = omega (arith, c.requires.processors.0, c.in_ok-opened.opened.processors.ok, fresh_length c.in_ok-opened.opened.objects g.K.Run.script.stint c.args.processors c.in_ok-opened.ensures.fresh)
+pub remove-requires : goal.remove-requires
+remove-requires g c =
+    let opened = c.in_ok-objects.field-0 in
+    omega (arith, c.requires.processors.0, opened.processors.ok, fresh_length opened.objects g.K.Run.script.stint c.args.processors c.in_ok-objects.ensures.fresh)
 
-pub begin-requires-clause-objects : goal.begin-requires-clause-objects
-begin-requires-clause-objects g c = first_are c.in_ok-opened.opened.objects g.K.Run.script.stint c.args.processors c.requires.processors.0 c.in_ok-opened.ensures.fresh c.index_mut-first.ensures.value
+pub new-first-requires-clause-seats : goal.new-first-requires-clause-seats
+new-first-requires-clause-seats g c = first_are c.in_ok-objects.field-0.objects g.K.Run.script.stint c.args.processors c.requires.processors.0 c.in_ok-objects.ensures.fresh c.remove.ensures.value
 
-pub returns-in-Ok-clause-len : goal.returns-in-Ok-clause-len
-returns-in-Ok-clause-len g c = omega (arith, c.in_ok-opened.opened.processors.ok, fresh_length c.in_ok-opened.opened.objects g.K.Run.script.stint c.args.processors c.in_ok-opened.ensures.fresh)
+pub returns-in_ok-insert-in-Ok-clause-len : goal.returns-in_ok-insert-in-Ok-clause-len
+returns-in_ok-insert-in-Ok-clause-len g c =
+    let opened = c.in_ok-objects.field-0 in
+    omega (arith, opened.processors.ok, c.remove.ensures.len, c.in_ok-insert-in-Ok.ensures.len, fresh_length opened.objects g.K.Run.script.stint c.args.processors c.in_ok-objects.ensures.fresh)
 
-pub returns-in-Ok-clause-begun : goal.returns-in-Ok-clause-begun
-returns-in-Ok-clause-begun g c = λ i d low.
-    let many = fresh_length c.in_ok-opened.opened.objects g.K.Run.script.stint c.args.processors c.in_ok-opened.ensures.fresh in
-    let below : i < c.args.processors = omega (arith, low, many, c.in_ok-opened.opened.processors.ok) in
-    done_between c.in_ok-opened.opened.objects g.K.Run.script.stint c.args.processors c.begin.new.self c.in_ok-opened.ensures.made c.requires.processors.0 c.in_ok-opened.ensures.fresh c.index_mut-first.ensures.value refl c.in-Ok.ensures.objects c.in-Ok.ensures.general i d below
+pub returns-in_ok-insert-in-Ok-clause-begun : goal.returns-in_ok-insert-in-Ok-clause-begun
+returns-in_ok-insert-in-Ok-clause-begun g c = λ i d low.
+    let opened = c.in_ok-objects.field-0 in
+    let o = opened.objects in
+    let stint = g.K.Run.script.stint in
+    let n = c.args.processors in
+    let first = c.begin-first.result.0 in
+    let many = fresh_length o stint n c.in_ok-objects.ensures.fresh in
+    let some : 0 < length opened.processors.items = omega (arith, c.requires.processors.0, many) in
+    let below : i < n = omega (arith, low, many, opened.processors.ok, c.remove.ensures.len, c.in_ok-insert-in-Ok.ensures.len) in
+    let set = first_again opened.processors.items c.remove.new.self.items c.insert.new.self.items first some c.remove.ensures.items c.in_ok-insert-in-Ok.ensures.items in
+    let are = rw c.new-first.ensures.objects at c.begin-first.ensures.seats in
+    let begins = rw (c.in-Ok.is, c.new-first.ensures.seats) at c.begin-first.ensures.general in
+    done_between o stint n first c.in_ok-objects.ensures.made c.requires.processors.0 c.in_ok-objects.ensures.fresh c.remove.ensures.value set are begins i d below
 
-pub returns-in-Ok-clause-alone : goal.returns-in-Ok-clause-alone
-returns-in-Ok-clause-alone g c = λ one.
-    done_reached c.in_ok-opened.opened.objects g.K.Run.script.stint c.args.processors c.begin.new.self c.in_ok-opened.ensures.made c.requires.processors.0 c.in_ok-opened.ensures.fresh c.index_mut-first.ensures.value refl one c.in_ok-opened.ensures.seated c.in-Ok.ensures.alone
+pub returns-in_ok-insert-in-Ok-clause-alone : goal.returns-in_ok-insert-in-Ok-clause-alone
+returns-in_ok-insert-in-Ok-clause-alone g c = λ one.
+    let opened = c.in_ok-objects.field-0 in
+    let o = opened.objects in
+    let stint = g.K.Run.script.stint in
+    let n = c.args.processors in
+    let first = c.begin-first.result.0 in
+    let many = fresh_length o stint n c.in_ok-objects.ensures.fresh in
+    let some : 0 < length opened.processors.items = omega (arith, c.requires.processors.0, many) in
+    let set = first_again opened.processors.items c.remove.new.self.items c.insert.new.self.items first some c.remove.ensures.items c.in_ok-insert-in-Ok.ensures.items in
+    let reached = rw (c.in-Ok.is, c.new-first.ensures.seats) at c.begin-first.ensures.alone in
+    done_reached o stint n first c.in_ok-objects.ensures.made c.requires.processors.0 c.in_ok-objects.ensures.fresh c.remove.ensures.value set one c.in_ok-objects.ensures.seated reached

@@ -1,29 +1,23 @@
 use Rattle.std.proofs.lemmas.List.{length-map}
-use Rattle.std.proofs.lemmas.Result.{IfErr-weaker, IfOk-weaker}
 use Rattle.fak_kernel.proofs.Common.{as_left, ◌≡◌, length, arith, ap, ◌∙◌, sym}
-use Rattle.fak_kernel.proofs.Answering.{have_left, run_fault, run_refused}
+use Rattle.fak_kernel.proofs.Answering.{have_left, of_loop, run_refused}
 use Rattle.fak_kernel.proofs.run_threads.work_all.Goals as goal
 
-pub returns-clause-fault : goal.returns-clause-fault
-returns-clause-fault g c =
-    let answers = c.in_ok-answers.answers in
-    IfErr-weaker c.all_left.result _ _ (λ fault is. run_fault answers.items fault (λ i d low. c.in_ok-answers.ensures.answered i d (omega (arith, low, answers.ok))) is) c.all_left.ensures.fault
-
-pub returns-clause-refused : goal.returns-clause-refused
-returns-clause-refused g c =
+pub returns-in-Err-clause-refused : goal.returns-in-Err-clause-refused
+returns-in-Err-clause-refused g c = λ gate.
     let answers = c.in_ok-answers.answers in
     let long : length answers.items ≡ c.args.processors = omega (arith, answers.ok, c.in_ok-answers.ensures.len, c.requires.len) in
-    IfErr-weaker c.all_left.result _ _ (λ fault is. run_refused answers.items fault long (λ i d low. c.in_ok-answers.ensures.answered i d (omega (arith, low, answers.ok))) is) c.all_left.ensures.fault
+    run_refused answers.items c.in-Err.fault long (λ i d low. c.in_ok-answers.ensures.answered i d (omega (arith, low, answers.ok))) c.in-Err.ensures.fault (of_loop gate)
 
-pub returns-clause-len : goal.returns-clause-len
-returns-clause-len g c =
+pub returns-in-Ok-clause-len : goal.returns-in-Ok-clause-len
+returns-in-Ok-clause-len g c =
     let answers = c.in_ok-answers.answers in
-    IfOk-weaker c.all_left.result _ _ (λ left is.
-    let same : length left.items ≡ length answers.items = sym (length-map left.items as_left) ∙ ap length is in
-    omega (arith, same, left.ok, answers.ok, c.in_ok-answers.ensures.len)) c.all_left.ensures.left
+    let left = c.in-Ok.left in
+    let same : length left.items ≡ length answers.items = sym (length-map left.items as_left) ∙ ap length c.in-Ok.ensures.left in
+    omega (arith, same, left.ok, answers.ok, c.in_ok-answers.ensures.len)
 
-pub returns-clause-left : goal.returns-clause-left
-returns-clause-left g c =
+pub returns-in-Ok-clause-left : goal.returns-in-Ok-clause-left
+returns-in-Ok-clause-left g c = λ i d low.
     let answers = c.in_ok-answers.answers in
-    IfOk-weaker c.all_left.result _ _ (λ left is i d low.
-    have_left answers.items left.items is (λ j e below. c.in_ok-answers.ensures.answered j e (omega (arith, below, answers.ok))) i d (omega (arith, low, left.ok))) c.all_left.ensures.left
+    let left = c.in-Ok.left in
+    have_left answers.items left.items c.in-Ok.ensures.left (λ j e below. c.in_ok-answers.ensures.answered j e (omega (arith, below, answers.ok))) i d (omega (arith, low, left.ok))

@@ -1,17 +1,19 @@
-use Rattle.std.proofs.lemmas.List.{get_or-set_same}
-use Rattle.fak_kernel.proofs.Common.{◌<◌, length, sym, subst, arith, HasBegun, HasLeft}
+use Rattle.fak_kernel.proofs.Common.{◌≡◌, length, sym, subst, arith, HasBegun, HasLeft}
+use Rattle.fak_kernel.proofs.Indexing.{only_one}
 use Rattle.fak_kernel.proofs.Leaving.{has_left}
 use Rattle.fak_kernel.proofs.running.leave_alone.Goals as goal
 
-pub work-requires-clause-objects : goal.work-requires-clause-objects
-work-requires-clause-objects g c =
-    let begun = subst (HasBegun g.K.Run.script c.args.objects.now 1 0) (sym c.index_mut.ensures.value) (c.requires.begun c.index_mut.result.now) in
-    begun.between.are
-
-pub returns-in-Ok-true-clause-left : goal.returns-in-Ok-true-clause-left
-returns-in-Ok-true-clause-left g c d =
+pub returns-in_ok-push-in-Ok-true-clause-left : goal.returns-in_ok-push-in-Ok-true-clause-left
+returns-in_ok-push-in-Ok-true-clause-left g c = λ d.
+    let script = g.K.Run.script in
+    let o = c.args.objects.now in
     let done = c.in-Ok-true.field-0-test in
-    let begun = subst (HasBegun g.K.Run.script c.args.objects.now 1 0) (sym c.index_mut.ensures.value) (c.requires.begun c.index_mut.result.now) in
-    let left = has_left c.requires.made begun c.work.ensures.objects (c.in-Ok-true.ensures.general done) (λ reached. c.in-Ok-true.ensures.alone reached done) in
-    let low : 0 < length c.args.only.items = omega (arith, c.requires.one, c.args.only.ok) in
-    subst (HasLeft g.K.Run.script c.args.objects.now 1 0) (sym (get_or-set_same c.args.only.items 0 c.work.new.self d low)) left
+    let seats = c.work-seats.result.0 in
+    let made = rw c.new-processor.ensures.objects at c.new-processor.result.made in
+    let begun = subst (HasBegun script o 1 0) (sym c.remove.ensures.value) (c.requires.begun c.remove.result) in
+    let are = rw c.new-processor.ensures.objects at c.work-seats.ensures.seats in
+    let general = rw (c.in-Ok-true.is, c.new-processor.ensures.seats) at c.work-seats.ensures.general in
+    let alone = rw (c.in-Ok-true.is, c.new-processor.ensures.seats) at c.work-seats.ensures.alone in
+    let left = has_left made begun are (general done) (λ reached. alone reached done) in
+    let none : length c.remove.new.self.items ≡ 0 = omega (arith, c.requires.one, c.remove.ensures.len, c.remove.new.self.ok) in
+    subst (HasLeft script o 1 0) (sym (only_one c.remove.new.self.items c.push.new.self.items seats d none c.in_ok-push-in-Ok-true.ensures.items)) left

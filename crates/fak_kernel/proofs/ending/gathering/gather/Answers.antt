@@ -40,7 +40,7 @@ loop-joined-preserved g c =
     let more = c.in_ok-all-2.ensures in
     record {
       from = omega (arith, was.from);
-      gathered = next_of c.requires.made was.from was.gathered next.0 more.tallies more.ended more.halted;
+      gathered = next_of (rw c.objects.view_is at c.objects.invariant.1) was.from was.gathered next.0 more.tallies more.ended more.halted;
       len = omega (arith, was.len, cases.1);
       left = next.1;
       alone = λ e d. absurd (omega (arith, was.from, e));

@@ -1,5 +1,0 @@
-use Rattle.fak_processor.proofs.Common.{rules}
-use Rattle.fak_processor.proofs.processor.Processor.is_done.Goals as goal
-
-pub returns-clause-idle : goal.returns-clause-idle
-returns-clause-idle g c = search rules

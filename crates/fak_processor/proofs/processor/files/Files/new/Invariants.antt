@@ -1,5 +1,0 @@
-use Rattle.fak_processor.proofs.Common.{◌≡◌, replicate, free_entry}
-use Rattle.fak_processor.proofs.processor.files.Files.new.Given as goal
-
-abbrev pub invariant-loop : goal.invariant-loop
-invariant-loop l = l.entries.items ≡ replicate l.counter free_entry
