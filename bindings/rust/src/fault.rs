@@ -7,7 +7,7 @@ use core::fmt::{self, Display, Formatter};
 /// Why a call was not made. A refused item is not taken.
 ///
 /// Never sleep on `Full`, `Empty`, `AtBound` or `Busy`: they count claims that others are about to take back, so a queue may be `Empty`
-/// beside an item. Yield and try again, or sleep on a semaphore that counts the items (`fak_c.h`, "Queues").
+/// beside an item. Yield and try again, or sleep on a semaphore that counts the items (`fak_c.h`, "Queues"), or take the channel.
 #[derive(Clone, Copy, Debug, PartialEq, Eq)]
 pub enum Fault {
     /// The queue had no room.

@@ -1,4 +1,5 @@
-//! Seats of the proved objects of `libfak_c.a`, for plain Rust. No call waits, and none takes memory but those that open.
+//! Seats of the proved objects of `libfak_c.a`, for plain Rust. No call of a seat waits, and none takes memory but those that open. With the
+//! feature `std` there is a `channel` too, whose threads sleep.
 //!
 //! The calls are safe, since the types keep what `fak_c.h` asks of C. A call takes `&mut self`, so a handle is in one call at a time; a
 //! handle is moved, never copied; out-pointers are locals; a seat may go to another thread (`Send`), which the crate `fak_c` proves of a
@@ -7,15 +8,21 @@
 
 #[cfg(feature = "alloc")]
 extern crate alloc;
+#[cfg(feature = "std")]
+extern crate std;
 
 #[cfg(feature = "alloc")]
 mod boxes;
+mod bursts;
+#[cfg(feature = "std")]
+pub mod channel;
 mod fault;
 pub mod limits;
 mod raw;
 
 #[cfg(feature = "alloc")]
 pub use boxes::{BoxSeat, Refused};
+pub use bursts::Burst;
 pub use fault::Fault;
 
 #[cfg(feature = "alloc")]
@@ -118,10 +125,16 @@ fn opened_vec(n: usize, open: impl FnOnce(*mut Handle) -> i32) -> Result<Vec<Han
     if !limits::is_seats(n) {
         return Err(Fault::BadLimit);
     }
+    let mut seats = empty_handles(n)?;
+    made(open(seats.as_mut_ptr()), seats)
+}
+
+#[cfg(feature = "alloc")]
+fn empty_handles(n: usize) -> Result<Vec<Handle>, Fault> {
     let mut seats = Vec::new();
     seats.try_reserve_exact(n).map_err(|_| Fault::Memory)?;
     seats.resize_with(n, || Handle::EMPTY);
-    made(open(seats.as_mut_ptr()), seats)
+    Ok(seats)
 }
 
 macro_rules! seats {
@@ -146,6 +159,8 @@ macro_rules! seats {
 seats! {
     /// A seat of a bounded queue of numbers, first in first out.
     Seat;
+    /// A bundle: several seats of one queue, which insert and delete together, by bursts.
+    Bundle;
     /// A seat of a semaphore whose waiting items are numbers.
     SemSeat;
     /// A seat of a room: a count from 0 to a bound, of which seats claim amounts.

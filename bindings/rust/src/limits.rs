@@ -12,10 +12,18 @@ pub const MOST_START: u64 = 1 << 32;
 pub const MOST_ENTRIES: u64 = 16;
 /// The most that one claim of a room asks for.
 pub const MOST_AMOUNT: u64 = 1_024;
+/// The ends that a channel has beside those of its handles: one that closes it and drops what is left, and one for tries of handles whose
+/// own end is in a call.
+pub const CHANNEL_KEEPS: usize = 2;
 
 /// Whether an object may have this many seats.
 pub const fn is_seats(n: usize) -> bool {
     1 <= n && n <= MOST_SEATS
+}
+
+/// Whether a queue may have n seats for single calls, 0 or more, and m bundles of `width` seats each.
+pub const fn is_bundles(n: usize, m: usize, width: u64) -> bool {
+    n <= MOST_SEATS && 1 <= m && 1 <= width && width <= ((MOST_SEATS - n) / m) as u64
 }
 
 /// Whether each of n seats may make `stint` calls.
@@ -41,4 +49,15 @@ pub const fn is_entries(entries: u64) -> bool {
 /// Whether a claim of a room may ask for this amount.
 pub const fn is_amount(amount: u64) -> bool {
     1 <= amount && amount <= MOST_AMOUNT
+}
+
+/// Whether a channel may have this many ends for its handles.
+pub const fn is_channel_ends(ends: usize) -> bool {
+    2 <= ends && ends <= MOST_SEATS - CHANNEL_KEEPS
+}
+
+/// Whether each end of a channel of this size may make `stint` calls: the channel's own ends must be able to close it, and to drop as many
+/// items as it has cells.
+pub const fn is_channel_stint(ends: usize, size: usize, stint: u64) -> bool {
+    is_channel_ends(ends) && is_size(size as u64) && size as u64 + 2 * ends as u64 + 16 <= stint && is_stint(ends + CHANNEL_KEEPS, stint)
 }

@@ -1,5 +1,7 @@
-//! What `fak_c.h` declares.
+//! What `fak_c.h` and `fak_channel.h` declare.
 
+#[cfg(feature = "std")]
+use crate::channel::Words;
 use core::ffi::c_void;
 use core::ptr::null_mut;
 
@@ -29,6 +31,10 @@ pub const MEMORY: i32 = 9;
 pub const PARKS: i32 = 10;
 pub const WAKES: i32 = 11;
 pub const BUSY: i32 = 12;
+#[cfg(feature = "std")]
+pub const SLEEPS: i32 = 13;
+#[cfg(feature = "std")]
+pub const GAVE_UP: i32 = 14;
 
 pub const INSERTING: u32 = 1;
 pub const DELETING: u32 = 2;
@@ -56,6 +62,27 @@ extern "C" {
     pub fn fak_c_drained(seat: *mut Handle, is_drained: *mut bool) -> i32;
     pub fn fak_c_state(seat: *mut Handle, state: *mut u32, ticket: *mut u64, left: *mut u64) -> i32;
 
+    pub fn fak_c_open_bundles(seats: *mut Handle, n: usize, bundles: *mut Handle, m: usize, width: u64, size: u64, stint: u64) -> i32;
+    pub fn fak_c_insert_burst(bundle: *mut Handle, items: *const u64, n: usize, ticket: *mut u64, count: *mut u64) -> i32;
+    pub fn fak_c_try_fill_burst(bundle: *mut Handle, left: *mut u64) -> i32;
+    pub fn fak_c_delete_burst(
+        bundle: *mut Handle,
+        items: *mut u64,
+        n: usize,
+        ticket: *mut u64,
+        count: *mut u64,
+        taken: *mut u64,
+    ) -> i32;
+    pub fn fak_c_try_take_burst(bundle: *mut Handle, items: *mut u64, n: usize, taken: *mut u64, left: *mut u64) -> i32;
+    pub fn fak_c_bundle_state(
+        bundle: *mut Handle,
+        state: *mut u32,
+        ticket: *mut u64,
+        open: *mut u64,
+        width: *mut u64,
+        left: *mut u64,
+    ) -> i32;
+
     pub fn fak_c_sem_open(seats: *mut Handle, n: usize, start: u64, size: u64, stint: u64) -> i32;
     pub fn fak_c_sem_claim_down(seat: *mut Handle, item: u64) -> i32;
     pub fn fak_c_sem_try_park(seat: *mut Handle) -> i32;
@@ -81,4 +108,19 @@ extern "C" {
     pub fn fak_c_files_set_uses(seat: *mut Handle, entry: u64, to: u64) -> i32;
     pub fn fak_c_files_end(seat: *mut Handle) -> i32;
     pub fn fak_c_files_hold(seat: *mut Handle, hold: *mut u32) -> i32;
+}
+
+#[cfg(feature = "std")]
+extern "C" {
+    pub fn fak_channel_open(ends: *mut Handle, n: usize, size: u64, stint: u64) -> i32;
+    pub fn fak_channel_begin_send(end: *mut Handle, item: *const Words) -> i32;
+    pub fn fak_channel_begin_receive(end: *mut Handle) -> i32;
+    pub fn fak_channel_begin_try_send(end: *mut Handle, item: *const Words) -> i32;
+    pub fn fak_channel_begin_try_receive(end: *mut Handle) -> i32;
+    pub fn fak_channel_begin_close(end: *mut Handle) -> i32;
+    pub fn fak_channel_step(end: *mut Handle, item: *mut Words, number: *mut u64) -> i32;
+    pub fn fak_channel_give_up(end: *mut Handle, item: *mut Words) -> i32;
+    pub fn fak_channel_len(end: *mut Handle, items: *mut u64) -> i32;
+    pub fn fak_channel_is_closed(end: *mut Handle, is_closed: *mut bool) -> i32;
+    pub fn fak_channel_state(end: *mut Handle, number: *mut u64, state: *mut u32, left: *mut u64) -> i32;
 }

@@ -1,6 +1,6 @@
 //! What seats take of the heap, and that it comes back. The program brings the heap's three functions, which count.
 
-use fak::{CreditSeat, Fault, FileSeat, RoomSeat, Seat, SemSeat, Step};
+use fak::{Bundle, CreditSeat, Fault, FileSeat, RoomSeat, Seat, SemSeat, Step};
 use std::alloc::{alloc, dealloc, Layout};
 use std::ptr::NonNull;
 use std::sync::atomic::{AtomicUsize, Ordering::SeqCst};
@@ -121,6 +121,31 @@ fn memory_of_a_queue_with_items_comes_back() {
     });
 }
 
+// A channel keeps all its memory until its last handle is gone: a dropped handle gives its end back.
+#[cfg(feature = "std")]
+#[test]
+fn memory_of_a_channel_comes_back() {
+    let _alone = ALONE.lock().unwrap();
+    let before = LIVE.load(SeqCst);
+    let mut failing = 1;
+    let (sender, receiver) = loop {
+        match opened(failing, || fak::channel::bounded::<u64>(100, 4)) {
+            Ok(handles) => break handles,
+            Err(fault) => assert_eq!(fault, Fault::Memory),
+        }
+        assert_eq!(LIVE.load(SeqCst), before);
+        failing += 1;
+    };
+    let all = LIVE.load(SeqCst);
+    assert!(failing > 4 && all > before + 6 * DESK);
+    (0..50).for_each(|item| sender.clone().send(item).unwrap());
+    assert_eq!((receiver.clone().recv(), LIVE.load(SeqCst)), (Ok(0), all));
+    spawn(move || drop(receiver)).join().unwrap();
+    assert_eq!(LIVE.load(SeqCst), all);
+    drop(sender);
+    assert_eq!(LIVE.load(SeqCst), before);
+}
+
 // One of two seats has begun something, so that it is not given up. Neither is its object.
 fn nothing_is_freed<S>(open: impl Fn() -> Result<[S; 2], Fault>, begin: impl Fn(&mut S)) {
     let _alone = ALONE.lock().unwrap();
@@ -146,5 +171,31 @@ fn a_refused_opening_takes_nothing() {
     let before = LIVE.load(SeqCst);
     assert_eq!(opened(0, || Seat::open::<2>(0, 9)).err(), Some(Fault::BadLimit));
     assert_eq!(opened(0, || Seat::open::<1025>(1, 9)).err(), Some(Fault::BadLimit));
+    assert_eq!(LIVE.load(SeqCst), before);
+}
+
+// Each allocation of a queue with bundles fails in turn. What it takes comes back with its last handle, the items in it too.
+#[test]
+fn memory_of_bundles_comes_back() {
+    let _alone = ALONE.lock().unwrap();
+    let before = LIVE.load(SeqCst);
+    let mut failing = 1;
+    let (seats, mut bundles) = loop {
+        match opened(failing, || Bundle::open::<1, 2>(5, 100, 9)) {
+            Ok(all) => break all,
+            Err(fault) => assert_eq!(fault, Fault::Memory),
+        }
+        assert_eq!(LIVE.load(SeqCst), before);
+        failing += 1;
+    };
+    let all = LIVE.load(SeqCst);
+    assert!(failing > 4 && all > before);
+    assert_eq!(bundles[0].insert_burst(&[1, 2, 3]).map(|burst| burst.count), Ok(3));
+    assert_eq!(LIVE.load(SeqCst), all);
+    let [first, second] = bundles;
+    drop(first);
+    drop(seats);
+    assert!(LIVE.load(SeqCst) > before && LIVE.load(SeqCst) < all);
+    spawn(move || drop(second)).join().unwrap();
     assert_eq!(LIVE.load(SeqCst), before);
 }
