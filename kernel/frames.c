@@ -1,5 +1,5 @@
 /* All memory that nothing else uses, as one list of page frames: a queue with a cell for each of them. The queue lies behind the
- * kernel's image, and the frames behind the queue. */
+ * kernel's image, and the frames behind the queue. Frames come and go by bursts, so a processor has a bundle of its seats. */
 #include "kernel.h"
 
 #include "block.h"
@@ -24,25 +24,36 @@ void open_frames(uint32_t n) {
     uint64_t start = whole_pages((uint64_t)image_end), end = memory_bytes();
     if (end > (uint64_t)MOST_FRAMES * PAGE)
         end = (uint64_t)MOST_FRAMES * PAGE;
-    uint64_t bytes = whole_pages(FAK_C_QUEUE_BYTES(n, (end - start) / PAGE));
+    uint64_t bytes = whole_pages(FAK_C_BUNDLES_BYTES(0, n, BURST, (end - start) / PAGE)), burst[BURST];
+    fak_c_seat none = {0};
     block = (unsigned char *)start;
     first_frame = block + bytes;
     frame_count = (end - start - bytes) / PAGE;
     fak_c_block_begin(block, bytes);
-    must(fak_c_open(frames, n, frame_count, stint), "open the page frames");
+    must(fak_c_open_bundles(&none, 0, frames, n, BURST, frame_count, stint), "open the page frames");
     say("%u page frames of %u kB of memory in a list in %u bytes\n", frame_count, memory_bytes() / 1024, (uint64_t)fak_c_block_end());
-    for (uint64_t i = 0; i < frame_count; i++)
-        put(&frames[0], first_frame + i * PAGE);
+    for (uint64_t i = 0, count; i < frame_count; i += count) {
+        for (count = 0; count < BURST && i + count < frame_count; count++)
+            burst[count] = (uintptr_t)(first_frame + (i + count) * PAGE);
+        put_all(&frames[0], burst, count);
+    }
+}
+
+/* The frame is one, and was not seen before. */
+static void see(uint64_t frame) {
+    static unsigned char seen[MOST_FRAMES];
+    uint64_t i = (frame - (uintptr_t)first_frame) / PAGE;
+    if (i >= frame_count || frame % PAGE != 0 || seen[i]++ != 0)
+        fail("a frame that is none, or is free twice:", i);
 }
 
 /* All frames are in the list, each once, and its memory is free when its seats have left. */
 uint64_t leave_frames(uint32_t n) {
-    static unsigned char seen[MOST_FRAMES];
-    uint64_t count = 0;
-    for (unsigned char *frame; (frame = get(&frames[0])) != NULL; count++) {
-        uint64_t i = (uint64_t)(frame - first_frame) / PAGE;
-        if (i >= frame_count || seen[i]++ != 0)
-            fail("a frame that is none, or is free twice:", i);
+    uint64_t count = 0, got, burst[BURST] = {0};
+    while ((got = get_some(&frames[0], burst, BURST)) > 0) {
+        for (uint64_t i = 0; i < got; i++)
+            see(burst[i]);
+        count += got;
     }
     if (count != frame_count)
         fail("frames are lost, of which there are", count);

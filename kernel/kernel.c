@@ -62,6 +62,8 @@ static void all_work_was_done(void) {
         sum.ended += s->ended;
         sum.no_page += s->no_page;
         sum.raised += s->raised;
+        sum.taken += s->taken;
+        sum.given += s->given;
     }
     if (sum.ran != sum.yields + sum.parks + sum.sleeps + sum.ended)
         fail("turns that ended in no way:", sum.ran);
@@ -69,6 +71,8 @@ static void all_work_was_done(void) {
         fail("yields are missing, or too many:", sum.yields);
     if (sum.sleeps != THREADS * ROUNDS / 4)
         fail("sleeps are missing, or too many:", sum.sleeps);
+    if (sum.taken != THREADS * ROUNDS * FRAMES_HELD || sum.given != sum.taken)
+        fail("frames were not taken, or not given back:", sum.taken);
     if (sum.raised != THREADS * ROUNDS / 4)
         fail("alarms are missing, or too many:", sum.raised);
 }
@@ -77,7 +81,9 @@ static void say_what_was_done(uint32_t number) {
     const processor_state *s = &processor_states[number];
     say("processor %u: ran %u, yields %u, parks %u, sleeps %u, ended %u, no page %u, idle %u, not yet %u;", (uint64_t)number, s->ran,
         s->yields, s->parks, s->sleeps, s->ended, s->no_page, s->idle, s->not_yet);
-    say(" ticks %u, in the library %u, raised %u, woke %u, not yet %u\n", s->ticks, s->in_library, s->raised, s->woken, s->late);
+    say(" ticks %u, in the library %u, raised %u, woke %u, not yet %u;", s->ticks, s->in_library, s->raised, s->woken, s->late);
+    say(" frames taken %u, given %u, refilled %u by %u bursts, drained %u by %u\n", s->taken, s->given, s->refilled, s->refills,
+        s->drained, s->drains);
 }
 
 /* Prints what was done, once all processors have stopped, and ends the machine. */
@@ -93,6 +99,7 @@ static _Noreturn void report(void) {
     alarm_is_over();
     all_work_was_done();
     leave_objects(in_use);
+    empty_caches(in_use);
     say("all %u page frames are free\n", leave_frames(in_use));
     say("all %u threads ended, pages %u of %u free\n", ended, pages, (uint64_t)PAGES);
     leave(ended == THREADS && pages == PAGES);

@@ -10,6 +10,8 @@ enum {
     ROUNDS = 500,     /* of each thread's work; in one of 4 it sleeps, in one it waits for the alarm */
     PAGES = 24,
     PAGE = 4096,
+    FRAMES_HELD = 3,  /* page frames that a thread holds in each round */
+    BURST = 16,       /* page frames that go between the list and a processor's cache at once */
     SEMAPHORES = 16,  /* in the ring of the workload */
     TOKENS = 2,       /* of each semaphore of the ring */
     STACK = 8192,
@@ -34,12 +36,18 @@ extern unsigned char page_frames[PAGES][PAGE];
 void open_objects(uint32_t processors);
 void leave_objects(uint32_t processors);
 
-/* ---- Page frames (frames.c): all memory that nothing else uses, one seat a processor. ---- */
+/* ---- Page frames (frames.c): all memory that nothing else uses, one bundle a processor. ---- */
 
 extern fak_c_seat frames[PROCESSORS];
 
 void open_frames(uint32_t processors);
 uint64_t leave_frames(uint32_t processors); /* how many there are; each is in the list */
+
+/* ---- The cache of page frames that each processor has (frame_cache.c) ---- */
+
+void *take_frame(void); /* NULL where there is none */
+void give_frame(void *frame);
+void empty_caches(uint32_t processors);
 
 /* ---- Threads (threads.c) ---- */
 
@@ -65,6 +73,7 @@ typedef struct {
     thread *runs;
     uint64_t ran, yields, parks, sleeps, ended, idle; /* threads.c */
     uint64_t no_page, not_yet;                        /* work.c, lists.c and semaphores.c */
+    uint64_t taken, given, refills, refilled, drains, drained; /* frame_cache.c: frames, and bursts with their frames */
     uint64_t ticks, in_library, woken, raised, late;  /* timer.c */
 } processor_state;
 
@@ -75,6 +84,8 @@ static inline processor_state *this_processor(void) { return &processor_states[p
 
 void put(fak_c_seat *seat, void *item);
 void *get(fak_c_seat *seat); /* NULL where there is none */
+void put_all(fak_c_seat *bundle, const uint64_t *items, uint64_t n);
+uint64_t get_some(fak_c_seat *bundle, uint64_t *items, uint64_t n); /* at most n: how many there were */
 
 /* ---- Semaphores (semaphores.c) ---- */
 

@@ -48,6 +48,7 @@ _Noreturn void fail(const char *what, uint64_t number);
 
 /* What compilers call, and the library: memory.c. */
 void *memcpy(void *to, const void *from, size_t size);
+void *memmove(void *to, const void *from, size_t size);
 void *memset(void *to, int byte, size_t size);
 
 /* boot.S: keeps this flow's stack in *save, and goes on with the one that was kept as load. */

@@ -1,6 +1,6 @@
-/* The threads' program: tokens go round a ring of semaphores. With a token a thread takes a page and marks it, lets others run, and
- * finds its marks: so no two threads have one page, and none runs on two processors. How many tokens are out of each semaphore is
- * counted beside it: so no down passes without a token. */
+/* The threads' program: tokens go round a ring of semaphores. With a token a thread takes a page and some frames and marks them, lets
+ * others run, and finds its marks: so no two threads have one page, and none runs on two processors. How many tokens are out of each
+ * semaphore is counted beside it: so no down passes without a token. */
 #include "kernel.h"
 
 static _Atomic int64_t out[SEMAPHORES]; /* tokens that were taken from each semaphore, less those that were given to it */
@@ -44,21 +44,31 @@ static void has_marks(const uint64_t *page, uint64_t mark, const char *what, uin
             fail(what, thread);
 }
 
-/* There are more frames than threads, so the list is never empty. */
-static uint64_t *take_frame(void) {
-    uint64_t *frame = get(&frames[processor()]);
-    if (frame == NULL)
-        fail("no page frame", 0);
-    return frame;
+/* There are more frames than the threads and the caches hold, so the list is never empty. */
+static void take_frames(uint64_t **held, uint64_t mark) {
+    for (int i = 0; i < FRAMES_HELD; i++) {
+        held[i] = take_frame();
+        if (held[i] == NULL)
+            fail("no page frame", 0);
+        mark_page(held[i], mark + (uint64_t)i);
+    }
+}
+
+/* Maybe on another processor than that which took them. */
+static void give_frames(uint64_t **held, uint64_t mark, uint64_t thread) {
+    for (int i = 0; i < FRAMES_HELD; i++) {
+        has_marks(held[i], mark + (uint64_t)i, "page frame not its own of thread", thread);
+        give_frame(held[i]);
+    }
 }
 
 void work(thread *me) {
     for (uint64_t round = 0; round < ROUNDS; round++) {
-        uint64_t mark = me->number << 32 | round;
+        uint64_t mark = me->number << 32 | round * FRAMES_HELD, *held[FRAMES_HELD];
         take_token(me, me->number % SEMAPHORES);
-        uint64_t *page = take_page(me), *frame = take_frame();
+        uint64_t *page = take_page(me);
         mark_page(page, mark);
-        mark_page(frame, mark);
+        take_frames(held, mark);
         switch ((round + me->number) % 4) {
         case 0:
             stop(me, SLEEPS);
@@ -73,8 +83,7 @@ void work(thread *me) {
         if (!keeps_sse(mark, 2000))
             fail("SSE register lost by thread", me->number);
         has_marks(page, mark, "page not its own of thread", me->number);
-        has_marks(frame, mark, "page frame not its own of thread", me->number);
-        put(&frames[processor()], frame);
+        give_frames(held, mark, me->number);
         put(&free_pages[processor()], page);
         give_token((me->number + 1) % SEMAPHORES);
     }
