@@ -1,5 +1,6 @@
 //! Cases that are measured, in rounds.
 
+use crate::channels::ChannelCase;
 use crate::fault::Fault;
 use crate::handover::SemaphoreCase;
 use crate::queues::QueueCase;
@@ -25,6 +26,7 @@ pub enum Case {
     Queue(QueueCase),
     Semaphore(SemaphoreCase),
     Table(TableCase),
+    Channel(ChannelCase),
 }
 
 impl Case {
@@ -34,6 +36,7 @@ impl Case {
             Case::Queue(case) => case.once(rt, alloc, items),
             Case::Semaphore(case) => Ok(Some(case.once(rt, alloc, items)?)),
             Case::Table(case) => Ok(Some(case.once(rt, alloc, items)?)),
+            Case::Channel(case) => Ok(Some(case.once(rt, alloc, items)?)),
         }
     }
 }

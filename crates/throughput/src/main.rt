@@ -1,4 +1,4 @@
-//! Measures the queue, the semaphore and the file table from Rust, beside what the kit has.
+//! Measures the queue, the semaphore, the file table and the channel from Rust, beside what the kit has.
 //!
 //! Without words it makes one short run of each case, and tells that what went in came out once. With `--figures` it prints,
 //! for each case, the best, the median and the worst of several rounds, in nanoseconds for an item or a call. With `--tails` it
@@ -8,6 +8,8 @@
 
 mod attempts;
 mod case;
+mod channel_handle;
+mod channels;
 mod command;
 mod entry_handle;
 mod fault;

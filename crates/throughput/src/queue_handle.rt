@@ -84,9 +84,30 @@ pub struct Row<T> {
 }
 
 impl<T: Drop> Row<T> {
+    /// An empty row with room for this many items.
+    pub fn open(alloc: Global, size: usize) -> Result<Row<T>, AllocError> {
+        let items = VecDeque::with_capacity(alloc, size)?;
+        Ok(Row { items, size })
+    }
+
+    /// Whether there is no room.
+    pub fn is_full(&self) -> bool {
+        self.items.len() >= self.size
+    }
+
+    /// Whether there is no item.
+    pub fn is_empty(&self) -> bool {
+        self.items.is_empty()
+    }
+
+    /// Takes the oldest item out.
+    pub fn pop(&mut self) -> Option<T> {
+        self.items.pop_front()
+    }
+
     /// Puts the item in; it comes back where there is no room.
-    fn push(&mut self, item: T) -> Result<(), T> {
-        if self.items.len() >= self.size {
+    pub fn push(&mut self, item: T) -> Result<(), T> {
+        if self.is_full() {
             return Err(item);
         }
         match self.items.push_back(item) {
@@ -101,8 +122,7 @@ impl<T: Item + Send> SharedQueue for Mutex<Row<T>> {
     type Item = T;
 
     fn open(alloc: Global, size: usize) -> Result<Mutex<Row<T>>, AllocError> {
-        let items = VecDeque::with_capacity(alloc, size)?;
-        Ok(Mutex::new(Row { items, size }))
+        Ok(Mutex::new(Row::open(alloc, size)?))
     }
 
     fn try_push<R: Wait>(&self, rt: &R, item: T) -> Result<(), T> {
@@ -110,7 +130,7 @@ impl<T: Item + Send> SharedQueue for Mutex<Row<T>> {
     }
 
     fn try_pop<R: Wait>(&self, rt: &R) -> Option<T> {
-        self.lock(rt).items.pop_front()
+        self.lock(rt).pop()
     }
 }
 

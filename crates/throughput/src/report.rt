@@ -3,6 +3,7 @@
 ghost use Rattle.std.specs.Prelude.{◌<◌};
 
 use crate::case::{Case, Plan, spreads_of};
+use crate::channels::{ChannelCase, ChannelKind, Traffic};
 use crate::fault::Fault;
 use crate::handover::{SemaphoreCase, SemaphoreKind};
 use crate::queues::{Implementation, ItemKind, QueueCase};
@@ -97,6 +98,32 @@ fn file_table(alloc: Global, title: &'static str, writes: bool) -> Result<Table,
     })
 }
 
+/// The table of channels of this many cells.
+fn channel_table(alloc: Global, title: &'static str, size: u64) -> Result<Table, AllocError> {
+    let mut cases = Vec::new(alloc);
+    for channel_kind in [ChannelKind::Ends, ChannelKind::Kit, ChannelKind::Lock] {
+        for traffic in [
+            Traffic::ToAndFro,
+            Traffic::Pairs(1),
+            Traffic::Pairs(4),
+            Traffic::Pairs(16),
+            Traffic::Receivers(32),
+        ] {
+            cases.push(Case::Channel(ChannelCase {
+                channel_kind,
+                size,
+                traffic,
+            }))?;
+        }
+    }
+    Ok(Table {
+        title,
+        columns: &["to and fro", "1 pair", "4 pairs", "16 pairs", "1 to 32"],
+        rows: &["fak_channel", "crossbeam_channel", "Mutex, 2 Condvars"],
+        cases,
+    })
+}
+
 /// What a table is of.
 #[derive(Clone, Copy)]
 enum Subject {
@@ -106,6 +133,8 @@ enum Subject {
     Semaphores,
     /// File tables, only read or written too.
     Files(bool),
+    /// Channels of this many cells.
+    Channels(u64),
 }
 
 /// The titles of all tables, and what they are of.
@@ -125,6 +154,8 @@ const TABLES: &[(&str, Subject)] = &[
     ("semaphore", Subject::Semaphores),
     ("entry, only read", Subject::Files(false)),
     ("1 write in 100", Subject::Files(true)),
+    ("channel, 8 cells", Subject::Channels(8)),
+    ("channel, 1,024 cells", Subject::Channels(1024)),
 ];
 
 /// The table of this. A queue has one cell at least.
@@ -133,6 +164,7 @@ fn table_of(alloc: Global, title: &'static str, subject: Subject) -> Result<Tabl
         Subject::Queues(item_kind, size) => queue_table(alloc, title, item_kind, size.max(1)),
         Subject::Semaphores => semaphore_table(alloc, title),
         Subject::Files(writes) => file_table(alloc, title, writes),
+        Subject::Channels(size) => channel_table(alloc, title, size),
     }
 }
 

@@ -14,6 +14,11 @@ decltype(fak_c_claim_insert) llvm_fak_c_claim_insert, rattle_fak_c_claim_insert;
 decltype(fak_c_try_fill) llvm_fak_c_try_fill, rattle_fak_c_try_fill;
 decltype(fak_c_claim_delete) llvm_fak_c_claim_delete, rattle_fak_c_claim_delete;
 decltype(fak_c_try_take) llvm_fak_c_try_take, rattle_fak_c_try_take;
+decltype(fak_c_open_bundles) llvm_fak_c_open_bundles, rattle_fak_c_open_bundles;
+decltype(fak_c_insert_burst) llvm_fak_c_insert_burst, rattle_fak_c_insert_burst;
+decltype(fak_c_try_fill_burst) llvm_fak_c_try_fill_burst, rattle_fak_c_try_fill_burst;
+decltype(fak_c_delete_burst) llvm_fak_c_delete_burst, rattle_fak_c_delete_burst;
+decltype(fak_c_try_take_burst) llvm_fak_c_try_take_burst, rattle_fak_c_try_take_burst;
 }
 
 namespace {
@@ -28,6 +33,11 @@ struct CallsByLlvm {
     static constexpr auto *try_fill = llvm_fak_c_try_fill;
     static constexpr auto *claim_delete = llvm_fak_c_claim_delete;
     static constexpr auto *try_take = llvm_fak_c_try_take;
+    static constexpr auto *open_bundles = llvm_fak_c_open_bundles;
+    static constexpr auto *insert_burst = llvm_fak_c_insert_burst;
+    static constexpr auto *try_fill_burst = llvm_fak_c_try_fill_burst;
+    static constexpr auto *delete_burst = llvm_fak_c_delete_burst;
+    static constexpr auto *try_take_burst = llvm_fak_c_try_take_burst;
 };
 
 struct CallsByRattle {
@@ -40,6 +50,11 @@ struct CallsByRattle {
     static constexpr auto *try_fill = rattle_fak_c_try_fill;
     static constexpr auto *claim_delete = rattle_fak_c_claim_delete;
     static constexpr auto *try_take = rattle_fak_c_try_take;
+    static constexpr auto *open_bundles = rattle_fak_c_open_bundles;
+    static constexpr auto *insert_burst = rattle_fak_c_insert_burst;
+    static constexpr auto *try_fill_burst = rattle_fak_c_try_fill_burst;
+    static constexpr auto *delete_burst = rattle_fak_c_delete_burst;
+    static constexpr auto *try_take_burst = rattle_fak_c_try_take_burst;
 };
 
 constexpr std::uint64_t longest_stint = UINT64_C(1) << 40;
@@ -113,13 +128,74 @@ private:
     std::vector<fak_c_seat> seats;
 };
 
-template <class Calls, bool pauses> Entry library_entry(unsigned place, const char *name) {
-    return Entry({place, name, [](unsigned size, unsigned threads) {
+/* A bundle of each thread's own, by which single items go as bursts of one. */
+template <class Calls> class LibraryBundles : public Queue, public Bursts {
+public:
+    LibraryBundles(unsigned size, unsigned threads, unsigned width) : bundles(threads) {
+        fak_c_seat none{};
+        if (Calls::open_bundles(&none, 0, bundles.data(), threads, width, size, longest_stint) != FAK_C_OK)
+            fail("fak_c_open_bundles: no memory");
+    }
+
+    ~LibraryBundles() override {
+        for (fak_c_seat &bundle : bundles)
+            if (Calls::leave(&bundle) != FAK_C_OK)
+                fail("fak_c_leave: a burst is open");
+    }
+
+    bool put(unsigned thread, std::uint64_t item) override { return put_burst(thread, &item, 1) == 1; }
+    bool get(unsigned thread, std::uint64_t &item) override { return get_burst(thread, &item, 1) == 1; }
+
+    unsigned put_burst(unsigned thread, const std::uint64_t *items, unsigned count) override {
+        std::uint64_t ticket = 0, claimed = 0, left = 0;
+        std::int32_t code = Calls::insert_burst(&bundles[thread], items, count, &ticket, &claimed);
+        if (code == FAK_C_FULL)
+            return 0;
+        while (code == FAK_C_NOT_YET) {
+            sched_yield();
+            code = Calls::try_fill_burst(&bundles[thread], &left);
+        }
+        return ended(code, claimed);
+    }
+
+    unsigned get_burst(unsigned thread, std::uint64_t *items, unsigned count) override {
+        std::uint64_t ticket = 0, claimed = 0, taken = 0, more = 0, left = 0;
+        std::int32_t code = Calls::delete_burst(&bundles[thread], items, count, &ticket, &claimed, &taken);
+        if (code == FAK_C_EMPTY)
+            return 0;
+        while (code == FAK_C_NOT_YET) {
+            sched_yield();
+            code = Calls::try_take_burst(&bundles[thread], items + taken, count - taken, &more, &left);
+            taken += more;
+        }
+        return ended(code, claimed);
+    }
+
+private:
+    static unsigned ended(std::int32_t code, std::uint64_t claimed) {
+        if (code != FAK_C_OK)
+            fail("the library answered a burst what it must not here");
+        return static_cast<unsigned>(claimed);
+    }
+
+    std::vector<fak_c_seat> bundles;
+};
+
+/* An entry that makes single calls, also for the items of a burst. */
+template <class Calls, bool pauses> Implementation single_calls(unsigned place, const char *name) {
+    return {place, name, [](unsigned size, unsigned threads) {
         return std::make_unique<LibraryQueue<Calls, pauses>>(size, threads);
-    }});
+    }};
 }
 
-const Entry llvm_entry = library_entry<CallsByLlvm, false>(1, "library (llvm)");
-const Entry pausing_entry = library_entry<CallsByLlvm, true>(2, "library (llvm), fak_c_pause");
-const Entry rattle_entry = library_entry<CallsByRattle, false>(3, "library (rattle)");
+template <class Calls> Implementation with_bursts(Implementation single) {
+    single.open_for_bursts = [](unsigned size, unsigned threads, unsigned width) {
+        return std::make_unique<LibraryBundles<Calls>>(size, threads, width);
+    };
+    return single;
+}
+
+const Entry llvm_entry(with_bursts<CallsByLlvm>(single_calls<CallsByLlvm, false>(1, "library (llvm)")));
+const Entry pausing_entry(single_calls<CallsByLlvm, true>(2, "library (llvm), fak_c_pause"));
+const Entry rattle_entry(with_bursts<CallsByRattle>(single_calls<CallsByRattle, false>(3, "library (rattle)")));
 }

@@ -1,4 +1,4 @@
-/* Measures this library's queue beside its peers: the words are one measure and its options. */
+/* Measures this library's queue and channel beside their peers: the words are one measure and its options. */
 #include "clock.hpp"
 #include "load.hpp"
 #include "measures.hpp"
@@ -9,11 +9,15 @@
 static bool make_measure(const Options &options) {
     if (options.measure == "throughput") {
         measure_throughput(options);
+    } else if (options.measure == "bursts") {
+        measure_bursts(options);
     } else if (options.measure == "tails") {
         measure_tails(options);
     } else if (options.measure == "stops") {
         measure_fairness(options);
         measure_stops(options);
+    } else if (options.measure == "channels") {
+        measure_channels(options);
     } else {
         return false;
     }

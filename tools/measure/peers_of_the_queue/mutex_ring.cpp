@@ -1,10 +1,11 @@
 /* A ring under a mutex. A put that stops between its halves holds the mutex. */
 #include "queue.hpp"
 
+#include <algorithm>
 #include <mutex>
 
 namespace {
-class MutexRing : public ClaimingQueue {
+class MutexRing : public ClaimingQueue, public Bursts {
 public:
     explicit MutexRing(unsigned size) : cells(size), mask(size - 1) {}
 
@@ -31,6 +32,22 @@ public:
             return false;
         item = cells[gets++ & mask];
         return true;
+    }
+
+    unsigned put_burst(unsigned, const std::uint64_t *items, unsigned count) override {
+        std::lock_guard<std::mutex> held(lock);
+        auto fitting = static_cast<unsigned>(std::min<std::uint64_t>(count, mask + 1 - (puts - gets)));
+        for (unsigned i = 0; i < fitting; i++)
+            cells[puts++ & mask] = items[i];
+        return fitting;
+    }
+
+    unsigned get_burst(unsigned, std::uint64_t *items, unsigned count) override {
+        std::lock_guard<std::mutex> held(lock);
+        auto there = static_cast<unsigned>(std::min<std::uint64_t>(count, puts - gets));
+        for (unsigned i = 0; i < there; i++)
+            items[i] = cells[gets++ & mask];
+        return there;
     }
 
 private:

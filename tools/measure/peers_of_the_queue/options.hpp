@@ -7,13 +7,13 @@
 #include <string>
 
 struct Options {
-    std::string measure; /* throughput, tails or stops */
+    std::string measure; /* throughput, bursts, tails, stops or channels */
     unsigned rounds = 5;
     std::uint64_t items = 100'000; /* of each producer */
     double cap = 10;               /* seconds that a run may take */
     unsigned stops = 20;           /* by a signal, in a run */
     double stop = 100;             /* milliseconds that a stop lasts */
-    std::string queue;             /* a part of the names of the queues to measure */
+    std::string queue;             /* a part of the names of the queues or channels to measure */
 };
 
 /* Ends the program with the usage where a word is not understood. */

@@ -42,10 +42,24 @@ public:
     virtual bool take(unsigned thread, std::uint64_t &item) = 0;
 };
 
+/* What a queue has besides if it puts and gets several items by one call. */
+class Bursts {
+public:
+    virtual ~Bursts() = default;
+
+    /* Puts the first items, as many as there is room for. Returns how many. */
+    virtual unsigned put_burst(unsigned thread, const std::uint64_t *items, unsigned count) = 0;
+
+    /* Gets at most `count` items. Returns how many. */
+    virtual unsigned get_burst(unsigned thread, std::uint64_t *items, unsigned count) = 0;
+};
+
 struct Implementation {
     unsigned place; /* in tables, from the top */
     std::string name;
     std::function<std::unique_ptr<Queue>(unsigned cells, unsigned threads)> open;
+    /* For bursts of at most `width` items, if that is another queue than the one above. */
+    std::function<std::unique_ptr<Queue>(unsigned cells, unsigned threads, unsigned width)> open_for_bursts = {};
 };
 
 /* All implementations that were linked, in the order of their places. */

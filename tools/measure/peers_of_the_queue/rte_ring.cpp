@@ -1,4 +1,5 @@
-/* DPDK's ring, by head and tail as one word (HTS), which has the two halves of a put apart, and with a relaxed tail (RTS). */
+/* DPDK's ring, by head and tail as one word (HTS), which has the two halves of a put apart, and with a relaxed tail (RTS). Both have
+ * bursts. */
 #include "failure.hpp"
 #include "queue.hpp"
 
@@ -24,7 +25,7 @@ void *pointer_of(std::uint64_t item) {
 }
 
 /* What both kinds share. */
-template <class Kind, unsigned flags> class RteRing : public Kind {
+template <class Kind, unsigned flags> class RteRing : public Kind, public Bursts {
 public:
     explicit RteRing(unsigned size) : ring(open_ring(size, flags)) {}
     ~RteRing() override { std::free(ring); }
@@ -37,6 +38,14 @@ public:
             return false;
         item = reinterpret_cast<std::uint64_t>(found);
         return true;
+    }
+
+    unsigned put_burst(unsigned, const std::uint64_t *items, unsigned count) override {
+        return rte_ring_enqueue_burst_elem(ring, items, sizeof *items, count, nullptr);
+    }
+
+    unsigned get_burst(unsigned, std::uint64_t *items, unsigned count) override {
+        return rte_ring_dequeue_burst_elem(ring, items, sizeof *items, count, nullptr);
     }
 
 protected:

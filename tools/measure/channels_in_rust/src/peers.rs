@@ -1,0 +1,202 @@
+//! The channels that are measured, behind one interface.
+
+use std::collections::VecDeque;
+use std::sync::mpsc;
+use std::sync::{Arc, Condvar, Mutex};
+
+/// A handle that sends. Both calls sleep while they have to wait.
+pub trait Sends: Send {
+    /// False where nobody will receive the item.
+    fn send(&self, item: u64) -> bool;
+}
+
+/// A handle that receives.
+pub trait Receives: Send {
+    /// None once all senders are gone and the channel is empty.
+    fn recv(&self) -> Option<u64>;
+}
+
+pub type Senders = Vec<Box<dyn Sends>>;
+pub type Receivers = Vec<Box<dyn Receives>>;
+
+/// A kind of channel.
+pub struct Peer {
+    pub name: &'static str,
+    /// Opens a channel: its cells, and the handles of senders and of receivers.
+    pub open: fn(usize, usize, usize) -> (Senders, Receivers),
+}
+
+/// All that this program was built with.
+pub fn peers() -> Vec<Peer> {
+    vec![
+        Peer {
+            name: "library",
+            open: |size, senders, receivers| open_library(size, senders, receivers, senders + receivers),
+        },
+        Peer {
+            name: "library, 2 ends for all",
+            open: |size, senders, receivers| open_library(size, senders, receivers, 2),
+        },
+        #[cfg(feature = "crossbeam")]
+        Peer { name: "crossbeam-channel", open: open_crossbeam },
+        Peer { name: "sync_channel", open: open_sync_channel },
+        Peer { name: "mutex and two condvars", open: open_monitor },
+    ]
+}
+
+// The handle, and clones of it: n in all.
+fn handles<H: Clone>(handle: H, n: usize) -> impl Iterator<Item = H> {
+    let clones: Vec<H> = (1..n).map(|_| handle.clone()).collect();
+    std::iter::once(handle).chain(clones)
+}
+
+// ---- this library
+
+struct LibrarySender(fak::channel::Sender<u64>);
+struct LibraryReceiver(fak::channel::Receiver<u64>);
+
+impl Sends for LibrarySender {
+    fn send(&self, item: u64) -> bool {
+        self.0.send(item).is_ok()
+    }
+}
+
+impl Receives for LibraryReceiver {
+    fn recv(&self) -> Option<u64> {
+        self.0.recv().ok()
+    }
+}
+
+fn open_library(size: usize, senders: usize, receivers: usize, ends: usize) -> (Senders, Receivers) {
+    let (sender, receiver) = fak::channel::bounded(size, ends).expect("the numbers are in range");
+    (
+        handles(sender, senders).map(|sender| Box::new(LibrarySender(sender)) as Box<dyn Sends>).collect(),
+        handles(receiver, receivers).map(|receiver| Box::new(LibraryReceiver(receiver)) as Box<dyn Receives>).collect(),
+    )
+}
+
+// ---- crossbeam-channel
+
+#[cfg(feature = "crossbeam")]
+mod crossbeam {
+    use super::{handles, Receivers, Receives, Senders, Sends};
+    use crossbeam_channel::{bounded, Receiver, Sender};
+
+    impl Sends for Sender<u64> {
+        fn send(&self, item: u64) -> bool {
+            Sender::send(self, item).is_ok()
+        }
+    }
+
+    impl Receives for Receiver<u64> {
+        fn recv(&self) -> Option<u64> {
+            Receiver::recv(self).ok()
+        }
+    }
+
+    pub fn open_crossbeam(size: usize, senders: usize, receivers: usize) -> (Senders, Receivers) {
+        let (sender, receiver) = bounded(size);
+        (
+            handles(sender, senders).map(|sender| Box::new(sender) as Box<dyn Sends>).collect(),
+            handles(receiver, receivers).map(|receiver| Box::new(receiver) as Box<dyn Receives>).collect(),
+        )
+    }
+}
+#[cfg(feature = "crossbeam")]
+use crossbeam::open_crossbeam;
+
+// ---- std's sync_channel, whose receiver is one: several threads share it behind a mutex
+
+struct SharedReceiver(Arc<Mutex<mpsc::Receiver<u64>>>);
+
+impl Sends for mpsc::SyncSender<u64> {
+    fn send(&self, item: u64) -> bool {
+        mpsc::SyncSender::send(self, item).is_ok()
+    }
+}
+
+impl Receives for mpsc::Receiver<u64> {
+    fn recv(&self) -> Option<u64> {
+        mpsc::Receiver::recv(self).ok()
+    }
+}
+
+impl Receives for SharedReceiver {
+    fn recv(&self) -> Option<u64> {
+        self.0.lock().expect("no receiver panics").recv().ok()
+    }
+}
+
+fn open_sync_channel(size: usize, senders: usize, receivers: usize) -> (Senders, Receivers) {
+    let (sender, receiver) = mpsc::sync_channel(size);
+    let senders = handles(sender, senders).map(|sender| Box::new(sender) as Box<dyn Sends>).collect();
+    if receivers == 1 {
+        return (senders, vec![Box::new(receiver)]);
+    }
+    let shared = Arc::new(Mutex::new(receiver));
+    (senders, handles(shared, receivers).map(|shared| Box::new(SharedReceiver(shared)) as Box<dyn Receives>).collect())
+}
+
+// ---- a ring under a mutex, with a condition for items and one for room
+
+struct Monitor {
+    state: Mutex<State>,
+    items: Condvar,
+    room: Condvar,
+    size: usize,
+}
+
+struct State {
+    ring: VecDeque<u64>,
+    senders: usize,
+}
+
+struct MonitorSender(Arc<Monitor>);
+struct MonitorReceiver(Arc<Monitor>);
+
+impl Sends for MonitorSender {
+    fn send(&self, item: u64) -> bool {
+        let monitor = &*self.0;
+        let state = monitor.state.lock().expect("nobody panics");
+        let mut state = monitor.room.wait_while(state, |state| state.ring.len() == monitor.size).expect("nobody panics");
+        state.ring.push_back(item);
+        drop(state);
+        monitor.items.notify_one();
+        true
+    }
+}
+
+impl Receives for MonitorReceiver {
+    fn recv(&self) -> Option<u64> {
+        let monitor = &*self.0;
+        let state = monitor.state.lock().expect("nobody panics");
+        let mut state = monitor.items.wait_while(state, |state| state.ring.is_empty() && state.senders > 0).expect("nobody panics");
+        let item = state.ring.pop_front();
+        drop(state);
+        monitor.room.notify_one();
+        item
+    }
+}
+
+impl Drop for MonitorSender {
+    fn drop(&mut self) {
+        let mut state = self.0.state.lock().expect("nobody panics");
+        state.senders -= 1;
+        if state.senders == 0 {
+            self.0.items.notify_all();
+        }
+    }
+}
+
+fn open_monitor(size: usize, senders: usize, receivers: usize) -> (Senders, Receivers) {
+    let monitor = Arc::new(Monitor {
+        state: Mutex::new(State { ring: VecDeque::with_capacity(size), senders }),
+        items: Condvar::new(),
+        room: Condvar::new(),
+        size,
+    });
+    (
+        handles(Arc::clone(&monitor), senders).map(|monitor| Box::new(MonitorSender(monitor)) as Box<dyn Sends>).collect(),
+        handles(monitor, receivers).map(|monitor| Box::new(MonitorReceiver(monitor)) as Box<dyn Receives>).collect(),
+    )
+}
