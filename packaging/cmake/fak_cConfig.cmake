@@ -1,8 +1,8 @@
 # Targets, each with the headers:
-#   fak_c::fak_c     the archive that LLVM compiled, with the heap over malloc
-#   fak_c::rattle    the archive that Rattle's own compiler compiled, with the same heap
+#   fak_c::fak_c     the archive that LLVM compiled, with the channel for threads, and the heap over malloc
+#   fak_c::rattle    the archive that Rattle's own compiler compiled, with the same channel and heap
 #   fak_c::no_heap   the first archive alone; the program brings rattle_alloc, rattle_realloc and rattle_dealloc, as block.c does
-# and FAK_C_BLOCK, the path of block.c.
+# and FAK_C_BLOCK and FAK_C_CHANNEL, the paths of block.c and fak_channel.c.
 get_filename_component(_fak_c_prefix "${CMAKE_CURRENT_LIST_DIR}/../../.." ABSOLUTE)
 
 function(_fak_c_add name)
@@ -13,8 +13,11 @@ function(_fak_c_add name)
 endfunction()
 
 if(NOT TARGET fak_c::fak_c)
-    _fak_c_add(fak_c "${_fak_c_prefix}/lib/libfak_c.a" "${_fak_c_prefix}/lib/libfak_c_heap.a")
-    _fak_c_add(rattle "${_fak_c_prefix}/lib/libfak_c_rattle.a" "${_fak_c_prefix}/lib/libfak_c_heap.a")
+    _fak_c_add(fak_c "${_fak_c_prefix}/lib/libfak_channel.a" "${_fak_c_prefix}/lib/libfak_c.a"
+        "${_fak_c_prefix}/lib/libfak_c_heap.a")
+    _fak_c_add(rattle "${_fak_c_prefix}/lib/libfak_channel.a" "${_fak_c_prefix}/lib/libfak_c_rattle.a"
+        "${_fak_c_prefix}/lib/libfak_c_heap.a")
     _fak_c_add(no_heap "${_fak_c_prefix}/lib/libfak_c.a")
 endif()
 set(FAK_C_BLOCK "${_fak_c_prefix}/share/fak_c/block.c")
+set(FAK_C_CHANNEL "${_fak_c_prefix}/share/fak_c/fak_channel.c")

@@ -60,7 +60,7 @@ inside {
     next
 }
 # What guards the header, and what tells the sanitizer, is no declaration.
-/^#(if|ifdef|ifndef|elif|else|endif|include)/ || /^#define FAK_C_(H|THREAD_SANITIZER|GIVES|GETS)/ || /^extern "C"/ || /__tsan_/ { next }
+/^#(if|ifdef|ifndef|elif|else|endif|include)/ || /^#define FAK_(C_(H|THREAD_SANITIZER|GIVES|GETS)|CHANNEL_H)/ || /^extern "C"/ || /__tsan_/ { next }
 /^}$/ && (body || !codes) { body = 0; next }
 body { next }
 /^static inline/ { body = 1; sub(/^static inline /, ""); sub(/ \{$/, ";") }

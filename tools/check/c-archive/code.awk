@@ -64,7 +64,7 @@ function reach(function_name, list, count, i) {
 
 END {
     for (each in names)
-        if (each ~ /^fak_c_/ && each !~ /_open$/ && each != "fak_c_leave")
+        if (each ~ /^fak_(c|channel)_/ && each !~ /_open(_bundles)?$/ && each != "fak_c_leave")
             reach(each)
     for (each in reached)
         if (each in writes)

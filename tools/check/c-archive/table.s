@@ -1,0 +1,9 @@
+# finds: nothing
+    .text
+    .globl fak_c_state
+fak_c_state:
+    leaq .Ltable(%rip), %rax
+    jmp *%rax
+.Ltable:
+    .byte 0xff, 0xa4, 0xfc, 0xff, 0xff, 0xcc, 0xcc
+    .byte 0x0f, 0x57, 0xc0
