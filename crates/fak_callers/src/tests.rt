@@ -3,6 +3,7 @@
 mod assertions;
 mod cores;
 mod files;
+mod pipelines;
 mod queues;
 mod rooms;
 mod semaphores;
