@@ -33,7 +33,7 @@ fn verdicts(rt: HostRuntime) {
 }
 
 #[test]
-fn examples(rt: HostRuntime) {
+fn scenarios(rt: HostRuntime) {
     are_answered(&rt, histories::ROWS);
 }
 

@@ -117,7 +117,7 @@ fn a_fault_goes_to_the_output_of_faults(rt: HostRuntime) {
 }
 
 #[test]
-fn examples_of_faults(rt: HostRuntime) {
+fn scenarios_of_faults(rt: HostRuntime) {
     are_answered(&rt, faults::ROWS);
 }
 

@@ -1,4 +1,4 @@
-//! The examples of the program: each is written once, in its folder of `examples/`, and is a test of the public calls here.
+//! The scenarios of the program: each has its folder in `crates/fak/scenarios/`, and is a test of the public calls here.
 
 pub(crate) mod faults;
 pub(crate) mod histories;
@@ -14,7 +14,7 @@ use std::process::Abort;
 use std::sync::Wait;
 use std::thread::Threads;
 
-/// An example: the words and the input of the program, its status, its output and its output of faults.
+/// A scenario: the words and the input of the program, its status, its output and its output of faults.
 #[derive(Clone, Copy)]
 pub(crate) struct Row {
     pub(crate) name: &'static str,
@@ -25,13 +25,13 @@ pub(crate) struct Row {
     pub(crate) faults: &'static str,
 }
 
-/// Whether the fault is that of the example, by its status and its line.
+/// Whether the fault is that of the scenario, by its status and its line.
 fn is_fault(alloc: Global, row: &Row, fault: MainFault) -> Result<bool, AllocError> {
     let line = format!(in alloc; "{fault}\n")?;
     Ok(line.as_str() == row.faults && fault.status() == row.status && row.output.is_empty())
 }
 
-/// Whether a call gave what the example says.
+/// Whether a call returned what the scenario says.
 fn is_wanted(
     alloc: Global,
     row: &Row,
@@ -58,7 +58,7 @@ fn served(
     Ok(Answer { status, text })
 }
 
-/// Whether the call of the example, and `serve` too, give what it says; words that are no command give it by themselves.
+/// Whether the call of the scenario returns what it says, and `serve` too. Words that are no command are refused without a call.
 fn is_answered(
     rt: &(impl AllocGlobal + Threads + Wait + Sync),
     row: &Row,
@@ -74,7 +74,7 @@ fn is_answered(
     }
 }
 
-/// Finds that the calls of all examples give what they say.
+/// Checks that the calls of all scenarios return what they say.
 pub(crate) fn are_answered(rt: &(impl Abort + AllocGlobal + Threads + Wait + Sync), rows: &[Row]) {
     for row in rows {
         if is_answered(rt, row) != Ok(true) {

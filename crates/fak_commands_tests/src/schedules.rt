@@ -6,7 +6,7 @@ use fak_commands::Command;
 use fak_text::{Field, TextFault};
 
 #[test]
-fn examples(rt: HostRuntime) {
+fn scenarios(rt: HostRuntime) {
     are_answered(&rt, schedules::ROWS);
 }
 

@@ -13,7 +13,7 @@ use fak_text::{Field, TextFault};
 
 #[test]
 fn faults_of_a_script(rt: HostRuntime) {
-    const EXAMPLES: &[(Row, TextFault)] = &[
+    const SCENARIOS: &[(Row, TextFault)] = &[
         (FAULT_SCRIPT_CUT_OFF, TextFault::NotJson),
         (FAULT_NO_QUANTUM, TextFault::Missing(Field::Quantum)),
         (FAULT_QUANTUM_OUT_OF_RANGE, TextFault::Range(Field::Quantum)),
@@ -33,14 +33,14 @@ fn faults_of_a_script(rt: HostRuntime) {
             TextFault::Range(Field::Start),
         ),
     ];
-    for &(row, fault) in EXAMPLES {
+    for &(row, fault) in SCENARIOS {
         has_fault(&rt, Command::Run(1), row.input, MainFault::Text(fault));
     }
     have_faults(&rt, Command::Run(1), ROWS);
 }
 
 #[test]
-fn examples(rt: HostRuntime) {
+fn scenarios(rt: HostRuntime) {
     are_answered(&rt, scripts::ROWS);
 }
 

@@ -1,4 +1,4 @@
-//! The faults of `examples/`, made by `tools/build/rows`.
+//! The faults of `crates/fak/scenarios/`, made by `tools/build/rows`.
 
 use crate::rows::Row;
 

@@ -1,4 +1,4 @@
-//! The histories of `examples/`, made by `tools/build/rows`.
+//! The histories of `crates/fak/scenarios/`, made by `tools/build/rows`.
 
 use crate::rows::Row;
 

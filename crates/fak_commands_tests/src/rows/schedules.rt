@@ -1,4 +1,4 @@
-//! The schedules of `examples/`, made by `tools/build/rows`.
+//! The schedules of `crates/fak/scenarios/`, made by `tools/build/rows`.
 
 use crate::rows::Row;
 

@@ -1,4 +1,4 @@
-//! The scripts of `examples/`, made by `tools/build/rows`.
+//! The scripts of `crates/fak/scenarios/`, made by `tools/build/rows`.
 
 use crate::rows::Row;
 
