@@ -12,7 +12,7 @@
 //! - `End::into_seat`, then `Channel::tally`, `join` and `into_rest`: what is left when all seats are back.
 //! - To cite: `Sends`, `Receives`, `IsOver`, `ClosesAs` and their like (`specs/Channels.antt`), in the words of `fak_queue`.
 //!
-//! `docs/CALLING.md` is the guide for callers, and `crates/hello_channel` an example program.
+//! `docs/CALLING.md` is the guide for callers, and `crates/example_channel` an example program.
 
 mod acquiring;
 mod announcing;

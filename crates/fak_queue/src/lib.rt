@@ -14,7 +14,7 @@
 //! - Callers owe that a seat is of this queue and idle: `IsIdleSeat queue.now.object seat`.
 //! - To cite: `Inserts`, `Deletes` and their like (`specs/Queues.antt`, `specs/Retries.antt`), and the laws of `fak_model::laws`.
 //!
-//! `docs/CALLING.md` is the guide for callers; `crates/pool_of_workers` and `crates/page_frames` are programs to begin from.
+//! `docs/CALLING.md` is the guide for callers; `crates/example_workers` and `crates/example_frames` are programs to copy.
 
 mod admission;
 mod bundle;

@@ -1,5 +1,0 @@
-use Rattle.std.proofs.Common.{rules}
-use Rattle.lines_of_text.proofs.send.Goals as goal
-
-pub drop-line-iterator-requires : goal.drop-line-iterator-requires
-drop-line-iterator-requires g c = search rules

@@ -1,7 +1,0 @@
-use Rattle.std.proofs.Common.{◌≡◌}
-use Rattle.page_frames.specs.Frames.{Keeps}
-use Rattle.page_frames.proofs.machine.churn.Given as goal
-
--- what was taken was given back
-abbrev pub invariant-loop : goal.invariant-loop
-invariant-loop g l = (l.port.queue.now ≡ l.free) × Keeps l.fn.seat l.port.seat
