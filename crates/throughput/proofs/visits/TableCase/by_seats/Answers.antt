@@ -1,5 +1,0 @@
-use Rattle.throughput.proofs.Dealing.{dealt_are_free}
-use Rattle.throughput.proofs.visits.TableCase.by_seats.Goals as goal
-
-pub seat_handles-requires-clause-idle : goal.seat_handles-requires-clause-idle
-seat_handles-requires-clause-idle g c = dealt_are_free c.in-Ok.table.object _ _ c.in-Ok.seats.items c.in-Ok.ensures.3
