@@ -1,4 +1,4 @@
-# How busy the machine is while a script measures; read by scripts of tools/measure that have a folder $out.
+# How busy the machine is while a script measures; read by scripts of bench/ that have a folder $out.
 
 # The seconds that all processors together were busy since the machine started, or were taken by its host.
 busy_seconds() {

@@ -1,4 +1,4 @@
-/* What an item costs where a queue's atomic steps alone pass it; tools/measure/steps builds and runs it. */
+/* What an item costs where a queue's atomic steps alone pass it; bench/steps builds and runs it. */
 #define _GNU_SOURCE
 #include <pthread.h>
 #include <sched.h>

@@ -1,4 +1,4 @@
-/* What the parts of an insertion and a deletion add to their atomic steps, on one thread; tools/measure/parts builds and runs it.
+/* What the parts of an insertion and a deletion add to their atomic steps, on one thread; bench/parts builds and runs it.
  *
  * Each row makes what the row before it makes, and one part more. The words and the slots lie as the queue's do. The last row calls as
  * the program `bench_objects` does, where a put calls an insertion and a get a deletion. */

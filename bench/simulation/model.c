@@ -1,4 +1,4 @@
-/* Prints what an item costs by the model; tools/measure/model builds and runs it. */
+/* Prints what an item costs by the model; bench/model builds and runs it. */
 #include <stdlib.h>
 #include <string.h>
 #include "model.h"
@@ -30,7 +30,7 @@ static const struct { const char *name; int *number, least, most; const char *me
 enum { TIMES = sizeof times / sizeof *times, NUMBERS = sizeof numbers / sizeof *numbers };
 
 static void print_usage(void) {
-    printf("usage: tools/measure/model [--calibrate] [--counts] [--picture FILE] [OPTION NUMBER]..\n\nnanoseconds, 0.1 to 1000000:\n");
+    printf("usage: bench/model [--calibrate] [--counts] [--picture FILE] [OPTION NUMBER]..\n\nnanoseconds, 0.1 to 1000000:\n");
     for (int i = 0; i < TIMES; i++)
         printf("  %-11s %6g  %s\n", times[i].name, (double)*times[i].time / 1000, times[i].meaning);
     printf("whole numbers:\n");
