@@ -89,7 +89,7 @@ fn add_figures(line: &mut String, found: Option<Tail>) -> Result<(), AllocError>
         Some(tail) => write!(
             line,
             " |{:>6} {:>7} {:>8} {:>9}",
-            tail.median, tail.hundredth, tail.thousandth, tail.worst
+            tail.median, tail.p99, tail.p999, tail.worst
         ),
         None => line.push_str(" |     -       -        -         -"),
     }
