@@ -30,13 +30,13 @@ pub enum Case {
 }
 
 impl Case {
-    /// Runs it once, and answers the nanoseconds for each item or call; none where it is not measured at all.
-    fn once<R: Machine>(&self, rt: &R, alloc: Global, items: u64) -> Result<Option<u64>, Fault> {
+    /// Runs it once, and returns the nanoseconds for each item or call.
+    fn once<R: Machine>(&self, rt: &R, alloc: Global, items: u64) -> Result<u64, Fault> {
         match self {
             Case::Queue(case) => case.once(rt, alloc, items),
-            Case::Semaphore(case) => Ok(Some(case.once(rt, alloc, items)?)),
-            Case::Table(case) => Ok(Some(case.once(rt, alloc, items)?)),
-            Case::Channel(case) => Ok(Some(case.once(rt, alloc, items)?)),
+            Case::Semaphore(case) => case.once(rt, alloc, items),
+            Case::Table(case) => case.once(rt, alloc, items),
+            Case::Channel(case) => case.once(rt, alloc, items),
         }
     }
 }
@@ -47,7 +47,7 @@ fn round<R: Machine>(
     alloc: Global,
     cases: &[Case],
     items: u64,
-    times: &mut Vec<Option<u64>>,
+    times: &mut Vec<u64>,
 ) -> Result<(), Fault> {
     for case in cases {
         times.push(case.once(rt, alloc, items)?)?;
@@ -58,13 +58,13 @@ fn round<R: Machine>(
 /// The spread of the times at this place of each round, where a round has this many.
 fn spread_at(
     alloc: Global,
-    times: &[Option<u64>],
+    times: &[u64],
     place: usize,
     width: usize,
 ) -> Result<Option<Spread>, AllocError> {
     let mut list = Vec::new(alloc);
     for round in times.chunks(width.max(1)) {
-        if let Some(Some(nanos)) = round.get(place) {
+        if let Some(nanos) = round.get(place) {
             list.push(*nanos)?;
         }
     }
@@ -74,7 +74,7 @@ fn spread_at(
 /// The spread of each place.
 fn spreads_in(
     alloc: Global,
-    times: &[Option<u64>],
+    times: &[u64],
     width: usize,
 ) -> Result<Vec<Option<Spread>>, AllocError> {
     let mut spreads = Vec::new(alloc);

@@ -22,7 +22,6 @@ mod report;
 mod run;
 mod semaphore_handle;
 mod spread;
-mod steps;
 mod table;
 mod tail;
 mod tail_case;

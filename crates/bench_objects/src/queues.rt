@@ -8,7 +8,6 @@ use crate::item::{Item, OwnedItem};
 use crate::passing::{Passing, Workload};
 use crate::queue_handle::{QueueHandle, Row, SeatQueue, SharedQueue, shared_handles};
 use crate::run::{Machine, numbers_below, run_all};
-use crate::steps::time_steps;
 use crossbeam_queue::ArrayQueue;
 use fak_queue::{LONGEST_STINT, Queue, Seat};
 use std::alloc::{AllocError, Global};
@@ -23,8 +22,6 @@ pub enum Implementation {
     Ring,
     /// A row under a lock.
     Lock,
-    /// None: only the atomic steps of this repository's queue, by one thread.
-    Steps,
 }
 
 /// Which items.
@@ -109,11 +106,11 @@ impl QueueCase {
         alloc: Global,
         handles: Vec<P>,
         items: u64,
-    ) -> Result<Option<u64>, Fault> {
+    ) -> Result<u64, Fault> {
         let total = self.total(items);
         let jobs = jobs_of(alloc, handles, self.pairs, items)?;
         let nanos = run_all(rt, jobs, numbers_below(total))?;
-        Ok(Some(nanos / total.max(1)))
+        Ok(nanos / total.max(1))
     }
 
     fn by_seats<T: Item + Send, R: Machine>(
@@ -121,7 +118,7 @@ impl QueueCase {
         rt: &R,
         alloc: Global,
         items: u64,
-    ) -> Result<Option<u64>, Fault> {
+    ) -> Result<u64, Fault> {
         let Ok((queue, seats)) = Queue::<T>::open(alloc, self.size, self.threads(), LONGEST_STINT)
         else {
             return Err(Fault::Memory);
@@ -135,7 +132,7 @@ impl QueueCase {
         rt: &R,
         alloc: Global,
         items: u64,
-    ) -> Result<Option<u64>, Fault> {
+    ) -> Result<u64, Fault> {
         let ring = ArrayQueue::<T>::open(alloc, self.size as usize)?;
         let handles = shared_handles(alloc, &ring, self.threads())?;
         self.over(rt, alloc, handles, items)
@@ -146,23 +143,10 @@ impl QueueCase {
         rt: &R,
         alloc: Global,
         items: u64,
-    ) -> Result<Option<u64>, Fault> {
+    ) -> Result<u64, Fault> {
         let row = Mutex::<Row<T>>::open(alloc, self.size as usize)?;
         let handles = shared_handles(alloc, &row, self.threads())?;
         self.over(rt, alloc, handles, items)
-    }
-
-    fn by_steps<R: Machine>(
-        &self,
-        rt: &R,
-        alloc: Global,
-        items: u64,
-    ) -> Result<Option<u64>, Fault> {
-        if self.pairs != 0 {
-            return Ok(None);
-        }
-        let nanos = time_steps(rt, alloc, self.size as usize, items)?;
-        Ok(Some(nanos / items.max(1)))
     }
 
     fn with_items<T: Item + Send, R: Machine>(
@@ -170,22 +154,16 @@ impl QueueCase {
         rt: &R,
         alloc: Global,
         items: u64,
-    ) -> Result<Option<u64>, Fault> {
+    ) -> Result<u64, Fault> {
         match self.implementation {
             Implementation::Seats => self.by_seats::<T, R>(rt, alloc, items),
             Implementation::Ring => self.by_ring::<T, R>(rt, alloc, items),
             Implementation::Lock => self.by_lock::<T, R>(rt, alloc, items),
-            Implementation::Steps => self.by_steps(rt, alloc, items),
         }
     }
 
-    /// Runs it once, and answers the nanoseconds for each item; none for the steps of several threads.
-    pub fn once<R: Machine>(
-        &self,
-        rt: &R,
-        alloc: Global,
-        items: u64,
-    ) -> Result<Option<u64>, Fault> {
+    /// Runs it once, and returns the nanoseconds for each item.
+    pub fn once<R: Machine>(&self, rt: &R, alloc: Global, items: u64) -> Result<u64, Fault> {
         match self.item_kind {
             ItemKind::Number => self.with_items::<u64, R>(rt, alloc, items),
             ItemKind::OwnedItem => self.with_items::<OwnedItem, R>(rt, alloc, items),

@@ -33,7 +33,6 @@ fn queue_table(
         Implementation::Seats,
         Implementation::Ring,
         Implementation::Lock,
-        Implementation::Steps,
     ] {
         for pairs in [0u64, 1, 2, 4] {
             let case = QueueCase {
@@ -48,12 +47,7 @@ fn queue_table(
     Ok(Table {
         title,
         columns: &["one thread", "1 pair", "2 pairs", "4 pairs"],
-        rows: &[
-            "fak_queue",
-            "ArrayQueue",
-            "Mutex, VecDeque",
-            "12 steps alone",
-        ],
+        rows: &["fak_queue", "ArrayQueue", "Mutex, VecDeque"],
         cases,
     })
 }
