@@ -3,9 +3,7 @@
 
 mod process;
 
-pub use fak_commands::{
-    Answer, Command, MainFault, check, command_of, replay, run_script, run_words, serve,
-};
+pub use fak_commands::{Answer, Command, MainFault, check, command_of, replay, run_script, serve};
 use std::process::ExitCode;
 
 fn main(rt: HostRuntime) -> ExitCode {

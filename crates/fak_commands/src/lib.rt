@@ -4,11 +4,11 @@
 mod command;
 pub mod laws;
 mod program;
-mod running;
-mod serving;
+mod run_script;
+mod serve;
 
 pub use command::command_of;
 pub use fak_replay::{Answer, Command, MainFault, check, replay};
 pub use program::{conclude, run_words};
-pub use running::run_script;
-pub use serving::serve;
+pub use run_script::run_script;
+pub use serve::serve;

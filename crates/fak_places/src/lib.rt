@@ -3,14 +3,14 @@
 
 mod asked;
 mod event;
-mod finding;
 mod json;
 mod mark;
 mod place;
+mod place_of;
 mod script;
 mod step;
 mod values;
 
 pub use asked::{Asked, Hint, Spot};
-pub use finding::{Format, place_of};
 pub use place::Place;
+pub use place_of::{Format, place_of};

@@ -3,17 +3,17 @@
 #![tactic(auto)]
 
 pub mod answer;
-pub mod checking;
+pub mod check;
 pub mod command;
+mod events;
 pub mod fault;
 mod machine;
-pub mod replaying;
+pub mod replay;
 mod row;
-mod stepping;
 mod trace;
 
 pub use answer::Answer;
-pub use checking::check;
+pub use check::check;
 pub use command::Command;
 pub use fault::MainFault;
-pub use replaying::replay;
+pub use replay::replay;
