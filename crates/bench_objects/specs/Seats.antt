@@ -6,10 +6,10 @@ use Rattle.fak_model.specs.Calls.{ObjectId, SeatInfo}
 use Rattle.fak_queue.specs.Queues.{IsIdleSeat}
 use Rattle.fak_files.specs.Calls.{FileSeatInfo, IsFreeSeatOf}
 
--- each seat is of the queue, and between two calls
+-- each seat belongs to the queue, and is between two calls
 abbrev pub AreIdleSeats : {T : Type 0} → ObjectId → List (SeatInfo (Mark T)) → Type 0
 AreIdleSeats object seats = All (IsIdleSeat object) seats
 
--- each seat is of the file table, and holds nothing
+-- each seat belongs to the file table, and holds nothing
 abbrev pub AreFree : ObjectId → List FileSeatInfo → Type 0
 AreFree object seats = All (IsFreeSeatOf object) seats

@@ -1,4 +1,4 @@
-//! The calls whose single times are measured, each as one thread makes them.
+//! The calls whose single times are measured, as one thread calls them.
 
 ghost use Rattle.std.specs.Prelude.{◌≡◌};
 ghost use Rattle.fak_queue.specs.Queues.{IsIdleSeat};
@@ -20,7 +20,7 @@ pub trait Attempts: Drop {
     fn pause(&mut self);
 }
 
-/// How a seat makes its calls.
+/// How a seat calls.
 #[derive(Clone, Copy)]
 pub enum Manner {
     /// `insert` and `delete`.
@@ -33,7 +33,7 @@ pub enum Manner {
     ClaimAndPause,
 }
 
-/// A seat of this repository's queue, which makes its calls in this manner.
+/// A seat of this repository's queue, which calls in this manner.
 #[derive(Drop)]
 pub struct SeatAttempts<'q> {
     pub handle: SeatQueue<'q, u64>,
@@ -122,7 +122,7 @@ impl<'q, Q: SharedQueue<Item = u64>> Attempts for SharedHandle<'q, Q> {
     fn pause(&mut self) {}
 }
 
-/// No queue: the numbers come from nowhere, in order. Its times are those of the clock alone.
+/// No queue: the numbers come from nowhere, in order. Its times are only those of the clock.
 #[derive(Drop)]
 pub struct NoQueue {
     pub next: u64,

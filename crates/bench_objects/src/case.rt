@@ -55,7 +55,7 @@ fn round<R: Machine>(
     Ok(())
 }
 
-/// The spread of the times at this place of each round, where a round has this many.
+/// The spread of the times at this place of each round, if a round has this many.
 fn spread_at(
     alloc: Global,
     times: &[u64],

@@ -139,7 +139,7 @@ impl Traffic {
         }
     }
 
-    /// How many items go through a channel, where each sender of a pair, or each receiver of many, has this many.
+    /// How many items go through a channel, if each sender of a pair, or each receiver of many, has this many.
     fn total(self, items: u64) -> u64 {
         match self {
             Traffic::ToAndFro => items,

@@ -46,7 +46,7 @@ fn grammar<'a>(alloc: Global) -> Result<clap::Command<'a>, AllocError> {
         .arg(number(alloc, "items", "100000"))
 }
 
-/// What the options ask for; none where no figures are asked for.
+/// What the options ask for; `None` if no figures are asked for.
 fn plan_from(matches: &ArgMatches) -> Result<Option<Plan>, Fault>
     ensures { IfOk result (λ asked. IfSome asked IsInRange) }
 {
@@ -78,7 +78,7 @@ fn fault_of(error: &clap::Error) -> Fault {
     }
 }
 
-/// What the words ask for; none where no figures are asked for. The first word is the program's name.
+/// What the words ask for; `None` if no figures are asked for. The first word is the program's name.
 pub fn plan_of(alloc: Global, words: Vec<String>) -> Result<Option<Plan>, Fault>
     ensures { IfOk result (λ asked. IfSome asked IsInRange) }
 {
@@ -98,7 +98,7 @@ fn words_of(rt: &(impl AllocGlobal + Env)) -> Result<Vec<String>, Fault> {
     }
 }
 
-/// Prints the figures, or where none are asked for that each case was run.
+/// Prints the figures, or that each case was run if no figures are asked for.
 fn run<R: Machine + Print + AllocGlobal + Env>(rt: &R) -> Result<(), Fault> {
     match plan_of(rt.alloc(), words_of(rt)?)? {
         Some(plan) if plan.tails => measure_tails(rt, rt.alloc(), plan),
@@ -121,7 +121,7 @@ pub fn run_process<R: Machine + Print + AllocGlobal + Env>(
     match run(rt) {
         Ok(()) => ExitCode::SUCCESS,
         Err(fault) => {
-            // There is nowhere left to tell of a failure to print.
+            // A failure to print cannot be reported anywhere.
             let _ = errors.writeln(fault);
             ExitCode::from(fault.status())
         }

@@ -222,7 +222,7 @@ fn both_by_lock<R: Machine>(rt: &R, alloc: Global, items: u64) -> Result<u64, Fa
 }
 
 impl SemaphoreCase {
-    /// Runs it once, and answers the nanoseconds for a down and an up, or for each time that one lets the other through.
+    /// Runs it once, and returns the nanoseconds for a down and an up, or for each time that one lets the other through.
     pub fn once<R: Machine>(&self, rt: &R, alloc: Global, items: u64) -> Result<u64, Fault> {
         match (self.semaphore_kind, self.is_shared) {
             (SemaphoreKind::Seats, false) => alone_by_seats(rt, alloc, items),

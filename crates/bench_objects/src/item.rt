@@ -4,7 +4,7 @@ ghost use Rattle.std.specs.Prelude.{◌≡◌, ℕ};
 
 use std::alloc::Global;
 
-/// An item, which is made of a number and shows it again.
+/// An item, which is created from a number and shows it again.
 pub trait Item: Drop {
     ghost shown: { Self → ℕ };
 

@@ -1,8 +1,8 @@
-//! Measures the queue, the semaphore, the file table and the channel from Rust, beside what the kit has.
+//! Measures the queue, the semaphore, the file table and the channel from Rust, next to what the kit has.
 //!
-//! Without words it makes one short run of each case, and tells that what went in came out once. With `--figures` it prints,
+//! Without words it runs each case once for a short time, and prints that what went in came out once. With `--figures` it prints,
 //! for each case, the best, the median and the worst of several rounds, in nanoseconds for an item or a call. With `--tails` it
-//! prints the median and the tail of the times of single calls. A run's times count only where the run's numbers come out right
+//! prints percentiles of the times of single calls. A run's times count only if the run's numbers come out right
 //! (`nanos_of`).
 #![tactic(auto)]
 

@@ -17,7 +17,7 @@ pub trait QueueHandle: Drop {
     /// Puts the item of this number in, and waits while there is no room. Tells whether it went in.
     fn put<R: Wait>(&mut self, rt: &R, number: u64) -> bool;
 
-    /// Takes the oldest item out, and waits while there is none. Answers its number.
+    /// Takes the oldest item out, and waits while there is none. Returns its number.
     fn get<R: Wait>(&mut self, rt: &R) -> Option<u64>;
 }
 
@@ -44,7 +44,7 @@ impl<'q, T: Item> QueueHandle for SeatQueue<'q, T> {
     }
 }
 
-/// A queue without seats, whose calls are refused where there is no room, or no item.
+/// A queue without seats, whose calls are refused if there is no room, or no item.
 pub trait SharedQueue: Sync + Drop {
     type Item: Item;
 
@@ -52,7 +52,7 @@ pub trait SharedQueue: Sync + Drop {
     fn open(alloc: Global, size: usize) -> Result<Self, AllocError>
         requires { 0 < size };
 
-    /// Puts the item in; it comes back where there is no room.
+    /// Puts the item in; it comes back if there is no room.
     fn try_push<R: Wait>(&self, rt: &R, item: Self::Item) -> Result<(), Self::Item>;
 
     /// Takes the oldest item out.
@@ -105,7 +105,7 @@ impl<T: Drop> Row<T> {
         self.items.pop_front()
     }
 
-    /// Puts the item in; it comes back where there is no room.
+    /// Puts the item in; it comes back if there is no room.
     pub fn push(&mut self, item: T) -> Result<(), T> {
         if self.is_full() {
             return Err(item);

@@ -118,7 +118,7 @@ fn channel_table(alloc: Global, title: &'static str, size: u64) -> Result<Table,
     })
 }
 
-/// What a table is of.
+/// The subject of a table.
 #[derive(Clone, Copy)]
 enum Subject {
     /// Queues of such items, of this many cells.
@@ -131,7 +131,7 @@ enum Subject {
     Channels(u64),
 }
 
-/// The titles of all tables, and what they are of.
+/// The titles of all tables, and their subjects.
 const TABLES: &[(&str, Subject)] = &[
     ("u64, 8 cells", Subject::Queues(ItemKind::Number, 8)),
     ("u64, 1,000 cells", Subject::Queues(ItemKind::Number, 1000)),
@@ -180,13 +180,13 @@ pub fn measure<R: Machine + Print>(rt: &R, alloc: Global, plan: Plan) -> Result<
     Ok(())
 }
 
-/// Makes one short run of each of these cases. Answers how many there were.
+/// Runs each of these cases once for a short time. Returns how many there were.
 fn runs_of<R: Machine>(rt: &R, alloc: Global, cases: &[Case]) -> Result<usize, Fault> {
     let spreads = spreads_of(rt, alloc, cases, SHORT)?;
     Ok(spreads.iter().flatten().count())
 }
 
-/// Makes one short run of each case. Answers how many there were.
+/// Runs each case once for a short time. Returns how many there were.
 pub fn try_each<R: Machine>(rt: &R, alloc: Global) -> Result<usize, Fault> {
     let mut runs = 0usize;
     for &(title, subject) in TABLES {

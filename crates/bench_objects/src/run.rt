@@ -56,7 +56,7 @@ impl<R: Threads + Wait + Clock + Sync> Machine for R {}
 
 /// What one thread does in a run.
 pub trait Job: Send + Drop {
-    /// Does it, and answers what came out.
+    /// Does it, and returns what came out.
     fn work<R: Wait + Clock>(&mut self, rt: &R) -> Passed;
 }
 
@@ -132,7 +132,7 @@ fn whole(laps: &[Result<Lap, Fault>]) -> Result<Lap, Fault> {
     Ok(all)
 }
 
-/// The time of a run where just what is expected came out.
+/// The time of a run, if exactly what is expected came out.
 fn nanos_of(lap: Lap, expected: Passed) -> Result<u64, Fault>
     ensures { IfOk result (λ _. lap.passed ≡ expected) }
 {
@@ -145,7 +145,7 @@ fn nanos_of(lap: Lap, expected: Passed) -> Result<u64, Fault>
     }
 }
 
-/// Does all jobs, each in a thread of its own, and answers the nanoseconds that they took together. `Lost` where another
+/// Does all jobs, each in a thread of its own, and returns the nanoseconds that they took together. `Lost` if another
 /// count or sum than expected comes out.
 pub fn run_all<R: Machine, J: Job>(rt: &R, jobs: Vec<J>, expected: Passed) -> Result<u64, Fault> {
     let threads = jobs.len() as u64;
@@ -156,7 +156,7 @@ pub fn run_all<R: Machine, J: Job>(rt: &R, jobs: Vec<J>, expected: Passed) -> Re
     nanos_of(whole(laps.as_slice())?, expected)
 }
 
-/// Does this job in a thread of its own, and answers as `run_all` does.
+/// Does this job in a thread of its own, and returns as `run_all` does.
 pub fn run_one<R: Machine, J: Job>(
     rt: &R,
     alloc: Global,

@@ -13,7 +13,7 @@ pub struct Spread {
     pub worst: u64,
 }
 
-/// The best, the median and the worst of these times; none of no times. Of an even number of times the median is the later of
+/// The best, the median and the worst of these times; `None` if there are none. For an even number of times the median is the later of
 /// the two in the middle.
 pub fn spread_of(mut times: Vec<u64>) -> Result<Option<Spread>, AllocError>
     ensures { IfOk result (λ found. MatchOption found (vec_len times ≡ 0)

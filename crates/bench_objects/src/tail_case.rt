@@ -24,7 +24,7 @@ pub enum Caller {
     Ring,
     /// A user of a row under a lock.
     Lock,
-    /// Nobody: the clock alone, by one pair.
+    /// Nobody: only the clock, by one pair.
     Clock,
 }
 
@@ -37,7 +37,7 @@ pub struct TailCase {
     ghost some: { 0 < size },
 }
 
-/// A handle for each seat, which makes its calls in this manner.
+/// A handle for each seat, which calls in this manner.
 fn seat_attempts<'q>(
     alloc: Global,
     queue: &'q Queue<u64>,
@@ -146,7 +146,7 @@ impl TailCase {
         self.over(rt, alloc, handles, items)
     }
 
-    /// Runs it once, and answers the tail of the times of all calls; none for the clock of several pairs.
+    /// Runs it once, and returns the percentiles of the times of all calls; `None` for the clock of several pairs.
     pub fn once<R: Machine>(
         &self,
         rt: &R,

@@ -16,7 +16,7 @@ pub struct Timing<'t, P> {
     pub all: &'t Mutex<Vec<u64>>,
 }
 
-/// The nanoseconds since then; none where the clock cannot be read.
+/// The nanoseconds since then; `None` if the clock cannot be read.
 fn nanos_since<R: Clock>(rt: &R, begun: Instant) -> Option<u64> {
     match Instant::now(rt) {
         Ok(ended) => u64::try_from(ended.duration_since(begun).as_nanos()).ok(),
@@ -24,7 +24,7 @@ fn nanos_since<R: Clock>(rt: &R, begun: Instant) -> Option<u64> {
     }
 }
 
-/// Puts the number in, by attempts. Answers the nanoseconds of the one that was not refused.
+/// Puts the number in, by attempts. Returns the nanoseconds of the one that was not refused.
 fn put_one<R: Wait + Clock, P: Attempts>(rt: &R, handle: &mut P, number: u64) -> Option<u64> {
     let backoff = Backoff::new();
     for _ in rt.forever() {
@@ -41,7 +41,7 @@ fn put_one<R: Wait + Clock, P: Attempts>(rt: &R, handle: &mut P, number: u64) ->
     unreachable!()
 }
 
-/// Takes a number out, by attempts. Answers it with the nanoseconds of the one that was not refused.
+/// Takes a number out, by attempts. Returns it with the nanoseconds of the one that was not refused.
 fn get_one<R: Wait + Clock, P: Attempts>(rt: &R, handle: &mut P) -> Option<(u64, u64)> {
     let backoff = Backoff::new();
     for _ in rt.forever() {
@@ -89,7 +89,7 @@ impl<'t, P: Attempts> Timing<'t, P> {
         passed
     }
 
-    /// Adds the times to those of all threads. Where there is no memory they are lost, which the reader of the list counts.
+    /// Adds the times to those of all threads. If there is no memory they are lost, and the reader of the list counts that.
     fn hand_in<R: Wait>(&mut self, rt: &R) {
         let mut all = self.all.lock(rt);
         for nanos in self.times.as_slice() {

@@ -146,7 +146,7 @@ impl TableCase {
         self.over(rt, alloc, handles, items)
     }
 
-    /// Runs it once, and answers the nanoseconds for each call.
+    /// Runs it once, and returns the nanoseconds for each call.
     pub fn once<R: Machine>(&self, rt: &R, alloc: Global, items: u64) -> Result<u64, Fault> {
         match self.table_kind {
             TableKind::Seats => self.by_seats(rt, alloc, items),

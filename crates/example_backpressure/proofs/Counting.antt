@@ -19,7 +19,7 @@ use Rattle.example_backpressure.specs.Passing.{Sum, Moves, nothing, IsFresh, All
 -- ---- ends
 
 module _ (old new : Ends) where
-  -- a call on the queue alone
+  -- a call only on the queue
   on_queue : (put got : Sum) → Weighs put got old.queue new.queue → new.semaphore ≡ old.semaphore → Moves put got old new
   on_queue put got s same = record {
     name = s.name;

@@ -1,4 +1,4 @@
-//! A channel: a queue of buffers behind a semaphore that holds back what the queue should not hold yet.
+//! A channel: a semaphore holds back what the queue of buffers after it should not hold yet.
 
 ghost use Rattle.std.specs.Prelude.{IfSome, IsTrue};
 ghost use Rattle.example_backpressure.specs.Passing.{AreEnds, Moves, nothing};

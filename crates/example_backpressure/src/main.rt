@@ -1,4 +1,4 @@
-//! A producer and a consumer that pass owned buffers: a program to begin from.
+//! A producer and a consumer that pass owned buffers: a program to copy.
 //!
 //! Buffers go through a `fak_queue::Queue`, and a `fak_sem::Semaphore` before it is the back-pressure: it begins at the number
 //! of buffers that may be on their way, and holds back the others, each of which enters the queue once one was received.

@@ -63,7 +63,7 @@ pub fn open_channel(alloc: Global, room: u64) -> Option<(Channel, Ends, Ends)>
     Some((Channel { queue, semaphore }, a, b))
 }
 
-/// Closes the queue, and tells whether both seats are back and nothing is left in it.
+/// Closes the queue, and returns whether both seats are back and nothing is left in it.
 fn queue_is_empty(queue: Queue<Buffer>, a: Seat<Buffer>, b: Seat<Buffer>) -> bool
     requires seats { IsIdleSeat queue.object a × IsIdleSeat queue.object b }
     requires apart { b.name ≢ a.name }
@@ -78,7 +78,7 @@ fn queue_is_empty(queue: Queue<Buffer>, a: Seat<Buffer>, b: Seat<Buffer>) -> boo
     queue.close(tally).next().is_none()
 }
 
-/// Closes the semaphore, and tells whether both seats are back and nothing is held back.
+/// Closes the semaphore, and returns whether both seats are back and nothing is held back.
 fn semaphore_is_empty(semaphore: Semaphore<Buffer>, a: SemSeat<Buffer>, b: SemSeat<Buffer>) -> bool
     requires seats { (a.object ≡ semaphore.object) × (b.object ≡ semaphore.object) }
     requires apart { b.name ≢ a.name }
@@ -93,7 +93,7 @@ fn semaphore_is_empty(semaphore: Semaphore<Buffer>, a: SemSeat<Buffer>, b: SemSe
     semaphore.close(tally).next().is_none()
 }
 
-/// Closes the channel, and tells whether nothing is left in it.
+/// Closes the channel, and returns whether nothing is left in it.
 pub fn is_empty(channel: Channel, a: Ends, b: Ends) -> bool
     requires ends { AreEnds channel.queue.object channel.semaphore.object a
         × AreEnds channel.queue.object channel.semaphore.object b }

@@ -93,7 +93,7 @@ fn run_both<R: Threads + Wait + Sync>(
 /// Sends all buffers from one thread and receives them in another, with this many on their way at once. What is received is
 /// what was sent.
 ///
-/// None where there was no memory, or `room` is above 4,294,967,296.
+/// `None` if there was no memory, or `room` is above 4,294,967,296.
 pub fn pass<R: Threads + Wait + Sync>(
     rt: &R,
     alloc: Global,

@@ -10,7 +10,7 @@ use std::io;
 use std::sync::Wait;
 use std::thread::{Threads, join};
 
-/// Sends the texts, and closes the channel. False where a text was refused.
+/// Sends the texts, and closes the channel. False if a text was refused.
 fn send_all<R: Wait>(rt: &R, mut end: End<'_, String>, texts: Vec<String>) -> bool {
     for text in texts {
         if end.send(rt, text).is_err() {

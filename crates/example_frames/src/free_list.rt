@@ -8,7 +8,7 @@ use crate::frame::Frame;
 use fak_queue::{InsertFault, Port};
 use std::sync::Wait;
 
-/// Takes the frame that has been free for the longest time; none where the list is empty or the seat worn.
+/// Takes the frame that has been free for the longest time; `None` if the list is empty or the seat worn.
 pub fn take<R: Wait>(rt: &R, free: &mut Port<'_, Frame>) -> Option<Frame>
     ensures list { free.new.queue ≡ free.old.queue }
     ensures adds { (n : ℕ) → MatchOption result (Adds (is_number n) 0 0 free.old.seat free.new.seat)
@@ -20,7 +20,7 @@ pub fn take<R: Wait>(rt: &R, free: &mut Port<'_, Frame>) -> Option<Frame>
     }
 }
 
-/// Gives a frame back. It comes back itself where the list is full or shut, or the seat worn.
+/// Gives a frame back. It comes back itself if the list is full or shut, or the seat worn.
 pub fn give_back<R: Wait>(rt: &R, free: &mut Port<'_, Frame>, frame: Frame) -> Result<(), Frame>
     ensures list { free.new.queue ≡ free.old.queue }
     ensures adds { IfOk result (λ _. (n : ℕ) → Adds (is_number n) (is_number n frame) 0 free.old.seat free.new.seat) }

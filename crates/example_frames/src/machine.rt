@@ -12,7 +12,7 @@ use std::alloc::Global;
 use std::sync::Wait;
 use std::thread::{Threads, join};
 
-/// Puts all frames of the machine into the list. Answers the seat, and whether none was refused.
+/// Puts all frames of the machine into the list. Returns the seat, and whether none was refused.
 fn fill<R: Wait>(rt: &R, free: &Queue<Frame>, seat: Seat<Frame>, frames: u64) -> (Seat<Frame>, bool)
     requires idle { IsIdleSeat free.now.object seat }
     requires put { HasPut none seat }
@@ -39,7 +39,7 @@ fn use_one<R: Wait>(rt: &R, free: &mut Port<'_, Frame>) -> bool
     }
 }
 
-/// A processor, which uses a frame this many times. Answers its seat, and whether all were taken back.
+/// A processor, which uses a frame this many times. Returns its seat, and whether all were taken back.
 fn churn<R: Wait>(rt: &R, free: &Queue<Frame>, seat: Seat<Frame>, times: u64) -> (Seat<Frame>, bool)
     requires { IsIdleSeat free.now.object seat }
     ensures idle { IsIdleSeat free.now.object result.0 }
@@ -94,10 +94,10 @@ fn close(free: Queue<Frame>, a: Seat<Frame>, b: Seat<Frame>, frames: u64) -> Opt
     Some(free.close(tally))
 }
 
-/// Two processors that each take a frame and give it back this many times, on a machine with this many frames. Answers the
+/// Two processors that each take a frame and give it back this many times, on a machine with this many frames. Returns the
 /// free list at the end, which has each frame once.
 ///
-/// None where there was no memory, or a frame was refused.
+/// `None` if there was no memory, or a frame was refused.
 pub fn churn_all<R: Threads + Wait + Sync>(
     rt: &R,
     alloc: Global,

@@ -1,4 +1,4 @@
-//! A free list of page frames that processors share: a program to begin from.
+//! A free list of page frames that processors share: a program to copy.
 //!
 //! A frame is taken by one attempt that may find the list empty, and given back; no thread waits for a frame. Proved: once
 //! all seats are back, the list has each frame of the machine once (`churn_all`).

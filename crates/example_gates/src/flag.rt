@@ -24,7 +24,7 @@ impl Flag {
         self.is_set.store(true, Ordering::SeqCst);
     }
 
-    /// Waits until it is set; false where it was not.
+    /// Waits until it is set; false if it was not.
     pub fn wait(&self) -> bool {
         for _ in 0..self.turns {
             if self.is_set.load(Ordering::SeqCst) {

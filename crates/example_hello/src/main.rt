@@ -10,7 +10,7 @@ use std::io;
 use std::sync::Wait;
 use std::thread::{Threads, join};
 
-/// Inserts the text, and waits while the queue is full. False where the insertion was refused.
+/// Inserts the text, and waits while the queue is full. False if the insertion was refused.
 fn send<R: Wait>(rt: &R, mut port: Port<'_, String>, text: String) -> bool {
     port.wait_insert(rt, text).is_ok()
 }

@@ -23,12 +23,12 @@ pub record Stands (object : ObjectId) (lines_put bytes_put lines_got bytes_got :
   pub lines_out : got_by one s ≡ lines_got
   pub bytes_out : got_by bytes s ≡ bytes_got
 
--- what a sender answers: where all went well its seat has put in these lines
+-- the result of a sender: if all went well its seat has put in these lines
 pub record Sent (object : ObjectId) (lines : List Line) (s : SeatInfo (Mark Line)) (all : Bool) : Type 0 where
   pub idle : IsIdleSeat object s
   pub sent : IsTrue all → Stands object (length lines) (sum_by bytes lines) 0 0 s
 
--- what a receiver answers: where all went well its seat has got out what was counted
+-- the result of a receiver: if all went well its seat has got out what was counted
 pub record Received (object : ObjectId) (s : SeatInfo (Mark Line)) (counted : Option (ℕ × ℕ)) : Type 0 where
   pub idle : IsIdleSeat object s
   pub received : IfSome counted (λ r. Stands object 0 0 r.0 r.1 s)

@@ -1,4 +1,4 @@
-//! Lines of text that two threads send and a third counts: a program to begin from, for items and weights of your own. An
+//! Lines of text that two threads send and a third counts: a program to copy, for items and weights of your own. An
 //! item owns its text. Lines and bytes are counted at once, and both are those that were sent (`count_lines`).
 #![tactic(auto)]
 
@@ -24,7 +24,7 @@ pub struct Line {
     pub text: String,
 }
 
-/// Puts a line into the queue, and tells whether it was not refused.
+/// Puts a line into the queue, and returns whether it was accepted.
 fn put<R: Wait>(rt: &R, queue: &Queue<Line>, seat: &mut Seat<Line>, line: Line) -> bool
     requires { IsIdleSeat queue.now.object seat.old }
     ensures idle { IsIdleSeat queue.now.object seat.new }
@@ -34,7 +34,7 @@ fn put<R: Wait>(rt: &R, queue: &Queue<Line>, seat: &mut Seat<Line>, line: Line) 
     queue.wait_insert(rt, seat, line).is_ok()
 }
 
-/// Takes the oldest line out of the queue; none where the seat has drawn all its tickets.
+/// Takes the oldest line out of the queue; `None` if the seat has drawn all its tickets.
 fn take<R: Wait>(rt: &R, queue: &Queue<Line>, seat: &mut Seat<Line>) -> Option<Line>
     requires { IsIdleSeat queue.now.object seat.old }
     ensures idle { IsIdleSeat queue.now.object seat.new }
@@ -66,7 +66,7 @@ fn send<R: Wait>(rt: &R, queue: &Queue<Line>, mut seat: Seat<Line>, lines: Vec<L
     (seat, true)
 }
 
-/// Receives this many lines, and counts them and their bytes. None where the seat is worn or a number does not fit.
+/// Receives this many lines, and counts them and their bytes. `None` if the seat is worn or a number does not fit.
 fn receive<R: Wait>(rt: &R, queue: &Queue<Line>, mut seat: Seat<Line>, count: usize) -> Receiver
     requires { Stands queue.now.object 0 0 0 0 seat }
     ensures { Received queue.now.object result.0 result.1 }
@@ -144,7 +144,7 @@ fn open_queue(alloc: Global) -> Option<(Queue<Line>, Seats)>
     Some((queue, (a, b, c)))
 }
 
-/// Closes the queue, and tells whether all seats are back and nothing is left in it.
+/// Closes the queue, and returns whether all seats are back and nothing is left in it.
 fn is_empty(queue: Queue<Line>, a: Seat<Line>, b: Seat<Line>, c: Seat<Line>) -> bool
     requires seats { IsIdleSeat queue.object a × IsIdleSeat queue.object b × IsIdleSeat queue.object c }
     requires three { queue.object.seats ≡ 3 }
@@ -159,7 +159,7 @@ fn is_empty(queue: Queue<Line>, a: Seat<Line>, b: Seat<Line>, c: Seat<Line>) -> 
     queue.close(tally).next().is_none()
 }
 
-/// Sends the first lines from one thread and the second from another, and counts lines and bytes in a third. None where
+/// Sends the first lines from one thread and the second from another, and counts lines and bytes in a third. `None` if
 /// there was no memory, a line was refused, or a number does not fit.
 pub fn count_lines<R: Threads + Wait + Sync>(
     rt: &R,

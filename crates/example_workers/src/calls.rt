@@ -9,7 +9,7 @@ use crate::work::Work;
 use fak_queue::{Queue, Seat};
 use std::sync::Wait;
 
-/// Puts a piece of work into the queue, and tells whether it was not refused.
+/// Puts a piece of work into the queue, and returns whether it was accepted.
 pub fn put<R: Wait>(rt: &R, queue: &Queue<Work>, seat: &mut Seat<Work>, work: Work) -> bool
     requires { IsIdleSeat queue.now.object seat.old }
     ensures idle { IsIdleSeat queue.now.object seat.new }
@@ -18,7 +18,7 @@ pub fn put<R: Wait>(rt: &R, queue: &Queue<Work>, seat: &mut Seat<Work>, work: Wo
     queue.wait_insert(rt, seat, work).is_ok()
 }
 
-/// Takes a piece of work out of the queue; none where the seat has drawn all its tickets.
+/// Takes a piece of work out of the queue; `None` if the seat has drawn all its tickets.
 pub fn take<R: Wait>(rt: &R, queue: &Queue<Work>, seat: &mut Seat<Work>) -> Option<Work>
     requires { IsIdleSeat queue.now.object seat.old }
     ensures idle { IsIdleSeat queue.now.object seat.new }

@@ -1,4 +1,4 @@
-//! A pool of workers that share a queue of jobs: a program to begin from.
+//! A pool of workers that share a queue of jobs: a program to copy.
 //!
 //! The calling thread puts jobs into a `fak_queue::Queue`, then one `Stop` for each worker, and shuts the queue. Each
 //! worker takes jobs in a thread of its own until it gets a `Stop`. Then the seats are joined and the queue is closed.

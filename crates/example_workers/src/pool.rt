@@ -21,7 +21,7 @@ use std::thread::{Threads, join};
 /// The cells of the queue: fewer than there are jobs, so the thread that puts them in waits for the workers.
 const CELLS: u64 = 8;
 
-/// One worker: it takes jobs until it gets a `Stop`. Answers its seat, and how many leap years it got.
+/// One worker: it takes jobs until it gets a `Stop`. Returns its seat, and how many leap years it got.
 fn work<R: Wait>(rt: &R, queue: &Queue<Work>, mut seat: Seat<Work>) -> (Seat<Work>, u64)
     requires { IsFresh queue.now.object seat }
     ensures done { Stands queue.now.object 0 result.1 result.0 }
@@ -41,7 +41,7 @@ fn work<R: Wait>(rt: &R, queue: &Queue<Work>, mut seat: Seat<Work>) -> (Seat<Wor
     (seat, leap_years)
 }
 
-/// All workers, each in a thread of its own. Answers their seats, joined, and how many leap years they got.
+/// All workers, each in a thread of its own. Returns their seats, joined, and how many leap years they got.
 fn work_all<R: Threads + Wait + Sync>(
     rt: &R,
     queue: &Queue<Work>,
@@ -132,7 +132,7 @@ fn give_and_work<R: Threads + Wait + Sync>(
     )
 }
 
-/// Closes the queue, and tells whether all seats are back and all that went in came out.
+/// Closes the queue, and returns whether all seats are back and all that went in came out.
 fn is_done(queue: Queue<Work>, tally: Tally<Work>) -> bool
     requires { tally.object ≡ queue.object }
     ensures { IsTrue result → (seats : _) → AreJoined queue.size seats tally

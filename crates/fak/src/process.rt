@@ -20,7 +20,7 @@ use std::{env, io};
 ///
 /// # Errors
 ///
-/// `Memory`, where there was none for them, or `Usage`, where they could not be had for any other cause, as that one is
+/// `Memory` if there was none for them, or `Usage` if they could not be had for any other cause, such as a word that is
 /// not UTF-8.
 fn words_of(alloc: Global, arguments: io::Result<Args>) -> Result<Vec<String>, MainFault>
     ensures had { OnOk arguments (IfErr result (λ fault. fault ≡ Memory)) }

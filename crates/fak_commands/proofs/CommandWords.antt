@@ -8,7 +8,7 @@ use Rattle.clap.proofs.WalkLemmas.{one_text-rows}
 use Rattle.fak_replay.specs.declared.command.Command.{Command}
 use Rattle.fak_commands.specs.Commands.{Asks, Means, command_line}
 
--- the program's own command line is one whose matches `clap` tells
+-- the program's own command line is one whose matches `clap` states
 line_is_simple : is_simple command_line ≡ true
 unfolding clap_on_literals
 line_is_simple = refl

@@ -68,7 +68,7 @@ of_front Check input reply is = subst (λ value. IsCheckReply (value >>= history
 of_front (Run n) input reply is = subst (λ value. IsRunReply n (value >>= script_from) reply) (front_read input) is
 of_front Replay input reply is = subst (λ value. reply ≡ replay_reply (value >>= schedule_from)) (front_read input) is
 
--- what was answered to the front of an input is the reply to the whole
+-- the reply to the front of an input is the reply to the whole
 pub serves : (old new : Option (List ℕ)) (command : Command) (kept : List ℕ) (r : Reply) (P : List ℕ → Type 0)
     → ((input : List ℕ) × IsRead old new input × (kept ≡ take most_kept input)) → IsReply command kept (Ok r) → P r.1
     → (input text : List ℕ) × IsRead old new input × IsReply command input (Ok (r.0, text)) × P text

@@ -18,7 +18,7 @@ bare_line = on_top (λ shape. record shape {
   subcommand_required = true;
 }) (new_app (codes "fak"))
 
--- the option `--processors N`, whose N is a whole number, and 1 where it is not given
+-- the option `--processors N`, whose N is a whole number, and 1 if it is not given
 abbrev pub processors_rule : Rule
 processors_rule = record (new_rule (codes "processors")) {
   long = Some (codes "processors");

@@ -1,4 +1,4 @@
--- What the program leaves behind: its exit status, and what it wrote.
+-- What the program leaves when it ends: its exit status, and what it wrote.
 use Rattle.std.specs.Prelude.{◌≡◌, ◌≢◌, ◌⊎◌, ℕ, List, Ok}
 use Rattle.clap.specs.Words.{Text}
 use Rattle.fak_replay.specs.Answers.{FailsToServe, IsReply}

@@ -35,7 +35,7 @@ fn grammar<'a>(alloc: Global) -> Result<clap::Command<'a>, AllocError>
         .subcommand(clap::Command::new(alloc, "run").arg(processors_option(alloc))?)
 }
 
-/// The number of processors that the words of `run` ask for, where it is 1 to 8.
+/// The number of processors that the words of `run` ask for, if it is 1 to 8.
 fn processors_of(matches: &ArgMatches) -> Option<u64>
     ensures { IfSome result (AskedProcessors (rows_of (found_of matches.now))) }
 {
@@ -62,7 +62,7 @@ fn command_from(matches: &ArgMatches) -> Option<Command>
 ///
 /// # Errors
 ///
-/// `Memory`, or `Usage`, where the words ask for no command.
+/// `Memory`, or `Usage` if the words ask for no command.
 pub fn command_of(alloc: Global, words: Vec<String>) -> Result<Command, MainFault>
     ensures ok { IfOk result (Asks (map string_bytes words.items)) }
     ensures err { IfErr result IsOfWords }

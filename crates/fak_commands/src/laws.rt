@@ -12,7 +12,7 @@ pub fn the_names_of_the_command_line_are_known()
         ∷ (codes "run" ∷ [], (codes "processors" ∷ [], []) ∷ []) ∷ [] }
 {}
 
-/// What known words ask for: 1 processor where the option is not given, and 1 to 8 where it is.
+/// What known words ask for: 1 processor if the option is not given, and 1 to 8 if it is.
 pub fn known_words_ask_for_known_commands()
     ensures replay { Asks (codes "fak" ∷ codes "replay" ∷ []) Replay }
     ensures check { Asks (codes "fak" ∷ codes "check" ∷ []) Check }

@@ -43,7 +43,7 @@ pub fn conclude<E: Write>(served: Result<u8, MainFault>, errors: &mut E) -> u8
     match served {
         Ok(status) => status,
         Err(fault) => {
-            // There is nowhere left to tell of a failure to print.
+            // A failure to print cannot be reported anywhere.
             let _ = errors.writeln(fault);
             fault.status()
         }
@@ -51,7 +51,7 @@ pub fn conclude<E: Write>(served: Result<u8, MainFault>, errors: &mut E) -> u8
 }
 
 /// Serves the command that the words ask for: the text of its answer goes to `writer`, or else the fault's text, as one
-/// line, to `errors`. Answers the exit status.
+/// line, to `errors`. Returns the exit status.
 pub fn run_words<R: Read, W: Write, E: Write>(
     rt: &(impl Threads + Wait + Sync),
     alloc: Global,

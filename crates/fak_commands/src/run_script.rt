@@ -34,13 +34,13 @@ fn printed_on(
 }
 
 /// Runs the script that the input is: on one processor the report of the list scheduler, on 2 to 8 one that keeps its
-/// promises, with status 3 where a process is stuck, else 0.
+/// promises, with status 3 if a process is stuck, else 0.
 ///
 /// # Errors
 ///
-/// The input's first fault, then `BadProcessors` for any other number of processors. Then `Worn`, where the script's stint
-/// is used up, `NoThread`, where the system gave no thread, or `Memory`. Of an input of more than 1,048,576 bytes it is
-/// `Range(Field::Input)`, whatever memory there is.
+/// The input's first fault, then `BadProcessors` for any other number of processors. Then `Worn` if the script's stint
+/// is used up, `NoThread` if the system gave no thread, or `Memory`. For an input of more than 1,048,576 bytes it is
+/// `Range(Field::Input)`, even if memory runs out.
 pub fn run_script(
     rt: &(impl Threads + Wait + Sync),
     alloc: Global,

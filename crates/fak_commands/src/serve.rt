@@ -82,11 +82,11 @@ fn write_text<W: Write>(writer: &mut W, text: &[u8]) -> Result<(), MainFault>
     Ok(())
 }
 
-/// Reads all input, writes the text of the command's answer, and answers its status.
+/// Reads all input, writes the text of the command's answer, and returns its status.
 ///
 /// # Errors
 ///
-/// `Read` or `Memory`, then the command's fault, then `Write`. On any fault but `Write` nothing was written.
+/// `Read` or `Memory`, then the command's fault, then `Write`. On any fault except `Write` nothing was written.
 pub fn serve<R: Read, W: Write>(
     rt: &(impl Threads + Wait + Sync),
     alloc: Global,

@@ -1,4 +1,4 @@
-//! What the commands answer to an input, compared with what is wanted.
+//! The answers of the commands to an input, compared with what is wanted.
 
 use crate::rows::Row;
 use crate::rows::schedules::ROOM_REFUSED_AT_ITS_TEST;
@@ -51,7 +51,7 @@ pub(crate) fn answer_to(
     }
 }
 
-/// Whether the command answers the input with this status and this text.
+/// Whether the command's answer to the input has this status and this text.
 pub(crate) fn is_answer(
     rt: &(impl AllocGlobal + Threads + Wait + Sync),
     command: Command,
@@ -65,7 +65,7 @@ pub(crate) fn is_answer(
     }
 }
 
-/// Finds that the command answers the input with this status and this text.
+/// Checks that the command's answer to the input has this status and this text.
 pub(crate) fn has_answer(
     rt: &(impl Abort + AllocGlobal + Threads + Wait + Sync),
     command: Command,
@@ -90,7 +90,7 @@ pub(crate) fn fault_at(
     }
 }
 
-/// Finds that the command has this fault at the input.
+/// Checks that the command has this fault at the input.
 pub(crate) fn has_fault(
     rt: &(impl Abort + AllocGlobal + Threads + Wait + Sync),
     command: Command,
@@ -102,7 +102,7 @@ pub(crate) fn has_fault(
     }
 }
 
-/// Finds that the command has the faults beside the inputs.
+/// Checks that the command has the faults next to the inputs.
 pub(crate) fn have_faults(
     rt: &(impl Abort + AllocGlobal + Threads + Wait + Sync),
     command: Command,

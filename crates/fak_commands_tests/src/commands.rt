@@ -11,7 +11,7 @@ pub(crate) fn asked(alloc: Global, line: &str) -> Result<Result<Command, MainFau
     Ok(command_of(alloc, words))
 }
 
-/// Finds that the lines ask for the commands beside them.
+/// Checks that the lines ask for the commands next to them.
 fn ask_for(rt: &(impl Abort + AllocGlobal), rows: &[(&str, Command)]) {
     for &(line, command) in rows {
         if asked(rt.alloc(), line) != Ok(Ok(command)) {
@@ -20,7 +20,7 @@ fn ask_for(rt: &(impl Abort + AllocGlobal), rows: &[(&str, Command)]) {
     }
 }
 
-/// Finds that no line is a command.
+/// Checks that no line is a command.
 fn are_refused(rt: &(impl Abort + AllocGlobal), lines: &[&str]) {
     for &line in lines {
         if asked(rt.alloc(), line) != Ok(Err(MainFault::Usage)) {
@@ -82,7 +82,7 @@ fn each_number_of_processors(rt: HostRuntime) {
     }
 }
 
-/// Finds that this word, in place of a command and after each command, is refused.
+/// Checks that this word, in place of a command and after each command, is refused.
 fn is_no_word(rt: &(impl Abort + AllocGlobal), word: &str) {
     for before in ["fak", "fak replay", "fak check", "fak run"] {
         for after in ["", " 2", "=2", "2", " replay", " run"] {

@@ -11,7 +11,7 @@ use std::process::Abort;
 use std::sync::Wait;
 use std::thread::Threads;
 
-/// A reader that gives up to this many bytes at once, but one alone at the read of one number, and fails from that of
+/// A reader that gives up to this many bytes at once, but only one at the read of one number, and fails from that of
 /// another.
 #[derive(Drop)]
 struct Uneven<'a> {
@@ -109,7 +109,7 @@ impl Write for Full {
     }
 }
 
-/// Whether a replay of what is read is answered so, and writes these rows.
+/// Whether a replay of what is read ends so, and writes these rows.
 fn is_served<R: Read>(
     rt: &(impl Threads + Wait + Sync),
     alloc: Global,
@@ -136,7 +136,7 @@ fn fault_into<W: Write>(
     }
 }
 
-/// Finds that this many spaces have this fault, with nothing written, after this many reads.
+/// Checks that this many spaces have this fault, with nothing written, after this many reads.
 fn have_fault(
     rt: &(impl Abort + AllocGlobal + Threads + Wait + Sync),
     left: u64,

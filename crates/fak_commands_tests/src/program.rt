@@ -40,7 +40,7 @@ pub(crate) fn ends<R: Read>(
     Ok(status == want.0 && is_output && are_faults)
 }
 
-/// Finds that the lines, each with the input beside it, end with these statuses and texts.
+/// Checks that the lines, each with the input next to it, end with these statuses and texts.
 fn have_ends(
     rt: &(impl Abort + AllocGlobal + Threads + Wait + Sync),
     rows: &[(&str, &str, (u8, &str, &str))],
@@ -127,7 +127,7 @@ fn a_read_fault_has_status_1(rt: HostRuntime) {
     assert!(rt; ends(&rt, rt.alloc(), "fak run", &mut Broken, want) == Ok(true));
 }
 
-/// Whether the program ends with this status where it met the fault, and writes this text as a line.
+/// Whether the program ends with this status after the fault, and writes this text as a line.
 fn is_told(rt: &(impl Abort + AllocGlobal), fault: MainFault, status: u8, text: &str) -> bool {
     let mut faults = Vec::new(rt.alloc());
     let ended = conclude(Err(fault), &mut faults);
@@ -139,7 +139,7 @@ fn is_told(rt: &(impl Abort + AllocGlobal), fault: MainFault, status: u8, text: 
         && is_text(&faults, &line)
 }
 
-/// Finds that each fault has this status and this text.
+/// Checks that each fault has this status and this text.
 fn have_texts(rt: &(impl Abort + AllocGlobal), rows: &[(MainFault, u8, &str)]) {
     for &(fault, status, text) in rows {
         assert!(rt; is_told(rt, fault, status, text), "{fault:?}");

@@ -39,7 +39,7 @@ fn push_parts(marks: &mut Vec<Mark<u64>>, parts: &[Part]) -> Result<(), AllocErr
     Ok(())
 }
 
-/// After the marks of `before` those of `may` may come, and those of `may_not` but for the last one, which is the first
+/// After the marks of `before` those of `may` may come, and those of `may_not` except the last one, which is the first
 /// fault.
 #[derive(Clone, Copy)]
 struct Example<'a> {
@@ -80,7 +80,7 @@ fn judged_otherwise(alloc: Global, examples: &[Example]) -> Result<Option<usize>
     Ok(None)
 }
 
-/// Finds that each example is judged as it says.
+/// Checks that each example is judged as it says.
 #[cfg(test)]
 fn are_judged(rt: &(impl Abort + AllocGlobal), examples: &[Example]) {
     assert_equal(rt, judged_otherwise(rt.alloc(), examples), Ok(None));

@@ -1,4 +1,4 @@
-//! Queues and rooms on which many calls are made, one after the other: none is refused for the number before it.
+//! Queues and rooms with many calls, one after the other: none is refused for the number before it.
 
 ghost use Rattle.std.specs.Prelude.{◌≤◌};
 
@@ -28,7 +28,7 @@ fn makes(
     assert_equal(rt, core.advance(rt.alloc(), seat), Err(CoreFault::IdleSeat));
 }
 
-/// Inserts the item of this insertion into a queue of this size, where it is full after a deletion.
+/// Inserts the item of this insertion into a queue of this size, after a deletion if the queue is full.
 fn inserts(rt: &(impl AllocGlobal + Abort), core: &mut QueueCore, size: u64, insertion: u64) {
     let seat = insertion % 64;
     if insertion >= size {

@@ -6,7 +6,7 @@ use fak_core::{CoreMove, Line, LineMark, QueueCall, QueueCore, RoomCall};
 use fak_model::Kind;
 use std::process::Abort;
 
-/// Finds that a call or a step was not refused.
+/// Checks that a call or a step was not refused.
 fn assert_made(rt: &impl Abort, made: bool, size: u64, seats: u64) {
     assert!(rt; made, "{size}, {seats}");
 }
@@ -51,7 +51,7 @@ fn queues_of_each_size(rt: HostRuntime) {
     }
 }
 
-/// Opens the room, and has each seat claim as much as one claim may where it fits.
+/// Opens the room, and has each seat claim as much as one claim may, if it fits.
 fn opens_room(rt: &(impl AllocGlobal + Abort), bound: u64, seats: u64) {
     let mut core = rooms::opened(rt, bound, seats);
     let amount = bound.max(1).min(1_024);

@@ -10,7 +10,7 @@ use std::process::Abort;
 /// A seat with the call that it begins, or else with its next step.
 type Event = (u64, Option<QueueCall>);
 
-/// The insertion of these schedules, whose items tell nothing.
+/// The insertion of these schedules, whose items mean nothing.
 const INSERT: QueueCall = QueueCall::Insert(7);
 
 /// Whether this is the last line of its call.
@@ -30,7 +30,7 @@ fn ends(line: Line) -> bool {
     )
 }
 
-/// Makes the next step of a seat: nothing where it is idle.
+/// Takes the next step of a seat: `None` if it is idle.
 fn step(rt: &(impl AllocGlobal + Abort), core: &mut QueueCore, seat: u64) -> Option<Line> {
     match core.advance(rt.alloc(), seat) {
         Ok(line) => Some(line),
@@ -41,7 +41,7 @@ fn step(rt: &(impl AllocGlobal + Abort), core: &mut QueueCore, seat: u64) -> Opt
     }
 }
 
-/// Begins a call, and makes this many steps, with which it does not end.
+/// Begins a call, and takes this many steps, with which it does not end.
 fn goes_on(
     rt: &(impl AllocGlobal + Abort),
     core: &mut QueueCore,
@@ -76,7 +76,7 @@ fn steps_in(events: &[Event], seat: u64) -> bool {
     false
 }
 
-/// Begins this call, or makes a step with which no call of seat 0 ends.
+/// Begins this call, or takes a step with which no call of seat 0 ends.
 fn plays(rt: &(impl AllocGlobal + Abort), core: &mut QueueCore, (seat, call): Event) {
     match call {
         Some(call) => begins(rt, core, seat, call),
@@ -227,7 +227,7 @@ fn calls(
     }
 }
 
-/// Finds that the last seat with a ticket of cell 0 ends in this round, where an earlier seat steps later.
+/// Checks that the last seat with a ticket of cell 0 ends in this round, if an earlier seat steps later.
 fn last_ends_in(rt: &(impl AllocGlobal + Abort), size: u64, letters: &str, rounds: usize) {
     let mut core = opened(rt, size, 64);
     let mut seats = 0..size;
@@ -239,7 +239,7 @@ fn last_ends_in(rt: &(impl AllocGlobal + Abort), size: u64, letters: &str, round
     assert_equal(rt, found, Some(rounds));
 }
 
-/// A seat for each cell of the queue holds a ticket of cell 0, each for the turn after that of the seat before: where an
+/// A seat for each cell of the queue holds a ticket of cell 0, each for the turn after that of the seat before. If an
 /// earlier seat steps later in each round, the last of them needs all of the 3 size + 1 rounds that the law allows.
 #[test]
 fn seats_of_one_cell_need_three_rounds_each(rt: HostRuntime) {
@@ -276,7 +276,7 @@ fn a_stopped_seat_holds_up_its_cell_alone(rt: HostRuntime) {
     assert_equal(&rt, rounds_to_end(&rt, &mut core, 5, 3, 13), Some(6));
 }
 
-/// Has all 64 seats begin this call and pass their test, and finds that the queue is at rest after six rounds.
+/// Has all 64 seats begin this call and pass their test, and checks that the queue is at rest after six rounds.
 fn all_claim(rt: &(impl AllocGlobal + Abort), core: &mut QueueCore, call: QueueCall) {
     for seat in 0..64 {
         begins(rt, core, seat, call);
@@ -285,7 +285,7 @@ fn all_claim(rt: &(impl AllocGlobal + Abort), core: &mut QueueCore, call: QueueC
     assert_equal(rt, rounds_to_rest(rt, core, 64, 100), Some(6));
 }
 
-/// Finds that of the insertions of all seats and of their deletions this many are granted and withdrawn.
+/// Checks that of the insertions of all seats and of their deletions this many are granted and withdrawn.
 fn comes_to_rest(rt: &(impl AllocGlobal + Abort), size: u64, granted: usize, withdrawn: usize) {
     let mut core = opened(rt, size, 64);
     all_claim(rt, &mut core, INSERT);
@@ -296,8 +296,8 @@ fn comes_to_rest(rt: &(impl AllocGlobal + Abort), size: u64, granted: usize, wit
     assert_equal(rt, marks_of(&core, Kind::BackOut), withdrawn);
 }
 
-/// All 64 seats pass their test before any adds: as many claims are granted as fit, and the others are withdrawn. Of the
-/// seven steps of a granted call six are left.
+/// All 64 seats pass their test before any adds: as many claims are granted as fit, and the others are withdrawn. Six of the
+/// seven steps of a granted call are left.
 #[test]
 fn a_queue_that_every_seat_claims_comes_to_rest(rt: HostRuntime) {
     comes_to_rest(&rt, 1, 1, 63);

@@ -41,7 +41,7 @@ pub(crate) fn opened(rt: &(impl AllocGlobal + Abort), size: u64, seats: u64) -> 
         .expect(rt, "a queue")
 }
 
-/// A call that a seat begins, and the steps that are made after it.
+/// A call that a seat begins, and the steps that it then takes.
 pub(crate) type Stretch<'a> = (u64, QueueCall, &'a [Step]);
 
 /// Opens a queue and plays a schedule on it, whose steps are to be these.

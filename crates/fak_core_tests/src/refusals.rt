@@ -7,7 +7,7 @@ use fak_core::{CoreFault, CoreMove, Line, LineMark, QueueCall, QueueCore, RoomCa
 use std::fmt::Debug;
 use std::process::Abort;
 
-/// Finds that a call or a step was refused so, and left the core as it was before.
+/// Checks that a call or a step was refused so, and left the core as it was before.
 fn assert_refused<R: Drop, C: PartialEq + Debug>(
     rt: &impl Abort,
     found: Result<R, CoreFault>,
@@ -29,7 +29,7 @@ fn claimed_queue(rt: &(impl AllocGlobal + Abort)) -> QueueCore {
     core
 }
 
-/// Finds that a queue refuses what seats may not do, and stays as it was before.
+/// Checks that a queue refuses what seats may not do, and stays as it was before.
 fn refuses_calls(rt: &(impl AllocGlobal + Abort), core: &mut QueueCore, before: &QueueCore) {
     for call in [QueueCall::Insert(8), QueueCall::Delete, QueueCall::Shut] {
         let found = core.begin(2, call);
@@ -60,7 +60,7 @@ fn claimed_room(rt: &(impl AllocGlobal + Abort)) -> RoomCore {
     core
 }
 
-/// Finds that a room refuses what seats may not do, and stays as it was before.
+/// Checks that a room refuses what seats may not do, and stays as it was before.
 fn refuses_claims(rt: &(impl AllocGlobal + Abort), core: &mut RoomCore, before: &RoomCore) {
     for (seat, call, fault) in [
         (2, RoomCall::Tir(1), CoreFault::NoSuchSeat),
@@ -87,7 +87,7 @@ fn a_refused_call_leaves_a_room_as_it_was(rt: HostRuntime) {
     assert_equal(&rt, core == before, false);
 }
 
-/// Finds that seat 0 may neither claim nor give back, as it is in a call.
+/// Checks that seat 0 may neither claim nor give back, as it is in a call.
 fn claims_nothing(rt: &impl Abort, core: &mut RoomCore) {
     for call in [RoomCall::Tir(1), RoomCall::Release(1), RoomCall::Release(4)] {
         assert_equal(rt, core.begin(0, call), Err(CoreFault::MidCall));
@@ -95,7 +95,7 @@ fn claims_nothing(rt: &impl Abort, core: &mut RoomCore) {
 }
 
 /// The call of seat 0 is still to test, to add, to withdraw or to give back, and it holds 3: whatever it asks for
-/// meanwhile is refused as that of a seat in mid-call, also an amount that it does not hold.
+/// meanwhile is refused as that of a seat during a call, also an amount that it does not hold.
 #[test]
 fn a_room_seat_in_mid_call_begins_nothing(rt: HostRuntime) {
     let cases: [(RoomCall, &[u64]); 4] = [
@@ -113,7 +113,7 @@ fn a_room_seat_in_mid_call_begins_nothing(rt: HostRuntime) {
     }
 }
 
-/// A queue of one cell with two seats in this call, and with one item where they delete.
+/// A queue of one cell with two seats in this call, and with one item if they delete.
 fn called_queue(rt: &(impl AllocGlobal + Abort), call: QueueCall) -> QueueCore {
     let mut core = opened(rt, 1, 2);
     if matches!(call, QueueCall::Delete) {
@@ -125,14 +125,14 @@ fn called_queue(rt: &(impl AllocGlobal + Abort), call: QueueCall) -> QueueCore {
     core
 }
 
-/// Finds that seat 0 may begin no call, as it is in one.
+/// Checks that seat 0 may begin no call, as it is in one.
 fn begins_nothing(rt: &impl Abort, core: &mut QueueCore) {
     for call in [QueueCall::Insert(8), QueueCall::Delete, QueueCall::Shut] {
         assert_equal(rt, core.begin(0, call), Err(CoreFault::MidCall));
     }
 }
 
-/// Calls of two seats, the steps that they make, and the step that seat 0 is then at.
+/// Calls of two seats, the steps that they take, and the step that seat 0 is then at.
 const MID_CALLS: &[(QueueCall, &[u64], CoreMove)] = &[
     (QueueCall::Insert(7), &[], CoreMove::TestUp),
     (QueueCall::Insert(7), &[0], CoreMove::AddUp),
@@ -153,7 +153,7 @@ const MID_CALLS: &[(QueueCall, &[u64], CoreMove)] = &[
     (QueueCall::Shut, &[], CoreMove::Shut),
 ];
 
-/// Finds that seat 0, after these steps of a call, may begin none, and that its next step is this one.
+/// Checks that seat 0, after these steps of a call, may begin none, and that its next step is this one.
 fn stays_in_call(rt: &(impl AllocGlobal + Abort), call: QueueCall, seats: &[u64], next: CoreMove) {
     let mut core = called_queue(rt, call);
     advances(rt, &mut core, seats);
@@ -170,7 +170,7 @@ fn a_queue_seat_in_mid_call_begins_nothing(rt: HostRuntime) {
     }
 }
 
-/// A queue of one cell with one seat, opened at a second try where there was no memory.
+/// A queue of one cell with one seat, opened at a second try if there was no memory.
 fn reopened(rt: &(impl AllocGlobal + Abort)) -> QueueCore {
     match QueueCore::new(rt.alloc(), 1, 1) {
         Ok(core) => core,
@@ -181,7 +181,7 @@ fn reopened(rt: &(impl AllocGlobal + Abort)) -> QueueCore {
     }
 }
 
-/// The next step of a core, tried once more where there was no memory: then nothing has changed.
+/// The next step of a core, tried once more if there was no memory: then nothing has changed.
 fn insists(
     rt: &(impl AllocGlobal + Abort),
     core: &mut QueueCore,
@@ -196,7 +196,7 @@ fn insists(
     core.advance(rt.alloc(), seat)
 }
 
-/// Makes this step on both cores, each of which tries it once more where there was no memory.
+/// Takes this step on both cores, each of which tries it once more if there was no memory.
 fn makes_both(
     rt: &(impl AllocGlobal + Abort),
     core: &mut QueueCore,
@@ -216,7 +216,7 @@ fn makes_both(
     assert_equal(rt, &*core, &*twin);
 }
 
-/// Begins a call of seat 0 on both cores, and makes these steps of it.
+/// Begins a call of seat 0 on both cores, and takes these steps of it.
 fn plays_both(
     rt: &(impl AllocGlobal + Abort),
     core: &mut QueueCore,

@@ -1,4 +1,4 @@
--- The first wrong value of a list is the first wrong one of what the values stand for.
+-- The first wrong value of a list is the first wrong one of what the values represent.
 use Rattle.std.proofs.Common.{◌≡◌, ◌∙◌, ℕ, ◌+◌, Bool, cond, not, List, [], ◌∷◌, map, Option, Some, refl, ap}
 use Rattle.std.specs.List.{position, prefix_len}
 use Rattle.std.proofs.lemmas.List.{length-map}

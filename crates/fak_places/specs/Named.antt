@@ -1,4 +1,4 @@
--- What the readers answer where the name of an operation or a step is known.
+-- What the readers return if the name of an operation or a step is known.
 use Rattle.std.specs.Prelude.{ℕ, ◌==◌, ◌&&◌, Bool, true, false, List, codes, Option, Some, None, is_some, nat_le, Result, if◌then◌else◌}
 use Rattle.std.specs.Str.{bytes_eq}
 use Rattle.serde_json.specs.Data.{Data}
@@ -35,7 +35,7 @@ step_named limits name size text number =
 abbrev pub step_in : Limits → Data → Result StepOf TextFault
 step_in limits d = step_from (record { version = limits.version; semaphores = limits.semaphores; programs = limits.programs }) 0 d
 
--- whether the mark of this name bears a number; none where no mark has the name
+-- whether the mark of this name bears a number; none if no mark has the name
 unfoldable pub bears_named : List ℕ → Option Bool
 bears_named name =
     if bytes_eq name (codes "claim-in") then Some false else (

@@ -11,7 +11,7 @@ use Rattle.fak_text.specs.declared.fault.TextFault.TheVariants as faults
 use Rattle.fak_places.specs.declared.place_of.Format.{Format}
 use Rattle.fak_places.specs.declared.place_of.Format.TheVariants as formats
 
--- the first fault of an input, none where it is a value of its format
+-- the first fault of an input, none if it is a value of its format
 abbrev pub fault_in : Format → List ℕ → Option TextFault
 fault_in formats.Schedule bytes = result_err (schedule_in bytes)
 fault_in formats.History bytes = result_err (history_in bytes)

@@ -1,4 +1,4 @@
--- Where in a key's array the first wrong value is.
+-- The place of the first wrong value in a key's array.
 use Rattle.std.specs.Prelude.{◌≡◌, ℕ, Bool, List, Option, Some, None, unwrap_or, option_and_then}
 use Rattle.std.specs.List.{position}
 use Rattle.serde_json.specs.Data.{Data, Items, no_items}
@@ -9,7 +9,7 @@ use Rattle.fak_text.specs.declared.fault.Field.{Field}
 use Rattle.fak_places.specs.declared.asked.Spot.{Spot}
 use Rattle.fak_places.specs.declared.asked.Spot.TheVariants.{One, Two, Three}
 
--- the elements of the array of a key; none where it is no array
+-- the elements of the array of a key; none if it is no array
 abbrev pub array_of : Field → Data → Items
 array_of f d = unwrap_or (option_and_then as_array (get (name_of f) d)) no_items
 

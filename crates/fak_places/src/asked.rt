@@ -1,4 +1,4 @@
-//! What is asked of a value, and where in its key's array the value is.
+//! What is asked of a value, and the value's place in its key's array.
 
 ghost use Rattle.std.specs.Prelude.{◌≡◌};
 ghost use Rattle.fak_places.specs.Spots.{spot_in_item, spot_in_step};
@@ -17,7 +17,7 @@ pub enum Asked {
     Within(&'static str, u64, u64),
 }
 
-/// Where a value is.
+/// The place of a value.
 #[derive(Clone, Copy, Debug, PartialEq, Eq)]
 pub enum Spot {
     /// This line and column of a text that is not JSON, both from 1.
@@ -44,7 +44,7 @@ impl fmt::Display for Spot {
     }
 }
 
-/// Where a value is wrong, and what is asked there.
+/// The place of a wrong value, and what is asked there.
 #[derive(Clone, Copy, Debug, PartialEq, Eq)]
 pub struct Hint {
     pub spot: Spot,

@@ -1,4 +1,4 @@
-//! Where a text is not JSON.
+//! The place at which a text stops being JSON.
 
 use crate::asked::{Asked, Hint, Spot};
 use serde_json::Error;
@@ -11,13 +11,13 @@ const NEXT: &'static str = "a comma, a colon, a value, a closing bracket or the 
 
 const NUMBER: &'static str = "before this column, a number that a double can hold";
 
-/// Whether a text stops being JSON behind a number that is too large. The crate says so in its message alone.
+/// Whether a text stops being JSON after a number that is too large. Only the crate's message says so.
 fn is_of_number(alloc: Global, error: &Error) -> Result<bool, AllocError> {
     let message = format!(in alloc; "{error}")?;
     Ok(message.as_str().starts_with("number"))
 }
 
-/// Where and how a text stops being JSON, and the character that is there.
+/// The place at which a text stops being JSON, how it does, and the character that is there.
 pub(crate) fn hint_of_text(
     alloc: Global,
     bytes: &[u8],
@@ -52,7 +52,7 @@ fn byte_at(bytes: &[u8], line: usize, column: usize) -> Option<u8> {
     None
 }
 
-/// The character that is where a text stops being JSON.
+/// The character at which a text stops being JSON.
 fn found_in_text(alloc: Global, bytes: &[u8], error: &Error) -> Result<Option<String>, AllocError> {
     match byte_at(bytes, error.line(), error.column()) {
         Some(byte) if byte.is_ascii_graphic() => Ok(Some(format!(in alloc; "{}", byte as char)?)),

@@ -1,4 +1,4 @@
-//! Where an input is wrong: the place of its first fault, as the readers of `fak_text` find it, and what is asked there.
+//! The place at which an input is wrong: that of its first fault, as the readers of `fak_text` find it, and what is asked there.
 #![tactic(auto)]
 
 mod asked;

@@ -16,7 +16,7 @@ const LAST_SEAT: u64 = 63;
 const NAMES: &'static str =
     "a mark is claim-in, over-in, back-in, no-room, put, fill, end-in, claim-out, over-out, back-out, no-item, got, take, end-out, close, closed or late-in";
 
-/// Whether the mark of this name bears a number; none where no mark has the name.
+/// Whether the mark of this name bears a number; none if no mark has the name.
 #[tactic(auto, unfolding(crate::specs::Named::bears_named))]
 fn bears(name: &str) -> Option<bool>
     ensures { result ≡ bears_named name.now }

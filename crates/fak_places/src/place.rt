@@ -16,7 +16,7 @@ pub struct Place {
     pub fault: TextFault,
     /// The key whose value is at fault, or the whole input.
     pub key: Field,
-    /// Where in the key's value, and what is asked there.
+    /// The place in the key's value, and what is asked there.
     pub hint: Hint,
     /// What is there, if something is.
     pub found: Option<String>,

@@ -206,7 +206,7 @@ fn place_of_fault(
     }
 }
 
-/// The place of an input's first fault; none exactly where `fak_text` reads the input.
+/// The place of an input's first fault; `None` if and only if `fak_text` reads the input.
 ///
 /// # Errors
 ///

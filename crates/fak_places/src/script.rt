@@ -19,7 +19,7 @@ use serde_json::Value;
 
 const MOST_START: u64 = 1_000_000;
 
-/// The whole number of a key, 0 where there is none.
+/// The whole number of a key, 0 if there is none.
 fn number_of_key(value: &Value, field: Field) -> u64 {
     match value.get(field.name()) {
         Some(found) => found.as_u64().unwrap_or(0),

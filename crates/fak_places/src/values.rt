@@ -16,7 +16,7 @@ pub(crate) fn count(values: &[Value]) -> usize
     values.len()
 }
 
-/// The elements of the array of a key; none where it is no array.
+/// The elements of the array of a key; none if it is no array.
 pub(crate) fn elements_of_key(value: &Value, field: Field) -> &[Value]
     ensures { items_view result.now ≡ array_of field (view value.now) }
 {

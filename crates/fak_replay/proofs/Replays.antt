@@ -17,7 +17,7 @@ row_appended text old machine next row action rest is more =
     ∙ append_assoc old (text_of_row row ++ 10 ∷ []) (text_of_rows (rows_from next rest))
     ∙ ap (λ t. old ++ t) (sym (row_first machine next row action rest is))
 
--- of the steps that are left one is made
+-- one of the steps that are left is done
 pub steps_left : (n i seat : ℕ) (rest : List Action) → i < n → replicate (n - i) (steps seat) ++ rest ≡ steps seat ∷ (replicate (n - (i + 1)) (steps seat) ++ rest)
 steps_left n i seat rest below =
     let is : n - i ≡ suc (n - (i + 1)) = omega (arith, below) in

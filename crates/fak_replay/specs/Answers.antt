@@ -1,4 +1,4 @@
--- What the program answers to an input.
+-- What the program replies to an input.
 use Rattle.std.specs.Prelude.{◌≡◌, ◌<◌, ◌≤◌, ◌⊎◌, ℕ, ◌++◌, ◌∷◌, [], codes, decimal, length, List, Option, Result, Ok, Err}
 use Rattle.std.specs.Io.KnownBytes.{Consumes, IsAtEnd}
 use Rattle.fak_model.specs.Checker.{FirstFault}

@@ -1,4 +1,4 @@
--- What the program says where it gives no answer.
+-- What the program says if it has no answer.
 use Rattle.std.specs.Prelude.{ℕ}
 use Rattle.fak_run.specs.declared.fault.Fault.{Fault}
 use Rattle.fak_run.specs.declared.fault.Fault.TheVariants as run
@@ -7,7 +7,7 @@ use Rattle.fak_text.specs.declared.fault.TextFault.TheVariants as text
 use Rattle.fak_replay.specs.declared.fault.MainFault.{MainFault}
 use Rattle.fak_replay.specs.declared.fault.MainFault.TheVariants.{Usage, Text, Kernel, Memory, Read, Write}
 
--- the program's fault where an input can't be read
+-- the program's fault if an input can't be read
 abbrev pub fault_of : TextFault → MainFault
 fault_of text.Memory = Memory
 fault_of text.NotJson = Text text.NotJson
@@ -15,7 +15,7 @@ fault_of (text.Missing field) = Text (text.Missing field)
 fault_of (text.Range field) = Text (text.Range field)
 fault_of (text.UnknownOp i) = Text (text.UnknownOp i)
 
--- the program's fault where a script's run fails
+-- the program's fault if a script's run fails
 abbrev pub fault_of_run : Fault → MainFault
 fault_of_run run.Memory = Memory
 fault_of_run run.Worn = Kernel run.Worn

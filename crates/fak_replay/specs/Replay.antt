@@ -28,7 +28,7 @@ use Rattle.fak_replay.specs.declared.row.Row.TheVariants.{Moved, Refused}
 
 -- ---- actions
 
--- one thing that a seat does: it makes a step, or begins a call
+-- one thing that a seat does: it takes a step, or begins a call
 pub data Action : Type 0 where
   steps : ℕ → Action
   begins : ℕ → Act → Action
@@ -69,7 +69,7 @@ abbrev pub queue_begun : QueueFields → ℕ → Result (Phase ℕ) CoreFault �
 queue_begun f seat (Ok phase) = record { machine = machines.Queue (record f { phases = slice_set f.phases seat phase }); rows = [] }
 queue_begun f seat (Err fault) = record { machine = machines.Queue f; rows = Refused seat fault ∷ [] }
 
--- a call begins; a schedule has calls on its own object alone, and any other is passed over
+-- a call begins; a schedule has only calls on its own object, and any other is passed over
 abbrev pub begin_outcome : Machine → ℕ → Act → ReplayOutcome
 begin_outcome (machines.Room s) seat (acts.Room call) = room_begun s seat (room.begin_of s seat call)
 begin_outcome (machines.Queue f) seat (acts.Queue call) = queue_begun f seat (queue.begin_of f seat call)
@@ -90,7 +90,7 @@ abbrev pub IsShownRow : Row → Type 0
 IsShownRow (Moved line) = Unit {0}
 IsShownRow (Refused seat fault) = IsRefusal fault
 
--- a step that a core refuses makes a row, unless there was no memory for its mark
+-- a step that a core refuses has a row, unless there was no memory for its mark
 abbrev pub IsRefusedStep : ℕ → CoreFault → Result Row MainFault → Type 0
 IsRefusedStep seat core_faults.Memory result = result ≡ Err Memory
 IsRefusedStep seat core_faults.BadSize result = result ≡ Ok (Refused seat core_faults.BadSize)

@@ -3,6 +3,6 @@ use Rattle.std.specs.Prelude.{◌≡◌, [], ◌∷◌, ◌++◌, IfSome, string
 use Rattle.fak_replay.specs.Replay.{text_of_row}
 use Rattle.fak_replay.specs.declared.trace.Trace.{Trace}
 
--- where a last row is kept, its line is: the row's text and a newline
+-- if a last row is kept, its line is: the row's text and a newline
 abbrev pub KeepsItsLine : Trace → Type 0
 KeepsItsLine trace = IfSome trace.last (λ row. string_bytes trace.line ≡ text_of_row row ++ 10 ∷ [])

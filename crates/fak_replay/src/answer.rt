@@ -1,4 +1,4 @@
-//! What a command answers.
+//! The answer of a command.
 
 /// The exit status, and the text to write.
 #[derive(Debug, PartialEq, Eq, Drop)]

@@ -9,12 +9,12 @@ use fak_model::first_fault;
 use fak_text::read_history;
 use std::alloc::Global;
 
-/// Judges the history that the input is: `legal` with status 0, or `fault at I` with status 3, where I is the index of
+/// Judges the history that the input is: `legal` with status 0, or `fault at I` with status 3. I is the index of
 /// the first mark with which the history stops being legal.
 ///
 /// # Errors
 ///
-/// The input's first fault, or `Memory`. Of more than 1,048,576 bytes it is `Range(Field::Input)`, whatever memory there is.
+/// The input's first fault, or `Memory`. For more than 1,048,576 bytes it is `Range(Field::Input)`, even if memory runs out.
 pub fn check(alloc: Global, input: &[u8]) -> Result<Answer, MainFault>
     ensures gives { GivesAnswer (IsReply Check input.now) result }
     ensures long { RefusesLong input.now result }

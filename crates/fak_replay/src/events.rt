@@ -1,4 +1,4 @@
-//! The events of a schedule, made one after the other on its core.
+//! The events of a schedule, one after the other on its core.
 
 ghost use Rattle.std.specs.Prelude.{◌≡◌, ◌++◌, [], ◌∷◌, All, IfErr, IfOk, IfSome, List, MatchResult, None, Ok, OnOk, Some, replicate, string_bytes};
 ghost use Rattle.std.specs.List.{flat_map};
@@ -50,7 +50,7 @@ fn row_of_refusal(seat: u64, begun: Result<(), CoreFault>) -> Option<Row>
     }
 }
 
-/// Begins a call of a seat; a row where it is refused.
+/// Begins a call of a seat. Returns a row if the call is refused.
 fn begin(machine: &mut Machine, seat: u64, act: Act) -> Option<Row>
     requires { IsActInRange act }
     ensures outcome { outcome_of machine.old (begins seat act)

@@ -1,4 +1,4 @@
-//! Why the program gave no answer.
+//! Why the program has no answer.
 
 ghost use Rattle.std.specs.Prelude.{◌≡◌};
 ghost use Rattle.fak_replay.specs.Faults.{fault_of, fault_of_run, status_of};
@@ -9,7 +9,7 @@ use fak_text::TextFault;
 use std::alloc::{AllocError, AllocFailed};
 use thiserror::Error;
 
-/// Why the program gave no answer. Its text is one line on standard error.
+/// Why the program has no answer. Its text is one line on standard error.
 #[derive(Clone, Copy, Debug, PartialEq, Eq, Error)]
 pub enum MainFault {
     /// The words of the command line are no command.

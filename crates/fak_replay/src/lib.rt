@@ -1,5 +1,5 @@
-//! The commands that call no shared object, from bytes to bytes: `replay` makes the atomic steps of a schedule, and `check` judges a
-//! recorded history. What a command answers, and why there is no answer, is declared here for all of them.
+//! The commands that call no shared object, from bytes to bytes: `replay` takes the atomic steps of a schedule, and `check` judges a
+//! recorded history. The answer of a command, and the faults in place of an answer, are declared here for all of them.
 #![tactic(auto)]
 
 pub mod answer;

@@ -34,7 +34,7 @@ fn new_machine(alloc: Global, object: Object, seats: u64) -> Result<Machine, Mai
 ///
 /// # Errors
 ///
-/// The input's first fault, or `Memory`. Of more than 1,048,576 bytes it is `Range(Field::Input)`, whatever memory there is.
+/// The input's first fault, or `Memory`. For more than 1,048,576 bytes it is `Range(Field::Input)`, even if memory runs out.
 pub fn replay(alloc: Global, input: &[u8]) -> Result<Answer, MainFault>
     ensures gives { GivesAnswer (IsReply Replay input.now) result }
     ensures long { RefusesLong input.now result }

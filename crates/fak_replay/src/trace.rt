@@ -11,7 +11,7 @@ use fak_core::Line;
 use fak_text::{append_line, append_refusal};
 use std::alloc::Global;
 
-/// The text of a replay so far. The last row and its line are kept, since a seat that waits or is refused makes the
+/// The text of a replay so far. The last row and its line are kept, since a seat that waits or is refused has the
 /// same row at each step.
 #[derive(Drop)]
 pub(crate) struct Trace {
@@ -20,7 +20,7 @@ pub(crate) struct Trace {
     line: String,
 }
 
-/// Whether the rows are surely the same: rows with marks, which no core makes twice in a row, are not compared.
+/// Whether the rows are surely the same. Rows with marks are not compared, since no core has one twice in a row.
 fn is_repeated(last: Row, row: Row) -> bool
     ensures { IsTrue result → last ≡ row }
 {

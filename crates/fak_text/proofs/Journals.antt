@@ -20,7 +20,7 @@ FitsFrom-push files n (s ∷ ss) (m ∷ ms) step note fits at allowed =
 pub length-push : (notes : List NoteOf) (note : NoteOf) → length (notes ++ note ∷ []) ≡ length notes + 1
 length-push notes note = grind (arith, common_steps)
 
--- a process that has made its next step still fits its script
+-- a process that has done its next step still fits its script
 pub note_fits : (script : ScriptOf) (process : Process) (step : StepOf) (note : NoteOf)
     → FitsScript script process → StandsAt script process step → Allows script.files (child_count process.journal) step note → FitsScript script (after_note process note)
 note_fits script process step note f at allowed = record {
@@ -35,6 +35,6 @@ FitsFrom-length files n steps [] fits = omega arith
 FitsFrom-length files n [] (m ∷ ms) fits = absurd fits
 FitsFrom-length files n (s ∷ ss) (m ∷ ms) fits = omega (arith, FitsFrom-length files (n + births_of m) ss ms fits.1)
 
--- a process that fits its script stands in its program, or at the end
+-- a process that fits its script is in its program, or at the end
 pub position_is_in_program : (script : ScriptOf) (process : Process) → FitsScript script process → process.position ≤ length (steps_of script process.program)
 position_is_in_program script process f = omega (arith, f.position, FitsFrom-length script.files 0 (steps_of script process.program) process.journal f.fits)

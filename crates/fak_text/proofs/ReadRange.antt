@@ -10,7 +10,7 @@ pub parts_of : {A B : Type 0} (r : Result A TextFault) (f : A → Result B TextF
 parts_of (Ok x) f y e = (x, refl, e)
 parts_of (Err fault) f y e = absurd (cc)
 
--- a value that stands under a test has passed it
+-- a value that is read under a test has passed it
 pub passed : {A : Type 0} (b : Bool) (x y : A) (fault : TextFault) → (if b then Ok x else Err fault) ≡ Ok y → (b ≡ true) × (x ≡ y)
 passed true x y fault e = (refl, cc)
 passed false x y fault e = absurd (cc)
@@ -80,11 +80,11 @@ pub number_of_key_is_within : (f : Field) (low high : ℕ) (d : Data) (n : ℕ) 
 unfolding number_of_key
 number_of_key_is_within f low high d n e = grind (arith, common_steps, parts_of, value_of_key, number_within, whole_number, within_is_within)
 
--- a value that stands under a test holds where both ways do
+-- a value that is read under a test holds if both ways do
 pub either_way : {A : Type 0} (P : A → Type 0) (b : Bool) (left right : Result A TextFault) (x : A) → ((left ≡ Ok x) → P x) → ((right ≡ Ok x) → P x) → (if b then left else right) ≡ Ok x → P x
 either_way P true left right x from_left from_right e = from_left e
 either_way P false left right x from_left from_right e = from_right e
 
--- a value that is made of another holds where it does of what it is made
+-- a value that is made of another holds if that one does
 pub made_of : {A B : Type 0} (P : B → Type 0) (r : Result A TextFault) (make : A → B) (y : B) → ((x : A) → r ≡ Ok x → P (make x)) → (r >>= λ x. Ok (make x)) ≡ Ok y → P y
 made_of P r make y holds e = grind (arith, common_steps, parts_of)

@@ -38,7 +38,7 @@ op_is_in_version version (Some o) op fault e = by_test (has_op version o) refl e
       subst (λ (p : StepOp). has_op version p ≡ true) same h
   by_test false h k = absurd (cc)
 
--- a step that is made of an argument in range
+-- a step with an argument in range
 step_of_argument : {A : Type 0} (limits : StepLimits) (r : Result A TextFault) (make : A → StepOf) (step : StepOf)
     → ((x : A) → r ≡ Ok x → IsStepInRange limits (make x)) → (r >>= λ x. Ok (make x)) ≡ Ok step → IsStepInRange limits step
 step_of_argument limits r make step ranges e = made_of (λ s. IsStepInRange limits s) r make step ranges e

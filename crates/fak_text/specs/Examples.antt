@@ -18,11 +18,11 @@ LineReads seat step found mark text = text_of_line (record { seat = seat; step =
 abbrev pub RefusalReads : ℕ → CoreFault → List ℕ → Type 0
 RefusalReads seat fault text = text_of_refusal seat fault ≡ text
 
--- how lines tell these marks of a room
+-- how lines show these marks of a room
 abbrev pub room_marks : List RoomKind → List (List ℕ)
 room_marks kinds = map (λ kind. mark_or_dash (Some (marks.Room kind))) kinds
 
--- how lines tell these marks of a queue
+-- how lines show these marks of a queue
 abbrev pub queue_marks : List (Kind ℕ) → List (List ℕ)
 queue_marks kinds = map (λ kind. mark_or_dash (Some (marks.Queue kind))) kinds
 

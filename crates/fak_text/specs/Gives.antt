@@ -1,4 +1,4 @@
--- What a reader answers, beside what it ought to answer.
+-- What a reader returns, compared with what it should return.
 use Rattle.std.specs.Prelude.{◌≡◌, Result, Ok, Err}
 use Rattle.fak_text.specs.declared.fault.TextFault.{TextFault}
 use Rattle.fak_text.specs.declared.fault.TextFault.TheVariants as faults
@@ -17,7 +17,7 @@ Fails (faults.Missing f) reading = reading ≡ Err (faults.Missing f)
 Fails (faults.Range f) reading = reading ≡ Err (faults.Range f)
 Fails (faults.UnknownOp i) reading = reading ≡ Err (faults.UnknownOp i)
 
--- what a function answered, seen by `plain`, is the reading, unless memory ran out
+-- what a function returned, seen by `plain`, is the reading, unless memory ran out
 abbrev pub Gives : {X Y : Type 0} → (X → Y) → Result X TextFault → Result Y TextFault → Type 0
 Gives plain (Ok x) reading = reading ≡ Ok (plain x)
 Gives plain (Err e) reading = Fails e reading

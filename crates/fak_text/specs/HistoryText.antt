@@ -23,18 +23,18 @@ pub record HistoryOf : Type 0 where
 abbrev pub history_of : History → HistoryOf
 history_of h = record { size = h.size; marks = h.marks.items }
 
--- every kind of mark, with this number where it bears one
+-- every kind of mark, with this number if it bears one
 abbrev pub kinds_with : ℕ → List (Kind ℕ)
 kinds_with n =
     kinds.ClaimIn ∷ kinds.OverIn ∷ kinds.BackIn ∷ kinds.NoRoom ∷ kinds.Put n ∷ kinds.Fill n ∷ kinds.EndIn
     ∷ kinds.ClaimOut ∷ kinds.OverOut ∷ kinds.BackOut ∷ kinds.NoItem ∷ kinds.Got n ∷ kinds.Take n ∷ kinds.EndOut
     ∷ kinds.Close ∷ kinds.Closed ∷ kinds.LateIn ∷ []
 
--- the kind of this name, with this number where it bears one
+-- the kind of this name, with this number if it bears one
 unfoldable pub kind_named : List ℕ → ℕ → Option (Kind ℕ)
 kind_named name n = find (λ kind. bytes_eq (kind_name kind) name) (kinds_with n)
 
--- a mark has three elements where it bears a number, and else two
+-- a mark has three elements if it bears a number, and else two
 abbrev pub is_complete : Option ℕ → ℕ → Option ℕ → Bool
 is_complete None size number = size == 2
 is_complete (Some n) size number = (size == 3) && is_some number

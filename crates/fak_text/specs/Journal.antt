@@ -2,7 +2,7 @@
 use Rattle.std.specs.Prelude.{◌≡◌, ℕ, ◌+◌, ◌<◌, List, [], ◌∷◌, ◌++◌, length, slice_get, Option, Some, IfSome}
 use Rattle.fak_text.specs.Script.{StepOf, say, yield, down, up, open_file, close_file, stat, spawn, shutdown, ScriptOf, steps_of}
 
--- a step that was made, with its result
+-- a step that was done, with its result
 pub data NoteOf : Type 0 where
   said : List ℕ → NoteOf
   yielded : NoteOf
@@ -28,11 +28,11 @@ pub record Process : Type 0 where
 abbrev pub new_process : List ℕ → ℕ → ℕ → Process
 new_process name program slot = record { name = name; program = program; slot = slot; position = 0; journal = [] }
 
--- the process once it has made a step, with this note of it
+-- the process once it has done a step, with this note of it
 abbrev pub after_note : Process → NoteOf → Process
 after_note process note = record process { position = process.position + 1; journal = process.journal ++ note ∷ [] }
 
--- the process stands before this step
+-- the next step of the process is this one
 abbrev pub StandsAt : ScriptOf → Process → StepOf → Type 0
 StandsAt script process step = slice_get (steps_of script process.program) process.position ≡ Some step
 
@@ -46,7 +46,7 @@ abbrev pub child_count : List NoteOf → ℕ
 child_count [] = 0
 child_count (note ∷ notes) = births_of note + child_count notes
 
--- the step allows this result, where there are this many files and the process has this many children before it
+-- the step allows this result, if there are this many files and the process has this many children before it
 abbrev pub Allows : ℕ → ℕ → StepOf → NoteOf → Type 0
 Allows files children (say text) (said t) = t ≡ text
 Allows files children yield yielded = Unit {0}
@@ -61,7 +61,7 @@ Allows files children (spawn p) no_slot = Unit {0}
 Allows files children shutdown shut_down = Unit {0}
 Allows files children _ _ = ⊥
 
--- the notes are one for each step of a prefix of the program, in order, where the process has this many children before
+-- the notes are one for each step of a prefix of the program, in order, if the process has this many children before
 abbrev pub FitsFrom : ℕ → ℕ → List StepOf → List NoteOf → Type 0
 FitsFrom files children steps [] = Unit {0}
 FitsFrom files children [] (note ∷ notes) = ⊥

@@ -23,7 +23,7 @@ abbrev pub uses_text : Option ℕ → List ℕ
 uses_text None = codes " none"
 uses_text (Some u) = codes " uses " ++ decimal u
 
--- the line of a note, where the name of a child with this number has this text
+-- the line of a note, if the name of a child with this number has this text
 abbrev pub text_of_note : (ℕ → List ℕ) → NoteOf → List ℕ
 text_of_note child_name (said text) = codes "say " ++ text
 text_of_note child_name yielded = codes "yield"

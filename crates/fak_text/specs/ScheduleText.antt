@@ -59,14 +59,14 @@ third size number = if size == 3 then value_or (Range fields.Events) number else
 abbrev pub third_within : ℕ → ℕ → ℕ → Option ℕ → Result ℕ TextFault
 third_within low high size number = if size == 3 then number_within fields.Events low high number else Err (Range fields.Events)
 
--- the number of steps, 1 where there is none
+-- the number of steps, 1 if there is none
 unfoldable pub steps_act : ℕ → Option ℕ → Result Act TextFault
 steps_act size number = if size == 2 then Ok (acts.Steps 1) else (third_within 1 64 size number >>= λ n. Ok (acts.Steps n))
 
 abbrev pub most_amount : ℕ
 most_amount = 1024
 
--- what the seat does, where the event has this many elements and this third one
+-- what the seat does, if the event has this many elements and this third one
 abbrev pub act_from : Op → ℕ → Option ℕ → Result Act TextFault
 act_from ops.Step size number = steps_act size number
 act_from ops.Tir size number = third_within 1 most_amount size number >>= λ d. Ok (acts.Room (room_calls.Tir d))

@@ -1,4 +1,4 @@
--- Scripts as plain data: where nothing is said of where they lie in memory. A text is its bytes.
+-- Scripts as plain data, without their place in memory. A text is its bytes.
 use Rattle.std.specs.Prelude.{◌≡◌, ℕ, ◌<◌, ◌≤◌, List, [], All, length, slice_get, Option, Some, None}
 use Rattle.fak_model.specs.Limits.{longest_stint}
 use Rattle.fak_text.specs.declared.steps.StepLimits.{StepLimits}
@@ -46,7 +46,7 @@ IsSayable text = (length text ≤ 80) × All (λ character. IsWithin 32 126 char
 abbrev pub most_inode : ℕ
 most_inode = 4294967296
 
--- a step that may stand in a script with these limits
+-- a step that a script with these limits may have
 abbrev pub IsStepInRange : StepLimits → StepOf → Type 0
 IsStepInRange limits (say text) = IsSayable text
 IsStepInRange limits yield = Unit {0}

@@ -26,7 +26,7 @@ abbrev pub stint_or_most : Option Data → Result ℕ TextFault
 stint_or_most None = Ok longest_stint
 stint_or_most (Some value) = number_within fields.Stint 1 longest_stint (whole_number value)
 
--- the stint, the greatest where the key is absent
+-- the stint, the greatest if the key is absent
 unfoldable pub stint_of_key : Data → Result ℕ TextFault
 stint_of_key d = stint_or_most (get (name_of fields.Stint) d)
 

@@ -1,4 +1,4 @@
--- Which steps and programs stand in a script's text, and which fault is their first.
+-- Which steps and programs a script's text has, and which fault is their first.
 use Rattle.std.specs.Prelude.{ℕ, ◌+◌, ◌==◌, ◌&&◌, Bool, true, List, length, codes, Option, Some, None, Result, Ok, Err, nat_le, if◌then◌else◌}
 use Rattle.std.specs.List.{list_all}
 use Rattle.std.specs.Str.{bytes_eq}
@@ -66,7 +66,7 @@ inode_argument size number = if size == 2 then number_within Programs 1 most_ino
 abbrev pub argument_below : ℕ → ℕ → Option ℕ → Result ℕ TextFault
 argument_below size bound number = if size == 2 then number_below Programs bound number else Err (Range Programs)
 
--- the step of an operation, where it has this many elements, and this text or this number for its second
+-- the step of an operation, if it has this many elements, and this text or this number for its second
 abbrev pub step_with : StepLimits → StepOp → ℕ → Option (List ℕ) → Option ℕ → Result StepOf TextFault
 step_with limits ops.Say size text number = said_text size text >>= λ t. Ok (say t)
 step_with limits ops.Yield size text number = lone_step yield size

@@ -1,4 +1,4 @@
--- The values that stand in an input of any format, and the first fault where they do not.
+-- The values of an input of any format, and the first fault if one is absent.
 use Rattle.std.specs.Prelude.{◌≡◌, ℕ, ◌+◌, ◌<◌, ◌&&◌, List, [], ◌∷◌, length, Option, Some, None, Result, Ok, Err, option_and_then, nat_lt, nat_le, if◌then◌else◌}
 use Rattle.std.specs.Str.{is_utf8}
 use Rattle.serde_json.specs.Data.{Data, Items, no_items, item}
@@ -12,7 +12,7 @@ use Rattle.fak_text.specs.declared.fault.Field.TheVariants.{Input}
 use Rattle.fak_text.specs.declared.fault.TextFault.{TextFault}
 use Rattle.fak_text.specs.declared.fault.TextFault.TheVariants.{NotJson, Missing, Range}
 
--- the value, or this fault where there is none
+-- the value, or this fault if there is none
 abbrev pub value_or : {A : Type 0} → TextFault → Option A → Result A TextFault
 value_or fault (Some x) = Ok x
 value_or fault None = Err fault
@@ -46,12 +46,12 @@ RefusesLong bytes reading = most_bytes < length bytes → reading ≡ Err (Range
 abbrev pub whole_number : Data → Option ℕ
 whole_number d = option_and_then as_u64 (as_number d)
 
--- the number where it is from low to high
+-- the number if it is from low to high
 abbrev pub number_within : Field → ℕ → ℕ → Option ℕ → Result ℕ TextFault
 number_within f low high None = Err (Range f)
 number_within f low high (Some n) = if nat_le low n && nat_le n high then Ok n else Err (Range f)
 
--- the number where it is below the bound
+-- the number if it is below the bound
 abbrev pub number_below : Field → ℕ → Option ℕ → Result ℕ TextFault
 number_below f bound None = Err (Range f)
 number_below f bound (Some n) = if nat_lt n bound then Ok n else Err (Range f)
@@ -87,7 +87,7 @@ elements_of_key f most d = do
 
 -- ---- elements one after the other
 
--- each element in order, read with a number that each element moves on; the first fault is the answer
+-- each element in order, read with a number that each element moves on; the first fault is the result
 unfoldable pub running_from : {A : Type 0} → (ℕ → Data → Result A TextFault) → (ℕ → A → ℕ) → ℕ → Items → Result (List A) TextFault
 running_from f next i no_items = Ok []
 running_from f next i (item d ds) = do

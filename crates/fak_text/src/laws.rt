@@ -26,7 +26,7 @@ pub fn a_new_process_fits()
     ensures { EachNewProcessFits }
 {}
 
-/// A process that fits its script still does when it has made its next step with a result that the step allows.
+/// A process that fits its script still does when it has done its next step with a result that the step allows.
 pub fn an_allowed_note_still_fits()
     ensures { EachAllowedNoteFits }
 {}
@@ -148,7 +148,7 @@ pub fn the_texts_of_journals_are_known()
     ensures first_name { (i : ℕ) → text_of_name (i ∷ []) ≡ decimal i }
 {}
 
-/// A journal has a line for each note, in order. What was said is told as it is, and a child by its name; any other note reads
+/// A journal has a line for each note, in order. What was said is shown as it is, and a child by its name; any other note reads
 /// alike in all journals. A name is its numbers with a dot between two.
 pub fn each_journal_has_its_lines()
     ensures order { (name : List ℕ) (note : NoteOf) (notes : List NoteOf) → text_of_journal name (note ∷ notes)

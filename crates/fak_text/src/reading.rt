@@ -1,4 +1,4 @@
-//! The readers of the input formats. Each answers the value that the input is, or its first fault.
+//! The readers of the input formats. Each returns the value that the input is, or its first fault.
 
 mod history;
 mod schedule;

@@ -14,7 +14,7 @@ pub enum Object {
 /// What a seat does.
 #[derive(Clone, Copy, Debug, PartialEq, Eq)]
 pub enum Act {
-    /// It makes this many steps, 1 to 64.
+    /// It takes this many steps, 1 to 64.
     Steps(u64),
     /// It begins a call on a room.
     Room(RoomCall),

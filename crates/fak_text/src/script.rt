@@ -7,7 +7,7 @@ ghost use Rattle.fak_text.specs.Views.{programs_of};
 use crate::steps::Step;
 use std::marker::Model;
 
-/// A script whose values are all in range. Only `read_script` makes one.
+/// A script whose values are all in range. Only `read_script` returns one.
 #[derive(Debug, Drop)]
 pub struct Script {
     pub(crate) version: u64,

@@ -23,7 +23,7 @@ pub enum Step {
     Shutdown,
 }
 
-/// A step that was made, with its result.
+/// A step that was done, with its result.
 #[derive(Debug, PartialEq, Eq, Drop)]
 pub enum Note {
     /// This text was said.

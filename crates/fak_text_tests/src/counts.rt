@@ -7,8 +7,8 @@ use fak_text::{Field, Script, Step, TextFault, read_script};
 use std::alloc::{AllocError, Global};
 use std::process::Abort;
 
-/// A list: where its length stands, its text before, one item, its text behind, how many items it may have, and the key
-/// at fault where it has more.
+/// A list: the place of its length, its text before, one item, its text after, how many items it may have, and the key
+/// at fault if it has more.
 pub(crate) type Row<'a> = (Place, &'a str, &'a str, &'a str, usize, Field);
 
 /// The text of the row with this many items.
@@ -20,13 +20,13 @@ pub(crate) fn text_of(
     with_many(rt, row.1, row.2, count, row.3)
 }
 
-/// Finds that the row is read with this many items, or refused.
+/// Checks that the row is read with this many items, or refused.
 pub(crate) fn has_count(rt: &(impl Abort + AllocGlobal), row: &Row<'_>, count: usize) {
     let of = (row.0, 0, row.4 as u64, row.5);
     has_number(rt, of, count as u64, text_of(rt, row, count), row.1);
 }
 
-/// Finds that the row is read with each count of items below this one, or refused.
+/// Checks that the row is read with each count of items below this one, or refused.
 fn has_each_count(rt: &(impl Abort + AllocGlobal), row: &Row<'_>, end: usize) {
     for count in 0..end {
         has_count(rt, row, count);
@@ -74,7 +74,7 @@ fn each_count_of_short_lists(rt: HostRuntime) {
     }
 }
 
-/// Finds that the row is read with as many items as each power of two, and refused beyond its bound.
+/// Checks that the row is read with as many items as each power of two, and refused beyond its bound.
 fn has_powers(rt: &(impl Abort + AllocGlobal), row: &Row<'_>) {
     for place in 0..14u32 {
         let count = 1usize << place;
@@ -87,14 +87,14 @@ fn has_powers(rt: &(impl Abort + AllocGlobal), row: &Row<'_>) {
     has_count(rt, row, row.4.saturating_add(1));
 }
 
-/// Finds that the row is read with the first multiples of a step, or refused.
+/// Checks that the row is read with the first multiples of a step, or refused.
 fn has_multiples(rt: &(impl Abort + AllocGlobal), row: &Row<'_>, step: usize, multiples: usize) {
     for multiple in 1..=multiples {
         has_count(rt, row, step.saturating_mul(multiple));
     }
 }
 
-/// Finds that the row is read with each count below the end, each power of two, and the first multiples of a step.
+/// Checks that the row is read with each count below the end, each power of two, and the first multiples of a step.
 fn has_counts(
     rt: &(impl Abort + AllocGlobal),
     row: &Row<'_>,
@@ -209,7 +209,7 @@ fn says(script: &Script, text: &[u8]) -> bool {
     }
 }
 
-/// Whether this text is said where it is read as the first step.
+/// Whether this text is said, if it is read as the first step.
 fn is_said(alloc: Global, input: &[u8], text: &[u8]) -> Result<bool, TextFault> {
     match read_script(alloc, input) {
         Ok(script) => Ok(says(&script, text)),
@@ -220,7 +220,7 @@ fn is_said(alloc: Global, input: &[u8], text: &[u8]) -> Result<bool, TextFault> 
 const BEFORE_SAID: &str =
     r#"{"version":1,"slots":1,"births":0,"quantum":1,"semaphores":[],"files":1,"programs":[[["say",""#;
 
-/// Finds that this text is said where it is written so, or refused where it may not be said.
+/// Checks that this text is said if it is written so, or refused if it may not be said.
 fn has_said(rt: &(impl Abort + AllocGlobal), written: &str, text: &[u8], may: bool) {
     let want = if may {
         Ok(true)

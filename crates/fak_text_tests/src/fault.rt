@@ -62,7 +62,7 @@ fn faults(alloc: Global, bytes: &[u8]) -> [Option<TextFault>; 3] {
     ]
 }
 
-/// Finds that each text has this fault, whatever it is read as.
+/// Checks that each text has this fault, whatever it is read as.
 fn have_fault(rt: &(impl Abort + AllocGlobal), texts: &[&str], fault: TextFault) {
     for &text in texts {
         holds_at(
@@ -114,7 +114,7 @@ fn nesting_is_read_to_depth_127(rt: HostRuntime) {
     holds_at(&rt, fault == Some(TextFault::NotJson), "127 lists");
 }
 
-/// Finds that this text behind 1,048,574 spaces has these faults.
+/// Checks that this text after 1,048,574 spaces has these faults.
 fn have_faults_behind(rt: &(impl Abort + AllocGlobal), text: &str, wanted: [Option<TextFault>; 3]) {
     let mut input = " ".repeat(rt.alloc(), 1_048_574).expect(rt, "memory");
     input.push_str(text).expect(rt, "memory");

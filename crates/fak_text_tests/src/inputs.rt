@@ -1,4 +1,4 @@
-//! What is read from texts, and where the first fault of each is.
+//! What is read from texts, and the place of the first fault of each.
 
 use fak_text::{Script, Step, TextFault, read_history, read_schedule, read_script};
 use std::alloc::{AllocError, Global};
@@ -22,7 +22,7 @@ impl Input {
         }
     }
 
-    /// The fault of a text, or that there was no memory to make it.
+    /// The fault of a text, or that there was no memory for it.
     pub fn fault_of(self, alloc: Global, made: Result<String, AllocError>) -> Option<TextFault> {
         match made {
             Ok(text) => self.fault(alloc, text.as_bytes()),
@@ -36,12 +36,12 @@ pub fn first_step(script: &Script) -> Option<&Step> {
     script.programs().first()?.first()
 }
 
-/// Finds that this holds, at this text.
+/// Checks that this holds, at this text.
 pub fn holds_at(rt: &impl Abort, holds: bool, text: &str) {
     assert!(rt; holds, "at {text}");
 }
 
-/// Finds that a text was made, and is this one.
+/// Checks that a text was created, and is this one.
 pub fn is_made(rt: &impl Abort, made: Result<String, AllocError>, want: &str) {
     let is_so = match made {
         Ok(text) => text.as_str() == want,
@@ -50,7 +50,7 @@ pub fn is_made(rt: &impl Abort, made: Result<String, AllocError>, want: &str) {
     holds_at(rt, is_so, want);
 }
 
-/// Finds that each of these, between the two texts, makes an input with this fault.
+/// Checks that each of these, between the two texts, is an input with this fault.
 pub fn have_faults(
     rt: &(impl Abort + AllocGlobal),
     input: Input,

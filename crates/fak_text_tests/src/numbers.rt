@@ -169,7 +169,7 @@ fn read_bytes(place: Place, alloc: Global, bytes: &[u8]) -> Result<Option<u64>, 
     }
 }
 
-/// The number that a text has at a place, or that there was no memory to make the text.
+/// The number that a text has at a place, or that there was no memory for the text.
 fn read(
     place: Place,
     alloc: Global,
@@ -181,7 +181,7 @@ fn read(
     }
 }
 
-/// What ought to be read.
+/// What should be read.
 fn want_at(of: Bounded, number: u64) -> Result<Option<u64>, TextFault> {
     if of.1 <= number && number <= of.2 {
         Ok(Some(number))
@@ -190,7 +190,7 @@ fn want_at(of: Bounded, number: u64) -> Result<Option<u64>, TextFault> {
     }
 }
 
-/// Finds that the text, which begins so, has this number if it is in range, and is refused if not.
+/// Checks that the text, which begins so, has this number if it is in range, and is refused if not.
 pub(crate) fn has_number(
     rt: &(impl Abort + AllocGlobal),
     of: Bounded,

@@ -9,15 +9,15 @@ use fak_text::Field;
 use std::alloc::{AllocError, Global};
 use std::process::Abort;
 
-/// A number between two texts: where it stands, its least and its greatest, and the key at fault beyond them.
+/// A number between two texts: its place, its least and its greatest, and the key at fault beyond them.
 type Row = (Place, &'static str, &'static str, u64, u64, Field);
 
-/// The text behind this head where the row has this number.
+/// The text after this head, if the row has this number.
 fn text_with(alloc: Global, head: &str, row: &Row, number: u64) -> Result<String, AllocError> {
     format!(in alloc; "{head}{}{number}{}", row.1, row.2)
 }
 
-/// Adds the whole range of a row where it is short, else its bounds, with what lies beside them.
+/// Adds the whole range of a row if it is short, else its bounds, with what lies next to them.
 fn add_range(numbers: &mut Vec<u64>, row: &Row) -> Result<(), AllocError> {
     if row.4 <= 4_096 {
         add_about(numbers, 0, row.4.saturating_add(100))
@@ -27,7 +27,7 @@ fn add_range(numbers: &mut Vec<u64>, row: &Row) -> Result<(), AllocError> {
     }
 }
 
-/// Finds that the row reads its numbers in range behind the head, and refuses those beyond.
+/// Checks that the row reads its numbers in range after the head, and refuses those beyond.
 fn has_range(rt: &(impl Abort + AllocGlobal), head: &str, row: &Row) {
     let of = (row.0, row.3, row.4, row.5);
     let mut numbers = Vec::new(rt.alloc());
@@ -39,7 +39,7 @@ fn has_range(rt: &(impl Abort + AllocGlobal), head: &str, row: &Row) {
     }
 }
 
-/// Finds that each row reads its numbers in range behind the head, and refuses those beyond.
+/// Checks that each row reads its numbers in range after the head, and refuses those beyond.
 fn have_ranges(rt: &(impl Abort + AllocGlobal), head: &str, rows: &[Row]) {
     for row in rows {
         has_range(rt, head, row);
@@ -117,7 +117,7 @@ fn the_numbers_of_schedules(rt: HostRuntime) {
     );
 }
 
-/// Finds that the seat of an event between the head and each of these texts is read over its range.
+/// Checks that the seat of an event between the head and each of these texts is read over its range.
 fn have_seats_of_events(rt: &(impl Abort + AllocGlobal), head: &str, texts: &[&'static str]) {
     for text in texts {
         has_range(rt, head, &(SEAT_OF_EVENT, "", *text, 0, MOST, EVENTS));

@@ -68,7 +68,7 @@ fn are_of_each_kind(rt: &(impl Abort + AllocGlobal), programs: &[Vec<Step>]) -> 
     }
 }
 
-/// Finds that the script has the numbers, the lists and the programs of the input with each kind of step.
+/// Checks that the script has the numbers, the lists and the programs of the input with each kind of step.
 #[cfg(test)]
 fn has_parts(rt: &(impl Abort + AllocGlobal), script: &Script) {
     const SEMAPHORES: &[u64] = &[0, 1000000];
@@ -302,7 +302,7 @@ pub fn with_many(
     [before, &items, after].concat(rt.alloc())
 }
 
-/// Many of an item: the text before them, the item, how many they are, the text behind them, and the fault.
+/// Many of an item: the text before them, the item, how many they are, the text after them, and the fault.
 #[cfg(test)]
 type Many = (
     &'static str,
@@ -316,7 +316,7 @@ type Many = (
 const BEFORE_STEPS: &str =
     r#"{"version":1,"slots":2,"births":0,"quantum":1,"semaphores":[0,1000000],"files":1,"programs":[["#;
 
-/// Finds that a script with many of an item has its fault.
+/// Checks that a script with many of an item has its fault.
 #[cfg(test)]
 fn has_fault(rt: &(impl Abort + AllocGlobal), many: &Many) {
     let made = with_many(rt, many.0, many.1, many.2, many.3);

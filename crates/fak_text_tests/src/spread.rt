@@ -4,7 +4,7 @@ use std::alloc::AllocError;
 
 const ROUND: &[u64] = &[100_000, 1_000_000, 1_000_000_000, u64::MAX];
 
-/// Adds the numbers at and beside each power of two and each round number, and some of each length that look drawn.
+/// Adds the numbers at and next to each power of two and each round number, and some of each length that look drawn.
 pub(crate) fn add_spread(numbers: &mut Vec<u64>) -> Result<(), AllocError> {
     for place in 0..64u32 {
         add_about(numbers, 1u64 << place, 1)?;

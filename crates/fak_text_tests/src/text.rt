@@ -12,7 +12,7 @@ use fak_text::{
 use std::alloc::{AllocError, Global};
 use std::process::Abort;
 
-/// Finds that a text was made, and is this one.
+/// Checks that a text was created, and is this one.
 fn is_text(rt: &impl Abort, made: Result<Vec<u8>, TextFault>, want: &str) {
     let is_so = match made {
         Ok(text) => text.as_slice() == want.as_bytes(),
@@ -21,13 +21,13 @@ fn is_text(rt: &impl Abort, made: Result<Vec<u8>, TextFault>, want: &str) {
     holds_at(rt, is_so, want);
 }
 
-/// Finds that a text was made, and is the one that was made for it.
+/// Checks that a text was created, and is the one that was written for it.
 fn is_text_as(rt: &impl Abort, want: Result<String, AllocError>, made: Result<Vec<u8>, TextFault>) {
     let want = want.expect(rt, "memory");
     is_text(rt, made, &want);
 }
 
-/// Finds that the lines of a seat have the texts beside them.
+/// Checks that the lines of a seat have the texts next to them.
 fn have_texts(
     rt: &(impl Abort + AllocGlobal),
     seat: u64,
@@ -201,7 +201,7 @@ fn lines_of_queues(rt: HostRuntime) {
     have_texts(&rt, 2, ROWS);
 }
 
-/// Finds that a refusal has this text.
+/// Checks that a refusal has this text.
 fn is_refused_as(rt: &(impl Abort + AllocGlobal), seat: u64, fault: &CoreFault, want: &str)
     requires { IsRefusal fault.now }
 {
@@ -267,7 +267,7 @@ fn a_journal_of_each_kind_of_note(rt: HostRuntime) {
     is_text(&rt, journal_of_each_kind(rt.alloc(), said), JOURNAL);
 }
 
-/// Finds that a process of these numbers is named so.
+/// Checks that a process of these numbers is named so.
 fn is_named(rt: &(impl Abort + AllocGlobal), name: &[u64], want: &str) {
     is_made(rt, name_text(rt.alloc(), name), want);
 }
@@ -279,7 +279,7 @@ fn names(rt: HostRuntime) {
     is_named(&rt, &[12, 0, 1000], "12.0.1000");
 }
 
-/// Finds that the name is written so, with this number added to both.
+/// Checks that the name is written so, with this number added to both.
 fn is_named_with(
     rt: &(impl Abort + AllocGlobal),
     name: &mut Vec<u64>,
@@ -302,7 +302,7 @@ fn names_of_up_to_1001_numbers(rt: HostRuntime) {
     }
 }
 
-/// Finds that the journal of process 3.0 is written so, with two notes of this number added.
+/// Checks that the journal of process 3.0 is written so, with two notes of this number added.
 fn is_journal_with(
     rt: &(impl Abort + AllocGlobal),
     notes: &mut Vec<Note>,
@@ -324,7 +324,7 @@ fn journals_of_up_to_1000_notes(rt: HostRuntime) {
     }
 }
 
-/// Finds that a line with this number of a seat and of a mark, and with what it found, is written so.
+/// Checks that a line with this number of a seat and of a mark, and with what it found, is written so.
 fn is_line_of(rt: &(impl Abort + AllocGlobal), number: u64, found: i128) {
     let line = Line {
         seat: number,
@@ -349,7 +349,7 @@ fn journal_of(alloc: Global, n: u64) -> Result<Vec<u8>, TextFault> {
     journal_text(alloc, &[n], &notes)
 }
 
-/// What is written before, between and behind the numbers of that journal.
+/// What is written before, between and after the numbers of that journal.
 const PARTS_OF_JOURNAL: &[&str] = &[
     "  down ",
     "\n  up ",
@@ -369,7 +369,7 @@ fn text_of_journal(alloc: Global, n: u64) -> Result<String, AllocError> {
     PARTS_OF_JOURNAL.join(alloc, &n.to_string(alloc)?)
 }
 
-/// Finds that a journal with this number wherever it has one is written so.
+/// Checks that a journal with this number wherever it has one is written so.
 fn is_journal_of(rt: &(impl Abort + AllocGlobal), n: u64) {
     is_text_as(
         rt,
@@ -378,7 +378,7 @@ fn is_journal_of(rt: &(impl Abort + AllocGlobal), n: u64) {
     );
 }
 
-/// Finds that lines and a journal with this number are written so.
+/// Checks that lines and a journal with this number are written so.
 fn is_written_with(rt: &(impl Abort + AllocGlobal), number: u64) {
     let found = number as i128;
     is_line_of(rt, number, found);

@@ -19,7 +19,7 @@ abbrev pub format_asked : List (List ℕ) → Option Format
 format_asked (program ∷ (name ∷ [])) = format_named name
 format_asked words = None
 
--- the status where the input has this fault, or none
+-- the status if the input has this fault, or none
 abbrev pub status_of_place : Option TextFault → ℕ
 status_of_place None = 0
 status_of_place (Some fault) = 1

@@ -1,4 +1,4 @@
-//! Why the program gave no answer.
+//! Why the program has no answer.
 
 ghost use Rattle.std.specs.Prelude.{◌≡◌};
 ghost use Rattle.fak_where.specs.Answers.{status_of_fault};
@@ -7,7 +7,7 @@ ghost use Rattle.fak_where.specs.declared.fault.WhereFault.TheVariants.{Memory};
 use std::alloc::{AllocError, AllocFailed};
 use thiserror::Error;
 
-/// Why the program gave no answer. Its text is one line on standard error.
+/// Why the program has no answer. Its text is one line on standard error.
 #[derive(Clone, Copy, Debug, PartialEq, Eq, Error)]
 pub enum WhereFault {
     /// The words of the command line name no format.

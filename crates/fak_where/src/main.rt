@@ -1,4 +1,4 @@
-//! The program `fak_where`: says where an input of `fak` is wrong. It takes the word that `fak` takes, and the same input.
+//! The program `fak_where`: states the place at which an input of `fak` is wrong. It takes the word that `fak` takes, and the same input.
 #![tactic(auto)]
 
 mod fault;
@@ -15,7 +15,7 @@ use std::process::ExitCode;
 use std::rt::Env;
 use std::{env, io};
 
-/// Serves the words of the command line, from standard input to standard output. Answers the exit status.
+/// Serves the words of the command line, from standard input to standard output. Returns the exit status.
 fn run<R: Input + Print + AllocGlobal + Env>(rt: &R) -> Result<u8, WhereFault> {
     let words = words_of(rt.alloc(), env::args(rt))?;
     let format = format_of(&words)?;
@@ -26,7 +26,7 @@ fn main(rt: HostRuntime) -> ExitCode {
     match run(&rt) {
         Ok(status) => ExitCode::from(status),
         Err(fault) => {
-            // There is nowhere left to tell of a failure to print.
+            // A failure to print cannot be reported anywhere.
             let _ = rt.stderr().writeln(&fault);
             ExitCode::from(fault.status())
         }

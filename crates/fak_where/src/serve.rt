@@ -28,7 +28,7 @@ fn read_input<R: Read + Drop>(alloc: Global, reader: R) -> Result<Vec<u8>, Where
     }
 }
 
-/// The status and the text for an input: 0 where nothing is wrong, else 1 and the place.
+/// The status and the text for an input: 0 if nothing is wrong, else 1 and the place.
 fn answer_of(alloc: Global, format: Format, input: &[u8]) -> Result<(u8, String), WhereFault>
     ensures ok { IfOk result (λ answer. answer.0 ≡ status_of_place (fault_in format input.now)) }
     ensures err { IfErr result (λ e. e ≡ Memory) }
@@ -52,11 +52,11 @@ fn write_text<W: Write>(writer: &mut W, text: &str) -> Result<(), WhereFault>
     Ok(())
 }
 
-/// Reads an input, and writes where it is wrong. Answers the status: 0 where nothing is wrong, else 1.
+/// Reads an input, and writes the place at which it is wrong. Returns the status: 0 if nothing is wrong, else 1.
 ///
 /// # Errors
 ///
-/// `Read` or `Memory`, then `Write`. On any fault but `Write` nothing was written.
+/// `Read` or `Memory`, then `Write`. On any fault except `Write` nothing was written.
 pub fn serve<R: Read + Drop, W: Write>(
     alloc: Global,
     format: Format,

@@ -8,7 +8,7 @@ use std::alloc::{AllocError, Global};
 use std::fmt::Display;
 use std::process::Abort;
 
-/// Whether an input is answered with this status and this line.
+/// Whether the reply to an input has this status and this line.
 fn answers(alloc: Global, format: Format, input: &str, status: u8, want: &str) -> bool {
     let mut written = Vec::new(alloc);
     match serve(alloc, format, input.as_bytes(), &mut written) {

@@ -20,7 +20,7 @@ const MOST_MARKS: usize = 4_096;
 
 const LAST_SEAT: u64 = MOST_SEATS - 1;
 
-/// The kind of this name, with this number where it bears one.
+/// The kind of this name, with this number if it bears one.
 #[tactic(auto, unfolding(crate::specs::HistoryText::kind_named))]
 fn kind_named(name: &str, n: u64) -> Option<Kind<u64>>
     ensures { result ≡ kind_named name.now n }
@@ -47,7 +47,7 @@ fn kind_named(name: &str, n: u64) -> Option<Kind<u64>>
     kinds.iter().find(|kind| kind_name(**kind) == name).copied()
 }
 
-/// Whether a mark has three elements where it bears a number, and else two.
+/// Whether a mark has three elements if it bears a number, and else two.
 fn is_complete(borne: Option<u64>, size: usize, number: Option<u64>) -> bool
     ensures { result ≡ is_complete borne size number }
 {
@@ -100,7 +100,7 @@ fn history_from(alloc: Global, value: &Value) -> Result<History, TextFault>
 ///
 /// # Errors
 ///
-/// The input's first fault, or `Memory`. Of more than 1,048,576 bytes it is `Range(Field::Input)`, whatever memory there is.
+/// The input's first fault, or `Memory`. For more than 1,048,576 bytes it is `Range(Field::Input)`, even if memory runs out.
 pub fn read_history(alloc: Global, bytes: &[u8]) -> Result<History, TextFault>
     ensures gives { Gives history_of result (history_in bytes.now) }
     ensures range { IfOk result (λ history. IsHistoryInRange (history_of history)) }

@@ -100,7 +100,7 @@ fn third_within(low: u64, high: u64, size: usize, number: Option<u64>) -> Result
     }
 }
 
-/// The number of steps, 1 where there is none.
+/// The number of steps, 1 if there is none.
 #[tactic(auto, unfolding(crate::specs::ScheduleText::steps_act))]
 fn steps_act(size: usize, number: Option<u64>) -> Result<Act, TextFault>
     ensures { Gives (λ a. a) result (steps_act size number) }
@@ -112,7 +112,7 @@ fn steps_act(size: usize, number: Option<u64>) -> Result<Act, TextFault>
     }
 }
 
-/// What the seat does, where the event has this many elements and this third one.
+/// What the seat does, if the event has this many elements and this third one.
 fn act_from(op: Op, size: usize, number: Option<u64>) -> Result<Act, TextFault>
     ensures { Gives (λ a. a) result (act_from op size number) }
 {
@@ -195,7 +195,7 @@ fn schedule_from(alloc: Global, value: &Value) -> Result<Schedule, TextFault>
 ///
 /// # Errors
 ///
-/// The input's first fault, or `Memory`. Of more than 1,048,576 bytes it is `Range(Field::Input)`, whatever memory there is.
+/// The input's first fault, or `Memory`. For more than 1,048,576 bytes it is `Range(Field::Input)`, even if memory runs out.
 pub fn read_schedule(alloc: Global, bytes: &[u8]) -> Result<Schedule, TextFault>
     ensures gives { Gives schedule_of result (schedule_in bytes.now) }
     ensures range { IfOk result (λ schedule. IsScheduleInRange (schedule_of schedule)) }

@@ -59,7 +59,7 @@ fn numbers_of_key(
     numbers(alloc, values, field, bound)
 }
 
-/// The stint, the greatest where the key is absent.
+/// The stint, the greatest if the key is absent.
 #[tactic(auto, unfolding(crate::specs::ScriptText::stint_of_key))]
 fn stint_of_key(value: &Value) -> Result<u64, TextFault>
     ensures gives { Gives (λ n. n) result (stint_of_key (view value.now)) }
@@ -113,7 +113,7 @@ fn script_from(alloc: Global, value: &Value) -> Result<Script, TextFault>
 ///
 /// # Errors
 ///
-/// The input's first fault, or `Memory`. Of more than 1,048,576 bytes it is `Range(Field::Input)`, whatever memory there is.
+/// The input's first fault, or `Memory`. For more than 1,048,576 bytes it is `Range(Field::Input)`, even if memory runs out.
 pub fn read_script(alloc: Global, bytes: &[u8]) -> Result<Script, TextFault>
     ensures gives { Gives (λ s. s) result (script_in bytes.now) }
     ensures long { RefusesLong bytes.now result }

@@ -142,7 +142,7 @@ fn say(alloc: Global, size: usize, text: Option<&str>) -> Result<Step, TextFault
     Ok(Step::Say(String::from_str(alloc, text)?))
 }
 
-/// The step of an operation, where it has this many elements, and this text or this number for its second.
+/// The step of an operation, if it has this many elements, and this text or this number for its second.
 fn step_with(
     alloc: Global,
     limits: StepLimits,

@@ -47,7 +47,7 @@ pub(crate) fn input_in(alloc: Global, bytes: &[u8]) -> Result<Value, TextFault>
     }
 }
 
-/// The number, where it is from `low` to `high`.
+/// The number, if it is from `low` to `high`.
 pub(crate) fn number_within(
     field: Field,
     low: u64,
@@ -63,7 +63,7 @@ pub(crate) fn number_within(
     }
 }
 
-/// The number, where it is below the bound.
+/// The number, if it is below the bound.
 pub(crate) fn number_below(field: Field, bound: u64, number: Option<u64>) -> Result<u64, TextFault>
     ensures gives { Gives (λ n. n) result (number_below field bound number) }
     ensures range { IfOk result (λ n. n < bound) }

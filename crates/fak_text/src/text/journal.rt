@@ -18,7 +18,7 @@ fn append_numbered(text: &mut String, word: &str, number: u64) -> Result<(), All
     append_number(text, number)
 }
 
-/// Appends a word and a number, or the other word where there is no number.
+/// Appends a word and a number, or the other word if there is no number.
 fn append_optional(
     text: &mut String,
     word: &str,
@@ -123,7 +123,7 @@ pub fn name_text(alloc: Global, name: &[u64]) -> Result<String, AllocError>
 ///
 /// # Errors
 ///
-/// `Memory` alone.
+/// Only `Memory`.
 pub fn journal_text(alloc: Global, name: &[u64], notes: &[Note]) -> Result<Vec<u8>, TextFault>
     ensures text { IfOk result (λ v. v.items ≡ text_of_journal name.now (map note_of notes.now)) }
     ensures memory { IfErr result (λ e. e ≡ Memory) }

@@ -25,7 +25,7 @@ fn append_named(text: &mut String, name: &str, number: Option<u64>) -> Result<()
     }
 }
 
-/// Appends the mark of a line, or a dash where there is none.
+/// Appends the mark of a line, or a dash if there is none.
 fn append_mark(text: &mut String, mark: Option<LineMark>) -> Result<(), AllocError>
     ensures { OnOk result (string_bytes text.new ≡ string_bytes text.old ++ mark_or_dash mark) }
 {
@@ -65,7 +65,7 @@ pub fn append_refusal(text: &mut String, seat: u64, fault: &CoreFault) -> Result
 ///
 /// # Errors
 ///
-/// `Memory` alone.
+/// Only `Memory`.
 pub fn line_text(alloc: Global, line: &Line) -> Result<Vec<u8>, TextFault>
     ensures text { IfOk result (λ v. v.items ≡ text_of_line line.now) }
     ensures memory { IfErr result (λ e. e ≡ Memory) }
@@ -79,7 +79,7 @@ pub fn line_text(alloc: Global, line: &Line) -> Result<Vec<u8>, TextFault>
 ///
 /// # Errors
 ///
-/// `Memory` alone.
+/// Only `Memory`.
 pub fn refused_text(alloc: Global, seat: u64, fault: &CoreFault) -> Result<Vec<u8>, TextFault>
     requires { IsRefusal fault.now }
     ensures text { IfOk result (λ v. v.items ≡ text_of_refusal seat fault.now) }
