@@ -1,7 +1,7 @@
 /* What the parts of an insertion and a deletion add to their atomic steps, on one thread; bench/parts builds and runs it.
  *
- * Each row makes what the row before it makes, and one part more. The words and the slots lie as the queue's do. The last row calls as
- * the program `bench_objects` does, where a put calls an insertion and a get a deletion. */
+ * Each row does what the row before it does, and one part more. The words and the slots lie as the queue's do. The last row calls as
+ * the program `bench_objects` does, in which a put calls an insertion and a get a deletion. */
 #include <sched.h>
 #include <stdatomic.h>
 #include <stdbool.h>
@@ -35,7 +35,7 @@ typedef struct {
     uint64_t cell, round;
 } place;
 
-/* What a call answers in memory. The item comes back from an insertion that is refused. */
+/* The result of a call, in memory. The item comes back from an insertion that is refused. */
 typedef struct {
     enum { DONE, WORN, REFUSED } kind;
     uint64_t ticket, item;
@@ -43,7 +43,7 @@ typedef struct {
 
 enum part { STEPS, BOUNDS, PLACES, ITEMS, SEATS, ANSWERS, CALLS, PARTS };
 
-/* The cell and the round of a ticket: by one multiplication, or as the loop counts them where the part is left out. */
+/* The cell and the round of a ticket: by one multiplication, or as the loop counts them if the part is left out. */
 static inline place place_of(const queue *q, uint64_t ticket, uint64_t cell, enum part part) {
     if (part < PLACES)
         return (place){cell, 0};
@@ -51,7 +51,7 @@ static inline place place_of(const queue *q, uint64_t ticket, uint64_t cell, enu
     return (place){ticket - round * q->size, round};
 }
 
-/* Where a test has found that others changed a count, a seat leaves the queue to them. With one thread that never happens. */
+/* If a test has found that others changed a count, a seat leaves the queue to them. With one thread that never happens. */
 static inline void pause_in_call(seat *s) {
     if (s->pauses_in_calls && s->is_contended) {
         s->is_contended = false;
@@ -140,7 +140,7 @@ static inline bool delete(queue *q, uint64_t *item, uint64_t cell, uint64_t *tic
     return true;
 }
 
-/* An insertion as a function of its own, with its answer in memory. */
+/* An insertion as a function of its own, with its result in memory. */
 __attribute__((noinline)) static void insert_for(answer *found, queue *q, uint64_t item) {
     uint64_t ticket = 0;
     if (insert(q, item, 0, &ticket, SEATS))
@@ -182,7 +182,7 @@ __attribute__((noinline)) static bool get(queue *q, uint64_t *item, uint64_t *ti
     }
 }
 
-/* Passes one item, and answers whether it came out. */
+/* Passes one item, and returns whether it came out. */
 static inline bool pass_one(queue *q, uint64_t *item, uint64_t cell, uint64_t *in, uint64_t *out, enum part part) {
     if (part == CALLS)
         return put(q, *item, in) && get(q, item, out);
@@ -200,7 +200,7 @@ static inline bool pass_one(queue *q, uint64_t *item, uint64_t cell, uint64_t *i
     return insert(q, *item, cell, in, part) && delete(q, item, cell, out, part);
 }
 
-/* Passes this many items, one after the other. Answers how many came out under the ticket of their insertion. */
+/* Passes this many items, one after the other. Returns how many came out under the ticket of their insertion. */
 static inline uint64_t pass(queue *q, uint64_t items, enum part part) {
     uint64_t passed = 0, cell = 0;
     for (uint64_t i = 0; i < items; i++) {

@@ -7,7 +7,7 @@
 #include <new>
 #include <sys/mman.h>
 
-/* Runs `work` in a process of its own. False where it was not over after this many seconds, and was ended. */
+/* Runs `work` in a process of its own. False if it was not over after this many seconds, and was ended. */
 bool ends_within(double seconds, const std::function<void()> &work);
 
 /* An object that such a process writes, and this one reads. */

@@ -1,4 +1,4 @@
-/* Rust's ArrayQueue, of the crate crossbeam-queue, behind the calls of array_queue/src/lib.rs. */
+/* Rust's ArrayQueue, of the crate crossbeam-queue, through the calls of array_queue/src/lib.rs. */
 #include "queue.hpp"
 
 struct RustQueue;

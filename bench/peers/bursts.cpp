@@ -1,4 +1,4 @@
-/* What an item costs by bursts, and how long one burst takes; beside single calls of the same run. */
+/* What an item costs by bursts, and how long one burst takes, compared with single calls of the same run. */
 #include "apart.hpp"
 #include "clock.hpp"
 #include "items.hpp"
@@ -21,7 +21,8 @@ struct Way {
     bool is_single;
 };
 
-const std::vector<Way> ways{{"single calls", 1, true}, {"bursts of 1", 1, false}, {"of 4", 4, false}, {"of 8", 8, false}, {"of 32", 32, false}};
+const std::vector<Way> ways{
+    {"single calls", 1, true}, {"bursts of 1", 1, false}, {"of 4", 4, false}, {"of 8", 8, false}, {"of 32", 32, false}};
 const std::vector<Way> timed_ways{{"single call", 1, true}, {"burst of 8", 8, false}, {"burst of 32", 32, false}};
 
 using Items = std::array<std::uint64_t, most_items>;
@@ -76,7 +77,8 @@ void pass_alone(Caller &caller, std::uint64_t each) {
     Items items{}, found{};
     for (std::uint64_t number = 0; number < each; number += caller.width()) {
         unsigned count = fill(items, 0, number, each, caller.width());
-        if (caller.put(0, items, count) != count || caller.get(0, found, count) != count || !std::equal(&items[0], &items[count], &found[0]))
+        if (caller.put(0, items, count) != count || caller.get(0, found, count) != count
+            || !std::equal(&items[0], &items[count], &found[0]))
             fail("a queue that one thread uses refused, or lost an item");
     }
 }
@@ -139,8 +141,10 @@ double cost_alone(const Implementation &implementation, const Way &way, std::uin
     return run_team(1, [&](unsigned) { pass_alone(caller, items); }) / static_cast<double>(items);
 }
 
-/* This many pairs pass the items of each producer. Returns what an item cost. `note` makes the note of a thread. */
-template <class NoteOf> double cost_of_pairs(const Implementation &implementation, const Way &way, unsigned pairs, std::uint64_t each, NoteOf note_of) {
+/* This many pairs pass the items of each producer. Returns what an item cost. `note` creates the note of a thread. */
+template <class NoteOf>
+double cost_of_pairs(
+    const Implementation &implementation, const Way &way, unsigned pairs, std::uint64_t each, NoteOf note_of) {
     Caller caller(implementation, way, 2 * pairs);
     std::vector<Received> received(pairs);
     warm(caller);

@@ -36,7 +36,7 @@ double run_to_and_fro(const ChannelImplementation &implementation, std::uint64_t
     return took / static_cast<double>(trips);
 }
 
-/* Nanoseconds for an item, where each of these senders has a number of them, and the receivers have them all in equal shares. */
+/* Nanoseconds for an item, if each of these senders has a number of them, and the receivers have them all in equal shares. */
 double run_traffic(const ChannelImplementation &implementation, unsigned cells, unsigned senders, unsigned receivers, std::uint64_t each) {
     auto channel = implementation.open(cells, senders + receivers);
     std::vector<Received> received(receivers);

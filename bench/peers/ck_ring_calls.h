@@ -1,4 +1,4 @@
-/* Concurrency Kit's ring behind calls in C, since its header does not compile as C++. */
+/* Concurrency Kit's ring through calls in C, since its header does not compile as C++. */
 #ifndef CK_RING_CALLS_H
 #define CK_RING_CALLS_H
 

@@ -23,7 +23,7 @@ inline std::uint64_t ticks() {
 #endif
 }
 
-/* How long a tick is. The first call takes a fifth of a second: make it before any thread starts. */
+/* How long a tick is. The first call takes a fifth of a second, so it comes before any thread starts. */
 double nanoseconds_of_tick();
 
 /* What a reading of the clock takes in nanoseconds, at the best. */

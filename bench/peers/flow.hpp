@@ -12,7 +12,7 @@ class Flow {
 public:
     Flow(Queue &measured, unsigned producers, unsigned consumers);
 
-    /* Puts items until the end, or until there are `most` of them. Answers whether there are. */
+    /* Puts items until the end, or until there are `most` of them. Returns whether there are. */
     bool produce(unsigned producer, std::uint64_t most);
 
     /* For a producer that does not call `produce`: counts the one item that it put, and its end. */

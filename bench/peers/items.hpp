@@ -14,9 +14,9 @@ constexpr unsigned most_threads = 2 * most_producers;
 /* Counts what a thread did, for others to read, in cache lines of its own. */
 struct alignas(128) Progress {
     std::atomic<std::uint64_t> count{0};
-    std::atomic<std::uint64_t> last{0}; /* the ticks at the latest of them, where they are noted */
+    std::atomic<std::uint64_t> last{0}; /* the ticks at the latest of them, if they are noted */
 
-    /* By one thread alone. */
+    /* By one thread only. */
     void add() { count.store(count.load(std::memory_order_relaxed) + 1, std::memory_order_relaxed); }
 };
 

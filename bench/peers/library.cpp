@@ -1,4 +1,4 @@
-/* This library, by each of its two archives. Both stand in one program, so their calls begin with the backend's name. */
+/* This library, by each of its two archives. Both are in one program, so their calls begin with the backend's name. */
 #include "fak_c.h"
 #include "failure.hpp"
 #include "queue.hpp"
@@ -181,7 +181,7 @@ private:
     std::vector<fak_c_seat> bundles;
 };
 
-/* An entry that makes single calls, also for the items of a burst. */
+/* An entry that has single calls, also for the items of a burst. */
 template <class Calls, bool pauses> Implementation single_calls(unsigned place, const char *name) {
     return {place, name, [](unsigned size, unsigned threads) {
         return std::make_unique<LibraryQueue<Calls, pauses>>(size, threads);

@@ -36,5 +36,6 @@ private:
     std::vector<std::uint64_t> items;
 };
 
-const ChannelEntry entry({3, "mutex, two condition variables", [](unsigned cells, unsigned) { return std::make_unique<LockedChannel>(cells); }});
+const ChannelEntry entry({3, "mutex, two condition variables",
+    [](unsigned cells, unsigned) { return std::make_unique<LockedChannel>(cells); }});
 }

@@ -1,11 +1,11 @@
-/* Measures this library's queue and channel beside their peers: the words are one measure and its options. */
+/* Measures this library's queue and channel and their peers: the words are one measure and its options. */
 #include "clock.hpp"
 #include "load.hpp"
 #include "measures.hpp"
 
 #include <cstdio>
 
-/* False where there is no measure of this name. */
+/* False if there is no measure of this name. */
 static bool make_measure(const Options &options) {
     if (options.measure == "throughput") {
         measure_throughput(options);

@@ -5,8 +5,9 @@
 #include <cstdlib>
 
 [[noreturn]] static void say_usage() {
-    std::fprintf(stderr, "usage: throughput|bursts|tails|stops|channels [--smoke] [--rounds 1..1000] [--items 100..10000000] [--cap SECONDS]\n"
-                         "       [--stops 1..1000] [--stop MILLISECONDS] [--queue PART OF A NAME]\n");
+    std::fprintf(stderr,
+        "usage: throughput|bursts|tails|stops|channels [--smoke] [--rounds 1..1000] [--items 100..10000000]\n"
+        "       [--cap SECONDS] [--stops 1..1000] [--stop MILLISECONDS] [--queue PART OF A NAME]\n");
     std::exit(2);
 }
 

@@ -16,7 +16,7 @@ struct Options {
     std::string queue;             /* a part of the names of the queues or channels to measure */
 };
 
-/* Ends the program with the usage where a word is not understood. */
+/* Ends the program with the usage if a word is not understood. */
 Options options_of(int count, char **words);
 
 /* The implementations that the options ask for. */

@@ -15,34 +15,34 @@ public:
     Queue &operator=(const Queue &) = delete;
     virtual ~Queue() = default;
 
-    /* False where there is no room. */
+    /* False if there is no room. */
     virtual bool put(unsigned thread, std::uint64_t item) = 0;
 
-    /* False where there is no item. */
+    /* False if there is no item. */
     virtual bool get(unsigned thread, std::uint64_t &item) = 0;
 };
 
 /* A queue whose put can stop between its two halves. One thread at a time does. */
 class ClaimingQueue : public Queue {
 public:
-    /* False where there is no room. Else `fill` has to end the put. */
+    /* False if there is no room. Otherwise `fill` has to end the put. */
     virtual bool claim_put(unsigned thread, std::uint64_t item) = 0;
 
-    /* False where the item cannot be moved in yet. */
+    /* False if the item cannot be moved in yet. */
     virtual bool fill(unsigned thread) = 0;
 };
 
 /* A queue whose get has two halves as well. Any number of threads may be between theirs. */
 class SteppedQueue : public ClaimingQueue {
 public:
-    /* False where there is no item. Else `take` has to end the get. */
+    /* False if there is no item. Otherwise `take` has to end the get. */
     virtual bool claim_get(unsigned thread) = 0;
 
-    /* False where the item cannot be moved out yet. */
+    /* False if the item cannot be moved out yet. */
     virtual bool take(unsigned thread, std::uint64_t &item) = 0;
 };
 
-/* What a queue has besides if it puts and gets several items by one call. */
+/* What a queue has in addition if it puts and gets several items by one call. */
 class Bursts {
 public:
     virtual ~Bursts() = default;

@@ -7,7 +7,7 @@
 #include <csignal>
 
 static std::atomic<double> length{0};
-static std::atomic<std::uint64_t> stopped_at{0}; /* 0 where no thread is stopped */
+static std::atomic<std::uint64_t> stopped_at{0}; /* 0 if no thread is stopped */
 
 static void sleep_here(int) {
     int error = errno;

@@ -1,4 +1,4 @@
-/* What passes while one producer is stopped: between the halves of its put, where a queue has them apart; and anywhere, by a signal. */
+/* What passes while one producer is stopped: between the halves of its put, if a queue has them apart; and anywhere, by a signal. */
 #include "apart.hpp"
 #include "clock.hpp"
 #include "flow.hpp"
@@ -12,7 +12,7 @@
 
 namespace {
 struct Setting {
-    unsigned producers, consumers; /* beside the producer that stops */
+    unsigned producers, consumers; /* without the producer that stops */
     unsigned cells;
 };
 

@@ -19,7 +19,7 @@ class Table {
 public:
     Table(std::string heading, std::vector<Column> all_columns) : title(std::move(heading)), columns(std::move(all_columns)) {}
 
-    /* Adds a row that has no figures yet, where there is none of this name. */
+    /* Adds a row that has no figures yet, if there is none of this name. */
     void add_row(const std::string &row);
 
     /* Adds the figure of one run. */
@@ -28,7 +28,7 @@ public:
     /* Adds a line to those below the table. */
     void note(const std::string &line);
 
-    /* Each cell has the median of its figures, and their best and worst; or a stroke, where it has none. */
+    /* Each cell has the median of its figures, and their best and worst; or a stroke, if it has none. */
     void print() const;
 
 private:

@@ -177,7 +177,7 @@ void add_runs(const Implementation &implementation, const Setting &setting, doub
     add_row(table, implementation.name + ": try to take", is_over, outcome->takes);
 }
 
-/* The rows stand in the order of the implementations, whichever comes first in a round. */
+/* The rows are in the order of the implementations, whichever comes first in a round. */
 void add_rows(const Options &options, Table &table) {
     for (const Implementation &implementation : chosen(options)) {
         for (const char *call : {": put", ": get"})

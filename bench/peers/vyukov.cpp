@@ -44,7 +44,7 @@ private:
         std::uint64_t item;
     };
 
-    /* Takes the next number of the counter once its cell's turn has come. False where the cell is a round behind. */
+    /* Takes the next number of the counter once its cell's turn has come. False if the cell is late by a round. */
     bool next(std::atomic<std::uint64_t> &counter, std::uint64_t ahead, std::uint64_t &number) {
         number = counter.load(std::memory_order_relaxed);
         for (;;) {

@@ -114,8 +114,8 @@ static picos serve(struct line *line, picos arrival) {
     return line->used_until;
 }
 
-/* The request goes through a switch for each doubling of the processors. Where it finds one that waits in a switch, it
-   goes on with that one. In the last switch a request waits until the memory is free. Answers when it is served. */
+/* The request goes through a switch for each doubling of the processors. If it finds one that waits in a switch, it
+   goes on with that one. In the last switch a request waits until the memory is free. Returns when it is served. */
 static picos serve_combined(struct line *line, picos arrival) {
     struct stage *passed[MOST_PROCESSORS], *last = NULL;
     int count = 0, place = MOST_PROCESSORS + this_processor();

@@ -38,7 +38,7 @@ static void print_usage(void) {
         printf("  %-11s %6d  %s, %d to %d\n", numbers[i].name, *numbers[i].number, numbers[i].meaning, numbers[i].least, numbers[i].most);
 }
 
-/* Sets the option of this name; answers whether there is one and the value is in its range. */
+/* Sets the option of this name; returns whether there is one and the value is in its range. */
 static int set_option(const char *name, const char *text) {
     char *end;
     double value = strtod(text, &end);

@@ -6,17 +6,17 @@
 
 enum { MOST_PROCESSORS = 64, SIZES = 7, QUEUES = 7 };
 
-/* Times are whole picoseconds, so that every machine reckons alike. */
+/* Times are whole picoseconds, so that every machine computes the same. */
 typedef int64_t picos;
 
 struct costs {
     picos change;   /* a locked instruction on a line at hand */
     picos load;     /* a load or a plain store of a line at hand */
     picos transfer; /* a line comes from another processor; a request goes to the memory and back */
-    picos held;     /* how long a line that was asked for stays usable where it is */
+    picos held;     /* how long a processor can use a line that others have asked for */
     picos memory;   /* the memory serves one request for a line */
     picos stage;    /* a switch of the network passes a request on */
-    picos work;     /* what a call does beside its accesses, on average */
+    picos work;     /* what a call does in addition to its accesses, on average */
     picos pause;    /* one pause of a processor that waits */
     picos seat_pause; /* a seat leaves the queue to others for this long */
 };
@@ -64,7 +64,7 @@ struct tally { double nanos, transfers, failures; };
 /* Runs `body` on each processor until so many items are counted, after as many that are not. */
 struct tally simulate(int processors, enum machine machine, long items, uint64_t seed, void (*body)(void));
 
-/* A queue: `open` makes it empty, `put` and `get` wait for room and for an item. */
+/* A queue: `open` empties it, `put` and `get` wait for room and for an item. */
 struct queue {
     const char *name;
     enum machine machine;

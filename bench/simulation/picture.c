@@ -62,7 +62,8 @@ static void write_axes(FILE *file, const int sizes[SIZES]) {
 
 static void write_curve(FILE *file, struct tally tallies[SIZES][QUEUES], int q) {
     const struct look *look = &looks[q];
-    fprintf(file, "<path fill=\"none\" stroke=\"%s\" stroke-width=\"2\" stroke-dasharray=\"%s\" d=\"", look->hue, *look->dashes ? look->dashes : "none");
+    fprintf(file, "<path fill=\"none\" stroke=\"%s\" stroke-width=\"2\" stroke-dasharray=\"%s\" d=\"", look->hue,
+            *look->dashes ? look->dashes : "none");
     for (int s = 0; s < SIZES; s++) fprintf(file, "%c%d %d", s ? 'L' : 'M', across(s), down(tallies[s][q].nanos));
     fprintf(file, "\"/>\n");
     for (int s = 0; s < SIZES; s++)
@@ -77,7 +78,7 @@ static int by_height(const void *a, const void *b) {
     return x->at != y->at ? (x->at > y->at) - (x->at < y->at) : x->queue - y->queue;
 }
 
-/* Each curve's name stands at its end, below the one before it. */
+/* Each curve's name is at its end, below the one before it. */
 static void write_labels(FILE *file, struct tally last[QUEUES]) {
     for (int q = 0; q < QUEUES; q++) labels[q] = (struct label){ q, down(last[q].nanos), 0 };
     qsort(labels, QUEUES, sizeof *labels, by_height);
@@ -90,7 +91,8 @@ static void write_labels(FILE *file, struct tally last[QUEUES]) {
 }
 
 static void write_costs(FILE *file) {
-    fprintf(file, "<text x=\"16\" y=\"%d\">A change at hand takes %g ns, a transfer %g, an access in the memory %g, a switch %g. %d cells.</text>\n",
+    fprintf(file, "<text x=\"16\" y=\"%d\">A change at hand takes %g ns, a transfer %g, an access in the memory %g, a switch %g. "
+            "%d cells.</text>\n",
             HEIGHT - 14, (double)costs.change / 1000, (double)costs.transfer / 1000, (double)costs.memory / 1000,
             (double)costs.stage / 1000, cells);
 }

@@ -1,4 +1,4 @@
-/* The queues of the model, each by the accesses that its calls make. */
+/* The queues of the model, each by the accesses of its calls. */
 #include <stdlib.h>
 #include <string.h>
 #include "model.h"
@@ -15,7 +15,7 @@ static int64_t turns[MOST_CELLS];
 static struct line *turn_line(int64_t cell, int in_a_line) { return &turn_lines[cell / in_a_line]; }
 static struct line *item_line(int64_t cell, int in_a_line) { return &item_lines[cell / in_a_line]; }
 
-/* This queue. A seat expects in each count what it left there, which tells it whether others change it. */
+/* This queue. A seat expects in each count what it left there, and so knows whether others change it. */
 
 enum { UPPER, LOWER, COUNTS, TURNS_IN_A_LINE = 8, SLOTS_IN_A_LINE = 4 };
 
@@ -31,7 +31,7 @@ static void open_by_addition(void) {
     memset(turns, 0, sizeof turns);
 }
 
-/* Pauses where others changed a count, and the seat has drawn tickets enough. */
+/* Pauses if others changed a count, and the seat has drawn tickets enough. */
 static void pause_where_contended(struct seat *seat) {
     if (!pauses || !seat->is_contended) return;
     seat->is_contended = 0;
@@ -85,7 +85,7 @@ static void pass_by_addition(int which, int64_t change, int odd) {
 static void put_by_addition(void) { pass_by_addition(UPPER, 1, 0); }
 static void get_by_addition(void) { pass_by_addition(LOWER, -1, 1); }
 
-/* A ring by compare-and-swap, D. Vyukov's. A cell has its turn beside its item. */
+/* A ring by compare-and-swap, D. Vyukov's. A cell has its turn next to its item. */
 
 enum { CELLS_IN_A_LINE = 4 };
 
@@ -94,7 +94,7 @@ static void open_by_swap(void) {
     for (int i = 0; i < cells; i++) turns[i] = i;
 }
 
-/* Draws a ticket whose cell has this turn; answers -1 where the queue is full or empty. */
+/* Draws a ticket whose cell has this turn; returns -1 if the queue is full or empty. */
 static int64_t draw_by_swap(struct word *counter, int64_t ahead) {
     load_line(&counter->line);
     int64_t ticket = counter->value;
@@ -145,7 +145,7 @@ static void open_under_lock(void) {
     first_item = 0;
 }
 
-/* A lock by one word that is set where it is found free. Who waits looks again after a pause. */
+/* A lock by one word that is set if it is found free. A processor that waits looks again after a pause. */
 static void lock_by_word(void) {
     for (int round = 0;; round++) {
         load_line(&lock_word.line);
@@ -233,7 +233,7 @@ const struct queue queues[QUEUES] = {
 
 static const struct queue *queue;
 
-/* One processor alone puts and gets; of several, every other one puts. */
+/* One processor puts and gets; of several, every other one puts. */
 static void use_queue(void) {
     int is_alone = processors_in_all() == 1, puts = this_processor() % 2 == 0;
     for (;;) {

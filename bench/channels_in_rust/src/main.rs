@@ -1,4 +1,4 @@
-//! Measures the channel from Rust beside others, and prints a table: nanoseconds, as a median with the best and the worst of the rounds.
+//! Measures the channel from Rust and others like it. Prints a table of nanoseconds: medians, with the best and the worst of the rounds.
 
 mod peers;
 mod workloads;

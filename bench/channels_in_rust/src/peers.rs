@@ -1,4 +1,4 @@
-//! The channels that are measured, behind one interface.
+//! The channels that are measured, by one interface.
 
 use std::collections::VecDeque;
 use std::sync::mpsc;
@@ -6,7 +6,7 @@ use std::sync::{Arc, Condvar, Mutex};
 
 /// A handle that sends. Both calls sleep while they have to wait.
 pub trait Sends: Send {
-    /// False where nobody will receive the item.
+    /// False if nobody will receive the item.
     fn send(&self, item: u64) -> bool;
 }
 
@@ -105,7 +105,7 @@ mod crossbeam {
 #[cfg(feature = "crossbeam")]
 use crossbeam::open_crossbeam;
 
-// ---- std's sync_channel, whose receiver is one: several threads share it behind a mutex
+// ---- std's sync_channel, which has one receiver: several threads share it by a mutex
 
 struct SharedReceiver(Arc<Mutex<mpsc::Receiver<u64>>>);
 

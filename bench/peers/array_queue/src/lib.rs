@@ -1,4 +1,4 @@
-//! `ArrayQueue<u64>` behind four calls for C, so that it stands in one program with the others.
+//! `ArrayQueue<u64>` through four calls for C, so that it is in one program with the others.
 
 use crossbeam_queue::ArrayQueue;
 
@@ -15,7 +15,7 @@ pub unsafe extern "C" fn array_queue_close(queue: *mut ArrayQueue<u64>) {
     drop(Box::from_raw(queue));
 }
 
-/// False where there is no room.
+/// False if there is no room.
 ///
 /// # Safety
 /// The queue is open.
@@ -24,7 +24,7 @@ pub unsafe extern "C" fn array_queue_put(queue: *const ArrayQueue<u64>, item: u6
     (*queue).push(item).is_ok()
 }
 
-/// False where there is no item.
+/// False if there is no item.
 ///
 /// # Safety
 /// The queue is open, and `item` may be written.
