@@ -1,4 +1,4 @@
-/* A shim round `malloc` and `realloc`: where FAILING_ALLOCATION is N, the N-th allocation fails. It writes how many there
+/* A shim for `malloc` and `realloc`: if FAILING_ALLOCATION is N, the N-th allocation fails. It writes how many there
    were to the file that ALLOCATIONS_MADE names. */
 #define _GNU_SOURCE
 #include <dlfcn.h>

@@ -1,6 +1,6 @@
-# The legend: the kinds of lines and bands that stand in the picture.
+# The legend: the kinds of lines and bands in the picture.
 
-# Which kinds stand in the picture, as `legend_names`; answers how many.
+# Collects the kinds in the picture as `legend_names`; returns how many there are.
 function gather_legend(    i, name, count) {
     for (i = 1; i <= trace_length; i++) {
         is_drawn[line_kind[i]] = 1
@@ -15,7 +15,7 @@ function gather_legend(    i, name, count) {
     return count
 }
 
-# Draws the legend below `top`, this many beside one another.
+# Draws the legend below `top`, this many next to one another.
 function write_legend(top, count, across, width,    i, x, y, name) {
     for (i = 1; i <= count; i++) {
         name = legend_names[i]

@@ -56,7 +56,7 @@ function lay_out() {
     full_height = row_top[rows + 1] + int((legend_count + legend_across - 1) / legend_across) * legend_height + 8
 }
 
-# Where each row begins, and the legend after the last one, from `top` on.
+# Computes the top of each row from `top` on, and that of the legend after the last one.
 function place_rows(top,    row, lane, count_rows) {
     count_rows = trace_object == "" ? 0 : trace_object == "room" ? 2 : 3
     row_top[1] = top
@@ -69,7 +69,7 @@ function place_rows(top,    row, lane, count_rows) {
     }
 }
 
-# The height of each lane in a row: thin where its seat has no line there, and of many lanes none where it is in no call.
+# The height of each lane in a row: thin if its seat has no line there, and none if there are many lanes and it is in no call.
 function fit_lanes(row, first,    i, lane) {
     for (lane = 1; lane <= lanes; lane++) {
         lane_room[row, lane] = lanes <= most_idle_lanes || lane_stand[lane] != "" ? thin_lane_height : 0
@@ -81,7 +81,7 @@ function fit_lanes(row, first,    i, lane) {
     }
 }
 
-# Breaks the title between words, into `title_line`; answers how many lines it has.
+# Breaks the title between words, into `title_line`; returns how many lines it has.
 function wrap_title(title, most,    words, word, i, count) {
     words = split(title, word, " ")
     for (i = 1; i <= words; i++) {
@@ -144,7 +144,7 @@ function write_row(row, first, top,    last, i, lane, bottom) {
     write_state(first, last, bottom + 6)
 }
 
-# Draws what stands after the lines of a row: the counts and the contents.
+# Draws what follows the lines of a row: the counts and the contents.
 function write_state(first, last, bottom) {
     if (trace_object == "room") {
         write_counts("value", value_after, first, last, bottom)
@@ -160,7 +160,7 @@ function column_x(i, first) {
     return margin + label_width + (i - first) * column_width
 }
 
-# The name of a lane, its ground line, and the bands that say how its seat stands.
+# The name of a lane, its ground line, and the bands that show the state of its seat.
 function write_lane(lane, first, last, middle,    i, x, right, now) {
     x = margin + label_width
     right = x + (last - first + 1) * column_width
@@ -242,7 +242,7 @@ function write_contents(first, last, top,    i, from, x, width, tint) {
     }
 }
 
-# The items that stand in the queue after a line, in this many characters.
+# The items in the queue after a line, in this many characters.
 function contents_after(i, most,    j, text) {
     if (puts_after[i] == gots_after[i]) {
         return cut_to("(empty)", most)

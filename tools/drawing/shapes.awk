@@ -1,5 +1,5 @@
 # The kinds of lines and bands: what they mean, their colours, strokes, patterns and shapes. Hues are those of Okabe and
-# Ito, and each kind has a shape, a stroke or a pattern of its own beside its hue.
+# Ito, and each kind has a shape, a stroke or a pattern of its own in addition to its hue.
 
 BEGIN {
     # kind, object (or both), shape, tint, stroke, its width, its dashes, pattern, meaning
@@ -32,7 +32,7 @@ function add_kind(name, sort, shape, tint, stroke, width, dashes, pattern, meani
     kind_meaning[name] = meaning
 }
 
-# The text as it may stand in XML.
+# The text as XML allows it.
 function escaped(text) {
     gsub(/&/, "\\&amp;", text)
     gsub(/</, "\\&lt;", text)
@@ -80,7 +80,7 @@ function write_box(name, x, y, width, height,    shape) {
     }
 }
 
-# An octagon whose corners are cut by this much; a hexagon where the cuts meet at half the height.
+# An octagon whose corners are cut by this much; a hexagon if the cuts meet at half the height.
 function write_polygon(name, x, y, width, height, across, down,    right, bottom) {
     right = x + width
     bottom = y + height
@@ -97,7 +97,7 @@ function pattern_name(name) {
     return kind_pattern[name] "-" substr(kind_stroke[name], 2)
 }
 
-# A band of a lane, which says how a seat stands between its steps.
+# A band of a lane, which shows the state of a seat between its steps.
 function write_band(name, x, y, width) {
     if (width <= 0) {
         return

@@ -1,7 +1,7 @@
-# What stands after each line of a trace: the counts, the contents or the amounts held, the kind of each line, and how
-# each seat stands then, all by the line's number. Lanes are numbered from 1: lane_of[SEAT], lane_seat[LANE].
+# The state after each line of a trace: the counts, the contents or the amounts held, the kind of each line, and the
+# state of each seat, all by the line's number. Lanes are numbered from 1: lane_of[SEAT], lane_seat[LANE].
 
-# Follows the whole trace; answers the line's fault that makes it no trace, or nothing.
+# Follows the whole trace; returns the fault of the line with which it is no trace, or nothing.
 function follow_trace(    i, fault) {
     number_seats()
     for (i = trace_length; i >= 1; i--) {
@@ -28,7 +28,7 @@ function follow_trace(    i, fault) {
     return fault
 }
 
-# Gives each seat that stands in the trace a lane, in the order of their numbers.
+# Gives each seat of the trace a lane, in the order of their numbers.
 function number_seats(    i, j, seat) {
     for (i = 1; i <= trace_length; i++) {
         seat = line_seat[i]
@@ -50,7 +50,7 @@ function is_below(left, right) {
     return length(left) < length(right) || (length(left) == length(right) && ("n" left) < ("n" right))
 }
 
-# Counts a mark in; answers a fault, or nothing.
+# Counts a mark in; returns a fault, or nothing.
 function count_mark(i, mark,    word, granted) {
     split(mark, word, " ")
     if (word[1] == "got" && (gots >= puts || items[gots] != word[2] "")) {
@@ -96,7 +96,7 @@ function is_waiting(i,    odd) {
     return line_step[i] == "turn-in" ? odd : !odd
 }
 
-# How the line's seat stands after it: nothing, open, claimed, over or waiting.
+# The state of the line's seat after it: nothing, open, claimed, over or waiting.
 function stand_after(i,    kind, seat) {
     kind = line_kind[i]
     seat = line_seat[i]

@@ -4,7 +4,7 @@
 
 BEGIN {
     trace_length = 0
-    # The marks that each step may leave; '#' stands for a number.
+    # The marks that each step may leave; '#' means a number.
     allow("room", "test", "-|no #")
     allow("room", "add", "up #|over #")
     allow("room", "back", "back #")
@@ -33,7 +33,7 @@ function allow(object, step, marks) {
     step_marks[step] = "|" marks "|"
 }
 
-# Reads one line; answers why it is refused, or nothing.
+# Reads one line; returns why it is refused, or nothing.
 function read_line(text,    words, field) {
     words = split(text, field, " ")
     if (text ~ /[^ -~]/ || text ~ /^ | $|  / || words < 3 || words > 5) {

@@ -7,7 +7,7 @@ TOP = os.path.dirname(os.path.dirname(os.path.dirname(os.path.abspath(__file__))
 
 
 class NoSuchText(Exception):
-    """A text that an oracle changes does not stand where it says."""
+    """A text that an oracle changes is not at the place that it names."""
 
 
 def built(script, *words):

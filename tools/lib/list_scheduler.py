@@ -18,7 +18,7 @@ class Process:
 
 
 class Files:
-    """The file entries: pairs of an inode, 0 where the entry is free, and its uses."""
+    """The file entries: pairs of an inode, 0 if the entry is free, and its uses."""
 
     def __init__(self, count):
         self.entries = [[0, 0] for _ in range(count)]
@@ -86,7 +86,7 @@ class ListScheduler:
         return "spawn " + ".".join(map(str, child.name))
 
     def line_of(self, process, op, argument):
-        """Makes a step that does not put the process to sleep, and answers its line."""
+        """Takes a step that does not put the process to sleep, and returns its line."""
         if op in ("open", "close", "stat"):
             return getattr(self.files, op)(argument)
         if op == "up":

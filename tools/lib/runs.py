@@ -9,7 +9,7 @@ TOP = os.path.dirname(os.path.dirname(os.path.dirname(os.path.abspath(__file__))
 
 
 def fault_of(program, case):
-    """What is wrong with the program's answer to a case, or None. A case is the words, the input, the status, the output (with status 1
+    """What is wrong with the program's output for a case, or None. A case is the words, the input, the status, the output (with status 1
     that on standard error), and whether that is the whole output or its end."""
     words, text, status, wanted, is_whole = case
     ran = subprocess.run([program, *words], input=text.encode(), capture_output=True, check=False)
@@ -23,7 +23,7 @@ def fault_of(program, case):
 
 
 def run_all(cases):
-    """Runs all cases, as many side by side as there are processors. Prints the first faults and 'N passed, M failed', and answers the
+    """Runs all cases, as many side by side as there are processors. Prints the first faults and 'N passed, M failed', and returns the
     exit status."""
     program = subprocess.run([f"{TOP}/tools/build/program"], capture_output=True, text=True, check=True).stdout.strip()
     passed, faults, rest = 0, [], itertools.islice(cases, 20 if sys.argv[1:] == ["first"] else None)

@@ -25,7 +25,7 @@ function size_of(path,    line) {
     return substr(line, RSTART + 7, RLENGTH - 7)
 }
 
-# Reads the marks of a trace into seats, kinds and numbers; answers how many they are.
+# Reads the marks of a trace into seats, kinds and numbers; returns how many they are.
 function read_marks(path,    line, field, marks) {
     marks = 0
     while (marks < most_marks && (getline line < path) > 0) {
@@ -58,7 +58,7 @@ function write_file(path, text) {
     close(path)
 }
 
-# Breaks the marks in one place, tried anew up to 20 times where they are legal still; answers the judge's fault, or -1.
+# Breaks the marks in one place, tried anew up to 20 times if they are legal still; returns the judge's fault, or -1.
 function break_history(size,    attempt, place, fault) {
     fault = -1
     for (attempt = 0; attempt < 20 && fault < 0 && mark_count > 0; attempt++) {

@@ -6,7 +6,7 @@ BEGIN {
     split(insertions "|" deletions "|close", whole_calls, "|")
 }
 
-# The index, from 0, of the first mark with which the marks stop being a legal history of a queue of this size; -1 where
+# The index, from 0, of the first mark with which the marks stop being a legal history of a queue of this size; -1 if
 # all of them are one. The marks are seats[1..count], kinds[1..count], numbers[1..count].
 function first_fault(size, seats, kinds, numbers, count,    i) {
     open_history(size)
@@ -28,7 +28,7 @@ function open_history(size) {
     split("", is_taken)
 }
 
-# Whether the marks so far with this one more are legal, where those so far are; counts it in.
+# Whether the marks so far with this one more are legal, if those so far are; counts it in.
 function may_follow(seat, kind, number) {
     if (!continues_a_call(seat, kind) || !is_fair(kind) || !is_in_order(seat, kind, number)) {
         return 0
@@ -54,7 +54,7 @@ function continues_a_call(seat, kind,    i) {
     return 0
 }
 
-# Whether the answer is fair by the counts before it.
+# Whether the result is fair by the counts before it.
 function is_fair(kind) {
     if (kind == "no-room" || kind == "over-in") {
         return upper_count >= history_size && !is_closed

@@ -17,7 +17,7 @@ function is_queue_seat_idle(seat) {
     return !(seat in queue_step)
 }
 
-# Begins a call; answers the refusal, or nothing.
+# Begins a call; returns the refusal, or nothing.
 function begin_queue(seat, call, item) {
     if (!is_queue_seat_idle(seat)) {
         return "mid-call"
@@ -27,7 +27,7 @@ function begin_queue(seat, call, item) {
     return ""
 }
 
-# Sends the seat on to a step, or ends its call where that is no step; answers the line.
+# Sends the seat on to a step, or ends its call if that is no step; returns the line.
 function go_on(seat, next_step, found, mark,    line) {
     line = queue_step[seat] " " found " " mark
     if (next_step == "") {
@@ -38,7 +38,7 @@ function go_on(seat, next_step, found, mark,    line) {
     return line
 }
 
-# Makes the seat's next step; answers its line without the seat, or nothing where the seat is idle.
+# Takes the seat's next step; returns its line without the seat, or nothing if the seat is idle.
 function advance_queue(seat,    step) {
     if (is_queue_seat_idle(seat)) {
         return ""

@@ -1,6 +1,6 @@
 # Random numbers that are the same on every awk: x := 48271 x mod (2^31 - 1), by whole numbers below 2^53.
 
-# Begins the numbers of one schedule: they depend on the seed, the kind of schedule and its number alone.
+# Begins the numbers of one schedule: they depend only on the seed, the kind of schedule and its number.
 function begin_numbers(seed, kind, number,    i) {
     random_state = 1 + (seed * 7919 + kind * 15485863 + number * 104729) % 2147483646
     for (i = 0; i < 8; i++) {

@@ -12,7 +12,7 @@ function is_room_seat_idle(seat) {
     return !(seat in room_step)
 }
 
-# Begins a call; answers the refusal, or nothing.
+# Begins a call; returns the refusal, or nothing.
 function begin_room(seat, call, amount) {
     if (!is_room_seat_idle(seat)) {
         return "mid-call"
@@ -25,7 +25,7 @@ function begin_room(seat, call, amount) {
     return ""
 }
 
-# Makes the seat's next step; answers its line without the seat, or nothing where the seat is idle.
+# Takes the seat's next step; returns its line without the seat, or nothing if the seat is idle.
 function advance_room(seat,    step, amount, fits, line) {
     if (is_room_seat_idle(seat)) {
         return ""

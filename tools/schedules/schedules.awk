@@ -53,7 +53,7 @@ function write_file(path, text) {
     close(path)
 }
 
-# One event, made on the object: mostly a call where the seat is idle and a step where it is not, else one to be refused.
+# One event on the object: mostly a call if the seat is idle and a step if it is not, else one to be refused.
 function make_event(object, seats,    seat, is_idle) {
     if (happens(2)) {
         seat = happens(50) ? seats + draw(3) : word_of(large)
