@@ -227,11 +227,11 @@ static const struct {
     uint64_t (*passes)(queue *q, uint64_t items);
 } rows[PARTS] = {
     {"the 12 steps alone", pass_steps},
-    {"and each count beside its bound", pass_bounds},
+    {"and each count next to its bound", pass_bounds},
     {"and each ticket's cell and round", pass_places},
     {"and the item, into its slot and out", pass_items},
     {"and what the seat keeps", pass_seats},
-    {"and two calls, with answers in memory", pass_answers},
+    {"and two calls, with results in memory", pass_answers},
     {"and the two calls that wait, outside", pass_calls},
 };
 
