@@ -1,4 +1,5 @@
 /* Tests of fak_channel.hpp: items of each kind, handles that move and end, each call and its codes, and owned items that threads share. */
+#include "check.h"
 #include "fak_channel.hpp"
 
 #include <array>
@@ -8,15 +9,6 @@
 #include <vector>
 
 using fak::Code;
-
-/* Ends the program if the condition does not hold. */
-#define CHECK(condition) \
-    do { \
-        if (!(condition)) { \
-            std::fprintf(stderr, "%s:%d: not so: %s\n", __FILE__, __LINE__, #condition); \
-            std::exit(1); \
-        } \
-    } while (0)
 
 /* ---- Items ---- */
 

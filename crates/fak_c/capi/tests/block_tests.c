@@ -1,5 +1,6 @@
 /* Objects in memory of the caller: each kind at the size that block.h says, and refused in less; the parts of a block; and threads
  * that leave objects of one block at once. The program has no other heap for the library. */
+#include "heap.h"
 #include "objects.h"
 #include "tests.h"
 
@@ -15,31 +16,18 @@ static fak_c_seat seats[MOST_SEATS];
 
 /* ---- Sizes ---- */
 
-/* Opens within so many bytes; `used` is how many of them. */
+/* Opens in this number of bytes; `used` is how many of them. */
 static int32_t opened_within(int kind, size_t n, uint64_t size, size_t bytes, size_t *used) {
-    int32_t answer;
     fak_c_block_begin(memory, bytes);
     CHECK(fak_c_block_is_free(memory));
-    answer = opened(kind, seats, n, size, 1000);
-    *used = fak_c_block_end();
-    CHECK(*used <= bytes);
-    return answer;
-}
-
-/* The seats leave one by one, and the memory is free when the last has left. */
-static void all_leave(size_t n) {
-    for (size_t i = 0; i < n; i++) {
-        CHECK(!fak_c_block_is_free(memory));
-        CHECK(fak_c_leave(&seats[i]) == FAK_C_OK);
-    }
-    CHECK(fak_c_block_is_free(memory));
+    return opened_in(memory, bytes, kind, seats, n, size, 1000, used);
 }
 
 /* What was used is enough. Sizes below it are refused, and leave nothing in use. */
 static void less_is_refused(int kind, size_t n, uint64_t size, size_t used) {
     size_t again = 0, step = used > 20000 ? used / 50 : 16;
     CHECK(opened_within(kind, n, size, used, &again) == FAK_C_OK && again == used);
-    all_leave(n);
+    all_leave(memory, seats, n);
     for (size_t bytes = 64; bytes < used; bytes += step) {
         CHECK(opened_within(kind, n, size, bytes, &again) == FAK_C_MEMORY);
         CHECK(fak_c_block_is_free(memory));
@@ -58,7 +46,7 @@ static size_t each_size_is_opened(void) {
             for (size_t j = 0; j < sizeof sizes / sizeof *sizes; j++) {
                 size_t n = numbers[i], bytes = bytes_of(kind, n, sizes[j]);
                 CHECK(bytes <= sizeof memory && opened_within(kind, n, sizes[j], bytes, &used) == FAK_C_OK);
-                all_leave(n);
+                all_leave(memory, seats, n);
                 less_is_refused(kind, n, sizes[j], used);
                 most = used > most ? used : most;
             }
@@ -84,13 +72,8 @@ static int32_t bundles_within(size_t n, size_t m, uint64_t width, uint64_t size,
 }
 
 static void all_bundles_leave(size_t n, size_t m) {
-    for (size_t i = 0; i < m; i++) {
-        CHECK(!fak_c_block_is_free(memory));
-        CHECK(fak_c_leave(&bundles[i]) == FAK_C_OK);
-    }
-    if (n > 0)
-        all_leave(n);
-    CHECK(fak_c_block_is_free(memory));
+    each_leaves(memory, bundles, m);
+    all_leave(memory, seats, n);
 }
 
 /* Opens bundles of many widths at the size that block.h says. Less than what they used is refused, and leaves nothing in use. */
@@ -113,15 +96,6 @@ static void each_width_is_opened(void) {
 }
 
 /* ---- Parts: what the library asks for ---- */
-
-struct answer {
-    bool found;
-    void *at;
-};
-
-struct answer rattle_alloc(size_t size, size_t align);
-struct answer rattle_realloc(void *part, size_t kept, size_t size, size_t align);
-void rattle_dealloc(void *part);
 
 static void is_refused(size_t size, size_t align) {
     struct answer answer = rattle_alloc(size, align);

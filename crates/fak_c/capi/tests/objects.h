@@ -3,6 +3,7 @@
 #define FAK_C_OBJECTS_H
 
 #include "block.h"
+#include "check.h"
 #include "fak_channel.h"
 
 enum { QUEUE, SEMAPHORE, ROOM, CREDIT, FILES, CHANNEL, KINDS };
@@ -41,6 +42,31 @@ static inline int32_t opened(int kind, fak_c_seat *seats, size_t n, uint64_t siz
     default:
         return fak_c_files_open(seats, n, 16, stint);
     }
+}
+
+/* Opens one in a block of this number of bytes; `used` is how many of them. */
+static inline int32_t opened_in(
+    void *block, size_t bytes, int kind, fak_c_seat *seats, size_t n, uint64_t size, uint64_t stint, size_t *used) {
+    int32_t code;
+    fak_c_block_begin(block, bytes);
+    code = opened(kind, seats, n, size, stint);
+    *used = fak_c_block_end();
+    CHECK(*used <= bytes);
+    return code;
+}
+
+/* The seats leave one by one, and the block is in use until then. */
+static inline void each_leaves(const void *block, fak_c_seat *seats, size_t n) {
+    for (size_t i = 0; i < n; i++) {
+        CHECK(!fak_c_block_is_free(block));
+        CHECK(fak_c_leave(&seats[i]) == FAK_C_OK);
+    }
+}
+
+/* The same of all seats of an object: the block is free once the last has left. */
+static inline void all_leave(const void *block, fak_c_seat *seats, size_t n) {
+    each_leaves(block, seats, n);
+    CHECK(fak_c_block_is_free(block));
 }
 
 #endif

@@ -1,12 +1,10 @@
-/* What an item costs, sent and received, in nanoseconds: by ends of a channel, by a shared channel, and by a ring under a mutex with two
- * conditions. By one thread (0 pairs), by pairs of threads, and handed over to another thread and back. Each figure is the median of some
- * runs, with the best and the worst. */
+/* Prints what an item costs in nanoseconds, sent and received: by ends of a channel, by a shared channel, and by a ring under a mutex with
+ * two conditions. The workloads are one thread, pairs of threads, and a hand-over to another thread and back. Each figure is the median of
+ * several runs, with the best and the worst. */
 #include "fak_channel.h"
+#include "figures.h"
 
 #include <pthread.h>
-#include <stdio.h>
-#include <stdlib.h>
-#include <time.h>
 
 enum { ITEMS = 40000, MOST_PAIRS = 32, MOST_CELLS = 1024, RUNS = 7, KINDS = 3, LENT = 8 };
 
@@ -18,32 +16,26 @@ typedef struct {
     void (*leave)(void);
 } kind;
 
-/* Ends the program: nothing else could be measured. */
-static void must(int32_t code) {
-    if (code != FAK_C_OK)
-        exit(1);
-}
-
-/* ---- ends: two channels, of which the second brings items back */
+/* ---- ends of two channels: the second one brings items back */
 
 static fak_channel_end ends[2][2 * MOST_PAIRS];
 
 static void open_ends(uint64_t size) {
     for (int i = 0; i < 2; i++)
-        must(fak_channel_open_ends(ends[i], 2 * MOST_PAIRS, size, UINT64_C(1) << 40));
+        must(fak_channel_open_ends(ends[i], 2 * MOST_PAIRS, size, LONG_STINT) == FAK_C_OK);
 }
 
 static void send_by_end(int channel, int thread, const fak_channel_item *item) {
-    must(fak_channel_send(&ends[channel][thread], item));
+    must(fak_channel_send(&ends[channel][thread], item) == FAK_C_OK);
 }
 
 static void receive_by_end(int channel, int thread, fak_channel_item *item) {
-    must(fak_channel_receive(&ends[channel][thread], item));
+    must(fak_channel_receive(&ends[channel][thread], item) == FAK_C_OK);
 }
 
 static void leave_ends(void) {
     for (int i = 0; i < 4 * MOST_PAIRS; i++)
-        must(fak_channel_leave(&ends[i % 2][i / 2]));
+        must(fak_channel_leave(&ends[i % 2][i / 2]) == FAK_C_OK);
 }
 
 /* ---- a shared channel */
@@ -53,22 +45,22 @@ static fak_channel_end lent[2][FAK_CHANNEL_SHARED_ENDS(LENT, LENT)];
 
 static void open_shared(uint64_t size) {
     for (int i = 0; i < 2; i++)
-        must(fak_channel_shared_open(&shared[i], lent[i], LENT, LENT, size, UINT64_C(1) << 40));
+        must(fak_channel_shared_open(&shared[i], lent[i], LENT, LENT, size, LONG_STINT) == FAK_C_OK);
 }
 
 static void send_shared(int channel, int thread, const fak_channel_item *item) {
     (void)thread;
-    must(fak_channel_shared_send(&shared[channel], item));
+    must(fak_channel_shared_send(&shared[channel], item) == FAK_C_OK);
 }
 
 static void receive_shared(int channel, int thread, fak_channel_item *item) {
     (void)thread;
-    must(fak_channel_shared_receive(&shared[channel], item));
+    must(fak_channel_shared_receive(&shared[channel], item) == FAK_C_OK);
 }
 
 static void leave_shared(void) {
     for (int i = 0; i < 2; i++)
-        must(fak_channel_shared_leave(&shared[i]));
+        must(fak_channel_shared_leave(&shared[i]) == FAK_C_OK);
 }
 
 /* ---- a ring under a mutex with two conditions */
@@ -142,23 +134,16 @@ static void *bring_back(void *thread) {
     return NULL;
 }
 
-static double now(void) {
-    struct timespec time;
-    clock_gettime(CLOCK_MONOTONIC, &time);
-    return (double)time.tv_sec * 1e9 + (double)time.tv_nsec;
-}
-
 /* One thread sends an item and receives it, over and over. */
-static double alone(void) {
-    double begun = now();
+static double by_one_thread(void) {
+    double begun = nanoseconds();
     for (uint64_t i = 0; i < items; i++) {
         fak_channel_item item = fak_channel_of_word(i);
         measured->send(0, 0, &item);
         measured->receive(0, 0, &item);
-        if (item.word[0] != i)
-            exit(1);
+        must(item.word[0] == i);
     }
-    return (now() - begun) / (double)items;
+    return (nanoseconds() - begun) / (double)items;
 }
 
 static double by_pairs(int pairs) {
@@ -168,11 +153,11 @@ static double by_pairs(int pairs) {
     for (int i = 0; i < 2 * pairs; i++)
         pthread_create(&threads[i], NULL, i < pairs ? send_all : receive_all, (void *)(intptr_t)i);
     pthread_barrier_wait(&start);
-    begun = now();
+    begun = nanoseconds();
     for (int i = 0; i < 2 * pairs; i++)
         pthread_join(threads[i], NULL);
     pthread_barrier_destroy(&start);
-    return (now() - begun) / ((double)pairs * (double)items);
+    return (nanoseconds() - begun) / ((double)pairs * (double)items);
 }
 
 static double there_and_back(void) {
@@ -182,18 +167,14 @@ static double there_and_back(void) {
     pthread_barrier_init(&start, NULL, 2);
     pthread_create(&other, NULL, bring_back, (void *)(intptr_t)1);
     pthread_barrier_wait(&start);
-    begun = now();
+    begun = nanoseconds();
     for (uint64_t i = 0; i < items; i++) {
         measured->send(0, 0, &item);
         measured->receive(1, 0, &item);
     }
     pthread_join(other, NULL);
     pthread_barrier_destroy(&start);
-    return (now() - begun) / (double)items;
-}
-
-static int order(const void *a, const void *b) {
-    return (*(const double *)a > *(const double *)b) - (*(const double *)a < *(const double *)b);
+    return (nanoseconds() - begun) / (double)items;
 }
 
 int main(void) {
@@ -208,15 +189,16 @@ int main(void) {
         {"32 pairs", 32, 8, ITEMS / 64}, {"to another thread and back", -1, 1, ITEMS / 8}};
     for (size_t row = 0; row < sizeof rows / sizeof *rows; row++) {
         for (int k = 0; k < KINDS; k++) {
+            char name[80];
             double runs[RUNS];
             measured = &kinds[k];
             items = rows[row].items;
             measured->open(rows[row].cells);
             for (int i = 0; i < RUNS; i++)
-                runs[i] = rows[row].pairs < 0 ? there_and_back() : rows[row].pairs == 0 ? alone() : by_pairs(rows[row].pairs);
+                runs[i] = rows[row].pairs < 0 ? there_and_back() : rows[row].pairs == 0 ? by_one_thread() : by_pairs(rows[row].pairs);
             measured->leave();
-            qsort(runs, RUNS, sizeof *runs, order);
-            printf("%s, %s: %.0f (%.0f to %.0f)\n", rows[row].name, measured->name, runs[RUNS / 2], runs[0], runs[RUNS - 1]);
+            snprintf(name, sizeof name, "%s, %s", rows[row].name, measured->name);
+            print_runs(name, runs, RUNS);
         }
     }
     return 0;

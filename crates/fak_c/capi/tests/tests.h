@@ -2,19 +2,8 @@
 #ifndef FAK_C_TESTS_H
 #define FAK_C_TESTS_H
 
+#include "check.h"
 #include "fak_c.h"
-
-#include <stdio.h>
-#include <stdlib.h>
-
-/* Ends the program where the condition does not hold. */
-#define CHECK(condition) \
-    do { \
-        if (!(condition)) { \
-            fprintf(stderr, "%s:%d: not so: %s\n", __FILE__, __LINE__, #condition); \
-            exit(1); \
-        } \
-    } while (0)
 
 /* A long stint, which each of 1,024 seats may have. */
 #define LONG_STINT (UINT64_C(1) << 40)

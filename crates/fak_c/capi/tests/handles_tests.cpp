@@ -1,6 +1,8 @@
 /* Tests of fak_c.hpp: each call of each kind of handle, handles that move and end, and typed items that threads share. The heap
  * counts, so that an object which is not given up is found. */
+#include "check.h"
 #include "fak_c.hpp"
+#include "heap.h"
 
 #include <array>
 #include <atomic>
@@ -14,35 +16,17 @@
 using fak::Code;
 using Queue = fak::QueueSeat<int>;
 
-/* Ends the program if the condition does not hold. */
-#define CHECK(condition) \
-    do { \
-        if (!(condition)) { \
-            std::fprintf(stderr, "%s:%d: not so: %s\n", __FILE__, __LINE__, #condition); \
-            std::exit(1); \
-        } \
-    } while (0)
-
 /* ---- The heap, which counts ---- */
 
 static std::atomic<long> live;
 
-struct Memory {
-    bool found;
-    void *at;
-};
-
-extern "C" Memory rattle_alloc(std::size_t size, std::size_t align);
-extern "C" Memory rattle_realloc(void *part, std::size_t kept, std::size_t size, std::size_t align);
-extern "C" void rattle_dealloc(void *part);
-
-extern "C" Memory rattle_alloc(std::size_t size, std::size_t align) {
+extern "C" answer rattle_alloc(std::size_t size, std::size_t align) {
     void *part = align <= 16 ? std::malloc(size) : nullptr;
     live += part != nullptr;
-    return part != nullptr ? Memory{true, part} : Memory{false, &live};
+    return part != nullptr ? answer{true, part} : answer{false, &live};
 }
 
-extern "C" Memory rattle_realloc(void *, std::size_t, std::size_t, std::size_t) { return {false, &live}; }
+extern "C" answer rattle_realloc(void *, std::size_t, std::size_t, std::size_t) { return {false, &live}; }
 
 extern "C" void rattle_dealloc(void *part) {
     live--;

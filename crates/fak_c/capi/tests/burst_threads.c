@@ -1,23 +1,10 @@
 /* Threads that share a queue by bursts and single calls. What is put and what is taken is noted under its ticket. Each item must stand
  * there once, under the ticket that its burst said, and those of each producer in the order in which it inserted them. */
-#include "tests.h"
+#include "workers.h"
 
-#include <pthread.h>
 #include <sched.h>
 
-enum { MOST_PAIRS = 4, MOST_THREADS = 2 * MOST_PAIRS, WIDTH = 8 };
-
-/* What one thread works with: a bundle, or a seat if it makes single calls. Those that drain a queue have both. */
-typedef struct {
-    pthread_t thread;
-    fak_c_seat *seat, *bundle;
-    uint64_t number;  /* which producer */
-    uint64_t limit;   /* how many items at most */
-    uint64_t count;   /* how many there were */
-    uint64_t next;    /* the least ticket that a producer may draw */
-    uint64_t drawn;   /* the state of what draws lengths */
-    uint64_t *put, *taken; /* items by ticket */
-} worker;
+enum { MOST_THREADS = 2 * MOST_PAIRS, WIDTH = 8 };
 
 static uint64_t tickets; /* how many may be drawn */
 
@@ -33,7 +20,7 @@ static uint64_t length_of_burst(worker *self) {
 static void note_put(worker *self, uint64_t ticket, uint64_t count) {
     CHECK(ticket >= self->next && ticket + count <= tickets);
     for (uint64_t i = 0; i < count; i++)
-        self->put[ticket + i] = self->number << 32 | (self->count + i);
+        self->put[ticket + i] = item_of(self, i);
     self->next = ticket + count;
     self->count += count;
 }
@@ -43,7 +30,7 @@ static bool put_burst(worker *self) {
     uint64_t items[WIDTH + 1], ticket = 0, count = 0, left = 99, n = length_of_burst(self);
     int32_t code;
     for (uint64_t i = 0; i < n; i++)
-        items[i] = self->number << 32 | (self->count + i);
+        items[i] = item_of(self, i);
     code = fak_c_insert_burst(self->bundle, items, n, &ticket, &count);
     if (code == FAK_C_CLOSED)
         return false;
@@ -65,7 +52,7 @@ static bool put_burst(worker *self) {
 /* Inserts one item by single calls, if there is room. False if the queue is shut. */
 static bool put_one(worker *self) {
     uint64_t ticket = 0;
-    int32_t code = fak_c_insert(self->seat, self->number << 32 | self->count, &ticket);
+    int32_t code = fak_c_insert(self->seat, item_of(self, 0), &ticket);
     if (code == FAK_C_CLOSED)
         return false;
     if (code == FAK_C_FULL) {
@@ -139,31 +126,11 @@ static void *consume(void *argument) {
     return NULL;
 }
 
-static void start(worker *self, void *(*work)(void *)) {
-    self->count = self->next = 0;
-    self->drawn = 2 * self->number + (work == consume);
-    CHECK(pthread_create(&self->thread, NULL, work, self) == 0);
-}
-
-static uint64_t joined(worker *workers, int count) {
-    uint64_t sum = 0;
-    for (int i = 0; i < count; i++) {
-        CHECK(pthread_join(workers[i].thread, NULL) == 0);
-        sum += workers[i].count;
-    }
-    return sum;
-}
-
-/* Under each ticket from `first` on stands what was put there, and the items of each producer stand in its order. */
+/* Under each ticket from `first` on is what was put there, and the items of each producer are in its order. */
 static void are_taken_as_put(const worker *producers, int count, uint64_t first, uint64_t total) {
-    uint64_t next[MOST_PAIRS] = {0};
-    for (uint64_t ticket = first; ticket < first + total; ticket++) {
-        uint64_t item = producers[0].taken[ticket], number = item >> 32;
-        CHECK(item == producers[0].put[ticket] && number < (uint64_t)count && (item & UINT32_MAX) == next[number]);
-        next[number]++;
-    }
-    for (int i = 0; i < count; i++)
-        CHECK(next[i] == producers[i].count);
+    for (uint64_t ticket = first; ticket < first + total; ticket++)
+        CHECK(producers[0].taken[ticket] == producers[0].put[ticket]);
+    are_in_order(producers, count, producers[0].taken, first, total);
 }
 
 /* Notes for this many tickets. */
@@ -201,8 +168,10 @@ static void place_workers(worker *workers, int pairs, uint64_t items, fak_c_seat
 }
 
 static void start_all(worker *workers, int count, void *(*work)(void *)) {
-    for (int i = 0; i < count; i++)
+    for (int i = 0; i < count; i++) {
+        workers[i].drawn = 2 * workers[i].number + (work == consume);
         start(&workers[i], work);
+    }
 }
 
 void threads_share_a_queue_by_bursts(int pairs, uint64_t items) {
@@ -218,7 +187,7 @@ void threads_share_a_queue_by_bursts(int pairs, uint64_t items) {
         place_workers(workers, pairs, items, seats, bundles);
         start_all(workers, pairs, produce);
         start_all(workers + pairs, pairs, consume);
-        CHECK(joined(workers, pairs) == total && joined(workers + pairs, pairs) == total);
+        CHECK(join_all(workers, pairs) == total && join_all(workers + pairs, pairs) == total);
         are_taken_as_put(workers, pairs, 0, total);
         leave_all(seats, 2 * pairs);
         leave_all(bundles, 2 * pairs);
@@ -261,8 +230,8 @@ void a_shut_queue_is_drained_by_bursts(uint64_t items) {
     start_all(workers + DRAIN_PAIRS, DRAIN_PAIRS, consume);
     take_some(self, items / 100);
     CHECK(fak_c_shut(self->seat, &is_shut) == FAK_C_OK && is_shut);
-    put = joined(workers, DRAIN_PAIRS);
-    CHECK(joined(workers + DRAIN_PAIRS, DRAIN_PAIRS) + self->count == put);
+    put = join_all(workers, DRAIN_PAIRS);
+    CHECK(join_all(workers + DRAIN_PAIRS, DRAIN_PAIRS) + self->count == put);
     CHECK(fak_c_insert_burst(&bundles[0], &put, 1, &ticket, &count) == FAK_C_CLOSED && ticket == 99 && count == 99);
     CHECK(fak_c_in_use(self->seat, &cells, &is_shut) == FAK_C_OK && cells == 0 && is_shut);
     are_taken_as_put(workers, DRAIN_PAIRS, 0, put);
@@ -302,14 +271,14 @@ static void end_a_stop(uint64_t first) {
 /* The workers put all that has cells of its own in this round, and take out all but `less` of it. */
 static void others_put(void) {
     start_all(others, OTHERS, produce);
-    CHECK(joined(others, OTHERS) == PASSED);
+    CHECK(join_all(others, OTHERS) == PASSED);
 }
 
 static void others_take(uint64_t less) {
     for (int i = 0; i < OTHERS; i++)
         others[OTHERS + i].limit = PASSING - less / OTHERS;
     start_all(others + OTHERS, OTHERS, consume);
-    CHECK(joined(others + OTHERS, OTHERS) == PASSED - less);
+    CHECK(join_all(others + OTHERS, OTHERS) == PASSED - less);
 }
 
 /* A burst of deletions has claimed items of which the first is not yet filled. The others put and take out what comes after it. */

@@ -1,85 +1,18 @@
 /* How much stack calls take: a painted stack, and what of it was written. Also the heap of a seat and of each object, by a heap that
  * counts; and where calls write the memory of a seat. */
+#include "stack_and_heap.h"
 #include "tests.h"
 
 #include <string.h>
-#include <ucontext.h>
 
-enum { STACK = 65536, PAINT = 0xA5, SEATS = 3, CELLS = 64, ROUNDS = 200, WIDTH = 32, LINE = 64 };
+enum { SEATS = 3, CELLS = 64, ROUNDS = 200, WIDTH = 32, LINE = 64 };
 
 /* The bytes of a seat. A bundle has a block of its own; the second word of its seat points to that block. */
 enum { DESK = 280, BUNDLE_AT = 8, BUNDLE = 368, LARGEST = BUNDLE };
 
-static unsigned char stack[STACK];
-static ucontext_t here, there;
-static void (*runs)(void);
 static fak_c_seat seats[SEATS];
 
-/* ---- The heap, which counts. ---- */
-
-struct answer {
-    bool found;
-    void *at;
-};
-
-static size_t live;
-
-struct answer rattle_alloc(size_t size, size_t align);
-struct answer rattle_realloc(void *part, size_t kept, size_t size, size_t align);
-void rattle_dealloc(void *part);
-
-struct answer rattle_alloc(size_t size, size_t align) {
-    size_t *part = malloc(size + 16);
-    CHECK(part != NULL && align <= 16);
-    part[0] = size;
-    live += size;
-    return (struct answer){true, (unsigned char *)part + 16};
-}
-
-struct answer rattle_realloc(void *part, size_t kept, size_t size, size_t align) {
-    (void)part, (void)kept, (void)size, (void)align;
-    return (struct answer){false, &live};
-}
-
-static size_t size_of(const void *part) {
-    return *(const size_t *)(const void *)((const unsigned char *)part - 16);
-}
-
-void rattle_dealloc(void *part) {
-    live -= size_of(part);
-    free((unsigned char *)part - 16);
-}
-
 /* ---- Stack ---- */
-
-static void run(void) { runs(); }
-
-/* How much of its stack the job writes. */
-static size_t depth_of(void (*job)(void)) {
-    size_t unused = 0;
-    memset(stack, PAINT, STACK);
-    runs = job;
-    CHECK(getcontext(&there) == 0);
-    there.uc_stack.ss_sp = stack;
-    there.uc_stack.ss_size = STACK;
-    there.uc_link = &here;
-    makecontext(&there, run, 0);
-    CHECK(swapcontext(&here, &there) == 0);
-    while (unused < STACK && stack[unused] == PAINT)
-        unused++;
-    return STACK - unused;
-}
-
-static void nothing(void) {}
-
-/* Writes this much of its stack. */
-enum { DEEP = 1000 };
-static void deep(void) {
-    volatile unsigned char written[DEEP];
-    for (size_t i = 0; i < DEEP; i++)
-        written[i] = 0;
-    CHECK(written[DEEP - 1] == 0);
-}
 
 static void open_queue(void) { CHECK(fak_c_open(seats, SEATS, CELLS, 1000) == FAK_C_OK); }
 static void open_semaphore(void) { CHECK(fak_c_sem_open(seats, SEATS, 0, 8, 1000) == FAK_C_OK); }
@@ -224,10 +157,10 @@ static fak_c_seat many[LARGE_SEATS];
 
 /* The opened object keeps as many bytes, and its seats give all of them back. */
 static void keeps(int32_t opened, size_t n, size_t bytes) {
-    CHECK(opened == FAK_C_OK && live == bytes);
+    CHECK(opened == FAK_C_OK && heap_in_use == bytes);
     for (size_t i = 0; i < n; i++)
         CHECK(fak_c_leave(&many[i]) == FAK_C_OK);
-    CHECK(live == 0);
+    CHECK(heap_in_use == 0);
 }
 
 static void each_kind_keeps_its_heap(size_t n) {
@@ -258,19 +191,18 @@ int main(void) {
         size_t size;
     } jobs[] = {{open_queue, use_queue, DESK}, {open_semaphore, use_semaphore, DESK}, {open_room, use_room, DESK},
         {open_credit, use_credit, DESK}, {open_files, use_files, DESK}, {open_bundle, use_bundle, BUNDLE}};
-    size_t base = depth_of(nothing), opening = 0, leaving = 0, bursts = 0, other = 0, depth;
-    CHECK(depth_of(deep) - base >= DEEP);
+    size_t opening = 0, leaving = 0, bursts = 0, other = 0, depth;
     for (size_t i = 0; i < sizeof jobs / sizeof *jobs; i++) {
-        depth = depth_of(jobs[i].open) - base;
+        depth = depth_of(jobs[i].open);
         opening = depth > opening ? depth : opening;
-        depth = depth_of_calls(jobs[i].use, jobs[i].size) - base;
+        depth = depth_of_calls(jobs[i].use, jobs[i].size);
         if (jobs[i].size == BUNDLE)
             bursts = depth;
         else
             other = depth > other ? depth : other;
-        depth = depth_of(leave_all) - base;
+        depth = depth_of(leave_all);
         leaving = depth > leaving ? depth : leaving;
-        CHECK(live == 0);
+        CHECK(heap_in_use == 0);
     }
     for (size_t n = 1; n <= FEW_SEATS; n++)
         each_kind_keeps_its_heap(n);

@@ -14,31 +14,17 @@ static fak_c_seat seats[KINDS][LARGE_SEATS];
 
 static size_t used; /* of the last block */
 
-/* Opens in a block of so many bytes. */
-static int32_t opened_in(void *block, size_t bytes, int kind, size_t n, uint64_t size, uint64_t stint) {
-    int32_t answer;
-    fak_c_block_begin(block, bytes);
-    answer = opened(kind, seats[kind], n, size, stint);
-    used = fak_c_block_end();
-    CHECK(used <= bytes);
-    return answer;
-}
-
 /* Opens in a block of the bytes that block.h says. */
 static void *opened_block(int kind, size_t n, uint64_t size, uint64_t stint) {
     size_t bytes = bytes_of(kind, n, size);
     void *block = malloc(bytes);
-    CHECK(block != NULL && opened_in(block, bytes, kind, n, size, stint) == FAK_C_OK);
+    CHECK(block != NULL && opened_in(block, bytes, kind, seats[kind], n, size, stint, &used) == FAK_C_OK);
     return block;
 }
 
-/* The seats leave one by one, and the memory is free when the last has left. */
-static void all_leave(void *block, int kind, size_t n) {
-    for (size_t i = 0; i < n; i++) {
-        CHECK(!fak_c_block_is_free(block));
-        CHECK(fak_c_leave(&seats[kind][i]) == FAK_C_OK);
-    }
-    CHECK(fak_c_block_is_free(block));
+/* The block is freed when the last seat has left. */
+static void leave_block(void *block, int kind, size_t n) {
+    all_leave(block, seats[kind], n);
     free(block);
 }
 
@@ -91,10 +77,11 @@ static void use(fak_c_seat *seat, int kind) {
 /* A stint or a number of seats beyond is refused, and less memory too. */
 static void more_is_refused(int kind, size_t n, uint64_t size, size_t needed) {
     void *block = malloc(needed);
-    CHECK(block != NULL && opened_in(block, needed, kind, n, size, LARGE_CALLS / n + 1) == FAK_C_BAD_LIMIT);
-    CHECK(opened_in(block, needed, kind, LARGE_SEATS + 1, size, 1) == FAK_C_BAD_LIMIT);
+    fak_c_seat *handles = seats[kind];
+    CHECK(block != NULL && opened_in(block, needed, kind, handles, n, size, LARGE_CALLS / n + 1, &used) == FAK_C_BAD_LIMIT);
+    CHECK(opened_in(block, needed, kind, handles, LARGE_SEATS + 1, size, 1, &used) == FAK_C_BAD_LIMIT);
     for (size_t bytes = 64; bytes < needed; bytes += needed / 50)
-        CHECK(opened_in(block, bytes, kind, n, size, 1) == FAK_C_MEMORY && fak_c_block_is_free(block));
+        CHECK(opened_in(block, bytes, kind, handles, n, size, 1, &used) == FAK_C_MEMORY && fak_c_block_is_free(block));
     free(block);
 }
 
@@ -109,7 +96,7 @@ static void many_seats_are_opened(void) {
             needed = used;
             for (size_t seat = 0; seat < n; seat++)
                 use(&seats[kind][seat], kind);
-            all_leave(block, kind, n);
+            leave_block(block, kind, n);
             more_is_refused(kind, n, sizes[i], needed);
         }
     }
@@ -130,7 +117,7 @@ static void a_queue_goes_round(uint64_t size) {
             CHECK(fak_c_get(&seat[1], &ticket, &item) == FAK_C_OK && ticket == round * size + i && item == 3 * i + round);
         CHECK(fak_c_get(&seat[0], NULL, &item) == FAK_C_EMPTY);
     }
-    all_leave(block, QUEUE, 2);
+    leave_block(block, QUEUE, 2);
 }
 
 /* ---- Threads on seats after the first 64 ---- */
@@ -254,7 +241,7 @@ static void threads_share_each_kind(void) {
         CHECK(pthread_join(threads[i], NULL) == 0);
     all_was_counted();
     for (int kind = 0; kind < KINDS; kind++)
-        all_leave(blocks[kind], kind, SEATS);
+        leave_block(blocks[kind], kind, SEATS);
 }
 
 int main(int count_of_words, char **words) {

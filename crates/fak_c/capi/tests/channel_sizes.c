@@ -1,71 +1,14 @@
 /* How much stack the calls of a channel by steps take, and how many bytes a channel keeps of the heap, and takes while it opens: what
  * fak_channel.h says of each. The heap counts. */
 #include "fak_channel.h"
+#include "stack_and_heap.h"
 #include "tests.h"
 
-#include <string.h>
-#include <ucontext.h>
+enum { ENDS = 4, CELLS = 2 };
 
-enum { STACK = 65536, PAINT = 0xA5, ENDS = 4, CELLS = 2 };
-
-static unsigned char stack[STACK];
-static ucontext_t here, there;
-static void (*runs)(void);
 static fak_c_seat ends[ENDS];
 
-/* ---- The heap, which counts as block.c does: 16 bytes in front of each part ---- */
-
-struct answer {
-    bool found;
-    void *at;
-};
-
-static size_t live, taken;
-
-struct answer rattle_alloc(size_t size, size_t align);
-struct answer rattle_realloc(void *part, size_t kept, size_t size, size_t align);
-void rattle_dealloc(void *part);
-
-struct answer rattle_alloc(size_t size, size_t align) {
-    size_t *part = malloc(size + 16);
-    CHECK(part != NULL && align <= 16);
-    part[0] = size;
-    live += size;
-    taken += 16 + ((size + 15) & ~(size_t)15);
-    return (struct answer){true, (unsigned char *)part + 16};
-}
-
-struct answer rattle_realloc(void *part, size_t kept, size_t size, size_t align) {
-    (void)part, (void)kept, (void)size, (void)align;
-    return (struct answer){false, &live};
-}
-
-void rattle_dealloc(void *part) {
-    live -= *(const size_t *)(const void *)((const unsigned char *)part - 16);
-    free((unsigned char *)part - 16);
-}
-
 /* ---- Stack ---- */
-
-static void run(void) { runs(); }
-
-/* How much of its stack the job writes. */
-static size_t depth_of(void (*job)(void)) {
-    size_t unused = 0;
-    memset(stack, PAINT, STACK);
-    runs = job;
-    CHECK(getcontext(&there) == 0);
-    there.uc_stack.ss_sp = stack;
-    there.uc_stack.ss_size = STACK;
-    there.uc_link = &here;
-    makecontext(&there, run, 0);
-    CHECK(swapcontext(&here, &there) == 0);
-    while (unused < STACK && stack[unused] == PAINT)
-        unused++;
-    return STACK - unused;
-}
-
-static void nothing(void) {}
 
 static void open_all(void) { CHECK(fak_channel_open(ends, ENDS, CELLS, 1000) == FAK_C_OK); }
 
@@ -113,19 +56,19 @@ static fak_c_seat many[LARGE_SEATS];
 
 /* A channel keeps what the header says, takes no more than it says, a head of 32 bytes with it, and gives all of it back. */
 static void keeps(size_t n, uint64_t size) {
-    taken = 32;
+    heap_taken = 32;
     CHECK(fak_channel_open(many, n, size, 1000) == FAK_C_OK);
-    CHECK(live == FAK_CHANNEL_KEEPS(n, size) && taken <= FAK_CHANNEL_BYTES(n, size) && taken + 256 >= FAK_CHANNEL_BYTES(n, size));
+    CHECK(heap_in_use == FAK_CHANNEL_KEEPS(n, size));
+    CHECK(heap_taken <= FAK_CHANNEL_BYTES(n, size) && heap_taken + 256 >= FAK_CHANNEL_BYTES(n, size));
     for (size_t i = 0; i < n; i++)
         CHECK(fak_c_leave(&many[i]) == FAK_C_OK);
-    CHECK(live == 0);
+    CHECK(heap_in_use == 0);
 }
 
 int main(void) {
     static const uint64_t sizes[] = {1, 2, 7, 64, 1000, 4096, 65537};
-    size_t base = depth_of(nothing), opening = depth_of(open_all) - base, other = depth_of(use_all) - base;
-    size_t leaving = depth_of(leave_all) - base;
-    CHECK(live == 0);
+    size_t opening = depth_of(open_all), other = depth_of(use_all), leaving = depth_of(leave_all);
+    CHECK(heap_in_use == 0);
     for (size_t i = 0; i < sizeof sizes / sizeof *sizes; i++)
         for (size_t n = 1; n <= LARGE_SEATS; n += n < 70 ? 1 : 159)
             keeps(n, sizes[i]);
