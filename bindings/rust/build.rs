@@ -1,7 +1,7 @@
 //! Finds the library for C: in the folder that FAK_C_DIR names, else by pkg-config.
 //!
 //! With FAK_C_DIR, FAK_C_HEAP names the folder of liblibc_c.a, the heap over malloc. If it is not set, the program brings the heap's
-//! three functions itself, as with block.c.
+//! three functions itself, for instance by block.c.
 
 use std::env::{self, VarError};
 use std::ffi::OsString;
@@ -17,7 +17,7 @@ fn main() {
         println!("cargo:rerun-if-env-changed={name}");
     }
     if let Err(missing) = find() {
-        eprintln!("fak: {missing}");
+        eprintln!("fak-seats: {missing}");
         exit(1);
     }
 }
@@ -62,7 +62,7 @@ fn by_pkg_config() -> Result<(), String> {
     Ok(())
 }
 
-// PKG_CONFIG_PATH, and behind it the folder of the prefix that this crate is installed in, if it is.
+// PKG_CONFIG_PATH, and after it the folder of the prefix that this crate is installed in, if it is.
 fn search_path() -> OsString {
     let mut folders: Vec<PathBuf> = env::var_os("PKG_CONFIG_PATH").iter().flat_map(env::split_paths).collect();
     if let Some(own) = env::var_os("CARGO_MANIFEST_DIR") {

@@ -52,8 +52,8 @@ fn handles<H: Clone>(handle: H, n: usize) -> impl Iterator<Item = H> {
 
 // ---- this library
 
-struct LibrarySender(fak::channel::Sender<u64>);
-struct LibraryReceiver(fak::channel::Receiver<u64>);
+struct LibrarySender(fak_seats::channel::Sender<u64>);
+struct LibraryReceiver(fak_seats::channel::Receiver<u64>);
 
 impl Sends for LibrarySender {
     fn send(&self, item: u64) -> bool {
@@ -68,7 +68,7 @@ impl Receives for LibraryReceiver {
 }
 
 fn open_library(size: usize, senders: usize, receivers: usize, ends: usize) -> (Senders, Receivers) {
-    let (sender, receiver) = fak::channel::bounded(size, ends).expect("the numbers are in range");
+    let (sender, receiver) = fak_seats::channel::bounded(size, ends).expect("the numbers are in range");
     (
         handles(sender, senders).map(|sender| Box::new(LibrarySender(sender)) as Box<dyn Sends>).collect(),
         handles(receiver, receivers).map(|receiver| Box::new(LibraryReceiver(receiver)) as Box<dyn Receives>).collect(),

@@ -1,13 +1,13 @@
 //! A pool of workers: threads that sleep until there is a job, and end once there is no sender and no job left.
 
-use fak::{channel, Fault};
+use fak_seats::{channel, Fault};
 use std::sync::atomic::{AtomicU64, Ordering::SeqCst};
 use std::sync::Arc;
 use std::thread::{spawn, JoinHandle};
 
 type Job = Box<dyn FnOnce() + Send>;
 
-/// Starts the workers: where jobs go in, and the threads.
+/// Starts the workers. Returns the sender of jobs, and the threads.
 fn pool(workers: usize) -> Result<(channel::Sender<Job>, Vec<JoinHandle<()>>), Fault> {
     let (jobs, receiver) = channel::bounded::<Job>(16, workers + 2)?;
     let work = |_| {

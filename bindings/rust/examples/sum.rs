@@ -1,6 +1,6 @@
 //! One thread sends the numbers from 1 to 1,000 to another, through a queue of 16 cells, and shuts it. The other adds them up.
 
-use fak::{Fault, Seat, Step};
+use fak_seats::{Fault, Seat, Step};
 use std::thread::{spawn, yield_now};
 
 /// Inserts the item. A queue that is shut, or a stint that is used up, is a fault.

@@ -37,12 +37,12 @@ impl<T> Error for Refused<T> {}
 
 /// A seat of a bounded queue of boxes, first in first out.
 ///
-/// A dropped seat ends its open call if one try does; else the drop of the queue's last seat ends it. That drop also drops the items
-/// that are still in the queue, on its thread. A seat that is forgotten keeps the queue and its items.
+/// The drop of a seat tries once to end its open call. If that fails, the drop of the queue's last seat ends it. That drop also drops the
+/// items that are still in the queue, on its thread. A seat that is forgotten keeps the queue and its items.
 ///
 /// ```compile_fail
 /// // What one seat puts in lives as long as what another takes out.
-/// fn shorten<'a>(seat: fak::BoxSeat<&'static str>) -> fak::BoxSeat<&'a str> {
+/// fn shorten<'a>(seat: fak_seats::BoxSeat<&'static str>) -> fak_seats::BoxSeat<&'a str> {
 ///     seat
 /// }
 /// ```
@@ -53,11 +53,11 @@ pub struct BoxSeat<T: Send> {
 
 // What all seats of a queue share.
 struct Queue<T> {
-    // A seat that makes no call before the last of the others was dropped, so it can still delete all that may be in the queue.
+    // It makes no call before the last of the other seats was dropped, so it can still delete all that may be in the queue.
     keeper: Seat,
     // The seats that were dropped during a call.
     open: AtomicPtr<Node>,
-    // One seat puts in what another takes out, so the items of all seats have one type, and one lifetime.
+    // One seat puts in what another takes out, so the items of all seats have the same type and lifetime.
     items: PhantomData<Cell<T>>,
 }
 
@@ -76,7 +76,7 @@ fn word_of<T>(item: Box<T>) -> u64 {
     Box::into_raw(item) as usize as u64
 }
 
-// SAFETY, of the caller: the word is of a `Box<T>`, and owns it.
+// SAFETY, of the caller: the word is that of a `Box<T>`, and owns it.
 unsafe fn box_of<T>(word: u64) -> Box<T> {
     // SAFETY: the word came from `Box::into_raw`, on this machine.
     unsafe { Box::from_raw(word as usize as *mut T) }
@@ -86,8 +86,8 @@ unsafe fn box_of<T>(word: u64) -> Box<T> {
 // The queue hands each word out once.
 
 impl<T: Send> BoxSeat<T> {
-    /// A queue of `size` cells, 1 to 2^24, as its n seats, 1 to 1,023. Each may make an equal share of 2^50 calls, of which the queue
-    /// itself keeps one.
+    /// Opens a queue of `size` cells, 1 to 2^24. Returns its n seats, 1 to 1,023. Each may make an equal share of 2^50 calls; the queue
+    /// itself keeps one share.
     pub fn open(n: usize, size: u64) -> Result<Vec<BoxSeat<T>>, Fault> {
         if n == 0 || n >= MOST_SEATS {
             return Err(Fault::BadLimit);
@@ -112,12 +112,12 @@ impl<T: Send> BoxSeat<T> {
         &mut self.own.seat
     }
 
-    /// A claim of room and one try: the ticket. Where it stays open, the seat keeps the item, and `try_fill` is next.
+    /// Claims room, and tries once. Returns the ticket. If the call stays open, the seat keeps the item, and `try_fill` is next.
     pub fn insert(&mut self, item: Box<T>) -> Result<Step<u64>, Refused<T>> {
         self.hand_in(item, |seat, word| seat.insert(word))
     }
 
-    /// A claim of room: the ticket. The seat keeps the item, and `try_fill` is next.
+    /// Claims room. Returns the ticket. The seat keeps the item, and `try_fill` is next.
     pub fn claim_insert(&mut self, item: Box<T>) -> Result<u64, Refused<T>> {
         self.hand_in(item, |seat, word| seat.claim_insert(word))
     }
@@ -132,12 +132,12 @@ impl<T: Send> BoxSeat<T> {
         })
     }
 
-    /// One try more of an insertion.
+    /// Tries once more to end an insertion.
     pub fn try_fill(&mut self) -> Result<Step<()>, Fault> {
         self.seat().try_fill()
     }
 
-    /// A claim of an item and one try: the item. Where it stays open, `try_take` is next.
+    /// Claims an item, and tries once. Returns the item. If the call stays open, `try_take` is next.
     pub fn delete(&mut self) -> Result<Step<Box<T>>, Fault> {
         let taken = self.seat().delete()?;
         // SAFETY: above.
@@ -151,19 +151,19 @@ impl<T: Send> BoxSeat<T> {
         Ok(taken.map(|(ticket, word)| (ticket, unsafe { box_of(word) })))
     }
 
-    /// A claim of an item: its ticket. `try_take` is next.
+    /// Claims an item. Returns its ticket. `try_take` is next.
     pub fn claim_delete(&mut self) -> Result<u64, Fault> {
         self.seat().claim_delete()
     }
 
-    /// One try more of a deletion.
+    /// Tries once more to end a deletion.
     pub fn try_take(&mut self) -> Result<Step<Box<T>>, Fault> {
         let taken = self.seat().try_take()?;
         // SAFETY: above.
         Ok(taken.map(|word| unsafe { box_of(word) }))
     }
 
-    /// Shuts the queue, and tells whether it was open.
+    /// Shuts the queue. Returns whether it was open.
     pub fn shut(&mut self) -> Result<bool, Fault> {
         self.seat().shut()
     }
@@ -199,10 +199,10 @@ impl<T: Send> BoxSeat<T> {
     }
 }
 
-// Tries once to end the open call of a seat: true if no call is open then. An item that the call takes out is dropped.
+// Tries once to end the open call of a seat. Returns whether no call is open then. An item that the call takes out is dropped.
 //
-// SAFETY, of the caller: the seat is of a queue of words that own a `Box<T>` each.
-unsafe fn ends<T>(seat: &mut Seat) -> bool {
+// SAFETY, of the caller: the seat belongs to a queue of words that own a `Box<T>` each.
+unsafe fn try_end<T>(seat: &mut Seat) -> bool {
     match seat.state() {
         State::Idle => true,
         State::Inserting(_) => seat.try_fill() == Ok(Step::Done(())),
@@ -221,21 +221,22 @@ impl<T: Send> Drop for BoxSeat<T> {
     fn drop(&mut self) {
         // SAFETY: it is not used again.
         let mut own = unsafe { ManuallyDrop::take(&mut self.own) };
-        // SAFETY: the seat is of such a queue.
-        if !unsafe { ends::<T>(&mut own.seat) } {
+        // SAFETY: the seat belongs to such a queue.
+        if !unsafe { try_end::<T>(&mut own.seat) } {
             self.queue.keep_open(own);
         }
     }
 }
 
 impl<T> Queue<T> {
-    // Puts a seat that is in a call before the others.
+    // Puts a seat that is in a call first into the list.
     fn keep_open(&self, own: Box<Node>) {
         let own = Box::into_raw(own);
         let mut first = self.open.load(SeqCst);
         loop {
-            // SAFETY: the node is this call's own until the exchange succeeds.
+            // SAFETY: the node belongs to this call until the exchange succeeds.
             unsafe { (*own).next = first };
+            // The exchange publishes the node, so it must follow the write of `next`: the drop of the queue walks the list without a lock.
             match self.open.compare_exchange_weak(first, own, SeqCst, SeqCst) {
                 Ok(_) => return,
                 Err(found) => first = found,
@@ -243,15 +244,15 @@ impl<T> Queue<T> {
         }
     }
 
-    // Tries once to end each open call, and keeps the seats whose calls stay open: true if there is none.
-    fn ends_all(&mut self) -> bool {
+    // Tries once to end each open call, and keeps the seats whose calls stay open. Returns whether there is none.
+    fn try_end_all(&mut self) -> bool {
         let mut next = core::mem::replace(self.open.get_mut(), null_mut());
         while !next.is_null() {
             // SAFETY: the list owns its nodes, each once.
             let mut node = unsafe { Box::from_raw(next) };
             next = node.next;
-            // SAFETY: the seat is of such a queue.
-            if !unsafe { ends::<T>(&mut node.seat) } {
+            // SAFETY: the seat belongs to such a queue.
+            if !unsafe { try_end::<T>(&mut node.seat) } {
                 self.keep_open(node);
             }
         }
@@ -259,13 +260,13 @@ impl<T> Queue<T> {
     }
 }
 
-// No other thread has a seat, so some open call can go on in each round, until all have ended and the queue is empty.
+// No other thread has a seat. So in each round at least one open call can go on, until all have ended and the queue is empty.
 impl<T> Drop for Queue<T> {
     fn drop(&mut self) {
         loop {
-            let ended = self.ends_all();
-            // SAFETY: the seat is of such a queue.
-            let idle = unsafe { ends::<T>(&mut self.keeper) };
+            let ended = self.try_end_all();
+            // SAFETY: the seat belongs to such a queue.
+            let idle = unsafe { try_end::<T>(&mut self.keeper) };
             if idle && self.keeper.claim_delete().is_err() && ended {
                 return;
             }

@@ -9,7 +9,7 @@ use alloc::vec::Vec;
 /// What a burst has claimed, and how far it has come.
 #[derive(Clone, Copy, Debug, PartialEq, Eq)]
 pub struct Burst {
-    /// The ticket of the first item. Those of the others follow it one by one.
+    /// The ticket of the first item. Those of the others follow it in order.
     pub ticket: u64,
     /// How many items were claimed: the first ones of the slice, at least 1.
     pub count: usize,
@@ -17,13 +17,13 @@ pub struct Burst {
     pub left: usize,
 }
 
-// SAFETY of the calls below: each handle is the bundle's own, slices are pointers with their lengths, and out-pointers are locals that were
-// written.
+// SAFETY of the calls below: each handle belongs to its bundle, slices are pointers with their lengths, and out-pointers are locals that
+// were written.
 
 impl Bundle {
-    /// A queue of `size` cells, 1 to 2^24, as N seats and M bundles of `width` seats each. M and `width` are at least 1, and N + M * `width`
-    /// is at most 1,024. Each seat may make `stint` calls, and a bundle `width` * `stint`, which its seats share. All together make at most
-    /// 2^50. The arrays lie on the stack: 128 bytes a handle, some times over.
+    /// Opens a queue of `size` cells, 1 to 2^24. Returns N seats, and M bundles of `width` seats each. M and `width` are at least 1, and
+    /// N + M * `width` is at most 1,024. Each seat may make `stint` calls, and a bundle `width` * `stint`, which its seats share. All
+    /// together make at most 2^50. The arrays lie on the stack: several times 128 bytes a handle.
     pub fn open<const N: usize, const M: usize>(width: u64, size: u64, stint: u64) -> Result<([Seat; N], [Bundle; M]), Fault> {
         let mut bundles = Err(Fault::BadLimit);
         let seats = opened::<N>(|seats| {
@@ -63,7 +63,7 @@ impl Bundle {
         Ok(burst(ticket, count, left))
     }
 
-    /// Goes on with a burst of insertions: how many items are left.
+    /// Goes on with a burst of insertions. Returns how many items are left.
     pub fn try_fill_burst(&mut self) -> Result<usize, Fault> {
         let mut left = 0;
         match unsafe { raw::fak_c_try_fill_burst(&mut self.0, &mut left) } {
@@ -72,7 +72,7 @@ impl Bundle {
         }
     }
 
-    /// Claims the oldest items, no more than the slice has places for, by one claim, and takes out those whose turn has come, to its first
+    /// Claims the oldest items by one claim, no more than the slice has places for. Takes out those whose turn has come, to its first
     /// `count - left` places. An empty slice is `BadLimit`.
     pub fn delete_burst(&mut self, items: &mut [u64]) -> Result<Burst, Fault> {
         let (mut ticket, mut count, mut taken) = (0, 0, 0);
@@ -83,8 +83,8 @@ impl Bundle {
         }
     }
 
-    /// Goes on with a burst of deletions: takes out further items, to the first places of the slice. How many it took out. A slice with fewer
-    /// places than are left of the burst is `BadLimit`.
+    /// Goes on with a burst of deletions: takes out further items, to the first places of the slice. Returns how many it took out. A slice
+    /// with fewer places than are left of the burst is `BadLimit`.
     pub fn try_take_burst(&mut self, items: &mut [u64]) -> Result<usize, Fault> {
         let (mut taken, mut left) = (0, 0);
         match unsafe { raw::fak_c_try_take_burst(&mut self.0, items.as_mut_ptr(), items.len(), &mut taken, &mut left) } {

@@ -1,9 +1,9 @@
 //! A bounded channel, first in first out, whose threads sleep while they wait.
 //!
-//! It is used as the bounded channels of other crates are:
+//! Its calls are those of the bounded channels of other crates:
 //!
 //! ```
-//! use fak::channel;
+//! use fak_seats::channel;
 //! use std::thread;
 //!
 //! let (sender, receiver) = channel::bounded(16, 4)?;
@@ -19,27 +19,27 @@
 //! drop(sender);
 //! let sum: u64 = workers.into_iter().map(|worker| worker.join().unwrap()).sum();
 //! assert_eq!(sum, 500_500);
-//! # Ok::<(), fak::Fault>(())
+//! # Ok::<(), fak_seats::Fault>(())
 //! ```
 //!
 //! # Ends
 //!
-//! A channel has a number of *ends*, which is fixed where it is opened. A call is made by an end, one at a time. A handle, `Sender` or
-//! `Receiver`, has an end. `clone` gives the new handle an end of its own; if there is none left, the handles share one, and take turns: a
-//! call then sleeps while the other's call does. So a clone never fails, and many more threads than ends may use a channel, with less at
-//! once. `try_clone` returns a handle only with an end of its own. Threads that use one handle by reference take turns too. A dropped
-//! handle gives its end back, for later clones.
+//! A channel is opened with a fixed number of *ends*. An end makes one call at a time. A handle, `Sender` or `Receiver`, has an end.
+//! `clone` gives the new handle an end of its own. If none is left, the handles share one and take turns: a call then sleeps while the
+//! other's call does. So a clone never fails, and many more threads than ends may use a channel, with fewer calls at once. `try_clone`
+//! returns a handle only with an end of its own. Threads that use one handle by reference take turns too. A dropped handle gives its end
+//! back, for later clones.
 //!
 //! # Closing
 //!
-//! The drop of the last `Sender` closes the channel: receivers get what is left, and then `Closed`. So does `close`, by any handle. The drop
-//! of the last `Receiver` closes it too, and drops what is left. A send to a closed channel is refused, and the item comes back. All threads
-//! that sleep wake up.
+//! The drop of the last `Sender` closes the channel: receivers get what is left, and then `Closed`. `close` of any handle does the same.
+//! The drop of the last `Receiver` closes the channel too, and drops what is left. A send to a closed channel is refused, and the item
+//! comes back. All threads that sleep wake up.
 //!
 //! # Sleeping
 //!
-//! No thread sleeps beside an item, a free cell or a close: the crate `fak_channel` proves that each wake-up is owed to an end, and this
-//! crate, which is tested, delivers it. A thread spins and yields for some microseconds before it sleeps.
+//! No thread sleeps on although there is an item, a free cell or a close for it. The crate `fak_channel` proves that each wake-up is owed
+//! to an end, and this crate, which is tested, delivers it. A thread spins and yields for some microseconds before it sleeps.
 //!
 //! # Items
 //!
@@ -47,15 +47,15 @@
 //! as long as what another receives:
 //!
 //! ```compile_fail
-//! fn shorten<'a>(receiver: fak::channel::Receiver<&'static str>) -> fak::channel::Receiver<&'a str> {
+//! fn shorten<'a>(receiver: fak_seats::channel::Receiver<&'static str>) -> fak_seats::channel::Receiver<&'a str> {
 //!     receiver
 //! }
 //! ```
 //!
-//! Handles go to other threads where the items do:
+//! Handles go to other threads only if the items may:
 //!
 //! ```compile_fail
-//! fn send(sender: fak::channel::Sender<std::rc::Rc<u8>>) {
+//! fn send(sender: fak_seats::channel::Sender<std::rc::Rc<u8>>) {
 //!     std::thread::spawn(move || sender);
 //! }
 //! ```
@@ -83,8 +83,8 @@ use std::sync::atomic::Ordering::SeqCst;
 use std::sync::Arc;
 use std::time::{Duration, Instant};
 
-/// Opens a channel of `size` cells, 1 to 2^24, with `ends` ends, 2 to 1,022: its first two handles. Each end may make an equal share of
-/// 2^50 calls, which is at least 2^40.
+/// Opens a channel of `size` cells, 1 to 2^24, with `ends` ends, 2 to 1,022. Returns its first two handles. Each end may make an equal
+/// share of 2^50 calls, which is at least 2^40.
 pub fn bounded<T>(size: usize, ends: usize) -> Result<(Sender<T>, Receiver<T>), Fault> {
     if !limits::is_channel_ends(ends) {
         return Err(Fault::BadLimit);
@@ -92,7 +92,7 @@ pub fn bounded<T>(size: usize, ends: usize) -> Result<(Sender<T>, Receiver<T>), 
     open(size, ends, MOST_CALLS / (ends + CHANNEL_KEEPS) as u64)
 }
 
-/// As `bounded`, where each end may make `stint` calls (`limits::is_channel_stint`).
+/// As `bounded`, but each end may make `stint` calls (`limits::is_channel_stint`).
 pub fn open<T>(size: usize, ends: usize, stint: u64) -> Result<(Sender<T>, Receiver<T>), Fault> {
     let shared = Arc::new(Shared::open(size, ends, stint)?);
     let (Some(sends), Some(receives)) = (Lent::of(&shared), Lent::of(&shared)) else {
@@ -116,7 +116,7 @@ macro_rules! handles {
         }
 
         impl<T> $name<T> {
-            /// A further handle with an end of its own: the free one of which the most calls are left. None where no end is free.
+            /// Returns a further handle with an end of its own: the free end that has the most calls left. None if no end is free.
             pub fn try_clone(&self) -> Option<$name<T>> {
                 let lent = Lent::of(&self.lent.shared)?;
                 Some(self.counted(lent))
@@ -127,7 +127,8 @@ macro_rules! handles {
                 $name { lent }
             }
 
-            /// Closes the channel, and tells whether it was open. Sends are refused from now on; receivers get what is left, and then `Closed`.
+            /// Closes the channel. Returns whether it was open. Sends are refused from now on. Receivers get what is left, and then
+            /// `Closed`.
             pub fn close(&self) -> bool {
                 self.lent.shared.close()
             }
@@ -157,13 +158,13 @@ macro_rules! handles {
                 self.lent.shared.size
             }
 
-            /// Whether both handles are of one channel.
+            /// Whether both handles belong to one channel.
             pub fn same_channel(&self, other: &$name<T>) -> bool {
                 Arc::ptr_eq(&self.lent.shared, &other.lent.shared)
             }
         }
 
-        /// A handle with an end of its own, or where none is free, one that shares the end of this handle.
+        /// A handle with an end of its own. If none is free, it shares the end of this handle.
         impl<T> Clone for $name<T> {
             fn clone(&self) -> $name<T> {
                 self.try_clone().unwrap_or_else(|| self.counted(Arc::clone(&self.lent)))
@@ -240,8 +241,8 @@ impl<T> Receiver<T> {
         self.lent.receive(Patience::Until(deadline)).map_err(RecvTimeoutError::of)
     }
 
-    /// The items until the channel is closed and empty; sleeps while there is none. It ends too where the stint of the end is used up: only
-    /// `recv` tells.
+    /// The items until the channel is closed and empty; sleeps while there is none. It also ends when the stint of the end is used up: only
+    /// `recv` shows which.
     pub fn iter(&self) -> Iter<'_, T> {
         Iter(self)
     }

@@ -7,7 +7,7 @@ use core::fmt::{self, Display, Formatter};
 /// Why a call was not made. A refused item is not taken.
 ///
 /// Never sleep on `Full`, `Empty`, `AtBound` or `Busy`: they count claims that others are about to take back, so a queue may be `Empty`
-/// beside an item. Yield and try again, or sleep on a semaphore that counts the items (`fak_c.h`, "Queues"), or take the channel.
+/// although it has an item. Yield and try again, or sleep on a semaphore that counts the items (`fak_c.h`, "Queues"), or take the channel.
 #[derive(Clone, Copy, Debug, PartialEq, Eq)]
 pub enum Fault {
     /// The queue had no room.
@@ -16,7 +16,7 @@ pub enum Fault {
     Empty,
     /// The queue is shut.
     Closed,
-    /// The claim did not fit beside this count of the room.
+    /// The claim did not fit: the room had this count.
     AtBound(i64),
     /// Others hold the file table, or try to; this is the count that was found.
     Busy(i64),
@@ -24,14 +24,14 @@ pub enum Fault {
     Worn,
     /// The seat is in another state than this call needs, or there is no such entry.
     WrongState,
-    /// A number is out of range: `limits` has the tests that tell which. Or more is to be given back than the seat holds.
+    /// A number is out of range: the tests of `limits` say which. Or more is to be given back than the seat holds.
     BadLimit,
     /// There was no memory.
     Memory,
 }
 
 impl Fault {
-    /// The fault of a code, where the call is refused.
+    /// The fault of a code with which a call is refused. A seat's handle is never empty, so `FAK_C_NO_SEAT` does not come.
     pub(crate) fn of(code: i32) -> Fault {
         match code {
             raw::FULL => Fault::Full,

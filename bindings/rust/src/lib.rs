@@ -1,9 +1,9 @@
-//! Seats of the proved objects of `libfak_c.a`, for plain Rust. No call of a seat waits, and none takes memory but those that open. With the
+//! Seats of the proved objects of `libfak_c.a`, for plain Rust. No call of a seat waits, and only those that open allocate. With the
 //! feature `std` there is a `channel` too, whose threads sleep.
 //!
-//! The calls are safe, since the types keep what `fak_c.h` asks of C. A call takes `&mut self`, so a handle is in one call at a time; a
-//! handle is moved, never copied; out-pointers are locals; a seat may go to another thread (`Send`), which the crate `fak_c` proves of a
-//! handle. What is left to the program that links it: the heap, and no opening or drop of a seat in an interrupt or signal handler.
+//! The calls are safe, since the types keep what `fak_c.h` asks of C. A call takes `&mut self`, so a handle is in one call at a time. A
+//! handle is moved, never copied, and out-pointers are locals. A seat may go to another thread (`Send`), as the crate `fak_c` proves of a
+//! handle. The program that links it brings the heap, and opens and drops no seat in an interrupt or signal handler.
 #![no_std]
 
 #[cfg(feature = "alloc")]
@@ -40,7 +40,7 @@ pub enum Step<T> {
 }
 
 impl<T> Step<T> {
-    /// The same, with what it is done with changed.
+    /// The same, with its value changed.
     pub fn map<U>(self, change: impl FnOnce(T) -> U) -> Step<U> {
         match self {
             Step::Done(value) => Step::Done(change(value)),
@@ -141,7 +141,7 @@ macro_rules! seats {
     ($($(#[$doc:meta])* $name:ident;)*) => {$(
         $(#[$doc])*
         ///
-        /// Dropped, it is given up. In mid-call, or while it holds something, that can't be: then its object is never freed.
+        /// Its drop gives it up. That is refused during a call, or while it holds something: then its object is never freed.
         pub struct $name(Handle);
 
         // SAFETY: `fak_c` proves that a handle may go to another thread.
@@ -174,8 +174,8 @@ seats! {
 // SAFETY of the calls below: each handle is the seat's own, and out-pointers are locals that were written.
 
 impl Seat {
-    /// A queue of `size` cells, 1 to 2^24, as its N seats, 1 to 1,024, each of which may make `stint` calls: at least 1, and N times the
-    /// stint is at most 2^50. So it is for seats of every kind. The array lies on the stack: 128 bytes a seat, some times over.
+    /// Opens a queue of `size` cells, 1 to 2^24. Returns its N seats, 1 to 1,024. Each may make `stint` calls: at least 1, and N times the
+    /// stint is at most 2^50. The same limits hold for seats of every kind. The array lies on the stack: several times 128 bytes a seat.
     pub fn open<const N: usize>(size: u64, stint: u64) -> Result<[Seat; N], Fault> {
         opened::<N>(|seats| unsafe { raw::fak_c_open(seats, N, size, stint) }).map(|all| all.map(Seat))
     }
@@ -186,67 +186,67 @@ impl Seat {
         Ok(opened_vec(n, |seats| unsafe { raw::fak_c_open(seats, n, size, stint) })?.into_iter().map(Seat).collect())
     }
 
-    /// A claim of room: the ticket, which is the number of insertions granted before. The seat keeps the item, and `try_fill` is next.
+    /// Claims room. Returns the ticket, which is the number of insertions granted before. The seat keeps the item, and `try_fill` is next.
     pub fn claim_insert(&mut self, item: u64) -> Result<u64, Fault> {
         let mut ticket = 0;
         let code = unsafe { raw::fak_c_claim_insert(&mut self.0, item, &mut ticket) };
         made(code, ticket)
     }
 
-    /// A claim of room and one try: the ticket. Where it stays open, the seat keeps the item.
+    /// Claims room, and tries once. Returns the ticket. If the call stays open, the seat keeps the item.
     pub fn insert(&mut self, item: u64) -> Result<Step<u64>, Fault> {
         let mut ticket = 0;
         let code = unsafe { raw::fak_c_insert(&mut self.0, item, &mut ticket) };
         step(code, ticket)
     }
 
-    /// Leaves the queue to others for a while, where the seat has found that they use it too. It spins for some tens of microseconds,
-    /// at most once in some 100 calls; with the archive by `--backend rattle` it does nothing. Not for an interrupt or signal handler.
+    /// Leaves the queue to others for a while, if the seat has found that they use it too. It spins for some tens of microseconds, at most
+    /// once in some 100 calls. With the archive by `--backend rattle` it does nothing. Not for an interrupt or signal handler.
     pub fn pause(&mut self) {
         // A seat of a queue is not refused.
         unsafe { raw::fak_c_pause(&mut self.0) };
     }
 
-    /// One try more of an insertion.
+    /// Tries once more to end an insertion.
     pub fn try_fill(&mut self) -> Result<Step<()>, Fault> {
         step(unsafe { raw::fak_c_try_fill(&mut self.0) }, ())
     }
 
-    /// A claim of an item: the ticket, under which the item was inserted. `try_take` is next.
+    /// Claims an item. Returns the ticket under which the item was inserted. `try_take` is next.
     pub fn claim_delete(&mut self) -> Result<u64, Fault> {
         let mut ticket = 0;
         let code = unsafe { raw::fak_c_claim_delete(&mut self.0, &mut ticket) };
         made(code, ticket)
     }
 
-    /// A claim of an item and one try: the item.
+    /// Claims an item, and tries once. Returns the item.
     pub fn delete(&mut self) -> Result<Step<u64>, Fault> {
         Ok(self.delete_with_ticket()?.map(|(_, item)| item))
     }
 
-    /// A claim of an item and one try: the ticket, and the item. Where it stays open, `state` has the ticket.
+    /// Claims an item, and tries once. Returns the ticket and the item. If the call stays open, `state` has the ticket.
     pub fn delete_with_ticket(&mut self) -> Result<Step<(u64, u64)>, Fault> {
         let (mut ticket, mut item) = (0, 0);
         let code = unsafe { raw::fak_c_delete(&mut self.0, &mut ticket, &mut item) };
         step(code, (ticket, item))
     }
 
-    /// One try more of a deletion.
+    /// Tries once more to end a deletion.
     pub fn try_take(&mut self) -> Result<Step<u64>, Fault> {
         let mut item = 0;
         let code = unsafe { raw::fak_c_try_take(&mut self.0, &mut item) };
         step(code, item)
     }
 
-    /// Shuts the queue, and tells whether it was open.
+    /// Shuts the queue. Returns whether it was open.
     pub fn shut(&mut self) -> Result<bool, Fault> {
         let mut was_open = false;
         let code = unsafe { raw::fak_c_shut(&mut self.0, &mut was_open) };
         made(code, was_open)
     }
 
-    /// How many items are ready: insertions that have ended, less the deletions begun and not withdrawn. While no other seat is in a call it
-    /// is the number of items. It is below 0 while deletions are refused.
+    /// How many items are ready: insertions that have ended, less the deletions begun and not withdrawn. While no other seat is in a call
+    /// it is the number of items. It is below 0 while deletions are refused.
     pub fn count(&mut self) -> i64 {
         let mut items = 0;
         // A seat of a queue is not refused.
@@ -293,7 +293,7 @@ impl Seat {
 }
 
 impl SemSeat {
-    /// A semaphore that begins at `start`, 0 to 2^32, with a wait queue of `size` cells, 1 to 2^24, as its N seats.
+    /// Opens a semaphore that begins at `start`, 0 to 2^32, with a wait queue of `size` cells, 1 to 2^24. Returns its N seats.
     pub fn open<const N: usize>(start: u64, size: u64, stint: u64) -> Result<[SemSeat; N], Fault> {
         opened::<N>(|seats| unsafe { raw::fak_c_sem_open(seats, N, start, size, stint) }).map(|all| all.map(SemSeat))
     }
@@ -304,22 +304,22 @@ impl SemSeat {
         Ok(opened_vec(n, |seats| unsafe { raw::fak_c_sem_open(seats, n, start, size, stint) })?.into_iter().map(SemSeat).collect())
     }
 
-    /// A down of the item: `Done` where it passes, `NotYet` where `try_park` is next.
+    /// Begins a down of the item: `Done` if it passes, `NotYet` if `try_park` is next.
     pub fn down(&mut self, item: u64) -> Result<Step<()>, Fault> {
         step(unsafe { raw::fak_c_sem_claim_down(&mut self.0, item) }, ())
     }
 
-    /// One step more of a down: `Done` where the item is parked.
+    /// Takes one more step of a down: `Done` if the item is parked.
     pub fn try_park(&mut self) -> Result<Step<()>, Fault> {
         step(unsafe { raw::fak_c_sem_try_park(&mut self.0) }, ())
     }
 
-    /// An up: `Done` where it wakes no item, `NotYet` where `try_wake` is next.
+    /// Begins an up: `Done` if it wakes no item, `NotYet` if `try_wake` is next.
     pub fn up(&mut self) -> Result<Step<()>, Fault> {
         step(unsafe { raw::fak_c_sem_claim_up(&mut self.0) }, ())
     }
 
-    /// One step more of an up: the woken item.
+    /// Takes one more step of an up. Returns the woken item.
     pub fn try_wake(&mut self) -> Result<Step<u64>, Fault> {
         let mut item = 0;
         let code = unsafe { raw::fak_c_sem_try_wake(&mut self.0, &mut item) };
@@ -348,7 +348,7 @@ impl SemSeat {
 }
 
 impl RoomSeat {
-    /// A room whose count is 0, with this bound, 0 to 2^32, as its N seats.
+    /// Opens a room whose count is 0, with this bound, 0 to 2^32. Returns its N seats.
     pub fn open<const N: usize>(bound: u64, stint: u64) -> Result<[RoomSeat; N], Fault> {
         opened::<N>(|seats| unsafe { raw::fak_c_room_open(seats, N, bound, stint) }).map(|all| all.map(RoomSeat))
     }
@@ -359,7 +359,7 @@ impl RoomSeat {
         Ok(opened_vec(n, |seats| unsafe { raw::fak_c_room_open(seats, n, bound, stint) })?.into_iter().map(RoomSeat).collect())
     }
 
-    /// Claims the amount, 1 to 1,024: the count that it found.
+    /// Claims the amount, 1 to 1,024. Returns the count before.
     pub fn claim(&mut self, amount: u64) -> Result<i64, Fault> {
         let mut found = 0;
         match unsafe { raw::fak_c_room_tir(&mut self.0, amount, &mut found) } {
@@ -368,7 +368,7 @@ impl RoomSeat {
         }
     }
 
-    /// Gives the amount back, no more than the seat holds: the count before.
+    /// Gives the amount back, no more than the seat holds. Returns the count before.
     pub fn release(&mut self, amount: u64) -> Result<i64, Fault> {
         let mut found = 0;
         let code = unsafe { raw::fak_c_room_release(&mut self.0, amount, &mut found) };
@@ -393,7 +393,7 @@ impl RoomSeat {
 }
 
 impl CreditSeat {
-    /// A credit that begins at `start`, 0 to 2^32, as its N seats.
+    /// Opens a credit that begins at `start`, 0 to 2^32. Returns its N seats.
     pub fn open<const N: usize>(start: u64, stint: u64) -> Result<[CreditSeat; N], Fault> {
         opened::<N>(|seats| unsafe { raw::fak_c_credit_open(seats, N, start, stint) }).map(|all| all.map(CreditSeat))
     }
@@ -404,14 +404,14 @@ impl CreditSeat {
         Ok(opened_vec(n, |seats| unsafe { raw::fak_c_credit_open(seats, n, start, stint) })?.into_iter().map(CreditSeat).collect())
     }
 
-    /// Subtracts 1: the count before.
+    /// Subtracts 1. Returns the count before.
     pub fn debit(&mut self) -> Result<i64, Fault> {
         let mut found = 0;
         let code = unsafe { raw::fak_c_credit_debit(&mut self.0, &mut found) };
         made(code, found)
     }
 
-    /// Adds 1: the count before.
+    /// Adds 1. Returns the count before.
     pub fn credit(&mut self) -> Result<i64, Fault> {
         let mut found = 0;
         let code = unsafe { raw::fak_c_credit_credit(&mut self.0, &mut found) };
@@ -436,7 +436,7 @@ impl CreditSeat {
 }
 
 impl FileSeat {
-    /// A table of this many entries, 1 to 16, as its N seats.
+    /// Opens a table of this many entries, 1 to 16. Returns its N seats.
     pub fn open<const N: usize>(entries: u64, stint: u64) -> Result<[FileSeat; N], Fault> {
         opened::<N>(|seats| unsafe { raw::fak_c_files_open(seats, N, entries, stint) }).map(|all| all.map(FileSeat))
     }
@@ -447,7 +447,7 @@ impl FileSeat {
         Ok(opened_vec(n, |seats| unsafe { raw::fak_c_files_open(seats, n, entries, stint) })?.into_iter().map(FileSeat).collect())
     }
 
-    /// A reader's hold.
+    /// Takes a reader's hold, by one attempt.
     pub fn try_read(&mut self) -> Result<(), Fault> {
         let mut count = 0;
         match unsafe { raw::fak_c_files_try_read(&mut self.0, &mut count) } {
@@ -456,7 +456,7 @@ impl FileSeat {
         }
     }
 
-    /// A writer's hold.
+    /// Takes a writer's hold, by one attempt.
     pub fn try_write(&mut self) -> Result<(), Fault> {
         let mut count = 0;
         match unsafe { raw::fak_c_files_try_write(&mut self.0, &mut count) } {
@@ -465,19 +465,19 @@ impl FileSeat {
         }
     }
 
-    /// Both fields of an entry, `inode` and `uses`, in a hold.
+    /// Returns both fields of an entry, `inode` and `uses`. The seat has a hold.
     pub fn get(&mut self, entry: u64) -> Result<(u64, u64), Fault> {
         let (mut inode, mut uses) = (0, 0);
         let code = unsafe { raw::fak_c_files_get(&mut self.0, entry, &mut inode, &mut uses) };
         made(code, (inode, uses))
     }
 
-    /// Sets the inode of an entry, in a writer's hold.
+    /// Sets the inode of an entry. The seat has a writer's hold.
     pub fn set_inode(&mut self, entry: u64, to: u64) -> Result<(), Fault> {
         made(unsafe { raw::fak_c_files_set_inode(&mut self.0, entry, to) }, ())
     }
 
-    /// Sets the uses of an entry, in a writer's hold.
+    /// Sets the uses of an entry. The seat has a writer's hold.
     pub fn set_uses(&mut self, entry: u64, to: u64) -> Result<(), Fault> {
         made(unsafe { raw::fak_c_files_set_uses(&mut self.0, entry, to) }, ())
     }

@@ -12,7 +12,7 @@ pub const MOST_START: u64 = 1 << 32;
 pub const MOST_ENTRIES: u64 = 16;
 /// The most that one claim of a room asks for.
 pub const MOST_AMOUNT: u64 = 1_024;
-/// The ends that a channel has beside those of its handles: one that closes it and drops what is left, and one for tries of handles whose
+/// The ends that a channel has besides those of its handles: one that closes it and drops what is left, and one for tries of handles whose
 /// own end is in a call.
 pub const CHANNEL_KEEPS: usize = 2;
 

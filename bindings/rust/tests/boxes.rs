@@ -1,6 +1,9 @@
-//! Queues of boxes: items of any type go from thread to thread, and each is dropped once, whatever its seats were doing.
+//! Queues of boxes: items of any type go from thread to thread, and each is dropped once, whatever calls its seats had open.
 
-use fak::{BoxSeat, Fault, State, Step};
+mod common;
+
+use common::{Token, TOKEN_DROPS};
+use fak_seats::{BoxSeat, Fault, State, Step};
 use std::sync::atomic::{AtomicUsize, Ordering::SeqCst};
 use std::sync::Arc;
 use std::thread::{scope, spawn, yield_now};
@@ -136,23 +139,16 @@ fn what_is_left_is_dropped_at_the_close() {
 
 #[test]
 fn items_without_bytes_are_dropped_too() {
-    static DROPS: AtomicUsize = AtomicUsize::new(0);
-    struct Token;
-    impl Drop for Token {
-        fn drop(&mut self) {
-            DROPS.fetch_add(1, SeqCst);
-        }
-    }
     let mut seats = BoxSeat::open(1, 4).unwrap();
     (0..4).for_each(|_| put(&mut seats[0], Box::new(Token)));
     drop(get(&mut seats[0]));
     drop(seats);
-    assert_eq!(DROPS.load(SeqCst), 4);
+    assert_eq!(TOKEN_DROPS.load(SeqCst), 4);
 }
 
 // Six seats of a queue of two cells, which two items have gone into. The first seat has claimed an insertion whose cell is not yet
 // free, and the second the deletion that would free it.
-fn two_in_mid_call(make: &impl Fn(u64) -> Box<Counted>) -> Vec<BoxSeat<Counted>> {
+fn two_in_calls(make: &impl Fn(u64) -> Box<Counted>) -> Vec<BoxSeat<Counted>> {
     let mut seats = BoxSeat::open(6, 2).unwrap();
     put(&mut seats[0], make(0));
     put(&mut seats[0], make(1));
@@ -165,10 +161,10 @@ fn two_in_mid_call(make: &impl Fn(u64) -> Box<Counted>) -> Vec<BoxSeat<Counted>>
 
 // Whatever the order in which the seats are dropped, each item is dropped once, and at the latest by the last seat.
 #[test]
-fn seats_in_mid_call_lose_no_item() {
+fn seats_in_a_call_lose_no_item() {
     for order in [[0, 1, 2, 3, 4, 5], [5, 4, 3, 2, 1, 0], [1, 0, 2, 3, 4, 5], [4, 5, 0, 1, 2, 3], [2, 3, 1, 5, 0, 4]] {
         let (drops, make) = counted();
-        let mut seats: Vec<_> = two_in_mid_call(&make).into_iter().map(Some).collect();
+        let mut seats: Vec<_> = two_in_calls(&make).into_iter().map(Some).collect();
         assert_eq!(drops.load(SeqCst), 2);
         for seat in order {
             assert!(drops.load(SeqCst) < 4);
@@ -178,7 +174,7 @@ fn seats_in_mid_call_lose_no_item() {
     }
 }
 
-// The first seat has claimed an insertion and not made it, and the item behind it was put in. The deletion of the third seat waits for
+// The first seat has claimed an insertion and not made it, and the item after it was put in. The deletion of the third seat waits for
 // the first. So that seat, dropped before the first, can't end its call.
 #[test]
 fn a_deletion_that_waits_is_ended_at_the_close() {

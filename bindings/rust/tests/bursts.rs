@@ -1,6 +1,6 @@
-//! Bundles: each call and each refusal, bursts beside a plain list, and threads that share a queue by bursts.
+//! Bundles: each call and each refusal, bursts compared with a plain list, and threads that share a queue by bursts.
 
-use fak::{limits, Bundle, Burst, Fault, Seat, State, Step};
+use fak_seats::{limits, Bundle, Burst, Fault, Seat, State, Step};
 use std::collections::VecDeque;
 use std::thread::{spawn, yield_now};
 
@@ -172,7 +172,7 @@ fn get_some(bundle: &mut Bundle, most: usize) -> (u64, Vec<u64>) {
 const EACH: u64 = 20_000;
 
 // Two threads that insert by bursts and one by single calls, and two that delete by bursts. Sorted by tickets, the items of each producer
-// stand in its order, each once.
+// are in its order, each once.
 #[test]
 fn threads_share_a_queue_by_bursts() {
     let ([mut single, mut closer], [mut a, mut b, mut c, mut d]) = Bundle::open::<2, 4>(8, 20, 1 << 30).unwrap();

@@ -1,6 +1,6 @@
-//! What seats tell of themselves, claims and tries one by one, and the texts and limits.
+//! The states of seats, claims and tries one by one, and the texts and limits.
 
-use fak::{limits, CreditSeat, Fault, FileSeat, Hold, InUse, RoomSeat, Seat, SemSeat, SemState, State, Step};
+use fak_seats::{limits, CreditSeat, Fault, FileSeat, Hold, InUse, RoomSeat, Seat, SemSeat, SemState, State, Step};
 use std::error::Error;
 
 #[test]

@@ -1,9 +1,10 @@
 //! Each call of a channel's handles: what it does, and each of its refusals.
 #![cfg(feature = "std")]
 
-use fak::channel::{bounded, open, Receiver, RecvError, RecvTimeoutError, SendError, SendTimeoutError, Sender, TryRecvError, TrySendError};
-use fak::limits::{is_channel_ends, is_channel_stint, CHANNEL_KEEPS, MOST_CALLS, MOST_CELLS, MOST_SEATS};
-use fak::Fault;
+use fak_seats::channel::{bounded, open, Receiver, RecvError, RecvTimeoutError};
+use fak_seats::channel::{SendError, SendTimeoutError, Sender, TryRecvError, TrySendError};
+use fak_seats::limits::{is_channel_ends, is_channel_stint, CHANNEL_KEEPS, MOST_CALLS, MOST_CELLS, MOST_SEATS};
+use fak_seats::Fault;
 use std::fs::read_to_string;
 use std::thread::{scope, sleep, spawn};
 use std::time::{Duration, Instant};

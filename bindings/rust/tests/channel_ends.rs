@@ -1,7 +1,7 @@
 //! Ends: which handle has which, who shares one, and how they come back.
 #![cfg(feature = "std")]
 
-use fak::channel::{bounded, open, Receiver, RecvError, RecvTimeoutError, SendTimeoutError, Sender, TryRecvError, TrySendError};
+use fak_seats::channel::{bounded, open, Receiver, RecvError, RecvTimeoutError, SendTimeoutError, Sender, TryRecvError, TrySendError};
 use std::panic::{RefUnwindSafe, UnwindSafe};
 use std::sync::Barrier;
 use std::thread::{scope, sleep};
@@ -117,7 +117,7 @@ fn who_shares_the_end_of_a_sleeping_receiver_is_told() {
         received.sort_unstable();
         assert_eq!(received, [1, 2]);
     });
-    // Who waits for the end of a sleeper hears of the close too.
+    // A thread that waits for the end of a sleeper sees the close too.
     scope(|threads| {
         let sleepers = [&receiver, &share, &share].map(|receiver| threads.spawn(|| receiver.recv_timeout(LONG)));
         sleep(SHORT);
@@ -185,7 +185,7 @@ fn handles_come_and_go() {
         receivers.into_iter().map(|receiver| receiver.join().unwrap()).sum()
     });
     assert_eq!((received, receiver.recv()), (8_000, Err(RecvError::Closed)));
-    // All ends but that of the last handle are free again.
+    // All ends except that of the last handle are free again.
     let clones: Vec<_> = std::iter::from_fn(|| receiver.try_clone()).collect();
     assert_eq!(clones.len(), 5);
 }

@@ -1,7 +1,10 @@
 //! Items of a channel: of any type, and each dropped once.
 #![cfg(feature = "std")]
 
-use fak::channel::{bounded, Receiver, Sender};
+mod common;
+
+use common::{Token, TOKEN_DROPS};
+use fak_seats::channel::{bounded, Receiver, Sender};
 use std::alloc::{GlobalAlloc, Layout, System};
 use std::fmt::Debug;
 use std::panic::{catch_unwind, AssertUnwindSafe};
@@ -85,7 +88,7 @@ fn items_borrow_from_the_threads_scope() {
     });
 }
 
-// What is left is dropped with the last receiver, whether before the last sender or behind it. What is refused is the caller's.
+// What is left is dropped with the last receiver, whether before the last sender or after it. What is refused stays with the caller.
 fn each_is_dropped_once<const MORE: usize>() {
     let (drops, make) = counted::<MORE>();
     let (sender, receiver) = bounded(4, 3).unwrap();
@@ -123,19 +126,12 @@ fn what_is_left_is_dropped_once() {
 
 #[test]
 fn items_without_bytes_are_dropped_too() {
-    static DROPS: AtomicUsize = AtomicUsize::new(0);
-    struct Token;
-    impl Drop for Token {
-        fn drop(&mut self) {
-            DROPS.fetch_add(1, SeqCst);
-        }
-    }
     let (sender, receiver) = bounded(4, 2).unwrap();
     (0..4).for_each(|_| assert!(sender.send(Token).is_ok()));
     drop(receiver.recv());
-    assert_eq!(DROPS.load(SeqCst), 1);
+    assert_eq!(TOKEN_DROPS.load(SeqCst), 1);
     drop((sender, receiver));
-    assert_eq!(DROPS.load(SeqCst), 4);
+    assert_eq!(TOKEN_DROPS.load(SeqCst), 4);
 }
 
 // A receiver that stops early leaves its items to the next.

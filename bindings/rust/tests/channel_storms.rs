@@ -1,7 +1,7 @@
 //! Storms: more threads than processors make every call, channels are closed meanwhile, and each item ends once.
 #![cfg(feature = "std")]
 
-use fak::channel::{bounded, Receiver, RecvTimeoutError, SendTimeoutError, Sender, TryRecvError, TrySendError};
+use fak_seats::channel::{bounded, Receiver, RecvTimeoutError, SendTimeoutError, Sender, TryRecvError, TrySendError};
 use std::sync::atomic::{AtomicU32, AtomicU64, Ordering::SeqCst};
 use std::thread::{scope, sleep, yield_now};
 use std::time::{Duration, Instant};
@@ -27,7 +27,7 @@ struct Fates {
     dropped: Vec<AtomicU32>,
 }
 
-// An item, with bytes that move it into a box where there are many.
+// An item. Many bytes move it into a box.
 struct Item<'a, const MORE: usize> {
     number: usize,
     fates: &'a Fates,
@@ -63,7 +63,7 @@ impl Fates {
     }
 }
 
-// Sends the item by one of the calls, and again where it was refused because the channel was full: false once the channel is closed.
+// Sends the item by one of the calls, and again if it was refused because the channel was full. False once the channel is closed.
 fn send<'a, const MORE: usize>(sender: &Sender<Item<'a, MORE>>, mut item: Item<'a, MORE>, dice: &mut Dice) -> bool {
     loop {
         let refused = match dice.throw(4) {
@@ -185,7 +185,7 @@ fn each_item_of_a_storm_with_a_close_ends_once() {
     }
 }
 
-// Three threads with handles of their own, which yield until it is their round and then call at once: how often the call did it.
+// Three threads with handles of their own, which yield until it is their round and then call at once. Returns how often the call succeeded.
 fn at_once<H: Clone + Send>(handle: &H, call: fn(&H) -> bool, prepare: impl Fn()) -> u64 {
     const ROUNDS: u64 = 200;
     let (round, ended, done) = (AtomicU64::new(0), AtomicU64::new(0), AtomicU64::new(0));
@@ -248,7 +248,7 @@ fn items_of_a_sender_stay_in_order() {
     }
 }
 
-// A ring of threads, each of which waits for the one before it: one lost wake-up, and it stands still.
+// A ring of threads, each of which waits for the one before it: if one wake-up is lost, the ring hangs.
 #[test]
 fn a_token_goes_round() {
     for threads in [2, 5, 24] {
@@ -269,7 +269,7 @@ fn a_token_goes_round() {
     }
 }
 
-// Receivers whose time is always over just before or just after the item comes: no item is lost to a call that gave up.
+// Receivers whose time is always over just before or just after the item comes: a call that gave up loses no item.
 #[test]
 fn deadlines_race_with_wake_ups() {
     let (sender, receiver) = bounded::<u64>(1, 6).unwrap();

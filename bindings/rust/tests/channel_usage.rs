@@ -1,7 +1,7 @@
-//! What users of other bounded channels expect, as the tests of theirs have it.
+//! What users of other bounded channels expect, as the tests of those channels have it.
 #![cfg(feature = "std")]
 
-use fak::channel::{bounded, Receiver, RecvError, RecvTimeoutError, SendError, SendTimeoutError, Sender, TryRecvError, TrySendError};
+use fak_seats::channel::{bounded, Receiver, RecvError, RecvTimeoutError, SendError, SendTimeoutError, Sender, TryRecvError, TrySendError};
 use std::cell::RefCell;
 use std::sync::atomic::{AtomicUsize, Ordering::SeqCst};
 use std::sync::Barrier;
@@ -150,7 +150,7 @@ fn a_channel_for_one_item() {
     }
 }
 
-// A server that is asked by a channel, and answers by another, while the asker polls.
+// A server that receives questions by one channel and replies by another, while the client polls.
 #[test]
 fn a_poller_hears_the_answer() {
     let (requests, asked) = bounded(1, 2).unwrap();
@@ -248,7 +248,7 @@ fn a_try_iterator_takes_what_is_there() {
     assert_eq!((receiver.try_iter().collect::<Vec<_>>(), receiver.try_recv()), (vec![4], Err(TryRecvError::Closed)));
 }
 
-// A thread that ends has calls made by the drop of its own data.
+// The drop of a thread's own data calls the channel while the thread ends.
 #[test]
 fn calls_go_on_while_a_thread_ends() {
     struct Last(Sender<u8>, Receiver<u8>);
@@ -267,7 +267,7 @@ fn calls_go_on_while_a_thread_ends() {
     assert_eq!((receiver.recv_timeout(ms(100_000)), receiver.try_recv()), (Ok(3), Err(TryRecvError::Empty)));
 }
 
-// A panicking thread drops its handles, and others hear of it.
+// A panicking thread drops its handles, and others see that.
 #[test]
 fn a_thread_that_panics_closes_its_side() {
     let (sender, receiver) = bounded(1, 3).unwrap();

@@ -1,12 +1,12 @@
 //! Large objects: numbers on either side of each limit, and 128 threads.
 
-use fak::{CreditSeat, Fault, FileSeat, RoomSeat, Seat, SemSeat, Step};
+use fak_seats::{CreditSeat, Fault, FileSeat, RoomSeat, Seat, SemSeat, Step};
 use std::thread::{spawn, yield_now, Builder};
 
 const SIZE: u64 = 1 << 24;
 const CALLS: u64 = 1 << 50;
 
-// On a thread whose stack has room for arrays of so many seats.
+// Runs it on a thread whose stack has room for the arrays.
 fn with_room(test: impl FnOnce() + Send + 'static) {
     Builder::new().stack_size(16 << 20).spawn(test).unwrap().join().unwrap();
 }

@@ -1,6 +1,6 @@
-//! What seats take of the heap, and that it comes back. The program brings the heap's three functions, which count.
+//! What seats allocate, and that it comes back. The program brings the heap's three functions, which count.
 
-use fak::{Bundle, CreditSeat, Fault, FileSeat, RoomSeat, Seat, SemSeat, Step};
+use fak_seats::{Bundle, CreditSeat, Fault, FileSeat, RoomSeat, Seat, SemSeat, Step};
 use std::alloc::{alloc, dealloc, Layout};
 use std::ptr::NonNull;
 use std::sync::atomic::{AtomicUsize, Ordering::SeqCst};
@@ -69,7 +69,7 @@ pub unsafe extern "C" fn rattle_dealloc(part: *mut u8) {
     dealloc(head, layout(size));
 }
 
-// Opens, where the allocation of this number fails; with 0 none does.
+// Opens while the allocation of this number fails; with 0 none does.
 fn opened<S>(failing: usize, open: impl Fn() -> Result<S, Fault>) -> Result<S, Fault> {
     MADE.store(0, SeqCst);
     FAILING.store(failing, SeqCst);
@@ -129,7 +129,7 @@ fn memory_of_a_channel_comes_back() {
     let before = LIVE.load(SeqCst);
     let mut failing = 1;
     let (sender, receiver) = loop {
-        match opened(failing, || fak::channel::bounded::<u64>(100, 4)) {
+        match opened(failing, || fak_seats::channel::bounded::<u64>(100, 4)) {
             Ok(handles) => break handles,
             Err(fault) => assert_eq!(fault, Fault::Memory),
         }
@@ -174,7 +174,7 @@ fn a_refused_opening_takes_nothing() {
     assert_eq!(LIVE.load(SeqCst), before);
 }
 
-// Each allocation of a queue with bundles fails in turn. What it takes comes back with its last handle, the items in it too.
+// Each allocation of a queue with bundles fails in turn. What it allocates comes back with its last handle, with items in it too.
 #[test]
 fn memory_of_bundles_comes_back() {
     let _alone = ALONE.lock().unwrap();

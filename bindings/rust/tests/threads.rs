@@ -1,6 +1,6 @@
-//! Seats on threads, and the answers of each kind.
+//! Seats on threads, and what the calls of each kind return.
 
-use fak::{CreditSeat, Fault, FileSeat, RoomSeat, Seat, SemSeat, Step};
+use fak_seats::{CreditSeat, Fault, FileSeat, RoomSeat, Seat, SemSeat, Step};
 use std::thread::{spawn, yield_now};
 use std::time::{Duration, Instant};
 

@@ -45,14 +45,14 @@ fn outcome(code: i32) -> Result<(), Refusal> {
         raw::CLOSED => Err(Refusal::Closed),
         raw::WORN => Err(Refusal::Worn),
         raw::FULL | raw::EMPTY | raw::GAVE_UP => Err(Refusal::GaveUp),
-        code => unreachable!("an idle end answers {code}"),
+        code => unreachable!("an idle end returned {code}"),
     }
 }
 
-/// An end, idle between two calls. Dropped, it leaves the channel.
+/// An end, idle between two calls. Its drop leaves the channel.
 pub(super) struct End {
     handle: Handle,
-    // Which token is its own.
+    // The number of its token.
     number: usize,
 }
 
@@ -66,7 +66,7 @@ impl Drop for End {
     }
 }
 
-// SAFETY of the calls below: each handle is the end's own, and what the pointers point to is local and was written.
+// SAFETY of the calls below: each handle belongs to its end, and what the pointers point to is local and was written.
 
 impl End {
     /// The ends of these handles, which `fak_channel_open` has filled.
@@ -74,7 +74,7 @@ impl End {
         handles.into_iter().enumerate().map(|(number, handle)| End { handle, number })
     }
 
-    /// Sends the item of the words; where it is refused, they own it again.
+    /// Sends the item of the words. If it is refused, they own it again.
     pub(super) fn send(&mut self, tokens: &[Token], words: &mut Words, patience: Patience) -> Result<(), Refusal> {
         let tries = |end: &mut Handle| unsafe { raw::fak_channel_begin_try_send(end, words) };
         let begins = |end: &mut Handle| unsafe { raw::fak_channel_begin_send(end, words) };
@@ -82,7 +82,7 @@ impl End {
         self.finish(tokens, words, patience)
     }
 
-    /// Receives an item: its words.
+    /// Receives an item. Returns its words.
     pub(super) fn receive(&mut self, tokens: &[Token], patience: Patience) -> Result<Words, Refusal> {
         let tries = |end: &mut Handle| unsafe { raw::fak_channel_begin_try_receive(end) };
         let begins = |end: &mut Handle| unsafe { raw::fak_channel_begin_receive(end) };
@@ -91,7 +91,7 @@ impl End {
         self.finish(tokens, &mut words, patience).map(|()| words)
     }
 
-    // Begins a call. One that may sleep is tried for a while before: a sleeper costs more than a look, and costs others too.
+    // Begins a call. One that may sleep is tried for a while first: a sleeper costs more than a look, and costs others too.
     fn begin(
         &mut self,
         patience: Patience,
@@ -111,7 +111,7 @@ impl End {
         }
     }
 
-    /// Closes the channel; refused where it was closed before.
+    /// Closes the channel. Refused if it was closed before.
     pub(super) fn close(&mut self, tokens: &[Token]) -> Result<(), Refusal> {
         outcome(unsafe { raw::fak_channel_begin_close(&mut self.handle) })?;
         self.finish(tokens, &mut Words::empty(), Patience::Forever)

@@ -131,7 +131,7 @@ refused_receives! {
     }
 }
 
-// What a refusal is to each call. A call that may sleep for as long as it takes does not give up.
+// The error that each call returns for a refusal. A call without a deadline does not give up.
 
 impl<T> SendError<T> {
     pub(super) fn of((refusal, item): (Refusal, T)) -> SendError<T> {

@@ -7,10 +7,10 @@ use core::iter::FusedIterator;
 /// The items that a receiver receives, until the channel is closed and empty. `next` sleeps while there is none.
 pub struct Iter<'a, T>(pub(super) &'a Receiver<T>);
 
-/// The items that a receiver receives without sleeping: it ends where the channel is empty.
+/// The items that a receiver receives without sleeping. It ends when the channel is empty.
 pub struct TryIter<'a, T>(pub(super) &'a Receiver<T>);
 
-/// The items that a receiver of its own receives, until the channel is closed and empty. `next` sleeps while there is none.
+/// The same by a receiver that it owns.
 pub struct IntoIter<T>(pub(super) Receiver<T>);
 
 impl<T> Iterator for Iter<'_, T> {

@@ -15,7 +15,7 @@ use std::vec::Vec;
 /// What all handles share. The ends of the channel are each in one place: here, or in a `Lent`.
 pub(super) struct Shared<T> {
     tokens: Vec<Token>,
-    // Closes the channel, and takes out what is left in it. Nobody else uses up its stint.
+    // Closes the channel, and takes out what is left in it. No handle has it, so no other call counts against its stint.
     keeper: Mutex<Keeper>,
     // Serves tries by handles whose own end another call has.
     guest: Mutex<End>,
@@ -24,7 +24,7 @@ pub(super) struct Shared<T> {
     pub(super) senders: AtomicUsize,
     pub(super) receivers: AtomicUsize,
     pub(super) size: usize,
-    // One handle sends what another receives, so the items of all have one type, and one lifetime.
+    // One handle sends what another receives, so the items of all have the same type and lifetime.
     items: PhantomData<Cell<T>>,
 }
 
@@ -68,7 +68,7 @@ impl<T> Shared<T> {
         })
     }
 
-    /// Closes the channel, and tells whether it was open.
+    /// Closes the channel. Returns whether it was open.
     pub(super) fn close(&self) -> bool {
         let mut keeper = lock(&self.keeper);
         if keeper.is_closed {
@@ -112,7 +112,7 @@ impl<T> Shared<T> {
         lock(&self.guest)
     }
 
-    // The free end of which the most calls are left.
+    // The free end that has the most calls left.
     fn freshest(&self) -> Option<End> {
         let mut free = lock(&self.free);
         let most = (0..free.len()).max_by_key(|&at| free[at].left())?;
@@ -127,7 +127,7 @@ impl<T> Drop for Shared<T> {
     }
 }
 
-/// An end that one or more handles have. Each call takes its turn. Dropped, the end is free again.
+/// An end that one or more handles have. Each call takes its turn. When the last handle is dropped, the end is free again.
 pub(super) struct Lent<T> {
     turn: Turn,
     end: UnsafeCell<ManuallyDrop<End>>,
@@ -136,7 +136,7 @@ pub(super) struct Lent<T> {
 
 // SAFETY: an end may go to another thread.
 unsafe impl<T: Send> Send for Lent<T> {}
-// SAFETY: who has the turn, and nobody else, uses the end.
+// SAFETY: only the call that has the turn uses the end.
 unsafe impl<T: Send> Sync for Lent<T> {}
 
 // The turn of a call.
@@ -164,7 +164,7 @@ impl<T> Lent<T> {
         is_taken.then(|| Loan(self))
     }
 
-    /// Makes a call by this end, or tries it by that of the guest where others have this one for too long.
+    /// Makes a call by this end. If others have it for too long, tries the call by the guest's end.
     pub(super) fn call<A>(&self, patience: Patience, call: impl FnOnce(&mut End, &[Token], Patience) -> A) -> A {
         let tokens = &self.shared.tokens;
         let Some(loan) = self.take(patience) else {
@@ -176,7 +176,7 @@ impl<T> Lent<T> {
         answer
     }
 
-    /// Sends the item, or says why not, with the item.
+    /// Sends the item. If it is not sent, returns why, and the item.
     pub(super) fn send(&self, item: T, patience: Patience) -> Result<(), (Refusal, T)> {
         let mut words = Words::of(item);
         let sent = self.call(patience, |end, tokens, patience| end.send(tokens, &mut words, patience));

@@ -48,14 +48,16 @@ impl Token {
 
     /// Sets the token, and wakes the thread that sleeps on it.
     pub(super) fn set(&self) {
+        // What this thread wrote before is there for the thread that takes the token.
         if self.state.swap(SET, SeqCst) == ASLEEP {
-            // The sleeper has the lock from before it says so until it sleeps.
+            // The sleeper has the lock from before it writes ASLEEP until it sleeps. So the notification must follow the lock, else it may
+            // come before the sleep.
             drop(lock(&self.lock));
             self.woken.notify_one();
         }
     }
 
-    /// Waits until the token is set, and clears it; false where the time was over before.
+    /// Waits until the token is set, and clears it. False if the time was over before.
     pub(super) fn wait(&self, until: Option<Instant>) -> bool {
         let mut pause = Pause::new();
         while !pause.is_long() {
@@ -73,6 +75,7 @@ impl Token {
 
     fn sleep(&self, until: Option<Instant>) -> bool {
         let mut guard = lock(&self.lock);
+        // It must follow the lock (see `set`). It fails only if the token was set since the last look.
         if self.state.compare_exchange(CLEAR, ASLEEP, SeqCst, SeqCst).is_err() {
             return self.take();
         }
@@ -82,6 +85,7 @@ impl Token {
                 return true;
             }
         }
+        // The time is over. A token that was set at the last moment is taken all the same.
         self.state.swap(CLEAR, SeqCst) == SET
     }
 }

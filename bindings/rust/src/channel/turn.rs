@@ -30,14 +30,14 @@ impl Turn {
         self.state.compare_exchange(FREE, TAKEN, SeqCst, SeqCst).is_ok()
     }
 
-    /// Takes the turn, and sleeps while another has it; false where the time was over before.
+    /// Takes the turn, and sleeps while another has it. False if the time was over before.
     pub(super) fn take(&self, until: Option<Instant>) -> bool {
         if self.try_take() {
             return true;
         }
         let mut guard = lock(&self.lock);
         loop {
-            // Others may want it too.
+            // It must follow the lock (see `give`). It leaves WANTED even if it takes the turn, since others may want it too.
             if self.state.swap(WANTED, SeqCst) == FREE {
                 return true;
             }
@@ -50,8 +50,10 @@ impl Turn {
 
     /// Gives the turn back, and wakes one that wants it.
     pub(super) fn give(&self) {
+        // The turn is free from here on, so this must follow the call.
         if self.state.swap(FREE, SeqCst) == WANTED {
-            // Who has said that it wants the turn has the lock until it sleeps.
+            // A thread that has written WANTED has the lock until it sleeps. So the notification must follow the lock, else it may come
+            // before the sleep.
             drop(lock(&self.lock));
             self.given.notify_one();
         }
