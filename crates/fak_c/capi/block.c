@@ -1,5 +1,5 @@
-/* The heap that libfak_c.a asks for, over the caller's blocks. The proofs take of it what they take of malloc: a block of n bytes
- * that nothing else uses, aligned to 16, until it is given back; or a refusal. */
+/* The heap that libfak_c.a calls, over the caller's blocks. The proofs assume of it what they assume of malloc: a part of n bytes that
+ * nothing else uses, aligned to 16, until it is given back; or a refusal. */
 #include "block.h"
 
 #include <stdatomic.h>
@@ -11,8 +11,8 @@
 #define OF_THREAD
 #endif
 
-/* The answer of the library's heap: whether there was memory, and where. A refusal's pointer is not null. */
-struct answer {
+/* What the library's heap returns: whether there was memory, and where. The pointer of a refusal is not null. */
+struct allocation {
     bool found;
     void *at;
 };
@@ -25,7 +25,7 @@ struct block {
     size_t unused;
 };
 
-/* The head of each part. Of a part of the heap it names no block. */
+/* The head of each part. For a part of the heap it names no block. */
 struct part {
     struct block *of;
     size_t unused;
@@ -35,8 +35,8 @@ _Static_assert(sizeof(struct block) % 16 == 0 && sizeof(struct part) % 16 == 0, 
 
 static OF_THREAD struct block *open_block;
 
-struct answer rattle_alloc(size_t size, size_t align);
-struct answer rattle_realloc(void *part, size_t kept, size_t size, size_t align);
+struct allocation rattle_alloc(size_t size, size_t align);
+struct allocation rattle_realloc(void *part, size_t kept, size_t size, size_t align);
 void rattle_dealloc(void *at);
 
 void fak_c_block_begin(void *block, size_t bytes) {
@@ -52,6 +52,7 @@ size_t fak_c_block_end(void) {
     return used;
 }
 
+/* Sequentially consistent, as the subtraction below: what seats did before they left is there for a caller that reads 0. */
 bool fak_c_block_is_free(const void *block) {
     return atomic_load(&((struct block *)(uintptr_t)block)->out) == 0;
 }
@@ -90,23 +91,24 @@ static struct part *part_of_block(size_t bytes) {
     struct part *part = (struct part *)((unsigned char *)open_block + open_block->used);
     part->of = open_block;
     open_block->used += bytes;
+    /* It must come before the part is handed out: seats on other threads may give it back at once. */
     atomic_fetch_add(&open_block->out, 1);
     return part;
 }
 
-struct answer rattle_alloc(size_t size, size_t align) {
-    struct answer refusal = {false, &open_block};
+struct allocation rattle_alloc(size_t size, size_t align) {
+    struct allocation refusal = {false, &open_block};
     size_t wanted = sizeof(struct part) + ((size + 15) & ~(size_t)15);
     if (align > 16 || wanted < size)
         return refusal;
     struct part *part = open_block != NULL ? part_of_block(wanted) : part_of_heap(wanted);
-    return part != NULL ? (struct answer){true, part + 1} : refusal;
+    return part != NULL ? (struct allocation){true, part + 1} : refusal;
 }
 
 /* No call of the library makes a part larger. */
-struct answer rattle_realloc(void *part, size_t kept, size_t size, size_t align) {
+struct allocation rattle_realloc(void *part, size_t kept, size_t size, size_t align) {
     (void)part, (void)kept, (void)size, (void)align;
-    return (struct answer){false, &open_block};
+    return (struct allocation){false, &open_block};
 }
 
 void rattle_dealloc(void *at) {
@@ -114,5 +116,5 @@ void rattle_dealloc(void *at) {
     if (part->of == NULL)
         free_part(part);
     else
-        atomic_fetch_sub(&part->of->out, 1);
+        atomic_fetch_sub(&part->of->out, 1); /* the last use of the part: at 0 the caller may use the block again */
 }

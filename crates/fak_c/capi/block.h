@@ -1,12 +1,12 @@
 /* Memory of the caller for objects: link block.c in place of the toolchain's liblibc_c.a. It is C, and tested, not proved.
  *
- * Between fak_c_block_begin and fak_c_block_end all that the opening calls take lies in the caller's block; a block may have several
- * objects. The block is the caller's again when fak_c_block_is_free: when the last seat of each of its objects has left. Seats may
+ * Between fak_c_block_begin and fak_c_block_end all that the opening calls allocate lies in the caller's block. A block may have several
+ * objects. The block belongs to the caller again when fak_c_block_is_free: when the last seat of each of its objects has left. Seats may
  * leave on any thread.
  *
- * As it is, block.c needs no heap: what is opened without a block is refused as FAK_C_MEMORY, and one thread opens at a time. A kernel
- * takes it so. Compiled with FAK_C_BLOCK_AND_HEAP it stands next to malloc: each thread has an open block of its own, so threads may
- * open at once, and what a thread opens without a block lies in the heap. */
+ * By default block.c needs no heap: what is opened without a block is refused as FAK_C_MEMORY, and one thread opens at a time. Kernels
+ * compile it so. Compiled with FAK_C_BLOCK_AND_HEAP it uses malloc as well: each thread has an open block of its own, so threads may open
+ * at once, and what a thread opens without a block lies in the heap. */
 #ifndef FAK_C_BLOCK_H
 #define FAK_C_BLOCK_H
 
@@ -30,7 +30,7 @@ extern "C" {
 /* What is opened from now on lies in this block, of at least 64 bytes. */
 void fak_c_block_begin(void *block, size_t bytes);
 
-/* How many bytes of the block are used. It has no more objects then, until it begins anew. */
+/* Returns how many bytes of the block are used. Nothing more is opened in it, until it begins anew. */
 size_t fak_c_block_end(void);
 
 /* Whether nothing in the block is in use. */

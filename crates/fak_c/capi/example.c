@@ -5,7 +5,7 @@
 #include <sched.h>
 #include <stdio.h>
 
-/* Inserts the item. False where the queue is shut, or the seat's stint is used up. */
+/* Inserts the item. False if the queue is shut, or the seat's stint is used up. */
 static bool insert(fak_c_seat *seat, uint64_t item) {
     uint64_t ticket = 0;
     int32_t answer;

@@ -1,52 +1,52 @@
 /* Queues, semaphores, rooms, credits and file tables that threads or processors share without locks, for programs and kernels
  * in C. Items are 64-bit numbers, or pointers as uintptr_t.
  *
- * An object is its seats. Each thread, or each processor of a kernel, has a seat of its own behind a handle; the last seat that
- * leaves frees the object. No call waits: where the answer is FAK_C_NOT_YET, FAK_C_FULL, FAK_C_EMPTY or FAK_C_BUSY, the caller
- * tries again, or does not. No call takes memory but those that open objects, and none frees any but those and fak_c_leave.
+ * An object is its seats. Each thread, or each processor of a kernel, has a seat of its own behind a handle. The last seat that
+ * leaves frees the object. No call waits: if it returns FAK_C_NOT_YET, FAK_C_FULL, FAK_C_EMPTY or FAK_C_BUSY, the caller may try
+ * again. Only calls that open objects allocate, and only these and fak_c_leave free memory.
  *
- * Never sleep on a refusal. It is about the moment of the call, and counts claims that others are about to take back: a seat may
- * read FAK_C_EMPTY although an item lay in the queue before its call, and still lies there after it. "Queues" below says why, and how
- * a thread sleeps.
+ * Never sleep on a refusal. It is about one moment of the call, and counts claims that others are about to take back. A seat may read
+ * FAK_C_EMPTY although an item lay in the queue before its call, and still lies there after it. "Queues" below says why, and how a
+ * thread sleeps.
  *
  * What C owes, and nothing checks:
  * - One call at a time on a handle. A handle that goes to another thread is handed over in order: by a lock, by the start or
  *   join of a thread, by the switch of a processor from one thread to the next, or by a sequentially consistent atomic.
- * - A handle starts as {0} (in C++ as {}), is never copied, and is written by these calls alone. fak_c_move moves a seat to
- *   another handle.
- * - Pointers are distinct: nothing that one argument of a call points to overlaps what another does. They are aligned and not
- *   null (fak_c_put and fak_c_get take null for the ticket, and no other call takes null), and what they point to is
- *   initialised, out-pointers too (a bool is true or false).
+ * - A handle starts as {0} (in C++ as {}), is never copied, and is written only by these calls. fak_c_move moves a seat to another
+ *   handle.
+ * - Pointers are distinct: what one argument of a call points to does not overlap what another points to. They are aligned and not
+ *   null, except that fak_c_put and fak_c_get take null for the ticket. What they point to is initialised, also if the call only
+ *   writes it (a bool is true or false).
  * - The heap (below) is one heap that many threads may call, and aligns to 16 bytes. With block.c one thread opens at a time, unless
- *   it stands next to a heap (block.h).
+ *   block.c is compiled with a heap next to it (block.h).
  *
- * What C can't prove is tested by each call: that the handle has a seat of the kind of object that the call is for (else
- * FAK_C_NO_SEAT), that the seat is in the state that the call needs, that its stint lasts. A call writes through an out-pointer
- * only what its comment says; a call that answers FAK_C_NO_SEAT or FAK_C_WRONG_STATE writes nothing and changes nothing.
+ * Each call tests what C can't prove: that the handle has a seat of the kind of object that the call is for (else FAK_C_NO_SEAT),
+ * that the seat is in the state that the call needs, and that its stint lasts. A call writes through an out-pointer only what its
+ * comment says. A call that returns FAK_C_NO_SEAT or FAK_C_WRONG_STATE writes nothing and changes nothing.
  *
  * The calls synchronise by sequentially consistent atomics. What a thread wrote before it inserted an item, a pointer or a
  * number, is there for the thread that takes the item out. What it wrote before an up is there after a down that passes, and
- * after a wake. ThreadSanitizer doesn't see inside the library, so tell it: FAK_C_GIVES(address) before the insertion, the up
- * or the claim of a down, FAK_C_GETS(address) after the item was taken out, the down passed or the item woke. Any address that
- * both sides know will do, as that of a counter that a semaphore guards.
+ * after a wake. ThreadSanitizer doesn't see inside the library, so tell it. Call FAK_C_GIVES(address) before the insertion, the up
+ * or the claim of a down. Call FAK_C_GETS(address) after the item was taken out, the down passed or the item woke. Any address that
+ * both sides know will do, for instance that of a counter that a semaphore guards.
  *
- * Interrupts and signals. A handler may make every call but those that open, and fak_c_leave, on one of two conditions:
+ * Interrupts and signals. A handler may make every call except those that open and fak_c_leave, on one of two conditions:
  * - It has seats of its own, which nobody else uses. Then it must not try again until FAK_C_OK: the call that it interrupted
  *   may be the one whose ticket comes first, and that call can't go on before the handler ends. It leaves its call open, and
- *   goes on when it runs next. An NMI handler has only this way.
- * - Or interrupts are off from each claim to the end of its call, wherever the handler's objects are used. Then the handler may
+ *   goes on when it runs next. An NMI handler has only this choice.
+ * - Or interrupts are off from each claim to the end of its call, in all code that uses the handler's objects. Then the handler may
  *   use the seats of its processor, and try again until FAK_C_OK.
  *
  * The calls that open, and fak_c_leave, call the heap, which the interrupted code may be in. The forked child of a process with
  * threads makes no call.
  *
  * For kernels there are two archives with the same calls, libfak_c.a by `rt lib` and by `rt lib --backend rattle`. The first
- * uses SSE registers in any call, also under a caller that is compiled without them; the second only in calls that open or free
- * an object. README.md has what each holds. Both want these functions, and no others: rattle_alloc, rattle_realloc and
- * rattle_dealloc, of the toolchain's liblibc_c.a over malloc, realloc and free, or of block.c over memory of your own; the
- * first archive also memcpy and memset.
+ * uses SSE registers in any call, also if its caller is compiled without them; the second only in calls that open or free an
+ * object. README.md says what each contains. Both need these functions, and no others: rattle_alloc, rattle_realloc and
+ * rattle_dealloc, from the toolchain's liblibc_c.a over malloc, realloc and free, or from block.c over memory of your own. The
+ * first archive also needs memcpy and memset.
  *
- * What the calls take, except those of a channel (fak_channel.h). Stack: below 256 bytes; below 768 in a burst; below 4,608 in
+ * What the calls use, except those of a channel (fak_channel.h). Stack: below 256 bytes; below 768 in a burst; below 4,608 in
  * fak_c_leave; below 6,144 in a call that opens. Heap: what "Sizes" below says, and more while an object is opened (block.h). Time: to
  * open a queue of 64 cells with 64 seats, and to leave it with all, took 35 microseconds on memory that nobody had touched, and 5 on
  * memory from before; with 1,024 of each, 400 and 200. So open an object once, and not for each job. */
@@ -78,8 +78,8 @@ void __tsan_acquire(void *address);
 #define FAK_C_GETS(pointer) ((void)(pointer))
 #endif
 
-/* A handle. It owns a seat of one object, or nothing, where it is all zeros. The unused bytes keep it on a cache line of 64 bytes
- * of its own, wherever it lies. */
+/* A handle. It owns a seat of one object, or nothing if it is all zeros. The unused bytes keep its pointer on a cache line of 64 bytes
+ * that no other handle uses, at any address. */
 typedef struct fak_c_seat {
     uint64_t before[8];
     void *at;
@@ -128,10 +128,11 @@ enum {
 
 /* ---- Sizes ----
  *
- * The bytes that an object with n seats keeps of the heap: 280 a seat, and beside them what its kind takes. The size is the cells of a
- * queue, or of the wait queue of a semaphore. block.h has the bytes that each takes while it opens, in memory of your own. */
+ * The bytes that an object with n seats keeps of the heap: 280 a seat, and what its kind needs besides. The size is the cells of a queue,
+ * or of the wait queue of a semaphore. block.h has the bytes that each needs while it opens, in memory of your own. */
 #define FAK_C_QUEUE_KEEPS(n, size) (856 + 280 * (size_t)(n) + 24 * (size_t)(size))
-/* A queue with n seats and m bundles of `width` seats each. A bundle takes 368 bytes beside those of a seat, and 32 for each of its own. */
+/* A queue with n seats and m bundles of `width` seats each. A bundle needs 368 bytes besides those of a seat, and 32 for each of its
+ * seats. */
 #define FAK_C_BUNDLES_KEEPS(n, m, width, size) \
     (FAK_C_QUEUE_KEEPS((size_t)(n) + (size_t)(m), size) + (size_t)(m) * (368 + 32 * (size_t)(width)))
 #define FAK_C_SEM_KEEPS(n, size) (1184 + 280 * (size_t)(n) + 24 * (size_t)(size))
@@ -148,38 +149,37 @@ enum {
  * handles are empty. A seat that a handle held before is given up, also during a call, and then its cell is never used again: pass
  * empty handles. */
 
-/* Gives up the seat, of which no call is open, and which holds nothing of a room or a file table. The handle is empty then. The last
- * seat to leave frees the object, with the items that are still in it: these are numbers, so what they may point to is the caller's
- * to free.
+/* Gives up the seat, which has no open call, and holds nothing of a room or a file table. The handle is empty then. The last seat to leave
+ * frees the object, with the items that are still in it. These are numbers, so the caller frees what they may point to.
  *
- * FAK_C_OK; FAK_C_NO_SEAT; or FAK_C_WRONG_STATE, where the handle keeps its seat: end the call, or give back, first. */
+ * FAK_C_OK; FAK_C_NO_SEAT; or FAK_C_WRONG_STATE, and the handle keeps its seat: end the call, or give back, first. */
 int32_t fak_c_leave(fak_c_seat *seat);
 
-/* Moves the seat of a handle, in mid-call too, to an empty handle: open in any array, and move each seat to where its thread or
- * processor keeps its things.
+/* Moves the seat of a handle, also during a call, to an empty handle. So open in any array, and move each seat to its thread's or its
+ * processor's own data.
  *
- * FAK_C_OK; FAK_C_NO_SEAT; or FAK_C_WRONG_STATE where `to` has a seat. Both handles stay as they were then. */
+ * FAK_C_OK; FAK_C_NO_SEAT; or FAK_C_WRONG_STATE if `to` has a seat. Both handles stay as they were then. */
 int32_t fak_c_move(fak_c_seat *seat, fak_c_seat *to);
 
 /* ---- Queues: bounded, first in first out ----
  *
- * An insertion is a claim, which draws a ticket, and tries at the ticket's cell until the answer is FAK_C_OK. So is a deletion.
+ * An insertion is a claim, which draws a ticket, and tries at the ticket's cell until one returns FAK_C_OK. So is a deletion.
  * fak_c_insert and fak_c_delete make the claim and the first try in one call.
  *
  * FAK_C_FULL and FAK_C_EMPTY count the calls that other seats have begun: a queue with a free cell may be full for a moment,
  * while a seat that claimed beyond the size withdraws. A queue with a cell for each item that there may be is never full.
  *
- * Never sleep on a refusal. A seat that claims an item where there is none takes its claim back by a second step. Between the two its
- * claim hides one item: a thread that inserts an item and then deletes may read FAK_C_EMPTY beside that item, and so may every other
- * thread. So a thread that tries, announces that it will sleep, tries once more and sleeps may sleep beside an item forever: the
- * insertion that would wake it is over. The same holds for FAK_C_FULL, of a queue and of a room, and for FAK_C_BUSY. refusals.c counts
- * how often it happens: beside one thread that polled, up to 60 of 100,000 deletions were refused beside their item, and none in other
- * runs. There are three right ways:
- * - Take the channel of fak_channel.h, whose threads sleep.
+ * Never sleep on a refusal. A seat that claims an item although there is none takes its claim back by a second step. Between the two
+ * its claim hides one item: a thread that inserts an item and then deletes may read FAK_C_EMPTY although that item is there, and so may
+ * every other thread. So a thread that tries, announces that it will sleep, tries once more and sleeps may sleep forever although there
+ * is an item: the insertion that would wake it is over. The same holds for FAK_C_FULL, of a queue and of a room, and for FAK_C_BUSY. The
+ * test refusals.c counts how often it happens: while one thread polled, up to 60 of 100,000 deletions were refused although their item
+ * was there, and none in other runs. There are three right ways:
+ * - Use the channel of fak_channel.h, whose threads sleep.
  * - Spin or yield, and try again.
  * - Sleep on a semaphore that counts the items: an up after each insertion, a down before each deletion. What it parks are the threads,
- *   so an up hands out the thread to wake. A thread whose down has passed, or that was woken, is owed an item: it tries again until
- *   the answer is not FAK_C_EMPTY. A second semaphore, which begins at the size, counts the free cells. */
+ *   so an up hands out the thread to wake. A thread whose down has passed, or that was woken, is owed an item: it tries again until it
+ *   reads another code than FAK_C_EMPTY. A second semaphore, which begins at the size, counts the free cells. */
 
 /* The state of a queue's seat, as fak_c_state writes it. */
 enum {
@@ -192,16 +192,16 @@ enum {
 int32_t fak_c_open(fak_c_seat *seats, size_t n, uint64_t size, uint64_t stint);
 
 /* Claims room for the item, and writes the insertion's ticket: the number of insertions granted before. The seat keeps the
- * item until fak_c_try_fill answers FAK_C_OK. The seat must be idle.
+ * item until fak_c_try_fill returns FAK_C_OK. The seat must be idle.
  *
- * FAK_C_OK; FAK_C_WORN, FAK_C_CLOSED or FAK_C_FULL, the first of them that applies, where the item is not taken;
+ * FAK_C_OK; FAK_C_WORN, FAK_C_CLOSED or FAK_C_FULL, the first of them that applies, and the item is not taken;
  * FAK_C_NO_SEAT or FAK_C_WRONG_STATE. */
 int32_t fak_c_claim_insert(fak_c_seat *seat, uint64_t item, uint64_t *ticket);
 
-/* Where it is the turn of the claimed insertion's ticket at its cell, moves the item in and ends the insertion. The seat must
- * be inserting, and is idle after FAK_C_OK.
+/* If it is the turn of the claimed insertion's ticket at its cell, moves the item in and ends the insertion. The seat must be
+ * inserting, and is idle after FAK_C_OK.
  *
- * FAK_C_OK; FAK_C_NOT_YET where the item of the round before was not yet taken from the cell; FAK_C_NO_SEAT or
+ * FAK_C_OK; FAK_C_NOT_YET if the item of the round before was not yet taken from the cell; FAK_C_NO_SEAT or
  * FAK_C_WRONG_STATE. */
 int32_t fak_c_try_fill(fak_c_seat *seat);
 
@@ -211,24 +211,23 @@ int32_t fak_c_try_fill(fak_c_seat *seat);
  * FAK_C_OK; FAK_C_WORN or FAK_C_EMPTY, the first of them that applies; FAK_C_NO_SEAT or FAK_C_WRONG_STATE. */
 int32_t fak_c_claim_delete(fak_c_seat *seat, uint64_t *ticket);
 
-/* Where it is the turn of the claimed deletion's ticket at its cell, takes the item out, writes it and ends the deletion. The
- * seat must be deleting, and is idle after FAK_C_OK.
+/* If it is the turn of the claimed deletion's ticket at its cell, takes the item out, writes it and ends the deletion. The seat
+ * must be deleting, and is idle after FAK_C_OK.
  *
- * FAK_C_OK; FAK_C_NOT_YET where the cell was not yet filled; FAK_C_NO_SEAT or FAK_C_WRONG_STATE. */
+ * FAK_C_OK; FAK_C_NOT_YET if the cell was not yet filled; FAK_C_NO_SEAT or FAK_C_WRONG_STATE. */
 int32_t fak_c_try_take(fak_c_seat *seat, uint64_t *item);
 
-/* The claim of an insertion and, where it is granted, the first try. The ticket is written where the claim is granted.
+/* Claims an insertion and, if the claim is granted, writes the ticket and tries once.
  *
- * FAK_C_OK; FAK_C_NOT_YET with the claim kept for fak_c_try_fill; or what fak_c_claim_insert answers. */
+ * FAK_C_OK; FAK_C_NOT_YET with the claim kept for fak_c_try_fill; or a refusal of fak_c_claim_insert. */
 int32_t fak_c_insert(fak_c_seat *seat, uint64_t item, uint64_t *ticket);
 
-/* The claim of a deletion and, where it is granted, the first try. The ticket is written where the claim is granted, the item where
- * it was taken out.
+/* Claims a deletion and, if the claim is granted, writes the ticket and tries once. The item is written if it was taken out.
  *
- * FAK_C_OK; FAK_C_NOT_YET with the claim kept for fak_c_try_take; or what fak_c_claim_delete answers. */
+ * FAK_C_OK; FAK_C_NOT_YET with the claim kept for fak_c_try_take; or a refusal of fak_c_claim_delete. */
 int32_t fak_c_delete(fak_c_seat *seat, uint64_t *ticket, uint64_t *item);
 
-/* The same for callers that may do without the ticket: the pointer to it may be null. */
+/* The same for callers that need no ticket: the pointer to it may be null. */
 static inline int32_t fak_c_put(fak_c_seat *seat, uint64_t item, uint64_t *ticket) {
     uint64_t unused = 0;
     return fak_c_insert(seat, item, ticket ? ticket : &unused);
@@ -239,34 +238,34 @@ static inline int32_t fak_c_get(fak_c_seat *seat, uint64_t *ticket, uint64_t *it
     return fak_c_delete(seat, ticket ? ticket : &unused, item);
 }
 
-/* Leaves the queue to others for a while, where since its last pause the seat has found that others use the queue too. Threads that
- * call by turns fetch each cache line from one another; while one pauses, another has them at hand. So call it between two calls
- * where the rate counts for more than the longest time of a call, and not in a handler. It spins, at most once in some 100 tickets
- * and for some tens of microseconds, and waits for nobody. In queues of fewer than 64 cells it does nothing, and in the archive by
- * `--backend rattle` in no queue: that compiler makes no code for a spin. No other call pauses. The seat may be in any state.
+/* Leaves the queue to others for a while, if the seat has found since its last pause that others use the queue too. Threads that take
+ * turns fetch each cache line from one another; while one pauses, another has the lines in its own cache. So call it between two calls
+ * if the rate matters more than the longest time of a call, and not in a handler. It spins at most once in some 100 tickets, for some
+ * tens of microseconds, and waits for nobody. In queues of fewer than 64 cells it does nothing. In the archive by `--backend rattle` it
+ * does nothing in any queue: that compiler makes no code for a spin. No other call pauses. The seat may be in any state.
  *
  * FAK_C_OK or FAK_C_NO_SEAT. */
 int32_t fak_c_pause(fak_c_seat *seat);
 
 /* Shuts the queue: insertions are refused as FAK_C_CLOSED from now on, and deletions go on. Writes whether the queue was open
- * before. The seat must be idle. Insertions that were claimed before end as ever. To drain a queue: shut it, and delete until
- * fak_c_drained says so.
+ * before. The seat must be idle. Insertions that were claimed before can still end. To drain a queue, shut it, and delete until
+ * fak_c_drained writes true.
  *
  * FAK_C_OK; FAK_C_NO_SEAT or FAK_C_WRONG_STATE. */
 int32_t fak_c_shut(fak_c_seat *seat, bool *was_open);
 
-/* Writes the state of the seat, the ticket of its open call (where it is idle, nothing is written there), and how many tickets
- * are left of its stint. Changes nothing.
+/* Writes the state of the seat, the ticket of its open call (if it is idle, no ticket is written), and how many tickets are left
+ * of its stint. Changes nothing.
  *
  * FAK_C_OK or FAK_C_NO_SEAT. */
 int32_t fak_c_state(fak_c_seat *seat, uint32_t *state, uint64_t *ticket, uint64_t *left);
 
-/* How many there are of what. Each of these loads one count, so it tells what was so at one moment of the call; others may have
- * changed it since. None waits, or makes a mark, or counts against the stint. The seat may be in any state. FAK_C_OK or
+/* What the queue holds. Each of these loads one count, so it writes what held at one moment of the call; others may have changed it
+ * since. None waits, changes the queue's history, or counts against the stint. The seat may be in any state. FAK_C_OK or
  * FAK_C_NO_SEAT, which writes nothing.
  *
  * fak_c_count writes the items that are ready: insertions that have ended, less the deletions begun and not withdrawn. While no other
- * seat is in a call it is the number of items. It is below 0 while deletions are refused, so take 0 for less.
+ * seat is in a call it is the number of items. It is below 0 while deletions are refused; read 0 then.
  *
  * fak_c_in_use writes the cells in use, insertions begun and not withdrawn, less deletions that have ended, and whether the queue
  * is shut. It is at least 0, and above the size while insertions are refused.
@@ -280,8 +279,8 @@ int32_t fak_c_drained(fak_c_seat *seat, bool *is_drained);
 /* ---- Bursts: several insertions or deletions by one claim ----
  *
  * A bundle is a handle that owns several seats of one queue, which call together. A burst inserts or deletes several items by one claim.
- * A single insertion or deletion that does not wait makes 6 atomic steps. A burst makes 4, and 2 for each item. Use bursts if a thread
- * has several items at a time, as a processor that fills or drains a cache of pages, packets or buffers.
+ * A single insertion or deletion that does not wait takes 6 atomic steps. A burst takes 4, and 2 for each item. Use bursts if a thread
+ * has several items at a time: a processor, for instance, that fills or drains a cache of pages, packets or buffers.
  *
  * - A burst claims what it finds: as many of its items as there is room for, or as many items as there are, but at most one for each seat
  *   of the bundle. The call writes how many these are. Of an insertion the first items are taken. The others stay with the caller.
@@ -293,15 +292,15 @@ int32_t fak_c_drained(fak_c_seat *seat, bool *is_drained);
  *   of its items. Until it is done, others wait for these items and cells, as they do for a claim of a single call.
  * - A burst that claims more than there is takes the rest back by a second step. Between the two it hides as many items, or cells, from
  *   others. They are refused, or find fewer than there are. So never sleep on a refusal here either.
- * - Each thread or processor has a bundle of its own. For handlers a bundle is as a seat: one that has its own must not try again until
- *   FAK_C_OK. Or interrupts are off from each claim until the burst is done.
+ * - Each thread or processor has a bundle of its own. For handlers a bundle is like a seat: a handler that has its own must not try again
+ *   until FAK_C_OK. Or interrupts are off from each claim until the burst is done.
  * - For ThreadSanitizer, FAK_C_GIVES of each item comes before the call that inserts it. FAK_C_GETS comes after the call that took it out.
  *
- * fak_c_leave and fak_c_move take bundles as they take seats. All other calls of a queue return FAK_C_NO_SEAT for a bundle, and the calls
+ * fak_c_leave and fak_c_move work on bundles as on seats. All other calls of a queue return FAK_C_NO_SEAT for a bundle, and the calls
  * below return it for a seat. So open one seat besides to shut the queue, or to count what is in it. */
 
-/* Opens an empty queue of `size` cells (1 to 2^24) with n seats for single calls and m bundles of `width` seats each. n may be 0, and then
- * `seats` is not read, and not null all the same. m and `width` are at least 1, and n + m * width is at most 1,024. A seat may make
+/* Opens an empty queue of `size` cells (1 to 2^24) with n seats for single calls and m bundles of `width` seats each. n may be 0; then
+ * `seats` is not read, but still not null. m and `width` are at least 1, and n + m * width is at most 1,024. A seat may make
  * `stint` calls, and a bundle width * stint, which its seats share. (n + m * width) * stint is at most 2^50.
  *
  * FAK_C_OK, FAK_C_BAD_LIMIT or FAK_C_MEMORY. If n, m or `width` is out of range, no handle is read or cleared. If another code than
@@ -347,11 +346,11 @@ int32_t fak_c_bundle_state(fak_c_seat *bundle, uint32_t *state, uint64_t *ticket
 
 /* ---- Semaphores: a count, and a queue of the items that wait ----
  *
- * A down subtracts 1, and passes where it found at least 1; else its item is parked in the wait queue. An up adds 1, and where it
- * found less than 0 it wakes the oldest parked item, which the caller goes on with. What waits is the item, as a thread of a kernel.
- * A down that parks, and an up that wakes, are made by steps: a kernel leaves the thread's stack between fak_c_sem_claim_down and
- * fak_c_sem_try_park, so the caller that wakes the thread finds that its stack was left. Once the item is parked another
- * processor may run it: write its state before fak_c_sem_claim_down, and don't touch it after fak_c_sem_try_park's FAK_C_OK. */
+ * A down subtracts 1, and passes if it found at least 1; else its item is parked in the wait queue. An up adds 1. If it found less
+ * than 0, it wakes the oldest parked item, which the caller goes on with. What waits is the item, for instance a thread of a kernel. A
+ * down that parks, and an up that wakes, are made by steps: a kernel leaves the thread's stack between fak_c_sem_claim_down and
+ * fak_c_sem_try_park. So the caller that wakes the thread finds that its stack was left. Once the item is parked another processor may
+ * run it: write its state before fak_c_sem_claim_down, and don't touch it after fak_c_sem_try_park's FAK_C_OK. */
 
 /* The state of a semaphore's seat, as fak_c_sem_state writes it. */
 enum {
@@ -360,32 +359,32 @@ enum {
     FAK_C_SEM_WAKING = 2   /* an up owes a wake: fak_c_sem_try_wake is next */
 };
 
-/* Opens a semaphore that begins at `start` (0 to 2^32), with an empty wait queue of `size` cells (1 to 2^24): no fewer than items
- * may wait at once. With fewer a down tries to park until an up makes room, for ever where the callers of the ups are parking
- * too. The stint is of downs and ups together. */
+/* Opens a semaphore that begins at `start` (0 to 2^32), with an empty wait queue of `size` cells (1 to 2^24): at least as many as items
+ * may wait at once. With fewer a down tries to park until an up makes room: forever, if the callers of the ups are parking too. The
+ * stint is of downs and ups together. */
 int32_t fak_c_sem_open(fak_c_seat *seats, size_t n, uint64_t start, uint64_t size, uint64_t stint);
 
 /* Begins a down. The seat must be idle.
  *
- * FAK_C_OK where it passed, and is done; FAK_C_PARKS where the seat keeps the item, and fak_c_sem_try_park is next; FAK_C_WORN;
+ * FAK_C_OK if it passed, and is done; FAK_C_PARKS if the seat keeps the item, and fak_c_sem_try_park is next; FAK_C_WORN;
  * FAK_C_NO_SEAT or FAK_C_WRONG_STATE. */
 int32_t fak_c_sem_claim_down(fak_c_seat *seat, uint64_t item);
 
-/* One step more of a down that parks its item. The seat must be parking, and is idle after FAK_C_OK.
+/* Takes one more step of a down that parks its item. The seat must be parking, and is idle after FAK_C_OK.
  *
- * FAK_C_OK where the item is parked, and the down is done; FAK_C_NOT_YET where no cell is free, or the cell's last item was not yet
- * taken; FAK_C_NO_SEAT or FAK_C_WRONG_STATE. */
+ * FAK_C_OK if the item is parked, and the down is done; FAK_C_NOT_YET if no cell is free, or the cell's last item was not yet taken;
+ * FAK_C_NO_SEAT or FAK_C_WRONG_STATE. */
 int32_t fak_c_sem_try_park(fak_c_seat *seat);
 
 /* Begins an up. The seat must be idle.
  *
- * FAK_C_OK where it woke no item, and is done; FAK_C_WAKES where it owes a wake, and fak_c_sem_try_wake is next; FAK_C_WORN;
+ * FAK_C_OK if it woke no item, and is done; FAK_C_WAKES if it owes a wake, and fak_c_sem_try_wake is next; FAK_C_WORN;
  * FAK_C_NO_SEAT or FAK_C_WRONG_STATE. */
 int32_t fak_c_sem_claim_up(fak_c_seat *seat);
 
-/* One step more of an up that owes a wake. The seat must be waking, and is idle after FAK_C_OK.
+/* Takes one more step of an up that owes a wake. The seat must be waking, and is idle after FAK_C_OK.
  *
- * FAK_C_OK with the woken item, and the up is done; FAK_C_NOT_YET where the item to wake is not parked yet; FAK_C_NO_SEAT or
+ * FAK_C_OK with the woken item, and the up is done; FAK_C_NOT_YET if the item to wake is not parked yet; FAK_C_NO_SEAT or
  * FAK_C_WRONG_STATE. */
 int32_t fak_c_sem_try_wake(fak_c_seat *seat, uint64_t *item);
 
@@ -399,15 +398,15 @@ int32_t fak_c_sem_state(fak_c_seat *seat, uint32_t *state, uint64_t *left);
 /* Opens a room whose count is 0, with this bound (0 to 2^32). The stint is of granted claims. */
 int32_t fak_c_room_open(fak_c_seat *seats, size_t n, uint64_t bound, uint64_t stint);
 
-/* Claims the amount, 1 to 1,024, where it fits beside the count. `found` is the count that the claim found.
+/* Claims the amount, 1 to 1,024, if count and amount together are at most the bound. `found` is the count before.
  *
- * FAK_C_OK; FAK_C_WORN, where nothing is written; FAK_C_FULL, where `found` is written too: beside claims that are about to be
- * withdrawn it may be refused although it would fit; FAK_C_BAD_LIMIT or FAK_C_NO_SEAT. */
+ * FAK_C_OK; FAK_C_WORN, and nothing is written; FAK_C_FULL, and `found` is written too: while other claims are about to be withdrawn, the
+ * claim may be refused although it would fit; FAK_C_BAD_LIMIT or FAK_C_NO_SEAT. */
 int32_t fak_c_room_tir(fak_c_seat *seat, uint64_t amount, int64_t *found);
 
 /* Gives back the amount, 1 to 1,024 and no more than the seat holds. `found` is the count before.
  *
- * FAK_C_OK; FAK_C_BAD_LIMIT or FAK_C_NO_SEAT, where nothing is written. */
+ * FAK_C_OK; FAK_C_BAD_LIMIT or FAK_C_NO_SEAT, and nothing is written. */
 int32_t fak_c_room_release(fak_c_seat *seat, uint64_t amount, int64_t *found);
 
 /* Writes how much the seat holds, and how many claims are left of its stint. Changes nothing.
@@ -422,7 +421,7 @@ int32_t fak_c_credit_open(fak_c_seat *seats, size_t n, uint64_t start, uint64_t 
 
 /* Subtracts 1, or adds 1. `found` is the count before; it may be below 0.
  *
- * FAK_C_OK; FAK_C_WORN or FAK_C_NO_SEAT, where nothing is written. */
+ * FAK_C_OK; FAK_C_WORN or FAK_C_NO_SEAT, and nothing is written. */
 int32_t fak_c_credit_debit(fak_c_seat *seat, int64_t *found);
 int32_t fak_c_credit_credit(fak_c_seat *seat, int64_t *found);
 
@@ -445,19 +444,19 @@ int32_t fak_c_files_open(fak_c_seat *seats, size_t n, uint64_t entries, uint64_t
 
 /* A reader's hold, and a writer's, by one attempt. The seat must hold nothing.
  *
- * FAK_C_OK; FAK_C_WORN; FAK_C_BUSY, where `count` is what was left of n, of which a reader takes 1 and a writer all (it is not written
- * else); FAK_C_NO_SEAT or FAK_C_WRONG_STATE. */
+ * FAK_C_OK; FAK_C_WORN; FAK_C_BUSY, and `count` is what was left of n: a reader takes 1 of it, and a writer all. With no other code it is
+ * written. FAK_C_NO_SEAT or FAK_C_WRONG_STATE. */
 int32_t fak_c_files_try_read(fak_c_seat *seat, int64_t *count);
 int32_t fak_c_files_try_write(fak_c_seat *seat, int64_t *count);
 
 /* Writes both fields of an entry, as they were when the hold was granted, with what the seat has set since.
  *
- * FAK_C_OK; FAK_C_WRONG_STATE without a hold, or where there is no such entry; FAK_C_NO_SEAT. */
+ * FAK_C_OK; FAK_C_WRONG_STATE without a hold, or if there is no such entry; FAK_C_NO_SEAT. */
 int32_t fak_c_files_get(fak_c_seat *seat, uint64_t entry, uint64_t *inode, uint64_t *uses);
 
 /* Sets a field of an entry.
  *
- * FAK_C_OK; FAK_C_WRONG_STATE without a writer's hold, or where there is no such entry; FAK_C_NO_SEAT. */
+ * FAK_C_OK; FAK_C_WRONG_STATE without a writer's hold, or if there is no such entry; FAK_C_NO_SEAT. */
 int32_t fak_c_files_set_inode(fak_c_seat *seat, uint64_t entry, uint64_t to);
 int32_t fak_c_files_set_uses(fak_c_seat *seat, uint64_t entry, uint64_t to);
 

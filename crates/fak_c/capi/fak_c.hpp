@@ -1,13 +1,13 @@
-/* The objects of fak_c.h for C++17: handles that own their seat, and calls with types. Nothing here throws, takes memory or waits.
+/* The objects of fak_c.h for C++17: handles that own their seat, and calls with types. Nothing here throws, allocates or waits.
  *
  * A handle is movable, also during a call, and cannot be copied. Its destructor leaves the object. While a call is open, or the seat
  * holds something of a room or a file table, leaving is refused; then the object is never freed. So end the call first.
  *
- * Each call is that of fak_c.h, whose comment says which codes it returns; what C owes there is owed here, except that no handle is
- * copied or written by hand. Never sleep on Code::Full, Code::Empty or Code::Busy: fak_c.h says why.
+ * Each call is that of fak_c.h, whose comment says which codes it returns. What C owes there is owed here too, except that the types
+ * keep handles from being copied or written by hand. Never sleep on Code::Full, Code::Empty or Code::Busy: fak_c.h says why.
  *
  * An item is any trivially copyable type of at most 8 bytes: a number, an enum, a pointer, a small struct. What a pointer points
- * to stays the program's; pointers that are in an object when its last seat leaves are not followed. */
+ * to stays with the program; pointers that are in an object when its last seat leaves are not followed. */
 #ifndef FAK_C_HPP
 #define FAK_C_HPP
 
@@ -77,7 +77,7 @@ constexpr const char *text_of(Code code) noexcept {
     return "no code";
 }
 
-/* A code, with a value that the call has written if its comment says so, and which is zero if not. */
+/* A code, and a value. The value is zero unless the call's comment says that it is written. */
 template <class T> struct [[nodiscard]] Answer {
     Code code;
     T value;
@@ -142,7 +142,7 @@ public:
     fak_c_seat *get_handle() noexcept { return &seat; }
 
 protected:
-    /* Opens an object over these handles, which all have to be empty, else WrongState. */
+    /* Opens an object over these handles. WrongState unless all of them are empty. */
     template <class Seats, class Open> static Code open_all(Seats &seats, Open open) noexcept {
         return are_empty(seats) ? Code{open(handles_of(seats), std::size(seats))} : Code::WrongState;
     }
@@ -160,6 +160,13 @@ protected:
         using Seat = std::remove_pointer_t<decltype(first)>;
         static_assert(sizeof(Seat) == sizeof(fak_c_seat) && std::is_standard_layout_v<Seat>, "an array of seats is one of handles");
         return reinterpret_cast<fak_c_seat *>(first);
+    }
+
+    /* Makes a call that writes one value. */
+    template <class Value, class Call, class... Words> Answer<Value> value_of(Call call, Words... words) noexcept {
+        Value value{};
+        Code code{call(&seat, words..., &value)};
+        return {code, value};
     }
 
     fak_c_seat seat{};
@@ -184,7 +191,7 @@ public:
         std::uint64_t left;
     };
 
-    /* What a load of the cells in use tells. */
+    /* What one load found. */
     struct InUse {
         std::int64_t cells;
         bool is_shut;
@@ -201,54 +208,37 @@ public:
         return open_all(seats, [=](fak_c_seat *first, std::size_t n) { return fak_c_open(first, n, size, stint); });
     }
 
-    /* A claim and the first try. The ticket is written if the answer is Ok or NotYet; after NotYet `try_put` is next. */
+    /* A claim and the first try. The ticket is written with Ok and NotYet; after NotYet `try_put` is next. */
     Answer<std::uint64_t> put(T item) noexcept {
-        std::uint64_t ticket = 0;
         details::gives(item);
-        Code code{fak_c_insert(&seat, details::word_of(item), &ticket)};
-        return {code, ticket};
+        return value_of<std::uint64_t>(fak_c_insert, details::word_of(item));
     }
     Answer<std::uint64_t> claim_put(T item) noexcept {
-        std::uint64_t ticket = 0;
         details::gives(item);
-        Code code{fak_c_claim_insert(&seat, details::word_of(item), &ticket)};
-        return {code, ticket};
+        return value_of<std::uint64_t>(fak_c_claim_insert, details::word_of(item));
     }
     Code try_put() noexcept { return Code{fak_c_try_fill(&seat)}; }
 
-    /* A claim and the first try. The ticket is written if the answer is Ok or NotYet, the item if it is Ok; after NotYet `try_get`
-     * is next. */
+    /* A claim and the first try. The ticket is written with Ok and NotYet, the item with Ok; after NotYet `try_get` is next. */
     Answer<Taken> get() noexcept {
         std::uint64_t ticket = 0, word = 0;
         Code code{fak_c_delete(&seat, &ticket, &word)};
         return {code, {ticket, taken(code, word)}};
     }
-    Answer<std::uint64_t> claim_get() noexcept {
-        std::uint64_t ticket = 0;
-        Code code{fak_c_claim_delete(&seat, &ticket)};
-        return {code, ticket};
-    }
+    Answer<std::uint64_t> claim_get() noexcept { return value_of<std::uint64_t>(fak_c_claim_delete); }
     Answer<T> try_get() noexcept {
         std::uint64_t word = 0;
         Code code{fak_c_try_take(&seat, &word)};
         return {code, taken(code, word)};
     }
 
-    /* Shuts the queue: whether it was open. */
-    Answer<bool> shut() noexcept {
-        bool was_open = false;
-        Code code{fak_c_shut(&seat, &was_open)};
-        return {code, was_open};
-    }
+    /* Shuts the queue. Returns whether it was open. */
+    Answer<bool> shut() noexcept { return value_of<bool>(fak_c_shut); }
 
     Code pause() noexcept { return Code{fak_c_pause(&seat)}; }
 
     /* The items that are ready, below 0 while deletions are refused. */
-    Answer<std::int64_t> count() noexcept {
-        std::int64_t items = 0;
-        Code code{fak_c_count(&seat, &items)};
-        return {code, items};
-    }
+    Answer<std::int64_t> count() noexcept { return value_of<std::int64_t>(fak_c_count); }
 
     /* The cells in use, and whether the queue is shut. */
     Answer<InUse> in_use() noexcept {
@@ -259,11 +249,7 @@ public:
     }
 
     /* Whether the queue is shut and has no cell in use: no deletion finds an item from then on. */
-    Answer<bool> drained() noexcept {
-        bool is_drained = false;
-        Code code{fak_c_drained(&seat, &is_drained)};
-        return {code, is_drained};
-    }
+    Answer<bool> drained() noexcept { return value_of<bool>(fak_c_drained); }
 
     Answer<Standing> state() noexcept {
         std::uint32_t state = 0;
@@ -330,7 +316,7 @@ public:
         });
     }
 
-    /* A claim for the first of n items, and the first tries. The burst is written if the answer is Ok or NotYet, and its items are taken
+    /* A claim for the first of n items, and the first tries. The burst is written with Ok and NotYet, and its items are taken
      * then; after NotYet `try_put_burst` is next. Memory says that there is no room for the items on their way, which the opening made. */
     Answer<Burst> put_burst(const T *items, std::size_t n) noexcept {
         std::uint64_t words[most], ticket = 0, count = 0;
@@ -350,8 +336,8 @@ public:
         return {code, static_cast<std::size_t>(left)};
     }
 
-    /* A claim of at most n items, and the first tries. The burst is written if the answer is Ok or NotYet, and those that were taken out
-     * to the first items; after NotYet `try_get_burst` is next. */
+    /* A claim of at most n items, and the first tries. With Ok and NotYet the burst is written, and the items that were taken out are
+     * written to the first places; after NotYet `try_get_burst` is next. */
     Answer<TakenBurst> get_burst(T *items, std::size_t n) noexcept {
         std::uint64_t words[most], ticket = 0, count = 0, taken = 0;
         n = prepare(words, n);
@@ -360,7 +346,7 @@ public:
         return {code, {ticket, static_cast<std::size_t>(count), static_cast<std::size_t>(taken)}};
     }
 
-    /* Takes out further items. There is a place for each that is still claimed, else BadLimit. */
+    /* Takes out further items. BadLimit unless there is a place for each that is still claimed. */
     Answer<Rest> try_get_burst(T *items, std::size_t n) noexcept {
         std::uint64_t words[most], taken = 0, left = 0;
         n = prepare(words, n);
@@ -379,7 +365,7 @@ public:
 private:
     static_assert(most >= 1, "a burst has an item");
 
-    /* C writes words that are initialised. At most n of them, and no more than there are. */
+    /* Initialises the words that C writes. Returns how many these are: n, but no more than there are. */
     static std::size_t prepare(std::uint64_t *words, std::size_t n) noexcept {
         n = n < most ? n : most;
         std::memset(words, 0, n * sizeof *words);
@@ -392,7 +378,7 @@ private:
     }
 };
 
-/* A seat of a semaphore. Its items are what waits, as the threads of a kernel. */
+/* A seat of a semaphore. Its items are what waits, for instance the threads of a kernel. */
 template <class T> class SemSeat : public Handle {
 public:
     enum class State : std::uint32_t { Idle = FAK_C_SEM_IDLE, Parking = FAK_C_SEM_PARKING, Waking = FAK_C_SEM_WAKING };
@@ -441,17 +427,9 @@ public:
         return open_all(seats, [=](fak_c_seat *first, std::size_t n) { return fak_c_room_open(first, n, bound, stint); });
     }
 
-    /* The count before, also if the answer is Full. */
-    Answer<std::int64_t> claim(std::uint64_t amount) noexcept {
-        std::int64_t found = 0;
-        Code code{fak_c_room_tir(&seat, amount, &found)};
-        return {code, found};
-    }
-    Answer<std::int64_t> release(std::uint64_t amount) noexcept {
-        std::int64_t found = 0;
-        Code code{fak_c_room_release(&seat, amount, &found)};
-        return {code, found};
-    }
+    /* The count before, also with Full. */
+    Answer<std::int64_t> claim(std::uint64_t amount) noexcept { return value_of<std::int64_t>(fak_c_room_tir, amount); }
+    Answer<std::int64_t> release(std::uint64_t amount) noexcept { return value_of<std::int64_t>(fak_c_room_release, amount); }
 
     Answer<Standing> state() noexcept {
         std::uint64_t held = 0, left = 0;
@@ -473,16 +451,8 @@ public:
     }
 
     /* The count before. */
-    Answer<std::int64_t> debit() noexcept {
-        std::int64_t found = 0;
-        Code code{fak_c_credit_debit(&seat, &found)};
-        return {code, found};
-    }
-    Answer<std::int64_t> credit() noexcept {
-        std::int64_t found = 0;
-        Code code{fak_c_credit_credit(&seat, &found)};
-        return {code, found};
-    }
+    Answer<std::int64_t> debit() noexcept { return value_of<std::int64_t>(fak_c_credit_debit); }
+    Answer<std::int64_t> credit() noexcept { return value_of<std::int64_t>(fak_c_credit_credit); }
 
     Answer<Standing> state() noexcept {
         std::int64_t value = 0;
@@ -506,17 +476,9 @@ public:
         return open_all(seats, [=](fak_c_seat *first, std::size_t n) { return fak_c_files_open(first, n, entries, stint); });
     }
 
-    /* What was left of the number of seats, if the answer is Busy. */
-    Answer<std::int64_t> try_read() noexcept {
-        std::int64_t count = 0;
-        Code code{fak_c_files_try_read(&seat, &count)};
-        return {code, count};
-    }
-    Answer<std::int64_t> try_write() noexcept {
-        std::int64_t count = 0;
-        Code code{fak_c_files_try_write(&seat, &count)};
-        return {code, count};
-    }
+    /* With Busy, what was left of the number of seats. */
+    Answer<std::int64_t> try_read() noexcept { return value_of<std::int64_t>(fak_c_files_try_read); }
+    Answer<std::int64_t> try_write() noexcept { return value_of<std::int64_t>(fak_c_files_try_write); }
 
     Answer<Entry> get(std::uint64_t entry) noexcept {
         std::uint64_t inode = 0, uses = 0;

@@ -5,7 +5,7 @@
 #endif
 #include "fak_channel.h"
 
-/* How a tried call sleeps: not at all. */
+/* The deadline of a call that must not sleep. */
 #define NO_TIME 0
 
 /* ---- Ends ---- */
@@ -16,7 +16,7 @@ static void pause_once(const fak_channel_waiting *waiting, uint64_t rounds) {
         waiting->pause(waiting->context, rounds);
 }
 
-/* Takes the open call of an end to its last step. It sleeps until the deadline at most. */
+/* Takes the steps of an end's open call until it is done. It sleeps until the deadline at most. */
 static int32_t go_on(fak_channel_end *end, fak_channel_item *item, uint64_t deadline) {
     const fak_channel_waiting *waiting = end->waiting;
     uint64_t rounds = 0, number = 0;
@@ -39,9 +39,10 @@ static int32_t go_on(fak_channel_end *end, fak_channel_item *item, uint64_t dead
     }
 }
 
-/* Takes a send that was begun with this code to its last step. */
+/* Goes on with a send that was begun with this code. */
 static int32_t end_send(fak_channel_end *end, fak_channel_item *item, uint64_t deadline, int32_t begun) {
     if (begun == FAK_C_OK) {
+        /* It must come before the steps: a receiver may take the item at one of them. */
         FAK_C_GIVES(end->waiting);
         begun = go_on(end, item, deadline);
     }
@@ -50,7 +51,7 @@ static int32_t end_send(fak_channel_end *end, fak_channel_item *item, uint64_t d
     return begun;
 }
 
-/* The same of a receive. */
+/* The same for a receive. */
 static int32_t end_receive(fak_channel_end *end, fak_channel_item *item, uint64_t deadline, int32_t begun) {
     fak_channel_item received = {{0, 0, 0, 0}};
     if (begun == FAK_C_OK)
@@ -116,6 +117,7 @@ int32_t fak_channel_end_of(fak_c_seat *seat, fak_channel_waiting *waiting, fak_c
         return code;
     end->waiting = waiting;
     end->number = number;
+    /* Only counted here: the end is handed to its thread in order, so the leave that subtracts comes after. */
     __atomic_fetch_add(&waiting->ends, 1, __ATOMIC_RELAXED);
     return FAK_C_OK;
 }
@@ -142,6 +144,8 @@ int32_t fak_channel_leave_with(fak_channel_end *end, void (*drop)(void *context,
     int32_t code = number_of_idle(&end->seat, &number);
     if (code != FAK_C_OK)
         return code;
+    /* It must come before the seat is given up: the last end drops the items while it still has its seat. Acquire and release, since the
+     * last end frees what the others have used. */
     is_last = __atomic_sub_fetch(&waiting->ends, 1, __ATOMIC_ACQ_REL) == 0;
     while (is_last && drop != NULL && fak_channel_try_receive(end, &item) == FAK_C_OK)
         drop(context, &item);
@@ -159,12 +163,13 @@ int32_t fak_channel_leave(fak_channel_end *end) {
 
 /* ---- Lenders ---- */
 
-/* The end where callers park that wait for one of this lender's. It never sleeps in the channel itself. */
+/* The end at which callers park while they wait for an end of this lender. It never sleeps in the channel itself. */
 static const fak_channel_end *place_of(const fak_channel_lender *lender, const fak_channel_shared *shared) {
     return &shared->ends[lender == &shared->senders ? 0 : 1];
 }
 
-/* Wakes a caller that waits for an end, if there is one. */
+/* Wakes a caller that waits for an end, if there is one. The load must follow the step that made an end idle, or worn: a caller adds itself
+ * to the sleepers before it looks for such an end, so one of the two sees the other. */
 static void wake_sleeper(fak_channel_shared *shared, fak_channel_lender *lender) {
     const fak_channel_end *place = place_of(lender, shared);
     if (__atomic_load_n(&lender->sleepers, __ATOMIC_SEQ_CST) != 0)
@@ -184,6 +189,7 @@ static fak_channel_end *take_idle(fak_channel_lender *lender) {
         uint64_t idle = __atomic_load_n(&lender->idle[i], __ATOMIC_SEQ_CST);
         while (idle != 0) {
             uint64_t bit = idle & (~idle + 1);
+            /* Of the callers that clear a bit one finds it set, and has the end. What the end's last caller wrote is there for it. */
             idle = __atomic_fetch_and(&lender->idle[i], ~bit, __ATOMIC_SEQ_CST);
             if ((idle & bit) != 0)
                 return &lender->ends[64 * i + (size_t)__builtin_ctzll(bit)];
@@ -200,14 +206,16 @@ static bool is_worn(const fak_channel_lender *lender) {
 static bool wait_for_end(fak_channel_shared *shared, fak_channel_lender *lender, uint64_t deadline) {
     const fak_channel_end *place = place_of(lender, shared);
     bool is_in_time;
+    /* It must come before the looks: an end that comes back after these finds a sleeper, and wakes it (wake_sleeper). */
     __atomic_fetch_add(&lender->sleepers, 1, __ATOMIC_SEQ_CST);
     is_in_time = has_idle(lender) || is_worn(lender) || place->waiting->park(place->waiting->context, place->number, deadline);
+    /* It must follow the sleep. Meanwhile a wake-up may be one too many, and does no harm. */
     __atomic_fetch_sub(&lender->sleepers, 1, __ATOMIC_SEQ_CST);
     return is_in_time;
 }
 
-/* Lends an end. A wake-up is for one sleeper, and two ends may come back before it wakes. So a caller that has
- * found an end wakes the next sleeper if there is another end. A caller that finds that no end will come back wakes the next one, too. */
+/* Lends an end. A wake-up is for one sleeper, and two ends may come back before it wakes. So a caller that has found an end wakes the next
+ * sleeper if there is another end. A caller that finds all ends worn wakes the next one, too. */
 static int32_t lend(fak_channel_shared *shared, fak_channel_lender *lender, uint64_t deadline, fak_channel_end **end) {
     while ((*end = take_idle(lender)) == NULL) {
         if (is_worn(lender)) {
@@ -224,6 +232,7 @@ static int32_t lend(fak_channel_shared *shared, fak_channel_lender *lender, uint
 
 static void take_back(fak_channel_shared *shared, fak_channel_lender *lender, const fak_channel_end *end) {
     size_t index = (size_t)(end - lender->ends);
+    /* It must follow the call: another caller may have the end from here on. */
     __atomic_fetch_or(&lender->idle[index / 64], UINT64_C(1) << index % 64, __ATOMIC_SEQ_CST);
     wake_sleeper(shared, lender);
 }
@@ -253,7 +262,7 @@ static int32_t send_by_lent(fak_channel_shared *shared, const fak_channel_item *
     }
 }
 
-/* The same for a receive. */
+/* Lends ends for a receive likewise. */
 static int32_t receive_by_lent(fak_channel_shared *shared, fak_channel_item *item, uint64_t deadline, bool tries) {
     fak_channel_lender *lender = &shared->receivers;
     for (;;) {
@@ -294,7 +303,8 @@ int32_t fak_channel_shared_receive_until(fak_channel_shared *shared, fak_channel
     return receive_by_lent(shared, item, deadline, false);
 }
 
-/* Takes one of the first two ends for a moment, in which nobody sleeps. */
+/* Takes one of the first two ends for a call that never sleeps. The exchange must come before the call, and the store of give_own must
+ * follow it: the end is in one call at a time. */
 static fak_channel_end *take_own(fak_channel_shared *shared, uint64_t *flag) {
     fak_channel_end *end = &shared->ends[flag == &shared->closes ? 0 : 1];
     for (uint64_t rounds = 0; __atomic_exchange_n(flag, 1, __ATOMIC_ACQUIRE) != 0; rounds++)
@@ -349,7 +359,7 @@ int32_t fak_channel_shared_over(fak_channel_shared *shared, fak_channel_end *end
     return FAK_C_OK;
 }
 
-/* Whether nobody has borrowed an end, or waits for one. */
+/* Whether no end is lent, and no caller waits for one. */
 static bool is_at_rest(fak_channel_lender *lender) {
     uint64_t idle = __atomic_load_n(&lender->worn, __ATOMIC_SEQ_CST);
     for (size_t i = 0; i < lender->count; i++)
@@ -363,7 +373,7 @@ int32_t fak_channel_shared_leave_with(
     int32_t code = FAK_C_OK;
     if (!is_at_rest(&shared->senders) || !is_at_rest(&shared->receivers))
         return FAK_C_WRONG_STATE;
-    /* The first two ends have made the fewest calls, so one of them drops what is left. */
+    /* The first two ends have called least, so one of them drops what is left. */
     for (size_t i = n; i-- > 0 && code == FAK_C_OK;)
         code = fak_channel_leave_with(&shared->ends[i], drop, context);
     return code;
@@ -385,7 +395,7 @@ int32_t fak_channel_shared_leave(fak_channel_shared *shared) {
 #include <time.h>
 #include <unistd.h>
 
-/* The token of an end: 1 if it is set. On a cache line of its own. */
+/* The token of an end: 1 if it is set. It has a cache line of its own. */
 struct token {
     _Alignas(64) uint32_t is_set;
 };
@@ -407,7 +417,8 @@ uint64_t fak_channel_deadline(uint64_t nanoseconds) {
     return deadline < nanoseconds ? FAK_CHANNEL_NEVER : deadline;
 }
 
-/* Sleeps while the token is not set, until the deadline, a signal, or no reason. */
+/* Sleeps while the token is not set: until it is woken, until the deadline or a signal, or until it wakes up without a reason. The kernel
+ * looks at the token once more before it sleeps, so a token that was set since the caller's look is not missed. */
 static void sleep_on(uint32_t *is_set, uint64_t deadline) {
     struct timespec time = {(time_t)(deadline / 1000000000), (long)(deadline % 1000000000)};
     struct timespec *until = deadline == FAK_CHANNEL_NEVER ? NULL : &time;
@@ -419,6 +430,8 @@ static void sleep_on(uint32_t *is_set, uint64_t deadline) {
 static bool park(void *context, uint64_t number, uint64_t deadline) {
     uint32_t *is_set = &((struct channel *)context)->tokens[number].is_set;
     for (;;) {
+        /* It takes the token; what the waking thread wrote before is there. It comes before the look at the clock, so that a token that
+         * was set in time counts after the deadline, too. */
         if (__atomic_exchange_n(is_set, 0, __ATOMIC_SEQ_CST) != 0)
             return true;
         if (deadline != FAK_CHANNEL_NEVER && now() >= deadline)
@@ -429,6 +442,8 @@ static bool park(void *context, uint64_t number, uint64_t deadline) {
 
 static void unpark(void *context, uint64_t number) {
     uint32_t *is_set = &((struct channel *)context)->tokens[number].is_set;
+    /* It must come before the wake-up, which would else find the token clear and the thread on its way to sleep. A token that was set
+     * already has its wake-up. */
     if (__atomic_exchange_n(is_set, 1, __ATOMIC_SEQ_CST) == 0)
         syscall(SYS_futex, is_set, FUTEX_WAKE_PRIVATE, 1, NULL, NULL, 0);
 }
@@ -460,7 +475,7 @@ static struct channel *make_channel(size_t n) {
     return channel;
 }
 
-/* Opens the channel over seats that are moved to the ends then. */
+/* Opens the channel, and moves its seats to the ends. */
 static int32_t open_over(fak_c_seat *seats, struct channel *channel, fak_channel_end *ends, size_t n, uint64_t size, uint64_t stint) {
     int32_t code;
     if (seats == NULL || channel == NULL)

@@ -4,26 +4,26 @@
  * There are three ways to call it:
  * - "Ends": a thread has an end of its own. Its calls sleep, by a futex on Linux, or by two functions of yours.
  * - "A shared channel": any thread calls, and borrows an end for the call.
- * - "Steps": no call waits. An interrupt handler, or a runtime that keeps its waiting tasks in lists of its own, calls so.
+ * - "Steps": no call waits. Use them in an interrupt handler, or in a runtime that keeps its waiting tasks in lists of its own.
  *
  * The steps are in libfak_c.a, proved. Ends and the shared channel are C over these steps, in fak_channel.c, and tested. Compile it with
  * your program, or link libfak_channel.a of an installed prefix. Under ThreadSanitizer compile it with the program.
  *
- * What C owes, beside what fak_c.h says:
- * - An end starts as {0} (in C++ as {}), is never copied, and is written by these calls only. fak_channel_move moves it.
+ * What C owes, besides what fak_c.h says:
+ * - An end starts as {0} (in C++ as {}), is never copied, and is written only by these calls. fak_channel_move moves it.
  * - One call at a time on an end. Any number of threads call a shared channel at once.
- * - No signal handler calls an end or a shared channel; a handler may make steps on an end of its own, as fak_c.h says. A handler
+ * - No signal handler calls an end or a shared channel. A handler may call by steps on an end of its own, as fak_c.h says. A handler
  *   may interrupt a call: the call goes on, and a signal doesn't end its sleep. No call is a cancellation point.
  * - A thread that is killed in a call holds up calls of others. The forked child of a process with threads makes no call.
  *
  * Order. What a thread wrote before it sent an item is there for the thread that receives it. What it wrote before it closed the
- * channel is there after a call that returns FAK_C_CLOSED. fak_channel.c tells ThreadSanitizer so, for sends, receives and closes. It
- * takes each send as one before each later receive of the channel. Who makes steps tells it by FAK_C_GIVES and FAK_C_GETS (fak_c.h).
+ * channel is there after a call that returns FAK_C_CLOSED. fak_channel.c tells ThreadSanitizer so, for sends, receives and closes: as if
+ * each send came before each later receive of the channel. A caller by steps tells it by FAK_C_GIVES and FAK_C_GETS (fak_c.h).
  *
  * Never sleep on a refusal of a try by means of your own (fak_c.h): the calls below that sleep do it right.
  *
- * What the calls take. Stack: below 512 bytes in a step; below 8,192 in fak_channel_open. The calls of ends and of a shared channel add
- * some 400 bytes. Heap: what "Sizes" below says; no call takes any but those that open. Processor time: who sleeps takes none. */
+ * What the calls use. Stack: below 512 bytes in a step; below 8,192 in fak_channel_open. The calls of ends and of a shared channel add
+ * some 400 bytes. Heap: what "Sizes" below says; only calls that open allocate. Processor time: a sleeping thread uses none. */
 #ifndef FAK_CHANNEL_H
 #define FAK_CHANNEL_H
 
@@ -35,8 +35,8 @@ extern "C" {
 
 /* ---- Items ----
  *
- * An item is four words, always. Use as many as you like, and leave the others 0. What a pointer in an item points to stays the
- * caller's. */
+ * An item is always four words. Use as many as you like, and leave the others 0. What a pointer in an item points to stays with the
+ * caller. */
 typedef struct fak_channel_item {
     uint64_t word[4];
 } fak_channel_item;
@@ -57,16 +57,16 @@ static inline void *fak_channel_pointer_of(const fak_channel_item *item) {
 
 /* ---- Sizes ----
  *
- * The bytes that a channel with n ends and so many cells keeps of the heap, and those of a block (block.h) that it opens in. Ends that
- * sleep on futexes keep 64 bytes each beside them. */
+ * The bytes that a channel with n ends and `size` cells keeps of the heap, and those of a block (block.h) that it opens in. Ends that
+ * sleep on futexes keep 64 bytes each besides. */
 #define FAK_CHANNEL_KEEPS(n, size) (3264 + 1200 * (size_t)(n) + 48 * (size_t)(size))
 #define FAK_CHANNEL_BYTES(n, size) (6272 + 2176 * (size_t)(n) + 96 * (size_t)(size))
 
 /* ---- Ends ----
  *
- * A thread with an end of its own calls by it. The number of an end is its place in the array that was opened, from 0. */
+ * Each thread that calls has an end of its own. The number of an end is its place in the array that was opened, from 0. */
 
-/* How the threads of one channel wait. fak_channel_open_ends brings one over futexes. A kernel or a runtime has its own, one for each
+/* How the threads of one channel wait. fak_channel_open_ends makes one over futexes. A kernel or a runtime brings its own, one for each
  * channel: zeros first, then these functions.
  *
  * Each number has a token. `unpark` sets the token of this number, and wakes a thread that is parked there. `park` returns true once the
@@ -75,14 +75,14 @@ static inline void *fak_channel_pointer_of(const fak_channel_item *item) {
  * of 0. Only the thread that uses an end parks at its number. But at the numbers of the first two ends of a shared channel any number of
  * threads may park; then an `unpark` has to wake one of them at least.
  *
- * `pause` waits a moment for a step of another thread, for the time number `rounds` + 1 in turn: spin, and soon yield, so that a thread
- * that doesn't run gets the processor. A null pointer spins. */
+ * `pause` waits a moment for a step of another thread. `rounds` is how many pauses came just before: spin at first, and soon yield, so that
+ * a thread that doesn't run gets the processor. A null pointer spins. */
 typedef struct fak_channel_waiting {
     bool (*park)(void *context, uint64_t number, uint64_t deadline);
     void (*unpark)(void *context, uint64_t number);
     void (*pause)(void *context, uint64_t rounds);
     void *context;
-    uint64_t ends; /* how many ends wait so; written by these calls only */
+    uint64_t ends; /* how many ends wait so; written only by these calls */
 } fak_channel_waiting;
 
 #define FAK_CHANNEL_NEVER UINT64_MAX
@@ -97,12 +97,12 @@ typedef struct fak_channel_end {
 
 /* Opens a channel of `size` cells (1 to 2^24), and gives each of the n ends (1 to 1,024) a seat of it. The ends are empty before. Threads
  * sleep on futexes of Linux. An end may make about `stint` calls (at least 1, and n times the stint is at most 2^50). A tried or a timed
- * call that was refused may count too. FAK_C_MOST_CALLS / n is the longest stint.
+ * call that is refused may count too. FAK_C_MOST_CALLS / n is the longest stint.
  *
  * FAK_C_OK; FAK_C_BAD_LIMIT or FAK_C_MEMORY, and the ends are empty; FAK_C_WRONG_STATE if an end has a seat. */
 int32_t fak_channel_open_ends(fak_channel_end *ends, size_t n, uint64_t size, uint64_t stint);
 
-/* Moves a seat of fak_channel_open to an empty end, whose thread waits in this way. The end uses it until it leaves.
+/* Moves a seat of fak_channel_open to an empty end, whose thread waits by `waiting`. The end uses `waiting` until it leaves.
  *
  * FAK_C_OK; FAK_C_NO_SEAT if the seat is not one of a channel; FAK_C_WRONG_STATE if the end has a seat, or the seat has an open call. */
 int32_t fak_channel_end_of(fak_c_seat *seat, fak_channel_waiting *waiting, fak_channel_end *end);
@@ -137,8 +137,8 @@ uint64_t fak_channel_deadline(uint64_t nanoseconds);
 int32_t fak_channel_close(fak_channel_end *end);
 
 /* Gives up the end, which is empty then. The last end to leave frees the channel, with the items that are still in it. If items own
- * something, let `drop` free it: the last end hands it each item that is left, oldest first. A null pointer drops nothing. If the stint
- * of the last end runs out meanwhile, the others are left.
+ * something, let `drop` free it: the last end passes it each item that is left, oldest first. A null pointer drops nothing. If the stint
+ * of the last end runs out meanwhile, the remaining items are not passed.
  *
  * FAK_C_OK; FAK_C_NO_SEAT, or FAK_C_WRONG_STATE if a call by steps is open. */
 int32_t fak_channel_leave(fak_channel_end *end);
@@ -153,27 +153,27 @@ int32_t fak_channel_move(fak_channel_end *end, fak_channel_end *to);
  *
  * For callers that hold no end. Each call borrows one, and a caller sleeps while all of its side are lent. A caller that sleeps in a full
  * or an empty channel keeps its end, so senders and receivers borrow from two lenders. The number of ends bounds how many threads
- * sleep in the channel itself, and how many call at the same time, but not how many call. So as many ends as processors do for a side,
- * and one for each thread that often sleeps there saves some wake-ups.
+ * sleep in the channel itself, and how many call at the same time, but not how many use it. As many ends as processors are enough for a
+ * side. One for each thread that often sleeps there saves some wake-ups.
  *
  * Two ends more serve closes and looks. */
 #define FAK_CHANNEL_SHARED_ENDS(senders, receivers) ((senders) + (receivers) + 2)
 
-/* The ends of one side. Written by these calls only. */
+/* The ends of one side. Written only by these calls. */
 typedef struct fak_channel_lender {
     fak_channel_end *ends;
     uint64_t count;    /* how many there are */
     uint64_t worn;     /* how many have used up their stint */
-    uint64_t sleepers; /* how many callers wait for one */
+    uint64_t sleepers; /* how many callers wait for an end */
     uint64_t unused[4];
     uint64_t idle[FAK_C_MOST_SEATS / 64]; /* a bit for each end that nobody has borrowed */
 } fak_channel_lender;
 
-/* It is neither copied nor moved while it is shared, nor are its ends. It is zeros before. */
+/* It starts as zeros. While it is shared, neither it nor its ends are copied or moved. */
 typedef struct fak_channel_shared {
     fak_channel_end *ends;
-    uint64_t closes; /* whether somebody has the first end, which closes */
-    uint64_t looks;  /* whether somebody has the second end, which looks */
+    uint64_t closes; /* whether a caller has the first end, which closes */
+    uint64_t looks;  /* whether a caller has the second end, which looks */
     uint64_t unused[5];
     fak_channel_lender senders, receivers;
 } fak_channel_shared;
@@ -185,8 +185,8 @@ typedef struct fak_channel_shared {
 int32_t fak_channel_shared_open(
     fak_channel_shared *shared, fak_channel_end *ends, size_t senders, size_t receivers, uint64_t size, uint64_t stint);
 
-/* Shares as many ends of one channel that is open. The channel may have other ends. These may have been moved: the numbers of the
- * first two are where callers park that wait for an end.
+/* Shares the same number of ends of one open channel. The channel may have other ends. The ends may have been moved. Callers that wait
+ * for an end park at the numbers of the first two.
  *
  * FAK_C_OK; FAK_C_BAD_LIMIT; FAK_C_NO_SEAT if an end is empty. */
 int32_t fak_channel_shared_over(fak_channel_shared *shared, fak_channel_end *ends, size_t senders, size_t receivers);
@@ -203,7 +203,7 @@ int32_t fak_channel_shared_close(fak_channel_shared *shared);
 int32_t fak_channel_shared_len(fak_channel_shared *shared, uint64_t *items);
 int32_t fak_channel_shared_is_closed(fak_channel_shared *shared, bool *is_closed);
 
-/* Gives up all ends, once nobody is in a call. What is left is dropped as by fak_channel_leave_with, if the channel has no other ends.
+/* Gives up all ends, once no thread is in a call. If the channel has no other ends, what is left is dropped as by fak_channel_leave_with.
  *
  * FAK_C_OK; FAK_C_WRONG_STATE if an end is lent, or has an open call by steps. */
 int32_t fak_channel_shared_leave(fak_channel_shared *shared);
@@ -226,7 +226,7 @@ enum {
 int32_t fak_channel_open(fak_c_seat *ends, size_t n, uint64_t size, uint64_t stint);
 
 /* Each begins a call. The end must be idle. With FAK_C_OK the call is open. With any other code no call is open, and the item was not
- * taken. The two tries look first, and may be refused then. A tried call goes on as any other, except that its caller gives up instead
+ * taken. The two tries look first, and may be refused then. A tried call goes on like any other, except that its caller gives up instead
  * of sleeping.
  *
  * FAK_C_OK; FAK_C_WORN; FAK_C_NO_SEAT or FAK_C_WRONG_STATE; of a tried send also FAK_C_CLOSED or FAK_C_FULL, of a tried receive also
@@ -237,7 +237,7 @@ int32_t fak_channel_begin_try_send(fak_c_seat *end, const fak_channel_item *item
 int32_t fak_channel_begin_try_receive(fak_c_seat *end);
 int32_t fak_channel_begin_close(fak_c_seat *end);
 
-/* One step more of the open call. With the first three codes the call stays open:
+/* Takes one more step of the open call. With the first three codes the call stays open:
  * - FAK_C_NOT_YET: it waits for a step of another end's open call. Pause or yield, and step again.
  * - FAK_C_WAKES: wake the thread of the end of `number` now, and step again.
  * - FAK_C_SLEEPS: sleep until this end is woken, and step again. A step that finds no wake-up returns this code again.
@@ -246,7 +246,7 @@ int32_t fak_channel_begin_close(fak_c_seat *end);
  * - FAK_C_WORN: the stint of a receive ran out before it found an item.
  * - FAK_C_NO_SEAT; or FAK_C_WRONG_STATE if no call is open.
  *
- * Nothing else is written. A wake-up may be stale, if its end's call is over: it does no harm. */
+ * Nothing else is written. A wake-up may be stale, if its end's call is over; that does no harm. */
 int32_t fak_channel_step(fak_c_seat *end, fak_channel_item *item, uint64_t *number);
 
 /* Gives up the open call, which sleeps: its last step returned FAK_C_SLEEPS.
@@ -255,11 +255,12 @@ int32_t fak_channel_step(fak_c_seat *end, fak_channel_item *item, uint64_t *numb
  * and fak_channel_step is next; FAK_C_NO_SEAT, or FAK_C_WRONG_STATE if no call of the end sleeps. */
 int32_t fak_channel_give_up(fak_c_seat *end, fak_channel_item *item);
 
-/* One look each: the items that are ready, and whether the channel was closed. The end may be in any state. FAK_C_OK or FAK_C_NO_SEAT. */
+/* Each looks once: at the items that are ready, and whether the channel was closed. The end may be in any state. FAK_C_OK or
+ * FAK_C_NO_SEAT. */
 int32_t fak_channel_len(fak_c_seat *end, uint64_t *items);
 int32_t fak_channel_is_closed(fak_c_seat *end, bool *is_closed);
 
-/* Writes the end's number, its state, and how many calls are left of its stint at least. Changes nothing.
+/* Writes the end's number, its state, and at least how many calls are left of its stint. Changes nothing.
  *
  * FAK_C_OK or FAK_C_NO_SEAT. */
 int32_t fak_channel_state(fak_c_seat *end, uint64_t *number, uint32_t *state, uint64_t *left);

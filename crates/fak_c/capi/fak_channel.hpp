@@ -2,8 +2,8 @@
  * threads copy. Compile fak_channel.c with the program, or link libfak_channel.a. Nothing here throws.
  *
  * An item is any trivially copyable type of at most 32 bytes, or a std::unique_ptr, which the channel owns until it is received. What is
- * left in a channel when its last handle goes is deleted. An item that was refused stays with the caller. Send a larger object, or one
- * that owns something, as a std::unique_ptr.
+ * left in a channel when its last handle goes is deleted. A refused item stays with the caller. Send a larger object, or one that owns
+ * something, as a std::unique_ptr.
  *
  * A handle is movable and owns its end. Each call is that of fak_channel.h, whose comment says which codes it returns. */
 #ifndef FAK_CHANNEL_HPP
@@ -28,7 +28,7 @@ using Clock = std::chrono::steady_clock;
 
 namespace details {
 
-/* How a type travels: `pack` lends its bits, `sent` is told that the channel has them, and `unpack` makes the item again. */
+/* How an item travels: `pack` copies its bits, `sent` is called once the channel has them, and `unpack` makes an item of them. */
 template <class T> struct Cargo {
     static_assert(std::is_trivially_copyable_v<T> && sizeof(T) <= sizeof(fak_channel_item),
         "an item is at most 32 bytes, which are copied, or a std::unique_ptr");
@@ -64,13 +64,13 @@ inline std::uint64_t nanoseconds_of(Clock::time_point time) noexcept {
     return count > 0 ? static_cast<std::uint64_t>(count) : 0;
 }
 
-/* The time so long from now. Above a hundred years it is the last one, since the sum might be too large. */
+/* The time that is this long from now. Above a hundred years it is the last one, since the sum might be too large. */
 template <class Duration> Clock::time_point time_after(Duration duration) noexcept {
     bool is_soon = std::chrono::duration<double>(duration) < std::chrono::hours(876000);
     return is_soon ? Clock::now() + std::chrono::duration_cast<Clock::duration>(duration) : Clock::time_point::max();
 }
 
-/* Sends by this call, and says to the item whether the channel has it. */
+/* Sends by this call. */
 template <class T, class Call> Code send_by(T &item, Call call) noexcept {
     fak_channel_item packed = Cargo<std::remove_const_t<T>>::pack(item);
     Code code{call(&packed)};
@@ -85,12 +85,59 @@ template <class T, class Call> Answer<T> receive_by(Call call) noexcept {
     return {code, code == Code::Ok ? Cargo<T>::unpack(packed) : T{}};
 }
 
+/* The calls that send, of a class `Self` that has `send_packed` and `try_send_packed`, which return a code of C. Only with Ok the item is
+ * moved from. */
+template <class Self, class T> class Sends {
+public:
+    Code send(T &&item) noexcept { return sends(item, FAK_CHANNEL_NEVER); }
+    Code send(const T &item) noexcept { return sends(item, FAK_CHANNEL_NEVER); }
+    Code try_send(T &&item) noexcept { return tries(item); }
+    Code try_send(const T &item) noexcept { return tries(item); }
+    Code send_until(T &&item, Clock::time_point time) noexcept { return sends(item, nanoseconds_of(time)); }
+    Code send_until(const T &item, Clock::time_point time) noexcept { return sends(item, nanoseconds_of(time)); }
+    template <class Duration> Code send_for(T &&item, Duration duration) noexcept {
+        return send_until(std::move(item), time_after(duration));
+    }
+    template <class Duration> Code send_for(const T &item, Duration duration) noexcept {
+        return send_until(item, time_after(duration));
+    }
+
+private:
+    Self &self() noexcept { return static_cast<Self &>(*this); }
+
+    template <class Item> Code sends(Item &item, std::uint64_t deadline) noexcept {
+        return send_by(item, [this, deadline](const fak_channel_item *packed) { return self().send_packed(packed, deadline); });
+    }
+    template <class Item> Code tries(Item &item) noexcept {
+        return send_by(item, [this](const fak_channel_item *packed) { return self().try_send_packed(packed); });
+    }
+};
+
+/* The calls that receive, of a class `Self` that has `receive_packed` and `try_receive_packed`. The item is that of T{} if the code is not
+ * Ok. */
+template <class Self, class T> class Receives {
+public:
+    Answer<T> receive() noexcept { return receives(FAK_CHANNEL_NEVER); }
+    Answer<T> try_receive() noexcept {
+        return receive_by<T>([this](fak_channel_item *packed) { return self().try_receive_packed(packed); });
+    }
+    Answer<T> receive_until(Clock::time_point time) noexcept { return receives(nanoseconds_of(time)); }
+    template <class Duration> Answer<T> receive_for(Duration duration) noexcept { return receive_until(time_after(duration)); }
+
+private:
+    Self &self() noexcept { return static_cast<Self &>(*this); }
+
+    Answer<T> receives(std::uint64_t deadline) noexcept {
+        return receive_by<T>([this, deadline](fak_channel_item *packed) { return self().receive_packed(packed, deadline); });
+    }
+};
+
 } // namespace details
 
 /* ---- Ends ---- */
 
 /* An end of a channel, for one thread at a time. It is empty, or owns a seat. */
-template <class T> class ChannelEnd {
+template <class T> class ChannelEnd : public details::Sends<ChannelEnd<T>, T>, public details::Receives<ChannelEnd<T>, T> {
 public:
     ChannelEnd() noexcept = default;
     ChannelEnd(const ChannelEnd &) = delete;
@@ -110,27 +157,6 @@ public:
         static_assert(sizeof(ChannelEnd) == sizeof(fak_channel_end) && std::is_standard_layout_v<ChannelEnd>);
         ChannelEnd *first = std::data(ends);
         return Code{fak_channel_open_ends(reinterpret_cast<fak_channel_end *>(first), std::size(ends), size, stint)};
-    }
-
-    /* The item is moved from only with Ok. */
-    Code send(T &&item) noexcept { return sends(item, FAK_CHANNEL_NEVER); }
-    Code send(const T &item) noexcept { return sends(item, FAK_CHANNEL_NEVER); }
-    Code try_send(T &&item) noexcept { return tries(item); }
-    Code try_send(const T &item) noexcept { return tries(item); }
-    Code send_until(T &&item, Clock::time_point time) noexcept { return sends(item, details::nanoseconds_of(time)); }
-    Code send_until(const T &item, Clock::time_point time) noexcept { return sends(item, details::nanoseconds_of(time)); }
-
-    /* The item is that of T{} if the code is not Ok. */
-    Answer<T> receive() noexcept {
-        return details::receive_by<T>([this](fak_channel_item *item) { return fak_channel_receive(&end, item); });
-    }
-    Answer<T> try_receive() noexcept {
-        return details::receive_by<T>([this](fak_channel_item *item) { return fak_channel_try_receive(&end, item); });
-    }
-    Answer<T> receive_until(Clock::time_point time) noexcept {
-        auto deadline = details::nanoseconds_of(time);
-        return details::receive_by<T>(
-            [this, deadline](fak_channel_item *item) { return fak_channel_receive_until(&end, item, deadline); });
     }
 
     Code close() noexcept { return Code{fak_channel_close(&end)}; }
@@ -157,13 +183,17 @@ public:
     fak_channel_end *get_end() noexcept { return &end; }
 
 private:
-    template <class Item> Code sends(Item &item, std::uint64_t deadline) noexcept {
-        return details::send_by(
-            item, [this, deadline](const fak_channel_item *packed) { return fak_channel_send_until(&end, packed, deadline); });
+    friend class details::Sends<ChannelEnd, T>;
+    friend class details::Receives<ChannelEnd, T>;
+
+    std::int32_t send_packed(const fak_channel_item *packed, std::uint64_t deadline) noexcept {
+        return fak_channel_send_until(&end, packed, deadline);
     }
-    template <class Item> Code tries(Item &item) noexcept {
-        return details::send_by(item, [this](const fak_channel_item *packed) { return fak_channel_try_send(&end, packed); });
+    std::int32_t try_send_packed(const fak_channel_item *packed) noexcept { return fak_channel_try_send(&end, packed); }
+    std::int32_t receive_packed(fak_channel_item *packed, std::uint64_t deadline) noexcept {
+        return fak_channel_receive_until(&end, packed, deadline);
     }
+    std::int32_t try_receive_packed(fak_channel_item *packed) noexcept { return fak_channel_try_receive(&end, packed); }
 
     fak_channel_end end{};
 };
@@ -172,7 +202,7 @@ private:
 
 namespace details {
 
-/* The shared channel behind senders and receivers, which count themselves. */
+/* The shared channel of senders and receivers, which count themselves. */
 template <class T> struct Shared {
     fak_channel_shared channel{};
     std::unique_ptr<fak_channel_end[]> ends;
@@ -204,6 +234,7 @@ public:
             return;
         if (--(shared->*Kind) == 0)
             static_cast<void>(close());
+        /* This must follow the close: another thread may delete the channel from here on. */
         if (--shared->owners == 0)
             delete shared;
     }
@@ -241,60 +272,36 @@ protected:
 template <class T> struct Channel;
 
 /* Sends to a channel. Copy it for each thread: when the last sender goes, the channel is closed. */
-template <class T> class Sender : public details::Party<T, &details::Shared<T>::senders> {
+template <class T>
+class Sender : public details::Party<T, &details::Shared<T>::senders>, public details::Sends<Sender<T>, T> {
 public:
     Sender() noexcept = default;
 
-    /* The item is moved from only with Ok. */
-    Code send(T &&item) noexcept { return sends(item, FAK_CHANNEL_NEVER); }
-    Code send(const T &item) noexcept { return sends(item, FAK_CHANNEL_NEVER); }
-    Code try_send(T &&item) noexcept { return tries(item); }
-    Code try_send(const T &item) noexcept { return tries(item); }
-    Code send_until(T &&item, Clock::time_point time) noexcept { return sends(item, details::nanoseconds_of(time)); }
-    Code send_until(const T &item, Clock::time_point time) noexcept { return sends(item, details::nanoseconds_of(time)); }
-    template <class Duration> Code send_for(T &&item, Duration duration) noexcept {
-        return send_until(std::move(item), details::time_after(duration));
-    }
-    template <class Duration> Code send_for(const T &item, Duration duration) noexcept {
-        return send_until(item, details::time_after(duration));
-    }
-
 private:
     friend struct Channel<T>;
-    using details::Party<T, &details::Shared<T>::senders>::Party;
+    friend class details::Sends<Sender, T>;
 
-    template <class Item> Code sends(Item &item, std::uint64_t deadline) noexcept {
-        return details::send_by(item, [this, deadline](const fak_channel_item *packed) {
-            return this->call(fak_channel_shared_send_until, packed, deadline);
-        });
+    std::int32_t send_packed(const fak_channel_item *packed, std::uint64_t deadline) noexcept {
+        return this->call(fak_channel_shared_send_until, packed, deadline);
     }
-    template <class Item> Code tries(Item &item) noexcept {
-        return details::send_by(item, [this](const fak_channel_item *packed) { return this->call(fak_channel_shared_try_send, packed); });
-    }
+    std::int32_t try_send_packed(const fak_channel_item *packed) noexcept { return this->call(fak_channel_shared_try_send, packed); }
 };
 
 /* Receives from a channel. Copy it for each thread: when the last receiver goes, the channel is closed. */
-template <class T> class Receiver : public details::Party<T, &details::Shared<T>::receivers> {
+template <class T>
+class Receiver : public details::Party<T, &details::Shared<T>::receivers>, public details::Receives<Receiver<T>, T> {
 public:
     Receiver() noexcept = default;
 
-    /* The item is that of T{} if the code is not Ok. */
-    Answer<T> receive() noexcept { return receives(FAK_CHANNEL_NEVER); }
-    Answer<T> try_receive() noexcept {
-        return details::receive_by<T>([this](fak_channel_item *item) { return this->call(fak_channel_shared_try_receive, item); });
-    }
-    Answer<T> receive_until(Clock::time_point time) noexcept { return receives(details::nanoseconds_of(time)); }
-    template <class Duration> Answer<T> receive_for(Duration duration) noexcept {
-        return receive_until(details::time_after(duration));
-    }
-
 private:
     friend struct Channel<T>;
-    using details::Party<T, &details::Shared<T>::receivers>::Party;
+    friend class details::Receives<Receiver, T>;
 
-    Answer<T> receives(std::uint64_t deadline) noexcept {
-        return details::receive_by<T>(
-            [this, deadline](fak_channel_item *item) { return this->call(fak_channel_shared_receive_until, item, deadline); });
+    std::int32_t receive_packed(fak_channel_item *packed, std::uint64_t deadline) noexcept {
+        return this->call(fak_channel_shared_receive_until, packed, deadline);
+    }
+    std::int32_t try_receive_packed(fak_channel_item *packed) noexcept {
+        return this->call(fak_channel_shared_try_receive, packed);
     }
 };
 
@@ -303,8 +310,8 @@ template <class T> struct Channel {
     Sender<T> sender;
     Receiver<T> receiver;
 
-    /* Opens a channel of `size` cells. So many sends and so many receives go on at the same time, or sleep in the channel itself; others
-     * wait for one of these to end (fak_channel.h). Ok, BadLimit or Memory. */
+    /* Opens a channel of `size` cells. At most `sends` sends and `receives` receives go on at the same time, or sleep in the channel
+     * itself; others wait until one of these ends (fak_channel.h). Ok, BadLimit or Memory. */
     static Answer<Channel> open(std::uint64_t size, std::size_t sends = 8, std::size_t receives = 8) noexcept {
         if (sends >= FAK_C_MOST_SEATS || receives >= FAK_C_MOST_SEATS)
             return {Code::BadLimit, {}};

@@ -1,7 +1,7 @@
 /* The pool of fak_pool.h. Jobs wait in a channel. Workers sleep while it is empty, and callers while it is full.
  *
- * Without a queue there is a second channel, of permits: who adds a job takes one first, and the worker gives it back when the job is
- * done. So the channel of jobs has a cell for each, and as many for what a resize sends.
+ * Without a queue there is a second channel, of permits: a caller takes one before it adds a job, and the worker gives it back when the job
+ * is done. So the channel of jobs has a cell for each, and as many for what a resize sends.
  *
  * Workers and permits are counted next to their limit in one word, so that a count and a limit that change at once never disagree. */
 #include "fak_pool.h"
@@ -13,7 +13,7 @@
 #include <stdint.h>
 #include <stdlib.h>
 
-/* How many callers may be adding at the same time without waiting for one another, and how many workers may sleep in the channel itself. */
+/* How many callers may add at the same time without waiting for one another, and how many workers may sleep in the channel itself. */
 enum { CALLERS = 4, SLEEPERS = 64 };
 
 /* A worker, whose thread is joined once it has ended. */
@@ -36,9 +36,9 @@ struct fak_pool {
     bool has_queue;
     atomic_ullong worker_count, permit_count; /* the limit in the upper half, the count in the lower */
     atomic_size_t unfinished;                 /* jobs that were added and are not done */
-    pthread_mutex_t lock;                     /* for those that join */
+    pthread_mutex_t lock;                     /* for callers that join */
     pthread_cond_t is_done;
-    pthread_mutex_t resizing;                 /* whoever has it changes the list of workers */
+    pthread_mutex_t resizing;                 /* its holder changes the list of workers */
     struct worker *workers;
 };
 
@@ -52,14 +52,15 @@ static size_t count_of(unsigned long long word) {
     return (size_t)(word & UINT32_MAX);
 }
 
+/* The exchange keeps the count that it has read: count and limit change together. */
 static void set_limit(atomic_ullong *word, size_t limit) {
     unsigned long long now = atomic_load(word);
     while (!atomic_compare_exchange_weak(word, &now, (unsigned long long)limit << 32 | count_of(now)))
         continue;
 }
 
-/* Counts one more, if the limit allows it. */
-static bool counts_up(atomic_ullong *word) {
+/* Counts one more, if the limit allows it. Returns whether it did. The exchange fails if the count or the limit has changed since. */
+static bool count_up(atomic_ullong *word) {
     unsigned long long now = atomic_load(word);
     while (count_of(now) < limit_of(now))
         if (atomic_compare_exchange_weak(word, &now, now + 1))
@@ -67,8 +68,8 @@ static bool counts_up(atomic_ullong *word) {
     return false;
 }
 
-/* Counts one less, if there are more than the limit. */
-static bool counts_down(atomic_ullong *word) {
+/* Counts one less, if there are more than the limit. Returns whether it did. */
+static bool count_down(atomic_ullong *word) {
     unsigned long long now = atomic_load(word);
     while (count_of(now) > limit_of(now))
         if (atomic_compare_exchange_weak(word, &now, now - 1))
@@ -83,10 +84,11 @@ static fak_channel_item item_of(fak_pool_function *run, void *argument) {
     return item;
 }
 
-/* A job is done, or was not added after all. */
+/* A job is done, or was not added after all. The subtraction must follow the job: at 0 a caller that joins returns. */
 static void finish(fak_pool *self) {
     if (atomic_fetch_sub(&self->unfinished, 1) != 1)
         return;
+    /* A caller that joins has the lock from its look at the count until it sleeps. So the broadcast must follow the lock. */
     pthread_mutex_lock(&self->lock);
     pthread_cond_broadcast(&self->is_done);
     pthread_mutex_unlock(&self->lock);
@@ -95,7 +97,7 @@ static void finish(fak_pool *self) {
 /* Gives a permit back, unless there are too many. The channel has a cell for each. */
 static void give_permit(fak_pool *self) {
     fak_channel_item item = item_of(NULL, NULL);
-    if (!counts_down(&self->permit_count))
+    if (!count_down(&self->permit_count))
         fak_channel_shared_send(&self->permits.shared, &item);
 }
 
@@ -114,8 +116,9 @@ static void *work(void *argument) {
     struct worker *me = argument;
     fak_pool *self = me->of;
     fak_channel_item item;
-    while (!counts_down(&self->worker_count) && fak_channel_shared_receive(&self->jobs.shared, &item) == FAK_C_OK)
+    while (!count_down(&self->worker_count) && fak_channel_shared_receive(&self->jobs.shared, &item) == FAK_C_OK)
         run_job(self, &item);
+    /* The last step of the thread: a resize that reads it joins without waiting. */
     atomic_store(&me->has_ended, true);
     return NULL;
 }
@@ -223,10 +226,11 @@ void fak_pool_free(fak_pool *self) {
 
 /* ---- Calls ---- */
 
-/* Sends the job, which is counted before it may be done. */
+/* Sends the job. */
 static bool send_job(fak_pool *self, fak_pool_function *run, void *argument, bool tries) {
     fak_channel_item item = item_of(run, argument);
     int32_t code;
+    /* It must come before the send: a worker may finish the job at once. */
     atomic_fetch_add(&self->unfinished, 1);
     code = tries ? fak_channel_shared_try_send(&self->jobs.shared, &item) : fak_channel_shared_send(&self->jobs.shared, &item);
     if (code != FAK_C_OK)
@@ -255,11 +259,11 @@ void fak_pool_join(fak_pool *self) {
     pthread_mutex_unlock(&self->lock);
 }
 
-/* As many permits as workers. Those that are with jobs are taken away when they are given back. */
+/* Makes as many permits as workers. Those that belong to jobs are taken away when they are given back. */
 static void resize_permits(fak_pool *self, size_t workers) {
     fak_channel_item item = item_of(NULL, NULL);
     set_limit(&self->permit_count, workers);
-    while (counts_up(&self->permit_count))
+    while (count_up(&self->permit_count))
         fak_channel_shared_send(&self->permits.shared, &item);
     while (count_of(atomic_load(&self->permit_count)) > workers && fak_channel_shared_try_receive(&self->permits.shared, &item) == FAK_C_OK)
         give_permit(self);
@@ -275,7 +279,7 @@ static void wake_surplus(fak_pool *self, size_t workers) {
 
 /* Starts workers up to the limit. If one can't be started, those that run are the limit. */
 static bool start_workers(fak_pool *self) {
-    while (counts_up(&self->worker_count)) {
+    while (count_up(&self->worker_count)) {
         if (!start(self)) {
             unsigned long long now = atomic_fetch_sub(&self->worker_count, 1) - 1;
             set_limit(&self->worker_count, count_of(now) > 0 ? count_of(now) : 1);

@@ -1,5 +1,5 @@
-/* A pool of threads that run jobs: an example of a program over the channel (fak_channel.h), to be copied and changed. Any thread calls
- * it, and a job may, except that it neither joins nor frees its own pool. A job that adds to a full queue of its own pool sleeps until
+/* A pool of threads that run jobs: an example of a program over the channel (fak_channel.h), to be copied and changed. Any thread may call
+ * it. A job may too, except that it neither joins nor frees its own pool. A job that adds to a full queue of its own pool sleeps until
  * another worker takes a job. Each job runs once, and jobs start in the order in which they were added. */
 #ifndef FAK_POOL_H
 #define FAK_POOL_H
@@ -17,7 +17,7 @@ extern "C" {
 typedef struct fak_pool fak_pool;
 typedef void fak_pool_function(void *argument);
 
-/* A pool with so many workers (1 to FAK_POOL_MOST_WORKERS) and a queue for so many waiting jobs (at most FAK_POOL_MOST_WAITING). With a
+/* Creates a pool of `workers` threads (1 to FAK_POOL_MOST_WORKERS) with a queue of `waiting` jobs (at most FAK_POOL_MOST_WAITING). With a
  * queue of 0 no job waits: it is added when a worker is free for it. NULL if a number is out of range, or there is no memory or no
  * thread. */
 fak_pool *fak_pool_create(size_t workers, size_t waiting);
@@ -31,11 +31,11 @@ bool fak_pool_try_add(fak_pool *self, fak_pool_function *run, void *argument);
 /* Sleeps until each job that was added is done. */
 void fak_pool_join(fak_pool *self);
 
-/* From now on so many workers run jobs. It doesn't wait for those that have to stop: they end their jobs first. False if the number is out
- * of range, or there is no memory or no thread: then there are at least as many workers as before, and at most as many as were wanted. */
+/* From now on `workers` threads run jobs. It doesn't wait for those that have to stop: they end their jobs first. False if the number is
+ * out of range, or there is no memory or no thread: then there are at least as many workers as before, and at most as many as asked for. */
 bool fak_pool_resize(fak_pool *self, size_t workers);
 
-/* Frees the pool once each job that was added is done. Only its jobs call it meanwhile, and nobody afterwards. NULL is freed, too. */
+/* Frees the pool once each job that was added is done. Meanwhile only its jobs may call it, and afterwards nobody. NULL is allowed. */
 void fak_pool_free(fak_pool *self);
 
 /* The bytes of the pool itself, without the channels' own (fak_channel.h). */

@@ -36,7 +36,7 @@ static void less_is_refused(int kind, size_t n, uint64_t size, size_t used) {
     CHECK(fak_c_block_is_free(memory));
 }
 
-/* Opens each kind at many sizes. Returns how much the largest object took. */
+/* Opens each kind at many sizes. Returns how many bytes the largest object used. */
 static size_t each_size_is_opened(void) {
     static const size_t numbers[] = {1, 2, 3, 8, MOST_SEATS};
     static const uint64_t sizes[] = {1, 2, 7, 64, 1000, 4096};
@@ -98,8 +98,8 @@ static void each_width_is_opened(void) {
 /* ---- Parts: what the library asks for ---- */
 
 static void is_refused(size_t size, size_t align) {
-    struct answer answer = rattle_alloc(size, align);
-    CHECK(!answer.found && answer.at != NULL);
+    struct allocation made = rattle_alloc(size, align);
+    CHECK(!made.found && made.at != NULL);
 }
 
 /* Parts of each size lie in the block, aligned to 16, and none overlaps another or a head. What does not fit is refused. */
@@ -108,9 +108,9 @@ static void parts_are_disjoint(void) {
     unsigned char *made[SIZES];
     fak_c_block_begin(memory, BYTES);
     for (size_t i = 0; i < SIZES; i++) {
-        struct answer answer = rattle_alloc(i, i % 2 == 0 ? 8 : 16);
-        CHECK(answer.found);
-        made[i] = answer.at;
+        struct allocation part = rattle_alloc(i, i % 2 == 0 ? 8 : 16);
+        CHECK(part.found);
+        made[i] = part.at;
         CHECK((uintptr_t)made[i] % 16 == 0 && made[i] >= memory + HEAD && made[i] + i <= memory + BYTES);
         memset(made[i], (int)i, i);
     }
@@ -138,7 +138,7 @@ static fak_c_seat shared[OBJECTS][MOST_SEATS];
 static void *parts[PARTS];
 static atomic_int given_away; /* how many objects, or lists of parts, the threads may begin with */
 
-/* Both threads are to begin at the same moment, so they don't leave their processors soon. */
+/* Both threads should begin at the same moment, so they don't leave their processors soon. */
 static void wait_for(int number) {
     for (int spins = 1; atomic_load(&given_away) < number; spins++)
         if (spins % MOST_SPINS == 0)
@@ -178,9 +178,9 @@ static void open_at_first(void) { open_all(false); }
 
 static void take_parts(void) {
     for (int i = 0; i < PARTS; i++) {
-        struct answer answer = rattle_alloc(16, 16);
-        CHECK(answer.found);
-        parts[i] = answer.at;
+        struct allocation made = rattle_alloc(16, 16);
+        CHECK(made.found);
+        parts[i] = made.at;
     }
     atomic_store(&given_away, 1);
 }

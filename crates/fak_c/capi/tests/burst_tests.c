@@ -1,4 +1,4 @@
-/* Each code of each call of a bundle, on one thread; bundles that move and leave; and random bursts beside a plain list. */
+/* Each code of each call of a bundle, on one thread; bundles that move and leave; and random bursts compared with a plain list. */
 #include "tests.h"
 
 #include <string.h>
@@ -18,7 +18,7 @@ static void open_one(fak_c_seat *seat, fak_c_seat *bundle, uint64_t size, uint64
     CHECK(fak_c_open_bundles(seat, 1, bundle, 1, WIDTH, size, stint) == FAK_C_OK);
 }
 
-static void bundle_stands(fak_c_seat *bundle, uint32_t wanted, uint64_t wanted_ticket, uint64_t wanted_open, uint64_t wanted_left) {
+static void bundle_is(fak_c_seat *bundle, uint32_t wanted, uint64_t wanted_ticket, uint64_t wanted_open, uint64_t wanted_left) {
     uint32_t state = 99;
     uint64_t ticket = 99, open = 99, width = 99, left = 99;
     CHECK(fak_c_bundle_state(bundle, &state, &ticket, &open, &width, &left) == FAK_C_OK);
@@ -26,7 +26,7 @@ static void bundle_stands(fak_c_seat *bundle, uint32_t wanted, uint64_t wanted_t
 }
 
 static void is_at_rest(fak_c_seat *bundle, uint64_t wanted_left) {
-    bundle_stands(bundle, FAK_C_IDLE, 99, 99, wanted_left);
+    bundle_is(bundle, FAK_C_IDLE, 99, 99, wanted_left);
 }
 
 /* The first `wanted` of n items from `first` on are inserted, by this code. */
@@ -36,7 +36,7 @@ static void inserts(fak_c_seat *bundle, uint64_t first, size_t n, int32_t code, 
     CHECK(ticket == wanted_ticket && count == wanted);
 }
 
-/* What was taken out are the numbers from `first` on, and nothing was written behind them. */
+/* The numbers from `first` on were taken out, and nothing was written after them. */
 static void are_items(const uint64_t *items, uint64_t first, uint64_t taken) {
     for (uint64_t i = 0; i < MOST; i++)
         CHECK(items[i] == (i < taken ? first + i : 99));
@@ -134,7 +134,7 @@ static void handles_have_one_kind(void) {
     CHECK(fak_c_leave(&bundle) == FAK_C_NO_SEAT);
 }
 
-/* A queue with n seats and m bundles has these numbers: each handle stands as it is opened. */
+/* A queue with n seats and m bundles has these numbers: each handle is in the state in which it was opened. */
 static void is_opened(fak_c_seat *seats, size_t n, fak_c_seat *bundles, size_t m, uint64_t width, uint64_t stint) {
     for (size_t i = 0; i < n; i++) {
         uint32_t state = 99;
@@ -319,7 +319,7 @@ static void is_in_burst(fak_c_seat *bundle, uint32_t state) {
     CHECK(fak_c_move(&home, bundle) == FAK_C_OK && fak_c_leave(&other) == FAK_C_OK);
 }
 
-/* A burst of insertions stands at a cell whose last item was claimed, and not yet taken. What it filled before can be taken out. */
+/* A burst of insertions waits at a cell whose last item was claimed, and not yet taken. What it filled before can be taken out. */
 static void a_burst_waits_for_cells(void) {
     fak_c_seat seats[2] = {0}, bundle = {0};
     uint64_t ticket = 99, item = 99, left = 99;
@@ -331,7 +331,7 @@ static void a_burst_waits_for_cells(void) {
     deletes(&bundle, 2, FAK_C_OK, 2, 2, 12, 2);
     /* The cells of tickets 5 to 7: that of 5 has the item that the second seat has claimed. */
     inserts(&bundle, 30, 3, FAK_C_NOT_YET, 5, 2);
-    bundle_stands(&bundle, FAK_C_INSERTING, 5, 2, 31);
+    bundle_is(&bundle, FAK_C_INSERTING, 5, 2, 31);
     is_in_burst(&bundle, FAK_C_INSERTING);
     CHECK(fak_c_try_fill_burst(&bundle, &left) == FAK_C_NOT_YET && left == 2);
     CHECK(fak_c_delete(&seats[0], &ticket, &item) == FAK_C_OK && ticket == 4 && item == 20);
@@ -357,7 +357,7 @@ static void a_waiting_burst_publishes_what_it_filled(void) {
     deletes(&bundles[1], 1, FAK_C_OK, 3, 1, 13, 1);
     /* The cells of tickets 4 and 5 are free, and that of 6 has the item of ticket 2. */
     inserts(&bundles[0], 20, 3, FAK_C_NOT_YET, 4, 3);
-    bundle_stands(&bundles[0], FAK_C_INSERTING, 6, 1, 33);
+    bundle_is(&bundles[0], FAK_C_INSERTING, 6, 1, 33);
     CHECK(fak_c_count(&seats[1], &count) == FAK_C_OK && count == 2);
     deletes(&bundles[1], 4, FAK_C_OK, 4, 2, 20, 2);
     CHECK(fak_c_try_fill_burst(&bundles[0], &left) == FAK_C_NOT_YET && left == 1);
@@ -368,7 +368,7 @@ static void a_waiting_burst_publishes_what_it_filled(void) {
     leave_all(bundles, 2);
 }
 
-/* A burst of deletions stands at a cell that was claimed, and not yet filled. What it took out leaves room. It goes on cell by cell. */
+/* A burst of deletions waits at a cell that was claimed, and not yet filled. What it took out leaves room. It goes on cell by cell. */
 static void a_burst_waits_for_items(void) {
     fak_c_seat seats[3] = {0}, bundle = {0};
     uint64_t ticket = 99;
@@ -381,16 +381,16 @@ static void a_burst_waits_for_items(void) {
     for (uint64_t item = 14; item < 16; item++)
         CHECK(fak_c_insert(&seats[2], item, &ticket) == FAK_C_OK && ticket == item - 10);
     deletes(&bundle, 4, FAK_C_NOT_YET, 0, 4, 10, 2);
-    bundle_stands(&bundle, FAK_C_DELETING, 2, 2, 34);
+    bundle_is(&bundle, FAK_C_DELETING, 2, 2, 34);
     CHECK(fak_c_in_use(&seats[2], &cells, &is_shut) == FAK_C_OK && cells == 4 && !is_shut);
     is_in_burst(&bundle, FAK_C_DELETING);
     goes_on(&bundle, 4, FAK_C_NOT_YET, 99, 0, 2);
     CHECK(fak_c_try_fill(&seats[0]) == FAK_C_OK);
     has_too_few_places(&bundle, 0);
     has_too_few_places(&bundle, 1);
-    bundle_stands(&bundle, FAK_C_DELETING, 2, 2, 34);
+    bundle_is(&bundle, FAK_C_DELETING, 2, 2, 34);
     goes_on(&bundle, 2, FAK_C_NOT_YET, 12, 1, 1);
-    bundle_stands(&bundle, FAK_C_DELETING, 3, 1, 34);
+    bundle_is(&bundle, FAK_C_DELETING, 3, 1, 34);
     has_too_few_places(&bundle, 0);
     CHECK(fak_c_try_fill(&seats[1]) == FAK_C_OK);
     goes_on(&bundle, 1, FAK_C_OK, 13, 1, 0);
@@ -413,7 +413,7 @@ static void handles_leave_in_any_order(void) {
     }
 }
 
-/* ---- Random bursts beside a plain list ---- */
+/* ---- Random bursts compared with a plain list ---- */
 
 enum { LIST = 64, BUNDLES = 3 };
 
@@ -431,7 +431,7 @@ static uint64_t least(uint64_t a, uint64_t b) {
     return a < b ? a : b;
 }
 
-/* Inserts n drawn items into the queue and the list. One thread alone is never refused beside room, so both take as many. */
+/* Inserts n drawn items into the queue and the list. A single thread is never refused while there is room, so both take as many. */
 static void insert_drawn(fak_c_seat *bundle, uint64_t width, uint64_t n) {
     uint64_t items[MOST], ticket = 99, count = 99, fitting = least(least(n, width), list_size - list_count);
     for (uint64_t i = 0; i < n; i++)
@@ -503,7 +503,7 @@ static void random_bursts_are_those_of_a_list(void) {
             play_a_queue(size, widths[i], 2000);
 }
 
-void each_burst_is_answered(void) {
+void each_burst_code_is_returned(void) {
     handles_have_one_kind();
     each_limit_of_bundles_is_named();
     refused_openings_clear_handles();

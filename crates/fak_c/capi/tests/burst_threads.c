@@ -1,5 +1,5 @@
-/* Threads that share a queue by bursts and single calls. What is put and what is taken is noted under its ticket. Each item must stand
- * there once, under the ticket that its burst said, and those of each producer in the order in which it inserted them. */
+/* Threads that share a queue by bursts and single calls. What is put and what is taken is noted under its ticket. Each item must be there
+ * once, under the ticket that its burst returned, and those of each producer in the order in which it inserted them. */
 #include "workers.h"
 
 #include <sched.h>
@@ -156,7 +156,7 @@ static void leave_all(fak_c_seat *handles, int n) {
 }
 
 /* This many producers of as many items each, and then as many consumers. Half of each make bursts, and the others single calls; a pair
- * makes bursts alone. The bundle or the seat of each worker is at its own place. */
+ * makes only bursts. The bundle or the seat of each worker is at its own place. */
 static void place_workers(worker *workers, int pairs, uint64_t items, fak_c_seat *seats, fak_c_seat *bundles) {
     for (int i = 0; i < 2 * pairs; i++) {
         bool is_single = i < pairs ? i % 2 == 1 : (i - pairs) / 2 % 2 == 1;
@@ -240,11 +240,11 @@ void a_shut_queue_is_drained_by_bursts(uint64_t items) {
     free_notes(workers);
 }
 
-/* ---- A burst that is left standing ---- */
+/* ---- A burst that is left waiting ---- */
 
 enum { OTHERS = 2, STAND_CELLS = 1024, STOPPED = 4, PASSING = (STAND_CELLS - STOPPED - 2) / OTHERS, PASSED = OTHERS * PASSING };
 
-/* Two pairs of workers, and handles of this thread for the burst that stands, for what stops it, and for all else. */
+/* Two pairs of workers, and handles of this thread for the burst that waits, for what stops it, and for all else. */
 static fak_c_seat stand_seats[2 * OTHERS + 2], stand_bundles[2 * OTHERS + 2];
 static fak_c_seat *const stopped = &stand_bundles[2 * OTHERS], *const second = &stand_bundles[2 * OTHERS + 1];
 static fak_c_seat *const stops = &stand_seats[2 * OTHERS], *const single = &stand_seats[2 * OTHERS + 1];
@@ -268,7 +268,7 @@ static void end_a_stop(uint64_t first) {
     free_notes(others);
 }
 
-/* The workers put all that has cells of its own in this round, and take out all but `less` of it. */
+/* The workers put all that has cells of its own in this round, and take out all except `less` of it. */
 static void others_put(void) {
     start_all(others, OTHERS, produce);
     CHECK(join_all(others, OTHERS) == PASSED);
@@ -282,7 +282,7 @@ static void others_take(uint64_t less) {
 }
 
 /* A burst of deletions has claimed items of which the first is not yet filled. The others put and take out what comes after it. */
-static void a_burst_of_deletions_stands(void) {
+static void a_burst_of_deletions_waits(void) {
     uint64_t items[STOPPED] = {0}, ticket = 99, count = 99, taken = 99, left = 99;
     open_for_a_stop(STOPPED + 1);
     CHECK(fak_c_claim_insert(stops, 100, &ticket) == FAK_C_OK && ticket == 0);
@@ -304,7 +304,7 @@ static void a_burst_of_deletions_stands(void) {
 
 /* A burst of insertions has claimed cells of which the first has an item that was claimed, and not yet taken. The others put what has
  * other cells. Once a second burst has claimed the items of the first, they take out what comes after them. */
-static void a_burst_of_insertions_stands(void) {
+static void a_burst_of_insertions_waits(void) {
     uint64_t items[STOPPED] = {100, 101, 102, 103}, ticket = 99, item = 99, count = 99, taken = 99, left = 99;
     open_for_a_stop(STAND_CELLS + STOPPED);
     for (uint64_t i = 0; i < STAND_CELLS; i++) {
@@ -331,12 +331,12 @@ static void a_burst_of_insertions_stands(void) {
     end_a_stop(STAND_CELLS + STOPPED);
 }
 
-void a_burst_that_stands_stops_nobody(void) {
-    a_burst_of_deletions_stands();
-    a_burst_of_insertions_stands();
+void a_waiting_burst_stops_nobody(void) {
+    a_burst_of_deletions_waits();
+    a_burst_of_insertions_waits();
 }
 
-/* ---- Memory behind pointers ---- */
+/* ---- Memory that is handed over ---- */
 
 enum { WORDS = 16, LOT = 4 };
 
@@ -364,7 +364,7 @@ static void has_number(uint64_t at, uint64_t number) {
     free(words);
 }
 
-/* Inserts a lot of items, by as many bursts as it takes. */
+/* Inserts a lot of items, by as many bursts as that needs. */
 static void put_lot(fak_c_seat *bundle, const uint64_t *items) {
     uint64_t ticket = 0, count = 0, left = 0;
     for (uint64_t put = 0; put < LOT;) {

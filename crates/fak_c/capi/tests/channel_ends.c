@@ -1,4 +1,4 @@
-/* Each code of each call of an end and of a shared channel, on one thread; and the memory that an opening takes. The linker's --wrap sends
+/* Each code of each call of an end and of a shared channel, on one thread; and the allocations of an opening. The linker's --wrap sends
  * each allocation here. */
 #include "channel_tests.h"
 
@@ -178,7 +178,7 @@ static void own_functions_are_called(void) {
     CHECK(fak_c_leave(&seats[0]) == FAK_C_OK);
 }
 
-/* A close wakes who sleeps: a receiver, or a sender. */
+/* A close wakes a receiver that sleeps, or a sender. */
 static void a_close_wakes_each_side(void) {
     for (int sends = 0; sends < 2; sends++) {
         fak_channel_waiting waiting = {never_parks, notes, NULL, &parks, 0};
@@ -193,7 +193,7 @@ static void a_close_wakes_each_side(void) {
     }
 }
 
-void each_end_is_answered(void) {
+void each_end_code_is_returned(void) {
     openings_are_refused();
     ends_pass_items();
     closed_ends_drain();
@@ -273,7 +273,7 @@ static bool gives_back(void *context, uint64_t number, uint64_t deadline) {
     return number == 1;
 }
 
-/* Who waits for an end parks at the first two numbers, and is woken when one comes back, and when there is another. */
+/* A caller that waits for an end parks at the first two numbers, and is woken when an end comes back, and when there is another. */
 static void lenders_call_own_functions(void) {
     fak_channel_waiting waiting = {gives_back, notes, NULL, &parks, 0};
     fak_c_seat seats[SHARED] = {0};
@@ -317,7 +317,7 @@ static void worn_ends_are_put_aside(void) {
     CHECK(fak_channel_shared_leave(&shared) == FAK_C_OK);
 }
 
-void each_shared_call_is_answered(void) {
+void each_shared_code_is_returned(void) {
     shared_openings_are_refused();
     shared_calls_pass_items();
     ends_are_lent_once();
@@ -338,7 +338,7 @@ void *__wrap_aligned_alloc(size_t align, size_t size);
 void __real_free(void *block);
 void __wrap_free(void *block);
 
-/* Whether this allocation is one that is made. */
+/* Whether this allocation succeeds. */
 static bool is_made(void) {
     return __atomic_add_fetch(&made, 1, __ATOMIC_RELAXED) != failing;
 }
@@ -365,7 +365,7 @@ void __wrap_free(void *block) {
     __real_free(block);
 }
 
-void want_of_channel_memory_is_answered(void) {
+void each_channel_allocation_fails_in_turn(void) {
     fak_channel_end ends[SHARED] = {0};
     fak_channel_shared shared = {0};
     fak_channel_item item = {{0}};

@@ -1,5 +1,5 @@
-/* How much stack the calls of a channel by steps take, and how many bytes a channel keeps of the heap, and takes while it opens: what
- * fak_channel.h says of each. The heap counts. */
+/* How much stack the calls of a channel by steps use, how many bytes a channel keeps of the heap, and how many it needs while it opens:
+ * what fak_channel.h says of each. The heap counts. */
 #include "fak_channel.h"
 #include "stack_and_heap.h"
 #include "tests.h"
@@ -54,7 +54,7 @@ static void use_all(void) {
 
 static fak_c_seat many[LARGE_SEATS];
 
-/* A channel keeps what the header says, takes no more than it says, a head of 32 bytes with it, and gives all of it back. */
+/* A channel keeps what the header says. It needs no more of a block than the header says, with a head of 32 bytes, and gives all back. */
 static void keeps(size_t n, uint64_t size) {
     heap_taken = 32;
     CHECK(fak_channel_open(many, n, size, 1000) == FAK_C_OK);

@@ -126,7 +126,7 @@ static void sleepers_are_woken_by_steps(void) {
     leave_all(ends);
 }
 
-/* A call that gives up has its item back, and leaves nothing behind. */
+/* A call that gives up has its item back, and leaves nothing in the channel. */
 static void sleepers_give_up_by_steps(void) {
     fak_c_seat ends[ENDS] = {0};
     fak_channel_item item = none;
@@ -244,7 +244,7 @@ static void others_are_refused(void) {
     CHECK(fak_c_leave(&seats[0]) == FAK_C_OK);
 }
 
-void each_step_is_answered(void) {
+void each_step_code_is_returned(void) {
     limits_are_kept();
     items_pass_by_steps();
     sleepers_are_woken_by_steps();
@@ -257,13 +257,13 @@ void each_step_is_answered(void) {
 int main(int count, char **words) {
     alarm(280); /* what hangs fails */
     if (count == 2 && strcmp(words[1], "steps") == 0)
-        each_step_is_answered();
+        each_step_code_is_returned();
     else if (count == 2 && strcmp(words[1], "ends") == 0)
-        each_end_is_answered();
+        each_end_code_is_returned();
     else if (count == 2 && strcmp(words[1], "shared") == 0)
-        each_shared_call_is_answered();
+        each_shared_code_is_returned();
     else if (count == 2 && strcmp(words[1], "memory") == 0)
-        want_of_channel_memory_is_answered();
+        each_channel_allocation_fails_in_turn();
     else if (count == 3 && strcmp(words[1], "storm") == 0)
         ends_storm(strtoull(words[2], NULL, 10));
     else if (count == 3 && strcmp(words[1], "shared-storm") == 0)

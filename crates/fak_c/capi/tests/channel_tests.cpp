@@ -63,6 +63,7 @@ static void ends_own_their_items() {
         item = std::make_unique<Counted>(1, 4);
         CHECK(ends[0].try_send(std::move(item)) == Code::Full && item != nullptr);
         CHECK(ends[0].send_until(std::move(item), fak::Clock::now()) == Code::GaveUp && item != nullptr && Counted::live == 3);
+        CHECK(ends[0].send_for(std::move(item), std::chrono::milliseconds(1)) == Code::GaveUp && item != nullptr && Counted::live == 3);
         auto got = ends[1].receive();
         CHECK(got && got.value->number == 2);
         fak::ChannelEnd<Owned> moved = std::move(ends[0]);
@@ -86,6 +87,8 @@ static void ends_wait_until_a_time() {
     CHECK(ends[0].receive_until(time).code == Code::GaveUp && fak::Clock::now() >= time);
     CHECK(ends[0].receive_until(fak::Clock::time_point()).code == Code::GaveUp);
     CHECK(ends[0].send_until(5, fak::Clock::time_point::max()) == Code::Ok && ends[0].receive_until(time).value == 5);
+    CHECK(ends[0].send_for(6, std::chrono::seconds(9)) == Code::Ok && ends[0].receive_for(std::chrono::hours::max()).value == 6);
+    CHECK(ends[0].receive_for(std::chrono::milliseconds(1)).code == Code::GaveUp);
     CHECK(ends[0].close() == Code::Ok && ends[0].receive().code == Code::Closed);
 }
 

@@ -9,14 +9,14 @@
 #define A_WHILE UINT64_C(20000000)
 
 /* Each code of each step, on one thread. */
-void each_step_is_answered(void);
+void each_step_code_is_returned(void);
 
 /* Each code of each call of an end, and of a shared channel, on one thread. */
-void each_end_is_answered(void);
-void each_shared_call_is_answered(void);
+void each_end_code_is_returned(void);
+void each_shared_code_is_returned(void);
 
 /* Each allocation of an opening fails in turn. */
-void want_of_channel_memory_is_answered(void);
+void each_channel_allocation_fails_in_turn(void);
 
 /* More threads than processors send, try, wait until deadlines and close: each item comes once. With their own ends, with ends that are
  * lent, and with functions of the tests that park. */
@@ -24,7 +24,7 @@ void ends_storm(uint64_t items);
 void a_shared_channel_storms(uint64_t items);
 void own_parks_storm(uint64_t items);
 
-/* So many threads sleep, without processor time, and wake up: by as many items, and by a close, on each side. */
+/* This many threads sleep, without processor time, and wake up: by as many items, and by a close, on each side. */
 void sleepers_wake(size_t sleepers);
 
 #endif

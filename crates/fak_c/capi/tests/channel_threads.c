@@ -1,5 +1,5 @@
-/* Threads that share a channel: each item comes once, and in its sender's order to each receiver; a close wakes both sides; and who sleeps
- * takes no processor time. */
+/* Threads that share a channel: each item comes once, and in its sender's order to each receiver; a close wakes both sides; and a sleeping
+ * thread uses no processor time. */
 #include "channel_tests.h"
 
 #include <pthread.h>
@@ -141,14 +141,14 @@ static void *receive_all(void *argument) {
     return NULL;
 }
 
-/* Closes the channel once so many items have come. */
+/* Closes the channel once this many items have come. */
 static void close_after(caller by, uint64_t items) {
     while (atomic_load(&passed) < items)
         sched_yield();
     CHECK(close_it(by) == FAK_C_OK && close_it(by) == FAK_C_CLOSED);
 }
 
-/* All senders and receivers of a storm, of which the caller closes the channel before all was sent. */
+/* All senders and receivers of a storm. The caller closes the channel before all was sent. */
 static void storm(const caller *callers, caller closer, uint64_t items) {
     static worker workers[THREADS];
     uint64_t sent = 0, taken = 0;

@@ -96,7 +96,7 @@ static void limits_are_tested(void) {
         CHECK(is_empty(&seats[i]));
 }
 
-/* Objects of each kind with this number are opened, each with this many seats, and with one seat where the number is wide. */
+/* Objects of each kind with this number are opened, each with this many seats, or with one seat if the number is large. */
 static void opens(fak_c_seat *seats, size_t n, uint64_t number, uint64_t stint) {
     uint64_t wide = number * (UINT64_C(1) << 20);
     CHECK(fak_c_open(seats, n, number, stint) == FAK_C_OK);
@@ -135,7 +135,7 @@ static void opens_wide(fak_c_seat *seats, size_t n, uint64_t number) {
         CHECK(fak_c_leave(&seats[i]) == FAK_C_OK);
 }
 
-/* No bound, no start and no stint is refused that is a power of two, stands beside one or lies halfway to the next. */
+/* No bound, no start and no stint is refused that is a power of two, next to one or halfway to the next. */
 static void each_width_is_opened(void) {
     fak_c_seat seats[SEATS] = {0};
     for (uint64_t power = 1, n = 1; power <= LARGE_CALLS; power *= 2, n++) {
@@ -146,7 +146,7 @@ static void each_width_is_opened(void) {
     }
 }
 
-/* Calls that a seat does not stand for are refused, write nothing and leave it where it is. */
+/* Calls that do not fit the seat's state are refused, write nothing, and leave the state as it is. */
 static void states_are_tested(void) {
     fak_c_seat seats[2] = {0};
     uint64_t ticket = 99, item = 99;
@@ -268,7 +268,7 @@ static void a_queue_counts_its_items(void) {
     CHECK(fak_c_leave(&seats[0]) == FAK_C_OK && fak_c_leave(&seats[1]) == FAK_C_OK);
 }
 
-/* An insertion that was claimed before the queue was shut ends as ever. */
+/* An insertion that was claimed before the queue was shut can still end. */
 static void a_shut_queue_refuses_insertions(void) {
     fak_c_seat seats[2] = {0};
     uint64_t ticket = 99;
@@ -335,7 +335,7 @@ static void a_deletion_in_one_call_may_stay_open(void) {
         CHECK(fak_c_leave(&seats[i]) == FAK_C_OK);
 }
 
-/* A seat moves to an empty handle, in mid-call too. */
+/* A seat moves to an empty handle, also during a call. */
 static void a_seat_moves(void) {
     fak_c_seat seats[2] = {0}, home = {0};
     uint64_t ticket = 99;
@@ -352,7 +352,7 @@ static void a_seat_moves(void) {
     CHECK(fak_c_leave(&home) == FAK_C_OK && fak_c_leave(&seats[1]) == FAK_C_OK);
 }
 
-void each_code_is_answered(void) {
+void each_code_is_returned(void) {
     fak_c_seat seat = {0};
     one_call_inserts_and_deletes();
     a_deletion_in_one_call_may_stay_open();

@@ -20,13 +20,13 @@ using Queue = fak::QueueSeat<int>;
 
 static std::atomic<long> live;
 
-extern "C" answer rattle_alloc(std::size_t size, std::size_t align) {
+extern "C" allocation rattle_alloc(std::size_t size, std::size_t align) {
     void *part = align <= 16 ? std::malloc(size) : nullptr;
     live += part != nullptr;
-    return part != nullptr ? answer{true, part} : answer{false, &live};
+    return part != nullptr ? allocation{true, part} : allocation{false, &live};
 }
 
-extern "C" answer rattle_realloc(void *, std::size_t, std::size_t, std::size_t) { return {false, &live}; }
+extern "C" allocation rattle_realloc(void *, std::size_t, std::size_t, std::size_t) { return {false, &live}; }
 
 extern "C" void rattle_dealloc(void *part) {
     live--;

@@ -10,13 +10,13 @@ extern "C" {
 #endif
 
 /* Whether there was memory, and where. The pointer of a refusal is not null. */
-struct answer {
+struct allocation {
     bool found;
     void *at;
 };
 
-struct answer rattle_alloc(size_t size, size_t align);
-struct answer rattle_realloc(void *part, size_t kept, size_t size, size_t align);
+struct allocation rattle_alloc(size_t size, size_t align);
+struct allocation rattle_realloc(void *part, size_t kept, size_t size, size_t align);
 void rattle_dealloc(void *part);
 
 #ifdef __cplusplus

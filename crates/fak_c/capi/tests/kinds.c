@@ -121,7 +121,7 @@ static void holds(fak_c_seat *seat, uint32_t wanted) {
     CHECK(fak_c_files_hold(seat, &hold) == FAK_C_OK && hold == wanted);
 }
 
-/* Readers share the table, and a writer is alone. */
+/* Readers share the table, and a writer has it to itself. */
 static void a_table_is_held(fak_c_seat *seats) {
     int64_t count = 99;
     uint64_t inode = 99, uses = 99;
@@ -256,7 +256,7 @@ static void a_seat_has_one_kind(void) {
     }
 }
 
-void each_kind_is_answered(void) {
+void each_kind_returns_its_codes(void) {
     a_semaphore_by_steps();
     a_semaphore_has_limits();
     a_room_answers();

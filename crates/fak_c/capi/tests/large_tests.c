@@ -1,6 +1,6 @@
 /* Large objects, in memory of the caller: each kind with up to 1,024 seats, queues of many cells, and 128 threads whose seats come
- * after the first 64. The largest queue has 2^N cells; N is the word after the program's name. The
- * program has no other heap for the library. */
+ * after the first 64. The largest queue has 2^N cells; N is the word after the program's name. The program has no other heap for the
+ * library. */
 #include "objects.h"
 #include "tests.h"
 
@@ -130,48 +130,48 @@ static atomic_int inside;
 
 static uint64_t gets_one(fak_c_seat *seat) {
     uint64_t item = 0;
-    int32_t answer;
-    while ((answer = fak_c_get(seat, NULL, &item)) == FAK_C_EMPTY)
+    int32_t code;
+    while ((code = fak_c_get(seat, NULL, &item)) == FAK_C_EMPTY)
         sched_yield();
-    while (answer == FAK_C_NOT_YET) {
+    while (code == FAK_C_NOT_YET) {
         sched_yield();
-        answer = fak_c_try_take(seat, &item);
+        code = fak_c_try_take(seat, &item);
     }
-    CHECK(answer == FAK_C_OK);
+    CHECK(code == FAK_C_OK);
     return item;
 }
 
 static void puts_one(fak_c_seat *seat, uint64_t item) {
-    int32_t answer = fak_c_put(seat, item, NULL);
-    while (answer == FAK_C_NOT_YET) {
+    int32_t code = fak_c_put(seat, item, NULL);
+    while (code == FAK_C_NOT_YET) {
         sched_yield();
-        answer = fak_c_try_fill(seat);
+        code = fak_c_try_fill(seat);
     }
-    CHECK(answer == FAK_C_OK);
+    CHECK(code == FAK_C_OK);
 }
 
-/* Lowers the semaphore with the thread's number as its item, and stands still until whoever wakes it says so. */
+/* Lowers the semaphore with the thread's number as its item, and waits until the thread that wakes it says so. */
 static void lower(fak_c_seat *seat, uint64_t me) {
-    int32_t answer = fak_c_sem_claim_down(seat, me);
-    if (answer == FAK_C_OK)
+    int32_t code = fak_c_sem_claim_down(seat, me);
+    if (code == FAK_C_OK)
         return;
-    CHECK(answer == FAK_C_PARKS);
-    while ((answer = fak_c_sem_try_park(seat)) == FAK_C_NOT_YET)
+    CHECK(code == FAK_C_PARKS);
+    while ((code = fak_c_sem_try_park(seat)) == FAK_C_NOT_YET)
         sched_yield();
-    CHECK(answer == FAK_C_OK);
+    CHECK(code == FAK_C_OK);
     while (!atomic_exchange(&is_woken[me], 0))
         sched_yield();
 }
 
 static void raise_it(fak_c_seat *seat) {
     uint64_t woken = 0;
-    int32_t answer = fak_c_sem_claim_up(seat);
-    if (answer == FAK_C_OK)
+    int32_t code = fak_c_sem_claim_up(seat);
+    if (code == FAK_C_OK)
         return;
-    CHECK(answer == FAK_C_WAKES);
-    while ((answer = fak_c_sem_try_wake(seat, &woken)) == FAK_C_NOT_YET)
+    CHECK(code == FAK_C_WAKES);
+    while ((code = fak_c_sem_try_wake(seat, &woken)) == FAK_C_NOT_YET)
         sched_yield();
-    CHECK(answer == FAK_C_OK && woken < THREADS);
+    CHECK(code == FAK_C_OK && woken < THREADS);
     atomic_store(&is_woken[woken], 1);
 }
 
@@ -179,14 +179,14 @@ static void raise_it(fak_c_seat *seat) {
 static void count(size_t at) {
     int64_t found = 0;
     uint64_t inode = 0, uses = 0;
-    int32_t answer;
-    while ((answer = fak_c_room_tir(&seats[ROOM][at], 3, &found)) == FAK_C_FULL)
+    int32_t code;
+    while ((code = fak_c_room_tir(&seats[ROOM][at], 3, &found)) == FAK_C_FULL)
         sched_yield();
-    CHECK(answer == FAK_C_OK && found <= BOUND - 3);
+    CHECK(code == FAK_C_OK && found <= BOUND - 3);
     CHECK(fak_c_room_release(&seats[ROOM][at], 3, &found) == FAK_C_OK && found >= 3);
-    while ((answer = fak_c_files_try_write(&seats[FILES][at], &found)) == FAK_C_BUSY)
+    while ((code = fak_c_files_try_write(&seats[FILES][at], &found)) == FAK_C_BUSY)
         sched_yield();
-    CHECK(answer == FAK_C_OK && fak_c_files_get(&seats[FILES][at], 1, &inode, &uses) == FAK_C_OK);
+    CHECK(code == FAK_C_OK && fak_c_files_get(&seats[FILES][at], 1, &inode, &uses) == FAK_C_OK);
     CHECK(fak_c_files_set_uses(&seats[FILES][at], 1, uses + 1) == FAK_C_OK && fak_c_files_end(&seats[FILES][at]) == FAK_C_OK);
     CHECK(fak_c_credit_credit(&seats[CREDIT][at], &found) == FAK_C_OK);
 }

@@ -1,4 +1,4 @@
-/* What the header says of limits: FAK_C_BAD_LIMIT is answered exactly if a number is out of range, and FAK_C_IS_.. tells which. */
+/* What the header says of limits: FAK_C_BAD_LIMIT is returned exactly if a number is out of range, and FAK_C_IS_.. says which. */
 #include "tests.h"
 
 static const size_t numbers[] = {0, 1, 2, 3, LARGE_SEATS - 1, LARGE_SEATS, LARGE_SEATS + 1, SIZE_MAX};
@@ -9,7 +9,7 @@ static const uint64_t amounts[] = {0, 1, 1023, 1024, 1025, UINT64_MAX};
 
 #define LENGTH(list) (sizeof(list) / sizeof *(list))
 
-/* A program may test its numbers where it is compiled. */
+/* A program may test its numbers at compile time. */
 _Static_assert(FAK_C_IS_SEATS(1024) && !FAK_C_IS_SEATS(1025) && FAK_C_IS_SIZE(16777216) && !FAK_C_IS_SIZE(16777217), "limits");
 _Static_assert(FAK_C_IS_STINT(1024, UINT64_C(1) << 40) && !FAK_C_IS_STINT(1024, (UINT64_C(1) << 40) + 1), "limits");
 _Static_assert(FAK_C_IS_START(UINT64_C(1) << 32) && FAK_C_IS_ENTRIES(16) && FAK_C_IS_AMOUNT(1024), "limits");

@@ -1,5 +1,5 @@
-/* Each allocation of each opening fails in turn, and no other call makes one. The linker's --wrap sends the library's calls of
- * malloc and free here. */
+/* Each allocation of each opening fails in turn, and no other call allocates. The linker's --wrap sends the library's calls of malloc
+ * and free here. */
 #include "tests.h"
 
 #include <stdatomic.h>
@@ -27,7 +27,7 @@ void __wrap_free(void *block) {
     __real_free(block);
 }
 
-/* The second half of the handles are bundles: of three seats each where there are few of them. */
+/* The second half of the handles are bundles: of three seats each if there are few of them. */
 static int32_t open_bundles(fak_c_seat *handles, size_t n) {
     size_t bundles = n / 2, seats = n - bundles;
     return fak_c_open_bundles(handles, seats, handles + seats, bundles, n == SEATS ? 3 : 1, 5, 10);
@@ -50,16 +50,16 @@ static int32_t open_kind(fak_c_seat *seats, size_t n, int kind) {
     }
 }
 
-/* Opens an object while the allocation of this number fails. True where the opening succeeded. */
+/* Opens an object while the allocation of this number fails. True if the opening succeeded. */
 static bool opens(fak_c_seat *seats, size_t n, int kind, long number) {
-    int32_t answer;
+    int32_t code;
     made = 0;
     failing = number;
-    answer = open_kind(seats, n, kind);
+    code = open_kind(seats, n, kind);
     failing = 0;
-    if (answer == FAK_C_OK)
+    if (code == FAK_C_OK)
         return true;
-    CHECK(answer == FAK_C_MEMORY);
+    CHECK(code == FAK_C_MEMORY);
     for (size_t i = 0; i < n; i++)
         CHECK(seats[i].at == NULL);
     CHECK(live == 0);
@@ -132,7 +132,7 @@ static void use_bundles(fak_c_seat *handles) {
     CHECK(fak_c_try_take(&handles[0], &item) == FAK_C_OK && fak_c_try_fill_burst(bundle, &left) == FAK_C_OK);
 }
 
-/* Each call of this kind; none takes memory. */
+/* Each call of this kind; none allocates. */
 static void use(fak_c_seat *seats, int kind) {
     static void (*const uses[KINDS])(fak_c_seat *) = {use_a_queue, use_a_semaphore, use_a_room, use_a_credit, use_a_table, use_bundles};
     fak_c_seat home = {0};
@@ -160,7 +160,7 @@ static void each_allocation_fails(fak_c_seat *seats, size_t n, int kind) {
     CHECK(number > desks + 1 && made < number && live > desks);
 }
 
-void want_of_memory_is_answered(void) {
+void each_allocation_fails_in_turn(void) {
     static fak_c_seat seats[LARGE_SEATS];
     for (int kind = 0; kind < KINDS; kind++) {
         each_allocation_fails(seats, SEATS, kind);

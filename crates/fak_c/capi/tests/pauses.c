@@ -1,4 +1,4 @@
-/* How long seats pause that call by turns: as long as they should, and no longer. */
+/* How long seats that take turns pause: as long as they should, and no longer. */
 #include "tests.h"
 
 #include <time.h>
@@ -13,10 +13,10 @@
 #define PAIRS 240
 #define FEWEST_PAUSES 4
 #define MOST_PAUSES 6
-/* The four pauses take a tenth of a millisecond, and some tenths where a processor waits longer in each spin. */
+/* The four pauses take a tenth of a millisecond, and several tenths if a processor waits longer in each spin. */
 #define MOST_SECONDS 0.005
 #define MOST_TRIALS 20
-/* A call that does not pause takes less, and less than so many readings of the clock, unless the machine stops it. The thread sanitizer
+/* A call that does not pause takes less, and less than READINGS readings of the clock, unless the machine stops it. The thread sanitizer
  * takes some microseconds of its own now and then. */
 #ifdef FAK_C_THREAD_SANITIZER
 #define QUICK_NANOSECONDS 20000.0
@@ -25,7 +25,7 @@
 #endif
 #define READINGS 20
 
-/* What some calls by turns took. */
+/* How long the calls of one trial took. */
 typedef struct {
     double seconds;  /* of the processor */
     int long_pauses; /* pauses that took as long as was asked */
@@ -37,7 +37,7 @@ static double nanoseconds(void) {
     return (double)now.tv_sec * 1e9 + (double)now.tv_nsec;
 }
 
-/* What so many spins take: the best of many runs, so that no stop of the machine counts. */
+/* How long these spins take: the best of many runs, so that no stop of the machine counts. */
 static double nanoseconds_of_spins(int spins) {
     enum { RUNS = 1000 };
     double best = 1e9;
@@ -55,7 +55,7 @@ static double nanoseconds_of_spins(int spins) {
     return best;
 }
 
-/* Two seats call by turns, so that each finds the counts changed, and pause after each call. Counts the pauses that take so many
+/* Two seats take turns, so that each finds the counts changed, and pause after each call. Counts the pauses that take at least this many
  * nanoseconds. */
 static turns turns_of(fak_c_seat *seats, double wanted) {
     clock_t start = clock();
@@ -75,7 +75,7 @@ static turns turns_of(fak_c_seat *seats, double wanted) {
     return made;
 }
 
-/* How long a pause takes at least: a tenth of what its spins took when they were measured, maybe on a slower processor. */
+/* The least time of a pause: a tenth of what its spins took when they were measured, maybe on a slower processor. */
 static double least_of(uint64_t size, double spin) {
     uint64_t cells = size < FEWEST_CELLS ? FEWEST_CELLS : size < MOST_CELLS ? size : MOST_CELLS;
     return (double)(cells * SPINS_FOR_A_CELL) * spin / 10;

@@ -6,9 +6,9 @@
  * in the queue from before the refused call until after it. The second half does the same with a full queue, and pollers that
  * insert.
  *
- * usage: refusals [ROUNDS [POLLERS [CELLS]]]; 100,000 rounds beside 1 poller, and 4 cells, if the words leave them out.
+ * usage: refusals [ROUNDS [POLLERS [CELLS]]]. By default 100,000 rounds, 1 poller and 4 cells.
  *
- * It prints what it counted. It fails only where an item is lost or doubled, never because of how often something happened. */
+ * It prints what it counted. It fails only if an item is lost or doubled, never because of how often something happened. */
 #include "tests.h"
 
 #include <pthread.h>
@@ -17,14 +17,14 @@
 
 enum { MOST_POLLERS = 8 };
 
-/* A call of each kind, made whole: whether it was granted. */
+/* A whole call of one kind. Returns whether it was granted. */
 typedef bool (*call)(fak_c_seat *seat);
 
 /* What one half counts. */
 typedef struct {
     unsigned long own;     /* the round's second call was granted */
     unsigned long passing; /* it was refused; a poller's call that began before the refusal was granted */
-    unsigned long beside;  /* it was refused; a poller's call that began after the refusal was granted */
+    unsigned long wrong;   /* it was refused; a poller's call that began after the refusal was granted */
 } counts;
 
 static fak_c_seat seats[MOST_POLLERS + 1];
@@ -34,27 +34,27 @@ static atomic_ulong refused; /* the round that was refused last */
 static atomic_ulong granted; /* 0, or 1 more than twice the round that a poller read before its call was granted */
 
 static bool put_one(fak_c_seat *seat) {
-    int32_t answer = fak_c_put(seat, 7, NULL);
-    if (answer == FAK_C_FULL)
+    int32_t code = fak_c_put(seat, 7, NULL);
+    if (code == FAK_C_FULL)
         return false;
-    while (answer == FAK_C_NOT_YET) {
+    while (code == FAK_C_NOT_YET) {
         sched_yield();
-        answer = fak_c_try_fill(seat);
+        code = fak_c_try_fill(seat);
     }
-    CHECK(answer == FAK_C_OK);
+    CHECK(code == FAK_C_OK);
     return true;
 }
 
 static bool get_one(fak_c_seat *seat) {
     uint64_t item = 0;
-    int32_t answer = fak_c_get(seat, NULL, &item);
-    if (answer == FAK_C_EMPTY)
+    int32_t code = fak_c_get(seat, NULL, &item);
+    if (code == FAK_C_EMPTY)
         return false;
-    while (answer == FAK_C_NOT_YET) {
+    while (code == FAK_C_NOT_YET) {
         sched_yield();
-        answer = fak_c_try_take(seat, &item);
+        code = fak_c_try_take(seat, &item);
     }
-    CHECK(answer == FAK_C_OK && item == 7);
+    CHECK(code == FAK_C_OK && item == 7);
     return true;
 }
 
@@ -67,7 +67,7 @@ static void *poll_without_end(void *seat) {
     return NULL;
 }
 
-/* Waits until a poller's call is granted: the round that it had read before. */
+/* Waits until a poller's call is granted. Returns the round that the poller had read before. */
 static unsigned long wait_for_poller(void) {
     unsigned long found;
     while ((found = atomic_exchange(&granted, 0)) == 0)
@@ -85,12 +85,12 @@ static void play_round(fak_c_seat *seat, call first, call second, unsigned long 
     }
     atomic_store(&refused, round);
     if (wait_for_poller() == round)
-        counted->beside++;
+        counted->wrong++;
     else
         counted->passing++;
 }
 
-/* All rounds beside these pollers. */
+/* All rounds, while these pollers poll. */
 static counts play(fak_c_seat *seat, int pollers, call first, call second, unsigned long rounds) {
     pthread_t threads[MOST_POLLERS];
     counts counted = {0, 0, 0};
@@ -104,7 +104,7 @@ static counts play(fak_c_seat *seat, int pollers, call first, call second, unsig
     atomic_store(&stops, true);
     for (int i = 0; i < pollers; i++)
         pthread_join(threads[i], NULL);
-    CHECK(counted.own + counted.passing + counted.beside == rounds && atomic_load(&granted) == 0);
+    CHECK(counted.own + counted.passing + counted.wrong == rounds && atomic_load(&granted) == 0);
     return counted;
 }
 
@@ -123,8 +123,8 @@ static void count_refusals(const char *code, int pollers, uint64_t cells, bool i
     CHECK(items == 0);
     for (int i = 0; i <= pollers; i++)
         CHECK(fak_c_leave(&seats[i]) == FAK_C_OK);
-    printf("%s in %lu rounds beside %d pollers: %lu, of which %lu were wrong for the whole call\n", code, rounds, pollers,
-        counted.passing + counted.beside, counted.beside);
+    printf("%s in %lu rounds with %d pollers: %lu, of which %lu were wrong for the whole call\n", code, rounds, pollers,
+        counted.passing + counted.wrong, counted.wrong);
 }
 
 int main(int count, char **words) {

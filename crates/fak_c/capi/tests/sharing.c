@@ -1,4 +1,4 @@
-/* Threads that share a semaphore, a room, a credit and a file table; and memory that is handed over behind a pointer. */
+/* Threads that share a semaphore, a room, a credit and a file table; and memory that is handed over by its pointer. */
 #include "tests.h"
 
 #include <pthread.h>
@@ -18,49 +18,49 @@ typedef struct {
     uint64_t rounds;
 } sharer;
 
-/* Lowers the semaphore with the thread's number as its item, and stands still until whoever wakes it says so. */
+/* Lowers the semaphore with the thread's number as its item, and waits until the thread that wakes it says so. */
 static void lower(size_t me) {
-    int32_t answer = fak_c_sem_claim_down(&semaphore[me], me);
-    if (answer == FAK_C_OK)
+    int32_t code = fak_c_sem_claim_down(&semaphore[me], me);
+    if (code == FAK_C_OK)
         return;
-    CHECK(answer == FAK_C_PARKS);
-    while ((answer = fak_c_sem_try_park(&semaphore[me])) == FAK_C_NOT_YET)
+    CHECK(code == FAK_C_PARKS);
+    while ((code = fak_c_sem_try_park(&semaphore[me])) == FAK_C_NOT_YET)
         sched_yield();
-    CHECK(answer == FAK_C_OK);
+    CHECK(code == FAK_C_OK);
     while (!atomic_exchange(&is_woken[me], 0))
         sched_yield();
 }
 
 static void raise_it(size_t me) {
     uint64_t woken = 0;
-    int32_t answer = fak_c_sem_claim_up(&semaphore[me]);
-    if (answer == FAK_C_OK)
+    int32_t code = fak_c_sem_claim_up(&semaphore[me]);
+    if (code == FAK_C_OK)
         return;
-    CHECK(answer == FAK_C_WAKES);
-    while ((answer = fak_c_sem_try_wake(&semaphore[me], &woken)) == FAK_C_NOT_YET)
+    CHECK(code == FAK_C_WAKES);
+    while ((code = fak_c_sem_try_wake(&semaphore[me], &woken)) == FAK_C_NOT_YET)
         sched_yield();
-    CHECK(answer == FAK_C_OK && woken < THREADS);
+    CHECK(code == FAK_C_OK && woken < THREADS);
     atomic_store(&is_woken[woken], 1);
 }
 
 /* Claims an amount and gives it back. */
 static void use_the_room(size_t me) {
     int64_t found = 0;
-    int32_t answer;
-    while ((answer = fak_c_room_tir(&room[me], AMOUNT, &found)) == FAK_C_FULL)
+    int32_t code;
+    while ((code = fak_c_room_tir(&room[me], AMOUNT, &found)) == FAK_C_FULL)
         sched_yield();
-    CHECK(answer == FAK_C_OK && found <= BOUND - AMOUNT);
+    CHECK(code == FAK_C_OK && found <= BOUND - AMOUNT);
     CHECK(fak_c_room_release(&room[me], AMOUNT, &found) == FAK_C_OK && found >= AMOUNT);
 }
 
-/* Adds 1 to a field of the table, alone. */
+/* Adds 1 to a field of the table, as its only writer. */
 static void count_in_the_table(size_t me) {
     int64_t count = 0;
     uint64_t inode = 0, uses = 0;
-    int32_t answer;
-    while ((answer = fak_c_files_try_write(&files[me], &count)) == FAK_C_BUSY)
+    int32_t code;
+    while ((code = fak_c_files_try_write(&files[me], &count)) == FAK_C_BUSY)
         sched_yield();
-    CHECK(answer == FAK_C_OK);
+    CHECK(code == FAK_C_OK);
     CHECK(fak_c_files_get(&files[me], 1, &inode, &uses) == FAK_C_OK && inode == uses);
     CHECK(fak_c_files_set_uses(&files[me], 1, uses + 1) == FAK_C_OK);
     CHECK(fak_c_files_set_inode(&files[me], 1, uses + 1) == FAK_C_OK);
@@ -127,7 +127,7 @@ void threads_share_objects(uint64_t rounds) {
     all_was_counted(THREADS * rounds);
 }
 
-/* ---- Memory behind a pointer ---- */
+/* ---- Memory that is handed over ---- */
 
 enum { WORDS = 16 };
 
@@ -140,18 +140,18 @@ typedef struct {
 /* Fills memory of its own and hands it over. */
 static void *send(void *argument) {
     sender *self = argument;
-    int32_t answer;
+    int32_t code;
     for (uint64_t item = 0; item < self->items; item++) {
         uint64_t *words = malloc(WORDS * sizeof *words);
         CHECK(words != NULL);
         for (int i = 0; i < WORDS; i++)
             words[i] = item;
         FAK_C_GIVES(words);
-        while ((answer = fak_c_put(self->seat, (uintptr_t)words, NULL)) == FAK_C_FULL)
+        while ((code = fak_c_put(self->seat, (uintptr_t)words, NULL)) == FAK_C_FULL)
             sched_yield();
-        while (answer == FAK_C_NOT_YET)
-            answer = fak_c_try_fill(self->seat);
-        CHECK(answer == FAK_C_OK);
+        while (code == FAK_C_NOT_YET)
+            code = fak_c_try_fill(self->seat);
+        CHECK(code == FAK_C_OK);
     }
     return NULL;
 }
@@ -163,12 +163,12 @@ void memory_is_handed_over(uint64_t items) {
     CHECK(pthread_create(&self.thread, NULL, send, &self) == 0);
     for (uint64_t item = 0; item < items; item++) {
         uint64_t at = 0;
-        int32_t answer;
-        while ((answer = fak_c_get(&seats[1], NULL, &at)) == FAK_C_EMPTY)
+        int32_t code;
+        while ((code = fak_c_get(&seats[1], NULL, &at)) == FAK_C_EMPTY)
             sched_yield();
-        while (answer == FAK_C_NOT_YET)
-            answer = fak_c_try_take(&seats[1], &at);
-        CHECK(answer == FAK_C_OK);
+        while (code == FAK_C_NOT_YET)
+            code = fak_c_try_take(&seats[1], &at);
+        CHECK(code == FAK_C_OK);
         uint64_t *words = (uint64_t *)(uintptr_t)at;
         FAK_C_GETS(words);
         for (int i = 0; i < WORDS; i++)

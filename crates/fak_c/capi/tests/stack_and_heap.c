@@ -12,18 +12,18 @@ enum { STACK = 65536, PAINT = 0xA5, HEAD = 16, DEEP = 1000 };
 
 size_t heap_in_use, heap_taken;
 
-struct answer rattle_alloc(size_t size, size_t align) {
+struct allocation rattle_alloc(size_t size, size_t align) {
     size_t *part = malloc(size + HEAD);
     CHECK(part != NULL && align <= HEAD);
     part[0] = size;
     heap_in_use += size;
     heap_taken += HEAD + ((size + 15) & ~(size_t)15);
-    return (struct answer){true, (unsigned char *)part + HEAD};
+    return (struct allocation){true, (unsigned char *)part + HEAD};
 }
 
-struct answer rattle_realloc(void *part, size_t kept, size_t size, size_t align) {
+struct allocation rattle_realloc(void *part, size_t kept, size_t size, size_t align) {
     (void)part, (void)kept, (void)size, (void)align;
-    return (struct answer){false, &heap_in_use};
+    return (struct allocation){false, &heap_in_use};
 }
 
 size_t size_of(const void *part) {

@@ -1,5 +1,4 @@
-/* How much stack calls take: a painted stack, and what of it was written. Also the heap of a seat and of each object, by a heap that
- * counts; and where calls write the memory of a seat. */
+/* How much stack calls use, how much of the heap a seat and each object keep, and where calls write the memory of a seat. */
 #include "stack_and_heap.h"
 #include "tests.h"
 
@@ -129,8 +128,8 @@ static const unsigned char *written_by_calls(size_t size) {
     return desk;
 }
 
-/* How much stack the calls of the first handle take, and a move. They change the memory of their seat, which has this size, but nothing
- * within a line of either end: so the calls of no two seats write one line. */
+/* How much stack the calls of the first handle use, and a move. They change the memory of their seat, which has this size, but nothing
+ * within a line of either end: so the calls of no two seats write the same line. */
 static size_t depth_of_calls(void (*calls)(void), size_t size) {
     static unsigned char before[LARGEST];
     const unsigned char *desk = written_by_calls(size);

@@ -7,9 +7,9 @@
 
 int main(int count, char **words) {
     if (count == 2 && strcmp(words[1], "codes") == 0)
-        each_code_is_answered();
+        each_code_is_returned();
     else if (count == 2 && strcmp(words[1], "kinds") == 0)
-        each_kind_is_answered();
+        each_kind_returns_its_codes();
     else if (count == 2 && strcmp(words[1], "limits") == 0)
         each_limit_is_named();
     else if (count == 3 && strcmp(words[1], "pauses") == 0 && strcmp(words[2], "llvm") == 0)
@@ -17,7 +17,7 @@ int main(int count, char **words) {
     else if (count == 3 && strcmp(words[1], "pauses") == 0 && strcmp(words[2], "rattle") == 0)
         pauses_have_their_length(false);
     else if (count == 2 && strcmp(words[1], "memory") == 0)
-        want_of_memory_is_answered();
+        each_allocation_fails_in_turn();
     else if (count == 4 && strcmp(words[1], "threads") == 0)
         threads_share_a_queue(atoi(words[2]), strtoull(words[3], NULL, 10));
     else if (count == 3 && strcmp(words[1], "drain") == 0)
@@ -27,13 +27,13 @@ int main(int count, char **words) {
     else if (count == 3 && strcmp(words[1], "pointers") == 0)
         memory_is_handed_over(strtoull(words[2], NULL, 10));
     else if (count == 2 && strcmp(words[1], "bursts") == 0)
-        each_burst_is_answered();
+        each_burst_code_is_returned();
     else if (count == 4 && strcmp(words[1], "burst-threads") == 0)
         threads_share_a_queue_by_bursts(atoi(words[2]), strtoull(words[3], NULL, 10));
     else if (count == 3 && strcmp(words[1], "burst-drain") == 0)
         a_shut_queue_is_drained_by_bursts(strtoull(words[2], NULL, 10));
     else if (count == 2 && strcmp(words[1], "burst-stops") == 0)
-        a_burst_that_stands_stops_nobody();
+        a_waiting_burst_stops_nobody();
     else if (count == 3 && strcmp(words[1], "burst-pointers") == 0)
         memory_is_handed_over_by_bursts(strtoull(words[2], NULL, 10));
     else

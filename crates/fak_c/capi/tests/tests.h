@@ -14,35 +14,35 @@
 #define LARGE_CALLS (UINT64_C(1) << 50)
 
 /* Each code of each call of a queue, on one thread, and seats that move. */
-void each_code_is_answered(void);
+void each_code_is_returned(void);
 
-/* The same of semaphores, rooms, credits and file tables; and what each kind of seat answers to the calls of the others. */
-void each_kind_is_answered(void);
+/* The same of semaphores, rooms, credits and file tables; and what the calls of each kind return for seats of the others. */
+void each_kind_returns_its_codes(void);
 
 /* On either side of each limit the code is FAK_C_BAD_LIMIT exactly if FAK_C_IS_.. says that a number is out of range. */
 void each_limit_is_named(void);
 
-/* Seats that call by turns pause as long as they should, at each size of a queue. They do not pause if the queue has few cells, or if
+/* Seats that take turns pause as long as they should, at each size of a queue. They do not pause if the queue has few cells, or if
  * nothing spins. */
 void pauses_have_their_length(bool spins);
 
 /* Each allocation of an opening fails in turn. */
-void want_of_memory_is_answered(void);
+void each_allocation_fails_in_turn(void);
 
-/* So many producers and as many consumers share a queue. */
+/* This many producers and as many consumers share a queue. */
 void threads_share_a_queue(int pairs, uint64_t items);
 
 /* Threads share a semaphore, a room, a credit and a file table. */
 void threads_share_objects(uint64_t rounds);
 
-/* Memory that one thread fills and another reads, behind a pointer that goes through a queue. */
+/* Memory that one thread fills and another reads: its pointer goes through a queue. */
 void memory_is_handed_over(uint64_t items);
 
 /* A queue is shut while threads insert into it, and drained. */
 void a_shut_queue_is_drained(uint64_t items);
 
-/* Each code of each call of a bundle, on one thread, and random bursts beside a plain list. */
-void each_burst_is_answered(void);
+/* Each code of each call of a bundle, on one thread, and random bursts compared with a plain list. */
+void each_burst_code_is_returned(void);
 
 /* This many producers and as many consumers share a queue, half of them by bursts. */
 void threads_share_a_queue_by_bursts(int pairs, uint64_t items);
@@ -51,9 +51,9 @@ void threads_share_a_queue_by_bursts(int pairs, uint64_t items);
 void a_shut_queue_is_drained_by_bursts(uint64_t items);
 
 /* Other threads insert and delete while a claimed burst waits. */
-void a_burst_that_stands_stops_nobody(void);
+void a_waiting_burst_stops_nobody(void);
 
-/* Memory that one thread fills and another reads, behind pointers that go through a queue by bursts. */
+/* Memory that one thread fills and another reads: its pointers go through a queue by bursts. */
 void memory_is_handed_over_by_bursts(uint64_t items);
 
 #endif
