@@ -1,7 +1,7 @@
 # Targets, each with the headers:
 #   fak_c::fak_c     the archive that LLVM compiled, with the channel for threads, and the heap over malloc
 #   fak_c::rattle    the archive that Rattle's own compiler compiled, with the same channel and heap
-#   fak_c::no_heap   the first archive alone; the program brings rattle_alloc, rattle_realloc and rattle_dealloc, as block.c does
+#   fak_c::no_heap   only the first archive; the program brings rattle_alloc, rattle_realloc and rattle_dealloc, for instance block.c
 # and FAK_C_BLOCK and FAK_C_CHANNEL, the paths of block.c and fak_channel.c.
 get_filename_component(_fak_c_prefix "${CMAKE_CURRENT_LIST_DIR}/../../.." ABSOLUTE)
 

@@ -1,5 +1,5 @@
 # Writes the header of the library for C as sections of a man page: its comments as text, its declarations as they are. With `code` set it
-# writes any file as it is. Only a comment that begins its line is text, and of a function with a body the page has the first line.
+# writes any file as it is. Only a comment that begins its line is text. Of a function with a body only the first line is written.
 
 function escaped(line) {
     gsub(/\\/, "\\e", line)
@@ -26,7 +26,7 @@ function write_text(lines, count, i, open) {
     }
 }
 
-# A comment stands before the declarations that it is about. Of calls the page has the declarations first.
+# A comment comes before its declarations. For calls the page has the declarations first.
 function write_both() {
     if (codes && code_lines[1] ~ /^int32_t/) {
         write_code(code_lines, codes)
@@ -38,7 +38,7 @@ function write_both() {
     texts = codes = blank = 0
 }
 
-# A heading, as "---- Queues ----".
+# A heading, such as "---- Queues ----".
 function write_heading(line) {
     gsub(/^-+ *| *-+$/, "", line)
     print ".SH " toupper(line)
@@ -59,8 +59,9 @@ inside {
     inside = !ends
     next
 }
-# What guards the header, and what tells the sanitizer, is no declaration.
-/^#(if|ifdef|ifndef|elif|else|endif|include)/ || /^#define FAK_(C_(H|THREAD_SANITIZER|GIVES|GETS)|CHANNEL_H)/ || /^extern "C"/ || /__tsan_/ { next }
+# The guard of the header, and the macros for the sanitizer, are left out.
+/^#(if|ifdef|ifndef|elif|else|endif|include)/ || /^extern "C"/ || /__tsan_/ { next }
+/^#define FAK_(C_(H|THREAD_SANITIZER|GIVES|GETS)|CHANNEL_H)/ { next }
 /^}$/ && (body || !codes) { body = 0; next }
 body { next }
 /^static inline/ { body = 1; sub(/^static inline /, ""); sub(/ \{$/, ";") }

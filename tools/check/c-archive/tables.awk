@@ -1,5 +1,5 @@
-# Reads `objdump -dr` of an archive twice, and prints it without the tables of jumps that stand behind the code of a function. The first of
-# them begins where a `lea` of the function leads behind that `lea`, into the function itself; the linker changes no such address.
+# Reads `objdump -dr` of an archive twice, and prints it without the tables of jumps that come after the code of a function. The first of
+# them begins at the address that a `lea` takes of a place after itself in the same function; the linker changes no such address.
 function hexadecimal(digits, value, i) {
     value = 0
     for (i = 1; i <= length(digits); i++)

@@ -1,4 +1,4 @@
-/* zstd's thread pool (lib/common/pool.h) over the pool of the library's examples. It stands in place of zstd's lib/common/pool.c. */
+/* zstd's thread pool (lib/common/pool.h) over the pool of the library's examples. It replaces zstd's lib/common/pool.c. */
 #include "zstd_deps.h"
 #include "zstd_internal.h" /* ZSTD_customCalloc, ZSTD_customFree */
 #include "pool.h"
