@@ -2,11 +2,9 @@
  * after the first 64. The largest queue has 2^N cells; N is the word after the program's name. The program has no other heap for the
  * library. */
 #include "objects.h"
-#include "tests.h"
+#include "sharers.h"
 
 #include <pthread.h>
-#include <sched.h>
-#include <stdatomic.h>
 
 static fak_c_seat seats[KINDS][LARGE_SEATS];
 
@@ -150,31 +148,6 @@ static void puts_one(fak_c_seat *seat, uint64_t item) {
     CHECK(code == FAK_C_OK);
 }
 
-/* Lowers the semaphore with the thread's number as its item, and waits until the thread that wakes it says so. */
-static void lower(fak_c_seat *seat, uint64_t me) {
-    int32_t code = fak_c_sem_claim_down(seat, me);
-    if (code == FAK_C_OK)
-        return;
-    CHECK(code == FAK_C_PARKS);
-    while ((code = fak_c_sem_try_park(seat)) == FAK_C_NOT_YET)
-        sched_yield();
-    CHECK(code == FAK_C_OK);
-    while (!atomic_exchange(&is_woken[me], 0))
-        sched_yield();
-}
-
-static void raise_it(fak_c_seat *seat) {
-    uint64_t woken = 0;
-    int32_t code = fak_c_sem_claim_up(seat);
-    if (code == FAK_C_OK)
-        return;
-    CHECK(code == FAK_C_WAKES);
-    while ((code = fak_c_sem_try_wake(seat, &woken)) == FAK_C_NOT_YET)
-        sched_yield();
-    CHECK(code == FAK_C_OK && woken < THREADS);
-    atomic_store(&is_woken[woken], 1);
-}
-
 /* Claims a part of the room and gives it back, and counts in the table and in the credit. */
 static void count(size_t at) {
     int64_t found = 0;
@@ -197,11 +170,11 @@ static void *share(void *number) {
     size_t at = FIRST + me;
     for (uint64_t round = 0; round < ROUNDS; round++) {
         puts_one(&seats[QUEUE][at], me * ROUNDS + round);
-        lower(&seats[SEMAPHORE][at], me);
+        down(&seats[SEMAPHORE][at], me, is_woken);
         CHECK(atomic_fetch_add(&inside, 1) < TOKENS);
         count(at);
         atomic_fetch_sub(&inside, 1);
-        raise_it(&seats[SEMAPHORE][at]);
+        up(&seats[SEMAPHORE][at], is_woken, THREADS);
         uint64_t item = gets_one(&seats[QUEUE][at]);
         CHECK(item < THREADS * ROUNDS && atomic_fetch_add(&taken[item], 1) == 0);
     }

@@ -1,9 +1,7 @@
 /* Threads that share a semaphore, a room, a credit and a file table; and memory that is handed over by its pointer. */
-#include "tests.h"
+#include "sharers.h"
 
 #include <pthread.h>
-#include <sched.h>
-#include <stdatomic.h>
 
 enum { THREADS = 4, START = 2, BOUND = 7, AMOUNT = 3 };
 
@@ -17,31 +15,6 @@ typedef struct {
     size_t number;
     uint64_t rounds;
 } sharer;
-
-/* Lowers the semaphore with the thread's number as its item, and waits until the thread that wakes it says so. */
-static void lower(size_t me) {
-    int32_t code = fak_c_sem_claim_down(&semaphore[me], me);
-    if (code == FAK_C_OK)
-        return;
-    CHECK(code == FAK_C_PARKS);
-    while ((code = fak_c_sem_try_park(&semaphore[me])) == FAK_C_NOT_YET)
-        sched_yield();
-    CHECK(code == FAK_C_OK);
-    while (!atomic_exchange(&is_woken[me], 0))
-        sched_yield();
-}
-
-static void raise_it(size_t me) {
-    uint64_t woken = 0;
-    int32_t code = fak_c_sem_claim_up(&semaphore[me]);
-    if (code == FAK_C_OK)
-        return;
-    CHECK(code == FAK_C_WAKES);
-    while ((code = fak_c_sem_try_wake(&semaphore[me], &woken)) == FAK_C_NOT_YET)
-        sched_yield();
-    CHECK(code == FAK_C_OK && woken < THREADS);
-    atomic_store(&is_woken[woken], 1);
-}
 
 /* Claims an amount and gives it back. */
 static void use_the_room(size_t me) {
@@ -71,7 +44,7 @@ static void *share(void *argument) {
     const sharer *self = argument;
     int64_t found = 0;
     for (uint64_t round = 0; round < self->rounds; round++) {
-        lower(self->number);
+        down(&semaphore[self->number], self->number, is_woken);
         CHECK(atomic_fetch_add(&inside, 1) < START);
         if (round % 7 == 0)
             sched_yield();
@@ -79,7 +52,7 @@ static void *share(void *argument) {
         count_in_the_table(self->number);
         CHECK(fak_c_credit_credit(&credit[self->number], &found) == FAK_C_OK);
         atomic_fetch_sub(&inside, 1);
-        raise_it(self->number);
+        up(&semaphore[self->number], is_woken, THREADS);
     }
     return NULL;
 }
