@@ -1,4 +1,4 @@
--- One mark more, and one mark less.
+-- Histories with one mark more, and with one mark less.
 use Rattle.fak_model.proofs.Common.{nat_tests, filter-append, flat_map-append, Rules, seat_words, Owes, AreCalls, IsHistory, ◌≡◌, ◌≢◌, ◌⊎◌, ℕ, List, [], ◌∷◌, ◌++◌, refl, ap, sym, ◌∙◌, subst, arith, inl, inr, append_assoc, map, filter, flat_map, common_steps}
 use Rattle.std.proofs.lemmas.List.{append-nil, map-append}
 use Rattle.fak_model.proofs.Deciding.{same_or_not}
@@ -9,11 +9,11 @@ grow : {A : Type 0} (P : List A → Type 0) → ((xs : List A) (x : A) → P xs 
 grow P more front [] h = subst P (sym (append-nil front)) h
 grow P more front (x ∷ rest) h = subst P (append_assoc front (x ∷ []) rest) (grow P more (front ++ x ∷ []) rest (more front x h))
 
--- what holds of no item, and of one more behind, holds of every list
+-- what holds for the empty list, and for a list with one more item at its end if for the list, holds for every list
 pub snoc_ind : {A : Type 0} (P : List A → Type 0) → P [] → ((xs : List A) (x : A) → P xs → P (xs ++ x ∷ [])) → (xs : List A) → P xs
 snoc_ind P none more xs = grow P more [] xs none
 
--- a mark of a longer history is the last one, or stands in the shorter
+-- a mark of a longer history is its last one, or is in the shorter history
 pub split_last : {A : Type 0} (p : List A) (m : A) (q h : List A) (x : A) → p ++ m ∷ q ≡ h ++ x ∷ []
     → ((p ≡ h) × (m ≡ x) × (q ≡ [])) ⊎ ((r : List A) × (p ++ m ∷ r ≡ h))
 split_last [] m q [] x e = inl (refl, cc, cc)
@@ -27,7 +27,7 @@ split_last (y ∷ p) m q (z ∷ h) x e =
       | inr w ↦ inr (w.0, cc (heads, w.1))
     ]
 
--- ---- what a seat's marks say
+-- ---- the words of a seat's marks
 
 pub seat_words-own : {M W C : Type 0} (rules : Rules M W C) (seat : ℕ) (h : List M) (m : M) → rules.seat_of m ≡ seat → seat_words rules seat (h ++ m ∷ []) ≡ seat_words rules seat h ++ rules.word_of m ∷ []
 seat_words-own {M} rules seat h m own = grind (arith, common_steps, nat_tests, map, filter, filter-append, map-append, seat_words)
@@ -37,11 +37,11 @@ seat_words-other {M} rules seat h m other = grind (arith, common_steps, nat_test
 
 -- ---- calls
 
--- the owed word comes
+-- after the first owed word, the rest is owed
 pub owed_comes : {W C : Type 0} (words_of : C → List W) (ws : List W) (w : W) (owed : List W) → Owes words_of ws (w ∷ owed) → Owes words_of (ws ++ w ∷ []) owed
 owed_comes words_of ws w owed o = (o.0, append_assoc ws (w ∷ []) owed ∙ o.1)
 
--- where nothing is owed, any call may begin
+-- if nothing is owed, any call may begin
 pub call_begins : {W C : Type 0} (words_of : C → List W) (ws : List W) (call : C) → Owes words_of ws [] → Owes words_of ws (words_of call)
 call_begins words_of ws call o = (
   o.0 ++ call ∷ [],
@@ -50,7 +50,7 @@ call_begins words_of ws call o = (
       ∙ sym (flat_map-append words_of o.0 (call ∷ [])),
 )
 
--- a beginning of calls is calls
+-- calls without their last word are calls; the last one is then cut short
 pub calls_front : {W C : Type 0} (words_of : C → List W) (ws : List W) (w : W) → AreCalls words_of (ws ++ w ∷ []) → AreCalls words_of ws
 calls_front words_of ws w c = (w ∷ c.0, (c.1.0, sym (append_assoc ws (w ∷ []) c.0) ∙ c.1.1))
 
@@ -97,7 +97,7 @@ history_prefix {M} rules h = snoc_ind (λ (rest : List M). IsHistory rules (h ++
     (λ law. subst (IsHistory rules) (append-nil h) law)
     (λ rest m less law. less (history_front rules (h ++ rest) m (subst (IsHistory rules) (sym (append_assoc h rest (m ∷ []))) law)))
 
--- a fair mark that a seat owes keeps a history, and the seat owes the rest
+-- a history with one more mark, a fair one that its seat owes, is a history, and the seat owes the rest
 pub history_owed : {M W C : Type 0} (rules : Rules M W C) (h : List M) (m : M) (owed : List W) → IsHistory rules h
     → Owes rules.words_of (seat_words rules (rules.seat_of m) h) (rules.word_of m ∷ owed) → rules.IsFair h m
     → IsHistory rules (h ++ m ∷ []) × Owes rules.words_of (seat_words rules (rules.seat_of m) (h ++ m ∷ [])) owed
@@ -105,7 +105,7 @@ history_owed rules h m owed law o fair =
     let now = owed_comes rules.words_of (seat_words rules (rules.seat_of m) h) (rules.word_of m) owed o in
     (history_push rules h m law (owed, now) fair, subst (λ ws. Owes rules.words_of ws owed) (sym (seat_words-own rules (rules.seat_of m) h m refl)) now)
 
--- the same where a seat at rest begins a call by its mark
+-- the same if a seat without an open call begins one by its mark
 pub history_begun : {M W C : Type 0} (rules : Rules M W C) (h : List M) (m : M) (call : C) (owed : List W) → IsHistory rules h
     → Owes rules.words_of (seat_words rules (rules.seat_of m) h) [] → rules.words_of call ≡ rules.word_of m ∷ owed → rules.IsFair h m
     → IsHistory rules (h ++ m ∷ []) × Owes rules.words_of (seat_words rules (rules.seat_of m) (h ++ m ∷ [])) owed

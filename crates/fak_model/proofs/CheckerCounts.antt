@@ -1,10 +1,10 @@
--- What the checker counts, after one more mark.
+-- What the checker has counted after one more mark.
 use Rattle.fak_model.proofs.Common.{length-reverse, take-append-le, Kind, Got, Mark, count, puts, gots, upper_raise, upper_drop, lower_raise, lower_drop, ◌≡◌, ℕ, ◌+◌, ◌<◌, ◌≤◌, List, [], ◌∷◌, ◌++◌, length, take, reverse, arith, AreBelow, AreCounts, counts_with, common_steps}
 use Rattle.fak_model.specs.declared.checker.counts.Counts.{Counts}
 use Rattle.fak_model.proofs.QueueCounts.{count_few}
 use Rattle.fak_model.proofs.Reversing.{reverse_push}
 
--- ---- a mark counts once at most
+-- ---- each count grows by at most 1 for a mark
 
 upper_raise_bit : (κ : Kind ℕ) → upper_raise κ ≤ 1
 upper_raise_bit κ = grind (arith, common_steps, upper_raise)
@@ -36,7 +36,7 @@ counts_with-lower_drops c κ = grind (arith, common_steps, counts_with, lower_dr
 counts_with-oldest : (c : Counts) (κ : Kind ℕ) → (counts_with c κ).oldest ≡ c.oldest
 counts_with-oldest c κ = grind (arith, common_steps, counts_with)
 
--- the counts after a mark, with the index o of the oldest item left
+-- the counts after a mark, if o is the new index of the oldest item left
 counts_push : (h : List (Mark ℕ)) (m : Mark ℕ) (c : Counts) (o : ℕ) → AreCounts h c → o ≤ length h + 1 → count puts (reverse (take o (h ++ m ∷ []))) ≡ gots m.kind + c.gots
     → AreCounts (h ++ m ∷ []) (record (counts_with c m.kind) { oldest = o })
 counts_push h m c o k within is = grind (arith, common_steps, reverse_push, counts_with-upper_raises, count, upper_raise, counts_with-upper_drops, upper_drop, counts_with-lower_raises, lower_raise, counts_with-lower_drops, lower_drop)
@@ -44,6 +44,6 @@ counts_push h m c o k within is = grind (arith, common_steps, reverse_push, coun
 not_got : (κ : Kind ℕ) → ((x : ℕ) → κ ≡ Got x → ⊥) → gots κ ≡ 0
 not_got κ other = grind (arith, common_steps, gots)
 
--- after a mark that is no Got the oldest item left stands where it stood
+-- a mark that is no Got leaves the index of the oldest item left as it was
 pub counts_other : (h : List (Mark ℕ)) (m : Mark ℕ) (c : Counts) → AreCounts h c → ((x : ℕ) → m.kind ≡ Got x → ⊥) → AreCounts (h ++ m ∷ []) (counts_with c m.kind)
 counts_other h m c k other = grind (arith, common_steps, take, take-append-le, counts_with-oldest, counts_push, counts_with, count, puts, reverse, not_got)

@@ -1,4 +1,4 @@
--- The checker's answers, in the words of the definition.
+-- The checker's results, in the words of the definition.
 use Rattle.fak_model.proofs.Common.{IsQueueHistory, Mark, ℕ, ◌<◌, ◌≤◌, List, length, take, get_or, reverse, subst, take_all, FirstFault, IsLegalByStage, MayFollow, common_steps, arith}
 use Rattle.fak_model.proofs.CheckerPast.{past_more}
 use Rattle.fak_model.proofs.QueueLiteral.{to_past, to_literal}

@@ -1,4 +1,4 @@
--- The names that proofs cite most, passed on from one place. Declares nothing.
+-- The names that proofs cite most, re-exported from one place. Declares nothing.
 pub use Rattle.atomic_table.proofs.Lists.{set_else, at_set}
 pub use Rattle.atomic_table.specs.Table.{Me, Splits, Joins, keeps, opening, Allows, State, Act, stepped, homes_after, carried_after}
 pub use Rattle.fak_model.specs.Calls.{fresh_seats, last_of, SeatInfo, ObjectId, object_id, seat_info, Appends, before_appended, TallyInfo, IsJoined, IsJoinOf, before_mark, tally_info, mine_of, tally_of}

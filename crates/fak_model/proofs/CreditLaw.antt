@@ -13,7 +13,7 @@ from_push start before (x ∷ h) m =
     let at = ap (λ l. grants (value start l) m.kind) (append_assoc before (x ∷ []) h) in
     omega (arith, rest, at)
 
--- a mark grants where the lesser of debits and credits grows
+-- a mark grants exactly if it raises the smaller of two numbers: the debits, and the start plus the credits
 one_more : (s d c g : ℕ) (k : CreditKind) → g ≡ min d (s + c) → g + grants (pos (s + c) -ℤ pos d) k ≡ min (d + debit_weight k) (s + (c + credit_weight k))
 one_more s d c g k e = grind (arith, common_steps, min, grants, debit_weight, credit_weight, int_lt)
 
@@ -26,7 +26,7 @@ granted_is start = snoc_ind (λ (h : List CreditMark). grants_made start h ≡ m
 pub credit_grants : (start : ℕ) (h : List CreditMark) → IsCreditHistory h → grants_made start h ≡ min (debits h) (start + credits h)
 credit_grants start h law = granted_is start h
 
--- words that are calls by themselves are whole calls
+-- if each word is a call by itself, any words are whole calls
 each_is_a_call : (ks : List CreditKind) → AreCalls (λ (k : CreditKind). k ∷ []) ks
 each_is_a_call ks = ([], (ks, append-nil ks ∙ sym (flat_map_one ks)))
   where

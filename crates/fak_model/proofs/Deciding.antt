@@ -1,4 +1,4 @@
--- Cases on whether two numbers are the same.
+-- Two cases: two numbers are equal, or not.
 use Rattle.fak_model.proofs.Common.{◌≡◌, ◌≢◌, ◌⊎◌, ℕ, ◌==◌, cond, arith, nat_tests}
 
 pub same_or_not : (a b : ℕ) → (a ≡ b) ⊎ (a ≢ b)

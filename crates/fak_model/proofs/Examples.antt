@@ -1,4 +1,4 @@
--- What the tests of lists of marks tell of examples.
+-- From tests of lists of marks to examples of lawful and unlawful ones.
 use Rattle.fak_model.proofs.Common.{Mark, RoomMark, FileMark, IsQueueHistory, IsRoomHistory, IsFileHistory, ◌≡◌, ℕ, true, false, List, ◌++◌, reverse, not_from_Decides, Parts}
 use Rattle.fak_model.proofs.QueueJudging.{is_legal_past, queue_decided}
 use Rattle.fak_model.proofs.RoomJudging.{is_room_history, room_decided}

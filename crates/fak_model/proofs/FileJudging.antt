@@ -6,7 +6,7 @@ use Rattle.fak_model.proofs.Appending.{owed_comes, call_begins}
 use Rattle.fak_model.proofs.Places.{Runs, ends, CallsRun}
 use Rattle.fak_model.proofs.Judging.{Grammar, judged, history_decided, le_decided}
 
--- a hold stands at 1, a claim of n that will be withdrawn at n + 2
+-- the place of each kind in a call: 1 for the marks during a hold, n + 2 for the withdrawal of a claim of n
 abbrev pub needs : FileKind → ℕ
 needs (Back n) = suc (suc n)
 needs (Set i f v) = 1
@@ -19,7 +19,7 @@ leads (Take n) = 1
 leads (Set i f v) = 1
 leads _ = 0
 
--- whole calls, and then a hold that goes on
+-- whole calls, and then a hold that is not given back yet
 pub record InHold (ws : List FileKind) : Type 0 where
   pub calls : List WholeCall
   pub n : ℕ
@@ -40,7 +40,7 @@ calls_run (Refused n) = ((refl, tt), refl)
 calls_run (Withdrawn n) = ((refl, (refl, tt)), refl)
 calls_run (Held n sets) = let r = sets_run sets in ((refl, r.0), r.1)
 
--- a hold owes its Give
+-- a seat in a hold owes its Give
 hold_owes : (ws : List FileKind) → InHold ws → Owes kinds_of_call ws (Give ∷ [])
 hold_owes ws h =
     let last : flat_map kinds_of_call (Held h.n h.sets ∷ []) ≡ Take h.n ∷ (map set_mark h.sets ++ Give ∷ []) = append-nil (Take h.n ∷ (map set_mark h.sets ++ Give ∷ [])) in (
@@ -75,7 +75,7 @@ file_grammar = record { needs = needs; leads = leads; runs = calls_run; Stands =
 abbrev pub is_amount : ℕ → ℕ → Bool
 is_amount k n = (n == 1) || (n == k)
 
--- whether the count is at least n, or less
+-- whether the count is at least n; whether it is less
 abbrev pub has_count : ℕ → List FileMark → ℕ → Bool
 has_count k before n = ltb (n + (total take_amount before + total over_amount before)) (k + total back_amount before + amount_given before + 1)
 

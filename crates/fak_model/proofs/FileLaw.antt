@@ -22,7 +22,7 @@ pub hold_push : (n : ℕ) (ks : List FileKind) (k : FileKind) → hold_from n (k
 hold_push n [] k = refl
 hold_push n (x ∷ ks) k = hold_push (hold_after n x) ks k
 
--- what one mark does to its seat's hold
+-- what one mark changes in its seat's hold
 hold_moves : (n : ℕ) (kind : FileKind) → hold_after n kind + gives n kind ≤ n + take_amount kind
 hold_moves n kind = grind (arith, common_steps, hold_after, gives, take_amount)
 

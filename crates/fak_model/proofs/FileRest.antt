@@ -1,4 +1,4 @@
--- A file table at rest.
+-- A file table without open calls.
 use Rattle.fak_model.proofs.Common.{ints, All-pop, FileKind, FileMark, seat_words, IsAtRest, AreNamed, sum_below, ◌≡◌, ◌≢◌, ◌⊎◌, ℕ, ◌+◌, ◌<◌, List, [], ◌∷◌, ◌++◌, Some, refl, ap, sym, ◌∙◌, arith, inl, inr, map, pos, sum_by, common_steps}
 use Rattle.fak_model.specs.declared.file.FileKind.TheVariants.{Take, Over, Back, No, Set, Give}
 use Rattle.fak_model.specs.File.{Setting, set_mark, WholeCall, Refused, Withdrawn, Held, kinds_of_call, kind_of, take_amount, over_amount, back_amount, total, hold_after, hold_from, amount_held, gives, amount_given, count, file_rules, IsFileHistory}
@@ -7,7 +7,7 @@ use Rattle.fak_model.proofs.Leading.{total_push, sum_one, sum_none, rest_even}
 use Rattle.fak_model.proofs.Places.{Runs, ends, CallsRun, may_come, rests}
 use Rattle.fak_model.proofs.FileLaw.{given_push, hold_push}
 
--- the place of each kind in a call, which after an Over has its amount
+-- the place of each kind in a call: 0 to begin, 2 during a hold, another one for the withdrawal of each amount
 abbrev pub needs : FileKind → ℕ
 needs (Back n) = n + 3
 needs (Set i f v) = 2
@@ -29,7 +29,7 @@ calls_run (Refused n) = ((refl, tt), refl)
 calls_run (Withdrawn n) = ((refl, (refl, tt)), refl)
 calls_run (Held n sets) = let r = sets_run sets in ((refl, r.0), r.1)
 
--- who is in no hold holds nothing
+-- a seat that is in no hold holds nothing
 holds_at : (n p : ℕ) (ws : List FileKind) → Runs needs leads p ws → (p ≡ 2) ⊎ (n ≡ 0) → (ends leads p ws ≡ 2) ⊎ (hold_from n ws ≡ 0)
 holds_at n p [] r e = e
 holds_at n p (Take a ∷ ws) r e = holds_at a 2 ws r.1 (inl refl)
@@ -42,11 +42,11 @@ holds_at n p (No a ∷ ws) r e = holds_at n 0 ws r.1 (elim e [ inl t ↦ absurd 
 no_hold : (ws : List FileKind) → Runs needs leads 0 ws → ends leads 0 ws ≡ 0 → hold_from 0 ws ≡ 0
 no_hold ws r e = elim (holds_at 0 0 ws r (inr refl)) [ inl t ↦ absurd (omega (arith, t, e)) | inr z ↦ z ]
 
--- what one mark does to its seat's hold, where a Take finds none
+-- what one mark changes in its seat's hold, if a Take finds none
 hold_moves : (n : ℕ) (kind : FileKind) → (needs kind ≡ 0 → n ≡ 0) → hold_after n kind + gives n kind ≡ n + take_amount kind
 hold_moves n kind e = grind (arith, common_steps, hold_after, gives, take_amount)
 
--- what all seats hold and what was given back was taken
+-- what all seats hold plus what was given back is what was taken
 pub holds_total : (k seats : ℕ) (h : List FileMark) → IsFileHistory k h → AreNamed (file_rules k) seats h → sum_below (λ s. amount_held s h) seats + amount_given h ≡ total take_amount h
 holds_total k seats =
     let Named : FileMark → Type 0 = λ (m : FileMark). m.seat < seats in
@@ -70,7 +70,7 @@ sets_even (s ∷ sets) = omega (arith, sets_even sets)
 call_even : (c : WholeCall) → sum_by over_amount (kinds_of_call c) ≡ sum_by back_amount (kinds_of_call c)
 call_even c = grind (arith, common_steps, sum_by, over_amount, kinds_of_call, back_amount, sets_even)
 
--- where no call is cut short the count is K
+-- if no call is cut short, the count is k
 pub files_rest : (k seats : ℕ) (h : List FileMark) → IsFileHistory k h → AreNamed (file_rules k) seats h → IsAtRest (file_rules k) h → count k h ≡ pos k
 files_rest k seats h law named rest =
     let sum = holds_total k seats h law named in

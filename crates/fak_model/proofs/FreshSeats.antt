@@ -1,4 +1,4 @@
--- Seats as an opening deals them.
+-- The seats that an opening hands out, one by one.
 use Rattle.fak_model.proofs.Common.{◌≡◌, ℕ, zero, suc, ◌+◌, ◌-◌, ◌<◌, List, ◌∷◌, [], length, refl, ap, sym, ◌∙◌, arith, ObjectId, SeatInfo, seat_info, fresh_seats}
 
 pub length-fresh_seats : (M : Type 0) (object : ObjectId) (stint name n : ℕ) → length (fresh_seats {M = M} object stint name n) ≡ n

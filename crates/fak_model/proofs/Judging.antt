@@ -1,4 +1,5 @@
--- Whether a list of marks is a history, by a test of each mark: for grammars in which each word has one place in a call.
+-- Whether a list of marks is a history, by a test of each mark. This is for grammars in which each word has one place
+-- in a call.
 use Rattle.fak_model.proofs.Common.{Decides-eqb, Decides-ltb, Decides-like, Decides-and, Rules, seat_words, AreCalls, IsHistory, ◌≡◌, ℕ, ◌+◌, ◌≤◌, ltb, ◌==◌, Bool, true, List, [], ◌∷◌, ◌++◌, Decides, refl, sym, subst, arith, append_assoc, ◌&&◌, append-nil, common_steps}
 use Rattle.fak_model.proofs.Appending.{seat_words-own, seat_words-other, history_none, history_push, history_prefix, last_calls, last_fair}
 use Rattle.fak_model.proofs.Deciding.{same_or_not}
@@ -7,7 +8,8 @@ use Rattle.fak_model.proofs.Places.{ends, ends_push, CallsRun, may_come}
 pub le_decided : (a b : ℕ) → Decides (ltb a (b + 1)) (a ≤ b)
 le_decided a b = Decides-like (ltb a (b + 1)) (λ l. omega (arith, l)) (λ l. omega (arith, l)) (Decides-ltb a (b + 1))
 
--- where words stand: at the place that they lead to, from which a call goes on by each word that needs it
+-- the place after each word, and the place that each word needs; a word continues a call exactly if the call is at that
+-- place
 pub record Grammar {W C : Type 0} (words_of : C → List W) : Type 1 where
   pub needs : W → ℕ
   pub leads : W → ℕ
@@ -18,7 +20,7 @@ pub record Grammar {W C : Type 0} (words_of : C → List W) : Type 1 where
   pub are_calls : (p : ℕ) (ws : List W) → Stands p ws → AreCalls words_of ws
 
 module _ {M W C : Type 0} (rules : Rules M W C) (g : Grammar rules.words_of) (is_fair : List M → M → Bool) (fair : (before : List M) (m : M) → Decides (is_fair before m) (rules.IsFair before m)) where
-  -- the mark stands at its place, and is fair
+  -- whether the mark is at its place and fair
   abbrev pub may_stand : List M → M → Bool
   may_stand before m = (g.needs (rules.word_of m) == ends g.leads 0 (seat_words rules (rules.seat_of m) before)) && is_fair before m
 
@@ -32,7 +34,7 @@ module _ {M W C : Type 0} (rules : Rules M W C) (g : Grammar rules.words_of) (is
   stand_decided : (before : List M) (m : M) → Decides (may_stand before m) (MayStand before m)
   stand_decided before m = Decides-and _ _ (Decides-eqb (g.needs (rules.word_of m)) (ends g.leads 0 (seat_words rules (rules.seat_of m) before))) (fair before m)
 
-  -- a history, and where each seat stands in it
+  -- a history, and the place of each seat in it
   record Judged (h : List M) : Type 0 where
     pub lawful : IsHistory rules h
     pub stands : (seat : ℕ) → g.Stands (ends g.leads 0 (seat_words rules seat h)) (seat_words rules seat h)

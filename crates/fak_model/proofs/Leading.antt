@@ -1,9 +1,9 @@
--- What each call does first stays ahead in the marks of a seat, and of all seats.
+-- What each call does first stays ahead in the marks of a seat, and so in those of all seats.
 use Rattle.fak_model.proofs.Common.{nat_tests, sum_by-cons, sum_by_push, sum_by-append, All-head, All-tail, Rules, seat_words, Owes, AreCalls, IsHistory, IsAtRest, AreNamed, sum_below, sym, ◌≡◌, ◌≢◌, ℕ, zero, suc, ◌+◌, ◌*◌, ◌<◌, ◌≤◌, ◌==◌, Bool, true, false, cond, List, [], ◌∷◌, ◌++◌, refl, ap, ◌∙◌, subst, arith, inl, inr, map, sum_by, flat_map, common_steps}
 use Rattle.std.proofs.lemmas.List.{append-nil, map_push}
 use Rattle.fak_model.proofs.Deciding.{same_or_not}
 
--- after a and b, g stays ahead of f all along the list
+-- after a and b, g stays ahead of f throughout the list
 abbrev pub Leads : {K : Type 0} → (K → ℕ) → (K → ℕ) → ℕ → ℕ → List K → Type 0
 Leads f g a b [] = a ≤ b
 Leads f g a b (x ∷ xs) = (a ≤ b) × Leads f g (a + f x) (b + g x) xs
@@ -52,7 +52,7 @@ pub sum_none : (f : ℕ → ℕ) (n : ℕ) → ((k : ℕ) → f k ≡ 0) → sum
 sum_none f zero h = refl
 sum_none f (suc n) h = omega (arith, sum_none f n h, h n)
 
--- two functions that differ at one seat
+-- sums of two functions that differ at one seat
 pub sum_one : (f g : ℕ → ℕ) (t n : ℕ) → t < n → ((k : ℕ) → k ≢ t → g k ≡ f k) → sum_below g n + f t ≡ sum_below f n + g t
 sum_one f g t zero l e = absurd (omega arith)
 sum_one f g t (suc n) l e = elim (same_or_not n t) [
@@ -64,7 +64,7 @@ pub sum_plus : (f g : ℕ → ℕ) (n : ℕ) → sum_below (λ k. f k + g k) n �
 sum_plus f g zero = refl
 sum_plus f g (suc n) = omega (arith, sum_plus f g n)
 
--- a bound for each seat bounds every seat
+-- a bound for each seat, times the number of seats, bounds the sum
 pub sum_most : (f : ℕ → ℕ) (most n : ℕ) → ((k : ℕ) → k < n → f k ≤ most) → sum_below f n ≤ n * most
 sum_most f most zero h = omega arith
 sum_most f most (suc n) h =
@@ -72,7 +72,7 @@ sum_most f most (suc n) h =
     let here : f n ≤ most = h n (omega arith) in
     grind (arith, rest, here)
 
--- one seat's part of a sum
+-- one seat's part is at most the sum
 pub sum_term : (f : ℕ → ℕ) (t n : ℕ) → t < n → f t ≤ sum_below f n
 sum_term f t zero l = absurd (omega arith)
 sum_term f t (suc n) l = elim (same_or_not n t) [
@@ -84,7 +84,7 @@ said_first : {M W C : Type 0} (rules : Rules M W C) (f : W → ℕ) (m : M) (h :
     → sum_by f (seat_words rules k (m ∷ h)) ≡ cond b (f (rules.word_of m)) 0 + sum_by f (seat_words rules k h)
 said_first rules f m h k b is = grind (arith, common_steps, sum_by, seat_words, sum_by-cons)
 
--- the seats' own marks are all marks
+-- the sum over the seats' own marks is the sum over all marks
 pub sum_parts : {M W C : Type 0} (rules : Rules M W C) (f : W → ℕ) (n : ℕ) (h : List M) → AreNamed rules n h → sum_below (λ k. sum_by f (seat_words rules k h)) n ≡ sum_by f (map rules.word_of h)
 sum_parts rules f n [] named = sum_none (λ k. sum_by f (seat_words rules k [])) n (λ k. refl)
 sum_parts {M} rules f n (m ∷ h) named =
@@ -104,7 +104,7 @@ history_leads rules f g each seats h law named =
 pub total_push : {M W : Type 0} (word_of : M → W) (f : W → ℕ) (h : List M) (m : M) → sum_by f (map word_of (h ++ m ∷ [])) ≡ sum_by f (map word_of h) + f (word_of m)
 total_push word_of f h m = ap (sum_by f) (map_push word_of h m) ∙ sum_by_push f (map word_of h) (word_of m)
 
--- where each call is even, so are whole calls
+-- if f and g weigh each call equally, they weigh whole calls equally
 pub calls_even : {W C : Type 0} (words_of : C → List W) (f g : W → ℕ) → ((c : C) → sum_by f (words_of c) ≡ sum_by g (words_of c)) → (calls : List C) → sum_by f (flat_map words_of calls) ≡ sum_by g (flat_map words_of calls)
 calls_even words_of f g each [] = refl
 calls_even words_of f g each (c ∷ cs) = omega (arith, each c, calls_even words_of f g each cs, sum_by-append f (words_of c) (flat_map words_of cs), sum_by-append g (words_of c) (flat_map words_of cs))
@@ -113,7 +113,7 @@ pub owes_even : {W C : Type 0} (words_of : C → List W) (f g : W → ℕ) → (
 owes_even words_of f g each ws owed o =
     sym (sum_by-append f ws owed) ∙ (ap (sum_by f) o.1 ∙ (calls_even words_of f g each o.0 ∙ (sym (ap (sum_by g) o.1) ∙ sum_by-append g ws owed)))
 
--- at rest the marks of all seats are even
+-- if f and g weigh each call equally and no call is open, they weigh all marks equally
 pub rest_even : {M W C : Type 0} (rules : Rules M W C) (f g : W → ℕ) → ((c : C) → sum_by f (rules.words_of c) ≡ sum_by g (rules.words_of c)) → (seats : ℕ) (h : List M) → IsAtRest rules h → AreNamed rules seats h → sum_by f (map rules.word_of h) ≡ sum_by g (map rules.word_of h)
 rest_even rules f g each seats h rest named =
     sym (sum_parts rules f seats h named)

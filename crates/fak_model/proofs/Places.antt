@@ -6,7 +6,7 @@ abbrev pub ends : {W : Type 0} → (W → ℕ) → ℕ → List W → ℕ
 ends leads p [] = p
 ends leads p (w ∷ ws) = ends leads (leads w) ws
 
--- each word stands at the place that it needs
+-- each word is at the place that it needs
 abbrev pub Runs : {W : Type 0} → (W → ℕ) → (W → ℕ) → ℕ → List W → Type 0
 Runs needs leads p [] = Unit {0}
 Runs needs leads p (w ∷ ws) = (needs w ≡ p) × Runs needs leads (leads w) ws
@@ -27,7 +27,7 @@ runs_parts : {W : Type 0} (needs leads : W → ℕ) (p : ℕ) (a b : List W) →
 runs_parts needs leads p [] b r = (tt, r)
 runs_parts needs leads p (w ∷ a) b r = let t = runs_parts needs leads (leads w) a b r.1 in ((r.0, t.0), t.1)
 
--- each call runs from rest to rest
+-- each call leads from place 0 back to place 0
 abbrev pub CallsRun : {W C : Type 0} → (W → ℕ) → (W → ℕ) → (C → List W) → Type 0
 CallsRun {W} {C} needs leads words_of = (c : C) → Runs needs leads 0 (words_of c) × (ends leads 0 (words_of c) ≡ 0)
 
@@ -39,13 +39,13 @@ calls_run needs leads words_of each (c ∷ cs) =
       ends_append leads 0 (words_of c) (flat_map words_of cs) ∙ (ap (λ p. ends leads p (flat_map words_of cs)) (each c).1 ∙ rest.1),
     )
 
--- a word that may come stands at its place
+-- a word that may come next is at its place
 pub may_come : {W C : Type 0} (needs leads : W → ℕ) (words_of : C → List W) → CallsRun needs leads words_of → (ws : List W) (w : W) → AreCalls words_of (ws ++ w ∷ []) → Runs needs leads 0 ws × (needs w ≡ ends leads 0 ws)
 may_come needs leads words_of each ws w c =
     let r = runs_parts needs leads 0 ws (w ∷ c.0) (subst (Runs needs leads 0) (sym c.1.1 ∙ append_assoc ws (w ∷ []) c.0) (calls_run needs leads words_of each c.1.0).0) in
     (r.0, r.1.0)
 
--- whole calls end at rest
+-- after whole calls the place is 0
 pub rests : {W C : Type 0} (needs leads : W → ℕ) (words_of : C → List W) → CallsRun needs leads words_of → (ws : List W) → Owes words_of ws [] → Runs needs leads 0 ws × (ends leads 0 ws ≡ 0)
 rests needs leads words_of each ws o =
     let all = calls_run needs leads words_of each o.0 in

@@ -1,4 +1,4 @@
--- A history and its past: counts, marks and items are the same from either end.
+-- A history and its past, which is the same list reversed: both have the same counts, marks and items.
 use Rattle.std.proofs.lemmas.List.{append-nil, reverse-reverse}
 use Rattle.fak_model.proofs.Common.{All-cons, All-head, All-tail, flat_map-append, Kind, Mark, count, puts, Has, Idle, items_put, item_in, item_at, Drew, ◌≡◌, ◌≢◌, ◌⊎◌, ℕ, zero, suc, ◌+◌, List, [], ◌∷◌, ◌++◌, length, length-append, reverse, Option, Some, refl, ap, sym, ◌∙◌, subst, arith, rules, inl, inr, All, after, stage, item_put, item_of, common_steps}
 use Rattle.fak_model.proofs.Appending.{snoc_ind}
@@ -103,7 +103,7 @@ drew {A} h s l κ w k is number = record {
   number = number ∙ sym (count_reverse w l.older);
 }
 
--- the stage after a draw that is the seat's last mark
+-- the stage after a draw that is the last mark of the seat
 pub stage_drew : {A : Type 0} (h : List (Mark A)) (s : ℕ) (κ : Kind A) (w : Kind A → ℕ) (k : ℕ) (d : Drew h s κ w k) → (stage (reverse h) s ≡ after (reverse d.earlier) κ) × (k ≡ count w (reverse d.earlier))
 stage_drew {A} h s κ w k d = (
   ap (λ t. stage (reverse t) s) (sym d.stands)

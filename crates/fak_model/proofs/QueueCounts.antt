@@ -1,10 +1,10 @@
--- What the marks of a legal past add up to, seat by seat.
+-- Sums over the marks of a legal past, by seat.
 use Rattle.fak_model.proofs.Common.{Kind, ClaimIn, OverIn, BackIn, EndIn, ClaimOut, OverOut, BackOut, EndOut, LateIn, Mark, count, puts, gots, upper_raise, upper_drop, lower_raise, lower_drop, Stage, ◌≡◌, ◌≢◌, ◌⊎◌, ℕ, zero, suc, ◌+◌, ◌<◌, ◌≤◌, List, [], ◌∷◌, length, refl, ap, ◌∙◌, inl, inr, arith, Idle, Withdrawing, Claimed, Putting, Filled, WithdrawingOut, ClaimedOut, Getting, Taken, common_steps}
 use Rattle.fak_model.specs.QueuePast.{UpperBelow, LowerPositive, after, stage, IsNext, IsFair, IsLegalPast, HasNoOpenCall, SeatsBelow}
 use Rattle.fak_model.proofs.Deciding.{same_or_not}
 use Rattle.fak_model.proofs.QueueStages.{stage_here, stage_else}
 
--- the sum over the first n seats
+-- the sum over the stages of the first n seats
 abbrev pub tally : {A : Type 0} → (Stage A → ℕ) → (ℕ → Stage A) → ℕ → ℕ
 tally w f zero = 0
 tally w f (suc n) = w (f n) + tally w f n
@@ -47,7 +47,7 @@ pub seats_bounded : {A : Type 0} (h : List (Mark A)) → SeatsBelow (seat_bound 
 seats_bounded [] = tt
 seats_bounded (m ∷ h) = (omega arith, seats_more (seat_bound h) (suc m.seat + seat_bound h) h (omega arith) (seats_bounded h))
 
--- what the marks that a counts open and those that b counts close is w of what stands open
+-- if a counts the marks that open something and b those that close it, w of the open calls is their difference
 pub conserve : {A : Type 0} (size : ℕ) (a b : Kind A → ℕ) (w : Stage A → ℕ) → w Idle ≡ 0
     → ((h : List (Mark A)) (s : ℕ) (κ : Kind A) → IsNext (stage h s) κ → a κ + w (stage h s) ≡ b κ + w (after h κ))
     → (n : ℕ) (h : List (Mark A)) → IsLegalPast size h → SeatsBelow n h → count a h ≡ count b h + tally w (stage h) n
@@ -59,7 +59,7 @@ conserve size a b w z each n (m ∷ h) l below =
     let now = ap w (stage_here m h) in
     omega arith
 
--- ---- the six ways in which a call stands open
+-- ---- the six ways in which a call is open
 
 abbrev pub an_over_in : {A : Type 0} → Kind A → ℕ
 an_over_in OverIn = 1
@@ -180,7 +180,7 @@ claim_in_fair size h κ f = grind (arith, common_steps, IsFair)
 claim_out_fair : {A : Type 0} (size : ℕ) (h : List (Mark A)) (κ : Kind A) → IsFair size h κ → (a_claim_out κ ≡ 0) ⊎ ((a_claim_out κ ≡ 1) × LowerPositive h)
 claim_out_fair size h κ f = grind (arith, common_steps, IsFair)
 
--- claims less ended deletions never exceed the size
+-- claims of insertions, minus ended deletions, never exceed the size
 pub claims_in_bounded : {A : Type 0} (size : ℕ) (h : List (Mark A)) → IsLegalPast size h → count a_claim_in h ≤ size + count an_end_out h
 claims_in_bounded size [] l = omega arith
 claims_in_bounded size (m ∷ h) l =
@@ -192,7 +192,7 @@ claims_in_bounded size (m ∷ h) l =
           let d = count_two upper_drop a_back_in an_end_out upper_drop_two h in omega arith)
     ]
 
--- a deletion claims only where an insertion has ended
+-- claims of deletions never exceed the ended insertions
 pub claims_out_bounded : {A : Type 0} (size : ℕ) (h : List (Mark A)) → IsLegalPast size h → count a_claim_out h ≤ count an_end_in h
 claims_out_bounded size [] l = omega arith
 claims_out_bounded size (m ∷ h) l =
@@ -204,7 +204,7 @@ claims_out_bounded size (m ∷ h) l =
           let d = count_two lower_drop a_claim_out an_over_out lower_drop_two h in omega arith)
     ]
 
--- a seat that has claimed a deletion and drawn no ticket finds an item that nobody has got
+-- if a seat has a granted deletion without a ticket, there is an item that nobody has got
 pub claimed_out_left : {A : Type 0} (size : ℕ) (h : List (Mark A)) → IsLegalPast size h → (s : ℕ) → stage h s ≡ ClaimedOut → count gots h < count puts h
 claimed_out_left size h l s e =
     let below = seats_more (seat_bound h) (suc s + seat_bound h) h (omega arith) (seats_bounded h) in
@@ -214,7 +214,7 @@ claimed_out_left size h l s e =
     let d = tally_at in_claim_out (stage h) s (suc s + seat_bound h) (omega arith) in
     let e1 = ap in_claim_out e in omega arith
 
--- what was got was put, and no more was put than there is room for
+-- no more was got than was put, and no more is left than the size
 pub contents_bounded : {A : Type 0} (size : ℕ) (h : List (Mark A)) → IsLegalPast size h → (count gots h ≤ count puts h) × (count puts h ≤ count gots h + size)
 contents_bounded size h l =
     let below = seats_bounded h in
@@ -228,7 +228,7 @@ contents_bounded size h l =
 tally_whole : {A : Type 0} (w : Stage A → ℕ) (h : List (Mark A)) (n : ℕ) → w Idle ≡ 0 → HasNoOpenCall h → tally w (stage h) n ≡ 0
 tally_whole w h n z e = tally_none w (stage h) n (λ s. ap w (e s) ∙ z)
 
--- where no call is cut short both counts are the number of items held
+-- if no call is cut short, both counts are the number of items held
 pub whole_counts : {A : Type 0} (size : ℕ) (h : List (Mark A)) → IsLegalPast size h → HasNoOpenCall h
     → (count upper_raise h + count gots h ≡ count upper_drop h + count puts h) × (count lower_raise h + count gots h ≡ count lower_drop h + count puts h)
 whole_counts size h l e =
@@ -244,7 +244,7 @@ whole_counts size h l e =
     let lr = count_two lower_raise an_end_in a_back_out lower_raise_two h in
     let ld = count_two lower_drop a_claim_out an_over_out lower_drop_two h in (omega arith, omega arith)
 
--- ---- how far the counts go
+-- ---- the ranges of the counts
 
 pub tally_most : {A : Type 0} (w : Stage A → ℕ) (f : ℕ → Stage A) (n : ℕ) → ((t : Stage A) → w t ≤ 1) → tally w f n ≤ n
 tally_most w f zero e = omega arith
@@ -256,7 +256,7 @@ over_in_one t = grind (arith, common_steps)
 over_out_one : {A : Type 0} (t : Stage A) → in_over_out t ≤ 1
 over_out_one t = grind (arith, common_steps)
 
--- with n seats the upper count is at least 0 and at most size + n, the lower count at least -n and at most size
+-- with n seats the upper count is 0 to size + n, and the lower count is -n to size
 pub upper_range : {A : Type 0} (size n : ℕ) (h : List (Mark A)) → IsLegalPast size h → SeatsBelow n h → (count upper_drop h ≤ count upper_raise h) × (count upper_raise h ≤ count upper_drop h + size + n)
 upper_range size n h l below =
     let a = open_claim_in size n h l below in let b = open_put size n h l below in

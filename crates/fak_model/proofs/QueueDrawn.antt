@@ -1,4 +1,4 @@
--- Tickets that were drawn: each is done with its cell, or some seat holds it; and no more seats hold one than there are cells.
+-- Each drawn ticket is done with its cell, or some seat holds it; at most as many seats hold one as there are cells.
 use Rattle.fak_model.proofs.Common.{Kind, Put, Got, Fill, Take, Mark, count, puts, gots, Has, Stage, Idle, Putting, Getting, ◌≡◌, ◌⊎◌, ℕ, zero, suc, ◌+◌, ◌<◌, ◌≤◌, List, [], ◌∷◌, refl, sym, ap, ◌∙◌, subst, inl, inr, arith, stage, after, IsNext, IsLegalPast, sum_below, common_steps}
 use Rattle.fak_model.proofs.Deciding.{same_or_not}
 use Rattle.fak_model.proofs.Leading.{sum_plus}
@@ -14,7 +14,7 @@ next_fill k x κ n = grind (arith, common_steps, IsNext)
 is_put : {A : Type 0} (κ : Kind A) → 1 ≤ puts κ → (x : A) × (κ ≡ Put x)
 is_put κ b = grind (arith, common_steps, puts)
 
--- an insertion that drew its ticket has filled its cell, or is about to
+-- the cell of a drawn ticket was filled for it, or some seat is about to fill it
 pub filled_or_putting : {A : Type 0} (size : ℕ) (h : List (Mark A)) → IsLegalPast size h → (k : ℕ) → k < count puts h → Has (Fill k) h ⊎ ((s : ℕ) × (x : A) × (stage h s ≡ Putting k x))
 filled_or_putting size [] l k b = absurd (omega arith)
 filled_or_putting {A} size (m ∷ h) l k b = elim (same_or_not k (count puts h)) [
@@ -40,7 +40,7 @@ is_got κ b = grind (arith, common_steps, gots)
 a_got_bit : {A : Type 0} (κ : Kind A) → gots κ ≤ 1
 a_got_bit κ = grind (arith, common_steps, gots)
 
--- a deletion that drew its ticket has taken from its cell, or is about to
+-- the item of a drawn ticket was taken from its cell, or some seat is about to take it
 pub taken_or_getting : {A : Type 0} (size : ℕ) (h : List (Mark A)) → IsLegalPast size h → (k : ℕ) → k < count gots h → Has (Take k) h ⊎ ((s : ℕ) × (stage h s ≡ Getting k))
 taken_or_getting size [] l k b = absurd (omega arith)
 taken_or_getting {A} size (m ∷ h) l k b = elim (same_or_not k (count gots h)) [
@@ -57,7 +57,7 @@ taken_or_getting {A} size (m ∷ h) l k b = elim (same_or_not k (count gots h)) 
 
 -- ---- how many seats hold a ticket
 
--- the seat stands between the draw of its ticket and the end of its call
+-- 1 if the seat has drawn its ticket and not ended its call, else 0
 abbrev pub in_drawn : {A : Type 0} → Stage A → ℕ
 in_drawn t = in_put t + in_got t
 
@@ -69,7 +69,7 @@ tally_is_sum : {A : Type 0} (w : Stage A → ℕ) (f : ℕ → Stage A) (n : ℕ
 tally_is_sum w f zero = refl
 tally_is_sum w f (suc n) = omega (arith, tally_is_sum w f n)
 
--- no more seats than the queue has cells
+-- at most as many seats hold a ticket as the queue has cells
 pub drawn_few : {A : Type 0} (size : ℕ) (h : List (Mark A)) → IsLegalPast size h → sum_below (λ s. in_drawn (stage h s)) (seat_bound h) ≤ size
 drawn_few size h l =
     let n = seat_bound h in

@@ -1,11 +1,11 @@
--- Whether a list of marks of a queue of numbers is legal, by the machine of pasts.
+-- Whether a list of marks of a queue of numbers is legal, by the definition on pasts.
 use Rattle.fak_model.proofs.Common.{cases_lt, Kind, ClaimIn, OverIn, BackIn, NoRoom, Put, Fill, EndIn, ClaimOut, OverOut, BackOut, NoItem, Got, Take, EndOut, Close, Closed, LateIn, Mark, Stage, Putting, Getting, count, gots, upper_raise, upper_drop, lower_raise, lower_drop, Has, IsQueueHistory, ◌≡◌, ◌⊎◌, ℕ, ◌+◌, ◌-◌, ◌<◌, ltb, ◌==◌, Bool, true, false, not, List, [], ◌∷◌, reverse, Option, Some, None, Decides, refl, arith, inl, inr, ◌&&◌, ◌||◌, Decides-ltb, Decides-like, Decides-not, Decides-and, Decides-or, common_steps}
 use Rattle.fak_model.specs.QueuePast.{UpperAtLeast, LowerNotPositive, stage, item_of, IsNext, IsFair, IsOldest, HasCell, MayFollow, IsLegalPast}
 use Rattle.fak_model.proofs.QueueWords.{place, at_idle, at_over_in, at_claimed_in, at_filled, at_over_out, at_claimed_out, at_taken}
 use Rattle.fak_model.proofs.QueueLiteral.{to_past, to_literal}
 use Rattle.fak_model.proofs.Judging.{le_decided}
 
--- ---- marks that stand in a past
+-- ---- marks of a past
 
 abbrev pub has : (Kind ℕ → Bool) → List (Mark ℕ) → Bool
 has test [] = false
@@ -36,7 +36,7 @@ is_take k _ = false
 take_decided : (k : ℕ) (x : Kind ℕ) → Decides (is_take k x) (x ≡ Take k)
 take_decided k x = grind (arith, common_steps)
 
--- ---- the stage before
+-- ---- the stage before a mark
 
 abbrev is_putting : ℕ → Stage ℕ → Bool
 is_putting k (Putting j x) = j == k
@@ -66,7 +66,7 @@ is_next t _ = 0 == place t
 next_decided : (t : Stage ℕ) (κ : Kind ℕ) → Decides (is_next t κ) (IsNext t κ)
 next_decided t κ = grind (arith, common_steps, IsNext, place, at_over_in, at_claimed_in, putting_decided, at_filled, at_over_out, at_claimed_out, getting_decided, at_taken, at_idle)
 
--- ---- answers
+-- ---- outcomes
 
 abbrev is_full : ℕ → List (Mark ℕ) → Bool
 is_full size h = ltb (size + count upper_drop h) (count upper_raise h + 1)

@@ -1,4 +1,4 @@
--- The laws of legal histories, over the literal definition.
+-- The laws of legal histories, from the literal definition.
 use Rattle.fak_model.proofs.Common.{ints, reverse-reverse, Kind, Fill, ClaimOut, Got, Take, Mark, seat_words, IsAtRest, count, puts, gots, upper_raise, upper_drop, lower_raise, lower_drop, Has, ClaimedOut, upper_count, lower_count, items_put, contents, words_of_call, queue_rules, IsQueueHistory, ◌≡◌, ◌≢◌, ◌⊎◌, ℕ, ◌<◌, ◌≤◌, List, [], ◌∷◌, ◌++◌, length, length-drop, reverse, refl, ap, sym, ◌∙◌, subst, arith, inl, inr, append_assoc, pos, All, after, stage, MayFollow, IsLegalPast, HasNoOpenCall, common_steps}
 use Rattle.fak_model.specs.QueueOrder.{Deletion, KeepsCallOrder}
 use Rattle.fak_model.proofs.Appending.{history_prefix}
@@ -70,7 +70,7 @@ the_got {T} (m ∷ h) i l = elim (below_or_not i (count gots h)) [
 after_claimed_out : {T : Type 0} (h : List (Mark T)) (κ : Kind T) → after h κ ≡ ClaimedOut → κ ≡ ClaimOut
 after_claimed_out h κ e = grind (arith, common_steps, after)
 
--- whose item was got, its deletion has started
+-- if the item of a ticket was got, its deletion has started
 deletion_of : {T : Type 0} (size : ℕ) (h : List (Mark T)) (i : ℕ) → IsLegalPast size (reverse h) → i < count gots (reverse h) → Deletion h i
 deletion_of {T} size h i l b =
     let g = the_got (reverse h) i b in

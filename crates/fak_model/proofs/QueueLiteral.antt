@@ -1,4 +1,4 @@
--- The literal definition of a legal history and the one by stages are one.
+-- The literal definition of a legal history is equivalent to the definition by stages.
 use Rattle.fak_model.proofs.Common.{Kind, BackIn, Put, Fill, EndIn, BackOut, Got, Take, EndOut, Mark, seat_words, Owes, count, puts, gots, upper_raise, upper_drop, lower_raise, lower_drop, Putting, Getting, ◌≡◌, ℕ, List, [], ◌∷◌, ◌++◌, reverse, refl, ap, sym, ◌∙◌, subst, arith, inl, inr, word, words_of_call, IsFairAnswer, IsFirstOut, items_put, item_at, Drew, BearsTicket, HasItsCell, IsFairMark, queue_rules, IsQueueHistory, common_steps}
 use Rattle.fak_model.specs.QueuePast.{after, stage, item_of, IsNext, IsFair, IsOldest, HasCell, MayFollow, IsLegalPast}
 use Rattle.fak_model.proofs.Appending.{snoc_ind, seat_words-own, seat_words-other, history_none, history_push, history_front, last_calls, last_fair}
@@ -9,9 +9,9 @@ use Rattle.fak_model.proofs.QueueWords.{needs, leads, call_runs, place, place_af
 use Rattle.fak_model.proofs.Reversing.{reverse_push}
 use Rattle.fak_model.proofs.QueueBackwards.{count_reverse, has_reverse, has_back, item_same, last_of, drew, stage_drew}
 
--- ---- what one more mark must meet, either way
+-- ---- what one more mark must meet, by either definition
 
--- a seat stands where its words end
+-- the place of a seat's stage is the place where its words end
 pub place_of : {T : Type 0} (size s : ℕ) (h : List (Mark T)) → place (stage (reverse h) s) ≡ ends leads 0 (seat_words (queue_rules size) s h)
 place_of {T} size s = snoc_ind (λ (h : List (Mark T)). place (stage (reverse h) s) ≡ ends leads 0 (seat_words (queue_rules size) s h)) refl (λ h m before.
     ap (λ p. place (stage p s)) (reverse_push h m) ∙ elim (same_or_not s m.seat) [
@@ -63,7 +63,7 @@ its_cell_of size h (Fill k) f = λ j e. has_back (Take j) h (f j e)
 its_cell_of size h (Take k) f = has_back (Fill k) h f
 its_cell_of size h _ f = tt
 
--- ---- one more mark, and so all
+-- ---- from one more mark to whole histories
 
 pub follows : {T : Type 0} (size : ℕ) (h : List (Mark T)) (m : Mark T) → IsQueueHistory size (h ++ m ∷ []) → MayFollow size (reverse h) m.seat m.kind
 follows size h m law =
@@ -80,7 +80,7 @@ follows size h m law =
 pub fair_mark : {T : Type 0} (size : ℕ) (h : List (Mark T)) (m : Mark T) → MayFollow size (reverse h) m.seat m.kind → IsFairMark size h m
 fair_mark size h m f = grind (arith, common_steps, answer_of, first_of_items, ticket_of, its_cell_of)
 
--- what each seat owes is what its stage says
+-- what each seat owes, by its stage
 pub owes : {T : Type 0} (size s : ℕ) (h : List (Mark T)) → IsLegalPast size (reverse h) → Owes words_of_call (seat_words (queue_rules size) s h) (owed_in (stage (reverse h) s))
 owes {T} size s = snoc_ind (λ (h : List (Mark T)). IsLegalPast size (reverse h) → Owes words_of_call (seat_words (queue_rules size) s h) (owed_in (stage (reverse h) s))) (λ l. ([], refl)) (λ h m before l.
     let now : IsLegalPast size (m ∷ reverse h) = subst (IsLegalPast size) (reverse_push h m) l in

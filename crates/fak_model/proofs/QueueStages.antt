@@ -16,7 +16,7 @@ pub after_getting : {A : Type 0} (h : List (Mark A)) (κ : Kind A) (k : ℕ) →
 after_getting h (Got y) k e = ((y, refl), cc)
 after_getting h _ k e = absurd (cc)
 
--- who is putting after one more mark was putting before it, or has just drawn the newest ticket
+-- a seat that is putting after one more mark was putting before it, or has just drawn the newest ticket
 pub putting_back : {A : Type 0} (m : Mark A) (h : List (Mark A)) (s k : ℕ) (x : A) → stage (m ∷ h) s ≡ Putting k x
     → ((s ≡ m.seat) × (m.kind ≡ Put x) × (k ≡ count puts h)) ⊎ ((s ≢ m.seat) × (stage h s ≡ Putting k x))
 putting_back m h s k x e = go (same_or_not s m.seat)

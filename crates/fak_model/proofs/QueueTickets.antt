@@ -1,4 +1,4 @@
--- Each ticket has one inserter and one deleter, and its cell is filled and emptied by them alone.
+-- Each ticket has one inserter and one deleter, and only they fill and empty its cell.
 use Rattle.fak_model.proofs.Common.{Kind, Fill, Take, Mark, count, puts, gots, Has, Putting, Getting, ◌≡◌, ◌≢◌, ◌⊎◌, ℕ, ◌<◌, ◌≤◌, ◌==◌, cond, List, [], ◌∷◌, Option, Some, sym, ap, ◌∙◌, inl, inr, arith, stage, item_put, item_of, IsLegalPast, common_steps}
 use Rattle.fak_model.proofs.Deciding.{cond_here, cond_else, same_or_not}
 use Rattle.fak_model.proofs.QueueStages.{putting_back, getting_back}
@@ -8,7 +8,7 @@ use Rattle.fak_model.proofs.QueueStages.{putting_back, getting_back}
 pub item_keeps : {A : Type 0} (k n : ℕ) (κ : Kind A) (r : Option A) → k ≢ n → item_put k n κ r ≡ r
 item_keeps k n κ r ne = grind (arith, common_steps, item_put, cond_else)
 
--- at the newest ticket a draw gives an item, any other mark changes nothing
+-- for the newest ticket a draw gives an item, and any other mark changes nothing
 pub item_new : {A : Type 0} (k n : ℕ) (κ : Kind A) (r : Option A) → k ≡ n → ((puts κ ≡ 1) × ((x : A) × (item_put k n κ r ≡ Some x))) ⊎ ((puts κ ≡ 0) × (item_put k n κ r ≡ r))
 item_new k n κ r e = grind (arith, common_steps, puts, item_put, cond_here)
 
@@ -47,7 +47,7 @@ putting_below (m ∷ h) s k x e = elim (putting_back m h s k x e) [
   | inr w ↦ let f = putting_below h s k x w.1 in omega arith
 ]
 
--- the inserter's ticket bears its item
+-- the item of the inserter is that of its ticket
 pub putting_item : {A : Type 0} (h : List (Mark A)) (s k : ℕ) (x : A) → stage h s ≡ Putting k x → item_of h k ≡ Some x
 putting_item [] s k x e = absurd cc
 putting_item (m ∷ h) s k x e = elim (putting_back m h s k x e) [
@@ -56,7 +56,7 @@ putting_item (m ∷ h) s k x e = elim (putting_back m h s k x e) [
   | inr w ↦ item_stays m h k x (putting_item h s k x w.1)
 ]
 
--- no two seats insert under one ticket
+-- no two seats insert for one ticket
 pub putting_one : {A : Type 0} (h : List (Mark A)) (s t k : ℕ) (x y : A) → stage h s ≡ Putting k x → stage h t ≡ Putting k y → s ≡ t
 putting_one [] s t k x y e f = absurd cc
 putting_one (m ∷ h) s t k x y e f = elim (putting_back m h s k x e) [
@@ -75,7 +75,7 @@ fill_below size [] l k e = absurd e
 fill_below {A} size (m ∷ h) l k (inl e) = grind (arith, common_steps, putting_below)
 fill_below size (m ∷ h) l k (inr e) = let b = fill_below size h l.1 k e in omega arith
 
--- what a seat is to fill isn't filled
+-- a cell that a seat is about to fill for its ticket is not filled for it yet
 pub putting_unfilled : {A : Type 0} (size : ℕ) (h : List (Mark A)) → IsLegalPast size h → (s k : ℕ) (x : A) → stage h s ≡ Putting k x → Has (Fill k) h → ⊥
 putting_unfilled size [] l s k x e f = f
 putting_unfilled size (m ∷ h) l s k x e (inl q) = grind (arith, common_steps, putting_back, putting_one)

@@ -1,4 +1,4 @@
--- What the marks of a legal history of a queue weigh.
+-- The weights of the marks of a legal history of a queue.
 use Rattle.std.proofs.lemmas.List.{append-nil, take-append-le, take_more, nil_from_length}
 use Rattle.fak_model.proofs.Common.{cases_lt, Kind, Put, Fill, Got, Close, Mark, put_of, got_of, close_of, closed_of, ◌≡◌, ℕ, zero, suc, ◌+◌, ◌<◌, ◌≤◌, List, [], ◌∷◌, ◌++◌, length, get_or, take, length-drop, reverse, Some, refl, ap, sym, ◌∙◌, subst, arith, inl, inr, sum_by, sum_by-append, sum_by_push, sum_by-take-drop, queue_rules, IsQueueHistory, IsFairMark, IsFirstOut, count, puts, gots, items_put, item_in, item_at, contents, Has, Drew, BearsTicket, common_steps}
 use Rattle.fak_model.specs.QueuePast.{IsFair, IsLegalPast}
@@ -10,7 +10,7 @@ use Rattle.fak_model.proofs.QueueLaws.{contents_fit}
 count_push : {A : Type 0} (w : Kind A → ℕ) (h : List (Mark A)) (m : Mark A) → count w (h ++ m ∷ []) ≡ count w h + w m.kind
 count_push w h m = omega (arith, count_append w h (m ∷ []))
 
--- the items put weigh what the Puts weigh
+-- the items put weigh as much as the Puts
 item_weighs : {A : Type 0} (f : A → ℕ) (s : ℕ) (κ : Kind A) → sum_by f (item_in (record { seat = s; kind = κ })) ≡ put_of f κ
 item_weighs f s κ = grind (arith, common_steps, sum_by, item_in, put_of)
 
@@ -18,13 +18,13 @@ pub items_weigh : {A : Type 0} (f : A → ℕ) (h : List (Mark A)) → sum_by f 
 items_weigh {A} f = snoc_ind (λ (h : List (Mark A)). sum_by f (items_put h) ≡ count (put_of f) h) refl (λ h m before.
     ap (sum_by f) (items_push h m) ∙ omega (arith, sum_by-append f (items_put h) (item_in m), item_weighs f m.seat m.kind, before, count_push (put_of f) h m))
 
--- the item at a place
+-- an item at a place is within the list, and is what indexing gives
 at_place : {A : Type 0} (xs : List A) (n : ℕ) (x : A) → item_at xs n ≡ Some x → (n < length xs) × (get_or xs n x ≡ x)
 at_place [] n x at = absurd (cc)
 at_place (y ∷ ys) zero x at = (omega arith, cc)
 at_place (y ∷ ys) (suc n) x at = let rest = at_place ys n x at in (omega (arith, rest.0), rest.1)
 
--- the first items put, as many as there are Gots, weigh what the Gots weigh
+-- the first n items put, where n is the number of Gots, weigh as much as the Gots
 got_next : {A : Type 0} (f : A → ℕ) (h : List (Mark A)) (s : ℕ) (κ : Kind A) → IsFirstOut h κ → count gots h ≤ count puts h → sum_by f (take (count gots h) (items_put h)) ≡ count (got_of f) h
     → sum_by f (take (count gots h + gots κ) (items_put h ++ item_in (record { seat = s; kind = κ }))) ≡ count (got_of f) h + got_of f κ
 got_next f h s (Got x) first le before =
@@ -42,15 +42,15 @@ gots_weigh {A} size f = snoc_ind (λ (h : List (Mark A)). IsQueueHistory size h 
     let n : count gots (h ++ m ∷ []) ≡ count gots h + gots m.kind = count_push gots h m in
     ap (λ k. sum_by f (take k (items_put (h ++ m ∷ [])))) n ∙ (ap (λ l. sum_by f (take (count gots h + gots m.kind) l)) (items_push h m) ∙ (next ∙ sym (count_push (got_of f) h m))))
 
--- what was put was got, or is left
+-- what was put weighs as much as what was got plus what is left
 pub queue_weighs : {A : Type 0} (size : ℕ) (f : A → ℕ) (h : List (Mark A)) → IsQueueHistory size h → count (put_of f) h ≡ count (got_of f) h + sum_by f (contents h)
 queue_weighs size f h law = omega (arith, items_weigh f h, gots_weigh size f h law, sum_by-take-drop f (items_put h) (count gots h))
 
--- a queue that got as many as were put has nothing left
+-- if as many items were got as were put, nothing is left
 pub nothing_left : {A : Type 0} (h : List (Mark A)) → count puts h ≤ count gots h → contents h ≡ []
 nothing_left h le = nil_from_length (contents h) (omega (arith, length-drop (count gots h) (items_put h), items_count h))
 
--- an insertion that finds the queue shut stands after a shut
+-- an insertion that finds the queue shut comes after a close
 has_counts : {A : Type 0} (h : List (Mark A)) → Has Close h → 0 < count close_of h
 has_counts [] e = absurd e
 has_counts (m ∷ h) (inl e) = let one : close_of m.kind ≡ 1 = ap close_of e in omega arith

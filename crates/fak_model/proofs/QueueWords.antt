@@ -28,7 +28,7 @@ leads (Got x) = 7
 leads (Take k) = 8
 leads _ = 0
 
--- each call runs from rest to rest
+-- each call leads from place 0 back to place 0
 pub call_runs : CallsRun needs leads words_of_call
 call_runs NotIn = ((refl, tt), refl)
 call_runs WithdrawnIn = ((refl, (refl, tt)), refl)
@@ -40,7 +40,7 @@ call_runs Shut = ((refl, tt), refl)
 call_runs ClosedIn = ((refl, tt), refl)
 call_runs WithdrawnLate = ((refl, (refl, tt)), refl)
 
--- ---- the same of stages
+-- ---- the same for stages
 
 abbrev pub place : {A : Type 0} → Stage A → ℕ
 place Idle = 0
@@ -100,7 +100,7 @@ owed_in (Taken k) = EndOut ∷ []
 begins : (ws : List Word) (c : WholeCall) (w : Word) (owed : List Word) → words_of_call c ≡ w ∷ owed → Owes words_of_call ws [] → Owes words_of_call (ws ++ w ∷ []) owed
 begins ws c w owed is o = owed_comes words_of_call ws w owed (subst (Owes words_of_call ws) is (call_begins words_of_call ws c o))
 
--- the next step of a call takes away the first word owed, or begins a call
+-- the next mark of a call removes the first word owed, or begins a call
 pub owed_after : {A : Type 0} (h : List (Mark A)) (t : Stage A) (κ : Kind A) (ws : List Word) → IsNext t κ → Owes words_of_call ws (owed_in t) → Owes words_of_call (ws ++ word κ ∷ []) (owed_in (after h κ))
 owed_after h t NoRoom ws n o = begins ws NotIn NoRoom [] refl (subst (λ u. Owes words_of_call ws (owed_in u)) n o)
 owed_after h t OverIn ws n o = begins ws WithdrawnIn OverIn (BackIn ∷ []) refl (subst (λ u. Owes words_of_call ws (owed_in u)) n o)

@@ -38,7 +38,7 @@ room_grammar = record {
   are_calls = λ p ws o. (owed p, o);
 }
 
--- the same sums with no difference
+-- a test of the same sums, without a difference
 abbrev pub is_fair_kind : ℕ → List RoomMark → ℕ → RoomKind → Bool
 is_fair_kind bound before seat (Up d) = ltb (total up_amount before + total over_amount before + d) (bound + (total back_amount before + total release_amount before) + 1)
 is_fair_kind bound before seat (No d) = ltb (bound + (total back_amount before + total release_amount before)) (total up_amount before + total over_amount before + d)

@@ -8,7 +8,7 @@ use Rattle.fak_model.proofs.Deciding.{same_or_not}
 pub backs_after : CallsLead kinds_of_call back_amount over_amount
 backs_after e a b le = grind (arith, common_steps, kinds_of_call, back_amount, over_amount)
 
--- what one mark does to what its seat holds, and whether what it takes fits beside what is counted
+-- a mark releases at most what its seat holds, and what it takes fits with what is counted
 fits_of : (bound : ℕ) (h : List RoomMark) (seat : ℕ) (kind : RoomKind) → IsFair bound h seat kind
     → (release_amount kind ≤ amount_held seat h) × ((up_amount kind ≡ 0) ⊎ (((total up_amount h + total over_amount h) + up_amount kind ≤ bound + (total back_amount h + total release_amount h)) × (release_amount kind ≡ 0)))
 fits_of bound h seat kind fair = grind (arith, common_steps, release_amount, amount_held, up_amount, total, over_amount, back_amount, IsFair)
@@ -32,7 +32,7 @@ held_own : (bound : ℕ) (h : List RoomMark) (m : RoomMark) → IsRoomHistory bo
     → amount_held m.seat (h ++ m ∷ []) + release_amount m.kind ≡ amount_held m.seat h + up_amount m.kind
 held_own bound h m law le = grind (arith, common_steps, seat_words-own, room_rules, sum_by, up_amount, sum_by_push, seat_words, release_amount, releases_le)
 
--- what all seats hold and the Releases are the Ups, and fit
+-- what all seats hold plus the Releases is the sum of the Ups, and fits
 pub held_fits : (bound seats : ℕ) (h : List RoomMark) → IsRoomHistory bound h → AreNamed (room_rules bound) seats h
     → (sum_below (λ k. amount_held k h) seats + total release_amount h ≡ total up_amount h) × (sum_below (λ k. amount_held k h) seats ≤ bound)
 held_fits bound seats =
@@ -56,11 +56,11 @@ held_fits bound seats =
 pub room_fits : (bound seats : ℕ) (h : List RoomMark) → IsRoomHistory bound h → AreNamed (room_rules bound) seats h → sum_below (λ k. amount_held k h) seats ≤ bound
 room_fits bound seats h law named = (held_fits bound seats h law named).1
 
--- an Over that is withdrawn is even with its Back
+-- the Overs of a call amount to its Backs
 pub call_even : (c : WholeCall) → sum_by over_amount (kinds_of_call c) ≡ sum_by back_amount (kinds_of_call c)
 call_even c = grind (arith, common_steps, sum_by, over_amount, kinds_of_call, back_amount)
 
--- where no call is cut short the value is what all seats hold
+-- if no call is cut short, the value is what all seats hold
 pub room_rests : (bound seats : ℕ) (h : List RoomMark) → IsRoomHistory bound h → AreNamed (room_rules bound) seats h → IsAtRest (room_rules bound) h → value h ≡ pos (sum_below (λ k. amount_held k h) seats)
 room_rests bound seats h law named rest =
     let sum = (held_fits bound seats h law named).0 in

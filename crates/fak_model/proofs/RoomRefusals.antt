@@ -1,16 +1,17 @@
--- A claim of 1 is refused only where as many were granted as the bound says.
+-- If all refused claims asked for 1, none is refused before the amounts granted reach the bound.
 use Rattle.fak_model.proofs.Common.{cases_lt, nat_tests, RoomKind, RoomMark, AreNamed, refusal_of, other_amount, ◌≡◌, ℕ, ◌+◌, ◌<◌, ◌≤◌, List, refl, arith, inl, inr, common_steps}
 use Rattle.fak_model.specs.Room.{kind_of, total, up_amount, over_amount, back_amount, release_amount, IsFair, room_rules, IsRoomHistory}
 use Rattle.fak_model.proofs.Appending.{snoc_ind, history_front, last_fair}
 use Rattle.fak_model.proofs.Leading.{total_push}
 use Rattle.fak_model.proofs.RoomLaw.{held_fits}
 
--- so far no claim was refused, and so none was withdrawn; or as many were granted as the bound says
+-- if a claim of 1 is refused here, the value is at least the bound; before the first refused claim none was withdrawn,
+-- so the bound was granted
 refused_here : (bound : ℕ) (h : List RoomMark) (seat : ℕ) (kind : RoomKind) → IsFair bound h seat kind → 0 < refusal_of kind → other_amount kind ≡ 0
     → bound + (total back_amount h + total release_amount h) ≤ total up_amount h + total over_amount h
 refused_here bound h seat kind fair some one = grind (arith, common_steps, refusal_of, other_amount, total, back_amount, release_amount, up_amount, over_amount, IsFair, nat_tests)
 
--- an Over was refused
+-- a mark that refuses nothing is no Over
 over_refused : (kind : RoomKind) → refusal_of kind ≡ 0 → over_amount kind ≡ 0
 over_refused kind e = grind (arith, common_steps, refusal_of, over_amount)
 
@@ -33,6 +34,6 @@ refused_at_bound bound = snoc_ind (λ (h : List RoomMark). IsRoomHistory bound h
           omega (arith, here, over, u))
     ])
 
--- no more is granted than the bound and what is released
+-- no more is granted than the bound plus what is released
 pub granted_fit : (bound seats : ℕ) (h : List RoomMark) → IsRoomHistory bound h → AreNamed (room_rules bound) seats h → total up_amount h ≤ bound + total release_amount h
 granted_fit bound seats h law named = let held = held_fits bound seats h law named in omega (arith, held.0, held.1)

@@ -1,4 +1,4 @@
--- A block of steps of several names of one view keeps what a running object shows, whatever the steps are.
+-- Whatever the steps are, a block of steps of several names of one view keeps what a running object shows.
 use Rattle.fak_model.proofs.Common.{All-cons, some, some-injective, some-ne-none, get_elem?, View, IsHistory, AreNamed, In, AreApart, sight, Foreign, Sees, ◌≡◌, ◌≢◌, ℕ, zero, suc, ◌+◌, ◌<◌, ◌≤◌, List, [], ◌∷◌, ◌++◌, set, append_assoc, refl, ap, sym, ◌∙◌, subst, arith, Some, reverse, All, State, Me, Act, stepped, homes_after, carried_after, common_steps, at_set}
 use Rattle.fak_model.specs.Shown.{Object, total, IsShown, Leaves}
 use Rattle.fak_model.proofs.Reversing.{All-reverse}
@@ -16,7 +16,7 @@ total_at f [] i a e = absurd (some-ne-none a (sym e))
 total_at f (x ∷ l) zero a e = let same : f x ≡ f a = ap f (some-injective x a e) in omega arith
 total_at f (x ∷ l) (suc i) a e = omega (arith, total_at f l i a e)
 
--- a fact of the changed place and of the others is one of all
+-- what holds at the changed place and at all others holds at all
 pub each_set : {A : Type 0} (l : List A) (i : ℕ) (b : A) (F : ℕ → A → Type 0) → F i b → ((j : ℕ) (u : A) → j ≢ i → get_elem? l j ≡ some u → F j u)
     → (j : ℕ) (u : A) → get_elem? (set l i b) j ≡ some u → F j u
 each_set {A} l i b F here rest j u e = grind (arith, common_steps, some, at_set)
@@ -26,7 +26,7 @@ Some_injective e = cc
 
 -- ---- marks of these names
 
--- all marks are of these names
+-- all marks belong to these names
 abbrev pub AreAmong : {M : Type 0} → (M → ℕ) → List ℕ → List M → Type 0
 AreAmong seat_of names [] = Unit {0}
 AreAmong seat_of names (m ∷ h) = In (seat_of m) names × AreAmong seat_of names h
@@ -35,12 +35,12 @@ pub among_append : {M : Type 0} (seat_of : M → ℕ) (names : List ℕ) (f g : 
 among_append seat_of names [] g a b = b
 among_append seat_of names (m ∷ f) g a b = (a.0, among_append seat_of names f g a.1 b)
 
--- they are foreign to other names
+-- such marks are foreign to other names
 foreign_among : {M : Type 0} (seat_of : M → ℕ) (names others : List ℕ) (new : List M) → ((n : ℕ) → In n others → In n names → ⊥) → AreAmong seat_of names new → Foreign seat_of others new
 foreign_among seat_of names others [] apart own = tt
 foreign_among seat_of names others (m ∷ new) apart own = ((λ i. apart (seat_of m) i own.0), foreign_among seat_of names others new apart own.1)
 
--- so other names have seen the past still
+-- so other names still see the past
 sees_others : {M : Type 0} (seat_of : M → ℕ) (names : List ℕ) (seen past : List M) (own : List ℕ) (new : List M) → ((n : ℕ) → In n names → In n own → ⊥) → AreAmong seat_of own new → Sees seat_of names seen past → Sees seat_of names seen (new ++ past)
 sees_others seat_of names seen past own new apart among s = record {
   between = new ++ s.between;
@@ -58,8 +58,8 @@ named_all {M} seat_of seats names (m ∷ new) past low own all = All-cons (λ (w
 abbrev pub AreLawful : {M W C P S H : Type 0} → Object M W C P S H → Type 0
 AreLawful {M} {W} {C} {P} {S} o = (c : S) → o.IsReached c → IsHistory o.rules (reverse (o.past_of c))
 
--- the seats of these names take the object from one core state to another, leave these marks, newest first, and then stand
--- at this phase
+-- the seats of these names take the object from one core state to another, leave these marks, newest first, and are at
+-- this phase afterwards
 pub record BlockAdvances {M W C P S H : Type 0} (o : Object M W C P S H) (before : S) (names : List ℕ) (after : S) (new : List M) (phase : P) : Type 0 where
   pub reached : o.IsReached after
   pub past : o.past_of after ≡ new ++ o.past_of before
@@ -68,11 +68,11 @@ pub record BlockAdvances {M W C P S H : Type 0} (o : Object M W C P S H) (before
   pub others : (k : ℕ) (p : P) → (In k names → ⊥) → o.StandsAt before k p → o.StandsAt after k p
 
 module _ {M W C P S H : Type 0} (o : Object M W C P S H) (s : State H (View M P)) (r : IsShown o s) (id : ℕ) (m : Me H (View M P)) (at : get_elem? s.views id ≡ some m.0) where
-  -- the marks after the block have names of seats too
+  -- the marks after the block have names of seats, too
   named_after : (c : S) (new : List M) (phase : P) → BlockAdvances o r.core m.0.names c new phase → AreNamed o.rules o.seats (o.past_of c)
   named_after c new phase step = subst (AreNamed o.rules o.seats) (sym step.past) (named_all o.rules.seat_of o.seats m.0.names new (o.past_of r.core) (r.below id m.0 at) step.own r.named)
 
-  -- the seats make the block
+  -- the seats take the steps of the block
   block_goes : (c : S) (new : List M) (phase : P) → BlockAdvances o r.core m.0.names c new phase → (left : ℕ) → o.drawn_of c + left ≤ o.drawn_of r.core + m.0.left
       → (t : State H (View M P)) → o.Encodes c t.words t.homes → t.views ≡ set s.views id (sight m.0.names (new ++ o.past_of r.core) phase left) → IsShown o t
   block_goes c new phase step left few t encoded views =
@@ -107,7 +107,7 @@ module _ {M W C P S H : Type 0} (o : Object M W C P S H) (s : State H (View M P)
             (omega (arith, total_set (λ (v : View M P). v.left) s.views id m.0 w at, r.few, few));
       }
 
-  -- a block of steps that one change of a word makes, with what it tells
+  -- a block of steps that one change of a word performs, with what that change shows
   pub block_steps : AreLawful o → (c : S) (new : List M) (phase : P) → BlockAdvances o r.core m.0.names c new phase → (i w : ℕ) (a : Act H) → o.Encodes c (set s.words i w) (homes_after s.homes m.1 a)
       → (left : ℕ) → o.drawn_of c + left ≤ o.drawn_of r.core + m.0.left → (tells : List M → Type 0) → tells (o.past_of r.core)
       → let v = sight m.0.names (new ++ o.past_of r.core) phase left in

@@ -1,4 +1,4 @@
--- From the steps of a seat to what its calls promise: histories with the oldest mark first.
+-- From the steps of a seat to what its calls ensure. Histories have the oldest mark first.
 use Rattle.fak_model.proofs.Common.{nat_tests, View, Rules, IsHistory, AreNamed, Begins, In, marks_of, Knows, Object, Leaves, ObjectId, SeatInfo, seat_info, mine_of, last_of, Appends, before_mark, IsSeatToken, ◌≡◌, ◌≢◌, ℕ, zero, suc, ◌==◌, Bool, true, false, cond, List, [], ◌∷◌, ◌++◌, length, refl, ap, sym, ◌∙◌, subst, arith, inl, append_assoc, Some, reverse, Me, sight, HasOneName, Foreign, AreOwn, Sees, common_steps}
 use Rattle.std.proofs.lemmas.List.{append-nil, reverse-append}
 use Rattle.fak_model.proofs.Seats.{marks_of_append}
@@ -30,7 +30,7 @@ module _ {M : Type 0} (seat_of : M → ℕ) (name : ℕ) where
       ends : (b : Bool) → (seat_of m == name) ≡ b → reverse (marks_of seat_of name h) ++ marks_of seat_of name (m ∷ []) ≡ reverse (marks_of seat_of name (m ∷ h))
       ends b e = grind (arith, common_steps, reverse, marks_of, reverse-append, append-nil)
 
-  -- what stands before a mark of the name
+  -- the part before a mark of the name
   pub before_mark-append : (p q : List M) (m : M) (number : ℕ) → length (marks_of seat_of name p) ≡ number → seat_of m ≡ name → before_mark seat_of name number (p ++ m ∷ q) ≡ p
   before_mark-append [] q m zero e own = let t : (seat_of m == name) ≡ true = grind (arith, nat_tests) in rw t refl
   before_mark-append [] q m (suc k) e own = absurd (omega (arith, e))
@@ -49,7 +49,7 @@ module _ {M : Type 0} (seat_of : M → ℕ) (name : ℕ) where
 
 -- ---- what was seen
 
--- whose names see a past know the history, oldest mark first
+-- names that see a past know the history, which has the oldest mark first
 pub sees_knows : {M : Type 0} (seat_of : M → ℕ) (names : List ℕ) (seen past : List M) → Sees seat_of names seen past → Knows seat_of names (reverse seen) (reverse past)
 sees_knows seat_of names seen past s = record {
   begins = sees_begins seat_of names seen past s;
@@ -77,15 +77,15 @@ begins_trans f g h a b = (a.0 ++ b.0, sym (append_assoc f a.0 b.0) ∙ (ap (λ l
 -- ---- calls
 
 module _ {M W C : Type 0} (rules : Rules M W C) where
-  -- a call of one part, and then of another that leaves a mark
+  -- a part of a call, and then a part that leaves a mark
   pub appends_then : (f : List M) (m : M) (g : List M) (a b c : SeatInfo M) → Appends rules f a b → Appends rules (m ∷ g) b c → Appends rules (f ++ m ∷ g) a c
   appends_then f m g a b c p q = grind (arith, common_steps, seat_info, begins_trans, append_assoc, mine_of, last_of-append)
 
-  -- a part of a call that leaves no mark, and then another
+  -- a part of a call that leaves no mark, and then another part
   pub appends_none : (g : List M) (a b c : SeatInfo M) → Appends rules [] a b → Appends rules g b c → Appends rules g a c
   appends_none g a b c p q = grind (arith, common_steps, seat_info, begins_trans, append-nil, mine_of)
 
-  -- what stands before an appended mark stays so as more is seen
+  -- the part before an appended mark stays the same as more is seen
   pub before_mark-begins : (name number : ℕ) (p : List M) (m : M) (q h : List M) → rules.seat_of m ≡ name → length (marks_of rules.seat_of name p) ≡ number → Begins (p ++ m ∷ q) h → before_mark rules.seat_of name number h ≡ p
   before_mark-begins name number p m q h own e b = ap (before_mark rules.seat_of name number) (sym b.1 ∙ append_assoc p (m ∷ q) b.0) ∙ before_mark-append rules.seat_of name p (q ++ b.0) m number e own
 
@@ -120,7 +120,7 @@ module _ {M W C P S H : Type 0} {o : Object M W C P S H} {m : Me H (View M P)} {
   among : In n m.0.names
   among = subst (In n) (sym one) (inl refl)
 
-  -- none of the marks between is the seat's
+  -- none of the marks between belongs to the seat
   pub mine_before : marks_of o.rules.seat_of n (reverse l.past) ≡ marks_of o.rules.seat_of n (reverse m.0.seen)
   mine_before = (sees_knows o.rules.seat_of m.0.names m.0.seen l.past l.sees).own n among
 
@@ -150,7 +150,7 @@ module _ {M W C P S H : Type 0} {o : Object M W C P S H} {m : Me H (View M P)} {
   pub token_after : {was : P} {had : ℕ} → IsSeatToken o.rules.seat_of o.seats n was had m → carried ≡ [] → IsSeatToken o.rules.seat_of o.seats n phase left after
   token_after t none = grind (arith, common_steps, sight, seen_after, named_after)
 
--- what stood before the one mark of a step, now and as more is seen
+-- the part before the one mark of a step, right after the step and as more is seen
 pub step_before : {M W C P S H : Type 0} {o : Object M W C P S H} {m : Me H (View M P)} {x : M} {phase : P} {left : ℕ} {carried : List (ℕ × H)} {tells : List M → Type 0} {after : Me H (View M P)}
     (l : Leaves o m (x ∷ []) phase left carried tells after) (n : ℕ) → m.0.names ≡ n ∷ [] → o.rules.seat_of x ≡ n → (number : ℕ) → length (marks_of o.rules.seat_of n (reverse m.0.seen)) ≡ number
     → (h : List M) → Begins (reverse after.0.seen) h → before_mark o.rules.seat_of n number h ≡ reverse l.past

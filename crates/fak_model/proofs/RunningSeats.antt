@@ -1,4 +1,4 @@
--- How a running object begins, and how its seats are dealt, joined and told what they saw together.
+-- How a running object begins, and how its seats are split off, joined, and shown what they saw together.
 use Rattle.fak_model.proofs.Common.{some, some-injective, some-ne-none, get_elem?, View, In, AreApart, ◌≡◌, ◌≢◌, ◌⊎◌, ℕ, zero, suc, ◌+◌, ◌<◌, ◌≤◌, List, [], ◌∷◌, ◌++◌, length, set, map, refl, ap, sym, ◌∙◌, subst, arith, inl, inr, ⊎_elim, Some, Me, keeps, opening, Allows, Splits, Joins, Sees, opened, first_name, later_names, share_of, dealt, kept, joined, spent, settled, common_steps, div-le_self, set_else}
 use Rattle.fak_model.specs.Shown.{Object, total, IsShown, Hears}
 use Rattle.fak_model.proofs.Seats.{in_either}
@@ -8,7 +8,7 @@ use Rattle.fak_model.proofs.RunningSteps.{set_found}
 
 -- ---- lists
 
--- which place the last of a list has
+-- an item of a list with one more at its end: one of the list, or the last
 pub at_end : {A : Type 0} (l : List A) (a b : A) (j : ℕ) → get_elem? (l ++ a ∷ []) j ≡ some b → (get_elem? l j ≡ some b) ⊎ ((j ≡ length l) × (a ≡ b))
 at_end [] a b zero e = inr (refl, some-injective a b e)
 at_end [] a b (suc j) e = absurd (some-ne-none b (sym e))
@@ -27,16 +27,17 @@ module _ {M W C P S H : Type 0} (o : Object M W C P S H) (resting : P) (left : �
       → o.drawn_of c + left ≤ o.tickets → IsShown o (opening ws xs (opened resting o.seats left))
   starts c reached none rest ws xs encoded few = grind (arith, common_steps, opened, some, sees_all, sees_nothing, in_names_from, apart_from, some-injective, some-ne-none)
 
--- ---- places of a name, before and after
+-- ---- the place of a name, before and after
 
--- the name that stands at i now stood at a: elsewhere, or at id, which kept the later names and handed the first to `end`
+-- a name of view i was in view a before id was split: either a is i, or a is id, which keeps the later names and hands
+-- the first one to `end`
 abbrev SplitFrom : Type 0 → Type 0 → ℕ → ℕ → ℕ → ℕ → Type 0
 SplitFrom First Later i a id end = ((a ≡ i) × (i ≢ id)) ⊎ ((a ≡ id) × (((i ≡ id) × Later) ⊎ ((i ≡ end) × First)))
 
 split_place : (First Later : Type 0) → (First → Later → ⊥) → (i j a b id end : ℕ) → a ≡ b → SplitFrom First Later i a id end → SplitFrom First Later j b id end → i ≡ j
 split_place First Later apart i j a b id end same u v = grind (arith, common_steps)
 
--- the name that stands at i now stood there before, or at `other`, which was joined to id
+-- a name of view i was in view a before `other` was joined to id: either a is i, or i is id and a is `other`
 abbrev JoinFrom : ℕ → ℕ → ℕ → ℕ → Type 0
 JoinFrom i a id other = ((a ≡ i) × (i ≢ other)) ⊎ ((i ≡ id) × (a ≡ other))
 
@@ -46,7 +47,7 @@ join_place i j a b id other same v e = grind (arith, common_steps)
 -- ---- a split
 
 module _ {M W C P S H : Type 0} (o : Object M W C P S H) (id : ℕ) (v : View M P) where
-  -- a seat for the first name is dealt
+  -- a seat for the first name is split off
   pub splits : Splits (IsShown o) id v (kept v) (dealt v)
   splits s r at =
       let views : List (View M P) = set s.views id (kept v) ++ dealt v ∷ [] in
@@ -58,7 +59,7 @@ module _ {M W C P S H : Type 0} (o : Object M W C P S H) (id : ℕ) (v : View M 
       let Seen : View M P → Type 0 = λ u. Sees o.rules.seat_of u.names u.seen (o.past_of r.core) in
       let Below : View M P → Type 0 = λ u. (n : ℕ) → In n u.names → n < o.seats in
       let Stands : View M P → Type 0 = λ u. (n : ℕ) → In n u.names → (p : P) → u.phase ≡ Some p → o.StandsAt r.core n p in
-      -- the place where a name stood
+      -- the place where a name was
       let From : ℕ → ℕ → Type 0 = λ j n. (i : ℕ) × (x : View M P) × (get_elem? s.views i ≡ some x) × In n x.names
       × SplitFrom (In n (first_name v.names)) (In n (later_names v.names)) j i id (length (set s.views id (kept v))) in
       let from : (j : ℕ) (u : View M P) (n : ℕ) → C' j u → In n u.names → From j n =
@@ -91,7 +92,7 @@ module _ {M W C P S H : Type 0} (o : Object M W C P S H) (id : ℕ) (v : View M 
 -- ---- a join
 
 module _ {M W C P S H : Type 0} (o : Object M W C P S H) (id : ℕ) (v : View M P) (other : ℕ) (w : View M P) where
-  -- two seats at one phase are joined
+  -- two seats at the same phase are joined
   pub joins : w.phase ≡ v.phase → Joins (IsShown o) id v other w (joined v w) spent
   joins phases s r at ne there =
       let both : View M P = joined v w in
@@ -138,7 +139,7 @@ module _ {M W C P S H : Type 0} (o : Object M W C P S H) (id : ℕ) (v : View M 
 -- ---- the load after a join
 
 module _ {M W C P S H : Type 0} (o : Object M W C P S H) (law : AreLawful o) where
-  -- which tells what the join compared
+  -- it shows what the join compared
   pub hears : (slots id : ℕ) (m : Me H (View M P)) (i : ℕ) → Allows (IsShown o) slots id m i (λ x. x) (λ _. Hears o m)
   hears slots id m i s r wide at small =
       let u : View M P = settled m.0 in

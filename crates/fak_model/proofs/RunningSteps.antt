@@ -1,4 +1,4 @@
--- A step of one seat keeps what a running object shows, whatever the step is: a block of one name.
+-- Whatever the step is, a step of one seat keeps what a running object shows: it is a block of one name.
 pub use Rattle.fak_model.proofs.RunningBlocks.{AreLawful, total_at}
 use Rattle.fak_model.proofs.Common.{some, get_elem?, View, In, sight, AreOwn, Sees, ◌≡◌, ◌≢◌, ◌⊎◌, ℕ, zero, suc, ◌+◌, ◌<◌, ◌≤◌, List, [], ◌∷◌, ◌++◌, set, slice_index, refl, ap, sym, subst, arith, inl, ⊎_elim, Some, State, Me, Act, keeps, stepped, homes_after, carried_after}
 use Rattle.fak_model.specs.Shown.{Object, IsShown, Leaves}
@@ -15,8 +15,8 @@ among_own : {M : Type 0} (seat_of : M → ℕ) (names : List ℕ) (n : ℕ) (new
 among_own seat_of names n [] i own = tt
 among_own seat_of names n (m ∷ new) i own = (subst (λ (k : ℕ). In k names) (sym own.0) i, among_own seat_of names n new i own.1)
 
--- the seat n takes the object from one core state to another, leaves these marks, newest first, and then stands at
--- this phase
+-- the seat n takes the object from one core state to another, leaves these marks, newest first, and is at this phase
+-- afterwards
 pub record Advances {M W C P S H : Type 0} (o : Object M W C P S H) (before : S) (n : ℕ) (after : S) (new : List M) (phase : P) : Type 0 where
   pub reached : o.IsReached after
   pub past : o.past_of after ≡ new ++ o.past_of before
@@ -40,7 +40,7 @@ module _ {M W C P S H : Type 0} (o : Object M W C P S H) (s : State H (View M P)
   pub stands_now : (p : P) → m.0.phase ≡ Some p → o.StandsAt r.core n p
   stands_now p e = r.stands id m.0 at n bears p e
 
-  -- the step is a block
+  -- the step is a block of one name
   block_of_one : (c : S) (new : List M) (phase : P) → Advances o r.core n c new phase → BlockAdvances o r.core m.0.names c new phase
   block_of_one c new phase step = record {
     reached = step.reached;
@@ -50,14 +50,14 @@ module _ {M W C P S H : Type 0} (o : Object M W C P S H) (s : State H (View M P)
     others = λ k p out at. step.others k p (λ e. out (subst (λ (x : ℕ). In x m.0.names) (sym e) bears)) at;
   }
 
-  -- a step on a word, with what it tells
+  -- a step on a word, with what the word shows
   pub steps : AreLawful o → (c : S) (new : List M) (phase : P) → Advances o r.core n c new phase → (i w : ℕ) (a : Act H) → o.Encodes c (set s.words i w) (homes_after s.homes m.1 a)
       → (left : ℕ) → o.drawn_of c + left ≤ o.drawn_of r.core + m.0.left → (tells : List M → Type 0) → tells (o.past_of r.core)
       → let v = sight m.0.names (new ++ o.past_of r.core) phase left in
       IsShown o (stepped s i w id m.1 v a) × Leaves o m new phase left (carried_after m.1 a) tells (v, carried_after m.1 a)
   steps law c new phase step i w a encoded left few tells told = block_steps o s r id m at law c new phase (block_of_one c new phase step) i w a encoded left few tells told
 
-  -- a load that leaves no mark: the seat has seen all
+  -- a load that leaves no mark: the seat has seen the whole past
   pub stays : (phase : P) → m.0.phase ≡ Some phase → Advances o r.core n r.core [] phase
   stays phase e = record { reached = r.reached; past = refl; own = tt; stands = stands_now phase e; others = λ k p ne at. at }
 

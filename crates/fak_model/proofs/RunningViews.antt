@@ -1,4 +1,4 @@
--- What views know after a step of their own or of another, and when two are joined.
+-- What views know after a step of their own, after a step of another view, and after a join.
 use Rattle.fak_model.proofs.Common.{nat_tests, All-head, All-tail, Rules, IsHistory, AreNamed, Begins, In, AreApart, IsWhole, longer_of, ◌≡◌, ℕ, zero, suc, ◌+◌, ◌<◌, ◌≤◌, true, false, Bool, cond, nat_lt, List, [], ◌∷◌, ◌++◌, length, length-append, refl, ap, sym, ◌∙◌, subst, arith, inl, inr, reverse, All, Foreign, Sees, names_from, first_name, later_names, shorter_of, common_steps}
 use Rattle.std.proofs.lemmas.List.{append-nil, reverse-append}
 use Rattle.fak_model.proofs.Seats.{in_either, seen_lawful}
@@ -19,7 +19,7 @@ module _ {M : Type 0} (seat_of : M → ℕ) where
   foreign_right names [] g a = a
   foreign_right names (m ∷ f) g a = foreign_right names f g a.1
 
-  -- fewer names
+  -- marks that are foreign to names are foreign to fewer of them
   pub foreign_fewer : (few names : List ℕ) (h : List M) → ((n : ℕ) → In n few → In n names) → Foreign seat_of names h → Foreign seat_of few h
   foreign_fewer few names [] among a = tt
   foreign_fewer few names (m ∷ h) among a = ((λ i. a.0 (among (seat_of m) i)), foreign_fewer few names h among a.1)
@@ -45,14 +45,14 @@ module _ {M : Type 0} (seat_of : M → ℕ) where
 
 -- ---- histories, oldest mark first
 
--- what was seen begins the history
+-- what was seen is a prefix of the history
 pub sees_begins : {M : Type 0} (seat_of : M → ℕ) (names : List ℕ) (seen past : List M) → Sees seat_of names seen past → Begins (reverse seen) (reverse past)
 sees_begins seat_of names seen past s = (reverse s.between, sym (ap reverse s.is ∙ reverse-append s.between seen))
 
 pub sees_lawful : {M W C : Type 0} (rules : Rules M W C) (names : List ℕ) (seen past : List M) → Sees rules.seat_of names seen past → IsHistory rules (reverse past) → IsHistory rules (reverse seen)
 sees_lawful rules names seen past s law = seen_lawful rules (reverse seen) (reverse past) (sees_begins rules.seat_of names seen past s) law
 
--- a fact of all marks is one of those that were seen
+-- what holds for all marks holds for those that were seen
 pub all_end : {A : Type 0} (F : A → Type 0) (l k : List A) → All F (l ++ k) → All F k
 all_end F [] k all = all
 all_end F (x ∷ l) k all = all_end F l k (All-tail F x (l ++ k) all)
@@ -64,7 +64,7 @@ sees_named {M} rules seats names seen past s named =
 
 -- ---- a whole tally
 
--- with the names of all seats in, nothing was left between
+-- if the names are those of all seats, the whole past was seen
 pub sees_whole : {M W C : Type 0} (rules : Rules M W C) (seats : ℕ) (names : List ℕ) (seen past : List M) → IsWhole seats names → AreNamed rules seats past → Sees rules.seat_of names seen past → past ≡ seen
 sees_whole {M} rules seats names seen past whole named s = s.is ∙ nobody s.between (subst (AreNamed rules seats) s.is named) s.foreign
   where
@@ -74,7 +74,7 @@ sees_whole {M} rules seats names seen past whole named s = s.is ∙ nobody s.bet
 
 -- ---- a join
 
--- of two ends of one list the shorter is the end of the longer
+-- if two lists end one list, the shorter of them ends the longer
 pub shorter_end : {A : Type 0} (p q a b : List A) → p ++ a ≡ q ++ b → length a ≤ length b → (r : List A) × (b ≡ r ++ a) × (p ≡ q ++ r)
 shorter_end [] [] a b e le = ([], sym e, refl)
 shorter_end [] (y ∷ q) a b e le = absurd (omega (arith, ap length e, length-append (y ∷ q) b))
@@ -84,7 +84,7 @@ shorter_end (x ∷ p) (y ∷ q) a b e le =
     let heads : x ≡ y = cc e in
     (rest.0, rest.1, cc (heads, rest.2))
 
--- both see the past by the longer of what they saw, and it goes on from the shorter
+-- both names see the past by the longer of the two histories that they saw; it continues the shorter
 pub record Compared {M : Type 0} (seat_of : M → ℕ) (a b : List ℕ) (s t past : List M) : Type 0 where
   pub both : Sees seat_of (a ++ b) (longer_of s t) past
   pub less : Sees seat_of (cond (nat_lt (length s) (length t)) a b) (shorter_of s t) (longer_of s t)
@@ -127,7 +127,7 @@ pub length-names_from : (a k : ℕ) → length (names_from a k) ≡ k
 length-names_from a zero = refl
 length-names_from a (suc k) = ap suc (length-names_from (suc a) k)
 
--- no name stands twice among these, nor among some of names that are apart, nor in two lists that have none in common
+-- names in a row are distinct, and so are some of distinct names, and two lists of distinct names without a common one
 pub apart_from : (a k : ℕ) → AreApart (names_from a k)
 apart_from a zero = tt
 apart_from a (suc k) = ((λ i. let high = (in_names_from a (suc a) k i).0 in omega (arith, high)), apart_from (suc a) k)
@@ -145,7 +145,7 @@ apart_append [] b one two none = two
 apart_append (n ∷ a) b one two none =
     ((λ i. elim (in_either n a b i) [ inl left ↦ one.0 left | inr right ↦ none n (inl refl) right ]), apart_append a b one.1 two (λ k i j. none k (inr i) j))
 
--- the first of names that are apart is not among the others
+-- the first of distinct names is not among the others
 pub names_apart : (names : List ℕ) → AreApart names → (n : ℕ) → In n (first_name names) → In n (later_names names) → ⊥
 names_apart [] apart n i j = i
 names_apart (m ∷ names) apart n (inl e) j = apart.0 (subst (λ (k : ℕ). In k names) e j)

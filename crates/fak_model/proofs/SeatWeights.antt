@@ -1,4 +1,4 @@
--- What tallies know, name by name, and what an only seat knows.
+-- What tallies know, by name, and what an only seat knows.
 use Rattle.fak_model.proofs.Common.{nat_tests, sum_by-cons, filter-append, All-head, All-tail, All-cons, All-nil, In, is_in, marks_of, mine, Knows, before_mark, ◌≡◌, ◌⊎◌, ℕ, suc, ◌+◌, ◌<◌, ◌≤◌, ◌==◌, Bool, true, false, List, [], ◌∷◌, ◌++◌, length, refl, ap, sym, ◌∙◌, subst, arith, inl, inr, ◌||◌, All, sum_by, append-nil, false_from_ne_true, common_steps}
 use Rattle.fak_model.proofs.Seats.{between_foreign}
 
@@ -21,7 +21,7 @@ is_in_push n k (m ∷ names) = let rest = is_in_push n k names in elim (k == m) 
 pub mine_one : {M : Type 0} (seat_of : M → ℕ) (n : ℕ) (h : List M) → mine seat_of (n ∷ []) h ≡ marks_of seat_of n h
 mine_one seat_of n h = grind (arith, common_steps, mine, marks_of)
 
--- one name more
+-- the marks of these names and one more
 pub mine_push : {M : Type 0} (seat_of : M → ℕ) (v : M → ℕ) (names : List ℕ) (n : ℕ) → is_in n names ≡ false → (h : List M)
     → sum_by v (mine seat_of (names ++ n ∷ []) h) ≡ sum_by v (mine seat_of names h) + sum_by v (marks_of seat_of n h)
 mine_push seat_of v names n new [] = refl
@@ -37,7 +37,7 @@ pub mine_more : {M : Type 0} (seat_of : M → ℕ) (v : M → ℕ) (names : List
     → sum_by v (mine seat_of (names ++ n ∷ []) h) ≡ sum_by v (mine seat_of names h) + sum_by v (marks_of seat_of n h)
 mine_more seat_of v names n h new = mine_push seat_of v names n (false_from_ne_true (is_in n names) (λ there. new (is_in_is n names there))) h
 
--- where none of the names has a mark, mine is nothing
+-- if none of the names has a mark, mine is empty
 mine_none : {M : Type 0} (seat_of : M → ℕ) (names : List ℕ) (h : List M) → ((n : ℕ) → In n names → marks_of seat_of n h ≡ []) → mine seat_of names h ≡ []
 mine_none seat_of names [] none = refl
 mine_none {M} seat_of names (m ∷ h) none = by (is_in (seat_of m) names) refl (λ later. mine_none seat_of names h later) where
@@ -52,14 +52,14 @@ mine_none {M} seat_of names (m ∷ h) none = by (is_in (seat_of m) names) refl (
       absurd (cc)
   by false is later = rw is (later (λ n i. tail_none n (seat_of m == n) refl (none n i)))
 
--- all marks of the names determine the own marks
+-- names know all their own marks of the history
 pub mine_known : {M : Type 0} (seat_of : M → ℕ) (names : List ℕ) (seen h : List M) → Knows seat_of names seen h → mine seat_of names h ≡ mine seat_of names seen
 mine_known {M} seat_of names seen h k =
     let his : M → Bool = λ (m : M). is_in (seat_of m) names in
     let none = mine_none seat_of names k.begins.0 (λ n i. between_foreign seat_of names seen h k n i) in
     ap (mine seat_of names) (sym k.begins.1) ∙ (filter-append his seen k.begins.0 ∙ (ap (λ l. mine seat_of names seen ++ l) none ∙ append-nil (mine seat_of names seen)))
 
--- what a tally and one seat more know of one history
+-- what a tally and one more seat know of one history
 pub mine_joined : {M : Type 0} (seat_of : M → ℕ) (v : M → ℕ) (names : List ℕ) (n : ℕ) (of_tally of_seat h : List M) → (In n names → ⊥)
     → Knows seat_of names of_tally h → Knows seat_of (n ∷ []) of_seat h
     → sum_by v (mine seat_of (names ++ n ∷ []) h) ≡ sum_by v (mine seat_of names of_tally) + sum_by v (marks_of seat_of n of_seat)
@@ -71,7 +71,7 @@ mine_joined seat_of v names n of_tally of_seat h new k l =
 
 -- ---- a seat that never began a call
 
--- a name with no mark adds nothing to mine
+-- a name without marks adds nothing to mine
 pub mine_same : {M : Type 0} (seat_of : M → ℕ) (names : List ℕ) (n : ℕ) (h : List M) → marks_of seat_of n h ≡ [] → mine seat_of (names ++ n ∷ []) h ≡ mine seat_of names h
 mine_same seat_of names n [] none = refl
 mine_same {M} seat_of names n (m ∷ h) none = by (seat_of m == n) refl (λ later. mine_same seat_of names n h later) where
@@ -85,7 +85,7 @@ mine_same {M} seat_of names n (m ∷ h) none = by (seat_of m == n) refl (λ late
 pub named_more : {M : Type 0} (seat_of : M → ℕ) (seats more : ℕ) (h : List M) → All (λ (m : M). seat_of m < seats) h → seats ≤ more → All (λ (m : M). seat_of m < more) h
 named_more seat_of seats more h named le = grind (arith, common_steps)
 
--- a name beyond those of all seats has no mark
+-- a name beyond those of all seats has no marks
 pub none_beyond : {M : Type 0} (seat_of : M → ℕ) (seats n : ℕ) (h : List M) → All (λ (m : M). seat_of m < seats) h → seats ≤ n → marks_of seat_of n h ≡ []
 none_beyond seat_of seats n [] named le = refl
 none_beyond {M} seat_of seats n (m ∷ h) named le =
@@ -96,7 +96,7 @@ none_beyond {M} seat_of seats n (m ∷ h) named le =
 
 -- ---- an only seat
 
--- all marks are the one seat's
+-- all marks belong to the one seat
 pub all_mine : {M : Type 0} (seat_of : M → ℕ) (h : List M) → All (λ (m : M). seat_of m < 1) h → marks_of seat_of 0 h ≡ h
 all_mine seat_of [] named = refl
 all_mine {M} seat_of (m ∷ h) named =
@@ -105,7 +105,7 @@ all_mine {M} seat_of (m ∷ h) named =
     let t : (seat_of m == 0) ≡ true = grind (arith, nat_tests) in
     rw t (ap (λ l. m ∷ l) (all_mine seat_of h (All-tail Named m h named)))
 
--- so what it has seen grows by its calls' marks alone
+-- so what it has seen grows only by the marks of its own calls
 pub only_grows : {M : Type 0} (seat_of : M → ℕ) (old new marks : List M) → All (λ (m : M). seat_of m < 1) old → All (λ (m : M). seat_of m < 1) new
     → marks_of seat_of 0 new ≡ marks_of seat_of 0 old ++ marks → new ≡ old ++ marks
 only_grows seat_of old new marks was named is = sym (all_mine seat_of new named) ∙ (is ∙ ap (λ l. l ++ marks) (all_mine seat_of old was))
@@ -127,7 +127,7 @@ pub all_front : {M : Type 0} (P : M → Type 0) (xs ys : List M) → All P (xs +
 all_front P [] ys all = All-nil P
 all_front P (x ∷ xs) ys all = All-cons P x xs (All-head P x (xs ++ ys) all) (all_front P xs ys (All-tail P x (xs ++ ys) all))
 
--- and its calls' answers are of what it had seen
+-- and before the first mark of a call comes exactly what it had seen
 pub only_before : {M : Type 0} (seat_of : M → ℕ) (old : List M) (m : M) (rest : List M) → All (λ (x : M). seat_of x < 1) (old ++ m ∷ rest) → before_mark seat_of 0 (length (marks_of seat_of 0 old) + 0) (old ++ m ∷ rest) ≡ old
 only_before {M} seat_of old m rest named =
     let Named : M → Type 0 = λ (x : M). seat_of x < 1 in

@@ -5,7 +5,7 @@ use Rattle.fak_model.proofs.Appending.{history_prefix}
 pub begins_self : {M : Type 0} (h : List M) → Begins h h
 begins_self h = ([], append-nil h)
 
--- of two prefixes of one list one is a prefix of the other
+-- if two lists are prefixes of one list, one of them is a prefix of the other
 pub one_begins : {M : Type 0} (s t h : List M) → Begins s h → Begins t h → Begins s t ⊎ Begins t s
 one_begins [] t h a b = inl (t, refl)
 one_begins (x ∷ s) [] h a b = inr (x ∷ s, refl)
@@ -17,7 +17,7 @@ one_begins (x ∷ s) (y ∷ t) (z ∷ h) a b =
       | inr w ↦ inr (w.0, cc (heads, w.1))
     ]
 
--- a seen is lawful
+-- a seen history is lawful
 pub seen_lawful : {M W C : Type 0} (rules : Rules M W C) (seen h : List M) → Begins seen h → IsHistory rules h → IsHistory rules seen
 seen_lawful rules seen h b law = history_prefix rules seen b.0 (subst (IsHistory rules) (sym b.1) law)
 
@@ -40,7 +40,7 @@ in_either n (x ∷ a) b (inr i) = elim (in_either n a b i) [ inl l ↦ inl (inr 
 
 -- ---- a step
 
--- what came between has no mark of these names
+-- the marks after the seen history have none of these names
 pub between_foreign : {M : Type 0} (seat_of : M → ℕ) (names : List ℕ) (seen h : List M) (k : Knows seat_of names seen h) (n : ℕ) → In n names → marks_of seat_of n k.begins.0 ≡ []
 between_foreign seat_of names seen h k n i =
     nothing_more (marks_of seat_of n seen) (marks_of seat_of n k.begins.0) (sym (marks_of_append seat_of n seen k.begins.0) ∙ (ap (marks_of seat_of n) k.begins.1 ∙ k.own n i))
@@ -51,7 +51,7 @@ between_foreign seat_of names seen h k n i =
 
 -- ---- a split and a join
 
--- who knows of a name by a shorter seen knows as much by a longer
+-- if a shorter seen history has all marks of a name, so has a longer one
 more_seen : {M : Type 0} (seat_of : M → ℕ) (n : ℕ) (s t h : List M) → Begins s t → Begins t h → marks_of seat_of n h ≡ marks_of seat_of n s → marks_of seat_of n h ≡ marks_of seat_of n t
 more_seen {M} seat_of n s t h b c is =
     let st = sym (marks_of_append seat_of n s b.0) ∙ ap (marks_of seat_of n) b.1 in
@@ -89,7 +89,7 @@ longer_is {M} s t h a b = elim (nat_lt (length s) (length t)) as (λ c. nat_lt (
   ]
 ] refl
 
--- two that join have seen one history: the longer seen, and both names
+-- two that join have seen one history: they know the longer one, with the names of both
 pub knows_both : {M : Type 0} (seat_of : M → ℕ) (a b : List ℕ) (s t h : List M) → Knows seat_of a s h → Knows seat_of b t h → Knows seat_of (a ++ b) (longer_of s t) h
 knows_both seat_of a b s t h k l =
     let w = longer_is s t h k.begins l.begins in
@@ -108,7 +108,7 @@ in_is n [] i = absurd i
 in_is n (m ∷ names) (inl e) = let t : (n == m) ≡ true = grind (arith, nat_tests) in rw t refl
 in_is n (m ∷ names) (inr i) = elim (n == m) as (λ b. (b || is_in n names) ≡ true) [ true ↦ refl | false ↦ in_is n names i ]
 
--- with all names in, mine is the whole seen
+-- with all names, mine is the whole seen history
 pub whole_mine : {M : Type 0} (seat_of : M → ℕ) (seats : ℕ) (names : List ℕ) (seen : List M) → IsWhole seats names → All (λ (m : M). seat_of m < seats) seen → mine seat_of names seen ≡ seen
 whole_mine seat_of seats names [] whole named = refl
 whole_mine {M} seat_of seats names (m ∷ seen) whole named =

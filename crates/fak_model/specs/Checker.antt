@@ -1,4 +1,4 @@
--- What the checker of histories answers, and what it keeps.
+-- What the checker of histories returns, and what it remembers.
 use Rattle.std.specs.Prelude.{ℕ, ◌≡◌, ◌+◌, ◌<◌, ◌≤◌, ◌↔◌, IsTrue, true, List, length, reverse, take, Option, Some, None}
 use Rattle.fak_model.specs.declared.checker.counts.Counts.{Counts}
 use Rattle.fak_model.specs.declared.queue.Kind.{Kind}
@@ -9,13 +9,13 @@ use Rattle.fak_model.specs.declared.queue.Stage.TheVariants.{Idle, Withdrawing, 
 use Rattle.fak_model.specs.Queue.{IsQueueHistory, Has, count, puts, gots, upper_raise, upper_drop, lower_raise, lower_drop}
 use Rattle.fak_model.specs.QueuePast.{item_of}
 
--- the first i marks are a legal history, and with the next one they aren't
+-- the first i marks are a legal history, and the first i + 1 are not
 pub record FirstFault {T : Type 0} (size : ℕ) (h : List (Mark T)) (i : ℕ) : Type 0 where
   pub inside : i < length h
   pub before : IsQueueHistory size (take i h)
   pub fault : IsQueueHistory size (take (i + 1) h) → ⊥
 
--- what these marks count
+-- the counts of these marks
 pub record AreCounts (h : List (Mark ℕ)) (c : Counts) : Type 0 where
   pub upper_raises_are : c.upper_raises ≡ count upper_raise (reverse h)
   pub upper_drops_are : c.upper_drops ≡ count upper_drop (reverse h)
@@ -27,7 +27,7 @@ pub record AreCounts (h : List (Mark ℕ)) (c : Counts) : Type 0 where
   pub oldest_within : c.oldest ≤ length h
   pub oldest_is : count puts (reverse (take c.oldest h)) ≡ c.gots
 
--- the stage of a seat whose newest mark is of this kind, with this many Puts and Gots before it
+-- the stage of a seat whose newest mark is of this kind, if this many Puts and Gots come before that mark
 abbrev pub stage_with : ℕ → ℕ → Kind ℕ → Stage ℕ
 stage_with p g ClaimIn = Claimed
 stage_with p g OverIn = Withdrawing
@@ -40,7 +40,7 @@ stage_with p g (Got x) = Getting g
 stage_with p g (Take k) = Taken k
 stage_with p g _ = Idle
 
--- the next Put, at this index and with this item, is the one with the ticket that this many Puts before it make
+-- the Put at index i has the item x and draws this ticket
 pub record IsPutAt (h : List (Mark ℕ)) (ticket i x : ℕ) : Type 0 where
   pub inside : i < length h
   pub item : item_of (reverse h) ticket ≡ Some x
@@ -50,7 +50,7 @@ abbrev pub IsNextPut : List (Mark ℕ) → ℕ → Option (ℕ × ℕ) → Type 
 IsNextPut h from None = item_of (reverse h) (count puts (reverse (take from h))) ≡ None
 IsNextPut h from (Some p) = IsPutAt h (count puts (reverse (take from h))) p.0 p.1
 
--- the counts after a mark of this kind, but for the index of the oldest item left
+-- the counts after a mark of this kind, except for the index of the oldest item left
 abbrev pub counts_with : Counts → Kind ℕ → Counts
 counts_with c ClaimIn = record c { upper_raises = c.upper_raises + 1 }
 counts_with c OverIn = record c { upper_raises = c.upper_raises + 1 }

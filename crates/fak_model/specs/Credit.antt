@@ -1,4 +1,4 @@
--- The histories of a credit: a count that debits lower and credits raise, with no test.
+-- The histories of a credit: a count that debits lower and credits raise, without a test.
 use Rattle.std.specs.Prelude.{ℕ, ◌+◌, cond, ℤ, pos, ◌-ℤ◌, int_lt, List, [], ◌∷◌, ◌++◌, map}
 use Rattle.std.specs.List.{sum_by}
 use Rattle.fak_model.specs.declared.credit.CreditKind.{CreditKind}
@@ -27,12 +27,12 @@ credits h = sum_by credit_weight (map kind_of h)
 abbrev pub value : ℕ → List CreditMark → ℤ
 value start p = pos (start + credits p) -ℤ pos (debits p)
 
--- a Debit that found at least 1 and a Credit that found less than 0 grant
+-- 1 if a mark grants, else 0: a Debit grants if it found at least 1, a Credit if it found less than 0
 abbrev pub grants : ℤ → CreditKind → ℕ
 grants found Debit = cond (int_lt (pos 0) found) 1 0
 grants found Credit = cond (int_lt found (pos 0)) 1 0
 
--- how many of the marks of `rest`, which come after `before`, grant
+-- the number of grants among the marks of `rest`, which come after `before`
 abbrev pub grants_made_from : ℕ → List CreditMark → List CreditMark → ℕ
 grants_made_from start before [] = 0
 grants_made_from start before (m ∷ rest) = grants (value start before) m.kind + grants_made_from start (before ++ m ∷ []) rest
@@ -40,7 +40,7 @@ grants_made_from start before (m ∷ rest) = grants (value start before) m.kind 
 abbrev pub grants_made : ℕ → List CreditMark → ℕ
 grants_made start h = grants_made_from start [] h
 
--- each mark is a call, and stands anywhere
+-- each mark is a whole call, and may come anywhere
 abbrev pub credit_rules : Rules CreditMark CreditKind CreditKind
 credit_rules = record {
   seat_of = λ (m : CreditMark). m.seat;

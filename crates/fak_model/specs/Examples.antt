@@ -1,4 +1,4 @@
--- Short lists of marks, on either side of each part of what makes a history lawful.
+-- Short lists of marks, on both sides of each part of what makes a history lawful.
 use Rattle.std.specs.Prelude.{ℕ, List, [], ◌∷◌, ◌++◌}
 use Rattle.fak_model.specs.declared.queue.Kind.{Kind}
 use Rattle.fak_model.specs.declared.queue.Kind.TheVariants.{ClaimIn, Put, Fill, EndIn, ClaimOut, Got, Take, EndOut}
@@ -8,14 +8,14 @@ use Rattle.fak_model.specs.declared.room.RoomMark.{RoomMark}
 use Rattle.fak_model.specs.declared.file.FileKind.{FileKind}
 use Rattle.fak_model.specs.declared.file.FileMark.{FileMark}
 
--- after these marks the ones may come, and the others may not
+-- after the marks `before`, the marks `may` are lawful and the marks `may_not` are not
 abbrev pub Parts : {M : Type 0} → (List M → Type 0) → List M → List M → List M → Type 0
 Parts IsLawful before may may_not = IsLawful (before ++ may) × (IsLawful (before ++ may_not) → ⊥)
 
 abbrev pub by : ℕ → Kind ℕ → Mark ℕ
 by seat kind = record { seat = seat; kind = kind }
 
--- an insertion, and a deletion, with its item and ticket
+-- the marks of a whole insertion, and those of a whole deletion, with item and ticket
 abbrev pub inserted : ℕ → ℕ → ℕ → List (Mark ℕ)
 inserted seat item ticket = by seat ClaimIn ∷ by seat (Put item) ∷ by seat (Fill ticket) ∷ by seat EndIn ∷ []
 

@@ -1,4 +1,4 @@
--- The histories of a file table with k seats: a count of k that readers lower by 1 and writers by k.
+-- The histories of a file table with k seats: a count, k at the start, that readers lower by 1 and writers by k.
 use Rattle.std.specs.Prelude.{ℕ, ◌≡◌, ◌⊎◌, ◌+◌, ◌==◌, ◌&&◌, cond, Bool, true, false, ℤ, pos, ◌-ℤ◌, ◌≤ℤ◌, ◌<ℤ◌, List, [], ◌∷◌, ◌++◌, map}
 use Rattle.std.specs.List.{sum_by}
 use Rattle.fak_model.specs.declared.file.FileField.{FileField}
@@ -14,7 +14,7 @@ seat_of m = m.seat
 abbrev pub kind_of : FileMark → FileKind
 kind_of m = m.kind
 
--- one field set
+-- one write of a field of an entry
 pub record Setting : Type 0 where
   pub entry : ℕ
   pub field : FileField
@@ -49,7 +49,7 @@ back_amount _ = 0
 abbrev pub total : (FileKind → ℕ) → List FileMark → ℕ
 total amount h = sum_by amount (map kind_of h)
 
--- the amount that a seat holds: that of its last Take, and 0 after its Give
+-- the amount that a seat holds: that of its last Take, or 0 after a Give
 abbrev pub hold_after : ℕ → FileKind → ℕ
 hold_after n (Take a) = a
 hold_after n Give = 0
@@ -74,7 +74,7 @@ amount_given_from before (m ∷ rest) = gives (amount_held m.seat before) m.kind
 abbrev pub amount_given : List FileMark → ℕ
 amount_given h = amount_given_from [] h
 
--- K less Takes and Overs, plus Backs and holds given back
+-- k less the Takes and Overs, plus the Backs and the holds given back
 abbrev pub count : ℕ → List FileMark → ℤ
 count k p = pos (k + total back_amount p + amount_given p) -ℤ pos (total take_amount p + total over_amount p)
 
@@ -99,7 +99,7 @@ file_rules k = record {
 abbrev pub IsFileHistory : ℕ → List FileMark → Type 0
 IsFileHistory k h = IsHistory (file_rules k) h
 
--- the value of the last Set of this field of this entry, 0 where there is none
+-- the value of the last Set of this field of this entry, 0 if there is none
 abbrev pub same_field : FileField → FileField → Bool
 same_field Inode Inode = true
 same_field Uses Uses = true

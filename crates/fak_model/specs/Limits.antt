@@ -1,4 +1,4 @@
--- What every shared object may be opened with.
+-- The ranges that shared objects may be opened with.
 use Rattle.std.specs.Prelude.{ℕ, ◌*◌, ◌≤◌}
 use Rattle.fak_model.specs.declared.large_fault.LargeFault.{LargeFault}
 use Rattle.fak_model.specs.declared.large_fault.LargeFault.TheVariants.{BadSize, BadSeats, BadStint, Memory}
@@ -25,11 +25,11 @@ most_tickets = 1125899906842624
 abbrev pub IsLargeStint : ℕ → ℕ → Type 0
 IsLargeStint seats stint = (1 ≤ stint) × (seats * stint ≤ most_tickets)
 
--- the ranges, if the size, bound, start or number of entries is in its own range by the first argument
+-- all in range; `Fits` states that the size, bound, start or number of entries is
 abbrev pub IsInLargeRange : Type 0 → ℕ → ℕ → Type 0
 IsInLargeRange Fits seats stint = Fits × IsLargeNumberOfSeats seats × IsLargeStint seats stint
 
--- the first that is out of range; memory is asked for last
+-- the first value that is out of range; Memory only if all are in range
 abbrev pub IsLargeFault : Type 0 → ℕ → ℕ → LargeFault → Type 0
 IsLargeFault Fits seats stint BadSize = ¬ Fits
 IsLargeFault Fits seats stint BadSeats = Fits × ¬ IsLargeNumberOfSeats seats

@@ -8,7 +8,7 @@ use Rattle.fak_model.specs.Histories.{Rules, IsHistory}
 
 -- ---- whole calls
 
--- a kind without its item and its number
+-- a kind without its item or number
 abbrev pub Word : Type 0
 Word = Kind (Unit {0})
 
@@ -56,7 +56,7 @@ words_of_call WithdrawnLate = LateIn ∷ BackIn ∷ []
 
 -- ---- counts
 
--- how often the kinds that w counts stand in a history
+-- the sum over a history's marks of what w counts for each kind
 abbrev pub count : {A : Type 0} → (Kind A → ℕ) → List (Mark A) → ℕ
 count w [] = 0
 count w (m ∷ h) = w m.kind + count w h
@@ -69,7 +69,7 @@ abbrev pub gots : {A : Type 0} → Kind A → ℕ
 gots (Got x) = 1
 gots _ = 0
 
--- what raises and what lowers the upper count
+-- the kinds that raise the upper count, and those that lower it
 abbrev pub upper_raise : {A : Type 0} → Kind A → ℕ
 upper_raise ClaimIn = 1
 upper_raise OverIn = 1
@@ -81,7 +81,7 @@ upper_drop BackIn = 1
 upper_drop EndOut = 1
 upper_drop _ = 0
 
--- what raises and what lowers the lower count
+-- the kinds that raise the lower count, and those that lower it
 abbrev pub lower_raise : {A : Type 0} → Kind A → ℕ
 lower_raise EndIn = 1
 lower_raise BackOut = 1
@@ -100,9 +100,9 @@ upper_count h = pos (count upper_raise h) -ℤ pos (count upper_drop h)
 abbrev pub lower_count : {T : Type 0} → List (Mark T) → ℤ
 lower_count h = pos (count lower_raise h) -ℤ pos (count lower_drop h)
 
--- ---- fair answers
+-- ---- fair outcomes
 
--- a mark of this kind stands in the history
+-- a mark of this kind is in the history
 abbrev pub Has : {A : Type 0} → Kind A → List (Mark A) → Type 0
 Has κ [] = ⊥
 Has κ (m ∷ h) = (m.kind ≡ κ) ⊎ Has κ h
@@ -131,20 +131,20 @@ item_in m = put_in m.kind
 abbrev pub items_put : {T : Type 0} → List (Mark T) → List T
 items_put h = flat_map item_in h
 
--- the item at place j
+-- the item at place j, counted from 0
 abbrev pub item_at : {T : Type 0} → List T → ℕ → Option T
 item_at [] j = None
 item_at (x ∷ xs) zero = Some x
 item_at (x ∷ xs) (suc j) = item_at xs j
 
--- the j-th Got bears the item of the j-th Put, which stands before it
+-- the j-th Got has the item of the j-th Put, which comes before it
 abbrev pub IsFirstOut : {T : Type 0} → List (Mark T) → Kind T → Type 0
 IsFirstOut before (Got x) = item_at (items_put before) (count gots before) ≡ Some x
 IsFirstOut before _ = Unit {0}
 
 -- ---- cells
 
--- the seat's last mark is this draw, with this many such draws before it
+-- the seat's last mark is this draw, and this many such draws come before it
 pub record Drew {T : Type 0} (before : List (Mark T)) (seat : ℕ) (draw : Kind T) (draws : Kind T → ℕ) (ticket : ℕ) : Type 0 where
   pub earlier : List (Mark T)
   pub m : Mark T
@@ -161,7 +161,7 @@ BearsTicket {T} before seat (Fill k) = (x : T) × Drew before seat (Put x) puts 
 BearsTicket {T} before seat (Take k) = (x : T) × Drew before seat (Got x) gots k
 BearsTicket before seat _ = Unit {0}
 
--- Fill(k) stands after Take(k - size) where k >= size, Take(k) after Fill(k)
+-- Fill k comes after Take (k - size) if k >= size, and Take k comes after Fill k
 abbrev pub HasItsCell : {T : Type 0} → ℕ → List (Mark T) → Kind T → Type 0
 HasItsCell size before (Fill k) = (j : ℕ) → k ≡ j + size → Has (Take j) before
 HasItsCell size before (Take k) = Has (Fill k) before
@@ -186,6 +186,6 @@ queue_rules {T} size = record {
 abbrev pub IsQueueHistory : {T : Type 0} → ℕ → List (Mark T) → Type 0
 IsQueueHistory size h = IsHistory (queue_rules size) h
 
--- the items put, without as many first ones as there are Gots
+-- the items put, without the first n, where n is the number of Gots
 abbrev pub contents : {T : Type 0} → List (Mark T) → List T
 contents h = drop (count gots h) (items_put h)

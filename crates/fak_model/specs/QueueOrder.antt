@@ -6,7 +6,7 @@ use Rattle.fak_model.specs.declared.queue.Kind.TheVariants.{ClaimIn, Put, Fill, 
 use Rattle.fak_model.specs.declared.queue.Mark.{Mark}
 use Rattle.fak_model.specs.Queue.{count, puts, gots}
 
--- two marks of one seat, with no mark of it between
+-- two marks of one seat, of these kinds, with no mark of that seat between them
 pub record Successive {T : Type 0} (h : List (Mark T)) (first second : Kind T) : Type 0 where
   pub before : List (Mark T)
   pub m : Mark T
@@ -19,27 +19,27 @@ pub record Successive {T : Type 0} (h : List (Mark T)) (first second : Kind T) :
   pub same : n.seat ≡ m.seat
   pub none : All (λ (o : Mark T). o.seat ≢ m.seat) between
 
--- the insertion that draws ticket k stands in h; it starts after `claim.before`
+-- the insertion that draws ticket k is in h; it starts after `claim.before`
 pub record Insertion {T : Type 0} (h : List (Mark T)) (k : ℕ) : Type 0 where
   pub x : T
   pub claim : Successive h ClaimIn (Put x)
   pub ticket : count puts (claim.before ++ claim.m ∷ claim.between) ≡ k
 
--- the deletion that draws ticket k, and so yields the item of the k-th Put
+-- the deletion that draws ticket k is in h; it yields the item of the k-th Put
 pub record Deletion {T : Type 0} (h : List (Mark T)) (k : ℕ) : Type 0 where
   pub x : T
   pub claim : Successive h ClaimOut (Got x)
   pub ticket : count gots (claim.before ++ claim.m ∷ claim.between) ≡ k
 
--- the insertion, or the deletion, with ticket k has completed
+-- the insertion, and the deletion, with ticket k has completed
 abbrev pub InsertionEnded : {T : Type 0} → List (Mark T) → ℕ → Type 0
 InsertionEnded h k = Successive h (Fill k) EndIn
 
 abbrev pub DeletionEnded : {T : Type 0} → List (Mark T) → ℕ → Type 0
 DeletionEnded h k = Successive h (Take k) EndOut
 
--- if the insertion of p completed before the insertion of q started,
--- no deletion yielding q completes before a deletion yielding p has started
+-- let the insertion with ticket p complete before the insertion with ticket q starts; then the deletion with ticket q
+-- completes only after the deletion with ticket p has started
 abbrev pub KeepsCallOrder : {T : Type 0} → List (Mark T) → Type 0
 KeepsCallOrder {T} h = (p q : ℕ) (of_q : Insertion h q) → InsertionEnded of_q.claim.before p
     → (now later : List (Mark T)) → now ++ later ≡ h → DeletionEnded now q → Deletion now p

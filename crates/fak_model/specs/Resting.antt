@@ -1,4 +1,4 @@
--- Names that stand between two calls.
+-- Names without an open call.
 use Rattle.std.specs.Prelude.{ℕ, List, []}
 use Rattle.fak_model.specs.Histories.{Rules, seat_words, Owes}
 use Rattle.fak_model.specs.Seats.{In}

@@ -25,7 +25,7 @@ kinds_of_call (Refused d) = No d ∷ []
 kinds_of_call (Withdrawn d) = Over d ∷ Back d ∷ []
 kinds_of_call (Released d) = Release d ∷ []
 
--- amounts of one kind
+-- the amount of a mark of one kind, 0 for a mark of any other kind
 abbrev pub up_amount : RoomKind → ℕ
 up_amount (Up d) = d
 up_amount _ = 0
@@ -42,7 +42,7 @@ abbrev pub release_amount : RoomKind → ℕ
 release_amount (Release d) = d
 release_amount _ = 0
 
--- how much the marks of a history amount to
+-- the sum of these amounts over a history
 abbrev pub total : (RoomKind → ℕ) → List RoomMark → ℕ
 total amount h = sum_by amount (map kind_of h)
 
@@ -50,11 +50,11 @@ total amount h = sum_by amount (map kind_of h)
 abbrev pub value : List RoomMark → ℤ
 value p = pos (total up_amount p + total over_amount p) -ℤ pos (total back_amount p + total release_amount p)
 
--- a seat holds its Ups less its Releases
+-- what a seat holds: its Ups less its Releases
 abbrev pub amount_held : ℕ → List RoomMark → ℕ
 amount_held seat h = sum_by up_amount (words_by seat_of kind_of seat h) - sum_by release_amount (words_by seat_of kind_of seat h)
 
--- the call finds room, or finds none; no seat gives back more than it holds
+-- a claim is granted if it fits and refused if not, and no seat gives back more than it holds
 abbrev pub IsFair : ℕ → List RoomMark → ℕ → RoomKind → Type 0
 IsFair bound before seat (Up d) = (value before +ℤ pos d) ≤ℤ pos bound
 IsFair bound before seat (No d) = pos bound <ℤ (value before +ℤ pos d)

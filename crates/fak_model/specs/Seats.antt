@@ -2,16 +2,16 @@
 use Rattle.std.specs.Prelude.{ℕ, ◌<◌, ◌≡◌, ◌⊎◌, ◌==◌, ◌||◌, Bool, false, cond, List, [], ◌∷◌, ◌++◌, length, nat_lt}
 use Rattle.std.specs.List.{filter}
 
--- seen begins h: h goes on from it
+-- `seen` is a prefix of `h`
 abbrev pub Begins : {M : Type 0} → List M → List M → Type 0
 Begins {M} seen h = (rest : List M) × (seen ++ rest ≡ h)
 
--- the name stands among the names
+-- the name is in the list
 abbrev pub In : ℕ → List ℕ → Type 0
 In n [] = ⊥
 In n (m ∷ names) = (n ≡ m) ⊎ In n names
 
--- no name stands twice
+-- no name occurs twice
 abbrev pub AreApart : List ℕ → Type 0
 AreApart [] = Unit {0}
 AreApart (n ∷ names) = (In n names → ⊥) × AreApart names
@@ -24,11 +24,11 @@ is_in n (m ∷ names) = (n == m) || is_in n names
 abbrev pub marks_of : {M : Type 0} → (M → ℕ) → ℕ → List M → List M
 marks_of {M} seat_of name h = filter (λ (m : M). seat_of m == name) h
 
--- mine: the part of seen with these names
+-- the marks of these names
 abbrev pub mine : {M : Type 0} → (M → ℕ) → List ℕ → List M → List M
 mine {M} seat_of names seen = filter (λ (m : M). is_in (seat_of m) names) seen
 
--- a seat or tally with these names has observed a prefix of h, and no mark of these names lies beyond it
+-- a seat or tally with these names has seen a prefix of h, and no mark of these names comes after that prefix
 pub record Knows {M : Type 0} (seat_of : M → ℕ) (names : List ℕ) (seen h : List M) : Type 0 where
   pub begins : Begins seen h
   pub own : (n : ℕ) → In n names → marks_of seat_of n h ≡ marks_of seat_of n seen
@@ -37,6 +37,6 @@ pub record Knows {M : Type 0} (seat_of : M → ℕ) (names : List ℕ) (seen h :
 abbrev pub longer_of : {M : Type 0} → List M → List M → List M
 longer_of s t = cond (nat_lt (length s) (length t)) t s
 
--- a name for each seat
+-- every seat's name is in the list
 abbrev pub IsWhole : ℕ → List ℕ → Type 0
 IsWhole seats names = (n : ℕ) → n < seats → In n names

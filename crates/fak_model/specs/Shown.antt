@@ -1,4 +1,5 @@
--- What a running object shows between any two atomic steps: a reached core state, and what each view knows of its past.
+-- What is true of a running object between any two atomic steps: it shows a reached core state, and each view knows a
+-- part of that state's past.
 use Rattle.std.specs.Prelude.{ℕ, ◌+◌, ◌<◌, ◌≤◌, ◌≡◌, List, [], ◌∷◌, ◌++◌, reverse, Some}
 use mathlib.Core.Option.{Option, some}
 use lib.ListN.{get_elem?}
@@ -8,18 +9,18 @@ use Rattle.fak_model.specs.Histories.{Rules, IsHistory, AreNamed}
 use Rattle.fak_model.specs.Seats.{In, AreApart}
 use Rattle.fak_model.specs.Views.{sight, settled, Sees}
 
--- an object of these seats: the rules of its histories, its core states S with the phase P of each seat, and how a
--- table of words and of slots with contents H shows such a state
+-- an object with this many seats: the rules of its histories; its core states S, with the phase P of each seat; and how
+-- a table of words, and of slots with contents H, shows such a state
 pub record Object (M W C P S H : Type 0) : Type 1 where
   pub rules : Rules M W C
   pub seats : ℕ
-  -- no more tickets than this are drawn and left
+  -- the tickets drawn and the tickets left are together at most this many
   pub tickets : ℕ
   pub drawn_of : S → ℕ
   -- the marks so far, newest first
   pub past_of : S → List M
   pub IsReached : S → Type 0
-  -- the seat of this name stands at this phase
+  -- the seat of this name is at this phase
   pub StandsAt : S → ℕ → P → Type 0
   pub Encodes : S → List ℕ → List (Option H) → Type 0
 
@@ -41,8 +42,8 @@ pub record IsShown {M W C P S H : Type 0} (object : Object M W C P S H) (s : Sta
   pub apart : (i j : ℕ) (v w : View M P) → get_elem? s.views i ≡ some v → get_elem? s.views j ≡ some w → (n : ℕ) → In n v.names → In n w.names → i ≡ j
   pub few : object.drawn_of core + total (λ (v : View M P). v.left) s.views ≤ object.tickets
 
--- a step of a seat: it saw more, none of it its own, and left these marks, newest first, behind it; `tells` says of
--- the past before these marks what the word that was found shows
+-- a step of a seat: it sees what others did since its last step, and adds these marks, newest first; `tells` states
+-- what the word that it found shows of the past before these marks
 pub record Leaves {M W C P S H : Type 0} (object : Object M W C P S H) (m : Me H (View M P)) (new : List M) (phase : P) (left : ℕ) (carried : List (ℕ × H)) (tells : List M → Type 0) (after : Me H (View M P)) : Type 0 where
   pub past : List M
   pub sees : Sees object.rules.seat_of m.0.names m.0.seen past
@@ -51,11 +52,12 @@ pub record Leaves {M W C P S H : Type 0} (object : Object M W C P S H) (m : Me H
   pub named : AreNamed object.rules object.seats (reverse (new ++ past))
   pub told : tells past
 
--- a step that tells nothing of the past
+-- for a step that shows nothing of the past
 abbrev pub TellsNothing : {M : Type 0} → List M → Type 0
 TellsNothing past = Unit {0}
 
--- a load after a join: the view is told what the join compared
+-- a load after a join: it shows that the longer of the joined histories continues the shorter one by marks of others
+-- only
 pub record Hears {M W C P S H : Type 0} (object : Object M W C P S H) (m after : Me H (View M P)) : Type 0 where
   pub after_is : after ≡ (settled m.0, m.1)
   pub told : Sees object.rules.seat_of m.0.told_names m.0.told m.0.seen

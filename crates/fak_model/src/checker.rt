@@ -12,11 +12,11 @@ use crate::queue::Mark;
 use counts::Counts;
 use judge::{counts_after, may_follow};
 
-/// The least index whose mark makes a history of a queue of this size illegal: the marks before it are a legal
-/// history, and with it they are not. None where all marks are. A last call that is cut short is no fault.
+/// The index of the first mark that makes a history of a queue of this size illegal: the marks before it are a legal
+/// history, and with it they are not. None if the whole history is legal. A last call that is cut short is no fault.
 ///
-/// The size is 1 to 4,096. It takes no memory, and looks back for the newest mark of a seat, and for one `Fill` or
-/// `Take`.
+/// The size is 1 to 4,096. It allocates nothing. For each mark it searches back for the newest mark of the seat, and
+/// for at most one `Fill` or `Take`.
 pub fn first_fault(size: u64, marks: &[Mark<u64>]) -> Option<usize>
     requires { (1 ≤ size) × (size ≤ 4096) }
     ensures { MatchOption result (IsQueueHistory size marks.now) (λ i. FirstFault size marks.now i) }

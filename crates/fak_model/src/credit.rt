@@ -1,4 +1,4 @@
-//! What the calls on a credit leave in its history.
+//! The marks that calls on a credit leave in its history.
 
 /// The kind of a mark of a credit.
 #[derive(Clone, Copy, Debug, PartialEq, Eq)]

@@ -1,26 +1,26 @@
-//! What the calls on a file table leave in its history.
+//! The marks that calls on a file table leave in its history.
 
 /// A field of an entry.
 #[derive(Clone, Copy, Debug, PartialEq, Eq)]
 pub enum FileField {
-    /// The number of the file; 0 where the entry is free.
+    /// The number of the file; 0 if the entry is free.
     Inode,
-    /// How often the file is open.
+    /// The number of times that the file is open.
     Uses,
 }
 
-/// The kind of a mark of a file table. A reader's amount is 1, a writer's is the number of seats.
+/// The kind of a mark of a file table. A hold has an amount: 1 for a reader, the number of seats for a writer.
 #[derive(Clone, Copy, Debug, PartialEq, Eq)]
 pub enum FileKind {
-    /// The amount was there at the subtraction: the hold is granted.
+    /// The subtraction found at least the amount: the hold is granted.
     Take(u64),
-    /// The amount was not there at the subtraction, which will be withdrawn.
+    /// The subtraction found less than the amount, and will be withdrawn.
     Over(u64),
     /// The subtraction was withdrawn: the hold is refused.
     Back(u64),
-    /// The amount was not there at the test: the hold is refused.
+    /// The test found less than the amount: the hold is refused.
     No(u64),
-    /// A field of an entry was set, in a writer's hold.
+    /// A writer set a field of an entry, during its hold.
     Set(u64, FileField, u64),
     /// The hold was given back.
     Give,
@@ -33,7 +33,7 @@ pub struct FileMark {
     pub kind: FileKind,
 }
 
-/// An entry of a file table: a file, and how often it is open. Both are 0 where the entry is free.
+/// An entry of a file table: a file, and the number of times that it is open. Both are 0 if the entry is free.
 #[derive(Clone, Copy, Debug, PartialEq, Eq)]
 pub struct FileEntry {
     pub inode: u64,

@@ -3,17 +3,17 @@
 use std::error::Error;
 use std::fmt;
 
-/// Why a large object was not opened. The first fault in this order is returned.
+/// Why a large object was not opened. If several faults apply, the first in this order is returned.
 #[derive(Clone, Copy, Debug, PartialEq, Eq, Drop)]
 pub enum LargeFault {
-    /// The size of a queue is not 1 to 16,777,216, the bound of a room or the start of a credit is above 4,294,967,296, or
-    /// the number of entries of a file table is not 1 to 16.
+    /// One of these is out of range: the size of a queue, 1 to 16,777,216; the bound of a room or the start of a
+    /// credit, at most 4,294,967,296; the number of entries of a file table, 1 to 16.
     BadSize,
     /// The number of seats is not 1 to 1,024.
     BadSeats,
     /// The stint is 0, or the stints of all seats together are above 2^50.
     BadStint,
-    /// There was no memory.
+    /// Memory ran out.
     Memory,
 }
 

@@ -1,36 +1,36 @@
-//! What every shared object may be opened with, at most, and what a large one may.
+//! The largest values that shared objects may be opened with, and larger ones for large objects.
 
 ghost use Rattle.std.specs.Prelude.{MatchResult};
 ghost use Rattle.fak_model.specs.Limits.{IsLargeFault, IsLargeNumberOfSeats, IsLargeStint};
 
 use crate::large_fault::LargeFault;
 
-/// The bound of a room, and the start of a credit.
+/// The largest bound of a room, and the largest start of a credit.
 pub const LARGEST_BOUND: u64 = 1 << 32;
 
-/// The cells of a queue.
+/// The largest number of cells of a queue that is not large.
 pub const LARGEST_SIZE: u64 = 4096;
 
-/// The seats of an object.
+/// The largest number of seats of an object that is not large.
 pub const MOST_SEATS: u64 = 64;
 
-/// The longest stint of a seat: tickets, changes of a count, or holds.
+/// The longest stint of a seat of an object that is not large, in tickets, changes of a count, or holds.
 pub const LONGEST_STINT: u64 = 1 << 40;
 
-/// The cells of a large queue.
+/// The largest number of cells of a large queue.
 pub const LARGE_SIZE: u64 = 1 << 24;
 
-/// The seats of a large object. No object has more.
+/// The largest number of seats of a large object, and so of any object.
 pub const LARGE_SEATS: u64 = 1024;
 
-/// The tickets, changes of a count, or holds of all seats of a large object together.
+/// The largest stint of all seats of a large object together, in tickets, changes of a count, or holds.
 pub const LARGE_TICKETS: u64 = 1 << 50;
 
-/// Tests the number of seats of a large object, and then their stint.
+/// Tests the number of seats of a large object, then the stint of each seat.
 ///
 /// # Errors
 ///
-/// `BadSeats` or `BadStint`, in this order.
+/// `BadSeats` or `BadStint`; the first in this order if both apply.
 pub fn tested_large_seats(seats: u64, stint: u64) -> Result<(), LargeFault>
     ensures { MatchResult result (λ _. IsLargeNumberOfSeats seats × IsLargeStint seats stint)
         (IsLargeFault (Unit {0}) seats stint) }

@@ -1,10 +1,10 @@
-//! What the calls on a bounded queue leave in its history.
+//! The marks that calls on a bounded queue leave in its history.
 
 /// The kind of a mark of a queue: what one atomic step of a call adds to the history.
 ///
-/// An insertion is `NoRoom`, `OverIn BackIn`, `Closed`, `LateIn BackIn` or `ClaimIn Put Fill EndIn`; a deletion
-/// is `NoItem`, `OverOut BackOut` or `ClaimOut Got Take EndOut`; `Close` is a call by itself. The forms are those
-/// of Gottlieb, Lubachevsky and Rudolph (TOPLAS 5(2), 1983), and of a queue that can be shut.
+/// An insertion is `NoRoom`, `OverIn BackIn`, `Closed`, `LateIn BackIn` or `ClaimIn Put Fill EndIn`. A deletion is
+/// `NoItem`, `OverOut BackOut` or `ClaimOut Got Take EndOut`. `Close` is a call by itself. The forms are those of
+/// Gottlieb, Lubachevsky and Rudolph (TOPLAS 5(2), 1983), extended by those of a queue that can be shut.
 #[derive(Clone, Copy, Debug, PartialEq, Eq, Drop)]
 pub enum Kind<T> {
     /// An insertion found room at its add: it is granted.
@@ -17,11 +17,11 @@ pub enum Kind<T> {
     NoRoom,
     /// An insertion drew its ticket, the number of earlier `Put`s, for this item.
     Put(T),
-    /// The cell of this ticket was filled.
+    /// An insertion drew its ticket for this item. The ticket is the number of earlier `Put`s.
     Fill(u64),
     /// An insertion raised the lower count: it is complete.
     EndIn,
-    /// A deletion found an item at its subtraction: it is granted.
+    /// An insertion raised the lower count: it is complete, and a deletion may claim the item.
     ClaimOut,
     /// A deletion found no item at its subtraction, and will withdraw it.
     OverOut,
@@ -31,11 +31,11 @@ pub enum Kind<T> {
     NoItem,
     /// A deletion drew its ticket, the number of earlier `Got`s, and with it this item.
     Got(T),
-    /// The cell of this ticket was taken from.
+    /// A deletion drew its ticket, and with it this item. The ticket is the number of earlier `Got`s.
     Take(u64),
-    /// A deletion lowered the upper count: it is complete.
+    /// The item of this ticket was taken from its cell.
     EndOut,
-    /// The queue was shut.
+    /// A deletion lowered the upper count: it is complete, and an insertion may claim the cell.
     Close,
     /// An insertion found the queue shut at its test: it is refused.
     Closed,

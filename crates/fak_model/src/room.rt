@@ -1,15 +1,15 @@
-//! What the calls on a room leave in its history.
+//! The marks that calls on a room leave in its history.
 
 /// The kind of a mark of a room, with the amount of its call.
 #[derive(Clone, Copy, Debug, PartialEq, Eq)]
 pub enum RoomKind {
-    /// The claim fitted at its add: it is granted.
+    /// The amount fitted at the claim's add: the claim is granted.
     Up(u64),
-    /// The claim did not fit at its add, and will be withdrawn.
+    /// The amount did not fit at the claim's add, which will be withdrawn.
     Over(u64),
     /// The claim was withdrawn: it is refused.
     Back(u64),
-    /// The claim did not fit at its test: it is refused.
+    /// The amount did not fit at the claim's test: the claim is refused.
     No(u64),
     /// An amount was given back.
     Release(u64),

@@ -1,9 +1,9 @@
-//! How a running object's seats are dealt at the opening, and joined at the end.
+//! How the seats of a running object are split off when it is opened, and joined at the end.
 
 use crate::view::View;
 use atomic_table::{Join, Split};
 
-/// A seat for the first name, with its part of the tickets.
+/// The split that hands out a seat: the first name, with its share of the tickets.
 #[derive(Debug)]
 pub struct Deal;
 
@@ -15,7 +15,7 @@ impl<M, P> Split<View<M, P>> for Deal {
     ghost right = { dealt };
 }
 
-/// Two views as one, for the names of both.
+/// The join of two views into one, which has the names of both.
 #[derive(Debug)]
 pub struct Both;
 

@@ -1,21 +1,21 @@
-//! What the seats of a running object know, which is in the proofs alone.
+//! What the seats of a running object know. It exists only in proofs.
 
 use std::collections::LinkedList;
 
-/// What a seat, or seats that were joined, know of a running object; it has a set of names. No value of it
-/// is made. `M` is a mark of the object's history, `P` a phase of a call.
+/// What a seat, or several joined seats, know of a running object. It has a set of names. No value of this type is ever
+/// made. `M` is a mark of the object's history, `P` a phase of a call.
 #[derive(Debug)]
 pub struct View<M, P> {
-    /// Its names: all at the opening, one after a split, none once it is spent.
+    /// Its names: all of them at the opening, one after a split, none once it is spent.
     pub names: LinkedList<u64>,
     /// The history that it has seen, newest mark first.
     pub seen: LinkedList<M>,
-    /// The phase of its names in a call; a spent view has none.
+    /// The phase of its names' call; none for a spent view.
     pub phase: Option<P>,
-    /// The tickets left of its stints.
+    /// The tickets left of its names' stints.
     pub left: u64,
     /// The shorter of the two histories that its last join compared, newest mark first.
     pub told: LinkedList<M>,
-    /// The names that came with that history.
+    /// The names of the view that had that shorter history.
     pub told_names: LinkedList<u64>,
 }

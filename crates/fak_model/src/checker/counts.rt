@@ -1,6 +1,6 @@
-//! What the checker keeps of the marks that it has read.
+//! What the checker remembers of the marks that it has read.
 
-/// What the marks of a queue's history count, so far.
+/// The counts of the marks of a queue's history that were read so far.
 #[derive(Clone, Copy)]
 pub struct Counts {
     /// The marks that raise the upper count.
@@ -13,8 +13,9 @@ pub struct Counts {
     pub lower_drops: u64,
     pub puts: u64,
     pub gots: u64,
-    /// A `Close` was read.
+    /// Whether a `Close` was read.
     pub is_shut: bool,
-    /// As many `Put`s come before this index as there are `Got`s: the oldest item left is that of the next `Put`.
+    /// An index before which there are exactly as many `Put`s as `Got`s were read in all. The first `Put` from this
+    /// index on has the oldest item left.
     pub oldest: usize,
 }

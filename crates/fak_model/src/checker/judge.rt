@@ -8,7 +8,7 @@ use super::counts::Counts;
 use super::look_back::{next_put, stage_of, was_filled, was_taken};
 use crate::queue::{Kind, Mark, Stage};
 
-/// Whether a seat at this stage may make a mark of this kind next.
+/// Whether a mark of this kind may be the next mark of a seat at this stage.
 fn is_next(stage: Stage<u64>, kind: &Kind<u64>) -> bool
     ensures { IsTrue result ↔ IsNext stage kind.now }
 {
@@ -39,7 +39,9 @@ fn has_item(counts: &Counts) -> bool
     counts.lower_drops < counts.lower_raises
 }
 
-/// Whether the counts grant or refuse so.
+/// Whether the counts allow a mark of this kind. Before a close, an insertion is granted only if there is room, and
+/// refused only if there is none. From a close on, it can only be late. A deletion is granted only if there is an item,
+/// and refused only if there is none.
 fn is_fair(size: u64, counts: &Counts, kind: &Kind<u64>) -> bool
     ensures { (past : List (Mark ℕ)) → AreCounts past counts.now
         → (IsTrue result ↔ IsFair size (reverse past) kind.now) }
@@ -54,7 +56,7 @@ fn is_fair(size: u64, counts: &Counts, kind: &Kind<u64>) -> bool
     }
 }
 
-/// Whether a `Got` bears the oldest item left.
+/// Whether a `Got` has the oldest item left. True for any other kind.
 fn is_oldest(past: &[Mark<u64>], counts: &Counts, kind: &Kind<u64>) -> bool
     requires { AreCounts past.now counts.now }
     ensures { IsTrue result ↔ IsOldest (reverse past.now) kind.now }
@@ -70,7 +72,7 @@ fn is_oldest(past: &[Mark<u64>], counts: &Counts, kind: &Kind<u64>) -> bool
     }
 }
 
-/// Whether the cell is free to be filled, or full.
+/// Whether the cell is ready: free for a `Fill`, full for a `Take`. True for any other kind.
 fn has_cell(size: u64, past: &[Mark<u64>], kind: &Kind<u64>) -> bool
     ensures { IsTrue result ↔ HasCell size (reverse past.now) kind.now }
 {
@@ -93,7 +95,7 @@ pub(crate) fn may_follow(size: u64, past: &[Mark<u64>], counts: &Counts, m: &Mar
     next && fair && oldest && cell
 }
 
-/// The counts after one more mark, but for the index of the oldest item left.
+/// The counts after one more mark of this kind, except for the index of the oldest item left.
 fn counted_with(counts: Counts, kind: &Kind<u64>) -> Counts
     requires { AreBelow counts (2 ^ 63) }
     ensures { result ≡ counts_with counts kind.now }
@@ -112,7 +114,7 @@ fn counted_with(counts: Counts, kind: &Kind<u64>) -> Counts
     after
 }
 
-/// The counts after a mark that may follow.
+/// All counts after one more mark, which may follow the marks before it.
 pub(crate) fn counts_after(past: &[Mark<u64>], counts: Counts, m: &Mark<u64>) -> Counts
     requires few { length past.now < 2 ^ 63 }
     requires counts { AreCounts past.now counts }

@@ -1,4 +1,4 @@
-//! What the checker looks up in the marks that it has read, the newest first.
+//! What the checker looks up in the marks that it has read, from the newest back.
 
 ghost use Rattle.std.specs.Prelude.{◌≡◌, ◌≤◌, ◌↔◌, IsTrue, length, reverse};
 ghost use Rattle.fak_model.specs.Checker.{IsNextPut, stage_with};
@@ -22,7 +22,7 @@ fn gots_by(kind: &Kind<u64>) -> u64
     u64::from(matches!(kind, Kind::Got(_)))
 }
 
-/// The stage of a seat whose newest mark is of this kind, with this many draws before it.
+/// The stage of a seat whose newest mark is of this kind, if this many `Put`s and `Got`s come before that mark.
 fn stage_after(puts_before: u64, gots_before: u64, kind: &Kind<u64>) -> Stage<u64>
     ensures { result ≡ stage_with puts_before gots_before kind.now }
 {
@@ -39,8 +39,8 @@ fn stage_after(puts_before: u64, gots_before: u64, kind: &Kind<u64>) -> Stage<u6
     }
 }
 
-/// The stage of a seat's open call: read off its newest mark, whose ticket is what is left of the draws when those
-/// behind it are taken away.
+/// The stage of a seat's open call, as its newest mark shows it. The number of draws before that mark gives the ticket:
+/// all draws so far, minus those from that mark on.
 pub(crate) fn stage_of(
     past: &[Mark<u64>],
     puts_so_far: u64,
@@ -64,7 +64,7 @@ pub(crate) fn stage_of(
     Stage::Idle
 }
 
-/// Whether the cell of this ticket was filled.
+/// Whether the cell of this ticket was filled for it.
 pub(crate) fn was_filled(past: &[Mark<u64>], ticket: u64) -> bool
     ensures { IsTrue result ↔ Has (Fill ticket) (reverse past.now) }
 {
@@ -78,7 +78,7 @@ pub(crate) fn was_filled(past: &[Mark<u64>], ticket: u64) -> bool
     false
 }
 
-/// Whether the cell of this ticket was taken from.
+/// Whether the item of this ticket was taken from its cell.
 pub(crate) fn was_taken(past: &[Mark<u64>], ticket: u64) -> bool
     ensures { IsTrue result ↔ Has (Take ticket) (reverse past.now) }
 {
@@ -92,7 +92,7 @@ pub(crate) fn was_taken(past: &[Mark<u64>], ticket: u64) -> bool
     false
 }
 
-/// The first `Put` from this index on, with its item.
+/// The first `Put` at this index or later, with its item.
 pub(crate) fn next_put(past: &[Mark<u64>], from: usize) -> Option<(usize, u64)>
     requires { from ≤ length past.now }
     ensures { IsNextPut past.now from result }

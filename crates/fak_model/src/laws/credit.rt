@@ -5,13 +5,13 @@ ghost use Rattle.fak_model.specs.Credit.{IsCreditHistory, credits, debits, grant
 
 use crate::credit::CreditMark;
 
-/// The grants are the lesser of the debits, and the start and the credits together.
+/// The number of grants is the smaller of two numbers: the debits, and the start plus the credits.
 pub fn a_credit_grants_what_it_can()
     ensures { (start : ℕ) (h : List CreditMark) → IsCreditHistory h
         → grants_made start h ≡ min (debits h) (start + credits h) }
 {}
 
-/// Every list of marks is a credit's history: debits and credits are whole calls, and are never refused.
+/// Every list of marks is a credit's history: each debit and each credit is a whole call, and none is refused.
 pub fn every_credit_mark_is_lawful()
     ensures { (h : List CreditMark) → IsCreditHistory h }
 {}

@@ -1,6 +1,6 @@
-//! Each part of what makes a history lawful, judged from both sides: after some marks one mark may come, and another,
-//! which that part alone refuses, may not. Every list of a credit's marks is lawful, so that it has no such examples. And
-//! which names are apart.
+//! Examples on both sides of each part of what makes a history lawful: after some marks one mark may come, and another
+//! may not, because exactly that part forbids it. A credit has no such examples: every list of its marks is lawful. One
+//! more example shows which names are distinct.
 
 pub mod file;
 pub mod queue;

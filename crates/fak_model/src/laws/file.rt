@@ -12,7 +12,7 @@ pub fn amounts_held_in_a_file_table_fit()
         → sum_below (λ seat. amount_held seat h) seats ≤ k }
 {}
 
-/// Where no call is unfinished no seat holds, and the count is the number of seats.
+/// If no call is cut short, no seat holds anything, and the count is the number of seats.
 pub fn a_file_table_at_rest_is_free()
     ensures { (k seats : ℕ) (h : List FileMark) → IsFileHistory k h → AreNamed (file_rules k) seats h
         → IsAtRest (file_rules k) h → count k h ≡ pos k }

@@ -11,26 +11,26 @@ ghost use Rattle.fak_model.specs.Weights.{close_of, closed_of, got_of, put_of};
 
 use crate::queue::Mark;
 
-/// No more was got than was put, and what is left fits the queue.
+/// No more items were got than were put, and the items left fit into the queue.
 pub fn a_queue_holds_no_more_than_its_size<T>()
     ensures { (size : ℕ) (h : List (Mark T)) → IsQueueHistory size h
         → (count gots h ≤ count puts h) × (length (contents h) ≤ size) }
 {}
 
-/// Where no call is cut short both counts are the number of items left.
+/// If no call is cut short, both counts are the number of items left.
 pub fn a_queue_at_rest_counts_its_items<T>()
     ensures { (size : ℕ) (h : List (Mark T)) → IsQueueHistory size h → IsAtRest (queue_rules size) h
         → (upper_count h ≡ pos (length (contents h))) × (lower_count h ≡ pos (length (contents h))) }
 {}
 
-/// If the insertion of p completed before the insertion of q started, no deletion yielding q completes before a
-/// deletion yielding p has started (Gottlieb, Lubachevsky and Rudolph, TOPLAS 5(2), 1983).
+/// Let the insertion with ticket p complete before the insertion with ticket q starts. Then the deletion with ticket q
+/// completes only after the deletion with ticket p has started (Gottlieb, Lubachevsky and Rudolph, TOPLAS 5(2), 1983).
 pub fn a_queue_keeps_the_order_of_its_calls<T>()
     ensures { (size : ℕ) (h : List (Mark T)) → IsQueueHistory size h → KeepsCallOrder h }
 {}
 
-/// What was put was got or is left, under every weight of items; so no more is left than was put, and nothing where as
-/// many were got.
+/// Under every weight of items, what was put is what was got plus what is left. So no more is left than was put, and
+/// nothing is left if as many items were got as were put.
 pub fn a_queue_weighs_what_was_put<T>()
     ensures weighs { (size : ℕ) (weight : T → ℕ) (h : List (Mark T)) → IsQueueHistory size h
         → count (put_of weight) h ≡ count (got_of weight) h + sum_by weight (contents h) }
@@ -54,8 +54,8 @@ pub fn a_cell_is_put_then_filled_then_taken<T>()
         → before ++ m ∷ after ≡ h → m.kind ≡ Take k → Has (Fill k) before }
 {}
 
-/// A seat that never began a call may be added: a history names no number of seats, it stays named by more, and it is
-/// at rest where those that it names are.
+/// A seat that never began a call may be added. A history is legal whatever the number of seats. Its seats are also
+/// below any larger number, and if the seats that it names are at rest, then all are.
 pub fn a_seat_without_a_call_keeps_a_queue_history<T>()
     ensures named { (size seats more : ℕ) (h : List (Mark T)) → AreNamed (queue_rules size) seats h → seats ≤ more
         → AreNamed (queue_rules size) more h }
@@ -71,8 +71,8 @@ pub fn a_beginning_of_a_queue_history_is_one<T>()
     ensures { (size : ℕ) (h rest : List (Mark T)) → IsQueueHistory size (h ++ rest) → IsQueueHistory size h }
 {}
 
-/// A history is legal exactly where each mark may follow the stages and counts that the marks before it leave:
-/// the definition as a machine that reads the newest mark first, which the proofs use.
+/// A history is legal exactly if each mark may follow the stages and counts that the marks before it leave. This is the
+/// definition as a machine that reads the list with the newest mark first; the proofs use it.
 pub fn a_legal_history_is_legal_mark_by_mark<T>()
     ensures { (size : ℕ) (h : List (Mark T)) → IsQueueHistory size h ↔ IsLegalPast size (reverse h) }
 {}

@@ -13,14 +13,14 @@ pub fn amounts_held_in_a_room_fit()
         → sum_below (λ seat. amount_held seat h) seats ≤ bound }
 {}
 
-/// Where no call is cut short the value is what all seats hold.
+/// If no call is cut short, the value is the sum of what all seats hold.
 pub fn a_room_at_rest_counts_what_is_held()
     ensures { (bound seats : ℕ) (h : List RoomMark) → IsRoomHistory bound h → AreNamed (room_rules bound) seats h
         → IsAtRest (room_rules bound) h → value h ≡ pos (sum_below (λ seat. amount_held seat h) seats) }
 {}
 
-/// Where each refused claim asked for 1, none is refused before as much is granted as the bound says; and no more is
-/// granted than the bound and what is given back.
+/// If every refused claim asked for 1, none is refused before the amounts granted reach the bound. In all, no more is
+/// granted than the bound plus what was given back.
 pub fn a_room_refuses_at_its_bound()
     ensures refused { (bound : ℕ) (h : List RoomMark) → IsRoomHistory bound h → total other_amount h ≡ 0
         → 0 < total refusal_of h → bound ≤ total up_amount h }

@@ -5,8 +5,8 @@ ghost use Rattle.std.specs.List.{All, sum_by};
 ghost use Rattle.fak_model.specs.Calls.{before_mark};
 ghost use Rattle.fak_model.specs.Seats.{Begins, In, IsWhole, Knows, longer_of, marks_of, mine};
 
-/// Of two prefixes of one history one is a prefix of the other. Joining two seats gives the longer, under both names.
-/// Once every seat has joined, every mark belongs to a joined seat.
+/// If two lists are prefixes of one history, one of them is a prefix of the other. Joining two seats gives the longer,
+/// under both names. Once every seat has joined, every mark belongs to a joined seat.
 pub fn seats_that_join_have_seen_one_history<M>()
     ensures one { (s t h : List M) → Begins s h → Begins t h → Begins s t ⊎ Begins t s }
     ensures joined { (seat_of : M → ℕ) (a b : List ℕ) (s t h : List M) → Knows seat_of a s h → Knows seat_of b t h
@@ -15,7 +15,7 @@ pub fn seats_that_join_have_seen_one_history<M>()
         → All (λ m. seat_of m < seats) seen → mine seat_of names seen ≡ seen }
 {}
 
-/// What a tally knows is what its seats know. A tally of one seat knows the marks of its name. Each new name adds its
+/// A tally knows what its seats know. A tally of one seat knows the marks of that seat's name. Each new name adds its
 /// marks to what was known, under every weight of marks.
 pub fn a_tally_knows_what_its_seats_know<M>()
     ensures one { (seat_of : M → ℕ) (name : ℕ) (h : List M) → mine seat_of (name ∷ []) h ≡ marks_of seat_of name h }
@@ -30,8 +30,8 @@ pub fn a_tally_knows_what_its_seats_know<M>()
         ≡ sum_by weight (mine seat_of names of_tally) + sum_by weight (marks_of seat_of name of_seat) }
 {}
 
-/// The only seat of an object observes its own marks alone. A call makes them longer by the call's marks, and before the
-/// first of these comes what the seat had observed.
+/// The only seat of an object observes only its own marks. Each call appends its marks to what the seat had observed,
+/// and nothing else comes before the first of them.
 pub fn an_only_seat_has_seen_its_own_marks<M>()
     ensures mine { (seat_of : M → ℕ) (seen : List M) → All (λ m. seat_of m < 1) seen → marks_of seat_of 0 seen ≡ seen }
     ensures grows { (seat_of : M → ℕ) (old new marks : List M) → All (λ m. seat_of m < 1) old
@@ -41,8 +41,8 @@ pub fn an_only_seat_has_seen_its_own_marks<M>()
         → before_mark seat_of 0 (length (marks_of seat_of 0 old) + 0) (old ++ m ∷ rest) ≡ old }
 {}
 
-/// A seat that never began a call adds nothing: no name beyond those of a history has a mark in it, and mine is the same
-/// with such a name and without it.
+/// A seat that never began a call adds nothing: names beyond those of a history have no mark in it. So `mine` is the
+/// same with such a name as without it.
 pub fn a_seat_without_a_call_adds_nothing<M>()
     ensures beyond { (seat_of : M → ℕ) (seats name : ℕ) (h : List M) → All (λ m. seat_of m < seats) h → seats ≤ name
         → marks_of seat_of name h ≡ [] }

@@ -1,4 +1,4 @@
-//! What a file table's history may and may not go on with, on either side of each part of the definition.
+//! What may and may not come next in a file table's history, on both sides of each part of the definition.
 
 ghost use Rattle.std.specs.Prelude.{[], ◌∷◌};
 ghost use Rattle.fak_model.specs.declared.file.FileField.TheVariants.{Inode, Uses};
@@ -6,7 +6,7 @@ ghost use Rattle.fak_model.specs.declared.file.FileKind.TheVariants.{Take, Over,
 ghost use Rattle.fak_model.specs.File.{IsFileHistory};
 ghost use Rattle.fak_model.specs.Examples.{Parts, file_by};
 
-/// The marks of a seat are whole calls, the last perhaps cut short.
+/// The marks of a seat are whole calls; the last call may be cut short.
 pub fn the_calls_of_a_file_table_are_judged()
     ensures back { Parts (IsFileHistory 2) (file_by 0 (Take 2) ∷ []) (file_by 1 (Over 1) ∷ file_by 1 (Back 1) ∷ [])
         (file_by 1 (Back 1) ∷ []) }
@@ -24,8 +24,8 @@ pub fn the_calls_of_a_file_table_are_judged()
         (file_by 0 (Set 0 Uses 1) ∷ file_by 0 Give ∷ []) (file_by 0 Give ∷ file_by 0 (Set 0 Uses 1) ∷ []) }
 {}
 
-/// A hold takes 1 or as much as there are seats, where the count has it, and is refused where the count has
-/// less; only a writer sets a field.
+/// A hold has the amount 1 or the number of seats. It is granted if the count has that much, and refused if the count
+/// has less. Only a writer sets a field.
 pub fn the_answers_of_a_file_table_are_judged()
     ensures take { Parts (IsFileHistory 2) (file_by 0 (Take 1) ∷ []) (file_by 1 (Take 1) ∷ [])
         (file_by 1 (Take 2) ∷ []) }

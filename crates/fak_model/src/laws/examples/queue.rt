@@ -1,12 +1,12 @@
-//! What a queue's history may and may not go on with, on either side of each part of the definition.
+//! What may and may not come next in a queue's history, on both sides of each part of the definition.
 
 ghost use Rattle.std.specs.Prelude.{[], ◌∷◌, ◌++◌};
 ghost use Rattle.fak_model.specs.declared.queue.Kind.TheVariants.{ClaimIn, OverIn, BackIn, NoRoom, Put, Fill, EndIn, ClaimOut, OverOut, BackOut, NoItem, Got, Take, EndOut, Close, Closed, LateIn};
 ghost use Rattle.fak_model.specs.Queue.{IsQueueHistory};
 ghost use Rattle.fak_model.specs.Examples.{Parts, by, deleted, inserted};
 
-/// The marks of a seat are whole calls, the last perhaps cut short: each is the next of its call, or begins
-/// one. A fill or take out of its call bears no ticket either.
+/// The marks of a seat are whole calls; the last call may be cut short. Each mark is the next one of its call, or
+/// begins a call. A `Fill` or `Take` outside a call is illegal: it has no ticket.
 pub fn the_calls_of_a_queue_are_judged()
     ensures back_in { Parts (IsQueueHistory 1) (inserted 0 7 0) (by 1 OverIn ∷ by 1 BackIn ∷ []) (by 1 BackIn ∷ []) }
     ensures put { Parts (IsQueueHistory 1) [] (by 0 ClaimIn ∷ by 0 (Put 7) ∷ []) (by 0 (Put 7) ∷ []) }
@@ -31,8 +31,8 @@ pub fn the_calls_of_a_queue_are_judged()
         (by 1 (Put 8) ∷ []) }
 {}
 
-/// Each answer is fair: an insertion is refused where there is no room, granted where there is, and neither
-/// once the queue is shut; a deletion is refused where there is no item, and granted where there is.
+/// Each outcome is fair. Before a close, an insertion is granted if there is room and refused if there is none. After a
+/// close it is late. A deletion is granted if there is an item and refused if there is none.
 pub fn the_answers_of_a_queue_are_judged()
     ensures no_room { Parts (IsQueueHistory 1) (inserted 0 7 0) (by 1 NoRoom ∷ []) (deleted 1 7 0 ++ by 1 NoRoom ∷ []) }
     ensures no_room_open { Parts (IsQueueHistory 1) (inserted 0 7 0) (by 1 NoRoom ∷ by 0 Close ∷ [])
@@ -57,8 +57,8 @@ pub fn the_answers_of_a_queue_are_judged()
     ensures claim_out_shut { Parts (IsQueueHistory 1) (by 0 Close ∷ []) (by 1 NoItem ∷ []) (by 1 ClaimOut ∷ []) }
 {}
 
-/// What raised a count does so until it is taken back: a claim, also one that was too much or came too late,
-/// until its withdrawal or the end of its deletion.
+/// A mark that raised a count has its effect until it is undone. A claim, even one that was refused as too much or too
+/// late, counts until its withdrawal or until the deletion ends.
 pub fn the_counts_of_a_queue_are_judged()
     ensures over_in { Parts (IsQueueHistory 1) (inserted 0 7 0 ++ by 1 OverIn ∷ [] ++ deleted 2 7 0) (by 3 NoRoom ∷ [])
         (by 1 BackIn ∷ by 3 NoRoom ∷ []) }
@@ -70,7 +70,7 @@ pub fn the_counts_of_a_queue_are_judged()
         (by 0 EndIn ∷ by 1 NoItem ∷ []) }
 {}
 
-/// The j-th item got is the j-th that was put.
+/// The j-th item got is the j-th item put.
 pub fn the_items_of_a_queue_are_judged()
     ensures first { Parts (IsQueueHistory 2) (inserted 0 7 0 ++ inserted 0 8 1 ++ by 1 ClaimOut ∷ [])
         (by 1 (Got 7) ∷ []) (by 1 (Got 8) ∷ []) }
@@ -81,8 +81,8 @@ pub fn the_items_of_a_queue_are_judged()
         (by 1 (Got 9) ∷ []) }
 {}
 
-/// A fill and a take bear their call's ticket. A cell is filled once it was taken from in the round before, and
-/// taken from once it was filled.
+/// A `Fill` and a `Take` have the ticket of their call. A cell is filled only after the item of the round before was
+/// taken from it, and taken from only after it was filled.
 pub fn the_cells_of_a_queue_are_judged()
     ensures fill_ticket { Parts (IsQueueHistory 2) (by 0 ClaimIn ∷ by 1 ClaimIn ∷ by 0 (Put 7) ∷ by 1 (Put 8) ∷ [])
         (by 1 (Fill 1) ∷ []) (by 1 (Fill 0) ∷ []) }

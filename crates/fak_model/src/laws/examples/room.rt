@@ -1,11 +1,11 @@
-//! What a room's history may and may not go on with, on either side of each part of the definition.
+//! What may and may not come next in a room's history, on both sides of each part of the definition.
 
 ghost use Rattle.std.specs.Prelude.{[], ◌∷◌};
 ghost use Rattle.fak_model.specs.declared.room.RoomKind.TheVariants.{Up, Over, Back, No, Release};
 ghost use Rattle.fak_model.specs.Room.{IsRoomHistory};
 ghost use Rattle.fak_model.specs.Examples.{Parts, room_by};
 
-/// The marks of a seat are whole calls, the last perhaps cut short.
+/// The marks of a seat are whole calls; the last call may be cut short.
 pub fn the_calls_of_a_room_are_judged()
     ensures back { Parts (IsRoomHistory 2) (room_by 0 (Up 2) ∷ []) (room_by 1 (Over 1) ∷ room_by 1 (Back 1) ∷ [])
         (room_by 1 (Back 1) ∷ []) }
@@ -17,8 +17,8 @@ pub fn the_calls_of_a_room_are_judged()
         (room_by 1 (Over 1) ∷ []) }
 {}
 
-/// A claim is granted where it fits beside the value, and refused where it does not; no seat gives back more
-/// than it holds.
+/// A claim is granted if its amount plus the value is at most the bound, and refused if it is more. No seat gives back
+/// more than it holds.
 pub fn the_answers_of_a_room_are_judged()
     ensures up { Parts (IsRoomHistory 2) (room_by 0 (Up 1) ∷ []) (room_by 1 (Up 1) ∷ []) (room_by 1 (Up 2) ∷ []) }
     ensures no { Parts (IsRoomHistory 2) (room_by 0 (Up 1) ∷ []) (room_by 1 (No 2) ∷ []) (room_by 1 (No 1) ∷ []) }
