@@ -1,4 +1,4 @@
--- The names that proofs cite most, passed on from one place. Declares nothing.
+-- The names that proofs cite most, re-exported from one place. Declares nothing.
 pub use Rattle.fak_core.specs.QueueFields.{QueueFields, queue_state, written_fields, moved_fields, or_idle, phase_step, step_of, IsSound, IsSoundWith, IsStep, LoadsPut, opening_fields, first_phase, phase_begin, begin_of, IsSmall, HasTicketBelow, IsWithin, IsBegun}
 pub use Rattle.fak_core.specs.QueueMoves.{QueueState, with_at, with_phase, moved, load_item, move_by, next_move, past_after, written, with_mark, ticket_out}
 pub use Rattle.fak_core.specs.QueueProgress.{IsIdleOnce, IsIdleWithin, steps_left, steps_made, HoldsTicketOf, seat_of, AreIdleFrom, MakesProgress, SomeSeatMoves, SomeHolderMoves, has_drawn, drawn_seats, EachSteps, IsRound, IsAdvance, after_rounds, round_robin}

@@ -1,5 +1,5 @@
--- Several deletions at once: one load tests for them, one subtraction claims or ends for them, one add draws for them or
--- withdraws them.
+-- Several deletions at once: one load tests for them, one subtraction claims or ends for them, one add withdraws or
+-- draws for them.
 use Rattle.fak_model.specs.declared.queue.Kind.TheVariants as made
 use Rattle.fak_model.specs.Seats.{In}
 use Rattle.std.proofs.lemmas.List.{length-append, length-take, length-drop, take-append-drop}
@@ -14,7 +14,7 @@ use Rattle.fak_core.specs.QueueBlocks.{names_of, AreApart, Stand, block, all_at,
 
 -- ---- subtractions from the lower count
 
--- as many are granted as find an item
+-- as many are granted as there are items
 some_found : (l d : ℕ) → (min l d ≡ 0) ⊎ (pos (min l d) ≤ℤ pos l)
 some_found l d = grind (arith, common_steps, ints, min)
 
@@ -22,7 +22,7 @@ rest_empty : (l d : ℕ) → (d - l ≡ 0) ⊎ (pos l ≤ℤ pos (min l d))
 rest_empty l d = grind (arith, common_steps, ints, min)
 
 module _ {A : Type 0} (size : ℕ) where
-  -- what one subtraction changes
+  -- the change by one subtraction
   abbrev OneSub : QueueState A → ℕ → QueueState A → Kind A → Phase A → Type 0
   OneSub st n c κ p = Changes st c ((record { seat = n; kind = κ }) ∷ []) st.upper (st.lower -ℤ pos 1) st.draws_in st.draws_out ((n, p) ∷ [])
 
@@ -34,7 +34,7 @@ module _ {A : Type 0} (size : ℕ) where
   sub_over st n ge = by_test (λ (m : QueueMove A). OneSub st n (moved st n m) made.OverOut BackLow) (int_lt (pos 0) st.lower) _ _
       (λ b. not_both (int_lt (pos 0) st.lower) b ge) (λ _. one_step st n made.OverOut BackLow st.upper (st.lower -ℤ pos 1) st.draws_in st.draws_out)
 
-  -- what one test changes
+  -- the change by one test
   abbrev OneTest : QueueState A → ℕ → QueueState A → List (Mark A) → Phase A → Type 0
   OneTest st n c marks p = Changes st c marks st.upper st.lower st.draws_in st.draws_out ((n, p) ∷ [])
 
@@ -49,7 +49,7 @@ module _ {A : Type 0} (size : ℕ) where
       (λ b. not_both (int_lt (pos 0) st.lower) b ge) (λ _. one_test st n ((record { seat = n; kind = made.NoItem }) ∷ []) TestLow Idle)
 
 module _ {A B : Type 0} (size : ℕ) where
-  -- what all of them change
+  -- the change by all subtractions
   abbrev AllSub : QueueState A → QueueState A → (B → Kind A) → (B → Phase A) → List (ℕ × B) → Type 0
   AllSub st c f p ss = Changes st c (marks_back f ss) st.upper (st.lower -ℤ pos (length ss)) st.draws_in st.draws_out (all_at p ss)
 
@@ -77,7 +77,7 @@ module _ {A B : Type 0} (size : ℕ) where
       let b = move_from size st s.0 SubLow in
       more_subs st b (after_subs size b ss) (λ x. made.OverOut) (λ x. BackLow) s ss apart.0 one (subs_over b ss apart.1 (let e = one.lower_is in omega (arith, ints, e, low)))
 
-  -- ---- a subtraction of which some are granted and the others are over
+  -- ---- a subtraction of which the first are granted and the others refused
 
   granted_part : (st : QueueState A) (granted over : List (ℕ × B)) → AreApart (names_of granted) → GrantsLow st granted over → AllSub st (after_subs size st granted) (λ x. made.ClaimOut) (λ x. TicketOut) granted
   granted_part st granted over apart g = elim g.stock [
@@ -167,11 +167,11 @@ ends_out {A} size st (s ∷ ss) apart =
 
 -- ---- draws
 
--- a Got puts nothing
+-- a Got puts no item
 got_puts_none : {A : Type 0} (m : Mark A) (x : A) (h : List (Mark A)) → m.kind ≡ made.Got x → (k : ℕ) → item_of h k ≡ item_of (m ∷ h) k
 got_puts_none m x h is k = grind (arith, common_steps, item_of)
 
--- items by their tickets, in a past with the newest mark first
+-- the items by ticket, in a past with the newest mark first
 put_there : {A : Type 0} (h : List (Mark A)) (k : ℕ) → item_at (items_put (reverse h)) k ≡ item_of h k
 put_there h k = item_same k (reverse h) ∙ ap (λ l. item_of l k) (reverse-reverse h)
 

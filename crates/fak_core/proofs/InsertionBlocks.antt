@@ -1,4 +1,5 @@
--- Several insertions at once: one load tests for them, one add claims, draws or ends for them, one subtraction withdraws them.
+-- Several insertions at once: one load tests for them, one add claims, draws or ends for them, one subtraction
+-- withdraws them.
 use Rattle.fak_model.specs.declared.queue.Kind.TheVariants as made
 use Rattle.fak_model.specs.Seats.{In}
 use Rattle.std.proofs.lemmas.List.{length-append, length-take, length-drop, take-append-drop}
@@ -10,7 +11,7 @@ use Rattle.fak_core.specs.QueueBlocks.{names_of, AreApart, block, all_at, turns_
 
 -- ---- adds to the upper count
 
--- as many are granted as find room
+-- as many are granted as there is room for
 some_fit : (size u d : ℕ) → (min (size - u) d ≡ 0) ⊎ ((pos u +ℤ pos (min (size - u) d)) ≤ℤ pos size)
 some_fit size u d = grind (arith, common_steps, ints, min)
 
@@ -18,7 +19,7 @@ rest_full : (size u d : ℕ) → (d - (size - u) ≡ 0) ⊎ (pos size ≤ℤ (po
 rest_full size u d = grind (arith, common_steps, ints, min)
 
 module _ {A : Type 0} (size : ℕ) where
-  -- what one add changes
+  -- the change by one add
   abbrev OneAdd : QueueState A → ℕ → QueueState A → Kind A → Phase A → Type 0
   OneAdd st n c κ p = Changes st c ((record { seat = n; kind = κ }) ∷ []) (st.upper +ℤ pos 1) st.lower st.draws_in st.draws_out ((n, p) ∷ [])
 
@@ -33,7 +34,7 @@ module _ {A : Type 0} (size : ℕ) where
   add_late : (st : QueueState A) (n : ℕ) (x : A) → st.shut ≡ true → OneAdd st n (move_from size st n (AddUp x)) made.LateIn (BackUp x)
   add_late st n x shut = by_test (λ (m : QueueMove A). OneAdd st n (moved st n m) made.LateIn (BackUp x)) st.shut _ _ (λ _. one_step st n made.LateIn (BackUp x) (st.upper +ℤ pos 1) st.lower st.draws_in st.draws_out) (λ b. not_both st.shut shut b)
 
-  -- what all of them change
+  -- the change by all adds
   abbrev AllAdd : QueueState A → QueueState A → (A → Kind A) → (A → Phase A) → List (ℕ × A) → Type 0
   AllAdd st c f p ss = Changes st c (marks_back f ss) (st.upper +ℤ pos (length ss)) st.lower st.draws_in st.draws_out (all_at p ss)
 
@@ -68,7 +69,7 @@ module _ {A : Type 0} (size : ℕ) where
       let b = move_from size st s.0 (AddUp s.1) in
       more_adds st b (after_adds size b ss) (λ x. made.LateIn) (λ x. BackUp x) s ss apart.0 one (adds_late b ss apart.1 (one.shut_is ∙ shut))
 
-  -- ---- an add of which some are granted and the others are over
+  -- ---- an add of which the first are granted and the others refused
 
   granted_part : (st : QueueState A) (granted over : List (ℕ × A)) → AreApart (names_of granted) → Grants size st granted over → AllAdd st (after_adds size st granted) (λ x. made.ClaimIn) (λ x. TicketIn x) granted
   granted_part st granted over apart g = elim g.room [
@@ -141,7 +142,7 @@ module _ {A : Type 0} (size : ℕ) where
 
   -- ---- tests
 
-  -- what one test changes
+  -- the change by one test
   abbrev OneTest : QueueState A → ℕ → QueueState A → List (Mark A) → Phase A → Type 0
   OneTest st n c marks p = Changes st c marks st.upper st.lower st.draws_in st.draws_out ((n, p) ∷ [])
 

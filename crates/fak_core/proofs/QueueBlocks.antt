@@ -1,4 +1,4 @@
--- A block of steps is a schedule, and the changes of its steps add up.
+-- A block of steps is a schedule, and its change is the sum of the changes of its steps.
 use Rattle.fak_model.specs.Seats.{In}
 use Rattle.fak_model.proofs.Seats.{in_left, in_right}
 use Rattle.std.proofs.lemmas.List.{append_assoc}
@@ -55,7 +55,7 @@ pub stand_on : {A : Type 0} (b c : QueueState A) (p : Posts A) → ((n : ℕ) �
 stand_on b c [] same all = tt
 stand_on b c (s ∷ p) same all = (same s.0 (inl refl) ∙ all.0, stand_on b c p (λ n i. same n (inr i)) all.1)
 
--- a state in which one seat has moved
+-- in a state in which one seat has moved, the others are in their phases still
 pub stand_else : {A : Type 0} (b c : QueueState A) (n : ℕ) (p : Posts A) → ((k : ℕ) → k ≢ n → c.phase k ≡ b.phase k) → (In n (names_of p) → ⊥) → Stand b p → Stand c p
 stand_else b c n p same out all = stand_on b c p (λ k i. same k (λ e. out (subst (λ (z : ℕ). In z (names_of p)) e i))) all
 
@@ -80,7 +80,7 @@ module _ {A : Type 0} (size : ℕ) where
   pub reached_block : (st : QueueState A) (ss : Posts A) → IsReached size st → AreApart (names_of ss) → Stand st ss → IsReached size (block size st ss)
   reached_block st ss R apart all = (block_leads st ss apart all).reached R
 
-  -- an idle seat begins a call in this phase and makes its first step
+  -- an idle seat begins a call in this phase and takes its first step
   begins_and_steps : (st : QueueState A) (n : ℕ) (p : Phase A) → st.phase n ≡ Idle → stepped size (begun st n p (st.phase n)) n ≡ move_from size (with_phase st n p) n p
   begins_and_steps st n p idle = ap (λ q. stepped size (begun st n p q) n) idle ∙ ap (λ q. move_from size (with_phase st n p) n q) (at_here st.phase n p)
 
@@ -171,7 +171,7 @@ changes_then {st = st} {b = b} {c = c} {m = m} {m' = m'} p q apart x y = record 
 pub changes_none : {A : Type 0} (st : QueueState A) → Changes st st [] st.upper st.lower st.draws_in st.draws_out []
 changes_none st = record { upper_is = refl; lower_is = refl; draws_in_is = refl; draws_out_is = refl; turn_is = refl; cell_is = refl; shut_is = refl; past_is = refl; stand = tt; others = λ n out. refl }
 
--- with other numbers
+-- the same change, with equal numbers in place of these
 abbrev pub counts_as : {A : Type 0} {st c : QueueState A} {m : List (Mark A)} {u l u' l' : ℤ} {i d i' d' : ℕ} {p : Posts A} → u ≡ u' → l ≡ l' → i ≡ i' → d ≡ d' → Changes st c m u l i d p → Changes st c m u' l' i' d' p
 counts_as {st = st} {c = c} {m = m} {p = p} a b e f x = record {
   upper_is = x.upper_is ∙ a;
@@ -202,7 +202,7 @@ one_step st n κ p u l i d = record {
   others = λ k out. at_else st.phase n k p (λ e. out (inl e));
 }
 
--- one test: the seat stood in phase p and now in q
+-- one test: the seat was in phase p and is now in phase q
 pub one_test : {A : Type 0} (st : QueueState A) (n : ℕ) (marks : List (Mark A)) (p q : Phase A)
     → Changes st (record st { phase = with_at (with_at st.phase n p) n q; past = marks ++ st.past }) marks st.upper st.lower st.draws_in st.draws_out ((n, q) ∷ [])
 one_test st n marks p q = record {

@@ -1,4 +1,4 @@
--- What the calls of a queue core learn from its fields, and from the values that they read.
+-- What the calls of a queue core know from its fields, and from the values that they read.
 use Rattle.std.proofs.lemmas.List.{append-nil, reverse-reverse}
 use Rattle.fak_core.specs.declared.line.CoreMove.{CoreMove}
 use Rattle.fak_core.specs.declared.line.CoreMove.TheVariants as step
@@ -17,15 +17,15 @@ item_at_is [] k = refl
 item_at_is (x ∷ xs) zero = refl
 item_at_is (x ∷ xs) (suc k) = item_at_is xs k
 
--- the items put tell the item of the next deletion's ticket
+-- the list of the items put has the item of the next deletion's ticket
 pub drawn_is : (f : QueueFields) (items : List ℕ) → IsSoundWith f items → slice_get items f.draws_out ≡ item_of f.past f.draws_out
 drawn_is f items h = grind (arith, common_steps, slice_get, item_at_is, items_put, history_of, item_same, item_of, reverse-reverse)
 
--- a step depends on the words, and on no other seat
+-- a step depends only on the words and on its own seat
 words_tell : (f : QueueFields) (d : Option ℕ) (p : Phase ℕ) → move_by f.size (queue_state (record f { phases = []; past = [] })) d p ≡ move_by f.size (queue_state f) d p
 words_tell f d p = grind (arith, common_steps, move_by, queue_state)
 
--- the step that the code finds
+-- the step that the code computes
 pub step_found : (f : QueueFields) (items : List ℕ) (i : ℕ) (p : Phase ℕ) (d : Option ℕ) (o : Option (QueueMove ℕ)) → IsSoundWith f items → i < length f.phases → p ≡ get_or f.phases i p
     → d ≡ slice_get items f.draws_out → o ≡ move_by f.size (queue_state (record f { phases = []; past = [] })) d p → step_of f i ≡ or_idle o
 step_found f items i p d o h within at drawn is = grind (arith, common_steps, phase_step, slice_get_read, or_idle, move_by, queue_state, drawn_is, words_tell)
@@ -35,12 +35,12 @@ step_found f items i p d o h within at drawn is = grind (arith, common_steps, ph
 put_left : (s : ℕ) (o : Option (Kind ℕ)) (past : List (Mark ℕ)) → items_put (reverse (past_after s o past)) ≡ items_put (reverse past) ++ item_left o
 put_left s o past = grind (arith, common_steps, items_put, reverse, past_after, item_left, append-nil, reverse_cons, items_push, item_in)
 
--- a write changes no seat and no mark
+-- a write changes no phase and no mark
 written_same : (f : QueueFields) (w : Write ℕ) (phases : List (Phase ℕ)) (past : List (Mark ℕ))
     → record (written_fields (record f { phases = []; past = [] }) w) { phases = phases; past = past } ≡ record (written_fields f w) { phases = phases; past = past }
 written_same f w phases past = grind (arith, common_steps, written_fields)
 
--- the fields that the code leaves
+-- the fields after the code has written
 pub step_left : (f w : QueueFields) (i : ℕ) (m : QueueMove ℕ) (past : List (Mark ℕ)) → w ≡ written_fields (record f { phases = []; past = [] }) m.write → past ≡ past_after i m.mark f.past
     → record w { phases = slice_set f.phases i m.phase; past = past } ≡ moved_fields f i m
 step_left f w i m past is more = grind (arith, common_steps, slice_set, written_same, written_fields)
@@ -56,7 +56,7 @@ step_is f i m line h e says = record { step = m; is = e; says = says; leaves = r
 
 -- ---- what a deletion loads
 
--- the name of the step that a seat in this phase makes
+-- the name of the step that a seat in this phase takes
 abbrev name_of : Phase ℕ → CoreMove
 name_of Idle = step.TestUp
 name_of (TestUp x) = step.TestUp
@@ -87,7 +87,7 @@ named size st d p = grind (arith, common_steps, move_by, name_of, HasName, by_te
 at_load : (p : Phase ℕ) → name_of p ≡ step.LoadItem → (k : ℕ) × (p ≡ LoadItem k)
 at_load p e = grind (arith, common_steps, name_of)
 
--- a line of a load gives the item that was put under the seat's ticket
+-- the line of a load has the item that was put under the seat's ticket
 pub load_is : (f : QueueFields) (i : ℕ) (m : QueueMove ℕ) (line : Line) → IsSound f → step_of f i ≡ Ok m → line ≡ line_of i m → line.step ≡ step.LoadItem → LoadsPut f i line.found
 load_is f i m line h e says loads =
     let s = step_made f i m e in

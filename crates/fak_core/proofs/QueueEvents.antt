@@ -1,4 +1,4 @@
--- What an event changes of the cells' turns and of who holds them.
+-- How an event changes the turns of the cells and the seats that hold tickets.
 use Rattle.fak_core.specs.QueueSchedule.{QueueEvent, Advances, begun, happens, move_from, stepped}
 use Rattle.fak_core.proofs.Common.{Phase, Idle, QueueState, with_at, moved, written, ticket_out, next_move, ◌≡◌, ◌≢◌, ◌⊎◌, ℕ, ◌+◌, ◌<◌, ◌≤◌, int_lt, Option, sym, ap, ◌∙◌, subst, arith, same_or_not, item_of, common_steps, steps_left, steps_made, HoldsTicketOf, seat_of}
 use Rattle.fak_core.proofs.QueueKept.{shown, IsKept}
@@ -13,7 +13,7 @@ idle_or_not p = grind (arith, common_steps)
 pub none_left : {A : Type 0} (p : Phase A) → steps_left p ≡ 0 → p ≡ Idle
 none_left p e = grind (arith, common_steps, steps_left)
 
--- a call makes seven steps at most
+-- a call takes at most seven steps
 pub steps_few : {A : Type 0} (p : Phase A) → steps_made p + steps_left p ≤ 7
 steps_few p = grind (arith, common_steps, steps_made, steps_left)
 
@@ -22,11 +22,11 @@ holds_open size p c h e = subst (λ q. HoldsTicketOf size q c) e h
 
 -- ---- a seat that begins a call
 
--- a seat in mid-call stays where it stands
+-- a seat with an open call stays in its phase
 begun_open : {A : Type 0} (st : QueueState A) (u t : ℕ) (p q : Phase A) → st.phase u ≡ q → st.phase t ≢ Idle → (begun st u p q).phase t ≡ st.phase t
 begun_open st u t p q e n = grind (arith, common_steps, begun, at_else)
 
--- and so does another seat
+-- and so does any other seat
 begun_else : {A : Type 0} (st : QueueState A) (u t : ℕ) (p q : Phase A) → t ≢ u → (begun st u p q).phase t ≡ st.phase t
 begun_else st u t p q n = grind (arith, common_steps, begun, at_else)
 
@@ -57,7 +57,7 @@ turn_event size st e c z f = grind (arith, common_steps, happens, IsKept, begun_
 
 -- ---- a seat that holds a ticket
 
--- it holds the ticket still, or has given the cell on to the turn after its own
+-- the seat still holds the ticket, or has handed the cell on to the turn after its own
 abbrev pub GoesOn : {A : Type 0} → ℕ → QueueState A → ℕ → ℕ → ℕ → Type 0
 GoesOn size st t c v = HoldsTurn size st t c v ⊎ ((v < st.turn c) × (steps_left (st.phase t) ≤ 1))
 
@@ -67,15 +67,15 @@ still size f t c v q h d = (subst (λ p. HoldsTicketOf size p c) (sym (at_here f
 own_step : {A : Type 0} (size : ℕ) (st : QueueState A) (t c v : ℕ) (p : Phase A) → 0 < size → IsKept size st → st.phase t ≡ p → HoldsTicketOf size p c → due size p ≡ v → GoesOn size (move_from size st t p) t c v
 own_step size st t c v p z v' e h d = grind (arith, common_steps, due, move_from, IsKept, by_test, moved, still, at_same, steps_left, at_here)
 
--- where the phase stays, so does what it holds
+-- if the phase stays the same, so does the ticket that it holds
 holds_same : {A : Type 0} (size : ℕ) (st st' : QueueState A) (t c v : ℕ) → st'.phase t ≡ st.phase t → HoldsTurn size st t c v → HoldsTurn size st' t c v
 holds_same size st st' t c v e h = (subst (λ q. HoldsTicketOf size q c) (sym e) h.0, ap (due size) e ∙ h.1)
 
--- a seat in mid-call: the event is its own step, or leaves it where it stands
+-- for a seat with an open call, the event is its own step, or leaves it in its phase
 pub own_or_same : {A : Type 0} (size : ℕ) (st : QueueState A) (e : QueueEvent A) (t : ℕ) → st.phase t ≢ Idle → (e ≡ Advances t) ⊎ ((happens size st e).phase t ≡ st.phase t)
 own_or_same size st e t n = grind (arith, common_steps, happens, begun_open, same_or_not, step_else, next_move)
 
--- another seat's event leaves it where it stands
+-- the event of another seat leaves it in its phase
 pub other_same : {A : Type 0} (size : ℕ) (st : QueueState A) (e : QueueEvent A) (t : ℕ) → t ≢ seat_of e → (happens size st e).phase t ≡ st.phase t
 other_same size st e t n = grind (arith, common_steps, seat_of, happens, begun_else, step_else, next_move)
 

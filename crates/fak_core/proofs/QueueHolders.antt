@@ -1,4 +1,4 @@
--- How many seats hold tickets at once, and so how many turns of a cell are still to come.
+-- The number of seats that hold tickets at once, and so of the turns of a cell that are still to come.
 use Rattle.fak_core.proofs.Common.{Phase, QueueState, stage, sum_below, sum_most, ◌≡◌, ℕ, zero, suc, ◌+◌, ◌-◌, ◌<◌, ◌≤◌, sym, ap, ◌∙◌, inl, inr, arith, same_or_not, common_steps, min, sum_le, seat_bound, in_drawn, stage_beyond, drawn_few, HoldsTicketOf, AreIdleFrom, has_drawn, drawn_seats, refl}
 use Rattle.fak_core.proofs.QueueKept.{shown, IsKept}
 use Rattle.fak_core.proofs.QueueTurns.{le_or_lt}
@@ -14,7 +14,7 @@ sum_strict f f' t (suc n) l each more = elim (same_or_not t n) [
   | inr ne ↦ (let rest = sum_strict f f' t n (omega arith) each more in let here = each n in omega arith)
 ]
 
--- values that this many seats of weight have weigh no more than the seats
+-- if each of m values in a row belongs to a seat of weight 1 or more, the seats weigh at least m
 seats_for : (w g : ℕ → ℕ) (n low m : ℕ) → ((v : ℕ) → low ≤ v → v < low + m → (t : ℕ) × (t < n) × (g t ≡ v) × (1 ≤ w t)) → m ≤ sum_below (λ s. w s - ((g s + 1) - (low + m))) n
 seats_for w g n low zero each = omega arith
 seats_for w g n low (suc m) each =
@@ -34,7 +34,7 @@ sum_more f (suc n) (suc m) l = elim (same_or_not n m) [
   | inr ne ↦ (let rest = sum_more f (suc n) m (omega arith) in omega arith)
 ]
 
--- seats of no weight add nothing
+-- seats of weight 0 add nothing
 sum_within : (f : ℕ → ℕ) (m n : ℕ) → ((s : ℕ) → m ≤ s → f s ≡ 0) → sum_below f n ≤ sum_below f m
 sum_within f m zero none = omega arith
 sum_within f m (suc n) none = elim (le_or_lt m n) [
@@ -42,9 +42,9 @@ sum_within f m (suc n) none = elim (le_or_lt m n) [
   | inr l ↦ sum_more f (suc n) m (omega arith)
 ]
 
--- ---- who holds a ticket
+-- ---- seats that hold a ticket
 
--- who holds a ticket is one of the seats
+-- a seat that holds a ticket is one of the first seats
 pub below : {A : Type 0} (size seats : ℕ) (st : QueueState A) (s c : ℕ) → AreIdleFrom seats st → HoldsTicketOf size (st.phase s) c → s < seats
 below size seats st s c idle h = grind (arith, common_steps, le_or_lt, holds_open)
 
@@ -58,14 +58,14 @@ drawn_is : {A : Type 0} (size : ℕ) (st : QueueState A) (n : ℕ) → IsKept si
 drawn_is size st zero K = refl
 drawn_is size st (suc n) K = omega (arith, drawn_shown (st.phase n), ap in_drawn (K.phases n), drawn_is size st n K)
 
--- no more seats are between the draw of a ticket and the end of their call than the queue has cells
+-- at most as many seats are between the draw of a ticket and the end of their call as the queue has cells
 pub few_drawn : {A : Type 0} (size n : ℕ) (st : QueueState A) → IsKept size st → drawn_seats st n ≤ size
 few_drawn size n st K =
     omega (arith, drawn_is size st n K, drawn_few size st.past K.legal, sum_within (λ s. in_drawn (stage st.past s)) (seat_bound st.past) n (λ s out. ap in_drawn (stage_beyond st.past s out)))
 
 -- ---- turns to come
 
--- no more turns of a cell are to come, up to a seat's own, than the queue has cells
+-- at most as many turns of a cell are to come, up to a seat's own, as the queue has cells
 pub turns_in_size : {A : Type 0} (size : ℕ) (st : QueueState A) (s c : ℕ) → 0 < size → IsKept size st → HoldsTicketOf size (st.phase s) c → (due size (st.phase s) + 1) - st.turn c ≤ size
 turns_in_size {A} size st s c z K h =
     let n = seat_bound st.past in
@@ -76,7 +76,7 @@ turns_in_size {A} size st s c z K h =
     (w.0, within, w.1.1, omega arith)) in
     omega (arith, few, drawn_few size st.past K.legal)
 
--- nor than there are seats
+-- and at most as many as there are seats
 turns_in_seats : {A : Type 0} (size seats : ℕ) (st : QueueState A) (s c : ℕ) → 0 < size → IsKept size st → AreIdleFrom seats st → HoldsTicketOf size (st.phase s) c → (due size (st.phase s) + 1) - st.turn c ≤ seats
 turns_in_seats {A} size seats st s c z K idle h =
     let few = few_values (λ t. 1) (λ t. due size (st.phase t)) seats (st.turn c) ((due size (st.phase s) + 1) - st.turn c) (λ v a b.

@@ -4,17 +4,17 @@ use Rattle.fak_core.specs.QueueMoves.{QueueState, history_of}
 use Rattle.fak_core.proofs.QueueKept.{IsKept, shown}
 use Rattle.fak_core.proofs.QueueReached.{loads_put, draws_put}
 
--- the mark at this place may follow what stands before it
+-- the mark at this place may follow the marks before it
 follows_there : {A : Type 0} (size : ℕ) (newer : List (Mark A)) (m : Mark A) (older : List (Mark A)) → IsLegalPast size (newer ++ m ∷ older) → MayFollow size older m.seat m.kind
 follows_there size [] m older l = l.0
 follows_there size (n ∷ newer) m older l = follows_there size newer m older l.1
 
--- an item that was put stays that of its ticket
+-- an item that was put remains that of its ticket
 item_remains : {A : Type 0} (newer older : List (Mark A)) (k : ℕ) (x : A) → item_of older k ≡ Some x → item_of (newer ++ older) k ≡ Some x
 item_remains [] older k x e = e
 item_remains (m ∷ newer) older k x e = item_stays m (newer ++ older) k x (item_remains newer older k x e)
 
--- the Got of a seat that is getting bears the item of its ticket
+-- the Got of a seat that is getting has the item of its ticket
 getting_item : {A : Type 0} (size : ℕ) (h : List (Mark A)) (s k : ℕ) → IsLegalPast size (reverse h) → stage (reverse h) s ≡ Getting k
     → (x : A) × (item_of (reverse h) k ≡ Some x) × Drew h s (Got x) gots k
 getting_item {A} size h s k legal at = elim (last_of (reverse h) s) [
@@ -36,6 +36,6 @@ loads_own {A} size st s k K e =
     let item : item_of st.past k ≡ Some g.0 = ap (λ p. item_of p k) (sym back) ∙ g.1 in
     record { item = g.0; ticket = g.2; put = item_same k (history_of st) ∙ g.1; loaded = loads_put size st s k K e ∙ item }
 
--- a deletion that is granted draws a ticket under which an item was put
+-- a granted deletion draws a ticket under which an item was put
 pub draws_item : {A : Type 0} (size : ℕ) (st : QueueState A) (s : ℕ) → IsKept size st → st.phase s ≡ TicketOut → IsSome (item_at (items_put (history_of st)) st.draws_out)
 draws_item size st s K e = grind (arith, common_steps, draws_put, item_same, history_of, item_of, reverse-reverse)

@@ -1,4 +1,4 @@
--- A reached state: what holds of it, and which states one more event leads to.
+-- What is true of a reached state, and the states to which one more event leads.
 use Rattle.fak_core.proofs.Common.{Phase, Idle, TestUp, TestLow, TicketOut, LoadItem, SetShut, QueueMove, ◌≡◌, ◌⊎◌, ℕ, ◌%◌, ◌<◌, ◌++◌, cond, Bool, true, false, List, [], ◌∷◌, Some, refl, sym, ap, ◌∙◌, subst, reverse-reverse, IsQueueHistory, count, gots, stage, item_of, IsLegalPast, getting_untaken, item_there, claimed_out_left, common_steps, arith, to_literal}
 use Rattle.fak_core.specs.QueueMoves.{QueueState, next_move, moved, with_phase, history_of}
 use Rattle.fak_core.specs.QueueSchedule.{QueueEvent, Inserts, Deletes, Shuts, Advances, opening, after_step, move_from, begun, happens, run, reached, IsReached}
@@ -16,13 +16,13 @@ if_true P b x y e p = grind (arith, common_steps)
 pub if_false : {B : Type 0} (P : B → Type 0) (b : Bool) (x y : B) → b ≡ false → P (cond b x y) → P y
 if_false P b x y e p = grind (arith, common_steps)
 
--- ---- what holds of a reached state
+-- ---- what is true of a reached state
 
--- what a deletion loads is the item that was put under its ticket
+-- a deletion loads the item that was put under its ticket
 pub loads_put : {A : Type 0} (size : ℕ) (st : QueueState A) (s k : ℕ) → IsKept size st → st.phase s ≡ LoadItem k → st.cell (k % size) ≡ item_of st.past k
 loads_put size st s k K e = grind (arith, common_steps, stage, shown, getting_untaken)
 
--- a deletion that is granted finds the item of the ticket that it draws
+-- a granted deletion finds the item of the ticket that it draws
 pub draws_put : {A : Type 0} (size : ℕ) (st : QueueState A) (s : ℕ) → IsKept size st → st.phase s ≡ TicketOut → (x : A) × (item_of st.past st.draws_out ≡ Some x)
 draws_put size st s K e = grind (arith, common_steps, item_there, count, gots, claimed_out_left, shown, item_of)
 
@@ -46,11 +46,11 @@ module _ {A : Type 0} (size : ℕ) (st : QueueState A) (R : IsReached size st) w
   pub goes_on : (e : QueueEvent A) → IsReached size (happens size st e)
   goes_on e = record { schedule = R.schedule ++ e ∷ []; leads = run-push size R.schedule e opening ∙ ap (λ c. happens size c e) R.leads }
 
-  -- the step of a seat that stands in this phase
+  -- the step of a seat in this phase
   pub moves : (s : ℕ) (p : Phase A) → st.phase s ≡ p → IsReached size (move_from size st s p)
   moves s p e = subst (λ q. IsReached size (move_from size st s q)) e (goes_on (Advances s))
 
-  -- the same, where that step is known
+  -- the same, if that step is known
   pub makes : (s : ℕ) (p : Phase A) (m : QueueMove A) → st.phase s ≡ p → next_move size st p ≡ Some m → IsReached size (moved st s m)
   makes s p m e is = subst (λ o. IsReached size (after_step st s o)) is (moves s p e)
 

@@ -1,4 +1,4 @@
--- Rounds of events: within few of them each call that is open ends.
+-- Rounds of events: each open call ends within few of them.
 use Rattle.std.proofs.lemmas.List.Elements.{All-cons, All-nil, All-replicate, All-weaker}
 use Rattle.std.proofs.Math.ListN.{length-replicate}
 use Rattle.std.specs.List.{All, Contains}
@@ -17,7 +17,7 @@ contains_cases x y ys v = grind (arith, common_steps)
 pub contains_none : {X : Type 0} (x : X) → Contains [] x → ⊥
 contains_none x (k, l, e) = omega arith
 
--- ---- what stays so until the seat is idle
+-- ---- what stays true until the seat is idle
 
 idle_first : {A : Type 0} (size : ℕ) (es : List (QueueEvent A)) (st : QueueState A) (s : ℕ) → st.phase s ≡ Idle → IsIdleOnce size es st s
 idle_first size [] st s e = e
@@ -38,11 +38,11 @@ until size s P z step (e ∷ es) st K p = elim (idle_or_not (st.phase s)) [
   | inr n ↦ sooner (until size s P z step es (happens size st e) (kept_event size st e z K) (step st e K n p))
 ]
 
--- the seat has few steps left
+-- the seat has at most this many steps left
 pub few_left : {A : Type 0} (size s most : ℕ) → 0 < size → (es : List (QueueEvent A)) (st : QueueState A) → IsKept size st → steps_left (st.phase s) ≤ most → IsIdleOnce size es st s ⊎ (steps_left ((run size es st).phase s) ≤ most)
 few_left {A} size s most z es st K l = until size s (λ (t : QueueState A). steps_left (t.phase s) ≤ most) z (λ t e kept n few. omega (arith, no_more_event size t e s n, few)) es st K l
 
--- a seat that is unblocked whenever `suc most` steps are left has at most `most` left after a step of its own
+-- a seat has at most `most` steps left after its own step, if it is unblocked whenever it has `suc most` left
 pub one_less : {A : Type 0} (size s most : ℕ) → 0 < size → ((st : QueueState A) → IsKept size st → st.phase s ≢ Idle → steps_left (st.phase s) ≡ suc most → IsUnblocked size st.past (st.phase s))
     → (es : List (QueueEvent A)) (st : QueueState A) → IsKept size st → Contains es (Advances s) → steps_left (st.phase s) ≤ suc most → IsIdleOnce size es st s ⊎ (steps_left ((run size es st).phase s) ≤ most)
 one_less {A} size s most z unblocks [] st K has l = absurd (contains_none {X = QueueEvent A} (Advances s) has)
@@ -62,7 +62,7 @@ idle_last : {A : Type 0} (size : ℕ) (es : List (QueueEvent A)) (st : QueueStat
 idle_last size [] st s e = e
 idle_last size (d ∷ es) st s e = inr (idle_last size es (happens size st d) s e)
 
--- ---- who never waits
+-- ---- seats that never wait
 
 last_unblocked : {A : Type 0} (size : ℕ) (h : List (Mark A)) (p : Phase A) → steps_left p ≡ 1 → IsUnblocked size h p
 last_unblocked size h p l = grind (arith, common_steps, steps_left, IsUnblocked)
@@ -86,7 +86,7 @@ turn_run : {A : Type 0} (size : ℕ) (es : List (QueueEvent A)) (st : QueueState
 turn_run size [] st c z K = omega arith
 turn_run size (e ∷ es) st c z K = omega (arith, turn_event size st e c z K, turn_run size es (happens size st e) c z (kept_event size st e z K))
 
--- the cell has gone on, or the seat at whose turn it stands gives it on after few more steps
+-- the cell has gone on, or the seat that holds its turn hands it on after at most r more steps
 abbrev Owes : {A : Type 0} → ℕ → QueueState A → ℕ → ℕ → ℕ → ℕ → Type 0
 Owes size st t c v r = (v < st.turn c) ⊎ (HoldsTurn size st t c v × (steps_left (st.phase t) ≤ r))
 
@@ -108,7 +108,7 @@ owes_run {A} size (e ∷ es) st t c v r z K b has o = elim (contains_cases {X = 
   | inr then ↦ owes_run size es (happens size st e) t c v r z (kept_event size st e z K) (omega (arith, turn_event size st e c z K)) then (owes_event size st e t c v (suc r) z K o)
 ]
 
--- in three rounds the cell goes on
+-- the turn of a cell rises within three rounds
 turn_rises : {A : Type 0} (size : ℕ) (a b d : List (QueueEvent A)) (st : QueueState A) (t c : ℕ) → 0 < size → IsKept size st → HoldsTurn size st t c (st.turn c)
     → Contains a (Advances t) → Contains b (Advances t) → Contains d (Advances t) → st.turn c < (run size d (run size b (run size a st))).turn c
 turn_rises {A} size a b d st t c z K h in_a in_b in_d =
@@ -124,7 +124,7 @@ turn_rises {A} size a b d st t c z K h in_a in_b in_d =
 
 -- ---- a call that holds a ticket ends
 
--- one step is left to the seat's call, or it holds its ticket
+-- the seat's call has at most one step left, or the seat holds its ticket
 abbrev Closing : {A : Type 0} → ℕ → QueueState A → ℕ → ℕ → ℕ → Type 0
 Closing size st s c n = (steps_left (st.phase s) ≤ 1) ⊎ HoldsTurn size st s c n
 
@@ -147,7 +147,7 @@ held_run Fair size (e ∷ es) st c n z K all = held_run Fair size es (happens si
 soon : {A : Type 0} (size : ℕ) (rs : List (List (QueueEvent A))) (st : QueueState A) (s : ℕ) → 0 < size → IsKept size st → All (λ (r : List (QueueEvent A)). Contains r (Advances s)) rs → 1 ≤ length rs → steps_left (st.phase s) ≤ 1 → IsIdleWithin size rs st s
 soon size rs st s z f fair more l = grind (arith, common_steps, length, steps_left, IsKept, IsIdleWithin, low_ends)
 
--- a round brings the seat to rest, or what holds after it does
+-- after a round the seat has been idle, or what is known after it leads on
 then : {A : Type 0} (size : ℕ) (P : QueueState A → Type 0) (r : List (QueueEvent A)) (rs : List (List (QueueEvent A))) (st : QueueState A) (s : ℕ) → IsIdleOnce size r st s ⊎ P (run size r st)
     → (P (run size r st) → IsIdleWithin size rs (run size r st) s) → IsIdleWithin size (r ∷ rs) st s
 then size P r rs st s u go = grind (arith, common_steps, run, IsIdleOnce, IsIdleWithin)
@@ -239,7 +239,7 @@ call_ends size seats s rs st z K idle rounds more = elim (le_or_lt seats s) [
   | inr l ↦ call_by size seats s z l 3 rs st (place size (st.phase s)) K idle (omega (arith, steps_few (st.phase s))) rounds (omega arith)
 ]
 
--- ---- where no call begins
+-- ---- if no call begins
 
 -- an idle seat stays idle
 idle_stays : {A : Type 0} (size : ℕ) (es : List (QueueEvent A)) (st : QueueState A) (s : ℕ) → All (IsAdvance {A = A}) es → st.phase s ≡ Idle → (run size es st).phase s ≡ Idle

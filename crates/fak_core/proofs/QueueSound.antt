@@ -12,7 +12,7 @@ use Rattle.fak_core.proofs.QueueReached.{kept, makes, inserts, deletes, closes, 
 everywhere : {A B : Type 0} (f g : A → B) → ((x : A) → f x ≡ g x) → f ≡ g
 everywhere f g p = λ i x. p x i
 
--- a write into a list, read as a function
+-- a list with one element written, read as a function
 pub written_at : {A : Type 0} (xs : List A) (n : ℕ) (x d : A) → n < length xs → (λ (i : ℕ). get_or (slice_set xs n x) i d) ≡ with_at (λ i. get_or xs i d) n x
 written_at xs n x d l = grind (arith, common_steps, everywhere, get_or, slice_set, with_at, same_or_not, get_or-set_same, at_same, get_or-set_other, at_else)
 
@@ -33,7 +33,7 @@ pub moved_is : (f : QueueFields) (i : ℕ) (m : QueueMove ℕ) → length f.turn
     → queue_state (moved_fields f i m) ≡ moved (queue_state f) i m
 moved_is f i m t d l within = grind (arith, common_steps, get_or, slice_set, past_after, written_is, written, queue_state, written_at)
 
--- ---- where a step writes
+-- ---- the places that a step writes
 
 abbrev StaysWithin : ℕ → Option (QueueMove ℕ) → Type 0
 StaysWithin size None = Unit {0}
@@ -44,7 +44,7 @@ stays_within size st d p z = grind (arith, common_steps, move_by, by_test, int_l
 
 -- ---- steps
 
--- the seat stands in a phase, and makes this step
+-- the seat has a phase, and takes this step
 pub record Makes (f : QueueFields) (i : ℕ) (m : QueueMove ℕ) : Type 0 where
   pub phase : Phase ℕ
   pub at : slice_get f.phases i ≡ Some phase
@@ -85,12 +85,12 @@ sound_moved f i m h e =
       cells = cells_same f m.write ∙ (h.cells ∙ sym size);
     }
 
--- ---- beginnings
+-- ---- begins of calls
 
 begins : (size : ℕ) (st : QueueState ℕ) (i : ℕ) (call : QueueCall) → IsReached size st → st.phase i ≡ Idle → IsReached size (with_phase st i (first_phase call))
 begins size st i call r e = grind (arith, common_steps, with_phase, first_phase, IsReached, inserts, deletes, closes)
 
--- the seat is idle, and this is its call's first phase
+-- the seat is idle, and this is the first phase of its call
 pub record Begins (f : QueueFields) (i : ℕ) (call : QueueCall) (p : Phase ℕ) : Type 0 where
   pub at : slice_get f.phases i ≡ Some Idle
   pub is : p ≡ first_phase call
@@ -156,7 +156,7 @@ lower_small f h =
     let u = K.lower in
     (omega (arith, ints, u, r.0, r.1, h.most, h.few), omega (arith, ints, u, r.0, r.1, h.most, h.few))
 
--- the tickets drawn are as many as there are marks, at most
+-- there are at most as many drawn tickets as marks
 pub draws_few : (f : QueueFields) → IsSound f → (f.draws_in ≤ length f.past) × (f.draws_out ≤ length f.past)
 draws_few f h =
     let K = sound_kept f h in

@@ -1,4 +1,4 @@
--- Each of the moves keeps the invariant.
+-- Each step keeps the invariant.
 use Rattle.fak_model.specs.declared.queue.Stage.TheVariants as made
 use Rattle.fak_core.proofs.Common.{Phase, Idle, TestUp, AddUp, BackUp, TicketIn, TurnIn, StoreItem, SetFull, EndInsert, TestLow, SubLow, BackLow, TicketOut, TurnOut, LoadItem, SetFree, EndDelete, SetShut, QueueMove, ◌≡◌, ℕ, ◌+◌, ◌*◌, ◌/◌, ◌%◌, ◌<◌, ◌==◌, cond, Bool, List, [], ◌∷◌, Some, refl, sym, ap, ◌∙◌, subst, inl, arith, ℤ, pos, ◌+ℤ◌, ◌-ℤ◌, int_lt, true, false, ints, count, puts, gots, upper_count, lower_count, Has, after, stage, item_of, MayFollow, nat_tests, Kind, ClaimIn, OverIn, BackIn, NoRoom, Put, Fill, EndIn, ClaimOut, OverOut, BackOut, NoItem, Got, Take, EndOut, Close, Closed, LateIn, Mark, Withdrawing, Claimed, Putting, Filled, WithdrawingOut, ClaimedOut, Getting, Taken, item_there, putting_item, QueueState, with_at, with_phase, with_mark, claimed_out_left, moved, ticket_out, common_steps, add-mod_right, add-div_right}
 use Rattle.fak_core.proofs.QueueKept.{shown, TakenBefore, IsReady, Turns, IsKept}
@@ -9,7 +9,7 @@ use Rattle.fak_core.proofs.QueueOwners.{filling, emptying, alone, ready_store, s
 pub by_test : {B : Type 0} (P : B → Type 0) (b : Bool) (x y : B) → (b ≡ true → P x) → (b ≡ false → P y) → P (cond b x y)
 by_test P b x y f g = grind (arith, common_steps)
 
--- a mark that only counts
+-- a step whose mark changes only counts
 pub kept_counts : {A : Type 0} (size : ℕ) (st : QueueState A) (s : ℕ) (p : Phase A) (κ : Kind A) (U L : ℤ) → IsKept size st
     → MayFollow size st.past s κ → shown p ≡ after st.past κ
     → IsReady size ((record { seat = s; kind = κ }) ∷ st.past) st.cell p
@@ -21,7 +21,7 @@ kept_counts {A} size st s p κ U L K may e r u l i d nf nt nc =
     kept_marks size st s p κ U L st.draws_in st.draws_out st.turn st.shut K may e r u l (omega arith) (omega arith)
     (turns_plain size m st.past st.turn nf nt K.turns) (cells_plain size m st.past st.cell K.legal nf K.cells) (shuts_plain m st.past st.shut nc K.closed)
 
--- a seat that finds its turn may go on
+-- a seat that finds its turn may fill or take
 pub found_fill : {A : Type 0} (size : ℕ) (h : List (Mark A)) (turn : ℕ → ℕ) (k : ℕ) → 0 < size → Turns size h turn → turn (k % size) ≡ 2 * (k / size) → TakenBefore size h k
 found_fill size h turn k z ts e j is = grind (arith, common_steps, add-mod_right, add-div_right)
 

@@ -2,7 +2,7 @@
 use Rattle.fak_core.proofs.Common.{◌≡◌, ◌≢◌, ◌⊎◌, ℕ, ◌+◌, ◌-◌, ◌*◌, ◌/◌, ◌%◌, ◌<◌, ◌≤◌, List, ◌∷◌, Option, Some, ap, ◌∙◌, inl, inr, arith, Fill, Take, Mark, Has, item_of, IsLegalPast, same_or_not, cond_here, cond_else, item_stays, item_there, fill_below, with_at, common_steps, div-add-mod, add-mod_right, add-div_right}
 use Rattle.fak_core.proofs.QueueKept.{TakenBefore, Turns, Cells}
 
--- ---- places of a function
+-- ---- values of a function
 
 pub at_here : {B : Type 0} (f : ℕ → B) (i : ℕ) (x : B) → with_at f i x i ≡ x
 at_here f i x = cond_here i x (f i)
@@ -54,7 +54,7 @@ fill_turn size h turn k pos_size ts before un = elim (le_or_lt size k) [
 pub take_turn : {A : Type 0} (size : ℕ) (h : List (Mark A)) (turn : ℕ → ℕ) (k : ℕ) → Turns size h turn → Has (Fill k) h → (Has (Take k) h → ⊥) → turn (k % size) ≡ 2 * (k / size) + 1
 take_turn size h turn k ts full un = grind (arith, common_steps, le_or_lt)
 
--- a mark that fills and takes no cell
+-- a mark that neither fills a cell nor takes from one
 pub turns_plain : {A : Type 0} (size : ℕ) (m : Mark A) (h : List (Mark A)) (turn : ℕ → ℕ) → ((k : ℕ) → m.kind ≡ Fill k → ⊥) → ((k : ℕ) → m.kind ≡ Take k → ⊥) → Turns size h turn → Turns size (m ∷ h) turn
 turns_plain size m h turn nf nt ts = grind (arith, common_steps)
 

@@ -1,4 +1,4 @@
--- What the calls of a room core learn from its state, and from the values that they read.
+-- What the calls of a room core know from its state, and from the values that they read.
 use Rattle.std.proofs.Math.ListN.{length-replicate}
 use Rattle.fak_core.proofs.Common.{RoomCall, CoreSeat, RoomMove, ◌≡◌, ◌≤◌, ◌<◌, ◌∙◌, ◌++◌, ℕ, ℤ, List, length, arith, Ok, Option, ap, sym, subst, slice_set, get_or, w64, to_z, of_z, pos, Result, ints, slice_get_read, RoomMark, common_steps, w128, CoreFault}
 use Rattle.fak_core.specs.declared.line.LineMark.{LineMark}
@@ -32,16 +32,16 @@ sound_moved s i m h is = subst (λ (r : Result RoomMove CoreFault). IsSound (aft
 
 -- ---- what the code reads and writes
 
--- the count, as an i64 holds it
+-- the count is the same as an i64
 count_read : (s : RoomState) → IsSound s → to_z w64 (of_z w64 s.count) ≡ s.count
 count_read s h = let v = sound_count s h in omega (arith, ints, v.1, v.2)
 
--- the step that the code finds
+-- the step that the code computes
 pub step_found : (s : RoomState) (i : ℕ) (x : CoreSeat) (o : Option RoomMove) → IsSound s → i < length s.seats → x ≡ get_or s.seats i x
     → o ≡ next_move s.bound (to_z w64 (of_z w64 s.count)) x.held x.phase → step_of s i ≡ or_idle o
 step_found s i x o h within at is = grind (arith, common_steps, step_is, slice_get_read, next_move, count_read)
 
--- the state that the code leaves
+-- the state after the code has written
 pub step_left : (s : RoomState) (i : ℕ) (m : RoomMove) (past : List RoomMark) → IsSound s → step_of s i ≡ Ok m → past ≡ marks_left i m.mark ++ s.past
     → record { bound = s.bound; count = to_z w64 (of_z w64 m.count); seats = slice_set s.seats i m.seat; past = past } ≡ moved s i m
 step_left s i m past h is more =
@@ -53,7 +53,7 @@ pub step_sound : (s : RoomState) (i : ℕ) (m : RoomMove) (past : List RoomMark)
     → IsSound (record { bound = s.bound; count = to_z w64 (of_z w64 m.count); seats = slice_set s.seats i m.seat; past = past })
 step_sound s i m past h is more = subst IsSound (sym (step_left s i m past h is more)) (sound_moved s i m h is)
 
--- the line that the code gives
+-- the line that the code returns
 pub step_line : (s : RoomState) (i : ℕ) (m : RoomMove) (mark : Option LineMark) → IsSound s → mark ≡ line_mark m.mark
     → record { seat = i; step = m.step; found = to_z w128 (of_z w128 (to_z w64 (of_z w64 s.count))); mark = mark } ≡ line_of s i m
 step_line s i m mark h is =

@@ -17,31 +17,31 @@ owed_in (Adding d) = []
 owed_in (Backing d) = Back d ∷ []
 owed_in (Releasing d) = []
 
--- a seat is what its marks say
+-- a seat holds what its marks give, and owes what its phase shows
 pub record IsSeat (h : List RoomMark) (i : ℕ) (x : CoreSeat) : Type 0 where
   pub holds : x.held ≡ amount_held i h
   pub owes : OwesKinds (kinds_by i h) (owed_in x.phase)
   pub range : HasRange x.held x.phase
 
--- the count and the seats are what a lawful history says
+-- the count and the seats are those of a lawful history
 pub record IsTold (bound : ℕ) (h : List RoomMark) (count : ℤ) (all : List CoreSeat) : Type 0 where
   pub history : IsRoomHistory bound h
   pub named : AreNamed (room_rules bound) (length all) h
   pub counted : count ≡ value h
   pub seats : (i : ℕ) (x : CoreSeat) → slice_get all i ≡ Some x → IsSeat h i x
 
--- a state is what its marks say
+-- a state is that of its marks
 abbrev pub IsKept : RoomState → Type 0
 IsKept s = IsTold s.bound (history_of s) s.count s.seats
 
 -- ---- one seat is written
 
--- each seat is what the marks say, where the one that was written is, and the others were
+-- if one seat is written and matches the marks, and the others matched them, all match
 seats_written : (h : List RoomMark) (xs : List CoreSeat) (i : ℕ) (x : CoreSeat) → IsSeat h i x → ((j : ℕ) (y : CoreSeat) → j ≢ i → slice_get xs j ≡ Some y → IsSeat h j y)
     → (j : ℕ) (y : CoreSeat) → slice_get (slice_set xs i x) j ≡ Some y → IsSeat h j y
 seats_written h xs i x here others j y is = grind (arith, common_steps, same_or_not, length, slice_get_within, slice_set, length-slice_set, slice_get, written_here, written_elsewhere)
 
--- a seat goes on, with no mark
+-- a seat changes its phase without a mark
 phase_kept : (s : RoomState) (i : ℕ) (x : CoreSeat) → IsKept s → IsSeat (history_of s) i x → IsKept (begun s i x)
 phase_kept s i x k here = record {
   history = k.history;
@@ -50,11 +50,11 @@ phase_kept s i x k here = record {
   seats = seats_written (history_of s) s.seats i x here (λ j y other is. k.seats j y is);
 }
 
--- a seat keeps what its marks say while others make marks
+-- a seat matches its marks still after a mark of another seat
 other_seat : (h : List RoomMark) (m : RoomMark) (j : ℕ) (y : CoreSeat) → m.seat ≢ j → IsSeat h j y → IsSeat (h ++ m ∷ []) j y
 other_seat h m j y other k = grind (arith, common_steps, kinds_by, seat_words-other, room_rules, sum_by, up_amount, release_amount)
 
--- a seat goes on, with a mark that it owes and that is fair
+-- a seat takes a step with a mark that it owes and that is fair
 told_push : (s : RoomState) (i : ℕ) (kind : RoomKind) (x : CoreSeat) (n : ℤ) (h : List RoomMark) → IsTold s.bound h s.count s.seats → i < length s.seats
     → OwesKinds (kinds_by i h) (kind ∷ owed_in x.phase) → IsFair s.bound h i kind → x.held ≡ held_after (amount_held i h) kind → HasRange x.held x.phase → n ≡ count_after s.count kind
     → IsTold s.bound (h ++ record { seat = i; kind = kind } ∷ []) n (slice_set s.seats i x)
@@ -97,7 +97,7 @@ add_kept s i n d false k within at is =
     let fair : pos s.bound <ℤ (value (history_of s) +ℤ pos d) = rw (← found) (grind (arith, ints)) in
     mark_kept s i (Over d) (record { held = n; phase = Backing d }) (s.count +ℤ pos d) k within (call_begins kinds_of_call (kinds_by i (history_of s)) (Withdrawn d) at.owes) fair (omega (arith, at.holds)) at.range (omega (arith, ints))
 
--- a step of a seat keeps the state what its marks say
+-- after a step of a seat, the state is that of its marks
 move_kept : (s : RoomState) (i n : ℕ) (phase : RoomPhase) (m : RoomMove) → IsKept s → i < length s.seats → IsSeat (history_of s) i (record { held = n; phase = phase })
     → next_move s.bound s.count n phase ≡ Some m → IsKept (moved s i m)
 move_kept s i n Idle m k within at is = absurd cc
@@ -141,7 +141,7 @@ begin_kept s i call o k at u = grind (arith, common_steps, slice_get, amount_of,
 
 -- ---- schedules
 
--- each event keeps the state what its marks say
+-- after each event, the state is that of its marks
 pub event_kept : (s : RoomState) (e : RoomEvent) → IsEvent e → IsKept s → IsKept (happens s e)
 event_kept s e u k = grind (arith, common_steps, happens, IsEvent, begin_kept, slice_get, step_kept)
 
@@ -152,6 +152,6 @@ run_kept : (es : List RoomEvent) (s : RoomState) → All IsEvent es → IsKept s
 run_kept [] s range k = k
 run_kept (e ∷ es) s range k = run_kept es (happens s e) (All-tail IsEvent e es range) (event_kept s e (All-head IsEvent e es range) k)
 
--- every schedule leads to a state that is what its marks say
+-- after every schedule, the state is that of its marks
 pub schedule_kept : (bound seats : ℕ) (es : List RoomEvent) → All IsEvent es → IsKept (run es (opening bound seats))
 schedule_kept bound seats es range = run_kept es (opening bound seats) range (opening_kept bound seats)

@@ -1,4 +1,4 @@
--- What one more mark does to the value of a room's history, and to what its seat holds.
+-- How one more mark changes the value of a room's history and what its seat holds.
 use Rattle.fak_core.proofs.Common.{◌≡◌, ℕ, ◌+◌, ◌-◌, List, [], ◌∷◌, ◌++◌, arith, ℤ, pos, ◌+ℤ◌, ◌-ℤ◌, sum_by, ints, sum_by_push, words_by, Owes, RoomKind, RoomMark, total_push, common_steps, seat_words-own, releases_le}
 use Rattle.fak_model.specs.Room.{seat_of, kind_of, kinds_of_call, up_amount, over_amount, back_amount, release_amount, value, amount_held, room_rules, IsRoomHistory}
 
@@ -6,11 +6,11 @@ use Rattle.fak_model.specs.Room.{seat_of, kind_of, kinds_of_call, up_amount, ove
 abbrev pub kinds_by : ℕ → List RoomMark → List RoomKind
 kinds_by seat h = words_by seat_of kind_of seat h
 
--- a seat's marks are whole calls once the owed kinds have come
+-- these kinds of a seat's marks, followed by the owed ones, are whole calls
 abbrev pub OwesKinds : List RoomKind → List RoomKind → Type 0
 OwesKinds kinds owed = Owes kinds_of_call kinds owed
 
--- what is held after a mark of this kind, and what the count is
+-- what a seat holds after a mark of this kind, and how the mark changes the count
 abbrev pub held_after : ℕ → RoomKind → ℕ
 held_after n kind = n + up_amount kind - release_amount kind
 

@@ -13,7 +13,7 @@ idle_or_not p = grind (arith, common_steps)
 none_left : (p : RoomPhase) → steps_left p ≡ 0 → p ≡ Idle
 none_left p e = grind (arith, common_steps, steps_left)
 
--- no call makes more than three steps
+-- no call takes more than three steps
 pub three_left : (p : RoomPhase) → steps_left p ≤ 3
 three_left p = grind (arith, common_steps, steps_left)
 
@@ -30,7 +30,7 @@ other_begin : (s : RoomState) (j i : ℕ) (r : Result CoreSeat CoreFault) (x : C
 other_begin s j i (Ok y) x ne at = written_stays s.seats j i y x ne at
 other_begin s j i (Err fault) x ne at = at
 
--- a seat in mid-call begins nothing
+-- a seat with an open call begins no other
 begun_mid : (held : ℕ) (p : RoomPhase) (call : RoomCall) → p ≢ Idle → begun_phase held p call ≡ Err MidCall
 begun_mid held Idle call n = absurd (n refl)
 begun_mid held (Testing d) call n = refl
@@ -51,7 +51,7 @@ add_falls : (b : Bool) (found : ℤ) (held d : ℕ) → steps_left (add_move b f
 add_falls true found held d = omega arith
 add_falls false found held d = omega arith
 
--- the next step of a seat in mid-call leaves it fewer
+-- the next step of a seat with an open call leaves it with fewer steps
 next_falls : (bound : ℕ) (found : ℤ) (held : ℕ) (p : RoomPhase) → p ≢ Idle → (m : RoomMove) × (next_move bound found held p ≡ Some m) × (steps_left m.seat.phase < steps_left p)
 next_falls bound found held Idle n = absurd (n refl)
 next_falls bound found held (Testing d) n = (test_move (fits bound found d) found held d, refl, test_falls (fits bound found d) found held d)
@@ -68,7 +68,7 @@ own_falls s i x at n =
 
 -- ---- a call ends
 
--- the event takes one of the steps that are left, or none
+-- the event takes one of the seat's steps left, or none
 abbrev Goes : RoomState → ℕ → CoreSeat → RoomEvent → Type 0
 Goes s i x e = (y : CoreSeat) × (slice_get (happens s e).seats i ≡ Some y) × (steps_left y.phase + own_step i e ≤ steps_left x.phase)
 

@@ -1,4 +1,4 @@
--- The reached states of a room core: how they go on, and what holds of them.
+-- The reached states of a room core: the states that follow, and what is true of all.
 use Rattle.std.proofs.Math.ListN.{length-replicate}
 use Rattle.fak_core.proofs.Common.{RoomCall, CoreSeat, RoomMove, ◌≡◌, ℕ, ◌+◌, ◌-◌, ◌*◌, ◌<◌, ◌≤◌, List, [], ◌∷◌, ◌++◌, length, Option, Some, Ok, refl, ap, ◌∙◌, subst, arith, slice_get, get_or, pos, Result, sum_by, ints, sum_by-cons, All-push, All-nil, slice_get_within, slice_get-get_or, sum_below, RoomKind, RoomMark, kinds_of_call, total, over_amount, back_amount, value, amount_held, room_rules, calls_lead, owes_even, sum_same, sum_parts, sum_plus, sum_most, sum_term, common_steps, Back, backs_after, call_even, held_fits, CoreFault, RoomPhase}
 use Rattle.fak_core.specs.declared.room.phase.RoomPhase.TheVariants.{Idle, Testing, Adding, Backing, Releasing}
@@ -10,7 +10,7 @@ use Rattle.fak_core.proofs.RoomKept.{IsKept, IsSeat, schedule_kept}
 
 -- ---- shape
 
--- the bound and the number of seats stay
+-- the bound and the number of seats stay the same
 abbrev pub SameShape : RoomState → RoomState → Type 0
 SameShape s t = (t.bound ≡ s.bound) × (length t.seats ≡ length s.seats)
 
@@ -33,7 +33,7 @@ run_shape (e ∷ es) s =
 pub schedule_bound : (bound seats : ℕ) (es : List RoomEvent) → (run es (opening bound seats)).bound ≡ bound
 schedule_bound bound seats es = (run_shape es (opening bound seats)).0
 
--- ---- going on
+-- ---- the next state
 
 pub opening_reached : (bound seats : ℕ) → IsReached bound seats (opening bound seats)
 opening_reached bound seats = record { schedule = []; events = All-nil IsEvent; leads = refl }
@@ -42,7 +42,7 @@ run-push : (es : List RoomEvent) (e : RoomEvent) (s : RoomState) → run (es ++ 
 run-push [] e s = refl
 run-push (d ∷ es) e s = run-push es e (happens s d)
 
--- a reached state goes on to a reached state
+-- an event leads from a reached state to a reached state
 pub reached_next : (bound seats : ℕ) (s : RoomState) (e : RoomEvent) → IsEvent e → IsReached bound seats s → IsReached bound seats (happens s e)
 reached_next bound seats s e range r = record {
   schedule = r.schedule ++ e ∷ [];
@@ -56,16 +56,16 @@ step_is s i x o at is = ap (seat_step s) at ∙ ap or_idle is
 pub begin_is : (s : RoomState) (i : ℕ) (call : RoomCall) (x : CoreSeat) (r : Result RoomPhase CoreFault) → slice_get s.seats i ≡ Some x → begun_phase x.held x.phase call ≡ r → begin_of s i call ≡ held_with x.held r
 begin_is s i call x r at is = ap (λ (o : Option CoreSeat). seat_begin o call) at ∙ ap (held_with x.held) is
 
--- for an object whose words are a reached state: a seat's next move goes on to a reached state
+-- for objects with words that show a reached state: the next move of a seat leads to a reached state
 pub reached_move : (bound seats : ℕ) (s : RoomState) (i : ℕ) (x : CoreSeat) (m : RoomMove) → IsReached bound seats s → slice_get s.seats i ≡ Some x → next_move s.bound s.count x.held x.phase ≡ Some m → IsReached bound seats (moved s i m)
 reached_move bound seats s i x m r at is = subst (λ (o : Result RoomMove CoreFault). IsReached bound seats (after_step s i o)) (step_is s i x (Some m) at is) (reached_next bound seats s (Advances i) tt r)
 
--- and so does its next call
+-- and so does the begin of its next call
 pub reached_begin : (bound seats : ℕ) (s : RoomState) (i : ℕ) (x : CoreSeat) (call : RoomCall) (phase : RoomPhase) → IsReached bound seats s → slice_get s.seats i ≡ Some x → (1 ≤ amount_of call) × (amount_of call ≤ 1024)
     → begun_phase x.held x.phase call ≡ Ok phase → IsReached bound seats (begun s i (record { held = x.held; phase = phase }))
 reached_begin bound seats s i x call phase r at range is = subst (λ (o : Result CoreSeat CoreFault). IsReached bound seats (after_begin s i o)) (begin_is s i call x (Ok phase) at is) (reached_next bound seats s (Begins i call) range r)
 
--- ---- what holds
+-- ---- what is true of a reached state
 
 pub reached_kept : (bound seats : ℕ) (s : RoomState) → IsReached bound seats s → IsKept s
 reached_kept bound seats s r = subst IsKept r.leads (schedule_kept bound seats r.schedule r.events)
@@ -73,7 +73,7 @@ reached_kept bound seats s r = subst IsKept r.leads (schedule_kept bound seats r
 pub reached_shape : (bound seats : ℕ) (s : RoomState) → IsReached bound seats s → (s.bound ≡ bound) × (length s.seats ≡ seats)
 reached_shape bound seats s r = grind (arith, common_steps, run_shape, opening, length, length-replicate)
 
--- how much of a seat's claims is not withdrawn yet
+-- the amount of a seat's claims that are not withdrawn yet
 overs_less : (kinds owed : List RoomKind) (d : ℕ) → OwesKinds kinds owed → sum_by back_amount owed ≤ sum_by over_amount owed + d → sum_by over_amount kinds ≤ sum_by back_amount kinds + d
 overs_less kinds owed d o le = omega (arith, owes_even kinds_of_call over_amount back_amount call_even kinds owed o)
 
@@ -89,7 +89,7 @@ seat_overs h i n (Backing d) k =
 any_seat : (xs : List CoreSeat) (i : ℕ) → i < length xs → (x : CoreSeat) × (slice_get xs i ≡ Some x)
 any_seat xs i within = let d : CoreSeat = record { held = 0; phase = Idle } in (get_or xs i d, slice_get-get_or xs i d within)
 
--- the count is what all seats hold and what is not withdrawn yet, at most 1,024 for each seat
+-- the count is what all seats hold plus what is not withdrawn yet, which is at most 1,024 for each seat
 pub count_within : (s : RoomState) → IsKept s → (v : ℕ) × (s.count ≡ pos v) × (v ≤ s.bound + length s.seats * 1024)
 count_within s k =
     let h = history_of s in
@@ -112,7 +112,7 @@ held_within s i x k is =
     let term : amount_held i (history_of s) ≤ sum_below (λ j. amount_held j (history_of s)) (length s.seats) = sum_term (λ j. amount_held j (history_of s)) i (length s.seats) (slice_get_within s.seats i x is) in
     omega (arith, term, (held_fits s.bound (length s.seats) (history_of s) k.history k.named).1, (k.seats i x is).holds)
 
--- the count of a reached state, in the words of the bound and the number of seats
+-- the count of a reached state is at most the bound plus 1,024 for each seat
 pub reached_count : (bound seats : ℕ) (s : RoomState) → IsReached bound seats s → (v : ℕ) × (s.count ≡ pos v) × (v ≤ bound + seats * 1024)
 reached_count bound seats s r =
     let v = count_within s (reached_kept bound seats s r) in

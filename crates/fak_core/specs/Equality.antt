@@ -1,4 +1,4 @@
--- Whether two cores are in the same state, field by field, and that this is an equivalence.
+-- Whether two cores are in the same state, field by field; this is an equivalence.
 use denote.Builtin.{u64}
 use Rattle.std.specs.Prelude.{Bool, nat_eq}
 use Rattle.std.specs.Cmp.{IsEquivalence, nat_eq_equiv, int_eq_equiv, and_equiv, on_equiv}
@@ -36,7 +36,7 @@ same_room_laws =
     (and_equiv (on_equiv (λ s. s.seats) (lists_equiv seat_eq.laws-law))
     (on_equiv room_history_of (lists_equiv room_mark_eq.laws-law))))
 
--- the words and cells of two queues
+-- whether two queues have the same words and cells
 abbrev pub same_words : QueueFields → QueueFields → Bool
 same_words =
     eq_of_both (on (λ f. f.size) nat_eq)

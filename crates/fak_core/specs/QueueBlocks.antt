@@ -1,5 +1,5 @@
--- Blocks of a queue core: steps of several seats in a row, one of each seat. One fetch-and-add of d to a count makes the
--- block of d such steps at once.
+-- Blocks of a queue core: steps of several seats in a row, one step of each seat. One fetch-and-add of d to a count
+-- performs a block of d such steps at once.
 use Rattle.std.specs.Prelude.{ℕ, ◌+◌, ◌≡◌, ◌⊎◌, ℤ, pos, ◌+ℤ◌, ◌-ℤ◌, ◌≤ℤ◌, Some, List, [], ◌∷◌, ◌++◌, length, reverse, false}
 use Rattle.fak_model.specs.declared.queue.Kind.{Kind}
 use Rattle.fak_model.specs.declared.queue.Kind.TheVariants as made
@@ -14,7 +14,7 @@ use Rattle.fak_core.specs.QueueSchedule.{QueueEvent, Inserts, Deletes, Advances,
 
 -- ---- seats
 
--- seats by name, each with the phase that it stands in
+-- the names of seats, each with its phase
 abbrev pub Posts : Type 0 → Type 0
 Posts A = List (ℕ × Phase A)
 
@@ -22,12 +22,12 @@ abbrev pub names_of : {B : Type 0} → List (ℕ × B) → List ℕ
 names_of [] = []
 names_of (s ∷ seats) = s.0 ∷ names_of seats
 
--- each seat stands in its phase
+-- each seat is in its phase
 abbrev pub Stand : {A : Type 0} → QueueState A → Posts A → Type 0
 Stand st [] = Unit {0}
 Stand st (s ∷ seats) = (st.phase s.0 ≡ s.1) × Stand st seats
 
--- seats with something each, all at phases of one kind
+-- seats with a value each, all in phases of one kind
 abbrev pub all_at : {A B : Type 0} → (B → Phase A) → List (ℕ × B) → Posts A
 all_at f [] = []
 all_at f (s ∷ seats) = (s.0, f s.1) ∷ all_at f seats
@@ -42,24 +42,24 @@ abbrev pub turns_out_from : {A B : Type 0} → ℕ → List (ℕ × B) → Posts
 turns_out_from k [] = []
 turns_out_from k (s ∷ seats) = (s.0, TurnOut k) ∷ turns_out_from (k + 1) seats
 
--- a mark of each seat, that of the last seat first
+-- one mark of each seat, that of the last seat first
 abbrev pub marks_back : {A B : Type 0} → (B → Kind A) → List (ℕ × B) → List (Mark A)
 marks_back f [] = []
 marks_back f (s ∷ seats) = marks_back f seats ++ record { seat = s.0; kind = f s.1 } ∷ []
 
 -- ---- blocks
 
--- the state after each of these seats has made the step of its phase, in this order
+-- the state after each of these seats has taken the step of its phase, in this order
 abbrev pub block : {A : Type 0} → ℕ → QueueState A → Posts A → QueueState A
 block size st [] = st
 block size st (s ∷ seats) = block size (move_from size st s.0 s.1) seats
 
--- the state after each of these idle seats has begun an insertion and made its test, in this order
+-- the state after each of these idle seats has begun an insertion and tested the upper count, in this order
 abbrev pub tested : {A : Type 0} → ℕ → QueueState A → List (ℕ × A) → QueueState A
 tested size st [] = st
 tested size st (s ∷ seats) = tested size (move_from size (with_phase st s.0 (TestUp s.1)) s.0 (TestUp s.1)) seats
 
--- the same with deletions
+-- the same for deletions and the lower count
 abbrev pub tested_low : {A B : Type 0} → ℕ → QueueState A → List (ℕ × B) → QueueState A
 tested_low size st [] = st
 tested_low size st (s ∷ seats) = tested_low size (move_from size (with_phase st s.0 TestLow) s.0 TestLow) seats
@@ -77,13 +77,13 @@ abbrev pub deletion_tests : {A : Type 0} → List ℕ → List (QueueEvent A)
 deletion_tests [] = []
 deletion_tests (n ∷ names) = Deletes n ∷ Advances n ∷ deletion_tests names
 
--- these events lead from one state to another, which is a reached state if the first is
+-- these events lead from one state to another; if the first is a reached state, so is the second
 pub record LeadTo {A : Type 0} (size : ℕ) (st : QueueState A) (events : List (QueueEvent A)) (after : QueueState A) : Type 0 where
   pub leads : run size events st ≡ after
   pub reached : IsReached size st → IsReached size after
 
--- what a block changes: the counts and the ticket counters are these, these marks are added, newest first, and these seats
--- stand in these phases; all else is as it was
+-- what a block changes: the counts and ticket counters become these, these marks are added, newest first, and these
+-- seats are in these phases; all else stays the same
 pub record Changes {A : Type 0} (st after : QueueState A) (marks : List (Mark A)) (upper lower : ℤ) (draws_in draws_out : ℕ) (posts : Posts A) : Type 0 where
   pub upper_is : after.upper ≡ upper
   pub lower_is : after.lower ≡ lower
@@ -98,12 +98,12 @@ pub record Changes {A : Type 0} (st after : QueueState A) (marks : List (Mark A)
 
 -- ---- insertions, each seat with its item
 
--- one load tests the upper count for these seats, which leave these marks and go on at these phases
+-- one load tests the upper count for these seats, which leave these marks and are in these phases afterwards
 abbrev pub AreTested : {A : Type 0} → ℕ → QueueState A → List (ℕ × A) → List (Mark A) → (A → Phase A) → Type 0
 AreTested size st seats marks at = Changes st (tested size st seats) marks st.upper st.lower st.draws_in st.draws_out (all_at at seats)
 
--- one add of 1 for each of these seats to the upper count of an open queue: as many are granted as find room, the first of
--- them, and the others are over
+-- one add of 1 for each of these seats to the upper count of an open queue: the first ones are granted, as many as
+-- there is room for, and the others are refused
 pub record Grants {A : Type 0} (size : ℕ) (st : QueueState A) (granted over : List (ℕ × A)) : Type 0 where
   pub opened : st.shut ≡ false
   pub room : (granted ≡ []) ⊎ ((st.upper +ℤ pos (length granted)) ≤ℤ pos size)
@@ -112,18 +112,18 @@ pub record Grants {A : Type 0} (size : ℕ) (st : QueueState A) (granted over : 
 abbrev pub after_adds : {A : Type 0} → ℕ → QueueState A → List (ℕ × A) → QueueState A
 after_adds size st seats = block size st (all_at (λ x. AddUp x) seats)
 
--- the granted are to draw their tickets, and the others to withdraw
+-- the granted ones draw their tickets next, and the others withdraw
 abbrev pub AreAdded : {A : Type 0} → ℕ → QueueState A → List (ℕ × A) → List (ℕ × A) → Type 0
 AreAdded size st granted over =
     Changes st (after_adds size st (granted ++ over)) (marks_back (λ x. made.OverIn) over ++ marks_back (λ x. made.ClaimIn) granted)
     (st.upper +ℤ pos (length (granted ++ over))) st.lower st.draws_in st.draws_out (all_at (λ x. TicketIn x) granted ++ all_at (λ x. BackUp x) over)
 
--- the queue was shut: all are to withdraw
+-- the queue was shut: all withdraw next
 abbrev pub AreLate : {A : Type 0} → ℕ → QueueState A → List (ℕ × A) → Type 0
 AreLate size st seats =
     Changes st (after_adds size st seats) (marks_back (λ x. made.LateIn) seats) (st.upper +ℤ pos (length seats)) st.lower st.draws_in st.draws_out (all_at (λ x. BackUp x) seats)
 
--- one subtraction from the upper count withdraws these seats
+-- one subtraction from the upper count withdraws the insertions of these seats
 abbrev pub after_backs : {A : Type 0} → ℕ → QueueState A → List (ℕ × A) → QueueState A
 after_backs size st seats = block size st (all_at (λ x. BackUp x) seats)
 
@@ -147,14 +147,14 @@ abbrev pub AreEnded : {A : Type 0} → ℕ → QueueState A → List (ℕ × ℕ
 AreEnded size st seats =
     Changes st (after_ends size st seats) (marks_back (λ k. made.EndIn) seats) st.upper (st.lower +ℤ pos (length seats)) st.draws_in st.draws_out (all_at (λ k. Idle) seats)
 
--- ---- deletions, each seat with anything, or with its ticket
+-- ---- deletions, each seat with any value, or with its ticket
 
 -- one load tests the lower count for these seats
 abbrev pub AreTestedLow : {A B : Type 0} → ℕ → QueueState A → List (ℕ × B) → List (Mark A) → (B → Phase A) → Type 0
 AreTestedLow size st seats marks at = Changes st (tested_low size st seats) marks st.upper st.lower st.draws_in st.draws_out (all_at at seats)
 
--- one subtraction of 1 for each of these seats from the lower count: as many are granted as find an item, the first of them,
--- and the others are over
+-- one subtraction of 1 for each of these seats from the lower count: the first ones are granted, as many as there are
+-- items, and the others are refused
 pub record GrantsLow {A B : Type 0} (st : QueueState A) (granted over : List (ℕ × B)) : Type 0 where
   pub stock : (granted ≡ []) ⊎ (pos (length granted) ≤ℤ st.lower)
   pub empty : (over ≡ []) ⊎ (st.lower ≤ℤ pos (length granted))
@@ -162,13 +162,13 @@ pub record GrantsLow {A B : Type 0} (st : QueueState A) (granted over : List (�
 abbrev pub after_subs : {A B : Type 0} → ℕ → QueueState A → List (ℕ × B) → QueueState A
 after_subs size st seats = block size st (all_at (λ x. SubLow) seats)
 
--- the granted are to draw their tickets, and the others to withdraw
+-- the granted ones draw their tickets next, and the others withdraw
 abbrev pub AreSubtracted : {A B : Type 0} → ℕ → QueueState A → List (ℕ × B) → List (ℕ × B) → Type 0
 AreSubtracted size st granted over =
     Changes st (after_subs size st (granted ++ over)) (marks_back (λ x. made.OverOut) over ++ marks_back (λ x. made.ClaimOut) granted)
     st.upper (st.lower -ℤ pos (length (granted ++ over))) st.draws_in st.draws_out (all_at (λ x. TicketOut) granted ++ all_at (λ x. BackLow) over)
 
--- one add to the lower count withdraws these seats
+-- one add to the lower count withdraws the deletions of these seats
 abbrev pub AreWithdrawnOut : {A B : Type 0} → ℕ → QueueState A → List (ℕ × B) → Type 0
 AreWithdrawnOut size st seats =
     Changes st (block size st (all_at (λ x. BackLow) seats)) (marks_back (λ x. made.BackOut) seats) st.upper (st.lower +ℤ pos (length seats)) st.draws_in st.draws_out (all_at (λ x. Idle) seats)
@@ -178,8 +178,8 @@ abbrev pub ArePut : {A : Type 0} → List (Mark A) → ℕ → List (ℕ × A) �
 ArePut past k [] = Unit {0}
 ArePut past k (s ∷ seats) = (item_at (items_put (reverse past)) k ≡ Some s.1) × ArePut past (k + 1) seats
 
--- one add to the counter of deletions draws a ticket for each of these seats, in their order, whose Got bears the item that was
--- put under it
+-- one add to the counter of deletions draws a ticket for each of these seats, in their order; the Got of each has the
+-- item that was put under its ticket
 pub record AreDrawnOut {A B : Type 0} (size : ℕ) (st : QueueState A) (seats : List (ℕ × B)) : Type 0 where
   pub items : List (ℕ × A)
   pub names : names_of items ≡ names_of seats

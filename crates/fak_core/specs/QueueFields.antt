@@ -1,4 +1,4 @@
--- The queue core over items that are numbers: its fields, and what its calls promise.
+-- The queue core over items that are numbers: its fields, and what its calls ensure.
 use Rattle.std.specs.Prelude.{◌≡◌, ℕ, ◌+◌, ◌≤◌, ◌<◌, ℤ, pos, Bool, true, false, ◌≤ℤ◌, ◌+ℤ◌, Option, None, Some, IsSome, Result, Ok, Err, List, [], ◌∷◌, length, replicate, reverse, get_or, slice_get, slice_set}
 use Rattle.fak_model.specs.declared.queue.Kind.{Kind}
 use Rattle.fak_model.specs.declared.queue.Kind.TheVariants.{Put, Got}
@@ -24,8 +24,8 @@ use Rattle.fak_core.specs.QueueSchedule.{IsReached}
 
 -- ---- fields
 
--- the counts, the ticket counters, whether the queue is shut, a turn and a content for each cell, the phase of each
--- seat, and the marks so far, newest first
+-- the counts and the ticket counters; whether the queue is shut; a turn and a content for each cell; the phase of each
+-- seat; the marks so far, newest first
 pub record QueueFields : Type 0 where
   pub size : ℕ
   pub upper : ℤ
@@ -56,7 +56,7 @@ queue_state f = record {
 abbrev pub history_of : QueueFields → List (Mark ℕ)
 history_of f = reverse f.past
 
--- nothing has happened
+-- the fields of a queue in which no call has begun
 abbrev pub opening_fields : ℕ → ℕ → QueueFields
 opening_fields size seats = record {
   size = size;
@@ -92,7 +92,7 @@ item_left _ = []
 abbrev pub moved_fields : QueueFields → ℕ → QueueMove ℕ → QueueFields
 moved_fields f seat m = record (written_fields f m.write) { phases = slice_set f.phases seat m.phase; past = past_after seat m.mark f.past }
 
--- the number that a line shows of what a step found
+-- what a step found, as the number that its line shows
 abbrev pub number_found : Found ℕ → ℤ
 number_found (Count n) = n
 number_found (Word n) = pos n
@@ -103,7 +103,7 @@ abbrev pub line_mark : Option (Kind ℕ) → Option LineMark
 line_mark None = None
 line_mark (Some κ) = Some (line_marks.Queue κ)
 
--- the line of a step
+-- the line that records a step
 abbrev pub line_of : ℕ → QueueMove ℕ → Line
 line_of seat m = record { seat = seat; step = m.step; found = number_found m.found; mark = line_mark m.mark }
 
@@ -115,7 +115,7 @@ abbrev pub phase_step : QueueFields → Option (Phase ℕ) → Result (QueueMove
 phase_step f None = Err NoSuchSeat
 phase_step f (Some p) = or_idle (next_move f.size (queue_state f) p)
 
--- the step that a seat makes, or why it makes none
+-- the step that a seat takes next, or why it takes none
 abbrev pub step_of : QueueFields → ℕ → Result (QueueMove ℕ) CoreFault
 step_of f seat = phase_step f (slice_get f.phases seat)
 
@@ -132,11 +132,11 @@ phase_begin None call = Err NoSuchSeat
 phase_begin (Some Idle) call = Ok (first_phase call)
 phase_begin (Some _) call = Err MidCall
 
--- where a seat stands as its call begins, or why it doesn't begin
+-- the phase of a seat when its call begins, or why the call does not begin
 abbrev pub begin_of : QueueFields → ℕ → QueueCall → Result (Phase ℕ) CoreFault
 begin_of f seat call = phase_begin (slice_get f.phases seat) call
 
--- ---- what the calls of a core promise
+-- ---- what the calls of a core ensure
 
 -- a reached state of a queue of 1 to 4,096 cells with at most 64 seats
 pub record IsSound (f : QueueFields) : Type 0 where
@@ -148,12 +148,12 @@ pub record IsSound (f : QueueFields) : Type 0 where
   pub turns : length f.turns ≡ f.size
   pub cells : length f.cells ≡ f.size
 
--- the fields are sound, and these are the items put, by their tickets
+-- the fields are sound, and these are the items put, in the order of their tickets
 pub record IsSoundWith (f : QueueFields) (items : List ℕ) : Type 0 where
   pub sound : IsSound f
   pub put : items ≡ items_put (history_of f)
 
--- the seat makes its step: this is its line, and this the state after it
+-- the seat takes its step: this is its line, and this is the state after it
 pub record IsStep (old : QueueFields) (seat : ℕ) (line : Line) (new : QueueFields) : Type 0 where
   pub step : QueueMove ℕ
   pub is : step_of old seat ≡ Ok step
@@ -161,7 +161,7 @@ pub record IsStep (old : QueueFields) (seat : ℕ) (line : Line) (new : QueueFie
   pub leaves : new ≡ moved_fields old seat step
   pub state : queue_state new ≡ moved (queue_state old) seat step
 
--- the seat's last mark is a Got, and this number is the item of the Put with its ticket
+-- the seat's last mark is a Got, and `found` is the item of the Put with its ticket
 pub record LoadsPut (f : QueueFields) (seat : ℕ) (found : ℤ) : Type 0 where
   pub item : ℕ
   pub ticket : ℕ
@@ -181,11 +181,11 @@ LeavesMark r = (m : QueueMove ℕ) × (r ≡ Ok m) × IsSome m.mark
 
 -- ---- ranges
 
--- a count that is far from the ends of its type
+-- a count that is far from the limits of its type
 abbrev pub IsSmall : ℤ → Type 0
 IsSmall n = (pos 0 ≤ℤ (n +ℤ pos 10000)) × (n ≤ℤ pos 10000)
 
--- a phase that reckons with its ticket has one whose successor is below n
+-- a phase whose step computes with its ticket has a ticket with a successor below n
 abbrev pub HasTicketBelow : ℕ → Phase ℕ → Type 0
 HasTicketBelow n (TurnIn k x) = (k + 1) < n
 HasTicketBelow n (SetFull k x) = (k + 1) < n
@@ -193,7 +193,7 @@ HasTicketBelow n (TurnOut k) = (k + 1) < n
 HasTicketBelow n (SetFree k) = (k + 1) < n
 HasTicketBelow n _ = Unit {0}
 
--- what a step writes stands in a cell of the queue
+-- the cell that a step writes is one of the queue
 abbrev pub IsWithin : ℕ → Write ℕ → Type 0
 IsWithin size (write.Turn c n) = c < size
 IsWithin size (write.Cell c x) = c < size

@@ -16,8 +16,8 @@ use Rattle.fak_core.specs.declared.queue.step.QueueMove.{QueueMove}
 
 -- ---- states
 
--- the counts, the ticket counters, a turn and a content for each cell, where each seat stands, the marks so far with
--- the newest first, and whether the queue is shut
+-- the counts and the ticket counters; a turn and a content for each cell; the phase of each seat; the marks so far,
+-- newest first; whether the queue is shut
 pub record QueueState (A : Type 0) : Type 0 where
   pub upper : ℤ
   pub lower : ℤ
@@ -35,7 +35,7 @@ history_of st = reverse st.past
 
 -- ---- steps
 
--- a step that leaves no mark and only loads
+-- a step that only loads and leaves no mark
 abbrev pub quiet : {A : Type 0} → CoreMove → Found A → Phase A → QueueMove A
 quiet s found p = record { step = s; found = found; mark = None; write = write.Nothing; phase = p }
 
@@ -43,7 +43,7 @@ quiet s found p = record { step = s; found = found; mark = None; write = write.N
 abbrev pub marked : {A : Type 0} → CoreMove → Found A → Kind A → Write A → Phase A → QueueMove A
 marked s found κ w p = record { step = s; found = found; mark = Some κ; write = w; phase = p }
 
--- the load of the upper count
+-- the load of the upper count; what each step must follow is in `fak_core::queue::moves`
 abbrev pub test_up : {A : Type 0} → ℕ → Bool → ℤ → A → QueueMove A
 test_up size shut found x =
     if shut then marked step.TestUp (Count found) mark.Closed write.Nothing Idle else
@@ -65,7 +65,7 @@ back_up found = marked step.BackUp (Count found) mark.BackIn (write.Upper (found
 abbrev pub ticket_in : {A : Type 0} → ℕ → A → QueueMove A
 ticket_in found x = marked step.TicketIn (Word found) (mark.Put x) (write.DrawsIn (found + 1)) (TurnIn found x)
 
--- the load of the turn word of ticket k's cell, which may fill it in round r where it is 2 r
+-- the load of the turn word of ticket k's cell: the ticket of round r may fill the cell if the turn is 2 r
 abbrev pub turn_in : {A : Type 0} → ℕ → ℕ → ℕ → A → QueueMove A
 turn_in size found k x = if found == 2 * (k / size) then quiet step.TurnIn (Word found) (StoreItem k x) else quiet step.TurnIn (Word found) (TurnIn k x)
 
@@ -95,12 +95,12 @@ sub_low found =
 abbrev pub back_low : {A : Type 0} → ℤ → QueueMove A
 back_low found = marked step.BackLow (Count found) mark.BackOut (write.Lower (found +ℤ pos 1)) Idle
 
--- the draw of a deletion's ticket, whose mark bears the item put under that ticket; where none was put the seat stays
+-- the draw of a deletion's ticket, with a mark that has the item put under it; if none was put, the seat stays
 abbrev pub ticket_out : {A : Type 0} → ℕ → Option A → QueueMove A
 ticket_out found None = quiet step.TicketOut (Word found) TicketOut
 ticket_out found (Some x) = marked step.TicketOut (Word found) (mark.Got x) (write.DrawsOut (found + 1)) (TurnOut found)
 
--- the load of the turn word of ticket k's cell, which may be emptied in round r where it is 2 r + 1
+-- the load of the turn word of ticket k's cell: the ticket of round r may empty the cell if the turn is 2 r + 1
 abbrev pub turn_out : {A : Type 0} → ℕ → ℕ → ℕ → QueueMove A
 turn_out size found k = if found == 2 * (k / size) + 1 then quiet step.TurnOut (Word found) (LoadItem k) else quiet step.TurnOut (Word found) (TurnOut k)
 
@@ -120,7 +120,7 @@ end_out found = marked step.EndOut (Count found) mark.EndOut (write.Upper (found
 abbrev pub set_shut : {A : Type 0} → ℤ → QueueMove A
 set_shut found = marked step.Shut (Count found) mark.Close write.Shut Idle
 
--- the step of a seat that stands in this phase, where the next deletion's ticket draws `drawn`
+-- the step of a seat in this phase, if the next deletion's ticket has the item `drawn`
 abbrev pub move_by : {A : Type 0} → ℕ → QueueState A → Option A → Phase A → Option (QueueMove A)
 move_by size st drawn Idle = None
 move_by size st drawn (TestUp x) = Some (test_up size st.shut st.upper x)
@@ -141,7 +141,7 @@ move_by size st drawn (SetFree k) = Some (set_free size k)
 move_by size st drawn (EndDelete k) = Some (end_out st.upper)
 move_by size st drawn SetShut = Some (set_shut st.upper)
 
--- the step of a seat that stands in this phase: a deletion's ticket draws the item that was put under it
+-- the step of a seat in this phase; a deletion's ticket has the item that was put under it
 abbrev pub next_move : {A : Type 0} → ℕ → QueueState A → Phase A → Option (QueueMove A)
 next_move size st p = move_by size st (item_of st.past st.draws_out) p
 
@@ -161,16 +161,16 @@ written st (write.Turn c n) = record st { turn = with_at st.turn c n }
 written st (write.Cell c x) = record st { cell = with_at st.cell c (Some x) }
 written st write.Shut = record st { shut = true }
 
--- the marks with that of a step of this seat
+-- the marks, with the mark of a step of this seat
 abbrev pub past_after : {A : Type 0} → ℕ → Option (Kind A) → List (Mark A) → List (Mark A)
 past_after seat None past = past
 past_after seat (Some κ) past = record { seat = seat; kind = κ } ∷ past
 
--- the seat stands in this phase
+-- the seat is now in this phase
 abbrev pub with_phase : {A : Type 0} → QueueState A → ℕ → Phase A → QueueState A
 with_phase st seat p = record st { phase = with_at st.phase seat p }
 
--- the seat stands in this phase, after a step that left a mark
+-- the seat is now in this phase, and left a mark
 abbrev pub with_mark : {A : Type 0} → QueueState A → ℕ → Phase A → Kind A → QueueState A
 with_mark st seat p κ = record st { phase = with_at st.phase seat p; past = record { seat = seat; kind = κ } ∷ st.past }
 

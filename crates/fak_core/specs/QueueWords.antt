@@ -3,7 +3,7 @@ use Rattle.std.specs.Prelude.{[]}
 use Rattle.fak_core.specs.declared.queue.words.QueueWords.{QueueWords}
 use Rattle.fak_core.specs.QueueFields.{QueueFields}
 
--- the fields with these words, and with no seat and no mark
+-- the fields with these words, without seats and marks
 abbrev pub fields_of : QueueWords → QueueFields
 fields_of w = record {
   size = w.size;

@@ -29,7 +29,7 @@ pub record RoomState : Type 0 where
 abbrev pub history_of : RoomState → List RoomMark
 history_of s = reverse s.past
 
--- nobody holds anything, and nothing has happened
+-- nobody holds anything, and no call has begun
 abbrev pub opening : ℕ → ℕ → RoomState
 opening bound seats = record {
   bound = bound;
@@ -40,16 +40,16 @@ opening bound seats = record {
 
 -- ---- steps
 
--- whether d more than was found fits the bound
+-- whether the bound allows d more than was found
 abbrev pub fits : ℕ → ℤ → ℕ → Bool
 fits bound found d = not (int_lt (pos bound) (found +ℤ pos d))
 
--- the load, where its test passes or fails
+-- the load, by whether its test passes; what each step must follow is in `fak_core::room::moves`
 abbrev pub test_move : Bool → ℤ → ℕ → ℕ → RoomMove
 test_move true found held d = record { step = step.Test; mark = None; count = found; seat = record { held = held; phase = Adding d } }
 test_move false found held d = record { step = step.Test; mark = Some (No d); count = found; seat = record { held = held; phase = Idle } }
 
--- the fetch-and-add, where the test of what it found passes or fails
+-- the fetch-and-add, by whether the test of what it found passes
 abbrev pub add_move : Bool → ℤ → ℕ → ℕ → RoomMove
 add_move true found held d = record { step = step.Add; mark = Some (Up d); count = found +ℤ pos d; seat = record { held = held + d; phase = Idle } }
 add_move false found held d = record { step = step.Add; mark = Some (Over d); count = found +ℤ pos d; seat = record { held = held; phase = Backing d } }
@@ -62,7 +62,7 @@ back_move found held d = record { step = step.Back; mark = Some (Back d); count 
 abbrev pub release_move : ℤ → ℕ → ℕ → RoomMove
 release_move found held d = record { step = step.Release; mark = Some (GivenBack d); count = found -ℤ pos d; seat = record { held = held - d; phase = Idle } }
 
--- the next step of a seat that holds this much, where the word has the value found
+-- the next step of a seat that holds this much, if the count is `found`
 abbrev pub next_move : ℕ → ℤ → ℕ → RoomPhase → Option RoomMove
 next_move bound found held Idle = None
 next_move bound found held (Testing d) = Some (test_move (fits bound found d) found held d)
@@ -88,7 +88,7 @@ abbrev pub line_mark : Option RoomKind → Option LineMark
 line_mark None = None
 line_mark (Some kind) = Some (mark.Room kind)
 
--- the line of a step
+-- the line that records a step
 abbrev pub line_of : RoomState → ℕ → RoomMove → Line
 line_of s seat m = record { seat = seat; step = m.step; found = s.count; mark = line_mark m.mark }
 
@@ -100,7 +100,7 @@ abbrev pub seat_step : RoomState → Option CoreSeat → Result RoomMove CoreFau
 seat_step s None = Err NoSuchSeat
 seat_step s (Some x) = or_idle (next_move s.bound s.count x.held x.phase)
 
--- the step that a seat makes in this state, or why it makes none
+-- the step that a seat takes in this state, or why it takes none
 abbrev pub step_of : RoomState → ℕ → Result RoomMove CoreFault
 step_of s seat = seat_step s (slice_get s.seats seat)
 
@@ -111,7 +111,7 @@ abbrev pub amount_of : RoomCall → ℕ
 amount_of (Tir d) = d
 amount_of (Release d) = d
 
--- the phase in which a call of a seat that holds this much begins, or why it doesn't
+-- the phase in which a call of a seat that holds this much begins, or why it does not begin
 abbrev pub begun_phase : ℕ → RoomPhase → RoomCall → Result RoomPhase CoreFault
 begun_phase held Idle (Tir d) = Ok (Testing d)
 begun_phase held Idle (Release d) = if nat_lt held d then Err NotHeld else Ok (Releasing d)
@@ -128,7 +128,7 @@ abbrev pub seat_begin : Option CoreSeat → RoomCall → Result CoreSeat CoreFau
 seat_begin None call = Err NoSuchSeat
 seat_begin (Some x) call = held_with x.held (begun_phase x.held x.phase call)
 
--- the seat as its call begins, or why it doesn't
+-- the seat when its call begins, or why the call does not begin
 abbrev pub begin_of : RoomState → ℕ → RoomCall → Result CoreSeat CoreFault
 begin_of s seat call = seat_begin (slice_get s.seats seat) call
 
@@ -136,9 +136,9 @@ begin_of s seat call = seat_begin (slice_get s.seats seat) call
 abbrev pub begun : RoomState → ℕ → CoreSeat → RoomState
 begun s seat x = record { bound = s.bound; count = s.count; seats = slice_set s.seats seat x; past = s.past }
 
--- ---- what the calls of a core promise
+-- ---- what the calls of a core ensure
 
--- the seat makes its step: this is its line, and this the state after it
+-- the seat takes its step: this is its line, and this is the state after it
 pub record IsStep (old : RoomState) (seat : ℕ) (line : Line) (new : RoomState) : Type 0 where
   pub step : RoomMove
   pub is : step_of old seat ≡ Ok step
@@ -155,7 +155,7 @@ pub record IsBegun (old : RoomState) (seat : ℕ) (call : RoomCall) (new : RoomS
 abbrev pub LeavesMark : Result RoomMove CoreFault → Type 0
 LeavesMark r = (m : RoomMove) × (r ≡ Ok m) × IsSome m.mark
 
--- the amount of the call that a seat is in is in range, and it holds what it gives back
+-- the amount of the seat's open call is in range, and the seat holds what it gives back
 abbrev pub HasRange : ℕ → RoomPhase → Type 0
 HasRange held Idle = Unit {0}
 HasRange held (Testing d) = d ≤ 1024

@@ -6,7 +6,7 @@ use Rattle.fak_core.specs.declared.room.phase.CoreSeat.{CoreSeat}
 use Rattle.fak_core.specs.declared.room.step.RoomMove.{RoomMove}
 use Rattle.fak_core.specs.Room.{RoomState, opening, moved, step_of, begin_of, begun, amount_of}
 
--- what a schedule asks for: a seat begins a call, or makes its next step
+-- an event of a schedule: a seat begins a call, or takes its next step
 pub data RoomEvent : Type 0 where
   Begins : (seat : ℕ) → (call : RoomCall) → RoomEvent
   Advances : (seat : ℕ) → RoomEvent
@@ -24,7 +24,7 @@ abbrev pub after_begin : RoomState → ℕ → Result CoreSeat CoreFault → Roo
 after_begin s seat (Ok x) = begun s seat x
 after_begin s seat (Err fault) = s
 
--- the state after an event; a refused one changes nothing
+-- the state after an event; a refused event changes nothing
 abbrev pub happens : RoomState → RoomEvent → RoomState
 happens s (Begins seat call) = after_begin s seat (begin_of s seat call)
 happens s (Advances seat) = after_step s seat (step_of s seat)

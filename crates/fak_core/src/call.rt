@@ -3,7 +3,7 @@
 /// A call on a room.
 #[derive(Clone, Copy, Debug, PartialEq, Eq)]
 pub enum RoomCall {
-    /// Test, increment, retest: claim this amount, 1 to 1,024.
+    /// Claim this amount, 1 to 1,024, by test, increment and retest.
     Tir(u64),
     /// Give this amount back, 1 to 1,024.
     Release(u64),

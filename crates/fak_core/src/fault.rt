@@ -5,16 +5,16 @@
 pub enum CoreFault {
     /// The bound of a room, or the size of a queue, is out of range.
     BadSize,
-    /// The number of seats isn't 1 to 64.
+    /// The number of seats is not 1 to 64.
     BadSeats,
     /// No seat has this number.
     NoSuchSeat,
-    /// The seat is in the middle of a call.
+    /// The seat has an open call.
     MidCall,
-    /// The seat has no call to go on with.
+    /// The seat has no open call.
     IdleSeat,
     /// The seat holds less than it would release.
     NotHeld,
-    /// There was no memory.
+    /// Memory ran out.
     Memory,
 }

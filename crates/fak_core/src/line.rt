@@ -1,4 +1,4 @@
-//! What one atomic step of a core did.
+//! The record of one atomic step of a core.
 
 use fak_model::{Kind, RoomKind};
 
@@ -17,7 +17,7 @@ pub enum CoreMove {
     TestUp,
     /// Queue: add 1 to the upper count, and test again.
     AddUp,
-    /// Queue: withdraw an insertion that found no room, or a shut queue.
+    /// Queue: withdraw an insertion that found no room, or found the queue shut.
     BackUp,
     /// Queue: draw an insertion's ticket.
     TicketIn,
@@ -25,7 +25,7 @@ pub enum CoreMove {
     TurnIn,
     /// Queue: store the item in the cell.
     StoreItem,
-    /// Queue: give the cell's turn to the deletion of the same ticket.
+    /// Queue: hand the cell on to the deletion of the same ticket.
     SetFull,
     /// Queue: add 1 to the lower count, which ends the insertion.
     EndIn,
@@ -41,7 +41,7 @@ pub enum CoreMove {
     TurnOut,
     /// Queue: load the item of the cell.
     LoadItem,
-    /// Queue: give the cell's turn to the insertion of the next round.
+    /// Queue: hand the cell on to the insertion of the next round.
     SetFree,
     /// Queue: subtract 1 from the upper count, which ends the deletion.
     EndOut,
@@ -59,11 +59,11 @@ pub enum LineMark {
 /// One atomic step.
 #[derive(Clone, Copy, Debug, PartialEq, Eq)]
 pub struct Line {
-    /// The seat that made it.
+    /// The seat that took it.
     pub seat: u64,
     /// Which step it was.
     pub step: CoreMove,
-    /// The value of the word before the step; of a store, the value stored. A count is read without its bias.
+    /// The value of the word before the step; for a store, the value stored. A count is given without its bias.
     pub found: i128,
     /// The mark that it left in the history, if any.
     pub mark: Option<LineMark>,

@@ -30,7 +30,7 @@ use words::QueueWords;
 /// A bounded queue of numbers over plain data.
 ///
 /// Its value in contracts is the record of its fields, with the marks so far newest first; `queue_state` is the state
-/// that they show. The items put are kept by their tickets, beside the marks that say them.
+/// that the fields show. The items put are kept by ticket, in addition to the marks that have them.
 #[derive(Debug, Drop)]
 pub struct QueueCore {
     words: QueueWords,
@@ -73,7 +73,7 @@ impl Eq for QueueCore {
     ghost laws = { same_queue_laws };
 }
 
-/// The phase in which a call of a seat in this phase begins.
+/// The first phase of a call that begins in this phase of its seat.
 fn phase_begin(at: Phase<u64>, call: QueueCall) -> Result<Phase<u64>, CoreFault>
     ensures { result ≡ phase_begin (Some at) call }
 {
@@ -99,7 +99,7 @@ impl QueueCore {
         ensures ok { IfOk result (λ core. core ≡ opening_fields size seats) }
         ensures opens { IfOk result (λ core. queue_state core ≡ opening) }
 
-        // Refusals, in their order.
+        // The refusals, in their order.
         ensures size { IsErrOf result CoreFault.BadSize ↔ ((size ≡ 0) ⊎ (4096 < size)) }
         ensures seats { IsErrOf result CoreFault.BadSeats
             ↔ ((1 ≤ size) × (size ≤ 4096) × ((seats ≡ 0) ⊎ (64 < seats))) }
@@ -149,12 +149,12 @@ impl QueueCore {
         Ok(())
     }
 
-    /// Makes one atomic step of the call that a seat is in.
+    /// Takes one atomic step of the open call of a seat.
     ///
     /// # Errors
     ///
-    /// `NoSuchSeat`, `IdleSeat` or `Memory`, in this order. `Memory` comes only at a step that leaves a mark; the seat's
-    /// next step is then still the same.
+    /// `NoSuchSeat`, `IdleSeat` or `Memory`, in this order. `Memory` is possible only at a step that leaves a mark; the
+    /// seat's next step is then still the same.
     pub fn advance(&mut self, _alloc: Global, seat: u64) -> Result<Line, CoreFault>
         ensures ok { IfOk result (λ line. IsStep self.old seat line self.new) }
 
@@ -181,7 +181,7 @@ impl QueueCore {
         if seat >= self.phases.len() as u64 {
             return Err(CoreFault::NoSuchSeat);
         }
-        // A slice tells that the marks, and so the tickets, are few enough for the steps to reckon with.
+        // The slice shows that there are fewer than 2^63 marks, and so tickets: the steps can count them.
         let _marks = self.marks.as_slice();
         let phase = self.phases[seat as usize];
         let drawn = item_put(&self.items, self.words.draws_out);

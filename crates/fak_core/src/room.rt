@@ -18,7 +18,8 @@ use phase::{CoreSeat, RoomPhase};
 use std::alloc::Global;
 use std::marker::Model;
 
-/// A room over plain data: a count from 0 up that claims raise while it stays within the bound.
+/// A room over plain data: a count, from 0 up, that claims raise and releases lower. Claims are granted only up to the
+/// bound.
 ///
 /// Its value in contracts is a state: the bound, the count, what each seat holds and its next step, and the marks so
 /// far, newest first.
@@ -124,7 +125,7 @@ impl RoomCore {
         self.count
     }
 
-    /// What a seat holds.
+    /// The amount that a seat holds. The seat is below the number of seats.
     pub fn held(&self, seat: u64) -> u64
         requires { seat < length self.now.seats }
         ensures { result ≡ amount_held seat (history_of self.now) }
@@ -132,7 +133,7 @@ impl RoomCore {
         self.seats[seat as usize].held
     }
 
-    /// Begins a call of a seat.
+    /// Begins a call of a seat. The amount of the call is 1 to 1,024.
     ///
     /// # Errors
     ///
@@ -156,12 +157,12 @@ impl RoomCore {
         Ok(())
     }
 
-    /// Makes one atomic step of the call that a seat is in.
+    /// Takes one atomic step of the open call of a seat.
     ///
     /// # Errors
     ///
-    /// `NoSuchSeat`, `IdleSeat` or `Memory`, in this order. `Memory` comes only at a step that leaves a mark; the seat's
-    /// next step is then still the same.
+    /// `NoSuchSeat`, `IdleSeat` or `Memory`, in this order. `Memory` is possible only at a step that leaves a mark; the
+    /// seat's next step is then still the same.
     pub fn advance(&mut self, _alloc: Global, seat: u64) -> Result<Line, CoreFault>
         ensures ok { IfOk result (λ line. IsStep self.old seat line self.new) }
         ensures err { OnErr result (self.new ≡ self.old) }

@@ -1,5 +1,5 @@
-//! Blocks: steps that several seats make in a row, one of each seat, for every size and state and items of any type. A block of d
-//! seats changes a count as one fetch-and-add of d does.
+//! Blocks: steps of several seats in a row, one step of each seat, for every size and state and items of any type. A
+//! block of d seats changes a count as one fetch-and-add of d does.
 
 ghost use Rattle.std.specs.Prelude.{◌≡◌, ℕ, ◌-◌, ◌<◌, ◌<ℤ◌, ◌≤ℤ◌, ◌++◌, List, [], drop, false, pos, take, true};
 ghost use Rattle.fak_core.specs.declared.queue.phase.Phase.TheVariants.{AddUp, Idle, SubLow, TicketOut};
@@ -8,8 +8,8 @@ ghost use Rattle.fak_core.specs.QueueMoves.{QueueState};
 ghost use Rattle.fak_core.specs.QueueSchedule.{IsReached};
 ghost use Rattle.fak_model.specs.declared.queue.Kind.TheVariants.{Closed, NoItem, NoRoom};
 
-/// A block is part of a schedule: the next steps of its seats, in their order. Where seats are tested together, these are the
-/// begin and the first step of each. So a block leads from a reached state to a reached state.
+/// A block is part of a schedule: the next steps of its seats, in their order. If seats are tested together, these
+/// events are the begin and the first step of each seat. So a block leads from a reached state to a reached state.
 pub fn a_block_is_part_of_a_schedule<T, B>()
     ensures steps { (size : ℕ) (st : QueueState T) (seats : Posts T) → AreApart (names_of seats) → Stand st seats
         → LeadTo size st (next_steps (names_of seats)) (block size st seats) }
@@ -20,7 +20,7 @@ pub fn a_block_is_part_of_a_schedule<T, B>()
         → LeadTo size st (deletion_tests (names_of seats)) (tested_low size st seats) }
 {}
 
-/// One load of the upper count tests for several insertions: all go on where there is room, and else all are refused.
+/// One load of the upper count tests for several insertions. If there is room, all go on; otherwise all are refused.
 pub fn one_load_tests_several_insertions<T>()
     ensures room { (size : ℕ) (st : QueueState T) (seats : List (ℕ × T)) → AreApart (names_of seats) → st.shut ≡ false
         → st.upper <ℤ pos size → AreTested size st seats [] (λ x. AddUp x) }
@@ -30,8 +30,8 @@ pub fn one_load_tests_several_insertions<T>()
         → AreTested size st seats (marks_back (λ x. Closed) seats) (λ x. Idle) }
 {}
 
-/// One add of d to the upper count claims for d insertions: the first are granted, as many as find room, and the others are
-/// over. Where the add finds the count u, these are the first size - u. In a shut queue all are late.
+/// One add of d to the upper count claims for d insertions. The first ones are granted, as many as there is room for;
+/// the others are refused. If the add finds the count u, the first size - u are granted. In a shut queue all are late.
 pub fn one_add_claims_several_insertions<T>()
     ensures some { (size : ℕ) (st : QueueState T) (granted over : List (ℕ × T)) → AreApart (names_of (granted ++ over))
         → Grants size st granted over → AreAdded size st granted over }
@@ -41,8 +41,8 @@ pub fn one_add_claims_several_insertions<T>()
         → AreLate size st seats }
 {}
 
-/// One subtraction from the upper count withdraws several insertions. One add draws tickets for them that follow one another, and
-/// one add to the lower count ends them.
+/// One subtraction from the upper count withdraws several insertions. One add draws consecutive tickets for several
+/// insertions, and one add to the lower count ends several insertions.
 pub fn one_add_moves_several_insertions_on<T>()
     ensures backs { (size : ℕ) (st : QueueState T) (seats : List (ℕ × T)) → AreApart (names_of seats)
         → AreWithdrawn size st seats }
@@ -52,7 +52,7 @@ pub fn one_add_moves_several_insertions_on<T>()
         → AreEnded size st seats }
 {}
 
-/// One load of the lower count tests for several deletions: all go on where there is an item, and else all are refused.
+/// One load of the lower count tests for several deletions. If there is an item, all go on; otherwise all are refused.
 pub fn one_load_tests_several_deletions<T, B>()
     ensures stock { (size : ℕ) (st : QueueState T) (seats : List (ℕ × B)) → AreApart (names_of seats)
         → pos 1 ≤ℤ st.lower → AreTestedLow size st seats [] (λ x. SubLow) }
@@ -61,8 +61,9 @@ pub fn one_load_tests_several_deletions<T, B>()
         → AreTestedLow size st seats (marks_back (λ x. NoItem) seats) (λ x. Idle) }
 {}
 
-/// One subtraction of d from the lower count claims for d deletions: the first are granted, as many as find an item, and the
-/// others are over. Where it finds the count l, these are the first l, and none where it finds none.
+/// One subtraction of d from the lower count claims for d deletions. The first ones are granted, as many as there are
+/// items; the others are refused. If the subtraction finds the count l, the first l are granted, and none if l is below
+/// 1.
 pub fn one_subtraction_claims_several_deletions<T, B>()
     ensures some { (size : ℕ) (st : QueueState T) (granted over : List (ℕ × B)) → AreApart (names_of (granted ++ over))
         → GrantsLow st granted over → AreSubtracted size st granted over }
@@ -72,8 +73,8 @@ pub fn one_subtraction_claims_several_deletions<T, B>()
         → st.lower ≤ℤ pos 0 → AreSubtracted size st [] seats }
 {}
 
-/// One add to the lower count withdraws several deletions. One add draws tickets for them that follow one another, each with the
-/// item that was put under it, and one subtraction from the upper count ends them.
+/// One add to the lower count withdraws several deletions. One add draws consecutive tickets for several deletions,
+/// each with the item that was put under its ticket. One subtraction from the upper count ends several deletions.
 pub fn one_add_moves_several_deletions_on<T, B>()
     ensures backs { (size : ℕ) (st : QueueState T) (seats : List (ℕ × B)) → AreApart (names_of seats)
         → AreWithdrawnOut size st seats }

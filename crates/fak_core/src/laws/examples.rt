@@ -1,4 +1,4 @@
-//! Known cases on either side of the definitions of progress and of blocks.
+//! Known cases on both sides of the definitions of progress and of blocks.
 
 pub mod blocks;
 pub mod room;
@@ -9,8 +9,8 @@ ghost use Rattle.fak_core.specs.ProgressExamples.{begun, held_up, rounds_of_two,
 ghost use Rattle.fak_core.specs.QueueProgress.{AreIdleFrom, HoldsTicketOf, IsAdvance, IsIdleWithin, IsRound, MakesProgress, SomeHolderMoves, SomeSeatMoves, after_rounds, drawn_seats, has_drawn, round_robin};
 ghost use Rattle.fak_core.specs.QueueSchedule.{Advances, Deletes};
 
-/// A deletion waits for the insertion of its ticket, which does not wait and holds a ticket of the same cell. Once a cell is
-/// given on, its ticket is held no more.
+/// A deletion waits for the insertion of its ticket. That insertion holds a ticket of the same cell and does not wait.
+/// Once the cell is full or free, a call no longer holds its ticket.
 pub fn the_seats_that_wait_are_judged()
     ensures waits { MakesProgress 2 waiting 2 → ⊥ }
     ensures moves { MakesProgress 2 waiting 0 }
@@ -20,8 +20,8 @@ pub fn the_seats_that_wait_are_judged()
     ensures free { HoldsTicketOf {A = ℕ} 2 (SetFree 5) 1 × (HoldsTicketOf {A = ℕ} 2 (EndDelete 5) 1 → ⊥) }
 {}
 
-/// Where a seat waits for the second, the first seat does not move, and one of the first two does. The two have drawn
-/// tickets: as many as the queue has cells. So has each call up to its end, and none before its draw.
+/// If a seat waits for the second seat, the first seat cannot move, but one of the first two can. Both have drawn
+/// tickets, as many as the queue has cells. A call counts as having drawn from its draw up to its end.
 pub fn the_seats_that_move_are_judged()
     ensures beyond { SomeSeatMoves 2 1 held_up → ⊥ }
     ensures among { SomeSeatMoves 2 2 held_up }
@@ -33,8 +33,8 @@ pub fn the_seats_that_move_are_judged()
     ensures draws { (has_drawn {A = ℕ} (TicketIn 10) ≡ 0) × (has_drawn {A = ℕ} TicketOut ≡ 0) }
 {}
 
-/// In a round each seat steps, and no other seat does anything. On a queue of one cell a call may need all of the seven
-/// rounds that the law allows: after six it is open.
+/// In a round each of the given seats steps, and no other seat does anything. On a queue of one cell a call may need
+/// all of the seven rounds that the law allows: after six rounds it is still open.
 pub fn the_rounds_of_a_queue_are_judged()
     ensures round { IsRound {A = ℕ} 2 (Advances 1 ∷ Deletes 0 ∷ Advances 0 ∷ []) }
     ensures each { IsRound {A = ℕ} 2 (Advances 0 ∷ []) → ⊥ }

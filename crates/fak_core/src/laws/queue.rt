@@ -12,20 +12,21 @@ pub fn every_queue_schedule_is_legal<T>()
         → IsQueueHistory size (history_of (reached size schedule)) }
 {}
 
-/// At most one seat at a time is between the load that found its turn at a cell and the store that gives the
+/// At most one seat at a time is in a cell: between the load that found its turn there and the store that hands the
 /// cell on.
 pub fn a_cell_has_one_owner<T>()
     ensures { (size : ℕ) (schedule : List (QueueEvent T)) (s t c : ℕ) → 0 < size
         → InCell size ((reached size schedule).phase s) c → InCell size ((reached size schedule).phase t) c → s ≡ t }
 {}
 
-/// A deletion that is to load its item finds in its cell the item of the Put with its own ticket, which its Got bears.
+/// A deletion that is about to load its item finds in its cell the item of the Put with its own ticket. Its Got has
+/// that item.
 pub fn a_deletion_loads_the_item_of_its_ticket<T>()
     ensures { (size : ℕ) (schedule : List (QueueEvent T)) (s k : ℕ) → 0 < size
         → (reached size schedule).phase s ≡ LoadItem k → LoadsItsItem size (reached size schedule) s k }
 {}
 
-/// A deletion that is granted draws a ticket under which an item was put.
+/// A granted deletion draws a ticket under which an item was put.
 pub fn a_granted_deletion_draws_an_item<T>()
     ensures { (size : ℕ) (schedule : List (QueueEvent T)) (s : ℕ) → 0 < size
         → (reached size schedule).phase s ≡ TicketOut

@@ -20,15 +20,15 @@ pub fn every_room_schedule_counts_its_marks()
         → (run schedule (opening bound seats)).count ≡ value (history_of (run schedule (opening bound seats))) }
 {}
 
-/// After every schedule each seat holds what its marks say: its Ups less its Releases.
+/// After every schedule each seat holds the amount that its marks give: its Ups less its Releases.
 pub fn every_room_schedule_keeps_what_is_held()
     ensures { (bound seats : ℕ) (schedule : List RoomEvent) (i : ℕ) (seat : CoreSeat) → All IsEvent schedule
         → slice_get (run schedule (opening bound seats)).seats i ≡ Some seat
         → seat.held ≡ amount_held i (history_of (run schedule (opening bound seats))) }
 {}
 
-/// A room's claim ends in three steps of its own seat, and a release in one, whatever the other seats do between them. A
-/// claim whose add found no room ends in one more.
+/// A room's claim ends within three steps of its own seat, and a release in one, whatever the other seats do in
+/// between. A claim whose add found no room ends in one more step.
 pub fn a_room_call_ends_in_three_steps()
     ensures claim { (s : RoomState) (events : List RoomEvent) (i : ℕ) (seat : CoreSeat) → slice_get s.seats i ≡ Some seat
         → 3 ≤ own_steps i events → IsIdleOnce events s i }

@@ -7,7 +7,7 @@ use crate::line::{Line, LineMark};
 use crate::queue::step::{Found, QueueMove};
 use fak_model::Kind;
 
-/// The line of a step of this seat.
+/// The line that records a step of this seat.
 pub fn line_of(seat: u64, step: QueueMove<u64>) -> Line
     ensures { result ≡ fields.line_of seat step }
 {

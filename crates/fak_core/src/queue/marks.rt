@@ -1,4 +1,4 @@
-//! The marks of a queue core, and the items put, by their tickets.
+//! The marks of a queue core, and the items put, by ticket.
 
 ghost use Rattle.std.specs.Prelude.{◌≡◌, ◌++◌, [], ◌∷◌, IfErr, IsSome, OnErr, OnOk, reverse, slice_get};
 ghost use Rattle.fak_core.specs.QueueFields.{item_left};
@@ -9,7 +9,7 @@ ghost use Rattle.fak_model.specs.declared.queue.Kind.TheVariants as mark;
 use crate::fault::CoreFault;
 use fak_model::{Kind, Mark};
 
-/// Keeps the mark of a step of this seat, and the item that it puts.
+/// Appends the mark of a step of this seat, if it leaves one, and the item if the mark is a Put.
 pub fn keep_mark(
     marks: &mut Vec<Mark<u64>>,
     items: &mut Vec<u64>,
@@ -29,7 +29,7 @@ pub fn keep_mark(
     }
 }
 
-/// Keeps a Put and its item.
+/// Appends a Put and its item.
 fn keep_put(
     marks: &mut Vec<Mark<u64>>,
     items: &mut Vec<u64>,
@@ -53,7 +53,7 @@ fn keep_put(
     Ok(())
 }
 
-/// Adds a mark.
+/// Appends a mark.
 #[tactic(auto, using(fak_model::proofs::Reversing::reverse_push))]
 fn push_mark(marks: &mut Vec<Mark<u64>>, seat: u64, kind: Kind<u64>) -> Result<(), CoreFault>
     ensures ok { OnOk result (reverse marks.new.items ≡ record { seat = seat; kind = kind } ∷ reverse marks.old.items) }
@@ -66,7 +66,7 @@ fn push_mark(marks: &mut Vec<Mark<u64>>, seat: u64, kind: Kind<u64>) -> Result<(
     Ok(())
 }
 
-/// The item that was put under a ticket, if it was drawn.
+/// The item that was put under a ticket, if that ticket was drawn.
 pub fn item_put(items: &[u64], ticket: u64) -> Option<u64>
     ensures { result ≡ slice_get items.now ticket }
 {

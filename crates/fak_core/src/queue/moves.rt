@@ -1,4 +1,5 @@
-//! The atomic steps, each as a function of what it finds in its word.
+//! The atomic steps of a queue. Each is a function of the value that it finds in its word, and its comment states what
+//! it must follow and why.
 
 ghost use Rattle.std.specs.Prelude.{◌≡◌, ◌+◌, ◌≤◌, ◌<◌, ◌^◌};
 ghost use Rattle.fak_core.specs.QueueFields.{IsSmall};
@@ -9,7 +10,7 @@ use crate::queue::phase::Phase;
 use crate::queue::step::{Found, QueueMove, Write};
 use fak_model::{Kind, cell_of, round_of};
 
-/// A step that leaves no mark and only loads.
+/// A step that only loads and leaves no mark.
 fn quiet(step: CoreMove, found: Found<u64>, phase: Phase<u64>) -> QueueMove<u64>
     ensures { result ≡ table.quiet step found phase }
 {
@@ -41,7 +42,9 @@ fn marked(
     }
 }
 
-/// The load of the upper count.
+/// The load of the upper count, before the add: an insertion that finds the queue full or shut raises no count. Without
+/// it, refused insertions could keep the upper count at the size or above it, and so keep out others although there is
+/// room.
 pub fn test_up(size: u64, shut: bool, found: i64, x: u64) -> QueueMove<u64>
     requires { size ≤ 4096 }
     ensures { result ≡ table.test_up size shut found x }
@@ -58,7 +61,8 @@ pub fn test_up(size: u64, shut: bool, found: i64, x: u64) -> QueueMove<u64>
     }
 }
 
-/// The fetch-and-add of 1 to the upper count.
+/// The fetch-and-add of 1 to the upper count, which claims a cell. What it finds is tested again: other insertions may
+/// have claimed since `test_up`, or the queue may be shut. A refused add must be withdrawn by `back_up`.
 pub fn add_up(size: u64, shut: bool, found: i64, x: u64) -> QueueMove<u64>
     requires size { size ≤ 4096 }
     requires small { IsSmall found }
@@ -79,7 +83,8 @@ pub fn add_up(size: u64, shut: bool, found: i64, x: u64) -> QueueMove<u64>
     }
 }
 
-/// The fetch-and-subtract of 1 that withdraws an insertion.
+/// The fetch-and-subtract of 1 that withdraws an insertion, after an add that was refused. Until then the upper count
+/// is too high by 1, and another insertion may be refused although there is room.
 pub fn back_up(found: i64) -> QueueMove<u64>
     requires { IsSmall found }
     ensures { result ≡ table.back_up found }
@@ -94,7 +99,9 @@ pub fn back_up(found: i64) -> QueueMove<u64>
     )
 }
 
-/// The draw of an insertion's ticket.
+/// The draw of an insertion's ticket, which gives it a cell and its place among all insertions. It comes after a
+/// granted claim: so the deletion of the round before at this cell, if any, has drawn its ticket. `turn_in` then waits
+/// only for an open call.
 pub fn ticket_in(found: u64, x: u64) -> QueueMove<u64>
     requires { found < 2 ^ 63 }
     ensures { result ≡ table.ticket_in found x }
@@ -105,7 +112,8 @@ pub fn ticket_in(found: u64, x: u64) -> QueueMove<u64>
     marked(CoreMove::TicketIn, ticket, Kind::Put(x), drawn, next)
 }
 
-/// The load of the turn word of a ticket's cell, for an insertion.
+/// The load of the turn word of a ticket's cell, for an insertion. It is repeated until the word shows that the cell is
+/// free: only then has the deletion of the round before loaded its item.
 pub fn turn_in(size: u64, found: u64, k: u64, x: u64) -> QueueMove<u64>
     requires size { 1 ≤ size }
     requires ticket { k + 1 < 2 ^ 63 }
@@ -121,7 +129,8 @@ pub fn turn_in(size: u64, found: u64, k: u64, x: u64) -> QueueMove<u64>
     }
 }
 
-/// The store of the item.
+/// The store of the item. It comes after `turn_in` found the cell free, since before that it would overwrite the item
+/// of the round before.
 pub fn store_item(size: u64, k: u64, x: u64) -> QueueMove<u64>
     requires { 1 ≤ size }
     ensures { result ≡ table.store_item size k x }
@@ -135,7 +144,8 @@ pub fn store_item(size: u64, k: u64, x: u64) -> QueueMove<u64>
     }
 }
 
-/// The store of the turn word that makes a cell full.
+/// The store of the turn word that makes a cell full. The deletion of the same ticket may load the item from here on,
+/// so this comes after `store_item`.
 pub fn set_full(size: u64, k: u64) -> QueueMove<u64>
     requires size { 1 ≤ size }
     requires ticket { k + 1 < 2 ^ 63 }
@@ -152,7 +162,8 @@ pub fn set_full(size: u64, k: u64) -> QueueMove<u64>
     )
 }
 
-/// The fetch-and-add of 1 to the lower count that ends an insertion.
+/// The fetch-and-add of 1 to the lower count, which ends an insertion. A deletion may claim the item from here on, so
+/// this comes after `set_full`.
 pub fn end_in(found: i64) -> QueueMove<u64>
     requires { IsSmall found }
     ensures { result ≡ table.end_in found }
@@ -167,7 +178,8 @@ pub fn end_in(found: i64) -> QueueMove<u64>
     )
 }
 
-/// The load of the lower count.
+/// The load of the lower count, before the subtraction: a deletion that finds the queue empty lowers no count. Without
+/// it, refused deletions could keep the lower count below 1, and so keep out others although there is an item.
 pub fn test_low(found: i64) -> QueueMove<u64>
     ensures { result ≡ table.test_low found }
 {
@@ -181,7 +193,8 @@ pub fn test_low(found: i64) -> QueueMove<u64>
     }
 }
 
-/// The fetch-and-subtract of 1 from the lower count.
+/// The fetch-and-subtract of 1 from the lower count, which claims an item. What it finds is tested again: other
+/// deletions may have claimed since `test_low`. A refused subtraction must be withdrawn by `back_low`.
 pub fn sub_low(found: i64) -> QueueMove<u64>
     requires { IsSmall found }
     ensures { result ≡ table.sub_low found }
@@ -197,7 +210,8 @@ pub fn sub_low(found: i64) -> QueueMove<u64>
     }
 }
 
-/// The fetch-and-add of 1 that withdraws a deletion.
+/// The fetch-and-add of 1 that withdraws a deletion, after a subtraction that was refused. Until then the lower count
+/// is too low by 1, and another deletion may be refused although there is an item.
 pub fn back_low(found: i64) -> QueueMove<u64>
     requires { IsSmall found }
     ensures { result ≡ table.back_low found }
@@ -212,7 +226,9 @@ pub fn back_low(found: i64) -> QueueMove<u64>
     )
 }
 
-/// The draw of a deletion's ticket, and with it of the item that was put under that ticket.
+/// The draw of a deletion's ticket, and with it of the item that was put under that ticket. It comes after a granted
+/// claim: so the insertion of the same ticket has drawn it, and `turn_out` waits only for an open call. `None` never
+/// occurs then.
 pub fn ticket_out(found: u64, drawn: Option<u64>) -> QueueMove<u64>
     requires { found < 2 ^ 63 }
     ensures { result ≡ table.ticket_out found drawn }
@@ -233,7 +249,8 @@ pub fn ticket_out(found: u64, drawn: Option<u64>) -> QueueMove<u64>
     }
 }
 
-/// The load of the turn word of a ticket's cell, for a deletion.
+/// The load of the turn word of a ticket's cell, for a deletion. It is repeated until the word shows that the cell is
+/// full: only then has the insertion of the same ticket stored its item.
 pub fn turn_out(size: u64, found: u64, k: u64) -> QueueMove<u64>
     requires size { 1 ≤ size }
     requires ticket { k + 1 < 2 ^ 63 }
@@ -249,14 +266,16 @@ pub fn turn_out(size: u64, found: u64, k: u64) -> QueueMove<u64>
     }
 }
 
-/// The load of the item.
+/// The load of the item. It comes after `turn_out` found the cell full, since before that the cell does not have the
+/// item of this ticket.
 pub fn load_item(content: Option<u64>, k: u64) -> QueueMove<u64>
     ensures { result ≡ table.load_item content k }
 {
     quiet(CoreMove::LoadItem, Found::Item(content), Phase::SetFree(k))
 }
 
-/// The store of the turn word that makes a cell free for the next round.
+/// The store of the turn word that makes a cell free for the next round. The insertion of the next round may overwrite
+/// the item from here on, so this comes after `load_item`.
 pub fn set_free(size: u64, k: u64) -> QueueMove<u64>
     requires size { 1 ≤ size }
     requires ticket { k + 1 < 2 ^ 63 }
@@ -273,7 +292,8 @@ pub fn set_free(size: u64, k: u64) -> QueueMove<u64>
     )
 }
 
-/// The fetch-and-subtract of 1 from the upper count that ends a deletion.
+/// The fetch-and-subtract of 1 from the upper count, which ends a deletion. An insertion may claim the cell from here
+/// on, so this comes after `set_free`.
 pub fn end_out(found: i64) -> QueueMove<u64>
     requires { IsSmall found }
     ensures { result ≡ table.end_out found }
@@ -288,7 +308,8 @@ pub fn end_out(found: i64) -> QueueMove<u64>
     )
 }
 
-/// The fetch-and-or that sets the shut bit.
+/// The fetch-and-or that sets the shut bit. The bit is in the word of the upper count, so every later `test_up` and
+/// `add_up` finds it and is refused. Insertions that were granted before it still complete.
 pub fn set_shut(found: i64) -> QueueMove<u64>
     ensures { result ≡ table.set_shut found }
 {

@@ -1,10 +1,10 @@
-//! The phase of a queue core's seat.
+//! The phase of a seat of a queue core.
 
 ghost use Rattle.std.specs.Prelude.{◌≡◌};
 
 use std::alloc::AllocError;
 
-/// The next move of a seat, with the item and the ticket of its call.
+/// The next step of a seat, with the item and the ticket of its call. `moves` states what each step must follow.
 #[derive(Debug, PartialEq, Eq, Drop)]
 pub enum Phase<T> {
     /// No call is open.
@@ -19,7 +19,7 @@ pub enum Phase<T> {
     TicketIn(T),
     /// An insertion's load of its cell's turn word.
     TurnIn(u64, T),
-    /// The store of the item in the cell, whose turn was found.
+    /// The store of the item in the cell, which was found free.
     StoreItem(u64, T),
     /// The store of the turn word that makes the cell full.
     SetFull(u64, T),
@@ -35,7 +35,7 @@ pub enum Phase<T> {
     TicketOut,
     /// A deletion's load of its cell's turn word.
     TurnOut(u64),
-    /// The load of the item from the cell, whose turn was found.
+    /// The load of the item from the cell, which was found full.
     LoadItem(u64),
     /// The store of the turn word that makes the cell free for the next round.
     SetFree(u64),

@@ -1,4 +1,4 @@
-//! What one atomic step of a seat of a queue does.
+//! One atomic step of a seat of a queue, as data.
 
 ghost use Rattle.std.specs.Prelude.{◌≡◌};
 
@@ -7,12 +7,12 @@ use crate::queue::phase::Phase;
 use fak_model::Kind;
 use std::alloc::AllocError;
 
-/// What a step found in its word; of a store of a turn or an item, the value stored.
+/// The value that a step found in its word; for a store of a turn or an item, the value stored.
 #[derive(Debug, Drop)]
 pub enum Found<T> {
     /// A count, or a ticket counter.
     Count(i64),
-    /// A ticket or a turn word.
+    /// A ticket, or a turn word.
     Word(u64),
     /// The content of a cell.
     Item(Option<T>),
@@ -31,11 +31,11 @@ pub enum Write<T> {
     DrawsIn(u64),
     /// The counter of deletions' tickets.
     DrawsOut(u64),
-    /// The turn word of a cell.
+    /// The number of a cell, and its new turn word.
     Turn(u64, u64),
-    /// The content of a cell.
+    /// The number of a cell, and its new content.
     Cell(u64, T),
-    /// The shut bit is set.
+    /// The shut bit, which is set.
     Shut,
 }
 

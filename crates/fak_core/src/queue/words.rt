@@ -12,7 +12,7 @@ use crate::queue::step::{QueueMove, Write};
 use fak_model::cell_of;
 use std::alloc::Global;
 
-/// The counts, the ticket counters, the shut bit, and a turn and a content for each cell.
+/// The counts, the ticket counters, the shut bit, and for each cell a turn and a content.
 #[derive(Debug, PartialEq, Eq, Drop)]
 pub struct QueueWords {
     pub size: u64,
@@ -28,7 +28,7 @@ pub struct QueueWords {
 impl QueueWords {
     ghost use Rattle.fak_core.specs.QueueWords.{fields_of};
 
-    /// The words of a queue of this size, to which nothing has happened.
+    /// The words of a queue of this size in which no call has begun.
     pub fn new(alloc: Global, size: u64) -> Result<QueueWords, CoreFault>
         ensures ok { IfOk result (λ words. fields_of words ≡ opening_fields size 0) }
         ensures fault { IfErr result (λ fault. fault ≡ Memory) }
@@ -51,7 +51,8 @@ impl QueueWords {
         })
     }
 
-    /// The step of a seat in this phase, where the next deletion's ticket draws `drawn`.
+    /// The next step of a seat in this phase; `drawn` is the item of the next deletion's ticket. None if the seat is
+    /// idle.
     pub fn move_by(&self, drawn: Option<u64>, phase: Phase<u64>) -> Option<QueueMove<u64>>
         requires size { (1 ≤ self.now.size) × (self.now.size ≤ 4096) }
         requires upper { IsSmall self.now.upper }
@@ -104,7 +105,7 @@ impl QueueWords {
         self.cells[cell_of(ticket, self.size) as usize]
     }
 
-    /// Writes what a step writes.
+    /// Performs the write of a step.
     pub fn write(&mut self, write: Write<u64>)
         requires turns { length self.old.turns.items ≡ self.old.size }
         requires cells { length self.old.cells.items ≡ self.old.size }

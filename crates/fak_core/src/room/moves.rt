@@ -1,4 +1,5 @@
-//! The table of steps of a room core, seat by seat.
+//! The atomic steps of a room. Each is a function of the value that it finds in the count, and its comment states what
+//! it must follow and why.
 
 ghost use Rattle.std.specs.Prelude.{◌≡◌, ◌++◌, ◌≤◌, ◌≤ℤ◌, pos, reverse, Err, IfErr, IsSome, OnErr, OnOk};
 ghost use Rattle.fak_core.specs.declared.fault.CoreFault.TheVariants.{Memory};
@@ -11,7 +12,7 @@ use crate::fault::CoreFault;
 use crate::line::{CoreMove, LineMark};
 use fak_model::{RoomKind, RoomMark};
 
-/// Whether `d` more than was found fits the bound.
+/// Whether the bound allows `d` more than was found.
 fn fits(bound: u64, found: i64, d: u64) -> bool
     requires bound { bound ≤ 4294967296 }
     requires low { pos 0 ≤ℤ found }
@@ -22,7 +23,8 @@ fn fits(bound: u64, found: i64, d: u64) -> bool
     found + d as i64 <= bound as i64
 }
 
-/// The load of a claim, where its test passes or fails.
+/// The load of the count, before the add; `passes` is whether the claim fits. A claim that does not fit raises no
+/// count. Without this test, refused claims could keep the count high, and so keep out others although there is room.
 fn test_move(passes: bool, found: i64, held: u64, d: u64) -> RoomMove
     ensures { result ≡ test_move passes found held d }
 {
@@ -39,7 +41,8 @@ fn test_move(passes: bool, found: i64, held: u64, d: u64) -> RoomMove
     }
 }
 
-/// The add of a claim, where the test of what it found passes or fails.
+/// The add of a claim; `passes` is whether it fits what the add found. The test is repeated here, since other seats may
+/// have added after the load. A claim that does not fit must be withdrawn by `back_move`.
 fn add_move(passes: bool, found: i64, held: u64, d: u64) -> RoomMove
     requires found { found ≤ℤ pos 8589934592 }
     requires held { held ≤ 4294967296 }
@@ -59,7 +62,8 @@ fn add_move(passes: bool, found: i64, held: u64, d: u64) -> RoomMove
     }
 }
 
-/// The subtraction that withdraws a claim.
+/// The subtraction that withdraws a claim, after an add that did not fit. Until then the count is too high by the
+/// amount, and other claims may be refused although there is room.
 fn back_move(found: i64, held: u64, d: u64) -> RoomMove
     requires found { pos 0 ≤ℤ found }
     requires amount { d ≤ 1024 }
@@ -76,7 +80,8 @@ fn back_move(found: i64, held: u64, d: u64) -> RoomMove
     }
 }
 
-/// The subtraction that gives an amount back.
+/// The subtraction that gives an amount back. Other claims may take the amount from here on, so this comes after the
+/// last use of what the seat holds.
 fn release_move(found: i64, held: u64, d: u64) -> RoomMove
     requires found { pos 0 ≤ℤ found }
     requires amount { (d ≤ 1024) × (d ≤ held) }
@@ -93,7 +98,7 @@ fn release_move(found: i64, held: u64, d: u64) -> RoomMove
     }
 }
 
-/// The next step of a seat, where the word has the value `found`; None where the seat is idle.
+/// The next step of a seat, if the count has the value `found`. None if the seat is idle.
 pub(crate) fn next_move(bound: u64, found: i64, seat: CoreSeat) -> Option<RoomMove>
     requires bound { bound ≤ 4294967296 }
     requires low { pos 0 ≤ℤ found }
@@ -118,7 +123,7 @@ pub(crate) fn next_move(bound: u64, found: i64, seat: CoreSeat) -> Option<RoomMo
     }
 }
 
-/// The phase in which a call of this seat begins.
+/// The first phase of this call of the seat.
 pub(crate) fn begun_phase(seat: CoreSeat, call: RoomCall) -> Result<RoomPhase, CoreFault>
     ensures { result ≡ begun_phase seat.held seat.phase call }
 {
@@ -135,7 +140,7 @@ pub(crate) fn begun_phase(seat: CoreSeat, call: RoomCall) -> Result<RoomPhase, C
     }
 }
 
-/// Keeps the mark of a step of this seat, if it leaves one.
+/// Appends the mark of a step of this seat, if it leaves one.
 pub(crate) fn keep_mark(
     marks: &mut Vec<RoomMark>,
     seat: u64,
@@ -153,7 +158,7 @@ pub(crate) fn keep_mark(
     Ok(())
 }
 
-/// The mark of a step's line.
+/// The mark of a step, for its line.
 pub(crate) fn line_mark(mark: Option<RoomKind>) -> Option<LineMark>
     ensures { result ≡ line_mark mark }
 {

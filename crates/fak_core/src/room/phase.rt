@@ -1,17 +1,17 @@
-//! The phase of a room core's seat.
+//! The phase of a seat of a room core.
 
-/// The next step of a seat, with the amount of its call.
+/// The next step of a seat, with the amount of its call. `moves` states what each step must follow.
 #[derive(Clone, Copy, Debug, PartialEq, Eq)]
 pub enum RoomPhase {
     /// No call: there is no next step.
     Idle,
-    /// A claim that is to load the count and test it.
+    /// The load of a claim, which tests the count.
     Testing(u64),
-    /// A claim that is to add its amount and test again.
+    /// The add of a claim, which tests again.
     Adding(u64),
-    /// A claim that did not fit and is to be withdrawn.
+    /// The withdrawal of a claim that did not fit at its add.
     Backing(u64),
-    /// An amount that is to be given back.
+    /// The subtraction that gives an amount back.
     Releasing(u64),
 }
 

@@ -1,4 +1,4 @@
-//! What one atomic step of a seat does.
+//! One atomic step of a seat of a room, as data.
 
 use super::phase::CoreSeat;
 use crate::line::CoreMove;

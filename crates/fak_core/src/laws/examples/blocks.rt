@@ -1,4 +1,4 @@
-//! Known cases on either side of the definitions of blocks.
+//! Known cases on both sides of the definitions of blocks.
 
 ghost use Rattle.std.specs.Prelude.{◌≡◌, ℕ, pos, Some, true, [], ◌∷◌};
 ghost use Rattle.fak_core.specs.BlockExamples.{added, drawn, first_two, last_one, one_left, three, to_add};
@@ -9,8 +9,8 @@ ghost use Rattle.fak_core.specs.QueueSchedule.{Advances, Deletes, Inserts, openi
 ghost use Rattle.fak_model.specs.Examples.{by};
 ghost use Rattle.fak_model.specs.declared.queue.Kind.TheVariants.{BackIn, ClaimIn, NoItem, OverIn, Put};
 
-/// Three seats with an item each: where they stand, which tickets they draw from 4 on, and their marks, the newest first. A
-/// name that stands twice is not apart. After 10 and 11 were put, the first two deletions get 10 and 11.
+/// Three seats with an item each: their phases, the tickets that they draw from 4 on, and their marks, newest first. A
+/// list in which a name occurs twice is not distinct. After 10 and 11 were put, the first two deletions get 10 and 11.
 pub fn the_seats_of_a_block_are_judged()
     ensures names { names_of three ≡ 0 ∷ 1 ∷ 2 ∷ [] }
     ensures apart { AreApart (0 ∷ 1 ∷ 2 ∷ []) × (AreApart (0 ∷ 1 ∷ 0 ∷ []) → ⊥) × (AreApart (0 ∷ 1 ∷ 1 ∷ []) → ⊥) }
@@ -27,8 +27,8 @@ pub fn the_seats_of_a_block_are_judged()
     ensures got { (both : AreDrawnOut {B = ℕ} 2 drawn ((4, 0) ∷ (5, 0) ∷ [])) → both.items ≡ (4, 10) ∷ (5, 11) ∷ [] }
 {}
 
-/// One load for three, one add of 3 for two cells, the withdrawal of the third and the draws of the others: the counts and
-/// the marks, the oldest first. The events are those that a schedule would have, in its order.
+/// One load for three insertions, one add of 3 with two free cells, the withdrawal of the third, and the draws of the
+/// others: the counts after each, and the marks, oldest first. The events are those of the schedule, in its order.
 pub fn the_steps_of_a_block_are_judged()
     ensures tests { (to_add.upper ≡ pos 0) × (to_add.past ≡ []) }
     ensures adds { (added.upper ≡ pos 3) × (history_of added ≡ by 0 ClaimIn ∷ by 1 ClaimIn ∷ by 2 OverIn ∷ []) }
@@ -42,8 +42,8 @@ pub fn the_steps_of_a_block_are_judged()
     ensures astray { LeadTo 2 opening (insertion_tests first_two) to_add → ⊥ }
 {}
 
-/// In an empty queue of two cells the first two of three adds are granted: no more, no fewer, and none where it is shut. With
-/// one item the first of two subtractions is granted.
+/// In an empty queue of two cells exactly the first two of three adds are granted, and none if the queue is shut. With
+/// one item, the first of two subtractions is granted.
 pub fn the_grants_of_a_block_are_judged()
     ensures two { Grants 2 to_add first_two last_one }
     ensures three { Grants 2 to_add three [] → ⊥ }
@@ -54,8 +54,8 @@ pub fn the_grants_of_a_block_are_judged()
     ensures low_none { GrantsLow one_left [] three → ⊥ }
 {}
 
-/// What differs in any one part has changed otherwise: a count, a ticket counter, a turn, a cell, the end, the marks, where a
-/// seat of the block stands, or where another seat stands.
+/// A change that differs in one part is another change: in a count, a ticket counter, a turn, a cell, the shut bit or
+/// the marks; or in the phase of a seat, whether or not it is in the block.
 pub fn the_changes_of_a_block_are_judged()
     ensures same { Changes {A = ℕ} opening opening [] (pos 0) (pos 0) 0 0 ((0, Idle) ∷ []) }
     ensures upper { Changes {A = ℕ} opening (record opening { upper = pos 1 }) [] (pos 0) (pos 0) 0 0 [] → ⊥ }

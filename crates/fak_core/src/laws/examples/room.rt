@@ -1,4 +1,4 @@
-//! Known cases on either side of the definitions of a room's progress.
+//! Known cases on both sides of the definitions of a room's progress.
 
 ghost use Rattle.std.specs.Prelude.{◌≡◌, [], ◌∷◌};
 ghost use Rattle.fak_core.specs.declared.call.RoomCall.TheVariants.{Tir};
@@ -6,8 +6,8 @@ ghost use Rattle.fak_core.specs.declared.room.phase.RoomPhase.TheVariants.{Addin
 ghost use Rattle.fak_core.specs.RoomProgress.{IsIdleOnce, both_claim, own_step, own_steps, phase_at, steps_left, withdrawn};
 ghost use Rattle.fak_core.specs.RoomSchedule.{Advances, Begins};
 
-/// Two claims met in a room with one place: the one that came too late ends in its third step and is open before. Steps of
-/// other seats and begun calls are none of its own, and a seat that is not there has no call.
+/// Two claims meet in a room with one place: the one that comes too late is open before its third step and ends in it.
+/// Steps of other seats and begins of calls are not steps of its own, and a seat that does not exist has no call.
 pub fn the_steps_of_a_room_are_judged()
     ensures open { IsIdleOnce (Advances 1 ∷ Advances 0 ∷ []) both_claim 0 → ⊥ }
     ensures third { IsIdleOnce withdrawn both_claim 0 }

@@ -21,7 +21,7 @@ index_mut-requires c =
     let made = step_made f c.args.seat c.in_ok-step.step e in
     omega (arith, slice_get_within f.phases c.args.seat made.phase made.at, c.self.inside.phases.ok)
 
--- the fields before, as the call returns
+-- the fields before, when the call returns
 abbrev old : goal.After-line_of → QueueFields
 old c = record (fields_of c.self.inside.words) { phases = c.self.inside.phases.items; past = reverse c.self.inside.marks.items }
 

@@ -2,7 +2,7 @@ use Rattle.fak_core.proofs.Common.{Phase, Idle, ◌≡◌, ◌≤◌, ℕ, List,
 use Rattle.fak_core.proofs.QueueSound.{sound_opening}
 use Rattle.fak_core.proofs.queue.QueueCore.new.Goals as goal
 
--- words to which nothing has happened, with idle seats and no mark, are a sound core
+-- words in which no call has begun, with idle seats and no mark, are a sound core
 opened : (w : QueueFields) (size seats : ℕ) (phases : List (Phase ℕ)) (marks : List (Mark ℕ)) (items : List ℕ) → w ≡ opening_fields size 0 → phases ≡ replicate seats Idle → marks ≡ [] → items ≡ []
     → 1 ≤ size → size ≤ 4096 → seats ≤ 64 → IsSoundWith (record w { phases = phases; past = reverse marks }) items
 opened w size seats phases marks items e p m n least most few = grind (arith, common_steps, reverse, opening_fields, sound_opening)

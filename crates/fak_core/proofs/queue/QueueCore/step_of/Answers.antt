@@ -6,7 +6,7 @@ use Rattle.fak_core.proofs.queue.QueueCore.step_of.Goals as goal
 abbrev fields : goal.After-item_put-drawn → QueueFields
 fields c = record (fields_of c.self.inside.words) { phases = c.self.inside.phases.items; past = reverse c.self.inside.marks.items }
 
--- a list of marks has less than 2^63
+-- a list of marks has fewer than 2^63
 few : (c : goal.After-item_put-drawn) → length (fields c).past < 2 ^ 63
 few c = omega (arith, length-reverse c.self.inside.marks.items, ap length c.as_slice-marks.ensures.value, c.as_slice-marks.ensures.len)
 
