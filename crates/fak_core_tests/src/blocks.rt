@@ -1,4 +1,4 @@
-//! Blocks on a queue, step by step: what one load, add or subtraction for three seats comes to.
+//! Blocks on a queue, step by step: the result of one load, add or subtraction for three seats.
 
 use super::queues::{Stretch, plays};
 use fak_core::{CoreMove, QueueCall};
@@ -15,7 +15,7 @@ fn three_insert_and_delete_at_once_in_a_queue_of_two_cells(rt: HostRuntime) {
             QueueCall::Insert(12),
             &[
                 (2, CoreMove::TestUp, 0, None),
-                // one add of 3, and the subtraction of the 1 that is over
+                // one add of 3, and the subtraction of the 1 that is too much
                 (0, CoreMove::AddUp, 0, Some(Kind::ClaimIn)),
                 (1, CoreMove::AddUp, 1, Some(Kind::ClaimIn)),
                 (2, CoreMove::AddUp, 2, Some(Kind::OverIn)),
@@ -42,7 +42,7 @@ fn three_insert_and_delete_at_once_in_a_queue_of_two_cells(rt: HostRuntime) {
             QueueCall::Delete,
             &[
                 (2, CoreMove::TestLow, 2, None),
-                // one subtraction of 3, and the add of the 1 that is over
+                // one subtraction of 3, and the add of the 1 that is too much
                 (0, CoreMove::SubLow, 2, Some(Kind::ClaimOut)),
                 (1, CoreMove::SubLow, 1, Some(Kind::ClaimOut)),
                 (2, CoreMove::SubLow, 0, Some(Kind::OverOut)),

@@ -1,4 +1,5 @@
-//! The first faults of what a queue's history may and may not go on with, on either side of each part of the definition.
+//! The first faults of marks that may or may not continue a queue's history, on both sides of each part of the
+//! definition.
 
 ghost use Rattle.std.specs.Prelude.{◌≤◌};
 
@@ -39,7 +40,7 @@ fn push_parts(marks: &mut Vec<Mark<u64>>, parts: &[Part]) -> Result<(), AllocErr
     Ok(())
 }
 
-/// After the marks of `before` those of `may` may come, and those of `may_not` except the last one, which is the first
+/// After the marks of `before`, those of `may` may come. Of those of `may_not`, only the last may not: it is the first
 /// fault.
 #[derive(Clone, Copy)]
 struct Example<'a> {
@@ -49,7 +50,7 @@ struct Example<'a> {
     may_not: &'a [Part],
 }
 
-/// How many of some marks and of those that come after them are before the first fault, and how many they are.
+/// Two numbers: the marks before the first fault in `before` followed by others, and all of these marks.
 fn legal_of(
     alloc: Global,
     size: u64,
@@ -65,7 +66,7 @@ fn legal_of(
     Ok((legal, marks.len()))
 }
 
-/// The number of the first example that is judged otherwise.
+/// The index of the first example that is judged wrongly.
 fn judged_otherwise(alloc: Global, examples: &[Example]) -> Result<Option<usize>, AllocError> {
     for (i, e) in examples.iter().enumerate() {
         if e.size < 1 || e.size > 4096 {
@@ -80,7 +81,7 @@ fn judged_otherwise(alloc: Global, examples: &[Example]) -> Result<Option<usize>
     Ok(None)
 }
 
-/// Checks that each example is judged as it says.
+/// Checks that each example is judged as it states.
 #[cfg(test)]
 fn are_judged(rt: &(impl Abort + AllocGlobal), examples: &[Example]) {
     assert_equal(rt, judged_otherwise(rt.alloc(), examples), Ok(None));

@@ -88,7 +88,7 @@ fn a_cell_is_filled_before_its_last_item_was_taken(rt: HostRuntime) {
     assert_equal(&rt, first_fault(2, &late), None);
 }
 
-/// A few marks, and the first fault of them in a queue of one cell.
+/// A few marks, and their first fault in a queue of one cell.
 type Row = (&'static [Mark<u64>], Option<usize>);
 
 #[test]

@@ -1,4 +1,4 @@
-//! Queues and rooms with many calls, one after the other: none is refused for the number before it.
+//! Many calls on queues and rooms, one after the other: none is refused because of the number before it.
 
 ghost use Rattle.std.specs.Prelude.{◌≤◌};
 
@@ -7,12 +7,12 @@ use crate::{queues, rooms};
 use fak_core::{CoreFault, QueueCall, QueueCore, RoomCall, RoomCore};
 use std::process::Abort;
 
-/// The item of an insertion, of all magnitudes.
+/// The item of an insertion; the items have all magnitudes.
 fn item_of(insertion: u64) -> u64 {
     insertion.wrapping_mul(0x9E37_79B9_7F4A_7C15) >> (insertion % 64)
 }
 
-/// Makes a whole call of seven steps, the fifth of which stores or loads the item.
+/// Performs a whole call of seven steps, of which the fifth stores or loads the item.
 fn makes(
     rt: &(impl AllocGlobal + Abort),
     core: &mut QueueCore,
@@ -28,7 +28,8 @@ fn makes(
     assert_equal(rt, core.advance(rt.alloc(), seat), Err(CoreFault::IdleSeat));
 }
 
-/// Inserts the item of this insertion into a queue of this size, after a deletion if the queue is full.
+/// Inserts the item of this insertion into a queue of this size. The queue is full or has one free cell; if it is full,
+/// a deletion comes first.
 fn inserts(rt: &(impl AllocGlobal + Abort), core: &mut QueueCore, size: u64, insertion: u64) {
     let seat = insertion % 64;
     if insertion >= size {
@@ -39,7 +40,7 @@ fn inserts(rt: &(impl AllocGlobal + Abort), core: &mut QueueCore, size: u64, ins
     makes(rt, core, seat, QueueCall::Insert(item), item);
 }
 
-/// Each seat inserts and deletes in its turn, and the queue stays full.
+/// The seats insert and delete in turn, and the queue stays full.
 #[test]
 fn a_queue_takes_many_items(rt: HostRuntime) {
     for (size, insertions, marks) in [
@@ -55,7 +56,7 @@ fn a_queue_takes_many_items(rt: HostRuntime) {
     }
 }
 
-/// Claims this amount and gives it back, with no other claim in the room.
+/// Claims this amount and gives it back, while no other claim is in the room.
 fn claims_and_releases(rt: &(impl AllocGlobal + Abort), core: &mut RoomCore, seat: u64, amount: u64)
     requires { (1 ≤ amount) × (amount ≤ 1024) }
 {
@@ -67,7 +68,7 @@ fn claims_and_releases(rt: &(impl AllocGlobal + Abort), core: &mut RoomCore, sea
     assert_equal(rt, core.value(), 0);
 }
 
-/// Each seat claims and gives back in its turn, all amounts that a call may have.
+/// The seats claim and give back in turn, all amounts that a call may have.
 #[test]
 fn a_room_takes_many_claims(rt: HostRuntime) {
     for (bound, claims, marks) in [(1024, 20_000, 40_000), (4_294_967_296, 5_000, 10_000)] {

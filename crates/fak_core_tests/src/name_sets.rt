@@ -1,4 +1,4 @@
-//! Sets of seats' names.
+//! Tests of sets of seats' names.
 
 use super::assertions::assert_equal;
 use fak_model::NameSet;

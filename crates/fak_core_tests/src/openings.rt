@@ -11,7 +11,7 @@ fn assert_made(rt: &impl Abort, made: bool, size: u64, seats: u64) {
     assert!(rt; made, "{size}, {seats}");
 }
 
-/// Opens the queue, and has each seat begin to insert an item: all test, then all add.
+/// Opens the queue and lets each seat begin to insert an item: first all test, then all add.
 fn opens_queue(rt: &(impl AllocGlobal + Abort), size: u64, seats: u64) {
     let mut core = queues::opened(rt, size, seats);
     for seat in 0..seats {
@@ -21,7 +21,7 @@ fn opens_queue(rt: &(impl AllocGlobal + Abort), size: u64, seats: u64) {
     adds_up(rt, &mut core, size, seats);
 }
 
-/// Has each seat add in its insertion: as many as fit are granted, and the others refused.
+/// Lets each seat add in its insertion: as many as fit are granted, and the others are refused.
 fn adds_up(rt: &(impl AllocGlobal + Abort), core: &mut QueueCore, size: u64, seats: u64) {
     for seat in 0..seats {
         let kind = if seat < size {
@@ -51,7 +51,7 @@ fn queues_of_each_size(rt: HostRuntime) {
     }
 }
 
-/// Opens the room, and has each seat claim as much as one claim may, if it fits.
+/// Opens the room and lets each seat claim the largest amount of a claim, if it fits.
 fn opens_room(rt: &(impl AllocGlobal + Abort), bound: u64, seats: u64) {
     let mut core = rooms::opened(rt, bound, seats);
     let amount = bound.max(1).min(1_024);

@@ -1,4 +1,5 @@
-//! The longest schedules that a search over all reached states found, and rounds counted against the bounds of the laws.
+//! The longest schedules that a search over all reached states found, and rounds counted against the bounds of the
+//! laws.
 
 use super::assertions::assert_equal;
 use crate::queues::{begins, opened};
@@ -7,10 +8,10 @@ use fak_model::Kind;
 use std::ops::Range;
 use std::process::Abort;
 
-/// A seat with the call that it begins, or else with its next step.
+/// A seat with the call that it begins, or with None if it takes its next step.
 type Event = (u64, Option<QueueCall>);
 
-/// The insertion of these schedules, whose items mean nothing.
+/// The insertion of these schedules. The item does not matter.
 const INSERT: QueueCall = QueueCall::Insert(7);
 
 /// Whether this is the last line of its call.
@@ -30,7 +31,7 @@ fn ends(line: Line) -> bool {
     )
 }
 
-/// Takes the next step of a seat: `None` if it is idle.
+/// Takes the next step of a seat. None if the seat is idle.
 fn step(rt: &(impl AllocGlobal + Abort), core: &mut QueueCore, seat: u64) -> Option<Line> {
     match core.advance(rt.alloc(), seat) {
         Ok(line) => Some(line),
@@ -41,7 +42,7 @@ fn step(rt: &(impl AllocGlobal + Abort), core: &mut QueueCore, seat: u64) -> Opt
     }
 }
 
-/// Begins a call, and takes this many steps, with which it does not end.
+/// Begins a call and takes this many steps of it, which do not end it.
 fn goes_on(
     rt: &(impl AllocGlobal + Abort),
     core: &mut QueueCore,
@@ -55,18 +56,18 @@ fn goes_on(
     }
 }
 
-/// Makes a whole call.
+/// Performs a whole call.
 fn makes(rt: &(impl AllocGlobal + Abort), core: &mut QueueCore, seat: u64, call: QueueCall) {
     goes_on(rt, core, seat, call, 6);
     assert_equal(rt, step(rt, core, seat).map(ends), Some(true));
 }
 
-/// Begins a call and goes on until it has drawn its ticket.
+/// Begins a call and takes steps until it has drawn its ticket.
 fn draws(rt: &(impl AllocGlobal + Abort), core: &mut QueueCore, seat: u64, call: QueueCall) {
     goes_on(rt, core, seat, call, 3);
 }
 
-/// Whether a seat steps among these events.
+/// Whether a seat takes a step in these events.
 fn steps_in(events: &[Event], seat: u64) -> bool {
     for &(s, call) in events {
         if s == seat && call.is_none() {
@@ -76,7 +77,7 @@ fn steps_in(events: &[Event], seat: u64) -> bool {
     false
 }
 
-/// Begins this call, or takes a step with which no call of seat 0 ends.
+/// Begins this call, or takes a step that does not end a call of seat 0.
 fn plays(rt: &(impl AllocGlobal + Abort), core: &mut QueueCore, (seat, call): Event) {
     match call {
         Some(call) => begins(rt, core, seat, call),
@@ -87,7 +88,7 @@ fn plays(rt: &(impl AllocGlobal + Abort), core: &mut QueueCore, (seat, call): Ev
     }
 }
 
-/// Plays a round in which each seat steps, but the call of seat 0 stays open.
+/// Plays a round in which each seat takes a step and the call of seat 0 stays open.
 fn stays_open(rt: &(impl AllocGlobal + Abort), core: &mut QueueCore, seats: u64, round: &[Event]) {
     for seat in 0..seats {
         assert_equal(rt, steps_in(round, seat), true);
@@ -98,7 +99,8 @@ fn stays_open(rt: &(impl AllocGlobal + Abort), core: &mut QueueCore, seats: u64,
     assert_equal(rt, core.begin(0, INSERT), Err(CoreFault::MidCall));
 }
 
-/// How many rounds, in each of which the first seats step once, the last of them first, the call of a seat needs to end.
+/// The number of rounds in which a seat's call ends. In each round the first seats take one step each, the last seat
+/// first.
 fn rounds_to_end(
     rt: &(impl AllocGlobal + Abort),
     core: &mut QueueCore,
@@ -116,7 +118,8 @@ fn rounds_to_end(
     None
 }
 
-/// Opens a queue, and plays rounds in which the first call of seat 0 stays open: it ends in the round after them.
+/// Opens a queue and plays rounds in which the first call of seat 0 stays open. Checks that it ends in the round after
+/// them.
 fn ends_after(rt: &(impl AllocGlobal + Abort), size: u64, seats: u64, rounds: &[&[Event]]) {
     let mut core = opened(rt, size, seats);
     begins(rt, &mut core, 0, INSERT);
@@ -126,7 +129,7 @@ fn ends_after(rt: &(impl AllocGlobal + Abort), size: u64, seats: u64, rounds: &[
     assert_equal(rt, rounds_to_end(rt, &mut core, seats, 0, 1), Some(1));
 }
 
-/// How many such rounds all seats need to be idle.
+/// The number of such rounds after which all seats are idle.
 fn rounds_to_rest(
     rt: &(impl AllocGlobal + Abort),
     core: &mut QueueCore,
@@ -145,12 +148,12 @@ fn rounds_to_rest(
     None
 }
 
-/// How many marks of this kind a queue has.
+/// The number of marks of this kind in a queue.
 fn marks_of(core: &QueueCore, kind: Kind<u64>) -> usize {
     core.marks().iter().filter(|mark| mark.kind == kind).count()
 }
 
-/// With one cell the bound is 7 rounds, and this call needs them all.
+/// With one cell the bound is 7 rounds, and this call needs all of them.
 #[test]
 fn a_call_on_one_cell_ends_in_its_seventh_round(rt: HostRuntime) {
     const ROUNDS: &[&[Event]] = &[
@@ -165,7 +168,8 @@ fn a_call_on_one_cell_ends_in_its_seventh_round(rt: HostRuntime) {
     assert_equal(&rt, ROUNDS.len() + 1, 7);
 }
 
-/// Two other seats overtake this call twice. With two cells the bound is 10 rounds; the search found none longer than 9.
+/// Two other seats overtake this call twice. With two cells the bound is 10 rounds; the search found no call longer
+/// than 9.
 #[test]
 fn a_call_that_others_overtake_ends_in_its_ninth_round(rt: HostRuntime) {
     const DELETES: Option<QueueCall> = Some(QueueCall::Delete);
@@ -210,7 +214,8 @@ fn a_call_that_others_overtake_ends_in_its_ninth_round(rt: HostRuntime) {
     assert_equal(&rt, ROUNDS.len() + 1, 9);
 }
 
-/// Makes a whole call of seat 63 at I and D; at i and d the next seat draws a ticket of cell 0.
+/// Performs the calls of these letters: at I and D seat 63 a whole one, at i and d the next seat up to a ticket of cell
+/// 0.
 fn calls(
     rt: &(impl AllocGlobal + Abort),
     core: &mut QueueCore,
@@ -227,7 +232,8 @@ fn calls(
     }
 }
 
-/// Checks that the last seat with a ticket of cell 0 ends in this round, if an earlier seat steps later.
+/// Checks that the last seat with a ticket of cell 0 ends in this round, if in each round earlier seats take their step
+/// later.
 fn last_ends_in(rt: &(impl AllocGlobal + Abort), size: u64, letters: &str, rounds: usize) {
     let mut core = opened(rt, size, 64);
     let mut seats = 0..size;
@@ -239,8 +245,9 @@ fn last_ends_in(rt: &(impl AllocGlobal + Abort), size: u64, letters: &str, round
     assert_equal(rt, found, Some(rounds));
 }
 
-/// A seat for each cell of the queue holds a ticket of cell 0, each for the turn after that of the seat before. If an
-/// earlier seat steps later in each round, the last of them needs all of the 3 size + 1 rounds that the law allows.
+/// For each cell of the queue some seat holds a ticket of cell 0, each for the turn after that of the seat before. In
+/// each round earlier seats take their step later: so the last of them needs all of the 3 size + 1 rounds that the law
+/// allows.
 #[test]
 fn seats_of_one_cell_need_three_rounds_each(rt: HostRuntime) {
     const ROWS: &[(u64, &str, usize)] = &[
@@ -260,7 +267,7 @@ fn seats_of_one_cell_need_three_rounds_each(rt: HostRuntime) {
     }
 }
 
-/// Seat 4 stops with ticket 0, for whose item seat 3 waits. Seats 0 and 1 have ticket 1.
+/// Seat 4 stops with ticket 0, and seat 3 waits for its item. Seats 0 and 1 have ticket 1.
 #[test]
 fn a_stopped_seat_holds_up_its_cell_alone(rt: HostRuntime) {
     let mut core = opened(&rt, 4, 5);
@@ -276,7 +283,7 @@ fn a_stopped_seat_holds_up_its_cell_alone(rt: HostRuntime) {
     assert_equal(&rt, rounds_to_end(&rt, &mut core, 5, 3, 13), Some(6));
 }
 
-/// Has all 64 seats begin this call and pass their test, and checks that the queue is at rest after six rounds.
+/// Lets all 64 seats begin this call and pass their test. Checks that the queue is at rest after six rounds.
 fn all_claim(rt: &(impl AllocGlobal + Abort), core: &mut QueueCore, call: QueueCall) {
     for seat in 0..64 {
         begins(rt, core, seat, call);
@@ -285,7 +292,7 @@ fn all_claim(rt: &(impl AllocGlobal + Abort), core: &mut QueueCore, call: QueueC
     assert_equal(rt, rounds_to_rest(rt, core, 64, 100), Some(6));
 }
 
-/// Checks that of the insertions of all seats and of their deletions this many are granted and withdrawn.
+/// Checks that of the insertions of all seats, and of their deletions, this many are granted and withdrawn.
 fn comes_to_rest(rt: &(impl AllocGlobal + Abort), size: u64, granted: usize, withdrawn: usize) {
     let mut core = opened(rt, size, 64);
     all_claim(rt, &mut core, INSERT);
@@ -296,8 +303,8 @@ fn comes_to_rest(rt: &(impl AllocGlobal + Abort), size: u64, granted: usize, wit
     assert_equal(rt, marks_of(&core, Kind::BackOut), withdrawn);
 }
 
-/// All 64 seats pass their test before any adds: as many claims are granted as fit, and the others are withdrawn. Six of the
-/// seven steps of a granted call are left.
+/// All 64 seats pass their test before any of them adds: as many claims are granted as fit, and the others are
+/// withdrawn. A granted call then has six of its seven steps left.
 #[test]
 fn a_queue_that_every_seat_claims_comes_to_rest(rt: HostRuntime) {
     comes_to_rest(&rt, 1, 1, 63);

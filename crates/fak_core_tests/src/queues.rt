@@ -9,7 +9,7 @@ use std::process::Abort;
 /// A step of a seat: which it is, what it finds, and the mark that it leaves.
 pub(crate) type Step = (u64, CoreMove, i128, Option<Kind<u64>>);
 
-/// Makes the next steps, which are to be these.
+/// Takes the next steps and checks that they are these.
 fn steps(rt: &(impl AllocGlobal + Abort), core: &mut QueueCore, trace: &[Step]) {
     for &(seat, step, found, kind) in trace {
         let line = Line {
@@ -22,12 +22,12 @@ fn steps(rt: &(impl AllocGlobal + Abort), core: &mut QueueCore, trace: &[Step]) 
     }
 }
 
-/// Begins a call, which is not refused.
+/// Begins a call and checks that it is not refused.
 pub(crate) fn begins(rt: &impl Abort, core: &mut QueueCore, seat: u64, call: QueueCall) {
     assert!(rt; core.begin(seat, call).is_ok());
 }
 
-/// Makes the next steps of these seats, in this order, none of which is refused.
+/// Takes the next steps of these seats, in this order, and checks that none is refused.
 pub(crate) fn advances(rt: &(impl AllocGlobal + Abort), core: &mut QueueCore, seats: &[u64]) {
     for &seat in seats {
         assert!(rt; core.advance(rt.alloc(), seat).is_ok());
@@ -41,10 +41,10 @@ pub(crate) fn opened(rt: &(impl AllocGlobal + Abort), size: u64, seats: u64) -> 
         .expect(rt, "a queue")
 }
 
-/// A call that a seat begins, and the steps that it then takes.
+/// A call that a seat begins, and the steps that are taken after it.
 pub(crate) type Stretch<'a> = (u64, QueueCall, &'a [Step]);
 
-/// Opens a queue and plays a schedule on it, whose steps are to be these.
+/// Opens a queue, plays a schedule on it, and checks that its steps are these.
 pub(crate) fn plays(rt: &(impl AllocGlobal + Abort), size: u64, seats: u64, schedule: &[Stretch]) {
     let mut core = opened(rt, size, seats);
     for &(seat, call, trace) in schedule {
@@ -64,7 +64,7 @@ pub(crate) const INSERTED: [Step; 7] = [
     (0, CoreMove::EndIn, 0, Some(Kind::EndIn)),
 ];
 
-/// The steps of the first deletion after it, by seat 0.
+/// The steps of the first deletion after that, by seat 0.
 pub(crate) const DELETED: [Step; 7] = [
     (0, CoreMove::TestLow, 1, None),
     (0, CoreMove::SubLow, 1, Some(Kind::ClaimOut)),

@@ -1,4 +1,4 @@
-//! A refused call leaves a core as it was, and one that found no memory can be tried again.
+//! A refused call leaves a core as it was, and a call that failed because memory ran out can be tried again.
 
 use super::assertions::assert_equal;
 use crate::queues::{DELETED, INSERTED, Step, advances, begins, opened};
@@ -7,7 +7,7 @@ use fak_core::{CoreFault, CoreMove, Line, LineMark, QueueCall, QueueCore, RoomCa
 use std::fmt::Debug;
 use std::process::Abort;
 
-/// Checks that a call or a step was refused so, and left the core as it was before.
+/// Checks that a call or a step was refused with this fault and left the core as it was before.
 fn assert_refused<R: Drop, C: PartialEq + Debug>(
     rt: &impl Abort,
     found: Result<R, CoreFault>,
@@ -87,15 +87,15 @@ fn a_refused_call_leaves_a_room_as_it_was(rt: HostRuntime) {
     assert_equal(&rt, core == before, false);
 }
 
-/// Checks that seat 0 may neither claim nor give back, as it is in a call.
+/// Checks that seat 0 may neither claim nor give back, since it has an open call.
 fn claims_nothing(rt: &impl Abort, core: &mut RoomCore) {
     for call in [RoomCall::Tir(1), RoomCall::Release(1), RoomCall::Release(4)] {
         assert_equal(rt, core.begin(0, call), Err(CoreFault::MidCall));
     }
 }
 
-/// The call of seat 0 is still to test, to add, to withdraw or to give back, and it holds 3: whatever it asks for
-/// meanwhile is refused as that of a seat during a call, also an amount that it does not hold.
+/// The next step of seat 0 is to test, to add, to withdraw or to give back, and the seat holds 3. Whatever it asks for
+/// then is refused with `MidCall`, even an amount that it does not hold.
 #[test]
 fn a_room_seat_in_mid_call_begins_nothing(rt: HostRuntime) {
     let cases: [(RoomCall, &[u64]); 4] = [
@@ -113,7 +113,7 @@ fn a_room_seat_in_mid_call_begins_nothing(rt: HostRuntime) {
     }
 }
 
-/// A queue of one cell with two seats in this call, and with one item if they delete.
+/// A queue of one cell with two seats in this call. If they delete, it has one item.
 fn called_queue(rt: &(impl AllocGlobal + Abort), call: QueueCall) -> QueueCore {
     let mut core = opened(rt, 1, 2);
     if matches!(call, QueueCall::Delete) {
@@ -125,14 +125,14 @@ fn called_queue(rt: &(impl AllocGlobal + Abort), call: QueueCall) -> QueueCore {
     core
 }
 
-/// Checks that seat 0 may begin no call, as it is in one.
+/// Checks that seat 0 may begin no call, since it has an open one.
 fn begins_nothing(rt: &impl Abort, core: &mut QueueCore) {
     for call in [QueueCall::Insert(8), QueueCall::Delete, QueueCall::Shut] {
         assert_equal(rt, core.begin(0, call), Err(CoreFault::MidCall));
     }
 }
 
-/// Calls of two seats, the steps that they take, and the step that seat 0 is then at.
+/// Calls of two seats, the steps that they take, and the next step of seat 0 after them.
 const MID_CALLS: &[(QueueCall, &[u64], CoreMove)] = &[
     (QueueCall::Insert(7), &[], CoreMove::TestUp),
     (QueueCall::Insert(7), &[0], CoreMove::AddUp),
@@ -153,7 +153,7 @@ const MID_CALLS: &[(QueueCall, &[u64], CoreMove)] = &[
     (QueueCall::Shut, &[], CoreMove::Shut),
 ];
 
-/// Checks that seat 0, after these steps of a call, may begin none, and that its next step is this one.
+/// Checks that seat 0, after these steps of a call, may begin no other call, and that its next step is this one.
 fn stays_in_call(rt: &(impl AllocGlobal + Abort), call: QueueCall, seats: &[u64], next: CoreMove) {
     let mut core = called_queue(rt, call);
     advances(rt, &mut core, seats);
@@ -162,7 +162,7 @@ fn stays_in_call(rt: &(impl AllocGlobal + Abort), call: QueueCall, seats: &[u64]
     assert_equal(rt, step, Ok(next));
 }
 
-/// The call of seat 0 has come to each step that it can be at, and goes on with that step after what was refused.
+/// The call of seat 0 reaches each step that it can have, and after a refused call its next step is still that one.
 #[test]
 fn a_queue_seat_in_mid_call_begins_nothing(rt: HostRuntime) {
     for &(call, seats, next) in MID_CALLS {
@@ -170,7 +170,7 @@ fn a_queue_seat_in_mid_call_begins_nothing(rt: HostRuntime) {
     }
 }
 
-/// A queue of one cell with one seat, opened at a second try if there was no memory.
+/// A queue of one cell with one seat, opened again if memory ran out at the first try.
 fn reopened(rt: &(impl AllocGlobal + Abort)) -> QueueCore {
     match QueueCore::new(rt.alloc(), 1, 1) {
         Ok(core) => core,
@@ -181,7 +181,7 @@ fn reopened(rt: &(impl AllocGlobal + Abort)) -> QueueCore {
     }
 }
 
-/// The next step of a core, tried once more if there was no memory: then nothing has changed.
+/// The next step of a core, tried once more if memory ran out: the failed try has changed nothing.
 fn insists(
     rt: &(impl AllocGlobal + Abort),
     core: &mut QueueCore,
@@ -196,7 +196,7 @@ fn insists(
     core.advance(rt.alloc(), seat)
 }
 
-/// Takes this step on both cores, each of which tries it once more if there was no memory.
+/// Takes this step on both cores, each of which tries it once more if memory ran out.
 fn makes_both(
     rt: &(impl AllocGlobal + Abort),
     core: &mut QueueCore,
@@ -231,7 +231,7 @@ fn plays_both(
     }
 }
 
-/// With `rt try --test --fail-alloc N` the Nth allocation fails, here that of an opening or of a mark.
+/// With `rt try --test --fail-alloc N` the Nth allocation fails: here that of an opening or of a mark.
 #[test]
 fn a_step_that_found_no_memory_is_made_at_the_next_try(rt: HostRuntime) {
     let mut core = reopened(&rt);

@@ -18,7 +18,7 @@ pub(crate) fn opened(rt: &(impl AllocGlobal + Abort), bound: u64, seats: u64) ->
         .expect(rt, "a room")
 }
 
-/// Begins a call, which is not refused.
+/// Begins a call and checks that it is not refused.
 pub(crate) fn begins(rt: &impl Abort, core: &mut RoomCore, seat: u64, call: RoomCall)
     requires { (1 ≤ amount_of call) × (amount_of call ≤ 1024) }
     ensures { length core.new.seats ≡ length core.old.seats }
@@ -26,7 +26,7 @@ pub(crate) fn begins(rt: &impl Abort, core: &mut RoomCore, seat: u64, call: Room
     assert!(rt; core.begin(seat, call).is_ok());
 }
 
-/// Makes the next steps of these seats, in this order, none of which is refused.
+/// Takes the next steps of these seats, in this order, and checks that none is refused.
 pub(crate) fn advances(rt: &(impl AllocGlobal + Abort), core: &mut RoomCore, seats: &[u64]) {
     for &seat in seats {
         assert!(rt; core.advance(rt.alloc(), seat).is_ok());
@@ -36,7 +36,7 @@ pub(crate) fn advances(rt: &(impl AllocGlobal + Abort), core: &mut RoomCore, sea
 /// A step of a seat: which it is, what it finds, and the mark that it leaves.
 type Step = (u64, CoreMove, i128, Option<RoomKind>);
 
-/// Makes the next step of a seat, which is to be this one.
+/// Takes the next step of a seat and checks that it is this one.
 fn makes(rt: &(impl AllocGlobal + Abort), core: &mut RoomCore, next: Step)
     ensures { length core.new.seats ≡ length core.old.seats }
 {
@@ -50,7 +50,7 @@ fn makes(rt: &(impl AllocGlobal + Abort), core: &mut RoomCore, next: Step)
     assert_equal(rt, core.advance(rt.alloc(), seat), Ok(line));
 }
 
-/// Makes the next steps, which are to be these.
+/// Takes the next steps and checks that they are these.
 fn steps(rt: &(impl AllocGlobal + Abort), core: &mut RoomCore, trace: &[Step]) {
     for &step in trace {
         makes(rt, core, step);

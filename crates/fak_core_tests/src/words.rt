@@ -1,4 +1,4 @@
-//! Counts that words keep.
+//! Tests of counts that words keep.
 
 use super::assertions::assert_equal;
 use fak_model::{BIAS, count_of};
