@@ -1,4 +1,4 @@
--- What the marks of a channel's queue add up to.
+-- Sums over the marks of a channel's queue.
 use Rattle.std.specs.Prelude.{◌≡◌, ◌≢◌, ℕ, ◌+◌, ◌<◌, ◌≤◌, ℤ, pos, ◌+ℤ◌, ◌-ℤ◌, ◌≤ℤ◌, int_lt, not, true, false, List, [], ◌∷◌, length}
 use Rattle.fak_model.specs.declared.queue.Kind.{Kind}
 use Rattle.fak_model.specs.Queue.{count, Has, puts, gots, contents, items_put, upper_raise, upper_drop, lower_raise, lower_drop}
@@ -33,7 +33,7 @@ lower_raise_two κ = grind (arith, common_steps)
 lower_drop_two : {A : Type 0} (κ : Kind A) → lower_drop κ ≡ a_claim_out κ + an_over_out κ
 lower_drop_two κ = grind (arith, common_steps)
 
--- each count leads the next
+-- at most as many insertions have ended as were claimed, and at most as many deletions
 pub counts_lead : {A : Type 0} (size : ℕ) (q : QueueState A) → IsKept size q
     → (count an_end_in q.past ≤ count a_claim_in q.past) × (count an_end_out q.past ≤ count a_claim_out q.past)
 counts_lead size q K =
@@ -43,11 +43,11 @@ counts_lead size q K =
     let c = open_claim_out size (seat_bound q.past) q.past K.legal below in
     let d = open_got size (seat_bound q.past) q.past K.legal below in (omega arith, omega arith)
 
--- of a drained queue each insertion that has ended was claimed by a deletion
+-- in a drained queue each ended insertion was claimed by a deletion
 pub drained_claimed : {A : Type 0} (size : ℕ) (q : QueueState A) → IsKept size q → IsDrained q → count an_end_in q.past ≤ count a_claim_out q.past
 drained_claimed size q K D = let l = counts_lead size q K in let none = D.none in omega arith
 
--- an upper count of at most 0 leaves no granted insertion
+-- if the upper count is at most 0, no granted insertion is left
 pub void_none : {A : Type 0} (size : ℕ) (q : QueueState A) → IsKept size q → is_void q ≡ true → count a_claim_in q.past ≤ count an_end_out q.past
 void_none size q K v =
     let o = open_over_in size (seat_bound q.past) q.past K.legal (seats_bounded q.past) in
@@ -63,7 +63,7 @@ shown_low : {A : Type 0} (p : Phase A) → p ≢ queue.BackLow → in_over_out (
 shown_low queue.BackLow ne = absurd (ne refl)
 shown_low _ ne = refl
 
--- where nobody withdraws a deletion, the lower count is what was inserted and not claimed
+-- if no deletion waits for its withdrawal, the lower count is the number of items inserted and not claimed
 pub lower_is : {A : Type 0} (size : ℕ) (q : QueueState A) → IsKept size q → ((e : ℕ) → q.phase e ≢ queue.BackLow) → q.lower ≡ pos (count an_end_in q.past) -ℤ pos (count a_claim_out q.past)
 lower_is size q K none =
     let o = open_over_out size (seat_bound q.past) q.past K.legal (seats_bounded q.past) in
@@ -78,7 +78,7 @@ lower_none l r d e f = let g = ap (int_lt (pos 0)) (sym e) ∙ f in grind (arith
 pub lower_some : (l : ℤ) (r d : ℕ) → l ≡ pos r -ℤ pos d → int_lt (pos 0) l ≡ true → d < r
 lower_some l r d e f = let g = ap (int_lt (pos 0)) (sym e) ∙ f in grind (arith, ints, common_steps)
 
--- where no insertion has come too late or too many, the upper count is at most what was claimed and has not ended
+-- if no insertion claimed too much or too late, the upper count is at most the claims minus the ended deletions
 pub upper_most : {A : Type 0} (size : ℕ) (q : QueueState A) → IsKept size q → count an_over_in q.past ≡ 0 → q.upper ≤ℤ (pos (count a_claim_in q.past) -ℤ pos (count an_end_out q.past))
 upper_most size q K none =
     let ur = count_two upper_raise a_claim_in an_over_in upper_raise_two q.past in
@@ -88,16 +88,16 @@ upper_most size q K none =
 pub not_full : (u : ℤ) (c o size : ℕ) → u ≤ℤ (pos c -ℤ pos o) → int_lt u (pos size) ≡ false → c < size + o → ⊥
 not_full u c o size most full few = grind (arith, ints, common_steps)
 
--- a count that is void one higher is void
+-- a count that is at most 0 after an addition of 1 was at most 0 before
 pub void_before : (u : ℤ) → not (int_lt (pos 0) (u +ℤ pos 1)) ≡ true → not (int_lt (pos 0) u) ≡ true
 void_before u e = grind (arith, ints, common_steps)
 
--- ---- a queue whose seats are all idle
+-- ---- a queue with idle seats only
 
 idle_tally : {A : Type 0} (size : ℕ) (q : QueueState A) (w : Stage A → ℕ) → IsKept size q → ((e : ℕ) → q.phase e ≡ queue.Idle) → w made.Idle ≡ 0 → tally w (stage q.past) (seat_bound q.past) ≡ 0
 idle_tally size q w K idle none = tally_none w (stage q.past) (seat_bound q.past) (λ e. ap w (sym (K.phases e) ∙ ap shown (idle e)) ∙ none)
 
--- all that was claimed was inserted, or deleted
+-- all that was claimed was inserted or deleted
 pub record Rested {A : Type 0} (q : QueueState A) : Type 0 where
   pub inserted : count an_end_in q.past ≡ count puts q.past
   pub deleted : count a_claim_out q.past ≡ count gots q.past
@@ -118,7 +118,7 @@ rested size q K idle =
     let is = K.upper in
     record { inserted = omega arith; deleted = omega arith; claimed = omega arith; ended = omega arith; upper = omega (arith, ints) }
 
--- what the queue holds
+-- the number of items that the queue holds
 pub holds_none : {A : Type 0} (q : QueueState A) → count puts q.past ≤ count gots q.past → contents (history_of q) ≡ []
 holds_none q few =
     let p = count_reverse puts q.past in let g = count_reverse gots q.past in nothing_left (history_of q) (omega arith)
@@ -135,7 +135,7 @@ void_from u p g e le = ap (λ v. not (int_lt (pos 0) v)) e ∙ few p g le
     few : (p g : ℕ) → p ≤ g → not (int_lt (pos 0) (pos p -ℤ pos g)) ≡ true
     few p g le = grind (arith, ints, common_steps)
 
--- ---- what marks and phases say of a count
+-- ---- counts by marks and phases
 
 pub has_counts : {A : Type 0} (w : Kind A → ℕ) (κ : Kind A) (h : List (Mark A)) → w κ ≡ 1 → Has κ h → 0 < count w h
 has_counts w κ [] one has = absurd has
@@ -151,7 +151,7 @@ stage_used h s w none some = elim (le_or_lt (seat_bound h) s) [
   | inr l ↦ l
 ]
 
--- an open granted call keeps an insertion from being ended by a deletion
+-- in a drained queue no granted call is open
 pub drained_quiet : {A : Type 0} (size : ℕ) (q : QueueState A) (e : ℕ) → IsKept size q → IsDrained q → IsGranted (q.phase e) → ⊥
 drained_quiet {A} size q e K D g =
     let below = seats_bounded q.past in

@@ -1,4 +1,4 @@
--- What holds of a channel whose threads sleep between any two steps.
+-- What is true of a channel with threads that sleep between any two steps.
 use Rattle.std.specs.Prelude.{◌⊎◌, ◌≡◌, ◌≢◌, ℕ, ◌+◌, ◌<◌, ◌≤◌, Bool, true, false}
 use Rattle.fak_model.specs.declared.queue.Kind.{Kind}
 use Rattle.fak_model.specs.declared.queue.Kind.TheVariants as mark
@@ -14,9 +14,9 @@ use Rattle.fak_channel_core.specs.SleepMoves as sleep
 use Rattle.fak_channel_core.specs.ChannelMoves.{ChannelPhase, Idle, TakeCell, Insert, TakeItem, Delete, Look, GiveCell, Announce, GiveItem, Shutting, ChannelState, is_void}
 use Rattle.fak_channel_core.proofs.SleepKept.{SleepKept}
 
--- ---- what an end weighs
+-- ---- the weights of an end
 
--- 1 before the claim of an insertion, or of a deletion, is granted
+-- 1 until the claim of an insertion, or of a deletion, is granted
 abbrev pub unclaimed_in : {A : Type 0} → Phase A → ℕ
 unclaimed_in inner.Idle = 1
 unclaimed_in (inner.TestUp x) = 1
@@ -31,27 +31,27 @@ unclaimed_out inner.SubLow = 1
 unclaimed_out inner.BackLow = 1
 unclaimed_out _ = 0
 
--- 1 where a give has not begun
+-- 1 before a give begins
 abbrev pub ungiven : SleepPhase → ℕ
 ungiven sleep.Idle = 1
 ungiven _ = 0
 
--- 1 where the end has the credit of an item
+-- 1 if the end has the credit of an item
 abbrev pub item_of_end : {A : Type 0} → ChannelPhase A → Phase A → SleepPhase → ℕ
 item_of_end (Delete stays) p i = unclaimed_out p
 item_of_end (Look stays) p i = 1
 item_of_end GiveItem p i = ungiven i
 item_of_end _ p i = 0
 
--- 1 where it has the credit of a cell
+-- 1 if the end has the credit of a cell
 abbrev pub cell_of_end : {A : Type 0} → ChannelPhase A → Phase A → SleepPhase → ℕ
 cell_of_end (Insert stays x) p c = unclaimed_in p
 cell_of_end GiveCell p c = ungiven c
 cell_of_end _ p c = 0
 
--- ---- how an end stands
+-- ---- the phases of an end
 
--- a pass, or nothing; a give, or nothing
+-- a pass or no call; a give or no call
 abbrev pub IsPassing : SleepPhase → Type 0
 IsPassing sleep.Up = ⊥
 IsPassing (sleep.Waking o) = ⊥
@@ -65,7 +65,7 @@ IsGiving (sleep.Waking o) = Unit {0}
 IsGiving (sleep.Marking t) = Unit {0}
 IsGiving _ = ⊥
 
--- an insertion, or nothing; a deletion, or nothing; a shut, or nothing
+-- an insertion or no call; a deletion or no call; a shut or no call
 abbrev pub IsInserting : {A : Type 0} → Phase A → Type 0
 IsInserting inner.Idle = Unit {0}
 IsInserting (inner.TestUp x) = Unit {0}
@@ -95,7 +95,7 @@ IsShutting inner.Idle = Unit {0}
 IsShutting inner.SetShut = Unit {0}
 IsShutting _ = ⊥
 
--- the phases of an end in the queue, the items and the cells
+-- the phases of an end in the queue, in the items and in the cells, by its phase in the channel
 abbrev pub Fits : {A : Type 0} → ChannelPhase A → Phase A → SleepPhase → SleepPhase → Type 0
 Fits Idle p i c = (p ≡ inner.Idle) × (i ≡ sleep.Idle) × (c ≡ sleep.Idle)
 Fits (TakeCell stays x) p i c = (p ≡ inner.Idle) × (i ≡ sleep.Idle) × IsPassing c
@@ -110,14 +110,14 @@ Fits Shutting p i c = IsShutting p × (i ≡ sleep.Idle) × (c ≡ sleep.Idle)
 
 -- ---- the invariant
 
--- an insertion that found no room, or a deletion that claimed too much
+-- 1 for an insertion that found no room, and for a deletion that claimed too much
 abbrev pub a_refusal : {A : Type 0} → Kind A → ℕ
 a_refusal mark.NoRoom = 1
 a_refusal mark.OverIn = 1
 a_refusal mark.OverOut = 1
 a_refusal _ = 0
 
--- the queue is shut, and each granted insertion's item was deleted
+-- the queue is shut, and the item of each granted insertion was deleted
 pub record IsDrained {A : Type 0} (q : QueueState A) : Type 0 where
   pub shut : q.shut ≡ true
   pub none : count a_claim_in q.past ≤ count an_end_out q.past
@@ -128,27 +128,27 @@ item_at_end s e = item_of_end (s.at e) (s.queue.phase e) (s.items.ends e).at
 abbrev pub cell_at_end : {A : Type 0} → ChannelState A → ℕ → ℕ
 cell_at_end s e = cell_of_end (s.at e) (s.queue.phase e) (s.cells.ends e).at
 
--- an end that will load the upper count
+-- an end that is going to load the upper count
 abbrev pub IsAnnouncing : {A : Type 0} → ChannelPhase A → Type 0
 IsAnnouncing GiveCell = Unit {0}
 IsAnnouncing Announce = Unit {0}
 IsAnnouncing _ = ⊥
 
--- the credits of items that were used, with the items inserted, and those that were given and are held
+-- the credits of items that passed or came with an insertion, and those that were claimed, given, or are with an end
 abbrev pub items_used : {A : Type 0} → ChannelState A → ℕ
 items_used s = count an_end_in s.queue.past + s.items.passed
 
 abbrev pub items_held : {A : Type 0} → ℕ → ChannelState A → ℕ
 items_held n s = count a_claim_out s.queue.past + s.items.given + sum_below (item_at_end s) n
 
--- the same of cells
+-- the same for cells
 abbrev pub cells_used : {A : Type 0} → ChannelState A → ℕ
 cells_used s = count an_end_out s.queue.past + s.cells.passed
 
 abbrev pub cells_held : {A : Type 0} → ℕ → ChannelState A → ℕ
 cells_held n s = count a_claim_in s.queue.past + s.cells.given + sum_below (cell_at_end s) n
 
--- n ends, this many cells, and wait queues with this room
+-- the invariant of a channel with n ends, this many cells, and wait queues with this room
 pub record ChannelKept {A : Type 0} (n size room : ℕ) (s : ChannelState A) : Type 0 where
   pub queue : IsKept size s.queue
   pub items : SleepKept n room 0 s.items

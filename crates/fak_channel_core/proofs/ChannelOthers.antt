@@ -1,4 +1,4 @@
--- What an end's step leaves of the other ends.
+-- The other ends after a step of one end.
 use Rattle.std.specs.Prelude.{◌≡◌, ◌≢◌, ℕ, pos, int_lt, Bool, true, false, if◌then◌else◌, Option, Some, None}
 use Rattle.fak_core.specs.declared.queue.step.QueueMove.{QueueMove}
 use Rattle.fak_core.specs.QueueMoves.{with_at, next_move}
@@ -10,7 +10,7 @@ use Rattle.fak_channel_core.specs.ChannelMoves.{ChannelPhase, TakeCell, Insert, 
 use Rattle.fak_channel_core.specs.ChannelMoves as channel
 use Rattle.fak_channel_core.specs.ChannelSchedule.{ChannelEvent, Sends, Receives, Closes, Expires, Steps, end_of, channel_event}
 
--- end k of a semaphore stands as before, and is woken if it was
+-- end k of a semaphore is in the same phase as before, and is woken if it was
 pub record EndStays (s s' : SleepState) (k : ℕ) : Type 0 where
   pub at : (s'.ends k).at ≡ (s.ends k).at
   pub woken : (s.ends k).woken ≡ true → (s'.ends k).woken ≡ true
@@ -69,7 +69,7 @@ module _ (room : ℕ) (s : SleepState) (u k : ℕ) (ne : k ≢ u) where
   expires_else x Sleeping = gives_up x
   expires_else x _ = same s refl
 
--- end k of a channel stands as before
+-- end k of a channel is in the same phases as before
 pub record Stays {A : Type 0} (s s' : ChannelState A) (k : ℕ) : Type 0 where
   pub at : s'.at k ≡ s.at k
   pub phase : s'.queue.phase k ≡ s.queue.phase k

@@ -15,15 +15,15 @@ use Rattle.fak_channel_core.proofs.SleepKept.{SleepKept}
 use Rattle.fak_channel_core.proofs.ChannelCounts.{drained_claimed}
 use Rattle.fak_channel_core.proofs.ChannelKept.{IsAnnouncing, a_refusal, item_of_end, Fits, IsDrained, item_at_end, cell_at_end, items_used, items_held, cells_used, ChannelKept}
 
--- all ends but e stand as before
+-- all ends except e are in the same phases as before
 pub record Alike {A : Type 0} (s s' : ChannelState A) (e : ℕ) : Type 0 where
   pub at : (k : ℕ) → k ≢ e → s'.at k ≡ s.at k
   pub phase : (k : ℕ) → k ≢ e → s'.queue.phase k ≡ s.queue.phase k
   pub items : (k : ℕ) → k ≢ e → (s'.items.ends k).at ≡ (s.items.ends k).at
   pub cells : (k : ℕ) → k ≢ e → (s'.cells.ends k).at ≡ (s.cells.ends k).at
 
--- a step of e that keeps the credits of items, or adds one where it drains the queue, or drops one where the queue was
--- drained before; and that keeps the credits of cells, or adds one where it shuts the queue
+-- the credits after a step of e. Those of items stay the same; but one is added if the step drains the queue, and one is
+-- dropped only if the queue was drained before. Those of cells stay the same; but one is added if the step shuts the queue
 pub record Paid {A : Type 0} (s s' : ChannelState A) (e gain more loss : ℕ) : Type 0 where
   pub item : items_used s' + (count a_claim_out s.queue.past + s.items.given) + item_at_end s e + gain ≡ items_used s + (count a_claim_out s'.queue.past + s'.items.given) + item_at_end s' e + loss
   pub cell : cells_used s' + (count a_claim_in s.queue.past + s.cells.given) + cell_at_end s e + more ≡ cells_used s + (count a_claim_in s'.queue.past + s'.cells.given) + cell_at_end s' e
@@ -40,7 +40,7 @@ pub record Paid {A : Type 0} (s s' : ChannelState A) (e gain more loss : ℕ) : 
   pub low : s'.queue.phase e ≢ inner.BackLow
   pub sub : IsDrained s'.queue → s'.queue.phase e ≢ inner.SubLow
 
--- an end that is to subtract from the lower count has the credit of an item
+-- an end that is about to subtract from the lower count has the credit of an item
 sub_holds : {A : Type 0} (y : ChannelPhase A) (p : Phase A) (i c : SleepPhase) → Fits y p i c → p ≡ inner.SubLow → item_of_end y p i ≡ 1
 sub_holds (Delete stays) p i c f q = ap (λ r. item_of_end (Delete stays) r i) q
 sub_holds y p i c f q = grind (arith, common_steps)
@@ -58,14 +58,14 @@ module _ {A : Type 0} (n size room : ℕ) (s s' : ChannelState A) (e : ℕ) (l :
       cell_same : (k : ℕ) → k ≢ e → cell_at_end s' k ≡ cell_at_end s k
       cell_same k ne = let a = like.at k ne in let b = like.phase k ne in let c = like.cells k ne in cc
 
-  -- an end that has the credit of an item is in use
+  -- an end with the credit of an item is one of the n ends
   in_use : (k : ℕ) → item_at_end s k ≡ 1 → k < n
   in_use k here = elim (le_or_lt n k) [
     | inl b ↦ (let idle = ap (λ y. item_of_end y (s.queue.phase k) (s.items.ends k).at) (K.beyond k b) in absurd (omega arith))
     | inr below ↦ below
   ]
 
-  -- another end that is to subtract from the lower count shows that the queue is not drained
+  -- another end that is about to subtract from the lower count shows that the queue is not drained
   others : (gain more loss : ℕ) → Paid s s' e gain more loss → IsDrained s'.queue → (k : ℕ) → k ≢ e → s.queue.phase k ≢ inner.SubLow
   others gain more loss P D k ne q = elim (le_or_lt (items_held n s) (items_used s)) [
     | inl even ↦

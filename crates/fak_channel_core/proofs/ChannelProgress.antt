@@ -1,4 +1,5 @@
--- A channel never locks up: while a call is open that does not sleep, some end's next step moves its call forward.
+-- A channel never locks up: while some call is open and its end is not asleep, some end's next step moves that end's
+-- call forward.
 use Rattle.std.specs.Prelude.{◌≤◌, ◌≡◌, ◌≢◌, ◌⊎◌, ℕ, ◌<◌}
 use Rattle.fak_core.specs.declared.queue.phase.Phase.TheVariants as inner
 use Rattle.fak_core.specs.QueueProgress.{MakesProgress, AreIdleFrom}
@@ -16,9 +17,9 @@ use Rattle.fak_channel_core.specs.ChannelProgress.{SemaphoreMoves, QueueCallMove
 use Rattle.fak_channel_core.proofs.ChannelKept.{IsPassing, IsGiving, Fits, ChannelKept}
 use Rattle.fak_channel_core.proofs.SleepProgress.{IsWaiting, SomeWaiterMoves, waiter_moves}
 
--- ---- whose call it is
+-- ---- the call that a step belongs to
 
--- an end that waits in the semaphore of cells, or of items, has its call there
+-- the call of an end that waits in the semaphore of cells, or of items, is a pass or a give there
 cell_call : {A : Type 0} (size room : ℕ) (s : ChannelState A) (t : ℕ) (y : ChannelPhase A) → Fits y (s.queue.phase t) (s.items.ends t).at (s.cells.ends t).at
     → IsWaiting (s.cells.ends t).at → SemaphoreMoves room s.cells t (s.cells.ends t).at → CallMoves size room s t y
 cell_call size room s t (TakeCell stays x) f w m = m
@@ -58,7 +59,7 @@ module _ {A : Type 0} (n size room : ℕ) (s : ChannelState A) (z : 0 < size) (r
   by_item : SomeWaiterMoves n room 0 s.items r K.items enough → SomeEndMoves n size room s
   by_item w = (w.0, w.1, item_call size room s w.0 (s.at w.0) (K.fits w.0) w.2 w.3)
 
-  -- a step of the queue is that of a call on the queue
+  -- a step that changes the queue belongs to a call on the queue
   not_idle : (t : ℕ) → s.queue.phase t ≡ inner.Idle → MakesProgress size s.queue t → ⊥
   not_idle t idle m = subst (IsUnblocked size s.queue.past) idle (moves_unblocked size s.queue t z K.queue m)
 

@@ -24,7 +24,7 @@ use Rattle.fak_channel_core.proofs.ChannelCounts.{upper_most, not_full, drained_
 use Rattle.fak_channel_core.proofs.ChannelKept.{IsAnnouncing, a_refusal, unclaimed_in, unclaimed_out, ungiven, IsGiving, item_of_end, cell_of_end, Fits, IsDrained, item_at_end, cell_at_end, ChannelKept}
 use Rattle.fak_channel_core.proofs.ChannelPlaces.{Alike, Paid, changes}
 
--- a step of the queue by end e, from phase p and where the channel had x, to m.phase and y
+-- a step of end e on the queue, from phase p to m.phase, and from x to y in the channel
 pub record QueuePaid {A : Type 0} (s : ChannelState A) (e : ℕ) (x y : ChannelPhase A) (p : Phase A) (m : QueueMove A) (gain more : ℕ) : Type 0 where
   pub item : mark_weight an_end_in m.mark + item_of_end x p (s.items.ends e).at + gain ≡ mark_weight a_claim_out m.mark + item_of_end y m.phase (s.items.ends e).at
   pub cell : mark_weight an_end_out m.mark + cell_of_end x p (s.cells.ends e).at + more ≡ mark_weight a_claim_in m.mark + cell_of_end y m.phase (s.cells.ends e).at
@@ -92,7 +92,7 @@ module _ {A : Type 0} (n size room : ℕ) (s : ChannelState A) (e : ℕ) (l : e 
       changes n size room s s' e l K kq K.items K.cells like gain more 0 paid
       (subst (λ z. Fits z (s'.queue.phase e) (s.items.ends e).at (s.cells.ends e).at) (sym y_is) (subst (λ z. Fits y z (s.items.ends e).at (s.cells.ends e).at) (sym p_is) f))
 
-  -- one that leaves the upper count and its bit
+  -- a step that leaves the upper count and its bit as they are
   calm_step : (x : ChannelPhase A) → (IsAnnouncing x → ⊥) → (y : ChannelPhase A) (p : Phase A) (m : QueueMove A) → s.at e ≡ x → s.queue.phase e ≡ p
       → (moved s.queue e m).shut ≡ s.queue.shut → (moved s.queue e m).upper ≡ s.queue.upper → mark_weight a_claim_in m.mark ≡ 0
       → mark_weight an_end_in m.mark + item_of_end x p (s.items.ends e).at ≡ mark_weight a_claim_out m.mark + item_of_end y m.phase (s.items.ends e).at
@@ -118,7 +118,7 @@ module _ {A : Type 0} (n size room : ℕ) (s : ChannelState A) (e : ℕ) (l : e 
         sub = sub;
       })
 
-  -- a call of the queue begins
+  -- a call on the queue begins
   pub queue_begins : (x : ChannelPhase A) → (IsAnnouncing x → ⊥) → (y : ChannelPhase A) (p : Phase A) → s.at e ≡ x → s.queue.phase e ≡ inner.Idle → IsKept size (with_phase s.queue e p)
       → item_of_end x inner.Idle (s.items.ends e).at ≡ item_of_end y p (s.items.ends e).at
       → cell_of_end x inner.Idle (s.cells.ends e).at ≡ cell_of_end y p (s.cells.ends e).at
@@ -158,7 +158,7 @@ module _ {A : Type 0} (n size room : ℕ) (s : ChannelState A) (e : ℕ) (l : e 
   abbrev InsertKept : Bool → A → QueueMove A → Type 0
   InsertKept stays x m = IsKept size (moved s.queue e m) → ChannelKept n size room (insert s e stays x (Some m))
 
-  -- while the queue is not shut, the credit of a cell means that there is room
+  -- while the queue is not shut, an end with the credit of a cell finds room
   pub room_left : (stays : Bool) (x : A) (p : Phase A) → s.at e ≡ Insert stays x → s.queue.phase e ≡ p → unclaimed_in p ≡ 1 → s.queue.shut ≡ false → int_lt s.queue.upper (pos size) ≡ false → ⊥
   room_left stays x p is_at is_p one is_open full =
       let held : cell_at_end s e ≡ unclaimed_in p = cc in
@@ -284,7 +284,7 @@ module _ {A : Type 0} (n size room : ℕ) (s : ChannelState A) (e : ℕ) (l : e 
   abbrev DeleteKept : Bool → QueueMove A → Type 0
   DeleteKept stays m = IsKept size (moved s.queue e m) → ChannelKept n size room (delete s e stays (Some m))
 
-  -- where an end with the credit of an item finds none, the queue is drained
+  -- if an end with the credit of an item finds no item, the queue is drained
   none_drained : (stays : Bool) (p : Phase A) → s.at e ≡ Delete stays → s.queue.phase e ≡ p → unclaimed_out p ≡ 1 → int_lt (pos 0) s.queue.lower ≡ false → IsDrained s.queue
   none_drained stays p is_at is_p one none =
       let held : item_at_end s e ≡ unclaimed_out p = cc in

@@ -1,4 +1,4 @@
--- What holds of a channel in every reached state, and where only sleepers have open calls.
+-- What is true of a channel in every reached state, and what follows if only sleepers have open calls.
 use Rattle.std.specs.Prelude.{Bool, ◌≡◌, ◌⊎◌, ℕ, ◌<◌, ◌≤◌, nat_lt, false, List, [], ◌∷◌, length}
 use Rattle.fak_model.specs.declared.queue.Kind.TheVariants as mark
 use Rattle.fak_model.proofs.QueueBackwards.{count_reverse}
@@ -63,9 +63,9 @@ kept_channel_opening n size room z r =
 pub kept_channel_reached : {A : Type 0} (n size room : ℕ) (vs : List (ChannelEvent A)) → 0 < size → 0 < room → ChannelKept n size room (channel_reached n size room vs)
 kept_channel_reached n size room vs z r = kept_channel_run n size room vs (channel_opening size) z r (kept_channel_opening n size room z r)
 
--- ---- where only sleepers have open calls
+-- ---- if only sleepers have open calls
 
--- the parts of an end that is idle or asleep
+-- what is true of an end that is idle or asleep, in each part of the channel
 record Resting {A : Type 0} (s : ChannelState A) (e : ℕ) : Type 0 where
   queue : s.queue.phase e ≡ inner.Idle
   item : item_at_end s e ≡ 0
@@ -94,7 +94,7 @@ module _ {A : Type 0} (n size room : ℕ) (s : ChannelState A) (K : ChannelKept 
       let f = fits_at e (TakeItem stays) is_at in
       record { queue = f.0; item = item_by e (TakeItem stays) is_at; cell = cell_by e (TakeItem stays) is_at; items = inr asleep; cells = inl f.2 }
 
-  -- an end that is idle or asleep will not load the upper count
+  -- an end that is idle or asleep is not going to load the upper count
   announces_not : (e : ℕ) → (s.at e ≡ Idle) ⊎ (SendSleeps s e ⊎ ReceiveSleeps s e) → IsAnnouncing (s.at e) → ⊥
   announces_not e (inl idle) a = subst IsAnnouncing idle a
   announces_not e (inr (inl (stays, x, is_at, asleep))) a = subst IsAnnouncing is_at a
@@ -140,7 +140,7 @@ module _ {A : Type 0} (n size room : ℕ) (s : ChannelState A) (K : ChannelKept 
           ],
         )
 
--- ---- what the queue says
+-- ---- the queue
 
 module _ {A : Type 0} (n size room : ℕ) (s : ChannelState A) (K : ChannelKept n size room s) where
   pub good_credits : HasNoOverClaim (history_of s.queue)

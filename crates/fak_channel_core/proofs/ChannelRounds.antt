@@ -1,4 +1,4 @@
--- The rounds of a channel are rounds of its queue, so each call of the queue ends.
+-- The rounds of a channel are rounds of its queue, so each call on the queue ends.
 use Rattle.std.specs.Prelude.{◌≡◌, ◌⊎◌, ℕ, suc, ◌+◌, ◌*◌, ◌<◌, ◌≤◌, nat_lt, Bool, List, [], ◌∷◌, ◌++◌, length, min}
 use Rattle.std.specs.List.{All, Contains}
 use Rattle.std.proofs.lemmas.List.Elements.{All-head, All-tail, All-cons, All-nil, All-append, Contains-append_left, Contains-append_right}
@@ -20,19 +20,19 @@ use Rattle.fak_channel_core.proofs.ChannelReached.{kept_channel_happens, kept_ch
 
 -- ---- the events of the queue
 
--- an end that stands here begins a call of the queue
+-- the event of the queue, if an end in this phase begins a call on it
 abbrev begins : {A : Type 0} → ℕ → ChannelPhase A → Phase A → List (QueueEvent A)
 begins e (Insert stays x) queue.Idle = Inserts e x ∷ []
 begins e (Delete stays) queue.Idle = Deletes e ∷ []
 begins e Shutting queue.Idle = Shuts e ∷ []
 begins e _ _ = []
 
--- what an event of the channel does to the queue
+-- the events of the queue that an event of the channel causes
 abbrev queue_events : {A : Type 0} → ChannelState A → ChannelEvent A → List (QueueEvent A)
 queue_events s (Steps e) = Advances e ∷ begins e (s.at e) (s.queue.phase e)
 queue_events s _ = []
 
--- and what a schedule does
+-- the events of the queue that a schedule of the channel causes
 abbrev queue_schedule : {A : Type 0} → ℕ → ℕ → ℕ → List (ChannelEvent A) → ChannelState A → List (QueueEvent A)
 queue_schedule n size room [] s = []
 queue_schedule n size room (v ∷ vs) s = queue_events s v ++ queue_schedule n size room vs (channel_happens n size room s v)
@@ -60,7 +60,7 @@ module _ {A : Type 0} (size room : ℕ) (s : ChannelState A) (e : ℕ) where
   give_item_same sleep.Idle = refl
   give_item_same _ = refl
 
-  -- an idle seat's step changes nothing
+  -- the step of an idle seat changes nothing
   idle_step : s.queue.phase e ≡ queue.Idle → stepped size s.queue e ≡ s.queue
   idle_step is = ap (move_from size s.queue e) is
 
@@ -132,7 +132,7 @@ schedule_run {A} n size room (v ∷ vs) s z r all K =
     (ap (run size (queue_schedule n size room vs s')) (happens_run n size room s v (All-head (Early {A = A} n) v vs all) K) ∙
     schedule_run n size room vs s' z r (All-tail (Early {A = A} n) v vs all) (kept_channel_happens n size room s v z r K))
 
--- each end that steps in the channel steps in its queue
+-- if an end steps in the channel, its seat steps in the queue
 schedule_steps : {A : Type 0} (n size room : ℕ) (vs : List (ChannelEvent A)) (s : ChannelState A) (e : ℕ) → Contains vs (Steps e) → Contains (queue_schedule n size room vs s) (Advances e)
 schedule_steps {A} n size room [] s e c = absurd (contains_none {X = ChannelEvent A} (Steps e) c)
 schedule_steps {A} n size room (v ∷ vs) s e c =
@@ -166,7 +166,7 @@ schedule_early {A} n size room (v ∷ vs) s all =
 round_is : {A : Type 0} (n size room : ℕ) (vs : List (ChannelEvent A)) (s : ChannelState A) → IsChannelRound n vs → IsRound n (queue_schedule n size room vs s)
 round_is n size room vs s R = record { each = λ e l. schedule_steps n size room vs s e (R.each e l); within = schedule_early n size room vs s R.within }
 
--- ---- an end that has no call of the queue
+-- ---- an end without an open call on the queue
 
 once_append : {A : Type 0} (size : ℕ) (es fs : List (QueueEvent A)) (q : QueueState A) (e : ℕ) → IsIdleOnce size (es ++ fs) q e → IsIdleOnce size es q e ⊎ IsIdleOnce size fs (run size es q) e
 once_append size [] fs q e once = inr once
@@ -175,7 +175,7 @@ once_append size (v ∷ es) fs q e (inr later) = elim (once_append size es fs (h
 
 -- before or after the events of one step
 module _ {A : Type 0} (size : ℕ) (s : ChannelState A) (u e : ℕ) where
-  -- an idle seat's step leaves each seat as it stands
+  -- the step of an idle seat leaves each seat in its phase
   before : s.queue.phase u ≡ queue.Idle → (stepped size s.queue u).phase e ≡ queue.Idle → s.queue.phase e ≡ queue.Idle
   before is now = subst (λ (q : QueueState A). q.phase e ≡ queue.Idle) (ap (move_from size s.queue u) is) now
 

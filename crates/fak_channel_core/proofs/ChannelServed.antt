@@ -1,4 +1,4 @@
--- A call that was woken has done its work on the queue within a number of rounds.
+-- A call that was woken has completed its work on the queue within a number of rounds.
 use Rattle.std.specs.Prelude.{◌≡◌, ◌≢◌, ◌⊎◌, ℕ, ◌+◌, ◌*◌, ◌/◌, ◌%◌, ◌<◌, ◌≤◌, ◌==◌, pos, int_lt, nat_lt, Bool, true, false, Option, Some, None, List, [], ◌∷◌, length, min}
 use Rattle.std.specs.List.{All, Contains}
 use Rattle.std.proofs.lemmas.List.Elements.{All-head, All-tail}
@@ -26,14 +26,14 @@ use Rattle.fak_channel_core.proofs.ChannelReached.{kept_channel_happens, kept_ch
 use Rattle.fak_channel_core.proofs.ChannelRounds.{cell_same, item_same, expire_same, queue_call_ends}
 use Rattle.fak_channel_core.proofs.ChannelOthers.{Stays, event_else}
 
--- ---- where an end's call stands
+-- ---- the state of an end's call
 
 abbrev pub IsWorking : {A : Type 0} → ChannelPhase A → Type 0
 IsWorking (Insert stays x) = Unit {0}
 IsWorking (Delete stays) = Unit {0}
 IsWorking _ = ⊥
 
--- it has passed, and its call of the queue has not begun; this call is open
+-- it has passed, and its call on the queue has not begun; that call is open
 pub record Begins {A : Type 0} (s : ChannelState A) (e : ℕ) : Type 0 where
   pub at : IsWorking (s.at e)
   pub idle : s.queue.phase e ≡ inner.Idle
@@ -45,7 +45,7 @@ pub record Works {A : Type 0} (s : ChannelState A) (e : ℕ) : Type 0 where
 low_busy : {A : Type 0} (f : ℕ → Phase A) (e : ℕ) → with_at f e inner.TestLow e ≡ inner.Idle → ⊥
 low_busy f e q = let j = sym (at_here f e inner.TestLow) ∙ q in cc
 
--- an insertion that withdraws was refused by a shut queue
+-- an insertion that is to be withdrawn was refused by a shut queue
 in_over : {A : Type 0} (p : Phase A) (z : A) → p ≡ inner.BackUp z → in_over_in (shown p) ≡ 1
 in_over p z is = ap (λ q. in_over_in (shown q)) is
 
@@ -68,7 +68,7 @@ module _ {A : Type 0} (n size room : ℕ) (s : ChannelState A) (e : ℕ) (l : e 
   goes_by m y (inl w) = inl (record { at = subst IsWorking (sym (at_here s.at e y)) w.0; busy = λ q. w.1 (sym (at_here s.queue.phase e m.phase) ∙ q) })
   goes_by m y (inr d) = inr (subst IsServed (sym (at_here s.at e y)) d)
 
-  -- a step of an insertion, and of a deletion
+  -- a step of an insertion, and a step of a deletion
   abbrev InsertGoes : Bool → A → Option (QueueMove A) → Type 0
   InsertGoes stays x None = ⊥
   InsertGoes stays x (Some m) = (IsWorking (inserted s.queue stays x m.mark) × (m.phase ≢ inner.Idle)) ⊎ IsServed (inserted s.queue stays x m.mark)
@@ -144,7 +144,7 @@ module _ {A : Type 0} (n size room : ℕ) (s : ChannelState A) (e : ℕ) (l : e 
   own_work : Works s e → Goes (channel_step size room s e)
   own_work w = work_goes (s.at e) refl w.at w.busy (K.fits e)
 
-  -- the call of the queue begins
+  -- the call on the queue begins
   insert_begins : (stays : Bool) (x : A) (p : Phase A) → p ≡ inner.Idle → Works (insert s e stays x (next_move size s.queue p)) e
   insert_begins stays x inner.Idle q = record { at = subst IsWorking (sym (at_here s.at e (Insert stays x))) tt; busy = λ i. let j : inner.TestUp x ≡ inner.Idle = sym (at_here s.queue.phase e (inner.TestUp x)) ∙ i in cc }
   insert_begins stays x _ q = absurd cc
@@ -204,7 +204,7 @@ module _ {A : Type 0} (size room : ℕ) (s : ChannelState A) (e : ℕ) where
   late_item stays sleep.Sleeping q is w = item_goes stays (expire s.items e (s.items.ends e) (s.items.ends e).at) (woken_expire s.items e (s.items.ends e).at is w)
   late_item stays _ q is w = absurd cc
 
-  -- a state whose queue is as before
+  -- a state with the same queue as before
   begins_by : (s' : ChannelState A) (y : ChannelPhase A) → s'.queue ≡ s.queue → s'.at e ≡ y → IsWorking y → s.queue.phase e ≡ inner.Idle → Begins s' e
   begins_by s' y q is w idle = record { at = subst IsWorking (sym is) w; idle = ap (λ (r : QueueState A). r.phase e) q ∙ idle }
 
@@ -352,7 +352,7 @@ run_begins {A} n size room (v ∷ vs) s e z r l K c b =
     further (inl d) = inl (inr d)
     further (inr w) = inr w
 
--- where its call of the queue has not begun, it may begin
+-- a call on the queue that has not begun may begin
 run_keeps : {A : Type 0} (n size room : ℕ) (vs : List (ChannelEvent A)) (s : ChannelState A) (e : ℕ) → 0 < size → 0 < room → ChannelKept n size room s → Begins s e
     → IsServedOnce n size room vs s e ⊎ (Begins (channel_run n size room vs s) e ⊎ Works (channel_run n size room vs s) e)
 run_keeps n size room [] s e z r K b = inr (inl b)

@@ -47,13 +47,13 @@ announcing_or_not Announce = inl tt
 announcing_or_not _ = inr (λ a. a)
 
 module _ {A : Type 0} (n size room : ℕ) (s : ChannelState A) (e : ℕ) (l : e < n) (K : ChannelKept n size room s) where
-  -- how the end stands
+  -- the phases of the end
   fits_at : (x : ChannelPhase A) → s.at e ≡ x → Fits x (s.queue.phase e) (s.items.ends e).at (s.cells.ends e).at
   fits_at x is_at = subst (λ y. Fits y (s.queue.phase e) (s.items.ends e).at (s.cells.ends e).at) is_at (K.fits e)
 
-  -- ---- a step that leaves the queue alone
+  -- ---- a step that does not touch the queue
 
-  -- who will load the upper count goes on to, or never would
+  -- an end that is going to load the upper count still is, or never was
   still_announces : (x y a b : ChannelPhase A) → a ≡ x → b ≡ y → (IsAnnouncing x → IsAnnouncing y) → s.queue.shut ≡ true → is_void s.queue ≡ true
       → IsAnnouncing b ⊎ ((s.queue.shut ≡ true) × (is_void s.queue ≡ true) × (IsAnnouncing a → ⊥))
   still_announces x y a b is_a is_b goes sh v = elim (announcing_or_not x) [
@@ -123,7 +123,7 @@ module _ {A : Type 0} (n size room : ℕ) (s : ChannelState A) (e : ℕ) (l : e 
       } in
       changes n size room s s' e l K K.queue kc K.cells like 0 0 0 paid (subst (λ z. Fits z p (c.ends e).at q) (sym y_is) f)
 
-  -- one that touches nothing shared; it may drop the credit of an item where the queue was drained
+  -- a step that touches nothing shared; it may drop the credit of an item if the queue was drained
   stand_step : (x y : ChannelPhase A) (gain loss : ℕ) → s.at e ≡ x
       → item_of_end x (s.queue.phase e) (s.items.ends e).at + gain ≡ item_of_end y (s.queue.phase e) (s.items.ends e).at + loss
       → cell_of_end x (s.queue.phase e) (s.cells.ends e).at ≡ cell_of_end y (s.queue.phase e) (s.cells.ends e).at

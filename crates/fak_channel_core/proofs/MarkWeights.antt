@@ -1,11 +1,11 @@
--- What a step's mark adds to the counts of a queue's marks.
+-- What the mark of a step adds to the counts of a queue's marks.
 use Rattle.std.specs.Prelude.{◌≡◌, ℕ, ◌+◌, Option, Some, None}
 use Rattle.fak_model.specs.declared.queue.Kind.{Kind}
 use Rattle.fak_model.specs.Queue.{count}
 use Rattle.fak_core.specs.QueueMoves.{QueueState, past_after}
 use Rattle.fak_core.proofs.Common.{arith, refl}
 
--- what the mark of a step weighs
+-- the weight of the mark of a step
 abbrev pub mark_weight : {A : Type 0} → (Kind A → ℕ) → Option (Kind A) → ℕ
 mark_weight w None = 0
 mark_weight w (Some κ) = w κ

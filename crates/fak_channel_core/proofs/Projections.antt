@@ -65,7 +65,7 @@ module _ {A : Type 0} (size room : ℕ) (s : ChannelState A) (R : AreReached siz
   shuts_on queue.Idle is = closes size s.queue R.queue e is
   shuts_on p is = moves size s.queue R.queue e p is
 
-  -- the parts that stay
+  -- the parts that stay the same
   insert_stays : (stays : Bool) (x : A) (p : Phase A) → s.queue.phase e ≡ p → AreReached size room (insert s e stays x (next_move size s.queue p))
   insert_stays stays x queue.Idle is = record { queue = inserts_on stays x queue.Idle is; items = R.items; cells = R.cells }
   insert_stays stays x p is = record { queue = inserts_on stays x p is; items = R.items; cells = R.cells }

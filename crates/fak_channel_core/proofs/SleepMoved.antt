@@ -1,4 +1,4 @@
--- What a step of an end changes of a semaphore, as a channel sees it.
+-- The change of a semaphore by a step of an end, as a channel sees it.
 use Rattle.std.specs.Prelude.{◌≡◌, ◌≢◌, ◌⊎◌, ℕ, ◌+◌, pos, ◌-ℤ◌, int_lt, not, Bool, true, false, if◌then◌else◌, Option, Some, None}
 use Rattle.fak_model.specs.declared.queue.Kind.{Kind}
 use Rattle.fak_model.specs.declared.queue.Kind.TheVariants as mark
@@ -10,7 +10,7 @@ use Rattle.fak_core.proofs.QueueSteps.{by_test}
 use Rattle.fak_channel_core.specs.SleepMoves.{SleepPhase, Idle, TestDown, Down, Parking, Sleeping, TakeBack, GiveUp, Up, Waking, Marking, SleepEnd, SleepState, with_end, through_end, park, parked, take_back, give_up, up, wake, drawn, wake_end, woken_end, step_at, sleep_step, first_step, begin_pass, begin_give, expire}
 use Rattle.fak_channel_core.proofs.ChannelKept.{IsPassing, IsGiving}
 
--- all ends but e stand as before
+-- all ends except e are in the same phases as before
 abbrev pub OthersStand : SleepState → SleepState → ℕ → Type 0
 OthersStand s s' e = (k : ℕ) → k ≢ e → (s'.ends k).at ≡ (s.ends k).at
 
@@ -31,7 +31,7 @@ pub record GiveMoved (s s' : SleepState) (e : ℕ) : Type 0 where
   pub others : OthersStand s s' e
   pub stands : IsGiving (s'.ends e).at
 
--- the begin of a pass, and of a give
+-- a pass has begun; a give has begun
 pub record PassBegun (s s' : SleepState) (e : ℕ) : Type 0 where
   pub given : s'.given ≡ s.given
   pub passed : s'.passed ≡ s.passed
@@ -44,7 +44,7 @@ pub record GiveBegun (s s' : SleepState) (e : ℕ) : Type 0 where
   pub others : OthersStand s s' e
   pub stands : (s'.ends e).at ≡ Up
 
--- another end stands as before
+-- another end is in the same phase as before
 else_stand : (f : ℕ → SleepEnd) (e : ℕ) (y : SleepEnd) (k : ℕ) → k ≢ e → (with_at f e y k).at ≡ (f k).at
 else_stand f e y k ne = ap (λ x. x.at) (at_else f e k y ne)
 
@@ -58,7 +58,7 @@ through : (s s' : SleepState) (e : ℕ) (y : SleepEnd) → s'.ends e ≡ y → s
 through s s' e y is g o p idle some = record { given = g; others = o; outcome = Through p (ap (λ x. x.at) is ∙ idle) (ap (λ x. x.through) is ∙ some) }
 
 module _ (room : ℕ) (s : SleepState) (e : ℕ) where
-  -- the end with these changes, others as before
+  -- the changed end, with the others as before
   here : (y : SleepEnd) → with_at s.ends e y e ≡ y
   here y = at_here s.ends e y
 

@@ -26,13 +26,13 @@ credit_given c e = grind (arith, ints, common_steps)
 
 -- ---- one end
 
--- what a function of the ends adds up to, where one end changes
+-- the sum of a function over the ends, after one end changes
 pub sum_end : (w : SleepEnd → ℕ) (f : ℕ → SleepEnd) (e n : ℕ) (y : SleepEnd) → e < n → sum_below (λ k. w (with_at f e y k)) n + w (f e) ≡ sum_below (λ k. w (f k)) n + w y
 sum_end w f e n y l =
     let one = sum_one (λ k. w (f k)) (λ k. w (with_at f e y k)) e n l (λ k ne. ap w (at_else f e k y ne)) in
     omega (arith, one, ap w (at_here f e y))
 
--- the end e, which stood as x, stands as y; w' is the wait queue after the step
+-- the end e was x and is now y; w is the wait queue after the step
 pub kept_end : (n room start : ℕ) (s : SleepState) (e : ℕ) (x y : SleepEnd) (c : ℤ) (w : QueueState ℕ) (given passed : ℕ) → e < n → SleepKept n room start s → s.ends e ≡ x → IsKept room w
     → ((t : ℕ) → t ≢ e → w.phase t ≡ s.waits.phase t)
     → count puts w.past + count gots s.waits.past + parks y.at y.out + owes x.at + lacking s.count ≡ count puts s.waits.past + count gots w.past + parks x.at x.out + owes y.at + lacking c

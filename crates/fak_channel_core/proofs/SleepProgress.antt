@@ -1,4 +1,4 @@
--- While an end of a semaphore parks a token or takes one, some such end's next step moves its call forward.
+-- While an end of a semaphore inserts a token or takes one, the next step of some such end moves its call forward.
 use Rattle.std.specs.Prelude.{◌≤◌, ◌≡◌, ◌⊎◌, ℕ, zero, suc, ◌%◌, ◌<◌, ◌≤ℤ◌, ◌<ℤ◌, pos, Bool, true, false, Option, Some, None}
 use Rattle.fak_model.specs.Queue.{count, puts, gots, lower_raise, lower_drop}
 use Rattle.fak_model.specs.Histories.{sum_below}
@@ -37,9 +37,9 @@ find p (suc n) = elim (find p n) [
       | inr ne ↦ none t (omega arith)
     ])
 
--- ---- who is busy with the wait queue
+-- ---- ends that are busy with the wait queue
 
--- it parks its token, or has claimed one
+-- the end inserts its token, or has claimed one
 abbrev pub busy : SleepPhase → Phase ℕ → Bool
 busy Parking p = true
 busy (Waking o) queue.Idle = false
@@ -72,7 +72,7 @@ quiet_shown e GiveUp o w c p st b = ap shown st.2
 quiet_shown e Up o w c p st b = ap shown st.1
 quiet_shown e (Marking t) o w c p st b = ap shown st.1
 
--- an end that does not wait has no call of the wait queue
+-- an end that does not wait has no open call on the wait queue
 waiting_or_idle : (e : ℕ) (a : SleepPhase) (o w c : Bool) (p : Phase ℕ) → Stands e a o w c p → IsWaiting a ⊎ (p ≡ queue.Idle)
 waiting_or_idle e Parking o w c p st = inl tt
 waiting_or_idle e (Waking u) o w c p st = inl tt
@@ -85,7 +85,7 @@ waiting_or_idle e GiveUp o w c p st = inr st.2
 waiting_or_idle e Up o w c p st = inr st.1
 waiting_or_idle e (Marking t) o w c p st = inr st.1
 
--- a token's insertion, or its deletion, that holds a ticket
+-- a token's insertion, or its deletion, with a ticket
 park_holds : (room : ℕ) (w : QueueState ℕ) (e c : ℕ) (p : Phase ℕ) → HoldsTicketOf room p c → MakesProgress room w e → ParkMoves room w e p
 park_holds room w e c (queue.TurnIn k x) h m = m
 park_holds room w e c (queue.StoreItem k x) h m = m
@@ -104,7 +104,7 @@ wake_holds room w e c (queue.LoadItem k) h m = m
 wake_holds room w e c (queue.SetFree k) h m = m
 wake_holds room w e c _ h m = absurd h
 
--- a sum of nothing
+-- a sum of zeros
 sum_zero : (f : ℕ → ℕ) (n : ℕ) → ((k : ℕ) → k < n → f k ≡ 0) → sum_below f n ≡ 0
 sum_zero f zero h = refl
 sum_zero f (suc n) h = omega (arith, sum_zero f n (λ k l. h k (omega arith)), h n (omega arith))
@@ -143,26 +143,26 @@ module _ (n room start : ℕ) (s : SleepState) (z : 0 < room) (K : SleepKept n r
     | inr idle ↦ absurd (subst (λ p. HoldsTicketOf room p c) idle h)
   ]
 
-  -- among the ends that hold a ticket of one cell
+  -- one of the ends that hold a ticket of one cell
   tickets_move : (t c : ℕ) → HoldsTicketOf room (s.waits.phase t) c → SomeWaiterMoves
   tickets_move t c h =
       let w = some_holder_moves room n s.waits t c z K.waits idle_from h in
       let m = holder_moves w.0 c (s.ends w.0).at w.1 refl w.2 w.3 in
       (w.0, w.1, m.0, m.1)
 
-  -- a call without a ticket goes on
+  -- a call without a ticket moves forward
   alone_moves : (t : ℕ) (p : Phase ℕ) → s.waits.phase t ≡ p → IsUnblocked room s.waits.past p → MakesProgress room s.waits t
   alone_moves t p is free = unblocked_moves room s.waits t z K.waits (subst (IsUnblocked room s.waits.past) (sym is) free)
 
   ticket_at : (t c : ℕ) (p : Phase ℕ) → s.waits.phase t ≡ p → HoldsTicketOf room p c → SomeWaiterMoves
   ticket_at t c p is h = tickets_move t c (subst (λ q. HoldsTicketOf room q c) (sym is) h)
 
-  -- an end that parks
+  -- an end that inserts its token
   here_parks : (t : ℕ) (p : Phase ℕ) → t < n → (s.ends t).at ≡ Parking → s.waits.phase t ≡ p → ParkMoves room s.waits t p → SomeWaiterMoves
   here_parks t p l is is_p m =
       (t, l, subst IsWaiting (sym is) tt, subst (SemaphoreMoves room s t) (sym is) (subst (ParkMoves room s.waits t) (sym is_p) m))
 
-  -- one that has claimed no cell finds room
+  -- an end that has not claimed a cell finds room
   unclaimed_room : (t : ℕ) (p : Phase ℕ) → t < n → s.waits.phase t ≡ p → (s.ends t).out ≡ false → in_claim_in (shown p) ≡ 0 → in_over_in (shown p) ≡ 0 → s.waits.upper <ℤ pos room
   unclaimed_room t p l is_p home a b =
       let dead = live_unset (s.ends t).out (s.ends t).woken home in
@@ -204,7 +204,7 @@ module _ (n room start : ℕ) (s : SleepState) (z : 0 < room) (K : SleepKept n r
   busy_moves t (Waking u) l is b = waking_moves t u (s.waits.phase t) l is refl (stand_at t (Waking u) is).1 b
   busy_moves t _ l is b = absurd cc
 
-  -- where nobody is busy with the wait queue, its tokens are there
+  -- if no end is busy with the wait queue, it has its tokens
   quiet_tokens : ((t : ℕ) → t < n → busy (s.ends t).at (s.waits.phase t) ≡ false) → (e : ℕ) (u : Option ℕ) → e < n → (s.ends e).at ≡ Waking u → SomeWaiterMoves
   quiet_tokens quiet e u l is =
       let none_parks : sum_below (λ k. parks (s.ends k).at (s.ends k).out) n ≡ 0 = sum_zero (λ k. parks (s.ends k).at (s.ends k).out) n (λ k b. quiet_parks (s.ends k).at (s.ends k).out (s.waits.phase k) (quiet k b)) in
@@ -222,7 +222,7 @@ module _ (n room start : ℕ) (s : SleepState) (z : 0 < room) (K : SleepKept n r
         | inr below ↦ quiet_shown k (s.ends k).at (s.ends k).out (s.ends k).woken (s.ends k).cancelled (s.waits.phase k) (K.stands k) (quiet k below)
       ]
 
-  -- an end that waits is not alone with a call that nobody moves
+  -- if an end waits, some end that waits can move
   pub waiter_moves : (e : ℕ) (a : SleepPhase) → e < n → (s.ends e).at ≡ a → IsWaiting a → SomeWaiterMoves
   waiter_moves e a l is waits = elim (find (λ t. busy (s.ends t).at (s.waits.phase t)) n) [
     | inl found ↦ busy_moves found.0 (s.ends found.0).at found.1 refl found.2

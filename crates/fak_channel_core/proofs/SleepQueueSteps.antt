@@ -32,7 +32,7 @@ pub live_unwoken : (out woken : Bool) → out ≡ true → woken ≡ false → l
 live_unwoken out woken a b = grind (arith, common_steps)
 
 module _ (n room start : ℕ) (s : SleepState) (e : ℕ) (l : e < n) (K : SleepKept n room start s) where
-  -- a step of the wait queue
+  -- a step on the wait queue
   kept_moved : (x y : SleepEnd) (m : QueueMove ℕ) → s.ends e ≡ x → IsKept room (moved s.waits e m)
       → mark_weight puts m.mark + parks y.at y.out + owes x.at ≡ mark_weight gots m.mark + parks x.at x.out + owes y.at
       → credit y ≡ credit x
@@ -49,7 +49,7 @@ module _ (n room start : ℕ) (s : SleepState) (e : ℕ) (l : e < n) (K : SleepK
       (let pk = count_after (put_of (is e)) e m.mark s.waits in let gk = count_after (got_of (is e)) e m.mark s.waits in omega arith)
       (subst (StandsIn e y) (sym (at_here s.waits.phase e m.phase)) st)
 
-  -- a call of the wait queue begins
+  -- a call on the wait queue begins
   kept_call : (p : Phase ℕ) → IsKept room (with_phase s.waits e p) → StandsIn e (s.ends e) p → SleepKept n room start (record s { waits = with_phase s.waits e p })
   kept_call p kw st = record {
     waits = kw;
@@ -64,7 +64,7 @@ module _ (n room start : ℕ) (s : SleepState) (e : ℕ) (l : e < n) (K : SleepK
   abbrev ParkKept : SleepEnd → QueueMove ℕ → Type 0
   ParkKept x m = IsKept room (moved s.waits e m) → SleepKept n room start (park s e x (Some m))
 
-  -- one that leaves the end as it stands
+  -- a step that leaves the end as it is
   park_same : (x : SleepEnd) (m : QueueMove ℕ) → s.ends e ≡ x → mark_weight puts m.mark ≡ 0 → mark_weight gots m.mark ≡ 0 → ((k : ℕ) → mark_weight (put_of (is k)) m.mark ≡ 0) → ((k : ℕ) → mark_weight (got_of (is k)) m.mark ≡ 0)
       → StandsIn e x m.phase → IsKept room (moved s.waits e m) → SleepKept n room start (record s { waits = moved s.waits e m; ends = with_at s.ends e x })
   park_same x m is_x np ng pk gk st kw =

@@ -1,4 +1,4 @@
--- Each event keeps the invariant, and so it holds of every reached state.
+-- Each event keeps the invariant, so it is true in every reached state.
 use Rattle.std.specs.Prelude.{pos, ◌≤◌, None, ◌≤ℤ◌, ◌-ℤ◌, ◌≡◌, ◌≢◌, ◌⊎◌, ℕ, ℤ, ◌+◌, ◌<◌, nat_lt, Bool, true, false, if◌then◌else◌, List, [], ◌∷◌}
 use Rattle.fak_model.specs.Queue.{count, puts, gots, lower_raise, lower_drop}
 use Rattle.fak_model.proofs.QueueCounts.{whole_counts}
@@ -20,7 +20,7 @@ use Rattle.fak_channel_core.proofs.SleepQueueSteps.{kept_park, kept_wake, live_u
 
 -- ---- the marking of a word
 
--- all but bit W of an end stays
+-- all of an end except bit W stays the same
 marked_keeps : (f : ℕ → SleepEnd) (t k : ℕ) → ((with_at f t (woken_end (f t)) k).at ≡ (f k).at) × ((with_at f t (woken_end (f t)) k).out ≡ (f k).out) × ((with_at f t (woken_end (f t)) k).cancelled ≡ (f k).cancelled)
 marked_keeps f t k =
     by_place (λ z. (z.at ≡ (f k).at) × (z.out ≡ (f k).out) × (z.cancelled ≡ (f k).cancelled)) f t k (woken_end (f t))
@@ -35,7 +35,7 @@ live_marked o w t waits = grind (arith, common_steps)
 held_else : (k t : ℕ) → k ≢ t → holds k (Marking t) ≡ 0
 held_else k t ne = grind (arith, common_steps)
 
--- an end whose token is out may be woken
+-- an end with a token out may be woken
 stands_woken : (e : ℕ) (at : SleepPhase) (o w c : Bool) (p : Phase ℕ) → o ≡ true → Stands e at o w c p → Stands e at o true c p
 stands_woken e Parking o w c p is_o st = (λ q. cc, st.1)
 stands_woken e _ o w c p is_o st = st
@@ -67,14 +67,14 @@ next_holds false k = refl
 is_self : (t : ℕ) → holds t (Marking t) ≡ 1
 is_self t = grind (arith, common_steps)
 
--- an end whose token is out is in use
+-- an end with a token out is one of the n ends
 pub used_below : (n room start : ℕ) (s : SleepState) (t : ℕ) → SleepKept n room start s → (s.ends t).out ≡ true → t < n
 used_below n room start s t K is_out = elim (le_or_lt n t) [
   | inl b ↦ (let unused = K.beyond t b in absurd (true_not_false (s.ends t).out is_out unused.1))
   | inr l ↦ l
 ]
 
--- who waits once the word of end t is marked
+-- the ends after the word of end t is marked
 abbrev marked_ends : (ℕ → SleepEnd) → ℕ → ℕ → SleepPhase → ℕ → SleepEnd
 marked_ends f t e p = with_at (with_at f t (woken_end (f t))) e (record (with_at f t (woken_end (f t)) e) { at = p })
 
@@ -205,7 +205,7 @@ kept_sleep_opening n room start z =
 pub kept_reached : (n room start : ℕ) (vs : List SleepEvent) → 0 < room → SleepKept n room start (sleep_reached n room start vs)
 kept_reached n room start vs z = kept_run n room start vs (sleep_opening start) z (kept_sleep_opening n room start z)
 
--- ---- where only sleepers have open calls
+-- ---- if only sleepers have open calls
 
 abbrev Rests : SleepEnd → Type 0
 Rests x = (x.at ≡ Idle) ⊎ IsAsleep x
@@ -253,7 +253,7 @@ all_taken n room start s e K only sleeps =
     let short : 0 < lacking s.count = omega arith in
     let none = lacks_all s.count short in omega arith
 
--- ---- where all others wait
+-- ---- if all others wait
 
 pub few_passes : (n room start : ℕ) (s : SleepState) → SleepKept n room start s → s.passed ≤ start + s.given
 few_passes n room start s K = let c = K.credits in omega arith

@@ -30,7 +30,7 @@ sum_less : (f g : ℕ → ℕ) (n : ℕ) → ((k : ℕ) → k < n → f k ≤ g 
 sum_less f g zero h = omega arith
 sum_less f g (suc n) h = omega (arith, sum_less f g n (λ k l. h k (omega arith)), h n (omega arith))
 
--- terms of at most 1, one of which is 0
+-- a sum of n terms of at most 1 is at most n
 sum_few : (f : ℕ → ℕ) (n : ℕ) → ((k : ℕ) → k < n → f k ≤ 1) → sum_below f n ≤ n
 sum_few f zero h = omega arith
 sum_few f (suc n) h = omega (arith, sum_few f n (λ k l. h k (omega arith)), h n (omega arith))
@@ -42,7 +42,7 @@ sum_fewer f e (suc n) l h z = elim (same_or_not e n) [
   | inr ne ↦ omega (arith, sum_fewer f e n (omega arith) (λ k b. h k (omega arith)) z, h n (omega arith))
 ]
 
--- sums of sums in either order
+-- a sum of sums, in either order
 sum_swap : (f : ℕ → ℕ → ℕ) (m n : ℕ) → sum_below (λ t. sum_below (λ g. f t g) m) n ≡ sum_below (λ g. sum_below (λ t. f t g) n) m
 sum_swap f m zero = sym (sum_none (λ g. 0) m (λ g. refl))
 sum_swap f m (suc n) =
@@ -67,7 +67,7 @@ sum_is x (suc n) l = elim (same_or_not x n) [
     sum_none_below x zero b = refl
     sum_none_below x (suc n) b = let rest = sum_none_below x n (omega arith) in let here = is_other n x (λ q. omega arith) in omega arith
 
--- a list of numbers, none of which is n or above
+-- a list of numbers below n has as many elements as it has of each number, summed up
 pub list_sums : (xs : List ℕ) (n : ℕ) → ((t : ℕ) → n ≤ t → sum_by (is t) xs ≡ 0) → length xs ≡ sum_below (λ t. sum_by (is t) xs) n
 list_sums [] n none = sym (sum_none (λ t. 0) n (λ t. refl))
 list_sums (x ∷ xs) n none = elim (le_or_lt n x) [
@@ -84,7 +84,7 @@ list_sums (x ∷ xs) n none = elim (le_or_lt n x) [
 
 -- ---- the stages of seats
 
--- seats from n on are idle, and weigh nothing
+-- seats from n on are idle and have no weight
 tally_beyond : (w : Stage ℕ → ℕ) (f : ℕ → Stage ℕ) (n m : ℕ) → n ≤ m → ((k : ℕ) → n ≤ k → w (f k) ≡ 0) → tally w f m ≡ tally w f n
 tally_beyond w f n zero l none = let same : zero ≡ n = omega arith in ap (tally w f) same
 tally_beyond w f n (suc m) l none = elim (le_or_lt n m) [
@@ -96,7 +96,7 @@ tally_sum : (w : Stage ℕ → ℕ) (f : ℕ → Stage ℕ) (n : ℕ) → tally 
 tally_sum w f zero = refl
 tally_sum w f (suc n) = omega (arith, tally_sum w f n)
 
--- what an end adds to the upper count of its wait queue: its token there, or a claim of its own
+-- what an end adds to the upper count of its wait queue: its token there, or its own claim
 abbrev pub adds : SleepEnd → Phase ℕ → ℕ
 adds x p = in_claim_in (shown p) + in_over_in (shown p) + live x.out x.woken
 
@@ -146,7 +146,7 @@ adds_least e GiveUp o w c p st = idle_adds o w p st.2
 adds_least e Up o w c p st = idle_adds o w p st.1
 adds_least e (Marking t) o w c p st = idle_adds o w p st.1
 
--- a seat that takes a token has it in its hands
+-- a seat that is taking a token has drawn it
 got_token : (e : ℕ) (a : SleepPhase) (o w c : Bool) (p : Phase ℕ) → Stands e a o w c p → (in_got (shown p) ≡ 0) ⊎ ((u : ℕ) × (a ≡ Waking (Some u)) × (in_got (shown p) ≡ 1))
 got_token e Parking o w c p st = inl (parking_got e o p st.1)
   where
@@ -197,14 +197,14 @@ module _ (n room start : ℕ) (s : SleepState) (K : SleepKept n room start s) wh
       let idle = (subst (λ q. Stands k q x.out x.woken x.cancelled (s.waits.phase k)) unused.0 (K.stands k)).1 in
       ap w (sym (K.waits.phases k) ∙ ap shown idle) ∙ none
 
-  -- what seats weigh, as the sum over the ends
+  -- the weight of all seats, as a sum over the ends
   stage_sum : (w : Stage ℕ → ℕ) → w made.Idle ≡ 0 → tally w (stage s.waits.past) (n + seat_bound s.waits.past) ≡ sum_below (λ k. w (shown (s.waits.phase k))) n
   stage_sum w none =
       let far = tally_beyond w (stage s.waits.past) n (n + seat_bound s.waits.past) (omega arith) (beyond_idle w none) in
       let near = tally_sum w (stage s.waits.past) n in
       let same = sum_here (λ k. w (stage s.waits.past k)) (λ k. w (shown (s.waits.phase k))) n (λ k b. ap w (sym (K.waits.phases k))) in omega arith
 
-  -- the tokens in the queue are those of the ends
+  -- the tokens in the queue are those of the n ends
   tokens_sum : count gots s.waits.past + sum_below (λ t. tokens_in s.waits t) n ≡ count puts s.waits.past
   tokens_sum =
       let bounded = contents_bounded room s.waits.past K.waits.legal in
@@ -220,7 +220,7 @@ module _ (n room start : ℕ) (s : SleepState) (K : SleepKept n room start s) wh
           let left = tokens_left room s.waits t K.waits in
           let same = tokens_is s.waits t in omega arith
 
-  -- the token that an end takes is that of an end in use
+  -- the token that an end takes belongs to one of the n ends
   hand : (g : ℕ) → g < n → in_got (shown (s.waits.phase g)) ≤ sum_below (λ t. holds t (s.ends g).at) n
   hand g l = elim (got_token g (s.ends g).at (s.ends g).out (s.ends g).woken (s.ends g).cancelled (s.waits.phase g) (K.stands g)) [
     | inl none ↦ omega (arith, none)
@@ -236,7 +236,7 @@ module _ (n room start : ℕ) (s : SleepState) (K : SleepKept n room start s) wh
       self : (u : ℕ) → is u u ≡ 1
       self u = grind (arith, common_steps)
 
-  -- each token is in the queue, or in the hands of one end
+  -- each token is in the queue or is taken by one end
   hands_sum : sum_below (λ t. tokens_in s.waits t) n + sum_below (λ g. in_got (shown (s.waits.phase g))) n ≤ sum_below (λ t. live (s.ends t).out (s.ends t).woken) n
   hands_sum =
       let each = sum_here (λ t. tokens_in s.waits t + sum_below (λ g. holds t (s.ends g).at) n) (λ t. live (s.ends t).out (s.ends t).woken) n (λ t b. its t) in
@@ -247,7 +247,7 @@ module _ (n room start : ℕ) (s : SleepState) (K : SleepKept n room start s) wh
       its : (t : ℕ) → tokens_in s.waits t + sum_below (λ g. holds t (s.ends g).at) n ≡ live (s.ends t).out (s.ends t).woken
       its t = let all = K.tokens t in let left = tokens_left room s.waits t K.waits in omega arith
 
-  -- where an end adds nothing, and there is a cell for each end, there is room
+  -- if there is a cell for each end, there is room for an end that adds nothing
   pub room_left : (e : ℕ) → e < n → n ≤ room → adds (s.ends e) (s.waits.phase e) ≡ 0 → s.waits.upper <ℤ pos room
   room_left e l enough none =
       let h = s.waits.past in

@@ -11,11 +11,11 @@ use Rattle.fak_channel_core.proofs.SleepPlaces.{credit_taken, credit_missed, cre
 abbrev pub an_end : SleepPhase → Bool → Bool → Bool → Bool → SleepEnd
 an_end at out woken cancelled through = record { at = at; out = out; woken = woken; cancelled = cancelled; through = through }
 
--- how an end stands that is known by its parts
+-- what is known of an end that is given by its parts
 pub stands_of : (n room start : ℕ) (s : SleepState) (e : ℕ) (x : SleepEnd) → SleepKept n room start s → s.ends e ≡ x → StandsIn e x (s.waits.phase e)
 stands_of n room start s e x K is_x = subst (λ z. StandsIn e z (s.waits.phase e)) is_x (K.stands e)
 
--- a step that leaves the wait queue alone
+-- a step that does not touch the wait queue
 pub kept_here : (n room start : ℕ) (s : SleepState) (e : ℕ) (x y : SleepEnd) (c : ℤ) (given passed : ℕ) → e < n → SleepKept n room start s → s.ends e ≡ x
     → parks y.at y.out + owes x.at + lacking s.count ≡ parks x.at x.out + owes y.at + lacking c
     → passed + available c + credit y + s.given ≡ s.passed + available s.count + credit x + given
@@ -27,7 +27,7 @@ kept_here n room start s e x y c given passed l K is_x b cr h li st =
     kept_end n room start s e x y c s.waits given passed l K is_x K.waits (λ t ne. refl) (omega arith) (omega arith)
     (λ t ne. let same = h t in omega arith) (let same = h e in omega arith) st
 
--- the facts of two bits
+-- what the bits show
 due_seen : (out woken cancelled : Bool) → out ≡ true → woken ≡ true → cancelled ≡ false → due out woken cancelled ≡ 1
 due_seen out woken cancelled a b c = grind (arith, common_steps)
 
@@ -89,7 +89,7 @@ module _ (n room start : ℕ) (s : SleepState) (e : ℕ) (l : e < n) (K : SleepK
       (λ b. kept_here n room start s e _ (an_end GiveUp o w false t) s.count s.given s.passed l K is_x
       (omega arith) (omega (arith, due_kept o w c st.1, due_unwoken o w false b)) (λ k. refl) refl (st.0, refl, st.2))
 
-  -- of a try, or at a deadline
+  -- by a try, or at a deadline
   pub kept_give_up : (p : SleepPhase) (o w c t : Bool) → s.ends e ≡ an_end p o w c t → parks p o ≡ 0 → owes p ≡ 0 → gives p ≡ 0 → ((k : ℕ) → holds k p ≡ 0) → o ≡ true → c ≡ false → s.waits.phase e ≡ queue.Idle
       → SleepKept n room start (give_up s e (an_end p o w c t))
   kept_give_up p o w c t is_x np nw ng nh is_o is_c idle =

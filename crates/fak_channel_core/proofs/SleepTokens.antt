@@ -1,4 +1,4 @@
--- Tokens in the wait queue, in hands, and of ends that wait.
+-- Tokens in the wait queue, tokens taken by ends, and tokens of ends that wait.
 use Rattle.std.specs.Prelude.{◌≡◌, ℕ, ◌+◌, ◌<◌, ◌≤◌, Bool, true, false}
 use Rattle.fak_core.proofs.Common.{refl, QueueState, arith, common_steps, sum_by}
 use Rattle.std.proofs.lemmas.List.Sums.{sum_by-le-sum_by}
@@ -13,7 +13,7 @@ use Rattle.fak_core.proofs.QueueReached.{legal_history}
 use Rattle.fak_channel_core.specs.SleepMoves.{SleepState}
 use Rattle.fak_channel_core.proofs.SleepKept.{holds, live, is, SleepKept}
 
--- how many tokens of end t the wait queue has
+-- the number of tokens of end t in the wait queue
 pub tokens_in : QueueState ℕ → ℕ → ℕ
 tokens_in w t = sum_by (is t) (contents (history_of w))
 
@@ -24,7 +24,7 @@ tokens_is w t = refl
 is_one : (t x : ℕ) → is t x ≤ 1
 is_one t x = grind (arith, common_steps)
 
--- the tokens put are those taken and those in the queue
+-- the tokens put are the tokens taken plus those in the queue
 pub tokens_left : (room : ℕ) (w : QueueState ℕ) (t : ℕ) → IsKept room w → count (put_of (is t)) w.past ≡ count (got_of (is t)) w.past + tokens_in w t
 unfolding tokens_in
 tokens_left room w t K =
@@ -32,7 +32,7 @@ tokens_left room w t K =
     let p = count_reverse (put_of (is t)) w.past in
     let g = count_reverse (got_of (is t)) w.past in omega arith
 
--- those of one end are among them
+-- the tokens of one end are among all tokens
 pub tokens_among : (room : ℕ) (w : QueueState ℕ) (t : ℕ) → IsKept room w → count gots w.past + tokens_in w t ≤ count puts w.past
 unfolding tokens_in
 tokens_among room w t K =
@@ -47,7 +47,7 @@ tokens_among room w t K =
 live_parts : (out woken : Bool) → 0 < live out woken → (out ≡ true) × (woken ≡ false)
 live_parts out woken l = grind (arith, common_steps)
 
--- a token that an end holds is that of an end that is in use, whose token is out, and which nobody has woken
+-- a token that an end has taken belongs to one of the n ends, with its token out and not woken yet
 pub held_waits : (n room start : ℕ) (s : SleepState) (e t : ℕ) → e < n → SleepKept n room start s → 0 < holds t (s.ends e).at → ((s.ends t).out ≡ true) × ((s.ends t).woken ≡ false)
 held_waits n room start s e t l K h =
     let term = sum_term (λ k. holds t (s.ends k).at) e n l in

@@ -1,4 +1,4 @@
--- Known schedules of channels with one cell and three ends, on either side of the definitions.
+-- Known schedules of channels with one cell and three ends, on both sides of the definitions.
 use Rattle.std.specs.Prelude.{ℕ, true, false, List, [], ◌∷◌, ◌++◌, replicate}
 use Rattle.fak_channel_core.specs.ChannelMoves.{ChannelState}
 use Rattle.fak_channel_core.specs.ChannelSchedule.{ChannelEvent, Sends, Receives, Closes, Expires, Steps, channel_reached}
@@ -7,7 +7,7 @@ use Rattle.fak_channel_core.specs.ChannelSchedule.{ChannelEvent, Sends, Receives
 abbrev pub steps_of : ℕ → ℕ → List (ChannelEvent ℕ)
 steps_of e n = replicate n (Steps e)
 
--- where a schedule of such a channel leads
+-- the state after a schedule of such a channel
 abbrev pub after : List (ChannelEvent ℕ) → ChannelState ℕ
 after events = channel_reached 3 1 3 events
 
@@ -19,7 +19,7 @@ receiver_sleeps = Receives 0 true ∷ steps_of 0 10
 abbrev pub sender_wakes : List (ChannelEvent ℕ)
 sender_wakes = receiver_sleeps ++ Sends 1 true 7 ∷ steps_of 1 21
 
--- the last step of that send, which marks the word of end 0, is left
+-- the same without the last step of that send, which marks the word of end 0
 abbrev pub sender_owes : List (ChannelEvent ℕ)
 sender_owes = receiver_sleeps ++ Sends 1 true 7 ∷ steps_of 1 20
 
@@ -35,22 +35,22 @@ sender_sleeps = Sends 1 true 7 ∷ steps_of 1 12 ++ Sends 2 true 9 ∷ steps_of 
 abbrev pub receiver_wakes : List (ChannelEvent ℕ)
 receiver_wakes = sender_sleeps ++ Receives 0 true ∷ steps_of 0 22
 
--- end 1 closes the empty channel beside the sleeping receiver, which ends
+-- end 0 sleeps in a receive; end 1 closes the empty channel, and end 0 ends
 abbrev pub close_wakes_receiver : List (ChannelEvent ℕ)
 close_wakes_receiver = receiver_sleeps ++ Closes 1 ∷ steps_of 1 16
 
 abbrev pub receiver_is_told : List (ChannelEvent ℕ)
 receiver_is_told = close_wakes_receiver ++ steps_of 0 3
 
--- end 0 closes the full channel beside the sleeping sender
+-- end 2 sleeps in a send; end 0 closes the full channel
 abbrev pub close_wakes_sender : List (ChannelEvent ℕ)
 close_wakes_sender = sender_sleeps ++ Closes 0 ∷ steps_of 0 14
 
--- the deadline of end 0 comes, and its token stays; end 2 sleeps behind it
+-- the deadline of end 0 comes, and its token stays in the wait queue; end 2 sleeps with the token after it
 abbrev pub deadline_comes : List (ChannelEvent ℕ)
 deadline_comes = receiver_sleeps ++ Expires 0 ∷ Receives 2 true ∷ steps_of 2 10
 
--- end 1 sends 7: it takes the token of end 0, and then that of end 2
+-- end 1 sends 7: it takes the token of end 0, and then the token of end 2
 abbrev pub give_is_repeated : List (ChannelEvent ℕ)
 give_is_repeated = deadline_comes ++ Sends 1 true 7 ∷ steps_of 1 31
 
@@ -62,11 +62,11 @@ deadline_is_late = sender_wakes ++ Expires 0 ∷ []
 abbrev pub try_is_refused : List (ChannelEvent ℕ)
 try_is_refused = Receives 0 false ∷ steps_of 0 2
 
--- end 0 receives again by a token that was taken meanwhile
+-- end 0 receives again, with a token that was taken in the meantime
 abbrev pub token_is_gone : List (ChannelEvent ℕ)
 token_is_gone = give_is_repeated ++ Receives 0 true ∷ steps_of 0 2
 
--- end 1 closes the channel while end 0 has the credit of the last item and end 2 sleeps; end 0 takes the item
+-- end 1 closes the channel while end 0 has the credit of the last item and end 2 sleeps; then end 0 takes the item
 abbrev pub last_item_waits : List (ChannelEvent ℕ)
 last_item_waits = Sends 1 true 7 ∷ steps_of 1 12 ++ Receives 0 true ∷ steps_of 0 2 ++ Receives 2 true ∷ steps_of 2 10 ++ Closes 1 ∷ steps_of 1 5
 
@@ -85,14 +85,14 @@ late_claim_wakes = late_claim_waits ++ steps_of 1 15
 abbrev pub second_receiver_wakes : List (ChannelEvent ℕ)
 second_receiver_wakes = receiver_sleeps ++ Receives 2 true ∷ steps_of 2 10 ++ Closes 1 ∷ steps_of 1 16 ++ steps_of 0 15
 
--- ends 2 and 0 sleep beside the full channel; end 1 closes it and wakes end 2, which wakes end 0
+-- ends 2 and 0 sleep while the channel is full; end 1 closes it and wakes end 2, which wakes end 0
 abbrev pub second_sender_waits : List (ChannelEvent ℕ)
 second_sender_waits = sender_sleeps ++ Sends 0 true 5 ∷ steps_of 0 10 ++ Closes 1 ∷ steps_of 1 14
 
 abbrev pub second_sender_wakes : List (ChannelEvent ℕ)
 second_sender_wakes = second_sender_waits ++ steps_of 2 15
 
--- a round in which each of the three ends makes one step, and this many such rounds
+-- a round in which each of the three ends takes one step, and this many such rounds
 abbrev pub round_of_three : List (ChannelEvent ℕ)
 round_of_three = Steps 0 ∷ Steps 1 ∷ Steps 2 ∷ []
 

@@ -1,4 +1,4 @@
--- Rounds of a channel, in which each end makes a step.
+-- Rounds of a channel, in which each end takes a step.
 use Rattle.std.specs.Prelude.{ℕ, ◌≡◌, ◌⊎◌, ◌<◌, Bool, true, List, [], ◌∷◌}
 use Rattle.std.specs.List.{All, Contains}
 use Rattle.fak_core.specs.declared.queue.phase.Phase.TheVariants as queue
@@ -6,41 +6,41 @@ use Rattle.fak_channel_core.specs.SleepMoves.{Sleeping}
 use Rattle.fak_channel_core.specs.ChannelMoves.{ChannelPhase, TakeCell, TakeItem, Look, GiveCell, GiveItem, ChannelState}
 use Rattle.fak_channel_core.specs.ChannelSchedule.{ChannelEvent, Steps, end_of, channel_happens, channel_run}
 
--- only the first n ends have events, and each of them makes a step at least once
+-- only the first n ends have events, and each of them takes at least one step
 pub record IsChannelRound {A : Type 0} (n : ℕ) (vs : List (ChannelEvent A)) : Type 0 where
   pub each : (e : ℕ) → e < n → Contains vs (Steps e)
   pub within : All (λ (v : ChannelEvent A). end_of v < n) vs
 
--- the end has no call of the queue before one of these events, or after the last
+-- the end has no open call on the queue before one of these events, or after the last
 abbrev pub HasEndedOnce : {A : Type 0} → ℕ → ℕ → ℕ → List (ChannelEvent A) → ChannelState A → ℕ → Type 0
 HasEndedOnce n size room [] s e = s.queue.phase e ≡ queue.Idle
 HasEndedOnce n size room (v ∷ vs) s e = (s.queue.phase e ≡ queue.Idle) ⊎ HasEndedOnce n size room vs (channel_happens n size room s v) e
 
--- the end has none at some time within these rounds
+-- the end has no open call on the queue at some time within these rounds
 abbrev pub HasEndedWithin : {A : Type 0} → ℕ → ℕ → ℕ → List (List (ChannelEvent A)) → ChannelState A → ℕ → Type 0
 HasEndedWithin n size room [] s e = s.queue.phase e ≡ queue.Idle
 HasEndedWithin n size room (r ∷ rs) s e = HasEndedOnce n size room r s e ⊎ HasEndedWithin n size room rs (channel_run n size room r s) e
 
 -- ---- a woken call
 
--- a send or a receive sleeps, and was woken
+-- the end sleeps in a send or a receive, and was woken
 abbrev pub WasWoken : {A : Type 0} → ChannelState A → ℕ → Type 0
 WasWoken {A} s e = ((stays : Bool) × (x : A) × (s.at e ≡ TakeCell stays x) × ((s.cells.ends e).at ≡ Sleeping) × ((s.cells.ends e).woken ≡ true))
     ⊎ ((stays : Bool) × (s.at e ≡ TakeItem stays) × ((s.items.ends e).at ≡ Sleeping) × ((s.items.ends e).woken ≡ true))
 
--- the end has inserted its item or was refused as closed, or it has deleted an item or found the channel drained
+-- a send has inserted its item or was refused as closed; a receive has deleted an item or found no item
 abbrev pub IsServed : {A : Type 0} → ChannelPhase A → Type 0
 IsServed (Look stays) = Unit {0}
 IsServed GiveCell = Unit {0}
 IsServed GiveItem = Unit {0}
 IsServed _ = ⊥
 
--- the end stands so before one of these events, or after the last
+-- the end is served before one of these events, or after the last
 abbrev pub IsServedOnce : {A : Type 0} → ℕ → ℕ → ℕ → List (ChannelEvent A) → ChannelState A → ℕ → Type 0
 IsServedOnce n size room [] s e = IsServed (s.at e)
 IsServedOnce n size room (v ∷ vs) s e = IsServed (s.at e) ⊎ IsServedOnce n size room vs (channel_happens n size room s v) e
 
--- it stands so at some time within these rounds
+-- the end is served at some time within these rounds
 abbrev pub IsServedWithin : {A : Type 0} → ℕ → ℕ → ℕ → List (List (ChannelEvent A)) → ChannelState A → ℕ → Type 0
 IsServedWithin n size room [] s e = IsServed (s.at e)
 IsServedWithin n size room (r ∷ rs) s e = IsServedOnce n size room r s e ⊎ IsServedWithin n size room rs (channel_run n size room r s) e

@@ -1,4 +1,4 @@
--- Schedules of a channel whose threads sleep, and the states that they reach.
+-- Schedules of a channel with threads that sleep, and the states that they reach.
 use Rattle.std.specs.Prelude.{ℕ, ◌≡◌, ◌⊎◌, Bool, true, if◌then◌else◌, nat_lt, List, [], ◌∷◌}
 use Rattle.fak_model.specs.declared.queue.Kind.TheVariants.{NoRoom, OverIn, OverOut}
 use Rattle.fak_model.specs.declared.queue.Mark.{Mark}
@@ -10,12 +10,12 @@ use Rattle.fak_core.specs.QueueSchedule.{IsReached, opening as empty_queue}
 use Rattle.fak_channel_core.specs.SleepSchedule.{sleep_opening, IsAsleep}
 use Rattle.fak_channel_core.specs.ChannelMoves.{Idle, TakeCell, TakeItem, Shutting, ChannelState, channel_step, begin_call, expire_in}
 
--- the queue is empty, all cells are free, and nothing has happened
+-- the queue is empty, all cells are free, and no call has begun
 abbrev pub channel_opening : {A : Type 0} → ℕ → ChannelState A
 channel_opening size = record { queue = empty_queue; items = sleep_opening 0; cells = sleep_opening size; at = λ e. Idle }
 
--- what a schedule asks for: an end begins to send an item, to receive or to close, its deadline comes, or it makes its next
--- step; `stays` is false for a try
+-- an event of a schedule: an end begins to send an item, to receive or to close, its deadline comes, or it takes its
+-- next step; `stays` is false for a try
 pub data ChannelEvent (A : Type 0) : Type 0 where
   Sends : (e : ℕ) → (stays : Bool) → (x : A) → ChannelEvent A
   Receives : (e : ℕ) → (stays : Bool) → ChannelEvent A
@@ -31,7 +31,8 @@ end_of (Closes e) = e
 end_of (Expires e) = e
 end_of (Steps e) = e
 
--- the state after an event; an end that isn't idle begins nothing, and one that isn't asleep has no deadline
+-- the state after an event; an end with an open call begins no other, and a deadline changes only a call that sleeps,
+-- or a receive before a pass begins
 abbrev pub channel_event : {A : Type 0} → ℕ → ℕ → ChannelState A → ChannelEvent A → ChannelState A
 channel_event size room s (Sends e stays x) = begin_call s e (TakeCell stays x) (s.at e)
 channel_event size room s (Receives e stays) = begin_call s e (TakeItem stays) (s.at e)
@@ -48,7 +49,7 @@ abbrev pub channel_run : {A : Type 0} → ℕ → ℕ → ℕ → List (ChannelE
 channel_run n size room [] s = s
 channel_run n size room (v ∷ vs) s = channel_run n size room vs (channel_happens n size room s v)
 
--- where a schedule leads: n ends, this many cells, and wait queues with this room
+-- the state after this schedule, with n ends, this many cells, and wait queues with this room
 abbrev pub channel_reached : {A : Type 0} → ℕ → ℕ → ℕ → List (ChannelEvent A) → ChannelState A
 channel_reached n size room vs = channel_run n size room vs (channel_opening size)
 
@@ -63,7 +64,7 @@ ReceiveSleeps s e = (stays : Bool) × (s.at e ≡ TakeItem stays) × IsAsleep (s
 abbrev pub OnlySleepersAreIn : {A : Type 0} → ChannelState A → Type 0
 OnlySleepersAreIn s = (e : ℕ) → (s.at e ≡ Idle) ⊎ (SendSleeps s e ⊎ ReceiveSleeps s e)
 
--- ---- what a channel's queue says
+-- ---- the queue of a channel
 
 -- the end's insertion or deletion is granted, and has not ended
 abbrev pub IsGranted : {A : Type 0} → Phase A → Type 0
@@ -85,7 +86,7 @@ pub record IsClosedAndDrained {A : Type 0} (q : QueueState A) : Type 0 where
   pub empty : contents (history_of q) ≡ []
   pub quiet : (e : ℕ) → IsGranted (q.phase e) → ⊥
 
--- the history has no insertion that found the queue full, and none that claimed too much; nor has it such a deletion
+-- no insertion of the history found the queue full, and no insertion or deletion of it claimed too much
 pub record HasNoOverClaim {A : Type 0} (h : List (Mark A)) : Type 0 where
   pub full : Has NoRoom h → ⊥
   pub over_in : Has OverIn h → ⊥

@@ -1,4 +1,4 @@
--- Schedules of a semaphore whose threads sleep, and the states that they reach.
+-- Schedules of a semaphore with threads that sleep, and the states that they reach.
 use Rattle.std.specs.Prelude.{ℕ, ◌≡◌, ◌⊎◌, pos, true, false, if◌then◌else◌, nat_lt, None, List, [], ◌∷◌}
 use Rattle.fak_core.specs.declared.queue.phase.Phase.{Phase}
 use Rattle.fak_core.specs.declared.queue.phase.Phase.TheVariants as queue
@@ -9,12 +9,12 @@ use Rattle.fak_channel_core.specs.SleepMoves.{Waking, Idle, Sleeping, SleepEnd, 
 abbrev pub fresh_end : SleepEnd
 fresh_end = record { at = Idle; out = false; woken = false; cancelled = false; through = false }
 
--- this many credits, and nothing has happened
+-- this many credits, and no call has begun
 abbrev pub sleep_opening : ℕ → SleepState
 sleep_opening start = record { count = pos start; waits = empty_queue; ends = λ e. fresh_end; given = 0; passed = 0 }
 
--- what a schedule asks for: an end begins a pass, a try or a give, the deadline of a sleeping one comes, or it makes its
--- next step
+-- an event of a schedule: an end begins a pass, a try or a give, the deadline of a sleeping end comes, or an end takes
+-- its next step
 pub data SleepEvent : Type 0 where
   Passes : (e : ℕ) → SleepEvent
   Tries : (e : ℕ) → SleepEvent
@@ -30,7 +30,7 @@ end_of (Gives e) = e
 end_of (Expires e) = e
 end_of (Steps e) = e
 
--- the state after an event; an end that isn't idle begins nothing, and one that isn't asleep has no deadline
+-- the state after an event; an end with an open call begins no other, and an end that is not asleep has no deadline
 abbrev pub sleep_event : ℕ → SleepState → SleepEvent → SleepState
 sleep_event room s (Passes e) = begin_pass s e (s.ends e) true (s.ends e).at
 sleep_event room s (Tries e) = begin_pass s e (s.ends e) false (s.ends e).at
@@ -47,7 +47,7 @@ abbrev pub sleep_run : ℕ → ℕ → List SleepEvent → SleepState → SleepS
 sleep_run n room [] s = s
 sleep_run n room (v ∷ vs) s = sleep_run n room vs (sleep_happens n room s v)
 
--- where a schedule leads: n ends, a wait queue with this room, and this many credits at the start
+-- the state after this schedule, with n ends, a wait queue with this room, and this many credits at the start
 abbrev pub sleep_reached : ℕ → ℕ → ℕ → List SleepEvent → SleepState
 sleep_reached n room start vs = sleep_run n room vs (sleep_opening start)
 
@@ -59,14 +59,14 @@ IsAsleep x = (x.at ≡ Sleeping) × (x.woken ≡ false)
 abbrev pub OnlySleepers : SleepState → Type 0
 OnlySleepers s = (e : ℕ) → ((s.ends e).at ≡ Idle) ⊎ IsAsleep (s.ends e)
 
--- a deletion that is not granted yet, or nothing
+-- no deletion is open, or it has not claimed a token yet
 abbrev pub IsUnclaimed : Phase ℕ → Type 0
 IsUnclaimed queue.Idle = Unit {0}
 IsUnclaimed queue.TestLow = Unit {0}
 IsUnclaimed queue.SubLow = Unit {0}
 IsUnclaimed _ = ⊥
 
--- the end owes a wake, and has claimed no token yet
+-- the end owes a wake, and has not claimed a token yet
 abbrev pub OwesUnclaimed : SleepState → ℕ → Type 0
 OwesUnclaimed s e = ((s.ends e).at ≡ Waking None) × IsUnclaimed (s.waits.phase e)
 

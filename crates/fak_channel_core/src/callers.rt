@@ -1,4 +1,4 @@
-//! Callers of the laws: each cites one, and concludes in other words.
+//! Callers of the laws: each cites one law and concludes something in other words.
 
 ghost use Rattle.std.specs.Prelude.{◌≡◌, ℕ, ◌<◌, ◌+◌, List, length, true};
 ghost use Rattle.fak_model.specs.Queue.{contents};
@@ -9,7 +9,7 @@ ghost use Rattle.fak_channel_core.specs.SleepSchedule.{IsAsleep, OnlySleepers, S
 use crate::laws::channel::nobody_sleeps_beside_work;
 use crate::laws::semaphore::no_wake_up_is_lost;
 
-/// Where only sleepers have open calls and the channel is closed, nobody sleeps.
+/// If only sleepers have open calls and the channel is closed, nobody sleeps.
 pub fn nobody_sleeps_in_a_closed_channel<T>()
     ensures receiver { (n size room e : ℕ) (schedule : List (ChannelEvent T)) → 0 < size → 0 < room
         → OnlySleepersAreIn (channel_reached n size room schedule)
@@ -23,7 +23,8 @@ pub fn nobody_sleeps_in_a_closed_channel<T>()
     nobody_sleeps_beside_work::<T>();
 }
 
-/// Where only sleepers have open calls, no receiver sleeps beside an item, and no sender beside a free cell.
+/// If only sleepers have open calls, no receiver sleeps while there is an item, and no sender while there is a free
+/// cell.
 pub fn an_item_and_a_free_cell_keep_awake<T>()
     ensures receiver { (n size room e : ℕ) (schedule : List (ChannelEvent T)) → 0 < size → 0 < room
         → OnlySleepersAreIn (channel_reached n size room schedule)
@@ -37,7 +38,7 @@ pub fn an_item_and_a_free_cell_keep_awake<T>()
     nobody_sleeps_beside_work::<T>();
 }
 
-/// Where only sleepers have open calls on a semaphore and a credit is left, nobody sleeps.
+/// If only sleepers have open calls on a semaphore and a credit is left, nobody sleeps.
 pub fn a_credit_keeps_awake()
     ensures { (n room start e : ℕ) (schedule : List SleepEvent) → 0 < room
         → OnlySleepers (sleep_reached n room start schedule)

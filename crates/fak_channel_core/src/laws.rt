@@ -1,5 +1,5 @@
-//! The laws of the core, over every schedule: each is the contract of a function with an empty body, and speaks of the
-//! definitions alone.
+//! The laws of the core, for every schedule. Each law is the contract of a function with an empty body; it states
+//! something of the definitions only, not of running code.
 
 pub mod channel;
 pub mod examples;

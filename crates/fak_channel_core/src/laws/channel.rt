@@ -1,4 +1,4 @@
-//! The laws of a channel whose threads sleep, for every number of ends, every size and every schedule.
+//! The laws of a channel with threads that sleep, for every number of ends, every size and every schedule.
 
 ghost use Rattle.std.specs.Prelude.{◌*◌, ◌+◌, min, ◌≤◌, ◌≡◌, ℕ, ◌<◌, List, [], length, false, true, Bool};
 ghost use Rattle.std.specs.List.{All};
@@ -10,8 +10,8 @@ ghost use Rattle.fak_channel_core.specs.ChannelRounds.{HasEndedWithin, IsChannel
 ghost use Rattle.fak_channel_core.specs.ChannelSchedule.{AreReached, ChannelEvent, HasNoOverClaim, IsClosedAndDrained, OnlySleepersAreIn, ReceiveSleeps, SendSleeps, channel_reached};
 ghost use Rattle.fak_channel_core.specs.SleepMoves.{Sleeping};
 
-/// No wake-up is lost. Where only sleepers have open calls, a receiver sleeps only if the queue is empty and not shut, and
-/// a sender only if the queue is full and not shut.
+/// No wake-up is lost. If only sleepers have open calls, a receiver sleeps only if the queue is empty and not shut; a
+/// sender sleeps only if the queue is full and not shut.
 pub fn nobody_sleeps_beside_work<T>()
     ensures receiver { (n size room e : ℕ) (schedule : List (ChannelEvent T)) → 0 < size → 0 < room
         → OnlySleepersAreIn (channel_reached n size room schedule) → ReceiveSleeps (channel_reached n size room schedule) e
@@ -23,7 +23,7 @@ pub fn nobody_sleeps_beside_work<T>()
         × ((channel_reached n size room schedule).queue.shut ≡ false) }
 {}
 
-/// The queue and both wait queues are reached states of the queue core, so its laws hold of them.
+/// The queue and both wait queues are reached states of the queue core, so its laws apply to them.
 pub fn each_queue_of_a_channel_is_reached<T>()
     ensures { (n size room : ℕ) (schedule : List (ChannelEvent T))
         → AreReached size room (channel_reached n size room schedule) }
@@ -35,14 +35,14 @@ pub fn every_channel_schedule_is_legal<T>()
         → IsQueueHistory size (history_of (channel_reached n size room schedule).queue) }
 {}
 
-/// Who has passed is not refused by an over-claim: no insertion finds the queue full, and no insertion or deletion claims
-/// too much.
+/// An end that has passed is not refused by an over-claim: no insertion finds the queue full, and no insertion or deletion
+/// claims too much.
 pub fn a_credit_is_good<T>()
     ensures { (n size room : ℕ) (schedule : List (ChannelEvent T)) → 0 < size → 0 < room
         → HasNoOverClaim (history_of (channel_reached n size room schedule).queue) }
 {}
 
-/// A receive that has passed and finds no item finds the channel closed and drained: the queue is shut and empty, and no
+/// If a receive has passed and finds no item, the channel is closed and drained: the queue is shut and empty, and no
 /// granted insertion or deletion is open.
 pub fn only_a_drained_channel_has_no_item<T>()
     ensures { (n size room e : ℕ) (stays : Bool) (schedule : List (ChannelEvent T)) → 0 < size → 0 < room
@@ -50,7 +50,7 @@ pub fn only_a_drained_channel_has_no_item<T>()
         → IsClosedAndDrained (channel_reached n size room schedule).queue }
 {}
 
-/// An end that was woken goes on at its next step, in any state.
+/// The next step of an end that was woken ends its pass, in any state.
 pub fn a_woken_end_goes_on<T>()
     ensures sender { (size room e : ℕ) (s : ChannelState T) (stays : Bool) (x : T) → s.at e ≡ TakeCell stays x
         → (s.cells.ends e).at ≡ Sleeping → (s.cells.ends e).woken ≡ true
@@ -60,8 +60,8 @@ pub fn a_woken_end_goes_on<T>()
         → (channel_step size room s e).at e ≡ Delete stays }
 {}
 
-/// A channel never locks up: while an end's call is open and it is not asleep, some end's next step moves its own call
-/// forward. The wait queues need a cell for each end: then no token finds its wait queue full.
+/// A channel never locks up: while some call is open and its end is not asleep, some end's next step moves that end's
+/// call forward. The wait queues need a cell for each end: then no token finds its wait queue full.
 pub fn a_channel_never_locks_up<T>()
     ensures { (n size room e : ℕ) (schedule : List (ChannelEvent T)) → 0 < size → 0 < room → n ≤ room
         → ((channel_reached n size room schedule).at e ≡ Idle → ⊥)
@@ -70,17 +70,17 @@ pub fn a_channel_never_locks_up<T>()
         → SomeEndMoves n size room (channel_reached n size room schedule) }
 {}
 
-/// Each call of the queue by an end ends, even while new calls keep beginning. In a round each of the n ends steps at least
-/// once, in any order: after 3 min(size, n) + 4 such rounds each insertion or deletion that was open has ended.
+/// Each call on the queue ends, even while new calls keep beginning. In a round each of the n ends steps at least once,
+/// in any order. After 3 min(size, n) + 4 such rounds each insertion, deletion or shut that was open has ended.
 pub fn every_call_of_the_queue_ends<T>()
     ensures { (n size room e : ℕ) (schedule : List (ChannelEvent T)) (rounds : List (List (ChannelEvent T))) → 0 < size
         → 0 < room → All (IsChannelRound n) rounds → 3 * min size n + 4 ≤ length rounds
         → HasEndedWithin n size room rounds (channel_reached n size room schedule) e }
 {}
 
-/// A call that was woken is soon served, even while new calls keep beginning: after 3 min(size, n) + 6 rounds in which each
-/// of the n ends steps, a send has inserted its item or was refused as closed, and a receive has deleted an item or found
-/// the channel drained.
+/// A woken call is served within 3 min(size, n) + 6 rounds in which each of the n ends steps, even while new calls
+/// begin. A send is served when it has inserted its item or was refused as closed. A receive is served when it has
+/// deleted an item or found the channel drained.
 pub fn a_woken_call_is_served<T>()
     ensures { (n size room e : ℕ) (schedule : List (ChannelEvent T)) (rounds : List (List (ChannelEvent T))) → 0 < size
         → 0 < room → WasWoken (channel_reached n size room schedule) e → All (IsChannelRound n) rounds

@@ -1,4 +1,4 @@
-//! Known schedules on either side of the definitions.
+//! Known schedules on both sides of the definitions.
 
 ghost use Rattle.std.specs.Prelude.{ℕ, ◌≡◌, ◌∷◌, [], ◌++◌, true, false, negsuc, pos};
 ghost use Rattle.fak_model.specs.Queue.{contents};
@@ -10,8 +10,8 @@ ghost use Rattle.fak_channel_core.specs.ChannelRounds.{IsChannelRound, IsServedW
 ghost use Rattle.fak_channel_core.specs.ChannelSchedule.{Closes, OnlySleepersAreIn, ReceiveSleeps, Receives, SendSleeps, Steps};
 ghost use Rattle.fak_channel_core.specs.SleepMoves.{Down};
 
-/// A receiver sleeps on the empty channel, and only sleepers have open calls. A send wakes it, and it takes the item. Before
-/// the last step of that send the receiver is asleep beside the item, but the sender's call is open.
+/// A receiver sleeps on the empty channel, and only sleepers have open calls. A send wakes it, and it takes the item.
+/// Before the last step of that send the receiver is asleep although there is an item, but the sender's call is open.
 pub fn a_send_wakes_a_receiver()
     ensures sleeps { ReceiveSleeps (after receiver_sleeps) 0 }
     ensures rest { OnlySleepersAreIn (after receiver_sleeps) }
@@ -25,7 +25,7 @@ pub fn a_send_wakes_a_receiver()
     ensures ends { ((after receiver_ends).at 0 ≡ Idle) × (contents (history_of (after receiver_ends).queue) ≡ []) }
 {}
 
-/// A sender sleeps beside the full channel, and a receive wakes it.
+/// A sender sleeps while the channel is full, and a receive wakes it.
 pub fn a_receive_wakes_a_sender()
     ensures sleeps { SendSleeps (after sender_sleeps) 2 }
     ensures full { contents (history_of (after sender_sleeps).queue) ≡ 7 ∷ [] }
@@ -33,7 +33,7 @@ pub fn a_receive_wakes_a_sender()
     ensures awake { SendSleeps (after receiver_wakes) 2 → ⊥ }
 {}
 
-/// A close wakes a receiver of an empty channel, which finds it drained, and a sender beside a full one.
+/// A close wakes a receiver of an empty channel, which finds it drained, and a sender of a full one.
 pub fn a_close_wakes_either_side()
     ensures receiver { ReceiveSleeps (after close_wakes_receiver) 0 → ⊥ }
     ensures closer { ((after close_wakes_receiver).at 1 ≡ Idle) × ((after close_wakes_receiver).queue.shut ≡ true) }
@@ -44,8 +44,8 @@ pub fn a_close_wakes_either_side()
     ensures sender { SendSleeps (after close_wakes_sender) 2 → ⊥ }
 {}
 
-/// A deadline ends a receive and leaves its token. A send that takes this token wakes the receiver behind it. A deadline
-/// that comes after the wake changes nothing: the receive goes on.
+/// A deadline ends a receive and leaves its token in the wait queue. A send that takes this token then takes the next
+/// one and wakes its receiver. A deadline that comes after the wake changes nothing: the receive goes on.
 pub fn a_deadline_loses_no_wake_up()
     ensures out { ((after deadline_comes).at 0 ≡ Idle) × (((after deadline_comes).items.ends 0).out ≡ true) }
     ensures sleeps { ReceiveSleeps (after deadline_comes) 2 }
@@ -56,8 +56,8 @@ pub fn a_deadline_loses_no_wake_up()
     ensures refused { ((after try_is_refused).at 0 ≡ Idle) × ((after try_is_refused).items.count ≡ pos 0) }
 {}
 
-/// Where a shut queue is drained later, by the last deletion or by the withdrawal of a claim that came too late, this wakes
-/// a receiver.
+/// A shut queue may be drained only later, by the last deletion or by the withdrawal of a claim that came too late.
+/// That call then wakes a receiver.
 pub fn a_drained_queue_wakes_a_receiver()
     ensures waits { ReceiveSleeps (after last_item_waits) 2 }
     ensures wakes { ((after last_item_wakes).at 0 ≡ Idle) × (((after last_item_wakes).items.ends 2).woken ≡ true) }
@@ -66,7 +66,7 @@ pub fn a_drained_queue_wakes_a_receiver()
         × (((after late_claim_wakes).items.ends 2).woken ≡ true) }
 {}
 
-/// Of several sleepers a close wakes the first, and each wakes the next.
+/// If there are several sleepers, a close wakes the first one, and each wakes the next.
 pub fn each_that_is_told_wakes_the_next()
     ensures receivers { ((after second_receiver_wakes).at 0 ≡ Idle)
         × (((after second_receiver_wakes).items.ends 2).woken ≡ true) }
@@ -75,8 +75,8 @@ pub fn each_that_is_told_wakes_the_next()
         × (((after second_sender_wakes).cells.ends 0).woken ≡ true) }
 {}
 
-/// A sleeper's step moves nothing until it is woken, and nothing does that of an end without a call. While the sender owes
-/// a wake its step moves its call.
+/// A sleeper's step moves nothing until it is woken, and neither does that of an end without a call. While the sender
+/// owes a wake, its step moves its call forward.
 pub fn the_ends_that_move_are_judged()
     ensures asleep { CallMoves 1 3 (after receiver_sleeps) 0 ((after receiver_sleeps).at 0) → ⊥ }
     ensures idle { CallMoves 1 3 (after receiver_sleeps) 1 ((after receiver_sleeps).at 1) → ⊥ }
@@ -86,8 +86,8 @@ pub fn the_ends_that_move_are_judged()
     ensures among { SomeEndMoves 2 1 3 (after sender_owes) }
 {}
 
-/// In a round each end steps, and no other end does anything. A woken receive of a channel with one cell may need all of
-/// the nine rounds that the law allows: after eight it is not served.
+/// In a round each of the given ends steps, and no other end does anything. A woken receive of a channel with one cell
+/// may need all of the nine rounds that the law allows: after eight rounds it is not served.
 pub fn the_rounds_of_a_channel_are_judged()
     ensures round { IsChannelRound {A = ℕ} 2 (Steps 1 ∷ Receives 0 true ∷ Steps 0 ∷ []) }
     ensures each { IsChannelRound {A = ℕ} 2 (Steps 0 ∷ []) → ⊥ }

@@ -4,7 +4,7 @@ use Rattle.fak_channel_core.specs.ChannelExamples.{after, sender_owes}
 use Rattle.fak_channel_core.specs.ChannelProgress.{CallMoves}
 use Rattle.fak_channel_core.proofs.laws.examples.the_ends_that_move_are_judged.Goals as goal
 
--- the only number below 1
+-- 0 is the only number below 1
 below_one : (t : ℕ) → t < 1 → t ≡ 0
 below_one t l = omega arith
 
