@@ -4,7 +4,7 @@ use Rattle.fak_run.proofs.Sums.{sum_by-map, sum_by_plus, sum_by-zeros}
 use Rattle.fak_run.proofs.Conserved.{conserved, grown, fresh}
 use Rattle.fak_model.proofs.RoomRefusals.{refused_at_bound, granted_fit}
 
--- one note more names one child more, where the step names one
+-- one more note names one more child, if the step with it names one
 children_push : (g : NameAndProgram → ℕ) (files n : ℕ) (name : List ℕ) (steps : List StepOf) (notes : List NoteOf) (step : StepOf) (note : NoteOf)
     → FitsFrom files n steps notes → slice_get steps (length notes) ≡ Some step
     → sum_by g (children_from name steps (notes ++ note ∷ [])) ≡ sum_by g (children_from name steps notes) + sum_by g (child name step note)
@@ -19,12 +19,12 @@ pub children_grow : (g : NameAndProgram → ℕ) (script : ScriptOf) (m : Made) 
     → sum_by g (children_of script (after_made m)) ≡ sum_by g (children_of script m.before) + sum_by g (child m.before.name m.step m.note)
 children_grow g script m is = children_push g script.files 0 m.before.name (steps_of script m.before.program) m.before.journal m.step m.note is.fits.fits (subst (λ k. slice_get (steps_of script m.before.program) k ≡ Some m.step) is.fits.position is.stands)
 
--- a step begins as many children as its note says
+-- a step begins as many children as its note states
 child_count_is : (files n : ℕ) (name : List ℕ) (step : StepOf) (note : NoteOf) → Allows files n step note → sum_by (λ (c : NameAndProgram). 1) (child name step note) ≡ births_of note
 child_count_is files n name step note ok = grind (arith, common_steps, sum_by, child, births_of)
 
 module _ {script : ScriptOf} {seats : ℕ} {h : Histories} {l : Ledger} (g : Gathered script seats h l) where
-  -- rows and sleepers are those that were begun or spawned
+  -- rows and sleepers have the same names as the processes that were started or spawned
   pub names_alike : (w : NameAndProgram → ℕ) → sum_by (λ (r : RowOf). w (named r.process)) l.rows + sum_by (λ (p : Process). w (named p)) (asleep h.waits (length script.semaphores))
       ≡ sum_by w (begun_names 0 script.start) + (sum_by (λ (r : RowOf). sum_by w (children_of script r.process)) l.rows + sum_by (λ (p : Process). sum_by w (children_of script p)) (asleep h.waits (length script.semaphores)))
   names_alike w =
@@ -37,7 +37,7 @@ module _ {script : ScriptOf} {seats : ℕ} {h : Histories} {l : Ledger} (g : Gat
       no_children : (name : List ℕ) (steps : List StepOf) (notes : List NoteOf) → length notes ≡ 0 → sum_by w (children_from name steps notes) ≡ 0
       no_children name steps notes e = grind (arith, common_steps, notes, length, sum_by, children_from)
 
-  -- as many are spawned as the bound says, at most
+  -- at most as many children are spawned as the bound allows
   pub births_fit : notes births_of l ≤ script.births
   births_fit =
       let fit = granted_fit script.births seats h.births g.births_lawful g.births_named in
@@ -45,11 +45,11 @@ module _ {script : ScriptOf} {seats : ℕ} {h : Histories} {l : Ledger} (g : Gat
       let releases = g.births release_amount in
       omega (arith, fit, ups, releases, g.balanced.births.ups, g.balanced.births.releases)
 
-  -- a birth is refused only where as many were claimed as the bound says
+  -- a birth is refused only if as many were claimed as the bound allows
   pub no_birth_at_bound : 0 < notes no_births_of l → script.births ≤ notes births_of l + notes no_slots_of l
   no_birth_at_bound some = grind (arith, common_steps, refusal_of, other_amount, up_amount, refused_at_bound)
 
-  -- the spawned processes are as many as the notes that say so
+  -- there are as many spawned processes as notes of births
   pub spawned_are : sum_by (λ (p : Process). 1) l.born ≡ notes births_of l
   spawned_are =
       let named_so = g.balanced.children (λ (c : NameAndProgram). 1) in

@@ -1,4 +1,4 @@
--- The names that proofs cite most, passed on from one place. Declares nothing.
+-- The names that proofs cite most, re-exported from one place. Declares nothing.
 pub use Rattle.fak_files.specs.Calls.{FileSeatInfo, LeavesMarks, amount_for, AreRefused, IsWaitedFor, IsGot, entries_after, IsSet, IsEnded}
 pub use Rattle.fak_files.specs.Shown.{mark}
 pub use Rattle.fak_files.specs.Versions.{entry_of, is_take, is_take_of, prefix_through_take, marks_since_take, back_from_take, own_since_take}

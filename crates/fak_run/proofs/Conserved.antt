@@ -10,11 +10,11 @@ module _ {script : ScriptOf} {seats : ℕ} {h : Histories} {l : Ledger} (g : Gat
   started : length l.begun ≡ length script.start
   started = sym (length-map l.begun named) ∙ (ap length g.begun ∙ length-begun 0 script.start)
 
-  -- by counts alone: each processor's last value of busy is 0
+  -- by counts only: the last value of busy that each processor observed is 0
   pub ready_is_empty : contents h.ready ≡ []
   ready_is_empty = grind (arith, common_steps, put_of, got_of, puts_weigh, gots_weigh_one, credit_weight, debit_weight, sum_by-ones, nothing_left, started)
 
-  -- what is put in the wait queues is got, or sleeps
+  -- a process that is put into a wait queue is got from it, or sleeps at the end
   pub asleep_weighs : (f : Process → ℕ) (k : ℕ) → k ≤ length script.semaphores → waiting (put_of f) k l ≡ waiting (got_of f) k l + sum_by f (asleep h.waits k)
   asleep_weighs f zero le = refl
   asleep_weighs f (suc k) le =
@@ -35,16 +35,16 @@ module _ {script : ScriptOf} {seats : ℕ} {h : Histories} {l : Ledger} (g : Gat
       let none = ap (sum_by f) ready_is_empty in
       omega (arith, all, put, got, weighs, none, asleep_weighs f (length script.semaphores) (omega arith))
 
-  -- where each step adds e to f
+  -- if each step adds e to f
   pub grown : (f : Process → ℕ) (e : Made → ℕ) → ((m : Made) → IsMade script m → f (after_made m) ≡ f m.before + e m)
       → sum_by (λ (r : RowOf). f r.process) l.rows + sum_by f (asleep h.waits (length script.semaphores)) ≡ sum_by f l.begun + sum_by f l.born + sum_by e l.made
   grown f e each = omega (arith, conserved f, sum_by_plus (IsMade script) (λ (m : Made). f m.before) e (λ (m : Made). f (after_made m)) each l.made g.balanced.made)
 
-  -- what weighs nothing where no step was made
+  -- a weight that is 0 for a process without steps
   pub fresh : (f : Process → ℕ) → ((p : Process) → length p.journal ≡ 0 → f p ≡ 0) → (sum_by f l.begun ≡ 0) × (sum_by f l.born ≡ 0)
   fresh f none = grind (arith, common_steps, sum_by_nothing, length)
 
-  -- each line that was made stands in a row, or with one who sleeps, once
+  -- each line occurs once, in a row or with a process that sleeps
   pub lines_are : (w : NoteOf → ℕ) → lines w l.rows + lines_of w (asleep h.waits (length script.semaphores)) ≡ notes w l
   lines_are w =
       let f : Process → ℕ = λ (p : Process). sum_by w p.journal in

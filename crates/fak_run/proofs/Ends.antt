@@ -1,4 +1,4 @@
--- The list scheduler ends in one way.
+-- The list scheduler ends in only one way.
 use Rattle.fak_run.proofs.Common.{◌≡◌, ℕ, zero, suc, ◌≤◌, ◌⊎◌, [], arith, ap, sym, ◌∙◌, inl, inr, Lists, State, turn_over, take_front, step, steps, opening, EndsIn, common_steps}
 use Rattle.fak_text.specs.Script.{ScriptOf}
 
@@ -6,11 +6,11 @@ use Rattle.fak_text.specs.Script.{ScriptOf}
 step-still : (script : ScriptOf) (l : Lists) → l.ready ≡ [] → step script (turn_over l) ≡ turn_over l
 step-still script l still = ap (take_front l) still
 
--- cases on the last of some steps
+-- a number up to suc m is suc m or up to m
 same_or_before : (n m : ℕ) → n ≤ suc m → (n ≡ suc m) ⊎ (n ≤ m)
 same_or_before n m le = grind arith
 
--- cases on which number is less
+-- of two numbers, one is at most the other
 before_or_behind : (n m : ℕ) → (n ≤ m) ⊎ (m ≤ n)
 before_or_behind n m = grind arith
 
@@ -22,11 +22,11 @@ steps-still script s n still (suc m) le = elim (same_or_before n m le) [
   | inr before ↦ ap (step script) (steps-still script s n still m before) ∙ still
 ]
 
--- of two ends, the later one is the earlier one
+-- of two ends, the later one equals the earlier one
 later : (script : ScriptOf) (a b : Lists) (n m : ℕ) → turn_over a ≡ steps n script (opening script) → a.ready ≡ [] → turn_over b ≡ steps m script (opening script) → n ≤ m → b ≡ a
 later script a b n m reached still then le = grind (arith, common_steps, step, steps, opening, step-still, steps-still)
 
--- two ends are one
+-- two ends are equal
 pub ends_alike : (script : ScriptOf) (a b : Lists) → EndsIn script a → EndsIn script b → a ≡ b
 ends_alike script a b one other = elim (before_or_behind one.count other.count) [
   | inl before ↦ sym (later script a b one.count other.count one.reached one.still other.reached before)

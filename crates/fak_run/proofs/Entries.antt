@@ -1,9 +1,9 @@
--- The entries after one mark more.
+-- The entries after one more mark.
 use Rattle.fak_run.proofs.Common.{◌≡◌, ◌≢◌, ℕ, zero, suc, ◌+◌, ◌<◌, ◌==◌, true, false, List, [], ◌∷◌, ◌++◌, refl, ap, sym, ◌∙◌, subst, arith, nat_tests, field, field_after, FileEntry, FileField, Inode, Uses, Set, FileMark, with_field, set_in, common_steps}
 use Rattle.fak_files.proofs.Common.{entry_of, entries_after}
 use Rattle.fak_files.proofs.WordPlaces.{field-push}
 
--- the fields of an entry make it
+-- an entry is given by its fields
 entry_by : (i u j v : ℕ) → i ≡ j → u ≡ v → ◌≡◌ {A = FileEntry} (record { inode = i; uses = u }) (record { inode = j; uses = v })
 entry_by i u j v e f = λ t. record { inode = e t; uses = f t }
 

@@ -1,4 +1,4 @@
--- Where a file table has the entry of an inode.
+-- The place of an inode's entry in a file table.
 use Rattle.fak_run.proofs.Common.{◌≡◌, ◌≢◌, ℕ, ◌+◌, ◌-◌, ◌<◌, ◌==◌, true, false, nat_lt, List, [], ◌∷◌, ◌++◌, length, refl, arith, All, All-head, All-tail, slice_get, slice_set, Some, None, nat_tests, FileEntry, used, free_entry, first_entry, open_change, close_change, lowered, uses_of}
 use Rattle.std.specs.Prelude.{not}
 use Rattle.std.specs.List.{prefix_len}
@@ -39,7 +39,7 @@ passed_all inode (e ∷ entries) others =
     let rest = passed_all inode entries (All-tail (IsOther inode) e entries others) in
     rw t (omega (arith, rest))
 
--- it is the first of its inode
+-- the entry is the first one of its inode
 found : (inode : ℕ) (before after : List FileEntry) (e : FileEntry) → AreOthers inode before → e.inode ≡ inode → first_entry (before ++ e ∷ after) inode ≡ Some (length before)
 found inode before after e others its =
     let p = passed inode before after e others its in

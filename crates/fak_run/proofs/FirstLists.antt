@@ -1,4 +1,4 @@
--- What stands where in the first lists.
+-- The elements of the first lists, by place.
 use Rattle.fak_run.proofs.Common.{◌≡◌, ℕ, zero, suc, ◌+◌, ◌<◌, List, [], ◌∷◌, length, map, refl, ap, arith, slice_get, slice_index_or, Option, Some, Process, new_process, begun_from, numbers_from, FileEntry, common_steps}
 use Rattle.std.specs.Prelude.{replicate}
 

@@ -1,8 +1,8 @@
--- What is known of a process of a run, with one note more and with one less.
+-- What is known of a process of a run, after one more note and before its last one.
 use Rattle.fak_run.proofs.Common.{◌≡◌, ℕ, ◌+◌, ◌≤◌, List, [], ◌∷◌, ◌++◌, length, arith, subst, ap, ◌∙◌, refl, ScriptOf, StepOf, say, steps_of, NoteOf, downed, said, spawned, Process, FitsFrom, StandsAt, Allows, after_note, births_of, child_count, child_count-append, length-push, note_fits, common_steps}
 use Rattle.fak_run.specs.Contexts.{IsContext, IsAsleep, unnoted}
 
--- what is known of a process of a run, with one note more
+-- what is known of a process of a run, after one more note
 pub IsContext-after_note : (script : ScriptOf) (children : ℕ) (p : Process) (step : StepOf) (note : NoteOf)
     → IsContext script children p
     → StandsAt script p step
@@ -10,24 +10,24 @@ pub IsContext-after_note : (script : ScriptOf) (children : ℕ) (p : Process) (s
     → IsContext script (children + births_of note) (after_note p note)
 IsContext-after_note script children p step note known at ok = grind (arith, common_steps, note_fits, child_count-append)
 
--- the same where a text was said
+-- the same, if a text was said
 pub IsContext-said : (script : ScriptOf) (children : ℕ) (p : Process) (text : List ℕ) → IsContext script children p → StandsAt script p (say text) → IsContext script children (after_note p (said text))
 IsContext-said script children p text known at = record {
   fits = note_fits script p (say text) (said text) known.fits at refl;
   children_are = omega (arith, known.children_are, child_count-append p.journal (said text ∷ []));
 }
 
--- a process has no more children than notes
+-- a process has at most as many children as notes
 child_count-least : (notes : List NoteOf) → child_count notes ≤ length notes
 child_count-least [] = omega arith
 child_count-least (spawned _ ∷ notes) = omega (arith, child_count-least notes)
 child_count-least (_ ∷ notes) = omega (arith, child_count-least notes)
 
--- a process has no more children than steps made
+-- a process has at most as many children as steps taken
 pub children-position : (script : ScriptOf) (children : ℕ) (p : Process) → IsContext script children p → children ≤ p.position
 children-position script children p known = omega (arith, known.children_are, known.fits.position, child_count-least p.journal)
 
--- one note less
+-- without its last notes
 FitsFrom-front : (files n : ℕ) (steps : List StepOf) (notes rest : List NoteOf) → FitsFrom files n steps (notes ++ rest) → FitsFrom files n steps notes
 FitsFrom-front files n steps [] rest f = tt
 FitsFrom-front files n [] (m ∷ ms) rest f = f

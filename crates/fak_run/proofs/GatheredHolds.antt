@@ -14,7 +14,7 @@ gather_none f first (suc n) none =
     let rest : gather_from f (suc first) n ≡ [] = gather_none f (suc first) n (λ s high. none s (omega (arith, high))) in
     (λ t. none first (omega arith) t ++ rest t)
 
--- the first of one seat's list stands before all others
+-- the first element of one seat's list may be taken as the first of all
 pub gather_first : {A : Type 0} (f g : ℕ → List A) (x : A) (at first n : ℕ) → first ≤ at → at < first + n → f at ≡ x ∷ g at → ((s : ℕ) → s ≢ at → f s ≡ g s)
     → IsPermutation (gather_from f first n) (x ∷ gather_from g first n)
 gather_first f g x at first zero low high is others = absurd (omega (arith, low, high))

@@ -1,4 +1,4 @@
--- What a seat knows of its hold: from the calls of one hold to its line.
+-- What a seat knows of its hold: from the calls of one hold to the line of that hold.
 use Rattle.fak_run.proofs.Common.{◌≡◌, ◌⊎◌, ℕ, ◌==◌, Bool, true, false, cond, List, [], ◌∷◌, ◌++◌, Some, refl, ap, sym, ◌∙◌, subst, arith, inl, inr, append_assoc, map, filter, flat_map, nat_tests, All-head, All-tail, All-push, filter-append, flat_map-append, AreNamed, words_by, Setting, set_mark, WholeCall, Refused, Withdrawn, kinds_of_call, seat_of, kind_of, file_rules, IsFileHistory, ObjectId, SeatInfo, seat_info, last_of, Begins, marks_of, FileEntry, FileKind, Take, Over, Back, No, Give, FileMark, history_none, FileSeatInfo, LeavesMarks, amount_for, AreRefused, IsWaitedFor, IsGot, entries_after, set_all, IsFitHold, is_of_hold, held_kinds, kinds_of_hold, reads_from, reads_of, hold_line, read_of, AreHolds, common_steps, Access, mark, entry_of, is_take, is_take_of, prefix_through_take, marks_since_take, Steps, Left, HasJustTaken, HasMade, AreLines}
 use Rattle.std.proofs.lemmas.List.{append-nil, map-append}
 use Rattle.fak_model.proofs.Seats.{marks_of_append}
@@ -31,7 +31,7 @@ last_append [] m g = refl
 last_append (x ∷ []) m g = refl
 last_append (x ∷ y ∷ f) m g = last_append (y ∷ f) m g
 
--- a list by its last item
+-- a list, split at its last item
 last_split : {A : Type 0} (h : List A) (m : A) → last_of h ≡ Some m → (front : List A) × (h ≡ front ++ m ∷ [])
 last_split [] m e = absurd cc
 last_split (x ∷ []) m e = let is : x ≡ m = cc in ([], λ i. is i ∷ [])
@@ -75,7 +75,7 @@ words-left ks a b l =
 pub held-left : (ks : List FileKind) (a b : SeatInfo FileMark) → Left ks a b → held_kinds a.name b.seen ≡ held_kinds a.name a.seen ++ filter is_of_hold ks
 held-left ks a b l = ap (filter is_of_hold) (words-left ks a b l) ∙ filter-append is_of_hold (words_by seat_of kind_of a.name a.seen) ks
 
--- the marks that were seen since
+-- the seat's own marks among those that it has seen since
 rest_marks : (ks : List FileKind) (a b : SeatInfo FileMark) → (l : Left ks a b) → marks_of seat_of a.name l.begins.0 ≡ map (mark a.name) ks
 rest_marks ks a b l = same_rest (marks_of seat_of a.name a.seen) (marks_of seat_of a.name l.begins.0) (map (mark a.name) ks) (sym (marks_of_append seat_of a.name a.seen l.begins.0) ∙ (ap (marks_of seat_of a.name) l.begins.1 ∙ l.mine))
 
@@ -90,7 +90,7 @@ left_of ks a b l = grind (arith, common_steps, marks_of, seat_of, map, mark)
 pub begins_then : (f g h : List FileMark) → Begins f g → Begins g h → Begins f h
 begins_then f g h a b = (a.0 ++ b.0, sym (append_assoc f a.0 b.0) ∙ (ap (λ l. l ++ b.0) a.1 ∙ b.1))
 
--- one part of a hold and then another
+-- one part of a hold, and then another
 pub left_then : (ks js : List FileKind) (a b c : SeatInfo FileMark) → Left ks a b → Left js b c → Left (ks ++ js) a c
 left_then ks js a b c x y = grind (arith, common_steps, marks_of, seat_of, map, mark, begins_then, append_assoc, map-append)
 
@@ -106,7 +106,7 @@ refused-none test nos over back n (c ∷ tries) are =
     one : (c : WholeCall) → (c ≡ Refused n) ⊎ (c ≡ Withdrawn n) → filter test (kinds_of_call c) ≡ []
     one c f = grind (arith, common_steps, filter, kinds_of_call)
 
--- a seat that has just taken its hold
+-- a seat that has just taken its hold, after any number of refused tries
 pub record IsTaken (n a : ℕ) (old now : SeatInfo FileMark) : Type 0 where
   pub same_seat : now ≡ record old { seen = now.seen }
   pub kinds : held_kinds old.name now.seen ≡ held_kinds old.name old.seen ++ Take a ∷ []
@@ -168,7 +168,7 @@ taken_of n access old now w =
 
 -- ---- what is read in the hold
 
--- an entry is read before the seat sets a field
+-- an entry that is read before the seat sets a field
 pub got_of : (i : ℕ) (old now next : FileSeatInfo) (answer : FileEntry) → HasJustTaken old.seat → Left [] old.seat now.seat → IsGot i now next answer → (answer ≡ entry_of old.seat.seen i) × Left [] old.seat next.seat
 got_of i old now next answer just l got =
     let name : now.seat.name ≡ old.seat.name = ap (λ (s : SeatInfo FileMark). s.name) l.same_seat in
@@ -222,7 +222,7 @@ left_none a = record { same_seat = refl; begins = ([], append-nil a.seen); mine 
 
 -- ---- the lines of a seat
 
--- one line more
+-- one more line
 pub lines_more : (n : ℕ) (lines : List NoteOf) (line : NoteOf) (a b : SeatInfo FileMark) → AreLines n lines a → HasMade n line a b → AreLines n (lines ++ line ∷ []) b
 lines_more n lines line a b x y =
     let seat : b ≡ record a { seen = b.seen } = y.same_seat in

@@ -1,4 +1,4 @@
--- Ledgers one after the other.
+-- One ledger followed by another.
 use Rattle.fak_run.proofs.Common.{◌≡◌, ℕ, ◌+◌, List, ◌++◌, length, ◌∙◌, arith, sum_by, sum_by-append, All-append, up_amount, release_amount, debit_weight, credit_weight, put_of, got_of, close_of, closed_of, refusal_of, other_amount, ScriptOf, NoteOf, Process, births_of, RowOf, Ledger, Made, Balanced, named, child, after_made, IsMade, FitsRow, joined, waiting, notes, downs_of, ups_of, shuts_of, no_births_of, no_slots_of, ended_slot, stuck_of, halted_of, not_before, before_down, common_steps, Kind, sum_same, sum_plus}
 
 pub waiting-joined : (w : Kind Process → ℕ) (n : ℕ) (a b : Ledger) → waiting w n (joined a b) ≡ waiting w n a + waiting w n b
@@ -15,7 +15,7 @@ module _ (script : ScriptOf) (n : ℕ) (before between after : List Process) (a 
       ≡ sum_by (got_of f) (a.ready ++ b.ready) + waiting (got_of f) n (joined a b) + sum_by f (a.begun ++ b.begun) + sum_by f (a.born ++ b.born) + sum_by (λ (m : Made). f (after_made m)) (a.made ++ b.made) + sum_by f before
   processes_joined f = grind (arith, common_steps, waiting-joined, put_of, got_of, sum_by-append, after_made)
 
-  -- what balances in each balances in both
+  -- if both ledgers balance, so does the joined one
   pub balanced-joined : Balanced script n before after (joined a b)
   balanced-joined = record {
     processes = processes_joined;

@@ -1,9 +1,9 @@
--- Each name once.
+-- Each name occurs once.
 use Rattle.fak_run.proofs.Common.{RowOf, NameAndProgram, named, child, FitsRow, begun_names, ◌≡◌, ◌⊎◌, ℕ, suc, ◌+◌, ◌≤◌, ◌==◌, nat_lt, Bool, true, false, cond, List, [], ◌∷◌, ◌++◌, get_or, refl, ap, ◌∙◌, arith, inl, inr, ◌&&◌, sum_by, All, AllPairs, nat_tests, sum_by-append, sum_by-cons, snoc_ind, ScriptOf, StepOf, steps_of, NoteOf, births_of, Allows, FitsFrom, children_from, children_of, common_steps}
 use Rattle.fak_run.proofs.Sums.{sum_by_le, sum_by-zeros}
 use Rattle.fak_run.proofs.Permuting.{two_weigh}
 
--- ---- names are the same
+-- ---- equal names
 
 abbrev pub same_name : List ℕ → List ℕ → Bool
 same_name [] [] = true
@@ -35,7 +35,7 @@ pub not_nameless : (i : ℕ) (x : List ℕ) → same_name (x ++ i ∷ []) [] ≡
 not_nameless i [] = refl
 not_nameless i (a ∷ x) = refl
 
--- 1 for this name
+-- 1 for this name, 0 for any other
 abbrev pub is_named : List ℕ → NameAndProgram → ℕ
 is_named x n = cond (same_name n.0 x) 1 0
 
@@ -74,12 +74,12 @@ first_is_short a j x = grind (arith, common_steps)
 
 -- ---- children
 
--- a step begins no child, or the one with the next number
+-- a step begins no child, or the child with the next number
 child_is : (files n : ℕ) (name : List ℕ) (step : StepOf) (note : NoteOf) → Allows files n step note
     → (child name step note ≡ []) ⊎ ((q : ℕ) × (child name step note ≡ (name ++ n ∷ [], q) ∷ []) × (births_of note ≡ 1))
 child_is files n name step note ok = grind (arith, common_steps, child, births_of)
 
--- j or a later number may be p's child: it isn't below n
+-- 1 if the child is one of p and its number j is not below n, so that p may still begin it, else 0
 abbrev still : Bool → ℕ → ℕ → ℕ
 still his j n = cond his (cond (nat_lt j n) 0 1) 0
 
@@ -92,7 +92,7 @@ still_all his j = grind (arith, common_steps, still, nat_tests)
 still_first : (his : Bool) (j n : ℕ) → cond (his && (n == j)) 1 0 + still his j (n + 1) ≤ still his j n
 still_first his j n = grind (arith, common_steps, still, nat_tests)
 
--- at most one of a journal's spawns names this child
+-- at most one spawn of a journal names this child
 children_le : (files n : ℕ) (p : List ℕ) (j : ℕ) (name : List ℕ) (steps : List StepOf) (notes : List NoteOf) → FitsFrom files n steps notes
     → sum_by (is_named (p ++ j ∷ [])) (children_from name steps notes) ≤ still (same_name name p) j n
 children_le files n p j name steps [] fits = omega arith
@@ -110,7 +110,7 @@ children_le files n p j name (s ∷ ss) (m ∷ ms) fits =
           omega (arith, parts, rest', here, still_first (same_name name p) j n))
     ]
 
--- none names the empty path
+-- no spawn names the empty path
 children_none : (files n : ℕ) (name : List ℕ) (steps : List StepOf) (notes : List NoteOf) → FitsFrom files n steps notes → sum_by (is_named []) (children_from name steps notes) ≡ 0
 children_none files n name steps [] fits = refl
 children_none files n name [] (m ∷ ms) fits = absurd fits
@@ -124,7 +124,7 @@ children_none files n name (s ∷ ss) (m ∷ ms) fits =
 
 -- ---- rows
 
--- where no name stands twice, the names differ
+-- if no name occurs twice, the names are distinct
 pub differ : (rows : List RowOf) → ((x : List ℕ) → sum_by (λ (r : RowOf). is_named x (named r.process)) rows ≤ 1) → AllPairs (λ (a b : RowOf). a.process.name ≡ b.process.name → ⊥) rows
 differ rows once_at_most i j d lt below same =
     let x = (get_or rows j d).process.name in
@@ -143,7 +143,7 @@ module _ (script : ScriptOf) (rows : List RowOf) (fit : All (FitsRow script) row
       let zeros = sum_by-zeros rows in
       omega (arith, all, first, none, zeros)
 
-  -- a child's name stands no more often than it is begun, and its parent's name stands
+  -- the name of a child occurs at most as often as it is begun, and then the name of its parent occurs
   parents : (p : List ℕ) (j : ℕ) → sum_by (λ (r : RowOf). is_named (p ++ j ∷ []) (named r.process)) rows ≤ is_first 0 (p ++ j ∷ []) + sum_by (λ (r : RowOf). is_named p (named r.process)) rows
   parents p j =
       let all = alike (is_named (p ++ j ∷ [])) in

@@ -1,4 +1,4 @@
--- What calls do to a file table that has one seat.
+-- What calls do to a file table with one seat.
 use Rattle.fak_run.proofs.Common.{◌≡◌, ◌≢◌, ◌⊎◌, ℕ, zero, suc, ◌+◌, ◌<◌, ◌==◌, ◌&&◌, Bool, true, cond, List, [], ◌∷◌, ◌++◌, Some, slice_set, length, refl, ap, sym, ◌∙◌, subst, arith, All, map, reverse, slice_get, slice_index_or, nat_lt, Option, MatchOption, flat_map, nat_tests, All-head, All-tail, SeatInfo, FileEntry, FileField, Inode, Uses, FileKind, Take, Set, Give, FileMark, FileSeatInfo, entries_after, LeavesMarks, AreRefused, IsWaitedFor, IsGot, IsSet, IsEnded, FileChange, most_uses, open_change, open_by, raise, raise_by, close_change, close_by, lower, lowered, first_entry, common_steps, Access, mark, entry_of, is_take_of, back_from_take, own_since_take, prefix_through_take, marks_since_take}
 use Rattle.std.proofs.lemmas.List.{append-nil, reverse-append, reverse-reverse}
 use Rattle.fak_model.specs.File.{WholeCall, Refused, Withdrawn, kinds_of_call, same_field, field_after, field_from, field}
@@ -26,7 +26,7 @@ entries_same : (h l : List FileMark) → SetNothing l → (from count : ℕ) →
 entries_same h l none from zero = refl
 entries_same h l none from (suc n) = ap (λ (e : FileEntry). e ∷ entries_after (h ++ l) (suc from) n) (entry_same h l none from) ∙ ap (λ (es : List FileEntry). entry_of h from ∷ es) (entries_same h l none (suc from) n)
 
--- entry i alone is another one
+-- only entry i has changed
 entries_put : (h g : List FileMark) (e : FileEntry) (from place count : ℕ) → entry_of g (from + place) ≡ e → ((j : ℕ) → j ≢ from + place → entry_of g j ≡ entry_of h j)
     → entries_after g from count ≡ slice_set (entries_after h from count) place e
 entries_put h g e from place zero is others = refl
@@ -60,7 +60,7 @@ tries_nothing name n (call ∷ calls) all =
     subst SetNothing (sym (map_mark-append name (kinds_of_call call) (flat_map kinds_of_call calls)))
     (nothing_then (map (mark name) (kinds_of_call call)) (map (mark name) (flat_map kinds_of_call calls)) (call_nothing name n call (All-head P call calls all)) (tries_nothing name n calls (All-tail P call calls all)))
 
--- ---- what the only seat reads
+-- ---- what the only seat has read
 
 own_all : (past : List FileMark) → All (λ (m : FileMark). m.seat < 1) past → own_since_take 0 past ++ back_from_take 0 past ≡ past
 own_all [] named = refl
@@ -139,7 +139,7 @@ keeps_files_then a b = record { only = b.only; each = λ i. b.each i ∙ a.each 
 pub keeps_files_all : {seat : FileSeatInfo} → IsOnlyFiles seat → KeepsFiles seat seat
 keeps_files_all o = record { only = o; each = λ i. refl; entries = λ count. refl }
 
--- entries that were read one after the other
+-- entries that were read one by one
 pub all_read : (h : List FileMark) (xs : List FileEntry) (from count : ℕ) → length xs ≡ count → ((j : ℕ) → j < count → slice_get xs j ≡ Some (entry_of h (from + j))) → xs ≡ entries_after h from count
 all_read h [] from zero len each = refl
 all_read h [] from (suc n) len each = absurd (omega (arith, len))
@@ -153,7 +153,7 @@ all_read h (x ∷ xs) from (suc n) len each =
 
 -- ---- a change of one entry
 
--- none is changed, or this one, to what it is now
+-- no entry is changed, or only this one
 abbrev pub OneChange : List FileEntry → Option ℕ → List FileEntry → Type 0
 OneChange xs entry ys = MatchOption entry (ys ≡ xs) (λ i. (e : FileEntry) → slice_get ys i ≡ Some e → ys ≡ slice_set xs i e)
 
@@ -183,13 +183,13 @@ close_by_one xs a = grind (arith, common_steps, close_by, lower_one, slice_get)
 pub close_one : (xs : List FileEntry) (inode : ℕ) → OneChange xs (close_change xs inode).entry (close_change xs inode).entries
 close_one xs inode = close_by_one xs (first_entry xs inode)
 
--- the copy was changed, and the table likewise
+-- if the copy has changed, the table changes in the same way
 pub changes_files : {count : ℕ} {a b c d : FileSeatInfo} (change_of : List FileEntry → FileChange) (xs ys : List FileEntry) (entry : Option ℕ) → KeepsFiles a b → xs ≡ entries_now count a
     → record { entry = entry; entries = ys } ≡ change_of xs → OneChange xs (change_of xs).entry (change_of xs).entries
     → MatchOption entry (KeepsFiles b c) (λ i. StoresEntry ys i b c) → KeepsFiles c d → ChangesFiles count entry (change_of (entries_now count a)) d
 changes_files change_of xs ys entry ab read changed one stored cd = grind (arith, common_steps, entries_now, slice_set)
 
--- what an index finds
+-- the element that indexing gives
 pub found_at : (xs : List FileEntry) (i : ℕ) (x : FileEntry) → i < length xs → x ≡ slice_index_or xs i x → slice_get xs i ≡ Some x
 found_at [] i x low is = absurd (omega (arith, low))
 found_at (y ∷ xs) zero x low is = ap Some (sym is)

@@ -1,10 +1,10 @@
--- Lists that weigh alike under every weight.
+-- Lists that have the same weight under every weight of their elements.
 use Rattle.fak_run.proofs.Common.{◌≡◌, ℕ, zero, suc, ◌+◌, ◌<◌, ◌≤◌, Bool, true, false, cond, List, [], ◌∷◌, length, get_or, refl, ap, sym, subst, arith, sum_by, remove, IsPermutation, IsPermutation-refl, IsPermutation-sym, IsPermutation-cons, IsPermutation-trans, IsPermutation-remove}
 use Rattle.std.proofs.lemmas.List.{nil_from_length}
 use Rattle.std.proofs.lemmas.List.Sums.{sum_by-cons, sum_by-remove}
 use Rattle.fak_run.proofs.Sums.{sum_by-ones}
 
--- an element that weighs something
+-- an element with a weight above 0
 pub found : {A : Type 0} (test : A → Bool) (xs : List A) → 0 < sum_by (λ x. cond (test x) 1 0) xs → (i : ℕ) × (i < length xs) × ((d : A) → test (get_or xs i d) ≡ true)
 found test [] some = absurd (omega arith)
 found {A} test (x ∷ xs) some = by (test x) refl some (λ more. found test xs more) where
@@ -19,7 +19,7 @@ found {A} test (x ∷ xs) some = by (test x) refl some (λ more. found test xs m
       let rest = later (omega (arith, parts, here, some)) in
       (suc rest.0, omega (arith, rest.1), λ d. rest.2 d)
 
--- two elements of a list weigh no more than all
+-- two elements of a list weigh at most as much as the list
 pub two_weigh : {A : Type 0} (f : A → ℕ) (xs : List A) (i j : ℕ) (d : A) → i < j → j < length xs → f (get_or xs i d) + f (get_or xs j d) ≤ sum_by f xs
 two_weigh f [] i j d lt below = absurd (omega arith)
 two_weigh f (x ∷ xs) i zero d lt below = absurd (omega arith)

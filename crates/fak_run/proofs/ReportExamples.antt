@@ -3,7 +3,7 @@ use Rattle.fak_run.proofs.Common.{◌≡◌, ℕ, ◌==◌, Bool, true, false, c
 use Rattle.fak_run.specs.Reported.{AreAsOften}
 use Rattle.fak_run.proofs.SameRows.{same_note, same_note_is, same_note_self, same_number_self}
 
--- two numbers that differ
+-- equal numbers that a test finds different
 pub clash : (a b : ℕ) → a ≡ b → (a == b) ≡ false → ⊥
 clash a b e differ = true≢false (sym (subst (λ (x : ℕ). (a == x) ≡ true) e (same_number_self a)) ∙ differ)
 
@@ -27,14 +27,14 @@ OtherSlot a b = is_ended a.outcome ≡ false → is_ended b.outcome ≡ false �
 
 -- ---- one line
 
--- 1 for each other line
+-- 1 for each line except this one
 abbrev other : NoteOf → NoteOf → ℕ
 other x y = cond (same_note y x) 0 1
 
 only_by : (x y : NoteOf) (b : Bool) → same_note y x ≡ b → other x y ≡ other x x → y ≡ x
 only_by x y b is e = grind (arith, common_steps, same_note, other, same_note_is, same_note_self, clash)
 
--- a list that has each line as often as a list of one line is that list
+-- a list with exactly the lines of a list of one line is that list
 pub only_line : (x : NoteOf) (list : List NoteOf) → AreAsOften list (x ∷ []) → list ≡ x ∷ []
 only_line x [] often = absurd (clash 0 1 (often (λ n. 1)) refl)
 only_line x (y ∷ []) often =

@@ -55,7 +55,7 @@ module _ {script : ScriptOf} {seats : ℕ} {h : Histories} {l : Ledger} (g : Gat
       ≡ sum_by f l.rows + sum_by (λ (p : Process). f (record { process = p; outcome = sleepers_outcome (is_shut l.rows (asleep h.waits (length script.semaphores))) })) (asleep h.waits (length script.semaphores))
   rows_weigh f = grind (arith, common_steps, asleep, length, sleepers_outcome, is_shut, sum_by-append, rows_with, sum_by, sum_by-map)
 
-  -- what weighs by the process alone
+  -- a weight of the process only
   all_weigh : (f : Process → ℕ) → sum_by (λ (r : RowOf). f r.process) (rows_of script h l) ≡ sum_by (λ (r : RowOf). f r.process) l.rows + sum_by f (asleep h.waits (length script.semaphores))
   all_weigh f = rows_weigh (λ (r : RowOf). f r.process)
 
@@ -82,7 +82,7 @@ module _ {script : ScriptOf} {seats : ℕ} {h : Histories} {l : Ledger} (g : Gat
 
   -- ---- halts
 
-  -- a row is halted by a processor only where a shutdown line was made
+  -- a processor halts a process only if there was a shutdown line
   halts_after_shut : 0 < sum_by (λ (r : RowOf). halted_of r.outcome) l.rows → 0 < notes shuts_of l
   halts_after_shut some = grind (arith, common_steps, closed_of, close_of, closed_after_close)
 

@@ -1,4 +1,4 @@
--- Whether two rows are the same.
+-- Whether two rows are equal.
 use Rattle.std.proofs.lemmas.Bool.Decides.{nat_tests}
 use Rattle.fak_text.specs.Journal.{NoteOf, said, yielded, downed, upped, opened, closed, statted, spawned, no_birth, no_slot, shut_down, Process}
 use Rattle.fak_run.proofs.Common.{Outcome, Ended, Stuck, Halted, RowOf, ◌≡◌, ℕ, ◌==◌, Bool, true, false, cond, List, [], ◌∷◌, refl, ap, sym, ◌∙◌, arith, ◌&&◌, Option, Some, None, and_parts, and_from, common_steps}
@@ -10,7 +10,7 @@ same_number_is a b e = grind (arith, nat_tests)
 pub same_number_self : (a : ℕ) → (a == a) ≡ true
 same_number_self a = grind (arith, nat_tests)
 
--- ---- notes, by numbers that tell them
+-- ---- notes, by numbers that distinguish them
 
 abbrev numbers_of : ℕ → ℕ → Option ℕ → List ℕ
 numbers_of tag n None = tag ∷ n ∷ []

@@ -1,4 +1,4 @@
--- A history is walked mark by mark, and each hold's line is taken at its Take.
+-- A walk through a history, mark by mark, which takes the line of each hold at its Take.
 use Rattle.fak_run.proofs.Common.{◌≡◌, ◌≢◌, ◌⊎◌, ℕ, ◌<◌, ◌≤◌, ◌==◌, Bool, true, false, cond, List, [], ◌∷◌, ◌++◌, refl, ap, sym, ◌∙◌, subst, arith, inl, inr, append_assoc, true≢false, map, All, flat_map, append-nil, nat_tests, All-nil, All-cons, All-head, All-tail, AreNamed, Setting, set_mark, amount_held, hold_after, field_after, IsFair, file_rules, IsFileHistory, IsPermutation-trans, IsPermutation-cons, FileEntry, FileField, FileKind, Take, Over, Back, No, Set, Give, FileMark, same_or_not, cond_here, cond_else, history_prefix, last_fair, set_in, set_all, FileHold, IsFitHold, is_of_hold, held_kinds, kinds_of_hold, reads_from, read_of, AreHolds, gather_from, common_steps, Steps}
 use Rattle.fak_files.proofs.Common.{is_take, entries_after}
 use Rattle.fak_files.proofs.HoldReads.{alone, held_own, held_other}
@@ -6,7 +6,7 @@ use Rattle.fak_run.specs.Merging.{AreMerged}
 use Rattle.fak_run.proofs.Entries.{entries-same, entries-set}
 use Rattle.fak_run.proofs.GatheredHolds.{gather_none, gather_first}
 
--- ---- what a seat's marks are, from its first one on
+-- ---- the marks of a seat, from its first one on
 
 module _ (s : ℕ) (m : FileMark) (r : List FileMark) where
   held-own : m.seat ≡ s → is_of_hold m.kind ≡ true → held_kinds s (m ∷ r) ≡ m.kind ∷ held_kinds s r
@@ -28,9 +28,10 @@ module _ (s : ℕ) (m : FileMark) (r : List FileMark) where
     reads-other : m.seat ≢ s → reads_from n s p (m ∷ r) ≡ reads_from n s (p ++ m ∷ []) r
     reads-other other = let t : (m.seat == s) ≡ false = grind (arith, nat_tests) in rw t refl
 
--- ---- what a seat's rest begins with
+-- ---- the first of a seat's remaining marks
 
--- the kinds of mark that are left of a seat: of its hold that goes on, in which these fields are still set, and of its later holds
+-- the kinds of a seat's remaining marks: those of its open hold, in which these fields are still set, and those of its
+-- later holds
 abbrev rest_kinds : Bool → List Setting → List FileHold → List FileKind
 rest_kinds false sets holds = flat_map kinds_of_hold holds
 rest_kinds true sets holds = map set_mark sets ++ Give ∷ flat_map kinds_of_hold holds
@@ -86,14 +87,14 @@ next_none true (s ∷ sets) holds e = absurd cc
 next_none false sets [] e = record { is_idle = refl; none = refl }
 next_none false sets (x ∷ later) e = absurd cc
 
--- ---- where the walk stands
+-- ---- the state of the walk
 
--- nobody will set a field in a hold that goes on
+-- no open hold will set a field
 record IsQuiet (n seats : ℕ) (p : List FileMark) (sets : ℕ → List Setting) (entries : List FileEntry) : Type 0 where
   pub none : (s : ℕ) → s < seats → sets s ≡ []
   pub entries_are : entries ≡ entries_after p 0 n
 
--- one seat alone may set fields, and holds all
+-- only one seat may set fields, and it holds the whole amount
 record IsWriting (n k seats : ℕ) (p : List FileMark) (inside : ℕ → Bool) (sets : ℕ → List Setting) (entries : List FileEntry) : Type 0 where
   pub writer : ℕ
   pub below : writer < seats
@@ -102,8 +103,8 @@ record IsWriting (n k seats : ℕ) (p : List FileMark) (inside : ℕ → Bool) (
   pub others : (s : ℕ) → s < seats → s ≢ writer → sets s ≡ []
   pub entries_are : entries ≡ set_all (entries_after p 0 n) (sets writer)
 
--- before the marks of r: the holds that are left of each seat, which seats are in a hold, what these will set there, and the entries
--- after the lines that were taken
+-- the walk before the marks of r: each seat's remaining holds, which seats are in a hold, what these will still set,
+-- and the entries after the lines that were taken
 record Stands (n k seats : ℕ) (p r : List FileMark) (holds : ℕ → List FileHold) (inside : ℕ → Bool) (sets : ℕ → List Setting) (entries : List FileEntry) : Type 0 where
   pub kinds : (s : ℕ) → s < seats → held_kinds s r ≡ rest_kinds (inside s) (sets s) (holds s)
   pub reads : (s : ℕ) → s < seats → reads_from n s p r ≡ map read_of (holds s)
@@ -124,7 +125,7 @@ at-other f s x t ne = cond_else t s x (f t) ne
 
 module _ (n k seats : ℕ) (some : 1 ≤ k) (p : List FileMark) (m : FileMark) (r : List FileMark) (law : IsFileHistory k (p ++ m ∷ [])) (named : AreNamed (file_rules k) seats (p ++ m ∷ [])) (low : m.seat < seats)
     (holds : ℕ → List FileHold) (inside : ℕ → Bool) (sets : ℕ → List Setting) (entries : List FileEntry) (st : Stands n k seats p (m ∷ r) holds inside sets entries) (end : List FileEntry) where
-  -- the walk goes on where the seat of the mark alone has changed
+  -- the walk goes on if only the seat of the mark has changed
   goes : (holds' : ℕ → List FileHold) (inside' : ℕ → Bool) (sets' : ℕ → List Setting) (entries' : List FileEntry)
       → ((t : ℕ) → t ≢ m.seat → holds' t ≡ holds t) → ((t : ℕ) → t ≢ m.seat → inside' t ≡ inside t) → ((t : ℕ) → t ≢ m.seat → sets' t ≡ sets t)
       → held_kinds m.seat r ≡ rest_kinds (inside' m.seat) (sets' m.seat) (holds' m.seat)
@@ -165,7 +166,7 @@ module _ (n k seats : ℕ) (some : 1 ≤ k) (p : List FileMark) (m : FileMark) (
     entries-kept : entries_after (p ++ m ∷ []) 0 n ≡ entries_after p 0 n
     entries-kept = entries-same p m (λ i f v. ap (field_after i f v) is) 0 n
 
-    -- nobody sets fields beside it
+    -- no other hold will set fields at the same time
     quiet : inside m.seat ≡ false → IsQuiet n seats p sets entries
     quiet idle = elim st.now [
       | inl q ↦ q
@@ -326,7 +327,7 @@ walk n k seats some (m ∷ r) p law named holds inside sets entries st =
 
 -- ---- the whole history
 
--- the lines of all seats' holds, in the order of their Takes, replay
+-- the lines of the holds of all seats, in the order of their Takes, replay
 pub holds_replay : (n k seats : ℕ) → 1 ≤ k → (h : List FileMark) → IsFileHistory k h → AreNamed (file_rules k) seats h → (holds : ℕ → List FileHold) → ((s : ℕ) → s < seats → AreHolds n k s (holds s) h)
     → AreMerged seats holds (entries_after [] 0 n) (entries_after h 0 n)
 holds_replay n k seats some h law named holds are = walk n k seats some h [] law named holds (λ s. false) (λ s. []) (entries_after [] 0 n) record {

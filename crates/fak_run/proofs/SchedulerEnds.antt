@@ -1,16 +1,16 @@
--- The list scheduler ends every script: what is left to do falls with each small step.
+-- The list scheduler ends every script: each small step reduces what is left to do.
 use Rattle.fak_run.proofs.Common.{◌≡◌, ◌⊎◌, ℕ, zero, suc, ◌+◌, ◌-◌, ◌*◌, ◌<◌, ◌≤◌, nat_lt, Bool, true, false, List, [], ◌∷◌, length, refl, ap, sym, ◌∙◌, arith, inl, inr, Option, Some, None, ◌==◌, ◌||◌, slice_get, slice_set, slice_index, slice_index_or, sum_by, cases_lt, nat_tests, slice_get_within, get_or_past, set_past, length_push, open_change, close_change, uses_of, Turn, Lists, State, EndsIn, next_step, enter_by, go_on, turn_over, down_by, up_by, child_of, spawn_by, make, go_or_make, turn_by, take_front, step_by, steps, opening, common_steps}
 use Rattle.std.proofs.lemmas.List.Sums.{sum_by-cons, sum_by_push, sum_by-set}
 use Rattle.fak_text.specs.Script.{ScriptOf, StepOf, say, yield, down, up, open_file, close_file, stat, spawn, shutdown, steps_of, steps_or_none}
 use Rattle.fak_text.specs.Journal.{NoteOf, said, yielded, downed, upped, opened, closed, statted, spawned, no_birth, no_slot, shut_down, Process, after_note, child_count}
 
--- one of the programs is no longer than all together
+-- one program is at most as long as all together
 part_of : (programs : List (List StepOf)) (i : ℕ) → length (steps_or_none (slice_get programs i)) ≤ sum_by length programs
 part_of [] i = omega arith
 part_of (p ∷ ps) zero = omega (arith, sum_by-cons length p ps)
 part_of (p ∷ ps) (suc i) = omega (arith, sum_by-cons length p ps, part_of ps i)
 
--- what this many births weigh, where no child has more steps than `most`
+-- the weight of this many births, if no child has more steps than `most`
 abbrev births_weigh : ℕ → ℕ → ℕ
 births_weigh most zero = 0
 births_weigh most (suc n) = most + 1 + births_weigh most n
@@ -22,7 +22,7 @@ abbrev runs : Option Turn → ℕ
 runs None = 0
 runs (Some t) = 1
 
--- where a turn stands: over, between two turns, or before its next step
+-- the weight of a turn's phase: 2 if it is over, 0 before its next step; between two turns it is 1
 abbrev turn_phase : Bool → ℕ
 turn_phase true = 2
 turn_phase false = 0
@@ -30,19 +30,19 @@ turn_phase false = 0
 few_phases : (b : Bool) → turn_phase b ≤ 2
 few_phases b = grind (arith, common_steps, turn_phase)
 
--- a turn that has made no step is not over
+-- a turn without steps is not over
 new_turn : (quantum : ℕ) → 1 ≤ quantum → turn_phase (false || (0 == quantum)) ≡ 0
 new_turn quantum some = grind (arith, common_steps, turn_phase, nat_tests)
 
 module _ (script : ScriptOf) where
-  -- the steps that a process has before it
+  -- the steps that a process has not taken yet
   abbrev left : Process → ℕ
   left p = length (steps_of script p.program) - p.position
 
   abbrev most : ℕ
   most = sum_by length script.programs
 
-  -- the steps that may still be made: by those who are ready or asleep, and by children that are not born yet
+  -- the steps that may still be taken, by processes that are ready or asleep, and by children that are not born yet
   abbrev to_make : Lists → ℕ
   to_make s = sum_by left s.ready + (sum_by (sum_by left) s.sleepers + births_weigh most (script.births - s.births))
 
@@ -71,7 +71,7 @@ module _ (script : ScriptOf) where
 
   -- ---- the turn goes on
 
-  -- a process that makes a step has one step less before it
+  -- a process that takes a step has one step less left
   one_made : (p : Process) (note : NoteOf) (next : StepOf) → next_step script p ≡ Some next → left p ≡ left (after_note p note) + 1
   one_made p note next stands = omega (arith, slice_get_within (steps_of script p.program) p.position next stands)
 
@@ -149,7 +149,7 @@ module _ (script : ScriptOf) where
   turns : (s : Lists) (t : Turn) (next : Option StepOf) → next_step script t.process ≡ next → remains (turn_by script s t next) < remains (record { running = Some t; lists = s })
   turns s t next stands = grind (arith, common_steps, next_step, remains, turn_by, goes_or_makes, is_over)
 
-  -- ---- where nobody runs or is ready, and before
+  -- ---- if nobody runs or is ready, and before
 
   abbrev IsStill : Option Turn → Lists → Type 0
   IsStill running s = (running ≡ None) × (s.ready ≡ [])
@@ -161,7 +161,7 @@ module _ (script : ScriptOf) where
     falls : (s : Lists) (running : Option Turn) → IsStill running s ⊎ (remains (step_by script s running) < remains (record { running = running; lists = s }))
     falls s running = grind (arith, common_steps, remains, step_by, IsStill, takes, turns, next_step)
 
-    -- after this many steps it was still, or as much less remains
+    -- after this many steps the machine was still, or that much less is left to do
     falls_or_ends : (n : ℕ) (s : State) → ((k : ℕ) × IsStill (steps k script s).running (steps k script s).lists) ⊎ (remains (steps n script s) + n ≤ remains s)
     falls_or_ends zero s = inr (omega arith)
     falls_or_ends (suc n) s = elim (falls_or_ends n s) [

@@ -1,4 +1,4 @@
--- The names in the list scheduler's report: each once.
+-- The names in the list scheduler's report: each occurs once.
 use Rattle.fak_run.proofs.Common.{Turn, Lists, State, turn_over, child_of, begun_from, opening, Outcome, named, begun_names, ◌≡◌, ℕ, suc, ◌+◌, ◌≤◌, ◌==◌, nat_lt, Bool, cond, List, [], ◌∷◌, ◌++◌, refl, ap, sym, ◌∙◌, subst, arith, Option, map, ◌&&◌, sum_by, flat_map, AllPairs, nat_tests, sum_by-append, sum_by-cons, sum_by-IsPermutation, snoc_ind, ScriptOf, spawned, Process, new_process, after_note, child_count, child_count-append, RowOf, ReportOf, rows_with, sleepers_outcome, rows_at, IsReportOf, ListSchedulerReports, common_steps}
 use Rattle.fak_run.proofs.Sums.{sum_by-map, sum_by-flat_map, sum_by_less, sum_by-zeros}
 use Rattle.fak_run.proofs.Ends.{ends_alike}
@@ -54,7 +54,7 @@ nobody_sleeps f (n ∷ semaphores) = omega (arith, sum_by-cons (sum_by f) [] (ma
 opening_has : (script : ScriptOf) (x : List ℕ) → all_weigh (has_name x) (opening script) ≤ is_first 0 x
 opening_has script x = omega (arith, begun_named x 0 script.start, begun_le x 0 script.start, nobody_sleeps (has_name x) script.semaphores)
 
--- ---- each name once
+-- ---- each name occurs once
 
 nothing : (s : State) → all_weigh (λ p. 0) s ≡ 0
 nothing s = omega (arith, of_turn s.running, sum_by-zeros s.lists.ready, of_lists s.lists.sleepers, sum_by-zeros s.lists.ended, sum_by-zeros s.lists.halted)
@@ -66,12 +66,12 @@ nothing s = omega (arith, of_turn s.running, sum_by-zeros s.lists.ready, of_list
     of_lists [] = refl
     of_lists (ps ∷ pss) = omega (arith, sum_by-cons (sum_by (λ (p : Process). 0)) ps pss, sum_by-zeros ps, of_lists pss)
 
--- of all processes, those who are lost too
+-- all processes, with those that are lost
 module _ (script : ScriptOf) (t : State) (way : Paid (opening script) t) where
   nameless : all_weigh (has_name []) t + sum_by (has_name []) way.lost ≡ 0
   nameless = omega (arith, way.balance (has_name []) (λ p. 0) nameless_pay, opening_has script [], nothing t, sum_by-zeros way.lost)
 
-  -- a child's name stands no more often than it is begun, and its parent's name stands
+  -- the name of a child occurs at most as often as it is begun, and then the name of its parent occurs
   parents : (x : List ℕ) (j : ℕ) → all_weigh (has_name (x ++ j ∷ [])) t + sum_by (has_name (x ++ j ∷ [])) way.lost ≤ is_first 0 (x ++ j ∷ []) + (all_weigh (has_name x) t + sum_by (has_name x) way.lost)
   parents x j =
       let each : (p : Process) → had_child x j p ≤ has_name x p = λ p. had_once (same_name p.name x) j (child_count p.journal) in

@@ -1,9 +1,9 @@
--- What all processes of the list scheduler weigh together, from step to step.
+-- The weight of all processes of the list scheduler together, from step to step.
 use Rattle.fak_run.proofs.Common.{◌≡◌, ℕ, zero, suc, ◌+◌, ◌<◌, ◌≤◌, nat_lt, Bool, true, false, List, [], ◌∷◌, ◌++◌, length, refl, ap, sym, ◌∙◌, arith, inl, inr, Option, Some, None, slice_set, slice_index, slice_index_or, sum_by, get_or_past, set_past, ScriptOf, StepOf, NoteOf, said, yielded, downed, upped, opened, closed, statted, spawned, no_birth, no_slot, shut_down, Process, after_note, births_of, child_count, open_change, close_change, uses_of, Turn, Lists, State, next_step, enter_by, enter_ready, go_on, turn_over, down_by, up_by, child_of, spawn_by, make, end_process, go_or_make, turn_by, take_front, step_by, steps, common_steps}
 use Rattle.std.proofs.lemmas.Bool.{cases_lt}
 use Rattle.std.proofs.lemmas.List.Sums.{sum_by-append, sum_by-cons, sum_by_push, sum_by-set}
 
--- what each process weighs, all together: in the lists, and with the one that has the processor
+-- the weight of all processes: those in the lists, and the one that has the processor
 abbrev pub lists_weigh : (Process → ℕ) → Lists → ℕ
 lists_weigh f s = sum_by f s.ready + (sum_by (sum_by f) s.sleepers + (sum_by f s.ended + sum_by f s.halted))
 
@@ -14,13 +14,13 @@ turn_weighs f (Some t) = f t.process
 abbrev pub all_weigh : (Process → ℕ) → State → ℕ
 all_weigh f s = turn_weighs f s.running + lists_weigh f s.lists
 
--- f of a process is the same after each note, and g grows at a birth alone, by no less than f of the child
+-- no note changes f of a process, and g grows only at a birth, by at least f of the child
 pub record Pays (f g : Process → ℕ) : Type 0 where
   pub kept : (p : Process) (note : NoteOf) → f (after_note p note) ≡ f p
   pub plain : (p : Process) (note : NoteOf) → births_of note ≡ 0 → g (after_note p note) ≡ g p
   pub born : (p : Process) (program slot : ℕ) → f (child_of p program slot) + g p ≤ g (after_note p (spawned (child_count p.journal)))
 
--- from s to t f grows by no more than g, where those who are lost, at a semaphore that there isn't, count too
+-- from s to t, f grows by at most g; processes that are lost, at a semaphore that does not exist, count too
 pub record Paid (s t : State) : Type 0 where
   pub lost : List Process
   pub balance : (f g : Process → ℕ) → Pays f g → all_weigh f t + sum_by f lost + all_weigh g s ≤ all_weigh f s + all_weigh g t + sum_by g lost
@@ -31,7 +31,7 @@ paid-joined r s t a b = record {
   balance = λ f g pays. omega (arith, a.balance f g pays, b.balance f g pays, sum_by-append f a.lost b.lost, sum_by-append g a.lost b.lost);
 }
 
--- all stay
+-- no weight changes
 moved : (s t : State) → ((f : Process → ℕ) → all_weigh f t ≡ all_weigh f s) → Paid s t
 moved s t same = record { lost = []; balance = λ f g pays. omega (arith, same f, same g) }
 

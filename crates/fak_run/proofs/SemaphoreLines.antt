@@ -2,15 +2,15 @@
 use Rattle.fak_run.proofs.Common.{next_step, Outcome, Stuck, Histories, Gathered, asleep, ◌≡◌, ℕ, zero, suc, ◌+◌, ◌<◌, ◌≤◌, ◌==◌, nat_lt, Bool, true, false, cond, min, List, [], ◌∷◌, length, refl, ap, arith, inl, inr, Option, slice_index, sum_by, nat_tests, sum_by-append, sum_by-cons, contents, debit_weight, credit_weight, put_of, got_of, same_or_not, ScriptOf, StepOf, Process, Ledger, notes, downs_of, ups_of, other_down, not_before, its_down, before_down, waiting, stuck_of, stuck_at, queue_weighs, Kind, common_steps}
 use Rattle.fak_run.proofs.Sums.{sum_by-ones}
 
--- who stands before a down of t stands before one of s where t is s alone
+-- a process before a down of t is before a down of s exactly if t is s
 one_down : (s t : ℕ) (o : Option StepOf) → other_down t o ≡ 0 → other_down s o ≡ cond (t == s) 0 1
 one_down s t o e = grind (arith, common_steps, other_down, nat_tests)
 
--- whether a sleeper at t is Stuck before a down of s
+-- whether a process that sleeps at t is stuck before a down of s
 stuck_there : (script : ScriptOf) (s t : ℕ) (p : Process) → not_before script t p ≡ 0 → stuck_at script s Stuck p ≡ cond (t == s) 1 0
 stuck_there script s t p e = let o = one_down s t (next_step script p) e in grind (arith, nat_tests)
 
--- those who sleep at t
+-- the processes that sleep at t
 stuck_in : (script : ScriptOf) (s t : ℕ) (ps : List Process) → sum_by (not_before script t) ps ≡ 0 → sum_by (stuck_at script s Stuck) ps ≡ cond (t == s) (length ps) 0
 stuck_in script s t [] e = grind (arith, nat_tests)
 stuck_in script s t (p ∷ ps) e =
@@ -26,7 +26,7 @@ stuck_in script s t (p ∷ ps) e =
     by_test true is a b c = rw is (let a' : stuck_at script s Stuck p ≡ 1 = rw is at a in let b' : sum_by (stuck_at script s Stuck) ps ≡ length ps = rw is at b in omega (arith, a', b', c))
     by_test false is a b c = rw is (let a' : stuck_at script s Stuck p ≡ 0 = rw is at a in let b' : sum_by (stuck_at script s Stuck) ps ≡ 0 = rw is at b in omega (arith, a', b', c))
 
--- who is got and stands before a down of t
+-- a process that was got, and is before a down of t
 its_own : (s t : ℕ) (o : Option StepOf) → other_down t o ≡ 0 → its_down s o ≡ cond (t == s) 1 0
 its_own s t o e = grind (arith, common_steps, other_down, its_down, nat_tests)
 
@@ -48,12 +48,12 @@ woken_in script s t (κ ∷ kinds) e =
     by_test false is a b = rw is (let a' : got_of (before_down script s) κ ≡ 0 = rw is at a in let b' : sum_by (got_of (before_down script s)) kinds ≡ 0 = rw is at b in
         omega (arith, a', b', sum_by-cons (got_of (before_down script s)) κ kinds))
 
--- rows that are not Stuck
+-- rows that are not stuck
 pub none_stuck : (script : ScriptOf) (s : ℕ) (outcome : Outcome) (p : Process) → stuck_of outcome ≡ 0 → stuck_at script s outcome p ≡ 0
 none_stuck script s outcome p e = grind (arith, common_steps, stuck_of, stuck_at)
 
 module _ {script : ScriptOf} {seats : ℕ} {h : Histories} {l : Ledger} (g : Gathered script seats h l) where
-  -- those who sleep in wait queue t stand before a down of t
+  -- the processes that sleep in wait queue t are before a down of t
   parked_there : (t : ℕ) → t < length script.semaphores → sum_by (not_before script t) (contents (h.waits t)) ≡ 0
   parked_there t below =
       let put = g.waits t below (put_of (not_before script t)) in
@@ -71,7 +71,7 @@ module _ {script : ScriptOf} {seats : ℕ} {h : Histories} {l : Ledger} (g : Gat
         | inr other ↦ grind (arith, nat_tests)
       ]
 
-  -- those who were woken off wait queue t stood before a down of t
+  -- the processes that were woken from wait queue t were before a down of t
   woken_there : (t : ℕ) → t < length script.semaphores → sum_by (got_of (not_before script t)) (l.waits t) ≡ 0
   woken_there t below =
       let put = g.waits t below (put_of (not_before script t)) in
@@ -79,7 +79,7 @@ module _ {script : ScriptOf} {seats : ℕ} {h : Histories} {l : Ledger} (g : Gat
       let weighs = queue_weighs script.slots (not_before script t) (h.waits t) (g.waits_legal t below) in
       omega (arith, put, got, weighs, g.balanced.semaphores.parked t below)
 
-  -- so those who made a down of s, woken, were woken off wait queue s
+  -- so the woken processes before a down of s were woken from wait queue s
   woken_at : (s k : ℕ) → k ≤ length script.semaphores → s < length script.semaphores → waiting (got_of (before_down script s)) k l ≡ cond (nat_lt s k) (sum_by (got_of (λ (p : Process). 1)) (l.waits s)) 0
   woken_at s zero le below = grind (arith, nat_tests)
   woken_at s (suc k) le below =
@@ -90,7 +90,7 @@ module _ {script : ScriptOf} {seats : ℕ} {h : Histories} {l : Ledger} (g : Gat
         | inr other ↦ grind (arith, nat_tests)
       ]
 
-  -- the downs of a semaphore, done or waited for, and what it had
+  -- the downs of a semaphore, done or waited for, against the units that it had
   pub granted : (s : ℕ) → s < length script.semaphores → notes (downs_of s) l ≡ min (notes (downs_of s) l + length (contents (h.waits s))) (slice_index script.semaphores s + notes (ups_of s) l)
   granted s below =
       let put = g.waits s below (put_of (λ (p : Process). 1)) in

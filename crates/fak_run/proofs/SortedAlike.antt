@@ -1,4 +1,4 @@
--- Sorted lists of the same elements, no two with one name, are the same.
+-- Two sorted lists of the same elements, without two elements of one name, are equal.
 use Rattle.fak_run.proofs.Common.{◌≡◌, ℕ, zero, suc, ◌+◌, ◌<◌, ◌≤◌, Ordering, Equal, Bool, true, false, cond, List, [], ◌∷◌, length, get_or, refl, ap, sym, ◌∙◌, subst, arith, sum_by, IsSortedByKey, slice_cmp, nil_from_length, sum_by-cons, sorted_far, nat_list_cmp_total, ranks_by, common_steps}
 use Rattle.std.specs.Ordering.{nat_cmp, is_lt, ordering_reverse}
 use Rattle.std.proofs.lemmas.Map.Lookups.{exact_bytes}
@@ -6,7 +6,7 @@ use Rattle.fak_run.proofs.Sums.{sum_by-ones}
 use Rattle.fak_run.proofs.Permuting.{found, two_weigh}
 use Rattle.fak_run.proofs.Names.{same_name, same_name_self}
 
--- neither name is less
+-- if neither name is less, they are equal
 level : (r s : Ordering) → r ≡ ordering_reverse s → is_lt r ≡ false → is_lt s ≡ false → r ≡ Equal
 level r s is a b = grind (arith, common_steps, ordering_reverse, is_lt)
 
@@ -14,7 +14,7 @@ tied : (x y : List ℕ) → is_lt (slice_cmp nat_cmp x y) ≡ false → is_lt (s
 tied x y a b = exact_bytes x y (level (slice_cmp nat_cmp x y) (slice_cmp nat_cmp y x) (nat_list_cmp_total.antisymm x y) a b)
 
 module _ {A : Type 0} (name : A → List ℕ) (same : A → A → Bool) (same_is : (x y : A) → same x y ≡ true → x ≡ y) (is_same : (x : A) → same x x ≡ true) where
-  -- the place in one list of the other's first element
+  -- the place in the second list of the first element of the first list
   place_of_first : (x : A) (xs ys : List A) → ((f : A → ℕ) → sum_by f (x ∷ xs) ≡ sum_by f ys) → (i : ℕ) × (i < length ys) × (get_or ys i x ≡ x)
   place_of_first x xs ys alike =
       let one : ℕ = 1 in
@@ -30,7 +30,7 @@ module _ {A : Type 0} (name : A → List ℕ) (same : A → A → Bool) (same_is
       let far = sorted_far (λ a b. is_lt (slice_cmp nat_cmp (name a) (name b))) (ranks_by nat_list_cmp_total name) (y ∷ ys) sorted 0 at.0 x (omega arith) at.1 in
       subst (λ (a : A). is_lt (slice_cmp nat_cmp (name a) (name y)) ≡ false) at.2 far
 
-  -- two elements of one name are one
+  -- two elements with one name are one element
   first_is : (x y : A) (ys : List A) → name x ≡ name y → ((n : List ℕ) → sum_by (λ a. cond (same_name (name a) n) 1 0) (y ∷ ys) ≤ 1) → (i : ℕ) → i < length (y ∷ ys) → get_or (y ∷ ys) i x ≡ x → x ≡ y
   first_is x y ys names once zero below is = sym is
   first_is x y ys names once (suc i) below is =

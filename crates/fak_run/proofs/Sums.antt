@@ -9,7 +9,7 @@ pub sum_by-flat_map : {A B : Type 0} (f : B → ℕ) (g : A → List B) (xs : Li
 sum_by-flat_map f g [] = refl
 sum_by-flat_map f g (x ∷ xs) = omega (arith, sum_by-append f (g x) (flat_map g xs), sum_by-cons (λ x. sum_by f (g x)) x xs, sum_by-flat_map f g xs)
 
--- where g is f and e together on each element
+-- if g is f plus e for each element
 pub sum_by_plus : {A : Type 0} (P : A → Type 0) (f e g : A → ℕ) → ((x : A) → P x → g x ≡ f x + e x) → (xs : List A) → All P xs → sum_by g xs ≡ sum_by f xs + sum_by e xs
 sum_by_plus P f e g each [] all = refl
 sum_by_plus P f e g each (x ∷ xs) all = omega (arith, sum_by-cons f x xs, sum_by-cons e x xs, sum_by-cons g x xs, each x (All-head P x xs all), sum_by_plus P f e g each xs (All-tail P x xs all))
@@ -26,7 +26,7 @@ pub sum_by_same : {A : Type 0} (f g : A → ℕ) → ((x : A) → f x ≡ g x) �
 sum_by_same f g each [] = refl
 sum_by_same f g each (x ∷ xs) = omega (arith, sum_by-cons f x xs, sum_by-cons g x xs, each x, sum_by_same f g each xs)
 
--- where e weighs nothing, f, which weighs nothing where e doesn't, weighs nothing
+-- if f is 0 wherever e is, and the sum of e is 0, the sum of f is 0
 pub sum_by_nothing : {A : Type 0} (e f : A → ℕ) → ((x : A) → e x ≡ 0 → f x ≡ 0) → (xs : List A) → sum_by e xs ≡ 0 → sum_by f xs ≡ 0
 sum_by_nothing e f each [] none = refl
 sum_by_nothing e f each (x ∷ xs) none =
@@ -42,7 +42,7 @@ pub sum_by-ones : {A : Type 0} (xs : List A) → sum_by (λ x. 1) xs ≡ length 
 sum_by-ones [] = refl
 sum_by-ones (x ∷ xs) = omega (arith, sum_by-cons (λ y. 1) x xs, sum_by-ones xs)
 
--- one semaphore alone
+-- the sum if only one semaphore counts
 pub sum_at : (f : ℕ → ℕ) (s n : ℕ) → s < n → ((t : ℕ) → t ≢ s → f t ≡ 0) → sum_below f n ≡ f s
 sum_at f s n below others =
     let one = sum_one (λ (t : ℕ). 0) f s n below others in

@@ -1,4 +1,4 @@
--- Turns of no step go round: the process gets the processor, and is ready again.
+-- Turns without steps never end: the process gets the processor, and becomes ready again.
 use Rattle.fak_run.proofs.Common.{◌≡◌, ◌⊎◌, ℕ, zero, suc, length, refl, ap, ◌∙◌, arith, inl, inr, Option, Some, None, Lists, State, Turn, EndsIn, opening, step, steps}
 use Rattle.fak_run.specs.Examples.{unending}
 

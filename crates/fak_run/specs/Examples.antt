@@ -1,4 +1,5 @@
--- Scripts that are known, and how the list scheduler leaves its lists. Each of its rules changes what is left of one of them.
+-- Known scripts, and the lists in which the list scheduler ends. A change of any of its rules changes some of these
+-- lists.
 use Rattle.std.specs.Prelude.{ℕ, List, [], ◌∷◌, Option, Some, None, true, false, codes}
 use Rattle.fak_model.specs.declared.file.FileEntry.{FileEntry}
 use Rattle.fak_model.specs.Limits.{longest_stint}
@@ -21,7 +22,7 @@ ping_pong = record {
   start = 0 ∷ 1 ∷ [];
 }
 
--- how it is left
+-- the lists at its end
 abbrev pub ping_pong_left : Lists
 ping_pong_left = record {
   ready = [];
@@ -54,7 +55,7 @@ family = record {
   start = 0 ∷ 1 ∷ [];
 }
 
--- how it is left
+-- the lists at its end
 abbrev pub family_left : Lists
 family_left = record {
   ready = [];
@@ -72,7 +73,8 @@ family_left = record {
   halted = [];
 }
 
--- three processes share a semaphore that lets one pass: two sleep, and are woken while another is ready; and a turn that a yield ends
+-- three processes share a semaphore that lets one pass: two sleep, and are woken while another is ready; one turn ends
+-- by a yield
 abbrev pub crowd : ScriptOf
 crowd = record {
   version = 1;
@@ -86,7 +88,7 @@ crowd = record {
   start = 0 ∷ 0 ∷ 0 ∷ 1 ∷ 2 ∷ [];
 }
 
--- how it is left
+-- the lists at its end
 abbrev pub crowd_left : Lists
 crowd_left = record {
   ready = [];
@@ -105,7 +107,7 @@ crowd_left = record {
   halted = [];
 }
 
--- two children, the second in the slot that was free longest
+-- two children; the second gets the slot that was free longest
 abbrev pub heirs : ScriptOf
 heirs = record {
   version = 1;
@@ -119,7 +121,7 @@ heirs = record {
   start = 0 ∷ [];
 }
 
--- how it is left
+-- the lists at its end
 abbrev pub heirs_left : Lists
 heirs_left = record {
   ready = [];
@@ -150,7 +152,7 @@ alone = record {
   start = 0 ∷ [];
 }
 
--- how it is left
+-- the lists at its end
 abbrev pub alone_left : Lists
 alone_left = record {
   ready = [];
@@ -178,7 +180,7 @@ plenty = record {
   start = 0 ∷ [];
 }
 
--- how it is left
+-- the lists at its end
 abbrev pub plenty_left : Lists
 plenty_left = record {
   ready = [];
@@ -209,7 +211,7 @@ curfew = record {
   start = 0 ∷ 1 ∷ 2 ∷ [];
 }
 
--- how it is left
+-- the lists at its end
 abbrev pub curfew_left : Lists
 curfew_left = record {
   ready = [];
@@ -225,7 +227,7 @@ curfew_left = record {
       record { name = 0 ∷ []; program = 0; slot = 0; position = 2; journal = shut_down ∷ said (codes "last") ∷ [] } ∷ [];
 }
 
--- a child that is started after the ready list was shut keeps its slot, so that there is none for a second
+-- a child that is started after the ready list was shut keeps its slot, so a second child gets none
 abbrev pub late_child : ScriptOf
 late_child = record {
   version = 2;
@@ -239,7 +241,7 @@ late_child = record {
   start = 0 ∷ [];
 }
 
--- how it is left
+-- the lists at its end
 abbrev pub late_child_left : Lists
 late_child_left = record {
   ready = [];
@@ -269,7 +271,7 @@ reader = record {
   start = 0 ∷ [];
 }
 
--- how it is left
+-- the lists at its end
 abbrev pub reader_left : Lists
 reader_left = record {
   ready = [];
@@ -285,7 +287,7 @@ reader_left = record {
   halted = [];
 }
 
--- a stat, a close and a spawn that come to nothing end no turn: the first process opens the only entry before the second runs
+-- a stat, a close and a spawn that fail end no turn: the first process opens the only entry before the second one runs
 abbrev pub refused : ℕ → ScriptOf
 refused births = record {
   version = 1;
@@ -299,7 +301,7 @@ refused births = record {
   start = 0 ∷ 1 ∷ [];
 }
 
--- how it is left, with this line of the spawn
+-- the lists at its end, with this line of the spawn
 abbrev pub refused_left : NoteOf → Lists
 refused_left spawn_line = record {
   ready = [];
@@ -315,7 +317,7 @@ refused_left spawn_line = record {
   halted = [];
 }
 
--- every kind of step but a yield, all in one turn, while three others wait
+-- steps of every kind except a yield, all in one turn, while three other processes wait
 abbrev pub unhurried : ScriptOf
 unhurried = record {
   version = 2;
@@ -332,7 +334,7 @@ unhurried = record {
   start = 1 ∷ 0 ∷ 2 ∷ [];
 }
 
--- how it is left
+-- the lists at its end
 abbrev pub unhurried_left : Lists
 unhurried_left = record {
   ready = [];
@@ -350,7 +352,7 @@ unhurried_left = record {
   halted = [];
 }
 
--- two processes come to the ready list after it was shut
+-- two processes become ready after the ready list was shut
 abbrev pub latecomers : ScriptOf
 latecomers = record {
   version = 2;
@@ -364,7 +366,7 @@ latecomers = record {
   start = 1 ∷ 0 ∷ 1 ∷ [];
 }
 
--- how it is left
+-- the lists at its end
 abbrev pub latecomers_left : Lists
 latecomers_left = record {
   ready = [];
@@ -381,7 +383,7 @@ latecomers_left = record {
       record { name = 0 ∷ []; program = 1; slot = 0; position = 2; journal = yielded ∷ yielded ∷ [] } ∷ [];
 }
 
--- a down that passes is the one step of its turn, so that the other process ends first
+-- a down that passes is the only step of its turn, so the other process ends first
 abbrev pub counted : ScriptOf
 counted = record {
   version = 1;
@@ -395,7 +397,7 @@ counted = record {
   start = 0 ∷ 1 ∷ [];
 }
 
--- how it is left
+-- the lists at its end
 abbrev pub counted_left : Lists
 counted_left = record {
   ready = [];
@@ -419,7 +421,7 @@ changed entry entries = record { entry = entry; entries = entries }
 abbrev pub used : ℕ → ℕ → FileEntry
 used inode uses = record { inode = inode; uses = uses }
 
--- one process that yields, in turns of no step
+-- one process that yields, with turns of no step
 abbrev pub unending : ScriptOf
 unending = record {
   version = 1;

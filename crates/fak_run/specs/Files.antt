@@ -3,12 +3,12 @@ use Rattle.std.specs.Prelude.{ℕ, ◌+◌, ◌-◌, ◌==◌, if◌then◌else�
 use Rattle.std.specs.List.{position}
 use Rattle.fak_model.specs.declared.file.FileEntry.{FileEntry}
 
--- what a step does: the number of the entry that it names, if there is one, and the entries after it
+-- the result of a step: the number of the entry that it names, if any, and the entries after it
 pub record FileChange : Type 0 where
   pub entry : Option ℕ
   pub entries : List FileEntry
 
--- an entry is opened at most so often
+-- the largest number of uses of an entry
 abbrev pub most_uses : ℕ
 most_uses = 4294967295
 
@@ -16,7 +16,7 @@ most_uses = 4294967295
 abbrev pub free_entry : FileEntry
 free_entry = record { inode = 0; uses = 0 }
 
--- the number of the first entry with this inode, 0 for the first free one
+-- the number of the first entry with this inode; with 0, of the first free one
 abbrev pub first_entry : List FileEntry → ℕ → Option ℕ
 first_entry entries inode = position (λ e. e.inode == inode) entries
 
@@ -38,26 +38,27 @@ abbrev pub raise : List FileEntry → ℕ → Option FileEntry → FileChange
 raise entries i None = no_change entries
 raise entries i (Some e) = raise_by entries i e (nat_lt e.uses most_uses)
 
--- an open, where the inode has this entry, and this one is the first free one
+-- an open, by the number of the inode's entry and of the first free one, if there are such
 abbrev pub open_by : List FileEntry → ℕ → Option ℕ → Option ℕ → FileChange
 open_by entries inode (Some i) free = raise entries i (slice_get entries i)
 open_by entries inode None (Some i) = change_at entries i (record { inode = inode; uses = 1 })
 open_by entries inode None None = no_change entries
 
--- open: the first entry with the inode gets one more use; else the first free entry gets the inode and 1 use
+-- open: the first entry with the inode gets one more use; if there is none, the first free entry gets the inode and 1
+-- use
 abbrev pub open_change : List FileEntry → ℕ → FileChange
 open_change entries inode = open_by entries inode (first_entry entries inode) (first_entry entries 0)
 
--- an entry with one use less; at 0 uses it is free
+-- an entry with one use less; with 0 uses it is free
 abbrev pub lowered : FileEntry → FileEntry
 lowered e = record { inode = (if (e.uses - 1) == 0 then 0 else e.inode); uses = e.uses - 1 }
 
--- one use less of the entry that was found at i
+-- one use less for the entry that was found at i
 abbrev pub lower : List FileEntry → ℕ → Option FileEntry → FileChange
 lower entries i None = no_change entries
 lower entries i (Some e) = change_at entries i (lowered e)
 
--- a close, where the inode has this entry
+-- a close, by the entry of the inode, if there is one
 abbrev pub close_by : List FileEntry → Option ℕ → FileChange
 close_by entries None = no_change entries
 close_by entries (Some i) = lower entries i (slice_get entries i)

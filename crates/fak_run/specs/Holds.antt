@@ -1,4 +1,4 @@
--- What a processor did in its holds of a file table, and what the marks of its seat say of them.
+-- What a processor did in its holds of a file table, and what the marks of its seat show of them.
 use Rattle.std.specs.Prelude.{◌≡◌, ◌⊎◌, ℕ, zero, suc, Bool, true, false, cond, List, [], ◌∷◌, ◌++◌, map}
 use Rattle.std.specs.List.{All, filter, flat_map}
 use Rattle.fak_model.specs.declared.file.FileEntry.{FileEntry}
@@ -19,25 +19,25 @@ abbrev pub with_field : FileEntry → FileField → ℕ → FileEntry
 with_field e Inode v = record { inode = v; uses = e.uses }
 with_field e Uses v = record { inode = e.inode; uses = v }
 
--- the entries once a field was set
+-- the entries after a field is set
 abbrev pub set_in : List FileEntry → ℕ → FileField → ℕ → List FileEntry
 set_in [] i f v = []
 set_in (e ∷ entries) zero f v = with_field e f v ∷ entries
 set_in (e ∷ entries) (suc i) f v = e ∷ set_in entries i f v
 
--- the entries once all these fields were set
+-- the entries after all these fields are set
 abbrev pub set_all : List FileEntry → List Setting → List FileEntry
 set_all entries [] = entries
 set_all entries (s ∷ sets) = set_all (set_in entries s.entry s.field s.to) sets
 
--- a hold: the line that was made in it, what it took, the entries that it read, and the fields that it set
+-- a hold: its line, its amount, the entries that it read, and the fields that it set
 pub record FileHold : Type 0 where
   pub line : NoteOf
   pub amount : ℕ
   pub read : List FileEntry
   pub sets : List Setting
 
--- the line bears what the rules give on what was read, its Sets make that change, and who sets holds all
+-- the line has the result that the rules give for the entries read, the Sets make that change, and only a writer sets
 pub record IsFitHold (k : ℕ) (hold : FileHold) : Type 0 where
   pub steps : Steps hold.read hold.line (set_all hold.read hold.sets)
   pub alone : (hold.sets ≡ []) ⊎ (hold.amount ≡ k)
@@ -48,15 +48,15 @@ is_of_hold (Set i f v) = true
 is_of_hold Give = true
 is_of_hold _ = false
 
--- a name's kinds of mark in its holds
+-- the kinds of the marks that a name left in its holds
 abbrev pub held_kinds : ℕ → List FileMark → List FileKind
 held_kinds name h = filter is_of_hold (words_by seat_of kind_of name h)
 
--- the kinds of mark that a hold leaves
+-- the kinds of the marks that a hold leaves
 abbrev pub kinds_of_hold : FileHold → List FileKind
 kinds_of_hold hold = Take hold.amount ∷ (map set_mark hold.sets ++ Give ∷ [])
 
--- the entries, n of them, before each Take of a name among the marks of `h`, which come after `before`
+-- the n entries before each Take of a name among the marks of `h`, which come after `before`
 abbrev pub reads_from : ℕ → ℕ → List FileMark → List FileMark → List (List FileEntry)
 reads_from n name before [] = []
 reads_from n name before (m ∷ h) = cond (is_take_of name m) (entries_after before 0 n ∷ reads_from n name (before ++ m ∷ []) h) (reads_from n name (before ++ m ∷ []) h)
@@ -70,13 +70,13 @@ hold_line hold = hold.line
 abbrev pub read_of : FileHold → List FileEntry
 read_of hold = hold.read
 
--- these are a name's holds in a history of n entries and k seats, in order
+-- these are the holds of a name, in order, in a history with n entries and k seats
 pub record AreHolds (n k name : ℕ) (holds : List FileHold) (h : List FileMark) : Type 0 where
   pub kinds : held_kinds name h ≡ flat_map kinds_of_hold holds
   pub reads : reads_of n name h ≡ map read_of holds
   pub fit : All (IsFitHold k) holds
 
--- all these lists, those of the seats from `first` on, this many of them
+-- the lists of n seats from `first` on, one after the other
 abbrev pub gather_from : {A : Type 0} → (ℕ → List A) → ℕ → ℕ → List A
 gather_from lists first zero = []
 gather_from lists first (suc n) = lists first ++ gather_from lists (suc first) n

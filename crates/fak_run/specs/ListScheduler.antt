@@ -1,17 +1,19 @@
--- The list scheduler: what one processor does with a script, by lists. A machine of small steps, and where it ends.
+-- The list scheduler: what one processor does with a script, by lists. It is a machine of small steps; `EndsIn` defines
+-- its end.
 use Rattle.std.specs.Prelude.{◌≡◌, ℕ, zero, suc, ◌+◌, ◌-◌, ◌==◌, ◌||◌, Bool, true, false, nat_lt, List, [], ◌∷◌, ◌++◌, length, map, replicate, slice_get, slice_set, slice_index, slice_index_or, Option, Some, None}
 use Rattle.fak_model.specs.declared.file.FileEntry.{FileEntry}
 use Rattle.fak_text.specs.Script.{ScriptOf, StepOf, say, yield, down, up, open_file, close_file, stat, spawn, shutdown, steps_of}
 use Rattle.fak_text.specs.Journal.{NoteOf, said, yielded, downed, upped, opened, closed, statted, spawned, no_birth, no_slot, shut_down, Process, new_process, after_note, child_count}
 use Rattle.fak_run.specs.Files.{FileChange, free_entry, open_change, close_change, uses_of}
 
--- a turn: the process that has the processor, how many steps it made in the turn, and whether the last was a yield
+-- a turn: the process that has the processor, the number of steps that it took in the turn, and whether the last was a
+-- yield
 pub record Turn : Type 0 where
   pub process : Process
   pub made : ℕ
   pub has_yielded : Bool
 
--- what the processor works on; sleepers are those of each semaphore; births counts the children that were started
+-- the lists that the processor works on; each semaphore has its sleepers, and births is the number of children started
 pub record Lists : Type 0 where
   pub ready : List Process
   pub free_slots : List ℕ
@@ -23,12 +25,12 @@ pub record Lists : Type 0 where
   pub ended : List Process
   pub halted : List Process
 
--- between two small steps
+-- the state between two small steps
 pub record State : Type 0 where
   pub running : Option Turn
   pub lists : Lists
 
--- the step at the position of a process, if the program goes on
+-- the step at the position of a process; None at the end of its program
 abbrev pub next_step : ScriptOf → Process → Option StepOf
 next_step script p = slice_get (steps_of script p.program) p.position
 
@@ -49,7 +51,7 @@ go_on s t note yields = record { running = Some (record { process = after_note t
 abbrev pub turn_over : Lists → State
 turn_over s = record { running = None; lists = s }
 
--- down: takes 1 where the count is positive, else the process goes to the back of the sleepers
+-- down: takes 1 if the count is positive; otherwise the process goes to the back of the sleepers
 abbrev pub down_by : Lists → Turn → ℕ → Bool → State
 down_by s t n true = go_on (record s { counts = slice_set s.counts n (slice_index s.counts n - 1) }) t (downed n) false
 down_by s t n false = turn_over (record s { sleepers = slice_set s.sleepers n (slice_index_or s.sleepers n [] ++ t.process ∷ []) })
@@ -58,7 +60,7 @@ down_by s t n false = turn_over (record s { sleepers = slice_set s.sleepers n (s
 abbrev pub make_down : Lists → Turn → ℕ → State
 make_down s t n = down_by s t n (nat_lt 0 (slice_index s.counts n))
 
--- up: wakes the first sleeper, whose down is then done, else adds 1
+-- up: wakes the first sleeper, whose down is then done; if there is none, adds 1
 abbrev pub up_by : Lists → Turn → ℕ → List Process → State
 up_by s t n [] = go_on (record s { counts = slice_set s.counts n (slice_index s.counts n + 1) }) t (upped n) false
 up_by s t n (first ∷ others) = go_on (enter_ready (record s { sleepers = slice_set s.sleepers n others }) (after_note first (downed n))) t (upped n) false
@@ -87,7 +89,7 @@ make_close s t inode = close_by_change s t inode (close_change s.entries inode)
 abbrev pub child_of : Process → ℕ → ℕ → Process
 child_of p program slot = new_process (p.name ++ child_count p.journal ∷ []) program slot
 
--- spawn: a birth, then a slot; where no slot is free the birth is given back
+-- spawn: takes a birth, then a slot; if no slot is free, gives the birth back
 abbrev pub spawn_by : Lists → Turn → ℕ → Bool → List ℕ → State
 spawn_by s t program false free = go_on s t no_birth false
 spawn_by s t program true [] = go_on s t no_slot false
@@ -97,7 +99,7 @@ spawn_by s t program true (slot ∷ free) = go_on (enter_ready (record s { birth
 abbrev pub make_spawn : ScriptOf → Lists → Turn → ℕ → State
 make_spawn script s t program = spawn_by s t program (nat_lt s.births script.births) s.free_slots
 
--- the process that has the processor makes this step
+-- the process that has the processor takes this step
 abbrev pub make : ScriptOf → Lists → Turn → StepOf → State
 make script s t (say text) = go_on s t (said text) false
 make script s t yield = go_on s t yielded true
@@ -113,12 +115,12 @@ make script s t shutdown = go_on (record s { is_shut = true }) t shut_down false
 abbrev pub end_process : Lists → Process → State
 end_process s p = turn_over (record s { ended = s.ended ++ p ∷ []; free_slots = s.free_slots ++ p.slot ∷ [] })
 
--- where the turn is over the process is ready again, else it makes its next step
+-- if the turn is over, the process becomes ready again; otherwise it takes its next step
 abbrev pub go_or_make : ScriptOf → Lists → Turn → StepOf → Bool → State
 go_or_make script s t next true = turn_over (enter_ready s t.process)
 go_or_make script s t next false = make script s t next
 
--- at the program's end the process ends; a turn is over after quantum steps, and after a yield
+-- at the end of its program the process ends; a turn is over after quantum steps, and after a yield
 abbrev pub turn_by : ScriptOf → Lists → Turn → Option StepOf → State
 turn_by script s t None = end_process s t.process
 turn_by script s t (Some next) = go_or_make script s t next (t.has_yielded || (t.made == script.quantum))
@@ -128,12 +130,12 @@ abbrev pub take_front : Lists → List Process → State
 take_front s [] = turn_over s
 take_front s (first ∷ others) = record { running = Some (record { process = first; made = 0; has_yielded = false }); lists = record s { ready = others } }
 
--- one small step, by who has the processor
+-- one small step, by the turn that has the processor
 abbrev pub step_by : ScriptOf → Lists → Option Turn → State
 step_by script s None = take_front s s.ready
 step_by script s (Some t) = turn_by script s t (next_step script t.process)
 
--- one small step; where nothing is ready and nothing runs, the state stays
+-- one small step; if nothing is ready and nothing runs, the state stays the same
 abbrev pub step : ScriptOf → State → State
 step script s = step_by script s.lists s.running
 
@@ -147,7 +149,7 @@ abbrev pub begun_from : ℕ → List ℕ → List Process
 begun_from i [] = []
 begun_from i (program ∷ programs) = new_process (i ∷ []) program i ∷ begun_from (i + 1) programs
 
--- this many numbers, from i up
+-- the numbers from i up, this many
 abbrev pub numbers_from : ℕ → ℕ → List ℕ
 numbers_from i zero = []
 numbers_from i (suc n) = i ∷ numbers_from (i + 1) n
@@ -170,7 +172,8 @@ first_lists script = record {
 abbrev pub opening : ScriptOf → State
 opening script = turn_over (first_lists script)
 
--- the machine ends with these lists: some number of steps from the opening, and still. There are such lists once at most
+-- the machine ends with these lists: they are reached from the opening by some number of steps, and then stay the same;
+-- there is at most one such end
 pub record EndsIn (script : ScriptOf) (lists : Lists) : Type 0 where
   pub count : ℕ
   pub reached : turn_over lists ≡ steps count script (opening script)

@@ -11,7 +11,7 @@ use Rattle.fak_run.specs.declared.report.Outcome.{Outcome}
 use Rattle.fak_run.specs.declared.report.Outcome.TheVariants.{Ended, Stuck, Halted}
 use Rattle.fak_run.specs.ListScheduler.{Lists, EndsIn}
 
--- a process as it was left
+-- a process at the end of a run
 pub record RowOf : Type 0 where
   pub process : Process
   pub outcome : Outcome
@@ -24,11 +24,11 @@ pub record ReportOf : Type 0 where
   pub bound : ℕ
   pub entries : List FileEntry
 
--- rows of processes that were left alike
+-- rows of processes with the same outcome
 abbrev pub rows_with : Outcome → List Process → List RowOf
 rows_with outcome processes = map (λ p. record { process = p; outcome = outcome }) processes
 
--- those who sleep at the end are halted where the ready list was shut, else stuck
+-- processes that sleep at the end are halted if the ready list was shut, else stuck
 abbrev pub sleepers_outcome : Bool → Outcome
 sleepers_outcome is_shut = (if is_shut then Halted else Stuck)
 
@@ -53,21 +53,21 @@ pub record IsReportOf (script : ScriptOf) (s : Lists) (report : ReportOf) : Type
 abbrev pub ListSchedulerReports : ScriptOf → ReportOf → Type 0
 ListSchedulerReports script report = (s : Lists) × EndsIn script s × IsReportOf script s report
 
--- whether an outcome is that of a process that came to the end of its program
+-- whether the process reached the end of its program
 abbrev pub is_ended : Outcome → Bool
 is_ended Ended = true
 is_ended _ = false
 
--- whether it is that of one that nobody is left to wake
+-- whether no process is left that could wake it
 abbrev pub is_stuck : Outcome → Bool
 is_stuck Stuck = true
 is_stuck _ = false
 
--- whether it is that of one that found the ready list shut
+-- whether the process found the ready list shut
 abbrev pub is_halted : Outcome → Bool
 is_halted Halted = true
 is_halted _ = false
 
--- the program's exit status: 3 where a process is stuck, else 0
+-- the program's exit status: 3 if a process is stuck, else 0
 abbrev pub exit_status : ReportOf → ℕ
 exit_status report = (if list_any (λ row. is_stuck row.outcome) report.rows then 3 else 0)

@@ -1,4 +1,4 @@
--- Small scripts, and reports of them: what a run may report, and what breaks one sentence of its promises.
+-- Small scripts and reports of them: reports that a run may have, and reports that break one of its promises.
 use Rattle.std.specs.Prelude.{ℕ, List, [], ◌∷◌, length, codes}
 use Rattle.fak_model.specs.Limits.{longest_stint}
 use Rattle.fak_model.specs.declared.file.FileEntry.{FileEntry}
@@ -24,11 +24,11 @@ small version births semaphores programs start = record {
   start = start;
 }
 
--- a process that spawns a child, where this many births are allowed
+-- a process that spawns a child, with this many births allowed
 abbrev pub parent : ℕ → ScriptOf
 parent births = small 1 births [] ((spawn 1 ∷ []) ∷ [] ∷ [] ∷ []) (0 ∷ [])
 
--- two processes that come to a semaphore, which begins at this count
+-- two processes that come to a semaphore with this start
 abbrev pub pair_at : ℕ → ScriptOf
 pair_at count = small 1 0 (count ∷ 9 ∷ []) ((down 0 ∷ []) ∷ []) (0 ∷ 0 ∷ [])
 
@@ -40,7 +40,7 @@ shutter = small 2 0 (0 ∷ []) ((shutdown ∷ down 0 ∷ []) ∷ []) (0 ∷ [])
 abbrev pub opener : ScriptOf
 opener = small 1 0 [] ((open_file 7 ∷ []) ∷ []) (0 ∷ [])
 
--- the row of a process that stands behind the steps of its journal
+-- the row of a process that has taken the steps of its journal
 abbrev pub left_row : List ℕ → ℕ → ℕ → List NoteOf → Outcome → RowOf
 left_row name program slot journal outcome = record {
   process = record { name = name; program = program; slot = slot; position = length journal; journal = journal };

@@ -9,7 +9,7 @@ use Rattle.fak_run.specs.declared.report.Outcome.TheVariants.{Ended, Stuck, Halt
 use Rattle.fak_run.specs.RunReports.{RunReports}
 use Rattle.fak_run.specs.Report.{RowOf, ReportOf, ListSchedulerReports, is_ended, is_stuck, is_halted, exit_status}
 
--- how an outcome is written
+-- the text of an outcome
 abbrev pub outcome_name : Outcome → List ℕ
 outcome_name Ended = codes "ended"
 outcome_name Stuck = codes "stuck"
@@ -32,34 +32,34 @@ abbrev pub text_of_entries : ℕ → List FileEntry → List ℕ
 text_of_entries i [] = []
 text_of_entries i (e ∷ es) = text_of_entry i e ++ text_of_entries (i + 1) es
 
--- how many children were started, of how many that may be
+-- the number of children that were started, and the number that may be
 abbrev pub text_of_births : ReportOf → List ℕ
 text_of_births report = codes "births " ++ decimal report.births ++ codes " of " ++ decimal report.bound ++ codes "\n"
 
--- how many processes were left so
+-- the number of processes with such an outcome
 abbrev pub count_rows : (Outcome → Bool) → List RowOf → ℕ
 count_rows is rows = count_by (λ row. is row.outcome) rows
 
--- the halted ones are counted in reports of version 2
+-- the number of halted processes, in reports of version 2 only
 abbrev pub text_of_halted : ReportOf → List ℕ
 text_of_halted report = (if report.version == 2 then codes " halted " ++ decimal (count_rows is_halted report.rows) else [])
 
--- how many processes were left how
+-- the number of processes with each outcome
 abbrev pub text_of_outcomes : ReportOf → List ℕ
 text_of_outcomes report = codes "ended " ++ decimal (count_rows is_ended report.rows) ++ codes " stuck " ++ decimal (count_rows is_stuck report.rows) ++ text_of_halted report ++ codes "\n"
 
--- the rows with their journals, the files that are open, the births, and how many processes were left how
+-- the rows with their journals, the open files, the births, and the number of processes with each outcome
 abbrev pub text_of_report : ReportOf → List ℕ
 text_of_report report = flat_map text_of_row report.rows ++ text_of_entries 0 report.entries ++ text_of_births report ++ text_of_outcomes report
 
--- one processor runs the script with this text as its report, and this exit status
+-- one processor runs the script, and prints this text as its report, with this exit status
 pub record ListSchedulerPrints (script : ScriptOf) (text : List ℕ) (status : ℕ) : Type 0 where
   pub report : ReportOf
   pub reports : ListSchedulerReports script report
   pub text_is : text ≡ text_of_report report
   pub status_is : status ≡ exit_status report
 
--- processors run the script with this text as a report that keeps its promises, and this exit status
+-- processors run the script, and print this text as a report that keeps its promises, with this exit status
 pub record RunPrints (script : ScriptOf) (text : List ℕ) (status : ℕ) : Type 0 where
   pub report : ReportOf
   pub reports : RunReports script report

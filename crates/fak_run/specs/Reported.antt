@@ -20,12 +20,12 @@ file_lines lines = filter is_file_line lines
 abbrev pub lines_of : ReportOf → List NoteOf
 lines_of report = flat_map (λ row. row.process.journal) report.rows
 
--- each line stands in both lists as often: whatever lines weigh, both weigh the same
+-- each line occurs as often in one list as in the other: under any weight of lines, both lists weigh the same
 abbrev pub AreAsOften : List NoteOf → List NoteOf → Type 0
 AreAsOften lines others = (weight : NoteOf → ℕ) → sum_by weight lines ≡ sum_by weight others
 
--- some list of the open, close and stat lines of all rows, each as often as it stands there, replays from free entries, and
--- ends at the report's entries
+-- the open, close and stat lines of all rows, in some order, replay from free entries and lead to the entries of the
+-- report
 pub record FilesReplay (files : ℕ) (report : ReportOf) : Type 0 where
   pub list : List NoteOf
   pub as_often : AreAsOften list (file_lines (lines_of report))

@@ -1,4 +1,4 @@
--- What the report of a run promises, for every number of processors.
+-- What the report of a run promises, for any number of processors.
 use Rattle.std.specs.Prelude.{◌≡◌, length}
 use Rattle.fak_text.specs.Script.{ScriptOf}
 use Rattle.fak_run.specs.Report.{ReportOf, IsSortedByName}

@@ -1,4 +1,4 @@
--- What the ledgers of all processors and the whole histories say of each other.
+-- How the ledgers of all processors and the whole histories match.
 use Rattle.std.specs.Prelude.{◌≡◌, ℕ, zero, suc, ◌+◌, ◌<◌, Bool, List, [], ◌∷◌, ◌++◌, map, pos, length, slice_index, nat_lt}
 use Rattle.std.specs.List.{sum_by}
 use Rattle.fak_model.specs.declared.queue.Kind.{Kind}
@@ -32,7 +32,7 @@ abbrev pub begun_names : ℕ → List ℕ → List NameAndProgram
 begun_names i [] = []
 begun_names i (program ∷ programs) = (i ∷ [], program) ∷ begun_names (suc i) programs
 
--- the marks of a queue, of a room, of a credit weigh as these kinds
+-- these kinds weigh the same as the marks of a queue, of a room, or of a credit
 abbrev pub WeighsQueue : {A : Type 0} → List (Mark A) → List (Kind A) → Type 0
 WeighsQueue {A} h kinds = (w : Kind A → ℕ) → count w h ≡ sum_by w kinds
 
@@ -42,7 +42,7 @@ WeighsRoom h kinds = (w : RoomKind → ℕ) → room.total w h ≡ sum_by w kind
 abbrev pub WeighsCredit : List CreditMark → List CreditKind → Type 0
 WeighsCredit h kinds = (w : CreditKind → ℕ) → sum_by w (map credit.kind_of h) ≡ sum_by w kinds
 
--- the ledger of all processors together, and the whole histories, once all seats of each object are joined
+-- the joined ledger of all processors, and the whole histories, once all seats of each object are joined
 pub record Gathered (script : ScriptOf) (seats : ℕ) (h : Histories) (l : Ledger) : Type 0 where
   pub balanced : Balanced script (length script.semaphores) [] [] l
   pub ready : WeighsQueue h.ready l.ready
@@ -62,19 +62,19 @@ pub record Gathered (script : ScriptOf) (seats : ℕ) (h : Histories) (l : Ledge
   pub begun : map named l.begun ≡ begun_names 0 script.start
   pub first : l.first ≡ numbers_from 0 script.slots
 
--- who sleeps at the end, semaphore by semaphore
+-- the processes that sleep at the end, semaphore by semaphore
 abbrev pub asleep : (ℕ → List (Mark Process)) → ℕ → List Process
 asleep waits zero = []
 asleep waits (suc n) = asleep waits n ++ contents (waits n)
 
--- how often notes stand in rows
+-- the sum of a weight over the notes of all rows
 abbrev pub lines : (NoteOf → ℕ) → List RowOf → ℕ
 lines w rows = sum_by (λ r. sum_by w r.process.journal) rows
 
 abbrev pub lines_of : (NoteOf → ℕ) → List Process → ℕ
 lines_of w ps = sum_by (λ (p : Process). sum_by w p.journal) ps
 
--- a shutdown line stands in a row
+-- whether some row has a shutdown line
 abbrev pub is_shut : List RowOf → List Process → Bool
 is_shut rows sleepers = nat_lt 0 (lines shuts_of rows + lines_of shuts_of sleepers)
 

@@ -17,7 +17,7 @@ use std::alloc::{AllocError, Global};
 use std::fmt;
 use std::marker::{Brand, Model, PhantomData};
 
-/// Which script a run is of. The call that begins the run picks it.
+/// The script that a run executes. The call that begins the run picks it.
 pub trait Run {
     ghost script: { ScriptOf };
 }
@@ -36,8 +36,8 @@ impl Run for Brand {
     } };
 }
 
-/// A process of the run. Its journal fits the script of the run. Said texts are left out of the notes that it keeps: they
-/// are those of the script.
+/// A process of the run. Its journal fits the script of the run. The notes that it keeps have no said texts: the script
+/// has them.
 #[derive(Drop)]
 pub struct Context<K: Run> {
     name: Vec<u64>,
@@ -78,7 +78,7 @@ impl<K: Run> Model for Context<K> {
 }
 
 impl<K: Run> Context<K> {
-    /// A process that has made no step.
+    /// A process that has taken no step.
     pub fn new(alloc: Global, name: Vec<u64>, program: u64, slot: u64) -> Context<K>
         requires slot { slot < K.script.slots }
         requires program { program < length K.script.programs }
@@ -103,14 +103,14 @@ impl<K: Run> Context<K> {
         self.slot
     }
 
-    /// The step at the position, if the program goes on.
+    /// The step at the process's position; None at the end of its program.
     pub fn next<'s>(&self, script: &'s Script) -> Option<&'s Step>
         requires { script.now ≡ K.script }
         ensures end { IfNone result (next_step K.script self.now ≡ None) }
         ensures next { IfSome result (λ step. StandsAt K.script self.now (step_of step.now)) }
         ensures range { IfSome result (λ step. IsStepInRange (limits_of K.script) (step_of step.now)) }
     {
-        // For the proof alone: the call tells that the script is in range.
+        // For the proof only: the call shows that the script is in range.
         let _slots = script.slots();
         self.step_at_position(script)
     }
@@ -142,21 +142,21 @@ impl<K: Run> Context<K> {
         Ok(name)
     }
 
-    /// Asks for the memory of one note more.
+    /// Allocates the memory for one more note.
     pub fn reserve_note(&mut self) -> Result<(), AllocError>
         ensures same { self.new ≡ self.old }
     {
         self.journal.reserve(1)
     }
 
-    /// Goes on behind the step at the position, which was made with this note.
+    /// Moves the process past the step at its position, which gave this note.
     pub fn note(&mut self, note: Note) -> Result<(), AllocError>
         requires { (step : StepOf) × StandsAt K.script self.old step
             × Allows K.script.files (child_count self.old.journal) step (note_of note) }
         ensures noted { IfOk result (λ _. self.new ≡ after_note self.old (note_of note)) }
     {
         let births = birth_count(&note);
-        // For the proof alone: a slice tells that the journal is not longer than memory.
+        // For the proof only: the slice shows that the journal fits into memory.
         let _made = self.journal.as_slice();
         self.journal.push(note)?;
         self.children += births;
@@ -164,20 +164,20 @@ impl<K: Run> Context<K> {
         Ok(())
     }
 
-    /// Goes on behind the step at the position, which said its text.
+    /// Moves the process past the step at its position, which said its text.
     pub fn note_said(&mut self, alloc: Global) -> Result<(), AllocError>
         requires { (text : List ℕ) × StandsAt K.script self.old (say text) }
         ensures noted { IfOk result (λ _. (text : List ℕ) → StandsAt K.script self.old (say text)
             → self.new ≡ after_note self.old (said text)) }
     {
-        // For the proof alone: a slice tells that the journal is not longer than memory.
+        // For the proof only: the slice shows that the journal fits into memory.
         let _made = self.journal.as_slice();
         self.journal.push(Note::Say(String::new(alloc)))?;
         self.position += 1;
         Ok(())
     }
 
-    /// The process before its last step, a down that is not done yet.
+    /// The process before its last step, which is a down that is not done yet.
     pub(crate) fn without_down(mut self) -> Context<K>
         requires { (semaphore : ℕ) × IsAsleep K.script semaphore self }
         ensures { result ≡ unnoted self }
@@ -189,7 +189,7 @@ impl<K: Run> Context<K> {
         self
     }
 
-    /// The row of a process that was left so, with its said texts left out.
+    /// The row of the process with this outcome, without the said texts.
     pub fn into_row(self, outcome: Outcome) -> ProcessRow
         ensures row { told_row K.script (row_of result) ≡ record { process = self; outcome = outcome } }
         ensures fits { FitsScript K.script self }
@@ -213,7 +213,7 @@ impl<K: Run> Context<K> {
         }
     }
 
-    /// One of its steps was a shutdown.
+    /// Whether one of its steps was a shutdown.
     pub fn has_shutdown(&self) -> bool
         ensures { result ≡ nat_lt 0 (sum_by shuts_of self.now.journal) }
     {
@@ -221,14 +221,14 @@ impl<K: Run> Context<K> {
     }
 }
 
-/// One of the notes is a shutdown's.
+/// Whether one of the notes is that of a shutdown.
 fn has_shutdown_note(notes: &[Note]) -> bool
     ensures { result ≡ list_any (λ note. nat_lt 0 (shuts_of (note_of note))) notes.now }
 {
     notes.iter().any(|note| matches!(note, Note::Shutdown))
 }
 
-/// How many children a step began.
+/// The number of children that the step with this note began.
 fn birth_count(note: &Note) -> u64
     ensures value { result ≡ births_of (note_of note.now) }
     ensures most { result ≤ 1 }

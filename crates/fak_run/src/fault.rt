@@ -1,4 +1,4 @@
-//! Why a script could not be run to its end.
+//! Why a script was not run to its end.
 
 ghost use Rattle.std.specs.Prelude.{◌≡◌};
 ghost use Rattle.fak_run.specs.declared.fault.Fault.TheVariants.{Memory};
@@ -9,10 +9,10 @@ use thiserror::Error;
 /// Why there is no report.
 #[derive(Clone, Copy, Debug, PartialEq, Eq, Error)]
 pub enum Fault {
-    /// There was no memory.
+    /// Memory ran out.
     #[error("fak: out of memory")]
     Memory,
-    /// A seat had made all calls of its stint.
+    /// A seat had used up its stint.
     #[error("fak: a seat is worn")]
     Worn,
     /// The gate refused a processor.
@@ -21,7 +21,7 @@ pub enum Fault {
     /// The number of processors is not 1 to 8.
     #[error("fak: processors out of range")]
     BadProcessors,
-    /// The system gave no thread.
+    /// The system could not start a thread.
     #[error("fak: no thread")]
     NoThread,
 }

@@ -1,4 +1,4 @@
-//! Laws of the list scheduler, and of what the processors of a run leave together.
+//! Laws of the list scheduler, and of what the processors of a run have done together.
 
 pub mod file_tables;
 pub mod gates;
@@ -18,7 +18,7 @@ ghost use Rattle.fak_run.specs.Ledger.{Balanced, FitsRow, Ledger, joined};
 ghost use Rattle.fak_run.specs.Whole.{Gathered, Histories, rows_of};
 ghost use Rattle.fak_run.specs.Promises.{Promised};
 
-/// How the list scheduler leaves scripts that are known: all its lists, its counts and its births.
+/// The state in which the list scheduler ends for known scripts: all its lists, its counts and its births.
 pub fn the_list_scheduler_ends_known_scripts()
     ensures wakes { EndsIn ping_pong ping_pong_left }
     ensures children { EndsIn family family_left }
@@ -36,8 +36,8 @@ pub fn the_list_scheduler_ends_known_scripts()
     ensures counted { EndsIn counted counted_left }
 {}
 
-/// What opens, closes and stats of tables that are known find and change. An open takes the entry that bears the inode,
-/// whichever is free, and not more often than an entry may be used; a close frees the entry with its last use.
+/// What opens, closes and stats find and change in known tables. An open takes the entry with the inode, even if a free
+/// entry comes before it, and never exceeds the largest number of uses. A close frees the entry with its last use.
 pub fn the_rules_of_a_file_table_are_known()
     ensures first { open_change (free_entry ∷ free_entry ∷ []) 7 ≡ changed (Some 0) (used 7 1 ∷ free_entry ∷ []) }
     ensures again { open_change (free_entry ∷ used 7 1 ∷ []) 7 ≡ changed (Some 1) (free_entry ∷ used 7 2 ∷ []) }
@@ -54,7 +54,7 @@ pub fn the_rules_of_a_file_table_are_known()
     ensures no_stat { uses_of (free_entry ∷ used 7 3 ∷ []) 8 ≡ None }
 {}
 
-/// The list scheduler ends a script in one way at most.
+/// The list scheduler ends a script in at most one way.
 pub fn the_list_scheduler_ends_in_one_way()
     ensures { (script : ScriptOf) (a b : Lists) → EndsIn script a → EndsIn script b → a ≡ b }
 {}
@@ -64,7 +64,7 @@ pub fn the_list_scheduler_ends_every_script()
     ensures { (script : ScriptOf) → 1 ≤ script.quantum → (lists : Lists) × EndsIn script lists }
 {}
 
-/// With turns of no step it does not end a script of one step.
+/// If turns have no step, it does not end a script of one step.
 pub fn turns_without_steps_never_end()
     ensures { (lists : Lists) → EndsIn unending lists → ⊥ }
 {}
@@ -77,14 +77,14 @@ pub fn the_list_scheduler_reports_each_name_once()
         → a ≡ b }
 {}
 
-/// Ledgers one after the other balance.
+/// If two ledgers balance, so does the ledger of one followed by the other.
 pub fn ledgers_balance_together()
     ensures { (script : ScriptOf) (n : ℕ) (before between after : List Process) (a b : Ledger)
         → Balanced script n before between a
         → Balanced script n between after b → Balanced script n before after (joined a b) }
 {}
 
-/// The rows of a run keep their promises.
+/// The rows of a run have the properties that its report promises.
 pub fn a_gathered_run_keeps_its_promises()
     ensures { (script : ScriptOf) (seats : ℕ) (h : Histories) (l : Ledger) (rows : List RowOf)
         → Gathered script seats h l

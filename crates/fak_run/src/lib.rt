@@ -1,4 +1,5 @@
-//! The processes of a script, the list scheduler that says what becomes of them, the gate of a run, and its report with its text.
+//! The processes of a script, the list scheduler that defines how they end, the gate of a run, and its report with its
+//! text.
 #![tactic(auto)]
 
 mod context;

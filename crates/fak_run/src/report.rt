@@ -1,4 +1,4 @@
-//! What became of each process of a run.
+//! How each process of a run ended.
 
 ghost use Rattle.std.specs.Prelude.{◌≡◌, Some};
 ghost use Rattle.std.specs.List.{list_any};
@@ -8,14 +8,14 @@ use fak_model::FileEntry;
 use fak_text::Note;
 use std::fmt;
 
-/// How a process was left.
+/// How a process ended.
 #[derive(Clone, Copy, Debug, PartialEq, Eq)]
 pub enum Outcome {
-    /// It came to the end of its program.
+    /// It reached the end of its program.
     Ended,
-    /// It sleeps at a semaphore, and no process is left to wake it.
+    /// It sleeps at a semaphore, and no process is left that could wake it.
     Stuck,
-    /// It would have been ready, or sleeps, after the ready queue was shut.
+    /// It would have become ready, or sleeps, after the ready queue was shut.
     Halted,
 }
 
@@ -37,21 +37,21 @@ impl fmt::Display for Outcome {
 impl Outcome {
     ghost use Rattle.fak_run.specs.Report.{is_ended, is_stuck, is_halted};
 
-    /// The process came to the end of its program.
+    /// Whether the process reached the end of its program.
     pub fn is_ended(self) -> bool
         ensures { result ≡ is_ended self }
     {
         matches!(self, Outcome::Ended)
     }
 
-    /// Nobody is left to wake the process.
+    /// Whether no process is left that could wake it.
     pub fn is_stuck(self) -> bool
         ensures { result ≡ is_stuck self }
     {
         matches!(self, Outcome::Stuck)
     }
 
-    /// The process found the ready queue shut.
+    /// Whether it found the ready queue shut.
     pub fn is_halted(self) -> bool
         ensures { result ≡ is_halted self }
     {
@@ -59,32 +59,32 @@ impl Outcome {
     }
 }
 
-/// A process as it was left.
+/// A process at the end of a run.
 #[derive(Debug, PartialEq, Eq, Drop)]
 pub struct ProcessRow {
-    /// The numbers from the process that was started first: started process i is `i`, its child j is `i.j`.
+    /// The numbers on the path from the process that was started first: started process i is `i`, its child j is `i.j`.
     pub name: Vec<u64>,
     /// The number of its program in the script.
     pub program: u64,
-    /// The slot that it had.
+    /// The number of its slot.
     pub slot: u64,
-    /// How many steps of the program it made.
+    /// The number of steps of its program that it took.
     pub position: u64,
     pub outcome: Outcome,
-    /// One note for each step that it made, in order.
+    /// One note for each of these steps, in order.
     pub journal: Vec<Note>,
 }
 
-/// A run of a script, as it ended.
+/// A run of a script, at its end.
 #[derive(Debug, PartialEq, Eq, Drop)]
 pub struct Report {
     /// The version of the script.
     pub version: u64,
     /// The processes, sorted by name, number by number, a prefix first.
     pub rows: Vec<ProcessRow>,
-    /// How many children were started.
+    /// The number of children that were started.
     pub births: u64,
-    /// How many children may be started.
+    /// The number of children that may be started.
     pub bound: u64,
     /// The entries of the file table.
     pub entries: Vec<FileEntry>,
@@ -95,7 +95,7 @@ impl Report {
     ghost use Rattle.fak_run.specs.Report.{exit_status, is_stuck};
     ghost use Rattle.fak_run.specs.Views.{report_of};
 
-    /// The exit status of the program that prints the report: 3 where a process is stuck, else 0.
+    /// The exit status of the program that prints the report: 3 if a process is stuck, else 0.
     pub fn exit_status(&self) -> u8
         ensures { result ≡ exit_status (report_of self.now) }
     {

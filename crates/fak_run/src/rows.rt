@@ -1,4 +1,4 @@
-//! The rows of a report, with their said texts left out.
+//! The rows of a report, without the said texts.
 
 ghost use Rattle.std.specs.Prelude.{◌≡◌, ◌++◌, map, IfOk};
 ghost use Rattle.std.specs.List.Sorted.{IsPermutation};
@@ -10,7 +10,7 @@ use crate::context::{Context, Run};
 use crate::report::{Outcome, ProcessRow};
 use std::alloc::AllocError;
 
-/// One row more for each process, all left alike.
+/// Appends a row for each process, all with this outcome.
 pub fn add_rows<K: Run>(
     rows: &mut Vec<ProcessRow>,
     contexts: Vec<Context<K>>,

@@ -10,8 +10,8 @@ use std::alloc::AllocError;
 use std::fmt;
 use std::marker::Model;
 
-/// A process in front of a down. The note of the down is written when the process falls asleep, so waking
-/// it takes no memory. Contracts see the process without that note.
+/// A process before a down. The note of the down is written when the process falls asleep, so that waking it allocates
+/// nothing. Contracts see the process without that note.
 #[derive(Drop)]
 pub struct Sleeper<K: Run> {
     context: Context<K>,
@@ -30,7 +30,7 @@ impl<K: Run> Model for Sleeper<K> {
 }
 
 impl<K: Run> Sleeper<K> {
-    /// A process falls asleep before a down of this semaphore.
+    /// The process, asleep before a down of this semaphore.
     pub fn new(context: Context<K>, semaphore: u64) -> Result<Sleeper<K>, AllocError>
         requires { StandsAt K.script context (down semaphore) }
         ensures same { IfOk result (λ sleeper. sleeper ≡ context) }
@@ -40,7 +40,7 @@ impl<K: Run> Sleeper<K> {
         Ok(Sleeper { context, semaphore })
     }
 
-    /// The process wakes, and the down in front of it is done.
+    /// The process after it was woken, with the down done.
     pub fn rouse(self) -> Context<K>
         ensures woken { (semaphore : ℕ) × StandsAt K.script self (down semaphore)
             × (result ≡ after_note self (downed semaphore)) }
@@ -52,12 +52,12 @@ impl<K: Run> Sleeper<K> {
             context,
             semaphore: _,
         } = self;
-        // The slot is read for the proof alone: reading it tells that the context fits the script.
+        // For the proof only: reading the slot shows that the context fits the script.
         let _slot = context.slot();
         context
     }
 
-    /// The process as it is in front of its down.
+    /// The process as it was before its down.
     pub fn rest(self) -> Context<K>
         ensures same { result ≡ self }
         ensures fits { FitsScript K.script self }
@@ -68,7 +68,7 @@ impl<K: Run> Sleeper<K> {
             semaphore: _,
         } = self;
         let rested = context.without_down();
-        // The slot is read for the proof alone: reading it tells that the context fits the script.
+        // For the proof only: reading the slot shows that the context fits the script.
         let _slot = rested.slot();
         rested
     }

@@ -1,4 +1,4 @@
-//! Reports whose said texts are left out, with the texts of their script.
+//! Adds the texts of the script to reports without said texts.
 
 ghost use Rattle.std.specs.Prelude.{◌≡◌, map, string_bytes, IfOk, IfErr};
 ghost use Rattle.fak_text.specs.Script.{say, steps_of};
@@ -11,7 +11,7 @@ use crate::report::{ProcessRow, Report};
 use fak_text::{Note, Script, Step};
 use std::alloc::{AllocError, Global};
 
-/// The steps of a program; none where the script has no such program.
+/// The steps of a program; none if the script has no such program.
 pub(crate) fn steps_at(script: &Script, program: u64) -> &[Step]
     ensures { steps_view result.now ≡ steps_of script.now program }
 {
@@ -21,7 +21,7 @@ pub(crate) fn steps_at(script: &Script, program: u64) -> &[Step]
     }
 }
 
-/// The note with this text, if one was said.
+/// The note, with this text if it is one of a said text.
 fn with_text(note: Note, text: &String) -> Result<Note, AllocError>
     ensures told { IfOk result (λ full. note_of full ≡ told (say (string_bytes text.now)) (note_of note)) }
 {
@@ -31,7 +31,7 @@ fn with_text(note: Note, text: &String) -> Result<Note, AllocError>
     }
 }
 
-/// The note of this step.
+/// The note of this step, with the text that the step says.
 fn told_note(note: Note, step: &Step) -> Result<Note, AllocError>
     ensures told { IfOk result (λ full. note_of full ≡ told (step_of step.now) (note_of note)) }
 {
@@ -41,7 +41,7 @@ fn told_note(note: Note, step: &Step) -> Result<Note, AllocError>
     }
 }
 
-/// The notes of these steps.
+/// The notes of these steps, with the texts that the steps say.
 fn told_all(alloc: Global, steps: &[Step], notes: Vec<Note>) -> Result<Vec<Note>, AllocError>
     ensures told { IfOk result (λ full. map note_of full.items ≡ told_notes (steps_view steps.now)
         (map note_of notes.items)) }
@@ -58,7 +58,7 @@ fn told_all(alloc: Global, steps: &[Step], notes: Vec<Note>) -> Result<Vec<Note>
     Ok(full)
 }
 
-/// The row of a process of this script.
+/// The row of a process of this script, with its said texts.
 fn told_to_row(alloc: Global, script: &Script, row: ProcessRow) -> Result<ProcessRow, AllocError>
     ensures told { IfOk result (λ full. row_of full ≡ told_row script.now (row_of row)) }
 {
@@ -95,11 +95,11 @@ fn told_to_rows(
     Ok(full)
 }
 
-/// The report of a run of this script, whose said texts were left out.
+/// The report of a run of this script, with the said texts that were left out.
 ///
 /// # Errors
 ///
-/// `Memory` alone.
+/// Only `Memory`.
 pub fn told_in_full(alloc: Global, script: &Script, brief: Report) -> Result<Report, Fault>
     ensures told { IfOk result (λ report. report_of report ≡ told_report script.now (report_of brief)) }
     ensures memory { IfErr result (λ fault. fault ≡ Fault.Memory) }

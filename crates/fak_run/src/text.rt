@@ -22,16 +22,16 @@ use std::slice;
 #[derive(Debug, PartialEq, Eq, Drop)]
 pub struct Printed {
     pub text: Vec<u8>,
-    /// 3 where a process is stuck, else 0.
+    /// 3 if a process is stuck, else 0.
     pub status: u8,
 }
 
-/// The text of a report: each process with its journal, the files that are open, the births, and how many processes
-/// were left how.
+/// The text of a report: each process with its journal, the open files, the births, and the number of processes with
+/// each outcome.
 ///
 /// # Errors
 ///
-/// `Memory` alone.
+/// Only `Memory`.
 pub fn report_text(alloc: Global, report: &Report) -> Result<Vec<u8>, Fault>
     ensures text { IfOk result (λ v. v.items ≡ text_of_report (report_of report.now)) }
     ensures memory { IfErr result (λ fault. fault ≡ Fault.Memory) }
@@ -62,11 +62,11 @@ fn add_row(text: &mut String, row: &ProcessRow) -> Result<(), AllocError>
     Ok(())
 }
 
-/// The text of a report whose said texts were left out: they are read in the script.
+/// The text of a report without said texts: they are read from the script.
 ///
 /// # Errors
 ///
-/// `Memory` alone.
+/// Only `Memory`.
 pub fn print_brief(alloc: Global, script: &Script, brief: &Report) -> Result<Printed, Fault>
     ensures text { IfOk result (λ printed. printed.text.items ≡ text_of_report
         (told_report script.now (report_of brief.now))) }
@@ -104,7 +104,7 @@ fn add_told_row(text: &mut String, script: &Script, row: &ProcessRow) -> Result<
     add_told_notes(text, row.name.as_slice(), steps, row.journal.as_slice())
 }
 
-/// Appends the lines of the notes of these steps, which the process of this name made.
+/// Appends the lines of the notes of these steps, which the process of this name took.
 fn add_told_notes(
     text: &mut String,
     name: &[u64],

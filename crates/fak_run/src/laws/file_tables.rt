@@ -1,4 +1,4 @@
-//! The law of file tables: what opens, closes and stats find and change, whatever the table.
+//! The law of file tables: what opens, closes and stats find and change in any table.
 
 ghost use Rattle.std.specs.Prelude.{◌≡◌, ◌≢◌, ℕ, ◌+◌, ◌<◌, List, ◌∷◌, ◌++◌, length, Some, None};
 ghost use Rattle.std.specs.List.{All};
@@ -6,8 +6,9 @@ ghost use Rattle.fak_model.specs.declared.file.FileEntry.{FileEntry};
 ghost use Rattle.fak_run.specs.Examples.{changed, used};
 ghost use Rattle.fak_run.specs.Files.{close_change, free_entry, open_change, uses_of};
 
-/// The first entry that bears the inode gets one use more by an open, unless it has the most, and one less by a close; the last
-/// close frees it. Where none bears it, an open takes the first free entry, and a close changes nothing.
+/// An open adds 1 to the uses of the first entry with the inode, unless it has the most uses; if there is none, it
+/// takes the first free entry. A close subtracts 1, and the last close frees the entry; if there is none, a close
+/// changes nothing.
 pub fn each_open_and_close_is_counted()
     ensures opens { (before after : List FileEntry) (inode uses : ℕ) → All (λ e. e.inode ≢ inode) before
         → uses < 4294967295 → open_change (before ++ used inode uses ∷ after) inode

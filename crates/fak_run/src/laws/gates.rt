@@ -3,7 +3,7 @@
 ghost use Rattle.std.specs.Prelude.{◌≡◌, ◌⊎◌, ℕ, true, false};
 ghost use Rattle.fak_run.specs.Gates.{IsRefused};
 
-/// A processor is refused at a look only behind all looks that passed before it.
+/// A processor is refused at a look only after all its earlier looks passed.
 pub fn a_refusal_follows_looks_that_passed()
     ensures first { IsRefused (λ look passes. (look ≡ 0) × (passes ≡ false)) }
     ensures second { IsRefused (λ look passes. ((look ≡ 0) × (passes ≡ true)) ⊎ ((look ≡ 1) × (passes ≡ false))) }

@@ -1,4 +1,5 @@
-//! What a run may report, and what it may not: reports of small scripts, on either side of each promise; and their texts.
+//! What a run may and may not report, with reports of small scripts on both sides of each promise; and the texts of
+//! reports.
 
 ghost use Rattle.std.specs.Prelude.{◌≡◌, ℕ, ◌<◌, List, [], ◌∷◌, ◌++◌, codes, decimal, Some, None};
 ghost use Rattle.fak_text.specs.Journal.{downed, no_birth, opened, said, shut_down, spawned, statted, upped, yielded};
@@ -11,8 +12,8 @@ ghost use Rattle.fak_run.specs.Report.{exit_status};
 ghost use Rattle.fak_run.specs.ReportText.{RunPrints, line_of_row, text_of_births, text_of_entries, text_of_report};
 ghost use Rattle.fak_run.specs.RunReports.{RunReports};
 
-/// What runs of known scripts may report: births that are named and counted, downs that pass and that sleep, a process
-/// that halts, and a file that is opened.
+/// Reports that runs of known scripts may have: births that are named and counted, downs that pass and downs that
+/// sleep, a process that halts, and a file that is opened.
 pub fn known_reports_are_allowed()
     ensures child { RunReports (parent 1) (tells 1 1 1 family_rows free_entry) }
     ensures no_birth { RunReports (parent 0) (tells 1 0 0 (parent_row (no_birth ∷ []) ∷ []) free_entry) }
@@ -22,8 +23,8 @@ pub fn known_reports_are_allowed()
     ensures opened { RunReports opener (tells 1 0 0 (parent_row (opened 7 (Some 0) ∷ []) ∷ []) (used 7 1)) }
 {}
 
-/// A version and a bound that are not the script's, a wrong count of births, rows in another order, a child of another name or
-/// program, one that is lost, and more than are allowed.
+/// A version or bound that is not the script's, a wrong count of births, and rows in another order. A child with
+/// another name or program, a lost child, and more children than are allowed.
 pub fn reports_with_wrong_names_are_refused()
     ensures version { RunReports (parent 1) (tells 2 1 1 family_rows free_entry) → ⊥ }
     ensures bound { RunReports (parent 1) (tells 1 1 2 family_rows free_entry) → ⊥ }
@@ -38,8 +39,8 @@ pub fn reports_with_wrong_names_are_refused()
     ensures no_birth { RunReports (parent 1) (tells 1 0 1 (parent_row (no_birth ∷ []) ∷ []) free_entry) → ⊥ }
 {}
 
-/// A slot out of range, a position that is not the journal's, and outcomes that do not fit the position of the process, or that
-/// need a shutdown. A line of another step, text, semaphore or inode, and a child of another number.
+/// A slot out of range, and a position that does not match the journal. An outcome that does not fit the position or
+/// needs a shutdown. A line of another step, text, semaphore or inode, and a child of another number.
 pub fn reports_with_rows_that_do_not_fit_are_refused()
     ensures slot { RunReports (parent 1)
         (tells 1 1 1 (parent_row (spawned 0 ∷ []) ∷ left_row (0 ∷ 0 ∷ []) 1 3 [] Ended ∷ []) free_entry) → ⊥ }
@@ -64,9 +65,9 @@ pub fn reports_with_rows_that_do_not_fit_are_refused()
         → ⊥ }
 {}
 
-/// Two sleepers or two halted processes in one slot; an entry that no line made, and lines that the entries do not give. A down
-/// that passed though the count was 0, or of another semaphore; and one that sleeps though the count was 1, from the start or
-/// by an up.
+/// Two sleepers or two halted processes in one slot, an entry that no line opened, and lines that do not lead to the
+/// entries. A down that passed although the count was 0, and a down of another semaphore. A down that sleeps although
+/// the count was 1, from the start or by an up.
 pub fn reports_with_wrong_lines_are_refused()
     ensures one_slot { RunReports (pair_at 0)
         (tells 1 0 0 (left_row (0 ∷ []) 0 0 [] Stuck ∷ left_row (1 ∷ []) 0 0 [] Stuck ∷ []) free_entry) → ⊥ }
@@ -92,7 +93,7 @@ pub fn reports_with_wrong_lines_are_refused()
         (tells 1 0 0 (parent_row (statted 7 (Some 5) ∷ []) ∷ []) free_entry) → ⊥ }
 {}
 
-/// A stuck process makes the exit status 3, and no other outcome does; and no run prints a stuck report with the status 0.
+/// The exit status is 3 exactly if a process is stuck. No run prints a report with a stuck process and the status 0.
 pub fn known_reports_have_known_statuses()
     ensures stuck { exit_status (tells 1 0 0 (left_row (0 ∷ []) 0 0 [] Ended ∷ left_row (1 ∷ []) 0 0 [] Stuck ∷ [])
         free_entry) ≡ 3 }
@@ -103,8 +104,8 @@ pub fn known_reports_have_known_statuses()
         → ⊥ }
 {}
 
-/// The whole texts of two reports, letter by letter; and a row, an entry and the births, whatever their numbers. No run prints
-/// an empty text.
+/// The whole texts of two reports, letter by letter; and the text of a row, an entry and the births, for any numbers.
+/// No run prints an empty text.
 pub fn known_reports_have_known_texts()
     ensures stuck { text_of_report stuck_report
         ≡ codes "process 0 program 1 slot 2 ended\n"

@@ -1,4 +1,4 @@
-//! The laws of small steps: what the list scheduler does next, whatever its script, its lists and its turn.
+//! The laws of small steps: what the list scheduler does next, for any script, lists and turn.
 
 ghost use Rattle.std.specs.Prelude.{◌≡◌, ◌≢◌, ℕ, ◌+◌, ◌-◌, ◌<◌, ◌≤◌, true, false, List, [], ◌∷◌, ◌++◌, length, slice_get, slice_index, slice_index_or, slice_set, Some, None};
 ghost use Rattle.fak_text.specs.Journal.{Process, StandsAt, child_count, closed, downed, no_birth, no_slot, opened, said, shut_down, spawned, statted, upped, yielded};
@@ -7,8 +7,8 @@ ghost use Rattle.fak_run.specs.Files.{close_change, free_entry, open_change, use
 ghost use Rattle.fak_run.specs.ListScheduler.{Lists, State, Turn, enter_ready, make, next_step, opening, step, steps, turn_over};
 ghost use Rattle.fak_run.specs.SmallSteps.{turn_after, on_turn, process_after};
 
-/// What the list scheduler begins with. The started processes are ready, in order, each in the slot of its number; the slots
-/// behind them are free. Semaphores have their starts and no sleeper, and all entries are free.
+/// The lists at the start. The started processes are ready, in order, each in the slot of its number, and the later
+/// slots are free. Semaphores have their starting counts and no sleepers, and all entries are free.
 pub fn the_first_lists_are_known()
     ensures running { (script : ScriptOf) → (opening script).running ≡ None }
     ensures ready { (script : ScriptOf) (i program : ℕ) → slice_get script.start i ≡ Some program
@@ -29,8 +29,9 @@ pub fn the_first_lists_are_known()
     ensures halted { (script : ScriptOf) → (opening script).lists.halted ≡ [] }
 {}
 
-/// Who has the processor. The front of the ready list gets it; a process ends at the end of its program; a turn is over after a
-/// yield and after quantum steps, and else makes the next step. A process that becomes ready goes to the back, or halts.
+/// The process at the front of the ready list gets the processor, and ends at the end of its program. A turn is over
+/// after a yield and after quantum steps; otherwise it takes the next step. A process that becomes ready goes to the
+/// back, or halts.
 pub fn each_turn_is_known()
     ensures still { (script : ScriptOf) (s : Lists) → s.ready ≡ [] → step script (turn_over s) ≡ turn_over s }
     ensures front { (script : ScriptOf) (s : Lists) (p : Process) (others : List Process) → s.ready ≡ p ∷ others
@@ -55,7 +56,7 @@ pub fn each_turn_is_known()
     ensures more { (script : ScriptOf) (s : State) (n : ℕ) → steps (n + 1) script s ≡ step script (steps n script s) }
 {}
 
-/// A turn that goes on has made one step more, and only a yield ends it early.
+/// A turn that goes on has taken one more step, and only a yield ends it early.
 pub fn only_a_yield_ends_a_turn_early()
     ensures counted { (script : ScriptOf) (s : Lists) (t after : Turn) (next : StepOf)
         → (make script s t next).running ≡ Some after → after.made ≡ t.made + 1 }
@@ -65,7 +66,7 @@ pub fn only_a_yield_ends_a_turn_early()
         → (make script s t yield).running ≡ Some after → after.has_yielded ≡ true }
 {}
 
-/// What a step of each kind leaves of the lists and of the turn.
+/// How a step of each kind changes the lists and the turn.
 pub fn each_step_of_a_turn_is_known()
     ensures said { (script : ScriptOf) (s : Lists) (t : Turn) (text : List ℕ) → make script s t (say text)
         ≡ on_turn s (turn_after t (said text) false) }
