@@ -1,4 +1,4 @@
-//! What callers conclude of file tables.
+//! Conclusions about file tables.
 
 ghost use Rattle.std.specs.Prelude.{◌≡◌, [], ◌∷◌, Some, None};
 ghost use Rattle.fak_run.specs.Examples.{changed, used};
@@ -6,8 +6,8 @@ ghost use Rattle.fak_run.specs.Files.{close_change, free_entry, open_change, use
 
 use fak_run::laws::file_tables::each_open_and_close_is_counted;
 
-/// An entry of 6,000 uses has 5,999 after a close, and the entries beside it stay. The last of them has the most uses after one
-/// open more, and no more after another.
+/// After a close an entry of 6,000 uses has 5,999, and the entries next to it stay the same. One more open gives an
+/// entry its most uses, and a further one changes nothing.
 pub fn a_file_of_many_uses_stays_open()
     ensures closed { close_change (used 5 1 ∷ used 7 6000 ∷ used 9 3 ∷ []) 7
         ≡ changed (Some 1) (used 5 1 ∷ used 7 5999 ∷ used 9 3 ∷ []) }

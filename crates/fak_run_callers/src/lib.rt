@@ -1,5 +1,5 @@
-//! Callers of the laws of `fak_text` and `fak_run`: each function names laws, and concludes in public words of known numbers,
-//! texts and scripts. None imports another crate's proofs.
+//! Callers of the laws of `fak_text` and `fak_run`. Each function cites laws and concludes something about known
+//! numbers, texts and scripts in public words. None imports proofs of another crate.
 #![tactic(auto)]
 
 pub mod files;

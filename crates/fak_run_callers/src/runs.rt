@@ -1,4 +1,4 @@
-//! What callers conclude of runs.
+//! Conclusions about runs.
 
 ghost use Rattle.std.specs.Prelude.{◌≡◌, ◌≢◌, ℕ, ◌≤◌, List, [], ◌∷◌, length};
 ghost use Rattle.std.specs.List.{All};
@@ -17,7 +17,8 @@ use fak_run::laws::{
     the_list_scheduler_ends_known_scripts, the_list_scheduler_reports_each_name_once,
 };
 
-/// A script in range ends, and one that is known ends as it does, with no unit in its two semaphores.
+/// The list scheduler ends every script in range. It ends a known script in the known way, with no unit in its two
+/// semaphores.
 pub fn a_script_in_range_ends()
     ensures ends { (script : ScriptOf) → IsInRange script → (lists : Lists) × EndsIn script lists }
     ensures counts { (lists : Lists) → EndsIn ping_pong lists → lists.counts ≡ 0 ∷ 0 ∷ [] }
@@ -27,7 +28,7 @@ pub fn a_script_in_range_ends()
     the_list_scheduler_ends_known_scripts();
 }
 
-/// No report of the list scheduler has one name in two rows, and the births of two reports of a script are the same.
+/// No report of the list scheduler has the same name in two rows, and two reports of a script have the same births.
 pub fn a_report_names_each_process_once()
     ensures twice { (script : ScriptOf) (a b : RowOf) (version births bound : ℕ) (entries : List FileEntry)
         → ListSchedulerReports script (record {
@@ -43,7 +44,7 @@ pub fn a_report_names_each_process_once()
     the_list_scheduler_reports_each_name_once();
 }
 
-/// The ledgers of three processors balance together.
+/// If the ledgers of three processors balance, so does their joined ledger.
 pub fn three_ledgers_balance()
     ensures { (script : ScriptOf) (a b d : Ledger) → Balanced script 16 [] [] a → Balanced script 16 [] [] b
         → Balanced script 16 [] [] d → Balanced script 16 [] [] (joined (joined a b) d) }

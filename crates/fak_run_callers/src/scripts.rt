@@ -1,4 +1,4 @@
-//! What callers conclude of scripts and of the processes that run them.
+//! Conclusions about scripts and the processes that run them.
 
 ghost use Rattle.std.specs.Prelude.{◌≡◌, ℕ, ◌<◌, ◌≤◌, List, [], ◌∷◌, length, slice_get, Some};
 ghost use Rattle.fak_text.specs.Journal.{FitsScript, Process, downed, new_process};
@@ -10,8 +10,8 @@ use fak_text::laws::{
     each_step_of_a_script_is_in_range,
 };
 
-/// The steps of a script name one of at most 16 semaphores and 64 programs, and inodes from 1 to 4,294,967,296; what they say has
-/// at most 80 characters; and only scripts of version 2 shut down.
+/// The steps of a script name one of at most 16 semaphores, one of at most 64 programs, and inodes from 1 to
+/// 4,294,967,296. They say at most 80 characters, and only scripts of version 2 shut down.
 pub fn steps_name_what_a_script_may_have()
     ensures down { (script : ScriptOf) (program position n : ℕ) → IsInRange script
         → slice_get (steps_of script program) position ≡ Some (down n) → n < 16 }
@@ -27,7 +27,7 @@ pub fn steps_name_what_a_script_may_have()
     each_step_of_a_script_is_in_range();
 }
 
-/// A process of `ping_pong` fits the script as it begins and after its first step, and never stands past three steps.
+/// A process of `ping_pong` fits the script at its start and after its first step, and its position is never above 3.
 pub fn a_process_walks_its_program()
     ensures begins { FitsScript ping_pong (new_process (1 ∷ []) 1 1) }
     ensures moves { FitsScript ping_pong

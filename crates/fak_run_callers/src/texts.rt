@@ -1,4 +1,4 @@
-//! What callers conclude of texts.
+//! Conclusions about texts.
 
 ghost use Rattle.std.specs.Prelude.{◌≡◌, ℕ, List, [], ◌∷◌, ◌++◌, codes, decimal, negsuc, pos, Some, None};
 ghost use Rattle.fak_core.specs.declared.line.CoreMove.TheVariants as moves;
@@ -17,8 +17,8 @@ use fak_text::laws::{
     each_mark_is_read_by_its_name, each_spawn_is_counted, each_step_has_its_name,
 };
 
-/// Lines that found a number of two digits below 0, the largest number of a word without a mark, and an amount; and a mark and a
-/// step by their names.
+/// Lines that found a number of two digits below 0, the largest number of a word, and an amount; one of them has no
+/// mark. A mark and a step, by their names.
 pub fn lines_of_many_numbers_are_known()
     ensures below { LineReads 63 moves.BackLow (negsuc 11) (Some (marks.Queue kinds.BackOut))
         (decimal 63 ++ codes " " ++ codes "back-low" ++ codes " " ++ (45 ∷ decimal 12) ++ codes " " ++
@@ -37,7 +37,7 @@ pub fn lines_of_many_numbers_are_known()
     each_step_has_its_name();
 }
 
-/// What the names of marks are read as.
+/// The marks that two names are read as.
 pub fn marks_are_read_by_their_names()
     ensures put { kind_named (codes "put") 7 ≡ Some (kinds.Put 7) }
     ensures late { kind_named (codes "late-in") 0 ≡ Some kinds.LateIn }
@@ -45,7 +45,7 @@ pub fn marks_are_read_by_their_names()
     each_mark_is_read_by_its_name();
 }
 
-/// The journal of a child that says a text, ups a semaphore and begins its second child.
+/// The journal of a child that says a text, performs an up of a semaphore and begins its second child.
 pub fn a_journal_is_its_lines()
     ensures text { (text : List ℕ) → text_of_journal (0 ∷ 3 ∷ []) (said text ∷ upped 12 ∷ spawned 1 ∷ [])
         ≡ codes "  " ++ (codes "say " ++ text) ++ codes "\n"

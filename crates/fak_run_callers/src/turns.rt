@@ -1,4 +1,4 @@
-//! What callers conclude of turns.
+//! Conclusions about turns.
 
 ghost use Rattle.std.specs.Prelude.{◌≡◌, ◌≢◌, ℕ, false, true, List, [], ◌++◌, ◌∷◌, slice_index_or, Some};
 ghost use Rattle.fak_text.specs.Journal.{StandsAt, downed, no_birth, upped};
@@ -10,7 +10,7 @@ use fak_run::laws::small_steps::{
     each_step_of_a_turn_is_known, each_turn_is_known, only_a_yield_ends_a_turn_early,
 };
 
-/// In a turn of 1,000 steps an up is the 999th like any other, and the turn is over after the 1,000th step.
+/// In a turn of 1,000 steps an up may be the 999th step, and the turn is over after the 1,000th step.
 pub fn a_turn_of_1000_steps_is_over_after_them()
     ensures goes_on { (script : ScriptOf) (s : Lists) (t : Turn) → script.quantum ≡ 1000 → t.made ≡ 998
         → t.has_yielded ≡ false → StandsAt script t.process (up 3) → slice_index_or s.sleepers 3 [] ≡ []
@@ -23,7 +23,7 @@ pub fn a_turn_of_1000_steps_is_over_after_them()
     each_step_of_a_turn_is_known();
 }
 
-/// A text that is said ends no turn early, a yield does, and each counts as one step.
+/// A said text does not end a turn early, a yield does, and each counts as one step.
 pub fn a_text_ends_no_turn()
     ensures said { (script : ScriptOf) (s : Lists) (t after : Turn) (text : List ℕ)
         → (make script s t (say text)).running ≡ Some after → after.has_yielded ≢ true }
@@ -33,7 +33,7 @@ pub fn a_text_ends_no_turn()
     only_a_yield_ends_a_turn_early();
 }
 
-/// A down passes at 1 and leaves 0, and a script without births has no child.
+/// A down passes if the count is 1 and leaves 0, and a script without births starts no child.
 pub fn a_down_takes_the_last_unit()
     ensures passes { (script : ScriptOf) (s : Lists) (t : Turn) → s.counts ≡ 1 ∷ []
         → make script s t (down 0) ≡ on_turn (record s { counts = 0 ∷ [] }) (turn_after t (downed 0) false) }

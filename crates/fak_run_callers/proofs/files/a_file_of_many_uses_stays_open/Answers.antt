@@ -5,7 +5,7 @@ use Rattle.fak_run.specs.Examples.{used}
 use Rattle.fak_run.specs.Files.{free_entry}
 use Rattle.fak_run_callers.proofs.files.a_file_of_many_uses_stays_open.Goals as goal
 
--- an entry of another inode, alone and before another one
+-- an entry of another inode, by itself and before another entry
 differs : (inode : ℕ) (a : FileEntry) → a.inode ≢ inode → All (λ (e : FileEntry). e.inode ≢ inode) (a ∷ [])
 differs inode a other = All-cons (λ (e : FileEntry). e.inode ≢ inode) a [] other (All-nil _)
 
