@@ -1,4 +1,4 @@
--- The names that proofs cite most, passed on from one place. Declares nothing.
+-- The names that proofs cite most, passed on from one place. This file declares nothing.
 pub use Rattle.atomic_table.specs.Seated.{TableId}
 pub use Rattle.atomic_table.specs.Table.{State, Act, keeps, stepped, carried_after, Valid, opening, Allows}
 pub use Rattle.fak_core.specs.declared.room.phase.RoomPhase.TheVariants.{Idle, Adding, Backing, Testing, Releasing}

@@ -1,4 +1,4 @@
--- From the steps of a seat of a credit to what its calls promise.
+-- From the steps of a credit's seat to what the calls promise.
 use Rattle.fak_count.proofs.Common.{◌≡◌, ℕ, ◌+◌, ◌-◌, ◌<◌, ◌^◌, ℤ, pos, ◌-ℤ◌, List, [], ◌∷◌, length, length-append, refl, ap, sym, ◌∙◌, subst, arith, inl, reverse, map, flat_map, ints, IsAtRest, marks_of, sight, Leaves, ObjectId, object_id, SeatInfo, seat_info, Appends, before_appended, IsSeatToken, bias, rest_after, rest_none, begins_self, token_names, token_left, token_slots, step_appends, token_after, step_before, CreditHolder, credit_mark, credit_object, FoundValue, MadeMark, Observed, TableId, CreditKind, CreditMark, kind_of, value, credit_rules, CreditLimits}
 use Rattle.fak_count.specs.Credits.{CreditInfo, credit_info, seat_of, credit_seat, MakesCall, Observes}
 
@@ -27,7 +27,7 @@ module _ (key : CreditLimits) {seats name left : ℕ} {table mine : TableId} {m 
     pub token_made : IsSeatToken seat_of seats name tt (left - 1) after
     token_made = subst (λ (x : ℕ × ℕ). IsSeatToken seat_of x.0 name tt (x.1 - 1) after) (λ i. (sym same_seats i, token_left f i)) (token_after made name (token_names f) (refl, tt) own_token (token_slots f))
 
-    -- a debit or credit is made
+    -- a debit or credit is performed
     pub call_made : {now : TableId} {answer : ℤ} → now ≡ mine → 0 < left → answer ≡ pos found -ℤ pos bias → MakesCall kind credit old (credit_seat (object_id now seats) name (left - 1) after) answer
     call_made {now} {answer} stays some_left answer_is =
         let object : ObjectId = object_id mine seats in
@@ -75,7 +75,7 @@ fresh_credit_seat object name stint m is =
     let full : stint + 0 ≡ stint = omega arith in
     ap (λ (x : CreditHolder). credit_seat object name stint x) is ∙ ap (λ (k : ℕ). seat_info object name k []) full
 
--- each mark is a whole call
+-- each mark is a whole call, so every history is at rest
 pub always_at_rest : (h : List CreditMark) → IsAtRest credit_rules h
 always_at_rest h seat = rest_after credit_rules seat (marks_of seat_of seat h) [] h (map kind_of (marks_of seat_of seat h)) refl (sym (each_a_call (map kind_of (marks_of seat_of seat h)))) (rest_none credit_rules seat) seat (inl refl)
   where

@@ -1,4 +1,4 @@
--- Each kind of step on a credit keeps the rule, and tells what it did.
+-- Each kind of step on a credit keeps the rule, and shows what it did.
 use Rattle.fak_count.proofs.Common.{◌≡◌, ℕ, suc, ◌+◌, ◌-◌, ◌*◌, ◌%◌, ◌^◌, ◌<◌, ◌≤◌, ℤ, pos, ◌+ℤ◌, ◌-ℤ◌, List, [], ◌∷◌, ◌++◌, length, slice_index, refl, ap, sym, ◌∙◌, subst, arith, Some, reverse, ints, reverse-append, some, get_elem?, sight, Leaves, bias, every_history, count_place, KeepsCount, CreditView, CreditHolder, credit_mark, credit_object, opened_credit, IsShownCredit, FoundValue, MadeMark, Observed, HeardJoin, State, Act, keeps, stepped, carried_after, Valid, opening, Allows, CreditKind, CreditMark, debit_weight, credit_weight, kind_of, debits, credits, value, AreLawful, Advances, steps, observes, starts, hears, CreditLimits, IsCount, IsInLargeRange}
 use Rattle.fak_model.specs.declared.credit.CreditKind.TheVariants.{Debit, Credit}
 use Rattle.fak_model.proofs.Leading.{total_push}
@@ -58,7 +58,7 @@ module _ (key : CreditLimits) (s : State (Unit {0}) CreditView) (r : IsShownCred
   advances : (kind : CreditKind) → Advances (credit_object key) r.core name (credit_mark name kind ∷ r.core) (credit_mark name kind ∷ []) tt
   advances kind = record { reached = r.reached; past = refl; own = (refl, tt); stands = tt; others = λ k p ne h. tt }
 
-  -- a call that leaves this mark, and the next word
+  -- a call that leaves a mark of this kind, and changes the word as f does
   calls : (kind : CreditKind) (f : ℕ → ℕ) → 0 < m.0.left → pos (f (slice_index s.words count_place)) ≡ pos bias +ℤ value key.start (reverse (credit_mark name kind ∷ r.core))
       → Outcome f (MadeMark key kind m)
   calls kind f some_left is =
@@ -100,7 +100,7 @@ hears_allowed key slots id m = hears (credit_object key) (lawful key) slots id m
 
 -- ---- opening
 
--- the table at the opening shows a credit at its start
+-- at the opening the table shows a credit at its start
 pub opens_credit : (key : CreditLimits) → IsInLargeRange (IsCount key.start) key.seats key.stint → (ws : List ℕ) → KeepsCount (pos key.start) ws → IsShownCredit key (opening ws [] (opened_credit key))
 opens_credit key range ws keeps_start =
     starts (credit_object key) tt (key.seats * key.stint) [] (range.0, range.2.1) refl (λ n low. tt) ws []

@@ -1,4 +1,4 @@
--- From the steps of a seat of a room to what its calls promise.
+-- From the steps of a room's seat to what the calls promise.
 use Rattle.fak_count.proofs.Common.{◌≡◌, ℕ, ◌+◌, ◌<◌, ◌≤◌, List, [], ◌∷◌, ◌++◌, length, refl, ap, sym, ◌∙◌, subst, arith, ℤ, pos, ◌-ℤ◌, reverse, map, sum_by, flat_map, ints, sum_by-append, sum_by-cons, marks_of, sight, ObjectId, object_id, SeatInfo, seat_info, TallyInfo, IsJoined, Appends, before_mark, before_appended, IsSeatToken, bias, Up, Over, Back, No, Release, rest_after, rest_joined, rest_none, begins_self, seen_lawful, token_names, mine_after, begins_after, step_appends, token_after, step_before, appends_then, appends_none, Idle, Adding, Backing, RoomHolder, room_mark, LeavesRoom, Tested, Added, Lowered, TableId, RoomKind, RoomMark, releases_le, RoomLimits}
 use Rattle.std.proofs.lemmas.List.{append-nil, map-append}
 use Rattle.fak_model.specs.Room.{WholeCall, kinds_of_call, seat_of, kind_of, up_amount, release_amount, value, amount_held, room_rules}
@@ -6,7 +6,7 @@ use Rattle.fak_model.proofs.Appending.{history_none}
 use Rattle.fak_core.specs.declared.room.phase.RoomPhase.{RoomPhase}
 use Rattle.fak_count.specs.Rooms.{RoomInfo, room_info, up_weight, grants_of, granted_claims, held_amount, room_seat, MakesCall, Withdraws, IsSettled}
 
--- ---- what a call makes of the claims granted and of what is held
+-- ---- how a call changes the claims granted and what is held
 
 granted_more : (f g h : List RoomMark) (name : ℕ) → marks_of seat_of name g ≡ marks_of seat_of name f ++ h → grants_of name g ≡ grants_of name f + sum_by up_weight (map kind_of h)
 granted_more f g h name e = ap (λ l. sum_by up_weight (map kind_of l)) e ∙ (ap (sum_by up_weight) (map-append kind_of (marks_of seat_of name f) h) ∙ sum_by-append up_weight (map kind_of (marks_of seat_of name f)) (map kind_of h))
@@ -35,7 +35,7 @@ settled_none bound name seen is = subst (λ (h : List RoomMark). IsSettled (name
   rest = rest_none (room_rules bound) name;
 }
 
--- a call was made
+-- a call was performed
 settled_more : (bound : ℕ) (marks : List RoomMark) (object : ObjectId) (name stint : ℕ) (f g : List RoomMark) (calls : List WholeCall) → Appends (room_rules bound) marks (seat_info object name stint f) (seat_info object name stint g)
     → map kind_of marks ≡ flat_map kinds_of_call calls → IsSettled (name ∷ []) f → IsSettled (name ∷ []) g
 settled_more bound marks object name stint f g calls call are old = record {
@@ -54,7 +54,7 @@ settled_joined bound j old new = record {
 
 -- ---- steps of one call
 
--- the seat's steps have left these marks, and it stands at this phase; the first mark's step found this word
+-- the seat's steps have left these marks, and it is at this phase; the step of the first mark found this word
 pub record Did (key : RoomLimits) (name : ℕ) (marks : List RoomMark) (phase : RoomPhase) (m : RoomHolder) (found : ℕ) (after : RoomHolder) : Type 0 where
   pub token : IsSeatToken seat_of key.seats name phase 0 after
   pub appends : (object : ObjectId) (stint : ℕ) → object.seats ≡ key.seats → Appends (room_rules key.bound) marks (seat_info object name stint (reverse m.0.seen)) (seat_info object name stint (reverse after.0.seen))
@@ -72,11 +72,11 @@ module _ {key : RoomLimits} {name : ℕ} {m : RoomHolder} {was : RoomPhase} (f :
         value_is ∙ ap value (sym (step_before l name (token_names f) refl number count (reverse after.0.seen) (begins_self (reverse after.0.seen))));
   }
 
-  -- a step with no mark
+  -- a step without a mark
   pub token_looked : {found : ℕ} {phase : RoomPhase} {after : RoomHolder} → LeavesRoom key m found [] phase after → IsSeatToken seat_of key.seats name phase 0 after
   token_looked l = token_after l name (token_names f) tt f (ap (λ (x : RoomHolder). x.1) f.me_is)
 
-  -- and what the seat did after it
+  -- a step without a mark, and what the seat did after it
   pub did_after : {first found : ℕ} {mid after : RoomHolder} {at phase : RoomPhase} {marks : List RoomMark} → LeavesRoom key m first [] at mid → Did key name marks phase mid found after → Did key name marks phase m found after
   did_after {mid = mid} {after = after} {marks = marks} l d =
       let looked : (object : ObjectId) (stint : ℕ) → object.seats ≡ key.seats → Appends (room_rules key.bound) [] (seat_info object name stint (reverse m.0.seen)) (seat_info object name stint (reverse mid.0.seen)) =
@@ -182,7 +182,7 @@ module _ {key : RoomLimits} {left seats name held : ℕ} {table mine : TableId} 
     appended : Appends (room_rules key.bound) marks (seat_info (object_id mine seats) name (left + grants_of name (reverse m.0.seen)) (reverse m.0.seen)) (seat_info (object_id mine seats) name (left + grants_of name (reverse m.0.seen)) (reverse after.0.seen))
     appended = d.appends (object_id mine seats) (left + grants_of name (reverse m.0.seen)) same_seats
 
-    -- the seat as it is after these whole calls, where this much is held
+    -- the seat after these whole calls, when it holds this much
     pub seat_after : (calls : List WholeCall) → map kind_of marks ≡ flat_map kinds_of_call calls → (held' : ℕ) → held' + sum_by release_amount (map kind_of marks) ≡ held + sum_by up_amount (map kind_of marks)
         → IsSeatToken seat_of seats name Idle 0 after × (held' ≡ amount_held name (reverse after.0.seen)) × IsSettled (name ∷ []) (reverse after.0.seen)
     seat_after calls are held' is =
@@ -211,7 +211,7 @@ module _ {key : RoomLimits} {left seats name held : ℕ} {table mine : TableId} 
         let none : length (marks_of seat_of name (reverse m.0.seen)) ≡ length (marks_of seat_of name (reverse m.0.seen)) + 0 = omega arith in
         is ∙ d.found_is (length (marks_of seat_of name (reverse m.0.seen)) + 0) none
 
-  -- a call of one mark
+  -- a call with one mark
   pub makes_call : (kind : RoomKind) {found : ℕ} {after : RoomHolder} → Did key name (room_mark name kind ∷ []) Idle m found after → {now : TableId} → now ≡ mine → (left' : ℕ) → left' + up_weight kind ≡ left
       → {answer : ℤ} → answer ≡ pos found -ℤ pos bias → MakesCall kind room old (room_seat (object_id now seats) name left' after) answer
   makes_call kind {after = after} d {now} stays left' is {answer} answer_is =

@@ -1,4 +1,4 @@
--- Each kind of step on a room keeps the rule, and tells what it did.
+-- Each kind of step on a room keeps the rule, and shows what it did.
 use Rattle.fak_count.proofs.Common.{◌≡◌, ◌≢◌, ℕ, ◌+◌, ◌-◌, ◌%◌, ◌^◌, ◌<◌, ◌≤◌, Bool, true, false, List, [], ◌∷◌, ◌++◌, length, slice_index, slice_get, refl, ap, ◌∙◌, subst, arith, Option, Some, None, pos, ◌+ℤ◌, ◌-ℤ◌, ◌≤ℤ◌, ◌<ℤ◌, nat_lt, map, reverse, replicate, Ok, sum_by, nat_tests, ints, slice_get_within, slice_get-get_or, get_or-replicate, some, get_elem?, IsHistory, sight, AreOwn, Leaves, bias, sees_knows, Idle, Testing, Adding, Backing, Releasing, count_place, KeepsCount, State, Act, keeps, stepped, carried_after, Valid, opening, Allows, RoomKind, AreLawful, Advances, steps, bears, sees_now, stands_now, starts, hears, RoomLimits, IsCount, IsInLargeRange}
 use Rattle.std.proofs.Math.ListN.{length-replicate}
 use Rattle.fak_model.specs.declared.room.RoomKind.TheVariants.{Up, Over, Back, No, Release as GivenBack}
@@ -48,11 +48,11 @@ module _ (key : RoomLimits) (s : State (Unit {0}) RoomView) (r : IsShownRoom key
   abbrev Outcome : (ℕ → ℕ) → (ℕ → RoomHolder → Type 0) → Type 0
   Outcome f tells = (w : RoomView) × (a : Act (Unit {0})) × Valid s.homes m.1 a × IsShownRoom key (stepped s count_place (f (slice_index s.words count_place)) id m.1 w a) × tells (slice_index s.words count_place) (w, carried_after m.1 a)
 
-  -- what the seat has seen has all its marks
+  -- what the seat has seen includes all its marks
   held_seen : amount_held name (reverse r.core.past) ≡ amount_held name (reverse m.0.seen)
   held_seen = ap (λ h. sum_by up_amount (map kind_of h) - sum_by release_amount (map kind_of h)) ((sees_knows seat_of m.0.names m.0.seen r.core.past (sees_now (room_object key) s r id name m at one)).own name (bears (room_object key) s r id name m at one))
 
-  -- the seat makes its next move, perhaps of a call that begins with it
+  -- the seat takes its next step, which may begin a call
   module _ (s0 : RoomState) (x : CoreSeat) (mv : RoomMove) (reached : IsReached key.bound key.seats s0) (same : s0.past ≡ r.core.past)
       (others : (k : ℕ) (y : CoreSeat) → k ≢ name → slice_get r.core.seats k ≡ Some y → slice_get s0.seats k ≡ Some y)
       (here : slice_get s0.seats name ≡ Some x) (next : next_move s0.bound s0.count x.held x.phase ≡ Some mv) where
@@ -77,7 +77,7 @@ module _ (key : RoomLimits) (s : State (Unit {0}) RoomView) (r : IsShownRoom key
       others = λ k p ne old. record { holding = old.holding; seat = written_stays s0.seats name k mv.seat (record { held = old.holding; phase = p }) ne (others k (record { held = old.holding; phase = p }) ne old.seat) };
     }
 
-    -- what the seat holds then is within the bound
+    -- what the seat then holds is within the bound
     holds_after : amount_held name (reverse (marks_left name mv.mark ++ r.core.past)) ≤ 4294967296
     holds_after =
         let k = reached_kept key.bound key.seats after after_reached.reached in
@@ -93,7 +93,7 @@ module _ (key : RoomLimits) (s : State (Unit {0}) RoomView) (r : IsShownRoom key
     goes_on f is = steps (room_object key) s r id name m at one (lawful key) after (marks_left name mv.mark) mv.seat.phase advances count_place (f (slice_index s.words count_place)) keeps
         (writes s.words r.core.count mv.count (f (slice_index s.words count_place)) r.encoded is) 0 (omega arith) (FoundValue (slice_index s.words count_place)) found_now
 
-  -- the count is what was found, less the bias
+  -- the count is the word that was found, less the bias
   fits_found : (d : ℕ) → fits r.core.bound r.core.count d ≡ true → slice_index s.words count_place + d ≤ bias + key.bound
   fits_found d e =
       let shape = (reached_shape key.bound key.seats r.core r.reached.reached).0 in
@@ -263,7 +263,7 @@ hears_allowed key slots id m = hears (room_object key) (lawful key) slots id m c
 
 -- ---- opening
 
--- the table at the opening shows an empty room
+-- at the opening the table shows an empty room
 pub opens_room : (key : RoomLimits) (stint : ℕ) → IsInLargeRange (IsCount key.bound) key.seats stint → (ws : List ℕ) → KeepsCount (pos 0) ws → IsShownRoom key (opening ws [] (opened_room key))
 opens_room key stint range ws keeps_none =
     starts (room_object key) Idle 0 (core_opening key.bound key.seats) (record { reached = opening_reached key.bound key.seats; low = range.0; few = range.1.1 }) refl

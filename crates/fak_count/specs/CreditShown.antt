@@ -1,4 +1,4 @@
--- What a running credit shows between two steps, and what each step tells.
+-- What a running credit shows between two steps, and what a seat learns from each step.
 use Rattle.std.specs.Prelude.{ℕ, ◌*◌, ◌-◌, ◌^◌, ◌<◌, ◌≤◌, ◌≡◌, pos, ◌+ℤ◌, List, [], ◌∷◌, length, reverse}
 use Rattle.atomic_table.specs.Table.{State, Me}
 use Rattle.fak_model.specs.declared.view.View.{View}
@@ -21,7 +21,7 @@ CreditHolder = Me (Unit {0}) CreditView
 abbrev pub credit_mark : ℕ → CreditKind → CreditMark
 credit_mark name kind = record { seat = name; kind = kind }
 
--- a credit's state is its past, of which every one is a credit's; each debit and credit draws a ticket, and the limits hold
+-- a credit's state is its past, and every past can be reached; each debit and credit draws a ticket, and the limits hold
 abbrev pub credit_object : CreditLimits → Object CreditMark CreditKind CreditKind (Unit {0}) (List CreditMark) (Unit {0})
 credit_object key = record {
   rules = credit_rules;
@@ -40,7 +40,7 @@ IsShownCredit key s = IsShown (credit_object key) s
 abbrev pub opened_credit : CreditLimits → CreditView
 opened_credit key = opened tt key.seats (key.seats * key.stint)
 
--- the word that was found keeps the value after this past
+-- the word that was found holds the value after this past
 abbrev pub FoundValue : CreditLimits → ℕ → List CreditMark → Type 0
 FoundValue key found past = (pos found ≡ pos bias +ℤ value key.start (reverse past)) × (found < 2 ^ 63)
 

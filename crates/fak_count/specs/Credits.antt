@@ -18,7 +18,7 @@ credit_info object start = record { object = object; start = start }
 abbrev pub seat_of : CreditMark → ℕ
 seat_of m = m.seat
 
--- the debits and credits that the seat has made
+-- the number of debits and credits that the seat has performed
 abbrev pub calls_made : SeatInfo CreditMark → ℕ
 calls_made s = length (mine_of seat_of s)
 
@@ -26,7 +26,7 @@ calls_made s = length (mine_of seat_of s)
 abbrev pub credit_seat : ObjectId → ℕ → ℕ → CreditHolder → SeatInfo CreditMark
 credit_seat object name left me = seat_info object name (left + length (marks_of seat_of name (reverse me.0.seen))) (reverse me.0.seen)
 
--- a debit or credit within the stint, which answers the value before its mark
+-- a debit or credit within the stint; it returns the value before its mark
 pub record MakesCall (kind : CreditKind) (credit : CreditInfo) (old new : SeatInfo CreditMark) (answer : ℤ) : Type 0 where
   pub within : calls_made old < old.stint
   pub appends : Appends credit_rules (record { seat = old.name; kind = kind } ∷ []) old new
@@ -37,7 +37,7 @@ pub record IsWorn (old new : SeatInfo CreditMark) : Type 0 where
   pub spent : calls_made old ≡ old.stint
   pub unchanged : new ≡ old
 
--- a load, which leaves no mark and answers the value after all that the seat has seen then
+-- a load, which leaves no mark and returns the value after all that the seat has then seen
 pub record Observes (credit : CreditInfo) (old new : SeatInfo CreditMark) (answer : ℤ) : Type 0 where
   pub appends : Appends credit_rules [] old new
   pub answers : answer ≡ value credit.start new.seen

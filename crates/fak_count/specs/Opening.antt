@@ -1,4 +1,4 @@
--- The ranges of what rooms and credits are opened with, and which fault is answered outside them.
+-- The ranges of what rooms and credits are opened with, and the faults outside them.
 use Rattle.std.specs.Prelude.{ℕ, ◌≤◌}
 use Rattle.fak_model.specs.Limits.{IsNumberOfSeats, IsStint}
 use Rattle.fak_count.specs.declared.fault.OpenFault.{OpenFault}
@@ -18,7 +18,7 @@ IsRangeFault count seats stint BadSeats = IsCount count × ¬ IsNumberOfSeats se
 IsRangeFault count seats stint BadStint = IsCount count × IsNumberOfSeats seats × ¬ IsStint stint
 IsRangeFault count seats stint Memory = ⊥
 
--- memory is asked for last
+-- memory is allocated last
 abbrev pub IsOpenFault : ℕ → ℕ → ℕ → OpenFault → Type 0
 IsOpenFault count seats stint Memory = IsInRange count seats stint
 IsOpenFault count seats stint fault = IsRangeFault count seats stint fault

@@ -1,4 +1,4 @@
--- What a running room shows between two steps, and what each step tells.
+-- What a running room shows between two steps, and what a seat learns from each step.
 use Rattle.std.specs.Prelude.{ℕ, ◌+◌, ◌^◌, ◌<◌, ◌≤◌, ◌≡◌, pos, ◌+ℤ◌, List, [], ◌∷◌, reverse, slice_get, Some}
 use Rattle.atomic_table.specs.Table.{State, Me}
 use Rattle.fak_model.specs.declared.view.View.{View}
@@ -32,7 +32,7 @@ pub record IsReachedRoom (key : RoomLimits) (s : RoomState) : Type 0 where
   pub low : IsCount key.bound
   pub few : key.seats ≤ 1024
 
--- whatever it holds, the seat stands at this phase
+-- the seat is at this phase, whatever it holds
 pub record StandsInRoom (s : RoomState) (name : ℕ) (phase : RoomPhase) : Type 0 where
   pub holding : ℕ
   pub seat : slice_get s.seats name ≡ Some (record { held = holding; phase = phase })
@@ -56,32 +56,31 @@ IsShownRoom key s = IsShown (room_object key) s
 abbrev pub opened_room : RoomLimits → RoomView
 opened_room key = opened Idle key.seats 0
 
--- what the names of the view hold is at least d
+-- the one name of the view holds at least d
 abbrev pub Holds : RoomView → ℕ → Type 0
 Holds v d = (name : ℕ) → v.names ≡ name ∷ [] → d ≤ amount_held name (reverse v.seen)
 
--- the word that was found keeps the value after this past
+-- the word that was found holds the value after this past
 abbrev pub FoundValue : ℕ → List RoomMark → Type 0
 FoundValue found past = pos found ≡ pos bias +ℤ value (reverse past)
 
--- the seat left these marks, and stands at this phase
+-- the seat left these marks, and is at this phase
 abbrev pub LeavesRoom : RoomLimits → RoomHolder → ℕ → List RoomMark → RoomPhase → RoomHolder → Type 0
 LeavesRoom key m found new phase after = Leaves (room_object key) m new phase 0 m.1 (FoundValue found) after
 
--- a test: the claim goes on where it fits, and is refused where it doesn't
+-- a test: the claim goes on if it fits, and is refused if it does not
 pub record Tested (key : RoomLimits) (d : ℕ) (m : RoomHolder) (found : ℕ) (after : RoomHolder) : Type 0 where
   pub small : found < 2 ^ 63
   pub fits : (name : ℕ) → m.0.names ≡ name ∷ [] → found + d ≤ bias + key.bound → LeavesRoom key m found [] (Adding d) after
   pub full : (name : ℕ) → m.0.names ≡ name ∷ [] → bias + key.bound < found + d → LeavesRoom key m found (room_mark name (No d) ∷ []) Idle after
 
--- an add: the claim is granted where it fits, and what the seat holds then is within the bound; it goes on to be
--- withdrawn where it doesn't fit
+-- an add: if the claim fits, it is granted, and what the seat then holds is within the bound; if not, it is to be withdrawn next
 pub record Added (key : RoomLimits) (d : ℕ) (m : RoomHolder) (found : ℕ) (after : RoomHolder) : Type 0 where
   pub small : found < 2 ^ 63
   pub fits : (name : ℕ) → m.0.names ≡ name ∷ [] → found + d ≤ bias + key.bound → LeavesRoom key m found (room_mark name (Up d) ∷ []) Idle after × (amount_held name (reverse after.0.seen) ≤ 4294967296)
   pub full : (name : ℕ) → m.0.names ≡ name ∷ [] → bias + key.bound < found + d → LeavesRoom key m found (room_mark name (Over d) ∷ []) (Backing d) after
 
--- a subtraction: the claim is withdrawn, or the amount given back
+-- a subtraction, which withdraws a claim or gives an amount back
 pub record Lowered (key : RoomLimits) (kind : RoomKind) (m : RoomHolder) (found : ℕ) (after : RoomHolder) : Type 0 where
   pub small : found < 2 ^ 63
   pub leaves : (name : ℕ) → m.0.names ≡ name ∷ [] → LeavesRoom key m found (room_mark name kind ∷ []) Idle after

@@ -1,42 +1,42 @@
-//! Why an object was not opened, or a call on it was refused.
+//! The errors of opening an object, and of calls on it.
 
 use std::error::Error;
 use std::fmt;
 
-/// Why an object was not opened. Of several faults the first is answered.
+/// Why an object was not opened. If there are several faults, the first one is returned.
 #[derive(Clone, Copy, Debug, PartialEq, Eq)]
 pub enum OpenFault {
     /// The bound of a room, or the start of a credit, is above 4,294,967,296.
     BadSize,
-    /// The number of seats isn't 1 to 64.
+    /// The number of seats is not 1 to 64.
     BadSeats,
-    /// The stint isn't 1 to 1,099,511,627,776.
+    /// The stint is not 1 to 1,099,511,627,776.
     BadStint,
-    /// There was no memory.
+    /// Memory ran out.
     Memory,
 }
 
 /// Why a claim was refused.
 #[derive(Clone, Copy, Debug, PartialEq, Eq)]
 pub enum TirFault {
-    /// The seat's granted claims are its stint.
+    /// The seat has been granted as many claims as its stint.
     Worn,
-    /// The claim did not fit beside this value, which the test or the failed add found.
+    /// The claim did not fit on top of this value, which the test or the failed add found.
     AtBound(i64),
 }
 
-/// Why a claim by a port was refused. Of several refusals the first is returned.
+/// Why a claim by a port was refused. If there are several reasons, the first one is returned.
 #[derive(Clone, Copy, Debug, PartialEq, Eq)]
 pub enum ClaimFault {
-    /// The amount isn't 1 to 1,024.
+    /// The amount is not 1 to 1,024.
     BadAmount,
-    /// The seat's granted claims are its stint.
+    /// The seat has been granted as many claims as its stint.
     Worn,
-    /// The claim did not fit beside this value, which the test or the failed add found.
+    /// The claim did not fit on top of this value, which the test or the failed add found.
     AtBound(i64),
 }
 
-/// The seat has made all the calls of its stint.
+/// The seat has performed all the calls of its stint.
 #[derive(Clone, Copy, Debug, PartialEq, Eq)]
 pub struct Worn;
 

@@ -7,7 +7,7 @@ ghost use Rattle.fak_model.specs.Limits.{IsInLargeRange, IsLargeFault};
 use crate::fault::OpenFault;
 use fak_model::{LARGEST_BOUND, LONGEST_STINT, LargeFault, MOST_SEATS, tested_large_seats};
 
-/// Tests the bound or start, the number of seats and the stint of an object, in this order.
+/// Tests the bound or start, the number of seats and the stint of an object, in this order. Returns the first fault.
 pub(crate) fn tested_limits(count: u64, seats: u64, stint: u64) -> Result<(), OpenFault>
     ensures { MatchResult result (λ _. IsInRange count seats stint) (IsRangeFault count seats stint) }
 {
@@ -23,7 +23,7 @@ pub(crate) fn tested_limits(count: u64, seats: u64, stint: u64) -> Result<(), Op
     Ok(())
 }
 
-/// Tests the same of a large object, in the same order.
+/// Tests the same limits of a large object, in the same order.
 pub(crate) fn tested_large_limits(count: u64, seats: u64, stint: u64) -> Result<(), LargeFault>
     ensures { MatchResult result (λ _. IsInLargeRange (IsCount count) seats stint)
         (IsLargeFault (IsCount count) seats stint) }

@@ -44,7 +44,7 @@ impl Model for Credit {
 }
 
 impl Credit {
-    /// A credit that begins at `start`, with its seats, each of which may make `stint` debits and credits together.
+    /// Opens a credit at `start`, with its seats. Each seat may perform `stint` calls, debits and credits together.
     ///
     /// `start` is 0 to 4,294,967,296, `seats` 1 to 64, `stint` 1 to 2^40.
     ///
@@ -70,10 +70,10 @@ impl Credit {
         }
     }
 
-    /// A large credit: the same credit, with the same calls, of more seats.
+    /// Opens a large credit: the same credit, with the same calls, but more seats.
     ///
-    /// `start` is 0 to 4,294,967,296, and `seats` 1 to `LARGE_SEATS`. `stint` is at least 1, and `seats` times `stint` at most
-    /// `LARGE_TICKETS`.
+    /// `start` is 0 to 4,294,967,296, and `seats` 1 to `LARGE_SEATS`. `stint` is at least 1, and `seats` times `stint`
+    /// at most `LARGE_TICKETS`.
     ///
     /// # Errors
     ///
@@ -97,7 +97,7 @@ impl Credit {
         }
     }
 
-    /// A credit with its seats, whose limits have been tested.
+    /// A credit with its seats; the caller has tested the limits.
     fn with_limits(
         alloc: Global,
         start: u64,
@@ -135,11 +135,11 @@ impl Credit {
         Ok((Credit { table }, dealt))
     }
 
-    /// Subtracts 1, and answers the value before.
+    /// Subtracts 1, and returns the value before.
     ///
     /// # Errors
     ///
-    /// `Worn`, where the seat's stint is used up.
+    /// `Worn`, if the seat's stint is used up.
     pub fn debit(&self, seat: &mut CreditSeat) -> Result<i64, Worn>
         requires object { IsSeatOf self.now.object seat.old }
         ensures object { seat.new.object ≡ seat.old.object }
@@ -153,11 +153,11 @@ impl Credit {
         Ok(count_of(found))
     }
 
-    /// Adds 1, and answers the value before.
+    /// Adds 1, and returns the value before.
     ///
     /// # Errors
     ///
-    /// `Worn`, where the seat's stint is used up.
+    /// `Worn`, if the seat's stint is used up.
     pub fn credit(&self, seat: &mut CreditSeat) -> Result<i64, Worn>
         requires object { IsSeatOf self.now.object seat.old }
         ensures object { seat.new.object ≡ seat.old.object }
@@ -182,7 +182,7 @@ impl Credit {
         count_of(found)
     }
 
-    /// The tally with one more seat.
+    /// The tally with this seat added.
     pub fn join(&self, tally: CreditTally, seat: CreditSeat) -> CreditTally
         requires object { (tally.object ≡ self.now.object) × IsSeatOf self.now.object seat }
         ensures joined { IsJoined credit_rules tally seat result }

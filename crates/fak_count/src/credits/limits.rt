@@ -1,4 +1,4 @@
-//! What the table of a credit is told when it is made.
+//! What the table of a credit is made with.
 
 /// The start of a credit, its number of seats and their stint.
 #[derive(Drop)]

@@ -1,10 +1,10 @@
-//! What each atomic step on a credit's word tells. These types are for the proofs alone.
+//! What a seat learns from each atomic step on a credit's word. These types are only for the proofs.
 
 use crate::credits::rule::CreditView;
 use atomic_table::Play;
 use std::marker::{Brand, PhantomData};
 
-/// The credit on which a step is made.
+/// The credit that a step is on.
 pub trait Call {
     ghost use Rattle.fak_count.specs.declared.credits.limits.CreditLimits.{CreditLimits};
 

@@ -1,4 +1,4 @@
-//! A credit and a seat of it as one value, whose calls have no condition.
+//! A credit and one of its seats as one value, whose calls have no preconditions.
 
 ghost use Rattle.std.specs.Prelude.{◌≡◌, ◌+◌, MatchResult};
 ghost use Rattle.fak_model.specs.declared.credit.CreditKind.TheVariants.{Debit, Credit as Credited};
@@ -10,13 +10,13 @@ use crate::credits::seat::CreditSeat;
 use crate::fault::Worn;
 use std::fmt;
 
-/// A credit with a seat of it. The type keeps that the seat is of the credit, so that the calls of a port require nothing. What
-/// they ensure is said of the port's seat, before and after.
+/// A credit with one of its seats. The type guarantees that the seat belongs to the credit, so the calls of a port
+/// require nothing. Their contracts are about the port's seat, before and after.
 #[derive(Drop)]
 pub struct CreditPort<'c> {
     /// The credit.
     pub credit: &'c Credit,
-    /// The seat, which is of this credit.
+    /// The seat, which belongs to this credit.
     pub seat: CreditSeat,
     pub ghost of_credit: { IsSeatOf credit.now.object seat },
 }
@@ -65,7 +65,7 @@ impl<'c> CreditPort<'c> {
         self.credit.value(&mut self.seat)
     }
 
-    /// How many debits and credits together are left of the seat's stint.
+    /// The number of debits and credits together that are left of the seat's stint.
     pub fn left(&self) -> u64
         ensures { result + calls_made self.now.seat ≡ self.now.seat.stint }
     {

@@ -4,7 +4,7 @@ use crate::credits::limits::CreditLimits;
 use atomic_table::TableRule;
 use fak_model::{CreditMark, View};
 
-/// What a seat of a credit knows. A call is one step, so a seat has but one phase.
+/// What a seat of a credit knows. A call is one step, so a seat has only one phase.
 pub type CreditView = View<CreditMark, ()>;
 
 /// The rule of a credit's table.

@@ -7,8 +7,8 @@ use crate::credits::steps::CreditToken;
 use std::fmt;
 use std::marker::Model;
 
-/// The right to debit and credit a `Credit`, as often as its stint says. Contracts see its object, its name, its
-/// stint and the history that it has seen.
+/// The right to debit and credit a `Credit`, as many times as its stint. Contracts see its object, its name, its stint
+/// and the history that it has seen.
 #[derive(Drop)]
 pub struct CreditSeat {
     pub(crate) token: CreditToken,
@@ -31,7 +31,7 @@ impl Model for CreditSeat {
 }
 
 impl CreditSeat {
-    /// How many debits and credits together are left of the stint.
+    /// The number of debits and credits together that are left of the stint.
     pub fn left(&self) -> u64
         ensures { result + calls_made self.now ≡ self.now.stint }
     {

@@ -15,10 +15,11 @@ use atomic_table::{Seat, Shared};
 /// The words of a credit.
 pub(crate) type CreditWords = Shared<(), CreditView, CreditLimits, CreditRule>;
 
-/// A seat's right to make steps on them.
+/// A seat's right to take steps on them.
 pub(crate) type CreditToken = Seat<(), CreditView>;
 
-/// Subtracts 1.
+/// Subtracts 1, and returns the word before. A debit is only this step, since a credit has no bound to test. The caller
+/// has checked that the stint is not used up: the stints bound how far the word can move, so it cannot wrap.
 pub(crate) fn debit<J: Call>(words: &CreditWords, token: &mut CreditToken) -> u64
     requires token { IsTokenOf words.now.table_id words.now.key J.key tt token.old }
     requires left { 0 < token.old.me.0.left }
@@ -27,7 +28,7 @@ pub(crate) fn debit<J: Call>(words: &CreditWords, token: &mut CreditToken) -> u6
     words.fetch_sub::<DebitPlay<J>>(token, COUNT, 1)
 }
 
-/// Adds 1.
+/// Adds 1, and returns the word before. A credit is only this step. The caller has checked the stint, as for a debit.
 pub(crate) fn credit<J: Call>(words: &CreditWords, token: &mut CreditToken) -> u64
     requires token { IsTokenOf words.now.table_id words.now.key J.key tt token.old }
     requires left { 0 < token.old.me.0.left }
@@ -36,7 +37,7 @@ pub(crate) fn credit<J: Call>(words: &CreditWords, token: &mut CreditToken) -> u
     words.fetch_add::<CreditPlay<J>>(token, COUNT, 1)
 }
 
-/// Loads the count.
+/// Loads the count. This leaves no mark and changes nothing, so it needs no stint and may come between any two calls.
 pub(crate) fn observe<J: Call>(words: &CreditWords, token: &mut CreditToken) -> u64
     requires token { IsTokenOf words.now.table_id words.now.key J.key tt token.old }
     ensures told { Tells token.old token.new (Observed words.now.key token.old.me result) }
@@ -44,7 +45,8 @@ pub(crate) fn observe<J: Call>(words: &CreditWords, token: &mut CreditToken) -> 
     words.load::<ObservePlay<J>>(token, COUNT)
 }
 
-/// Loads the count after a join, which tells what the join compared.
+/// Loads the count after a join; the value is not used. Only a step on a word lets the proof see that one of the two joined
+/// histories is a prefix of the other.
 pub(crate) fn hear<J: Call>(words: &CreditWords, token: &mut CreditToken)
     requires table { FitsTable token.old.table_id words.now.table_id words.now.key J.key }
     ensures same { token.new.table_id ≡ token.old.table_id }

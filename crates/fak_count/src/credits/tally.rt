@@ -13,8 +13,8 @@ use fak_model::NameSet;
 use std::fmt;
 use std::marker::Model;
 
-/// Seats of a credit that were joined and make no calls any more. Contracts see its object, the names of the seats
-/// and the longest history that one of them has seen.
+/// Seats of a credit that were joined and perform no more calls. Contracts see its object, the names of the seats and
+/// the longest history that one of them has seen.
 #[derive(Drop)]
 pub struct CreditTally {
     pub(crate) token: CreditToken,
@@ -58,8 +58,8 @@ impl CreditTally {
         }
     }
 
-    /// Whether all seats of the credit are in it. Then each mark of its history is of one of them. Each mark is a whole
-    /// call.
+    /// Whether all seats of the credit are in the tally. Then each mark of its history belongs to one of them. Each
+    /// mark is a whole call.
     pub fn is_whole(&self) -> bool
         ensures whole { IsTrue result ↔ IsWhole self.now.object.seats self.now.names }
         ensures mine { IsTrue result → mine seat_of self.now.names self.now.seen ≡ self.now.seen }

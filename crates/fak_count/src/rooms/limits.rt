@@ -1,4 +1,4 @@
-//! What the table of a room is told when it is made.
+//! What the table of a room is made with.
 
 /// The bound of a room, and its number of seats.
 #[derive(Drop)]

@@ -1,10 +1,10 @@
-//! What each atomic step on a room's word tells. These types are for the proofs alone.
+//! What a seat learns from each atomic step on a room's word. These types are only for the proofs.
 
 use crate::rooms::rule::RoomView;
 use atomic_table::Play;
 use std::marker::{Brand, PhantomData};
 
-/// The room on which a step is made, and the amount of its call.
+/// The room that a step is on, and the amount of its call.
 pub trait Call {
     ghost use Rattle.std.specs.Prelude.{ℕ};
     ghost use Rattle.fak_count.specs.declared.rooms.limits.RoomLimits.{RoomLimits};
@@ -20,7 +20,7 @@ impl Call for Brand {
     ghost amount = { 0 };
 }
 
-/// The load of a claim, and its test.
+/// The load of a claim, which its test decides on.
 pub struct TestPlay<J: Call> {
     of: PhantomData<J>,
 }
@@ -31,7 +31,7 @@ impl<J: Call> Play<(), RoomView> for TestPlay<J> {
     ghost then = { λ s m found after. Tested J.key J.amount m found after };
 }
 
-/// The add of a claim, and its retest.
+/// The add of a claim, which its retest decides on.
 pub struct AddPlay<J: Call> {
     of: PhantomData<J>,
 }

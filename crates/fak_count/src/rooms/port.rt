@@ -1,4 +1,4 @@
-//! A room and a seat of it as one value, whose calls have no condition.
+//! A room and one of its seats as one value, whose calls have no preconditions.
 
 ghost use Rattle.std.specs.Prelude.{◌≡◌, ◌+◌, MatchOption, MatchResult, if◌then◌else◌, is_ok};
 ghost use Rattle.fak_count.specs.Ports.{ClaimsOf, RefusesClaim, RefusesRelease, Releases};
@@ -13,13 +13,14 @@ use std::fmt;
 /// The largest amount of a call.
 const MOST_AMOUNT: u64 = 1024;
 
-/// A room with a seat of it. The type keeps that the seat is of the room, and an amount that a call of the room may not have is
-/// refused, so that the calls of a port require nothing. What they ensure is said of the port's seat, before and after.
+/// A room with one of its seats. The type guarantees that the seat belongs to the room, and its calls refuse amounts
+/// that the room's calls do not allow. So the calls of a port require nothing. Their contracts are about the port's
+/// seat, before and after.
 #[derive(Drop)]
 pub struct RoomPort<'r> {
     /// The room.
     pub room: &'r Room,
-    /// The seat, which is of this room.
+    /// The seat, which belongs to this room.
     pub seat: RoomSeat,
     pub ghost of_room: { IsSeatOf room.now.object seat },
 }
@@ -34,7 +35,7 @@ impl<'r> RoomPort<'r> {
         RoomPort { room, seat }
     }
 
-    /// Claims `d`, 1 to 1,024, if it fits beside the value, and returns the value that the add found.
+    /// Claims `d`, 1 to 1,024, if it fits on top of the value, and returns the value that the add found.
     ///
     /// # Errors
     ///
@@ -55,8 +56,8 @@ impl<'r> RoomPort<'r> {
         }
     }
 
-    /// Gives back `d`, 1 to 1,024, of what the seat holds, and returns the value before. `None` if `d` is out of range or more than
-    /// the seat holds.
+    /// Gives back `d`, 1 to 1,024, of what the seat holds, and returns the value before. Returns `None` if `d` is out
+    /// of range or more than the seat holds.
     pub fn release(&mut self, d: u64) -> Option<i64>
         ensures room { self.new.room ≡ self.old.room }
         ensures call { MatchOption result (RefusesRelease d self.old.seat self.new.seat)
@@ -68,14 +69,14 @@ impl<'r> RoomPort<'r> {
         Some(self.room.release(&mut self.seat, d))
     }
 
-    /// How much the seat holds.
+    /// The amount that the seat holds.
     pub fn held(&self) -> u64
         ensures { result ≡ held_amount self.now.seat }
     {
         self.seat.held()
     }
 
-    /// How many claims are left of the seat's stint.
+    /// The number of claims that are left of the seat's stint.
     pub fn left(&self) -> u64
         ensures { result + granted_claims self.now.seat ≡ self.now.seat.stint }
     {

@@ -23,8 +23,8 @@ use std::alloc::{AllocError, Global};
 use std::fmt;
 use std::marker::{Brand, Model};
 
-/// A count that claims raise while it stays within a bound, by test, increment and retest, and that releases lower
-/// (Gottlieb, Lubachevsky and Rudolph, TOPLAS 5(2), 1983).
+/// A count that claims raise within a bound, by test, increment and retest, and that releases lower (Gottlieb,
+/// Lubachevsky and Rudolph, TOPLAS 5(2), 1983).
 #[derive(Drop)]
 pub struct Room {
     pub(crate) table: Table<(), RoomView, RoomLimits, RoomRule, Global>,
@@ -48,7 +48,7 @@ impl Model for Room {
 }
 
 impl Room {
-    /// A room whose count is 0, with its seats, each of which may be granted `stint` claims.
+    /// Opens a room whose count is 0, with its seats. Each seat may be granted `stint` claims.
     ///
     /// `bound` is 0 to 4,294,967,296, `seats` 1 to 64, `stint` 1 to 2^40.
     ///
@@ -74,10 +74,10 @@ impl Room {
         }
     }
 
-    /// A large room: the same room, with the same calls, of more seats.
+    /// Opens a large room: the same room, with the same calls, but more seats.
     ///
-    /// `bound` is 0 to 4,294,967,296, and `seats` 1 to `LARGE_SEATS`. `stint` is at least 1, and `seats` times `stint` at most
-    /// `LARGE_TICKETS`.
+    /// `bound` is 0 to 4,294,967,296, and `seats` 1 to `LARGE_SEATS`. `stint` is at least 1, and `seats` times `stint`
+    /// at most `LARGE_TICKETS`.
     ///
     /// # Errors
     ///
@@ -101,7 +101,7 @@ impl Room {
         }
     }
 
-    /// A room with its seats, whose limits have been tested.
+    /// A room with its seats; the caller has tested the limits.
     fn with_limits(
         alloc: Global,
         bound: u64,
@@ -136,7 +136,7 @@ impl Room {
         Ok((Room { table, bound }, dealt))
     }
 
-    /// Claims `d`, 1 to 1,024, where it fits beside the value, and answers the value that the add found.
+    /// Claims `d`, 1 to 1,024, if it fits on top of the value, and returns the value that the add found.
     ///
     /// # Errors
     ///
@@ -169,7 +169,7 @@ impl Room {
         Ok(count_of(found))
     }
 
-    /// Gives back `d`, 1 to 1,024, of what the seat holds, and answers the value before.
+    /// Gives back `d`, 1 to 1,024, of what the seat holds, and returns the value before.
     pub fn release(&self, seat: &mut RoomSeat, d: u64) -> i64
         requires amount { (1 ≤ d) × (d ≤ 1024) }
         requires object { IsSeatOf self.now.object seat.old }
@@ -183,7 +183,7 @@ impl Room {
         count_of(found)
     }
 
-    /// The tally with one more seat.
+    /// The tally with this seat added.
     pub fn join(&self, tally: RoomTally, seat: RoomSeat) -> RoomTally
         requires object { (tally.object ≡ self.now.object) × IsSeatOf self.now.object seat }
         ensures joined { IsJoined (room_rules self.now.bound) tally seat result }

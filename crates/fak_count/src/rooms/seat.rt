@@ -7,8 +7,8 @@ use crate::rooms::steps::RoomToken;
 use std::fmt;
 use std::marker::Model;
 
-/// The right to claim of a `Room`, and to give back what it holds. As many claims are granted as its stint says.
-/// Contracts see its object, its name, its stint and the history that it has seen.
+/// The right to claim from a `Room`, and to give back what it holds. The stint is the number of claims that may be
+/// granted. Contracts see its object, its name, its stint and the history that it has seen.
 #[derive(Drop)]
 pub struct RoomSeat {
     pub(crate) token: RoomToken,
@@ -37,14 +37,14 @@ impl Model for RoomSeat {
 }
 
 impl RoomSeat {
-    /// How much the seat holds.
+    /// The amount that the seat holds.
     pub fn held(&self) -> u64
         ensures { result ≡ held_amount self.now }
     {
         self.held
     }
 
-    /// How many claims are left of the stint.
+    /// The number of claims that are left of the stint.
     pub fn left(&self) -> u64
         ensures { result + granted_claims self.now ≡ self.now.stint }
     {

@@ -16,10 +16,13 @@ use atomic_table::{Seat, Shared};
 /// The words of a room.
 pub(crate) type RoomWords = Shared<(), RoomView, RoomLimits, RoomRule>;
 
-/// A seat's right to make steps on them.
+/// A seat's right to take steps on them.
 pub(crate) type RoomToken = Seat<(), RoomView>;
 
-/// Loads the count, which the caller tests for a claim of `d`. The amount is for the proof alone.
+/// Loads the count, which the caller tests for a claim of `d`. The amount is only for the proof.
+///
+/// The test comes before the add, so that a claim that cannot fit leaves the count alone. Without it, claims that are
+/// tried again could keep the count above the bound with their adds, and so refuse claims that would fit.
 pub(crate) fn test<J: Call>(words: &RoomWords, token: &mut RoomToken, d: u64) -> u64
     requires token { IsTokenOf words.now.table_id words.now.key J.key Idle token.old }
     requires amount { (1 ≤ d) × (d ≤ 1024) × (d ≡ J.amount) }
@@ -28,7 +31,8 @@ pub(crate) fn test<J: Call>(words: &RoomWords, token: &mut RoomToken, d: u64) ->
     words.load::<TestPlay<J>>(token, COUNT)
 }
 
-/// Adds a claim of `d` to the count. The caller tests what it found.
+/// Adds a claim of `d` to the count. It comes after a test that found room. Other claims may have been added since, so
+/// the caller tests again what the add found: only that decides whether the claim is granted.
 pub(crate) fn add<J: Call>(words: &RoomWords, token: &mut RoomToken, d: u64) -> u64
     requires token { IsTokenOf words.now.table_id words.now.key J.key (Adding d) token.old }
     requires amount { (1 ≤ d) × (d ≤ 1024) × (d ≡ J.amount) }
@@ -37,7 +41,8 @@ pub(crate) fn add<J: Call>(words: &RoomWords, token: &mut RoomToken, d: u64) -> 
     words.fetch_add::<AddPlay<J>>(token, COUNT, d)
 }
 
-/// Withdraws a claim of `d` that did not fit.
+/// Subtracts a claim of `d` whose add found too little room. It comes right after that add: until then the count
+/// includes an amount that no seat holds, and other claims may be refused because of it.
 pub(crate) fn withdraw<J: Call>(words: &RoomWords, token: &mut RoomToken, d: u64) -> u64
     requires token { IsTokenOf words.now.table_id words.now.key J.key (Backing d) token.old }
     requires amount { (1 ≤ d) × (d ≤ 1024) × (d ≡ J.amount) }
@@ -46,7 +51,8 @@ pub(crate) fn withdraw<J: Call>(words: &RoomWords, token: &mut RoomToken, d: u64
     words.fetch_sub::<WithdrawPlay<J>>(token, COUNT, d)
 }
 
-/// Gives back `d` of what the seat holds.
+/// Subtracts `d` of what the seat holds. From here on other claims may be granted this amount, so the seat must have
+/// finished with it.
 pub(crate) fn release<J: Call>(words: &RoomWords, token: &mut RoomToken, d: u64) -> u64
     requires token { IsTokenOf words.now.table_id words.now.key J.key Idle token.old }
     requires amount { (1 ≤ d) × (d ≤ 1024) × (d ≡ J.amount) }
@@ -56,7 +62,8 @@ pub(crate) fn release<J: Call>(words: &RoomWords, token: &mut RoomToken, d: u64)
     words.fetch_sub::<ReleasePlay<J>>(token, COUNT, d)
 }
 
-/// Loads the count after a join, which tells what the join compared.
+/// Loads the count after a join; the value is not used. Only a step on a word lets the proof see that one of the two joined
+/// histories is a prefix of the other.
 pub(crate) fn hear<J: Call>(words: &RoomWords, token: &mut RoomToken)
     requires table { FitsTable token.old.table_id words.now.table_id words.now.key J.key }
     ensures same { token.new.table_id ≡ token.old.table_id }

@@ -12,8 +12,8 @@ use fak_model::NameSet;
 use std::fmt;
 use std::marker::Model;
 
-/// Seats of a room that were joined and make no calls any more. Contracts see its object, the names of the seats
-/// and the longest history that one of them has seen.
+/// Seats of a room that were joined and perform no more calls. Contracts see its object, the names of the seats and the
+/// longest history that one of them has seen.
 #[derive(Drop)]
 pub struct RoomTally {
     pub(crate) token: RoomToken,
@@ -41,7 +41,7 @@ impl Model for RoomTally {
 }
 
 impl RoomTally {
-    /// The tally of one seat. What it has seen is lawful by the bound of its room.
+    /// The tally of one seat. Its history is lawful for the bound of its room.
     pub fn of(seat: RoomSeat) -> RoomTally
         ensures tally { result ≡ tally_of seat }
         ensures lawful { (bound : ℕ) × IsRoomHistory bound result.seen }
@@ -61,8 +61,8 @@ impl RoomTally {
         }
     }
 
-    /// Whether all seats of the room are in it. Then each mark of its history is of one of them, no call is cut short,
-    /// and the value is what all seats hold.
+    /// Whether all seats of the room are in the tally. Then each mark of its history belongs to one of them, no call is
+    /// cut short, and the value is what all seats hold.
     pub fn is_whole(&self) -> bool
         ensures whole { IsTrue result ↔ IsWhole self.now.object.seats self.now.names }
         ensures mine { IsTrue result → mine seat_of self.now.names self.now.seen ≡ self.now.seen }

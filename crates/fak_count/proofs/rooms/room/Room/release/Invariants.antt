@@ -1,5 +1,5 @@
 use Rattle.fak_count.proofs.rooms.room.Room.release.Given as goal
 
--- the step is made on this room
+-- the step is on this room
 abbrev pub ghosts-release : goal.ghosts-release
 ghosts-release a = record { key = a.words.now.key; amount = a.d }

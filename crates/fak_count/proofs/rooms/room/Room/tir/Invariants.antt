@@ -1,6 +1,6 @@
 use Rattle.fak_count.proofs.rooms.room.Room.tir.Given as goal
 
--- each step is made on this room
+-- each step is on this room
 abbrev pub ghosts-test : goal.ghosts-test
 ghosts-test a = record { key = a.words.now.key; amount = a.d }
 
