@@ -60,7 +60,8 @@ fn credits_out_of_range_are_not_opened(rt: HostRuntime) {
     assert_equal(&rt, seats.len(), 64);
 }
 
-/// Whether all seats are joined. What they have seen grants the lesser of debits, and start and credits.
+/// Whether all seats are joined. What the joined seats have seen grants the lesser of its debits, and of the start plus
+/// its credits.
 fn is_granted(tally: &CreditTally) -> bool
     ensures grants { grants_made 7 tally.now.seen ≡ min (debits_in tally.now.seen) (7 + credits_in tally.now.seen) }
     ensures named { All (λ m. m.seat < tally.now.object.seats) tally.now.seen }
@@ -69,7 +70,7 @@ fn is_granted(tally: &CreditTally) -> bool
     tally.is_whole()
 }
 
-/// Makes this many debits.
+/// Performs this many debits.
 fn debits(credit: &Credit, mut seat: CreditSeat, count: usize) -> CreditSeat
     requires { seat.object ≡ credit.now.object }
     ensures { result.object ≡ credit.now.object }
@@ -80,7 +81,7 @@ fn debits(credit: &Credit, mut seat: CreditSeat, count: usize) -> CreditSeat
     seat
 }
 
-/// Makes this many credits.
+/// Performs this many credits.
 fn credits(credit: &Credit, mut seat: CreditSeat, count: usize) -> CreditSeat
     requires { seat.object ≡ credit.now.object }
     ensures { result.object ≡ credit.now.object }

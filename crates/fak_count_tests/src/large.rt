@@ -9,7 +9,7 @@ use std::test::*;
 /// Numbers of seats on both sides of what `open` allows.
 const SEATS: [u64; 4] = [MOST_SEATS, MOST_SEATS + 1, 1000, LARGE_SEATS];
 
-/// Limits that are refused, each with the fault.
+/// Limits that are refused, each with its fault.
 const REFUSED: &[(u64, u64, u64, LargeFault)] = &[
     (LARGEST_BOUND + 1, 0, 0, LargeFault::BadSize),
     (LARGEST_BOUND, 0, 0, LargeFault::BadSeats),

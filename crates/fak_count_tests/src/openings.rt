@@ -1,4 +1,4 @@
-//! Objects of each size in range are opened, with all their seats, and count as far as they say.
+//! Objects of each size in range are opened with all their seats, and count as far as their limits allow.
 
 use super::assertions::assert_equal;
 use fak_count::{Credit, Room, TirFault};
@@ -10,7 +10,7 @@ const WIDEST: u64 = 4_294_967_296;
 
 const LONGEST: u64 = 1_099_511_627_776;
 
-/// The powers of two up to `most`, the numbers beside them, and as many drawn ones of each width.
+/// The powers of two up to `most`, the numbers next to them, and as many drawn numbers of each width.
 fn spread(rt: &impl Abort, alloc: Global, most: u64) -> Vec<u64> {
     let mut numbers = Vec::new(alloc);
     let mut drawn = 1u64;
@@ -28,7 +28,7 @@ fn spread(rt: &impl Abort, alloc: Global, most: u64) -> Vec<u64> {
     numbers
 }
 
-/// The stint, of those that are spread, that belongs to this row.
+/// The stint of this row, out of those that were spread.
 fn stint_of(stints: &[u64], row: usize) -> u64 {
     let Some(stint) = stints.get(row.wrapping_mul(29) % 127) else {
         return LONGEST;
@@ -36,7 +36,7 @@ fn stint_of(stints: &[u64], row: usize) -> u64 {
     (*stint).max(1)
 }
 
-/// Opens the room, which is to have this many seats, all of them new.
+/// Opens the room, and checks that it has this many seats, all of them new.
 fn room_has_seats(rt: &impl Abort, alloc: Global, bound: u64, seats: u64, stint: u64) {
     let (_room, dealt) = Room::open(alloc, bound, seats, stint).expect(rt, "room");
     assert_equal(rt, dealt.len() as u64, seats);
@@ -45,7 +45,7 @@ fn room_has_seats(rt: &impl Abort, alloc: Global, bound: u64, seats: u64, stint:
     }
 }
 
-/// Opens the room with this many seats, and with one, which claims as much as one claim may, and more.
+/// Opens the room with this many seats. Opens it again with one seat, which claims as much as one claim may, and more.
 fn opens_room(rt: &impl Abort, alloc: Global, bound: u64, seats: u64, stint: u64) {
     room_has_seats(rt, alloc, bound, seats, stint);
     let (room, mut one) = Room::open(alloc, bound, 1, stint).expect(rt, "room");
@@ -78,7 +78,7 @@ fn rooms_of_every_width(rt: HostRuntime) {
     }
 }
 
-/// Opens the credit, which is to have this many seats, all of them new.
+/// Opens the credit, and checks that it has this many seats, all of them new.
 fn credit_has_seats(rt: &impl Abort, alloc: Global, start: u64, seats: u64, stint: u64) {
     let (_credit, dealt) = Credit::open(alloc, start, seats, stint).expect(rt, "credit");
     assert_equal(rt, dealt.len() as u64, seats);
@@ -87,7 +87,7 @@ fn credit_has_seats(rt: &impl Abort, alloc: Global, start: u64, seats: u64, stin
     }
 }
 
-/// Opens the credit with this many seats, and with one, which finds the start.
+/// Opens the credit with this many seats. Opens it again with one seat, which finds the start.
 fn opens_credit(rt: &impl Abort, alloc: Global, start: u64, seats: u64, stint: u64) {
     credit_has_seats(rt, alloc, start, seats, stint);
     let (credit, mut one) = Credit::open(alloc, start, 1, stint).expect(rt, "credit");

@@ -1,5 +1,5 @@
-//! Ports: a room or a credit and a seat of it as one value. No call of a port asks for anything, so that their callers state
-//! nothing.
+//! Ports: a room or a credit and one of its seats as one value. The calls of a port require nothing, so their callers
+//! state nothing.
 
 use super::assertions::{assert_equal, assert_written};
 use fak_count::{ClaimFault, Credit, CreditPort, CreditTally, Room, RoomPort, RoomTally, Worn};
@@ -70,7 +70,7 @@ fn ports_print_their_count_and_their_seat(rt: HostRuntime) {
     assert_written(&rt, &port, text);
 }
 
-/// Claims 1 and gives it back this many times. Returns how often it was granted.
+/// Claims 1 and gives it back this many times. Returns the number of claims that were granted.
 fn rounds(mut port: RoomPort<'_>, count: u64) -> u64 {
     let mut granted = 0u64;
     for _ in 0..count {
@@ -83,7 +83,7 @@ fn rounds(mut port: RoomPort<'_>, count: u64) -> u64 {
 
 #[test]
 fn ports_of_two_threads(rt: HostRuntime) {
-    // there is room for both, so that no claim is refused
+    // there is room for both, so no claim is refused
     let (room, mut seats) = Room::open(rt.alloc(), 2, 3, 1000).expect(&rt, "open");
     let mut last = RoomPort::new(&room, seats.pop().expect(&rt, "three seats"));
     let first = RoomPort::new(&room, seats.pop().expect(&rt, "three seats"));

@@ -36,7 +36,7 @@ fn credits_print_their_numbers(rt: HostRuntime) {
     assert_written(&rt, &tally, "CreditTally { seats: 1, is_whole: true, .. }");
 }
 
-/// Finds that each fault is written so.
+/// Checks that each fault is written as its text.
 fn have_texts<F: Display>(rt: &(impl Abort + AllocGlobal), rows: &[(F, &str)]) {
     for (fault, text) in rows {
         let written = fault.to_string(rt.alloc()).expect(rt, "memory");

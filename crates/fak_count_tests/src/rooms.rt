@@ -65,7 +65,8 @@ fn a_worn_seat_is_told_so_in_a_full_room(rt: HostRuntime) {
     assert_equal(&rt, (a.left(), a.held()), (0, 1));
 }
 
-/// Whether one seat may claim this amount of a room of 1,024 and give it back, while the other is refused one more than is left.
+/// Whether one seat may claim this amount of a room of 1,024 and give it back, while a claim of the other seat is
+/// refused: one more than is left.
 fn fits(room: &Room, a: &mut RoomSeat, b: &mut RoomSeat, d: u64) -> bool
     requires amount { (1 ≤ d) × (d ≤ 1024) }
     requires seats { IsSeatOf room.now.object a.old × IsSeatOf room.now.object b.old }
@@ -119,7 +120,7 @@ fn rooms_out_of_range_are_not_opened(rt: HostRuntime) {
     assert_equal(&rt, seats.len(), 64);
 }
 
-/// Makes this many claims of 1, each with its release where it is granted.
+/// Performs this many claims of 1, each followed by its release if it is granted.
 fn rounds(room: &Room, mut seat: RoomSeat, count: usize) -> RoomSeat
     requires { seat.object ≡ room.now.object }
     ensures { result.object ≡ room.now.object }
@@ -155,7 +156,8 @@ fn two_threads_leave_a_room_empty(rt: HostRuntime) {
     assert_equal(&rt, all.is_whole(), true);
 }
 
-/// Whether these two seats are all of the room; what they hold together is within its bound, and the value then.
+/// The tally of these two seats, and whether they are all seats of the room. What they hold together is within its
+/// bound; if they are all, it is also the value.
 fn fit_together(room: &Room, a: RoomSeat, b: RoomSeat) -> (RoomTally, bool)
     requires { IsSeatOf room.now.object a × IsSeatOf room.now.object b }
     ensures fits { sum_below (λ seat. amount_held seat result.0.seen) result.0.object.seats ≤ room.now.bound }
