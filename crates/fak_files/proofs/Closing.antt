@@ -1,8 +1,8 @@
--- What a closed file table shows.
+-- What the words of a closed file table show.
 use Rattle.fak_model.proofs.RunningViews.{sees_whole}
 use Rattle.fak_files.proofs.Common.{FileLimits, word_of, entry_of, entries_after, entry_in, ◌≡◌, ◌≢◌, inl, inr, slice_set, ℕ, zero, suc, ◌+◌, ◌<◌, List, [], ◌∷◌, length, take, slice_get, slice_index, Some, None, refl, ap, sym, ◌∙◌, subst, arith, reverse, some, some-injective, some-ne-none, get_elem?, file_rules, IsWhole, State, Inode, Uses, FileMark, same_or_not, FileView, IsShownFile, FileHolder, common_steps, FileEntry}
 
--- where all seats were joined, the words show what the tally has seen
+-- if all seats were joined, the words show what the tally has seen
 pub ends : (table : FileLimits) (s : State (Unit {0}) FileView) (id : ℕ) (m : FileHolder) → IsShownFile table s → get_elem? s.views id ≡ some m.0 → IsWhole table.seats m.0.names → (words : List ℕ) → s.words ≡ words
     → (entry : ℕ) → entry < table.entries → entry_in words entry ≡ entry_of (reverse m.0.seen) entry
 ends table s id m r at whole words is entry low =
@@ -28,7 +28,7 @@ word_read [] i w e = absurd (some-ne-none w (sym e))
 word_read (x ∷ words) zero w e = some-injective x w e
 word_read (x ∷ words) (suc i) w e = word_read words i w e
 
--- the entry that was read joins those before it
+-- the entry that was read is added to those before it
 pub read_more : (row : List FileEntry) (i : ℕ) (e : FileEntry) (F : ℕ → FileEntry) → i < length row → e ≡ F i → ((j : ℕ) → j < i → slice_get row j ≡ Some (F j)) → (j : ℕ) → j < i + 1 → slice_get (slice_set row i e) j ≡ Some (F j)
 read_more row i e F within is each j low = elim (same_or_not j i) [
   | inl same ↦ subst (λ (k : ℕ). slice_get (slice_set row i e) k ≡ Some (F k)) (sym same) (written_here row i e within ∙ ap Some is)
@@ -47,11 +47,11 @@ read_more row i e F within is each j low = elim (same_or_not j i) [
     written_elsewhere (x ∷ row) (suc i) zero e ne = refl
     written_elsewhere (x ∷ row) (suc i) (suc j) e ne = written_elsewhere row i j e (λ q. ne (ap suc q))
 
--- an entry whose two words were read
+-- an entry, after its two words were read
 pub entry_read : (words : List ℕ) (entry i j inode uses : ℕ) → i ≡ word_of entry Inode → j ≡ word_of entry Uses → get_elem? words i ≡ some inode → get_elem? words j ≡ some uses → ◌≡◌ {A = FileEntry} (record { inode = inode; uses = uses }) (entry_in words entry)
 entry_read words entry i j inode uses ei ej one two = grind (arith, common_steps, word_read, slice_index)
 
--- the entries that were read of a table's last words
+-- the entries that were read out of a table's last words
 pub closed_entries : (table : FileLimits) (s : State (Unit {0}) FileView) (id : ℕ) (m : FileHolder) → IsShownFile table s → get_elem? s.views id ≡ some m.0 → IsWhole table.seats m.0.names → (words : List ℕ) → s.words ≡ words
     → (count : ℕ) → table.entries ≡ count → (row : List FileEntry) → ((i : ℕ) → i < count → slice_get row i ≡ Some (entry_in words i)) → take count row ≡ entries_after (reverse m.0.seen) 0 count
 closed_entries table s id m r at whole words is count same row each =

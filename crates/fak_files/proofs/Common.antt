@@ -1,4 +1,4 @@
--- The names that proofs cite most, passed on from one place. Declares nothing.
+-- The names that proofs cite most, passed on from one place. This file declares nothing.
 pub use Rattle.atomic_table.specs.Table.{State, opening, Act, keeps, stepped, carried_after, Valid, Allows}
 pub use Rattle.fak_files.specs.Calls.{entries_after, idle_seats, FileSeatInfo, file_seat, one_hold, holds_of, LeavesMarks, IsGranted, IsBusy, IsGot, IsSet, IsEnded, IsHoldOf, holds_had, amount_for, IsWorn, AreRefused, IsWaitedFor, IsRefused}
 pub use Rattle.fak_files.specs.Closing.{entry_in}

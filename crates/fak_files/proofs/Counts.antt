@@ -1,4 +1,4 @@
--- The count of a file table: what a mark does to it, and how low it may be.
+-- The count of a file table: how a mark changes it, and how low it may be.
 use Rattle.fak_files.proofs.Common.{◌≡◌, ℕ, ◌+◌, ◌-◌, ◌*◌, ◌≤◌, List, [], ◌∷◌, ◌++◌, refl, ap, ◌∙◌, arith, inl, inr, append_assoc, ℤ, pos, ◌+ℤ◌, ◌-ℤ◌, sum_by, ints, sum_by-cons, AreCalls, AreNamed, seat_words, sum_below, FileKind, Take, Over, Back, No, Set, Give, FileMark, same_or_not, snoc_ind, seat_words-own, seat_words-other, history_front, last_fair, total_push, sum_same, sum_most, sum_parts, sum_plus, given_push, files_fit, common_steps}
 use Rattle.fak_model.specs.File.{kinds_of_call, kind_of, take_amount, over_amount, back_amount, total, amount_held, gives, count, IsFair, file_rules, IsFileHistory}
 use Rattle.fak_model.proofs.Places.{ends, ends_append, Runs, may_come, rests}
@@ -13,14 +13,14 @@ count_after n held kind = n +ℤ pos (back_amount kind + gives held kind) -ℤ p
 pub count-push : (k : ℕ) (h : List FileMark) (m : FileMark) → count k (h ++ m ∷ []) ≡ count_after (count k h) (amount_held m.seat h) m.kind
 count-push k h m = omega (arith, ints, total_push kind_of take_amount h m, total_push kind_of over_amount h m, total_push kind_of back_amount h m, given_push [] h m)
 
--- ---- what is not withdrawn yet
+-- ---- what is not yet withdrawn
 
--- a seat's kinds stand at their places
+-- the kinds of a seat's marks are at their places in its calls
 runs_of : (kinds : List FileKind) → AreCalls kinds_of_call kinds → Runs needs leads 0 kinds
 runs_of kinds ([], o) = (rests needs leads kinds_of_call calls_run kinds o).0
 runs_of kinds (w ∷ owed, o) = (may_come needs leads kinds_of_call calls_run kinds w (owed, (o.0, append_assoc kinds (w ∷ []) owed ∙ o.1))).0
 
--- what was over-claimed and not withdrawn is the amount at its place
+-- what was over-claimed and is not yet withdrawn is the amount at its place
 overs_at : (p : ℕ) (kinds : List FileKind) → Runs needs leads p kinds → sum_by over_amount kinds + (p - 3) ≡ sum_by back_amount kinds + (ends leads p kinds - 3)
 overs_at p [] r = refl
 overs_at p (Take n ∷ kinds) r = omega (arith, r.0, overs_at 2 kinds r.1, sum_by-cons over_amount (Take n) kinds, sum_by-cons back_amount (Take n) kinds)
@@ -44,7 +44,7 @@ place_low k few = snoc_ind (λ (h : List FileMark). IsFileHistory k h → (seat 
 
 -- ---- the range of the count
 
--- the count is the number of seats less what is held and what is not withdrawn yet
+-- the count is the number of seats less what is held and what is not yet withdrawn
 pub count_within : (k : ℕ) (h : List FileMark) → k ≤ 1024 → IsFileHistory k h → AreNamed (file_rules k) k h → (taken : ℕ) × (count k h +ℤ pos taken ≡ pos k) × (taken ≤ 2000000)
 count_within k h few law named =
     let over : ℕ → ℕ = λ (i : ℕ). sum_by over_amount (seat_words (file_rules k) i h) in

@@ -1,11 +1,11 @@
--- The kinds of a seat's marks as its calls go on.
+-- The kinds of a seat's marks while its calls go on.
 use Rattle.std.proofs.lemmas.List.{append-nil, map-append}
 use Rattle.fak_model.specs.File.{WholeCall, Setting, set_mark, Refused, Withdrawn, Held, kinds_of_call, seat_of, kind_of, hold_after, hold_from, amount_held, IsAmount, IsFair, file_rules, IsFileHistory}
 use Rattle.fak_files.proofs.Common.{Access, Read, Write, FilePhase, mark, ◌≡◌, ◌≢◌, ℕ, List, [], ◌∷◌, ◌++◌, refl, ap, sym, ◌∙◌, subst, append_assoc, map, flat_map, flat_map-append, Owes, words_by, FileKind, Take, Over, Back, No, Set, Give, FileMark, owes_more, owed_comes, seat_words-own, seat_words-other, history_push, history_begun, history_owed, Idle, Backing, Holding, amount_of, AreInHold, StandsIn, common_steps, arith}
 
 -- ---- holds
 
--- a hold owes its Give
+-- an open hold owes its Give
 pub held_owes : (n : ℕ) (kinds : List FileKind) (sets : List Setting) → AreInHold n kinds sets → Owes kinds_of_call kinds (Give ∷ [])
 held_owes n kinds sets hold =
     let last : flat_map kinds_of_call (Held n sets ∷ []) ≡ Take n ∷ (map set_mark sets ++ Give ∷ []) = append-nil (Take n ∷ (map set_mark sets ++ Give ∷ [])) in (
@@ -29,7 +29,7 @@ hold_from-sets : (n : ℕ) (sets : List Setting) → hold_from n (map set_mark s
 hold_from-sets n [] = refl
 hold_from-sets n (s ∷ sets) = hold_from-sets n sets
 
--- in a hold the seat holds what it took
+-- during a hold the seat holds what it took
 pub hold_amount : (n : ℕ) (kinds : List FileKind) (sets : List Setting) → AreInHold n kinds sets → hold_from 0 kinds ≡ n
 hold_amount n kinds sets hold = ap (hold_from 0) hold.1 ∙ (hold_from-append 0 (flat_map kinds_of_call hold.0) (Take n ∷ map set_mark sets) ∙ hold_from-sets n sets)
 
@@ -45,7 +45,7 @@ hold_from-calls (Held n sets ∷ calls) =
 pub rest_amount : (kinds : List FileKind) → Owes kinds_of_call kinds [] → hold_from 0 kinds ≡ 0
 rest_amount kinds o = ap (hold_from 0) (sym (append-nil kinds) ∙ o.1) ∙ hold_from-calls o.0
 
--- ---- where a seat stands after the kinds of a call
+-- ---- the phase of a seat after the kinds of a call
 
 module _ (k : ℕ) (kinds : List FileKind) where
   pub stands_refused : (n : ℕ) → Owes kinds_of_call kinds [] → Owes kinds_of_call (kinds ++ No n ∷ []) []
@@ -66,7 +66,7 @@ module _ (k : ℕ) (kinds : List FileKind) where
 
 -- ---- a mark of each kind
 
--- a history that went on by a mark of this seat, which now stands at this phase
+-- a history to which a mark of this seat was added; the seat is now at this phase
 pub record GoesOn (k : ℕ) (h : List FileMark) (name : ℕ) (kind : FileKind) (phase : FilePhase) : Type 0 where
   pub lawful : IsFileHistory k (h ++ mark name kind ∷ [])
   pub stands : StandsIn k (words_by seat_of kind_of name (h ++ mark name kind ∷ [])) phase
@@ -94,7 +94,7 @@ module _ (k : ℕ) (h : List FileMark) (law : IsFileHistory k h) (name : ℕ) wh
       let r = history_owed (file_rules k) h (mark name (Back (amount_of k access))) [] law owes tt in
       record { lawful = r.0; stands = r.1 }
 
-  -- the seat that begins a hold
+  -- the phase of a seat that begins a hold
   begun : (access : Access) → AreInHold (amount_of k access) (words_by seat_of kind_of name (h ++ mark name (Take (amount_of k access)) ∷ [])) [] → StandsIn k (words_by seat_of kind_of name (h ++ mark name (Take (amount_of k access)) ∷ [])) (Holding access)
   begun access hold = grind (arith, common_steps, amount_of, words_by, seat_of, kind_of, mark, AreInHold)
 
@@ -129,6 +129,6 @@ module _ (k : ℕ) (h : List FileMark) (law : IsFileHistory k h) (name : ℕ) wh
       let r = history_owed (file_rules k) h (mark name Give) [] law (held_owes (amount_of k access) (words_by seat_of kind_of name h) hold.0 hold.1) tt in
       record { lawful = r.0; stands = r.1 }
 
--- a mark of another seat changes nothing of a seat's
+-- a mark of another seat does not change a seat's phase
 pub stands_other : (k : ℕ) (h : List FileMark) (m : FileMark) (name : ℕ) (phase : FilePhase) → m.seat ≢ name → StandsIn k (words_by seat_of kind_of name h) phase → StandsIn k (words_by seat_of kind_of name (h ++ m ∷ [])) phase
 stands_other k h m name phase other stands = subst (λ (ws : List FileKind). StandsIn k ws phase) (sym (seat_words-other (file_rules k) name h m other)) stands

@@ -1,20 +1,20 @@
--- The laws of holds: what lies between a Take and its Give, and what is read in a hold.
+-- The laws of holds: what is between a Take and its Give, and what is read during a hold.
 use Rattle.fak_files.proofs.Common.{◌≡◌, ◌≢◌, ℕ, ◌<◌, ◌≤◌, ◌==◌, Bool, true, List, [], ◌∷◌, ◌++◌, refl, ap, sym, ◌∙◌, subst, arith, inl, inr, append_assoc, true≢false, reverse, All, nat_tests, All-head, All-tail, All-cons, All-nil, AreNamed, seat_of, amount_held, hold_after, field, IsFair, file_rules, IsFileHistory, marks_of, Foreign, FileField, FileKind, Take, Give, FileMark, same_or_not, history_prefix, last_fair, reverse_push, marks_of-reverse, is_take, is_set, KeepsHold, back_from_take, own_since_take, prefix_through_take, marks_since_take, common_steps}
 use Rattle.std.proofs.lemmas.List.{append-nil, reverse-append, reverse-reverse}
 use Rattle.fak_files.proofs.HoldReads.{alone, held_own, held_other, reads, back_from_take-foreign, own_since_take-foreign}
 
 -- ---- between a Take and its Give
 
--- a front of marks with names has names
+-- what is true of all elements of a list is true of those of a prefix
 all_front : {A : Type 0} (F : A → Type 0) (l k : List A) → All F (l ++ k) → All F l
 all_front F [] k all = All-nil F
 all_front F (x ∷ l) k all = All-cons F x l (All-head F x (l ++ k) all) (all_front F l k (All-tail F x (l ++ k) all))
 
--- a Take takes something
+-- a Take takes more than nothing
 taken_some : (k : ℕ) (h : List FileMark) (seat n : ℕ) → 1 ≤ k → IsFair k h seat (Take n) → 0 < n
 taken_some k h seat n some fair = elim fair.0 [ inl e ↦ omega (arith, e) | inr e ↦ omega (arith, e, some) ]
 
--- a mark of the seat that is no Give leaves it its hold
+-- a seat keeps its hold at each of its marks except a Give
 hold_goes : (k : ℕ) (h : List FileMark) (seat n : ℕ) (kind : FileKind) → 1 ≤ k → IsFair k h seat kind → kind ≢ Give → 0 < n → 0 < hold_after n kind
 hold_goes k h seat n kind some fair keeps held = grind (arith, common_steps, hold_after, IsFair, taken_some)
 
@@ -65,7 +65,7 @@ module _ (k : ℕ) (some : 1 ≤ k) where
       name_low : (a b : List FileMark) (m : FileMark) (c : List FileMark) → All (λ (w : FileMark). w.seat < seats) ((a ++ b) ++ m ∷ c) → m.seat < seats
       name_low a b m c all = All-head (λ (w : FileMark). w.seat < seats) m c (all_back (a ++ b) (m ∷ c) all)
 
--- ---- what is read in a hold
+-- ---- what is read during a hold
 
 pub hold_reads : (k seats : ℕ) (h : List FileMark) → IsFileHistory k h → AreNamed (file_rules k) seats h → (name : ℕ) → name < seats → 0 < amount_held name h → (i : ℕ) (f : FileField) → field h i f ≡ field (prefix_through_take name h ++ marks_since_take name h) i f
 hold_reads k seats h law named name low held i f =
@@ -81,7 +81,7 @@ foreign_none name (m ∷ h) is = by (m.seat == name) refl (foreign_none name h)
     by : (a : Bool) → (m.seat == name) ≡ a → (marks_of seat_of name h ≡ [] → Foreign seat_of (name ∷ []) h) → Foreign seat_of (name ∷ []) (m ∷ h)
     by a a' rest = grind (arith, common_steps, marks_of, seat_of, nat_tests)
 
--- what a seat reads stays while it leaves no mark
+-- what a seat reads stays the same while it leaves no mark
 pub reads_stay : (name : ℕ) (h rest : List FileMark) → marks_of seat_of name rest ≡ [] → (prefix_through_take name (h ++ rest) ≡ prefix_through_take name h) × (marks_since_take name (h ++ rest) ≡ marks_since_take name h)
 reads_stay name h rest none =
     let far : Foreign seat_of (name ∷ []) (reverse rest) = foreign_none name (reverse rest) (marks_of-reverse seat_of name rest ∙ ap reverse none) in

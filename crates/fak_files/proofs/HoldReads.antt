@@ -1,10 +1,10 @@
--- A writer is alone, and what a seat reads in a hold.
+-- A writer is the only holder, and what a seat reads during a hold.
 use Rattle.fak_files.proofs.Common.{◌≡◌, ◌≢◌, ◌⊎◌, ℕ, zero, suc, ◌+◌, ◌<◌, ◌≤◌, ◌==◌, Bool, true, false, List, [], ◌∷◌, ◌++◌, Some, refl, ap, sym, ◌∙◌, subst, arith, inl, inr, append_assoc, true≢false, reverse, All, append-nil, nat_tests, All-pop, AreNamed, seat_words, sum_below, words_by, seat_of, kind_of, hold_after, hold_from, amount_held, field_after, field, IsFair, file_rules, IsFileHistory, In, Foreign, Sees, FileField, FileKind, Take, FileMark, same_or_not, seat_words-own, seat_words-other, history_front, last_fair, reverse_cons, is_take, back_from_take, own_since_take, sum_term, files_fit, hold_push, common_steps}
 use Rattle.fak_files.proofs.WordPlaces.{field-push}
 
--- ---- a writer is alone
+-- ---- a writer is the only holder
 
--- two seats' parts of a sum
+-- what two seats add to a sum is at most the sum
 sum_two : (f : ℕ → ℕ) (s t n : ℕ) → s < n → t < n → s ≢ t → f s + f t ≤ sum_below f n
 sum_two f s t zero l k ne = absurd (omega (arith, l))
 sum_two f s t (suc n) l k ne = elim (same_or_not s n) [
@@ -18,11 +18,11 @@ sum_two f s t (suc n) l k ne = elim (same_or_not s n) [
     less : (s t n : ℕ) → s ≡ n → s ≢ t → t ≢ n
     less s t n e ne q = ne (e ∙ sym q)
 
--- who holds as much as there is holds alone
+-- if a seat holds the whole amount, no other seat holds anything
 pub alone : (k seats : ℕ) (h : List FileMark) → IsFileHistory k h → AreNamed (file_rules k) seats h → (s t : ℕ) → s < seats → t < seats → s ≢ t → amount_held s h ≡ k → amount_held t h ≡ 0
 alone k seats h law named s t low below ne all = omega (arith, files_fit k seats h law named, sum_two (λ i. amount_held i h) s t seats low below ne, all)
 
--- ---- what a mark does to a seat's hold
+-- ---- how a mark changes a seat's hold
 
 pub held_own : (k : ℕ) (h : List FileMark) (m : FileMark) (s : ℕ) → m.seat ≡ s → amount_held s (h ++ m ∷ []) ≡ hold_after (amount_held s h) m.kind
 held_own k h m s own = ap (hold_from 0) (seat_words-own (file_rules k) s h m own) ∙ hold_push 0 (seat_words (file_rules k) s h) m.kind
@@ -30,17 +30,17 @@ held_own k h m s own = ap (hold_from 0) (seat_words-own (file_rules k) s h m own
 pub held_other : (k : ℕ) (h : List FileMark) (m : FileMark) (s : ℕ) → m.seat ≢ s → amount_held s (h ++ m ∷ []) ≡ amount_held s h
 held_other k h m s other = ap (hold_from 0) (seat_words-other (file_rules k) s h m other)
 
--- a mark that is no Take leaves a hold as it is, or ends it
+-- a mark other than a Take leaves a hold as it is, or ends it
 held_before : (n : ℕ) (kind : FileKind) → is_take kind ≡ false → 0 < hold_after n kind → 0 < n
 held_before n kind none held = grind (arith, common_steps, is_take, hold_after, true≢false)
 
 -- ---- what a seat reads
 
--- a kind of mark that sets no field, or is a writer's
+-- a mark of this kind sets no field, or it is a writer's
 sets_none : (k : ℕ) (h : List FileMark) (seat : ℕ) (kind : FileKind) → IsFair k h seat kind → (amount_held seat h ≡ k) ⊎ ((i : ℕ) (f : FileField) (v : ℕ) → field_after i f v kind ≡ v)
 sets_none k h seat kind fair = grind (arith, common_steps, amount_held, field_after, IsFair)
 
--- what a seat reads in a hold, of marks with the newest first
+-- what a seat reads during a hold, from marks with the newest first
 abbrev pub version : ℕ → List FileMark → List FileMark
 version name past = reverse (back_from_take name past) ++ reverse (own_since_take name past)
 
@@ -92,9 +92,9 @@ module _ (k seats name : ℕ) (low : name < seats) (i : ℕ) (f : FileField) whe
       by true a false b ih = grind (arith, common_steps, amount_held, reverse, held_before, held_own, same, held', own, front, pop)
       by false a b e ih = grind (arith, common_steps, amount_held, reverse, held', held_other, apart, other, front, pop)
 
--- ---- the same as more is seen
+-- ---- what a seat reads, as more is seen
 
--- what a seat reads stays while it leaves no mark
+-- what a seat reads stays the same while it leaves no mark
 pub back_from_take-foreign : (name : ℕ) (names : List ℕ) (between past : List FileMark) → In name names → Foreign seat_of names between → back_from_take name (between ++ past) ≡ back_from_take name past
 back_from_take-foreign name names [] past i f = refl
 back_from_take-foreign name names (m ∷ between) past i f =
@@ -118,7 +118,7 @@ version-sees name names seen past i s = grind (arith, common_steps, reverse, bac
 
 -- ---- a reader
 
--- whose last mark is its Take has set nothing since
+-- a reader's last mark is its Take: it has set nothing since
 pub own_since-take : (k name n : ℕ) (past : List FileMark) (kinds : List FileKind) → words_by seat_of kind_of name (reverse past) ≡ kinds ++ Take n ∷ [] → own_since_take name past ≡ []
 own_since-take k name n [] kinds is = refl
 own_since-take k name n (m ∷ past) kinds is = by (m.seat == name) refl (own_since-take k name n past kinds)

@@ -1,4 +1,4 @@
--- What the steps of a call make together, in the words of contracts.
+-- What the steps of a call do together, in the words of contracts.
 use Rattle.fak_model.specs.File.{seat_of, count, file_rules}
 use Rattle.fak_files.proofs.Common.{FilePhase, Idle, FileLimits, ◌≡◌, ℕ, ◌+◌, List, [], ◌∷◌, length, refl, ap, sym, ◌∙◌, arith, inl, inr, reverse, map, ℤ, pos, ◌+ℤ◌, append-nil, ints, marks_of, ObjectId, object_id, seat_info, IsSeatToken, bias, FileKind, Over, Back, No, FileMark, token_names, appends_then, appends_none, step_appends, step_before, FileHolder, mark, Steps, CountIs, Makes, Misses, before_steps, begins_self}
 
@@ -28,7 +28,7 @@ module _ (table : FileLimits) (name : ℕ) where
       token = y.token;
     }
 
-  -- what stands before the first mark, where a load went before, and more follows
+  -- the history before the first mark of several steps, if the first step is a load and more steps follow the mark
   pub before_one : {was p q : FilePhase} {tells : List FileMark → Type 0} {a b c d : FileHolder} (kind : FileKind) (kinds : List FileKind) → Makes table.seats name [] was a b → (step : Steps table name b (mark name kind ∷ []) p tells c) → Makes table.seats name kinds q c d → before_steps name a d ≡ reverse step.leaves.past
   before_one {a = a} {b} {c} {d} kind kinds x step y =
       let one = x.appends (some_object table.seats) 0 refl in
@@ -36,7 +36,7 @@ module _ (table : FileLimits) (name : ℕ) where
       let same : length (marks_of seat_of name (reverse b.0.seen)) ≡ length (marks_of seat_of name (reverse a.0.seen)) + 0 = ap length (one.mine ∙ append-nil (marks_of seat_of name (reverse a.0.seen))) ∙ omega arith in
       step_before step.leaves name (token_names x.token) refl (length (marks_of seat_of name (reverse a.0.seen)) + 0) same (reverse d.0.seen) more.begins
 
-  -- the same where it is the first step and the last
+  -- the same, if the step with the mark is the first and the last
   pub before_first : {was p : FilePhase} {tells : List FileMark → Type 0} {a b : FileHolder} (kind : FileKind) → IsSeatToken seat_of table.seats name was 0 a → (step : Steps table name a (mark name kind ∷ []) p tells b) → before_steps name a b ≡ reverse step.leaves.past
   before_first {a = a} {b} kind token step =
       let same : length (marks_of seat_of name (reverse a.0.seen)) ≡ length (marks_of seat_of name (reverse a.0.seen)) + 0 = omega arith in
@@ -49,7 +49,7 @@ module _ (table : FileLimits) (name : ℕ) where
     answers = omega (arith, ints, is, step.leaves.told.0) ∙ ap (count table.seats) (sym (before_first (No n) token step));
   }
 
-  -- and one that is withdrawn
+  -- a claim that is withdrawn
   pub misses_take : {was p q : FilePhase} {tests tells : List FileMark → Type 0} {a b c d : FileHolder} (n found : ℕ) (answer : ℤ) → IsSeatToken seat_of table.seats name was 0 a → Steps table name a [] p tests b
       → (step : Steps table name b (mark name (Over n) ∷ []) q (CountIs table.seats found) c) → Steps table name c (mark name (Back n) ∷ []) Idle tells d → pos found ≡ pos bias +ℤ answer → Misses table.seats name n a d answer
   misses_take n found answer token test step back is =

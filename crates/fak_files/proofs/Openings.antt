@@ -13,7 +13,7 @@ field_zero w n entry f low few =
     get_or-take n (row w) (word_of entry f) 0 low
     ∙ (get_or-set_other (replicate (width 16) 0) count_place (word_of entry f) w 0 (λ e. omega (arith, e)) ∙ get_or-replicate (width 16) (word_of entry f) 0 0 (omega (arith, low, few)))
 
--- a table with a count of its seats, and with all entries free
+-- a new table: its count is the number of seats, and all entries are free
 pub opens : (entries seats : ℕ) → entries ≤ 16 → 1 ≤ seats → seats ≤ 1024 → IsShownFile (limits entries seats) (opening (take (width entries) (row (bias + seats))) [] (opened_file (limits entries seats)))
 opens entries seats few some most =
     let shows : ShowsHistory (limits entries seats) [] (take (width entries) (row (bias + seats))) = record {
@@ -38,7 +38,7 @@ idle_seats-push : (seats : List (SeatInfo FileMark)) (s : SeatInfo FileMark) →
 idle_seats-push [] s = refl
 idle_seats-push (x ∷ seats) s = ap (λ l. file_seat x Nothing ∷ l) (idle_seats-push seats s)
 
--- one seat more was dealt
+-- one more seat was dealt
 pub idle_next : (object object' : ObjectId) → object' ≡ object → (stint name : ℕ) (m : FileHolder) → m ≡ (sight (name ∷ []) [] Idle 0, []) → (dealt : List FileSeatInfo) → dealt ≡ idle_seats (fresh_seats object stint 0 name)
     → dealt ++ seat_now object' name stint Nothing m ∷ [] ≡ idle_seats (fresh_seats object stint 0 (name + 1))
 idle_next object object' same stint name m is dealt before = grind (arith, common_steps, fresh_seat_is, file_seat, seat_info, idle_seats-push, fresh_seats, idle_seats, fresh_next)

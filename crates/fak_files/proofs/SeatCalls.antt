@@ -10,13 +10,13 @@ use Rattle.fak_files.proofs.HoldReads.{version, reads, version-sees, own_since-t
 pub phase_of-hold_for : (access : Access) → phase_of (hold_for access) ≡ Holding access
 phase_of-hold_for access = grind (arith, common_steps, phase_of, hold_for)
 
--- the holds that a seat had after a step
+-- the number of holds that a seat has had after steps
 holds_after : {seats name : ℕ} {kinds : List FileKind} {phase : FilePhase} {m after : FileHolder} → Makes seats name kinds phase m after
     → holds_of name (reverse after.0.seen) ≡ holds_of name (reverse m.0.seen) + sum_by one_hold (map (mark name) kinds)
 holds_after {seats} {name} {kinds} {m = m} x =
     ap (sum_by one_hold) ((x.appends (some_object seats) 0 refl).mine) ∙ sum_by-append one_hold (marks_of seat_of name (reverse m.0.seen)) (map (mark name) kinds)
 
--- the kinds of its marks
+-- marks that are made of these kinds have these kinds
 kind_of-mark : (name : ℕ) (kinds : List FileKind) → map kind_of (map (mark name) kinds) ≡ kinds
 kind_of-mark name [] = refl
 kind_of-mark name (k ∷ kinds) = ap (λ l. k ∷ l) (kind_of-mark name kinds)
@@ -37,7 +37,7 @@ file_seat_after {name} {seats} {after = after} next f x is stands = record {
 }
 
 module _ (object object' : ObjectId) (same : object' ≡ object) (name left : ℕ) (hold : Hold) (m after : FileHolder) where
-  -- the marks that a call leaves, where this many holds are left then
+  -- the marks that a call leaves, if this many holds are left after it
   pub leaves_of : (kinds : List FileKind) (phase : FilePhase) → Makes object.seats name kinds phase m after → (left' : ℕ) → left' + sum_by one_hold (map (mark name) kinds) ≡ left → (next : Hold)
       → LeavesMarks kinds (seat_now object name left hold m).seat (seat_now object' name left' next after).seat
   leaves_of kinds phase x left' fits next =
@@ -66,7 +66,7 @@ module _ (object object' : ObjectId) (same : object' ≡ object) (name left : �
     hold = refl;
   }
 
--- a seat's fields after a claim that was refused
+-- a seat's fields after a claim was refused
 pub file_seat_missed : {name seats n : ℕ} {hold : Hold} {m after : FileHolder} {answer : ℤ} → IsFileSeat name seats hold m → Misses seats name n m after answer → Idle ≡ phase_of hold → IsFileSeat name seats hold after
 file_seat_missed {name} {seats} {n} {hold} {m} f x is =
     let kinds : List FileKind = words_by seat_of kind_of name (reverse m.0.seen) in
@@ -76,14 +76,14 @@ file_seat_missed {name} {seats} {n} {hold} {m} f x is =
       | inr y ↦ file_seat_after hold f y is (stands_withdrawn seats kinds n rest)
     ]
 
--- and after a hold was granted
+-- a seat's fields after a hold was granted
 pub file_seat_granted : {name seats : ℕ} {hold : Hold} {m after : FileHolder} (access : Access) (next : Hold) → IsFileSeat name seats hold m → Makes seats name (Take (amount_of seats access) ∷ []) (Holding access) m after → hold ≡ Nothing
     → Holding access ≡ phase_of next → IsFileSeat name seats next after
 file_seat_granted {name} {seats} {m = m} access next f x free is =
     let kinds : List FileKind = words_by seat_of kind_of name (reverse m.0.seen) in
     file_seat_after next f x is (stands_taken seats kinds access (subst (λ (h : Hold). StandsIn seats kinds (phase_of h)) free f.stands))
 
--- ---- steps whose name and number of seats are read off the table and the token
+-- ---- steps whose name and number of seats come from the table and the token
 
 module _ {name seats : ℕ} {was : FilePhase} {m : FileHolder} (t : IsSeatToken seat_of seats name was 0 m) (table : FileLimits) (is : table.seats ≡ seats) where
   named : slice_index m.0.names 0 ≡ name
@@ -120,7 +120,7 @@ marks_since_take-reverse : (name : ℕ) (past : List FileMark) → marks_since_t
 marks_since_take-reverse name past = ap (λ p. reverse (own_since_take name p)) (reverse-reverse past)
 
 module _ (table : FileLimits) (name : ℕ) (access : Access) where
-  -- a load of a field reads what the seat may read
+  -- a load of a field reads the version of the seat's hold
   loaded : (i : ℕ) (f : FileField) (found : ℕ) (m after : FileHolder) → name < table.seats → Got table name access i f m found after → found ≡ field (version name after.0.seen) i f
   loaded i f found m after low step =
       let l = step.leaves in
@@ -128,7 +128,7 @@ module _ (table : FileLimits) (name : ℕ) (access : Access) where
       let held = holds_amount table.seats (reverse l.past) l.lawful name access l.told.stands in
       l.told.found_is ∙ (reads table.seats table.seats name low i f l.past l.lawful l.named (omega (arith, held, amount_some table.seats access (omega (arith, low)))) ∙ ap (λ (p : List FileMark). field (version name p) i f) (sym seen))
 
-  -- it stays what it was as more is seen
+  -- the version stays the same as more is seen
   stays : {tells : List FileMark → Type 0} (m after : FileHolder) → In name m.0.names → Steps table name m [] (Holding access) tells after → version name after.0.seen ≡ version name m.0.seen
   stays m after i step = grind (arith, common_steps, version, version-sees)
 
@@ -136,11 +136,11 @@ module _ (table : FileLimits) (name : ℕ) (access : Access) where
 nothing_set : (table : FileLimits) (name i : ℕ) (f : FileField) (found : ℕ) (m after : FileHolder) → Got table name Read i f m found after → own_since_take name after.0.seen ≡ []
 nothing_set table name i f found m after step = grind (arith, common_steps, own_since_take, own_since-take, flat_map, kinds_of_call)
 
--- what a version says, in the words of contracts
+-- a version, in the words of contracts
 version_is : (name : ℕ) (past : List FileMark) → version name past ≡ prefix_through_take name (reverse past) ++ marks_since_take name (reverse past)
 version_is name past = λ i. sym (prefix_through_take-reverse name past) i ++ sym (marks_since_take-reverse name past) i
 
--- in a reader's hold
+-- in a reader's hold, the version is the prefix through its Take
 version_reads : (table : FileLimits) (name : ℕ) (access : Access) (hold : Hold) → hold_for access ≡ hold → (i : ℕ) (f : FileField) (found : ℕ) (m after : FileHolder) → Got table name access i f m found after → hold ≡ Reading
     → version name after.0.seen ≡ prefix_through_take name (reverse after.0.seen)
 version_reads table name Read hold is i f found m after step reading =
@@ -195,7 +195,7 @@ module _ (object object' : ObjectId) (same : object' ≡ object) (name left : �
         holding = is ∙ ap (λ (p : List FileMark). entry_of p i) (version_is name after.0.seen);
       }
 
--- ---- what a seat holds, by its marks
+-- ---- what a seat holds, as its marks show
 
 pub hold_marked : (name seats : ℕ) (hold : Hold) (m : FileHolder) (object : ObjectId) (stint : ℕ) → object.seats ≡ seats → IsFileSeat name seats hold m → IsHoldOf (seat_info object name stint (reverse m.0.seen)) hold
 hold_marked name seats Nothing m object stint same f = (rest_amount (words_by seat_of kind_of name (reverse m.0.seen)) f.stands, f.stands)

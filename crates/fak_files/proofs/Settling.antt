@@ -1,7 +1,7 @@
--- What seats of a file table that were joined know.
+-- What joined seats of a file table know.
 use Rattle.fak_files.proofs.Common.{◌≡◌, ℕ, List, [], ◌∷◌, sym, subst, inl, inr, FileMark, words_by, Owes, seat_of, kind_of, kinds_of_call, file_rules, IsFileHistory, AreBetweenCalls, SeatInfo, TallyInfo, IsJoined, rest_joined, IsSettled}
 
--- one name stands between two calls
+-- this one name is between two calls
 pub settled_one : (seats name : ℕ) (seen : List FileMark) → Owes kinds_of_call (words_by seat_of kind_of name seen) [] → AreBetweenCalls (file_rules seats) (name ∷ []) seen
 settled_one seats name seen rest n (inl is) = subst (λ (k : ℕ). Owes kinds_of_call (words_by seat_of kind_of k seen) []) (sym is) rest
 settled_one seats name seen rest n (inr none) = absurd none

@@ -1,4 +1,4 @@
--- Each kind of step of a seat keeps what a file table shows, and what it tells.
+-- Each kind of step of a seat keeps what a file table shows, and shows what it did.
 use native.Mathlib.Decide.{dec_le}
 use Rattle.fak_model.specs.File.{seat_of, kind_of, field_after, amount_held, count}
 use Rattle.fak_model.proofs.RunningSteps.{Advances, stands_now, steps}
@@ -25,7 +25,7 @@ module _ (table : FileLimits) (s : State (Unit {0}) FileView) (r : IsShownFile t
   advances : (kind : FileKind) (phase : FilePhase) → GoesOn table.seats h n kind phase → Advances (file_object table) r.core n (mark n kind ∷ r.core) (mark n kind ∷ []) phase
   advances kind phase g = grind (arith, common_steps, reverse, mark, reverse_cons, words_by, seat_of, kind_of, stands_other)
 
-  -- what a step tells, where the seat has no slot
+  -- what a step shows, for a seat without a slot
   says : {new : List FileMark} {phase : FilePhase} {tells : List FileMark → Type 0} (v : FileView) → AreOwn seat_of n new → Leaves (file_object table) m new phase 0 m.1 tells (v, m.1) → Steps table n m new phase tells (v, m.1)
   says {new} {phase} {tells} v own l = grind (arith, common_steps, file_object, token_after)
 
@@ -44,7 +44,7 @@ module _ (table : FileLimits) (s : State (Unit {0}) FileView) (r : IsShownFile t
       (subst (λ (x : List FileMark). ShowsHistory table x (set s.words i w)) (sym (reverse_cons (mark n kind) r.core)) shows) 0 (omega arith) tells told in
       (t.0, says (after (mark n kind ∷ []) phase) (refl, tt) t.1)
 
-  -- a load, after which the seat stands at this phase
+  -- a load, after which the seat is at this phase
   loads : (phase : FilePhase) (i : ℕ) → StandsIn table.seats (words_by seat_of kind_of n h) phase → (tells : List FileMark → Type 0) → tells r.core
       → IsShownFile table (stepped s i (slice_index s.words i) id m.1 (after [] phase) keeps) × Steps table n m [] phase tells (after [] phase, m.1)
   loads phase i stands tells told =
@@ -55,7 +55,7 @@ module _ (table : FileLimits) (s : State (Unit {0}) FileView) (r : IsShownFile t
   stood : (p : FilePhase) → m.0.phase ≡ Some p → StandsIn table.seats (words_by seat_of kind_of n h) p
   stood p e = stands_now (file_object table) s r id n m at one p e
 
-  -- the number at which the words change on the count
+  -- after a step on the count, the words show the history with its mark
   count_next : (kind : FileKind) (w : ℕ) → ((i : ℕ) (f : FileField) (v : ℕ) → field_after i f v kind ≡ v) → pos w ≡ pos bias +ℤ count_after (count table.seats h) (amount_held n h) kind → ShowsHistory table (h ++ mark n kind ∷ []) (set s.words count_place w)
   count_next kind w unset is = counts_next table h s.words r.encoded (mark n kind) w unset (is ∙ ap (λ x. pos bias +ℤ x) (sym (count-push table.seats h (mark n kind))))
 
@@ -125,9 +125,9 @@ module _ (table : FileLimits) (s : State (Unit {0}) FileView) (r : IsShownFile t
       let t = leaves kind (Holding Write) (word_of i f) v g (fields_next table h s.words r.encoded n i f v low same) TellsNothing tt in
       (after (mark n kind ∷ []) (Holding Write), keeps, tt, t.0, t.1)
 
--- each kind, for a table that is named by its step
+-- each kind of step, for a table that its step names
 module _ (key table : FileLimits) (is : key ≡ table) (slots id n : ℕ) (m : FileHolder) where
-  -- what is allowed of the table that is named is allowed
+  -- a step that is allowed for `table` is allowed for `key`, which is equal to it
   named : (i : ℕ) (f : ℕ → ℕ) (then : ℕ → FileHolder → Type 0) → Allows (IsShownFile table) slots id m i f then → Allows (IsShownFile key) slots id m i f then
   named i f then allowed = subst (λ (k : FileLimits). Allows (IsShownFile k) slots id m i f then) (sym is) allowed
 

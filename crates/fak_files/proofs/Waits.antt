@@ -4,7 +4,7 @@ use Rattle.fak_files.proofs.Common.{Access, amount_of, mark, ◌≡◌, ◌⊎�
 
 -- ---- marks of two calls
 
--- a call and another that leaves a mark
+-- a call followed by one that leaves a mark
 leaves_then : (ks : List FileKind) (k : FileKind) (js : List FileKind) (a b c : SeatInfo FileMark) → LeavesMarks ks a b → LeavesMarks (k ∷ js) b c → LeavesMarks (ks ++ k ∷ js) a c
 leaves_then ks k js a b c x y =
     let name : b.name ≡ a.name = ap (λ (s : SeatInfo FileMark). s.name) x.same_seat in
@@ -13,7 +13,7 @@ leaves_then ks k js a b c x y =
     subst (λ (ms : List FileMark). Appends (file_rules a.object.seats) ms a c) (sym (map-append (mark a.name) ks (k ∷ js)))
     (appends_then (file_rules a.object.seats) (map (mark a.name) ks) (mark a.name k) (map (mark a.name) js) a b c x y')
 
--- the holds that a seat had after a call
+-- the number of holds that a seat has had after a call
 holds_leave : (ks : List FileKind) (a b : SeatInfo FileMark) → LeavesMarks ks a b → holds_had b ≡ holds_had a + sum_by one_hold (map (mark a.name) ks)
 holds_leave ks a b x = ap (sum_by one_hold) x.mine ∙ sum_by-append one_hold (mine_of seat_of a) (map (mark a.name) ks)
 
@@ -44,9 +44,9 @@ busy_try access a b answer busy =
       }
     ]
 
--- ---- tries so far
+-- ---- the tries so far
 
--- some tries were refused since, and nothing else was done
+-- since `old` some tries were refused, and nothing else happened
 pub record WasRefused (access : Access) (old now : FileSeatInfo) : Type 0 where
   pub within : holds_had old.seat < old.seat.stint
   pub tries : List WholeCall
@@ -54,19 +54,19 @@ pub record WasRefused (access : Access) (old now : FileSeatInfo) : Type 0 where
   pub leaves : LeavesMarks (flat_map kinds_of_call tries) old.seat now.seat
   pub holds : holds_had now.seat ≡ holds_had old.seat
 
--- nothing was done, or some tries were refused
+-- nothing happened yet, or some tries were refused
 abbrev pub IsTrying : Access → FileSeatInfo → FileSeatInfo → Type 0
 IsTrying access old now = (now ≡ old) ⊎ WasRefused access old now
 
 module _ (access : Access) (old now next : FileSeatInfo) where
-  -- the seat that tries is the same
+  -- the seat that tries stays the same
   amount_is : WasRefused access old now → amount_for access now.seat ≡ amount_for access old.seat
   amount_is w = ap (λ (s : SeatInfo FileMark). amount_of s.object.seats access) w.leaves.same_seat
 
   kinds_two : (tries : List WholeCall) (call : WholeCall) → flat_map kinds_of_call tries ++ kinds_of_call call ≡ flat_map kinds_of_call (tries ++ call ∷ [])
   kinds_two tries call = ap (λ l. flat_map kinds_of_call tries ++ l) (sym (append-nil (kinds_of_call call))) ∙ sym (flat_map-append kinds_of_call tries (call ∷ []))
 
-  -- one try more
+  -- one more try
   pub tries_more : (answer : ℤ) → IsTrying access old now → IsBusy access now next answer → IsTrying access old next
   tries_more answer (inl same) busy = inr (subst (λ (x : FileSeatInfo). WasRefused access x next) same first)
     where

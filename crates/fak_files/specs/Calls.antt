@@ -38,14 +38,15 @@ pub record FileSeatInfo : Type 0 where
 abbrev pub file_seat : SeatInfo FileMark → Hold → FileSeatInfo
 file_seat seat hold = record { seat = seat; hold = hold }
 
--- the seat is of this object; and holds nothing
+-- the seat belongs to this object; and it holds nothing
 abbrev pub IsFileSeatOf : ObjectId → FileSeatInfo → Type 0
 IsFileSeatOf object seat = seat.seat.object ≡ object
 
 abbrev pub IsFreeSeatOf : ObjectId → FileSeatInfo → Type 0
 IsFreeSeatOf object seat = IsFileSeatOf object seat × (seat.hold ≡ Nothing)
 
--- what a seat holds by its marks: a reader 1, a writer as much as there are seats; or nothing, where none of its calls is open
+-- what a seat holds, as its marks show: as a reader 1, as a writer the number of seats; or nothing, and then no call of
+-- it is open
 abbrev pub IsHoldOf : SeatInfo FileMark → Hold → Type 0
 IsHoldOf s Nothing = (amount_held s.name s.seen ≡ 0) × Owes kinds_of_call (words_by seat_of kind_of s.name s.seen) []
 IsHoldOf s Reading = amount_held s.name s.seen ≡ 1
@@ -56,7 +57,7 @@ abbrev pub idle_seats : List (SeatInfo FileMark) → List FileSeatInfo
 idle_seats [] = []
 idle_seats (seat ∷ seats) = file_seat seat Nothing ∷ idle_seats seats
 
--- the holds that a seat had
+-- the number of holds that a seat has had
 abbrev pub one_take : FileKind → ℕ
 one_take (Take n) = 1
 one_take _ = 0
@@ -72,7 +73,7 @@ holds_had s = holds_of s.name s.seen
 
 -- ---- what calls do
 
--- the call of a seat leaves these kinds of mark
+-- the call of a seat leaves marks of these kinds
 abbrev pub LeavesMarks : List FileKind → SeatInfo FileMark → SeatInfo FileMark → Type 0
 LeavesMarks kinds old new = Appends (file_rules old.object.seats) (map (mark old.name) kinds) old new
 
@@ -86,12 +87,12 @@ pub record IsGranted (access : Access) (old new : FileSeatInfo) : Type 0 where
   pub leaves : LeavesMarks (Take (amount_for access old.seat) ∷ []) old.seat new.seat
   pub hold : new.hold ≡ hold_for access
 
--- beyond the stint nothing happens
+-- a call beyond the stint changes nothing
 pub record IsWorn (old new : FileSeatInfo) : Type 0 where
   pub spent : holds_had old.seat ≡ old.seat.stint
   pub unchanged : new ≡ old
 
--- a hold is refused at its test, or withdrawn after its subtraction; the count before is answered
+-- a hold is refused at its test, or withdrawn after its subtraction; the count before that step is returned
 pub record IsBusy (access : Access) (old new : FileSeatInfo) (answer : ℤ) : Type 0 where
   pub within : holds_had old.seat < old.seat.stint
   pub leaves : LeavesMarks (No (amount_for access old.seat) ∷ []) old.seat new.seat ⊎ LeavesMarks (Over (amount_for access old.seat) ∷ Back (amount_for access old.seat) ∷ []) old.seat new.seat
@@ -102,7 +103,7 @@ abbrev pub IsRefused : Access → FileSeatInfo → FileSeatInfo → FileFault �
 IsRefused access old new Worn = IsWorn old new
 IsRefused access old new (Busy answer) = IsBusy access old new answer
 
--- each of these calls asked for this amount, and was refused
+-- each of these calls asked for this amount and was refused
 abbrev pub AreRefused : ℕ → List WholeCall → Type 0
 AreRefused n calls = All (λ (call : WholeCall). (call ≡ Refused n) ⊎ (call ≡ Withdrawn n)) calls
 
@@ -114,15 +115,15 @@ pub record IsWaitedFor (access : Access) (old new : FileSeatInfo) : Type 0 where
   pub leaves : LeavesMarks (flat_map kinds_of_call tries ++ Take (amount_for access old.seat) ∷ []) old.seat new.seat
   pub hold : new.hold ≡ hold_for access
 
--- an entry is read in a hold: as after the prefix that ends with the hold's Take, and the seat's own Sets since; a
--- reader has set nothing since
+-- an entry is read during a hold: as it is after the prefix that ends with the hold's Take, changed by the seat's own
+-- Sets since; a reader has set nothing since
 pub record IsGot (entry : ℕ) (old new : FileSeatInfo) (answer : FileEntry) : Type 0 where
   pub leaves : LeavesMarks [] old.seat new.seat
   pub hold : new.hold ≡ old.hold
   pub reading : old.hold ≡ Reading → answer ≡ entry_of (prefix_through_take old.seat.name new.seat.seen) entry
   pub holding : answer ≡ entry_of (prefix_through_take old.seat.name new.seat.seen ++ marks_since_take old.seat.name new.seat.seen) entry
 
--- a field is set in a writer's hold
+-- a field is set during a writer's hold
 pub record IsSet (entry : ℕ) (f : FileField) (to : ℕ) (old new : FileSeatInfo) : Type 0 where
   pub leaves : LeavesMarks (Set entry f to ∷ []) old.seat new.seat
   pub hold : new.hold ≡ old.hold
@@ -134,7 +135,7 @@ pub record IsEnded (old new : FileSeatInfo) : Type 0 where
 
 -- ---- the end
 
--- the entries from `entry` on, this many of them, after a history
+-- this many entries from `entry` on, after a history
 abbrev pub entries_after : List FileMark → ℕ → ℕ → List FileEntry
 entries_after h entry zero = []
 entries_after h entry (suc n) = entry_of h entry ∷ entries_after h (suc entry) n

@@ -1,4 +1,4 @@
--- The ranges of what a file table is opened with, and which fault is answered outside them.
+-- The ranges of what a file table is opened with, and the faults outside them.
 use Rattle.std.specs.Prelude.{ℕ, ◌≤◌}
 use Rattle.fak_model.specs.Limits.{IsNumberOfSeats, IsStint}
 use Rattle.fak_files.specs.declared.fault.OpenFault.{OpenFault}
@@ -17,7 +17,7 @@ IsRangeFault entries seats stint BadSeats = IsNumberOfEntries entries × ¬ IsNu
 IsRangeFault entries seats stint BadStint = IsNumberOfEntries entries × IsNumberOfSeats seats × ¬ IsStint stint
 IsRangeFault entries seats stint Memory = ⊥
 
--- memory is asked for last
+-- memory is allocated last
 abbrev pub IsOpenFault : ℕ → ℕ → ℕ → OpenFault → Type 0
 IsOpenFault entries seats stint Memory = IsInRange entries seats stint
 IsOpenFault entries seats stint fault = IsRangeFault entries seats stint fault

@@ -1,4 +1,4 @@
--- Where a seat of a file table stands, by its marks.
+-- The phase of a seat of a file table, as its marks show it.
 use Rattle.std.specs.Prelude.{ℕ, ◌≡◌, List, [], ◌∷◌, ◌++◌, map}
 use Rattle.std.specs.List.{flat_map}
 use Rattle.fak_model.specs.declared.file.FileKind.{FileKind}
@@ -12,16 +12,16 @@ use Rattle.fak_files.specs.declared.phase.FilePhase.TheVariants.{Idle, Taking, B
 use Rattle.fak_files.specs.declared.phase.Hold.{Hold}
 use Rattle.fak_files.specs.declared.phase.Hold.TheVariants.{Nothing, Reading, Writing}
 
--- what a hold takes of a count of k
+-- what a hold takes from a count whose full value is k
 abbrev pub amount_of : ℕ → Access → ℕ
 amount_of k Read = 1
 amount_of k Write = k
 
--- whole calls, and then a hold that goes on, in which these fields were set
+-- whole calls, and then an open hold in which these fields were set
 abbrev pub AreInHold : ℕ → List FileKind → List Setting → Type 0
 AreInHold n kinds sets = (calls : List WholeCall) × (kinds ≡ flat_map kinds_of_call calls ++ Take n ∷ map set_mark sets)
 
--- the kinds of a seat's marks, where it stands at this phase
+-- the kinds of a seat's marks, if it is at this phase
 abbrev pub StandsIn : ℕ → List FileKind → FilePhase → Type 0
 StandsIn k kinds Idle = Owes kinds_of_call kinds []
 StandsIn k kinds (Taking access) = Owes kinds_of_call kinds []
@@ -29,7 +29,7 @@ StandsIn k kinds (Backing access) = Owes kinds_of_call kinds (Back (amount_of k 
 StandsIn k kinds (Holding Read) = AreInHold 1 kinds []
 StandsIn k kinds (Holding Write) = (sets : List Setting) × AreInHold k kinds sets
 
--- the phase of a seat that is in no call
+-- the phase of a seat that holds this and is not in the middle of a call
 abbrev pub phase_of : Hold → FilePhase
 phase_of Nothing = Idle
 phase_of Reading = Holding Read

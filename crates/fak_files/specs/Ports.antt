@@ -1,4 +1,4 @@
--- What a port of a file table refuses, and what its calls do.
+-- The refusals of a file table's port, and what its calls do.
 use Rattle.std.specs.Prelude.{ℕ, ◌≡◌, ◌≢◌, ◌<◌, Bool, true, false}
 use Rattle.fak_model.specs.declared.file.FileField.{FileField}
 use Rattle.fak_files.specs.declared.fault.FileFault.TheVariants as file
@@ -21,13 +21,13 @@ TakesHold access old new = (old.hold ≡ Nothing) × IsGranted access old new
 abbrev pub WaitsForHold : Access → FileSeatInfo → FileSeatInfo → Type 0
 WaitsForHold access old new = (old.hold ≡ Nothing) × IsWaitedFor access old new
 
--- a hold by one attempt is refused: to a seat that has one; else as the table refuses it
+-- a hold by one attempt is refused: if the seat has one already, and as the table refuses it
 abbrev pub RefusesHold : Access → FileSeatInfo → FileSeatInfo → HoldFault → Type 0
 RefusesHold access old new Holding = StaysHolding old new
 RefusesHold access old new Worn = (old.hold ≡ Nothing) × IsRefused access old new file.Worn
 RefusesHold access old new (Busy count) = (old.hold ≡ Nothing) × IsRefused access old new (file.Busy count)
 
--- a hold that is waited for is refused
+-- a hold that the port would wait for is refused
 abbrev pub RefusesWait : FileSeatInfo → FileSeatInfo → WaitFault → Type 0
 RefusesWait old new wait.Holding = StaysHolding old new
 RefusesWait old new wait.Worn = (old.hold ≡ Nothing) × IsWorn old new
@@ -36,12 +36,12 @@ RefusesWait old new wait.Worn = (old.hold ≡ Nothing) × IsWorn old new
 abbrev pub MayNotGet : ℕ → FileTableInfo → FileSeatInfo → FileSeatInfo → Type 0
 MayNotGet i table old new = (¬ ((old.hold ≢ Nothing) × (i < table.entries))) × (new ≡ old)
 
--- a field of an entry is set in a writer's hold; else nothing changes
+-- a field of an entry is set during a writer's hold; otherwise nothing changes
 abbrev pub SetsOrNot : ℕ → FileField → ℕ → FileTableInfo → FileSeatInfo → FileSeatInfo → Bool → Type 0
 SetsOrNot i field to table old new true = (old.hold ≡ Writing) × (i < table.entries) × IsSet i field to old new
 SetsOrNot i field to table old new false = (¬ ((old.hold ≡ Writing) × (i < table.entries))) × (new ≡ old)
 
--- a hold is given back, if there is one
+-- a hold is given back if there is one; otherwise nothing changes
 abbrev pub EndsOrNot : FileSeatInfo → FileSeatInfo → Bool → Type 0
 EndsOrNot old new true = (old.hold ≢ Nothing) × IsEnded old new
 EndsOrNot old new false = (old.hold ≡ Nothing) × (new ≡ old)

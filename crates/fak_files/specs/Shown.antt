@@ -1,4 +1,4 @@
--- What a running file table shows between any two atomic steps, and what each kind of step tells.
+-- What a running file table shows between any two atomic steps, and what a seat learns from each kind of step.
 use Rattle.std.specs.Prelude.{ℕ, ◌≡◌, ◌+◌, ◌^◌, ◌<◌, ◌≤◌, List, [], ◌∷◌, length, reverse, slice_index_or, pos, ◌+ℤ◌}
 use Rattle.atomic_table.specs.Table.{State, Me}
 use Rattle.fak_model.specs.declared.view.View.{View}
@@ -30,7 +30,7 @@ FileHolder = Me (Unit {0}) FileView
 abbrev pub limits : ℕ → ℕ → FileLimits
 limits entries seats = record { entries = entries; seats = seats }
 
--- the words after a history show its count and its fields
+-- the words show the count and the fields after this history
 pub record ShowsHistory (table : FileLimits) (h : List FileMark) (words : List ℕ) : Type 0 where
   pub few_entries : table.entries ≤ 16
   pub few_seats : table.seats ≤ 1024
@@ -39,7 +39,7 @@ pub record ShowsHistory (table : FileLimits) (h : List FileMark) (words : List �
   pub counted : pos (slice_index_or words count_place 0) ≡ pos bias +ℤ count table.seats h
   pub fields : (entry : ℕ) (f : FileField) → entry < table.entries → slice_index_or words (word_of entry f) 0 ≡ field h entry f
 
--- a file table: its state is its history, newest mark first, and each seat stands where its marks say
+-- a file table: its state is its history, newest mark first; each seat is at the phase that its marks show
 abbrev pub file_object : FileLimits → Object FileMark FileKind WholeCall FilePhase (List FileMark) (Unit {0})
 file_object table = record {
   rules = file_rules table.seats;
@@ -58,12 +58,12 @@ IsShownFile table = IsShown (file_object table)
 abbrev pub opened_file : FileLimits → FileView
 opened_file table = opened Idle table.seats 0
 
--- ---- what each kind of step tells
+-- ---- what a seat learns from each kind of step
 
 abbrev pub mark : ℕ → FileKind → FileMark
 mark name kind = record { seat = name; kind = kind }
 
--- a step of the seat of this name: the marks that it left, newest first, and the phase at which it stands now
+-- a step of the seat of this name: the marks that it left, newest first, and the phase that the seat is at now
 pub record Steps (table : FileLimits) (name : ℕ) (m : FileHolder) (new : List FileMark) (phase : FilePhase) (tells : List FileMark → Type 0) (after : FileHolder) : Type 0 where
   pub leaves : Leaves (file_object table) m new phase 0 [] tells after
   pub token : IsSeatToken seat_of table.seats name phase 0 after
@@ -72,7 +72,7 @@ pub record Steps (table : FileLimits) (name : ℕ) (m : FileHolder) (new : List 
 abbrev pub CountIs : ℕ → ℕ → List FileMark → Type 0
 CountIs k found past = (pos found ≡ pos bias +ℤ count k (reverse past)) × (found < 2 ^ 63)
 
--- a step whose subtraction may take the amount, or not
+-- a step that finds enough for the amount, or too little
 pub record Decided (table : FileLimits) (name : ℕ) (access : Access) (granted : List FileMark) (refused : List FileMark) (next other : FilePhase) (m : FileHolder) (found : ℕ) (after : FileHolder) : Type 0 where
   pub enough : bias + amount_of table.seats access ≤ found → Steps table name m granted next (CountIs table.seats found) after
   pub less : found < bias + amount_of table.seats access → Steps table name m refused other (CountIs table.seats found) after

@@ -1,4 +1,4 @@
--- What an atomic step asks of a seat's token, and what it leaves.
+-- What an atomic step requires of a seat's token, and what it leaves.
 use Rattle.std.specs.Prelude.{ℕ, ◌≡◌}
 use Rattle.atomic_table.specs.Seated.{TableId}
 use Rattle.atomic_table.specs.declared.shared.Seat.{Seat}
@@ -12,12 +12,12 @@ use Rattle.fak_files.specs.Words.{FitsTable}
 abbrev pub FileToken : Type 0
 FileToken = Seat (Unit {0}) FileView
 
--- the token is of this table, which was made with these limits, and is that of the seat of this name, at this phase
+-- the token belongs to this table, which was made with these limits, and to the seat of this name, which is at this phase
 pub record IsTokenOf (table : TableId) (key made_with : FileLimits) (name : ℕ) (phase : FilePhase) (token : FileToken) : Type 0 where
   pub table_is : FitsTable token.table_id table key made_with
   pub seat : IsSeatToken seat_of made_with.seats name phase 0 token.me
 
--- a step leaves the token with its table, and tells this of what it knows now
+-- a step leaves the token with its table; this holds of what the token knows now
 pub record Tells (old new : FileToken) (tells : FileHolder → Type 0) : Type 0 where
   pub same : new.table_id ≡ old.table_id
   pub told : tells new.me

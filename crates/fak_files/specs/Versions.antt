@@ -1,4 +1,4 @@
--- What a seat reads in a hold: the history up to its Take, and what it set since. Histories have the oldest mark first.
+-- What a seat reads during a hold: the history up to its Take, and what it set since. Histories have the oldest mark first.
 use Rattle.std.specs.Prelude.{ℕ, ◌≡◌, ◌≢◌, All, ◌==◌, ◌&&◌, Bool, true, false, cond, List, [], ◌∷◌, reverse}
 use Rattle.fak_model.specs.declared.file.FileEntry.{FileEntry}
 use Rattle.fak_model.specs.declared.file.FileField.TheVariants.{Inode, Uses}
@@ -26,12 +26,12 @@ KeepsHold name h = All (λ (m : FileMark). m.seat ≡ name → m.kind ≢ Give) 
 abbrev pub is_take_of : ℕ → FileMark → Bool
 is_take_of name m = (m.seat == name) && is_take m.kind
 
--- of marks with the newest first, those from the last Take of this name on back
+-- of marks with the newest first: the last Take of this name, and all older marks
 abbrev pub back_from_take : ℕ → List FileMark → List FileMark
 back_from_take name [] = []
 back_from_take name (m ∷ past) = cond (is_take_of name m) (m ∷ past) (back_from_take name past)
 
--- and the name's own marks since
+-- of marks with the newest first: the name's own marks that are newer than its last Take
 abbrev pub own_since_take : ℕ → List FileMark → List FileMark
 own_since_take name [] = []
 own_since_take name (m ∷ past) = cond (is_take_of name m) [] (cond (m.seat == name) (m ∷ own_since_take name past) (own_since_take name past))

@@ -1,4 +1,4 @@
--- The words of a file table: where its count and its fields stand.
+-- The words of a file table: the places of its count and of its fields.
 use Rattle.std.specs.Prelude.{ℕ, ◌≡◌, ◌+◌, ◌*◌}
 use Rattle.atomic_table.specs.Seated.{TableId}
 use Rattle.fak_model.specs.declared.file.FileField.{FileField}
@@ -12,7 +12,7 @@ count_place = 16
 abbrev pub fields_place : ℕ
 fields_place = 32
 
--- how many words this many entries make
+-- the number of words for this many entries
 abbrev pub width : ℕ → ℕ
 width entries = fields_place + 2 * entries
 
@@ -24,6 +24,6 @@ offset_of Uses = 1
 abbrev pub word_of : ℕ → FileField → ℕ
 word_of entry f = fields_place + 2 * entry + offset_of f
 
--- a seat's table is this one, of this many words, and it was made with this key
+-- a seat's table is this one, it has this many words, and it was made with this key
 abbrev pub FitsTable : TableId → TableId → FileLimits → FileLimits → Type 0
 FitsTable of_seat table key made_with = (of_seat ≡ table) × (table.words ≡ width key.entries) × (key ≡ made_with)

@@ -1,9 +1,9 @@
-//! Why a file table or one of its calls refused.
+//! The errors of opening a file table, and of its calls.
 
 use std::error::Error;
 use std::fmt;
 
-/// Why no file table was opened.
+/// Why no file table was opened. If there are several faults, the first one is returned.
 #[derive(Clone, Copy, Debug, PartialEq, Eq)]
 pub enum OpenFault {
     /// The number of entries is not 1 to 16.
@@ -12,36 +12,36 @@ pub enum OpenFault {
     BadSeats,
     /// The stint is not 1 to 2^40.
     BadStint,
-    /// There is no memory.
+    /// Memory ran out.
     Memory,
 }
 
 /// Why a hold was refused.
 #[derive(Clone, Copy, Debug, PartialEq, Eq)]
 pub enum FileFault {
-    /// The seat had as many holds as its stint.
+    /// The seat has had as many holds as its stint.
     Worn,
-    /// Others hold too much: the count that was found.
+    /// Others hold too much. The number is the count that was found.
     Busy(i64),
 }
 
-/// Why a hold by one attempt of a port was refused. Of several refusals the first is returned.
+/// Why a port refused a hold by one attempt. If there are several reasons, the first one is returned.
 #[derive(Clone, Copy, Debug, PartialEq, Eq)]
 pub enum HoldFault {
-    /// The seat has a hold.
+    /// The seat has a hold already.
     Holding,
-    /// The seat had as many holds as its stint.
+    /// The seat has had as many holds as its stint.
     Worn,
-    /// Others hold too much: the count that was found.
+    /// Others hold too much. The number is the count that was found.
     Busy(i64),
 }
 
-/// Why a hold that a port waits for was refused. Of several refusals the first is returned.
+/// Why a port refused a hold that it would wait for. If there are several reasons, the first one is returned.
 #[derive(Clone, Copy, Debug, PartialEq, Eq)]
 pub enum WaitFault {
-    /// The seat has a hold.
+    /// The seat has a hold already.
     Holding,
-    /// The seat had as many holds as its stint.
+    /// The seat has had as many holds as its stint.
     Worn,
 }
 

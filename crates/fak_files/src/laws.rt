@@ -1,4 +1,4 @@
-//! What the histories of a file table say of holds.
+//! What the histories of a file table show about holds.
 
 ghost use Rattle.std.specs.Prelude.{ℕ, ◌≡◌, ◌≢◌, ◌<◌, ◌≤◌, true, List, [], ◌∷◌, ◌++◌};
 ghost use Rattle.fak_model.specs.declared.file.FileField.{FileField};
@@ -9,28 +9,28 @@ ghost use Rattle.fak_files.specs.Versions.{is_take, is_set, KeepsHold, prefix_th
 
 use fak_model::FileMark;
 
-/// While one seat holds as much as there are seats, no other seat holds.
+/// While one seat holds as much as there are seats, no other seat holds anything.
 pub fn a_writer_is_alone()
     ensures { (k seats : ℕ) (h : List FileMark) → IsFileHistory k h → AreNamed (file_rules k) seats h
         → (writer other : ℕ) → writer < seats → other < seats → writer ≢ other → amount_held writer h ≡ k
         → amount_held other h ≡ 0 }
 {}
 
-/// Between a Take and its Give no field is set but by that seat.
+/// Between a Take and its Give only that seat sets fields.
 pub fn no_set_of_another_seat_lies_in_a_hold()
     ensures { (k : ℕ) → 1 ≤ k → (seats : ℕ) (h : List FileMark) → IsFileHistory k h → AreNamed (file_rules k) seats h
         → (before mid after : List FileMark) (take set : FileMark) → before ++ take ∷ (mid ++ set ∷ after) ≡ h
         → is_take take.kind ≡ true → KeepsHold take.seat mid → is_set set.kind ≡ true → set.seat ≡ take.seat }
 {}
 
-/// While a seat holds, each field is what it was at the seat's Take, but for what the seat has set since.
+/// While a seat holds, each field is what it was at the seat's Take, except for what the seat has set since.
 pub fn the_fields_of_a_hold_are_those_of_its_take()
     ensures { (k seats : ℕ) (h : List FileMark) → IsFileHistory k h → AreNamed (file_rules k) seats h
         → (name : ℕ) → name < seats → 0 < amount_held name h
         → (i : ℕ) (f : FileField) → field h i f ≡ field (prefix_through_take name h ++ marks_since_take name h) i f }
 {}
 
-/// What a seat reads in a hold stays while it leaves no mark.
+/// What a seat reads during a hold stays the same while it leaves no mark.
 pub fn what_a_hold_reads_stays()
     ensures { (name : ℕ) (h rest : List FileMark) → marks_of seat_of name rest ≡ []
         → (prefix_through_take name (h ++ rest) ≡ prefix_through_take name h)

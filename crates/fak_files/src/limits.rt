@@ -1,4 +1,4 @@
-//! What a file table is told when it is made.
+//! What a file table is made with.
 
 /// The number of entries of a file table, and of its seats.
 #[derive(Drop)]

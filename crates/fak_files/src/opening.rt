@@ -8,10 +8,10 @@ use crate::fault::OpenFault;
 use crate::words::{FIELDS, MOST_ENTRIES};
 use fak_model::{LONGEST_STINT, LargeFault, MOST_SEATS, tested_large_seats};
 
-/// How many words there are for the most entries.
+/// The number of words of a table with the most entries.
 pub(crate) const WORDS: usize = FIELDS + 2 * MOST_ENTRIES;
 
-/// Tests the number of entries, the number of seats and the stint, in this order.
+/// Tests the number of entries, the number of seats and the stint, in this order. Returns the first fault.
 pub(crate) fn tested_limits(entries: u64, seats: u64, stint: u64) -> Result<(), OpenFault>
     ensures { MatchResult result (λ _. IsInRange entries seats stint) (IsRangeFault entries seats stint) }
 {
@@ -27,7 +27,7 @@ pub(crate) fn tested_limits(entries: u64, seats: u64, stint: u64) -> Result<(), 
     Ok(())
 }
 
-/// Tests the same of a large table, in the same order.
+/// Tests the same limits of a large table, in the same order.
 pub(crate) fn tested_large_limits(entries: u64, seats: u64, stint: u64) -> Result<(), LargeFault>
     ensures { MatchResult result (λ _. IsInLargeRange (IsNumberOfEntries entries) seats stint)
         (IsLargeFault (IsNumberOfEntries entries) seats stint) }

@@ -12,7 +12,7 @@ pub enum Access {
 impl Access {
     ghost use Rattle.fak_files.specs.Phases.{amount_of, hold_for};
 
-    /// What a hold takes of a count of this many seats.
+    /// What a hold takes from the count of a table with this many seats.
     pub(crate) fn amount(self, seats: u64) -> u64
         ensures { result ≡ amount_of seats self }
     {
@@ -22,7 +22,7 @@ impl Access {
         }
     }
 
-    /// The hold that is granted.
+    /// The hold that this access is granted.
     pub(crate) fn hold(self) -> Hold
         ensures { result ≡ hold_for self }
     {
@@ -33,15 +33,15 @@ impl Access {
     }
 }
 
-/// The phase of a seat in a call.
+/// The phase of a seat, within a call or between two calls.
 pub enum FilePhase {
-    /// It holds nothing, and is in no call.
+    /// The seat holds nothing, and no call of it is open.
     Idle,
-    /// Its test has passed; it subtracts next.
+    /// The test found enough; the seat subtracts next.
     Taking(Access),
-    /// Its subtraction took too much; it adds the amount again next.
+    /// The subtraction found too little; the seat adds the amount again next.
     Backing(Access),
-    /// It holds the table.
+    /// The seat holds the table.
     Holding(Access),
 }
 

@@ -1,4 +1,4 @@
-//! What each atomic step on the words of a file table tells. These types are for the proofs alone.
+//! What a seat learns from each atomic step on the words of a file table. These types are only for the proofs.
 
 use crate::phase::Access;
 use crate::rule::FileView;
@@ -44,7 +44,7 @@ impl Call for Brand {
     ghost to = { 0 };
 }
 
-/// The load of the count before a hold.
+/// The load of the count before a hold, which its test decides on.
 pub struct TestPlay<J: Call> {
     of: PhantomData<J>,
 }
@@ -55,7 +55,7 @@ impl<J: Call> Play<(), FileView> for TestPlay<J> {
     ghost then = { λ s m found after. Tested J.key J.name J.access m found after };
 }
 
-/// The subtraction of a hold.
+/// The subtraction of a hold, which its retest decides on.
 pub struct TakePlay<J: Call> {
     of: PhantomData<J>,
 }

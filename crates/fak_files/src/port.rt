@@ -1,4 +1,4 @@
-//! A file table and a seat of it as one value, whose calls have no condition.
+//! A file table and one of its seats as one value, whose calls have no preconditions.
 
 ghost use Rattle.std.specs.Prelude.{◌≡◌, ◌↔◌, ◌<◌, IsTrue, MatchOption, MatchResult};
 ghost use Rattle.fak_files.specs.Calls.{IsFileSeatOf, IsFreeSeatOf, IsGot, IsHoldOf};
@@ -13,14 +13,14 @@ use fak_model::{FileEntry, FileField};
 use std::fmt;
 use std::sync::Wait;
 
-/// A file table with a seat of it. The type keeps that the seat is of the table. A call for which the seat has the wrong hold is
-/// refused, and so is an entry that is none, so that the calls of a port require nothing. What they ensure is said of the
-/// port's seat, before and after.
+/// A file table with one of its seats. The type guarantees that the seat belongs to the table. A call is refused if the
+/// seat has the wrong hold for it, or if there is no such entry. So the calls of a port require nothing. Their
+/// contracts are about the port's seat, before and after.
 #[derive(Drop)]
 pub struct FilePort<'t> {
     /// The file table.
     pub table: &'t FileTable,
-    /// The seat, which is of this table.
+    /// The seat, which belongs to this table.
     pub seat: FileSeat,
     pub ghost of_table: { IsFileSeatOf table.now.object seat },
 }
@@ -35,7 +35,7 @@ impl<'t> FilePort<'t> {
         FilePort { table, seat }
     }
 
-    /// A hold for this access by one attempt, or why it is refused.
+    /// Takes a hold for this access by one attempt, or returns why it is refused.
     fn try_hold(&mut self, access: Access) -> Result<(), HoldFault>
         ensures table { self.new.table ≡ self.old.table }
         ensures call { MatchResult result (λ _. TakesHold access self.old.seat self.new.seat)
@@ -51,7 +51,7 @@ impl<'t> FilePort<'t> {
         }
     }
 
-    /// A reader's hold, which others may have at the same time.
+    /// Takes a reader's hold, which others may have at the same time.
     ///
     /// # Errors
     ///
@@ -64,7 +64,7 @@ impl<'t> FilePort<'t> {
         self.try_hold(Access::Read)
     }
 
-    /// A writer's hold, beside which no seat holds.
+    /// Takes a writer's hold, during which no other seat holds.
     ///
     /// # Errors
     ///
@@ -77,7 +77,7 @@ impl<'t> FilePort<'t> {
         self.try_hold(Access::Write)
     }
 
-    /// A hold for this access, tried until it is granted, or why it is refused.
+    /// Takes a hold for this access, which is tried until it is granted, or returns why it is refused.
     fn wait_hold<R: Wait>(&mut self, rt: &R, access: Access) -> Result<(), WaitFault>
         ensures table { self.new.table ≡ self.old.table }
         ensures call { MatchResult result (λ _. WaitsForHold access self.old.seat self.new.seat)
@@ -92,7 +92,7 @@ impl<'t> FilePort<'t> {
         }
     }
 
-    /// A reader's hold, tried again while a writer holds.
+    /// Takes a reader's hold; tries again while a writer holds.
     ///
     /// # Errors
     ///
@@ -105,7 +105,7 @@ impl<'t> FilePort<'t> {
         self.wait_hold(rt, Access::Read)
     }
 
-    /// A writer's hold, tried again while others hold.
+    /// Takes a writer's hold; tries again while others hold.
     ///
     /// # Errors
     ///
@@ -118,7 +118,7 @@ impl<'t> FilePort<'t> {
         self.wait_hold(rt, Access::Write)
     }
 
-    /// Whether there is an entry `i`.
+    /// Whether the table has an entry `i`.
     fn has_entry(&self, i: u64) -> bool
         ensures { IsTrue result ↔ (i < self.now.table.now.entries) }
     {
@@ -126,8 +126,8 @@ impl<'t> FilePort<'t> {
         i < table.entries
     }
 
-    /// The entry `i`, in a hold: what it was when the hold was granted, and what the seat has set since. `None` if the seat holds
-    /// nothing, or there is no such entry.
+    /// The entry `i`, read during a hold: as it was when the hold was granted, with what the seat has set since.
+    /// Returns `None` if the seat holds nothing, or if there is no such entry.
     pub fn get(&mut self, i: u64) -> Option<FileEntry>
         ensures table { self.new.table ≡ self.old.table }
         ensures call { MatchOption result (MayNotGet i self.old.table.now self.old.seat self.new.seat)
@@ -142,7 +142,8 @@ impl<'t> FilePort<'t> {
         }
     }
 
-    /// Sets a field of the entry `i`, in a writer's hold. False if the seat does not hold as a writer, or there is no such entry.
+    /// Sets a field of the entry `i` during a writer's hold. Returns false if the seat does not hold as a writer, or if
+    /// there is no such entry.
     pub fn set(&mut self, i: u64, field: FileField, to: u64) -> bool
         ensures table { self.new.table ≡ self.old.table }
         ensures call { SetsOrNot i field to self.old.table.now self.old.seat self.new.seat result }
@@ -159,7 +160,7 @@ impl<'t> FilePort<'t> {
         }
     }
 
-    /// Gives the hold back. False if the seat holds nothing.
+    /// Gives the hold back. Returns false if the seat holds nothing.
     pub fn end(&mut self) -> bool
         ensures table { self.new.table ≡ self.old.table }
         ensures call { EndsOrNot self.old.seat self.new.seat result }
@@ -181,7 +182,7 @@ impl<'t> FilePort<'t> {
         self.seat.hold()
     }
 
-    /// The seat, which `FileTally::of` or `FileTable::join` takes. A hold that it has is given back before.
+    /// The seat, which `FileTally::of` or `FileTable::join` takes. If it has a hold, that is given back first.
     pub fn into_seat(self) -> FileSeat
         ensures free { IsFreeSeatOf self.entry.table.now.object result }
         ensures seat { EndsIfHeld self.entry.seat result }

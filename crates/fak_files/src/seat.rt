@@ -8,7 +8,7 @@ use crate::steps::FileToken;
 use std::fmt;
 use std::marker::Model;
 
-/// The right to hold a `FileTable`, as often as its stint says. Contracts see its object, its name, its stint, the
+/// The right to hold a `FileTable`, as many times as its stint. Contracts see its object, its name, its stint, the
 /// history that it has seen, and what it holds.
 #[derive(Drop)]
 pub struct FileSeat {

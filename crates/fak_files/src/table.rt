@@ -34,7 +34,7 @@ use std::fmt;
 use std::marker::{Brand, Model};
 use std::sync::Wait;
 
-/// Entries that many seats may read at once, or one seat may write.
+/// Entries that many seats may read at once, or only one seat may write.
 #[derive(Drop)]
 pub struct FileTable {
     pub(crate) table: Table<(), FileView, FileLimits, FileRule, Global>,
@@ -57,7 +57,7 @@ impl Model for FileTable {
 }
 
 impl FileTable {
-    /// A table of free entries, with its seats, each of which may have `stint` holds.
+    /// Opens a table of free entries, with its seats. Each seat may have `stint` holds.
     ///
     /// `entries` is 1 to 16, `seats` 1 to 64, `stint` 1 to 2^40.
     ///
@@ -83,7 +83,7 @@ impl FileTable {
         }
     }
 
-    /// A large table: the same table, with the same calls, of more seats.
+    /// Opens a large table: the same table, with the same calls, but more seats.
     ///
     /// `entries` is 1 to 16, and `seats` 1 to `LARGE_SEATS`. `stint` is at least 1, and `seats` times `stint` at most
     /// `LARGE_TICKETS`.
@@ -110,7 +110,7 @@ impl FileTable {
         }
     }
 
-    /// A table of free entries with its seats, whose limits have been tested.
+    /// A table of free entries with its seats; the caller has tested the limits.
     fn with_limits(
         alloc: Global,
         entries: u64,
@@ -146,7 +146,7 @@ impl FileTable {
         Ok((FileTable { table, entries }, dealt))
     }
 
-    /// A hold for this access, or why it is refused.
+    /// Takes a hold for this access, or returns why it is refused.
     pub(crate) fn try_hold(&self, seat: &mut FileSeat, access: Access) -> Result<(), FileFault>
         requires { IsFreeSeatOf self.now.object seat.old }
         ensures call { MatchResult result (λ _. IsGranted access seat.old seat.new)
@@ -168,11 +168,11 @@ impl FileTable {
         }
     }
 
-    /// A reader's hold, which others may have at the same time.
+    /// Takes a reader's hold, which others may have at the same time.
     ///
     /// # Errors
     ///
-    /// `Worn` or `Busy`, in this order. `Busy` has the count that was found, where a writer holds or has just tried to.
+    /// `Worn` or `Busy`, in this order. `Busy` has the count that was found, if a writer holds or has just tried to.
     pub fn try_read(&self, seat: &mut FileSeat) -> Result<(), FileFault>
         requires object { IsFileSeatOf self.now.object seat.old }
         requires idle { seat.old.hold ≡ Nothing }
@@ -184,11 +184,11 @@ impl FileTable {
         self.try_hold(seat, Access::Read)
     }
 
-    /// A writer's hold, beside which no seat holds.
+    /// Takes a writer's hold, during which no other seat holds.
     ///
     /// # Errors
     ///
-    /// `Worn` or `Busy`, in this order. `Busy` has the count that was found, where others hold or have just tried to.
+    /// `Worn` or `Busy`, in this order. `Busy` has the count that was found, if others hold or have just tried to.
     pub fn try_write(&self, seat: &mut FileSeat) -> Result<(), FileFault>
         requires object { IsFileSeatOf self.now.object seat.old }
         requires idle { seat.old.hold ≡ Nothing }
@@ -200,7 +200,7 @@ impl FileTable {
         self.try_hold(seat, Access::Write)
     }
 
-    /// The entry `i`, in a hold: what it was when the hold was granted, and what the seat has set since.
+    /// The entry `i`, read during a hold: as it was when the hold was granted, with what the seat has set since.
     pub fn get(&self, seat: &mut FileSeat, i: u64) -> FileEntry
         requires object { IsFileSeatOf self.now.object seat.old }
         requires held { seat.old.hold ≢ Nothing }
@@ -216,7 +216,7 @@ impl FileTable {
         FileEntry { inode, uses }
     }
 
-    /// Sets a field of the entry `i`, in a writer's hold.
+    /// Sets a field of the entry `i` during a writer's hold.
     pub fn set(&self, seat: &mut FileSeat, i: u64, field: FileField, to: u64)
         requires object { IsFileSeatOf self.now.object seat.old }
         requires held { seat.old.hold ≡ Writing }
@@ -242,7 +242,7 @@ impl FileTable {
         seat.hold = Hold::Nothing;
     }
 
-    /// A hold for this access, tried until it is granted.
+    /// Takes a hold for this access; tries until it is granted.
     pub(crate) fn wait_hold<R: Wait>(
         &self,
         rt: &R,
@@ -265,11 +265,11 @@ impl FileTable {
         unreachable!()
     }
 
-    /// A reader's hold, tried again while a writer holds.
+    /// Takes a reader's hold; tries again while a writer holds.
     ///
     /// # Errors
     ///
-    /// `Worn`, where the seat has had as many holds as its stint.
+    /// `Worn`, if the seat has had as many holds as its stint.
     pub fn read<R: Wait>(&self, rt: &R, seat: &mut FileSeat) -> Result<(), Worn>
         requires object { IsFileSeatOf self.now.object seat.old }
         requires idle { seat.old.hold ≡ Nothing }
@@ -280,11 +280,11 @@ impl FileTable {
         self.wait_hold(rt, seat, Access::Read)
     }
 
-    /// A writer's hold, tried again while others hold.
+    /// Takes a writer's hold; tries again while others hold.
     ///
     /// # Errors
     ///
-    /// `Worn`, where the seat has had as many holds as its stint.
+    /// `Worn`, if the seat has had as many holds as its stint.
     pub fn write<R: Wait>(&self, rt: &R, seat: &mut FileSeat) -> Result<(), Worn>
         requires object { IsFileSeatOf self.now.object seat.old }
         requires idle { seat.old.hold ≡ Nothing }
@@ -295,7 +295,7 @@ impl FileTable {
         self.wait_hold(rt, seat, Access::Write)
     }
 
-    /// The tally with one more seat, which holds nothing.
+    /// The tally with this seat added, which holds nothing.
     pub fn join(&self, tally: FileTally, seat: FileSeat) -> FileTally
         requires object { (tally.object ≡ self.now.object) × IsFileSeatOf self.now.object seat }
         requires idle { seat.hold ≡ Nothing }
@@ -324,8 +324,8 @@ impl FileTable {
         }
     }
 
-    /// The entries that are left, once all seats are in the tally: as after the whole history, which is lawful, and in
-    /// which no call is cut short.
+    /// Closes the table, once all seats are in the tally, and returns the entries that are left. They are as after the
+    /// whole history, which is lawful, and in which no call is cut short.
     pub fn close(self, tally: FileTally) -> FileRest
         requires object { tally.object ≡ self.object }
         requires whole { IsWhole tally.object.seats tally.names }

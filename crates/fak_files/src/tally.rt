@@ -1,4 +1,4 @@
-//! Seats of a file table that are brought together.
+//! Seats of a file table that were joined.
 
 ghost use Rattle.std.specs.Prelude.{◌≡◌, ◌↔◌, IsTrue};
 ghost use Rattle.fak_model.specs.Histories.{AreNamed, IsAtRest};
@@ -13,8 +13,8 @@ use fak_model::NameSet;
 use std::fmt;
 use std::marker::Model;
 
-/// Seats of a file table that make no calls any more. Contracts see their object, their names, and the longest
-/// history that one of them has seen.
+/// Seats of a file table that were joined and perform no more calls. Contracts see their object, their names, and the
+/// longest history that one of them has seen.
 #[derive(Drop)]
 pub struct FileTally {
     pub(crate) token: FileToken,
@@ -63,8 +63,8 @@ impl FileTally {
         }
     }
 
-    /// Whether all seats of the table are in it. Then each mark of its history is of one of them, and no call is cut
-    /// short. What it has seen is lawful in any case.
+    /// Whether all seats of the table are in the tally. Then each mark of its history belongs to one of them, and no
+    /// call is cut short. Its history is lawful in any case.
     pub fn is_whole(&self) -> bool
         ensures whole { IsTrue result ↔ IsWhole self.now.object.seats self.now.names }
         ensures mine { IsTrue result → mine seat_of self.now.names self.now.seen ≡ self.now.seen }

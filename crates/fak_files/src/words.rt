@@ -1,8 +1,8 @@
 //! The words of a file table: its count, and two for each entry.
 //!
-//! The count is the number of seats less what is held, or taken too much and not withdrawn yet. The 16 words before it
-//! and those up to the fields stay unused, so that neither a field nor what lies before the table shares a line of 128
-//! bytes or less with the count, wherever the table lies.
+//! The count is the number of seats less what is held, and less what was taken too much and is not yet withdrawn. The
+//! 16 words before the count are unused, and so are those after it up to the fields. So neither a field nor what is
+//! before the table shares a line of 128 bytes or less with the count, wherever the table is in memory.
 
 ghost use Rattle.std.specs.Prelude.{◌≡◌, ◌<◌};
 ghost use Rattle.fak_files.specs.Words.{word_of};
