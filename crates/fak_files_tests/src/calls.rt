@@ -57,7 +57,7 @@ fn open_two(
     (table, a, b)
 }
 
-/// A call of a seat, and what it is to answer.
+/// A call of a seat, and what it should return.
 #[cfg(test)]
 #[derive(Drop)]
 enum Call {
@@ -68,7 +68,7 @@ enum Call {
     End,
 }
 
-/// Makes the call of this row of a test, after which the seat is to hold this.
+/// Performs the call of this row of a test. Stops if it returns something else, or if the seat does not hold this afterwards.
 #[cfg(test)]
 fn makes<R: Abort + Wait>(
     rt: &R,
@@ -98,7 +98,7 @@ fn makes<R: Abort + Wait>(
     }
 }
 
-/// Each call for a hold tells that the seat is worn.
+/// Checks that each call for a hold returns that the seat is worn.
 #[cfg(test)]
 fn is_worn<R: Abort + Wait>(rt: &R, table: &FileTable, seat: &mut FileSeat)
     requires { seat.old.seat.object ≡ table.now.object }
@@ -112,7 +112,8 @@ fn is_worn<R: Abort + Wait>(rt: &R, table: &FileTable, seat: &mut FileSeat)
     makes(rt, table, seat, 14, &Call::Write(Err(Worn)), Hold::Nothing);
 }
 
-/// A writer is refused beside a reader, and a reader beside a writer, whose Sets are read after its end.
+/// A writer is refused while another seat reads, and a reader while another seat writes. What the writer set is read
+/// after its end.
 #[test]
 fn one_thread(rt: HostRuntime) {
     const GRANTED: &Call = &Call::TryRead(Ok(()));
@@ -171,7 +172,7 @@ fn a_reader_is_dropped(rt: HostRuntime) {
     assert_equal(&rt, tally.is_whole(), false);
 }
 
-/// A seat has as many holds as its stint, by tries and by waiting; refused tries don't count.
+/// A seat has as many holds as its stint, by tries and by waiting; refused tries do not count.
 #[test]
 fn a_seat_is_worn(rt: HostRuntime) {
     const REFUSED: &Call = &Call::TryWrite(Err(FileFault::Busy(1)));
@@ -196,7 +197,7 @@ fn a_seat_is_worn(rt: HostRuntime) {
     table.end(&mut b);
 }
 
-/// A worn seat is told so at once while another holds, which a wait would not end.
+/// While another seat holds, a worn seat is refused at once; if it waited, the wait would not end.
 #[test]
 fn a_worn_seat_does_not_wait(rt: HostRuntime) {
     let (table, mut a, mut b) = open_two(&rt, rt.alloc(), 1, 1);
@@ -213,7 +214,7 @@ fn a_worn_seat_does_not_wait(rt: HostRuntime) {
     }
 }
 
-/// Whether the seat writes; it then holds as much as there are seats.
+/// Whether the seat writes. If so, it holds as much as there are seats.
 fn is_alone(seat: &FileSeat, seats: u64) -> bool
     requires { seat.now.seat.object.seats ≡ seats }
     ensures { IsTrue result → amount_held seat.now.seat.name seat.now.seat.seen ≡ seats }
@@ -221,7 +222,7 @@ fn is_alone(seat: &FileSeat, seats: u64) -> bool
     seat.hold() == Hold::Writing
 }
 
-/// Whether all seats are joined; the table is then free.
+/// Whether all seats are joined. If so, the table is free.
 fn is_free(tally: &FileTally) -> bool
     ensures { IsTrue result → count tally.now.object.seats tally.now.seen ≡ pos tally.now.object.seats }
 {
@@ -229,7 +230,7 @@ fn is_free(tally: &FileTally) -> bool
     tally.is_whole()
 }
 
-/// A closed table was free.
+/// Closes the table; its clause states that the table was free.
 fn close_free(table: FileTable, tally: FileTally)
     requires { (tally.object ≡ table.object) × IsWhole tally.object.seats tally.names }
     ensures { count table.object.seats tally.seen ≡ pos table.object.seats }
@@ -238,7 +239,7 @@ fn close_free(table: FileTable, tally: FileTally)
     let _rest = table.close(tally);
 }
 
-/// The file of an entry of a closed table is the last that was set.
+/// Closes the table, and returns the inode of an entry, which is the last one that was set.
 fn last_file(table: FileTable, tally: FileTally, i: u64) -> u64
     requires tally { (tally.object ≡ table.object) × IsWhole tally.object.seats tally.names }
     requires entry { i < table.entries }
@@ -247,7 +248,7 @@ fn last_file(table: FileTable, tally: FileTally, i: u64) -> u64
     table.close(tally).get(i).inode
 }
 
-/// Makes this many writer's holds of an entry that stays as it is.
+/// Takes this many writer's holds, in each of which the entry stays as it is.
 fn hold_often(table: &FileTable, mut seat: FileSeat, holds: u64) -> FileSeat
     requires { IsFreeSeatOf table.now.object seat }
     ensures { IsFreeSeatOf table.now.object result }
@@ -278,7 +279,7 @@ fn fault_of(alloc: Global, entries: u64, seats: u64, stint: u64) -> Option<OpenF
     FileTable::open(alloc, entries, seats, stint).err()
 }
 
-/// The first value that is out of range is answered.
+/// The fault is that of the first value that is out of range.
 #[test]
 fn ranges(rt: HostRuntime) {
     for &(entries, seats, stint, fault) in &[
@@ -294,7 +295,7 @@ fn ranges(rt: HostRuntime) {
     }
 }
 
-/// Waits until both threads are here, so that their holds meet; not for ever, since the other may have no thread.
+/// Waits until both threads are here, so that their holds meet. The wait is bounded, since the other may have no thread.
 fn meet(here: &AtomicU64) {
     here.fetch_add(1, Ordering::SeqCst);
     for _ in 0..100_000_000 {
@@ -305,7 +306,7 @@ fn meet(here: &AtomicU64) {
     }
 }
 
-/// Makes this many writer's holds, the j-th of which sets both fields of entry 0 to j.
+/// Takes this many writer's holds; the j-th sets both fields of entry 0 to j.
 fn write_in_turn<R: Wait>(rt: &R, table: &FileTable, mut seat: FileSeat, count: u64) -> FileSeat
     requires object { (seat.seat.object ≡ table.now.object) × (0 < table.now.entries) }
     requires idle { seat.hold ≡ Nothing }
@@ -323,8 +324,8 @@ fn write_in_turn<R: Wait>(rt: &R, table: &FileTable, mut seat: FileSeat, count: 
     seat
 }
 
-/// Makes this many reader's holds, with two reads of entry 0 in each: whether both reads were equal, their fields too, and no
-/// read found less than an earlier one.
+/// Takes this many reader's holds, and reads entry 0 twice in each. Returns whether both reads and both fields were
+/// equal, and no read found less than an earlier one.
 fn read_in_turn<R: Wait>(
     rt: &R,
     table: &FileTable,
@@ -352,7 +353,7 @@ fn read_in_turn<R: Wait>(
     (seat, true)
 }
 
-/// Both in threads, and what the joined seats and the closed table show then.
+/// Runs both in threads. Returns whether the joined seats and the closed table show the right values then.
 fn run_two<R: Threads + Wait + Sync>(rt: &R, table: FileTable, a: FileSeat, b: FileSeat) -> bool
     requires object { (a.seat.object ≡ table.object) × (b.seat.object ≡ table.object) × (table.entries ≡ 1) }
     requires idle { (a.hold ≡ Nothing) × (b.hold ≡ Nothing) }
@@ -391,7 +392,7 @@ fn two_threads(rt: HostRuntime) {
     assert!(rt; run_two(&rt, table, a, b));
 }
 
-/// Whichever allocation fails, no other fault than Memory is answered in range.
+/// Whichever allocation fails, the only fault of limits in range is `Memory`.
 #[test]
 fn memory(rt: HostRuntime) {
     let fault = fault_of(rt.alloc(), 16, 64, 1);

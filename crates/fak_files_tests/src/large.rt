@@ -5,7 +5,7 @@ use fak_files::{FileField, FileTable, LARGE_SEATS, LARGE_TICKETS, LargeFault, MO
 use std::process::Abort;
 use std::test::*;
 
-/// Limits that are refused, each with the fault.
+/// Limits that are refused, each with its fault.
 const REFUSED: &[(u64, u64, u64, LargeFault)] = &[
     (0, 0, 0, LargeFault::BadSize),
     (17, 1, 1, LargeFault::BadSize),

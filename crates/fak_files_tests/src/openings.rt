@@ -1,4 +1,4 @@
-//! Tables of each size in range are opened, with all their seats, and keep what was set.
+//! Tables of each size in range are opened with all their seats, and keep what was set.
 
 ghost use Rattle.std.specs.Prelude.{◌≡◌, ◌≢◌};
 ghost use Rattle.fak_files.specs.declared.phase.Hold.TheVariants.{Nothing, Writing};
@@ -21,7 +21,7 @@ fn entry_of(i: u64) -> FileEntry {
     }
 }
 
-/// Sets both fields of each of the entries, in a writer's hold.
+/// Sets both fields of each entry, during a writer's hold.
 fn set_each(table: &FileTable, seat: &mut FileSeat, entries: u64)
     requires entries { entries ≡ table.now.entries }
     requires object { seat.old.seat.object ≡ table.now.object }
@@ -36,7 +36,7 @@ fn set_each(table: &FileTable, seat: &mut FileSeat, entries: u64)
     }
 }
 
-/// Whether each of the entries is what was set, in a hold.
+/// Whether each entry is what was set, during a hold.
 fn shows_each(table: &FileTable, seat: &mut FileSeat, entries: u64) -> bool
     requires entries { entries ≡ table.now.entries }
     requires object { seat.old.seat.object ≡ table.now.object }
@@ -52,13 +52,14 @@ fn shows_each(table: &FileTable, seat: &mut FileSeat, entries: u64) -> bool
     true
 }
 
-/// Opens the table, which is to have this many seats.
+/// Opens the table, and checks that it has this many seats.
 fn has_seats(rt: &impl Abort, alloc: Global, entries: u64, seats: u64, stint: u64) {
     let (_table, dealt) = FileTable::open(alloc, entries, seats, stint).expect(rt, "table");
     assert_equal(rt, dealt.len() as u64, seats);
 }
 
-/// Opens the table with this many seats, and with one, which writes each entry and reads it. What is left when it is closed is the same.
+/// Opens the table with this many seats. Opens it again with one seat, which writes each entry and reads it. The
+/// entries that are left at the close are the same.
 fn opens_table(rt: &impl Abort, alloc: Global, entries: u64, seats: u64, stint: u64) {
     has_seats(rt, alloc, entries, seats, stint);
     let (table, mut seat) = open_one(rt, alloc, entries, stint);

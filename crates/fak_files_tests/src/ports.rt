@@ -1,4 +1,4 @@
-//! Ports: a file table and a seat of it as one value. No call of a port asks for anything, so that their callers state nothing.
+//! Ports: a file table and one of its seats as one value. The calls of a port require nothing, so their callers state nothing.
 
 use super::assertions::{assert_equal, assert_written};
 use super::calls::open_one;
@@ -8,7 +8,7 @@ use std::sync::Wait;
 use std::test::*;
 use std::thread::join;
 
-/// A call of a port, and what it is to return.
+/// A call of a port, and what it should return.
 #[derive(Drop)]
 enum Call {
     TryRead(Result<(), HoldFault>),
@@ -20,7 +20,7 @@ enum Call {
     End(bool),
 }
 
-/// Makes the call, and tells whether it returned this and left the seat with this hold.
+/// Performs the call. Returns whether it returned this and left the seat with this hold.
 fn meets<R: Wait>(rt: &R, port: &mut FilePort<'_>, call: &Call, hold: Hold) -> bool {
     let met = match call {
         Call::TryRead(returned) => port.try_read() == *returned,
@@ -117,7 +117,8 @@ fn ports_print_their_table_and_their_seat(rt: HostRuntime) {
     assert_written(&rt, &port, text);
 }
 
-/// Raises both fields of entry 0 by 1, each in its own write, this many times.
+/// Raises both fields of entry 0 by 1 this many times, each time in a writer's hold of its own. Returns whether every
+/// call succeeded.
 fn raise_often<R: Wait>(rt: &R, mut port: FilePort<'_>, count: u64) -> bool {
     let mut all = true;
     for _ in 0..count {
@@ -131,7 +132,7 @@ fn raise_often<R: Wait>(rt: &R, mut port: FilePort<'_>, count: u64) -> bool {
     all
 }
 
-/// Reads entry 0 this many times. Tells whether both fields were the same each time.
+/// Reads entry 0 this many times. Returns whether every call succeeded and both fields were always the same.
 fn read_often<R: Wait>(rt: &R, mut port: FilePort<'_>, count: u64) -> bool {
     let mut all = true;
     for _ in 0..count {

@@ -36,7 +36,7 @@ fn a_new_seat_holds_nothing(rt: HostRuntime) {
     assert_equal(&rt, seat.hold(), Hold::Nothing);
 }
 
-/// Finds that each fault is written so.
+/// Checks that each fault is written as its text.
 fn have_texts<F: Display>(rt: &(impl Abort + AllocGlobal), rows: &[(F, &str)]) {
     for (fault, text) in rows {
         let written = fault.to_string(rt.alloc()).expect(rt, "memory");

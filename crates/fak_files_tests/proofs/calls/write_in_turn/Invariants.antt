@@ -2,6 +2,6 @@ use Rattle.std.proofs.Common.{◌≡◌}
 use Rattle.fak_files.specs.declared.phase.Hold.TheVariants.{Nothing}
 use Rattle.fak_files_tests.proofs.calls.write_in_turn.Given as goal
 
--- the seat is the table's, and holds nothing
+-- the seat belongs to the table, and holds nothing
 abbrev pub invariant-loop-j : goal.invariant-loop-j
 invariant-loop-j g l = (l.seat.seat.object ≡ l.table.object) × (l.seat.hold ≡ Nothing)
