@@ -1,4 +1,4 @@
--- The names that proofs cite most, passed on from one place. Declares nothing.
+-- The names that proofs cite most, passed on from one place. This file declares nothing.
 pub use Rattle.fak_count.specs.Credits.{CreditInfo, MakesCall, calls_made}
 pub use Rattle.fak_model.proofs.Common.{count, puts, gots, marks_of}
 pub use Rattle.fak_model.proofs.CreditLaw.{granted_is, every_history}

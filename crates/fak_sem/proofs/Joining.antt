@@ -1,9 +1,9 @@
--- What joins and closes leave of the invariant of a tally.
+-- How joins and closes keep the invariant of a tally.
 use Rattle.fak_sem.proofs.Common.{◌≡◌, ◌≢◌, ℕ, ◌+◌, ◌<◌, ◌==◌, true, false, List, [], ◌∷◌, ◌++◌, length-drop, refl, ap, sym, ◌∙◌, subst, arith, inl, inr, All, flat_map, append-nil, CreditKind, CreditMark, Mark, in_either, seat_of, weight_from, parks, wakes, of_all, downs_parked_by, ups_waking_by, IsMatched, IsSettled, SemId, SemTallyInfo, seats_of, IsSemSeat, IsSemTally, sem_tally, Kind, sum_none, sum_one, sum_same, granted_is, items_count, common_steps}
 use Rattle.fak_model.proofs.Common.{nat_tests, All-head, All-tail, IsAtRest, seat_words, sum_below, credit_rules, count, puts, gots, items_put, queue_rules, In, IsWhole, Knows, marks_of, ObjectId, SeatInfo, TallyInfo, IsJoined}
 use Rattle.fak_sem.proofs.Weights.{weight-known, weights-names, grants-parts, debits-parts}
 
--- the marks of a name determine that they match
+-- whether a name's downs and ups match its marks in the wait queue depends only on its own marks
 matched_known : {T : Type 0} {start name : ℕ} {credit_names queue_names : List ℕ} {s s' : List CreditMark} {q q' : List (Mark T)} → Knows (λ (m : CreditMark). m.seat) credit_names s s' → Knows (λ (m : Mark T). m.seat) queue_names q q'
     → In name credit_names → In name queue_names → IsMatched start name s q → IsMatched start name s' q'
 matched_known {T} {start} {name} {credit_names} {queue_names} {s} {s'} k l i j m = record {
@@ -11,7 +11,7 @@ matched_known {T} {start} {name} {credit_names} {queue_names} {s} {s'} k l i j m
   woken = ap (count gots) (l.own name j) ∙ (m.woken ∙ sym (weight-known name wakes start credit_names s s' k i));
 }
 
--- a tally and a seat of one semaphore, and both parts of what they are joined to
+-- a tally and a seat of one semaphore, and the two parts of their join
 pub tally_joined : {T : Type 0} {start seat_start size : ℕ} {credit_tally credit' : TallyInfo CreditMark} {queue_tally queue' : TallyInfo (Mark T)} {credit_seat : SeatInfo CreditMark} {queue_seat : SeatInfo (Mark T)}
     → IsSemTally start credit_tally queue_tally → IsSemSeat seat_start credit_seat queue_seat → seat_start ≡ start
     → IsJoined credit_rules credit_tally credit_seat credit' → IsJoined (queue_rules size) queue_tally queue_seat queue' → IsSemTally start credit' queue'
@@ -32,18 +32,18 @@ tally_joined {T} {start} {seat_start} {size} {credit_tally} {credit'} {queue_tal
 
 -- ---- a whole tally
 
--- the names of a tally of this semaphore are whole
+-- if the names of a tally of this semaphore are whole, so are those of its credit part
 pub tally_whole : {T : Type 0} {start : ℕ} {credit : TallyInfo CreditMark} (queue : TallyInfo (Mark T)) {tally : SemTallyInfo T} {object : SemId} → sem_tally start credit queue ≡ tally → tally.object ≡ object
     → IsWhole (seats_of object) tally.names → IsWhole credit.object.seats credit.names
 tally_whole {T} queue tally_is fits whole =
     subst (λ (x : ℕ × List ℕ). IsWhole x.0 x.1) (λ i. ((ap seats_of (sym fits) ∙ ap (λ (t : SemTallyInfo T). seats_of t.object) (sym tally_is)) i, ap (λ (t : SemTallyInfo T). t.names) (sym tally_is) i)) whole
 
--- what its parts settle, it settles
+-- what the parts of a tally settle, the tally settles
 pub tally_settled : {T : Type 0} {start : ℕ} {credit : TallyInfo CreditMark} (queue : TallyInfo (Mark T)) {tally : SemTallyInfo T} {object : SemId} → sem_tally start credit queue ≡ tally → tally.object ≡ object
     → IsSettled start credit.seen queue.seen → IsSettled object.start tally.credit_seen tally.queue_seen
 tally_settled {T} queue {tally = tally} tally_is fits is = grind (arith, common_steps)
 
--- all names' marks are all marks
+-- the marks of all names are all marks
 count-names : {T : Type 0} (w : Kind T → ℕ) (seats : ℕ) (h : List (Mark T)) → All (λ (m : Mark T). m.seat < seats) h → sum_below (λ name. count w (marks_of seat_of name h)) seats ≡ count w h
 count-names w seats [] named = sum_none (λ name. 0) seats (λ name. refl)
 count-names {T} w seats (m ∷ h) named =
@@ -57,7 +57,7 @@ count-names {T} w seats (m ∷ h) named =
     omega (arith, one, here, rest)
 
 module _ {T : Type 0} {start : ℕ} {credit : TallyInfo CreditMark} {queue : TallyInfo (Mark T)} (t : IsSemTally start credit queue) where
-  -- the names that are whole for the wait queue are whole for the credit, and the other way round
+  -- names that are whole for the wait queue are whole for the credit, and vice versa
   pub whole_credit : IsWhole queue.object.seats queue.names → IsWhole credit.object.seats credit.names
   whole_credit whole = subst (λ (x : ℕ × List ℕ). IsWhole x.0 x.1) (λ i. (t.seats i, t.names i)) whole
 
@@ -97,7 +97,7 @@ module _ {T : Type 0} {start : ℕ} {credit : TallyInfo CreditMark} {queue : Tal
 
 -- ---- credits at rest
 
--- each mark of a credit is a whole call
+-- each mark of a credit is a whole call, so every history is at rest
 pub credit_rests : (h : List CreditMark) → IsAtRest credit_rules h
 credit_rests h seat = (seat_words credit_rules seat h, append-nil (seat_words credit_rules seat h) ∙ each (seat_words credit_rules seat h))
   where

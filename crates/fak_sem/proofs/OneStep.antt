@@ -1,4 +1,4 @@
--- What one step of a down or an up does in the wait queue, said of what the semaphore and its seat show.
+-- What one step of a down or an up does in the wait queue, in terms of what the semaphore and its seat show.
 use Rattle.fak_sem.proofs.Common.{◌≡◌, ℕ, refl, ap, sym, ◌∙◌, subst, CreditMark, Mark, SeatInfo, QueueInfo, CreditInfo, state_of, Fills, WaitsToFill, Takes, WaitsToTake, SemInfo, sem_seat, sem_info, queue_part, StepSeatInfo, step_seat, IsStepSeat, ClaimsRoom, ClaimsItem, Standing, Bool, true, false, Option, Some, None}
 use Rattle.fak_queue.specs.declared.state.SeatState.TheVariants as state
 use Rattle.fak_sem.specs.declared.standing.Standing.TheVariants.{Parking, Inserting, Waking, Deleting}
@@ -7,7 +7,7 @@ use Rattle.fak_sem.proofs.StepCalls.{part_is}
 
 module _ {T : Type 0} {start : ℕ} {credit : SeatInfo CreditMark} {queue : SeatInfo (Mark T)} {standing : Standing T} {count_info : CreditInfo} {queue_info : QueueInfo} {sem : SemInfo} {seat : StepSeatInfo T}
     (s : IsStepSeat start credit queue standing) (sem_is : sem_info count_info queue_info ≡ sem) (seat_is : step_seat start credit queue standing ≡ seat) where
-  -- what holds of the queue and its seat, before and after, holds of what is shown of them
+  -- what is true of the queue and its seat, before and after, is true of what is shown of them
   as_shown : (P : ℕ → SeatInfo (Mark T) → SeatInfo (Mark T) → Type 0) {credit' : SeatInfo CreditMark} {queue' : SeatInfo (Mark T)} {mid : Standing T} → IsStepSeat start credit' queue' mid
       → P queue_info.size queue queue' → P sem.size (queue_part seat.seat) (queue_part (sem_seat start credit' queue'))
   as_shown P {credit'} {queue'} s' p =
@@ -16,7 +16,7 @@ module _ {T : Type 0} {start : ℕ} {credit : SeatInfo CreditMark} {queue : Seat
       let new : queue' ≡ queue_part (sem_seat start credit' queue') = sym (part_is s') in
       subst (λ (x : ℕ × SeatInfo (Mark T) × SeatInfo (Mark T)). P x.0 x.1 x.2) (λ i. (size i, old i, new i)) p
 
-  -- where the seat stood
+  -- the state of the seat before the step
   stood : {so : Standing T} → standing ≡ so → so ≡ seat.standing
   stood e = sym e ∙ ap (λ (x : StepSeatInfo T). x.standing) seat_is
 

@@ -1,4 +1,4 @@
--- What downs and ups leave of the invariant of a seat.
+-- How downs and ups keep the invariant of a seat.
 use Rattle.fak_sem.proofs.Common.{◌≡◌, ℕ, ◌+◌, ◌<◌, true, false, List, [], refl, ap, sym, ◌∙◌, subst, arith, ℤ, pos, int_lt, Option, CreditKind, CreditMark, Mark, QueueInfo, Makes, made_by, seat_of, drawn_by, state_of, kinds_not_in, kinds_not_out, kinds_in, kinds_out, InsertsAtLast, DeletesAtLast, weight_from, of_name, passes, parks, wakes, SemId, SemInfo, SemSeatInfo, IsSemSeat, sem_seat, sem_info, one_if_some, one_if_none, CountsDown, CountsUp, common_steps, Debit, Credit, Kind, count_append, CreditInfo, MakesCall, Idle, none_in, none_out, count_at_last}
 use Rattle.fak_model.proofs.Common.{count, puts, gots, marks_of, SeatInfo}
 use Rattle.fak_sem.proofs.Weights.{weight-call, weights-calls}
@@ -9,7 +9,7 @@ pub same_start : {T : Type 0} {start : ℕ} {credit : SeatInfo CreditMark} (queu
     → sem_seat start credit queue ≡ seat → sem_info count_info queue_info ≡ sem → seat.object ≡ sem.object → count_info.start ≡ start
 same_start {T} queue queue_info seat_is sem_is fits = ap (λ (x : SemInfo). x.object.start) sem_is ∙ (ap (λ (o : SemId). o.start) (sym fits) ∙ ap (λ (x : SemSeatInfo T). x.object.start) (sym seat_is))
 
--- ---- a seat whose credit part makes a call
+-- ---- a seat whose credit part performs a call
 
 module _ {T : Type 0} {start : ℕ} {credit credit' : SeatInfo CreditMark} {queue : SeatInfo (Mark T)} {info : CreditInfo} {kind : CreditKind} {found : ℤ}
     (s : IsSemSeat start credit queue) (at : info.start ≡ start) (c : MakesCall kind info credit credit' found) where
@@ -29,11 +29,11 @@ module _ {T : Type 0} {start : ℕ} {credit credit' : SeatInfo CreditMark} {queu
   pub tickets_left : drawn_by queue < queue.stint
   tickets_left = grind (arith, common_steps, count, puts, marks_of, seat_of, gots, weights-calls)
 
-  -- the wait queue is left alone
+  -- a call that does not touch the wait queue
   pub seat_unqueued : parks kind found ≡ 0 → wakes kind found ≡ 0 → IsSemSeat start credit' queue
   seat_unqueued none_parked none_woken = grind (arith, common_steps, same_seats, same_name, same_stint, count, puts, marks_of, seat_of, weighs, parks, gots)
 
-  -- the wait queue has seen these calls
+  -- a call that left marks of these kinds in the wait queue
   seat_queued : {size : ℕ} (kinds : List (Kind T)) {queue' : SeatInfo (Mark T)} → Makes size kinds queue queue' → state_of queue' ≡ Idle
       → count puts (made_by queue.name kinds) ≡ parks kind found → count gots (made_by queue.name kinds) ≡ wakes kind found → IsSemSeat start credit' queue'
   seat_queued kinds {queue'} makes idle put got =
@@ -55,11 +55,11 @@ module _ {T : Type 0} {start : ℕ} {credit credit' : SeatInfo CreditMark} {queu
         };
       }
 
-  -- the wait queue has got an item
+  -- a call that inserted an item into the wait queue
   pub seat_parked : {size : ℕ} {who : T} {queue' : SeatInfo (Mark T)} → InsertsAtLast size who queue queue' → state_of queue' ≡ Idle → parks kind found ≡ 1 → wakes kind found ≡ 0 → IsSemSeat start credit' queue'
   seat_parked {size} {who} made idle one none = grind (arith, common_steps, seat_queued, count_at_last, puts, kinds_not_in, none_in, kinds_in, gots)
 
-  -- an item was taken off the wait queue
+  -- a call that deleted an item from the wait queue
   pub seat_woken : {size : ℕ} {who : T} {queue' : SeatInfo (Mark T)} → DeletesAtLast size who queue queue' → state_of queue' ≡ Idle → parks kind found ≡ 0 → wakes kind found ≡ 1 → IsSemSeat start credit' queue'
   seat_woken {size} {who} made idle none one = grind (arith, common_steps, seat_queued, count_at_last, puts, kinds_not_out, none_out, kinds_out, gots)
 
@@ -83,7 +83,7 @@ passes_one {found} is t = let u : int_lt (pos 0) found ≡ true = ap (int_lt (po
 pub passes_not : {found word : ℤ} → word ≡ found → int_lt (pos 0) word ≡ false → passes Debit found ≡ 0
 passes_not {found} is t = let u : int_lt (pos 0) found ≡ false = ap (int_lt (pos 0)) (sym is) ∙ t in rw u refl
 
--- ---- how often a seat's downs passed and parked, and its ups woke
+-- ---- how many of a seat's downs passed and parked, and how many of its ups woke
 
 module _ {start : ℕ} {credit credit' : SeatInfo CreditMark} {info : CreditInfo} {kind : CreditKind} {found : ℤ} (at : info.start ≡ start) (c : MakesCall kind info credit credit' found) where
   grown : (weight : CreditKind → ℤ → ℕ) → weight_from (of_name credit'.name weight) start [] credit'.seen ≡ weight_from (of_name credit.name weight) start [] credit.seen + weight kind found

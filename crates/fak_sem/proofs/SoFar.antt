@@ -1,4 +1,4 @@
--- Calls of the wait queue that are made by steps: what steps have made so far, and how they make whole calls.
+-- Calls of the wait queue by steps: what the steps have done so far, and how they add up to whole calls.
 use Rattle.fak_sem.proofs.Common.{◌≡◌, ℕ, List, [], ◌∷◌, ◌++◌, refl, ap, sym, ◌∙◌, subst, append_assoc, append-nil, flat_map, Mark, SeatInfo, seat_info, seat_of, Makes, made_by, state_of, kinds_not_in, kinds_not_out, InsertsAtLast, DeletesAtLast, common_steps, arith, Some, mine_of, last_of, Kind, made_by_append, flat_map_push, Fills, WaitsToFill, Takes, WaitsToTake, MakesAtLast, Standing, ClaimsRoom, ClaimsItem, HasMade, HasMadeAtLast, ParkedSoFar, WokenSoFar}
 use Rattle.std.proofs.lemmas.List.Concat.{flat_map-append}
 use Rattle.fak_model.specs.declared.queue.Kind.TheVariants as made

@@ -1,4 +1,4 @@
--- What the steps of downs and ups leave of the invariant of a seat, and what they promise.
+-- How the steps of downs and ups keep the invariant of a seat, and what they promise.
 use Rattle.fak_sem.proofs.Common.{◌≡◌, ℕ, ◌+◌, ◌<◌, List, [], ◌∷◌, length, refl, ap, sym, ◌∙◌, subst, arith, ℤ, pos, CreditKind, CreditMark, Mark, SeatInfo, seat_info, QueueInfo, Makes, made_by, seat_of, drawn_by, state_of, kinds_not_in, kinds_not_out, weight_from, of_name, passes, parks, wakes, SemId, SemInfo, SemSeatInfo, sem_seat, sem_info, InsertsAtLast, DeletesAtLast, common_steps, length-append, Some, None, Bool, ◌<ℤ◌, mine_of, Debit, Credit, Kind, count, puts, gots, marks_of, count_append, Fills, WaitsToFill, Takes, WaitsToTake, none_in, none_out, Standing, queue_part, Downs, Ups, StepSeatInfo, step_seat, IsStepSeat, ClaimsRoom, ClaimsItem, ParkedSoFar, WokenSoFar, ParksSince, WakesSince, CountsAsBegun, one_if}
 use Rattle.fak_model.specs.declared.queue.Kind.TheVariants as made
 use Rattle.fak_count.specs.Credits.{CreditInfo, MakesCall, calls_made, seat_of as credit_name}
@@ -14,26 +14,26 @@ pub same_start : {T : Type 0} {start : ℕ} {credit : SeatInfo CreditMark} (queu
     → step_seat start credit queue standing ≡ seat → sem_info count_info queue_info ≡ sem → seat.seat.object ≡ sem.object → count_info.start ≡ start
 same_start {T} queue queue_info seat_is sem_is fits = ap (λ (x : SemInfo). x.object.start) sem_is ∙ (ap (λ (o : SemId). o.start) (sym fits) ∙ ap (λ (x : StepSeatInfo T). x.seat.object.start) (sym seat_is))
 
--- where a seat stands is what it shows
+-- the state of a seat is the state that it shows
 pub stands_so : {T : Type 0} {start : ℕ} {credit : SeatInfo CreditMark} (queue : SeatInfo (Mark T)) {standing so : Standing T} {seat : StepSeatInfo T} → step_seat start credit queue standing ≡ seat → seat.standing ≡ so → standing ≡ so
 stands_so {T} queue seat_is so = ap (λ (x : StepSeatInfo T). x.standing) seat_is ∙ so
 
--- a seat that stands so
+-- a seat that is in this state
 pub at_standing : {T : Type 0} {start : ℕ} {credit : SeatInfo CreditMark} {queue : SeatInfo (Mark T)} {was so : Standing T} → was ≡ so → IsStepSeat start credit queue was → IsStepSeat start credit queue so
 at_standing {T} {start} {credit} {queue} e s = subst (λ (x : Standing T). IsStepSeat start credit queue x) e s
 
 -- ---- the invariant
 
 module _ {T : Type 0} {start : ℕ} {credit : SeatInfo CreditMark} {queue : SeatInfo (Mark T)} {standing : Standing T} (s : IsStepSeat start credit queue standing) where
-  -- the wait queue's part is the seat of the wait queue
+  -- the wait queue's part of what is shown is the seat of the wait queue
   pub part_is : queue_part (sem_seat start credit queue) ≡ queue
   part_is = λ i. seat_info queue.object (sym s.name i) (sym s.stint i) queue.seen
 
-  -- tickets are left for a call whose ticket is not drawn yet
+  -- tickets are left for a call whose ticket is not yet drawn
   pub tickets_left : unput standing + ungot standing ≡ 1 → drawn_by queue < queue.stint
   tickets_left one = grind (arith, common_steps, count, puts, marks_of, seat_of, gots, weights-calls)
 
-  -- a call of the credit; the wait queue is left alone
+  -- a call on the credit, which does not touch the wait queue
   pub seat_credited : {credit' : SeatInfo CreditMark} {info : CreditInfo} {kind : CreditKind} {found : ℤ} → info.start ≡ start → MakesCall kind info credit credit' found
       → (now : Standing T) → StandsWith now (state_of queue) → unput now ≡ unput standing + parks kind found → ungot now ≡ ungot standing + wakes kind found → IsStepSeat start credit' queue now
   seat_credited {credit'} {info} {kind} {found} at c now stands put got =
@@ -56,7 +56,7 @@ module _ {T : Type 0} {start : ℕ} {credit : SeatInfo CreditMark} {queue : Seat
         woken = (let e = ap (λ (n : ℕ). count gots (marks_of seat_of n queue.seen)) name in let was = s.woken in let w = weighs wakes in omega (arith, e, was, w, got));
       }
 
-  -- a step of the wait queue; the credit is left alone
+  -- a step in the wait queue, which does not touch the credit
   pub seat_stepped : {size : ℕ} (kinds : List (Kind T)) {queue' : SeatInfo (Mark T)} → Makes size kinds queue queue' → (now : Standing T) → StandsWith now (state_of queue')
       → count puts (made_by queue.name kinds) + unput now ≡ unput standing → count gots (made_by queue.name kinds) + ungot now ≡ ungot standing → IsStepSeat start credit queue' now
   seat_stepped kinds {queue'} makes now stands put got =
@@ -122,7 +122,7 @@ module _ {T : Type 0} {start : ℕ} {credit : SeatInfo CreditMark} {queue : Seat
       → ClaimsRoom queue_info.size who queue queue' now → ParksSince sem who seat.seat (step_seat start credit' queue' now)
   begins_down {who} {found} {credit'} {queue'} {now} s' c short claim = grind (arith, common_steps, sem_info, sem_seat, step_seat, part_is, parked_first)
 
-  -- what is said of the seat as it shows, at its parts
+  -- what holds of the seat as it is shown holds of its parts
   down_now : {so : Standing T} → standing ≡ so → {who : T} {began : SemSeatInfo T} → ParksSince sem who began seat → ParksSince (sem_info count_info queue_info) who began (step_seat start credit queue so)
   down_now {so} e {who} {began} p = subst (λ (x : SemInfo × StepSeatInfo T). ParksSince x.0 who began x.1) (λ i. (sym sem_is i, (sym seat_is ∙ (λ j. step_seat start credit queue (e j))) i)) p
 

@@ -1,4 +1,4 @@
--- What the marks of a credit's history weigh, as it grows, by names, and together.
+-- What the marks of a credit's history weigh: as it grows, by names, and in total.
 use Rattle.fak_sem.proofs.Common.{◌≡◌, ◌≢◌, ℕ, ◌+◌, ◌<◌, ◌≤◌, ◌==◌, Bool, true, false, cond, List, [], ◌∷◌, ◌++◌, length, refl, ap, sym, ◌∙◌, arith, append_assoc, map, ℤ, pos, int_lt, All, append-nil, CreditKind, CreditMark, marks_of_append, between_foreign, weight_from, passes, parks, wakes, of_all, of_name, Debit, Credit, sum_none, sum_one, CreditInfo, MakesCall, calls_made, common_steps}
 use Rattle.fak_model.proofs.Common.{nat_tests, All-head, All-tail, sum_by-cons, sum_below, marks_of, Knows, In, SeatInfo, before_mark}
 use Rattle.fak_model.specs.Credit.{debit_weight, kind_of, debits, value, grants, grants_made_from}
@@ -12,7 +12,7 @@ weight_from-append weight start before (m ∷ f) g =
     omega (arith, rest, at)
 
 module _ (name : ℕ) (weight : CreditKind → ℤ → ℕ) (start : ℕ) where
-  -- others' marks weigh nothing
+  -- the marks of others weigh nothing
   pub weight-foreign : (before h : List CreditMark) → marks_of (λ (m : CreditMark). m.seat) name h ≡ [] → weight_from (of_name name weight) start before h ≡ 0
   weight-foreign before [] none = refl
   weight-foreign before (m ∷ h) none = by (m.seat == name) refl none (weight-foreign (before ++ m ∷ []) h)
@@ -22,7 +22,7 @@ module _ (name : ℕ) (weight : CreditKind → ℤ → ℕ) (start : ℕ) where
       by true t e rest = absurd (let l : m ∷ marks_of (λ (x : CreditMark). x.seat) name h ≡ [] = rw t at e in cc)
       by false t e rest = rw t (omega (arith, rest (rw t at e)))
 
-  -- one mark of the name stands among others' marks
+  -- one mark of the name, among marks of others
   pub record StandsAlone (before h : List CreditMark) (own : CreditMark) : Type 0 where
     pub earlier : List CreditMark
     pub later : List CreditMark
@@ -53,7 +53,7 @@ module _ (name : ℕ) (weight : CreditKind → ℤ → ℕ) (start : ℕ) where
           }
       by false t e rest = grind (arith, common_steps, value, append_assoc)
 
-  -- what a name's marks weigh is determined by its marks
+  -- what a name's marks weigh depends only on its own marks
   pub weight-known : (names : List ℕ) (seen h : List CreditMark) → Knows (λ (m : CreditMark). m.seat) names seen h → In name names → weight_from (of_name name weight) start [] h ≡ weight_from (of_name name weight) start [] seen
   weight-known names seen h k i =
       let more = k.begins.0 in
@@ -62,7 +62,7 @@ module _ (name : ℕ) (weight : CreditKind → ℤ → ℕ) (start : ℕ) where
       let is = ap (weight_from (of_name name weight) start []) k.begins.1 in
       omega (arith, none, parts, is)
 
--- a call adds what its mark weighs with the answer
+-- a call adds what its mark weighs at the value that it returns
 pub weight-call : (weight : CreditKind → ℤ → ℕ) {kind : CreditKind} {credit : CreditInfo} {old new : SeatInfo CreditMark} {answer : ℤ} → MakesCall kind credit old new answer
     → weight_from (of_name old.name weight) credit.start [] new.seen ≡ weight_from (of_name old.name weight) credit.start [] old.seen + weight kind answer
 weight-call weight {kind} {credit} {old} {new} {answer} c =
@@ -87,7 +87,7 @@ weight-call weight {kind} {credit} {old} {new} {answer} c =
     same_front [] ys zs e = e
     same_front (x ∷ xs) ys zs e = same_front xs ys zs cc
 
--- a seat parks and wakes no more often than it calls
+-- a seat has not parked and woken more often than it has called
 pub weights-calls : (name start : ℕ) (before h : List CreditMark) → weight_from (of_name name parks) start before h + weight_from (of_name name wakes) start before h ≤ length (marks_of (λ (m : CreditMark). m.seat) name h)
 weights-calls name start before [] = omega arith
 weights-calls name start before (m ∷ h) = by (m.seat == name) refl (weights-calls name start (before ++ m ∷ []) h)
@@ -101,7 +101,7 @@ weights-calls name start before (m ∷ h) = by (m.seat == name) refl (weights-ca
     by true t rest = rw t (omega (arith, rest, at_most m.kind (value start before)))
     by false t rest = rw t (omega (arith, rest))
 
--- what all names' marks weigh is what all marks weigh
+-- what the marks of all names weigh is what all marks weigh
 pub weights-names : (weight : CreditKind → ℤ → ℕ) (start seats : ℕ) (before h : List CreditMark) → All (λ (m : CreditMark). m.seat < seats) h
     → sum_below (λ name. weight_from (of_name name weight) start before h) seats ≡ weight_from (of_all weight) start before h
 weights-names weight start seats before [] named = sum_none (λ name. 0) seats (λ name. refl)
@@ -115,7 +115,7 @@ weights-names weight start seats before (m ∷ h) named =
     let rest = weights-names weight start seats (before ++ m ∷ []) h (All-tail (λ (x : CreditMark). x.seat < seats) m h named) in
     omega (arith, one, here, rest)
 
--- a call grants where it passes or wakes
+-- a call grants if it passes or wakes
 pub grants-parts : (start : ℕ) (before h : List CreditMark) → grants_made_from start before h ≡ weight_from (of_all passes) start before h + weight_from (of_all wakes) start before h
 grants-parts start before [] = refl
 grants-parts start before (m ∷ h) = omega (arith, grants-parts start (before ++ m ∷ []) h, each m.kind (value start before))
@@ -124,7 +124,7 @@ grants-parts start before (m ∷ h) = omega (arith, grants-parts start (before +
     each Debit found = omega arith
     each Credit found = omega arith
 
--- a debit passes or parks
+-- each debit passes or parks
 pub debits-parts : (start : ℕ) (before h : List CreditMark) → debits h ≡ weight_from (of_all passes) start before h + weight_from (of_all parks) start before h
 debits-parts start before [] = refl
 debits-parts start before (m ∷ h) = omega (arith, debits-parts start (before ++ m ∷ []) h, each m.kind (value start before), sum_by-cons debit_weight m.kind (map kind_of h))
@@ -133,7 +133,7 @@ debits-parts start before (m ∷ h) = omega (arith, debits-parts start (before +
     each Debit found = elim (int_lt (pos 0) found) as (λ b. 1 ≡ cond b 1 0 + cond b 0 1) [ true ↦ refl | false ↦ refl ]
     each Credit found = refl
 
--- a name's debit passes or parks
+-- each debit of a name passes or parks
 pub debits-by : (name start : ℕ) (before h : List CreditMark) → weight_from (of_name name passes) start before h + weight_from (of_name name parks) start before h ≡ debits (marks_of (λ (m : CreditMark). m.seat) name h)
 debits-by name start before [] = refl
 debits-by name start before (m ∷ h) = by (m.seat == name) refl (debits-by name start (before ++ m ∷ []) h)

@@ -1,4 +1,4 @@
--- Insertions that are tried again where the queue is shut too.
+-- Insertions that are tried again if the queue is full, and also if it is shut.
 use Rattle.fak_sem.proofs.Common.{◌≡◌, ◌<◌, ℕ, List, ◌∙◌, All, Mark, ObjectId, SeatInfo, drawn_by, state_of, RefusedInsertion, kinds_not_in, InsertsAfterFull, ClosesAfterFull, InsertsAtLast, Idle, IsRetrying, leads, leads_in, left_so_far, refused_again, at_last}
 
 abbrev pub Any : RefusedInsertion → Type 0

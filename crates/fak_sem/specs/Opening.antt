@@ -1,4 +1,4 @@
--- The ranges of what semaphores are opened with, and which fault is answered outside them.
+-- The ranges of what semaphores are opened with, and the faults outside them.
 use Rattle.std.specs.Prelude.{ℕ}
 use Rattle.fak_model.specs.Limits.{IsNumberOfSeats, IsStint}
 use Rattle.fak_count.specs.Opening.{IsCount}
@@ -12,7 +12,7 @@ AreSizes start size = IsCount start × IsSize size
 abbrev pub IsInRange : ℕ → ℕ → ℕ → ℕ → Type 0
 IsInRange start size seats stint = AreSizes start size × IsNumberOfSeats seats × IsStint stint
 
--- the first of the faults; memory is asked for last
+-- the first of the faults; memory is allocated last
 abbrev pub IsOpenFault : ℕ → ℕ → ℕ → ℕ → OpenFault → Type 0
 IsOpenFault start size seats stint BadSize = ¬ AreSizes start size
 IsOpenFault start size seats stint BadSeats = AreSizes start size × ¬ IsNumberOfSeats seats

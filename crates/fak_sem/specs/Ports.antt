@@ -1,4 +1,4 @@
--- What a port that goes by steps refuses, and what a refusal leaves: the seat as it was.
+-- What a port of a seat by steps refuses, and what a refusal leaves: the seat as it was.
 use Rattle.std.specs.Prelude.{◌≡◌, ◌≢◌}
 use Rattle.fak_sem.specs.declared.fault.DownFault.{DownFault}
 use Rattle.fak_sem.specs.declared.fault.DownFault.TheVariants as down
@@ -8,11 +8,11 @@ use Rattle.fak_sem.specs.declared.standing.Standing.TheVariants.{Idle}
 use Rattle.fak_sem.specs.Standings.{IsParking, IsWaking}
 use Rattle.fak_sem.specs.Steps.{StepSeatInfo, IsWornStep}
 
--- a call of the seat is open
+-- a call of the seat is open, and nothing changes
 abbrev pub IsInCall : {T : Type 0} → StepSeatInfo T → StepSeatInfo T → Type 0
 IsInCall old new = (old.standing ≢ Idle) × (new ≡ old)
 
--- no call of the seat is open, and its stint is used up
+-- no call of the seat is open, its stint is used up, and nothing changes
 abbrev pub IsWornIdle : {T : Type 0} → StepSeatInfo T → StepSeatInfo T → Type 0
 IsWornIdle old new = (old.standing ≡ Idle) × IsWornStep old new
 
@@ -26,7 +26,7 @@ abbrev pub RefusesUp : {T : Type 0} → StepSeatInfo T → StepSeatInfo T → Up
 RefusesUp old new up.InCall = IsInCall old new
 RefusesUp old new up.Worn = IsWornIdle old new
 
--- no down is open, or no up
+-- no down is open, and nothing changes; or no up, likewise
 abbrev pub IsNotParking : {T : Type 0} → StepSeatInfo T → StepSeatInfo T → Type 0
 IsNotParking old new = (¬ IsParking old.standing) × (new ≡ old)
 

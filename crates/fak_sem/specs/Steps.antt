@@ -22,7 +22,7 @@ use Rattle.fak_sem.specs.Standings.{IsParking, IsWaking, StandsWith, unput, ungo
 
 -- ---- seats
 
--- a seat that goes by steps: what a seat of the semaphore shows, and where it stands
+-- a seat whose calls go by steps: what a seat of the semaphore shows, and its state
 pub record StepSeatInfo (T : Type 0) : Type 0 where
   pub seat : SemSeatInfo T
   pub standing : Standing T
@@ -30,7 +30,7 @@ pub record StepSeatInfo (T : Type 0) : Type 0 where
 abbrev pub step_seat : {T : Type 0} → ℕ → SeatInfo CreditMark → SeatInfo (Mark T) → Standing T → StepSeatInfo T
 step_seat start credit queue standing = record { seat = sem_seat start credit queue; standing = standing }
 
--- as `IsSemSeat`, but that a call may be open
+-- as `IsSemSeat`, except that a call may be open
 pub record IsStepSeat {T : Type 0} (start : ℕ) (credit : SeatInfo CreditMark) (queue : SeatInfo (Mark T)) (standing : Standing T) : Type 0 where
   pub seats : queue.object.seats ≡ credit.object.seats
   pub name : queue.name ≡ credit.name
@@ -44,13 +44,13 @@ pub record IsStepSeat {T : Type 0} (start : ℕ) (credit : SeatInfo CreditMark) 
 
 -- ---- one claim in the wait queue
 
--- the item came back, after a refusal that is no want of tickets; or its ticket was drawn
+-- the item came back, after a refusal for another reason than the stint; or its ticket was drawn
 abbrev pub ClaimsRoom : {T : Type 0} → ℕ → T → SeatInfo (Mark T) → SeatInfo (Mark T) → Standing T → Type 0
 ClaimsRoom size item old new (Parking x) = (x ≡ item) × (state_of new ≡ state.Idle) × ((r : RefusedInsertion) × Makes size (kinds_not_in r) old new)
 ClaimsRoom size item old new Inserting = ((k : ℕ) × (state_of new ≡ state.Inserting k)) × Makes size (made.ClaimIn ∷ made.Put item ∷ []) old new
 ClaimsRoom size item old new _ = ⊥
 
--- a ticket was drawn, which has this item
+-- a ticket was drawn whose item is this one
 pub record DrawsItem {T : Type 0} (size : ℕ) (old new : SeatInfo (Mark T)) : Type 0 where
   pub ticket : ℕ
   pub item : T
@@ -65,25 +65,25 @@ ClaimsItem size old new _ = ⊥
 
 -- ---- what one step does in the wait queue
 
--- from where a seat stood to where it stands, with a down that parks: it claimed room for its item; or it filled the cell of
--- its ticket, and the down is done; or it looked at that cell, and the round before was not taken from it
+-- a step of a down that parks, by the states before and after it: it claimed room for its item; or it filled the cell
+-- of its ticket, and the down is done; or it loaded the turn of that cell, whose item of the round before is not yet taken
 abbrev pub StepsToParkFrom : {T : Type 0} → ℕ → Standing T → Standing T → Bool → SeatInfo (Mark T) → SeatInfo (Mark T) → Type 0
 StepsToParkFrom size (Parking item) now false old new = ClaimsRoom size item old new now
 StepsToParkFrom size Inserting now true old new = (k : ℕ) × (state_of old ≡ state.Inserting k) × Fills size k old new
 StepsToParkFrom size Inserting now false old new = (k : ℕ) × (state_of old ≡ state.Inserting k) × (now ≡ Inserting) × WaitsToFill size k old new
 StepsToParkFrom size _ now _ old new = ⊥
 
--- the same with an up that owes a wake: it claimed an item; or it took the item of its ticket, and the up is done; or it looked
--- at the cell, which was not filled
+-- a step of an up that owes a wake, likewise: it claimed an item; or it took the item of its ticket, and the up is
+-- done; or it loaded the turn of that cell, which is not yet filled
 abbrev pub StepsToWakeFrom : {T : Type 0} → ℕ → Standing T → Standing T → Option T → SeatInfo (Mark T) → SeatInfo (Mark T) → Type 0
 StepsToWakeFrom size Waking now None old new = ClaimsItem size old new now
 StepsToWakeFrom size Deleting now (Some item) old new = (k : ℕ) × (state_of old ≡ state.Deleting k) × Takes size k item old new
 StepsToWakeFrom size Deleting now None old new = (k : ℕ) × (state_of old ≡ state.Deleting k) × (now ≡ Deleting) × WaitsToTake size k old new
 StepsToWakeFrom size _ now _ old new = ⊥
 
--- ---- what steps have made together
+-- ---- what steps have done together
 
--- as `Makes`, but that what was seen may end with others' marks: the seat has looked since
+-- as `Makes`, except that what was seen may end with marks of others: the seat has looked since
 pub record HasMade {T : Type 0} (size : ℕ) (kinds : List (Kind T)) (old now : SeatInfo (Mark T)) : Type 0 where
   pub same_seat : now ≡ record old { seen = now.seen }
   pub begins : Begins old.seen now.seen
@@ -115,7 +115,7 @@ WokenSoFar size Waking old now = HasMadeAtLast kinds_not_out size [] old now
 WokenSoFar size Deleting old now = HasDrawn size old now
 WokenSoFar size _ old now = ⊥
 
--- since the seat stood so, between two calls, it began a down of `who`: one debit that found less than 1, and the
+-- since this state of the seat between two calls, it began a down of `who`: one debit that found less than 1, and the
 -- insertion as far as it has come
 pub record ParksSince {T : Type 0} (sem : SemInfo) (who : T) (began : SemSeatInfo T) (now : StepSeatInfo T) : Type 0 where
   pub found : ℤ
@@ -123,8 +123,8 @@ pub record ParksSince {T : Type 0} (sem : SemInfo) (who : T) (began : SemSeatInf
   pub short : found <ℤ pos 1
   pub so_far : ParkedSoFar sem.size who now.standing (queue_part began) (queue_part now.seat)
 
--- since the seat stood so, between two calls, it began an up: one credit that found less than 0, and the deletion as
--- far as it has come
+-- since this state of the seat between two calls, it began an up: one credit that found less than 0, and the deletion
+-- as far as it has come
 pub record WakesSince {T : Type 0} (sem : SemInfo) (began : SemSeatInfo T) (now : StepSeatInfo T) : Type 0 where
   pub found : ℤ
   pub credits : MakesCall Credit (credit_of sem) (credit_part began) (credit_part now.seat) found
@@ -133,17 +133,17 @@ pub record WakesSince {T : Type 0} (sem : SemInfo) (began : SemSeatInfo T) (now 
 
 -- ---- what the first steps do
 
--- a down passed, and is done; or it parks
+-- a down has passed and is done; or it parks
 abbrev pub BeginsDown : {T : Type 0} → SemInfo → T → StepSeatInfo T → StepSeatInfo T → Option T → Type 0
 BeginsDown sem who old new None = ParksSince sem who old.seat new
 BeginsDown sem who old new (Some passed) = (new.standing ≡ Idle) × Downs sem who old.seat new.seat (Some passed)
 
--- an up woke nobody, and is done; or it owes a wake
+-- an up woke nobody and is done; or it owes a wake
 abbrev pub BeginsUp : {T : Type 0} → SemInfo → StepSeatInfo T → StepSeatInfo T → Bool → Type 0
 BeginsUp sem old new false = (new.standing ≡ Idle) × Ups sem old.seat new.seat None
 BeginsUp sem old new true = WakesSince sem old.seat new
 
--- an up counts as one that wakes from its credit on
+-- from its credit on, an up that owes a wake counts as one that woke
 abbrev pub one_if : Bool → ℕ
 one_if true = 1
 one_if false = 0
@@ -153,7 +153,7 @@ pub record CountsAsBegun {T : Type 0} (old new : SemSeatInfo T) (owes : Bool) : 
   pub parked : parked_by new ≡ parked_by old
   pub woken : woken_by new ≡ woken_by old + one_if owes
 
--- the down is done, its item parked; or it goes on
+-- the item is parked and the down is done; or the down goes on
 abbrev pub ParksOn : {T : Type 0} → SemInfo → T → SemSeatInfo T → StepSeatInfo T → Bool → Type 0
 ParksOn sem who began new true = Downs sem who began new.seat None
 ParksOn sem who began new false = ParksSince sem who began new
@@ -166,7 +166,7 @@ abbrev pub StandsOwing : {T : Type 0} → Standing T → Bool → Type 0
 StandsOwing standing true = IsWaking standing
 StandsOwing standing false = standing ≡ Idle
 
--- where a first step leaves a call open, it claimed room for the item, or an item, once
+-- if a first step leaves a call open, it claimed room for the item, or an item, once
 abbrev pub ClaimsRoomOnce : {T : Type 0} → SemInfo → T → StepSeatInfo T → StepSeatInfo T → Option T → Type 0
 ClaimsRoomOnce sem who old new None = ClaimsRoom sem.size who (queue_part old.seat) (queue_part new.seat) new.standing
 ClaimsRoomOnce sem who old new (Some passed) = Unit {0}
@@ -175,14 +175,14 @@ abbrev pub ClaimsItemOnce : {T : Type 0} → SemInfo → StepSeatInfo T → Step
 ClaimsItemOnce sem old new true = ClaimsItem sem.size (queue_part old.seat) (queue_part new.seat) new.standing
 ClaimsItemOnce sem old new false = Unit {0}
 
--- what a step after the first did in the wait queue: a step that does nothing is none of these
+-- what a step after the first did in the wait queue; each such step does something
 abbrev pub StepsToPark : {T : Type 0} → SemInfo → StepSeatInfo T → StepSeatInfo T → Bool → Type 0
 StepsToPark sem old new done = StepsToParkFrom sem.size old.standing new.standing done (queue_part old.seat) (queue_part new.seat)
 
 abbrev pub StepsToWake : {T : Type 0} → SemInfo → StepSeatInfo T → StepSeatInfo T → Option T → Type 0
 StepsToWake sem old new woken = StepsToWakeFrom sem.size old.standing new.standing woken (queue_part old.seat) (queue_part new.seat)
 
--- a step after the first leaves the credit alone
+-- a step after the first does not touch the credit
 abbrev pub SameCredit : {T : Type 0} → StepSeatInfo T → StepSeatInfo T → Type 0
 SameCredit old new = credit_part new.seat ≡ credit_part old.seat
 

@@ -8,7 +8,8 @@ ghost use Rattle.fak_sem.specs.Tickets.{HasTicket};
 use crate::standing::Standing;
 use fak_queue::{DeleteFault, InsertFault, Queue, Seat};
 
-/// One claim of room for the item; where the queue is full or shut the item is to be claimed for again.
+/// Claims room for the item once, after the debit of its down. If the queue is full or shut, the item is to be claimed
+/// for again. Once the claim is granted, the item is to be moved into its cell.
 pub(crate) fn claim_room<T: Drop>(queue: &Queue<T>, seat: &mut Seat<T>, item: T) -> Standing<T>
     requires { HasTicket queue.now.object seat.old }
     ensures object { seat.new.object ≡ seat.old.object }
@@ -23,7 +24,8 @@ pub(crate) fn claim_room<T: Drop>(queue: &Queue<T>, seat: &mut Seat<T>, item: T)
     }
 }
 
-/// One claim of an item; where the queue is empty it is to be claimed again.
+/// Claims an item once, after the credit of its up. If the queue is empty, the item is to be claimed again: the debit
+/// of a down comes before its item. Once the claim is granted, the item is to be moved out of its cell.
 pub(crate) fn claim_item<T: Drop>(queue: &Queue<T>, seat: &mut Seat<T>) -> Standing<T>
     requires { HasTicket queue.now.object seat.old }
     ensures object { seat.new.object ≡ seat.old.object }

@@ -1,26 +1,26 @@
-//! Why a semaphore was not opened, or a call on it was refused.
+//! The errors of opening a semaphore, and of calls on it.
 
 use std::error::Error;
 use std::fmt;
 
-/// Why a semaphore was not opened. Of several faults the first is answered.
+/// Why a semaphore was not opened. If there are several faults, the first one is returned.
 #[derive(Clone, Copy, Debug, PartialEq, Eq, Drop)]
 pub enum OpenFault {
-    /// The start is above 4,294,967,296, or the size of the wait queue isn't 1 to 4,096.
+    /// The start is above 4,294,967,296, or the size of the wait queue is not 1 to 4,096.
     BadSize,
-    /// The number of seats isn't 1 to 64.
+    /// The number of seats is not 1 to 64.
     BadSeats,
-    /// The stint isn't 1 to 1,099,511,627,776.
+    /// The stint is not 1 to 1,099,511,627,776.
     BadStint,
-    /// There was no memory.
+    /// Memory ran out.
     Memory,
 }
 
-/// The seat has made all the downs and ups of its stint. The item of the down comes back.
+/// The seat has performed all the downs and ups of its stint. The item of the down comes back.
 #[derive(Clone, Copy, Debug, PartialEq, Eq, Drop)]
 pub struct SemWorn<T>(pub T);
 
-/// Why a down by steps was not begun. The item comes back. Of several refusals the first is returned.
+/// Why a down by steps did not begin. The item comes back. If there are several reasons, the first one is returned.
 #[derive(Clone, Copy, Debug, PartialEq, Eq, Drop)]
 pub enum DownFault<T> {
     /// A call of the seat is open.
@@ -28,19 +28,19 @@ pub enum DownFault<T> {
         /// The item of the down.
         item: T,
     },
-    /// The seat has made all the downs and ups of its stint.
+    /// The seat has performed all the downs and ups of its stint.
     Worn {
         /// The item of the down.
         item: T,
     },
 }
 
-/// Why an up by steps was not begun. Of several refusals the first is returned.
+/// Why an up by steps did not begin. If there are several reasons, the first one is returned.
 #[derive(Clone, Copy, Debug, PartialEq, Eq, Drop)]
 pub enum UpFault {
     /// A call of the seat is open.
     InCall,
-    /// The seat has made all the downs and ups of its stint.
+    /// The seat has performed all the downs and ups of its stint.
     Worn,
 }
 

@@ -1,4 +1,4 @@
-//! The credit that a semaphore is opened with.
+//! The credit of a semaphore, opened with its seats.
 
 ghost use Rattle.std.specs.Prelude.{◌≡◌, MatchResult};
 ghost use Rattle.fak_model.specs.Calls.{fresh_seats};
@@ -18,7 +18,7 @@ pub(crate) struct SeatLimits {
     pub(crate) stint: u64,
 }
 
-/// The credit of a semaphore, with its seats.
+/// Opens the credit of a semaphore, with its seats.
 pub(crate) fn opened_credit(
     alloc: Global,
     start: u64,
@@ -42,7 +42,7 @@ pub(crate) fn opened_credit(
     }
 }
 
-/// The credit of a large semaphore, with its seats.
+/// Opens the credit of a large semaphore, with its seats.
 pub(crate) fn opened_large_credit(
     alloc: Global,
     start: u64,

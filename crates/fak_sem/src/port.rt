@@ -1,4 +1,4 @@
-//! A semaphore and a seat of it as one value, whose calls have no condition.
+//! A semaphore and one of its seats as one value, whose calls have no preconditions.
 
 ghost use Rattle.std.specs.Prelude.{◌≡◌, ◌+◌, IfOk, MatchResult};
 ghost use Rattle.fak_count.specs.Credits.{calls_made};
@@ -11,13 +11,13 @@ use fak_count::Worn;
 use std::fmt;
 use std::sync::Wait;
 
-/// A semaphore with a seat of it. The type keeps what each call of the semaphore requires, so that the calls of a port
-/// require nothing. What they ensure is said of the port's seat, before and after.
+/// A semaphore with one of its seats. The type guarantees what each call of the semaphore requires, so the calls of a
+/// port require nothing. Their contracts are about the port's seat, before and after.
 #[derive(Drop)]
 pub struct SemPort<'s, T> {
     /// The semaphore.
     pub semaphore: &'s Semaphore<T>,
-    /// The seat, which is of this semaphore.
+    /// The seat, which belongs to this semaphore.
     pub seat: SemSeat<T>,
     pub ghost idle: { IsIdleSemSeat semaphore.now.object seat },
 }
@@ -32,8 +32,8 @@ impl<'s, T: Drop> SemPort<'s, T> {
         SemPort { semaphore, seat }
     }
 
-    /// Subtracts 1. If it found at least 1, the item passes and comes back. Else the item is parked, which waits for room in
-    /// the wait queue.
+    /// Subtracts 1. If it found at least 1, the item passes and comes back. Otherwise the item is parked; the call
+    /// waits for room in the wait queue.
     ///
     /// # Errors
     ///
@@ -47,8 +47,8 @@ impl<'s, T: Drop> SemPort<'s, T> {
         self.semaphore.down(rt, &mut self.seat, who)
     }
 
-    /// Adds 1. If it found less than 0, it wakes the oldest parked item and returns it, which waits for an item in the wait
-    /// queue.
+    /// Adds 1. If it found less than 0, it wakes the oldest parked item and returns it; the call waits for an item in
+    /// the wait queue.
     ///
     /// # Errors
     ///
@@ -62,7 +62,7 @@ impl<'s, T: Drop> SemPort<'s, T> {
         self.semaphore.up(rt, &mut self.seat)
     }
 
-    /// How many downs and ups are left of the seat's stint.
+    /// The number of downs and ups that are left of the seat's stint.
     pub fn left(&self) -> u64
         ensures { result + calls_made (credit_part self.now.seat) ≡ self.now.seat.stint }
     {

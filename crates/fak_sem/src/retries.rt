@@ -10,7 +10,7 @@ use crossbeam_utils::Backoff;
 use fak_queue::{DeleteFault, InsertFault, Queue, Seat};
 use std::sync::Wait;
 
-/// One insertion, which waits while the queue is full; where the queue is shut, the item comes back.
+/// One insertion, which waits while the queue is full. If the queue is shut, the item comes back.
 fn insert_unless_shut<T: Drop, R: Wait>(
     queue: &Queue<T>,
     rt: &R,
@@ -31,7 +31,7 @@ fn insert_unless_shut<T: Drop, R: Wait>(
     }
 }
 
-/// Inserts the item, and tries again where the queue is full or shut.
+/// Inserts the item, and tries again while the queue is full or shut.
 pub(crate) fn insert_at_last<T: Drop, R: Wait>(
     queue: &Queue<T>,
     rt: &R,
@@ -55,7 +55,7 @@ pub(crate) fn insert_at_last<T: Drop, R: Wait>(
     unreachable!()
 }
 
-/// Deletes an item, and tries again where the queue is empty.
+/// Deletes an item, and tries again while the queue is empty.
 pub(crate) fn delete_at_last<T: Drop, R: Wait>(queue: &Queue<T>, rt: &R, seat: &mut Seat<T>) -> T
     requires { HasTicket queue.now.object seat.old }
     ensures object { seat.new.object ≡ seat.old.object }

@@ -5,7 +5,7 @@ use fak_queue::Seat;
 use std::fmt;
 use std::marker::Model;
 
-/// The right to downs and ups on a `Semaphore`, as often as its stint says. Contracts see its semaphore, its name, its
+/// The right to downs and ups on a `Semaphore`, as many times as its stint. Contracts see its semaphore, its name, its
 /// stint, and the histories of the credit and of the wait queue that it has seen.
 #[derive(Drop)]
 pub struct SemSeat<T> {

@@ -22,8 +22,8 @@ use std::fmt;
 use std::marker::Model;
 use std::sync::Wait;
 
-/// A counting semaphore over moved values. Its count is a credit, and what waits is in a bounded queue. Contracts see
-/// which semaphore it is and the size of its wait queue.
+/// A counting semaphore over moved values. Its count is a credit, and the items that wait are in a bounded queue.
+/// Contracts see which semaphore it is and the size of its wait queue.
 #[derive(Drop)]
 pub struct Semaphore<T> {
     pub(crate) credit: Credit,
@@ -42,8 +42,8 @@ impl<T> Model for Semaphore<T> {
 }
 
 impl<T: Drop> Semaphore<T> {
-    /// A semaphore that begins at `start` with an empty wait queue of `size` cells, and its seats, each of which may make
-    /// `stint` downs and ups together.
+    /// Opens a semaphore at `start` with an empty wait queue of `size` cells, and its seats. Each seat may perform
+    /// `stint` calls, downs and ups together.
     ///
     /// `start` is 0 to 4,294,967,296, `size` 1 to 4,096, `seats` 1 to 64, `stint` 1 to 2^40.
     ///
@@ -80,10 +80,10 @@ impl<T: Drop> Semaphore<T> {
         }
     }
 
-    /// A large semaphore: the same semaphore, with the same calls, of a larger wait queue and more seats.
+    /// Opens a large semaphore: the same semaphore, with the same calls, but a larger wait queue and more seats.
     ///
-    /// `start` is 0 to 4,294,967,296, `size` 1 to `LARGE_SIZE`, and `seats` 1 to `LARGE_SEATS`. `stint` is at least 1, and
-    /// `seats` times `stint` at most `LARGE_TICKETS`.
+    /// `start` is 0 to 4,294,967,296, `size` 1 to `LARGE_SIZE`, and `seats` 1 to `LARGE_SEATS`. `stint` is at least 1,
+    /// and `seats` times `stint` at most `LARGE_TICKETS`.
     ///
     /// # Errors
     ///
@@ -120,7 +120,7 @@ impl<T: Drop> Semaphore<T> {
         }
     }
 
-    /// A seat for each seat of the credit and the seat of the wait queue with the same name.
+    /// The seats of the semaphore: each is made of a seat of the credit and the wait queue's seat with the same name.
     fn paired(
         &self,
         alloc: Global,
@@ -153,12 +153,15 @@ impl<T: Drop> Semaphore<T> {
         Ok(paired)
     }
 
-    /// Subtracts 1. Where it found at least 1 the item passes and comes back; else it is parked, which waits for room in the
-    /// wait queue.
+    /// Subtracts 1. If it found at least 1, the item passes and comes back. Otherwise the item is parked; the call
+    /// waits for room in the wait queue.
+    ///
+    /// The debit comes before the insertion, since it decides whether there is one. From the debit on, an up may owe
+    /// this item a wake, and waits until it is in the wait queue.
     ///
     /// # Errors
     ///
-    /// `SemWorn`, where the seat's stint is used up; the item comes back.
+    /// `SemWorn`, if the seat's stint is used up; the item comes back.
     pub fn down<R: Wait>(
         &self,
         rt: &R,
@@ -182,11 +185,15 @@ impl<T: Drop> Semaphore<T> {
         Ok(None)
     }
 
-    /// Adds 1. Where it found less than 0 it wakes the oldest parked item, which waits for an item in the wait queue.
+    /// Adds 1. If it found less than 0, it wakes the oldest parked item and returns it; the call waits for an item in
+    /// the wait queue.
+    ///
+    /// The credit comes before the deletion, since it decides whether there is one. Each up that found less than 0 is matched by
+    /// a down that parks. The item of that down is in the wait queue or on its way there, so the deletion has one to wait for.
     ///
     /// # Errors
     ///
-    /// `Worn`, where the seat's stint is used up.
+    /// `Worn`, if the seat's stint is used up.
     pub fn up<R: Wait>(&self, rt: &R, seat: &mut SemSeat<T>) -> Result<Option<T>, Worn>
         requires { seat.old.object ≡ self.now.object }
         ensures object { seat.new.object ≡ seat.old.object }
@@ -203,7 +210,7 @@ impl<T: Drop> Semaphore<T> {
         Ok(Some(delete_at_last(&self.queue, rt, &mut seat.queue)))
     }
 
-    /// The tally with one more seat.
+    /// The tally with this seat added.
     pub fn join(&self, tally: SemTally<T>, seat: SemSeat<T>) -> SemTally<T>
         requires object { (tally.object ≡ self.now.object) × (seat.object ≡ self.now.object) }
         ensures joined { JoinsSeat self.now.size tally seat result }
@@ -226,8 +233,8 @@ impl<T: Drop> Semaphore<T> {
         }
     }
 
-    /// Closes the semaphore, once all seats are in the tally. What is left is the items of the downs that neither passed
-    /// nor were woken, oldest first.
+    /// Closes the semaphore, once all seats are in the tally. Returns the items of the downs that neither passed nor
+    /// were woken, oldest first.
     pub fn close(self, tally: SemTally<T>) -> Rest<T>
         requires object { tally.object ≡ self.object }
         requires whole { IsWhole (seats_of self.object) tally.names }

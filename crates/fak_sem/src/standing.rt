@@ -1,4 +1,4 @@
-//! The state of a seat that makes calls by steps.
+//! The state of a seat whose calls go by steps.
 
 ghost use Rattle.std.specs.Prelude.{◌≡◌};
 
@@ -7,20 +7,20 @@ ghost use Rattle.std.specs.Prelude.{◌≡◌};
 pub enum Standing<T> {
     /// No call is open.
     Idle,
-    /// A down whose debit is made: room for its item in the wait queue is to be claimed.
+    /// A down after its debit: room for its item in the wait queue is to be claimed next.
     Parking(T),
-    /// A down that has its ticket in the wait queue: the item is to be moved into its cell.
+    /// A down after its granted claim: the item is to be moved into the cell of its ticket next.
     Inserting,
-    /// An up whose credit is made: an item of the wait queue is to be claimed.
+    /// An up after its credit: an item of the wait queue is to be claimed next.
     Waking,
-    /// An up that has its ticket in the wait queue: the item is to be moved out of its cell.
+    /// An up after its granted claim: the item is to be moved out of the cell of its ticket next.
     Deleting,
 }
 
 /// Which call of a seat is open.
 #[derive(Clone, Copy, Debug, PartialEq, Eq, Drop)]
 pub enum StepState {
-    /// None.
+    /// No call.
     Idle,
     /// A down that parks its item.
     Parking,

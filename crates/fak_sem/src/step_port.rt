@@ -1,4 +1,4 @@
-//! A semaphore and a seat of it that goes by steps as one value, whose calls have no condition.
+//! A semaphore and one of its seats, whose calls go by steps, as one value whose calls have no preconditions.
 
 ghost use Rattle.std.specs.Prelude.{◌≡◌, ◌≢◌, ◌+◌, IfOk, IfSome, MatchOption, MatchResult, Some};
 ghost use Rattle.fak_count.specs.Credits.{calls_made};
@@ -17,20 +17,20 @@ use crate::step_seat::StepSeat;
 use fak_count::Worn;
 use std::fmt;
 
-/// A semaphore with a seat of it that goes by steps, none of which waits. The type keeps that the seat is of the semaphore, and a
-/// call for which the seat has the wrong state is refused, so that the calls of a port require nothing. What they ensure is said
-/// of the port's seat, before and after.
+/// A semaphore with one of its seats, whose calls go by steps that never wait. The type guarantees that the seat
+/// belongs to the semaphore, and a call is refused if the seat is in the wrong state for it. So the calls of a port
+/// require nothing. Their contracts are about the port's seat, before and after.
 #[derive(Drop)]
 pub struct StepPort<'s, T> {
     /// The semaphore.
     pub semaphore: &'s Semaphore<T>,
-    /// The seat, which is of this semaphore.
+    /// The seat, which belongs to this semaphore.
     pub seat: StepSeat<T>,
     pub ghost of_semaphore: { seat.seat.object ≡ semaphore.now.object },
 }
 
 impl<'s, T: Drop> StepPort<'s, T> {
-    /// The port of this semaphore with this seat, which goes by steps from now on.
+    /// The port of this semaphore with this seat, whose calls go by steps from now on.
     pub fn new(semaphore: &'s Semaphore<T>, seat: SemSeat<T>) -> StepPort<'s, T>
         requires { IsIdleSemSeat semaphore.now.object seat }
         ensures semaphore { result.semaphore.now ≡ semaphore.now }
@@ -43,8 +43,8 @@ impl<'s, T: Drop> StepPort<'s, T> {
         }
     }
 
-    /// Begins a down: subtracts 1. If it found at least 1, the item passes and comes back, and the down is done. Else the seat
-    /// keeps the item, and room for it in the wait queue is claimed once; `try_park` goes on.
+    /// Begins a down: subtracts 1. If it found at least 1, the item passes and comes back, and the down is done.
+    /// Otherwise the seat keeps the item, and claims room for it in the wait queue once; `try_park` goes on.
     ///
     /// # Errors
     ///
@@ -68,8 +68,8 @@ impl<'s, T: Drop> StepPort<'s, T> {
         }
     }
 
-    /// One step more of a down that parks its item (`Semaphore::try_park`): true if the item is parked and the down is done.
-    /// `None` if no down is open.
+    /// Takes one more step of a down that parks its item (`Semaphore::try_park`). Returns true if the item is parked
+    /// and the down is done, and `None` if no down is open.
     pub fn try_park(&mut self) -> Option<bool>
         ensures semaphore { self.new.semaphore ≡ self.old.semaphore }
         ensures parking { MatchOption result (IsNotParking self.old.seat self.new.seat)
@@ -87,8 +87,8 @@ impl<'s, T: Drop> StepPort<'s, T> {
         }
     }
 
-    /// Begins an up: adds 1. If it found at least 0, it wakes no item, and the up is done: false. Else it owes a wake, and an
-    /// item of the wait queue is claimed once; `try_wake` goes on.
+    /// Begins an up: adds 1. If it found at least 0, it wakes no item, the up is done, and it returns false. Otherwise
+    /// it owes a wake, and claims an item of the wait queue once; `try_wake` goes on.
     ///
     /// # Errors
     ///
@@ -111,8 +111,8 @@ impl<'s, T: Drop> StepPort<'s, T> {
         }
     }
 
-    /// One step more of an up that owes a wake (`Semaphore::try_wake`): the item that it woke, and the up is done; or
-    /// `Some(None)` if it is not done yet. `None` if no up is open.
+    /// Takes one more step of an up that owes a wake (`Semaphore::try_wake`). Returns the item that it woke if the up
+    /// is done, `Some(None)` if it is not done yet, and `None` if no up is open.
     pub fn try_wake(&mut self) -> Option<Option<T>>
         ensures semaphore { self.new.semaphore ≡ self.old.semaphore }
         ensures waking { MatchOption result (IsNotWaking self.old.seat self.new.seat)
@@ -132,11 +132,11 @@ impl<'s, T: Drop> StepPort<'s, T> {
         }
     }
 
-    /// The seat as it was opened, if no call is open: to be joined, or for a `SemPort`.
+    /// The seat as it was opened, if no call is open. It can be joined, or used by a `SemPort`.
     ///
     /// # Errors
     ///
-    /// A call is open; the port comes back.
+    /// If a call is open, the port comes back.
     pub fn into_seat(self) -> Result<SemSeat<T>, StepPort<'s, T>>
         ensures idle { MatchResult result (IsIdleSemSeat self.entry.semaphore.now.object)
             (λ port. port.semaphore ≡ self.entry.semaphore) }
@@ -162,7 +162,7 @@ impl<'s, T> StepPort<'s, T> {
         self.seat.state()
     }
 
-    /// How many downs and ups are left of the seat's stint.
+    /// The number of downs and ups that are left of the seat's stint.
     pub fn left(&self) -> u64
         ensures { result + calls_made (credit_part self.now.seat.seat) ≡ self.now.seat.seat.stint }
     {

@@ -1,4 +1,4 @@
-//! A seat of a semaphore that goes by steps, none of which waits.
+//! A seat of a semaphore whose calls go by steps that never wait.
 
 ghost use Rattle.std.specs.Prelude.{◌≡◌, ◌+◌};
 ghost use Rattle.fak_count.specs.Credits.{calls_made};
@@ -13,8 +13,8 @@ use fak_queue::Seat;
 use std::fmt;
 use std::marker::Model;
 
-/// The right to downs and ups on a `Semaphore` by steps that never wait, as often as its stint says. Between the steps of a
-/// call it keeps the item that is to be parked. Contracts see what they see of a `SemSeat`, and its state.
+/// The right to downs and ups on a `Semaphore` by steps that never wait, as many times as its stint. Between the steps
+/// of a call it keeps the item that is to be parked. Contracts see what they see of a `SemSeat`, and its state.
 #[derive(Drop)]
 pub struct StepSeat<T> {
     pub(crate) start: u64,
@@ -34,7 +34,7 @@ impl<T> Model for StepSeat<T> {
 }
 
 impl<T: Drop> StepSeat<T> {
-    /// A seat that goes by steps from now on.
+    /// A seat whose calls go by steps from now on.
     pub fn of(seat: SemSeat<T>) -> StepSeat<T>
         ensures seat { result.seat ≡ seat }
         ensures idle { result.standing ≡ Idle }
@@ -44,7 +44,7 @@ impl<T: Drop> StepSeat<T> {
             credit,
             queue,
         } = seat;
-        // Its clause says that the calls made are within the stint.
+        // This call's clause states that the calls performed are within the stint.
         let _left = credit.left();
         StepSeat {
             start,
@@ -54,7 +54,7 @@ impl<T: Drop> StepSeat<T> {
         }
     }
 
-    /// The seat as it was made, between two calls: to be joined, or to make calls that wait.
+    /// The seat as it was before `of`, if no call is open. It can be joined, or used for calls that wait.
     pub fn into_seat(self) -> SemSeat<T>
         requires { self.standing ≡ Idle }
         ensures { result ≡ self.seat }
@@ -81,7 +81,7 @@ impl<T> StepSeat<T> {
         self.standing.state()
     }
 
-    /// How many downs and ups are left of the stint.
+    /// The number of downs and ups that are left of the stint.
     pub fn left(&self) -> u64
         ensures { result + calls_made (credit_part self.now.seat) ≡ self.now.seat.stint }
     {

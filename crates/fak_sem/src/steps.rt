@@ -17,12 +17,14 @@ use fak_count::Worn;
 use std::mem;
 
 impl<T: Drop> Semaphore<T> {
-    /// Begins a down: subtracts 1. Where it found at least 1 the item passes and comes back, and the down is done. Else the
-    /// seat keeps the item, and room for it in the wait queue is claimed once; `try_park` goes on.
+    /// Begins a down: subtracts 1. If it found at least 1, the item passes and comes back, and the down is done.
+    /// Otherwise the seat keeps the item, and claims room for it in the wait queue once; `try_park` goes on.
+    ///
+    /// The debit comes first, since it decides whether the item is parked. From the debit on, an up may owe this item a wake.
     ///
     /// # Errors
     ///
-    /// `SemWorn`, where the seat's stint is used up; the item comes back.
+    /// `SemWorn`, if the seat's stint is used up; the item comes back.
     pub fn claim_down(&self, seat: &mut StepSeat<T>, who: T) -> Result<Option<T>, SemWorn<T>>
         requires object { seat.old.seat.object ≡ self.now.object }
         requires idle { seat.old.standing ≡ Idle }
@@ -45,8 +47,11 @@ impl<T: Drop> Semaphore<T> {
         Ok(None)
     }
 
-    /// One step more of a down that parks its item: claims room for it, or moves it into its cell where it is the cell's
-    /// turn. True where the item is parked and the down is done.
+    /// Takes one more step of a down that parks its item: claims room for it, or moves it into its cell if it is the
+    /// cell's turn. Returns true if the item is parked and the down is done.
+    ///
+    /// The move comes after a granted claim, which has drawn the ticket of the cell. Once the item is in its cell, an
+    /// up can take it out.
     pub fn try_park(&self, seat: &mut StepSeat<T>) -> bool
         requires object { seat.old.seat.object ≡ self.now.object }
         requires parking { IsParking seat.old.standing }
@@ -73,12 +78,14 @@ impl<T: Drop> Semaphore<T> {
         }
     }
 
-    /// Begins an up: adds 1. Where it found at least 0 it wakes no item, and the up is done: false. Else it owes a wake, and
-    /// an item of the wait queue is claimed once; `try_wake` goes on.
+    /// Begins an up: adds 1. If it found at least 0, it wakes no item, the up is done, and it returns false. Otherwise
+    /// it owes a wake, and claims an item of the wait queue once; `try_wake` goes on.
+    ///
+    /// The credit comes first, since it decides whether a wake is owed. The item may still be on its way into the wait queue.
     ///
     /// # Errors
     ///
-    /// `Worn`, where the seat's stint is used up.
+    /// `Worn`, if the seat's stint is used up.
     pub fn claim_up(&self, seat: &mut StepSeat<T>) -> Result<bool, Worn>
         requires object { seat.old.seat.object ≡ self.now.object }
         requires idle { seat.old.standing ≡ Idle }
@@ -99,8 +106,10 @@ impl<T: Drop> Semaphore<T> {
         Ok(true)
     }
 
-    /// One step more of an up that owes a wake: claims an item, or moves it out of its cell where it is the cell's turn,
-    /// answers it, and the up is done.
+    /// Takes one more step of an up that owes a wake: claims an item, or moves it out of its cell if it is the cell's
+    /// turn. If it moved the item, it returns it, and the up is done.
+    ///
+    /// The move comes after a granted claim, which has drawn the ticket of the cell, and after the down that filled the cell.
     pub fn try_wake(&self, seat: &mut StepSeat<T>) -> Option<T>
         requires object { seat.old.seat.object ≡ self.now.object }
         requires waking { IsWaking seat.old.standing }

@@ -16,8 +16,8 @@ use fak_queue::Tally;
 use std::fmt;
 use std::marker::Model;
 
-/// Seats of a semaphore that were joined and make no calls any more. Contracts see its semaphore, the names of the seats,
-/// and the longest histories of the credit and of the wait queue that one of them has seen.
+/// Seats of a semaphore that were joined and perform no more calls. Contracts see its semaphore, the names of the
+/// seats, and the longest histories of the credit and of the wait queue that one of them has seen.
 #[derive(Drop)]
 pub struct SemTally<T> {
     pub(crate) start: u64,
@@ -56,8 +56,8 @@ impl<T: Drop> SemTally<T> {
         }
     }
 
-    /// Whether all seats of the semaphore are in it. Then each mark of both histories is of one of them, and no call is
-    /// cut short.
+    /// Whether all seats of the semaphore are in the tally. Then each mark of both histories belongs to one of them,
+    /// and no call is cut short.
     pub fn is_whole(&self) -> bool
         ensures whole { IsTrue result ↔ IsWhole (seats_of self.now.object) self.now.names }
         ensures credit { IsTrue result → mine credit_name self.now.names self.now.credit_seen ≡ self.now.credit_seen }
