@@ -1,4 +1,4 @@
-//! Downs and ups of a bounded number of steps: callers of the steps, whose clauses together are those of `down` and `up`.
+//! Downs and ups of a bounded number of steps. They show that the clauses of the steps together give those of `down` and `up`.
 
 ghost use Rattle.std.specs.Prelude.{◌≡◌, MatchOption, MatchResult};
 ghost use Rattle.fak_sem.specs.declared.standing.Standing.TheVariants.{Idle};
@@ -8,7 +8,7 @@ ghost use Rattle.fak_sem.specs.Steps.{IsWornStep, ParksSince, WakesSince};
 use fak_sem::{SemSeat, SemWorn, Semaphore, StepSeat, StepState, Worn};
 use std::process::Abort;
 
-/// Answers what `down` answers, or `None` where the down stays open after this many steps.
+/// Returns what `down` returns, or `None` if the down is still open after this many steps.
 pub fn try_down<T: Drop>(
     semaphore: &Semaphore<T>,
     seat: &mut StepSeat<T>,
@@ -36,7 +36,7 @@ pub fn try_down<T: Drop>(
     Ok(None)
 }
 
-/// Answers what `up` answers, or `None` where the up stays open after this many steps.
+/// Returns what `up` returns, or `None` if the up is still open after this many steps.
 pub fn try_up<T: Drop>(
     semaphore: &Semaphore<T>,
     seat: &mut StepSeat<T>,
@@ -63,7 +63,7 @@ pub fn try_up<T: Drop>(
     Ok(None)
 }
 
-/// The seat that a seat by steps is, once its call is done.
+/// The seat for calls that wait, once the call by steps is done.
 pub fn ended(rt: &impl Abort, semaphore: &Semaphore<u64>, seat: StepSeat<u64>) -> SemSeat<u64>
     requires { seat.seat.object ≡ semaphore.now.object }
     ensures { result.object ≡ semaphore.now.object }
@@ -74,7 +74,7 @@ pub fn ended(rt: &impl Abort, semaphore: &Semaphore<u64>, seat: StepSeat<u64>) -
     }
 }
 
-/// A down by steps, as often as need be.
+/// A down by steps, as many as it takes.
 pub fn down_by_steps(
     rt: &impl Abort,
     semaphore: &Semaphore<u64>,
@@ -91,7 +91,7 @@ pub fn down_by_steps(
     (ended(rt, semaphore, steps), passed)
 }
 
-/// An up by steps, as often as need be.
+/// An up by steps, as many as it takes.
 pub fn up_by_steps(
     rt: &impl Abort,
     semaphore: &Semaphore<u64>,

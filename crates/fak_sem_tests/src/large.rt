@@ -12,7 +12,7 @@ use std::alloc::Global;
 use std::process::Abort;
 use std::sync::Wait;
 
-/// Limits that are refused, each with the fault: the start, the size, the number of seats, and the stint.
+/// Limits that are refused, each with its fault: the start, the size, the number of seats, and the stint.
 const REFUSED: &[((u64, u64, u64, u64), LargeFault)] = &[
     ((LARGEST_BOUND + 1, 1, 1, 1), LargeFault::BadSize),
     ((0, LARGE_SIZE + 1, 1, 1), LargeFault::BadSize),
@@ -47,7 +47,8 @@ fn open(
     (semaphore, seats)
 }
 
-/// Opens a semaphore of start 1. The last seat goes down and parks nothing, the first parks, and the last wakes it.
+/// Opens a semaphore with start 1. The last seat's down parks nothing, the first seat's down parks its item, and the
+/// last seat's up wakes it.
 fn parks_and_wakes<R: Abort + Wait>(rt: &R, alloc: Global, size: u64, many: u64, stint: u64) {
     let (semaphore, mut seats) = open(rt, alloc, (1, size, many, stint));
     assert_equal(rt, seats.len() as u64, many);

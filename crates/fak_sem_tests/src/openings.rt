@@ -1,5 +1,5 @@
-//! Semaphores of each size in range are opened, with all their seats, and of starts and stints of every width. The first down
-//! passes or parks by the start.
+//! Semaphores of each size in range are opened with all their seats, and with starts and stints of every width. Whether
+//! the first down passes or parks depends on the start.
 
 use crate::assertions::assert_equal;
 use crate::steps::{Step, open, walk};
@@ -8,7 +8,7 @@ use std::alloc::Global;
 use std::process::Abort;
 use std::sync::Wait;
 
-/// The powers of two in turn, the numbers beside them, and drawn ones, not beyond the most.
+/// The powers of two in turn, the numbers next to them, and drawn numbers, none above `most`.
 fn spread(row: u64, most: u64) -> u64 {
     let power = 1u64 << (row % 41);
     let drawn = row.wrapping_mul(11_400_714_819_323_198_485) >> 24;
@@ -21,7 +21,8 @@ fn spread(row: u64, most: u64) -> u64 {
     number.min(most)
 }
 
-/// Opens the semaphore with this start, size, number of seats and stint. The last seat goes down and, where its stint lasts, up.
+/// Opens the semaphore with this start, size, number of seats and stint. The last seat performs a down and, if its
+/// stint allows it, an up.
 fn opens<R: Abort + Wait>(rt: &R, alloc: Global, limits: (u64, u64, u64, u64)) {
     let (start, _size, many, stint) = limits;
     let (semaphore, mut seats) = open::<u64>(rt, alloc, limits);

@@ -1,4 +1,4 @@
-//! Ports: a semaphore and a seat of it as one value. No call of a port asks for anything, so that their callers state nothing.
+//! Ports: a semaphore and one of its seats as one value. The calls of a port require nothing, so their callers state nothing.
 
 use super::assertions::{assert_equal, assert_written};
 use super::steps::{leaves_nothing, open, take};
@@ -7,7 +7,7 @@ use std::process::Abort;
 use std::sync::Wait;
 use std::thread::join;
 
-/// A step of a port, and what it is to return.
+/// A step of a port, and what it should return.
 #[derive(Drop)]
 enum Call {
     Down(u64, Result<Option<u64>, DownFault<u64>>),
@@ -16,7 +16,7 @@ enum Call {
     Wake(Option<Option<u64>>),
 }
 
-/// Makes the step, and tells whether it returned this and left the seat in this state with as many calls.
+/// Takes the step. Returns whether it returned this and left the seat in this state, with this many calls left.
 fn meets(port: &mut StepPort<'_, u64>, call: &Call, stands: StepState, left: u64) -> bool {
     let met = match call {
         Call::Down(who, returned) => port.claim_down(*who) == *returned,
@@ -86,7 +86,7 @@ fn steps_of_two_ports(rt: HostRuntime) {
     let mut b = StepPort::new(&semaphore, take(&rt, &semaphore, &mut seats));
     assert_equal(&rt, a.claim_down(1), Ok(None));
     assert_equal(&rt, b.claim_up(), Ok(true));
-    // the item is not in its cell yet, so that there is none to claim
+    // the item is not in its cell yet, so there is none to claim
     assert_equal(&rt, b.try_wake(), Some(None));
     let Err(mut a) = a.into_seat() else {
         panic!(rt; "a seat in mid-down")
@@ -112,7 +112,7 @@ fn ports_print_their_semaphore_and_their_seat(rt: HostRuntime) {
     assert_written(&rt, &steps, text);
 }
 
-/// Makes downs of the numbers below `count`. Returns the sum of those that passed.
+/// Performs downs of the numbers below `count`. Returns the sum of those that passed.
 fn down_below<R: Abort + Wait>(rt: &R, mut port: SemPort<'_, u64>, count: u64) -> u64 {
     let mut sum = 0u64;
     for item in 0..count {
@@ -123,7 +123,7 @@ fn down_below<R: Abort + Wait>(rt: &R, mut port: SemPort<'_, u64>, count: u64) -
     sum
 }
 
-/// Makes this many ups. Returns the sum of the items that were woken.
+/// Performs this many ups. Returns the sum of the items that were woken.
 fn up_often<R: Abort + Wait>(rt: &R, mut port: SemPort<'_, u64>, count: u64) -> u64 {
     let mut sum = 0u64;
     for _ in 0..count {

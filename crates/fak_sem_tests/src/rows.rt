@@ -83,7 +83,7 @@ fn items_that_nobody_woke(rt: HostRuntime) {
     assert_equal(&rt, rest.next(), None);
 }
 
-/// Stops where a semaphore is opened with these, or refused for another fault.
+/// Checks that opening a semaphore with these limits is refused for this fault.
 #[cfg(test)]
 fn refuses(rt: &impl Abort, alloc: Global, limits: (u64, u64, u64, u64), fault: OpenFault) {
     let (start, size, seats, stint) = limits;
@@ -114,7 +114,7 @@ fn the_ranges_of_an_opening(rt: HostRuntime) {
     }
 }
 
-/// Downs with the numbers below `count`; how many of them passed. A worn seat ends it.
+/// Performs downs of the numbers below `count`, and returns how many passed. Stops early if the seat is worn.
 fn down_below<R: Wait>(
     rt: &R,
     semaphore: &Semaphore<u64>,
@@ -136,7 +136,7 @@ fn down_below<R: Wait>(
     passed
 }
 
-/// Whether all seats are in the tally. Then the wait queue's counts are the number of parked items.
+/// Whether all seats are in the tally. If so, the counts of the wait queue are the number of parked items.
 fn counts_the_parked(tally: &SemTally<u64>) -> bool
     ensures { IsTrue result → lower_count tally.now.queue_seen ≡ pos (length (contents tally.now.queue_seen)) }
 {
@@ -188,7 +188,7 @@ fn what_tallies_print(rt: HostRuntime) {
     assert_written(&rt, &SemWorn(7u64), "SemWorn(7)");
 }
 
-/// Finds that each fault is written so.
+/// Checks that each fault is written as its text.
 #[cfg(test)]
 fn have_texts<F: Display>(rt: &(impl Abort + AllocGlobal), rows: &[(F, &str)]) {
     for (fault, text) in rows {

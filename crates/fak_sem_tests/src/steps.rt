@@ -1,4 +1,4 @@
-//! Seats of a semaphore, and calls of theirs whose answers a test knows.
+//! Seats of a semaphore, and calls of theirs whose results a test knows.
 
 ghost use Rattle.std.specs.Prelude.{◌≡◌, ◌<◌, All, vec_len};
 
@@ -12,7 +12,7 @@ pub const A: usize = 0;
 
 pub const B: usize = 1;
 
-/// A call of a seat, and what it is to answer.
+/// A call of a seat, and what it should return.
 #[derive(Drop)]
 pub enum Step {
     Down(u64, Result<Option<u64>, SemWorn<u64>>),
@@ -20,7 +20,7 @@ pub enum Step {
 }
 
 impl Step {
-    /// Makes the call, and tells whether it was answered so.
+    /// Performs the call. Returns whether the result was the expected one.
     fn is_met<R: Wait>(&self, rt: &R, semaphore: &Semaphore<u64>, seat: &mut SemSeat<u64>) -> bool
         requires { seat.old.object ≡ semaphore.now.object }
         ensures { seat.new.object ≡ semaphore.now.object }
@@ -47,7 +47,7 @@ pub fn open<T: Drop>(
     (semaphore, seats)
 }
 
-/// Makes the step with the seat of this number.
+/// Takes the step with the seat of this number.
 fn meets<R: Wait>(
     rt: &R,
     semaphore: &Semaphore<u64>,
@@ -62,7 +62,7 @@ fn meets<R: Wait>(
     step.is_met(rt, semaphore, &mut seats[name])
 }
 
-/// Walks the steps in their order, each with the seat of its number.
+/// Takes the steps in their order, each with the seat of its number.
 pub fn walk<R: Abort + Wait>(
     rt: &R,
     semaphore: &Semaphore<u64>,
@@ -111,7 +111,7 @@ pub fn joined<T: Drop>(
     tally
 }
 
-/// What is left where all seats are in the tally.
+/// What is left, if all seats are in the tally.
 pub fn close<T: Drop>(rt: &impl Abort, semaphore: Semaphore<T>, tally: SemTally<T>) -> Rest<T>
     requires { tally.object ≡ semaphore.object }
 {
@@ -121,7 +121,7 @@ pub fn close<T: Drop>(rt: &impl Abort, semaphore: Semaphore<T>, tally: SemTally<
     semaphore.close(tally)
 }
 
-/// Stops where a seat is not in the tally, or an item is left.
+/// Checks that all seats are in the tally, and that no item is left.
 pub fn leaves_nothing<T: Drop>(rt: &impl Abort, semaphore: Semaphore<T>, tally: SemTally<T>)
     requires { tally.object ≡ semaphore.object }
 {

@@ -1,4 +1,4 @@
-//! Each step by itself, on one thread: what it answers, and where it leaves the seat.
+//! Each step by itself, on one thread: what it returns, and the state in which it leaves the seat.
 
 ghost use Rattle.std.specs.Prelude.{◌≡◌, ◌<◌, All, vec_len};
 
@@ -12,7 +12,7 @@ use std::process::Abort;
 /// The third seat of a test.
 const C: usize = 2;
 
-/// A step, and what it is to answer.
+/// A step, and what it should return.
 #[derive(Drop)]
 enum Call {
     Down(u64, Result<Option<u64>, SemWorn<u64>>),
@@ -22,7 +22,7 @@ enum Call {
 }
 
 impl Call {
-    /// Makes the step where the seat is ready for it, and tells whether it was answered so.
+    /// Takes the step if the seat is ready for it. Returns whether the result was the expected one.
     fn is_met(&self, semaphore: &Semaphore<u64>, seat: &mut StepSeat<u64>) -> bool
         requires { seat.old.seat.object ≡ semaphore.now.object }
         ensures { seat.new.seat.object ≡ semaphore.now.object }
@@ -39,10 +39,10 @@ impl Call {
     }
 }
 
-/// A row: the seat, its step, its state afterwards, and the calls left.
+/// A row: the seat, its step, its state afterwards, and the calls that are left.
 type Row = (usize, Call, StepState, u64);
 
-/// Takes the seat's row, and tells whether all is as it says.
+/// Takes the step of the row. Returns whether all is as the row has it.
 fn meets(semaphore: &Semaphore<u64>, seat: &mut StepSeat<u64>, row: &Row) -> bool
     requires { seat.old.seat.object ≡ semaphore.now.object }
     ensures { seat.new.seat.object ≡ semaphore.now.object }
@@ -51,7 +51,7 @@ fn meets(semaphore: &Semaphore<u64>, seat: &mut StepSeat<u64>, row: &Row) -> boo
     call.is_met(semaphore, seat) && seat.state() == *stands && seat.left() == *left
 }
 
-/// Takes a row with the seat of this number.
+/// Takes the step of a row with the seat of this number.
 fn meets_at(
     semaphore: &Semaphore<u64>,
     seats: &mut Vec<StepSeat<u64>>,
@@ -65,7 +65,7 @@ fn meets_at(
     meets(semaphore, &mut seats[name], row)
 }
 
-/// Takes the rows in their order, each with the seat of its number.
+/// Takes the steps of the rows in their order, each with the seat of its number.
 fn walk(rt: &impl Abort, semaphore: &Semaphore<u64>, seats: &mut Vec<StepSeat<u64>>, rows: &[Row])
     requires { All (λ s. s.seat.object ≡ semaphore.now.object) seats.old.items }
     ensures { All (λ s. s.seat.object ≡ semaphore.now.object) seats.new.items }
@@ -78,7 +78,7 @@ fn walk(rt: &impl Abort, semaphore: &Semaphore<u64>, seats: &mut Vec<StepSeat<u6
     }
 }
 
-/// The seats, each going by steps; A is the last of them.
+/// The seats, whose calls go by steps; A is the last of them.
 fn by_steps(
     rt: &impl Abort,
     alloc: Global,
@@ -134,7 +134,7 @@ fn each_step_leaves_the_seat_where_it_says(rt: HostRuntime) {
     use StepState::{Idle, Parking, Waking};
     const ROWS: &[Row] = &[
         (A, Down(70, Ok(Some(70))), Idle, 9),
-        // the claim has the cell, and the item is not in it yet
+        // the claim has its cell, and the item is not in it yet
         (A, Down(71, Ok(None)), Parking, 8),
         // there is no room: the item stays in the seat
         (B, Down(72, Ok(None)), Parking, 9),

@@ -11,14 +11,14 @@ use std::sync::atomic::{AtomicUsize, Ordering};
 use std::sync::{Mutex, Wait};
 use std::thread::{Threads, map_vec};
 
-/// How many threads have come, and the numbers of all that passed or were woken.
+/// The number of threads that have come, and all numbers that passed or were woken.
 #[derive(Drop)]
 struct Turnout {
     come: AtomicUsize,
     all: Mutex<Vec<u64>>,
 }
 
-/// How the calls are made: they wait, or they go by steps, or the threads take turns at both ways.
+/// How the calls are performed: they wait, they go by steps, or every other pair of threads goes by steps.
 #[derive(Clone, Copy, Drop)]
 enum Way {
     Waiting,
@@ -37,7 +37,7 @@ impl Way {
     }
 }
 
-/// Fifty downs, with the numbers after `base`; those that passed go into the list.
+/// Performs fifty downs of the numbers after `base`; those that pass go into the list.
 fn downs<R: Wait>(
     rt: &R,
     semaphore: &Semaphore<u64>,
@@ -56,7 +56,7 @@ fn downs<R: Wait>(
     seat
 }
 
-/// Fifty ups; those that were woken go into the list.
+/// Performs fifty ups; the items that they wake go into the list.
 fn ups<R: Wait>(
     rt: &R,
     semaphore: &Semaphore<u64>,
@@ -121,7 +121,8 @@ fn add_all(all: &mut Vec<u64>, list: Vec<u64>) {
     }
 }
 
-/// The downs of a thread that came as the first, the third and so on, with the numbers after a base of its own; the ups of another.
+/// The work of one thread: downs if it is the first, third and so on to come, with the numbers after a base of its own;
+/// otherwise ups.
 fn work<R: Abort + Wait>(
     rt: &R,
     alloc: Global,
@@ -148,7 +149,7 @@ fn work<R: Abort + Wait>(
     seat
 }
 
-/// Has all seats work at once.
+/// Lets all seats work at once.
 fn work_all<R: Abort + Threads + Wait + Sync>(
     rt: &R,
     alloc: Global,
@@ -170,7 +171,7 @@ fn work_all<R: Abort + Threads + Wait + Sync>(
     seats
 }
 
-/// Whether the list has the numbers after each of `pairs` bases, 1,000 apart, fifty each, each once.
+/// Whether the list has, exactly once each, the fifty numbers after each of `pairs` bases, which are 1,000 apart.
 fn are_all(rt: &impl Abort, mut list: Vec<u64>, base: u64, pairs: u64) -> bool {
     list.sort().expect(rt, "memory to sort");
     let mut place = 0usize;
@@ -186,7 +187,7 @@ fn are_all(rt: &impl Abort, mut list: Vec<u64>, base: u64, pairs: u64) -> bool {
     place == list.len()
 }
 
-/// This many pairs of threads at once, one with fifty downs and one with fifty ups. Nothing is to be left.
+/// Runs this many pairs of threads at once, one with fifty downs and one with fifty ups. Checks that nothing is left.
 fn storm<R: Abort + Threads + Wait + Sync>(
     rt: &R,
     alloc: Global,
