@@ -1,4 +1,4 @@
--- What each step of a call does to what the call has done so far.
+-- How each step of a call adds to what the call has done so far.
 use Rattle.std.proofs.Common.{◌≡◌, ℕ, ◌<◌, true, false, [], ◌∷◌, refl, ap, sym, ◌∙◌, subst, inl, inr, arith, ◌⊎◌}
 use Rattle.fak_model.specs.declared.queue.Kind.TheVariants.{NoItem, OverOut, BackOut}
 use Rattle.fak_model.specs.declared.queue.Mark.{Mark}
@@ -244,7 +244,7 @@ module _ {T : Type 0} (size : ℕ) (asked : Asked T) (began : ChannelSeat T) whe
         → ItemSince size Releases asked o began (record s { items = items; standing = standing })
     item_still s items standing same p = record { before = p.before; done = p.done; after = after_same p.before s items standing p.after; item = subst (λ (q : PermitInfo). Releases p.before.items q) (sym same) p.item }
 
-    -- ---- the look that says whether a receiver is told
+    -- ---- the look that decides whether a receiver gets a permit
 
     pub announced_drained : (s : ChannelStepSeat T) (queue : SeatInfo (Mark T)) (standing : CallStanding T) → Makes size [] s.queue queue → IsDrained queue.seen → CellSince size Releases asked o began s
         → ItemSince size ReleasesAgain asked o began (record s { queue = queue; standing = standing })

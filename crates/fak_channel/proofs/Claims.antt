@@ -1,4 +1,4 @@
--- Claims in the queue after which the seat looks, and how they and the rest of the call make whole calls.
+-- Claims in the queue after which the seat looks, and how the rest of the call makes them whole calls.
 use Rattle.std.proofs.Common.{◌≡◌, ℕ, ◌+◌, ◌<◌, List, [], ◌∷◌, ◌++◌, length, length-append, ap, sym, ◌∙◌, subst, append-nil, inl, inr, arith, Some, flat_map}
 use Rattle.std.specs.List.{All}
 use Rattle.fak_model.specs.declared.queue.Kind.{Kind}
@@ -22,7 +22,7 @@ some_leads : {T : Type 0} (r : RefusedInsertion) (rs : List RefusedInsertion) �
 some_leads {T} r rs = let l = leads_in {T = T} r in record { first = l.first; later = l.later ++ flat_map kinds_not_in rs; is = ap (λ ks. ks ++ flat_map kinds_not_in rs) l.is }
 
 module _ {T : Type 0} {size : ℕ} where
-  -- what stood before the second of a claim's marks stays so as more is seen
+  -- the history before the second mark of a claim stays the same as more is seen
   stood : (one two : Kind T) (a b c : SeatInfo (Mark T)) → HasMade size (one ∷ two ∷ []) a b → Begins b.seen c.seen → before_own 1 a c ≡ before_own 1 a b
   stood one two a b c h more =
       let name : b.name ≡ a.name = ap (λ (s : SeatInfo (Mark T)). s.name) h.same_seat in
@@ -84,7 +84,7 @@ module _ {T : Type 0} {size : ℕ} where
 
   -- ---- insertions that were refused Full
 
-  -- the same as a queue's calls that wait have it
+  -- the same in the form that a queue's waiting calls have
   pub full_before : {old now : SeatInfo (Mark T)} → FullSoFar size old now → RefusedSoFar kinds_not_in IsFull size old now
   full_before (inl same) = inl same
   full_before (inr f) = inr (record { within = f.within; drawn = f.drawn; refused = f.first ∷ f.later; was = f.full; some_mark = some_leads f.first f.later; makes = f.makes })

@@ -1,4 +1,4 @@
--- What downs and ups by steps do to the numbers that permits' seats show.
+-- How downs and ups by steps change the numbers that permits' seats show.
 use Rattle.std.proofs.Common.{◌≡◌, ℕ, ◌+◌, ◌<◌, ◌≤◌, Bool, true, false, List, [], ◌∷◌, ◌++◌, length, map, refl, ap, sym, ◌∙◌, subst, arith, ℤ}
 use Rattle.std.specs.List.{sum_by}
 use Rattle.fak_model.proofs.Common.{sum_by-cons}
@@ -28,7 +28,7 @@ made_one : (w : CreditKind → ℕ) {kind : CreditKind} {credit : CreditInfo} {o
     → sum_by w (map kind_of (mine_of seat_of new)) ≡ sum_by w (map kind_of (mine_of seat_of old)) + w kind
 made_one w {kind} {credit} {old} {new} m = ap (λ h. sum_by w (map kind_of h)) m.appends.mine ∙ sum_snoc w (mine_of seat_of old) (record { seat = old.name; kind = kind })
 
--- of a seat's downs and ups, after a debit
+-- a seat's downs and ups after a debit
 record Down (old new : SemSeatInfo ℕ) : Type 0 where
   pub downs : debits (marks_by new) ≡ debits (marks_by old) + 1
   pub ups : credits (marks_by new) ≡ credits (marks_by old)

@@ -22,7 +22,7 @@ pub length-dealt : {A : Type 0} (f : ℕ → A) (name n : ℕ) → length (dealt
 length-dealt f name zero = refl
 length-dealt f name (suc n) = ap suc (length-dealt f (suc name) n)
 
--- the first of those from this name on, and the others
+-- the first element is that of this name, and the others follow it
 pub record IsNext {A : Type 0} (f : ℕ → A) (name seats : ℕ) (x : A) (rest : List A) : Type 0 where
   pub first : x ≡ f name
   pub others : rest ≡ dealt f (name + 1) (seats - (name + 1))
@@ -37,7 +37,7 @@ next_dealt {A} f {name} {seats} {items} {rest} {x} below are is =
       others = (let r : rest ≡ dealt f (suc name) (seats - (name + 1)) = cc in r ∙ ap (λ k. dealt f k (seats - (name + 1))) up);
     }
 
--- one more behind those from the name a on
+-- one more after those from the name a on
 pub dealt_next : {A : Type 0} (f : ℕ → A) (a n : ℕ) (x : A) → x ≡ f (a + n) → dealt f a n ++ x ∷ [] ≡ dealt f a (n + 1)
 dealt_next f a zero x is = ap (λ y. y ∷ []) (is ∙ ap f (let same : a + 0 ≡ a = omega arith in same))
 dealt_next f a (suc n) x is =
@@ -45,7 +45,7 @@ dealt_next f a (suc n) x is =
     let up : suc (n + 1) ≡ suc n + 1 = omega arith in
     ap (λ l. f a ∷ l) (dealt_next f (suc a) n x (is ∙ ap f same)) ∙ ap (dealt f a) up
 
--- the first of those that are left, and the others
+-- the first of the elements that are left, and the others
 pub record IsFirst {A : Type 0} (f : ℕ → A) (name left : ℕ) (x : A) (rest : List A) : Type 0 where
   pub some : 0 < left
   pub first : x ≡ f name

@@ -1,4 +1,4 @@
--- That a seat may go on with its call is a fact with one proof at most.
+-- Whether a seat may go on with its call is a fact with at most one proof.
 use Rattle.std.proofs.Common.{◌≡◌, ℕ, List, ◌⊎◌, Option, Some, None, Bool, true, false, refl, inl, inr}
 use Rattle.std.proofs.Math.Bool.{Bool-set}
 use Rattle.std.proofs.Math.Nat.{ℕ_set}
@@ -84,7 +84,7 @@ standing_set = Coded-set (code_by (Option (ℕ ⊎ Option Bool)) (coded_option (
 list_set : IsSet (List ℕ)
 list_set = Coded-set (coded_list coded_ℕ)
 
--- ---- where a seat stands
+-- ---- the state of a seat
 
 stands_so_prop : {T : Type 0} (standing : CallStanding T) (s : ChannelStepSeat T) → IsProp (StandsSo standing s)
 stands_so_prop Idle s = hlevel (seat_set, step_set, standing_set, Bool-set, le_prop)

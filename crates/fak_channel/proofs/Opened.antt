@@ -1,4 +1,4 @@
--- The seats of a channel as they are opened are of the channel.
+-- The seats of a channel, as they are opened, belong to the channel.
 use Rattle.std.proofs.Common.{◌≡◌, ℕ, zero, suc, List, refl, subst, sym}
 use Rattle.std.specs.List.{All}
 use Rattle.std.proofs.lemmas.List.Elements.{All-nil, All-cons}

@@ -13,7 +13,7 @@ use Rattle.fak_channel.specs.declared.channel.Channel.{Channel}
 use Rattle.fak_channel.specs.declared.seat.ChannelSeat.{ChannelSeat}
 use Rattle.fak_channel.proofs.Trying.{then_looks, then_refused}
 
--- one attempt that was refused Empty, and a look
+-- one attempt that was refused Empty, followed by a look
 pub none_taken : {T : Type 0} {size : ℕ} {lower : ℤ} (old new : ChannelSeat T) (found : SeatInfo (Mark T)) → RefusesEmpty size lower old.queue found → Makes size [] found new.queue → new.cells ≡ old.cells → TakesNone size old new
 none_taken {T} {size} old new found refuses looks same = by refuses.makes
   where

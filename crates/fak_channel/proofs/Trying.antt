@@ -1,4 +1,4 @@
--- Deletions that are refused, and looks between them.
+-- Deletions that are refused, with looks in between.
 use Rattle.std.proofs.Common.{◌≡◌, ℕ, List, [], ◌∷◌, ◌++◌, ap, sym, ◌∙◌, subst, append_assoc, append-nil, flat_map, inl, inr, arith}
 use Rattle.std.proofs.lemmas.Grind.{common_steps}
 use Rattle.fak_model.specs.declared.queue.Kind.{Kind}
@@ -37,12 +37,12 @@ module _ {T : Type 0} {size : ℕ} where
       ap (λ l. l ++ kinds_not_out r) (append-nil (flat_map kinds_not_out rs)) ∙ (sym (flat_map_push kinds_not_out rs r) ∙ sym (append-nil (flat_map kinds_not_out (rs ++ r ∷ [])))) in
       record { refused = rs ++ r ∷ []; made = subst (λ (ks : List (Kind T)). HasMade size ks old new) same (made_more (flat_map kinds_not_out rs ++ []) (kinds_not_out r) h.made m) }
 
-  -- then a look
+  -- one more look
   pub then_looks : {old mid new : SeatInfo (Mark T)} → Tries size old mid → Makes size [] mid new → Tries size old new
   then_looks {old} {mid} {new} (inl same) m = inr (subst (λ (s : SeatInfo (Mark T)). HasMadeAtLast kinds_not_out size [] s new) same (looks_first m))
   then_looks (inr h) m = inr (looks_more h m)
 
-  -- then a refused deletion
+  -- one more refused deletion
   pub then_refused : (r : RefusedDeletion) {old mid new : SeatInfo (Mark T)} → Tries size old mid → Makes size (kinds_not_out r) mid new → Tries size old new
   then_refused r {old} {mid} {new} (inl same) m = inr (subst (λ (s : SeatInfo (Mark T)). HasMadeAtLast kinds_not_out size [] s new) same (refused_first r m))
   then_refused r (inr h) m = inr (refused_more r h m)

@@ -1,4 +1,4 @@
--- Calls of a channel by steps, none of which waits: where a seat stands, what its call has done so far, and how the call ends.
+-- Calls of a channel by steps that never wait: the state of a seat, what its call has done so far, and how the call ends.
 use Rattle.std.specs.Prelude.{◌≡◌, ◌≢◌, ◌⊎◌, ℕ, zero, suc, ◌+◌, ◌<◌, ◌≤◌, true, false, List, [], ◌∷◌, Option, Some, None}
 use Rattle.std.specs.List.{All, flat_map}
 use Rattle.fak_model.specs.declared.queue.Kind.TheVariants as made
@@ -35,7 +35,7 @@ use Rattle.fak_channel.specs.StepPermits.{IsFree, IsParked, HasOne, HasTwo, Take
 
 -- ---- seats
 
--- a seat that goes by steps as a seat of the channel, which it is between two calls
+-- the seat of the channel that a seat by steps is between two calls
 abbrev pub rest_of : {T : Type 0} → ChannelStepSeat T → ChannelSeat T
 rest_of s = record { queue = s.queue; items = s.items.permit; cells = s.cells.permit }
 
@@ -60,11 +60,11 @@ call_state (Ending o) = state.Open
 abbrev pub IsInCall : {T : Type 0} → ChannelStepSeat T → Type 0
 IsInCall s = call_state s.standing ≢ state.Idle
 
--- a call is open, and sleeps
+-- a call is open and sleeps
 abbrev pub IsAsleep : {T : Type 0} → ChannelStepSeat T → Type 0
 IsAsleep s = call_state s.standing ≡ state.Sleeping
 
--- ---- what the type of a seat keeps
+-- ---- what the type of a seat guarantees
 
 -- no call of its parts is open
 abbrev pub IsQuiet : {T : Type 0} → ChannelStepSeat T → Type 0
@@ -74,7 +74,7 @@ IsQuiet s = (state_of s.queue ≡ at.Idle) × IsFree s.items × IsFree s.cells
 abbrev pub HasTicket : {T : Type 0} → ChannelStepSeat T → Type 0
 HasTicket s = drawn_by s.queue < s.queue.stint
 
--- the sleeper is on its way into the wait queue, or is there
+-- the sleeper is in the wait queue, or on its way there
 abbrev pub ParksFor : {T : Type 0} → Wish T → ChannelStepSeat T → Type 0
 ParksFor (Send x) s = IsParking s.cells.count.standing × IsParked s.cells × IsFree s.items
 ParksFor Receive s = IsParking s.items.count.standing × IsParked s.items × IsFree s.cells
@@ -83,13 +83,13 @@ abbrev pub IsParkedFor : {T : Type 0} → Wish T → ChannelStepSeat T → Type 
 IsParkedFor (Send x) s = IsParked s.cells
 IsParkedFor Receive s = IsParked s.items
 
--- the ticket of a seat of the queue that is in a call
+-- the ticket of a call in the queue
 abbrev pub ticket_in : SeatState → ℕ
 ticket_in at.Idle = 0
 ticket_in (at.Inserting k) = k
 ticket_in (at.Deleting k) = k
 
--- each call that is still to be made is within the stint
+-- what the parts of a seat satisfy in each state; each call of theirs that is still to come is within the stint
 abbrev pub StandsSo : {T : Type 0} → CallStanding T → ChannelStepSeat T → Type 0
 StandsSo Idle s = IsQuiet s
 StandsSo (Seeking w) s = IsQuiet s × HasTicket s × HasTwo s.items × HasTwo s.cells
@@ -107,19 +107,19 @@ StandsSo (ReleasingItem o) s = IsQuiet s × HasOne s.items
 StandsSo (WakingItem o) s = (state_of s.queue ≡ at.Idle) × IsWaking s.items.count.standing × IsFree s.cells
 StandsSo (Ending o) s = IsQuiet s
 
--- the seat is of this channel, and may go on with its call
+-- the seat belongs to this channel, and may go on with its call
 abbrev pub IsStepSeatOf : {T : Type 0} → Channel T → ChannelStepSeat T → Type 0
 IsStepSeatOf c s = (s.queue.object ≡ c.queue.object) × (s.items.permit.object ≡ c.items) × (s.cells.permit.object ≡ c.cells) × StandsSo s.standing s
 
 -- ---- what the parts of an open call have done
 
--- what is asked of a call
+-- what a call is asked to do
 pub data Asked (T : Type 0) : Type 0 where
   Sending : T → Asked T
   Receiving : Asked T
   Closing : Asked T
 
--- claims that found the queue full, at least one
+-- at least one claim, and all of them found the queue full
 pub record HasFoundFull {T : Type 0} (size : ℕ) (old now : SeatInfo (Mark T)) : Type 0 where
   pub within : drawn_by old < old.stint
   pub drawn : drawn_by now ≡ drawn_by old
@@ -131,14 +131,14 @@ pub record HasFoundFull {T : Type 0} (size : ℕ) (old now : SeatInfo (Mark T)) 
 abbrev pub FullSoFar : {T : Type 0} → ℕ → SeatInfo (Mark T) → SeatInfo (Mark T) → Type 0
 FullSoFar size old now = (now ≡ old) ⊎ HasFoundFull size old now
 
--- a granted insertion as `ClaimsIn`, after which the seat may have looked
+-- a granted insertion as in `ClaimsIn`, after which the seat may have looked
 pub record HasClaimedIn {T : Type 0} (size k : ℕ) (x : T) (old now : SeatInfo (Mark T)) : Type 0 where
   pub within : drawn_by old < old.stint
   pub made : HasMade size (made.ClaimIn ∷ made.Put x ∷ []) old now
   pub ticket : count puts (before_own 1 old now) ≡ k
   pub put : item_at (items_put now.seen) k ≡ Some x
 
--- a granted deletion as `ClaimsOut`, after which the seat may have looked
+-- a granted deletion as in `ClaimsOut`, after which the seat may have looked
 pub record HasClaimedOut {T : Type 0} (size k : ℕ) (old now : SeatInfo (Mark T)) : Type 0 where
   pub within : drawn_by old < old.stint
   pub item : T
@@ -146,14 +146,14 @@ pub record HasClaimedOut {T : Type 0} (size k : ℕ) (old now : SeatInfo (Mark T
   pub ticket : count gots (before_own 1 old now) ≡ k
   pub put : item_at (items_put now.seen) k ≡ Some item
 
--- ups that all met threads that had given up, if any
+-- any number of ups, each of which found a thread that had given up
 pub record ReleasesAgain (old now : PermitInfo) : Type 0 where
   pub later : IsLater old now
   pub downs : now.downs ≡ old.downs
   pub parked : now.is_parked ≡ old.is_parked
   pub ups : old.ups ≤ now.ups
 
--- ---- what an open call has done since a seat stood so
+-- ---- what an open call has done since it began
 
 module _ {T : Type 0} (size : ℕ) where
   -- it has no permit yet
@@ -164,7 +164,7 @@ module _ {T : Type 0} (size : ℕ) where
   SeeksSince Receiving began Receive s = Tries size began.queue s.queue × Seeks began.items s.items.permit × (s.cells.permit ≡ began.cells)
   SeeksSince Closing began w s = ⊥
 
-  -- it has its permit, and nothing was granted in the queue
+  -- it has its permit, and nothing was granted in the queue yet
   abbrev pub HoldsSince : Asked T → ChannelSeat T → Wish T → ChannelStepSeat T → Type 0
   HoldsSince (Sending x) began (Send y) s = (y ≡ x) × FullSoFar size began.queue s.queue × (s.items.permit ≡ began.items) × Acquires began.cells s.cells.permit
   HoldsSince (Sending x) began Receive s = ⊥
@@ -190,7 +190,7 @@ module _ {T : Type 0} (size : ℕ) where
     pub item : Acquires began.items s.items.permit
     pub same_cells : s.cells.permit ≡ began.cells
 
-  -- the queue's part of the call is done, and what is left are permits to release
+  -- the queue's part of the call is done, and only permits are still to be released
   pub record HasReceived (x : T) (began : ChannelSeat T) (now : ChannelSeat T) : Type 0 where
     pub before : SeatInfo (Mark T)
     pub tries : Tries size began.queue before
@@ -209,7 +209,7 @@ module _ {T : Type 0} (size : ℕ) where
   HasDone Closing Closed began now = ShutsAs size true began.queue now.queue × (now.items ≡ began.items) × (now.cells ≡ began.cells)
   HasDone Closing o began now = ⊥
 
-  -- the permit of a cell is released before a look says whether that of an item is
+  -- the outcomes of calls that release a cell's permit, and then look whether to release an item's permit too
   abbrev pub IsAnnounced : Outcome T → Type 0
   IsAnnounced Sent = ⊥
   IsAnnounced (Refused x) = Unit {0}
@@ -227,7 +227,7 @@ module _ {T : Type 0} (size : ℕ) where
     pub same_items : s.items.permit ≡ before.items
     pub cell : Released before.cells s.cells.permit
 
-  -- what came before the permit of an item is released
+  -- what came before the release of an item's permit
   abbrev pub ReleasesAfter : Outcome T → ChannelSeat T → ChannelStepSeat T → Type 0
   ReleasesAfter Sent before s = (s.queue ≡ before.queue) × (s.cells.permit ≡ before.cells)
   ReleasesAfter (Refused x) before s = Makes size [] before.queue s.queue × IsDrained s.queue.seen × Releases before.cells s.cells.permit
@@ -299,11 +299,11 @@ module _ {T : Type 0} (size : ℕ) where
   SinceAt (WakingItem o) asked began s = ItemSince Releases asked o began s
   SinceAt (Ending o) asked began s = EndsAs asked o began (rest_of s)
 
-  -- since a seat stood so, between two calls, this was asked of it, and it has come so far
+  -- since the seat was in this state, between two calls, it was asked this and has come this far
   abbrev pub CallSince : Asked T → ChannelSeat T → ChannelStepSeat T → Type 0
   CallSince asked began s = SinceAt s.standing asked began s
 
-  -- a step: the call is done, or has come further
+  -- after a step the call is done, or has come further
   abbrev pub StepsTo : Asked T → ChannelSeat T → ChannelStepSeat T → ChannelStep T → Type 0
   StepsTo asked began new step.GoesOn = CallSince asked began new
   StepsTo asked began new step.NotYet = CallSince asked began new
@@ -314,7 +314,7 @@ module _ {T : Type 0} (size : ℕ) where
   abbrev pub Steps : ChannelStepSeat T → ChannelStepSeat T → ChannelStep T → Type 0
   Steps old new s = (asked : Asked T) (began : ChannelSeat T) → CallSince asked began old → StepsTo asked began new s
 
--- where a call stands that has sought a permit
+-- the state of a call after it has sought a permit
 abbrev pub after_seek : {T : Type 0} → Sought → Wish T → CallStanding T
 after_seek sought.Has w = Claiming w
 after_seek sought.Parks w = Parking w
@@ -326,7 +326,7 @@ pub record Begins {T : Type 0} (size : ℕ) (asked : Asked T) (old new : Channel
   pub in_call : IsInCall new
   pub call : CallSince size asked (rest_of old) new
 
--- where a step leaves the seat
+-- the state of the seat after a step
 abbrev pub StandsAfter : {T : Type 0} → ChannelStepSeat T → ChannelStep T → Type 0
 StandsAfter new step.GoesOn = IsInCall new
 StandsAfter new step.NotYet = IsInCall new
@@ -334,8 +334,8 @@ StandsAfter new step.Sleeps = IsAsleep new
 StandsAfter new (step.Wakes number) = IsInCall new
 StandsAfter new (step.Ends o) = new.standing ≡ Idle
 
--- a step that is to wake a thread takes its number out of the wait queue and tells it; or it is to wake one still; or it met a thread that
--- had given up, and releases the permit again. No other step tells of a thread
+-- a step that is to wake a thread takes its number out of the wait queue and returns it; or the wake is still owed; or
+-- it found a thread that had given up, and the permit is to be released again; no other step returns a number
 abbrev pub TellsFrom : {T : Type 0} → CallStanding T → Channel T → ChannelStepSeat T → ChannelStepSeat T → ChannelStep T → Type 0
 TellsFrom (WakingCell o) c old new step.NotYet = new.standing ≡ WakingCell o
 TellsFrom (WakingCell o) c old new step.GoesOn = new.standing ≡ ReleasingCell o
@@ -359,12 +359,12 @@ pub record StepsAs {T : Type 0} (c : Channel T) (old new : ChannelStepSeat T) (s
   pub call : Steps c.queue.size old new s
   pub tells : TellsWake c old new s
 
--- steps each of which goes on, if any
+-- any number of steps, each of which goes on
 pub data HasGoneOn {T : Type 0} (c : Channel T) (old : ChannelStepSeat T) : ChannelStepSeat T → Type 0 where
   none : HasGoneOn c old old
   more : (mid now : ChannelStepSeat T) → HasGoneOn c old mid → StepsAs c mid now step.GoesOn → HasGoneOn c old now
 
--- such steps, and a last one
+-- any number of steps, each of which goes on, and a last one
 pub record StepsLast {T : Type 0} (c : Channel T) (old new : ChannelStepSeat T) (s : ChannelStep T) : Type 0 where
   pub before : ChannelStepSeat T
   pub steps : HasGoneOn c old before
@@ -374,12 +374,12 @@ abbrev pub Runs : {T : Type 0} → Channel T → ChannelStepSeat T → ChannelSt
 Runs c old new step.GoesOn = HasGoneOn c old new
 Runs c old new s = StepsLast c old new s
 
--- a call that is given up; or that had been woken before
+-- a call is given up, or it had been woken before and goes on
 abbrev pub GivesUp : {T : Type 0} → ℕ → ChannelStepSeat T → ChannelStepSeat T → Option (Wish T) → Type 0
 GivesUp {T} size old new None = (asked : Asked T) (began : ChannelSeat T) → CallSince size asked began old → CallSince size asked began new
 GivesUp {T} size old new (Some w) = (asked : Asked T) (began : ChannelSeat T) → CallSince size asked began old → GivesUpAs size asked w began (rest_of new)
 
--- a call that begins after a look
+-- a call that begins with a look
 pub record BeginsAfterLook {T : Type 0} (size : ℕ) (asked : Asked T) (old new : ChannelStepSeat T) : Type 0 where
   pub looks : Makes size [] old.queue new.queue
   pub same_items : new.items ≡ old.items
@@ -387,14 +387,14 @@ pub record BeginsAfterLook {T : Type 0} (size : ℕ) (asked : Asked T) (old new 
   pub in_call : IsInCall new
   pub call : CallSince size asked (rest_of new) new
 
--- a look, in a call or not, which leaves the call as it is
+-- a look, during a call or not, which leaves the call as it is
 pub record LooksOn {T : Type 0} (size : ℕ) (old new : ChannelStepSeat T) : Type 0 where
   pub looks : Makes size [] old.queue new.queue
   pub same_items : new.items ≡ old.items
   pub same_cells : new.cells ≡ old.cells
   pub same_call : new.standing ≡ old.standing
 
--- this many calls are left, where none gives up and none meets a thread that had given up
+-- this many calls are left, if none gives up and none finds a thread that had given up
 abbrev pub IsLeft : {T : Type 0} → ℕ → ChannelStepSeat T → Type 0
 IsLeft zero s = IsSpent (rest_of s)
 IsLeft (suc n) s = (drawn_by s.queue + n < s.queue.stint) × (calls_by s.items.permit + suc n < s.items.permit.stint) × (calls_by s.cells.permit + suc n < s.cells.permit.stint)

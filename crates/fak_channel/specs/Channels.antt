@@ -18,30 +18,30 @@ use Rattle.fak_channel.specs.Permits.{PermitInfo, calls_by, Acquires, Waits, See
 
 -- ---- seats
 
--- the seat is of this channel, and between two calls
+-- the seat belongs to this channel, and is between two calls
 abbrev pub IsSeatOf : {T : Type 0} → Channel T → ChannelSeat T → Type 0
 IsSeatOf c s = IsIdleSeat c.queue.object s.queue × (s.items.object ≡ c.items) × (s.cells.object ≡ c.cells)
 
--- a seat as it is opened, and the seats named from `name` on, this many of them
+-- a seat as it is opened; and this many seats, named from `name` on
 abbrev pub fresh_channel_seat : {T : Type 0} → Channel T → ℕ → ℕ → ChannelSeat T
 fresh_channel_seat c stint name = record { queue = seat_info c.queue.object name stint []; items = fresh_permit c.items stint name; cells = fresh_permit c.cells stint name }
 
 abbrev pub fresh_channel_seats : {T : Type 0} → Channel T → ℕ → ℕ → ℕ → List (ChannelSeat T)
 fresh_channel_seats c stint name n = dealt (fresh_channel_seat c stint) name n
 
--- the stint may end within the next call: no ticket is left, or less than two downs and ups
+-- the stint may end within the next call: no ticket is left, or fewer than two downs and ups
 abbrev pub IsSpent : {T : Type 0} → ChannelSeat T → Type 0
 IsSpent s = (drawn_by s.queue ≡ s.queue.stint) ⊎ (s.items.stint ≤ calls_by s.items + 1) ⊎ (s.cells.stint ≤ calls_by s.cells + 1)
 
 -- ---- parts of calls
 
--- a permit that was acquired and released again
+-- a permit was acquired and released again
 pub record HandsOn (old new : PermitInfo) : Type 0 where
   pub has : PermitInfo
   pub acquires : Acquires old has
   pub releases : Releases has new
 
--- by a look that has seen this history: a permit for the receivers where the channel is drained, and nothing else
+-- a look has seen this history: if the channel is drained, a permit is released for the receivers; otherwise nothing changes
 abbrev pub AnnouncesIf : {T : Type 0} → Bool → List (Mark T) → PermitInfo → PermitInfo → Type 0
 AnnouncesIf true seen old new = IsDrained seen × Releases old new
 AnnouncesIf false seen old new = (IsDrained seen → ⊥) × (new ≡ old)
@@ -49,13 +49,14 @@ AnnouncesIf false seen old new = (IsDrained seen → ⊥) × (new ≡ old)
 abbrev pub Announces : {T : Type 0} → List (Mark T) → PermitInfo → PermitInfo → Type 0
 Announces seen old new = (b : Bool) × AnnouncesIf b seen old new
 
--- deletions that were refused Empty, and looks between them, if any
+-- any number of deletions that were refused Empty, with looks in between
 abbrev pub Tries : {T : Type 0} → ℕ → SeatInfo (Mark T) → SeatInfo (Mark T) → Type 0
 Tries size old new = (new ≡ old) ⊎ HasMadeAtLast kinds_not_out size [] old new
 
 -- ---- sending
 
--- the item went in: one whole insertion of the queue's history, with the permit of a cell; and the permit of an item was released
+-- the item went in by one whole insertion of the queue's history; the permit of a cell was acquired for it, and the
+-- permit of an item was released
 pub record SendsFrom {T : Type 0} (size : ℕ) (x : T) (began : SeatInfo (Mark T)) (old new : ChannelSeat T) : Type 0 where
   pub ticket : ℕ
   pub inserts : InsertsAfterFull size ticket x began new.queue
@@ -65,7 +66,7 @@ pub record SendsFrom {T : Type 0} (size : ℕ) (x : T) (began : SeatInfo (Mark T
 abbrev pub Sends : {T : Type 0} → ℕ → T → ChannelSeat T → ChannelSeat T → Type 0
 Sends size x old new = SendsFrom size x old.queue old new
 
--- the insertion found the queue shut; the permit of a cell was handed on
+-- the insertion found the queue shut; the permit of a cell was acquired and released again
 pub record FindsClosedFrom {T : Type 0} (size : ℕ) (began : SeatInfo (Mark T)) (old new : ChannelSeat T) : Type 0 where
   pub found : SeatInfo (Mark T)
   pub closes : ClosesAfterFull size began found
@@ -73,13 +74,13 @@ pub record FindsClosedFrom {T : Type 0} (size : ℕ) (began : SeatInfo (Mark T))
   pub cell : HandsOn old.cells new.cells
   pub item : Announces new.queue.seen old.items new.items
 
--- no free cell came: the queue and the permits of items are as they were
+-- no free cell came: the queue and the permits of items are as before
 pub record GivesUpSending {T : Type 0} (old new : ChannelSeat T) : Type 0 where
   pub same_queue : new.queue ≡ old.queue
   pub same_items : new.items ≡ old.items
   pub cell : Waits old.cells new.cells
 
--- the item comes back
+-- a send is refused, and its item comes back
 abbrev pub RefusesSend : {T : Type 0} → ℕ → T → ChannelSeat T → ChannelSeat T → SendFault T → Type 0
 RefusesSend size x old new (sending.Worn y) = (y ≡ x) × IsSpent old × (new ≡ old)
 RefusesSend size x old new (sending.Closed y) = (y ≡ x) × FindsClosedFrom size old.queue old new
@@ -90,7 +91,7 @@ abbrev pub RefusesSendUntil : {T : Type 0} → ℕ → T → ChannelSeat T → C
 RefusesSendUntil size x old new (sending.TimedOut y) = (y ≡ x) × GivesUpSending old new
 RefusesSendUntil size x old new fault = RefusesSend size x old new fault
 
--- after a look
+-- as `Sends`, after a look
 pub record SendsAfterLook {T : Type 0} (size : ℕ) (x : T) (old new : ChannelSeat T) : Type 0 where
   pub looked : SeatInfo (Mark T)
   pub looks : Makes size [] old.queue looked
@@ -101,7 +102,7 @@ pub record FindsClosedAfterLook {T : Type 0} (size : ℕ) (old new : ChannelSeat
   pub looks : Makes size [] old.queue looked
   pub finds : FindsClosedFrom size looked old new
 
--- a look, and no mark
+-- a look, without a mark
 pub record OnlyLooks {T : Type 0} (size : ℕ) (old new : ChannelSeat T) : Type 0 where
   pub looks : Makes size [] old.queue new.queue
   pub same_items : new.items ≡ old.items
@@ -115,8 +116,8 @@ RefusesTrySend size x old new (sending.TimedOut y) = ⊥
 
 -- ---- receiving
 
--- the oldest item came out: one whole deletion of the queue's history, with the permit of an item; and the permit of a cell was
--- released
+-- the oldest item came out by one whole deletion of the queue's history; the permit of an item was acquired for it, and
+-- the permit of a cell was released
 pub record Receives {T : Type 0} (size : ℕ) (x : T) (old new : ChannelSeat T) : Type 0 where
   pub began : SeatInfo (Mark T)
   pub tries : Tries size old.queue began
@@ -158,8 +159,8 @@ RefusesTryReceive size old new receiving.TimedOut = ⊥
 
 -- ---- closing
 
--- the channel was open: the queue was shut, and a permit was released for the senders, and one for the receivers where the channel is
--- drained
+-- the channel was open and its queue was shut; a permit was released for the senders, and one for the receivers if the
+-- channel is drained
 pub record Closes {T : Type 0} (size : ℕ) (old new : ChannelSeat T) : Type 0 where
   pub shut : SeatInfo (Mark T)
   pub shuts : ShutsAs size true old.queue shut
@@ -167,7 +168,7 @@ pub record Closes {T : Type 0} (size : ℕ) (old new : ChannelSeat T) : Type 0 w
   pub cell : Releases old.cells new.cells
   pub item : Announces new.queue.seen old.items new.items
 
--- it was closed before
+-- the channel was closed before
 pub record ClosesAgain {T : Type 0} (size : ℕ) (old new : ChannelSeat T) : Type 0 where
   pub shuts : ShutsAs size false old.queue new.queue
   pub same_items : new.items ≡ old.items

@@ -1,4 +1,4 @@
--- What calls by a borrowed end do. Which end it is, and what it has seen, is not known: some end made the call.
+-- What calls by a borrowed end do. It is not known which end it is and what it has seen: some end performed the call.
 use Rattle.std.specs.Prelude.{◌≡◌, Bool}
 use Rattle.fak_channel.specs.declared.channel.Channel.{Channel}
 use Rattle.fak_channel.specs.declared.seat.ChannelSeat.{ChannelSeat}

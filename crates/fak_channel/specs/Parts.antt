@@ -1,4 +1,4 @@
--- What the parts of a channel's calls do, once the seat has a permit.
+-- What the parts of a channel's calls do once the seat has a permit.
 use Rattle.std.specs.Prelude.{◌≡◌, ℕ, []}
 use Rattle.fak_model.specs.declared.queue.Mark.{Mark}
 use Rattle.fak_model.specs.Calls.{SeatInfo}
@@ -11,14 +11,14 @@ use Rattle.fak_channel.specs.declared.taken.Taken.TheVariants.{Item, Drained, No
 use Rattle.fak_channel.specs.Channels.{Announces}
 use Rattle.fak_channel.specs.Permits.{Releases}
 
--- an item that goes in
+-- an item goes in
 pub record Puts {T : Type 0} (size : ℕ) (x : T) (old new : ChannelSeat T) : Type 0 where
   pub ticket : ℕ
   pub inserts : InsertsAfterFull size ticket x old.queue new.queue
   pub same_cells : new.cells ≡ old.cells
   pub item : Releases old.items new.items
 
--- an item that comes back, since the queue is shut
+-- an item comes back, since the queue is shut
 pub record RefusesPut {T : Type 0} (size : ℕ) (x : T) (old new : ChannelSeat T) (y : T) : Type 0 where
   pub back : y ≡ x
   pub found : SeatInfo (Mark T)
@@ -27,7 +27,7 @@ pub record RefusesPut {T : Type 0} (size : ℕ) (x : T) (old new : ChannelSeat T
   pub cell : Releases old.cells new.cells
   pub item : Announces new.queue.seen old.items new.items
 
--- an item that comes out
+-- an item comes out
 pub record TakesItem {T : Type 0} (size : ℕ) (x : T) (old new : ChannelSeat T) : Type 0 where
   pub ticket : ℕ
   pub taken : SeatInfo (Mark T)
@@ -36,7 +36,7 @@ pub record TakesItem {T : Type 0} (size : ℕ) (x : T) (old new : ChannelSeat T)
   pub cell : Releases old.cells new.cells
   pub item : Announces new.queue.seen old.items new.items
 
--- no item
+-- no item comes out
 pub record TakesNone {T : Type 0} (size : ℕ) (old new : ChannelSeat T) : Type 0 where
   pub refused : RefusedDeletion
   pub found : SeatInfo (Mark T)

@@ -1,4 +1,4 @@
--- Permits by steps, none of which waits: what callers see of a seat, and what a step does.
+-- Permits by steps that never wait: what callers see of a seat, and what a step does.
 use Rattle.std.specs.Prelude.{◌≡◌, ℕ, ◌+◌, ◌<◌, Bool, true, false}
 use Rattle.fak_queue.specs.declared.state.SeatState.TheVariants as state
 use Rattle.fak_queue.specs.Queues.{Takes, state_of}
@@ -12,7 +12,7 @@ use Rattle.fak_channel.specs.declared.permit_steps.Sought.{Sought}
 use Rattle.fak_channel.specs.declared.permit_steps.Sought.TheVariants.{Has, Parks, Sleeps, Again}
 use Rattle.fak_channel.specs.Permits.{PermitInfo, permit_info, calls_by, Acquires, Waits, Seeks}
 
--- a seat of permits that goes by steps: what it would show between two calls, and its seat of the semaphore
+-- a seat of permits whose calls go by steps: what it would show between two calls, and its seat of the semaphore
 pub record StepPermitInfo : Type 0 where
   pub permit : PermitInfo
   pub count : StepSeatInfo ℕ
@@ -24,26 +24,26 @@ step_permit count is_parked = record { permit = permit_info count.seat is_parked
 abbrev pub IsFree : StepPermitInfo → Type 0
 IsFree p = p.count.standing ≡ Idle
 
--- a down that parks its sleeper
+-- a down waits: its sleeper is parked, or is to be
 abbrev pub IsParked : StepPermitInfo → Type 0
 IsParked p = p.permit.is_parked ≡ true
 
--- a call is left of the stint, and two are
+-- at least one call is left of the stint; and at least two
 abbrev pub HasOne : StepPermitInfo → Type 0
 HasOne p = calls_by p.permit < p.permit.stint
 
 abbrev pub HasTwo : StepPermitInfo → Type 0
 HasTwo p = calls_by p.permit + 1 < p.permit.stint
 
--- a step that seeks a permit: it has one; or a down waits, whose sleeper is to be parked or is parked; or the sleeper was taken out of
--- the wait queue, and its permit went to another
+-- a step that seeks a permit: it has one; or a down waits, whose sleeper is to be parked or is parked; or the sleeper
+-- was taken out of the wait queue, and its permit went to another thread
 abbrev pub SeeksAs : StepPermitInfo → StepPermitInfo → Sought → Type 0
 SeeksAs old new Has = IsFree new × Acquires old.permit new.permit × HasOne new
 SeeksAs old new Parks = IsParking new.count.standing × Waits old.permit new.permit × HasOne new
 SeeksAs old new Sleeps = IsFree new × Waits old.permit new.permit × HasOne new
 SeeksAs old new Again = IsFree new × Seeks old.permit new.permit × HasTwo new
 
--- the down has its permit, or nothing changed
+-- the down has its permit, or nothing changes
 abbrev pub WakesUpIf : Bool → StepPermitInfo → StepPermitInfo → Type 0
 WakesUpIf true old new = new ≡ record old { permit = record old.permit { is_parked = false } }
 WakesUpIf false old new = new ≡ old
@@ -52,8 +52,8 @@ WakesUpIf false old new = new ≡ old
 abbrev pub TakesNumber : ℕ → ℕ → StepPermitInfo → StepPermitInfo → Type 0
 TakesNumber size number old new = (k : ℕ) × (state_of (queue_part old.count.seat) ≡ state.Deleting k) × Takes size k number (queue_part old.count.seat) (queue_part new.count.seat)
 
--- a step of an up that owes a wake: it owes it still; or it met a thread that had given up, and another up may be made; or the thread with
--- this number is to be woken, and the up is done
+-- a step of an up that owes a wake: it still owes it; or it found a thread that had given up, and another up is
+-- possible; or the thread with this number is to be woken, and the up is done
 abbrev pub RousesAs : ℕ → StepPermitInfo → StepPermitInfo → Roused → Type 0
 RousesAs size old new roused.NotYet = IsWaking new.count.standing
 RousesAs size old new roused.Again = IsFree new × HasOne new

@@ -7,7 +7,7 @@ use Rattle.fak_channel.specs.declared.undealt.UndealtSeats.{UndealtSeats}
 use Rattle.fak_channel.specs.Channels.{fresh_channel_seat}
 use Rattle.fak_channel.specs.Permits.{dealt, fresh_permit}
 
--- the parts of the seats named from `name` on, this many of them, as they are opened
+-- the parts of this many seats, named from `name` on, as they are opened
 pub record AreUndealt {T : Type 0} (c : Channel T) (stint name left : ℕ) (s : UndealtSeats T) : Type 0 where
   pub queues : s.queues.rest.items ≡ dealt (λ n. seat_info c.queue.object n stint []) name left
   pub queues_left : s.queues.rest.len ≡ left

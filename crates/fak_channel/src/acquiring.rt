@@ -11,7 +11,7 @@ use std::sync::Wait;
 use std::time::{Clock, Instant};
 
 impl Permits {
-    /// Acquires a permit; sleeps until there is one.
+    /// Acquires a permit. Sleeps until there is one.
     pub(crate) fn acquire<R: Wait>(&self, rt: &R, seat: &mut PermitSeat)
         requires object { seat.old.object ≡ self.now }
         requires left { calls_by seat.old < seat.old.stint }
@@ -25,7 +25,7 @@ impl Permits {
         seat.is_parked = false;
     }
 
-    /// Acquires a permit; sleeps until there is one, or until the deadline. True where it has one.
+    /// Acquires a permit. Sleeps until there is one, or until the deadline. Returns whether the seat has a permit.
     pub(crate) fn acquire_until<R: Wait + Clock>(
         &self,
         rt: &R,
@@ -45,7 +45,10 @@ impl Permits {
         is_woken
     }
 
-    /// Acquires a permit where there is one, and does not sleep. True where it has one.
+    /// Acquires a permit if there is one, and does not sleep. Returns whether the seat has a permit.
+    ///
+    /// A down without a permit parks its sleeper all the same, and gives up at once. The give-up decides: another
+    /// thread may have woken the sleeper before it.
     pub(crate) fn try_acquire<R: Wait>(&self, rt: &R, seat: &mut PermitSeat) -> bool
         requires object { seat.old.object ≡ self.now }
         requires left { calls_by seat.old < seat.old.stint }
@@ -67,7 +70,10 @@ impl Permits {
         &self.sleepers[seat.number as usize]
     }
 
-    /// Whether the seat has a permit at once. Where it has none, its sleeper is in the wait queue.
+    /// Whether the seat has a permit at once. If not, its sleeper is in the wait queue.
+    ///
+    /// If the sleeper is still parked from a call that gave up, that down is taken up again: a second one would park
+    /// the sleeper twice.
     fn passes<R: Wait>(&self, rt: &R, seat: &mut PermitSeat) -> bool
         requires object { seat.old.object ≡ self.now }
         requires left { calls_by seat.old < seat.old.stint }
@@ -90,7 +96,10 @@ impl Permits {
         }
     }
 
-    /// A down of a seat whose sleeper is not parked: true where it passed, false where the sleeper is parked now.
+    /// A down of a seat whose sleeper is not parked. Returns true if it passed, and false if the sleeper is parked now.
+    ///
+    /// The sleeper's word is cleared before `park_at_last`. From there on another thread can take the number out of the
+    /// wait queue and give the sleeper a permit, which a later store would delete.
     fn goes_down<R: Wait>(&self, rt: &R, seat: &mut PermitSeat) -> bool
         requires object { seat.old.object ≡ self.now }
         requires left { calls_by seat.old < seat.old.stint }

@@ -1,4 +1,4 @@
-//! How the receivers of a closed channel are told that it is drained.
+//! How the receivers of a closed channel learn that it is drained.
 
 ghost use Rattle.std.specs.Prelude.{◌≡◌, ◌<◌, []};
 ghost use Rattle.fak_queue.specs.Queues.{Makes};
@@ -10,8 +10,11 @@ use crate::seat::ChannelSeat;
 use std::sync::Wait;
 
 impl<T: Drop> Channel<T> {
-    /// After a step that may have drained the channel: where it is drained, a permit for a receiver, who hands it on to the next.
-    /// True where it is drained.
+    /// Looks whether the channel is drained, and if it is, releases a permit for a receiver, who releases it again for
+    /// the next. Returns whether the channel is drained.
+    ///
+    /// The look comes after each step that may have drained the channel: the deletion of an item, the shut, or a call that
+    /// was refused since the channel is closed. Without it, receivers could sleep forever, since no item comes any more.
     pub(crate) fn announces<R: Wait>(&self, rt: &R, seat: &mut ChannelSeat<T>) -> bool
         requires seat { IsSeatOf self.now seat.old }
         requires left { calls_by seat.old.items < seat.old.items.stint }

@@ -1,4 +1,4 @@
-//! How calls by steps begin. None of them waits.
+//! How calls by steps begin. None of these calls waits.
 
 ghost use Rattle.std.specs.Prelude.{◌≡◌, MatchResult};
 ghost use Rattle.fak_channel.specs.declared.standing.CallStanding.TheVariants.{Idle};
@@ -54,7 +54,7 @@ impl<T: Drop> Channel<T> {
     ///
     /// # Errors
     ///
-    /// `ChannelWorn`; the channel is as it was.
+    /// `ChannelWorn`; the channel is as before.
     pub fn begin_close(&self, seat: &mut ChannelStepSeat<T>) -> Result<(), ChannelWorn>
         requires stands { IsStepSeatOf self.now seat.old }
         requires idle { seat.old.standing ≡ Idle }

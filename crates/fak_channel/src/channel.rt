@@ -4,8 +4,8 @@ use crate::permits::Permits;
 use fak_queue::Queue;
 use std::fmt;
 
-/// A bounded first-in-first-out channel, whose threads sleep while it is full or empty. Its items are in a queue. Contracts see
-/// the queue, and which semaphores count the items and the free cells.
+/// A bounded first-in-first-out channel. Threads sleep while it is full or empty. Its items are in a queue. Contracts
+/// see the queue, and which semaphores count the items and the free cells.
 #[derive(Drop)]
 pub struct Channel<T> {
     pub(crate) queue: Queue<T>,

@@ -9,8 +9,10 @@ use crate::seat::ChannelSeat;
 use std::sync::Wait;
 
 impl<T: Drop> Channel<T> {
-    /// Shuts the queue. Where it was open, wakes a sender, who hands the permit on to the next, and a receiver where nothing is
-    /// left. Tells whether it was open.
+    /// Shuts the queue. If it was open, wakes a sender, who hands the permit on to the next, and a receiver if nothing
+    /// is left. Returns whether it was open.
+    ///
+    /// The shut comes first: each sender that is woken after it finds the queue shut.
     pub(crate) fn close<R: Wait>(
         &self,
         rt: &R,

@@ -1,4 +1,4 @@
-//! A channel and a seat of it as one value, whose calls have no condition.
+//! A channel and one of its seats as one value, whose calls have no preconditions.
 
 ghost use Rattle.std.specs.Prelude.{◌≡◌, ◌↔◌, ◌⊎◌, [], ℤ, pos, ◌≤ℤ◌, IsTrue, MatchResult};
 ghost use Rattle.fak_model.specs.Queue.{Has, lower_count};
@@ -15,13 +15,14 @@ use std::fmt;
 use std::sync::Wait;
 use std::time::{Clock, Instant};
 
-/// A channel with a seat of it, by which one thread at a time sends and receives. The type keeps that the seat is of the channel
-/// and in no call, so that the calls of an end require nothing. What they ensure is said of the seat, before and after.
+/// A channel with one of its seats, by which one thread at a time sends and receives. The type guarantees that the seat
+/// belongs to the channel and that no call of it is open, so the calls of an end require nothing. Their contracts are
+/// about the seat, before and after.
 #[derive(Drop)]
 pub struct End<'c, T> {
     /// The channel.
     pub channel: &'c Channel<T>,
-    /// The seat, which is of this channel and in no call.
+    /// The seat, which belongs to this channel, and of which no call is open.
     pub seat: ChannelSeat<T>,
     pub ghost of_channel: { IsSeatOf channel.now seat },
 }
@@ -86,7 +87,7 @@ impl<'c, T: Drop> End<'c, T> {
     ///
     /// # Errors
     ///
-    /// `Worn`; `Closed` where the channel is closed and all its items were received.
+    /// `Worn`; `Closed` if the channel is closed and all its items were received.
     pub fn receive<R: Wait>(&mut self, rt: &R) -> Result<T, ReceiveFault>
         ensures channel { self.new.channel ≡ self.old.channel }
         ensures call { MatchResult result (λ x. Receives self.old.channel.now.queue.size x self.old.seat self.new.seat)
@@ -127,11 +128,11 @@ impl<'c, T: Drop> End<'c, T> {
     }
 
     /// Closes the channel: later sends are refused, and receivers get `Closed` once they have received what is left. Sleeping
-    /// senders wake up, and sleeping receivers too once nothing is left. Tells whether the channel was open before.
+    /// senders wake up, and sleeping receivers too once nothing is left. Returns whether the channel was open before.
     ///
     /// # Errors
     ///
-    /// `ChannelWorn`, if the stint is used up; the channel is as it was.
+    /// `ChannelWorn`, if the stint is used up; the channel is as before.
     pub fn close<R: Wait>(&mut self, rt: &R) -> Result<bool, ChannelWorn>
         ensures channel { self.new.channel ≡ self.old.channel }
         ensures call { MatchResult result (λ was_open. ClosesAs self.old.channel.now.queue.size was_open self.old.seat self.new.seat)
@@ -140,7 +141,7 @@ impl<'c, T: Drop> End<'c, T> {
         self.channel.close(rt, &mut self.seat)
     }
 
-    /// How many items are in the channel that no receiver has claimed, at one moment.
+    /// The number of items in the channel that no receiver has claimed, at one moment.
     pub fn len(&mut self) -> u64
         ensures channel { self.new.channel ≡ self.old.channel }
         ensures looks { OnlyLooks self.old.channel.now.queue.size self.old.seat self.new.seat }
@@ -149,7 +150,7 @@ impl<'c, T: Drop> End<'c, T> {
         self.channel.len(&mut self.seat)
     }
 
-    /// Whether there is no such item.
+    /// Whether there is no such item, at one moment.
     pub fn is_empty(&mut self) -> bool
         ensures channel { self.new.channel ≡ self.old.channel }
         ensures looks { OnlyLooks self.old.channel.now.queue.size self.old.seat self.new.seat }

@@ -1,4 +1,4 @@
-//! Why a call on a channel was refused.
+//! The errors of calls on a channel.
 
 use std::error::Error;
 use std::fmt;

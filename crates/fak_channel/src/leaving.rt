@@ -12,7 +12,7 @@ use crate::seat::ChannelSeat;
 use fak_queue::{Rest, Tally};
 
 impl<T: Drop> Channel<T> {
-    /// The tally of one seat, whose end makes no more calls.
+    /// The tally of one seat, whose end performs no more calls.
     pub fn tally(&self, seat: ChannelSeat<T>) -> Tally<T>
         requires { IsSeatOf self.now seat }
         ensures tally { result ≡ tally_of seat.queue }
@@ -27,7 +27,7 @@ impl<T: Drop> Channel<T> {
         Tally::of(queue)
     }
 
-    /// The tally with one more seat.
+    /// The tally with this seat added.
     pub fn join(&self, tally: Tally<T>, seat: ChannelSeat<T>) -> Tally<T>
         requires tally { tally.object ≡ self.now.queue.object }
         requires seat { IsSeatOf self.now seat }
@@ -42,7 +42,7 @@ impl<T: Drop> Channel<T> {
         self.queue.join(tally, queue)
     }
 
-    /// What is left in the channel, once all seats are in the tally: the items that nobody received, oldest first.
+    /// The items that nobody received, oldest first, once all seats are in the tally.
     pub fn into_rest(self, tally: Tally<T>) -> Rest<T>
         requires object { tally.object ≡ self.queue.object }
         requires whole { IsWhole self.queue.object.seats tally.names }

@@ -1,4 +1,4 @@
-//! A lender of ends, for threads that hold none.
+//! A lender of ends, for threads that have none.
 
 ghost use Rattle.std.specs.Prelude.{◌≡◌, MatchResult};
 ghost use Rattle.fak_channel.specs.Lending.{SomeEndCloses, SomeEndIsSpent, SomeEndReceives, SomeEndRefusesReceive};
@@ -14,15 +14,15 @@ use std::sync::{Condvar, Mutex, Wait};
 
 /// Lends ends of channels, each to one borrower at a time. A borrower sleeps while all ends are lent.
 ///
-/// A call that sleeps keeps its end. So lend the ends of senders and those of receivers by two lenders: else receivers that
-/// sleep may have all ends, and no sender gets one.
+/// A call that sleeps keeps its end. So use one lender for the ends of senders and another for those of receivers.
+/// Otherwise sleeping receivers may have all ends, and no sender gets one.
 #[derive(Drop)]
 pub struct Lender<'c, T> {
     idle: Mutex<Option<Box<Shelf<'c, T>>>>,
     given_back: Condvar,
 }
 
-/// An end that was lent. It cannot be dropped, only given back (`Lender::take_back`).
+/// A lent end. It cannot be dropped, only given back (`Lender::take_back`).
 pub struct Loan<'c, T> {
     shelf: Box<Shelf<'c, T>>,
 }
@@ -40,14 +40,14 @@ impl<'c, T: Drop> Lender<'c, T> {
     ///
     /// # Errors
     ///
-    /// `AllocError`, if there is no memory; the end is dropped.
+    /// `AllocError`, if memory runs out; the end is dropped.
     pub fn add<R: Wait>(&self, rt: &R, alloc: Global, end: End<'c, T>) -> Result<(), AllocError> {
         let shelf = Box::new(alloc, Shelf { end, below: None })?;
         self.take_back(rt, Loan { shelf });
         Ok(())
     }
 
-    /// Lends an end. The thread sleeps while all are lent.
+    /// Lends an end. The thread sleeps while all ends are lent.
     pub fn lend<R: Wait>(&self, rt: &R) -> Loan<'c, T> {
         for _ in rt.forever() {
             let mut idle = self
@@ -61,7 +61,7 @@ impl<'c, T: Drop> Lender<'c, T> {
         unreachable!()
     }
 
-    /// Takes an end back that was lent, and wakes a borrower that waits for one.
+    /// Takes back an end that was lent, and wakes a borrower that waits for one.
     pub fn take_back<R: Wait>(&self, rt: &R, loan: Loan<'c, T>) {
         let Loan { mut shelf } = loan;
         let mut idle = self.idle.lock(rt);
@@ -71,7 +71,7 @@ impl<'c, T: Drop> Lender<'c, T> {
         self.given_back.notify_one();
     }
 
-    /// Sends the item by an end that it borrows.
+    /// Sends the item by a borrowed end.
     ///
     /// # Errors
     ///
@@ -85,7 +85,7 @@ impl<'c, T: Drop> Lender<'c, T> {
         sent
     }
 
-    /// Sends the item by an end that it borrows, if there is a free cell.
+    /// Sends the item by a borrowed end, if there is a free cell.
     ///
     /// # Errors
     ///
@@ -99,7 +99,7 @@ impl<'c, T: Drop> Lender<'c, T> {
         sent
     }
 
-    /// Receives the oldest item by an end that it borrows.
+    /// Receives the oldest item by a borrowed end.
     ///
     /// # Errors
     ///
@@ -113,7 +113,7 @@ impl<'c, T: Drop> Lender<'c, T> {
         received
     }
 
-    /// Receives the oldest item by an end that it borrows, if there is one.
+    /// Receives the oldest item by a borrowed end, if there is one.
     ///
     /// # Errors
     ///
@@ -127,7 +127,7 @@ impl<'c, T: Drop> Lender<'c, T> {
         received
     }
 
-    /// Closes the channel by an end that it borrows. Tells whether the channel was open before.
+    /// Closes the channel by a borrowed end. Returns whether the channel was open before.
     ///
     /// # Errors
     ///
@@ -143,7 +143,7 @@ impl<'c, T: Drop> Lender<'c, T> {
 }
 
 impl<'c, T: Drop> Loan<'c, T> {
-    /// The end that is lent.
+    /// The lent end.
     pub fn end(&mut self) -> &mut End<'c, T> {
         &mut self.shelf.end
     }

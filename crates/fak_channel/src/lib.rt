@@ -1,18 +1,18 @@
 #![tactic(auto)]
-//! A bounded first-in-first-out channel whose threads sleep while they wait. Its items are in a queue. Two semaphores count the
-//! items and the free cells, and in their wait queues are the numbers of sleeping threads.
+//! A bounded first-in-first-out channel whose threads sleep while they wait. Its items are in a queue. Two semaphores
+//! count the items and the free cells, and their wait queues contain the numbers of sleeping threads.
 //!
-//! - `Channel::<T>::open(alloc, size, ends, stint)` returns the channel and a seat for each of its ends; `channel.ends(alloc, seats)`
-//!   the ends, and `End::new(&channel, seat)` one. The calls of an end have no condition.
-//! - `send` and `receive` sleep while the channel is full or empty; `send_deadline` and `receive_deadline` until a time at most;
-//!   `try_send` and `try_receive` do not sleep.
+//! - `Channel::<T>::open(alloc, size, ends, stint)` returns the channel and a seat for each of its ends. `channel.ends(alloc,
+//!   seats)` returns the ends, and `End::new(&channel, seat)` one of them. The calls of an end have no preconditions.
+//! - `send` and `receive` sleep while the channel is full or empty; `send_deadline` and `receive_deadline` until a time
+//!   at most; `try_send` and `try_receive` do not sleep.
 //! - `close` refuses later sends. Receivers get what is left, and then `Closed`.
 //! - `len`, `is_empty` and `is_closed` look, and change nothing.
-//! - `Lender` lends ends to threads that hold none.
-//! - `End::into_seat`, then `Channel::tally`, `join` and `into_rest`: what is left when all seats are back.
-//! - To cite: `Sends`, `Receives`, `IsOver`, `ClosesAs` and their like (`specs/Channels.antt`), in the words of `fak_queue`.
+//! - `Lender` lends ends to threads that have none.
+//! - `End::into_seat`, then `Channel::tally`, `join` and `into_rest`, return what is left once all seats are back.
+//! - To cite: `Sends`, `Receives`, `IsOver`, `ClosesAs` and similar (`specs/Channels.antt`), in the terms of `fak_queue`.
 //!
-//! `docs/CALLING.md` is the guide for callers, and `crates/example_channel` an example program.
+//! `docs/CALLING.md` is the guide for callers, and `crates/example_channel` is an example program.
 
 mod acquiring;
 mod announcing;

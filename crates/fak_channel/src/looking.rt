@@ -9,7 +9,7 @@ use crate::channel::Channel;
 use crate::seat::ChannelSeat;
 
 impl<T: Drop> Channel<T> {
-    /// How many items are there that no receiver has claimed.
+    /// The number of items that no receiver has claimed.
     pub(crate) fn len(&self, seat: &mut ChannelSeat<T>) -> u64
         requires { IsSeatOf self.now seat.old }
         ensures seat { IsSeatOf self.now seat.new }
@@ -20,7 +20,7 @@ impl<T: Drop> Channel<T> {
         if ready < 0 { 0 } else { ready as u64 }
     }
 
-    /// Whether there is none.
+    /// Whether there is no such item.
     pub(crate) fn is_empty(&self, seat: &mut ChannelSeat<T>) -> bool
         requires { IsSeatOf self.now seat.old }
         ensures seat { IsSeatOf self.now seat.new }

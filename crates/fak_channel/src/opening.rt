@@ -18,11 +18,11 @@ use fak_queue::{Queue, Seat};
 use std::alloc::{AllocError, Global};
 
 impl<T: Drop> Channel<T> {
-    /// An empty channel of `size` cells, with a seat for each of its ends. A seat makes `stint - 1` sends and receives where no
-    /// call gives up or is refused, and fewer otherwise.
+    /// Opens an empty channel of `size` cells, with a seat for each of its ends. A seat performs `stint - 1` sends and
+    /// receives if no call gives up or is refused, and fewer otherwise.
     ///
-    /// `size` is 1 to `LARGE_SIZE`, and `ends` 1 to `LARGE_SEATS`. `stint` is at least 1, and `ends` times `stint` at most
-    /// `LARGE_TICKETS`.
+    /// `size` is 1 to `LARGE_SIZE`, and `ends` 1 to `LARGE_SEATS`. `stint` is at least 1, and `ends` times `stint` at
+    /// most `LARGE_TICKETS`.
     ///
     /// # Errors
     ///
@@ -48,7 +48,7 @@ impl<T: Drop> Channel<T> {
         }
     }
 
-    /// As `open`, but with the seats still to be dealt, so that no list of them is made.
+    /// As `open`, except that the seats are still to be dealt, so no list of them is allocated.
     ///
     /// # Errors
     ///
@@ -83,7 +83,7 @@ impl<T: Drop> Channel<T> {
         Ok((channel, undealt))
     }
 
-    /// The seats whose parts these are.
+    /// The undealt seats that have these parts.
     fn undealt(
         &self,
         _ends: u64,

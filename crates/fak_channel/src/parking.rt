@@ -1,4 +1,4 @@
-//! Steps of a semaphore that are made again until the call is done. Each waits only for a call of another seat that has begun.
+//! Steps of a semaphore that are repeated until the call is done. Each waits only for a call of another seat that has begun.
 
 ghost use Rattle.std.specs.Prelude.{◌≡◌};
 ghost use Rattle.fak_sem.specs.Standings.{IsParking, IsWaking};
@@ -9,7 +9,8 @@ use crossbeam_utils::Backoff;
 use fak_sem::{Semaphore, StepSeat};
 use std::sync::Wait;
 
-/// Parks the number of a down that did not pass.
+/// Parks the number of a down that did not pass. Its debit has come before; another thread may take the number out once
+/// it is in its cell.
 pub(crate) fn park_at_last<R: Wait>(count: &Semaphore<u64>, rt: &R, seat: &mut StepSeat<u64>)
     requires object { seat.old.seat.object ≡ count.now.object }
     requires parking { IsParking seat.old.standing }
@@ -27,7 +28,7 @@ pub(crate) fn park_at_last<R: Wait>(count: &Semaphore<u64>, rt: &R, seat: &mut S
     unreachable!()
 }
 
-/// The number that an up wakes.
+/// Takes the number that an up wakes out of the wait queue, and returns it. The credit of the up has come before.
 pub(crate) fn wake_at_last<R: Wait>(count: &Semaphore<u64>, rt: &R, seat: &mut StepSeat<u64>) -> u64
     requires object { seat.old.seat.object ≡ count.now.object }
     requires waking { IsWaking seat.old.standing }

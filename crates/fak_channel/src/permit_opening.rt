@@ -12,7 +12,7 @@ use crate::sleeper::Sleeper;
 use fak_sem::{SemSeat, Semaphore, StepSeat};
 use std::alloc::{AllocError, Global};
 
-/// This many permits to begin with, and a seat with a sleeper for each end.
+/// Opens this many permits, and a seat with a sleeper for each end.
 pub(crate) fn open_permits(
     alloc: Global,
     start: u64,

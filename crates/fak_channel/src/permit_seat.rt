@@ -7,7 +7,7 @@ use std::marker::Model;
 #[derive(Drop)]
 pub(crate) struct PermitSeat {
     pub(crate) count: StepSeat<u64>,
-    /// Which sleeper is its own.
+    /// The number of its own sleeper.
     pub(crate) number: u64,
     /// Whether its sleeper is in the wait queue, or was taken out and its thread does not know it yet.
     pub(crate) is_parked: bool,
@@ -31,7 +31,7 @@ impl PermitSeat {
     ghost use Rattle.std.specs.Prelude.{◌≡◌, ◌+◌};
     ghost use Rattle.fak_channel.specs.Permits.{calls_by};
 
-    /// How many downs and ups are left of the stint.
+    /// The number of downs and ups that are left of the stint.
     pub(crate) fn left(&self) -> u64
         ensures { result + calls_by self.now ≡ self.now.stint }
     {

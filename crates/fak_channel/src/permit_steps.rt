@@ -1,4 +1,4 @@
-//! Permits that are acquired and released by steps, none of which waits.
+//! Permits that are acquired and released by steps that never wait.
 
 ghost use Rattle.std.specs.Prelude.{◌≡◌, true, false};
 ghost use Rattle.fak_queue.specs.Queues.{size_of};
@@ -11,25 +11,25 @@ use crate::permits::Permits;
 use crate::sleeper::{Revived, Sleeper};
 use crate::step_permits::StepPermitSeat;
 
-/// What a step that seeks a permit finds.
+/// The result of a step that seeks a permit.
 pub(crate) enum Sought {
     /// The seat has a permit.
     Has,
-    /// There was none: the sleeper is to be parked.
+    /// There was no permit: the sleeper is to be parked next.
     Parks,
     /// The sleeper is in the wait queue.
     Sleeps,
-    /// The sleeper was taken out, and its permit went to another thread: the seat seeks again.
+    /// The sleeper was taken out, and its permit went to another thread: the seat is to seek again.
     Again,
 }
 
-/// What a step does that owes a wake.
+/// The result of a step that owes a wake.
 pub(crate) enum Roused {
-    /// It owes it still.
+    /// The wake is still owed.
     NotYet,
-    /// It met a thread that had given up: another up is to be made.
+    /// The thread of the sleeper that it took out had given up: another up is to follow.
     Again,
-    /// The thread of this sleeper is to be woken.
+    /// The thread of the sleeper with this number is to be woken.
     Wakes(u64),
 }
 
@@ -41,7 +41,8 @@ impl Permits {
         &self.sleepers[seat.number as usize]
     }
 
-    /// Seeks a permit.
+    /// Seeks a permit. If the sleeper is still parked from a call that gave up, that down is taken up again: a second one
+    /// would park the sleeper twice.
     pub(crate) fn seek(&self, seat: &mut StepPermitSeat) -> Sought
         requires object { seat.old.permit.object ≡ self.now }
         requires free { IsFree seat.old }
@@ -66,6 +67,9 @@ impl Permits {
     }
 
     /// Begins a down of a seat whose sleeper is not parked.
+    ///
+    /// The sleeper's word is cleared here, before the steps of `park`. From there on another thread can take the number
+    /// out of the wait queue and give the sleeper a permit, which a later store would delete.
     fn begin_down(&self, seat: &mut StepPermitSeat) -> Sought
         requires object { seat.old.permit.object ≡ self.now }
         requires free { IsFree seat.old }
@@ -85,7 +89,8 @@ impl Permits {
         }
     }
 
-    /// One step more of a down that parks its sleeper. True where it is parked.
+    /// Takes one more step of a down that parks its sleeper. Returns true if the sleeper is parked. Once the number is
+    /// in its cell of the wait queue, an up can take it out and wake the sleeper.
     pub(crate) fn park(&self, seat: &mut StepPermitSeat) -> bool
         requires object { seat.old.permit.object ≡ self.now }
         requires parking { IsParking seat.old.count.standing }
@@ -95,7 +100,8 @@ impl Permits {
         self.count.try_park(&mut seat.count)
     }
 
-    /// Whether a thread has woken the sleeper of this seat, which waits. The seat has a permit then.
+    /// Whether another thread has woken the sleeper of this seat, which waits. If so, the seat has a permit. It comes
+    /// after the sleeper is parked, since only then an up can find it.
     pub(crate) fn finds_wake(&self, seat: &mut StepPermitSeat) -> bool
         requires object { seat.old.permit.object ≡ self.now }
         ensures { WakesUpIf result seat.old seat.new }
@@ -107,7 +113,8 @@ impl Permits {
         is_woken
     }
 
-    /// Gives up a down whose sleeper is parked. True where a thread had woken the sleeper before: the seat has a permit then.
+    /// Gives up a down whose sleeper is parked. Returns true if another thread had woken the sleeper before: then the seat
+    /// has a permit. Otherwise the sleeper stays parked until an up takes it out or a later call takes the down up again.
     pub(crate) fn gives_up(&self, seat: &mut StepPermitSeat) -> bool
         requires object { seat.old.permit.object ≡ self.now }
         ensures { WakesUpIf result seat.old seat.new }
@@ -119,7 +126,7 @@ impl Permits {
         is_woken
     }
 
-    /// Begins an up, which releases a permit. True where it owes a wake.
+    /// Begins an up, which releases a permit. Returns whether it owes a wake.
     pub(crate) fn begin_up(&self, seat: &mut StepPermitSeat) -> bool
         requires object { seat.old.permit.object ≡ self.now }
         requires free { IsFree seat.old }
@@ -133,7 +140,8 @@ impl Permits {
         }
     }
 
-    /// One step more of an up that owes a wake.
+    /// Takes one more step of an up that owes a wake. If it takes a number out of the wait queue, it gives the permit to
+    /// that sleeper. If the sleeper's thread had given up and another up is possible, the permit is still to be released.
     pub(crate) fn rouse(&self, seat: &mut StepPermitSeat) -> Roused
         requires object { seat.old.permit.object ≡ self.now }
         requires waking { IsWaking seat.old.count.standing }

@@ -1,10 +1,10 @@
-//! Permits that threads acquire and release, and for which they sleep.
+//! Permits that threads acquire and release, and that they sleep for.
 
 use crate::sleeper::Sleeper;
 use fak_sem::Semaphore;
 use std::marker::Model;
 
-/// A count of permits. In its wait queue are the numbers of sleepers, of which each seat has one. Contracts see which
+/// A count of permits. Its wait queue contains numbers of sleepers; each seat has one sleeper. Contracts see which
 /// semaphore counts.
 #[derive(Drop)]
 pub(crate) struct Permits {

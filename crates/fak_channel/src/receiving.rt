@@ -15,7 +15,7 @@ use std::sync::Wait;
 use std::time::{Clock, Instant};
 
 impl<T: Drop> Channel<T> {
-    /// Receives the oldest item; sleeps while the channel is empty.
+    /// Receives the oldest item. Sleeps while the channel is empty.
     pub(crate) fn receive<R: Wait>(
         &self,
         rt: &R,
@@ -40,7 +40,7 @@ impl<T: Drop> Channel<T> {
         unreachable!()
     }
 
-    /// Receives the oldest item; sleeps while the channel is empty, until the deadline at most.
+    /// Receives the oldest item. Sleeps while the channel is empty, until the deadline at most.
     pub(crate) fn receive_deadline<R: Wait + Clock>(
         &self,
         rt: &R,
@@ -68,7 +68,7 @@ impl<T: Drop> Channel<T> {
         unreachable!()
     }
 
-    /// Receives the oldest item where there is one, and does not sleep.
+    /// Receives the oldest item if there is one, and does not sleep.
     pub(crate) fn try_receive<R: Wait>(
         &self,
         rt: &R,
@@ -100,7 +100,9 @@ impl<T: Drop> Channel<T> {
         }
     }
 
-    /// One attempt to delete, with a permit.
+    /// One attempt to delete, after the permit of an item was acquired.
+    ///
+    /// The permit of a cell is released only after the item is out of its cell: a sender with that permit may insert at once.
     fn take<R: Wait>(&self, rt: &R, seat: &mut ChannelSeat<T>) -> Taken<T>
         requires seat { IsSeatOf self.now seat.old }
         requires ticket { drawn_by seat.old.queue < seat.old.queue.stint }

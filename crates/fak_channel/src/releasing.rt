@@ -9,7 +9,7 @@ use crate::permits::Permits;
 use std::sync::Wait;
 
 impl Permits {
-    /// Releases a permit, and wakes a thread that waits for one.
+    /// Releases a permit, and wakes a thread that waits for one. It repeats the up while it finds threads that had given up.
     pub(crate) fn release<R: Wait>(&self, rt: &R, seat: &mut PermitSeat)
         requires object { seat.old.object ≡ self.now }
         requires left { calls_by seat.old < seat.old.stint }
@@ -23,7 +23,7 @@ impl Permits {
         unreachable!()
     }
 
-    /// An up: false where it met a thread that had given up, so that the permit is still to be released.
+    /// An up. Returns false if it found a thread that had given up, so that the permit is still to be released.
     fn goes_up<R: Wait>(&self, rt: &R, seat: &mut PermitSeat) -> bool
         requires object { seat.old.object ≡ self.now }
         requires left { calls_by seat.old < seat.old.stint }
@@ -40,7 +40,10 @@ impl Permits {
         }
     }
 
-    /// Gives a permit to this sleeper, and wakes its thread: false where it had given up, and there may be another up.
+    /// Gives a permit to this sleeper, and wakes its thread. Returns false if the thread had given up and another up is
+    /// possible.
+    ///
+    /// The wake comes after the mark: a thread that is woken before it would find no permit, and sleep again.
     fn wakes(&self, number: u64, may_go_on: bool) -> bool
         ensures { result ≡ false → may_go_on ≡ true }
     {
@@ -53,8 +56,8 @@ impl Permits {
         true
     }
 
-    /// Gives a permit to this sleeper: false where its thread had given up, and there may be another up. Where there may be none, the
-    /// permit stays with a thread that had given up, until its next call.
+    /// Gives a permit to this sleeper. Returns false if its thread had given up and another up is possible. If none is,
+    /// the permit stays with a thread that had given up, until its next call.
     pub(crate) fn marks(&self, number: u64, may_go_on: bool) -> bool
         ensures { result ≡ false → may_go_on ≡ true }
     {

@@ -14,7 +14,7 @@ use std::sync::Wait;
 use std::time::{Clock, Instant};
 
 impl<T: Drop> Channel<T> {
-    /// Sends the item; sleeps while the channel is full.
+    /// Sends the item. Sleeps while the channel is full.
     pub(crate) fn send<R: Wait>(
         &self,
         rt: &R,
@@ -36,7 +36,7 @@ impl<T: Drop> Channel<T> {
         }
     }
 
-    /// Sends the item; sleeps while the channel is full, until the deadline at most.
+    /// Sends the item. Sleeps while the channel is full, until the deadline at most.
     pub(crate) fn send_deadline<R: Wait + Clock>(
         &self,
         rt: &R,
@@ -92,7 +92,10 @@ impl<T: Drop> Channel<T> {
         }
     }
 
-    /// Inserts the item, with the permit of a cell. Where the queue is shut, the item comes back.
+    /// Inserts the item, after the permit of a cell was acquired. If the queue is shut, the item comes back.
+    ///
+    /// The permit of an item is released only after the item is in its cell: a receiver with that permit may delete at once.
+    /// If the queue is shut, the permit of the cell is released for the next sender, so that all sleeping senders learn it.
     fn put<R: Wait>(&self, rt: &R, seat: &mut ChannelSeat<T>, item: T) -> Result<(), T>
         requires seat { IsSeatOf self.now seat.old }
         requires ticket { drawn_by seat.old.queue < seat.old.queue.stint }

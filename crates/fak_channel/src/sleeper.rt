@@ -1,4 +1,4 @@
-//! The word by which a thread sleeps in a wait queue, and by which another wakes it.
+//! The word on which a thread sleeps while its number is in a wait queue, and by which another thread wakes it.
 
 use crossbeam_utils::CachePadded;
 use std::sync::Wait;
@@ -14,7 +14,7 @@ const WOKEN: u64 = 1;
 /// The thread has given up, and its sleeper is still in the wait queue.
 const GAVE_UP: u64 = 2;
 
-/// What a thread finds that waits again by a sleeper that it had given up.
+/// The result for a thread that waits again with a sleeper that it had given up.
 pub(crate) enum Revived {
     /// The sleeper is still in the wait queue.
     Waits,
@@ -24,8 +24,7 @@ pub(crate) enum Revived {
     Woken,
 }
 
-/// A thread's sleeper in one wait queue. Each race between a wake and a deadline is decided by which of them changes the word
-/// first.
+/// A thread's sleeper in one wait queue. A wake and a deadline may race: whichever changes the word first wins.
 #[derive(Drop)]
 pub(crate) struct Sleeper {
     word: CachePadded<AtomicU64>,
@@ -38,17 +37,19 @@ impl Sleeper {
         }
     }
 
-    /// Before the sleeper goes into the wait queue.
+    /// Clears the word, before the sleeper goes into the wait queue. From there on another thread may mark it, and a
+    /// later store would delete the mark.
     pub(crate) fn begin(&self) {
         self.word.store(WAITS, Ordering::SeqCst);
     }
 
-    /// Whether a permit was given to it.
+    /// Whether a permit was given to the sleeper.
     pub(crate) fn is_woken(&self) -> bool {
         self.word.load(Ordering::SeqCst) & WOKEN != 0
     }
 
-    /// Sleeps until it is woken.
+    /// Sleeps until the sleeper is woken. The load comes before each park, and the park returns at once if the word is
+    /// no longer `WAITS`. So a mark between the two is not missed.
     pub(crate) fn sleep<R: Wait>(&self, rt: &R) {
         for _ in rt.forever() {
             if self.is_woken() {
@@ -58,8 +59,8 @@ impl Sleeper {
         }
     }
 
-    /// Sleeps until it is woken, or gives up at the deadline. True where it was woken. A clock that cannot be read ends the
-    /// wait.
+    /// Sleeps until the sleeper is woken, or gives up at the deadline. Returns true if it was woken. A clock that
+    /// cannot be read ends the wait.
     pub(crate) fn sleep_until<R: Wait + Clock>(&self, rt: &R, deadline: Instant) -> bool {
         for _ in rt.forever() {
             if self.is_woken() {
@@ -77,12 +78,15 @@ impl Sleeper {
         unreachable!()
     }
 
-    /// Gives up; true where it was woken before.
+    /// Gives up. Returns true if the sleeper was woken before. One fetch-or sets `GAVE_UP` and finds `WOKEN`, so that
+    /// this and `mark` agree on which came first.
     pub(crate) fn give_up(&self) -> bool {
         self.word.fetch_or(GAVE_UP, Ordering::SeqCst) & WOKEN != 0
     }
 
-    /// Waits again after giving up.
+    /// Waits again after giving up. One fetch-and takes the give-up back, and finds whether a permit came in the
+    /// meantime. With both bits set, `mark` came after the give-up and the permit went to another thread. With only
+    /// `WOKEN` set, `keep` gave the permit to this thread.
     pub(crate) fn revive(&self) -> Revived {
         match self.word.fetch_and(WOKEN, Ordering::SeqCst) {
             WOKEN => Revived::Woken,
@@ -91,17 +95,19 @@ impl Sleeper {
         }
     }
 
-    /// Gives it a permit; false where the thread had given up, so that the permit is to go to another.
+    /// Gives the sleeper a permit. Returns false if its thread had given up, so that the permit is to go to another. It
+    /// comes after the number was taken out of the wait queue; one fetch-or decides the race with `give_up`.
     pub(crate) fn mark(&self) -> bool {
         self.word.fetch_or(WOKEN, Ordering::SeqCst) & GAVE_UP == 0
     }
 
-    /// Gives it a permit, which it keeps for the next call of a thread that had given up.
+    /// Gives the sleeper a permit, even if its thread had given up: the store overwrites the give-up, and the thread's
+    /// next call finds the permit.
     pub(crate) fn keep(&self) {
         self.word.store(WOKEN, Ordering::SeqCst);
     }
 
-    /// Wakes the thread.
+    /// Wakes the thread. It comes after `mark` or `keep`, since the thread loads the word again before it returns.
     pub(crate) fn wake(&self) {
         self.word.wake_one();
     }

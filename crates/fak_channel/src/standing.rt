@@ -1,6 +1,6 @@
-//! The state of an end whose calls go by steps, and what its steps tell.
+//! The state of an end whose calls go by steps, and the results of these steps.
 
-/// A call that seeks a permit.
+/// What a call wants that seeks a permit.
 #[derive(Clone, Copy, Debug, PartialEq, Eq, Drop)]
 pub enum Wish<T> {
     /// To send this item.
@@ -22,22 +22,22 @@ pub enum Outcome<T> {
     Drained,
     /// The stint of a receiver was used up before it found an item.
     Worn,
-    /// The channel was open, and is closed now.
+    /// The channel was open, and now it is closed.
     Closed,
     /// The channel had been closed before.
     WasClosed,
 }
 
-/// What a step of a call did.
+/// The result of a step of a call.
 #[derive(Clone, Copy, Debug, PartialEq, Eq, Drop)]
 pub enum ChannelStep<T> {
-    /// The call goes on by its next step.
+    /// The call goes on with its next step.
     GoesOn,
     /// The call waits for a step of another end's call that has begun.
     NotYet,
     /// The call sleeps until another end wakes it.
     Sleeps,
-    /// The thread of the end with this number is to be woken now. Then the call goes on.
+    /// The caller is to wake the thread of the end with this number now. Then the call goes on.
     Wakes(u64),
     /// The call is done.
     Ends(Outcome<T>),
@@ -50,7 +50,7 @@ pub enum ChannelState {
     Idle,
     /// A call is open.
     Open,
-    /// A call is open, and sleeps.
+    /// A call is open and sleeps.
     Sleeping,
 }
 
@@ -59,33 +59,33 @@ pub enum ChannelState {
 pub enum CallStanding<T> {
     /// No call is open.
     Idle,
-    /// A permit is to be sought.
+    /// A permit is to be sought next.
     Seeking(Wish<T>),
-    /// There was no permit: the sleeper is to be parked.
+    /// There was no permit: the sleeper is to be parked next.
     Parking(Wish<T>),
-    /// The sleeper is parked: whether it was woken is to be looked at.
+    /// The sleeper is parked: a look whether it was woken comes next.
     Sleeping(Wish<T>),
-    /// There is a permit: the item, or room for it, is to be claimed in the queue.
+    /// There is a permit: the item, or room for it, is to be claimed in the queue next.
     Claiming(Wish<T>),
-    /// The item is to be moved into its cell.
+    /// Room was claimed: the item is to be moved into its cell next.
     Inserting,
-    /// The item is to be moved out of its cell.
+    /// An item was claimed: it is to be moved out of its cell next.
     Deleting,
-    /// No item was found: whether the channel is drained is to be looked at.
+    /// No item was found: a look whether the channel is drained comes next.
     Looking,
-    /// The queue is to be shut.
+    /// The queue is to be shut next.
     Shutting,
-    /// The permit of a cell is to be released.
+    /// The permit of a cell is to be released next.
     ReleasingCell(Outcome<T>),
-    /// The permit of a cell was released, and a sender is to be woken.
+    /// The permit of a cell was released: a sender is to be woken next.
     WakingCell(Outcome<T>),
-    /// Whether the channel is drained is to be looked at, so that a receiver is told.
+    /// A look whether the channel is drained comes next; if it is, a receiver gets a permit.
     Announcing(Outcome<T>),
-    /// The permit of an item is to be released.
+    /// The permit of an item is to be released next.
     ReleasingItem(Outcome<T>),
-    /// The permit of an item was released, and a receiver is to be woken.
+    /// The permit of an item was released: a receiver is to be woken next.
     WakingItem(Outcome<T>),
-    /// All is done but to tell how the call ended.
+    /// All is done; the next step only returns how the call ended.
     Ending(Outcome<T>),
 }
 

@@ -1,4 +1,4 @@
-//! Looks at a channel by a seat that goes by steps.
+//! Looks at a channel by a seat whose calls go by steps.
 
 ghost use Rattle.std.specs.Prelude.{◌↔◌, IsTrue};
 ghost use Rattle.fak_model.specs.Queue.{Has};
@@ -10,7 +10,7 @@ use crate::channel::Channel;
 use crate::step_seat::ChannelStepSeat;
 
 impl<T: Drop> Channel<T> {
-    /// How many items are there that no receiver has claimed. The seat may be in a call by steps.
+    /// The number of items that no receiver has claimed. A call by steps of the seat may be open.
     pub fn step_len(&self, seat: &mut ChannelStepSeat<T>) -> u64
         requires { IsStepSeatOf self.now seat.old }
         ensures stands { IsStepSeatOf self.now seat.new }
@@ -21,7 +21,7 @@ impl<T: Drop> Channel<T> {
         if ready < 0 { 0 } else { ready as u64 }
     }
 
-    /// Whether the queue is shut. The seat may be in a call by steps.
+    /// Whether the queue is shut. A call by steps of the seat may be open.
     pub fn step_is_closed(&self, seat: &mut ChannelStepSeat<T>) -> bool
         requires { IsStepSeatOf self.now seat.old }
         ensures stands { IsStepSeatOf self.now seat.new }

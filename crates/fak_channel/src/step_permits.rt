@@ -1,4 +1,4 @@
-//! A seat of permits that goes by steps, none of which waits.
+//! A seat of permits whose calls go by steps that never wait.
 
 use crate::permit_seat::PermitSeat;
 use fak_sem::StepSeat;
@@ -8,7 +8,7 @@ use std::marker::Model;
 #[derive(Drop)]
 pub(crate) struct StepPermitSeat {
     pub(crate) count: StepSeat<u64>,
-    /// Which sleeper is its own.
+    /// The number of its own sleeper.
     pub(crate) number: u64,
     /// Whether its sleeper is in the wait queue or on its way there, or was taken out and its thread does not know it yet.
     pub(crate) is_parked: bool,
@@ -31,7 +31,7 @@ impl StepPermitSeat {
     ghost use Rattle.fak_channel.specs.Permits.{calls_by};
     ghost use Rattle.fak_channel.specs.StepPermits.{IsFree};
 
-    /// A seat that goes by steps from now on.
+    /// A seat whose calls go by steps from now on.
     pub(crate) fn of(seat: PermitSeat) -> StepPermitSeat
         ensures permit { result.permit ≡ seat }
         ensures free { IsFree result }
@@ -48,7 +48,7 @@ impl StepPermitSeat {
         }
     }
 
-    /// The seat as it was made, between two calls.
+    /// The seat as it was before `of`, between two calls.
     pub(crate) fn into_seat(self) -> PermitSeat
         requires { IsFree self }
         ensures { result ≡ self.permit }
@@ -65,7 +65,7 @@ impl StepPermitSeat {
         }
     }
 
-    /// How many downs and ups are left of the stint.
+    /// The number of downs and ups that are left of the stint.
     pub(crate) fn left(&self) -> u64
         ensures { result + calls_by self.now.permit ≡ self.now.permit.stint }
     {

@@ -1,4 +1,4 @@
-//! Steps of a call in the queue, with its permit.
+//! The steps of a call in the queue. They come after the call has its permit.
 
 ghost use Rattle.std.specs.Prelude.{◌≡◌};
 ghost use Rattle.fak_channel.specs.declared.standing.CallStanding.TheVariants.{Claiming, Deleting, Inserting, Looking, Shutting};
@@ -11,7 +11,8 @@ use crate::step_seat::ChannelStepSeat;
 use fak_queue::{DeleteFault, InsertFault};
 
 impl<T: Drop> Channel<T> {
-    /// Claims room for the item, once.
+    /// Claims room for the item once, with the permit of a cell. If the queue is full, the claim is to be repeated. If
+    /// it is shut, the permit is released again for the next sender.
     pub(crate) fn claim_room(&self, seat: &mut ChannelStepSeat<T>, item: T) -> ChannelStep<T>
         requires { IsStepSeatOf self.now (record seat.old { standing = Claiming (Send item) }) }
         ensures stands { IsStepSeatOf self.now seat.new }
@@ -36,7 +37,8 @@ impl<T: Drop> Channel<T> {
         }
     }
 
-    /// Claims an item, once.
+    /// Claims an item once, with a permit. If there is no item, the permit belonged to none, such as the one that a
+    /// drained channel hands on. So a look follows.
     pub(crate) fn claim_item(&self, seat: &mut ChannelStepSeat<T>) -> ChannelStep<T>
         requires { IsStepSeatOf self.now (record seat.old { standing = Claiming Receive }) }
         ensures stands { IsStepSeatOf self.now seat.new }
@@ -57,7 +59,8 @@ impl<T: Drop> Channel<T> {
         }
     }
 
-    /// Moves the item into its cell, if it is the cell's turn.
+    /// Moves the item into its cell, if it is the cell's turn. It comes after a granted claim, and before the permit of
+    /// the item is released: a receiver with that permit may delete at once.
     pub(crate) fn fill(&self, seat: &mut ChannelStepSeat<T>) -> ChannelStep<T>
         requires { IsStepSeatOf self.now (record seat.old { standing = Inserting }) }
         ensures stands { IsStepSeatOf self.now seat.new }
@@ -77,7 +80,8 @@ impl<T: Drop> Channel<T> {
         }
     }
 
-    /// Moves the item out of its cell, if it is the cell's turn.
+    /// Moves the item out of its cell, if it is the cell's turn. It comes after a granted claim, and before the permit
+    /// of the cell is released: a sender with that permit may insert at once.
     pub(crate) fn take_out(&self, seat: &mut ChannelStepSeat<T>) -> ChannelStep<T>
         requires { IsStepSeatOf self.now (record seat.old { standing = Deleting }) }
         ensures stands { IsStepSeatOf self.now seat.new }
@@ -97,7 +101,8 @@ impl<T: Drop> Channel<T> {
         }
     }
 
-    /// After a deletion that found no item: looks whether the channel is drained.
+    /// Looks whether the channel is drained, after a deletion that found no item. If it is, the permit is released
+    /// again for the next receiver. Otherwise the call seeks another permit, if its stint allows it.
     pub(crate) fn look(&self, seat: &mut ChannelStepSeat<T>) -> ChannelStep<T>
         requires { IsStepSeatOf self.now (record seat.old { standing = Looking }) }
         ensures stands { IsStepSeatOf self.now seat.new }
@@ -117,7 +122,7 @@ impl<T: Drop> Channel<T> {
         ChannelStep::GoesOn
     }
 
-    /// Shuts the queue.
+    /// Shuts the queue. It comes before a sender is woken, so that each sender woken from then on finds the queue shut.
     pub(crate) fn shut(&self, seat: &mut ChannelStepSeat<T>) -> ChannelStep<T>
         requires { IsStepSeatOf self.now (record seat.old { standing = Shutting }) }
         ensures stands { IsStepSeatOf self.now seat.new }

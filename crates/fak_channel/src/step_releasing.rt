@@ -1,4 +1,4 @@
-//! Steps by which a call releases permits, and tells the receivers of a closed channel that it is drained.
+//! The steps by which a call releases permits, and by which the receivers of a closed channel learn that it is drained.
 
 ghost use Rattle.std.specs.Prelude.{◌≡◌};
 ghost use Rattle.fak_channel.specs.declared.standing.CallStanding.TheVariants.{Announcing, ReleasingCell, ReleasingItem, WakingCell, WakingItem};
@@ -10,7 +10,8 @@ use crate::standing::{CallStanding, ChannelStep, Outcome};
 use crate::step_seat::ChannelStepSeat;
 
 impl<T: Drop> Channel<T> {
-    /// Releases the permit of a cell.
+    /// Releases the permit of a cell. It comes after the item was taken out of its cell. In a closed channel, it comes
+    /// after the shut, or after an insertion that found the queue shut; then the permit wakes the next sender.
     pub(crate) fn release_cell(
         &self,
         seat: &mut ChannelStepSeat<T>,
@@ -30,7 +31,8 @@ impl<T: Drop> Channel<T> {
         ChannelStep::GoesOn
     }
 
-    /// Takes a sender's number out of the wait queue.
+    /// Takes a sender's number out of the wait queue. It comes after the credit of the permit, which found that a
+    /// sender waits. If that sender had given up, the permit is released again.
     pub(crate) fn wake_sender(
         &self,
         seat: &mut ChannelStepSeat<T>,
@@ -58,7 +60,10 @@ impl<T: Drop> Channel<T> {
         }
     }
 
-    /// Looks whether the channel is drained: then the permit of an item goes to a receiver, who hands it on to the next.
+    /// Looks whether the channel is drained. If it is, the permit of an item goes to a receiver, who hands it on to the next.
+    ///
+    /// The look comes after the step that may have drained the channel. Without it, receivers could sleep forever,
+    /// since no item comes any more.
     pub(crate) fn announce(
         &self,
         seat: &mut ChannelStepSeat<T>,
@@ -78,7 +83,8 @@ impl<T: Drop> Channel<T> {
         ChannelStep::GoesOn
     }
 
-    /// Releases the permit of an item.
+    /// Releases the permit of an item. It comes after the item was moved into its cell, or after a look that found the
+    /// channel drained; then the permit wakes the next receiver.
     pub(crate) fn release_item(
         &self,
         seat: &mut ChannelStepSeat<T>,
@@ -98,7 +104,8 @@ impl<T: Drop> Channel<T> {
         ChannelStep::GoesOn
     }
 
-    /// Takes a receiver's number out of the wait queue.
+    /// Takes a receiver's number out of the wait queue. It comes after the credit of the permit, which found that a
+    /// receiver waits. If that receiver had given up, the permit is released again.
     pub(crate) fn wake_receiver(
         &self,
         seat: &mut ChannelStepSeat<T>,

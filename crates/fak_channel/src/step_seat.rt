@@ -1,4 +1,4 @@
-//! A seat of a channel that goes by steps, none of which waits.
+//! A seat of a channel whose calls go by steps that never wait.
 
 ghost use Rattle.std.specs.Prelude.{◌≡◌, ◌+◌, ◌<◌, true, false};
 ghost use Rattle.fak_queue.specs.Queues.{drawn_by};
@@ -14,8 +14,8 @@ use crate::step_permits::StepPermitSeat;
 use fak_queue::Seat;
 use std::fmt;
 
-/// The right to send to a channel, to receive from it and to close it by steps that never wait. Between the steps of a call it
-/// keeps the item that is to be sent. Contracts see its parts, and how far its call has come.
+/// The right to send to a channel, to receive from it and to close it by steps that never wait. Between the steps of a
+/// call it keeps the item that is to be sent. Contracts see its parts, and how far its call has come.
 #[derive(Drop)]
 pub struct ChannelStepSeat<T> {
     pub(crate) queue: Seat<T>,
@@ -25,7 +25,7 @@ pub struct ChannelStepSeat<T> {
 }
 
 impl<T: Drop> Channel<T> {
-    /// A seat that goes by steps from now on.
+    /// A seat whose calls go by steps from now on.
     pub fn step_seat(&self, seat: ChannelSeat<T>) -> ChannelStepSeat<T>
         requires { IsSeatOf self.now seat }
         ensures seat { rest_of result ≡ seat }
@@ -45,7 +45,7 @@ impl<T: Drop> Channel<T> {
         }
     }
 
-    /// The seat as it was made, between two calls.
+    /// The seat as it was before `step_seat`, between two calls.
     pub fn into_seat(&self, seat: ChannelStepSeat<T>) -> ChannelSeat<T>
         requires stands { IsStepSeatOf self.now seat }
         requires idle { seat.standing ≡ Idle }
@@ -67,21 +67,21 @@ impl<T: Drop> Channel<T> {
 }
 
 impl<T> ChannelStepSeat<T> {
-    /// Whether a call is open, and sleeps.
+    /// Whether a call is open, and whether it sleeps.
     pub fn state(&self) -> ChannelState
         ensures { result ≡ call_state self.now.standing }
     {
         self.standing.state()
     }
 
-    /// The number of the end: those of a channel are numbered from 0, in the order in which they were opened.
+    /// The number of the end. The ends of a channel are numbered from 0, in the order in which they were opened.
     pub fn number(&self) -> u64
         ensures { result ≡ self.now.items.permit.name }
     {
         self.items.number
     }
 
-    /// How many calls are left of the stint, as many as are made if none gives up and none meets a thread that had given up. At 0
+    /// The number of calls that are left of the stint, if none gives up and none finds a thread that had given up. At 0
     /// no call begins.
     pub fn left(&self) -> u64
         ensures { IsLeft result self.now }

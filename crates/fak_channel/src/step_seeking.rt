@@ -10,7 +10,7 @@ use crate::permit_steps::Sought;
 use crate::standing::{CallStanding, ChannelStep, Wish};
 use crate::step_seat::ChannelStepSeat;
 
-/// The standing of a call that has sought a permit.
+/// The state of a call after it has sought a permit.
 fn after_seek<T>(sought: Sought, wish: Wish<T>) -> CallStanding<T>
     ensures { result ≡ after_seek sought wish }
 {
@@ -23,7 +23,8 @@ fn after_seek<T>(sought: Sought, wish: Wish<T>) -> CallStanding<T>
 }
 
 impl<T: Drop> Channel<T> {
-    /// Seeks the permit of a cell.
+    /// Seeks the permit of a cell. It comes before the claim of room: a sender without a permit sleeps, and does not
+    /// retry claims.
     pub(crate) fn seek_cell(&self, seat: &mut ChannelStepSeat<T>, item: T) -> ChannelStep<T>
         requires { IsStepSeatOf self.now (record seat.old { standing = Seeking (Send item) }) }
         ensures stands { IsStepSeatOf self.now seat.new }
@@ -36,7 +37,8 @@ impl<T: Drop> Channel<T> {
         ChannelStep::GoesOn
     }
 
-    /// Parks the sleeper that waits for a cell.
+    /// Parks the sleeper that waits for a cell. It comes after a down that found no permit, and before the call sleeps:
+    /// only a parked sleeper can be woken.
     pub(crate) fn park_for_cell(&self, seat: &mut ChannelStepSeat<T>, item: T) -> ChannelStep<T>
         requires { IsStepSeatOf self.now (record seat.old { standing = Parking (Send item) }) }
         ensures stands { IsStepSeatOf self.now seat.new }
@@ -53,7 +55,8 @@ impl<T: Drop> Channel<T> {
         }
     }
 
-    /// Looks whether the sleeper that waits for a cell was woken.
+    /// Looks whether the sleeper that waits for a cell was woken. It comes after the sleeper is parked. If it was
+    /// woken, the call has the permit of a cell, and room is to be claimed.
     pub(crate) fn wait_for_cell(&self, seat: &mut ChannelStepSeat<T>, item: T) -> ChannelStep<T>
         requires { IsStepSeatOf self.now (record seat.old { standing = Sleeping (Send item) }) }
         ensures stands { IsStepSeatOf self.now seat.new }
@@ -70,7 +73,8 @@ impl<T: Drop> Channel<T> {
         }
     }
 
-    /// Seeks the permit of an item.
+    /// Seeks the permit of an item. It comes before the claim of an item: a receiver without a permit sleeps, and does
+    /// not retry claims.
     pub(crate) fn seek_item(&self, seat: &mut ChannelStepSeat<T>) -> ChannelStep<T>
         requires { IsStepSeatOf self.now (record seat.old { standing = Seeking Receive }) }
         ensures stands { IsStepSeatOf self.now seat.new }
@@ -83,7 +87,8 @@ impl<T: Drop> Channel<T> {
         ChannelStep::GoesOn
     }
 
-    /// Parks the sleeper that waits for an item.
+    /// Parks the sleeper that waits for an item. It comes after a down that found no permit, and before the call
+    /// sleeps: only a parked sleeper can be woken.
     pub(crate) fn park_for_item(&self, seat: &mut ChannelStepSeat<T>) -> ChannelStep<T>
         requires { IsStepSeatOf self.now (record seat.old { standing = Parking Receive }) }
         ensures stands { IsStepSeatOf self.now seat.new }
@@ -100,7 +105,8 @@ impl<T: Drop> Channel<T> {
         }
     }
 
-    /// Looks whether the sleeper that waits for an item was woken.
+    /// Looks whether the sleeper that waits for an item was woken. It comes after the sleeper is parked. If it was
+    /// woken, the call has a permit, and an item is to be claimed.
     pub(crate) fn wait_for_item(&self, seat: &mut ChannelStepSeat<T>) -> ChannelStep<T>
         requires { IsStepSeatOf self.now (record seat.old { standing = Sleeping Receive }) }
         ensures stands { IsStepSeatOf self.now seat.new }

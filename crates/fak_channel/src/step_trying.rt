@@ -1,4 +1,4 @@
-//! How tries by steps begin, with a look. None of them waits.
+//! How tries by steps begin, each with a look. None of them waits.
 
 ghost use Rattle.std.specs.Prelude.{◌≡◌, ◌<ℤ◌, pos, IfOk, MatchResult};
 ghost use Rattle.fak_model.specs.Queue.{upper_count};
@@ -13,8 +13,8 @@ use crate::standing::{CallStanding, Wish};
 use crate::step_seat::ChannelStepSeat;
 
 impl<T: Drop> Channel<T> {
-    /// Looks whether there is a free cell, and begins to send the item, which the seat keeps. The call is one that does not sleep
-    /// if it is given up where it would.
+    /// Looks whether there is a free cell. If there is, begins to send the item, which the seat keeps. To make it a
+    /// call that does not sleep, give it up as soon as it would sleep.
     ///
     /// # Errors
     ///
@@ -41,8 +41,8 @@ impl<T: Drop> Channel<T> {
         Ok(())
     }
 
-    /// Looks whether there is an item, and begins to receive one. The call is one that does not sleep if it is given up where it
-    /// would.
+    /// Looks whether there is an item. If there is, begins to receive one. To make it a call that does not sleep, give
+    /// it up as soon as it would sleep.
     ///
     /// # Errors
     ///

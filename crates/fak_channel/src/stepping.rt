@@ -1,4 +1,4 @@
-//! Calls by steps, none of which waits: their steps, and how they are given up.
+//! Calls by steps that never wait: their steps, and how they are given up.
 
 ghost use Rattle.std.specs.Prelude.{◌≡◌, MatchOption};
 ghost use Rattle.fak_channel.specs.declared.standing.CallStanding.TheVariants.{Idle};
@@ -10,11 +10,11 @@ use crate::standing::{CallStanding, ChannelStep, Wish};
 use crate::step_seat::ChannelStepSeat;
 use std::mem;
 
-/// The most steps that `steps` makes.
+/// The most steps that `steps` takes.
 pub const STEPS_AT_ONCE: u64 = 16;
 
 impl<T: Drop> Channel<T> {
-    /// One step more of the open call. It does not wait.
+    /// Takes one more step of the open call. It does not wait.
     pub fn step(&self, seat: &mut ChannelStepSeat<T>) -> ChannelStep<T>
         requires stands { IsStepSeatOf self.now seat.old }
         requires in_call { IsInCall seat.old }
@@ -46,7 +46,7 @@ impl<T: Drop> Channel<T> {
         }
     }
 
-    /// Steps of the open call until one does not go on, or `STEPS_AT_ONCE` of them are made. None of them waits.
+    /// Takes steps of the open call until one does not go on, or `STEPS_AT_ONCE` of them are taken. None of them waits.
     pub fn steps(&self, seat: &mut ChannelStepSeat<T>) -> ChannelStep<T>
         requires stands { IsStepSeatOf self.now seat.old }
         requires in_call { IsInCall seat.old }
@@ -67,8 +67,8 @@ impl<T: Drop> Channel<T> {
         ChannelStep::GoesOn
     }
 
-    /// Gives up a call that sleeps: what was asked comes back, and no call is open then. `None` where another end had woken the
-    /// call before: the call goes on by its next step.
+    /// Gives up a call that sleeps. What was asked comes back, and no call is open then. Returns `None` if another end
+    /// had woken the call before: then the call goes on with its next step.
     pub fn give_up(&self, seat: &mut ChannelStepSeat<T>) -> Option<Wish<T>>
         requires stands { IsStepSeatOf self.now seat.old }
         requires asleep { IsAsleep seat.old }

@@ -6,6 +6,6 @@ pub(crate) enum Taken<T> {
     Item(T),
     /// The channel is closed and drained.
     Drained,
-    /// Neither: the permit was not of an item.
+    /// Neither of these: the permit belonged to no item.
     Nothing,
 }

@@ -18,7 +18,7 @@ pub struct UndealtSeats<T> {
 }
 
 impl<T: Drop> UndealtSeats<T> {
-    /// The next seat; `None` once all are dealt.
+    /// The next seat, or `None` once all are dealt.
     pub fn next(&mut self) -> Option<ChannelSeat<T>>
         ensures { (c : Channel T) (stint name left : ℕ) → AreUndealt c stint name left self.old
             → DealsNext c stint name left self.new result }

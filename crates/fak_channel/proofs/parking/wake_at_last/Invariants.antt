@@ -3,7 +3,7 @@ use Rattle.fak_sem.specs.Standings.{IsWaking}
 use Rattle.fak_sem.specs.Steps.{SameCredit}
 use Rattle.fak_channel.proofs.parking.wake_at_last.Given as goal
 
--- the up still owes a wake, and its credit was made before
+-- the up still owes a wake, and its credit came before the loop
 abbrev pub invariant-loop : goal.invariant-loop
 invariant-loop g l = record {
   object : l.seat.seat.object ≡ l.count.object;

@@ -3,7 +3,7 @@ use Rattle.std.specs.List.{All}
 use Rattle.fak_channel.specs.Channels.{IsSeatOf}
 use Rattle.fak_channel.proofs.channel.Channel.ends.Given as goal
 
--- the ends that are made have the first of the seats, and the others are to come
+-- the ends so far have the first of the seats, and the other seats are still to come
 abbrev pub invariant-loop-seat : goal.invariant-loop-seat
 invariant-loop-seat g l = record {
   seats : map (λ e. e.seat) l.ends.items ++ l.left.rest.items ≡ l.fn.seats.items;

@@ -3,7 +3,7 @@ use Rattle.fak_channel.specs.Channels.{fresh_channel_seats}
 use Rattle.fak_channel.specs.Undealt.{AreUndealt}
 use Rattle.fak_channel.proofs.channel.Channel.seats.Given as goal
 
--- the seats below this name are dealt, and the others are to come
+-- the seats below this name are dealt, and the others are still to come
 abbrev pub invariant-loop-name : goal.invariant-loop-name
 invariant-loop-name g l = record {
   rest : AreUndealt l.self l._stint l._name (l.ends - l._name) l.rest;

@@ -2,7 +2,7 @@ use Rattle.std.proofs.Common.{◌≡◌, ◌<◌, ◌≤◌}
 use Rattle.fak_channel.specs.Permits.{IsLater, calls_by}
 use Rattle.fak_channel.proofs.permits.Permits.release.Given as goal
 
--- so far each up met a thread that had given up
+-- so far each up found a thread that had given up
 abbrev pub invariant-loop : goal.invariant-loop
 invariant-loop g l = record {
   object : l.seat.object ≡ l.self;

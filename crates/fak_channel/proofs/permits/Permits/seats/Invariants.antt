@@ -3,7 +3,7 @@ use Rattle.fak_channel.specs.Permits.{dealt, fresh_permits}
 use Rattle.fak_channel.proofs.Deals.{fresh_sem_seat}
 use Rattle.fak_channel.proofs.permits.Permits.seats.Given as goal
 
--- the seats below this number are made, and the others are to come
+-- the seats below this number are made, and the others are still to come
 abbrev pub invariant-loop-number : goal.invariant-loop-number
 invariant-loop-number l =
     (l.counts.rest.items ≡ dealt (fresh_sem_seat l.self l.stint) l.number (l.ends - l.number))
