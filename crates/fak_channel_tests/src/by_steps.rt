@@ -1,4 +1,4 @@
-//! Calls by steps: of one thread, and storms of threads that sleep by tokens of their own, or give up.
+//! Calls by steps: of one thread, and storms of threads that sleep on tokens of their own, or give up.
 
 use super::assertions::{assert_case, assert_equal};
 use super::stepper::{Ended, Stepper, Tokens};
@@ -29,7 +29,7 @@ fn close<R: Abort + Wait>(rt: &R, end: &mut Stepper<'_>) -> Ended {
     end.finish(rt)
 }
 
-/// The last of the ends, which goes by steps and gives up each call that sleeps.
+/// Takes the last of the ends. Its calls go by steps, and it gives up each call that sleeps.
 fn next<'c>(rt: &impl Abort, ends: &mut Vec<End<'c, u64>>, tokens: &'c Tokens) -> Stepper<'c> {
     let end = ends.pop().expect(rt, "an end");
     Stepper::new(end, tokens, 0)
@@ -89,7 +89,7 @@ fn an_end_with_a_stint_of_1_makes_no_call(rt: HostRuntime) {
     assert_equal(&rt, end.begin_close(&rt), Err(ChannelWorn));
 }
 
-/// Steps of the call, one by one, until one does not go on.
+/// Takes steps of the call, one by one, until one does not go on.
 fn goes_on(rt: &impl Abort, end: &mut Stepper<'_>) -> ChannelStep<u64> {
     let mut step = ChannelStep::GoesOn;
     for _ in 0..99 {
@@ -123,7 +123,7 @@ fn a_send_wakes_the_receiver_that_sleeps(rt: HostRuntime) {
     );
 }
 
-/// Closes the channel while the call of end 1 sleeps. The close wakes it, and its call ends so.
+/// Closes the channel while the call of end 1 sleeps. The close wakes it, and its call ends with this outcome.
 fn close_wakes<R: Abort + Wait>(
     rt: &R,
     closer: &mut Stepper<'_>,
@@ -160,7 +160,7 @@ fn a_close_wakes_the_sender_that_sleeps(rt: HostRuntime) {
     close_wakes(&rt, &mut closer, &mut sender, Outcome::Refused(11));
 }
 
-/// What a thread does: it sends items from the first number on, as many as the second says, or receives until the end.
+/// What a thread does. It sends items from the first number on, as many as the second number; or it receives until the end.
 #[derive(Clone, Copy, Debug, Drop)]
 enum Role {
     Sends(u64, u64),
@@ -174,7 +174,7 @@ struct Job<'c> {
     role: Role,
 }
 
-/// Sends the items, each again if the call gave up.
+/// Sends the items, and sends an item again if its call gave up.
 fn send_all<R: Abort + Wait>(rt: &R, end: &mut Stepper<'_>, first: u64, count: u64) {
     let mut sent = 0u64;
     for _ in rt.forever() {
@@ -202,7 +202,7 @@ fn receive_all<R: Abort + Wait>(rt: &R, end: &mut Stepper<'_>) -> u64 {
     sum
 }
 
-/// Does what the thread is to do. The last sender closes the channel. Returns the sum of what the thread received.
+/// Does what the thread should do. The last sender closes the channel. Returns the sum of what the thread received.
 fn work<R: Abort + Wait>(rt: &R, senders_left: &AtomicU64, job: Job<'_>) -> u64 {
     let Job { mut end, role } = job;
     match role {
@@ -217,7 +217,7 @@ fn work<R: Abort + Wait>(rt: &R, senders_left: &AtomicU64, job: Job<'_>) -> u64 
     }
 }
 
-/// Has threads send and receive by steps. The sum of what they receive is the sum of what they send.
+/// Lets threads send and receive by steps. Checks that the sum of what they receive is the sum of what they send.
 fn rage<R: Abort + AllocGlobal + Threads + Wait + Sync>(
     rt: &R,
     shape: (u64, u64, u64),

@@ -1,4 +1,4 @@
-//! What callers conclude from the clauses of an end, in public words.
+//! What callers can conclude from the clauses of an end, in public terms.
 
 ghost use Rattle.std.specs.Prelude.{◌≡◌, ℕ, [], Some, IfErr, IfOk};
 ghost use Rattle.fak_model.specs.Queue.{contents, item_at, items_put};
@@ -11,7 +11,7 @@ use fak_channel::{End, ReceiveFault};
 use fak_queue::laws::a_drained_queue_stays_empty;
 use std::sync::Wait;
 
-/// Receives an item. If the channel is closed and drained, nothing is left in it, as far as the end has seen.
+/// Receives an item. If the channel is closed and drained, the end has seen that nothing is left in it.
 pub fn next<R: Wait>(rt: &R, end: &mut End<'_, u64>) -> Result<u64, ReceiveFault>
     ensures { result ≡ Err ReceiveFault.Closed → contents end.new.seat.queue.seen ≡ [] }
 {

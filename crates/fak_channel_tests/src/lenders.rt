@@ -1,4 +1,4 @@
-//! More callers than ends: each borrows an end, and gives it back.
+//! More callers than ends: each borrows an end and gives it back.
 
 use super::assertions::assert_equal;
 use super::steps::open;
@@ -7,7 +7,7 @@ use std::process::Abort;
 use std::sync::Wait;
 use std::thread::{Threads, map_vec};
 
-/// How many items each sender sends.
+/// The number of items that each sender sends.
 const ITEMS: u64 = 200;
 
 /// A lender of the last two of these ends.
@@ -23,7 +23,7 @@ fn lender_of_two<'c, R: Abort + AllocGlobal + Wait>(
     lender
 }
 
-/// What a caller does, and what the sum of its items is.
+/// What a caller does. Returns the sum of its items.
 fn call<R: Abort + Wait>(
     rt: &R,
     senders: &Lender<'_, u64>,

@@ -8,17 +8,17 @@ use std::sync::Wait;
 use std::thread::{Threads, map_vec, sleep};
 use std::time::{Clock, CpuClock, Duration, Instant};
 
-/// The steps of a thread, and after how many milliseconds it begins.
+/// The steps of a thread, and the number of milliseconds after which it begins.
 type Part = (u64, &'static [Step]);
 
-/// An end, and its part.
+/// An end and its part.
 #[derive(Drop)]
 struct Job<'c> {
     end: End<'c, u64>,
     part: Part,
 }
 
-/// Makes the steps of the job, in their order.
+/// Performs the steps of the job in their order.
 fn work<R: Abort + Wait + Clock>(rt: &R, job: Job<'_>) {
     let Job { mut end, part } = job;
     sleep(rt, Duration::from_millis(part.0));
@@ -48,7 +48,7 @@ fn jobs_of<'c, R: Abort + AllocGlobal + Wait>(
     jobs
 }
 
-/// Sends these items into a channel of `size` cells, and has a thread for each of the parts.
+/// Sends these items into a channel of `size` cells, and then runs a thread for each of the parts.
 fn at_once<R: Abort + AllocGlobal + Threads + Wait + Clock + Sync>(
     rt: &R,
     size: u64,

@@ -1,4 +1,4 @@
-//! Ends that go by steps, for tests: who waits, and how, is up to the test.
+//! Ends whose calls go by steps, for tests: the test decides who waits, and how.
 
 ghost use Rattle.std.specs.Prelude.{◌≡◌};
 ghost use Rattle.fak_channel.specs.ChannelSteps.{IsStepSeatOf};
@@ -13,7 +13,7 @@ use std::sync::Wait;
 use std::sync::atomic::{AtomicU64, Ordering};
 use std::thread;
 
-/// A word for each end, which is 1 if the thread of the end is to wake up.
+/// A word for each end, which is 1 if the end's thread should wake up.
 #[derive(Drop)]
 pub(crate) struct Tokens {
     words: Vec<AtomicU64>,
@@ -58,7 +58,8 @@ pub(crate) enum Ended {
     GaveUp(Wish<u64>),
 }
 
-/// An end that goes by steps, with the tokens of all ends. Its patience is how many sleeps a call makes before it gives up.
+/// An end whose calls go by steps, with the tokens of all ends. Its patience is the number of sleeps of a call before
+/// it gives up.
 #[derive(Drop)]
 pub(crate) struct Stepper<'c> {
     channel: &'c Channel<u64>,
@@ -139,7 +140,7 @@ impl<'c> Stepper<'c> {
         }
     }
 
-    /// One step of the open call.
+    /// Takes one step of the open call.
     pub(crate) fn step(&mut self, rt: &impl Abort) -> ChannelStep<u64> {
         match self.seat.state() {
             ChannelState::Idle => panic!(rt; "in no call"),
@@ -147,7 +148,7 @@ impl<'c> Stepper<'c> {
         }
     }
 
-    /// Steps of the open call.
+    /// Takes steps of the open call.
     pub(crate) fn steps(&mut self, rt: &impl Abort) -> ChannelStep<u64> {
         match self.seat.state() {
             ChannelState::Idle => panic!(rt; "in no call"),
@@ -163,7 +164,7 @@ impl<'c> Stepper<'c> {
         }
     }
 
-    /// Sleeps, or gives up if the patience is at its end. With the most patience a call never gives up.
+    /// Sleeps, or gives up if the patience is used up. With the largest patience a call never gives up.
     fn sleep<R: Abort + Wait>(&mut self, rt: &R, slept: u64) -> Option<Wish<u64>> {
         if self.patience == u64::MAX {
             self.tokens.park(rt, self.seat.number());

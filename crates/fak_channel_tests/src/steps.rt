@@ -1,4 +1,4 @@
-//! Steps of ends, as rows of tests: which end makes which call, and what it answers.
+//! Steps of ends, as rows of tests: which end performs which call, and what it returns.
 
 ghost use Rattle.std.specs.Prelude.{All};
 ghost use Rattle.fak_channel.specs.Channels.{IsSeatOf};
@@ -17,13 +17,13 @@ pub(crate) const B: usize = 1;
 /// The third end.
 pub(crate) const C: usize = 2;
 
-/// What a send answers.
+/// What a send returns.
 pub(crate) type Sent = Result<(), SendFault<u64>>;
 
-/// What a receiver gets.
+/// What a receive returns.
 pub(crate) type Received = Result<u64, ReceiveFault>;
 
-/// A call with its answer. `Soon` is a call whose deadline is a millisecond later.
+/// A call with its result. `Soon` is a call whose deadline is a millisecond later.
 #[derive(Debug)]
 pub(crate) enum Step {
     Send(u64, Sent),
@@ -45,7 +45,7 @@ pub(crate) fn soon<R: Abort + Clock>(rt: &R, millis: u64) -> Instant {
         .expect(rt, "a time")
 }
 
-/// Makes the call, and tells whether it was answered so.
+/// Performs the call. Returns whether the result was the expected one.
 pub(crate) fn meets<R: Abort + Wait + Clock>(rt: &R, end: &mut End<'_, u64>, step: &Step) -> bool {
     match step {
         Step::Send(item, answer) => end.send(rt, *item) == *answer,
@@ -76,7 +76,7 @@ pub(crate) fn open<T: Drop>(
     }
 }
 
-/// A channel of `size` cells, three ends and this stint, in which the ends make the calls in their order.
+/// Opens a channel of `size` cells with three ends and this stint, in which the ends perform the calls in their order.
 pub(crate) fn walk<R: Abort + AllocGlobal + Wait + Clock>(
     rt: &R,
     size: u64,

@@ -9,17 +9,17 @@ use std::sync::atomic::{AtomicU64, Ordering};
 use std::thread::{Threads, map_vec};
 use std::time::{Clock, Duration, Instant};
 
-/// What a storm is.
+/// The parameters of a storm.
 #[derive(Clone, Copy, Debug, Drop)]
 struct Storm {
     size: u64,
     senders: u64,
     receivers: u64,
-    /// How many items each sender sends.
+    /// The number of items that each sender sends.
     items: u64,
-    /// How many kinds of calls are made: those that sleep, tries, and those with a deadline, in this order.
+    /// The number of kinds of calls: calls that sleep, tries, and calls with a deadline, in this order.
     kinds: u64,
-    /// Whether the first sender closes the channel halfway; else the last sender does at its end.
+    /// Whether the first sender closes the channel halfway. Otherwise the last sender closes it when it is done.
     closes_early: bool,
 }
 
@@ -93,7 +93,7 @@ fn soon<R: Abort + Clock>(rt: &R, step: u64) -> Instant {
         .expect(rt, "a time")
 }
 
-/// Sends the item by the kind of call that this step has.
+/// Sends the item by the kind of call for this step.
 fn send_by<R: Abort + Wait + Clock>(
     rt: &R,
     end: &mut End<'_, u64>,
@@ -108,7 +108,7 @@ fn send_by<R: Abort + Wait + Clock>(
     }
 }
 
-/// Receives by the kind of call that this step has.
+/// Receives by the kind of call for this step.
 fn receive_by<R: Abort + Wait + Clock>(
     rt: &R,
     end: &mut End<'_, u64>,
@@ -122,7 +122,7 @@ fn receive_by<R: Abort + Wait + Clock>(
     }
 }
 
-/// Whether the sender goes on; each item that was not sent came back.
+/// Whether the sender goes on. Checks that the item that was not sent came back.
 fn goes_on<R: Abort>(rt: &R, item: u64, fault: SendFault<u64>) -> bool {
     let (goes, back) = match fault {
         SendFault::Closed { item } => (false, item),
@@ -134,7 +134,7 @@ fn goes_on<R: Abort>(rt: &R, item: u64, fault: SendFault<u64>) -> bool {
     goes
 }
 
-/// Sends items from this one on, and tries again where the channel is full.
+/// Sends items from this one on, and tries again if the channel is full.
 fn send_all<R: Abort + Wait + Clock>(
     rt: &R,
     end: &mut End<'_, u64>,
@@ -181,7 +181,7 @@ fn receive_all<R: Abort + Wait + Clock>(rt: &R, end: &mut End<'_, u64>, storm: S
     received
 }
 
-/// Does what the thread is to do. The last sender closes the channel.
+/// Does what the thread should do. The last sender closes the channel.
 fn work<R: Abort + Wait + Clock>(rt: &R, shared: &Shared, job: Job<'_>) -> Done {
     let Job { mut end, role } = job;
     let mut done = Done {
@@ -220,7 +220,7 @@ fn jobs_of<'c, R: Abort + AllocGlobal>(
     jobs
 }
 
-/// Has the threads of a storm send and receive. What was sent is what was received.
+/// Lets the threads of a storm send and receive. Checks that what was received is what was sent.
 fn rage<R: Abort + AllocGlobal + Threads + Wait + Clock + Sync>(rt: &R, storm: Storm) {
     let ends = storm.senders.wrapping_add(storm.receivers);
     let (channel, seats) = open(rt, storm.size, ends, 1 << 40);
