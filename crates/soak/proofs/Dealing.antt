@@ -1,4 +1,4 @@
--- Seats that were just dealt are of their object, and in no call.
+-- Seats that were just dealt belong to their object, and no call of them is open.
 use Rattle.std.proofs.Common.{◌≡◌, ℕ, zero, suc, List, [], refl, subst, sym}
 use Rattle.std.proofs.lemmas.List.Elements.{All-nil, All-cons}
 use Rattle.fak_model.specs.declared.queue.Mark.{Mark}

@@ -12,13 +12,13 @@ use std::process::ExitCode;
 use std::rt::Env;
 use std::{env, io};
 
-/// No more millions than this.
+/// The largest number of millions.
 const MOST_MILLIONS: u64 = 1000;
 
-/// A million calls take this many rounds.
+/// The number of rounds for a million calls.
 const ROUNDS: u64 = 1000;
 
-/// The rounds where no number is asked for.
+/// The number of rounds if none is asked for.
 const FEW_ROUNDS: u64 = 20;
 
 /// The grammar of the command line.
@@ -44,7 +44,7 @@ fn millions_from(matches: &ArgMatches) -> Result<Option<u64>, Fault>
     }
 }
 
-/// Why the words were not read.
+/// The fault for words that could not be read.
 fn fault_of(error: &clap::Error) -> Fault {
     match error.kind() {
         ErrorKind::OutOfMemory => Fault::Memory,
@@ -72,7 +72,7 @@ fn words_of(rt: &(impl AllocGlobal + Env)) -> Result<Vec<String>, Fault> {
     }
 }
 
-/// Runs all parts.
+/// Runs all parts, as the command line asks.
 fn run<R: Machine + Print + AllocGlobal + Env>(rt: &R) -> Result<(), Fault> {
     match millions_of(rt.alloc(), words_of(rt)?)? {
         Some(millions) => {
@@ -88,7 +88,7 @@ fn run<R: Machine + Print + AllocGlobal + Env>(rt: &R) -> Result<(), Fault> {
     Ok(())
 }
 
-/// Runs the program, with its faults on `errors`.
+/// Runs the program, and prints its faults on `errors`.
 pub fn run_process<R: Machine + Print + AllocGlobal + Env>(
     rt: &R,
     errors: &mut impl Write,
@@ -96,7 +96,7 @@ pub fn run_process<R: Machine + Print + AllocGlobal + Env>(
     match run(rt) {
         Ok(()) => ExitCode::SUCCESS,
         Err(fault) => {
-            // There is nowhere left to tell of a failure to print.
+            // If this fails too, there is nowhere left to report it.
             let _ = errors.writeln(fault);
             ExitCode::from(fault.status())
         }

@@ -12,10 +12,10 @@ use std::alloc::{AllocError, Global};
 use std::sync::Wait;
 use std::sync::atomic::{AtomicU64, Ordering};
 
-/// No more are let into the room at once.
+/// The bound of the room.
 const BOUND: u64 = 5;
 
-/// The count that a credit begins with.
+/// The start of the credit.
 const START: u64 = 7;
 
 /// A thread that enters a room and leaves it, this many times.
@@ -29,7 +29,7 @@ struct Visitor<'r> {
 }
 
 impl<'r> Visitor<'r> {
-    /// Enters with this many, counts how many are inside, and leaves. Tells whether no more than the bound were.
+    /// Enters with this many, counts how many are inside, and leaves. Returns whether they were within the bound.
     fn visit(&mut self, d: u64) -> bool
         requires { (1 ≤ d) × (d ≤ 1024) }
     {
@@ -86,7 +86,7 @@ fn visitors<'r>(
     Ok(jobs)
 }
 
-/// Threads that make this many calls each on a room. At the end its whole bound is free.
+/// Threads that perform this many calls each on a room. At the end its whole bound is free.
 pub fn room_part<R: Machine>(rt: &R, alloc: Global, calls: u64) -> Result<(), Fault> {
     let (room, mut seats) = open_room(alloc)?;
     let Some(mut last) = seats.pop() else {
@@ -99,7 +99,7 @@ pub fn room_part<R: Machine>(rt: &R, alloc: Global, calls: u64) -> Result<(), Fa
     crew.verdict(0, Fault::Room)
 }
 
-/// A thread that makes this many debits, and one credit more.
+/// A thread that performs this many debits, and one credit more.
 #[derive(Drop)]
 struct Spender<'c> {
     account: &'c Credit,
@@ -109,12 +109,12 @@ struct Spender<'c> {
 }
 
 impl<'c> Spender<'c> {
-    /// One credit. Tells whether it was made.
+    /// Performs one credit. Returns whether it succeeded.
     fn earn(&mut self) -> bool {
         self.account.credit(&mut self.seat).is_ok()
     }
 
-    /// One debit. Tells whether it was made.
+    /// Performs one debit. Returns whether it succeeded.
     fn spend(&mut self) -> bool {
         self.account.debit(&mut self.seat).is_ok()
     }
@@ -161,7 +161,8 @@ fn spenders<'c>(
     Ok(jobs)
 }
 
-/// Threads that make this many debits each on a credit, and one credit more. Its value is raised by the number of threads.
+/// Threads that perform this many debits each on a credit, and one credit more. At the end its value is higher by the
+/// number of threads.
 pub fn credit_part<R: Machine>(rt: &R, alloc: Global, calls: u64) -> Result<(), Fault> {
     let (account, mut seats) = open_credit(alloc)?;
     let Some(mut last) = seats.pop() else {

@@ -1,22 +1,22 @@
-//! The threads of a part, which begin at once, and what they have seen.
+//! The threads of a part, which begin at the same time, and what they have seen.
 
 use crate::fault::Fault;
 use std::sync::atomic::{AtomicU64, Ordering};
 use std::thread;
 
-/// The threads of each part.
+/// The number of threads of each part.
 pub const THREADS: u64 = 4;
 
-/// Half of them: those that put something in, or take it out.
+/// Half of the threads: those that put something in, or those that take it out.
 pub const PAIRS: u64 = THREADS / 2;
 
-/// What is added to the number of threads that have come by one that gave up.
+/// What a thread that gave up adds to the number of threads that have come.
 const GIVEN_UP: u64 = 1 << 32;
 
-/// How often a thread looks for the others before it gives up.
+/// The number of times that a thread looks for the others before it gives up.
 const LOOKS: u64 = 5_000_000;
 
-/// Numbers that a thread has seen: how many, their sum, and the sum of their squares.
+/// The numbers that a thread has seen: how many they are, their sum, and the sum of their squares.
 #[derive(Clone, Copy, PartialEq, Drop)]
 pub struct Seen {
     pub count: u64,
@@ -25,14 +25,14 @@ pub struct Seen {
 }
 
 impl Seen {
-    /// No number.
+    /// No numbers.
     pub const NONE: Seen = Seen {
         count: 0,
         sum: 0,
         squares: 0,
     };
 
-    /// With one more number.
+    /// These numbers, and one more.
     pub fn with(self, number: u64) -> Seen {
         Seen {
             count: self.count.wrapping_add(1),
@@ -42,7 +42,7 @@ impl Seen {
     }
 }
 
-/// Numbers that several threads have seen.
+/// The numbers that several threads have seen.
 #[derive(Drop)]
 pub struct Sums {
     count: AtomicU64,
@@ -51,7 +51,7 @@ pub struct Sums {
 }
 
 impl Sums {
-    /// No number.
+    /// No numbers.
     fn new() -> Sums {
         Sums {
             count: AtomicU64::new(0),
@@ -67,7 +67,7 @@ impl Sums {
         self.squares.fetch_add(seen.squares, Ordering::SeqCst);
     }
 
-    /// What all have seen.
+    /// What all threads have seen.
     pub fn seen(&self) -> Seen {
         Seen {
             count: self.count.load(Ordering::SeqCst),
@@ -87,7 +87,7 @@ pub struct Crew {
 }
 
 impl Crew {
-    /// Before the first thread has come.
+    /// A crew of which no thread has come yet.
     pub fn new() -> Crew {
         Crew {
             went_in: Sums::new(),
@@ -97,7 +97,7 @@ impl Crew {
         }
     }
 
-    /// Waits until all threads have come, and answers how many came before this one; none where too few came.
+    /// Waits until all threads have come. Returns how many came before this one, or `None` if too few came.
     pub fn meet(&self) -> Option<u64> {
         let turn = self.come.fetch_add(1, Ordering::SeqCst);
         for _ in 0..LOOKS {
@@ -114,15 +114,15 @@ impl Crew {
         None
     }
 
-    /// Notes that something was wrong where this does not hold.
+    /// Notes that something was wrong if this does not hold.
     pub fn expect(&self, holds: bool) {
         if !holds {
             self.wrong.fetch_add(1, Ordering::SeqCst);
         }
     }
 
-    /// What this fault is answered for: `Threads` where too few came, the given fault where anything was wrong or other
-    /// numbers came out than went in.
+    /// The result of a part: `Threads` if too few threads came; this fault if anything was wrong, or if other numbers
+    /// came out than went in.
     pub fn verdict(&self, count: u64, fault: Fault) -> Result<(), Fault> {
         if self.come.load(Ordering::SeqCst) >= GIVEN_UP {
             return Err(Fault::Threads);

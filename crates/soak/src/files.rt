@@ -1,4 +1,4 @@
-//! The part of the file table: threads read an entry, and write it now and then.
+//! The part of the file table: threads read an entry, and write it from time to time.
 
 ghost use Rattle.std.specs.Prelude.{◌≡◌, ◌<◌, IfOk};
 ghost use Rattle.fak_files.specs.Calls.{IsFileSeatOf, IsFreeSeatOf};
@@ -13,7 +13,7 @@ use fak_queue::LONGEST_STINT;
 use std::alloc::{AllocError, Global};
 use std::sync::Wait;
 
-/// Of this many calls one waits until it may write, and one tries once.
+/// Out of this many calls, one writes by a call that waits, and one tries once to write.
 const PERIOD: u64 = 10;
 
 /// A thread that visits the first entry this many times.
@@ -31,7 +31,7 @@ fn is_whole(entry: FileEntry) -> bool {
     entry.inode == entry.uses
 }
 
-/// Ends a read. Tells whether the entry was whole.
+/// Ends a read. Returns whether the entry was whole.
 fn end_read(table: &FileTable, seat: &mut FileSeat) -> bool
     requires object { IsFileSeatOf table.now.object seat.old }
     requires reading { seat.old.hold ≡ Reading }
@@ -43,7 +43,7 @@ fn end_read(table: &FileTable, seat: &mut FileSeat) -> bool
     is_whole(entry)
 }
 
-/// Adds 1 to both fields, and ends the write. Tells whether the entry was whole.
+/// Adds 1 to both fields, and ends the write. Returns whether the entry was whole.
 fn end_write(table: &FileTable, seat: &mut FileSeat) -> bool
     requires object { IsFileSeatOf table.now.object seat.old }
     requires writing { seat.old.hold ≡ Writing }
@@ -58,7 +58,7 @@ fn end_write(table: &FileTable, seat: &mut FileSeat) -> bool
 }
 
 impl<'t> Visit<'t> {
-    /// Reads, by a call that waits or by one attempt. Tells whether nothing was wrong.
+    /// Reads, by a call that waits or by one attempt. Returns whether nothing was wrong.
     fn read<R: Wait>(&mut self, rt: &R, waits: bool) -> bool {
         if waits {
             return self.table.read(rt, &mut self.seat).is_ok()
@@ -67,7 +67,7 @@ impl<'t> Visit<'t> {
         self.table.try_read(&mut self.seat).is_err() || end_read(self.table, &mut self.seat)
     }
 
-    /// Writes by a call that waits. Answers how often it wrote a whole entry.
+    /// Writes by a call that waits. Returns 1 if it wrote an entry that was whole, otherwise 0.
     fn write<R: Wait>(&mut self, rt: &R) -> u64 {
         if self.table.write(rt, &mut self.seat).is_err() {
             return 0;
@@ -75,7 +75,7 @@ impl<'t> Visit<'t> {
         u64::from(end_write(self.table, &mut self.seat))
     }
 
-    /// Writes by one attempt.
+    /// Writes by one attempt. Returns 1 if it wrote an entry that was whole, otherwise 0.
     fn try_write(&mut self) -> u64 {
         if self.table.try_write(&mut self.seat).is_err() {
             return 0;
@@ -130,7 +130,7 @@ fn open_table(alloc: Global) -> Result<(FileTable, Vec<FileSeat>), Fault>
     Ok((table, seats))
 }
 
-/// Threads that make this many calls each on an entry. At the end it has been raised once for each write.
+/// Threads that perform this many calls each on an entry. At the end the entry has been raised once for each write.
 pub fn file_part<R: Machine>(rt: &R, alloc: Global, calls: u64) -> Result<(), Fault> {
     let (table, mut seats) = open_table(alloc)?;
     let Some(mut last) = seats.pop() else {

@@ -8,19 +8,19 @@ use crossbeam_utils::Backoff;
 use fak_queue::{DeleteFault, InsertFault, Queue, Seat};
 use std::sync::Wait;
 
-/// How a call is made.
+/// The form of a call.
 #[derive(Clone, Copy, Drop)]
 pub enum Form {
-    /// It waits.
+    /// A call that waits.
     Waiting,
-    /// It is an attempt, which is made again where it is refused.
+    /// An attempt, which is repeated if it is refused.
     Attempts,
-    /// It is a claim, which is made again where it is refused, and a step that is tried until it is done.
+    /// A claim, which is repeated if it is refused, and then a step, which is repeated until it is done.
     Steps,
 }
 
 impl Form {
-    /// Each form in its turn.
+    /// The form of this number: each form in turn.
     pub fn of(number: u64) -> Form {
         match number % 3 {
             0 => Form::Waiting,
@@ -30,7 +30,7 @@ impl Form {
     }
 }
 
-/// Inserts the item in this form. False where the seat was worn or the queue shut.
+/// Inserts the item in this form. Returns false if the seat is worn or the queue is shut.
 pub fn put<T: Drop, R: Wait>(
     rt: &R,
     queue: &Queue<T>,
@@ -48,7 +48,7 @@ pub fn put<T: Drop, R: Wait>(
     }
 }
 
-/// Deletes an item in this form. None where the seat was worn.
+/// Deletes an item in this form. Returns `None` if the seat is worn.
 pub fn take<T: Drop, R: Wait>(rt: &R, queue: &Queue<T>, seat: &mut Seat<T>, form: Form) -> Option<T>
     requires { IsIdleSeat queue.now.object seat.old }
     ensures { IsIdleSeat queue.now.object seat.new }
@@ -63,7 +63,7 @@ pub fn take<T: Drop, R: Wait>(rt: &R, queue: &Queue<T>, seat: &mut Seat<T>, form
     }
 }
 
-/// Inserts the item, at the first attempt that the queue is not full for.
+/// Inserts the item by attempts, until the queue is not full. Returns false if the seat is worn or the queue is shut.
 fn insert_again<T: Drop, R: Wait>(rt: &R, queue: &Queue<T>, seat: &mut Seat<T>, item: T) -> bool
     requires { IsIdleSeat queue.now.object seat.old }
     ensures { IsIdleSeat queue.now.object seat.new }
@@ -80,7 +80,7 @@ fn insert_again<T: Drop, R: Wait>(rt: &R, queue: &Queue<T>, seat: &mut Seat<T>, 
     unreachable!()
 }
 
-/// Deletes an item, at the first attempt that the queue is not empty for.
+/// Deletes an item by attempts, until the queue is not empty. Returns `None` if the seat is worn.
 fn delete_again<T: Drop, R: Wait>(rt: &R, queue: &Queue<T>, seat: &mut Seat<T>) -> Option<T>
     requires { IsIdleSeat queue.now.object seat.old }
     ensures { IsIdleSeat queue.now.object seat.new }
@@ -96,7 +96,7 @@ fn delete_again<T: Drop, R: Wait>(rt: &R, queue: &Queue<T>, seat: &mut Seat<T>) 
     unreachable!()
 }
 
-/// Claims room, again and again where the queue is full, and moves the item into its cell.
+/// Claims room, again and again while the queue is full, and moves the item into its cell.
 fn claim_and_fill<T: Drop, R: Wait>(rt: &R, queue: &Queue<T>, seat: &mut Seat<T>, item: T) -> bool
     requires { IsIdleSeat queue.now.object seat.old }
     ensures { IsIdleSeat queue.now.object seat.new }
@@ -117,7 +117,7 @@ fn claim_and_fill<T: Drop, R: Wait>(rt: &R, queue: &Queue<T>, seat: &mut Seat<T>
     unreachable!()
 }
 
-/// Tries to fill the cell until it is its turn.
+/// Tries to fill the cell until it is the cell's turn.
 fn fill<T: Drop, R: Wait>(rt: &R, queue: &Queue<T>, seat: &mut Seat<T>)
     requires object { seat.old.object ≡ queue.now.object }
     requires inserting { (k : ℕ) × (state_of seat.old ≡ Inserting k) }
@@ -133,7 +133,7 @@ fn fill<T: Drop, R: Wait>(rt: &R, queue: &Queue<T>, seat: &mut Seat<T>)
     unreachable!()
 }
 
-/// Claims an item, again and again where the queue is empty, and moves it out of its cell.
+/// Claims an item, again and again while the queue is empty, and moves it out of its cell.
 fn claim_and_empty<T: Drop, R: Wait>(rt: &R, queue: &Queue<T>, seat: &mut Seat<T>) -> Option<T>
     requires { IsIdleSeat queue.now.object seat.old }
     ensures { IsIdleSeat queue.now.object seat.new }
@@ -149,7 +149,7 @@ fn claim_and_empty<T: Drop, R: Wait>(rt: &R, queue: &Queue<T>, seat: &mut Seat<T
     unreachable!()
 }
 
-/// Tries to empty the cell until it is its turn.
+/// Tries to empty the cell until it is the cell's turn.
 fn empty<T: Drop, R: Wait>(rt: &R, queue: &Queue<T>, seat: &mut Seat<T>) -> T
     requires object { seat.old.object ≡ queue.now.object }
     requires deleting { (k : ℕ) × (state_of seat.old ≡ Deleting k) }

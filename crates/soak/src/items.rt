@@ -2,10 +2,10 @@
 
 use crate::crew::Seen;
 
-/// Numbers of one thread are below this, and those of the next thread begin with it.
+/// The numbers of one thread are below this, and those of the next thread begin with it.
 const LANE: u64 = 1 << 40;
 
-/// The threads that put numbers in are fewer than this.
+/// There are fewer threads than this that put numbers in.
 const LANES: usize = 4;
 
 /// The number that the thread of this lane puts in after this many others.
@@ -13,7 +13,7 @@ pub fn item_of(lane: u64, number: u64) -> u64 {
     lane.wrapping_mul(LANE).wrapping_add(number)
 }
 
-/// The numbers that came to one thread, and whether those of each lane rose.
+/// The numbers that came to one thread, and whether those of each lane came in rising order.
 #[derive(Drop)]
 pub struct Arrivals {
     pub seen: Seen,
@@ -22,7 +22,7 @@ pub struct Arrivals {
 }
 
 impl Arrivals {
-    /// Before the first number.
+    /// No number has come yet.
     pub fn new() -> Arrivals {
         Arrivals {
             seen: Seen::NONE,
@@ -31,7 +31,7 @@ impl Arrivals {
         }
     }
 
-    /// One more number has come.
+    /// Adds one more number that has come.
     pub fn add(&mut self, item: u64) {
         self.seen = self.seen.with(item);
         let lane = (item / LANE) as usize;

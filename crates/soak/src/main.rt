@@ -1,10 +1,10 @@
-//! Makes calls of all kinds on small shared objects, by four threads at once, and tells whether all came out as it should.
+//! Performs calls of all kinds on small shared objects, by four threads at once, and checks that all results are right.
 //!
-//! A part is one object with its threads. Each number that goes into a queue or a semaphore comes out once, and those of one
-//! thread in their order. No room lets more in than its bound, a credit ends at its sum, and nobody sees half of a write to a
-//! file table. Each item that is dropped is dropped once.
+//! A part is one object with its threads. Each number that goes into a queue or a semaphore comes out once, and those
+//! of one thread come out in their order. No room lets in more than its bound, a credit ends at its sum, and nobody
+//! sees half of a write to a file table. Each dropped item is dropped exactly once.
 //!
-//! Without words each part is short. With `--millions N` a part makes up to N million calls, and prints a line.
+//! Without words each part is short. With `--millions N` a part performs up to N million calls, and prints a line.
 #![tactic(auto)]
 
 mod command;

@@ -1,4 +1,4 @@
-//! The parts, one after the other.
+//! The parts, run one after the other.
 
 use crate::counts::{credit_part, room_part};
 use crate::crew::{Crew, PAIRS};
@@ -11,14 +11,14 @@ use std::alloc::Global;
 use std::sync::Wait;
 use std::thread::{Threads, map_vec};
 
-/// What a part takes: threads that may wait.
+/// What a part needs: threads that may wait.
 pub trait Machine: Threads + Wait + Sync {}
 
 impl<R: Threads + Wait + Sync> Machine for R {}
 
 /// What one thread does in a part.
 pub trait Job: Send + Drop {
-    /// Does it, and tells the crew what it saw.
+    /// Does it, and reports what it saw to the crew.
     fn work<R: Wait>(&mut self, rt: &R, crew: &Crew);
 }
 
@@ -53,7 +53,7 @@ enum Part {
     Files,
 }
 
-/// A part, and how many calls it makes in a round. A small queue has few, since its threads wait for one another more often.
+/// A part, and its number of calls in a round. A small queue has few calls, since its threads wait for one another more often.
 type Row = (Part, u64);
 
 const ROWS: &[Row] = &[
@@ -85,8 +85,7 @@ fn run<R: Machine>(rt: &R, alloc: Global, part: Part, calls: u64) -> Result<(), 
     }
 }
 
-/// Runs this many rounds of each part, and prints a line for each part where that is asked for. Answers how many parts there
-/// are.
+/// Runs this many rounds of each part, and prints a line for each part if asked to. Returns the number of parts.
 pub fn run_parts<R: Machine + Print>(
     rt: &R,
     alloc: Global,

@@ -7,7 +7,7 @@ use crate::items::{Arrivals, item_of};
 use fak_queue::{Port, Seat};
 use std::sync::Wait;
 
-/// Inserts this many numbers of a lane, and pauses where others use the queue. Answers its seat, and what went in.
+/// Inserts this many numbers of a lane, and pauses if others use the queue. Returns the port's seat, and what went in.
 pub fn send_all<R: Wait>(
     rt: &R,
     mut port: Port<'_, u64>,
@@ -27,7 +27,7 @@ pub fn send_all<R: Wait>(
     (port.into_seat(), seen)
 }
 
-/// Deletes this many numbers, and pauses where others use the queue. Answers its seat, and what came out.
+/// Deletes this many numbers, and pauses if others use the queue. Returns the port's seat, and what came out.
 pub fn receive_all<R: Wait>(rt: &R, mut port: Port<'_, u64>, numbers: u64) -> (Seat<u64>, Arrivals)
     ensures { IsIdleSeat port.entry.queue.now.object result.0 }
 {

@@ -1,5 +1,5 @@
-//! The parts of queues: two threads insert numbers, and two delete them. Of each two, one has a port, and the other makes its
-//! calls in each form by turns.
+//! The parts of queues: two threads insert numbers, and two delete them. In each of these pairs, one thread has a port,
+//! and the other performs its calls in each form in turn.
 
 ghost use Rattle.std.specs.Prelude.{IfOk};
 ghost use Rattle.fak_queue.specs.Queues.{IsIdleSeat};
@@ -17,7 +17,7 @@ use std::alloc::Global;
 use std::sync::Wait;
 use std::thread::map_vec;
 
-/// Inserts this many numbers of a lane. Answers what went in.
+/// Inserts this many numbers of a lane. Returns what went in.
 fn put_all<R: Wait>(
     rt: &R,
     queue: &Queue<u64>,
@@ -38,7 +38,7 @@ fn put_all<R: Wait>(
     seen
 }
 
-/// Deletes this many numbers. Answers what came out.
+/// Deletes this many numbers. Returns what came out.
 fn take_all<R: Wait>(rt: &R, queue: &Queue<u64>, seat: &mut Seat<u64>, numbers: u64) -> Arrivals
     requires { IsIdleSeat queue.now.object seat.old }
     ensures { IsIdleSeat queue.now.object seat.new }
@@ -52,7 +52,7 @@ fn take_all<R: Wait>(rt: &R, queue: &Queue<u64>, seat: &mut Seat<u64>, numbers: 
     arrivals
 }
 
-/// Inserts a lane of this many numbers, the first thread by a port.
+/// Inserts a lane of this many numbers. The first thread uses a port.
 fn insert_lane<R: Wait>(
     rt: &R,
     queue: &Queue<u64>,
@@ -74,7 +74,7 @@ fn insert_lane<R: Wait>(
     seat
 }
 
-/// Deletes this many numbers, the first thread by a port.
+/// Deletes this many numbers. The first thread uses a port.
 fn delete_share<R: Wait>(
     rt: &R,
     queue: &Queue<u64>,
@@ -119,7 +119,7 @@ fn work<R: Wait>(
     }
 }
 
-/// Has all seats work at once.
+/// Lets all seats work at once.
 fn work_all<R: Machine>(
     rt: &R,
     queue: &Queue<u64>,
@@ -152,8 +152,8 @@ pub fn queue_part<R: Machine>(rt: &R, alloc: Global, size: u64, numbers: u64) ->
     crew.verdict(PAIRS.wrapping_mul(numbers), Fault::Queue)
 }
 
-/// Passes this many numbers through the queue, each form of an insertion before each of a deletion. Tells whether each came
-/// out at once.
+/// Passes this many numbers through the queue, with each form of insertion followed by each form of deletion. Returns
+/// whether each number came out at once.
 fn pass_alone<R: Wait>(rt: &R, queue: &Queue<u64>, seat: &mut Seat<u64>, numbers: u64) -> bool
     requires { IsIdleSeat queue.now.object seat.old }
     ensures { IsIdleSeat queue.now.object seat.new }

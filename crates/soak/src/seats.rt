@@ -1,4 +1,4 @@
-//! Queues with their seats: how they are opened, and closed.
+//! Queues with their seats: how they are opened and closed.
 
 ghost use Rattle.std.specs.Prelude.{◌≡◌, IfOk, IfSome};
 ghost use Rattle.soak.specs.Seats.{AreIdleSeats};
@@ -21,7 +21,7 @@ pub fn open<T: Drop>(
     Ok((queue, seats))
 }
 
-/// The tally of these seats; none where there are none.
+/// The tally of these seats, or `None` if there are no seats.
 fn joined<T: Drop>(queue: &Queue<T>, mut seats: Vec<Seat<T>>) -> Option<Tally<T>>
     requires { AreIdleSeats queue.now.object seats.items }
     ensures { IfSome result (λ tally. tally.object ≡ queue.now.object) }
@@ -36,7 +36,7 @@ fn joined<T: Drop>(queue: &Queue<T>, mut seats: Vec<Seat<T>>) -> Option<Tally<T>
     Some(tally)
 }
 
-/// What is left in a queue, all of whose seats are back; none where they are not.
+/// What is left in a queue whose seats are all back, or `None` if one is missing.
 pub fn close_all<T: Drop>(queue: Queue<T>, seats: Vec<Seat<T>>) -> Option<Rest<T>>
     requires { AreIdleSeats queue.object seats.items }
 {
@@ -46,7 +46,7 @@ pub fn close_all<T: Drop>(queue: Queue<T>, seats: Vec<Seat<T>>) -> Option<Rest<T
     close(queue, tally)
 }
 
-/// What is left in a queue; none where a seat is not in the tally.
+/// What is left in a queue, or `None` if a seat is not in the tally.
 fn close<T: Drop>(queue: Queue<T>, tally: Tally<T>) -> Option<Rest<T>>
     requires { tally.object ≡ queue.object }
 {

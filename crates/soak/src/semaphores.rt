@@ -1,5 +1,5 @@
-//! The parts of semaphores: two threads make downs of numbers, and two make ups. Of each two, one waits in its calls, and the
-//! other goes by steps.
+//! The parts of semaphores: two threads perform downs of numbers, and two perform ups. In each of these pairs, one
+//! thread waits in its calls, and the other goes by steps.
 
 ghost use Rattle.std.specs.Prelude.{◌≡◌, IfOk, IfSome};
 ghost use Rattle.soak.specs.Seats.{AreSeatsOf};
@@ -15,13 +15,13 @@ use std::alloc::Global;
 use std::sync::Wait;
 use std::thread::map_vec;
 
-/// The count that a semaphore begins with.
+/// The start of a semaphore.
 const START: u64 = 3;
 
-/// The items that are left parked at the end, as many as the smallest wait queue has cells.
+/// The number of items that are left parked at the end, as many as the smallest wait queue has cells.
 const LEFT: u64 = 2;
 
-/// Downs of this many numbers of a lane, by calls that wait.
+/// Performs downs of this many numbers of a lane, by calls that wait.
 fn downs<R: Wait>(
     rt: &R,
     semaphore: &Semaphore<u64>,
@@ -76,7 +76,7 @@ fn downs_by_steps<R: Wait>(
     steps.into_seat()
 }
 
-/// This many ups, by calls that wait.
+/// Performs this many ups, by calls that wait.
 fn ups<R: Wait>(
     rt: &R,
     semaphore: &Semaphore<u64>,
@@ -119,7 +119,7 @@ fn ups_by_steps<R: Wait>(
     steps.into_seat()
 }
 
-/// What one thread does. There are as many downs as ups, `START` and `LEFT` together.
+/// What one thread does. The downs of all threads are `START` and `LEFT` more than the ups.
 fn work<R: Wait>(
     rt: &R,
     semaphore: &Semaphore<u64>,
@@ -142,7 +142,7 @@ fn work<R: Wait>(
     }
 }
 
-/// Has all seats work at once.
+/// Lets all seats work at once.
 fn work_all<R: Machine>(
     rt: &R,
     semaphore: &Semaphore<u64>,
@@ -163,7 +163,7 @@ fn work_all<R: Machine>(
     }
 }
 
-/// The tally of these seats; none where there are none.
+/// The tally of these seats, or `None` if there are no seats.
 fn joined(semaphore: &Semaphore<u64>, mut seats: Vec<SemSeat<u64>>) -> Option<SemTally<u64>>
     requires { AreSeatsOf semaphore.now.object seats.items }
     ensures { IfSome result (λ tally. tally.object ≡ semaphore.now.object) }
@@ -178,7 +178,7 @@ fn joined(semaphore: &Semaphore<u64>, mut seats: Vec<SemSeat<u64>>) -> Option<Se
     Some(tally)
 }
 
-/// What is left where all seats are in the tally.
+/// What is left, or `None` if a seat is not in the tally.
 fn close(semaphore: Semaphore<u64>, tally: SemTally<u64>) -> Option<Rest<u64>>
     requires { tally.object ≡ semaphore.object }
 {
@@ -199,7 +199,7 @@ fn open(alloc: Global, size: u64) -> Result<(Semaphore<u64>, Vec<SemSeat<u64>>),
     Ok((semaphore, seats))
 }
 
-/// Downs of this many numbers of each of two threads, over a wait queue of this many cells.
+/// Downs of this many numbers by each of two threads, over a wait queue of this many cells.
 pub fn semaphore_part<R: Machine>(
     rt: &R,
     alloc: Global,
@@ -216,7 +216,7 @@ pub fn semaphore_part<R: Machine>(
         return Err(Fault::Semaphore);
     };
     let mut left = Arrivals::new();
-    // One more, so that it is found out where more are left.
+    // One more than `LEFT`, to find out if more items are left.
     for _ in 0..LEFT + 1 {
         if let Some(who) = rest.next() {
             left.add(who);

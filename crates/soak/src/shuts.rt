@@ -1,5 +1,5 @@
-//! The part that shuts queues: in each round some threads insert until the queue is shut, and one deletes for a while and
-//! shuts it. Each item is one holder of a shared value, so that holders are counted in place of items that are dropped.
+//! The part that shuts queues. In each round some threads insert until the queue is shut, and one deletes for a while and
+//! shuts it. Each item is one holder of a shared value, so the dropped items can be counted by the remaining holders.
 
 ghost use Rattle.std.specs.Prelude.{IfOk};
 ghost use Rattle.fak_queue.specs.Queues.{IsIdleSeat};
@@ -15,16 +15,16 @@ use std::alloc::Global;
 use std::sync::{Arc, Wait};
 use std::thread::map_vec;
 
-/// The cells of the queue.
+/// The number of cells of the queue.
 const CELLS: u64 = 3;
 
-/// What is deleted before a queue is shut.
+/// The number of deletions before a queue is shut.
 const DELETIONS: u64 = 50;
 
-/// The last of the threads deletes and shuts, the others insert.
+/// The last of the threads deletes and shuts; the others insert.
 const LAST: u64 = THREADS - 1;
 
-/// Inserts holders until the queue is shut. Answers how many went in.
+/// Inserts holders until the queue is shut. Returns how many went in.
 fn insert_until_shut<R: Wait>(
     rt: &R,
     queue: &Queue<Arc<u8>>,
@@ -47,7 +47,7 @@ fn insert_until_shut<R: Wait>(
     seen
 }
 
-/// Deletes holders, and shuts the queue. Answers how many came out.
+/// Deletes holders, and shuts the queue. Returns how many came out.
 fn delete_and_shut<R: Wait>(rt: &R, queue: &Queue<Arc<u8>>, seat: &mut Seat<Arc<u8>>) -> Seen
     requires { IsIdleSeat queue.now.object seat.old }
     ensures { IsIdleSeat queue.now.object seat.new }
@@ -84,7 +84,7 @@ fn work<R: Wait>(
     seat
 }
 
-/// Has all seats work at once.
+/// Lets all seats work at once.
 fn work_all<R: Machine>(
     rt: &R,
     queue: &Queue<Arc<u8>>,
@@ -105,7 +105,7 @@ fn work_all<R: Machine>(
     }
 }
 
-/// Takes one item of those that are left, and drops the others with the rest. Answers how many there were.
+/// Takes out one of the items that are left, and drops the others with the rest. Returns how many items were left.
 fn drop_rest(crew: &Crew, shared: &Arc<u8>, mut rest: Rest<Arc<u8>>) -> Seen {
     let holders = Arc::strong_count(shared);
     let left = holders.wrapping_sub(1) as u64;
@@ -120,7 +120,7 @@ fn drop_rest(crew: &Crew, shared: &Arc<u8>, mut rest: Rest<Arc<u8>>) -> Seen {
     seen
 }
 
-/// One round.
+/// Runs one round.
 fn round<R: Machine>(rt: &R, alloc: Global, shared: &Arc<u8>) -> Result<(), Fault> {
     let crew = Crew::new();
     let (queue, seats) = open(alloc, CELLS, THREADS)?;
@@ -132,7 +132,7 @@ fn round<R: Machine>(rt: &R, alloc: Global, shared: &Arc<u8>) -> Result<(), Faul
     crew.verdict(crew.went_in.seen().count, Fault::Shut)
 }
 
-/// Rounds in which about this many holders come out.
+/// Runs rounds in which about this many holders come out.
 pub fn shut_part<R: Machine>(rt: &R, alloc: Global, calls: u64) -> Result<(), Fault> {
     let shared = Arc::new(alloc, 7u8)?;
     for _ in 0..calls / DELETIONS {

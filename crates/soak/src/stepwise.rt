@@ -1,4 +1,4 @@
-//! Downs and ups by steps, each as often as need be.
+//! Downs and ups by steps, which are repeated until the call is done.
 
 ghost use Rattle.std.specs.Prelude.{◌≡◌};
 ghost use Rattle.fak_sem.specs.declared.standing.Standing.TheVariants.{Idle};
@@ -8,7 +8,7 @@ use crossbeam_utils::Backoff;
 use fak_sem::{Semaphore, StepSeat};
 use std::sync::Wait;
 
-/// A down of the item. Answers it where it passes; none where it is parked, or the seat is worn.
+/// A down of the item. Returns the item if it passes, and `None` if it is parked or the seat is worn.
 pub fn down_by_steps<R: Wait>(
     rt: &R,
     semaphore: &Semaphore<u64>,
@@ -47,7 +47,7 @@ fn park<R: Wait>(rt: &R, semaphore: &Semaphore<u64>, seat: &mut StepSeat<u64>)
     unreachable!()
 }
 
-/// An up. Answers the item that it wakes; none where it wakes none, or the seat is worn.
+/// An up. Returns the item that it wakes, or `None` if it wakes none or the seat is worn.
 pub fn up_by_steps<R: Wait>(
     rt: &R,
     semaphore: &Semaphore<u64>,

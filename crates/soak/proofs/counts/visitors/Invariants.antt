@@ -2,7 +2,7 @@ use Rattle.std.proofs.Common.{vec_len}
 use Rattle.soak.specs.Seats.{AreCountsOf}
 use Rattle.soak.proofs.counts.visitors.Given as goal
 
--- what is left to deal is of the same object
+-- the seats that are still to be dealt belong to the same object
 abbrev pub invariant-loop-seat : goal.invariant-loop-seat
 invariant-loop-seat l = AreCountsOf l.room.object l.seats.items
 

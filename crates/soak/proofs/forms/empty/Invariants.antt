@@ -3,6 +3,6 @@ use Rattle.fak_queue.specs.Queues.{state_of}
 use Rattle.fak_queue.specs.declared.state.SeatState.TheVariants.{Deleting}
 use Rattle.soak.proofs.forms.empty.Given as goal
 
--- the seat is in the midst of a deletion
+-- a deletion of the seat is open
 abbrev pub invariant-loop : goal.invariant-loop
 invariant-loop g l = (l.seat.object ≡ l.queue.object) × ((k : ℕ) × (state_of l.seat ≡ Deleting k))
