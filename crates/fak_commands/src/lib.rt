@@ -4,11 +4,11 @@
 mod command;
 pub mod laws;
 mod program;
-mod run_script;
-mod serve;
+mod run_command;
+mod service;
 
 pub use command::command_of;
 pub use fak_replay::{Answer, Command, MainFault, check, replay};
 pub use program::{conclude, run_words};
-pub use run_script::run_script;
-pub use serve::serve;
+pub use run_command::run_script;
+pub use service::serve;

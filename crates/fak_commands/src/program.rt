@@ -8,7 +8,7 @@ ghost use Rattle.fak_commands.specs.Program.{Answers, EndsByFault, FailsOnWords}
 ghost use Rattle.fak_replay.specs.declared.fault.MainFault.TheVariants.{Write};
 
 use crate::command::command_of;
-use crate::serve::serve;
+use crate::service::serve;
 use fak_replay::MainFault;
 use std::alloc::Global;
 use std::io::{Read, Write};

@@ -2,9 +2,9 @@
 //! lines, and devices that fail. It embeds the program as any other may: one line in crates.txt lists `fak_commands`.
 #![tactic(auto)]
 
-mod serve_bytes;
+mod served;
 
-pub use serve_bytes::{Served, serve_bytes};
+pub use served::{Served, serve_bytes};
 
 #[cfg(test)]
 mod answers;

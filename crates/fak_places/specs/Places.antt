@@ -8,8 +8,8 @@ use Rattle.fak_text.specs.declared.fault.Field.{Field}
 use Rattle.fak_text.specs.declared.fault.Field.TheVariants as fields
 use Rattle.fak_text.specs.declared.fault.TextFault.{TextFault}
 use Rattle.fak_text.specs.declared.fault.TextFault.TheVariants as faults
-use Rattle.fak_places.specs.declared.place_of.Format.{Format}
-use Rattle.fak_places.specs.declared.place_of.Format.TheVariants as formats
+use Rattle.fak_places.specs.declared.fault_place.Format.{Format}
+use Rattle.fak_places.specs.declared.fault_place.Format.TheVariants as formats
 
 -- the first fault of an input, none if it is a value of its format
 abbrev pub fault_in : Format → List ℕ → Option TextFault

@@ -3,14 +3,14 @@
 
 mod asked;
 mod event;
+mod fault_place;
 mod json;
 mod mark;
 mod place;
-mod place_of;
 mod script;
 mod step;
 mod values;
 
 pub use asked::{Asked, Hint, Spot};
+pub use fault_place::{Format, place_of};
 pub use place::Place;
-pub use place_of::{Format, place_of};

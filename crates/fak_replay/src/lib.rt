@@ -3,17 +3,17 @@
 #![tactic(auto)]
 
 pub mod answer;
-pub mod check;
+pub mod check_command;
 pub mod command;
 mod events;
 pub mod fault;
 mod machine;
-pub mod replay;
+pub mod replay_command;
 mod row;
 mod trace;
 
 pub use answer::Answer;
-pub use check::check;
+pub use check_command::check;
 pub use command::Command;
 pub use fault::MainFault;
-pub use replay::replay;
+pub use replay_command::replay;

@@ -12,8 +12,8 @@ use Rattle.fak_text.specs.ScriptText.{script_from}
 use Rattle.fak_text.specs.Values.{most_kept}
 use Rattle.fak_text.proofs.Front.{front_read}
 use Rattle.fak_places.specs.Places.{fault_in}
-use Rattle.fak_places.specs.declared.place_of.Format.{Format}
-use Rattle.fak_places.specs.declared.place_of.Format.TheVariants as formats
+use Rattle.fak_places.specs.declared.fault_place.Format.{Format}
+use Rattle.fak_places.specs.declared.fault_place.Format.TheVariants as formats
 use Rattle.fak_where.specs.Answers.{status_of_place}
 
 -- the front of an input has the first fault of the whole

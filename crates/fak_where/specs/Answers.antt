@@ -2,8 +2,8 @@
 use Rattle.std.specs.Prelude.{ℕ, List, [], ◌∷◌, codes, Option, Some, None, if◌then◌else◌}
 use Rattle.std.specs.Str.{bytes_eq}
 use Rattle.fak_text.specs.declared.fault.TextFault.{TextFault}
-use Rattle.fak_places.specs.declared.place_of.Format.{Format}
-use Rattle.fak_places.specs.declared.place_of.Format.TheVariants as formats
+use Rattle.fak_places.specs.declared.fault_place.Format.{Format}
+use Rattle.fak_places.specs.declared.fault_place.Format.TheVariants as formats
 use Rattle.fak_where.specs.declared.fault.WhereFault.{WhereFault}
 use Rattle.fak_where.specs.declared.fault.WhereFault.TheVariants as faults
 

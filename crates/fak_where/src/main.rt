@@ -2,13 +2,13 @@
 #![tactic(auto)]
 
 mod fault;
-mod serve;
+mod service;
 #[cfg(test)]
 mod tests;
 mod words;
 
 use crate::fault::WhereFault;
-use crate::serve::serve;
+use crate::service::serve;
 use crate::words::{format_of, words_of};
 use std::io::Write;
 use std::process::ExitCode;

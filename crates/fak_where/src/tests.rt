@@ -1,7 +1,7 @@
 //! The places of mistakes, as users make them: an input of each kind, and the line that names its place.
 
 use crate::fault::WhereFault;
-use crate::serve::serve;
+use crate::service::serve;
 use crate::words::format_of;
 use fak_places::Format;
 use std::alloc::{AllocError, Global};

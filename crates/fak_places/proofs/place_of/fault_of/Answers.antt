@@ -1,5 +1,0 @@
-use Rattle.std.proofs.Common.{rules}
-use Rattle.fak_places.proofs.place_of.fault_of.Goals as goal
-
-pub returns-in-Script : goal.returns-in-Script
-returns-in-Script c = search rules

@@ -1,5 +1,0 @@
-use Rattle.std.proofs.Common.{rules}
-use Rattle.fak_places.proofs.place_of.key_of_fault.Goals as goal
-
-pub returns-in-UnknownOp : goal.returns-in-UnknownOp
-returns-in-UnknownOp c = search rules

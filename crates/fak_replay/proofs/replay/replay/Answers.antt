@@ -1,8 +1,0 @@
-use Rattle.std.proofs.Common.{rules}
-use Rattle.fak_replay.proofs.replay.replay.Goals as goal
-
-pub returns-clause-gives : goal.returns-clause-gives
-returns-clause-gives c = search rules
-
-pub returns-clause-long : goal.returns-clause-long
-returns-clause-long c = search rules
