@@ -1,6 +1,7 @@
 //! Bursts of insertions: the calls of a bundle.
 
 ghost use Rattle.std.specs.Prelude.{◌≡◌, ℕ, ◌+◌, ◌<◌, drop, length, MatchResult};
+ghost use Rattle.std.specs.VecDeque.{deque_capacity};
 ghost use Rattle.fak_queue.specs.declared.bundle.BundleState.TheVariants.{Idle, Inserting};
 ghost use Rattle.fak_queue.specs.BundleCalls.{drawn_by_all};
 ghost use Rattle.fak_queue.specs.BurstCalls.{ClaimsBurst, FillsBurst, InsertsBurst, InsertsBurstAfterFull, PutsFrom};
@@ -43,6 +44,7 @@ impl<T: Drop> Queue<T> {
             (λ _. drawn_by_all bundle.new ≡ drawn_by_all bundle.old) }
         ensures items { MatchResult result (λ b. items.new.items ≡ drop b.count items.old.items)
             (λ _. items.new.items ≡ items.old.items) }
+        ensures capacity { deque_capacity items.new ≡ deque_capacity items.old }
         ensures call { MatchResult result
             (λ b. InsertsBurst self.now.size items.old.items b.ticket b.count bundle.old bundle.new)
             (RefusesBurst self.now.size (length items.old.items) bundle.old bundle.new) }
@@ -79,6 +81,7 @@ impl<T: Drop> Queue<T> {
             (λ _. drawn_by_all bundle.new ≡ drawn_by_all bundle.old) }
         ensures items { MatchResult result (λ b. items.new.items ≡ drop b.count items.old.items)
             (λ _. items.new.items ≡ items.old.items) }
+        ensures capacity { deque_capacity items.new ≡ deque_capacity items.old }
         ensures call { MatchResult result
             (λ b. InsertsBurstAfterFull self.now.size items.old.items b.ticket b.count bundle.old bundle.new)
             (RefusesWaitingBurst self.now.size (length items.old.items) bundle.old bundle.new) }
@@ -117,6 +120,7 @@ impl<T: Drop> Queue<T> {
             (λ _. drawn_by_all bundle.new ≡ drawn_by_all bundle.old) }
         ensures items { MatchResult result (λ b. items.new.items ≡ drop b.count items.old.items)
             (λ _. items.new.items ≡ items.old.items) }
+        ensures capacity { deque_capacity items.new ≡ deque_capacity items.old }
         ensures call { MatchResult result
             (λ b. ClaimsBurst self.now.size items.old.items b.ticket b.count bundle.old bundle.new)
             (RefusesBurst self.now.size (length items.old.items) bundle.old bundle.new) }

@@ -12,6 +12,7 @@ pub(crate) fn keep<T: Drop>(items: &mut VecDeque<T>, kept: &mut VecDeque<T>, cou
     ensures items { items.new.items ≡ drop count items.old.items }
     ensures kept { kept.new.items ≡ kept.old.items ++ take count items.old.items }
     ensures capacity { deque_capacity kept.new ≡ deque_capacity kept.old }
+    ensures items_capacity { deque_capacity items.new ≡ deque_capacity items.old }
 {
     for _ in 0..count {
         let Some(item) = items.pop_front() else {

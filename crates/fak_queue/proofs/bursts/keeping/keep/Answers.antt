@@ -11,7 +11,7 @@ take_next (y ∷ l) zero x rest e = let f : y ∷ l ≡ x ∷ rest = e in let sa
 take_next (y ∷ l) (suc n) x rest e = let z : suc n + 1 ≡ suc (n + 1) = omega arith in ap (λ k. take k (y ∷ l)) z ∙ ap (λ t. y ∷ t) (take_next l n x rest e)
 
 pub loop-init : goal.loop-init
-loop-init g c = (omega arith, refl, sym (append-nil c.args.kept.now.items), omega arith, omega arith, refl)
+loop-init g c = (omega arith, refl, sym (append-nil c.args.kept.now.items), omega arith, omega arith, refl, refl)
 
 pub loop-preserved : goal.loop-preserved
 loop-preserved g c =
@@ -27,4 +27,5 @@ loop-preserved g c =
       omega (arith, less, i.3),
       omega (arith, more, i.4),
       c.push_back_reserved.ensures.capacity ∙ i.5,
+      c.in-Some.ensures.capacity ∙ i.6,
     )
