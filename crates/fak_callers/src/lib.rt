@@ -5,6 +5,7 @@
 #![tactic(auto)]
 
 pub mod blocks;
+pub mod bundles;
 pub mod bursts;
 pub mod cells;
 pub mod credits;

@@ -1,6 +1,7 @@
 //! Each caller on its happy path.
 
 mod assertions;
+mod bundles;
 mod cores;
 mod files;
 mod pipelines;

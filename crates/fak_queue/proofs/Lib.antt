@@ -17,6 +17,7 @@ pub mod WholeCalls
 pub mod AtOnce
 pub mod Trying
 pub mod AfterRefusals
+pub mod NameLists
 pub mod Weighing
 pub mod Sums
 pub mod Tallies
@@ -60,3 +61,4 @@ pub mod Settling
 pub mod Gathering
 pub mod BundleMaking
 pub mod BundleSharing
+pub mod BundleJoins

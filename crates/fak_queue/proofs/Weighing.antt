@@ -1,6 +1,11 @@
 -- What calls and joins add to the weights of the items that were put into a queue and got out of it.
-use Rattle.fak_queue.proofs.Common.{◌≡◌, ◌≢◌, ℕ, ◌+◌, Bool, true, false, List, [], ◌∷◌, ◌++◌, refl, ap, sym, ◌∙◌, subst, inl, inr, arith, flat_map, sum_by, sum_by-cons, queue_rules, count, contents, In, mine, SeatInfo, TallyInfo, tally_of, mine_of, IsJoined, put_of, got_of, Kind, OverIn, BackIn, NoRoom, OverOut, BackOut, NoItem, Close, Closed, LateIn, Mark, count_append, IsWorn, ShutsAs, made_by, seat_of, RefusesDeletion, RefusedInsertion, kinds_not_in, RefusedDeletion, kinds_not_out, kinds_in, kinds_out, MakesAtLast, common_steps, DeleteFault}
-use Rattle.fak_model.proofs.SeatWeights.{mine_one, mine_joined}
+use Rattle.fak_queue.proofs.Common.{append-nil, append_assoc, map, marks_of, ◌≡◌, ◌≢◌, ℕ, ◌+◌, Bool, true, false, List, [], ◌∷◌, ◌++◌, refl, ap, sym, ◌∙◌, subst, inl, inr, arith, flat_map, sum_by, sum_by-cons, queue_rules, count, contents, In, mine, SeatInfo, TallyInfo, tally_of, mine_of, IsJoined, put_of, got_of, Kind, OverIn, BackIn, NoRoom, OverOut, BackOut, NoItem, Close, Closed, LateIn, Mark, count_append, IsWorn, ShutsAs, made_by, seat_of, RefusesDeletion, RefusedInsertion, kinds_not_in, RefusedDeletion, kinds_not_out, kinds_in, kinds_out, MakesAtLast, common_steps, DeleteFault}
+use Rattle.fak_model.specs.Calls.{IsJoinOf}
+use Rattle.fak_model.proofs.SeatWeights.{mine_one, mine_joined, mine_known, mine_more}
+use Rattle.fak_queue.specs.BundleCalls.{BundleInfo, seat_in}
+use Rattle.fak_queue.specs.Bundling.{tally_of_bundle}
+use Rattle.fak_queue.specs.Sums.{seats_in}
+use Rattle.fak_queue.proofs.NameLists.{StandOnce, front_once, last_is_new}
 use Rattle.fak_queue.specs.declared.fault.DeleteFault.TheVariants as deletion
 use Rattle.fak_queue.proofs.AfterRefusals.{made_by_append, at_once, refused_empty}
 
@@ -107,6 +112,63 @@ module _ {A : Type 0} (v : Kind A → ℕ) where
   -- a join of a seat with a new name adds what the seat's marks weigh
   pub join_weighs : {size : ℕ} {t both : TallyInfo (Mark A)} {s : SeatInfo (Mark A)} → IsJoined (queue_rules size) t s both → (In s.name t.names → ⊥) → weight_in v both ≡ weight_in v t + weight_of v s
   join_weighs {t = t} {both = both} {s = s} j new = grind (arith, common_steps, mine_joined, seat_of, count, mine, count_sums, mine_of)
+
+  -- names that stand once add what the marks of each weigh
+  names_weigh : (names more : List ℕ) (h : List (Mark A)) → StandOnce (names ++ more) → count v (mine seat_of (names ++ more) h) ≡ count v (mine seat_of names h) + sum_by (λ (n : ℕ). count v (marks_of seat_of n h)) more
+  names_weigh names [] h once = omega (arith, ap (λ (l : List ℕ). count v (mine seat_of l h)) (append-nil names))
+  names_weigh names (n ∷ more) h once =
+      let all = append_assoc names (n ∷ []) more in
+      let once' = subst StandOnce (sym all) once in
+      let whole = ap (λ (l : List ℕ). count v (mine seat_of l h)) all in
+      let rest = names_weigh (names ++ n ∷ []) more h once' in
+      let one = mine_more seat_of (λ (m : Mark A). v m.kind) names n h (last_is_new names n (front_once (names ++ n ∷ []) more once')) in
+      let a = count_sums (mine seat_of (names ++ n ∷ []) h) in
+      let b = count_sums (mine seat_of names h) in
+      let c = count_sums (marks_of seat_of n h) in
+      let s = sum_by-cons (λ (n : ℕ). count v (marks_of seat_of n h)) n more in
+      omega (arith, whole, rest, one, a, b, c, s)
+
+  -- what names weigh in one history they weigh in another that has the same marks of theirs
+  same_weigh : (names : List ℕ) (seen h : List (Mark A)) → ((n : ℕ) → In n names → marks_of seat_of n h ≡ marks_of seat_of n seen) → sum_by (λ (n : ℕ). count v (marks_of seat_of n h)) names ≡ sum_by (λ (n : ℕ). count v (marks_of seat_of n seen)) names
+  same_weigh [] seen h own = refl
+  same_weigh (n ∷ names) seen h own =
+      let first = ap (count v) (own n (inl refl)) in
+      let rest = same_weigh names seen h (λ m i. own m (inr i)) in
+      let a = sum_by-cons (λ (n : ℕ). count v (marks_of seat_of n h)) n names in
+      let b = sum_by-cons (λ (n : ℕ). count v (marks_of seat_of n seen)) n names in
+      omega (arith, first, rest, a, b)
+
+  -- a bundle weighs what its seats weigh
+  pub bundle_weighs : (b : BundleInfo (Mark A)) (names : List ℕ) → sum_by (λ (n : ℕ). count v (marks_of seat_of n b.seen)) names ≡ sum_by (weight_of v) (map (seat_in b) names)
+  bundle_weighs b [] = refl
+  bundle_weighs b (n ∷ names) =
+      let rest = bundle_weighs b names in
+      let x = sum_by-cons (λ (n : ℕ). count v (marks_of seat_of n b.seen)) n names in
+      let y = sum_by-cons (weight_of v) (seat_in b n) (map (seat_in b) names) in
+      omega (arith, rest, x, y)
+
+  -- the tally of a bundle weighs what the marks of its seats do
+  pub first_weighs : (b : BundleInfo (Mark A)) {t : TallyInfo (Mark A)} → t ≡ tally_of_bundle b → StandOnce b.names → weight_in v t ≡ sum_by (weight_of v) (seats_in b)
+  first_weighs b one once =
+      let none = no_names b.seen in
+      let all = names_weigh [] b.names b.seen once in
+      let each = bundle_weighs b b.names in
+      let is = ap (weight_in v) one in
+      omega (arith, none, all, each, is)
+    where
+      no_names : (h : List (Mark A)) → count v (mine seat_of [] h) ≡ 0
+      no_names [] = refl
+      no_names (m ∷ h) = no_names h
+
+  -- a join of a bundle with new names adds what the marks of its seats weigh
+  pub join_bundle_weighs : {size : ℕ} {t both : TallyInfo (Mark A)} (b : BundleInfo (Mark A)) → IsJoinOf (queue_rules size) t (tally_of_bundle b) both → StandOnce (t.names ++ b.names) → weight_in v both ≡ weight_in v t + sum_by (weight_of v) (seats_in b)
+  join_bundle_weighs {t = t} {both = both} b j once =
+      let is = ap (λ (l : List ℕ). count v (mine seat_of l both.seen)) j.names in
+      let all = names_weigh t.names b.names both.seen once in
+      let old = ap (count v) (mine_known seat_of t.names t.seen both.seen j.of_first) in
+      let his = same_weigh b.names b.seen both.seen j.of_second.own in
+      let each = bundle_weighs b b.names in
+      omega (arith, is, all, old, his, each)
 
   -- the tally of two seats
   pub pair_weighs : {size : ℕ} (a : SeatInfo (Mark A)) {b : SeatInfo (Mark A)} {t both : TallyInfo (Mark A)} → t ≡ tally_of a → IsJoined (queue_rules size) t b both → b.name ≢ a.name → weight_in v both ≡ weight_of v a + weight_of v b
