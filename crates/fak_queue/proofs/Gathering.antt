@@ -9,7 +9,7 @@ use Rattle.fak_model.specs.Queue.{queue_rules}
 use Rattle.fak_core.specs.declared.queue.phase.Phase.TheVariants as phase
 use Rattle.fak_model.specs.Seats.{Begins, Knows, marks_of}
 use Rattle.fak_queue.specs.BundleCalls.{queue_bundle, tickets_of_all}
-use Rattle.fak_queue.specs.Bundling.{IsBundleOf, KnowsOwn, Rests, JoinsTo, IsTokenOf, name_of, stint_of, tally_in}
+use Rattle.fak_queue.specs.Bundling.{IsBundleOf, KnowsOwn, Rests, JoinsTo, IsTokenOfSeat, name_of, stint_of, tally_in}
 use Rattle.fak_queue.specs.declared.bundle.BundleState.TheVariants.{Idle}
 use Rattle.fak_queue.specs.Queues.{IsIdleSeat}
 use Rattle.fak_queue.specs.declared.state.SeatState.TheVariants as seat
@@ -53,7 +53,7 @@ pub record GatheredOf {T : Type 0} (size seats : ℕ) (table : TableId) (others 
   pub so_far : Gathered size seats table taken left me
 
 module _ {T : Type 0} {size seats left more : ℕ} {table : TableId} {taken : List (SeatInfo (Mark T))} {v w after : QueueHolder T} {s : SeatInfo (Mark T)}
-    (so_far : Gathered size seats table taken left v) (joins : JoinsTo size seats v w after) (its : IsTokenOf s table seats more w) where
+    (so_far : Gathered size seats table taken left v) (joins : JoinsTo size seats v w after) (its : IsTokenOfSeat s table seats more w) where
   abbrev pub both : List (SeatInfo (Mark T))
   both = taken ++ s ∷ []
 
@@ -113,13 +113,13 @@ module _ {T : Type 0} {size seats left more : ℕ} {table : TableId} {taken : Li
 -- ---- one seat
 
 -- a seat's token is of its object
-pub token_fits : {T : Type 0} {s : SeatInfo (Mark T)} {table mine : TableId} {seats own left : ℕ} {m : QueueHolder T} → IsTokenOf s mine own left m → s.object ≡ object_id table seats → (mine ≡ table) × (own ≡ seats) × IsTokenOf s table seats left m
+pub token_fits : {T : Type 0} {s : SeatInfo (Mark T)} {table mine : TableId} {seats own left : ℕ} {m : QueueHolder T} → IsTokenOfSeat s mine own left m → s.object ≡ object_id table seats → (mine ≡ table) × (own ≡ seats) × IsTokenOfSeat s table seats left m
 token_fits {T} {s} {table} {mine} {seats} {own} {left} {m} its fits =
     let same : object_id mine own ≡ object_id table seats = sym its.object ∙ fits in
-    (ap (λ (o : ObjectId). o.table) same, ap (λ (o : ObjectId). o.seats) same, subst (λ (o : ObjectId). IsTokenOf s o.table o.seats left m) same its)
+    (ap (λ (o : ObjectId). o.table) same, ap (λ (o : ObjectId). o.seats) same, subst (λ (o : ObjectId). IsTokenOfSeat s o.table o.seats left m) same its)
 
 -- the token of one seat alone
-pub gathered_one : {T : Type 0} {s : SeatInfo (Mark T)} {table : TableId} {seats left : ℕ} {m : QueueHolder T} → IsTokenOf s table seats left m → Gathered table.slots seats table (s ∷ []) left m
+pub gathered_one : {T : Type 0} {s : SeatInfo (Mark T)} {table : TableId} {seats left : ℕ} {m : QueueHolder T} → IsTokenOfSeat s table seats left m → Gathered table.slots seats table (s ∷ []) left m
 gathered_one {T} {s} {table} {seats} {left} {m} its =
     let h : List (Mark T) = reverse m.0.seen in
     let tickets : ℕ → ℕ = λ n. tickets_in (marks_of seat_of n h) in
@@ -150,11 +150,11 @@ gathered_one {T} {s} {table} {seats} {left} {m} its =
 
 -- the token of an idle seat
 pub token_of_seat : {T : Type 0} {size seats name left : ℕ} {p : Phase T} {table : TableId} {m : QueueHolder T} {s : SeatInfo (Mark T)} → table.slots ≡ size
-    → IsQueueSeat size seats name p left m → queue_seat (object_id table seats) name left m ≡ s → state_of s ≡ seat.Idle → IsTokenOf s table seats left m
+    → IsQueueSeat size seats name p left m → queue_seat (object_id table seats) name left m ≡ s → state_of s ≡ seat.Idle → IsTokenOfSeat s table seats left m
 token_of_seat {T} {size} {seats} {name} {left} {p} {table} {m} {s} slots f seat_is e =
     let shown : state_of (queue_seat (object_id table seats) name left m) ≡ state_in p = state_shown (object_id table seats) name left m p f.rests in
     let rests : p ≡ phase.Idle = idle_phase f.rests (sym shown ∙ (ap state_of seat_is ∙ e)) in
-    let here : IsTokenOf (queue_seat (object_id table seats) name left m) table seats left m = record {
+    let here : IsTokenOfSeat (queue_seat (object_id table seats) name left m) table seats left m = record {
       object = refl;
       stint = refl;
       seen = refl;
@@ -162,12 +162,12 @@ token_of_seat {T} {size} {seats} {name} {left} {p} {table} {m} {s} slots f seat_
       idle = rests_idle (subst (λ (q : Phase T). RestsAt q (stage m.0.seen name)) rests f.rests);
       lawful = subst (λ k. IsQueueHistory k (reverse m.0.seen)) (sym slots) f.lawful;
     } in
-    subst (λ (x : SeatInfo (Mark T)). IsTokenOf x table seats left m) seat_is here
+    subst (λ (x : SeatInfo (Mark T)). IsTokenOfSeat x table seats left m) seat_is here
 
 -- ---- one after the other
 
 -- the first of all is taken
-pub gathers_first : {T : Type 0} {s : SeatInfo (Mark T)} {table mine : TableId} {seats own left : ℕ} {m : QueueHolder T} (others all : List (SeatInfo (Mark T))) → all ≡ s ∷ others → All (IsIdleSeat (object_id table seats)) all → IsTokenOf s mine own left m
+pub gathers_first : {T : Type 0} {s : SeatInfo (Mark T)} {table mine : TableId} {seats own left : ℕ} {m : QueueHolder T} (others all : List (SeatInfo (Mark T))) → all ≡ s ∷ others → All (IsIdleSeat (object_id table seats)) all → IsTokenOfSeat s mine own left m
     → GatheredOf table.slots seats table others all left m
 gathers_first {T} {s} {table} {mine} {seats} {own} {left} {m} others all are idle its =
     let now : All (IsIdleSeat (object_id table seats)) (s ∷ others) = subst (All (IsIdleSeat (object_id table seats))) are idle in
@@ -183,7 +183,7 @@ pub one_idle : {T : Type 0} {s : SeatInfo (Mark T)} {object : ObjectId} (others 
 one_idle {s = s} {object = object} others all are idle = All-head (IsIdleSeat object) s others (subst (All (IsIdleSeat object)) are idle)
 
 -- the next one is taken
-pub gathers_next : {T : Type 0} {s : SeatInfo (Mark T)} {table : TableId} {size seats left more : ℕ} {v w after : QueueHolder T} (others rest all : List (SeatInfo (Mark T))) → GatheredOf size seats table others all left v → others ≡ s ∷ rest → IsTokenOf s table seats more w → JoinsTo size seats v w after
+pub gathers_next : {T : Type 0} {s : SeatInfo (Mark T)} {table : TableId} {size seats left more : ℕ} {v w after : QueueHolder T} (others rest all : List (SeatInfo (Mark T))) → GatheredOf size seats table others all left v → others ≡ s ∷ rest → IsTokenOfSeat s table seats more w → JoinsTo size seats v w after
     → GatheredOf size seats table rest all (left + more) after
 gathers_next {T} {s} {table} {size} {seats} {left} {more} {v} {w} {after} others rest all g are its joins = record {
   taken = g.taken ++ s ∷ [];

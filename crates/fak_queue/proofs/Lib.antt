@@ -2,6 +2,7 @@ pub mod Common
 pub mod WordWrites
 pub mod Slots
 pub mod Stepping
+pub mod StepTokens
 pub mod InsertionSteps
 pub mod DeletionSteps
 pub mod Allowed

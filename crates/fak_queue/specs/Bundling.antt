@@ -97,7 +97,7 @@ pub record Rests {T : Type 0} (size seats : ℕ) (names : List ℕ) (left : ℕ)
   pub lawful : IsQueueHistory size (reverse me.0.seen)
 
 -- the token of an idle seat, of this object and with these tickets left
-pub record IsTokenOf {T : Type 0} (s : SeatInfo (Mark T)) (table : TableId) (seats left : ℕ) (me : QueueHolder T) : Type 0 where
+pub record IsTokenOfSeat {T : Type 0} (s : SeatInfo (Mark T)) (table : TableId) (seats left : ℕ) (me : QueueHolder T) : Type 0 where
   pub object : s.object ≡ object_id table seats
   pub stint : s.stint ≡ left + tickets_in (marks_of seat_of s.name (reverse me.0.seen))
   pub seen : s.seen ≡ reverse me.0.seen

@@ -1,6 +1,7 @@
 pub mod Words
 pub mod Shown
 pub mod Steps
+pub mod StepTokens
 pub mod Queues
 pub mod Refusals
 pub mod Retries

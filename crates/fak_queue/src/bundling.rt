@@ -10,7 +10,7 @@ ghost use Rattle.fak_model.specs.Names.{Has};
 ghost use Rattle.fak_model.specs.Queue.{IsQueueHistory, queue_rules};
 ghost use Rattle.fak_model.specs.Seats.{In};
 ghost use Rattle.fak_queue.specs.declared.bundle.BundleState.TheVariants.{Idle};
-ghost use Rattle.fak_queue.specs.Bundling.{AreSeatsOf, IsBundleFault, IsBundleOf, IsTokenOf, name_of, tally_of_bundle};
+ghost use Rattle.fak_queue.specs.Bundling.{AreSeatsOf, IsBundleFault, IsBundleOf, IsTokenOfSeat, name_of, tally_of_bundle};
 ghost use Rattle.fak_queue.specs.Queues.{IsIdleSeat, size_of, state_of};
 ghost use Rattle.fak_queue.specs.declared.state.SeatState.TheVariants as seat_is;
 
@@ -156,7 +156,7 @@ struct Part<T> {
 /// What a bundle takes over of this seat.
 fn part_of<T: Drop>(seat: Seat<T>) -> Part<T>
     requires { state_of seat ≡ seat_is.Idle }
-    ensures { IsTokenOf seat result.token.table_id result.seats result.left result.token.me }
+    ensures { IsTokenOfSeat seat result.token.table_id result.seats result.left result.token.me }
 {
     let Seat {
         token,

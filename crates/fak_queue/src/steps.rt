@@ -4,11 +4,10 @@ pub(crate) mod deletion;
 pub(crate) mod insertion;
 pub(crate) mod observation;
 
-ghost use Rattle.std.specs.Prelude.{◌≡◌, Some};
-ghost use Rattle.fak_model.specs.Views.{HasOneName};
+ghost use Rattle.std.specs.Prelude.{◌≡◌};
 ghost use Rattle.fak_core.specs.declared.queue.phase.Phase.TheVariants.{Idle};
-ghost use Rattle.fak_queue.specs.declared.standing.Standing.TheVariants.{Alike};
-ghost use Rattle.fak_queue.specs.Steps.{FitsTable, HeardJoin, Named, ShutAs};
+ghost use Rattle.fak_queue.specs.Steps.{FitsTable, HeardJoin, ShutAs};
+ghost use Rattle.fak_queue.specs.StepTokens.{IsTokenOf, StandsAt, Tells};
 
 use crate::limits::QueueLimits;
 use crate::plays::{Call, HearPlay, ShutPlay};
@@ -31,12 +30,8 @@ pub(crate) type QueueWords<T> = Shared<
 
 /// Sets the shut bit, and tells whether it was not set before.
 pub(crate) fn shut<T, J: Call<T>>(words: &QueueWords<T>, token: &mut QueueToken<T>) -> bool
-    requires table { FitsTable token.old.table_id words.now.table_id words.now.key J.seats }
-    requires seat { HasOneName token.old.me.0 }
-    requires phase { token.old.me.0.phase ≡ Some (Alike Idle) }
-    ensures same { token.new.table_id ≡ token.old.table_id }
-    ensures told { Named token.old.me
-        (λ n. ShutAs words.now.table_id.slots J.seats n result token.old.me token.new.me) }
+    requires { IsTokenOf words.now.table_id words.now.key J.seats (StandsAt Idle) token.old }
+    ensures { Tells token.old token.new (λ n after. ShutAs words.now.table_id.slots J.seats n result token.old.me after) }
 {
     let found = words.fetch_or::<ShutPlay<J>>(token, UPPER, SHUT);
     found < SHUT

@@ -1,10 +1,10 @@
 //! The atomic steps that observe a count and leave no mark.
 
 ghost use Rattle.std.specs.Prelude.{◌≡◌, Some};
-ghost use Rattle.fak_model.specs.Views.{HasOneName};
 ghost use Rattle.fak_core.specs.declared.queue.phase.Phase.{Phase};
 ghost use Rattle.fak_queue.specs.declared.standing.Standing.TheVariants.{Alike};
-ghost use Rattle.fak_queue.specs.Steps.{FitsTable, ObservedLow, ObservedUp};
+ghost use Rattle.fak_queue.specs.Steps.{ObservedLow, ObservedUp};
+ghost use Rattle.fak_queue.specs.StepTokens.{IsTokenOf, StandsAt};
 
 use crate::in_use::InUse;
 use crate::plays::{Call, ObserveLowPlay, ObserveUpPlay};
@@ -14,9 +14,7 @@ use fak_model::count_of;
 
 /// Loads the upper count: the cells in use, and whether the queue is shut.
 pub(crate) fn observe_up<T, J: Call<T>>(words: &QueueWords<T>, token: &mut QueueToken<T>) -> InUse
-    requires table { FitsTable token.old.table_id words.now.table_id words.now.key J.seats }
-    requires seat { HasOneName token.old.me.0 }
-    requires phase { (p : Phase T) × (token.old.me.0.phase ≡ Some (Alike p)) }
+    requires { IsTokenOf words.now.table_id words.now.key J.seats (λ me. (p : Phase T) × StandsAt p me) token.old }
     ensures same { token.new.table_id ≡ token.old.table_id }
     ensures told { (p : Phase T) → token.old.me.0.phase ≡ Some (Alike p)
         → ObservedUp words.now.table_id.slots J.seats p result token.old.me token.new.me }
@@ -26,9 +24,7 @@ pub(crate) fn observe_up<T, J: Call<T>>(words: &QueueWords<T>, token: &mut Queue
 
 /// Loads the lower count.
 pub(crate) fn observe_low<T, J: Call<T>>(words: &QueueWords<T>, token: &mut QueueToken<T>) -> i64
-    requires table { FitsTable token.old.table_id words.now.table_id words.now.key J.seats }
-    requires seat { HasOneName token.old.me.0 }
-    requires phase { (p : Phase T) × (token.old.me.0.phase ≡ Some (Alike p)) }
+    requires { IsTokenOf words.now.table_id words.now.key J.seats (λ me. (p : Phase T) × StandsAt p me) token.old }
     ensures same { token.new.table_id ≡ token.old.table_id }
     ensures told { (p : Phase T) → token.old.me.0.phase ≡ Some (Alike p)
         → ObservedLow words.now.table_id.slots J.seats p result token.old.me token.new.me }

@@ -3,8 +3,8 @@ use Rattle.fak_model.specs.Calls.{object_id}
 use Rattle.fak_queue.proofs.SeatCalls.{idle_token, left_less, seat_after, state_after, drawn_after, claims_out, seat_refused, state_refused, drawn_refused, refuses_empty}
 use Rattle.fak_queue.proofs.queue.Queue.claim_delete.Goals as goal
 
-pub admit_deletion-requires-clause-phase : goal.admit_deletion-requires-clause-phase
-admit_deletion-requires-clause-phase g c = ap (λ m. m.0.phase) (idle_token c.seat.invariant c.seat.view_is c.requires.idle).me_is
+pub admit_deletion-requires-clause-token : goal.admit_deletion-requires-clause-token
+admit_deletion-requires-clause-token g c = record { table = search rules; seat = search rules; free = search rules; phase = (ap (λ m. m.0.phase) (idle_token c.seat.invariant c.seat.view_is c.requires.idle).me_is) }
 
 pub invariant_of-seat : goal.invariant_of-seat
 invariant_of-seat g c = seat_after c.self.inside.table.shared.key c.seat.invariant c.self.invariant c.seat.view_is c.self.view_is c.requires.object (c.in-Ok.ensures.told c.seat.inside.name (token_names c.seat.invariant.token)).part (left_less c.self.inside.table.shared.key c.seat.invariant c.self.invariant c.seat.view_is c.self.view_is c.requires.object) c.admit_deletion.ensures.same

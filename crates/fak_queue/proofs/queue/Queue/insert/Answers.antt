@@ -1,19 +1,19 @@
 use Rattle.fak_model.specs.Calls.{object_id}
-use Rattle.fak_queue.proofs.Common.{Filled, Inserts, drawn_by, queue_seat, RefusesInsertion, ap, ◌≡◌, ◌+◌, MatchResult, sym, subst, arith, token_names}
+use Rattle.fak_queue.proofs.Common.{rules, Filled, Inserts, drawn_by, queue_seat, RefusesInsertion, ap, ◌≡◌, ◌+◌, MatchResult, sym, subst, arith, token_names}
 use Rattle.fak_queue.proofs.States.{rests_inserting}
 use Rattle.fak_queue.proofs.PartSteps.{names_then, slots_then}
 use Rattle.fak_queue.proofs.SeatCalls.{idle_token, seat_refused_in, state_refused_in, drawn_refused_in, refuses_insertion}
 use Rattle.fak_queue.proofs.AtOnce.{seat_inserted, state_inserted, drawn_inserted, inserts}
 use Rattle.fak_queue.proofs.queue.Queue.insert.Goals as goal
 
-pub admit_insertion-requires-clause-phase : goal.admit_insertion-requires-clause-phase
-admit_insertion-requires-clause-phase g c = ap (λ m. m.0.phase) (idle_token c.seat.invariant c.seat.view_is c.requires.idle).me_is
+pub admit_insertion-requires-clause-token : goal.admit_insertion-requires-clause-token
+admit_insertion-requires-clause-token g c = record { table = search rules; seat = search rules; free = search rules; phase = (ap (λ m. m.0.phase) (idle_token c.seat.invariant c.seat.view_is c.requires.idle).me_is) }
 
 pub place-place-requires : goal.place-place-requires
 place-place-requires g c = (rests_inserting (c.in-Ok.ensures.told c.seat.inside.name (token_names c.seat.invariant.token)).part.rests).1
 
-pub wait_to_fill-requires-clause-seat : goal.wait_to_fill-requires-clause-seat
-wait_to_fill-requires-clause-seat g c = let part = (c.in-Ok.ensures.told c.seat.inside.name (token_names c.seat.invariant.token)).part in ((c.seat.inside.name, names_then part), slots_then part)
+pub wait_to_fill-requires : goal.wait_to_fill-requires
+wait_to_fill-requires g c = let part = (c.in-Ok.ensures.told c.seat.inside.name (token_names c.seat.invariant.token)).part in record { table = search rules; place = search rules; seat = (c.seat.inside.name, names_then part); free = slots_then part; phase = search rules }
 
 pub invariant_of-seat : goal.invariant_of-seat
 invariant_of-seat g c = seat_inserted c.self.inside.table.shared.key c.seat.invariant c.self.invariant c.seat.view_is c.self.view_is c.requires.object c.admit_insertion.ensures.same c.wait_to_fill.ensures.same c.admit_insertion.new.token.me c.wait_to_fill.new.token.me (c.in-Ok.ensures.told c.seat.inside.name (token_names c.seat.invariant.token)) (subst (λ k. Filled c.self.inside.table.shared.table_id.slots c.self.inside.table.shared.key.seats c.seat.inside.name k c.admit_insertion.new.token.me c.wait_to_fill.new.token.me) c.place-place.ensures.ticket (c.wait_to_fill.ensures.told c.seat.inside.name (names_then (c.in-Ok.ensures.told c.seat.inside.name (token_names c.seat.invariant.token)).part))) c.requires.idle

@@ -1,4 +1,4 @@
-use Rattle.fak_queue.proofs.Common.{sym, ap, ◌∙◌, TurnIn}
+use Rattle.fak_queue.proofs.Common.{rules, sym, ap, ◌∙◌, TurnIn}
 use Rattle.fak_queue.proofs.Trying.{seat_waits_in, state_waits_in, drawn_waits_in, waits_in, names_looked_in, phase_looked_in, slot_looked_in, seat_filled, state_filled, drawn_filled, fills_cell}
 use Rattle.fak_queue.proofs.queue.Queue.try_fill.Goals as goal
 
@@ -14,23 +14,20 @@ returns-then-not-finds_room-clause-left g c = drawn_waits_in c.self.inside.table
 pub returns-then-not-finds_room-clause-call : goal.returns-then-not-finds_room-clause-call
 returns-then-not-finds_room-clause-call g c = waits_in c.self.inside.table.shared.key c.seat.invariant c.self.invariant c.seat.view_is c.self.view_is c.requires.object c.finds_room.ensures.same c.finds_room.new.token.me (c.in-TurnIn.is ∙ ap (λ k. TurnIn k c.in-TurnIn.field-1) (sym c.place-place.ensures.ticket)) c.if-not-finds_room.ensures.told
 
-pub fill_cell_from-requires-clause-seat : goal.fill_cell_from-requires-clause-seat
-fill_cell_from-requires-clause-seat g c = (c.seat.inside.name, names_looked_in c.self.inside.table.shared.key c.seat.invariant c.self.invariant c.seat.view_is c.self.view_is c.requires.object c.finds_room.ensures.same c.finds_room.new.token.me (c.in-TurnIn.is ∙ ap (λ k. TurnIn k c.in-TurnIn.field-1) (sym c.place-place.ensures.ticket)) c.if-not-finds_room.ensures.told)
-
-pub fill_cell_from-requires-clause-item : goal.fill_cell_from-requires-clause-item
-fill_cell_from-requires-clause-item g c = let stands = (c.in-TurnIn.is ∙ ap (λ k. TurnIn k c.in-TurnIn.field-1) (sym c.place-place.ensures.ticket)) in (c.in-TurnIn.field-1, stands, phase_looked_in c.self.inside.table.shared.key c.seat.invariant c.self.invariant c.seat.view_is c.self.view_is c.requires.object c.finds_room.ensures.same c.finds_room.new.token.me stands c.if-not-finds_room.ensures.told)
+pub fill_cell_from-requires-clause-token : goal.fill_cell_from-requires-clause-token
+fill_cell_from-requires-clause-token g c = record { table = search rules; place = search rules; seat = (c.seat.inside.name, names_looked_in c.self.inside.table.shared.key c.seat.invariant c.self.invariant c.seat.view_is c.self.view_is c.requires.object c.finds_room.ensures.same c.finds_room.new.token.me (c.in-TurnIn.is ∙ ap (λ k. TurnIn k c.in-TurnIn.field-1) (sym c.place-place.ensures.ticket)) c.if-not-finds_room.ensures.told); phase = (let stands = (c.in-TurnIn.is ∙ ap (λ k. TurnIn k c.in-TurnIn.field-1) (sym c.place-place.ensures.ticket)) in (c.in-TurnIn.field-1, stands, phase_looked_in c.self.inside.table.shared.key c.seat.invariant c.self.invariant c.seat.view_is c.self.view_is c.requires.object c.finds_room.ensures.same c.finds_room.new.token.me stands c.if-not-finds_room.ensures.told)) }
 
 pub fill_cell_from-requires-clause-slot : goal.fill_cell_from-requires-clause-slot
 fill_cell_from-requires-clause-slot g c = slot_looked_in c.self.inside.table.shared.key c.seat.invariant c.self.invariant c.seat.view_is c.self.view_is c.requires.object c.finds_room.ensures.same c.finds_room.new.token.me (c.in-TurnIn.is ∙ ap (λ k. TurnIn k c.in-TurnIn.field-1) (sym c.place-place.ensures.ticket)) c.if-not-finds_room.ensures.told c.place-place.result.cell c.place-place.ensures.place.cell_is
 
 pub invariant_of-seat-2 : goal.invariant_of-seat-2
-invariant_of-seat-2 g c = seat_filled c.self.inside.table.shared.key c.seat.invariant c.self.invariant c.seat.view_is c.self.view_is c.requires.object (c.fill_cell_from.ensures.same ∙ c.finds_room.ensures.same) c.fill_cell_from.new.token.me (c.in-TurnIn.is ∙ ap (λ k. TurnIn k c.in-TurnIn.field-1) (sym c.place-place.ensures.ticket)) c.if-not-finds_room.ensures.told c.fill_cell_from.ensures.told c.fill_cell_from.ensures.kept
+invariant_of-seat-2 g c = seat_filled c.self.inside.table.shared.key c.seat.invariant c.self.invariant c.seat.view_is c.self.view_is c.requires.object (c.fill_cell_from.ensures.told.same ∙ c.finds_room.ensures.same) c.fill_cell_from.new.token.me (c.in-TurnIn.is ∙ ap (λ k. TurnIn k c.in-TurnIn.field-1) (sym c.place-place.ensures.ticket)) c.if-not-finds_room.ensures.told c.fill_cell_from.ensures.told.told c.fill_cell_from.ensures.kept
 
 pub returns-clause-state : goal.returns-clause-state
-returns-clause-state g c = state_filled c.self.inside.table.shared.key c.seat.invariant c.self.invariant c.seat.view_is c.self.view_is c.requires.object (c.fill_cell_from.ensures.same ∙ c.finds_room.ensures.same) c.fill_cell_from.new.token.me (c.in-TurnIn.is ∙ ap (λ k. TurnIn k c.in-TurnIn.field-1) (sym c.place-place.ensures.ticket)) c.if-not-finds_room.ensures.told c.fill_cell_from.ensures.told
+returns-clause-state g c = state_filled c.self.inside.table.shared.key c.seat.invariant c.self.invariant c.seat.view_is c.self.view_is c.requires.object (c.fill_cell_from.ensures.told.same ∙ c.finds_room.ensures.same) c.fill_cell_from.new.token.me (c.in-TurnIn.is ∙ ap (λ k. TurnIn k c.in-TurnIn.field-1) (sym c.place-place.ensures.ticket)) c.if-not-finds_room.ensures.told c.fill_cell_from.ensures.told.told
 
 pub returns-clause-left : goal.returns-clause-left
-returns-clause-left g c = drawn_filled c.self.inside.table.shared.key c.seat.invariant c.self.invariant c.seat.view_is c.self.view_is c.requires.object (c.fill_cell_from.ensures.same ∙ c.finds_room.ensures.same) c.fill_cell_from.new.token.me (c.in-TurnIn.is ∙ ap (λ k. TurnIn k c.in-TurnIn.field-1) (sym c.place-place.ensures.ticket)) c.if-not-finds_room.ensures.told c.fill_cell_from.ensures.told
+returns-clause-left g c = drawn_filled c.self.inside.table.shared.key c.seat.invariant c.self.invariant c.seat.view_is c.self.view_is c.requires.object (c.fill_cell_from.ensures.told.same ∙ c.finds_room.ensures.same) c.fill_cell_from.new.token.me (c.in-TurnIn.is ∙ ap (λ k. TurnIn k c.in-TurnIn.field-1) (sym c.place-place.ensures.ticket)) c.if-not-finds_room.ensures.told c.fill_cell_from.ensures.told.told
 
 pub returns-clause-call : goal.returns-clause-call
-returns-clause-call g c = λ k e. fills_cell c.self.inside.table.shared.key c.seat.invariant c.self.invariant c.seat.view_is c.self.view_is c.requires.object (c.fill_cell_from.ensures.same ∙ c.finds_room.ensures.same) c.fill_cell_from.new.token.me (c.in-TurnIn.is ∙ ap (λ k. TurnIn k c.in-TurnIn.field-1) (sym c.place-place.ensures.ticket)) c.if-not-finds_room.ensures.told c.fill_cell_from.ensures.told c.in-TurnIn.ticket k (sym c.place-place.ensures.ticket) e
+returns-clause-call g c = λ k e. fills_cell c.self.inside.table.shared.key c.seat.invariant c.self.invariant c.seat.view_is c.self.view_is c.requires.object (c.fill_cell_from.ensures.told.same ∙ c.finds_room.ensures.same) c.fill_cell_from.new.token.me (c.in-TurnIn.is ∙ ap (λ k. TurnIn k c.in-TurnIn.field-1) (sym c.place-place.ensures.ticket)) c.if-not-finds_room.ensures.told c.fill_cell_from.ensures.told.told c.in-TurnIn.ticket k (sym c.place-place.ensures.ticket) e

@@ -1,4 +1,4 @@
-use Rattle.fak_queue.proofs.Common.{sym, ap, ◌∙◌, TurnOut}
+use Rattle.fak_queue.proofs.Common.{rules, sym, ap, ◌∙◌, TurnOut}
 use Rattle.fak_queue.proofs.Trying.{seat_waits_out, state_waits_out, drawn_waits_out, waits_out, names_looked_out, phase_looked_out, slot_looked_out, seat_taken, state_taken, drawn_taken, takes_item}
 use Rattle.fak_queue.proofs.queue.Queue.try_take.Goals as goal
 
@@ -14,11 +14,8 @@ returns-then-not-finds_item-clause-left g c = drawn_waits_out c.self.inside.tabl
 pub returns-then-not-finds_item-clause-call : goal.returns-then-not-finds_item-clause-call
 returns-then-not-finds_item-clause-call g c = waits_out c.self.inside.table.shared.key c.seat.invariant c.self.invariant c.seat.view_is c.self.view_is c.requires.object c.finds_item.ensures.same c.finds_item.new.token.me (c.in-TurnOut.is ∙ ap (λ k. TurnOut k) (sym c.place-place.ensures.ticket)) c.if-not-finds_item.ensures.told
 
-pub empty_cell-requires-clause-seat : goal.empty_cell-requires-clause-seat
-empty_cell-requires-clause-seat g c = (c.seat.inside.name, names_looked_out c.self.inside.table.shared.key c.seat.invariant c.self.invariant c.seat.view_is c.self.view_is c.requires.object c.finds_item.ensures.same c.finds_item.new.token.me (c.in-TurnOut.is ∙ ap (λ k. TurnOut k) (sym c.place-place.ensures.ticket)) c.if-not-finds_item.ensures.told)
-
-pub empty_cell-requires-clause-phase : goal.empty_cell-requires-clause-phase
-empty_cell-requires-clause-phase g c = phase_looked_out c.self.inside.table.shared.key c.seat.invariant c.self.invariant c.seat.view_is c.self.view_is c.requires.object c.finds_item.ensures.same c.finds_item.new.token.me (c.in-TurnOut.is ∙ ap (λ k. TurnOut k) (sym c.place-place.ensures.ticket)) c.if-not-finds_item.ensures.told
+pub empty_cell-requires-clause-token : goal.empty_cell-requires-clause-token
+empty_cell-requires-clause-token g c = record { table = search rules; place = search rules; seat = (c.seat.inside.name, names_looked_out c.self.inside.table.shared.key c.seat.invariant c.self.invariant c.seat.view_is c.self.view_is c.requires.object c.finds_item.ensures.same c.finds_item.new.token.me (c.in-TurnOut.is ∙ ap (λ k. TurnOut k) (sym c.place-place.ensures.ticket)) c.if-not-finds_item.ensures.told); phase = (phase_looked_out c.self.inside.table.shared.key c.seat.invariant c.self.invariant c.seat.view_is c.self.view_is c.requires.object c.finds_item.ensures.same c.finds_item.new.token.me (c.in-TurnOut.is ∙ ap (λ k. TurnOut k) (sym c.place-place.ensures.ticket)) c.if-not-finds_item.ensures.told) }
 
 pub empty_cell-requires-clause-slot : goal.empty_cell-requires-clause-slot
 empty_cell-requires-clause-slot g c = slot_looked_out c.self.inside.table.shared.key c.seat.invariant c.self.invariant c.seat.view_is c.self.view_is c.requires.object c.finds_item.ensures.same c.finds_item.new.token.me (c.in-TurnOut.is ∙ ap (λ k. TurnOut k) (sym c.place-place.ensures.ticket)) c.if-not-finds_item.ensures.told c.place-place.result.cell c.place-place.ensures.place.cell_is

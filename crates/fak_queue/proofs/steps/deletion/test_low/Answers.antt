@@ -7,5 +7,5 @@ load-found-requires g c =
     let t = c.requires.table in
     (t.same, omega (arith, t.words), tests_low_allowed c.args.words.now.key _ _ _ c.requires.seat.0 _ t.few c.requires.seat.1 c.requires.phase)
 
-pub returns-clause-told : goal.returns-clause-told
-returns-clause-told g c = search rules
+pub returns : goal.returns
+returns g c = record { same = search rules; told = search rules }

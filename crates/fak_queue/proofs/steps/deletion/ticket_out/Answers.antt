@@ -4,5 +4,5 @@ use Rattle.fak_queue.proofs.steps.deletion.ticket_out.Goals as goal
 
 pub fetch_add-requires : goal.fetch_add-requires
 fetch_add-requires g c =
-    let t = c.requires.table in
-    (t.same, omega (arith, t.words), draws_out_allowed c.args.words.now.key _ _ _ c.requires.seat.0 _ t.few c.requires.seat.1 c.requires.phase c.requires.left)
+    let t = c.requires.token.table in
+    (t.same, omega (arith, t.words), draws_out_allowed c.args.words.now.key _ _ _ c.requires.token.seat.0 _ t.few c.requires.token.seat.1 c.requires.token.phase c.requires.left)

@@ -4,8 +4,8 @@ use Rattle.fak_queue.proofs.steps.insertion.test_up.Goals as goal
 
 pub load-found-requires : goal.load-found-requires
 load-found-requires g c =
-    let t = c.requires.table in
-    (t.same, omega (arith, t.words), tests_up_allowed c.args.words.now.key _ _ _ c.requires.seat.0 _ t.few c.requires.seat.1 _ _ c.requires.item c.requires.phase)
+    let t = c.requires.token.table in
+    (t.same, omega (arith, t.words), tests_up_allowed c.args.words.now.key _ _ _ c.requires.token.seat.0 _ t.few c.requires.token.seat.1 _ _ c.requires.item c.requires.token.phase)
 
-pub returns-clause-told : goal.returns-clause-told
-returns-clause-told g c = search rules
+pub returns : goal.returns
+returns g c = record { same = search rules; told = search rules }

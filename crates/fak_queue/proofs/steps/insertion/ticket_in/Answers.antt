@@ -4,5 +4,5 @@ use Rattle.fak_queue.proofs.steps.insertion.ticket_in.Goals as goal
 
 pub fetch_add-requires : goal.fetch_add-requires
 fetch_add-requires g c =
-    let t = c.requires.table in
-    (t.same, omega (arith, t.words), draws_in_allowed c.args.words.now.key _ _ _ c.requires.seat.0 _ t.few c.requires.seat.1 _ c.requires.phase.1 c.requires.left)
+    let t = c.requires.token.table in
+    (t.same, omega (arith, t.words), draws_in_allowed c.args.words.now.key _ _ _ c.requires.token.seat.0 _ t.few c.requires.token.seat.1 _ c.requires.token.phase.1 c.requires.left)
