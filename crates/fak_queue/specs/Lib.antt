@@ -11,6 +11,7 @@ pub mod Rests
 pub mod Sums
 pub mod Drained
 pub mod Bursts
+pub mod BurstTokens
 pub mod Bundles
 pub mod BundleCalls
 pub mod BurstCalls

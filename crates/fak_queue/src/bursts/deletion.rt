@@ -3,14 +3,15 @@
 ghost use Rattle.std.specs.Prelude.{◌≡◌, ◌⊎◌, true, ◌≤◌, ◌++◌, ◌∷◌, ℕ, List, None, Option, Some, length};
 ghost use Rattle.fak_core.specs.declared.queue.phase.Phase.TheVariants.{BackLow, EndDelete, Idle, LoadItem, SubLow, TicketOut, TurnOut};
 ghost use Rattle.fak_core.specs.QueueBlocks.{AreApart, Posts, all_at, names_of};
-ghost use Rattle.fak_queue.specs.Steps.{FitsTable, IsPlace};
-ghost use Rattle.fak_queue.specs.declared.standing.Standing.TheVariants.{Alike, Each};
-ghost use Rattle.fak_queue.specs.Bursts.{AllIn, AreDisjoint, AreIdle, BackLowBurst, DrewOutBurst, EndedOutBurst};
+ghost use Rattle.fak_queue.specs.declared.standing.Standing.TheVariants.{Each};
+ghost use Rattle.fak_queue.specs.Bursts.{AllIn, AreIdle, BackLowBurst, DrewOutBurst, EndedOutBurst};
 ghost use Rattle.fak_queue.specs.Bursts.{FreesBurst, Says, SaysAfter, SubbedBurst, TestedLowBurst, TurnsOutBurst};
 ghost use Rattle.fak_queue.specs.Shown.{IsPost};
 ghost use Rattle.fak_model.specs.Seats.{In};
 ghost use Rattle.fak_core.specs.declared.queue.phase.Phase.{Phase};
 ghost use Rattle.fak_queue.specs.Bundles.{SaysOf};
+ghost use Rattle.fak_queue.specs.StepTokens.{StandsAt};
+ghost use Rattle.fak_queue.specs.BurstTokens.{IsBundleToken, IsBurstToken, IsNameAt, TellsAll};
 
 use crate::bursts::plays::{
     BackLowBurstPlay, DrawOutBurstPlay, EndOutBurstPlay, Ends, FreeBurstPlay, OneName,
@@ -28,14 +29,11 @@ pub(crate) fn test_low_burst<T, J: Takers<T>>(
     _names: &[u64],
     _part: u64,
 ) -> u64
-    requires table { FitsTable token.old.table_id words.now.table_id words.now.key J.seats }
-    requires names { AreApart (names_of J.items) × AreDisjoint (names_of J.items) (names_of J.others)
-        × AllIn (names_of J.items ++ names_of J.others) token.old.me.0.names
-        × AllIn token.old.me.0.names (names_of J.items ++ names_of J.others) }
+    requires token { IsBurstToken words.now.table_id words.now.key J.seats J.items J.others (StandsAt Idle) token.old }
+    requires all { AllIn token.old.me.0.names (names_of J.items ++ names_of J.others) }
     requires idle { AreIdle J.others }
-    requires phase { token.old.me.0.phase ≡ Some (Alike Idle) }
-    ensures same { token.new.table_id ≡ token.old.table_id }
-    ensures told { TestedLowBurst words.now.table_id.slots J.seats J.items J.others token.old.me result token.new.me }
+    ensures { TellsAll token.old token.new (λ after. TestedLowBurst words.now.table_id.slots J.seats J.items J.others
+        token.old.me result after) }
 {
     words.load::<TestLowBurstPlay<J>>(token, LOWER)
 }
@@ -48,13 +46,11 @@ pub(crate) fn sub_burst<T, J: Takers<T>>(
     _names: &[u64],
     _part: u64,
 ) -> u64
-    requires table { FitsTable token.old.table_id words.now.table_id words.now.key J.seats }
+    requires token { IsBurstToken words.now.table_id words.now.key J.seats J.items J.others
+        (λ me. Says me.0 (all_at (λ x. SubLow) J.items ++ J.others)) token.old }
     requires count { (count ≡ length J.items) × (count ≤ 1024) }
-    requires names { AreApart (names_of J.items) × AreDisjoint (names_of J.items) (names_of J.others)
-        × AllIn (names_of J.items ++ names_of J.others) token.old.me.0.names }
-    requires phase { Says token.old.me.0 (all_at (λ x. SubLow) J.items ++ J.others) }
-    ensures same { token.new.table_id ≡ token.old.table_id }
-    ensures told { SubbedBurst words.now.table_id.slots J.seats J.items J.others token.old.me result token.new.me }
+    ensures { TellsAll token.old token.new (λ after. SubbedBurst words.now.table_id.slots J.seats J.items J.others
+        token.old.me result after) }
 {
     words.fetch_sub::<SubBurstPlay<J>>(token, LOWER, count)
 }
@@ -67,14 +63,12 @@ pub(crate) fn back_low_burst<T, J: Takers<T>>(
     _names: &[u64],
     _part: u64,
 )
-    requires table { FitsTable token.old.table_id words.now.table_id words.now.key J.seats }
+    requires token { IsBurstToken words.now.table_id words.now.key J.seats J.items J.others
+        (λ me. Says me.0 (all_at (λ x. BackLow) J.items ++ J.others)) token.old }
     requires count { (count ≡ length J.items) × (count ≤ 1024) }
-    requires names { AreApart (names_of J.items) × AreDisjoint (names_of J.items) (names_of J.others)
-        × AllIn (names_of J.items ++ names_of J.others) token.old.me.0.names }
-    requires phase { Says token.old.me.0 (all_at (λ x. BackLow) J.items ++ J.others) }
     requires then { SaysAfter token.old.me.0.names (all_at (λ x. Idle) J.items ++ J.others) J.then }
-    ensures same { token.new.table_id ≡ token.old.table_id }
-    ensures told { BackLowBurst words.now.table_id.slots J.seats J.items J.others J.then token.old.me token.new.me }
+    ensures { TellsAll token.old token.new (λ after. BackLowBurst words.now.table_id.slots J.seats J.items J.others
+        J.then token.old.me after) }
 {
     words.fetch_add::<BackLowBurstPlay<J>>(token, LOWER, count);
 }
@@ -87,14 +81,12 @@ pub(crate) fn draw_out_burst<T, J: Takers<T>>(
     _names: &[u64],
     _part: u64,
 ) -> u64
-    requires table { FitsTable token.old.table_id words.now.table_id words.now.key J.seats }
+    requires token { IsBurstToken words.now.table_id words.now.key J.seats J.items J.others
+        (λ me. Says me.0 (all_at (λ x. TicketOut) J.items ++ J.others)) token.old }
     requires count { (count ≡ length J.items) × (count ≤ 1024) }
-    requires names { AreApart (names_of J.items) × AreDisjoint (names_of J.items) (names_of J.others)
-        × AllIn (names_of J.items ++ names_of J.others) token.old.me.0.names }
-    requires phase { Says token.old.me.0 (all_at (λ x. TicketOut) J.items ++ J.others) }
     requires left { count ≤ token.old.me.0.left }
-    ensures same { token.new.table_id ≡ token.old.table_id }
-    ensures told { DrewOutBurst words.now.table_id.slots J.seats J.items J.others token.old.me result token.new.me }
+    ensures { TellsAll token.old token.new (λ after. DrewOutBurst words.now.table_id.slots J.seats J.items J.others
+        token.old.me result after) }
 {
     words.fetch_add::<DrawOutBurstPlay<J>>(token, DRAWS_OUT, count)
 }
@@ -106,13 +98,10 @@ pub(crate) fn turn_out_burst<T, J: OneName>(
     place: Place,
     _name: u64,
 ) -> u64
-    requires table { FitsTable token.old.table_id words.now.table_id words.now.key J.seats }
-    requires place { IsPlace words.now.table_id.slots place }
-    requires name { In J.name token.old.me.0.names }
-    requires phase { (all : Posts T) × (token.old.me.0.phase ≡ Some (Each all))
-        × IsPost J.name (TurnOut place.ticket) all }
-    ensures same { token.new.table_id ≡ token.old.table_id }
-    ensures told { TurnsOutBurst words.now.table_id.slots J.seats J.name token.old.me result token.new.me }
+    requires { IsNameAt words.now.table_id words.now.key J.seats place J.name (λ me. (all : Posts T)
+        × (me.0.phase ≡ Some (Each all)) × IsPost J.name (TurnOut place.ticket) all) token.old }
+    ensures { TellsAll token.old token.new (λ after. TurnsOutBurst words.now.table_id.slots J.seats J.name token.old.me
+        result after) }
 {
     words.load::<TurnOutBurstPlay<J>>(token, place.cell + TURNS)
 }
@@ -124,14 +113,11 @@ pub(crate) fn free_burst<T, J: OneName>(
     place: Place,
     _name: u64,
 )
-    requires table { FitsTable token.old.table_id words.now.table_id words.now.key J.seats }
-    requires place { IsPlace words.now.table_id.slots place }
-    requires name { In J.name token.old.me.0.names }
-    requires phase { (all : Posts T) × (token.old.me.0.phase ≡ Some (Each all))
-        × IsPost J.name (LoadItem place.ticket) all }
+    requires token { IsNameAt words.now.table_id words.now.key J.seats place J.name (λ me. (all : Posts T)
+        × (me.0.phase ≡ Some (Each all)) × IsPost J.name (LoadItem place.ticket) all) token.old }
     requires slot { (others : List (ℕ × Option T)) × (token.old.me.1 ≡ (place.cell, None) ∷ others) }
-    ensures same { token.new.table_id ≡ token.old.table_id }
-    ensures told { FreesBurst words.now.table_id.slots J.seats J.name token.old.me token.new.me }
+    ensures { TellsAll token.old token.new (λ after. FreesBurst words.now.table_id.slots J.seats J.name token.old.me
+        after) }
 {
     words.store::<FreeBurstPlay<J>>(token, place.cell + TURNS, 2 * place.round + 2);
 }
@@ -145,15 +131,15 @@ pub(crate) fn end_out_burst<T, J: Ends>(
     _first: u64,
     _rests: bool,
 )
-    requires table { FitsTable token.old.table_id words.now.table_id words.now.key J.seats }
+    requires token { IsBundleToken words.now.table_id words.now.key J.seats (λ me. (all : Posts T)
+        × (me.0.phase ≡ Some (Each all))) token.old }
     requires count { (count ≡ length J.items) × (count ≤ 1024) }
     requires names { AreApart (names_of J.items) × AllIn (names_of J.items) token.old.me.0.names }
-    requires phase { (all : Posts T) × (token.old.me.0.phase ≡ Some (Each all)) }
     requires ends { (n : ℕ) (p : Phase T) → IsPost n p (all_at (λ k. EndDelete k) J.items) → SaysOf token.old.me.0 n p }
     requires rest { J.rests ≡ true → (n : ℕ) → In n token.old.me.0.names
         → In n (names_of J.items) ⊎ SaysOf token.old.me.0 n Idle }
-    ensures same { token.new.table_id ≡ token.old.table_id }
-    ensures told { EndedOutBurst words.now.table_id.slots J.seats J.items J.rests token.old.me token.new.me }
+    ensures { TellsAll token.old token.new (λ after. EndedOutBurst words.now.table_id.slots J.seats J.items J.rests
+        token.old.me after) }
 {
     words.fetch_sub::<EndOutBurstPlay<J>>(token, UPPER, count);
 }

@@ -1,10 +1,9 @@
 //! One name of a bundle at its cell: it looks whether its turn has come, and moves its item. The name is for the proof alone.
 
 ghost use Rattle.std.specs.Prelude.{◌≡◌, [], ◌∷◌, None, Some};
-ghost use Rattle.fak_model.specs.Seats.{In};
 ghost use Rattle.fak_core.specs.declared.queue.phase.Phase.TheVariants.{LoadItem, StoreItem, TurnIn, TurnOut};
-ghost use Rattle.fak_queue.specs.Steps.{FitsTable, IsPlace};
 ghost use Rattle.fak_queue.specs.Bundles.{FillsIt, LooksAtIn, LooksAtOut, SaysOf, TakesIt};
+ghost use Rattle.fak_queue.specs.BurstTokens.{IsNameAt, TellsAll};
 
 use crate::bursts::deletion::{free_burst, turn_out_burst};
 use crate::bursts::insertion::{fill_burst, turn_burst};
@@ -19,13 +18,10 @@ pub(crate) fn has_room<T>(
     place: Place,
     name: u64,
 ) -> bool
-    requires table { FitsTable token.old.table_id words.now.table_id words.now.key words.now.key.seats }
-    requires place { IsPlace words.now.table_id.slots place }
-    requires name { In name token.old.me.0.names }
-    requires phase { (x : T) × SaysOf token.old.me.0 name (TurnIn place.ticket x) }
-    ensures same { token.new.table_id ≡ token.old.table_id }
-    ensures told { (x : T) → SaysOf token.old.me.0 name (TurnIn place.ticket x)
-        → LooksAtIn words.now.table_id.slots words.now.key.seats name place.ticket x result token.old.me token.new.me }
+    requires { IsNameAt words.now.table_id words.now.key words.now.key.seats place name (λ me. (x : T)
+        × SaysOf me.0 name (TurnIn place.ticket x)) token.old }
+    ensures { TellsAll token.old token.new (λ after. (x : T) → SaysOf token.old.me.0 name (TurnIn place.ticket x)
+        → LooksAtIn words.now.table_id.slots words.now.key.seats name place.ticket x result token.old.me after) }
 {
     turn_burst::<T, Brand>(words, token, place, name) == 2 * place.round
 }
@@ -38,13 +34,11 @@ pub(crate) fn fill<T>(
     name: u64,
     item: T,
 )
-    requires table { FitsTable token.old.table_id words.now.table_id words.now.key words.now.key.seats }
-    requires place { IsPlace words.now.table_id.slots place }
-    requires name { In name token.old.me.0.names }
-    requires phase { SaysOf token.old.me.0 name (StoreItem place.ticket item) }
+    requires token { IsNameAt words.now.table_id words.now.key words.now.key.seats place name (λ me. SaysOf me.0 name
+        (StoreItem place.ticket item)) token.old }
     requires slot { token.old.me.1 ≡ (place.cell, None) ∷ [] }
-    ensures same { token.new.table_id ≡ token.old.table_id }
-    ensures told { FillsIt words.now.table_id.slots words.now.key.seats name place.ticket token.old.me token.new.me }
+    ensures { TellsAll token.old token.new (λ after. FillsIt words.now.table_id.slots words.now.key.seats name
+        place.ticket token.old.me after) }
 {
     match words.exchange(token, place.cell, Some(item)) {
         None => {}
@@ -60,13 +54,10 @@ pub(crate) fn has_item<T>(
     place: Place,
     name: u64,
 ) -> bool
-    requires table { FitsTable token.old.table_id words.now.table_id words.now.key words.now.key.seats }
-    requires place { IsPlace words.now.table_id.slots place }
-    requires name { In name token.old.me.0.names }
-    requires phase { SaysOf token.old.me.0 name (TurnOut place.ticket) }
-    ensures same { token.new.table_id ≡ token.old.table_id }
-    ensures told { LooksAtOut words.now.table_id.slots words.now.key.seats name place.ticket result token.old.me
-        token.new.me }
+    requires { IsNameAt words.now.table_id words.now.key words.now.key.seats place name (λ me. SaysOf me.0 name
+        (TurnOut place.ticket)) token.old }
+    ensures { TellsAll token.old token.new (λ after. LooksAtOut words.now.table_id.slots words.now.key.seats name
+        place.ticket result token.old.me after) }
 {
     turn_out_burst::<T, Brand>(words, token, place, name) == 2 * place.round + 1
 }
@@ -78,14 +69,12 @@ pub(crate) fn take<T>(
     place: Place,
     name: u64,
 ) -> T
-    requires table { FitsTable token.old.table_id words.now.table_id words.now.key words.now.key.seats }
-    requires place { IsPlace words.now.table_id.slots place }
-    requires name { In name token.old.me.0.names }
-    requires phase { SaysOf token.old.me.0 name (LoadItem place.ticket) }
+    requires token { IsNameAt words.now.table_id words.now.key words.now.key.seats place name (λ me. SaysOf me.0 name
+        (LoadItem place.ticket)) token.old }
     requires slot { (x : T) × (token.old.me.1 ≡ (place.cell, Some x) ∷ []) }
-    ensures same { token.new.table_id ≡ token.old.table_id }
     ensures item { token.old.me.1 ≡ (place.cell, Some result) ∷ [] }
-    ensures told { TakesIt words.now.table_id.slots words.now.key.seats name place.ticket token.old.me token.new.me }
+    ensures told { TellsAll token.old token.new (λ after. TakesIt words.now.table_id.slots words.now.key.seats name
+        place.ticket token.old.me after) }
 {
     let taken = words.exchange(token, place.cell, None);
     free_burst::<T, Brand>(words, token, place, name);

@@ -1,3 +1,5 @@
+use Rattle.fak_queue.proofs.Common.{rules}
+use Rattle.fak_queue.proofs.StepTokens.{still_fits}
 use Rattle.fak_queue.proofs.BundleRefusals.{refuses_on}
 use Rattle.fak_queue.proofs.BundleClaims.{claims_on}
 use Rattle.fak_queue.proofs.BurstClaims.{draw_count, draw_names, draw_left, claims_burst}
@@ -8,10 +10,13 @@ draw_burst-requires-clause-count g c =
     let n = c.requires.names in
     draw_count c.args.words.now.table_id.slots c.args.words.now.key.seats c.args.names.now c.args.items.now n.0 n.2 c.args.token.now.me c.claim_room.new.token.me n.1 c.in-Ok.granted c.in-Ok.ensures.told c.requires.some.1
 
-pub draw_burst-requires-clause-names : goal.draw_burst-requires-clause-names
-draw_burst-requires-clause-names g c =
-    let n = c.requires.names in
-    draw_names c.args.words.now.table_id.slots c.args.words.now.key.seats c.args.names.now c.args.items.now n.0 n.2 c.args.token.now.me c.claim_room.new.token.me n.1 c.in-Ok.granted c.in-Ok.ensures.told
+pub draw_burst-requires-clause-token : goal.draw_burst-requires-clause-token
+draw_burst-requires-clause-token g c = record {
+  table = still_fits c.requires.table c.claim_room.ensures.same;
+  names = (let n = c.requires.names in
+      draw_names c.args.words.now.table_id.slots c.args.words.now.key.seats c.args.names.now c.args.items.now n.0 n.2 c.args.token.now.me c.claim_room.new.token.me n.1 c.in-Ok.granted c.in-Ok.ensures.told);
+  phase = search rules;
+}
 
 pub draw_burst-requires-clause-left : goal.draw_burst-requires-clause-left
 draw_burst-requires-clause-left g c =

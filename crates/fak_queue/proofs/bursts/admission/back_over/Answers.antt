@@ -16,16 +16,16 @@ back_burst-requires-clause-count g c =
     let l = over_length c.args.names.now xs names.2 (length xs - (c.args.count - c.args.granted)) in
     (omega (arith, k.0, k.2) ∙ sym l, omega (arith, k.1))
 
-pub back_burst-requires-clause-names : goal.back_burst-requires-clause-names
-back_burst-requires-clause-names g c =
-    let names = c.requires.names in
-    let ns = c.args.names.now in
-    let xs = c.args.items.now in
-    let j = length xs - (c.args.count - c.args.granted) in
-    (once_over (Unit {0}) ns xs names.0 names.2 j, over_apart _ ns xs names.0 names.2 j (λ x. TicketIn x), over_in _ ns xs names.0 names.2 j (λ x. TicketIn x) _ names.1)
-
-pub back_burst-requires-clause-phase : goal.back_burst-requires-clause-phase
-back_burst-requires-clause-phase g c = let k = c.requires.count in backed_from _ _ c.args.token.now.me _ c.args.granted (counted c.args.count (length c.args.items.now) c.args.granted k.0 k.2) c.requires.phase
+pub back_burst-requires-clause-token : goal.back_burst-requires-clause-token
+back_burst-requires-clause-token g c = record {
+  table = c.requires.table;
+  names = (let names = c.requires.names in
+      let ns = c.args.names.now in
+      let xs = c.args.items.now in
+      let j = length xs - (c.args.count - c.args.granted) in
+      (once_over (Unit {0}) ns xs names.0 names.2 j, over_apart _ ns xs names.0 names.2 j (λ x. TicketIn x), over_in _ ns xs names.0 names.2 j (λ x. TicketIn x) _ names.1));
+  phase = (let k = c.requires.count in backed_from _ _ c.args.token.now.me _ c.args.granted (counted c.args.count (length c.args.items.now) c.args.granted k.0 k.2) c.requires.phase);
+}
 
 pub returns-then-granted-count-clause-phase : goal.returns-then-granted-count-clause-phase
 returns-then-granted-count-clause-phase g c = let k = c.requires.count in backed_phase _ _ _ _ _ _ _ c.args.granted (counted c.args.count (length c.args.items.now) c.args.granted k.0 k.2) c.back_burst.ensures.told

@@ -1,3 +1,4 @@
+use Rattle.fak_queue.proofs.StepTokens.{still_fits}
 use Rattle.fak_queue.proofs.Common.{◌≡◌, ◌<◌, ◌≤◌, ℕ, ◌∙◌, length, sym, ap, subst, arith, UpperCount, IsUpperCount}
 use Rattle.fak_queue.specs.Bursts.{granted_of}
 use Rattle.fak_queue.proofs.BurstNames.{pair_length}
@@ -8,8 +9,11 @@ use Rattle.fak_queue.proofs.bursts.admission.claim_room.Goals as goal
 reading : (size slots f : ℕ) (r s : UpperCount) → size ≡ slots → r ≡ s → IsUpperCount size f r → IsUpperCount slots f s
 reading size slots f r s e is told = subst (λ (z : ℕ × UpperCount). IsUpperCount z.0 f z.1) (λ i. (e i, is i)) told
 
-pub test_burst-tested-requires-clause-names : goal.test_burst-tested-requires-clause-names
-test_burst-tested-requires-clause-names g c = let n = c.requires.names in test_names c.args.words.now.table_id.slots c.args.words.now.key.seats c.args.names.now c.args.items.now n.0 n.2 c.args.token.now.me n.1
+pub test_burst-tested-requires-clause-token : goal.test_burst-tested-requires-clause-token
+test_burst-tested-requires-clause-token g c = let t = (let n = c.requires.names in test_names c.args.words.now.table_id.slots c.args.words.now.key.seats c.args.names.now c.args.items.now n.0 n.2 c.args.token.now.me n.1) in record { table = c.requires.table; names = (t.0, t.1, t.2); phase = c.requires.phase }
+
+pub test_burst-tested-requires-clause-all : goal.test_burst-tested-requires-clause-all
+test_burst-tested-requires-clause-all g c = (let n = c.requires.names in test_names c.args.words.now.table_id.slots c.args.words.now.key.seats c.args.names.now c.args.items.now n.0 n.2 c.args.token.now.me n.1).3
 
 pub test_burst-tested-requires-clause-idle : goal.test_burst-tested-requires-clause-idle
 test_burst-tested-requires-clause-idle g c = let n = c.requires.names in test_rest c.args.words.now.table_id.slots c.args.words.now.key.seats c.args.names.now c.args.items.now n.0 n.2 c.args.token.now.me n.1
@@ -23,17 +27,16 @@ returns-in-Err-clause-told g c =
 pub add_burst-found-requires-clause-count : goal.add_burst-found-requires-clause-count
 add_burst-found-requires-clause-count g c = let n = c.requires.names in (c.len-count.ensures ∙ sym (pair_length c.args.names.now c.args.items.now n.2), subst (λ d. d ≤ 1024) (sym c.len-count.ensures) c.requires.some.1)
 
-pub add_burst-found-requires-clause-names : goal.add_burst-found-requires-clause-names
-add_burst-found-requires-clause-names g c =
-    let n = c.requires.names in
-    add_names c.args.words.now.table_id.slots c.args.words.now.key.seats c.args.names.now c.args.items.now n.0 n.2 c.args.token.now.me n.1 c.test_burst-tested.result c.test_burst-tested.new.token.me c.test_burst-tested.ensures.told
-    (reading _ _ c.test_burst-tested.result _ _ c.requires.size.0 c.in-Ok.is c.read_upper.ensures)
-
-pub add_burst-found-requires-clause-phase : goal.add_burst-found-requires-clause-phase
-add_burst-found-requires-clause-phase g c =
-    let n = c.requires.names in
-    add_says c.args.words.now.table_id.slots c.args.words.now.key.seats c.args.names.now c.args.items.now n.0 n.2 c.args.token.now.me n.1 c.test_burst-tested.result c.test_burst-tested.new.token.me c.test_burst-tested.ensures.told
-    (reading _ _ c.test_burst-tested.result _ _ c.requires.size.0 c.in-Ok.is c.read_upper.ensures)
+pub add_burst-found-requires-clause-token : goal.add_burst-found-requires-clause-token
+add_burst-found-requires-clause-token g c = record {
+  table = still_fits c.requires.table c.test_burst-tested.ensures.same;
+  names = (let n = c.requires.names in
+      add_names c.args.words.now.table_id.slots c.args.words.now.key.seats c.args.names.now c.args.items.now n.0 n.2 c.args.token.now.me n.1 c.test_burst-tested.result c.test_burst-tested.new.token.me c.test_burst-tested.ensures.told
+      (reading _ _ c.test_burst-tested.result _ _ c.requires.size.0 c.in-Ok.is c.read_upper.ensures));
+  phase = (let n = c.requires.names in
+      add_says c.args.words.now.table_id.slots c.args.words.now.key.seats c.args.names.now c.args.items.now n.0 n.2 c.args.token.now.me n.1 c.test_burst-tested.result c.test_burst-tested.new.token.me c.test_burst-tested.ensures.told
+      (reading _ _ c.test_burst-tested.result _ _ c.requires.size.0 c.in-Ok.is c.read_upper.ensures));
+}
 
 pub back_over-requires-clause-names : goal.back_over-requires-clause-names
 back_over-requires-clause-names g c =
@@ -65,19 +68,18 @@ returns-in-Ok-read_upper-clause-told g c =
 pub back_burst-requires-clause-count : goal.back_burst-requires-clause-count
 back_burst-requires-clause-count g c = let n = c.requires.names in (c.len-count.ensures ∙ sym (pair_length c.args.names.now c.args.items.now n.2), subst (λ d. d ≤ 1024) (sym c.len-count.ensures) c.requires.some.1)
 
-pub back_burst-requires-clause-names : goal.back_burst-requires-clause-names
-back_burst-requires-clause-names g c =
-    let n = c.requires.names in
-    let size = c.requires.size in
-    back_names c.args.words.now.table_id.slots c.args.words.now.key.seats c.args.names.now c.args.items.now n.0 n.2 c.args.token.now.me n.1 c.test_burst-tested.result c.test_burst-tested.new.token.me c.test_burst-tested.ensures.told
-    (reading _ _ c.test_burst-tested.result _ _ c.requires.size.0 c.in-Ok.is c.read_upper.ensures) c.add_burst-found.result c.add_burst-found.new.token.me c.add_burst-found.ensures.told (omega (arith, size.0, size.1)) _ (reading _ _ c.add_burst-found.result _ _ c.requires.size.0 c.in-Err-read_upper.is c.read_upper-2.ensures)
-
-pub back_burst-requires-clause-phase : goal.back_burst-requires-clause-phase
-back_burst-requires-clause-phase g c =
-    let n = c.requires.names in
-    let size = c.requires.size in
-    back_says c.args.words.now.table_id.slots c.args.words.now.key.seats c.args.names.now c.args.items.now n.0 n.2 c.args.token.now.me n.1 c.test_burst-tested.result c.test_burst-tested.new.token.me c.test_burst-tested.ensures.told
-    (reading _ _ c.test_burst-tested.result _ _ c.requires.size.0 c.in-Ok.is c.read_upper.ensures) c.add_burst-found.result c.add_burst-found.new.token.me c.add_burst-found.ensures.told (omega (arith, size.0, size.1)) _ (reading _ _ c.add_burst-found.result _ _ c.requires.size.0 c.in-Err-read_upper.is c.read_upper-2.ensures)
+pub back_burst-requires-clause-token : goal.back_burst-requires-clause-token
+back_burst-requires-clause-token g c = record {
+  table = still_fits c.requires.table (c.add_burst-found.ensures.same ∙ c.test_burst-tested.ensures.same);
+  names = (let n = c.requires.names in
+      let size = c.requires.size in
+      back_names c.args.words.now.table_id.slots c.args.words.now.key.seats c.args.names.now c.args.items.now n.0 n.2 c.args.token.now.me n.1 c.test_burst-tested.result c.test_burst-tested.new.token.me c.test_burst-tested.ensures.told
+      (reading _ _ c.test_burst-tested.result _ _ c.requires.size.0 c.in-Ok.is c.read_upper.ensures) c.add_burst-found.result c.add_burst-found.new.token.me c.add_burst-found.ensures.told (omega (arith, size.0, size.1)) _ (reading _ _ c.add_burst-found.result _ _ c.requires.size.0 c.in-Err-read_upper.is c.read_upper-2.ensures));
+  phase = (let n = c.requires.names in
+      let size = c.requires.size in
+      back_says c.args.words.now.table_id.slots c.args.words.now.key.seats c.args.names.now c.args.items.now n.0 n.2 c.args.token.now.me n.1 c.test_burst-tested.result c.test_burst-tested.new.token.me c.test_burst-tested.ensures.told
+      (reading _ _ c.test_burst-tested.result _ _ c.requires.size.0 c.in-Ok.is c.read_upper.ensures) c.add_burst-found.result c.add_burst-found.new.token.me c.add_burst-found.ensures.told (omega (arith, size.0, size.1)) _ (reading _ _ c.add_burst-found.result _ _ c.requires.size.0 c.in-Err-read_upper.is c.read_upper-2.ensures));
+}
 
 pub back_burst-requires-clause-then : goal.back_burst-requires-clause-then
 back_burst-requires-clause-then g c =

@@ -1,4 +1,5 @@
 use Rattle.fak_queue.specs.Bundles.{ClaimsOutOn, RefusesOutOn}
+use Rattle.fak_queue.proofs.StepTokens.{still_fits}
 use Rattle.fak_queue.proofs.BundleClaimsOut.{claims_out_on}
 use Rattle.fak_queue.proofs.Common.{subst, arith, ℕ, ◌<◌, ◌≤◌, length, rules, sym, to_z-of_z, w64}
 use Rattle.fak_queue.specs.Bursts.{units}
@@ -23,10 +24,13 @@ draw_out_burst-requires-clause-count g c =
     let n = c.requires.names in
     draw_count c.args.words.now.table_id.slots c.args.words.now.key.seats c.args.names.now (units c.args.count) n.0 (fits _ _ n.2) c.args.token.now.me c.claim_stock.new.token.me n.1 c.in-Ok.granted c.in-Ok.ensures.told (few_units _ _ c.requires.some.1)
 
-pub draw_out_burst-requires-clause-names : goal.draw_out_burst-requires-clause-names
-draw_out_burst-requires-clause-names g c =
-    let n = c.requires.names in
-    draw_names c.args.words.now.table_id.slots c.args.words.now.key.seats c.args.names.now (units c.args.count) n.0 (fits _ _ n.2) c.args.token.now.me c.claim_stock.new.token.me n.1 c.in-Ok.granted c.in-Ok.ensures.told
+pub draw_out_burst-requires-clause-token : goal.draw_out_burst-requires-clause-token
+draw_out_burst-requires-clause-token g c = record {
+  table = still_fits c.requires.table c.claim_stock.ensures.same;
+  names = (let n = c.requires.names in
+      draw_names c.args.words.now.table_id.slots c.args.words.now.key.seats c.args.names.now (units c.args.count) n.0 (fits _ _ n.2) c.args.token.now.me c.claim_stock.new.token.me n.1 c.in-Ok.granted c.in-Ok.ensures.told);
+  phase = search rules;
+}
 
 pub draw_out_burst-requires-clause-left : goal.draw_out_burst-requires-clause-left
 draw_out_burst-requires-clause-left g c =

@@ -22,17 +22,17 @@ back_low_burst-requires-clause-count g c =
     let l = over_length c.args.names.now us (fits _ _ names.2) (c.args.count - (c.args.count - c.args.granted)) in
     (omega (arith, k.1, n) ∙ sym l, omega (arith, k.0))
 
-pub back_low_burst-requires-clause-names : goal.back_low_burst-requires-clause-names
-back_low_burst-requires-clause-names g c =
-    let names = c.requires.names in
-    let ns = c.args.names.now in
-    let us = units c.args.count in
-    let fit = fits _ _ names.2 in
-    let j = c.args.count - (c.args.count - c.args.granted) in
-    (once_over (Unit {0}) ns us names.0 fit j, over_apart _ ns us names.0 fit j (λ x. TicketOut), over_in _ ns us names.0 fit j (λ x. TicketOut) _ names.1)
-
-pub back_low_burst-requires-clause-phase : goal.back_low_burst-requires-clause-phase
-back_low_burst-requires-clause-phase g c = let k = c.requires.count in backed_from _ _ c.args.token.now.me _ c.args.granted (counted c.args.count c.args.granted k.1) c.requires.phase
+pub back_low_burst-requires-clause-token : goal.back_low_burst-requires-clause-token
+back_low_burst-requires-clause-token g c = record {
+  table = c.requires.table;
+  names = (let names = c.requires.names in
+      let ns = c.args.names.now in
+      let us = units c.args.count in
+      let fit = fits _ _ names.2 in
+      let j = c.args.count - (c.args.count - c.args.granted) in
+      (once_over (Unit {0}) ns us names.0 fit j, over_apart _ ns us names.0 fit j (λ x. TicketOut), over_in _ ns us names.0 fit j (λ x. TicketOut) _ names.1));
+  phase = (let k = c.requires.count in backed_from _ _ c.args.token.now.me _ c.args.granted (counted c.args.count c.args.granted k.1) c.requires.phase);
+}
 
 pub returns-then-granted-count-clause-phase : goal.returns-then-granted-count-clause-phase
 returns-then-granted-count-clause-phase g c = let k = c.requires.count in backed_phase _ _ _ _ _ _ _ c.args.granted (counted c.args.count c.args.granted k.1) c.back_low_burst.ensures.told

@@ -1,3 +1,4 @@
+use Rattle.fak_queue.proofs.StepTokens.{still_fits}
 use Rattle.fak_queue.proofs.Common.{◌≡◌, ℕ, ◌≤◌, ◌<◌, rules, to_z-of_z, w64, ◌∙◌, length, sym, ap, subst, arith, LowerCount, IsLowerCount}
 use Rattle.fak_queue.specs.Bursts.{RefusedOutBurst, granted_low, units}
 use Rattle.fak_queue.proofs.BurstNames.{pair_length, units_length}
@@ -15,8 +16,11 @@ fits count n few = let l = units_length count in omega (arith, l, few)
 some_units : (count : ℕ) → 0 < count → 0 < length (units count)
 some_units count some = let l = units_length count in omega (arith, l, some)
 
-pub test_low_burst-tested-requires-clause-names : goal.test_low_burst-tested-requires-clause-names
-test_low_burst-tested-requires-clause-names g c = let n = c.requires.names in test_names c.args.words.now.table_id.slots c.args.words.now.key.seats c.args.names.now (units c.args.count) n.0 (fits _ _ n.2) c.args.token.now.me n.1
+pub test_low_burst-tested-requires-clause-token : goal.test_low_burst-tested-requires-clause-token
+test_low_burst-tested-requires-clause-token g c = let t = (let n = c.requires.names in test_names c.args.words.now.table_id.slots c.args.words.now.key.seats c.args.names.now (units c.args.count) n.0 (fits _ _ n.2) c.args.token.now.me n.1) in record { table = c.requires.table; names = (t.0, t.1, t.2); phase = c.requires.phase }
+
+pub test_low_burst-tested-requires-clause-all : goal.test_low_burst-tested-requires-clause-all
+test_low_burst-tested-requires-clause-all g c = (let n = c.requires.names in test_names c.args.words.now.table_id.slots c.args.words.now.key.seats c.args.names.now (units c.args.count) n.0 (fits _ _ n.2) c.args.token.now.me n.1).3
 
 pub test_low_burst-tested-requires-clause-idle : goal.test_low_burst-tested-requires-clause-idle
 test_low_burst-tested-requires-clause-idle g c = let n = c.requires.names in test_rest c.args.words.now.table_id.slots c.args.words.now.key.seats c.args.names.now (units c.args.count) n.0 (fits _ _ n.2) c.args.token.now.me n.1
@@ -31,17 +35,16 @@ returns-in-Err-clause-told g c =
 pub sub_burst-found-requires-clause-count : goal.sub_burst-found-requires-clause-count
 sub_burst-found-requires-clause-count g c = let n = c.requires.names in (sym (pair_length c.args.names.now (units c.args.count) (fits _ _ n.2) ∙ units_length c.args.count), c.requires.some.1)
 
-pub sub_burst-found-requires-clause-names : goal.sub_burst-found-requires-clause-names
-sub_burst-found-requires-clause-names g c =
-    let n = c.requires.names in
-    add_names c.args.words.now.table_id.slots c.args.words.now.key.seats c.args.names.now (units c.args.count) n.0 (fits _ _ n.2) c.args.token.now.me n.1 c.test_low_burst-tested.result c.test_low_burst-tested.new.token.me c.test_low_burst-tested.ensures.told
-    (reading c.test_low_burst-tested.result _ _ c.in-Ok.is c.read_lower.ensures)
-
-pub sub_burst-found-requires-clause-phase : goal.sub_burst-found-requires-clause-phase
-sub_burst-found-requires-clause-phase g c =
-    let n = c.requires.names in
-    add_says c.args.words.now.table_id.slots c.args.words.now.key.seats c.args.names.now (units c.args.count) n.0 (fits _ _ n.2) c.args.token.now.me n.1 c.test_low_burst-tested.result c.test_low_burst-tested.new.token.me c.test_low_burst-tested.ensures.told
-    (reading c.test_low_burst-tested.result _ _ c.in-Ok.is c.read_lower.ensures)
+pub sub_burst-found-requires-clause-token : goal.sub_burst-found-requires-clause-token
+sub_burst-found-requires-clause-token g c = record {
+  table = still_fits c.requires.table c.test_low_burst-tested.ensures.same;
+  names = (let n = c.requires.names in
+      add_names c.args.words.now.table_id.slots c.args.words.now.key.seats c.args.names.now (units c.args.count) n.0 (fits _ _ n.2) c.args.token.now.me n.1 c.test_low_burst-tested.result c.test_low_burst-tested.new.token.me c.test_low_burst-tested.ensures.told
+      (reading c.test_low_burst-tested.result _ _ c.in-Ok.is c.read_lower.ensures));
+  phase = (let n = c.requires.names in
+      add_says c.args.words.now.table_id.slots c.args.words.now.key.seats c.args.names.now (units c.args.count) n.0 (fits _ _ n.2) c.args.token.now.me n.1 c.test_low_burst-tested.result c.test_low_burst-tested.new.token.me c.test_low_burst-tested.ensures.told
+      (reading c.test_low_burst-tested.result _ _ c.in-Ok.is c.read_lower.ensures));
+}
 
 pub back_over_low-requires-clause-names : goal.back_over_low-requires-clause-names
 back_over_low-requires-clause-names g c =
@@ -70,17 +73,16 @@ returns-in-Ok-read_lower-clause-told g c =
 pub back_low_burst-requires-clause-count : goal.back_low_burst-requires-clause-count
 back_low_burst-requires-clause-count g c = let n = c.requires.names in (sym (pair_length c.args.names.now (units c.args.count) (fits _ _ n.2) ∙ units_length c.args.count), c.requires.some.1)
 
-pub back_low_burst-requires-clause-names : goal.back_low_burst-requires-clause-names
-back_low_burst-requires-clause-names g c =
-    let n = c.requires.names in
-    back_names c.args.words.now.table_id.slots c.args.words.now.key.seats c.args.names.now (units c.args.count) n.0 (fits _ _ n.2) c.args.token.now.me n.1 c.test_low_burst-tested.result c.test_low_burst-tested.new.token.me c.test_low_burst-tested.ensures.told
-    (reading c.test_low_burst-tested.result _ _ c.in-Ok.is c.read_lower.ensures) c.sub_burst-found.result c.sub_burst-found.new.token.me c.sub_burst-found.ensures.told c.in-Err-read_lower.lower (reading c.sub_burst-found.result _ _ c.in-Err-read_lower.is c.read_lower-2.ensures)
-
-pub back_low_burst-requires-clause-phase : goal.back_low_burst-requires-clause-phase
-back_low_burst-requires-clause-phase g c =
-    let n = c.requires.names in
-    back_says c.args.words.now.table_id.slots c.args.words.now.key.seats c.args.names.now (units c.args.count) n.0 (fits _ _ n.2) c.args.token.now.me n.1 c.test_low_burst-tested.result c.test_low_burst-tested.new.token.me c.test_low_burst-tested.ensures.told
-    (reading c.test_low_burst-tested.result _ _ c.in-Ok.is c.read_lower.ensures) c.sub_burst-found.result c.sub_burst-found.new.token.me c.sub_burst-found.ensures.told c.in-Err-read_lower.lower (reading c.sub_burst-found.result _ _ c.in-Err-read_lower.is c.read_lower-2.ensures)
+pub back_low_burst-requires-clause-token : goal.back_low_burst-requires-clause-token
+back_low_burst-requires-clause-token g c = record {
+  table = still_fits c.requires.table (c.sub_burst-found.ensures.same ∙ c.test_low_burst-tested.ensures.same);
+  names = (let n = c.requires.names in
+      back_names c.args.words.now.table_id.slots c.args.words.now.key.seats c.args.names.now (units c.args.count) n.0 (fits _ _ n.2) c.args.token.now.me n.1 c.test_low_burst-tested.result c.test_low_burst-tested.new.token.me c.test_low_burst-tested.ensures.told
+      (reading c.test_low_burst-tested.result _ _ c.in-Ok.is c.read_lower.ensures) c.sub_burst-found.result c.sub_burst-found.new.token.me c.sub_burst-found.ensures.told c.in-Err-read_lower.lower (reading c.sub_burst-found.result _ _ c.in-Err-read_lower.is c.read_lower-2.ensures));
+  phase = (let n = c.requires.names in
+      back_says c.args.words.now.table_id.slots c.args.words.now.key.seats c.args.names.now (units c.args.count) n.0 (fits _ _ n.2) c.args.token.now.me n.1 c.test_low_burst-tested.result c.test_low_burst-tested.new.token.me c.test_low_burst-tested.ensures.told
+      (reading c.test_low_burst-tested.result _ _ c.in-Ok.is c.read_lower.ensures) c.sub_burst-found.result c.sub_burst-found.new.token.me c.sub_burst-found.ensures.told c.in-Err-read_lower.lower (reading c.sub_burst-found.result _ _ c.in-Err-read_lower.is c.read_lower-2.ensures));
+}
 
 pub back_low_burst-requires-clause-then : goal.back_low_burst-requires-clause-then
 back_low_burst-requires-clause-then g c =

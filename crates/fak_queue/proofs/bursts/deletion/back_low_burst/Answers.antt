@@ -4,5 +4,5 @@ use Rattle.fak_queue.proofs.bursts.deletion.back_low_burst.Goals as goal
 
 pub fetch_add-requires : goal.fetch_add-requires
 fetch_add-requires g c =
-    let t = c.requires.table in
-    (t.same, omega (arith, t.words), backs_low_burst_allowed c.args.words.now.key _ _ _ _ t.few _ _ c.requires.phase c.requires.names.0 c.requires.names.1 c.requires.names.2 _ c.requires.then _ c.requires.count.0 c.requires.count.1)
+    let t = c.requires.token.table in
+    (t.same, omega (arith, t.words), backs_low_burst_allowed c.args.words.now.key _ _ _ _ t.few _ _ c.requires.token.phase c.requires.token.names.0 c.requires.token.names.1 c.requires.token.names.2 _ c.requires.then _ c.requires.count.0 c.requires.count.1)

@@ -11,8 +11,8 @@ end_out_burst-requires-clause-count g c = let s = c.requires.stands in (end_coun
 pub end_out_burst-requires-clause-names : goal.end_out_burst-requires-clause-names
 end_out_burst-requires-clause-names g c = let s = c.requires.stands in end_names c.args.names.now c.args.at.ticket c.args.at.done c.args.taken c.args.at.granted s.0 s.1 s.2 c.args.token.now.me c.requires.names.0 s.3 c.requires.some
 
-pub end_out_burst-requires-clause-phase : goal.end_out_burst-requires-clause-phase
-end_out_burst-requires-clause-phase g c = let s = c.requires.stands in end_says c.args.names.now c.args.at.ticket c.args.at.done c.args.taken c.args.at.granted s.0 s.1 s.2 c.args.token.now.me c.requires.names.0 s.3 c.requires.some
+pub end_out_burst-requires-clause-token : goal.end_out_burst-requires-clause-token
+end_out_burst-requires-clause-token g c = record { table = c.requires.table; phase = (let s = c.requires.stands in end_says c.args.names.now c.args.at.ticket c.args.at.done c.args.taken c.args.at.granted s.0 s.1 s.2 c.args.token.now.me c.requires.names.0 s.3 c.requires.some) }
 
 pub end_out_burst-requires-clause-ends : goal.end_out_burst-requires-clause-ends
 end_out_burst-requires-clause-ends g c = let s = c.requires.stands in end_stands c.args.names.now c.args.at.ticket c.args.at.done c.args.taken c.args.at.granted s.0 s.1 s.2 c.args.token.now.me c.requires.names.0 s.3 c.requires.some

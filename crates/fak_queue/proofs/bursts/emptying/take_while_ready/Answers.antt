@@ -1,22 +1,18 @@
+use Rattle.fak_queue.specs.Steps.{IsPlace}
+use Rattle.fak_queue.proofs.StepTokens.{still_fits}
 use Rattle.fak_queue.proofs.Common.{arith, ◌∙◌, ap, refl, sym, subst, ℕ, ◌+◌, ◌%◌}
 use Rattle.fak_queue.specs.Bundles.{EmptiesOn}
 use Rattle.fak_queue.proofs.BundleEmptying.{empties_none, named_now, waits_now, stays_told, early_told, named_then, loads_now, slot_now, next_told}
 use Rattle.fak_queue.proofs.bursts.emptying.take_while_ready.Goals as goal
 
-pub has_item-requires-clause-name : goal.has_item-requires-clause-name
-has_item-requires-clause-name g c = named_now c.args.names.now c.args.at.ticket c.args.at.done c.loop-index.index c.args.at.granted c.args.out.now.items c.loop-index.out.items c.args.token.now.me c.loop-index.token.me c.requires.names c.loop-index.invariant.3 c.loop-index-test.true c.place-place.result.ticket c.place-place.ensures.ticket
-
-pub has_item-requires-clause-phase : goal.has_item-requires-clause-phase
-has_item-requires-clause-phase g c = waits_now c.args.names.now c.args.at.ticket c.args.at.done c.loop-index.index c.args.at.granted c.args.out.now.items c.loop-index.out.items c.args.token.now.me c.loop-index.token.me c.requires.names c.loop-index.invariant.3 c.loop-index-test.true c.place-place.result.ticket c.place-place.ensures.ticket
+pub has_item-requires : goal.has_item-requires
+has_item-requires g c = record { table = still_fits c.requires.table c.loop-index.invariant.0; place = subst (λ (z : ℕ). IsPlace z c.place-place.result) c.requires.cells c.place-place.ensures.place; name = (named_now c.args.names.now c.args.at.ticket c.args.at.done c.loop-index.index c.args.at.granted c.args.out.now.items c.loop-index.out.items c.args.token.now.me c.loop-index.token.me c.requires.names c.loop-index.invariant.3 c.loop-index-test.true c.place-place.result.ticket c.place-place.ensures.ticket); phase = (waits_now c.args.names.now c.args.at.ticket c.args.at.done c.loop-index.index c.args.at.granted c.args.out.now.items c.loop-index.out.items c.args.token.now.me c.loop-index.token.me c.requires.names c.loop-index.invariant.3 c.loop-index-test.true c.place-place.result.ticket c.place-place.ensures.ticket) }
 
 pub returns-then-not-has_item-clause-told : goal.returns-then-not-has_item-clause-told
 returns-then-not-has_item-clause-told g c = stays_told c.args.names.now c.args.at.ticket c.args.at.done c.loop-index.index c.args.at.granted c.args.out.now.items c.loop-index.out.items c.args.token.now.me c.loop-index.token.me c.requires.names c.loop-index.invariant.3 c.loop-index-test.true c.place-place.result.ticket c.place-place.ensures.ticket c.has_item.new.token.me c.if-not-has_item.ensures.told
 
-pub take-requires-clause-name : goal.take-requires-clause-name
-take-requires-clause-name g c = named_then c.args.names.now c.args.at.ticket c.args.at.done c.loop-index.index c.args.at.granted c.args.out.now.items c.loop-index.out.items c.args.token.now.me c.loop-index.token.me c.requires.names c.loop-index.invariant.3 c.loop-index-test.true c.place-place.result.ticket c.place-place.ensures.ticket c.has_item.new.token.me c.if-not-has_item.ensures.told
-
-pub take-requires-clause-phase : goal.take-requires-clause-phase
-take-requires-clause-phase g c = loads_now c.args.names.now c.args.at.ticket c.args.at.done c.loop-index.index c.args.at.granted c.args.out.now.items c.loop-index.out.items c.args.token.now.me c.loop-index.token.me c.requires.names c.loop-index.invariant.3 c.loop-index-test.true c.place-place.result.ticket c.place-place.ensures.ticket c.has_item.new.token.me c.if-not-has_item.ensures.told
+pub take-requires-clause-token : goal.take-requires-clause-token
+take-requires-clause-token g c = record { table = still_fits c.requires.table (c.has_item.ensures.same ∙ c.loop-index.invariant.0); place = subst (λ (z : ℕ). IsPlace z c.place-place.result) c.requires.cells c.place-place.ensures.place; name = (named_then c.args.names.now c.args.at.ticket c.args.at.done c.loop-index.index c.args.at.granted c.args.out.now.items c.loop-index.out.items c.args.token.now.me c.loop-index.token.me c.requires.names c.loop-index.invariant.3 c.loop-index-test.true c.place-place.result.ticket c.place-place.ensures.ticket c.has_item.new.token.me c.if-not-has_item.ensures.told); phase = (loads_now c.args.names.now c.args.at.ticket c.args.at.done c.loop-index.index c.args.at.granted c.args.out.now.items c.loop-index.out.items c.args.token.now.me c.loop-index.token.me c.requires.names c.loop-index.invariant.3 c.loop-index-test.true c.place-place.result.ticket c.place-place.ensures.ticket c.has_item.new.token.me c.if-not-has_item.ensures.told) }
 
 pub take-requires-clause-slot : goal.take-requires-clause-slot
 take-requires-clause-slot g c = slot_now c.args.names.now c.args.at.ticket c.args.at.done c.loop-index.index c.args.at.granted c.args.out.now.items c.loop-index.out.items c.args.token.now.me c.loop-index.token.me c.requires.names c.loop-index.invariant.3 c.loop-index-test.true c.place-place.result.ticket c.place-place.ensures.ticket c.has_item.new.token.me c.if-not-has_item.ensures.told c.place-place.result.cell (c.place-place.ensures.place.cell_is ∙ ap (λ (z : ℕ). c.place-place.result.ticket % z) c.requires.cells)
@@ -33,11 +29,11 @@ loop-index-preserved g c =
     let more = c.push_back_reserved.ensures.len in
     let room = i.4 in
     let cap = c.push_back_reserved.ensures.capacity in (
-      c.take.ensures.same ∙ (c.has_item.ensures.same ∙ i.0),
+      c.take.ensures.told.same ∙ (c.has_item.ensures.same ∙ i.0),
       omega (arith, i.1),
       omega (arith, low),
       subst (λ l. EmptiesOn c.args.words.now.table_id.slots c.args.words.now.key.seats c.args.names.now c.args.at.ticket c.args.at.done (c.loop-index.index + 1) c.args.at.granted c.args.out.now.items l c.args.token.now.me c.take.new.token.me) (sym c.push_back_reserved.ensures.items)
-          (next_told c.args.names.now c.args.at.ticket c.args.at.done c.loop-index.index c.args.at.granted c.args.out.now.items c.loop-index.out.items c.args.token.now.me c.loop-index.token.me c.requires.names c.loop-index.invariant.3 c.loop-index-test.true c.place-place.result.ticket c.place-place.ensures.ticket c.has_item.new.token.me c.if-not-has_item.ensures.told c.take.new.token.me c.place-place.result.cell (c.place-place.ensures.place.cell_is ∙ ap (λ (z : ℕ). c.place-place.result.ticket % z) c.requires.cells) c.take.result c.take.ensures.item c.take.ensures.told),
+          (next_told c.args.names.now c.args.at.ticket c.args.at.done c.loop-index.index c.args.at.granted c.args.out.now.items c.loop-index.out.items c.args.token.now.me c.loop-index.token.me c.requires.names c.loop-index.invariant.3 c.loop-index-test.true c.place-place.result.ticket c.place-place.ensures.ticket c.has_item.new.token.me c.if-not-has_item.ensures.told c.take.new.token.me c.place-place.result.cell (c.place-place.ensures.place.cell_is ∙ ap (λ (z : ℕ). c.place-place.result.ticket % z) c.requires.cells) c.take.result c.take.ensures.item c.take.ensures.told.told),
       omega (arith, low, more, room, cap),
       cap ∙ i.5,
       omega (arith, more, i.6, i.1),

@@ -1,12 +1,11 @@
-use Rattle.fak_queue.proofs.Common.{arith, ◌∙◌, ap, refl, ℕ, ◌%◌}
+use Rattle.fak_queue.specs.Steps.{IsPlace}
+use Rattle.fak_queue.proofs.StepTokens.{still_fits}
+use Rattle.fak_queue.proofs.Common.{subst, arith, ◌∙◌, ap, refl, ℕ, ◌%◌}
 use Rattle.fak_queue.proofs.BundleFilling.{fills_none, named_now, waits_so, stays_told, early_told, named_then, stores_now, slot_now, next_told}
 use Rattle.fak_queue.proofs.bursts.filling.fill_while_ready.Goals as goal
 
-pub has_room-requires-clause-name : goal.has_room-requires-clause-name
-has_room-requires-clause-name g c = named_now c.args.names.now c.args.at.ticket c.args.at.done c.loop-index.index c.args.at.granted c.args.kept.now.items c.loop-index.kept.items c.args.token.now.me c.loop-index.token.me c.requires.names c.loop-index.invariant.3 c.loop-index-test.true c.place-place.result.ticket c.place-place.ensures.ticket
-
-pub has_room-requires-clause-phase : goal.has_room-requires-clause-phase
-has_room-requires-clause-phase g c = waits_so c.args.names.now c.args.at.ticket c.args.at.done c.loop-index.index c.args.at.granted c.args.kept.now.items c.loop-index.kept.items c.args.token.now.me c.loop-index.token.me c.requires.names c.loop-index.invariant.3 c.loop-index-test.true c.place-place.result.ticket c.place-place.ensures.ticket
+pub has_room-requires : goal.has_room-requires
+has_room-requires g c = record { table = still_fits c.requires.table c.loop-index.invariant.0; place = subst (λ (z : ℕ). IsPlace z c.place-place.result) c.requires.cells c.place-place.ensures.place; name = (named_now c.args.names.now c.args.at.ticket c.args.at.done c.loop-index.index c.args.at.granted c.args.kept.now.items c.loop-index.kept.items c.args.token.now.me c.loop-index.token.me c.requires.names c.loop-index.invariant.3 c.loop-index-test.true c.place-place.result.ticket c.place-place.ensures.ticket); phase = (waits_so c.args.names.now c.args.at.ticket c.args.at.done c.loop-index.index c.args.at.granted c.args.kept.now.items c.loop-index.kept.items c.args.token.now.me c.loop-index.token.me c.requires.names c.loop-index.invariant.3 c.loop-index-test.true c.place-place.result.ticket c.place-place.ensures.ticket) }
 
 pub returns-then-not-has_room-clause-told : goal.returns-then-not-has_room-clause-told
 returns-then-not-has_room-clause-told g c = stays_told c.args.names.now c.args.at.ticket c.args.at.done c.loop-index.index c.args.at.granted c.args.kept.now.items c.loop-index.kept.items c.args.token.now.me c.loop-index.token.me c.requires.names c.loop-index.invariant.3 c.loop-index-test.true c.place-place.result.ticket c.place-place.ensures.ticket c.has_room.new.token.me c.if-not-has_room.ensures.told
@@ -14,11 +13,8 @@ returns-then-not-has_room-clause-told g c = stays_told c.args.names.now c.args.a
 pub returns-then-not-has_room-clause-early : goal.returns-then-not-has_room-clause-early
 returns-then-not-has_room-clause-early g c = λ _. early_told c.args.names.now c.args.at.ticket c.args.at.done c.loop-index.index c.args.at.granted c.args.kept.now.items c.loop-index.kept.items c.args.token.now.me c.loop-index.token.me c.requires.names c.loop-index.invariant.3 c.loop-index-test.true c.place-place.result.ticket c.place-place.ensures.ticket c.has_room.new.token.me c.if-not-has_room.ensures.told
 
-pub fill-requires-clause-name : goal.fill-requires-clause-name
-fill-requires-clause-name g c = named_then c.args.names.now c.args.at.ticket c.args.at.done c.loop-index.index c.args.at.granted c.args.kept.now.items c.loop-index.kept.items c.args.token.now.me c.loop-index.token.me c.requires.names c.loop-index.invariant.3 c.loop-index-test.true c.place-place.result.ticket c.place-place.ensures.ticket c.has_room.new.token.me c.if-not-has_room.ensures.told c.in-Some.item c.pop_front.new.self.items c.in-Some.ensures.items
-
-pub fill-requires-clause-phase : goal.fill-requires-clause-phase
-fill-requires-clause-phase g c = stores_now c.args.names.now c.args.at.ticket c.args.at.done c.loop-index.index c.args.at.granted c.args.kept.now.items c.loop-index.kept.items c.args.token.now.me c.loop-index.token.me c.requires.names c.loop-index.invariant.3 c.loop-index-test.true c.place-place.result.ticket c.place-place.ensures.ticket c.has_room.new.token.me c.if-not-has_room.ensures.told c.in-Some.item c.pop_front.new.self.items c.in-Some.ensures.items
+pub fill-requires-clause-token : goal.fill-requires-clause-token
+fill-requires-clause-token g c = record { table = still_fits c.requires.table (c.has_room.ensures.same ∙ c.loop-index.invariant.0); place = subst (λ (z : ℕ). IsPlace z c.place-place.result) c.requires.cells c.place-place.ensures.place; name = (named_then c.args.names.now c.args.at.ticket c.args.at.done c.loop-index.index c.args.at.granted c.args.kept.now.items c.loop-index.kept.items c.args.token.now.me c.loop-index.token.me c.requires.names c.loop-index.invariant.3 c.loop-index-test.true c.place-place.result.ticket c.place-place.ensures.ticket c.has_room.new.token.me c.if-not-has_room.ensures.told c.in-Some.item c.pop_front.new.self.items c.in-Some.ensures.items); phase = (stores_now c.args.names.now c.args.at.ticket c.args.at.done c.loop-index.index c.args.at.granted c.args.kept.now.items c.loop-index.kept.items c.args.token.now.me c.loop-index.token.me c.requires.names c.loop-index.invariant.3 c.loop-index-test.true c.place-place.result.ticket c.place-place.ensures.ticket c.has_room.new.token.me c.if-not-has_room.ensures.told c.in-Some.item c.pop_front.new.self.items c.in-Some.ensures.items) }
 
 pub fill-requires-clause-slot : goal.fill-requires-clause-slot
 fill-requires-clause-slot g c = slot_now c.args.names.now c.args.at.ticket c.args.at.done c.loop-index.index c.args.at.granted c.args.kept.now.items c.loop-index.kept.items c.args.token.now.me c.loop-index.token.me c.requires.names c.loop-index.invariant.3 c.loop-index-test.true c.place-place.result.ticket c.place-place.ensures.ticket c.has_room.new.token.me c.if-not-has_room.ensures.told c.in-Some.item c.pop_front.new.self.items c.in-Some.ensures.items c.place-place.result.cell (c.place-place.ensures.place.cell_is ∙ ap (λ (z : ℕ). c.place-place.result.ticket % z) c.requires.cells)

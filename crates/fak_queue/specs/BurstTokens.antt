@@ -1,0 +1,34 @@
+-- What the steps of a bundle ask of its token, and what they leave.
+use Rattle.std.specs.Prelude.{ℕ, ◌≡◌, List, ◌++◌}
+use Rattle.atomic_table.specs.Seated.{TableId}
+use Rattle.fak_model.specs.Seats.{In}
+use Rattle.fak_core.specs.QueueBlocks.{AreApart, Posts, names_of}
+use Rattle.fak_queue.specs.declared.limits.QueueLimits.{QueueLimits}
+use Rattle.fak_queue.specs.declared.place.Place.{Place}
+use Rattle.fak_queue.specs.Bursts.{AllIn, AreDisjoint}
+use Rattle.fak_queue.specs.Shown.{QueueHolder}
+use Rattle.fak_queue.specs.Steps.{FitsTable, IsPlace}
+use Rattle.fak_queue.specs.StepTokens.{QueueToken}
+
+-- the token is of this table, which was made with this key for this many seats, and its names stand so
+pub record IsBundleToken {T : Type 0} (id : TableId) (key : QueueLimits) (seats : ℕ) (stands : QueueHolder T → Type 0) (token : QueueToken T) : Type 0 where
+  pub table : FitsTable token.table_id id key seats
+  pub phase : stands token.me
+
+-- the same, and these names, each with its item, and those of the others are all among the token's, each once
+pub record IsBurstToken {T A : Type 0} (id : TableId) (key : QueueLimits) (seats : ℕ) (items : List (ℕ × A)) (others : Posts T) (stands : QueueHolder T → Type 0) (token : QueueToken T) : Type 0 where
+  pub table : FitsTable token.table_id id key seats
+  pub names : AreApart (names_of items) × AreDisjoint (names_of items) (names_of others) × AllIn (names_of items ++ names_of others) token.me.0.names
+  pub phase : stands token.me
+
+-- the token of a bundle that has this name, whose ticket has this place
+pub record IsNameAt {T : Type 0} (id : TableId) (key : QueueLimits) (seats : ℕ) (at : Place) (own : ℕ) (stands : QueueHolder T → Type 0) (token : QueueToken T) : Type 0 where
+  pub table : FitsTable token.table_id id key seats
+  pub place : IsPlace id.slots at
+  pub name : In own token.me.0.names
+  pub phase : stands token.me
+
+-- a step leaves the token with its table, and tells this of what the token knows now
+pub record TellsAll {T : Type 0} (old new : QueueToken T) (tells : QueueHolder T → Type 0) : Type 0 where
+  pub same : new.table_id ≡ old.table_id
+  pub told : tells new.me
