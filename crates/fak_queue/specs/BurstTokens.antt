@@ -1,10 +1,11 @@
 -- What the steps of a bundle ask of its token, and what they leave.
-use Rattle.std.specs.Prelude.{ℕ, ◌≡◌, List, ◌++◌}
+use Rattle.std.specs.Prelude.{ℕ, ◌≡◌, ◌≤◌, ◌^◌, List, [], ◌++◌}
 use Rattle.atomic_table.specs.Seated.{TableId}
 use Rattle.fak_model.specs.Seats.{In}
 use Rattle.fak_core.specs.QueueBlocks.{AreApart, Posts, names_of}
 use Rattle.fak_queue.specs.declared.limits.QueueLimits.{QueueLimits}
 use Rattle.fak_queue.specs.declared.place.Place.{Place}
+use Rattle.fak_queue.specs.Bundles.{IsLawful}
 use Rattle.fak_queue.specs.Bursts.{AllIn, AreDisjoint}
 use Rattle.fak_queue.specs.Shown.{QueueHolder}
 use Rattle.fak_queue.specs.Steps.{FitsTable, IsPlace}
@@ -26,6 +27,15 @@ pub record IsNameAt {T : Type 0} (id : TableId) (key : QueueLimits) (seats : ℕ
   pub table : FitsTable token.table_id id key seats
   pub place : IsPlace id.slots at
   pub name : In own token.me.0.names
+  pub phase : stands token.me
+
+-- the token of a bundle that holds tickets below `last` of a queue of this size, and no slot
+pub record IsWorkToken {T : Type 0} (id : TableId) (key : QueueLimits) (size last : ℕ) (stands : QueueHolder T → Type 0) (token : QueueToken T) : Type 0 where
+  pub table : FitsTable token.table_id id key key.seats
+  pub cells : size ≡ id.slots
+  pub tickets : last ≤ 2 ^ 50
+  pub slots : token.me.1 ≡ []
+  pub lawful : IsLawful id.slots key.seats token.me.0
   pub phase : stands token.me
 
 -- a step leaves the token with its table, and tells this of what the token knows now

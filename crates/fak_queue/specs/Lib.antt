@@ -11,8 +11,8 @@ pub mod Rests
 pub mod Sums
 pub mod Drained
 pub mod Bursts
-pub mod BurstTokens
 pub mod Bundles
+pub mod BurstTokens
 pub mod BundleCalls
 pub mod BurstCalls
 pub mod Bundling

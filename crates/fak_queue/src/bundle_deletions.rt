@@ -176,18 +176,13 @@ impl<T: Drop> Queue<T> {
             unreachable!()
         };
         let at = Progress {
+            names: bundle.names.as_slice(),
+            cells: &self.cells,
             ticket,
             done: ended,
             granted,
         };
-        let done = take_ready(
-            &self.table.shared,
-            &mut bundle.token,
-            &self.cells,
-            at,
-            bundle.names.as_slice(),
-            out,
-        );
+        let done = take_ready(&self.table.shared, &mut bundle.token, &at, out);
         bundle.state = BundleState::deleting(ticket, done, granted);
         granted - done
     }
@@ -214,19 +209,13 @@ impl<T: Drop> Queue<T> {
             unreachable!()
         };
         let at = Progress {
+            names: bundle.names.as_slice(),
+            cells: &self.cells,
             ticket,
             done: ended,
             granted,
         };
-        take_all(
-            rt,
-            &self.table.shared,
-            &mut bundle.token,
-            &self.cells,
-            at,
-            bundle.names.as_slice(),
-            out,
-        );
+        take_all(rt, &self.table.shared, &mut bundle.token, &at, out);
         bundle.state = BundleState::Idle;
     }
 }

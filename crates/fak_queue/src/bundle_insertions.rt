@@ -178,18 +178,13 @@ impl<T: Drop> Queue<T> {
             unreachable!()
         };
         let at = Progress {
+            names: bundle.names.as_slice(),
+            cells: &self.cells,
             ticket,
             done: ended,
             granted,
         };
-        let done = fill_ready(
-            &self.table.shared,
-            &mut bundle.token,
-            &self.cells,
-            at,
-            bundle.names.as_slice(),
-            &mut bundle.kept,
-        );
+        let done = fill_ready(&self.table.shared, &mut bundle.token, &at, &mut bundle.kept);
         bundle.state = BundleState::inserting(ticket, done, granted);
         granted - done
     }
@@ -213,6 +208,8 @@ impl<T: Drop> Queue<T> {
             unreachable!()
         };
         let at = Progress {
+            names: bundle.names.as_slice(),
+            cells: &self.cells,
             ticket,
             done: ended,
             granted,
@@ -221,9 +218,7 @@ impl<T: Drop> Queue<T> {
             rt,
             &self.table.shared,
             &mut bundle.token,
-            &self.cells,
-            at,
-            bundle.names.as_slice(),
+            &at,
             &mut bundle.kept,
         );
         bundle.state = BundleState::Idle;

@@ -1,19 +1,18 @@
 //! A bundle empties the cells of its tickets.
 
-ghost use Rattle.std.specs.Prelude.{◌≡◌, List, ◌+◌, ◌-◌, ◌<◌, ◌≤◌, ◌^◌, [], length, reverse};
+ghost use Rattle.std.specs.Prelude.{◌≡◌, List, ◌+◌, ◌-◌, ◌<◌, ◌≤◌, ◌^◌, length, reverse};
 ghost use Rattle.std.specs.VecDeque.{deque_capacity, deque_len};
 ghost use Rattle.fak_core.specs.QueueBlocks.{AreApart};
-ghost use Rattle.fak_queue.specs.Steps.{FitsTable};
 ghost use Rattle.fak_model.specs.declared.queue.Kind.TheVariants.{Fill};
 ghost use Rattle.fak_model.specs.Queue.{Has};
 ghost use Rattle.fak_model.specs.Seats.{Begins};
-ghost use Rattle.fak_queue.specs.Bundles.{EmptiedOn, EmptiesOn, Emptying, FoundEmpty, IsLawful};
+ghost use Rattle.fak_queue.specs.Bundles.{EmptiedOn, EmptiesOn, Emptying, FoundEmpty};
 ghost use Rattle.fak_queue.specs.Shown.{QueueHolder};
+ghost use Rattle.fak_queue.specs.BurstTokens.{IsBundleToken, IsWorkToken, TellsAll};
 
 use crate::bursts::deletion::end_out_burst;
 use crate::bursts::progress::Progress;
 use crate::bursts::turns::{has_item, take};
-use crate::cells::Cells;
 use crate::steps::{QueueToken, QueueWords};
 use std::collections::VecDeque;
 use std::marker::Brand;
@@ -23,30 +22,23 @@ use std::marker::Brand;
 fn take_while_ready<T: Drop>(
     words: &QueueWords<T>,
     token: &mut QueueToken<T>,
-    cells: &Cells,
-    at: Progress,
-    names: &[u64],
+    at: &Progress<'_>,
     out: &mut VecDeque<T>,
 ) -> u64
-    requires table { FitsTable token.old.table_id words.now.table_id words.now.key words.now.key.seats }
-    requires cells { cells.now.size ≡ words.now.table_id.slots }
-    requires tickets { at.ticket + at.granted ≤ 2 ^ 50 }
-    requires names { AreApart names.now }
-    requires stands { Emptying names.now at.ticket at.done at.done at.granted token.old.me.0 }
-    requires slots { token.old.me.1 ≡ [] }
-    requires lawful { IsLawful words.now.table_id.slots words.now.key.seats token.old.me.0 }
-    requires room { deque_len out.old + (at.granted - at.done) ≤ deque_capacity out.old }
-    ensures same { token.new.table_id ≡ token.old.table_id }
-    ensures range { (at.done ≤ result) × (result ≤ at.granted) }
-    ensures told { EmptiesOn words.now.table_id.slots words.now.key.seats names.now at.ticket at.done result at.granted
-        out.old.items out.new.items token.old.me token.new.me }
+    requires token { IsWorkToken words.now.table_id words.now.key at.now.cells.now.size (at.now.ticket + at.now.granted)
+        (λ me. Emptying at.now.names.now at.now.ticket at.now.done at.now.done at.now.granted me.0) token.old }
+    requires names { AreApart at.now.names.now }
+    requires room { deque_len out.old + (at.now.granted - at.now.done) ≤ deque_capacity out.old }
+    ensures range { (at.now.done ≤ result) × (result ≤ at.now.granted) }
+    ensures told { TellsAll token.old token.new (λ after. EmptiesOn words.now.table_id.slots words.now.key.seats
+        at.now.names.now at.now.ticket at.now.done result at.now.granted out.old.items out.new.items token.old.me after) }
     ensures capacity { deque_capacity out.new ≡ deque_capacity out.old }
-    ensures len { deque_len out.new ≡ deque_len out.old + (result - at.done) }
-    ensures early { result < at.granted → Has (Fill (at.ticket + result)) (reverse token.new.me.0.seen) → ⊥ }
+    ensures len { deque_len out.new ≡ deque_len out.old + (result - at.now.done) }
+    ensures early { result < at.now.granted → Has (Fill (at.now.ticket + result)) (reverse token.new.me.0.seen) → ⊥ }
 {
     for index in at.done..at.granted {
-        let name = names[index as usize];
-        let place = cells.place(at.ticket + index);
+        let name = at.names[index as usize];
+        let place = at.cells.place(at.ticket + index);
         if !has_item(words, token, place, name) {
             return index;
         }
@@ -56,37 +48,21 @@ fn take_while_ready<T: Drop>(
 }
 
 /// Ends the deletions of the names that have emptied their cells.
-fn end_taken<T>(
-    words: &QueueWords<T>,
-    token: &mut QueueToken<T>,
-    at: Progress,
-    taken: u64,
-    names: &[u64],
-)
-    requires table { FitsTable token.old.table_id words.now.table_id words.now.key words.now.key.seats }
-    requires tickets { at.ticket + taken ≤ 2 ^ 50 }
-    requires names { AreApart names.now × (length names.now ≤ 1024) }
-    requires some { at.done < taken }
-    requires stands { (was : List T) × (got : List T) × (m : QueueHolder T)
-        × EmptiesOn words.now.table_id.slots words.now.key.seats names.now at.ticket at.done taken at.granted was got
-        m token.old.me }
-    ensures same { token.new.table_id ≡ token.old.table_id }
-    ensures told { (was got : List T) (m : QueueHolder T)
-        → EmptiesOn words.now.table_id.slots words.now.key.seats names.now at.ticket at.done taken at.granted was got
-        m token.old.me
-        → EmptiedOn words.now.table_id.slots words.now.key.seats names.now at.ticket at.done taken at.granted was got
-        m token.new.me }
+fn end_taken<T>(words: &QueueWords<T>, token: &mut QueueToken<T>, at: &Progress<'_>, taken: u64)
+    requires token { IsBundleToken words.now.table_id words.now.key words.now.key.seats (λ me. (was : List T)
+        × (got : List T) × (m : QueueHolder T) × EmptiesOn words.now.table_id.slots words.now.key.seats at.now.names.now
+        at.now.ticket at.now.done taken at.now.granted was got m me) token.old }
+    requires tickets { at.now.ticket + taken ≤ 2 ^ 50 }
+    requires names { AreApart at.now.names.now × (length at.now.names.now ≤ 1024) }
+    requires some { at.now.done < taken }
+    ensures told { TellsAll token.old token.new (λ after. (was got : List T) (m : QueueHolder T)
+        → EmptiesOn words.now.table_id.slots words.now.key.seats at.now.names.now at.now.ticket at.now.done taken
+        at.now.granted was got m token.old.me → EmptiedOn words.now.table_id.slots words.now.key.seats at.now.names.now
+        at.now.ticket at.now.done taken at.now.granted was got m after) }
     ensures begins { Begins (reverse token.old.me.0.seen) (reverse token.new.me.0.seen) }
 {
-    let part = &names[at.done as usize..taken as usize];
-    end_out_burst::<T, Brand>(
-        words,
-        token,
-        taken - at.done,
-        part,
-        at.ticket + at.done,
-        taken >= at.granted,
-    );
+    let part = &at.names[at.done as usize..taken as usize];
+    end_out_burst::<T, Brand>(words, token, part, at.ticket + at.done, taken >= at.granted);
 }
 
 /// Empties the cells of the names that wait into `out`, in the order of their tickets, until one's turn has not come, and ends these
@@ -94,32 +70,25 @@ fn end_taken<T>(
 pub(crate) fn take_ready<T: Drop>(
     words: &QueueWords<T>,
     token: &mut QueueToken<T>,
-    cells: &Cells,
-    at: Progress,
-    names: &[u64],
+    at: &Progress<'_>,
     out: &mut VecDeque<T>,
 ) -> u64
-    requires table { FitsTable token.old.table_id words.now.table_id words.now.key words.now.key.seats }
-    requires cells { cells.now.size ≡ words.now.table_id.slots }
-    requires tickets { at.ticket + at.granted ≤ 2 ^ 50 }
-    requires names { AreApart names.now × (length names.now ≤ 1024) }
-    requires some { at.done < at.granted }
-    requires stands { Emptying names.now at.ticket at.done at.done at.granted token.old.me.0 }
-    requires slots { token.old.me.1 ≡ [] }
-    requires lawful { IsLawful words.now.table_id.slots words.now.key.seats token.old.me.0 }
-    requires room { deque_len out.old + (at.granted - at.done) ≤ deque_capacity out.old }
-    ensures same { token.new.table_id ≡ token.old.table_id }
-    ensures range { (at.done ≤ result) × (result ≤ at.granted) }
-    ensures told { EmptiedOn words.now.table_id.slots words.now.key.seats names.now at.ticket at.done result at.granted
-        out.old.items out.new.items token.old.me token.new.me }
+    requires token { IsWorkToken words.now.table_id words.now.key at.now.cells.now.size (at.now.ticket + at.now.granted)
+        (λ me. Emptying at.now.names.now at.now.ticket at.now.done at.now.done at.now.granted me.0) token.old }
+    requires names { AreApart at.now.names.now × (length at.now.names.now ≤ 1024) }
+    requires some { at.now.done < at.now.granted }
+    requires room { deque_len out.old + (at.now.granted - at.now.done) ≤ deque_capacity out.old }
+    ensures range { (at.now.done ≤ result) × (result ≤ at.now.granted) }
+    ensures told { TellsAll token.old token.new (λ after. EmptiedOn words.now.table_id.slots words.now.key.seats
+        at.now.names.now at.now.ticket at.now.done result at.now.granted out.old.items out.new.items token.old.me after) }
     ensures capacity { deque_capacity out.new ≡ deque_capacity out.old }
-    ensures len { deque_len out.new ≡ deque_len out.old + (result - at.done) }
-    ensures early { result < at.granted → FoundEmpty (at.ticket + result) (reverse token.old.me.0.seen)
+    ensures len { deque_len out.new ≡ deque_len out.old + (result - at.now.done) }
+    ensures early { result < at.now.granted → FoundEmpty (at.now.ticket + result) (reverse token.old.me.0.seen)
         (reverse token.new.me.0.seen) }
 {
-    let taken = take_while_ready(words, token, cells, at, names, out);
+    let taken = take_while_ready(words, token, at, out);
     if taken > at.done {
-        end_taken(words, token, at, taken, names);
+        end_taken(words, token, at, taken);
     }
     taken
 }

@@ -1,12 +1,12 @@
 //! A bundle fills the cells of its tickets.
 
-ghost use Rattle.std.specs.Prelude.{◌≡◌, List, ◌+◌, ◌<◌, ◌≤◌, ◌^◌, [], length, reverse};
+ghost use Rattle.std.specs.Prelude.{◌≡◌, List, ◌+◌, ◌<◌, ◌≤◌, ◌^◌, length, reverse};
 ghost use Rattle.std.specs.VecDeque.{deque_capacity};
 ghost use Rattle.fak_model.specs.Seats.{Begins};
 ghost use Rattle.fak_core.specs.QueueBlocks.{AreApart};
-ghost use Rattle.fak_queue.specs.Steps.{FitsTable};
-ghost use Rattle.fak_queue.specs.Bundles.{FilledOn, Filling, FillsOn, FoundFull, IsEarly, IsLawful};
+ghost use Rattle.fak_queue.specs.Bundles.{FilledOn, Filling, FillsOn, FoundFull, IsEarly};
 ghost use Rattle.fak_queue.specs.Shown.{QueueHolder};
+ghost use Rattle.fak_queue.specs.BurstTokens.{IsBundleToken, IsWorkToken, TellsAll};
 
 use crate::bursts::insertion::end_burst;
 use crate::bursts::progress::Progress;
@@ -21,28 +21,23 @@ use std::marker::Brand;
 fn fill_while_ready<T: Drop>(
     words: &QueueWords<T>,
     token: &mut QueueToken<T>,
-    cells: &Cells,
-    at: Progress,
-    names: &[u64],
+    at: &Progress<'_>,
     kept: &mut VecDeque<T>,
 ) -> u64
-    requires table { FitsTable token.old.table_id words.now.table_id words.now.key words.now.key.seats }
-    requires cells { cells.now.size ≡ words.now.table_id.slots }
-    requires tickets { at.ticket + at.granted ≤ 2 ^ 50 }
-    requires names { AreApart names.now }
-    requires stands { Filling names.now at.ticket at.done at.done at.granted kept.old.items token.old.me.0 }
-    requires slots { token.old.me.1 ≡ [] }
-    requires lawful { IsLawful words.now.table_id.slots words.now.key.seats token.old.me.0 }
-    ensures same { token.new.table_id ≡ token.old.table_id }
-    ensures range { (at.done ≤ result) × (result ≤ at.granted) }
-    ensures told { FillsOn words.now.table_id.slots words.now.key.seats names.now at.ticket at.done result at.granted
-        kept.old.items kept.new.items token.old.me token.new.me }
-    ensures early { result < at.granted → IsEarly words.now.table_id.slots (at.ticket + result) token.new.me }
+    requires token { IsWorkToken words.now.table_id words.now.key at.now.cells.now.size (at.now.ticket + at.now.granted)
+        (λ me. Filling at.now.names.now at.now.ticket at.now.done at.now.done at.now.granted kept.old.items me.0)
+        token.old }
+    requires names { AreApart at.now.names.now }
+    ensures range { (at.now.done ≤ result) × (result ≤ at.now.granted) }
+    ensures told { TellsAll token.old token.new (λ after. FillsOn words.now.table_id.slots words.now.key.seats
+        at.now.names.now at.now.ticket at.now.done result at.now.granted kept.old.items kept.new.items token.old.me
+        after) }
+    ensures early { result < at.now.granted → IsEarly words.now.table_id.slots (at.now.ticket + result) token.new.me }
     ensures capacity { deque_capacity kept.new ≡ deque_capacity kept.old }
 {
     for index in at.done..at.granted {
-        let name = names[index as usize];
-        let place = cells.place(at.ticket + index);
+        let name = at.names[index as usize];
+        let place = at.cells.place(at.ticket + index);
         if !has_room(words, token, place, name) {
             return index;
         }
@@ -55,30 +50,23 @@ fn fill_while_ready<T: Drop>(
 }
 
 /// Ends the insertions of the names that have filled their cells.
-fn end_filled<T>(
-    words: &QueueWords<T>,
-    token: &mut QueueToken<T>,
-    at: Progress,
-    filled: u64,
-    names: &[u64],
-)
-    requires table { FitsTable token.old.table_id words.now.table_id words.now.key words.now.key.seats }
-    requires tickets { at.ticket + filled ≤ 2 ^ 50 }
-    requires names { AreApart names.now × (length names.now ≤ 1024) }
-    requires some { at.done < filled }
-    requires stands { (was : List T) × (kept : List T) × (m : QueueHolder T) × FillsOn words.now.table_id.slots words.now.key.seats names.now
-        at.ticket at.done filled at.granted was kept m token.old.me }
-    ensures same { token.new.table_id ≡ token.old.table_id }
-    ensures told { (was kept : List T) (m : QueueHolder T)
-        → FillsOn words.now.table_id.slots words.now.key.seats names.now at.ticket at.done filled at.granted was kept m token.old.me
-        → FilledOn words.now.table_id.slots words.now.key.seats names.now at.ticket at.done filled at.granted was kept m token.new.me }
+fn end_filled<T>(words: &QueueWords<T>, token: &mut QueueToken<T>, at: &Progress<'_>, filled: u64)
+    requires token { IsBundleToken words.now.table_id words.now.key words.now.key.seats (λ me. (was : List T)
+        × (kept : List T) × (m : QueueHolder T) × FillsOn words.now.table_id.slots words.now.key.seats at.now.names.now
+        at.now.ticket at.now.done filled at.now.granted was kept m me) token.old }
+    requires tickets { at.now.ticket + filled ≤ 2 ^ 50 }
+    requires names { AreApart at.now.names.now × (length at.now.names.now ≤ 1024) }
+    requires some { at.now.done < filled }
+    ensures told { TellsAll token.old token.new (λ after. (was kept : List T) (m : QueueHolder T)
+        → FillsOn words.now.table_id.slots words.now.key.seats at.now.names.now at.now.ticket at.now.done filled
+        at.now.granted was kept m token.old.me → FilledOn words.now.table_id.slots words.now.key.seats at.now.names.now
+        at.now.ticket at.now.done filled at.now.granted was kept m after) }
     ensures begins { Begins (reverse token.old.me.0.seen) (reverse token.new.me.0.seen) }
 {
-    let part = &names[at.done as usize..filled as usize];
+    let part = &at.names[at.done as usize..filled as usize];
     end_burst::<T, Brand>(
         words,
         token,
-        filled - at.done,
         part,
         at.ticket + at.done,
         filled >= at.granted,
@@ -90,30 +78,25 @@ fn end_filled<T>(
 pub(crate) fn fill_ready<T: Drop>(
     words: &QueueWords<T>,
     token: &mut QueueToken<T>,
-    cells: &Cells,
-    at: Progress,
-    names: &[u64],
+    at: &Progress<'_>,
     kept: &mut VecDeque<T>,
 ) -> u64
-    requires table { FitsTable token.old.table_id words.now.table_id words.now.key words.now.key.seats }
-    requires cells { cells.now.size ≡ words.now.table_id.slots }
-    requires tickets { at.ticket + at.granted ≤ 2 ^ 50 }
-    requires names { AreApart names.now × (length names.now ≤ 1024) }
-    requires some { at.done < at.granted }
-    requires stands { Filling names.now at.ticket at.done at.done at.granted kept.old.items token.old.me.0 }
-    requires slots { token.old.me.1 ≡ [] }
-    requires lawful { IsLawful words.now.table_id.slots words.now.key.seats token.old.me.0 }
-    ensures same { token.new.table_id ≡ token.old.table_id }
-    ensures range { (at.done ≤ result) × (result ≤ at.granted) }
-    ensures told { FilledOn words.now.table_id.slots words.now.key.seats names.now at.ticket at.done result at.granted
-        kept.old.items kept.new.items token.old.me token.new.me }
-    ensures early { result < at.granted → FoundFull words.now.table_id.slots (at.ticket + result)
+    requires token { IsWorkToken words.now.table_id words.now.key at.now.cells.now.size (at.now.ticket + at.now.granted)
+        (λ me. Filling at.now.names.now at.now.ticket at.now.done at.now.done at.now.granted kept.old.items me.0)
+        token.old }
+    requires names { AreApart at.now.names.now × (length at.now.names.now ≤ 1024) }
+    requires some { at.now.done < at.now.granted }
+    ensures range { (at.now.done ≤ result) × (result ≤ at.now.granted) }
+    ensures told { TellsAll token.old token.new (λ after. FilledOn words.now.table_id.slots words.now.key.seats
+        at.now.names.now at.now.ticket at.now.done result at.now.granted kept.old.items kept.new.items token.old.me
+        after) }
+    ensures early { result < at.now.granted → FoundFull words.now.table_id.slots (at.now.ticket + result)
         (reverse token.old.me.0.seen) (reverse token.new.me.0.seen) }
     ensures capacity { deque_capacity kept.new ≡ deque_capacity kept.old }
 {
-    let filled = fill_while_ready(words, token, cells, at, names, kept);
+    let filled = fill_while_ready(words, token, at, kept);
     if filled > at.done {
-        end_filled(words, token, at, filled, names);
+        end_filled(words, token, at, filled);
     }
     filled
 }

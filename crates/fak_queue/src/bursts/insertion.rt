@@ -126,14 +126,13 @@ pub(crate) fn fill_burst<T, J: OneName>(
 pub(crate) fn end_burst<T, J: Ends>(
     words: &QueueWords<T>,
     token: &mut QueueToken<T>,
-    count: u64,
-    _names: &[u64],
+    names: &[u64],
     _first: u64,
     _rests: bool,
 )
     requires token { IsBundleToken words.now.table_id words.now.key J.seats (λ me. (all : Posts T)
         × (me.0.phase ≡ Some (Each all))) token.old }
-    requires count { (count ≡ length J.items) × (count ≤ 1024) }
+    requires count { (length names.now ≡ length J.items) × (length names.now ≤ 1024) }
     requires names { AreApart (names_of J.items) × AllIn (names_of J.items) token.old.me.0.names }
     requires ends { (n : ℕ) (p : Phase T) → IsPost n p (all_at (λ k. EndInsert k) J.items) → SaysOf token.old.me.0 n p }
     requires rest { J.rests ≡ true → (n : ℕ) → In n token.old.me.0.names
@@ -141,5 +140,6 @@ pub(crate) fn end_burst<T, J: Ends>(
     ensures { TellsAll token.old token.new (λ after. EndedBurst words.now.table_id.slots J.seats J.items J.rests
         token.old.me after) }
 {
+    let count = names.len() as u64;
     words.fetch_add::<EndBurstPlay<J>>(token, LOWER, count);
 }

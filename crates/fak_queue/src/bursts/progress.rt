@@ -1,8 +1,14 @@
 //! How far a burst got.
 
+use crate::cells::Cells;
+
 /// The tickets that a burst has drawn, one for each of the first names of its bundle, and at how many of their cells it is done.
-#[derive(Clone, Copy, Debug, PartialEq, Eq, Drop)]
-pub(crate) struct Progress {
+#[derive(Clone, Copy, Drop)]
+pub(crate) struct Progress<'a> {
+    /// The names of the bundle.
+    pub names: &'a [u64],
+    /// The cells of the queue.
+    pub cells: &'a Cells,
     /// The first ticket.
     pub ticket: u64,
     /// The names that have ended their calls.

@@ -1,15 +1,14 @@
 //! A bundle fills or empties all the cells of its tickets, and waits where one's turn has not come.
 
-ghost use Rattle.std.specs.Prelude.{◌≡◌, ◌+◌, ◌-◌, ◌<◌, ◌≤◌, ◌^◌, [], length};
+ghost use Rattle.std.specs.Prelude.{◌≡◌, ◌+◌, ◌-◌, ◌<◌, ◌≤◌, length};
 ghost use Rattle.std.specs.VecDeque.{deque_capacity, deque_len};
 ghost use Rattle.fak_core.specs.QueueBlocks.{AreApart};
-ghost use Rattle.fak_queue.specs.Steps.{FitsTable};
-ghost use Rattle.fak_queue.specs.Bundles.{EmptiedOn, Emptying, FilledOn, Filling, IsLawful};
+ghost use Rattle.fak_queue.specs.Bundles.{EmptiedOn, Emptying, FilledOn, Filling};
+ghost use Rattle.fak_queue.specs.BurstTokens.{IsWorkToken, TellsAll};
 
 use crate::bursts::emptying::take_ready;
 use crate::bursts::filling::fill_ready;
 use crate::bursts::progress::Progress;
-use crate::cells::Cells;
 use crate::steps::{QueueToken, QueueWords};
 use crossbeam_utils::Backoff;
 use std::collections::VecDeque;
@@ -21,32 +20,27 @@ pub(crate) fn fill_all<T: Drop, R: Wait>(
     rt: &R,
     words: &QueueWords<T>,
     token: &mut QueueToken<T>,
-    cells: &Cells,
-    at: Progress,
-    names: &[u64],
+    at: &Progress<'_>,
     kept: &mut VecDeque<T>,
 )
-    requires table { FitsTable token.old.table_id words.now.table_id words.now.key words.now.key.seats }
-    requires cells { cells.now.size ≡ words.now.table_id.slots }
-    requires tickets { at.ticket + at.granted ≤ 2 ^ 50 }
-    requires names { AreApart names.now × (length names.now ≤ 1024) }
-    requires some { at.done < at.granted }
-    requires stands { Filling names.now at.ticket at.done at.done at.granted kept.old.items token.old.me.0 }
-    requires slots { token.old.me.1 ≡ [] }
-    requires lawful { IsLawful words.now.table_id.slots words.now.key.seats token.old.me.0 }
-    ensures same { token.new.table_id ≡ token.old.table_id }
-    ensures told { FilledOn words.now.table_id.slots words.now.key.seats names.now at.ticket at.done at.granted
-        at.granted kept.old.items kept.new.items token.old.me token.new.me }
+    requires token { IsWorkToken words.now.table_id words.now.key at.now.cells.now.size (at.now.ticket + at.now.granted)
+        (λ me. Filling at.now.names.now at.now.ticket at.now.done at.now.done at.now.granted kept.old.items me.0)
+        token.old }
+    requires names { AreApart at.now.names.now × (length at.now.names.now ≤ 1024) }
+    requires some { at.now.done < at.now.granted }
+    ensures told { TellsAll token.old token.new (λ after. FilledOn words.now.table_id.slots words.now.key.seats
+        at.now.names.now at.now.ticket at.now.done at.now.granted at.now.granted kept.old.items kept.new.items
+        token.old.me after) }
     ensures capacity { deque_capacity kept.new ≡ deque_capacity kept.old }
 {
     let backoff = Backoff::new();
-    let mut now = at;
+    let mut done = at.done;
     for _ in rt.forever() {
-        let done = fill_ready(words, token, cells, now, names, kept);
-        if done == at.granted {
+        let ended = fill_ready(words, token, &Progress { done, ..*at }, kept);
+        if ended == at.granted {
             return;
         }
-        now.done = done;
+        done = ended;
         backoff.snooze();
     }
     unreachable!()
@@ -58,33 +52,27 @@ pub(crate) fn take_all<T: Drop, R: Wait>(
     rt: &R,
     words: &QueueWords<T>,
     token: &mut QueueToken<T>,
-    cells: &Cells,
-    at: Progress,
-    names: &[u64],
+    at: &Progress<'_>,
     out: &mut VecDeque<T>,
 )
-    requires table { FitsTable token.old.table_id words.now.table_id words.now.key words.now.key.seats }
-    requires cells { cells.now.size ≡ words.now.table_id.slots }
-    requires tickets { at.ticket + at.granted ≤ 2 ^ 50 }
-    requires names { AreApart names.now × (length names.now ≤ 1024) }
-    requires some { at.done < at.granted }
-    requires stands { Emptying names.now at.ticket at.done at.done at.granted token.old.me.0 }
-    requires slots { token.old.me.1 ≡ [] }
-    requires lawful { IsLawful words.now.table_id.slots words.now.key.seats token.old.me.0 }
-    requires room { deque_len out.old + (at.granted - at.done) ≤ deque_capacity out.old }
-    ensures same { token.new.table_id ≡ token.old.table_id }
-    ensures told { EmptiedOn words.now.table_id.slots words.now.key.seats names.now at.ticket at.done at.granted
-        at.granted out.old.items out.new.items token.old.me token.new.me }
+    requires token { IsWorkToken words.now.table_id words.now.key at.now.cells.now.size (at.now.ticket + at.now.granted)
+        (λ me. Emptying at.now.names.now at.now.ticket at.now.done at.now.done at.now.granted me.0) token.old }
+    requires names { AreApart at.now.names.now × (length at.now.names.now ≤ 1024) }
+    requires some { at.now.done < at.now.granted }
+    requires room { deque_len out.old + (at.now.granted - at.now.done) ≤ deque_capacity out.old }
+    ensures told { TellsAll token.old token.new (λ after. EmptiedOn words.now.table_id.slots words.now.key.seats
+        at.now.names.now at.now.ticket at.now.done at.now.granted at.now.granted out.old.items out.new.items
+        token.old.me after) }
     ensures capacity { deque_capacity out.new ≡ deque_capacity out.old }
 {
     let backoff = Backoff::new();
-    let mut now = at;
+    let mut done = at.done;
     for _ in rt.forever() {
-        let done = take_ready(words, token, cells, now, names, out);
-        if done == at.granted {
+        let ended = take_ready(words, token, &Progress { done, ..*at }, out);
+        if ended == at.granted {
             return;
         }
-        now.done = done;
+        done = ended;
         backoff.snooze();
     }
     unreachable!()

@@ -7,5 +7,5 @@ use Rattle.fak_queue.proofs.bursts.filling.fill_while_ready.Given as goal
 abbrev pub invariant-loop-index : goal.invariant-loop-index
 invariant-loop-index g l =
     (l.token.table_id ≡ l.initial.token.table_id) × (l.at.done ≤ l.index) × (l.index ≤ l.at.granted)
-    × FillsOn l.words.table_id.slots l.words.key.seats l.names l.at.ticket l.at.done l.index l.at.granted l.initial.kept.items l.kept.items l.initial.token.me l.token.me
+    × FillsOn l.words.table_id.slots l.words.key.seats l.at.names.now l.at.ticket l.at.done l.index l.at.granted l.initial.kept.items l.kept.items l.initial.token.me l.token.me
     × (deque_capacity l.kept ≡ deque_capacity l.initial.kept)

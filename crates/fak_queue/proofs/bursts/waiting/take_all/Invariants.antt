@@ -6,6 +6,6 @@ use Rattle.fak_queue.proofs.bursts.waiting.take_all.Given as goal
 -- the cells up to here are empty, and these deletions have ended
 abbrev pub invariant-loop : goal.invariant-loop
 invariant-loop g l =
-    (l.token.table_id ≡ l.initial.token.table_id) × (l.now.ticket ≡ l.fn.at.ticket) × (l.now.granted ≡ l.fn.at.granted) × (l.fn.at.done ≤ l.now.done) × (l.now.done < l.fn.at.granted)
-    × EmptiedOn l.words.table_id.slots l.words.key.seats l.names l.fn.at.ticket l.fn.at.done l.now.done l.fn.at.granted l.initial.out.items l.out.items l.initial.token.me l.token.me
-    × (deque_len l.out + (l.fn.at.granted - l.now.done) ≤ deque_capacity l.out) × (deque_capacity l.out ≡ deque_capacity l.initial.out)
+    (l.token.table_id ≡ l.initial.token.table_id) × (l.at.done ≤ l.done) × (l.done < l.at.granted)
+    × EmptiedOn l.words.table_id.slots l.words.key.seats l.at.names.now l.at.ticket l.at.done l.done l.at.granted l.initial.out.items l.out.items l.initial.token.me l.token.me
+    × (deque_len l.out + (l.at.granted - l.done) ≤ deque_capacity l.out) × (deque_capacity l.out ≡ deque_capacity l.initial.out)
