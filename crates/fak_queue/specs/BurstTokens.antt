@@ -1,5 +1,5 @@
 -- What the steps of a bundle ask of its token, and what they leave.
-use Rattle.std.specs.Prelude.{ℕ, ◌≡◌, ◌≤◌, ◌^◌, List, [], ◌++◌}
+use Rattle.std.specs.Prelude.{ℕ, ◌≡◌, ◌≤◌, ◌^◌, List, [], ◌++◌, length}
 use Rattle.atomic_table.specs.Seated.{TableId}
 use Rattle.fak_model.specs.Seats.{In}
 use Rattle.fak_core.specs.QueueBlocks.{AreApart, Posts, names_of}
@@ -20,6 +20,12 @@ pub record IsBundleToken {T : Type 0} (id : TableId) (key : QueueLimits) (seats 
 pub record IsBurstToken {T A : Type 0} (id : TableId) (key : QueueLimits) (seats : ℕ) (items : List (ℕ × A)) (others : Posts T) (stands : QueueHolder T → Type 0) (token : QueueToken T) : Type 0 where
   pub table : FitsTable token.table_id id key seats
   pub names : AreApart (names_of items) × AreDisjoint (names_of items) (names_of others) × AllIn (names_of items ++ names_of others) token.me.0.names
+  pub phase : stands token.me
+
+-- the token of a bundle of these names, of which this many take part in a burst, and which stand so
+pub record IsClaimToken {T : Type 0} (id : TableId) (key : QueueLimits) (own : List ℕ) (many : ℕ) (stands : QueueHolder T → Type 0) (token : QueueToken T) : Type 0 where
+  pub table : FitsTable token.table_id id key key.seats
+  pub names : AreApart own × (token.me.0.names ≡ own) × (many ≤ length own)
   pub phase : stands token.me
 
 -- the token of a bundle that has this name, whose ticket has this place

@@ -10,6 +10,7 @@ ghost use Rattle.fak_queue.specs.BurstCalls.{RefusesBurst, RefusesWaitingBurst, 
 use crate::bundle::{Bundle, BundleState};
 use crate::burst::Burst;
 use crate::bursts::admission::admit_burst;
+use crate::bursts::claimants::Claimants;
 use crate::bursts::filling::fill_ready;
 use crate::bursts::first_items::FirstItems;
 use crate::bursts::keeping::keep;
@@ -132,13 +133,16 @@ impl<T: Drop> Queue<T> {
         let most = bundle.left.min(bundle.names.len() as u64);
         let count = most.min(items.len() as u64);
         let first = FirstItems::of(items, count);
+        let claimants = Claimants {
+            names: bundle.names.as_slice(),
+            items: &first,
+        };
         match admit_burst(
             &self.table.shared,
             &mut bundle.token,
             self.cells.size,
             &mut bundle.counts,
-            bundle.names.as_slice(),
-            &first,
+            &claimants,
         ) {
             Ok((ticket, granted)) => {
                 bundle.left -= granted;

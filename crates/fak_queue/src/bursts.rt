@@ -5,6 +5,7 @@
 
 pub(crate) mod admission;
 pub(crate) mod admission_out;
+pub(crate) mod claimants;
 pub(crate) mod deletion;
 pub(crate) mod emptying;
 pub(crate) mod filling;

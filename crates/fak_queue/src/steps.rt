@@ -4,10 +4,10 @@ pub(crate) mod deletion;
 pub(crate) mod insertion;
 pub(crate) mod observation;
 
-ghost use Rattle.std.specs.Prelude.{◌≡◌};
 ghost use Rattle.fak_core.specs.declared.queue.phase.Phase.TheVariants.{Idle};
 ghost use Rattle.fak_queue.specs.Steps.{FitsTable, HeardJoin, ShutAs};
 ghost use Rattle.fak_queue.specs.StepTokens.{IsTokenOf, StandsAt, Tells};
+ghost use Rattle.fak_queue.specs.BurstTokens.{TellsAll};
 
 use crate::limits::QueueLimits;
 use crate::plays::{Call, HearPlay, ShutPlay};
@@ -40,8 +40,7 @@ pub(crate) fn shut<T, J: Call<T>>(words: &QueueWords<T>, token: &mut QueueToken<
 /// After a join, a load that tells what it compared.
 pub(crate) fn hear<T, J: Call<T>>(words: &QueueWords<T>, token: &mut QueueToken<T>)
     requires table { FitsTable token.old.table_id words.now.table_id words.now.key J.seats }
-    ensures same { token.new.table_id ≡ token.old.table_id }
-    ensures told { HeardJoin words.now.table_id.slots J.seats token.old.me token.new.me }
+    ensures { TellsAll token.old token.new (λ after. HeardJoin words.now.table_id.slots J.seats token.old.me after) }
 {
     words.load::<HearPlay<J>>(token, UPPER);
 }

@@ -1,13 +1,13 @@
 //! The claim of a burst of deletions: from the test to the draw.
 
-ghost use Rattle.std.specs.Prelude.{◌≡◌, ◌<◌, ◌≤◌, IfErr, IfOk, MatchResult, Some, drop, length};
+ghost use Rattle.std.specs.Prelude.{◌≡◌, ◌<◌, ◌≤◌, IfErr, IfOk, MatchResult, drop};
 ghost use Rattle.fak_model.specs.declared.queue.Kind.TheVariants.{BackOut};
 ghost use Rattle.fak_core.specs.declared.queue.phase.Phase.TheVariants.{BackLow, Idle};
-ghost use Rattle.fak_core.specs.QueueBlocks.{AreApart, marks_back};
-ghost use Rattle.fak_queue.specs.Steps.{FitsTable};
-ghost use Rattle.fak_queue.specs.declared.standing.Standing.TheVariants.{Alike};
+ghost use Rattle.fak_core.specs.QueueBlocks.{marks_back};
 ghost use Rattle.fak_queue.specs.Bundles.{ClaimsOutOn, RefusesOutOn};
 ghost use Rattle.fak_queue.specs.Bursts.{ClaimedOutBurst, Makes, RefusedOutBurst, Says, StockBurst, claims_out_at, pair_up, units};
+ghost use Rattle.fak_queue.specs.StepTokens.{StandsAt};
+ghost use Rattle.fak_queue.specs.BurstTokens.{IsClaimToken, TellsAll};
 
 use crate::bursts::deletion::{back_low_burst, draw_out_burst, sub_burst, test_low_burst};
 use crate::contention::SharedCounts;
@@ -24,12 +24,11 @@ fn back_over_low<T>(
     granted: u64,
     names: &[u64],
 )
-    requires table { FitsTable token.old.table_id words.now.table_id words.now.key words.now.key.seats }
-    requires names { AreApart names.now × (token.old.me.0.names ≡ names.now) × (count ≤ length names.now) }
+    requires token { IsClaimToken words.now.table_id words.now.key names.now count
+        (λ me. Says me.0 (claims_out_at BackLow names.now (units count) granted)) token.old }
     requires count { (count ≤ 1024) × (granted ≤ count) }
-    requires phase { Says token.old.me.0 (claims_out_at BackLow names.now (units count) granted) }
-    ensures same { token.new.table_id ≡ token.old.table_id }
-    ensures phase { Says token.new.me.0 (claims_out_at Idle names.now (units count) granted) }
+    ensures told { TellsAll token.old token.new (λ after. Says after.0 (claims_out_at Idle names.now (units count)
+        granted)) }
     ensures left { token.new.me.0.left ≡ token.old.me.0.left }
     ensures none { granted ≡ count → token.new.me ≡ token.old.me }
     ensures makes { granted < count → Makes words.now.table_id.slots words.now.key.seats
@@ -49,16 +48,12 @@ pub(crate) fn claim_stock<T>(
     count: u64,
     names: &[u64],
 ) -> Result<u64, i64>
-    requires table { FitsTable token.old.table_id words.now.table_id words.now.key words.now.key.seats }
-    requires names { AreApart names.now × (token.old.me.0.names ≡ names.now) × (count ≤ length names.now) }
+    requires token { IsClaimToken words.now.table_id words.now.key names.now count (StandsAt Idle) token.old }
     requires some { (0 < count) × (count ≤ 1024) }
-    requires phase { token.old.me.0.phase ≡ Some (Alike Idle) }
-    ensures same { token.new.table_id ≡ token.old.table_id }
-    ensures told { MatchResult result
-        (λ j. StockBurst words.now.table_id.slots words.now.key.seats names.now (units count) j token.old.me
-        token.new.me)
-        (λ l. RefusedOutBurst words.now.table_id.slots words.now.key.seats names.now (units count) l
-        token.old.me token.new.me) }
+    ensures { TellsAll token.old token.new (λ after. MatchResult result
+        (λ j. StockBurst words.now.table_id.slots words.now.key.seats names.now (units count) j token.old.me after)
+        (λ l. RefusedOutBurst words.now.table_id.slots words.now.key.seats names.now (units count) l token.old.me
+        after)) }
 {
     let tested = test_low_burst::<T, Brand>(words, token, names, count);
     counts.found_lower(tested);
@@ -89,17 +84,13 @@ pub(crate) fn admit_burst_out<T>(
     count: u64,
     names: &[u64],
 ) -> Result<(u64, u64), i64>
-    requires table { FitsTable token.old.table_id words.now.table_id words.now.key words.now.key.seats }
-    requires names { AreApart names.now × (token.old.me.0.names ≡ names.now) × (count ≤ length names.now) }
+    requires token { IsClaimToken words.now.table_id words.now.key names.now count (StandsAt Idle) token.old }
     requires some { (0 < count) × (count ≤ 1024) }
-    requires phase { token.old.me.0.phase ≡ Some (Alike Idle) }
     requires left { count ≤ token.old.me.0.left }
-    ensures same { token.new.table_id ≡ token.old.table_id }
-    ensures told { MatchResult result
-        (λ r. ClaimedOutBurst words.now.table_id.slots words.now.key.seats names.now (units count) r.0 r.1
-        token.old.me token.new.me)
-        (λ l. RefusedOutBurst words.now.table_id.slots words.now.key.seats names.now (units count) l
-        token.old.me token.new.me) }
+    ensures told { TellsAll token.old token.new (λ after. MatchResult result
+        (λ r. ClaimedOutBurst words.now.table_id.slots words.now.key.seats names.now (units count) r.0 r.1 token.old.me
+        after) (λ l. RefusedOutBurst words.now.table_id.slots words.now.key.seats names.now (units count) l token.old.me
+        after)) }
     ensures claims { IfOk result
         (λ r. ClaimsOutOn words.now.table_id.slots words.now.key.seats names.now count r.0 r.1 token.old.me
         token.new.me) }

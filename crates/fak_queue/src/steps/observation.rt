@@ -5,6 +5,7 @@ ghost use Rattle.fak_core.specs.declared.queue.phase.Phase.{Phase};
 ghost use Rattle.fak_queue.specs.declared.standing.Standing.TheVariants.{Alike};
 ghost use Rattle.fak_queue.specs.Steps.{ObservedLow, ObservedUp};
 ghost use Rattle.fak_queue.specs.StepTokens.{IsTokenOf, StandsAt};
+ghost use Rattle.fak_queue.specs.BurstTokens.{TellsAll};
 
 use crate::in_use::InUse;
 use crate::plays::{Call, ObserveLowPlay, ObserveUpPlay};
@@ -15,9 +16,8 @@ use fak_model::count_of;
 /// Loads the upper count: the cells in use, and whether the queue is shut.
 pub(crate) fn observe_up<T, J: Call<T>>(words: &QueueWords<T>, token: &mut QueueToken<T>) -> InUse
     requires { IsTokenOf words.now.table_id words.now.key J.seats (λ me. (p : Phase T) × StandsAt p me) token.old }
-    ensures same { token.new.table_id ≡ token.old.table_id }
-    ensures told { (p : Phase T) → token.old.me.0.phase ≡ Some (Alike p)
-        → ObservedUp words.now.table_id.slots J.seats p result token.old.me token.new.me }
+    ensures { TellsAll token.old token.new (λ after. (p : Phase T) → token.old.me.0.phase ≡ Some (Alike p)
+        → ObservedUp words.now.table_id.slots J.seats p result token.old.me after) }
 {
     read_in_use(words.load::<ObserveUpPlay<J>>(token, UPPER))
 }
@@ -25,9 +25,8 @@ pub(crate) fn observe_up<T, J: Call<T>>(words: &QueueWords<T>, token: &mut Queue
 /// Loads the lower count.
 pub(crate) fn observe_low<T, J: Call<T>>(words: &QueueWords<T>, token: &mut QueueToken<T>) -> i64
     requires { IsTokenOf words.now.table_id words.now.key J.seats (λ me. (p : Phase T) × StandsAt p me) token.old }
-    ensures same { token.new.table_id ≡ token.old.table_id }
-    ensures told { (p : Phase T) → token.old.me.0.phase ≡ Some (Alike p)
-        → ObservedLow words.now.table_id.slots J.seats p result token.old.me token.new.me }
+    ensures { TellsAll token.old token.new (λ after. (p : Phase T) → token.old.me.0.phase ≡ Some (Alike p)
+        → ObservedLow words.now.table_id.slots J.seats p result token.old.me after) }
 {
     count_of(words.load::<ObserveLowPlay<J>>(token, LOWER))
 }

@@ -3,7 +3,7 @@ use Rattle.fak_model.specs.Calls.{object_id}
 use Rattle.fak_core.proofs.QueueBlocks.{no_items}
 use Rattle.fak_queue.specs.Queues.{IsIdleSeat}
 use Rattle.fak_queue.proofs.BundleMaking.{bundle_keeps_here, bundle_made}
-use Rattle.fak_queue.proofs.Common.{QueueInfo, All, ◌≡◌, ◌∷◌, length, ap, sym, subst, ◌∙◌, arith}
+use Rattle.fak_queue.proofs.Common.{refl, QueueInfo, All, ◌≡◌, ◌∷◌, length, ap, sym, subst, ◌∙◌, arith}
 use Rattle.fak_queue.proofs.Gathering.{gathers_all, gathers_first, gathers_next, one_idle, token_fits}
 use Rattle.fak_queue.proofs.bundling.gathered.Goals as goal
 
@@ -24,6 +24,9 @@ loop-seat-init g c =
 
 pub part_of-part-requires : goal.part_of-part-requires
 part_of-part-requires g c = (one_idle _ _ c.in-Some-seat.ensures.steps.0 c.loop-seat.invariant.joined.idle).1
+
+pub join_rested-requires-clause-token : goal.join_rested-requires-clause-token
+join_rested-requires-clause-token g c = record { table = record { same = c.loop-seat.invariant.table; few = refl; words = c.queue.invariant.words }; phase = c.loop-seat.invariant.joined.so_far.rests.token }
 
 pub join_rested-requires-clause-other : goal.join_rested-requires-clause-other
 join_rested-requires-clause-other g c = (token_fits c.part_of-part.ensures (one_idle _ _ c.in-Some-seat.ensures.steps.0 c.loop-seat.invariant.joined.idle).0).0
