@@ -18,7 +18,7 @@ module _ {script : ScriptOf} where
   pub keeps_idle : (n : ℕ) (kinds : List (Kind ℕ)) → MovesNoItem kinds → Balanced script n [] [] (record nothing { free = kinds })
   keeps_idle n kinds q = by_free script n kinds [] [] (λ g. omega (arith, q.puts g, q.gots g)) (λ f. refl) refl
 
-  -- ---- moves one after the other, and beside others in hand
+  -- ---- moves one after the other, and with others in hand
 
   pub moves_none : (p : ProcessorOf) → Moves script [] [] p p
   moves_none p = record { ledger = nothing; begins = (refl, refl); balanced = quiet script (length script.semaphores); gains = gains_none p }
@@ -31,7 +31,7 @@ module _ {script : ScriptOf} where
     gains = gains_then a.ledger b.ledger a.gains b.gains;
   }
 
-  -- who stands in front of those in hand
+  -- others in hand, before these
   balanced_behind : {n : ℕ} {before after : List Process} {l : Ledger} (others : List Process) → Balanced script n before after l → Balanced script n (others ++ before) (others ++ after) l
   balanced_behind {before = before} {after = after} others b = in_other_hands b (λ f. omega (arith, sum_by-append f others before, sum_by-append f others after))
 

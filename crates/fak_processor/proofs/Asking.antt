@@ -40,7 +40,7 @@ looks_shut size old new false s = omega (arith, looks_made (made.Close ∷ []) s
 
 -- ---- the gate
 
--- the count behind one more look
+-- the count after one more look
 counted_next : (n : ℕ) → look_behind (counted n) ≡ counted (n + 1)
 counted_next n = grind (arith, common_steps, nat_tests, look_behind, counted)
 

@@ -68,7 +68,7 @@ grows_parks {who = who} d =
     let i = d.passes.inserts in
     (grows_credit d.debits, (i.1.refused, i.0, grows_makes (flat_map kinds_not_in i.1.refused ++ kinds_in i.0 who) i.1.makes))
 
--- a down that passes: a debit alone
+-- a down that passes: only a debit
 pub grows_passes : {T : Type 0} {sem : SemInfo} {who passed : T} {old new : SemSeatInfo T} → Downs sem who old new (Some passed)
     → Grows credit_rules credit.kind_of (credit_part old) (credit_part new) (Debit ∷ []) × Grows (queue_rules sem.size) queue_kind (queue_part old) (queue_part new) [] × (passed ≡ who)
 grows_passes {sem = sem} {old = old} {new = new} d = grind (arith, common_steps, grows_credit, queue_rules, queue_kind, queue_part, grows_same)

@@ -8,7 +8,7 @@ use Rattle.fak_text.specs.Journal.{births_of}
 pub none_waits : (n : ℕ) → sum_below (λ (s : ℕ). 0) n ≡ 0
 none_waits n = sum_none (λ (s : ℕ). 0) n (λ s. refl)
 
--- one wait queue alone
+-- only one wait queue
 pub waiting_at : (w : Kind Process → ℕ) (kinds : List (Kind Process)) (s n : ℕ) → s < n → sum_below (λ t. sum_by w (cond (s == t) kinds [])) n ≡ sum_by w kinds
 waiting_at w kinds s n below =
     sum_at (λ t. sum_by w (cond (s == t) kinds [])) s n below (λ t d. ap (sum_by w) (cond_else s t kinds [] (λ e. d (sym e)))) ∙ ap (sum_by w) (cond_here s kinds [])

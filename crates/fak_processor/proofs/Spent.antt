@@ -15,6 +15,6 @@ pub worn_file : {was is : FileSeatInfo} → IsWorn was is → IsSpentFile is
 worn_file w = subst IsSpentFile (sym w.unchanged) w.spent
 
 module _ {script : ScriptOf} {o : ObjectsOf} (p : ProcessorOf) (made : AreFor script o) (fits : AreOf o p) (at : ℕ) (low : at < length script.semaphores) where
-  -- of the seats at the semaphores the one at this place is spent
+  -- the seat of the semaphore at this place is spent
   pub spent_there : {was : SemSeatInfo Process} (is : SemSeatInfo Process) → IsWornSeat was is → Any IsSpentSem (slice_set p.semaphores at is)
   spent_there is w = any-set IsSpentSem p.semaphores at is (seat_there p made fits low) (worn_sem w)

@@ -1,6 +1,7 @@
 -- How steps balance.
 use Rattle.std.specs.Prelude.{◌⊎◌}
 use Rattle.fak_model.specs.Credit as credit
+use Rattle.fak_processor.specs.Asking.{looks_of}
 use Rattle.fak_processor.specs.Moving.{EntersCredited}
 use Rattle.fak_processor.proofs.Common.{SeatInfo, Mark, CreditMark, Grows, credit_rules, child_of, ProcessorOf, HasMade, is_file_line, ◌≡◌, ℕ, ◌<◌, ◌==◌, Bool, true, false, cond, List, [], ◌∷◌, ◌++◌, length, refl, ap, sym, ◌∙◌, subst, arith, Option, flat_map, append-nil, FileSeatInfo, Kind, Debit, Credit, Up, Release, cond_here, kinds_in, kinds_out, kinds_not_in, kinds_not_out, ScriptOf, StepOf, say, yield, open_file, close_file, stat, down, up, spawn, shutdown, NoteOf, said, yielded, opened, closed, statted, downed, upped, spawned, no_birth, no_slot, shut_down, Process, child_count, after_note, FitsScript, StandsAt, Allows, Ledger, IsMade, nothing, joined, other_down, made_of, IsPlain, steps, passes, parks, adds, wakes, spawns, lacks_birth, lacks_slot, shuts, waits_refused, refused_claim, empty, bundle_of, names_of, Gains, GainsParked, GainsWoken, Moves, at_one, lines_more, balanced-joined, FileEntry, Close, common_steps}
 use Rattle.fak_processor.proofs.Events.{balanced-beside, keeps_steps, keeps_passes, keeps_parks, keeps_adds, keeps_wakes, keeps_spawns, keeps_lacks_birth, keeps_lacks_slot, keeps_shuts, keeps_waits_refused}
@@ -34,6 +35,10 @@ entry_of p = (p.ready, p.busy)
 -- what went before was a call of neither
 pub credited_behind : (p q r : ProcessorOf) → entry_of q ≡ entry_of p → EntersCredited q r → EntersCredited p r
 credited_behind p q r same e = subst (λ s. (r.ready ≡ s.0) ⊎ Grows credit_rules credit.kind_of s.1 r.busy (Credit ∷ [])) same e
+
+-- and no look
+pub looks_behind : (p q : ProcessorOf) → entry_of q ≡ entry_of p → looks_of q.ready ≡ looks_of p.ready
+looks_behind p q same = ap (λ s. looks_of s.0) same
 
 module _ {script : ScriptOf} where
   pub made_is : (p : Process) (step : StepOf) (note : NoteOf) → FitsScript script p → StandsAt script p step → Allows script.files (child_count p.journal) step note → IsMade script (made_of p step note)
@@ -91,7 +96,7 @@ module _ {script : ScriptOf} where
       woke : Ledger
       woke = record nothing { credits = at_one at (Credit ∷ []); waits = at_one at (tries ++ kinds_out k.ticket k.sleeper) }
 
-  -- who was woken enters, beside the one that has the processor
+  -- the process that was woken enters, while another one has the processor
   pub moves_enters : {p q r : ProcessorOf} {before : List Process} (x w : Process) → Moves script before (x ∷ w ∷ []) p q → Moves script (w ∷ []) [] q r → Moves script before (x ∷ []) p r
   moves_enters x w a b = moves_then a (moves_behind (x ∷ []) b)
 

@@ -1,4 +1,4 @@
--- Several queues, seen as the lists of their items, where one of them changes.
+-- Several queues, seen as the lists of their items, of which one changes.
 use Rattle.fak_processor.proofs.Common.{◌≡◌, ℕ, ◌<◌, List, [], ◌∷◌, ◌++◌, All, length, map, slice_set, slice_index_or, ap, sym, subst, arith, drop, Option, Some, None, IfSome, option_to_list, map-set, get_or-map, length-map, get_or-set_same, get_or-set_other, All-push, All-drop, same_or_not, common_steps}
 
 -- P n holds of each item of the list at place n
@@ -9,7 +9,7 @@ AllAtTheirs P xss = (n : ℕ) → All (P n) (slice_index_or xss n [])
 AllAtTheirs-set : {X : Type 0} (P : ℕ → X → Type 0) (xss : List (List X)) (i : ℕ) (ys : List X) → i < length xss → AllAtTheirs P xss → All (P i) ys → AllAtTheirs P (slice_set xss i ys)
 AllAtTheirs-set P xss i ys lt each here n = grind (arith, common_steps, same_or_not, slice_index_or, slice_set, get_or-set_same, here, get_or-set_other)
 
--- the list at place i, where queue q stands there
+-- the list at place i, if queue q is there
 at_place : {Q X : Type 0} (f : Q → List X) (qs : List Q) (i : ℕ) (q : Q) → i < length (map f qs) → q ≡ slice_index_or qs i q → f q ≡ slice_index_or (map f qs) i []
 at_place f qs i q lt is = grind (arith, common_steps, length, length-map, get_or-map)
 

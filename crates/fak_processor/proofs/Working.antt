@@ -17,7 +17,7 @@ reached_on {script} {p} {q} {r} a b was made looked =
       reached = (λ i. record { running = b; lists = l.lists_are i }) ∙ (m.state_is ∙ ap (step script) was.reached);
     }
 
--- nobody takes the processor only where nobody is ready, and then the lists stay
+-- no process takes the processor only if none is ready, and then the lists stay
 nobody_ready : (s : Lists) (ready : List Process) → (take_front s ready).running ≡ None → (ready ≡ []) × ((take_front s ready).lists ≡ s)
 nobody_ready s [] e = (refl, refl)
 nobody_ready s (first ∷ others) e = absurd cc

@@ -31,7 +31,7 @@ pub record Between (script : ScriptOf) (o : ObjectsOf) (name : ℕ) (p : Process
   pub rows : (f : RowOf → ℕ) → rows_weigh f p ≡ sum_by f ledger.rows
   pub lines : AreLines o.files.entries (files_of ledger) p.files.seat
 
--- the processor has left its loop where busy showed 0
+-- the processor has left its loop, after busy showed 0
 pub record IsLeftBy (script : ScriptOf) (o : ObjectsOf) (name : ℕ) (p : ProcessorOf) : Type 0 where
   pub between : Between script o name p
   pub idle : value (length script.start) p.busy.seen ≡ pos 0

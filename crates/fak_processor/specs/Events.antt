@@ -69,7 +69,7 @@ passes s p = record nothing { credits = λ t. cond (s == t) (Debit ∷ []) []; m
 abbrev pub parks : ℕ → ℕ → Process → Ledger
 parks s k p = record nothing { credits = λ t. cond (s == t) (Debit ∷ []) []; waits = λ t. cond (s == t) (kinds_in k p) []; busy = Debit ∷ [] }
 
--- an up wakes nobody, or q, who stands before a down of t
+-- an up wakes nobody, or q, whose next step is a down of t
 abbrev pub adds : ℕ → Process → Ledger
 adds s p = record nothing { credits = λ t. cond (s == t) (Credit ∷ []) []; made = made_of p (up s) (upped s) ∷ [] }
 

@@ -1,4 +1,4 @@
--- The faults that a processor meets, and what it has where it is worn.
+-- The faults that a processor meets, and what is spent if it is worn.
 use Rattle.std.specs.Prelude.{◌≡◌, ◌⊎◌, Bool}
 use Rattle.std.specs.List.{Any}
 use Rattle.fak_model.specs.Calls.{SeatInfo}

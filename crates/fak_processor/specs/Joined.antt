@@ -24,7 +24,7 @@ pub record TalliesOf : Type 0 where
   pub semaphores : List (SemTallyInfo Process)
   pub files : TallyInfo FileMark
 
--- what stands for a seat or a tally behind the last
+-- a seat and a tally for places after the last
 abbrev pub no_table : ObjectId
 no_table = record { table = record { words = 0; slots = 0; views_name = 0; atom = 0; block = 0; offset = 0; slot_names = [] }; seats = 0 }
 
@@ -54,7 +54,7 @@ pub record AreTalliesOf (o : ObjectsOf) (t : TalliesOf) : Type 0 where
   pub semaphores : ids_of_tallies t.semaphores ≡ ids_of o.semaphores
   pub files : t.files.object ≡ o.files.object
 
--- of each semaphore, in order, a seat is joined
+-- a seat of each semaphore is joined, in order
 abbrev pub JoinEach : List SemInfo → List (SemTallyInfo Process) → List (SemSeatInfo Process) → List (SemTallyInfo Process) → Type 0
 JoinEach [] [] [] [] = Unit {0}
 JoinEach (o ∷ os) (t ∷ ts) (s ∷ ss) (b ∷ bs) = JoinsSeat o.size t s b × (b.object ≡ o.object) × JoinEach os ts ss bs

@@ -6,6 +6,7 @@ pub mod Events
 pub mod Holding
 pub mod Turning
 pub mod Moving
+pub mod Steps
 pub mod Joined
 pub mod Begun
 pub mod Asking

@@ -26,7 +26,7 @@ use Rattle.fak_run.specs.Making.{AreLines}
 use Rattle.fak_run.specs.Reported.{file_lines}
 use Rattle.fak_processor.specs.Processors.{ProcessorOf, AtPlace}
 
--- ---- calls on one queue, tried again where they were refused
+-- ---- calls on one queue, tried again if they were refused
 
 -- marks that neither put nor get an item
 pub record MovesNoItem {T : Type 0} (kinds : List (Kind T)) : Type 0 where
@@ -78,7 +78,7 @@ pub record GrowsEmpty {T : Type 0} (size : ℕ) (old new : SeatInfo (Mark T)) : 
 
 -- ---- a processor
 
--- its seats; d stands for those of semaphores that there are not
+-- its seats; d is the seat of each semaphore that does not exist
 abbrev pub bundle_of : SemSeatInfo Process → ProcessorOf → Bundle
 bundle_of d p = record { ready = p.ready; free = p.free; births = p.births; busy = p.busy; sems = λ s. slice_index_or p.semaphores s d }
 
@@ -145,12 +145,6 @@ IsCredited old new = Grows credit_rules credit.kind_of old.busy new.busy (Credit
 abbrev pub EntersCredited : ProcessorOf → ProcessorOf → Type 0
 EntersCredited old new = (new.ready ≡ old.ready) ⊎ IsCredited old new
 
--- busy was credited, and then the process entered the ready queue
-pub record BecomesReady (script : ScriptOf) (who : Process) (old new : ProcessorOf) : Type 0 where
-  pub between : ProcessorOf
-  pub credited : Gains script old between (record nothing { busy = Credit ∷ [] })
-  pub entered : Moves script (who ∷ []) [] between new
-
 -- ---- what parts of steps add
 
 -- calls on the semaphore at this place
@@ -169,7 +163,7 @@ pub record GainsParked (script : ScriptOf) (at : ℕ) (who : Process) (old new :
   pub ticket : ℕ
   pub gains : Gains script old new (record nothing { credits = at_one at (Debit ∷ []); waits = at_one at (flat_map kinds_not_in refused ++ kinds_in ticket who) })
 
--- a credit, and a sleeper is got off the wait queue and makes the down that it stands before
+-- a credit, and a sleeper is got off the wait queue and makes the down that is its next step
 pub record GainsWoken (script : ScriptOf) (at : ℕ) (woken : Process) (old new : ProcessorOf) : Type 0 where
   pub sleeper : Process
   pub semaphore : ℕ

@@ -27,7 +27,7 @@ pub record Keeps {T : Type 0} (old new : SeatInfo (Mark T)) : Type 0 where
   pub items : contents new.seen ≡ contents old.seen
   pub shut : has_close new.seen ≡ has_close old.seen
 
--- x is put behind the others, in a queue that isn't shut
+-- x is put after the others, in a queue that isn't shut
 pub record Enters {T : Type 0} (x : T) (old new : SeatInfo (Mark T)) : Type 0 where
   pub only : IsOnlySeat new
   pub items : contents new.seen ≡ contents old.seen ++ x ∷ []

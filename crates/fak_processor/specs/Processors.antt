@@ -1,4 +1,4 @@
--- A processor's seats, and the lists that the list scheduler has beside them.
+-- A processor's seats, and the lists of the list scheduler that fit them.
 use Rattle.std.specs.Prelude.{◌≡◌, ℕ, ◌+◌, ◌-◌, true, false, nat_lt, List, [], ◌∷◌, ◌++◌, All, length, map, slice_index, slice_index_or, slice_set, Option}
 use Rattle.fak_model.specs.declared.file.FileEntry.{FileEntry}
 use Rattle.fak_model.specs.declared.credit.CreditMark.{CreditMark}
@@ -50,7 +50,7 @@ ids_of_seats seats = map (λ s. s.object) seats
 abbrev pub ids_of : List SemInfo → List SemId
 ids_of semaphores = map (λ s. s.object) semaphores
 
--- the seat is of this table and has this hold, and the copy has an entry for each of the table's
+-- the seat belongs to this table and has this hold, and the copy has an entry for each of the table's
 abbrev pub HoldsTable : FileTableInfo → Hold → FileSeatInfo → List FileEntry → Type 0
 HoldsTable table hold s copy = (s.seat.object ≡ table.object) × (s.hold ≡ hold) × (length copy ≡ table.entries)
 
@@ -96,7 +96,7 @@ pub record IsAlone (script : ScriptOf) (p : ProcessorOf) : Type 0 where
   pub births : IsOnlyRoom p.births
   pub files : IsOnlyFiles p.files
 
--- what the list scheduler has where this is the only processor
+-- what the list scheduler has if this is the only processor
 abbrev pub lists_of : ScriptOf → ProcessorOf → Lists
 lists_of script p = record {
   ready = contents p.ready.seen;
@@ -125,7 +125,7 @@ pub record AtPlace {X : Type 0} (at : ℕ) (old new : List X) (call : X → X �
   pub stands : new ≡ slice_set old at is
   pub made : call was is
 
--- ---- what parts of steps do, where the processor is the only one and has these lists
+-- ---- what parts of steps do, if the processor is the only one and has these lists
 
 -- between two small steps
 pub record GoesOn (script : ScriptOf) (p : ProcessorOf) (running : Option Turn) (s : State) : Type 0 where

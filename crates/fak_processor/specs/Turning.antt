@@ -13,7 +13,7 @@ use Rattle.fak_text.specs.Journal.{Process}
 use Rattle.fak_run.specs.Ledger.{Ledger, Balanced}
 use Rattle.fak_processor.specs.Holding.{Owns, queue_kind, Bundle}
 
--- the seats' marks are those of the ledger, which balances but for what is in hand
+-- the seats' marks are those of the ledger, which balances except for what is in hand
 pub record Turning (script : ScriptOf) (b : Bundle) (l : Ledger) (hand : List Process) : Type 0 where
   pub balanced : Balanced script (length script.semaphores) [] hand l
   pub ready : Owns (queue_rules script.slots) queue_kind b.ready l.ready

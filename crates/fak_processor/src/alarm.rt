@@ -6,8 +6,8 @@ use std::fmt;
 use std::marker::Model;
 use std::sync::atomic::{AtomicBool, Ordering};
 
-/// A word that a processor sets where it meets a fault, and that the others look at. Contracts see the number of
-/// processors alone.
+/// A word that a processor sets if it meets a fault, and that the others read. Contracts see only the number of
+/// processors.
 #[derive(Drop)]
 pub struct Alarm {
     processors: u64,
@@ -33,12 +33,14 @@ impl Alarm {
         }
     }
 
-    /// Tells the other processors that one has met a fault.
+    /// Tells the other processors that one has met a fault. They would loop forever otherwise: a process that the fault
+    /// stopped stays counted as busy. So this step comes before the threads are joined.
     pub fn ring(&self) {
         self.rung.store(true, Ordering::SeqCst);
     }
 
-    /// Another processor has met a fault. Where there is one processor alone, the answer is false.
+    /// Whether another processor has met a fault; false if there is only one processor. A processor reads the word before
+    /// each look at the ready queue, so it finishes the turn that it has begun.
     pub fn is_rung(&self) -> bool
         ensures { result ≡ true → 1 < self.now }
     {

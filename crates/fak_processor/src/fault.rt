@@ -1,4 +1,4 @@
-//! Why a processor could not go on, layer by layer. A call on a shared object alone is `Worn`.
+//! Why a processor could not go on, layer by layer. The only fault of a call on a shared object is `Worn`.
 
 ghost use Rattle.std.specs.Prelude.{◌≡◌};
 ghost use Rattle.fak_processor.specs.declared.fault.LoopFault.TheVariants as loop;

@@ -24,7 +24,8 @@ pub struct Objects<K: Run> {
     pub busy: Credit,
     /// The file table.
     pub files: FileTable,
-    /// The word that stops the processors after a fault. Contracts don't see it; it is for as many processors as the ready queue has seats.
+    /// The word that stops the processors after a fault. Contracts do not see it. It is for as many processors as the
+    /// ready queue has seats.
     pub alarm: Alarm,
 }
 

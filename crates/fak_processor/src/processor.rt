@@ -21,8 +21,8 @@ use std::fmt;
 use std::marker::Brand;
 use std::sync::Wait;
 
-/// A processor of this number, with the script and the objects of its run and its seats there. The type keeps what
-/// belongs together, so that its calls require nothing.
+/// A processor of a run: its number, its seats, and the script and the objects of the run. The type keeps that they
+/// belong together, so its calls require nothing.
 #[derive(Drop)]
 pub struct Processor<'r, K: Run> {
     /// What all processors of the run share.
@@ -33,7 +33,7 @@ pub struct Processor<'r, K: Run> {
     pub alloc: Global,
     /// Its number.
     pub number: u64,
-    /// Its seats, each of one of the objects and idle.
+    /// Its seats. Each belongs to one of the objects, and is idle.
     pub seats: Seats<K>,
     pub ghost made: { AreFor K.script objects.now },
     pub ghost are: { AreOf objects.now seats },
@@ -55,7 +55,7 @@ impl<'r, K: Run> Processor<'r, K> {
         ensures number { result.number ≡ number }
         ensures seats { result.seats ≡ seats }
     {
-        // A field is named for the proof alone: that tells that the objects were opened for this script.
+        // Only the proof needs this field: naming it shows that the objects were opened for this script.
         let _ready = &objects.ready;
         Processor {
             objects,
@@ -82,14 +82,14 @@ impl<'r, K: Run> Processor<'r, K> {
         begin_at::<K, Brand, R>(rt, self)
     }
 
-    /// What the processor does in a run: turns of ready processes, until no process is ready or runs. Returns the seats,
-    /// and false where another processor has met a fault.
+    /// Works in the run: gives turns to ready processes until no process is ready or runs. Returns the seats, and false
+    /// if another processor has met a fault.
     ///
     /// # Errors
     ///
-    /// `Memory`, `Worn` only if a seat of the processor has used up its stint, and `Gate` where the gate may refuse and
-    /// did: at one of this processor's looks, which are counted from 0, after it passed those before. The other
-    /// processors are told of it.
+    /// `Memory`. `Worn`, only if a seat of the processor has used up its stint. `Gate`, only if the gate may refuse, and
+    /// refused a look of this processor after it let those before pass; looks are counted from 0. The alarm then stops
+    /// the other processors.
     pub fn work<R: Wait, G: Gate>(self, rt: &R, gate: &G) -> (Seats<K>, Result<bool, LoopFault>)
         ensures seats { AreOf self.entry.objects.now result.0 }
         ensures general { IfOk result.1 (λ done. done ≡ true → LeavesNone K.script self.entry.seats result.0) }

@@ -1,7 +1,7 @@
-//! The seats of a processor, and what it saw leave.
+//! The seats of a processor, and the processes that it saw end or halt.
 
+mod file_holds;
 pub mod files;
-mod filing;
 
 use fak_count::{CreditSeat, RoomSeat};
 use fak_files::FileSeat;
@@ -31,7 +31,7 @@ pub struct Seats<K: Run> {
     pub ended: Vec<Context<K>>,
     /// The processes that it saw halt.
     pub halted: Vec<Context<K>>,
-    /// Where the entries of the file table are read to.
+    /// The copy into which it reads the entries of the file table.
     pub copy: Files,
 }
 

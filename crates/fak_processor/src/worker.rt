@@ -16,11 +16,11 @@ ghost use Rattle.fak_processor.specs.Processors.{AreOf, GoesTo, IsAlone, IsReach
 mod births;
 mod entering;
 mod ready;
+mod run_loop;
 mod sleeping;
 mod starting;
 mod steps;
 mod turn;
-mod turns;
 
 use crate::fault::{LoopFault, StepFault};
 use crate::objects::Objects;
@@ -34,8 +34,8 @@ use std::alloc::Global;
 use std::marker::{Model, PhantomData};
 use std::sync::Wait;
 
-/// A processor that works. Its type names its run and its station, so what it shares with the others stays the same for
-/// all of its steps; contracts see its seats alone.
+/// A processor at work. Its type names its run and its station, so what it shares with the others stays the same in all
+/// of its steps. Contracts see only its seats.
 pub(crate) struct Worker<'r, K: Run, P: Station> {
     objects: &'r Objects<K>,
     script: &'r Script,
@@ -97,11 +97,12 @@ impl<'r, K: Run, P: Station> Worker<'r, K, P> {
         seats
     }
 
-    /// One process more is ready or runs.
+    /// Counts one process more that is ready or runs. This step comes before the process enters the ready queue: another
+    /// processor that finds the queue empty and the count at 0 leaves.
     ///
     /// # Errors
     ///
-    /// `Worn`, where the seat at the count has no calls left.
+    /// `Worn`, if the seat at the count has no calls left.
     pub fn credit(&mut self) -> Result<(), Worn>
         ensures same { self.new ≡ record self.old { busy = self.new.busy } }
         ensures gains { IfOk result (λ _. Gains K.script self.old self.new
@@ -118,11 +119,12 @@ impl<'r, K: Run, P: Station> Worker<'r, K, P> {
         Ok(())
     }
 
-    /// One process fewer is ready or runs.
+    /// Counts one process fewer that is ready or runs. This step comes last, after the process has ended, halted or fallen
+    /// asleep: while it is counted, no processor leaves.
     ///
     /// # Errors
     ///
-    /// `Worn`, where the seat at the count has no calls left.
+    /// `Worn`, if the seat at the count has no calls left.
     pub fn debit(&mut self) -> Result<(), Worn>
         ensures same { self.new ≡ record self.old { busy = self.new.busy } }
         ensures gains { IfOk result (λ _. Gains K.script self.old self.new
@@ -183,7 +185,7 @@ pub(crate) fn work_at<K: Run, P: Station, R: Wait, G: Gate>(
 {
     let objects = processor.objects;
     let mut worker: Worker<'_, K, P> = Worker::of(processor);
-    let done = worker.turns(rt, gate);
+    let done = worker.run_loop(rt, gate);
     if done.is_err() {
         objects.alarm.ring();
     }

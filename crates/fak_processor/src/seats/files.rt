@@ -8,7 +8,7 @@ use fak_model::FileEntry;
 use std::alloc::{AllocError, Global};
 use std::marker::Model;
 
-/// An entry is opened at most so often.
+/// The most uses of an entry.
 const MOST_USES: u64 = 4_294_967_295;
 
 const FREE: FileEntry = FileEntry { inode: 0, uses: 0 };
@@ -37,7 +37,8 @@ impl Files {
         Ok(Files { entries })
     }
 
-    /// The first entry with the inode gets one more use, else the first free entry gets the inode and 1 use.
+    /// The first entry with the inode gets one more use. If there is none, the first free entry gets the inode and 1 use.
+    /// Returns the place of the entry, or nothing if the table is full or the entry has the most uses.
     pub fn open(&mut self, inode: u64) -> Option<u64>
         ensures change { record { entry = result; entries = self.new } ≡ open_change self.old inode }
         ensures within { IfSome result (λ i. i < length self.old) }
@@ -53,7 +54,7 @@ impl Files {
         }
     }
 
-    /// The first entry with the inode loses one use, and is free at 0.
+    /// The first entry with the inode loses one use, and is free at 0. Returns the place of the entry, if there is one.
     pub fn close(&mut self, inode: u64) -> Option<u64>
         ensures change { record { entry = result; entries = self.new } ≡ close_change self.old inode }
         ensures within { IfSome result (λ i. i < length self.old) }
@@ -67,7 +68,7 @@ impl Files {
         Some(i as u64)
     }
 
-    /// The uses of the first entry with the inode.
+    /// The uses of the first entry with the inode, if there is one.
     pub fn uses(&self, inode: u64) -> Option<u64>
         ensures { result ≡ uses_of self.now inode }
     {
@@ -77,7 +78,7 @@ impl Files {
             .map(|e| e.uses)
     }
 
-    /// The first entry with the inode.
+    /// The place of the first entry with the inode, if there is one.
     fn first(&self, inode: u64) -> Option<usize>
         ensures { result ≡ first_entry self.now inode }
     {

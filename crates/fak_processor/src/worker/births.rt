@@ -18,7 +18,7 @@ impl<'r, K: Run, P: Station> Worker<'r, K, P> {
     ///
     /// # Errors
     ///
-    /// `Worn`, where the seat has no claims left.
+    /// `Worn`, if the seat has no claims left.
     pub fn claim_birth(&mut self) -> Result<bool, Worn>
         ensures same { self.new ≡ record self.old { births = self.new.births } }
         ensures held { IfOk result (λ born. MatchBool born (1 ≤ held_amount self.new.births)

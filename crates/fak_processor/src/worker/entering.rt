@@ -1,4 +1,4 @@
-//! Insertions and deletions of a processor.
+//! Calls of a processor on a queue.
 
 ghost use Rattle.std.specs.Prelude.{◌≡◌, ◌+◌, [], ◌∷◌, MatchOption, IfOk, IfErr, IfSome};
 ghost use Rattle.fak_queue.specs.Queues.{IsIdleSeat};
@@ -16,11 +16,11 @@ use fak_count::Worn;
 use fak_queue::{DeleteFault, InsertFault, Queue, Seat};
 use std::sync::Wait;
 
-/// Inserts the item, tried again where the queue is full. Where the queue is shut the item comes back.
+/// Inserts the item, and waits while the queue is full. Returns the item if the queue is shut.
 ///
 /// # Errors
 ///
-/// `Worn`, where the seat has no calls left.
+/// `Worn`, if the seat has no calls left.
 pub fn enter<T: Drop, R: Wait>(
     queue: &Queue<T>,
     rt: &R,
@@ -45,12 +45,12 @@ pub fn enter<T: Drop, R: Wait>(
     }
 }
 
-/// Inserts the item, tried again where the queue is full or shut. Nobody shuts the free queue, but what a seat knows of
-/// a queue is its own marks and what it has seen of the others', so no call can say it.
+/// Inserts the item, and waits while the queue is full or shut. Nobody shuts the free queue, but no call can say so: a
+/// seat knows only its own marks, and those of others that it has seen.
 ///
 /// # Errors
 ///
-/// `Worn`, where the seat has no calls left.
+/// `Worn`, if the seat has no calls left.
 pub fn put<T: Drop, R: Wait>(
     queue: &Queue<T>,
     rt: &R,
@@ -80,7 +80,7 @@ pub fn put<T: Drop, R: Wait>(
 ///
 /// # Errors
 ///
-/// `Worn`, where the seat has no calls left.
+/// `Worn`, if the seat has no calls left.
 pub fn take<T: Drop, R: Wait>(
     queue: &Queue<T>,
     rt: &R,

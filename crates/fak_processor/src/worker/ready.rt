@@ -1,6 +1,6 @@
-//! Who enters and leaves the ready queue and the free queue.
+//! How processes enter and leave the ready queue, and slots the free queue.
 
-ghost use Rattle.std.specs.Prelude.{◌≡◌, ◌+◌, [], ◌∷◌, Bool, ℕ, None, true, IfOk, IfErr, OnErr, MatchOption};
+ghost use Rattle.std.specs.Prelude.{◌≡◌, ◌+◌, [], ◌∷◌, Bool, ℕ, None, true, IfOk, IfErr, OnErr, MatchOption, MatchResult};
 ghost use Rattle.fak_model.specs.Queue.{contents};
 ghost use Rattle.fak_run.specs.ListScheduler as lists;
 ghost use Rattle.fak_processor.specs.Asking.{looks_of};
@@ -10,7 +10,8 @@ ghost use Rattle.fak_model.specs.declared.queue.Kind.TheVariants.{Close};
 ghost use Rattle.fak_queue.specs.Queues.{kinds_out};
 ghost use Rattle.fak_run.specs.Ledger.{nothing};
 ghost use Rattle.fak_processor.specs.Events.{empty};
-ghost use Rattle.fak_processor.specs.Moving.{BecomesReady, EntersCredited, Gains, Moves, hand_of};
+ghost use Rattle.fak_processor.specs.Moving.{EntersCredited, Gains, Moves, hand_of};
+ghost use Rattle.fak_processor.specs.Steps.{BecomesReady, MakesStep};
 
 use crate::fault::StepFault;
 use crate::station::Station;
@@ -27,7 +28,7 @@ impl<'r, K: Run, P: Station> Worker<'r, K, P> {
     ///
     /// # Errors
     ///
-    /// `Worn`, where the seat at the queue has no calls left.
+    /// `Worn`, if the seat at the queue has no calls left.
     pub fn take_front<R: Wait>(&mut self, rt: &R) -> Result<Option<Turn<K>>, Worn>
         ensures general { IfOk result (λ running. Moves K.script [] (hand_of running) self.old self.new) }
         ensures alone { IsAlone K.script self.old → IfOk result (λ running. GoesOn K.script self.new running
@@ -44,7 +45,7 @@ impl<'r, K: Run, P: Station> Worker<'r, K, P> {
         }
     }
 
-    /// Asks for the memory of one halted process more.
+    /// Reserves memory for one more halted process.
     pub fn reserve_halted(&mut self) -> Result<(), AllocError>
         ensures same { self.new ≡ self.old }
     {
@@ -52,20 +53,18 @@ impl<'r, K: Run, P: Station> Worker<'r, K, P> {
         seats.halted.reserve(1)
     }
 
-    /// A process becomes ready, or halts where the ready queue is shut.
+    /// A process becomes ready, or halts if the ready queue is shut.
     ///
     /// # Errors
     ///
     /// `Memory` or `Worn`, in this order.
     pub fn enter_ready<R: Wait>(&mut self, rt: &R, context: Context<K>) -> Result<(), StepFault>
-        ensures general { IfOk result (λ _. Moves K.script (context ∷ []) [] self.old self.new) }
+        ensures step { MakesStep K.script (context ∷ []) (λ _. []) self.old self.new result }
         ensures alone { IsAlone K.script self.old
             → IfOk result (λ _. GoesTo K.script self.new (lists.enter_ready (lists_of K.script self.old) context)) }
-        ensures looks { IfOk result (λ _. looks_of self.new.ready ≡ looks_of self.old.ready) }
         ensures busy { OnErr result (self.new.busy ≡ self.old.busy) }
-        ensures spent { IfErr result (λ fault. fault ≡ StepFault.Worn → HasSpentSeat self.new) }
     {
-        // The slot is read for the proof alone: reading it tells that the context fits the script.
+        // Only the proof needs the slot: reading it shows that the context fits the script.
         let _slot = context.slot();
         let objects = self.objects;
         let seats = &mut self.seats;
@@ -81,36 +80,33 @@ impl<'r, K: Run, P: Station> Worker<'r, K, P> {
         }
     }
 
-    /// A process that slept or is new becomes ready. It is counted as busy before anyone can take it.
+    /// A process that slept or is new becomes ready. It is counted as busy before any processor can take it.
     ///
     /// # Errors
     ///
-    /// `Memory` or `Worn`. Where the count has no calls left, the process has not entered the queue.
+    /// `Memory` or `Worn`. If the count has no calls left, the process has not entered the queue.
     pub fn make_ready<R: Wait>(&mut self, rt: &R, context: Context<K>) -> Result<(), StepFault>
-        ensures general { IfOk result (λ _. BecomesReady K.script context self.old self.new) }
+        ensures step { MatchResult result (λ _. BecomesReady K.script context self.old self.new)
+            (λ fault. fault ≡ StepFault.Worn → HasSpentSeat self.new) }
         ensures alone { IsAlone K.script self.old
             → IfOk result (λ _. GoesTo K.script self.new (lists.enter_ready (lists_of K.script self.old) context)) }
-        ensures looks { IfOk result (λ _. looks_of self.new.ready ≡ looks_of self.old.ready) }
         ensures credited { OnErr result (EntersCredited self.old self.new) }
-        ensures spent { IfErr result (λ fault. fault ≡ StepFault.Worn → HasSpentSeat self.new) }
     {
         self.credit()?;
         self.enter_ready(rt, context)
     }
 
-    /// A process ends, and its slot goes to the back of the free ones.
+    /// A process ends, and its slot goes to the back of the free slots.
     ///
     /// # Errors
     ///
     /// `Memory` or `Worn`, in this order.
     pub fn end<R: Wait>(&mut self, rt: &R, context: Context<K>) -> Result<(), StepFault>
         requires over { lists.next_step K.script context ≡ None }
-        ensures general { IfOk result (λ _. Moves K.script (context ∷ []) [] self.old self.new) }
+        ensures step { MakesStep K.script (context ∷ []) (λ _. []) self.old self.new result }
         ensures alone { IsAlone K.script self.old → IfOk result (λ _. GoesTo K.script self.new
             (lists.end_process (lists_of K.script self.old) context).lists) }
-        ensures looks { IfOk result (λ _. looks_of self.new.ready ≡ looks_of self.old.ready) }
         ensures busy { OnErr result (self.new.busy ≡ self.old.busy) }
-        ensures spent { IfErr result (λ fault. fault ≡ StepFault.Worn → HasSpentSeat self.new) }
     {
         let slot = Slot::new(context.slot());
         let objects = self.objects;
@@ -121,11 +117,11 @@ impl<'r, K: Run, P: Station> Worker<'r, K, P> {
         Ok(())
     }
 
-    /// The front of the free slots is taken.
+    /// Takes the front of the free slots, if there is one.
     ///
     /// # Errors
     ///
-    /// `Worn`, where the seat at the slots has no calls left.
+    /// `Worn`, if the seat at the slots has no calls left.
     pub fn take_slot<R: Wait>(&mut self, rt: &R) -> Result<Option<Slot<K>>, Worn>
         ensures same { self.new ≡ record self.old { free = self.new.free } }
         ensures gains { IfOk result (λ slot. MatchOption slot
@@ -141,7 +137,7 @@ impl<'r, K: Run, P: Station> Worker<'r, K, P> {
         take(&objects.free, rt, &mut seats.free)
     }
 
-    /// The ready queue is shut.
+    /// Shuts the ready queue.
     pub fn shut_ready(&mut self)
         ensures gains { Gains K.script self.old self.new (record nothing { ready = Close ∷ [] }) }
         ensures looks { looks_of self.new.ready ≡ looks_of self.old.ready }

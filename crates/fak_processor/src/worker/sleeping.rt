@@ -21,7 +21,7 @@ impl<'r, K: Run, P: Station> Worker<'r, K, P> {
     ///
     /// # Errors
     ///
-    /// `Worn`, where the seat at the semaphore has no calls left.
+    /// `Worn`, if the seat at the semaphore has no calls left.
     pub fn pass_or_park<R: Wait>(
         &mut self,
         rt: &R,
@@ -53,7 +53,7 @@ impl<'r, K: Run, P: Station> Worker<'r, K, P> {
     ///
     /// # Errors
     ///
-    /// `Worn`, where the seat at the semaphore has no calls left.
+    /// `Worn`, if the seat at the semaphore has no calls left.
     pub fn wake<R: Wait>(&mut self, rt: &R, at: usize) -> Result<Option<Context<K>>, Worn>
         requires at { at < length K.script.semaphores }
         ensures same { self.new ≡ record self.old { semaphores = self.new.semaphores } }

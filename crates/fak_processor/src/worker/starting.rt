@@ -92,7 +92,7 @@ impl<'r, K: Run, P: Station> Worker<'r, K, P> {
         Ok(())
     }
 
-    /// The front of the free slots is taken, tried again where there is none.
+    /// Takes the front of the free slots, and tries again while there is none.
     fn take_first_slot<R: Wait>(&mut self, rt: &R) -> Result<Slot<K>, Worn>
         ensures general { IfOk result (λ slot. FindsSlot K.script slot self.old self.new) }
         ensures alone { IsAlone K.script self.old → IfOk result

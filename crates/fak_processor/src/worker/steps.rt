@@ -1,14 +1,11 @@
-//! What each step does.
+//! What each step of a script does.
 
-ghost use Rattle.std.specs.Prelude.{◌≡◌, [], ◌∷◌, ◌<◌, false, length, Some, IfOk, IfErr, OnErr};
+ghost use Rattle.std.specs.Prelude.{◌≡◌, [], ◌∷◌, ◌<◌, length, Some, IfOk, OnErr};
 ghost use Rattle.fak_text.specs.Script.{down, up, open_file, close_file, stat, spawn, shutdown};
-ghost use Rattle.fak_text.specs.Journal.{StandsAt};
 ghost use Rattle.fak_run.specs.ListScheduler as lists;
-ghost use Rattle.fak_run.specs.Contexts.{HasStepsLeft};
-ghost use Rattle.fak_processor.specs.Asking.{looks_of};
-ghost use Rattle.fak_processor.specs.Faults.{HasSpentSeat};
 ghost use Rattle.fak_processor.specs.Processors.{IsAlone, GoesOn, lists_of};
-ghost use Rattle.fak_processor.specs.Moving.{EntersCredited, Moves, hand_of};
+ghost use Rattle.fak_processor.specs.Moving.{EntersCredited, hand_of};
+ghost use Rattle.fak_processor.specs.Steps.{MakesStep, MayMake, Steps};
 
 use crate::fault::StepFault;
 use crate::station::Station;
@@ -28,16 +25,12 @@ impl<'r, K: Run, P: Station> Worker<'r, K, P> {
         turn: Turn<K>,
         n: u64,
     ) -> Result<Option<Turn<K>>, StepFault>
-        requires next { StandsAt K.script turn.process (down n) }
+        requires turn { MayMake K.script turn (down n) }
         requires range { n < length K.script.semaphores }
-        requires left { HasStepsLeft K.script turn }
-        ensures general { IfOk result (λ running. Moves K.script (turn.process ∷ [])
-            (hand_of running) self.old self.new) }
+        ensures step { MakesStep K.script (turn.process ∷ []) hand_of self.old self.new result }
         ensures alone { IsAlone K.script self.old → IfOk result (λ running. GoesOn K.script self.new running
             (lists.make_down (lists_of K.script self.old) turn n)) }
-        ensures looks { IfOk result (λ _. looks_of self.new.ready ≡ looks_of self.old.ready) }
         ensures busy { OnErr result (self.new.busy ≡ self.old.busy) }
-        ensures spent { IfErr result (λ fault. fault ≡ StepFault.Worn → HasSpentSeat self.new) }
     {
         let made = turn.made();
         let sleeper = Sleeper::new(turn.into_context(), n)?;
@@ -58,16 +51,13 @@ impl<'r, K: Run, P: Station> Worker<'r, K, P> {
         turn: &mut Turn<K>,
         n: u64,
     ) -> Result<(), StepFault>
-        requires next { StandsAt K.script turn.old.process (up n) }
+        requires turn { MayMake K.script turn.old (up n) }
         requires range { n < length K.script.semaphores }
-        requires left { HasStepsLeft K.script turn.old }
-        ensures general { IfOk result (λ _. Moves K.script (turn.old.process ∷ [])
-            (turn.new.process ∷ []) self.old self.new) }
+        ensures step { MakesStep K.script (turn.old.process ∷ []) (λ _. turn.new.process ∷ []) self.old self.new
+            result }
         ensures alone { IsAlone K.script self.old → IfOk result (λ _. GoesOn K.script self.new (Some turn.new)
             (lists.make_up (lists_of K.script self.old) turn.old n)) }
-        ensures looks { IfOk result (λ _. looks_of self.new.ready ≡ looks_of self.old.ready) }
         ensures credited { OnErr result (EntersCredited self.old self.new) }
-        ensures spent { IfErr result (λ fault. fault ≡ StepFault.Worn → HasSpentSeat self.new) }
     {
         turn.note(Note::Up(n), false)?;
         self.reserve_halted()?;
@@ -85,16 +75,13 @@ impl<'r, K: Run, P: Station> Worker<'r, K, P> {
         turn: &mut Turn<K>,
         program: u64,
     ) -> Result<(), StepFault>
-        requires next { StandsAt K.script turn.old.process (spawn program) }
+        requires turn { MayMake K.script turn.old (spawn program) }
         requires range { program < length K.script.programs }
-        requires left { HasStepsLeft K.script turn.old }
-        ensures general { IfOk result (λ _. Moves K.script (turn.old.process ∷ [])
-            (turn.new.process ∷ []) self.old self.new) }
+        ensures step { MakesStep K.script (turn.old.process ∷ []) (λ _. turn.new.process ∷ []) self.old self.new
+            result }
         ensures alone { IsAlone K.script self.old → IfOk result (λ _. GoesOn K.script self.new (Some turn.new)
             (lists.make_spawn K.script (lists_of K.script self.old) turn.old program)) }
-        ensures looks { IfOk result (λ _. looks_of self.new.ready ≡ looks_of self.old.ready) }
         ensures credited { OnErr result (EntersCredited self.old self.new) }
-        ensures spent { IfErr result (λ fault. fault ≡ StepFault.Worn → HasSpentSeat self.new) }
     {
         let alloc = self.alloc;
         let name = turn.child_name(alloc)?;
@@ -122,14 +109,11 @@ impl<'r, K: Run, P: Station> Worker<'r, K, P> {
         turn: &mut Turn<K>,
         inode: u64,
     ) -> Result<(), StepFault>
-        requires next { StandsAt K.script turn.old.process (open_file inode) }
-        requires left { HasStepsLeft K.script turn.old }
-        ensures general { IfOk result (λ _. Moves K.script (turn.old.process ∷ [])
-            (turn.new.process ∷ []) self.old self.new) }
+        requires turn { MayMake K.script turn.old (open_file inode) }
+        ensures step { MakesStep K.script (turn.old.process ∷ []) (λ _. turn.new.process ∷ []) self.old self.new
+            result }
         ensures alone { IsAlone K.script self.old → IfOk result (λ _. GoesOn K.script self.new (Some turn.new)
             (lists.make_open (lists_of K.script self.old) turn.old inode)) }
-        ensures looks { IfOk result (λ _. looks_of self.new.ready ≡ looks_of self.old.ready) }
-        ensures spent { IfErr result (λ fault. fault ≡ StepFault.Worn → HasSpentSeat self.new) }
     {
         turn.reserve_note()?;
         let objects = self.objects;
@@ -148,14 +132,11 @@ impl<'r, K: Run, P: Station> Worker<'r, K, P> {
         turn: &mut Turn<K>,
         inode: u64,
     ) -> Result<(), StepFault>
-        requires next { StandsAt K.script turn.old.process (close_file inode) }
-        requires left { HasStepsLeft K.script turn.old }
-        ensures general { IfOk result (λ _. Moves K.script (turn.old.process ∷ [])
-            (turn.new.process ∷ []) self.old self.new) }
+        requires turn { MayMake K.script turn.old (close_file inode) }
+        ensures step { MakesStep K.script (turn.old.process ∷ []) (λ _. turn.new.process ∷ []) self.old self.new
+            result }
         ensures alone { IsAlone K.script self.old → IfOk result (λ _. GoesOn K.script self.new (Some turn.new)
             (lists.make_close (lists_of K.script self.old) turn.old inode)) }
-        ensures looks { IfOk result (λ _. looks_of self.new.ready ≡ looks_of self.old.ready) }
-        ensures spent { IfErr result (λ fault. fault ≡ StepFault.Worn → HasSpentSeat self.new) }
     {
         turn.reserve_note()?;
         let objects = self.objects;
@@ -174,14 +155,11 @@ impl<'r, K: Run, P: Station> Worker<'r, K, P> {
         turn: &mut Turn<K>,
         inode: u64,
     ) -> Result<(), StepFault>
-        requires next { StandsAt K.script turn.old.process (stat inode) }
-        requires left { HasStepsLeft K.script turn.old }
-        ensures general { IfOk result (λ _. Moves K.script (turn.old.process ∷ [])
-            (turn.new.process ∷ []) self.old self.new) }
+        requires turn { MayMake K.script turn.old (stat inode) }
+        ensures step { MakesStep K.script (turn.old.process ∷ []) (λ _. turn.new.process ∷ []) self.old self.new
+            result }
         ensures alone { IsAlone K.script self.old → IfOk result (λ _. GoesOn K.script self.new (Some turn.new)
             (lists.make K.script (lists_of K.script self.old) turn.old (stat inode))) }
-        ensures looks { IfOk result (λ _. looks_of self.new.ready ≡ looks_of self.old.ready) }
-        ensures spent { IfErr result (λ fault. fault ≡ StepFault.Worn → HasSpentSeat self.new) }
     {
         turn.reserve_note()?;
         let objects = self.objects;
@@ -195,13 +173,11 @@ impl<'r, K: Run, P: Station> Worker<'r, K, P> {
 
     /// A shutdown: no process becomes ready any more.
     pub(crate) fn shutdown(&mut self, turn: &mut Turn<K>) -> Result<(), AllocError>
-        requires next { StandsAt K.script turn.old.process shutdown }
-        requires left { HasStepsLeft K.script turn.old }
-        ensures general { IfOk result (λ _. Moves K.script (turn.old.process ∷ [])
-            (turn.new.process ∷ []) self.old self.new) }
+        requires turn { MayMake K.script turn.old shutdown }
+        ensures step { IfOk result (λ _. Steps K.script (turn.old.process ∷ []) (turn.new.process ∷ []) self.old
+            self.new) }
         ensures alone { IsAlone K.script self.old → IfOk result (λ _. GoesOn K.script self.new (Some turn.new)
             (lists.make K.script (lists_of K.script self.old) turn.old shutdown)) }
-        ensures looks { IfOk result (λ _. looks_of self.new.ready ≡ looks_of self.old.ready) }
     {
         turn.note(Note::Shutdown, false)?;
         self.shut_ready();

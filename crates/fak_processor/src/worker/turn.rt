@@ -6,6 +6,7 @@ ghost use Rattle.fak_text.specs.Journal.{Allows, FitsScript, StandsAt, after_not
 ghost use Rattle.fak_text.specs.Views.{note_of};
 ghost use Rattle.fak_run.specs.ListScheduler as lists;
 ghost use Rattle.fak_run.specs.Contexts.{HasStepsLeft};
+ghost use Rattle.fak_processor.specs.Steps.{MayMake};
 
 use fak_run::{Context, Run};
 use fak_text::{Note, Script};
@@ -32,7 +33,7 @@ impl<K: Run> Model for Turn<K> {
 }
 
 impl<K: Run> Turn<K> {
-    /// The turn of a process that made no step in it.
+    /// A turn that begins: its process has made no step in it.
     pub fn new(context: Context<K>) -> Turn<K>
         ensures { result ≡ record { process = context; made = 0; has_yielded = false } }
     {
@@ -43,7 +44,7 @@ impl<K: Run> Turn<K> {
         }
     }
 
-    /// Asks for the memory of one note more.
+    /// Reserves memory for one more note.
     pub fn reserve_note(&mut self) -> Result<(), AllocError>
         ensures same { self.new ≡ self.old }
     {
@@ -70,12 +71,12 @@ impl<K: Run> Turn<K> {
         ensures made { result ≡ self.now.made }
         ensures fits { FitsScript K.script self.now.process }
     {
-        // The slot is read for the proof alone: reading it tells that the context fits the script.
+        // Only the proof needs the slot: reading it shows that the context fits the script.
         let _slot = self.context.slot();
         self.made
     }
 
-    /// The turn after a step that the process made elsewhere.
+    /// The turn after one step more than `made`. The process has noted that step already, and it is no yield.
     pub fn after(context: Context<K>, made: u64) -> Turn<K>
         requires { (made < K.script.quantum) × (K.script.quantum ≤ 1000) }
         ensures { result ≡ record { process = context; made = made + 1; has_yielded = false } }
@@ -87,11 +88,10 @@ impl<K: Run> Turn<K> {
         }
     }
 
-    /// Goes on after a step that was made with this note.
+    /// Notes a step that the process made, and whether it was a yield.
     pub fn note(&mut self, note: Note, yields: bool) -> Result<(), AllocError>
-        requires allowed { (step : StepOf) × StandsAt K.script self.old.process step
+        requires allowed { (step : StepOf) × MayMake K.script self.old step
             × Allows K.script.files (child_count self.old.process.journal) step (note_of note) }
-        requires left { HasStepsLeft K.script self.old }
         ensures noted { IfOk result (λ _. self.new ≡ record {
           process = after_note self.old.process (note_of note);
           made = self.old.made + 1;
@@ -99,7 +99,7 @@ impl<K: Run> Turn<K> {
         }) }
         ensures fits { FitsScript K.script self.old.process }
     {
-        // The slot is read for the proof alone: reading it tells that the context fits the script.
+        // Only the proof needs the slot: reading it shows that the context fits the script.
         let _slot = self.context.slot();
         self.context.note(note)?;
         self.made += 1;
@@ -107,10 +107,9 @@ impl<K: Run> Turn<K> {
         Ok(())
     }
 
-    /// Goes on after a step that said its text.
+    /// Notes a step that said its text.
     pub fn note_said(&mut self, alloc: Global) -> Result<(), AllocError>
-        requires said { (text : List ℕ) × StandsAt K.script self.old.process (say text) }
-        requires left { HasStepsLeft K.script self.old }
+        requires said { (text : List ℕ) × MayMake K.script self.old (say text) }
         ensures noted { IfOk result (λ _. (text : List ℕ) → StandsAt K.script self.old.process (say text)
             → self.new ≡ record {
               process = after_note self.old.process (said text);
@@ -119,7 +118,7 @@ impl<K: Run> Turn<K> {
             }) }
         ensures fits { FitsScript K.script self.old.process }
     {
-        // The slot is read for the proof alone: reading it tells that the context fits the script.
+        // Only the proof needs the slot: reading it shows that the context fits the script.
         let _slot = self.context.slot();
         self.context.note_said(alloc)?;
         self.made += 1;
@@ -127,14 +126,14 @@ impl<K: Run> Turn<K> {
         Ok(())
     }
 
-    /// The process leaves the processor.
+    /// Ends the turn: the process leaves the processor.
     pub fn into_context(self) -> Context<K>
         ensures { result ≡ self.process }
     {
         self.context
     }
 
-    /// The turn is over: as many steps were made as a turn has, or the last one was a yield.
+    /// Whether the turn is over: all steps of a turn were made, or the last one was a yield.
     pub fn is_over(&self, script: &Script) -> bool
         requires { script.now ≡ K.script }
         ensures over { result ≡ (self.now.has_yielded || (self.now.made == K.script.quantum)) }

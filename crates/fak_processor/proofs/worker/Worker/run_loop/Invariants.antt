@@ -1,6 +1,6 @@
 use Rattle.fak_processor.proofs.Common.{◌≡◌, turn_over, IsReached, lists_of, [], Moves, hand_of}
 use Rattle.fak_processor.specs.Asking.{AreAsked, looks_of}
-use Rattle.fak_processor.proofs.worker.Worker.turns.Given as goal
+use Rattle.fak_processor.proofs.worker.Worker.run_loop.Given as goal
 
 abbrev pub invariant-loop : goal.invariant-loop
 invariant-loop g l =

@@ -2,18 +2,17 @@
 
 ghost use Rattle.std.specs.Prelude.{◌≡◌, ◌≢◌, ℕ, [], ◌∷◌, ◌<◌, ◌≤◌, pos, length, true, false, Some, None, IfOk, IfErr};
 ghost use Rattle.fak_text.specs.Script.{IsStepInRange, limits_of};
-ghost use Rattle.fak_text.specs.Journal.{StandsAt};
 ghost use Rattle.fak_text.specs.Views.{step_of};
 ghost use Rattle.fak_run.specs.ListScheduler as lists;
-ghost use Rattle.fak_processor.specs.Asking.{AreAsked, HasAsked, looks_of};
+ghost use Rattle.fak_processor.specs.Asking.{AreAsked, HasAsked};
 ghost use Rattle.fak_processor.specs.Faults.{HasSpentSeat};
 ghost use Rattle.fak_run.specs.Gates.{IsRefused};
-ghost use Rattle.fak_run.specs.Contexts.{HasStepsLeft};
 ghost use Rattle.fak_processor.specs.Processors.{IsAlone, GoesOn, GoesTo, IsReached, lists_of};
 ghost use Rattle.fak_model.specs.Credit.{value};
 ghost use Rattle.fak_model.specs.Queue.{contents};
 ghost use Rattle.fak_run.specs.Ledger.{nothing};
 ghost use Rattle.fak_processor.specs.Moving.{Gains, LeavesNone, Moves, hand_of};
+ghost use Rattle.fak_processor.specs.Steps.{MakesStep, MayMake};
 
 use crate::fault::{LoopFault, StepFault};
 use crate::station::Station;
@@ -25,22 +24,18 @@ use fak_text::{Note, Step};
 use std::sync::Wait;
 
 impl<'r, K: Run, P: Station> Worker<'r, K, P> {
-    /// The process that has the processor makes this step, and keeps the processor or not.
+    /// The process that has the processor makes this step. Returns its turn, or nothing if it has left the processor.
     fn make<R: Wait>(
         &mut self,
         rt: &R,
         mut turn: Turn<K>,
         step: &Step,
     ) -> Result<Option<Turn<K>>, StepFault>
-        requires next { StandsAt K.script turn.process (step_of step.now) }
+        requires turn { MayMake K.script turn (step_of step.now) }
         requires range { IsStepInRange (limits_of K.script) (step_of step.now) }
-        requires left { HasStepsLeft K.script turn }
-        ensures general { IfOk result (λ running. Moves K.script (turn.process ∷ [])
-            (hand_of running) self.old self.new) }
+        ensures step { MakesStep K.script (turn.process ∷ []) hand_of self.old self.new result }
         ensures alone { IsAlone K.script self.old → IfOk result (λ running. GoesOn K.script self.new running
             (lists.make K.script (lists_of K.script self.old) turn (step_of step.now))) }
-        ensures looks { IfOk result (λ _. looks_of self.new.ready ≡ looks_of self.old.ready) }
-        ensures spent { IfErr result (λ fault. fault ≡ StepFault.Worn → HasSpentSeat self.new) }
     {
         match step {
             Step::Down(n) => return self.down(rt, turn, *n),
@@ -51,23 +46,20 @@ impl<'r, K: Run, P: Station> Worker<'r, K, P> {
         }
     }
 
-    /// The process makes this step, which is no down, and keeps the processor.
+    /// The process makes this step, any except a down, and keeps the processor.
     fn make_and_stay<R: Wait>(
         &mut self,
         rt: &R,
         turn: &mut Turn<K>,
         step: &Step,
     ) -> Result<(), StepFault>
-        requires next { StandsAt K.script turn.old.process (step_of step.now) }
+        requires turn { MayMake K.script turn.old (step_of step.now) }
         requires range { IsStepInRange (limits_of K.script) (step_of step.now) }
-        requires left { HasStepsLeft K.script turn.old }
         requires stays { (n : ℕ) → step.now ≢ Step.Down n }
-        ensures general { IfOk result (λ _. Moves K.script (turn.old.process ∷ [])
-            (turn.new.process ∷ []) self.old self.new) }
+        ensures step { MakesStep K.script (turn.old.process ∷ []) (λ _. turn.new.process ∷ []) self.old self.new
+            result }
         ensures alone { IsAlone K.script self.old → IfOk result (λ _. GoesOn K.script self.new (Some turn.new)
             (lists.make K.script (lists_of K.script self.old) turn.old (step_of step.now))) }
-        ensures looks { IfOk result (λ _. looks_of self.new.ready ≡ looks_of self.old.ready) }
-        ensures spent { IfErr result (λ fault. fault ≡ StepFault.Worn → HasSpentSeat self.new) }
     {
         match step {
             Step::Down(_) => unreachable!(),
@@ -91,18 +83,16 @@ impl<'r, K: Run, P: Station> Worker<'r, K, P> {
         }
     }
 
-    /// What the processor does next with the process that has it.
+    /// Continues a turn: the process makes its next step, or ends if it has none, or becomes ready again if its turn is
+    /// over.
     fn continue_turn<R: Wait>(
         &mut self,
         rt: &R,
         turn: Turn<K>,
     ) -> Result<Option<Turn<K>>, StepFault>
-        ensures general { IfOk result (λ running. Moves K.script (turn.process ∷ [])
-            (hand_of running) self.old self.new) }
+        ensures step { MakesStep K.script (turn.process ∷ []) hand_of self.old self.new result }
         ensures alone { IsAlone K.script self.old → IfOk result (λ running. GoesOn K.script self.new running
             (lists.turn_by K.script (lists_of K.script self.old) turn (lists.next_step K.script turn.process))) }
-        ensures looks { IfOk result (λ _. looks_of self.new.ready ≡ looks_of self.old.ready) }
-        ensures spent { IfErr result (λ fault. fault ≡ StepFault.Worn → HasSpentSeat self.new) }
     {
         let script = self.script;
         match turn.context.next(script) {
@@ -120,7 +110,7 @@ impl<'r, K: Run, P: Station> Worker<'r, K, P> {
         }
     }
 
-    /// Looks at the ready queue, after the gate has let the processor pass: the front gets the processor.
+    /// Passes the gate and then looks at the ready queue, whose front gets the processor.
     fn look<R: Wait, G: Gate>(
         &mut self,
         rt: &R,
@@ -146,7 +136,7 @@ impl<'r, K: Run, P: Station> Worker<'r, K, P> {
         Ok(self.take_front(rt)?)
     }
 
-    /// One small step of the processor.
+    /// One step of the loop: a look if no process has the processor, otherwise the next step of its process.
     fn step<R: Wait, G: Gate>(
         &mut self,
         rt: &R,
@@ -173,9 +163,11 @@ impl<'r, K: Run, P: Station> Worker<'r, K, P> {
         }
     }
 
-    /// Nothing ran before the step nor after it, and no process is ready or runs.
+    /// Tests whether the run is over: nothing ran before the step nor after it, and no process is ready or runs. Once the
+    /// count is 0 it stays 0. A process is counted from before it enters the ready queue until after it has ended, halted
+    /// or fallen asleep, and only a process that runs makes others ready.
     #[tactic(auto, using(crate::proofs::Moving::gains_none))]
-    fn is_done(&mut self, was_idle: bool, running: &Option<Turn<K>>) -> bool
+    fn test_done(&mut self, was_idle: bool, running: &Option<Turn<K>>) -> bool
         ensures ready { self.new.ready ≡ self.old.ready }
         ensures gains { Gains K.script self.old self.new nothing }
         ensures alone { IsAlone K.script self.old → GoesTo K.script self.new (lists_of K.script self.old) }
@@ -191,9 +183,9 @@ impl<'r, K: Run, P: Station> Worker<'r, K, P> {
         shown == 0
     }
 
-    /// The loop of a processor: turns of ready processes, until no process is ready or runs. False where another processor
-    /// has met a fault.
-    pub fn turns<R: Wait, G: Gate>(&mut self, rt: &R, gate: &G) -> Result<bool, LoopFault>
+    /// The loop of a processor: it gives turns to ready processes until no process is ready or runs. Returns false if
+    /// another processor has met a fault.
+    pub fn run_loop<R: Wait, G: Gate>(&mut self, rt: &R, gate: &G) -> Result<bool, LoopFault>
         ensures general { IfOk result (λ done. done ≡ true → LeavesNone K.script self.old self.new) }
         ensures stopped { IfOk result (λ done. done ≡ false → 1 < P.objects.ready.object.seats) }
         ensures alone { IsReached K.script self.old (lists.turn_over (lists_of K.script self.old))
@@ -208,7 +200,7 @@ impl<'r, K: Run, P: Station> Worker<'r, K, P> {
         let objects = self.objects;
         let mut running = None;
         let mut looks = Looks::new(self.number);
-        let pause = Backoff::new();
+        let backoff = Backoff::new();
         for _ in rt.forever() {
             let was_idle = running.is_none();
             if was_idle && objects.alarm.is_rung() {
@@ -216,21 +208,21 @@ impl<'r, K: Run, P: Station> Worker<'r, K, P> {
                 return Ok(false);
             }
             running = self.step(rt, gate, &mut looks, running)?;
-            if self.is_done(was_idle, &running) {
+            if self.test_done(was_idle, &running) {
                 drop(running);
                 return Ok(true);
             }
-            rest(&pause, was_idle, running.is_some());
+            pause(&backoff, was_idle, running.is_some());
         }
         unreachable!()
     }
 }
 
-/// Waits a little after a look at the ready queue that found no process; a turn that began ends the waiting.
-fn rest(pause: &Backoff, looked: bool, found: bool) {
+/// Backs off after a look at the ready queue that found no process. A turn that begins resets the back-off.
+fn pause(backoff: &Backoff, looked: bool, found: bool) {
     if found {
-        pause.reset();
+        backoff.reset();
     } else if looked {
-        pause.snooze();
+        backoff.snooze();
     }
 }

@@ -1,4 +1,4 @@
-//! File steps on a shared table, by a copy of its entries.
+//! File steps on a shared table: each works on a copy of the entries, in a hold of its own.
 
 ghost use Rattle.std.specs.Prelude.{◌≡◌, ◌≢◌, ◌<◌, [], length, map, IfSome, IfOk, IfErr, MatchOption};
 ghost use Rattle.fak_files.specs.declared.phase.Hold.TheVariants.{Nothing, Writing};
@@ -52,7 +52,7 @@ impl Files {
     ///
     /// # Errors
     ///
-    /// `Worn`, where the seat at the table has no holds left.
+    /// `Worn`, if the seat at the table has no holds left.
     pub fn open_shared<R: Wait>(
         &mut self,
         rt: &R,
@@ -83,7 +83,7 @@ impl Files {
     ///
     /// # Errors
     ///
-    /// `Worn`, where the seat at the table has no holds left.
+    /// `Worn`, if the seat at the table has no holds left.
     pub fn close_shared<R: Wait>(
         &mut self,
         rt: &R,
@@ -114,7 +114,7 @@ impl Files {
     ///
     /// # Errors
     ///
-    /// `Worn`, where the seat at the table has no holds left.
+    /// `Worn`, if the seat at the table has no holds left.
     pub fn uses_shared<R: Wait>(
         &mut self,
         rt: &R,
