@@ -2,7 +2,7 @@
 pub use Rattle.fak_files.specs.Calls.{entries_after}
 pub use Rattle.fak_kernel.specs.Closing.{IsSleeper, IsWholeAt, AreClosed, left_at, rows_left, shut_lines, IsSettledAt, AreClosing}
 pub use Rattle.fak_kernel.specs.Gathered.{FilesJoined, AreGathered, AreOfOne, left_weigh}
-pub use Rattle.fak_kernel.specs.Threads.{HasBegun, as_left, HasAnswered, HasLeft, IsOfRun, first_fault, OneIsRefused}
+pub use Rattle.fak_kernel.specs.Threads.{HasBegun, as_left, HasReturned, HasLeft, IsOfRun, first_fault, OneIsRefused}
 pub use Rattle.fak_model.proofs.Common.{All-nil, All-cons, All-head, All-tail, All-append, IsWhole, sum_by-cons, Rules, mine, TallyInfo, tally_of, count, value, nat_tests, sum_by-append, AreNamed, seat_of, file_rules, IsFileHistory, SeatInfo, IsJoined, In, Knows, marks_of, length-map, ObjectId, queue_rules, room_rules, IsPermutation-trans, contents, up_amount, release_amount, close_of, map-append, IsPermutation-map, sum_by-IsPermutation}
 pub use Rattle.fak_model.proofs.SeatWeights.{is_in_is, mine_one}
 pub use Rattle.fak_model.proofs.Seats.{in_left, in_right, in_either, whole_mine}

@@ -65,7 +65,7 @@ histories_of t = record {
   waits = λ s. (t.sems s).queue_seen;
 }
 
--- each mark is of a joined seat, as each `is_whole` says; and what each semaphore's `close` says
+-- each mark belongs to a joined seat, as each `is_whole` says; and what each semaphore's `close` says
 pub record AreWhole (script : ScriptOf) (t : Tallies) : Type 0 where
   pub ready : mine (λ (m : Mark Process). m.seat) t.ready.names t.ready.seen ≡ t.ready.seen
   pub free : mine (λ (m : Mark ℕ). m.seat) t.free.names t.free.seen ≡ t.free.seen

@@ -1,4 +1,4 @@
--- What is said of the elements of a list by their places, where the first is taken off.
+-- What is said of the elements of a list by their places, after the first is taken off.
 use Rattle.fak_kernel.proofs.Common.{◌≡◌, ℕ, suc, ◌+◌, ◌<◌, List, [], ◌∷◌, ◌++◌, length, get_or, ap, sym, ◌∙◌, subst, arith}
 
 pub rest_of : {A : Type 0} (P : ℕ → A → Type 0) (old new : List A) (x : A) (lo ln : ℕ) → old ≡ x ∷ new → ln + 1 ≡ lo → ((k : ℕ) (d : A) → k < lo → P k (get_or old k d)) → (k : ℕ) (d : A) → k < ln → P (k + 1) (get_or new k d)
@@ -29,7 +29,7 @@ took_first {A} Q la lo ln {all} {old} {new} {x} same len is long each =
     let h : Q k (get_or all k d) = each k d (omega (arith, low, len)) in
     subst (λ (j : ℕ). Q j (get_or old k d)) plus (subst (λ (l : List A). Q k (get_or l k d)) (sym same) h))
 
--- behind none, the one that is put is the first
+-- after none, the element that is put is the first
 pub only_one : {A : Type 0} (xs ys : List A) (x d : A) → length xs ≡ 0 → ys ≡ xs ++ x ∷ [] → get_or ys 0 d ≡ x
 only_one [] ys x d none is = ap (λ l. get_or l 0 d) is
 only_one (y ∷ xs) ys x d none is = absurd (omega (arith, none))

@@ -4,9 +4,9 @@ use Rattle.fak_kernel.proofs.Common.{JoinedTo, FileHold, AreHolds, held_kinds, h
 use Rattle.fak_run.proofs.Holding.{held-left, reads-left}
 use Rattle.fak_run.proofs.GatheredHolds.{gather_same}
 
--- ---- what the whole history tells
+-- ---- what the whole history says
 
--- the holds of a name are those that the whole history tells
+-- the holds of a name are those in the whole history
 holds_known : (n k name : ℕ) (holds : List FileHold) (seen h : List FileMark) (s : SeatInfo FileMark) → AreHolds n k name holds seen → Knows seat_of (name ∷ []) seen h → AreHolds n k name holds h
 holds_known n k name holds seen h s are l =
     let t : SeatInfo FileMark = record s { name = name; seen = seen } in

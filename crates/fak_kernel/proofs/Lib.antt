@@ -10,4 +10,4 @@ pub mod Reporting
 pub mod ReportingAlone
 pub mod Indexing
 pub mod Leaving
-pub mod Answering
+pub mod Collecting

@@ -1,4 +1,4 @@
--- What the objects of a run have left where all seats are joined.
+-- What the objects of a run have left once all seats are joined.
 use Rattle.std.specs.Prelude.{◌≡◌, ℕ, ◌+◌, nat_lt, List, ◌++◌}
 use Rattle.std.specs.List.{All, flat_map}
 use Rattle.fak_model.specs.Queue.{contents}
@@ -13,7 +13,7 @@ use Rattle.fak_run.specs.Ledger.{shuts_of}
 use Rattle.fak_run.specs.Whole.{lines_of}
 use Rattle.fak_processor.specs.Joined.{ids_of_tallies}
 
--- a process that sleeps fits the script and stands before a down
+-- a process that sleeps fits the script, and its next step is a down
 pub record IsSleeper (script : ScriptOf) (p : Process) : Type 0 where
   pub fits : FitsScript script p
   pub semaphore : ℕ
@@ -36,7 +36,7 @@ pub record AreClosed (script : ScriptOf) (tallies : List (SemTallyInfo Process))
   pub settled : All IsSettledAt tallies
   pub sleepers : All (IsSleeper script) asleep
 
--- of all these semaphores the last are still to be closed
+-- the last of these semaphores are still to be closed
 pub record AreClosing (script : ScriptOf) (ids : List SemId) (rest tallies : List (SemTallyInfo Process)) (asleep : List Process) : Type 0 where
   pub ids_are : ids_of_tallies rest ≡ ids
   pub whole : All IsWholeAt rest
@@ -48,6 +48,6 @@ pub record AreClosing (script : ScriptOf) (ids : List SemId) (rest tallies : Lis
 abbrev pub shut_lines : List Process → List Process → List Process → ℕ
 shut_lines ended halted asleep = (lines_of shuts_of ended + lines_of shuts_of halted) + lines_of shuts_of asleep
 
--- the rows of those that ended, halted and sleep, who are halted too where there is a shutdown line
+-- the rows of those that ended, halted and sleep, who are halted too if there is a shutdown line
 abbrev pub rows_left : List Process → List Process → List Process → List RowOf
 rows_left ended halted asleep = rows_with Ended ended ++ rows_with Halted halted ++ rows_with (sleepers_outcome (nat_lt 0 (shut_lines ended halted asleep))) asleep

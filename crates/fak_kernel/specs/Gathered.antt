@@ -38,7 +38,7 @@ pub record AreGathered (script : ScriptOf) (o : ObjectsOf) (k : ℕ) (t : Tallie
   pub rows : (f : RowOf → ℕ) → left_weigh f ended halted ≡ sum_by f ledger.rows
   pub files : FilesJoined o.files.entries o.files.object.seats k t.files (files_of ledger)
 
--- one processor alone: its tallies, and the processes that it saw end and halt
+-- only one processor: its tallies, and the processes that it saw end and halt
 pub record AreOfOne (p : ProcessorOf) (t : TalliesOf) (ended halted : List Process) : Type 0 where
   pub tallies : t ≡ first_tallies p
   pub ended_are : ended ≡ p.ended

@@ -11,27 +11,24 @@ ghost use Rattle.fak_run.specs.Told.{told_report};
 ghost use Rattle.fak_run.specs.Views.{report_of};
 
 pub mod closing;
-pub mod gathering;
-pub mod joining;
+pub mod gather;
+pub mod joined;
 pub mod reporting;
 
 use closing::close;
+use fak_opening::Plan;
 use fak_processor::{Objects, Seats};
 use fak_run::{Report, Run};
-use fak_text::Script;
-use gathering::gather;
 use reporting::{report_with, rows_of};
-use std::alloc::{AllocError, Global};
+use std::alloc::AllocError;
 
-/// The report of a run that all processors have left, in the order of their numbers, with its said texts left out. One
-/// processor leaves the list scheduler's report.
+/// The report of a run that all processors have left, in the order of their numbers, without its said texts. The report
+/// of a run on one processor is the list scheduler's.
 pub(crate) fn report_of_run<K: Run>(
-    alloc: Global,
-    script: &Script,
+    plan: &Plan<'_, K>,
     objects: Objects<K>,
     left: Vec<Seats<K>>,
 ) -> Result<Report, AllocError>
-    requires script { script.now ≡ K.script }
     requires seated { AreSeated (vec_len left) objects }
     requires some { 1 ≤ vec_len left }
     requires left { (i : ℕ) (d : ProcessorOf) → i < vec_len left
@@ -43,9 +40,11 @@ pub(crate) fn report_of_run<K: Run>(
         × ((lists_of K.script (slice_index_or left.items 0 d)).ready ≡ [])) → (d : ProcessorOf)
         → IfOk result (λ report. ListSchedulerReports K.script (told_report K.script (report_of report))) }
 {
-    // A field is named for the proof alone: that tells that the objects were opened for this script.
+    // Only the proof needs this field: naming it shows that the objects were opened for this script.
     let _ready = &objects.ready;
-    let all = gather(alloc, &objects, left)?;
+    let alloc = plan.alloc;
+    let script = plan.script;
+    let all = gather::gather(alloc, &objects, left)?;
     let remains = close(alloc, objects, all.tallies, script.files())?;
     let rows = rows_of(alloc, all.ended, all.halted, remains.asleep)?;
     Ok(report_with(script, rows, remains.entries))

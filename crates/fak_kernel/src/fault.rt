@@ -13,7 +13,7 @@ use std::alloc::{AllocError, AllocFailed};
 /// Why not all threads could be begun.
 #[derive(Clone, Copy, Debug, PartialEq, Eq)]
 pub(crate) enum StartFault {
-    /// There was no memory for what is kept of the threads.
+    /// There was no memory for the handles of the threads, or for their results.
     Memory,
     /// The system gave no thread.
     NoThread,

@@ -1,4 +1,4 @@
-//! Processors that share objects: scripts are run, and what became of each process is reported, as a `Report` or as its text.
+//! Runs scripts on processors that share objects, and reports what became of each process, as a `Report` or as its text.
 #![tactic(auto)]
 
 mod ending;

@@ -10,21 +10,21 @@ ghost use Rattle.fak_kernel.specs.Threads.{HasBegun, HasLeft, IsOfRun, OneIsRefu
 ghost use Rattle.fak_run.specs.Told.{told_report};
 ghost use Rattle.fak_run.specs.Views.{report_of};
 
-mod answering;
-mod leaving;
+mod collecting;
+mod threads;
 
 use crate::ending::report_of_run;
 use crate::fault::RunFault;
-use answering::all_left;
-use fak_opening::open_run;
-use fak_processor::{LoopFault, Objects, Seats};
+use collecting::all_left;
+use fak_opening::Plan;
+use fak_processor::{LoopFault, Seats};
 use fak_run::{Fault, Gate, Printed, Report, Run, print_brief, told_in_full};
 use fak_text::Script;
-use leaving::leave_all;
 use std::alloc::Global;
 use std::marker::{Brand, Send, Sync};
 use std::sync::Wait;
 use std::thread::Threads;
+use threads::{Lent, run_all_threads};
 
 /// The most processors of a run.
 pub const MOST_PROCESSORS: u64 = 8;
@@ -34,9 +34,9 @@ pub const MOST_PROCESSORS: u64 = 8;
 ///
 /// # Errors
 ///
-/// `BadProcessors` before anything else, for any other number. `NoThread` where the system gave no thread, whatever
-/// processors met; else the fault of the first processor that met one, in the order of their numbers. `Gate` comes
-/// only where the gate may refuse and refused one of the processors a look, after it let that one pass those before.
+/// `BadProcessors` before anything else, for any other number. `NoThread` if the system gave no thread, whatever the
+/// processors met; otherwise the fault of the lowest-numbered processor that met one. `Gate`, only if the gate may refuse,
+/// and refused a look of one of the processors after it let the looks of that processor before it pass.
 pub fn run<G: Gate + Sync>(
     rt: &(impl Threads + Wait + Sync),
     alloc: Global,
@@ -77,7 +77,7 @@ pub fn run_to_text<G: Gate + Sync>(
     print_brief(alloc, script, &brief)
 }
 
-/// The report, with its said texts left out.
+/// The report, without its said texts.
 fn run_briefly<G: Gate + Sync, R: Threads + Wait + Sync>(
     rt: &R,
     alloc: Global,
@@ -98,7 +98,7 @@ fn run_briefly<G: Gate + Sync, R: Threads + Wait + Sync>(
     Ok(run_as::<Brand, G, R>(rt, alloc, script, processors, gate)?)
 }
 
-/// The same, where the number of processors is in range.
+/// The same, if the number of processors is in range.
 fn run_as<K: Run + Send + Sync, G: Gate + Sync, R: Threads + Wait + Sync>(
     rt: &R,
     alloc: Global,
@@ -114,11 +114,17 @@ fn run_as<K: Run + Send + Sync, G: Gate + Sync, R: Threads + Wait + Sync>(
     ensures refused { IfErr result (λ fault. fault ≡ RunFault.Loop LoopFault.Gate
         → (G.refuses gate.now ≡ true) × OneIsRefused processors (G.answers gate.now)) }
 {
-    let opened = open_run::<K, R>(rt, alloc, script, processors)?;
+    let plan: Plan<'_, K> = Plan::new(alloc, script, processors);
+    let opened = plan.open(rt)?;
     let objects = opened.objects;
     let all = opened.processors;
-    match work_all(rt, alloc, script, &objects, gate, processors, all) {
-        Ok(left) => Ok(report_of_run(alloc, script, objects, left)?),
+    let lent = Lent {
+        plan: &plan,
+        objects: &objects,
+        gate,
+    };
+    match work_all(rt, alloc, &lent, all) {
+        Ok(left) => Ok(report_of_run(&plan, objects, left)?),
         Err(fault) => {
             drop(objects);
             Err(fault)
@@ -126,28 +132,26 @@ fn run_as<K: Run + Send + Sync, G: Gate + Sync, R: Threads + Wait + Sync>(
     }
 }
 
-/// All processors work, each in a thread of its own, until they leave.
+/// All processors work, each in a thread of its own, until the run is over. Returns the seats of all, in the order of
+/// their numbers.
 fn work_all<K: Run + Send + Sync, G: Gate + Sync, R: Threads + Wait + Sync>(
     rt: &R,
     alloc: Global,
-    script: &Script,
-    objects: &Objects<K>,
-    gate: &G,
-    processors: u64,
+    lent: &Lent<'_, K, G>,
     all: Vec<Seats<K>>,
 ) -> Result<Vec<Seats<K>>, RunFault>
-    requires script { script.now ≡ K.script }
-    requires len { vec_len all ≡ processors }
+    requires len { vec_len all ≡ lent.now.plan.now.processors }
     requires begun { (i : ℕ) (d : _) → i < vec_len all
-        → HasBegun K.script objects.now processors i (slice_index_or all.items i d) }
+        → HasBegun K.script lent.now.objects.now lent.now.plan.now.processors i (slice_index_or all.items i d) }
     ensures len { IfOk result (λ left. vec_len left ≡ vec_len all) }
     ensures left { IfOk result (λ left. (i : ℕ) (d : ProcessorOf) → i < vec_len left
-        → HasLeft K.script objects.now processors i (slice_index_or left.items i d)) }
+        → HasLeft K.script lent.now.objects.now lent.now.plan.now.processors i (slice_index_or left.items i d)) }
     ensures refused { IfErr result (λ fault. fault ≡ RunFault.Loop LoopFault.Gate
-        → (G.refuses gate.now ≡ true) × OneIsRefused processors (G.answers gate.now)) }
+        → (G.refuses lent.now.gate.now ≡ true)
+        × OneIsRefused lent.now.plan.now.processors (G.answers lent.now.gate.now)) }
 {
-    let answers = leave_all(rt, alloc, script, objects, gate, processors, all)?;
-    match all_left(alloc, answers) {
+    let results = run_all_threads(rt, alloc, lent, all)?;
+    match all_left(alloc, results) {
         Ok(left) => Ok(left),
         Err(fault) => Err(RunFault::Loop(fault)),
     }

@@ -12,7 +12,7 @@ ghost use Rattle.fak_run.specs.Told.{told_report};
 ghost use Rattle.fak_run.specs.Views.{report_of};
 
 use crate::ending::report_of_run;
-use fak_opening::open_run;
+use fak_opening::Plan;
 use fak_processor::{LoopFault, Objects, Processor, Seats, StepFault};
 use fak_run::{Fault, FreeGate, Printed, Report, Run, print_brief, told_in_full};
 use fak_text::Script;
@@ -24,7 +24,7 @@ use std::sync::Wait;
 ///
 /// # Errors
 ///
-/// `Worn`, where the script's stint is used up, and `Memory`.
+/// `Worn`, if the script's stint is used up, and `Memory`.
 pub fn run_one(rt: &impl Wait, alloc: Global, script: &Script) -> Result<Report, Fault>
     ensures report { IfOk result (λ report. ListSchedulerReports script.now (report_of report)) }
     ensures conserved { IfOk result (λ report. RunReports script.now (report_of report)) }
@@ -38,7 +38,7 @@ pub fn run_one(rt: &impl Wait, alloc: Global, script: &Script) -> Result<Report,
 ///
 /// # Errors
 ///
-/// `Worn`, where the script's stint is used up, and `Memory`.
+/// `Worn`, if the script's stint is used up, and `Memory`.
 pub fn run_one_to_text(rt: &impl Wait, alloc: Global, script: &Script) -> Result<Printed, Fault>
     ensures report { IfOk result (λ printed. ListSchedulerPrints script.now printed.text.items printed.status) }
     ensures conserved { IfOk result (λ printed. RunPrints script.now printed.text.items printed.status) }
@@ -48,17 +48,18 @@ pub fn run_one_to_text(rt: &impl Wait, alloc: Global, script: &Script) -> Result
     print_brief(alloc, script, &brief)
 }
 
-/// The report, with its said texts left out.
+/// The report, without its said texts.
 fn run_alone<K: Run, R: Wait>(rt: &R, alloc: Global, script: &Script) -> Result<Report, StepFault>
     requires { script.now ≡ K.script }
     ensures report { IfOk result (λ report. ListSchedulerReports K.script (told_report K.script (report_of report))) }
     ensures conserved { IfOk result (λ report. RunReports K.script (told_report K.script (report_of report))) }
 {
-    let opened = open_run::<K, R>(rt, alloc, script, 1)?;
+    let plan: Plan<'_, K> = Plan::new(alloc, script, 1);
+    let opened = plan.open(rt)?;
     let objects = opened.objects;
     let only = opened.processors;
-    match leave_alone(rt, alloc, script, &objects, only) {
-        Ok(left) => Ok(report_of_run(alloc, script, objects, left)?),
+    match work_alone(rt, &plan, &objects, only) {
+        Ok(left) => Ok(report_of_run(&plan, objects, left)?),
         Err(fault) => {
             drop(objects);
             Err(fault)
@@ -66,15 +67,13 @@ fn run_alone<K: Run, R: Wait>(rt: &R, alloc: Global, script: &Script) -> Result<
     }
 }
 
-/// The only processor works until it leaves.
-fn leave_alone<K: Run, R: Wait>(
+/// The only processor works until the run is over.
+fn work_alone<K: Run, R: Wait>(
     rt: &R,
-    alloc: Global,
-    script: &Script,
+    plan: &Plan<'_, K>,
     objects: &Objects<K>,
     only: Vec<Seats<K>>,
 ) -> Result<Vec<Seats<K>>, StepFault>
-    requires script { script.now ≡ K.script }
     requires seated { AreSeated 1 objects.now }
     requires one { vec_len only ≡ 1 }
     requires begun { (d : ProcessorOf) → HasBegun K.script objects.now 1 0 (slice_index_or only.items 0 d) }
@@ -83,7 +82,7 @@ fn leave_alone<K: Run, R: Wait>(
         → HasLeft K.script objects.now 1 0 (slice_index_or left.items 0 d)) }
 {
     let mut only = only;
-    let processor = Processor::new(objects, script, alloc, 0, only.remove(0));
+    let processor = Processor::new(objects, plan.script, plan.alloc, 0, only.remove(0));
     let (seats, done) = processor.work(rt, &FreeGate);
     match done {
         Ok(true) => {

@@ -1,5 +1,5 @@
--- Processors with seats as they are opened: what they know, the lists that the list scheduler has where there is one, and
--- what all are where the first began.
+-- Processors with seats as they are opened: what they know, the lists that the list scheduler has if there is only one, and
+-- what all are once the first has begun.
 use Rattle.std.specs.List.{insert, remove}
 use Rattle.fak_model.specs.Credit as credit
 use Rattle.fak_model.specs.Room as room
@@ -99,14 +99,14 @@ module _ (script : ScriptOf) (o : ObjectsOf) (stint : ℕ) where
   fresh_alone : AreSeated 1 o → IsAlone script (fresh_processor o stint 0)
   fresh_alone one = grind (arith, common_steps, only_fresh, sems_fresh, down, nobody_at, ids_of)
 
-  -- where there is one processor, it begins with the list scheduler's lists, but for who is ready and which slots are free
+  -- the only processor begins with the list scheduler's lists, except for the processes that are ready and the free slots
   pub fresh_goes : AreFor script o → AreSeated 1 o → GoesTo script (fresh_processor o stint 0) (empty_lists script)
   fresh_goes made one = grind (arith, common_steps, counts_fresh, sleepers_fresh, map, fresh_alone, entries_fresh)
 
 -- ---- all processors, of which the first began
 
 module _ {script : ScriptOf} where
-  -- processor 0 between two turns, where it was new
+  -- processor 0 between two turns, if it was new
   pub begun_between : (o : ObjectsOf) (stint : ℕ) (made : AreFor script o) {p : ProcessorOf} → AreOf o p → Begins script [] [] (numbers_from 0 script.slots) (begun_names 0 script.start) (fresh_processor o stint 0) p → Between script o 0 p
   begun_between o stint made {p} are b = record {
     are = are;
@@ -118,7 +118,7 @@ module _ {script : ScriptOf} where
     lines = subst (λ n. AreLines n (files_of b.ledger) p.files.seat) (sym made.files) (b.gains.lines [] (lines_none script.files o.files.object 0 stint));
   }
 
--- all processors, where the first was new and began
+-- all processors, once the first has begun
 pub all_between : (script : ScriptOf) (o : ObjectsOf) (stint n : ℕ) (items : List ProcessorOf) (p : ProcessorOf) → 1 ≤ n → items ≡ slice_set (fresh_all o stint 0 n) 0 p → Between script o 0 p
     → (i : ℕ) (d : ProcessorOf) → i < n → Between script o i (slice_index_or items i d)
 all_between script o stint zero items p some is first i d low = absurd (omega (arith, low))

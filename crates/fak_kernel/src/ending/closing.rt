@@ -8,7 +8,7 @@ ghost use Rattle.fak_processor.specs.Processors.{ids_of};
 ghost use Rattle.fak_processor.specs.Joined.{AreTalliesOf, ids_of_tallies};
 ghost use Rattle.fak_kernel.specs.Closing.{AreClosed, IsSleeper, IsWholeAt};
 
-use crate::ending::joining::Tallies;
+use crate::ending::joined::Tallies;
 use fak_files::FileRest;
 use fak_model::FileEntry;
 use fak_processor::Objects;
@@ -24,15 +24,15 @@ pub(crate) struct Remains<K: Run> {
     pub(crate) entries: Vec<FileEntry>,
 }
 
-/// Takes out the sleeper that has waited longest. A function of its own, since a loop over the iterator itself asks for a
-/// proof of what it has yielded so far.
+/// Takes out the sleeper that has waited longest. This is a function of its own, since a loop over the iterator itself
+/// needs a proof of what it has yielded so far.
 fn take_oldest<K: Run>(rest: &mut Rest<Sleeper<K>>) -> Option<Sleeper<K>>
     ensures { MatchOption result ((rest.old ≡ []) × (rest.new ≡ [])) (λ x. rest.old ≡ x ∷ rest.new) }
 {
     rest.next()
 }
 
-/// Takes the processes out of a wait queue.
+/// Appends the processes that a closed wait queue has left.
 fn drain<K: Run>(asleep: &mut Vec<Context<K>>, waiting: Rest<Sleeper<K>>) -> Result<(), AllocError>
     ensures added { IfOk result (λ _. asleep.new.items ≡ asleep.old.items ++ waiting) }
     ensures sleepers { IfOk result (λ _. All (IsSleeper K.script) waiting) }
@@ -44,7 +44,7 @@ fn drain<K: Run>(asleep: &mut Vec<Context<K>>, waiting: Rest<Sleeper<K>>) -> Res
     Ok(())
 }
 
-/// Closes the semaphores, one after the other.
+/// Closes the semaphores, one after the other. Returns the sleepers.
 fn close_each<K: Run>(
     alloc: Global,
     semaphores: Vec<Semaphore<Sleeper<K>>>,
@@ -65,7 +65,7 @@ fn close_each<K: Run>(
     Ok(asleep)
 }
 
-/// The entries of a closed file table of this many.
+/// The entries of a closed file table that has this many.
 fn read_entries(alloc: Global, rest: FileRest, count: u64) -> Result<Vec<FileEntry>, AllocError>
     requires count { length rest ≡ count }
     ensures entries { IfOk result (λ entries. entries.items ≡ rest) }
@@ -77,7 +77,7 @@ fn read_entries(alloc: Global, rest: FileRest, count: u64) -> Result<Vec<FileEnt
     Ok(entries)
 }
 
-/// These sleepers, and the entries of a closed file table of this many.
+/// These sleepers, and the entries of a closed file table that has this many.
 fn with_entries<K: Run>(
     alloc: Global,
     asleep: Vec<Context<K>>,
@@ -97,8 +97,9 @@ fn with_entries<K: Run>(
     }
 }
 
-/// Closes the objects, whose file table has this many entries, once all seats are joined. What the queues have left is
-/// dropped: no process is ready, and the slots are free. The births and the count of busy processes have nothing to close.
+/// Closes the objects, once all seats are joined. The file table has this many entries. What the queues have left is
+/// dropped: no process is ready, and the slots are free. The births and the count of busy processes have nothing to
+/// close.
 #[tactic(auto, using(crate::proofs::Closing::length_entries))]
 pub(crate) fn close<K: Run>(
     alloc: Global,

@@ -1,16 +1,16 @@
-//! How the seats of all processors are gathered.
+//! Joins the seats of all processors.
 
 ghost use Rattle.std.specs.Prelude.{◌≡◌, ◌<◌, ◌≤◌, ℕ, vec_len, slice_index_or, IfOk};
 ghost use Rattle.fak_processor.specs.Processors.{ProcessorOf};
 ghost use Rattle.fak_processor.specs.Begun.{IsLeftBy};
 ghost use Rattle.fak_kernel.specs.Gathered.{AreGathered, AreOfOne};
 
-use crate::ending::joining::Joined;
+use crate::ending::joined::Joined;
 use fak_processor::{Objects, Seats};
 use fak_run::Run;
 use std::alloc::{AllocError, Global};
 
-/// All processors, in the order of their numbers.
+/// Joins the seats of all processors, in the order of their numbers.
 pub(crate) fn gather<K: Run>(
     alloc: Global,
     objects: &Objects<K>,
@@ -24,7 +24,7 @@ pub(crate) fn gather<K: Run>(
     ensures alone { vec_len left ≡ 1 → (d : ProcessorOf)
         → IfOk result (λ all. AreOfOne (slice_index_or left.items 0 d) all.tallies all.ended.items all.halted.items) }
 {
-    // A field is named for the proof alone: that tells that the objects were opened for this script.
+    // Only the proof needs this field: naming it shows that the objects were opened for this script.
     let _ready = &objects.ready;
     let count = left.len();
     let mut processors = left.into_iter();

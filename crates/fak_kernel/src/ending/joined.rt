@@ -1,4 +1,4 @@
-//! How the seats of the processors are joined, processor by processor.
+//! The seats of the processors, joined processor by processor.
 
 ghost use Rattle.std.specs.Prelude.{◌≡◌, ◌++◌, map, IfOk};
 ghost use Rattle.fak_queue.specs.declared.state.SeatState.TheVariants.{Idle};
@@ -65,7 +65,7 @@ fn first_each<K: Run>(
     Ok(tallies)
 }
 
-/// One more seat of each semaphore.
+/// Joins one more seat of each semaphore.
 fn join_each<K: Run>(
     alloc: Global,
     semaphores: &[Semaphore<Sleeper<K>>],
@@ -92,7 +92,7 @@ fn join_each<K: Run>(
 }
 
 impl<K: Run> Tallies<K> {
-    /// The seats of one processor more; the processes that it saw end and halt are dropped.
+    /// Joins the seats of one more processor. Drops the processes that it saw end and halt.
     fn join(
         self,
         alloc: Global,
@@ -131,7 +131,7 @@ impl<K: Run> Tallies<K> {
 }
 
 impl<K: Run> Joined<K> {
-    /// One processor, the first.
+    /// The seats of the first processor.
     pub(crate) fn of(alloc: Global, processor: Seats<K>) -> Result<Joined<K>, AllocError>
         requires idle { (state_of processor.ready ≡ Idle) × (state_of processor.free ≡ Idle)
             × (processor.files.hold ≡ Nothing) }
@@ -168,7 +168,7 @@ impl<K: Run> Joined<K> {
         }
     }
 
-    /// The processes that one processor more saw end and halt.
+    /// Appends the processes that one more processor saw end and halt.
     fn append(&mut self, processor: &mut Seats<K>) -> Result<(), AllocError>
         ensures tallies { self.new.tallies ≡ self.old.tallies }
         ensures ended { IfOk result (λ _. self.new.ended.items ≡ self.old.ended.items ++ processor.old.ended) }
@@ -180,7 +180,7 @@ impl<K: Run> Joined<K> {
         self.halted.append(&mut processor.halted)
     }
 
-    /// One processor more.
+    /// Joins one more processor.
     pub(crate) fn join(
         self,
         alloc: Global,

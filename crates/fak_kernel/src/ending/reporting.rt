@@ -1,4 +1,4 @@
-//! The report of what all processors have left, with its said texts left out.
+//! The report of what all processors have left, without its said texts.
 
 ghost use Rattle.std.specs.Prelude.{◌≡◌, ◌≤◌, ◌-◌, nat_lt, length, map, IfOk};
 ghost use Rattle.std.specs.List.Sorted.{IsPermutation};
@@ -14,14 +14,14 @@ use fak_run::{Context, Outcome, ProcessRow, Report, Run, add_rows, sort_rows};
 use fak_text::Script;
 use std::alloc::{AllocError, Global};
 
-/// One of the processes made a shutdown.
+/// Whether one of the processes made a shutdown.
 fn has_shutdown<K: Run>(contexts: &[Context<K>]) -> bool
     ensures { result ≡ nat_lt 0 (lines_of shuts_of contexts.now) }
 {
     contexts.iter().any(|context| context.has_shutdown())
 }
 
-/// How the sleepers are left.
+/// What becomes of the sleepers: they are halted if a process made a shutdown, otherwise stuck.
 fn outcome_of_sleepers<K: Run>(
     ended: &[Context<K>],
     halted: &[Context<K>],

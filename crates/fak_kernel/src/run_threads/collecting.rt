@@ -1,4 +1,4 @@
-//! What a run makes of the answers of its processors.
+//! What a run makes of the results of its threads.
 
 ghost use Rattle.std.specs.Prelude.{◌≡◌, ◌⊎◌, Some, None, map, IfOk, IfErr};
 ghost use Rattle.fak_kernel.specs.Threads.{as_left, first_fault};
@@ -6,48 +6,48 @@ ghost use Rattle.fak_kernel.specs.Threads.{as_left, first_fault};
 use fak_processor::{LoopFault, StepFault};
 use std::alloc::{AllocError, Global};
 
-/// What the threads answered, where all of them have left.
+/// What the threads returned, if all processors have left.
 ///
 /// # Errors
 ///
-/// The fault of the first that met one, in the order of their numbers. Where none did, `Memory`: there was none for
-/// the list, or a processor stopped for a fault that none answers, which no run comes to.
+/// The fault of the lowest-numbered processor that has one. Otherwise `Memory`: the list could not grow, or a processor
+/// stopped for a fault that no other returned, which happens in no run.
 pub(crate) fn all_left<A: Drop>(
     alloc: Global,
-    answers: Vec<Result<Option<A>, LoopFault>>,
+    results: Vec<Result<Option<A>, LoopFault>>,
 ) -> Result<Vec<A>, LoopFault>
-    ensures left { IfOk result (λ left. map as_left left.items ≡ answers.items) }
-    ensures fault { IfErr result (λ fault. (first_fault answers.items ≡ Some fault)
-        ⊎ ((first_fault answers.items ≡ None) × (fault ≡ LoopFault.Step StepFault.Memory))) }
+    ensures left { IfOk result (λ left. map as_left left.items ≡ results.items) }
+    ensures fault { IfErr result (λ fault. (first_fault results.items ≡ Some fault)
+        ⊎ ((first_fault results.items ≡ None) × (fault ≡ LoopFault.Step StepFault.Memory))) }
 {
-    if let Some(fault) = first_fault(answers.as_slice()) {
+    if let Some(fault) = first_fault(results.as_slice()) {
         return Err(fault);
     }
-    Ok(those_left(alloc, answers)?)
+    Ok(those_left(alloc, results)?)
 }
 
-/// The fault of the first that met one.
-fn first_fault<A>(answers: &[Result<Option<A>, LoopFault>]) -> Option<LoopFault>
-    ensures { result ≡ first_fault answers.now }
+/// The fault of the lowest-numbered processor that has one.
+fn first_fault<A>(results: &[Result<Option<A>, LoopFault>]) -> Option<LoopFault>
+    ensures { result ≡ first_fault results.now }
 {
-    for answer in answers {
-        if let Err(fault) = answer {
+    for returned in results {
+        if let Err(fault) = returned {
             return Some(*fault);
         }
     }
     None
 }
 
-/// What the threads answered, where all of them have left. Else, and without memory for the list, `AllocError`.
+/// What the threads returned, if all processors have left. Otherwise, and if the list cannot grow, `AllocError`.
 fn those_left<A: Drop>(
     alloc: Global,
-    answers: Vec<Result<Option<A>, LoopFault>>,
+    results: Vec<Result<Option<A>, LoopFault>>,
 ) -> Result<Vec<A>, AllocError>
-    ensures left { IfOk result (λ left. map as_left left.items ≡ answers.items) }
+    ensures left { IfOk result (λ left. map as_left left.items ≡ results.items) }
 {
     let mut left = Vec::new(alloc);
-    for answer in answers {
-        let Ok(Some(seats)) = answer else {
+    for returned in results {
+        let Ok(Some(seats)) = returned else {
             return Err(AllocError);
         };
         left.push(seats)?;

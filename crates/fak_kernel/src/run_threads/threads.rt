@@ -1,47 +1,58 @@
 //! A thread for each processor.
 
 ghost use Rattle.std.specs.Prelude.{◌≡◌, ◌<◌, ◌++◌, ◌∷◌, [], ℕ, vec_len, slice_index_or, IfOk, IsOkAnd};
-ghost use Rattle.fak_kernel.specs.Threads.{HasAnswered, HasBegun};
+ghost use Rattle.fak_kernel.specs.Threads.{HasBegun, HasReturned};
 
 use crate::fault::StartFault;
+use fak_opening::Plan;
 use fak_processor::{LoopFault, Objects, Processor, Seats};
 use fak_run::{Gate, Run};
-use fak_text::Script;
 use std::alloc::Global;
 use std::marker::{Send, Sync};
 use std::sync::Wait;
 use std::thread;
 use std::thread::{Promise, Threads};
 
-/// What the thread of a processor answers: its seats where it has left, nothing where another one met a fault.
-pub(crate) type Answer<K> = Result<Option<Seats<K>>, LoopFault>;
-
-/// What is promised of a processor's answer.
+/// What a run lends to each of its threads.
 #[derive(Drop)]
-struct LeavePromise<'o, K: Run, G> {
-    objects: &'o Objects<K>,
-    gate: &'o G,
-    processors: u64,
+pub(crate) struct Lent<'r, K: Run, G> {
+    /// The plan of the run.
+    pub(crate) plan: &'r Plan<'r, K>,
+    /// What the processors share.
+    pub(crate) objects: &'r Objects<K>,
+    /// The gate that each processor passes before it looks at the ready queue.
+    pub(crate) gate: &'r G,
+}
+
+/// What the thread of a processor returns: its seats, or nothing if another processor met a fault.
+pub(crate) type ThreadResult<K> = Result<Option<Seats<K>>, LoopFault>;
+
+/// What is promised of the result of a thread: it is that of the processor of this number.
+#[derive(Drop)]
+struct ThreadPromise<'l, 'r, K: Run, G> {
+    lent: &'l Lent<'r, K, G>,
     number: u64,
 }
 
-impl<'o, K: Run, G: Gate> Promise<Answer<K>> for LeavePromise<'o, K, G> {
-    ghost kept_by = { λ p r. HasAnswered K.script p.objects.now p.processors (G.refuses p.gate.now)
-        (G.answers p.gate.now) p.number r };
+impl<'l, 'r, K: Run, G: Gate> Promise<ThreadResult<K>> for ThreadPromise<'l, 'r, K, G> {
+    ghost kept_by = { λ p r. HasReturned K.script p.lent.now.objects.now p.lent.now.plan.now.processors
+        (G.refuses p.lent.now.gate.now) (G.answers p.lent.now.gate.now) p.number r };
 }
 
-/// The processor works until it leaves.
-fn leave<K: Run, R: Wait, G: Gate>(
+/// The processor of this number works with these seats until the run is over.
+fn run_thread<K: Run, R: Wait, G: Gate>(
     rt: &R,
-    gate: &G,
-    processors: u64,
-    processor: Processor<'_, K>,
-) -> Answer<K>
-    requires begun { HasBegun K.script processor.objects.now processors processor.number processor.seats }
-    ensures { HasAnswered K.script processor.entry.objects.now processors (G.refuses gate.now) (G.answers gate.now)
-        processor.entry.number result }
+    lent: &Lent<'_, K, G>,
+    number: u64,
+    seats: Seats<K>,
+) -> ThreadResult<K>
+    requires begun { HasBegun K.script lent.now.objects.now lent.now.plan.now.processors number seats }
+    ensures { HasReturned K.script lent.now.objects.now lent.now.plan.now.processors (G.refuses lent.now.gate.now)
+        (G.answers lent.now.gate.now) number result }
 {
-    let (seats, done) = processor.work(rt, gate);
+    let plan = lent.plan;
+    let processor = Processor::new(lent.objects, plan.script, plan.alloc, number, seats);
+    let (seats, done) = processor.work(rt, lent.gate);
     match done {
         Ok(true) => Ok(Some(seats)),
         Ok(false) => {
@@ -55,7 +66,7 @@ fn leave<K: Run, R: Wait, G: Gate>(
     }
 }
 
-/// The handle of a thread that has begun goes behind the others.
+/// Appends the handle of a thread that has begun.
 fn keep<H: Drop, E: Drop>(handles: &mut Vec<H>, begun: Result<H, E>) -> Result<(), StartFault>
     ensures kept { IfOk result (λ _. IsOkAnd begun (λ h. handles.new.items ≡ handles.old.items ++ h ∷ [])) }
 {
@@ -65,67 +76,59 @@ fn keep<H: Drop, E: Drop>(handles: &mut Vec<H>, begun: Result<H, E>) -> Result<(
     }
 }
 
-/// Each processor works in a thread of its own; their answers, in the order of their numbers.
+/// Runs each processor in a thread of its own. Returns what the threads returned, in the order of the processors'
+/// numbers.
 ///
 /// # Errors
 ///
-/// `NoThread` where the system gave no thread, and `Memory`.
-pub(crate) fn leave_all<K: Run + Send + Sync, R: Threads + Wait + Sync, G: Gate + Sync>(
+/// `NoThread` if the system gave no thread, and `Memory`. The threads that have begun are told by the alarm, so that
+/// they end too.
+pub(crate) fn run_all_threads<K: Run + Send + Sync, R: Threads + Wait + Sync, G: Gate + Sync>(
     rt: &R,
     alloc: Global,
-    script: &Script,
-    objects: &Objects<K>,
-    gate: &G,
-    processors: u64,
+    lent: &Lent<'_, K, G>,
     all: Vec<Seats<K>>,
-) -> Result<Vec<Answer<K>>, StartFault>
-    requires script { script.now ≡ K.script }
+) -> Result<Vec<ThreadResult<K>>, StartFault>
     requires begun { (i : ℕ) (d : _) → i < vec_len all
-        → HasBegun K.script objects.now processors i (slice_index_or all.items i d) }
+        → HasBegun K.script lent.now.objects.now lent.now.plan.now.processors i (slice_index_or all.items i d) }
     ensures len { IfOk result (λ v. vec_len v ≡ vec_len all) }
-    ensures answered { IfOk result (λ v. (i : ℕ) (d : _) → i < vec_len v → HasAnswered K.script objects.now processors
-        (G.refuses gate.now) (G.answers gate.now) i (slice_index_or v.items i d)) }
+    ensures returned { IfOk result (λ v. (i : ℕ) (d : _) → i < vec_len v
+        → HasReturned K.script lent.now.objects.now lent.now.plan.now.processors (G.refuses lent.now.gate.now)
+        (G.answers lent.now.gate.now) i (slice_index_or v.items i d)) }
 {
     thread::scope(
         thread::scope_env(),
         rt,
-        move |scope| -> Result<Vec<Answer<K>>, StartFault>
-            requires script { script.now ≡ K.script }
+        move |scope| -> Result<Vec<ThreadResult<K>>, StartFault>
             requires begun { (i : ℕ) (d : _) → i < vec_len all
-                → HasBegun K.script objects.now processors i (slice_index_or all.items i d) }
+                → HasBegun K.script lent.now.objects.now lent.now.plan.now.processors i
+                (slice_index_or all.items i d) }
             ensures len { IfOk result (λ v. vec_len v ≡ vec_len all) }
-            ensures answered { IfOk result (λ v. (i : ℕ) (d : _) → i < vec_len v
-                → HasAnswered K.script objects.entry.now processors (G.refuses gate.entry.now)
-                (G.answers gate.entry.now) i (slice_index_or v.items i d)) }
+            ensures returned { IfOk result (λ v. (i : ℕ) (d : _) → i < vec_len v
+                → HasReturned K.script lent.entry.now.objects.now lent.entry.now.plan.now.processors
+                (G.refuses lent.entry.now.gate.now) (G.answers lent.entry.now.gate.now) i
+                (slice_index_or v.items i d)) }
         {
+            let objects = lent.objects;
             let Ok(mut handles) = Vec::with_capacity(alloc, all.len()) else {
                 drop(all);
                 return Err(StartFault::Memory);
             };
             for seats in all {
                 let number = handles.len() as u64;
-                let processor = Processor::new(objects, script, alloc, number, seats);
-                let promise = LeavePromise {
-                    objects,
-                    gate,
-                    processors,
-                    number,
-                };
-                let begun = scope.spawn_with(
-                    promise,
-                    move || leave(rt, gate, processors, processor),
-                );
+                let promise = ThreadPromise { lent, number };
+                let begun = scope.spawn_with(promise, move || run_thread(rt, lent, number, seats));
                 if let Err(fault) = keep(&mut handles, begun) {
                     objects.alarm.ring();
                     drop(handles);
                     return Err(fault);
                 }
             }
-            let Ok(answers) = thread::join_promised(rt, handles) else {
+            let Ok(results) = thread::join_promised(rt, handles) else {
                 objects.alarm.ring();
                 return Err(StartFault::Memory);
             };
-            Ok(answers)
+            Ok(results)
         },
     )
 }

@@ -19,14 +19,14 @@ close-requires-clause-files g c = let all = c.in_ok-all.ensures.gathered in whol
 pub report_with-requires : goal.report_with-requires
 report_with-requires g c =
     let rows = started_have_rows (rw c.objects.view_is at c.objects.invariant.1) c.requires.seated c.in_ok-all.ensures.gathered c.in_ok-remains.ensures.closed c.in_ok-rows.ensures.rows in
-    omega (arith, rows, length-told_rows g.K.Run.script c.in_ok-rows.rows.items, ap (λ (s : ScriptOf). length s.start) c.requires.script)
+    omega (arith, rows, length-told_rows g.K.Run.script c.in_ok-rows.rows.items, ap (λ (s : ScriptOf). length s.start) c.args.plan.now.script_is)
 
 pub returns-clause-general : goal.returns-clause-general
 returns-clause-general g c =
     run_reports_with (rw c.objects.view_is at c.objects.invariant.1) c.requires.seated c.in_ok-all.ensures.gathered c.in_ok-remains.ensures.closed c.in_ok-rows.ensures.rows
-    c.requires.script (sym (length-told_rows g.K.Run.script c.in_ok-rows.rows.items)) c.requires.some c.in_ok-rows.ensures.sorted c.in_ok-remains.ensures.entries (ap (told_report g.K.Run.script) c.report_with.ensures)
+    c.args.plan.now.script_is (sym (length-told_rows g.K.Run.script c.in_ok-rows.rows.items)) c.requires.some c.in_ok-rows.ensures.sorted c.in_ok-remains.ensures.entries (ap (told_report g.K.Run.script) c.report_with.ensures)
 
 pub returns-clause-alone : goal.returns-clause-alone
 returns-clause-alone g c one reached d =
     alone_reports (rw c.objects.view_is at c.objects.invariant.1) c.requires.seated c.in_ok-all.ensures.gathered c.in_ok-remains.ensures.closed (c.in_ok-all.ensures.alone one d) c.in_ok-rows.ensures.rows
-    c.requires.script (sym (length-told_rows g.K.Run.script c.in_ok-rows.rows.items)) (reached d).0 (reached d).1 c.in_ok-rows.ensures.sorted c.in_ok-remains.ensures.entries (ap (told_report g.K.Run.script) c.report_with.ensures)
+    c.args.plan.now.script_is (sym (length-told_rows g.K.Run.script c.in_ok-rows.rows.items)) (reached d).0 (reached d).1 c.in_ok-rows.ensures.sorted c.in_ok-remains.ensures.entries (ap (told_report g.K.Run.script) c.report_with.ensures)

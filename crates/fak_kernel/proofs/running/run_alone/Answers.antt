@@ -1,10 +1,10 @@
 use Rattle.fak_kernel.proofs.Common.{fresh_processor, IsLeftBy, ◌≡◌, refl, arith, get_or, sym, subst}
 use Rattle.fak_kernel.proofs.running.run_alone.Goals as goal
 
-pub leave_alone-requires-clause-begun : goal.leave_alone-requires-clause-begun
-leave_alone-requires-clause-begun g c d = record {
-  between = c.in_ok-opened.ensures.begun 0 d (omega (arith, c.in_ok-opened.ensures.len));
-  alone = λ _. c.in_ok-opened.ensures.alone refl d;
+pub work_alone-requires-clause-begun : goal.work_alone-requires-clause-begun
+work_alone-requires-clause-begun g c d = record {
+  between = c.in_ok-opened.ensures.begun 0 d (omega (arith, c.in_ok-opened.ensures.len, c.new-plan.ensures.processors));
+  alone = λ _. c.in_ok-opened.ensures.alone c.new-plan.ensures.processors d;
 }
 
 pub report_of_run-requires-clause-left : goal.report_of_run-requires-clause-left

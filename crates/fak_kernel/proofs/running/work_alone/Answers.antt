@@ -1,7 +1,7 @@
 use Rattle.fak_kernel.proofs.Common.{◌≡◌, length, sym, subst, arith, HasBegun, HasLeft}
 use Rattle.fak_kernel.proofs.Indexing.{only_one}
 use Rattle.fak_kernel.proofs.Leaving.{has_left}
-use Rattle.fak_kernel.proofs.running.leave_alone.Goals as goal
+use Rattle.fak_kernel.proofs.running.work_alone.Goals as goal
 
 pub returns-in_ok-push-in-Ok-true-clause-left : goal.returns-in_ok-push-in-Ok-true-clause-left
 returns-in_ok-push-in-Ok-true-clause-left g c = λ d.

@@ -1,6 +1,6 @@
 use Rattle.fak_processor.proofs.Common.{◌≡◌, ◌++◌, length, map, into_iter_items}
 use Rattle.fak_opening.specs.Opened.{dealt_to}
-use Rattle.fak_opening.proofs.deal.Given as goal
+use Rattle.fak_opening.proofs.undealt.deal.Given as goal
 
 abbrev pub invariant-loop-row : goal.invariant-loop-row
 invariant-loop-row g l =

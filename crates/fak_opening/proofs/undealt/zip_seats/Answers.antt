@@ -1,6 +1,6 @@
 use Rattle.fak_processor.proofs.Common.{rules, arith, ◌≡◌, ◌∷◌, ◌++◌, [], ap, length, length-map, into_iter_items}
 use Rattle.fak_opening.proofs.Dealing.{zips_more}
-use Rattle.fak_opening.proofs.zip_seats.Goals as goal
+use Rattle.fak_opening.proofs.undealt.zip_seats.Goals as goal
 
 pub loop-ready-preserved : goal.loop-ready-preserved
 loop-ready-preserved g c =

@@ -1,6 +1,6 @@
 use Rattle.fak_processor.proofs.Common.{◌≡◌, ◌++◌, length, map, into_iter_items}
 use Rattle.fak_opening.specs.Opened.{zipped}
-use Rattle.fak_opening.proofs.zip_seats.Given as goal
+use Rattle.fak_opening.proofs.undealt.zip_seats.Given as goal
 
 -- what is zipped so far, and what will be
 abbrev pub invariant-loop-ready : goal.invariant-loop-ready

@@ -1,7 +1,7 @@
 use Rattle.fak_kernel.proofs.Common.{ProcessorOf, IsLeftBy, AreGathered, AreOfOne, ◌≡◌, ℕ, ◌+◌, get_or, ap, sym, ◌∙◌, subst, arith}
 use Rattle.fak_kernel.proofs.JoiningProcessors.{gathered_of_first, next_of}
 use Rattle.fak_kernel.proofs.Indexing.{took, took_first}
-use Rattle.fak_kernel.proofs.ending.gathering.gather.Goals as goal
+use Rattle.fak_kernel.proofs.ending.gather.gather.Goals as goal
 
 pub of-requires : goal.of-requires
 of-requires g c =

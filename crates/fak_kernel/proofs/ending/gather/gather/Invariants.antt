@@ -1,5 +1,5 @@
 use Rattle.fak_kernel.proofs.Common.{ProcessorOf, IsLeftBy, AreGathered, AreOfOne, ◌≡◌, ℕ, ◌+◌, ◌<◌, ◌≤◌, get_or}
-use Rattle.fak_kernel.proofs.ending.gathering.gather.Given as goal
+use Rattle.fak_kernel.proofs.ending.gather.gather.Given as goal
 
 -- this many processors are joined, and the others are to come
 abbrev pub invariant-loop-joined : goal.invariant-loop-joined

@@ -1,5 +1,5 @@
 use Rattle.fak_kernel.proofs.Common.{ids_of, ids_of_seats, JoinEach, ids_of_tallies, ◌≡◌, List, ◌++◌, drop, SemTallyInfo, Process}
-use Rattle.fak_kernel.proofs.ending.joining.join_each.Given as goal
+use Rattle.fak_kernel.proofs.ending.joined.join_each.Given as goal
 
 -- whatever joins those that are left, joins all
 abbrev pub invariant-loop-semaphore : goal.invariant-loop-semaphore

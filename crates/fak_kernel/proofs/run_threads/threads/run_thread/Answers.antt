@@ -1,14 +1,16 @@
 use Rattle.fak_kernel.proofs.Leaving.{has_left}
-use Rattle.fak_kernel.proofs.run_threads.leaving.leave.Goals as goal
+use Rattle.fak_kernel.proofs.run_threads.threads.run_thread.Goals as goal
 
 pub returns-in-Ok-true : goal.returns-in-Ok-true
 returns-in-Ok-true g c =
     let done = c.in-Ok-true.field-0-test in
-    let general = rw c.in-Ok-true.is at c.work-seats.ensures.general in
-    let alone = rw c.in-Ok-true.is at c.work-seats.ensures.alone in
-    let passed = rw c.in-Ok-true.is at c.work-seats.ensures.passed in
+    let made = rw c.new-processor.ensures.objects at c.new-processor.result.made in
+    let are = rw c.new-processor.ensures.objects at c.work-seats.ensures.seats in
+    let general = rw (c.in-Ok-true.is, c.new-processor.ensures.seats) at c.work-seats.ensures.general in
+    let alone = rw (c.in-Ok-true.is, c.new-processor.ensures.seats) at c.work-seats.ensures.alone in
+    let passed = rw (c.in-Ok-true.is, c.new-processor.ensures.number) at c.work-seats.ensures.passed in
     record {
-      left = has_left c.args.processor.made c.requires.begun c.work-seats.ensures.seats (general done) (λ begun. alone begun done);
+      left = has_left made c.requires.begun are (general done) (λ begun. alone begun done);
       passed = passed done;
       refused = tt;
     }

@@ -2,12 +2,12 @@ use Rattle.fak_text.specs.Script.{ScriptOf}
 use Rattle.fak_processor.proofs.Common.{ℕ, AreFor, ObjectsOf, ids_of, map, ◌≡◌, ◌∙◌, length, ap, sym, arith, length-map, common_steps}
 use Rattle.fak_opening.specs.Opened.{fresh_all, zipped, AreSemaphoresFor}
 use Rattle.fak_opening.proofs.Dealing.{length-new, length-rows, length-seats, zips}
-use Rattle.fak_opening.proofs.open_objects.Goals as goal
+use Rattle.fak_opening.proofs.plan.Plan.open_objects.Goals as goal
 
 pub zip_seats-requires : goal.zip_seats-requires
 zip_seats-requires g c =
-    let n = c.args.processors in
-    let stint = c.args.script.now.stint in
+    let n = c.args.self.now.processors in
+    let stint = c.args.self.now.script.now.stint in
     let ready = length-seats c.in_ok-ready.ready_seats.items c.in_ok-ready.ready.object stint 0 n c.in_ok-ready.ensures.opened.2 in
     let free = length-seats c.in_ok-free.free_seats.items c.in_ok-free.free.object stint 0 n c.in_ok-free.ensures.opened.2 in
     let births = length-seats c.in_ok-births.birth_seats.items c.in_ok-births.births.object stint 0 n c.in_ok-births.ensures.opened.2 in
@@ -27,12 +27,12 @@ for_script o same ready free births busy files s = grind (arith, common_steps, l
 pub invariant_of-objects : goal.invariant_of-objects
 invariant_of-objects g c =
     let o : ObjectsOf = record { ready = c.in_ok-ready.ready; free = c.in_ok-free.free; births = c.in_ok-births.births; busy = c.in_ok-busy.busy; semaphores = c.in_ok-semaphores.semaphores.items; files = c.in_ok-files.files } in
-    (c.new.ensures ∙ sym c.in_ok-ready.ensures.opened.1, for_script o c.requires.script c.in_ok-ready.ensures.opened.0 c.in_ok-free.ensures.opened.0 c.in_ok-births.ensures.opened.0 c.in_ok-busy.ensures.opened.0 c.in_ok-files.ensures.opened.0 c.in_ok-semaphores.ensures.opened)
+    (c.new.ensures ∙ sym c.in_ok-ready.ensures.opened.1, for_script o c.args.self.now.script_is c.in_ok-ready.ensures.opened.0 c.in_ok-free.ensures.opened.0 c.in_ok-births.ensures.opened.0 c.in_ok-busy.ensures.opened.0 c.in_ok-files.ensures.opened.0 c.in_ok-semaphores.ensures.opened)
 
 pub returns-clause-made : goal.returns-clause-made
 returns-clause-made g c =
     let o : ObjectsOf = record { ready = c.in_ok-ready.ready; free = c.in_ok-free.free; births = c.in_ok-births.births; busy = c.in_ok-busy.busy; semaphores = c.in_ok-semaphores.semaphores.items; files = c.in_ok-files.files } in
-    for_script o c.requires.script c.in_ok-ready.ensures.opened.0 c.in_ok-free.ensures.opened.0 c.in_ok-births.ensures.opened.0 c.in_ok-busy.ensures.opened.0 c.in_ok-files.ensures.opened.0 c.in_ok-semaphores.ensures.opened
+    for_script o c.args.self.now.script_is c.in_ok-ready.ensures.opened.0 c.in_ok-free.ensures.opened.0 c.in_ok-births.ensures.opened.0 c.in_ok-busy.ensures.opened.0 c.in_ok-files.ensures.opened.0 c.in_ok-semaphores.ensures.opened
 
 pub returns-clause-seated : goal.returns-clause-seated
 returns-clause-seated g c =
@@ -59,4 +59,4 @@ returns-clause-fresh g c =
     let entries : c.files-entries.result ≡ o.files.entries = c.files-entries.ensures.value ∙ sym c.in_ok-files.ensures.opened.0 in
     c.in_ok-dealt.ensures.zipped
     ∙ ((λ i. zipped (entries i) (r i) (f i) (b i) (u i) (s i) (x i))
-    ∙ (zips o c.args.script.now.stint 0 c.args.processors ∙ ap (λ (script : ScriptOf). fresh_all o script.stint 0 c.args.processors) c.requires.script))
+    ∙ (zips o c.args.self.now.script.now.stint 0 c.args.self.now.processors ∙ ap (λ (script : ScriptOf). fresh_all o script.stint 0 c.args.self.now.processors) c.args.self.now.script_is))
