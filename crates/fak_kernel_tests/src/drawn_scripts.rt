@@ -14,7 +14,7 @@ struct Sizes {
     slots: u64,
 }
 
-/// What else is drawn for a script: its name, a bound of the draw, and the least.
+/// The other numbers of a script: the name, the bound of the draw, and the least.
 const FIELDS: [(&str, u64, u64); 3] = [
     (",\"births\":", 5, 0),
     (",\"quantum\":", 3, 1),
@@ -67,7 +67,7 @@ fn add_lists(rt: &impl Abort, text: &mut String, draws: &mut Draws, sizes: Sizes
     add(rt, text, "]}");
 }
 
-/// A comma, but before the first.
+/// A comma, except before the first.
 fn comma(i: u64) -> &'static str {
     if i > 0 { "," } else { "" }
 }
@@ -95,7 +95,7 @@ fn add_program(rt: &impl Abort, text: &mut String, draws: &mut Draws, sizes: Siz
     }
 }
 
-/// Each step that is drawn, up to its number, and the place of that among the numbers: 3 of one that has none.
+/// Each step that is drawn, up to its number, and the place of that number among those drawn: 3 if it has none.
 const STEPS: [(&str, usize); 16] = [
     ("[\"yield\"", 3),
     ("[\"yield\"", 3),
@@ -115,26 +115,29 @@ const STEPS: [(&str, usize); 16] = [
     ("[\"say\",\"x\"", 3),
 ];
 
+/// The row of `STEPS` that has no text of its own: `drawn_end` draws it.
+const END: u64 = 14;
+
 fn add_step(rt: &impl Abort, text: &mut String, draws: &mut Draws, sizes: Sizes) {
     let numbers = [
         draws.below(sizes.semaphores),
         draws.below(2).saturating_add(1),
         draws.below(sizes.programs),
     ];
-    let drawn = draws.below(16);
+    let drawn = draws.below(STEPS.len() as u64);
     if let Some(&(front, place)) = STEPS.get(drawn as usize) {
         add(rt, text, front);
         if let Some(number) = numbers.get(place) {
             add_number(rt, text, "", *number);
         }
     }
-    if drawn == 14 {
+    if drawn == END {
         add(rt, text, drawn_end(draws, sizes.version));
     }
     add(rt, text, "]");
 }
 
-/// A shutdown, but for the end of its text, though seldom, and in version 2 alone.
+/// A shutdown, rarely and only in version 2, otherwise a say; each without the bracket that ends it.
 fn drawn_end(draws: &mut Draws, version: u64) -> &'static str {
     if version == 2 && draws.below(3) == 0 {
         return "[\"shutdown\"";

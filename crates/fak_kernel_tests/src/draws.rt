@@ -10,12 +10,12 @@ pub struct Draws {
 }
 
 impl Draws {
-    /// The row that begins here; not at 0.
+    /// The row of this seed, any except 0.
     pub fn new(seed: u64) -> Draws {
         Draws { state: seed }
     }
 
-    /// The next number, below the bound; 0 where that is 0.
+    /// The next number, below the bound; 0 if the bound is 0.
     pub fn below(&mut self, bound: u64) -> u64
         ensures { 0 < bound → result < bound }
     {

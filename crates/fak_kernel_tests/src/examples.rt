@@ -1,4 +1,4 @@
-//! Scripts that more than one test runs, and what is found of runs of them.
+//! Scripts that more than one test runs, and checks of their runs.
 
 use fak_kernel::{
     Fault, FreeGate, Gate, Printed, Report, report_text, run, run_one, run_one_to_text, run_to_text,
@@ -55,7 +55,7 @@ pub const CURFEW: &str =
 "programs":[[["shutdown"],["say","last"],["say","never"]],[["say","a"],["say","b"]],[["down",0]]],
 "start":[0,1,2]}"#;
 
-/// Stops where this is not so, and tells what was found instead, and with which numbers.
+/// Stops the test if this is not so, and says what was found instead, and with which numbers.
 pub fn assert_with<T: Debug + Drop>(
     rt: &impl Abort,
     is_so: bool,
@@ -67,7 +67,7 @@ pub fn assert_with<T: Debug + Drop>(
     assert!(rt; is_so, "{found:?}, {number}, {processors}: {what}");
 }
 
-/// Adds each part as often as the number beside it says.
+/// Adds each part as often as its number says.
 pub fn add_parts(rt: &impl Abort, text: &mut String, parts: &[(u64, &str)]) {
     for &(times, part) in parts {
         for _ in 0..times {
@@ -93,7 +93,7 @@ pub fn report_of<R: Abort + Wait>(rt: &R, alloc: Global, script: &str) -> Report
     run_one(rt, alloc, &script).expect(rt, "a report")
 }
 
-/// The report of a script on this number of processors; without threads where it is 0.
+/// The report of a script on this number of processors, without threads if it is 0.
 pub fn run_on<R: Abort + Threads + Wait + Sync>(
     rt: &R,
     alloc: Global,
@@ -106,7 +106,7 @@ pub fn run_on<R: Abort + Threads + Wait + Sync>(
     }
 }
 
-/// What is printed where the text alone of such a run is asked for.
+/// What such a run prints that returns only the text.
 pub fn run_on_to_text<R: Abort + Threads + Wait + Sync>(
     rt: &R,
     alloc: Global,
@@ -142,32 +142,32 @@ pub fn fault_with<R: Abort + Threads + Wait + Sync, G: Gate + Sync>(
     run(rt, alloc, script, processors, gate).err()
 }
 
-/// Finds that the run ended with this fault, and that no processor was left alone.
+/// Checks that the run ended with this fault, and that no processor was left behind.
 pub fn is_left(
     rt: &impl Abort,
     found: Option<Fault>,
     wanted: Fault,
-    is_left_alone: bool,
+    is_left_behind: bool,
     chosen: u64,
     processors: u64,
 ) {
-    let what = if is_left_alone {
-        "one left alone"
+    let what = if is_left_behind {
+        "one left behind"
     } else {
         "the fault"
     };
-    let is_so = found == Some(wanted) && !is_left_alone;
+    let is_so = found == Some(wanted) && !is_left_behind;
     assert_with(rt, is_so, what, found, chosen, processors);
 }
 
-/// Finds that this is the text of a report.
+/// Checks that this is the text of a report.
 pub fn has_text(rt: &impl Abort, alloc: Global, report: &Report, processors: u64, text: &str) {
     let written = report_text(alloc, report).expect(rt, "a text");
     let is_same = written.as_slice() == text.as_bytes();
     assert_with(rt, is_same, text, "another text", 0, processors);
 }
 
-/// Finds that this text was printed, with this exit status.
+/// Checks that this text was printed, with this exit status.
 pub fn is_printed(
     rt: &impl Abort,
     printed: Result<Printed, Fault>,

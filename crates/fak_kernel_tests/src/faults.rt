@@ -1,4 +1,4 @@
-//! Faults among several processors: the others leave, and the fault of the first one is answered.
+//! Faults among several processors: the others leave, and the run returns the fault of the first one.
 
 use super::examples::{fault_of, fault_with, is_left, script_in_parts};
 use super::gates::{Chosen, Late, Second, Slow, Slowing};
@@ -17,7 +17,7 @@ const WORN: &str =
 "programs":[[["up",0],["up",0],["up",0],["up",0],["up",0]]],"start":[0]}"#;
 
 #[test]
-fn the_others_leave_where_one_is_worn(rt: HostRuntime) {
+fn the_others_leave_if_one_is_worn(rt: HostRuntime) {
     for processors in 2..9u64 {
         let gate = Late::new(NOBODY, MANY);
         let fault = fault_of(&rt, rt.alloc(), WORN, processors, &gate);
@@ -25,7 +25,7 @@ fn the_others_leave_where_one_is_worn(rt: HostRuntime) {
             &rt,
             fault,
             Fault::Worn,
-            gate.is_left_alone.is_set(),
+            gate.is_left_behind.is_set(),
             NOBODY,
             processors,
         );
@@ -41,15 +41,15 @@ fn the_others_leave_by_the_free_gate(rt: HostRuntime) {
 }
 
 #[test]
-fn the_fault_of_the_first_processor_is_answered(rt: HostRuntime) {
-    for &(refused, answered) in &[(1u64, Fault::Worn), (0, Fault::Gate)] {
+fn the_fault_of_the_first_processor_is_returned(rt: HostRuntime) {
+    for &(refused, returned) in &[(1u64, Fault::Worn), (0, Fault::Gate)] {
         let gate = Late::new(refused, MANY);
         let fault = fault_of(&rt, rt.alloc(), WORN, 2, &gate);
         is_left(
             &rt,
             fault,
-            answered,
-            gate.is_left_alone.is_set(),
+            returned,
+            gate.is_left_behind.is_set(),
             refused,
             2,
         );
@@ -57,7 +57,7 @@ fn the_fault_of_the_first_processor_is_answered(rt: HostRuntime) {
 }
 
 #[test]
-fn the_fault_of_a_later_processor_is_answered(rt: HostRuntime) {
+fn the_fault_of_a_later_processor_is_returned(rt: HostRuntime) {
     let fault = fault_of(&rt, rt.alloc(), WORN, 2, &Slow::new(MANY));
     is_left(&rt, fault, Fault::Worn, false, 0, 2);
 }
@@ -72,7 +72,7 @@ fn whoever_is_worn_the_others_leave(rt: HostRuntime) {
                 &rt,
                 fault,
                 Fault::Worn,
-                gate.is_left_alone.is_set(),
+                gate.is_left_behind.is_set(),
                 chosen,
                 processors,
             );
@@ -80,7 +80,7 @@ fn whoever_is_worn_the_others_leave(rt: HostRuntime) {
     }
 }
 
-/// Eight processes that end at once, and behind them one that wears a seat in its first turn.
+/// Eight processes that end at once, and after them one that wears a seat in its first turn.
 const WORN_BEHIND_EIGHT: [(u64, &str); 3] = [
     (
         1,
@@ -91,7 +91,7 @@ const WORN_BEHIND_EIGHT: [(u64, &str); 3] = [
 ];
 
 #[test]
-fn the_others_leave_where_each_has_seen_an_end(rt: HostRuntime) {
+fn the_others_leave_after_each_has_seen_an_end(rt: HostRuntime) {
     let script = script_in_parts(&rt, rt.alloc(), &WORN_BEHIND_EIGHT);
     for processors in 2..9u64 {
         for chosen in 0..processors {
@@ -101,7 +101,7 @@ fn the_others_leave_where_each_has_seen_an_end(rt: HostRuntime) {
                 &rt,
                 fault,
                 Fault::Worn,
-                gate.chosen.is_left_alone.is_set(),
+                gate.chosen.is_left_behind.is_set(),
                 chosen,
                 processors,
             );
@@ -109,7 +109,7 @@ fn the_others_leave_where_each_has_seen_an_end(rt: HostRuntime) {
     }
 }
 
-/// Eight processes of 1,000 turns each, so that who has all of them to himself makes 8,000 looks.
+/// Eight processes of 1,000 turns each: a processor that runs all of them makes 8,000 looks.
 const MANY_TURNS: [(u64, &str); 3] = [
     (
         1,
@@ -130,7 +130,7 @@ fn whoever_is_refused_the_others_leave(rt: HostRuntime) {
                 &rt,
                 fault,
                 Fault::Gate,
-                gate.is_left_alone.is_set(),
+                gate.is_left_behind.is_set(),
                 refused,
                 processors,
             );

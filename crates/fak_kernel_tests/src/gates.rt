@@ -1,11 +1,10 @@
-//! Gates that hold a processor until another one is somewhere, and refuse it where that does not come. Each is its two
-//! methods.
+//! Gates that hold a processor until another one has come to some look, and refuse it if that one does not come.
 
 use fak_kernel::{Gate, MOST_PROCESSORS};
 use std::hint::spin_loop;
 use std::sync::atomic::{AtomicBool, AtomicU64, Ordering};
 
-/// The looks of a processor that are many more than a run needs where the others leave.
+/// Many more looks of a processor than a run needs if the others leave.
 const MOST_LOOKS: u64 = 1_000_000;
 
 /// A flag that one processor sets and another waits for, this many turns at most.
@@ -31,7 +30,7 @@ impl Flag {
         self.is_set.load(Ordering::SeqCst)
     }
 
-    /// Waits until it is set; false where it was not.
+    /// Waits until it is set. Returns false if it was not.
     fn wait(&self) -> bool {
         for _ in 0..self.turns {
             if self.is_set() {
@@ -53,7 +52,7 @@ pub(super) struct Meeting {
 }
 
 impl Meeting {
-    /// Of two or three processors.
+    /// The meeting of two or three processors.
     pub(super) fn new(processors: u64, turns: u64) -> Meeting {
         Meeting {
             processors,
@@ -136,15 +135,15 @@ impl Gate for Refusing {
     }
 }
 
-/// Refuses the first pass of one processor once another one has come to its own, where that one waits for it. Refuses each
-/// processor that looks so often that the others must have been left alone. Where no processor has the number, nobody waits.
+/// Refuses the first pass of one processor once another one has come to its own; that one waits for it. Refuses each
+/// processor that looks so often that the others must have left it behind. If no processor has the number, nobody waits.
 #[derive(Drop)]
 pub(super) struct Late {
     refused: u64,
     has_come: Flag,
     has_begun: Flag,
-    /// Set where a processor went on looking where it should have left.
-    pub(super) is_left_alone: Flag,
+    /// Set if a processor went on looking after it should have left.
+    pub(super) is_left_behind: Flag,
 }
 
 impl Late {
@@ -154,7 +153,7 @@ impl Late {
             refused,
             has_come: Flag::new(if is_anybody_refused { turns } else { 0 }),
             has_begun: Flag::new(turns),
-            is_left_alone: Flag::new(0),
+            is_left_behind: Flag::new(0),
         }
     }
 }
@@ -177,7 +176,7 @@ impl Gate for Late {
         if step < MOST_LOOKS {
             return true;
         }
-        self.is_left_alone.set();
+        self.is_left_behind.set();
         false
     }
 }
@@ -217,15 +216,15 @@ impl Gate for Slow {
     }
 }
 
-/// Lets one processor work alone: holds the first pass of each other until that one has come to its own and had time for
-/// its look. Refuses each that looks so often that it must have been left alone.
+/// Lets only one processor work: holds the first pass of each other until that one has come to its own and had time for
+/// its look. Refuses each that looks so often that the others must have left it behind.
 #[derive(Drop)]
 pub(super) struct Chosen {
     chosen: u64,
     turns: u64,
     has_begun: Flag,
-    /// Set where a processor went on looking where it should have left.
-    pub(super) is_left_alone: Flag,
+    /// Set if a processor went on looking after it should have left.
+    pub(super) is_left_behind: Flag,
 }
 
 impl Chosen {
@@ -234,7 +233,7 @@ impl Chosen {
             chosen,
             turns,
             has_begun: Flag::new(turns),
-            is_left_alone: Flag::new(0),
+            is_left_behind: Flag::new(0),
         }
     }
 
@@ -262,13 +261,13 @@ impl Gate for Chosen {
         if step < MOST_LOOKS {
             return true;
         }
-        self.is_left_alone.set();
+        self.is_left_behind.set();
         false
     }
 }
 
-/// Lets each processor make one look, and one processor work alone from its second on, which waits for the others to come
-/// to theirs. From there they are held as `Chosen` holds them.
+/// Lets each processor make one look. The second look of one processor waits for the others to come to theirs, and from
+/// then on only that processor works, as `Chosen` has it.
 #[derive(Drop)]
 pub(super) struct Second {
     others: u64,
@@ -318,14 +317,14 @@ impl Gate for Second {
 }
 
 /// Refuses the first pass of one processor. Each other waits for that, and is slow from then on. One that comes to its
-/// look of number `most` must have been left alone.
+/// look of number `most` must have been left behind.
 #[derive(Drop)]
 pub(super) struct Slowing {
     refused: u64,
     most: u64,
     is_refused: Flag,
-    /// Set where a processor went on looking where it should have left.
-    pub(super) is_left_alone: Flag,
+    /// Set if a processor went on looking after it should have left.
+    pub(super) is_left_behind: Flag,
 }
 
 impl Slowing {
@@ -334,7 +333,7 @@ impl Slowing {
             refused,
             most,
             is_refused: Flag::new(turns),
-            is_left_alone: Flag::new(0),
+            is_left_behind: Flag::new(0),
         }
     }
 }
@@ -351,7 +350,7 @@ impl Gate for Slowing {
         }
         self.is_refused.wait();
         if step >= self.most {
-            self.is_left_alone.set();
+            self.is_left_behind.set();
         }
         for _ in 0..500_000u64 {
             spin_loop();
@@ -360,8 +359,8 @@ impl Gate for Slowing {
     }
 }
 
-/// Lets one processor do all the work, and counts its looks: holds the first pass of each other until that one comes to
-/// its look of number `last`.
+/// Lets only one processor work, and counts its looks: holds the first pass of each other until that one comes to its look
+/// of number `last`.
 #[derive(Drop)]
 pub(super) struct Alone {
     chosen: u64,

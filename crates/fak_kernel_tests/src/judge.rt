@@ -11,7 +11,7 @@ use fak_text::Script;
 use std::alloc::Global;
 use std::process::Abort;
 
-/// Finds that the report of this script, by this number of processors, breaks no promise.
+/// Checks that the report of this script, by this number of processors, breaks no promise.
 pub(super) fn keeps_promises(
     rt: &impl Abort,
     alloc: Global,
@@ -38,7 +38,7 @@ pub(super) fn broken_promise(
     Some("files")
 }
 
-/// The same, but for the files.
+/// The same, except for the files.
 fn broken_row(script: &Script, report: &Report) -> Option<&'static str> {
     let rows = report.rows.as_slice();
     if report.version != script.version() || report.bound != script.births() {

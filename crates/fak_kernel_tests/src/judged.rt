@@ -60,7 +60,7 @@ fn apply_to_row(row: &mut ProcessRow, what: Change) -> bool {
     true
 }
 
-/// What the judge says of the changed report, where it said nothing before.
+/// What the judge says of the changed report, if it said nothing before.
 fn verdict_after(
     rt: &impl Abort,
     alloc: Global,

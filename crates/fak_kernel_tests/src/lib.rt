@@ -1,12 +1,14 @@
-//! The tests of `fak_kernel`, in a crate of their own, so that its proofs are checked once: that the definitions are
-//! those of the formats, by scripts whose reports are known; that a run with ample memory answers; and runs on several
-//! processors, whose reports a plain checker of what a run conserves judges.
+//! The tests of `fak_kernel`, in a crate of their own, so that its proofs are checked once. Scripts with known reports
+//! check that the definitions are those of the formats, and that a run with ample memory returns a report. A plain checker
+//! of what a run conserves judges the reports of runs on several processors.
 #![tactic(auto)]
 
 mod draws;
 
 pub use draws::Draws;
 
+#[cfg(test)]
+mod drawn_scripts;
 #[cfg(test)]
 mod examples;
 #[cfg(test)]
@@ -19,8 +21,6 @@ mod judge;
 mod judged;
 #[cfg(test)]
 mod runs;
-#[cfg(test)]
-mod scripting;
 #[cfg(test)]
 mod scripts;
 #[cfg(test)]

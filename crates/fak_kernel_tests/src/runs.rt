@@ -1,12 +1,12 @@
 //! Runs on several processors: each report is judged, and gates show that the processors run at once.
 
+use super::drawn_scripts::drawn_script;
 use super::examples::{
     CURFEW, PING_PONG, PING_PONG_REPORT, READER, READER_REPORT, add_parts, assert_with, fault_of,
     has_text, is_left, is_printed, run_on, run_on_to_text, script_in_parts, script_of,
 };
 use super::gates::{Holding, Meeting, Refusing};
 use super::judge::keeps_promises;
-use super::scripting::drawn_script;
 use crate::Draws;
 use fak_kernel::{Fault, FreeGate, Gate, Printed, Report, report_text, run, run_to_text};
 use fak_text::Script;
@@ -16,7 +16,7 @@ use std::process::Abort;
 use std::sync::Wait;
 use std::thread::Threads;
 
-/// A processor is held this many turns at most, where another one comes, and where none does.
+/// A processor is held this many turns at most, if another one comes, and if none does.
 const MANY: u64 = 100_000_000;
 
 const FEW: u64 = 1_000;
@@ -38,7 +38,7 @@ fn report_on<R: Abort + Threads + Wait + Sync, G: Gate + Sync>(
     run(rt, alloc, script, processors, gate).expect(rt, "a report")
 }
 
-/// Finds that a run has this report.
+/// Checks that a run has this report.
 fn reports<R: Abort + Threads + Wait + Sync, G: Gate + Sync>(
     rt: &R,
     alloc: Global,
@@ -52,7 +52,7 @@ fn reports<R: Abort + Threads + Wait + Sync, G: Gate + Sync>(
     has_text(rt, alloc, &report, processors, text);
 }
 
-/// Finds that a run ends with this fault.
+/// Checks that a run ends with this fault.
 fn fails<R: Abort + Threads + Wait + Sync, G: Gate + Sync>(
     rt: &R,
     alloc: Global,
@@ -65,7 +65,7 @@ fn fails<R: Abort + Threads + Wait + Sync, G: Gate + Sync>(
     is_left(rt, fault, wanted, false, 0, processors);
 }
 
-/// Finds that this many processors meet, and that one less is refused.
+/// Checks that this many processors meet, and that one less is refused.
 fn meet<R: Abort + Threads + Wait + Sync>(rt: &R, alloc: Global, processors: u64) {
     let gate = Meeting::new(processors, MANY);
     assert!(rt; gate.may_refuse());
@@ -113,7 +113,7 @@ fn known_reports_on_1_to_8(rt: HostRuntime) {
     }
 }
 
-/// What a run prints that is asked for its text alone.
+/// What a run prints that returns only the text.
 fn printed_on<R: Abort + Threads + Wait + Sync>(
     rt: &R,
     alloc: Global,
@@ -124,7 +124,7 @@ fn printed_on<R: Abort + Threads + Wait + Sync>(
     run_to_text(rt, alloc, &script, processors, &FreeGate)
 }
 
-/// Finds that such a run prints this, with status 0.
+/// Checks that such a run prints this, with status 0.
 fn prints<R: Abort + Threads + Wait + Sync>(
     rt: &R,
     alloc: Global,
@@ -269,7 +269,7 @@ fn lines_of(text: &[u8]) -> u64 {
     lines
 }
 
-/// Finds that both texts are the same, and have this many lines.
+/// Checks that both texts are the same, and have this many lines.
 fn are_same(rt: &impl Abort, whole: &[u8], printed: &[u8], lines: u64, processors: u64) {
     let found = lines_of(whole);
     let is_same = whole == printed && found == lines;
@@ -283,7 +283,7 @@ fn are_same(rt: &impl Abort, whole: &[u8], printed: &[u8], lines: u64, processor
     );
 }
 
-/// Finds that this is the same text as a run prints that is asked for its text alone.
+/// Checks that this is the text that a run prints that returns only the text.
 fn is_the_same_text<R: Abort + Threads + Wait + Sync>(
     rt: &R,
     alloc: Global,

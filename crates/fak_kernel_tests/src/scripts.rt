@@ -9,7 +9,7 @@ use std::alloc::Global;
 use std::process::Abort;
 use std::sync::Wait;
 
-/// Finds that the report of a script on one processor has this text and exit status.
+/// Checks that the report of a script on one processor has this text and exit status.
 fn is_reported<R: Abort + Wait>(rt: &R, alloc: Global, script: &str, text: &str, status: u8) {
     let report = report_of(rt, alloc, script);
     has_text(rt, alloc, &report, 0, text);
@@ -17,7 +17,7 @@ fn is_reported<R: Abort + Wait>(rt: &R, alloc: Global, script: &str, text: &str,
     assert_with(rt, found == status, text, found, status as u64, 0);
 }
 
-/// Finds the same of the report, and of what is printed where the text alone is asked for.
+/// Checks the same of the report, and of what a run prints that returns only the text.
 pub(super) fn answers<R: Abort + Wait>(
     rt: &R,
     alloc: Global,

@@ -5,7 +5,7 @@ use fak_kernel::Fault;
 use std::alloc::Global;
 use std::process::Abort;
 
-/// Finds that the fault is written so.
+/// Checks that the fault is written so.
 fn is_written(rt: &impl Abort, alloc: Global, fault: Fault, want: &str) {
     let text = fault.to_string(alloc).expect(rt, want);
     assert_with(rt, text.as_str() == want, want, fault, 0, 0);

@@ -43,7 +43,7 @@ impl Counting {
         !self.is_wrong.load(Ordering::SeqCst)
     }
 
-    /// The most looks of a processor; 0 where there is a fault, or where it was told wrongly.
+    /// The most looks of a processor; 0 if there is a fault, or if the gate was told wrongly.
     fn answer(&self, fault: Option<Fault>) -> u64 {
         if fault.is_none() && self.is_right() {
             return self.most();
@@ -110,8 +110,8 @@ const VERY_MANY_TURNS: [(u64, &str); 9] = [
     (1, "]}"),
 ];
 
-/// A script of 63 turns: the first process shuts the ready queue, and each process halts after its turn, of which one half
-/// is longer by a step.
+/// A script of 63 turns: the first process shuts the ready queue, and each process halts after its turn. Half of the turns
+/// are longer by a step.
 const MANY_HALTS: [(u64, &str); 3] = [
     (
         1,
@@ -122,7 +122,7 @@ const MANY_HALTS: [(u64, &str); 3] = [
     (1, "]}"),
 ];
 
-/// The most looks of a processor; 0 where there is no report, or where the gate was told wrongly.
+/// The most looks of a processor; 0 if there is no report, or if the gate was told wrongly.
 fn most_looks<R: Abort + Threads + Wait + Sync>(
     rt: &R,
     alloc: Global,
@@ -143,7 +143,7 @@ fn each_processor_tells_its_own_number_and_its_looks(rt: HostRuntime) {
     }
 }
 
-/// Finds the looks of the processor that did all the work: one for each turn, and the last, which finds no process.
+/// Checks the looks of the processor that did all the work: one for each turn, and the last, which finds no process.
 fn has_looked(rt: &impl Abort, looks: u64, turns: u64, chosen: u64, processors: u64) {
     let is_so = looks == turns.saturating_add(1);
     assert_with(
@@ -156,7 +156,7 @@ fn has_looked(rt: &impl Abort, looks: u64, turns: u64, chosen: u64, processors: 
     );
 }
 
-/// Finds that one processor asks before each of its looks.
+/// Checks that one processor asks before each of its looks.
 fn asks_before_each<R: Abort + Threads + Wait + Sync>(
     rt: &R,
     alloc: Global,
@@ -177,7 +177,7 @@ fn a_processor_asks_before_each_look(rt: HostRuntime) {
     asks_before_each(&rt, rt.alloc(), &MANY_HALTS, 63);
 }
 
-/// The looks of a processor that works alone among this many; 0 where there is no report.
+/// The looks of a processor that does all the work among this many; 0 if there is no report.
 fn looks_alone<R: Abort + Threads + Wait + Sync>(
     rt: &R,
     alloc: Global,
@@ -193,7 +193,7 @@ fn looks_alone<R: Abort + Threads + Wait + Sync>(
     }
 }
 
-/// Finds the same of each of 2 to 8 processors that works alone.
+/// Checks the same of each of 2 to 8 processors that does all the work.
 fn asks_wherever_it_works<R: Abort + Threads + Wait + Sync>(
     rt: &R,
     alloc: Global,

@@ -2,7 +2,7 @@
 
 use super::scripts::answers;
 
-/// A stat, a close and a spawn that come to nothing, in the middle of a turn. The second process finds no free entry.
+/// A stat, a close and a spawn that are refused, in the middle of a turn. The second process finds no free entry.
 const REFUSED: &str = r#"{"version":1,"slots":2,"births":0,"quantum":9,"semaphores":[],"files":1,
 "programs":[[["stat",7],["close",7],["spawn",1],["open",7],["stat",7]],[["open",8],["stat",7]]],"start":[0,1]}"#;
 
@@ -38,7 +38,7 @@ births 0 of 1
 ended 2 stuck 0
 ";
 
-/// Every kind of step but a yield in one turn. Only the last, a stat, tells whether another process ran meanwhile.
+/// Every kind of step except a yield in one turn. Only the last, a stat, shows whether another process ran meanwhile.
 const UNHURRIED: &str =
     r#"{"version":2,"slots":4,"births":2,"quantum":20,"semaphores":[0,0],"files":2,
 "programs":[

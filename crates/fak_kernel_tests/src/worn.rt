@@ -9,7 +9,7 @@ use std::process::Abort;
 use std::sync::Wait;
 use std::thread::Threads;
 
-/// A script, but for its stint, and the least stint with which it ends.
+/// A script, except for its stint, and the least stint with which it ends.
 type Case = (&'static str, u64);
 
 /// One process makes its calls in one turn, or processor 0 makes them before the first: the object's seat is the same on
@@ -46,7 +46,7 @@ const IN_ONE_TURN: [Case; 7] = [
     ),
 ];
 
-/// A process of many turns: who has it wears the seat at the ready queue, by a look or by the end of a turn.
+/// A process of many turns: the processor that has it wears its seat at the ready queue, by a look or by the end of a turn.
 const OF_TURNS: &str = r#"{"version":1,"slots":1,"births":0,"quantum":9,"semaphores":[],"files":1,
 "programs":[[["yield"],["yield"],["yield"],["yield"],["yield"],["yield"]]],"start":[0],"#;
 
@@ -99,7 +99,7 @@ fn with_stint(rt: &impl Abort, alloc: Global, front: &str, stint: u64) -> Script
     script_of(rt, alloc, &text)
 }
 
-/// The faults of the script with this stint, as a report and as a text; without threads where no processor is named.
+/// The faults of the script with this stint, as a report and as a text; without threads if the number is 0.
 fn faults_on<R: Abort + Threads + Wait + Sync>(
     rt: &R,
     alloc: Global,
@@ -113,7 +113,7 @@ fn faults_on<R: Abort + Threads + Wait + Sync>(
     (whole, printed)
 }
 
-/// Finds that both are this fault, or that there is none.
+/// Checks that both are this fault, or that there is none.
 fn has_fault<R: Abort + Threads + Wait + Sync>(
     rt: &R,
     alloc: Global,
@@ -127,7 +127,7 @@ fn has_fault<R: Abort + Threads + Wait + Sync>(
     assert_with(rt, is_so, front, (whole, printed), stint, processors);
 }
 
-/// Finds that the script is worn with each stint below the least, and ends with the least.
+/// Checks that the script is worn with each stint below the least, and ends with the least.
 fn is_worn_below<R: Abort + Threads + Wait + Sync>(
     rt: &R,
     alloc: Global,
@@ -169,7 +169,7 @@ fn a_seat_is_worn_by_many_turns(rt: HostRuntime) {
     }
 }
 
-/// Finds that the script is worn where one of these processors works alone.
+/// Checks that the script is worn if only one of these processors works.
 fn is_worn_by<R: Abort + Threads + Wait + Sync>(
     rt: &R,
     alloc: Global,

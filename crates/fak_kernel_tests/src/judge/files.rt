@@ -84,7 +84,7 @@ fn add_next(
     }
 }
 
-/// Adds the node after this line of this row, where the line could give what it gave. Whether it changes nothing.
+/// Adds the node after this line of this row, if the line could give what it gave. Returns whether it changes nothing.
 fn add_after(
     rt: &impl Abort,
     alloc: Global,

@@ -1,10 +1,10 @@
-//! Rows beside their programs.
+//! Rows compared with their programs.
 
 use super::lines::count;
 use fak_kernel::{Outcome, ProcessRow};
 use fak_text::{Note, Script, Step};
 
-/// Each journal goes with the first steps of its program, and each process is left where its outcome allows.
+/// Whether each journal fits the first steps of its program, and each process is left at a step that its outcome allows.
 pub fn all_fit(script: &Script, rows: &[ProcessRow]) -> bool {
     let is_shut = count(rows, &Note::Shutdown) > 0;
     for row in rows {
@@ -17,13 +17,13 @@ pub fn all_fit(script: &Script, rows: &[ProcessRow]) -> bool {
 
 fn fits(script: &Script, row: &ProcessRow, is_shut: bool) -> bool {
     match script.programs().get(row.program as usize) {
-        Some(steps) => stands_beside(steps.as_slice(), row)
+        Some(steps) => fits_its_program(steps.as_slice(), row)
             && is_left(steps.as_slice(), row, is_shut),
         None => false,
     }
 }
 
-fn stands_beside(steps: &[Step], row: &ProcessRow) -> bool {
+fn fits_its_program(steps: &[Step], row: &ProcessRow) -> bool {
     let made = row.journal.len();
     let mut children = 0u64;
     for (step, note) in steps.iter().zip(row.journal.iter()) {
@@ -34,7 +34,7 @@ fn stands_beside(steps: &[Step], row: &ProcessRow) -> bool {
     made <= steps.len() && row.position == made as u64
 }
 
-/// The step may have this result, where this many children were begun, and maybe one more is then.
+/// Whether the step may have this result after this many children. Counts one more if the step began one.
 fn allows(step: &Step, note: &Note, children: &mut u64) -> bool {
     match (step, note) {
         (Step::Say(text), Note::Say(said)) => text.as_str() == said.as_str(),
@@ -65,7 +65,7 @@ fn is_left(steps: &[Step], row: &ProcessRow, is_shut: bool) -> bool {
     }
 }
 
-/// Slots are in range, and rows that haven't ended have different ones.
+/// Whether slots are in range, and rows that have not ended have different ones.
 pub fn have_own_slots(script: &Script, rows: &[ProcessRow]) -> bool {
     let slots = script.slots();
     for row in rows {

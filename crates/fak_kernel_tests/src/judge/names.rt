@@ -4,7 +4,7 @@ use super::lines::{births, count};
 use fak_kernel::{ProcessRow, Report};
 use fak_text::{Note, Script, Step};
 
-/// Each name is above the one before, and the first is not empty.
+/// Whether each name is above the one before, and the first is not empty.
 pub fn rise(rows: &[ProcessRow]) -> bool {
     let mut last: &[u64] = &[];
     for row in rows {
@@ -17,7 +17,7 @@ pub fn rise(rows: &[ProcessRow]) -> bool {
     true
 }
 
-/// Each row is of a process that was started, or of a child that a row names, with its program.
+/// Whether each row belongs to a process that was started, or to a child that a row names, with its program.
 pub fn have_origins(script: &Script, rows: &[ProcessRow]) -> bool {
     for row in rows {
         if program_of(script, rows, row) != Some(row.program) {
@@ -59,7 +59,8 @@ fn child_program(script: &Script, parent: &ProcessRow, number: u64) -> Option<u6
     None
 }
 
-/// There is a row for each process that was started or spawned, births are counted, and were refused at the bound alone.
+/// Whether there is a row for each process that was started or spawned, and births are counted, and were refused only at
+/// the bound.
 pub fn are_counted(script: &Script, report: &Report) -> bool {
     let rows = report.rows.as_slice();
     let spawned = births(rows);
