@@ -1,5 +1,5 @@
 -- What the steps of a bundle ask of its token, and what they leave.
-use Rattle.std.specs.Prelude.{ℕ, ◌≡◌, ◌≤◌, ◌^◌, List, [], ◌++◌, length}
+use Rattle.std.specs.Prelude.{ℕ, ◌≡◌, ◌≤◌, List, [], ◌++◌, length}
 use Rattle.atomic_table.specs.Seated.{TableId}
 use Rattle.fak_model.specs.Seats.{In}
 use Rattle.fak_core.specs.QueueBlocks.{AreApart, Posts, names_of}
@@ -35,11 +35,11 @@ pub record IsNameAt {T : Type 0} (id : TableId) (key : QueueLimits) (seats : ℕ
   pub name : In own token.me.0.names
   pub phase : stands token.me
 
--- the token of a bundle that holds tickets below `last` of a queue of this size, and no slot
-pub record IsWorkToken {T : Type 0} (id : TableId) (key : QueueLimits) (size last : ℕ) (stands : QueueHolder T → Type 0) (token : QueueToken T) : Type 0 where
+-- the token of a bundle of these names at a queue of this size, which holds no slot, and whose names stand so
+pub record IsWorkToken {T : Type 0} (id : TableId) (key : QueueLimits) (size : ℕ) (own : List ℕ) (stands : QueueHolder T → Type 0) (token : QueueToken T) : Type 0 where
   pub table : FitsTable token.table_id id key key.seats
   pub cells : size ≡ id.slots
-  pub tickets : last ≤ 2 ^ 50
+  pub names : AreApart own × (length own ≤ 1024)
   pub slots : token.me.1 ≡ []
   pub lawful : IsLawful id.slots key.seats token.me.0
   pub phase : stands token.me

@@ -55,7 +55,7 @@ impl<T: Drop> Bundle<T> {
         Ok(gathered(queue, seats, names, kept))
     }
 
-    /// Its seats, in its order, each with an equal share of the tickets that are left. Where these don't come out even, some have one
+    /// Its seats, in its order, each with an equal share of the tickets that are left. If these don't come out even, some have one
     /// more. The seats pause in their calls as new ones do.
     ///
     /// # Errors

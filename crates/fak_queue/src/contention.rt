@@ -1,19 +1,19 @@
 //! How a seat leaves its queue to others for a while.
 //!
-//! Two seats that call by turns fetch each cache line from one another in each call. So where a test finds that others have
-//! changed its count since the seat's last call, the seat soon pauses by `Backoff`: before an `insert` or a `delete`, or where
-//! `Queue::pause` is called. Meanwhile another seat runs alone, with each line at hand.
+//! Two seats that call by turns fetch each cache line from one another in each call. So if a test finds that others have
+//! changed its count since the seat's last call, the seat soon pauses by `Backoff`: before an `insert` or a `delete`, or when
+//! `Queue::pause` is called. Meanwhile another seat has each line at hand.
 //!
 //! A pause takes as long as some hundred calls, and at most one call in 100 pauses. So 99 of 100 calls are as fast as without
-//! pauses, and faster where the others pause. A claim never pauses, and no contract sees a pause.
+//! pauses, and faster if the others pause. A claim never pauses, and no contract sees a pause.
 
 use crossbeam_utils::Backoff;
 
 /// The tickets that a seat draws for each of its pauses: a little more than 100.
 const TICKETS_FOR_A_PAUSE: u64 = 112;
 
-/// A seat saves tickets for this many pauses at most. Where many seats meet at once, they need a few pauses in a row before one
-/// of them is alone.
+/// A seat saves tickets for this many pauses at most. If many seats meet at once, they need a few pauses in a row before one
+/// of them is left.
 const MOST_SAVED_PAUSES: u64 = 4;
 
 /// A seat draws this many tickets at least between two pauses. So of two seats that meet, the one that has just paused goes on.
@@ -64,7 +64,7 @@ impl SharedCounts {
         }
     }
 
-    /// A test of the upper count has found this word. Nothing is written where it is the expected one, since an atomic step
+    /// A test of the upper count has found this word. Nothing is written if it is the expected one, since an atomic step
     /// waits for the writes before it.
     pub(crate) fn found_upper(&mut self, found: u64) {
         if found != self.upper {
@@ -105,14 +105,14 @@ impl SharedCounts {
         self.lower = self.lower.wrapping_sub(1);
     }
 
-    /// Pauses in a call, where the seat's calls pause by themselves.
+    /// Pauses in a call, if the seat's calls pause by themselves.
     pub(crate) fn pause_in_call(&mut self, size: u64, left: u64) {
         if self.pauses_in_calls {
             self.pause_where_contended(size, left);
         }
     }
 
-    /// Pauses where others changed a count, and the seat has drawn tickets enough for a pause.
+    /// Pauses if others changed a count and the seat has drawn tickets enough for a pause.
     pub(crate) fn pause_where_contended(&mut self, size: u64, left: u64) {
         if !self.is_contended {
             return;

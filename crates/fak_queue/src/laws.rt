@@ -36,7 +36,7 @@ pub fn a_slot_is_out_while_its_cell_has_an_owner<T>()
         → (get_elem? s.homes cell ≡ some none) ↔ ((a : ℕ) × InCell key.size (shown.core.phase a) cell) }
 {}
 
-/// The shut bit is set in the word of the upper count exactly where the history that is shown has a `Close`.
+/// The shut bit is set in the word of the upper count exactly if the history that is shown has a `Close`.
 pub fn the_shut_bit_tells_of_a_close<T>()
     ensures { (key : QueueLimits) (s : State (Option T) (QueueView T)) (shown : IsShownQueue key s)
         → (shut_bit ≤ slice_index s.words upper_word) ↔ Has Close shown.core.past }
@@ -49,7 +49,7 @@ pub fn names_beyond_the_seats_are_idle<T>()
 {}
 
 /// A running queue never locks up: while a call is open, the next atomic step of one of the queue's seats moves its call
-/// forward. Where the call holds a ticket, so does that of one that holds a ticket of the same cell; where it holds none, its
+/// forward. If the call holds a ticket, so does that of one that holds a ticket of the same cell; if it holds none, its
 /// own does.
 pub fn a_running_queue_never_locks_up<T>()
     ensures call { (key : QueueLimits) (s : State (Option T) (QueueView T)) (shown : IsShownQueue key s) → (a : ℕ)

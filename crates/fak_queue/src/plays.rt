@@ -1,4 +1,4 @@
-//! What each atomic step of a seat tells it. These types are for the proofs alone.
+//! What each atomic step of a seat tells it. Only the proofs use these types.
 
 ghost use Rattle.std.specs.Prelude.{ℕ, Option, None};
 ghost use Rattle.fak_queue.specs.Steps.{

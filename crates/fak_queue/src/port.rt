@@ -37,7 +37,7 @@ impl<'q, T: Drop> Port<'q, T> {
         Port { queue, seat }
     }
 
-    /// Inserts the item by one attempt, and answers its ticket.
+    /// Inserts the item by one attempt, and returns its ticket.
     ///
     /// # Errors
     ///
@@ -51,7 +51,7 @@ impl<'q, T: Drop> Port<'q, T> {
         self.queue.insert(rt, &mut self.seat, item)
     }
 
-    /// Deletes the oldest item by one attempt, and answers its ticket and the item.
+    /// Deletes the oldest item by one attempt, and returns its ticket and the item.
     ///
     /// # Errors
     ///
@@ -65,7 +65,7 @@ impl<'q, T: Drop> Port<'q, T> {
         self.queue.delete(rt, &mut self.seat)
     }
 
-    /// Inserts the item, and waits while the queue is full. Answers its ticket.
+    /// Inserts the item, and waits while the queue is full. Returns its ticket.
     ///
     /// # Errors
     ///
@@ -80,7 +80,7 @@ impl<'q, T: Drop> Port<'q, T> {
         self.queue.wait_insert(rt, &mut self.seat, item)
     }
 
-    /// Deletes the oldest item, and waits while the queue is empty. Answers its ticket and the item.
+    /// Deletes the oldest item, and waits while the queue is empty. Returns its ticket and the item.
     ///
     /// # Errors
     ///
@@ -135,7 +135,7 @@ impl<'q, T: Drop> Port<'q, T> {
         self.queue.is_drained(&mut self.seat)
     }
 
-    /// Leaves the queue to others for a while, where since the last pause a call has found that others use it too
+    /// Leaves the queue to others for a while if since the last pause a call has found that others use it too
     /// (`Queue::pause`).
     pub fn pause(&mut self)
         ensures queue { self.new.queue ≡ self.old.queue }

@@ -147,8 +147,8 @@ impl<T: Drop> Queue<T> {
         Ok((Queue { table, cells }, dealt))
     }
 
-    /// Inserts the item by one attempt: one claim, and where it is granted tries until it is the cell's turn. Answers the
-    /// ticket.
+    /// Inserts the item by one attempt: one claim, and if it is granted, tries until it is the cell's turn. Returns
+    /// the ticket.
     ///
     /// # Errors
     ///
@@ -185,8 +185,8 @@ impl<T: Drop> Queue<T> {
         }
     }
 
-    /// Deletes the oldest item by one attempt: one claim, and where it is granted tries until it is the cell's turn. Answers
-    /// the ticket and the item.
+    /// Deletes the oldest item by one attempt: one claim, and if it is granted, tries until it is the cell's turn.
+    /// Returns the ticket and the item.
     ///
     /// # Errors
     ///
@@ -216,7 +216,7 @@ impl<T: Drop> Queue<T> {
         }
     }
 
-    /// Inserts the item, and tries again while the queue is full. Answers the ticket.
+    /// Inserts the item, and tries again while the queue is full. Returns the ticket.
     ///
     /// # Errors
     ///
@@ -249,7 +249,7 @@ impl<T: Drop> Queue<T> {
         unreachable!()
     }
 
-    /// Deletes the oldest item, and tries again while the queue is empty. Answers the ticket and the item.
+    /// Deletes the oldest item, and tries again while the queue is empty. Returns the ticket and the item.
     ///
     /// # Errors
     ///
@@ -309,8 +309,8 @@ impl<T: Drop> Queue<T> {
         }
     }
 
-    /// Where it is the cell's turn, moves the item into it, ends the insertion and answers its ticket. Else the seat is
-    /// as before.
+    /// If it is the cell's turn, moves the item into it, ends the insertion and returns its ticket. Else the seat is as
+    /// before.
     pub fn try_fill(&self, seat: &mut Seat<T>) -> Option<u64>
         requires object { seat.old.object ≡ self.now.object }
         requires inserting { (k : ℕ) × (state_of seat.old ≡ Inserting k) }
@@ -361,7 +361,7 @@ impl<T: Drop> Queue<T> {
         }
     }
 
-    /// Where it is the cell's turn, moves the item out of it, ends the deletion and answers its ticket and the item. Else
+    /// If it is the cell's turn, moves the item out of it, ends the deletion and returns its ticket and the item. Else
     /// the seat is as before.
     pub fn try_take(&self, seat: &mut Seat<T>) -> Option<(u64, T)>
         requires object { seat.old.object ≡ self.now.object }
@@ -387,7 +387,7 @@ impl<T: Drop> Queue<T> {
         ))
     }
 
-    /// Leaves the queue to others for a while, where since the seat's last pause a call has found that others use it too. It
+    /// Leaves the queue to others for a while if since the seat's last pause a call has found that others use it too. It
     /// spins, for some 40 microseconds at most in code that LLVM builds, and waits for nobody.
     ///
     /// `insert`, `delete` and the calls that wait begin so by themselves, unless `Seat::set_pauses_in_calls` says that they

@@ -56,7 +56,7 @@ impl<T> Seat<T> {
     }
 
     /// Says whether `insert`, `delete` and the calls that wait begin with `Queue::pause`. At first they do, and items pass
-    /// faster. Where they don't, no call takes much longer than its steps. No contract sees a pause.
+    /// faster. If they don't, no call takes much longer than its steps. No contract sees a pause.
     pub fn set_pauses_in_calls(&mut self, pauses: bool)
         ensures { self.new ≡ self.old }
     {

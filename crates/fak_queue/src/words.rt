@@ -4,7 +4,7 @@
 //!
 //! - The upper count U: insertions that were claimed, or claimed beyond the bound and not withdrawn yet, less the
 //!   deletions that have ended. An insertion tests U and adds 1 to it before it draws a ticket. A deletion ends by
-//!   subtracting 1. Where the queue is shut the word's top bit is set.
+//!   subtracting 1. If the queue is shut, the word's top bit is set.
 //! - The lower count L: insertions that have ended, less the deletions that were claimed, or claimed below 1 and not
 //!   withdrawn yet. A deletion tests L and subtracts 1 from it. An insertion ends by adding 1.
 //! - The ticket counters I and D: the next ticket of an insertion, and of a deletion. Ticket k has cell k mod size in
@@ -40,7 +40,7 @@ pub(crate) const DRAWS_OUT: usize = DRAWS_IN + MARGIN;
 /// The first cell's turn.
 pub(crate) const TURNS: usize = DRAWS_OUT + MARGIN;
 
-/// The bit of the upper count's word that is set where the queue is shut.
+/// The bit of the upper count's word that is set if the queue is shut.
 pub(crate) const SHUT: u64 = 1 << 63;
 
 /// Whether this word of the upper count says that there is room in a queue of this size, or why not.

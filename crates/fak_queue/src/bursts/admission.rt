@@ -18,7 +18,7 @@ use crate::words::read_upper;
 use fak_model::BIAS;
 use std::marker::Brand;
 
-/// Takes back what was added for the names that are over. The names and the items are for the proof alone.
+/// Takes back what was added for the names that are over. Only the proof uses the names and the items.
 fn back_over<T>(
     words: &QueueWords<T>,
     token: &mut QueueToken<T>,
@@ -48,7 +48,7 @@ fn back_over<T>(
     }
 }
 
-/// Claims room for these items, as many as find it, and answers their number. The names and the items are for the proof alone.
+/// Claims room for these items, as many as find it, and returns their number. Only the proof uses the names and the items.
 pub(crate) fn claim_room<T>(
     words: &QueueWords<T>,
     token: &mut QueueToken<T>,
@@ -86,8 +86,8 @@ pub(crate) fn claim_room<T>(
     }
 }
 
-/// Claims room for these items, as many as find it, and draws their tickets: answers the first, and their number. The names and
-/// the items are for the proof alone.
+/// Claims room for these items, as many as find it, and draws their tickets: returns the first, and their number. Only the
+/// proof uses the names and the items.
 pub(crate) fn admit_burst<T>(
     words: &QueueWords<T>,
     token: &mut QueueToken<T>,

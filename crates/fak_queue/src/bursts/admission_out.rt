@@ -16,7 +16,7 @@ use crate::words::read_lower;
 use fak_model::BIAS;
 use std::marker::Brand;
 
-/// Gives back what was subtracted for the names that are over. The names are for the proof alone.
+/// Gives back what was subtracted for the names that are over. Only the proof uses the names.
 fn back_over_low<T>(
     words: &QueueWords<T>,
     token: &mut QueueToken<T>,
@@ -40,7 +40,7 @@ fn back_over_low<T>(
     }
 }
 
-/// Claims this many items, or as many as there are, and answers their number. The names are for the proof alone.
+/// Claims this many items, or as many as there are, and returns their number. Only the proof uses the names.
 pub(crate) fn claim_stock<T>(
     words: &QueueWords<T>,
     token: &mut QueueToken<T>,
@@ -75,8 +75,8 @@ pub(crate) fn claim_stock<T>(
     }
 }
 
-/// Claims this many items, or as many as there are, and draws their tickets: answers the first, and their number. The names are for
-/// the proof alone.
+/// Claims this many items, or as many as there are, and draws their tickets: returns the first, and their number. Only the
+/// proof uses the names.
 pub(crate) fn admit_burst_out<T>(
     words: &QueueWords<T>,
     token: &mut QueueToken<T>,

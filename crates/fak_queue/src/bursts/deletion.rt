@@ -21,8 +21,8 @@ use crate::place::Place;
 use crate::steps::{QueueToken, QueueWords};
 use crate::words::{DRAWS_OUT, LOWER, TURNS, UPPER};
 
-/// Tests the lower count for the burst's names, and answers its word. The names and the number of those that take part are for the
-/// proof alone.
+/// Tests the lower count for the burst's names, and returns its word. Only the proof uses the names and the number of
+/// those that take part.
 pub(crate) fn test_low_burst<T, J: Takers<T>>(
     words: &QueueWords<T>,
     token: &mut QueueToken<T>,
@@ -38,7 +38,7 @@ pub(crate) fn test_low_burst<T, J: Takers<T>>(
     words.load::<TestLowBurstPlay<J>>(token, LOWER)
 }
 
-/// Subtracts the number of the burst's names from the lower count, and answers what it was before.
+/// Subtracts the number of the burst's names from the lower count, and returns what it was before.
 pub(crate) fn sub_burst<T, J: Takers<T>>(
     words: &QueueWords<T>,
     token: &mut QueueToken<T>,
@@ -73,7 +73,7 @@ pub(crate) fn back_low_burst<T, J: Takers<T>>(
     words.fetch_add::<BackLowBurstPlay<J>>(token, LOWER, count);
 }
 
-/// Draws a deletion's ticket for each of the burst's names, and answers the first.
+/// Draws a deletion's ticket for each of the burst's names, and returns the first.
 pub(crate) fn draw_out_burst<T, J: Takers<T>>(
     words: &QueueWords<T>,
     token: &mut QueueToken<T>,
@@ -91,7 +91,7 @@ pub(crate) fn draw_out_burst<T, J: Takers<T>>(
     words.fetch_add::<DrawOutBurstPlay<J>>(token, DRAWS_OUT, count)
 }
 
-/// Loads the turn of the cell of one name's ticket. The name is for the proof alone.
+/// Loads the turn of the cell of one name's ticket. Only the proof uses the name.
 pub(crate) fn turn_out_burst<T, J: OneName>(
     words: &QueueWords<T>,
     token: &mut QueueToken<T>,

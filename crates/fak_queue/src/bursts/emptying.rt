@@ -1,11 +1,11 @@
 //! A bundle empties the cells of its tickets.
 
-ghost use Rattle.std.specs.Prelude.{◌≡◌, List, ◌+◌, ◌-◌, ◌<◌, ◌≤◌, ◌^◌, length, reverse};
+ghost use Rattle.std.specs.Prelude.{◌≡◌, List, ◌+◌, ◌-◌, ◌<◌, ◌≤◌, length, reverse};
 ghost use Rattle.std.specs.VecDeque.{deque_capacity, deque_len};
-ghost use Rattle.fak_core.specs.QueueBlocks.{AreApart};
 ghost use Rattle.fak_model.specs.declared.queue.Kind.TheVariants.{Fill};
 ghost use Rattle.fak_model.specs.Queue.{Has};
 ghost use Rattle.fak_model.specs.Seats.{Begins};
+ghost use Rattle.fak_core.specs.QueueBlocks.{AreApart};
 ghost use Rattle.fak_queue.specs.Bundles.{EmptiedOn, EmptiesOn, Emptying, FoundEmpty};
 ghost use Rattle.fak_queue.specs.Shown.{QueueHolder};
 ghost use Rattle.fak_queue.specs.BurstTokens.{IsBundleToken, IsWorkToken, TellsAll};
@@ -17,7 +17,7 @@ use crate::steps::{QueueToken, QueueWords};
 use std::collections::VecDeque;
 use std::marker::Brand;
 
-/// Empties the cells of the names that wait into `out`, in the order of their tickets, until one's turn has not come. Answers how
+/// Empties the cells of the names that wait into `out`, in the order of their tickets, until one's turn has not come. Returns how
 /// many names have emptied their cells.
 fn take_while_ready<T: Drop>(
     words: &QueueWords<T>,
@@ -25,9 +25,8 @@ fn take_while_ready<T: Drop>(
     at: &Progress<'_>,
     out: &mut VecDeque<T>,
 ) -> u64
-    requires token { IsWorkToken words.now.table_id words.now.key at.now.cells.now.size (at.now.ticket + at.now.granted)
+    requires token { IsWorkToken words.now.table_id words.now.key at.now.cells.now.size at.now.names.now
         (λ me. Emptying at.now.names.now at.now.ticket at.now.done at.now.done at.now.granted me.0) token.old }
-    requires names { AreApart at.now.names.now }
     requires room { deque_len out.old + (at.now.granted - at.now.done) ≤ deque_capacity out.old }
     ensures range { (at.now.done ≤ result) × (result ≤ at.now.granted) }
     ensures told { TellsAll token.old token.new (λ after. EmptiesOn words.now.table_id.slots words.now.key.seats
@@ -52,7 +51,6 @@ fn end_taken<T>(words: &QueueWords<T>, token: &mut QueueToken<T>, at: &Progress<
     requires token { IsBundleToken words.now.table_id words.now.key words.now.key.seats (λ me. (was : List T)
         × (got : List T) × (m : QueueHolder T) × EmptiesOn words.now.table_id.slots words.now.key.seats at.now.names.now
         at.now.ticket at.now.done taken at.now.granted was got m me) token.old }
-    requires tickets { at.now.ticket + taken ≤ 2 ^ 50 }
     requires names { AreApart at.now.names.now × (length at.now.names.now ≤ 1024) }
     requires some { at.now.done < taken }
     ensures told { TellsAll token.old token.new (λ after. (was got : List T) (m : QueueHolder T)
@@ -66,17 +64,15 @@ fn end_taken<T>(words: &QueueWords<T>, token: &mut QueueToken<T>, at: &Progress<
 }
 
 /// Empties the cells of the names that wait into `out`, in the order of their tickets, until one's turn has not come, and ends these
-/// deletions. Answers how many names have ended theirs.
+/// deletions. Returns how many names have ended theirs.
 pub(crate) fn take_ready<T: Drop>(
     words: &QueueWords<T>,
     token: &mut QueueToken<T>,
     at: &Progress<'_>,
     out: &mut VecDeque<T>,
 ) -> u64
-    requires token { IsWorkToken words.now.table_id words.now.key at.now.cells.now.size (at.now.ticket + at.now.granted)
+    requires token { IsWorkToken words.now.table_id words.now.key at.now.cells.now.size at.now.names.now
         (λ me. Emptying at.now.names.now at.now.ticket at.now.done at.now.done at.now.granted me.0) token.old }
-    requires names { AreApart at.now.names.now × (length at.now.names.now ≤ 1024) }
-    requires some { at.now.done < at.now.granted }
     requires room { deque_len out.old + (at.now.granted - at.now.done) ≤ deque_capacity out.old }
     ensures range { (at.now.done ≤ result) × (result ≤ at.now.granted) }
     ensures told { TellsAll token.old token.new (λ after. EmptiedOn words.now.table_id.slots words.now.key.seats

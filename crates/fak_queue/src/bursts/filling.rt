@@ -1,6 +1,6 @@
 //! A bundle fills the cells of its tickets.
 
-ghost use Rattle.std.specs.Prelude.{◌≡◌, List, ◌+◌, ◌<◌, ◌≤◌, ◌^◌, length, reverse};
+ghost use Rattle.std.specs.Prelude.{◌≡◌, List, ◌+◌, ◌<◌, ◌≤◌, length, reverse};
 ghost use Rattle.std.specs.VecDeque.{deque_capacity};
 ghost use Rattle.fak_model.specs.Seats.{Begins};
 ghost use Rattle.fak_core.specs.QueueBlocks.{AreApart};
@@ -16,7 +16,7 @@ use crate::steps::{QueueToken, QueueWords};
 use std::collections::VecDeque;
 use std::marker::Brand;
 
-/// Fills the cells of the names that wait, in the order of their tickets, until one's turn has not come. Answers how many names have
+/// Fills the cells of the names that wait, in the order of their tickets, until one's turn has not come. Returns how many names have
 /// filled their cells.
 fn fill_while_ready<T: Drop>(
     words: &QueueWords<T>,
@@ -24,10 +24,9 @@ fn fill_while_ready<T: Drop>(
     at: &Progress<'_>,
     kept: &mut VecDeque<T>,
 ) -> u64
-    requires token { IsWorkToken words.now.table_id words.now.key at.now.cells.now.size (at.now.ticket + at.now.granted)
+    requires token { IsWorkToken words.now.table_id words.now.key at.now.cells.now.size at.now.names.now
         (λ me. Filling at.now.names.now at.now.ticket at.now.done at.now.done at.now.granted kept.old.items me.0)
         token.old }
-    requires names { AreApart at.now.names.now }
     ensures range { (at.now.done ≤ result) × (result ≤ at.now.granted) }
     ensures told { TellsAll token.old token.new (λ after. FillsOn words.now.table_id.slots words.now.key.seats
         at.now.names.now at.now.ticket at.now.done result at.now.granted kept.old.items kept.new.items token.old.me
@@ -54,7 +53,6 @@ fn end_filled<T>(words: &QueueWords<T>, token: &mut QueueToken<T>, at: &Progress
     requires token { IsBundleToken words.now.table_id words.now.key words.now.key.seats (λ me. (was : List T)
         × (kept : List T) × (m : QueueHolder T) × FillsOn words.now.table_id.slots words.now.key.seats at.now.names.now
         at.now.ticket at.now.done filled at.now.granted was kept m me) token.old }
-    requires tickets { at.now.ticket + filled ≤ 2 ^ 50 }
     requires names { AreApart at.now.names.now × (length at.now.names.now ≤ 1024) }
     requires some { at.now.done < filled }
     ensures told { TellsAll token.old token.new (λ after. (was kept : List T) (m : QueueHolder T)
@@ -74,18 +72,16 @@ fn end_filled<T>(words: &QueueWords<T>, token: &mut QueueToken<T>, at: &Progress
 }
 
 /// Fills the cells of the names that wait, in the order of their tickets, until one's turn has not come, and ends these insertions.
-/// Answers how many names have ended theirs.
+/// Returns how many names have ended theirs.
 pub(crate) fn fill_ready<T: Drop>(
     words: &QueueWords<T>,
     token: &mut QueueToken<T>,
     at: &Progress<'_>,
     kept: &mut VecDeque<T>,
 ) -> u64
-    requires token { IsWorkToken words.now.table_id words.now.key at.now.cells.now.size (at.now.ticket + at.now.granted)
+    requires token { IsWorkToken words.now.table_id words.now.key at.now.cells.now.size at.now.names.now
         (λ me. Filling at.now.names.now at.now.ticket at.now.done at.now.done at.now.granted kept.old.items me.0)
         token.old }
-    requires names { AreApart at.now.names.now × (length at.now.names.now ≤ 1024) }
-    requires some { at.now.done < at.now.granted }
     ensures range { (at.now.done ≤ result) × (result ≤ at.now.granted) }
     ensures told { TellsAll token.old token.new (λ after. FilledOn words.now.table_id.slots words.now.key.seats
         at.now.names.now at.now.ticket at.now.done result at.now.granted kept.old.items kept.new.items token.old.me

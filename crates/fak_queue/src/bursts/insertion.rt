@@ -22,7 +22,7 @@ use crate::place::Place;
 use crate::steps::{QueueToken, QueueWords};
 use crate::words::{DRAWS_IN, LOWER, TURNS, UPPER};
 
-/// Tests the upper count for the burst's names, and answers its word.
+/// Tests the upper count for the burst's names, and returns its word.
 pub(crate) fn test_burst<T, J: Burst<T>>(
     words: &QueueWords<T>,
     token: &mut QueueToken<T>,
@@ -38,7 +38,7 @@ pub(crate) fn test_burst<T, J: Burst<T>>(
     words.load::<TestBurstPlay<J>>(token, UPPER)
 }
 
-/// Adds the number of the burst's names to the upper count, and answers what it was before.
+/// Adds the number of the burst's names to the upper count, and returns what it was before.
 pub(crate) fn add_burst<T, J: Burst<T>>(
     words: &QueueWords<T>,
     token: &mut QueueToken<T>,
@@ -73,7 +73,7 @@ pub(crate) fn back_burst<T, J: Burst<T>>(
     words.fetch_sub::<BackBurstPlay<J>>(token, UPPER, count);
 }
 
-/// Draws a ticket for each of the burst's names, and answers the first.
+/// Draws a ticket for each of the burst's names, and returns the first.
 pub(crate) fn draw_burst<T, J: Burst<T>>(
     words: &QueueWords<T>,
     token: &mut QueueToken<T>,
@@ -91,7 +91,7 @@ pub(crate) fn draw_burst<T, J: Burst<T>>(
     words.fetch_add::<DrawBurstPlay<J>>(token, DRAWS_IN, count)
 }
 
-/// Loads the turn of the cell of one name's ticket. The name is for the proof alone.
+/// Loads the turn of the cell of one name's ticket. Only the proof uses the name.
 pub(crate) fn turn_burst<T, J: OneName>(
     words: &QueueWords<T>,
     token: &mut QueueToken<T>,

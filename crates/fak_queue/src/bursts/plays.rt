@@ -1,4 +1,4 @@
-//! What each atomic step of a burst tells the bundle. These types are for the proofs alone.
+//! What each atomic step of a burst tells the bundle. Only the proofs use these types.
 
 ghost use Rattle.std.specs.Prelude.{ℕ, Bool, false, List, []};
 ghost use Rattle.fak_queue.specs.declared.standing.Standing.TheVariants.{Each};

@@ -1,4 +1,4 @@
-//! One name of a bundle at its cell: it looks whether its turn has come, and moves its item. The name is for the proof alone.
+//! One name of a bundle at its cell: it looks whether its turn has come, and moves its item. Only the proof uses the name.
 
 ghost use Rattle.std.specs.Prelude.{◌≡◌, [], ◌∷◌, None, Some};
 ghost use Rattle.fak_core.specs.declared.queue.phase.Phase.TheVariants.{LoadItem, StoreItem, TurnIn, TurnOut};

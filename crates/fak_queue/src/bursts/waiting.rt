@@ -1,8 +1,7 @@
-//! A bundle fills or empties all the cells of its tickets, and waits where one's turn has not come.
+//! A bundle fills or empties all the cells of its tickets, and waits if one's turn has not come.
 
-ghost use Rattle.std.specs.Prelude.{◌≡◌, ◌+◌, ◌-◌, ◌<◌, ◌≤◌, length};
+ghost use Rattle.std.specs.Prelude.{◌≡◌, ◌+◌, ◌-◌, ◌<◌, ◌≤◌};
 ghost use Rattle.std.specs.VecDeque.{deque_capacity, deque_len};
-ghost use Rattle.fak_core.specs.QueueBlocks.{AreApart};
 ghost use Rattle.fak_queue.specs.Bundles.{EmptiedOn, Emptying, FilledOn, Filling};
 ghost use Rattle.fak_queue.specs.BurstTokens.{IsWorkToken, TellsAll};
 
@@ -14,7 +13,7 @@ use crossbeam_utils::Backoff;
 use std::collections::VecDeque;
 use std::sync::Wait;
 
-/// Fills the cells of all names that wait, in the order of their tickets, and ends these insertions. Where a cell's turn has not come,
+/// Fills the cells of all names that wait, in the order of their tickets, and ends these insertions. If a cell's turn has not come,
 /// those before it are ended first, and the bundle waits.
 pub(crate) fn fill_all<T: Drop, R: Wait>(
     rt: &R,
@@ -23,11 +22,9 @@ pub(crate) fn fill_all<T: Drop, R: Wait>(
     at: &Progress<'_>,
     kept: &mut VecDeque<T>,
 )
-    requires token { IsWorkToken words.now.table_id words.now.key at.now.cells.now.size (at.now.ticket + at.now.granted)
+    requires token { IsWorkToken words.now.table_id words.now.key at.now.cells.now.size at.now.names.now
         (λ me. Filling at.now.names.now at.now.ticket at.now.done at.now.done at.now.granted kept.old.items me.0)
         token.old }
-    requires names { AreApart at.now.names.now × (length at.now.names.now ≤ 1024) }
-    requires some { at.now.done < at.now.granted }
     ensures told { TellsAll token.old token.new (λ after. FilledOn words.now.table_id.slots words.now.key.seats
         at.now.names.now at.now.ticket at.now.done at.now.granted at.now.granted kept.old.items kept.new.items
         token.old.me after) }
@@ -36,7 +33,14 @@ pub(crate) fn fill_all<T: Drop, R: Wait>(
     let backoff = Backoff::new();
     let mut done = at.done;
     for _ in rt.forever() {
-        let ended = fill_ready(words, token, &Progress { done, ..*at }, kept);
+        let now = Progress {
+            names: at.names,
+            cells: at.cells,
+            ticket: at.ticket,
+            done,
+            granted: at.granted,
+        };
+        let ended = fill_ready(words, token, &now, kept);
         if ended == at.granted {
             return;
         }
@@ -46,7 +50,7 @@ pub(crate) fn fill_all<T: Drop, R: Wait>(
     unreachable!()
 }
 
-/// Empties the cells of all names that wait into `out`, in the order of their tickets, and ends these deletions. Where a cell's turn
+/// Empties the cells of all names that wait into `out`, in the order of their tickets, and ends these deletions. If a cell's turn
 /// has not come, those before it are ended first, and the bundle waits.
 pub(crate) fn take_all<T: Drop, R: Wait>(
     rt: &R,
@@ -55,10 +59,8 @@ pub(crate) fn take_all<T: Drop, R: Wait>(
     at: &Progress<'_>,
     out: &mut VecDeque<T>,
 )
-    requires token { IsWorkToken words.now.table_id words.now.key at.now.cells.now.size (at.now.ticket + at.now.granted)
+    requires token { IsWorkToken words.now.table_id words.now.key at.now.cells.now.size at.now.names.now
         (λ me. Emptying at.now.names.now at.now.ticket at.now.done at.now.done at.now.granted me.0) token.old }
-    requires names { AreApart at.now.names.now × (length at.now.names.now ≤ 1024) }
-    requires some { at.now.done < at.now.granted }
     requires room { deque_len out.old + (at.now.granted - at.now.done) ≤ deque_capacity out.old }
     ensures told { TellsAll token.old token.new (λ after. EmptiedOn words.now.table_id.slots words.now.key.seats
         at.now.names.now at.now.ticket at.now.done at.now.granted at.now.granted out.old.items out.new.items
@@ -68,7 +70,14 @@ pub(crate) fn take_all<T: Drop, R: Wait>(
     let backoff = Backoff::new();
     let mut done = at.done;
     for _ in rt.forever() {
-        let ended = take_ready(words, token, &Progress { done, ..*at }, out);
+        let now = Progress {
+            names: at.names,
+            cells: at.cells,
+            ticket: at.ticket,
+            done,
+            granted: at.granted,
+        };
+        let ended = take_ready(words, token, &now, out);
         if ended == at.granted {
             return;
         }

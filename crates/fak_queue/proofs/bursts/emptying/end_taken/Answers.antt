@@ -5,7 +5,7 @@ use Rattle.fak_queue.proofs.BundleEndingOut.{end_begins, end_count, end_few, end
 use Rattle.fak_queue.proofs.bursts.emptying.end_taken.Goals as goal
 
 pub overflow_add-at : goal.overflow_add-at
-overflow_add-at g c = let few = c.requires.tickets in let some = c.requires.some in let le : c.args.at.now.ticket + c.args.at.now.done ≤ 2 ^ 50 = omega (arith, few, some) in omega (arith, le)
+overflow_add-at g c = let few = c.args.at.now.few_tickets in let some = c.args.at.now.some_left in let le : c.args.at.now.ticket + c.args.at.now.done ≤ 2 ^ 50 = omega (arith, few, some) in omega (arith, le)
 
 pub end_out_burst-requires-clause-count : goal.end_out_burst-requires-clause-count
 end_out_burst-requires-clause-count g c = let s = c.requires.token.phase in let many = end_count c.args.at.now.names.now c.args.at.now.ticket c.args.at.now.done c.args.taken c.args.at.now.granted s.0 s.1 s.2 c.args.token.now.me c.requires.names.0 s.3 c.requires.some in let few = end_few c.args.at.now.names.now c.args.at.now.ticket c.args.at.now.done c.args.taken c.args.at.now.granted s.0 s.1 s.2 c.args.token.now.me c.requires.names.0 s.3 c.requires.some c.requires.names.1 in let long = tickets_length (slice_range c.args.at.now.names.now c.args.at.now.done c.args.taken) (c.args.at.now.ticket + c.args.at.now.done) in (sym long, omega (arith, many, few, long))

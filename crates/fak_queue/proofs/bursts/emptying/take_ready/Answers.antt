@@ -15,7 +15,7 @@ returns-else-taken-at-clause-told g c = record {
   same = c.take_while_ready-taken.ensures.told.same;
   told = let r = c.take_while_ready-taken.ensures.range in
       let none = c.if-taken-at.false in
-      emptied_none c.args.at.now.names.now c.args.at.now.ticket c.args.at.now.done c.take_while_ready-taken.result c.args.at.now.granted c.args.out.now.items c.take_while_ready-taken.new.out.items c.args.token.now.me c.take_while_ready-taken.new.token.me c.take_while_ready-taken.ensures.told.told (grind (arith, nat_tests, none, r)) c.requires.some;
+      emptied_none c.args.at.now.names.now c.args.at.now.ticket c.args.at.now.done c.take_while_ready-taken.result c.args.at.now.granted c.args.out.now.items c.take_while_ready-taken.new.out.items c.args.token.now.me c.take_while_ready-taken.new.token.me c.take_while_ready-taken.ensures.told.told (grind (arith, nat_tests, none, r)) c.args.at.now.some_left;
 }
 
 pub returns-then-taken-at-clause-early : goal.returns-then-taken-at-clause-early

@@ -15,7 +15,7 @@ returns-else-filled-at-clause-told g c = record {
   same = c.fill_while_ready-filled.ensures.told.same;
   told = let r = c.fill_while_ready-filled.ensures.range in
       let none = c.if-filled-at.false in
-      filled_none c.args.at.now.names.now c.args.at.now.ticket c.args.at.now.done c.fill_while_ready-filled.result c.args.at.now.granted c.args.kept.now.items c.fill_while_ready-filled.new.kept.items c.args.token.now.me c.fill_while_ready-filled.new.token.me c.fill_while_ready-filled.ensures.told.told (grind (arith, nat_tests, none, r)) c.requires.some;
+      filled_none c.args.at.now.names.now c.args.at.now.ticket c.args.at.now.done c.fill_while_ready-filled.result c.args.at.now.granted c.args.kept.now.items c.fill_while_ready-filled.new.kept.items c.args.token.now.me c.fill_while_ready-filled.new.token.me c.fill_while_ready-filled.ensures.told.told (grind (arith, nat_tests, none, r)) c.args.at.now.some_left;
 }
 
 pub returns-then-filled-at-clause-early : goal.returns-then-filled-at-clause-early

@@ -5,19 +5,19 @@ use Rattle.fak_queue.proofs.BundleFilling.{fills_none, named_now, waits_so, stay
 use Rattle.fak_queue.proofs.bursts.filling.fill_while_ready.Goals as goal
 
 pub has_room-requires : goal.has_room-requires
-has_room-requires g c = record { table = still_fits c.requires.token.table c.loop-index.invariant.0; place = subst (λ (z : ℕ). IsPlace z c.place-place.result) c.requires.token.cells c.place-place.ensures.place; name = (named_now c.args.at.now.names.now c.args.at.now.ticket c.args.at.now.done c.loop-index.index c.args.at.now.granted c.args.kept.now.items c.loop-index.kept.items c.args.token.now.me c.loop-index.token.me c.requires.names c.loop-index.invariant.3 c.loop-index-test.true c.place-place.result.ticket c.place-place.ensures.ticket); phase = (waits_so c.args.at.now.names.now c.args.at.now.ticket c.args.at.now.done c.loop-index.index c.args.at.now.granted c.args.kept.now.items c.loop-index.kept.items c.args.token.now.me c.loop-index.token.me c.requires.names c.loop-index.invariant.3 c.loop-index-test.true c.place-place.result.ticket c.place-place.ensures.ticket) }
+has_room-requires g c = record { table = still_fits c.requires.token.table c.loop-index.invariant.0; place = subst (λ (z : ℕ). IsPlace z c.place-place.result) c.requires.token.cells c.place-place.ensures.place; name = (named_now c.args.at.now.names.now c.args.at.now.ticket c.args.at.now.done c.loop-index.index c.args.at.now.granted c.args.kept.now.items c.loop-index.kept.items c.args.token.now.me c.loop-index.token.me c.requires.token.names.0 c.loop-index.invariant.3 c.loop-index-test.true c.place-place.result.ticket c.place-place.ensures.ticket); phase = (waits_so c.args.at.now.names.now c.args.at.now.ticket c.args.at.now.done c.loop-index.index c.args.at.now.granted c.args.kept.now.items c.loop-index.kept.items c.args.token.now.me c.loop-index.token.me c.requires.token.names.0 c.loop-index.invariant.3 c.loop-index-test.true c.place-place.result.ticket c.place-place.ensures.ticket) }
 
 pub returns-then-not-has_room-clause-told : goal.returns-then-not-has_room-clause-told
-returns-then-not-has_room-clause-told g c = record { same = c.has_room.ensures.same ∙ c.loop-index.invariant.0; told = stays_told c.args.at.now.names.now c.args.at.now.ticket c.args.at.now.done c.loop-index.index c.args.at.now.granted c.args.kept.now.items c.loop-index.kept.items c.args.token.now.me c.loop-index.token.me c.requires.names c.loop-index.invariant.3 c.loop-index-test.true c.place-place.result.ticket c.place-place.ensures.ticket c.has_room.new.token.me c.if-not-has_room.ensures.told }
+returns-then-not-has_room-clause-told g c = record { same = c.has_room.ensures.same ∙ c.loop-index.invariant.0; told = stays_told c.args.at.now.names.now c.args.at.now.ticket c.args.at.now.done c.loop-index.index c.args.at.now.granted c.args.kept.now.items c.loop-index.kept.items c.args.token.now.me c.loop-index.token.me c.requires.token.names.0 c.loop-index.invariant.3 c.loop-index-test.true c.place-place.result.ticket c.place-place.ensures.ticket c.has_room.new.token.me c.if-not-has_room.ensures.told }
 
 pub returns-then-not-has_room-clause-early : goal.returns-then-not-has_room-clause-early
-returns-then-not-has_room-clause-early g c = λ _. early_told c.args.at.now.names.now c.args.at.now.ticket c.args.at.now.done c.loop-index.index c.args.at.now.granted c.args.kept.now.items c.loop-index.kept.items c.args.token.now.me c.loop-index.token.me c.requires.names c.loop-index.invariant.3 c.loop-index-test.true c.place-place.result.ticket c.place-place.ensures.ticket c.has_room.new.token.me c.if-not-has_room.ensures.told
+returns-then-not-has_room-clause-early g c = λ _. early_told c.args.at.now.names.now c.args.at.now.ticket c.args.at.now.done c.loop-index.index c.args.at.now.granted c.args.kept.now.items c.loop-index.kept.items c.args.token.now.me c.loop-index.token.me c.requires.token.names.0 c.loop-index.invariant.3 c.loop-index-test.true c.place-place.result.ticket c.place-place.ensures.ticket c.has_room.new.token.me c.if-not-has_room.ensures.told
 
 pub fill-requires-clause-token : goal.fill-requires-clause-token
-fill-requires-clause-token g c = record { table = still_fits c.requires.token.table (c.has_room.ensures.same ∙ c.loop-index.invariant.0); place = subst (λ (z : ℕ). IsPlace z c.place-place.result) c.requires.token.cells c.place-place.ensures.place; name = (named_then c.args.at.now.names.now c.args.at.now.ticket c.args.at.now.done c.loop-index.index c.args.at.now.granted c.args.kept.now.items c.loop-index.kept.items c.args.token.now.me c.loop-index.token.me c.requires.names c.loop-index.invariant.3 c.loop-index-test.true c.place-place.result.ticket c.place-place.ensures.ticket c.has_room.new.token.me c.if-not-has_room.ensures.told c.in-Some.item c.pop_front.new.self.items c.in-Some.ensures.items); phase = (stores_now c.args.at.now.names.now c.args.at.now.ticket c.args.at.now.done c.loop-index.index c.args.at.now.granted c.args.kept.now.items c.loop-index.kept.items c.args.token.now.me c.loop-index.token.me c.requires.names c.loop-index.invariant.3 c.loop-index-test.true c.place-place.result.ticket c.place-place.ensures.ticket c.has_room.new.token.me c.if-not-has_room.ensures.told c.in-Some.item c.pop_front.new.self.items c.in-Some.ensures.items) }
+fill-requires-clause-token g c = record { table = still_fits c.requires.token.table (c.has_room.ensures.same ∙ c.loop-index.invariant.0); place = subst (λ (z : ℕ). IsPlace z c.place-place.result) c.requires.token.cells c.place-place.ensures.place; name = (named_then c.args.at.now.names.now c.args.at.now.ticket c.args.at.now.done c.loop-index.index c.args.at.now.granted c.args.kept.now.items c.loop-index.kept.items c.args.token.now.me c.loop-index.token.me c.requires.token.names.0 c.loop-index.invariant.3 c.loop-index-test.true c.place-place.result.ticket c.place-place.ensures.ticket c.has_room.new.token.me c.if-not-has_room.ensures.told c.in-Some.item c.pop_front.new.self.items c.in-Some.ensures.items); phase = (stores_now c.args.at.now.names.now c.args.at.now.ticket c.args.at.now.done c.loop-index.index c.args.at.now.granted c.args.kept.now.items c.loop-index.kept.items c.args.token.now.me c.loop-index.token.me c.requires.token.names.0 c.loop-index.invariant.3 c.loop-index-test.true c.place-place.result.ticket c.place-place.ensures.ticket c.has_room.new.token.me c.if-not-has_room.ensures.told c.in-Some.item c.pop_front.new.self.items c.in-Some.ensures.items) }
 
 pub fill-requires-clause-slot : goal.fill-requires-clause-slot
-fill-requires-clause-slot g c = slot_now c.args.at.now.names.now c.args.at.now.ticket c.args.at.now.done c.loop-index.index c.args.at.now.granted c.args.kept.now.items c.loop-index.kept.items c.args.token.now.me c.loop-index.token.me c.requires.names c.loop-index.invariant.3 c.loop-index-test.true c.place-place.result.ticket c.place-place.ensures.ticket c.has_room.new.token.me c.if-not-has_room.ensures.told c.in-Some.item c.pop_front.new.self.items c.in-Some.ensures.items c.place-place.result.cell (c.place-place.ensures.place.cell_is ∙ ap (λ (z : ℕ). c.place-place.result.ticket % z) c.requires.token.cells)
+fill-requires-clause-slot g c = slot_now c.args.at.now.names.now c.args.at.now.ticket c.args.at.now.done c.loop-index.index c.args.at.now.granted c.args.kept.now.items c.loop-index.kept.items c.args.token.now.me c.loop-index.token.me c.requires.token.names.0 c.loop-index.invariant.3 c.loop-index-test.true c.place-place.result.ticket c.place-place.ensures.ticket c.has_room.new.token.me c.if-not-has_room.ensures.told c.in-Some.item c.pop_front.new.self.items c.in-Some.ensures.items c.place-place.result.cell (c.place-place.ensures.place.cell_is ∙ ap (λ (z : ℕ). c.place-place.result.ticket % z) c.requires.token.cells)
 
 pub loop-index-preserved : goal.loop-index-preserved
 loop-index-preserved g c =
@@ -26,7 +26,7 @@ loop-index-preserved g c =
       c.fill.ensures.same ∙ (c.has_room.ensures.same ∙ i.0),
       omega (arith, i.1),
       omega (arith, low),
-      next_told c.args.at.now.names.now c.args.at.now.ticket c.args.at.now.done c.loop-index.index c.args.at.now.granted c.args.kept.now.items c.loop-index.kept.items c.args.token.now.me c.loop-index.token.me c.requires.names c.loop-index.invariant.3 c.loop-index-test.true c.place-place.result.ticket c.place-place.ensures.ticket c.has_room.new.token.me c.if-not-has_room.ensures.told c.in-Some.item c.pop_front.new.self.items c.in-Some.ensures.items c.fill.new.token.me c.fill.ensures.told,
+      next_told c.args.at.now.names.now c.args.at.now.ticket c.args.at.now.done c.loop-index.index c.args.at.now.granted c.args.kept.now.items c.loop-index.kept.items c.args.token.now.me c.loop-index.token.me c.requires.token.names.0 c.loop-index.invariant.3 c.loop-index-test.true c.place-place.result.ticket c.place-place.ensures.ticket c.has_room.new.token.me c.if-not-has_room.ensures.told c.in-Some.item c.pop_front.new.self.items c.in-Some.ensures.items c.fill.new.token.me c.fill.ensures.told,
       c.in-Some.ensures.capacity ∙ i.4,
     )
 

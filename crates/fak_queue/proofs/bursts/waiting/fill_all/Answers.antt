@@ -4,7 +4,7 @@ use Rattle.fak_queue.proofs.BundleWaiting.{filled_start, filled_then}
 use Rattle.fak_queue.proofs.bursts.waiting.fill_all.Goals as goal
 
 pub loop-init : goal.loop-init
-loop-init g c = (refl, omega arith, c.requires.some, filled_start c.args.at.now.names.now c.args.at.now.ticket c.args.at.now.done c.args.at.now.granted c.args.kept.now.items c.args.token.now.me c.requires.token.lawful c.requires.token.phase c.requires.token.slots c.requires.some, refl)
+loop-init g c = (refl, omega arith, c.args.at.now.some_left, filled_start c.args.at.now.names.now c.args.at.now.ticket c.args.at.now.done c.args.at.now.granted c.args.kept.now.items c.args.token.now.me c.requires.token.lawful c.requires.token.phase c.requires.token.slots c.args.at.now.some_left, refl)
 
 pub returns-then-ended-at-clause-told : goal.returns-then-ended-at-clause-told
 returns-then-ended-at-clause-told g c =

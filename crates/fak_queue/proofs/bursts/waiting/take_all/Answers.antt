@@ -4,7 +4,7 @@ use Rattle.fak_queue.proofs.BundleWaiting.{emptied_start, emptied_then}
 use Rattle.fak_queue.proofs.bursts.waiting.take_all.Goals as goal
 
 pub loop-init : goal.loop-init
-loop-init g c = (refl, omega arith, c.requires.some, emptied_start c.args.at.now.names.now c.args.at.now.ticket c.args.at.now.done c.args.at.now.granted c.args.out.now.items c.args.token.now.me c.requires.token.lawful c.requires.token.phase c.requires.token.slots c.requires.some, c.requires.room, refl)
+loop-init g c = (refl, omega arith, c.args.at.now.some_left, emptied_start c.args.at.now.names.now c.args.at.now.ticket c.args.at.now.done c.args.at.now.granted c.args.out.now.items c.args.token.now.me c.requires.token.lawful c.requires.token.phase c.requires.token.slots c.args.at.now.some_left, c.requires.room, refl)
 
 pub returns-then-ended-at-clause-told : goal.returns-then-ended-at-clause-told
 returns-then-ended-at-clause-told g c =
