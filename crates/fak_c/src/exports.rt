@@ -1,4 +1,4 @@
-//! The exported functions. Here those that open objects, move seats and give them up; the calls of each kind of seat are below.
+//! The exported functions. Here those that open objects, move seats and give them up; the calls of each kind of seat have a module each.
 
 ghost use Rattle.std.specs.Prelude.{◌≡◌, length};
 ghost use Rattle.fak_handles.specs.Kinds.{GivesUp, Moves};
@@ -18,7 +18,7 @@ use fak_handles::place::Place;
 use std::alloc::Global;
 
 /// Opens a queue of `size` cells, and gives each of 1 to 1,024 handles a seat of it with this stint. What the handles held is
-/// given up. A failed call leaves them empty, but keeps them where their number is out of range.
+/// given up. A failed call leaves them empty, but keeps them if their number is out of range.
 ///
 /// `OK`, `BAD_LIMIT` or `MEMORY`.
 #[unsafe(no_mangle)]
@@ -29,12 +29,12 @@ pub extern "C" fn fak_c_open(alloc: Global, seats: &mut [Place], size: u64, stin
     if !is_number_of_seats(seats.len()) {
         return BAD_LIMIT;
     }
-    fak_handles::opening::open_queue(alloc, seats, size, stint)
+    fak_handles::queue::opening::open_queue(alloc, seats, size, stint)
 }
 
 /// Gives up a seat at rest; its handle is empty then. The last seat of an object frees it.
 ///
-/// `OK`, `NO_SEAT`, or `WRONG_STATE` in mid-call or in a hold, where the handle keeps the seat.
+/// `OK`, `NO_SEAT`, or `WRONG_STATE` during a call or a hold: then the handle keeps the seat.
 #[unsafe(no_mangle)]
 pub extern "C" fn fak_c_leave(alloc: Global, seat: &mut Place) -> i32
     ensures { GivesUp result seat.old.handle.desk seat.new.handle.desk }
@@ -51,7 +51,7 @@ pub extern "C" fn fak_c_leave(alloc: Global, seat: &mut Place) -> i32
     }
 }
 
-/// Opens a room with this bound, and gives each handle a seat of it. As `fak_c_open`.
+/// Opens a room with this bound, and gives each handle a seat of it. Like `fak_c_open`.
 #[unsafe(no_mangle)]
 pub extern "C" fn fak_c_room_open(alloc: Global, seats: &mut [Place], bound: u64, stint: u64) -> i32
     ensures len { length seats.new ≡ length seats.old }
@@ -60,10 +60,10 @@ pub extern "C" fn fak_c_room_open(alloc: Global, seats: &mut [Place], bound: u64
     if !is_number_of_seats(seats.len()) {
         return BAD_LIMIT;
     }
-    fak_handles::opening::open_room(alloc, seats, bound, stint)
+    fak_handles::room::opening::open_room(alloc, seats, bound, stint)
 }
 
-/// Opens a credit that begins at `start`, and gives each handle a seat of it. As `fak_c_open`.
+/// Opens a credit that begins at `start`, and gives each handle a seat of it. Like `fak_c_open`.
 #[unsafe(no_mangle)]
 pub extern "C" fn fak_c_credit_open(
     alloc: Global,
@@ -77,10 +77,10 @@ pub extern "C" fn fak_c_credit_open(
     if !is_number_of_seats(seats.len()) {
         return BAD_LIMIT;
     }
-    fak_handles::opening::open_credit(alloc, seats, start, stint)
+    fak_handles::credit::opening::open_credit(alloc, seats, start, stint)
 }
 
-/// Opens a file table of this many entries, and gives each handle a seat of it. As `fak_c_open`.
+/// Opens a file table of this many entries, and gives each handle a seat of it. Like `fak_c_open`.
 #[unsafe(no_mangle)]
 pub extern "C" fn fak_c_files_open(
     alloc: Global,
@@ -94,10 +94,10 @@ pub extern "C" fn fak_c_files_open(
     if !is_number_of_seats(seats.len()) {
         return BAD_LIMIT;
     }
-    fak_handles::opening::open_table(alloc, seats, entries, stint)
+    fak_handles::files::opening::open_table(alloc, seats, entries, stint)
 }
 
-/// Opens a semaphore that begins at `start`, with a wait queue of `size` cells, and gives each handle a seat of it. As `fak_c_open`.
+/// Opens a semaphore that begins at `start`, with a wait queue of `size` cells, and gives each handle a seat of it. Like `fak_c_open`.
 #[unsafe(no_mangle)]
 pub extern "C" fn fak_c_sem_open(
     alloc: Global,
@@ -112,10 +112,10 @@ pub extern "C" fn fak_c_sem_open(
     if !is_number_of_seats(seats.len()) {
         return BAD_LIMIT;
     }
-    fak_handles::opening::open_semaphore(alloc, seats, start, size, stint)
+    fak_handles::semaphore::opening::open_semaphore(alloc, seats, start, size, stint)
 }
 
-/// Opens an empty channel of `size` cells, and gives each handle an end of it, numbered by its place. As `fak_c_open`.
+/// Opens an empty channel of `size` cells, and gives each handle an end of it, numbered by its place. Like `fak_c_open`.
 #[unsafe(no_mangle)]
 pub extern "C" fn fak_channel_open(alloc: Global, ends: &mut [Place], size: u64, stint: u64) -> i32
     ensures len { length ends.new ≡ length ends.old }
@@ -124,12 +124,12 @@ pub extern "C" fn fak_channel_open(alloc: Global, ends: &mut [Place], size: u64,
     if !is_number_of_seats(ends.len()) {
         return BAD_LIMIT;
     }
-    fak_handles::opening::open_channel(alloc, ends, size, stint)
+    fak_handles::channel::opening::open_channel(alloc, ends, size, stint)
 }
 
 /// Moves the seat of a handle to an empty one.
 ///
-/// `OK`, `NO_SEAT`, or `WRONG_STATE` where the other has a seat.
+/// `OK`, `NO_SEAT`, or `WRONG_STATE` if the other has a seat.
 #[unsafe(no_mangle)]
 pub extern "C" fn fak_c_move(alloc: Global, seat: &mut Place, to: &mut Place) -> i32
     ensures { Moves result seat.old.handle.desk to.old.handle.desk seat.new.handle.desk to.new.handle.desk }

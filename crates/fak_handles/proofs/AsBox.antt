@@ -1,4 +1,4 @@
--- A desk's box, and what stands for it: a handle with a desk owns what a box of the desk owns.
+-- A desk's box, and what takes its place: a handle with a desk owns what a box of the desk owns.
 use Rattle.fak_handles.proofs.Common.{impl, tnil, dnil, Slot, plain, Bx}
 use mathlib.Core.List.{[]}
 use Rattle.std_heap.specs.contracts.Global as Heap

@@ -7,7 +7,7 @@ use Rattle.std.proofs.Math.Nat.{suc-mul}
 use Rattle.fak_model.specs.declared.queue.Mark.{Mark}
 use Rattle.fak_model.specs.Calls.{ObjectId, SeatInfo, seat_info, fresh_seats}
 use Rattle.fak_queue.specs.Queues.{QueueInfo, IsIdleSeat}
-use Rattle.fak_handles.specs.Bundled.{IsFreshBundle, IsOpenedWithBundles}
+use Rattle.fak_handles.specs.bundle.Opening.{IsFreshBundle, IsOpenedWithBundles}
 use Rattle.fak_handles.specs.Openings.{AreSeatedBelow, IsFreshQueue}
 use Rattle.fak_handles.specs.declared.place.Place.{Place}
 

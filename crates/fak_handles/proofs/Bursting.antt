@@ -9,7 +9,7 @@ use Rattle.fak_queue.specs.declared.fault.BurstFault.{BurstFault}
 use Rattle.fak_queue.specs.declared.fault.BurstFault.TheVariants.{Worn, Closed, Full}
 use Rattle.fak_queue.specs.BundleCalls.{BundleInfo, drawn_by_all}
 use Rattle.fak_queue.specs.BurstCalls.{GoesOn, ClaimsBurst, RefusesBurst, TriesToFill, TriesToTake, asked_of}
-use Rattle.fak_handles.specs.OpenBursts.{open_in}
+use Rattle.fak_handles.specs.bundle.Open.{open_in}
 
 -- ---- between an array and a deque
 

@@ -10,7 +10,7 @@ use Rattle.fak_count.specs.Rooms.{RoomInfo}
 use Rattle.fak_count.specs.Credits.{CreditInfo}
 use Rattle.fak_handles.specs.Openings.{IsFreshQueue, IsFreshRoom, IsFreshCredit, IsFreshFile, IsFreshSem, IsFreshChannel, IsOpenedQueue, IsOpenedRoom, IsOpenedCredit, IsOpenedTable, IsOpenedSem, IsOpenedChannel}
 use Rattle.fak_channel.specs.declared.channel.Channel.{Channel}
-use Rattle.fak_handles.specs.declared.channel.Item.{Item}
+use Rattle.fak_handles.specs.declared.channel.seat.Item.{Item}
 use Rattle.fak_handles.specs.declared.desk.Desk.{Desk}
 use Rattle.fak_handles.specs.declared.place.Place.{Place}
 

@@ -9,13 +9,13 @@ use Rattle.fak_sem.specs.declared.standing.Standing.TheVariants as standing
 use Rattle.fak_channel.specs.declared.standing.CallStanding.TheVariants as channel
 use Rattle.fak_handles.specs.declared.desk.Desk.{Desk}
 use Rattle.fak_handles.specs.declared.desk.Desk.TheVariants.{Queue, Semaphore, Room, Credit, Files, Channel, Bundle}
-use Rattle.fak_handles.specs.declared.queue.QueueDesk.{QueueDesk}
-use Rattle.fak_handles.specs.declared.semaphore.SemDesk.{SemDesk}
-use Rattle.fak_handles.specs.declared.room.RoomDesk.{RoomDesk}
-use Rattle.fak_handles.specs.declared.credit.CreditDesk.{CreditDesk}
-use Rattle.fak_handles.specs.declared.files.FileDesk.{FileDesk}
-use Rattle.fak_handles.specs.declared.channel.ChannelDesk.{ChannelDesk}
-use Rattle.fak_handles.specs.declared.bundle.BundleDesk.{BundleDesk}
+use Rattle.fak_handles.specs.declared.queue.seat.QueueDesk.{QueueDesk}
+use Rattle.fak_handles.specs.declared.semaphore.seat.SemDesk.{SemDesk}
+use Rattle.fak_handles.specs.declared.room.seat.RoomDesk.{RoomDesk}
+use Rattle.fak_handles.specs.declared.credit.seat.CreditDesk.{CreditDesk}
+use Rattle.fak_handles.specs.declared.files.seat.FileDesk.{FileDesk}
+use Rattle.fak_handles.specs.declared.channel.seat.ChannelDesk.{ChannelDesk}
+use Rattle.fak_handles.specs.declared.bundle.seat.BundleDesk.{BundleDesk}
 
 abbrev pub queue_in : Option Desk → Option QueueDesk
 queue_in (Some (Queue d)) = Some d

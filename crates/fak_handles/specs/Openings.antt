@@ -18,7 +18,7 @@ use Rattle.fak_channel.specs.Channels.{fresh_channel_seat}
 use Rattle.fak_channel.specs.ChannelSteps.{rest_of}
 use Rattle.fak_channel.specs.declared.channel.Channel.{Channel as ChannelInfo}
 use Rattle.fak_channel.specs.declared.standing.CallStanding.TheVariants as standing
-use Rattle.fak_handles.specs.declared.channel.Item.{Item}
+use Rattle.fak_handles.specs.declared.channel.seat.Item.{Item}
 use Rattle.fak_handles.specs.declared.desk.Desk.{Desk}
 use Rattle.fak_handles.specs.declared.desk.Desk.TheVariants.{Queue, Semaphore, Room, Credit, Files, Channel, Bundle}
 use Rattle.fak_handles.specs.declared.place.Place.{Place}
@@ -163,7 +163,7 @@ OpensSem code start size stint places = Opens code (IsInLargeRange (AreLargeSize
 abbrev pub OpensChannel : ℤ → ℕ → ℕ → List Place → Type 0
 OpensChannel code size stint places = Opens code (IsInLargeRange (IsLargeSize size) (length places) stint) (IsOpenedChannel size stint places) places
 
--- an object may have this many handles, and the call opens them or says why not; or it may not, and the call keeps them
+-- an object may have this many handles, and the call opens them or returns why not; or it may not, and the call keeps them
 abbrev pub OpensOrKeeps : ℤ → List Place → List Place → Type 0 → Type 0
 OpensOrKeeps code old new IsAnswered =
     (IsLargeNumberOfSeats (length old) → IsAnswered) × (¬ IsLargeNumberOfSeats (length old) → (code ≡ pos 8) × (new ≡ old))

@@ -1,4 +1,4 @@
-//! What C holds of a seat: one pointer.
+//! What C has of a seat: one pointer.
 
 ghost use Rattle.std.specs.Prelude.{◌≡◌, Option, Some, None, MatchOption};
 ghost use Rattle.fak_handles.specs.declared.desk.Desk.{Desk};
@@ -10,7 +10,7 @@ use std::alloc::Global;
 use std::marker::Model;
 use std::ptr::null_mut;
 
-/// Owns a seat with a share of its queue, or nothing, where the pointer is null.
+/// Owns a seat with a share of its object, or nothing if the pointer is null.
 #[repr(C)]
 pub struct Handle {
     at: *mut u8,
@@ -23,6 +23,9 @@ impl Model for Handle {
 }
 
 impl Handle {
+    ghost use Rattle.std.specs.Borrow.{sem};
+    ghost use Rattle.fak_handles.specs.DeskLending.{LendsDesk};
+
     /// The empty handle.
     pub fn none(alloc: Global) -> Handle
         ensures { result.desk ≡ None }
@@ -41,6 +44,17 @@ impl Handle {
             at: ptr as *mut u8,
             alloc,
         }
+    }
+
+    /// Lends the desk of the handle, if it has one.
+    pub fn desk(&mut self) -> Option<&mut Desk>
+        ensures* writes_back { sem 𝓛 (LendsDesk self.entry result) }
+        ensures value { MatchOption result (self.old.desk ≡ None) (λ r. self.old.desk ≡ Some r.now) }
+    {
+        if self.at.is_null() {
+            return None;
+        }
+        unsafe { Some(&mut *(self.at as *mut Desk)) }
     }
 
     fn into_parts(self) -> Option<Parts<Desk, Global>>
@@ -86,5 +100,5 @@ impl Drop for Handle {
     }
 }
 
-/// The seat and its share of the queue may go to another thread.
+/// The seat and its share of the object may go to another thread.
 unsafe impl Send for Handle {}

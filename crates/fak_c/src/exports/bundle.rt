@@ -1,13 +1,16 @@
 //! The exported calls of bundles.
 
 ghost use Rattle.std.specs.Prelude.{◌≡◌, length};
-ghost use Rattle.fak_handles.specs.Bundled.{OpensBundles, OpensOrKeepsBundles};
-ghost use Rattle.fak_handles.specs.Bundles.{DeletesBurstTo, FillsOpenBurst, InsertsBurstOf, LooksAtBundle, SameQueueOf, TakesOpenBurst};
+ghost use Rattle.fak_handles.specs.bundle.Opening.{OpensBundles, OpensOrKeepsBundles};
+ghost use Rattle.fak_handles.specs.bundle.Calls.{DeletesBurstTo, FillsOpenBurst, InsertsBurstOf, LooksAtBundle, SameQueueOf, TakesOpenBurst};
 ghost use Rattle.fak_handles.specs.Calls.{Called};
 ghost use Rattle.fak_handles.specs.Kinds.{Spares, bundle_in};
 
-use fak_handles::bundle_opening::are_numbers_of_seats;
-use fak_handles::code::{BAD_LIMIT, NO_SEAT};
+use fak_handles::bundle::codes::{
+    of_bundle_state, of_delete_burst, of_fill_burst, of_insert_burst, of_take_burst,
+};
+use fak_handles::bundle::opening::are_numbers_of_seats;
+use fak_handles::code::{BAD_LIMIT, NO_SEAT, OK};
 use fak_handles::place::Place;
 use std::alloc::Global;
 
@@ -34,7 +37,7 @@ pub extern "C" fn fak_c_open_bundles(
     if !are_numbers_of_seats(seats.len(), bundles.len(), width) {
         return BAD_LIMIT;
     }
-    fak_handles::bundle_opening::open_bundles(alloc, seats, bundles, width, size, stint)
+    fak_handles::bundle::opening::open_bundles(alloc, seats, bundles, width, size, stint)
 }
 
 /// Claims room for the first items by one claim, as many as find it, writes the first ticket and how many were claimed, and tries once
@@ -44,7 +47,6 @@ pub extern "C" fn fak_c_open_bundles(
 /// `WRONG_STATE`, or `MEMORY` if there is no room for the items on their way, which the opening made.
 #[unsafe(no_mangle)]
 pub extern "C" fn fak_c_insert_burst(
-    alloc: Global,
     bundle: &mut Place,
     items: &[u64],
     ticket: &mut u64,
@@ -55,29 +57,30 @@ pub extern "C" fn fak_c_insert_burst(
         (bundle_in bundle.old.handle.desk) (bundle_in bundle.new.handle.desk) }
     ensures spares { Spares bundle_in bundle.old.handle.desk bundle.new.handle.desk }
 {
-    let Some(mut desk) = bundle.take(alloc) else {
+    let Some(desk) = bundle.bundle() else {
         return NO_SEAT;
     };
-    let code = desk.insert_burst(items, ticket, count);
-    bundle.put(desk);
-    code
+    if items.is_empty() {
+        return BAD_LIMIT;
+    }
+    let made = desk.insert(items);
+    of_insert_burst(&made, ticket, count)
 }
 
 /// Moves items of a claimed burst into their cells, until one's turn has not come, and writes how many are left.
 ///
 /// `OK`, `NOT_YET`, `NO_SEAT` or `WRONG_STATE`.
 #[unsafe(no_mangle)]
-pub extern "C" fn fak_c_try_fill_burst(alloc: Global, bundle: &mut Place, left: &mut u64) -> i32
+pub extern "C" fn fak_c_try_fill_burst(bundle: &mut Place, left: &mut u64) -> i32
     ensures call { Called result (left.new ≡ left.old) SameQueueOf (FillsOpenBurst result left.old left.new)
         (bundle_in bundle.old.handle.desk) (bundle_in bundle.new.handle.desk) }
     ensures spares { Spares bundle_in bundle.old.handle.desk bundle.new.handle.desk }
 {
-    let Some(mut desk) = bundle.take(alloc) else {
+    let Some(desk) = bundle.bundle() else {
         return NO_SEAT;
     };
-    let code = desk.try_fill_burst(left);
-    bundle.put(desk);
-    code
+    let tried = desk.try_fill();
+    of_fill_burst(tried, left)
 }
 
 /// Claims the oldest items by one claim, at most one for each place, writes the first ticket and how many were claimed, and tries once
@@ -87,7 +90,6 @@ pub extern "C" fn fak_c_try_fill_burst(alloc: Global, bundle: &mut Place, left: 
 /// `WRONG_STATE`.
 #[unsafe(no_mangle)]
 pub extern "C" fn fak_c_delete_burst(
-    alloc: Global,
     bundle: &mut Place,
     items: &mut [u64],
     ticket: &mut u64,
@@ -100,12 +102,14 @@ pub extern "C" fn fak_c_delete_burst(
         (bundle_in bundle.old.handle.desk) (bundle_in bundle.new.handle.desk) }
     ensures spares { Spares bundle_in bundle.old.handle.desk bundle.new.handle.desk }
 {
-    let Some(mut desk) = bundle.take(alloc) else {
+    let Some(desk) = bundle.bundle() else {
         return NO_SEAT;
     };
-    let code = desk.delete_burst(items, ticket, count, taken);
-    bundle.put(desk);
-    code
+    if items.is_empty() {
+        return BAD_LIMIT;
+    }
+    let made = desk.delete(items);
+    of_delete_burst(&made, ticket, count, taken)
 }
 
 /// Hands out items of a claimed burst to the first places, until the turn of one has not come. Writes how many came, and how many are
@@ -114,7 +118,6 @@ pub extern "C" fn fak_c_delete_burst(
 /// `OK`, `NOT_YET`, `BAD_LIMIT` if there are fewer places than items left, which changes nothing, `NO_SEAT` or `WRONG_STATE`.
 #[unsafe(no_mangle)]
 pub extern "C" fn fak_c_try_take_burst(
-    alloc: Global,
     bundle: &mut Place,
     items: &mut [u64],
     taken: &mut u64,
@@ -126,12 +129,11 @@ pub extern "C" fn fak_c_try_take_burst(
         (bundle_in bundle.old.handle.desk) (bundle_in bundle.new.handle.desk) }
     ensures spares { Spares bundle_in bundle.old.handle.desk bundle.new.handle.desk }
 {
-    let Some(mut desk) = bundle.take(alloc) else {
+    let Some(desk) = bundle.bundle() else {
         return NO_SEAT;
     };
-    let code = desk.try_take_burst(items, taken, left);
-    bundle.put(desk);
-    code
+    let tried = desk.try_take(items);
+    of_take_burst(tried, taken, left)
 }
 
 /// Writes the state of the bundle, 0 idle, 1 inserting, 2 deleting, with the next ticket of the open burst and how many of its calls have
@@ -140,7 +142,6 @@ pub extern "C" fn fak_c_try_take_burst(
 /// `OK` or `NO_SEAT`.
 #[unsafe(no_mangle)]
 pub extern "C" fn fak_c_bundle_state(
-    alloc: Global,
     bundle: &mut Place,
     state: &mut u32,
     ticket: &mut u64,
@@ -153,10 +154,11 @@ pub extern "C" fn fak_c_bundle_state(
         (bundle_in bundle.old.handle.desk) (bundle_in bundle.new.handle.desk) }
     ensures spares { Spares bundle_in bundle.old.handle.desk bundle.new.handle.desk }
 {
-    let Some(mut desk) = bundle.take(alloc) else {
+    let Some(desk) = bundle.bundle() else {
         return NO_SEAT;
     };
-    let code = desk.bundle_state(state, ticket, waiting, width, left);
-    bundle.put(desk);
-    code
+    of_bundle_state(desk.bundle.state(), state, ticket, waiting);
+    *width = desk.bundle.seats();
+    *left = desk.bundle.left();
+    OK
 }

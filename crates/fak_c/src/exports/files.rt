@@ -5,44 +5,43 @@ ghost use Rattle.fak_model.specs.declared.file.FileField.TheVariants.{Inode, Use
 ghost use Rattle.fak_files.specs.declared.phase.Access.TheVariants.{Read, Write};
 ghost use Rattle.fak_handles.specs.Calls.{Called};
 ghost use Rattle.fak_handles.specs.Kinds.{Spares, files_in};
-ghost use Rattle.fak_handles.specs.Tables.{Ends, Gets, LooksAtHold, SameTable, Sets, TriesHold};
+ghost use Rattle.fak_handles.specs.files.Calls.{Ends, Gets, LooksAtHold, SameTable, Sets, TriesHold};
 
-use fak_handles::code::NO_SEAT;
+use fak_handles::code::{NO_SEAT, OK};
+use fak_handles::files::codes::{of_done, of_get, of_held, of_hold};
 use fak_handles::place::Place;
-use std::alloc::Global;
+use fak_model::FileField;
 
 /// A reader's hold.
 ///
 /// `OK`, `WORN`, `BUSY` with the count that was found, `NO_SEAT` or `WRONG_STATE`.
 #[unsafe(no_mangle)]
-pub extern "C" fn fak_c_files_try_read(alloc: Global, seat: &mut Place, count: &mut i64) -> i32
+pub extern "C" fn fak_c_files_try_read(seat: &mut Place, count: &mut i64) -> i32
     ensures call { Called result (count.new ≡ count.old) SameTable (TriesHold Read result count.old count.new)
         (files_in seat.old.handle.desk) (files_in seat.new.handle.desk) }
     ensures spares { Spares files_in seat.old.handle.desk seat.new.handle.desk }
 {
-    let Some(mut desk) = seat.take(alloc) else {
+    let Some(desk) = seat.files() else {
         return NO_SEAT;
     };
-    let code = desk.files_try_read(count);
-    seat.put(desk);
-    code
+    let tried = desk.try_read();
+    of_hold(&tried, count)
 }
 
 /// A writer's hold.
 ///
 /// `OK`, `WORN`, `BUSY` with the count that was found, `NO_SEAT` or `WRONG_STATE`.
 #[unsafe(no_mangle)]
-pub extern "C" fn fak_c_files_try_write(alloc: Global, seat: &mut Place, count: &mut i64) -> i32
+pub extern "C" fn fak_c_files_try_write(seat: &mut Place, count: &mut i64) -> i32
     ensures call { Called result (count.new ≡ count.old) SameTable (TriesHold Write result count.old count.new)
         (files_in seat.old.handle.desk) (files_in seat.new.handle.desk) }
     ensures spares { Spares files_in seat.old.handle.desk seat.new.handle.desk }
 {
-    let Some(mut desk) = seat.take(alloc) else {
+    let Some(desk) = seat.files() else {
         return NO_SEAT;
     };
-    let code = desk.files_try_write(count);
-    seat.put(desk);
-    code
+    let tried = desk.try_write();
+    of_hold(&tried, count)
 }
 
 /// Writes an entry, in a hold.
@@ -50,7 +49,6 @@ pub extern "C" fn fak_c_files_try_write(alloc: Global, seat: &mut Place, count: 
 /// `OK`, `WRONG_STATE` with no hold or no such entry, or `NO_SEAT`.
 #[unsafe(no_mangle)]
 pub extern "C" fn fak_c_files_get(
-    alloc: Global,
     seat: &mut Place,
     entry: u64,
     inode: &mut u64,
@@ -61,78 +59,70 @@ pub extern "C" fn fak_c_files_get(
         (files_in seat.new.handle.desk) }
     ensures spares { Spares files_in seat.old.handle.desk seat.new.handle.desk }
 {
-    let Some(mut desk) = seat.take(alloc) else {
+    let Some(desk) = seat.files() else {
         return NO_SEAT;
     };
-    let code = desk.files_get(entry, inode, uses);
-    seat.put(desk);
-    code
+    let got = desk.get(entry);
+    of_get(&got, inode, uses)
 }
 
 /// Sets the inode of an entry, in a writer's hold.
 ///
 /// `OK`, `WRONG_STATE` with no such hold or entry, or `NO_SEAT`.
 #[unsafe(no_mangle)]
-pub extern "C" fn fak_c_files_set_inode(alloc: Global, seat: &mut Place, entry: u64, to: u64) -> i32
+pub extern "C" fn fak_c_files_set_inode(seat: &mut Place, entry: u64, to: u64) -> i32
     ensures call { Called result Unit SameTable (Sets result entry Inode to) (files_in seat.old.handle.desk)
         (files_in seat.new.handle.desk) }
     ensures spares { Spares files_in seat.old.handle.desk seat.new.handle.desk }
 {
-    let Some(mut desk) = seat.take(alloc) else {
+    let Some(desk) = seat.files() else {
         return NO_SEAT;
     };
-    let code = desk.files_set_inode(entry, to);
-    seat.put(desk);
-    code
+    of_done(desk.set(entry, FileField::Inode, to))
 }
 
 /// Sets the uses of an entry, in a writer's hold.
 ///
 /// `OK`, `WRONG_STATE` with no such hold or entry, or `NO_SEAT`.
 #[unsafe(no_mangle)]
-pub extern "C" fn fak_c_files_set_uses(alloc: Global, seat: &mut Place, entry: u64, to: u64) -> i32
+pub extern "C" fn fak_c_files_set_uses(seat: &mut Place, entry: u64, to: u64) -> i32
     ensures call { Called result Unit SameTable (Sets result entry Uses to) (files_in seat.old.handle.desk)
         (files_in seat.new.handle.desk) }
     ensures spares { Spares files_in seat.old.handle.desk seat.new.handle.desk }
 {
-    let Some(mut desk) = seat.take(alloc) else {
+    let Some(desk) = seat.files() else {
         return NO_SEAT;
     };
-    let code = desk.files_set_uses(entry, to);
-    seat.put(desk);
-    code
+    of_done(desk.set(entry, FileField::Uses, to))
 }
 
 /// Gives the hold back.
 ///
 /// `OK`, `WRONG_STATE` with no hold, or `NO_SEAT`.
 #[unsafe(no_mangle)]
-pub extern "C" fn fak_c_files_end(alloc: Global, seat: &mut Place) -> i32
+pub extern "C" fn fak_c_files_end(seat: &mut Place) -> i32
     ensures call { Called result Unit SameTable (Ends result) (files_in seat.old.handle.desk)
         (files_in seat.new.handle.desk) }
     ensures spares { Spares files_in seat.old.handle.desk seat.new.handle.desk }
 {
-    let Some(mut desk) = seat.take(alloc) else {
+    let Some(desk) = seat.files() else {
         return NO_SEAT;
     };
-    let code = desk.files_end();
-    seat.put(desk);
-    code
+    of_done(desk.end())
 }
 
 /// Writes what the seat holds, 0 nothing, 1 as a reader, 2 as a writer.
 ///
 /// `OK` or `NO_SEAT`.
 #[unsafe(no_mangle)]
-pub extern "C" fn fak_c_files_hold(alloc: Global, seat: &mut Place, hold: &mut u32) -> i32
+pub extern "C" fn fak_c_files_hold(seat: &mut Place, hold: &mut u32) -> i32
     ensures call { Called result (hold.new ≡ hold.old) SameTable (LooksAtHold result hold.new)
         (files_in seat.old.handle.desk) (files_in seat.new.handle.desk) }
     ensures spares { Spares files_in seat.old.handle.desk seat.new.handle.desk }
 {
-    let Some(mut desk) = seat.take(alloc) else {
+    let Some(desk) = seat.files() else {
         return NO_SEAT;
     };
-    let code = desk.files_hold(hold);
-    seat.put(desk);
-    code
+    *hold = of_held(desk.seat.hold());
+    OK
 }

@@ -1,4 +1,4 @@
--- What a handle owns says the same to every thread: its box may go to another, as the desk may.
+-- What a handle owns is the same to every thread: its box may go to another, as the desk may.
 use mir.Raw.{raw}
 use base.Shift.{Keyless}
 use denote.Memory.{lone}

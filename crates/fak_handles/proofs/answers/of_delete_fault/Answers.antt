@@ -1,5 +1,0 @@
-use Rattle.std.proofs.Common.{rules}
-use Rattle.fak_handles.proofs.answers.of_delete_fault.Goals as goal
-
-pub returns-in-Worn : goal.returns-in-Worn
-returns-in-Worn c = search rules

@@ -1,5 +1,0 @@
-use Rattle.std.proofs.Common.{rules}
-use Rattle.fak_handles.proofs.answers.of_insert_fault.Goals as goal
-
-pub returns-in-Closed : goal.returns-in-Closed
-returns-in-Closed c = search rules

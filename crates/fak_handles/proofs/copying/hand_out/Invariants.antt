@@ -1,6 +1,0 @@
-use Rattle.std.specs.Prelude.{◌≡◌, ◌++◌, drop, length, take}
-use Rattle.fak_handles.proofs.copying.hand_out.Given as goal
-
--- the places before this one have their items, and the others are as they were
-abbrev pub invariant-loop-i : goal.invariant-loop-i
-invariant-loop-i l = (length l.items ≡ length l.fn.items) × (l.items ≡ take l.i l.held.items ++ drop l.i l.fn.items)

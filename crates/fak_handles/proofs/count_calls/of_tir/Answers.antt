@@ -1,5 +1,0 @@
-use Rattle.std.proofs.Common.{rules}
-use Rattle.fak_handles.proofs.count_calls.of_tir.Goals as goal
-
-pub returns-in-Some-Err-Worn-clause-code : goal.returns-in-Some-Err-Worn-clause-code
-returns-in-Some-Err-Worn-clause-code c = search rules

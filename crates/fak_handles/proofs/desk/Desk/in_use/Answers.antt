@@ -1,5 +1,0 @@
-use Rattle.std.proofs.Common.{rules}
-use Rattle.fak_handles.proofs.desk.Desk.in_use.Goals as goal
-
-pub returns-in-Queue-clause-call : goal.returns-in-Queue-clause-call
-returns-in-Queue-clause-call c = search rules

@@ -1,5 +1,0 @@
-use Rattle.std.proofs.Common.{rules}
-use Rattle.fak_handles.proofs.queue.QueueDesk.is_drained.Goals as goal
-
-pub returns-clause-drained : goal.returns-clause-drained
-returns-clause-drained c = search rules

@@ -1,5 +1,0 @@
-use Rattle.std.proofs.Common.{rules}
-use Rattle.fak_handles.proofs.room.RoomDesk.release.Goals as goal
-
-pub release-requires-clause-holds : goal.release-requires-clause-holds
-release-requires-clause-holds c = search rules

@@ -1,5 +1,0 @@
-use Rattle.std.proofs.Common.{rules}
-use Rattle.fak_handles.proofs.sem_calls.of_park.Goals as goal
-
-pub returns-in-Some-false : goal.returns-in-Some-false
-returns-in-Some-false c = search rules

@@ -1,0 +1,2 @@
+-- Ends of channels.
+pub mod Calls

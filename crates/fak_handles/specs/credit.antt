@@ -1,0 +1,2 @@
+-- Seats of credits.
+pub mod Calls

@@ -1,0 +1,2 @@
+-- Seats of file tables.
+pub mod Calls

@@ -1,0 +1,3 @@
+-- Seats of queues.
+pub mod Calls
+pub mod Observing

@@ -1,0 +1,2 @@
+-- Seats of rooms.
+pub mod Calls

@@ -1,0 +1,2 @@
+-- Seats of semaphores.
+pub mod Calls

@@ -1,0 +1,99 @@
+//! The results of the calls of an end of a channel as numbers.
+
+ghost use Rattle.std.specs.Prelude.{◌≡◌};
+ghost use Rattle.fak_handles.specs.channel.Calls.{begin_close_code, begin_receive_code, begin_send_code, channel_state_code, give_up_code, given_up_or, roused_or, step_code, stepped_or};
+
+use crate::channel::seat::Item;
+use crate::code::{CLOSED, EMPTY, FULL, GAVE_UP, NOT_YET, OK, SLEEPS, WAKES, WORN, WRONG_STATE};
+use fak_channel::{ChannelState, ChannelStep, ChannelWorn, Outcome, ReceiveFault, SendFault, Wish};
+
+pub fn of_begin_send(begun: &Option<Result<(), SendFault<Item>>>) -> i32
+    ensures { result ≡ begin_send_code begun.now }
+{
+    match begun {
+        None => WRONG_STATE,
+        Some(Ok(())) => OK,
+        Some(Err(SendFault::Worn { item: _ })) => WORN,
+        Some(Err(SendFault::Closed { item: _ })) => CLOSED,
+        Some(Err(SendFault::Full { item: _ })) => FULL,
+        Some(Err(SendFault::TimedOut { item: _ })) => GAVE_UP,
+    }
+}
+
+pub fn of_begin_receive(begun: &Option<Result<(), ReceiveFault>>) -> i32
+    ensures { result ≡ begin_receive_code begun.now }
+{
+    match begun {
+        None => WRONG_STATE,
+        Some(Ok(())) => OK,
+        Some(Err(ReceiveFault::Worn)) => WORN,
+        Some(Err(ReceiveFault::Closed)) => CLOSED,
+        Some(Err(ReceiveFault::Empty)) => EMPTY,
+        Some(Err(ReceiveFault::TimedOut)) => GAVE_UP,
+    }
+}
+
+pub fn of_begin_close(begun: &Option<Result<(), ChannelWorn>>) -> i32
+    ensures { result ≡ begin_close_code begun.now }
+{
+    match begun {
+        None => WRONG_STATE,
+        Some(Ok(())) => OK,
+        Some(Err(ChannelWorn)) => WORN,
+    }
+}
+
+pub fn of_steps(stepped: &Option<ChannelStep<Item>>, item: &mut Item, number: &mut u64) -> i32
+    ensures code { result ≡ step_code stepped.now }
+    ensures item { item.new ≡ stepped_or item.old stepped.now }
+    ensures number { number.new ≡ roused_or number.old stepped.now }
+{
+    match stepped {
+        None => WRONG_STATE,
+        Some(ChannelStep::GoesOn) => NOT_YET,
+        Some(ChannelStep::NotYet) => NOT_YET,
+        Some(ChannelStep::Sleeps) => SLEEPS,
+        Some(ChannelStep::Wakes(woken)) => {
+            *number = *woken;
+            WAKES
+        }
+        Some(ChannelStep::Ends(Outcome::Sent)) => OK,
+        Some(ChannelStep::Ends(Outcome::Refused(back))) => {
+            *item = *back;
+            CLOSED
+        }
+        Some(ChannelStep::Ends(Outcome::Received(out))) => {
+            *item = *out;
+            OK
+        }
+        Some(ChannelStep::Ends(Outcome::Drained)) => CLOSED,
+        Some(ChannelStep::Ends(Outcome::Worn)) => WORN,
+        Some(ChannelStep::Ends(Outcome::Closed)) => OK,
+        Some(ChannelStep::Ends(Outcome::WasClosed)) => CLOSED,
+    }
+}
+
+pub fn of_give_up(given: &Option<Option<Wish<Item>>>, item: &mut Item) -> i32
+    ensures code { result ≡ give_up_code given.now }
+    ensures item { item.new ≡ given_up_or item.old given.now }
+{
+    match given {
+        None => WRONG_STATE,
+        Some(None) => NOT_YET,
+        Some(Some(Wish::Send(back))) => {
+            *item = *back;
+            GAVE_UP
+        }
+        Some(Some(Wish::Receive)) => GAVE_UP,
+    }
+}
+
+pub fn of_channel_state(state: ChannelState) -> u32
+    ensures { result ≡ channel_state_code state }
+{
+    match state {
+        ChannelState::Idle => 0,
+        ChannelState::Open => 1,
+        ChannelState::Sleeping => 2,
+    }
+}

@@ -1,0 +1,34 @@
+//! A seat of a room, with a share of the room.
+
+ghost use Rattle.std.specs.Prelude.{◌≡◌};
+ghost use Rattle.std.specs.Arc.{arc_value};
+
+use fak_count::{Room, RoomSeat};
+use std::alloc::Global;
+use std::sync::Arc;
+
+/// A seat with a share of its room.
+#[derive(Drop)]
+#[repr(C)]
+pub struct RoomDesk {
+    pub(crate) before: [u64; 8],
+    pub(crate) room: Arc<Room, Global>,
+    pub seat: RoomSeat,
+    pub(crate) after: [u64; 8],
+    pub ghost same: { seat.object ≡ (arc_value room).object },
+}
+
+impl RoomDesk {
+    pub(crate) fn of(room: Arc<Room, Global>, seat: RoomSeat) -> RoomDesk
+        requires same { seat.object ≡ (arc_value room).object }
+        ensures object { arc_value result.room ≡ arc_value room }
+        ensures seat { result.seat ≡ seat }
+    {
+        RoomDesk {
+            before: [0; 8],
+            room,
+            seat,
+            after: [0; 8],
+        }
+    }
+}
