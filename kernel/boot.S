@@ -50,7 +50,8 @@ ap_gdtr:
     .long boot_gdt
 ap_end:
 
-/* Every processor draws its number, takes the stack of that number and calls enter(number). */
+/* Each processor draws its number, takes the stack of that number and calls enter(number). The draw must be atomic and come before the
+ * stack is used: all others start at once. */
     .code64
 long_start:
     movl $1, %edi
@@ -153,9 +154,9 @@ tick_entry:
     popq %rax
     iretq
 
-/* bool keeps_sse(uint64_t pattern, uint64_t turns): whether two registers still hold the pattern after this many turns. */
-    .globl keeps_sse
-keeps_sse:
+/* bool hold_sse(uint64_t pattern, uint64_t turns): writes two registers. Returns whether they still hold the pattern after the turns. */
+    .globl hold_sse
+hold_sse:
     movq %rdi, %xmm0
     movq %rdi, %xmm15
 1:  decq %rsi

@@ -1,8 +1,8 @@
-/* A cache of page frames for each processor, before the list that all share. A thread takes a frame of its processor's cache and gives
- * one back to it without an atomic step. An empty cache is refilled from the list by one burst, and a full one is drained by one.
+/* A cache of page frames for each processor, in front of the list that all share. A thread takes a frame from its processor's cache and
+ * gives one back to it without an atomic step. An empty cache is refilled from the list by one burst, and a full one is drained by one.
  *
- * A cache has room for two bursts, and after a refill or a drain it holds one. So the next burst comes after BURST frames more at the
- * earliest. No handler uses a cache, and a thread runs on until it stops, so a cache needs no guard. */
+ * A cache has room for two bursts, and after a refill or a drain it holds one. So at least BURST frames come or go before the next burst.
+ * No handler uses a cache, and a thread runs on until it stops, so a cache needs no guard. */
 #include "kernel.h"
 
 enum { CACHE = 2 * BURST };
@@ -52,8 +52,8 @@ void give_frame(void *frame) {
     cache->frames[cache->count++] = (uintptr_t)frame;
 }
 
-/* Each cache holds what came in and did not go out, and its bursts were no more than the frames that came and went call for. Then its
- * frames go back to the list. */
+/* Checks that each cache holds what came in and did not go out, and that its bursts were no more than the frames that came and went need.
+ * Then gives its frames back to the list. */
 void empty_caches(uint32_t n) {
     for (uint32_t i = 0; i < n; i++) {
         const processor_state *s = &processor_states[i];

@@ -1,5 +1,5 @@
-/* All memory that nothing else uses, as one list of page frames: a queue with a cell for each of them. The queue lies behind the
- * kernel's image, and the frames behind the queue. Frames come and go by bursts, so a processor has a bundle of its seats. */
+/* All memory that nothing else uses, as one list of page frames: a queue with a cell for each of them. The queue lies after the kernel's
+ * image, and the frames lie after the queue. Frames come and go by bursts, so each processor has a bundle of the queue's seats. */
 #include "kernel.h"
 
 #include "block.h"
@@ -30,7 +30,7 @@ void open_frames(uint32_t n) {
     first_frame = block + bytes;
     frame_count = (end - start - bytes) / PAGE;
     fak_c_block_begin(block, bytes);
-    must(fak_c_open_bundles(&none, 0, frames, n, BURST, frame_count, stint), "open the page frames");
+    expect_ok(fak_c_open_bundles(&none, 0, frames, n, BURST, frame_count, stint), "open the page frames");
     say("%u page frames of %u kB of memory in a list in %u bytes\n", frame_count, memory_bytes() / 1024, (uint64_t)fak_c_block_end());
     for (uint64_t i = 0, count; i < frame_count; i += count) {
         for (count = 0; count < BURST && i + count < frame_count; count++)
@@ -39,26 +39,26 @@ void open_frames(uint32_t n) {
     }
 }
 
-/* The frame is one, and was not seen before. */
-static void see(uint64_t frame) {
+/* Checks that this is a frame, which was not seen before. */
+static void check_frame(uint64_t frame) {
     static unsigned char seen[MOST_FRAMES];
     uint64_t i = (frame - (uintptr_t)first_frame) / PAGE;
     if (i >= frame_count || frame % PAGE != 0 || seen[i]++ != 0)
         fail("a frame that is none, or is free twice:", i);
 }
 
-/* All frames are in the list, each once, and its memory is free when its seats have left. */
+/* Checks that all frames are in the list, each once, and that its memory is free when its seats have left. */
 uint64_t leave_frames(uint32_t n) {
     uint64_t count = 0, got, burst[BURST] = {0};
     while ((got = get_some(&frames[0], burst, BURST)) > 0) {
         for (uint64_t i = 0; i < got; i++)
-            see(burst[i]);
+            check_frame(burst[i]);
         count += got;
     }
     if (count != frame_count)
         fail("frames are lost, of which there are", count);
     for (uint32_t i = 0; i < n; i++)
-        must(fak_c_leave(&frames[i]), "leave the frames");
+        expect_ok(fak_c_leave(&frames[i]), "leave the frames");
     if (!fak_c_block_is_free(block))
         fail("memory of the frames in use at the end", 0);
     return count;

@@ -1,13 +1,13 @@
 /* A small kernel whose lists and semaphores are the library's. It boots on 1 to 8 processors, runs 64 threads, and says what each
- * processor did. README.md tells where to begin reading. */
+ * processor did. README.md says where to begin reading. */
 #include "kernel.h"
 
 static uint32_t in_use; /* processors */
 static _Atomic uint32_t started, stopped;
 static _Atomic bool opened;
 
-/* How many pages are free, each once. */
-static uint64_t free_page_count(void) {
+/* Takes all free pages, and checks that each is free once. Returns how many there are. */
+static uint64_t count_free_pages(void) {
     bool seen[PAGES] = {false};
     uint64_t count = 0;
     for (unsigned char *page; (page = get(&free_pages[0])) != NULL;) {
@@ -20,38 +20,38 @@ static uint64_t free_page_count(void) {
     return count;
 }
 
-/* The semaphore's count is 0: one more down parks, and what it parked is the only item that waits. */
-static void is_down(fak_c_seat *seat, const char *what) {
+/* Checks that the semaphore's count is 0: one more down parks, and what it parked is the only item that waits. */
+static void check_is_down(fak_c_seat *seat, const char *what) {
     uint64_t woken = 0;
     if (fak_c_sem_claim_down(seat, THREADS) != FAK_C_PARKS)
         fail(what, 0);
-    must(fak_c_sem_try_park(seat), "try_park at the end");
+    expect_ok(fak_c_sem_try_park(seat), "try_park at the end");
     if (fak_c_sem_claim_up(seat) != FAK_C_WAKES)
         fail("an up that wakes nobody at the end", 0);
-    must(fak_c_sem_try_wake(seat, &woken), "try_wake at the end");
+    expect_ok(fak_c_sem_try_wake(seat, &woken), "try_wake at the end");
     if (woken != THREADS)
         fail("another was woken at the end:", woken);
 }
 
-/* Takes each semaphore's tokens: there are as many as at the start, and no more. */
-static void tokens_are_back(void) {
+/* Takes each semaphore's tokens, and checks that there are as many as at the start. */
+static void check_tokens(void) {
     for (int i = 0; i < SEMAPHORES; i++) {
         for (int token = 0; token < TOKENS; token++)
-            must(fak_c_sem_claim_down(&ring[i][0], 0), "a token is lost");
-        is_down(&ring[i][0], "there is a token too many");
+            expect_ok(fak_c_sem_claim_down(&ring[i][0], 0), "a token is lost");
+        check_is_down(&ring[i][0], "there is a token too many");
     }
-    all_tokens_were_given();
+    check_tokens_given();
 }
 
-/* The alarm was raised as often as it was asked for, and each raise was waited for. */
-static void alarm_is_over(void) {
+/* Checks that the alarm was raised as often as it was asked for, and that a thread waited for each. */
+static void check_alarm(void) {
     if (alarms_left() != 0)
         fail("alarms that were not raised:", alarms_left());
-    is_down(&alarm_clock.threads[0], "the alarm was raised too often");
+    check_is_down(&alarm_clock.threads[0], "the alarm was raised too often");
 }
 
-/* Each thread has stopped as often as its work says, and each stop was of one kind. */
-static void all_work_was_done(void) {
+/* Checks that each thread has stopped as often as its work says, and that each stop was of one kind. */
+static void check_work(void) {
     processor_state sum = {0};
     for (uint32_t i = 0; i < in_use; i++) {
         const processor_state *s = &processor_states[i];
@@ -77,7 +77,7 @@ static void all_work_was_done(void) {
         fail("alarms are missing, or too many:", sum.raised);
 }
 
-static void say_what_was_done(uint32_t number) {
+static void say_counts(uint32_t number) {
     const processor_state *s = &processor_states[number];
     say("processor %u: ran %u, yields %u, parks %u, sleeps %u, ended %u, no page %u, idle %u, not yet %u;", (uint64_t)number, s->ran,
         s->yields, s->parks, s->sleeps, s->ended, s->no_page, s->idle, s->not_yet);
@@ -88,21 +88,21 @@ static void say_what_was_done(uint32_t number) {
 
 /* Prints what was done, once all processors have stopped, and ends the machine. */
 static _Noreturn void report(void) {
-    uint64_t ended = 0, pages = free_page_count();
+    uint64_t ended = 0, pages = count_free_pages();
     for (uint32_t i = 0; i < in_use; i++) {
         ended += processor_states[i].ended;
-        say_what_was_done(i);
+        say_counts(i);
     }
     if (get(&ready.threads[0]) != NULL || get(&sleeping.threads[0]) != NULL)
         fail("a thread that was left", 0);
-    tokens_are_back();
-    alarm_is_over();
-    all_work_was_done();
+    check_tokens();
+    check_alarm();
+    check_work();
     leave_objects(in_use);
     empty_caches(in_use);
     say("all %u page frames are free\n", leave_frames(in_use));
     say("all %u threads ended, pages %u of %u free\n", ended, pages, (uint64_t)PAGES);
-    leave(ended == THREADS && pages == PAGES);
+    exit_qemu(ended == THREADS && pages == PAGES);
 }
 
 /* Each processor begins here, on a stack of its own, with interrupts off. The first opens all objects and starts the others. */
@@ -115,9 +115,11 @@ void enter(uint32_t number) {
         open_objects(in_use);
         open_frames(in_use);
         make_threads();
+        /* Other processors use the objects once they read this, so it must follow all openings. */
         atomic_store(&opened, true);
         start_others();
     }
+    /* All begin together, once each has added 1. So this must follow the processor's set-up. */
     atomic_fetch_add(&started, 1);
     while (!atomic_load(&opened) || atomic_load(&started) < in_use)
         pause();
@@ -126,6 +128,7 @@ void enter(uint32_t number) {
     run_threads(number);
     timer_off();
     interrupts_off();
+    /* The first processor reads the counts of all and gives up their seats, so this must follow the last call and the last tick. */
     atomic_fetch_add(&stopped, 1);
     if (number == 0) {
         while (atomic_load(&stopped) < in_use)

@@ -21,8 +21,8 @@ enum {
 
 /* ---- Objects (objects.c): each is its seats. ---- */
 
-/* A processor has a seat of each object, which the thread that runs on it uses. The second half of a list, and of the alarm, are the
- * seats of the processors' timer handlers. */
+/* A processor has a seat of each object, which the thread that runs on it uses. A list and the alarm have a second half: the seats of the
+ * processors' timer handlers. */
 typedef struct {
     fak_c_seat threads[PROCESSORS];
     fak_c_seat handlers[PROCESSORS];
@@ -36,27 +36,27 @@ extern unsigned char page_frames[PAGES][PAGE];
 void open_objects(uint32_t processors);
 void leave_objects(uint32_t processors);
 
-/* ---- Page frames (frames.c): all memory that nothing else uses, one bundle a processor. ---- */
+/* ---- Page frames (frames.c): all memory that nothing else uses. Each processor has a bundle of their list. ---- */
 
 extern fak_c_seat frames[PROCESSORS];
 
 void open_frames(uint32_t processors);
-uint64_t leave_frames(uint32_t processors); /* how many there are; each is in the list */
+uint64_t leave_frames(uint32_t processors); /* returns how many there are; each is in the list */
 
 /* ---- The cache of page frames that each processor has (frame_cache.c) ---- */
 
-void *take_frame(void); /* NULL where there is none */
+void *take_frame(void); /* NULL if there is none */
 void give_frame(void *frame);
 void empty_caches(uint32_t processors);
 
 /* ---- Threads (threads.c) ---- */
 
-enum wish { YIELDS, SLEEPS, PARKS, ENDS };
+enum wish { YIELD, SLEEP, PARK, END };
 
 typedef struct thread {
     void *stack_at;
     enum wish wish;       /* what becomes of it once its stack was left */
-    fak_c_seat *parks_in; /* with PARKS: the processor's seat of the semaphore, in mid-call */
+    fak_c_seat *parks_in; /* with PARK: the processor's seat of the semaphore, whose call is open */
     uint64_t number;
     unsigned char stack[STACK] __attribute__((aligned(16)));
 } thread;
@@ -66,7 +66,7 @@ bool threads_live(void);
 void stop(thread *me, enum wish wish);
 void run_threads(uint32_t number);
 
-/* ---- What each processor counts, and its handler's open call. ---- */
+/* ---- What each processor counts ---- */
 
 typedef struct {
     void *stack_at; /* of the processor itself, while a thread runs */
@@ -80,12 +80,12 @@ typedef struct {
 extern processor_state processor_states[PROCESSORS];
 static inline processor_state *this_processor(void) { return &processor_states[processor()]; }
 
-/* ---- Lists (lists.c): a queue of pointers that has room for all there is. ---- */
+/* ---- Lists (lists.c): queues of pointers, with a cell for each ---- */
 
 void put(fak_c_seat *seat, void *item);
-void *get(fak_c_seat *seat); /* NULL where there is none */
+void *get(fak_c_seat *seat); /* NULL if there is none */
 void put_all(fak_c_seat *bundle, const uint64_t *items, uint64_t n);
-uint64_t get_some(fak_c_seat *bundle, uint64_t *items, uint64_t n); /* at most n: how many there were */
+uint64_t get_some(fak_c_seat *bundle, uint64_t *items, uint64_t n); /* at most n; returns how many */
 
 /* ---- Semaphores (semaphores.c) ---- */
 
@@ -101,18 +101,18 @@ uint64_t alarms_left(void); /* asked for, and not yet raised */
 /* ---- Work (work.c): the threads' program. ---- */
 
 void work(thread *me);
-void all_tokens_were_given(void);
+void check_tokens_given(void);
 
-/* ---- The two ways of interrupts ----
+/* ---- The two variants of interrupts ----
  *
  * Open: interrupts stay on in every call. The timer's handler has seats of its own, and never waits.
  * SHIELDED: interrupts are off from each claim to the end of its call. The handler may use its processor's seats, and wait.
  *
- * The ways that fail, to show that the rules are needed: SAME_SEAT, the handler of the open way uses its processor's seats;
- * HANDLER_WAITS, it waits. */
+ * Two variants fail, to show that the rules are needed. With SAME_SEAT the handler of the open variant uses its processor's seats. With
+ * HANDLER_WAITS it waits. */
 #ifdef SHIELDED
-static inline uint64_t shield(void) { return flags_off(); }
-static inline void unshield(uint64_t flags) { flags_back(flags); }
+static inline uint64_t shield(void) { return irq_save(); }
+static inline void unshield(uint64_t flags) { irq_restore(flags); }
 #define SAME_SEAT
 #define HANDLER_WAITS
 #else
@@ -120,8 +120,8 @@ static inline uint64_t shield(void) { return 0; }
 static inline void unshield(uint64_t flags) { (void)flags; }
 #endif
 
-/* Between a claim and its end. GAP makes some of these moments long, so that interrupts come in them. */
-static inline void gap(void) {
+/* Called between a claim and its end. GAP makes some of these moments long, so that interrupts come in them. */
+static inline void linger(void) {
 #ifdef GAP
     static _Atomic unsigned calls;
     if (atomic_fetch_add(&calls, 1) % 64 == 0)
@@ -130,10 +130,10 @@ static inline void gap(void) {
 #endif
 }
 
-/* Stops the machine where a call was refused that can't be. */
-static inline void must(int32_t answer, const char *what) {
-    if (answer != FAK_C_OK)
-        fail(what, (uint64_t)answer);
+/* Stops the machine if a call was refused that can't be. */
+static inline void expect_ok(int32_t code, const char *what) {
+    if (code != FAK_C_OK)
+        fail(what, (uint64_t)code);
 }
 
 #endif

@@ -1,4 +1,4 @@
-/* One image from 1 MB on. The library's code is in one piece, so that the timer can tell whether it interrupted it. */
+/* One image from 1 MB on. The library's code is in one piece, so that the timer knows whether it interrupted that code. */
 ENTRY(start)
 SECTIONS
 {

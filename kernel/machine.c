@@ -14,20 +14,20 @@ static inline uint8_t in8(uint16_t port) {
 }
 
 /* The serial port. */
-static void put(char c) {
+static void put_char(char c) {
     while (!(in8(0x3FD) & 0x20))
         pause();
     out8(0x3F8, (uint8_t)c);
 }
 
-static void number(uint64_t n, unsigned base) {
+static void put_number(uint64_t n, unsigned base) {
     char digits[24];
     int i = 0;
     do
         digits[i++] = "0123456789abcdef"[n % base];
     while ((n /= base) != 0);
     while (i > 0)
-        put(digits[--i]);
+        put_char(digits[--i]);
 }
 
 void say(const char *format, ...) {
@@ -35,38 +35,39 @@ void say(const char *format, ...) {
     va_start(list, format);
     for (; *format != 0; format++) {
         if (*format != '%') {
-            put(*format);
+            put_char(*format);
             continue;
         }
         format++;
         if (*format == 's')
             for (const char *s = va_arg(list, const char *); *s != 0; s++)
-                put(*s);
+                put_char(*s);
         else
-            number(va_arg(list, uint64_t), *format == 'x' ? 16 : 10);
+            put_number(va_arg(list, uint64_t), *format == 'x' ? 16 : 10);
     }
     va_end(list);
 }
 
 /* QEMU's isa-debug-exit ends with status 2n + 1. */
-void leave(bool good) {
+void exit_qemu(bool good) {
     out8(0xF4, good ? 16 : 17);
     for (;;)
         halt();
 }
 
-/* The first processor that fails says so. */
+/* Only the first processor that fails prints. */
 void fail(const char *what, uint64_t number) {
     static atomic_flag once = ATOMIC_FLAG_INIT;
     interrupts_off();
+    /* It must come before the text, and nobody clears it: others that fail stay here. */
     while (atomic_flag_test_and_set(&once))
         pause();
     say("\nFAILED on processor %u: %s %u\n", (uint64_t)processor(), what, number);
-    leave(false);
+    exit_qemu(false);
 }
 
 void trap(uint64_t vector, const uint64_t *stack) {
-    say("\ntrap at %x, %x, %x", stack[0], stack[1], stack[2]); /* where there is an error code, it comes first */
+    say("\ntrap at %x, %x, %x", stack[0], stack[1], stack[2]); /* an error code, if there is one, comes first */
     fail("trap", vector);
 }
 
@@ -77,7 +78,7 @@ enum { APIC_EOI = 0xB0 / 4, APIC_SPURIOUS = 0xF0 / 4, APIC_COMMAND = 0x300 / 4, 
 
 void end_of_interrupt(void) { apic[APIC_EOI] = 0; }
 void timer_off(void) { apic[APIC_TIMER] = 1 << 16; }
-/* QEMU's counts nanoseconds, where it divides by 1. Another machine's would have to be measured. */
+/* If it divides by 1, QEMU's counts nanoseconds. Another machine's would have to be measured. */
 void timer_on(uint32_t nanoseconds) {
     apic[APIC_DIVIDE] = 0xB;
     apic[APIC_TIMER] = 1 << 17 | TICK;
@@ -101,46 +102,46 @@ static struct {
     struct task task;
     uint64_t gdt[4];
     unsigned char ist[8192] __attribute__((aligned(16)));
-} of[PROCESSORS];
+} per_processor[PROCESSORS];
 
 static uint64_t idt[256][2];
 extern const unsigned char trap_entries[], tick_entry[], spurious_entry[];
 
-static void gate(unsigned vector, const unsigned char *entry, uint64_t ist) {
+static void set_gate(unsigned vector, const unsigned char *entry, uint64_t ist) {
     uint64_t at = (uint64_t)entry;
     idt[vector][0] = (at & 0xFFFF) | CODE << 16 | ist << 32 | 0x8EULL << 40 | (at >> 16 & 0xFFFF) << 48;
     idt[vector][1] = at >> 32;
 }
 
 void set_up(uint32_t n) {
-    uint64_t task = (uint64_t)&of[n].task;
-    of[n].number = n;
-    of[n].task.ist[0] = (uint64_t)(of[n].ist + sizeof of[n].ist);
-    of[n].gdt[1] = 0x00AF9A000000FFFF;
-    of[n].gdt[2] = (sizeof(struct task) - 1) | (task & 0xFFFFFF) << 16 | 0x89ULL << 40 | (task >> 24 & 0xFF) << 56;
-    of[n].gdt[3] = task >> 32;
+    uint64_t task = (uint64_t)&per_processor[n].task;
+    per_processor[n].number = n;
+    per_processor[n].task.ist[0] = (uint64_t)(per_processor[n].ist + sizeof per_processor[n].ist);
+    per_processor[n].gdt[1] = 0x00AF9A000000FFFF;
+    per_processor[n].gdt[2] = (sizeof(struct task) - 1) | (task & 0xFFFFFF) << 16 | 0x89ULL << 40 | (task >> 24 & 0xFF) << 56;
+    per_processor[n].gdt[3] = task >> 32;
     if (n == 0) {
         for (unsigned i = 0; i < 32; i++)
-            gate(i, trap_entries + 8 * i, 1);
+            set_gate(i, trap_entries + 8 * i, 1);
 #ifdef NO_IST
-        gate(TICK, tick_entry, 0);
+        set_gate(TICK, tick_entry, 0);
 #else
-        gate(TICK, tick_entry, 1);
+        set_gate(TICK, tick_entry, 1);
 #endif
-        gate(SPURIOUS, spurious_entry, 1);
+        set_gate(SPURIOUS, spurious_entry, 1);
         out8(0x21, 0xFF); /* the old interrupt controllers stay silent */
         out8(0xA1, 0xFF);
     }
-    __asm__ volatile("lgdt %0" ::"m"((struct table){sizeof of[n].gdt - 1, (uint64_t)of[n].gdt}));
+    __asm__ volatile("lgdt %0" ::"m"((struct table){sizeof per_processor[n].gdt - 1, (uint64_t)per_processor[n].gdt}));
     __asm__ volatile("lidt %0" ::"m"((struct table){sizeof idt - 1, (uint64_t)idt}));
     __asm__ volatile("ltr %w0" ::"r"(TASK));
-    uint64_t gs = (uint64_t)&of[n].number;
+    uint64_t gs = (uint64_t)&per_processor[n].number;
     __asm__ volatile("wrmsr" ::"c"(0xC0000101), "a"((uint32_t)gs), "d"((uint32_t)(gs >> 32)));
     apic[APIC_SPURIOUS] = 0x100 | SPURIOUS;
 }
 
-/* QEMU's fw_cfg has numbers under keys, each byte by byte. */
-static uint64_t told(uint16_t key, unsigned bytes) {
+/* Reads a number of QEMU's fw_cfg by its key, byte by byte. */
+static uint64_t read_config(uint16_t key, unsigned bytes) {
     uint64_t n = 0;
     out16(0x510, key);
     for (unsigned i = 0; i < bytes; i++)
@@ -148,8 +149,8 @@ static uint64_t told(uint16_t key, unsigned bytes) {
     return n;
 }
 
-uint32_t processors(void) { return (uint32_t)told(5, 2); }
-uint64_t memory_bytes(void) { return told(3, 8); }
+uint32_t processors(void) { return (uint32_t)read_config(5, 2); }
+uint64_t memory_bytes(void) { return read_config(3, 8); }
 
 static void wait_microseconds(unsigned n) {
     while (n-- > 0)

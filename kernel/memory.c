@@ -1,4 +1,4 @@
-/* What gcc and the library's first archive call by name. The kernel has no heap: objects lie in the block of objects.c. */
+/* What gcc and the library's first archive call by name. The kernel has no heap: objects lie in the blocks of objects.c and frames.c. */
 #include "machine.h"
 
 void *memcpy(void *to, const void *from, size_t size) {
@@ -7,7 +7,7 @@ void *memcpy(void *to, const void *from, size_t size) {
     return start;
 }
 
-/* Where the parts overlap, from the end: a byte at a time, which no compiler makes a call of memmove of. */
+/* If the parts overlap, it copies from the end, a byte at a time, in a form that no compiler turns into a call of memmove. */
 void *memmove(void *to, const void *from, size_t size) {
     if ((size_t)to - (size_t)from >= size)
         return memcpy(to, from, size);

@@ -1,4 +1,4 @@
-/* The objects that processors share, opened in a block of the kernel's own memory. Each is opened in a list of handles, and then each
+/* The objects that processors share, opened in a block of the kernel's own memory. Each is opened over an array of handles, and then each
  * seat is moved to its processor's place. */
 #include "kernel.h"
 
@@ -20,12 +20,12 @@ static unsigned char block[BLOCK] __attribute__((aligned(16)));
 
 static void move_all(fak_c_seat *opened, fak_c_seat *places, uint32_t n) {
     for (uint32_t i = 0; i < n; i++)
-        must(fak_c_move(&opened[i], &places[i]), "move");
+        expect_ok(fak_c_move(&opened[i], &places[i]), "move");
 }
 
 static void open_list(shared_object *list, uint32_t n) {
     static fak_c_seat opened[MOST_SEATS];
-    must(fak_c_open(opened, 2 * n, THREADS, stint), "open a list");
+    expect_ok(fak_c_open(opened, 2 * n, THREADS, stint), "open a list");
     move_all(opened, list->threads, n);
     move_all(opened + n, list->handlers, n);
 }
@@ -35,12 +35,12 @@ void open_objects(uint32_t n) {
     fak_c_block_begin(block, sizeof block);
     open_list(&ready, n);
     open_list(&sleeping, n);
-    must(fak_c_sem_open(opened, 2 * n, 0, THREADS, stint), "open the alarm");
+    expect_ok(fak_c_sem_open(opened, 2 * n, 0, THREADS, stint), "open the alarm");
     move_all(opened, alarm_clock.threads, n);
     move_all(opened + n, alarm_clock.handlers, n);
-    must(fak_c_open(free_pages, n, PAGES, stint), "open the free pages");
+    expect_ok(fak_c_open(free_pages, n, PAGES, stint), "open the free pages");
     for (int i = 0; i < SEMAPHORES; i++)
-        must(fak_c_sem_open(ring[i], n, TOKENS, THREADS, stint), "open a semaphore");
+        expect_ok(fak_c_sem_open(ring[i], n, TOKENS, THREADS, stint), "open a semaphore");
     say("%u processors; 3 queues and %u semaphores in %u bytes\n", (uint64_t)n, (uint64_t)SEMAPHORES + 1, (uint64_t)fak_c_block_end());
     for (int i = 0; i < PAGES; i++)
         put(&free_pages[0], page_frames[i]);
@@ -48,7 +48,7 @@ void open_objects(uint32_t n) {
 
 static void leave_seats(fak_c_seat *seats, uint32_t n, const char *what) {
     for (uint32_t i = 0; i < n; i++)
-        must(fak_c_leave(&seats[i]), what);
+        expect_ok(fak_c_leave(&seats[i]), what);
 }
 
 /* Gives all seats up, and checks that the block is free then. */

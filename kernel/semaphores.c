@@ -7,43 +7,43 @@
 void down(fak_c_seat *of_processors, thread *me) {
     uint64_t flags = shield();
     fak_c_seat *seat = &of_processors[processor()];
-    int32_t answer = fak_c_sem_claim_down(seat, (uintptr_t)me);
-    if (answer == FAK_C_PARKS) {
-        gap();
+    int32_t code = fak_c_sem_claim_down(seat, (uintptr_t)me);
+    if (code == FAK_C_PARKS) {
+        linger();
         me->parks_in = seat;
-        stop(me, PARKS);
+        stop(me, PARK);
     } else {
-        must(answer, "claim_down");
+        expect_ok(code, "claim_down");
     }
     unshield(flags);
 }
 
-/* Ends the down of a thread that has stopped. Once it is parked it may run elsewhere, so nothing of it is read after that. */
+/* Ends the down of a thread that has stopped. Once it is parked it may run elsewhere, so nothing of it may be read after that. */
 void park(thread *stopped) {
     fak_c_seat *seat = stopped->parks_in;
-    int32_t answer;
-    while ((answer = fak_c_sem_try_park(seat)) == FAK_C_NOT_YET) {
+    int32_t code;
+    while ((code = fak_c_sem_try_park(seat)) == FAK_C_NOT_YET) {
         this_processor()->not_yet++;
         pause();
     }
-    must(answer, "try_park");
+    expect_ok(code, "try_park");
 }
 
-/* The thread that an up owes a wake may still be on its way into the semaphore: then it is not yet there to be woken. */
+/* The thread to wake may still be on its way into the semaphore. Then the up tries again until the thread is parked. */
 void up(fak_c_seat *of_processors) {
     uint64_t flags = shield(), woken = 0;
     fak_c_seat *seat = &of_processors[processor()];
-    int32_t answer = fak_c_sem_claim_up(seat);
-    if (answer == FAK_C_WAKES) {
-        gap();
-        while ((answer = fak_c_sem_try_wake(seat, &woken)) == FAK_C_NOT_YET) {
+    int32_t code = fak_c_sem_claim_up(seat);
+    if (code == FAK_C_WAKES) {
+        linger();
+        while ((code = fak_c_sem_try_wake(seat, &woken)) == FAK_C_NOT_YET) {
             this_processor()->not_yet++;
             pause();
         }
-        must(answer, "try_wake");
+        expect_ok(code, "try_wake");
         put(&ready.threads[processor()], (void *)(uintptr_t)woken);
     } else {
-        must(answer, "claim_up");
+        expect_ok(code, "claim_up");
     }
     unshield(flags);
 }

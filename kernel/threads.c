@@ -1,19 +1,19 @@
 /* Threads, which are not preempted, and the loop of each processor that runs them.
  *
- * A thread that is not to run on says what becomes of it and goes back to its processor's stack. Only there is it put into a list or
- * a semaphore, so the processor that takes it out finds that its stack was left. */
+ * A thread that stops says what becomes of it, and goes back to its processor's stack. Only there is it put into a list or a semaphore.
+ * So the processor that takes it out finds that its stack was left. */
 #include "kernel.h"
 
 processor_state processor_states[PROCESSORS];
 static thread threads[THREADS];
 static _Atomic uint64_t live = THREADS;
 
-/* Where a thread begins, on its own stack. */
+/* A thread begins here, on its own stack. */
 static void begin(void) {
     thread *me = this_processor()->runs;
     interrupts_on();
     work(me);
-    stop(me, ENDS);
+    stop(me, END);
 }
 
 void make_threads(void) {
@@ -43,20 +43,21 @@ void stop(thread *me, enum wish wish) {
 static void grant(thread *stopped, uint32_t number) {
     processor_state *state = &processor_states[number];
     switch (stopped->wish) {
-    case YIELDS:
+    case YIELD:
         state->yields++;
         put(&ready.threads[number], stopped);
         break;
-    case SLEEPS:
+    case SLEEP:
         state->sleeps++;
         put(&sleeping.threads[number], stopped);
         break;
-    case PARKS:
+    case PARK:
         state->parks++;
         park(stopped);
         break;
-    case ENDS:
+    case END:
         state->ended++;
+        /* Processors stop once this is 0. It must follow the switch to this stack: a thread that is counted out runs no more. */
         atomic_fetch_sub(&live, 1);
         break;
     }

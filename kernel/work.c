@@ -1,11 +1,12 @@
-/* The threads' program: tokens go round a ring of semaphores. With a token a thread takes a page and some frames and marks them, lets
- * others run, and finds its marks: so no two threads have one page, and none runs on two processors. How many tokens are out of each
- * semaphore is counted beside it: so no down passes without a token. */
+/* The threads' program: tokens go around a ring of semaphores. With a token a thread takes a page and some frames, marks them, lets others
+ * run, and checks its marks: so no two threads have the same page, and none runs on two processors. The tokens that are out of each
+ * semaphore are counted separately: so no down passes without a token. */
 #include "kernel.h"
 
 static _Atomic int64_t out[SEMAPHORES]; /* tokens that were taken from each semaphore, less those that were given to it */
 
-/* A token is counted after its down and before its up, so a count above TOKENS is of a down that found none. */
+/* The add must follow the down, and the subtraction must come before the up. So the count is never above the tokens that are out, and one
+ * above TOKENS means that a down passed without a token. */
 static void take_token(thread *me, uint64_t semaphore) {
     down(ring[semaphore], me);
     if (atomic_fetch_add(&out[semaphore], 1) >= TOKENS)
@@ -17,8 +18,8 @@ static void give_token(uint64_t semaphore) {
     up(ring[semaphore]);
 }
 
-/* Each semaphore was given as many tokens as were taken from it. */
-void all_tokens_were_given(void) {
+/* Checks that each semaphore was given as many tokens as were taken from it. */
+void check_tokens_given(void) {
     for (uint64_t i = 0; i < SEMAPHORES; i++)
         if (atomic_load(&out[i]) != 0)
             fail("not as many tokens were given as taken, semaphore", i);
@@ -28,7 +29,7 @@ static uint64_t *take_page(thread *me) {
     uint64_t *page;
     while ((page = get(&free_pages[processor()])) == NULL) {
         this_processor()->no_page++;
-        stop(me, YIELDS);
+        stop(me, YIELD);
     }
     return page;
 }
@@ -38,7 +39,7 @@ static void mark_page(uint64_t *page, uint64_t mark) {
         page[i] = mark;
 }
 
-static void has_marks(const uint64_t *page, uint64_t mark, const char *what, uint64_t thread) {
+static void check_marks(const uint64_t *page, uint64_t mark, const char *what, uint64_t thread) {
     for (unsigned i = 0; i < PAGE / 8; i++)
         if (page[i] != mark)
             fail(what, thread);
@@ -54,10 +55,10 @@ static void take_frames(uint64_t **held, uint64_t mark) {
     }
 }
 
-/* Maybe on another processor than that which took them. */
+/* Checks the marks and gives the frames back, maybe on another processor than the one that took them. */
 static void give_frames(uint64_t **held, uint64_t mark, uint64_t thread) {
     for (int i = 0; i < FRAMES_HELD; i++) {
-        has_marks(held[i], mark + (uint64_t)i, "page frame not its own of thread", thread);
+        check_marks(held[i], mark + (uint64_t)i, "page frame not its own of thread", thread);
         give_frame(held[i]);
     }
 }
@@ -71,18 +72,18 @@ void work(thread *me) {
         take_frames(held, mark);
         switch ((round + me->number) % 4) {
         case 0:
-            stop(me, SLEEPS);
+            stop(me, SLEEP);
             break;
         case 1:
             ask_for_alarm();
             down(alarm_clock.threads, me);
             break;
         default:
-            stop(me, YIELDS);
+            stop(me, YIELD);
         }
-        if (!keeps_sse(mark, 2000))
+        if (!hold_sse(mark, 2000))
             fail("SSE register lost by thread", me->number);
-        has_marks(page, mark, "page not its own of thread", me->number);
+        check_marks(page, mark, "page not its own of thread", me->number);
         give_frames(held, mark, me->number);
         put(&free_pages[processor()], page);
         give_token((me->number + 1) % SEMAPHORES);

@@ -83,8 +83,8 @@ impl Bundle {
         }
     }
 
-    /// Goes on with a burst of deletions: takes out further items, to the first places of the slice. Returns how many it took out. A slice
-    /// with fewer places than are left of the burst is `BadLimit`.
+    /// Goes on with a burst of deletions: takes out further items, to the first places of the slice. How many it took out. A slice with fewer
+    /// places than are left of the burst is `BadLimit`.
     pub fn try_take_burst(&mut self, items: &mut [u64]) -> Result<usize, Fault> {
         let (mut taken, mut left) = (0, 0);
         match unsafe { raw::fak_c_try_take_burst(&mut self.0, items.as_mut_ptr(), items.len(), &mut taken, &mut left) } {

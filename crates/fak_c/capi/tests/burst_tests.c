@@ -18,7 +18,7 @@ static void open_one(fak_c_seat *seat, fak_c_seat *bundle, uint64_t size, uint64
     CHECK(fak_c_open_bundles(seat, 1, bundle, 1, WIDTH, size, stint) == FAK_C_OK);
 }
 
-static void bundle_is(fak_c_seat *bundle, uint32_t wanted, uint64_t wanted_ticket, uint64_t wanted_open, uint64_t wanted_left) {
+static void bundle_stands(fak_c_seat *bundle, uint32_t wanted, uint64_t wanted_ticket, uint64_t wanted_open, uint64_t wanted_left) {
     uint32_t state = 99;
     uint64_t ticket = 99, open = 99, width = 99, left = 99;
     CHECK(fak_c_bundle_state(bundle, &state, &ticket, &open, &width, &left) == FAK_C_OK);
@@ -26,7 +26,7 @@ static void bundle_is(fak_c_seat *bundle, uint32_t wanted, uint64_t wanted_ticke
 }
 
 static void is_at_rest(fak_c_seat *bundle, uint64_t wanted_left) {
-    bundle_is(bundle, FAK_C_IDLE, 99, 99, wanted_left);
+    bundle_stands(bundle, FAK_C_IDLE, 99, 99, wanted_left);
 }
 
 /* The first `wanted` of n items from `first` on are inserted, by this code. */
@@ -331,7 +331,7 @@ static void a_burst_waits_for_cells(void) {
     deletes(&bundle, 2, FAK_C_OK, 2, 2, 12, 2);
     /* The cells of tickets 5 to 7: that of 5 has the item that the second seat has claimed. */
     inserts(&bundle, 30, 3, FAK_C_NOT_YET, 5, 2);
-    bundle_is(&bundle, FAK_C_INSERTING, 5, 2, 31);
+    bundle_stands(&bundle, FAK_C_INSERTING, 5, 2, 31);
     is_in_burst(&bundle, FAK_C_INSERTING);
     CHECK(fak_c_try_fill_burst(&bundle, &left) == FAK_C_NOT_YET && left == 2);
     CHECK(fak_c_delete(&seats[0], &ticket, &item) == FAK_C_OK && ticket == 4 && item == 20);
@@ -357,7 +357,7 @@ static void a_waiting_burst_publishes_what_it_filled(void) {
     deletes(&bundles[1], 1, FAK_C_OK, 3, 1, 13, 1);
     /* The cells of tickets 4 and 5 are free, and that of 6 has the item of ticket 2. */
     inserts(&bundles[0], 20, 3, FAK_C_NOT_YET, 4, 3);
-    bundle_is(&bundles[0], FAK_C_INSERTING, 6, 1, 33);
+    bundle_stands(&bundles[0], FAK_C_INSERTING, 6, 1, 33);
     CHECK(fak_c_count(&seats[1], &count) == FAK_C_OK && count == 2);
     deletes(&bundles[1], 4, FAK_C_OK, 4, 2, 20, 2);
     CHECK(fak_c_try_fill_burst(&bundles[0], &left) == FAK_C_NOT_YET && left == 1);
@@ -381,16 +381,16 @@ static void a_burst_waits_for_items(void) {
     for (uint64_t item = 14; item < 16; item++)
         CHECK(fak_c_insert(&seats[2], item, &ticket) == FAK_C_OK && ticket == item - 10);
     deletes(&bundle, 4, FAK_C_NOT_YET, 0, 4, 10, 2);
-    bundle_is(&bundle, FAK_C_DELETING, 2, 2, 34);
+    bundle_stands(&bundle, FAK_C_DELETING, 2, 2, 34);
     CHECK(fak_c_in_use(&seats[2], &cells, &is_shut) == FAK_C_OK && cells == 4 && !is_shut);
     is_in_burst(&bundle, FAK_C_DELETING);
     goes_on(&bundle, 4, FAK_C_NOT_YET, 99, 0, 2);
     CHECK(fak_c_try_fill(&seats[0]) == FAK_C_OK);
     has_too_few_places(&bundle, 0);
     has_too_few_places(&bundle, 1);
-    bundle_is(&bundle, FAK_C_DELETING, 2, 2, 34);
+    bundle_stands(&bundle, FAK_C_DELETING, 2, 2, 34);
     goes_on(&bundle, 2, FAK_C_NOT_YET, 12, 1, 1);
-    bundle_is(&bundle, FAK_C_DELETING, 3, 1, 34);
+    bundle_stands(&bundle, FAK_C_DELETING, 3, 1, 34);
     has_too_few_places(&bundle, 0);
     CHECK(fak_c_try_fill(&seats[1]) == FAK_C_OK);
     goes_on(&bundle, 1, FAK_C_OK, 13, 1, 0);
