@@ -1,12 +1,12 @@
 -- Which seat a handle has.
 use Rattle.std.specs.Prelude.{◌≡◌, ℤ, pos, Option, Some, None}
-use Rattle.fak_queue.specs.declared.bundle.BundleState.TheVariants as bundle
 use Rattle.fak_queue.specs.declared.state.SeatState.TheVariants as state
 use Rattle.fak_queue.specs.Queues.{state_of}
 use Rattle.fak_count.specs.Rooms.{held_amount}
 use Rattle.fak_files.specs.declared.phase.Hold.TheVariants as hold
 use Rattle.fak_sem.specs.declared.standing.Standing.TheVariants as standing
 use Rattle.fak_channel.specs.declared.standing.CallStanding.TheVariants as channel
+use Rattle.fak_handles.specs.bundle.Calls.{IsResting}
 use Rattle.fak_handles.specs.declared.desk.Desk.{Desk}
 use Rattle.fak_handles.specs.declared.desk.Desk.TheVariants.{Queue, Semaphore, Room, Credit, Files, Channel, Bundle}
 use Rattle.fak_handles.specs.declared.queue.seat.QueueDesk.{QueueDesk}
@@ -99,7 +99,7 @@ IsAtRest (Room d) = held_amount d.seat ≡ 0
 IsAtRest (Credit d) = Unit {0}
 IsAtRest (Files d) = d.seat.hold ≡ hold.Nothing
 IsAtRest (Channel d) = d.value.seat.standing ≡ channel.Idle
-IsAtRest (Bundle d) = d.value.bundle.state ≡ bundle.Idle
+IsAtRest (Bundle d) = IsResting d.value
 
 -- a seat at rest is given up, and any other is kept
 abbrev pub GivesUp : ℤ → Option Desk → Option Desk → Type 0

@@ -6,9 +6,7 @@ ghost use Rattle.fak_handles.specs.bundle.Calls.{DeletesBurstTo, FillsOpenBurst,
 ghost use Rattle.fak_handles.specs.Calls.{Called};
 ghost use Rattle.fak_handles.specs.Kinds.{Spares, bundle_in};
 
-use fak_handles::bundle::codes::{
-    of_bundle_state, of_delete_burst, of_fill_burst, of_insert_burst, of_take_burst,
-};
+use fak_handles::bundle::codes::{of_delete_burst, of_fill_burst, of_insert_burst, of_take_burst};
 use fak_handles::bundle::opening::are_numbers_of_seats;
 use fak_handles::code::{BAD_LIMIT, NO_SEAT, OK};
 use fak_handles::place::Place;
@@ -43,8 +41,8 @@ pub extern "C" fn fak_c_open_bundles(
 /// Claims room for the first items by one claim, as many as find it, writes the first ticket and how many were claimed, and tries once
 /// to move these items in. `BAD_LIMIT` if there are no items.
 ///
-/// `OK`, `NOT_YET` if the rest of the claimed items is kept for `fak_c_try_fill_burst`, `WORN`, `CLOSED`, `FULL`, `BAD_LIMIT`, `NO_SEAT`,
-/// `WRONG_STATE`, or `MEMORY` if there is no room for the items on their way, which the opening made.
+/// `OK`, `NOT_YET` if the rest of the claimed items is kept for `fak_c_try_fill_burst`, `WORN`, `CLOSED`, `FULL`, `BAD_LIMIT`, `NO_SEAT`
+/// or `WRONG_STATE`.
 #[unsafe(no_mangle)]
 pub extern "C" fn fak_c_insert_burst(
     bundle: &mut Place,
@@ -112,10 +110,10 @@ pub extern "C" fn fak_c_delete_burst(
     of_delete_burst(&made, ticket, count, taken)
 }
 
-/// Hands out items of a claimed burst to the first places, until the turn of one has not come. Writes how many came, and how many are
-/// left. There must be a place for each item that is left.
+/// Hands out items of a claimed burst to the first places, in the order of their tickets, as many as there are places, until the turn of
+/// one has not come. Writes how many came, and how many are left. What comes out of the queue and finds no place waits in the bundle.
 ///
-/// `OK`, `NOT_YET`, `BAD_LIMIT` if there are fewer places than items left, which changes nothing, `NO_SEAT` or `WRONG_STATE`.
+/// `OK` if none is left, `NOT_YET`, `NO_SEAT` or `WRONG_STATE`.
 #[unsafe(no_mangle)]
 pub extern "C" fn fak_c_try_take_burst(
     bundle: &mut Place,
@@ -136,8 +134,8 @@ pub extern "C" fn fak_c_try_take_burst(
     of_take_burst(tried, taken, left)
 }
 
-/// Writes the state of the bundle, 0 idle, 1 inserting, 2 deleting, with the next ticket of the open burst and how many of its calls have
-/// not ended, how many seats the bundle has, and how many tickets are left.
+/// Writes the state of the bundle, 0 idle, 1 inserting, 2 deleting, how many seats it has, and how many tickets are left. In a burst also
+/// the ticket of the first item that is not in its cell, or not handed out, and how many of these items there are.
 ///
 /// `OK` or `NO_SEAT`.
 #[unsafe(no_mangle)]
@@ -157,7 +155,7 @@ pub extern "C" fn fak_c_bundle_state(
     let Some(desk) = bundle.bundle() else {
         return NO_SEAT;
     };
-    of_bundle_state(desk.bundle.state(), state, ticket, waiting);
+    desk.state(state, ticket, waiting);
     *width = desk.bundle.seats();
     *left = desk.bundle.left();
     OK

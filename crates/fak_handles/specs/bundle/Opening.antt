@@ -1,5 +1,5 @@
 -- What opening a queue with bundles leaves in the handles.
-use Rattle.std.specs.Prelude.{◌≡◌, ◌⊎◌, ℕ, ◌+◌, ◌*◌, ◌≤◌, ℤ, pos, List, length}
+use Rattle.std.specs.Prelude.{◌≡◌, ◌⊎◌, ℕ, ◌+◌, ◌*◌, ◌≤◌, ℤ, pos, List, [], length}
 use Rattle.std.specs.Arc.{arc_value}
 use Rattle.fak_model.specs.declared.queue.Mark.{Mark}
 use Rattle.fak_model.specs.Calls.{SeatInfo, fresh_seats}
@@ -24,7 +24,7 @@ IsBundleDesk queue seats (Room d) = ⊥
 IsBundleDesk queue seats (Credit d) = ⊥
 IsBundleDesk queue seats (Files d) = ⊥
 IsBundleDesk queue seats (Channel d) = ⊥
-IsBundleDesk queue seats (Bundle d) = (arc_value d.value.queue ≡ queue) × (d.value.bundle.object ≡ queue.object) × IsBundleOf queue.size seats d.value.bundle
+IsBundleDesk queue seats (Bundle d) = (arc_value d.value.queue ≡ queue) × (d.value.bundle.object ≡ queue.object) × (d.value.held.items ≡ []) × IsBundleOf queue.size seats d.value.bundle
 
 -- the bundle with this index: from `first` on, each bundle has the next seats, as many as it is wide
 abbrev pub IsFreshBundle : QueueInfo → ℕ → ℕ → ℕ → ℕ → Desk → Type 0

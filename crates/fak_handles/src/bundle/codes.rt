@@ -1,9 +1,9 @@
 //! The results of a bundle's calls as numbers.
 
 ghost use Rattle.std.specs.Prelude.{◌≡◌};
-ghost use Rattle.fak_handles.specs.bundle.Calls.{bundle_state_code, burst_fault_code, burst_out_fault_code, came_or, count_or, delete_burst_code, fill_burst_code, flat, insert_burst_code, left_code, next_ticket_or, open_or_before, still_or, take_burst_code, taken_to_or, ticket_or, waiting_or};
+ghost use Rattle.fak_handles.specs.bundle.Calls.{burst_fault_code, burst_out_fault_code, came_or, count_or, delete_burst_code, fill_burst_code, insert_burst_code, left_code, still_or, take_burst_code, taken_to_or, ticket_or, waiting_or};
 
-use crate::code::{BAD_LIMIT, CLOSED, EMPTY, FULL, MEMORY, NOT_YET, OK, WORN, WRONG_STATE};
+use crate::code::{CLOSED, EMPTY, FULL, NOT_YET, OK, WORN, WRONG_STATE};
 use fak_queue::{BundleState, Burst, BurstFault, DeleteFault};
 
 fn of_burst_fault(fault: &BurstFault) -> i32
@@ -32,23 +32,22 @@ fn of_left(left: u64) -> i32
 }
 
 pub fn of_insert_burst(
-    made: &Option<Option<Result<(Burst, u64), BurstFault>>>,
+    made: &Option<Result<(Burst, u64), BurstFault>>,
     ticket: &mut u64,
     count: &mut u64,
 ) -> i32
     ensures code { result ≡ insert_burst_code made.now }
-    ensures ticket { ticket.new ≡ ticket_or ticket.old (flat made.now) }
-    ensures count { count.new ≡ count_or count.old (flat made.now) }
+    ensures ticket { ticket.new ≡ ticket_or ticket.old made.now }
+    ensures count { count.new ≡ count_or count.old made.now }
 {
     match made {
         None => WRONG_STATE,
-        Some(None) => MEMORY,
-        Some(Some(Ok((burst, left)))) => {
+        Some(Ok((burst, left))) => {
             *ticket = burst.ticket;
             *count = burst.count;
             of_left(*left)
         }
-        Some(Some(Err(fault))) => of_burst_fault(fault),
+        Some(Err(fault)) => of_burst_fault(fault),
     }
 }
 
@@ -88,46 +87,17 @@ pub fn of_fill_burst(tried: Option<u64>, left: &mut u64) -> i32
     }
 }
 
-pub fn of_take_burst(tried: Option<Option<(u64, u64)>>, taken: &mut u64, left: &mut u64) -> i32
+pub fn of_take_burst(tried: Option<(u64, u64)>, taken: &mut u64, left: &mut u64) -> i32
     ensures code { result ≡ take_burst_code tried }
     ensures taken { taken.new ≡ taken_to_or taken.old tried }
     ensures left { left.new ≡ waiting_or left.old tried }
 {
     match tried {
         None => WRONG_STATE,
-        Some(None) => BAD_LIMIT,
-        Some(Some((came, still))) => {
+        Some((came, still)) => {
             *taken = came;
             *left = still;
             of_left(still)
-        }
-    }
-}
-
-pub fn of_bundle_state(stands: BundleState, state: &mut u32, ticket: &mut u64, waiting: &mut u64)
-    ensures state { state.new ≡ bundle_state_code stands }
-    ensures ticket { ticket.new ≡ next_ticket_or ticket.old stands }
-    ensures waiting { waiting.new ≡ open_or_before waiting.old stands }
-{
-    match stands {
-        BundleState::Idle => *state = 0,
-        BundleState::Inserting {
-            ticket: first,
-            ended,
-            granted,
-        } => {
-            *state = 1;
-            *ticket = first.wrapping_add(ended);
-            *waiting = granted.saturating_sub(ended);
-        }
-        BundleState::Deleting {
-            ticket: first,
-            ended,
-            granted,
-        } => {
-            *state = 2;
-            *ticket = first.wrapping_add(ended);
-            *waiting = granted.saturating_sub(ended);
         }
     }
 }

@@ -27,17 +27,23 @@ pub(crate) fn take_in(items: &[u64], held: &mut VecDeque<u64>, count: usize)
     }
 }
 
-/// Copies the items of a deque to the first places of an array. Returns how many they are. It stays a call: else the function that
-/// makes it would call nothing, and LLVM would have it write below the stack, which a kernel's interrupts overwrite.
+/// Moves the first items of a deque to the first places of an array, as many as there are places. Returns how many they are. It stays a
+/// call: else the function that calls it would call nothing, and LLVM would have it write below the stack, which a kernel's interrupts
+/// overwrite.
 #[inline(never)]
-pub(crate) fn hand_out(held: &VecDeque<u64>, items: &mut [u64]) -> u64
-    requires room { deque_len held.now ≤ length items.old }
-    ensures many { result ≡ length held.now.items }
+pub(crate) fn hand_out(held: &mut VecDeque<u64>, items: &mut [u64]) -> u64
+    ensures many { result ≡ min (length held.old.items) (length items.old) }
     ensures len { length items.new ≡ length items.old }
-    ensures items { items.new ≡ held.now.items ++ drop (length held.now.items) items.old }
+    ensures items { items.new ≡ take result held.old.items ++ drop result items.old }
+    ensures held { held.new.items ≡ drop result held.old.items }
+    ensures capacity { deque_capacity held.new ≡ deque_capacity held.old }
 {
-    for i in 0..held.len() {
-        items[i] = held[i];
+    let count = least(held.len(), items.len());
+    for i in 0..count {
+        match held.pop_front() {
+            Some(item) => items[i] = item,
+            None => unreachable!(),
+        }
     }
-    held.len() as u64
+    count as u64
 }

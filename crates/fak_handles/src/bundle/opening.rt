@@ -65,9 +65,6 @@ fn bundle_desk(
     ensures { MatchOption result Unit (λ b. IsBundleDesk (arc_value queue.now) seats.items b.value) }
 {
     let width = seats.len();
-    let Ok(given) = VecDeque::with_capacity(alloc, width) else {
-        return None;
-    };
     let Ok(held) = VecDeque::with_capacity(alloc, width) else {
         return None;
     };
@@ -77,7 +74,7 @@ fn bundle_desk(
     let Ok(bundle) = Bundle::of(alloc, queue, seats) else {
         return None;
     };
-    let desk = BundleDesk::of(share, bundle, given, held);
+    let desk = BundleDesk::of(share, bundle, held);
     let Ok(inner) = Box::new(alloc, desk) else {
         return None;
     };

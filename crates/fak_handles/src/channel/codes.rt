@@ -1,4 +1,5 @@
-//! The results of the calls of an end of a channel as numbers.
+//! The results of the calls of an end of a channel as numbers. Those that begin or give up a call stay calls: else their exports would call
+//! nothing, and LLVM would have them write below the stack, which a kernel's interrupts overwrite.
 
 ghost use Rattle.std.specs.Prelude.{◌≡◌};
 ghost use Rattle.fak_handles.specs.channel.Calls.{begin_close_code, begin_receive_code, begin_send_code, channel_state_code, give_up_code, given_up_or, roused_or, step_code, stepped_or};
@@ -7,6 +8,7 @@ use crate::channel::seat::Item;
 use crate::code::{CLOSED, EMPTY, FULL, GAVE_UP, NOT_YET, OK, SLEEPS, WAKES, WORN, WRONG_STATE};
 use fak_channel::{ChannelState, ChannelStep, ChannelWorn, Outcome, ReceiveFault, SendFault, Wish};
 
+#[inline(never)]
 pub fn of_begin_send(begun: &Option<Result<(), SendFault<Item>>>) -> i32
     ensures { result ≡ begin_send_code begun.now }
 {
@@ -20,6 +22,7 @@ pub fn of_begin_send(begun: &Option<Result<(), SendFault<Item>>>) -> i32
     }
 }
 
+#[inline(never)]
 pub fn of_begin_receive(begun: &Option<Result<(), ReceiveFault>>) -> i32
     ensures { result ≡ begin_receive_code begun.now }
 {
@@ -33,6 +36,7 @@ pub fn of_begin_receive(begun: &Option<Result<(), ReceiveFault>>) -> i32
     }
 }
 
+#[inline(never)]
 pub fn of_begin_close(begun: &Option<Result<(), ChannelWorn>>) -> i32
     ensures { result ≡ begin_close_code begun.now }
 {
@@ -73,6 +77,7 @@ pub fn of_steps(stepped: &Option<ChannelStep<Item>>, item: &mut Item, number: &m
     }
 }
 
+#[inline(never)]
 pub fn of_give_up(given: &Option<Option<Wish<Item>>>, item: &mut Item) -> i32
     ensures code { result ≡ give_up_code given.now }
     ensures item { item.new ≡ given_up_or item.old given.now }

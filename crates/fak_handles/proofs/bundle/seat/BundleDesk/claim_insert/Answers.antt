@@ -9,6 +9,11 @@ invariant_of-self c =
     let kept = claim_names _ c.take_in.new.held.items d.bundle e.new.bundle e.result e.ensures.call in
     let low = claim_open _ c.take_in.new.held.items d.bundle e.new.bundle e.result e.ensures.call e.ensures.state in
     let names = ap (λ (l : List ℕ). length l) kept in
+    let held = c.clear.ensures.items in
+    let none = ap (λ (l : List ℕ). length l) held in
     let some = d.some in
     let wide = d.wide in
-    record { same = e.ensures.object ∙ d.same; some = omega (arith, names, some); wide = omega (arith, names, wide); burst = low }
+    let first = c.take_in.ensures.capacity in
+    let then = e.ensures.capacity in
+    let last = c.clear.ensures.capacity in
+    record { same = e.ensures.object ∙ d.same; some = omega (arith, names, some); wide = omega (arith, names, wide, first, then, last); burst = omega (arith, low, none); none = λ k f g is. held }
