@@ -50,8 +50,7 @@ impl Bundle {
     }
 
     /// Claims room for the first items, as many as find it, by one claim, and fills the cells whose turn has come. The bundle keeps the
-    /// claimed items that are left. Those that were not claimed stay with the caller. An empty slice is `BadLimit`. `Memory` says that there
-    /// is no room for the items on their way, which the opening made.
+    /// claimed items that are left. Those that were not claimed stay with the caller. An empty slice is `BadLimit`.
     pub fn insert_burst(&mut self, items: &[u64]) -> Result<Burst, Fault> {
         let (mut ticket, mut count) = (0, 0);
         let code = unsafe { raw::fak_c_insert_burst(&mut self.0, items.as_ptr(), items.len(), &mut ticket, &mut count) };
@@ -83,8 +82,8 @@ impl Bundle {
         }
     }
 
-    /// Goes on with a burst of deletions: takes out further items, to the first places of the slice. How many it took out. A slice with fewer
-    /// places than are left of the burst is `BadLimit`.
+    /// Goes on with a burst of deletions: takes out further items, to the first places of the slice, as many as there are places. How many it
+    /// took out. An item that has left its cell and finds no place waits in the bundle for the next call.
     pub fn try_take_burst(&mut self, items: &mut [u64]) -> Result<usize, Fault> {
         let (mut taken, mut left) = (0, 0);
         match unsafe { raw::fak_c_try_take_burst(&mut self.0, items.as_mut_ptr(), items.len(), &mut taken, &mut left) } {
@@ -93,7 +92,7 @@ impl Bundle {
         }
     }
 
-    /// Whether a burst is open, and the first ticket of it that has not ended.
+    /// Whether a burst is open, and the ticket of its first item that is not in its cell, or not handed out.
     pub fn state(&mut self) -> State {
         let (state, ticket, ..) = self.look();
         match state {
@@ -103,7 +102,7 @@ impl Bundle {
         }
     }
 
-    /// How many tickets of the open burst have not ended: 0 if none is open.
+    /// How many items of the open burst are not in their cells, or not handed out: 0 if none is open.
     pub fn unfinished(&mut self) -> u64 {
         self.look().2
     }

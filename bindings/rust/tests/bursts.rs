@@ -34,8 +34,9 @@ fn a_burst_of_deletions_goes_on() {
     assert_eq!((bundle.state(), bundle.unfinished(), bundle.left()), (State::Deleting(1), 3, 31));
     assert_eq!((bundle.delete_burst(&mut out), bundle.insert_burst(&[1])), (Err(Fault::WrongState), Err(Fault::WrongState)));
     assert_eq!((bundle.try_fill_burst(), bundle.try_take_burst(&mut out)), (Err(Fault::WrongState), Ok(0)));
-    assert_eq!((seat.try_fill(), bundle.try_take_burst(&mut out[..2]), out[0]), (Ok(Step::Done(())), Err(Fault::BadLimit), 10));
-    assert_eq!((bundle.unfinished(), bundle.try_take_burst(&mut out[..3]), out), (3, Ok(3), [11, 12, 13, 0]));
+    assert_eq!((seat.try_fill(), bundle.try_take_burst(&mut out[..2]), out), (Ok(Step::Done(())), Ok(2), [11, 12, 0, 0]));
+    assert_eq!((bundle.state(), bundle.unfinished(), bundle.try_take_burst(&mut [])), (State::Deleting(3), 1, Ok(0)));
+    assert_eq!((bundle.delete_burst(&mut out), bundle.try_take_burst(&mut out), out), (Err(Fault::WrongState), Ok(1), [13, 12, 0, 0]));
     assert_eq!((bundle.state(), bundle.try_take_burst(&mut out)), (State::Idle, Err(Fault::WrongState)));
     assert_eq!(other.delete(), Ok(Step::Done(14)));
 }

@@ -131,10 +131,10 @@ enum {
  * The bytes that an object with n seats keeps of the heap: 280 a seat, and what its kind needs besides. The size is the cells of a queue,
  * or of the wait queue of a semaphore. block.h has the bytes that each needs while it opens, in memory of your own. */
 #define FAK_C_QUEUE_KEEPS(n, size) (856 + 280 * (size_t)(n) + 24 * (size_t)(size))
-/* A queue with n seats and m bundles of `width` seats each. A bundle needs 368 bytes besides those of a seat, and 32 for each of its
+/* A queue with n seats and m bundles of `width` seats each. A bundle needs 336 bytes besides those of a seat, and 24 for each of its
  * seats. */
 #define FAK_C_BUNDLES_KEEPS(n, m, width, size) \
-    (FAK_C_QUEUE_KEEPS((size_t)(n) + (size_t)(m), size) + (size_t)(m) * (368 + 32 * (size_t)(width)))
+    (FAK_C_QUEUE_KEEPS((size_t)(n) + (size_t)(m), size) + (size_t)(m) * (336 + 24 * (size_t)(width)))
 #define FAK_C_SEM_KEEPS(n, size) (1184 + 280 * (size_t)(n) + 24 * (size_t)(size))
 #define FAK_C_ROOM_KEEPS(n) (344 + 280 * (size_t)(n))
 #define FAK_C_CREDIT_KEEPS(n) (336 + 280 * (size_t)(n))
@@ -313,8 +313,7 @@ int32_t fak_c_open_bundles(fak_c_seat *seats, size_t n, fak_c_seat *bundles, siz
  *
  * FAK_C_OK; FAK_C_NOT_YET if the bundle keeps the rest of the items for fak_c_try_fill_burst, and both numbers are written; FAK_C_WORN,
  * FAK_C_CLOSED or FAK_C_FULL, the first of them that applies, and no item is taken; FAK_C_BAD_LIMIT if n is 0; FAK_C_NO_SEAT or
- * FAK_C_WRONG_STATE; FAK_C_MEMORY if there is no room for the items on their way, and no item is taken. The opening makes that room, and
- * no burst allocates. */
+ * FAK_C_WRONG_STATE. The opening makes room for the items on their way, so no burst allocates. */
 int32_t fak_c_insert_burst(fak_c_seat *bundle, const uint64_t *items, size_t n, uint64_t *ticket, uint64_t *count);
 
 /* Goes on with a burst of insertions: fills the cells whose turn has come. Writes how many items the bundle still keeps. It must be
@@ -331,15 +330,17 @@ int32_t fak_c_try_fill_burst(fak_c_seat *bundle, uint64_t *left);
  * FAK_C_WORN or FAK_C_EMPTY, the first of them that applies; FAK_C_BAD_LIMIT if n is 0; FAK_C_NO_SEAT or FAK_C_WRONG_STATE. */
 int32_t fak_c_delete_burst(fak_c_seat *bundle, uint64_t *items, size_t n, uint64_t *ticket, uint64_t *count, uint64_t *taken);
 
-/* Goes on with a burst of deletions: takes out further items whose turn has come. Writes how many it took out, to items[0] to
- * items[taken - 1], and how many are still claimed. n must be at least as many as were still claimed before, and the n items initialised.
- * The bundle must be deleting, and is idle after FAK_C_OK.
+/* Goes on with a burst of deletions: takes out further items whose turn has come, at most n, in the order of the tickets. Writes how many
+ * these are, to items[0] to items[taken - 1], and how many of the burst are left. The n items must be initialised. n may be less than are
+ * left, and 0. An item that has left its cell and finds no place waits in the bundle for the next call, and its cell has room again. The
+ * bundle must be deleting, and is idle after FAK_C_OK.
  *
- * FAK_C_OK if none is left; FAK_C_NOT_YET; FAK_C_NO_SEAT or FAK_C_WRONG_STATE; FAK_C_BAD_LIMIT if n is less. Then it takes nothing out. */
+ * FAK_C_OK if none is left; FAK_C_NOT_YET; FAK_C_NO_SEAT or FAK_C_WRONG_STATE. */
 int32_t fak_c_try_take_burst(fak_c_seat *bundle, uint64_t *items, size_t n, uint64_t *taken, uint64_t *left);
 
 /* Writes the state of the bundle (FAK_C_IDLE, FAK_C_INSERTING or FAK_C_DELETING), how many seats it has, and how many tickets are left.
- * Unless it is idle, also the first ticket of its burst that has not ended, and how many have not. Changes nothing.
+ * Unless it is idle, also the ticket of the first item of its burst that is not in its cell, or not handed out, and how many of these items
+ * there are. Changes nothing.
  *
  * FAK_C_OK or FAK_C_NO_SEAT. */
 int32_t fak_c_bundle_state(fak_c_seat *bundle, uint32_t *state, uint64_t *ticket, uint64_t *open, uint64_t *width, uint64_t *left);

@@ -346,7 +346,7 @@ public:
         return {code, {ticket, static_cast<std::size_t>(count), static_cast<std::size_t>(taken)}};
     }
 
-    /* Takes out further items. There is a place for each that is still claimed, else BadLimit. */
+    /* Takes out further items, at most n. One that has left its cell and finds no place waits in the bundle for the next call. */
     Answer<Rest> try_get_burst(T *items, std::size_t n) noexcept {
         std::uint64_t words[most], taken = 0, left = 0;
         n = prepare(words, n);

@@ -81,12 +81,6 @@ static void tries_nothing(fak_c_seat *bundle, int32_t code_of_fill, int32_t code
     CHECK(fak_c_try_take_burst(bundle, &item, 1, &taken, &left) == code_of_take && item == 99 && taken == 99 && left == 99);
 }
 
-/* A burst of deletions does not go on if there are fewer places than items that it still claims, and nothing is written or changed. */
-static void has_too_few_places(fak_c_seat *bundle, size_t n) {
-    uint64_t item = 99, taken = 99, left = 99;
-    CHECK(fak_c_try_take_burst(bundle, &item, n, &taken, &left) == FAK_C_BAD_LIMIT && item == 99 && taken == 99 && left == 99);
-}
-
 /* All calls of a bundle refuse this handle. */
 static void is_no_bundle(fak_c_seat *seat) {
     uint32_t state = 99;
@@ -386,18 +380,47 @@ static void a_burst_waits_for_items(void) {
     is_in_burst(&bundle, FAK_C_DELETING);
     goes_on(&bundle, 4, FAK_C_NOT_YET, 99, 0, 2);
     CHECK(fak_c_try_fill(&seats[0]) == FAK_C_OK);
-    has_too_few_places(&bundle, 0);
-    has_too_few_places(&bundle, 1);
+    goes_on(&bundle, 0, FAK_C_NOT_YET, 99, 0, 2);
     bundle_stands(&bundle, FAK_C_DELETING, 2, 2, 34);
-    goes_on(&bundle, 2, FAK_C_NOT_YET, 12, 1, 1);
+    is_in_burst(&bundle, FAK_C_DELETING);
+    goes_on(&bundle, 1, FAK_C_NOT_YET, 12, 1, 1);
     bundle_stands(&bundle, FAK_C_DELETING, 3, 1, 34);
-    has_too_few_places(&bundle, 0);
+    goes_on(&bundle, 0, FAK_C_NOT_YET, 99, 0, 1);
     CHECK(fak_c_try_fill(&seats[1]) == FAK_C_OK);
     goes_on(&bundle, 1, FAK_C_OK, 13, 1, 0);
     is_at_rest(&bundle, 34);
     tries_nothing(&bundle, FAK_C_WRONG_STATE, FAK_C_WRONG_STATE);
     deletes(&bundle, 4, FAK_C_OK, 4, 2, 14, 2);
     leave_all(seats, 3);
+    CHECK(fak_c_leave(&bundle) == FAK_C_OK);
+}
+
+/* Items that find no place wait in the bundle, in the order of their tickets. Their cells have room again, and until the last is handed out
+ * the bundle stays in its burst. */
+static void items_wait_for_places(void) {
+    fak_c_seat seats[2] = {0}, bundle = {0};
+    uint64_t ticket = 99;
+    int64_t cells = 99;
+    bool is_shut = true;
+    CHECK(fak_c_open_bundles(seats, 2, &bundle, 1, WIDTH, 8, 10) == FAK_C_OK);
+    CHECK(fak_c_claim_insert(&seats[0], 10, &ticket) == FAK_C_OK && ticket == 0);
+    for (uint64_t item = 11; item < 15; item++)
+        CHECK(fak_c_insert(&seats[1], item, &ticket) == FAK_C_OK && ticket == item - 10);
+    deletes(&bundle, 4, FAK_C_NOT_YET, 0, 4, 99, 0);
+    CHECK(fak_c_try_fill(&seats[0]) == FAK_C_OK);
+    goes_on(&bundle, 1, FAK_C_NOT_YET, 10, 1, 3);
+    bundle_stands(&bundle, FAK_C_DELETING, 1, 3, 36);
+    CHECK(fak_c_in_use(&seats[1], &cells, &is_shut) == FAK_C_OK && cells == 1 && !is_shut);
+    is_in_burst(&bundle, FAK_C_DELETING);
+    goes_on(&bundle, 0, FAK_C_NOT_YET, 99, 0, 3);
+    goes_on(&bundle, 2, FAK_C_NOT_YET, 11, 2, 1);
+    bundle_stands(&bundle, FAK_C_DELETING, 3, 1, 36);
+    is_in_burst(&bundle, FAK_C_DELETING);
+    goes_on(&bundle, 4, FAK_C_OK, 13, 1, 0);
+    is_at_rest(&bundle, 36);
+    tries_nothing(&bundle, FAK_C_WRONG_STATE, FAK_C_WRONG_STATE);
+    deletes(&bundle, 4, FAK_C_OK, 4, 1, 14, 1);
+    leave_all(seats, 2);
     CHECK(fak_c_leave(&bundle) == FAK_C_OK);
 }
 
@@ -515,6 +538,7 @@ void each_burst_code_is_returned(void) {
     a_burst_waits_for_cells();
     a_waiting_burst_publishes_what_it_filled();
     a_burst_waits_for_items();
+    items_wait_for_places();
     handles_leave_in_any_order();
     random_bursts_are_those_of_a_list();
 }

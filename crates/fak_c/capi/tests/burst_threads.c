@@ -84,10 +84,10 @@ static bool take_burst(worker *self) {
         return false;
     CHECK(code == FAK_C_OK ? taken == count : code == FAK_C_NOT_YET && taken < count);
     CHECK(count >= 1 && count <= n && count <= WIDTH && ticket + count <= tickets);
-    while (code == FAK_C_NOT_YET) {
+    for (uint64_t round = 0; code == FAK_C_NOT_YET; round++) {
         sched_yield();
-        /* With as many places as items are left, or one more. */
-        code = fak_c_try_take_burst(self->bundle, items + taken, count - taken + taken % 2, &more, &left);
+        /* With one place less than items are left, as many, or one more. */
+        code = fak_c_try_take_burst(self->bundle, items + taken, count - taken - 1 + round % 3, &more, &left);
         taken += more;
         CHECK((code == FAK_C_OK ? left == 0 : code == FAK_C_NOT_YET && left >= 1) && taken + left == count);
     }

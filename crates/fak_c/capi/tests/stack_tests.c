@@ -7,7 +7,7 @@
 enum { SEATS = 3, CELLS = 64, ROUNDS = 200, WIDTH = 32, LINE = 64 };
 
 /* The bytes of a seat. A bundle has a block of its own; the second word of its seat points to that block. */
-enum { DESK = 280, BUNDLE_AT = 8, BUNDLE = 368, LARGEST = BUNDLE };
+enum { DESK = 280, BUNDLE_AT = 8, BUNDLE = 336, LARGEST = BUNDLE };
 
 static fak_c_seat seats[SEATS];
 
