@@ -1,22 +1,36 @@
-/* A shim for `malloc` and `realloc`: if FAILING_ALLOCATION is N, the N-th allocation fails. It writes how many there
-   were to the file that ALLOCATIONS_MADE names. */
+/* A shim round `malloc` and `realloc`: if FAILING_ALLOCATION is N, the N-th allocation fails. It writes how many there were to the file
+   that ALLOCATIONS_MADE names, and the bytes of each, a line each, to the file that ALLOCATION_SIZES names. */
 #define _GNU_SOURCE
 #include <dlfcn.h>
+#include <fcntl.h>
 #include <stdio.h>
 #include <stdlib.h>
+#include <unistd.h>
 static long calls;
 static long failing(void) {
     const char *which = getenv("FAILING_ALLOCATION");
     return which ? atol(which) : 0;
 }
+/* Neither `snprintf` of a number nor `write` allocates. */
+static void note(size_t size) {
+    const char *path = getenv("ALLOCATION_SIZES");
+    char line[24];
+    int length, file = path ? open(path, O_WRONLY | O_APPEND | O_CREAT, 0600) : -1;
+    if (file < 0) return;
+    length = snprintf(line, sizeof line, "%zu\n", size);
+    if (write(file, line, (size_t)length) != length) abort();
+    close(file);
+}
 void *malloc(size_t size) {
     static void *(*next)(size_t);
     if (!next) next = (void *(*)(size_t))dlsym(RTLD_NEXT, "malloc");
+    note(size);
     return ++calls == failing() ? NULL : next(size);
 }
 void *realloc(void *old, size_t size) {
     static void *(*next)(void *, size_t);
     if (!next) next = (void *(*)(void *, size_t))dlsym(RTLD_NEXT, "realloc");
+    note(size);
     return ++calls == failing() ? NULL : next(old, size);
 }
 __attribute__((destructor)) static void tell(void) {
