@@ -1,4 +1,4 @@
-/* A shim round `malloc` and `realloc`: if FAILING_ALLOCATION is N, the N-th allocation fails. It writes how many there were to the file
+/* A shim for `malloc` and `realloc`: if FAILING_ALLOCATION is N, the N-th allocation fails. It writes how many there were to the file
    that ALLOCATIONS_MADE names, and the bytes of each, a line each, to the file that ALLOCATION_SIZES names. */
 #define _GNU_SOURCE
 #include <dlfcn.h>
