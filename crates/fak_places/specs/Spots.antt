@@ -1,17 +1,28 @@
 -- The place of the first wrong value in a key's array.
-use Rattle.std.specs.Prelude.{◌≡◌, ℕ, Bool, List, Option, Some, None, unwrap_or, option_and_then}
-use Rattle.std.specs.List.{position}
+use Rattle.std.specs.Prelude.{◌≡◌, ℕ, Bool, List, [], ◌∷◌, Option, Some, None, nat_eq, unwrap_or, option_and_then}
+use Rattle.std.specs.List.{position, starts_with}
 use Rattle.serde_json.specs.Data.{Data, Items, no_items}
 use Rattle.serde_json.specs.Find.{get, as_array}
 use Rattle.serde_json.specs.View.{items_of}
 use Rattle.fak_text.specs.Fields.{name_of}
 use Rattle.fak_text.specs.declared.fault.Field.{Field}
+use Rattle.fak_places.specs.declared.asked.Absent.{Absent}
+use Rattle.fak_places.specs.declared.asked.Asked.TheVariants.{Present}
 use Rattle.fak_places.specs.declared.asked.Spot.{Spot}
 use Rattle.fak_places.specs.declared.asked.Spot.TheVariants.{One, Two, Three}
+use Rattle.fak_places.specs.declared.asked.Wrong.{Wrong}
 
 -- the elements of the array of a key; none if it is no array
 abbrev pub array_of : Field → Data → Items
 array_of f d = unwrap_or (option_and_then as_array (get (name_of f) d)) no_items
+
+-- what is wrong with an element that names what its script does not have
+abbrev pub absent_at : ℕ → Absent → Wrong
+absent_at index absent = record { element = Some index; asked = Present absent }
+
+-- whether a text begins with a byte order mark
+abbrev pub begins_with_byte_order_mark : List ℕ → Bool
+begins_with_byte_order_mark bytes = starts_with nat_eq bytes (239 ∷ 187 ∷ 191 ∷ [])
 
 -- the spot of an item, or of one of its elements
 abbrev pub spot_in_item : ℕ → Option ℕ → Spot

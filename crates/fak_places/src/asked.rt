@@ -1,7 +1,7 @@
 //! What is asked of a value, and the value's place in its key's array.
 
 ghost use Rattle.std.specs.Prelude.{◌≡◌};
-ghost use Rattle.fak_places.specs.Spots.{spot_in_item, spot_in_step};
+ghost use Rattle.fak_places.specs.Spots.{absent_at, spot_in_item, spot_in_step};
 
 use std::fmt;
 use thiserror::Error;
@@ -13,8 +13,41 @@ pub enum Asked {
     #[error("{0}")]
     Words(&'static str),
     /// This is a whole number in this range, both ends included.
-    #[error("{0} is {1} to {2}")]
+    #[error("{0} is a whole number from {1} to {2}")]
     Within(&'static str, u64, u64),
+    /// This is an array of at most this many first processes.
+    #[error("this is an array of at most {0} programs' numbers, one for each slot")]
+    Starts(u64),
+    /// The script has what a number names. The text says which number that is.
+    #[error("{0}")]
+    Present(Absent),
+}
+
+/// A number that names nothing in its script.
+#[derive(Clone, Copy, Debug, PartialEq, Eq)]
+pub struct Absent {
+    /// What the number would name: a semaphore or a program.
+    pub what: &'static str,
+    /// The number.
+    pub number: u64,
+    /// How many of these the script has, at most `number`. They are numbered from 0.
+    pub count: u64,
+}
+
+impl fmt::Display for Absent {
+    fn fmt<W: fmt::Write>(&self, f: &mut fmt::Formatter<W>) -> fmt::Result {
+        let Absent {
+            what,
+            number,
+            count,
+        } = *self;
+        write!(f, "{what} {number} does not exist: the script has ")?;
+        match count.checked_sub(1) {
+            None => write!(f, "no {what}s"),
+            Some(0) => write!(f, "only {what} 0"),
+            Some(last) => write!(f, "{what}s 0 to {last}"),
+        }
+    }
 }
 
 /// The place of a value.
@@ -79,6 +112,16 @@ pub(crate) fn outside(index: usize, what: &'static str, low: u64, high: u64) -> 
     Wrong {
         element: Some(index),
         asked: Asked::Within(what, low, high),
+    }
+}
+
+/// The element of this index names what the script does not have.
+pub(crate) fn names_nothing(index: usize, absent: Absent) -> Wrong
+    ensures { result ≡ absent_at index absent }
+{
+    Wrong {
+        element: Some(index),
+        asked: Asked::Present(absent),
     }
 }
 

@@ -11,6 +11,6 @@ mod script;
 mod step;
 mod values;
 
-pub use asked::{Asked, Hint, Spot};
+pub use asked::{Absent, Asked, Hint, Spot};
 pub use fault_place::{Format, place_of};
 pub use place::Place;

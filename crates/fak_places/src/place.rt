@@ -1,6 +1,6 @@
 //! A place in an input, and its text.
 
-use crate::asked::{Hint, Spot};
+use crate::asked::{Asked, Hint, Spot};
 use fak_text::{Field, TextFault};
 use serde_json::Value;
 use std::alloc::{AllocError, Global};
@@ -29,14 +29,14 @@ impl fmt::Display for Place {
             Spot::Text(_, _) => write!(f, "{spot}: {asked}")?,
             _ => write!(f, "{}{spot}: {asked}", self.key)?,
         }
-        match &self.found {
-            Some(found) => write!(f, ", not {found}"),
-            None => Ok(()),
+        match (asked, &self.found) {
+            (Asked::Present(_), _) | (_, None) => Ok(()),
+            (_, Some(found)) => write!(f, ", not {found}"),
         }
     }
 }
 
-/// A value in short.
+/// A value in short. A text is said to be one, so that `"2"` is not taken for a number.
 pub(crate) fn shown(alloc: Global, value: &Value) -> Result<String, AllocError> {
     match value {
         Value::Array(items) => format!(in alloc; "an array of {}", items.len()),
@@ -44,6 +44,7 @@ pub(crate) fn shown(alloc: Global, value: &Value) -> Result<String, AllocError> 
         Value::String(text) if text.len() > LONGEST_SHOWN => {
             format!(in alloc; "a text of {} bytes", text.len())
         }
+        Value::String(_) => format!(in alloc; "the text {value}"),
         _ => format!(in alloc; "{value}"),
     }
 }

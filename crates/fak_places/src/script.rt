@@ -11,8 +11,8 @@ ghost use Rattle.fak_places.specs.Named.{step_in};
 ghost use Rattle.fak_places.specs.Spots.{IsInFirst, IsInFirstStep, array_of};
 ghost use Rattle.fak_places.specs.declared.asked.Spot.TheVariants.{Key, One};
 
-use crate::asked::{Asked, Hint, Spot, in_step};
-use crate::step::{Limits, first_wrong_step, wrong_step};
+use crate::asked::{Absent, Asked, Hint, Spot, in_step};
+use crate::step::{Limits, PROGRAM, PROGRAM_NUMBER, first_wrong_step, wrong_step};
 use crate::values::elements_of_key;
 use fak_text::{Field, MOST_STEPS};
 use serde_json::Value;
@@ -99,14 +99,18 @@ pub(crate) fn hint_in_start(script: &Value) -> Option<Hint>
     if values.len() as u64 > slots {
         return Some(Hint {
             spot: Spot::Key,
-            asked: Asked::Within("the number of first processes", 0, slots),
+            asked: Asked::Starts(slots),
         });
     }
     let programs = count_of_key(script, Field::Programs);
     let index = first_wrong_number(Field::Start, programs, values)?;
-    let asked = match programs.checked_sub(1) {
-        Some(last) => Asked::Within("a program", 0, last),
-        None => Asked::Words("no program, since the script has none"),
+    let asked = match values.get(index)?.as_u64() {
+        Some(number) => Asked::Present(Absent {
+            what: PROGRAM,
+            number,
+            count: programs,
+        }),
+        None => Asked::Words(PROGRAM_NUMBER),
     };
     Some(Hint {
         spot: Spot::One(index),

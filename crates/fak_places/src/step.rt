@@ -1,12 +1,13 @@
 //! What is wrong with a step of a program.
 
-ghost use Rattle.std.specs.Prelude.{◌≡◌, ◌&&◌, is_none, is_ok, nat_eq, not, option_map};
+ghost use Rattle.std.specs.Prelude.{◌≡◌, ◌≤◌, ◌&&◌, IfSome, Some, is_none, is_ok, nat_eq, not, option_map};
 ghost use Rattle.std.specs.List.{list_all, position};
 ghost use Rattle.serde_json.specs.View.{view};
 ghost use Rattle.fak_text.specs.StepText.{is_printable, is_sayable, said_text, inode_argument, argument_below};
 ghost use Rattle.fak_places.specs.Named.{step_named, step_in};
+ghost use Rattle.fak_places.specs.Spots.{absent_at};
 
-use crate::asked::{Wrong, element, outside, whole};
+use crate::asked::{Absent, Wrong, element, names_nothing, outside, whole};
 use crate::values::count;
 use fak_text::{number_at, text_at};
 use serde_json::Value;
@@ -14,6 +15,16 @@ use serde_json::Value;
 const MOST_CHARACTERS: usize = 80;
 
 const MOST_INODE: u64 = 4_294_967_296;
+
+const SEMAPHORE: &'static str = "semaphore";
+
+const SEMAPHORE_NUMBER: &'static str = "a semaphore is named by a whole number";
+
+/// What a program is called.
+pub(crate) const PROGRAM: &'static str = "program";
+
+/// How a program is named.
+pub(crate) const PROGRAM_NUMBER: &'static str = "a program is named by a whole number";
 
 const NAMES: &'static str =
     "a step is say, yield, down, up, open, close, stat or spawn, in version 2 also shutdown";
@@ -80,23 +91,32 @@ fn wrong_inode(size: usize, number: Option<u64>) -> Option<Wrong>
     }
 }
 
-/// What is wrong with the second of two elements, a semaphore or a program, of which there are this many.
+/// What is wrong with the second of two elements, the number of one of `count` semaphores or programs.
 fn wrong_index(
     what: &'static str,
-    none: &'static str,
-    bound: u64,
+    named: &'static str,
+    count: u64,
     size: usize,
     number: Option<u64>,
 ) -> Option<Wrong>
-    ensures { is_none result ≡ is_ok (argument_below size bound number) }
+    ensures wrong { is_none result ≡ is_ok (argument_below size count number) }
+    ensures absent { size ≡ 2 → IfSome number (λ n. count ≤ n
+        → result ≡ Some (absent_at 1 (record { what = what.entry; number = n; count = count }))) }
 {
     if size != 2 {
         return Some(whole("a step of this name has two elements"));
     }
     match number {
-        Some(n) if n < bound => None,
-        _ if bound == 0 => Some(element(1, none)),
-        _ => Some(outside(1, what, 0, bound - 1)),
+        Some(n) if n < count => None,
+        Some(number) => Some(names_nothing(
+            1,
+            Absent {
+                what,
+                number,
+                count,
+            },
+        )),
+        None => Some(element(1, named)),
     }
 }
 
@@ -104,13 +124,7 @@ fn wrong_index(
 fn wrong_semaphore(semaphores: u64, size: usize, number: Option<u64>) -> Option<Wrong>
     ensures { is_none result ≡ is_ok (argument_below size semaphores number) }
 {
-    wrong_index(
-        "a semaphore",
-        "no semaphore, since the script has none",
-        semaphores,
-        size,
-        number,
-    )
+    wrong_index(SEMAPHORE, SEMAPHORE_NUMBER, semaphores, size, number)
 }
 
 /// What is wrong with a step that shuts the ready queue, in scripts of this version.
@@ -141,13 +155,7 @@ fn wrong_named(
         "yield" => wrong_lone(size),
         "down" | "up" => wrong_semaphore(semaphores, size, number),
         "open" | "close" | "stat" => wrong_inode(size, number),
-        "spawn" => wrong_index(
-            "a program",
-            "no program, since the script has none",
-            limits.programs,
-            size,
-            number,
-        ),
+        "spawn" => wrong_index(PROGRAM, PROGRAM_NUMBER, limits.programs, size, number),
         "shutdown" => wrong_shutdown(limits.version, size),
         _ => Some(element(0, NAMES)),
     }

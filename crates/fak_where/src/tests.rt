@@ -33,6 +33,10 @@ fn a_text_stops_being_json_at_its_place(rt: HostRuntime) {
             "line 1, column 11: the text ends before all its brackets, braces and quotation marks are closed\n",
         ),
         (
+            "\u{feff}{\"size\":1,\"marks\":[]}",
+            "line 1, column 1: a value, not a byte order mark\n",
+        ),
+        (
             "{} {}",
             "line 1, column 4: a comma, a colon, a value, a closing bracket or the end, not {\n",
         ),
@@ -54,11 +58,11 @@ fn a_schedule_is_wrong_at_its_place(rt: HostRuntime) {
         ),
         (
             "{\"object\":\"heap\"}",
-            "object: an object is \"room\" or \"queue\", not \"heap\"\n",
+            "object: an object is \"room\" or \"queue\", not the text \"heap\"\n",
         ),
         (
             "{\"object\":\"queue\",\"size\":\"1\"}",
-            "size: a queue's size is 1 to 4096, not \"1\"\n",
+            "size: a queue's size is a whole number from 1 to 4096, not the text \"1\"\n",
         ),
         (
             "{\"object\":\"queue\",\"size\":1}",
@@ -70,11 +74,11 @@ fn a_schedule_is_wrong_at_its_place(rt: HostRuntime) {
         ),
         (
             "{\"object\":\"queue\",\"size\":1,\"seats\":1,\"events\":[[0,\"delete\"],[0,\"step\",65]]}",
-            "events[1][2]: a step count is 1 to 64, not 65\n",
+            "events[1][2]: a step count is a whole number from 1 to 64, not 65\n",
         ),
         (
             "{\"object\":\"queue\",\"size\":1,\"seats\":1,\"events\":[[0,\"tir\",1]]}",
-            "events[0][1]: an operation of a queue is step, insert, delete or shut, not \"tir\"\n",
+            "events[0][1]: an operation of a queue is step, insert, delete or shut, not the text \"tir\"\n",
         ),
         (
             "{\"object\":\"room\",\"bound\":1,\"seats\":1,\"events\":[[0,\"tir\"]]}",
@@ -90,11 +94,40 @@ fn a_schedule_is_wrong_at_its_place(rt: HostRuntime) {
 }
 
 #[test]
+fn a_value_of_another_type_is_named(rt: HostRuntime) -> Result<(), AllocError> {
+    let rows = &[
+        ("\"2\"", "the text \"2\""),
+        ("\"\"", "the text \"\""),
+        (
+            "\"0123456789012345678901234567890123456789x\"",
+            "a text of 41 bytes",
+        ),
+        ("null", "null"),
+        ("true", "true"),
+        ("[1,2]", "an array of 2"),
+        ("{\"size\":1}", "an object"),
+        ("1.5", "1.5"),
+        ("-1", "-1"),
+    ];
+    for (value, named) in rows {
+        let input = format!(in rt.alloc(); "{{\"size\":{value},\"marks\":[]}}")?;
+        let want = format!(in rt.alloc();
+            "size: a queue's size is a whole number from 1 to 4096, not {named}\n"
+        )?;
+        assert!(rt;
+            answers(rt.alloc(), Format::History, &input, 1, &want),
+            "at {value}"
+        );
+    }
+    Ok(())
+}
+
+#[test]
 fn a_history_is_wrong_at_its_place(rt: HostRuntime) {
     let rows = &[
         (
             "{\"size\":0,\"size\":5000,\"marks\":[]}",
-            "size: a queue's size is 1 to 4096, not 5000\n",
+            "size: a queue's size is a whole number from 1 to 4096, not 5000\n",
         ),
         (
             "{\"size\":1,\"marks\":[[0]]}",
@@ -102,7 +135,7 @@ fn a_history_is_wrong_at_its_place(rt: HostRuntime) {
         ),
         (
             "{\"size\":1,\"marks\":[[64,\"close\"]]}",
-            "marks[0][0]: a seat is 0 to 63, not 64\n",
+            "marks[0][0]: a seat is a whole number from 0 to 63, not 64\n",
         ),
         (
             "{\"size\":1,\"marks\":[[0,\"claim-in\"],[0,\"put\",-1]]}",
@@ -114,7 +147,7 @@ fn a_history_is_wrong_at_its_place(rt: HostRuntime) {
         ),
         (
             "{\"size\":1,\"marks\":[[0,\"got\",1],[0,\"shut\"]]}",
-            "marks[1][1]: a mark is claim-in, over-in, back-in, no-room, put, fill, end-in, claim-out, over-out, back-out, no-item, got, take, end-out, close, closed or late-in, not \"shut\"\n",
+            "marks[1][1]: a mark is claim-in, over-in, back-in, no-room, put, fill, end-in, claim-out, over-out, back-out, no-item, got, take, end-out, close, closed or late-in, not the text \"shut\"\n",
         ),
     ];
     for (input, want) in rows {
@@ -144,7 +177,7 @@ fn a_script_is_wrong_at_its_place(rt: HostRuntime) -> Result<(), AllocError> {
             "[0,1000001]",
             "[]",
             "[]",
-            "semaphores[1]: a semaphore's value is 0 to 1000000, not 1000001\n",
+            "semaphores[1]: a semaphore's value is a whole number from 0 to 1000000, not 1000001\n",
         ),
         (
             "[]",
@@ -153,40 +186,70 @@ fn a_script_is_wrong_at_its_place(rt: HostRuntime) -> Result<(), AllocError> {
             "programs[1]: a program is an array of at most 1000 steps, not 7\n",
         ),
         (
+            "[]",
+            "[[[\"down\",0]]]",
+            "[]",
+            "programs[0][0][1]: semaphore 0 does not exist: the script has no semaphores\n",
+        ),
+        (
             "[0]",
             "[[[\"yield\"]],[[\"yield\"],[\"up\",1]]]",
             "[]",
-            "programs[1][1][1]: a semaphore is 0 to 0, not 1\n",
+            "programs[1][1][1]: semaphore 1 does not exist: the script has only semaphore 0\n",
+        ),
+        (
+            "[0,0]",
+            "[[[\"down\",1],[\"down\",2]]]",
+            "[]",
+            "programs[0][1][1]: semaphore 2 does not exist: the script has semaphores 0 to 1\n",
+        ),
+        (
+            "[]",
+            "[[[\"down\",\"0\"]]]",
+            "[]",
+            "programs[0][0][1]: a semaphore is named by a whole number, not the text \"0\"\n",
         ),
         (
             "[]",
             "[[[\"open\",0]]]",
             "[]",
-            "programs[0][0][1]: an inode is 1 to 4294967296, not 0\n",
+            "programs[0][0][1]: an inode is a whole number from 1 to 4294967296, not 0\n",
         ),
         (
             "[]",
             "[[[\"spawn\",1]]]",
             "[]",
-            "programs[0][0][1]: a program is 0 to 0, not 1\n",
+            "programs[0][0][1]: program 1 does not exist: the script has only program 0\n",
         ),
         (
             "[]",
             "[[[\"shutdown\"]]]",
             "[]",
-            "programs[0][0][0]: a step is say, yield, down, up, open, close, stat or spawn, in version 2 also shutdown, not \"shutdown\"\n",
+            "programs[0][0][0]: a step is say, yield, down, up, open, close, stat or spawn, in version 2 also shutdown, not the text \"shutdown\"\n",
         ),
         (
             "[]",
             "[[]]",
             "[0,1]",
-            "start[1]: a program is 0 to 0, not 1\n",
+            "start[1]: program 1 does not exist: the script has only program 0\n",
+        ),
+        (
+            "[]",
+            "[]",
+            "[0]",
+            "start[0]: program 0 does not exist: the script has no programs\n",
+        ),
+        (
+            "[]",
+            "[[]]",
+            "[0,null]",
+            "start[1]: a program is named by a whole number, not null\n",
         ),
         (
             "[]",
             "[[]]",
             "[0,0,0]",
-            "start: the number of first processes is 0 to 2, not an array of 3\n",
+            "start: this is an array of at most 2 programs' numbers, one for each slot, not an array of 3\n",
         ),
     ];
     for (semaphores, programs, start, want) in rows {
