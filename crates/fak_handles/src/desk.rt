@@ -47,7 +47,8 @@ impl Desk {
     /// Lends the seat of a queue. `None` if the desk is of another kind.
     pub fn queue(&mut self) -> Option<&mut QueueDesk>
         ensures* writes_back { sem 𝓛 (LendsQueue self.entry result) }
-        ensures value { MatchOption result (queue_in (Some self.old) ≡ None) (λ r. queue_in (Some self.old) ≡ Some r.now) }
+        ensures value { MatchOption result (queue_in (Some self.old) ≡ None)
+            (λ r. queue_in (Some self.old) ≡ Some r.now) }
     {
         match self {
             Desk::Queue(desk) => Some(desk),
@@ -63,7 +64,8 @@ impl Desk {
     /// Lends the seat of a semaphore. `None` if the desk is of another kind.
     pub fn semaphore(&mut self) -> Option<&mut SemDesk>
         ensures* writes_back { sem 𝓛 (LendsSemaphore self.entry result) }
-        ensures value { MatchOption result (semaphore_in (Some self.old) ≡ None) (λ r. semaphore_in (Some self.old) ≡ Some r.now) }
+        ensures value { MatchOption result (semaphore_in (Some self.old) ≡ None)
+            (λ r. semaphore_in (Some self.old) ≡ Some r.now) }
     {
         match self {
             Desk::Semaphore(desk) => Some(desk),
@@ -79,7 +81,8 @@ impl Desk {
     /// Lends the seat of a room. `None` if the desk is of another kind.
     pub fn room(&mut self) -> Option<&mut RoomDesk>
         ensures* writes_back { sem 𝓛 (LendsRoom self.entry result) }
-        ensures value { MatchOption result (room_in (Some self.old) ≡ None) (λ r. room_in (Some self.old) ≡ Some r.now) }
+        ensures value { MatchOption result (room_in (Some self.old) ≡ None)
+            (λ r. room_in (Some self.old) ≡ Some r.now) }
     {
         match self {
             Desk::Room(desk) => Some(desk),
@@ -95,7 +98,8 @@ impl Desk {
     /// Lends the seat of a credit. `None` if the desk is of another kind.
     pub fn credit(&mut self) -> Option<&mut CreditDesk>
         ensures* writes_back { sem 𝓛 (LendsCredit self.entry result) }
-        ensures value { MatchOption result (credit_in (Some self.old) ≡ None) (λ r. credit_in (Some self.old) ≡ Some r.now) }
+        ensures value { MatchOption result (credit_in (Some self.old) ≡ None)
+            (λ r. credit_in (Some self.old) ≡ Some r.now) }
     {
         match self {
             Desk::Credit(desk) => Some(desk),
@@ -111,7 +115,8 @@ impl Desk {
     /// Lends the seat of a file table. `None` if the desk is of another kind.
     pub fn files(&mut self) -> Option<&mut FileDesk>
         ensures* writes_back { sem 𝓛 (LendsFiles self.entry result) }
-        ensures value { MatchOption result (files_in (Some self.old) ≡ None) (λ r. files_in (Some self.old) ≡ Some r.now) }
+        ensures value { MatchOption result (files_in (Some self.old) ≡ None)
+            (λ r. files_in (Some self.old) ≡ Some r.now) }
     {
         match self {
             Desk::Files(desk) => Some(desk),
@@ -127,7 +132,8 @@ impl Desk {
     /// Lends the end of a channel. `None` if the desk is of another kind.
     pub fn channel(&mut self) -> Option<&mut ChannelDesk>
         ensures* writes_back { sem 𝓛 (LendsChannel self.entry result) }
-        ensures value { MatchOption result (channel_in (Some self.old) ≡ None) (λ r. channel_in (Some self.old) ≡ Some r.now) }
+        ensures value { MatchOption result (channel_in (Some self.old) ≡ None)
+            (λ r. channel_in (Some self.old) ≡ Some r.now) }
     {
         match self {
             Desk::Channel(desk) => Some(desk.as_mut()),
@@ -143,7 +149,8 @@ impl Desk {
     /// Lends the bundle. `None` if the desk is of another kind.
     pub fn bundle(&mut self) -> Option<&mut BundleDesk>
         ensures* writes_back { sem 𝓛 (LendsBundle self.entry result) }
-        ensures value { MatchOption result (bundle_in (Some self.old) ≡ None) (λ r. bundle_in (Some self.old) ≡ Some r.now) }
+        ensures value { MatchOption result (bundle_in (Some self.old) ≡ None)
+            (λ r. bundle_in (Some self.old) ≡ Some r.now) }
     {
         match self {
             Desk::Bundle(desk) => Some(desk.as_mut()),

@@ -47,7 +47,8 @@ impl Place {
     /// Lends the seat of a queue. `None` if the handle is empty, or has a seat of another kind.
     pub fn queue(&mut self) -> Option<&mut QueueDesk>
         ensures* writes_back { sem 𝓛 (LendsQueueAt self.entry result) }
-        ensures value { MatchOption result (queue_in self.old.handle.desk ≡ None) (λ r. queue_in self.old.handle.desk ≡ Some r.now) }
+        ensures value { MatchOption result (queue_in self.old.handle.desk ≡ None)
+            (λ r. queue_in self.old.handle.desk ≡ Some r.now) }
     {
         match self.handle.desk() {
             Some(desk) => desk.queue(),
@@ -58,7 +59,8 @@ impl Place {
     /// Lends the seat of a semaphore. `None` if the handle is empty, or has a seat of another kind.
     pub fn semaphore(&mut self) -> Option<&mut SemDesk>
         ensures* writes_back { sem 𝓛 (LendsSemaphoreAt self.entry result) }
-        ensures value { MatchOption result (semaphore_in self.old.handle.desk ≡ None) (λ r. semaphore_in self.old.handle.desk ≡ Some r.now) }
+        ensures value { MatchOption result (semaphore_in self.old.handle.desk ≡ None)
+            (λ r. semaphore_in self.old.handle.desk ≡ Some r.now) }
     {
         match self.handle.desk() {
             Some(desk) => desk.semaphore(),
@@ -69,7 +71,8 @@ impl Place {
     /// Lends the seat of a room. `None` if the handle is empty, or has a seat of another kind.
     pub fn room(&mut self) -> Option<&mut RoomDesk>
         ensures* writes_back { sem 𝓛 (LendsRoomAt self.entry result) }
-        ensures value { MatchOption result (room_in self.old.handle.desk ≡ None) (λ r. room_in self.old.handle.desk ≡ Some r.now) }
+        ensures value { MatchOption result (room_in self.old.handle.desk ≡ None)
+            (λ r. room_in self.old.handle.desk ≡ Some r.now) }
     {
         match self.handle.desk() {
             Some(desk) => desk.room(),
@@ -80,7 +83,8 @@ impl Place {
     /// Lends the seat of a credit. `None` if the handle is empty, or has a seat of another kind.
     pub fn credit(&mut self) -> Option<&mut CreditDesk>
         ensures* writes_back { sem 𝓛 (LendsCreditAt self.entry result) }
-        ensures value { MatchOption result (credit_in self.old.handle.desk ≡ None) (λ r. credit_in self.old.handle.desk ≡ Some r.now) }
+        ensures value { MatchOption result (credit_in self.old.handle.desk ≡ None)
+            (λ r. credit_in self.old.handle.desk ≡ Some r.now) }
     {
         match self.handle.desk() {
             Some(desk) => desk.credit(),
@@ -91,7 +95,8 @@ impl Place {
     /// Lends the seat of a file table. `None` if the handle is empty, or has a seat of another kind.
     pub fn files(&mut self) -> Option<&mut FileDesk>
         ensures* writes_back { sem 𝓛 (LendsFilesAt self.entry result) }
-        ensures value { MatchOption result (files_in self.old.handle.desk ≡ None) (λ r. files_in self.old.handle.desk ≡ Some r.now) }
+        ensures value { MatchOption result (files_in self.old.handle.desk ≡ None)
+            (λ r. files_in self.old.handle.desk ≡ Some r.now) }
     {
         match self.handle.desk() {
             Some(desk) => desk.files(),
@@ -102,7 +107,8 @@ impl Place {
     /// Lends the end of a channel. `None` if the handle is empty, or has a seat of another kind.
     pub fn channel(&mut self) -> Option<&mut ChannelDesk>
         ensures* writes_back { sem 𝓛 (LendsChannelAt self.entry result) }
-        ensures value { MatchOption result (channel_in self.old.handle.desk ≡ None) (λ r. channel_in self.old.handle.desk ≡ Some r.now) }
+        ensures value { MatchOption result (channel_in self.old.handle.desk ≡ None)
+            (λ r. channel_in self.old.handle.desk ≡ Some r.now) }
     {
         match self.handle.desk() {
             Some(desk) => desk.channel(),
@@ -113,7 +119,8 @@ impl Place {
     /// Lends the bundle. `None` if the handle is empty, or has a seat of another kind.
     pub fn bundle(&mut self) -> Option<&mut BundleDesk>
         ensures* writes_back { sem 𝓛 (LendsBundleAt self.entry result) }
-        ensures value { MatchOption result (bundle_in self.old.handle.desk ≡ None) (λ r. bundle_in self.old.handle.desk ≡ Some r.now) }
+        ensures value { MatchOption result (bundle_in self.old.handle.desk ≡ None)
+            (λ r. bundle_in self.old.handle.desk ≡ Some r.now) }
     {
         match self.handle.desk() {
             Some(desk) => desk.bundle(),

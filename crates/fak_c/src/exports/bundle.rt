@@ -95,7 +95,8 @@ pub extern "C" fn fak_c_delete_burst(
     taken: &mut u64,
 ) -> i32
     ensures len { length items.new ≡ length items.old }
-    ensures call { Called result ((items.new ≡ items.old) × (ticket.new ≡ ticket.old) × (count.new ≡ count.old) × (taken.new ≡ taken.old)) SameQueueOf
+    ensures call { Called result ((items.new ≡ items.old) × (ticket.new ≡ ticket.old)
+        × (count.new ≡ count.old) × (taken.new ≡ taken.old)) SameQueueOf
         (DeletesBurstTo result items.old items.new ticket.old ticket.new count.old count.new taken.old taken.new)
         (bundle_in bundle.old.handle.desk) (bundle_in bundle.new.handle.desk) }
     ensures spares { Spares bundle_in bundle.old.handle.desk bundle.new.handle.desk }
@@ -147,7 +148,8 @@ pub extern "C" fn fak_c_bundle_state(
     width: &mut u64,
     left: &mut u64,
 ) -> i32
-    ensures call { Called result ((state.new ≡ state.old) × (ticket.new ≡ ticket.old) × (waiting.new ≡ waiting.old) × (width.new ≡ width.old) × (left.new ≡ left.old)) SameQueueOf
+    ensures call { Called result ((state.new ≡ state.old) × (ticket.new ≡ ticket.old)
+        × (waiting.new ≡ waiting.old) × (width.new ≡ width.old) × (left.new ≡ left.old)) SameQueueOf
         (LooksAtBundle result state.new ticket.old ticket.new waiting.old waiting.new width.new left.new)
         (bundle_in bundle.old.handle.desk) (bundle_in bundle.new.handle.desk) }
     ensures spares { Spares bundle_in bundle.old.handle.desk bundle.new.handle.desk }

@@ -97,7 +97,8 @@ pub extern "C" fn fak_channel_begin_close(end: &mut Place) -> i32
 /// `OK`, `CLOSED` or `WORN` if the call is done; `NOT_YET`, `WAKES` or `SLEEPS` if it stays open; `NO_SEAT` or `WRONG_STATE`.
 #[unsafe(no_mangle)]
 pub extern "C" fn fak_channel_step(end: &mut Place, item: &mut Item, number: &mut u64) -> i32
-    ensures call { Called result ((item.new ≡ item.old) × (number.new ≡ number.old)) SameChannel (StepsOn result item.old item.new number.old number.new)
+    ensures call { Called result ((item.new ≡ item.old) × (number.new ≡ number.old)) SameChannel
+        (StepsOn result item.old item.new number.old number.new)
         (channel_in end.old.handle.desk) (channel_in end.new.handle.desk) }
     ensures spares { Spares channel_in end.old.handle.desk end.new.handle.desk }
 {
@@ -166,7 +167,8 @@ pub extern "C" fn fak_channel_state(
     state: &mut u32,
     left: &mut u64,
 ) -> i32
-    ensures call { Called result ((number.new ≡ number.old) × (state.new ≡ state.old) × (left.new ≡ left.old)) SameChannel (LooksAtEnd result number.new state.new left.new)
+    ensures call { Called result ((number.new ≡ number.old) × (state.new ≡ state.old) × (left.new ≡ left.old)) SameChannel
+        (LooksAtEnd result number.new state.new left.new)
         (channel_in end.old.handle.desk) (channel_in end.new.handle.desk) }
     ensures spares { Spares channel_in end.old.handle.desk end.new.handle.desk }
 {
