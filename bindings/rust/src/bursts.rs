@@ -82,8 +82,8 @@ impl Bundle {
         }
     }
 
-    /// Goes on with a burst of deletions: takes out further items, to the first places of the slice, as many as there are places. How many it
-    /// took out. An item that has left its cell and finds no place waits in the bundle for the next call.
+    /// Goes on with a burst of deletions: takes out further items, to the first places of the slice, as many as there are places. Returns
+    /// how many it took out. An item that has left its cell and finds no place waits in the bundle for the next call.
     pub fn try_take_burst(&mut self, items: &mut [u64]) -> Result<usize, Fault> {
         let (mut taken, mut left) = (0, 0);
         match unsafe { raw::fak_c_try_take_burst(&mut self.0, items.as_mut_ptr(), items.len(), &mut taken, &mut left) } {

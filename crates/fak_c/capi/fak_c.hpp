@@ -316,8 +316,8 @@ public:
         });
     }
 
-    /* A claim for the first of n items, and the first tries. The burst is written with Ok and NotYet, and its items are taken
-     * then; after NotYet `try_put_burst` is next. Memory says that there is no room for the items on their way, which the opening made. */
+    /* A claim for the first of n items, and the first tries. The burst is written with Ok and NotYet, and its items are taken then; after
+     * NotYet `try_put_burst` is next. */
     Answer<Burst> put_burst(const T *items, std::size_t n) noexcept {
         std::uint64_t words[most], ticket = 0, count = 0;
         n = n < most ? n : most;
