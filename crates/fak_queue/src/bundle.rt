@@ -96,7 +96,8 @@ impl<T> Model for Bundle<T> {
 
     ghost view = { λ b. queue_bundle (object_id b.token.table_id b.seats) b.names.items b.left b.state b.token.me };
 
-    ghost invariant = { λ b. IsQueueBundle b.token.table_id.slots b.seats b.names.items (deque_capacity b.kept) b.kept.items b.state b.left b.token.me };
+    ghost invariant = { λ b. IsQueueBundle b.token.table_id.slots b.seats b.names.items (deque_capacity b.kept) b.kept.items b.state
+        b.left b.token.me };
 }
 
 impl<T> Bundle<T> {
