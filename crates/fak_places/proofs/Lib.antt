@@ -1,3 +1,5 @@
 mod Counts
 mod MarkNames
+mod OnlyKeys
+mod OtherNames
 mod Spots

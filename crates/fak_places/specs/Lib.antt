@@ -1,3 +1,4 @@
+pub mod Keys
 pub mod Named
 pub mod Places
 pub mod Spots

@@ -4,7 +4,9 @@
 mod asked;
 mod event;
 mod fault_place;
+mod ignored;
 mod json;
+pub mod laws;
 mod mark;
 mod place;
 mod script;
@@ -13,4 +15,5 @@ mod values;
 
 pub use asked::{Absent, Asked, Hint, Spot};
 pub use fault_place::{Format, place_of};
+pub use ignored::{Ignored, ignored_keys};
 pub use place::Place;

@@ -6,8 +6,8 @@ use serde_json::Value;
 use std::alloc::{AllocError, Global};
 use std::fmt;
 
-/// How long a text is shown at most.
-const LONGEST_SHOWN: usize = 40;
+/// A text or a key of more bytes than this is not shown, but counted.
+pub(crate) const LONGEST_SHOWN: usize = 40;
 
 /// The place of an input's first fault.
 #[derive(Debug, PartialEq, Eq, Drop)]
