@@ -8,7 +8,7 @@ ghost use Rattle.fak_where.specs.Answers.{status_of_place};
 ghost use Rattle.fak_where.specs.declared.fault.WhereFault.TheVariants.{Memory, Read, Write};
 
 use crate::fault::WhereFault;
-use fak_places::{Format, place_of};
+use fak_places::{Format, Ignored, ignored_keys, place_of};
 use std::alloc::Global;
 use std::io::{ErrorKind, Read, Write};
 
@@ -28,15 +28,29 @@ fn read_input<R: Read + Drop>(alloc: Global, reader: R) -> Result<Vec<u8>, Where
     }
 }
 
-/// The status and the text for an input: 0 if nothing is wrong, else 1 and the place.
+/// Adds a line for each key.
+fn append_ignored(alloc: Global, text: &mut String, keys: &[Ignored]) -> Result<(), WhereFault>
+    ensures { IfErr result (λ e. e ≡ Memory) }
+{
+    for key in keys {
+        let line = format!(in alloc; "{key}\n")?;
+        text.push_str(line.as_str())?;
+    }
+    Ok(())
+}
+
+/// The status and the text for an input. The status is 0 if nothing is wrong, else 1. The text has a line for the place, and one for each
+/// ignored key.
 fn answer_of(alloc: Global, format: Format, input: &[u8]) -> Result<(u8, String), WhereFault>
     ensures ok { IfOk result (λ answer. answer.0 ≡ status_of_place (fault_in format input.now)) }
     ensures err { IfErr result (λ e. e ≡ Memory) }
 {
-    match place_of(alloc, format, input)? {
-        None => Ok((0, format!(in alloc; "nothing is wrong\n")?)),
-        Some(place) => Ok((1, format!(in alloc; "{place}\n")?)),
-    }
+    let (status, mut text) = match place_of(alloc, format, input)? {
+        None => (0, format!(in alloc; "nothing is wrong\n")?),
+        Some(place) => (1, format!(in alloc; "{place}\n")?),
+    };
+    append_ignored(alloc, &mut text, &ignored_keys(alloc, format, input)?)?;
+    Ok((status, text))
 }
 
 /// Writes a text whole.
@@ -52,7 +66,8 @@ fn write_text<W: Write>(writer: &mut W, text: &str) -> Result<(), WhereFault>
     Ok(())
 }
 
-/// Reads an input, and writes the place at which it is wrong. Returns the status: 0 if nothing is wrong, else 1.
+/// Reads an input, and writes the place at which it is wrong and the keys that are ignored. Returns the status: 0 if nothing is wrong,
+/// else 1.
 ///
 /// # Errors
 ///

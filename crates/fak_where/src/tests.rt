@@ -263,6 +263,60 @@ fn a_script_is_wrong_at_its_place(rt: HostRuntime) -> Result<(), AllocError> {
 }
 
 #[test]
+fn ignored_keys_are_named(rt: HostRuntime) {
+    let rows = &[
+        (
+            Format::Script,
+            "{\"version\":1,\"slots\":2,\"births\":0,\"quantum\":1,\"stnit\":5,\"semaphores\":[],\"files\":1,\"programs\":[],\"start\":[]}",
+            0,
+            "nothing is wrong\nignored: the key \"stnit\"\n",
+        ),
+        (
+            Format::History,
+            "{\"size\":1,\"marks\":[],\"size \":2,\"\":3,\"\\n\":{\"deep\":4},\"01234567890123456789012345678901234567890\":5}",
+            0,
+            "nothing is wrong\nignored: the key \"\"\nignored: the key \"\\n\"\nignored: a key of 41 bytes\nignored: the key \"size \"\n",
+        ),
+        (
+            Format::History,
+            "{\"size\":1,\"marsk\":[]}",
+            1,
+            "marks: the key is missing\nignored: the key \"marsk\"\n",
+        ),
+        (
+            Format::Schedule,
+            "{\"object\":\"room\",\"bound\":1,\"size\":1,\"seats\":1,\"events\":[]}",
+            0,
+            "nothing is wrong\nignored: the key \"size\"\n",
+        ),
+        (
+            Format::Schedule,
+            "{\"object\":\"queue\",\"bound\":1,\"size\":1,\"seats\":0,\"events\":[]}",
+            1,
+            "seats: the number of seats is a whole number from 1 to 64, not 0\nignored: the key \"bound\"\n",
+        ),
+        (
+            Format::Schedule,
+            "{\"object\":\"heap\",\"bound\":1,\"size\":1,\"seat\":1}",
+            1,
+            "object: an object is \"room\" or \"queue\", not the text \"heap\"\nignored: the key \"seat\"\n",
+        ),
+        (
+            Format::Script,
+            "[\"stnit\"]",
+            1,
+            "input: an input is an object of at most 1048576 bytes, not an array of 1\n",
+        ),
+    ];
+    for (format, input, status, want) in rows {
+        assert!(rt;
+            answers(rt.alloc(), *format, input, *status, want),
+            "at {want}"
+        );
+    }
+}
+
+#[test]
 fn nothing_is_wrong_with_a_history(rt: HostRuntime) {
     let input = "{\"size\":1,\"marks\":[[0,\"close\"]]}";
     assert!(rt; answers(rt.alloc(), Format::History, input, 0, "nothing is wrong\n"));
