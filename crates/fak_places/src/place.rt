@@ -6,7 +6,7 @@ use serde_json::Value;
 use std::alloc::{AllocError, Global};
 use std::fmt;
 
-/// A text or a key of more bytes than this is not shown, but counted.
+/// For a text or a key with more bytes than this only the length is shown.
 pub(crate) const LONGEST_SHOWN: usize = 40;
 
 /// The place of an input's first fault.
