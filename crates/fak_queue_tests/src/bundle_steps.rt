@@ -1,4 +1,4 @@
-//! Bursts of a bundle, and calls of seats beside it, whose answers a test knows. Items are numbers that follow one another.
+//! Bursts of a bundle, and calls of seats next to it, whose results a test knows. Items are consecutive numbers.
 
 ghost use Rattle.std.specs.Prelude.{◌≡◌, ◌≤◌, All};
 ghost use Rattle.std.specs.VecDeque.{deque_capacity, deque_len};
@@ -13,7 +13,7 @@ use std::collections::VecDeque;
 use std::process::Abort;
 use std::sync::Wait;
 
-/// A call of a bundle, or of a seat beside it, and what it is to answer.
+/// A call of a bundle, or of a seat next to it, and what it must return.
 #[derive(Drop)]
 pub enum BurstStep {
     /// This many items from the first on: the first ticket, and how many were granted.
@@ -32,7 +32,7 @@ pub enum BurstStep {
     ClaimOut(u64, Result<(u64, u64), DeleteFault>),
     /// How many deletions are left; the first item that came out, and how many did.
     TryTake(u64, u64, u64),
-    /// Where the bundle stands.
+    /// The state of the bundle.
     State(BundleState),
     /// The tickets that are left.
     Left(u64),
@@ -79,7 +79,7 @@ pub fn are_from(mut items: VecDeque<u64>, first: u64, count: u64) -> bool {
     true
 }
 
-/// The tickets of a burst, as a row has them; if it was refused, the fault.
+/// The tickets of a burst, as a row has them. If the burst was refused, the fault.
 fn row_of<E>(answer: Result<Burst, E>) -> Result<(u64, u64), E> {
     match answer {
         Ok(burst) => Ok((burst.ticket, burst.count)),
@@ -87,7 +87,7 @@ fn row_of<E>(answer: Result<Burst, E>) -> Result<(u64, u64), E> {
     }
 }
 
-/// How many items the answer grants.
+/// The number of items that this result grants.
 pub fn granted<E: Drop>(answer: Result<(u64, u64), E>) -> u64 {
     match answer {
         Ok((_, count)) => count,
@@ -95,7 +95,7 @@ pub fn granted<E: Drop>(answer: Result<(u64, u64), E>) -> u64 {
     }
 }
 
-/// Inserts this many numbers from the first on. Those that are not granted are to stay, in their order.
+/// Inserts this many numbers from the first on. Those that are not granted must stay, in their order.
 pub fn insert_numbers<R: Abort + AllocGlobal + Wait>(
     rt: &R,
     queue: &Queue<u64>,
@@ -155,7 +155,7 @@ fn claim_numbers<R: Abort + AllocGlobal>(
     answer
 }
 
-/// Stops where not just the last of these numbers stay.
+/// Stops unless exactly the numbers after the granted ones stay.
 fn assert_stay(rt: &impl Abort, items: VecDeque<u64>, first: u64, count: u64, granted: u64) {
     let last = first.wrapping_add(granted);
     assert_case(
@@ -165,7 +165,7 @@ fn assert_stay(rt: &impl Abort, items: VecDeque<u64>, first: u64, count: u64, gr
     );
 }
 
-/// Deletes at most this many items, and answers the tickets with the items.
+/// Deletes at most this many items. Returns the tickets with the items.
 pub fn delete_numbers<R: Abort + AllocGlobal + Wait>(
     rt: &R,
     queue: &Queue<u64>,
@@ -201,7 +201,7 @@ fn wait_delete_numbers<R: Abort + AllocGlobal + Wait>(
     (answer, out)
 }
 
-/// Whether the claim of at most this many items is answered so.
+/// Whether the claim of at most this many items returns this.
 fn claims_out<R: Abort>(
     rt: &R,
     queue: &Queue<u64>,
@@ -219,7 +219,7 @@ fn claims_out<R: Abort>(
 }
 
 impl BurstStep {
-    /// Makes the call, and tells whether it was answered so.
+    /// Performs the call. Returns whether its result is the wanted one.
     fn is_met<R: Abort + AllocGlobal + Wait>(
         &self,
         rt: &R,
@@ -316,7 +316,7 @@ pub fn bundle_of<T: Drop>(
     Bundle::of(rt.alloc(), queue, own).expect(rt, "a bundle")
 }
 
-/// A queue with a bundle of this many seats, and with this many seats beside it.
+/// A queue with a bundle of this many seats, and with this many seats next to it.
 pub fn open_bundle(
     rt: &(impl Abort + AllocGlobal),
     size: u64,
@@ -332,7 +332,7 @@ pub fn open_bundle(
     (queue, bundle, seats)
 }
 
-/// Stops where the bundle is in mid-burst.
+/// Stops if the bundle has an open burst.
 pub fn assert_idle_bundle<T: Drop>(rt: &impl Abort, queue: &Queue<T>, bundle: &Bundle<T>)
     requires { bundle.now.object ≡ queue.now.object }
     ensures { IsIdleBundle queue.now.object bundle.now }
@@ -342,7 +342,7 @@ pub fn assert_idle_bundle<T: Drop>(rt: &impl Abort, queue: &Queue<T>, bundle: &B
     };
 }
 
-/// What is left where these are all the seats.
+/// The items that are left, if these are all the seats.
 pub fn close_with_bundle<T: Drop>(
     rt: &impl Abort,
     queue: Queue<T>,

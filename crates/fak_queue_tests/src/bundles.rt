@@ -7,7 +7,7 @@ use fak_queue::{BundleState, BurstFault, DeleteFault, InsertFault, SeatState};
 use std::process::Abort;
 use std::sync::Wait;
 
-/// Walks the steps with a bundle of this many seats, and two seats beside it. These items are to be left.
+/// Walks the steps with a bundle of this many seats, and two seats next to it. These items must be left.
 fn walk_beside<R: Abort + AllocGlobal + Wait>(
     rt: &R,
     size: u64,

@@ -13,7 +13,7 @@ use fak_queue::{Bundle, BundleFault, BundleState, Queue, Seat, Tally};
 use std::process::Abort;
 use std::sync::Wait;
 
-/// Stops where one of the seats is in mid-call.
+/// Stops if one of the seats has an open call.
 fn assert_all_idle(rt: &impl Abort, queue: &Queue<u64>, seats: &[Seat<u64>])
     requires { All (λ s. s.object ≡ queue.now.object) seats.now }
     ensures { All (IsIdleSeat queue.now.object) seats.now }
@@ -23,7 +23,7 @@ fn assert_all_idle(rt: &impl Abort, queue: &Queue<u64>, seats: &[Seat<u64>])
     }
 }
 
-/// The bundle of these seats. Where memory was missing, the seats that come back make it once more.
+/// The bundle of these seats. If memory was missing, it is built again from the seats that come back.
 fn bundle_of(
     rt: &(impl Abort + AllocGlobal),
     queue: &Queue<u64>,
@@ -43,7 +43,7 @@ fn bundle_of(
     }
 }
 
-/// The seats of the bundle. Where memory was missing, the bundle that comes back gives them.
+/// The seats of the bundle. If memory was missing, the bundle that comes back is broken up again.
 fn seats_of(
     rt: &(impl Abort + AllocGlobal),
     queue: &Queue<u64>,
@@ -62,7 +62,7 @@ fn seats_of(
     }
 }
 
-/// Makes a bundle of the seats, which is to have this many tickets left, and breaks it up.
+/// Builds a bundle of the seats, which must have this many tickets left, and breaks it up.
 fn made_and_broken(
     rt: &(impl Abort + AllocGlobal),
     queue: &Queue<u64>,

@@ -71,7 +71,7 @@ fn insert_items<R: Abort + Wait>(
     unreachable!()
 }
 
-/// Deletes one item by the seat, into this list, and answers how many.
+/// Deletes one item by the seat, into this list. Returns how many it deleted.
 fn delete_one<R: Abort + Wait>(
     rt: &R,
     queue: &Queue<u64>,
@@ -90,7 +90,7 @@ fn delete_one<R: Abort + Wait>(
     }
 }
 
-/// Deletes at most this many items by a burst, into this list, and answers how many.
+/// Deletes at most this many items by a burst, into this list. Returns how many it deleted.
 fn delete_some<R: Abort + AllocGlobal + Wait>(
     rt: &R,
     queue: &Queue<u64>,
@@ -137,7 +137,7 @@ fn delete_items<R: Abort + AllocGlobal + Wait>(
     unreachable!()
 }
 
-/// Inserts one of the lists; where none is waiting, deletes this many items.
+/// Inserts one of the lists. If none is waiting, deletes this many items.
 fn work<R: Abort + AllocGlobal + Wait>(
     rt: &R,
     queue: &Queue<u64>,
@@ -207,7 +207,7 @@ fn take_worker(rt: &impl Abort, queue: &Queue<u64>, workers: &mut Vec<Worker>) -
     workers.pop().expect(rt, "no worker is left")
 }
 
-/// Closes the queue, whose seats the workers have. Nothing is to be left.
+/// Closes the queue, whose seats the workers have. No item may be left.
 fn close_empty(rt: &impl Abort, queue: Queue<u64>, mut workers: Vec<Worker>)
     requires { All (λ w. IsIdleBundle queue.object w.bundle × IsIdleSeat queue.object w.seat) workers.items }
 {
@@ -221,7 +221,7 @@ fn close_empty(rt: &impl Abort, queue: Queue<u64>, mut workers: Vec<Worker>)
     assert!(rt; left.is_none(), "an item that was left");
 }
 
-/// Fifty numbers from each of these on go in by a worker each, and come out by as many others as are left.
+/// For each of these, one worker inserts the fifty numbers from it on. The other workers delete them all.
 fn storm_of_bursts<R: Abort + AllocGlobal + Threads + Wait + Sync>(
     rt: &R,
     firsts: &[u64],
@@ -249,7 +249,8 @@ fn storm_of_bursts<R: Abort + AllocGlobal + Threads + Wait + Sync>(
     check_all(rt, deleted.into_inner().as_slice(), firsts);
 }
 
-/// Stops where the numbers that each worker deleted do not rise from each of these on, or are not all of them.
+/// Stops unless what each worker deleted rises among the fifty numbers from each of these on. Together the workers must
+/// have deleted exactly all these numbers.
 fn check_all(rt: &(impl Abort + AllocGlobal), lists: &[Vec<u64>], firsts: &[u64]) {
     let mut all = Vec::new(rt.alloc());
     for list in lists {

@@ -1,4 +1,4 @@
-//! Queues of each size in range are opened, with all their seats, and hold as many items as they say.
+//! Queues of each size in range are opened, with all their seats, and hold as many items as their size states.
 
 ghost use Rattle.fak_queue.specs.Queues.{IsIdleSeat};
 
@@ -9,7 +9,7 @@ use std::process::Abort;
 use std::sync::Wait;
 use std::test::*;
 
-/// The stint of this row: the powers of two in turn, the numbers beside them, and drawn ones.
+/// The stint of this row: the powers of two in turn, the numbers next to them, and pseudo-random ones.
 fn stint_of(row: u64) -> u64 {
     let power = 1u64 << (row % 41);
     let drawn = row.wrapping_mul(11_400_714_819_323_198_485) >> 24;
@@ -29,7 +29,7 @@ fn opens(rt: &(impl Abort + AllocGlobal), size: u64, seats: u64, stint: u64) {
     have_left(rt, dealt.as_slice(), stint);
 }
 
-/// Finds that each seat may draw this number of tickets.
+/// Checks that each seat may draw this number of tickets.
 fn have_left<T>(rt: &impl Abort, seats: &[Seat<T>], stint: u64) {
     for seat in seats {
         assert_equal(rt, seat.left(), stint);
@@ -46,7 +46,7 @@ fn queues_of_each_size(rt: HostRuntime) {
     }
 }
 
-/// Finds that the numbers below `size` go in, and no more.
+/// Checks that the numbers below `size` go in, and no more.
 fn fills<R: Abort + Wait>(rt: &R, queue: &Queue<u64>, seat: &mut Seat<u64>, size: u64)
     requires { IsIdleSeat queue.now.object seat.old }
     ensures { IsIdleSeat queue.now.object seat.new }
@@ -61,7 +61,7 @@ fn fills<R: Abort + Wait>(rt: &R, queue: &Queue<u64>, seat: &mut Seat<u64>, size
     assert_equal(rt, queue.insert(rt, seat, size), Err(full));
 }
 
-/// Finds that the numbers below `size` come out in their order, and no more.
+/// Checks that the numbers below `size` come out in their order, and no more.
 fn empties<R: Abort + Wait>(rt: &R, queue: &Queue<u64>, seat: &mut Seat<u64>, size: u64)
     requires { IsIdleSeat queue.now.object seat.old }
     ensures { IsIdleSeat queue.now.object seat.new }

@@ -1,4 +1,4 @@
-//! Ports: a queue and a seat of it as one value. No call of a port asks for anything, so that their callers state nothing.
+//! Ports: a queue and a seat of it as one value. No call of a port requires anything, so its callers state nothing.
 
 use super::assertions::{assert_case, assert_equal, assert_left};
 use super::steps::{Step, close, in_use, open, open_one, take};
@@ -7,7 +7,7 @@ use std::process::Abort;
 use std::sync::Wait;
 use std::thread::join;
 
-/// Makes the step, and tells whether it was answered so.
+/// Takes the step. Returns whether its result is the wanted one.
 fn meets<R: Wait>(rt: &R, port: &mut Port<'_, u64>, step: &Step<u64>) -> bool {
     match step {
         Step::Insert(item, answer) => port.insert(rt, *item) == *answer,
@@ -87,7 +87,7 @@ fn a_port_hands_back_its_seat(rt: HostRuntime) {
     assert_left(&rt, close(&rt, queue, Tally::of(seat)), &[10, 11]);
 }
 
-/// Inserts the numbers below `count`, and waits where the queue is full. False where the seat was worn or the queue shut.
+/// Inserts the numbers below `count`, and waits if the queue is full. Returns false if the seat was worn or the queue shut.
 fn send_below<R: Wait>(rt: &R, mut port: Port<'_, u64>, count: u64) -> bool {
     let mut sent = true;
     for item in 0..count {
@@ -96,7 +96,7 @@ fn send_below<R: Wait>(rt: &R, mut port: Port<'_, u64>, count: u64) -> bool {
     sent
 }
 
-/// Deletes this many items, and waits where the queue is empty. Answers their sum.
+/// Deletes this many items, and waits if the queue is empty. Returns their sum.
 fn receive<R: Abort + Wait>(rt: &R, mut port: Port<'_, u64>, count: u64) -> u64 {
     let mut sum = 0u64;
     for _ in 0..count {

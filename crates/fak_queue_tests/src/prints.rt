@@ -59,7 +59,7 @@ fn bundles_print_their_seats(rt: HostRuntime) {
     );
 }
 
-/// Finds that each fault is written so.
+/// Checks that each fault prints as its text.
 fn have_texts<F: Display>(rt: &(impl Abort + AllocGlobal), rows: &[(F, &str)]) {
     for (fault, text) in rows {
         let written = fault.to_string(rt.alloc()).expect(rt, "memory");

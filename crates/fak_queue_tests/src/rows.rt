@@ -80,7 +80,7 @@ fn a_worn_seat_is_told_so_of_a_shut_queue(rt: HostRuntime) {
     open_and_walk(&rt, (1, 2, 1), STEPS);
 }
 
-/// Finds that no queue is opened, for this reason.
+/// Checks that no queue is opened, and that this is the fault.
 fn refuses(rt: &(impl Abort + AllocGlobal), limits: (u64, u64, u64), fault: OpenFault) {
     let (size, seats, stint) = limits;
     let refusal = Queue::<u64>::open(rt.alloc(), size, seats, stint).err();

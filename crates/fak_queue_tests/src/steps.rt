@@ -1,4 +1,4 @@
-//! Seats of a queue, and calls of theirs whose answers a test knows.
+//! Seats of a queue, and calls of theirs whose results a test knows.
 
 ghost use Rattle.std.specs.Prelude.{◌≡◌, All};
 ghost use Rattle.fak_queue.specs.Queues.{IsIdleSeat};
@@ -17,7 +17,7 @@ pub const C: usize = 2;
 
 pub const D: usize = 3;
 
-/// A call of a seat, or a question to it, and what it is to answer.
+/// A call of a seat, or a question to it, and what it must return.
 #[derive(Drop)]
 pub enum Step<T> {
     Insert(T, Result<u64, InsertFault<T>>),
@@ -45,13 +45,13 @@ pub fn in_use(count: i64, is_shut: bool) -> InUse {
     InUse { count, is_shut }
 }
 
-/// Whether the answer is the one that is wanted.
+/// Whether the result is the wanted one.
 fn is<A: PartialEq + Drop>(found: A, wanted: &A) -> bool {
     found == *wanted
 }
 
 impl<T: Copy + PartialEq + Drop> Step<T> {
-    /// Makes the call, and tells whether it was answered so.
+    /// Performs the call. Returns whether its result is the wanted one.
     pub fn is_met<R: Wait>(&self, rt: &R, queue: &Queue<T>, seat: &mut Seat<T>) -> bool
         requires { seat.old.object ≡ queue.now.object }
         ensures { seat.new.object ≡ queue.now.object }
@@ -114,7 +114,7 @@ pub fn open_one<T: Drop>(
     (queue, seat)
 }
 
-/// Makes the step with the seat of this number, and tells whether there is one and it was answered so.
+/// Takes the step with the seat of this number. Returns whether there is such a seat and the result is the wanted one.
 pub fn meets<T: Copy + PartialEq + Drop, R: Wait>(
     rt: &R,
     queue: &Queue<T>,
@@ -162,7 +162,7 @@ pub fn take_any<T: Drop>(rt: &impl Abort, queue: &Queue<T>, seats: &mut Vec<Seat
     seats.pop().expect(rt, "no seat is left")
 }
 
-/// Takes out the last of the seats, which is to be between two calls.
+/// Takes out the last of the seats, which must be between two calls.
 pub fn take<T: Drop>(rt: &impl Abort, queue: &Queue<T>, seats: &mut Vec<Seat<T>>) -> Seat<T>
     requires { All (λ s. s.object ≡ queue.now.object) seats.old.items }
     ensures seat { IsIdleSeat queue.now.object result }
@@ -173,7 +173,7 @@ pub fn take<T: Drop>(rt: &impl Abort, queue: &Queue<T>, seats: &mut Vec<Seat<T>>
     seat
 }
 
-/// Stops where the seat is in mid-call.
+/// Stops if the seat has an open call.
 pub fn assert_idle<T: Drop>(rt: &impl Abort, queue: &Queue<T>, seat: &Seat<T>)
     requires { seat.now.object ≡ queue.now.object }
     ensures { IsIdleSeat queue.now.object seat.now }
@@ -195,7 +195,7 @@ pub fn joined<T: Drop>(rt: &impl Abort, queue: &Queue<T>, mut seats: Vec<Seat<T>
     tally
 }
 
-/// What is left where all seats are in the tally.
+/// The items that are left, if all seats are in the tally.
 pub fn close<T: Drop>(rt: &impl Abort, queue: Queue<T>, tally: Tally<T>) -> Rest<T>
     requires { tally.object ≡ queue.object }
 {
@@ -205,7 +205,7 @@ pub fn close<T: Drop>(rt: &impl Abort, queue: Queue<T>, tally: Tally<T>) -> Rest
     queue.close(tally)
 }
 
-/// What is left where these are all the seats.
+/// The items that are left, if these are all the seats.
 pub fn close_all<T: Drop>(rt: &impl Abort, queue: Queue<T>, seats: Vec<Seat<T>>) -> Rest<T>
     requires { All (λ s. s.object ≡ queue.object) seats.items }
 {
