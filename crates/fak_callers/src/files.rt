@@ -28,7 +28,7 @@ pub fn end_lawfully(table: &FileTable, seat: &mut FileSeat)
     table.end(seat);
 }
 
-/// Brings two seats together: what all seats hold fits the number of seats.
+/// Brings two seats together: what all seats hold is at most the number of seats.
 pub fn join_within_seats(table: &FileTable, a: FileSeat, b: FileSeat) -> FileTally
     requires { IsFreeSeatOf table.now.object a × IsFreeSeatOf table.now.object b }
     ensures object { result.object ≡ table.now.object }
@@ -38,7 +38,7 @@ pub fn join_within_seats(table: &FileTable, a: FileSeat, b: FileSeat) -> FileTal
     table.join(FileTally::of(a), b)
 }
 
-/// Takes a writer's hold. Where it is granted no other seat holds.
+/// Takes a writer's hold. If it is granted, no other seat holds.
 pub fn write_alone(table: &FileTable, seat: &mut FileSeat) -> bool
     requires idle { IsFreeSeatOf table.now.object seat.old }
     requires name { seat.old.seat.name < seat.old.seat.object.seats }
@@ -70,7 +70,7 @@ pub fn read_newest(table: &FileTable, seat: &mut FileSeat, i: u64) -> FileEntry
     entry
 }
 
-/// Reads an entry twice in a hold: both answers are the same.
+/// Reads an entry twice in a hold: both reads return the same.
 pub fn read_twice(table: &FileTable, seat: &mut FileSeat, i: u64) -> (FileEntry, FileEntry)
     requires held { IsFileSeatOf table.now.object seat.old × (seat.old.hold ≢ Nothing) }
     requires entry { i < table.now.entries }
@@ -83,7 +83,7 @@ pub fn read_twice(table: &FileTable, seat: &mut FileSeat, i: u64) -> (FileEntry,
     (first, second)
 }
 
-/// Takes a reader's hold, where it is granted: it reads all that the seat has seen.
+/// Takes a reader's hold. If it is granted, it reads all that the seat has seen.
 pub fn read_all_seen(table: &FileTable, seat: &mut FileSeat) -> bool
     requires { IsFreeSeatOf table.now.object seat.old }
     ensures hold { IsFileSeatOf table.now.object seat.new × (seat.new.hold ≡ (if result then Reading else Nothing)) }

@@ -16,7 +16,7 @@ use fak_model::laws::seats::{
     seats_that_join_have_seen_one_history,
 };
 
-/// Gives 1 back by one seat, and then joins the two: of what the two had seen at first one begins the other.
+/// Gives 1 back by one seat, and then joins the two. What one of them had seen at first is a prefix of what the other had seen.
 pub fn give_back_and_join(room: &Room, mut a: RoomSeat, b: RoomSeat) -> RoomTally
     requires object { IsSeatOf room.now.object a × IsSeatOf room.now.object b }
     requires holds { 1 ≤ held_amount a }
@@ -28,7 +28,7 @@ pub fn give_back_and_join(room: &Room, mut a: RoomSeat, b: RoomSeat) -> RoomTall
     room.join(RoomTally::of(a), b)
 }
 
-/// The tally of the only seat of a room: each mark that it knows is of that seat.
+/// The tally of the only seat of a room: each mark that it knows belongs to that seat.
 pub fn tally_of_only(seat: RoomSeat) -> RoomTally
     requires { (seat.object.seats ≡ 1) × (seat.name ≡ 0) }
     ensures { mine seat_of result.names result.seen ≡ result.seen }
@@ -46,7 +46,7 @@ pub fn tally_of_marks(seat: RoomSeat) -> RoomTally
     RoomTally::of(seat)
 }
 
-/// Joins a seat with a new name to a tally: under every weight of marks, they know together what each knew.
+/// Joins a seat with a new name to a tally. Under every weight of marks, the two know together what each knew.
 pub fn join_weights(room: &Room, tally: RoomTally, seat: RoomSeat) -> RoomTally
     requires object { (tally.object ≡ room.now.object) × IsSeatOf room.now.object seat }
     requires new { ¬ In seat.name tally.names }
@@ -62,7 +62,7 @@ pub fn join_weights(room: &Room, tally: RoomTally, seat: RoomSeat) -> RoomTally
     room.join(tally, seat)
 }
 
-/// Joins a seat that has made no call: it adds no marks to those of the tally's names. A name that the room does not have
+/// Joins a seat without a call: it adds no marks to those of the tally's names. A name that the room does not have
 /// has no marks either.
 pub fn join_unused(room: &Room, tally: RoomTally, seat: RoomSeat) -> RoomTally
     requires object { (tally.object ≡ room.now.object) × IsSeatOf room.now.object seat }

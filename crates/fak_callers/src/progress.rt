@@ -18,8 +18,8 @@ use fak_core::laws::progress::{
 };
 use fak_core::laws::room::a_room_call_ends_in_three_steps;
 
-/// While a call is open, the next steps of all seats do not all leave their seats where they stand. Nor do those of the
-/// seats that hold a ticket of its cell, nor does its own if it holds none.
+/// While a call is open, the next steps of all seats do not leave every seat at its phase. The same holds for the seats
+/// that hold a ticket of the call's cell. A call without a ticket moves at its own next step.
 pub fn never_all_wait<T>()
     ensures call { (size : ℕ) (schedule : List (QueueEvent T)) (s : ℕ) → 0 < size
         → (reached size schedule).phase s ≢ Idle
@@ -36,7 +36,7 @@ pub fn never_all_wait<T>()
     a_queue_never_locks_up::<T>();
 }
 
-/// Where only the first seats have calls, it is among these that not all stay.
+/// If only the first seats have calls, not all of these stay. Nor do all of these that hold a ticket of the call's cell.
 pub fn never_all_seats_wait<T>()
     ensures call { (size seats : ℕ) (schedule : List (QueueEvent T)) (s : ℕ) → 0 < size
         → AreIdleFrom seats (reached size schedule) → (reached size schedule).phase s ≢ Idle
@@ -60,7 +60,7 @@ pub fn keeps_its_turn<T>()
     a_turn_that_has_come_stays::<T>();
 }
 
-/// At most as many seats as the queue has cells have drawn a ticket and not ended their call.
+/// The number of seats that have drawn a ticket and not ended their call is at most the number of cells.
 pub fn drawn_at_once<T>()
     ensures { (size n : ℕ) (schedule : List (QueueEvent T)) → 0 < size
         → size < drawn_seats (reached size schedule) n → ⊥ }
@@ -68,8 +68,8 @@ pub fn drawn_at_once<T>()
     few_seats_have_drawn::<T>();
 }
 
-/// The seventh step that moves a call ends it, and each takes one of those that are left. A claim that is withdrawn has
-/// made two steps and has one left.
+/// The seventh step that moves a call ends it, and each such step lowers the number of steps left. A claim that is
+/// withdrawn has taken two steps and has one left.
 pub fn ends_at_its_seventh_step<T>()
     ensures seventh { (size : ℕ) (schedule : List (QueueEvent T)) (s : ℕ) → 0 < size
         → steps_made ((reached size schedule).phase s) ≡ 6
@@ -85,7 +85,7 @@ pub fn ends_at_its_seventh_step<T>()
     a_call_has_few_steps::<T>();
 }
 
-/// Each call that is open has ended after 3 min(size, n) + 4 rounds of n seats: in a queue of one cell after seven.
+/// Each call that is open has ended after 3 min(size, n) + 4 rounds of n seats. In a queue of one cell, these are seven.
 pub fn ends_within_its_rounds<T>()
     ensures rounds { (size seats : ℕ) (schedule : List (QueueEvent T)) (rounds : List (List (QueueEvent T))) (s : ℕ)
         → 0 < size → AreIdleFrom seats (reached size schedule) → All (IsRound seats) rounds
@@ -97,8 +97,8 @@ pub fn ends_within_its_rounds<T>()
     every_open_call_ends::<T>();
 }
 
-/// A call with a ticket has ended after 3 size + 1 rounds of the seats that hold a ticket of its cell: in a queue of one cell
-/// after four.
+/// A call with a ticket has ended after 3 size + 1 rounds of the seats that hold a ticket of its cell. In a queue of one
+/// cell, these are four.
 pub fn ends_by_the_seats_of_its_cell<T>()
     ensures rounds { (size : ℕ) (schedule : List (QueueEvent T)) (rounds : List (List (QueueEvent T))) (s c : ℕ)
         → 0 < size → HoldsTicketOf size ((reached size schedule).phase s) c
@@ -112,8 +112,8 @@ pub fn ends_by_the_seats_of_its_cell<T>()
     a_stopped_seat_holds_up_its_cell_alone::<T>();
 }
 
-/// Where no call begins, all seats are idle after 3 min(size, n) + 4 rounds, which may be those of a round robin: in a
-/// queue of one cell after seven.
+/// If no call begins, all seats are idle after 3 min(size, n) + 4 rounds, which may be those of a round robin. In a queue
+/// of one cell, these are seven.
 pub fn rests_after_its_rounds<T>()
     ensures rounds { (size seats : ℕ) (schedule : List (QueueEvent T)) (rounds : List (List (QueueEvent T))) (s : ℕ)
         → 0 < size → AreIdleFrom seats (reached size schedule) → All (IsRound seats) rounds
@@ -129,7 +129,7 @@ pub fn rests_after_its_rounds<T>()
     a_queue_comes_to_rest::<T>();
 }
 
-/// In a round of a round-robin scheduler of n seats there are n events, and a seat makes its step at no two places.
+/// A round of a round-robin scheduler of n seats has n events, and no seat takes its step at two places.
 pub fn steps_once_in_a_round<T>()
     ensures long { (n : ℕ) → length (round_robin {A = T} n) ≡ n }
     ensures once { (n i s : ℕ) → i < n → slice_get (round_robin {A = T} n) i ≡ Some (Advances s) → i + s + 1 ≡ n }
@@ -137,8 +137,8 @@ pub fn steps_once_in_a_round<T>()
     a_round_robin_steps_each_seat_once::<T>();
 }
 
-/// After any schedule of a room, a call of a seat ends within three more steps of that seat, and a release or a withdrawal
-/// at its next.
+/// After any schedule of a room, a call of a seat ends within three more steps of that seat. A release or a withdrawal
+/// ends at its next step.
 pub fn claims_within_three_steps()
     ensures claim { (bound seats i : ℕ) (schedule events : List RoomEvent) (seat : CoreSeat)
         → slice_get (run schedule (opening bound seats)).seats i ≡ Some seat

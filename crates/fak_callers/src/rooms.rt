@@ -14,7 +14,7 @@ use fak_model::laws::room::{
 };
 use fak_model::laws::seats::an_only_seat_has_seen_its_own_marks;
 
-/// Brings both seats of a room together. Where they are all its seats, the value is what they hold.
+/// Brings both seats of a room together. If they are all its seats, the value is what they hold.
 pub fn count_at_rest(room: &Room, a: RoomSeat, b: RoomSeat) -> Option<RoomTally>
     requires { IsSeatOf room.now.object a × IsSeatOf room.now.object b }
     ensures { IfSome result (λ tally. value tally.seen ≡ pos
@@ -28,7 +28,7 @@ pub fn count_at_rest(room: &Room, a: RoomSeat, b: RoomSeat) -> Option<RoomTally>
     None
 }
 
-/// Brings two seats of a room together: no more was granted than the bound and what was given back.
+/// Brings two seats of a room together: what was granted is at most the bound plus what was given back.
 pub fn join_within_bound(room: &Room, a: RoomSeat, b: RoomSeat) -> RoomTally
     requires { IsSeatOf room.now.object a × IsSeatOf room.now.object b }
     ensures object { result.object ≡ room.now.object }
@@ -49,8 +49,8 @@ pub fn give_back(room: &Room, seat: &mut RoomSeat) -> i64
     room.release(seat, 1)
 }
 
-/// Claims 1 by the only seat of a room in which nothing was claimed. Where it is refused, as much was granted as the bound
-/// says, which is nothing.
+/// Claims 1 by the only seat of a room in which nothing was claimed. If it is refused, what was granted has reached the
+/// bound: both are 0.
 pub fn claim_first(room: &Room, seat: &mut RoomSeat) -> Result<i64, TirFault>
     requires object { IsSeatOf room.now.object seat.old }
     requires only { (room.now.object.seats ≡ 1) × (seat.old.name ≡ 0) × (seat.old.seen ≡ []) }
