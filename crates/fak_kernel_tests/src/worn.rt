@@ -12,9 +12,9 @@ use std::thread::Threads;
 /// A script, except for its stint, and the least stint with which it ends.
 type Case = (&'static str, u64);
 
-/// One process makes its calls in one turn, or processor 0 makes them before the first: the object's seat is the same on
-/// any number of processors. These are the free slots, a semaphore that is raised and one that lets pass, the births, and
-/// the file table by each of its steps.
+/// One process performs its calls in one turn, or processor 0 performs them before the first turn. So one seat of the
+/// object has all the calls, on any number of processors. The objects are the free slots, a semaphore that is raised, one
+/// that lets processes pass, and the births. The last three cases are the file table, by each of its steps.
 const IN_ONE_TURN: [Case; 7] = [
     (
         r#"{"version":1,"slots":5,"births":0,"quantum":9,"semaphores":[],"files":1,"programs":[],"start":[],"#,
@@ -46,17 +46,17 @@ const IN_ONE_TURN: [Case; 7] = [
     ),
 ];
 
-/// A process of many turns: the processor that has it wears its seat at the ready queue, by a look or by the end of a turn.
+/// A process of many turns. The processor that has it uses up its seat at the ready queue, by a look or by the end of a turn.
 const OF_TURNS: &str = r#"{"version":1,"slots":1,"births":0,"quantum":9,"semaphores":[],"files":1,
 "programs":[[["yield"],["yield"],["yield"],["yield"],["yield"],["yield"]]],"start":[0],"#;
 
 /// A processor is held this many turns at most.
 const MANY: u64 = 100_000_000;
 
-/// One processor makes all calls, and each stint wears another one out. The first script enters and leaves the ready queue
-/// twice, and looks at it once more. The next ones give a slot back, take one for a child, and enter the child. The last
-/// ones change busy: five times by processes that sleep, ten times by those that are woken after the shutdown, and then by
-/// an end, by a sleep, or by a child that halts.
+/// One processor performs all calls, and each stint runs out at another call. The first script enters and leaves the
+/// ready queue twice, and looks at it once more. The next ones give a slot back, take one for a child, and enter the
+/// child. In the last ones processes change busy: five times when they sleep, and ten times when they are woken after the
+/// shutdown. Then an end, a sleep, or a child that halts changes it once more.
 const ALONE: [Case; 7] = [
     (
         r#"{"version":1,"slots":1,"births":0,"quantum":9,"semaphores":[],"files":1,"programs":[[["yield"],["yield"]]],"start":[0],"#,
