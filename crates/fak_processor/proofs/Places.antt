@@ -1,4 +1,4 @@
--- One of several seats makes a call.
+-- One of several seats performs a call.
 use Rattle.fak_processor.proofs.Common.{◌≡◌, ℕ, ◌<◌, List, All, length, map, slice_set, slice_index_or, get_or, ap, sym, ◌∙◌, subst, arith, get_or-map, length-map, All-get_or}
 use Rattle.std.proofs.Math.Seq.{map-set_same}
 
@@ -9,7 +9,7 @@ alike_at f g xs ys i x y same below xis yis =
     ap f xis ∙ (sym (get_or-map f xs i x (f x) below)
     ∙ (ap (λ l. get_or l i (f x)) same ∙ (get_or-map g ys i y (f x) (omega (arith, lengths, below)) ∙ sym (ap g yis))))
 
--- a seat that makes a call stays at its object
+-- a seat that performs a call stays at its object
 pub alike_after : {X A : Type 0} (f : X → A) (xs : List X) (i : ℕ) (x y : X) → x ≡ slice_index_or xs i x → f y ≡ f x → map f (slice_set xs i y) ≡ map f xs
 alike_after f xs i x y xis same = map-set_same f xs i y x (same ∙ ap f xis)
 

@@ -43,7 +43,7 @@ pub record ProcessorOf : Type 0 where
   pub halted : List Process
   pub copy : List FileEntry
 
--- the semaphores that seats are of
+-- the semaphores that seats belong to
 abbrev pub ids_of_seats : List (SemSeatInfo Process) → List SemId
 ids_of_seats seats = map (λ s. s.object) seats
 
@@ -54,7 +54,7 @@ ids_of semaphores = map (λ s. s.object) semaphores
 abbrev pub HoldsTable : FileTableInfo → Hold → FileSeatInfo → List FileEntry → Type 0
 HoldsTable table hold s copy = (s.seat.object ≡ table.object) × (s.hold ≡ hold) × (length copy ≡ table.entries)
 
--- the seats are of these objects, and stand between two calls
+-- the seats belong to these objects, and are between two calls
 pub record AreOf (o : ObjectsOf) (p : ProcessorOf) : Type 0 where
   pub ready : p.ready.object ≡ o.ready.object
   pub ready_idle : state_of p.ready ≡ Idle
@@ -117,7 +117,7 @@ pub record GoesTo (script : ScriptOf) (p : ProcessorOf) (lists : Lists) : Type 0
 
 -- ---- one of several seats
 
--- the seat at this place made a call
+-- the seat at this place performed a call
 pub record AtPlace {X : Type 0} (at : ℕ) (old new : List X) (call : X → X → Type 0) : Type 0 where
   pub was : X
   pub is : X

@@ -13,7 +13,7 @@ use Rattle.fak_processor.specs.Faults.{HasSpentSeat}
 use Rattle.fak_processor.specs.Moving.{Gains, Moves}
 use Rattle.fak_processor.specs.Processors.{ProcessorOf}
 
--- the process of the turn stands at this step, and the turn has steps left
+-- the process of the turn is at this step, and the turn has steps left
 pub record MayMake (script : ScriptOf) (turn : Turn) (step : StepOf) : Type 0 where
   pub stands : StandsAt script turn.process step
   pub left : HasStepsLeft script turn
@@ -23,7 +23,7 @@ pub record Steps (script : ScriptOf) (before after : List Process) (old new : Pr
   pub moves : Moves script before after old new
   pub looks : looks_of new.ready ≡ looks_of old.ready
 
--- a call makes such a step; if a seat was worn, one of the processor's seats has used up its stint
+-- a call takes such a step; if a seat was worn, one of the processor's seats has used up its stint
 abbrev pub MakesStep : {A : Type 0} → ScriptOf → List Process → (A → List Process) → ProcessorOf → ProcessorOf → Result A StepFault → Type 0
 MakesStep script before after old new result = MatchResult result (λ x. Steps script before (after x) old new) (λ fault. fault ≡ Worn → HasSpentSeat new)
 

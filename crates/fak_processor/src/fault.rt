@@ -9,13 +9,13 @@ use fak_run::Fault;
 use std::alloc::{AllocError, AllocFailed};
 use thiserror::Error;
 
-/// Why a processor could not make a step.
+/// Why a processor could not take a step.
 #[derive(Clone, Copy, Debug, PartialEq, Eq, Error)]
 pub enum StepFault {
     /// There was no memory.
     #[error("out of memory")]
     Memory,
-    /// A seat had made all calls of its stint.
+    /// A seat had used up its stint.
     #[error("a seat is worn")]
     Worn,
 }
@@ -23,7 +23,7 @@ pub enum StepFault {
 /// Why the loop of a processor ended early.
 #[derive(Clone, Copy, Debug, PartialEq, Eq, Error)]
 pub enum LoopFault {
-    /// A step could not be made.
+    /// A step could not be taken.
     #[error("{0}")]
     Step(StepFault),
     /// The gate refused the processor.

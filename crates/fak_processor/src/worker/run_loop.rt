@@ -24,7 +24,7 @@ use fak_text::{Note, Step};
 use std::sync::Wait;
 
 impl<'r, K: Run, P: Station> Worker<'r, K, P> {
-    /// The process that has the processor makes this step. Returns its turn, or nothing if it has left the processor.
+    /// The process that has the processor takes this step. Returns its turn, or nothing if it has left the processor.
     fn make<R: Wait>(
         &mut self,
         rt: &R,
@@ -46,7 +46,7 @@ impl<'r, K: Run, P: Station> Worker<'r, K, P> {
         }
     }
 
-    /// The process makes this step, any except a down, and keeps the processor.
+    /// The process takes this step, any except a down, and keeps the processor.
     fn make_and_stay<R: Wait>(
         &mut self,
         rt: &R,
@@ -83,8 +83,8 @@ impl<'r, K: Run, P: Station> Worker<'r, K, P> {
         }
     }
 
-    /// Continues a turn: the process makes its next step, or ends if it has none, or becomes ready again if its turn is
-    /// over.
+    /// Continues a turn. A process without a next step ends. A process whose turn is over becomes ready again. Any other
+    /// takes its next step.
     fn continue_turn<R: Wait>(
         &mut self,
         rt: &R,
@@ -165,7 +165,7 @@ impl<'r, K: Run, P: Station> Worker<'r, K, P> {
 
     /// Tests whether the run is over: nothing ran before the step nor after it, and no process is ready or runs. Once the
     /// count is 0 it stays 0. A process is counted from before it enters the ready queue until after it has ended, halted
-    /// or fallen asleep, and only a process that runs makes others ready.
+    /// or fallen asleep. Only a process that runs makes others ready.
     #[tactic(auto, using(crate::proofs::Moving::gains_none))]
     fn test_done(&mut self, was_idle: bool, running: &Option<Turn<K>>) -> bool
         ensures ready { self.new.ready ≡ self.old.ready }
