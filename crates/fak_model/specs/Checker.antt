@@ -27,7 +27,7 @@ pub record AreCounts (h : List (Mark ℕ)) (c : Counts) : Type 0 where
   pub oldest_within : c.oldest ≤ length h
   pub oldest_is : count puts (reverse (take c.oldest h)) ≡ c.gots
 
--- the stage of a seat whose newest mark is of this kind, if this many Puts and Gots come before that mark
+-- the stage of a seat whose newest mark has this kind, if this many Puts and Gots come before that mark
 abbrev pub stage_with : ℕ → ℕ → Kind ℕ → Stage ℕ
 stage_with p g ClaimIn = Claimed
 stage_with p g OverIn = Withdrawing

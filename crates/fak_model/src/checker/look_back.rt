@@ -22,7 +22,7 @@ fn gots_by(kind: &Kind<u64>) -> u64
     u64::from(matches!(kind, Kind::Got(_)))
 }
 
-/// The stage of a seat whose newest mark is of this kind, if this many `Put`s and `Got`s come before that mark.
+/// The stage of a seat whose newest mark has this kind, if this many `Put`s and `Got`s come before that mark.
 fn stage_after(puts_before: u64, gots_before: u64, kind: &Kind<u64>) -> Stage<u64>
     ensures { result ≡ stage_with puts_before gots_before kind.now }
 {
