@@ -40,8 +40,8 @@ fn push_parts(marks: &mut Vec<Mark<u64>>, parts: &[Part]) -> Result<(), AllocErr
     Ok(())
 }
 
-/// After the marks of `before`, those of `may` may come. Of those of `may_not`, only the last may not: it is the first
-/// fault.
+/// After the marks of `before`, those of `may` may come. The marks of `may_not` may come too, except the last: it is the
+/// first fault.
 #[derive(Clone, Copy)]
 struct Example<'a> {
     size: u64,
