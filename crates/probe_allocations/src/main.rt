@@ -1,6 +1,6 @@
-//! Makes public calls, and prints what each returns, for two checks. `allocating` has the calls that allocate:
+//! Performs public calls, and prints what each returns, for two checks. `allocating` has the calls that allocate:
 //! `tools/check/failed-growths` lets each of their allocations fail in turn. `allocation_free` has the others:
-//! `tools/check/no-allocation` finds that they allocate nothing.
+//! `tools/check/no-allocation` checks that they allocate nothing.
 #![tactic(auto)]
 
 mod allocating;

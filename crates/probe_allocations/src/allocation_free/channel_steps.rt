@@ -10,7 +10,7 @@ use fak_channel::{
     SendFault, Wish,
 };
 
-/// An end that goes by steps. Its seat is of the channel.
+/// An end that goes by steps. Its seat belongs to the channel.
 #[derive(Drop)]
 struct Stepper<'c> {
     channel: &'c Channel<u64>,
@@ -26,7 +26,7 @@ impl<'c> Stepper<'c> {
         Stepper { channel, seat }
     }
 
-    /// Begins to send the item. Says whether it has begun.
+    /// Begins to send the item. Returns whether it has begun.
     fn sends(&mut self, item: u64) -> bool {
         match self.seat.state() {
             ChannelState::Idle => self.channel.begin_send(&mut self.seat, item).is_ok(),
@@ -42,7 +42,7 @@ impl<'c> Stepper<'c> {
         }
     }
 
-    /// Begins to receive. Says whether it has begun.
+    /// Begins to receive. Returns whether it has begun.
     fn receives(&mut self) -> bool {
         match self.seat.state() {
             ChannelState::Idle => self.channel.begin_receive(&mut self.seat).is_ok(),
@@ -58,7 +58,7 @@ impl<'c> Stepper<'c> {
         }
     }
 
-    /// Begins to close. Says whether it has begun.
+    /// Begins to close. Returns whether it has begun.
     fn closes(&mut self) -> bool {
         match self.seat.state() {
             ChannelState::Idle => self.channel.begin_close(&mut self.seat).is_ok(),
@@ -90,7 +90,7 @@ impl<'c> Stepper<'c> {
         }
     }
 
-    /// Whether the open call ends so, within its next steps.
+    /// Whether the open call ends with this outcome within its next steps.
     fn ends(&mut self, outcome: Outcome<u64>) -> bool {
         self.steps() == Some(ChannelStep::Ends(outcome))
     }
@@ -130,7 +130,7 @@ fn sleep_and_wake(receiver: &mut Stepper<'_>, sender: &mut Stepper<'_>) -> bool 
         && receiver.ends(Outcome::Received(12))
 }
 
-/// A close, and what is refused then.
+/// A close, and what is refused after it.
 fn close(receiver: &mut Stepper<'_>, sender: &mut Stepper<'_>) -> bool {
     sender.closes()
         && sender.ends(Outcome::Closed)

@@ -8,7 +8,7 @@ use fak_text::{Script, read_script};
 const SCRIPT: &str =
     r#"{"version":1,"slots":1,"births":2,"quantum":4,"semaphores":[3],"files":5,"programs":[[]],"start":[0]}"#;
 
-/// Judges a history, and reckons with tickets, counts and names.
+/// Judges a history, and computes with tickets, counts and names.
 pub(super) fn call_model(rt: &(impl Print + AllocGlobal)) -> bool {
     const MARKS: &[Mark<u64>] = &[Mark {
         seat: 0,
@@ -73,7 +73,7 @@ pub(super) fn call_queue_core(rt: &(impl Print + AllocGlobal)) -> bool {
     true
 }
 
-/// Whether the script has what its text says.
+/// Whether the script has what its text states.
 fn has_what_it_says(script: &Script) -> bool {
     script.version() == 1
         && script.slots() == 1
