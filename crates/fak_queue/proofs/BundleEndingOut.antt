@@ -52,7 +52,7 @@ module _ {T : Type 0} {size seats : ℕ} (names : List ℕ) (k lo f granted : �
       let t : k + (lo + i) ≡ k + lo + i = omega arith in
       subst (SaysOf a.0 n) (ap (λ z. EndDelete z) t ∙ sym j.2) (so.stands.free (lo + i) n there (omega arith) (omega (arith, low, order)))
 
-  -- where a name is that has no open call
+  -- once all granted names are done, each name is among those that end, or is idle
   at_rest : granted ≤ f → (n : ℕ) → In n a.0.names → In n (names_of (tickets_of (slice_range names lo f) (k + lo))) ⊎ SaysOf a.0 n Idle
   at_rest whole n i =
       let j = number_of names n (subst (In n) so.stands.all_are i) in

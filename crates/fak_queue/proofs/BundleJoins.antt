@@ -31,7 +31,7 @@ module _ {T : Type 0} where
     own = λ m one. elim one [ inl same ↦ subst (λ (z : ℕ). marks_of seat_of z h ≡ marks_of seat_of z seen) (sym same) (k.own n i) | inr none ↦ absurd none ];
   }
 
-  -- it goes on knowing, where the names of its tally know a later history
+  -- the same for a later history that the names of its tally know
   knows_later : (names : List ℕ) (seen later : List (Mark T)) (s : SeatInfo (Mark T)) → In s.name names → KnowsOwn seen s → Knows seat_of names seen later → KnowsOwn later s
   knows_later names seen later s i own k = record {
     begins = begins_then s.seen seen later own.begins k.begins;

@@ -3,7 +3,7 @@ use Rattle.fak_queue.specs.BundleCalls.{BundleInfo, seat_in}
 use Rattle.fak_queue.specs.Bundling.{AreSeatsOf, IsBundleOf, KnowsOwn, WasIn, name_of}
 use Rattle.fak_queue.proofs.Common.{All, All-head, All-tail, Kind, Mark, SeatInfo, count, map, marks_of, mine_of, seat_of, sum_by, sum_by-cons, ◌≡◌, ℕ, List, [], ◌∷◌, refl, sym, ap, ◌∙◌, inl, arith}
 
--- a sum over seats is one over their names, where each seat adds what its name does
+-- a sum over seats is one over their names, if each seat adds what its name does
 by_names : {T : Type 0} (P : SeatInfo (Mark T) → Type 0) (f : ℕ → ℕ) (g : SeatInfo (Mark T) → ℕ) → ((s : SeatInfo (Mark T)) → P s → g s ≡ f s.name) → (seats : List (SeatInfo (Mark T))) → All P seats → sum_by g seats ≡ sum_by f (map name_of seats)
 by_names P f g same [] all = refl
 by_names {T} P f g same (s ∷ seats) all =

@@ -17,7 +17,7 @@ begun ws more owed c is ended =
 done : (ws owed : List Word) → Owes words_of_call ws owed → Owes words_of_call (ws ++ owed) []
 done ws owed o = (o.0, append-nil (ws ++ owed) ∙ o.1)
 
--- what a name's marks of these kinds say
+-- the words of a name's marks of these kinds
 abbrev pub said_by : {T : Type 0} → ℕ → List (Kind T) → List Word
 said_by {T} n kinds = map (λ (m : Mark T). word m.kind) (made_by n kinds)
 
@@ -29,21 +29,21 @@ pub owed_then : {T : Type 0} (c : WholeCall) (n : ℕ) (h g : List (Mark T)) (ki
     → HasEnded n h → Owes words_of_call (seat_words (queue_rules 0) n g) owed
 owed_then c n h g kinds owed is made ended = subst (λ ws. Owes words_of_call ws owed) (words_then n h g kinds made) (begun (seat_words (queue_rules 0) n h) (said_by n kinds) owed c is ended)
 
--- a name makes a whole call
+-- a name goes through a whole call
 pub ended_then : {T : Type 0} (c : WholeCall) (n : ℕ) (h g : List (Mark T)) (kinds : List (Kind T)) → said_by n kinds ≡ words_of_call c → marks_of seat_of n g ≡ marks_of seat_of n h ++ made_by n kinds → HasEnded n h → HasEnded n g
 ended_then c n h g kinds is made ended = owed_then c n h g kinds [] (append-nil (said_by n kinds) ∙ is) made ended
 
--- a name makes the rest of its call
+-- a name goes through the rest of its call
 pub ended_now : {T : Type 0} (n : ℕ) (h g : List (Mark T)) (kinds : List (Kind T)) → marks_of seat_of n g ≡ marks_of seat_of n h ++ made_by n kinds → Owes words_of_call (seat_words (queue_rules 0) n h) (said_by n kinds) → HasEnded n g
 ended_now n h g kinds made o = subst (λ ws. Owes words_of_call ws []) (words_then n h g kinds made) (done (seat_words (queue_rules 0) n h) (said_by n kinds) o)
 
--- a name makes no mark
+-- a name leaves no mark
 pub owed_still : {T : Type 0} (n : ℕ) (h g : List (Mark T)) (owed : List Word) → marks_of seat_of n g ≡ marks_of seat_of n h → Owes words_of_call (seat_words (queue_rules 0) n h) owed → Owes words_of_call (seat_words (queue_rules 0) n g) owed
 owed_still {T} n h g owed same o = subst (λ (l : List (Mark T)). Owes words_of_call (map (λ (m : Mark T). word m.kind) l) owed) (sym same) o
 
 -- ---- sums over the names
 
--- the first names add what something of theirs weighs, and the others nothing
+-- the first names add the weight of something of theirs, and the others nothing
 pub grows_by : {B : Type 0} (f g : ℕ → ℕ) (v : B → ℕ) (names : List ℕ) (ys : List B) → length ys ≤ length names → ((i n : ℕ) (y : B) → item_at names i ≡ Some n → item_at ys i ≡ Some y → g n ≡ f n + v y)
     → ((i n : ℕ) → item_at names i ≡ Some n → length ys ≤ i → g n ≡ f n) → sum_by g names ≡ sum_by f names + sum_by v ys
 grows_by f g v [] [] fit own none = refl
@@ -63,12 +63,12 @@ grows_by f g v (n ∷ names) (y ∷ ys) fit own none =
     let c = own 0 n y refl refl in
     omega (arith, rest, a, b, c, d)
 
--- a sum of as many ones
+-- a sum of ones is their number
 pub ones : {B : Type 0} (ys : List B) → sum_by (λ (y : B). 1) ys ≡ length ys
 ones [] = refl
 ones {B} (y ∷ ys) = let a = sum_by-cons (λ (y : B). 1) y ys in let b = ones ys in omega (arith, a, b)
 
--- what a name's marks of some weight come to, as it makes more
+-- the weight of a name's marks as it leaves more
 pub count_made : {T : Type 0} (w : Kind T → ℕ) (n : ℕ) (h g : List (Mark T)) (kinds : List (Kind T)) → marks_of seat_of n g ≡ marks_of seat_of n h ++ made_by n kinds → count w (marks_of seat_of n g) ≡ count w (marks_of seat_of n h) + count w (made_by n kinds)
 count_made w n h g kinds made = ap (count w) made ∙ count_append w (marks_of seat_of n h) (made_by n kinds)
 

@@ -19,12 +19,13 @@ module _ {T : Type 0} (key : QueueLimits) (s : QueueTable T) (r : IsShownQueue k
   pub K : IsKept key.size r.core
   K = kept key.size r.core r.reached.reached r.encoded.some_cell
 
-  -- posts that the view says
+  -- the posts that the view states
   pub posted : (all ps : Posts T) → m.0.phase ≡ Some (Each all) → ((n : ℕ) (p : Phase T) → IsPost n p ps → IsPost n p all) → AllIn (names_of ps) m.0.names → Stand r.core ps
   posted all [] e among inn = tt
   posted all (q ∷ ps) e among inn = (r.stands id m.0 at q.0 inn.0 (Each all) e q.1 (among q.0 q.1 (inl (refl, refl))), posted all ps e (λ n p i. among n p (inr i)) inn.1)
 
-  -- a block of steps that takes and gives no slot: these names stood at `was` and then stand at `now`; the view says `then`
+  -- a block of steps that takes and gives no slot: these names are at the posts `was` before it and at the posts `now` after it;
+  -- the view then states `then`
   pub wide_block : (was now : Posts T) → names_of was ≡ names_of now → AllIn (names_of now) m.0.names → Stand r.core was → AreOut key.size was → AreOut key.size now
       → (c : QueueState T) (new : List (Mark T)) (u l : ℤ) (i d : ℕ) → IsReached key.size c → Changes r.core c new u l i d now → AreAmong (λ (x : Mark T). x.seat) m.0.names new
       → (j w : ℕ) → AreWords key.size u l i d r.core.turn r.core.shut (set s.words j w) → (left : ℕ) → i + d + left ≤ r.core.draws_in + r.core.draws_out + m.0.left
@@ -54,7 +55,7 @@ module _ {T : Type 0} (key : QueueLimits) (s : QueueTable T) (r : IsShownQueue k
       let a = K.draws_in in let b = K.draws_out in let a' = Kc.draws_in in let b' = Kc.draws_out in let e = x.draws_in_is in let f = x.draws_out_is in
       block_steps (queue_object key.size key.seats) s r id m at (queue_law key.size key.seats r.encoded.some_cell) c new then step j w keeps shows left (omega (arith, few, a, b, a', b', e, f)) tells told
 
-  -- the other names stand still
+  -- the other names keep their phases
   pub quiet_block : (was now rest : Posts T) → names_of was ≡ names_of now → AreDisjoint (names_of now) (names_of rest) → AllIn (names_of now) m.0.names → Stand r.core was → Stand r.core rest → AreOut key.size was → AreOut key.size now
       → (c : QueueState T) (new : List (Mark T)) (u l : ℤ) (i d : ℕ) → IsReached key.size c → Changes r.core c new u l i d now → AreAmong (λ (x : Mark T). x.seat) m.0.names new
       → (j w : ℕ) → AreWords key.size u l i d r.core.turn r.core.shut (set s.words j w) → (left : ℕ) → i + d + left ≤ r.core.draws_in + r.core.draws_out + m.0.left

@@ -31,7 +31,7 @@ module _ {T : Type 0} (ns : List ℕ) (xs : List T) (m : QueueHolder T) where
       → Says m.0 (all_at (λ x. BackUp x) (drop i (pair_up ns xs)) ++ (all_at (λ x. TicketIn x) (take i (pair_up ns xs)) ++ idle_posts (drop (length xs) ns)))
   backed_from i j is e = says_swap m.0 (all_at (λ x. TicketIn x) (take i (pair_up ns xs))) (all_at (λ x. BackUp x) (drop i (pair_up ns xs))) (idle_posts (drop (length xs) ns)) (subst (λ k. Says m.0 (claims_at (λ x. BackUp x) ns xs k)) (sym is) e)
 
-  -- where none is over
+  -- if none is over
   pub rests_so : (j : ℕ) → drop j (pair_up ns xs) ≡ [] → Says m.0 (claims_at (λ x. BackUp x) ns xs j) → Says m.0 (claims_at (λ x. Idle) ns xs j)
   rests_so j nobody e = subst (λ l. Says m.0 (all_at (λ x. TicketIn x) (take j (pair_up ns xs)) ++ (all_at (λ x. Idle) l ++ idle_posts (drop (length xs) ns)))) (sym nobody)
       (subst (λ l. Says m.0 (all_at (λ x. TicketIn x) (take j (pair_up ns xs)) ++ (all_at (λ x. BackUp x) l ++ idle_posts (drop (length xs) ns)))) nobody e)

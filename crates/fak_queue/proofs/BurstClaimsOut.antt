@@ -30,7 +30,7 @@ module _ {T : Type 0} (ns : List ℕ) (us : List (Unit {0})) (m : QueueHolder T)
       → Says m.0 (all_at (λ x. BackLow) (drop i (pair_up ns us)) ++ (all_at (λ x. TicketOut) (take i (pair_up ns us)) ++ idle_posts (drop (length us) ns)))
   backed_from i j is e = says_swap m.0 (all_at (λ x. TicketOut) (take i (pair_up ns us))) (all_at (λ x. BackLow) (drop i (pair_up ns us))) (idle_posts (drop (length us) ns)) (subst (λ k. Says m.0 (claims_out_at BackLow ns us k)) (sym is) e)
 
-  -- where none is over
+  -- if none is over
   pub rests_so : (j : ℕ) → drop j (pair_up ns us) ≡ [] → Says m.0 (claims_out_at BackLow ns us j) → Says m.0 (claims_out_at Idle ns us j)
   rests_so j nobody e = subst (λ l. Says m.0 (all_at (λ x. TicketOut) (take j (pair_up ns us)) ++ (all_at (λ x. Idle) l ++ idle_posts (drop (length us) ns)))) (sym nobody)
       (subst (λ l. Says m.0 (all_at (λ x. TicketOut) (take j (pair_up ns us)) ++ (all_at (λ x. BackLow) l ++ idle_posts (drop (length us) ns)))) nobody e)

@@ -23,7 +23,7 @@ use Rattle.fak_queue.proofs.BurstBlocks.{wide_block, lower_more, upper_less, pos
 each_same : {T : Type 0} {a b : Posts T} → Some (Each a) ≡ Some (Each b) → a ≡ b
 each_same e = cc
 
--- where the names stand once these rest
+-- the phases of the names once these are at rest
 rests_now : {T : Type 0} (c b : QueueState T) (items : List (ℕ × ℕ)) (all : Posts T) (names : List ℕ) (rests : Bool) → Stand c (all_at (λ k. Idle) items) → ((n : ℕ) → (In n (names_of items) → ⊥) → c.phase n ≡ b.phase n)
     → ((n : ℕ) → In n names → (p : Phase T) → IsPost n p all → b.phase n ≡ p) → (rests ≡ true → (n : ℕ) → In n names → In n (names_of items) ⊎ IsPost n Idle all) → (n : ℕ) → In n names → StandsIn c n (once_rest rests (names_of items) all)
 rests_now {T} c b items all names true stand others were resting n i =

@@ -43,7 +43,7 @@ post_either [] b n p i = inr i
 post_either (s ∷ a) b n p (inl e) = inl (inl e)
 post_either (s ∷ a) b n p (inr i) = elim (post_either a b n p i) [ inl x ↦ inl (inr x) | inr y ↦ inr y ]
 
--- the first two parts change places
+-- the first two parts are swapped
 pub post_swap : {T : Type 0} (a b c : Posts T) (n : ℕ) (p : Phase T) → IsPost n p (a ++ (b ++ c)) → IsPost n p (b ++ (a ++ c))
 post_swap a b c n p i = elim (post_either a (b ++ c) n p i) [
   | inl x ↦ post_right b (a ++ c) n p (post_left a c n p x)
@@ -105,7 +105,7 @@ module _ (T : Type 0) {B : Type 0} (ns : List ℕ) (xs : List B) (apart : AreApa
     pub not_both : AreDisjoint (names_of (take j (pair_up ns xs))) (names_of (drop j (pair_up ns xs)))
     not_both = apart_both (names_of (take j (pair_up ns xs))) (names_of (drop j (pair_up ns xs))) split
 
-    -- the names that are over, beside the granted ones and those at rest
+    -- the names that are over, together with the granted ones and those at rest
     module _ (f : B → Phase T) where
       over_others : (n : ℕ) → In n (names_of (all_at f (take j (pair_up ns xs)) ++ idle_posts (drop (length xs) ns))) → In n (names_of (take j (pair_up ns xs))) ⊎ In n (names_of (idle_posts {T = T} (drop (length xs) ns)))
       over_others n i =
@@ -132,14 +132,14 @@ begins_trans f g h a b = (a.0 ++ b.0, sym (append_assoc f a.0 b.0) ∙ (ap (λ l
 mark_name : {T : Type 0} → Mark T → ℕ
 mark_name m = m.seat
 
--- the marks of a step stand after what it tells of
+-- a step's marks come after the past that it states something of
 pub stands_now : {T : Type 0} {size seats : ℕ} {m after : QueueHolder T} {new : List (Mark T)} {then : Standing T} {left : ℕ} {tells : List (Mark T) → Type 0} (l : Leaves (queue_object size seats) m new then left m.1 tells after) → StandAfter l.past new after
 stands_now {new = new} l = ([], append-nil (reverse (new ++ l.past)) ∙ ap (λ (x : QueueHolder _). reverse x.0.seen) (sym l.after_is))
 
 pub stands_more : {T : Type 0} {size seats : ℕ} (past new : List (Mark T)) {g : List (Mark T)} {a b : QueueHolder T} → StandAfter past new a → Makes size seats g a b → StandAfter past new b
 stands_more past new {a = a} {b = b} s m = begins_trans (reverse (new ++ past)) (reverse a.0.seen) (reverse b.0.seen) s m.begins
 
--- what a step tells of has no new mark of its names
+-- the past that a step states something of has no new mark of its names
 pub own_past : {T : Type 0} {size seats : ℕ} {m after : QueueHolder T} {new : List (Mark T)} {then : Standing T} {left : ℕ} {tells : List (Mark T) → Type 0} (l : Leaves (queue_object size seats) m new then left m.1 tells after) → NoneOwn l.past m
 own_past {T} {m = m} l = λ n i. (sees_knows (λ (x : Mark T). x.seat) m.0.names m.0.seen l.past l.sees).own n i
 

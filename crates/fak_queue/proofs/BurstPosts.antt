@@ -1,4 +1,4 @@
--- The names of a bundle, and where they stand.
+-- The names of a bundle, and their posts.
 use Rattle.atomic_table.specs.Table.{rest}
 use Rattle.fak_model.proofs.Deciding.{same_or_not}
 use Rattle.fak_model.proofs.RunningBlocks.{AreAmong, among_append}
@@ -33,7 +33,7 @@ in_all [] names all n i = absurd i
 in_all (k ∷ a) names all n (inl e) = subst (λ (z : ℕ). In z names) (sym e) all.0
 in_all (k ∷ a) names all n (inr i) = in_all a names all.1 n i
 
--- the marks of a block are of its names
+-- the marks of a block belong to its names
 pub among_back : {T B : Type 0} (f : B → _) (ss : List (ℕ × B)) (names : List ℕ) → AllIn (names_of ss) names → AreAmong (λ (m : Mark T). m.seat) names (marks_back f ss)
 among_back f [] names all = tt
 among_back {T} f (s ∷ ss) names all = among_append (λ (m : Mark T). m.seat) names (marks_back f ss) ((record { seat = s.0; kind = f s.1 }) ∷ []) (among_back f ss names all.1) (all.0, tt)
@@ -67,12 +67,12 @@ idle_at c [] all idle n i = absurd i
 idle_at c (s ∷ ps) all idle n (inl e) = ap c.phase e ∙ (all.0 ∙ idle.0)
 idle_at c (s ∷ ps) all idle n (inr i) = idle_at c ps all.1 idle.1 n i
 
--- what the view says holds
+-- the posts that the view states are true
 pub says_of : {T : Type 0} (c : QueueState T) (ps : Posts T) (names : List ℕ) (then : Standing T) → SaysAfter names ps then → Stand c ps → (n : ℕ) → In n names → StandsIn c n then
 says_of c ps names then (inl e) all n i = subst (StandsIn c n) (sym e) (λ p j. stand_at c ps n p j all)
 says_of c ps names then (inr rest) all n i = subst (StandsIn c n) (sym rest.0) (idle_at c ps all rest.1 n (in_all names (names_of ps) rest.2 n i))
 
--- none of these phases is in a cell
+-- at each of these phases a name is outside all cells
 abbrev pub AreOut : {T : Type 0} → ℕ → Posts T → Type 0
 AreOut size [] = Unit {0}
 AreOut size (s ∷ ps) = ((i : ℕ) → InCell size s.1 i → ⊥) × AreOut size ps
@@ -111,7 +111,7 @@ moved_post n q (s ∷ all) t w (inl e) = elim (same_or_not s.0 n) [
 ]
 moved_post n q (s ∷ all) t w (inr o) = elim (moved_post n q all t w o) [ inl e ↦ inl e | inr e ↦ inr (e.0, inr e.1) ]
 
--- the name stands there, and the others as before
+-- the name has this post, and the others have the same as before
 pub post_here : {T : Type 0} (n : ℕ) (p q : Phase T) (all : Posts T) → IsPost n p all → IsPost n q (post_to n q all)
 post_here n p q [] o = absurd o
 post_here n p q (s ∷ all) (inl e) = inl (e.0, cond_so (s.0 == n) true q s.1 (let z = e.0 in let b : (s.0 == n) ≡ true = grind (arith, nat_tests) in b))

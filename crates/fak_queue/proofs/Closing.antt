@@ -102,7 +102,7 @@ module _ {T : Type 0} (key : QueueLimits) (s : State (Option T) (QueueView T)) (
           are = all.0 ∙ ((λ i. drop ((q ∙ sym (count_reverse gots r.core.past)) i) (items_put (reverse r.core.past))) ∙ ap contents saw_all);
         }
 
--- what a closed table of a queue of this size holds, where the tickets put and got are these
+-- what a closed table of a queue of this size holds, if the tickets put and got are these
 pub record Closes {T : Type 0} (size : ℕ) (seen : List (Mark T)) (cells : List (Option T)) (put got : ℕ) : Type 0 where
   pub more : got ≤ put
   pub left : AreLeft size cells got (put - got)

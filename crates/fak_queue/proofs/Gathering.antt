@@ -118,7 +118,7 @@ token_fits {T} {s} {table} {mine} {seats} {own} {left} {m} its fits =
     let same : object_id mine own ≡ object_id table seats = sym its.object ∙ fits in
     (ap (λ (o : ObjectId). o.table) same, ap (λ (o : ObjectId). o.seats) same, subst (λ (o : ObjectId). IsTokenOfSeat s o.table o.seats left m) same its)
 
--- the token of one seat alone
+-- the token of only one seat
 pub gathered_one : {T : Type 0} {s : SeatInfo (Mark T)} {table : TableId} {seats left : ℕ} {m : QueueHolder T} → IsTokenOfSeat s table seats left m → Gathered table.slots seats table (s ∷ []) left m
 gathered_one {T} {s} {table} {seats} {left} {m} its =
     let h : List (Mark T) = reverse m.0.seen in

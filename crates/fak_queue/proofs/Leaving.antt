@@ -16,7 +16,7 @@ module _ {T : Type 0} where
   one_item : (o : maybe.Option (Option T)) → length (item_in o) ≡ 1 → (x : T) × (o ≡ some (Some x))
   one_item o e = grind (arith, common_steps, length, item_in, some)
 
-  -- where as many items are left as cells, the first cell has one
+  -- if as many items are left as there are cells, the first cell has one
   pub first_left : (n : ℕ) (xs : List (Option T)) (k m : ℕ) → length (items_left n xs k (suc m)) ≡ suc m
       → ((x : T) × (get_elem? xs (k % n) ≡ some (Some x)) × (items_left n xs k (suc m) ≡ x ∷ items_left n xs (suc k) m)) × (length (items_left n xs (suc k) m) ≡ m)
   first_left n xs k m full = grind (arith, common_steps, item_short, left_short, length, items_left, item_in, length-append, one_item)

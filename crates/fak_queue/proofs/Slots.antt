@@ -9,11 +9,11 @@ Homes T = List (maybe.Option (Option T))
 -- the state c comes after b by a step of the seat n; `homes` are the slots before it
 module _ {T : Type 0} (size n : ℕ) (b : QueueState T) (homes : Homes T) (wide : length homes ≡ size) (slots : (i : ℕ) → i < size → HasSlot size b homes i)
     (c : QueueState T) (phases : (t : ℕ) → t ≢ n → c.phase t ≡ b.phase t) where
-  -- a cell that the seat stands in neither before nor after
+  -- a cell that the seat is not in, neither before nor after
   passes_by : (i : ℕ) → c.turn i ≡ b.turn i → c.cell i ≡ b.cell i → (InCell size (b.phase n) i → ⊥) → (InCell size (c.phase n) i → ⊥) → HasSlot size b homes i → HasSlot size c homes i
   passes_by i turn cell before after has = grind (arith, common_steps, same_or_not)
 
-  -- the slot of another cell than that of the slot which was taken or given
+  -- the slot of a cell other than the one whose slot was taken or given
   other_slot : (k : ℕ) (given : maybe.Option (Option T)) (i : ℕ) → i ≢ k → HasSlot size c homes i → HasSlot size c (set homes k given) i
   other_slot k given i ne = subst (λ h. (IsAtHome (c.turn i) (c.cell i) h × ((t : ℕ) → InCell size (c.phase t) i → ⊥)) ⊎ ((t : ℕ) × InCell size (c.phase t) i × (h ≡ some none))) (sym (set_else homes k i given ne))
 
@@ -29,7 +29,7 @@ module _ {T : Type 0} (size n : ℕ) (b : QueueState T) (homes : Homes T) (wide 
     | inr ne ↦ other_slot k none i ne (passes_by i (ap (λ f. f i) turn) (ap (λ f. f i) cell) (before i) (λ a. ne (mine i a)) (slots i lt))
   ]
 
-  -- the seat gives it back: nobody else stood in its cell
+  -- the seat gives it back: nobody else was in its cell
   pub gives_slot : 0 < size → IsReached size b → (k : ℕ) → k < size → ((i : ℕ) → i ≢ k → (c.turn i ≡ b.turn i) × (c.cell i ≡ b.cell i)) → InCell size (b.phase n) k → ((i : ℕ) → InCell size (b.phase n) i → i ≡ k)
       → ((i : ℕ) → InCell size (c.phase n) i → ⊥) → (x : Option T) → IsAtHome (c.turn k) (c.cell k) (some (some x)) → (i : ℕ) → i < size → HasSlot size c (set homes k (some x)) i
   gives_slot some_cell reached k near same inside mine after x home i lt =
@@ -46,7 +46,7 @@ module _ {T : Type 0} (size n : ℕ) (b : QueueState T) (homes : Homes T) (wide 
         | inr ne ↦ other_slot k (some x) i ne (passes_by i (same i ne).0 (same i ne).1 (λ a. ne (mine i a)) (after i) (slots i lt))
       ]
 
-  -- nobody stands in the cell into which the seat steps: its slot is at home
+  -- nobody is in the cell that the seat enters: its slot is at home
   pub slot_there : 0 < size → IsReached size c → ((i : ℕ) → InCell size (b.phase n) i → ⊥) → (k : ℕ) → k < size → InCell size (c.phase n) k → IsAtHome (b.turn k) (b.cell k) (get_elem? homes k)
   slot_there some_cell reached out k near inside = elim (slots k near) [
     | inl h ↦ h.0
@@ -61,7 +61,7 @@ even_or_odd n = elim (le_or_lt 1 (n % 2)) [
   | inr even ↦ inl (n / 2, omega (arith, even))
 ]
 
--- a slot is out exactly while a seat stands in its cell
+-- a slot is out exactly while a seat is in its cell
 pub out_exactly : {T : Type 0} (size : ℕ) (b : QueueState T) (homes : Homes T) (i : ℕ) → HasSlot size b homes i → (get_elem? homes i ≡ some none) ↔ ((t : ℕ) × InCell size (b.phase t) i)
 out_exactly {T} size b homes i has = (
   (λ gone. elim has [

@@ -1,4 +1,4 @@
--- What a seat knows as it makes an atomic step, and the steps that take and give no slot.
+-- What a seat knows as it takes an atomic step, and the steps that take and give no slot.
 use Rattle.fak_queue.proofs.Common.{Alike, Each, Standing, StandsIn, QueueLimits, shut_part, AreWords, QueueView, QueueHolder, queue_object, IsShownQueue, ◌≡◌, ◌≢◌, ℕ, ◌+◌, ◌-◌, ◌%◌, ◌^◌, ◌<◌, ◌≤◌, List, [], ◌∷◌, ◌++◌, slice_index, set, refl, sym, ap, ◌∙◌, subst, inl, arith, mod-lt, Option, Some, true, false, ℤ, pos, ◌+ℤ◌, ◌-ℤ◌, reverse, All, All-head, All-tail, ints, some, get_elem?, count, puts, gots, upper_raise, upper_drop, lower_raise, lower_drop, upper_count, lower_count, SeatsBelow, In, sight, AreOwn, Leaves, bias, State, Act, keeps, stepped, carried_after, Valid, Mark, count_reverse, upper_range, lower_range, AreLawful, Advances, steps, total_at, Phase, QueueState, with_at, InCell, IsReached, AreIdleFrom, IsKept, at_here, at_else, kept, legal_history}
 use Rattle.fak_queue.proofs.WordWrites.{grown, shrunk, shut_part-small, words_same, words_upper, words_lower, words_turn}
 use Rattle.fak_queue.proofs.Slots.{stays_home}
@@ -32,14 +32,14 @@ module _ {T : Type 0} (key : QueueLimits) (s : QueueTable T) (r : IsShownQueue k
   pub K : IsKept key.size r.core
   K = kept key.size r.core r.reached.reached r.encoded.some_cell
 
-  -- the seat stands at p
+  -- the seat is at phase p
   pub stands : (p : Phase T) → m.0.phase ≡ Some (Alike p) → r.core.phase n ≡ p
   stands p e = r.stands id m.0 at n (subst (λ (names : List ℕ). In n names) (sym one) (inl refl)) (Alike p) e
 
   pub outside : (p : Phase T) → m.0.phase ≡ Some (Alike p) → ((i : ℕ) → InCell key.size p i → ⊥) → (i : ℕ) → InCell key.size (r.core.phase n) i → ⊥
   outside p e out i j = out i (subst (λ q. InCell key.size q i) (stands p e) j)
 
-  -- its name is one of the queue's seats
+  -- its name belongs to a seat of the queue
   pub one_of : n < key.seats
   one_of = r.below id m.0 at n (subst (λ (names : List ℕ). In n names) (sym one) (inl refl))
 
@@ -136,7 +136,7 @@ module _ {T : Type 0} (key : QueueLimits) (s : QueueTable T) (r : IsShownQueue k
 
   -- ---- steps
 
-  -- a name that is none of the queue's seats keeps no call, since only this seat has moved
+  -- a name beyond the queue's seats still has no call, since only this seat has moved
   beyond : (c : QueueState T) → ((t : ℕ) → t ≢ n → c.phase t ≡ r.core.phase t) → AreIdleFrom key.seats c
   beyond c others t far = others t (λ q. omega (arith, one_of, far, q)) ∙ r.reached.beyond t far
 

@@ -36,7 +36,7 @@ no_marks {T} seats n (m ∷ h) named high =
     let other : (m.seat == n) ≡ false = grind (arith, nat_tests) in
     rw other (no_marks seats n h (All-tail (λ (x : Mark T). x.seat < seats) m h named) high)
 
--- where all seats are idle no call is cut short
+-- if all seats are idle, no call is cut short
 pub whole_rests : {T : Type 0} {seats : ℕ} (size : ℕ) (names : List ℕ) (h : List (Mark T)) → IsWhole seats names → AreNamed (queue_rules size) seats h → AreIdle names h → IsAtRest (queue_rules size) h
 whole_rests {T} {seats} size names h whole named idle n = elim (le_or_lt seats n) [
   | inl high ↦ subst (λ (l : List (Mark T)). Owes words_of_call (map (λ (m : Mark T). word m.kind) l) []) (sym (no_marks seats n h named high)) ([], refl)

@@ -19,7 +19,7 @@ weight_of v s = count v (mine_of seat_of s)
 abbrev pub weight_in : {A : Type 0} → (Kind A → ℕ) → TallyInfo (Mark A) → ℕ
 weight_in v t = count v (mine seat_of t.names t.seen)
 
--- a refused insertion weighs nothing where its kinds weigh nothing
+-- a refused insertion weighs nothing if its kinds weigh nothing
 pub none_in : {A : Type 0} (v : Kind A → ℕ) → v NoRoom + v OverIn + v BackIn + v Closed + v LateIn ≡ 0 → (name : ℕ) (r : RefusedInsertion) → count v (made_by name (kinds_not_in r)) ≡ 0
 none_in v none u v' = grind (arith, common_steps, count, made_by, kinds_not_in)
 
@@ -34,7 +34,7 @@ module _ {A R : Type 0} (v : Kind A → ℕ) (kinds_of : R → List (Kind A)) (n
   count_refused name (r ∷ rs) =
       ap (count v) (made_by_append name (kinds_of r) (flat_map kinds_of rs)) ∙ (count_append v (made_by name (kinds_of r)) (made_by name (flat_map kinds_of rs)) ∙ omega (arith, none name r, count_refused name rs))
 
-  -- so marks after theirs weigh what they weigh alone
+  -- so marks after theirs weigh the same as without them
   pub count_at_last : (name : ℕ) (refused : List R) (kinds : List (Kind A)) → count v (made_by name (flat_map kinds_of refused ++ kinds)) ≡ count v (made_by name kinds)
   count_at_last name refused kinds = grind (arith, common_steps, count, made_by_append, name, flat_map, count_append, made_by, count_refused)
 
@@ -52,7 +52,7 @@ pub record Weighs {A : Type 0} (put got : (A → ℕ) → ℕ) (old new : SeatIn
   pub got_is : (w : A → ℕ) → weight_of (got_of w) new ≡ weight_of (got_of w) old + got w
 
 module _ {A : Type 0} {old new : SeatInfo (Mark A)} where
-  -- a call adds what its own marks weigh, where the refused ones before it weigh nothing
+  -- a call adds the weight of its own marks, if the refused ones before it weigh nothing
   call_weighs : {R : Type 0} {kinds_of : R → List (Kind A)} {size : ℕ} {kinds : List (Kind A)} (put got : (A → ℕ) → ℕ) → MakesAtLast kinds_of size kinds old new
       → ((w : A → ℕ) (name : ℕ) (r : R) → count (put_of w) (made_by name (kinds_of r)) ≡ 0) → ((w : A → ℕ) (name : ℕ) (r : R) → count (got_of w) (made_by name (kinds_of r)) ≡ 0)
       → ((w : A → ℕ) → count (put_of w) (made_by old.name kinds) ≡ put w) → ((w : A → ℕ) → count (got_of w) (made_by old.name kinds) ≡ got w) → Weighs put got old new
@@ -181,6 +181,6 @@ module _ {A : Type 0} (w : A → ℕ) (t : TallyInfo (Mark A)) (whole : mine sea
   pub whole_weighs : weight_in (put_of w) t ≡ weight_in (got_of w) t + sum_by w (contents t.seen)
   whole_weighs = omega (arith, ap (count (put_of w)) whole, ap (count (got_of w)) whole, weighs)
 
-  -- where nothing is left they got all of it out
+  -- if nothing is left, they got all of it out
   pub all_out : contents t.seen ≡ [] → weight_in (put_of w) t ≡ weight_in (got_of w) t
   all_out none = grind (arith, common_steps, sum_by, contents, whole_weighs)

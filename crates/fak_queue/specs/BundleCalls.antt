@@ -18,8 +18,8 @@ use Rattle.fak_queue.specs.Bundles.{IsLawful, Filling, Emptying}
 
 -- ---- bundles
 
--- a bundle: its object, the names of its seats in the order in which they take tickets, the stint that these share, where it
--- stands, and the history that it has seen
+-- a bundle: its object, the names of its seats in the order in which they take tickets, the stint that these share, its standing,
+-- and the history that it has seen
 pub record BundleInfo (M : Type 0) : Type 0 where
   pub object : ObjectId
   pub names : List ℕ
@@ -38,7 +38,7 @@ seat_in b name = seat_info b.object name b.stint b.seen
 abbrev pub drawn_by_all : {T : Type 0} → BundleInfo (Mark T) → ℕ
 drawn_by_all b = sum_by (λ (n : ℕ). drawn_by (seat_in b n)) b.names
 
--- the bundle is of this object, and between two calls
+-- the bundle belongs to this object, and is between two calls
 abbrev pub IsIdleBundle : {M : Type 0} → ObjectId → BundleInfo M → Type 0
 IsIdleBundle object b = (b.object ≡ object) × (b.state ≡ Idle)
 
@@ -63,7 +63,7 @@ IsToFill n h = Owes words_of_call (seat_words (queue_rules 0) n h) (made.Fill 0 
 abbrev pub IsToTake : {T : Type 0} → ℕ → List (Mark T) → Type 0
 IsToTake n h = Owes words_of_call (seat_words (queue_rules 0) n h) (made.Take 0 ∷ made.EndOut ∷ [])
 
--- all names rest
+-- all names are at rest
 pub record AllRest {T : Type 0} (names : List ℕ) (kept : List T) (me : QueueHolder T) : Type 0 where
   pub phase : me.0.phase ≡ Some (Alike phase.Idle)
   pub none : kept ≡ []

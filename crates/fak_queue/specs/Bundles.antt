@@ -18,11 +18,11 @@ use Rattle.fak_queue.specs.Bursts.{Makes}
 use Rattle.fak_queue.specs.Queues.{seat_of, made_by}
 use Rattle.fak_queue.specs.Parts.{before_part}
 
--- the view says of this name that it stands at p
+-- the view states that this name is at phase p
 abbrev pub SaysOf : {T : Type 0} → QueueView T → ℕ → Phase T → Type 0
 SaysOf {T} v n p = (all : Posts T) × (v.phase ≡ Some (Each all)) × IsPost n p all
 
--- one name went on to q and made these marks, newest first, and the token then carries these slots; the other names stand still
+-- one name went on to q and left these marks, newest first; the token then carries these slots; the other names keep their phases
 pub record StepsOn {T : Type 0} (size seats n : ℕ) (q : Phase T) (new : List (Mark T)) (carried : List (ℕ × Option T)) (m after : QueueHolder T) : Type 0 where
   pub here : SaysOf after.0 n q
   pub others : (t : ℕ) (w : Phase T) → t ≢ n → SaysOf m.0 t w → SaysOf after.0 t w
@@ -69,12 +69,12 @@ module _ {T : Type 0} (size seats n k : ℕ) where
 
 -- ---- the names of a bundle, counted from 0 in the order in which they take tickets
 
--- what the view has seen is lawful, and its marks are of the object's seats
+-- what the view has seen is lawful, and its marks belong to the object's seats
 pub record IsLawful {T : Type 0} (size seats : ℕ) (v : QueueView T) : Type 0 where
   pub lawful : IsHistory (queue_rules size) (reverse v.seen)
   pub named : AreNamed (queue_rules size) seats (reverse v.seen)
 
--- between two states of a token the names from lo to hi made marks of these kinds each, and the others none
+-- between two states of a token the names from lo to hi left marks of these kinds each, and the others none
 pub record MadeFrom {T : Type 0} (size seats : ℕ) (names : List ℕ) (lo hi : ℕ) (kinds_at : ℕ → List (Kind T)) (m after : QueueHolder T) : Type 0 where
   pub names_are : after.0.names ≡ m.0.names
   pub left : after.0.left ≡ m.0.left
@@ -83,8 +83,8 @@ pub record MadeFrom {T : Type 0} (size seats : ℕ) (names : List ℕ) (lo hi : 
   pub outside : (i n : ℕ) → item_at names i ≡ Some n → (i < lo) ⊎ (hi ≤ i) → marks_of seat_of n (reverse after.0.seen) ≡ marks_of seat_of n (reverse m.0.seen)
   pub lawful : IsLawful size seats after.0
 
--- where the names stand while a burst of insertions fills its cells: of those that were granted the first rest, the next have
--- filled their cells, and the others wait with the items that are kept; all other names rest
+-- the phases of the names while a burst of insertions fills its cells. The first `ended` names are at rest, and those up to `filled`
+-- have filled their cells. Those up to `granted` wait with the items that are kept; all others are at rest.
 pub record Filling {T : Type 0} (names : List ℕ) (k ended filled granted : ℕ) (kept : List T) (v : QueueView T) : Type 0 where
   pub all_are : v.names ≡ names
   pub done : (i n : ℕ) → item_at names i ≡ Some n → i < ended → SaysOf v n Idle
@@ -103,7 +103,7 @@ pub record Emptying {T : Type 0} (names : List ℕ) (k ended taken granted : ℕ
   pub rests : (i n : ℕ) → item_at names i ≡ Some n → granted ≤ i → SaysOf v n Idle
   pub order : (ended ≤ taken) × (taken ≤ granted) × (granted ≤ length names)
 
--- what a name makes at its cell
+-- the marks that a name leaves at its cell
 abbrev pub fills_at : {T : Type 0} → ℕ → ℕ → List (Kind T)
 fills_at k i = made.Fill (k + i) ∷ []
 
@@ -121,7 +121,7 @@ pub record FillsOn {T : Type 0} (size seats : ℕ) (names : List ℕ) (k lo fill
 abbrev pub IsEarly : {T : Type 0} → ℕ → ℕ → QueueHolder T → Type 0
 IsEarly size t after = (earlier : ℕ) × (t ≡ earlier + size) × (Has (made.Take earlier) (reverse after.0.seen) → ⊥)
 
--- at a look between what was seen before and what was seen then, the round before was not taken from this ticket's cell
+-- at a look after `before` and no later than `then`, the round before was not taken from this ticket's cell
 pub record FoundFull {T : Type 0} (size ticket : ℕ) (before then : List (Mark T)) : Type 0 where
   pub earlier : ℕ
   pub round : ticket ≡ earlier + size
@@ -137,7 +137,7 @@ pub record FoundEmpty {T : Type 0} (ticket : ℕ) (before then : List (Mark T)) 
   pub by_then : Begins look then
   pub unfilled : Has (made.Fill ticket) look → ⊥
 
--- what a name makes from its cell on
+-- the marks that a name leaves from its cell on
 abbrev pub filled_at : {T : Type 0} → ℕ → ℕ → List (Kind T)
 filled_at k i = made.Fill (k + i) ∷ made.EndIn ∷ []
 
@@ -174,12 +174,12 @@ pub record EmptiedOn {T : Type 0} (size seats : ℕ) (names : List ℕ) (k lo ta
 
 -- ---- claims, name by name
 
--- between two states of a token this name made marks of these kinds
+-- between two states of a token this name left marks of these kinds
 abbrev pub MadeBy : {T : Type 0} → ℕ → List (Kind T) → QueueHolder T → QueueHolder T → Type 0
 MadeBy n kinds m after = marks_of seat_of n (reverse after.0.seen) ≡ marks_of seat_of n (reverse m.0.seen) ++ made_by n kinds
 
--- the first j of the names with an item claimed room and drew the tickets from k on, in the order of the items; the others were
--- over; and what was seen before them. The names without an item made no mark.
+-- the first j of the names with an item claimed room and drew the tickets from k on, in the order of the items. The others were
+-- over. `ticket` states what was before them. The names without an item left no mark.
 pub record ClaimsOn {T : Type 0} (size seats : ℕ) (names : List ℕ) (xs : List T) (k j : ℕ) (m after : QueueHolder T) : Type 0 where
   pub some : 0 < j
   pub most : j ≤ length xs
@@ -195,8 +195,8 @@ pub record ClaimsOn {T : Type 0} (size seats : ℕ) (names : List ℕ) (xs : Lis
   pub put : (i : ℕ) (x : T) → i < j → item_at xs i ≡ Some x → item_at (items_put (reverse after.0.seen)) (k + i) ≡ Some x
   pub few : k + j ≤ 2 ^ 50
 
--- the first j of d names claimed an item each and drew the tickets from k on, with the items that were put under them; the others
--- of the d were over. The names from d on made no mark.
+-- the first j of d names claimed an item each and drew the tickets from k on, with the items that were put under them.
+-- The others of the d were over. The names from d on left no mark.
 pub record ClaimsOutOn {T : Type 0} (size seats : ℕ) (names : List ℕ) (d k j : ℕ) (m after : QueueHolder T) : Type 0 where
   pub some : 0 < j
   pub most : j ≤ d
@@ -212,7 +212,7 @@ pub record ClaimsOutOn {T : Type 0} (size seats : ℕ) (names : List ℕ) (d k j
 
 -- ---- refusals, name by name
 
--- the first d names made marks of these kinds, the others none, and all rest as before
+-- the first d names left marks of these kinds, the others none, and all are at rest as before
 pub record AllMade {T : Type 0} (size seats : ℕ) (names : List ℕ) (d : ℕ) (kinds : List (Kind T)) (m after : QueueHolder T) : Type 0 where
   pub names_are : after.0.names ≡ m.0.names
   pub phase : after.0.phase ≡ Some (Alike Idle)
@@ -223,7 +223,7 @@ pub record AllMade {T : Type 0} (size seats : ℕ) (names : List ℕ) (d : ℕ) 
   pub each : (i n : ℕ) → item_at names i ≡ Some n → i < d → MadeBy n kinds m after
   pub others : (i n : ℕ) → item_at names i ≡ Some n → d ≤ i → MadeBy n [] m after
 
--- all of the first d names were refused: at the first test, or after their add; and the count before the first name's first mark
+-- the first d names were all refused: by the test, or by the add; and u is the count before the first name's first mark
 abbrev pub RefusesOn : {T : Type 0} → ℕ → ℕ → List ℕ → ℕ → NoRoom → QueueHolder T → QueueHolder T → Type 0
 RefusesOn size seats names d (Full u) m after = (AllMade size seats names d (made.NoRoom ∷ []) m after ⊎ AllMade size seats names d (made.OverIn ∷ made.BackIn ∷ []) m after)
     × ((n : ℕ) → item_at names 0 ≡ Some n → u ≡ upper_count (before_part n 0 m after))

@@ -35,7 +35,7 @@ abbrev pub KnowsOwn : {T : Type 0} → List (Mark T) → SeatInfo (Mark T) → T
 KnowsOwn h s = Knows seat_of (s.name ∷ []) s.seen h
 
 -- the idle bundle of these seats: their names in their order, their stints together, and the longest history that one of them has
--- seen, in which each name has the marks of its own seat alone
+-- seen, in which each name has only the marks of its own seat
 pub record IsBundleOf {T : Type 0} (size : ℕ) (seats : List (SeatInfo (Mark T))) (bundle : BundleInfo (Mark T)) : Type 0 where
   pub state : bundle.state ≡ Idle
   pub names : bundle.names ≡ map name_of seats

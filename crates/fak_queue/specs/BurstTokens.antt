@@ -11,7 +11,7 @@ use Rattle.fak_queue.specs.Shown.{QueueHolder}
 use Rattle.fak_queue.specs.Steps.{FitsTable, IsPlace}
 use Rattle.fak_queue.specs.StepTokens.{QueueToken}
 
--- the token is of this table, which was made with this key for this many seats, and its names stand so
+-- the token belongs to this table, which was made with this key for this many seats; `stands` holds for its view and its slots
 pub record IsBundleToken {T : Type 0} (id : TableId) (key : QueueLimits) (seats : ℕ) (stands : QueueHolder T → Type 0) (token : QueueToken T) : Type 0 where
   pub table : FitsTable token.table_id id key seats
   pub phase : stands token.me
@@ -22,7 +22,7 @@ pub record IsBurstToken {T A : Type 0} (id : TableId) (key : QueueLimits) (seats
   pub names : AreApart (names_of items) × AreDisjoint (names_of items) (names_of others) × AllIn (names_of items ++ names_of others) token.me.0.names
   pub phase : stands token.me
 
--- the token of a bundle of these names, of which this many take part in a burst, and which stand so
+-- the token of a bundle of these names, of which this many take part in a burst; `stands` holds as above
 pub record IsClaimToken {T : Type 0} (id : TableId) (key : QueueLimits) (own : List ℕ) (many : ℕ) (stands : QueueHolder T → Type 0) (token : QueueToken T) : Type 0 where
   pub table : FitsTable token.table_id id key key.seats
   pub names : AreApart own × (token.me.0.names ≡ own) × (many ≤ length own)
@@ -35,7 +35,7 @@ pub record IsNameAt {T : Type 0} (id : TableId) (key : QueueLimits) (seats : ℕ
   pub name : In own token.me.0.names
   pub phase : stands token.me
 
--- the token of a bundle of these names at a queue of this size, which holds no slot, and whose names stand so
+-- the token of a bundle of these names at a queue of this size, which holds no slot; `stands` holds as above
 pub record IsWorkToken {T : Type 0} (id : TableId) (key : QueueLimits) (size : ℕ) (own : List ℕ) (stands : QueueHolder T → Type 0) (token : QueueToken T) : Type 0 where
   pub table : FitsTable token.table_id id key key.seats
   pub cells : size ≡ id.slots
@@ -44,7 +44,7 @@ pub record IsWorkToken {T : Type 0} (id : TableId) (key : QueueLimits) (size : �
   pub lawful : IsLawful id.slots key.seats token.me.0
   pub phase : stands token.me
 
--- a step leaves the token with its table, and tells this of what the token knows now
+-- a step leaves the token with its table, and `tells` holds for what the token knows now
 pub record TellsAll {T : Type 0} (old new : QueueToken T) (tells : QueueHolder T → Type 0) : Type 0 where
   pub same : new.table_id ≡ old.table_id
   pub told : tells new.me

@@ -1,5 +1,5 @@
--- How a table of words and slots shows a queue where a token may bear many names, each at a phase of its own; and what each
--- atomic step of a burst tells.
+-- How a table of words and slots shows a queue if a token may bear many names, each at a phase of its own; and what each atomic step
+-- of a burst leaves.
 use Rattle.std.specs.Prelude.{◌≡◌, Bool, true, false, ◌==◌, cond, zero, suc, ℤ, ◌⊎◌, ℕ, ◌+◌, ◌-◌, ◌*◌, ◌/◌, ◌%◌, ◌≢◌, ◌<◌, ◌≤◌, ◌^◌, None, Some, pos, ◌+ℤ◌, List, [], ◌∷◌, ◌++◌, length, take, drop, min, reverse}
 use Rattle.atomic_table.specs.Table.{rest}
 use Rattle.fak_model.specs.declared.queue.Kind.TheVariants as made
@@ -25,29 +25,31 @@ abbrev pub AllIn : List ℕ → List ℕ → Type 0
 AllIn [] names = Unit {0}
 AllIn (n ∷ ns) names = In n names × AllIn ns names
 
--- no name stands in both
+-- no name is in both
 abbrev pub AreDisjoint : List ℕ → List ℕ → Type 0
 AreDisjoint a b = (n : ℕ) → In n a → In n b → ⊥
 
--- the view says of these names, and maybe of others, that they stand so
+-- the view states that these names, and maybe others, are at these phases
 abbrev pub Says : {T : Type 0} → QueueView T → Posts T → Type 0
 Says {T} v ps = (all : Posts T) × (v.phase ≡ Some (Each all)) × ((n : ℕ) (p : Phase T) → IsPost n p ps → IsPost n p all)
 
--- each of these stands at rest
+-- each of these is at rest
 abbrev pub AreIdle : {T : Type 0} → Posts T → Type 0
 AreIdle [] = Unit {0}
 AreIdle (s ∷ ps) = (s.1 ≡ Idle) × AreIdle ps
 
--- what a view may say after a step after which these names stand so, which are all of its names where they rest
+-- what a view may state after a step that leaves these posts. It states the posts; or that all names are at rest, if all posts are
+-- at rest and no name is missing.
 abbrev pub SaysAfter : {T : Type 0} → List ℕ → Posts T → Standing T → Type 0
 SaysAfter names posts then = (then ≡ Each posts) ⊎ ((then ≡ Alike Idle) × AreIdle posts × AllIn names (names_of posts))
 
--- the names of `items` drew tickets that follow one another from `found` on, the number of earlier Puts; the others stand still
+-- the names of `items` drew tickets that follow one another from `found` on, which is the number of earlier Puts; the others keep
+-- their phases
 pub record DrewBurst {T : Type 0} (size seats : ℕ) (items : List (ℕ × T)) (others : Posts T) (m : QueueHolder T) (found : ℕ) (after : QueueHolder T) : Type 0 where
   pub leaves : Leaves (queue_object size seats) m (marks_back (λ x. made.Put x) items) (Each (turns_from found items ++ others)) (m.0.left - length items) m.1 (λ past. count puts (reverse past) ≡ found) after
   pub few : found + length items ≤ 2 ^ 50
 
--- how many of d adds find room, where the first finds this word of the upper count
+-- how many of d adds find room, if the first finds this word of the upper count
 abbrev pub granted_of : ℕ → ℕ → ℕ → ℕ
 granted_of size found d = min d (bias + size - found)
 
@@ -79,12 +81,12 @@ module _ {T : Type 0} (size seats : ℕ) (items : List (ℕ × T)) (others : Pos
   abbrev pub BackBurst : Standing T → QueueHolder T → QueueHolder T → Type 0
   BackBurst then m after = Leaves (queue_object size seats) m (marks_back (λ x. made.BackIn) items) then m.0.left m.1 (λ past. Unit {0}) after
 
--- the same posts, except that this name stands at p
+-- the same posts, except that this name is at phase p
 abbrev pub post_to : {T : Type 0} → ℕ → Phase T → Posts T → Posts T
 post_to n p [] = []
 post_to n p (s ∷ posts) = (s.0, cond (s.0 == n) p s.1) ∷ post_to n p posts
 
--- the same posts, except that these names stand at p
+-- the same posts, except that these names are at phase p
 abbrev pub posts_to : {T : Type 0} → List ℕ → Phase T → Posts T → Posts T
 posts_to [] p all = all
 posts_to (n ∷ names) p all = posts_to names p (post_to n p all)
@@ -94,22 +96,22 @@ abbrev pub tickets_of : List ℕ → ℕ → List (ℕ × ℕ)
 tickets_of [] k = []
 tickets_of (n ∷ names) k = (n, k) ∷ tickets_of names (k + 1)
 
--- what the view says once these names rest, and all others may rest too
+-- what the view states once these names are at rest; with `true`, all other names are at rest too
 abbrev pub once_rest : {T : Type 0} → Bool → List ℕ → Posts T → Standing T
 once_rest true names all = Alike Idle
 once_rest false names all = Each (posts_to names Idle all)
 
--- these names, each with its ticket, ended their insertions; the others stand still
+-- these names, each with its ticket, ended their insertions; the others keep their phases
 abbrev pub EndedBurst : {T : Type 0} → ℕ → ℕ → List (ℕ × ℕ) → Bool → QueueHolder T → QueueHolder T → Type 0
 EndedBurst {T} size seats items rests m after = (all : Posts T) → m.0.phase ≡ Some (Each all)
     → Leaves (queue_object size seats) m (marks_back (λ k. made.EndIn) items) (once_rest rests (names_of items) all) m.0.left m.1 (λ past. Unit {0}) after
 
--- these names, each with its ticket, ended their deletions; the others stand still
+-- these names, each with its ticket, ended their deletions; the others keep their phases
 abbrev pub EndedOutBurst : {T : Type 0} → ℕ → ℕ → List (ℕ × ℕ) → Bool → QueueHolder T → QueueHolder T → Type 0
 EndedOutBurst {T} size seats items rests m after = (all : Posts T) → m.0.phase ≡ Some (Each all)
     → Leaves (queue_object size seats) m (marks_back (λ k. made.EndOut) items) (once_rest rests (names_of items) all) m.0.left m.1 (λ past. Unit {0}) after
 
--- one name's load of the turn of ticket k; the other names stand still
+-- one name's load of the turn of ticket k; the other names keep their phases
 module _ {T : Type 0} (size seats n k : ℕ) where
   pub record TurnedBurst (x : T) (all : Posts T) (m : QueueHolder T) (found : ℕ) (after : QueueHolder T) : Type 0 where
     pub hit : found ≡ 2 * (k / size) → Leaves (queue_object size seats) m [] (Each (post_to n (StoreItem k x) all)) m.0.left ((k % size, None) ∷ m.1) (λ past. Unit {0}) after
@@ -118,7 +120,7 @@ module _ {T : Type 0} (size seats n k : ℕ) where
   abbrev pub FilledBurst : Posts T → QueueHolder T → QueueHolder T → Type 0
   FilledBurst all m after = Leaves (queue_object size seats) m (mark n (made.Fill k) ∷ []) (Each (post_to n (EndInsert k) all)) m.0.left (rest m.1) (λ past. Unit {0}) after
 
--- the same of whatever ticket and item it has
+-- the same for each ticket and item that the name may have
 abbrev pub TurnsBurst : {T : Type 0} → ℕ → ℕ → ℕ → QueueHolder T → ℕ → QueueHolder T → Type 0
 TurnsBurst {T} size seats n m found after = (k : ℕ) (x : T) (all : Posts T) → m.0.phase ≡ Some (Each all) → IsPost n (TurnIn k x) all → TurnedBurst size seats n k x all m found after
 
@@ -138,7 +140,7 @@ abbrev pub idle_posts : {T : Type 0} → List ℕ → Posts T
 idle_posts [] = []
 idle_posts (n ∷ ns) = (n, Idle) ∷ idle_posts ns
 
--- the names of a token made these marks, newest first, and it has seen more; all else is as the record says that follows
+-- the names of a token left these marks, newest first, and it has seen more; the records below state the rest
 pub record Makes {T : Type 0} (size seats : ℕ) (new : List (Mark T)) (m after : QueueHolder T) : Type 0 where
   pub names : after.0.names ≡ m.0.names
   pub slots : after.1 ≡ m.1
@@ -147,21 +149,21 @@ pub record Makes {T : Type 0} (size seats : ℕ) (new : List (Mark T)) (m after 
   pub lawful : IsHistory (queue_rules size) (reverse after.0.seen)
   pub named : AreNamed (queue_rules size) seats (reverse after.0.seen)
 
--- these marks, newest first, stand in what was seen, with this past before them
+-- these marks, newest first, are in what was seen, with this past before them
 abbrev pub StandAfter : {T : Type 0} → List (Mark T) → List (Mark T) → QueueHolder T → Type 0
 StandAfter past new after = Begins (reverse (new ++ past)) (reverse after.0.seen)
 
--- of the names of m none made a mark between what m had seen and this past
+-- no name of m left a mark between what m had seen and this past
 abbrev pub NoneOwn : {T : Type 0} → List (Mark T) → QueueHolder T → Type 0
 NoneOwn {T} past m = (n : ℕ) → In n m.0.names → marks_of (λ (x : Mark T). x.seat) n (reverse past) ≡ marks_of (λ (x : Mark T). x.seat) n (reverse m.0.seen)
 
--- all were refused with these marks, and rest again
+-- all were refused with these marks, and are at rest again
 pub record NoneBurst {T : Type 0} (size seats : ℕ) (new : List (Mark T)) (m after : QueueHolder T) : Type 0 where
   pub phase : after.0.phase ≡ Some (Alike Idle)
   pub left : after.0.left ≡ m.0.left
   pub makes : Makes size seats new m after
 
--- the first j of the names with an item are to draw, the others stand at phases of this kind, and the names without an item rest
+-- the first j of the names with an item are to draw, the others are at phases of this kind. The names without an item are at rest.
 abbrev pub claims_at : {T : Type 0} → (T → Phase T) → List ℕ → List T → ℕ → Posts T
 claims_at at ns xs j = all_at (λ x. TicketIn x) (take j (pair_up ns xs)) ++ (all_at at (drop j (pair_up ns xs)) ++ idle_posts (drop (length xs) ns))
 
@@ -186,7 +188,7 @@ module _ {T : Type 0} (size seats : ℕ) (ns : List ℕ) (xs : List T) where
       ⊎ (NoneBurst size seats (marks_back (λ x. made.BackIn) (pair_up ns xs) ++ marks_back (λ x. made.OverIn) (pair_up ns xs)) m after × StandAfter past (marks_back (λ x. made.OverIn) (pair_up ns xs)) after))
   RefusedBurst Shut m after = NoneBurst size seats (marks_back (λ x. made.Closed) (pair_up ns xs)) m after ⊎ NoneBurst size seats (marks_back (λ x. made.BackIn) (pair_up ns xs) ++ marks_back (λ x. made.LateIn) (pair_up ns xs)) m after
 
-  -- the first j were granted and drew the tickets from k on, and their Puts stand in a row after k others; the others withdrew
+  -- the first j were granted and drew the tickets from k on; their Puts follow k others, one right after the other; the others withdrew
   pub record ClaimedBurst (k j : ℕ) (m after : QueueHolder T) : Type 0 where
     pub some : 0 < j
     pub most : j ≤ length xs
@@ -207,7 +209,7 @@ module _ {T : Type 0} (size seats : ℕ) (ns : List ℕ) (xs : List T) where
 
 -- ---- deletions
 
--- how many of d subtractions find an item, where the first finds this word of the lower count
+-- how many of d subtractions find an item, if the first finds this word of the lower count
 abbrev pub granted_low : ℕ → ℕ → ℕ
 granted_low found d = min d (found - bias)
 
@@ -236,7 +238,7 @@ module _ {T : Type 0} (size seats : ℕ) (items : List (ℕ × Unit {0})) (other
     pub stock : bias < found → Leaves (queue_object size seats) m [] (Each (all_at (λ x. SubLow) items ++ others)) m.0.left m.1 (TellsLower found) after
     pub empty : found ≤ bias → Leaves (queue_object size seats) m (marks_back (λ x. made.NoItem) items) (Alike Idle) m.0.left m.1 (TellsLower found) after
 
--- one name's load of the turn of ticket k; the other names stand still
+-- one name's load of the turn of ticket k; the other names keep their phases
 module _ {T : Type 0} (size seats n k : ℕ) where
   pub record TurnedOutBurst (all : Posts T) (m : QueueHolder T) (found : ℕ) (after : QueueHolder T) : Type 0 where
     -- with the item that was put under the ticket
@@ -259,7 +261,7 @@ abbrev pub units : ℕ → List (Unit {0})
 units zero = []
 units (suc n) = tt ∷ units n
 
--- the first j of the names that take part are to draw, the others stand at this phase, and those that take no part rest
+-- the first j of the names that take part are to draw, the others are at this phase. Those that take no part are at rest.
 abbrev pub claims_out_at : {T : Type 0} → Phase T → List ℕ → List (Unit {0}) → ℕ → Posts T
 claims_out_at p ns us j = all_at (λ x. TicketOut) (take j (pair_up ns us)) ++ (all_at (λ x. p) (drop j (pair_up ns us)) ++ idle_posts (drop (length us) ns))
 
@@ -278,7 +280,7 @@ module _ {T : Type 0} (size seats : ℕ) (ns : List ℕ) (us : List (Unit {0})) 
     pub lower : TellsLower found past
     pub stands : StandAfter past (marks_back (λ x. made.OverOut) (drop j (pair_up ns us)) ++ marks_back (λ x. made.ClaimOut) (take j (pair_up ns us))) after
 
-  -- all were refused, at the test or at the subtraction, and rest again
+  -- all were refused, by the test or by the subtraction, and are at rest again
   abbrev pub RefusedOutBurst : ℤ → QueueHolder T → QueueHolder T → Type 0
   RefusedOutBurst l m after = (past : List (Mark T)) × (l ≡ lower_count (reverse past)) × NoneOwn past m
       × ((NoneBurst size seats (marks_back (λ x. made.NoItem) (pair_up ns us)) m after × StandAfter past (marks_back (λ x. made.NoItem) (pair_up ns us)) after)

@@ -1,4 +1,4 @@
--- Which refusal is answered, and what it leaves.
+-- Which refusal a call returns, and what it leaves.
 use Rattle.std.specs.Prelude.{◌≡◌, ℕ, ◌<◌, ◌≤◌}
 use Rattle.fak_model.specs.Limits.{IsNumberOfSeats, IsStint}
 use Rattle.fak_model.specs.declared.queue.Mark.{Mark}
@@ -36,7 +36,7 @@ IsRangeFault size seats stint BadSeats = IsSize size × ¬ IsNumberOfSeats seats
 IsRangeFault size seats stint BadStint = IsSize size × IsNumberOfSeats seats × ¬ IsStint stint
 IsRangeFault size seats stint Memory = ⊥
 
--- memory is asked for last
+-- only a call whose numbers are in range asks for memory
 abbrev pub IsOpenFault : ℕ → ℕ → ℕ → OpenFault → Type 0
 IsOpenFault size seats stint Memory = IsInRange size seats stint
 IsOpenFault size seats stint fault = IsRangeFault size seats stint fault

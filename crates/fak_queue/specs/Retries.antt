@@ -1,4 +1,4 @@
--- Calls on a queue that are tried again where they are refused.
+-- Calls on a queue that are tried again if they are refused.
 use Rattle.std.specs.Prelude.{◌≡◌, ℕ, ◌+◌, ◌<◌, List, [], ◌∷◌, ◌++◌, length, Some}
 use Rattle.std.specs.List.{All, flat_map}
 use Rattle.fak_model.specs.declared.queue.Kind.{Kind}

@@ -27,26 +27,26 @@ QueueView T = View (Mark T) (Standing T)
 abbrev pub QueueHolder : Type 0 → Type 0
 QueueHolder T = Me (Option T) (QueueView T)
 
--- the name is said to stand at this phase
+-- the posts state that the name is at this phase
 abbrev pub IsPost : {T : Type 0} → ℕ → Phase T → Posts T → Type 0
 IsPost n p [] = ⊥
 IsPost n p (s ∷ ss) = ((s.0 ≡ n) × (s.1 ≡ p)) ⊎ IsPost n p ss
 
--- where the name stands, as this standing says
+-- the phase of the name, as this standing states it
 abbrev pub StandsIn : {T : Type 0} → QueueState T → ℕ → Standing T → Type 0
 StandsIn core n (Alike p) = core.phase n ≡ p
 StandsIn {T} core n (Each ps) = (p : Phase T) → IsPost n p ps → core.phase n ≡ p
 
--- a view whose names all stand at this phase, which has compared nothing
+-- a view whose names are all at this phase, which has compared nothing
 abbrev pub sight : {T : Type 0} → List ℕ → List (Mark T) → Phase T → ℕ → QueueView T
 sight names seen p left = view names seen (Alike p) left
 
--- a slot at home has its cell's content where the turn is odd, and nothing where it is even
+-- a slot at home has its cell's content if the turn is odd, and nothing if it is even
 pub record IsAtHome {T : Type 0} (turn : ℕ) (content : Option T) (home : maybe.Option (maybe.Option (Option T))) : Type 0 where
   pub odd : (q : ℕ) → turn ≡ 2 * q + 1 → home ≡ some (some content)
   pub even : (q : ℕ) → turn ≡ 2 * q → home ≡ some (some None)
 
--- the slot of a cell is out exactly while a seat stands in the cell
+-- the slot of a cell is out exactly while a seat is in the cell
 abbrev pub HasSlot : {T : Type 0} → ℕ → QueueState T → List (maybe.Option (Option T)) → ℕ → Type 0
 HasSlot size core homes cell =
     (IsAtHome (core.turn cell) (core.cell cell) (get_elem? homes cell) × ((seat : ℕ) → InCell size (core.phase seat) cell → ⊥))
@@ -85,6 +85,6 @@ IsShownQueue key s = IsShown (queue_object key.size key.seats) s
 abbrev pub opened_queue : {T : Type 0} → QueueLimits → QueueView T
 opened_queue key = opened (Alike Idle) key.seats (key.seats * key.stint)
 
--- a step after which all names of the view stand at this phase
+-- a step that leaves all names of the view at this phase
 abbrev pub Leaves : {T : Type 0} → Object (Mark T) Word WholeCall (Standing T) (QueueState T) (Option T) → QueueHolder T → List (Mark T) → Phase T → ℕ → List (ℕ × Option T) → (List (Mark T) → Type 0) → QueueHolder T → Type 0
 Leaves object m new p left carried tells after = Left object m new (Alike p) left carried tells after

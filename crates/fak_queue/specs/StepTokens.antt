@@ -14,11 +14,11 @@ use Rattle.fak_queue.specs.Steps.{FitsTable, IsPlace, Named}
 abbrev pub QueueToken : Type 0 → Type 0
 QueueToken T = Seat (Option T) (QueueView T)
 
--- the seat stands at this phase
+-- the seat is at this phase
 abbrev pub StandsAt : {T : Type 0} → Phase T → QueueHolder T → Type 0
 StandsAt phase me = me.0.phase ≡ Some (Alike phase)
 
--- the seat stands at such a phase of some item
+-- the seat is at this phase with some item
 abbrev pub StandsWithItem : {T : Type 0} → (T → Phase T) → QueueHolder T → Type 0
 StandsWithItem {T} phase_of me = (x : T) × StandsAt (phase_of x) me
 
@@ -26,7 +26,8 @@ StandsWithItem {T} phase_of me = (x : T) × StandsAt (phase_of x) me
 abbrev pub StoresItem : {T : Type 0} → Place → QueueHolder T → Type 0
 StoresItem {T} at me = (x : T) × (me.0.phase ≡ Some (Alike (StoreItem at.ticket x))) × ((others : List (ℕ × Option T)) × (me.1 ≡ (at.cell, Some x) ∷ others))
 
--- the token is of this table, which was made with this key for this many seats, and is that of one seat, which stands so
+-- the token belongs to this table, which was made with this key for this many seats. It is the token of one seat; `stands` holds
+-- for its view and its slots.
 pub record IsTokenOf {T : Type 0} (id : TableId) (key : QueueLimits) (seats : ℕ) (stands : QueueHolder T → Type 0) (token : QueueToken T) : Type 0 where
   pub table : FitsTable token.table_id id key seats
   pub seat : HasOneName token.me.0
@@ -54,7 +55,7 @@ pub record IsFreeTokenAt {T : Type 0} (id : TableId) (key : QueueLimits) (seats 
   pub free : token.me.1 ≡ []
   pub phase : stands token.me
 
--- a step leaves the token with its table, and tells this of the seat's name and of what the token knows now
+-- a step leaves the token with its table, and `tells` holds for the seat's name and for what the token knows now
 pub record Tells {T : Type 0} (old new : QueueToken T) (tells : ℕ → QueueHolder T → Type 0) : Type 0 where
   pub same : new.table_id ≡ old.table_id
   pub told : Named old.me (λ n. tells n new.me)

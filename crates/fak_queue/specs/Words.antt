@@ -13,7 +13,7 @@ abbrev pub shut_part : Bool → ℕ
 shut_part true = 9223372036854775808
 shut_part false = 0
 
--- where the counts, the ticket counters and the turns of the cells stand
+-- the indices of the counts, the ticket counters and the turns of the cells
 abbrev pub upper_word : ℕ
 upper_word = 16
 

@@ -1,28 +1,30 @@
 //! How a seat leaves its queue to others for a while.
 //!
-//! Two seats that call by turns fetch each cache line from one another in each call. So if a test finds that others have
-//! changed its count since the seat's last call, the seat soon pauses by `Backoff`: before an `insert` or a `delete`, or when
-//! `Queue::pause` is called. Meanwhile another seat has each line at hand.
+//! Two seats that call by turns fetch each cache line from one another in each call. So a seat soon pauses by `Backoff` if a
+//! test shows that others have changed its count since the seat's last call. It pauses before an `insert`, a
+//! `delete` or a burst, or when `Queue::pause` is called. Meanwhile another seat keeps each line in its own cache.
 //!
-//! A pause takes as long as some hundred calls, and at most one call in 100 pauses. So 99 of 100 calls are as fast as without
-//! pauses, and faster if the others pause. A claim never pauses, and no contract sees a pause.
+//! A pause takes about as long as a hundred calls, and on average a seat pauses at most once for 100 tickets. So 99 of 100
+//! calls for one item are as fast as without pauses, and faster while others pause. A claim
+//! never pauses, and no contract mentions a pause.
 
 use crossbeam_utils::Backoff;
 
-/// The tickets that a seat draws for each of its pauses: a little more than 100.
+/// A seat draws this many tickets for each of its pauses: a little more than 100. So one call in 100 pauses at most, if each is
+/// for one item.
 const TICKETS_FOR_A_PAUSE: u64 = 112;
 
-/// A seat saves tickets for this many pauses at most. If many seats meet at once, they need a few pauses in a row before one
-/// of them is left.
+/// A seat saves tickets for this many pauses at most. If many seats meet at once, they need a few pauses in a row until only
+/// one of them goes on.
 const MOST_SAVED_PAUSES: u64 = 4;
 
-/// A seat draws this many tickets at least between two pauses. So of two seats that meet, the one that has just paused goes on.
+/// A seat draws at least this many tickets between two pauses. So if two seats meet, the one that has just paused goes on.
 const FEWEST_TICKETS_BETWEEN: u64 = 16;
 
-/// A queue of fewer cells is full or empty before a pause is worth it.
+/// With fewer cells no seat pauses: the queue is full or empty before a pause is worth its time.
 const FEWEST_CELLS: u64 = 64;
 
-/// More cells make a pause no longer.
+/// A pause in a queue of more cells is no longer than in one of this many.
 const MOST_CELLS: u64 = 1024;
 
 /// How often a pause spins for each cell.
@@ -31,7 +33,7 @@ const SPINS_FOR_A_CELL: u64 = 6;
 /// In its longest rounds `Backoff` spins this many times.
 const LONGEST_ROUND: u64 = 64;
 
-/// The rounds of `Backoff` that are shorter.
+/// The number of the first rounds of `Backoff`, which are shorter.
 const SHORT_ROUNDS: u64 = 6;
 
 /// What a seat knows of the counts of its queue, which others change too.
@@ -41,18 +43,18 @@ pub(crate) struct SharedCounts {
     upper: u64,
     /// The word of the lower count as the seat left it.
     lower: u64,
-    /// Whether a test has found since the last look that others changed its count.
+    /// Whether others have changed a count, as a test has found since this flag was last cleared.
     is_contended: bool,
     /// Whether insertions and deletions pause by themselves.
     pub(crate) pauses_in_calls: bool,
     /// The tickets that were left at the last pause; at first the stint.
     left_then: u64,
-    /// The tickets that were saved for pauses then.
+    /// The tickets that were still saved for pauses after that pause.
     saved_then: u64,
 }
 
 impl SharedCounts {
-    /// Before the first test of a seat that may draw this many tickets.
+    /// The counts before the first test of a seat that may draw this many tickets.
     pub(crate) fn new(stint: u64) -> SharedCounts {
         SharedCounts {
             upper: 0,
@@ -112,7 +114,7 @@ impl SharedCounts {
         }
     }
 
-    /// Pauses if others changed a count and the seat has drawn tickets enough for a pause.
+    /// Pauses if others changed a count, the queue has cells enough, and the seat has drawn and saved tickets enough.
     pub(crate) fn pause_where_contended(&mut self, size: u64, left: u64) {
         if !self.is_contended {
             return;
@@ -132,7 +134,7 @@ impl SharedCounts {
     }
 }
 
-/// Spins a few times for each cell.
+/// Spins a few times for each cell, by rounds of `Backoff`.
 fn pause(size: u64) {
     let backoff = Backoff::new();
     for _ in 0..size.min(MOST_CELLS) * SPINS_FOR_A_CELL / LONGEST_ROUND + SHORT_ROUNDS {

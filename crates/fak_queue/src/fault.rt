@@ -4,7 +4,7 @@ use crate::seat::Seat;
 use std::error::Error;
 use std::fmt;
 
-/// Why a queue was not opened. Of several faults the first is answered.
+/// Why a queue was not opened. If several faults apply, the first is returned.
 #[derive(Clone, Copy, Debug, PartialEq, Eq, Drop)]
 pub enum OpenFault {
     /// The size isn't 1 to 4,096.
@@ -17,7 +17,7 @@ pub enum OpenFault {
     Memory,
 }
 
-/// Why an insertion was refused. The item comes back. Of several refusals the first is answered.
+/// Why an insertion was refused. The item comes back. If several refusals apply, the first is returned.
 #[derive(Clone, Copy, Debug, PartialEq, Eq, Drop)]
 pub enum InsertFault<T> {
     /// The seat has drawn all the tickets of its stint.
@@ -39,7 +39,8 @@ pub enum InsertFault<T> {
     },
 }
 
-/// Why a burst of insertions was refused. All its items stay with the caller. Of several refusals the first is returned.
+/// Why a burst of insertions was refused. All its items stay with the caller. If several refusals apply, the first is
+/// returned.
 #[derive(Clone, Copy, Debug, PartialEq, Eq, Drop)]
 pub enum BurstFault {
     /// The bundle's seats have drawn all the tickets of their stint.
@@ -53,7 +54,7 @@ pub enum BurstFault {
     },
 }
 
-/// Why no bundle was made. Of several faults the first is answered.
+/// Why no bundle was made. If several faults apply, the first is returned.
 #[derive(Drop)]
 pub enum BundleFault<T> {
     /// There was no seat.
@@ -65,12 +66,12 @@ pub enum BundleFault<T> {
     },
 }
 
-/// Why a deletion was refused. Of several refusals the first is answered.
+/// Why a deletion was refused. If several refusals apply, the first is returned.
 #[derive(Clone, Copy, Debug, PartialEq, Eq, Drop)]
 pub enum DeleteFault {
     /// The seat has drawn all the tickets of its stint.
     Worn,
-    /// The queue had no item; the lower count that the test or the subtraction found.
+    /// The queue had no item. This is the lower count that the test or the subtraction found.
     Empty(i64),
 }
 

@@ -1,4 +1,4 @@
-//! What the rule of a running queue says of its cells and its words, between any two atomic steps of its seats.
+//! What the rule of a running queue states of its cells and its words, between any two atomic steps of its seats.
 
 pub mod bundles;
 pub mod examples;

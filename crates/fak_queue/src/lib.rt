@@ -4,14 +4,14 @@
 //!
 //! - `Queue::<T>::open(alloc, size, seats, stint)` returns the queue and all its seats. A thread calls with a seat of its own.
 //!   `open_large` opens a queue of more cells and seats.
-//! - `Port::new(&queue, seat)` is a queue and its seat as one value, whose calls have no condition: the way to begin.
+//! - `Port::new(&queue, seat)` is a queue and its seat as one value, whose calls have no condition. Begin with it.
 //! - `insert` and `delete` make one attempt; `wait_insert` and `wait_delete` wait while the queue is full or empty;
 //!   `claim_insert` with `try_fill`, and `claim_delete` with `try_take`, never wait.
 //! - `Bundle::of(alloc, &queue, seats)` is several seats that call together: `insert_burst` and `delete_burst` claim for several
 //!   items at once, and have forms that wait, and forms that never do.
 //! - `shut` refuses later insertions; deletions go on. `cells_in_use`, `items_ready` and `is_drained` observe the counts.
 //! - `Tally::of(seat)` and `Queue::join` bring the seats back together; with all of them `Queue::close` returns a `Rest`, what is left.
-//! - Callers owe that a seat is of this queue and idle: `IsIdleSeat queue.now.object seat`.
+//! - Callers owe that a seat belongs to this queue and is idle: `IsIdleSeat queue.now.object seat`.
 //! - To cite: `Inserts`, `Deletes` and their like (`specs/Queues.antt`, `specs/Retries.antt`), and the laws of `fak_model::laws`.
 //!
 //! `docs/CALLING.md` is the guide for callers; `crates/example_workers` and `crates/example_frames` are programs to copy.

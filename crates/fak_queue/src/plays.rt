@@ -1,4 +1,4 @@
-//! What each atomic step of a seat tells it. Only the proofs use these types.
+//! What each atomic step of a seat shows to it. Only the proofs use these types.
 
 ghost use Rattle.std.specs.Prelude.{ℕ, Option, None};
 ghost use Rattle.fak_queue.specs.Steps.{
@@ -195,7 +195,7 @@ impl<T, J: Call<T>> Play<Option<T>, View<Mark<T>, Standing<T>>> for ObserveLowPl
     ghost then = { λ s m found after. ObservesLow s.slots J.seats m found after };
 }
 
-/// The load of a token whose names all rest.
+/// The load of a token whose names are all at rest.
 pub struct SettlePlay<J> {
     call: PhantomData<J>,
 }

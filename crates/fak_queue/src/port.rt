@@ -17,12 +17,12 @@ use std::fmt;
 use std::sync::Wait;
 
 /// A queue with an idle seat of it. The type keeps what each call of the queue requires, so that the calls of a port
-/// require nothing. What they ensure is said of the port's seat, before and after.
+/// require nothing. What they ensure is stated of the port's seat, before and after.
 #[derive(Drop)]
 pub struct Port<'q, T> {
     /// The queue.
     pub queue: &'q Queue<T>,
-    /// The seat, which is of this queue and idle.
+    /// The seat, which belongs to this queue and is idle.
     pub seat: Seat<T>,
     pub ghost idle: { IsIdleSeat queue.now.object seat },
 }
@@ -95,7 +95,7 @@ impl<'q, T: Drop> Port<'q, T> {
         self.queue.wait_delete(rt, &mut self.seat)
     }
 
-    /// Shuts the queue: insertions are refused from now on, deletions go on. Tells whether it was open before.
+    /// Shuts the queue: insertions are refused from now on, deletions go on. Returns whether it was open before.
     pub fn shut(&mut self) -> bool
         ensures queue { self.new.queue ≡ self.old.queue }
         ensures left { drawn_by self.new.seat ≡ drawn_by self.old.seat }
@@ -135,8 +135,7 @@ impl<'q, T: Drop> Port<'q, T> {
         self.queue.is_drained(&mut self.seat)
     }
 
-    /// Leaves the queue to others for a while if since the last pause a call has found that others use it too
-    /// (`Queue::pause`).
+    /// Leaves the queue to others for a while, if a call has found that they use it too (`Queue::pause`).
     pub fn pause(&mut self)
         ensures queue { self.new.queue ≡ self.old.queue }
         ensures seat { self.new.seat ≡ self.old.seat }

@@ -387,11 +387,12 @@ impl<T: Drop> Queue<T> {
         ))
     }
 
-    /// Leaves the queue to others for a while if since the seat's last pause a call has found that others use it too. It
-    /// spins, for some 40 microseconds at most in code that LLVM builds, and waits for nobody.
+    /// Leaves the queue to others for a while, if a call of the seat has found that they use it too. The seat must have drawn
+    /// tickets enough since its last pause, and the queue must have cells enough. The pause spins, for some 40 microseconds at
+    /// most in code that LLVM builds, and waits for nobody.
     ///
-    /// `insert`, `delete` and the calls that wait begin so by themselves, unless `Seat::set_pauses_in_calls` says that they
-    /// don't. Claims never pause. No contract sees a pause.
+    /// `insert`, `delete` and the calls that wait begin with such a pause, unless `Seat::set_pauses_in_calls` has turned this
+    /// off. Claims never pause. No contract mentions a pause.
     pub fn pause(&self, seat: &mut Seat<T>)
         ensures { seat.new ≡ seat.old }
     {
@@ -399,7 +400,7 @@ impl<T: Drop> Queue<T> {
             .pause_where_contended(self.cells.size, seat.left);
     }
 
-    /// Shuts the queue: insertions are refused from now on, deletions go on. Tells whether it was open before.
+    /// Shuts the queue: insertions are refused from now on, deletions go on. Returns whether it was open before.
     pub fn shut(&self, seat: &mut Seat<T>) -> bool
         requires object { seat.old.object ≡ self.now.object }
         requires idle { state_of seat.old ≡ Idle }

@@ -1,4 +1,4 @@
-//! Tokens whose names all rest: what a load tells one, and a join of two.
+//! Tokens whose names are all at rest: what a load shows to one, and a join of two.
 
 ghost use Rattle.std.specs.Prelude.{◌≡◌, ◌≤◌, Some, []};
 ghost use Rattle.fak_model.specs.Tokens.{IsTallyToken};
@@ -15,7 +15,7 @@ use crate::words::UPPER;
 use fak_model::Both;
 use std::marker::Brand;
 
-/// A load that tells a token whose names all rest what it knows.
+/// Loads the upper count for a token whose names are all at rest, so that it learns what its history entails.
 fn settle<T, J: Call<T>>(words: &QueueWords<T>, token: &mut QueueToken<T>)
     requires { IsBundleToken words.now.table_id words.now.key J.seats (StandsAt Idle) token.old }
     ensures { TellsAll token.old token.new (λ after. Settles words.now.table_id.slots J.seats token.old.me after) }
@@ -23,7 +23,7 @@ fn settle<T, J: Call<T>>(words: &QueueWords<T>, token: &mut QueueToken<T>)
     words.load::<SettlePlay<J>>(token, UPPER);
 }
 
-/// Has a token whose names all rest know what it needs to be split or joined.
+/// Lets a token whose names are all at rest learn what a split or a join of it needs.
 pub(crate) fn rest<T>(words: &QueueWords<T>, token: &mut QueueToken<T>)
     requires token { IsBundleToken words.now.table_id words.now.key words.now.key.seats (λ me. StandsAt Idle me
         × (me.1 ≡ [])) token.old }
@@ -34,7 +34,7 @@ pub(crate) fn rest<T>(words: &QueueWords<T>, token: &mut QueueToken<T>)
     settle::<T, Brand>(words, token);
 }
 
-/// Joins another token; the names of both rest.
+/// Joins another token; the names of both are at rest.
 pub(crate) fn join_rested<T>(words: &QueueWords<T>, token: &mut QueueToken<T>, other: QueueToken<T>)
     requires token { IsBundleToken words.now.table_id words.now.key words.now.key.seats
         (IsTallyToken seat_of words.now.key.seats (Alike Idle)) token.old }

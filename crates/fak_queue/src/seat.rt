@@ -10,7 +10,7 @@ use fak_core::Phase;
 use std::fmt;
 use std::marker::Model;
 
-/// The right to insert into a queue and delete from it, as often as its stint says. Between a claim and the try that
+/// The right to insert into a queue and delete from it, as often as its stint allows. Between a claim and the try that
 /// fills the cell it keeps the item. Contracts see its object, its name, its stint and the history that it has seen.
 #[derive(Drop)]
 pub struct Seat<T> {

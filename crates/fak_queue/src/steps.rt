@@ -28,7 +28,8 @@ pub(crate) type QueueWords<T> = Shared<
     QueueRule,
 >;
 
-/// Sets the shut bit, and tells whether it was not set before.
+/// Sets the shut bit, and returns whether it was not set before. It comes between two calls of the seat. It is
+/// one fetch-and-or, so that only the first to shut the queue finds the bit unset, and no count changes.
 pub(crate) fn shut<T, J: Call<T>>(words: &QueueWords<T>, token: &mut QueueToken<T>) -> bool
     requires { IsTokenOf words.now.table_id words.now.key J.seats (StandsAt Idle) token.old }
     ensures { Tells token.old token.new (λ n after. ShutAs words.now.table_id.slots J.seats n result token.old.me after) }
@@ -37,7 +38,8 @@ pub(crate) fn shut<T, J: Call<T>>(words: &QueueWords<T>, token: &mut QueueToken<
     found < SHUT
 }
 
-/// After a join, a load that tells what it compared.
+/// Loads the upper count after a join. It follows `join_seat`, which compares two histories: the load lets the token learn
+/// the result, and changes nothing.
 pub(crate) fn hear<T, J: Call<T>>(words: &QueueWords<T>, token: &mut QueueToken<T>)
     requires table { FitsTable token.old.table_id words.now.table_id words.now.key J.seats }
     ensures { TellsAll token.old token.new (λ after. HeardJoin words.now.table_id.slots J.seats token.old.me after) }

@@ -14,8 +14,8 @@ use fak_model::NameSet;
 use std::fmt;
 use std::marker::Model;
 
-/// Seats of a queue that were joined and make no calls any more. Contracts see its object, the names of the seats and
-/// the longest history that one of them has seen.
+/// Seats of a queue that were joined and no longer call. Contracts see its object, the names of the seats and the longest
+/// history that one of them has seen.
 #[derive(Drop)]
 pub struct Tally<T> {
     pub(crate) token: QueueToken<T>,
@@ -60,7 +60,7 @@ impl<T: Drop> Tally<T> {
         }
     }
 
-    /// Whether all seats of the queue are in it. Then each mark of its history is of one of them, and no call is cut
+    /// Whether all seats of the queue are in it. Then each mark of its history belongs to one of them, and no call is cut
     /// short.
     pub fn is_whole(&self) -> bool
         ensures whole { IsTrue result ↔ IsWhole self.now.object.seats self.now.names }

@@ -22,7 +22,7 @@ use crate::found::NoRoom;
 use crate::in_use::InUse;
 use fak_model::{BIAS, count_of};
 
-/// The number of unused words before the first counter, and behind the last turn.
+/// The number of unused words before the first counter, and after the last turn.
 pub(crate) const MARGIN: usize = 16;
 
 /// The upper count, U.
@@ -43,7 +43,7 @@ pub(crate) const TURNS: usize = DRAWS_OUT + MARGIN;
 /// The bit of the upper count's word that is set if the queue is shut.
 pub(crate) const SHUT: u64 = 1 << 63;
 
-/// Whether this word of the upper count says that there is room in a queue of this size, or why not.
+/// Whether this word of the upper count shows room in a queue of this size, or why not.
 pub(crate) fn read_upper(found: u64, size: u64) -> Result<(), NoRoom>
     requires { size < 2 ^ 62 }
     ensures { IsUpperCount size found result }
@@ -57,7 +57,7 @@ pub(crate) fn read_upper(found: u64, size: u64) -> Result<(), NoRoom>
     }
 }
 
-/// Whether this word of the lower count says that there is an item, or the count that it says.
+/// Whether this word of the lower count shows an item, or the count that it shows.
 pub(crate) fn read_lower(found: u64) -> Result<(), i64>
     ensures { IsLowerCount found result }
 {
@@ -68,7 +68,7 @@ pub(crate) fn read_lower(found: u64) -> Result<(), i64>
     }
 }
 
-/// The upper count that this word says, and whether the queue is shut.
+/// The upper count that this word shows, and whether the queue is shut.
 pub(crate) fn read_in_use(found: u64) -> InUse
     ensures { IsInUse found result }
 {

@@ -21,8 +21,8 @@ use crate::place::Place;
 use crate::steps::{QueueToken, QueueWords};
 use crate::words::{DRAWS_OUT, LOWER, TURNS, UPPER};
 
-/// Tests the lower count for the burst's names, and returns its word. Only the proof uses the names and the number of
-/// those that take part.
+/// Tests the lower count for the burst's names, and returns its word. It comes first, so that a burst that finds no item
+/// changes no count. Only the proof uses the names and the number of those that take part.
 pub(crate) fn test_low_burst<T, J: Takers<T>>(
     words: &QueueWords<T>,
     token: &mut QueueToken<T>,
@@ -38,7 +38,8 @@ pub(crate) fn test_low_burst<T, J: Takers<T>>(
     words.load::<TestLowBurstPlay<J>>(token, LOWER)
 }
 
-/// Subtracts the number of the burst's names from the lower count, and returns what it was before.
+/// Subtracts the number of the burst's names from the lower count, and returns what it was before. It follows a
+/// `test_low_burst` that found an item; what it returns decides how many names are granted.
 pub(crate) fn sub_burst<T, J: Takers<T>>(
     words: &QueueWords<T>,
     token: &mut QueueToken<T>,
@@ -55,7 +56,8 @@ pub(crate) fn sub_burst<T, J: Takers<T>>(
     words.fetch_sub::<SubBurstPlay<J>>(token, LOWER, count)
 }
 
-/// Gives back what was subtracted for the burst's names.
+/// Gives back what was subtracted for these names. It follows a `sub_burst` that left no items for them; until then others
+/// may be refused.
 pub(crate) fn back_low_burst<T, J: Takers<T>>(
     words: &QueueWords<T>,
     token: &mut QueueToken<T>,
@@ -73,7 +75,8 @@ pub(crate) fn back_low_burst<T, J: Takers<T>>(
     words.fetch_add::<BackLowBurstPlay<J>>(token, LOWER, count);
 }
 
-/// Draws a deletion's ticket for each of the burst's names, and returns the first.
+/// Draws a deletion's ticket for each of the burst's names, and returns the first. It follows `sub_burst`, and draws only
+/// for the names that this granted: one step, so that the burst's tickets follow one another.
 pub(crate) fn draw_out_burst<T, J: Takers<T>>(
     words: &QueueWords<T>,
     token: &mut QueueToken<T>,
@@ -91,7 +94,8 @@ pub(crate) fn draw_out_burst<T, J: Takers<T>>(
     words.fetch_add::<DrawOutBurstPlay<J>>(token, DRAWS_OUT, count)
 }
 
-/// Loads the turn of the cell of one name's ticket. Only the proof uses the name.
+/// Loads the turn of the cell of one name's ticket. It follows `draw_out_burst`, whose tickets determine the cells; if the
+/// turn has come, the load gives the name the slot with the item. Only the proof uses the name.
 pub(crate) fn turn_out_burst<T, J: OneName>(
     words: &QueueWords<T>,
     token: &mut QueueToken<T>,
@@ -106,7 +110,8 @@ pub(crate) fn turn_out_burst<T, J: OneName>(
     words.load::<TurnOutBurstPlay<J>>(token, place.cell + TURNS)
 }
 
-/// Gives one name's slot back empty, and makes its cell free for the next round.
+/// Gives one name's slot back empty, and makes its cell free for the next round. It follows the move of the item out of the
+/// slot, which the next round's insertion may take from here on.
 pub(crate) fn free_burst<T, J: OneName>(
     words: &QueueWords<T>,
     token: &mut QueueToken<T>,
@@ -122,7 +127,8 @@ pub(crate) fn free_burst<T, J: OneName>(
     words.store::<FreeBurstPlay<J>>(token, place.cell + TURNS, 2 * place.round + 2);
 }
 
-/// Subtracts the number of these names from the upper count, which ends their deletions.
+/// Subtracts the number of these names from the upper count, which ends their deletions. It follows `free_burst` for each
+/// of them, since insertions may claim all their cells from here on.
 pub(crate) fn end_out_burst<T, J: Ends>(
     words: &QueueWords<T>,
     token: &mut QueueToken<T>,

@@ -22,7 +22,8 @@ use crate::place::Place;
 use crate::steps::{QueueToken, QueueWords};
 use crate::words::{DRAWS_IN, LOWER, TURNS, UPPER};
 
-/// Tests the upper count for the burst's names, and returns its word.
+/// Tests the upper count for the burst's names, and returns its word. It comes first, so that a burst that finds no room
+/// changes no count.
 pub(crate) fn test_burst<T, J: Burst<T>>(
     words: &QueueWords<T>,
     token: &mut QueueToken<T>,
@@ -38,7 +39,8 @@ pub(crate) fn test_burst<T, J: Burst<T>>(
     words.load::<TestBurstPlay<J>>(token, UPPER)
 }
 
-/// Adds the number of the burst's names to the upper count, and returns what it was before.
+/// Adds the number of the burst's names to the upper count, and returns what it was before. It follows a `test_burst` that
+/// found room; what it returns decides how many names are granted.
 pub(crate) fn add_burst<T, J: Burst<T>>(
     words: &QueueWords<T>,
     token: &mut QueueToken<T>,
@@ -55,7 +57,8 @@ pub(crate) fn add_burst<T, J: Burst<T>>(
     words.fetch_add::<AddBurstPlay<J>>(token, UPPER, count)
 }
 
-/// Takes back what was added for the burst's names.
+/// Takes back what was added for these names. It follows an `add_burst` that left no room for them; until then others may
+/// be refused.
 pub(crate) fn back_burst<T, J: Burst<T>>(
     words: &QueueWords<T>,
     token: &mut QueueToken<T>,
@@ -73,7 +76,8 @@ pub(crate) fn back_burst<T, J: Burst<T>>(
     words.fetch_sub::<BackBurstPlay<J>>(token, UPPER, count);
 }
 
-/// Draws a ticket for each of the burst's names, and returns the first.
+/// Draws a ticket for each of the burst's names, and returns the first. It follows `add_burst`, and draws only for the
+/// names that this granted: one step, so that the burst's tickets follow one another.
 pub(crate) fn draw_burst<T, J: Burst<T>>(
     words: &QueueWords<T>,
     token: &mut QueueToken<T>,
@@ -91,7 +95,8 @@ pub(crate) fn draw_burst<T, J: Burst<T>>(
     words.fetch_add::<DrawBurstPlay<J>>(token, DRAWS_IN, count)
 }
 
-/// Loads the turn of the cell of one name's ticket. Only the proof uses the name.
+/// Loads the turn of the cell of one name's ticket. It follows `draw_burst`, whose tickets determine the cells; if the turn
+/// has come, the load gives the name the slot. Only the proof uses the name.
 pub(crate) fn turn_burst<T, J: OneName>(
     words: &QueueWords<T>,
     token: &mut QueueToken<T>,
@@ -106,7 +111,8 @@ pub(crate) fn turn_burst<T, J: OneName>(
     words.load::<TurnBurstPlay<J>>(token, place.cell + TURNS)
 }
 
-/// Gives one name's slot back with its item, and makes its cell full.
+/// Gives one name's slot back with its item, and makes its cell full. It follows the move of the item into the slot, which
+/// the deletion of the same ticket may take from here on.
 pub(crate) fn fill_burst<T, J: OneName>(
     words: &QueueWords<T>,
     token: &mut QueueToken<T>,
@@ -122,7 +128,8 @@ pub(crate) fn fill_burst<T, J: OneName>(
     words.store::<FillBurstPlay<J>>(token, place.cell + TURNS, 2 * place.round + 1);
 }
 
-/// Adds the number of these names to the lower count, which ends their insertions.
+/// Adds the number of these names to the lower count, which ends their insertions. It follows `fill_burst` for each of
+/// them, since deletions may claim all their items from here on.
 pub(crate) fn end_burst<T, J: Ends>(
     words: &QueueWords<T>,
     token: &mut QueueToken<T>,

@@ -1,4 +1,4 @@
-//! What each atomic step of a burst tells the bundle. Only the proofs use these types.
+//! What each atomic step of a burst shows to the bundle. Only the proofs use these types.
 
 ghost use Rattle.std.specs.Prelude.{ℕ, Bool, false, List, []};
 ghost use Rattle.fak_queue.specs.declared.standing.Standing.TheVariants.{Each};
@@ -11,8 +11,8 @@ use atomic_table::Play;
 use fak_model::{Mark, View};
 use std::marker::{Brand, PhantomData};
 
-/// The burst that a step belongs to: the number of seats, the names that step, each with its item, and where the others
-/// stand.
+/// The burst that a step belongs to: the number of seats, the names that step, each with its item, and the posts of the
+/// others.
 pub trait Burst<T> {
     ghost use Rattle.fak_core.specs.QueueBlocks.{Posts};
     ghost use Rattle.fak_queue.specs.declared.standing.Standing.{Standing};
@@ -23,11 +23,11 @@ pub trait Burst<T> {
 
     ghost others: { Posts T };
 
-    // What its view says then, where some steps leave a choice.
+    // What its view states then, since some steps leave a choice.
     ghost then: { Standing T };
 }
 
-/// The names that end their insertions or deletions, each with its ticket, and whether all names rest then.
+/// The names that end their insertions or deletions, each with its ticket, and whether all names are at rest then.
 pub trait Ends {
     ghost seats: { ℕ };
 

@@ -1,4 +1,4 @@
-//! A known case on either side of what the rule says of a queue's seats.
+//! A known case on either side of what the rule states of a queue's seats.
 
 ghost use Rattle.std.specs.Prelude.{ℕ, [], ◌∷◌};
 ghost use Rattle.fak_core.specs.QueueSchedule.{Inserts, reached};
