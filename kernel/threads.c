@@ -1,7 +1,7 @@
 /* Threads, which are not preempted, and the loop of each processor that runs them.
  *
  * A thread that stops says what becomes of it, and goes back to its processor's stack. Only there is it put into a list or a semaphore.
- * So the processor that takes it out finds that its stack was left. */
+ * When a processor takes it out, its stack is free to use. */
 #include "kernel.h"
 
 processor_state processor_states[PROCESSORS];

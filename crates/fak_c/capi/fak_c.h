@@ -350,8 +350,8 @@ int32_t fak_c_bundle_state(fak_c_seat *bundle, uint32_t *state, uint64_t *ticket
  * A down subtracts 1, and passes if it found at least 1; else its item is parked in the wait queue. An up adds 1. If it found less
  * than 0, it wakes the oldest parked item, which the caller goes on with. What waits is the item, for instance a thread of a kernel. A
  * down that parks, and an up that wakes, are made by steps: a kernel leaves the thread's stack between fak_c_sem_claim_down and
- * fak_c_sem_try_park. So the caller that wakes the thread finds that its stack was left. Once the item is parked another processor may
- * run it: write its state before fak_c_sem_claim_down, and don't touch it after fak_c_sem_try_park's FAK_C_OK. */
+ * fak_c_sem_try_park. So no stack is still in use when its thread is woken. Once the item is parked another processor may run it: write
+ * its state before fak_c_sem_claim_down, and don't touch it after fak_c_sem_try_park's FAK_C_OK. */
 
 /* The state of a semaphore's seat, as fak_c_sem_state writes it. */
 enum {

@@ -1,4 +1,4 @@
-//! The answers of the commands to an input, compared with what is wanted.
+//! What the commands return for an input, compared with what is wanted.
 
 use crate::rows::Row;
 use crate::rows::schedules::ROOM_REFUSED_AT_ITS_TEST;
