@@ -61,7 +61,7 @@ void count_failure(void);
 /* What a run took for an item: nanoseconds, transfers of lines, and failed changes. */
 struct tally { double nanos, transfers, failures; };
 
-/* Runs `body` on each processor until so many items are counted, after as many that are not. */
+/* Runs `body` on each processor until this many items are counted, after as many that are not. */
 struct tally simulate(int processors, enum machine machine, long items, uint64_t seed, void (*body)(void));
 
 /* A queue: `open` empties it, `put` and `get` wait for room and for an item. */

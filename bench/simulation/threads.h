@@ -14,6 +14,6 @@ struct spread { double best, median, worst; };
 /* Called first by each thread: takes the processor of this number, and waits for the others. */
 void begin_as(int number);
 
-/* The nanoseconds of a round of so many threads, over several rounds. `open` comes before each. */
+/* The nanoseconds of a round of this many threads, over several rounds. `open` comes before each. */
 struct spread time_of(void (*open)(void), void *(*work)(void *), int threads);
 #endif

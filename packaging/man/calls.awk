@@ -1,5 +1,5 @@
 # Writes the header of the library for C as sections of a man page: its comments as text, its declarations as they are. With `code` set it
-# writes any file as it is. Only a comment that begins its line is text. Of a function with a body only the first line is written.
+# writes any file as it is. Only a comment that begins its line is text. For a function with a body only the first line is written.
 
 function escaped(line) {
     gsub(/\\/, "\\e", line)

@@ -1,5 +1,5 @@
 # Turns the traces FOLDER/queue.I.found into histories FOLDER/history.I.json, and breaks each in one place:
-# FOLDER/broken.I.json. Beside them is what `fak check` must say of them, by the judge of history.awk (the verdict,
+# FOLDER/broken.I.json. Next to them is what `fak check` must say of them, by the judge of history.awk (the verdict,
 # then its status). A trace's own history is to be legal, whatever the judge says.
 # Variables: seed, count, folder.
 

@@ -53,7 +53,7 @@ pub struct BoxSeat<T: Send> {
 
 // What all seats of a queue share.
 struct Queue<T> {
-    // It makes no call before the last of the other seats was dropped, so it can still delete all that may be in the queue.
+    // It is not used before the last of the other seats was dropped, so it can still delete all that may be in the queue.
     keeper: Seat,
     // The seats that were dropped during a call.
     open: AtomicPtr<Node>,
@@ -67,8 +67,8 @@ struct Node {
     next: *mut Node,
 }
 
-// SAFETY: a seat may go to another thread, and so may the boxes. Of what seats share, `open` is atomic, and only the drop of the last seat
-// uses the rest.
+// SAFETY: a seat may go to another thread, and so may the boxes. Among what seats share, `open` is atomic, and only the drop of the last
+// seat uses the rest.
 unsafe impl<T: Send> Send for BoxSeat<T> {}
 
 // The word of a box, which owns it.

@@ -10,7 +10,7 @@ use std::sync::Wait;
 
 /// A queue in the hands of one thread, whose calls may be refused.
 pub trait Attempts: Drop {
-    /// Tries to put the number in. Tells whether it went in.
+    /// Tries to put the number in. Returns whether it went in.
     fn try_put<R: Wait>(&mut self, rt: &R, number: u64) -> bool;
 
     /// Tries to take the oldest number out.
@@ -40,7 +40,7 @@ pub struct SeatAttempts<'q> {
     pub manner: Manner,
 }
 
-/// Claims room for the number, and tries until it is in its cell. Tells whether the claim was granted.
+/// Claims room for the number, and tries until it is in its cell. Returns whether the claim was granted.
 fn claim_put<R: Wait>(rt: &R, queue: &Queue<u64>, seat: &mut Seat<u64>, number: u64) -> bool
     requires { IsIdleSeat queue.now.object seat.old }
     ensures { IsIdleSeat queue.now.object seat.new }

@@ -11,7 +11,7 @@ pub trait EntryHandle: Drop {
     /// Reads the entry.
     fn read<R: Wait>(&mut self, rt: &R) -> Option<FileEntry>;
 
-    /// Adds 1 to both fields of the entry, at once. Tells whether it did.
+    /// Adds 1 to both fields of the entry, at once. Returns whether it did.
     fn write<R: Wait>(&mut self, rt: &R) -> bool;
 }
 

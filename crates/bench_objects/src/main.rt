@@ -1,4 +1,4 @@
-//! Measures the queue, the semaphore, the file table and the channel from Rust, next to what the kit has.
+//! Measures the queue, the semaphore, the file table and the channel from Rust, next to what the toolchain has.
 //!
 //! Without words it runs each case once for a short time, and prints that what went in came out once. With `--figures` it prints,
 //! for each case, the best, the median and the worst of several rounds, in nanoseconds for an item or a call. With `--tails` it

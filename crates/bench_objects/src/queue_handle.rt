@@ -14,7 +14,7 @@ use std::sync::{Mutex, Wait};
 
 /// A queue in the hands of one thread.
 pub trait QueueHandle: Drop {
-    /// Puts the item of this number in, and waits while there is no room. Tells whether it went in.
+    /// Puts the item of this number in, and waits while there is no room. Returns whether it went in.
     fn put<R: Wait>(&mut self, rt: &R, number: u64) -> bool;
 
     /// Takes the oldest item out, and waits while there is none. Returns its number.

@@ -74,7 +74,7 @@ const GIVEN_UP: u64 = 1 << 32;
 /// How often a thread looks for the others before it gives up.
 const LOOKS: u64 = 100_000_000;
 
-/// Waits until this many threads have come. Tells whether all did.
+/// Waits until this many threads have come. Returns whether all did.
 fn meet(come: &AtomicU64, threads: u64) -> bool {
     come.fetch_add(1, Ordering::SeqCst);
     for _ in 0..LOOKS {

@@ -8,10 +8,10 @@ use std::thread::Parker;
 
 /// A counting semaphore in the hands of one thread.
 pub trait SemaphoreHandle: Drop {
-    /// Adds 1, and wakes a thread that waits. Tells whether it did.
+    /// Adds 1, and wakes a thread that waits. Returns whether it did.
     fn up<R: Wait>(&mut self, rt: &R) -> bool;
 
-    /// Subtracts 1, and waits until there is 1. Tells whether it did.
+    /// Subtracts 1, and waits until there is 1. Returns whether it did.
     fn down<R: Wait>(&mut self, rt: &R) -> bool;
 }
 

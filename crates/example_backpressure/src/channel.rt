@@ -29,7 +29,7 @@ pub struct Ends {
 }
 
 impl Ends {
-    /// Puts a buffer into the queue. Tells whether the seat was neither worn nor the queue shut.
+    /// Puts a buffer into the queue. Returns whether the seat was neither worn nor the queue shut.
     fn put<R: Wait>(&mut self, rt: &R, channel: &Channel, buffer: Buffer) -> bool
         requires { AreEnds channel.now.queue.object channel.now.semaphore.object self.old }
         ensures ends { AreEnds channel.now.queue.object channel.now.semaphore.object self.new }
@@ -41,7 +41,7 @@ impl Ends {
         }
     }
 
-    /// Sends a buffer: through the semaphore into the queue, or else it is held back at the semaphore. Tells whether it was not lost.
+    /// Sends a buffer: through the semaphore into the queue, or else it is held back at the semaphore. Returns whether it was not lost.
     pub fn send<R: Wait>(&mut self, rt: &R, channel: &Channel, buffer: Buffer) -> bool
         requires { AreEnds channel.now.queue.object channel.now.semaphore.object self.old }
         ensures ends { AreEnds channel.now.queue.object channel.now.semaphore.object self.new }
@@ -54,7 +54,7 @@ impl Ends {
         }
     }
 
-    /// Makes room for one more buffer: one that was held back goes into the queue. Tells whether it was not lost.
+    /// Makes room for one more buffer: one that was held back goes into the queue. Returns whether it was not lost.
     pub fn make_room<R: Wait>(&mut self, rt: &R, channel: &Channel) -> bool
         requires { AreEnds channel.now.queue.object channel.now.semaphore.object self.old }
         ensures ends { AreEnds channel.now.queue.object channel.now.semaphore.object self.new }

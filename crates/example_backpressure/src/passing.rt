@@ -10,7 +10,7 @@ use std::alloc::Global;
 use std::sync::Wait;
 use std::thread::{Threads, join};
 
-/// Sends all buffers. Tells whether none was lost.
+/// Sends all buffers. Returns whether none was lost.
 fn produce<R: Wait>(rt: &R, channel: &Channel, ends: &mut Ends, buffers: Vec<Buffer>) -> bool
     requires { AreEnds channel.now.queue.object channel.now.semaphore.object ends.old }
     ensures ends { AreEnds channel.now.queue.object channel.now.semaphore.object ends.new }
@@ -24,7 +24,7 @@ fn produce<R: Wait>(rt: &R, channel: &Channel, ends: &mut Ends, buffers: Vec<Buf
     true
 }
 
-/// Receives this many buffers, into this list. Tells whether none was lost.
+/// Receives this many buffers, into this list. Returns whether none was lost.
 fn consume<R: Wait>(
     rt: &R,
     channel: &Channel,

@@ -28,7 +28,7 @@ fn fill<R: Wait>(rt: &R, free: &Queue<Frame>, seat: Seat<Frame>, frames: u64) ->
     (port.into_seat(), true)
 }
 
-/// Takes a frame, uses it and gives it back, if there is one. Tells whether it was taken back.
+/// Takes a frame, uses it and gives it back, if there is one. Returns whether it was taken back.
 fn use_one<R: Wait>(rt: &R, free: &mut Port<'_, Frame>) -> bool
     ensures list { free.new.queue ≡ free.old.queue }
     ensures same { IsTrue result → Keeps free.old.seat free.new.seat }

@@ -53,7 +53,7 @@ type Sender = (Seat<Line>, bool);
 
 type Receiver = (Seat<Line>, Option<(u64, u64)>);
 
-/// Sends all lines. Tells whether none was refused.
+/// Sends all lines. Returns whether none was refused.
 fn send<R: Wait>(rt: &R, queue: &Queue<Line>, mut seat: Seat<Line>, lines: Vec<Line>) -> Sender
     requires { Stands queue.now.object 0 0 0 0 seat }
     ensures { Sent queue.now.object lines.items result.0 result.1 }

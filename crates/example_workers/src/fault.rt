@@ -1,6 +1,6 @@
-//! Why the pool has no answer.
+//! Why the pool returns no result.
 
-/// Why the pool has no answer.
+/// Why the pool returns no result.
 #[derive(Clone, Copy, Debug, PartialEq, Eq, Drop)]
 pub enum Fault {
     /// There are 1 to 63 workers.

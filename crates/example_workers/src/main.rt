@@ -2,7 +2,7 @@
 //!
 //! The calling thread puts jobs into a `fak_queue::Queue`, then one `Stop` for each worker, and shuts the queue. Each
 //! worker takes jobs in a thread of its own until it gets a `Stop`. Then the seats are joined and the queue is closed.
-//! Proved: the pool's answer is the answer of one thread (`leap_years`).
+//! Proved: the pool's result is that of one thread (`leap_years`).
 #![tactic(auto)]
 
 mod calls;

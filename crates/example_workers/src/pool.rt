@@ -74,7 +74,7 @@ fn work_all<R: Threads + Wait + Sync>(
     (queue.join(tally, seat), leap_years + others)
 }
 
-/// Puts all years in, then a `Stop` for each worker, and shuts the queue. Tells whether nothing was refused.
+/// Puts all years in, then a `Stop` for each worker, and shuts the queue. Returns whether nothing was refused.
 fn give<R: Wait>(
     rt: &R,
     queue: &Queue<Work>,

@@ -30,7 +30,7 @@
  * or the claim of a down. Call FAK_C_GETS(address) after the item was taken out, the down passed or the item woke. Any address that
  * both sides know will do, for instance that of a counter that a semaphore guards.
  *
- * Interrupts and signals. A handler may make every call except those that open and fak_c_leave, on one of two conditions:
+ * Interrupts and signals. A handler may call everything except fak_c_leave and the calls that open, on one of two conditions:
  * - It has seats of its own, which nobody else uses. Then it must not try again until FAK_C_OK: the call that it interrupted
  *   may be the one whose ticket comes first, and that call can't go on before the handler ends. It leaves its call open, and
  *   goes on when it runs next. An NMI handler has only this choice.
@@ -38,7 +38,7 @@
  *   use the seats of its processor, and try again until FAK_C_OK.
  *
  * The calls that open, and fak_c_leave, call the heap, which the interrupted code may be in. The forked child of a process with
- * threads makes no call.
+ * threads must not call any of these.
  *
  * For kernels there are two archives with the same calls, libfak_c.a by `rt lib` and by `rt lib --backend rattle`. The first
  * uses SSE registers in any call, also if its caller is compiled without them; the second only in calls that open or free an
@@ -188,7 +188,7 @@ enum {
     FAK_C_DELETING = 2   /* a deletion was claimed: fak_c_try_take is next */
 };
 
-/* Opens an empty queue of `size` cells (1 to 2^24). The stint is of insertions and deletions together. */
+/* Opens an empty queue of `size` cells (1 to 2^24). The stint counts insertions and deletions together. */
 int32_t fak_c_open(fak_c_seat *seats, size_t n, uint64_t size, uint64_t stint);
 
 /* Claims room for the item, and writes the insertion's ticket: the number of insertions granted before. The seat keeps the
@@ -264,10 +264,10 @@ int32_t fak_c_state(fak_c_seat *seat, uint32_t *state, uint64_t *ticket, uint64_
  * since. None waits, changes the queue's history, or counts against the stint. The seat may be in any state. FAK_C_OK or
  * FAK_C_NO_SEAT, which writes nothing.
  *
- * fak_c_count writes the items that are ready: insertions that have ended, less the deletions begun and not withdrawn. While no other
+ * fak_c_count writes the items that are ready: insertions that have ended, minus the deletions begun and not withdrawn. While no other
  * seat is in a call it is the number of items. It is below 0 while deletions are refused; read 0 then.
  *
- * fak_c_in_use writes the cells in use, insertions begun and not withdrawn, less deletions that have ended, and whether the queue
+ * fak_c_in_use writes the cells in use, insertions begun and not withdrawn, minus deletions that have ended, and whether the queue
  * is shut. It is at least 0, and above the size while insertions are refused.
  *
  * fak_c_drained writes whether the queue is shut and has no cell in use. That never changes again, and no deletion finds an item then:
@@ -283,7 +283,7 @@ int32_t fak_c_drained(fak_c_seat *seat, bool *is_drained);
  * has several items at a time: a processor, for instance, that fills or drains a cache of pages, packets or buffers.
  *
  * - A burst claims what it finds: as many of its items as there is room for, or as many items as there are, but at most one for each seat
- *   of the bundle. The call writes how many these are. Of an insertion the first items are taken. The others stay with the caller.
+ *   of the bundle. The call writes how many these are. An insertion takes the first items. The others stay with the caller.
  * - The tickets of a burst are consecutive, in the order of its items. Insertions of others come before all of it or after all of it.
  * - In all else a burst is not atomic. Others may take its first items out while its last ones are not yet filled.
  * - Items that a burst has filled can be taken out, at the latest, once it is done or has returned FAK_C_NOT_YET. Cells that it has
@@ -396,7 +396,7 @@ int32_t fak_c_sem_state(fak_c_seat *seat, uint32_t *state, uint64_t *left);
 
 /* ---- Rooms: a count from 0 to a bound, of which seats claim amounts ---- */
 
-/* Opens a room whose count is 0, with this bound (0 to 2^32). The stint is of granted claims. */
+/* Opens a room whose count is 0, with this bound (0 to 2^32). The stint counts granted claims. */
 int32_t fak_c_room_open(fak_c_seat *seats, size_t n, uint64_t bound, uint64_t stint);
 
 /* Claims the amount, 1 to 1,024, if count and amount together are at most the bound. `found` is the count before.
@@ -417,7 +417,7 @@ int32_t fak_c_room_state(fak_c_seat *seat, uint64_t *held, uint64_t *left);
 
 /* ---- Credits: a count that moves by 1, with no bound ---- */
 
-/* Opens a credit that begins at `start` (0 to 2^32). The stint is of debits and credits together. */
+/* Opens a credit that begins at `start` (0 to 2^32). The stint counts debits and credits together. */
 int32_t fak_c_credit_open(fak_c_seat *seats, size_t n, uint64_t start, uint64_t stint);
 
 /* Subtracts 1, or adds 1. `found` is the count before; it may be below 0.
@@ -440,7 +440,7 @@ enum {
     FAK_C_FILES_WRITING = 2  /* no other seat holds the table */
 };
 
-/* Opens a table of `entries` entries (1 to 16), each with two fields, `inode` and `uses`, which are 0. The stint is of holds. */
+/* Opens a table of `entries` entries (1 to 16), each with two fields, `inode` and `uses`, which are 0. The stint counts holds. */
 int32_t fak_c_files_open(fak_c_seat *seats, size_t n, uint64_t entries, uint64_t stint);
 
 /* A reader's hold, and a writer's, by one attempt. The seat must hold nothing.

@@ -189,7 +189,7 @@ static fak_channel_end *take_idle(fak_channel_lender *lender) {
         uint64_t idle = __atomic_load_n(&lender->idle[i], __ATOMIC_SEQ_CST);
         while (idle != 0) {
             uint64_t bit = idle & (~idle + 1);
-            /* Of the callers that clear a bit one finds it set, and has the end. What the end's last caller wrote is there for it. */
+            /* One of the callers that clear a bit finds it set, and has the end. What the end's last caller wrote is there for it. */
             idle = __atomic_fetch_and(&lender->idle[i], ~bit, __ATOMIC_SEQ_CST);
             if ((idle & bit) != 0)
                 return &lender->ends[64 * i + (size_t)__builtin_ctzll(bit)];

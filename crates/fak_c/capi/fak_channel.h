@@ -14,7 +14,7 @@
  * - One call at a time on an end. Any number of threads call a shared channel at once.
  * - No signal handler calls an end or a shared channel. A handler may call by steps on an end of its own, as fak_c.h says. A handler
  *   may interrupt a call: the call goes on, and a signal doesn't end its sleep. No call is a cancellation point.
- * - A thread that is killed in a call holds up calls of others. The forked child of a process with threads makes no call.
+ * - A thread that is killed in a call holds up calls of others. The forked child of a process with threads must not call any of these.
  *
  * Order. What a thread wrote before it sent an item is there for the thread that receives it. What it wrote before it closed the
  * channel is there after a call that returns FAK_C_CLOSED. fak_channel.c tells ThreadSanitizer so, for sends, receives and closes: as if
@@ -127,7 +127,7 @@ int32_t fak_channel_try_receive(fak_channel_end *end, fak_channel_item *item);
 int32_t fak_channel_send_until(fak_channel_end *end, const fak_channel_item *item, uint64_t deadline);
 int32_t fak_channel_receive_until(fak_channel_end *end, fak_channel_item *item, uint64_t deadline);
 
-/* The deadline so many nanoseconds from now, by CLOCK_MONOTONIC. */
+/* The deadline `nanoseconds` from now, by CLOCK_MONOTONIC. */
 uint64_t fak_channel_deadline(uint64_t nanoseconds);
 
 /* Closes the channel, and never sleeps. Sends are refused as FAK_C_CLOSED from now on. Receivers get what is left, and then FAK_C_CLOSED.

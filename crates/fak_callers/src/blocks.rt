@@ -18,7 +18,7 @@ use fak_core::laws::blocks::{
 use fak_core::laws::queue::every_queue_schedule_is_legal;
 
 /// Whatever block follows a schedule, the marks are a legal history. The block of seats 3 and 5 is a step of seat 3 and then
-/// one of seat 5; where they are tested together, each begins just before its step.
+/// one of seat 5; if they are tested together, each begins just before its step.
 pub fn stays_legal<T>()
     ensures legal { (size : ℕ) (schedule : List (QueueEvent T)) (seats : Posts T) → 0 < size
         → AreApart (names_of seats) → Stand (reached size schedule) seats
@@ -52,7 +52,7 @@ pub fn two_look_for_room<T>()
 }
 
 /// Seats 1, 2 and 5 add 3 at once to the count 3 of four cells, which is 6 then: the first is granted, and the others are over.
-/// Seat 7 stands where it stood. At the count 2 the first two are granted. In a shut queue all three are late.
+/// Seat 7 does not move. At the count 2 the first two are granted. In a shut queue all three are late.
 pub fn three_claim_one_place<T>()
     ensures one { (st : QueueState T) (x y z : T) → st.shut ≡ false → st.upper ≡ pos 3
         → let after = block 4 st ((1, AddUp x) ∷ (2, AddUp y) ∷ (5, AddUp z) ∷ []) in
@@ -71,7 +71,7 @@ pub fn three_claim_one_place<T>()
     one_add_claims_several_insertions::<T>();
 }
 
-/// Two insertions are withdrawn at once, and the count 6 is 4 then. Two draw at once where seven had drawn: they hold tickets 7
+/// Two insertions are withdrawn at once, and the count 6 is 4 then. Two draw at once after seven had drawn: they hold tickets 7
 /// and 8, and their items come in this order. Two end at once, and the lower count grows from 1 to 3.
 pub fn two_draw_in_a_row<T>()
     ensures backs { (st : QueueState T) (x y : T) → st.upper ≡ pos 6
@@ -119,7 +119,7 @@ pub fn three_claim_two_items<T>()
     one_subtraction_claims_several_deletions::<T, ()>();
 }
 
-/// Two deletions are withdrawn at once, and the lower count grows from 0 to 2. Two draw at once where seven had drawn: seat 1
+/// Two deletions are withdrawn at once, and the lower count grows from 0 to 2. Two draw at once after seven had drawn: seat 1
 /// gets the item that was put under ticket 7, and seat 2 the one under ticket 8. Two end at once, and the upper count 4 is 2 then.
 pub fn two_get_in_a_row<T>()
     ensures backs { (st : QueueState T) → st.lower ≡ pos 0

@@ -53,7 +53,7 @@ pub fn pass_on<R: Wait>(
     let _ = queue.delete_burst(rt, bundle, 1, out);
 }
 
-/// Inserts a burst: its items stand under tickets that follow one another, in their order.
+/// Inserts a burst: its items have consecutive tickets, in their order.
 pub fn insert_in_order<R: Wait>(
     rt: &R,
     queue: &Queue<u64>,

@@ -35,7 +35,7 @@ pub fn a_slot_that_is_out_has_an_owner<T>()
     a_slot_is_out_while_its_cell_has_an_owner::<T>();
 }
 
-/// Where the shut bit is set, somebody has shut the queue.
+/// If the shut bit is set, somebody has shut the queue.
 pub fn a_set_bit_has_its_close<T>()
     ensures { (key : QueueLimits) (s : State (Option T) (QueueView T)) (shown : IsShownQueue key s)
         → shut_bit ≤ slice_index s.words 16 → Has Close shown.core.past }
@@ -51,7 +51,7 @@ pub fn who_calls_is_a_seat<T>()
     names_beyond_the_seats_are_idle::<T>();
 }
 
-/// While a call is open, the next steps of the queue's seats do not all leave their seats where they stand. Nor do those of the
+/// While a call is open, the next steps of the queue's seats do not all leave their seats as they are. Nor do those of the
 /// seats that hold a ticket of its cell, nor does its own if it holds none.
 pub fn never_all_stuck<T>()
     ensures call { (key : QueueLimits) (s : State (Option T) (QueueView T)) (shown : IsShownQueue key s) (a : ℕ)

@@ -35,7 +35,7 @@ pub fn value_lawfully(credit: &Credit, seat: &mut CreditSeat) -> i64
     credit.value(seat)
 }
 
-/// Debits by the only seat: what it has seen grows by this debit alone, and the answer is the value of what it had seen.
+/// Debits by the only seat: what it has seen grows only by this debit, and the result is the value of what it had seen.
 pub fn debit_alone(credit: &Credit, seat: &mut CreditSeat) -> Result<i64, Worn>
     requires object { IsSeatOf credit.now.object seat.old }
     requires only { (credit.now.object.seats ≡ 1) × (seat.old.name ≡ 0) }

@@ -30,8 +30,8 @@ pub fn join_within_size(queue: &Queue<u64>, a: Seat<u64>, b: Seat<u64>) -> Tally
     queue.join(Tally::of(a), b)
 }
 
-/// Brings two seats together: where the insertion of p had ended before that of q began, a deletion of q ends only after one
-/// of p has begun.
+/// Brings two seats together: if the insertion of p ended before that of q began, a deletion of q ends only after one of p
+/// has begun.
 pub fn join_in_order(queue: &Queue<u64>, a: Seat<u64>, b: Seat<u64>) -> Tally<u64>
     requires { IsIdleSeat queue.now.object a × IsIdleSeat queue.now.object b }
     ensures { (p q : ℕ) (now later : List (Mark ℕ)) (of_q : Insertion result.seen q) → now ++ later ≡ result.seen
@@ -82,7 +82,7 @@ pub fn tally_at_rest(seat: Seat<u64>) -> Tally<u64>
     Tally::of(seat)
 }
 
-/// Brings two seats together: where no seat has shut the queue, no insertion has found it shut.
+/// Brings two seats together: if no seat has shut the queue, no insertion has found it shut.
 pub fn join_open(queue: &Queue<u64>, a: Seat<u64>, b: Seat<u64>) -> Tally<u64>
     requires { IsIdleSeat queue.now.object a × IsIdleSeat queue.now.object b }
     ensures { count close_of result.seen ≡ 0 → count closed_of result.seen ≡ 0 }

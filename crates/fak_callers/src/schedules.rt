@@ -57,7 +57,7 @@ pub fn loads_what_was_put<T>()
     a_deletion_loads_the_item_of_its_ticket::<T>();
 }
 
-/// Where no item was put under the next ticket of a deletion, no deletion is about to draw it.
+/// If no item was put under the next ticket of a deletion, no deletion is about to draw it.
 pub fn draws_no_empty_ticket<T>()
     ensures { (size : ℕ) (schedule : List (QueueEvent T)) (s : ℕ) → 0 < size
         → item_at (items_put (queue.history_of (reached size schedule))) (reached size schedule).draws_out ≡ None

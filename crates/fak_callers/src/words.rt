@@ -14,8 +14,8 @@ use fak_model::laws::queue::{
     a_queue_keeps_the_order_of_its_calls,
 };
 
-/// Where 7, 8 and 9 were put one after another, and 9 is got first, the order of calls is broken. It is kept where 7 was got
-/// before 8, though the deletion of 8 has ended and that of 7 has not.
+/// If 7, 8 and 9 were put one after another, and 9 is got first, the order of calls is broken. It is kept if 7 was got before
+/// 8, though the deletion of 8 has ended and that of 7 has not.
 pub fn a_deletion_out_of_order_is_told()
     ensures told { KeepsCallOrder (inserted 0 7 0 ++ inserted 0 8 1 ++ inserted 0 9 2 ++ deleted 1 9 2) → ⊥ }
     ensures keeps { KeepsCallOrder

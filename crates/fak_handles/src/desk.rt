@@ -44,7 +44,7 @@ impl Desk {
         }
     }
 
-    /// Lends the seat of a queue. `None` if the desk is of another kind.
+    /// Lends the seat of a queue. `None` if the desk has another kind.
     pub fn queue(&mut self) -> Option<&mut QueueDesk>
         ensures* writes_back { sem 𝓛 (LendsQueue self.entry result) }
         ensures value { MatchOption result (queue_in (Some self.old) ≡ None)
@@ -61,7 +61,7 @@ impl Desk {
         }
     }
 
-    /// Lends the seat of a semaphore. `None` if the desk is of another kind.
+    /// Lends the seat of a semaphore. `None` if the desk has another kind.
     pub fn semaphore(&mut self) -> Option<&mut SemDesk>
         ensures* writes_back { sem 𝓛 (LendsSemaphore self.entry result) }
         ensures value { MatchOption result (semaphore_in (Some self.old) ≡ None)
@@ -78,7 +78,7 @@ impl Desk {
         }
     }
 
-    /// Lends the seat of a room. `None` if the desk is of another kind.
+    /// Lends the seat of a room. `None` if the desk has another kind.
     pub fn room(&mut self) -> Option<&mut RoomDesk>
         ensures* writes_back { sem 𝓛 (LendsRoom self.entry result) }
         ensures value { MatchOption result (room_in (Some self.old) ≡ None)
@@ -95,7 +95,7 @@ impl Desk {
         }
     }
 
-    /// Lends the seat of a credit. `None` if the desk is of another kind.
+    /// Lends the seat of a credit. `None` if the desk has another kind.
     pub fn credit(&mut self) -> Option<&mut CreditDesk>
         ensures* writes_back { sem 𝓛 (LendsCredit self.entry result) }
         ensures value { MatchOption result (credit_in (Some self.old) ≡ None)
@@ -112,7 +112,7 @@ impl Desk {
         }
     }
 
-    /// Lends the seat of a file table. `None` if the desk is of another kind.
+    /// Lends the seat of a file table. `None` if the desk has another kind.
     pub fn files(&mut self) -> Option<&mut FileDesk>
         ensures* writes_back { sem 𝓛 (LendsFiles self.entry result) }
         ensures value { MatchOption result (files_in (Some self.old) ≡ None)
@@ -129,7 +129,7 @@ impl Desk {
         }
     }
 
-    /// Lends the end of a channel. `None` if the desk is of another kind.
+    /// Lends the end of a channel. `None` if the desk has another kind.
     pub fn channel(&mut self) -> Option<&mut ChannelDesk>
         ensures* writes_back { sem 𝓛 (LendsChannel self.entry result) }
         ensures value { MatchOption result (channel_in (Some self.old) ≡ None)
@@ -146,7 +146,7 @@ impl Desk {
         }
     }
 
-    /// Lends the bundle. `None` if the desk is of another kind.
+    /// Lends the bundle. `None` if the desk has another kind.
     pub fn bundle(&mut self) -> Option<&mut BundleDesk>
         ensures* writes_back { sem 𝓛 (LendsBundle self.entry result) }
         ensures value { MatchOption result (bundle_in (Some self.old) ≡ None)

@@ -26,7 +26,7 @@ impl<T: Drop> Queue<T> {
         observe_up::<T, Brand>(&self.table.shared, &mut seat.token)
     }
 
-    /// How many items are ready: insertions that have ended, less the deletions begun and not withdrawn. One load, which waits
+    /// How many items are ready: insertions that have ended, minus the deletions begun and not withdrawn. One load, which waits
     /// for nobody. The seat may be in a call. Below 0 while deletions are refused.
     pub fn items_ready(&self, seat: &mut Seat<T>) -> i64
         requires { seat.old.object ≡ self.now.object }

@@ -55,8 +55,8 @@ impl<T> Seat<T> {
         self.left
     }
 
-    /// Says whether `insert`, `delete` and the calls that wait begin with `Queue::pause`. At first they do, and items pass
-    /// faster. If they don't, no call takes much longer than its steps. No contract sees a pause.
+    /// Sets whether `insert`, `delete` and the calls that wait begin with `Queue::pause`. At first they do, which raises
+    /// throughput. Without pauses no call takes much longer than its steps. No contract sees a pause.
     pub fn set_pauses_in_calls(&mut self, pauses: bool)
         ensures { self.new ≡ self.old }
     {

@@ -1,6 +1,6 @@
 # Reads `objdump -dr` of an archive. Prints which functions that write SSE registers can be reached from a call that neither opens nor gives
-# up an object; functions that drop are left out, since they are reached only at the end of a call that gives up. Prints also where code
-# that enters the system is called.
+# up an object; functions that drop are left out, since they are reached only at the end of a call that gives up. Also prints the places at
+# which code that enters the system is called.
 function hexadecimal(digits, value, i) {
     value = 0
     for (i = 1; i <= length(digits); i++)

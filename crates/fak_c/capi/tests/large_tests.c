@@ -46,7 +46,7 @@ static void pass_one(fak_c_seat *end) {
     CHECK(item.word[0] == 7);
 }
 
-/* The seat makes a call of its kind, and another that undoes it. */
+/* The seat performs a call of its kind, and another that undoes it. */
 static void use(fak_c_seat *seat, int kind) {
     uint64_t item = 0;
     int64_t found = 99;
