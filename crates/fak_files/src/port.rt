@@ -1,7 +1,7 @@
 //! A file table and one of its seats as one value, whose calls have no preconditions.
 
-ghost use Rattle.std.specs.Prelude.{◌≡◌, ◌↔◌, ◌<◌, IsTrue, MatchOption, MatchResult};
-ghost use Rattle.fak_files.specs.Calls.{IsFileSeatOf, IsFreeSeatOf, IsGot, IsHoldOf};
+ghost use Rattle.std.specs.Prelude.{◌+◌, ◌≡◌, ◌↔◌, ◌<◌, IsTrue, MatchOption, MatchResult};
+ghost use Rattle.fak_files.specs.Calls.{IsFileSeatOf, IsFreeSeatOf, IsGot, IsHoldOf, holds_had};
 ghost use Rattle.fak_files.specs.Ports.{EndsIfHeld, EndsOrNot, MayNotGet, RefusesHold, RefusesWait, SetsOrNot, TakesHold, WaitsForHold};
 ghost use Rattle.fak_files.specs.declared.phase.Access.TheVariants.{Read, Write};
 
@@ -180,6 +180,13 @@ impl<'t> FilePort<'t> {
         ensures marks { IsHoldOf self.now.seat.seat self.now.seat.hold }
     {
         self.seat.hold()
+    }
+
+    /// The number of holds that are left of the seat's stint.
+    pub fn left(&self) -> u64
+        ensures { result + holds_had self.now.seat.seat ≡ self.now.seat.seat.stint }
+    {
+        self.seat.left()
     }
 
     /// The seat, which `FileTally::of` or `FileTable::join` takes. If it has a hold, that is given back first.

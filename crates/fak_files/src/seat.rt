@@ -1,7 +1,7 @@
 //! A seat of a file table.
 
-ghost use Rattle.std.specs.Prelude.{◌≡◌};
-ghost use Rattle.fak_files.specs.Calls.{IsHoldOf};
+ghost use Rattle.std.specs.Prelude.{◌+◌, ◌≡◌};
+ghost use Rattle.fak_files.specs.Calls.{IsHoldOf, holds_had};
 
 use crate::phase::Hold;
 use crate::steps::FileToken;
@@ -38,6 +38,13 @@ impl FileSeat {
         ensures marks { IsHoldOf self.now.seat self.now.hold }
     {
         self.hold
+    }
+
+    /// The number of holds that are left of the stint.
+    pub fn left(&self) -> u64
+        ensures { result + holds_had self.now.seat ≡ self.now.seat.stint }
+    {
+        self.left
     }
 }
 

@@ -73,11 +73,13 @@ fn a_port_makes_each_call(rt: HostRuntime) {
     ];
     let (table, seat) = open_one(&rt, rt.alloc(), 2, 4);
     let mut port = FilePort::new(&table, seat);
+    assert_equal(&rt, port.left(), 4);
     for (row, (call, hold)) in ROWS.iter().enumerate() {
         if !meets(&rt, &mut port, call, *hold) {
             panic!(rt; "row {row}")
         }
     }
+    assert_equal(&rt, port.left(), 0);
     let tally = FileTally::of(port.into_seat());
     assert_equal(&rt, tally.is_whole(), true);
 }

@@ -110,12 +110,12 @@ impl SharedCounts {
     /// Pauses in a call, if the seat's calls pause by themselves.
     pub(crate) fn pause_in_call(&mut self, size: u64, left: u64) {
         if self.pauses_in_calls {
-            self.pause_where_contended(size, left);
+            self.pause_if_contended(size, left);
         }
     }
 
     /// Pauses if others changed a count, the queue has cells enough, and the seat has drawn and saved tickets enough.
-    pub(crate) fn pause_where_contended(&mut self, size: u64, left: u64) {
+    pub(crate) fn pause_if_contended(&mut self, size: u64, left: u64) {
         if !self.is_contended {
             return;
         }

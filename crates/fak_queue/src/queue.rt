@@ -397,7 +397,7 @@ impl<T: Drop> Queue<T> {
         ensures { seat.new ≡ seat.old }
     {
         seat.counts
-            .pause_where_contended(self.cells.size, seat.left);
+            .pause_if_contended(self.cells.size, seat.left);
     }
 
     /// Shuts the queue: insertions are refused from now on, deletions go on. Returns whether it was open before.
