@@ -1,7 +1,9 @@
-/* The pool of fak_pool.h. Jobs wait in a channel. Workers sleep while it is empty, and callers while it is full.
+/* The pool of fak_pool.h. Jobs wait in a channel. Workers sleep while it is empty.
  *
- * Without a queue there is a second channel, of permits: a caller takes one before it adds a job, and the worker gives it back when the job
- * is done. So the channel of jobs has a cell for each, and as many for what a resize sends.
+ * A second channel has permits: a caller takes one before it adds a job, and sleeps while there is none. With a queue there is a permit for
+ * each job that may wait, and the worker gives it back when it takes the job. Without a queue there is one for each worker, which gives it
+ * back when the job is done. So the channel of jobs has a cell for each job, and as many more as there may be wake-ups of a resize: no send
+ * finds it full, and no wake-up takes the cell of a job.
  *
  * Workers and permits are counted next to their limit in one word, so that a count and a limit that change at once never disagree. */
 #include "fak_pool.h"
@@ -9,12 +11,21 @@
 #include "fak_channel.h"
 
 #include <pthread.h>
+#include <sched.h>
 #include <stdatomic.h>
 #include <stdint.h>
 #include <stdlib.h>
 
-/* How many callers may add at the same time without waiting for one another, and how many workers may sleep in the channel itself. */
-enum { CALLERS = 4, SLEEPERS = 64 };
+/* How many callers may add at the same time without waiting for one another, and how many workers may sleep in the channel itself.
+ *
+ * The ends of workers are more than those of callers with the one of a resize. So the stints of callers run out first: an addition is
+ * refused, and each job that was added still runs. */
+enum { CALLERS = 4, FEWEST_ENDS = CALLERS + 2, SLEEPERS = 64 };
+
+/* The calls of all ends of a channel. A test has fewer. */
+#ifndef FAK_POOL_CALLS
+#define FAK_POOL_CALLS FAK_C_MOST_CALLS
+#endif
 
 /* A worker, whose thread is joined once it has ended. */
 struct worker {
@@ -24,7 +35,7 @@ struct worker {
     struct worker *next;
 };
 
-/* A channel that callers share, with one end more, by which a resize wakes workers. */
+/* A channel that callers share. Its last end belongs to resizes. */
 struct channel {
     fak_channel_shared shared;
     fak_channel_end *ends;
@@ -35,6 +46,7 @@ struct fak_pool {
     struct channel jobs, permits;
     bool has_queue;
     atomic_ullong worker_count, permit_count; /* the limit in the upper half, the count in the lower */
+    atomic_size_t wakes;                      /* sent by resizes, and not received */
     atomic_size_t unfinished;                 /* jobs that were added and are not done */
     pthread_mutex_t lock;                     /* for callers that join */
     pthread_cond_t is_done;
@@ -94,6 +106,16 @@ static void finish(fak_pool *self) {
     pthread_mutex_unlock(&self->lock);
 }
 
+/* Takes a permit that was not made before, or one that was given back. A caller that sleeps finds all made: a resize that allows more makes
+ * these itself. */
+static bool take_permit(fak_pool *self, bool tries) {
+    fak_channel_item item;
+    if (count_up(&self->permit_count))
+        return true;
+    return (tries ? fak_channel_shared_try_receive(&self->permits.shared, &item)
+                  : fak_channel_shared_receive(&self->permits.shared, &item)) == FAK_C_OK;
+}
+
 /* Gives a permit back, unless there are too many. The channel has a cell for each. */
 static void give_permit(fak_pool *self) {
     fak_channel_item item = item_of(NULL, NULL);
@@ -103,8 +125,13 @@ static void give_permit(fak_pool *self) {
 
 static void run_job(fak_pool *self, const fak_channel_item *item) {
     fak_pool_function *run = (fak_pool_function *)(uintptr_t)item->word[0];
-    if (run == NULL) /* sent by a resize, to wake a worker that has to stop */
+    if (run == NULL) {
+        /* A wake-up. This must come before the worker's look at the limit: a resize that still counts this wake-up counts on the look. */
+        atomic_fetch_sub(&self->wakes, 1);
         return;
+    }
+    if (self->has_queue)
+        give_permit(self);
     run((void *)(uintptr_t)item->word[1]);
     if (!self->has_queue)
         give_permit(self);
@@ -161,7 +188,7 @@ static bool open_channel(struct channel *channel, size_t senders, size_t receive
     channel->ends = calloc(count, sizeof *channel->ends);
     if (channel->ends == NULL)
         return false;
-    if (fak_channel_open_ends(channel->ends, count, size, FAK_C_MOST_CALLS / count) != FAK_C_OK) {
+    if (fak_channel_open_ends(channel->ends, count, size, FAK_POOL_CALLS / count) != FAK_C_OK) {
         free(channel->ends);
         return false;
     }
@@ -169,19 +196,24 @@ static bool open_channel(struct channel *channel, size_t senders, size_t receive
     return fak_channel_shared_over(&channel->shared, channel->ends, senders, receivers) == FAK_C_OK;
 }
 
+/* The end of resizes, whose calls have the lock `resizing`. */
+static fak_channel_end *own_end(struct channel *channel) {
+    return &channel->ends[channel->count - 1];
+}
+
 static void leave_channel(struct channel *channel) {
     if (channel->count == 0)
         return;
-    fak_channel_leave(&channel->ends[channel->count - 1]);
+    fak_channel_leave(own_end(channel));
     fak_channel_shared_leave(&channel->shared);
     free(channel->ends);
 }
 
 static bool open_channels(fak_pool *self, size_t workers, size_t waiting) {
-    size_t receivers = workers < SLEEPERS ? workers : SLEEPERS;
-    if (!open_channel(&self->jobs, CALLERS, receivers, self->has_queue ? waiting : 2 * FAK_POOL_MOST_WORKERS))
-        return false;
-    return self->has_queue || open_channel(&self->permits, receivers, CALLERS, FAK_POOL_MOST_WORKERS);
+    size_t of_workers = workers < FEWEST_ENDS ? FEWEST_ENDS : workers < SLEEPERS ? workers : SLEEPERS;
+    size_t permits = self->has_queue ? waiting : FAK_POOL_MOST_WORKERS;
+    return open_channel(&self->jobs, CALLERS, of_workers, permits + FAK_POOL_MOST_WORKERS)
+        && open_channel(&self->permits, of_workers, CALLERS, permits);
 }
 
 static void free_all(fak_pool *self) {
@@ -201,6 +233,7 @@ fak_pool *fak_pool_create(size_t workers, size_t waiting) {
     if (self == NULL)
         return NULL;
     self->has_queue = waiting != 0;
+    set_limit(&self->permit_count, waiting);
     pthread_mutex_init(&self->lock, NULL);
     pthread_mutex_init(&self->resizing, NULL);
     pthread_cond_init(&self->is_done, NULL);
@@ -226,30 +259,29 @@ void fak_pool_free(fak_pool *self) {
 
 /* ---- Calls ---- */
 
-/* Sends the job. */
-static bool send_job(fak_pool *self, fak_pool_function *run, void *argument, bool tries) {
-    fak_channel_item item = item_of(run, argument);
+/* Sends the job by a permit. If all ends are lent, a try yields: no send of this channel sleeps, so one soon comes back. */
+static bool send_job(fak_pool *self, const fak_channel_item *item, bool tries) {
     int32_t code;
     /* It must come before the send: a worker may finish the job at once. */
     atomic_fetch_add(&self->unfinished, 1);
-    code = tries ? fak_channel_shared_try_send(&self->jobs.shared, &item) : fak_channel_shared_send(&self->jobs.shared, &item);
-    if (code != FAK_C_OK)
+    do
+        code = tries ? fak_channel_shared_try_send(&self->jobs.shared, item) : fak_channel_shared_send(&self->jobs.shared, item);
+    while (code == FAK_C_BUSY && sched_yield() == 0);
+    if (code != FAK_C_OK) {
+        give_permit(self);
         finish(self);
+    }
     return code == FAK_C_OK;
 }
 
 bool fak_pool_add(fak_pool *self, fak_pool_function *run, void *argument) {
-    fak_channel_item permit;
-    if (!self->has_queue && fak_channel_shared_receive(&self->permits.shared, &permit) != FAK_C_OK)
-        return false;
-    return send_job(self, run, argument, false);
+    fak_channel_item item = item_of(run, argument);
+    return take_permit(self, false) && send_job(self, &item, false);
 }
 
 bool fak_pool_try_add(fak_pool *self, fak_pool_function *run, void *argument) {
-    fak_channel_item permit;
-    if (self->has_queue)
-        return send_job(self, run, argument, true);
-    return fak_channel_shared_try_receive(&self->permits.shared, &permit) == FAK_C_OK && send_job(self, run, argument, false);
+    fak_channel_item item = item_of(run, argument);
+    return take_permit(self, true) && send_job(self, &item, true);
 }
 
 void fak_pool_join(fak_pool *self) {
@@ -265,16 +297,21 @@ static void resize_permits(fak_pool *self, size_t workers) {
     set_limit(&self->permit_count, workers);
     while (count_up(&self->permit_count))
         fak_channel_shared_send(&self->permits.shared, &item);
-    while (count_of(atomic_load(&self->permit_count)) > workers && fak_channel_shared_try_receive(&self->permits.shared, &item) == FAK_C_OK)
+    while (count_of(atomic_load(&self->permit_count)) > workers && fak_channel_try_receive(own_end(&self->permits), &item) == FAK_C_OK)
         give_permit(self);
 }
 
-/* Wakes workers that sleep although they have to stop. While the channel is full none sleeps. */
+/* Wakes workers that sleep although they have to stop: with earlier wake-ups that nobody has received yet, as many as have to. This must
+ * follow the new limit: a worker looks at it after each wake-up. One that was busy may stop without a wake-up, which another gets then. */
 static void wake_surplus(fak_pool *self, size_t workers) {
     fak_channel_item item = item_of(NULL, NULL);
-    size_t count = count_of(atomic_load(&self->worker_count));
-    while (count-- > workers && fak_channel_try_send(&self->jobs.ends[self->jobs.count - 1], &item) == FAK_C_OK)
-        continue;
+    size_t sent = atomic_load(&self->wakes), count = count_of(atomic_load(&self->worker_count));
+    for (; workers + sent < count; sent++) {
+        /* It must come before the send: a worker may receive the wake-up at once. */
+        atomic_fetch_add(&self->wakes, 1);
+        if (fak_channel_send(own_end(&self->jobs), &item) != FAK_C_OK)
+            atomic_fetch_sub(&self->wakes, 1);
+    }
 }
 
 /* Starts workers up to the limit. If one can't be started, those that run are the limit. */

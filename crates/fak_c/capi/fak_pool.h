@@ -12,7 +12,7 @@ extern "C" {
 #endif
 
 #define FAK_POOL_MOST_WORKERS 256
-#define FAK_POOL_MOST_WAITING 16777216 /* 2^24 */
+#define FAK_POOL_MOST_WAITING 16776960 /* 2^24 - 256 */
 
 typedef struct fak_pool fak_pool;
 typedef void fak_pool_function(void *argument);
@@ -22,10 +22,12 @@ typedef void fak_pool_function(void *argument);
  * thread. */
 fak_pool *fak_pool_create(size_t workers, size_t waiting);
 
-/* Adds a job, and sleeps while the queue is full. False if the pool has used up its stint, which is above 10^12 jobs. */
+/* Adds a job, and sleeps while the queue is full. False if the pool has used up its stint, which is above 10^12 calls. Each job that was
+ * added still runs. */
 bool fak_pool_add(fak_pool *self, fak_pool_function *run, void *argument);
 
-/* Adds a job without sleeping. False if the queue was full, or other callers had all ends of its channel at this moment. */
+/* Adds a job without sleeping. False if the queue was full, or other callers had all ends of its channel at this moment; or if the pool has
+ * used up its stint. */
 bool fak_pool_try_add(fak_pool *self, fak_pool_function *run, void *argument);
 
 /* Sleeps until each job that was added is done. */
@@ -38,7 +40,7 @@ bool fak_pool_resize(fak_pool *self, size_t workers);
 /* Frees the pool once each job that was added is done. Meanwhile only its jobs may call it, and afterwards nobody. NULL is allowed. */
 void fak_pool_free(fak_pool *self);
 
-/* The bytes of the pool itself, without the channels' own (fak_channel.h). */
+/* The bytes of the pool itself, without what its two channels keep (fak_channel.h): 96 for each job that may wait, and below 250,000. */
 size_t fak_pool_bytes(const fak_pool *self);
 
 #ifdef __cplusplus

@@ -110,6 +110,80 @@ static void resizes_take_effect(size_t waiting) {
     CHECK(atomic_load(&done) == (waiting == 0 ? 5 : 6));
 }
 
+/* Shrinks of busy workers, however many, take no place of the queue: a job is added to it from outside. */
+static void a_shrink_leaves_the_queue(void) {
+    fak_pool *made = fresh(2, 1);
+    CHECK(fak_pool_add(made, stay, NULL) && fak_pool_add(made, stay, NULL));
+    wait_for(2);
+    CHECK(fak_pool_resize(made, 1));
+    CHECK(fak_pool_try_add(made, count_one, NULL) && !fak_pool_try_add(made, count_one, NULL));
+    for (int i = 0; i < 2 * FAK_POOL_MOST_WORKERS; i++)
+        CHECK(fak_pool_resize(made, 2) && fak_pool_resize(made, 1));
+    atomic_store(&may_go, true);
+    fak_pool_free(made);
+    CHECK(atomic_load(&done) == 3);
+}
+
+static void add_later(void *argument) {
+    stay(NULL);
+    for (int i = 0; i < 20; i++)
+        rest();
+    CHECK(fak_pool_add(argument, count_one, NULL));
+}
+
+/* The same by a job of the last worker, once the other one has stopped. */
+static void a_shrink_leaves_the_queue_to_jobs(void) {
+    fak_pool *made = fresh(2, 1);
+    CHECK(fak_pool_add(made, add_later, made) && fak_pool_add(made, stay, NULL));
+    wait_for(2);
+    CHECK(fak_pool_resize(made, 1));
+    atomic_store(&may_go, true);
+    fak_pool_free(made);
+    CHECK(atomic_load(&done) == 3);
+}
+
+static atomic_ulong running, most;
+
+/* Notes how many of these jobs run at once. */
+static void overlap(void *argument) {
+    unsigned long now = atomic_fetch_add(&running, 1) + 1, before = atomic_load(&most);
+    (void)argument;
+    while (now > before && !atomic_compare_exchange_weak(&most, &before, now))
+        continue;
+    rest();
+    rest();
+    atomic_fetch_sub(&running, 1);
+}
+
+/* How many of a few jobs run at once. */
+static unsigned long overlaps(fak_pool *pool) {
+    atomic_store(&most, 0);
+    for (int i = 0; i < 12; i++)
+        CHECK(fak_pool_add(pool, overlap, NULL));
+    fak_pool_join(pool);
+    return atomic_load(&most);
+}
+
+/* Workers that sleep stop, too: once asleep, and again right after they were started. */
+static void a_shrink_stops_idle_workers(size_t waiting) {
+    fak_pool *made = fresh(8, waiting);
+    for (int round = 0; round < 3; round++) {
+        for (int i = 0; i < 20; i++)
+            rest();
+        CHECK(fak_pool_resize(made, 1) && overlaps(made) == 1);
+        CHECK(fak_pool_resize(made, 8) && fak_pool_resize(made, 3) && fak_pool_resize(made, 1) && overlaps(made) == 1);
+        CHECK(fak_pool_resize(made, 8) && fak_pool_resize(made, 1) && fak_pool_resize(made, 8));
+        atomic_store(&done, 0);
+        atomic_store(&may_go, false);
+        for (int i = 0; i < 8; i++)
+            CHECK(fak_pool_add(made, stay, NULL));
+        wait_for(8);
+        atomic_store(&may_go, true);
+        fak_pool_join(made);
+    }
+    fak_pool_free(made);
+}
+
 static void add_and_resize(void *argument) {
     CHECK(fak_pool_add(argument, count_one, NULL) && fak_pool_resize(argument, 5));
 }
@@ -127,8 +201,13 @@ static void each_call_is_made(void) {
     jobs_run_in_order();
     a_full_queue_refuses(2, 2);
     a_full_queue_refuses(2, 0);
+    a_shrink_leaves_the_queue();
     resizes_take_effect(2);
     resizes_take_effect(0);
+    a_shrink_leaves_the_queue_to_jobs();
+    a_shrink_stops_idle_workers(0);
+    a_shrink_stops_idle_workers(1);
+    a_shrink_stops_idle_workers(64);
     jobs_may_call();
 }
 
@@ -196,7 +275,7 @@ static void stress(size_t waiting, unsigned long jobs) {
         for (unsigned long job = 0; job < jobs; job++)
             CHECK(atomic_load(&adders[i].runs[job]) == 1);
     atomic_store(&ends, true);
-    CHECK(pthread_join(resizer, NULL) == 0);
+    CHECK(pthread_join(resizer, NULL) == 0 && fak_pool_resize(made, 2) && overlaps(made) <= 2);
     fak_pool_free(made);
     for (int i = 0; i < ADDERS; i++)
         free(adders[i].runs);
