@@ -264,8 +264,8 @@ int32_t fak_c_state(fak_c_seat *seat, uint32_t *state, uint64_t *ticket, uint64_
  * since. None waits, changes the queue's history, or counts against the stint. The seat may be in any state. FAK_C_OK or
  * FAK_C_NO_SEAT, which writes nothing.
  *
- * fak_c_count writes the items that are ready: insertions that have ended, minus the deletions begun and not withdrawn. While no other
- * seat is in a call it is the number of items. It is below 0 while deletions are refused; read 0 then.
+ * fak_c_count writes the items that are ready: insertions that have ended, minus the deletions begun and not withdrawn. While no seat
+ * has an open call it is the number of items. It is below 0 while deletions are refused; read 0 then.
  *
  * fak_c_in_use writes the cells in use, insertions begun and not withdrawn, minus deletions that have ended, and whether the queue
  * is shut. It is at least 0, and above the size while insertions are refused.

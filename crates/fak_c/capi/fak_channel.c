@@ -214,9 +214,11 @@ static bool wait_for_end(fak_channel_shared *shared, fak_channel_lender *lender,
     return is_in_time;
 }
 
-/* Lends an end. A wake-up is for one sleeper, and two ends may come back before it wakes. So a caller that has found an end wakes the next
- * sleeper if there is another end. A caller that finds all ends worn wakes the next one, too. */
+/* Lends an end, if the shared channel was opened. A wake-up is for one sleeper, and two ends may come back before it wakes. So a caller that
+ * has found an end wakes the next sleeper if there is another end. A caller that finds all ends worn wakes the next one, too. */
 static int32_t lend(fak_channel_shared *shared, fak_channel_lender *lender, uint64_t deadline, fak_channel_end **end) {
+    if (lender->count == 0)
+        return FAK_C_NO_SEAT;
     while ((*end = take_idle(lender)) == NULL) {
         if (is_worn(lender)) {
             wake_sleeper(shared, lender);
@@ -303,10 +305,13 @@ int32_t fak_channel_shared_receive_until(fak_channel_shared *shared, fak_channel
     return receive_by_lent(shared, item, deadline, false);
 }
 
-/* Takes one of the first two ends for a call that never sleeps. The exchange must come before the call, and the store of give_own must
- * follow it: the end is in one call at a time. */
+/* Takes one of the first two ends for a call that never sleeps, or none if the shared channel was not opened. The exchange must come before
+ * the call, and the store of give_own must follow it: the end is in one call at a time. */
 static fak_channel_end *take_own(fak_channel_shared *shared, uint64_t *flag) {
-    fak_channel_end *end = &shared->ends[flag == &shared->closes ? 0 : 1];
+    fak_channel_end *end;
+    if (shared->ends == NULL)
+        return NULL;
+    end = &shared->ends[flag == &shared->closes ? 0 : 1];
     for (uint64_t rounds = 0; __atomic_exchange_n(flag, 1, __ATOMIC_ACQUIRE) != 0; rounds++)
         pause_once(end->waiting, rounds);
     return end;
@@ -318,15 +323,18 @@ static int32_t give_own(uint64_t *flag, int32_t code) {
 }
 
 int32_t fak_channel_shared_close(fak_channel_shared *shared) {
-    return give_own(&shared->closes, fak_channel_close(take_own(shared, &shared->closes)));
+    fak_channel_end *end = take_own(shared, &shared->closes);
+    return end != NULL ? give_own(&shared->closes, fak_channel_close(end)) : FAK_C_NO_SEAT;
 }
 
 int32_t fak_channel_shared_len(fak_channel_shared *shared, uint64_t *items) {
-    return give_own(&shared->looks, fak_channel_len(&take_own(shared, &shared->looks)->seat, items));
+    fak_channel_end *end = take_own(shared, &shared->looks);
+    return end != NULL ? give_own(&shared->looks, fak_channel_len(&end->seat, items)) : FAK_C_NO_SEAT;
 }
 
 int32_t fak_channel_shared_is_closed(fak_channel_shared *shared, bool *is_closed) {
-    return give_own(&shared->looks, fak_channel_is_closed(&take_own(shared, &shared->looks)->seat, is_closed));
+    fak_channel_end *end = take_own(shared, &shared->looks);
+    return end != NULL ? give_own(&shared->looks, fak_channel_is_closed(&end->seat, is_closed)) : FAK_C_NO_SEAT;
 }
 
 static void make_lender(fak_channel_lender *lender, fak_channel_end *ends, size_t count) {
@@ -367,12 +375,23 @@ static bool is_at_rest(fak_channel_lender *lender) {
     return idle == lender->count && __atomic_load_n(&lender->sleepers, __ATOMIC_SEQ_CST) == 0;
 }
 
+/* The code of a leave of all n ends, each of which could refuse its own: all leave, or none. */
+static int32_t may_leave(fak_channel_shared *shared, size_t n) {
+    uint64_t number = 0;
+    int32_t code = FAK_C_OK;
+    if (shared->ends == NULL)
+        return FAK_C_NO_SEAT;
+    if (!is_at_rest(&shared->senders) || !is_at_rest(&shared->receivers))
+        return FAK_C_WRONG_STATE;
+    for (size_t i = 0; i < n && code == FAK_C_OK; i++)
+        code = number_of_idle(&shared->ends[i].seat, &number);
+    return code;
+}
+
 int32_t fak_channel_shared_leave_with(
     fak_channel_shared *shared, void (*drop)(void *context, const fak_channel_item *item), void *context) {
     size_t n = FAK_CHANNEL_SHARED_ENDS(shared->senders.count, shared->receivers.count);
-    int32_t code = FAK_C_OK;
-    if (!is_at_rest(&shared->senders) || !is_at_rest(&shared->receivers))
-        return FAK_C_WRONG_STATE;
+    int32_t code = may_leave(shared, n);
     /* The first two ends have called least, so one of them drops what is left. */
     for (size_t i = n; i-- > 0 && code == FAK_C_OK;)
         code = fak_channel_leave_with(&shared->ends[i], drop, context);

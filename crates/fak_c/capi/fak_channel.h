@@ -97,7 +97,8 @@ typedef struct fak_channel_end {
 
 /* Opens a channel of `size` cells (1 to 2^24), and gives each of the n ends (1 to 1,024) a seat of it. The ends are empty before. Threads
  * sleep on futexes of Linux. An end may make about `stint` calls (at least 1, and n times the stint is at most 2^50). A tried or a timed
- * call that is refused may count too. FAK_C_MOST_CALLS / n is the longest stint.
+ * call that is refused may count too, and so may a call that finds a caller that gave up. If this uses up the stint, a free cell or an item
+ * stays with the end that gave up, whose next call has it. FAK_C_MOST_CALLS / n is the longest stint.
  *
  * FAK_C_OK; FAK_C_BAD_LIMIT or FAK_C_MEMORY, and the ends are empty; FAK_C_WRONG_STATE if an end has a seat. */
 int32_t fak_channel_open_ends(fak_channel_end *ends, size_t n, uint64_t size, uint64_t stint);
@@ -169,7 +170,7 @@ typedef struct fak_channel_lender {
     uint64_t idle[FAK_C_MOST_SEATS / 64]; /* a bit for each end that nobody has borrowed */
 } fak_channel_lender;
 
-/* It starts as zeros. While it is shared, neither it nor its ends are copied or moved. */
+/* It starts as zeros, and each of its calls returns FAK_C_NO_SEAT then. While it is shared, neither it nor its ends are copied or moved. */
 typedef struct fak_channel_shared {
     fak_channel_end *ends;
     uint64_t closes; /* whether a caller has the first end, which closes */
@@ -205,7 +206,7 @@ int32_t fak_channel_shared_is_closed(fak_channel_shared *shared, bool *is_closed
 
 /* Gives up all ends, once no thread is in a call. If the channel has no other ends, what is left is dropped as by fak_channel_leave_with.
  *
- * FAK_C_OK; FAK_C_WRONG_STATE if an end is lent, or has an open call by steps. */
+ * FAK_C_OK; FAK_C_NO_SEAT; FAK_C_WRONG_STATE if an end is lent, or has an open call by steps. A refused call gives up none. */
 int32_t fak_channel_shared_leave(fak_channel_shared *shared);
 int32_t fak_channel_shared_leave_with(
     fak_channel_shared *shared, void (*drop)(void *context, const fak_channel_item *item), void *context);
@@ -260,7 +261,8 @@ int32_t fak_channel_give_up(fak_c_seat *end, fak_channel_item *item);
 int32_t fak_channel_len(fak_c_seat *end, uint64_t *items);
 int32_t fak_channel_is_closed(fak_c_seat *end, bool *is_closed);
 
-/* Writes the end's number, its state, and at least how many calls are left of its stint. Changes nothing.
+/* Writes the end's number, its state, and how many calls are left of its stint, if none gives up and none finds a caller that gave up.
+ * Changes nothing.
  *
  * FAK_C_OK or FAK_C_NO_SEAT. */
 int32_t fak_channel_state(fak_c_seat *end, uint64_t *number, uint32_t *state, uint64_t *left);

@@ -247,6 +247,42 @@ static void shared_calls_pass_items(void) {
     CHECK(fak_channel_shared_leave_with(&shared, add, &sum) == FAK_C_OK && sum == 7);
 }
 
+/* A shared channel that was not opened has no seat. */
+static void zeros_are_refused(void) {
+    fak_channel_shared shared = {0};
+    fak_channel_item item = {{0}};
+    uint64_t items = 99;
+    bool is_closed = false;
+    CHECK(fak_channel_shared_send(&shared, &seven) == FAK_C_NO_SEAT && fak_channel_shared_try_send(&shared, &seven) == FAK_C_NO_SEAT);
+    CHECK(fak_channel_shared_receive(&shared, &item) == FAK_C_NO_SEAT && fak_channel_shared_try_receive(&shared, &item) == FAK_C_NO_SEAT);
+    CHECK(fak_channel_shared_send_until(&shared, &seven, 0) == FAK_C_NO_SEAT);
+    CHECK(fak_channel_shared_receive_until(&shared, &item, FAK_CHANNEL_NEVER) == FAK_C_NO_SEAT && item.word[0] == 0);
+    CHECK(fak_channel_shared_len(&shared, &items) == FAK_C_NO_SEAT && items == 99);
+    CHECK(fak_channel_shared_is_closed(&shared, &is_closed) == FAK_C_NO_SEAT && !is_closed);
+    CHECK(fak_channel_shared_close(&shared) == FAK_C_NO_SEAT && fak_channel_shared_leave(&shared) == FAK_C_NO_SEAT);
+}
+
+/* While an end has an open call by steps, no end leaves. All ends leave at once. */
+static void all_ends_leave_or_none(void) {
+    for (int open = 0; open < SHARED; open++) {
+        fak_channel_end ends[SHARED] = {0};
+        fak_channel_shared shared = {0};
+        fak_channel_item item = seven;
+        uint64_t number = 0;
+        CHECK(fak_channel_shared_open(&shared, ends, SENDERS, RECEIVERS, 2, STINT) == FAK_C_OK);
+        CHECK(fak_channel_begin_send(&ends[open].seat, &item) == FAK_C_OK);
+        for (int twice = 0; twice < 2; twice++) {
+            CHECK(fak_channel_shared_leave(&shared) == FAK_C_WRONG_STATE);
+            for (int i = 0; i < SHARED; i++)
+                CHECK(ends[i].seat.at != NULL && ends[i].waiting != NULL);
+        }
+        while (fak_channel_step(&ends[open].seat, &item, &number) != FAK_C_OK)
+            continue;
+        CHECK(fak_channel_shared_receive(&shared, &item) == FAK_C_OK && are_equal(&item, &seven));
+        CHECK(fak_channel_shared_leave(&shared) == FAK_C_OK && fak_channel_shared_leave(&shared) == FAK_C_NO_SEAT);
+    }
+}
+
 /* Ends that are lent are not lent twice, and not given up. */
 static void ends_are_lent_once(void) {
     fak_channel_end ends[SHARED] = {0};
@@ -320,6 +356,8 @@ static void worn_ends_are_put_aside(void) {
 void each_shared_code_is_returned(void) {
     shared_openings_are_refused();
     shared_calls_pass_items();
+    zeros_are_refused();
+    all_ends_leave_or_none();
     ends_are_lent_once();
     lenders_call_own_functions();
     worn_ends_are_put_aside();

@@ -270,6 +270,8 @@ int main(int count, char **words) {
         a_shared_channel_storms(strtoull(words[2], NULL, 10));
     else if (count == 3 && strcmp(words[1], "own-parks") == 0)
         own_parks_storm(strtoull(words[2], NULL, 10));
+    else if (count == 3 && strcmp(words[1], "closes") == 0)
+        closes_race(strtoull(words[2], NULL, 10));
     else if (count == 3 && strcmp(words[1], "sleepers") == 0)
         sleepers_wake(strtoull(words[2], NULL, 10));
     else

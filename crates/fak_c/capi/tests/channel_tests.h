@@ -24,6 +24,9 @@ void ends_storm(uint64_t items);
 void a_shared_channel_storms(uint64_t items);
 void own_parks_storm(uint64_t items);
 
+/* One of several closes at once makes it. */
+void closes_race(uint64_t rounds);
+
 /* This many threads sleep, without processor time, and wake up: by as many items, and by a close, on each side. */
 void sleepers_wake(size_t sleepers);
 

@@ -1,5 +1,5 @@
-/* Threads that share a channel: each item comes once, and in its sender's order to each receiver; a close wakes both sides; and a sleeping
- * thread uses no processor time. */
+/* Threads that share a channel: each item comes once, and in its sender's order to each receiver; a close wakes both sides, and one of
+ * several that race makes it; and a sleeping thread uses no processor time. */
 #include "channel_tests.h"
 
 #include <pthread.h>
@@ -7,8 +7,12 @@
 #include <stdatomic.h>
 #include <string.h>
 #include <time.h>
+#include <unistd.h>
 
-enum { SENDERS = 9, RECEIVERS = 7, THREADS = SENDERS + RECEIVERS, CELLS = 5, LOOK_CELLS = 2 };
+enum { MOST_THREADS = 1000, CELLS = 5, LOOK_CELLS = 2, CLOSERS = 4 };
+
+/* The threads of a storm: 9 and 7, and on large machines more than processors. */
+static int senders = 9, receivers = 7, threads = 16;
 
 /* What threads call: an end of their own, or a shared channel. */
 typedef struct {
@@ -24,11 +28,21 @@ typedef struct {
     uint64_t random;
     uint64_t items;
     uint64_t taken; /* by the channel, of the items of a sender */
-    uint64_t last[SENDERS];
+    uint64_t *last; /* of each sender, in the storm of a receiver */
 } worker;
 
-static atomic_uchar *received[SENDERS]; /* how often each item came */
+static atomic_uchar *received[MOST_THREADS]; /* how often each item came */
 static atomic_ullong refusals, timeouts, passed;
+
+static void count_threads(void) {
+    long processors = sysconf(_SC_NPROCESSORS_ONLN);
+    CHECK(processors >= 1);
+    if (processors >= threads) {
+        threads = processors < MOST_THREADS ? (int)processors + 1 : MOST_THREADS;
+        senders = threads * 9 / 16;
+        receivers = threads - senders;
+    }
+}
 
 static uint64_t random_of(worker *self) {
     self->random = self->random * UINT64_C(6364136223846793005) + UINT64_C(1442695040888963407);
@@ -129,7 +143,7 @@ static void *receive_all(void *argument) {
     fak_channel_item item = {{0}};
     while (receive_one(self, &item)) {
         uint64_t sender = item.word[0], i = item.word[1], *cargo = (uint64_t *)(uintptr_t)item.word[2];
-        CHECK(sender < SENDERS && i < self->items && item.word[3] == ~i && *cargo == i);
+        CHECK(sender < (uint64_t)senders && i < self->items && item.word[3] == ~i && *cargo == i);
         CHECK(i >= self->last[sender]);
         self->last[sender] = i + 1;
         free(cargo);
@@ -150,26 +164,25 @@ static void close_after(caller by, uint64_t items) {
 
 /* All senders and receivers of a storm. The caller closes the channel before all was sent. */
 static void storm(const caller *callers, caller closer, uint64_t items) {
-    static worker workers[THREADS];
-    uint64_t sent = 0, taken = 0;
-    memset(workers, 0, sizeof workers);
+    static worker workers[MOST_THREADS];
+    uint64_t sent = 0, taken = 0, enough = (uint64_t)senders * items * 9 / 10;
     atomic_store(&passed, 0);
-    for (int i = 0; i < SENDERS; i++)
+    for (int i = 0; i < senders; i++)
         CHECK((received[i] = calloc(items, sizeof *received[i])) != NULL);
-    for (uint64_t i = 0; i < THREADS; i++) {
-        workers[i].channel = callers[i];
-        workers[i].number = i;
-        workers[i].random = i + 1;
-        workers[i].items = items;
-        CHECK(pthread_create(&workers[i].thread, NULL, i < SENDERS ? send_all : receive_all, &workers[i]) == 0);
+    for (int i = 0; i < threads; i++) {
+        uint64_t number = (uint64_t)i;
+        workers[i] = (worker){.channel = callers[i], .number = number, .random = number + 1, .items = items};
+        CHECK((workers[i].last = calloc((size_t)senders, sizeof *workers[i].last)) != NULL);
+        CHECK(pthread_create(&workers[i].thread, NULL, i < senders ? send_all : receive_all, &workers[i]) == 0);
     }
-    close_after(closer, SENDERS * items * 9 / 10);
-    for (int i = 0; i < THREADS; i++) {
+    close_after(closer, enough);
+    for (int i = 0; i < threads; i++) {
         CHECK(pthread_join(workers[i].thread, NULL) == 0);
-        *(i < SENDERS ? &sent : &taken) += workers[i].taken;
+        *(i < senders ? &sent : &taken) += workers[i].taken;
+        free(workers[i].last);
     }
-    CHECK(sent == taken && taken >= SENDERS * items * 9 / 10 && length(closer) == 0);
-    for (int i = 0; i < SENDERS; i++) {
+    CHECK(sent == taken && taken >= enough && length(closer) == 0);
+    for (int i = 0; i < senders; i++) {
         for (uint64_t item = 0; item < items; item++)
             CHECK(atomic_load(&received[i][item]) == (item < workers[i].taken));
         free(received[i]);
@@ -177,26 +190,89 @@ static void storm(const caller *callers, caller closer, uint64_t items) {
 }
 
 void ends_storm(uint64_t items) {
-    static fak_channel_end ends[THREADS + 1];
-    caller callers[THREADS + 1] = {0};
-    CHECK(fak_channel_open_ends(ends, THREADS + 1, CELLS, LONG_STINT) == FAK_C_OK);
-    for (int i = 0; i <= THREADS; i++)
+    static fak_channel_end ends[MOST_THREADS + 1];
+    caller callers[MOST_THREADS + 1] = {0};
+    count_threads();
+    CHECK(fak_channel_open_ends(ends, (size_t)threads + 1, CELLS, LONG_STINT) == FAK_C_OK);
+    for (int i = 0; i <= threads; i++)
         callers[i].end = &ends[i];
-    storm(callers, callers[THREADS], items);
-    for (int i = 0; i <= THREADS; i++)
+    storm(callers, callers[threads], items);
+    for (int i = 0; i <= threads; i++)
         CHECK(fak_channel_leave(&ends[i]) == FAK_C_OK);
     printf("%llu refusals, %llu timeouts\n", atomic_load(&refusals), atomic_load(&timeouts));
 }
 
 void a_shared_channel_storms(uint64_t items) {
+    count_threads();
     for (size_t few = 1; few <= 4; few += 3) {
         static fak_channel_end ends[FAK_CHANNEL_SHARED_ENDS(4, 4)];
         fak_channel_shared shared = {0};
-        caller callers[THREADS] = {0};
+        caller callers[MOST_THREADS] = {0};
         CHECK(fak_channel_shared_open(&shared, ends, few, few, CELLS, LONG_STINT) == FAK_C_OK);
-        for (int i = 0; i < THREADS; i++)
+        for (int i = 0; i < threads; i++)
             callers[i].shared = &shared;
         storm(callers, callers[0], items);
+        CHECK(fak_channel_shared_leave(&shared) == FAK_C_OK);
+    }
+}
+
+/* ---- Closes that race ---- */
+
+static atomic_int closed, closing;
+static pthread_barrier_t all_ready;
+
+/* Closes at the same time as the others. */
+static void *close_once(void *argument) {
+    int32_t code;
+    pthread_barrier_wait(&all_ready);
+    code = close_it(*(caller *)argument);
+    CHECK(code == FAK_C_OK || code == FAK_C_CLOSED);
+    atomic_fetch_add(&closed, code == FAK_C_OK);
+    return NULL;
+}
+
+/* Sends until the channel is closed. */
+static void *send_until_closed(void *argument) {
+    caller by = *(caller *)argument;
+    fak_channel_item item = {{0}};
+    int32_t code;
+    while ((code = send_item(by, &item)) == FAK_C_OK)
+        atomic_store(&closing, 1);
+    CHECK(code == FAK_C_CLOSED);
+    return NULL;
+}
+
+/* One of these callers makes the close, while the last one sleeps in the full channel. */
+static void race(caller *callers) {
+    pthread_t running[CLOSERS + 1];
+    atomic_store(&closed, 0);
+    atomic_store(&closing, 0);
+    CHECK(pthread_barrier_init(&all_ready, NULL, CLOSERS) == 0);
+    CHECK(pthread_create(&running[CLOSERS], NULL, send_until_closed, &callers[CLOSERS]) == 0);
+    while (atomic_load(&closing) == 0)
+        sched_yield();
+    for (int i = 0; i < CLOSERS; i++)
+        CHECK(pthread_create(&running[i], NULL, close_once, &callers[i]) == 0);
+    for (int i = 0; i <= CLOSERS; i++)
+        CHECK(pthread_join(running[i], NULL) == 0);
+    CHECK(atomic_load(&closed) == 1 && pthread_barrier_destroy(&all_ready) == 0);
+}
+
+void closes_race(uint64_t rounds) {
+    for (uint64_t round = 0; round < rounds; round++) {
+        static fak_channel_end ends[CLOSERS + 1];
+        fak_channel_shared shared = {0};
+        caller callers[CLOSERS + 1] = {0};
+        CHECK(fak_channel_open_ends(ends, CLOSERS + 1, LOOK_CELLS, LONG_STINT) == FAK_C_OK);
+        for (int i = 0; i <= CLOSERS; i++)
+            callers[i].end = &ends[i];
+        race(callers);
+        for (int i = 0; i <= CLOSERS; i++)
+            CHECK(fak_channel_leave(&ends[i]) == FAK_C_OK);
+        CHECK(fak_channel_shared_open(&shared, ends, 1, 1, LOOK_CELLS, LONG_STINT) == FAK_C_OK);
+        for (int i = 0; i <= CLOSERS; i++)
+            callers[i] = (caller){NULL, &shared};
+        race(callers);
         CHECK(fak_channel_shared_leave(&shared) == FAK_C_OK);
     }
 }
@@ -205,8 +281,8 @@ void a_shared_channel_storms(uint64_t items) {
 
 typedef struct {
     pthread_mutex_t lock;
-    pthread_cond_t woken[THREADS + 1];
-    bool tokens[THREADS + 1];
+    pthread_cond_t woken[MOST_THREADS + 1];
+    bool tokens[MOST_THREADS + 1];
     uint64_t parks, unparks;
 } lot;
 
@@ -215,7 +291,7 @@ static bool park_in(void *context, uint64_t number, uint64_t deadline) {
     struct timespec time = {(time_t)(deadline / 1000000000), (long)(deadline % 1000000000)};
     bool is_woken;
     int status = 0;
-    CHECK(number <= THREADS && deadline != 0 && pthread_mutex_lock(&self->lock) == 0);
+    CHECK(number <= (uint64_t)threads && deadline != 0 && pthread_mutex_lock(&self->lock) == 0);
     self->parks++;
     while (!self->tokens[number] && status == 0)
         status = deadline == FAK_CHANNEL_NEVER ? pthread_cond_wait(&self->woken[number], &self->lock)
@@ -228,7 +304,7 @@ static bool park_in(void *context, uint64_t number, uint64_t deadline) {
 
 static void unpark_in(void *context, uint64_t number) {
     lot *self = context;
-    CHECK(number <= THREADS && pthread_mutex_lock(&self->lock) == 0);
+    CHECK(number <= (uint64_t)threads && pthread_mutex_lock(&self->lock) == 0);
     self->unparks++;
     self->tokens[number] = true;
     CHECK(pthread_cond_signal(&self->woken[number]) == 0 && pthread_mutex_unlock(&self->lock) == 0);
@@ -244,27 +320,28 @@ static void make_lot(lot *self) {
     memset(self, 0, sizeof *self);
     CHECK(pthread_condattr_init(&monotonic) == 0 && pthread_condattr_setclock(&monotonic, CLOCK_MONOTONIC) == 0);
     CHECK(pthread_mutex_init(&self->lock, NULL) == 0);
-    for (int i = 0; i <= THREADS; i++)
+    for (int i = 0; i <= threads; i++)
         CHECK(pthread_cond_init(&self->woken[i], &monotonic) == 0);
 }
 
 /* Every end of the channel, then two of a shared channel over all of them, wait so. */
 void own_parks_storm(uint64_t items) {
     static lot self;
-    static fak_c_seat seats[THREADS + 1];
-    static fak_channel_end ends[THREADS + 1];
+    static fak_c_seat seats[MOST_THREADS + 1];
+    static fak_channel_end ends[MOST_THREADS + 1];
     fak_channel_waiting waiting = {park_in, unpark_in, yield_in, &self, 0};
     fak_channel_shared shared = {0};
-    caller callers[THREADS + 1] = {0};
+    caller callers[MOST_THREADS + 1] = {0};
+    count_threads();
     make_lot(&self);
-    CHECK(fak_channel_open(seats, THREADS + 1, CELLS, LONG_STINT) == FAK_C_OK);
-    for (int i = 0; i <= THREADS; i++) {
+    CHECK(fak_channel_open(seats, (size_t)threads + 1, CELLS, LONG_STINT) == FAK_C_OK);
+    for (int i = 0; i <= threads; i++) {
         CHECK(fak_channel_end_of(&seats[i], &waiting, &ends[i]) == FAK_C_OK);
         callers[i].end = &ends[i];
     }
-    storm(callers, callers[THREADS], items);
+    storm(callers, callers[threads], items);
     CHECK(self.parks > 0 && self.unparks > 0);
-    for (int i = 0; i <= THREADS; i++)
+    for (int i = 0; i <= threads; i++)
         CHECK(fak_channel_leave(&ends[i]) == FAK_C_OK);
 
     waiting.pause = NULL;
@@ -272,7 +349,7 @@ void own_parks_storm(uint64_t items) {
     for (int i = 0; i < 5; i++)
         CHECK(fak_channel_end_of(&seats[i], &waiting, &ends[i]) == FAK_C_OK);
     CHECK(fak_channel_shared_over(&shared, ends, 1, 2) == FAK_C_OK);
-    for (int i = 0; i < THREADS; i++)
+    for (int i = 0; i < threads; i++)
         callers[i] = (caller){NULL, &shared};
     storm(callers, callers[0], items / 2);
     CHECK(fak_channel_shared_leave(&shared) == FAK_C_OK && waiting.ends == 0);
