@@ -68,7 +68,7 @@ constexpr const char *text_of(Code code) noexcept {
     case Code::Wakes:
         return "the up owes a wake";
     case Code::Busy:
-        return "others hold the file table";
+        return "others hold the file table, or all ends are lent";
     case Code::Sleeps:
         return "the call sleeps";
     case Code::GaveUp:

@@ -47,11 +47,12 @@ template <class T> struct Cargo {
     }
 };
 
+/* Of an object or, as T[], of an array. */
 template <class T> struct Cargo<std::unique_ptr<T>> {
     static fak_channel_item pack(const std::unique_ptr<T> &item) noexcept { return fak_channel_of_pointer(item.get()); }
     static void sent(std::unique_ptr<T> &item) noexcept { static_cast<void>(item.release()); }
     static std::unique_ptr<T> unpack(const fak_channel_item &packed) noexcept {
-        return std::unique_ptr<T>(static_cast<T *>(fak_channel_pointer_of(&packed)));
+        return std::unique_ptr<T>(static_cast<typename std::unique_ptr<T>::pointer>(fak_channel_pointer_of(&packed)));
     }
 };
 
@@ -64,8 +65,10 @@ inline std::uint64_t nanoseconds_of(Clock::time_point time) noexcept {
     return count > 0 ? static_cast<std::uint64_t>(count) : 0;
 }
 
-/* The time that is this long from now. Above a hundred years it is the last one, since the sum might be too large. */
+/* The time that is this long from now, and now if that is past. Above a hundred years it is the last one: the sum might be too large. */
 template <class Duration> Clock::time_point time_after(Duration duration) noexcept {
+    if (duration <= Duration::zero())
+        return Clock::now();
     bool is_soon = std::chrono::duration<double>(duration) < std::chrono::hours(876000);
     return is_soon ? Clock::now() + std::chrono::duration_cast<Clock::duration>(duration) : Clock::time_point::max();
 }
@@ -239,15 +242,15 @@ public:
             delete shared;
     }
 
-    Code close() noexcept { return shared != nullptr ? Code{fak_channel_shared_close(&shared->channel)} : Code::NoSeat; }
+    Code close() const noexcept { return shared != nullptr ? Code{fak_channel_shared_close(&shared->channel)} : Code::NoSeat; }
 
     /* The items that are ready. */
-    Answer<std::uint64_t> len() noexcept {
+    Answer<std::uint64_t> len() const noexcept {
         std::uint64_t items = 0;
         Code code = shared != nullptr ? Code{fak_channel_shared_len(&shared->channel, &items)} : Code::NoSeat;
         return {code, items};
     }
-    Answer<bool> is_closed() noexcept {
+    Answer<bool> is_closed() const noexcept {
         bool is_closed = false;
         Code code = shared != nullptr ? Code{fak_channel_shared_is_closed(&shared->channel, &is_closed)} : Code::NoSeat;
         return {code, is_closed};

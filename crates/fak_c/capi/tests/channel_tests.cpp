@@ -50,6 +50,22 @@ static void items_have_types() {
     passes<Large>({{1, 2, 3, 4}}, [](const Large &item) { return item.words[0] == 1 && item.words[3] == 4; });
 }
 
+/* An array is owned as a whole. */
+static void arrays_pass() {
+    using Array = std::unique_ptr<int[]>;
+    fak::ChannelEnd<Array> ends[2];
+    CHECK(fak::ChannelEnd<Array>::open(ends, 2, 100) == Code::Ok);
+    Array item = std::make_unique<int[]>(3);
+    item[2] = 9;
+    CHECK(ends[0].send(std::move(item)) == Code::Ok && item == nullptr);
+    auto got = ends[1].receive();
+    CHECK(got && got.value[2] == 9);
+    auto channel = fak::Channel<Array>::open(2);
+    CHECK(channel && channel.value.sender.send(std::move(got.value)) == Code::Ok);
+    CHECK(channel.value.sender.try_send(std::make_unique<int[]>(1000)) == Code::Ok && channel.value.receiver.receive().value[2] == 9);
+    CHECK(ends[1].send(std::make_unique<int[]>(1000)) == Code::Ok);
+}
+
 /* ---- Handles ---- */
 
 static void ends_own_their_items() {
@@ -89,6 +105,10 @@ static void ends_wait_until_a_time() {
     CHECK(ends[0].send_until(5, fak::Clock::time_point::max()) == Code::Ok && ends[0].receive_until(time).value == 5);
     CHECK(ends[0].send_for(6, std::chrono::seconds(9)) == Code::Ok && ends[0].receive_for(std::chrono::hours::max()).value == 6);
     CHECK(ends[0].receive_for(std::chrono::milliseconds(1)).code == Code::GaveUp);
+    CHECK(ends[0].receive_for(std::chrono::hours::min()).code == Code::GaveUp);
+    CHECK(ends[0].receive_for(std::chrono::seconds(0)).code == Code::GaveUp && ends[0].send_for(7, std::chrono::hours::min()) == Code::Ok);
+    CHECK(ends[0].send_for(8, std::chrono::duration<double>(-1e300)) == Code::GaveUp && ends[0].try_receive().value == 7);
+    CHECK(!std::strcmp(fak::text_of(Code::Busy), "others hold the file table, or all ends are lent"));
     CHECK(ends[0].close() == Code::Ok && ends[0].receive().code == Code::Closed);
 }
 
@@ -105,6 +125,8 @@ static void parties_own_the_channel() {
     {
         auto [sender, receiver] = std::move(made.value);
         fak::Sender<Owned> copy = sender;
+        const fak::Sender<Owned> &fixed = sender;
+        CHECK(fixed.len().value == 0 && !fixed.is_closed().value);
         CHECK(sender.send_for(std::move(item), std::chrono::hours::max()) == Code::Ok && copy.len().value == 1);
         CHECK(copy.try_send(std::make_unique<Counted>(0, 2)) == Code::Ok);
         item = std::make_unique<Counted>(0, 3);
@@ -178,6 +200,7 @@ static void ends_pass_items_between_threads(int items) {
 int main(int count, char **words) {
     int items = count > 1 ? std::atoi(words[1]) : 20000;
     items_have_types();
+    arrays_pass();
     ends_own_their_items();
     ends_wait_until_a_time();
     parties_own_the_channel();
