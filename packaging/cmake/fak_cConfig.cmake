@@ -1,8 +1,13 @@
 # Targets, each with the headers:
-#   fak_c::fak_c     the archive that LLVM compiled, with the channel for threads, and the heap over malloc
-#   fak_c::rattle    the archive that Rattle's own compiler compiled, with the same channel and heap
+#   fak_c::fak_c     the archive that LLVM compiled, with the channel for threads, the heap over malloc, and the threads themselves
+#   fak_c::rattle    the archive that Rattle's own compiler compiled, with the same channel, heap and threads
 #   fak_c::no_heap   only the first archive; the program brings rattle_alloc, rattle_realloc and rattle_dealloc, for instance block.c
 # and FAK_C_BLOCK and FAK_C_CHANNEL, the paths of block.c and fak_channel.c.
+include(CMakeFindDependencyMacro)
+# A kernel has no threads of a C library, and links fak_c::no_heap.
+if(NOT CMAKE_SYSTEM_NAME STREQUAL "Generic")
+    find_dependency(Threads)
+endif()
 get_filename_component(_fak_c_prefix "${CMAKE_CURRENT_LIST_DIR}/../../.." ABSOLUTE)
 
 function(_fak_c_add name)
@@ -14,9 +19,9 @@ endfunction()
 
 if(NOT TARGET fak_c::fak_c)
     _fak_c_add(fak_c "${_fak_c_prefix}/lib/libfak_channel.a" "${_fak_c_prefix}/lib/libfak_c.a"
-        "${_fak_c_prefix}/lib/libfak_c_heap.a")
+        "${_fak_c_prefix}/lib/libfak_c_heap.a" Threads::Threads)
     _fak_c_add(rattle "${_fak_c_prefix}/lib/libfak_channel.a" "${_fak_c_prefix}/lib/libfak_c_rattle.a"
-        "${_fak_c_prefix}/lib/libfak_c_heap.a")
+        "${_fak_c_prefix}/lib/libfak_c_heap.a" Threads::Threads)
     _fak_c_add(no_heap "${_fak_c_prefix}/lib/libfak_c.a")
 endif()
 set(FAK_C_BLOCK "${_fak_c_prefix}/share/fak_c/block.c")
