@@ -30,9 +30,11 @@ fn find() -> Result<(), String> {
     }
 }
 
+// The archive is copied into the crate. So a later one makes cargo build the crate again.
 fn link(folder: &Path, name: &str) {
     println!("cargo:rustc-link-search=native={}", folder.display());
     println!("cargo:rustc-link-lib=static={name}");
+    println!("cargo:rerun-if-changed={}", folder.join(format!("lib{name}.a")).display());
 }
 
 fn in_folder(folder: &Path) -> Result<(), String> {

@@ -245,7 +245,7 @@ impl Seat {
         made(code, was_open)
     }
 
-    /// How many items are ready: insertions that have ended, less the deletions begun and not withdrawn. While no other seat is in a call
+    /// How many items are ready: insertions that have ended, less the deletions begun and not withdrawn. While no seat has an open call
     /// it is the number of items. It is below 0 while deletions are refused.
     pub fn count(&mut self) -> i64 {
         let mut items = 0;
