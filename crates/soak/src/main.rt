@@ -1,4 +1,5 @@
-//! Performs calls of all kinds on small shared objects, by four threads at once, and checks that all results are right.
+//! Performs calls that wait, tries and steps on small shared objects, by four threads at once, and checks that all results
+//! are right. Bursts and channels are not among these objects.
 //!
 //! A part is one object with its threads. Each number that goes into a queue or a semaphore comes out once, and those
 //! of one thread come out in their order. No room lets in more than its bound, a credit ends at its sum, and nobody
