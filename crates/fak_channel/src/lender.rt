@@ -1,18 +1,22 @@
 //! A lender of ends, for threads that have none.
 
 ghost use Rattle.std.specs.Prelude.{◌≡◌, MatchResult};
-ghost use Rattle.fak_channel.specs.Lending.{SomeEndCloses, SomeEndIsSpent, SomeEndReceives, SomeEndRefusesReceive};
-ghost use Rattle.fak_channel.specs.Lending.{SomeEndRefusesSend, SomeEndRefusesTryReceive, SomeEndRefusesTrySend};
-ghost use Rattle.fak_channel.specs.Lending.{SomeEndSends, SomeEndSendsAfterLook};
+ghost use Rattle.fak_channel.specs.declared.shelf.Shelf.{out-Shelf};
+ghost use Rattle.fak_channel.specs.Lending.{BusyOrRefusesReceive, BusyOrRefusesSend, SomeEndCloses, SomeEndIsSpent};
+ghost use Rattle.fak_channel.specs.Lending.{SomeEndReceives, SomeEndRefusesReceive, SomeEndRefusesSend, SomeEndSends};
+ghost use Rattle.fak_channel.specs.Lending.{SomeEndSendsAfterLook};
 
 use crate::end::End;
 use crate::fault::{ChannelWorn, ReceiveFault, SendFault};
+use crate::lender_fault::{LenderReceiveFault, LenderSendFault};
 use crate::shelf::Shelf;
+use crate::sleeper::time_left;
 use std::alloc::{AllocError, Global};
 use std::fmt;
 use std::sync::{Condvar, Mutex, Wait};
+use std::time::{Clock, Instant};
 
-/// Lends ends of channels, each to one borrower at a time. A borrower sleeps while all ends are lent.
+/// Lends ends of channels, each to one borrower at a time. While all ends are lent, a borrower sleeps, and a try fails.
 ///
 /// A call that sleeps keeps its end. So use one lender for the ends of senders and another for those of receivers.
 /// Otherwise sleeping receivers may have all ends, and no sender gets one.
@@ -22,7 +26,7 @@ pub struct Lender<'c, T> {
     given_back: Condvar,
 }
 
-/// A lent end. It cannot be dropped, only given back (`Lender::take_back`).
+/// A lent end. It cannot be dropped, only given back (`Lender::take_back`) or kept (`into_end`).
 pub struct Loan<'c, T> {
     shelf: Box<Shelf<'c, T>>,
 }
@@ -53,12 +57,27 @@ impl<'c, T: Drop> Lender<'c, T> {
             let mut idle = self
                 .given_back
                 .wait_while(rt, self.idle.lock(rt), |idle| idle.is_none());
-            if let Some(mut shelf) = idle.take() {
-                *idle = shelf.below.take();
-                return Loan { shelf };
+            if let Some(loan) = take_off(&mut idle) {
+                return loan;
             }
         }
         unreachable!()
+    }
+
+    /// Lends an end, unless all ends are lent. The thread does not sleep for an end.
+    pub fn try_lend<R: Wait>(&self, rt: &R) -> Option<Loan<'c, T>> {
+        take_off(&mut self.idle.lock(rt))
+    }
+
+    /// Lends an end. The thread sleeps while all ends are lent, until the deadline at most. A clock that cannot be read ends the
+    /// wait.
+    pub fn lend_deadline<R: Wait + Clock>(&self, rt: &R, deadline: Instant) -> Option<Loan<'c, T>> {
+        let idle = self.idle.lock(rt);
+        let left = time_left(rt, deadline);
+        let (mut idle, _) = self
+            .given_back
+            .wait_timeout_while(rt, idle, left, |idle| idle.is_none());
+        take_off(&mut idle)
     }
 
     /// Takes back an end that was lent, and wakes a borrower that waits for one.
@@ -85,18 +104,23 @@ impl<'c, T: Drop> Lender<'c, T> {
         sent
     }
 
-    /// Sends the item by a borrowed end, if there is a free cell.
+    /// Sends the item by a borrowed end, if an end is not lent and there is a free cell. The thread does not sleep.
     ///
     /// # Errors
     ///
-    /// As `End::try_send`; the item comes back.
-    pub fn try_send<R: Wait>(&self, rt: &R, item: T) -> Result<(), SendFault<T>>
-        ensures { MatchResult result (λ _. SomeEndSendsAfterLook item) (SomeEndRefusesTrySend item) }
+    /// `Busy`, if all ends are lent; otherwise `Refused` with the fault of `End::try_send`. The item comes back.
+    pub fn try_send<R: Wait>(&self, rt: &R, item: T) -> Result<(), LenderSendFault<T>>
+        ensures { MatchResult result (λ _. SomeEndSendsAfterLook item) (BusyOrRefusesSend item) }
     {
-        let mut loan = self.lend(rt);
+        let Some(mut loan) = self.try_lend(rt) else {
+            return Err(LenderSendFault::Busy { item });
+        };
         let sent = loan.end().try_send(rt, item);
         self.take_back(rt, loan);
-        sent
+        match sent {
+            Ok(()) => Ok(()),
+            Err(fault) => Err(LenderSendFault::Refused { fault }),
+        }
     }
 
     /// Receives the oldest item by a borrowed end.
@@ -113,18 +137,23 @@ impl<'c, T: Drop> Lender<'c, T> {
         received
     }
 
-    /// Receives the oldest item by a borrowed end, if there is one.
+    /// Receives the oldest item by a borrowed end, if an end is not lent and there is an item. The thread does not sleep.
     ///
     /// # Errors
     ///
-    /// As `End::try_receive`.
-    pub fn try_receive<R: Wait>(&self, rt: &R) -> Result<T, ReceiveFault>
-        ensures { MatchResult result SomeEndReceives (SomeEndRefusesTryReceive T) }
+    /// `Busy`, if all ends are lent; otherwise `Refused` with the fault of `End::try_receive`.
+    pub fn try_receive<R: Wait>(&self, rt: &R) -> Result<T, LenderReceiveFault>
+        ensures { MatchResult result SomeEndReceives (BusyOrRefusesReceive T) }
     {
-        let mut loan = self.lend(rt);
+        let Some(mut loan) = self.try_lend(rt) else {
+            return Err(LenderReceiveFault::Busy);
+        };
         let received = loan.end().try_receive(rt);
         self.take_back(rt, loan);
-        received
+        match received {
+            Ok(item) => Ok(item),
+            Err(fault) => Err(LenderReceiveFault::Refused { fault }),
+        }
     }
 
     /// Closes the channel by a borrowed end. Returns whether the channel was open before.
@@ -147,6 +176,22 @@ impl<'c, T: Drop> Loan<'c, T> {
     pub fn end(&mut self) -> &mut End<'c, T> {
         &mut self.shelf.end
     }
+
+    /// The end, which the lender does not get back. It calls by itself from now on; `end.channel` is its channel.
+    pub fn into_end(self) -> End<'c, T>
+        ensures { result ≡ (out-Shelf T self.entry.shelf.value).end }
+    {
+        let Loan { shelf } = self;
+        let Shelf { end, below: _ } = Box::into_inner(shelf);
+        end
+    }
+}
+
+/// Takes the top shelf off, if there is one.
+fn take_off<'c, T: Drop>(idle: &mut Option<Box<Shelf<'c, T>>>) -> Option<Loan<'c, T>> {
+    let mut shelf = idle.take()?;
+    *idle = shelf.below.take();
+    Some(Loan { shelf })
 }
 
 impl<'c, T> fmt::Debug for Lender<'c, T> {

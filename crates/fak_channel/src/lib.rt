@@ -8,7 +8,7 @@
 //!   at most; `try_send` and `try_receive` do not sleep.
 //! - `close` refuses later sends. Receivers get what is left, and then `Closed`.
 //! - `len`, `is_empty` and `is_closed` look, and change nothing.
-//! - `Lender` lends ends to threads that have none.
+//! - `Lender` lends ends to threads that have none. Its tries do not sleep for an end.
 //! - `End::into_seat`, then `Channel::tally`, `join` and `into_rest`, return what is left once all seats are back.
 //! - To cite: `Sends`, `Receives`, `IsOver`, `ClosesAs` and similar (`specs/Channels.antt`), in the terms of `fak_queue`.
 //!
@@ -24,6 +24,7 @@ mod end;
 mod fault;
 mod leaving;
 mod lender;
+mod lender_fault;
 mod looking;
 mod opening;
 mod parking;
@@ -55,6 +56,7 @@ pub use end::End;
 pub use fak_queue::{LARGE_SEATS, LARGE_SIZE, LARGE_TICKETS, LargeFault, Rest, Tally};
 pub use fault::{ChannelWorn, ReceiveFault, SendFault};
 pub use lender::{Lender, Loan};
+pub use lender_fault::{LenderReceiveFault, LenderSendFault};
 pub use seat::ChannelSeat;
 pub use standing::{ChannelState, ChannelStep, Outcome, Wish};
 pub use step_seat::ChannelStepSeat;

@@ -24,6 +24,14 @@ pub(crate) enum Revived {
     Woken,
 }
 
+/// The time that is left until the deadline; none, if the clock cannot be read.
+pub(crate) fn time_left(clock: &impl Clock, deadline: Instant) -> Duration {
+    match Instant::now(clock) {
+        Ok(now) => deadline.saturating_duration_since(now),
+        Err(_) => Duration::ZERO,
+    }
+}
+
 /// A thread's sleeper in one wait queue. A wake and a deadline may race: whichever changes the word first wins.
 #[derive(Drop)]
 pub(crate) struct Sleeper {
@@ -66,10 +74,7 @@ impl Sleeper {
             if self.is_woken() {
                 return true;
             }
-            let left = match Instant::now(rt) {
-                Ok(now) => deadline.saturating_duration_since(now),
-                Err(_) => Duration::ZERO,
-            };
+            let left = time_left(rt, deadline);
             if left.is_zero() {
                 return self.give_up();
             }

@@ -1,11 +1,14 @@
 //! More callers than ends: each borrows an end and gives it back.
 
 use super::assertions::assert_equal;
-use super::steps::open;
-use fak_channel::{End, Lender, ReceiveFault, SendFault};
+use super::steps::{open, soon};
+use fak_channel::{
+    End, Lender, LenderReceiveFault, LenderSendFault, Loan, ReceiveFault, SendFault,
+};
 use std::process::Abort;
 use std::sync::Wait;
 use std::thread::{Threads, map_vec};
+use std::time::Clock;
 
 /// The number of items that each sender sends.
 const ITEMS: u64 = 200;
@@ -71,13 +74,20 @@ fn a_lender_makes_each_call(rt: HostRuntime) {
     let (channel, seats) = open(&rt, 1, 2, 100);
     let mut ends = channel.ends(rt.alloc(), seats).expect(&rt, "memory");
     let lender = lender_of_two(&rt, &mut ends);
-    assert_equal(&rt, lender.try_receive(&rt), Err(ReceiveFault::Empty));
+    let fault = ReceiveFault::Empty;
+    assert_equal(
+        &rt,
+        lender.try_receive(&rt),
+        Err(LenderReceiveFault::Refused { fault }),
+    );
     assert_equal(&rt, lender.send(&rt, 10), Ok(()));
+    let fault = SendFault::Full { item: 11 };
     assert_equal(
         &rt,
         lender.try_send(&rt, 11),
-        Err(SendFault::Full { item: 11 }),
+        Err(LenderSendFault::Refused { fault }),
     );
+    assert_equal(&rt, LenderSendFault::Refused { fault }.into_item(), 11);
     assert_equal(&rt, lender.receive(&rt), Ok(10));
     assert_equal(&rt, lender.try_send(&rt, 12), Ok(()));
     assert_equal(&rt, lender.close(&rt), Ok(true));
@@ -95,4 +105,95 @@ fn a_lender_makes_each_call(rt: HostRuntime) {
     assert_equal(&rt, other.end().len(), 0);
     lender.take_back(&rt, loan);
     lender.take_back(&rt, other);
+}
+
+/// Whether all ends are lent.
+fn is_busy<R: Wait>(rt: &R, lender: &Lender<'_, u64>) -> bool {
+    match lender.try_lend(rt) {
+        Some(loan) => {
+            lender.take_back(rt, loan);
+            false
+        }
+        None => true,
+    }
+}
+
+/// An end that the lender lends by this time, 60 seconds from now.
+fn lent_soon<'c, R: Abort + Clock + Wait>(rt: &R, lender: &Lender<'c, u64>) -> Loan<'c, u64> {
+    match lender.lend_deadline(rt, soon(rt, 60_000)) {
+        Some(loan) => loan,
+        None => panic!(rt; "an end"),
+    }
+}
+
+#[test]
+fn a_try_does_not_wait_for_an_end(rt: HostRuntime) {
+    let (channel, seats) = open(&rt, 1, 2, 100);
+    let mut ends = channel.ends(rt.alloc(), seats).expect(&rt, "memory");
+    let lender = lender_of_two(&rt, &mut ends);
+    assert_equal(&rt, is_busy(&rt, &lender), false);
+    let loan = lender.lend(&rt);
+    let other = lent_soon(&rt, &lender);
+    assert_equal(&rt, is_busy(&rt, &lender), true);
+    assert_equal(
+        &rt,
+        lender.try_send(&rt, 10),
+        Err(LenderSendFault::Busy { item: 10 }),
+    );
+    assert_equal(&rt, LenderSendFault::Busy { item: 10u64 }.into_item(), 10);
+    assert_equal(&rt, lender.try_receive(&rt), Err(LenderReceiveFault::Busy));
+    if let Some(third) = lender.lend_deadline(&rt, soon(&rt, 1)) {
+        lender.take_back(&rt, third);
+        panic!(&rt; "no end is there");
+    }
+    lender.take_back(&rt, loan);
+    assert_equal(&rt, lender.try_send(&rt, 11), Ok(()));
+    lender.take_back(&rt, other);
+    assert_equal(&rt, lender.try_receive(&rt), Ok(11));
+}
+
+/// Lends and gives back an end `ITEMS` times. Returns the number of looks.
+fn borrow<R: Abort + Clock + Wait>(rt: &R, lender: &Lender<'_, u64>) -> u64 {
+    let mut looks = 0u64;
+    for _ in 0..ITEMS {
+        let mut loan = lent_soon(rt, lender);
+        if loan.end().is_empty() {
+            looks = looks.wrapping_add(1);
+        }
+        lender.take_back(rt, loan);
+    }
+    looks
+}
+
+#[test]
+fn a_borrower_wakes_up_before_its_deadline(rt: HostRuntime) {
+    let (channel, seats) = open(&rt, 1, 2, 100);
+    let mut ends = channel.ends(rt.alloc(), seats).expect(&rt, "memory");
+    let lender = lender_of_two(&rt, &mut ends);
+    let mut numbers = Vec::new(rt.alloc());
+    for number in 0..6u64 {
+        numbers.push(number).expect(&rt, "memory");
+    }
+    let looks = map_vec(&rt, numbers, &|_number: u64| borrow(&rt, &lender));
+    for each in looks.expect(&rt, "memory") {
+        assert_equal(&rt, each, ITEMS);
+    }
+}
+
+#[test]
+fn ends_are_taken_out_again(rt: HostRuntime) {
+    let (channel, seats) = open(&rt, 4, 2, 100);
+    let mut ends = channel.ends(rt.alloc(), seats).expect(&rt, "memory");
+    let lender = lender_of_two(&rt, &mut ends);
+    assert_equal(&rt, lender.send(&rt, 10), Ok(()));
+    assert_equal(&rt, lender.send(&rt, 11), Ok(()));
+    let mut first = lender.lend(&rt).into_end();
+    let mut second = lender.lend(&rt).into_end();
+    assert_equal(&rt, is_busy(&rt, &lender), true);
+    assert_equal(&rt, first.close(&rt), Ok(true));
+    assert_equal(&rt, second.receive(&rt), Ok(10));
+    assert_equal(&rt, first.receive(&rt), Ok(11));
+    assert_equal(&rt, second.receive(&rt), Err(ReceiveFault::Closed));
+    let tally = first.channel.tally(first.into_seat());
+    assert_equal(&rt, tally.is_whole(), false);
 }

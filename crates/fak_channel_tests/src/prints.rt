@@ -2,7 +2,9 @@
 
 use super::assertions::{assert_shown, assert_written};
 use super::steps::open;
-use fak_channel::{ChannelWorn, Lender, ReceiveFault, SendFault};
+use fak_channel::{
+    ChannelWorn, Lender, LenderReceiveFault, LenderSendFault, ReceiveFault, SendFault,
+};
 
 #[test]
 fn faults_say_what_was_wrong(rt: HostRuntime) {
@@ -27,6 +29,24 @@ fn faults_say_what_was_wrong(rt: HostRuntime) {
         "the channel was empty until the deadline",
     );
     assert_shown(&rt, &ChannelWorn, "the stint is used up");
+}
+
+#[test]
+fn faults_of_a_lender_say_what_was_wrong(rt: HostRuntime) {
+    assert_shown(&rt, &LenderSendFault::Busy { item: 1 }, "all ends are lent");
+    let fault = SendFault::Full { item: 1 };
+    assert_shown(
+        &rt,
+        &LenderSendFault::Refused { fault },
+        "the channel is full",
+    );
+    assert_shown(&rt, &LenderReceiveFault::Busy, "all ends are lent");
+    let fault = ReceiveFault::Empty;
+    assert_shown(
+        &rt,
+        &LenderReceiveFault::Refused { fault },
+        "the channel is empty",
+    );
 }
 
 #[test]

@@ -1,14 +1,22 @@
 //! Calls of a lender of ends.
 
 use super::sentinels::{begin, end};
-use fak_channel::{Channel, End, Lender, ReceiveFault, SendFault};
+use fak_channel::{
+    Channel, End, Lender, LenderReceiveFault, LenderSendFault, ReceiveFault, SendFault,
+};
 use std::sync::Wait;
 
 /// Calls by ends that are borrowed, of a channel with one cell.
 fn call_by_loans<R: Wait>(rt: &R, lender: &Lender<'_, u64>) -> bool {
-    lender.try_receive(rt) == Err(ReceiveFault::Empty)
+    let empty = LenderReceiveFault::Refused {
+        fault: ReceiveFault::Empty,
+    };
+    let full = LenderSendFault::Refused {
+        fault: SendFault::Full { item: 11 },
+    };
+    lender.try_receive(rt) == Err(empty)
         && lender.send(rt, 10) == Ok(())
-        && lender.try_send(rt, 11) == Err(SendFault::Full { item: 11 })
+        && lender.try_send(rt, 11) == Err(full)
         && lender.receive(rt) == Ok(10)
         && lender.try_send(rt, 12) == Ok(())
         && lender.try_receive(rt) == Ok(12)

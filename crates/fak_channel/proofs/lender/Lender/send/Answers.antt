@@ -1,8 +1,6 @@
-use Rattle.fak_channel.specs.Lending.{Call}
-use Rattle.fak_channel.proofs.Borrowing.{outcomes}
+use Rattle.std.proofs.Common.{rules}
+use Rattle.fak_channel.proofs.Borrowing.{sent}
 use Rattle.fak_channel.proofs.lender.Lender.send.Goals as goal
 
 pub returns : goal.returns
-returns g c =
-    let call : Call g.row.T.Denot = record { channel = c.end.result.now.channel.now; old = c.end.result.now.seat; new = c.send-sent.new.self.seat } in
-    outcomes c.send-sent.result (λ x does. (call, does)) (λ x does. (call, does)) c.send-sent.ensures.call
+returns g c = search (rules, sent)
