@@ -1,12 +1,12 @@
 -- Calls of a channel by steps that never wait: the state of a seat, what its call has done so far, and how the call ends.
-use Rattle.std.specs.Prelude.{◌≡◌, ◌≢◌, ◌⊎◌, ℕ, zero, suc, ◌+◌, ◌<◌, ◌≤◌, true, false, List, [], ◌∷◌, Option, Some, None}
+use Rattle.std.specs.Prelude.{◌≡◌, ◌≢◌, ◌⊎◌, ℕ, zero, suc, ◌+◌, ◌<◌, ◌≤◌, ℤ, true, false, List, [], ◌∷◌, Option, Some, None}
 use Rattle.std.specs.List.{All, flat_map}
 use Rattle.fak_model.specs.declared.queue.Kind.TheVariants as made
 use Rattle.fak_model.specs.declared.queue.Mark.{Mark}
 use Rattle.fak_model.specs.Calls.{SeatInfo}
 use Rattle.fak_model.specs.Queue.{count, puts, gots, items_put, item_at}
 use Rattle.fak_queue.specs.Drained.{IsDrained}
-use Rattle.fak_queue.specs.Queues.{Makes, Deletes, ShutsAs, drawn_by, state_of, before_own, size_of}
+use Rattle.fak_queue.specs.Queues.{Makes, Deletes, RefusesFull, ShutsAs, WaitsToFill, WaitsToTake, drawn_by, state_of, before_own, size_of}
 use Rattle.fak_queue.specs.Retries.{RefusedInsertion, kinds_not_in, IsFull, InsertsAfterFull, ClosesAfterFull}
 use Rattle.fak_queue.specs.declared.state.SeatState.{SeatState}
 use Rattle.fak_queue.specs.declared.state.SeatState.TheVariants as at
@@ -31,7 +31,7 @@ use Rattle.fak_channel.specs.declared.standing.Wish.TheVariants.{Send, Receive}
 use Rattle.fak_channel.specs.declared.step_seat.ChannelStepSeat.{ChannelStepSeat}
 use Rattle.fak_channel.specs.Channels.{IsSpent, Tries, Sends, RefusesSend, RefusesSendUntil, Receives, RefusesReceive, RefusesReceiveUntil, ClosesAs}
 use Rattle.fak_channel.specs.Permits.{PermitInfo, calls_by, IsLater, Acquires, Seeks, Releases}
-use Rattle.fak_channel.specs.StepPermits.{IsFree, IsParked, HasOne, HasTwo, TakesNumber}
+use Rattle.fak_channel.specs.StepPermits.{IsFree, IsParked, HasOne, HasTwo, OwesStill, ParksAs, TakesNumber}
 
 -- ---- seats
 
@@ -334,30 +334,49 @@ StandsAfter new step.Sleeps = IsAsleep new
 StandsAfter new (step.Wakes number) = IsInCall new
 StandsAfter new (step.Ends o) = new.standing ≡ Idle
 
--- a step that is to wake a thread takes its number out of the wait queue and returns it; or the wake is still owed; or
--- it found a thread that had given up, and the permit is to be released again; no other step returns a number
+-- a claim in the queue was refused Full
+abbrev pub FindsFull : {T : Type 0} → ℕ → SeatInfo (Mark T) → SeatInfo (Mark T) → Type 0
+FindsFull size old new = (upper : ℤ) × RefusesFull size upper old new
+
+-- a step on the way of the call's sleeper into the wait queue
+abbrev pub ParksOnFor : {T : Type 0} → Wish T → Channel T → ChannelStepSeat T → ChannelStepSeat T → Type 0
+ParksOnFor (Send x) c old new = ParksAs (size_of c.cells.queue) old.cells new.cells false
+ParksOnFor Receive c old new = ParksAs (size_of c.items.queue) old.items new.items false
+
+abbrev pub SameParts : {T : Type 0} → ChannelStepSeat T → ChannelStepSeat T → Type 0
+SameParts old new = (new.queue ≡ old.queue) × (new.items ≡ old.items) × (new.cells ≡ old.cells)
+
+-- what the result of a step tells. `NotYet` comes if a claim in the queue was refused Full, or if the cell of a ticket is
+-- not ready, or after one step in a wait queue; `Sleeps` if the sleeper of the call is not yet woken. A step that is to
+-- wake a thread takes its number out of the wait queue and returns it; or the wake is still owed; or it found a thread
+-- that had given up, and the permit is to be released again. No other step returns a number
 abbrev pub TellsFrom : {T : Type 0} → CallStanding T → Channel T → ChannelStepSeat T → ChannelStepSeat T → ChannelStep T → Type 0
-TellsFrom (WakingCell o) c old new step.NotYet = new.standing ≡ WakingCell o
+TellsFrom (Parking w) c old new step.NotYet = ParksOnFor w c old new
+TellsFrom (Sleeping w) c old new step.Sleeps = (new.standing ≡ Sleeping w) × SameParts old new
+TellsFrom (Claiming (Send x)) c old new step.NotYet = FindsFull c.queue.size old.queue new.queue
+TellsFrom Inserting c old new step.NotYet = WaitsToFill c.queue.size (ticket_in (state_of old.queue)) old.queue new.queue
+TellsFrom Deleting c old new step.NotYet = WaitsToTake c.queue.size (ticket_in (state_of old.queue)) old.queue new.queue
+TellsFrom (WakingCell o) c old new step.NotYet = (new.standing ≡ WakingCell o) × OwesStill (size_of c.cells.queue) old.cells new.cells
 TellsFrom (WakingCell o) c old new step.GoesOn = new.standing ≡ ReleasingCell o
 TellsFrom (WakingCell o) c old new (step.Wakes number) = (new.standing ≡ Announcing o) × TakesNumber (size_of c.cells.queue) number old.cells new.cells
-TellsFrom (WakingCell o) c old new step.Sleeps = ⊥
 TellsFrom (WakingCell o) c old new (step.Ends p) = ⊥
-TellsFrom (WakingItem o) c old new step.NotYet = new.standing ≡ WakingItem o
+TellsFrom (WakingItem o) c old new step.NotYet = (new.standing ≡ WakingItem o) × OwesStill (size_of c.items.queue) old.items new.items
 TellsFrom (WakingItem o) c old new step.GoesOn = new.standing ≡ ReleasingItem o
 TellsFrom (WakingItem o) c old new (step.Wakes number) = (new.standing ≡ Ending o) × TakesNumber (size_of c.items.queue) number old.items new.items
-TellsFrom (WakingItem o) c old new step.Sleeps = ⊥
 TellsFrom (WakingItem o) c old new (step.Ends p) = ⊥
+TellsFrom _ c old new step.NotYet = ⊥
+TellsFrom _ c old new step.Sleeps = ⊥
 TellsFrom _ c old new (step.Wakes number) = ⊥
 TellsFrom _ c old new _ = Unit {0}
 
-abbrev pub TellsWake : {T : Type 0} → Channel T → ChannelStepSeat T → ChannelStepSeat T → ChannelStep T → Type 0
-TellsWake c old new s = TellsFrom old.standing c old new s
+abbrev pub Tells : {T : Type 0} → Channel T → ChannelStepSeat T → ChannelStepSeat T → ChannelStep T → Type 0
+Tells c old new s = TellsFrom old.standing c old new s
 
 -- one step
 pub record StepsAs {T : Type 0} (c : Channel T) (old new : ChannelStepSeat T) (s : ChannelStep T) : Type 0 where
   pub after : StandsAfter new s
   pub call : Steps c.queue.size old new s
-  pub tells : TellsWake c old new s
+  pub tells : Tells c old new s
 
 -- any number of steps, each of which goes on
 pub data HasGoneOn {T : Type 0} (c : Channel T) (old : ChannelStepSeat T) : ChannelStepSeat T → Type 0 where

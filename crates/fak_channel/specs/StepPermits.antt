@@ -1,11 +1,11 @@
 -- Permits by steps that never wait: what callers see of a seat, and what a step does.
-use Rattle.std.specs.Prelude.{◌≡◌, ℕ, ◌+◌, ◌<◌, Bool, true, false}
+use Rattle.std.specs.Prelude.{◌≡◌, ℕ, ◌+◌, ◌<◌, Bool, true, false, None}
 use Rattle.fak_queue.specs.declared.state.SeatState.TheVariants as state
 use Rattle.fak_queue.specs.Queues.{Takes, state_of}
 use Rattle.fak_sem.specs.declared.standing.Standing.TheVariants.{Idle}
 use Rattle.fak_sem.specs.Semaphores.{queue_part}
 use Rattle.fak_sem.specs.Standings.{IsParking, IsWaking}
-use Rattle.fak_sem.specs.Steps.{StepSeatInfo}
+use Rattle.fak_sem.specs.Steps.{StepSeatInfo, StepsToParkFrom, StepsToWakeFrom}
 use Rattle.fak_channel.specs.declared.permit_steps.Roused.{Roused}
 use Rattle.fak_channel.specs.declared.permit_steps.Roused.TheVariants as roused
 use Rattle.fak_channel.specs.declared.permit_steps.Sought.{Sought}
@@ -52,9 +52,17 @@ WakesUpIf false old new = new ≡ old
 abbrev pub TakesNumber : ℕ → ℕ → StepPermitInfo → StepPermitInfo → Type 0
 TakesNumber size number old new = (k : ℕ) × (state_of (queue_part old.count.seat) ≡ state.Deleting k) × Takes size k number (queue_part old.count.seat) (queue_part new.count.seat)
 
+-- a step of a down that parks its sleeper, in the wait queue
+abbrev pub ParksAs : ℕ → StepPermitInfo → StepPermitInfo → Bool → Type 0
+ParksAs size old new is_parked = StepsToParkFrom size old.count.standing new.count.standing is_parked (queue_part old.count.seat) (queue_part new.count.seat)
+
+-- a step of an up that owes a wake, which took no number out of the wait queue
+abbrev pub OwesStill : ℕ → StepPermitInfo → StepPermitInfo → Type 0
+OwesStill size old new = StepsToWakeFrom size old.count.standing new.count.standing None (queue_part old.count.seat) (queue_part new.count.seat)
+
 -- a step of an up that owes a wake: it still owes it; or it found a thread that had given up, and another up is
 -- possible; or the thread with this number is to be woken, and the up is done
 abbrev pub RousesAs : ℕ → StepPermitInfo → StepPermitInfo → Roused → Type 0
-RousesAs size old new roused.NotYet = IsWaking new.count.standing
+RousesAs size old new roused.NotYet = IsWaking new.count.standing × OwesStill size old new
 RousesAs size old new roused.Again = IsFree new × HasOne new
 RousesAs size old new (roused.Wakes number) = IsFree new × TakesNumber size number old new

@@ -6,7 +6,7 @@ ghost use Rattle.fak_channel.specs.Permits.{Acquires, AcquiresIf, calls_by};
 use crate::parking::park_at_last;
 use crate::permit_seat::PermitSeat;
 use crate::permits::Permits;
-use crate::sleeper::{Revived, Sleeper};
+use crate::sleeper::Revived;
 use std::sync::Wait;
 use std::time::{Clock, Instant};
 
@@ -21,7 +21,7 @@ impl Permits {
         if self.passes(rt, seat) {
             return;
         }
-        self.sleeper(seat).sleep(rt);
+        self.sleeper(seat.number).sleep(rt);
         seat.is_parked = false;
     }
 
@@ -40,7 +40,7 @@ impl Permits {
         if self.passes(rt, seat) {
             return true;
         }
-        let is_woken = self.sleeper(seat).sleep_until(rt, deadline);
+        let is_woken = self.sleeper(seat.number).sleep_until(rt, deadline);
         seat.is_parked = !is_woken;
         is_woken
     }
@@ -58,16 +58,9 @@ impl Permits {
         if self.passes(rt, seat) {
             return true;
         }
-        let is_woken = self.sleeper(seat).give_up();
+        let is_woken = self.sleeper(seat.number).give_up();
         seat.is_parked = !is_woken;
         is_woken
-    }
-
-    /// The seat's own sleeper.
-    fn sleeper(&self, seat: &PermitSeat) -> &Sleeper
-        requires { seat.now.object ≡ self.now }
-    {
-        &self.sleepers[seat.number as usize]
     }
 
     /// Whether the seat has a permit at once. If not, its sleeper is in the wait queue.
@@ -83,7 +76,7 @@ impl Permits {
         if !seat.is_parked {
             return self.goes_down(rt, seat);
         }
-        match self.sleeper(seat).revive() {
+        match self.sleeper(seat.number).revive() {
             Revived::Waits => false,
             Revived::Woken => {
                 seat.is_parked = false;
@@ -110,7 +103,7 @@ impl Permits {
         match self.count.claim_down(&mut seat.count, seat.number) {
             Ok(Some(_)) => true,
             Ok(None) => {
-                self.sleepers[seat.number as usize].begin();
+                self.sleeper(seat.number).begin();
                 seat.is_parked = true;
                 park_at_last(&self.count, rt, &mut seat.count);
                 false

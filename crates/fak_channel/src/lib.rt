@@ -22,7 +22,7 @@ mod closing;
 mod dealing;
 mod end;
 mod fault;
-mod leaving;
+mod joining;
 mod lender;
 mod lender_fault;
 mod looking;

@@ -5,10 +5,10 @@ ghost use Rattle.fak_queue.specs.Queues.{size_of};
 ghost use Rattle.fak_sem.specs.Standings.{IsParking, IsWaking};
 ghost use Rattle.fak_sem.specs.Steps.{StandsAfter, StandsOwing};
 ghost use Rattle.fak_channel.specs.Permits.{Releases};
-ghost use Rattle.fak_channel.specs.StepPermits.{HasOne, HasTwo, IsFree, RousesAs, SeeksAs, WakesUpIf};
+ghost use Rattle.fak_channel.specs.StepPermits.{HasOne, HasTwo, IsFree, ParksAs, RousesAs, SeeksAs, WakesUpIf};
 
 use crate::permits::Permits;
-use crate::sleeper::{Revived, Sleeper};
+use crate::sleeper::Revived;
 use crate::step_permits::StepPermitSeat;
 
 /// The result of a step that seeks a permit.
@@ -34,13 +34,6 @@ pub(crate) enum Roused {
 }
 
 impl Permits {
-    /// The seat's own sleeper.
-    fn sleeper_of(&self, seat: &StepPermitSeat) -> &Sleeper
-        requires { seat.now.permit.object ≡ self.now }
-    {
-        &self.sleepers[seat.number as usize]
-    }
-
     /// Seeks a permit. If the sleeper is still parked from a call that gave up, that down is taken up again: a second one
     /// would park the sleeper twice.
     pub(crate) fn seek(&self, seat: &mut StepPermitSeat) -> Sought
@@ -53,7 +46,7 @@ impl Permits {
         if !seat.is_parked {
             return self.begin_down(seat);
         }
-        match self.sleeper_of(seat).revive() {
+        match self.sleeper(seat.number).revive() {
             Revived::Waits => Sought::Sleeps,
             Revived::Woken => {
                 seat.is_parked = false;
@@ -81,7 +74,7 @@ impl Permits {
         match self.count.claim_down(&mut seat.count, seat.number) {
             Ok(Some(_)) => Sought::Has,
             Ok(None) => {
-                self.sleepers[seat.number as usize].begin();
+                self.sleeper(seat.number).begin();
                 seat.is_parked = true;
                 Sought::Parks
             }
@@ -96,6 +89,7 @@ impl Permits {
         requires parking { IsParking seat.old.count.standing }
         ensures permit { seat.new.permit ≡ seat.old.permit }
         ensures stands { StandsAfter seat.new.count.standing result }
+        ensures parks { ParksAs (size_of self.now.queue) seat.old seat.new result }
     {
         self.count.try_park(&mut seat.count)
     }
@@ -106,7 +100,7 @@ impl Permits {
         requires object { seat.old.permit.object ≡ self.now }
         ensures { WakesUpIf result seat.old seat.new }
     {
-        let is_woken = self.sleeper_of(seat).is_woken();
+        let is_woken = self.sleeper(seat.number).is_woken();
         if is_woken {
             seat.is_parked = false;
         }
@@ -119,7 +113,7 @@ impl Permits {
         requires object { seat.old.permit.object ≡ self.now }
         ensures { WakesUpIf result seat.old seat.new }
     {
-        let is_woken = self.sleeper_of(seat).give_up();
+        let is_woken = self.sleeper(seat.number).give_up();
         if is_woken {
             seat.is_parked = false;
         }

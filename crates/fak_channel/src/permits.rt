@@ -22,3 +22,15 @@ impl Model for Permits {
 
     ghost invariant = { λ p. vec_len p.sleepers ≡ seats_of p.count.object };
 }
+
+impl Permits {
+    ghost use Rattle.std.specs.Prelude.{◌<◌};
+    ghost use Rattle.fak_sem.specs.Semaphores.{seats_of};
+
+    /// The sleeper with this number.
+    pub(crate) fn sleeper(&self, number: u64) -> &Sleeper
+        requires { number < seats_of self.now }
+    {
+        &self.sleepers[number as usize]
+    }
+}

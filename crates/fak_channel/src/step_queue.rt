@@ -3,7 +3,7 @@
 ghost use Rattle.std.specs.Prelude.{◌≡◌};
 ghost use Rattle.fak_channel.specs.declared.standing.CallStanding.TheVariants.{Claiming, Deleting, Inserting, Looking, Shutting};
 ghost use Rattle.fak_channel.specs.declared.standing.Wish.TheVariants.{Receive, Send};
-ghost use Rattle.fak_channel.specs.ChannelSteps.{IsStepSeatOf, StandsAfter, Steps, TellsWake};
+ghost use Rattle.fak_channel.specs.ChannelSteps.{IsStepSeatOf, StandsAfter, Steps, Tells};
 
 use crate::channel::Channel;
 use crate::standing::{CallStanding, ChannelStep, Outcome, Wish};
@@ -18,7 +18,7 @@ impl<T: Drop> Channel<T> {
         ensures stands { IsStepSeatOf self.now seat.new }
         ensures after { StandsAfter seat.new result }
         ensures call { Steps self.now.queue.size (record seat.old { standing = Claiming (Send item) }) seat.new result }
-        ensures tells { TellsWake self.now (record seat.old { standing = Claiming (Send item) }) seat.new result }
+        ensures tells { Tells self.now (record seat.old { standing = Claiming (Send item) }) seat.new result }
     {
         match self.queue.claim_insert(&mut seat.queue, item) {
             Ok(_) => {
@@ -44,7 +44,7 @@ impl<T: Drop> Channel<T> {
         ensures stands { IsStepSeatOf self.now seat.new }
         ensures after { StandsAfter seat.new result }
         ensures call { Steps self.now.queue.size (record seat.old { standing = Claiming Receive }) seat.new result }
-        ensures tells { TellsWake self.now (record seat.old { standing = Claiming Receive }) seat.new result }
+        ensures tells { Tells self.now (record seat.old { standing = Claiming Receive }) seat.new result }
     {
         match self.queue.claim_delete(&mut seat.queue) {
             Ok(_) => {
@@ -66,7 +66,7 @@ impl<T: Drop> Channel<T> {
         ensures stands { IsStepSeatOf self.now seat.new }
         ensures after { StandsAfter seat.new result }
         ensures call { Steps self.now.queue.size (record seat.old { standing = Inserting }) seat.new result }
-        ensures tells { TellsWake self.now (record seat.old { standing = Inserting }) seat.new result }
+        ensures tells { Tells self.now (record seat.old { standing = Inserting }) seat.new result }
     {
         match self.queue.try_fill(&mut seat.queue) {
             Some(_) => {
@@ -87,7 +87,7 @@ impl<T: Drop> Channel<T> {
         ensures stands { IsStepSeatOf self.now seat.new }
         ensures after { StandsAfter seat.new result }
         ensures call { Steps self.now.queue.size (record seat.old { standing = Deleting }) seat.new result }
-        ensures tells { TellsWake self.now (record seat.old { standing = Deleting }) seat.new result }
+        ensures tells { Tells self.now (record seat.old { standing = Deleting }) seat.new result }
     {
         match self.queue.try_take(&mut seat.queue) {
             Some((_, item)) => {
@@ -108,7 +108,7 @@ impl<T: Drop> Channel<T> {
         ensures stands { IsStepSeatOf self.now seat.new }
         ensures after { StandsAfter seat.new result }
         ensures call { Steps self.now.queue.size (record seat.old { standing = Looking }) seat.new result }
-        ensures tells { TellsWake self.now (record seat.old { standing = Looking }) seat.new result }
+        ensures tells { Tells self.now (record seat.old { standing = Looking }) seat.new result }
     {
         if self.queue.is_drained(&mut seat.queue) {
             seat.standing = CallStanding::ReleasingItem(Outcome::Drained);
@@ -128,7 +128,7 @@ impl<T: Drop> Channel<T> {
         ensures stands { IsStepSeatOf self.now seat.new }
         ensures after { StandsAfter seat.new result }
         ensures call { Steps self.now.queue.size (record seat.old { standing = Shutting }) seat.new result }
-        ensures tells { TellsWake self.now (record seat.old { standing = Shutting }) seat.new result }
+        ensures tells { Tells self.now (record seat.old { standing = Shutting }) seat.new result }
     {
         if self.queue.shut(&mut seat.queue) {
             seat.standing = CallStanding::ReleasingCell(Outcome::Closed);

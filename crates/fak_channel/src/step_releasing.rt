@@ -2,7 +2,7 @@
 
 ghost use Rattle.std.specs.Prelude.{◌≡◌};
 ghost use Rattle.fak_channel.specs.declared.standing.CallStanding.TheVariants.{Announcing, ReleasingCell, ReleasingItem, WakingCell, WakingItem};
-ghost use Rattle.fak_channel.specs.ChannelSteps.{IsStepSeatOf, StandsAfter, Steps, TellsWake};
+ghost use Rattle.fak_channel.specs.ChannelSteps.{IsStepSeatOf, StandsAfter, Steps, Tells};
 
 use crate::channel::Channel;
 use crate::permit_steps::Roused;
@@ -21,7 +21,7 @@ impl<T: Drop> Channel<T> {
         ensures stands { IsStepSeatOf self.now seat.new }
         ensures after { StandsAfter seat.new result }
         ensures call { Steps self.now.queue.size (record seat.old { standing = ReleasingCell outcome }) seat.new result }
-        ensures tells { TellsWake self.now (record seat.old { standing = ReleasingCell outcome }) seat.new result }
+        ensures tells { Tells self.now (record seat.old { standing = ReleasingCell outcome }) seat.new result }
     {
         if self.cells.begin_up(&mut seat.cells) {
             seat.standing = CallStanding::WakingCell(outcome);
@@ -42,7 +42,7 @@ impl<T: Drop> Channel<T> {
         ensures stands { IsStepSeatOf self.now seat.new }
         ensures after { StandsAfter seat.new result }
         ensures call { Steps self.now.queue.size (record seat.old { standing = WakingCell outcome }) seat.new result }
-        ensures tells { TellsWake self.now (record seat.old { standing = WakingCell outcome }) seat.new result }
+        ensures tells { Tells self.now (record seat.old { standing = WakingCell outcome }) seat.new result }
     {
         match self.cells.rouse(&mut seat.cells) {
             Roused::NotYet => {
@@ -73,7 +73,7 @@ impl<T: Drop> Channel<T> {
         ensures stands { IsStepSeatOf self.now seat.new }
         ensures after { StandsAfter seat.new result }
         ensures call { Steps self.now.queue.size (record seat.old { standing = Announcing outcome }) seat.new result }
-        ensures tells { TellsWake self.now (record seat.old { standing = Announcing outcome }) seat.new result }
+        ensures tells { Tells self.now (record seat.old { standing = Announcing outcome }) seat.new result }
     {
         if self.queue.is_drained(&mut seat.queue) {
             seat.standing = CallStanding::ReleasingItem(outcome);
@@ -94,7 +94,7 @@ impl<T: Drop> Channel<T> {
         ensures stands { IsStepSeatOf self.now seat.new }
         ensures after { StandsAfter seat.new result }
         ensures call { Steps self.now.queue.size (record seat.old { standing = ReleasingItem outcome }) seat.new result }
-        ensures tells { TellsWake self.now (record seat.old { standing = ReleasingItem outcome }) seat.new result }
+        ensures tells { Tells self.now (record seat.old { standing = ReleasingItem outcome }) seat.new result }
     {
         if self.items.begin_up(&mut seat.items) {
             seat.standing = CallStanding::WakingItem(outcome);
@@ -115,7 +115,7 @@ impl<T: Drop> Channel<T> {
         ensures stands { IsStepSeatOf self.now seat.new }
         ensures after { StandsAfter seat.new result }
         ensures call { Steps self.now.queue.size (record seat.old { standing = WakingItem outcome }) seat.new result }
-        ensures tells { TellsWake self.now (record seat.old { standing = WakingItem outcome }) seat.new result }
+        ensures tells { Tells self.now (record seat.old { standing = WakingItem outcome }) seat.new result }
     {
         match self.items.rouse(&mut seat.items) {
             Roused::NotYet => {

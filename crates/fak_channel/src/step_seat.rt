@@ -101,13 +101,7 @@ impl<T> ChannelStepSeat<T> {
         ensures items { result ≡ false → HasTwo self.now.items }
         ensures cells { result ≡ false → HasTwo self.now.cells }
     {
-        if self.queue.left() == 0 {
-            return true;
-        }
-        if self.items.left() < 2 {
-            return true;
-        }
-        self.cells.left() < 2
+        self.left() == 0
     }
 }
 

@@ -3,7 +3,7 @@
 ghost use Rattle.std.specs.Prelude.{◌≡◌};
 ghost use Rattle.fak_channel.specs.declared.standing.CallStanding.TheVariants.{Parking, Seeking, Sleeping};
 ghost use Rattle.fak_channel.specs.declared.standing.Wish.TheVariants.{Receive, Send};
-ghost use Rattle.fak_channel.specs.ChannelSteps.{IsStepSeatOf, StandsAfter, Steps, TellsWake, after_seek};
+ghost use Rattle.fak_channel.specs.ChannelSteps.{IsStepSeatOf, StandsAfter, Steps, Tells, after_seek};
 
 use crate::channel::Channel;
 use crate::permit_steps::Sought;
@@ -30,7 +30,7 @@ impl<T: Drop> Channel<T> {
         ensures stands { IsStepSeatOf self.now seat.new }
         ensures after { StandsAfter seat.new result }
         ensures call { Steps self.now.queue.size (record seat.old { standing = Seeking (Send item) }) seat.new result }
-        ensures tells { TellsWake self.now (record seat.old { standing = Seeking (Send item) }) seat.new result }
+        ensures tells { Tells self.now (record seat.old { standing = Seeking (Send item) }) seat.new result }
     {
         let sought = self.cells.seek(&mut seat.cells);
         seat.standing = after_seek(sought, Wish::Send(item));
@@ -44,7 +44,7 @@ impl<T: Drop> Channel<T> {
         ensures stands { IsStepSeatOf self.now seat.new }
         ensures after { StandsAfter seat.new result }
         ensures call { Steps self.now.queue.size (record seat.old { standing = Parking (Send item) }) seat.new result }
-        ensures tells { TellsWake self.now (record seat.old { standing = Parking (Send item) }) seat.new result }
+        ensures tells { Tells self.now (record seat.old { standing = Parking (Send item) }) seat.new result }
     {
         if self.cells.park(&mut seat.cells) {
             seat.standing = CallStanding::Sleeping(Wish::Send(item));
@@ -62,7 +62,7 @@ impl<T: Drop> Channel<T> {
         ensures stands { IsStepSeatOf self.now seat.new }
         ensures after { StandsAfter seat.new result }
         ensures call { Steps self.now.queue.size (record seat.old { standing = Sleeping (Send item) }) seat.new result }
-        ensures tells { TellsWake self.now (record seat.old { standing = Sleeping (Send item) }) seat.new result }
+        ensures tells { Tells self.now (record seat.old { standing = Sleeping (Send item) }) seat.new result }
     {
         if self.cells.finds_wake(&mut seat.cells) {
             seat.standing = CallStanding::Claiming(Wish::Send(item));
@@ -80,7 +80,7 @@ impl<T: Drop> Channel<T> {
         ensures stands { IsStepSeatOf self.now seat.new }
         ensures after { StandsAfter seat.new result }
         ensures call { Steps self.now.queue.size (record seat.old { standing = Seeking Receive }) seat.new result }
-        ensures tells { TellsWake self.now (record seat.old { standing = Seeking Receive }) seat.new result }
+        ensures tells { Tells self.now (record seat.old { standing = Seeking Receive }) seat.new result }
     {
         let sought = self.items.seek(&mut seat.items);
         seat.standing = after_seek(sought, Wish::Receive);
@@ -94,7 +94,7 @@ impl<T: Drop> Channel<T> {
         ensures stands { IsStepSeatOf self.now seat.new }
         ensures after { StandsAfter seat.new result }
         ensures call { Steps self.now.queue.size (record seat.old { standing = Parking Receive }) seat.new result }
-        ensures tells { TellsWake self.now (record seat.old { standing = Parking Receive }) seat.new result }
+        ensures tells { Tells self.now (record seat.old { standing = Parking Receive }) seat.new result }
     {
         if self.items.park(&mut seat.items) {
             seat.standing = CallStanding::Sleeping(Wish::Receive);
@@ -112,7 +112,7 @@ impl<T: Drop> Channel<T> {
         ensures stands { IsStepSeatOf self.now seat.new }
         ensures after { StandsAfter seat.new result }
         ensures call { Steps self.now.queue.size (record seat.old { standing = Sleeping Receive }) seat.new result }
-        ensures tells { TellsWake self.now (record seat.old { standing = Sleeping Receive }) seat.new result }
+        ensures tells { Tells self.now (record seat.old { standing = Sleeping Receive }) seat.new result }
     {
         if self.items.finds_wake(&mut seat.items) {
             seat.standing = CallStanding::Claiming(Wish::Receive);

@@ -3,7 +3,7 @@
 ghost use Rattle.std.specs.Prelude.{◌≡◌, MatchOption};
 ghost use Rattle.fak_channel.specs.declared.standing.CallStanding.TheVariants.{Idle};
 ghost use Rattle.fak_channel.specs.ChannelSteps.{GivesUp, IsAsleep, IsInCall, IsStepSeatOf, Runs, StandsAfter, Steps};
-ghost use Rattle.fak_channel.specs.ChannelSteps.{TellsWake};
+ghost use Rattle.fak_channel.specs.ChannelSteps.{Tells};
 
 use crate::channel::Channel;
 use crate::standing::{CallStanding, ChannelStep, Wish};
@@ -21,7 +21,7 @@ impl<T: Drop> Channel<T> {
         ensures stands { IsStepSeatOf self.now seat.new }
         ensures after { StandsAfter seat.new result }
         ensures call { Steps self.now.queue.size seat.old seat.new result }
-        ensures tells { TellsWake self.now seat.old seat.new result }
+        ensures tells { Tells self.now seat.old seat.new result }
     {
         match mem::replace(&mut seat.standing, CallStanding::Idle) {
             CallStanding::Idle => unreachable!(),
