@@ -8,6 +8,7 @@ pub mod blocks;
 pub mod bundles;
 pub mod bursts;
 pub mod cells;
+pub mod channels;
 pub mod credits;
 pub mod files;
 pub mod joins;
