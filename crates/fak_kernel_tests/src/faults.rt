@@ -120,11 +120,11 @@ const MANY_TURNS: [(u64, &str); 3] = [
 ];
 
 #[test]
-fn whoever_is_refused_the_others_leave(rt: HostRuntime) {
+fn whoever_is_refused_the_others_leave_at_their_next_look(rt: HostRuntime) {
     let script = script_in_parts(&rt, rt.alloc(), &MANY_TURNS);
     for processors in 2..9u64 {
         for refused in 0..processors {
-            let gate = Slowing::new(refused, 20, MANY);
+            let gate = Slowing::new(refused, MANY);
             let fault = fault_with(&rt, rt.alloc(), &script, processors, &gate);
             is_left(
                 &rt,

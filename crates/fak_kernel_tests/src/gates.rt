@@ -7,6 +7,10 @@ use std::sync::atomic::{AtomicBool, AtomicU64, Ordering};
 /// Many more looks of a processor than a run needs if the others leave.
 const MOST_LOOKS: u64 = 1_000_000;
 
+/// The turns of a wait after a refusal: many milliseconds, in which the refused processor rings the alarm even
+/// if the machine has much else to do.
+const WAIT_FOR_THE_ALARM: u64 = 2_000_000;
+
 /// A flag that one processor sets and another waits for, this many turns at most.
 #[derive(Drop)]
 pub(super) struct Flag {
@@ -316,22 +320,20 @@ impl Gate for Second {
     }
 }
 
-/// Refuses the first pass of one processor. Each other waits for that, and is slow from then on. One that comes to its
-/// look of number `most` must have been left behind.
+/// Refuses the first pass of one processor. Each other waits for that in its own first pass, and then so long that the
+/// alarm has rung. So it must leave before its next look.
 #[derive(Drop)]
 pub(super) struct Slowing {
     refused: u64,
-    most: u64,
     is_refused: Flag,
     /// Set if a processor went on looking after it should have left.
     pub(super) is_left_behind: Flag,
 }
 
 impl Slowing {
-    pub(super) fn new(refused: u64, most: u64, turns: u64) -> Slowing {
+    pub(super) fn new(refused: u64, turns: u64) -> Slowing {
         Slowing {
             refused,
-            most,
             is_refused: Flag::new(turns),
             is_left_behind: Flag::new(0),
         }
@@ -348,12 +350,12 @@ impl Gate for Slowing {
             self.is_refused.set();
             return false;
         }
-        self.is_refused.wait();
-        if step >= self.most {
+        if step > 0 {
             self.is_left_behind.set();
-        }
-        for _ in 0..500_000u64 {
-            spin_loop();
+        } else if self.is_refused.wait() {
+            for _ in 0..WAIT_FOR_THE_ALARM {
+                spin_loop();
+            }
         }
         true
     }
