@@ -24,7 +24,7 @@
 //!
 //! # Ends
 //!
-//! A channel is opened with a fixed number of *ends*. An end makes one call at a time. A handle, `Sender` or `Receiver`, has an end.
+//! A channel is opened with a fixed number of *ends*. An end has one call at a time. A handle, `Sender` or `Receiver`, has an end.
 //! `clone` gives the new handle an end of its own. If none is left, the handles share one and take turns: a call then sleeps while the
 //! other's call does. So a clone never fails, and many more threads than ends may use a channel, with fewer calls at once. `try_clone`
 //! returns a handle only with an end of its own. Threads that use one handle by reference take turns too. A dropped handle gives its end

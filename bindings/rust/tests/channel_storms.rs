@@ -1,4 +1,4 @@
-//! Storms: more threads than processors make every call, channels are closed meanwhile, and each item ends once.
+//! Storms: more threads than processors use every call, channels are closed meanwhile, and each item ends once.
 #![cfg(feature = "std")]
 
 use fak_seats::channel::{bounded, Receiver, RecvTimeoutError, SendTimeoutError, Sender, TryRecvError, TrySendError};

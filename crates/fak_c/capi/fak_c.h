@@ -362,7 +362,7 @@ enum {
 
 /* Opens a semaphore that begins at `start` (0 to 2^32), with an empty wait queue of `size` cells (1 to 2^24): at least as many as items
  * may wait at once. With fewer a down tries to park until an up makes room: forever, if the callers of the ups are parking too. The
- * stint is of downs and ups together. */
+ * stint counts downs and ups together. */
 int32_t fak_c_sem_open(fak_c_seat *seats, size_t n, uint64_t start, uint64_t size, uint64_t stint);
 
 /* Begins a down. The seat must be idle.

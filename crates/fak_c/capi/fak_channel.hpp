@@ -47,7 +47,7 @@ template <class T> struct Cargo {
     }
 };
 
-/* Of an object or, as T[], of an array. */
+/* A pointer to an object or, as T[], to an array. */
 template <class T> struct Cargo<std::unique_ptr<T>> {
     static fak_channel_item pack(const std::unique_ptr<T> &item) noexcept { return fak_channel_of_pointer(item.get()); }
     static void sent(std::unique_ptr<T> &item) noexcept { static_cast<void>(item.release()); }

@@ -53,7 +53,7 @@ static void deletes(fak_c_seat *bundle, size_t n, int32_t code, uint64_t wanted_
     are_items(items, first, taken);
 }
 
-/* Of a claimed burst of deletions, at most n more items are taken out: this many are, from `first` on, and this many are left. */
+/* At most n more items of a claimed burst of deletions are taken out: this many are, from `first` on, and this many are left. */
 static void goes_on(fak_c_seat *bundle, size_t n, int32_t code, uint64_t first, uint64_t wanted_taken, uint64_t wanted_left) {
     uint64_t items[MOST], taken = 99, left = 99;
     for (int i = 0; i < MOST; i++)

@@ -80,7 +80,7 @@ static void stay(void *argument) {
         rest();
 }
 
-/* Whether so many jobs run at once, and no more, if more are added. */
+/* Whether `wanted` jobs run at once, and no more, if more are added. */
 static bool run_at_once(fak_pool *pool, unsigned long wanted) {
     atomic_store(&done, 0);
     atomic_store(&may_go, false);
