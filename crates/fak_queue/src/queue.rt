@@ -396,8 +396,7 @@ impl<T: Drop> Queue<T> {
     pub fn pause(&self, seat: &mut Seat<T>)
         ensures { seat.new ≡ seat.old }
     {
-        seat.counts
-            .pause_if_contended(self.cells.size, seat.left);
+        seat.counts.pause_if_contended(self.cells.size, seat.left);
     }
 
     /// Shuts the queue: insertions are refused from now on, deletions go on. Returns whether it was open before.
