@@ -214,8 +214,8 @@ static bool wait_for_end(fak_channel_shared *shared, fak_channel_lender *lender,
     return is_in_time;
 }
 
-/* Lends an end, if the shared channel was opened. A wake-up is for one sleeper, and two ends may come back before it wakes. So a caller
- * that has found an end wakes the next sleeper if there is another end. A caller that finds all ends worn wakes the next one, too. */
+/* Lends an end of an open shared channel. A wake-up is for one sleeper, and two ends may come back before it wakes. So a caller that has
+ * found an end wakes the next sleeper if there is another end. A caller that finds all ends worn wakes the next one, too. */
 static int32_t lend(fak_channel_shared *shared, fak_channel_lender *lender, uint64_t deadline, fak_channel_end **end) {
     if (lender->count == 0)
         return FAK_C_NO_SEAT;
