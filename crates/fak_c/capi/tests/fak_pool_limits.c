@@ -86,8 +86,10 @@ static bool run_at_once(fak_pool *pool, unsigned long wanted) {
     atomic_store(&may_go, false);
     for (unsigned long i = 0; i < wanted; i++)
         CHECK(fak_pool_add(pool, stay, NULL));
-    while (atomic_load(&done) != wanted)
+    for (int rests = 0; atomic_load(&done) != wanted; rests++) {
+        CHECK(rests < 20000); /* above 20 seconds */
         rest();
+    }
     CHECK(pool->has_queue == fak_pool_try_add(pool, stay, NULL));
     for (int i = 0; i < 5; i++)
         rest();
