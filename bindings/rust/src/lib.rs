@@ -63,7 +63,7 @@ pub enum State {
 /// The cells of a queue that are in use, and whether the queue is shut, as one load found them.
 #[derive(Clone, Copy, Debug, PartialEq, Eq)]
 pub struct InUse {
-    /// Insertions begun and not withdrawn, less deletions that have ended: at least 0, and above the size while insertions are refused.
+    /// Insertions begun and not withdrawn, minus deletions that have ended: at least 0, and above the size while insertions are refused.
     pub cells: i64,
     /// Whether the queue is shut.
     pub is_shut: bool,
@@ -245,7 +245,7 @@ impl Seat {
         made(code, was_open)
     }
 
-    /// How many items are ready: insertions that have ended, less the deletions begun and not withdrawn. While no seat has an open call
+    /// How many items are ready: insertions that have ended, minus the deletions begun and not withdrawn. While no seat has an open call
     /// it is the number of items. It is below 0 while deletions are refused.
     pub fn count(&mut self) -> i64 {
         let mut items = 0;
