@@ -240,7 +240,7 @@ fn close_free(table: FileTable, tally: FileTally)
 }
 
 /// Closes the table, and returns the inode of an entry, which is the last one that was set.
-fn last_file(table: FileTable, tally: FileTally, i: u64) -> u64
+pub(crate) fn last_file(table: FileTable, tally: FileTally, i: u64) -> u64
     requires tally { (tally.object ≡ table.object) × IsWhole tally.object.seats tally.names }
     requires entry { i < table.entries }
     ensures { result ≡ field tally.seen i Inode }
