@@ -3,7 +3,7 @@
 ghost use Rattle.std.specs.Prelude.{◌≡◌, All};
 
 use crate::assertions::assert_equal;
-use crate::steps::{Step, walk};
+use crate::steps::{Step, close, joined, take, walk};
 use fak_sem::{
     LARGE_SEATS, LARGE_SIZE, LARGE_TICKETS, LARGEST_BOUND, LARGEST_SIZE, LargeFault, MOST_SEATS,
     SemSeat, Semaphore,
@@ -74,4 +74,32 @@ fn semaphores_of_long_wait_queues(rt: HostRuntime) {
     for size in [LARGEST_SIZE, LARGEST_SIZE + 1, 200_003] {
         parks_and_wakes(&rt, rt.alloc(), size, 2, LARGE_TICKETS / 2);
     }
+}
+
+/// Opens a semaphore at 0 with this many seats, each of which parks an item and wakes it. The last seat parks one more, which is
+/// left. The tally is whole only once the last seat has joined.
+fn each_seat_parks_and_wakes<R: Abort + Wait>(rt: &R, alloc: Global, many: u64) {
+    let (semaphore, mut seats) = open(rt, alloc, (0, 3, many, 3));
+    for name in 0..seats.len() {
+        let who = name as u64;
+        let steps = [
+            (name, Step::Down(who, Ok(None))),
+            (name, Step::Up(Ok(Some(who)))),
+        ];
+        walk(rt, &semaphore, &mut seats, &steps);
+    }
+    let mut last = take(rt, &semaphore, &mut seats);
+    assert_equal(rt, semaphore.down(rt, &mut last, many), Ok(None));
+    let tally = joined(rt, &semaphore, seats);
+    assert_equal(rt, tally.is_whole(), false);
+    let tally = semaphore.join(tally, last);
+    let mut rest = close(rt, semaphore, tally);
+    assert_equal(rt, rest.next(), Some(many));
+    assert_equal(rt, rest.next(), None);
+}
+
+#[test]
+fn each_seat_of_a_large_semaphore_parks_and_wakes(rt: HostRuntime) {
+    each_seat_parks_and_wakes(&rt, rt.alloc(), MOST_SEATS + 1);
+    each_seat_parks_and_wakes(&rt, rt.alloc(), LARGE_SEATS);
 }
