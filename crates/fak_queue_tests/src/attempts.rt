@@ -1,4 +1,4 @@
-//! Insertions and deletions by single attempts, which are made again where the queue is full or empty.
+//! Insertions and deletions by single attempts, which are repeated if the queue is full or empty.
 
 ghost use Rattle.std.specs.Prelude.{◌≡◌};
 ghost use Rattle.fak_queue.specs.Queues.{IsIdleSeat};

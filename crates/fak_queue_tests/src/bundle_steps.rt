@@ -184,7 +184,7 @@ pub fn delete_numbers<R: Abort + AllocGlobal + Wait>(
 }
 
 /// The same by a call that waits.
-fn wait_delete_numbers<R: Abort + AllocGlobal + Wait>(
+pub fn wait_delete_numbers<R: Abort + AllocGlobal + Wait>(
     rt: &R,
     queue: &Queue<u64>,
     bundle: &mut Bundle<u64>,

@@ -91,47 +91,53 @@ fn a_stop_in_mid_burst(rt: HostRuntime) {
     walk_beside(&rt, 8, 4, 100, STEPS, &[]);
 }
 
+/// The second cell that a burst needs belongs to an open deletion, which begins in the third row. The burst is claimed in the
+/// fifth.
+pub const NEEDS_A_CELL: &[BurstStep] = &[
+    BurstStep::Insert(10, 4, Ok((0, 4))),
+    BurstStep::Of(A, Step::Delete(Ok((0, 10)))),
+    BurstStep::Of(A, Step::ClaimDelete(Ok(1))),
+    BurstStep::Delete(2, Ok((2, 2)), 12),
+    BurstStep::Claim(14, 3, Ok((4, 3))),
+    BurstStep::TryFill(2),
+    BurstStep::State(BundleState::Inserting {
+        ticket: 4,
+        ended: 1,
+        granted: 3,
+    }),
+    BurstStep::Of(B, Step::Delete(Ok((4, 14)))),
+    BurstStep::TryFill(2),
+    BurstStep::Of(A, Step::State(SeatState::Deleting(1))),
+    BurstStep::Of(A, Step::TryTake(Some((1, 11)))),
+    BurstStep::TryFill(0),
+];
+
 #[test]
 fn a_burst_that_waits_for_its_second_cell(rt: HostRuntime) {
-    const STEPS: &[BurstStep] = &[
-        BurstStep::Insert(10, 4, Ok((0, 4))),
-        BurstStep::Of(A, Step::Delete(Ok((0, 10)))),
-        BurstStep::Of(A, Step::ClaimDelete(Ok(1))),
-        BurstStep::Delete(2, Ok((2, 2)), 12),
-        BurstStep::Claim(14, 3, Ok((4, 3))),
-        BurstStep::TryFill(2),
-        BurstStep::State(BundleState::Inserting {
-            ticket: 4,
-            ended: 1,
-            granted: 3,
-        }),
-        BurstStep::Of(B, Step::Delete(Ok((4, 14)))),
-        BurstStep::TryFill(2),
-        BurstStep::Of(A, Step::State(SeatState::Deleting(1))),
-        BurstStep::Of(A, Step::TryTake(Some((1, 11)))),
-        BurstStep::TryFill(0),
-    ];
-    walk_beside(&rt, 4, 4, 100, STEPS, &[15, 16]);
+    walk_beside(&rt, 4, 4, 100, NEEDS_A_CELL, &[15, 16]);
 }
+
+/// The second item that a burst needs belongs to an open insertion, which begins in the second row. The burst is claimed in the
+/// fourth.
+pub const NEEDS_AN_ITEM: &[BurstStep] = &[
+    BurstStep::Of(A, Step::Insert(10, Ok(0))),
+    BurstStep::Of(A, Step::ClaimInsert(11, Ok(1))),
+    BurstStep::Of(B, Step::Insert(12, Ok(2))),
+    BurstStep::ClaimOut(4, Ok((0, 2))),
+    BurstStep::TryTake(1, 10, 1),
+    BurstStep::State(BundleState::Deleting {
+        ticket: 0,
+        ended: 1,
+        granted: 2,
+    }),
+    BurstStep::TryTake(1, 0, 0),
+    BurstStep::Of(A, Step::TryFill(Some(1))),
+    BurstStep::TryTake(0, 11, 1),
+];
 
 #[test]
 fn a_burst_that_waits_for_its_second_item(rt: HostRuntime) {
-    const STEPS: &[BurstStep] = &[
-        BurstStep::Of(A, Step::Insert(10, Ok(0))),
-        BurstStep::Of(A, Step::ClaimInsert(11, Ok(1))),
-        BurstStep::Of(B, Step::Insert(12, Ok(2))),
-        BurstStep::ClaimOut(4, Ok((0, 2))),
-        BurstStep::TryTake(1, 10, 1),
-        BurstStep::State(BundleState::Deleting {
-            ticket: 0,
-            ended: 1,
-            granted: 2,
-        }),
-        BurstStep::TryTake(1, 0, 0),
-        BurstStep::Of(A, Step::TryFill(Some(1))),
-        BurstStep::TryTake(0, 11, 1),
-    ];
-    walk_beside(&rt, 4, 4, 100, STEPS, &[12]);
+    walk_beside(&rt, 4, 4, 100, NEEDS_AN_ITEM, &[12]);
 }
 
 #[test]

@@ -1,4 +1,5 @@
-//! Storms of bursts and single calls: some bundles and seats insert while others delete, each pair in a thread of its own.
+//! Storms of bursts that wait, and of bursts and single calls that are attempts: some bundles and seats insert while others delete,
+//! each pair in a thread of its own.
 
 ghost use Rattle.std.specs.Prelude.{◌≡◌, All};
 ghost use Rattle.fak_queue.specs.BundleCalls.{IsIdleBundle};
@@ -6,9 +7,10 @@ ghost use Rattle.fak_queue.specs.Queues.{IsIdleSeat};
 
 use super::assertions::assert_case;
 use super::attempts::{delete_again, insert_again};
-use super::bundle_steps::{bundle_of, delete_numbers, granted, numbers};
+use super::bundle_steps::{bundle_of, delete_numbers, granted, numbers, wait_delete_numbers};
 use super::items::{add, are_all, rise};
 use super::steps::{close, open, take};
+use super::storms::Calls;
 use crossbeam_utils::Backoff;
 use fak_queue::{Bundle, BurstFault, Queue, Seat, Tally};
 use std::collections::VecDeque;
@@ -16,7 +18,7 @@ use std::process::Abort;
 use std::sync::{Mutex, Wait};
 use std::thread::{Threads, map_vec};
 
-/// A bundle and a seat, whose calls alternate.
+/// A bundle and a seat, whose attempts alternate. If calls wait, only the bundle makes them.
 #[derive(Drop)]
 struct Worker {
     bundle: Bundle<u64>,
@@ -26,6 +28,7 @@ struct Worker {
 /// The lists that no worker has begun to insert, and what each of the others deleted.
 #[derive(Drop)]
 struct Lists {
+    calls: Calls,
     waiting: Mutex<Vec<VecDeque<u64>>>,
     deleted: Mutex<Vec<Vec<u64>>>,
 }
@@ -49,7 +52,27 @@ fn insert_some<R: Abort + Wait>(
     }
 }
 
-/// Inserts the items, the first of the list first.
+/// Inserts the items by bursts that wait, the first of the list first.
+fn insert_waiting<R: Abort + Wait>(
+    rt: &R,
+    queue: &Queue<u64>,
+    mut worker: Worker,
+    mut items: VecDeque<u64>,
+) -> Worker
+    requires { IsIdleBundle queue.now.object worker.bundle × IsIdleSeat queue.now.object worker.seat }
+    ensures { IsIdleBundle queue.now.object result.bundle × IsIdleSeat queue.now.object result.seat }
+{
+    for _ in rt.forever() {
+        if items.is_empty() {
+            return worker;
+        }
+        let inserted = queue.wait_insert_burst(rt, &mut worker.bundle, &mut items);
+        assert!(rt; inserted.is_ok(), "a burst that is refused");
+    }
+    unreachable!()
+}
+
+/// Inserts the items by attempts, the first of the list first.
 fn insert_items<R: Abort + Wait>(
     rt: &R,
     queue: &Queue<u64>,
@@ -90,6 +113,15 @@ fn delete_one<R: Abort + Wait>(
     }
 }
 
+/// Adds the numbers to this list.
+fn add_numbers(rt: &impl Abort, mut items: VecDeque<u64>, into: &mut Vec<u64>) {
+    for _ in 0..items.len() {
+        if let Some(item) = items.pop_front() {
+            add(rt, into, item);
+        }
+    }
+}
+
 /// Deletes at most this many items by a burst, into this list. Returns how many it deleted.
 fn delete_some<R: Abort + AllocGlobal + Wait>(
     rt: &R,
@@ -101,16 +133,38 @@ fn delete_some<R: Abort + AllocGlobal + Wait>(
     requires { IsIdleBundle queue.now.object bundle.old }
     ensures { IsIdleBundle queue.now.object bundle.new }
 {
-    let (answer, mut items) = delete_numbers(rt, queue, bundle, most);
-    for _ in 0..items.len() {
-        if let Some(item) = items.pop_front() {
-            add(rt, into, item);
-        }
-    }
+    let (answer, items) = delete_numbers(rt, queue, bundle, most);
+    add_numbers(rt, items, into);
     granted(answer)
 }
 
-/// Deletes this many items, into this list.
+/// Deletes this many items by bursts that wait, into this list. A burst asks for no more than are left to this worker. So if it
+/// waits, more items will come: together the workers delete as many as are inserted.
+fn delete_waiting<R: Abort + AllocGlobal + Wait>(
+    rt: &R,
+    queue: &Queue<u64>,
+    mut worker: Worker,
+    deletions: u64,
+    into: &mut Vec<u64>,
+) -> Worker
+    requires { IsIdleBundle queue.now.object worker.bundle × IsIdleSeat queue.now.object worker.seat }
+    ensures { IsIdleBundle queue.now.object result.bundle × IsIdleSeat queue.now.object result.seat }
+{
+    let mut left = deletions;
+    for _ in rt.forever() {
+        if left == 0 {
+            return worker;
+        }
+        let most = left.min(5);
+        let (answer, items) = wait_delete_numbers(rt, queue, &mut worker.bundle, most);
+        assert!(rt; answer.is_ok(), "a burst that is refused");
+        add_numbers(rt, items, into);
+        left = left.wrapping_sub(granted(answer));
+    }
+    unreachable!()
+}
+
+/// Deletes this many items by attempts, into this list.
 fn delete_items<R: Abort + AllocGlobal + Wait>(
     rt: &R,
     queue: &Queue<u64>,
@@ -137,6 +191,26 @@ fn delete_items<R: Abort + AllocGlobal + Wait>(
     unreachable!()
 }
 
+/// Deletes this many items, and adds the list of them to those that were deleted.
+fn delete_list<R: Abort + AllocGlobal + Wait>(
+    rt: &R,
+    queue: &Queue<u64>,
+    lists: &Lists,
+    deletions: u64,
+    worker: Worker,
+) -> Worker
+    requires { IsIdleBundle queue.now.object worker.bundle × IsIdleSeat queue.now.object worker.seat }
+    ensures { IsIdleBundle queue.now.object result.bundle × IsIdleSeat queue.now.object result.seat }
+{
+    let mut items = Vec::new(rt.alloc());
+    let worker = match lists.calls {
+        Calls::Waiting => delete_waiting(rt, queue, worker, deletions, &mut items),
+        Calls::Attempts => delete_items(rt, queue, worker, deletions, &mut items),
+    };
+    add(rt, &mut lists.deleted.lock(rt), items);
+    worker
+}
+
 /// Inserts one of the lists. If none is waiting, deletes this many items.
 fn work<R: Abort + AllocGlobal + Wait>(
     rt: &R,
@@ -149,14 +223,10 @@ fn work<R: Abort + AllocGlobal + Wait>(
     ensures { IsIdleBundle queue.now.object result.bundle × IsIdleSeat queue.now.object result.seat }
 {
     let list = lists.waiting.lock(rt).pop();
-    match list {
-        Some(items) => insert_items(rt, queue, worker, items),
-        None => {
-            let mut items = Vec::new(rt.alloc());
-            let worker = delete_items(rt, queue, worker, deletions, &mut items);
-            add(rt, &mut lists.deleted.lock(rt), items);
-            worker
-        }
+    match (list, lists.calls) {
+        (Some(items), Calls::Waiting) => insert_waiting(rt, queue, worker, items),
+        (Some(items), Calls::Attempts) => insert_items(rt, queue, worker, items),
+        (None, _) => delete_list(rt, queue, lists, deletions, worker),
     }
 }
 
@@ -224,6 +294,7 @@ fn close_empty(rt: &impl Abort, queue: Queue<u64>, mut workers: Vec<Worker>)
 /// For each of these, one worker inserts the fifty numbers from it on. The other workers delete them all.
 fn storm_of_bursts<R: Abort + AllocGlobal + Threads + Wait + Sync>(
     rt: &R,
+    calls: Calls,
     firsts: &[u64],
     workers: u64,
     bundled: u64,
@@ -234,6 +305,7 @@ fn storm_of_bursts<R: Abort + AllocGlobal + Threads + Wait + Sync>(
         add(rt, &mut waiting, numbers(rt, first, 50));
     }
     let lists = Lists {
+        calls,
         waiting: Mutex::new(waiting),
         deleted: Mutex::new(Vec::new(rt.alloc())),
     };
@@ -243,6 +315,7 @@ fn storm_of_bursts<R: Abort + AllocGlobal + Threads + Wait + Sync>(
     let workers = work_all(rt, &queue, &lists, deletions, workers);
     close_empty(rt, queue, workers);
     let Lists {
+        calls: _,
         waiting: _,
         deleted,
     } = lists;
@@ -266,15 +339,35 @@ fn check_all(rt: &(impl Abort + AllocGlobal), lists: &[Vec<u64>], firsts: &[u64]
 
 #[test]
 fn a_storm_of_one_pair_of_bundles(rt: HostRuntime) {
-    storm_of_bursts(&rt, &[1001], 2, 4, 50);
+    storm_of_bursts(&rt, Calls::Waiting, &[1001], 2, 4, 50);
+}
+
+#[test]
+fn a_storm_of_one_pair_of_bundles_by_attempts(rt: HostRuntime) {
+    storm_of_bursts(&rt, Calls::Attempts, &[1001], 2, 4, 50);
 }
 
 #[test]
 fn a_storm_of_two_pairs_of_bundles(rt: HostRuntime) {
-    storm_of_bursts(&rt, &[1001, 2001], 4, 3, 50);
+    storm_of_bursts(&rt, Calls::Waiting, &[1001, 2001], 4, 3, 50);
+}
+
+#[test]
+fn a_storm_of_two_pairs_of_bundles_by_attempts(rt: HostRuntime) {
+    storm_of_bursts(&rt, Calls::Attempts, &[1001, 2001], 4, 3, 50);
 }
 
 #[test]
 fn a_storm_of_two_bundles_and_one_that_deletes(rt: HostRuntime) {
-    storm_of_bursts(&rt, &[1001, 2001], 3, 8, 100);
+    storm_of_bursts(&rt, Calls::Waiting, &[1001, 2001], 3, 8, 100);
+}
+
+#[test]
+fn a_storm_of_two_bundles_and_one_that_deletes_by_attempts(rt: HostRuntime) {
+    storm_of_bursts(&rt, Calls::Attempts, &[1001, 2001], 3, 8, 100);
+}
+
+#[test]
+fn a_storm_of_one_bundle_and_two_that_delete(rt: HostRuntime) {
+    storm_of_bursts(&rt, Calls::Waiting, &[1001], 3, 4, 25);
 }

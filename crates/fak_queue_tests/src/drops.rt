@@ -13,7 +13,7 @@ fn held(rt: &impl Abort, shared: &Arc<u8>) -> Arc<u8> {
     Arc::try_clone(shared).expect(rt, "memory")
 }
 
-/// Stops where the value has another number of holders.
+/// Fails if the value has another number of holders.
 fn assert_holders(rt: &impl Abort, shared: &Arc<u8>, holders: usize) {
     assert_equal(rt, Arc::strong_count(shared), holders);
 }

@@ -4,10 +4,10 @@ ghost use Rattle.std.specs.Prelude.{◌≡◌, All};
 ghost use Rattle.fak_queue.specs.Queues.{IsIdleSeat};
 
 use super::assertions::{assert_case, assert_equal};
-use super::steps::{assert_idle, close_all, take};
+use super::steps::{assert_idle, close, close_all, take};
 use fak_queue::{
     InsertFault, LARGE_SEATS, LARGE_SIZE, LARGE_TICKETS, LARGEST_SIZE, LONGEST_STINT, LargeFault,
-    MOST_SEATS, Queue, Rest, Seat,
+    MOST_SEATS, Queue, Rest, Seat, Tally,
 };
 use std::process::Abort;
 use std::sync::{Mutex, Wait};
@@ -81,9 +81,17 @@ fn empties<R: Abort + Wait>(rt: &R, queue: &Queue<u64>, seat: &mut Seat<u64>, co
     }
 }
 
-/// Fills a queue of this size, checks that it is full, and goes round its cells more than once.
+/// Checks that exactly the numbers below `count` are left, in their order.
+fn leaves(rt: &impl Abort, mut rest: Rest<u64>, count: u64) {
+    for wanted in 0..count {
+        assert_case(rt, &wanted, rest.next() == Some(wanted));
+    }
+    assert_equal(rt, rest.next(), None);
+}
+
+/// Fills a queue of this size, checks that it is full, goes round its cells more than once, and closes it while it is full.
 fn goes_round<R: Abort + AllocGlobal + Wait>(rt: &R, size: u64) {
-    let (queue, mut seats) = open(rt, (size, 1, LARGE_TICKETS));
+    let (queue, mut seats) = open(rt, (size, 2, LARGE_TICKETS / 2));
     let mut seat = take(rt, &queue, &mut seats);
     fills(rt, &queue, &mut seat, 0, size);
     let full = InsertFault::Full {
@@ -94,6 +102,9 @@ fn goes_round<R: Abort + AllocGlobal + Wait>(rt: &R, size: u64) {
     empties(rt, &queue, &mut seat, size);
     fills(rt, &queue, &mut seat, size, size / 2);
     empties(rt, &queue, &mut seat, size / 2);
+    fills(rt, &queue, &mut seat, size.wrapping_add(size / 2), size);
+    let tally = queue.join(Tally::of(seat), take(rt, &queue, &mut seats));
+    leaves(rt, close(rt, queue, tally), size);
 }
 
 #[test]

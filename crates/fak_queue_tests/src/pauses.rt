@@ -65,7 +65,7 @@ enum Work {
     InCalls,
     /// Ports that pause between their calls.
     Between,
-    /// The spins of their pauses alone.
+    /// Only the spins of their pauses.
     Spins,
 }
 

@@ -29,7 +29,7 @@ fn some_of(random: u64, most: u64) -> u64 {
     (random >> 33) % most.max(1) + 1
 }
 
-/// Inserts this many of the next numbers, and tells the list.
+/// Inserts this many of the next numbers, and updates the list.
 fn insert_so_many<R: Abort + AllocGlobal + Wait>(
     rt: &R,
     queue: &Queue<u64>,
@@ -56,7 +56,7 @@ fn insert_so_many<R: Abort + AllocGlobal + Wait>(
     }
 }
 
-/// Deletes at most this many, and tells the list.
+/// Deletes at most this many, and updates the list.
 fn delete_so_many<R: Abort + AllocGlobal + Wait>(
     rt: &R,
     queue: &Queue<u64>,

@@ -12,9 +12,9 @@ use std::process::Abort;
 use std::sync::{Mutex, Wait};
 use std::thread::{Threads, map_vec};
 
-/// How the seats of a storm insert and delete: by calls that wait, or by attempts that are made again.
+/// How a storm inserts and deletes: by calls that wait, or by attempts that are made again.
 #[derive(Clone, Copy)]
-enum Calls {
+pub enum Calls {
     Waiting,
     Attempts,
 }
@@ -71,7 +71,7 @@ fn delete_all<T: Drop, R: Abort + Wait>(
     seat
 }
 
-/// Inserts one of the lists; where none is waiting, deletes this many items.
+/// Inserts one of the lists; if none is waiting, deletes this many items.
 fn work<T: Drop, R: Abort + AllocGlobal + Wait>(
     rt: &R,
     queue: &Queue<T>,
@@ -161,7 +161,7 @@ fn storm<T: Drop + Send, R: Abort + AllocGlobal + Threads + Wait + Sync>(
     deleted.into_inner()
 }
 
-/// Stops where the numbers that each seat deleted do not rise from each of these on, or are not all of them.
+/// Fails if the numbers that each seat deleted do not rise from each of these on, or are not all of them.
 fn check_all(rt: &(impl Abort + AllocGlobal), lists: &[Vec<u64>], firsts: &[u64]) {
     let mut all = Vec::new(rt.alloc());
     for list in lists {
@@ -171,7 +171,7 @@ fn check_all(rt: &(impl Abort + AllocGlobal), lists: &[Vec<u64>], firsts: &[u64]
     assert!(rt; are_all(rt, all, firsts));
 }
 
-/// Stops where the numbers do not rise from each of these on.
+/// Fails if the numbers do not rise from each of these on.
 fn check_rise(rt: &impl Abort, list: &[u64], firsts: &[u64]) {
     for &first in firsts {
         assert_case(rt, &first, rise(list, first));

@@ -12,7 +12,7 @@ use fak_model::laws::queue::a_queue_at_rest_counts_its_items;
 use fak_queue::{DeleteFault, InsertFault, Queue, Rest, Seat, Tally};
 use std::sync::Wait;
 
-/// Inserts the numbers below `count`, and waits where the queue is full.
+/// Inserts the numbers below `count`, and waits while the queue is full.
 fn insert_below<R: Wait>(
     rt: &R,
     queue: &Queue<u64>,
