@@ -1,6 +1,7 @@
 /* Each code of each call of an end and of a shared channel, on one thread; and the allocations of an opening. The linker's --wrap sends
  * each allocation here. */
 #include "channel_tests.h"
+#include "failing_heap.h"
 
 #include <string.h>
 
@@ -364,44 +365,6 @@ void each_shared_code_is_returned(void) {
 }
 
 /* ---- Memory ---- */
-
-static long made, failing, live;
-
-void *__real_malloc(size_t size);
-void *__wrap_malloc(size_t size);
-void *__real_calloc(size_t count, size_t size);
-void *__wrap_calloc(size_t count, size_t size);
-void *__real_aligned_alloc(size_t align, size_t size);
-void *__wrap_aligned_alloc(size_t align, size_t size);
-void __real_free(void *block);
-void __wrap_free(void *block);
-
-/* Whether this allocation succeeds. */
-static bool is_made(void) {
-    return __atomic_add_fetch(&made, 1, __ATOMIC_RELAXED) != failing;
-}
-
-static void *counted(void *block) {
-    __atomic_fetch_add(&live, block != NULL, __ATOMIC_RELAXED);
-    return block;
-}
-
-void *__wrap_malloc(size_t size) {
-    return is_made() ? counted(__real_malloc(size)) : NULL;
-}
-
-void *__wrap_calloc(size_t count, size_t size) {
-    return is_made() ? counted(__real_calloc(count, size)) : NULL;
-}
-
-void *__wrap_aligned_alloc(size_t align, size_t size) {
-    return is_made() ? counted(__real_aligned_alloc(align, size)) : NULL;
-}
-
-void __wrap_free(void *block) {
-    __atomic_fetch_sub(&live, block != NULL, __ATOMIC_RELAXED);
-    __real_free(block);
-}
 
 void each_channel_allocation_fails_in_turn(void) {
     fak_channel_end ends[SHARED] = {0};

@@ -2,6 +2,7 @@
  * few calls, and sees its inside. The linker's --wrap sends each allocation and each start of a thread here. */
 #define FAK_POOL_CALLS 13000
 #include "../fak_pool.c"
+#include "failing_heap.h"
 #include "tests.h"
 
 #include <errno.h>
@@ -10,45 +11,8 @@
 
 /* ---- What fails in turn ---- */
 
-static long made, failing, live;
-
-void *__real_malloc(size_t size);
-void *__wrap_malloc(size_t size);
-void *__real_calloc(size_t count, size_t size);
-void *__wrap_calloc(size_t count, size_t size);
-void *__real_aligned_alloc(size_t align, size_t size);
-void *__wrap_aligned_alloc(size_t align, size_t size);
-void __real_free(void *block);
-void __wrap_free(void *block);
 int __real_pthread_create(pthread_t *thread, const pthread_attr_t *how, void *(*run)(void *), void *argument);
 int __wrap_pthread_create(pthread_t *thread, const pthread_attr_t *how, void *(*run)(void *), void *argument);
-
-/* Whether this call succeeds. */
-static bool is_made(void) {
-    return __atomic_add_fetch(&made, 1, __ATOMIC_RELAXED) != failing;
-}
-
-static void *counted(void *block) {
-    __atomic_fetch_add(&live, block != NULL, __ATOMIC_RELAXED);
-    return block;
-}
-
-void *__wrap_malloc(size_t size) {
-    return is_made() ? counted(__real_malloc(size)) : NULL;
-}
-
-void *__wrap_calloc(size_t count, size_t size) {
-    return is_made() ? counted(__real_calloc(count, size)) : NULL;
-}
-
-void *__wrap_aligned_alloc(size_t align, size_t size) {
-    return is_made() ? counted(__real_aligned_alloc(align, size)) : NULL;
-}
-
-void __wrap_free(void *block) {
-    __atomic_fetch_sub(&live, block != NULL, __ATOMIC_RELAXED);
-    __real_free(block);
-}
 
 int __wrap_pthread_create(pthread_t *thread, const pthread_attr_t *how, void *(*run)(void *), void *argument) {
     return is_made() ? __real_pthread_create(thread, how, run, argument) : EAGAIN;
