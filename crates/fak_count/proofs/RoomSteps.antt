@@ -93,7 +93,7 @@ module _ (key : RoomLimits) (s : State (Unit {0}) RoomView) (r : IsShownRoom key
     goes_on f is = steps (room_object key) s r id name m at one (lawful key) after (marks_left name mv.mark) mv.seat.phase advances count_place (f (slice_index s.words count_place)) keeps
         (writes s.words r.core.count mv.count (f (slice_index s.words count_place)) r.encoded is) 0 (omega arith) (FoundValue (slice_index s.words count_place)) found_now
 
-  -- the count is the word that was found, less the bias
+  -- the count is the word that was found, minus the bias
   fits_found : (d : ℕ) → fits r.core.bound r.core.count d ≡ true → slice_index s.words count_place + d ≤ bias + key.bound
   fits_found d e =
       let shape = (reached_shape key.bound key.seats r.core r.reached.reached).0 in

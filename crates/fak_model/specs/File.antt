@@ -74,7 +74,7 @@ amount_given_from before (m ∷ rest) = gives (amount_held m.seat before) m.kind
 abbrev pub amount_given : List FileMark → ℕ
 amount_given h = amount_given_from [] h
 
--- k less the Takes and Overs, plus the Backs and the holds given back
+-- k minus the Takes and Overs, plus the Backs and the holds given back
 abbrev pub count : ℕ → List FileMark → ℤ
 count k p = pos (k + total back_amount p + amount_given p) -ℤ pos (total take_amount p + total over_amount p)
 

@@ -2,10 +2,10 @@
 //!
 //! A queue has four words of its own and one for each cell.
 //!
-//! - The upper count U: insertions that were claimed, or claimed beyond the bound and not withdrawn yet, less the
+//! - The upper count U: insertions that were claimed, or claimed beyond the bound and not withdrawn yet, minus the
 //!   deletions that have ended. An insertion tests U and adds 1 to it before it draws a ticket. A deletion ends by
 //!   subtracting 1. If the queue is shut, the word's top bit is set.
-//! - The lower count L: insertions that have ended, less the deletions that were claimed, or claimed below 1 and not
+//! - The lower count L: insertions that have ended, minus the deletions that were claimed, or claimed below 1 and not
 //!   withdrawn yet. A deletion tests L and subtracts 1 from it. An insertion ends by adding 1.
 //! - The ticket counters I and D: the next ticket of an insertion, and of a deletion. Ticket k has cell k mod size in
 //!   round k div size.

@@ -10,8 +10,8 @@ mod report;
 mod rows;
 mod sleeper;
 mod slot;
-mod telling;
 mod text;
+mod told_report;
 
 pub use context::{Context, Run};
 pub use fault::Fault;
@@ -20,5 +20,5 @@ pub use report::{Outcome, ProcessRow, Report};
 pub use rows::{add_rows, sort_rows};
 pub use sleeper::Sleeper;
 pub use slot::Slot;
-pub use telling::told_in_full;
 pub use text::{Printed, print_brief, report_text};
+pub use told_report::told_in_full;

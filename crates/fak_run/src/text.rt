@@ -11,7 +11,7 @@ ghost use Rattle.fak_run.specs.Views.{row_of, report_of};
 
 use crate::fault::Fault;
 use crate::report::{ProcessRow, Report};
-use crate::telling::steps_at;
+use crate::told_report::steps_at;
 use fak_model::FileEntry;
 use fak_text::{Note, Script, Step, append_journal, append_name};
 use std::alloc::{AllocError, Global};

@@ -164,7 +164,7 @@ pub extern "C" fn fak_c_state(
     OK
 }
 
-/// Writes how many items are ready: insertions that have ended, less the deletions begun and not withdrawn.
+/// Writes how many items are ready: insertions that have ended, minus the deletions begun and not withdrawn.
 ///
 /// `OK` or `NO_SEAT`.
 #[unsafe(no_mangle)]
@@ -180,7 +180,7 @@ pub extern "C" fn fak_c_count(seat: &mut Place, items: &mut i64) -> i32
     OK
 }
 
-/// Writes how many cells are in use, insertions begun and not withdrawn, less deletions that have ended, and whether the queue is shut.
+/// Writes how many cells are in use, insertions begun and not withdrawn, minus deletions that have ended, and whether the queue is shut.
 ///
 /// `OK` or `NO_SEAT`.
 #[unsafe(no_mangle)]

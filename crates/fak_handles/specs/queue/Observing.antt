@@ -15,13 +15,13 @@ pub record Observes (d e : QueueDesk) : Type 0 where
 
 -- ---- the exported functions: what they write follows from the observed history
 
--- the items that are ready: insertions that have ended, less the deletions begun and not withdrawn
+-- the items that are ready: insertions that have ended, minus the deletions begun and not withdrawn
 pub record Counts (code items : ℤ) (d e : QueueDesk) : Type 0 where
   pub code_is : code ≡ pos 0
   pub call : Observes d e
   pub items_is : items ≡ lower_count e.seat.seen
 
--- the cells in use: insertions begun and not withdrawn, less deletions that have ended; and whether the queue is shut
+-- the cells in use: insertions begun and not withdrawn, minus deletions that have ended; and whether the queue is shut
 pub record CountsCells (code cells : ℤ) (shut : Bool) (d e : QueueDesk) : Type 0 where
   pub code_is : code ≡ pos 0
   pub call : Observes d e

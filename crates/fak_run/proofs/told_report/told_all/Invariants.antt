@@ -1,6 +1,6 @@
 use Rattle.fak_run.proofs.Common.{◌≡◌, ◌++◌, map, into_iter_items, told_notes, iter_rest}
 use Rattle.fak_text.specs.Views.{note_of, steps_view}
-use Rattle.fak_run.proofs.telling.told_all.Given as goal
+use Rattle.fak_run.proofs.told_report.told_all.Given as goal
 
 -- the notes so far, followed by those still to come
 abbrev pub invariant-loop-note : goal.invariant-loop-note

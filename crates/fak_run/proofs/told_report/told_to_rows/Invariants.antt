@@ -1,5 +1,5 @@
 use Rattle.fak_run.proofs.Common.{told_rows, row_of, ◌≡◌, ◌++◌, map, into_iter_items}
-use Rattle.fak_run.proofs.telling.told_to_rows.Given as goal
+use Rattle.fak_run.proofs.told_report.told_to_rows.Given as goal
 
 -- the rows so far, followed by those still to come
 abbrev pub invariant-loop-row : goal.invariant-loop-row
