@@ -1,4 +1,4 @@
-/* A shim: the call that FAILING_CALL names fails each time, `pthread_create` or `clock_gettime`. */
+/* A shim: the call that FAILING_CALL names fails, `pthread_create` or `clock_gettime`. If SPARED_CALLS is N, its first N calls don't. */
 #define _GNU_SOURCE
 #include <dlfcn.h>
 #include <errno.h>
@@ -7,8 +7,9 @@
 #include <string.h>
 #include <time.h>
 static int fails(const char *name) {
-    const char *which = getenv("FAILING_CALL");
-    return which && strcmp(which, name) == 0;
+    static long calls;
+    const char *which = getenv("FAILING_CALL"), *spared = getenv("SPARED_CALLS");
+    return which && strcmp(which, name) == 0 && ++calls > (spared ? atol(spared) : 0);
 }
 int pthread_create(pthread_t *thread, const pthread_attr_t *with, void *(*body)(void *), void *word) {
     int (*next)(pthread_t *, const pthread_attr_t *, void *(*)(void *), void *) =

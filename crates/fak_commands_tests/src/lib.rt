@@ -1,7 +1,9 @@
 //! The tests of `fak_commands` and `fak_replay`, in a crate of their own, so that their proofs are checked once: texts, statuses, command
-//! lines, and devices that fail. It embeds the program as any other may: one line in crates.txt lists `fak_commands`.
+//! lines, and devices that fail; and conclusions from the laws of the command line. It embeds the program as any other may: one line in
+//! crates.txt lists `fak_commands`.
 #![tactic(auto)]
 
+pub mod command_lines;
 mod served;
 
 pub use served::{Served, serve_bytes};
