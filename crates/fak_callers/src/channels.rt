@@ -7,14 +7,14 @@ ghost use Rattle.fak_model.specs.declared.queue.Kind.TheVariants.{NoRoom, OverIn
 ghost use Rattle.fak_model.specs.Queue.{Has, IsQueueHistory, contents, count, gots, puts};
 ghost use Rattle.fak_channel_core.specs.ChannelMoves.{Delete, Idle, Insert, Look, TakeCell, TakeItem, channel_step};
 ghost use Rattle.fak_channel_core.specs.ChannelProgress.{CallMoves, WakeMoves};
-ghost use Rattle.fak_channel_core.specs.ChannelRounds.{HasEndedWithin, IsChannelRound, IsServedWithin, WasWoken};
+ghost use Rattle.fak_channel_core.specs.ChannelRounds.{EndsWithin, HasEndedWithin, IsChannelRound, IsQuietRound, IsServedWithin, WasWoken};
 ghost use Rattle.fak_channel_core.specs.ChannelSchedule.{ChannelEvent, ReceiveSleeps, SendSleeps, channel_reached};
 ghost use Rattle.fak_channel_core.specs.SleepMoves.{Sleeping};
 ghost use Rattle.fak_channel_core.specs.SleepSchedule.{OnlySleepersAndGivers, OwesUnclaimed, SleepEvent, sleep_reached};
 
 use fak_channel_core::laws::channel::{
-    a_channel_never_locks_up, a_credit_is_good, a_woken_call_is_served, a_woken_end_goes_on,
-    each_queue_of_a_channel_is_reached, every_call_of_the_queue_ends,
+    a_channel_never_locks_up, a_credit_is_good, a_woken_call_ends, a_woken_call_is_served,
+    a_woken_end_goes_on, each_queue_of_a_channel_is_reached, every_call_of_the_queue_ends,
     every_channel_schedule_is_legal, only_a_drained_channel_has_no_item,
 };
 use fak_channel_core::laws::semaphore::{a_giver_finds_a_token, no_credit_is_taken_twice};
@@ -148,6 +148,18 @@ pub fn is_served_within_rounds<T>()
         → length rounds ≡ 12 → IsServedWithin 2 size room rounds (channel_reached 2 size room schedule) e }
 {
     a_woken_call_is_served::<T>();
+}
+
+/// Once no call begins, a woken call ends within 12,000 rounds of two ends, and within 27,000 rounds of three.
+pub fn ends_once_no_call_begins<T>()
+    ensures two_ends { (size e : ℕ) (schedule : List (ChannelEvent T)) (rounds : List (List (ChannelEvent T))) → 0 < size
+        → WasWoken (channel_reached 2 size 2 schedule) e → All (IsQuietRound 2) rounds → length rounds ≡ 12000
+        → EndsWithin 2 size 2 rounds (channel_reached 2 size 2 schedule) e }
+    ensures three_ends { (size e : ℕ) (schedule : List (ChannelEvent T)) (rounds : List (List (ChannelEvent T)))
+        → 0 < size → WasWoken (channel_reached 3 size 4 schedule) e → All (IsQuietRound 3) rounds
+        → 27000 ≤ length rounds → EndsWithin 3 size 4 rounds (channel_reached 3 size 4 schedule) e }
+{
+    a_woken_call_ends::<T>();
 }
 
 /// Three credits and two gives let at most five passes through, and without a credit or a give no pass comes through.

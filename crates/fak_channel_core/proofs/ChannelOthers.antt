@@ -1,5 +1,6 @@
 -- The other ends after a step of one end.
 use Rattle.std.specs.Prelude.{◌≡◌, ◌≢◌, ℕ, pos, int_lt, Bool, true, false, if◌then◌else◌, Option, Some, None}
+use Rattle.fak_core.specs.declared.queue.phase.Phase.{Phase}
 use Rattle.fak_core.specs.declared.queue.step.QueueMove.{QueueMove}
 use Rattle.fak_core.specs.QueueMoves.{with_at, next_move}
 use Rattle.fak_core.proofs.Common.{refl, sym, ap, ◌∙◌}
@@ -10,31 +11,37 @@ use Rattle.fak_channel_core.specs.ChannelMoves.{ChannelPhase, TakeCell, Insert, 
 use Rattle.fak_channel_core.specs.ChannelMoves as channel
 use Rattle.fak_channel_core.specs.ChannelSchedule.{ChannelEvent, Sends, Receives, Closes, Expires, Steps, end_of, channel_event}
 
--- end k of a semaphore is in the same phase as before, and is woken if it was
+-- end k of a semaphore is in the same phases as before, its token is out if it was, and it is woken if it was
 pub record EndStays (s s' : SleepState) (k : ℕ) : Type 0 where
   pub at : (s'.ends k).at ≡ (s.ends k).at
+  pub phase : s'.waits.phase k ≡ s.waits.phase k
+  pub out : (s'.ends k).out ≡ (s.ends k).out
   pub woken : (s.ends k).woken ≡ true → (s'.ends k).woken ≡ true
 
 module _ (room : ℕ) (s : SleepState) (u k : ℕ) (ne : k ≢ u) where
-  same : (s' : SleepState) → s'.ends k ≡ s.ends k → EndStays s s' k
-  same s' is = record { at = ap (λ x. x.at) is; woken = λ w. ap (λ x. x.woken) is ∙ w }
+  same : (s' : SleepState) → s'.ends k ≡ s.ends k → s'.waits.phase k ≡ s.waits.phase k → EndStays s s' k
+  same s' is p = record { at = ap (λ x. x.at) is; phase = p; out = ap (λ x. x.out) is; woken = λ w. ap (λ x. x.woken) is ∙ w }
 
   else_same : (y : SleepEnd) → with_at s.ends u y k ≡ s.ends k
   else_same y = at_else s.ends u k y ne
 
-  tests : (b : Bool) (x y : SleepState) → x.ends k ≡ s.ends k → y.ends k ≡ s.ends k → EndStays s (if b then x else y) k
-  tests b x y e f = by_test (λ (z : SleepState). EndStays s z k) b x y (λ _. same x e) (λ _. same y f)
+  else_phase : (p : Phase ℕ) → with_at s.waits.phase u p k ≡ s.waits.phase k
+  else_phase p = at_else s.waits.phase u k p ne
+
+  -- a step that leaves the wait queue as it is
+  tests : (b : Bool) (x y : SleepState) → x.ends k ≡ s.ends k → y.ends k ≡ s.ends k → x.waits.phase k ≡ s.waits.phase k → y.waits.phase k ≡ s.waits.phase k → EndStays s (if b then x else y) k
+  tests b x y e f p q = by_test (λ (z : SleepState). EndStays s z k) b x y (λ _. same x e p) (λ _. same y f q)
 
   gives_up : (x : SleepEnd) → EndStays s (give_up s u x) k
-  gives_up x = tests x.woken (through_end s u x) (with_end s u (record x { at = Idle; cancelled = true; through = false })) (else_same _) (else_same _)
+  gives_up x = tests x.woken (through_end s u x) (with_end s u (record x { at = Idle; cancelled = true; through = false })) (else_same _) (else_same _) refl refl
 
   parks : (x : SleepEnd) (o : Option (QueueMove ℕ)) → EndStays s (park s u x o) k
-  parks x None = same _ refl
-  parks x (Some m) = same _ (else_same _)
+  parks x None = same _ refl (else_phase _)
+  parks x (Some m) = same _ (else_same _) (else_phase m.phase)
 
   wakes : (x : SleepEnd) (o : Option ℕ) (m : Option (QueueMove ℕ)) → EndStays s (wake s u x o m) k
-  wakes x o None = same _ refl
-  wakes x o (Some m) = same _ (else_same _)
+  wakes x o None = same _ refl (else_phase _)
+  wakes x o (Some m) = same _ (else_same _) (else_phase m.phase)
 
   marks : (t : ℕ) → EndStays s (wake_end s u t) k
   marks t =
@@ -42,32 +49,34 @@ module _ (room : ℕ) (s : SleepState) (u k : ℕ) (ne : k ≢ u) where
       let is = at_else f u k (record (f u) { at = if (s.ends t).cancelled then Up else Idle }) ne in
       record {
         at = ap (λ x. x.at) is ∙ by_place (λ x. x.at ≡ (s.ends k).at) s.ends t k (woken_end (s.ends t)) (λ q. ap (λ j. (s.ends j).at) (sym q)) (λ other. refl);
+        phase = refl;
+        out = ap (λ x. x.out) is ∙ by_place (λ x. x.out ≡ (s.ends k).out) s.ends t k (woken_end (s.ends t)) (λ q. ap (λ j. (s.ends j).out) (sym q)) (λ other. refl);
         woken = λ w. ap (λ x. x.woken) is ∙ by_place (λ x. x.woken ≡ true) s.ends t k (woken_end (s.ends t)) (λ q. refl) (λ other. w);
       }
 
   pub steps_else : (x : SleepEnd) (p : SleepPhase) → EndStays s (step_at room s u x p) k
-  steps_else x Idle = same s refl
-  steps_else x TestDown = tests (int_lt (pos 0) s.count) (with_end s u (record x { at = Down false })) (with_end s u (record x { at = Idle; through = false })) (else_same _) (else_same _)
-  steps_else x (Down stays) = tests (int_lt (pos 0) s.count) _ _ (else_same _) (else_same _)
+  steps_else x Idle = same s refl refl
+  steps_else x TestDown = tests (int_lt (pos 0) s.count) (with_end s u (record x { at = Down false })) (with_end s u (record x { at = Idle; through = false })) (else_same _) (else_same _) refl refl
+  steps_else x (Down stays) = tests (int_lt (pos 0) s.count) _ _ (else_same _) (else_same _) refl refl
   steps_else x Parking = parks x (next_move room s.waits (s.waits.phase u))
-  steps_else x Sleeping = tests x.woken (through_end s u x) s (else_same _) refl
-  steps_else x (TakeBack stays) = tests x.woken _ _ (else_same _) (else_same _)
+  steps_else x Sleeping = tests x.woken (through_end s u x) s (else_same _) refl refl refl
+  steps_else x (TakeBack stays) = tests x.woken _ _ (else_same _) (else_same _) refl refl
   steps_else x GiveUp = gives_up x
-  steps_else x Up = same _ (else_same _)
+  steps_else x Up = same _ (else_same _) refl
   steps_else x (Waking o) = wakes x o (next_move room s.waits (s.waits.phase u))
   steps_else x (Marking t) = marks t
 
   pub passes_else : (x : SleepEnd) (stays : Bool) (p : SleepPhase) → EndStays s (begin_pass s u x stays p) k
-  passes_else x stays Idle = same _ (else_same _)
-  passes_else x stays _ = same s refl
+  passes_else x stays Idle = same _ (else_same _) refl
+  passes_else x stays _ = same s refl refl
 
   pub gives_else : (x : SleepEnd) (p : SleepPhase) → EndStays s (begin_give s u x p) k
-  gives_else x Idle = same _ (else_same _)
-  gives_else x _ = same s refl
+  gives_else x Idle = same _ (else_same _) refl
+  gives_else x _ = same s refl refl
 
   pub expires_else : (x : SleepEnd) (p : SleepPhase) → EndStays s (expire s u x p) k
   expires_else x Sleeping = gives_up x
-  expires_else x _ = same s refl
+  expires_else x _ = same s refl refl
 
 -- end k of a channel is in the same phases as before
 pub record Stays {A : Type 0} (s s' : ChannelState A) (k : ℕ) : Type 0 where
@@ -76,8 +85,8 @@ pub record Stays {A : Type 0} (s s' : ChannelState A) (k : ℕ) : Type 0 where
   pub items : EndStays s.items s'.items k
   pub cells : EndStays s.cells s'.cells k
 
-still : (s : SleepState) (k : ℕ) → EndStays s s k
-still s k = record { at = refl; woken = λ w. w }
+pub still : (s : SleepState) (k : ℕ) → EndStays s s k
+still s k = record { at = refl; phase = refl; out = refl; woken = λ w. w }
 
 pub stays_still : {A : Type 0} (s : ChannelState A) (k : ℕ) → Stays s s k
 stays_still s k = record { at = refl; phase = refl; items = still s.items k; cells = still s.cells k }

@@ -240,7 +240,7 @@ ends_within {A} n size room (vs ∷ rs) s e z r all K (inr later) =
     inr (ends_within n size room rs s' e z r (All-tail (IsChannelRound {A = A} n) vs rs all) (kept_channel_run n size room vs s z r K)
     (subst (λ q. IsIdleWithin size (queue_rounds n size room rs s') q e) (schedule_run n size room vs s z r here.within K) later))
 
-queue_idle_from : {A : Type 0} (n size room : ℕ) (s : ChannelState A) → ChannelKept n size room s → AreIdleFrom n s.queue
+pub queue_idle_from : {A : Type 0} (n size room : ℕ) (s : ChannelState A) → ChannelKept n size room s → AreIdleFrom n s.queue
 queue_idle_from {A} n size room s K e b = idle_at (s.at e) (K.beyond e b) (K.fits e)
   where
     idle_at : (y : ChannelPhase A) → y ≡ Idle → Fits y (s.queue.phase e) (s.items.ends e).at (s.cells.ends e).at → s.queue.phase e ≡ queue.Idle

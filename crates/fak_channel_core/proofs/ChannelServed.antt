@@ -49,7 +49,7 @@ low_busy f e q = let j = sym (at_here f e inner.TestLow) ∙ q in cc
 in_over : {A : Type 0} (p : Phase A) (z : A) → p ≡ inner.BackUp z → in_over_in (shown p) ≡ 1
 in_over p z is = ap (λ q. in_over_in (shown q)) is
 
-backs_shut : {A : Type 0} (n size room : ℕ) (s : ChannelState A) (e : ℕ) (z : A) → ChannelKept n size room s → s.queue.phase e ≡ inner.BackUp z → s.queue.shut ≡ false → ⊥
+pub backs_shut : {A : Type 0} (n size room : ℕ) (s : ChannelState A) (e : ℕ) (z : A) → ChannelKept n size room s → s.queue.phase e ≡ inner.BackUp z → s.queue.shut ≡ false → ⊥
 backs_shut {A} n size room s e z K is_p is_open =
     let h = s.queue.past in
     let none = K.no_over is_open in
@@ -258,7 +258,7 @@ expire_busy s u (Insert stays x) w = refl
 expire_busy s u (Delete stays) w = refl
 expire_busy s u _ w = absurd w
 
-woken_busy : {A : Type 0} (s : ChannelState A) (e : ℕ) → WasWoken s e → s.at e ≢ Idle
+pub woken_busy : {A : Type 0} (s : ChannelState A) (e : ℕ) → WasWoken s e → s.at e ≢ Idle
 woken_busy s e (inl (stays, x, at, is, w)) q = let j = sym at ∙ q in cc
 woken_busy s e (inr (stays, at, is, w)) q = let j = sym at ∙ q in cc
 
@@ -301,7 +301,7 @@ module _ {A : Type 0} (n size room : ℕ) (s : ChannelState A) (K : ChannelKept 
     | inr ne ↦ inl (stays_begins s (channel_event size room s v) e (event_else size room s v e ne) w)
   ]) (inl w)
 
-  any_woken : (v : ChannelEvent A) (e : ℕ) → WasWoken s e → WasWoken (channel_happens n size room s v) e ⊎ Begins (channel_happens n size room s v) e
+  pub any_woken : (v : ChannelEvent A) (e : ℕ) → WasWoken s e → WasWoken (channel_happens n size room s v) e ⊎ Begins (channel_happens n size room s v) e
   any_woken v e w = happens_by (λ z. WasWoken z e ⊎ Begins z e) v (λ l. elim (same_or_not e (end_of v)) [
     | inl q ↦ subst (λ k. WasWoken (channel_event size room s v) k ⊎ Begins (channel_event size room s v) k) (sym q) (own_woken v l (subst (WasWoken s) q w))
     | inr ne ↦ inl (stays_woken s (channel_event size room s v) e (event_else size room s v e ne) w)
@@ -419,7 +419,7 @@ begins_served {A} n size room (vs ∷ rs) s e z r l K (inl b) all more =
     ]
 begins_served {A} n size room (vs ∷ rs) s e z r l K (inr w) all more = works_served n size room (vs ∷ rs) s e z r K w all (omega arith)
 
-woken_used : {A : Type 0} (n size room : ℕ) (s : ChannelState A) (e : ℕ) → ChannelKept n size room s → WasWoken s e → e < n
+pub woken_used : {A : Type 0} (n size room : ℕ) (s : ChannelState A) (e : ℕ) → ChannelKept n size room s → WasWoken s e → e < n
 woken_used n size room s e K w = elim (le_or_lt n e) [
   | inl b ↦ absurd (woken_busy s e w (K.beyond e b))
   | inr l ↦ l

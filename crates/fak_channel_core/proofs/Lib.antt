@@ -19,3 +19,12 @@ pub mod Projections
 pub mod ChannelRounds
 pub mod ChannelOthers
 pub mod ChannelServed
+pub mod CallRank
+pub mod SleepRoomy
+pub mod SleepFalls
+pub mod ChannelFalls
+pub mod ChannelMarks
+pub mod ChannelLate
+pub mod ChannelLulls
+pub mod ChannelEnded
+pub mod ChannelAfter

@@ -163,7 +163,7 @@ module _ (n room start : ℕ) (s : SleepState) (z : 0 < room) (K : SleepKept n r
       (t, l, subst IsWaiting (sym is) tt, subst (SemaphoreMoves room s t) (sym is) (subst (ParkMoves room s.waits t) (sym is_p) m))
 
   -- an end that has not claimed a cell finds room
-  unclaimed_room : (t : ℕ) (p : Phase ℕ) → t < n → s.waits.phase t ≡ p → (s.ends t).out ≡ false → in_claim_in (shown p) ≡ 0 → in_over_in (shown p) ≡ 0 → s.waits.upper <ℤ pos room
+  pub unclaimed_room : (t : ℕ) (p : Phase ℕ) → t < n → s.waits.phase t ≡ p → (s.ends t).out ≡ false → in_claim_in (shown p) ≡ 0 → in_over_in (shown p) ≡ 0 → s.waits.upper <ℤ pos room
   unclaimed_room t p l is_p home a b =
       let dead = live_unset (s.ends t).out (s.ends t).woken home in
       let x = ap (λ q. in_claim_in (shown q)) is_p in let y = ap (λ q. in_over_in (shown q)) is_p in

@@ -3,8 +3,8 @@ use Rattle.std.specs.Prelude.{ℕ, ◌≡◌, ◌⊎◌, ◌<◌, Bool, true, Li
 use Rattle.std.specs.List.{All, Contains}
 use Rattle.fak_core.specs.declared.queue.phase.Phase.TheVariants as queue
 use Rattle.fak_channel_core.specs.SleepMoves.{Sleeping}
-use Rattle.fak_channel_core.specs.ChannelMoves.{ChannelPhase, TakeCell, TakeItem, Look, GiveCell, GiveItem, ChannelState}
-use Rattle.fak_channel_core.specs.ChannelSchedule.{ChannelEvent, Steps, end_of, channel_happens, channel_run}
+use Rattle.fak_channel_core.specs.ChannelMoves.{ChannelPhase, Idle, TakeCell, TakeItem, Look, GiveCell, GiveItem, ChannelState}
+use Rattle.fak_channel_core.specs.ChannelSchedule.{ChannelEvent, Expires, Steps, end_of, channel_happens, channel_run}
 
 -- only the first n ends have events, and each of them takes at least one step
 pub record IsChannelRound {A : Type 0} (n : ℕ) (vs : List (ChannelEvent A)) : Type 0 where
@@ -44,3 +44,26 @@ IsServedOnce n size room (v ∷ vs) s e = IsServed (s.at e) ⊎ IsServedOnce n s
 abbrev pub IsServedWithin : {A : Type 0} → ℕ → ℕ → ℕ → List (List (ChannelEvent A)) → ChannelState A → ℕ → Type 0
 IsServedWithin n size room [] s e = IsServed (s.at e)
 IsServedWithin n size room (r ∷ rs) s e = IsServedOnce n size room r s e ⊎ IsServedWithin n size room rs (channel_run n size room r s) e
+
+-- ---- the end of a call
+
+-- a step or a deadline, not the begin of a call
+abbrev pub IsQuiet : {A : Type 0} → ChannelEvent A → Type 0
+IsQuiet (Expires e) = Unit {0}
+IsQuiet (Steps e) = Unit {0}
+IsQuiet _ = ⊥
+
+-- a round in which no call begins
+pub record IsQuietRound {A : Type 0} (n : ℕ) (vs : List (ChannelEvent A)) : Type 0 where
+  pub round : IsChannelRound n vs
+  pub quiet : All (λ (v : ChannelEvent A). IsQuiet v) vs
+
+-- the end has no open call before one of these events, or after the last
+abbrev pub EndsOnce : {A : Type 0} → ℕ → ℕ → ℕ → List (ChannelEvent A) → ChannelState A → ℕ → Type 0
+EndsOnce n size room [] s e = s.at e ≡ Idle
+EndsOnce n size room (v ∷ vs) s e = (s.at e ≡ Idle) ⊎ EndsOnce n size room vs (channel_happens n size room s v) e
+
+-- the end has no open call at some time within these rounds
+abbrev pub EndsWithin : {A : Type 0} → ℕ → ℕ → ℕ → List (List (ChannelEvent A)) → ChannelState A → ℕ → Type 0
+EndsWithin n size room [] s e = s.at e ≡ Idle
+EndsWithin n size room (r ∷ rs) s e = EndsOnce n size room r s e ⊎ EndsWithin n size room rs (channel_run n size room r s) e

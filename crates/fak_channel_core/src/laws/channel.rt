@@ -6,7 +6,7 @@ ghost use Rattle.fak_model.specs.Queue.{IsQueueHistory, contents};
 ghost use Rattle.fak_core.specs.QueueMoves.{history_of};
 ghost use Rattle.fak_channel_core.specs.ChannelMoves.{ChannelState, Delete, Idle, Insert, Look, TakeCell, TakeItem, channel_step};
 ghost use Rattle.fak_channel_core.specs.ChannelProgress.{SomeEndMoves};
-ghost use Rattle.fak_channel_core.specs.ChannelRounds.{HasEndedWithin, IsChannelRound, IsServedWithin, WasWoken};
+ghost use Rattle.fak_channel_core.specs.ChannelRounds.{EndsWithin, HasEndedWithin, IsChannelRound, IsQuietRound, IsServedWithin, WasWoken};
 ghost use Rattle.fak_channel_core.specs.ChannelSchedule.{AreReached, ChannelEvent, HasNoOverClaim, IsClosedAndDrained, OnlySleepersAreIn, ReceiveSleeps, SendSleeps, channel_reached};
 ghost use Rattle.fak_channel_core.specs.SleepMoves.{Sleeping};
 
@@ -86,4 +86,12 @@ pub fn a_woken_call_is_served<T>()
         → 0 < room → WasWoken (channel_reached n size room schedule) e → All (IsChannelRound n) rounds
         → 3 * min size n + 6 ≤ length rounds
         → IsServedWithin n size room rounds (channel_reached n size room schedule) e }
+{}
+
+/// A woken call ends within 3000 n² rounds in which each of the n ends steps and no call begins; deadlines may still come.
+/// The wait queues need a cell for each end.
+pub fn a_woken_call_ends<T>()
+    ensures { (n size room e : ℕ) (schedule : List (ChannelEvent T)) (rounds : List (List (ChannelEvent T))) → 0 < size
+        → 0 < room → n ≤ room → WasWoken (channel_reached n size room schedule) e → All (IsQuietRound n) rounds
+        → 3000 * (n * n) ≤ length rounds → EndsWithin n size room rounds (channel_reached n size room schedule) e }
 {}

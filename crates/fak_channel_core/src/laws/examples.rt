@@ -6,8 +6,8 @@ ghost use Rattle.fak_core.specs.QueueMoves.{history_of};
 ghost use Rattle.fak_channel_core.specs.ChannelExamples.{after, close_wakes_receiver, close_wakes_sender, closed_twice, deadline_comes, deadline_is_late, give_is_repeated, last_item_waits, last_item_wakes, late_claim_waits, late_claim_wakes, receive_is_over, receiver_ends, receiver_is_told, receiver_sleeps, receiver_wakes, rounds_of_three, second_receiver_wakes, second_sender_waits, second_sender_wakes, sender_owes, sender_sleeps, sender_wakes, token_is_gone, try_is_refused};
 ghost use Rattle.fak_channel_core.specs.ChannelMoves.{Delete, Idle, Look, TakeCell, TakeItem};
 ghost use Rattle.fak_channel_core.specs.ChannelProgress.{CallMoves, SomeEndMoves};
-ghost use Rattle.fak_channel_core.specs.ChannelRounds.{IsChannelRound, IsServedWithin, WasWoken};
-ghost use Rattle.fak_channel_core.specs.ChannelSchedule.{Closes, OnlySleepersAreIn, ReceiveSleeps, Receives, SendSleeps, Steps};
+ghost use Rattle.fak_channel_core.specs.ChannelRounds.{EndsWithin, IsChannelRound, IsQuietRound, IsServedWithin, WasWoken};
+ghost use Rattle.fak_channel_core.specs.ChannelSchedule.{Closes, Expires, OnlySleepersAreIn, ReceiveSleeps, Receives, SendSleeps, Steps};
 ghost use Rattle.fak_channel_core.specs.SleepMoves.{Down};
 
 /// A receiver sleeps on the empty channel, and only sleepers have open calls. A send wakes it, and it takes the item.
@@ -96,4 +96,14 @@ pub fn the_rounds_of_a_channel_are_judged()
     ensures not_woken { WasWoken (after receiver_sleeps) 0 → ⊥ }
     ensures eight { IsServedWithin 3 1 3 (rounds_of_three 8) (after sender_wakes) 0 → ⊥ }
     ensures nine { IsServedWithin 3 1 3 (rounds_of_three 9) (after sender_wakes) 0 }
+{}
+
+/// In a quiet round a deadline may come, but no call begins. A woken receive that wakes nobody ends with its twelfth step.
+pub fn the_quiet_rounds_of_a_channel_are_judged()
+    ensures quiet { IsQuietRound {A = ℕ} 2 (Steps 1 ∷ Expires 0 ∷ Steps 0 ∷ []) }
+    ensures begun { IsQuietRound {A = ℕ} 2 (Steps 1 ∷ Receives 0 true ∷ Steps 0 ∷ []) → ⊥ }
+    ensures closed { IsQuietRound {A = ℕ} 2 (Steps 1 ∷ Steps 0 ∷ Closes 1 ∷ []) → ⊥ }
+    ensures each { IsQuietRound {A = ℕ} 2 (Steps 0 ∷ []) → ⊥ }
+    ensures eleven { EndsWithin 3 1 3 (rounds_of_three 11) (after sender_wakes) 0 → ⊥ }
+    ensures twelve { EndsWithin 3 1 3 (rounds_of_three 12) (after sender_wakes) 0 }
 {}
