@@ -1,5 +1,4 @@
-//! The tests of `fak_channel`, in a crate of their own, so that the library is proved only once: calls of one thread,
-//! threads that sleep, storms of threads, and lent ends.
+//! The tests of `fak_channel`: calls of one thread, threads that sleep, storms of threads, and lent ends.
 #![tactic(auto)]
 
 #[cfg(test)]

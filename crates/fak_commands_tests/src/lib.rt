@@ -1,6 +1,5 @@
-//! The tests of `fak_commands` and `fak_replay`, in a crate of their own, so that their proofs are checked once: texts, statuses, command
-//! lines, and devices that fail; and conclusions from the laws of the command line. It embeds the program as any other may: one line in
-//! crates.txt lists `fak_commands`.
+//! The tests of `fak_commands` and `fak_replay`: texts, statuses, command lines, and devices that fail; and conclusions from the
+//! laws of the command line. The crate embeds the program as any other may: one line in crates.txt lists `fak_commands`.
 #![tactic(auto)]
 
 pub mod command_lines;

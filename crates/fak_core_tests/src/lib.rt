@@ -1,6 +1,5 @@
-//! The tests of `fak_model` and `fak_core`, in a crate of their own, so that those two are proved once. They have
-//! histories on both sides of each part of the checker's definition, and schedules on rooms and queues as plain data,
-//! step by step.
+//! The tests of `fak_model` and `fak_core`: histories on both sides of each part of the checker's definition, and
+//! schedules on rooms and queues as plain data, step by step.
 #![tactic(auto)]
 
 #[cfg(test)]

@@ -1,5 +1,4 @@
-//! The tests of `fak_count`, in a crate of their own, so that the library is proved only once: calls of one thread, in
-//! order, and of two threads at once.
+//! The tests of `fak_count`: calls of one thread, in order, and of two threads at once.
 #![tactic(auto)]
 
 #[cfg(test)]

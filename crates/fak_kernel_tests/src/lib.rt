@@ -1,6 +1,6 @@
-//! The tests of `fak_kernel`, in a crate of their own, so that its proofs are checked once. Scripts with known reports
-//! check that the definitions are those of the formats, and that a run with ample memory returns a report. A plain checker
-//! of what a run conserves judges the reports of runs on several processors.
+//! The tests of `fak_kernel`. Scripts with known reports check that the definitions are those of the formats, and that a
+//! run with ample memory returns a report. A plain checker of what a run conserves judges the reports of runs on several
+//! processors.
 #![tactic(auto)]
 
 mod draws;

@@ -45,7 +45,7 @@ tallies_of t = record { ready = t.ready; free = t.free; births = t.births; busy 
 abbrev pub ids_of_tallies : List (SemTallyInfo Process) → List SemId
 ids_of_tallies tallies = map (λ t. t.object) tallies
 
--- the tallies are of these objects
+-- the tallies belong to these objects
 pub record AreTalliesOf (o : ObjectsOf) (t : TalliesOf) : Type 0 where
   pub ready : t.ready.object ≡ o.ready.object
   pub free : t.free.object ≡ o.free.object

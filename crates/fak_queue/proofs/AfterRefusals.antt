@@ -77,11 +77,11 @@ module _ {T R : Type 0} (kinds_of : R → List (Kind T)) (Was : R → Type 0) (s
         makes = subst (λ (ks : List (Kind T)). Makes size ks old new) (sym all) (makes_both (flat_map kinds_of a.refused) (flat_map kinds_of b.refused) b.some_mark a.makes b.makes);
       }
 
-  -- what stands before the last call's marks stays so, however many were refused before
+  -- what is before the last call's marks stays so, however many were refused before
   stood_same : {old mid : SeatInfo (Mark T)} (new : SeatInfo (Mark T)) (rs qs : List R) → Makes size (flat_map kinds_of rs) old mid → (number : ℕ) → before_last kinds_of (rs ++ qs) number old new ≡ before_last kinds_of qs number mid new
   stood_same {old} {mid} new rs qs makes number = grind (arith, common_steps, makes, length, mine_of, seat_of, made_by, flat_map, length-append, made_by_length, flat_map-append, before_mark)
 
-  -- a call of these kinds at last, and what stood before its marks
+  -- a call of these kinds at last, and what was before its marks
   pub record IsAtLast {kinds : List (Kind T)} {mid new : SeatInfo (Mark T)} (old : SeatInfo (Mark T)) (t : MakesAtLast kinds_of size kinds mid new) : Type 0 where
     pub tries : MakesAtLast kinds_of size kinds old new
     pub were : All Was tries.refused

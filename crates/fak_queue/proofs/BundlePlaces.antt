@@ -1,4 +1,4 @@
--- What stood before the marks of a burst.
+-- What was before the marks of a burst.
 use Rattle.std.specs.Prelude.{zero, suc}
 use Rattle.fak_model.specs.Seats.{Begins}
 use Rattle.fak_model.proofs.Seats.{marks_of_append}

@@ -35,7 +35,7 @@ module _ (T : Type 0) {B : Type 0} (ns : List ℕ) (xs : List B) (apart : AreApa
 among : {T : Type 0} (ns : List ℕ) (m : QueueHolder T) → m.0.names ≡ ns → (i n : ℕ) → item_at ns i ≡ Some n → In n m.0.names
 among ns m own i n e = subst (In n) (sym own) (item_in ns i n e)
 
--- what stood before the first mark of the first name
+-- what was before the first mark of the first name
 first_on : {T B : Type 0} (f : B → Kind T) (ss : List (ℕ × B)) (n : ℕ) (x : B) → item_at ss 0 ≡ Some (n, x) → (later : List (Mark T)) × (marks_on f ss ≡ mark n (f x) ∷ later)
 first_on f [] n x e = absurd cc
 first_on f (s ∷ ss) n x e = let g : Some s ≡ Some (n, x) = e in let h : s ≡ (n, x) = cc in (marks_on f ss, λ j. mark (h j).0 (f (h j).1) ∷ marks_on f ss)

@@ -54,7 +54,7 @@ module _ {T : Type 0} (key : QueueLimits) (s : QueueTable T) (r : IsShownQueue k
     abbrev Added : List (Mark T) → Posts T → QueueHolder T
     Added new now = (sees m.0.names (new ++ r.core.past) (Each (now ++ others)) m.0.left, m.1)
 
-    -- all names take part: these stand so then
+    -- all names take part: what the queue shows and each knows then
     added : (now : Posts T) (new : List (Mark T)) → names_of now ≡ names_of items → AreOut key.size now → AreAmong (λ (x : Mark T). x.seat) m.0.names new
         → Changes r.core (after_adds key.size r.core items) new (r.core.upper +ℤ pos (length items)) r.core.lower r.core.draws_in r.core.draws_out now → (tells : List (Mark T) → Type 0) → tells r.core.past
         → IsShownQueue key (stepped s 16 ((slice_index s.words 16 + d) % 2 ^ 64) id m.1 (Added new now).0 keeps) × Leaves (queue_object key.size key.seats) m new (Each (now ++ others)) m.0.left m.1 tells (Added new now)

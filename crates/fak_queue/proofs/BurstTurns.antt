@@ -21,7 +21,7 @@ module _ {T : Type 0} (key : QueueLimits) (s : QueueTable T) (r : IsShownQueue k
     stands_here : (p : Phase T) → IsPost n p all → r.core.phase n ≡ p
     stands_here p e = r.stands id m.0 at n is_mine (Each all) says p e
 
-    -- its step to q, while the other names stand still
+    -- its step to q, while the other names stay as they are
     name_step : (q : Phase T) → (c : QueueState T) → IsReached key.size c → (new : List (Mark T)) → c.past ≡ new ++ r.core.past → AreAmong (λ (w : Mark T). w.seat) m.0.names new → c.phase n ≡ q
         → ((t : ℕ) → t ≢ n → c.phase t ≡ r.core.phase t) → BlockAdvances (queue_object key.size key.seats) r.core m.0.names c new (Each (post_to n q all))
     name_step q c reached new past own here others =

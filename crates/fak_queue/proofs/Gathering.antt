@@ -112,7 +112,7 @@ module _ {T : Type 0} {size seats left more : ℕ} {table : TableId} {taken : Li
 
 -- ---- one seat
 
--- a seat's token is of its object
+-- a seat's token belongs to its object
 pub token_fits : {T : Type 0} {s : SeatInfo (Mark T)} {table mine : TableId} {seats own left : ℕ} {m : QueueHolder T} → IsTokenOfSeat s mine own left m → s.object ≡ object_id table seats → (mine ≡ table) × (own ≡ seats) × IsTokenOfSeat s table seats left m
 token_fits {T} {s} {table} {mine} {seats} {own} {left} {m} its fits =
     let same : object_id mine own ≡ object_id table seats = sym its.object ∙ fits in

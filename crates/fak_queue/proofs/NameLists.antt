@@ -1,4 +1,4 @@
--- Lists of names in which none stands twice, and how long they are.
+-- Lists of names in which none occurs twice, and how long they are.
 use Rattle.fak_queue.proofs.Common.{◌≡◌, ◌≢◌, ℕ, zero, suc, ◌≤◌, List, [], ◌∷◌, ◌++◌, length, length-append, refl, sym, ◌∙◌, subst, inl, inr, arith, In, IsWhole, in_either}
 use Rattle.fak_model.proofs.Seats.{in_left, in_right}
 
@@ -18,7 +18,7 @@ takes_as_many (suc n) names whole =
     let rest = takes_as_many n w.0 (λ m low. w.2 m (λ same. omega (arith, same, low)) (whole m (omega (arith, low)))) in
     omega (arith, w.1, rest)
 
--- no name stands twice: each list with these names is at least as long
+-- no name occurs twice: each list with these names is at least as long
 abbrev pub StandOnce : List ℕ → Type 0
 StandOnce names = (other : List ℕ) → ((m : ℕ) → In m names → In m other) → length names ≤ length other
 

@@ -40,7 +40,7 @@ module _ {A : Type 0} (w : A → ℕ) {old new : SeatInfo (Mark A)} where
 
 -- ---- tallies
 
--- a tally that is whole is so over the queue that it is of, as `close` asks
+-- a tally that is whole is so over the queue that it belongs to, as `close` asks
 pub whole_over : {A : Type 0} (t : TallyInfo (Mark A)) {object : ObjectId} → t.object ≡ object → IsWhole t.object.seats t.names → IsWhole object.seats t.names
 whole_over t same whole = subst (λ (o : ObjectId). IsWhole o.seats t.names) same whole
 

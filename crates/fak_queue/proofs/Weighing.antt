@@ -113,7 +113,7 @@ module _ {A : Type 0} (v : Kind A → ℕ) where
   pub join_weighs : {size : ℕ} {t both : TallyInfo (Mark A)} {s : SeatInfo (Mark A)} → IsJoined (queue_rules size) t s both → (In s.name t.names → ⊥) → weight_in v both ≡ weight_in v t + weight_of v s
   join_weighs {t = t} {both = both} {s = s} j new = grind (arith, common_steps, mine_joined, seat_of, count, mine, count_sums, mine_of)
 
-  -- names that stand once add what the marks of each weigh
+  -- names that occur once add what the marks of each weigh
   names_weigh : (names more : List ℕ) (h : List (Mark A)) → StandOnce (names ++ more) → count v (mine seat_of (names ++ more) h) ≡ count v (mine seat_of names h) + sum_by (λ (n : ℕ). count v (marks_of seat_of n h)) more
   names_weigh names [] h once = omega (arith, ap (λ (l : List ℕ). count v (mine seat_of l h)) (append-nil names))
   names_weigh names (n ∷ more) h once =

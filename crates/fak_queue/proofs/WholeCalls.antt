@@ -2,7 +2,7 @@
 use Rattle.fak_queue.proofs.Common.{◌≡◌, ℕ, zero, suc, ◌+◌, ◌<◌, ◌==◌, Bool, true, false, cond, List, [], ◌∷◌, ◌++◌, length, length-append, refl, ap, sym, ◌∙◌, subst, arith, Some, Kind, Mark, queue_rules, count, puts, gots, items_put, item_in, item_at, marks_of, SeatInfo, Appends, mine_of, before_mark, appends_then, seat_of, made_by, Makes, before_own, ClaimsIn, ClaimsOut, Fills, Takes, Inserts, Deletes, flat_map-append}
 use Rattle.fak_model.specs.declared.queue.Kind.TheVariants as made
 
--- ---- what stands before a mark stays so as more is seen
+-- ---- what is before a mark stays so as more is seen
 
 pub before_mark-stays : {M : Type 0} (seat_of : M → ℕ) (name : ℕ) (h rest : List M) (i : ℕ) → i < length (marks_of seat_of name h) → before_mark seat_of name i (h ++ rest) ≡ before_mark seat_of name i h
 before_mark-stays seat_of name [] rest i lt = absurd (omega (arith, lt))

@@ -38,7 +38,7 @@ asked_of most old = min most (min (length old.names) (old.stint - drawn_by_all o
 
 -- ---- claims and whole bursts
 
--- this seat's insertion was granted: as many Puts come before its own as its ticket says, and its item stands under this ticket
+-- this seat's insertion was granted: as many Puts come before its own as its ticket says, and its item is the one under this ticket
 pub record GrantedIn {T : Type 0} (kinds_of : ℕ → T → List (Kind T)) (n ticket : ℕ) (x : T) (old new : BundleInfo (Mark T)) : Type 0 where
   pub makes : SeatMade n (kinds_of ticket x) old new
   pub ticket_is : count puts (before_own 1 (seat_in old n) (seat_in new n)) ≡ ticket
@@ -129,7 +129,7 @@ pub record RefusesEach {T : Type 0} (size asked : ℕ) (kinds : List (Kind T)) (
   pub each : (i n : ℕ) → item_at old.names i ≡ Some n → i < asked → SeatMade n kinds old new
   pub others : (i n : ℕ) → item_at old.names i ≡ Some n → asked ≤ i → SeatMade n [] old new
 
--- insertions that the upper count, as it stood before the first seat's first mark, refused
+-- insertions that the upper count, as it was before the first seat's first mark, refused
 pub record RefusesBurstFull {T : Type 0} (size asked : ℕ) (upper : ℤ) (old new : BundleInfo (Mark T)) : Type 0 where
   pub makes : RefusesEach size asked (made.NoRoom ∷ []) old new ⊎ RefusesEach size asked (made.OverIn ∷ made.BackIn ∷ []) old new
   pub upper_is : (n : ℕ) → item_at old.names 0 ≡ Some n → upper ≡ upper_count (before_own 0 (seat_in old n) (seat_in new n))
@@ -144,7 +144,7 @@ RefusesBurst size most old new Worn = IsWornBundle old new
 RefusesBurst size most old new Closed = (drawn_by_all old < old.stint) × RefusesBurstClosed size (asked_of most old) old new
 RefusesBurst size most old new (Full upper) = (drawn_by_all old < old.stint) × RefusesBurstFull size (asked_of most old) upper old new
 
--- deletions that the lower count, as it stood before the first seat's first mark, refused
+-- deletions that the lower count, as it was before the first seat's first mark, refused
 pub record RefusesBurstEmpty {T : Type 0} (size asked : ℕ) (lower : ℤ) (old new : BundleInfo (Mark T)) : Type 0 where
   pub makes : RefusesEach size asked (made.NoItem ∷ []) old new ⊎ RefusesEach size asked (made.OverOut ∷ made.BackOut ∷ []) old new
   pub lower_is : (n : ℕ) → item_at old.names 0 ≡ Some n → lower ≡ lower_count (before_own 0 (seat_in old n) (seat_in new n))

@@ -65,14 +65,14 @@ InsertsAtLast size x old new = (ticket : ℕ) × MakesAtLast kinds_not_in size (
 abbrev pub DeletesAtLast : {T : Type 0} → ℕ → T → SeatInfo (Mark T) → SeatInfo (Mark T) → Type 0
 DeletesAtLast size x old new = (ticket : ℕ) × MakesAtLast kinds_not_out size (kinds_out ticket x) old new
 
--- what stood before the mark of this number, counted from 0, among those of the last call
+-- what was before the mark of this number, counted from 0, among those of the last call
 abbrev pub before_last : {T R : Type 0} → (R → List (Kind T)) → List R → ℕ → SeatInfo (Mark T) → SeatInfo (Mark T) → List (Mark T)
 before_last kinds_of refused number old new = before_own (length (flat_map kinds_of refused) + number) old new
 
 -- ---- calls that wait
 
 -- an insertion of x with ticket k within the stint, after any number refused Full: as many Puts come before its own as the ticket says,
--- and its item stands under this ticket
+-- and its item is the one under this ticket
 pub record InsertsAfterFull {T : Type 0} (size k : ℕ) (x : T) (old new : SeatInfo (Mark T)) : Type 0 where
   pub within : drawn_by old < old.stint
   pub tries : MakesAtLast kinds_not_in size (kinds_in k x) old new

@@ -124,7 +124,7 @@ impl<T> Bundle<T> {
     }
 
     /// Says whether `Queue::insert_burst` and `delete_burst` pause before their claims if others use the queue too
-    /// (`Seat::set_pauses_in_calls`). At first they do. No contract sees a pause.
+    /// (`Seat::set_pauses_in_calls`). At first they do.
     pub fn set_pauses_in_calls(&mut self, pauses: bool)
         ensures { self.new ≡ self.old }
     {

@@ -5,8 +5,7 @@
 //! `delete` or a burst, or when `Queue::pause` is called. Meanwhile another seat keeps each line in its own cache.
 //!
 //! A pause takes about as long as a hundred calls, and on average a seat pauses at most once for 100 tickets. So 99 of 100
-//! calls for one item are as fast as without pauses, and faster while others pause. A claim
-//! never pauses, and no contract mentions a pause.
+//! calls for one item are as fast as without pauses, and faster while others pause. A claim never pauses.
 
 use crossbeam_utils::Backoff;
 

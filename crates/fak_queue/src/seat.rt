@@ -56,7 +56,7 @@ impl<T> Seat<T> {
     }
 
     /// Sets whether `insert`, `delete` and the calls that wait begin with `Queue::pause`. At first they do, which raises
-    /// throughput. Without pauses no call takes much longer than its steps. No contract sees a pause.
+    /// throughput. Without pauses no call takes much longer than its steps.
     pub fn set_pauses_in_calls(&mut self, pauses: bool)
         ensures { self.new ≡ self.old }
     {

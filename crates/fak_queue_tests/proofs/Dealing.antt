@@ -1,4 +1,4 @@
--- Seats that were just dealt are of their queue.
+-- Seats that were just dealt belong to their queue.
 use Rattle.std.proofs.Common.{◌≡◌, ℕ, zero, suc, List, [], refl, subst, sym}
 use Rattle.std.specs.List.{All}
 use Rattle.std.proofs.lemmas.List.Elements.{All-nil, All-cons}

@@ -1,5 +1,4 @@
-//! The tests of `fak_sem`, in a crate of their own, so that the library is proved only once: worked rows on one thread,
-//! each step by itself, and downs and ups at once.
+//! The tests of `fak_sem`: worked rows on one thread, each step by itself, and downs and ups at once.
 #![tactic(auto)]
 
 #[cfg(test)]

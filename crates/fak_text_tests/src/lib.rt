@@ -1,5 +1,5 @@
-//! The tests of `fak_text`, in a crate of their own, so that it is proved once. They show what no contract says: that the
-//! definitions are those of the formats, by examples of each.
+//! The tests of `fak_text`. They show what no contract says: that the definitions are those of the formats, by examples
+//! of each.
 #![tactic(auto)]
 
 #[cfg(test)]

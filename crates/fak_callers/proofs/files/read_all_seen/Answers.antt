@@ -4,7 +4,7 @@ use Rattle.fak_model.specs.Calls.{last_of}
 use Rattle.fak_files.specs.Versions.{prefix_through_take}
 use Rattle.fak_callers.proofs.files.read_all_seen.Goals as goal
 
--- what stands before the last mark
+-- the marks before the last one
 before_last : (h : List FileMark) (m : FileMark) → last_of h ≡ Some m → (front : List FileMark) × (front ++ m ∷ [] ≡ h)
 before_last [] m is = absurd (cc)
 before_last (x ∷ []) m is = let same : m ≡ x = cc in ([], ap (λ (y : FileMark). y ∷ []) same)

@@ -27,7 +27,7 @@ gots_append : (f g : List (Mark ℕ)) → count gots (f ++ g) ≡ count gots f +
 gots_append [] g = omega arith
 gots_append (m ∷ f) g = omega (arith, gots_append f g)
 
--- k Gots stand before that of a deletion with ticket k
+-- k Gots come before that of a deletion with ticket k
 drawn : (h : List (Mark ℕ)) (k : ℕ) → Deletion h k → k < count gots h
 drawn h k d =
     let is = ap gots d.claim.second_is in

@@ -5,7 +5,7 @@ use Rattle.fak_queue.specs.declared.standing.Standing.TheVariants.{Each}
 use Rattle.fak_queue.specs.Bursts.{idle_posts, pair_up}
 use Rattle.fak_queue.proofs.bursts.admission.back_over.Given as goal
 
--- the names that are over withdraw, and the others stand still
+-- the names that are over withdraw, and the others stay as they are
 abbrev pub ghosts-back_burst : goal.ghosts-back_burst
 ghosts-back_burst g a =
     let zs = pair_up a._names.now a._items.now in

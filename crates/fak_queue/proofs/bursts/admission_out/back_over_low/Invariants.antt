@@ -5,7 +5,7 @@ use Rattle.fak_queue.specs.declared.standing.Standing.TheVariants.{Each}
 use Rattle.fak_queue.specs.Bursts.{idle_posts, pair_up, units}
 use Rattle.fak_queue.proofs.bursts.admission_out.back_over_low.Given as goal
 
--- the names that are over withdraw, and the others stand still
+-- the names that are over withdraw, and the others stay as they are
 abbrev pub ghosts-back_low_burst : goal.ghosts-back_low_burst
 ghosts-back_low_burst g a =
     let zs = pair_up a._names.now (units a._part) in
