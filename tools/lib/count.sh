@@ -23,11 +23,16 @@ holds() {
     count $? "fails: $name" "$out/said"
 }
 
-# wanted NAME COMMAND..: the same for a command that may take five minutes.
+# wanted NAME COMMAND..: the same for a command that may take five minutes, or $CHECK_SECONDS. With $CHECK_ONLY it runs only what is
+# built, and what has these words in its name.
 wanted() {
+    case $1 in
+    'building '* | *"${CHECK_ONLY:-}"*) ;;
+    *) return ;;
+    esac
     name=$1
     shift
-    holds "$name" timeout 300 "$@"
+    holds "$name" timeout "${CHECK_SECONDS:-300}" "$@"
 }
 
 # Prints the last line of a check. Its status is that of the check.

@@ -184,7 +184,6 @@ fn an_input_that_does_not_end_is_a_read_fault(rt: HostRuntime) {
 fn an_input_that_ends_at_the_last_read_is_read(rt: HostRuntime) {
     let fault = MainFault::Text(TextFault::Range(Field::Input));
     have_fault(&rt, 2_097_151, 2_097_152, fault);
-    have_fault(&rt, 2_097_152, 2_097_152, MainFault::Read);
 }
 
 #[test]
