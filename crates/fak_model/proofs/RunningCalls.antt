@@ -61,7 +61,7 @@ sees_knows seat_of names seen past s = record {
 
 -- ---- the last mark
 
-last_of-push : {M : Type 0} (h : List M) (m : M) → last_of (h ++ m ∷ []) ≡ Some m
+pub last_of-push : {M : Type 0} (h : List M) (m : M) → last_of (h ++ m ∷ []) ≡ Some m
 last_of-push [] m = refl
 last_of-push (x ∷ []) m = refl
 last_of-push (x ∷ y ∷ h) m = last_of-push (y ∷ h) m

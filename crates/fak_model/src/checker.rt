@@ -2,6 +2,7 @@
 
 ghost use Rattle.std.specs.Prelude.{◌≤◌, MatchOption};
 ghost use Rattle.fak_model.specs.Checker.{FirstFault};
+ghost use Rattle.fak_model.specs.Limits.{largest_size};
 ghost use Rattle.fak_model.specs.Queue.{IsQueueHistory};
 
 pub mod counts;
@@ -18,7 +19,7 @@ use judge::{counts_after, may_follow};
 /// The size is 1 to 4,096. It allocates nothing. For each mark it searches back for the newest mark of the seat, and
 /// for at most one `Fill` or `Take`.
 pub fn first_fault(size: u64, marks: &[Mark<u64>]) -> Option<usize>
-    requires { (1 ≤ size) × (size ≤ 4096) }
+    requires { (1 ≤ size) × (size ≤ largest_size) }
     ensures { MatchOption result (IsQueueHistory size marks.now) (λ i. FirstFault size marks.now i) }
 {
     let mut counts = Counts {

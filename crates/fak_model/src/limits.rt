@@ -1,7 +1,7 @@
 //! The largest values that shared objects may be opened with, and larger ones for large objects.
 
-ghost use Rattle.std.specs.Prelude.{MatchResult};
-ghost use Rattle.fak_model.specs.Limits.{IsLargeFault, IsLargeNumberOfSeats, IsLargeStint};
+ghost use Rattle.std.specs.Prelude.{IfErr, MatchResult};
+ghost use Rattle.fak_model.specs.Limits.{IsLargeFault, IsLargeNumberOfSeats, IsLargeStint, IsOfRange};
 
 use crate::large_fault::LargeFault;
 
@@ -32,8 +32,9 @@ pub const LARGE_TICKETS: u64 = 1 << 50;
 ///
 /// `BadSeats` or `BadStint`; the first in this order if both apply.
 pub fn tested_large_seats(seats: u64, stint: u64) -> Result<(), LargeFault>
-    ensures { MatchResult result (λ _. IsLargeNumberOfSeats seats × IsLargeStint seats stint)
+    ensures tested { MatchResult result (λ _. IsLargeNumberOfSeats seats × IsLargeStint seats stint)
         (IsLargeFault (Unit {0}) seats stint) }
+    ensures range { IfErr result IsOfRange }
 {
     if seats == 0 || seats > LARGE_SEATS {
         return Err(LargeFault::BadSeats);
