@@ -1,6 +1,7 @@
 -- From the atomic steps of a burst of insertions to its claim.
 use Rattle.std.specs.Prelude.{take, drop, min}
 use Rattle.std.proofs.lemmas.List.{append-nil, length-take-le, append_assoc}
+use Rattle.fak_model.specs.Limits.{large_size}
 use Rattle.fak_model.specs.declared.queue.Kind.TheVariants as made
 use Rattle.fak_model.specs.Shown.{Leaves}
 use Rattle.fak_model.proofs.Seats.{in_either}
@@ -86,7 +87,7 @@ module _ {T : Type 0} (size seats : ℕ) (ns : List ℕ) (xs : List T) (apart : 
       pub add_says : Says m1.0 (all_at (λ x. AddUp x) (pair_up ns xs) ++ idle_posts (drop (length xs) ns))
       add_says = (all_at (λ x. AddUp x) (pair_up ns xs) ++ idle_posts (drop (length xs) ns), ap (λ (x : QueueHolder T). x.0.phase) first.after_is, λ n p i. i)
 
-      module _ (v : ℕ) (m2 : QueueHolder T) (added : AddedBurst size seats (pair_up ns xs) (idle_posts (drop (length xs) ns)) m1 v m2) (small : size ≤ 16777216) where
+      module _ (v : ℕ) (m2 : QueueHolder T) (added : AddedBurst size seats (pair_up ns xs) (idle_posts (drop (length xs) ns)) m1 v m2) (small : size ≤ large_size) where
         -- refused at the add
         abbrev Over : List (Mark T) → (List (Mark T) → Type 0) → Type 0
         Over new tells = Leaves (queue_object size seats) m1 new (Each (all_at (λ x. BackUp x) (pair_up ns xs) ++ idle_posts (drop (length xs) ns))) m1.0.left m1.1 tells m2

@@ -1,6 +1,7 @@
 -- What callers see of a bundle of seats, and what a bundle keeps. Histories have the oldest mark first.
 use Rattle.std.specs.Prelude.{◌≡◌, ◌⊎◌, ℕ, ◌+◌, ◌<◌, ◌≤◌, ◌^◌, List, [], ◌∷◌, length, reverse, Some}
 use Rattle.std.specs.List.{sum_by}
+use Rattle.fak_model.specs.Limits.{large_seats}
 use Rattle.fak_model.specs.declared.queue.Kind.TheVariants as made
 use Rattle.fak_model.specs.declared.queue.Mark.{Mark}
 use Rattle.fak_model.specs.Calls.{ObjectId, SeatInfo, seat_info}
@@ -97,8 +98,8 @@ pub record IsQueueBundle {T : Type 0} (size seats : ℕ) (names : List ℕ) (cap
   pub apart : AreApart names
   pub below : (n : ℕ) → In n names → n < seats
   pub some : 0 < length names
-  pub few : length names ≤ 1024
-  pub few_seats : seats ≤ 1024
+  pub few : length names ≤ large_seats
+  pub few_seats : seats ≤ large_seats
   pub left_is : me.0.left ≡ left
   pub slots : me.1 ≡ []
   pub lawful : IsLawful size seats me.0

@@ -46,10 +46,10 @@ pub record IsBundleOf {T : Type 0} (size : ℕ) (seats : List (SeatInfo (Mark T)
   pub lawful : IsQueueHistory size bundle.seen
   pub named : AreNamed (queue_rules size) bundle.object.seats bundle.seen
 
--- the seats come back
+-- Only a call with a seat asks for memory. The seats come back.
 abbrev pub IsBundleFault : {T : Type 0} → List (SeatInfo (Mark T)) → BundleFault T → Type 0
 IsBundleFault seats NoSeats = seats ≡ []
-IsBundleFault seats (Memory back) = back.items ≡ seats
+IsBundleFault seats (Memory back) = (0 < length seats) × (back.items ≡ seats)
 
 -- a seat that was in the bundle: it is idle, and has seen what the bundle has seen
 pub record WasIn {T : Type 0} (bundle : BundleInfo (Mark T)) (s : SeatInfo (Mark T)) : Type 0 where

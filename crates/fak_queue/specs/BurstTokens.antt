@@ -1,6 +1,7 @@
 -- What the steps of a bundle ask of its token, and what they leave.
 use Rattle.std.specs.Prelude.{ℕ, ◌≡◌, ◌≤◌, List, [], ◌++◌, length}
 use Rattle.atomic_table.specs.Seated.{TableId}
+use Rattle.fak_model.specs.Limits.{large_seats}
 use Rattle.fak_model.specs.Seats.{In}
 use Rattle.fak_core.specs.QueueBlocks.{AreApart, Posts, names_of}
 use Rattle.fak_queue.specs.declared.limits.QueueLimits.{QueueLimits}
@@ -39,7 +40,7 @@ pub record IsNameAt {T : Type 0} (id : TableId) (key : QueueLimits) (seats : ℕ
 pub record IsWorkToken {T : Type 0} (id : TableId) (key : QueueLimits) (size : ℕ) (own : List ℕ) (stands : QueueHolder T → Type 0) (token : QueueToken T) : Type 0 where
   pub table : FitsTable token.table_id id key key.seats
   pub cells : size ≡ id.slots
-  pub names : AreApart own × (length own ≤ 1024)
+  pub names : AreApart own × (length own ≤ large_seats)
   pub slots : token.me.1 ≡ []
   pub lawful : IsLawful id.slots key.seats token.me.0
   pub phase : stands token.me

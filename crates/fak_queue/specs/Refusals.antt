@@ -1,6 +1,6 @@
 -- Which refusal a call returns, and what it leaves.
 use Rattle.std.specs.Prelude.{◌≡◌, ℕ, ◌<◌, ◌≤◌}
-use Rattle.fak_model.specs.Limits.{IsNumberOfSeats, IsStint}
+use Rattle.fak_model.specs.Limits.{IsNumberOfSeats, IsStint, large_size, largest_size}
 use Rattle.fak_model.specs.declared.queue.Mark.{Mark}
 use Rattle.fak_model.specs.Calls.{SeatInfo}
 use Rattle.fak_queue.specs.declared.fault.InsertFault.{InsertFault}
@@ -24,7 +24,7 @@ RefusesDeletion size old new (deletion.Empty lower) = (drawn_by old < old.stint)
 -- ---- opening
 
 abbrev pub IsSize : ℕ → Type 0
-IsSize size = (1 ≤ size) × (size ≤ 4096)
+IsSize size = (1 ≤ size) × (size ≤ largest_size)
 
 abbrev pub IsInRange : ℕ → ℕ → ℕ → Type 0
 IsInRange size seats stint = IsSize size × IsNumberOfSeats seats × IsStint stint
@@ -44,4 +44,4 @@ IsOpenFault size seats stint fault = IsRangeFault size seats stint fault
 -- ---- opening a large queue
 
 abbrev pub IsLargeSize : ℕ → Type 0
-IsLargeSize size = (1 ≤ size) × (size ≤ 16777216)
+IsLargeSize size = (1 ≤ size) × (size ≤ large_size)

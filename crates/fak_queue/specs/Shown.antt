@@ -4,6 +4,7 @@ use mathlib.Core.Option.{some, none}
 use mathlib.Core.Option as maybe
 use lib.ListN.{get_elem?}
 use Rattle.atomic_table.specs.Table.{State, Me}
+use Rattle.fak_model.specs.Limits.{large_seats, large_size, most_tickets}
 use Rattle.fak_model.specs.declared.queue.Mark.{Mark}
 use Rattle.fak_model.specs.declared.view.View.{View}
 use Rattle.fak_model.specs.Queue.{Word, WholeCall, count, puts, gots, queue_rules}
@@ -55,8 +56,8 @@ HasSlot size core homes cell =
 -- the words and the slots show this state of a queue of this size
 pub record IsEncoded {T : Type 0} (size seats : ℕ) (core : QueueState T) (words : List ℕ) (homes : List (maybe.Option (Option T))) : Type 0 where
   pub some_cell : 0 < size
-  pub few_cells : size ≤ 16777216
-  pub few_seats : seats ≤ 1024
+  pub few_cells : size ≤ large_size
+  pub few_seats : seats ≤ large_seats
   pub words_are : AreWords size core.upper core.lower core.draws_in core.draws_out core.turn core.shut words
   pub wide : length homes ≡ size
   pub slots_are : (cell : ℕ) → cell < size → HasSlot size core homes cell
@@ -71,7 +72,7 @@ abbrev pub queue_object : {T : Type 0} → ℕ → ℕ → Object (Mark T) Word 
 queue_object {T} size seats = record {
   rules = queue_rules size;
   seats = seats;
-  tickets = 1125899906842624;
+  tickets = most_tickets;
   drawn_of = λ (core : QueueState T). count puts core.past + count gots core.past;
   past_of = λ (core : QueueState T). core.past;
   IsReached = IsReachedBy size seats;

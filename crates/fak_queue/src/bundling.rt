@@ -4,6 +4,7 @@ ghost use Rattle.std.specs.Prelude.{◌≡◌, ◌↔◌, ◌⊎◌, ◌<◌, �
 ghost use Rattle.std.specs.List.{All};
 ghost use Rattle.std.specs.Vec.{vec_capacity};
 ghost use Rattle.std.specs.VecDeque.{deque_capacity};
+ghost use Rattle.fak_model.specs.Limits.{large_seats};
 ghost use Rattle.fak_model.specs.Calls.{IsJoinOf};
 ghost use Rattle.fak_model.specs.Histories.{AreNamed};
 ghost use Rattle.fak_model.specs.Names.{Has};
@@ -250,7 +251,7 @@ fn deal_out<T: Drop>(queue: &Queue<T>, bundle: Bundle<T>, mut dealt: Vec<Seat<T>
 
 /// Puts the names into the set.
 fn insert_names(set: &mut NameSet, names: &[u64])
-    requires { (n : ℕ) → In n names.now → n < 1024 }
+    requires { (n : ℕ) → In n names.now → n < large_seats }
     ensures { (n : ℕ) → Has set.new n ↔ (Has set.old n ⊎ In n names.now) }
 {
     for name in names {

@@ -1,7 +1,7 @@
 //! How a queue's limits are tested, and its table made.
 
-ghost use Rattle.std.specs.Prelude.{◌≡◌, ◌+◌, [], IfOk, MatchResult};
-ghost use Rattle.fak_model.specs.Limits.{IsInLargeRange, IsLargeFault};
+ghost use Rattle.std.specs.Prelude.{◌≡◌, ◌+◌, [], IfErr, IfOk, MatchResult};
+ghost use Rattle.fak_model.specs.Limits.{IsInLargeRange, IsLargeFault, IsOfRange};
 ghost use Rattle.fak_queue.specs.Refusals.{IsInRange, IsLargeSize, IsRangeFault};
 ghost use Rattle.fak_queue.specs.Shown.{opened_queue};
 
@@ -36,8 +36,9 @@ pub(crate) fn tested_limits(size: u64, seats: u64, stint: u64) -> Result<(), Ope
 
 /// Tests the same of a large queue, in the same order.
 pub(crate) fn tested_large_limits(size: u64, seats: u64, stint: u64) -> Result<(), LargeFault>
-    ensures { MatchResult result (λ _. IsInLargeRange (IsLargeSize size) seats stint)
+    ensures tested { MatchResult result (λ _. IsInLargeRange (IsLargeSize size) seats stint)
         (IsLargeFault (IsLargeSize size) seats stint) }
+    ensures range { IfErr result IsOfRange }
 {
     if size == 0 || size > LARGE_SIZE {
         return Err(LargeFault::BadSize);

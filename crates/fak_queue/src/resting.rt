@@ -1,6 +1,7 @@
 //! Tokens whose names are all at rest: what a load shows to one, and a join of two.
 
 ghost use Rattle.std.specs.Prelude.{◌≡◌, ◌≤◌, Some, []};
+ghost use Rattle.fak_model.specs.Limits.{large_seats};
 ghost use Rattle.fak_model.specs.Tokens.{IsTallyToken};
 ghost use Rattle.fak_core.specs.declared.queue.phase.Phase.TheVariants.{Idle};
 ghost use Rattle.fak_queue.specs.Bundling.{JoinsTo, Settles, StaysAtRest};
@@ -27,7 +28,7 @@ fn settle<T, J: Call<T>>(words: &QueueWords<T>, token: &mut QueueToken<T>)
 pub(crate) fn rest<T>(words: &QueueWords<T>, token: &mut QueueToken<T>)
     requires token { IsBundleToken words.now.table_id words.now.key words.now.key.seats (λ me. StandsAt Idle me
         × (me.1 ≡ [])) token.old }
-    requires seats { words.now.key.seats ≤ 1024 }
+    requires seats { words.now.key.seats ≤ large_seats }
     ensures { TellsAll token.old token.new (λ after. StaysAtRest words.now.table_id.slots words.now.key.seats
         token.old.me after) }
 {

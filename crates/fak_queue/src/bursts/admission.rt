@@ -1,6 +1,7 @@
 //! The claims of bursts: from the test to the draw.
 
 ghost use Rattle.std.specs.Prelude.{◌≡◌, ◌<◌, ◌≤◌, IfErr, IfOk, MatchResult, drop, length};
+ghost use Rattle.fak_model.specs.Limits.{large_seats, large_size};
 ghost use Rattle.fak_model.specs.declared.queue.Kind.TheVariants.{BackIn};
 ghost use Rattle.fak_core.specs.declared.queue.phase.Phase.TheVariants.{BackUp, Idle};
 ghost use Rattle.fak_core.specs.QueueBlocks.{marks_back};
@@ -29,7 +30,7 @@ fn back_over<T>(
     requires token { IsClaimToken words.now.table_id words.now.key claimants.now.names.now
         (length claimants.now.items.now) (λ me. Says me.0 (claims_at (λ x. BackUp x) claimants.now.names.now
         claimants.now.items.now granted)) token.old }
-    requires count { (count ≡ length claimants.now.items.now) × (count ≤ 1024) × (granted ≤ count) }
+    requires count { (count ≡ length claimants.now.items.now) × (count ≤ large_seats) × (granted ≤ count) }
     ensures told { TellsAll token.old token.new (λ after. Says after.0 (claims_at (λ x. Idle) claimants.now.names.now
         claimants.now.items.now granted)) }
     ensures left { token.new.me.0.left ≡ token.old.me.0.left }
@@ -58,8 +59,8 @@ pub(crate) fn claim_room<T>(
 ) -> Result<u64, NoRoom>
     requires token { IsClaimToken words.now.table_id words.now.key claimants.now.names.now
         (length claimants.now.items.now) (StandsAt Idle) token.old }
-    requires size { (size ≡ words.now.table_id.slots) × (size ≤ 16777216) }
-    requires some { (0 < length claimants.now.items.now) × (length claimants.now.items.now ≤ 1024) }
+    requires size { (size ≡ words.now.table_id.slots) × (size ≤ large_size) }
+    requires some { (0 < length claimants.now.items.now) × (length claimants.now.items.now ≤ large_seats) }
     ensures { TellsAll token.old token.new (λ after. MatchResult result
         (λ j. RoomBurst words.now.table_id.slots words.now.key.seats claimants.now.names.now claimants.now.items.now j
         token.old.me after) (λ r. RefusedBurst words.now.table_id.slots words.now.key.seats claimants.now.names.now
@@ -97,8 +98,8 @@ pub(crate) fn admit_burst<T>(
 ) -> Result<(u64, u64), NoRoom>
     requires token { IsClaimToken words.now.table_id words.now.key claimants.now.names.now
         (length claimants.now.items.now) (StandsAt Idle) token.old }
-    requires size { (size ≡ words.now.table_id.slots) × (size ≤ 16777216) }
-    requires some { (0 < length claimants.now.items.now) × (length claimants.now.items.now ≤ 1024) }
+    requires size { (size ≡ words.now.table_id.slots) × (size ≤ large_size) }
+    requires some { (0 < length claimants.now.items.now) × (length claimants.now.items.now ≤ large_seats) }
     requires left { length claimants.now.items.now ≤ token.old.me.0.left }
     ensures told { TellsAll token.old token.new (λ after. MatchResult result
         (λ r. ClaimedBurst words.now.table_id.slots words.now.key.seats claimants.now.names.now claimants.now.items.now

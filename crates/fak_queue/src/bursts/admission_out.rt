@@ -1,6 +1,7 @@
 //! The claim of a burst of deletions: from the test to the draw.
 
 ghost use Rattle.std.specs.Prelude.{◌≡◌, ◌<◌, ◌≤◌, IfErr, IfOk, MatchResult, drop};
+ghost use Rattle.fak_model.specs.Limits.{large_seats};
 ghost use Rattle.fak_model.specs.declared.queue.Kind.TheVariants.{BackOut};
 ghost use Rattle.fak_core.specs.declared.queue.phase.Phase.TheVariants.{BackLow, Idle};
 ghost use Rattle.fak_core.specs.QueueBlocks.{marks_back};
@@ -26,7 +27,7 @@ fn back_over_low<T>(
 )
     requires token { IsClaimToken words.now.table_id words.now.key names.now count
         (λ me. Says me.0 (claims_out_at BackLow names.now (units count) granted)) token.old }
-    requires count { (count ≤ 1024) × (granted ≤ count) }
+    requires count { (count ≤ large_seats) × (granted ≤ count) }
     ensures told { TellsAll token.old token.new (λ after. Says after.0 (claims_out_at Idle names.now (units count)
         granted)) }
     ensures left { token.new.me.0.left ≡ token.old.me.0.left }
@@ -49,7 +50,7 @@ pub(crate) fn claim_stock<T>(
     names: &[u64],
 ) -> Result<u64, i64>
     requires token { IsClaimToken words.now.table_id words.now.key names.now count (StandsAt Idle) token.old }
-    requires some { (0 < count) × (count ≤ 1024) }
+    requires some { (0 < count) × (count ≤ large_seats) }
     ensures { TellsAll token.old token.new (λ after. MatchResult result
         (λ j. StockBurst words.now.table_id.slots words.now.key.seats names.now (units count) j token.old.me after)
         (λ l. RefusedOutBurst words.now.table_id.slots words.now.key.seats names.now (units count) l token.old.me
@@ -85,7 +86,7 @@ pub(crate) fn admit_burst_out<T>(
     names: &[u64],
 ) -> Result<(u64, u64), i64>
     requires token { IsClaimToken words.now.table_id words.now.key names.now count (StandsAt Idle) token.old }
-    requires some { (0 < count) × (count ≤ 1024) }
+    requires some { (0 < count) × (count ≤ large_seats) }
     requires left { count ≤ token.old.me.0.left }
     ensures told { TellsAll token.old token.new (λ after. MatchResult result
         (λ r. ClaimedOutBurst words.now.table_id.slots words.now.key.seats names.now (units count) r.0 r.1 token.old.me

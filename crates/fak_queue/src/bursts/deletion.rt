@@ -1,6 +1,7 @@
 //! The atomic steps of a burst of deletions, on the token of a bundle.
 
 ghost use Rattle.std.specs.Prelude.{◌≡◌, ◌⊎◌, true, ◌≤◌, ◌++◌, ◌∷◌, ℕ, List, None, Option, Some, length};
+ghost use Rattle.fak_model.specs.Limits.{large_seats};
 ghost use Rattle.fak_core.specs.declared.queue.phase.Phase.TheVariants.{BackLow, EndDelete, Idle, LoadItem, SubLow, TicketOut, TurnOut};
 ghost use Rattle.fak_core.specs.QueueBlocks.{AreApart, Posts, all_at, names_of};
 ghost use Rattle.fak_queue.specs.declared.standing.Standing.TheVariants.{Each};
@@ -49,7 +50,7 @@ pub(crate) fn sub_burst<T, J: Takers<T>>(
 ) -> u64
     requires token { IsBurstToken words.now.table_id words.now.key J.seats J.items J.others
         (λ me. Says me.0 (all_at (λ x. SubLow) J.items ++ J.others)) token.old }
-    requires count { (count ≡ length J.items) × (count ≤ 1024) }
+    requires count { (count ≡ length J.items) × (count ≤ large_seats) }
     ensures { TellsAll token.old token.new (λ after. SubbedBurst words.now.table_id.slots J.seats J.items J.others
         token.old.me result after) }
 {
@@ -67,7 +68,7 @@ pub(crate) fn back_low_burst<T, J: Takers<T>>(
 )
     requires token { IsBurstToken words.now.table_id words.now.key J.seats J.items J.others
         (λ me. Says me.0 (all_at (λ x. BackLow) J.items ++ J.others)) token.old }
-    requires count { (count ≡ length J.items) × (count ≤ 1024) }
+    requires count { (count ≡ length J.items) × (count ≤ large_seats) }
     requires then { SaysAfter token.old.me.0.names (all_at (λ x. Idle) J.items ++ J.others) J.then }
     ensures { TellsAll token.old token.new (λ after. BackLowBurst words.now.table_id.slots J.seats J.items J.others
         J.then token.old.me after) }
@@ -86,7 +87,7 @@ pub(crate) fn draw_out_burst<T, J: Takers<T>>(
 ) -> u64
     requires token { IsBurstToken words.now.table_id words.now.key J.seats J.items J.others
         (λ me. Says me.0 (all_at (λ x. TicketOut) J.items ++ J.others)) token.old }
-    requires count { (count ≡ length J.items) × (count ≤ 1024) }
+    requires count { (count ≡ length J.items) × (count ≤ large_seats) }
     requires left { count ≤ token.old.me.0.left }
     ensures { TellsAll token.old token.new (λ after. DrewOutBurst words.now.table_id.slots J.seats J.items J.others
         token.old.me result after) }
@@ -138,7 +139,7 @@ pub(crate) fn end_out_burst<T, J: Ends>(
 )
     requires token { IsBundleToken words.now.table_id words.now.key J.seats (λ me. (all : Posts T)
         × (me.0.phase ≡ Some (Each all))) token.old }
-    requires count { (length names.now ≡ length J.items) × (length names.now ≤ 1024) }
+    requires count { (length names.now ≡ length J.items) × (length names.now ≤ large_seats) }
     requires names { AreApart (names_of J.items) × AllIn (names_of J.items) token.old.me.0.names }
     requires ends { (n : ℕ) (p : Phase T) → IsPost n p (all_at (λ k. EndDelete k) J.items) → SaysOf token.old.me.0 n p }
     requires rest { J.rests ≡ true → (n : ℕ) → In n token.old.me.0.names

@@ -2,6 +2,7 @@
 
 ghost use Rattle.std.specs.Prelude.{◌≡◌, List, ◌+◌, ◌-◌, ◌<◌, ◌≤◌, length, reverse};
 ghost use Rattle.std.specs.VecDeque.{deque_capacity, deque_len};
+ghost use Rattle.fak_model.specs.Limits.{large_seats};
 ghost use Rattle.fak_model.specs.declared.queue.Kind.TheVariants.{Fill};
 ghost use Rattle.fak_model.specs.Queue.{Has};
 ghost use Rattle.fak_model.specs.Seats.{Begins};
@@ -51,7 +52,7 @@ fn end_taken<T>(words: &QueueWords<T>, token: &mut QueueToken<T>, at: &Progress<
     requires token { IsBundleToken words.now.table_id words.now.key words.now.key.seats (λ me. (was : List T)
         × (got : List T) × (m : QueueHolder T) × EmptiesOn words.now.table_id.slots words.now.key.seats at.now.names.now
         at.now.ticket at.now.done taken at.now.granted was got m me) token.old }
-    requires names { AreApart at.now.names.now × (length at.now.names.now ≤ 1024) }
+    requires names { AreApart at.now.names.now × (length at.now.names.now ≤ large_seats) }
     requires some { at.now.done < taken }
     ensures told { TellsAll token.old token.new (λ after. (was got : List T) (m : QueueHolder T)
         → EmptiesOn words.now.table_id.slots words.now.key.seats at.now.names.now at.now.ticket at.now.done taken

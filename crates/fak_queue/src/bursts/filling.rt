@@ -2,6 +2,7 @@
 
 ghost use Rattle.std.specs.Prelude.{◌≡◌, List, ◌+◌, ◌<◌, ◌≤◌, length, reverse};
 ghost use Rattle.std.specs.VecDeque.{deque_capacity};
+ghost use Rattle.fak_model.specs.Limits.{large_seats};
 ghost use Rattle.fak_model.specs.Seats.{Begins};
 ghost use Rattle.fak_core.specs.QueueBlocks.{AreApart};
 ghost use Rattle.fak_queue.specs.Bundles.{FilledOn, Filling, FillsOn, FoundFull, IsEarly};
@@ -53,7 +54,7 @@ fn end_filled<T>(words: &QueueWords<T>, token: &mut QueueToken<T>, at: &Progress
     requires token { IsBundleToken words.now.table_id words.now.key words.now.key.seats (λ me. (was : List T)
         × (kept : List T) × (m : QueueHolder T) × FillsOn words.now.table_id.slots words.now.key.seats at.now.names.now
         at.now.ticket at.now.done filled at.now.granted was kept m me) token.old }
-    requires names { AreApart at.now.names.now × (length at.now.names.now ≤ 1024) }
+    requires names { AreApart at.now.names.now × (length at.now.names.now ≤ large_seats) }
     requires some { at.now.done < filled }
     ensures told { TellsAll token.old token.new (λ after. (was kept : List T) (m : QueueHolder T)
         → FillsOn words.now.table_id.slots words.now.key.seats at.now.names.now at.now.ticket at.now.done filled
