@@ -6,12 +6,13 @@ use Rattle.fak_model.specs.Seats.{Begins}
 use Rattle.fak_model.specs.Queue.{Inserted, WithdrawnIn}
 use Rattle.fak_queue.specs.declared.bundle.BundleState.{BundleState}
 use Rattle.fak_queue.specs.declared.bundle.BundleState.TheVariants.{Idle, Inserting}
-use Rattle.fak_queue.specs.Bundles.{IsLawful, Filling, FilledOn, ClaimsOn, MadeBy, FoundFull, filled_at}
+use Rattle.fak_queue.specs.Bundles.{IsLawful, Filling, FilledOn, ClaimsOn, LastEnds, MadeBy, FoundFull, filled_at}
 use Rattle.fak_queue.specs.BundleCalls.{BundleInfo, bundle_info, queue_bundle, tickets_of_all, seat_in, HasEnded, AllRest, AreInserting, StandsAs}
 use Rattle.fak_queue.specs.BurstCalls.{GoesOn, asked_of, ClaimsBurst, InsertsBurst, FillsBurst, TriesToFill}
 use Rattle.fak_queue.proofs.BundleLists.{item_in, item_low, item_take, number_of, put_more}
 use Rattle.fak_queue.proofs.BundleClaims.{item_there}
 use Rattle.fak_queue.proofs.BundlePlaces.{before_begins}
+use Rattle.fak_queue.proofs.LastMarks.{drew_still}
 use Rattle.fak_queue.proofs.BundleWords.{owed_then, ended_then, ended_now, owed_still, grows_by, ones, tickets_made}
 use Rattle.fak_queue.proofs.BurstNames.{begins_trans}
 use Rattle.fak_queue.proofs.Common.{ObjectId, QueueHolder, Mark, seat_of, mine_of, marks_of, made_by, tickets_in, item_at, count, puts, ◌≡◌, ◌⊎◌, ⊎_elim, ℕ, ◌+◌, ◌-◌, ◌<◌, ◌≤◌, List, [], ◌∷◌, ◌++◌, length, reverse, refl, sym, ap, ◌∙◌, subst, inl, inr, arith, append_assoc, length-append, None, Some, le_or_lt, common_steps}
@@ -87,6 +88,7 @@ module _ {T : Type 0} {size : ℕ} (o : ObjectId) (names : List ℕ) (xs : List 
     granted = λ i n x e low it. record { makes = c.granted i n x e low (first i x low it); ticket_is = c.ticket i n x e low (first i x low it); put = c.put i x low (first i x low it) };
     over = λ i n e high low. c.over i n e high (let a = asked o names (length xs) d left s m d_is in let l = long in omega (arith, a, l, low));
     others = λ i n e high. c.others i n e (let a = asked o names (length xs) d left s m d_is in let l = long in omega (arith, a, l, high));
+    last = λ i n x e last it. c.last i n x e last (first i x (omega (arith, last)) it);
   }
 
   pub claim_kept : take j (take d xs) ≡ take j xs
@@ -109,6 +111,11 @@ module _ {T : Type 0} {size : ℕ} (o : ObjectId) (names : List ℕ) (xs : List 
         let less = j_fits in
         let x = item_there xs i (omega (arith, below, fits, less)) in
         owed_then Inserted n (reverse m.0.seen) (reverse after.0.seen) (made.ClaimIn ∷ made.Put x.0 ∷ []) (made.Fill 0 ∷ made.EndIn ∷ []) refl (c.granted i n x.0 e below (first i x.0 below x.1)) (r.ended n (item_in names i n e));
+    drew = λ i n e above below.
+        let fits = d_fits in
+        let less = j_fits in
+        let x = item_there xs i (omega (arith, below, fits, less)) in
+        (x.0, c.drew i n x.0 e below (first i x.0 below x.1));
   }
 
 -- ---- filling
@@ -126,16 +133,17 @@ module _ {T : Type 0} {size : ℕ} (o : ObjectId) (names : List ℕ) (k lo f gra
   pub fill_drawn : tickets_of_all names (reverse after.0.seen) ≡ tickets_of_all names (reverse m.0.seen)
   fill_drawn = fill_tickets
 
-  pub fills_burst : (s t : BundleState) → FillsBurst size k lo f (queue_bundle o names left s m) (queue_bundle o names left t after)
-  fills_burst s t = record {
+  pub fills_burst : LastEnds made.EndIn names lo f after → (s t : BundleState) → FillsBurst size k lo f (queue_bundle o names left s m) (queue_bundle o names left t after)
+  fills_burst last s t = record {
     goes_on = goes_on o names left left s t m after (ap (λ z. left + z) fill_tickets) c.marks.begins c.marks.lawful;
     done = c.marks.inside;
     others = λ i n e out. c.marks.outside i n e out ∙ sym (append-nil (marks_of seat_of n (reverse m.0.seen)));
+    last = last;
   }
 
   -- the same of a burst that is said otherwise
-  pub fills_so : (s t : BundleState) {k' lo' hi : ℕ} → k ≡ k' → lo ≡ lo' → f ≡ hi → FillsBurst size k' lo' hi (queue_bundle o names left s m) (queue_bundle o names left t after)
-  fills_so s t a b e = subst (λ (z : ℕ × ℕ × ℕ). FillsBurst size z.0 z.1 z.2 (queue_bundle o names left s m) (queue_bundle o names left t after)) (λ i. (a i, b i, e i)) (fills_burst s t)
+  pub fills_so : LastEnds made.EndIn names lo f after → (s t : BundleState) {k' lo' hi : ℕ} → k ≡ k' → lo ≡ lo' → f ≡ hi → FillsBurst size k' lo' hi (queue_bundle o names left s m) (queue_bundle o names left t after)
+  fills_so last s t a b e = subst (λ (z : ℕ × ℕ × ℕ). FillsBurst size z.0 z.1 z.2 (queue_bundle o names left s m) (queue_bundle o names left t after)) (λ i. (a i, b i, e i)) (fills_burst last s t)
 
   module _ (a : AreInserting names k lo granted was m) where
     ended : (i n : ℕ) → item_at names i ≡ Some n → (i < f) ⊎ (granted ≤ i) → lo ≤ f → f ≤ granted → HasEnded n (reverse after.0.seen)
@@ -170,6 +178,9 @@ module _ {T : Type 0} {size : ℕ} (o : ObjectId) (names : List ℕ) (k lo f gra
       stands = c.stands less;
       done = λ i n e out. ended i n e out low (omega (arith, less));
       waits = λ i n e above below. owed_still n (reverse m.0.seen) (reverse after.0.seen) (made.Fill 0 ∷ made.EndIn ∷ []) (c.marks.outside i n e (inr above)) (a.waits i n e (omega (arith, low, above)) below);
+      drew = λ i n e above below.
+          let d = a.drew i n e (omega (arith, low, above)) below in
+          (d.0, drew_still (reverse m.0.seen) (reverse after.0.seen) n (made.Put d.0) puts (k + i) c.marks.begins (c.marks.outside i n e (inr above)) d.1);
     }
 
     -- as far as the cells' turns had come
@@ -180,8 +191,8 @@ module _ {T : Type 0} {size : ℕ} (o : ObjectId) (names : List ℕ) (k lo f gra
         | inr less ↦ subst (λ s. StandsAs s names kept after) (sym (some less)) (fill_stands low less)
       ]
 
-      pub tries_to_fill : (s : BundleState) {k' lo' granted' : ℕ} → k ≡ k' → lo ≡ lo' → granted ≡ granted' → (f < granted → FoundFull size (k + f) (reverse m.0.seen) (reverse after.0.seen)) → TriesToFill size k' lo' granted' (granted - f) (queue_bundle o names left s m) (queue_bundle o names left t after)
-      tries_to_fill s x y z found = subst (λ (v : ℕ × ℕ × ℕ). TriesToFill size v.0 v.1 v.2 (granted - f) (queue_bundle o names left s m) (queue_bundle o names left t after)) (λ i. (x i, y i, z i)) tries
+      pub tries_to_fill : (s : BundleState) {k' lo' granted' : ℕ} → k ≡ k' → lo ≡ lo' → granted ≡ granted' → (f < granted → FoundFull size (k + f) (reverse m.0.seen) (reverse after.0.seen)) → LastEnds made.EndIn names lo f after → TriesToFill size k' lo' granted' (granted - f) (queue_bundle o names left s m) (queue_bundle o names left t after)
+      tries_to_fill s x y z found last = subst (λ (v : ℕ × ℕ × ℕ). TriesToFill size v.0 v.1 v.2 (granted - f) (queue_bundle o names left s m) (queue_bundle o names left t after)) (λ i. (x i, y i, z i)) tries
         where
           back : granted - (granted - f) ≡ f
           back = omega (arith, high)
@@ -189,7 +200,7 @@ module _ {T : Type 0} {size : ℕ} (o : ObjectId) (names : List ℕ) (k lo f gra
           tries : TriesToFill size k lo granted (granted - f) (queue_bundle o names left s m) (queue_bundle o names left t after)
           tries = record {
             few = omega (arith, low, high);
-            fills = fills_so s t refl refl (sym back);
+            fills = fills_so last s t refl refl (sym back);
             all = λ e. all (omega (arith, e, high));
             some = λ e. some (omega (arith, e)) ∙ ap (λ h. Inserting k h granted) (sym back);
             waits = λ e. subst (λ h. FoundFull size (k + h) (reverse m.0.seen) (reverse after.0.seen)) (sym back) (found (omega (arith, e)));
@@ -222,4 +233,5 @@ inserts_burst {T} {size} xs k j old mid new c f =
           };
       over = λ i n e high low. still i n e high ∙ c.over i n e high low;
       others = λ i n e high. still i n e (omega (arith, less, high)) ∙ c.others i n e high;
+      last = λ i n x e last it. f.last i n (named i n e) (omega arith) last;
     }

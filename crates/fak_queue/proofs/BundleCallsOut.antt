@@ -5,13 +5,14 @@ use Rattle.fak_model.specs.declared.queue.Kind.TheVariants as made
 use Rattle.fak_model.specs.Queue.{Deleted, WithdrawnOut}
 use Rattle.fak_queue.specs.declared.bundle.BundleState.{BundleState}
 use Rattle.fak_queue.specs.declared.bundle.BundleState.TheVariants.{Idle, Deleting}
-use Rattle.fak_queue.specs.Bundles.{EmptiedOn, ClaimsOutOn, MadeBy, FoundEmpty, taken_at}
+use Rattle.fak_queue.specs.Bundles.{EmptiedOn, ClaimsOutOn, LastEnds, MadeBy, FoundEmpty, taken_at}
 use Rattle.fak_queue.specs.BundleCalls.{BundleInfo, queue_bundle, tickets_of_all, seat_in, HasEnded, AllRest, AreDeleting, StandsAs}
 use Rattle.fak_queue.specs.BurstCalls.{ClaimsBurstOut, DeletesBurst, TakesBurst, TriesToTake}
 use Rattle.fak_queue.specs.Parts.{before_part}
 use Rattle.fak_queue.proofs.BundleLists.{item_in, item_low, item_drop, number_of, put_more}
 use Rattle.fak_queue.proofs.BundleClaims.{item_there}
 use Rattle.fak_queue.proofs.BundlePlaces.{before_begins}
+use Rattle.fak_queue.proofs.LastMarks.{drew_still}
 use Rattle.fak_queue.proofs.BundleWords.{owed_then, ended_then, ended_now, owed_still, grows_by, ones, tickets_made}
 use Rattle.fak_queue.proofs.BundleCalls.{asked, goes_on, no_tickets}
 use Rattle.fak_queue.proofs.BurstNames.{begins_trans}
@@ -98,6 +99,7 @@ module _ {T : Type 0} {size : ℕ} (o : ObjectId) (names : List ℕ) (most d k j
           granted = λ i n x e at. let g = l.2 i x at n e in record { makes = g.0; ticket_is = g.2; put = g.1 };
           over = λ i n e high low. c.over i n e (omega (arith, high, many)) (omega (arith, is, low));
           others = λ i n e high. c.others i n e (omega (arith, is, high));
+          last = λ i n x e last at. c.last i n x e (last ∙ many) (l.2 i x at n e).1;
         },
       )
 
@@ -117,6 +119,7 @@ module _ {T : Type 0} {size : ℕ} (o : ObjectId) (names : List ℕ) (most d k j
     waits = λ i n e above below.
         let g = c.granted i n e below in
         owed_then Deleted n (reverse m.0.seen) (reverse after.0.seen) (made.ClaimOut ∷ made.Got g.0 ∷ []) (made.Take 0 ∷ made.EndOut ∷ []) refl g.1 (r.ended n (item_in names i n e));
+    drew = λ i n e above below. c.drew i n e below;
   }
 
 -- ---- emptying
@@ -135,14 +138,15 @@ module _ {T : Type 0} {size : ℕ} (o : ObjectId) (names : List ℕ) (k lo f gra
   pub more : got ≡ was ++ drop (length was) got
   more = let many = c.many in begins_so was got (omega (arith, many)) c.same
 
-  pub takes_burst : lo ≤ f → (s t : BundleState) → TakesBurst size k lo f (drop (length was) got) (queue_bundle o names left s m) (queue_bundle o names left t after)
-  takes_burst low s t =
+  pub takes_burst : lo ≤ f → LastEnds made.EndOut names lo f after → (s t : BundleState) → TakesBurst size k lo f (drop (length was) got) (queue_bundle o names left s m) (queue_bundle o names left t after)
+  takes_burst low last s t =
       let many = c.many in
       let l = length-drop (length was) got in
       record {
         goes_on = goes_on o names left left s t m after (ap (λ z. left + z) take_drawn) c.marks.begins c.marks.lawful;
         done = c.marks.inside;
         others = λ i n e out. c.marks.outside i n e out ∙ sym (append-nil (marks_of seat_of n (reverse m.0.seen)));
+        last = last;
         many = omega (arith, many, l);
         put = λ i x e.
             let there : item_at got (length was + i) ≡ Some x = sym (item_drop got (length was) i) ∙ e in
@@ -152,8 +156,8 @@ module _ {T : Type 0} {size : ℕ} (o : ObjectId) (names : List ℕ) (k lo f gra
       }
 
   -- the same of a burst that is said otherwise
-  pub takes_so : lo ≤ f → (s t : BundleState) {k' lo' hi : ℕ} → k ≡ k' → lo ≡ lo' → f ≡ hi → TakesBurst size k' lo' hi (drop (length was) got) (queue_bundle o names left s m) (queue_bundle o names left t after)
-  takes_so low s t a b e = subst (λ (z : ℕ × ℕ × ℕ). TakesBurst size z.0 z.1 z.2 (drop (length was) got) (queue_bundle o names left s m) (queue_bundle o names left t after)) (λ i. (a i, b i, e i)) (takes_burst low s t)
+  pub takes_so : lo ≤ f → LastEnds made.EndOut names lo f after → (s t : BundleState) {k' lo' hi : ℕ} → k ≡ k' → lo ≡ lo' → f ≡ hi → TakesBurst size k' lo' hi (drop (length was) got) (queue_bundle o names left s m) (queue_bundle o names left t after)
+  takes_so low last s t a b e = subst (λ (z : ℕ × ℕ × ℕ). TakesBurst size z.0 z.1 z.2 (drop (length was) got) (queue_bundle o names left s m) (queue_bundle o names left t after)) (λ i. (a i, b i, e i)) (takes_burst low last s t)
 
   module _ {kept : List T} (a : AreDeleting names k lo granted kept m) where
     ended : (i n : ℕ) → item_at names i ≡ Some n → (i < f) ⊎ (granted ≤ i) → lo ≤ f → f ≤ granted → HasEnded n (reverse after.0.seen)
@@ -180,6 +184,9 @@ module _ {T : Type 0} {size : ℕ} (o : ObjectId) (names : List ℕ) (k lo f gra
       stands = c.stands less;
       done = λ i n e out. ended i n e out low (omega (arith, less));
       waits = λ i n e above below. owed_still n (reverse m.0.seen) (reverse after.0.seen) (made.Take 0 ∷ made.EndOut ∷ []) (c.marks.outside i n e (inr above)) (a.waits i n e (omega (arith, low, above)) below);
+      drew = λ i n e above below.
+          let d = a.drew i n e (omega (arith, low, above)) below in
+          (d.0, drew_still (reverse m.0.seen) (reverse after.0.seen) n (made.Got d.0) gots (k + i) c.marks.begins (c.marks.outside i n e (inr above)) d.1);
     }
 
     -- as far as the cells' turns had come
@@ -190,8 +197,8 @@ module _ {T : Type 0} {size : ℕ} (o : ObjectId) (names : List ℕ) (k lo f gra
         | inr less ↦ subst (λ s. StandsAs s names kept after) (sym (some less)) (take_stands low less)
       ]
 
-      pub tries_to_take : (s : BundleState) {k' lo' granted' : ℕ} → k ≡ k' → lo ≡ lo' → granted ≡ granted' → (f < granted → FoundEmpty (k + f) (reverse m.0.seen) (reverse after.0.seen)) → TriesToTake size k' lo' granted' (granted - f) (drop (length was) got) (queue_bundle o names left s m) (queue_bundle o names left t after)
-      tries_to_take s x y z found = subst (λ (v : ℕ × ℕ × ℕ). TriesToTake size v.0 v.1 v.2 (granted - f) (drop (length was) got) (queue_bundle o names left s m) (queue_bundle o names left t after)) (λ i. (x i, y i, z i)) tries
+      pub tries_to_take : (s : BundleState) {k' lo' granted' : ℕ} → k ≡ k' → lo ≡ lo' → granted ≡ granted' → (f < granted → FoundEmpty (k + f) (reverse m.0.seen) (reverse after.0.seen)) → LastEnds made.EndOut names lo f after → TriesToTake size k' lo' granted' (granted - f) (drop (length was) got) (queue_bundle o names left s m) (queue_bundle o names left t after)
+      tries_to_take s x y z found last = subst (λ (v : ℕ × ℕ × ℕ). TriesToTake size v.0 v.1 v.2 (granted - f) (drop (length was) got) (queue_bundle o names left s m) (queue_bundle o names left t after)) (λ i. (x i, y i, z i)) tries
         where
           back : granted - (granted - f) ≡ f
           back = omega (arith, high)
@@ -199,7 +206,7 @@ module _ {T : Type 0} {size : ℕ} (o : ObjectId) (names : List ℕ) (k lo f gra
           tries : TriesToTake size k lo granted (granted - f) (drop (length was) got) (queue_bundle o names left s m) (queue_bundle o names left t after)
           tries = record {
             few = omega (arith, low, high);
-            takes = takes_so low s t refl refl (sym back);
+            takes = takes_so low last s t refl refl (sym back);
             all = λ e. all (omega (arith, e, high));
             some = λ e. some (omega (arith, e)) ∙ ap (λ h. Deleting k h granted) (sym back);
             waits = λ e. subst (λ h. FoundEmpty (k + h) (reverse m.0.seen) (reverse after.0.seen)) (sym back) (found (omega (arith, e)));
@@ -242,4 +249,5 @@ deletes_burst {T} {size} most k j ys old mid new claim f =
           };
       over = λ i n e high low. still i n e (omega (arith, high, long)) ∙ c.over i n e (omega (arith, high, long, many)) low;
       others = λ i n e high. still i n e (omega (arith, few, many, high)) ∙ c.others i n e high;
+      last = λ i n x e last it. f.last i n (named i n e) (omega arith) (last ∙ omega (arith, long));
     }

@@ -6,12 +6,13 @@ use Rattle.fak_model.proofs.Seats.{marks_of_append}
 use Rattle.fak_core.specs.declared.queue.phase.Phase.TheVariants.{Idle, TurnIn}
 use Rattle.fak_core.specs.QueueBlocks.{names_of, AreApart, all_at, turns_from, marks_back}
 use Rattle.fak_queue.specs.Bursts.{ClaimedBurst, idle_posts, pair_up}
-use Rattle.fak_queue.specs.Bundles.{Filling, ClaimsOn, MadeBy}
+use Rattle.fak_queue.specs.Bundles.{Filling, ClaimsOn, MadeBy, EndsWith}
 use Rattle.fak_queue.proofs.BurstPosts.{post_left, post_right}
-use Rattle.fak_queue.proofs.BurstNames.{idle_names, from_rest, in_granted, in_over, once_granted, once_over, not_both}
-use Rattle.fak_model.specs.Queue.{item_in as put_in}
+use Rattle.fak_queue.proofs.BurstNames.{idle_names, from_rest, in_granted, in_over, once_granted, once_over, not_both, pair_length}
+use Rattle.fak_model.specs.Queue.{Drew, item_in as put_in}
 use Rattle.fak_queue.proofs.BundleLists.{item_in, item_drop, item_take, marks_on, marks_turned, no_marks}
 use Rattle.fak_queue.proofs.BundlePlaces.{own_mark, pair_in, before_block}
+use Rattle.fak_queue.proofs.LastMarks.{drew_in_block, last_in_block}
 use Rattle.fak_queue.proofs.Common.{before_part, count, length-append, made_by, puts, IsPost, items_count, flat_map-append, QueueHolder, seat_of, marks_of, item_at, items_put, In, ◌≡◌, ℕ, ◌+◌, ◌-◌, ◌<◌, ◌≤◌, List, [], ◌∷◌, ◌++◌, length, reverse, refl, sym, ap, ◌∙◌, subst, inl, inr, arith, append_assoc, Some, le_or_lt}
 
 -- ---- names with their items
@@ -158,6 +159,18 @@ module _ {T : Type 0} {size seats : ℕ} (ns : List ℕ) (xs : List T) (apart : 
       (let a = ap length (claim_granted i n x e low f) ∙ length-append (marks_of seat_of n (reverse m.0.seen)) (made_by n (made.ClaimIn ∷ made.Put x ∷ [])) in omega (arith, a)) in
       before_block puts (λ x. made.Put x) (λ y. refl) ss i n x (once_granted T ns xs apart fit j) (first_item i n x e low f) (reverse c.past) (reverse after.0.seen) k (length (marks_of seat_of n (reverse m.0.seen)) + 1) seen many c.ticket
 
+  pub claim_drew : (i n : ℕ) (x : T) → item_at ns i ≡ Some n → i < j → item_at xs i ≡ Some x → Drew (reverse after.0.seen) n (made.Put x) puts (k + i)
+  claim_drew i n x e low f =
+      let ss = take j (pair_up ns xs) in
+      let seen : reverse after.0.seen ≡ reverse c.past ++ marks_on (λ x. made.Put x) ss = ap reverse c.puts_last ∙ (reverse-append (marks_back (λ x. made.Put x) ss) c.past ∙ ap (λ h. reverse c.past ++ h) (marks_turned (λ x. made.Put x) ss)) in
+      drew_in_block puts (λ x. made.Put x) (λ y. refl) ss i n x (once_granted T ns xs apart fit j) (first_item i n x e low f) (reverse c.past) (reverse after.0.seen) k seen c.ticket
+
+  pub claim_last : (i n : ℕ) (x : T) → item_at ns i ≡ Some n → i + 1 ≡ j → item_at xs i ≡ Some x → EndsWith n (made.Put x ∷ []) after
+  claim_last i n x e last f =
+      let most = c.most in
+      let long : length (take j (pair_up ns xs)) ≡ j = length-take-le j (pair_up ns xs) (omega (arith, most, pair_length ns xs fit)) in
+      last_in_block (λ x. made.Put x) (take j (pair_up ns xs)) i n x (first_item i n x e (omega (arith, last)) f) (last ∙ sym long) c.past after.0.seen c.puts_last
+
   pub claims_on : ClaimsOn size seats ns xs k j m after
   claims_on = record {
     some = c.some;
@@ -173,4 +186,6 @@ module _ {T : Type 0} {size seats : ℕ} (ns : List ℕ) (xs : List T) (apart : 
     ticket = claim_ticket;
     put = claim_put;
     few = c.few;
+    drew = claim_drew;
+    last = claim_last;
   }

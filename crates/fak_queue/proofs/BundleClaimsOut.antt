@@ -1,18 +1,20 @@
 -- The claim of a burst of deletions, name by name.
 use Rattle.std.specs.Prelude.{zero, suc, take, drop}
-use Rattle.std.proofs.lemmas.List.{reverse-append}
+use Rattle.std.proofs.lemmas.List.{reverse-append, length-take-le}
 use Rattle.fak_model.specs.declared.queue.Kind.TheVariants as made
+use Rattle.fak_model.specs.Queue.{Drew}
 use Rattle.fak_model.proofs.Seats.{marks_of_append}
 use Rattle.fak_core.specs.declared.queue.phase.Phase.TheVariants.{Idle, TurnOut}
 use Rattle.fak_core.specs.QueueBlocks.{names_of, AreApart, all_at, turns_out_from, ArePut, marks_back}
 use Rattle.fak_queue.specs.Bursts.{ClaimedOutBurst, idle_posts, pair_up}
-use Rattle.fak_queue.specs.Bundles.{Emptying, ClaimsOutOn, MadeBy}
+use Rattle.fak_queue.specs.Bundles.{Emptying, ClaimsOutOn, MadeBy, EndsWith}
 use Rattle.fak_queue.proofs.BurstPosts.{post_left, post_right}
-use Rattle.fak_queue.proofs.BurstNames.{idle_names, from_rest, in_granted, in_over, once_granted, once_over, not_both}
+use Rattle.fak_queue.proofs.BurstNames.{idle_names, from_rest, in_granted, in_over, once_granted, once_over, not_both, pair_length}
 use Rattle.fak_queue.proofs.BundleLists.{item_in, item_drop, item_take, marks_on, marks_turned, no_marks}
 use Rattle.fak_queue.proofs.Common.{before_part, count, gots, length-append, made_by, refl, IsPost, QueueHolder, Mark, seat_of, marks_of, item_at, items_put, In, ◌≡◌, ℕ, ◌+◌, ◌-◌, ◌<◌, ◌≤◌, List, [], ◌∷◌, ◌++◌, length, reverse, sym, ap, ◌∙◌, subst, inl, inr, arith, append_assoc, Some, le_or_lt}
 use Rattle.fak_queue.proofs.BundleClaims.{pair_item, item_there, idle_post, rest_post}
 use Rattle.fak_queue.proofs.BundlePlaces.{pair_in, own_mark, before_block}
+use Rattle.fak_queue.proofs.LastMarks.{drew_in_block, last_in_block}
 use Rattle.fak_queue.proofs.BundleLists.{put_more}
 
 turns_out_post : (T : Type 0) {B : Type 0} (ss : List (ℕ × B)) (k i n : ℕ) (x : B) → item_at ss i ≡ Some (n, x) → IsPost {T = T} n (TurnOut (k + i)) (turns_out_from k ss)
@@ -32,6 +34,10 @@ named_item (s ∷ f) (t ∷ g) e zero n y at =
     let name : s.0 ≡ n = d ∙ ap (λ (z : ℕ × _). z.0) b in
     (s.1, λ j. Some (name j, s.1))
 named_item (s ∷ f) (t ∷ g) e (suc i) n y at = let c : s.0 ∷ names_of f ≡ t.0 ∷ names_of g = e in let d : names_of f ≡ names_of g = cc in named_item f g d i n y at
+
+names_length : {A : Type 0} (ss : List (ℕ × A)) → length ss ≡ length (names_of ss)
+names_length [] = refl
+names_length (s ∷ ss) = ap suc (names_length ss)
 
 put_at : {T : Type 0} (past : List (Mark T)) (ss : List (ℕ × T)) (k i n : ℕ) (x : T) → ArePut past k ss → item_at ss i ≡ Some (n, x) → item_at (items_put (reverse past)) (k + i) ≡ Some x
 put_at past [] k i n x all e = absurd cc
@@ -139,6 +145,29 @@ module _ {T : Type 0} {size seats : ℕ} (ns : List ℕ) (us : List (Unit {0})) 
       in_blocks n (among i n e) ∙ ap (λ h. marks_of seat_of n (reverse m.0.seen) ++ h)
       (λ q. (no_marks (λ (x : Unit {0}). made.ClaimOut) (take j (pair_up ns us)) n a q ++ no_marks (λ (x : Unit {0}). made.OverOut) (drop j (pair_up ns us)) n b q) ++ (no_marks (λ (x : Unit {0}). made.BackOut) (drop j (pair_up ns us)) n b q ++ no_marks (λ x. made.Got x) c.drawn n (λ z. a (subst (In n) c.names z)) q))
 
+  -- the item that the name drew
+  drawn_item : (i n : ℕ) → item_at ns i ≡ Some n → i < j → (x : T) × (item_at c.drawn i ≡ Some (n, x))
+  drawn_item i n e low =
+      let most = c.most in
+      let u = item_there us i (omega (arith, low, most)) in
+      named_item c.drawn (take j (pair_up ns us)) c.names i n u.0 (first_item i n u.0 e low u.1)
+
+  pub claim_drew : (i n : ℕ) → item_at ns i ≡ Some n → i < j → (x : T) × Drew (reverse after.0.seen) n (made.Got x) gots (k + i)
+  claim_drew i n e low =
+      let d = drawn_item i n e low in
+      let seen : reverse after.0.seen ≡ reverse c.past ++ marks_on (λ x. made.Got x) c.drawn = ap reverse c.gots_last ∙ (reverse-append (marks_back (λ x. made.Got x) c.drawn) c.past ∙ ap (λ h. reverse c.past ++ h) (marks_turned (λ x. made.Got x) c.drawn)) in
+      (d.0, drew_in_block gots (λ x. made.Got x) (λ y. refl) c.drawn i n d.0 (subst AreApart (sym c.names) (once_granted T ns us apart fit j)) d.1 (reverse c.past) (reverse after.0.seen) k seen c.ticket)
+
+  pub claim_last : (i n : ℕ) (x : T) → item_at ns i ≡ Some n → i + 1 ≡ j → item_at (items_put (reverse after.0.seen)) (k + i) ≡ Some x → EndsWith n (made.Got x ∷ []) after
+  claim_last i n x e last there =
+      let most = c.most in
+      let d = drawn_item i n e (omega (arith, last)) in
+      let seen : reverse after.0.seen ≡ reverse c.past ++ reverse (marks_back (λ x. made.Got x) c.drawn) = ap reverse c.gots_last ∙ reverse-append (marks_back (λ x. made.Got x) c.drawn) c.past in
+      let put : item_at (items_put (reverse after.0.seen)) (k + i) ≡ Some d.0 = put_more (reverse c.past) (reverse after.0.seen) (k + i) d.0 (reverse (marks_back (λ x. made.Got x) c.drawn), sym seen) (put_at c.past c.drawn k i n d.0 c.put d.1) in
+      let same : d.0 ≡ x = (let both : Some d.0 ≡ Some x = sym put ∙ there in cc) in
+      let long : length c.drawn ≡ j = names_length c.drawn ∙ (ap length c.names ∙ (sym (names_length (take j (pair_up ns us))) ∙ length-take-le j (pair_up ns us) (omega (arith, most, pair_length ns us fit)))) in
+      subst (λ y. EndsWith n (made.Got y ∷ []) after) same (last_in_block (λ x. made.Got x) c.drawn i n d.0 d.1 (last ∙ sym long) c.past after.0.seen c.gots_last)
+
   pub claims_out_on : ClaimsOutOn size seats ns (length us) k j m after
   claims_out_on = record {
     some = c.some;
@@ -152,4 +181,6 @@ module _ {T : Type 0} {size seats : ℕ} (ns : List ℕ) (us : List (Unit {0})) 
     over = claim_over;
     others = claim_others;
     few = c.few;
+    drew = claim_drew;
+    last = claim_last;
   }

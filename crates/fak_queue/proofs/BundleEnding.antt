@@ -8,10 +8,11 @@ use Rattle.fak_core.specs.declared.queue.phase.Phase.TheVariants.{Idle, TurnIn, 
 use Rattle.fak_core.specs.QueueBlocks.{Posts, names_of, AreApart, all_at, marks_back}
 use Rattle.fak_core.proofs.QueueBlocks.{apart_left, apart_right}
 use Rattle.fak_queue.specs.Bursts.{AllIn, Makes, EndedBurst, once_rest, posts_to, tickets_of}
-use Rattle.fak_queue.specs.Bundles.{SaysOf, MadeFrom, Filling, FillsOn, FilledOn, fills_at, filled_at}
+use Rattle.fak_queue.specs.Bundles.{SaysOf, MadeFrom, Filling, FillsOn, FilledOn, fills_at, filled_at, LastEnds}
 use Rattle.fak_queue.proofs.BurstNames.{all_of, makes_step, begins_trans}
 use Rattle.fak_queue.proofs.BurstPosts.{posts_here, posts_else}
-use Rattle.fak_queue.proofs.BundleLists.{item_in, item_is, item_low, item_drop, item_take, number_of, one_number, tickets_names, tickets_length, in_tickets, marks_on, marks_turned, no_marks, ticket_mark}
+use Rattle.fak_queue.proofs.BundleLists.{item_in, item_is, item_low, item_drop, item_take, number_of, one_number, tickets_names, tickets_length, in_tickets, marks_on, marks_turned, no_marks, ticket_mark, tickets_item}
+use Rattle.fak_queue.proofs.LastMarks.{last_in_block}
 use Rattle.fak_queue.proofs.Common.{Each, QueueHolder, queue_object, Kind, Phase, IsPost, mark, seat_of, made_by, marks_of, item_at, In, ◌≡◌, ◌⊎◌, ℕ, ◌+◌, ◌-◌, ◌<◌, ◌≤◌, Bool, true, false, List, [], ◌∷◌, ◌++◌, length, reverse, refl, sym, ap, ◌∙◌, subst, inl, inr, arith, Some, le_or_lt, true_or_false, append_assoc, common_steps}
 
 each_same : {T : Type 0} {a b : Posts T} → Some (Each a) ≡ Some (Each b) → a ≡ b
@@ -167,6 +168,12 @@ module _ {T : Type 0} {size seats : ℕ} (names : List ℕ) (k lo f granted : �
 
     pub end_begins : Begins (reverse a.0.seen) (reverse c.0.seen)
     end_begins = (makes_step leaves).begins
+
+    pub end_last : LastEnds made.EndIn names lo f c
+    end_last = λ i n e above last.
+        let t = tickets_item (slice_range names lo f) (k + lo) (i - lo) n (item_of_part names lo f apart order fit i n e above (omega (arith, last))) in
+        let long = end_count in
+        last_in_block (λ (t : ℕ). made.EndIn) (tickets_of (slice_range names lo f) (k + lo)) (i - lo) n t.0 t.1 (omega (arith, above, last, long)) leaves.past c.0.seen (ap (λ (x : QueueHolder T). x.0.seen) leaves.after_is)
 
     pub filled_on : FilledOn size seats names k lo f granted was kept m c
     filled_on = record {

@@ -6,13 +6,13 @@ use Rattle.fak_core.specs.declared.queue.phase.Phase.TheVariants.{Idle, TurnOut,
 use Rattle.fak_core.specs.QueueBlocks.{Posts, names_of, AreApart, all_at, marks_back}
 use Rattle.fak_queue.specs.Bursts.{AllIn, EndedOutBurst, once_rest, posts_to, tickets_of}
 use Rattle.fak_model.specs.Seats.{Begins}
-use Rattle.fak_queue.specs.Bundles.{SaysOf, Emptying, EmptiesOn, EmptiedOn, takes_at, taken_at}
+use Rattle.fak_queue.specs.Bundles.{SaysOf, Emptying, EmptiesOn, EmptiedOn, takes_at, taken_at, LastEnds}
 use Rattle.fak_queue.proofs.BurstNames.{makes_step}
 use Rattle.fak_queue.proofs.BurstPosts.{posts_here, posts_else}
-use Rattle.fak_queue.proofs.BundleLists.{item_in, item_is, item_low, number_of, tickets_names, in_tickets}
+use Rattle.fak_queue.proofs.BundleLists.{item_in, item_is, item_low, number_of, tickets_names, tickets_item, in_tickets, put_more}
 use Rattle.fak_queue.proofs.Common.{Each, QueueHolder, queue_object, Phase, IsPost, item_at, In, ◌≡◌, ◌⊎◌, ℕ, ◌+◌, ◌-◌, ◌<◌, ◌≤◌, Bool, true, false, List, length, reverse, refl, sym, ap, ◌∙◌, subst, inl, inr, arith, Some, le_or_lt, true_or_false}
-use Rattle.fak_queue.proofs.BundleLists.{put_more}
-use Rattle.fak_queue.proofs.BundleEnding.{ticket_count, ticket_apart, ticket_in, number_in_part, part_length, part_item, in_part, not_in_part, made_ends}
+use Rattle.fak_queue.proofs.LastMarks.{last_in_block}
+use Rattle.fak_queue.proofs.BundleEnding.{ticket_count, ticket_apart, ticket_in, number_in_part, part_length, part_item, item_of_part, in_part, not_in_part, made_ends}
 
 each_same : {T : Type 0} {a b : Posts T} → Some (Each a) ≡ Some (Each b) → a ≡ b
 each_same e = cc
@@ -95,6 +95,12 @@ module _ {T : Type 0} {size seats : ℕ} (names : List ℕ) (k lo f granted : �
 
     pub end_begins : Begins (reverse a.0.seen) (reverse c.0.seen)
     end_begins = (makes_step leaves).begins
+
+    pub end_last : LastEnds made.EndOut names lo f c
+    end_last = λ i n e above last.
+        let t = tickets_item (slice_range names lo f) (k + lo) (i - lo) n (item_of_part names lo f apart order fit i n e above (omega (arith, last))) in
+        let long = end_count in
+        last_in_block (λ (t : ℕ). made.EndOut) (tickets_of (slice_range names lo f) (k + lo)) (i - lo) n t.0 t.1 (omega (arith, above, last, long)) leaves.past c.0.seen (ap (λ (x : QueueHolder T). x.0.seen) leaves.after_is)
 
     pub emptied_on : EmptiedOn size seats names k lo f granted was got m c
     emptied_on = record {

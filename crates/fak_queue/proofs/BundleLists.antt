@@ -66,6 +66,11 @@ pub tickets_length : (l : List ℕ) (k : ℕ) → length (tickets_of l k) ≡ le
 tickets_length [] k = refl
 tickets_length (n ∷ l) k = ap suc (tickets_length l (k + 1))
 
+pub tickets_item : (l : List ℕ) (k i n : ℕ) → item_at l i ≡ Some n → (t : ℕ) × (item_at (tickets_of l k) i ≡ Some (n, t))
+tickets_item [] k i n e = absurd cc
+tickets_item (x ∷ l) k zero n e = (k, let g : Some x ≡ Some n = e in let h : x ≡ n = cc in ap (λ (z : ℕ). Some (z, k)) h)
+tickets_item (x ∷ l) k (suc i) n e = tickets_item l (k + 1) i n e
+
 pub in_tickets : {T : Type 0} (f : ℕ → Phase T) (l : List ℕ) (k t : ℕ) (w : Phase T) → IsPost t w (all_at f (tickets_of l k)) → (i : ℕ) × (item_at l i ≡ Some t) × (w ≡ f (k + i))
 in_tickets f [] k t w o = absurd o
 in_tickets f (n ∷ l) k t w (inl e) = (zero, ap (λ z. Some z) e.0, sym e.1 ∙ (let z : k ≡ k + 0 = omega arith in ap f z))

@@ -1,20 +1,22 @@
 -- A refusal of a burst, name by name.
 use Rattle.std.specs.Prelude.{drop}
-use Rattle.std.proofs.lemmas.List.{reverse-append}
+use Rattle.std.proofs.lemmas.List.{append-nil, reverse-append}
 use Rattle.fak_model.specs.declared.queue.Kind.TheVariants as made
+use Rattle.fak_model.specs.Calls.{last_of}
 use Rattle.fak_model.proofs.Seats.{marks_of_append}
 use Rattle.fak_core.specs.QueueBlocks.{names_of, AreApart, marks_back}
 use Rattle.fak_queue.specs.declared.found.NoRoom.{NoRoom}
 use Rattle.fak_queue.specs.declared.found.NoRoom.TheVariants.{Full, Shut}
 use Rattle.fak_model.specs.Seats.{Begins}
 use Rattle.fak_model.proofs.RunningCalls.{before_mark-begins}
-use Rattle.fak_queue.specs.Bursts.{NoneOwn, StandAfter, NoneBurst, RefusedBurst, RefusedOutBurst, pair_up}
+use Rattle.fak_queue.specs.Bursts.{NoneOwn, StandAfter, NoneBurst, RefusedBurst, RefusedOutBurst, pair_up, EndsIn}
 use Rattle.fak_queue.specs.Bundles.{AllMade, RefusesOn, RefusesOutOn}
-use Rattle.fak_queue.proofs.BurstNames.{idle_names, from_rest, once}
+use Rattle.fak_queue.proofs.BurstNames.{idle_names, from_rest, once, pair_length}
 use Rattle.fak_queue.proofs.BundleLists.{item_in, item_drop, marks_on, marks_turned, no_marks}
 use Rattle.fak_queue.proofs.Common.{Mark, before_part, lower_count, queue_rules, refl, upper_count, QueueHolder, Kind, mark, seat_of, marks_of, item_at, In, ◌≡◌, ℤ, ℕ, ◌+◌, ◌-◌, ◌<◌, ◌≤◌, List, [], ◌∷◌, ◌++◌, length, reverse, sym, ap, ◌∙◌, subst, inl, inr, arith, Some}
 use Rattle.fak_queue.proofs.BundleClaims.{pair_item, item_there}
 use Rattle.fak_queue.proofs.BundlePlaces.{own_mark}
+use Rattle.fak_queue.proofs.LastMarks.{last_of_ends}
 
 module _ (T : Type 0) {B : Type 0} (ns : List ℕ) (xs : List B) (apart : AreApart ns) (fit : length xs ≤ length ns) where
   outside : (i n : ℕ) → item_at ns i ≡ Some n → length xs ≤ i → In n (names_of (pair_up ns xs)) → ⊥
@@ -50,6 +52,12 @@ before_first {T} {B} ns xs m after own f past n e some none stands =
     before_mark-begins (queue_rules 0) n (length (marks_of seat_of n (reverse m.0.seen)) + 0) (reverse past) (mark n (f x.0)) first.0 (reverse after.0.seen) refl same (subst (λ h. Begins h (reverse after.0.seen)) turned stands)
 
 module _ {T B : Type 0} (size seats : ℕ) (ns : List ℕ) (xs : List B) (apart : AreApart ns) (fit : length xs ≤ length ns) (m after : QueueHolder T) (own : m.0.names ≡ ns) where
+  -- the last mark is that of the last name that takes part
+  last_name : (f : Kind T) (new : List (Mark T)) → EndsIn (marks_back (λ (x : B). f) (pair_up ns xs) ++ new) after → (i n : ℕ) → item_at ns i ≡ Some n → i + 1 ≡ length xs → last_of (reverse after.0.seen) ≡ Some (mark n f)
+  last_name f new ends i n e last =
+      let x = item_there xs i (omega (arith, last)) in
+      last_of_ends (λ (x : B). f) (pair_up ns xs) i n x.0 (pair_item ns xs i n x.0 e x.1) (last ∙ sym (pair_length ns xs fit)) new after ends
+
   pub all_one : (f : Kind T) → NoneBurst size seats (marks_back (λ (x : B). f) (pair_up ns xs)) m after → AllMade size seats ns (length xs) (f ∷ []) m after
   all_one f c =
       let turned = marks_turned (λ (x : B). f) (pair_up ns xs) in
@@ -64,6 +72,7 @@ module _ {T B : Type 0} (size seats : ℕ) (ns : List ℕ) (xs : List B) (apart 
         lawful = record { lawful = c.makes.lawful; named = c.makes.named };
         each = λ i n e low. mine i n e ∙ ap (λ h. marks_of seat_of n (reverse m.0.seen) ++ h) (mark_each T ns xs apart fit f i n e low);
         others = λ i n e high. mine i n e ∙ ap (λ h. marks_of seat_of n (reverse m.0.seen) ++ h) (mark_none T ns xs apart fit f i n e high);
+        last = last_name f [] (subst (λ l. EndsIn l after) (sym (append-nil (marks_back (λ (x : B). f) (pair_up ns xs)))) c.ends);
       }
 
   -- g is the older of two marks
@@ -84,6 +93,7 @@ module _ {T B : Type 0} (size seats : ℕ) (ns : List ℕ) (xs : List B) (apart 
         lawful = record { lawful = c.makes.lawful; named = c.makes.named };
         each = λ i n e low. mine i n e ∙ ap (λ h. marks_of seat_of n (reverse m.0.seen) ++ h) (λ q. mark_each T ns xs apart fit g i n e low q ++ mark_each T ns xs apart fit f i n e low q);
         others = λ i n e high. mine i n e ∙ ap (λ h. marks_of seat_of n (reverse m.0.seen) ++ h) (λ q. mark_none T ns xs apart fit g i n e high q ++ mark_none T ns xs apart fit f i n e high q);
+        last = last_name f (marks_back (λ (x : B). g) (pair_up ns xs)) c.ends;
       }
 
 pub refuses_on : {T : Type 0} (size seats : ℕ) (ns : List ℕ) (xs : List T) → AreApart ns → length xs ≤ length ns → 0 < length xs → (m after : QueueHolder T) → m.0.names ≡ ns → (r : NoRoom) → RefusedBurst size seats ns xs r m after → RefusesOn size seats ns (length xs) r m after

@@ -54,6 +54,7 @@ module _ {T : Type 0} {size : ℕ} (o : ObjectId) (names : List ℕ) (d left : �
     goes_on = goes_on o names left left s s m after (ap (λ z. left + z) same) c.begins c.lawful;
     each = λ i n e low. c.each i n e (omega (arith, low, is));
     others = λ i n e high. c.others i n e (omega (arith, high, is));
+    last = λ i n e last. c.last i n e (last ∙ is);
   }
 
 -- a bundle with tickets left

@@ -13,6 +13,7 @@ use Rattle.fak_queue.specs.Bursts.{AllIn, AreDisjoint, AreIdle, Says, SaysAfter,
 use Rattle.fak_queue.proofs.BurstPosts.{idle_all, idle_both}
 use Rattle.fak_queue.proofs.Common.{QueueHolder, queue_object, Alike, Each, IsUpperCount, Ok, Err, Full, Shut, upper_count, bias, ints, common_steps, le_or_lt, ℤ, pos, ◌+ℤ◌, ◌<◌, ◌^◌, ◌≡◌, ◌⊎◌, ℕ, ◌+◌, ◌-◌, ◌≤◌, List, [], ◌++◌, length, refl, sym, ap, ◌∙◌, subst, inl, inr, arith, reverse, In, Mark}
 use Rattle.fak_queue.proofs.BurstNames.{own_past, own_past_first, stands_now, stands_more, idle_rest, all_of, post_swap, says_swap, whole, once, from_rest, in_zs, in_rest, once_granted, in_granted, in_over, not_both, makes_step, makes_then, makes_then_first, pair_length, none_over}
+use Rattle.fak_queue.proofs.LastMarks.{ends_now, ends_back}
 
 module _ {T : Type 0} (size seats : ℕ) (ns : List ℕ) (xs : List T) (m after : QueueHolder T) where
   abbrev Backed : ℕ → Type 0
@@ -64,7 +65,7 @@ module _ {T : Type 0} (size seats : ℕ) (ns : List ℕ) (xs : List T) (apart : 
 
   module _ (f : ℕ) (m1 : QueueHolder T) (tested : TestedBurst size seats (pair_up ns xs) (idle_posts (drop (length xs) ns)) m0 f m1) where
     refused_by : {new : List (Mark T)} {tells : List (Mark T) → Type 0} → Leaves (queue_object size seats) m0 new (Alike Idle) m0.0.left m0.1 tells m1 → NoneBurst size seats new m0 m1
-    refused_by l = record { phase = ap (λ (x : QueueHolder T). x.0.phase) l.after_is; left = ap (λ (x : QueueHolder T). x.0.left) l.after_is; makes = makes_step l }
+    refused_by {new} l = record { phase = ap (λ (x : QueueHolder T). x.0.phase) l.after_is; left = ap (λ (x : QueueHolder T). x.0.left) l.after_is; makes = makes_step l; ends = ends_now new l.past m1 (ap (λ (x : QueueHolder T). x.0.seen) l.after_is) }
 
     pub refused_at_test : (why : NoRoom) → IsUpperCount size f (Err why) → RefusedBurst size seats ns xs why m0 m1
     refused_at_test (Full u) is = let l = tested.full is.0 is.1 in (l.past, same_count f u (upper_count (reverse l.past)) is.2 l.told, own_past l, inl (refused_by l, stands_now l))
@@ -120,12 +121,13 @@ module _ {T : Type 0} (size seats : ℕ) (ns : List ℕ) (xs : List T) (apart : 
           all_of m2.0.names _ (λ n i. subst (In n) (sym (names-append (all_at {A = T} (λ (x : T). Idle) (pair_up ns xs)) (idle_posts (drop (length xs) ns)) ∙ ((λ j. names-at {A = T} (λ (x : T). Idle) (pair_up ns xs) j ++ names_of (idle_posts {T = T} (drop (length xs) ns))) ∙ whole T ns xs apart fit))) (subst (In n) (back_own why is) i)),
         )
 
-        none_back : {new : List (Mark T)} {tells : List (Mark T) → Type 0} (m3 : QueueHolder T) → Over new tells → BackBurst size seats (pair_up ns xs) (idle_posts (drop (length xs) ns)) (Alike Idle) m2 m3
+        none_back : {new : List (Mark T)} {tells : List (Mark T) → Type 0} (m3 : QueueHolder T) → (pair_up ns xs ≡ [] → new ≡ []) → Over new tells → BackBurst size seats (pair_up ns xs) (idle_posts (drop (length xs) ns)) (Alike Idle) m2 m3
             → NoneBurst size seats (marks_back (λ x. made.BackIn) (pair_up ns xs) ++ new) m0 m3
-        none_back m3 l b = record {
+        none_back {new} m3 none l b = record {
           phase = ap (λ (x : QueueHolder T). x.0.phase) b.after_is;
           left = ap (λ (x : QueueHolder T). x.0.left) b.after_is ∙ (ap (λ (x : QueueHolder T). x.0.left) l.after_is ∙ left1);
           makes = makes_then (makes_then_first (makes_step first) (makes_step l)) (makes_step b);
+          ends = ends_back (λ x. made.BackIn) (pair_up ns xs) new b.past m3 (ap (λ (x : QueueHolder T). x.0.seen) b.after_is) none;
         }
 
         pub refused_at_add : (why : NoRoom) → IsUpperCount size v (Err why) → (m3 : QueueHolder T) → BackBurst size seats (pair_up ns xs) (idle_posts (drop (length xs) ns)) (Alike Idle) m2 m3 → RefusedBurst size seats ns xs why m0 m3
@@ -135,9 +137,9 @@ module _ {T : Type 0} (size seats : ℕ) (ns : List ℕ) (xs : List T) (apart : 
               l.past,
               same_count v u (upper_count (reverse l.past)) is.2 l.told,
               own_past_first l.past (makes_step first) (own_past l),
-              inr (subst (λ h. NoneBurst size seats (marks_back (λ x. made.BackIn) (pair_up ns xs) ++ h) m0 m3 × StandAfter l.past h m3) same (none_back m3 l b, stands_more l.past (marks_back (λ x. made.OverIn) (pair_up ns xs) ++ []) (stands_now l) (makes_step b))),
+              inr (subst (λ h. NoneBurst size seats (marks_back (λ x. made.BackIn) (pair_up ns xs) ++ h) m0 m3 × StandAfter l.past h m3) same (none_back m3 (λ e. ap (λ (ss : List (ℕ × T)). marks_back {A = T} (λ x. made.OverIn) ss ++ []) e) l b, stands_more l.past (marks_back (λ x. made.OverIn) (pair_up ns xs) ++ []) (stands_now l) (makes_step b))),
             )
-        refused_at_add Shut is m3 b = inr (none_back m3 (added.late is) b)
+        refused_at_add Shut is m3 b = inr (none_back m3 (λ e. ap (λ (ss : List (ℕ × T)). marks_back {A = T} (λ x. made.LateIn) ss) e) (added.late is) b)
 
         -- granted, all or some
         module _ (found : IsUpperCount size v (Ok tt)) (j : ℕ) (j_is : j ≡ granted_of size v (length xs)) where

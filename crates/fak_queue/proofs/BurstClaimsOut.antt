@@ -11,6 +11,7 @@ use Rattle.fak_queue.specs.Bursts.{AllIn, AreDisjoint, AreIdle, Says, SaysAfter,
 use Rattle.fak_queue.proofs.BurstPosts.{idle_all, idle_both}
 use Rattle.fak_queue.proofs.Common.{QueueHolder, queue_object, Alike, Each, IsLowerCount, Ok, Err, lower_count, bias, ints, common_steps, le_or_lt, ℤ, pos, ◌+ℤ◌, ◌<◌, ◌^◌, ◌≡◌, ◌⊎◌, ℕ, ◌+◌, ◌-◌, ◌≤◌, List, [], ◌++◌, length, refl, sym, ap, ◌∙◌, subst, inl, inr, arith, reverse, In, Mark}
 use Rattle.fak_queue.proofs.BurstNames.{own_past, own_past_first, stands_now, stands_more, idle_rest, all_of, post_swap, says_swap, whole, once, from_rest, in_zs, in_rest, once_granted, in_granted, in_over, not_both, makes_step, makes_then, makes_then_first, pair_length, none_over}
+use Rattle.fak_queue.proofs.LastMarks.{ends_now, ends_back}
 
 module _ {T : Type 0} (size seats : ℕ) (ns : List ℕ) (us : List (Unit {0})) (m after : QueueHolder T) where
   abbrev Backed : ℕ → Type 0
@@ -62,7 +63,7 @@ module _ {T : Type 0} (size seats : ℕ) (ns : List ℕ) (us : List (Unit {0})) 
 
   module _ (f : ℕ) (m1 : QueueHolder T) (tested : TestedLowBurst size seats (pair_up ns us) (idle_posts (drop (length us) ns)) m0 f m1) where
     refused_by : {new : List (Mark T)} {tells : List (Mark T) → Type 0} → Leaves (queue_object size seats) m0 new (Alike Idle) m0.0.left m0.1 tells m1 → NoneBurst size seats new m0 m1
-    refused_by l = record { phase = ap (λ (x : QueueHolder T). x.0.phase) l.after_is; left = ap (λ (x : QueueHolder T). x.0.left) l.after_is; makes = makes_step l }
+    refused_by {new} l = record { phase = ap (λ (x : QueueHolder T). x.0.phase) l.after_is; left = ap (λ (x : QueueHolder T). x.0.left) l.after_is; makes = makes_step l; ends = ends_now new l.past m1 (ap (λ (x : QueueHolder T). x.0.seen) l.after_is) }
 
     pub refused_at_test : (u : ℤ) → IsLowerCount f (Err u) → RefusedOutBurst size seats ns us u m0 m1
     refused_at_test u is = let l = tested.empty is.0 in (l.past, same_count f u (lower_count (reverse l.past)) is.1 l.told, own_past l, inl (refused_by l, stands_now l))
@@ -115,12 +116,13 @@ module _ {T : Type 0} (size seats : ℕ) (ns : List ℕ) (us : List (Unit {0})) 
           all_of m2.0.names _ (λ n i. subst (In n) (sym (names-append (all_at {A = T} (λ (x : Unit {0}). Idle) (pair_up ns us)) (idle_posts (drop (length us) ns)) ∙ ((λ j. names-at {A = T} (λ (x : Unit {0}). Idle) (pair_up ns us) j ++ names_of (idle_posts {T = T} (drop (length us) ns))) ∙ whole T ns us apart fit))) (subst (In n) (back_own u is) i)),
         )
 
-        none_back : {new : List (Mark T)} {tells : List (Mark T) → Type 0} (m3 : QueueHolder T) → Over new tells → BackLowBurst size seats (pair_up ns us) (idle_posts (drop (length us) ns)) (Alike Idle) m2 m3
+        none_back : {new : List (Mark T)} {tells : List (Mark T) → Type 0} (m3 : QueueHolder T) → (pair_up ns us ≡ [] → new ≡ []) → Over new tells → BackLowBurst size seats (pair_up ns us) (idle_posts (drop (length us) ns)) (Alike Idle) m2 m3
             → NoneBurst size seats (marks_back (λ x. made.BackOut) (pair_up ns us) ++ new) m0 m3
-        none_back m3 l b = record {
+        none_back {new} m3 none l b = record {
           phase = ap (λ (x : QueueHolder T). x.0.phase) b.after_is;
           left = ap (λ (x : QueueHolder T). x.0.left) b.after_is ∙ (ap (λ (x : QueueHolder T). x.0.left) l.after_is ∙ left1);
           makes = makes_then (makes_then_first (makes_step first) (makes_step l)) (makes_step b);
+          ends = ends_back (λ x. made.BackOut) (pair_up ns us) new b.past m3 (ap (λ (x : QueueHolder T). x.0.seen) b.after_is) none;
         }
 
         pub refused_at_add : (u : ℤ) → IsLowerCount v (Err u) → (m3 : QueueHolder T) → BackLowBurst size seats (pair_up ns us) (idle_posts (drop (length us) ns)) (Alike Idle) m2 m3 → RefusedOutBurst size seats ns us u m0 m3
@@ -130,7 +132,7 @@ module _ {T : Type 0} (size seats : ℕ) (ns : List ℕ) (us : List (Unit {0})) 
               l.past,
               same_count v u (lower_count (reverse l.past)) is.1 l.told,
               own_past_first l.past (makes_step first) (own_past l),
-              inr (subst (λ h. NoneBurst size seats (marks_back (λ x. made.BackOut) (pair_up ns us) ++ h) m0 m3 × StandAfter l.past h m3) same (none_back m3 l b, stands_more l.past (marks_back (λ x. made.OverOut) (pair_up ns us) ++ []) (stands_now l) (makes_step b))),
+              inr (subst (λ h. NoneBurst size seats (marks_back (λ x. made.BackOut) (pair_up ns us) ++ h) m0 m3 × StandAfter l.past h m3) same (none_back m3 (λ e. ap (λ (ss : List (ℕ × Unit {0})). marks_back {A = T} (λ x. made.OverOut) ss ++ []) e) l b, stands_more l.past (marks_back (λ x. made.OverOut) (pair_up ns us) ++ []) (stands_now l) (makes_step b))),
             )
 
         -- granted, all or some

@@ -42,6 +42,7 @@ pub mod BundleRefusals
 pub mod BundleTurns
 pub mod BundleLists
 pub mod BundlePlaces
+pub mod LastMarks
 pub mod BundleWords
 pub mod BundleFilling
 pub mod BundleEnding

@@ -6,7 +6,7 @@ use Rattle.fak_model.specs.declared.queue.Kind.TheVariants as made
 use Rattle.fak_model.specs.declared.queue.Mark.{Mark}
 use Rattle.fak_model.specs.Calls.{ObjectId, SeatInfo, seat_info}
 use Rattle.fak_model.specs.Histories.{Owes, seat_words}
-use Rattle.fak_model.specs.Queue.{queue_rules, item_at, words_of_call}
+use Rattle.fak_model.specs.Queue.{queue_rules, item_at, words_of_call, puts, gots, Drew}
 use Rattle.fak_model.specs.Seats.{In, marks_of}
 use Rattle.fak_core.specs.declared.queue.phase.Phase.TheVariants as phase
 use Rattle.fak_core.specs.QueueBlocks.{AreApart}
@@ -43,6 +43,24 @@ drawn_by_all b = sum_by (λ (n : ℕ). drawn_by (seat_in b n)) b.names
 abbrev pub IsIdleBundle : {M : Type 0} → ObjectId → BundleInfo M → Type 0
 IsIdleBundle object b = (b.object ≡ object) × (b.state ≡ Idle)
 
+-- no call of this name is cut short
+abbrev pub HasEnded : {T : Type 0} → ℕ → List (Mark T) → Type 0
+HasEnded n h = Owes words_of_call (seat_words (queue_rules 0) n h) []
+
+-- the seats from number `ended` up to `granted` have open calls: the last mark of each is the draw of its ticket, and these follow
+-- one another from k on. No call of the other seats is cut short.
+pub record AreOpen {T : Type 0} (HasDrawn : ℕ → ℕ → Type 0) (k ended granted : ℕ) (b : BundleInfo (Mark T)) : Type 0 where
+  pub some : ended < granted
+  pub most : granted ≤ length b.names
+  pub drew : (i n : ℕ) → item_at b.names i ≡ Some n → ended ≤ i → i < granted → HasDrawn n (k + i)
+  pub done : (i n : ℕ) → item_at b.names i ≡ Some n → (i < ended) ⊎ (granted ≤ i) → HasEnded n b.seen
+
+-- the state of the bundle, in the terms of histories
+abbrev pub IsBundleState : {T : Type 0} → BundleInfo (Mark T) → BundleState → Type 0
+IsBundleState b Idle = AreIdle b.names b.seen
+IsBundleState {T} b (Inserting k ended granted) = AreOpen (λ n ticket. (x : T) × Drew b.seen n (made.Put x) puts ticket) k ended granted b
+IsBundleState {T} b (Deleting k ended granted) = AreOpen (λ n ticket. (x : T) × Drew b.seen n (made.Got x) gots ticket) k ended granted b
+
 -- ---- what the type keeps
 
 -- the tickets that these names drew
@@ -52,10 +70,6 @@ tickets_of_all names h = sum_by (λ (n : ℕ). tickets_in (marks_of seat_of n h)
 -- a bundle of this object, names and view, with this many tickets left of its stint
 abbrev pub queue_bundle : {T : Type 0} → ObjectId → List ℕ → ℕ → BundleState → QueueHolder T → BundleInfo (Mark T)
 queue_bundle object names left state me = bundle_info object names (left + tickets_of_all names (reverse me.0.seen)) state (reverse me.0.seen)
-
--- no call of this name is cut short
-abbrev pub HasEnded : {T : Type 0} → ℕ → List (Mark T) → Type 0
-HasEnded n h = Owes words_of_call (seat_words (queue_rules 0) n h) []
 
 -- the name has drawn the ticket of its insertion, or of its deletion, and is not yet done at its cell
 abbrev pub IsToFill : {T : Type 0} → ℕ → List (Mark T) → Type 0
@@ -77,6 +91,7 @@ pub record AreInserting {T : Type 0} (names : List ℕ) (k ended granted : ℕ) 
   pub stands : Filling names k ended ended granted kept me.0
   pub done : (i n : ℕ) → item_at names i ≡ Some n → (i < ended) ⊎ (granted ≤ i) → HasEnded n (reverse me.0.seen)
   pub waits : (i n : ℕ) → item_at names i ≡ Some n → ended ≤ i → i < granted → IsToFill n (reverse me.0.seen)
+  pub drew : (i n : ℕ) → item_at names i ≡ Some n → ended ≤ i → i < granted → (x : T) × Drew (reverse me.0.seen) n (made.Put x) puts (k + i)
 
 -- the same for deletions
 pub record AreDeleting {T : Type 0} (names : List ℕ) (k ended granted : ℕ) (kept : List T) (me : QueueHolder T) : Type 0 where
@@ -86,6 +101,7 @@ pub record AreDeleting {T : Type 0} (names : List ℕ) (k ended granted : ℕ) (
   pub stands : Emptying names k ended ended granted me.0
   pub done : (i n : ℕ) → item_at names i ≡ Some n → (i < ended) ⊎ (granted ≤ i) → HasEnded n (reverse me.0.seen)
   pub waits : (i n : ℕ) → item_at names i ≡ Some n → ended ≤ i → i < granted → IsToTake n (reverse me.0.seen)
+  pub drew : (i n : ℕ) → item_at names i ≡ Some n → ended ≤ i → i < granted → (x : T) × Drew (reverse me.0.seen) n (made.Got x) gots (k + i)
 
 abbrev pub StandsAs : {T : Type 0} → BundleState → List ℕ → List T → QueueHolder T → Type 0
 StandsAs Idle names kept me = AllRest names kept me

@@ -5,7 +5,8 @@ use Rattle.fak_model.specs.declared.queue.Mark.{Mark}
 use Rattle.fak_model.specs.declared.queue.Kind.{Kind}
 use Rattle.fak_model.specs.Histories.{AreNamed, IsHistory}
 use Rattle.fak_model.specs.Seats.{Begins, marks_of}
-use Rattle.fak_model.specs.Queue.{items_put, item_at, Has, queue_rules, count, puts, gots, upper_count, lower_count}
+use Rattle.fak_model.specs.Calls.{last_of}
+use Rattle.fak_model.specs.Queue.{items_put, item_at, Has, Drew, queue_rules, count, puts, gots, upper_count, lower_count}
 use Rattle.fak_core.specs.declared.queue.phase.Phase.{Phase}
 use Rattle.fak_core.specs.declared.queue.phase.Phase.TheVariants.{Idle, TurnIn, StoreItem, EndInsert, TurnOut, LoadItem, EndDelete}
 use Rattle.fak_core.specs.QueueBlocks.{Posts}
@@ -137,6 +138,14 @@ pub record FoundEmpty {T : Type 0} (ticket : ℕ) (before then : List (Mark T)) 
   pub by_then : Begins look then
   pub unfilled : Has (made.Fill ticket) look → ⊥
 
+-- the last mark that was seen is the last of these, made by this name
+abbrev pub EndsWith : {T : Type 0} → ℕ → List (Kind T) → QueueHolder T → Type 0
+EndsWith n kinds after = last_of (reverse after.0.seen) ≡ last_of (made_by n kinds)
+
+-- the last of the names from lo up to hi made the last mark that was seen, of this kind
+abbrev pub LastEnds : {T : Type 0} → Kind T → List ℕ → ℕ → ℕ → QueueHolder T → Type 0
+LastEnds κ names lo hi after = (i n : ℕ) → item_at names i ≡ Some n → lo ≤ i → i + 1 ≡ hi → EndsWith n (κ ∷ []) after
+
 -- the marks that a name leaves from its cell on
 abbrev pub filled_at : {T : Type 0} → ℕ → ℕ → List (Kind T)
 filled_at k i = made.Fill (k + i) ∷ made.EndIn ∷ []
@@ -194,6 +203,8 @@ pub record ClaimsOn {T : Type 0} (size seats : ℕ) (names : List ℕ) (xs : Lis
   pub ticket : (i n : ℕ) (x : T) → item_at names i ≡ Some n → i < j → item_at xs i ≡ Some x → count puts (before_part n 1 m after) ≡ k + i
   pub put : (i : ℕ) (x : T) → i < j → item_at xs i ≡ Some x → item_at (items_put (reverse after.0.seen)) (k + i) ≡ Some x
   pub few : k + j ≤ 2 ^ 50
+  pub drew : (i n : ℕ) (x : T) → item_at names i ≡ Some n → i < j → item_at xs i ≡ Some x → Drew (reverse after.0.seen) n (made.Put x) puts (k + i)
+  pub last : (i n : ℕ) (x : T) → item_at names i ≡ Some n → i + 1 ≡ j → item_at xs i ≡ Some x → EndsWith n (made.Put x ∷ []) after
 
 -- the first j of d names claimed an item each and drew the tickets from k on, with the items that were put under them.
 -- The others of the d were over. The names from d on left no mark.
@@ -209,6 +220,8 @@ pub record ClaimsOutOn {T : Type 0} (size seats : ℕ) (names : List ℕ) (d k j
   pub over : (i n : ℕ) → item_at names i ≡ Some n → j ≤ i → i < d → MadeBy n (made.OverOut ∷ made.BackOut ∷ []) m after
   pub others : (i n : ℕ) → item_at names i ≡ Some n → d ≤ i → MadeBy n [] m after
   pub few : k + j ≤ 2 ^ 50
+  pub drew : (i n : ℕ) → item_at names i ≡ Some n → i < j → (x : T) × Drew (reverse after.0.seen) n (made.Got x) gots (k + i)
+  pub last : (i n : ℕ) (x : T) → item_at names i ≡ Some n → i + 1 ≡ j → item_at (items_put (reverse after.0.seen)) (k + i) ≡ Some x → EndsWith n (made.Got x ∷ []) after
 
 -- ---- refusals, name by name
 
@@ -222,6 +235,7 @@ pub record AllMade {T : Type 0} (size seats : ℕ) (names : List ℕ) (d : ℕ) 
   pub lawful : IsLawful size seats after.0
   pub each : (i n : ℕ) → item_at names i ≡ Some n → i < d → MadeBy n kinds m after
   pub others : (i n : ℕ) → item_at names i ≡ Some n → d ≤ i → MadeBy n [] m after
+  pub last : (i n : ℕ) → item_at names i ≡ Some n → i + 1 ≡ d → EndsWith n kinds after
 
 -- the first d names were all refused: by the test, or by the add; and u is the count before the first name's first mark
 abbrev pub RefusesOn : {T : Type 0} → ℕ → ℕ → List ℕ → ℕ → NoRoom → QueueHolder T → QueueHolder T → Type 0

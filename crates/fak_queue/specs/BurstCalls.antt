@@ -8,7 +8,7 @@ use Rattle.fak_model.specs.declared.queue.Mark.{Mark}
 use Rattle.fak_model.specs.Histories.{AreNamed}
 use Rattle.fak_model.specs.Queue.{IsQueueHistory, queue_rules, count, puts, gots, upper_count, lower_count, items_put, item_at}
 use Rattle.fak_model.specs.Seats.{Begins}
-use Rattle.fak_model.specs.Calls.{mine_of}
+use Rattle.fak_model.specs.Calls.{last_of, mine_of}
 use Rattle.fak_queue.specs.declared.bundle.BundleState.TheVariants.{Idle, Inserting, Deleting}
 use Rattle.fak_queue.specs.declared.fault.BurstFault.{BurstFault}
 use Rattle.fak_queue.specs.declared.fault.BurstFault.TheVariants.{Worn, Closed, Full}
@@ -24,6 +24,10 @@ use Rattle.fak_queue.specs.Sums.{put_by, got_by}
 -- the seat of this name made marks of these kinds, and no other
 abbrev pub SeatMade : {T : Type 0} → ℕ → List (Kind T) → BundleInfo (Mark T) → BundleInfo (Mark T) → Type 0
 SeatMade n kinds old new = mine_of seat_of (seat_in new n) ≡ mine_of seat_of (seat_in old n) ++ made_by n kinds
+
+-- the last mark that the bundle has seen is the last of these, made by this seat
+abbrev pub SeatEnds : {T : Type 0} → ℕ → List (Kind T) → BundleInfo (Mark T) → Type 0
+SeatEnds n kinds new = last_of new.seen ≡ last_of (made_by n kinds)
 
 -- the same bundle, which has seen more
 pub record GoesOn {T : Type 0} (size : ℕ) (old new : BundleInfo (Mark T)) : Type 0 where
@@ -44,7 +48,8 @@ pub record GrantedIn {T : Type 0} (kinds_of : ℕ → T → List (Kind T)) (n ti
   pub ticket_is : count puts (before_own 1 (seat_in old n) (seat_in new n)) ≡ ticket
   pub put : item_at (items_put new.seen) ticket ≡ Some x
 
--- of the items xs the first j were granted, with the tickets from k on, each to one seat; each other seat that took part was over
+-- of the items xs the first j were granted, with the tickets from k on, each to one seat; each other seat that took part was over;
+-- the call ends with the last mark of the last seat that was granted
 pub record BurstIn {T : Type 0} (kinds_of : ℕ → T → List (Kind T)) (size : ℕ) (xs : List T) (k j : ℕ) (old new : BundleInfo (Mark T)) : Type 0 where
   pub some : 0 < j
   pub most : j ≤ asked_of (length xs) old
@@ -52,6 +57,7 @@ pub record BurstIn {T : Type 0} (kinds_of : ℕ → T → List (Kind T)) (size :
   pub granted : (i n : ℕ) (x : T) → item_at old.names i ≡ Some n → i < j → item_at xs i ≡ Some x → GrantedIn kinds_of n (k + i) x old new
   pub over : (i n : ℕ) → item_at old.names i ≡ Some n → j ≤ i → i < asked_of (length xs) old → SeatMade n (made.OverIn ∷ made.BackIn ∷ []) old new
   pub others : (i n : ℕ) → item_at old.names i ≡ Some n → asked_of (length xs) old ≤ i → SeatMade n [] old new
+  pub last : (i n : ℕ) (x : T) → item_at old.names i ≡ Some n → i + 1 ≡ j → item_at xs i ≡ Some x → SeatEnds n (kinds_of (k + i) x) new
 
 -- a burst that was claimed, and a whole one
 abbrev pub ClaimsBurst : {T : Type 0} → ℕ → List T → ℕ → ℕ → BundleInfo (Mark T) → BundleInfo (Mark T) → Type 0
@@ -68,7 +74,7 @@ pub record GrantedOut {T : Type 0} (kinds_of : ℕ → T → List (Kind T)) (n t
   pub put : item_at (items_put new.seen) ticket ≡ Some x
 
 -- of at most this many deletions the first ones were granted, with the items ys and the tickets from k on, each to one seat; each
--- other seat that took part was over
+-- other seat that took part was over; the call ends with the last mark of the last seat that was granted
 pub record BurstOut {T : Type 0} (kinds_of : ℕ → T → List (Kind T)) (size most : ℕ) (ys : List T) (k : ℕ) (old new : BundleInfo (Mark T)) : Type 0 where
   pub some : 0 < length ys
   pub few : length ys ≤ asked_of most old
@@ -76,6 +82,7 @@ pub record BurstOut {T : Type 0} (kinds_of : ℕ → T → List (Kind T)) (size 
   pub granted : (i n : ℕ) (x : T) → item_at old.names i ≡ Some n → item_at ys i ≡ Some x → GrantedOut kinds_of n (k + i) x old new
   pub over : (i n : ℕ) → item_at old.names i ≡ Some n → length ys ≤ i → i < asked_of most old → SeatMade n (made.OverOut ∷ made.BackOut ∷ []) old new
   pub others : (i n : ℕ) → item_at old.names i ≡ Some n → asked_of most old ≤ i → SeatMade n [] old new
+  pub last : (i n : ℕ) (x : T) → item_at old.names i ≡ Some n → i + 1 ≡ length ys → item_at ys i ≡ Some x → SeatEnds n (kinds_of (k + i) x) new
 
 -- a burst of j deletions that was claimed, and a whole one, which hands out ys
 abbrev pub ClaimsBurstOut : {T : Type 0} → ℕ → ℕ → ℕ → ℕ → BundleInfo (Mark T) → BundleInfo (Mark T) → Type 0
@@ -86,11 +93,13 @@ DeletesBurst size most ys k old new = BurstOut kinds_out size most ys k old new
 
 -- ---- the rest of a claimed burst
 
--- the insertions from lo on, up to hi, filled their cells and ended; their tickets count from k
+-- the insertions from lo on, up to hi, filled their cells and ended; their tickets count from k; if there are any, the call ends with
+-- the last mark of the last one
 pub record FillsBurst {T : Type 0} (size k lo hi : ℕ) (old new : BundleInfo (Mark T)) : Type 0 where
   pub goes_on : GoesOn size old new
   pub done : (i n : ℕ) → item_at old.names i ≡ Some n → lo ≤ i → i < hi → SeatMade n (made.Fill (k + i) ∷ made.EndIn ∷ []) old new
   pub others : (i n : ℕ) → item_at old.names i ≡ Some n → (i < lo) ⊎ (hi ≤ i) → SeatMade n [] old new
+  pub last : (i n : ℕ) → item_at old.names i ≡ Some n → lo ≤ i → i + 1 ≡ hi → SeatEnds n (made.Fill (k + i) ∷ made.EndIn ∷ []) new
 
 -- of the insertions from `ended` on, of `granted`, all but `left` filled their cells; the next one waits
 pub record TriesToFill {T : Type 0} (size k ended granted left : ℕ) (old new : BundleInfo (Mark T)) : Type 0 where
@@ -100,11 +109,13 @@ pub record TriesToFill {T : Type 0} (size k ended granted left : ℕ) (old new :
   pub some : 0 < left → new.state ≡ Inserting k (granted - left) granted
   pub waits : 0 < left → FoundFull size (k + (granted - left)) old.seen new.seen
 
--- the deletions from lo on, up to hi, took the items ys, which were put under their tickets, and ended
+-- the deletions from lo on, up to hi, took the items ys, which were put under their tickets, and ended; if there are any, the call ends
+-- with the last mark of the last one
 pub record TakesBurst {T : Type 0} (size k lo hi : ℕ) (ys : List T) (old new : BundleInfo (Mark T)) : Type 0 where
   pub goes_on : GoesOn size old new
   pub done : (i n : ℕ) → item_at old.names i ≡ Some n → lo ≤ i → i < hi → SeatMade n (made.Take (k + i) ∷ made.EndOut ∷ []) old new
   pub others : (i n : ℕ) → item_at old.names i ≡ Some n → (i < lo) ⊎ (hi ≤ i) → SeatMade n [] old new
+  pub last : (i n : ℕ) → item_at old.names i ≡ Some n → lo ≤ i → i + 1 ≡ hi → SeatEnds n (made.Take (k + i) ∷ made.EndOut ∷ []) new
   pub many : length ys ≡ hi - lo
   pub put : (i : ℕ) (x : T) → item_at ys i ≡ Some x → item_at (items_put new.seen) (k + (lo + i)) ≡ Some x
 
@@ -123,11 +134,12 @@ pub record IsWornBundle {T : Type 0} (old new : BundleInfo (Mark T)) : Type 0 wh
   pub spent : drawn_by_all old ≡ old.stint
   pub unchanged : new ≡ old
 
--- each seat that took part made marks of these kinds, and the others none
+-- each seat that took part made marks of these kinds, and the others none; the call ends with the last mark of the last one
 pub record RefusesEach {T : Type 0} (size asked : ℕ) (kinds : List (Kind T)) (old new : BundleInfo (Mark T)) : Type 0 where
   pub goes_on : GoesOn size old new
   pub each : (i n : ℕ) → item_at old.names i ≡ Some n → i < asked → SeatMade n kinds old new
   pub others : (i n : ℕ) → item_at old.names i ≡ Some n → asked ≤ i → SeatMade n [] old new
+  pub last : (i n : ℕ) → item_at old.names i ≡ Some n → i + 1 ≡ asked → SeatEnds n kinds new
 
 -- insertions that the upper count, as it was before the first seat's first mark, refused
 pub record RefusesBurstFull {T : Type 0} (size asked : ℕ) (upper : ℤ) (old new : BundleInfo (Mark T)) : Type 0 where

@@ -157,11 +157,17 @@ StandAfter past new after = Begins (reverse (new ++ past)) (reverse after.0.seen
 abbrev pub NoneOwn : {T : Type 0} → List (Mark T) → QueueHolder T → Type 0
 NoneOwn {T} past m = (n : ℕ) → In n m.0.names → marks_of (λ (x : Mark T). x.seat) n (reverse past) ≡ marks_of (λ (x : Mark T). x.seat) n (reverse m.0.seen)
 
+-- the newest of these marks, which come newest first, is the newest that was seen
+abbrev pub EndsIn : {T : Type 0} → List (Mark T) → QueueHolder T → Type 0
+EndsIn [] after = Unit {0}
+EndsIn {T} (x ∷ new) after = (past : List (Mark T)) × (after.0.seen ≡ x ∷ past)
+
 -- all were refused with these marks, and are at rest again
 pub record NoneBurst {T : Type 0} (size seats : ℕ) (new : List (Mark T)) (m after : QueueHolder T) : Type 0 where
   pub phase : after.0.phase ≡ Some (Alike Idle)
   pub left : after.0.left ≡ m.0.left
   pub makes : Makes size seats new m after
+  pub ends : EndsIn new after
 
 -- the first j of the names with an item are to draw, the others are at phases of this kind. The names without an item are at rest.
 abbrev pub claims_at : {T : Type 0} → (T → Phase T) → List ℕ → List T → ℕ → Posts T

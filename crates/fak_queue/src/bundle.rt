@@ -1,7 +1,7 @@
 //! A bundle: several seats of a queue that call together.
 
 ghost use Rattle.std.specs.Prelude.{◌≡◌, ◌+◌, ◌<◌, length};
-ghost use Rattle.fak_queue.specs.BundleCalls.{drawn_by_all};
+ghost use Rattle.fak_queue.specs.BundleCalls.{IsBundleState, drawn_by_all};
 ghost use Rattle.fak_queue.specs.Queues.{AreIdle};
 ghost use Rattle.fak_queue.specs.declared.bundle.BundleState.TheVariants.{Deleting, Idle, Inserting};
 
@@ -101,10 +101,12 @@ impl<T> Model for Bundle<T> {
 }
 
 impl<T> Bundle<T> {
-    /// The state of the bundle between two calls. If it is idle, no call of its seats is cut short.
+    /// The state of the bundle between two calls. If it is idle, no call of its seats is cut short. Otherwise the last
+    /// mark of each seat whose call has not ended is the draw of its ticket.
     pub fn state(&self) -> BundleState
         ensures value { result ≡ self.now.state }
         ensures idle { result ≡ Idle → AreIdle self.now.names self.now.seen }
+        ensures read_off_seen { IsBundleState self.now result }
     {
         self.state
     }

@@ -3,11 +3,11 @@
 ghost use Rattle.std.specs.Prelude.{◌≡◌, List, ◌+◌, ◌-◌, ◌<◌, ◌≤◌, length, reverse};
 ghost use Rattle.std.specs.VecDeque.{deque_capacity, deque_len};
 ghost use Rattle.fak_model.specs.Limits.{large_seats};
-ghost use Rattle.fak_model.specs.declared.queue.Kind.TheVariants.{Fill};
+ghost use Rattle.fak_model.specs.declared.queue.Kind.TheVariants.{EndOut, Fill};
 ghost use Rattle.fak_model.specs.Queue.{Has};
 ghost use Rattle.fak_model.specs.Seats.{Begins};
 ghost use Rattle.fak_core.specs.QueueBlocks.{AreApart};
-ghost use Rattle.fak_queue.specs.Bundles.{EmptiedOn, EmptiesOn, Emptying, FoundEmpty};
+ghost use Rattle.fak_queue.specs.Bundles.{EmptiedOn, EmptiesOn, Emptying, FoundEmpty, LastEnds};
 ghost use Rattle.fak_queue.specs.Shown.{QueueHolder};
 ghost use Rattle.fak_queue.specs.BurstTokens.{IsBundleToken, IsWorkToken, TellsAll};
 
@@ -59,6 +59,7 @@ fn end_taken<T>(words: &QueueWords<T>, token: &mut QueueToken<T>, at: &Progress<
         at.now.granted was got m token.old.me → EmptiedOn words.now.table_id.slots words.now.key.seats at.now.names.now
         at.now.ticket at.now.done taken at.now.granted was got m after) }
     ensures begins { Begins (reverse token.old.me.0.seen) (reverse token.new.me.0.seen) }
+    ensures last { LastEnds EndOut at.now.names.now at.now.done taken token.new.me }
 {
     let part = &at.names[at.done as usize..taken as usize];
     end_out_burst::<T, Brand>(words, token, part, at.ticket + at.done, taken >= at.granted);
@@ -82,6 +83,7 @@ pub(crate) fn take_ready<T: Drop>(
     ensures len { deque_len out.new ≡ deque_len out.old + (result - at.now.done) }
     ensures early { result < at.now.granted → FoundEmpty (at.now.ticket + result) (reverse token.old.me.0.seen)
         (reverse token.new.me.0.seen) }
+    ensures last { LastEnds EndOut at.now.names.now at.now.done result token.new.me }
 {
     let taken = take_while_ready(words, token, at, out);
     if taken > at.done {

@@ -3,9 +3,10 @@
 ghost use Rattle.std.specs.Prelude.{◌≡◌, List, ◌+◌, ◌<◌, ◌≤◌, length, reverse};
 ghost use Rattle.std.specs.VecDeque.{deque_capacity};
 ghost use Rattle.fak_model.specs.Limits.{large_seats};
+ghost use Rattle.fak_model.specs.declared.queue.Kind.TheVariants.{EndIn};
 ghost use Rattle.fak_model.specs.Seats.{Begins};
 ghost use Rattle.fak_core.specs.QueueBlocks.{AreApart};
-ghost use Rattle.fak_queue.specs.Bundles.{FilledOn, Filling, FillsOn, FoundFull, IsEarly};
+ghost use Rattle.fak_queue.specs.Bundles.{FilledOn, Filling, FillsOn, FoundFull, IsEarly, LastEnds};
 ghost use Rattle.fak_queue.specs.Shown.{QueueHolder};
 ghost use Rattle.fak_queue.specs.BurstTokens.{IsBundleToken, IsWorkToken, TellsAll};
 
@@ -61,6 +62,7 @@ fn end_filled<T>(words: &QueueWords<T>, token: &mut QueueToken<T>, at: &Progress
         at.now.granted was kept m token.old.me → FilledOn words.now.table_id.slots words.now.key.seats at.now.names.now
         at.now.ticket at.now.done filled at.now.granted was kept m after) }
     ensures begins { Begins (reverse token.old.me.0.seen) (reverse token.new.me.0.seen) }
+    ensures last { LastEnds EndIn at.now.names.now at.now.done filled token.new.me }
 {
     let part = &at.names[at.done as usize..filled as usize];
     end_burst::<T, Brand>(
@@ -90,6 +92,7 @@ pub(crate) fn fill_ready<T: Drop>(
     ensures early { result < at.now.granted → FoundFull words.now.table_id.slots (at.now.ticket + result)
         (reverse token.old.me.0.seen) (reverse token.new.me.0.seen) }
     ensures capacity { deque_capacity kept.new ≡ deque_capacity kept.old }
+    ensures last { LastEnds EndIn at.now.names.now at.now.done result token.new.me }
 {
     let filled = fill_while_ready(words, token, at, kept);
     if filled > at.done {

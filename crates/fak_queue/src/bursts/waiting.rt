@@ -2,7 +2,8 @@
 
 ghost use Rattle.std.specs.Prelude.{◌≡◌, ◌+◌, ◌-◌, ◌<◌, ◌≤◌};
 ghost use Rattle.std.specs.VecDeque.{deque_capacity, deque_len};
-ghost use Rattle.fak_queue.specs.Bundles.{EmptiedOn, Emptying, FilledOn, Filling};
+ghost use Rattle.fak_model.specs.declared.queue.Kind.TheVariants.{EndIn, EndOut};
+ghost use Rattle.fak_queue.specs.Bundles.{EmptiedOn, Emptying, FilledOn, Filling, LastEnds};
 ghost use Rattle.fak_queue.specs.BurstTokens.{IsWorkToken, TellsAll};
 
 use crate::bursts::emptying::take_ready;
@@ -29,6 +30,7 @@ pub(crate) fn fill_all<T: Drop, R: Wait>(
         at.now.names.now at.now.ticket at.now.done at.now.granted at.now.granted kept.old.items kept.new.items
         token.old.me after) }
     ensures capacity { deque_capacity kept.new ≡ deque_capacity kept.old }
+    ensures last { LastEnds EndIn at.now.names.now at.now.done at.now.granted token.new.me }
 {
     let backoff = Backoff::new();
     let mut done = at.done;
@@ -66,6 +68,7 @@ pub(crate) fn take_all<T: Drop, R: Wait>(
         at.now.names.now at.now.ticket at.now.done at.now.granted at.now.granted out.old.items out.new.items
         token.old.me after) }
     ensures capacity { deque_capacity out.new ≡ deque_capacity out.old }
+    ensures last { LastEnds EndOut at.now.names.now at.now.done at.now.granted token.new.me }
 {
     let backoff = Backoff::new();
     let mut done = at.done;

@@ -1,7 +1,7 @@
 use Rattle.std.specs.Prelude.{slice_range}
 use Rattle.fak_queue.proofs.BundleLists.{tickets_length}
 use Rattle.fak_queue.proofs.Common.{sym, arith, nat_tests, ◌+◌, ◌≤◌, ◌^◌}
-use Rattle.fak_queue.proofs.BundleEndingOut.{end_begins, end_count, end_few, end_names, end_says, end_stands, end_rest, emptied_on}
+use Rattle.fak_queue.proofs.BundleEndingOut.{end_begins, end_count, end_few, end_names, end_says, end_stands, end_rest, end_last, emptied_on}
 use Rattle.fak_queue.proofs.bursts.emptying.end_taken.Goals as goal
 
 pub overflow_add-at : goal.overflow_add-at
@@ -27,3 +27,6 @@ returns-clause-told g c = record { same = c.end_out_burst.ensures.same; told = �
 
 pub returns-clause-begins : goal.returns-clause-begins
 returns-clause-begins g c = let s = c.requires.token.phase in end_begins c.args.at.now.names.now c.args.at.now.ticket c.args.at.now.done c.args.taken c.args.at.now.granted s.0 s.1 s.2 c.args.token.now.me c.requires.names.0 s.3 c.requires.some _ c.end_out_burst.new.token.me c.end_out_burst.ensures.told (λ e. grind (arith, nat_tests)) (λ le. grind (arith, nat_tests))
+
+pub returns-clause-last : goal.returns-clause-last
+returns-clause-last g c = let s = c.requires.token.phase in end_last c.args.at.now.names.now c.args.at.now.ticket c.args.at.now.done c.args.taken c.args.at.now.granted s.0 s.1 s.2 c.args.token.now.me c.requires.names.0 s.3 c.requires.some _ c.end_out_burst.new.token.me c.end_out_burst.ensures.told (λ e. grind (arith, nat_tests)) (λ le. grind (arith, nat_tests))

@@ -1,5 +1,5 @@
 use Rattle.fak_queue.proofs.StepTokens.{still_fits}
-use Rattle.fak_queue.proofs.Common.{◌∙◌, arith, nat_tests, begins_self, reverse}
+use Rattle.fak_queue.proofs.Common.{◌≡◌, ◌∙◌, arith, nat_tests, begins_self, reverse}
 use Rattle.fak_queue.proofs.BundleEndingOut.{emptied_none}
 use Rattle.fak_queue.proofs.BundleWaiting.{found_empty}
 use Rattle.fak_queue.proofs.bursts.emptying.take_ready.Goals as goal
@@ -23,3 +23,14 @@ returns-then-taken-at-clause-early g c = λ less. found_empty (reverse c.args.to
 
 pub returns-else-taken-at-clause-early : goal.returns-else-taken-at-clause-early
 returns-else-taken-at-clause-early g c = λ less. found_empty (reverse c.args.token.now.me.0.seen) (reverse c.take_while_ready-taken.new.token.me.0.seen) (reverse c.take_while_ready-taken.new.token.me.0.seen) c.take_while_ready-taken.ensures.told.told.marks.begins (begins_self (reverse c.take_while_ready-taken.new.token.me.0.seen)) (c.take_while_ready-taken.ensures.early less)
+
+pub returns-then-taken-at-clause-last : goal.returns-then-taken-at-clause-last
+returns-then-taken-at-clause-last g c = c.end_taken.ensures.last
+
+-- nothing ended
+pub returns-else-taken-at-clause-last : goal.returns-else-taken-at-clause-last
+returns-else-taken-at-clause-last g c = λ i n e above last.
+    let r = c.take_while_ready-taken.ensures.range in
+    let none = c.if-taken-at.false in
+    let same : c.take_while_ready-taken.result ≡ c.args.at.now.done = grind (arith, nat_tests, none, r) in
+    absurd (omega (arith, above, last, same))

@@ -1,5 +1,5 @@
 use Rattle.fak_queue.proofs.StepTokens.{still_fits}
-use Rattle.fak_queue.proofs.Common.{◌∙◌, arith, nat_tests, begins_self, reverse}
+use Rattle.fak_queue.proofs.Common.{◌≡◌, ◌∙◌, arith, nat_tests, begins_self, reverse}
 use Rattle.fak_queue.proofs.BundleEnding.{filled_none}
 use Rattle.fak_queue.proofs.BundleWaiting.{found_full}
 use Rattle.fak_queue.proofs.bursts.filling.fill_ready.Goals as goal
@@ -23,3 +23,14 @@ returns-then-filled-at-clause-early g c = λ less. found_full (reverse c.args.to
 
 pub returns-else-filled-at-clause-early : goal.returns-else-filled-at-clause-early
 returns-else-filled-at-clause-early g c = λ less. found_full (reverse c.args.token.now.me.0.seen) (reverse c.fill_while_ready-filled.new.token.me.0.seen) (reverse c.fill_while_ready-filled.new.token.me.0.seen) c.fill_while_ready-filled.ensures.told.told.marks.begins (begins_self (reverse c.fill_while_ready-filled.new.token.me.0.seen)) (c.fill_while_ready-filled.ensures.early less)
+
+pub returns-then-filled-at-clause-last : goal.returns-then-filled-at-clause-last
+returns-then-filled-at-clause-last g c = c.end_filled.ensures.last
+
+-- nothing ended
+pub returns-else-filled-at-clause-last : goal.returns-else-filled-at-clause-last
+returns-else-filled-at-clause-last g c = λ i n e above last.
+    let r = c.fill_while_ready-filled.ensures.range in
+    let none = c.if-filled-at.false in
+    let same : c.fill_while_ready-filled.result ≡ c.args.at.now.done = grind (arith, nat_tests, none, r) in
+    absurd (omega (arith, above, last, same))

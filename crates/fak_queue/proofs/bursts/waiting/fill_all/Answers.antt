@@ -1,5 +1,5 @@
 use Rattle.fak_queue.specs.Bundles.{FilledOn}
-use Rattle.fak_queue.proofs.Common.{arith, nat_tests, ◌∙◌, ◌≡◌, ◌<◌, refl, subst}
+use Rattle.fak_queue.proofs.Common.{arith, nat_tests, ◌∙◌, ◌≡◌, ◌<◌, refl, subst, sym}
 use Rattle.fak_queue.proofs.BundleWaiting.{filled_start, filled_then}
 use Rattle.fak_queue.proofs.bursts.waiting.fill_all.Goals as goal
 
@@ -17,6 +17,13 @@ returns-then-ended-at-clause-told g c =
           (filled_then c.args.at.now.names.now c.args.at.now.ticket c.args.at.now.done c.loop.done c.fill_ready-ended.result c.args.at.now.granted c.args.kept.now.items c.loop.kept.items c.fill_ready-ended.new.kept.items c.args.token.now.me c.loop.token.me c.fill_ready-ended.new.token.me i.1 r.0 i.3
           c.fill_ready-ended.ensures.told.told);
     }
+
+-- the last turn of the loop ended at least one
+pub returns-then-ended-at-clause-last : goal.returns-then-ended-at-clause-last
+returns-then-ended-at-clause-last g c = λ i n e above last.
+    let less = c.loop.invariant.2 in
+    let all : c.fill_ready-ended.result ≡ c.args.at.now.granted = grind (arith, nat_tests) in
+    c.fill_ready-ended.ensures.last i n e (omega (arith, less, last)) (last ∙ sym all)
 
 pub loop-preserved : goal.loop-preserved
 loop-preserved g c =

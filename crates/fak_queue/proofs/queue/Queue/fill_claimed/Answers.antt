@@ -1,6 +1,7 @@
+use Rattle.fak_model.specs.declared.queue.Kind.TheVariants.{EndIn}
 use Rattle.fak_model.specs.Calls.{object_id}
 use Rattle.fak_queue.specs.declared.bundle.BundleState.TheVariants.{Idle}
-use Rattle.fak_queue.specs.Bundles.{FilledOn}
+use Rattle.fak_queue.specs.Bundles.{FilledOn, LastEnds}
 use Rattle.fak_queue.specs.BundleCalls.{drawn_by_all}
 use Rattle.fak_queue.specs.BurstCalls.{FillsBurst}
 use Rattle.fak_queue.proofs.BundleCalls.{fills_so, fill_drawn, fill_rests}
@@ -33,4 +34,4 @@ returns-clause-call g c = λ k g' e.
     let one = one_insertion (sym c.in-Inserting.is ∙ (sym was ∙ e)) in
     called c.self.inside.table.shared.key c.bundle.invariant c.self.invariant c.bundle.view_is c.self.view_is c.requires.object c.fill_all.ensures.told.same c.bundle.inside.left Idle c.fill_all.new.token.me
     (λ s old new. FillsBurst s k 0 g' old new)
-    (fills_so o _ _ _ _ _ c.bundle.inside.left _ _ _ _ t c.bundle.inside.state Idle one.0 one.1 one.2)
+    (fills_so o _ _ _ _ _ c.bundle.inside.left _ _ _ _ t (subst (λ l. LastEnds EndIn l c.in-Inserting.ended c.in-Inserting.granted c.fill_all.new.token.me) c.as_slice.ensures.value c.fill_all.ensures.last) c.bundle.inside.state Idle one.0 one.1 one.2)

@@ -1,6 +1,7 @@
+use Rattle.fak_model.specs.declared.queue.Kind.TheVariants.{EndOut}
 use Rattle.fak_model.specs.Calls.{object_id}
 use Rattle.fak_queue.specs.declared.bundle.BundleState.TheVariants.{Idle}
-use Rattle.fak_queue.specs.Bundles.{EmptiedOn}
+use Rattle.fak_queue.specs.Bundles.{EmptiedOn, LastEnds}
 use Rattle.fak_queue.specs.BundleCalls.{drawn_by_all}
 use Rattle.fak_queue.specs.BurstCalls.{TakesBurst}
 use Rattle.fak_queue.proofs.BundleCallsOut.{more, takes_so, take_drawn, take_rests}
@@ -37,5 +38,5 @@ returns-clause-call g c = λ k g' e.
       ys,
       more o _ _ _ _ _ c.bundle.inside.left _ _ _ _ t,
       called c.self.inside.table.shared.key c.bundle.invariant c.self.invariant c.bundle.view_is c.self.view_is c.requires.object c.take_all.ensures.told.same c.bundle.inside.left Idle c.take_all.new.token.me
-          (λ s old new. TakesBurst s k 0 g' ys old new) (takes_so o _ _ _ _ _ c.bundle.inside.left _ _ _ _ t (omega (arith, less)) c.bundle.inside.state Idle one.0 one.1 one.2),
+          (λ s old new. TakesBurst s k 0 g' ys old new) (takes_so o _ _ _ _ _ c.bundle.inside.left _ _ _ _ t (omega (arith, less)) (subst (λ l. LastEnds EndOut l c.in-Deleting.ended c.in-Deleting.granted c.take_all.new.token.me) c.as_slice.ensures.value c.take_all.ensures.last) c.bundle.inside.state Idle one.0 one.1 one.2),
     )

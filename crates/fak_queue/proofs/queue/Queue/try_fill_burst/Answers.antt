@@ -1,5 +1,6 @@
+use Rattle.fak_model.specs.declared.queue.Kind.TheVariants.{EndIn}
 use Rattle.fak_model.specs.Calls.{object_id}
-use Rattle.fak_queue.specs.Bundles.{FilledOn}
+use Rattle.fak_queue.specs.Bundles.{FilledOn, LastEnds}
 use Rattle.fak_queue.specs.BundleCalls.{drawn_by_all}
 use Rattle.fak_queue.specs.BurstCalls.{TriesToFill}
 use Rattle.fak_queue.proofs.BundleCalls.{fill_drawn, fill_keeps, tries_to_fill}
@@ -34,4 +35,5 @@ returns-clause-call g c = λ k e g' is.
     let one = one_insertion (sym c.in-Inserting.is ∙ (sym was ∙ is)) in
     called c.self.inside.table.shared.key c.bundle.invariant c.self.invariant c.bundle.view_is c.self.view_is c.requires.object c.fill_ready-done.ensures.told.same c.bundle.inside.left c.inserting-bundle-inside.result c.fill_ready-done.new.token.me
     (λ s old new. TriesToFill s k e g' (c.in-Inserting.granted - c.fill_ready-done.result) old new)
-    (tries_to_fill o _ _ _ _ _ c.bundle.inside.left _ _ _ _ t a c.inserting-bundle-inside.result r.0 r.1 c.inserting-bundle-inside.ensures.all c.inserting-bundle-inside.ensures.some c.bundle.inside.state one.0 one.1 one.2 c.fill_ready-done.ensures.early)
+    (tries_to_fill o _ _ _ _ _ c.bundle.inside.left _ _ _ _ t a c.inserting-bundle-inside.result r.0 r.1 c.inserting-bundle-inside.ensures.all c.inserting-bundle-inside.ensures.some c.bundle.inside.state one.0 one.1 one.2 c.fill_ready-done.ensures.early
+    (subst (λ l. LastEnds EndIn l c.in-Inserting.ended c.fill_ready-done.result c.fill_ready-done.new.token.me) c.as_slice.ensures.value c.fill_ready-done.ensures.last))

@@ -1,5 +1,6 @@
+use Rattle.fak_model.specs.declared.queue.Kind.TheVariants.{EndOut}
 use Rattle.fak_model.specs.Calls.{object_id}
-use Rattle.fak_queue.specs.Bundles.{EmptiedOn}
+use Rattle.fak_queue.specs.Bundles.{EmptiedOn, LastEnds}
 use Rattle.fak_queue.specs.BundleCalls.{drawn_by_all}
 use Rattle.fak_queue.specs.BurstCalls.{TriesToTake}
 use Rattle.fak_queue.proofs.BundleCallsOut.{more, take_drawn, take_keeps, tries_to_take}
@@ -37,5 +38,6 @@ returns-clause-call g c = λ k e g' is.
       more o _ _ _ _ _ c.bundle.inside.left _ _ _ _ t,
       called c.self.inside.table.shared.key c.bundle.invariant c.self.invariant c.bundle.view_is c.self.view_is c.requires.object c.take_ready-done.ensures.told.same c.bundle.inside.left c.deleting-bundle-inside.result c.take_ready-done.new.token.me
           (λ s old new. TriesToTake s k e g' (c.in-Deleting.granted - c.take_ready-done.result) ys old new)
-          (tries_to_take o _ _ _ _ _ c.bundle.inside.left _ _ _ _ t a c.deleting-bundle-inside.result r.0 r.1 c.deleting-bundle-inside.ensures.all c.deleting-bundle-inside.ensures.some c.bundle.inside.state one.0 one.1 one.2 c.take_ready-done.ensures.early),
+          (tries_to_take o _ _ _ _ _ c.bundle.inside.left _ _ _ _ t a c.deleting-bundle-inside.result r.0 r.1 c.deleting-bundle-inside.ensures.all c.deleting-bundle-inside.ensures.some c.bundle.inside.state one.0 one.1 one.2 c.take_ready-done.ensures.early
+          (subst (λ l. LastEnds EndOut l c.in-Deleting.ended c.take_ready-done.result c.take_ready-done.new.token.me) c.as_slice.ensures.value c.take_ready-done.ensures.last)),
     )
