@@ -413,7 +413,17 @@ pub record LooksOn {T : Type 0} (size : ℕ) (old new : ChannelStepSeat T) : Typ
   pub same_cells : new.cells ≡ old.cells
   pub same_call : new.standing ≡ old.standing
 
--- this many calls are left, if none gives up and none finds a thread that had given up
+-- ---- the calls that are left of the stint, if none gives up and none finds a thread that had given up
+
+-- after this many calls another may begin: there is a ticket, and at either semaphore two downs and ups
+abbrev pub MayBeginAfter : {T : Type 0} → ℕ → ChannelSeat T → Type 0
+MayBeginAfter n s = (drawn_by s.queue + n < s.queue.stint) × (calls_by s.items + n + 1 < s.items.stint) × (calls_by s.cells + n + 1 < s.cells.stint)
+
+-- after this many calls none may begin: there is no ticket, or at a semaphore there are fewer than two downs and ups
+abbrev pub IsSpentAfter : {T : Type 0} → ℕ → ChannelSeat T → Type 0
+IsSpentAfter n s = (s.queue.stint ≤ drawn_by s.queue + n) ⊎ (s.items.stint ≤ calls_by s.items + n + 1) ⊎ (s.cells.stint ≤ calls_by s.cells + n + 1)
+
+-- this many calls may begin, and no more
 abbrev pub IsLeft : {T : Type 0} → ℕ → ChannelStepSeat T → Type 0
 IsLeft zero s = IsSpent (rest_of s)
-IsLeft (suc n) s = (drawn_by s.queue + n < s.queue.stint) × (calls_by s.items.permit + suc n < s.items.permit.stint) × (calls_by s.cells.permit + suc n < s.cells.permit.stint)
+IsLeft (suc n) s = MayBeginAfter n (rest_of s) × IsSpentAfter (suc n) (rest_of s)
