@@ -1,8 +1,8 @@
 //! The ranges of what an object is opened with.
 
-ghost use Rattle.std.specs.Prelude.{MatchResult};
+ghost use Rattle.std.specs.Prelude.{IfErr, MatchResult};
 ghost use Rattle.fak_count.specs.Opening.{IsCount, IsInRange, IsRangeFault};
-ghost use Rattle.fak_model.specs.Limits.{IsInLargeRange, IsLargeFault};
+ghost use Rattle.fak_model.specs.Limits.{IsInLargeRange, IsLargeFault, IsOfRange};
 
 use crate::fault::OpenFault;
 use fak_model::{LARGEST_BOUND, LONGEST_STINT, LargeFault, MOST_SEATS, tested_large_seats};
@@ -25,8 +25,9 @@ pub(crate) fn tested_limits(count: u64, seats: u64, stint: u64) -> Result<(), Op
 
 /// Tests the same limits of a large object, in the same order.
 pub(crate) fn tested_large_limits(count: u64, seats: u64, stint: u64) -> Result<(), LargeFault>
-    ensures { MatchResult result (λ _. IsInLargeRange (IsCount count) seats stint)
+    ensures tested { MatchResult result (λ _. IsInLargeRange (IsCount count) seats stint)
         (IsLargeFault (IsCount count) seats stint) }
+    ensures range { IfErr result IsOfRange }
 {
     if count > LARGEST_BOUND {
         return Err(LargeFault::BadSize);

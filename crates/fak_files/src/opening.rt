@@ -1,8 +1,8 @@
 //! The ranges of what a file table is opened with.
 
-ghost use Rattle.std.specs.Prelude.{MatchResult};
+ghost use Rattle.std.specs.Prelude.{IfErr, MatchResult};
 ghost use Rattle.fak_files.specs.Opening.{IsInRange, IsNumberOfEntries, IsRangeFault};
-ghost use Rattle.fak_model.specs.Limits.{IsInLargeRange, IsLargeFault};
+ghost use Rattle.fak_model.specs.Limits.{IsInLargeRange, IsLargeFault, IsOfRange};
 
 use crate::fault::OpenFault;
 use crate::words::{FIELDS, MOST_ENTRIES};
@@ -29,8 +29,9 @@ pub(crate) fn tested_limits(entries: u64, seats: u64, stint: u64) -> Result<(), 
 
 /// Tests the same limits of a large table, in the same order.
 pub(crate) fn tested_large_limits(entries: u64, seats: u64, stint: u64) -> Result<(), LargeFault>
-    ensures { MatchResult result (λ _. IsInLargeRange (IsNumberOfEntries entries) seats stint)
+    ensures tested { MatchResult result (λ _. IsInLargeRange (IsNumberOfEntries entries) seats stint)
         (IsLargeFault (IsNumberOfEntries entries) seats stint) }
+    ensures range { IfErr result IsOfRange }
 {
     if entries == 0 || entries > MOST_ENTRIES as u64 {
         return Err(LargeFault::BadSize);
