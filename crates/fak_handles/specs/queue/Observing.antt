@@ -1,5 +1,5 @@
 -- Seats of queues that observe: what is asked of the library, and what the exported functions return.
-use Rattle.std.specs.Prelude.{◌≡◌, ◌↔◌, ℤ, pos, Bool, IsTrue, []}
+use Rattle.std.specs.Prelude.{◌≡◌, ◌↔◌, ◌≤ℤ◌, ℤ, pos, Bool, IsTrue, []}
 use Rattle.std.specs.Arc.{arc_value}
 use Rattle.fak_model.specs.declared.queue.Kind.TheVariants.{Close}
 use Rattle.fak_model.specs.Queue.{Has, lower_count, upper_count}
@@ -21,11 +21,12 @@ pub record Counts (code items : ℤ) (d e : QueueDesk) : Type 0 where
   pub call : Observes d e
   pub items_is : items ≡ lower_count e.seat.seen
 
--- the cells in use: insertions begun and not withdrawn, minus deletions that have ended; and whether the queue is shut
+-- the cells in use: insertions begun and not withdrawn, minus deletions that have ended, at least 0; and whether the queue is shut
 pub record CountsCells (code cells : ℤ) (shut : Bool) (d e : QueueDesk) : Type 0 where
   pub code_is : code ≡ pos 0
   pub call : Observes d e
   pub cells_is : cells ≡ upper_count e.seat.seen
+  pub least : pos 0 ≤ℤ cells
   pub shut_is : IsTrue shut ↔ Has Close e.seat.seen
 
 -- whether the queue is shut, with no cell in use

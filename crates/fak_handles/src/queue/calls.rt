@@ -1,6 +1,6 @@
 //! The calls of a seat. Each tests the state of the seat, so none has a condition.
 
-ghost use Rattle.std.specs.Prelude.{◌≡◌, ◌↔◌, IsTrue, MatchOption};
+ghost use Rattle.std.specs.Prelude.{◌≡◌, ◌↔◌, ◌≤ℤ◌, pos, IsTrue, MatchOption};
 ghost use Rattle.fak_model.specs.declared.queue.Kind.TheVariants.{Close};
 ghost use Rattle.fak_model.specs.Queue.{Has, lower_count, upper_count};
 ghost use Rattle.fak_queue.specs.declared.state.SeatState.TheVariants.{Idle};
@@ -125,6 +125,7 @@ impl QueueDesk {
         ensures queue { arc_value self.new.queue ≡ arc_value self.old.queue }
         ensures call { Observes self.old self.new }
         ensures count { result.count ≡ upper_count self.new.seat.seen }
+        ensures least { pos 0 ≤ℤ result.count }
         ensures shut { IsTrue result.is_shut ↔ Has Close self.new.seat.seen }
     {
         self.queue.cells_in_use(&mut self.seat)
