@@ -50,12 +50,13 @@ pub record AsksToInsertBurst (items : List ℕ) (answer : Result Burst BurstFaul
   pub call : MatchResult answer (λ b. ClaimsBurst (size_under d) (take (width_of d) items) b.ticket b.count d.bundle e.bundle)
       (RefusesBurst (size_under d) (length (take (width_of d) items)) d.bundle e.bundle)
 
--- `left` insertions of the open burst still wait
+-- `left` insertions of the open burst still wait, and the bundle holds no item
 pub record AsksToFillBurst (left : ℕ) (d e : BundleDesk) : Type 0 where
   pub ticket : ℕ
   pub ended : ℕ
   pub granted : ℕ
   pub inserting : d.bundle.state ≡ Inserting ticket ended granted
+  pub none : e.held.items ≡ []
   pub left_is : drawn_by_all e.bundle ≡ drawn_by_all d.bundle
   pub call : TriesToFill (size_under d) ticket ended granted left d.bundle e.bundle
 

@@ -32,6 +32,7 @@ returns-in-Inserting-clause-call c =
       ended = c.in-Inserting.ended;
       granted = c.in-Inserting.granted;
       inserting = is;
+      none = d.none c.in-Inserting.ticket c.in-Inserting.ended c.in-Inserting.granted is;
       left_is = c.try_fill_burst.ensures.left;
       call = subst (λ (q : QueueInfo). TriesToFill q.size c.in-Inserting.ticket c.in-Inserting.ended c.in-Inserting.granted c.try_fill_burst.result d.bundle c.try_fill_burst.new.bundle) queue t;
     }
