@@ -1,5 +1,6 @@
 //! A bounded queue of boxes: owned items of any type, none of which is lost.
 
+use crate::drops::drop_all;
 use crate::limits::{MOST_CALLS, MOST_SEATS};
 use crate::{Fault, InUse, Seat, State, Step};
 use alloc::boxed::Box;
@@ -8,6 +9,7 @@ use alloc::vec::Vec;
 use core::cell::Cell;
 use core::error::Error;
 use core::fmt::{self, Debug, Display, Formatter};
+use core::iter::from_fn;
 use core::marker::PhantomData;
 use core::mem::ManuallyDrop;
 use core::ptr::null_mut;
@@ -38,7 +40,8 @@ impl<T> Error for Refused<T> {}
 /// A seat of a bounded queue of boxes, first in first out.
 ///
 /// The drop of a seat tries once to end its open call. If that fails, the drop of the queue's last seat ends it. That drop also drops the
-/// items that are still in the queue, on its thread. A seat that is forgotten keeps the queue and its items.
+/// items that are still in the queue, on its thread. If the drop of one panics, the others are dropped all the same; a second panic ends
+/// there too, but without the feature `std` it aborts. A seat that is forgotten keeps the queue and its items.
 ///
 /// ```compile_fail
 /// // What one seat puts in lives as long as what another takes out.
@@ -199,21 +202,15 @@ impl<T: Send> BoxSeat<T> {
     }
 }
 
-// Tries once to end the open call of a seat. Returns whether no call is open then. An item that the call takes out is dropped.
+// Tries once to end the open call of a seat. Once no call is open, returns the item that the call has taken out, if there is one.
 //
 // SAFETY, of the caller: the seat belongs to a queue of words that own a `Box<T>` each.
-unsafe fn try_end<T>(seat: &mut Seat) -> bool {
+unsafe fn try_end<T>(seat: &mut Seat) -> Step<Option<Box<T>>> {
     match seat.state() {
-        State::Idle => true,
-        State::Inserting(_) => seat.try_fill() == Ok(Step::Done(())),
-        State::Deleting(_) => match seat.try_take() {
-            Ok(Step::Done(word)) => {
-                // SAFETY: the queue hands the word out once.
-                drop(unsafe { box_of::<T>(word) });
-                true
-            }
-            _ => false,
-        },
+        State::Idle => Step::Done(None),
+        State::Inserting(_) => seat.try_fill().map_or(Step::NotYet, |filled| filled.map(|()| None)),
+        // SAFETY: the queue hands the word out once.
+        State::Deleting(_) => seat.try_take().map_or(Step::NotYet, |taken| taken.map(|word| Some(unsafe { box_of(word) }))),
     }
 }
 
@@ -222,10 +219,22 @@ impl<T: Send> Drop for BoxSeat<T> {
         // SAFETY: it is not used again.
         let mut own = unsafe { ManuallyDrop::take(&mut self.own) };
         // SAFETY: the seat belongs to such a queue.
-        if !unsafe { try_end::<T>(&mut own.seat) } {
-            self.queue.keep_open(own);
+        match unsafe { try_end::<T>(&mut own.seat) } {
+            Step::Done(item) => drop_all(item.into_iter()),
+            Step::NotYet => self.queue.keep_open(own),
         }
     }
+}
+
+// The first seat of a list, which then is not in it.
+fn pop(list: &mut *mut Node) -> Option<Box<Node>> {
+    if list.is_null() {
+        return None;
+    }
+    // SAFETY: a list owns its nodes, each once.
+    let node = unsafe { Box::from_raw(*list) };
+    *list = node.next;
+    Some(node)
 }
 
 impl<T> Queue<T> {
@@ -244,32 +253,38 @@ impl<T> Queue<T> {
         }
     }
 
-    // Tries once to end each open call, and keeps the seats whose calls stay open. Returns whether there is none.
-    fn try_end_all(&mut self) -> bool {
-        let mut next = core::mem::replace(self.open.get_mut(), null_mut());
-        while !next.is_null() {
-            // SAFETY: the list owns its nodes, each once.
-            let mut node = unsafe { Box::from_raw(next) };
-            next = node.next;
+    // Takes out an item that an open call has claimed, or that is in the queue. None once no call is open and the queue is empty. The seats
+    // whose calls were tried in this round, and stay open, are in `tried`.
+    //
+    // No other thread has a seat. So in each round at least one open call can go on.
+    fn next_left(&mut self, tried: &mut *mut Node) -> Option<Box<T>> {
+        loop {
+            while let Some(mut node) = pop(self.open.get_mut()) {
+                // SAFETY: the seat belongs to such a queue.
+                match unsafe { try_end::<T>(&mut node.seat) } {
+                    Step::Done(Some(item)) => return Some(item),
+                    Step::Done(None) => {}
+                    Step::NotYet => {
+                        node.next = *tried;
+                        *tried = Box::into_raw(node);
+                    }
+                }
+            }
+            let ended = tried.is_null();
+            *self.open.get_mut() = core::mem::replace(tried, null_mut());
             // SAFETY: the seat belongs to such a queue.
-            if !unsafe { try_end::<T>(&mut node.seat) } {
-                self.keep_open(node);
+            match unsafe { try_end::<T>(&mut self.keeper) } {
+                Step::Done(Some(item)) => return Some(item),
+                Step::Done(None) if self.keeper.claim_delete().is_err() && ended => return None,
+                _ => {}
             }
         }
-        self.open.get_mut().is_null()
     }
 }
 
-// No other thread has a seat. So in each round at least one open call can go on, until all have ended and the queue is empty.
 impl<T> Drop for Queue<T> {
     fn drop(&mut self) {
-        loop {
-            let ended = self.try_end_all();
-            // SAFETY: the seat belongs to such a queue.
-            let idle = unsafe { try_end::<T>(&mut self.keeper) };
-            if idle && self.keeper.claim_delete().is_err() && ended {
-                return;
-            }
-        }
+        let mut tried = null_mut();
+        drop_all(from_fn(|| self.next_left(&mut tried)));
     }
 }

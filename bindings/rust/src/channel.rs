@@ -33,13 +33,13 @@
 //! # Closing
 //!
 //! The drop of the last `Sender` closes the channel: receivers get what is left, and then `Closed`. `close` of any handle does the same.
-//! The drop of the last `Receiver` closes the channel too, and drops what is left. A send to a closed channel is refused, and the item
-//! comes back. All threads that sleep wake up.
+//! The drop of the last `Receiver` closes the channel too, and drops what is left, also if the drops of some items panic: the first panic
+//! goes on once all are dropped. A send to a closed channel is refused, and the item comes back. All threads that sleep wake up.
 //!
 //! # Sleeping
 //!
-//! No thread sleeps on although there is an item, a free cell or a close for it. The crate `fak_channel` proves that each wake-up is owed
-//! to an end, and this crate, which is tested, delivers it. A thread spins and yields for some microseconds before it sleeps.
+//! No thread sleeps on although there is an item, a free cell or a close for it. Tests show that sleepers wake up; the proved steps name
+//! the end to wake. A thread spins and yields for some microseconds before it sleeps.
 //!
 //! # Items
 //!

@@ -16,6 +16,8 @@ mod boxes;
 mod bursts;
 #[cfg(feature = "std")]
 pub mod channel;
+#[cfg(feature = "alloc")]
+mod drops;
 mod fault;
 pub mod limits;
 mod raw;

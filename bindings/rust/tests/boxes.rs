@@ -4,6 +4,7 @@ mod common;
 
 use common::{Token, TOKEN_DROPS};
 use fak_seats::{BoxSeat, Fault, State, Step};
+use std::panic::{catch_unwind, AssertUnwindSafe};
 use std::sync::atomic::{AtomicUsize, Ordering::SeqCst};
 use std::sync::Arc;
 use std::thread::{scope, spawn, yield_now};
@@ -191,6 +192,64 @@ fn a_deletion_that_waits_is_ended_at_the_close() {
         drop(seats);
         assert_eq!(drops.load(SeqCst), 2);
     }
+}
+
+// An item whose drop panics, if it is to, and counts its drop all the same.
+struct Panics(bool, #[allow(dead_code)] Box<Counted>);
+
+impl Drop for Panics {
+    fn drop(&mut self) {
+        assert!(!self.0, "this item panics");
+    }
+}
+
+// Drops the seats of a queue of four items, of which those of the bits that are set panic. Or the first two items are not yet put in,
+// and open deletions have claimed them: these end last. Returns whether a panic came out, and how many items were dropped.
+fn drops_with_panics(panicking: usize, in_calls: bool) -> (bool, usize) {
+    let (drops, make) = counted();
+    let item = |number: usize| Box::new(Panics(panicking >> number & 1 == 1, make(0)));
+    let mut seats = BoxSeat::open(5, 4).unwrap();
+    for (number, seat) in seats[..2].iter_mut().enumerate() {
+        assert_eq!(seat.claim_insert(item(number)).unwrap(), number as u64);
+        assert!(in_calls || seat.try_fill() == Ok(Step::Done(())));
+    }
+    (2..4).for_each(|number| put(&mut seats[2], item(number)));
+    if in_calls {
+        assert_eq!((seats[3].claim_delete(), seats[4].claim_delete()), (Ok(0), Ok(1)));
+        seats.reverse();
+    }
+    let panics = catch_unwind(AssertUnwindSafe(|| drop(seats))).is_err();
+    (panics, drops.load(SeqCst))
+}
+
+// An item whose drop panics keeps no other from its drop, whether it is in the queue or an open call has claimed it.
+#[test]
+fn a_drop_that_panics_loses_no_other_box() {
+    for in_calls in [false, true] {
+        assert_eq!(drops_with_panics(0, in_calls), (false, 4));
+        (0..4).for_each(|number| assert_eq!(drops_with_panics(1 << number, in_calls), (true, 4)));
+    }
+}
+
+// Nor do several.
+#[cfg(feature = "std")]
+#[test]
+fn drops_that_panic_lose_no_box() {
+    for in_calls in [false, true] {
+        (1..16).for_each(|panicking| assert_eq!(drops_with_panics(panicking, in_calls), (true, 4)));
+    }
+}
+
+// Two seats have taken nothing out yet, and can: the drop of each drops its item, and both panic.
+#[cfg(feature = "std")]
+#[test]
+fn seats_whose_items_panic_lose_no_box() {
+    let (drops, make) = counted();
+    let mut seats = BoxSeat::open(3, 4).unwrap();
+    (0..3).for_each(|number| put(&mut seats[0], Box::new(Panics(true, make(number)))));
+    assert_eq!((seats[0].claim_delete(), seats[1].claim_delete()), (Ok(0), Ok(1)));
+    assert!(catch_unwind(AssertUnwindSafe(|| drop(seats))).is_err());
+    assert_eq!(drops.load(SeqCst), 3);
 }
 
 // Threads put in and take out until they are told to stop, and drop their seats as they are.

@@ -7,7 +7,8 @@ use common::{Token, TOKEN_DROPS};
 use fak_seats::channel::{bounded, Receiver, Sender};
 use std::alloc::{GlobalAlloc, Layout, System};
 use std::fmt::Debug;
-use std::panic::{catch_unwind, AssertUnwindSafe};
+use std::mem::forget;
+use std::panic::{catch_unwind, panic_any, AssertUnwindSafe};
 use std::rc::Rc;
 use std::sync::atomic::{AtomicUsize, Ordering::SeqCst};
 use std::sync::{Arc, Weak};
@@ -186,23 +187,74 @@ fn boxes_of_items_are_freed() {
     assert_eq!(LIVE.load(SeqCst), 0);
 }
 
-// An item whose drop panics does not keep the others from theirs.
-#[test]
-fn a_drop_that_panics_loses_no_other_item() {
-    struct Panics(bool, #[allow(dead_code)] Counted<0>);
-    impl Drop for Panics {
-        fn drop(&mut self) {
-            assert!(!self.0, "this item panics");
+// An item whose drop panics, if it has a number, and counts its drop all the same.
+struct Panics(Option<usize>, #[allow(dead_code)] Counted<0>);
+
+impl Drop for Panics {
+    fn drop(&mut self) {
+        if let Some(number) = self.0 {
+            panic!("item {number} panics");
         }
     }
-    for panicking in 0..5 {
-        let (drops, make) = counted::<0>();
-        let (sender, receiver) = bounded(5, 2).unwrap();
-        (0..5).for_each(|number| assert!(sender.send(Panics(number == panicking, make())).is_ok()));
-        assert!(catch_unwind(AssertUnwindSafe(|| drop(receiver))).is_err());
-        drop(sender);
-        assert_eq!(drops.load(SeqCst), 5);
+}
+
+// A receiver of a channel of five items. Those of the bits that are set panic.
+fn with_panics(panicking: usize, make: &impl Fn() -> Counted<0>) -> Receiver<Panics> {
+    let (sender, receiver) = bounded(5, 2).unwrap();
+    for number in 0..5 {
+        let panics = (panicking >> number & 1 == 1).then_some(number);
+        assert!(sender.send(Panics(panics, make())).is_ok());
     }
+    receiver
+}
+
+// Whichever items panic in their drops, each is dropped, and the first panic is the one that goes on.
+#[test]
+fn drops_that_panic_lose_no_item() {
+    for panicking in 1..32usize {
+        let (drops, make) = counted::<0>();
+        let receiver = with_panics(panicking, &make);
+        let panic = catch_unwind(AssertUnwindSafe(|| drop(receiver))).unwrap_err();
+        let first = format!("item {} panics", panicking.trailing_zeros());
+        assert_eq!((panic.downcast_ref(), drops.load(SeqCst)), (Some(&first), 5));
+    }
+}
+
+// A thread that panics drops its receiver: no second panic comes out of that.
+#[test]
+fn drops_that_panic_while_a_thread_panics_end_there() {
+    let (drops, make) = counted::<0>();
+    let receiver = with_panics(0b10110, &make);
+    let thread = spawn(move || {
+        let _receiver = receiver;
+        panic!("the thread panics");
+    });
+    assert_eq!(thread.join().unwrap_err().downcast_ref(), Some(&"the thread panics"));
+    assert_eq!(drops.load(SeqCst), 5);
+}
+
+// Nor does it matter if what a drop panics with panics in its own drop.
+#[test]
+fn a_panic_that_panics_when_dropped_is_not_dropped() {
+    struct Payload;
+    impl Drop for Payload {
+        fn drop(&mut self) {
+            panic!("the payload panics");
+        }
+    }
+    struct Throws(#[allow(dead_code)] Counted<0>);
+    impl Drop for Throws {
+        fn drop(&mut self) {
+            panic_any(Payload);
+        }
+    }
+    let (drops, make) = counted::<0>();
+    let (sender, receiver) = bounded(3, 2).unwrap();
+    (0..3).for_each(|_| assert!(sender.send(Throws(make())).is_ok()));
+    let panic = catch_unwind(AssertUnwindSafe(|| drop(receiver))).unwrap_err();
+    assert!(panic.is::<Payload>());
+    forget(panic);
+    assert_eq!(drops.load(SeqCst), 3);
 }
 
 // A channel whose items have its own handles ends with its last receiver.

@@ -4,8 +4,10 @@ use super::end::{End, Patience, Refusal};
 use super::token::{lock, Token};
 use super::turn::Turn;
 use super::words::Words;
+use crate::drops::drop_all;
 use crate::{limits, opened_vec, raw, Fault};
 use std::cell::{Cell, UnsafeCell};
+use std::iter::from_fn;
 use std::marker::PhantomData;
 use std::mem::ManuallyDrop;
 use std::sync::atomic::AtomicUsize;
@@ -92,12 +94,10 @@ impl<T> Shared<T> {
 
     // Drops what is left in the closed channel. It waits for sends that are about to end.
     fn drain(&self) {
-        while let Some(item) = self.take_left() {
-            // Not under the lock: the drop of an item may make calls.
-            drop(item);
-        }
+        drop_all(from_fn(|| self.take_left()));
     }
 
+    // It gives the lock back: the drop of the item may make calls.
     fn take_left(&self) -> Option<T> {
         let mut keeper = lock(&self.keeper);
         if !keeper.is_closed {
@@ -117,13 +117,6 @@ impl<T> Shared<T> {
         let mut free = lock(&self.free);
         let most = (0..free.len()).max_by_key(|&at| free[at].left())?;
         Some(free.swap_remove(most))
-    }
-}
-
-// A drop of an item that panics has left the others in the channel.
-impl<T> Drop for Shared<T> {
-    fn drop(&mut self) {
-        self.drain();
     }
 }
 
