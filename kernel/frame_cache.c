@@ -53,14 +53,14 @@ void give_frame(void *frame) {
 }
 
 /* Checks that each cache holds what came in and did not go out, and that its bursts were no more than the frames that came and went need.
- * Then gives its frames back to the list. */
+ * Few frames need more, since a refill then finds less than a burst. Then gives its frames back to the list. */
 void empty_caches(uint32_t n) {
     for (uint32_t i = 0; i < n; i++) {
         const processor_state *s = &processor_states[i];
         frame_cache *cache = &caches[i];
         if (s->refilled + s->given != s->taken + s->drained + cache->count)
             fail("frames were lost, or came from nowhere, in the cache of processor", i);
-        if (s->refills > s->taken / BURST + 1 || s->drains > s->given / BURST)
+        if ((FEW_FRAMES == 0 && s->refills > s->taken / BURST + 1) || s->drains > s->given / BURST)
             fail("too many bursts of the cache of processor", i);
         put_all(&frames[i], cache->frames, cache->count);
         cache->count = 0;

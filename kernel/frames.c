@@ -11,7 +11,7 @@ extern unsigned char image_end[]; /* kernel.ld */
 
 static const uint64_t stint = UINT64_C(1) << 40;
 
-fak_c_seat frames[PROCESSORS];
+fak_c_seat frames[PROCESSORS], frame_carriers[PROCESSORS];
 static unsigned char *block, *first_frame;
 static uint64_t frame_count;
 
@@ -24,13 +24,15 @@ void open_frames(uint32_t n) {
     uint64_t start = whole_pages((uint64_t)image_end), end = memory_bytes();
     if (end > (uint64_t)MOST_FRAMES * PAGE)
         end = (uint64_t)MOST_FRAMES * PAGE;
-    uint64_t bytes = whole_pages(FAK_C_BUNDLES_BYTES(0, n, BURST, (end - start) / PAGE)), burst[BURST];
-    fak_c_seat none = {0};
+    uint64_t carriers = FEW_FRAMES > 0 ? n : 0, burst[BURST];
+    uint64_t bytes = whole_pages(FAK_C_BUNDLES_BYTES(carriers, n, BURST, (end - start) / PAGE));
     block = (unsigned char *)start;
     first_frame = block + bytes;
     frame_count = (end - start - bytes) / PAGE;
+    if (FEW_FRAMES > 0 && frame_count > FEW_FRAMES)
+        frame_count = FEW_FRAMES;
     fak_c_block_begin(block, bytes);
-    expect_ok(fak_c_open_bundles(&none, 0, frames, n, BURST, frame_count, stint), "open the page frames");
+    expect_ok(fak_c_open_bundles(frame_carriers, carriers, frames, n, BURST, frame_count, stint), "open the page frames");
     say("%u page frames of %u kB of memory in a list in %u bytes\n", frame_count, memory_bytes() / 1024, (uint64_t)fak_c_block_end());
     for (uint64_t i = 0, count; i < frame_count; i += count) {
         for (count = 0; count < BURST && i + count < frame_count; count++)
@@ -59,6 +61,8 @@ uint64_t leave_frames(uint32_t n) {
         fail("frames are lost, of which there are", count);
     for (uint32_t i = 0; i < n; i++)
         expect_ok(fak_c_leave(&frames[i]), "leave the frames");
+    for (uint32_t i = 0; FEW_FRAMES > 0 && i < n; i++)
+        expect_ok(fak_c_leave(&frame_carriers[i]), "leave the frames");
     if (!fak_c_block_is_free(block))
         fail("memory of the frames in use at the end", 0);
     return count;

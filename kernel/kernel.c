@@ -61,13 +61,14 @@ static void check_work(void) {
         sum.sleeps += s->sleeps;
         sum.ended += s->ended;
         sum.no_page += s->no_page;
+        sum.no_frame += s->no_frame;
         sum.raised += s->raised;
         sum.taken += s->taken;
         sum.given += s->given;
     }
     if (sum.ran != sum.yields + sum.parks + sum.sleeps + sum.ended)
         fail("turns that ended in no way:", sum.ran);
-    if (sum.yields != THREADS * ROUNDS / 2 + sum.no_page)
+    if (sum.yields != THREADS * ROUNDS / 2 + sum.no_page + sum.no_frame)
         fail("yields are missing, or too many:", sum.yields);
     if (sum.sleeps != THREADS * ROUNDS / 4)
         fail("sleeps are missing, or too many:", sum.sleeps);
@@ -79,11 +80,11 @@ static void check_work(void) {
 
 static void say_counts(uint32_t number) {
     const processor_state *s = &processor_states[number];
-    say("processor %u: ran %u, yields %u, parks %u, sleeps %u, ended %u, no page %u, idle %u, not yet %u;", (uint64_t)number, s->ran,
-        s->yields, s->parks, s->sleeps, s->ended, s->no_page, s->idle, s->not_yet);
+    say("processor %u: ran %u, yields %u, parks %u, sleeps %u, ended %u, no page %u, no frame %u, idle %u, not yet %u;", (uint64_t)number,
+        s->ran, s->yields, s->parks, s->sleeps, s->ended, s->no_page, s->no_frame, s->idle, s->not_yet);
     say(" ticks %u, in the library %u, raised %u, woke %u, not yet %u;", s->ticks, s->in_library, s->raised, s->woken, s->late);
-    say(" frames taken %u, given %u, refilled %u by %u bursts, drained %u by %u\n", s->taken, s->given, s->refilled, s->refills,
-        s->drained, s->drains);
+    say(" frames taken %u, given %u, refilled %u by %u bursts, drained %u by %u, carried %u\n", s->taken, s->given, s->refilled,
+        s->refills, s->drained, s->drains, s->carried);
 }
 
 /* Prints what was done, once all processors have stopped, and ends the machine. */
@@ -99,6 +100,7 @@ static _Noreturn void report(void) {
     check_alarm();
     check_work();
     leave_objects(in_use);
+    end_carrying(in_use);
     empty_caches(in_use);
     say("all %u page frames are free\n", leave_frames(in_use));
     say("all %u threads ended, pages %u of %u free\n", ended, pages, (uint64_t)PAGES);

@@ -36,12 +36,21 @@ extern unsigned char page_frames[PAGES][PAGE];
 void open_objects(uint32_t processors);
 void leave_objects(uint32_t processors);
 
-/* ---- Page frames (frames.c): all memory that nothing else uses. Each processor has a bundle of their list. ---- */
+/* ---- Page frames (frames.c): all memory that nothing else uses. Each processor has a bundle of their list. ----
+ *
+ * With FEW_FRAMES the list has only this many, fewer than the threads and the caches hold at most. So it is often empty, and threads wait
+ * for a frame. Each processor's handler then carries frames too (carriers.c), by a seat of its own. */
 
-extern fak_c_seat frames[PROCESSORS];
+#ifndef FEW_FRAMES
+#define FEW_FRAMES 0
+#endif
+
+extern fak_c_seat frames[PROCESSORS], frame_carriers[PROCESSORS];
 
 void open_frames(uint32_t processors);
 uint64_t leave_frames(uint32_t processors); /* returns how many there are; each is in the list */
+void carry_frame(uint32_t number);
+void end_carrying(uint32_t processors);
 
 /* ---- The cache of page frames that each processor has (frame_cache.c) ---- */
 
@@ -72,9 +81,10 @@ typedef struct {
     void *stack_at; /* of the processor itself, while a thread runs */
     thread *runs;
     uint64_t ran, yields, parks, sleeps, ended, idle; /* threads.c */
-    uint64_t no_page, not_yet;                        /* work.c, lists.c and semaphores.c */
+    uint64_t no_page, no_frame, not_yet;              /* work.c, lists.c and semaphores.c */
     uint64_t taken, given, refills, refilled, drains, drained; /* frame_cache.c: frames, and bursts with their frames */
     uint64_t ticks, in_library, woken, raised, late;  /* timer.c */
+    uint64_t carried;                                 /* carriers.c */
 } processor_state;
 
 extern processor_state processor_states[PROCESSORS];

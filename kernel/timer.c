@@ -115,6 +115,8 @@ void tick(uint64_t instruction) {
     end_of_interrupt();
     processor_states[number].ticks++;
     processor_states[number].in_library += instruction >= (uintptr_t)library_start && instruction < (uintptr_t)library_end;
+    if (FEW_FRAMES > 0)
+        carry_frame(number);
     for (int woken = 0; woken < MOST_WOKEN && make_ready(&handler_states[number], number);)
         woken++;
 }

@@ -45,12 +45,21 @@ static void check_marks(const uint64_t *page, uint64_t mark, const char *what, u
             fail(what, thread);
 }
 
-/* There are more frames than the threads and the caches hold, so the list is never empty. */
-static void take_frames(uint64_t **held, uint64_t mark) {
-    for (int i = 0; i < FRAMES_HELD; i++) {
-        held[i] = take_frame();
-        if (held[i] == NULL)
+/* Unless there are few, there are more frames than the threads and the caches hold, so the list is never empty. */
+static uint64_t *wait_for_frame(thread *me) {
+    uint64_t *frame;
+    while ((frame = take_frame()) == NULL) {
+        if (FEW_FRAMES == 0)
             fail("no page frame", 0);
+        this_processor()->no_frame++;
+        stop(me, YIELD);
+    }
+    return frame;
+}
+
+static void take_frames(thread *me, uint64_t **held, uint64_t mark) {
+    for (int i = 0; i < FRAMES_HELD; i++) {
+        held[i] = wait_for_frame(me);
         mark_page(held[i], mark + (uint64_t)i);
     }
 }
@@ -69,7 +78,7 @@ void work(thread *me) {
         take_token(me, me->number % SEMAPHORES);
         uint64_t *page = take_page(me);
         mark_page(page, mark);
-        take_frames(held, mark);
+        take_frames(me, held, mark);
         switch ((round + me->number) % 4) {
         case 0:
             stop(me, SLEEP);
