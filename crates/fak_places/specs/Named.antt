@@ -1,16 +1,20 @@
 -- What the readers return if the name of an operation or a step is known.
-use Rattle.std.specs.Prelude.{ℕ, ◌==◌, ◌&&◌, Bool, true, false, List, codes, Option, Some, None, is_some, nat_le, Result, if◌then◌else◌}
+use Rattle.std.specs.Prelude.{ℕ, ◌==◌, ◌&&◌, Bool, true, false, List, [], codes, Option, Some, None, is_some, nat_le, Result, option_and_then, unwrap_or, if◌then◌else◌}
 use Rattle.std.specs.Str.{bytes_eq}
 use Rattle.serde_json.specs.Data.{Data}
+use Rattle.serde_json.specs.Find.{get, as_str}
+use Rattle.fak_text.specs.Fields.{name_of}
 use Rattle.fak_text.specs.Gives.{◌>>=◌}
 use Rattle.fak_text.specs.Values.{value_or}
 use Rattle.fak_text.specs.ScheduleText.{room_op, queue_op, op_named, act_from}
-use Rattle.fak_text.specs.StepText.{step_op_named, step_with, step_from}
+use Rattle.fak_text.specs.StepText.{step_op_named, step_with, step_from, program_from}
 use Rattle.fak_text.specs.Script.{StepOf}
 use Rattle.fak_text.specs.declared.fault.TextFault.{TextFault}
 use Rattle.fak_text.specs.declared.fault.TextFault.TheVariants.{UnknownOp}
 use Rattle.fak_text.specs.declared.schedule.Act.{Act}
 use Rattle.fak_text.specs.declared.schedule.Object as o
+use Rattle.fak_text.specs.declared.schedule.Object.TheVariants as objects
+use Rattle.fak_text.specs.declared.fault.Field.TheVariants.{Object}
 use Rattle.fak_places.specs.declared.step.Limits.{Limits}
 
 -- what a seat of a room does by an operation of this name
@@ -34,6 +38,18 @@ step_named limits name size text number =
 -- the step that a value is, in a script with these limits
 abbrev pub step_in : Limits → Data → Result StepOf TextFault
 step_in limits d = step_from (record { version = limits.version; semaphores = limits.semaphores; programs = limits.programs }) 0 d
+
+-- the program that a value is, in a script with these limits
+abbrev pub program_in : Limits → Data → Result (List StepOf) TextFault
+program_in limits d = program_from (record { version = limits.version; semaphores = limits.semaphores; programs = limits.programs }) 0 d
+
+-- the object of this name, with any bound or size
+unfoldable pub object_of_name : List ℕ → o.Object
+object_of_name name = if bytes_eq name (codes "room") then objects.Room 0 else objects.Queue 1
+
+-- the name of a schedule's object; empty if it has none
+abbrev pub object_name : Data → List ℕ
+object_name d = unwrap_or (option_and_then as_str (get (name_of Object) d)) []
 
 -- whether the mark of this name bears a number; none if no mark has the name
 unfoldable pub bears_named : List ℕ → Option Bool

@@ -1,12 +1,13 @@
 //! The place of an input's first fault.
 
-ghost use Rattle.std.specs.Prelude.{◌≡◌, ◌≢◌, IfOk, IfSome, IsOk, MatchOption, Err, is_ok, not, option_map};
+ghost use Rattle.std.specs.Prelude.{◌≡◌, ◌≢◌, IfOk, IfSome, IsOk, MatchOption, Err, Ok, is_ok, not, option_map};
 ghost use Rattle.serde_json.specs.View.{view};
 ghost use Rattle.fak_text.specs.HistoryText.{mark_from};
-ghost use Rattle.fak_text.specs.ScheduleText.{event_from};
+ghost use Rattle.fak_text.specs.ScheduleText.{event_from, object_from};
 ghost use Rattle.fak_text.specs.declared.fault.Field.TheVariants.{Events, Marks};
 ghost use Rattle.fak_text.specs.declared.fault.TextFault.TheVariants.{Memory};
 ghost use Rattle.fak_text.specs.declared.schedule.Object as o;
+ghost use Rattle.fak_places.specs.Named.{object_name, object_of_name};
 ghost use Rattle.fak_places.specs.Places.{fault_in, key_of, list_of};
 ghost use Rattle.fak_places.specs.Spots.{IsInFirst, array_of};
 
@@ -105,18 +106,29 @@ fn asked_of_key(key: Field) -> Asked {
     }
 }
 
-/// The object of a schedule, without its bound or size.
-fn object_of(schedule: &Value) -> Object {
-    match schedule.get("object").and_then(Value::as_str) {
-        Some("room") => Object::Room(0),
+/// The object of this name, with any bound or size.
+#[tactic(auto, unfolding(crate::specs::Named::object_of_name))]
+fn object_of_name(name: &str) -> Object
+    ensures { result ≡ object_of_name name.now }
+{
+    match name {
+        "room" => Object::Room(0),
         _ => Object::Queue(1),
     }
 }
 
-/// What is wrong in the events of a schedule: the first that is wrong.
+/// The object of a schedule, with any bound or size.
+fn object_of(schedule: &Value) -> Object
+    ensures { result ≡ object_of_name (object_name (view schedule.now)) }
+{
+    let name = schedule.get("object").and_then(Value::as_str);
+    object_of_name(name.unwrap_or(""))
+}
+
+/// What is wrong in the events of a schedule: the first that its object does not have.
 fn hint_in_events(schedule: &Value) -> Option<Hint>
-    ensures { IfSome result (λ hint. (object : o.Object) × IsInFirst (λ d. not (is_ok (event_from object 0 d)))
-        (array_of Events (view schedule.now)) hint.spot) }
+    ensures { IfSome result (λ hint. (object : o.Object) → object_from (view schedule.now) ≡ Ok object
+        → IsInFirst (λ d. not (is_ok (event_from object 0 d))) (array_of Events (view schedule.now)) hint.spot) }
 {
     let object = object_of(schedule);
     let events = elements_of_key(schedule, Field::Events);
