@@ -59,10 +59,12 @@ inside {
     inside = !ends
     next
 }
-# The guard of the header, and the macros for the sanitizer, are left out.
-/^#(if|ifdef|ifndef|elif|else|endif|include)/ || /^extern "C"/ || /__tsan_/ { next }
+# What is for C++, the guard of the header, and the macros for the sanitizer, are left out.
+/^#ifdef __cplusplus/ { of_cpp = 1; next }
+of_cpp { if (/^#endif/) of_cpp = 0; next }
+/^#(if|ifdef|ifndef|elif|else|endif|include)/ || /__tsan_/ { next }
 /^#define FAK_(C_(H|THREAD_SANITIZER|GIVES|GETS)|CHANNEL_H)/ { next }
-/^}$/ && (body || !codes) { body = 0; next }
+/^}$/ && body { body = 0; next }
 body { next }
 /^static inline/ { body = 1; sub(/^static inline /, ""); sub(/ \{$/, ";") }
 $0 == "" && !codes { next }
