@@ -276,12 +276,13 @@ static bool send_job(fak_pool *self, const fak_channel_item *item, bool tries) {
 
 bool fak_pool_add(fak_pool *self, fak_pool_function *run, void *argument) {
     fak_channel_item item = item_of(run, argument);
-    return take_permit(self, false) && send_job(self, &item, false);
+    /* An item without a function is a wake-up. */
+    return run != NULL && take_permit(self, false) && send_job(self, &item, false);
 }
 
 bool fak_pool_try_add(fak_pool *self, fak_pool_function *run, void *argument) {
     fak_channel_item item = item_of(run, argument);
-    return take_permit(self, true) && send_job(self, &item, true);
+    return run != NULL && take_permit(self, true) && send_job(self, &item, true);
 }
 
 void fak_pool_join(fak_pool *self) {

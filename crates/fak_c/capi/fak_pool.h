@@ -22,12 +22,12 @@ typedef void fak_pool_function(void *argument);
  * thread. */
 fak_pool *fak_pool_create(size_t workers, size_t waiting);
 
-/* Adds a job, and sleeps while the queue is full. False if the pool has used up its stint, which is above 10^12 calls. Each job that was
- * added still runs. */
+/* Adds a job, and sleeps while the queue is full. False if `run` is null, or if the pool has used up its stint, which is above 10^12 calls.
+ * Each job that was added still runs. */
 bool fak_pool_add(fak_pool *self, fak_pool_function *run, void *argument);
 
-/* Adds a job without sleeping. False if the queue was full, or other callers had all ends of its channel at this moment; or if the pool has
- * used up its stint. */
+/* Adds a job without sleeping. False if the queue was full, or other callers had all ends of its channel at this moment; or if `run` is
+ * null, or the pool has used up its stint. */
 bool fak_pool_try_add(fak_pool *self, fak_pool_function *run, void *argument);
 
 /* Sleeps until each job that was added is done. */

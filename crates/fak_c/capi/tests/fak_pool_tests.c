@@ -1,4 +1,4 @@
-/* Tests of the pool: each job runs once, whatever is added, tried and resized at once. Runs `calls`, or `stress JOBS`. */
+/* Tests of the pool: each job runs once, whatever is added, tried, joined and resized at once. Runs `calls`, or `stress JOBS`. */
 #include "fak_pool.h"
 #include "tests.h"
 
@@ -196,8 +196,71 @@ static void jobs_may_call(void) {
     CHECK(atomic_load(&done) == 4);
 }
 
+/* A job that is null is added by no call, and no join waits for it. */
+static void no_job_is_null(size_t waiting) {
+    fak_pool *made = fresh(1, waiting);
+    for (int i = 0; i < 3; i++)
+        CHECK(!fak_pool_add(made, NULL, made) && !fak_pool_try_add(made, NULL, made));
+    fak_pool_join(made);
+    CHECK(fak_pool_add(made, count_one, NULL));
+    fak_pool_free(made);
+    CHECK(atomic_load(&done) == 1);
+}
+
+static void *join_it(void *pool) {
+    fak_pool_join(pool);
+    CHECK(atomic_load(&done) == 2);
+    return NULL;
+}
+
+static void count_after_a_while(void *argument) {
+    stay(argument);
+    rest();
+    atomic_fetch_add(&done, 1);
+}
+
+/* All callers that join return once the last job is done. */
+static void all_joins_return(void) {
+    enum { JOINERS = 3 };
+    fak_pool *made = fresh(1, 4);
+    pthread_t joiners[JOINERS];
+    CHECK(fak_pool_add(made, count_after_a_while, NULL));
+    for (int i = 0; i < JOINERS; i++)
+        CHECK(pthread_create(&joiners[i], NULL, join_it, made) == 0);
+    for (int i = 0; i < 20; i++)
+        rest();
+    atomic_store(&may_go, true);
+    for (int i = 0; i < JOINERS; i++)
+        CHECK(pthread_join(joiners[i], NULL) == 0);
+    fak_pool_free(made);
+}
+
+static void *add_one(void *pool) {
+    CHECK(fak_pool_add(pool, count_one, NULL));
+    return NULL;
+}
+
+/* A caller sleeps, since the only worker is busy. A resize starts another worker for it. */
+static void a_resize_wakes_a_caller(void) {
+    fak_pool *made = fresh(1, 0);
+    pthread_t adder;
+    CHECK(fak_pool_add(made, stay, NULL));
+    wait_for(1);
+    CHECK(pthread_create(&adder, NULL, add_one, made) == 0);
+    for (int i = 0; i < 20; i++)
+        rest();
+    CHECK(atomic_load(&done) == 1 && fak_pool_resize(made, 2) && pthread_join(adder, NULL) == 0);
+    wait_for(2);
+    atomic_store(&may_go, true);
+    fak_pool_free(made);
+}
+
 static void each_call_is_made(void) {
     numbers_are_refused();
+    no_job_is_null(3);
+    no_job_is_null(0);
+    all_joins_return();
+    a_resize_wakes_a_caller();
     jobs_run_in_order();
     a_full_queue_refuses(2, 2);
     a_full_queue_refuses(2, 0);
@@ -258,12 +321,58 @@ static void *resize_often(void *argument) {
     return NULL;
 }
 
+static void *join_often(void *pool) {
+    while (!atomic_load(&ends))
+        fak_pool_join(pool);
+    return NULL;
+}
+
+static atomic_ulong joins;
+
+static void *count_joins(void *pool) {
+    while (!atomic_load(&ends)) {
+        fak_pool_join(pool);
+        atomic_fetch_add(&joins, 1);
+        CHECK(sched_yield() == 0);
+    }
+    return NULL;
+}
+
+/* Waits until this count is reached. Fails after half a minute. */
+static void wait_for_count(atomic_ulong *count, unsigned long wanted) {
+    time_t late = time(NULL) + 30;
+    while (atomic_load(count) < wanted)
+        CHECK(sched_yield() == 0 && time(NULL) < late);
+}
+
+/* One job at a time. A caller that adds it and joins finds it done. Another caller, which joins all the time, doesn't sleep on. */
+static void joins_take_turns(size_t waiting, unsigned long rounds) {
+    fak_pool *made = fresh(2, waiting);
+    pthread_t joiner;
+    atomic_store(&ends, false);
+    CHECK(pthread_create(&joiner, NULL, count_joins, made) == 0);
+    for (unsigned long round = 1; round <= rounds; round++) {
+        CHECK(fak_pool_add(made, count_one, NULL));
+        if (round % 2 == 0)
+            fak_pool_join(made);
+        else
+            wait_for_count(&done, round);
+        CHECK(atomic_load(&done) == round);
+        wait_for_count(&joins, atomic_load(&joins) + 2);
+    }
+    atomic_store(&ends, true);
+    CHECK(pthread_join(joiner, NULL) == 0);
+    fak_pool_free(made);
+}
+
 static void stress(size_t waiting, unsigned long jobs) {
     adder adders[ADDERS];
-    pthread_t resizer;
+    pthread_t resizer, joiners[2];
     fak_pool *made = fresh(2, waiting);
     atomic_store(&ends, false);
     CHECK(pthread_create(&resizer, NULL, resize_often, made) == 0);
+    for (int i = 0; i < 2; i++)
+        CHECK(pthread_create(&joiners[i], NULL, join_often, made) == 0);
     for (unsigned i = 0; i < ADDERS; i++) {
         adders[i] = (adder){.of = made, .jobs = jobs, .random = i, .runs = calloc(jobs, 1)};
         CHECK(adders[i].runs != NULL && pthread_create(&adders[i].thread, NULL, add_all, &adders[i]) == 0);
@@ -275,6 +384,8 @@ static void stress(size_t waiting, unsigned long jobs) {
         for (unsigned long job = 0; job < jobs; job++)
             CHECK(atomic_load(&adders[i].runs[job]) == 1);
     atomic_store(&ends, true);
+    for (int i = 0; i < 2; i++)
+        CHECK(pthread_join(joiners[i], NULL) == 0);
     CHECK(pthread_join(resizer, NULL) == 0 && fak_pool_resize(made, 2) && overlaps(made) <= 2);
     fak_pool_free(made);
     for (int i = 0; i < ADDERS; i++)
@@ -286,9 +397,10 @@ int main(int count, char **words) {
     if (count == 2 && strcmp(words[1], "calls") == 0) {
         each_call_is_made();
     } else if (count == 3 && strcmp(words[1], "stress") == 0) {
-        stress(0, strtoul(words[2], NULL, 10));
-        stress(1, strtoul(words[2], NULL, 10));
-        stress(64, strtoul(words[2], NULL, 10));
+        joins_take_turns(0, strtoul(words[2], NULL, 10));
+        joins_take_turns(4, 4 * strtoul(words[2], NULL, 10));
+        for (size_t waiting = 0; waiting <= 64; waiting += waiting == 0 ? 1 : 63)
+            stress(waiting, strtoul(words[2], NULL, 10));
     } else {
         return 2;
     }
