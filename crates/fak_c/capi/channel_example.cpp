@@ -24,8 +24,10 @@ int main() {
         threads[first - 1] = std::thread(send_some, sender, first);
     sender = {};
     long sum = 0;
-    while (auto received = receiver.receive())
-        sum += *received.value;
+    while (auto received = receiver.receive()) {
+        Box box = std::move(received.value);
+        sum += *box;
+    }
     for (auto &thread : threads)
         thread.join();
     std::printf("the sum is %ld\n", sum);

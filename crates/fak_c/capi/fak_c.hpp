@@ -11,6 +11,10 @@
 #ifndef FAK_C_HPP
 #define FAK_C_HPP
 
+#if __cplusplus < 201703L
+#error "fak_c.hpp and fak_channel.hpp need C++17"
+#endif
+
 #include "fak_c.h"
 
 #include <cstddef>
@@ -18,6 +22,12 @@
 #include <cstring>
 #include <iterator>
 #include <type_traits>
+
+#if defined(__has_builtin)
+#if __has_builtin(__builtin_clear_padding)
+#define FAK_C_CLEARS_PADDING 1
+#endif
+#endif
 
 namespace fak {
 
@@ -77,7 +87,8 @@ constexpr const char *text_of(Code code) noexcept {
     return "no code";
 }
 
-/* A code, and a value. The value is zero unless the call's comment says that it is written. */
+/* A code, and a value, which is read as `value`: this is no std::optional. The value is zero unless the call's comment says that it is
+ * written. */
 template <class T> struct [[nodiscard]] Answer {
     Code code;
     T value;
@@ -88,10 +99,21 @@ template <class T> struct [[nodiscard]] Answer {
 
 namespace details {
 
+/* Copies an item to words. What lies between its members is 0 there. A compiler that can't clear it, such as clang 14, copies what was
+ * there, which the program may never have written. */
+template <class T> void copy_to(void *words, const T &item) noexcept {
+    alignas(T) unsigned char bytes[sizeof item];
+    std::memcpy(bytes, &item, sizeof item);
+#ifdef FAK_C_CLEARS_PADDING
+    __builtin_clear_padding(reinterpret_cast<T *>(bytes));
+#endif
+    std::memcpy(words, bytes, sizeof item);
+}
+
 template <class T> std::uint64_t word_of(T item) noexcept {
     static_assert(std::is_trivially_copyable_v<T> && sizeof(T) <= 8, "an item is at most 8 bytes, which are copied");
     std::uint64_t word = 0;
-    std::memcpy(&word, &item, sizeof item);
+    copy_to(&word, item);
     return word;
 }
 
@@ -144,7 +166,8 @@ public:
 protected:
     /* Opens an object over these handles. WrongState unless all of them are empty. */
     template <class Seats, class Open> static Code open_all(Seats &seats, Open open) noexcept {
-        return are_empty(seats) ? Code{open(handles_of(seats), std::size(seats))} : Code::WrongState;
+        fak_c_seat none{};
+        return are_empty(seats) ? Code{open(handles_of(seats, none), std::size(seats))} : Code::WrongState;
     }
 
     template <class Seats> static bool are_empty(const Seats &seats) noexcept {
@@ -154,12 +177,12 @@ protected:
         return true;
     }
 
-    /* An array of seats as C sees it. */
-    template <class Seats> static fak_c_seat *handles_of(Seats &seats) noexcept {
+    /* An array of seats as C sees it. If there are none, this handle: the pointer is not null. */
+    template <class Seats> static fak_c_seat *handles_of(Seats &seats, fak_c_seat &none) noexcept {
         auto *first = std::data(seats);
         using Seat = std::remove_pointer_t<decltype(first)>;
         static_assert(sizeof(Seat) == sizeof(fak_c_seat) && std::is_standard_layout_v<Seat>, "an array of seats is one of handles");
-        return reinterpret_cast<fak_c_seat *>(first);
+        return std::size(seats) != 0 ? reinterpret_cast<fak_c_seat *>(first) : &none;
     }
 
     /* Makes a call that writes one value. */
@@ -302,17 +325,19 @@ public:
     /* Opens a queue of `size` cells with a seat for each handle of the first array and a bundle of `width` seats for each of the second. */
     template <class Seats, class Bundles>
     static Code open(Seats &seats, Bundles &bundles, std::uint64_t width, std::uint64_t size, std::uint64_t stint) noexcept {
+        fak_c_seat none[2]{};
         if (!are_empty(seats) || !are_empty(bundles))
             return Code::WrongState;
-        return Code{fak_c_open_bundles(handles_of(seats), std::size(seats), handles_of(bundles), std::size(bundles), width, size, stint)};
+        return Code{fak_c_open_bundles(
+            handles_of(seats, none[0]), std::size(seats), handles_of(bundles, none[1]), std::size(bundles), width, size, stint)};
     }
 
     /* The same with bundles only. */
     template <class Bundles>
     static Code open(Bundles &bundles, std::uint64_t width, std::uint64_t size, std::uint64_t stint) noexcept {
-        fak_c_seat none{};
+        fak_c_seat no_seats{};
         return open_all(bundles, [&](fak_c_seat *first, std::size_t m) {
-            return fak_c_open_bundles(&none, 0, first, m, width, size, stint);
+            return fak_c_open_bundles(&no_seats, 0, first, m, width, size, stint);
         });
     }
 

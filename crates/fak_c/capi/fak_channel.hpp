@@ -2,8 +2,8 @@
  * threads copy. Compile fak_channel.c with the program, or link libfak_channel.a. Nothing here throws.
  *
  * An item is any trivially copyable type of at most 32 bytes, or a std::unique_ptr, which the channel owns until it is received. What is
- * left in a channel when its last handle goes is deleted. A refused item stays with the caller. Send a larger object, or one that owns
- * something, as a std::unique_ptr.
+ * left in a channel when its last handle goes is deleted, unless this is an end that has used up its stint. A refused item stays with the
+ * caller. Send a larger object, or one that owns something, as a std::unique_ptr.
  *
  * A handle is movable and owns its end. Each call is that of fak_channel.h, whose comment says which codes it returns. */
 #ifndef FAK_CHANNEL_HPP
@@ -36,7 +36,7 @@ template <class T> struct Cargo {
 
     static fak_channel_item pack(const T &item) noexcept {
         fak_channel_item packed{};
-        std::memcpy(&packed, &item, sizeof item);
+        copy_to(&packed, item);
         return packed;
     }
     static void sent(const T &) noexcept {}
@@ -75,10 +75,12 @@ template <class Duration> Clock::time_point time_after(Duration duration) noexce
 
 /* Sends by this call. */
 template <class T, class Call> Code send_by(T &item, Call call) noexcept {
+    static_assert(!std::is_const_v<T> || std::is_copy_constructible_v<T>, "an item that cannot be copied is moved: send(std::move(item))");
     fak_channel_item packed = Cargo<std::remove_const_t<T>>::pack(item);
     Code code{call(&packed)};
-    if (code == Code::Ok)
-        Cargo<std::remove_const_t<T>>::sent(item);
+    if constexpr (!std::is_const_v<T>)
+        if (code == Code::Ok)
+            Cargo<T>::sent(item);
     return code;
 }
 
@@ -88,16 +90,31 @@ template <class T, class Call> Answer<T> receive_by(Call call) noexcept {
     return {code, code == Code::Ok ? Cargo<T>::unpack(packed) : T{}};
 }
 
-/* The calls that send, of a class `Self` that has `send_packed` and `try_send_packed`, which return a code of C. Only with Ok the item is
- * moved from. */
+/* The calls of a class that has `send_packed`, `receive_packed` and the two tries, which return a code of C. */
+struct Calls {
+    template <class Self, class T> static Code send(Self &self, T &item, std::uint64_t deadline) noexcept {
+        return send_by(item, [&self, deadline](const fak_channel_item *packed) { return self.send_packed(packed, deadline); });
+    }
+    template <class Self, class T> static Code try_send(Self &self, T &item) noexcept {
+        return send_by(item, [&self](const fak_channel_item *packed) { return self.try_send_packed(packed); });
+    }
+    template <class T, class Self> static Answer<T> receive(Self &self, std::uint64_t deadline) noexcept {
+        return receive_by<T>([&self, deadline](fak_channel_item *packed) { return self.receive_packed(packed, deadline); });
+    }
+    template <class T, class Self> static Answer<T> try_receive(Self &self) noexcept {
+        return receive_by<T>([&self](fak_channel_item *packed) { return self.try_receive_packed(packed); });
+    }
+};
+
+/* The calls that send, of a class `Self`. Only with Ok the item is moved from. */
 template <class Self, class T> class Sends {
 public:
-    Code send(T &&item) noexcept { return sends(item, FAK_CHANNEL_NEVER); }
-    Code send(const T &item) noexcept { return sends(item, FAK_CHANNEL_NEVER); }
-    Code try_send(T &&item) noexcept { return tries(item); }
-    Code try_send(const T &item) noexcept { return tries(item); }
-    Code send_until(T &&item, Clock::time_point time) noexcept { return sends(item, nanoseconds_of(time)); }
-    Code send_until(const T &item, Clock::time_point time) noexcept { return sends(item, nanoseconds_of(time)); }
+    Code send(T &&item) noexcept { return Calls::send(self(), item, FAK_CHANNEL_NEVER); }
+    Code send(const T &item) noexcept { return Calls::send(self(), item, FAK_CHANNEL_NEVER); }
+    Code try_send(T &&item) noexcept { return Calls::try_send(self(), item); }
+    Code try_send(const T &item) noexcept { return Calls::try_send(self(), item); }
+    Code send_until(T &&item, Clock::time_point time) noexcept { return Calls::send(self(), item, nanoseconds_of(time)); }
+    Code send_until(const T &item, Clock::time_point time) noexcept { return Calls::send(self(), item, nanoseconds_of(time)); }
     template <class Duration> Code send_for(T &&item, Duration duration) noexcept {
         return send_until(std::move(item), time_after(duration));
     }
@@ -107,32 +124,49 @@ public:
 
 private:
     Self &self() noexcept { return static_cast<Self &>(*this); }
-
-    template <class Item> Code sends(Item &item, std::uint64_t deadline) noexcept {
-        return send_by(item, [this, deadline](const fak_channel_item *packed) { return self().send_packed(packed, deadline); });
-    }
-    template <class Item> Code tries(Item &item) noexcept {
-        return send_by(item, [this](const fak_channel_item *packed) { return self().try_send_packed(packed); });
-    }
 };
 
-/* The calls that receive, of a class `Self` that has `receive_packed` and `try_receive_packed`. The item is that of T{} if the code is not
- * Ok. */
+/* The same of a class whose calls leave it as it is: any number of threads call a constant one at once. */
+template <class Self, class T> class Sends<const Self, T> {
+public:
+    Code send(T &&item) const noexcept { return Calls::send(self(), item, FAK_CHANNEL_NEVER); }
+    Code send(const T &item) const noexcept { return Calls::send(self(), item, FAK_CHANNEL_NEVER); }
+    Code try_send(T &&item) const noexcept { return Calls::try_send(self(), item); }
+    Code try_send(const T &item) const noexcept { return Calls::try_send(self(), item); }
+    Code send_until(T &&item, Clock::time_point time) const noexcept { return Calls::send(self(), item, nanoseconds_of(time)); }
+    Code send_until(const T &item, Clock::time_point time) const noexcept { return Calls::send(self(), item, nanoseconds_of(time)); }
+    template <class Duration> Code send_for(T &&item, Duration duration) const noexcept {
+        return send_until(std::move(item), time_after(duration));
+    }
+    template <class Duration> Code send_for(const T &item, Duration duration) const noexcept {
+        return send_until(item, time_after(duration));
+    }
+
+private:
+    const Self &self() const noexcept { return static_cast<const Self &>(*this); }
+};
+
+/* The calls that receive, likewise. The item is that of T{} if the code is not Ok. */
 template <class Self, class T> class Receives {
 public:
-    Answer<T> receive() noexcept { return receives(FAK_CHANNEL_NEVER); }
-    Answer<T> try_receive() noexcept {
-        return receive_by<T>([this](fak_channel_item *packed) { return self().try_receive_packed(packed); });
-    }
-    Answer<T> receive_until(Clock::time_point time) noexcept { return receives(nanoseconds_of(time)); }
+    Answer<T> receive() noexcept { return Calls::receive<T>(self(), FAK_CHANNEL_NEVER); }
+    Answer<T> try_receive() noexcept { return Calls::try_receive<T>(self()); }
+    Answer<T> receive_until(Clock::time_point time) noexcept { return Calls::receive<T>(self(), nanoseconds_of(time)); }
     template <class Duration> Answer<T> receive_for(Duration duration) noexcept { return receive_until(time_after(duration)); }
 
 private:
     Self &self() noexcept { return static_cast<Self &>(*this); }
+};
 
-    Answer<T> receives(std::uint64_t deadline) noexcept {
-        return receive_by<T>([this, deadline](fak_channel_item *packed) { return self().receive_packed(packed, deadline); });
-    }
+template <class Self, class T> class Receives<const Self, T> {
+public:
+    Answer<T> receive() const noexcept { return Calls::receive<T>(self(), FAK_CHANNEL_NEVER); }
+    Answer<T> try_receive() const noexcept { return Calls::try_receive<T>(self()); }
+    Answer<T> receive_until(Clock::time_point time) const noexcept { return Calls::receive<T>(self(), nanoseconds_of(time)); }
+    template <class Duration> Answer<T> receive_for(Duration duration) const noexcept { return receive_until(time_after(duration)); }
+
+private:
+    const Self &self() const noexcept { return static_cast<const Self &>(*this); }
 };
 
 } // namespace details
@@ -158,8 +192,10 @@ public:
     /* Opens a channel of `size` cells with an end for each element of an array, a std::array or a std::vector, all empty before. */
     template <class Ends> static Code open(Ends &ends, std::uint64_t size, std::uint64_t stint) noexcept {
         static_assert(sizeof(ChannelEnd) == sizeof(fak_channel_end) && std::is_standard_layout_v<ChannelEnd>);
+        fak_channel_end none{};
         ChannelEnd *first = std::data(ends);
-        return Code{fak_channel_open_ends(reinterpret_cast<fak_channel_end *>(first), std::size(ends), size, stint)};
+        auto *all = std::size(ends) != 0 ? reinterpret_cast<fak_channel_end *>(first) : &none;
+        return Code{fak_channel_open_ends(all, std::size(ends), size, stint)};
     }
 
     Code close() noexcept { return Code{fak_channel_close(&end)}; }
@@ -176,7 +212,7 @@ public:
         return {code, is_closed};
     }
 
-    /* Gives up the end. The last one deletes what is left. */
+    /* Gives up the end, and does not close. The last one deletes what is left, as long as its stint lasts. */
     Code leave() noexcept { return Code{fak_channel_leave_with(&end, details::drop<T>, nullptr)}; }
 
     /* Whether it owns a seat. */
@@ -186,8 +222,7 @@ public:
     fak_channel_end *get_end() noexcept { return &end; }
 
 private:
-    friend class details::Sends<ChannelEnd, T>;
-    friend class details::Receives<ChannelEnd, T>;
+    friend struct details::Calls;
 
     std::int32_t send_packed(const fak_channel_item *packed, std::uint64_t deadline) noexcept {
         return fak_channel_send_until(&end, packed, deadline);
@@ -260,10 +295,8 @@ public:
     explicit operator bool() const noexcept { return shared != nullptr; }
 
 protected:
-    explicit Party(Shared<T> *shared) noexcept : shared(shared) {}
-
-    /* Calls this of the channel. */
-    template <class Call, class... Words> std::int32_t call(Call call, Words... words) noexcept {
+    /* Makes this call of the channel. */
+    template <class Call, class... Words> std::int32_t make(Call call, Words... words) const noexcept {
         return shared != nullptr ? call(&shared->channel, words...) : static_cast<std::int32_t>(FAK_C_NO_SEAT);
     }
 
@@ -274,37 +307,40 @@ protected:
 
 template <class T> struct Channel;
 
-/* Sends to a channel. Copy it for each thread: when the last sender goes, the channel is closed. */
+/* Sends to a channel. Copy it for each thread: when the last sender goes, the channel is closed. Any number of threads may call one sender
+ * at once, as long as none assigns to it. */
 template <class T>
-class Sender : public details::Party<T, &details::Shared<T>::senders>, public details::Sends<Sender<T>, T> {
+class Sender : public details::Party<T, &details::Shared<T>::senders>, public details::Sends<const Sender<T>, T> {
 public:
     Sender() noexcept = default;
 
 private:
     friend struct Channel<T>;
-    friend class details::Sends<Sender, T>;
+    friend struct details::Calls;
 
-    std::int32_t send_packed(const fak_channel_item *packed, std::uint64_t deadline) noexcept {
-        return this->call(fak_channel_shared_send_until, packed, deadline);
+    std::int32_t send_packed(const fak_channel_item *packed, std::uint64_t deadline) const noexcept {
+        return this->make(fak_channel_shared_send_until, packed, deadline);
     }
-    std::int32_t try_send_packed(const fak_channel_item *packed) noexcept { return this->call(fak_channel_shared_try_send, packed); }
+    std::int32_t try_send_packed(const fak_channel_item *packed) const noexcept {
+        return this->make(fak_channel_shared_try_send, packed);
+    }
 };
 
-/* Receives from a channel. Copy it for each thread: when the last receiver goes, the channel is closed. */
+/* Receives from a channel. Copy it for each thread: when the last receiver goes, the channel is closed. Calls at once as of a sender. */
 template <class T>
-class Receiver : public details::Party<T, &details::Shared<T>::receivers>, public details::Receives<Receiver<T>, T> {
+class Receiver : public details::Party<T, &details::Shared<T>::receivers>, public details::Receives<const Receiver<T>, T> {
 public:
     Receiver() noexcept = default;
 
 private:
     friend struct Channel<T>;
-    friend class details::Receives<Receiver, T>;
+    friend struct details::Calls;
 
-    std::int32_t receive_packed(fak_channel_item *packed, std::uint64_t deadline) noexcept {
-        return this->call(fak_channel_shared_receive_until, packed, deadline);
+    std::int32_t receive_packed(fak_channel_item *packed, std::uint64_t deadline) const noexcept {
+        return this->make(fak_channel_shared_receive_until, packed, deadline);
     }
-    std::int32_t try_receive_packed(fak_channel_item *packed) noexcept {
-        return this->call(fak_channel_shared_try_receive, packed);
+    std::int32_t try_receive_packed(fak_channel_item *packed) const noexcept {
+        return this->make(fak_channel_shared_try_receive, packed);
     }
 };
 

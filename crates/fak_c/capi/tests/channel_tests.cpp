@@ -5,6 +5,8 @@
 #include <array>
 #include <cstdio>
 #include <cstdlib>
+#include <cstring>
+#include <new>
 #include <thread>
 #include <vector>
 
@@ -16,7 +18,7 @@ using fak::Code;
 struct Counted {
     static inline std::atomic<long> live{0};
     int sender, number;
-    Counted(int sender, int number) : sender(sender), number(number) { live++; }
+    Counted(int of, int which) : sender(of), number(which) { live++; }
     Counted(const Counted &) = delete;
     ~Counted() { live--; }
 };
@@ -66,7 +68,49 @@ static void arrays_pass() {
     CHECK(ends[1].send(std::make_unique<int[]>(1000)) == Code::Ok);
 }
 
+/* An item with bytes between its members. */
+struct Padded {
+    char letter;
+    std::int64_t number;
+};
+
+/* What an item becomes if these bits lay before where it was made. */
+[[maybe_unused]] static fak_channel_item words_over(unsigned char bits) {
+    alignas(Padded) unsigned char bytes[sizeof(Padded)];
+    std::memset(bytes, bits, sizeof bytes);
+    Padded *item = new (bytes) Padded;
+    fak::ChannelEnd<Padded> ends[1];
+    fak_channel_item words{};
+    item->letter = 'x';
+    item->number = -1;
+    CHECK(fak::ChannelEnd<Padded>::open(ends, 4, 9) == Code::Ok && ends[0].send(*item) == Code::Ok);
+    CHECK(fak_channel_receive(ends[0].get_end(), &words) == FAK_C_OK);
+    return words;
+}
+
+/* No byte is sent that the program has not written. */
+static void bytes_between_members_are_0() {
+#ifdef FAK_C_CLEARS_PADDING
+    for (int bits : {0, 0xA5, 0xFF}) {
+        fak_channel_item words = words_over(static_cast<unsigned char>(bits));
+        CHECK(words.word[0] == 'x' && words.word[1] == UINT64_MAX && words.word[2] == 0 && words.word[3] == 0);
+    }
+#endif
+    passes<Padded>({'y', 7}, [](const Padded &item) { return item.letter == 'y' && item.number == 7; });
+}
+
 /* ---- Handles ---- */
+
+/* Whether a class can send an int. */
+template <class Self, class = void> struct CanSend : std::false_type {};
+template <class Self> struct CanSend<Self, std::void_t<decltype(std::declval<Self &>().send(1))>> : std::true_type {};
+template <class Self, class = void> struct CanReceive : std::false_type {};
+template <class Self> struct CanReceive<Self, std::void_t<decltype(std::declval<Self &>().receive())>> : std::true_type {};
+
+/* Any number of threads call a sender, or a receiver, at once. One thread at a time calls an end. */
+static_assert(CanSend<const fak::Sender<int>>::value && CanReceive<const fak::Receiver<int>>::value);
+static_assert(CanSend<fak::ChannelEnd<int>>::value && !CanSend<const fak::ChannelEnd<int>>::value);
+static_assert(CanReceive<fak::ChannelEnd<int>>::value && !CanReceive<const fak::ChannelEnd<int>>::value);
 
 static void ends_own_their_items() {
     {
@@ -97,7 +141,8 @@ static void ends_own_their_items() {
 }
 
 static void ends_wait_until_a_time() {
-    std::vector<fak::ChannelEnd<int>> ends(1);
+    std::vector<fak::ChannelEnd<int>> ends(1), none;
+    CHECK(fak::ChannelEnd<int>::open(none, 1, 100) == Code::BadLimit);
     auto time = fak::Clock::now() + std::chrono::milliseconds(20);
     CHECK(fak::ChannelEnd<int>::open(ends, 1, 100) == Code::Ok && ends[0].try_receive().code == Code::Empty);
     CHECK(ends[0].receive_until(time).code == Code::GaveUp && fak::Clock::now() >= time);
@@ -163,11 +208,11 @@ static void threads_share_a_channel(int items) {
         of_sender = std::vector<std::atomic<int>>(static_cast<std::size_t>(items));
     CHECK(made);
     for (int number = 0; number < threads; number++) {
-        running.emplace_back([=, sender = made.value.sender]() mutable {
+        running.emplace_back([=, sender = made.value.sender] {
             for (int item = 0; item < items; item++)
                 CHECK(sender.send(std::make_unique<Counted>(number, item)) == Code::Ok);
         });
-        running.emplace_back([&taken, receiver = made.value.receiver]() mutable {
+        running.emplace_back([&taken, receiver = made.value.receiver] {
             while (auto got = receiver.receive())
                 CHECK(taken[static_cast<std::size_t>(got.value->sender)][static_cast<std::size_t>(got.value->number)]++ == 0);
             CHECK(receiver.receive().code == Code::Closed);
@@ -180,6 +225,27 @@ static void threads_share_a_channel(int items) {
         for (auto &count : of_sender)
             CHECK(count == 1);
     CHECK(Counted::live == 0 && made.value.receiver.len().value == 0);
+}
+
+/* Threads call one sender at once, and one receiver. */
+static void threads_share_handles(int items) {
+    constexpr int threads = 3;
+    const auto made = fak::Channel<int>::open(3, 2, 2);
+    std::atomic<long> sum{0};
+    std::vector<std::thread> running;
+    for (int number = 0; number < threads; number++) {
+        running.emplace_back([&] {
+            for (int item = 1; item <= items; item++)
+                CHECK(made.value.sender.send(item) == Code::Ok);
+        });
+        running.emplace_back([&] {
+            for (int item = 1; item <= items; item++)
+                sum += made.value.receiver.receive().value;
+        });
+    }
+    for (auto &thread : running)
+        thread.join();
+    CHECK(sum == static_cast<long>(threads) * items * (items + 1) / 2 && made.value.receiver.try_receive().code == Code::Empty);
 }
 
 /* Two threads with an end each. */
@@ -200,11 +266,13 @@ static void ends_pass_items_between_threads(int items) {
 int main(int count, char **words) {
     int items = count > 1 ? std::atoi(words[1]) : 20000;
     items_have_types();
+    bytes_between_members_are_0();
     arrays_pass();
     ends_own_their_items();
     ends_wait_until_a_time();
     parties_own_the_channel();
     threads_share_a_channel(items);
+    threads_share_handles(items);
     ends_pass_items_between_threads(items);
     CHECK(Counted::live == 0);
     return 0;

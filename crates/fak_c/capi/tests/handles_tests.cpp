@@ -1,5 +1,5 @@
 /* Tests of fak_c.hpp: each call of each kind of handle, handles that move and end, and typed items that threads share. The heap
- * counts, so that an object which is not given up is found. */
+ * counts, so that an object which is not given up is found. The linker's --wrap sends two calls that open here. */
 #include "check.h"
 #include "fak_c.hpp"
 #include "heap.h"
@@ -8,6 +8,8 @@
 #include <atomic>
 #include <cstdio>
 #include <cstdlib>
+#include <cstring>
+#include <new>
 #include <string_view>
 #include <thread>
 #include <utility>
@@ -31,6 +33,26 @@ extern "C" allocation rattle_realloc(void *, std::size_t, std::size_t, std::size
 extern "C" void rattle_dealloc(void *part) {
     live--;
     std::free(part);
+}
+
+/* ---- Calls of C that open ---- */
+
+extern "C" {
+std::int32_t __real_fak_c_open(fak_c_seat *seats, std::size_t n, std::uint64_t size, std::uint64_t stint);
+std::int32_t __real_fak_c_open_bundles(fak_c_seat *seats, std::size_t n, fak_c_seat *bundles, std::size_t m, std::uint64_t width,
+    std::uint64_t size, std::uint64_t stint);
+
+/* No pointer is null, also if it is to nothing. */
+std::int32_t __wrap_fak_c_open(fak_c_seat *seats, std::size_t n, std::uint64_t size, std::uint64_t stint) {
+    CHECK(seats != nullptr);
+    return __real_fak_c_open(seats, n, size, stint);
+}
+
+std::int32_t __wrap_fak_c_open_bundles(fak_c_seat *seats, std::size_t n, fak_c_seat *bundles, std::size_t m, std::uint64_t width,
+    std::uint64_t size, std::uint64_t stint) {
+    CHECK(seats != nullptr && bundles != nullptr && seats != bundles);
+    return __real_fak_c_open_bundles(seats, n, bundles, m, width, size, stint);
+}
 }
 
 /* ---- Items ---- */
@@ -64,7 +86,43 @@ static void items_have_types() {
     passes<void (*)()>(items_have_types, [](void (*item)()) { return item == items_have_types; });
 }
 
+/* An item with bytes between its members. */
+struct Padded {
+    char letter;
+    std::int32_t number;
+};
+
+/* The word that an item becomes if these bits lay before where it was made. */
+[[maybe_unused]] static std::uint64_t word_over(unsigned char bits) {
+    alignas(Padded) unsigned char bytes[sizeof(Padded)];
+    std::memset(bytes, bits, sizeof bytes);
+    Padded *item = new (bytes) Padded;
+    fak::QueueSeat<Padded> seats[1];
+    std::uint64_t word = 0, ticket = 0;
+    item->letter = 'x';
+    item->number = -1;
+    CHECK(fak::QueueSeat<Padded>::open(seats, 4, 9) == Code::Ok && seats[0].put(*item));
+    CHECK(fak_c_delete(seats[0].get_handle(), &ticket, &word) == FAK_C_OK);
+    return word;
+}
+
+/* No byte is sent that the program has not written. */
+static void bytes_between_members_are_0() {
+#ifdef FAK_C_CLEARS_PADDING
+    CHECK(word_over(0) == word_over(0xA5) && word_over(0xFF) == (UINT64_C(0xFFFFFFFF) << 32 | 'x'));
+#endif
+    passes<Padded>({'y', 7}, [](Padded item) { return item.letter == 'y' && item.number == 7; });
+}
+
 /* ---- Handles ---- */
+
+static void no_handles_are_opened() {
+    std::vector<Queue> none;
+    std::vector<fak::Bundle<int>> no_bundles, bundles(1);
+    CHECK(Queue::open(none, 4, 9) == Code::BadLimit && fak::Bundle<int>::open(no_bundles, 2, 4, 9) == Code::BadLimit);
+    CHECK(fak::Bundle<int>::open(none, no_bundles, 2, 4, 9) == Code::BadLimit);
+    CHECK(fak::Bundle<int>::open(none, bundles, 2, 4, 9) == Code::Ok && bundles[0]);
+}
 
 static void handles_own_their_seats() {
     std::array<Queue, 3> seats;
@@ -327,6 +385,8 @@ static void threads_pass_bursts(int items) {
 
 int main(int count, char **words) {
     items_have_types();
+    bytes_between_members_are_0();
+    no_handles_are_opened();
     handles_own_their_seats();
     a_vector_of_seats_is_opened();
     a_seat_moves_in_mid_call();
