@@ -39,6 +39,15 @@ static int32_t go_on(fak_channel_end *end, fak_channel_item *item, uint64_t dead
     }
 }
 
+/* Tells ThreadSanitizer that this call writes to the end, so that it reports two calls at once, of which it sees nothing else. */
+static void mark_call(fak_channel_end *end) {
+#ifdef FAK_C_THREAD_SANITIZER
+    end->after[0]++;
+#else
+    (void)end;
+#endif
+}
+
 /* Goes on with a send that was begun with this code. */
 static int32_t end_send(fak_channel_end *end, fak_channel_item *item, uint64_t deadline, int32_t begun) {
     if (begun == FAK_C_OK) {
@@ -65,10 +74,12 @@ static int32_t end_receive(fak_channel_end *end, fak_channel_item *item, uint64_
 
 int32_t fak_channel_send_until(fak_channel_end *end, const fak_channel_item *item, uint64_t deadline) {
     fak_channel_item sent = *item;
+    mark_call(end);
     return end_send(end, &sent, deadline, fak_channel_begin_send(&end->seat, &sent));
 }
 
 int32_t fak_channel_receive_until(fak_channel_end *end, fak_channel_item *item, uint64_t deadline) {
+    mark_call(end);
     return end_receive(end, item, deadline, fak_channel_begin_receive(&end->seat));
 }
 
@@ -82,22 +93,31 @@ int32_t fak_channel_receive(fak_channel_end *end, fak_channel_item *item) {
 
 int32_t fak_channel_try_send(fak_channel_end *end, const fak_channel_item *item) {
     fak_channel_item sent = *item;
-    int32_t code = end_send(end, &sent, NO_TIME, fak_channel_begin_try_send(&end->seat, &sent));
+    int32_t code;
+    mark_call(end);
+    code = end_send(end, &sent, NO_TIME, fak_channel_begin_try_send(&end->seat, &sent));
     return code == FAK_C_GAVE_UP ? FAK_C_FULL : code;
 }
 
 int32_t fak_channel_try_receive(fak_channel_end *end, fak_channel_item *item) {
-    int32_t code = end_receive(end, item, NO_TIME, fak_channel_begin_try_receive(&end->seat));
+    int32_t code;
+    mark_call(end);
+    code = end_receive(end, item, NO_TIME, fak_channel_begin_try_receive(&end->seat));
     return code == FAK_C_GAVE_UP ? FAK_C_EMPTY : code;
 }
 
 int32_t fak_channel_close(fak_channel_end *end) {
     fak_channel_item unused = {{0, 0, 0, 0}};
-    int32_t code = fak_channel_begin_close(&end->seat);
+    int32_t code;
+    mark_call(end);
+    code = fak_channel_begin_close(&end->seat);
     if (code != FAK_C_OK)
         return code;
     FAK_C_GIVES(end->waiting);
-    return go_on(end, &unused, FAK_CHANNEL_NEVER);
+    code = go_on(end, &unused, FAK_CHANNEL_NEVER);
+    if (code == FAK_C_CLOSED)
+        FAK_C_GETS(end->waiting);
+    return code;
 }
 
 /* The code of a call that needs an idle end, and the end's number. */
@@ -122,36 +142,57 @@ int32_t fak_channel_end_of(fak_c_seat *seat, fak_channel_waiting *waiting, fak_c
     return FAK_C_OK;
 }
 
+/* Makes the end all zeros, whose seat has gone. */
+static void empty(fak_channel_end *end) {
+    end->waiting = NULL;
+    end->number = 0;
+    end->after[0] = 0;
+}
+
 int32_t fak_channel_move(fak_channel_end *end, fak_channel_end *to) {
-    int32_t code = fak_c_move(&end->seat, &to->seat);
+    int32_t code;
+    mark_call(end);
+    mark_call(to);
+    code = fak_c_move(&end->seat, &to->seat);
     if (code != FAK_C_OK)
         return code;
     to->waiting = end->waiting;
     to->number = end->number;
-    end->waiting = NULL;
-    end->number = 0;
+    empty(end);
     return FAK_C_OK;
 }
 
 /* Frees what fak_channel_open_ends has made for a channel. */
 static void free_waiting(fak_channel_waiting *waiting);
 
+/* The code of a leave of this end, with `drop` or without. */
+static int32_t may_leave(fak_channel_end *end, bool drops) {
+    uint64_t number = 0;
+    int32_t code = number_of_idle(&end->seat, &number);
+    return code == FAK_C_OK && drops && end->waiting->seats == 0 ? FAK_C_BAD_LIMIT : code;
+}
+
 int32_t fak_channel_leave_with(fak_channel_end *end, void (*drop)(void *context, const fak_channel_item *item), void *context) {
     fak_channel_waiting *waiting = end->waiting;
     fak_channel_item item = {{0, 0, 0, 0}};
-    uint64_t number = 0;
+    uint64_t seats;
     bool is_last;
-    int32_t code = number_of_idle(&end->seat, &number);
+    int32_t code;
+    mark_call(end);
+    code = may_leave(end, drop != NULL);
     if (code != FAK_C_OK)
         return code;
-    /* It must come before the seat is given up: the last end drops the items while it still has its seat. Acquire and release, since the
-     * last end frees what the others have used. */
-    is_last = __atomic_sub_fetch(&waiting->ends, 1, __ATOMIC_ACQ_REL) == 0;
+    /* Both must come before the next step: the last end may free the waiting after that. */
+    seats = waiting->seats;
+    __atomic_fetch_sub(&waiting->ends, 1, __ATOMIC_RELAXED);
+    /* A seat that is no end yet, or never becomes one, is not counted: its caller may still receive. This must come before the seat is
+     * given up: the last end drops the items while it still has its seat. Acquire and release, since the last end frees what the others
+     * have used. */
+    is_last = __atomic_add_fetch(&waiting->gone, 1, __ATOMIC_ACQ_REL) == seats;
     while (is_last && drop != NULL && fak_channel_try_receive(end, &item) == FAK_C_OK)
         drop(context, &item);
     code = fak_c_leave(&end->seat);
-    end->waiting = NULL;
-    end->number = 0;
+    empty(end);
     if (is_last)
         free_waiting(waiting);
     return code;
@@ -376,22 +417,21 @@ static bool is_at_rest(fak_channel_lender *lender) {
 }
 
 /* The code of a leave of all n ends, each of which could refuse its own: all leave, or none. */
-static int32_t may_leave(fak_channel_shared *shared, size_t n) {
-    uint64_t number = 0;
+static int32_t may_all_leave(fak_channel_shared *shared, size_t n, bool drops) {
     int32_t code = FAK_C_OK;
     if (shared->ends == NULL)
         return FAK_C_NO_SEAT;
     if (!is_at_rest(&shared->senders) || !is_at_rest(&shared->receivers))
         return FAK_C_WRONG_STATE;
     for (size_t i = 0; i < n && code == FAK_C_OK; i++)
-        code = number_of_idle(&shared->ends[i].seat, &number);
+        code = may_leave(&shared->ends[i], drops);
     return code;
 }
 
 int32_t fak_channel_shared_leave_with(
     fak_channel_shared *shared, void (*drop)(void *context, const fak_channel_item *item), void *context) {
     size_t n = FAK_CHANNEL_SHARED_ENDS(shared->senders.count, shared->receivers.count);
-    int32_t code = may_leave(shared, n);
+    int32_t code = may_all_leave(shared, n, drop != NULL);
     /* The first two ends have called least, so one of them drops what is left. */
     for (size_t i = n; i-- > 0 && code == FAK_C_OK;)
         code = fak_channel_leave_with(&shared->ends[i], drop, context);
@@ -416,13 +456,15 @@ int32_t fak_channel_shared_leave(fak_channel_shared *shared) {
 
 /* The token of an end: 1 if it is set. It has a cache line of its own. */
 struct token {
-    _Alignas(64) uint32_t is_set;
+    uint32_t is_set;
+    uint32_t unused[15];
 };
 
-/* What the ends of a channel share. */
+/* What the ends of a channel share, on a cache line of its own, too. */
 struct channel {
     fak_channel_waiting waiting;
-    _Alignas(64) struct token tokens[];
+    uint64_t unused;
+    struct token tokens[];
 };
 
 static uint64_t now(void) {
@@ -488,7 +530,7 @@ static struct channel *make_channel(size_t n) {
     struct channel *channel = aligned_alloc(64, bytes);
     if (channel == NULL)
         return NULL;
-    channel->waiting = (fak_channel_waiting){park, unpark, pause_or_yield, channel, 0};
+    channel->waiting = (fak_channel_waiting){park, unpark, pause_or_yield, channel, 0, n, 0};
     for (size_t i = 0; i < n; i++)
         channel->tokens[i].is_set = 0;
     return channel;

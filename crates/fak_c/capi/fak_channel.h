@@ -11,10 +11,14 @@
  *
  * What C owes, besides what fak_c.h says:
  * - An end starts as {0} (in C++ as {}), is never copied, and is written only by these calls. fak_channel_move moves it.
- * - One call at a time on an end. Any number of threads call a shared channel at once.
+ * - One call at a time on an end. Any number of threads call a shared channel at once. Compiled under ThreadSanitizer, fak_channel.c tells
+ *   it of each call of an end, so that it reports two calls that nothing orders.
  * - No signal handler calls an end or a shared channel. A handler may call by steps on an end of its own, as fak_c.h says. A handler
  *   may interrupt a call: the call goes on, and a signal doesn't end its sleep. No call is a cancellation point.
  * - A thread that is killed in a call holds up calls of others. The forked child of a process with threads must not call any of these.
+ * - Calls wait for steps of others in a few places, and spin and yield there. Under SCHED_FIFO or SCHED_RR a yield runs no thread of a
+ *   lower priority. So a thread that has preempted such a thread during its call, and leaves it no processor, spins forever. Give all
+ *   threads that call one channel the same priority.
  *
  * Order. What a thread wrote before it sent an item is there for the thread that receives it. What it wrote before it closed the
  * channel is there after a call that returns FAK_C_CLOSED. fak_channel.c tells ThreadSanitizer so, for sends, receives and closes: as if
@@ -23,7 +27,7 @@
  * Never sleep on a refusal of a try by means of your own (fak_c.h): the calls below that sleep do it right.
  *
  * What the calls use. Stack: below 512 bytes in a step; below 8,192 in fak_channel_open. The calls of ends and of a shared channel add
- * some 400 bytes. Heap: what "Sizes" below says; only calls that open allocate. Processor time: a sleeping thread uses none.
+ * below 512 bytes. Heap: what "Sizes" below says; only calls that open allocate. Processor time: a sleeping thread uses none.
  *
  * To open a channel of 64 cells with 64 ends, and to leave it with all, took about 100 microseconds on memory that nobody had touched, and
  * 15 on memory from before; with 1,024 of each, 1,300 and 250. The processors were busy. So open a channel once, and not for each job. */
@@ -61,7 +65,7 @@ static inline void *fak_channel_pointer_of(const fak_channel_item *item) {
 /* ---- Sizes ----
  *
  * The bytes that a channel with n ends and `size` cells keeps of the heap, and those of a block (block.h) that it opens in. Ends that
- * sleep on futexes keep 64 bytes each besides. */
+ * sleep on futexes keep 64 bytes each besides, and 64 together. */
 #define FAK_CHANNEL_KEEPS(n, size) (3264 + 1200 * (size_t)(n) + 48 * (size_t)(size))
 #define FAK_CHANNEL_BYTES(n, size) (6272 + 2176 * (size_t)(n) + 96 * (size_t)(size))
 
@@ -78,6 +82,9 @@ static inline void *fak_channel_pointer_of(const fak_channel_item *item) {
  * of 0. Only the thread that uses an end parks at its number. But at the numbers of the first two ends of a shared channel any number of
  * threads may park; then an `unpark` has to wake one of them at least.
  *
+ * An `unpark` may come for an end that has left: a call of another end was about to wake it when its deadline passed. So keep the waiting,
+ * and what `unpark` uses for each number, until all ends of the channel have left. A thread that has left may have ended.
+ *
  * `pause` waits a moment for a step of another thread. `rounds` is how many pauses came just before: spin at first, and soon yield, so that
  * a thread that doesn't run gets the processor. A null pointer spins. */
 typedef struct fak_channel_waiting {
@@ -85,12 +92,15 @@ typedef struct fak_channel_waiting {
     void (*unpark)(void *context, uint64_t number);
     void (*pause)(void *context, uint64_t rounds);
     void *context;
-    uint64_t ends; /* how many ends wait so; written only by these calls */
+    uint64_t ends;  /* how many ends wait so; written only by these calls */
+    uint64_t seats; /* how many seats the channel was opened with. 0 if no end drops what is left (fak_channel_leave_with) */
+    uint64_t gone;  /* how many of these have left as ends; written only by these calls */
 } fak_channel_waiting;
 
 #define FAK_CHANNEL_NEVER UINT64_MAX
 
-/* An end of a channel, or nothing, if it is all zeros. The seat is for fak_channel_len, fak_channel_is_closed and fak_channel_state. */
+/* An end of a channel, or nothing, if it is all zeros. The seat is for fak_channel_len, fak_channel_is_closed and fak_channel_state, and for
+ * calls by steps. */
 typedef struct fak_channel_end {
     fak_c_seat seat;
     fak_channel_waiting *waiting;
@@ -106,7 +116,8 @@ typedef struct fak_channel_end {
  * FAK_C_OK; FAK_C_BAD_LIMIT or FAK_C_MEMORY, and the ends are empty; FAK_C_WRONG_STATE if an end has a seat. */
 int32_t fak_channel_open_ends(fak_channel_end *ends, size_t n, uint64_t size, uint64_t stint);
 
-/* Moves a seat of fak_channel_open to an empty end, whose thread waits by `waiting`. The end uses `waiting` until it leaves.
+/* Moves a seat of fak_channel_open to an empty end, whose thread waits by `waiting`. All ends of a channel have the same, and use it until
+ * the last of them has left.
  *
  * FAK_C_OK; FAK_C_NO_SEAT if the seat is not one of a channel; FAK_C_WRONG_STATE if the end has a seat, or the seat has an open call. */
 int32_t fak_channel_end_of(fak_c_seat *seat, fak_channel_waiting *waiting, fak_channel_end *end);
@@ -140,11 +151,18 @@ uint64_t fak_channel_deadline(uint64_t nanoseconds);
  * FAK_C_OK; FAK_C_CLOSED if it was closed before; FAK_C_WORN; FAK_C_NO_SEAT or FAK_C_WRONG_STATE. */
 int32_t fak_channel_close(fak_channel_end *end);
 
-/* Gives up the end, which is empty then. The last end to leave frees the channel, with the items that are still in it. If items own
- * something, let `drop` free it: the last end passes it each item that is left, oldest first. A null pointer drops nothing. If the stint
- * of the last end runs out meanwhile, the remaining items are not passed.
+/* Gives up the end, which is empty then. The last seat to leave frees the channel, with the items that are still in it. If items own
+ * something, let `drop` free it: the last seat passes it each item that is left, oldest first. A null pointer drops nothing. If the stint
+ * of the last seat runs out meanwhile, the remaining items are not passed.
  *
- * FAK_C_OK; FAK_C_NO_SEAT, or FAK_C_WRONG_STATE if a call by steps is open. */
+ * Only seats that leave as ends are counted, and the last one has to be an end that leaves with `drop`. So a seat that is called by steps
+ * becomes an end before it leaves (fak_channel_end_of). If one leaves by fak_c_leave, no end drops anything: others may still receive.
+ *
+ * Leaving does not close, not even if no sender is left: receivers sleep on. Close first, as `Sender` of fak_channel.hpp and of the crate
+ * for Rust does when the last one goes.
+ *
+ * FAK_C_OK; FAK_C_NO_SEAT, or FAK_C_WRONG_STATE if a call by steps is open; FAK_C_BAD_LIMIT if `drop` is not null, and `seats` of the
+ * end's waiting is 0. */
 int32_t fak_channel_leave(fak_channel_end *end);
 int32_t fak_channel_leave_with(fak_channel_end *end, void (*drop)(void *context, const fak_channel_item *item), void *context);
 
@@ -207,9 +225,11 @@ int32_t fak_channel_shared_close(fak_channel_shared *shared);
 int32_t fak_channel_shared_len(fak_channel_shared *shared, uint64_t *items);
 int32_t fak_channel_shared_is_closed(fak_channel_shared *shared, bool *is_closed);
 
-/* Gives up all ends, once no thread is in a call. If the channel has no other ends, what is left is dropped as by fak_channel_leave_with.
+/* Gives up all ends, once no thread is in a call, which a refusal as FAK_C_WRONG_STATE does not always find. If all other seats of the
+ * channel have left as ends, what is left is dropped as by fak_channel_leave_with. Leaving does not close.
  *
- * FAK_C_OK; FAK_C_NO_SEAT; FAK_C_WRONG_STATE if an end is lent, or has an open call by steps. A refused call gives up none. */
+ * FAK_C_OK; FAK_C_NO_SEAT; FAK_C_WRONG_STATE if an end is lent, or has an open call by steps; FAK_C_BAD_LIMIT as fak_channel_leave_with. A
+ * refused call gives up none. */
 int32_t fak_channel_shared_leave(fak_channel_shared *shared);
 int32_t fak_channel_shared_leave_with(
     fak_channel_shared *shared, void (*drop)(void *context, const fak_channel_item *item), void *context);
@@ -217,7 +237,11 @@ int32_t fak_channel_shared_leave_with(
 /* ---- Steps ----
  *
  * The calls by steps never wait. A seat of a channel is a further kind of fak_c_seat: fak_c_leave gives it up, and fak_c_move moves it.
- * A call is begun, and then fak_channel_step is called until it returns a code with which the call is done. */
+ * A call is begun, and then fak_channel_step is called until it returns a code with which the call is done.
+ *
+ * An end may be called by steps, too, with its seat (`&end.seat`). It wakes others, whether they sleep on futexes or by functions of yours,
+ * by end.waiting->unpark(end.waiting->context, number). On futexes a signal handler may do so. For ThreadSanitizer the address that ends
+ * use is that of their waiting: FAK_C_GIVES(end.waiting) and FAK_C_GETS(end.waiting). */
 
 /* The state of a channel's seat, as fak_channel_state writes it. */
 enum {
@@ -242,7 +266,8 @@ int32_t fak_channel_begin_try_receive(fak_c_seat *end);
 int32_t fak_channel_begin_close(fak_c_seat *end);
 
 /* Takes one more step of the open call. With the first three codes the call stays open:
- * - FAK_C_NOT_YET: it waits for a step of another end's open call. Pause or yield, and step again.
+ * - FAK_C_NOT_YET: it waits for a step of another end's open call. Yield the processor, and step again. A coroutine that only yields to
+ *   others of its thread keeps the processor from the thread that has to step.
  * - FAK_C_WAKES: wake the thread of the end of `number` now, and step again.
  * - FAK_C_SLEEPS: sleep until this end is woken, and step again. A step that finds no wake-up returns this code again.
  * - FAK_C_OK: the item was sent; or was received, and is written to `item`; or the channel was open, and is closed now.

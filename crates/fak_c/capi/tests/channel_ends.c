@@ -155,7 +155,7 @@ static void wake_by_steps(fak_c_seat *seat, int32_t code) {
 }
 
 static void own_functions_are_called(void) {
-    fak_channel_waiting waiting = {never_parks, notes, NULL, &parks, 0};
+    fak_channel_waiting waiting = {never_parks, notes, NULL, &parks, 0, 3, 0};
     fak_c_seat seats[3] = {0};
     fak_channel_end ends[3] = {0};
     fak_channel_item item = {{0}};
@@ -182,7 +182,7 @@ static void own_functions_are_called(void) {
 /* A close wakes a receiver that sleeps, or a sender. */
 static void a_close_wakes_each_side(void) {
     for (int sends = 0; sends < 2; sends++) {
-        fak_channel_waiting waiting = {never_parks, notes, NULL, &parks, 0};
+        fak_channel_waiting waiting = {never_parks, notes, NULL, &parks, 0, 2, 0};
         fak_c_seat seats[2] = {0};
         fak_channel_end end = {0};
         CHECK(fak_channel_open(seats, 2, 1, STINT) == FAK_C_OK && fak_channel_end_of(&seats[1], &waiting, &end) == FAK_C_OK);
@@ -312,7 +312,7 @@ static bool gives_back(void *context, uint64_t number, uint64_t deadline) {
 
 /* A caller that waits for an end parks at the first two numbers, and is woken when an end comes back, and when there is another. */
 static void lenders_call_own_functions(void) {
-    fak_channel_waiting waiting = {gives_back, notes, NULL, &parks, 0};
+    fak_channel_waiting waiting = {gives_back, notes, NULL, &parks, 0, SHARED, 0};
     fak_c_seat seats[SHARED] = {0};
     fak_channel_end ends[SHARED] = {0};
     fak_channel_shared shared = {0};
@@ -385,4 +385,5 @@ void each_channel_allocation_fails_in_turn(void) {
     CHECK(fak_channel_shared_send(&shared, &seven) == FAK_C_OK && fak_channel_shared_receive(&shared, &item) == FAK_C_OK);
     CHECK(fak_channel_shared_receive_until(&shared, &item, 1) == FAK_C_GAVE_UP && fak_channel_shared_close(&shared) == FAK_C_OK);
     CHECK(made == before && fak_channel_shared_leave(&shared) == FAK_C_OK && live == 0);
+    CHECK(aligned_bytes == 64 * SHARED + 64);
 }

@@ -1,5 +1,6 @@
-/* Each code of each call of the channel in C, on one thread. Runs one group of the tests: `steps`, `ends`, `shared`, `memory`,
- * `storm ITEMS`, `shared-storm ITEMS`, `own-parks ITEMS` or `sleepers COUNT`. */
+/* Each code of each call of the channel in C, on one thread. Runs one group of the tests: `steps`, `ends`, `shared`, `leaves`, `waits`,
+ * `cancels`, `memory`, `handed-over`, `storm ITEMS`, `shared-storm ITEMS`, `own-parks ITEMS`, `closes ROUNDS`, `leaving ROUNDS`,
+ * `turns ROUNDS` or `sleepers COUNT`. */
 #include "channel_tests.h"
 
 #include <string.h>
@@ -262,6 +263,18 @@ int main(int count, char **words) {
         each_end_code_is_returned();
     else if (count == 2 && strcmp(words[1], "shared") == 0)
         each_shared_code_is_returned();
+    else if (count == 2 && strcmp(words[1], "leaves") == 0)
+        each_leave_is_counted();
+    else if (count == 2 && strcmp(words[1], "waits") == 0)
+        each_wait_ends();
+    else if (count == 2 && strcmp(words[1], "cancels") == 0)
+        a_cancelled_call_ends_first();
+    else if (count == 2 && strcmp(words[1], "handed-over") == 0)
+        what_is_written_is_handed_over();
+    else if (count == 3 && strcmp(words[1], "leaving") == 0)
+        leaves_race(strtoull(words[2], NULL, 10));
+    else if (count == 3 && strcmp(words[1], "turns") == 0)
+        callers_take_turns(strtoull(words[2], NULL, 10));
     else if (count == 2 && strcmp(words[1], "memory") == 0)
         each_channel_allocation_fails_in_turn();
     else if (count == 3 && strcmp(words[1], "storm") == 0)

@@ -1,11 +1,11 @@
 /* Threads that share a channel: each item comes once, and in its sender's order to each receiver; a close wakes both sides, and one of
  * several that race makes it; and a sleeping thread uses no processor time. */
+#include "channel_lot.h"
 #include "channel_tests.h"
 
 #include <pthread.h>
 #include <sched.h>
 #include <stdatomic.h>
-#include <string.h>
 #include <time.h>
 #include <unistd.h>
 
@@ -76,6 +76,11 @@ static int32_t receive_until(caller by, fak_channel_item *item, uint64_t deadlin
                           : fak_channel_shared_receive_until(by.shared, item, deadline);
 }
 
+/* A thread with an end of its own gives it up as soon as it has made its last call. */
+static void leave_own(caller by) {
+    CHECK(by.end == NULL || fak_channel_leave(by.end) == FAK_C_OK);
+}
+
 static int32_t close_it(caller by) {
     return by.end != NULL ? fak_channel_close(by.end) : fak_channel_shared_close(by.shared);
 }
@@ -135,6 +140,7 @@ static void *send_all(void *argument) {
         }
         self->taken++;
     }
+    leave_own(self->channel);
     return NULL;
 }
 
@@ -152,6 +158,7 @@ static void *receive_all(void *argument) {
         atomic_fetch_add(&passed, 1);
         CHECK(length(self->channel) <= CELLS);
     }
+    leave_own(self->channel);
     return NULL;
 }
 
@@ -197,8 +204,7 @@ void ends_storm(uint64_t items) {
     for (int i = 0; i <= threads; i++)
         callers[i].end = &ends[i];
     storm(callers, callers[threads], items);
-    for (int i = 0; i <= threads; i++)
-        CHECK(fak_channel_leave(&ends[i]) == FAK_C_OK);
+    CHECK(fak_channel_leave(&ends[threads]) == FAK_C_OK);
     printf("%llu refusals, %llu timeouts\n", atomic_load(&refusals), atomic_load(&timeouts));
 }
 
@@ -277,82 +283,31 @@ void closes_race(uint64_t rounds) {
     }
 }
 
-/* ---- Functions of the tests that park, over a lock ---- */
+/* ---- Functions of the tests that park ---- */
 
-typedef struct {
-    pthread_mutex_t lock;
-    pthread_cond_t woken[MOST_THREADS + 1];
-    bool tokens[MOST_THREADS + 1];
-    uint64_t parks, unparks;
-} lot;
-
-static bool park_in(void *context, uint64_t number, uint64_t deadline) {
-    lot *self = context;
-    struct timespec time = {(time_t)(deadline / 1000000000), (long)(deadline % 1000000000)};
-    bool is_woken;
-    int status = 0;
-    CHECK(number <= (uint64_t)threads && deadline != 0 && pthread_mutex_lock(&self->lock) == 0);
-    self->parks++;
-    while (!self->tokens[number] && status == 0)
-        status = deadline == FAK_CHANNEL_NEVER ? pthread_cond_wait(&self->woken[number], &self->lock)
-                                               : pthread_cond_timedwait(&self->woken[number], &self->lock, &time);
-    is_woken = self->tokens[number];
-    self->tokens[number] = false;
-    CHECK(pthread_mutex_unlock(&self->lock) == 0);
-    return is_woken;
-}
-
-static void unpark_in(void *context, uint64_t number) {
-    lot *self = context;
-    CHECK(number <= (uint64_t)threads && pthread_mutex_lock(&self->lock) == 0);
-    self->unparks++;
-    self->tokens[number] = true;
-    CHECK(pthread_cond_signal(&self->woken[number]) == 0 && pthread_mutex_unlock(&self->lock) == 0);
-}
-
-static void yield_in(void *context, uint64_t rounds) {
-    (void)context, (void)rounds;
-    sched_yield();
-}
-
-static void make_lot(lot *self) {
-    pthread_condattr_t monotonic;
-    memset(self, 0, sizeof *self);
-    CHECK(pthread_condattr_init(&monotonic) == 0 && pthread_condattr_setclock(&monotonic, CLOCK_MONOTONIC) == 0);
-    CHECK(pthread_mutex_init(&self->lock, NULL) == 0);
-    for (int i = 0; i <= threads; i++)
-        CHECK(pthread_cond_init(&self->woken[i], &monotonic) == 0);
-}
-
-/* Every end of the channel, then two of a shared channel over all of them, wait so. */
+/* Every end of the channel, then those of a shared channel, wait so. */
 void own_parks_storm(uint64_t items) {
-    static lot self;
-    static fak_c_seat seats[MOST_THREADS + 1];
     static fak_channel_end ends[MOST_THREADS + 1];
-    fak_channel_waiting waiting = {park_in, unpark_in, yield_in, &self, 0};
+    lot self;
+    fak_channel_waiting waiting;
     fak_channel_shared shared = {0};
     caller callers[MOST_THREADS + 1] = {0};
     count_threads();
-    make_lot(&self);
-    CHECK(fak_channel_open(seats, (size_t)threads + 1, CELLS, LONG_STINT) == FAK_C_OK);
-    for (int i = 0; i <= threads; i++) {
-        CHECK(fak_channel_end_of(&seats[i], &waiting, &ends[i]) == FAK_C_OK);
-        callers[i].end = &ends[i];
-    }
-    storm(callers, callers[threads], items);
-    CHECK(self.parks > 0 && self.unparks > 0);
+    make_lot(&self, (size_t)threads + 1);
+    open_in(&self, &waiting, ends, (size_t)threads + 1, CELLS);
     for (int i = 0; i <= threads; i++)
-        CHECK(fak_channel_leave(&ends[i]) == FAK_C_OK);
+        callers[i].end = &ends[i];
+    storm(callers, callers[threads], items);
+    CHECK(self.parks > 0 && self.unparks > 0 && fak_channel_leave(&ends[threads]) == FAK_C_OK && waiting.ends == 0);
 
+    open_in(&self, &waiting, ends, FAK_CHANNEL_SHARED_ENDS(1, 2), CELLS);
     waiting.pause = NULL;
-    CHECK(fak_channel_open(seats, 5, CELLS, LONG_STINT) == FAK_C_OK);
-    for (int i = 0; i < 5; i++)
-        CHECK(fak_channel_end_of(&seats[i], &waiting, &ends[i]) == FAK_C_OK);
     CHECK(fak_channel_shared_over(&shared, ends, 1, 2) == FAK_C_OK);
     for (int i = 0; i < threads; i++)
         callers[i] = (caller){NULL, &shared};
     storm(callers, callers[0], items / 2);
     CHECK(fak_channel_shared_leave(&shared) == FAK_C_OK && waiting.ends == 0);
+    free_lot(&self);
 }
 
 /* ---- Many sleepers ---- */
@@ -366,12 +321,6 @@ typedef struct {
     fak_channel_item item;
     uint64_t time;
 } sleeper;
-
-static uint64_t processor_time(void) {
-    struct timespec time;
-    CHECK(clock_gettime(CLOCK_THREAD_CPUTIME_ID, &time) == 0);
-    return (uint64_t)time.tv_sec * 1000000000 + (uint64_t)time.tv_nsec;
-}
 
 static void *call_once(void *argument) {
     sleeper *self = argument;

@@ -9,6 +9,9 @@
 /* The number of calls that may fail so far, the number of the one that does (0 for none), and the blocks that are not freed. */
 static long made, failing, live;
 
+/* The bytes of the last aligned block. */
+static size_t aligned_bytes;
+
 void *__real_malloc(size_t size);
 void *__wrap_malloc(size_t size);
 void *__real_calloc(size_t count, size_t size);
@@ -37,6 +40,7 @@ void *__wrap_calloc(size_t count, size_t size) {
 }
 
 void *__wrap_aligned_alloc(size_t align, size_t size) {
+    __atomic_store_n(&aligned_bytes, size, __ATOMIC_RELAXED);
     return is_made() ? counted(__real_aligned_alloc(align, size)) : NULL;
 }
 
