@@ -1,4 +1,4 @@
-/* With few page frames, each processor's handler carries frames: it takes one from their list and gives it back. It makes one step at a
+/* With few page frames, each processor's handler carries frames: it takes one from their list and gives it back. It takes one step at a
  * tick, so each of its claims stays open until a later tick. Meanwhile the claim's cell is in the way of the bursts, which go on with what
  * they have. The handler never waits, so it ends the claim for which its own processor waits. */
 #include "kernel.h"
