@@ -99,8 +99,8 @@ typedef struct fak_channel_waiting {
 
 #define FAK_CHANNEL_NEVER UINT64_MAX
 
-/* An end of a channel, or nothing, if it is all zeros. The seat is for fak_channel_len, fak_channel_is_closed and fak_channel_state, and for
- * calls by steps. */
+/* An end of a channel, or nothing, if it is all zeros. The seat is for fak_channel_len, fak_channel_is_closed, fak_channel_state and calls
+ * by steps. */
 typedef struct fak_channel_end {
     fak_c_seat seat;
     fak_channel_waiting *waiting;
