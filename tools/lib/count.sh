@@ -23,16 +23,17 @@ holds() {
     count $? "fails: $name" "$out/said"
 }
 
-# wanted NAME COMMAND..: the same for a command that may take five minutes, or $CHECK_SECONDS. With $CHECK_ONLY it runs only what is
-# built, and what has these words in its name.
+# wanted NAME COMMAND..: the same for a command that may take five minutes, or $CHECK_SECONDS if it builds nothing. With $CHECK_ONLY it
+# runs only what is built, and what has these words in its name.
 wanted() {
     case $1 in
-    'building '* | *"${CHECK_ONLY:-}"*) ;;
+    'building '*) seconds=300 ;;
+    *"${CHECK_ONLY:-}"*) seconds=${CHECK_SECONDS:-300} ;;
     *) return ;;
     esac
     name=$1
     shift
-    holds "$name" timeout "${CHECK_SECONDS:-300}" "$@"
+    holds "$name" timeout "$seconds" "$@"
 }
 
 # Prints the last line of a check. Its status is that of the check.
