@@ -1,7 +1,9 @@
 mod Counts
+mod Fronts
 mod MarkNames
 mod Objects
 mod OnlyKeys
 mod OtherNames
 mod Programs
 mod Spots
+mod Times

@@ -1,4 +1,6 @@
+pub mod Fronts
 pub mod Keys
 pub mod Named
 pub mod Places
+pub mod Repeats
 pub mod Spots

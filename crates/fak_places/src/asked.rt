@@ -3,6 +3,7 @@
 ghost use Rattle.std.specs.Prelude.{◌≡◌};
 ghost use Rattle.fak_places.specs.Spots.{absent_at, spot_in_item, spot_in_step};
 
+use crate::stop::Next;
 use std::fmt;
 use thiserror::Error;
 
@@ -21,6 +22,9 @@ pub enum Asked {
     /// The script has what a number names. The text says which number that is.
     #[error("{0}")]
     Present(Absent),
+    /// A text goes on so at its place, and then to its end as JSON.
+    #[error("{0}")]
+    Next(Next),
 }
 
 /// A number that names nothing in its script.

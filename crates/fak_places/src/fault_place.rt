@@ -4,19 +4,21 @@ ghost use Rattle.std.specs.Prelude.{◌≡◌, ◌≢◌, IfOk, IfSome, IsOk, Ma
 ghost use Rattle.serde_json.specs.View.{view};
 ghost use Rattle.fak_text.specs.HistoryText.{mark_from};
 ghost use Rattle.fak_text.specs.ScheduleText.{event_from, object_from};
+ghost use Rattle.fak_text.specs.Values.{input_in};
 ghost use Rattle.fak_text.specs.declared.fault.Field.TheVariants.{Events, Marks};
-ghost use Rattle.fak_text.specs.declared.fault.TextFault.TheVariants.{Memory};
+ghost use Rattle.fak_text.specs.declared.fault.TextFault.TheVariants.{Memory, NotJson};
 ghost use Rattle.fak_text.specs.declared.schedule.Object as o;
+ghost use Rattle.fak_places.specs.Fronts.{HintsRight};
 ghost use Rattle.fak_places.specs.Named.{object_name, object_of_name};
 ghost use Rattle.fak_places.specs.Places.{fault_in, key_of, list_of};
 ghost use Rattle.fak_places.specs.Spots.{IsInFirst, array_of};
 
 use crate::asked::{Asked, Hint, in_item, of_key};
 use crate::event::{first_wrong_event, wrong_event};
-use crate::json::hint_of_text;
 use crate::mark::{first_wrong_mark, wrong_mark};
 use crate::place::{Place, shown, value_at};
 use crate::script::{hint_in_programs, hint_in_semaphores, hint_in_start};
+use crate::stop::hint_of_text;
 use crate::values::elements_of_key;
 use fak_model::{LARGEST_BOUND, LARGEST_SIZE, LONGEST_STINT, MOST_SEATS};
 use fak_text::{
@@ -186,13 +188,15 @@ fn place_in_value(
 }
 
 /// The place of a fault of an input.
+#[tactic(auto, using(fak_text::proofs::Json::json_in_read), unfolding(fak_text::specs::Values::input_in))]
 fn place_of_fault(
     alloc: Global,
     format: Format,
     fault: TextFault,
     bytes: &[u8],
 ) -> Result<Place, AllocError>
-    ensures { IfOk result (λ place. (place.fault ≡ fault) × (place.key ≡ key_of (list_of format) fault)) }
+    ensures fault { IfOk result (λ place. (place.fault ≡ fault) × (place.key ≡ key_of (list_of format) fault)) }
+    ensures text { input_in bytes.now ≡ Err NotJson → IfOk result (λ place. HintsRight bytes.now place.hint) }
 {
     let key = key_of_fault(format, fault);
     if bytes.len() > LARGEST_INPUT {
@@ -226,6 +230,8 @@ fn place_of_fault(
 pub fn place_of(alloc: Global, format: Format, bytes: &[u8]) -> Result<Option<Place>, AllocError>
     ensures fault { IfOk result (λ found. option_map (λ place. place.fault) found ≡ fault_in format bytes.now) }
     ensures key { IfOk result (λ found. IfSome found (λ place. place.key ≡ key_of (list_of format) place.fault)) }
+    ensures text { input_in bytes.now ≡ Err NotJson → IfOk result (λ found. IfSome found
+        (λ place. HintsRight bytes.now place.hint)) }
 {
     match fault_of(alloc, format, bytes)? {
         None => Ok(None),

@@ -1,13 +1,12 @@
 //! The keys of an input that its format ignores.
 
-ghost use Rattle.std.specs.Prelude.{◌≡◌, Err, IfOk, MatchOption, Ok, map, string_bytes};
+ghost use Rattle.std.specs.Prelude.{◌≡◌, IfOk, map, string_bytes};
 ghost use Rattle.serde_json.specs.View.{members_view, view};
-ghost use Rattle.fak_text.specs.Values.{json_in};
-ghost use Rattle.fak_text.specs.declared.fault.TextFault.TheVariants.{NotJson};
 ghost use Rattle.fak_places.specs.Keys.{ignored_in, ignored_of, is_named, keys_of, keys_of_object, other_names};
 
 use crate::fault_place::Format;
 use crate::place::LONGEST_SHOWN;
+use crate::values::value_in;
 use fak_text::{Field, LARGEST_INPUT};
 use serde_json::{Map, Value};
 use std::alloc::{AllocError, Global};
@@ -70,7 +69,7 @@ fn keys_of_object(name: &str) -> &'static [Field]
 }
 
 /// The keys that an input of this format has.
-fn keys_of(format: Format, input: &Value) -> &'static [Field]
+pub(crate) fn keys_of(format: Format, input: &Value) -> &'static [Field]
     ensures { result.now ≡ keys_of format (view input.now) }
 {
     match format {
@@ -116,19 +115,6 @@ fn ignored_of(alloc: Global, format: Format, input: &Value) -> Result<Vec<Ignore
     match input.as_object() {
         Some(members) => others(alloc, keys_of(format, input), members),
         None => Ok(Vec::new(alloc)),
-    }
-}
-
-/// The JSON value that the bytes are, if they are one.
-#[tactic(auto, using(fak_text::proofs::Json::json_in_read, fak_text::proofs::Json::json_in_refused))]
-fn value_in(alloc: Global, bytes: &[u8]) -> Result<Option<Value>, AllocError>
-    ensures { IfOk result (λ found. MatchOption found (json_in bytes.now ≡ Err NotJson)
-        (λ value. json_in bytes.now ≡ Ok (view value))) }
-{
-    match Value::from_slice(alloc, bytes) {
-        Ok(value) => Ok(Some(value)),
-        Err(error) if error.is_memory() => Err(AllocError),
-        Err(_) => Ok(None),
     }
 }
 

@@ -28,3 +28,9 @@ status_of_place (Some fault) = 1
 abbrev pub status_of_fault : WhereFault → ℕ
 status_of_fault faults.Usage = 2
 status_of_fault _ = 1
+
+-- what is said of an input that `fak` reads: the form is all that the reading tests, and `fak check` judges what a history says
+abbrev pub said_of_read : Format → List ℕ
+said_of_read formats.Schedule = codes "nothing is wrong"
+said_of_read formats.History = codes "the form is right; fak check says whether the history is legal"
+said_of_read formats.Script = codes "nothing is wrong"

@@ -4,12 +4,13 @@ ghost use Rattle.std.specs.Prelude.{◌≡◌, ◌≢◌, ◌⊎◌, ℕ, List, 
 ghost use Rattle.std.specs.Io.KnownBytes.{Appends, Keeps};
 ghost use Rattle.fak_text.specs.Values.{most_kept};
 ghost use Rattle.fak_places.specs.Places.{fault_in};
-ghost use Rattle.fak_where.specs.Answers.{status_of_place};
+ghost use Rattle.fak_where.specs.Answers.{said_of_read, status_of_place};
 ghost use Rattle.fak_where.specs.declared.fault.WhereFault.TheVariants.{Memory, Read, Write};
 
 use crate::fault::WhereFault;
-use fak_places::{Format, Ignored, ignored_keys, place_of};
+use fak_places::{Format, ignored_keys, place_of, repeated_keys};
 use std::alloc::Global;
+use std::fmt::Display;
 use std::io::{ErrorKind, Read, Write};
 
 /// How many bytes of the input are read at most: one more than an input may have.
@@ -28,28 +29,39 @@ fn read_input<R: Read + Drop>(alloc: Global, reader: R) -> Result<Vec<u8>, Where
     }
 }
 
-/// Adds a line for each key.
-fn append_ignored(alloc: Global, text: &mut String, keys: &[Ignored]) -> Result<(), WhereFault>
+/// Adds a line for each of these.
+fn append_lines<D: Display>(alloc: Global, text: &mut String, lines: &[D]) -> Result<(), WhereFault>
     ensures { IfErr result (λ e. e ≡ Memory) }
 {
-    for key in keys {
-        let line = format!(in alloc; "{key}\n")?;
+    for line in lines {
+        let line = format!(in alloc; "{line}\n")?;
         text.push_str(line.as_str())?;
     }
     Ok(())
 }
 
-/// The status and the text for an input. The status is 0 if nothing is wrong, else 1. The text has a line for the place, and one for each
-/// ignored key.
+/// What is said of an input that `fak` reads.
+fn said_of_read(format: Format) -> &'static str
+    ensures { result.now ≡ said_of_read format }
+{
+    match format {
+        Format::History => "the form is right; fak check says whether the history is legal",
+        _ => "nothing is wrong",
+    }
+}
+
+/// The status and the text for an input. The status is 0 if nothing is wrong, else 1. The text has a line for the place, one for each
+/// ignored key, and one for each repeated key.
 fn answer_of(alloc: Global, format: Format, input: &[u8]) -> Result<(u8, String), WhereFault>
     ensures ok { IfOk result (λ answer. answer.0 ≡ status_of_place (fault_in format input.now)) }
     ensures err { IfErr result (λ e. e ≡ Memory) }
 {
     let (status, mut text) = match place_of(alloc, format, input)? {
-        None => (0, format!(in alloc; "nothing is wrong\n")?),
+        None => (0, format!(in alloc; "{}\n", said_of_read(format))?),
         Some(place) => (1, format!(in alloc; "{place}\n")?),
     };
-    append_ignored(alloc, &mut text, &ignored_keys(alloc, format, input)?)?;
+    append_lines(alloc, &mut text, &ignored_keys(alloc, format, input)?)?;
+    append_lines(alloc, &mut text, &repeated_keys(alloc, format, input)?)?;
     Ok((status, text))
 }
 
@@ -66,8 +78,8 @@ fn write_text<W: Write>(writer: &mut W, text: &str) -> Result<(), WhereFault>
     Ok(())
 }
 
-/// Reads an input, and writes the place at which it is wrong and the keys that are ignored. Returns the status: 0 if nothing is wrong,
-/// else 1.
+/// Reads an input, and writes the place at which it is wrong and the keys that are ignored or repeated. Returns the status: 0 if nothing is
+/// wrong, else 1.
 ///
 /// # Errors
 ///

@@ -22,7 +22,7 @@ fn a_text_stops_being_json_at_its_place(rt: HostRuntime) {
     let rows = &[
         (
             "{\"object\":\"queue\",\n\"size\":1 \"seats\":1}",
-            "line 2, column 10: a comma, a colon, a value, a closing bracket or the end, not \"\n",
+            "line 2, column 10: a comma or }, not \"\n",
         ),
         (
             "{\"object\":\"room\",\"bound\":1e999}",
@@ -36,10 +36,7 @@ fn a_text_stops_being_json_at_its_place(rt: HostRuntime) {
             "\u{feff}{\"size\":1,\"marks\":[]}",
             "line 1, column 1: a value, not a byte order mark\n",
         ),
-        (
-            "{} {}",
-            "line 1, column 4: a comma, a colon, a value, a closing bracket or the end, not {\n",
-        ),
+        ("{} {}", "line 1, column 4: the end, not {\n"),
     ];
     for (input, want) in rows {
         assert!(rt;
@@ -127,7 +124,7 @@ fn a_history_is_wrong_at_its_place(rt: HostRuntime) {
     let rows = &[
         (
             "{\"size\":0,\"size\":5000,\"marks\":[]}",
-            "size: a queue's size is a whole number from 1 to 4096, not 5000\n",
+            "size: a queue's size is a whole number from 1 to 4096, not 5000\nrepeated: the key \"size\", whose last value counts\n",
         ),
         (
             "{\"size\":1,\"marks\":[[0]]}",
@@ -275,7 +272,7 @@ fn ignored_keys_are_named(rt: HostRuntime) {
             Format::History,
             "{\"size\":1,\"marks\":[],\"size \":2,\"\":3,\"\\n\":{\"deep\":4},\"01234567890123456789012345678901234567890\":5}",
             0,
-            "nothing is wrong\nignored: the key \"\"\nignored: the key \"\\n\"\nignored: a key of 41 bytes\nignored: the key \"size \"\n",
+            "the form is right; fak check says whether the history is legal\nignored: the key \"\"\nignored: the key \"\\n\"\nignored: a key of 41 bytes\nignored: the key \"size \"\n",
         ),
         (
             Format::History,
@@ -317,9 +314,175 @@ fn ignored_keys_are_named(rt: HostRuntime) {
 }
 
 #[test]
-fn nothing_is_wrong_with_a_history(rt: HostRuntime) {
-    let input = "{\"size\":1,\"marks\":[[0,\"close\"]]}";
-    assert!(rt; answers(rt.alloc(), Format::History, input, 0, "nothing is wrong\n"));
+fn check_judges_a_history_that_is_read(rt: HostRuntime) {
+    let want = "the form is right; fak check says whether the history is legal\n";
+    let inputs = &[
+        "{\"size\":1,\"marks\":[[0,\"close\"]]}",
+        "{\"size\":1,\"marks\":[[0,\"claim-out\"]]}",
+    ];
+    for input in inputs {
+        assert!(rt;
+            answers(rt.alloc(), Format::History, input, 0, want),
+            "at {input}"
+        );
+    }
+}
+
+/// Texts, and where each stops being JSON.
+const STOPS: &[(&str, &str)] = &[
+    ("]", "1, column 1: a value, not ]"),
+    ("{\"a\":}", "1, column 6: a value, not }"),
+    ("[1,]", "1, column 4: a value, not ]"),
+    ("[,1]", "1, column 2: a value or ], not ,"),
+    ("[1 2]", "1, column 4: a comma or ], not 2"),
+    ("[[1],\n [2}]", "2, column 4: a comma or ], not }"),
+    (
+        "{a:1}",
+        "1, column 2: a key in double quotation marks or }, not a",
+    ),
+    (
+        "{1:2}",
+        "1, column 2: a key in double quotation marks or }, not 1",
+    ),
+    (
+        "{\"a\":1,}",
+        "1, column 8: a key in double quotation marks, not }",
+    ),
+    ("{\"a\",\"b\"}", "1, column 5: a colon, not ,"),
+    ("{\"a\" 1}", "1, column 6: a colon, not 1"),
+    ("{\"a\":[1]]", "1, column 9: a comma or }, not ]"),
+    ("{\"a\":\"]\\\"\";}", "1, column 11: a comma or }, not ;"),
+    ("{}\n\n}", "3, column 1: the end, not }"),
+];
+
+#[test]
+fn what_can_stand_at_a_place_is_named(rt: HostRuntime) -> Result<(), AllocError> {
+    for (input, place) in STOPS {
+        let want = format!(in rt.alloc(); "line {place}\n")?;
+        assert!(rt;
+            answers(rt.alloc(), Format::History, input, 1, &want),
+            "at {input}"
+        );
+    }
+    Ok(())
+}
+
+/// Values that are not JSON, and what each is called.
+const WRONG_VALUES: &[(&str, &str)] = &[
+    ("01", "a number with a leading zero"),
+    ("-00", "a number with a leading zero"),
+    ("'x'", "a single quotation mark"),
+    (
+        "\"\\q\"",
+        "a text with a control character or a wrong escape",
+    ),
+    (
+        "\"\n\"",
+        "a text with a control character or a wrong escape",
+    ),
+    (
+        "\"\\ud800\"",
+        "a text with a control character or a wrong escape",
+    ),
+    ("True", "True"),
+    ("1.", "1."),
+    ("+1", "+1"),
+    ("0x10", "0x10"),
+];
+
+#[test]
+fn a_wrong_word_or_text_is_named(rt: HostRuntime) -> Result<(), AllocError> {
+    for (value, named) in WRONG_VALUES {
+        let input = format!(in rt.alloc(); "{{\"size\":{value},\"marks\":[]}}")?;
+        let want = format!(in rt.alloc(); "line 1, column 9: a value, not {named}\n")?;
+        assert!(rt;
+            answers(rt.alloc(), Format::History, &input, 1, &want),
+            "at {value}"
+        );
+    }
+    let quoted =
+        "line 1, column 2: a key in double quotation marks or }, not a single quotation mark\n";
+    assert!(rt; answers(rt.alloc(), Format::History, "{'size':1}", 1, quoted));
+    Ok(())
+}
+
+/// This number of brackets, one after the other.
+fn brackets(alloc: Global, count: usize, bracket: &str) -> Result<String, AllocError> {
+    let mut text = String::new(alloc);
+    for _ in 0..count {
+        text.push_str(bracket)?;
+    }
+    Ok(text)
+}
+
+/// What 126 arrays are around, and the line for it.
+const DEEP: &[(&str, &str)] = &[
+    (
+        "[]",
+        "input: an input is an object of at most 1048576 bytes, not an array of 1",
+    ),
+    (
+        "[[]]",
+        "line 1, column 128: a value or ], not an array inside 127 arrays and objects",
+    ),
+    (
+        "[1,{}]",
+        "line 1, column 130: a value, not an object inside 127 arrays and objects",
+    ),
+];
+
+#[test]
+fn too_deep_nesting_is_named(rt: HostRuntime) -> Result<(), AllocError> {
+    let opened = brackets(rt.alloc(), 126, "[")?;
+    let closed = brackets(rt.alloc(), 126, "]")?;
+    for (inside, line) in DEEP {
+        let input = format!(in rt.alloc(); "{opened}{inside}{closed}")?;
+        let want = format!(in rt.alloc(); "{line}\n")?;
+        assert!(rt;
+            answers(rt.alloc(), Format::History, &input, 1, &want),
+            "at {inside}"
+        );
+    }
+    Ok(())
+}
+
+#[test]
+fn bytes_that_are_no_text_are_named(rt: HostRuntime) {
+    let mut written = Vec::new(rt.alloc());
+    let input: &[u8] = &[123, 34, 255, 34, 125];
+    let served = serve(rt.alloc(), Format::History, input, &mut written);
+    assert!(rt; served == Ok(1));
+    let want = "line 1, column 3: a text in UTF-8, not byte 255\n";
+    assert!(rt; written.as_slice() == want.as_bytes());
+}
+
+/// Histories with keys that occur more than once, and the reply to each.
+const REPEATED: &[(&str, u8, &str)] = &[
+    (
+        "{\"size\":1,\"marks\":[],\"s\\u0069ze\":2}",
+        0,
+        "the form is right; fak check says whether the history is legal\nrepeated: the key \"size\", whose last value counts\n",
+    ),
+    (
+        "{\"marks\":[],\"size\":1,\"size\":0,\"marks\":[],\"marks\":[],\"other\":1,\"other\":1}",
+        1,
+        "size: a queue's size is a whole number from 1 to 4096, not 0\nignored: the key \"other\"\nrepeated: the key \"size\", whose last value counts\nrepeated: the key \"marks\", whose last value counts\n",
+    ),
+    (
+        "{\"size\":1,\"marks\":[],\"other\":{\"size\":1,\"size\":2}}",
+        0,
+        "the form is right; fak check says whether the history is legal\nignored: the key \"other\"\n",
+    ),
+];
+
+#[test]
+fn repeated_keys_are_named(rt: HostRuntime) {
+    for (input, status, want) in REPEATED {
+        assert!(rt;
+            answers(rt.alloc(), Format::History, input, *status, want),
+            "at {want}"
+        );
+    }
 }
 
 /// Whether a value is written so.
